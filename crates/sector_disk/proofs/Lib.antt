@@ -1,0 +1,2 @@
+mod Done
+pub mod Moments

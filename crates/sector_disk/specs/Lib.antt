@@ -1,0 +1,5 @@
+pub mod Disk
+pub mod Faults
+pub mod History
+pub mod Record
+pub mod Replay
