@@ -7,8 +7,10 @@ ghost use Rattle.sector_disk.specs.Record.{after, replay, Leaves, MayHold};
 use std::alloc::{AllocError, Global};
 use std::marker::Model;
 
+/// What was done to a disk.
 #[derive(Clone, Copy)]
 pub enum Event {
+    /// A content was written to a sector, or may have been.
     Written(u32, [u8; 512]),
     Synced,
 }
@@ -23,6 +25,7 @@ impl Event {
     }
 }
 
+/// What was there at first, and what was done since. A contract sees just these two, as a `Past`.
 #[derive(Drop)]
 pub struct History {
     // What reads give.
@@ -78,6 +81,7 @@ impl History {
         *to = self.seen[n as usize];
     }
 
+    /// Records a write; at `Err` nothing has changed.
     pub fn write(&mut self, n: u32, content: &[u8; 512]) -> Result<(), AllocError>
         requires { n < length self.old.start }
         ensures ok { OnOk result (self.new ≡ record self.old { events = self.old.events ++ Event.Written n content.now ∷ [] }) }
@@ -88,6 +92,7 @@ impl History {
         Ok(())
     }
 
+    /// Records a sync; at `Err` nothing has changed.
     pub fn sync(&mut self) -> Result<(), AllocError>
         ensures ok { OnOk result (self.new ≡ record self.old { events = self.old.events ++ Event.Synced ∷ [] }) }
         ensures err { OnErr result (self.new ≡ self.old) }

@@ -1,0 +1,12 @@
+pub mod AclSector
+pub mod Bytes
+pub mod Changes
+pub mod Commit
+pub mod Images
+pub mod Inode
+pub mod Laws
+pub mod Ownership
+pub mod Place
+pub mod Recovered
+pub mod Slot
+pub mod Superblock

@@ -1,0 +1,158 @@
+//! The sector of an ACL.
+
+ghost use Rattle.std.specs.Prelude.{◌≡◌, ◌≤◌, ◌+◌, ◌*◌, List, length, IfOk, Ok};
+ghost use Rattle.fs_layout.specs.declared.acl_sector.AclEntry.{AclEntry};
+ghost use Rattle.fs_layout.specs.Bytes.{splice};
+ghost use Rattle.fs_layout.specs.AclSector.{acl_sector_bytes, acl_sector_of, entry_bytes, entries_bytes, entry_of, entries_of, FitsAclSector};
+
+use crate::bytes::{are_zero, put_u16, put_u32, put_zeros, u16_at, u32_at};
+use crate::fault::LayoutFault;
+use std::marker::Model;
+
+/// One entry of an ACL as three numbers. Which of them are valid, and what they mean, is not this crate's matter.
+#[derive(Clone, Copy, Debug, PartialEq, Eq)]
+pub struct AclEntry {
+    /// What the entry is for.
+    pub tag: u16,
+    /// The permissions, as bits.
+    pub perms: u16,
+    /// The user or group of a named entry.
+    pub id: u32,
+}
+
+/// The entries of an ACL, at most 32, in the order of the sector. A contract sees them as a list.
+#[derive(Drop)]
+pub struct AclSector {
+    count: usize,
+    entries: [AclEntry; 32],
+}
+
+impl Model for AclSector {
+    ghost use Rattle.std.specs.Prelude.{◌≤◌, List, take};
+    ghost use Rattle.fs_layout.specs.declared.acl_sector.AclEntry.{AclEntry};
+
+    ghost Value = { List AclEntry };
+
+    ghost view = { λ a. take a.count a.entries };
+
+    ghost invariant = { λ a. a.count ≤ 32 };
+}
+
+const NONE: AclEntry = AclEntry {
+    tag: 0,
+    perms: 0,
+    id: 0,
+};
+
+fn put_entry(to: &mut [u8], at: usize, entry: &AclEntry)
+    requires { at + 8 ≤ length to.old }
+    ensures { to.new ≡ splice to.old at (entry_bytes entry.now) }
+{
+    put_u16(to, at, entry.tag);
+    put_u16(to, at + 2, entry.perms);
+    put_u32(to, at + 4, entry.id);
+}
+
+fn put_entries(to: &mut [u8], at: usize, entries: &[AclEntry])
+    requires { at + 8 * length entries.now ≤ length to.old }
+    ensures { to.new ≡ splice to.old at (entries_bytes entries.now) }
+{
+    for i in 0..entries.len() {
+        put_entry(to, at + 8 * i, &entries[i]);
+    }
+}
+
+fn get_entry(from: &[u8], at: usize) -> AclEntry
+    requires { at + 8 ≤ length from.now }
+    ensures { result ≡ entry_of from.now at }
+{
+    AclEntry {
+        tag: u16_at(from, at),
+        perms: u16_at(from, at + 2),
+        id: u32_at(from, at + 4),
+    }
+}
+
+fn get_entries(from: &[u8], at: usize, to: &mut [AclEntry])
+    requires { at + 8 * length to.old ≤ length from.now }
+    ensures { to.new ≡ entries_of from.now at (length to.old) }
+{
+    for i in 0..to.len() {
+        to[i] = get_entry(from, at + 8 * i);
+    }
+}
+
+impl AclSector {
+    /// These entries, at most 32.
+    pub fn new(entries: &[AclEntry]) -> AclSector
+        requires { length entries.now ≤ 32 }
+        ensures { result ≡ entries.now }
+    {
+        let mut all = [NONE; 32];
+        (&mut all[..entries.len()]).copy_from_slice(entries);
+        AclSector {
+            count: entries.len(),
+            entries: all,
+        }
+    }
+
+    /// The entries, at most 32.
+    pub fn entries(&self) -> &[AclEntry]
+        ensures value { result.now ≡ self.now }
+        ensures few { length self.now ≤ 32 }
+    {
+        &self.entries[..self.count]
+    }
+
+    fn put(&self, to: &mut [u8])
+        requires { length to.old ≡ 512 }
+        ensures { to.new ≡ acl_sector_bytes self.now }
+    {
+        let entries = self.entries();
+        put_u16(to, 0, entries.len() as u16);
+        put_zeros(to, 2, 6);
+        put_entries(to, 8, entries);
+        put_zeros(to, 8 + 8 * entries.len(), 504 - 8 * entries.len());
+    }
+
+    #[tactic(auto, unfolding(crate::specs::AclSector::acl_sector_of))]
+    fn get(from: &[u8]) -> Result<AclSector, LayoutFault>
+        requires { length from.now ≡ 512 }
+        ensures { result ≡ acl_sector_of from.now }
+    {
+        let count = u16_at(from, 0) as usize;
+        if 32 < count {
+            return Err(LayoutFault::BadNumber);
+        }
+        if !are_zero(&from[2..8]) {
+            return Err(LayoutFault::NotZero);
+        }
+        if !are_zero(&from[8 + 8 * count..]) {
+            return Err(LayoutFault::NotZero);
+        }
+        let mut entries = [NONE; 32];
+        get_entries(from, 8, &mut entries);
+        Ok(AclSector { count, entries })
+    }
+
+    /// Writes the sector; `at` is 0.
+    pub fn write_to(&self, to: &mut [u8; 512], at: usize)
+        requires { at ≡ 0 }
+        ensures { to.new ≡ acl_sector_bytes self.now }
+    {
+        self.put(&mut to[at..at + 512]);
+    }
+
+    /// Reads the sector; `at` is 0.
+    pub fn read_from(from: &[u8; 512], at: usize) -> Result<AclSector, LayoutFault>
+        requires { at ≡ 0 }
+        // What is read is spelled so.
+        ensures found { IfOk result (λ v. (from.now ≡ acl_sector_bytes v) × FitsAclSector v) }
+        // What is spelled so is read.
+        ensures only { (v : List AclEntry) → FitsAclSector v → from.now ≡ acl_sector_bytes v → result ≡ Ok v }
+        // Which fault it is.
+        ensures first_fault { result ≡ acl_sector_of from.now }
+    {
+        AclSector::get(&from[at..at + 512])
+    }
+}
