@@ -1,0 +1,60 @@
+ghost use Rattle.std.specs.Prelude.{◌≡◌};
+ghost use Rattle.fs_cred.specs.Refusals.{need_errno};
+
+use crate::errno::Errno;
+use crate::rule::Rule;
+use posix_acl::Perms;
+
+/// What a call asks for at an object.
+#[derive(Clone, Copy)]
+pub enum Need {
+    /// To look up a name in a directory.
+    Search,
+    /// All of these permissions.
+    Perm(Perms),
+    /// To own the object: to change its mode or its ACL.
+    Own,
+    /// To give the object another owner.
+    Chown,
+    /// To give the object another group.
+    Chgrp,
+    /// To remove or rename the object, which a sticky directory restricts.
+    Remove,
+}
+
+impl Need {
+    /// What a call answers that is denied this: `EACCES` where permissions or search were wanted, and otherwise
+    /// `EPERM`.
+    pub fn errno(self) -> Errno
+        ensures { result ≡ need_errno self }
+    {
+        match self {
+            Need::Search | Need::Perm(_) => Errno::EACCES,
+            Need::Own | Need::Chown | Need::Chgrp | Need::Remove => Errno::EPERM,
+        }
+    }
+}
+
+/// Where a permission was refused, and by which rule.
+#[derive(Clone, Copy)]
+pub struct Denial {
+    /// That of the need.
+    pub errno: Errno,
+    /// Which path of the call it was: 1 or 2.
+    pub walk: u8,
+    /// How many lookups of that path were done before the object that refused was reached.
+    pub step: usize,
+    /// What was asked for.
+    pub need: Need,
+    /// What refused it.
+    pub rule: Rule,
+}
+
+/// Why a call is refused.
+#[derive(Clone, Copy)]
+pub enum Refusal {
+    /// The caller may not.
+    Denied(Denial),
+    /// Something else.
+    Failed(Errno),
+}
