@@ -1,0 +1,5 @@
+mod Both
+pub mod Entries
+mod Puts
+pub mod Meaning
+mod Writing
