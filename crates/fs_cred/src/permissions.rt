@@ -10,7 +10,7 @@ pub const NOTHING: Perms = Perms {
     execute: false,
 };
 
-// Whether these permissions have all of what is wanted.
+/// Whether these permissions have all of what is wanted.
 pub fn holds(perms: Perms, want: Perms) -> bool
     ensures { result ≡ holds perms want }
 {

@@ -12,7 +12,7 @@ use std::alloc::{AllocError, Global};
 /// The most entries that a list may have.
 pub const MAX_ENTRIES: usize = 32;
 
-// The entries in canonical order, if they make a list at all.
+/// The entries in canonical order, if they make a list at all.
 pub fn sorted(alloc: Global, entries: &[Entry]) -> Result<Vec<Entry>, AclFault>
     ensures same { IfOk result (λ v. IsPermutation (plain_entries entries.now) v.items) }
     ensures order { IfOk result (λ v. IsOrdered v.items) }
