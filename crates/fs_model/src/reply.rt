@@ -1,0 +1,61 @@
+//! What is answered.
+use crate::bytes::{Bytes, Path};
+use crate::listing::Listing;
+use fs_cred::{Refusal, Rule};
+use posix_acl::Acl;
+
+/// The file types of this file system.
+#[derive(Clone, Copy)]
+pub enum FileType {
+    /// A regular file.
+    File,
+    Directory,
+    /// A symbolic link.
+    Link,
+}
+
+/// What stat(2) shows of an object.
+#[derive(Clone, Copy)]
+pub struct Status {
+    /// The number of the inode.
+    pub inode: u32,
+    pub kind: FileType,
+    /// The permission bits, and of a directory S_ISGID and S_ISVTX.
+    pub mode: u16,
+    /// How many names it has; 1 for a directory.
+    pub links: u32,
+    pub owner: u32,
+    pub group: u32,
+    /// The bytes of a file or of a link's target; 128 for each name of a directory.
+    pub size: u64,
+}
+
+/// The answer to a call, or to an event that is asked of the file system.
+#[derive(Drop)]
+pub enum Reply {
+    /// It is done, and there is no more to say.
+    Ok,
+    /// A new process has this number.
+    Pid(usize),
+    /// What was opened has this descriptor.
+    Fd(usize),
+    /// Bytes that were read.
+    Data(Bytes),
+    /// So many bytes were written.
+    Wrote(usize),
+    /// The new offset.
+    At(u64),
+    /// The target of a symbolic link.
+    Target(Path),
+    /// The umask as it was.
+    Mask(u16),
+    Shown(Status),
+    /// Access is granted, and by which rule.
+    Granted(Rule),
+    /// The ACL, or none.
+    Acl(Option<Acl>),
+    Names(Listing),
+    /// How many data sectors are free, and how many inodes.
+    Space(u32, u32),
+    Refused(Refusal),
+}
