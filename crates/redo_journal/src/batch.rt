@@ -98,7 +98,7 @@ impl Batch {
     }
 
     /// The sectors and their contents, in the order of the log.
-    pub(crate) fn entries(&self) -> &[(u32, [u8; 512])]
+    pub fn entries(&self) -> &[(u32, [u8; 512])]
         ensures entries { result.now ≡ self.now }
         ensures batch { IsBatch self.now }
     {
