@@ -1,0 +1,40 @@
+-- What an event does to a state, and to the disk at each moment.
+--     Adds        the one tree that an event adds to those that a stop may leave
+--     IsFound        what a stop may leave meanwhile
+--     Does        the whole
+use Rattle.std.specs.Prelude.{◌≡◌, ◌≤◌, ◌⊎◌, ℕ, IsTrue, IsFalse}
+use Rattle.sector_disk.specs.Disk.{State as DiskState, Image, IsImage, IsSame, LeavesOnly, HasFailed}
+use Rattle.fs_model.specs.declared.event.Event.{Event}
+use Rattle.fs_model.specs.declared.reply.Reply.{Reply}
+use Rattle.fs_model.specs.Trees.{Tree}
+use Rattle.fs_model.specs.States.{State}
+use Rattle.fs_model.specs.Steps.{Choice, after, tree_after}
+use Rattle.fs_model.specs.Stops.{Halts, makes_stable, is_io_error}
+use Rattle.fs_system.specs.Standing.{StandsFor, StandsAs, EachStandsFor}
+use Rattle.fs_system.specs.Serving.{Serves}
+
+-- The tree is the one after the event, or where that halts the machine, the one that its effect would have given.
+abbrev pub Adds : State → Event → State → Tree → Type 0
+Adds old e new t = (t ≡ new.tree) ⊎ ((choice : Choice) × Halts old e new choice × (t ≡ tree_after old (after old e choice)))
+
+-- The image stands for what one at the start stood for, for the tree that was present then, or for the one that is added.
+abbrev pub IsFound : DiskState → State → Tree → Image → Type 0
+IsFound before old added image =
+    ((from : Image) × IsImage before from × StandsAs from image)
+    ⊎ (IsFalse old.halted × ((free : ℕ) × StandsFor old.room image old.tree free))
+    ⊎ ((free : ℕ) × StandsFor old.room image added free)
+
+-- From one moment to another an event happens, with this reply, on a disk and in a state.
+pub record Does (before now : DiskState) (old : State) (e : Event) (reply : Reply) (new : State) : Type 0 where
+  pub serves : Serves old e reply new
+  pub added : Tree
+  pub is_added : Adds old e new added
+  -- at any moment
+  pub images : LeavesOnly before now (IsFound before old added)
+  -- fsync and sync, where they answer ok
+  pub synced : IsTrue (makes_stable e reply) → EachStandsFor new.room now new.tree
+  -- EIO is answered only where the device failed, or where the machine is halted
+  pub cause : IsTrue (is_io_error reply) → IsFalse old.halted → HasFailed before now
+  pub later : before.failures ≤ now.failures
+  -- a halted one leaves the disk as it is
+  pub still : IsTrue old.halted → IsSame before now

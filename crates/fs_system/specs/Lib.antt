@@ -1,0 +1,12 @@
+pub mod Standing
+pub mod Serving
+pub mod Doing
+pub mod Seen
+pub mod Replies
+pub mod Playing
+pub mod Mounting
+pub mod Table
+pub mod Rooted
+pub mod Laws
+pub mod NewTables
+pub mod Making

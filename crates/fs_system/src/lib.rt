@@ -1,0 +1,19 @@
+//! The file system: processes and their calls on a tree that a disk stands for.
+#![tactic(auto)]
+
+mod faults;
+mod fs;
+mod laws;
+#[cfg(test)]
+mod mkfs_tests;
+mod new_disk;
+mod new_tables;
+mod processes;
+mod root;
+#[cfg(test)]
+mod tests;
+
+pub use faults::{MkfsFault, MountFault};
+pub use fs::Fs;
+pub use laws::{a_new_disk_is_mountable, histories_are_runs};
+pub use new_disk::mkfs;
