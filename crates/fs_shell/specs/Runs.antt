@@ -1,0 +1,105 @@
+-- Runs of scripts: which answers lines get, and what is written.
+--     Gives        what reading comes to
+--     event_of, IsOffered        what a line asks the file system
+--     answer_text, answers_text, count_faults        what is written for answers
+--     LineAnswers, Answers        one line, and all lines of a script
+--     Ran        a run of a script
+use Rattle.std.specs.Prelude.{◌≡◌, ◌≢◌, ◌≤◌, ◌+◌, ℕ, false, List, [], ◌∷◌, ◌++◌, length, Option, None, Some, IfSome, IsTrue, Result, Ok, Err, MatchResult}
+use Rattle.std.specs.List.{flat_map}
+use Rattle.std.specs.Io.KnownBytes.{Appends}
+use Rattle.fs_model.specs.declared.event.Event.{Event}
+use Rattle.fs_model.specs.declared.event.Event.TheVariants.{Spawn as SpawnEvent, Call as CallEvent}
+use Rattle.fs_model.specs.declared.reply.Reply.{Reply as ReplyType}
+use Rattle.fs_shell.specs.declared.answer.Answer.{Answer}
+use Rattle.fs_shell.specs.declared.answer.Answer.TheVariants.{Nothing, Reply, Fault}
+use Rattle.fs_shell.specs.declared.answer.Count.{Count}
+use Rattle.fs_shell.specs.declared.fault.RunFault.{RunFault}
+use Rattle.fs_shell.specs.declared.fault.RunFault.TheVariants.{TooMuch}
+use Rattle.fs_shell.specs.declared.line.Line.{Line}
+use Rattle.fs_shell.specs.declared.line.Line.TheVariants.{Blank, Spawn, Call}
+use Rattle.fs_shell.specs.declared.line.LineFault.{LineFault}
+use Rattle.fs_shell.specs.declared.line.LineFault.TheVariants.{OutOfMemory}
+use Rattle.fs_shell.specs.Lines.{lines_of, is_silent}
+use Rattle.fs_shell.specs.Commands.{line_value}
+use Rattle.fs_shell.specs.Scripts.{script_limit, IsOver}
+use Rattle.fs_system.specs.Serving.{is_served}
+use Rattle.fs_shell.specs.Texts.{reply_text, fault_text}
+
+-- What reading comes to, seen by view, is what is said, unless memory ran out.
+abbrev pub Gives : {X Y : Type 0} → (X → Y) → Result X LineFault → Result Y LineFault → Type 0
+Gives view read said = MatchResult read (λ x. said ≡ Ok (view x)) (λ fault. fault ≢ OutOfMemory → said ≡ Err fault)
+
+-- what a line asks the file system
+abbrev pub event_of : Line → Option Event
+event_of Blank = None
+event_of (Spawn cred) = Some (SpawnEvent cred)
+event_of (Call pid call) = Some (CallEvent pid call)
+
+-- A line asks for no call but those that are served.
+abbrev pub IsOffered : Line → Type 0
+IsOffered Blank = Unit {0}
+IsOffered (Spawn cred) = Unit {0}
+IsOffered (Call pid call) = IsTrue (is_served call)
+
+-- ---- answers
+
+-- what is written for an answer: a line, or nothing
+abbrev pub answer_text : Answer → List ℕ
+answer_text Nothing = []
+answer_text (Reply reply) = reply_text reply ++ 10 ∷ []
+answer_text (Fault fault) = fault_text fault ++ 10 ∷ []
+
+-- What is written for the lines of a script.
+abbrev pub answers_text : List Answer → List ℕ
+answers_text answers = flat_map answer_text answers
+
+-- how many lines have something wrong
+abbrev pub faults_in : Answer → ℕ
+faults_in Nothing = 0
+faults_in (Reply _) = 0
+faults_in (Fault _) = 1
+
+abbrev pub count_faults : List Answer → ℕ
+count_faults [] = 0
+count_faults (answer ∷ answers) = faults_in answer + count_faults answers
+
+-- ---- runs
+
+-- A line takes a system from old to new, and gets this answer. `serves` says which reply an event may get.
+pub data LineAnswers {S : Type 0} (serves : S → Event → ReplyType → S → Type 0) (line : List ℕ) (old : S) (answer : Answer) (new : S) : Type 0 where
+  -- it asks for nothing
+  is_blank : line_value line ≡ Ok Blank → answer ≡ Nothing → new ≡ old → LineAnswers serves line old answer new
+  -- something is wrong with it, and nothing is performed
+  is_faulty : (fault : LineFault) → line_value line ≡ Err fault → answer ≡ Fault fault → new ≡ old → LineAnswers serves line old answer new
+  -- memory runs out, and nothing is performed
+  lacks_memory : is_silent line ≡ false → answer ≡ Fault OutOfMemory → new ≡ old → LineAnswers serves line old answer new
+  -- it is performed
+  is_performed : (asked : Line) (e : Event) (reply : ReplyType) → line_value line ≡ Ok asked → event_of asked ≡ Some e → serves old e reply new
+      → answer ≡ Reply reply → LineAnswers serves line old answer new
+
+-- The lines of a script, one after another.
+abbrev pub Answers : {S : Type 0} → (S → Event → ReplyType → S → Type 0) → S → List (List ℕ) → List Answer → S → Type 0
+Answers serves old [] [] new = new ≡ old
+Answers {S} serves old (line ∷ lines) (answer ∷ answers) new = (mid : S) × LineAnswers serves line old answer mid × Answers serves mid lines answers new
+Answers serves old _ _ new = ⊥
+
+-- The script is done: its lines are all lines of the input, and their answers are what was written.
+pub record Finished (input : Option (List ℕ)) (before after : Option (List ℕ)) (lines : List (List ℕ)) (answers : List Answer) (count : Count) : Type 0 where
+  pub all_lines : IfSome input (λ xs. lines ≡ lines_of xs)
+  pub written : Appends before after (answers_text answers)
+  pub lines_counted : count.lines ≡ length lines
+  pub faults_counted : count.faults ≡ count_faults answers
+  pub fits : IfSome input (λ xs. length xs ≤ script_limit)
+
+-- It ended early: after some of the lines.
+pub record Stopped (input : Option (List ℕ)) (lines : List (List ℕ)) (fault : RunFault) : Type 0 where
+  pub rest : List (List ℕ)
+  pub first_lines : IfSome input (λ xs. lines_of xs ≡ lines ++ rest)
+  pub too_much : fault ≡ TooMuch → IsOver input 0
+
+-- A run over an input, where that is known, takes a system from old to new, and what a writer holds from before to after.
+pub record Ran {S : Type 0} (serves : S → Event → ReplyType → S → Type 0) (input before after : Option (List ℕ)) (old new : S) (result : Result Count RunFault) : Type 0 where
+  pub lines : List (List ℕ)
+  pub answers : List Answer
+  pub served : Answers serves old lines answers new
+  pub outcome : MatchResult result (Finished input before after lines answers) (Stopped input lines)
