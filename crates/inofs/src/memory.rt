@@ -1,0 +1,85 @@
+//! Runs a script on a new file system in memory.
+ghost use Rattle.std.specs.Prelude.{IfOk, Ok};
+ghost use Rattle.fs_model.specs.States.{State};
+ghost use Rattle.fs_system.specs.Serving.{Serves};
+ghost use Rattle.fs_system.specs.Seen.{IsIn};
+ghost use Rattle.fs_shell.specs.Runs.{Ran};
+ghost use Rattle.inofs.specs.Programs.{IsNew};
+
+use fs_shell::{Count, RunFault, run};
+use fs_system::{Fs, MkfsFault, MountFault, a_new_disk_is_mountable, mkfs};
+use sector_disk::{Disk, MemDisk};
+use std::alloc::Global;
+use std::io::{Read, Write};
+use thiserror::Error;
+
+// The size of the disk.
+const SECTORS: u32 = 1024;
+
+// How many inodes it has, 0 too.
+const INODES: u32 = 64;
+
+/// Why a script wasn't done.
+#[derive(Debug, Drop, Error)]
+pub enum Failure {
+    /// There is no memory for the disk.
+    #[error("image: cannot create")]
+    Image,
+    /// No file system was made on it.
+    #[error("mkfs: {0}")]
+    Mkfs(MkfsFault),
+    /// It was not mounted.
+    #[error("mount: {0}")]
+    Mount(MountFault),
+    /// The run ended early.
+    #[error("run: {0}")]
+    Run(RunFault),
+}
+
+/// Makes an empty file system in memory, and runs the script on it.
+pub fn run_in_memory<R: Read, W: Write>(
+    alloc: Global,
+    reader: &mut R,
+    writer: &mut W,
+) -> Result<Count, Failure>
+    // What was written is the text of a run over the script's lines, which began with an empty file system.
+    ensures { IfOk result (λ count. (s : State) × IsNew s × (t : State)
+        × Ran Serves (R.remaining reader.old) (W.contents writer.old) (W.contents writer.new) s t (Ok count)) }
+{
+    let Ok(disk) = MemDisk::new(alloc, SECTORS) else {
+        return Err(Failure::Image);
+    };
+    run_on(alloc, disk, reader, writer)
+}
+
+// Makes an empty file system on the disk, and runs the script on it.
+fn run_on<D: Disk + Drop, R: Read, W: Write>(
+    alloc: Global,
+    disk: D,
+    reader: &mut R,
+    writer: &mut W,
+) -> Result<Count, Failure>
+    ensures { IfOk result (λ count. (s : State) × IsNew s × (t : State)
+        × Ran Serves (R.remaining reader.old) (W.contents writer.old) (W.contents writer.new) s t (Ok count)) }
+{
+    let mut fs = new_file_system(alloc, disk)?;
+    match run(alloc, reader, writer, &mut fs) {
+        Ok(count) => Ok(count),
+        Err(fault) => Err(Failure::Run(fault)),
+    }
+}
+
+// Makes an empty file system on the disk, and mounts it.
+fn new_file_system<D: Disk + Drop>(alloc: Global, disk: D) -> Result<Fs<D>, Failure>
+    ensures { IfOk result (λ fs. (s : State) × IsNew s × IsIn D.state fs s) }
+{
+    let mut disk = disk;
+    if let Err(fault) = mkfs(&mut disk, INODES) {
+        return Err(Failure::Mkfs(fault));
+    }
+    a_new_disk_is_mountable::<D>();
+    match Fs::mount(alloc, disk) {
+        Ok(fs) => Ok(fs),
+        Err((fault, _)) => Err(Failure::Mount(fault)),
+    }
+}
