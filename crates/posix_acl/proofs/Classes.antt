@@ -6,7 +6,7 @@ use Rattle.posix_acl.specs.declared.entry.Perms.{Perms}
 use Rattle.posix_acl.specs.declared.entry.Entry.{Entry}
 use Rattle.posix_acl.specs.declared.entry.Tag.TheVariants.{UserObj, Other}
 use Rattle.posix_acl.specs.Entries.{entry}
-use Rattle.posix_acl.specs.AccessList.{AccessList, IsAcl, entries_of, with_classes}
+use Rattle.posix_acl.specs.AccessList.{AccessList, IsAcl, entries_of, group_class, with_classes}
 use Rattle.posix_acl.specs.Stored.{access_list, IsCanonical}
 use Rattle.posix_acl.proofs.Canonical.{by_ends, middle_of, class_tag, kept}
 
@@ -92,3 +92,25 @@ classes_written es a count x y z owner group other view canonical counted read_f
     (three_writes _ _ _ _ es count x y z owner group other shape counted read_first read_class read_last
     ∙ sym (by_ends_after a owner group other valid))
     (IsAcl-with_classes a owner group other valid)
+
+-- what the entry before the last gives, and what the last gives
+pub class_read : (es : List Entry) (a : AccessList) (count : ℕ) (e : Entry) → access_list es ≡ a → IsCanonical es → count ≡ length es
+    → e ≡ get_or es (count - 2) e → e.perms ≡ group_class a
+class_read es a count e view canonical counted read =
+    let front : List Entry = entry UserObj 0 a.owner ∷ middle_of a.users a.group a.groups a.mask in
+    let class : Entry = entry (class_tag a.mask) 0 (group_class a) in
+    let last : Entry = entry Other 0 a.other in
+    let shape : es ≡ front ++ class ∷ last ∷ [] = canonical.canonical ∙ ap entries_of view ∙ by_ends a (subst IsAcl view canonical.valid) in
+    let at : count - 2 ≡ length front = omega (arith, counted, ap length shape, length-append front (class ∷ last ∷ [])) in
+    ap (λ x. x.perms) (read_seam front class (last ∷ []) (count - 2) e at (read ∙ ap (λ l. get_or l (count - 2) e) shape))
+
+pub other_read : (es : List Entry) (a : AccessList) (count : ℕ) (e : Entry) → access_list es ≡ a → IsCanonical es → count ≡ length es
+    → e ≡ get_or es (count - 1) e → e.perms ≡ a.other
+other_read es a count e view canonical counted read =
+    let front : List Entry = entry UserObj 0 a.owner ∷ middle_of a.users a.group a.groups a.mask in
+    let class : Entry = entry (class_tag a.mask) 0 (group_class a) in
+    let last : Entry = entry Other 0 a.other in
+    let shape : es ≡ (front ++ class ∷ []) ++ last ∷ [] =
+    canonical.canonical ∙ ap entries_of view ∙ by_ends a (subst IsAcl view canonical.valid) ∙ sym (append_assoc front (class ∷ []) (last ∷ [])) in
+    let at : count - 1 ≡ length (front ++ class ∷ []) = omega (arith, counted, ap length shape, length-append (front ++ class ∷ []) (last ∷ [])) in
+    ap (λ x. x.perms) (read_seam (front ++ class ∷ []) last [] (count - 1) e at (read ∙ ap (λ l. get_or l (count - 1) e) shape))

@@ -4,7 +4,7 @@ ghost use Rattle.posix_acl.specs.Entries.{tag_number, is_tag, is_named, perms_of
 
 /// Whom an entry is about. The variants stand in canonical order, and their numbers are those
 /// under which Linux stores them.
-#[derive(Clone, Copy, Debug, PartialEq, Eq)]
+#[derive(Clone, Copy)]
 pub enum Tag {
     /// The owner of the file.
     UserObj = 1,
@@ -65,7 +65,7 @@ impl Tag {
 }
 
 /// What an entry lets its class do; on a directory `execute` is search.
-#[derive(Clone, Copy, Debug, PartialEq, Eq)]
+#[derive(Clone, Copy, PartialEq, Eq)]
 pub struct Perms {
     pub read: bool,
     pub write: bool,
@@ -105,7 +105,7 @@ impl Perms {
 }
 
 /// One entry of an access control list. The id counts only where the tag is `User` or `Group`.
-#[derive(Clone, Copy, Debug, PartialEq, Eq)]
+#[derive(Clone, Copy)]
 pub struct Entry {
     pub tag: Tag,
     pub id: u32,

@@ -13,7 +13,7 @@ use crate::reading::read_text;
 use std::alloc::{AllocError, Global};
 
 /// How entries stand in a text.
-#[derive(Clone, Copy, Debug, PartialEq, Eq)]
+#[derive(Clone, Copy)]
 pub enum TextForm {
     /// An entry a line.
     Long,
