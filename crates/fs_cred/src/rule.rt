@@ -1,5 +1,5 @@
 /// What a decision rests on: the entry or the case that grants or refuses.
-#[derive(Clone, Copy, Debug, PartialEq, Eq)]
+#[derive(Clone, Copy, PartialEq, Eq)]
 pub enum Rule {
     /// The owner's entry.
     Owner,
@@ -28,7 +28,7 @@ pub enum Rule {
 }
 
 /// An answer, and the rule that gives it.
-#[derive(Clone, Copy, Debug, PartialEq, Eq)]
+#[derive(Clone, Copy, PartialEq, Eq)]
 pub struct Verdict {
     /// Whether all that was wanted is granted.
     pub yes: bool,

@@ -1,32 +1,12 @@
 use crate::access::decide;
 use crate::cred::{Cred, CredFault};
-use crate::errno::Errno;
 use crate::laws::one_answer;
 use crate::node::{Node, NodeKind};
 use crate::ownership::{may_chgrp, may_chown, may_own, sticky_allows};
-use crate::refusal::Need;
 use crate::rule::{Rule, Verdict};
 use posix_acl::{Acl, AclFault, Entry, Perms, Tag};
 use std::alloc::Global;
 use std::test::Fail;
-
-fn yes(rule: Rule) -> Verdict {
-    Verdict { yes: true, rule }
-}
-
-fn no(rule: Rule) -> Verdict {
-    Verdict { yes: false, rule }
-}
-
-// A file of user 1000 and group 100.
-fn file(alloc: Global, acl: &str) -> Result<Node, AclFault> {
-    Ok(Node {
-        kind: NodeKind::File,
-        owner: 1000,
-        group: 100,
-        acl: Acl::parse_text(alloc, acl.as_bytes())?,
-    })
-}
 
 const NONE: u16 = 0;
 
@@ -40,145 +20,173 @@ fn ask(cred: &Cred, node: &Node, want: u16) -> Verdict {
     decide(cred, node, Perms::from_digit(want))
 }
 
-#[test]
-fn the_owner_has_the_owners_entry_alone(rt: HostRuntime) -> Result<(), Fail> {
-    let node = file(rt.alloc(), "u::---,g::rwx,o::rwx")?;
-    let owner = Cred::new(rt.alloc(), 1000, 100, &[])?;
-    let other = Cred::new(rt.alloc(), 1001, 101, &[])?;
-    assert_eq!(rt; ask(&owner, &node, R), no(Rule::Owner));
-    assert_eq!(rt; ask(&other, &node, R), yes(Rule::Other));
-    let masked = file(rt.alloc(), "u::rw-,u:1000:---,g::---,m::---,o::---")?;
-    assert_eq!(rt; ask(&owner, &masked, R + W), yes(Rule::Owner));
-    Ok(())
-}
+const OPEN_BUT_TO_THE_OWNER: &str = "u::---,g::rwx,o::rwx";
 
-#[test]
-fn groups_are_not_joined(rt: HostRuntime) -> Result<(), Fail> {
-    let node = file(rt.alloc(), "u::rw-,g::---,g:5:r--,g:6:-w-,m::rwx,o::---")?;
-    let cred = Cred::new(rt.alloc(), 1002, 5, &[6])?;
-    assert_eq!(rt; ask(&cred, &node, R + W), no(Rule::NamedGroup(5)));
-    assert_eq!(rt; ask(&cred, &node, W), yes(Rule::NamedGroup(6)));
-    let cred = Cred::new(rt.alloc(), 1002, 6, &[7, 100])?;
-    assert_eq!(rt; ask(&cred, &node, X), no(Rule::OwningGroup));
-    Ok(())
-}
+const OPEN_TO_THE_OWNER: &str = "u::rw-,u:1000:---,g::---,m::---,o::---";
 
-#[test]
-fn the_mask_cuts_a_named_user(rt: HostRuntime) -> Result<(), Fail> {
-    let node = file(rt.alloc(), "u::rw-,u:1001:rw-,g::r--,m::r--,o::---")?;
-    let cred = Cred::new(rt.alloc(), 1001, 101, &[])?;
-    assert_eq!(rt; ask(&cred, &node, W), no(Rule::Mask));
-    assert_eq!(rt; ask(&cred, &node, X), no(Rule::NamedUser(1001)));
-    let grown = Node {
+const TWO_GROUPS: &str = "u::rw-,g::---,g:5:r--,g:6:-w-,m::rwx,o::---";
+
+const MASKED: &str = "u::rw-,u:1001:rw-,g::r--,m::r--,o::---";
+
+const UNMASKED: &str = "u::rw-,u:1001:rw-,g::r--,m::rw-,o::---";
+
+const CLOSED: &str = "u::---,u:1001:---,g::---,g:5:---,m::---,o::---";
+
+// The ACL of a file of user 1000 and group 100, who asks with which groups, for what, and what answers it.
+const DECISIONS: [(&str, u32, u32, &[u32], u16, bool, Rule); 15] = [
+    (OPEN_BUT_TO_THE_OWNER, 1000, 100, &[], R, false, Rule::Owner),
+    (OPEN_BUT_TO_THE_OWNER, 1001, 101, &[], R, true, Rule::Other),
+    (OPEN_TO_THE_OWNER, 1000, 100, &[], R + W, true, Rule::Owner),
+    (TWO_GROUPS, 1002, 5, &[6], R + W, false, Rule::NamedGroup(5)),
+    (TWO_GROUPS, 1002, 5, &[6], W, true, Rule::NamedGroup(6)),
+    (TWO_GROUPS, 1002, 6, &[7, 100], X, false, Rule::OwningGroup),
+    (MASKED, 1001, 101, &[], W, false, Rule::Mask),
+    (MASKED, 1001, 101, &[], X, false, Rule::NamedUser(1001)),
+    (UNMASKED, 1001, 101, &[], W, true, Rule::NamedUser(1001)),
+    (CLOSED, 0, 0, &[], NONE, true, Rule::Superuser),
+    (CLOSED, 1000, 100, &[], NONE, true, Rule::Owner),
+    (CLOSED, 1001, 100, &[], NONE, true, Rule::NamedUser(1001)),
+    (CLOSED, 1002, 100, &[], NONE, true, Rule::OwningGroup),
+    (CLOSED, 1002, 5, &[], NONE, true, Rule::NamedGroup(5)),
+    (CLOSED, 1002, 102, &[], NONE, true, Rule::Other),
+];
+
+fn file(alloc: Global, acl: &str) -> Result<Node, AclFault> {
+    Ok(Node {
         kind: NodeKind::File,
         owner: 1000,
         group: 100,
-        acl: node.acl.with_mode_bits(0o660),
-    };
-    assert_eq!(rt; ask(&cred, &grown, W), yes(Rule::NamedUser(1001)));
+        acl: Acl::parse_text(alloc, acl.as_bytes())?,
+    })
+}
+
+fn asked(
+    alloc: Global,
+    acl: &str,
+    uid: u32,
+    gid: u32,
+    groups: &[u32],
+    want: u16,
+) -> Result<Verdict, Fail> {
+    let node = file(alloc, acl)?;
+    let cred = Cred::new(alloc, uid, gid, groups)?;
+    Ok(ask(&cred, &node, want))
+}
+
+#[test]
+fn an_entry_decides(rt: HostRuntime) -> Result<(), Fail> {
+    for (acl, uid, gid, groups, want, yes, rule) in DECISIONS {
+        let seen = asked(rt.alloc(), acl, uid, gid, groups, want)?;
+        assert!(rt; seen == Verdict { yes, rule }, "{uid} {gid} {want} {acl}");
+    }
     Ok(())
+}
+
+// What the superuser's own file or directory of this mode answers to x, and to rw.
+fn asked_by_root(alloc: Global, mode: u16, kind: NodeKind) -> Result<[Verdict; 2], Fail> {
+    let root = Cred::new(alloc, 0, 0, &[])?;
+    let node = Node {
+        kind,
+        owner: 0,
+        group: 0,
+        acl: Acl::from_mode(alloc, mode)?,
+    };
+    Ok([ask(&root, &node, X), ask(&root, &node, R + W)])
 }
 
 #[test]
 fn the_superuser_needs_an_execute_bit(rt: HostRuntime) -> Result<(), Fail> {
-    let root = Cred::new(rt.alloc(), 0, 0, &[])?;
-    for (mode, kind, want) in [
+    for (mode, kind, wanted) in [
         (0o644, NodeKind::File, no(Rule::NoExecuteBit)),
         (0o001, NodeKind::File, yes(Rule::Superuser)),
         (0o010, NodeKind::File, yes(Rule::Superuser)),
         (0o100, NodeKind::File, yes(Rule::Superuser)),
         (0o000, NodeKind::Directory, yes(Rule::Superuser)),
     ] {
-        let acl = Acl::from_mode(rt.alloc(), mode)?;
-        let node = Node {
-            kind,
-            owner: 0,
-            group: 0,
-            acl,
-        };
-        assert_eq!(rt; ask(&root, &node, X), want, "{mode}");
-        assert_eq!(rt; ask(&root, &node, R + W), yes(Rule::Superuser), "{mode}");
+        let seen = asked_by_root(rt.alloc(), mode, kind)?;
+        assert!(rt; seen == [wanted, yes(Rule::Superuser)], "{mode}");
     }
     Ok(())
 }
 
-#[test]
-fn the_empty_set_is_granted(rt: HostRuntime) -> Result<(), Fail> {
-    let node = file(rt.alloc(), "u::---,u:1001:---,g::---,g:5:---,m::---,o::---")?;
-    for (uid, gid, rule) in [
-        (0, 0, Rule::Superuser),
-        (1000, 100, Rule::Owner),
-        (1001, 100, Rule::NamedUser(1001)),
-        (1002, 100, Rule::OwningGroup),
-        (1002, 5, Rule::NamedGroup(5)),
-        (1002, 102, Rule::Other),
-    ] {
-        let cred = Cred::new(rt.alloc(), uid, gid, &[])?;
-        assert_eq!(rt; ask(&cred, &node, NONE), yes(rule), "{uid} {gid}");
-    }
-    Ok(())
+// The parts of a credential with 16 more groups, whether it is in three groups and the superuser's, and what 17 are.
+fn with_groups(
+    alloc: Global,
+) -> Result<((u32, u32, usize), [bool; 4], Option<CredFault>), CredFault> {
+    let cred = Cred::new(alloc, 7, u32::MAX, &[9; 16])?;
+    let parts = (cred.uid(), cred.gid(), cred.groups().len());
+    let tests = [
+        cred.is_member(u32::MAX),
+        cred.is_member(9),
+        cred.is_member(7),
+        cred.is_superuser(),
+    ];
+    Ok((parts, tests, Cred::new(alloc, 7, 8, &[9; 17]).err()))
+}
+
+// Who may own, give to a user, give to a group, and remove from a sticky directory.
+fn rights(alloc: Global) -> Result<([bool; 3], [bool; 3], [bool; 4], [bool; 5]), CredFault> {
+    let root = Cred::new(alloc, 0, 0, &[])?;
+    let user = Cred::new(alloc, 1000, 100, &[500])?;
+    let other = Cred::new(alloc, 1001, 101, &[])?;
+    Ok((
+        [
+            may_own(&root, 1000),
+            may_own(&user, 1000),
+            may_own(&user, 0),
+        ],
+        [
+            may_chown(&root, 1000, 0),
+            may_chown(&user, 1000, 1000),
+            may_chown(&user, 1000, 0),
+        ],
+        [
+            may_chgrp(&root, 100, 7),
+            may_chgrp(&user, 7, 7),
+            may_chgrp(&user, 7, 500),
+            may_chgrp(&user, 500, 7),
+        ],
+        [
+            sticky_allows(&user, true, 0, 1000),
+            sticky_allows(&other, true, 0, 1000),
+            sticky_allows(&user, true, 1000, 1001),
+            sticky_allows(&root, true, 1000, 1001),
+            sticky_allows(&other, false, 0, 1000),
+        ],
+    ))
 }
 
 #[test]
-fn a_credential_has_16_more_groups(rt: HostRuntime) -> Result<(), Fail> {
-    let cred = Cred::new(rt.alloc(), 7, u32::MAX, &[9; 16])?;
-    assert_eq!(rt;
-        (cred.uid(), cred.gid(), cred.groups().len()),
-        (7, u32::MAX, 16)
+fn credentials_have_groups_and_rights(rt: HostRuntime) -> Result<(), Fail> {
+    let seen = with_groups(rt.alloc())?;
+    let wanted = (
+        (7, u32::MAX, 16),
+        [true, true, false, false],
+        Some(CredFault::TooManyGroups),
     );
-    assert!(rt; cred.is_member(u32::MAX) && cred.is_member(9) && !cred.is_member(7));
-    assert!(rt; !cred.is_superuser());
-    let fault = Cred::new(rt.alloc(), 7, 8, &[9; 17]).err();
-    assert_eq!(rt; fault, Some(CredFault::TooManyGroups));
-    Ok(())
-}
-
-#[test]
-fn owners_change_what_is_theirs(rt: HostRuntime) -> Result<(), Fail> {
-    let root = Cred::new(rt.alloc(), 0, 0, &[])?;
-    let user = Cred::new(rt.alloc(), 1000, 100, &[500])?;
-    assert!(rt; may_own(&root, 1000) && may_own(&user, 1000) && !may_own(&user, 0));
-    assert!(rt;
-        may_chown(&root, 1000, 0) && may_chown(&user, 1000, 1000) && !may_chown(&user, 1000, 0)
+    assert!(rt; seen == wanted, "{seen:?}");
+    let seen = rights(rt.alloc())?;
+    let wanted = (
+        [true, true, false],
+        [true, true, false],
+        [true, true, true, false],
+        [true, false, true, true, true],
     );
-    assert!(rt; may_chgrp(&root, 100, 7) && may_chgrp(&user, 7, 7) && may_chgrp(&user, 7, 500));
-    assert!(rt; !may_chgrp(&user, 500, 7));
-    Ok(())
-}
-
-#[test]
-fn sticky_directories_keep_their_names(rt: HostRuntime) -> Result<(), Fail> {
-    let root = Cred::new(rt.alloc(), 0, 0, &[])?;
-    let user = Cred::new(rt.alloc(), 1000, 100, &[])?;
-    let other = Cred::new(rt.alloc(), 1001, 101, &[])?;
-    assert!(rt; sticky_allows(&user, true, 0, 1000) && !sticky_allows(&other, true, 0, 1000));
-    assert!(rt; sticky_allows(&user, true, 1000, 1001) && sticky_allows(&root, true, 1000, 1001));
-    assert!(rt; sticky_allows(&other, false, 0, 1000));
+    assert!(rt; seen == wanted, "{seen:?}");
     one_answer();
     Ok(())
 }
 
-#[test]
-fn errors_have_the_numbers_of_linux(rt: HostRuntime) {
-    for (errno, number, name) in [
-        (Errno::EPERM, 1, "EPERM"),
-        (Errno::EACCES, 13, "EACCES"),
-        (Errno::ELOOP, 40, "ELOOP"),
-    ] {
-        assert_eq!(rt; (errno.number(), errno.name()), (number, name));
-    }
-    for (need, number) in [
-        (Need::Search, 13),
-        (Need::Perm(Perms::from_digit(R)), 13),
-        (Need::Own, 1),
-        (Need::Remove, 1),
-    ] {
-        assert_eq!(rt; need.errno().number(), number);
-    }
+fn yes(rule: Rule) -> Verdict {
+    Verdict { yes: true, rule }
+}
+
+fn no(rule: Rule) -> Verdict {
+    Verdict { yes: false, rule }
 }
 
 // A list by octal digits: the base entries, the mask, users 1 and 2, groups 1 and 2.
-#[derive(Drop)]
+#[derive(Clone, Copy)]
 struct Digits {
     owner: u16,
     group: u16,
@@ -229,10 +237,10 @@ fn entry(tag: Tag, id: u32, digit: u16) -> Entry {
 
 fn acl(alloc: Global, list: &Digits) -> Result<Acl, AclFault> {
     let mut entries = Vec::with_capacity(alloc, 8)?;
-    entries.push(entry(Tag::Other, 0, list.other))?;
-    entries.push(entry(Tag::GroupObj, 0, list.group))?;
-    entries.push(entry(Tag::UserObj, 0, list.owner))?;
     for (tag, id, digit) in [
+        (Tag::Other, 0, Some(list.other)),
+        (Tag::GroupObj, 0, Some(list.group)),
+        (Tag::UserObj, 0, Some(list.owner)),
         (Tag::Mask, 0, list.mask),
         (Tag::User, 2, list.users[1]),
         (Tag::User, 1, list.users[0]),
@@ -306,29 +314,57 @@ fn by_the_manual(list: &Digits, uid: u32, groups: [bool; 3], want: u16) -> Verdi
     }
 }
 
-// How many answers agree for the superuser, the owner and three others, over every list and every set of permissions.
+// Users with their groups, and whether 3, 1 and 2 are among these: the superuser, the owner and three others.
+const ASKERS: [(u32, u32, &[u32], [bool; 3]); 5] = [
+    (0, 0, &[], [false, false, false]),
+    (3, 3, &[], [true, false, false]),
+    (1, 1, &[2, 3], [true, true, true]),
+    (2, 2, &[], [false, false, true]),
+    (4, 3, &[9, 1], [true, true, false]),
+];
+
+#[derive(Drop)]
+struct Asker {
+    cred: Cred,
+    groups: [bool; 3],
+}
+
+fn askers(alloc: Global) -> Result<Vec<Asker>, Fail> {
+    let mut askers = Vec::new(alloc);
+    for (uid, gid, more, groups) in ASKERS {
+        let cred = Cred::new(alloc, uid, gid, more)?;
+        askers.push(Asker { cred, groups })?;
+    }
+    Ok(askers)
+}
+
+// How many answers about this file agree, over every set of permissions.
+fn agreeing_on(list: &Digits, node: &Node, askers: &[Asker]) -> u32 {
+    let mut agreeing = 0u32;
+    for asker in askers {
+        for want in 0..8 {
+            let manual = by_the_manual(list, asker.cred.uid(), asker.groups, want);
+            if ask(&asker.cred, node, want) == manual {
+                agreeing = agreeing.wrapping_add(1);
+            }
+        }
+    }
+    agreeing
+}
+
+// The same over every list. One with a name and no mask is none.
 fn agreeing(alloc: Global) -> Result<u32, Fail> {
-    let askers = [
-        (Cred::new(alloc, 0, 0, &[])?, [false, false, false]),
-        (Cred::new(alloc, 3, 3, &[])?, [true, false, false]),
-        (Cred::new(alloc, 1, 1, &[2, 3])?, [true, true, true]),
-        (Cred::new(alloc, 2, 2, &[])?, [false, false, true]),
-        (Cred::new(alloc, 4, 3, &[9, 1])?, [true, true, false]),
-    ];
+    let askers = askers(alloc)?;
     let mut agreeing = 0u32;
     for number in 0..LISTS {
         let list = list(number);
-        let node = match acl(alloc, &list) {
-            Err(AclFault::NoMask) => continue,
-            acl => file_of_3(acl?),
-        };
-        for (cred, groups) in &askers {
-            for want in 0..8 {
-                let manual = by_the_manual(&list, cred.uid(), *groups, want);
-                if ask(cred, &node, want) == manual {
-                    agreeing = agreeing.wrapping_add(1);
-                }
+        match acl(alloc, &list) {
+            Ok(acl) => {
+                let more = agreeing_on(&list, &file_of_3(acl), &askers);
+                agreeing = agreeing.wrapping_add(more);
             }
+            Err(AclFault::NoMask) => {}
+            Err(fault) => return Err(fault.into()),
         }
     }
     Ok(agreeing)
@@ -338,6 +374,7 @@ fn agreeing(alloc: Global) -> Result<u32, Fail> {
 // which optimizes nothing, stops it at its limit.
 #[test]
 fn decides_as_the_manual_says(rt: HostRuntime) -> Result<(), Fail> {
-    assert_eq!(rt; agreeing(rt.alloc())?, 810_125 * 5 * 8);
+    let seen = agreeing(rt.alloc())?;
+    assert!(rt; seen == 810_125 * 5 * 8, "{seen}");
     Ok(())
 }
