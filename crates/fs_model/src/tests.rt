@@ -1,4 +1,4 @@
-use crate::bytes::{Bytes, Name, Path};
+use crate::bytes::{ByteString, ContentRole, Name, NameRole, PathRole};
 use crate::laws::{
     a_new_disk_stands_for_an_empty_root, a_sync_leaves_one_tree, an_image_stands_for_one_tree,
     decision_is_unique, finds_are_there, first_refusal_is_least, fitting_states_drop_nothing,
@@ -7,36 +7,42 @@ use crate::laws::{
     steps_keep_states,
 };
 use crate::listing::{Listing, Named};
-use std::test::Fail;
+use std::alloc::{AllocError, Global};
 
-#[test]
-fn bytes_go_in_and_come_back(rt: HostRuntime) -> Result<(), Fail> {
-    let path = Path::new(Vec::from_slice(rt.alloc(), b"/a/b")?);
-    assert_eq!(rt; path.bytes(), b"/a/b".as_slice());
-    assert_eq!(rt; path.into_bytes().as_slice(), b"/a/b".as_slice());
-    let name = Name::new(Vec::from_slice(rt.alloc(), b"a b")?);
-    assert_eq!(rt; name.bytes(), b"a b".as_slice());
-    assert_eq!(rt; name.into_bytes().as_slice(), b"a b".as_slice());
-    let bytes = Bytes::new(Vec::from_slice(rt.alloc(), b"\0\xff")?);
-    assert_eq!(rt; bytes.bytes(), b"\0\xff".as_slice());
-    assert_eq!(rt; bytes.into_bytes().as_slice(), b"\0\xff".as_slice());
-    Ok(())
+// Whether these bytes are shown, and come back.
+fn keeps_bytes<Role>(alloc: Global, bytes: &[u8]) -> Result<bool, AllocError> {
+    let made: ByteString<Role> = ByteString::new(Vec::from_slice(alloc, bytes)?);
+    let is_shown = made.bytes() == bytes;
+    let back = made.into_bytes();
+    Ok(is_shown && back.as_slice() == bytes)
 }
 
-#[test]
-fn names_go_in_and_come_back(rt: HostRuntime) -> Result<(), Fail> {
-    let mut names = Vec::new(rt.alloc());
+// Whether a name with an inode number is shown, and comes back.
+fn keeps_a_name(alloc: Global) -> Result<bool, AllocError> {
+    let mut names = Vec::new(alloc);
     names.push(Named {
-        name: Name::new(Vec::from_slice(rt.alloc(), b"a")?),
+        name: Name::new(Vec::from_slice(alloc, b"a")?),
         inode: 3,
     })?;
     let listing = Listing::new(names);
-    assert_eq!(rt; listing.names().len(), 1);
-    let named = &listing.names()[0];
-    assert_eq!(rt; named.name.bytes(), b"a".as_slice());
-    assert_eq!(rt; named.inode, 3);
-    assert_eq!(rt; listing.into_names().len(), 1);
-    Ok(())
+    let is_shown = listing.names().len() == 1 && listing.names().iter().all(is_a_3);
+    let back = listing.into_names();
+    Ok(is_shown && back.len() == 1)
+}
+
+fn is_a_3(named: &Named) -> bool {
+    named.name.bytes() == b"a".as_slice() && named.inode == 3
+}
+
+#[test]
+fn what_goes_in_is_shown_and_comes_back(rt: HostRuntime) {
+    let seen = [
+        keeps_bytes::<PathRole>(rt.alloc(), b"/a/b").unwrap_or(false),
+        keeps_bytes::<NameRole>(rt.alloc(), b"a b").unwrap_or(false),
+        keeps_bytes::<ContentRole>(rt.alloc(), b"\0\xff").unwrap_or(false),
+        keeps_a_name(rt.alloc()).unwrap_or(false),
+    ];
+    assert!(rt; seen == [true; 4], "{seen:?}");
 }
 
 #[test]
