@@ -10,7 +10,7 @@ use crate::fault::LayoutFault;
 use std::marker::Model;
 
 /// One entry of an ACL as three numbers. Which of them are valid, and what they mean, is not this crate's matter.
-#[derive(Clone, Copy, Debug, PartialEq, Eq)]
+#[derive(Clone, Copy, PartialEq, Eq)]
 pub struct AclEntry {
     /// What the entry is for.
     pub tag: u16,

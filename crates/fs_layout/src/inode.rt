@@ -55,7 +55,7 @@ impl Kind {
 
 /// An inode's fields. Its bytes say no more than that kind, mode and size go together: names, parent and sector
 /// numbers may be any.
-#[derive(Clone, Copy, Debug, PartialEq, Eq)]
+#[derive(Clone, Copy, PartialEq, Eq)]
 pub struct Inode {
     pub kind: Kind,
     /// The permission bits, and of a directory the bits above them: of a file at most 0o777, of a directory at most

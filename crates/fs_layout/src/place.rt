@@ -6,7 +6,7 @@ ghost use Rattle.fs_layout.specs.Place.{the_place, IsPlace};
 /// The layout of a disk: how many sectors and inodes it has, and where the inode table and the data begin.
 ///
 /// The inode bitmap is sector 128 and the block bitmap begins at sector 129, on each disk.
-#[derive(Clone, Copy, Debug, PartialEq, Eq)]
+#[derive(Clone, Copy)]
 pub struct Place {
     /// The number of sectors of the disk.
     pub sectors: u32,

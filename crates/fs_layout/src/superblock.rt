@@ -12,7 +12,7 @@ const VERSION: u32 = 1;
 
 /// What the superblock says of its disk. Whether the disk is of that size, and [`crate::place_of`] gives a layout, is
 /// not asked here.
-#[derive(Clone, Copy, Debug, PartialEq, Eq)]
+#[derive(Clone, Copy, PartialEq, Eq)]
 pub struct Super {
     /// The number of sectors of the disk.
     pub sectors: u32,
