@@ -3,3 +3,4 @@ pub mod Entries
 mod Puts
 pub mod Meaning
 mod Writing
+mod Now

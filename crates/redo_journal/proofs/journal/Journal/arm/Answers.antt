@@ -1,14 +1,15 @@
-use Rattle.std.proofs.Common.{rules}
+use Rattle.std.proofs.Common.{◌∙◌, ap, rules, subst}
+use Rattle.sector_disk.specs.Disk.{Elapses, IsSame}
 use Rattle.redo_journal.proofs.journal.Journal.arm.Goals as goal
 
 pub returns-clause-idle : goal.returns-clause-idle
 returns-clause-idle g c = search rules
 
 pub returns-clause-unchanged : goal.returns-clause-unchanged
-returns-clause-unchanged g c = search rules
+returns-clause-unchanged g c = subst (λ d. IsSame (g.D.Disk.state d) (g.D.Disk.state c.arm.new.self)) c.self.view_is c.arm.ensures.same
 
 pub returns-clause-time : goal.returns-clause-time
-returns-clause-time g c = search rules
+returns-clause-time g c = subst (λ d. Elapses (g.D.Disk.state d) (g.D.Disk.state c.arm.new.self)) c.self.view_is c.arm.ensures.time
 
 pub returns-clause-failures : goal.returns-clause-failures
-returns-clause-failures g c = search rules
+returns-clause-failures g c = c.arm.ensures.failures ∙ ap (λ d. (g.D.Disk.state d).failures) c.self.view_is
