@@ -1,2 +1,3 @@
 mod Done
 pub mod Moments
+mod Passing

@@ -1,11 +1,10 @@
 //! Clients over any disk, which show that the clauses can be met and used; and what no clause says: which call fails,
 //! and which content a stop leaves.
 
-ghost use Rattle.std.specs.Prelude.{◌≡◌, ◌≢◌, ◌<◌, ◌≤◌, ◌⊎◌, IfOk, OnOk, All, replicate, Contains, fold, slice_set};
-ghost use Rattle.sector_disk.specs.Disk.{Image, sector, IsStable, IsSame, IsFresh, HasCause, LeavesOnly, AddsOnly, IsImageOr};
+ghost use Rattle.std.specs.Prelude.{◌≡◌, ◌≢◌, ◌<◌, ◌⊎◌, OnOk, All, Contains, fold, slice_set};
+ghost use Rattle.sector_disk.specs.Disk.{Image, sector, IsStable, HasCause, LeavesOnly, AddsOnly, IsImageOr};
 
-use crate::{CrashDisk, Disk, DiskFault, FailOnce, FuseDisk, MemDisk};
-use std::alloc::{AllocError, Global};
+use crate::{CrashDisk, Disk, DiskFault, FailOnce, FaultyDisk, FuseDisk, MemDisk};
 use std::test::Fail;
 
 const OLD: [u8; 512] = [1; 512];
@@ -51,18 +50,65 @@ fn scatter<D: Disk>(disk: &mut D, contents: &[(u32, [u8; 512])]) -> Result<(), D
     Ok(())
 }
 
-fn first_byte<D: Disk>(disk: &mut D, n: u32) -> Result<u8, DiskFault>
-    requires { n < (D.state disk.old).size }
-    ensures { IsSame (D.state disk.old) (D.state disk.new) }
+// A sync, and then both clients: whether each of them passes.
+fn run_clients<D: Disk>(
+    disk: &mut D,
+    n: u32,
+    content: &[u8; 512],
+    at: u32,
+    mark: &[u8; 512],
+    contents: &[(u32, [u8; 512])],
+) -> Result<(bool, bool), DiskFault>
+    requires n_fits { n < 4 }
+    requires at_fits { at < 4 }
+    requires apart { n ≢ at }
+    requires contents_fit { All (λ content. content.0 < 4) contents.now }
 {
+    if disk.size() < 4 {
+        return Err(DiskFault);
+    }
+    disk.sync()?;
+    let marked = write_and_mark(disk, n, content, at, mark).is_ok();
+    Ok((marked, scatter(disk, contents).is_ok()))
+}
+
+#[derive(Clone, Copy)]
+enum Call {
+    Read(u32),
+    // Fills the sector with the byte.
+    Write(u32, u8),
+    Sync,
+}
+
+fn passes<D: Disk>(disk: &mut D, call: Call) -> bool {
+    match call {
+        Call::Read(n) => first_byte(disk, n).is_ok(),
+        Call::Write(n, byte) => n < disk.size() && disk.write(n, &[byte; 512]).is_ok(),
+        Call::Sync => disk.sync().is_ok(),
+    }
+}
+
+// Which of the calls pass.
+fn four_calls<D: Disk>(disk: &mut D, calls: [Call; 4]) -> [bool; 4] {
+    [
+        passes(disk, calls[0]),
+        passes(disk, calls[1]),
+        passes(disk, calls[2]),
+        passes(disk, calls[3]),
+    ]
+}
+
+// A sector past the end gives a fault.
+fn first_byte<D: Disk>(disk: &mut D, n: u32) -> Result<u8, DiskFault> {
+    if n >= disk.size() {
+        return Err(DiskFault);
+    }
     let mut content = [0; 512];
     disk.read(n, &mut content)?;
     Ok(content[0])
 }
 
-fn first_bytes<D: Disk>(disk: &mut D) -> Result<[u8; 4], DiskFault>
-    requires { 4 ≤ (D.state disk.old).size }
-{
+fn first_bytes<D: Disk>(disk: &mut D) -> Result<[u8; 4], DiskFault> {
     Ok([
         first_byte(disk, 0)?,
         first_byte(disk, 1)?,
@@ -71,135 +117,148 @@ fn first_bytes<D: Disk>(disk: &mut D) -> Result<[u8; 4], DiskFault>
     ])
 }
 
-// A disk of four sectors of zeros.
-fn four_sectors(alloc: Global) -> Result<MemDisk, AllocError>
-    ensures { IfOk result (λ disk. IsFresh (⟦<MemDisk as Disk>⟧.state disk) (replicate 4 (replicate 512 0))) }
-{
-    MemDisk::new(alloc, 4)
+// Which calls of an armed disk pass; and, once it has been stopped and a sync has passed, how often it has failed and
+// what reads give.
+fn stopped<D: CrashDisk>(
+    disk: &mut D,
+    armed: u64,
+    calls: [Call; 4],
+    choice: &[u8],
+) -> Result<([bool; 4], u64, [u8; 4]), DiskFault> {
+    disk.arm(armed);
+    let passed = four_calls(disk, calls);
+    disk.crash(choice);
+    disk.sync()?;
+    Ok((passed, disk.failures(), first_bytes(disk)?))
 }
 
 #[test]
-fn a_stop_picks_one_of_three_contents(rt: HostRuntime) -> Result<(), Fail> {
-    for (choice, found) in [
-        ([].as_slice(), 1),
-        ([0].as_slice(), 1),
-        ([1].as_slice(), 2),
-        ([2].as_slice(), 3),
-        ([3].as_slice(), 1),
-        ([254].as_slice(), 3),
-        ([255].as_slice(), 1),
+fn a_stop_leaves_what_its_choice_picks(rt: HostRuntime) -> Result<(), Fail> {
+    let one_sector = [
+        Call::Write(2, 1),
+        Call::Sync,
+        Call::Write(2, 2),
+        Call::Write(2, 3),
+    ];
+    let two_sectors = [
+        Call::Sync,
+        Call::Write(3, 2),
+        Call::Write(1, 1),
+        Call::Write(3, 3),
+    ];
+    let synced_between = [
+        Call::Write(0, 1),
+        Call::Write(1, 1),
+        Call::Sync,
+        Call::Write(0, 3),
+    ];
+    // How many writes and syncs pass, the calls, the choice, how often the disk has failed, and the first bytes.
+    for (armed, calls, choice, failures, found) in [
+        (9, one_sector, [].as_slice(), 0, [0, 0, 1, 0]),
+        (9, one_sector, [0].as_slice(), 0, [0, 0, 1, 0]),
+        (9, one_sector, [1].as_slice(), 0, [0, 0, 2, 0]),
+        (9, one_sector, [2].as_slice(), 0, [0, 0, 3, 0]),
+        (9, one_sector, [3].as_slice(), 0, [0, 0, 1, 0]),
+        (9, one_sector, [254].as_slice(), 0, [0, 0, 3, 0]),
+        (9, one_sector, [255].as_slice(), 0, [0, 0, 1, 0]),
+        // The sectors' bytes are picked in rising order.
+        (9, two_sectors, [].as_slice(), 0, [0, 0, 0, 0]),
+        (9, two_sectors, [1].as_slice(), 0, [0, 1, 0, 0]),
+        (9, two_sectors, [0, 1].as_slice(), 0, [0, 0, 0, 2]),
+        (9, two_sectors, [1, 1].as_slice(), 0, [0, 1, 0, 2]),
+        (9, two_sectors, [2, 2].as_slice(), 0, [0, 0, 0, 3]),
+        (9, two_sectors, [1, 2, 9].as_slice(), 0, [0, 1, 0, 3]),
+        // What a fault kept from passing may be left too.
+        (0, synced_between, [0, 0].as_slice(), 4, [0, 0, 0, 0]),
+        (0, synced_between, [1, 1].as_slice(), 4, [1, 1, 0, 0]),
+        (1, synced_between, [0, 0].as_slice(), 3, [0, 0, 0, 0]),
+        (1, synced_between, [1, 1].as_slice(), 3, [1, 1, 0, 0]),
+        (2, synced_between, [0, 0].as_slice(), 2, [0, 0, 0, 0]),
+        (2, synced_between, [1, 1].as_slice(), 2, [1, 1, 0, 0]),
+        (3, synced_between, [0, 0].as_slice(), 1, [1, 1, 0, 0]),
+        (3, synced_between, [1, 1].as_slice(), 1, [3, 1, 0, 0]),
     ] {
-        let mut disk = four_sectors(rt.alloc())?;
-        disk.write(2, &OLD)?;
-        disk.sync()?;
-        disk.write(2, &MIDDLE)?;
-        disk.write(2, &NEW)?;
-        disk.crash(choice);
-        assert_eq!(rt; first_byte(&mut disk, 2)?, found, "{choice:?}");
-        assert_eq!(rt; first_byte(&mut disk, 1)?, 0, "{choice:?}");
+        let seen = stopped(&mut MemDisk::new(rt.alloc(), 4)?, armed, calls, choice)?;
+        let wanted = (
+            [armed > 0, armed > 1, armed > 2, armed > 3],
+            failures,
+            found,
+        );
+        assert!(rt; seen == wanted, "{armed} {choice:?} {found:?}");
     }
     Ok(())
 }
 
-#[test]
-fn a_stop_picks_for_sectors_in_rising_order(rt: HostRuntime) -> Result<(), Fail> {
-    for (choice, first, second) in [
-        ([].as_slice(), 0, 0),
-        ([1].as_slice(), 1, 0),
-        ([0, 1].as_slice(), 0, 2),
-        ([1, 1].as_slice(), 1, 2),
-        ([2, 2].as_slice(), 0, 3),
-        ([1, 2, 9].as_slice(), 1, 3),
-    ] {
-        let mut disk = four_sectors(rt.alloc())?;
-        disk.write(3, &MIDDLE)?;
-        disk.write(1, &OLD)?;
-        disk.write(3, &NEW)?;
-        disk.crash(choice);
-        assert_eq!(rt; first_byte(&mut disk, 1)?, first, "{choice:?}");
-        assert_eq!(rt; first_byte(&mut disk, 3)?, second, "{choice:?}");
-    }
-    Ok(())
+// Which calls of a disk pass that fails by itself, how often it has failed, and what is in sector 0 of the disk below.
+fn through<D: Disk + Drop, const FAULTS: u64>(
+    faulty: FaultyDisk<D, FAULTS>,
+) -> Result<([bool; 4], u64, u8), DiskFault> {
+    let mut faulty = faulty;
+    let passed = four_calls(
+        &mut faulty,
+        [
+            Call::Write(0, 1),
+            Call::Read(0),
+            Call::Sync,
+            Call::Write(0, 3),
+        ],
+    );
+    let failures = faulty.failures();
+    let mut disk = faulty.into_inner();
+    Ok((passed, failures, first_byte(&mut disk, 0)?))
 }
 
 #[test]
-fn an_armed_disk_fails_after_its_count(rt: HostRuntime) -> Result<(), Fail> {
-    // The count, the failures, and the first bytes of sectors 0 and 1 after a stop with choices 0 and with choices 1.
-    for (passes, failures, synced, written) in [
-        (0, 4, (0, 0), (1, 1)),
-        (1, 3, (0, 0), (1, 1)),
-        (2, 2, (0, 0), (1, 1)),
-        (3, 1, (1, 1), (3, 1)),
-    ] {
-        for (choice, found) in [([0, 0].as_slice(), synced), ([1, 1].as_slice(), written)] {
-            let mut disk = four_sectors(rt.alloc())?;
-            disk.arm(passes);
-            assert_eq!(rt; disk.write(0, &OLD).is_ok(), passes > 0);
-            assert_eq!(rt; disk.write(1, &OLD).is_ok(), passes > 1);
-            assert_eq!(rt; disk.sync().is_ok(), passes > 2);
-            assert_eq!(rt; disk.write(0, &NEW).is_ok(), passes > 3);
-            assert_eq!(rt; disk.failures(), failures);
-            disk.crash(choice);
-            assert_eq!(rt; disk.failures(), failures);
-            assert_eq!(rt; first_byte(&mut disk, 0)?, found.0, "{passes}");
-            assert_eq!(rt; first_byte(&mut disk, 1)?, found.1, "{passes}");
-            disk.sync()?;
-        }
-    }
-    Ok(())
-}
-
-#[test]
-fn a_fuse_burns_at_its_call(rt: HostRuntime) -> Result<(), Fail> {
-    for call in 0..4 {
-        let mut fuse = FuseDisk::new(four_sectors(rt.alloc())?, call);
-        assert_eq!(rt; fuse.write(0, &OLD).is_ok(), call > 0);
-        assert_eq!(rt; first_byte(&mut fuse, 0).is_ok(), call > 1);
-        assert_eq!(rt; fuse.sync().is_ok(), call > 2);
-        assert_eq!(rt; fuse.write(0, &NEW).is_ok(), call > 3);
-        assert_eq!(rt; fuse.failures(), 4 - call);
-        let mut disk = fuse.into_inner();
-        assert_eq!(rt; first_byte(&mut disk, 0)?, u8::from(call > 0));
-    }
-    Ok(())
-}
-
-#[test]
-fn one_call_alone_fails(rt: HostRuntime) -> Result<(), Fail> {
-    for call in 0..4 {
-        let mut once = FailOnce::new(four_sectors(rt.alloc())?, call);
-        assert_eq!(rt; once.write(0, &OLD).is_ok(), call != 0);
-        assert_eq!(rt; first_byte(&mut once, 0).is_ok(), call != 1);
-        assert_eq!(rt; once.sync().is_ok(), call != 2);
-        assert_eq!(rt; once.write(0, &NEW).is_ok(), call != 3);
-        assert_eq!(rt; once.failures(), 1);
-        let mut disk = once.into_inner();
-        assert_eq!(rt; first_byte(&mut disk, 0)?, if call == 3 { 1 } else { 3 });
+fn faults_come_at_their_calls(rt: HostRuntime) -> Result<(), Fail> {
+    // The first call that fails, how often a fuse has failed then, and what it and a disk of one fault leave.
+    for (call, failures, burnt, once) in [(0, 4, 0, 3), (1, 3, 1, 3), (2, 2, 1, 3), (3, 1, 1, 1)] {
+        let seen = (
+            through(FuseDisk::new(MemDisk::new(rt.alloc(), 4)?, call))?,
+            through(FailOnce::new(MemDisk::new(rt.alloc(), 4)?, call))?,
+        );
+        let wanted = (
+            ([call > 0, call > 1, call > 2, call > 3], failures, burnt),
+            ([call != 0, call != 1, call != 2, call != 3], 1, once),
+        );
+        assert!(rt; seen == wanted, "{call}");
     }
     Ok(())
 }
 
 #[test]
 fn clients_run_over_each_disk(rt: HostRuntime) -> Result<(), Fail> {
-    let mut disk = four_sectors(rt.alloc())?;
-    write_and_mark(&mut disk, 2, &NEW, 0, &OLD)?;
-    scatter(&mut disk, &[(3, MIDDLE), (1, NEW), (3, OLD)])?;
-    assert_eq!(rt; first_bytes(&mut disk)?, [1, 3, 3, 1]);
+    let mut disk = MemDisk::new(rt.alloc(), 4)?;
+    let passed = run_clients(
+        &mut disk,
+        2,
+        &NEW,
+        0,
+        &OLD,
+        &[(3, MIDDLE), (1, NEW), (3, OLD)],
+    )?;
+    let plain = (passed, first_bytes(&mut disk)?);
 
-    let mut fuse = FuseDisk::new(four_sectors(rt.alloc())?, 4);
-    fuse.sync()?;
-    assert_eq!(rt; write_and_mark(&mut fuse, 1, &OLD, 3, &NEW), Err(DiskFault));
-    assert_eq!(rt; scatter(&mut fuse, &[(2, MIDDLE)]), Err(DiskFault));
-    let mut disk = fuse.into_inner();
-    assert_eq!(rt; first_bytes(&mut disk)?, [0, 1, 0, 3]);
+    let mut fuse = FuseDisk::new(MemDisk::new(rt.alloc(), 4)?, 4);
+    let passed = run_clients(&mut fuse, 1, &OLD, 3, &NEW, &[(2, MIDDLE)])?;
+    let burnt = (passed, first_bytes(&mut fuse.into_inner())?);
 
-    let mut once = FailOnce::new(four_sectors(rt.alloc())?, 6);
-    once.sync()?;
-    write_and_mark(&mut once, 1, &OLD, 3, &NEW)?;
-    assert_eq!(rt;
-        scatter(&mut once, &[(2, MIDDLE), (0, OLD), (1, NEW)]),
-        Err(DiskFault)
+    let mut once = FailOnce::new(MemDisk::new(rt.alloc(), 4)?, 6);
+    let passed = run_clients(
+        &mut once,
+        1,
+        &OLD,
+        3,
+        &NEW,
+        &[(2, MIDDLE), (0, OLD), (1, NEW)],
+    )?;
+    let failed = (passed, first_bytes(&mut once)?);
+
+    let wanted = (
+        ((true, true), [1, 3, 3, 1]),
+        ((false, false), [0, 1, 0, 3]),
+        ((true, false), [0, 1, 2, 3]),
     );
-    assert_eq!(rt; first_bytes(&mut once)?, [0, 1, 2, 3]);
+    let seen = (plain, burnt, failed);
+    assert!(rt; seen == wanted, "{seen:?}");
     Ok(())
 }
