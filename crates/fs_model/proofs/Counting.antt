@@ -22,10 +22,10 @@ in_second (x ∷ xs) ys s i = inr (in_second xs ys s i)
 
 -- ---- counts over a range
 
-one_if : Bool → ℕ
+unfoldable pub one_if : Bool → ℕ
 one_if b = cond b 1 0
 
-count_cons : (f : ℕ → Bool) (a n : ℕ) → count_by f (range_with_len a (suc n)) ≡ one_if (f a) + count_by f (range_with_len (a + 1) n)
+pub count_cons : (f : ℕ → Bool) (a n : ℕ) → count_by f (range_with_len a (suc n)) ≡ one_if (f a) + count_by f (range_with_len (a + 1) n)
 unfolding one_if
 count_cons f a n = sum_by-cons (λ (x : ℕ). cond (f x) 1 0) a (range_with_len (a + 1) n)
 

@@ -1,4 +1,4 @@
--- The lookups of a walk are refused by the least of them that refuses.
+-- The lookups of a walk are refused by the least of them that refuses, and where they are not refused none refuses.
 use Rattle.std.specs.Prelude.{◌≡◌, ℕ, zero, suc, ◌+◌, ◌<◌, List, [], ◌∷◌, slice_get, Some, None}
 use Rattle.std.proofs.Common.{refl, sym, ap, arith, ◌∙◌}
 use Rattle.fs_cred.specs.declared.refusal.Refusal.{Refusal}
@@ -50,3 +50,22 @@ module _ (cred : Credential) (t : Tree) (walk : ℕ) where
     where
       zero_before : (k : ℕ) → k ≡ 0 + k
       zero_before k = omega arith
+
+  none_from : (i : ℕ) (lookups : List Lookup) → first_refused cred t walk i lookups ≡ None → (k : ℕ) (u : Lookup)
+      → slice_get lookups k ≡ Some u → lookup_refusal cred t walk (i + k) u ≡ None
+  none_from i [] h k u g = absurd cc
+  none_from i (l ∷ lookups) h k u g = go (lookup_refusal cred t walk i l) refl h (λ f j r. none_from (i + 1) lookups f j u r) k g
+    where
+      go : (d : Demand) → lookup_refusal cred t walk i l ≡ d → or_else d (first_refused cred t walk (i + 1) lookups) ≡ None
+          → (first_refused cred t walk (i + 1) lookups ≡ None → (j : ℕ) → slice_get lookups j ≡ Some u → lookup_refusal cred t walk (i + 1 + j) u ≡ None)
+          → (k : ℕ) → slice_get (l ∷ lookups) k ≡ Some u → lookup_refusal cred t walk (i + k) u ≡ None
+      go (Some q) e f ih k g = absurd cc
+      go None e f ih zero g =
+          ap (λ n. lookup_refusal cred t walk n u) (let same : i + zero ≡ i = omega arith in same)
+          ∙ ap (lookup_refusal cred t walk i) (let same : l ≡ u = cc in sym same) ∙ e
+      go None e f ih (suc k) g = ap (λ n. lookup_refusal cred t walk n u) (let same : i + suc k ≡ i + 1 + k = omega arith in same) ∙ ih f k g
+
+  pub none_refuses : (lookups : List Lookup) → first_refused cred t walk 0 lookups ≡ None → (k : ℕ) (u : Lookup)
+      → slice_get lookups k ≡ Some u → lookup_refusal cred t walk k u ≡ None
+  none_refuses lookups h k u g =
+      ap (λ n. lookup_refusal cred t walk n u) (let same : k ≡ 0 + k = omega arith in same) ∙ none_from 0 lookups h k u g

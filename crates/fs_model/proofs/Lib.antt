@@ -1,9 +1,16 @@
+pub mod BuiltNodes
+pub mod BuiltTrees
 pub mod Counting
 pub mod Entries
+pub mod Findings
 pub mod Finds
 pub mod Frame
+pub mod FreeInodes
+pub mod ImageSlots
 pub mod Kept
+pub mod KindFields
 pub mod Least
+pub mod ListedMaps
 pub mod Machine
 pub mod MapLaws
 pub mod NewDiskStands
@@ -21,6 +28,9 @@ pub mod RowsOfOrder
 pub mod RowsOfPaths
 pub mod RowsOfRights
 pub mod RowsOfStops
+pub mod RulesFromTree
+pub mod RulesLaw
+pub mod SlotNames
 pub mod Stable
 pub mod StepsAdding
 pub mod StepsBodies
@@ -48,6 +58,8 @@ pub mod StepsSwept
 pub mod StepsTaking
 pub mod StepsTrails
 pub mod StepsUp
+pub mod StoredTrees
+pub mod Summaries
 pub mod Swept
 pub mod Taken
 pub mod Unchanged

@@ -85,7 +85,7 @@ module _ (room : Room) (t : Tree) (cred : Credential) (valid : IsCredential cred
 -- ---- the tree with one more node
 
 -- the number of a new node isn't the root's, and nothing leads to it
-nothing_leads : (room : Room) (t : Tree) (n : ℕ) → IsTree room t → node_at t n ≡ None → names_of t n ≡ 0
+pub nothing_leads : (room : Room) (t : Tree) (n : ℕ) → IsTree room t → node_at t n ≡ None → names_of t n ≡ 0
 nothing_leads room t n is none = elim (cases_lt (names_of t n) 1) [
   | inl few ↦ omega (arith, few)
   | inr some ↦ absurd (led (node_at t (parent t n)) refl (parent_names t n is.numbers (omega (arith, some))))

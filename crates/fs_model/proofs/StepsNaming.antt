@@ -25,7 +25,7 @@ type_with_names names (File a s) = refl
 type_with_names names (Dir a d) = refl
 type_with_names names (Link target) = refl
 
-names_with_names : (names : Names) (b : Body) → IsTrue (is_directory b) → names_in (with_names names b) ≡ names
+pub names_with_names : (names : Names) (b : Body) → IsTrue (is_directory b) → names_in (with_names names b) ≡ names
 names_with_names names (File a s) d = absurd cc
 names_with_names names (Dir a dir) d = refl
 names_with_names names (Link target) d = absurd cc

@@ -161,7 +161,7 @@ goes_empty desks n (Link target) names fits gone = refl
 goes_empty desks n (Dir a d) names fits gone =
     absurd (let lives : (not (names == 0) || n == root) ≡ true = directory_lives desks n (Dir a d) names fits refl in cc)
 
-tree_may_be_swept : (room : Room) (t : Tree) (desks : Desks) → IsTree room t → MayBeSwept room t desks
+pub tree_may_be_swept : (room : Room) (t : Tree) (desks : Desks) → IsTree room t → MayBeSwept room t desks
 tree_may_be_swept room t desks is = record {
   numbers = is.numbers;
   root_is_there = is.root_is_there;

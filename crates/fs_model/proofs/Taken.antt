@@ -283,7 +283,7 @@ module _ (p : Place) (image : SectorMap) where
     ]
   ]
 
-  count_may_be_free : (room : Room) (t : Tree) → room.sectors ≡ p.sectors - p.first_data → IsTree room t → HoldsAll p image (placed t)
+  pub count_may_be_free : (room : Room) (t : Tree) → room.sectors ≡ p.sectors - p.first_data → IsTree room t → HoldsAll p image (placed t)
       → MayBeFree room t (free_sectors p image)
   count_may_be_free room t size is h =
       let all : ℕ = p.sectors - p.first_data in

@@ -29,7 +29,7 @@ all_stay keeps (e ∷ t) m h =
     ∙ ap (λ r. e ∷ r) (all_stay keeps t (right _ _ m) (at_rest keeps (λ n node. keeps (n, node) ≡ true) e t m h))
 
 -- a node that fits stays: by its names, as the root, or by who has it open
-fitting_stays : (desks : Desks) (n : ℕ) (b : Body) (names : ℕ) → NamesFit n b names
+pub fitting_stays : (desks : Desks) (n : ℕ) (b : Body) (names : ℕ) → NamesFit n b names
     → (names ≡ 0 → n ≢ root → IsTrue (is_open desks n)) → (n ≡ root → IsTrue (is_directory b))
     → (not (names == 0) || lives_nameless desks n b) ≡ true
 fitting_stays desks n b names fits opened rooted = go (names == 0) refl b fits rooted
@@ -61,10 +61,15 @@ root_directory room t n node is e at =
     let same : is.root_is_there.node ≡ node = cc in
     ap (λ k. is_directory k.body) (sym same) ∙ is.root_is_there.directory
 
+-- where what is open stays open
+pub open_stays : (room : Room) (t : Tree) (old new : Desks) → IsTree room t → FitsTree t old
+    → ((n : ℕ) → IsTrue (is_open old n) → IsTrue (is_open new n)) → swept t new ≡ t
+open_stays room t old new is fits still =
+    all_stay (stays t new) t is.numbers
+    (λ n node e. fitting_stays new n node.body (names_of t n) (is.each n node e).names (λ none ne. still n (fits.nameless n node e none ne)) (root_directory room t n node is e))
+
 pub nothing_to_drop : (room : Room) (t : Tree) (desks : Desks) → IsTree room t → FitsTree t desks → swept t desks ≡ t
-nothing_to_drop room t desks is fits =
-    all_stay (stays t desks) t is.numbers
-    (λ n node e. fitting_stays desks n node.body (names_of t n) (is.each n node e).names (λ none ne. fits.nameless n node e none ne) (root_directory room t n node is e))
+nothing_to_drop room t desks is fits = open_stays room t desks desks is fits (λ n still. still)
 
 -- ---- processes
 

@@ -1,38 +1,49 @@
 -- The laws of the definitions, each the contract of a function.
-use Rattle.std.specs.Prelude.{◌≡◌, ◌≢◌, ℕ, ◌+◌, ◌-◌, ◌<◌, ◌≤◌, length, nat_eq, nat_le, ◌||◌, List, Option, Some, IsTrue, is_some}
+use Rattle.std.specs.Prelude.{◌≡◌, ◌≢◌, ℕ, ◌+◌, ◌-◌, ◌<◌, ◌≤◌, ◌==◌, length, nat_eq, nat_le, not, ◌&&◌, ◌||◌, List, slice_get, Option, Some, None, IsTrue, is_some, count_by}
+use Rattle.std.specs.List.{range_with_len}
 use Rattle.std.specs.Ordering.{nat_cmp}
 use Rattle.fs_cred.specs.declared.refusal.Refusal.{Refusal}
 use Rattle.fs_cred.specs.Credentials.{Credential}
 use Rattle.fs_layout.specs.declared.place.Place.{Place}
 use Rattle.fs_layout.specs.Bytes.{SectorMap}
-use Rattle.fs_layout.specs.Commit.{targets_in}
+use Rattle.fs_layout.specs.Commit.{IsValidCommit, targets_in}
 use Rattle.fs_layout.specs.Place.{the_place}
-use Rattle.fs_layout.specs.Images.{bit, inode_bitmap}
+use Rattle.fs_layout.specs.Images.{bit, inode_bitmap, inode_at}
 use Rattle.fs_layout.specs.Changes.{ChangesInode}
+use Rattle.fs_layout.specs.Ownership.{Agrees}
+use Rattle.fs_layout.specs.Recovered.{recovered}
 use Rattle.fs_model.specs.declared.event.Event.{Event}
 use Rattle.fs_model.specs.declared.event.EventReply.TheVariants.{Reply as Replies}
 use Rattle.fs_model.specs.declared.reply.Reply.TheVariants.{Ok as Success}
 use Rattle.fs_model.specs.declared.reply.Reply.{Reply}
 use Rattle.fs_model.specs.Maps.{get, with_entry, IsMap}
 use Rattle.fs_model.specs.Nodes.{Node, names_in, sectors_of}
-use Rattle.fs_model.specs.Trees.{Tree, Room, node_at, with_node, names_of, parent, sectors_needed, IsTree}
-use Rattle.fs_model.specs.Processes.{Process, Desks}
+use Rattle.fs_model.specs.Trees.{Tree, Room, node_at, with_node, names_of, parent, sectors_needed, free_inodes, IsTree}
+use Rattle.fs_model.specs.Processes.{Process, Desks, is_open}
 use Rattle.fs_model.specs.Changes.{pruned, swept}
 use Rattle.fs_model.specs.States.{State, MayBeFree, FitsTree, IsState}
 use Rattle.fs_model.specs.Trails.{Form, Lookup, trail_of}
-use Rattle.fs_model.specs.Walks.{first_refused, IsLeastRefusal}
+use Rattle.fs_model.specs.Walks.{lookup_refusal, first_refused, IsLeastRefusal}
 use Rattle.fs_model.specs.Steps.{Step}
 use Rattle.fs_model.specs.Stops.{Machine, MachineStep, Stops, asks_stable}
 use Rattle.fs_model.specs.Ranges.{IsEvent}
 use Rattle.fs_model.specs.StoredNodes.{Placed}
-use Rattle.fs_model.specs.Stands.{HoldsPlaced, HoldsAll, room_of, Stands}
+use Rattle.fs_model.specs.Stands.{HoldsPlaced, HoldsAll, placed, room_of, Stands}
 use Rattle.fs_model.specs.NewDisk.{empty_tree, IsNewImage}
+use Rattle.fs_model.specs.Rules.{HasWholeSectors, ObeysAll, IsFinding, is_directory_kind}
+use Rattle.fs_model.specs.Summaries.{named_files, nameless_files, directories, links, is_file_kind, is_link_kind, is_used}
 
 -- The lookups of a walk are refused by the least of them that refuses.
 abbrev pub RefusesLeast : Type 0
 RefusesLeast =
     (cred : Credential) (t : Tree) (walk : ℕ) (lookups : List Lookup) (r : Refusal)
     → first_refused cred t walk 0 lookups ≡ Some r → IsLeastRefusal cred t walk lookups r
+
+-- Where none of them is found to refuse, none does.
+abbrev pub NoneRefuses : Type 0
+NoneRefuses =
+    (cred : Credential) (t : Tree) (walk : ℕ) (lookups : List Lookup) → first_refused cred t walk 0 lookups ≡ None
+    → (k : ℕ) (l : Lookup) → slice_get lookups k ≡ Some l → lookup_refusal cred t walk k l ≡ None
 
 -- Without its nameless files a tree is a tree.
 abbrev pub PruningKeeps : Type 0
@@ -46,7 +57,13 @@ StepsKeep = (old new : State) (e : Event) (reply : Reply) → IsState old → Is
 abbrev pub NothingToDrop : Type 0
 NothingToDrop = (room : Room) (t : Tree) (desks : Desks) → IsTree room t → FitsTree t desks → swept t desks ≡ t
 
--- A step of a process that stays as it is leaves the processes as they are.
+-- Nor is anything where the processes change and each node that was open is still open.
+abbrev pub OpenStays : Type 0
+OpenStays =
+    (room : Room) (t : Tree) (old new : Desks) → IsTree room t → FitsTree t old
+    → ((n : ℕ) → IsTrue (is_open old n) → IsTrue (is_open new n)) → swept t new ≡ t
+
+-- A process that is written back as it is leaves the table of processes as it is.
 abbrev pub SameProcessStays : Type 0
 SameProcessStays =
     (desks : Desks) (pid : ℕ) (p : Process) → IsMap nat_cmp desks → get nat_cmp desks pid ≡ Some p
@@ -101,6 +118,19 @@ StandingRests =
     (sectors : ℕ) (old new : SectorMap) (room : Room) (t : Tree) (free : ℕ) → SaysSame sectors old new
     → Stands sectors old room t free → Stands sectors new room t free
 
+-- On a disk of so many sectors, whose parts lie so, the commit sector is valid, and after recovery two images read alike:
+-- the superblock, the tables, and the data sectors that are used.
+pub record ReadsAlike (sectors : ℕ) (p : Place) (old new : SectorMap) : Type 0 where
+  pub commit : IsValidCommit sectors (new 1)
+  pub super : recovered sectors new 0 ≡ recovered sectors old 0
+  pub rest : Agrees p (recovered sectors old) (recovered sectors new)
+
+-- Then too, whatever commit and log sectors they have.
+abbrev pub StandingRestsOnReading : Type 0
+StandingRestsOnReading =
+    (sectors : ℕ) (old new : SectorMap) (room : Room) (t : Tree) (free : ℕ) → (stands : Stands sectors old room t free)
+    → ReadsAlike sectors stands.place old new → Stands sectors new room t free
+
 -- What a path leads to is in the tree.
 abbrev pub FindsAreThere : Type 0
 FindsAreThere =
@@ -134,3 +164,42 @@ NewImagesExist = (p : Place) → the_place p.sectors p.inodes ≡ Some p → (im
 abbrev pub SomeImageStands : Type 0
 SomeImageStands =
     (sectors : ℕ) × (image : SectorMap) × (room : Room) × (t : Tree) × (free : ℕ) × Stands sectors image room t free
+
+-- An image of whole sectors that obeys all rules of the checker stands for a tree,
+abbrev pub ObeyingStands : Type 0
+ObeyingStands =
+    (sectors : ℕ) (image : SectorMap) → HasWholeSectors sectors image → ObeysAll sectors image
+    → (room : Room) × (t : Tree) × (free : ℕ) × Stands sectors image room t free
+
+-- and an image that stands for a tree obeys them.
+abbrev pub StandingObeys : Type 0
+StandingObeys = (sectors : ℕ) (image : SectorMap) (room : Room) (t : Tree) (free : ℕ) → Stands sectors image room t free → ObeysAll sectors image
+
+-- An image has at most one finding,
+abbrev pub OneFinding : Type 0
+OneFinding =
+    (sectors : ℕ) (image : SectorMap) (k l i j : ℕ) → IsFinding sectors image k i → IsFinding sectors image l j → (k ≡ l) × (i ≡ j)
+
+-- and one that has a finding stands for no tree.
+abbrev pub FindingRefuses : Type 0
+FindingRefuses =
+    (sectors : ℕ) (image : SectorMap) (k i : ℕ) (room : Room) (t : Tree) (free : ℕ) → IsFinding sectors image k i
+    → Stands sectors image room t free → ⊥
+
+-- The numbers of a tree that a disk with this place holds: its named and nameless files, directories, links, and all its
+-- nodes, as counts over the inodes.
+pub record CountsInodes (p : Place) (image : SectorMap) (t : Tree) : Type 0 where
+  pub files : named_files t ≡ count_by (λ n. is_file_kind (inode_at p image n).kind && not ((inode_at p image n).names == 0)) (range_with_len 0 p.inodes)
+  pub nameless : nameless_files t ≡ count_by (λ n. is_file_kind (inode_at p image n).kind && (inode_at p image n).names == 0) (range_with_len 0 p.inodes)
+  pub directories : directories t ≡ count_by (λ n. is_directory_kind (inode_at p image n).kind) (range_with_len 0 p.inodes)
+  pub links : links t ≡ count_by (λ n. is_link_kind (inode_at p image n).kind) (range_with_len 0 p.inodes)
+  pub nodes : length t ≡ count_by (λ n. is_used (inode_at p image n).kind) (range_with_len 0 p.inodes)
+
+abbrev pub NumbersAreCounts : Type 0
+NumbersAreCounts = (p : Place) (image : SectorMap) (t : Tree) → HoldsAll p image (placed t) → IsTree (room_of p) t → CountsInodes p image t
+
+-- The inodes that are free are the clear bits of the inode bitmap, below the number of inodes.
+abbrev pub FreeAreClear : Type 0
+FreeAreClear =
+    (p : Place) (image : SectorMap) (t : Tree) → HoldsAll p image (placed t) → IsTree (room_of p) t
+    → free_inodes (room_of p) t ≡ count_by (λ n. not (bit image inode_bitmap n)) (range_with_len 0 p.inodes)

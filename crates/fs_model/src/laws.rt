@@ -1,6 +1,6 @@
 //! The laws of the definitions: each is the contract of a function that does nothing.
 ghost use Rattle.fs_cred.specs.Laws.{HasAnAnswer, HasOneAnswer, VerdictDecides};
-ghost use Rattle.fs_model.specs.Laws.{CountsFit, FindsAreThere, NewDiskStands, NewImagesExist, NothingToDrop, OneNodeChanges, PruningKeeps, RefusesLeast, RewritingKeeps, SameProcessStays, SomeImageStands, StandingRests, StandsForOne, StepsKeep, SyncingKeeps};
+ghost use Rattle.fs_model.specs.Laws.{CountsFit, FindingRefuses, FindsAreThere, FreeAreClear, NewDiskStands, NewImagesExist, NoneRefuses, NothingToDrop, NumbersAreCounts, ObeyingStands, OneFinding, OneNodeChanges, OpenStays, PruningKeeps, RefusesLeast, RewritingKeeps, SameProcessStays, SomeImageStands, StandingObeys, StandingRests, StandingRestsOnReading, StandsForOne, StepsKeep, SyncingKeeps};
 
 /// Whoever wants whatever of whatever file or directory, there is exactly one answer with its rule.
 pub fn decision_is_unique()
@@ -11,9 +11,10 @@ pub fn decision_is_unique()
     fs_cred::one_answer();
 }
 
-/// A walk is refused at the least of its lookups that refuses.
+/// A walk's lookups are refused by the least of them that refuses, and are not refused where none does.
 pub fn first_refusal_is_least()
-    ensures { RefusesLeast }
+    ensures least { RefusesLeast }
+    ensures none { NoneRefuses }
 {}
 
 /// What a path leads to is in the tree.
@@ -31,12 +32,14 @@ pub fn steps_keep_states()
     ensures { StepsKeep }
 {}
 
-/// A state whose processes fit its tree has nothing to be dropped.
+/// A state whose processes fit its tree has nothing to be dropped; nor has it where the processes change and what was open
+/// is still open.
 pub fn fitting_states_drop_nothing()
-    ensures { NothingToDrop }
+    ensures same { NothingToDrop }
+    ensures open_stays { OpenStays }
 {}
 
-/// A step of a process that stays as it is leaves the processes as they are.
+/// A process that is written back as it is leaves the table of processes as it is.
 pub fn same_process_stays()
     ensures { SameProcessStays }
 {}
@@ -62,9 +65,11 @@ pub fn free_sectors_are_within_bounds()
     ensures { CountsFit }
 {}
 
-/// What an image stands for rests on the superblock, the commit sector with its log, and the sectors from the bitmaps on.
+/// What an image stands for rests on what it reads as after recovery: superblock, tables, and the data sectors that are
+/// used. So it rests on the superblock, the commit sector with its log, and the sectors from the bitmaps on.
 pub fn standing_rests_on_what_is_used()
-    ensures { StandingRests }
+    ensures reading { StandingRestsOnReading }
+    ensures sectors { StandingRests }
 {}
 
 /// Where one inode changes with what it owns, and holds what it is to hold then, all others hold what they held.
@@ -81,4 +86,23 @@ pub fn a_new_disk_stands_for_an_empty_root()
 pub fn some_image_stands_for_a_tree()
     ensures new { NewImagesExist }
     ensures some { SomeImageStands }
+{}
+
+/// An image of a disk stands for a tree exactly where it obeys all rules of the checker.
+pub fn rules_say_what_stands()
+    ensures enough { ObeyingStands }
+    ensures needed { StandingObeys }
+{}
+
+/// An image has at most one finding, and one that has a finding stands for no tree.
+pub fn a_finding_is_the_first()
+    ensures one { OneFinding }
+    ensures refuses { FindingRefuses }
+{}
+
+/// How many files, directories, links and nodes a tree has are counts over the inodes of an image that holds it; and its free
+/// inodes are the clear bits of the inode bitmap.
+pub fn numbers_are_counts()
+    ensures numbers { NumbersAreCounts }
+    ensures free { FreeAreClear }
 {}
