@@ -1,12 +1,14 @@
 -- A disk of sectors: what reads give, what a stop may leave, and how calls change that.
 --     Image, sector        the contents of all sectors; that of one
+--     IsWholeSector        512 bytes
 --     State, IsImage, IsStable        what is known at one moment; what a stop may leave then
 --     Elapses        time goes on, and the past is kept
 --     IsNarrowed, IsSame, IsWritten, ChangesOnly        what one call does
 --     HasFailed, HasCause        why a call may tell a fault
+--     HasFailedToWrite, HasWriteCause        why a write or a sync may
 --     LeavesOnly        what a stop leaves at any moment of a run of calls
 --     OnlyReads, AddsOnly, IsImageOr        what several calls do
-use Rattle.std.specs.Prelude.{◌≡◌, ◌⊎◌, ℕ, ◌<◌, ◌≤◌, ◌^◌, ◌-◌, List, [], length, slice_index_or, slice_set, Result, OnErr}
+use Rattle.std.specs.Prelude.{◌≡◌, ◌⊎◌, ℕ, ◌<◌, ◌≤◌, ◌^◌, ◌-◌, List, [], length, get_or, slice_index_or, slice_set, Result, OnErr}
 
 -- the contents of the sectors, in their order
 abbrev pub Image : Type 0
@@ -15,6 +17,11 @@ Image = List (List ℕ)
 -- the content of one sector
 abbrev pub sector : Image → ℕ → List ℕ
 sector image n = slice_index_or image n []
+
+-- 512 bytes
+pub record IsWholeSector (content : List ℕ) : Type 0 where
+  pub len : length content ≡ 512
+  pub bytes : (i : ℕ) → get_or content i 0 < 256
 
 -- what is known of a disk at one moment
 pub record State : Type 1 where
@@ -30,6 +37,8 @@ pub record State : Type 1 where
   pub left_since : ℕ → Image → Type 0
   -- how often the disk has failed
   pub failures : ℕ
+  -- how often a write or a sync has
+  pub failed_writes : ℕ
 
 -- a stop may leave this image
 pub record IsImage (disk : State) (image : Image) : Type 0 where
@@ -84,6 +93,15 @@ HasFailed old new = (old.failures < new.failures) ⊎ (new.failures ≡ 2 ^ 64 -
 pub record HasCause {T E : Type 0} (old new : State) (result : Result T E) : Type 0 where
   pub later : old.failures ≤ new.failures
   pub fault : OnErr result (HasFailed old new)
+
+-- a write or a sync has failed since, or the disk can't count any further
+abbrev pub HasFailedToWrite : State → State → Type 0
+HasFailedToWrite old new = (old.failed_writes < new.failed_writes) ⊎ (new.failures ≡ 2 ^ 64 - 1)
+
+-- the same of the count of failed writes and syncs
+pub record HasWriteCause {T E : Type 0} (old new : State) (result : Result T E) : Type 0 where
+  pub later : old.failed_writes ≤ new.failed_writes
+  pub fault : OnErr result (HasFailedToWrite old new)
 
 -- a stop at any moment since old leaves an image that has P
 pub record LeavesOnly (old new : State) (P : Image → Type 0) : Type 0 where

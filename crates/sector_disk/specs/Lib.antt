@@ -1,5 +1,7 @@
 pub mod Disk
 pub mod Faults
+pub mod Forgotten
 pub mod History
 pub mod Record
 pub mod Replay
+pub mod Whole

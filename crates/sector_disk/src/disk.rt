@@ -1,8 +1,8 @@
 //! A disk as the layers above see it: an array of sectors that may be stopped at any moment, as by a power cut.
 //! A stop leaves in each sector what was there at the last sync that succeeded, or any content written since.
 
-ghost use Rattle.std.specs.Prelude.{◌≡◌, ◌≤◌, ◌<◌, ◌^◌, ◌-◌, ℕ, IsErr, OnOk, OnErr};
-ghost use Rattle.sector_disk.specs.Disk.{State, Image, IsImage, IsSame, IsWritten, ChangesOnly, IsStable, IsNarrowed, Elapses, HasCause, sector};
+ghost use Rattle.std.specs.Prelude.{◌≡◌, ◌≤◌, ◌<◌, ◌^◌, ◌-◌, ℕ, List, IsErr, OnOk, OnErr};
+ghost use Rattle.sector_disk.specs.Disk.{State, Image, IsImage, IsSame, IsWritten, ChangesOnly, IsStable, IsNarrowed, Elapses, HasCause, HasWriteCause, IsWholeSector, sector};
 
 /// A read, a write or a sync failed, and the disk has counted it.
 #[derive(Clone, Copy, Debug, PartialEq, Eq)]
@@ -31,6 +31,7 @@ pub trait Disk {
         ensures same { IsSame (state self.old) (state self.new) }
         ensures time { Elapses (state self.old) (state self.new) }
         ensures cause { HasCause (state self.old) (state self.new) result }
+        ensures quiet { (state self.new).failed_writes ≡ (state self.old).failed_writes }
         ensures worn { (state self.old).failures ≡ 2 ^ 64 - 1 → IsErr result };
 
     /// Writes a sector. Until a sync succeeds, a stop may leave the new content or one from before it.
@@ -40,6 +41,7 @@ pub trait Disk {
         ensures changes { ChangesOnly (state self.old) (state self.new) n from.now }
         ensures time { Elapses (state self.old) (state self.new) }
         ensures cause { HasCause (state self.old) (state self.new) result }
+        ensures told { HasWriteCause (state self.old) (state self.new) result }
         ensures worn { (state self.old).failures ≡ 2 ^ 64 - 1 → IsErr result };
 
     /// Makes stable what was written. A sync that fails makes nothing stable.
@@ -49,13 +51,25 @@ pub trait Disk {
         ensures failed { OnErr result (IsSame (state self.old) (state self.new)) }
         ensures time { Elapses (state self.old) (state self.new) }
         ensures cause { HasCause (state self.old) (state self.new) result }
+        ensures told { HasWriteCause (state self.old) (state self.new) result }
         ensures worn { (state self.old).failures ≡ 2 ^ 64 - 1 → IsErr result };
+
+    /// Lets the past go: what reads give and what a stop may leave stay, and nothing is said any more of the moments before
+    /// this one. A disk that keeps a record of them lets go of its memory.
+    fn forget(&mut self)
+        ensures same { IsSame (state self.old) (state self.new) }
+        ensures failures { (state self.new).failures ≡ (state self.old).failures }
+        ensures failed_writes { (state self.new).failed_writes ≡ (state self.old).failed_writes };
 
     /// The number of sectors is a `u32`.
     ghost size_fits: { (disk : Self) → (state disk).size < 2 ^ 32 };
 
     /// The count of failures is a `u64`.
     ghost failures_fit: { (disk : Self) → (state disk).failures < 2 ^ 64 };
+
+    /// A sector has 512 bytes, whatever a stop leaves there.
+    ghost whole_sectors: { (disk : Self) (n : ℕ) (content : List ℕ) → n < (state disk).size → (state disk).may_hold n content
+        → IsWholeSector content };
 
     /// What reads give is one of the images that a stop may leave.
     ghost seen_is_image: { (disk : Self) → IsImage (state disk) (state disk).seen };
@@ -73,7 +87,8 @@ pub trait CrashDisk: Disk {
     fn arm(&mut self, passes: u64)
         ensures same { IsSame (Self.state self.old) (Self.state self.new) }
         ensures time { Elapses (Self.state self.old) (Self.state self.new) }
-        ensures failures { (Self.state self.new).failures ≡ (Self.state self.old).failures };
+        ensures failures { (Self.state self.new).failures ≡ (Self.state self.old).failures }
+        ensures failed_writes { (Self.state self.new).failed_writes ≡ (Self.state self.old).failed_writes };
 
     /// Stops the disk and starts it again, disarmed: over the sectors with contents that were not synced, in
     /// rising order, the next byte of `choice` (0 past its end) modulo the number of contents picks one, the synced
@@ -82,5 +97,6 @@ pub trait CrashDisk: Disk {
         ensures image { IsImage (Self.state self.old) (Self.state self.new).seen }
         ensures stable { IsStable (Self.state self.new) }
         ensures size { (Self.state self.new).size ≡ (Self.state self.old).size }
-        ensures failures { (Self.state self.new).failures ≡ (Self.state self.old).failures };
+        ensures failures { (Self.state self.new).failures ≡ (Self.state self.old).failures }
+        ensures failed_writes { (Self.state self.new).failed_writes ≡ (Self.state self.old).failed_writes };
 }

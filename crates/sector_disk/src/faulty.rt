@@ -1,7 +1,7 @@
 //! Disks that fail by themselves at a call of one's choice, for tests of the layers above.
 
 ghost use Rattle.std.specs.Prelude.{◌≡◌, ◌<◌, ◌-◌, ◌^◌, OnOk};
-ghost use Rattle.sector_disk.specs.Disk.{HasCause};
+ghost use Rattle.sector_disk.specs.Disk.{HasCause, HasWriteCause};
 ghost use Rattle.sector_disk.specs.Faults.{with_failures, failures_fit, seen_is_image, counts_now, only_now};
 
 use crate::{Disk, DiskFault};
@@ -21,7 +21,9 @@ pub struct FaultyDisk<D, const FAULTS: u64> {
     call: u64,
     // How many calls there were; it stays at `u64::MAX`.
     calls: u64,
-    failures: u64,
+    failed_reads: u64,
+    // Syncs too.
+    failed_writes: u64,
 }
 
 impl<D, const FAULTS: u64> Model for FaultyDisk<D, FAULTS> {
@@ -29,19 +31,20 @@ impl<D, const FAULTS: u64> Model for FaultyDisk<D, FAULTS> {
 
     ghost Value = { Faulty D };
 
-    ghost view = { λ faulty. record { disk = faulty.disk; failures = faulty.failures } };
+    ghost view = { λ faulty. record { disk = faulty.disk; failed_reads = faulty.failed_reads; failed_writes = faulty.failed_writes } };
 }
 
 impl<D, const FAULTS: u64> FaultyDisk<D, FAULTS> {
     /// Calls are counted from 0.
     pub fn new(disk: D, call: u64) -> Self
-        ensures { result ≡ record { disk = disk; failures = 0 } }
+        ensures { result ≡ record { disk = disk; failed_reads = 0; failed_writes = 0 } }
     {
         FaultyDisk {
             disk,
             call,
             calls: 0,
-            failures: 0,
+            failed_reads: 0,
+            failed_writes: 0,
         }
     }
 
@@ -53,27 +56,51 @@ impl<D, const FAULTS: u64> FaultyDisk<D, FAULTS> {
         disk
     }
 
-    // Whether the next call fails.
-    fn is_due(&self) -> bool {
-        self.calls >= self.call && self.calls - self.call < FAULTS
+    // Counts a call, and says whether it fails.
+    fn is_due(&mut self) -> bool
+        ensures { self.new ≡ self.old }
+    {
+        let due = self.calls >= self.call && self.calls - self.call < FAULTS;
+        self.calls = self.calls.saturating_add(1);
+        due
     }
 }
 
 impl<D: Disk, const FAULTS: u64> FaultyDisk<D, FAULTS> {
-    // Counts a call, which reaches the disk below where it is Ok.
-    fn pass(&mut self) -> Result<(), DiskFault>
+    // Counts a read, which reaches the disk below where it is Ok.
+    fn pass_read(&mut self) -> Result<(), DiskFault>
         ensures disk { self.new.disk ≡ self.old.disk }
-        ensures failures { OnOk result (self.new.failures ≡ self.old.failures) }
-        ensures worn { OnOk result ((with_failures (D.state self.old.disk) self.old.failures).failures < 2 ^ 64 - 1) }
-        ensures cause { HasCause (with_failures (D.state self.old.disk) self.old.failures) (with_failures (D.state self.new.disk) self.new.failures) result }
+        ensures quiet { self.new.failed_writes ≡ self.old.failed_writes }
+        ensures failures { OnOk result (self.new ≡ self.old) }
+        ensures worn { OnOk result ((with_failures (D.state self.old.disk) self.old.failed_reads self.old.failed_writes).failures < 2 ^ 64 - 1) }
+        ensures cause { HasCause (with_failures (D.state self.old.disk) self.old.failed_reads self.old.failed_writes)
+            (with_failures (D.state self.new.disk) self.new.failed_reads self.new.failed_writes) result }
     {
         if self.failures() == u64::MAX {
             return Err(DiskFault);
         }
-        let due = self.is_due();
-        self.calls = self.calls.saturating_add(1);
-        if due {
-            self.failures += 1;
+        if self.is_due() {
+            self.failed_reads += 1;
+            return Err(DiskFault);
+        }
+        Ok(())
+    }
+
+    // The same of a write or a sync.
+    fn pass_write(&mut self) -> Result<(), DiskFault>
+        ensures disk { self.new.disk ≡ self.old.disk }
+        ensures failures { OnOk result (self.new ≡ self.old) }
+        ensures worn { OnOk result ((with_failures (D.state self.old.disk) self.old.failed_reads self.old.failed_writes).failures < 2 ^ 64 - 1) }
+        ensures cause { HasCause (with_failures (D.state self.old.disk) self.old.failed_reads self.old.failed_writes)
+            (with_failures (D.state self.new.disk) self.new.failed_reads self.new.failed_writes) result }
+        ensures told { HasWriteCause (with_failures (D.state self.old.disk) self.old.failed_reads self.old.failed_writes)
+            (with_failures (D.state self.new.disk) self.new.failed_reads self.new.failed_writes) result }
+    {
+        if self.failures() == u64::MAX {
+            return Err(DiskFault);
+        }
+        if self.is_due() {
+            self.failed_writes += 1;
             return Err(DiskFault);
         }
         Ok(())
@@ -81,38 +108,45 @@ impl<D: Disk, const FAULTS: u64> FaultyDisk<D, FAULTS> {
 }
 
 impl<D: Disk, const FAULTS: u64> Disk for FaultyDisk<D, FAULTS> {
-    ghost state = { λ faulty. with_failures (D.state faulty.disk) faulty.failures };
+    ghost state = { λ faulty. with_failures (D.state faulty.disk) faulty.failed_reads faulty.failed_writes };
 
     ghost size_fits = { λ faulty. D.size_fits faulty.disk };
 
-    ghost failures_fit = { λ faulty. failures_fit (D.state faulty.disk) faulty.failures };
+    ghost failures_fit = { λ faulty. failures_fit (D.state faulty.disk) faulty.failed_reads faulty.failed_writes };
 
-    ghost seen_is_image = { λ faulty. seen_is_image (D.state faulty.disk) faulty.failures (D.seen_is_image faulty.disk) };
+    ghost whole_sectors = { λ faulty. D.whole_sectors faulty.disk };
 
-    ghost counts_now = { λ faulty. counts_now (D.state faulty.disk) faulty.failures (D.counts_now faulty.disk) };
+    ghost seen_is_image = { λ faulty. seen_is_image (D.state faulty.disk) faulty.failed_reads faulty.failed_writes (D.seen_is_image faulty.disk) };
 
-    ghost only_now = { λ faulty. only_now (D.state faulty.disk) faulty.failures (D.only_now faulty.disk) };
+    ghost counts_now = { λ faulty. counts_now (D.state faulty.disk) faulty.failed_reads faulty.failed_writes (D.counts_now faulty.disk) };
+
+    ghost only_now = { λ faulty. only_now (D.state faulty.disk) faulty.failed_reads faulty.failed_writes (D.only_now faulty.disk) };
 
     fn size(&self) -> u32 {
         self.disk.size()
     }
 
     fn failures(&self) -> u64 {
-        self.disk.failures().saturating_add(self.failures)
+        let failed = self.failed_reads.saturating_add(self.failed_writes);
+        self.disk.failures().saturating_add(failed)
     }
 
     fn read(&mut self, n: u32, to: &mut [u8; 512]) -> Result<(), DiskFault> {
-        self.pass()?;
+        self.pass_read()?;
         self.disk.read(n, to)
     }
 
     fn write(&mut self, n: u32, from: &[u8; 512]) -> Result<(), DiskFault> {
-        self.pass()?;
+        self.pass_write()?;
         self.disk.write(n, from)
     }
 
     fn sync(&mut self) -> Result<(), DiskFault> {
-        self.pass()?;
+        self.pass_write()?;
         self.disk.sync()
+    }
+
+    fn forget(&mut self) {
+        self.disk.forget();
     }
 }

@@ -2,7 +2,7 @@
 
 ghost use Rattle.std.specs.Prelude.{◌≡◌, ◌^◌, ◌<◌, ◌++◌, [], ◌∷◌, length, vec_len, ℕ, ◌≤◌, Contains, IfSome, OnOk, OnErr, IfOk};
 ghost use Rattle.sector_disk.specs.Disk.{sector};
-ghost use Rattle.sector_disk.specs.Record.{after, replay, Leaves, MayHold};
+ghost use Rattle.sector_disk.specs.Record.{after, replay, since_sync, Leaves, MayHold};
 
 use std::alloc::{AllocError, Global};
 use std::marker::Model;
@@ -101,6 +101,17 @@ impl History {
         settle(&mut self.stable, &self.done[self.synced..]);
         self.synced = self.done.len();
         Ok(())
+    }
+
+    /// Forgets what came before the last sync.
+    pub fn forget(&mut self)
+        ensures { self.new ≡ since_sync self.old }
+    {
+        let pending = self.done.len() - self.synced;
+        settle(&mut self.first, &self.done[..self.synced]);
+        self.done.rotate_left(self.synced);
+        self.done.truncate(pending);
+        self.synced = 0;
     }
 
     /// Forgets the past but for one image that a stop may leave: over the sectors with pending writes, in rising

@@ -1,10 +1,11 @@
 //! A disk in memory, which can be stopped. A record of its writes and syncs answers for the moments since the last
 //! stop.
 
-ghost use Rattle.std.specs.Prelude.{◌≡◌, ◌^◌, ◌<◌, ◌-◌, length, vec_len, replicate, IfOk, IsErr, ◌+◌};
-ghost use Rattle.sector_disk.specs.Disk.{IsFresh};
+ghost use Rattle.std.specs.Prelude.{◌≡◌, ◌^◌, ◌<◌, ◌-◌, length, vec_len, replicate, IfOk, IsErr, ◌+◌, ℕ, get_or};
+ghost use Rattle.sector_disk.specs.Disk.{IsFresh, IsWholeSector};
 ghost use Rattle.sector_disk.specs.Record.{state_of};
 ghost use Rattle.sector_disk.specs.Replay.{seen_is_image, counts_now, only_now};
+ghost use Rattle.sector_disk.specs.Whole.{AreSectors, AreWhole, whole_sectors};
 
 use crate::history::History;
 use crate::{CrashDisk, Disk, DiskFault};
@@ -12,7 +13,7 @@ use std::alloc::{AllocError, Global};
 
 /// A disk in memory, for tests and for a file system that isn't to last.
 ///
-/// Each write and sync is recorded. One whose record finds no memory fails and is counted, and its content isn't
+/// Each write and sync is recorded, until [`forget`](Disk::forget) lets go of what came before the last sync. One whose record finds no memory fails and is counted, and its content isn't
 /// kept; one that fails because of [`arm`](CrashDisk::arm) is recorded, so that a stop may leave its content.
 #[derive(Drop)]
 pub struct MemDisk {
@@ -22,6 +23,7 @@ pub struct MemDisk {
     failures: u64,
     ghost small: { length history.start < 2 ^ 32 },
     ghost counted: { failures < 2 ^ 64 },
+    ghost whole: { AreWhole history },
 }
 
 impl MemDisk {
@@ -39,6 +41,7 @@ impl MemDisk {
         requires { vec_len sectors < 2 ^ 32 }
         ensures { IfOk result (λ disk. IsFresh (⟦<MemDisk as Disk>⟧.state disk) sectors.items) }
     {
+        tell_all_whole(&sectors);
         Ok(MemDisk {
             history: History::new(alloc, sectors)?,
             armed: None,
@@ -73,12 +76,37 @@ impl MemDisk {
     }
 }
 
+// Bytes are below 256: a fact of their type.
+fn tell_bytes(bytes: &[u8])
+    ensures { (i : ℕ) → get_or bytes.now i 0 < 256 }
+{
+    let _count = bytes.len();
+}
+
+// A sector has 512 of them.
+fn tell_whole(sector: &[u8; 512])
+    ensures { IsWholeSector sector.now }
+{
+    tell_bytes(sector);
+}
+
+// The same of each of these.
+fn tell_all_whole(sectors: &[[u8; 512]])
+    ensures { AreSectors sectors.now }
+{
+    for sector in sectors {
+        tell_whole(sector);
+    }
+}
+
 impl Disk for MemDisk {
     ghost state = { λ disk. state_of disk.history disk.failures };
 
     ghost size_fits = { λ disk. disk.small };
 
     ghost failures_fit = { λ disk. disk.counted };
+
+    ghost whole_sectors = { λ disk. whole_sectors disk.history disk.whole };
 
     ghost seen_is_image = { λ disk. seen_is_image disk.history disk.failures };
 
@@ -122,6 +150,10 @@ impl Disk for MemDisk {
         } else {
             self.fail()
         }
+    }
+
+    fn forget(&mut self) {
+        self.history.forget();
     }
 }
 
