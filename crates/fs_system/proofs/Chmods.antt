@@ -1,10 +1,10 @@
 -- chmod of the root, by its ends.
-use Rattle.std.proofs.Common.{◌≡◌, ◌≤◌, ◌<◌, ◌+◌, ◌/◌, ◌%◌, ℕ, List, Bool, true, false, cond, Some, Result, Ok, Err, refl, sym, ap, subst, ◌∙◌, arith, inl, inr, nat_lt}
+use Rattle.std.proofs.Common.{◌≡◌, ◌≤◌, ◌<◌, ◌+◌, ◌/◌, ◌%◌, ℕ, List, Bool, true, false, cond, Some, Result, Ok, Err, refl, sym, ap, subst, ◌∙◌, arith, inl, inr, ⊎_elim, nat_lt}
 use Rattle.std.specs.Prelude.{IsFalse, slice_set, ◌==◌, ◌&&◌, ◌||◌, OnErr, if◌then◌else◌}
 use Rattle.std.specs.Ordering.{nat_cmp}
 use Rattle.std.proofs.lemmas.Bool.Decides.{nat_tests}
 use Rattle.posix_acl.specs.AccessList.{minimal}
-use Rattle.sector_disk.specs.Disk.{State as DiskState, Image, sector, IsImage, IsSame, IsStable, Elapses, LeavesOnly, HasFailed}
+use Rattle.sector_disk.specs.Disk.{State as DiskState, Image, sector, IsImage, IsSame, IsStable, Elapses, LeavesOnly, HasFailed, HasFailedToWrite}
 use Rattle.sector_disk.proofs.Moments.{failed_later}
 use Rattle.fs_layout.specs.declared.inode.Inode.{Inode}
 use Rattle.fs_layout.specs.declared.place.Place.{Place}
@@ -72,7 +72,7 @@ chmod_ends_bad disk only_now place desks s pid cred r up at path mode big =
     some_there (λ (p : Process). p.cred) (get nat_cmp s.desks pid) cred (ap (λ d. cred_at d pid) r.same_desks ∙ at) in (
       s,
       record { same_halted = up; running = λ _. r },
-      does_nothing disk s s (Calls pid (Chmod path mode)) (Refused (Failed EINVAL)) only_now (chmod_bad s up pid mode found.0 found.1 path (big_mode mode big)) refl (λ io _. absurd cc),
+      does_nothing disk s s (Calls pid (Chmod path mode)) (Refused (Failed EINVAL)) only_now (λ up. up) (chmod_bad s up pid mode found.0 found.1 path (big_mode mode big)) refl (λ io _. absurd cc),
     )
 
 -- ---- after the read
@@ -84,7 +84,7 @@ saved_is_inode_of old place desks s r v shows exact fits bits few =
     (mode_fits v bits fits (was_held old.seen s.room s.tree s.free r.whole.stands r.whole.idle v exact fits shows).body.kind few).valid
 
 module _ (old mid : DiskState) (only_now : (image : Image) → old.left_since old.moment image → IsImage old image) (seen_is : IsImage old old.seen)
-    (same : IsSame old mid) (time : Elapses old mid) (later : old.failures ≤ mid.failures)
+    (same : IsSame old mid) (time : Elapses old mid) (later : old.failures ≤ mid.failures) (quiet : mid.failed_writes ≡ old.failed_writes)
     (place : Place) (desks : Desks) (s : State) (pid : ℕ) (cred : Credential)
     (r : IsRunning old place desks s) (up : IsFalse s.halted) (at : cred_at desks pid ≡ Some cred) (mode : ℕ) (le : mode ≤ 4095) where
   found : (p : Process) × (get nat_cmp s.desks pid ≡ Some p) × (p.cred ≡ cred)
@@ -98,7 +98,7 @@ module _ (old mid : DiskState) (only_now : (image : Image) → old.left_since ol
   chmod_ends_unread failed = (
     s,
     rooted_same old mid place desks false s same rooted_old,
-    does_same old mid s s (Calls pid (Chmod the_root mode)) (Refused (Failed EIO)) only_now same time later
+    does_same old mid s s (Calls pid (Chmod the_root mode)) (Refused (Failed EIO)) only_now same time later quiet (λ up. up)
         (chmod_unread s up pid mode found.0 found.1 (small_mode mode le)) refl (λ io _. failed),
   )
 
@@ -109,7 +109,7 @@ module _ (old mid : DiskState) (only_now : (image : Image) → old.left_since ol
     chmod_ends_denied own = (
       s,
       rooted_same old mid place desks false s same rooted_old,
-      does_same old mid s s (Calls pid (Chmod the_root mode)) _ only_now same time later
+      does_same old mid s s (Calls pid (Chmod the_root mode)) _ only_now same time later quiet (λ up. up)
           (chmod_denied s r.is_state up v shows pid mode found.0 found.1 (small_mode mode le) (ap (λ c. may_own c v.uid) found.2 ∙ own)) refl (λ io _. absurd cc),
     )
 
@@ -159,14 +159,16 @@ module _ (old mid : DiskState) (only_now : (image : Image) → old.left_since ol
 
         -- the write failed, or the sync
         pub chmod_ends_halted : (new : DiskState) → LeavesOnly mid new (IsOldOr mid.seen place.table content) → mid.failures ≤ new.failures → HasFailed mid new
+            → HasFailedToWrite mid new
             → (u : State) × IsRooted new place desks true u × Does old new s (Calls pid (Chmod the_root mode)) (Refused (Failed EIO)) u
-        chmod_ends_halted new wrote still failed = (
+        chmod_ends_halted new wrote still failed unwritten = (
           record s { halted = true },
           record { same_halted = refl; running = λ q. absurd cc },
           does_write old mid new s (record s { halted = true }) (Calls pid (Chmod the_root mode)) (Refused (Failed EIO)) tree' place.table content
               only_now seen_is same time later wrote still up saved_with.stands
               (chmod_halts s r.is_state up v shows pid mode found.0 found.1 (small_mode mode le) own)
-              (inr (chmod_adds s r.is_state up v shows pid mode found.0 found.1 (small_mode mode le) own)) refl (λ io _. failed_later old mid new later failed),
+              (inr (chmod_adds s r.is_state up v shows pid mode found.0 found.1 (small_mode mode le) own)) refl (λ io _. failed_later old mid new later failed)
+              (λ _. ⊎_elim (λ more. inl (omega (arith, quiet, more))) (λ worn. inr worn) unwritten) (λ io. refl),
         )
 
         -- it is written, and synced
@@ -201,5 +203,6 @@ module _ (old mid : DiskState) (only_now : (image : Image) → old.left_since ol
               },
               does_write old mid new s t (Calls pid (Chmod the_root mode)) Done tree' place.table content
                   only_now seen_is same time later wrote still up saved_with.stands
-                  (chmods s r.is_state up v shows pid mode found.0 found.1 (small_mode mode le) own) (inl refl) refl (λ io _. absurd cc),
+                  (chmods s r.is_state up v shows pid mode found.0 found.1 (small_mode mode le) own) (inl refl) refl (λ io _. absurd cc)
+                  (λ halted. absurd (let c = sym up ∙ halted in cc)) (λ io. absurd cc),
             )

@@ -2,7 +2,7 @@
 use Rattle.std.proofs.Common.{◌≡◌, ◌≤◌, ◌<◌, ℕ, [], length, Bool, true, false, None, IsTrue, refl, sym, ap, subst, ◌∙◌, arith, inl}
 use Rattle.std.specs.Prelude.{IsFalse, ◌&&◌}
 use Rattle.std.specs.Ordering.{nat_cmp}
-use Rattle.sector_disk.specs.Disk.{State as DiskState, Image, sector, IsImage, IsSame, IsStable, IsNarrowed, Elapses, LeavesOnly, HasFailed}
+use Rattle.sector_disk.specs.Disk.{State as DiskState, Image, sector, IsImage, IsSame, IsStable, IsNarrowed, Elapses, LeavesOnly, HasFailed, HasFailedToWrite}
 use Rattle.sector_disk.proofs.Moments.{started, goes_on, stable_image, narrowed}
 use Rattle.fs_layout.specs.declared.place.Place.{Place}
 use Rattle.fs_cred.specs.declared.errno.Errno.TheVariants.{EIO, ESRCH, EAGAIN, ENOMEM}
@@ -48,7 +48,7 @@ module _ (disk : DiskState) (only_now : (image : Image) → disk.left_since disk
   ends_halted halted is e machine r = (
     s,
     r,
-    does_nothing disk s s e (Refused (Failed EIO)) only_now (halted_serves s e machine (r.same_halted ∙ is)) (and_false (asks_stable e) _ refl)
+    does_nothing disk s s e (Refused (Failed EIO)) only_now (λ up. up) (halted_serves s e machine (r.same_halted ∙ is)) (and_false (asks_stable e) _ refl)
         (λ io up. absurd (let h : s.halted ≡ true = r.same_halted ∙ is in cc)),
   )
 
@@ -65,7 +65,7 @@ module _ (disk : DiskState) (only_now : (image : Image) → disk.left_since disk
     ends_absent pid call gone =
         let none : get nat_cmp s.desks pid ≡ None =
         none_there (λ (p : Process). p.cred) (get nat_cmp s.desks pid) (ap (λ d. cred_at d pid) running.same_desks ∙ gone) in
-        (s, r, does_nothing disk s s (Calls pid call) (Refused (Failed ESRCH)) only_now (absent s up pid call none) refl (λ io _. absurd cc))
+        (s, r, does_nothing disk s s (Calls pid call) (Refused (Failed ESRCH)) only_now (λ up. up) (absent s up pid call none) refl (λ io _. absurd cc))
 
     -- ---- spawn
 
@@ -75,7 +75,7 @@ module _ (disk : DiskState) (only_now : (image : Image) → disk.left_since disk
           let count : length s.desks ≡ length desks = ap length running.same_desks in (
             s,
             r,
-            does_nothing disk s s (Spawn cred) (Refused (Failed EAGAIN)) only_now
+            does_nothing disk s s (Spawn cred) (Refused (Failed EAGAIN)) only_now (λ up. up)
                 (spawn_full s running.is_state up cred valid (omega (arith, count, many))) refl (λ io _. absurd cc),
           )
 
@@ -84,7 +84,7 @@ module _ (disk : DiskState) (only_now : (image : Image) → disk.left_since disk
           let count : length s.desks ≡ length desks = ap length running.same_desks in (
             s,
             r,
-            does_nothing disk s s (Spawn cred) (Refused (Failed ENOMEM)) only_now
+            does_nothing disk s s (Spawn cred) (Refused (Failed ENOMEM)) only_now (λ up. up)
                 (spawn_unmade s running.is_state up cred valid (omega (arith, count, few))) refl (λ io _. absurd cc),
           )
 
@@ -106,7 +106,7 @@ module _ (disk : DiskState) (only_now : (image : Image) → disk.left_since disk
                 no_nameless = running.no_nameless;
               };
             },
-            does_nothing disk s t (Spawn cred) (Pid pid) only_now (spawns s running.is_state up cred valid pid none less) refl (λ io _. absurd cc),
+            does_nothing disk s t (Spawn cred) (Pid pid) only_now (λ up. up) (spawns s running.is_state up cred valid pid none less) refl (λ io _. absurd cc),
           )
 
 -- ---- the disk has not changed
@@ -197,6 +197,8 @@ module _ (old new : DiskState) (only_now : (image : Image) → old.left_since ol
       images = kept;
       synced = λ _ image is. each_stands old s.room s.tree s.free size r.whole image (narrowed changes is);
       cause = λ io _. absurd cc;
+      halts = λ _ halted. absurd (let c = sym up ∙ halted in cc);
+      unread = λ io _. absurd cc;
       later = later;
       still = λ halted. absurd (let c = sym up ∙ halted in cc);
     },
@@ -212,8 +214,8 @@ module _ (old new : DiskState) (only_now : (image : Image) → old.left_since ol
         no_nameless = r.no_nameless;
       }
 
-  pub ends_unsynced : HasFailed old new → (t : State) × Does old new s Sync (Refused (Failed EIO)) t
-  ends_unsynced failed = (
+  pub ends_unsynced : HasFailed old new → HasFailedToWrite old new → (t : State) × Does old new s Sync (Refused (Failed EIO)) t
+  ends_unsynced failed unwritten = (
     record s { halted = true },
     record {
       serves = sync_halts s r.is_state up;
@@ -222,6 +224,8 @@ module _ (old new : DiskState) (only_now : (image : Image) → old.left_since ol
       images = kept;
       synced = λ stable. absurd cc;
       cause = λ io _. failed;
+      halts = λ _ _. unwritten;
+      unread = λ io running. absurd cc;
       later = later;
       still = λ halted. absurd (let c = sym up ∙ halted in cc);
     },

@@ -31,24 +31,26 @@ found_before old s added image is = inl (image, is, λ room t free stands. stand
 
 -- the images are those of before
 pub does_same : (old new : DiskState) (s t : State) (e : Event) (r : Reply) → ((image : Image) → old.left_since old.moment image → IsImage old image)
-    → IsSame old new → Elapses old new → old.failures ≤ new.failures → Serves s e r t → makes_stable e r ≡ false
-    → (IsTrue (is_io_error r) → IsFalse s.halted → HasFailed old new) → Does old new s e r t
-does_same old new s t e r only_now same time later serves unstable cause = record {
+    → IsSame old new → Elapses old new → old.failures ≤ new.failures → new.failed_writes ≡ old.failed_writes → (IsFalse s.halted → IsFalse t.halted)
+    → Serves s e r t → makes_stable e r ≡ false → (IsTrue (is_io_error r) → IsFalse s.halted → HasFailed old new) → Does old new s e r t
+does_same old new s t e r only_now same time later quiet goes_on_running serves unstable cause = record {
   serves = serves;
   added = t.tree;
   is_added = inl refl;
   images = goes_on (started {P = IsFound old s t.tree} only_now (found_before old s t.tree)) time (λ image is. found_before old s t.tree image (unchanged same is));
   synced = λ stable. absurd (let c = sym unstable ∙ stable in cc);
   cause = cause;
+  halts = λ up halted. absurd (let still = goes_on_running up in cc);
+  unread = λ io up. (same, quiet);
   later = later;
   still = λ halted. same;
 }
 
 -- the disk isn't called
 pub does_nothing : (old : DiskState) (s t : State) (e : Event) (r : Reply) → ((image : Image) → old.left_since old.moment image → IsImage old image)
-    → Serves s e r t → makes_stable e r ≡ false → (IsTrue (is_io_error r) → IsFalse s.halted → ⊥) → Does old old s e r t
-does_nothing old s t e r only_now serves unstable never =
-    does_same old old s t e r only_now (same_disk old) (no_time old) (omega arith) serves unstable (λ io up. absurd (never io up))
+    → (IsFalse s.halted → IsFalse t.halted) → Serves s e r t → makes_stable e r ≡ false → (IsTrue (is_io_error r) → IsFalse s.halted → ⊥) → Does old old s e r t
+does_nothing old s t e r only_now goes_on_running serves unstable never =
+    does_same old old s t e r only_now (same_disk old) (no_time old) (omega arith) refl goes_on_running serves unstable (λ io up. absurd (never io up))
 
 -- ---- what is known of the file system
 

@@ -37,7 +37,7 @@ abbrev pub Ended : DiskState → DiskState → Place → Desks → State → ℕ
 Ended old new place desks s pid call reply = (t : State) × IsRooted new place desks false t × Does old new s (Calls pid call) reply t
 
 module _ (old new : DiskState) (only_now : (image : Image) → old.left_since old.moment image → IsImage old image)
-    (same : IsSame old new) (time : Elapses old new) (later : old.failures ≤ new.failures)
+    (same : IsSame old new) (time : Elapses old new) (later : old.failures ≤ new.failures) (quiet : new.failed_writes ≡ old.failed_writes)
     (place : Place) (desks : Desks) (s : State) (pid : ℕ) (cred : Credential)
     (r : IsRunning old place desks s) (up : IsFalse s.halted) (at : cred_at desks pid ≡ Some cred) where
   found : (p : Process) × (get nat_cmp s.desks pid ≡ Some p) × (p.cred ≡ cred)
@@ -48,7 +48,7 @@ module _ (old new : DiskState) (only_now : (image : Image) → old.left_since ol
   stays call reply serves cause = (
     s,
     rooted_same old new place desks false s same (record { same_halted = up; running = λ _. r }),
-    does_same old new s s (Calls pid call) reply only_now same time later serves refl cause,
+    does_same old new s s (Calls pid call) reply only_now same time later quiet (λ up. up) serves refl cause,
   )
 
   pub stat_ends_unread : HasFailed old new → Ended old new place desks s pid (Stat the_root) (Refused (Failed EIO))
@@ -97,5 +97,5 @@ path_ends disk only_now place desks s pid cred r up at call path has other =
     some_there (λ (p : Process). p.cred) (get nat_cmp s.desks pid) cred (ap (λ d. cred_at d pid) r.same_desks ∙ at) in (
       s,
       record { same_halted = up; running = λ _. r },
-      does_nothing disk s s (Calls pid call) (Refused (Failed EINVAL)) only_now (other_path s up pid found.0 call path found.1 has other) refl (λ io up. absurd cc),
+      does_nothing disk s s (Calls pid call) (Refused (Failed EINVAL)) only_now (λ up. up) (other_path s up pid found.0 call path found.1 has other) refl (λ io up. absurd cc),
     )

@@ -22,7 +22,7 @@ use Rattle.fs_model.proofs.Swept.{pruned_twice}
 use Rattle.fs_system.specs.Standing.{StandsFor, Covers}
 use Rattle.fs_system.specs.Serving.{Serves}
 use Rattle.fs_system.specs.Doing.{Does, Adds, IsFound}
-use Rattle.fs_system.specs.Playing.{Stopped, Mounts, FailsToMount, Config, Up, Off, device, IsOnRoot, Goes, does, is_down, arms_up, arms_off, restarts, fails, ends, goes, CountsFor, Follows, HistoriesAreRuns}
+use Rattle.fs_system.specs.Playing.{Stopped, Mounts, FailsToMount, Config, Up, Off, device, IsOnRoot, Goes, does, is_down, arms_up, arms_off, restarts, fails, on_disk, ends, goes, forgets, CountsFor, Follows, HistoriesAreRuns}
 
 -- ---- steps
 
@@ -282,9 +282,27 @@ module _ {D : Type 0} (state : D → DiskState) (counts_now : (disk : D) (t : �
   goes_on room start m old new e reply fs (restarts _ mid now s bytes arm stop d) = mounts_on room start m old mid now s bytes arm fs stop d
   goes_on room start m old new e reply fs (fails _ mid now fault bytes arm stop d) = mount_fails_on room start m old mid now fault bytes arm fs stop d
 
+  -- the disk lets go of its past
+  forgotten : (room : Room) (start : DiskState) (m : Machine) (old : Config D) (now : D) → Follows state room start m old
+      → IsSame (state (device old)) (state now) → (state (device old)).failures ≤ (state now).failures → Follows state room start m (on_disk old now)
+  forgotten room start m (Up s before) now fs same later = record {
+    same_room = fs.same_room;
+    has_config = fs.has_config;
+    covers = same_covered room m.trees before now same fs.covers;
+    faults = counted m.faults start (state before) (state now) fs.faults later;
+  }
+  forgotten room start m (Off before) now fs same later = record {
+    same_room = fs.same_room;
+    has_config = fs.has_config;
+    covers = same_covered room m.trees before now same fs.covers;
+    faults = counted m.faults start (state before) (state now) fs.faults later;
+  }
+
   pub histories_are_runs : HistoriesAreRuns state
   histories_are_runs room start m old new es replies fs (ends _) = (m, refl, fs)
   histories_are_runs room start m old new es replies fs (goes _ mid _ e reply es' replies' first rest) =
       let next = goes_on room (state start) m old mid e reply fs first in
       let all = histories_are_runs room start next.0 mid new es' replies' next.2 rest in
       (all.0, (next.0, next.1, all.1), all.2)
+  histories_are_runs room start m old new es replies fs (forgets _ _ now _ _ same later rest) =
+      histories_are_runs room start m (on_disk old now) new es replies (forgotten room (state start) m old now fs same later) rest

@@ -4,7 +4,7 @@ use Rattle.std.specs.Prelude.{IsFalse, slice_set}
 use Rattle.std.proofs.lemmas.Bool.{cases_eq}
 use Rattle.std.proofs.lemmas.List.{ext_get_or}
 use Rattle.std.proofs.lemmas.Grind.{get_or-set_at}
-use Rattle.sector_disk.specs.Disk.{State as DiskState, Image, sector, IsImage, IsSame, IsStable, IsNarrowed, ChangesOnly, Elapses, LeavesOnly, HasFailed}
+use Rattle.sector_disk.specs.Disk.{State as DiskState, Image, sector, IsImage, IsSame, IsStable, IsNarrowed, ChangesOnly, Elapses, LeavesOnly, HasFailed, HasFailedToWrite}
 use Rattle.sector_disk.proofs.Moments.{started, goes_on, joined, weaker, unchanged, narrowed, stable_image}
 use Rattle.fs_model.specs.declared.event.Event.{Event}
 use Rattle.fs_model.specs.declared.reply.Reply.{Reply}
@@ -58,7 +58,8 @@ module _ (old mid new : DiskState) (s t : State) (e : Event) (r : Reply) (added 
     (wrote_only : LeavesOnly mid new (IsOldOr mid.seen n content)) (later_still : mid.failures ≤ new.failures)
     (up : IsFalse s.halted) (stands : StandsFor s.room (slice_set old.seen n content) added s.free)
     (serves : Serves s e r t) (is_added : Adds s e t added) (unstable : makes_stable e r ≡ false)
-    (cause : IsTrue (is_io_error r) → IsFalse s.halted → HasFailed old new) where
+    (cause : IsTrue (is_io_error r) → IsFalse s.halted → HasFailed old new)
+    (halting : IsTrue t.halted → HasFailedToWrite old new) (answered : IsTrue (is_io_error r) → IsTrue t.halted) where
   found : (image : Image) → IsOldOr mid.seen n content image → IsFound old s added image
   found image (inl is) = inl (old.seen, seen_is, λ room u free q. subst (λ (i : Image). StandsFor room i u free) (sym (is ∙ same.narrowed.seen)) q)
   found image (inr is) =
@@ -75,6 +76,8 @@ module _ (old mid new : DiskState) (s t : State) (e : Event) (r : Reply) (added 
         (weaker found wrote_only);
     synced = λ both. absurd (let c = sym unstable ∙ both in cc);
     cause = cause;
+    halts = λ _ halted. halting halted;
+    unread = λ io running. absurd (let halted = answered io in cc);
     later = omega (arith, later, later_still);
     still = λ halted. absurd (let c = sym up ∙ halted in cc);
   }

@@ -3,7 +3,7 @@
 --     IsFound        what a stop may leave meanwhile
 --     Does        the whole
 use Rattle.std.specs.Prelude.{◌≡◌, ◌≤◌, ◌⊎◌, ℕ, IsTrue, IsFalse}
-use Rattle.sector_disk.specs.Disk.{State as DiskState, Image, IsImage, IsSame, LeavesOnly, HasFailed}
+use Rattle.sector_disk.specs.Disk.{State as DiskState, Image, IsImage, IsSame, LeavesOnly, HasFailed, HasFailedToWrite}
 use Rattle.fs_model.specs.declared.event.Event.{Event}
 use Rattle.fs_model.specs.declared.reply.Reply.{Reply}
 use Rattle.fs_model.specs.Trees.{Tree}
@@ -35,6 +35,10 @@ pub record Does (before now : DiskState) (old : State) (e : Event) (reply : Repl
   pub synced : IsTrue (makes_stable e reply) → EachStandsFor new.room now new.tree
   -- EIO is answered only where the device failed, or where the machine is halted
   pub cause : IsTrue (is_io_error reply) → IsFalse old.halted → HasFailed before now
+  -- it halts only where a write or a sync failed
+  pub halts : IsFalse old.halted → IsTrue new.halted → HasFailedToWrite before now
+  -- EIO without halting is that of a read: no write or sync has failed, and the disk is as it was
+  pub unread : IsTrue (is_io_error reply) → IsFalse new.halted → IsSame before now × (now.failed_writes ≡ before.failed_writes)
   pub later : before.failures ≤ now.failures
   -- a halted one leaves the disk as it is
   pub still : IsTrue old.halted → IsSame before now

@@ -2,6 +2,7 @@
 --     mounted, IsMounted, Mounts, FailsToMount        what a mount does
 --     Stopped        what a stop does
 --     Config, Goes, History        a disk with a file system or without one, one event, and several
+--     on_disk        the same, on another disk
 --     Follows, HistoriesAreRuns        the machine goes along
 use Rattle.std.specs.Prelude.{◌≡◌, ◌≤◌, ◌⊎◌, ◌+◌, ◌-◌, ◌^◌, ℕ, List, [], ◌∷◌, Some, false, IsTrue, IsFalse, Contains}
 use Rattle.std.specs.Prelude.{Option}
@@ -82,11 +83,18 @@ pub data Goes {D : Type 0} (state : D → DiskState) : Config D → Event → Ev
   fails : (c : Config D) (mid now : D) (fault : RestartFault) (bytes : List ℕ) (arm : Option ℕ) → Stopped (state (device c)) (state mid)
       → FailsToMount (state mid) (state now) fault → Goes state c (Restart bytes arm) (MountFailed fault) (Off now)
 
--- a history, one event after another
+-- the same file system, or none, on a disk that has let go of its past
+abbrev pub on_disk : {D : Type 0} → Config D → D → Config D
+on_disk (Up s disk) now = Up s now
+on_disk (Off disk) now = Off now
+
+-- a history, one event after another; in between the disk may let go of its past
 pub data History {D : Type 0} (state : D → DiskState) : Config D → List Event → List EventReply → Config D → Type 0 where
   ends : (c : Config D) → History state c [] [] c
   goes : (old mid new : Config D) (e : Event) (reply : EventReply) (es : List Event) (replies : List EventReply)
       → Goes state old e reply mid → History state mid es replies new → History state old (e ∷ es) (reply ∷ replies) new
+  forgets : (old new : Config D) (now : D) (es : List Event) (replies : List EventReply) → IsSame (state (device old)) (state now)
+      → (state (device old)).failures ≤ (state now).failures → History state (on_disk old now) es replies new → History state old es replies new
 
 -- ---- runs
 

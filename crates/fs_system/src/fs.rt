@@ -152,7 +152,19 @@ impl<D: Disk> Fs<D> {
         }
     }
 
-    /// Syncs, and gives the disk back. The error is EIO, where the sync fails or the file system is halted.
+    /// Lets go of what the disk keeps of its past: nothing is said any more of the moments before this one. A call may be
+    /// made before and after it, and never at the same time.
+    pub fn forget(&mut self)
+        requires { (s : State) × IsIn D.state self.old s }
+
+        ensures state { (s : State) → IsIn D.state self.old s → IsIn D.state self.new s }
+        ensures same { IsSame (D.state self.old.disk) (D.state self.new.disk) }
+        ensures failures { (D.state self.new.disk).failures ≡ (D.state self.old.disk).failures }
+    {
+        self.disk.forget();
+    }
+
+    /// Syncs, and gives the disk back, also with an error: EIO, where the device failed or the file system is halted.
     pub fn unmount(self) -> (D, Option<Errno>)
         requires { (s : State) × IsIn D.state self s }
 

@@ -19,7 +19,7 @@ const COMMIT_SECTOR: u32 = 1;
 /// Makes a file system with so many inodes on the disk, whose root is an empty directory of the superuser's, 0755.
 ///
 /// The superblock is cleared first and written last, with a sync after each step: a disk on which this was stopped
-/// halfway has none, and isn't taken for a file system. Log and data sectors keep what was in them.
+/// halfway has none, and isn't taken for a file system.
 pub fn mkfs<D: Disk>(disk: &mut D, inodes: u32) -> Result<(), MkfsFault>
     // The first refusal in order; the disk isn't touched.
     ensures refused { (f : MkfsFault) → mkfs_refusal (D.state disk.old).size inodes ≡ Some f → (result ≡ Err f) × (disk.new ≡ disk.old) }

@@ -1,7 +1,7 @@
 //! Calls on the root, on a disk without a journal.
 
 ghost use Rattle.std.specs.Prelude.{◌≡◌, ◌<◌, ◌≤◌, ◌+◌, ◌/◌, ◌%◌, ◌==◌, ◌&&◌, ◌||◌, if◌then◌else◌, ℕ, true, false, IfOk, OnOk, OnErr, slice_set};
-ghost use Rattle.sector_disk.specs.Disk.{sector, IsSame, IsStable, Elapses, LeavesOnly, HasCause};
+ghost use Rattle.sector_disk.specs.Disk.{sector, IsSame, IsStable, Elapses, LeavesOnly, HasCause, HasWriteCause};
 ghost use Rattle.fs_layout.specs.Images.{inode_at};
 ghost use Rattle.fs_layout.specs.Inode.{FitsInode};
 ghost use Rattle.fs_model.specs.States.{State};
@@ -55,6 +55,7 @@ fn read_root<D: Disk>(disk: &mut D, place: Place, to: &mut [u8; 512]) -> Result<
     ensures same { IsSame (D.state disk.old) (D.state disk.new) }
     ensures time { Elapses (D.state disk.old) (D.state disk.new) }
     ensures cause { HasCause (D.state disk.old) (D.state disk.new) result }
+    ensures quiet { (D.state disk.new).failed_writes ≡ (D.state disk.old).failed_writes }
 {
     disk.read(place.table, to)?;
     let Ok(inode) = Inode::read_from(to, ROOT_AT) else {
@@ -72,6 +73,7 @@ fn write_through<D: Disk>(disk: &mut D, n: u32, content: &[u8; 512]) -> Result<(
     ensures any_moment { LeavesOnly (D.state disk.old) (D.state disk.new) (IsOldOr (D.state disk.old).seen n content.now) }
     ensures size { (D.state disk.new).size ≡ (D.state disk.old).size }
     ensures cause { HasCause (D.state disk.old) (D.state disk.new) result }
+    ensures told { HasWriteCause (D.state disk.old) (D.state disk.new) result }
 {
     disk.write(n, content)?;
     disk.sync()

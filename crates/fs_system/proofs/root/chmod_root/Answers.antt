@@ -1,5 +1,5 @@
 use Rattle.std.proofs.Common.{rules, ◌≡◌, false, sym, subst, ap, ◌∙◌}
-use Rattle.sector_disk.specs.Disk.{HasFailed, IsStable}
+use Rattle.sector_disk.specs.Disk.{HasFailed, HasFailedToWrite, IsStable}
 use Rattle.fs_layout.specs.Bytes.{splice}
 use Rattle.fs_layout.specs.Inode.{inode_bytes}
 use Rattle.std.specs.Prelude.{slice_set}
@@ -19,14 +19,14 @@ returns-in_default-clause-done g c = λ desks s pid r up at.
     let mid = g.D.Disk.state c.read_root.new.disk in
     let failed : HasFailed old mid = search rules in
     subst (λ (q : Reply). (t : State) × IsRooted mid c.args.place desks false t × Does old mid s (Calls pid (Chmod the_root c.args.mode)) q t) (sym c.failed.ensures)
-    (chmod_ends_unread old mid (g.met.D.Disk.only_now c.args.disk.now) (g.met.D.Disk.seen_is_image c.args.disk.now) c.read_root.ensures.same c.read_root.ensures.time c.read_root.ensures.cause.later
+    (chmod_ends_unread old mid (g.met.D.Disk.only_now c.args.disk.now) (g.met.D.Disk.seen_is_image c.args.disk.now) c.read_root.ensures.same c.read_root.ensures.time c.read_root.ensures.cause.later c.read_root.ensures.quiet
     c.args.place desks s pid c.args.cred.now r up at c.args.mode c.requires.mode failed)
 
 pub returns-then-not-may_own-clause-done : goal.returns-then-not-may_own-clause-done
 returns-then-not-may_own-clause-done g c = λ desks s pid r up at.
     let old = g.D.Disk.state c.args.disk.now in
     let mid = g.D.Disk.state c.read_root.new.disk in
-    chmod_ends_denied old mid (g.met.D.Disk.only_now c.args.disk.now) (g.met.D.Disk.seen_is_image c.args.disk.now) c.read_root.ensures.same c.read_root.ensures.time c.read_root.ensures.cause.later
+    chmod_ends_denied old mid (g.met.D.Disk.only_now c.args.disk.now) (g.met.D.Disk.seen_is_image c.args.disk.now) c.read_root.ensures.same c.read_root.ensures.time c.read_root.ensures.cause.later c.read_root.ensures.quiet
     c.args.place desks s pid c.args.cred.now r up at c.args.mode c.requires.mode c.in-Ok.inode (c.in-Ok.ensures.found desks s r)
     (sym c.may_own.ensures.computed ∙ c.if-not-may_own.true)
 
@@ -50,9 +50,10 @@ returns-in_err-write_through-clause-halts g c = on_err c.from_residual.result _ 
     let bits = c.directory_mode.ensures ∙ ap (shown_bits c.args.mode) c.keeps_group_bit.ensures in
     let content = c.write_to.ensures ∙ ap (λ b. splice b 128 (inode_bytes (record v { mode = c.directory_mode.result }))) c.in-Ok.ensures.content in
     let failed : HasFailed mid new = search rules in
-    chmod_ends_halted old mid (g.met.D.Disk.only_now c.args.disk.now) (g.met.D.Disk.seen_is_image c.args.disk.now) c.read_root.ensures.same c.read_root.ensures.time c.read_root.ensures.cause.later
+    let unwritten : HasFailedToWrite mid new = search rules in
+    chmod_ends_halted old mid (g.met.D.Disk.only_now c.args.disk.now) (g.met.D.Disk.seen_is_image c.args.disk.now) c.read_root.ensures.same c.read_root.ensures.time c.read_root.ensures.cause.later c.read_root.ensures.quiet
     c.args.place desks s pid c.args.cred.now r up at c.args.mode c.requires.mode v (c.in-Ok.ensures.found desks s r) (c.in-Ok.ensures.exact desks s r) c.in-Ok.ensures.fits
-    own c.directory_mode.result bits c.write_to.new.to content new c.write_through.ensures.any_moment c.write_through.ensures.cause.later failed)
+    own c.directory_mode.result bits c.write_to.new.to content new c.write_through.ensures.any_moment c.write_through.ensures.cause.later failed unwritten)
 
 pub returns-clause-done : goal.returns-clause-done
 returns-clause-done g c = λ desks s pid r up at.
@@ -65,6 +66,6 @@ returns-clause-done g c = λ desks s pid r up at.
     let content = c.write_to.ensures ∙ ap (λ b. splice b 128 (inode_bytes (record v { mode = c.directory_mode.result }))) c.in-Ok.ensures.content in
     let seen : new.seen ≡ slice_set mid.seen c.args.place.table c.write_to.new.to = search rules in
     let stable : IsStable new = search rules in
-    chmod_ends_done old mid (g.met.D.Disk.only_now c.args.disk.now) (g.met.D.Disk.seen_is_image c.args.disk.now) c.read_root.ensures.same c.read_root.ensures.time c.read_root.ensures.cause.later
+    chmod_ends_done old mid (g.met.D.Disk.only_now c.args.disk.now) (g.met.D.Disk.seen_is_image c.args.disk.now) c.read_root.ensures.same c.read_root.ensures.time c.read_root.ensures.cause.later c.read_root.ensures.quiet
     c.args.place desks s pid c.args.cred.now r up at c.args.mode c.requires.mode v (c.in-Ok.ensures.found desks s r) (c.in-Ok.ensures.exact desks s r) c.in-Ok.ensures.fits
     own c.directory_mode.result bits c.write_to.new.to content new c.write_through.ensures.any_moment c.write_through.ensures.cause.later seen stable

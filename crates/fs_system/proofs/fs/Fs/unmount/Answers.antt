@@ -1,5 +1,5 @@
 use Rattle.std.proofs.Common.{rules, sym, subst, refl}
-use Rattle.sector_disk.specs.Disk.{HasFailed, IsStable}
+use Rattle.sector_disk.specs.Disk.{HasFailed, HasFailedToWrite, IsStable}
 use Rattle.fs_cred.specs.declared.errno.Errno.TheVariants.{EIO}
 use Rattle.fs_cred.specs.declared.refusal.Refusal.TheVariants.{Failed}
 use Rattle.fs_model.specs.declared.reply.Reply.TheVariants.{Ok as Done, Refused}
@@ -25,10 +25,11 @@ returns-then-is_err-clause-does g c = λ s r.
     let new = g.D.Disk.state c.sync.new.self in
     let here : IsRooted old inside.place inside.processes inside.halted s = subst (λ x. IsIn g.D.Disk.state x s) (sym c.self.view_is) r in
     let failed : HasFailed old new = search rules in
+    let unwritten : HasFailedToWrite old new = search rules in
     subst (λ x. (t : State) × Does (g.D.Disk.state x.disk) new s Sync (Refused (Failed EIO)) t) c.self.view_is
     (ends_unsynced old new (g.met.D.Disk.only_now inside.disk) (g.met.D.Disk.seen_is_image inside.disk).size c.sync.ensures.changes c.sync.ensures.time c.sync.ensures.cause.later
     inside.place inside.processes s (running old (g.met.D.Disk.only_now inside.disk) inside.place inside.processes s inside.halted c.if-halted.false here)
-    (up old (g.met.D.Disk.only_now inside.disk) inside.place inside.processes s inside.halted c.if-halted.false here) failed)
+    (up old (g.met.D.Disk.only_now inside.disk) inside.place inside.processes s inside.halted c.if-halted.false here) failed unwritten)
 
 pub returns-clause-does : goal.returns-clause-does
 returns-clause-does g c = λ s r.
