@@ -17,9 +17,7 @@ use std::alloc::Global;
 use std::test::Fail;
 
 // A disk of 1,024 zero sectors, but for an idle commit sector.
-fn idle_disk(alloc: Global) -> Result<MemDisk, Fail>
-    ensures { IfOk result (λ disk. (⟦<MemDisk as Disk>⟧.state disk).size ≡ 1024) }
-{
+fn idle_disk(alloc: Global) -> Result<MemDisk, Fail> {
     let mut disk = MemDisk::new(alloc, 1024)?;
     let mut commit = [0; 512];
     Commit::idle().write_to(&mut commit, 0);
@@ -29,9 +27,11 @@ fn idle_disk(alloc: Global) -> Result<MemDisk, Fail>
 }
 
 fn opened<D: Disk + Drop>(alloc: Global, disk: D) -> Result<Store<D>, Fail>
-    requires { (D.state disk).size ≡ 1024 }
     ensures { IfOk result (λ store. (D.state store.disk).size ≡ 1024) }
 {
+    if disk.size() != 1024 {
+        return Err(Fail::new("another size"));
+    }
     match Journal::open(disk) {
         Ok(journal) => match Store::new(alloc, journal) {
             Ok(store) => Ok(store),
@@ -82,11 +82,23 @@ fn count_put<S: Sectors>(s: &mut S, count: u8) -> Result<u8, DiskFault>
 // The same of a store.
 fn count_kept<D: Disk>(store: Store<D>, count: u8) -> (Result<u8, DiskFault>, Store<D>)
     requires { (D.state store.disk).size ≡ 1024 }
-    ensures { (D.state result.1.disk).size ≡ 1024 }
 {
     let mut txn = store.begin();
     let found = count_put(&mut txn, count);
     (found, txn.drop_delta())
+}
+
+// The same once the disk has been stopped.
+fn count_lasting<D: CrashDisk + Drop>(
+    alloc: Global,
+    disk: D,
+    choice: &[u8],
+    count: u8,
+) -> Result<u8, Fail> {
+    let mut disk = disk;
+    disk.crash(choice);
+    let (found, _) = count_kept(opened(alloc, disk)?, count);
+    Ok(found?)
 }
 
 // A transaction that has put so many sectors.
@@ -99,24 +111,22 @@ fn with_some<D: Disk>(store: Store<D>, count: u8) -> Txn<D>
     txn
 }
 
-// The store of a disk that was stopped.
-fn restarted<D: CrashDisk + Drop>(alloc: Global, disk: D, choice: &[u8]) -> Result<Store<D>, Fail>
-    requires { (D.state disk).size ≡ 1024 }
+// A store that has kept so many sectors.
+fn with_kept<D: Disk + Drop>(alloc: Global, disk: D, count: u8) -> Result<Store<D>, Fail>
     ensures { IfOk result (λ store. (D.state store.disk).size ≡ 1024) }
 {
-    let mut disk = disk;
-    disk.crash(choice);
-    opened(alloc, disk)
+    match with_some(opened(alloc, disk)?, count).keep() {
+        Ok(store) => Ok(store),
+        Err(_) => Err(Fail::new("broken")),
+    }
 }
 
-// How many of the sectors are there once they are put and kept, flushed, and the disk is stopped; and before that.
-fn counts_after_keep<D: CrashDisk + Drop>(
+// The room once sectors are put; how many of them are there once they are kept; and after a flush and a stop.
+fn after_keep<D: CrashDisk + Drop>(
     alloc: Global,
     disk: D,
     count: u8,
-) -> Result<(usize, u8, u8), Fail>
-    requires { (D.state disk).size ≡ 1024 }
-{
+) -> Result<(usize, u8, u8), Fail> {
     let txn = with_some(opened(alloc, disk)?, count);
     let room = txn.room();
     match txn.keep() {
@@ -126,67 +136,99 @@ fn counts_after_keep<D: CrashDisk + Drop>(
             match store.flush() {
                 Err(_) => Err(Fail::new("broken")),
                 Ok(store) => {
-                    let (lasting, _) = count_kept(restarted(alloc, store.into_disk(), &[])?, count);
-                    Ok((room, kept?, lasting?))
+                    let lasting = count_lasting(alloc, store.into_disk(), &[], count)?;
+                    Ok((room, kept?, lasting))
                 }
             }
         }
     }
 }
 
-#[test]
-fn sixty_four_sectors_are_kept(rt: HostRuntime) -> Result<(), Fail> {
-    let found = counts_after_keep(rt.alloc(), idle_disk(rt.alloc())?, 64)?;
-    assert_eq!(rt; found, (0, 64, 64));
-    Ok(())
-}
-
-#[test]
-fn a_dropped_delta_leaves_nothing(rt: HostRuntime) -> Result<(), Fail> {
-    let store = opened(rt.alloc(), idle_disk(rt.alloc())?)?;
-    let mut txn = with_some(store, 64);
-    let put = count_put(&mut txn, 64);
-    let store = txn.drop_delta();
-    assert_eq!(rt; put?, 64);
-    let (found, store) = count_kept(store, 64);
-    assert_eq!(rt; found?, 0);
-    let (found, _) = count_kept(restarted(rt.alloc(), store.into_disk(), &[])?, 64);
-    assert_eq!(rt; found?, 0);
-    Ok(())
-}
-
-// What sectors 201, 200 and 201 again give after a put of sector 200, the room then, and what sector 200 has at the end.
-fn bytes_around_a_fault<D: Disk + Drop>(
+// How many sectors are there once they are put, once they are dropped, and after a stop.
+fn after_drop<D: CrashDisk + Drop>(
     alloc: Global,
     disk: D,
-) -> Result<(bool, u8, bool, usize, bool), Fail>
-    requires { (D.state disk).size ≡ 1024 }
-{
-    let mut txn = with_some(opened(alloc, disk)?, 1);
-    let failed = byte_at(&mut txn, 201).is_err();
-    let put = byte_at(&mut txn, 200);
-    let failed_again = byte_at(&mut txn, 201).is_err();
+    count: u8,
+) -> Result<(u8, u8, u8), Fail> {
+    let mut txn = with_some(opened(alloc, disk)?, count);
+    let put = count_put(&mut txn, count);
+    let (found, store) = count_kept(txn.drop_delta(), count);
+    let lasting = count_lasting(alloc, store.into_disk(), &[], count)?;
+    Ok((put?, found?, lasting))
+}
+
+// The first byte of sector 210 after a call that mixes sectors 200 and 201 there.
+fn mixed<D: Disk + Drop>(alloc: Global, disk: D) -> Result<u8, Fail> {
+    match mix_whole(with_kept(alloc, disk, 2)?, 200, 201, 210) {
+        Err(_) => Err(Fail::new("broken")),
+        Ok(store) => {
+            let mut txn = store.begin();
+            let byte = byte_at(&mut txn, 210);
+            let _ = txn.drop_delta();
+            Ok(byte?)
+        }
+    }
+}
+
+// The room left once two sectors of three are cleared, one of them twice, and how many of the three are still there.
+fn cleared<D: Disk + Drop>(alloc: Global, disk: D) -> Result<(usize, u8), Fail> {
+    let mut txn = with_kept(alloc, disk, 3)?.begin();
+    clear_all(&mut txn, &[200, 202, 200]);
     let room = txn.room();
-    let broken = match txn.keep() {
-        Ok(_) => false,
-        Err(_) => true,
-    };
-    Ok((failed, put?, failed_again, room, broken))
+    let found = count_put(&mut txn, 3);
+    let _ = txn.drop_delta();
+    Ok((room, found?))
+}
+
+#[test]
+fn a_call_is_kept_or_dropped(rt: HostRuntime) -> Result<(), Fail> {
+    let seen = (
+        after_keep(rt.alloc(), idle_disk(rt.alloc())?, 64)?,
+        after_drop(rt.alloc(), idle_disk(rt.alloc())?, 64)?,
+        mixed(rt.alloc(), idle_disk(rt.alloc())?)?,
+        cleared(rt.alloc(), idle_disk(rt.alloc())?)?,
+    );
+    assert!(rt; seen == ((0, 64, 64), (64, 0, 0), 8, (62, 1)), "{seen:?}");
+    Ok(())
+}
+
+// Whether sector 201 is read after a put of sector 200, what that gives, and whether sector 201 is read then; the room,
+// and whether the change is kept.
+fn around_a_fault<D: Disk + Drop>(
+    alloc: Global,
+    disk: D,
+) -> Result<(bool, u8, bool, usize, bool), Fail> {
+    let mut txn = with_some(opened(alloc, disk)?, 1);
+    let read = byte_at(&mut txn, 201).is_ok();
+    let put = byte_at(&mut txn, 200);
+    let read_again = byte_at(&mut txn, 201).is_ok();
+    let room = txn.room();
+    let kept = txn.keep().is_ok();
+    Ok((read, put?, read_again, room, kept))
+}
+
+// Whether a store can keep nothing, and flush.
+fn keeps_nothing<D: Disk + Drop>(alloc: Global, disk: D) -> Result<bool, Fail> {
+    match opened(alloc, disk)?.begin().keep() {
+        Ok(store) => Ok(store.flush().is_ok()),
+        Err(_) => Ok(false),
+    }
 }
 
 #[test]
 fn a_failed_get_leaves_map_and_delta(rt: HostRuntime) -> Result<(), Fail> {
-    // Opening an idle journal makes a sync and a read.
-    let disk = FailOnce::new(idle_disk(rt.alloc())?, 2);
-    assert_eq!(rt;
-        bytes_around_a_fault(rt.alloc(), disk)?,
-        (true, 7, false, 63, false)
+    // Opening an idle journal makes a sync and a read; keeping nothing makes no call.
+    let seen = (
+        around_a_fault(rt.alloc(), FailOnce::new(idle_disk(rt.alloc())?, 2))?,
+        around_a_fault(rt.alloc(), FuseDisk::new(idle_disk(rt.alloc())?, 2))?,
+        keeps_nothing(rt.alloc(), FuseDisk::new(idle_disk(rt.alloc())?, 2))?,
     );
-    let disk = FuseDisk::new(idle_disk(rt.alloc())?, 2);
-    assert_eq!(rt;
-        bytes_around_a_fault(rt.alloc(), disk)?,
-        (true, 7, true, 63, true)
+    let wanted = (
+        (false, 7, true, 63, true),
+        (false, 7, false, 63, false),
+        true,
     );
+    assert!(rt; seen == wanted, "{seen:?}");
     Ok(())
 }
 
@@ -196,17 +238,14 @@ fn kept_while_armed<D: CrashDisk + Drop>(
     disk: D,
     passes: u64,
     choice: &[u8],
-) -> Result<(bool, u8), Fail>
-    requires { (D.state disk).size ≡ 1024 }
-{
+) -> Result<(bool, u8), Fail> {
     let mut store = opened(alloc, disk)?;
     store.arm(passes);
     let (broken, disk) = match with_some(store, 2).keep() {
         Ok(store) => (false, store.into_disk()),
         Err(broken) => (true, broken.into_disk()),
     };
-    let (found, _) = count_kept(restarted(alloc, disk, choice)?, 2);
-    Ok((broken, found?))
+    Ok((broken, count_lasting(alloc, disk, choice, 2)?))
 }
 
 #[test]
@@ -232,73 +271,9 @@ fn a_stop_within_keep_leaves_all_or_nothing(rt: HostRuntime) -> Result<(), Fail>
             ([1, 0].as_slice(), ones),
         ] {
             let found = kept_while_armed(rt.alloc(), idle_disk(rt.alloc())?, passes, choice)?;
-            assert_eq!(rt; found, (passes < 10, want), "{passes} {choice:?}");
+            assert!(rt; found == (passes < 10, want), "{passes} {choice:?}");
         }
     }
-    Ok(())
-}
-
-// Whether a store can keep nothing, and flush.
-fn keeps_nothing<D: Disk + Drop>(alloc: Global, disk: D) -> Result<bool, Fail>
-    requires { (D.state disk).size ≡ 1024 }
-{
-    match opened(alloc, disk)?.begin().keep() {
-        Ok(store) => Ok(store.flush().is_ok()),
-        Err(_) => Ok(false),
-    }
-}
-
-#[test]
-fn an_empty_delta_calls_no_disk(rt: HostRuntime) -> Result<(), Fail> {
-    let disk = FuseDisk::new(idle_disk(rt.alloc())?, 2);
-    assert!(rt; keeps_nothing(rt.alloc(), disk)?);
-    Ok(())
-}
-
-// The first byte of sector 210 after a call that mixes sectors 200 and 201 there.
-fn mixed<D: Disk + Drop>(alloc: Global, disk: D) -> Result<u8, Fail>
-    requires { (D.state disk).size ≡ 1024 }
-{
-    match with_some(opened(alloc, disk)?, 2).keep() {
-        Err(_) => Err(Fail::new("broken")),
-        Ok(store) => match mix_whole(store, 200, 201, 210) {
-            Err(_) => Err(Fail::new("broken")),
-            Ok(store) => {
-                let mut txn = store.begin();
-                let byte = byte_at(&mut txn, 210);
-                let _ = txn.drop_delta();
-                Ok(byte?)
-            }
-        },
-    }
-}
-
-#[test]
-fn a_call_changes_a_sector(rt: HostRuntime) -> Result<(), Fail> {
-    assert_eq!(rt; mixed(rt.alloc(), idle_disk(rt.alloc())?)?, 8);
-    Ok(())
-}
-
-// The room left once two sectors of three are cleared, and how many of the three are still there.
-fn cleared<D: Disk + Drop>(alloc: Global, disk: D) -> Result<(usize, u8), Fail>
-    requires { (D.state disk).size ≡ 1024 }
-{
-    match with_some(opened(alloc, disk)?, 3).keep() {
-        Err(_) => Err(Fail::new("broken")),
-        Ok(store) => {
-            let mut txn = store.begin();
-            clear_all(&mut txn, &[200, 202, 200]);
-            let room = txn.room();
-            let found = count_put(&mut txn, 3);
-            let _ = txn.drop_delta();
-            Ok((room, found?))
-        }
-    }
-}
-
-#[test]
-fn a_sector_takes_room_once(rt: HostRuntime) -> Result<(), Fail> {
-    assert_eq!(rt; cleared(rt.alloc(), idle_disk(rt.alloc())?)?, (62, 1));
     Ok(())
 }
 
@@ -315,7 +290,6 @@ fn with_some_shared<D: Disk>(store: SharedStore<D>, count: u8) -> SharedTxn<D>
 // Two transactions of so many sectors and a flush, and then the disk.
 fn kept_twice<D: Disk>(store: SharedStore<D>, first: u8, second: u8) -> (bool, bool, D)
     requires { (D.state store.disk).size ≡ 1024 }
-    ensures { (D.state result.2).size ≡ 1024 }
 {
     match with_some_shared(store, first).keep() {
         Err(broken) => (false, false, broken.into_disk()),
@@ -336,9 +310,10 @@ fn shared_while_armed<D: CrashDisk + Drop>(
     passes: u64,
     first: u8,
     second: u8,
-) -> Result<(bool, bool, u8), Fail>
-    requires { (D.state disk).size ≡ 1024 }
-{
+) -> Result<(bool, bool, u8), Fail> {
+    if disk.size() != 1024 {
+        return Err(Fail::new("another size"));
+    }
     match Journal::open(disk) {
         Err(_) => Err(Fail::new("not opened")),
         Ok(mut journal) => {
@@ -347,8 +322,7 @@ fn shared_while_armed<D: CrashDisk + Drop>(
                 Err(_) => Err(Fail::new("no memory")),
                 Ok(store) => {
                     let (kept, flushed, disk) = kept_twice(store, first, second);
-                    let (found, _) = count_kept(restarted(alloc, disk, &[])?, 64);
-                    Ok((kept, flushed, found?))
+                    Ok((kept, flushed, count_lasting(alloc, disk, &[], 64)?))
                 }
             }
         }
@@ -366,7 +340,7 @@ fn shared_commits_come_late(rt: HostRuntime) -> Result<(), Fail> {
         (1000, 64, 63, (true, true, 64)),
     ] {
         let found = shared_while_armed(rt.alloc(), idle_disk(rt.alloc())?, passes, first, second)?;
-        assert_eq!(rt; found, want, "{passes} {first} {second}");
+        assert!(rt; found == want, "{passes} {first} {second}");
     }
     Ok(())
 }
