@@ -5,7 +5,7 @@ ghost use Rattle.std.specs.Prelude.{◌≡◌, ◌<◌, IfOk, OnOk};
 ghost use Rattle.sector_disk.specs.Disk.{IsStable};
 ghost use Rattle.fs_system.specs.Making.{IsHalfMade, IsNewDisk};
 
-use crate::{MkfsFault, MountFault, mkfs};
+use crate::{Fs, MkfsFault, MountFault, a_new_disk_is_mountable, mkfs};
 use sector_disk::{CrashDisk, Disk, FailOnce, FuseDisk, MemDisk};
 use std::alloc::{AllocError, Global};
 use std::test::Fail;
@@ -36,18 +36,7 @@ fn make_and_stop<D: CrashDisk>(disk: &mut D, inodes: u32, choice: &[u8]) -> Resu
     made
 }
 
-// A disk of 1,024 sectors with a new file system of 64 inodes.
-fn made_disk(alloc: Global) -> Result<MemDisk, Fail>
-    ensures { IfOk result (λ disk. (⟦<MemDisk as Disk>⟧.state disk).size ≡ 1024) }
-{
-    let mut disk = used_disk(alloc, 1024)?;
-    match mkfs(&mut disk, 64) {
-        Ok(()) => Ok(disk),
-        Err(_) => Err(Fail::new("not made")),
-    }
-}
-
-fn content_of<D: Disk>(disk: &mut D, n: u32) -> Result<[u8; 512], Fail>
+pub(crate) fn content_of<D: Disk>(disk: &mut D, n: u32) -> Result<[u8; 512], Fail>
     requires { n < (D.state disk.old).size }
     ensures { (D.state disk.new).size ≡ (D.state disk.old).size }
 {
@@ -56,9 +45,16 @@ fn content_of<D: Disk>(disk: &mut D, n: u32) -> Result<[u8; 512], Fail>
     Ok(content)
 }
 
+// ---- refusals and texts
+
+fn outcome_of(alloc: Global, sectors: u32, inodes: u32) -> Result<Result<(), MkfsFault>, Fail> {
+    let mut disk = MemDisk::new(alloc, sectors)?;
+    Ok(mkfs(&mut disk, inodes))
+}
+
 #[test]
 fn sizes_and_inodes_out_of_range_are_refused(rt: HostRuntime) -> Result<(), Fail> {
-    for (sectors, inodes, want) in [
+    for (sectors, inodes, wanted) in [
         (1023, 64, Err(MkfsFault::BadSize)),
         (65537, 64, Err(MkfsFault::BadSize)),
         (1023, 15, Err(MkfsFault::BadSize)),
@@ -71,32 +67,40 @@ fn sizes_and_inodes_out_of_range_are_refused(rt: HostRuntime) -> Result<(), Fail
         (1024, 16, Ok(())),
         (65536, 4096, Ok(())),
     ] {
-        let mut disk = MemDisk::new(rt.alloc(), sectors)?;
-        assert_eq!(rt; mkfs(&mut disk, inodes), want, "{sectors} {inodes}");
+        let outcome = outcome_of(rt.alloc(), sectors, inodes)?;
+        assert!(rt; outcome == wanted, "{sectors} {inodes}: {outcome:?}");
     }
     Ok(())
 }
 
+// The texts of all faults.
+fn names(alloc: Global) -> Result<String, AllocError> {
+    let mut names = String::new(alloc);
+    for fault in [
+        MkfsFault::BadSize,
+        MkfsFault::BadInodes,
+        MkfsFault::TooSmall,
+        MkfsFault::DiskFault,
+    ] {
+        write!(names, "{fault} ")?;
+    }
+    for fault in [MountFault::DiskFault, MountFault::OutOfMemory] {
+        write!(names, "{fault} ")?;
+    }
+    Ok(names)
+}
+
 #[test]
 fn a_fault_is_shown_by_its_name(rt: HostRuntime) -> Result<(), Fail> {
-    for (fault, text) in [
-        (MkfsFault::BadSize, "BadSize"),
-        (MkfsFault::BadInodes, "BadInodes"),
-        (MkfsFault::TooSmall, "TooSmall"),
-        (MkfsFault::DiskFault, "DiskFault"),
-    ] {
-        let shown = format!(in rt.alloc(); "{fault}")?;
-        assert_eq!(rt; shown.as_str(), text);
-    }
-    for (fault, text) in [
-        (MountFault::DiskFault, "DiskFault"),
-        (MountFault::OutOfMemory, "OutOfMemory"),
-    ] {
-        let shown = format!(in rt.alloc(); "{fault}")?;
-        assert_eq!(rt; shown.as_str(), text);
-    }
+    let names = names(rt.alloc())?;
+    assert!(rt;
+        names.as_str() == "BadSize BadInodes TooSmall DiskFault DiskFault OutOfMemory ",
+        "{names}"
+    );
     Ok(())
 }
+
+// ---- bytes
 
 // Whether these bytes stand in a sector from a place on.
 fn has_bytes<D: Disk>(disk: &mut D, n: u32, at: usize, bytes: &[u8]) -> Result<bool, Fail> {
@@ -107,90 +111,138 @@ fn has_bytes<D: Disk>(disk: &mut D, n: u32, at: usize, bytes: &[u8]) -> Result<b
     Ok((&content[at..]).starts_with(bytes))
 }
 
+// The first sector and place of these where a new file system of 64 inodes has other bytes.
+fn first_other<D: Disk>(
+    disk: &mut D,
+    all: &[(u32, usize, &[u8])],
+) -> Result<Option<(u32, usize)>, Fail> {
+    mkfs(disk, 64)?;
+    for (n, at, bytes) in all {
+        if !has_bytes(disk, *n, *at, bytes)? {
+            return Ok(Some((*n, *at)));
+        }
+    }
+    Ok(None)
+}
+
 #[test]
 fn a_new_disk_has_these_bytes(rt: HostRuntime) -> Result<(), Fail> {
-    let mut disk = made_disk(rt.alloc())?;
-    for (n, at, bytes) in [
-        // Magic, version 1, 1,024 sectors, 64 inodes.
-        (0, 0, b"INOS\x01\0\0\0\0\x04\0\0\x40\0\0\0\0".as_slice()),
-        // No targets.
-        (1, 0, b"INOJ\0\0\0\0\0".as_slice()),
-        // Inodes 0 and 1, and those from 64 on.
-        (128, 0, b"\x03\0\0\0\0\0\0\0\xff".as_slice()),
-        (128, 511, b"\xff".as_slice()),
-        // Sectors 0 to 145, and those from 1,024 on.
-        (129, 16, b"\xff\xff\x03\0".as_slice()),
-        (129, 126, b"\0\0\xff".as_slice()),
-        (129, 511, b"\xff".as_slice()),
-        // Behind inode 0 a directory with the mode 0755 and one name, which is its own parent.
-        (
-            130,
-            124,
-            b"\0\0\0\0\x02\0\xed\x01\0\0\0\0\0\0\0\0\x01\0\0\0".as_slice(),
-        ),
-        (130, 144, b"\0\0\0\0\0\0\0\0\x01\0\0\0\0\0\0\0".as_slice()),
-        (145, 508, b"\0\0\0\0".as_slice()),
-        // The data is what it was.
-        (146, 0, b"\xaa\xaa".as_slice()),
-    ] {
-        assert!(rt; has_bytes(&mut disk, n, at, bytes)?, "{n} {at}");
-    }
+    let mut disk = used_disk(rt.alloc(), 1024)?;
+    let other = first_other(
+        &mut disk,
+        &[
+            // Magic, version 1, 1,024 sectors, 64 inodes.
+            (0, 0, b"INOS\x01\0\0\0\0\x04\0\0\x40\0\0\0\0".as_slice()),
+            // No targets.
+            (1, 0, b"INOJ\0\0\0\0\0".as_slice()),
+            // Inodes 0 and 1, and those from 64 on.
+            (128, 0, b"\x03\0\0\0\0\0\0\0\xff".as_slice()),
+            (128, 511, b"\xff".as_slice()),
+            // Sectors 0 to 145, and those from 1,024 on.
+            (129, 16, b"\xff\xff\x03\0".as_slice()),
+            (129, 126, b"\0\0\xff".as_slice()),
+            (129, 511, b"\xff".as_slice()),
+            // Behind inode 0 a directory with the mode 0755 and one name, which is its own parent.
+            (
+                130,
+                124,
+                b"\0\0\0\0\x02\0\xed\x01\0\0\0\0\0\0\0\0\x01\0\0\0".as_slice(),
+            ),
+            (130, 144, b"\0\0\0\0\0\0\0\0\x01\0\0\0\0\0\0\0".as_slice()),
+            (145, 508, b"\0\0\0\0".as_slice()),
+            // The data is what it was.
+            (146, 0, b"\xaa\xaa".as_slice()),
+        ],
+    )?;
+    assert!(rt; other.is_none(), "{other:?}");
     Ok(())
 }
 
-// Sector 0 after so many writes and syncs and a stop.
-fn superblock_after_stop(alloc: Global, passes: u64, choice: &[u8]) -> Result<[u8; 512], Fail> {
-    let mut disk = used_disk(alloc, 1024)?;
+// ---- stops and faults
+
+// The superblock of 1,024 sectors and 64 inodes.
+fn new_superblock() -> [u8; 512] {
+    let mut content = NONE;
+    content[..16].copy_from_slice(b"INOS\x01\0\0\0\0\x04\0\0\x40\0\0\0");
+    content
+}
+
+// Whether a file system is made with so many writes and syncs left, and what is in sector 0 after a stop.
+fn made_and_stopped<D: CrashDisk + Drop>(
+    mut disk: D,
+    passes: u64,
+    choice: &[u8],
+) -> Result<(bool, [u8; 512]), Fail>
+    requires { 0 < (D.state disk).size }
+{
     disk.arm(passes);
     let made = make_and_stop(&mut disk, 64, choice);
-    if made.is_ok() != (passes >= 24) {
-        return Err(Fail::new("not the fault that was asked for"));
-    }
-    content_of(&mut disk, 0)
+    let content = content_of(&mut disk, 0)?;
+    Ok((made.is_ok(), content))
 }
 
 #[test]
 fn a_stop_leaves_what_was_there_or_no_superblock_or_the_new_disk(
     rt: HostRuntime,
 ) -> Result<(), Fail> {
-    let new = content_of(&mut made_disk(rt.alloc())?, 0)?;
-    let ones = [1; 32];
+    let alloc = rt.alloc();
+    let new = new_superblock();
     // Zeros into sector 0 and a sync; sector 1, 18 sectors of tables and a sync; the superblock and a sync.
-    for (passes, zeros_chosen, ones_chosen) in [
-        (0, USED, NONE),
-        (1, USED, NONE),
-        (2, NONE, NONE),
-        (3, NONE, NONE),
-        (20, NONE, NONE),
-        (21, NONE, NONE),
-        (22, NONE, new),
-        (23, NONE, new),
-        (24, new, new),
+    for (passes, made, zeros_chosen, ones_chosen) in [
+        (0, false, USED, NONE),
+        (1, false, USED, NONE),
+        (2, false, NONE, NONE),
+        (3, false, NONE, NONE),
+        (20, false, NONE, NONE),
+        (21, false, NONE, NONE),
+        (22, false, NONE, new),
+        (23, false, NONE, new),
+        (24, true, new, new),
     ] {
-        assert_eq!(rt;
-            superblock_after_stop(rt.alloc(), passes, &[])?,
-            zeros_chosen,
-            "{passes}"
-        );
-        assert_eq!(rt;
-            superblock_after_stop(rt.alloc(), passes, &ones)?,
-            ones_chosen,
+        let zeros = made_and_stopped(used_disk(alloc, 1024)?, passes, &[])?;
+        let ones = made_and_stopped(used_disk(alloc, 1024)?, passes, &[1; 32])?;
+        assert!(rt;
+            zeros == (made, zeros_chosen) && ones == (made, ones_chosen),
             "{passes}"
         );
     }
     Ok(())
 }
 
+// What mkfs comes to, how often the disk has failed then, and why it isn't mounted.
+type Outcome = (Result<(), MkfsFault>, u64, Option<MountFault>);
+
+fn made_and_mounted<D: Disk + Drop>(alloc: Global, mut disk: D) -> Outcome {
+    let made = mkfs(&mut disk, 64);
+    let failures = disk.failures();
+    if made.is_err() {
+        return (made, failures, None);
+    }
+    a_new_disk_is_mountable::<D>();
+    match Fs::mount(alloc, disk) {
+        Ok(_) => (made, failures, None),
+        Err((fault, _)) => (made, failures, Some(fault)),
+    }
+}
+
 #[test]
 fn each_failing_call_is_told(rt: HostRuntime) -> Result<(), Fail> {
-    for call in 0..24 {
-        let mut once = FailOnce::new(used_disk(rt.alloc(), 1024)?, call);
-        assert_eq!(rt; mkfs(&mut once, 64), Err(MkfsFault::DiskFault), "{call}");
-        assert_eq!(rt; once.failures(), 1, "{call}");
-        let mut fuse = FuseDisk::new(used_disk(rt.alloc(), 1024)?, call);
-        assert_eq!(rt; mkfs(&mut fuse, 64), Err(MkfsFault::DiskFault), "{call}");
+    let alloc = rt.alloc();
+    // Each call of mkfs, the one read of mount, and the one after these.
+    for call in 0..26 {
+        let once = made_and_mounted(alloc, FailOnce::new(used_disk(alloc, 1024)?, call));
+        let fuse = made_and_mounted(alloc, FuseDisk::new(used_disk(alloc, 1024)?, call));
+        let wanted = if call < 24 {
+            (Err(MkfsFault::DiskFault), 1, None)
+        } else if call == 24 {
+            (Ok(()), 0, Some(MountFault::DiskFault))
+        } else {
+            (Ok(()), 0, None)
+        };
+        assert!(rt;
+            once == wanted && fuse == wanted,
+            "{call}: {once:?} {fuse:?}"
+        );
     }
-    let mut fuse = FuseDisk::new(used_disk(rt.alloc(), 1024)?, 24);
-    assert_eq!(rt; mkfs(&mut fuse, 64), Ok(()));
     Ok(())
 }
