@@ -1,13 +1,12 @@
 -- A line that is too long may be cut after the byte that makes it so.
-use Rattle.std.proofs.Common.{◌≡◌, ℕ, ◌<◌, suc, zero, nat_lt, true, false, List, [], ◌∷◌, length, take, Err, refl, sym, ap, ◌∙◌, inl, inr, arith, length-take, take_all}
+use Rattle.std.proofs.Common.{◌≡◌, ℕ, ◌<◌, nat_lt, true, false, List, length, take, Err, refl, sym, ap, ◌∙◌, inl, inr, arith, length-take, take_all}
 use Rattle.std.proofs.lemmas.Bool.{cases_Bool, true≢false}
 use borrow.Author.Tests.{ltb-false, ltb-true, lt-ltb}
 use Rattle.fs_model.specs.declared.event.Event.{Event}
 use Rattle.fs_model.specs.declared.reply.Reply.{Reply}
 use Rattle.fs_shell.specs.declared.answer.Answer.{Answer}
 use Rattle.fs_shell.specs.declared.line.LineFault.TheVariants.{TooLong}
-use Rattle.fs_shell.specs.Lines.{is_silent, is_no_space}
-use Rattle.fs_shell.specs.Commands.{line_value}
+use Rattle.fs_shell.specs.Commands.{has_words, line_value}
 use Rattle.fs_shell.specs.Scripts.{kept_front}
 use Rattle.fs_shell.specs.Runs.{LineAnswers, is_blank, is_faulty, is_performed, lacks_memory}
 
@@ -26,19 +25,21 @@ cut_value whole =
       | inr short ↦ ap line_value (take_all 4097 whole (ltb-false _ _ short))
     ]
 
-not_silent : (n : ℕ) (line : List ℕ) → is_silent (take n line) ≡ false → is_silent line ≡ false
-not_silent zero line loud = absurd (true≢false loud)
-not_silent (suc n) [] loud = absurd (true≢false loud)
-not_silent (suc n) (b ∷ bs) loud =
-    elim (cases_Bool (is_no_space b)) [
-      | inl first ↦ rw first (rw first at loud)
-      | inr space ↦ rw space (not_silent n bs (rw space at loud))
+-- one that is read word by word wasn't cut
+cut_words : (whole : List ℕ) → has_words (kept_front whole) ≡ true → has_words whole ≡ true
+cut_words whole has =
+    elim (cases_Bool (nat_lt 4097 (length whole))) [
+      | inl long ↦
+          let above : 4097 < length whole = ltb-true _ _ long in
+          let full : nat_lt 4096 (length (take 4097 whole)) ≡ true = lt-ltb 4096 (length (take 4097 whole)) (omega (arith, length-take 4097 whole)) in
+          absurd (true≢false (sym (rw full at has)))
+      | inr short ↦ sym (ap has_words (take_all 4097 whole (ltb-false _ _ short))) ∙ has
     ]
 
 pub cut_answers : {S : Type 0} (serves : S → Event → Reply → S → Type 0) (line whole : List ℕ) (old : S) (answer : Answer) (new : S) → line ≡ kept_front whole
     → LineAnswers serves line old answer new → LineAnswers serves whole old answer new
 cut_answers serves line whole old answer new kept (is_blank value none same) = is_blank (sym (cut_value whole) ∙ ap line_value (sym kept) ∙ value) none same
 cut_answers serves line whole old answer new kept (is_faulty fault value is same) = is_faulty fault (sym (cut_value whole) ∙ ap line_value (sym kept) ∙ value) is same
-cut_answers serves line whole old answer new kept (lacks_memory loud is same) = lacks_memory (not_silent 4097 whole (ap is_silent (sym kept) ∙ loud)) is same
+cut_answers serves line whole old answer new kept (lacks_memory has is same) = lacks_memory (cut_words whole (ap has_words (sym kept) ∙ has)) is same
 cut_answers serves line whole old answer new kept (is_performed asked e reply value event served is) =
     is_performed asked e reply (sym (cut_value whole) ∙ ap line_value (sym kept) ∙ value) event served is

@@ -1,6 +1,7 @@
 -- The commands, and what a line says.
 --     Reading, Row        what stands before a command and what its words say; a row of the table
 --     row_of        the table
+--     has_words        whether a line is read word by word
 --     line_value        what a line says, or the first thing that is wrong with it
 use Rattle.std.specs.Prelude.{ℕ, nat_le, nat_lt, Bool, true, false, not, ◌&&◌, List, [], ◌∷◌, length, codes, Option, None, Some, Result, Ok, Err, if◌then◌else◌}
 use Rattle.std.specs.List.{find, list_all}
@@ -125,6 +126,10 @@ abbrev pub clean_value : List ℕ → Result Line LineFault
 clean_value line = do
   words ← each word_bytes (words_of line)
   words_value words
+
+-- It is read word by word: it isn't too long, it says something, and it has only bytes that may stand in a line.
+abbrev pub has_words : List ℕ → Bool
+has_words line = not (nat_lt 4096 (length line)) && not (is_silent line) && list_all is_printable line
 
 -- What a line says, or the first thing that is wrong with it. A blank line or a comment is wrong only where it is too long.
 unfoldable pub line_value : List ℕ → Result Line LineFault

@@ -4,7 +4,7 @@
 --     answer_text, answers_text, count_faults        what is written for answers
 --     LineAnswers, Answers        one line, and all lines of a script
 --     Ran        a run of a script
-use Rattle.std.specs.Prelude.{◌≡◌, ◌≢◌, ◌≤◌, ◌+◌, ℕ, false, List, [], ◌∷◌, ◌++◌, length, Option, None, Some, IfSome, IsTrue, Result, Ok, Err, MatchResult}
+use Rattle.std.specs.Prelude.{◌≡◌, ◌≢◌, ◌≤◌, ◌+◌, ℕ, true, List, [], ◌∷◌, ◌++◌, length, Option, None, Some, IfSome, IsTrue, Result, Ok, Err, MatchResult}
 use Rattle.std.specs.List.{flat_map}
 use Rattle.std.specs.Io.KnownBytes.{Appends}
 use Rattle.fs_model.specs.declared.event.Event.{Event}
@@ -19,8 +19,8 @@ use Rattle.fs_shell.specs.declared.line.Line.{Line}
 use Rattle.fs_shell.specs.declared.line.Line.TheVariants.{Blank, Spawn, Call}
 use Rattle.fs_shell.specs.declared.line.LineFault.{LineFault}
 use Rattle.fs_shell.specs.declared.line.LineFault.TheVariants.{OutOfMemory}
-use Rattle.fs_shell.specs.Lines.{lines_of, is_silent}
-use Rattle.fs_shell.specs.Commands.{line_value}
+use Rattle.fs_shell.specs.Lines.{lines_of}
+use Rattle.fs_shell.specs.Commands.{has_words, line_value}
 use Rattle.fs_shell.specs.Scripts.{script_limit, IsOver}
 use Rattle.fs_system.specs.Serving.{is_served}
 use Rattle.fs_shell.specs.Texts.{reply_text, fault_text}
@@ -71,8 +71,8 @@ pub data LineAnswers {S : Type 0} (serves : S → Event → ReplyType → S → 
   is_blank : line_value line ≡ Ok Blank → answer ≡ Nothing → new ≡ old → LineAnswers serves line old answer new
   -- something is wrong with it, and nothing is performed
   is_faulty : (fault : LineFault) → line_value line ≡ Err fault → answer ≡ Fault fault → new ≡ old → LineAnswers serves line old answer new
-  -- memory runs out, and nothing is performed
-  lacks_memory : is_silent line ≡ false → answer ≡ Fault OutOfMemory → new ≡ old → LineAnswers serves line old answer new
+  -- memory runs out over its words, and nothing is performed
+  lacks_memory : has_words line ≡ true → answer ≡ Fault OutOfMemory → new ≡ old → LineAnswers serves line old answer new
   -- it is performed
   is_performed : (asked : Line) (e : Event) (reply : ReplyType) → line_value line ≡ Ok asked → event_of asked ≡ Some e → serves old e reply new
       → answer ≡ Reply reply → LineAnswers serves line old answer new

@@ -1,9 +1,9 @@
 //! What a line says.
-ghost use Rattle.std.specs.Prelude.{◌≡◌, false, Err, IfOk};
+ghost use Rattle.std.specs.Prelude.{◌≡◌, true, Err, IfOk};
 ghost use Rattle.std.specs.List.{find, list_all};
 ghost use Rattle.fs_shell.specs.declared.line.LineFault.TheVariants.{OutOfMemory};
 ghost use Rattle.fs_shell.specs.Lines.{is_no_space, is_silent, is_printable};
-ghost use Rattle.fs_shell.specs.Commands.{clean_value, line_value};
+ghost use Rattle.fs_shell.specs.Commands.{clean_value, has_words, line_value};
 ghost use Rattle.fs_shell.specs.Runs.{Gives, IsOffered};
 
 use crate::command::read_line;
@@ -13,11 +13,12 @@ use std::alloc::Global;
 
 /// What a line says, without its newline, or the first thing that is wrong with it.
 ///
-/// Memory aside: `OutOfMemory` may stand in place of any other answer, but for lines that say nothing.
+/// Memory aside: `OutOfMemory` may stand in place of any other answer once the words are read, so not for lines that are too
+/// long, say nothing, or have a byte that may not stand in a line.
 #[tactic(auto, unfolding(crate::specs::Commands::line_value))]
 pub fn parse_line(alloc: Global, line: &[u8]) -> Result<Line, LineFault>
     ensures said { Gives (λ asked. asked) result (line_value line.now) }
-    ensures silent { result ≡ Err OutOfMemory → is_silent line.now ≡ false }
+    ensures memory { result ≡ Err OutOfMemory → has_words line.now ≡ true }
     ensures offered { IfOk result IsOffered }
 {
     if line.len() > MAX_LINE {

@@ -19,7 +19,8 @@ use sector_disk::Disk;
 use std::alloc::Global;
 use std::io::{Read, Write};
 
-/// Runs a script, line by line, and writes what is answered, each reply as soon as its line was performed.
+/// Runs a script, line by line, and writes what is answered, each reply as soon as its line was performed. The disk lets
+/// go of its past before each line.
 pub fn run<R: Read, W: Write, D: Disk>(
     alloc: Global,
     reader: &mut R,
@@ -38,6 +39,7 @@ pub fn run<R: Read, W: Write, D: Disk>(
         faults: 0,
     };
     while pending.read_line(reader, &mut line)? {
+        fs.forget();
         let answer = perform(alloc, fs, &line);
         count.lines += 1;
         count.faults += answer.faults();

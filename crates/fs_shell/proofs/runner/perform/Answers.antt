@@ -17,7 +17,7 @@ returns-in-Ok-Call g c = λ s is.
 
 pub returns-in-Err : goal.returns-in-Err
 returns-in-Err g c = λ s is.
-    (s, is, answers_fault Serves c.args.line.now s _ c.parse_line.result c.in-Err.is c.in-Err.ensures.said c.parse_line.ensures.silent)
+    (s, is, answers_fault Serves c.args.line.now s _ c.parse_line.result c.in-Err.is c.in-Err.ensures.said c.parse_line.ensures.memory)
 
 pub returns-in-Ok-Blank : goal.returns-in-Ok-Blank
 returns-in-Ok-Blank g c = λ s is. (s, is, is_blank (rw c.in-Ok-Blank.field-0-is at c.in-Ok-Blank.ensures.said) refl refl)

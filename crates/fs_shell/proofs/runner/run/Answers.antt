@@ -42,12 +42,12 @@ loop-line-preserved g c =
     let read = c.read_line.ensures.line (c.in_ok-read_line.was ∙ ap Ok c.if-branch.true) in
     let most = one_fault_at_most c.perform-answer.result in
     let before = c.loop-line.invariant.in_state in
-    let next = c.perform-answer.ensures before.0 before.1 in
+    let next = c.perform-answer.ensures before.0 (c.forget.ensures.state before.0 before.1) in
     record {
       in_state = (next.0, next.1);
       running = λ s is.
           let run = c.loop-line.invariant.running s is in
-          let then = c.perform-answer.ensures run.0 run.1 in (
+          let then = c.perform-answer.ensures run.0 (c.forget.ensures.state run.0 run.1) in (
             then.0,
             then.1,
             goes_on Serves _ _ _ _ _ _ _ _ c.loop-line.count _ s run.0 then.0 _ _ run.2 read (rw c.deref.ensures.value at then.2)
@@ -64,7 +64,7 @@ returns-in_err-write_answer-clause-ran g c =
     let read = c.read_line.ensures.line (c.in_ok-read_line.was ∙ ap Ok c.if-branch.true) in
     λ s is.
     let run = c.loop-line.invariant.running s is in
-    let then = c.perform-answer.ensures run.0 run.1 in (
+    let then = c.perform-answer.ensures run.0 (c.forget.ensures.state run.0 run.1) in (
       then.0,
       then.1,
       rw p.1 (ends_unanswered Serves _ _ _ _ _ _ _ _ c.loop-line.count s run.0 then.0 _ _ p.0 run.2 read (rw c.deref.ensures.value at then.2)
