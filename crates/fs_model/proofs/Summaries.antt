@@ -16,7 +16,7 @@ use Rattle.fs_model.specs.Trees.{Tree, node_at, names_of, IsTree}
 use Rattle.fs_model.specs.StoredNodes.{Placed, HoldsBody, HoldsNode, names_field}
 use Rattle.fs_model.specs.Stands.{HoldsPlaced, HoldsAll, placed, room_of}
 use Rattle.fs_model.specs.Rules.{is_directory_kind}
-use Rattle.fs_model.specs.Summaries.{is_file_kind, is_link_kind, is_used, is_file, named_files, nameless_files, directories, links}
+use Rattle.fs_model.specs.Summaries.{is_file_kind, is_link_kind, is_used, is_file_body, named_files, nameless_files, directories, links}
 use Rattle.fs_model.proofs.ListedMaps.{sum-of_map, sum-same}
 use Rattle.fs_model.proofs.MapLaws.{summand}
 use Rattle.fs_model.proofs.StoredTrees.{Stores}
@@ -34,7 +34,7 @@ pub length_is : (t : Tree) → length t ≡ count_by (λ (e : ℕ × Node). true
 length_is [] = refl
 length_is (e ∷ t) = let rest = length_is t in omega (arith, rest, sum_by-cons (λ (q : ℕ × Node). 1) e t)
 
-body_is_file : (m : SectorMap) (v : Inode) (b : Body) → HoldsBody m v b → is_file b ≡ is_file_kind v.kind
+body_is_file : (m : SectorMap) (v : Inode) (b : Body) → HoldsBody m v b → is_file_body b ≡ is_file_kind v.kind
 body_is_file m v (File a bytes) h = sym (ap is_file_kind h.kind)
 body_is_file m v (Dir a d) h = sym (ap is_file_kind h.kind)
 body_is_file m v (Link target) h = sym (ap is_file_kind h.kind)
@@ -56,10 +56,10 @@ body_is_used m v (Link target) h = sym (ap is_used h.kind)
 
 -- of a file the names field is the number of its names
 file_names : (m : SectorMap) (v : Inode) (x : Placed) (none : Bool → Bool) → HoldsNode m v x
-    → (is_file x.node.body && none (x.names == 0)) ≡ (is_file_kind v.kind && none (v.names == 0))
+    → (is_file_body x.node.body && none (x.names == 0)) ≡ (is_file_kind v.kind && none (v.names == 0))
 file_names m v x none h = go x.node.body h.body h.names
   where
-    go : (b : Body) → HoldsBody m v b → v.names ≡ names_field b x.names → (is_file b && none (x.names == 0)) ≡ (is_file_kind v.kind && none (v.names == 0))
+    go : (b : Body) → HoldsBody m v b → v.names ≡ names_field b x.names → (is_file_body b && none (x.names == 0)) ≡ (is_file_kind v.kind && none (v.names == 0))
     go (File a bytes) h e = ap (λ (n : ℕ). none (n == 0)) (sym e) ∙ sym (ap (λ k. is_file_kind k && none (v.names == 0)) h.kind)
     go (Dir a d) h e = sym (ap (λ k. is_file_kind k && none (v.names == 0)) h.kind)
     go (Link target) h e = sym (ap (λ k. is_file_kind k && none (v.names == 0)) h.kind)
@@ -81,12 +81,12 @@ module _ (p : Place) (m : SectorMap) (t : Tree) (held : HoldsAll p m (placed t))
 
   pub files_counted : named_files t ≡ count_by (λ n. is_file_kind (inode_at p m n).kind && not ((inode_at p m n).names == 0)) (range_with_len 0 p.inodes)
   files_counted =
-      by_inodes (λ e. is_file e.1.body && not (names_of t e.0 == 0)) (λ v. is_file_kind v.kind && not (v.names == 0)) refl
+      by_inodes (λ e. is_file_body e.1.body && not (names_of t e.0 == 0)) (λ v. is_file_kind v.kind && not (v.names == 0)) refl
       (λ n node h. file_names m (inode_at p m n) (put p m t held is n node) not h)
 
   pub nameless_counted : nameless_files t ≡ count_by (λ n. is_file_kind (inode_at p m n).kind && (inode_at p m n).names == 0) (range_with_len 0 p.inodes)
   nameless_counted =
-      by_inodes (λ e. is_file e.1.body && names_of t e.0 == 0) (λ v. is_file_kind v.kind && v.names == 0) refl
+      by_inodes (λ e. is_file_body e.1.body && names_of t e.0 == 0) (λ v. is_file_kind v.kind && v.names == 0) refl
       (λ n node h. file_names m (inode_at p m n) (put p m t held is n node) (λ b. b) h)
 
   pub directories_counted : directories t ≡ count_by (λ n. is_directory_kind (inode_at p m n).kind) (range_with_len 0 p.inodes)

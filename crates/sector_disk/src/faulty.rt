@@ -72,7 +72,8 @@ impl<D: Disk, const FAULTS: u64> FaultyDisk<D, FAULTS> {
         ensures disk { self.new.disk ≡ self.old.disk }
         ensures quiet { self.new.failed_writes ≡ self.old.failed_writes }
         ensures failures { OnOk result (self.new ≡ self.old) }
-        ensures worn { OnOk result ((with_failures (D.state self.old.disk) self.old.failed_reads self.old.failed_writes).failures < 2 ^ 64 - 1) }
+        ensures worn { OnOk result
+            ((with_failures (D.state self.old.disk) self.old.failed_reads self.old.failed_writes).failures < 2 ^ 64 - 1) }
         ensures cause { HasCause (with_failures (D.state self.old.disk) self.old.failed_reads self.old.failed_writes)
             (with_failures (D.state self.new.disk) self.new.failed_reads self.new.failed_writes) result }
     {
@@ -90,7 +91,8 @@ impl<D: Disk, const FAULTS: u64> FaultyDisk<D, FAULTS> {
     fn pass_write(&mut self) -> Result<(), DiskFault>
         ensures disk { self.new.disk ≡ self.old.disk }
         ensures failures { OnOk result (self.new ≡ self.old) }
-        ensures worn { OnOk result ((with_failures (D.state self.old.disk) self.old.failed_reads self.old.failed_writes).failures < 2 ^ 64 - 1) }
+        ensures worn { OnOk result
+            ((with_failures (D.state self.old.disk) self.old.failed_reads self.old.failed_writes).failures < 2 ^ 64 - 1) }
         ensures cause { HasCause (with_failures (D.state self.old.disk) self.old.failed_reads self.old.failed_writes)
             (with_failures (D.state self.new.disk) self.new.failed_reads self.new.failed_writes) result }
         ensures told { HasWriteCause (with_failures (D.state self.old.disk) self.old.failed_reads self.old.failed_writes)

@@ -132,51 +132,54 @@ fn stopped<D: CrashDisk>(
     Ok((passed, disk.failures(), first_bytes(disk)?))
 }
 
+const ONE_SECTOR: [Call; 4] = [
+    Call::Write(2, 1),
+    Call::Sync,
+    Call::Write(2, 2),
+    Call::Write(2, 3),
+];
+
+const TWO_SECTORS: [Call; 4] = [
+    Call::Sync,
+    Call::Write(3, 2),
+    Call::Write(1, 1),
+    Call::Write(3, 3),
+];
+
+const SYNCED_BETWEEN: [Call; 4] = [
+    Call::Write(0, 1),
+    Call::Write(1, 1),
+    Call::Sync,
+    Call::Write(0, 3),
+];
+
 #[test]
 fn a_stop_leaves_what_its_choice_picks(rt: HostRuntime) -> Result<(), Fail> {
-    let one_sector = [
-        Call::Write(2, 1),
-        Call::Sync,
-        Call::Write(2, 2),
-        Call::Write(2, 3),
-    ];
-    let two_sectors = [
-        Call::Sync,
-        Call::Write(3, 2),
-        Call::Write(1, 1),
-        Call::Write(3, 3),
-    ];
-    let synced_between = [
-        Call::Write(0, 1),
-        Call::Write(1, 1),
-        Call::Sync,
-        Call::Write(0, 3),
-    ];
     // How many writes and syncs pass, the calls, the choice, how often the disk has failed, and the first bytes.
     for (armed, calls, choice, failures, found) in [
-        (9, one_sector, [].as_slice(), 0, [0, 0, 1, 0]),
-        (9, one_sector, [0].as_slice(), 0, [0, 0, 1, 0]),
-        (9, one_sector, [1].as_slice(), 0, [0, 0, 2, 0]),
-        (9, one_sector, [2].as_slice(), 0, [0, 0, 3, 0]),
-        (9, one_sector, [3].as_slice(), 0, [0, 0, 1, 0]),
-        (9, one_sector, [254].as_slice(), 0, [0, 0, 3, 0]),
-        (9, one_sector, [255].as_slice(), 0, [0, 0, 1, 0]),
+        (9, ONE_SECTOR, [].as_slice(), 0, [0, 0, 1, 0]),
+        (9, ONE_SECTOR, [0].as_slice(), 0, [0, 0, 1, 0]),
+        (9, ONE_SECTOR, [1].as_slice(), 0, [0, 0, 2, 0]),
+        (9, ONE_SECTOR, [2].as_slice(), 0, [0, 0, 3, 0]),
+        (9, ONE_SECTOR, [3].as_slice(), 0, [0, 0, 1, 0]),
+        (9, ONE_SECTOR, [254].as_slice(), 0, [0, 0, 3, 0]),
+        (9, ONE_SECTOR, [255].as_slice(), 0, [0, 0, 1, 0]),
         // The sectors' bytes are picked in rising order.
-        (9, two_sectors, [].as_slice(), 0, [0, 0, 0, 0]),
-        (9, two_sectors, [1].as_slice(), 0, [0, 1, 0, 0]),
-        (9, two_sectors, [0, 1].as_slice(), 0, [0, 0, 0, 2]),
-        (9, two_sectors, [1, 1].as_slice(), 0, [0, 1, 0, 2]),
-        (9, two_sectors, [2, 2].as_slice(), 0, [0, 0, 0, 3]),
-        (9, two_sectors, [1, 2, 9].as_slice(), 0, [0, 1, 0, 3]),
+        (9, TWO_SECTORS, [].as_slice(), 0, [0, 0, 0, 0]),
+        (9, TWO_SECTORS, [1].as_slice(), 0, [0, 1, 0, 0]),
+        (9, TWO_SECTORS, [0, 1].as_slice(), 0, [0, 0, 0, 2]),
+        (9, TWO_SECTORS, [1, 1].as_slice(), 0, [0, 1, 0, 2]),
+        (9, TWO_SECTORS, [2, 2].as_slice(), 0, [0, 0, 0, 3]),
+        (9, TWO_SECTORS, [1, 2, 9].as_slice(), 0, [0, 1, 0, 3]),
         // What a fault kept from passing may be left too.
-        (0, synced_between, [0, 0].as_slice(), 4, [0, 0, 0, 0]),
-        (0, synced_between, [1, 1].as_slice(), 4, [1, 1, 0, 0]),
-        (1, synced_between, [0, 0].as_slice(), 3, [0, 0, 0, 0]),
-        (1, synced_between, [1, 1].as_slice(), 3, [1, 1, 0, 0]),
-        (2, synced_between, [0, 0].as_slice(), 2, [0, 0, 0, 0]),
-        (2, synced_between, [1, 1].as_slice(), 2, [1, 1, 0, 0]),
-        (3, synced_between, [0, 0].as_slice(), 1, [1, 1, 0, 0]),
-        (3, synced_between, [1, 1].as_slice(), 1, [3, 1, 0, 0]),
+        (0, SYNCED_BETWEEN, [0, 0].as_slice(), 4, [0, 0, 0, 0]),
+        (0, SYNCED_BETWEEN, [1, 1].as_slice(), 4, [1, 1, 0, 0]),
+        (1, SYNCED_BETWEEN, [0, 0].as_slice(), 3, [0, 0, 0, 0]),
+        (1, SYNCED_BETWEEN, [1, 1].as_slice(), 3, [1, 1, 0, 0]),
+        (2, SYNCED_BETWEEN, [0, 0].as_slice(), 2, [0, 0, 0, 0]),
+        (2, SYNCED_BETWEEN, [1, 1].as_slice(), 2, [1, 1, 0, 0]),
+        (3, SYNCED_BETWEEN, [0, 0].as_slice(), 1, [1, 1, 0, 0]),
+        (3, SYNCED_BETWEEN, [1, 1].as_slice(), 1, [3, 1, 0, 0]),
     ] {
         let seen = stopped(&mut MemDisk::new(rt.alloc(), 4)?, armed, calls, choice)?;
         let wanted = (
