@@ -2,6 +2,9 @@
 //! answered. Its status is 0 where the script was done, 1 where a line of it had a fault, and 3 where it wasn't done.
 #![tactic(auto)]
 
+ghost use Rattle.std.specs.Prelude.{◌≡◌};
+ghost use Rattle.inofs.specs.Programs.{status_of};
+
 mod memory;
 #[cfg(test)]
 mod tests;
@@ -20,7 +23,9 @@ fn main(rt: HostRuntime) -> ExitCode {
 }
 
 // What the program ends with.
-fn status(outcome: &Result<Count, Failure>) -> u8 {
+fn status(outcome: &Result<Count, Failure>) -> u8
+    ensures { result ≡ status_of outcome.now }
+{
     match outcome {
         Ok(count) if count.faults == 0 => 0,
         Ok(_) => 1,

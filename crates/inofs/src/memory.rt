@@ -1,10 +1,10 @@
 //! Runs a script on a new file system in memory.
-ghost use Rattle.std.specs.Prelude.{IfOk, Ok};
+ghost use Rattle.std.specs.Prelude.{◌≡◌, MatchResult, Ok, Err};
 ghost use Rattle.fs_model.specs.States.{State};
 ghost use Rattle.fs_system.specs.Serving.{Serves};
 ghost use Rattle.fs_system.specs.Seen.{IsIn};
 ghost use Rattle.fs_shell.specs.Runs.{Ran};
-ghost use Rattle.inofs.specs.Programs.{IsNew};
+ghost use Rattle.inofs.specs.Programs.{IsNew, Fails};
 
 use fs_shell::{Count, RunFault, run};
 use fs_system::{Fs, MkfsFault, MountFault, a_new_disk_is_mountable, mkfs};
@@ -42,9 +42,14 @@ pub fn run_in_memory<R: Read, W: Write>(
     reader: &mut R,
     writer: &mut W,
 ) -> Result<Count, Failure>
-    // What was written is the text of a run over the script's lines, which began with an empty file system.
-    ensures { IfOk result (λ count. (s : State) × IsNew s × (t : State)
-        × Ran Serves (R.remaining reader.old) (W.contents writer.old) (W.contents writer.new) s t (Ok count)) }
+    // What was written is the text of a run over the script's lines, which began with an empty file system. It may have
+    // ended early, or not have begun.
+    ensures { MatchResult result
+        (λ count. (s : State) × IsNew SECTORS INODES s × (t : State)
+        × Ran Serves (R.remaining reader.old) (W.contents writer.old) (W.contents writer.new) s t (Ok count))
+        (Fails (λ fault. (s : State) × IsNew SECTORS INODES s × (t : State)
+        × Ran Serves (R.remaining reader.old) (W.contents writer.old) (W.contents writer.new) s t (Err fault))
+        ((reader.new ≡ reader.old) × (writer.new ≡ writer.old))) }
 {
     let Ok(disk) = MemDisk::new(alloc, SECTORS) else {
         return Err(Failure::Image);
@@ -59,8 +64,13 @@ fn run_on<D: Disk + Drop, R: Read, W: Write>(
     reader: &mut R,
     writer: &mut W,
 ) -> Result<Count, Failure>
-    ensures { IfOk result (λ count. (s : State) × IsNew s × (t : State)
-        × Ran Serves (R.remaining reader.old) (W.contents writer.old) (W.contents writer.new) s t (Ok count)) }
+    requires { (D.state disk).size ≡ SECTORS }
+    ensures { MatchResult result
+        (λ count. (s : State) × IsNew SECTORS INODES s × (t : State)
+        × Ran Serves (R.remaining reader.old) (W.contents writer.old) (W.contents writer.new) s t (Ok count))
+        (Fails (λ fault. (s : State) × IsNew SECTORS INODES s × (t : State)
+        × Ran Serves (R.remaining reader.old) (W.contents writer.old) (W.contents writer.new) s t (Err fault))
+        ((reader.new ≡ reader.old) × (writer.new ≡ writer.old))) }
 {
     let mut fs = new_file_system(alloc, disk)?;
     match run(alloc, reader, writer, &mut fs) {
@@ -71,7 +81,9 @@ fn run_on<D: Disk + Drop, R: Read, W: Write>(
 
 // Makes an empty file system on the disk, and mounts it.
 fn new_file_system<D: Disk + Drop>(alloc: Global, disk: D) -> Result<Fs<D>, Failure>
-    ensures { IfOk result (λ fs. (s : State) × IsNew s × IsIn D.state fs s) }
+    requires { (D.state disk).size ≡ SECTORS }
+    ensures { MatchResult result (λ fs. (s : State) × IsNew SECTORS INODES s × IsIn D.state fs s)
+        (Fails (λ fault. ⊥) (Unit {0})) }
 {
     let mut disk = disk;
     if let Err(fault) = mkfs(&mut disk, INODES) {
