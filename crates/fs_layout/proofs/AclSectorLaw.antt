@@ -6,7 +6,7 @@ use Rattle.fs_layout.specs.declared.acl_sector.AclEntry.{AclEntry}
 use Rattle.fs_layout.specs.declared.fault.LayoutFault.{LayoutFault}
 use Rattle.fs_layout.specs.declared.fault.LayoutFault.TheVariants.{BadNumber, NotZero}
 use Rattle.fs_layout.specs.Bytes.{IsBytes, window, splice, le16, zeros, u16_of, are_zero}
-use Rattle.fs_layout.specs.AclSector.{FitsAclSector, acl_sector_bytes, acl_sector_of, entries_bytes, entries_of}
+use Rattle.fs_layout.specs.AclSector.{FitsAclSector, acl_sector_bytes, acl_sector_of, entries_bytes, acl_entries_at}
 use Rattle.fs_layout.proofs.Codecs.{IsCodec, held, passed, same_ok}
 use Rattle.fs_layout.proofs.Entries.{entries_back, entries_fit, entries_len, entries_read, length-entries_of, take-entries_of}
 use Rattle.fs_layout.proofs.Fields.{split, back16, zeros_back, zero_part, zeros-are_zero, read16}
@@ -15,9 +15,9 @@ use Rattle.fs_layout.proofs.Writes.{first_write, next_write, all_written, length
 -- the bytes of the entries that stand in s
 spelled : (s : List ℕ) (n : ℕ) → length s ≡ 512 → IsBytes s → u16_of s 0 ≡ n → n ≤ 32 → are_zero (window s 2 6) ≡ true
     → are_zero (drop (8 + 8 * n) s) ≡ true
-    → s ≡ acl_sector_bytes (entries_of s 8 n)
+    → s ≡ acl_sector_bytes (acl_entries_at s 8 n)
 spelled s n len fits count few pad rest =
-    let es = entries_of s 8 n in
+    let es = acl_entries_at s 8 n in
     let counted : length es ≡ n = length-entries_of s 8 n in
     let e0 : s ≡ le16 (u16_of s 0) ++ drop 2 s = back16 s 0 fits (omega arith) in
     let e1 : drop 2 s ≡ zeros 6 ++ drop 8 s = split 6 2 s (zeros 6) (sym (zero_part 6 2 s (omega arith) pad)) in
@@ -30,18 +30,18 @@ back : (s : List ℕ) (v : List AclEntry) → length s ≡ 512 → IsBytes s →
 unfolding acl_sector_of
 back s v len fits e =
     let n = u16_of s 0 in
-    let good : Result (List AclEntry) LayoutFault = Ok (entries_of s 8 n) in
+    let good : Result (List AclEntry) LayoutFault = Ok (acl_entries_at s 8 n) in
     let a = passed (nat_lt 32 n) (cond (are_zero (window s 2 6) && are_zero (drop (8 + 8 * n) s)) good (Err NotZero)) BadNumber v e in
     let b = held (are_zero (window s 2 6) && are_zero (drop (8 + 8 * n) s)) good NotZero v a.1 in
     let padded = and_parts (are_zero (window s 2 6)) (are_zero (drop (8 + 8 * n) s)) b.0 in
-    let same : entries_of s 8 n ≡ v = same_ok (entries_of s 8 n) v good refl b.1 in
+    let same : acl_entries_at s 8 n ≡ v = same_ok (acl_entries_at s 8 n) v good refl b.1 in
     let few : n ≤ 32 = ltb-false 32 n a.0 in
-    let fit : FitsAclSector (entries_of s 8 n) =
+    let fit : FitsAclSector (acl_entries_at s 8 n) =
     record { few = omega (arith, length-entries_of s 8 n, few); entries = entries_fit n s 8 fits } in
     (spelled s n len fits refl few padded.0 padded.1 ∙ ap acl_sector_bytes same, subst FitsAclSector same fit)
 
 -- a sector that passes each test
-reads : (s : List ℕ) (es : List AclEntry) (n : ℕ) → u16_of s 0 ≡ n → entries_of s 8 n ≡ es → n ≤ 32 → are_zero (window s 2 6) ≡ true
+reads : (s : List ℕ) (es : List AclEntry) (n : ℕ) → u16_of s 0 ≡ n → acl_entries_at s 8 n ≡ es → n ≤ 32 → are_zero (window s 2 6) ≡ true
     → are_zero (drop (8 + 8 * n) s) ≡ true
     → acl_sector_of s ≡ Ok es
 unfolding acl_sector_of
@@ -79,7 +79,7 @@ length-acl_sector_bytes es few =
 -- a reading that came to its end
 pub read_to_end : (s : List ℕ) (to : List AclEntry) (n : ℕ) (zero_pad zero_rest : Bool) → n ≡ u16_of s 0 → n ≤ 32
     → zero_pad ≡ are_zero (window s 2 6) → zero_pad ≡ true
-    → zero_rest ≡ are_zero (take (length s - (8 + 8 * n)) (drop (8 + 8 * n) s)) → zero_rest ≡ true → to ≡ entries_of s 8 32 → Ok (take n to) ≡ acl_sector_of s
+    → zero_rest ≡ are_zero (take (length s - (8 + 8 * n)) (drop (8 + 8 * n) s)) → zero_rest ≡ true → to ≡ acl_entries_at s 8 32 → Ok (take n to) ≡ acl_sector_of s
 read_to_end s to n zero_pad zero_rest count few pad pad_true tested rest_true e =
     let rest : are_zero (drop (8 + 8 * n) s) ≡ true = ap are_zero (sym (take_rest s (8 + 8 * n))) ∙ sym tested ∙ rest_true in
     sym (reads s (take n to) n (sym count) (sym (ap (take n) e ∙ take-entries_of s 8 n 32 few)) few (sym pad ∙ pad_true) rest)

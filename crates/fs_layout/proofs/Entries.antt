@@ -7,7 +7,7 @@ use Rattle.std.proofs.lemmas.List.Concat.{flat_map-append}
 use Rattle.std.proofs.lemmas.List.Elements.{All-nil, All-cons, All-head, All-tail}
 use Rattle.fs_layout.specs.declared.acl_sector.AclEntry.{AclEntry}
 use Rattle.fs_layout.specs.Bytes.{IsBytes, splice, le16, le32, u16_of, u32_of}
-use Rattle.fs_layout.specs.AclSector.{FitsAclEntry, entry_bytes, entries_bytes, entry_of, entries_of}
+use Rattle.fs_layout.specs.AclSector.{FitsAclEntry, entry_bytes, entries_bytes, acl_entry_at, acl_entries_at}
 use Rattle.fs_layout.proofs.Fields.{back16, back32, read16, read32}
 use Rattle.fs_layout.proofs.Small.{u16_small, u32_small}
 use Rattle.fs_layout.proofs.Writes.{put_step}
@@ -38,28 +38,28 @@ put_more s t u es d place i fits lt e f =
     put_step s t u (entries_bytes (take i es)) (entry_bytes (get_or es i d)) place (place + 8 * i) (omega (arith, len)) (omega (arith, len)) e f
     ∙ ap (splice s place) (sym (entries_more es i d lt))
 
-entries_suc : (s : List ℕ) (place i : ℕ) → entries_of s place (suc i) ≡ entries_of s place i ++ entry_of s (place + 8 * i) ∷ []
-unfolding entries_of
-entries_suc s place zero = ap (λ (k : ℕ). entry_of s k ∷ []) (omega arith)
+entries_suc : (s : List ℕ) (place i : ℕ) → acl_entries_at s place (suc i) ≡ acl_entries_at s place i ++ acl_entry_at s (place + 8 * i) ∷ []
+unfolding acl_entries_at
+entries_suc s place zero = ap (λ (k : ℕ). acl_entry_at s k ∷ []) (omega arith)
 entries_suc s place (suc i) =
-    let ih : entries_of s (place + 8) (suc i) ≡ entries_of s (place + 8) i ++ entry_of s (place + 8 + 8 * i) ∷ [] =
+    let ih : acl_entries_at s (place + 8) (suc i) ≡ acl_entries_at s (place + 8) i ++ acl_entry_at s (place + 8 + 8 * i) ∷ [] =
     entries_suc s (place + 8) i in
     let k : place + 8 + 8 * i ≡ place + 8 * suc i = simp unary_clauses (omega arith) in
-    ap (λ (r : List AclEntry). entry_of s place ∷ r) (ih ∙ ap (λ (k : ℕ). entries_of s (place + 8) i ++ entry_of s k ∷ []) k)
+    ap (λ (r : List AclEntry). acl_entry_at s place ∷ r) (ih ∙ ap (λ (k : ℕ). acl_entries_at s (place + 8) i ++ acl_entry_at s k ∷ []) k)
 
-pub get_more : (s : List ℕ) (to : List AclEntry) (place i : ℕ) (x : AclEntry) → i < length to → take i to ≡ entries_of s place i
-    → x ≡ entry_of s (place + 8 * i) → take (i + 1) (set to i x) ≡ entries_of s place (i + 1)
+pub get_more : (s : List ℕ) (to : List AclEntry) (place i : ℕ) (x : AclEntry) → i < length to → take i to ≡ acl_entries_at s place i
+    → x ≡ acl_entry_at s (place + 8 * i) → take (i + 1) (set to i x) ≡ acl_entries_at s place (i + 1)
 get_more s to place i x lt e f =
-    take_more_set to i x lt ∙ ap (λ (r : List AclEntry). r ++ x ∷ []) e ∙ ap (λ (k : AclEntry). entries_of s place i ++ k ∷ []) f
+    take_more_set to i x lt ∙ ap (λ (r : List AclEntry). r ++ x ∷ []) e ∙ ap (λ (k : AclEntry). acl_entries_at s place i ++ k ∷ []) f
     ∙ sym (rw add-one (entries_suc s place i))
 
-pub none_read : (s : List ℕ) (place : ℕ) → [] ≡ entries_of s place 0
-unfolding entries_of
+pub none_read : (s : List ℕ) (place : ℕ) → [] ≡ acl_entries_at s place 0
+unfolding acl_entries_at
 none_read s place = refl
 
 -- what is read of the entries is spelled so
 entry_back : (s : List ℕ) (place : ℕ) → IsBytes s → place + 8 ≤ length s
-    → drop place s ≡ entry_bytes (entry_of s place) ++ drop (place + 8) s
+    → drop place s ≡ entry_bytes (acl_entry_at s place) ++ drop (place + 8) s
 entry_back s place fits room =
     let e0 : drop place s ≡ le16 (u16_of s place) ++ drop (place + 2) s = back16 s place fits (omega arith) in
     let e1 : drop (place + 2) s ≡ le16 (u16_of s (place + 2)) ++ drop (place + 2 + 2) s = back16 s (place + 2) fits (omega arith) in
@@ -73,21 +73,21 @@ entry_back s place fits room =
     ∙ sym (append_assoc (le16 (u16_of s place)) (le16 (u16_of s (place + 2)) ++ le32 (u32_of s (place + 4))) (drop (place + 8) s))
 
 pub entries_back : (n : ℕ) (s : List ℕ) (place : ℕ) → IsBytes s → place + 8 * n ≤ length s
-    → drop place s ≡ entries_bytes (entries_of s place n) ++ drop (place + 8 * n) s
-unfolding entries_bytes entries_of
+    → drop place s ≡ entries_bytes (acl_entries_at s place n) ++ drop (place + 8 * n) s
+unfolding entries_bytes acl_entries_at
 entries_back zero s place fits room = ap (λ (k : ℕ). drop k s) (omega arith)
 entries_back (suc n) s place fits room =
-    let first : drop place s ≡ entry_bytes (entry_of s place) ++ drop (place + 8) s = entry_back s place fits (omega arith) in
-    let rest : drop (place + 8) s ≡ entries_bytes (entries_of s (place + 8) n) ++ drop (place + 8 + 8 * n) s =
+    let first : drop place s ≡ entry_bytes (acl_entry_at s place) ++ drop (place + 8) s = entry_back s place fits (omega arith) in
+    let rest : drop (place + 8) s ≡ entries_bytes (acl_entries_at s (place + 8) n) ++ drop (place + 8 + 8 * n) s =
     entries_back n s (place + 8) fits (omega arith) in
     let k : place + 8 + 8 * n ≡ place + 8 * suc n = simp unary_clauses (omega arith) in
     first
-    ∙ ap (λ (r : List ℕ). entry_bytes (entry_of s place) ++ r) (rest ∙ ap (λ (m : ℕ). entries_bytes (entries_of s (place + 8) n) ++ drop m s) k)
-    ∙ sym (append_assoc (entry_bytes (entry_of s place)) (entries_bytes (entries_of s (place + 8) n)) (drop (place + 8 * suc n) s))
+    ∙ ap (λ (r : List ℕ). entry_bytes (acl_entry_at s place) ++ r) (rest ∙ ap (λ (m : ℕ). entries_bytes (acl_entries_at s (place + 8) n) ++ drop m s) k)
+    ∙ sym (append_assoc (entry_bytes (acl_entry_at s place)) (entries_bytes (acl_entries_at s (place + 8) n)) (drop (place + 8 * suc n) s))
 
 -- what is spelled so is read
 entry_read : (s : List ℕ) (place : ℕ) (e : AclEntry) (rest : List ℕ) → drop place s ≡ entry_bytes e ++ rest → FitsAclEntry e
-    → entry_of s place ≡ e
+    → acl_entry_at s place ≡ e
 unfolding le16
 entry_read s place e rest is f =
     let tag : u16_of s place ≡ e.tag = read16 s place e.tag (le16 e.perms ++ (le32 e.id ++ rest)) is f.tag in
@@ -98,33 +98,33 @@ entry_read s place e rest is f =
     rw (tag, perms, id) refl
 
 pub entries_read : (es : List AclEntry) (s : List ℕ) (place : ℕ) (rest : List ℕ) → drop place s ≡ entries_bytes es ++ rest
-    → All FitsAclEntry es → entries_of s place (length es) ≡ es
-unfolding entries_bytes entries_of
+    → All FitsAclEntry es → acl_entries_at s place (length es) ≡ es
+unfolding entries_bytes acl_entries_at
 entries_read [] s place rest is fits = refl
 entries_read (e ∷ es) s place rest is fits =
     let here : drop place s ≡ entry_bytes e ++ (entries_bytes es ++ rest) = is ∙ append_assoc (entry_bytes e) (entries_bytes es) rest in
-    let first : entry_of s place ≡ e = entry_read s place e (entries_bytes es ++ rest) here (All-head FitsAclEntry e es fits) in
+    let first : acl_entry_at s place ≡ e = entry_read s place e (entries_bytes es ++ rest) here (All-head FitsAclEntry e es fits) in
     let after : drop (place + 8) s ≡ entries_bytes es ++ rest =
     sym (drop-drop 8 place s) ∙ ap (drop 8) here ∙ drop_at (entry_bytes e) (entries_bytes es ++ rest) 8 (entry_len e) in
-    let others : entries_of s (place + 8) (length es) ≡ es = entries_read es s (place + 8) rest after (All-tail FitsAclEntry e es fits) in
-    ap (λ (x : AclEntry). x ∷ entries_of s (place + 8) (length es)) first ∙ ap (λ (r : List AclEntry). e ∷ r) others
+    let others : acl_entries_at s (place + 8) (length es) ≡ es = entries_read es s (place + 8) rest after (All-tail FitsAclEntry e es fits) in
+    ap (λ (x : AclEntry). x ∷ acl_entries_at s (place + 8) (length es)) first ∙ ap (λ (r : List AclEntry). e ∷ r) others
 
 -- what is read fits its fields
-pub length-entries_of : (s : List ℕ) (place n : ℕ) → length (entries_of s place n) ≡ n
-unfolding entries_of
+pub length-entries_of : (s : List ℕ) (place n : ℕ) → length (acl_entries_at s place n) ≡ n
+unfolding acl_entries_at
 length-entries_of s place zero = refl
 length-entries_of s place (suc n) = ap suc (length-entries_of s (place + 8) n)
 
-pub entries_fit : (n : ℕ) (s : List ℕ) (place : ℕ) → IsBytes s → All FitsAclEntry (entries_of s place n)
-unfolding entries_of
+pub entries_fit : (n : ℕ) (s : List ℕ) (place : ℕ) → IsBytes s → All FitsAclEntry (acl_entries_at s place n)
+unfolding acl_entries_at
 entries_fit zero s place fits = All-nil FitsAclEntry
 entries_fit (suc n) s place fits =
-    All-cons FitsAclEntry (entry_of s place) (entries_of s (place + 8) n)
+    All-cons FitsAclEntry (acl_entry_at s place) (acl_entries_at s (place + 8) n)
     (record { tag = u16_small s place fits; perms = u16_small s (place + 2) fits; id = u32_small s (place + 4) fits }) (entries_fit n s (place + 8) fits)
 
-pub take-entries_of : (s : List ℕ) (place k n : ℕ) → k ≤ n → take k (entries_of s place n) ≡ entries_of s place k
-unfolding entries_of
+pub take-entries_of : (s : List ℕ) (place k n : ℕ) → k ≤ n → take k (acl_entries_at s place n) ≡ acl_entries_at s place k
+unfolding acl_entries_at
 take-entries_of s place zero n le = refl
 take-entries_of s place (suc k) zero le = absurd (omega (arith, le))
 take-entries_of s place (suc k) (suc n) le =
-    ap (λ (r : List AclEntry). entry_of s place ∷ r) (take-entries_of s (place + 8) k n (omega (arith, le)))
+    ap (λ (r : List AclEntry). acl_entry_at s place ∷ r) (take-entries_of s (place + 8) k n (omega (arith, le)))

@@ -2,7 +2,7 @@
 use Rattle.std.proofs.Common.{◌≡◌, ◌≢◌, ℕ, zero, suc, ◌-◌, ◌*◌, ◌/◌, ◌%◌, List, get_or, refl, sym, ap, ◌∙◌, arith, inl, inr, ◌⊎◌}
 use Rattle.fs_layout.specs.declared.inode.Inode.{Inode}
 use Rattle.fs_layout.specs.Bytes.{SectorMap, u32_of}
-use Rattle.fs_layout.specs.Images.{entry, pointer, part, Owns, byte_in, byte_at, Holds, HasNoHole}
+use Rattle.fs_layout.specs.Images.{pointer_in, pointer, part, Owns, byte_in, byte_at, Holds, HasNoHole}
 use Rattle.fs_layout.specs.Images.{Part, AccessAcl, DefaultAcl, Indirect, DoubleIndirect, Block, Part-discrete}
 use Rattle.fs_layout.specs.Changes.{Keeps}
 use native.Mathlib.Decide.{ℕ_discrete}
@@ -26,7 +26,7 @@ indirect_is_no_block k e = cc
 
 -- ---- what is read of a sector depends on it alone
 -- a number of a sector of numbers
-pub entry_kept : (old new : SectorMap) (s k : ℕ) → (s ≢ 0 → new s ≡ old s) → entry new s k ≡ entry old s k
+pub entry_kept : (old new : SectorMap) (s k : ℕ) → (s ≢ 0 → new s ≡ old s) → pointer_in new s k ≡ pointer_in old s k
 entry_kept old new zero k h = refl
 entry_kept old new (suc s) k h = ap (λ (r : List ℕ). u32_of r (4 * k)) (h (λ e. absurd (omega arith)))
 
@@ -48,7 +48,7 @@ KeepsPointers old new v = v.indirect ≢ 0 → new v.indirect ≡ old v.indirect
 -- each pointer is the same then
 pub pointer_same : (old new : SectorMap) (v : Inode) → KeepsPointers old new v → (k : ℕ) → pointer new v k ≡ pointer old v k
 unfolding pointer
-pointer_same old new v h k = let e : entry new v.indirect (k - 12) ≡ entry old v.indirect (k - 12) = entry_kept old new v.indirect (k - 12) h in rw e refl
+pointer_same old new v h k = let e : pointer_in new v.indirect (k - 12) ≡ pointer_in old v.indirect (k - 12) = entry_kept old new v.indirect (k - 12) h in rw e refl
 
 -- and each part
 pub part_same : (old new : SectorMap) (v : Inode) → KeepsPointers old new v → (a : Part) → part new v a ≡ part old v a

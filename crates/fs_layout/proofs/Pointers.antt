@@ -4,7 +4,7 @@ use Rattle.std.proofs.lemmas.List.{get_or-set_same, get_or-set_other}
 use Rattle.std.proofs.lemmas.Bool.{cases_lt, lt-ltb, le-ltb}
 use Rattle.fs_layout.specs.declared.inode.Inode.{Inode}
 use Rattle.fs_layout.specs.Bytes.{SectorMap, splice, le32, zeros, u32_of}
-use Rattle.fs_layout.specs.Images.{entry, pointer, Part, AccessAcl, DefaultAcl, Indirect, DoubleIndirect, Block, part}
+use Rattle.fs_layout.specs.Images.{pointer_in, pointer, Part, AccessAcl, DefaultAcl, Indirect, DoubleIndirect, Block, part}
 use Rattle.fs_layout.specs.Changes.{Turns, Gains, Loses, with_direct}
 use Rattle.fs_layout.proofs.Parts.{KeepsPointers, entry_kept}
 use Rattle.fs_layout.proofs.Numbers.{are_numbers_32}
@@ -17,7 +17,7 @@ unfolding pointer
 pointer_direct image v k lt = rw (lt-ltb k 12 lt) refl
 
 -- the next 128 in the sector of pointers
-pub pointer_indirect : (image : SectorMap) (v : Inode) (k : ℕ) → 12 ≤ k → k < 140 → pointer image v k ≡ entry image v.indirect (k - 12)
+pub pointer_indirect : (image : SectorMap) (v : Inode) (k : ℕ) → 12 ≤ k → k < 140 → pointer image v k ≡ pointer_in image v.indirect (k - 12)
 unfolding pointer
 pointer_indirect image v k ge lt = rw (le-ltb k 12 ge, lt-ltb k 140 lt) refl
 
@@ -27,7 +27,7 @@ unfolding pointer
 pointer_past image v k ge = let low : 12 ≤ k = omega arith in rw (le-ltb k 12 low, le-ltb k 140 ge) refl
 
 -- a number of a sector that there is
-pub entry_there : (image : SectorMap) (s k : ℕ) → s ≢ 0 → entry image s k ≡ u32_of (image s) (4 * k)
+pub entry_there : (image : SectorMap) (s k : ℕ) → s ≢ 0 → pointer_in image s k ≡ u32_of (image s) (4 * k)
 entry_there image zero k some = absurd (some refl)
 entry_there image (suc s) k some = refl
 
@@ -35,7 +35,7 @@ entry_there image (suc s) k some = refl
 pub pointer_without : (image : SectorMap) (v : Inode) (k : ℕ) → 12 ≤ k → v.indirect ≡ 0 → pointer image v k ≡ 0
 pointer_without image v k ge none =
     elim (cases_lt k 140) [
-      | inl lt ↦ pointer_indirect image v k ge lt ∙ ap (λ (s : ℕ). entry image s (k - 12)) none
+      | inl lt ↦ pointer_indirect image v k ge lt ∙ ap (λ (s : ℕ). pointer_in image s (k - 12)) none
       | inr past ↦ pointer_past image v k past
     ]
 
@@ -44,7 +44,7 @@ pub pointer_alike : (old new : SectorMap) (v w : Inode) → w.direct ≡ v.direc
     → pointer new w k ≡ pointer old v k
 unfolding pointer
 pointer_alike old new v w direct indirect kept k =
-    let e : entry new v.indirect (k - 12) ≡ entry old v.indirect (k - 12) = entry_kept old new v.indirect (k - 12) kept in
+    let e : pointer_in new v.indirect (k - 12) ≡ pointer_in old v.indirect (k - 12) = entry_kept old new v.indirect (k - 12) kept in
     rw (direct, indirect, e) refl
 
 -- two inodes with the same sectors

@@ -4,7 +4,7 @@ use Rattle.std.specs.Prelude.{Contains}
 use Rattle.std.proofs.lemmas.Bool.{cases_eq, cond-true, cond-false, eq-eqb, ne_eqb}
 use Rattle.std.proofs.lemmas.List.{get_or_default}
 use Rattle.fs_layout.specs.Bytes.{SectorMap}
-use Rattle.fs_layout.specs.Commit.{AreApart, AreTargets, IsCommit, IsValidCommit, commit_bytes, targets_in}
+use Rattle.fs_layout.specs.Commit.{AreDistinct, AreTargets, IsCommit, IsValidCommit, commit_bytes, targets_in}
 use Rattle.fs_layout.specs.Recovered.{replayed, recovered}
 use Rattle.fs_layout.proofs.Targets.{no_targets, targets_in-commit, targets_in-invalid, targets_in-valid}
 
@@ -44,10 +44,10 @@ replayed-other image log (t ∷ ts) s none =
     cond-false (nat_eq s t) (image log) (replayed image (log + 1) ts s) there
     ∙ replayed-other image (log + 1) ts s (λ c. none (behind t ts s c))
 
-tail_apart : (t : ℕ) (ts : List ℕ) → AreApart (t ∷ ts) → AreApart ts
+tail_apart : (t : ℕ) (ts : List ℕ) → AreDistinct (t ∷ ts) → AreDistinct ts
 tail_apart t ts apart i j d lt fits = apart (suc i) (suc j) d (omega (arith, lt)) (omega (arith, fits))
 
-pub replayed-target : (image : SectorMap) (log : ℕ) (ts : List ℕ) (k : ℕ) → AreApart ts → k < length ts
+pub replayed-target : (image : SectorMap) (log : ℕ) (ts : List ℕ) (k : ℕ) → AreDistinct ts → k < length ts
     → replayed image log ts (get_or ts k 0) ≡ image (log + k)
 replayed-target image log [] k apart lt = absurd (omega (arith, lt))
 replayed-target image log (t ∷ ts) zero apart lt =

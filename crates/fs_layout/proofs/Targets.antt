@@ -11,7 +11,7 @@ use Rattle.std.proofs.lemmas.List.Elements.{All-nil}
 use Rattle.std.proofs.lemmas.Map.Made.{AllPairs-from_IsDistinct, IsDistinct-from_AllPairs}
 use Rattle.std.proofs.lemmas.Slice.Eq.{bytes_eq-Decides}
 use Rattle.fs_layout.specs.declared.fault.LayoutFault.{LayoutFault}
-use Rattle.fs_layout.specs.Commit.{AreApart, AreTargets, FitsCommit, IsCommit, IsValidCommit, are_apart, are_targets, commit_bytes, commit_of, targets_if, targets_in}
+use Rattle.fs_layout.specs.Commit.{AreDistinct, AreTargets, FitsCommit, IsCommit, IsValidCommit, are_apart, are_targets, commit_bytes, commit_of, targets_if, targets_in}
 use Rattle.fs_layout.proofs.Codecs.{same_ok}
 use Rattle.fs_layout.proofs.CommitLaw.{commit_codec}
 
@@ -36,7 +36,7 @@ passed_apart (n ∷ ns) e =
     let parts = and_parts (not (list_any (nat_eq n) ns)) (are_apart ns) e in
     (all_other n ns (not-true (list_any (nat_eq n) ns) parts.0), passed_apart ns parts.1)
 
-apart_decides : (ns : List ℕ) → Decides (are_apart ns) (AreApart ns)
+apart_decides : (ns : List ℕ) → Decides (are_apart ns) (AreDistinct ns)
 apart_decides ns =
     (λ e. AllPairs-from_IsDistinct Decides-eqb ns (passed_apart ns e), λ apart. apart_passes ns (IsDistinct-from_AllPairs Decides-eqb ns apart))
 

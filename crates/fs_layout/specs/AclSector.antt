@@ -30,16 +30,16 @@ pub record FitsAclSector (es : List AclEntry) : Type 0 where
   pub entries : All FitsAclEntry es
 
 -- the entry that stands at a place
-abbrev pub entry_of : List ℕ → ℕ → AclEntry
-entry_of s place = record { tag = u16_of s place; perms = u16_of s (place + 2); id = u32_of s (place + 4) }
+abbrev pub acl_entry_at : List ℕ → ℕ → AclEntry
+acl_entry_at s place = record { tag = u16_of s place; perms = u16_of s (place + 2); id = u32_of s (place + 4) }
 
 -- the n entries that stand from a place on
-unfoldable pub entries_of : List ℕ → ℕ → ℕ → List AclEntry
-entries_of s place zero = []
-entries_of s place (suc n) = entry_of s place ∷ entries_of s (place + 8) n
+unfoldable pub acl_entries_at : List ℕ → ℕ → ℕ → List AclEntry
+acl_entries_at s place zero = []
+acl_entries_at s place (suc n) = acl_entry_at s place ∷ acl_entries_at s (place + 8) n
 
 -- the entries that 512 bytes are, or the first fault
 unfoldable pub acl_sector_of : List ℕ → Result (List AclEntry) LayoutFault
 acl_sector_of s =
     if nat_lt 32 (u16_of s 0) then Err BadNumber else
-    (if are_zero (window s 2 6) && are_zero (drop (8 + 8 * u16_of s 0) s) then Ok (entries_of s 8 (u16_of s 0)) else Err NotZero)
+    (if are_zero (window s 2 6) && are_zero (drop (8 + 8 * u16_of s 0) s) then Ok (acl_entries_at s 8 (u16_of s 0)) else Err NotZero)

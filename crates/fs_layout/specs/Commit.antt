@@ -28,14 +28,14 @@ commit_of s =
     else Err BadMagic
 
 -- no number stands twice
-abbrev pub AreApart : List ℕ → Type 0
-AreApart targets = AllPairs (λ a b. a ≢ b) targets
+abbrev pub AreDistinct : List ℕ → Type 0
+AreDistinct targets = AllPairs (λ a b. a ≢ b) targets
 
 -- on a disk of so many sectors a commit may have these targets
 pub record AreTargets (size : ℕ) (targets : List ℕ) : Type 0 where
   pub few : length targets ≤ 126
   pub in_range : All (λ t. (128 ≤ t) × (t < size)) targets
-  pub apart : AreApart targets
+  pub apart : AreDistinct targets
 
 -- the content is a commit sector with these targets: idle without any, and otherwise sealed
 pub record IsCommit (size : ℕ) (content targets : List ℕ) : Type 0 where

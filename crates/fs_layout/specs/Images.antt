@@ -56,14 +56,14 @@ unfoldable pub inode_at : Place → SectorMap → ℕ → Inode
 inode_at p image n = inode_or_free (inode_of (stored p image n))
 
 -- number k of a sector of numbers; 0 where there is no such sector
-abbrev pub entry : SectorMap → ℕ → ℕ → ℕ
-entry image zero k = 0
-entry image (suc s) k = u32_of (image (suc s)) (4 * k)
+abbrev pub pointer_in : SectorMap → ℕ → ℕ → ℕ
+pointer_in image zero k = 0
+pointer_in image (suc s) k = u32_of (image (suc s)) (4 * k)
 
 -- the sector of block k of an inode; 0 for a hole
 unfoldable pub pointer : SectorMap → Inode → ℕ → ℕ
 pointer image v k =
-    if nat_lt k 12 then get_or v.direct k 0 else (if nat_lt k 140 then entry image v.indirect (k - 12) else 0)
+    if nat_lt k 12 then get_or v.direct k 0 else (if nat_lt k 140 then pointer_in image v.indirect (k - 12) else 0)
 
 -- what an inode may own a sector for
 pub data Part : Type 0 where

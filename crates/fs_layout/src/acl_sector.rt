@@ -3,7 +3,7 @@
 ghost use Rattle.std.specs.Prelude.{◌≡◌, ◌≤◌, ◌+◌, ◌*◌, List, length, IfOk, Ok};
 ghost use Rattle.fs_layout.specs.declared.acl_sector.AclEntry.{AclEntry};
 ghost use Rattle.fs_layout.specs.Bytes.{splice};
-ghost use Rattle.fs_layout.specs.AclSector.{acl_sector_bytes, acl_sector_of, entry_bytes, entries_bytes, entry_of, entries_of, FitsAclSector};
+ghost use Rattle.fs_layout.specs.AclSector.{acl_sector_bytes, acl_sector_of, entry_bytes, entries_bytes, acl_entry_at, acl_entries_at, FitsAclSector};
 
 use crate::bytes::{are_zero, put_u16, put_u32, put_zeros, u16_at, u32_at};
 use crate::fault::LayoutFault;
@@ -64,7 +64,7 @@ fn put_entries(to: &mut [u8], at: usize, entries: &[AclEntry])
 
 fn get_entry(from: &[u8], at: usize) -> AclEntry
     requires { at + 8 ≤ length from.now }
-    ensures { result ≡ entry_of from.now at }
+    ensures { result ≡ acl_entry_at from.now at }
 {
     AclEntry {
         tag: u16_at(from, at),
@@ -75,7 +75,7 @@ fn get_entry(from: &[u8], at: usize) -> AclEntry
 
 fn get_entries(from: &[u8], at: usize, to: &mut [AclEntry])
     requires { at + 8 * length to.old ≤ length from.now }
-    ensures { to.new ≡ entries_of from.now at (length to.old) }
+    ensures { to.new ≡ acl_entries_at from.now at (length to.old) }
 {
     for i in 0..to.len() {
         to[i] = get_entry(from, at + 8 * i);

@@ -1,7 +1,7 @@
 //! The commit sector, sector 1.
 
 ghost use Rattle.std.specs.Prelude.{◌≡◌, ◌≤◌, ◌↔◌, ℕ, List, [], length, IfOk, Ok, IsTrue};
-ghost use Rattle.fs_layout.specs.Commit.{commit_bytes, commit_of, FitsCommit, AreApart, AreTargets};
+ghost use Rattle.fs_layout.specs.Commit.{commit_bytes, commit_of, FitsCommit, AreDistinct, AreTargets};
 
 use crate::bytes::{are_zero, get_u32s, put_u32, put_u32s, put_zeros, u32_at};
 use crate::fault::LayoutFault;
@@ -127,7 +127,7 @@ impl Commit {
 }
 
 fn are_apart(targets: &[u32]) -> bool
-    ensures { IsTrue result ↔ AreApart targets.now }
+    ensures { IsTrue result ↔ AreDistinct targets.now }
 {
     for i in 0..targets.len() {
         for j in 0..i {

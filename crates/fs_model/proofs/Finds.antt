@@ -9,7 +9,7 @@ use Rattle.fs_model.specs.Maps.{get, name_cmp, IsMap}
 use Rattle.fs_model.specs.Nodes.{Node, Body, File, Dir, Link, is_directory, names_in}
 use Rattle.fs_model.specs.Trees.{Tree, Room, node_at, names_for, parent, IsTree, IsBody}
 use Rattle.fs_model.specs.Parts.{Parts, parts_of, start_of, is_empty}
-use Rattle.fs_model.specs.Trails.{Form, Trail, Outcome, Faulty, Absent, Reaches, Through, GoesOn, reached, reached_body, number_of, arrival, looked_up, is_dot, is_dot_dot, onward, through_if, lookups_from, trail_with, trail_of, follows_last}
+use Rattle.fs_model.specs.Trails.{Form, Trail, Outcome, Faulty, Absent, Reaches, Through, GoesOn, reached, reached_body, named_inode, arrival, looked_up, is_dot, is_dot_dot, onward, through_if, lookups_from, trail_with, trail_of, follows_last}
 use Rattle.fs_model.proofs.Entries.{at_same, at_other, right}
 
 abbrev pub IsThere : Tree → ℕ → Type 0
@@ -53,7 +53,7 @@ module _ (room : Room) (t : Tree) (is : IsTree room t) where
   entry_there (Link target) name n h e = absurd cc
 
   number_there : (place : ℕ) (node : Node) (name : List ℕ) (n : ℕ) → node_at t place ≡ Some node
-      → number_of t place (names_in node.body) name ≡ Some n → IsThere t n
+      → named_inode t place (names_in node.body) name ≡ Some n → IsThere t n
   number_there place node name n at e = go (is_dot name) (is_dot_dot name) e
     where
       go : (dot dots : Bool) → cond dot (Some place) (cond dots (Some (parent t place)) (get name_cmp (names_in node.body) name)) ≡ Some n → IsThere t n
@@ -87,10 +87,10 @@ module _ (room : Room) (t : Tree) (is : IsTree room t) where
   lookup_reached is_last follow place name None at = tt
   lookup_reached is_last follow place name (Some node) at = go (is_directory node.body) (nat_lt name_limit (length name))
     where
-      go : (directory long : Bool) → Reached (cond (not directory) (Faulty ENOTDIR) (cond long (Faulty ENAMETOOLONG) (arrival t is_last follow (number_of t place (names_in node.body) name))))
+      go : (directory long : Bool) → Reached (cond (not directory) (Faulty ENOTDIR) (cond long (Faulty ENAMETOOLONG) (arrival t is_last follow (named_inode t place (names_in node.body) name))))
       go false long = tt
       go true true = tt
-      go true false = arrival_reached is_last follow (number_of t place (names_in node.body) name) (λ n e. number_there place node name n at e)
+      go true false = arrival_reached is_last follow (named_inode t place (names_in node.body) name) (λ n e. number_there place node name n at e)
 
   -- what the trail found is there
   abbrev pub FindsThere : Trail → Type 0

@@ -17,7 +17,7 @@ use Rattle.fs_layout.specs.Images.{pointer, byte_in, byte_at, Holds, HasNoHole}
 use Rattle.fs_layout.proofs.Pointers.{pointer_direct, pointer_without}
 use Rattle.fs_layout.proofs.SplicedBytes.{get_or-zeros}
 use Rattle.fs_model.specs.Nodes.{File, Dir, Link, Directory}
-use Rattle.fs_model.specs.StoredNodes.{acl_content, AreApart, slots_bytes, names_of_slots, HoldsNode}
+use Rattle.fs_model.specs.StoredNodes.{acl_content, HaveDistinctNames, slots_bytes, names_of_slots, HoldsNode}
 
 -- the inode has one block, with these bytes and zeros behind them
 record HasOneBlock (image : SectorMap) (v : Inode) (s : ℕ) (bytes : List ℕ) : Type 0 where
@@ -177,7 +177,7 @@ letters_differ e = let first = ap (λ s. get_or s 0 0) e in omega (arith, first)
 abbrev DifferInName : NamedInode → NamedInode → Type 0
 DifferInName x y = x.name ≢ y.name
 
-slots_are_apart : AreApart slots
+slots_are_apart : HaveDistinctNames slots
 slots_are_apart =
     AllPairs-cons DifferInName slot_b (slot_a ∷ []) (All-cons (DifferInName slot_b) slot_a [] letters_differ (All-nil (DifferInName slot_b)))
     (AllPairs-cons DifferInName slot_a [] (All-nil (DifferInName slot_a)) (λ i j d lt within. absurd (omega (arith, within))))

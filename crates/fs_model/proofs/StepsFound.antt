@@ -9,7 +9,7 @@ use Rattle.fs_model.specs.Maps.{get, name_cmp}
 use Rattle.fs_model.specs.Nodes.{Node, is_directory, names_in}
 use Rattle.fs_model.specs.Trees.{Tree, Room, node_at, parent, IsTree}
 use Rattle.fs_model.specs.Parts.{parts_of, start_of, is_empty}
-use Rattle.fs_model.specs.Trails.{Form, Parent, Lookup, Trail, follows_last, is_dot, is_dot_dot, number_of, trail_of}
+use Rattle.fs_model.specs.Trails.{Form, Parent, Lookup, Trail, follows_last, is_dot, is_dot_dot, named_inode, trail_of}
 use Rattle.fs_model.specs.Walks.{Found, Top, Dot, DotDot, Name, last_of_name, last_lookup, found_of, first_refused, first_refusal, slash_refusal}
 use Rattle.fs_model.specs.Scenes.{is_special, is_top, is_last_dot, is_last_dot_dot}
 use Rattle.fs_model.specs.Steps.{trail_in, found_by}
@@ -35,12 +35,12 @@ pub record IsWalked (t : Tree) (form : Form) (f : Found) : Type 0 where
 
 -- neither `.` nor `..`
 other_number : (t : Tree) (place : ℕ) (names : List (List ℕ × ℕ)) (name : List ℕ) (o : Option ℕ) → is_dot name ≡ false → is_dot_dot name ≡ false
-    → number_of t place names name ≡ o → get name_cmp names name ≡ o
+    → named_inode t place names name ≡ o → get name_cmp names name ≡ o
 other_number t place names name o dot dots e =
     sym (ap (λ b. cond b (Some place) (cond (is_dot_dot name) (Some (parent t place)) (get name_cmp names name))) dot
     ∙ ap (λ b. cond b (Some (parent t place)) (get name_cmp names name)) dots) ∙ e
 
-absent_dots : (t : Tree) (place : ℕ) (names : List (List ℕ × ℕ)) (name : List ℕ) → number_of t place names name ≡ None
+absent_dots : (t : Tree) (place : ℕ) (names : List (List ℕ × ℕ)) (name : List ℕ) → named_inode t place names name ≡ None
     → (is_dot name ≡ false) × (is_dot_dot name ≡ false)
 absent_dots t place names name e = go (is_dot name) (is_dot_dot name) e
   where

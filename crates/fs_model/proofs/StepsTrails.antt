@@ -11,7 +11,7 @@ use Rattle.fs_model.specs.Nodes.{Node, Body, File, Dir, Link, is_directory, name
 use Rattle.fs_model.specs.Trees.{Tree, Room, node_at, IsTree, IsTarget, IsBody}
 use Rattle.fs_model.specs.Demands.{failed_with, search_on}
 use Rattle.fs_model.specs.Parts.{parts_of, start_of, is_empty}
-use Rattle.fs_model.specs.Trails.{Form, follows_last, Lookup, Trail, Outcome, Faulty, Absent, Reaches, Through, GoesOn, reached_body, reached, number_of, arrival, looked_up, through_if, onward, lookups_from, trail_with, trail_of}
+use Rattle.fs_model.specs.Trails.{Form, follows_last, Lookup, Trail, Outcome, Faulty, Absent, Reaches, Through, GoesOn, reached_body, reached, named_inode, arrival, looked_up, through_if, onward, lookups_from, trail_with, trail_of}
 use Rattle.fs_model.specs.Walks.{first_refused, lookup_refusal}
 use Rattle.fs_model.proofs.StepsDemands.{first_met, then_met}
 use Rattle.fs_model.proofs.StepsComponents.{IsComponent, AreComponents, ArePathBytes, parts_are, components_append, target_bytes}
@@ -41,7 +41,7 @@ pub record WasLookedUp (t : Tree) (place : ℕ) (name : List ℕ) (o : Option �
   pub stands : node_at t place ≡ Some node
   pub directory : IsTrue (is_directory node.body)
   pub short : length name ≤ name_limit
-  pub leads : number_of t place (names_in node.body) name ≡ o
+  pub leads : named_inode t place (names_in node.body) name ≡ o
 
 module _ (room : Room) (t : Tree) (is : IsTree room t) (follow : Bool) where
   abbrev LooksUp : Bool → ℕ → List ℕ → Outcome → Type 0
@@ -77,11 +77,11 @@ module _ (room : Room) (t : Tree) (is : IsTree room t) (follow : Bool) where
   looks_up is_last place name (Some node) at = go (is_directory node.body) refl (nat_lt name_limit (length name)) refl
     where
       go : (directory : Bool) → is_directory node.body ≡ directory → (long : Bool) → nat_lt name_limit (length name) ≡ long
-          → LooksUp is_last place name (cond (not directory) (Faulty ENOTDIR) (cond long (Faulty ENAMETOOLONG) (arrival t is_last follow (number_of t place (names_in node.body) name))))
+          → LooksUp is_last place name (cond (not directory) (Faulty ENOTDIR) (cond long (Faulty ENAMETOOLONG) (arrival t is_last follow (named_inode t place (names_in node.body) name))))
       go false d long l = tt
       go true d true l = tt
       go true d false l =
-          arrives is_last place name (number_of t place (names_in node.body) name)
+          arrives is_last place name (named_inode t place (names_in node.body) name)
           (record { node = node; stands = at; directory = d; short = grind (arith, nat_tests); leads = refl })
 
   -- ---- the last lookup

@@ -32,7 +32,7 @@ use Rattle.fs_model.specs.Maps.{name_cmp, get}
 use Rattle.fs_model.specs.Nodes.{Node, Body, File, Dir, Link, target_in, sectors_for, sectors_of}
 use Rattle.fs_model.specs.Trees.{Tree, Room, node_at, names_of, parent, sectors_needed, IsBody, IsTree}
 use Rattle.fs_model.specs.States.{MayBeFree}
-use Rattle.fs_model.specs.StoredNodes.{HoldsAcl, kept_acl, AreApart, slots_bytes, names_of_slots, HoldsBody, HoldsNode}
+use Rattle.fs_model.specs.StoredNodes.{HoldsAcl, kept_acl, HaveDistinctNames, slots_bytes, names_of_slots, HoldsBody, HoldsNode}
 use Rattle.fs_model.specs.Stands.{HoldsAll, placed, Stands}
 use Rattle.fs_model.proofs.Counting.{Names, in_first, in_second, passes_or_named}
 use Rattle.fs_model.proofs.Entries.{in_rest}
@@ -156,7 +156,7 @@ unfolding names_of_slots
 slots_are_map [] = tt
 slots_are_map (x ∷ slots) = is_sorted-put name_cmp nat_list_cmp_total x.name x.inode (names_of_slots slots) (slots_are_map slots)
 
-length-names : (slots : List NamedInode) → AreApart slots → length (names_of_slots slots) ≡ length slots
+length-names : (slots : List NamedInode) → HaveDistinctNames slots → length (names_of_slots slots) ≡ length slots
 unfolding names_of_slots
 length-names [] apart = refl
 length-names (x ∷ slots) apart =

@@ -1,7 +1,7 @@
 -- What an inode holds of a node, written from the node to the bytes: our own layout.
 --     Placed        a node, how many names it has, and where it is named
 --     acl_content, HoldsAcl        an ACL as a sector
---     slots_bytes, names_of_slots, AreApart        the names of a directory as slots
+--     slots_bytes, names_of_slots, HaveDistinctNames        the names of a directory as slots
 --     HoldsFile, HoldsDirectory, HoldsLink, HoldsNode        one inode's node
 use Rattle.std.specs.Prelude.{◌≡◌, ◌≢◌, ℕ, List, [], ◌∷◌, map, Option, Some, None, if◌then◌else◌, All, AllPairs}
 use Rattle.std.specs.List.{flat_map}
@@ -52,8 +52,8 @@ names_of_slots [] = []
 names_of_slots (slot ∷ slots) = with_entry name_cmp (names_of_slots slots) slot.name slot.inode
 
 -- no name stands twice
-abbrev pub AreApart : List NamedInode → Type 0
-AreApart slots = AllPairs (λ a b. a.name ≢ b.name) slots
+abbrev pub HaveDistinctNames : List NamedInode → Type 0
+HaveDistinctNames slots = AllPairs (λ a b. a.name ≢ b.name) slots
 
 -- ---- nodes
 
@@ -69,7 +69,7 @@ pub record HoldsDirectory (image : SectorMap) (v : Inode) (a : AccessList) (d : 
   pub kind : v.kind ≡ kinds.Directory
   pub slots : List NamedInode
   pub names : d.names ≡ names_of_slots slots
-  pub apart : AreApart slots
+  pub apart : HaveDistinctNames slots
   pub each : All FitsSlot slots
   pub holds : Holds image v (slots_bytes slots)
   pub whole : HasNoHole image v

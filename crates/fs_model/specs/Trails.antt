@@ -59,8 +59,8 @@ is_dot_dot (b ∷ c ∷ []) = b == 46 && c == 46
 is_dot_dot _ = false
 
 -- what a name leads to in a directory with these names: `.` to itself and `..` to its parent
-abbrev pub number_of : Tree → ℕ → List (List ℕ × ℕ) → List ℕ → Option ℕ
-number_of t place names name =
+abbrev pub named_inode : Tree → ℕ → List (List ℕ × ℕ) → List ℕ → Option ℕ
+named_inode t place names name =
     if is_dot name then Some place else (if is_dot_dot name then Some (parent t place) else get name_cmp names name)
 
 -- a name that isn't there is ENOENT where more names follow; a link is followed there in any case
@@ -74,7 +74,7 @@ looked_up t is_last follow place name None = Faulty ENOTDIR
 looked_up t is_last follow place name (Some node) =
     if not (is_directory node.body) then Faulty ENOTDIR
     else (if nat_lt name_limit (length name) then Faulty ENAMETOOLONG
-    else arrival t is_last follow (number_of t place (names_in node.body) name))
+    else arrival t is_last follow (named_inode t place (names_in node.body) name))
 
 abbrev pub after_lookup : ℕ → List ℕ → Trail → Trail
 after_lookup place name trail =

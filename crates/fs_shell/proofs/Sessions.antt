@@ -12,7 +12,7 @@ use Rattle.fs_shell.specs.declared.fault.RunFault.{RunFault}
 use Rattle.fs_shell.specs.declared.fault.RunFault.TheVariants.{TooMuch}
 use Rattle.fs_shell.specs.Lines.{lines_of}
 use Rattle.fs_shell.specs.Scripts.{script_limit, IsTaken, LineRead, IsOver}
-use Rattle.fs_shell.specs.Runs.{answer_text, answers_text, faults_in, count_faults, LineAnswers, Answers, Ran}
+use Rattle.fs_shell.specs.Runs.{answer_text, answers_text, faults_counted, count_faults, LineAnswers, ScriptAnswers, Ran}
 use Rattle.fs_shell.proofs.Cut.{cut_answers}
 
 -- these lines have been taken from an input, and what is left has the others
@@ -25,7 +25,7 @@ pub record Running {S : Type 0} (serves : S → Event → ReplyType → S → Ty
   pub lines : List (List ℕ)
   pub answers : List Answer
   pub text : List ℕ
-  pub served : Answers serves old lines answers now
+  pub served : ScriptAnswers serves old lines answers now
   pub taken : AreTaken lines input left
   pub consumed : Consumes input left text
   pub counted : given ≡ length text
@@ -34,14 +34,14 @@ pub record Running {S : Type 0} (serves : S → Event → ReplyType → S → Ty
   pub faults_counted : count.faults ≡ count_faults answers
 
 answers_more : {S : Type 0} (serves : S → Event → ReplyType → S → Type 0) (old mid new : S) (lines : List (List ℕ)) (answers : List Answer) (line : List ℕ) (answer : Answer)
-    → Answers serves old lines answers mid → LineAnswers serves line mid answer new → Answers serves old (lines ++ line ∷ []) (answers ++ answer ∷ []) new
+    → ScriptAnswers serves old lines answers mid → LineAnswers serves line mid answer new → ScriptAnswers serves old (lines ++ line ∷ []) (answers ++ answer ∷ []) new
 answers_more serves old mid new [] [] line answer before last = (new, subst (λ s. LineAnswers serves line s answer new) before last, refl)
 answers_more serves old mid new [] (a ∷ answers) line answer before last = absurd before
 answers_more serves old mid new (l ∷ lines) [] line answer before last = absurd before
 answers_more serves old mid new (l ∷ lines) (a ∷ answers) line answer before last =
     (before.0, before.1, answers_more serves before.0 mid new lines answers line answer before.2 last)
 
-count_more : (answers : List Answer) (answer : Answer) → count_faults (answers ++ answer ∷ []) ≡ count_faults answers + faults_in answer
+count_more : (answers : List Answer) (answer : Answer) → count_faults (answers ++ answer ∷ []) ≡ count_faults answers + faults_counted answer
 count_more [] answer = omega arith
 count_more (a ∷ answers) answer = omega (arith, count_more answers answer)
 
@@ -75,7 +75,7 @@ starts serves input left before given count s same none lines faults = record {
 pub goes_on : {S : Type 0} (serves : S → Event → ReplyType → S → Type 0) (input left next before after later : Option (List ℕ)) (given more : ℕ) (count new_count : Count) (old now new : S)
     (line : List ℕ) (answer : Answer)
     → Running serves input left before after given count old now → LineRead left next given more line → LineAnswers serves line now answer new
-    → Appends after later (answer_text answer) → new_count.lines ≡ count.lines + 1 → new_count.faults ≡ count.faults + faults_in answer
+    → Appends after later (answer_text answer) → new_count.lines ≡ count.lines + 1 → new_count.faults ≡ count.faults + faults_counted answer
     → Running serves input next before later more new_count old new
 goes_on serves input left next before after later given more count new_count old now new line answer run read answered wrote lines faults = record {
   lines = run.lines ++ read.whole ∷ [];
@@ -176,7 +176,7 @@ ends_at_once serves input before s fault other =
     ends_early serves input input before before before 0 (record { lines = 0; faults = 0 }) s s fault
     (starts serves input input before 0 (record { lines = 0; faults = 0 }) s refl refl refl refl) (λ much. absurd (other much))
 
-pub one_fault_at_most : (answer : Answer) → faults_in answer ≤ 1
+pub one_fault_at_most : (answer : Answer) → faults_counted answer ≤ 1
 one_fault_at_most Nothing = omega arith
 one_fault_at_most (Reply reply) = omega arith
 one_fault_at_most (Fault fault) = omega arith

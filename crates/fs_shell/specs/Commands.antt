@@ -1,6 +1,6 @@
 -- The commands, and what a line says.
---     Reading, Row        what stands before a command and what its words say; a row of the table
---     row_of        the table
+--     Reading, CommandRow        what stands before a command and what its words say; a row of the table
+--     command_row        the table
 --     has_words        whether a line is read word by word
 --     line_value        what a line says, or the first thing that is wrong with it
 use Rattle.std.specs.Prelude.{ℕ, nat_le, nat_lt, Bool, true, false, not, ◌&&◌, List, [], ◌∷◌, length, codes, Option, None, Some, Result, Ok, Err, if◌then◌else◌}
@@ -22,13 +22,13 @@ pub data Reading : Type 0 where
   behind_pid : (ℕ → List (List ℕ) → Result Line LineFault) → Reading
 
 -- name, the fewest and the most words behind it, and what they say
-pub record Row : Type 0 where
+pub record CommandRow : Type 0 where
   pub name : List ℕ
   pub least : ℕ
   pub most : ℕ
   pub reading : Reading
 
-abbrev pub row : List ℕ → ℕ → ℕ → Reading → Row
+abbrev pub row : List ℕ → ℕ → ℕ → Reading → CommandRow
 row name least most reading = record { name = name; least = least; most = most; reading = reading }
 
 -- ---- what the words say, from left to right; how many there are has been settled before
@@ -66,11 +66,11 @@ chmod_words pid (path ∷ mode ∷ []) = do
 chmod_words pid _ = Err WordCount
 
 -- The table.
-abbrev pub row_of : Command → Row
-row_of SpawnCommand = row (codes "spawn") 2 3 (alone spawn_words)
-row_of StatCommand = row (codes "stat") 1 1 (behind_pid stat_words)
-row_of AccessCommand = row (codes "access") 2 2 (behind_pid access_words)
-row_of ChmodCommand = row (codes "chmod") 2 2 (behind_pid chmod_words)
+abbrev pub command_row : Command → CommandRow
+command_row SpawnCommand = row (codes "spawn") 2 3 (alone spawn_words)
+command_row StatCommand = row (codes "stat") 1 1 (behind_pid stat_words)
+command_row AccessCommand = row (codes "access") 2 2 (behind_pid access_words)
+command_row ChmodCommand = row (codes "chmod") 2 2 (behind_pid chmod_words)
 
 abbrev pub commands : List Command
 commands = SpawnCommand ∷ StatCommand ∷ AccessCommand ∷ ChmodCommand ∷ []
@@ -88,7 +88,7 @@ same false b = not b
 -- the command with this name that stands alone, or behind a pid
 abbrev pub command_named : Bool → List ℕ → Option Command
 command_named has_pid name =
-    find (λ c. same has_pid (is_behind_pid (row_of c).reading) && bytes_eq name (row_of c).name) commands
+    find (λ c. same has_pid (is_behind_pid (command_row c).reading) && bytes_eq name (command_row c).name) commands
 
 -- the word before the command, if one is there, and the words behind it
 abbrev pub read_words : Reading → List ℕ → List (List ℕ) → Result Line LineFault
@@ -97,15 +97,15 @@ read_words (behind_pid reads) pid words = do
   pid ← pid_of pid
   reads pid words
 
-abbrev pub takes_count : Row → ℕ → Bool
+abbrev pub takes_count : CommandRow → ℕ → Bool
 takes_count r count = nat_le r.least count && nat_le count r.most
 
-abbrev pub read_row : Row → List ℕ → List (List ℕ) → Result Line LineFault
-read_row r pid words = if takes_count r (length words) then read_words r.reading pid words else Err WordCount
+abbrev pub row_value : CommandRow → List ℕ → List (List ℕ) → Result Line LineFault
+row_value r pid words = if takes_count r (length words) then read_words r.reading pid words else Err WordCount
 
 abbrev pub read_command : Option Command → List ℕ → List (List ℕ) → Result Line LineFault
 read_command None pid words = Err UnknownCommand
-read_command (Some c) pid words = read_row (row_of c) pid words
+read_command (Some c) pid words = row_value (command_row c) pid words
 
 abbrev pub begins_with_digit : List ℕ → Bool
 begins_with_digit [] = false

@@ -2,7 +2,7 @@
 --     Gives        what reading comes to
 --     event_of, IsOffered        what a line asks the file system
 --     answer_text, answers_text, count_faults        what is written for answers
---     LineAnswers, Answers        one line, and all lines of a script
+--     LineAnswers, ScriptAnswers        one line, and all lines of a script
 --     Ran        a run of a script
 use Rattle.std.specs.Prelude.{◌≡◌, ◌≢◌, ◌≤◌, ◌+◌, ℕ, true, List, [], ◌∷◌, ◌++◌, length, Option, None, Some, IfSome, IsTrue, Result, Ok, Err, MatchResult}
 use Rattle.std.specs.List.{flat_map}
@@ -54,14 +54,14 @@ abbrev pub answers_text : List Answer → List ℕ
 answers_text answers = flat_map answer_text answers
 
 -- how many lines have something wrong
-abbrev pub faults_in : Answer → ℕ
-faults_in Nothing = 0
-faults_in (Reply _) = 0
-faults_in (Fault _) = 1
+abbrev pub faults_counted : Answer → ℕ
+faults_counted Nothing = 0
+faults_counted (Reply _) = 0
+faults_counted (Fault _) = 1
 
 abbrev pub count_faults : List Answer → ℕ
 count_faults [] = 0
-count_faults (answer ∷ answers) = faults_in answer + count_faults answers
+count_faults (answer ∷ answers) = faults_counted answer + count_faults answers
 
 -- ---- runs
 
@@ -78,10 +78,10 @@ pub data LineAnswers {S : Type 0} (serves : S → Event → ReplyType → S → 
       → answer ≡ Reply reply → LineAnswers serves line old answer new
 
 -- The lines of a script, one after another.
-abbrev pub Answers : {S : Type 0} → (S → Event → ReplyType → S → Type 0) → S → List (List ℕ) → List Answer → S → Type 0
-Answers serves old [] [] new = new ≡ old
-Answers {S} serves old (line ∷ lines) (answer ∷ answers) new = (mid : S) × LineAnswers serves line old answer mid × Answers serves mid lines answers new
-Answers serves old _ _ new = ⊥
+abbrev pub ScriptAnswers : {S : Type 0} → (S → Event → ReplyType → S → Type 0) → S → List (List ℕ) → List Answer → S → Type 0
+ScriptAnswers serves old [] [] new = new ≡ old
+Answers {S} serves old (line ∷ lines) (answer ∷ answers) new = (mid : S) × LineAnswers serves line old answer mid × ScriptAnswers serves mid lines answers new
+ScriptAnswers serves old _ _ new = ⊥
 
 -- The script is done: its lines are all lines of the input, and their answers are what was written.
 pub record Finished (input : Option (List ℕ)) (before after : Option (List ℕ)) (lines : List (List ℕ)) (answers : List Answer) (count : Count) : Type 0 where
@@ -92,7 +92,7 @@ pub record Finished (input : Option (List ℕ)) (before after : Option (List ℕ
   pub fits : IfSome input (λ xs. length xs ≤ script_limit)
 
 -- It ended early: after some of the lines.
-pub record Stopped (input : Option (List ℕ)) (lines : List (List ℕ)) (fault : RunFault) : Type 0 where
+pub record EndedEarly (input : Option (List ℕ)) (lines : List (List ℕ)) (fault : RunFault) : Type 0 where
   pub rest : List (List ℕ)
   pub first_lines : IfSome input (λ xs. lines_of xs ≡ lines ++ rest)
   pub too_much : fault ≡ TooMuch → IsOver input 0
@@ -101,5 +101,5 @@ pub record Stopped (input : Option (List ℕ)) (lines : List (List ℕ)) (fault 
 pub record Ran {S : Type 0} (serves : S → Event → ReplyType → S → Type 0) (input before after : Option (List ℕ)) (old new : S) (result : Result Count RunFault) : Type 0 where
   pub lines : List (List ℕ)
   pub answers : List Answer
-  pub served : Answers serves old lines answers new
-  pub outcome : MatchResult result (Finished input before after lines answers) (Stopped input lines)
+  pub served : ScriptAnswers serves old lines answers new
+  pub outcome : MatchResult result (Finished input before after lines answers) (EndedEarly input lines)

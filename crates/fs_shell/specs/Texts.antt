@@ -7,7 +7,7 @@ use Rattle.std.specs.Prelude.{ℕ, ◌+◌, ◌/◌, ◌%◌, nat_le, Bool, fals
 use Rattle.std.specs.List.{flat_map}
 use Rattle.std.specs.Fmt.{decimal, digit_glyph}
 use Rattle.posix_acl.specs.AccessList.{AccessList}
-use Rattle.posix_acl.specs.Text.{written, perms_text}
+use Rattle.posix_acl.specs.Text.{written_text, perms_text}
 use Rattle.posix_acl.specs.declared.text.TextForm.TheVariants.{Short}
 use Rattle.fs_cred.specs.Errnos.{errno_name, errno_number}
 use Rattle.fs_cred.specs.declared.errno.Errno.{Errno}
@@ -107,7 +107,7 @@ status_text s =
 
 abbrev pub acl_text : Option AccessList → List ℕ
 acl_text None = codes "none"
-acl_text (Some acl) = written Short acl
+acl_text (Some acl) = written_text Short acl
 
 -- a space, the number of the inode and the name
 abbrev pub named_text : List ℕ × ℕ → List ℕ

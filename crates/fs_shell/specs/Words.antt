@@ -7,6 +7,7 @@ use Rattle.std.specs.Fmt.{decimal}
 use Rattle.std.specs.Str.{bytes_eq}
 use Rattle.std.specs.Str.Parse.{digits_value}
 use Rattle.posix_acl.specs.declared.entry.Perms.{Perms}
+use Rattle.posix_acl.specs.Text.{is_comma}
 use Rattle.fs_shell.specs.declared.line.LineFault.{LineFault}
 use Rattle.fs_shell.specs.declared.line.LineFault.TheVariants.{BadNumber}
 use Rattle.fs_shell.specs.Lines.{each}
@@ -25,9 +26,6 @@ id_of word = number_of 32 word
 
 abbrev pub pid_of : List ℕ → Result ℕ LineFault
 pid_of word = number_of 64 word
-
-abbrev pub is_comma : ℕ → Bool
-is_comma b = b == 44
 
 -- One to sixteen ids with commas between them.
 unfoldable pub groups_of : List ℕ → Result (List ℕ) LineFault

@@ -33,11 +33,11 @@ pub struct Count {
 
 impl Answer {
     ghost use Rattle.std.specs.Prelude.{◌≡◌};
-    ghost use Rattle.fs_shell.specs.Runs.{faults_in};
+    ghost use Rattle.fs_shell.specs.Runs.{faults_counted};
 
     /// 1 where the line had a fault, and else 0.
     pub fn faults(&self) -> usize
-        ensures { result ≡ faults_in self.now }
+        ensures { result ≡ faults_counted self.now }
     {
         match self {
             Answer::Nothing | Answer::Reply(_) => 0,

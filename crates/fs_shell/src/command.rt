@@ -28,7 +28,7 @@ const COMMANDS: [Command; 4] = [
 
 impl Command {
     ghost use Rattle.std.specs.Prelude.{◌≡◌};
-    ghost use Rattle.fs_shell.specs.Commands.{row_of, is_behind_pid, takes_count, command_named};
+    ghost use Rattle.fs_shell.specs.Commands.{command_row, is_behind_pid, takes_count, command_named};
 
     /// The command with this name that stands alone, or behind a pid.
     pub fn named(name: &[u8], behind_pid: bool) -> Option<Command>
@@ -39,7 +39,7 @@ impl Command {
     }
 
     fn name(self) -> &'static str
-        ensures { result.now ≡ (row_of self).name }
+        ensures { result.now ≡ (command_row self).name }
     {
         match self {
             Command::Spawn => "spawn",
@@ -51,14 +51,14 @@ impl Command {
 
     // Whether the pid of a process stands before it.
     fn is_behind_pid(self) -> bool
-        ensures { result ≡ is_behind_pid (row_of self).reading }
+        ensures { result ≡ is_behind_pid (command_row self).reading }
     {
         !matches!(self, Command::Spawn)
     }
 
     // Whether so many words may stand behind it.
     fn takes(self, count: usize) -> bool
-        ensures { result ≡ takes_count (row_of self) count }
+        ensures { result ≡ takes_count (command_row self) count }
     {
         match self {
             Command::Spawn => count == 2 || count == 3,

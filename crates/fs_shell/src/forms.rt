@@ -3,7 +3,8 @@ ghost use Rattle.std.specs.Prelude.{◌≡◌, ◌≢◌, ◌↔◌, ◌<◌, �
 ghost use Rattle.std.specs.Fmt.{decimal};
 ghost use Rattle.std.specs.List.{slice_split};
 ghost use Rattle.posix_acl.specs.Numbers.{StartsPlainly};
-ghost use Rattle.fs_shell.specs.Words.{id_of, pid_of, is_comma, groups_of, perms_in, mode_of, octal_digits, is_octal_digit};
+ghost use Rattle.posix_acl.specs.Text.{is_comma};
+ghost use Rattle.fs_shell.specs.Words.{id_of, pid_of, groups_of, perms_in, mode_of, octal_digits, is_octal_digit};
 ghost use Rattle.fs_shell.specs.Lines.{each};
 ghost use Rattle.fs_shell.specs.Runs.{Gives};
 

@@ -1,7 +1,7 @@
 //! The text of replies.
 ghost use Rattle.std.specs.Prelude.{◌≡◌, ◌++◌, ◌<◌, false, IfOk, OnOk, codes, string_bytes};
 ghost use Rattle.std.specs.Fmt.{digit_glyph};
-ghost use Rattle.posix_acl.specs.Text.{perms_text, written};
+ghost use Rattle.posix_acl.specs.Text.{perms_text, written_text};
 ghost use Rattle.posix_acl.specs.declared.text.TextForm.TheVariants.{Short};
 ghost use Rattle.fs_shell.specs.Texts.{stands_for_itself, octal_digit, byte_text, bytes_text, word_text, mode_text, rule_text, need_text, errno_text, denial_text, refusal_text, kind_text, counts_text, status_text, acl_text, names_text, reply_text, fault_text};
 
@@ -204,7 +204,7 @@ fn push_acl(text: &mut String, acl: &Option<Acl>) -> Result<(), AllocError>
 }
 
 fn push_list(text: &mut String, acl: &Acl) -> Result<(), AllocError>
-    ensures { OnOk result (string_bytes text.new ≡ string_bytes text.old ++ written Short acl.now) }
+    ensures { OnOk result (string_bytes text.new ≡ string_bytes text.old ++ written_text Short acl.now) }
 {
     let Ok(list) = acl.write_text(TextForm::Short) else {
         return Err(AllocError);

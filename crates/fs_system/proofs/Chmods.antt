@@ -4,7 +4,7 @@ use Rattle.std.specs.Prelude.{IsFalse, slice_set, ◌==◌, ◌&&◌, ◌||◌, 
 use Rattle.std.specs.Ordering.{nat_cmp}
 use Rattle.std.proofs.lemmas.Bool.Decides.{nat_tests}
 use Rattle.posix_acl.specs.AccessList.{minimal}
-use Rattle.sector_disk.specs.Disk.{State as DiskState, Image, sector, IsImage, IsSame, IsStable, Elapses, LeavesOnly, HasFailed, HasFailedToWrite}
+use Rattle.sector_disk.specs.Disk.{DiskState, Image, sector, IsImage, IsSame, IsStable, Elapses, LeavesOnly, HasFailed, HasFailedToWrite}
 use Rattle.sector_disk.proofs.Moments.{failed_later}
 use Rattle.fs_layout.specs.declared.inode.Inode.{Inode}
 use Rattle.fs_layout.specs.declared.place.Place.{Place}

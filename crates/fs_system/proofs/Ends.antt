@@ -2,7 +2,7 @@
 use Rattle.std.proofs.Common.{◌≡◌, ◌≤◌, ◌<◌, ℕ, [], length, Bool, true, false, None, IsTrue, refl, sym, ap, subst, ◌∙◌, arith, inl}
 use Rattle.std.specs.Prelude.{IsFalse, ◌&&◌}
 use Rattle.std.specs.Ordering.{nat_cmp}
-use Rattle.sector_disk.specs.Disk.{State as DiskState, Image, sector, IsImage, IsSame, IsStable, IsNarrowed, Elapses, LeavesOnly, HasFailed, HasFailedToWrite}
+use Rattle.sector_disk.specs.Disk.{DiskState, Image, sector, IsImage, IsSame, IsStable, IsNarrowed, Elapses, LeavesOnly, HasFailed, HasFailedToWrite}
 use Rattle.sector_disk.proofs.Moments.{started, goes_on, stable_image, narrowed}
 use Rattle.fs_layout.specs.declared.place.Place.{Place}
 use Rattle.fs_cred.specs.declared.errno.Errno.TheVariants.{EIO, ESRCH, EAGAIN, ENOMEM}

@@ -2,7 +2,7 @@
 use Rattle.std.proofs.Common.{◌≡◌, ◌≢◌, ℕ, ◌+◌, ◌-◌, ◌<◌, ◌≤◌, List, [], length, sym, ap, subst, ◌∙◌, arith, inl, inr, ◌⊎◌, ⊎_elim, Some, set, get_or-set_same, get_or-set_other}
 use Rattle.std.proofs.lemmas.Bool.{cases_eq}
 use Rattle.std.proofs.lemmas.List.{length-set}
-use Rattle.sector_disk.specs.Disk.{State, Image, sector, AddsOnly, IsImage, IsImageOr, IsStable}
+use Rattle.sector_disk.specs.Disk.{DiskState, Image, sector, AddsOnly, IsImage, IsImageOr, IsStable, IsWrite}
 use Rattle.sector_disk.proofs.Moments.{image_or, stable_image, stays, stays_or}
 use Rattle.fs_layout.specs.declared.place.Place.{Place}
 use Rattle.fs_layout.specs.Bytes.{zeros}
@@ -13,12 +13,12 @@ use Rattle.fs_layout.proofs.Places.{place_is_laid_out, place_is_place}
 use Rattle.fs_model.specs.NewDisk.{empty_tree, IsNewImage}
 use Rattle.fs_model.specs.Stands.{room_of, Stands}
 use Rattle.fs_model.proofs.NewDiskStands.{new_disk_stands}
-use Rattle.fs_system.specs.Making.{BehindSuperblock, HasNoSuperblock, HoldsNewTables, IsCleared, IsNewDisk, IsPrepared, IsWrite}
+use Rattle.fs_system.specs.Making.{BehindSuperblock, HasNoSuperblock, HoldsNewTables, IsCleared, IsNewDisk, IsPrepared}
 use Rattle.fs_system.specs.NewTables.{IsNewTable}
 use Rattle.fs_system.proofs.MakingTables.{new_image}
 
 -- while zeros are written over the superblock, an image is one of before, or has none
-pub before_or_cleared : (old : State) (content : List ℕ) → 0 < old.size → content ≡ zeros 512 → (image : Image) → IsImageOr (IsWrite 0 content) old image
+pub before_or_cleared : (old : DiskState) (content : List ℕ) → 0 < old.size → content ≡ zeros 512 → (image : Image) → IsImageOr (IsWrite 0 content) old image
     → IsImage old image ⊎ HasNoSuperblock image
 before_or_cleared old content room zero image is = ⊎_elim (λ was. inl (before was)) (λ new. inr (new.1 ∙ zero)) (is.each 0 room)
   where
@@ -29,7 +29,7 @@ before_or_cleared old content room zero image is = ⊎_elim (λ was. inl (before
     }
 
 -- once that is stable, there is none
-pub cleared : (old new : State) (content : List ℕ) → 0 < old.size → content ≡ zeros 512 → new.size ≡ old.size → length old.seen ≡ old.size
+pub cleared : (old new : DiskState) (content : List ℕ) → 0 < old.size → content ≡ zeros 512 → new.size ≡ old.size → length old.seen ≡ old.size
     → new.seen ≡ set old.seen 0 content → IsStable new → IsCleared new
 cleared old new content room zero size whole put stable = record {
   room = omega (arith, room, size);
@@ -39,7 +39,7 @@ cleared old new content room zero size whole put stable = record {
 }
 
 -- then it has none while all else is written
-pub still_cleared : (old : State) → IsCleared old → (image : Image) → IsImageOr BehindSuperblock old image → HasNoSuperblock image
+pub still_cleared : (old : DiskState) → IsCleared old → (image : Image) → IsImageOr BehindSuperblock old image → HasNoSuperblock image
 still_cleared old at_rest image is = stays at_rest.stable at_rest.whole is 0 (λ content lt. omega (arith, lt)) ∙ at_rest.cleared
 
 -- one sector of the tables more
@@ -59,13 +59,13 @@ pub same_beside : (old new : Image) (n k : ℕ) (content : List ℕ) → new ≡
 same_beside old new n k content put ne = ap (λ (i : Image). sector i k) put ∙ get_or-set_other old n k content [] ne
 
 -- what several writes add, and then what more of them add
-pub adds_joined : {R : ℕ → List ℕ → Type 0} {old mid new : State} → AddsOnly R old mid → AddsOnly R mid new → AddsOnly R old new
+pub adds_joined : {R : ℕ → List ℕ → Type 0} {old mid new : DiskState} → AddsOnly R old mid → AddsOnly R mid new → AddsOnly R old new
 adds_joined first second = record {
   size = second.size ∙ first.size;
   nothing_else = λ n content holds. ⊎_elim (first.nothing_else n content) (λ more. inr more) (second.nothing_else n content holds);
 }
 
-pub image_joined : {R : ℕ → List ℕ → Type 0} {old mid : State} → AddsOnly R old mid → (image : Image) → IsImageOr R mid image → IsImageOr R old image
+pub image_joined : {R : ℕ → List ℕ → Type 0} {old mid : DiskState} → AddsOnly R old mid → (image : Image) → IsImageOr R mid image → IsImageOr R old image
 image_joined {old = old} {mid} first image is = record {
   size = is.size ∙ first.size;
   each = λ n below. ⊎_elim (first.nothing_else n (sector image n)) (λ more. inr more) (is.each n (omega (arith, below, first.size)));
@@ -91,7 +91,7 @@ place_on_disk size inodes p e =
     record { least = omega (arith, place.least_sectors, same); first_data = omega (arith, place.data_sectors, same) }
 
 -- with the superblock a prepared disk is a new one
-pub is_new_disk : (p : Place) (old : State) → IsPrepared p old → (image : Image) → length image ≡ old.size
+pub is_new_disk : (p : Place) (old : DiskState) → IsPrepared p old → (image : Image) → length image ≡ old.size
     → sector image 0 ≡ super_bytes (record { sectors = p.sectors; inodes = p.inodes })
     → ((n : ℕ) → 0 < n → n < old.size → sector image n ≡ sector old.seen n) → IsNewDisk p.inodes image
 is_new_disk p old ready image size super others = record {
@@ -114,7 +114,7 @@ is_new_disk p old ready image size super others = record {
         (λ s ge lt. subst (IsNewTable p s) (sym (others s (omega (arith, ge)) (omega (arith, lt, sectors, place.data_sectors)))) (ready.tables s ge lt))
 
 -- while the superblock is written, an image has none, or is that of a new disk
-pub cleared_or_new : (p : Place) (old : State) (content : List ℕ) → IsPrepared p old → content ≡ super_bytes (record { sectors = p.sectors; inodes = p.inodes })
+pub cleared_or_new : (p : Place) (old : DiskState) (content : List ℕ) → IsPrepared p old → content ≡ super_bytes (record { sectors = p.sectors; inodes = p.inodes })
     → (image : Image) → IsImageOr (IsWrite 0 content) old image → HasNoSuperblock image ⊎ IsNewDisk p.inodes image
 cleared_or_new p old content ready super image is =
     ⊎_elim (λ was. inl (was ∙ ready.at_rest.cleared))
@@ -123,7 +123,7 @@ cleared_or_new p old content ready super image is =
     (stays_or ready.at_rest.stable is 0 ready.at_rest.room)
 
 -- once it is written
-pub written_new : (p : Place) (old : State) (content : List ℕ) → IsPrepared p old → content ≡ super_bytes (record { sectors = p.sectors; inodes = p.inodes })
+pub written_new : (p : Place) (old : DiskState) (content : List ℕ) → IsPrepared p old → content ≡ super_bytes (record { sectors = p.sectors; inodes = p.inodes })
     → (image : Image) → image ≡ set old.seen 0 content → IsNewDisk p.inodes image
 written_new p old content ready super image put =
     let room : 0 < length old.seen = omega (arith, ready.at_rest.room, ready.at_rest.whole) in
@@ -132,7 +132,7 @@ written_new p old content ready super image put =
     (λ n some below. ap (λ (i : Image). sector i n) put ∙ get_or-set_other old.seen 0 n content [] (λ (e : n ≡ 0). omega (arith, some, e)))
 
 -- the disk once all but the superblock is stable
-pub prepared : (p : Place) (old new : State) → the_place old.size p.inodes ≡ Some p → IsCleared old → AddsOnly BehindSuperblock old new → IsImage new new.seen
+pub prepared : (p : Place) (old new : DiskState) → the_place old.size p.inodes ≡ Some p → IsCleared old → AddsOnly BehindSuperblock old new → IsImage new new.seen
     → sector new.seen 1 ≡ commit_bytes [] → HoldsNewTables p new.seen → IsStable new → IsPrepared p new
 prepared p old new has_place at_rest adds seen commit tables stable = record {
   has_place = ap (λ (k : ℕ). the_place k p.inodes) adds.size ∙ has_place;
@@ -147,6 +147,6 @@ prepared p old new has_place at_rest adds seen commit tables stable = record {
 }
 
 -- a stop leaves the new disk once it is stable
-pub each_is_new : {inodes : ℕ} {disk : State} → IsNewDisk inodes disk.seen → IsStable disk → IsImage disk disk.seen → (image : Image) → IsImage disk image
+pub each_is_new : {inodes : ℕ} {disk : DiskState} → IsNewDisk inodes disk.seen → IsStable disk → IsImage disk disk.seen → (image : Image) → IsImage disk image
     → IsNewDisk inodes image
 each_is_new {inodes} made stable seen image is = subst (IsNewDisk inodes) (sym (stable_image stable seen.size is)) made

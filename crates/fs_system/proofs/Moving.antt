@@ -1,7 +1,7 @@
 -- What an event does to the disk where it changes nothing there.
 use Rattle.std.proofs.Common.{◌≡◌, ◌≤◌, ℕ, [], Bool, false, refl, sym, ap, subst, ◌∙◌, arith, inl}
 use Rattle.std.specs.Prelude.{IsTrue, IsFalse}
-use Rattle.sector_disk.specs.Disk.{State as DiskState, Image, sector, IsImage, IsSame, IsStable, Elapses, HasFailed}
+use Rattle.sector_disk.specs.Disk.{DiskState, Image, sector, IsImage, IsSame, IsStable, Elapses, HasFailed}
 use Rattle.sector_disk.proofs.Moments.{started, goes_on, unchanged}
 use Rattle.fs_layout.specs.declared.place.Place.{Place}
 use Rattle.fs_layout.specs.Commit.{commit_bytes}

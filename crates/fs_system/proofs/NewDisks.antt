@@ -2,7 +2,7 @@
 use Rattle.std.proofs.Common.{◌≡◌, ℕ, ◌-◌, [], length, Bool, true, false, cond, Some, None, refl, ap, subst, arith}
 use Rattle.std.specs.Ordering.{nat_cmp, is_eq}
 use Rattle.posix_acl.specs.AccessList.{minimal}
-use Rattle.sector_disk.specs.Disk.{State as DiskState, sector, IsStable}
+use Rattle.sector_disk.specs.Disk.{DiskState, sector, IsStable}
 use Rattle.fs_layout.specs.declared.place.Place.{Place}
 use Rattle.fs_layout.specs.Place.{the_place}
 use Rattle.fs_layout.proofs.Places.{place_is_laid_out}

@@ -4,7 +4,7 @@ use Rattle.std.specs.Prelude.{IsFalse}
 use Rattle.std.specs.Ordering.{nat_cmp}
 use Rattle.posix_acl.specs.declared.entry.Perms.{Perms}
 use Rattle.posix_acl.specs.AccessList.{minimal}
-use Rattle.sector_disk.specs.Disk.{State as DiskState, Image, IsImage, IsSame, Elapses, HasFailed}
+use Rattle.sector_disk.specs.Disk.{DiskState, Image, IsImage, IsSame, Elapses, HasFailed}
 use Rattle.fs_layout.specs.declared.inode.Inode.{Inode}
 use Rattle.fs_layout.specs.declared.place.Place.{Place}
 use Rattle.fs_cred.specs.declared.errno.Errno.TheVariants.{EIO, EINVAL, ENOMEM, EACCES}

@@ -5,7 +5,7 @@ use Rattle.std.specs.Option.{option_map}
 use Rattle.posix_acl.specs.Entries.{perms_of, digit_of}
 use Rattle.posix_acl.specs.AccessList.{AccessList, IsAcl, is_extended, minimal, mode_bits}
 use Rattle.posix_acl.proofs.Laws.{digit_back}
-use Rattle.sector_disk.specs.Disk.{State as DiskState, Image, sector}
+use Rattle.sector_disk.specs.Disk.{DiskState, Image, sector}
 use Rattle.fs_layout.specs.declared.inode.Inode.{Inode}
 use Rattle.fs_layout.specs.declared.place.Place.{Place}
 use Rattle.fs_layout.specs.Bytes.{SectorMap, window}

@@ -2,7 +2,7 @@
 use Rattle.std.proofs.Common.{◌≡◌, ◌≤◌, inl, inr, ◌+◌, ℕ, List, [], ◌∷◌, ◌++◌, Bool, true, false, cond, IsTrue, refl, sym, ap, subst, ◌∙◌, arith}
 use Rattle.std.specs.Prelude.{IsFalse, Contains, ◌&&◌, not, Option}
 use Rattle.std.proofs.lemmas.List.Elements.{Contains-append_left, Contains-append_right}
-use Rattle.sector_disk.specs.Disk.{State as DiskState, Image, IsImage, IsSame, HasFailed}
+use Rattle.sector_disk.specs.Disk.{DiskState, Image, IsImage, IsSame, HasFailed}
 use Rattle.sector_disk.proofs.Moments.{holds_now, unchanged}
 use Rattle.fs_model.specs.declared.reply.Reply.{Reply}
 use Rattle.fs_model.specs.declared.event.Event.{Event}

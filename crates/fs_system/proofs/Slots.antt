@@ -13,7 +13,7 @@ use Rattle.std.proofs.lemmas.List.Elements.{All-head, All-tail}
 use Rattle.fs_layout.specs.Slot.{NamedInode, FitsSlot, slot_bytes}
 use Rattle.fs_layout.proofs.SlotLaw.{length-slot_bytes}
 use Rattle.fs_model.specs.Maps.{name_cmp, get, IsMap}
-use Rattle.fs_model.specs.StoredNodes.{slots_bytes, names_of_slots, AreApart}
+use Rattle.fs_model.specs.StoredNodes.{slots_bytes, names_of_slots, HaveDistinctNames}
 
 pub slots_length : (slots : List NamedInode) → All FitsSlot slots → length (slots_bytes slots) ≡ 128 * length slots
 slots_length [] fits = refl
@@ -51,7 +51,7 @@ no_name name (x ∷ xs) none =
     ∙ ap (λ b. cond b (Some x.inode) (get name_cmp (names_of_slots xs) name)) (names_apart name x.name (none 0 x (omega arith)) _ refl)
     ∙ no_name name xs (λ k d lt. none (suc k) d (omega (arith, lt)))
 
-pub names_length : (slots : List NamedInode) → AreApart slots → length (names_of_slots slots) ≡ length slots
+pub names_length : (slots : List NamedInode) → HaveDistinctNames slots → length (names_of_slots slots) ≡ length slots
 unfolding names_of_slots
 names_length [] apart = refl
 names_length (x ∷ xs) apart =

@@ -4,7 +4,7 @@ use Rattle.std.specs.Prelude.{IsFalse, slice_set}
 use Rattle.std.proofs.lemmas.Bool.{cases_eq}
 use Rattle.std.proofs.lemmas.List.{ext_get_or}
 use Rattle.std.proofs.lemmas.Grind.{get_or-set_at}
-use Rattle.sector_disk.specs.Disk.{State as DiskState, Image, sector, IsImage, IsSame, IsStable, IsNarrowed, ChangesOnly, Elapses, LeavesOnly, HasFailed, HasFailedToWrite}
+use Rattle.sector_disk.specs.Disk.{DiskState, Image, sector, IsImage, IsSame, IsStable, IsNarrowed, ChangesOnly, Elapses, LeavesOnly, HasFailed, HasFailedToWrite}
 use Rattle.sector_disk.proofs.Moments.{started, goes_on, joined, weaker, unchanged, narrowed, stable_image}
 use Rattle.fs_model.specs.declared.event.Event.{Event}
 use Rattle.fs_model.specs.declared.reply.Reply.{Reply}

@@ -3,7 +3,7 @@
 --     IsFound        what a stop may leave meanwhile
 --     Does        the whole
 use Rattle.std.specs.Prelude.{◌≡◌, ◌≤◌, ◌⊎◌, ℕ, IsTrue, IsFalse}
-use Rattle.sector_disk.specs.Disk.{State as DiskState, Image, IsImage, IsSame, LeavesOnly, HasFailed, HasFailedToWrite}
+use Rattle.sector_disk.specs.Disk.{DiskState, Image, IsImage, IsSame, LeavesOnly, HasFailed, HasFailedToWrite}
 use Rattle.fs_model.specs.declared.event.Event.{Event}
 use Rattle.fs_model.specs.declared.reply.Reply.{Reply}
 use Rattle.fs_model.specs.Trees.{Tree}

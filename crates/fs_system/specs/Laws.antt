@@ -1,6 +1,6 @@
 -- The laws of the file system, each the contract of a function.
 use Rattle.std.specs.Prelude.{◌≡◌, ◌-◌, length}
-use Rattle.sector_disk.specs.Disk.{State as DiskState, sector, IsStable}
+use Rattle.sector_disk.specs.Disk.{DiskState, sector, IsStable}
 use Rattle.fs_layout.specs.declared.place.Place.{Place}
 use Rattle.fs_model.specs.Stands.{room_of}
 use Rattle.fs_model.specs.NewDisk.{empty_tree, IsNewImage}

@@ -2,10 +2,10 @@
 --     is_out_of, mkfs_refusal        a number out of its range; the first refusal
 --     IsNewDisk        the image of a new disk
 --     HasNoSuperblock, IsHalfMade        what a stop may leave meanwhile
---     IsWrite, BehindSuperblock        what the steps may write, and where
+--     BehindSuperblock        what the steps may write, and where
 --     HoldsNewTables, IsCleared, IsPrepared        the disk after each step
 use Rattle.std.specs.Prelude.{◌≡◌, ◌⊎◌, ℕ, ◌+◌, ◌-◌, ◌<◌, ◌≤◌, Bool, nat_lt, ◌||◌, List, [], length, Option, Some, None, if◌then◌else◌}
-use Rattle.sector_disk.specs.Disk.{State, Image, sector, IsImage, IsStable}
+use Rattle.sector_disk.specs.Disk.{DiskState, Image, sector, IsImage, IsStable}
 use Rattle.fs_layout.specs.declared.place.Place.{Place}
 use Rattle.fs_layout.specs.Bytes.{zeros}
 use Rattle.fs_layout.specs.Commit.{commit_bytes}
@@ -40,14 +40,10 @@ abbrev pub HasNoSuperblock : Image → Type 0
 HasNoSuperblock image = sector image 0 ≡ zeros 512
 
 -- what a stop may leave while a new disk is made: what it might have left before, no superblock, or the new disk
-abbrev pub IsHalfMade : State → ℕ → Image → Type 0
+abbrev pub IsHalfMade : DiskState → ℕ → Image → Type 0
 IsHalfMade before inodes image = IsImage before image ⊎ (HasNoSuperblock image ⊎ IsNewDisk inodes image)
 
 -- ---- what the steps may write, and where
--- this content in this sector
-abbrev pub IsWrite : ℕ → List ℕ → ℕ → List ℕ → Type 0
-IsWrite at written n content = (n ≡ at) × (content ≡ written)
-
 -- any content in any sector but the first
 abbrev pub BehindSuperblock : ℕ → List ℕ → Type 0
 BehindSuperblock n content = 0 < n
@@ -58,14 +54,14 @@ abbrev pub HoldsNewTables : Place → Image → Type 0
 HoldsNewTables p image = (s : ℕ) → 128 ≤ s → s < p.first_data → IsNewTable p s (sector image s)
 
 -- all is stable, and there is no superblock
-pub record IsCleared (disk : State) : Type 0 where
+pub record IsCleared (disk : DiskState) : Type 0 where
   pub room : 0 < disk.size
   pub whole : length disk.seen ≡ disk.size
   pub stable : IsStable disk
   pub cleared : HasNoSuperblock disk.seen
 
 -- that, and all but the superblock is as on a new disk
-pub record IsPrepared (p : Place) (disk : State) : Type 0 where
+pub record IsPrepared (p : Place) (disk : DiskState) : Type 0 where
   pub has_place : the_place disk.size p.inodes ≡ Some p
   pub at_rest : IsCleared disk
   pub commit : sector disk.seen 1 ≡ commit_bytes []

@@ -1,9 +1,9 @@
 -- What a mount asks for now, and what it says where it fails.
 --     IsMountable        what is asked of the disk
---     disk_of        the disk, also after a fault
+--     disk_after_mount        the disk, also after a fault
 --     HasReason        why it failed
 use Rattle.std.specs.Prelude.{ℕ, [], Result, Ok, Err}
-use Rattle.sector_disk.specs.Disk.{State as DiskState, HasFailed}
+use Rattle.sector_disk.specs.Disk.{DiskState, HasFailed}
 use Rattle.fs_model.specs.Trees.{Tree, Room}
 use Rattle.fs_model.specs.States.{FitsTree}
 use Rattle.fs_system.specs.declared.faults.MountFault.{MountFault}
@@ -16,9 +16,9 @@ pub record IsMountable (disk : DiskState) (room : Room) (t : Tree) (free : ℕ) 
   pub no_nameless : FitsTree t []
 
 -- the disk, also after a fault
-abbrev pub disk_of : {D : Type 0} → Result (System D) (MountFault × D) → D
-disk_of (Ok fs) = fs.disk
-disk_of (Err fault) = fault.1
+abbrev pub disk_after_mount : {D : Type 0} → Result (System D) (MountFault × D) → D
+disk_after_mount (Ok fs) = fs.disk
+disk_after_mount (Err fault) = fault.1
 
 -- The device has failed. A mount asks for no memory yet.
 abbrev pub HasReason : DiskState → DiskState → MountFault → Type 0

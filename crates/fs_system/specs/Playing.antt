@@ -6,7 +6,7 @@
 --     Follows, HistoriesAreRuns        the machine goes along
 use Rattle.std.specs.Prelude.{◌≡◌, ◌≤◌, ◌⊎◌, ◌+◌, ◌-◌, ◌^◌, ℕ, List, [], ◌∷◌, Some, false, IsTrue, IsFalse, Contains}
 use Rattle.std.specs.Prelude.{Option}
-use Rattle.sector_disk.specs.Disk.{State as DiskState, Image, IsImage, IsSame, HasFailed}
+use Rattle.sector_disk.specs.Disk.{DiskState, Image, IsImage, IsSame, HasFailed}
 use Rattle.fs_model.specs.declared.reply.Reply.{Reply}
 use Rattle.fs_model.specs.declared.event.Event.{Event}
 use Rattle.fs_model.specs.declared.event.Event.TheVariants.{Call as Calls, Arm, Restart}

@@ -5,7 +5,7 @@
 --     Performs        what a call does in each state
 use Rattle.std.specs.Prelude.{◌≡◌, ◌⊎◌, slice_set, ℕ, ◌*◌, ◌==◌, Bool, false, List, [], ◌∷◌, length, Some, IsFalse}
 use Rattle.posix_acl.specs.AccessList.{minimal}
-use Rattle.sector_disk.specs.Disk.{State as DiskState, Image}
+use Rattle.sector_disk.specs.Disk.{DiskState, Image}
 use Rattle.fs_layout.specs.declared.place.Place.{Place}
 use Rattle.fs_layout.specs.declared.inode.Inode.{Inode}
 use Rattle.fs_cred.specs.Credentials.{Credential}

@@ -5,7 +5,7 @@
 --     IsIn        the file system is in this state
 use Rattle.std.specs.Prelude.{◌≡◌, ℕ, Bool, [], Some, IsFalse, false}
 use Rattle.posix_acl.specs.AccessList.{AccessList, is_extended}
-use Rattle.sector_disk.specs.Disk.{State as DiskState, sector, IsStable}
+use Rattle.sector_disk.specs.Disk.{DiskState, sector, IsStable}
 use Rattle.fs_layout.specs.declared.place.Place.{Place}
 use Rattle.fs_layout.specs.Commit.{commit_bytes}
 use Rattle.fs_model.specs.Limits.{root}

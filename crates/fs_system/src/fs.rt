@@ -11,7 +11,7 @@ ghost use Rattle.fs_system.specs.Seen.{IsIn};
 ghost use Rattle.fs_system.specs.Doing.{Does};
 ghost use Rattle.fs_system.specs.Replies.{spawned, unmounted};
 ghost use Rattle.fs_system.specs.Playing.{Mounts};
-ghost use Rattle.fs_system.specs.Mounting.{IsMountable, disk_of, HasReason};
+ghost use Rattle.fs_system.specs.Mounting.{IsMountable, disk_after_mount, HasReason};
 
 use crate::faults::MountFault;
 use crate::processes::Processes;
@@ -72,8 +72,8 @@ impl<D: Disk> Fs<D> {
         requires { (room : Room) × (t : Tree) × (free : ℕ) × IsMountable (D.state disk) room t free }
 
         ensures mounted { IfOk result (λ fs. (s : State) × IsIn D.state fs s × Mounts (D.state disk) (D.state fs.disk) s) }
-        ensures same { IsSame (D.state disk) (D.state (disk_of result)) }
-        ensures reads { OnlyReads (D.state disk) (D.state (disk_of result)) }
+        ensures same { IsSame (D.state disk) (D.state (disk_after_mount result)) }
+        ensures reads { OnlyReads (D.state disk) (D.state (disk_after_mount result)) }
         ensures reason { IfErr result (λ fault. HasReason (D.state disk) (D.state fault.1) fault.0) }
     {
         let mut disk = disk;

@@ -1,11 +1,11 @@
 //! Making a new file system.
 
 ghost use Rattle.std.specs.Prelude.{◌≡◌, ◌≤◌, ◌<◌, ◌⊎◌, ℕ, [], Some, None, Err, IsErr, OnOk, MatchResult, slice_set};
-ghost use Rattle.sector_disk.specs.Disk.{AddsOnly, HasCause, HasFailed, IsImage, IsImageOr, IsStable, LeavesOnly, sector};
+ghost use Rattle.sector_disk.specs.Disk.{AddsOnly, HasCause, HasFailed, IsImage, IsImageOr, IsStable, LeavesOnly, sector, IsWrite};
 ghost use Rattle.fs_layout.specs.Commit.{commit_bytes};
 ghost use Rattle.fs_layout.specs.Place.{IsPlace, the_place};
 ghost use Rattle.fs_layout.specs.Superblock.{super_bytes};
-ghost use Rattle.fs_system.specs.Making.{BehindSuperblock, HasNoSuperblock, HoldsNewTables, IsCleared, IsHalfMade, IsNewDisk, IsPrepared, IsWrite, mkfs_refusal};
+ghost use Rattle.fs_system.specs.Making.{BehindSuperblock, HasNoSuperblock, HoldsNewTables, IsCleared, IsHalfMade, IsNewDisk, IsPrepared, mkfs_refusal};
 
 use crate::MkfsFault;
 use crate::new_tables::{INODE_BITMAP, table_sector};

@@ -1,7 +1,7 @@
 -- What a mount finds on a new disk.
 use Rattle.std.specs.Prelude.{◌≡◌, ℕ, length}
 use Rattle.std.proofs.Common.{refl, ap, ◌∙◌, arith}
-use Rattle.sector_disk.specs.Disk.{State as DiskState}
+use Rattle.sector_disk.specs.Disk.{DiskState}
 use Rattle.fs_layout.specs.declared.place.Place.{Place}
 use Rattle.fs_layout.specs.Place.{laid_out}
 use Rattle.fs_layout.proofs.Places.{place_is_laid_out}

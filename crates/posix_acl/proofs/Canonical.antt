@@ -6,18 +6,18 @@ use Rattle.posix_acl.specs.declared.entry.Tag.{Tag}
 use Rattle.posix_acl.specs.declared.entry.Tag.TheVariants.{UserObj, User, GroupObj, Group, Mask, Other}
 use Rattle.posix_acl.specs.Entries.{is_tag, entry}
 use Rattle.posix_acl.specs.AccessList.{AccessList, IsAcl, entries_of, named_entries, mask_entries, group_class}
-use Rattle.posix_acl.specs.Stored.{perms_tagged, named, access_list, IsCanonical}
+use Rattle.posix_acl.specs.Stored.{perms_tagged, qualified, access_list, IsCanonical}
 
 -- a tag's entries hide nothing of what another tag has behind them
 pub perms_tagged-other : (t tag : Tag) → is_tag t tag ≡ false → (xs : List (ℕ × Perms)) (es : List Entry) → perms_tagged tag (named_entries t xs ++ es) ≡ perms_tagged tag es
 perms_tagged-other t tag other [] es = refl
 perms_tagged-other t tag other (x ∷ xs) es = rw other (perms_tagged-other t tag other xs es)
 
-pub named-other : (t tag : Tag) → is_tag t tag ≡ false → (xs : List (ℕ × Perms)) (es : List Entry) → named tag (named_entries t xs ++ es) ≡ named tag es
+pub named-other : (t tag : Tag) → is_tag t tag ≡ false → (xs : List (ℕ × Perms)) (es : List Entry) → qualified tag (named_entries t xs ++ es) ≡ qualified tag es
 named-other t tag other [] es = refl
 named-other t tag other (x ∷ xs) es = rw other (named-other t tag other xs es)
 
-pub named-same : (tag : Tag) → is_tag tag tag ≡ true → (xs : List (ℕ × Perms)) (es : List Entry) → named tag (named_entries tag xs ++ es) ≡ xs ++ named tag es
+pub named-same : (tag : Tag) → is_tag tag tag ≡ true → (xs : List (ℕ × Perms)) (es : List Entry) → qualified tag (named_entries tag xs ++ es) ≡ xs ++ qualified tag es
 named-same tag same [] es = refl
 named-same tag same (x ∷ xs) es = rw same (ap (λ ys. x ∷ ys) (named-same tag same xs es))
 
@@ -26,21 +26,21 @@ append_nil [] = refl
 append_nil (x ∷ xs) = ap (λ ys. x ∷ ys) (append_nil xs)
 
 -- each part of a list is read back off its entries
-users_back : (a : AccessList) → named User (entries_of a) ≡ a.users
+users_back : (a : AccessList) → qualified User (entries_of a) ≡ a.users
 users_back a =
     named-same User refl a.users _ ∙ ap (λ ys. a.users ++ ys) (named-other Group User refl a.groups _ ∙ masked a.mask)
     ∙ append_nil a.users
   where
-    masked : (mask : Option Perms) → named User (mask_entries mask ++ entry Other 0 a.other ∷ []) ≡ []
+    masked : (mask : Option Perms) → qualified User (mask_entries mask ++ entry Other 0 a.other ∷ []) ≡ []
     masked None = refl
     masked (Some p) = refl
 
-groups_back : (a : AccessList) → named Group (entries_of a) ≡ a.groups
+groups_back : (a : AccessList) → qualified Group (entries_of a) ≡ a.groups
 groups_back a =
     named-other User Group refl a.users _ ∙ named-same Group refl a.groups _ ∙ ap (λ ys. a.groups ++ ys) (masked a.mask)
     ∙ append_nil a.groups
   where
-    masked : (mask : Option Perms) → named Group (mask_entries mask ++ entry Other 0 a.other ∷ []) ≡ []
+    masked : (mask : Option Perms) → qualified Group (mask_entries mask ++ entry Other 0 a.other ∷ []) ≡ []
     masked None = refl
     masked (Some p) = refl
 

@@ -14,7 +14,7 @@ use Rattle.posix_acl.specs.Entries.{tag_number, is_named, perms_of, digit_of, en
 use Rattle.posix_acl.specs.AccessList.{AccessList, IsAcl, IdsFit, entries_of, named_entries, mask_entries, list_numbers}
 use Rattle.posix_acl.specs.Faults.{first_fault, IsListOf}
 use Rattle.posix_acl.specs.Stored.{access_list}
-use Rattle.posix_acl.specs.Text.{written, IsText, pieces, SaysList, SaysFault, SaysFaulty, ReadsBack}
+use Rattle.posix_acl.specs.Text.{written_text, IsText, text_pieces, SaysList, SaysFault, SaysFaulty, ReadsBack}
 use Rattle.posix_acl.proofs.Canonical.{access_list-entries_of}
 use Rattle.posix_acl.proofs.NoFault.{no_fault_in}
 use Rattle.posix_acl.proofs.OneList.{one_list, behind_users, behind_groups}
@@ -100,12 +100,12 @@ plain_readable (e ∷ es) all =
     ap (λ x. x ∷ plain_entries es) same ∙ ap (λ xs. e ∷ xs) (plain_readable es all.1)
 
 -- a list's own entries, written and read
-pub reads_back : (text : List ℕ) (a : AccessList) (form : TextForm) (result : Result AccessList AclFault) → IsAcl a → text ≡ written form a
+pub reads_back : (text : List ℕ) (a : AccessList) (form : TextForm) (result : Result AccessList AclFault) → IsAcl a → text ≡ written_text form a
     → IfOk result (SaysList text) → IfErr result (λ fault. fault ≢ OutOfMemory → SaysFault text fault) → ReadsBack a result
 reads_back text a form (Ok b) valid same says faults =
     let all = all_readable a valid in
     let read : IsText text (entries_of a) = subst (λ t. IsText t (entries_of a)) (sym same) (reads_written form a all) in
-    let entries : says.entries ≡ entries_of a = texts_same (pieces text) says.entries (entries_of a) says.read read in
+    let entries : says.entries ≡ entries_of a = texts_same (text_pieces text) says.entries (entries_of a) says.read read in
     let given : plain_entries says.entries ≡ entries_of a = ap plain_entries entries ∙ plain_readable (entries_of a) all in
     let moved : IsPermutation (entries_of a) (entries_of b) = subst (λ es. IsPermutation es (entries_of b)) given says.made.same in
     sym (one_list a b valid says.made.valid moved)
@@ -119,7 +119,7 @@ reads_back text a form (Err fault) valid same says faults = only fault faults
 
     not_faulty : (f : AclFault) → SaysFaulty text f → ⊥
     not_faulty f says =
-        let entries : says.entries ≡ entries_of a = texts_same (pieces text) says.entries (entries_of a) says.read read in
+        let entries : says.entries ≡ entries_of a = texts_same (text_pieces text) says.entries (entries_of a) says.read read in
         let given : plain_entries says.entries ≡ entries_of a = ap plain_entries entries ∙ plain_readable (entries_of a) all in
         let found = sym says.first ∙ ap first_fault given ∙ no_fault_in a valid in
         absurd (cc)

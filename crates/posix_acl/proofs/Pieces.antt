@@ -5,12 +5,12 @@ use Rattle.std.proofs.lemmas.Grind.{flat_map-append}
 use Rattle.std.specs.List.{flat_map}
 use Rattle.std.proofs.lemmas.Bool.{cases_Bool}
 use Rattle.posix_acl.specs.declared.entry.Entry.{Entry}
-use Rattle.posix_acl.specs.Text.{is_empty, without_blanks, kept_pieces, line_pieces, IsEntryText, AreEntryTexts, AppendsEntries, IsNoText}
+use Rattle.posix_acl.specs.Text.{is_empty_piece, without_blanks, kept_pieces, line_pieces, IsEntryText, AreEntryTexts, AppendsEntries, IsNoText}
 
 pub kept_pieces-append : (ps qs : List (List ℕ)) → kept_pieces (ps ++ qs) ≡ kept_pieces ps ++ kept_pieces qs
 kept_pieces-append [] qs = refl
 kept_pieces-append (p ∷ ps) qs =
-    elim (cases_Bool (is_empty (without_blanks p))) [
+    elim (cases_Bool (is_empty_piece (without_blanks p))) [
       | inl gone ↦ rw gone (kept_pieces-append ps qs)
       | inr there ↦ rw there (ap (λ xs. without_blanks p ∷ xs) (kept_pieces-append ps qs))
     ]
@@ -40,12 +40,12 @@ others_bad p ps bad [] are = are
 others_bad p ps bad (e ∷ es) are = bad es are.1
 
 -- one piece that is no entry, and the line is none
-pub bad_piece : (ps : List (List ℕ)) (n : ℕ) (d : List ℕ) → n < length ps → is_empty (without_blanks (get_or ps n d)) ≡ false
+pub bad_piece : (ps : List (List ℕ)) (n : ℕ) (d : List ℕ) → n < length ps → is_empty_piece (without_blanks (get_or ps n d)) ≡ false
     → ((e : Entry) → IsEntryText (without_blanks (get_or ps n d)) e → ⊥) → IsNoText (kept_pieces ps)
 bad_piece [] n d below there bad es are = absurd (omega arith)
 bad_piece (p ∷ ps) zero d below there bad es are = first_bad (without_blanks p) (kept_pieces ps) bad es (rw there at are)
 bad_piece (p ∷ ps) (suc n) d below there bad es are =
-    elim (cases_Bool (is_empty (without_blanks p))) [
+    elim (cases_Bool (is_empty_piece (without_blanks p))) [
       | inl gone ↦ bad_piece ps n d (omega arith) there bad es (rw gone at are)
       | inr kept ↦ others_bad (without_blanks p) (kept_pieces ps) (bad_piece ps n d (omega arith) there bad) es (rw kept at are)
     ]
@@ -61,7 +61,7 @@ map_push : (f : Bor (List ℕ) → List ℕ) (xs : List (Bor (List ℕ))) (x : B
 map_push f xs x = map-append f xs (x ∷ [])
 
 -- a piece with nothing in it adds nothing
-pub empty_piece : (old new : List Entry) (seen : List (Bor (List ℕ))) (p : Bor (List ℕ)) → is_empty (without_blanks p.now) ≡ true
+pub empty_piece : (old new : List Entry) (seen : List (Bor (List ℕ))) (p : Bor (List ℕ)) → is_empty_piece (without_blanks p.now) ≡ true
     → AppendsEntries old new (kept_pieces (map (λ x. x.now) seen)) → AppendsEntries old new (kept_pieces (map (λ x. x.now) (seen ++ p ∷ [])))
 empty_piece old new seen p gone so_far =
     let none : kept_pieces (p.now ∷ []) ≡ [] = rw gone refl in
@@ -70,7 +70,7 @@ empty_piece old new seen p gone so_far =
     subst (λ ps. AppendsEntries old new ps) same so_far
 
 -- a piece that is an entry adds it
-pub one_piece : (old new : List Entry) (seen : List (Bor (List ℕ))) (p : Bor (List ℕ)) (e : Entry) → is_empty (without_blanks p.now) ≡ false
+pub one_piece : (old new : List Entry) (seen : List (Bor (List ℕ))) (p : Bor (List ℕ)) (e : Entry) → is_empty_piece (without_blanks p.now) ≡ false
     → IsEntryText (without_blanks p.now) e → AppendsEntries old new (kept_pieces (map (λ x. x.now) seen))
     → AppendsEntries old (new ++ e ∷ []) (kept_pieces (map (λ x. x.now) (seen ++ p ∷ [])))
 one_piece old new seen p e there is so_far =

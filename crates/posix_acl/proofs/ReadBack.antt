@@ -16,7 +16,7 @@ use Rattle.posix_acl.specs.declared.text.TextForm.{TextForm}
 use Rattle.posix_acl.specs.declared.text.TextForm.TheVariants.{Long, Short}
 use Rattle.posix_acl.specs.Entries.{is_named}
 use Rattle.posix_acl.specs.AccessList.{AccessList, entries_of}
-use Rattle.posix_acl.specs.Text.{word_of, qualifier_of, perms_text, entry_text, long_text, short_text, written, is_newline, is_comma, is_hash, is_colon, is_blank, is_empty, without_front_blanks, without_back_blanks, without_blanks, kept_pieces, line_pieces, pieces, IsPermsText, AreFieldsOf, AreEntryFields, IsEntryText, AreEntryTexts, IsText}
+use Rattle.posix_acl.specs.Text.{word_of, qualifier_of, perms_text, entry_text, long_text, short_text, written_text, is_newline, is_comma, is_hash, is_colon, is_blank, is_empty_piece, without_front_blanks, without_back_blanks, without_blanks, kept_pieces, line_pieces, text_pieces, IsPermsText, AreFieldsOf, AreEntryFields, IsEntryText, AreEntryTexts, IsText}
 use Rattle.posix_acl.proofs.Cuts.{front_done, back_done}
 
 -- letters, digits, dashes and colons are at least 45, a comma is 44, and the other marks are less
@@ -121,12 +121,12 @@ pub record IsReadable (e : Entry) : Type 0 where
 abbrev pub AllReadable : List Entry → Type 0
 AllReadable es = AllByRecursion IsReadable es
 
-kept_one : (t : List ℕ) (ps : List (List ℕ)) → without_blanks t ≡ t → is_empty t ≡ false → kept_pieces (t ∷ ps) ≡ t ∷ kept_pieces ps
+kept_one : (t : List ℕ) (ps : List (List ℕ)) → without_blanks t ≡ t → is_empty_piece t ≡ false → kept_pieces (t ∷ ps) ≡ t ∷ kept_pieces ps
 kept_one t ps same there =
-    let stays : is_empty (without_blanks t) ≡ false = ap is_empty same ∙ there in
+    let stays : is_empty_piece (without_blanks t) ≡ false = ap is_empty_piece same ∙ there in
     rw stays (ap (λ x. x ∷ kept_pieces ps) same)
 
-not_empty : (t : List ℕ) → 0 < length t → is_empty t ≡ false
+not_empty : (t : List ℕ) → 0 < length t → is_empty_piece t ≡ false
 not_empty t some = ne_eqb (length t) 0 (λ none. absurd (omega arith))
 
 kept_texts : (es : List Entry) → AllReadable es → kept_pieces (map entry_text es) ≡ map entry_text es
@@ -170,7 +170,7 @@ commas_from (e ∷ es) all =
     from_append 44 (with_comma e) (flat_map with_comma es)
     (and_from (leb 44 44) (from 44 (entry_text e)) refl (from_lower 45 44 (omega arith) (entry_text e) (entry_from e all.0.fits))) (commas_from es all.1)
 
-short_pieces : (e : Entry) (es : List Entry) → IsReadable e → AllReadable es → pieces (short_text (e ∷ es)) ≡ map entry_text (e ∷ es)
+short_pieces : (e : Entry) (es : List Entry) → IsReadable e → AllReadable es → text_pieces (short_text (e ∷ es)) ≡ map entry_text (e ∷ es)
 short_pieces e es is all =
     let t = entry_text e ++ flat_map with_comma es in
     let low : from 44 t ≡ true = from_append 44 (entry_text e) (flat_map with_comma es) (from_lower 45 44 (omega arith) (entry_text e) (entry_from e is.fits)) (commas_from es all) in
@@ -259,7 +259,7 @@ reads_entries : (es : List Entry) → AllReadable es → AreEntryTexts (map entr
 reads_entries [] all = tt
 reads_entries (e ∷ es) all = (reads_entry e all.0, reads_entries es all.1)
 
-pub reads_written : (form : TextForm) (a : AccessList) → AllReadable (entries_of a) → IsText (written form a) (entries_of a)
+pub reads_written : (form : TextForm) (a : AccessList) → AllReadable (entries_of a) → IsText (written_text form a) (entries_of a)
 reads_written Long a all =
     subst (λ ps. AreEntryTexts ps (entries_of a))
     (sym (ap (flat_map line_pieces) (long_lines (entries_of a) all) ∙ long_pieces (entries_of a) all)) (reads_entries (entries_of a) all)

@@ -11,7 +11,7 @@ use Rattle.posix_acl.specs.declared.entry.Tag.TheVariants.{UserObj, User, GroupO
 use Rattle.posix_acl.specs.declared.fault.AclFault.TheVariants.{MissingBase, TwiceBase, TwiceQualifier, NoMask, TwoMasks, TooMany}
 use Rattle.posix_acl.specs.Entries.{tag_number, is_tag, is_named, entry, plain}
 use Rattle.posix_acl.specs.AccessList.{AccessList, IdsRise, IdsFit, entries_of, entry_count, named_entries, mask_entries}
-use Rattle.posix_acl.specs.Stored.{perms_tagged, base_perms, named, access_list, IsCanonical}
+use Rattle.posix_acl.specs.Stored.{perms_tagged, base_perms, qualified, access_list, IsCanonical}
 use Rattle.posix_acl.specs.Faults.{count_tagged, count_qualified, has_fault, first_fault}
 use Rattle.posix_acl.specs.Order.{place, IsOrdered}
 use Rattle.posix_acl.proofs.Ordering.{FitsAll}
@@ -113,7 +113,7 @@ one_tagged tag unnamed (x ∷ xs) plains counted =
           (rw miss rest.0, rw miss rest.1)
     ]
 
-named_section : (tag : Tag) (es : List Entry) → tagged tag es ≡ named_entries tag (named tag es)
+named_section : (tag : Tag) (es : List Entry) → tagged tag es ≡ named_entries tag (qualified tag es)
 named_section tag [] = refl
 named_section tag (x ∷ xs) =
     elim (cases_Bool (is_tag x.tag tag)) [
@@ -198,12 +198,12 @@ canonical_from es ordered fits plains counts =
       base_section Other refl es plains counts.other,
     ) refl
 
-length_named : (tag : Tag) (es : List Entry) → length (named tag es) ≡ count_tagged tag es
+length_named : (tag : Tag) (es : List Entry) → length (qualified tag es) ≡ count_tagged tag es
 length_named tag es =
-    sym (length-map (named tag es) (λ x. entry tag x.0 x.1)) ∙ ap length (sym (named_section tag es)) ∙ length-filter (λ e. is_tag e.tag tag) es
+    sym (length-map (qualified tag es) (λ x. entry tag x.0 x.1)) ∙ ap length (sym (named_section tag es)) ∙ length-filter (λ e. is_tag e.tag tag) es
 
 -- the ids behind an entry of the same tag are above its own
-ids_above : (tag : Tag) (x : Entry) → is_tag x.tag tag ≡ true → (ys : List Entry) → AllByRecursion (λ y. place x ≤ place y) ys → count_qualified tag x.id ys ≡ 0 → AllByRecursion (λ y. x.id < y.0) (named tag ys)
+ids_above : (tag : Tag) (x : Entry) → is_tag x.tag tag ≡ true → (ys : List Entry) → AllByRecursion (λ y. place x ≤ place y) ys → count_qualified tag x.id ys ≡ 0 → AllByRecursion (λ y. x.id < y.0) (qualified tag ys)
 ids_above tag x same [] after none = tt
 ids_above tag x same (y ∷ ys) after none =
     elim (cases_Bool (is_tag y.tag tag)) [
@@ -222,7 +222,7 @@ ids_above tag x same (y ∷ ys) after none =
           rw miss (ids_above tag x same ys after.1 (sym (count_head_miss tag x.id y ys other) ∙ none))
     ]
 
-ids_rise : (tag : Tag) (es : List Entry) → IsOrdered es → ((id : ℕ) → count_qualified tag id es ≤ 1) → IdsRise (named tag es)
+ids_rise : (tag : Tag) (es : List Entry) → IsOrdered es → ((id : ℕ) → count_qualified tag id es ≤ 1) → IdsRise (qualified tag es)
 ids_rise tag [] ordered once = tt
 ids_rise tag (x ∷ xs) ordered once =
     elim (cases_Bool (is_tag x.tag tag)) [
@@ -240,7 +240,7 @@ ids_rise tag (x ∷ xs) ordered once =
           | inr miss ↦ omega (arith, once id, count_head_miss tag id x xs miss)
         ]
 
-ids_fit : (tag : Tag) (es : List Entry) → FitsAll es → IdsFit (named tag es)
+ids_fit : (tag : Tag) (es : List Entry) → FitsAll es → IdsFit (qualified tag es)
 ids_fit tag [] fits = tt
 ids_fit tag (x ∷ xs) fits =
     elim (cases_Bool (is_tag x.tag tag)) [

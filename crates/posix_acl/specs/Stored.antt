@@ -17,16 +17,16 @@ base_perms None = record { read = false; write = false; execute = false }
 base_perms (Some p) = p
 
 -- the ids and permissions of the entries with the tag
-abbrev pub named : Tag → List Entry → List (ℕ × Perms)
-named tag [] = []
-named tag (e ∷ es) = if is_tag e.tag tag then (e.id, e.perms) ∷ named tag es else named tag es
+abbrev pub qualified : Tag → List Entry → List (ℕ × Perms)
+qualified tag [] = []
+qualified tag (e ∷ es) = if is_tag e.tag tag then (e.id, e.perms) ∷ qualified tag es else qualified tag es
 
 abbrev pub access_list : List Entry → AccessList
 access_list es = record {
   owner = base_perms (perms_tagged UserObj es);
-  users = named User es;
+  users = qualified User es;
   group = base_perms (perms_tagged GroupObj es);
-  groups = named Group es;
+  groups = qualified Group es;
   mask = perms_tagged Mask es;
   other = base_perms (perms_tagged Other es);
 }

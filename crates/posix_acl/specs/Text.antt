@@ -1,5 +1,5 @@
 -- The text of a list: what is written, and what is read.
---     written        the text of a list, in either form
+--     written_text        the text of a list, in either form
 --     IsText        the bytes are a text of these entries, in this order
 use Rattle.std.specs.Prelude.{◌≡◌, ℕ, ◌+◌, ◌^◌, ◌<◌, ◌≤◌, ◌==◌, Bool, true, false, ◌||◌, List, [], ◌∷◌, ◌++◌, length, reverse, count_by, codes, if◌then◌else◌, ◌⊎◌, Some, None, Result, Ok, Err}
 use Rattle.std.specs.List.{flat_map, slice_split, before_first}
@@ -54,9 +54,9 @@ short_text [] = []
 short_text (e ∷ es) = entry_text e ++ flat_map (λ x. 44 ∷ entry_text x) es
 
 -- The text of a list.
-abbrev pub written : TextForm → AccessList → List ℕ
-written Long a = long_text (entries_of a)
-written Short a = short_text (entries_of a)
+abbrev pub written_text : TextForm → AccessList → List ℕ
+written_text Long a = long_text (entries_of a)
+written_text Short a = short_text (entries_of a)
 
 -- The texts that are read are more than those that are written. What follows says which they are.
 
@@ -86,21 +86,21 @@ without_back_blanks bs = reverse (without_front_blanks (reverse bs))
 abbrev pub without_blanks : List ℕ → List ℕ
 without_blanks bs = without_back_blanks (without_front_blanks bs)
 
-abbrev pub is_empty : List ℕ → Bool
-is_empty bs = length bs == 0
+abbrev pub is_empty_piece : List ℕ → Bool
+is_empty_piece bs = length bs == 0
 
 -- what is left of pieces without the blanks around them, where anything is left
 abbrev pub kept_pieces : List (List ℕ) → List (List ℕ)
 kept_pieces [] = []
-kept_pieces (p ∷ ps) = if is_empty (without_blanks p) then kept_pieces ps else without_blanks p ∷ kept_pieces ps
+kept_pieces (p ∷ ps) = if is_empty_piece (without_blanks p) then kept_pieces ps else without_blanks p ∷ kept_pieces ps
 
 -- the pieces of a line: what stands between commas, up to a comment
 abbrev pub line_pieces : List ℕ → List (List ℕ)
 line_pieces line = kept_pieces (slice_split is_comma (before_first is_hash line))
 
 -- the pieces of a text, line by line
-abbrev pub pieces : List ℕ → List (List ℕ)
-pieces text = flat_map line_pieces (slice_split is_newline text)
+abbrev pub text_pieces : List ℕ → List (List ℕ)
+text_pieces text = flat_map line_pieces (slice_split is_newline text)
 
 -- the word for a tag, long or short
 abbrev pub IsWordOf : Tag → List ℕ → Type 0
@@ -156,7 +156,7 @@ AreEntryTexts ps es = ⊥
 
 -- The bytes are a text of these entries.
 abbrev pub IsText : List ℕ → List Entry → Type 0
-IsText text es = AreEntryTexts (pieces text) es
+IsText text es = AreEntryTexts (text_pieces text) es
 
 -- new is old, and then the entries that the pieces are
 abbrev pub AppendsEntries : List Entry → List Entry → List (List ℕ) → Type 0
@@ -181,7 +181,7 @@ pub record SaysFaulty (text : List ℕ) (fault : AclFault) : Type 0 where
 
 -- Why a text says no list: it has no entries, or these have a fault.
 abbrev pub SaysFault : List ℕ → AclFault → Type 0
-SaysFault text BadText = IsNoText (pieces text)
+SaysFault text BadText = IsNoText (text_pieces text)
 SaysFault text fault = SaysFaulty text fault
 
 -- What reading a written list comes to: the list, memory aside.

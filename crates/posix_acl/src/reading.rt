@@ -7,7 +7,7 @@ ghost use Rattle.posix_acl.specs.declared.entry.Tag.{Tag};
 ghost use Rattle.posix_acl.specs.declared.entry.Perms.{Perms};
 ghost use Rattle.posix_acl.specs.Entries.{is_named};
 ghost use Rattle.posix_acl.specs.Numbers.{StartsPlainly};
-ghost use Rattle.posix_acl.specs.Text.{is_hash, is_colon, is_blank, without_blanks, without_front_blanks, without_back_blanks, count_letter, may_lack_name, IsWordOf, IsNameOf, IsPermsText, AreFieldsOf, IsEntryText, IsText, IsNoText, AppendsEntries, pieces, line_pieces};
+ghost use Rattle.posix_acl.specs.Text.{is_hash, is_colon, is_blank, without_blanks, without_front_blanks, without_back_blanks, count_letter, may_lack_name, IsWordOf, IsNameOf, IsPermsText, AreFieldsOf, IsEntryText, IsText, IsNoText, AppendsEntries, text_pieces, line_pieces};
 ghost use Rattle.posix_acl.specs.declared.fault.AclFault.TheVariants.{OutOfMemory, BadText};
 
 use crate::entry::{Entry, Perms, Tag};
@@ -17,7 +17,7 @@ use std::alloc::Global;
 /// The entries of a text, in its order.
 pub fn read_text(alloc: Global, text: &[u8]) -> Result<Vec<Entry>, AclFault>
     ensures found { IfOk result (λ v. IsText text.now v.items) }
-    ensures bad { IfErr result (λ fault. fault ≡ BadText → IsNoText (pieces text.now)) }
+    ensures bad { IfErr result (λ fault. fault ≡ BadText → IsNoText (text_pieces text.now)) }
     ensures err { IfErr result (λ fault. fault ≢ OutOfMemory → fault ≡ BadText) }
 {
     let mut entries = Vec::new(alloc);

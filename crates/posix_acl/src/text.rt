@@ -4,7 +4,7 @@ ghost use Rattle.posix_acl.specs.declared.fault.AclFault.TheVariants.{OutOfMemor
 ghost use Rattle.std.specs.Fmt.{decimal};
 ghost use Rattle.posix_acl.specs.declared.entry.Entry.{Entry};
 ghost use Rattle.posix_acl.specs.AccessList.{AccessList, IsAcl};
-ghost use Rattle.posix_acl.specs.Text.{IsText, SaysList, ReadsBack, SaysFault, written, word_of, entry_text, perms_text, long_text, short_text};
+ghost use Rattle.posix_acl.specs.Text.{IsText, SaysList, ReadsBack, SaysFault, written_text, word_of, entry_text, perms_text, long_text, short_text};
 
 use crate::acl::Acl;
 use crate::entry::{Entry, Perms, Tag};
@@ -32,14 +32,14 @@ impl Acl {
 
         // A text is read in one way, and the text that is written of a list gives the list back.
         ensures one { (es fs : List Entry) → IsText text.now es → IsText text.now fs → es ≡ fs }
-        ensures back { (a : AccessList) (form : TextForm) → IsAcl a → text.now ≡ written form a → ReadsBack a result }
+        ensures back { (a : AccessList) (form : TextForm) → IsAcl a → text.now ≡ written_text form a → ReadsBack a result }
     {
         parse(alloc, text)
     }
 
     /// The text of the list: entries in canonical order, ids in decimal.
     pub fn write_text(&self, form: TextForm) -> Result<String, AclFault>
-        ensures ok { IfOk result (λ text. string_bytes text ≡ written form self.now) }
+        ensures ok { IfOk result (λ text. string_bytes text ≡ written_text form self.now) }
         ensures err { IfErr result (λ fault. fault ≡ OutOfMemory) }
     {
         let text = match form {

@@ -1,7 +1,7 @@
 -- The sectors of a batch's entries.
 use Rattle.std.proofs.Common.{◌≡◌, ℕ, ◌<◌, ◌≤◌, List, [], length, get_or, arith, sym, ◌∙◌}
 use Rattle.std.proofs.lemmas.List.{get_or-map, length-map}
-use Rattle.fs_layout.specs.Commit.{AreApart, AreTargets}
+use Rattle.fs_layout.specs.Commit.{AreDistinct, AreTargets}
 use Rattle.fs_layout.proofs.RecoveryLaw.{contains_at}
 use Rattle.redo_journal.specs.Batch.{Entry, targets, target_at}
 use Rattle.redo_journal.specs.States.{InTargets}
@@ -13,10 +13,10 @@ pub target_is : (entries : List Entry) (k : ℕ) → k < length entries → get_
 target_is entries k lt = get_or-map (λ (e : Entry). e.0) entries k (0, []) 0 lt
 
 -- ---- numbers that stand apart
-pub apart_at : (ns : List ℕ) → AreApart ns → (i j : ℕ) → i < j → j < length ns → get_or ns i 0 ≡ get_or ns j 0 → ⊥
+pub apart_at : (ns : List ℕ) → AreDistinct ns → (i j : ℕ) → i < j → j < length ns → get_or ns i 0 ≡ get_or ns j 0 → ⊥
 apart_at ns apart i j lt fits same = apart i j 0 lt fits same
 
-pub targets_apart : (entries : List Entry) → AreApart (targets entries) → (i j : ℕ) → i < j → j < length entries → target_at entries i ≡ target_at entries j → ⊥
+pub targets_apart : (entries : List Entry) → AreDistinct (targets entries) → (i j : ℕ) → i < j → j < length entries → target_at entries i ≡ target_at entries j → ⊥
 targets_apart entries apart i j lt fits same =
     apart_at (targets entries) apart i j lt (omega (arith, fits, length-targets entries))
     (target_is entries i (omega (arith, lt, fits)) ∙ same ∙ sym (target_is entries j fits))

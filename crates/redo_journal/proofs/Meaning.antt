@@ -6,25 +6,25 @@ use Rattle.fs_layout.specs.Commit.{AreTargets, IsCommit, IsValidCommit, commit_b
 use Rattle.fs_layout.specs.Recovered.{replayed, recovered}
 use Rattle.fs_layout.proofs.Targets.{no_targets, targets_in-commit}
 use Rattle.fs_layout.proofs.RecoveryLaw.{low_no_target, recovered-commit, recovered-idle, recovered-installed, recovered-same}
-use Rattle.sector_disk.specs.Disk.{State, Image, sector, Elapses, IsImage, IsImageOr, IsNarrowed, IsSame, IsStable, LeavesOnly}
+use Rattle.sector_disk.specs.Disk.{DiskState, Image, sector, Elapses, IsImage, IsImageOr, IsNarrowed, IsSame, IsStable, LeavesOnly, IsWrite}
 use Rattle.sector_disk.proofs.Moments.{narrowed, one_call, stays, stays_or, stable_image, unchanged}
 use Rattle.redo_journal.specs.Batch.{Entry, targets, content_at, with_batch}
-use Rattle.redo_journal.specs.Meaning.{IsData, SameData, data_of, ReadsAs, IsEither, MeansAs, MeansAsBefore}
-use Rattle.redo_journal.specs.States.{IsAtRest, IsIdle, IsLogged, IsInstalled, HoldsLog, HoldsTargets, HasReplayed, InLog, InTargets, IsWrite}
+use Rattle.redo_journal.specs.Meaning.{IsMapped, SameMap, data_of, ReadsAs, IsEither, MeansAs, MeansAsBefore}
+use Rattle.redo_journal.specs.States.{IsAtRest, IsIdle, IsLogged, IsInstalled, HoldsLog, HoldsTargets, HasReplayed, InLog, InTargets}
 use Rattle.redo_journal.proofs.Entries.{length-targets, target_is}
 
-data_is_not : (n at : ℕ) → IsData n → 1 ≤ at → at < 128 → n ≡ at → ⊥
+data_is_not : (n at : ℕ) → IsMapped n → 1 ≤ at → at < 128 → n ≡ at → ⊥
 data_is_not n at part low high is = ⊎_elim (λ (e : n ≡ 0). omega (arith, e, is, low)) (λ (le : 128 ≤ n). omega (arith, le, is, high)) part
 
 -- ---- at rest
 valid_with : (size : ℕ) (content : List ℕ) (ts : List ℕ) → IsCommit size content ts → IsValidCommit size content
 valid_with size content ts is = record { targets = ts; is = is }
 
-pub rest_valid : (ts : List ℕ) (disk : State) → IsAtRest ts disk → IsValidCommit disk.size (sector disk.seen 1)
+pub rest_valid : (ts : List ℕ) (disk : DiskState) → IsAtRest ts disk → IsValidCommit disk.size (sector disk.seen 1)
 rest_valid ts disk rest = valid_with disk.size (sector disk.seen 1) ts rest.commit
 
 -- what a stop leaves of a disk at rest reads as the disk does
-pub rest_reads : (ts : List ℕ) (disk : State) → IsAtRest ts disk → (image : Image) → IsImage disk image → ReadsAs disk.size (data_of disk) image
+pub rest_reads : (ts : List ℕ) (disk : DiskState) → IsAtRest ts disk → (image : Image) → IsImage disk image → ReadsAs disk.size (data_of disk) image
 rest_reads ts disk rest image is =
     let same : image ≡ disk.seen = stable_image rest.stable rest.whole is in
     record {
@@ -33,14 +33,14 @@ rest_reads ts disk rest image is =
       reads = λ n part. ap (λ (l : Image). recovered disk.size (sector l) n) same;
     }
 
-pub idle_data : (disk : State) → IsIdle disk → (n : ℕ) → data_of disk n ≡ sector disk.seen n
+pub idle_data : (disk : DiskState) → IsIdle disk → (n : ℕ) → data_of disk n ≡ sector disk.seen n
 idle_data disk idle n = recovered-idle disk.size (sector disk.seen) n idle.small idle.commit.bytes
 
 commit_stays : (size : ℕ) (old new ts : List ℕ) → new ≡ old → IsCommit size old ts → IsCommit size new ts
 commit_stays size old new ts same is = subst (λ content. IsCommit size content ts) (sym same) is
 
 -- ---- while the log is written
-pub log_keeps : (disk : State) → IsIdle disk → (image : Image) → IsImageOr InLog disk image → ReadsAs disk.size (data_of disk) image
+pub log_keeps : (disk : DiskState) → IsIdle disk → (image : Image) → IsImageOr InLog disk image → ReadsAs disk.size (data_of disk) image
 log_keeps disk idle image is =
     let commit : sector image 1 ≡ sector disk.seen 1 = stays idle.stable idle.whole is 1 (λ content log. omega (arith, log.0)) in
     record {
@@ -67,7 +67,7 @@ pub with_batch_same : (entries : List Entry) (f h : SectorMap) (n : ℕ) → f n
 with_batch_same [] f h n same = same
 with_batch_same (e ∷ entries) f h n same = let rest = with_batch_same entries f h n same in λ i. cond (eqb n e.0) e.1 (rest i)
 
-not_sealed : (entries : List Entry) (content : List ℕ) (disk : State) → IsLogged entries disk → (image : Image) → IsImageOr (IsWrite 1 content) disk image → sector image 1 ≡ sector disk.seen 1 → ReadsAs disk.size (data_of disk) image
+not_sealed : (entries : List Entry) (content : List ℕ) (disk : DiskState) → IsLogged entries disk → (image : Image) → IsImageOr (IsWrite 1 content) disk image → sector image 1 ≡ sector disk.seen 1 → ReadsAs disk.size (data_of disk) image
 not_sealed entries content disk logged image is old =
     let idle = logged.at_rest in
     record {
@@ -79,7 +79,7 @@ not_sealed entries content disk logged image is old =
           ∙ sym (idle_data disk idle n);
     }
 
-pub sealed_reads : (entries : List Entry) (content : List ℕ) (disk : State) → IsLogged entries disk → (image : Image) → IsImageOr (IsWrite 1 content) disk image → sector image 1 ≡ commit_bytes (targets entries) → ReadsAs disk.size (with_batch entries (data_of disk)) image
+pub sealed_reads : (entries : List Entry) (content : List ℕ) (disk : DiskState) → IsLogged entries disk → (image : Image) → IsImageOr (IsWrite 1 content) disk image → sector image 1 ≡ commit_bytes (targets entries) → ReadsAs disk.size (with_batch entries (data_of disk)) image
 sealed_reads entries content disk logged image is written =
     let idle = logged.at_rest in
     let commit : IsCommit disk.size (sector image 1) (targets entries) = record { bytes = written; valid = logged.valid } in
@@ -98,12 +98,12 @@ with_nothing : (entries : List Entry) (f : SectorMap) (n : ℕ) → length entri
 with_nothing [] f n none = refl
 with_nothing (e ∷ entries) f n none = absurd (omega (arith, none))
 
-pub nothing_sealed : (entries : List Entry) (disk : State) → IsLogged entries disk → length entries ≡ 0 → (image : Image) → IsImage disk image → ReadsAs disk.size (with_batch entries (data_of disk)) image
+pub nothing_sealed : (entries : List Entry) (disk : DiskState) → IsLogged entries disk → length entries ≡ 0 → (image : Image) → IsImage disk image → ReadsAs disk.size (with_batch entries (data_of disk)) image
 nothing_sealed entries disk logged none image is =
     let reads = rest_reads [] disk logged.at_rest image is in
     record { whole = reads.whole; commit = reads.commit; reads = λ n part. reads.reads n part ∙ sym (with_nothing entries (data_of disk) n none) }
 
-pub seal_either : (entries : List Entry) (content : List ℕ) (disk : State) → content ≡ commit_bytes (targets entries) → IsLogged entries disk → (image : Image) → IsImageOr (IsWrite 1 content) disk image
+pub seal_either : (entries : List Entry) (content : List ℕ) (disk : DiskState) → content ≡ commit_bytes (targets entries) → IsLogged entries disk → (image : Image) → IsImageOr (IsWrite 1 content) disk image
     → IsEither disk.size (data_of disk) (with_batch entries (data_of disk)) image
 seal_either entries content disk same logged image is =
     ⊎_elim (λ (old : sector image 1 ≡ sector disk.seen 1). inl (not_sealed entries content disk logged image is old))
@@ -111,13 +111,13 @@ seal_either entries content disk same logged image is =
     (stays_or logged.at_rest.stable is 1 (omega (arith, logged.at_rest.room)))
 
 -- ---- while the targets are written
-named : (ts : List ℕ) (disk : State) → IsAtRest ts disk → targets_in disk.size (sector disk.seen 1) ≡ ts
+named : (ts : List ℕ) (disk : DiskState) → IsAtRest ts disk → targets_in disk.size (sector disk.seen 1) ≡ ts
 named ts disk rest = targets_in-commit disk.size (sector disk.seen 1) ts rest.small rest.commit
 
-low_stays : (ts : List ℕ) (disk : State) → IsAtRest ts disk → (image : Image) → IsImageOr (InTargets ts) disk image → (n : ℕ) → n < 128 → sector image n ≡ sector disk.seen n
+low_stays : (ts : List ℕ) (disk : DiskState) → IsAtRest ts disk → (image : Image) → IsImageOr (InTargets ts) disk image → (n : ℕ) → n < 128 → sector image n ≡ sector disk.seen n
 low_stays ts disk rest image is n low = stays rest.stable rest.whole is n (λ content target. low_no_target disk.size ts n rest.commit.valid low target)
 
-pub targets_keep : (ts : List ℕ) (disk : State) → IsAtRest ts disk → (image : Image) → IsImageOr (InTargets ts) disk image → ReadsAs disk.size (data_of disk) image
+pub targets_keep : (ts : List ℕ) (disk : DiskState) → IsAtRest ts disk → (image : Image) → IsImageOr (InTargets ts) disk image → ReadsAs disk.size (data_of disk) image
 targets_keep ts disk rest image is =
     let low = low_stays ts disk rest image is in
     let names = named ts disk rest in
@@ -131,7 +131,7 @@ targets_keep ts disk rest image is =
     }
 
 -- with the targets written and all stable, the commit is installed
-pub installed_from : (ts : List ℕ) (old new : State) → IsAtRest ts old → IsImageOr (InTargets ts) old new.seen → new.size ≡ old.size → HasReplayed ts (sector old.seen) new.seen → IsStable new → IsInstalled ts new
+pub installed_from : (ts : List ℕ) (old new : DiskState) → IsAtRest ts old → IsImageOr (InTargets ts) old new.seen → new.size ≡ old.size → HasReplayed ts (sector old.seen) new.seen → IsStable new → IsInstalled ts new
 installed_from ts old new rest is size in_place stable =
     let low = low_stays ts old rest new.seen is in
     record {
@@ -152,12 +152,12 @@ batch_replayed entries old new log in_place k lt =
     ap (sector new) (target_is entries k fits) ∙ in_place k fits ∙ sym (log k fits)
 
 -- ---- while the commit is taken away
-pub clear_keeps : (ts : List ℕ) (content : List ℕ) (disk : State) → content ≡ commit_bytes [] → IsInstalled ts disk → (image : Image) → IsImageOr (IsWrite 1 content) disk image → ReadsAs disk.size (data_of disk) image
+pub clear_keeps : (ts : List ℕ) (content : List ℕ) (disk : DiskState) → content ≡ commit_bytes [] → IsInstalled ts disk → (image : Image) → IsImageOr (IsWrite 1 content) disk image → ReadsAs disk.size (data_of disk) image
 clear_keeps ts content disk same installed image is =
     let rest = installed.at_rest in
     let names = named ts disk rest in
     let stay : (n : ℕ) → (n ≡ 1 → ⊥) → sector image n ≡ sector disk.seen n = λ n other. stays rest.stable rest.whole is n (λ c write. other write.0) in
-    let apart : (n : ℕ) → IsData n → n ≡ 1 → ⊥ = λ n part. data_is_not n 1 part (omega arith) (omega arith) in
+    let apart : (n : ℕ) → IsMapped n → n ≡ 1 → ⊥ = λ n part. data_is_not n 1 part (omega arith) (omega arith) in
     ⊎_elim
     (λ (old : sector image 1 ≡ sector disk.seen 1). record {
       whole = is.size;
@@ -176,7 +176,7 @@ clear_keeps ts content disk same installed image is =
 
 -- ---- what means the same
 -- what reads as a later disk reads as the earlier one
-pub reads_on : (old new : State) → new.size ≡ old.size → ReadsAs old.size (data_of old) new.seen → (image : Image) → ReadsAs new.size (data_of new) image → ReadsAs old.size (data_of old) image
+pub reads_on : (old new : DiskState) → new.size ≡ old.size → ReadsAs old.size (data_of old) new.seen → (image : Image) → ReadsAs new.size (data_of new) image → ReadsAs old.size (data_of old) image
 reads_on old new size here image reads =
     let same : (n : ℕ) → data_of new n ≡ recovered old.size (sector new.seen) n = λ n. ap (λ k. recovered k (sector new.seen) n) size in
     record {
@@ -185,7 +185,7 @@ reads_on old new size here image reads =
       reads = λ n part. ap (λ k. recovered k (sector image) n) (sym size) ∙ reads.reads n part ∙ same n ∙ here.reads n part;
     }
 
-pub reads_means : (disk : State) (image : Image) → IsValidCommit disk.size (sector disk.seen 1) → ReadsAs disk.size (data_of disk) image → MeansAs disk.size disk.seen image
+pub reads_means : (disk : DiskState) (image : Image) → IsValidCommit disk.size (sector disk.seen 1) → ReadsAs disk.size (data_of disk) image → MeansAs disk.size disk.seen image
 reads_means disk image valid reads = record { whole = reads.whole; commit = (λ _. reads.commit, λ _. valid); reads = reads.reads }
 
 pub same_means : (size : ℕ) (from image : Image) → length from ≡ size → image ≡ from → MeansAs size from image
@@ -196,7 +196,7 @@ same_means size from image whole same = record {
 }
 
 -- what reads as a later disk that shows the same means what the earlier one shows
-pub later_means : (old new : State) → IsSame old new → length old.seen ≡ old.size → IsValidCommit old.size (sector old.seen 1) → (image : Image) → ReadsAs new.size (data_of new) image → MeansAs old.size old.seen image
+pub later_means : (old new : DiskState) → IsSame old new → length old.seen ≡ old.size → IsValidCommit old.size (sector old.seen 1) → (image : Image) → ReadsAs new.size (data_of new) image → MeansAs old.size old.seen image
 later_means old new same whole valid image reads =
     let seen = same.narrowed.seen in
     let here : ReadsAs old.size (data_of old) new.seen = record {
@@ -207,19 +207,19 @@ later_means old new same whole valid image reads =
     reads_means old image valid (reads_on old new same.narrowed.size here image reads)
 
 -- a call that changes nothing on a stable disk
-pub still_means : (old new : State) → ((image : Image) → old.left_since old.moment image → IsImage old image) → IsStable old → length old.seen ≡ old.size → IsSame old new → Elapses old new → LeavesOnly old new (MeansAs old.size old.seen)
+pub still_means : (old new : DiskState) → ((image : Image) → old.left_since old.moment image → IsImage old image) → IsStable old → length old.seen ≡ old.size → IsSame old new → Elapses old new → LeavesOnly old new (MeansAs old.size old.seen)
 still_means old new only_now stable whole same time =
     one_call only_now (λ image is. same_means old.size old.seen image whole (stable_image stable whole is)) time
     (λ image is. same_means old.size old.seen image whole (stable_image stable whole (unchanged same is)))
 
 -- a sync
-pub synced_means : (old new : State) → ((image : Image) → old.left_since old.moment image → IsImage old image) → IsNarrowed old new → Elapses old new → LeavesOnly old new (MeansAsBefore old)
+pub synced_means : (old new : DiskState) → ((image : Image) → old.left_since old.moment image → IsImage old image) → IsNarrowed old new → Elapses old new → LeavesOnly old new (MeansAsBefore old)
 synced_means old new only_now changes time =
     one_call only_now (λ image is. (image, is, same_means old.size image image is.size refl)) time
     (λ image is. let was = narrowed changes is in (image, was, same_means old.size image image was.size refl))
 
 -- what means the same as a later disk shows
-pub means_before : (old new : State) → IsNarrowed old new → IsImage new new.seen → (image : Image) → MeansAs new.size new.seen image → MeansAsBefore old image
+pub means_before : (old new : DiskState) → IsNarrowed old new → IsImage new new.seen → (image : Image) → MeansAs new.size new.seen image → MeansAsBefore old image
 means_before old new changes shown image means = (new.seen, narrowed changes shown, subst (λ k. MeansAs k new.seen image) changes.size means)
 
 -- a commit that was read
@@ -228,11 +228,11 @@ found_valid n size content here ts sized same is = record { targets = ts; is = r
 
 -- ---- one step after another
 -- a call after which reads give the same leaves what the disk means
-pub data_stays : (old new : State) → IsNarrowed old new → (n : ℕ) → data_of new n ≡ data_of old n
+pub data_stays : (old new : DiskState) → IsNarrowed old new → (n : ℕ) → data_of new n ≡ data_of old n
 data_stays old new changes n = λ i. recovered (changes.size i) (sector (changes.seen i)) n
 
 -- what reads as a map reads as each map with the same data
-pub reads_same : (n m : ℕ) (f h : SectorMap) → m ≡ n → SameData f h → (image : Image) → ReadsAs m f image → ReadsAs n h image
+pub reads_same : (n m : ℕ) (f h : SectorMap) → m ≡ n → SameMap f h → (image : Image) → ReadsAs m f image → ReadsAs n h image
 reads_same n m f h size same image reads = record {
   whole = reads.whole ∙ size;
   commit = subst (λ k. IsValidCommit k (sector image 1)) size reads.commit;
@@ -240,7 +240,7 @@ reads_same n m f h size same image reads = record {
 }
 
 -- before and after a batch, seen from an earlier disk with the same data
-pub either_on : (entries : List Entry) (old new : State) → new.size ≡ old.size → SameData (data_of new) (data_of old) → (image : Image)
+pub either_on : (entries : List Entry) (old new : DiskState) → new.size ≡ old.size → SameMap (data_of new) (data_of old) → (image : Image)
     → IsEither new.size (data_of new) (with_batch entries (data_of new)) image → IsEither old.size (data_of old) (with_batch entries (data_of old)) image
 either_on entries old new size same image =
     ⊎_elim (λ before. inl (reads_same old.size new.size (data_of new) (data_of old) size same image before))

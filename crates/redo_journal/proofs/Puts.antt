@@ -7,7 +7,7 @@ use Rattle.std.proofs.lemmas.Map.Made.{AllPairs-from_IsDistinct, IsDistinct-from
 use Rattle.std.specs.Prelude.{All}
 use Rattle.std.specs.List.{AllByRecursion, IsDistinct}
 use Rattle.fs_layout.specs.Bytes.{SectorMap}
-use Rattle.fs_layout.specs.Commit.{AreApart}
+use Rattle.fs_layout.specs.Commit.{AreDistinct}
 use Rattle.redo_journal.specs.Batch.{Entry, targets, target_at, content_at, put_entry, has_entry, with_batch, IsBatch, IsOnDisk}
 
 -- ---- whether a sector has an entry
@@ -59,7 +59,7 @@ distinct_put (e ∷ entries) n content apart =
     (λ is. (subst (λ (m : ℕ). AllByRecursion (λ y. eqb m y ≡ false) (targets entries)) (sym (eqb-true n e.0 is)) apart.0, apart.1))
     (λ no. (rest_put (λ y. eqb e.0 y ≡ false) entries n content apart.0 (ne_eqb e.0 n (λ is. eqb-false n e.0 no (sym is))), distinct_put entries n content apart.1))
 
-apart_put : (entries : List Entry) (n : ℕ) (content : List ℕ) → AreApart (targets entries) → AreApart (targets (put_entry entries n content))
+apart_put : (entries : List Entry) (n : ℕ) (content : List ℕ) → AreDistinct (targets entries) → AreDistinct (targets (put_entry entries n content))
 apart_put entries n content apart =
     AllPairs-from_IsDistinct Decides-eqb (targets (put_entry entries n content)) (distinct_put entries n content (IsDistinct-from_AllPairs Decides-eqb (targets entries) apart))
 

@@ -4,7 +4,7 @@
 --     has_entry, put_entry, with_batch        a batch as a map
 use Rattle.std.specs.Prelude.{ℕ, ◌<◌, ◌≤◌, Bool, true, false, List, [], ◌∷◌, length, map, All, slice_index_or, if◌then◌else◌, nat_eq}
 use Rattle.fs_layout.specs.Bytes.{SectorMap}
-use Rattle.fs_layout.specs.Commit.{AreApart}
+use Rattle.fs_layout.specs.Commit.{AreDistinct}
 
 abbrev pub Entry : Type 0
 Entry = ℕ × List ℕ
@@ -22,7 +22,7 @@ content_at entries k = (slice_index_or entries k (0, [])).1
 pub record IsBatch (entries : List Entry) : Type 0 where
   pub few : length entries ≤ 126
   pub high : All (λ t. 128 ≤ t) (targets entries)
-  pub apart : AreApart (targets entries)
+  pub apart : AreDistinct (targets entries)
 
 -- a disk of so many sectors has each of them
 abbrev pub IsOnDisk : ℕ → List Entry → Type 0

@@ -1,5 +1,5 @@
 -- What an image means: the map of sectors that it reads as after recovery.
---     IsData, SameData        the sectors of that map
+--     IsMapped, SameMap        the sectors of that map
 --     data_of        the map of a disk
 --     ReadsAs, IsEither        an image that means a map; and one that means one of two
 --     MeansAs, MeansAsBefore        an image that means what another one does
@@ -8,25 +8,25 @@ use Rattle.std.specs.Prelude.{ℕ, ◌≡◌, ◌≤◌, ◌⊎◌, ◌↔◌, l
 use Rattle.fs_layout.specs.Bytes.{SectorMap}
 use Rattle.fs_layout.specs.Commit.{IsValidCommit}
 use Rattle.fs_layout.specs.Recovered.{recovered}
-use Rattle.sector_disk.specs.Disk.{State, Image, sector, IsImage}
+use Rattle.sector_disk.specs.Disk.{DiskState, Image, sector, IsImage}
 
 -- sector 0 and those behind the log
-abbrev pub IsData : ℕ → Type 0
-IsData n = (n ≡ 0) ⊎ (128 ≤ n)
+abbrev pub IsMapped : ℕ → Type 0
+IsMapped n = (n ≡ 0) ⊎ (128 ≤ n)
 
 -- two maps that agree on these
-abbrev pub SameData : SectorMap → SectorMap → Type 0
-SameData left right = (n : ℕ) → IsData n → left n ≡ right n
+abbrev pub SameMap : SectorMap → SectorMap → Type 0
+SameMap left right = (n : ℕ) → IsMapped n → left n ≡ right n
 
 -- the map that a disk reads as after recovery
-abbrev pub data_of : State → SectorMap
+abbrev pub data_of : DiskState → SectorMap
 data_of disk = recovered disk.size (sector disk.seen)
 
 -- on a disk of so many sectors the image has a valid commit sector, and after recovery it reads as this map
 pub record ReadsAs (size : ℕ) (sectors : SectorMap) (image : Image) : Type 0 where
   pub whole : length image ≡ size
   pub commit : IsValidCommit size (sector image 1)
-  pub reads : SameData (recovered size (sector image)) sectors
+  pub reads : SameMap (recovered size (sector image)) sectors
 
 -- the image reads as the first map, or as the second
 abbrev pub IsEither : ℕ → SectorMap → SectorMap → Image → Type 0
@@ -37,10 +37,10 @@ IsEither size before after image = ReadsAs size before image ⊎ ReadsAs size af
 pub record MeansAs (size : ℕ) (from image : Image) : Type 0 where
   pub whole : length image ≡ size
   pub commit : IsValidCommit size (sector from 1) ↔ IsValidCommit size (sector image 1)
-  pub reads : SameData (recovered size (sector image)) (recovered size (sector from))
+  pub reads : SameMap (recovered size (sector image)) (recovered size (sector from))
 
 -- a stop might have left, before, an image that means what this one does
-abbrev pub MeansAsBefore : State → Image → Type 0
+abbrev pub MeansAsBefore : DiskState → Image → Type 0
 MeansAsBefore old image = (from : Image) × IsImage old from × MeansAs old.size from image
 
 -- the device, also after a fault

@@ -1,11 +1,11 @@
 -- The states of a commit: what the disk shows, and that a stop leaves no more than this.
 use Rattle.std.specs.Prelude.{ℕ, ◌≡◌, ◌≤◌, ◌<◌, ◌+◌, ◌^◌, List, [], length, get_or, Contains}
 use Rattle.fs_layout.specs.Commit.{AreTargets, IsCommit}
-use Rattle.sector_disk.specs.Disk.{State, Image, sector, IsStable}
+use Rattle.sector_disk.specs.Disk.{DiskState, Image, sector, IsStable}
 use Rattle.redo_journal.specs.Batch.{Entry, targets, target_at, content_at}
 
 -- all is stable, and the commit sector has these targets
-pub record IsAtRest (sectors : List ℕ) (disk : State) : Type 0 where
+pub record IsAtRest (sectors : List ℕ) (disk : DiskState) : Type 0 where
   pub room : 128 ≤ disk.size
   pub small : disk.size < 2 ^ 32
   pub whole : length disk.seen ≡ disk.size
@@ -13,7 +13,7 @@ pub record IsAtRest (sectors : List ℕ) (disk : State) : Type 0 where
   pub commit : IsCommit disk.size (sector disk.seen 1) sectors
 
 -- no commit is under way
-abbrev pub IsIdle : State → Type 0
+abbrev pub IsIdle : DiskState → Type 0
 IsIdle disk = IsAtRest [] disk
 
 -- the log sectors have the batch's contents
@@ -21,13 +21,13 @@ abbrev pub HoldsLog : List Entry → Image → Type 0
 HoldsLog entries image = (k : ℕ) → k < length entries → sector image (2 + k) ≡ content_at entries k
 
 -- the batch is in the log, and its commit isn't there
-pub record IsLogged (entries : List Entry) (disk : State) : Type 0 where
+pub record IsLogged (entries : List Entry) (disk : DiskState) : Type 0 where
   pub valid : AreTargets disk.size (targets entries)
   pub at_rest : IsIdle disk
   pub log : HoldsLog entries disk.seen
 
 -- the batch is in the log, and its commit is there
-pub record IsSealed (entries : List Entry) (disk : State) : Type 0 where
+pub record IsSealed (entries : List Entry) (disk : DiskState) : Type 0 where
   pub at_rest : IsAtRest (targets entries) disk
   pub log : HoldsLog entries disk.seen
 
@@ -40,7 +40,7 @@ abbrev pub HasReplayed : List ℕ → (ℕ → List ℕ) → Image → Type 0
 HasReplayed sectors log image = (k : ℕ) → k < length sectors → sector image (get_or sectors k 0) ≡ log (2 + k)
 
 -- a commit is there, and its targets have the log's contents
-pub record IsInstalled (sectors : List ℕ) (disk : State) : Type 0 where
+pub record IsInstalled (sectors : List ℕ) (disk : DiskState) : Type 0 where
   pub at_rest : IsAtRest sectors disk
   pub in_place : HasReplayed sectors (sector disk.seen) disk.seen
 
@@ -52,7 +52,3 @@ InLog n content = (2 ≤ n) × (n < 128)
 -- any content in one of these sectors
 abbrev pub InTargets : List ℕ → ℕ → List ℕ → Type 0
 InTargets sectors n content = Contains sectors n
-
--- this content in this sector
-abbrev pub IsWrite : ℕ → List ℕ → ℕ → List ℕ → Type 0
-IsWrite at written n content = (n ≡ at) × (content ≡ written)

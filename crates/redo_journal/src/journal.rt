@@ -2,7 +2,7 @@
 
 ghost use Rattle.std.specs.Prelude.{◌≡◌, ◌<◌, ℕ, List, length, Ok, IfOk, OnOk};
 ghost use Rattle.redo_journal.specs.Batch.{IsOnDisk, with_batch};
-ghost use Rattle.redo_journal.specs.Meaning.{IsData, SameData, data_of, disk_of, ReadsAs, IsEither};
+ghost use Rattle.redo_journal.specs.Meaning.{IsMapped, SameMap, data_of, disk_of, ReadsAs, IsEither};
 ghost use Rattle.redo_journal.specs.States.{IsIdle, IsLogged, IsSealed};
 ghost use Rattle.sector_disk.specs.Disk.{Image, IsImage, IsSame, Elapses, LeavesOnly, OnlyReads, HasCause};
 
@@ -78,7 +78,7 @@ impl<D: Disk> Journal<D> {
         requires on_disk { IsOnDisk (D.state self).size batch.now }
 
         ensures logged { IfOk result (λ logged. IsLogged batch.now (D.state logged)) }
-        ensures same { IfOk result (λ logged. SameData (data_of (D.state logged)) (data_of (D.state self))) }
+        ensures same { IfOk result (λ logged. SameMap (data_of (D.state logged)) (data_of (D.state self))) }
 
         // A stop at any moment of the call leaves what reads as before it.
         ensures any_moment { LeavesOnly (D.state self) (D.state (disk_of result)) (ReadsAs (D.state self).size (data_of (D.state self))) }
@@ -99,7 +99,7 @@ impl<D: Disk> Journal<D> {
     /// Reads sector 0, or one behind the log. At `Err` nothing is said of the buffer.
     pub fn read(&mut self, n: u32, to: &mut [u8; 512]) -> Result<(), DiskFault>
         requires idle { IsIdle (D.state self.old) }
-        requires part { IsData n }
+        requires part { IsMapped n }
         requires on_disk { n < (D.state self.old).size }
 
         ensures content { OnOk result (to.new ≡ data_of (D.state self.old) n) }
@@ -139,7 +139,7 @@ impl<D: Disk> Logged<D> {
         requires { IsLogged batch.now (D.state self) }
 
         ensures sealed { IfOk result (λ sealed. IsSealed batch.now (D.state sealed)) }
-        ensures changed { IfOk result (λ sealed. SameData (data_of (D.state sealed)) (with_batch batch.now (data_of (D.state self)))) }
+        ensures changed { IfOk result (λ sealed. SameMap (data_of (D.state sealed)) (with_batch batch.now (data_of (D.state self)))) }
 
         // A stop at any moment of the call leaves what reads as before it, or with the whole batch.
         ensures any_moment { LeavesOnly (D.state self) (D.state (disk_of result))
@@ -170,7 +170,7 @@ impl<D: Disk> Sealed<D> {
         requires { IsSealed batch.now (D.state self) }
 
         ensures idle { IfOk result (λ journal. IsIdle (D.state journal)) }
-        ensures same { IfOk result (λ journal. SameData (data_of (D.state journal)) (data_of (D.state self))) }
+        ensures same { IfOk result (λ journal. SameMap (data_of (D.state journal)) (data_of (D.state self))) }
 
         // A stop at any moment of the call leaves what reads as before it, which is with the batch.
         ensures any_moment { LeavesOnly (D.state self) (D.state (disk_of result)) (ReadsAs (D.state self).size (data_of (D.state self))) }

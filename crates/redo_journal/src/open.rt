@@ -3,7 +3,7 @@
 ghost use Rattle.std.specs.Prelude.{◌≡◌, ◌≤◌, ◌<◌, ℕ, List, IfOk, IfErr, OnOk, IsErrOf};
 ghost use Rattle.fs_layout.specs.Commit.{IsValidCommit};
 ghost use Rattle.redo_journal.specs.declared.open.OpenFault.TheVariants.{DiskFault as Device};
-ghost use Rattle.redo_journal.specs.Meaning.{SameData, data_of, disk_opened, MeansAs, MeansAsBefore};
+ghost use Rattle.redo_journal.specs.Meaning.{SameMap, data_of, disk_opened, MeansAs, MeansAsBefore};
 ghost use Rattle.redo_journal.specs.States.{IsIdle};
 ghost use Rattle.sector_disk.specs.Disk.{IsStable, LeavesOnly, HasFailed, sector};
 
@@ -36,7 +36,7 @@ impl<D: Disk> Journal<D> {
         requires { 128 ≤ (D.state disk).size }
 
         ensures idle { IfOk result (λ journal. IsIdle (D.state journal)) }
-        ensures same { SameData (data_of (D.state (disk_opened result))) (data_of (D.state disk)) }
+        ensures same { SameMap (data_of (D.state (disk_opened result))) (data_of (D.state disk)) }
 
         // A stop at any moment of the call leaves what means the same as an image from before it.
         ensures any_moment { LeavesOnly (D.state disk) (D.state (disk_opened result)) (MeansAsBefore (D.state disk)) }
@@ -61,7 +61,7 @@ fn settle<D: Disk>(disk: &mut D) -> Result<(), OpenFault>
     requires { 128 ≤ (D.state disk.old).size }
     ensures idle { OnOk result (IsIdle (D.state disk.new)) }
     ensures any_moment { LeavesOnly (D.state disk.old) (D.state disk.new) (MeansAsBefore (D.state disk.old)) }
-    ensures same { SameData (data_of (D.state disk.new)) (data_of (D.state disk.old)) }
+    ensures same { SameMap (data_of (D.state disk.new)) (data_of (D.state disk.old)) }
     ensures size { (D.state disk.new).size ≡ (D.state disk.old).size }
     ensures valid { OnOk result (IsValidCommit (D.state disk.old).size (sector (D.state disk.old).seen 1)) }
     ensures invalid { IsErrOf result OpenFault.BadCommitSector → IsValidCommit (D.state disk.old).size (sector (D.state disk.old).seen 1) → ⊥ }

@@ -3,8 +3,8 @@
 ghost use Rattle.std.specs.Prelude.{◌≡◌, ◌≤◌, ◌<◌, ◌+◌, ℕ, List, length, OnOk, slice_set, get_or};
 ghost use Rattle.fs_layout.specs.Commit.{AreTargets, commit_bytes};
 ghost use Rattle.redo_journal.specs.Batch.{Entry, targets};
-ghost use Rattle.redo_journal.specs.States.{HoldsLog, HoldsTargets, HasReplayed, InLog, InTargets, IsWrite};
-ghost use Rattle.sector_disk.specs.Disk.{AddsOnly, IsImageOr, IsStable, LeavesOnly, HasCause, sector};
+ghost use Rattle.redo_journal.specs.States.{HoldsLog, HoldsTargets, HasReplayed, InLog, InTargets};
+ghost use Rattle.sector_disk.specs.Disk.{AddsOnly, IsImageOr, IsStable, LeavesOnly, HasCause, sector, IsWrite};
 
 use sector_disk::{Disk, DiskFault};
 

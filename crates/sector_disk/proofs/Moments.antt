@@ -2,12 +2,12 @@
 use Rattle.std.proofs.Common.{◌≡◌, ◌⊎◌, inl, inr, ⊎_elim, ℕ, ◌<◌, ◌≤◌, ◌^◌, List, [], length, arith, refl, sym, ◌∙◌}
 use Rattle.std.proofs.lemmas.Bool.{cases_lt}
 use Rattle.std.proofs.lemmas.List.{ext_get_or, get_or_past}
-use Rattle.sector_disk.specs.Disk.{State, Image, sector, IsImage, IsStable, IsNarrowed, IsSame, ChangesOnly, Elapses, HasFailed, LeavesOnly, OnlyReads, AddsOnly, IsImageOr}
+use Rattle.sector_disk.specs.Disk.{DiskState, Image, sector, IsImage, IsStable, IsNarrowed, IsSame, ChangesOnly, Elapses, HasFailed, LeavesOnly, OnlyReads, AddsOnly, IsImageOr}
 
 -- ---- what a stop leaves at any moment of a run
 
 -- before the first call
-pub started : {disk : State} {P : Image → Type 0} → ((image : Image) → disk.left_since disk.moment image → IsImage disk image)
+pub started : {disk : DiskState} {P : Image → Type 0} → ((image : Image) → disk.left_since disk.moment image → IsImage disk image)
     → ((image : Image) → IsImage disk image → P image) → LeavesOnly disk disk P
 started only_now here = record {
   later = omega arith;
@@ -16,7 +16,7 @@ started only_now here = record {
 }
 
 -- one call more, after which a stop leaves what has P
-pub goes_on : {old mid new : State} {P : Image → Type 0} → LeavesOnly old mid P → Elapses mid new
+pub goes_on : {old mid new : DiskState} {P : Image → Type 0} → LeavesOnly old mid P → Elapses mid new
     → ((image : Image) → IsImage new image → P image) → LeavesOnly old new P
 goes_on {old} {mid} {new} {P} so_far time here = record {
   later = omega (arith, so_far.later, time.later);
@@ -27,12 +27,12 @@ goes_on {old} {mid} {new} {P} so_far time here = record {
 }
 
 -- one call alone, before and after which a stop leaves what has P
-pub one_call : {old new : State} {P : Image → Type 0} → ((image : Image) → old.left_since old.moment image → IsImage old image)
+pub one_call : {old new : DiskState} {P : Image → Type 0} → ((image : Image) → old.left_since old.moment image → IsImage old image)
     → ((image : Image) → IsImage old image → P image) → Elapses old new → ((image : Image) → IsImage new image → P image) → LeavesOnly old new P
 one_call only_now before time after = goes_on (started only_now before) time after
 
 -- one run after another
-pub joined : {old mid new : State} {P : Image → Type 0} → LeavesOnly old mid P → LeavesOnly mid new P → LeavesOnly old new P
+pub joined : {old mid new : DiskState} {P : Image → Type 0} → LeavesOnly old mid P → LeavesOnly mid new P → LeavesOnly old new P
 joined {old} {mid} {new} {P} first second = record {
   later = omega (arith, first.later, second.later);
   each = λ image left. ⊎_elim (first.each image) (λ has. has) (second.before old.moment image first.later left);
@@ -41,7 +41,7 @@ joined {old} {mid} {new} {P} first second = record {
 }
 
 -- what holds of each image, for a caller that asks for less
-pub weaker : {old new : State} {P Q : Image → Type 0} → ((image : Image) → P image → Q image) → LeavesOnly old new P → LeavesOnly old new Q
+pub weaker : {old new : DiskState} {P Q : Image → Type 0} → ((image : Image) → P image → Q image) → LeavesOnly old new P → LeavesOnly old new Q
 weaker implies run = record {
   later = run.later;
   each = λ image left. implies image (run.each image left);
@@ -49,42 +49,42 @@ weaker implies run = record {
 }
 
 -- what holds of each image since then holds of what a stop may leave now
-pub holds_now : {old new : State} {P : Image → Type 0} {image : Image} → LeavesOnly old new P
+pub holds_now : {old new : DiskState} {P : Image → Type 0} {image : Image} → LeavesOnly old new P
     → ((t : ℕ) (image : Image) → t ≤ new.moment → IsImage new image → new.left_since t image) → IsImage new image → P image
 holds_now {old} {new} {P} {image} run counts_now is = run.each image (counts_now old.moment image run.later is)
 
 -- ---- images of one moment and of the next
 
 -- an image after a sync was one before it
-pub narrowed : {old new : State} {image : Image} → IsNarrowed old new → IsImage new image → IsImage old image
+pub narrowed : {old new : DiskState} {image : Image} → IsNarrowed old new → IsImage new image → IsImage old image
 narrowed {old} {new} {image} changes is = record {
   size = is.size ∙ changes.size;
   each = λ n below. changes.nothing_else n (sector image n) (is.each n (omega (arith, below, changes.size)));
 }
 
 -- an image after a call that changes nothing was one before it, and the other way round
-pub unchanged : {old new : State} {image : Image} → IsSame old new → IsImage new image → IsImage old image
+pub unchanged : {old new : DiskState} {image : Image} → IsSame old new → IsImage new image → IsImage old image
 unchanged same is = narrowed same.narrowed is
 
-pub still : {old new : State} {image : Image} → IsSame old new → IsImage old image → IsImage new image
+pub still : {old new : DiskState} {image : Image} → IsSame old new → IsImage old image → IsImage new image
 still {old} {new} {image} same is = record {
   size = is.size ∙ sym same.narrowed.size;
   each = λ n below. same.kept n (sector image n) (is.each n (omega (arith, below, same.narrowed.size)));
 }
 
 -- what a stop leaves of a stable disk is what reads give
-pub stable_image : {disk : State} {image : Image} → IsStable disk → length disk.seen ≡ disk.size → IsImage disk image → image ≡ disk.seen
+pub stable_image : {disk : DiskState} {image : Image} → IsStable disk → length disk.seen ≡ disk.size → IsImage disk image → image ≡ disk.seen
 stable_image {disk} {image} stable whole is =
     ext_get_or [] image disk.seen (is.size ∙ sym whole)
     (λ n below. stable n (sector image n) (omega (arith, is.size)) (is.each n (omega (arith, is.size))))
 
 -- ---- contents that several writes may add
 
-pub adds_nothing : {R : ℕ → List ℕ → Type 0} {disk : State} → AddsOnly R disk disk
+pub adds_nothing : {R : ℕ → List ℕ → Type 0} {disk : DiskState} → AddsOnly R disk disk
 adds_nothing = record { size = refl; nothing_else = λ n content holds. inl holds }
 
 -- a write more
-pub adds_write : {R : ℕ → List ℕ → Type 0} {old mid new : State} {n : ℕ} {content : List ℕ} → AddsOnly R old mid
+pub adds_write : {R : ℕ → List ℕ → Type 0} {old mid new : DiskState} {n : ℕ} {content : List ℕ} → AddsOnly R old mid
     → ChangesOnly mid new n content → ((k : ℕ) (c : List ℕ) → k ≡ n → c ≡ content → R k c) → AddsOnly R old new
 adds_write so_far changes allowed = record {
   size = changes.size ∙ so_far.size;
@@ -93,26 +93,26 @@ adds_write so_far changes allowed = record {
 }
 
 -- a read or a sync more
-pub adds_narrowed : {R : ℕ → List ℕ → Type 0} {old mid new : State} → AddsOnly R old mid → IsNarrowed mid new → AddsOnly R old new
+pub adds_narrowed : {R : ℕ → List ℕ → Type 0} {old mid new : DiskState} → AddsOnly R old mid → IsNarrowed mid new → AddsOnly R old new
 adds_narrowed so_far changes = record {
   size = changes.size ∙ so_far.size;
   nothing_else = λ k c holds. so_far.nothing_else k c (changes.nothing_else k c holds);
 }
 
 -- what a stop leaves after them
-pub image_or : {R : ℕ → List ℕ → Type 0} {old new : State} → AddsOnly R old new → (image : Image) → IsImage new image → IsImageOr R old image
+pub image_or : {R : ℕ → List ℕ → Type 0} {old new : DiskState} → AddsOnly R old new → (image : Image) → IsImage new image → IsImageOr R old image
 image_or {R} {old} {new} adds image is = record {
   size = is.size ∙ adds.size;
   each = λ n below. adds.nothing_else n (sector image n) (is.each n (omega (arith, below, adds.size)));
 }
 
 -- a sector of a stable disk is as it was, or it has what R allows
-pub stays_or : {R : ℕ → List ℕ → Type 0} {disk : State} {image : Image} → IsStable disk → IsImageOr R disk image
+pub stays_or : {R : ℕ → List ℕ → Type 0} {disk : DiskState} {image : Image} → IsStable disk → IsImageOr R disk image
     → (n : ℕ) → n < disk.size → (sector image n ≡ sector disk.seen n) ⊎ R n (sector image n)
 stays_or {R} {disk} {image} stable is n below = ⊎_elim (λ was. inl (stable n (sector image n) below was)) (λ new. inr new) (is.each n below)
 
 -- where R allows nothing, a sector of a stable disk is as it was, also past its end
-pub stays : {R : ℕ → List ℕ → Type 0} {disk : State} {image : Image} → IsStable disk → length disk.seen ≡ disk.size → IsImageOr R disk image
+pub stays : {R : ℕ → List ℕ → Type 0} {disk : DiskState} {image : Image} → IsStable disk → length disk.seen ≡ disk.size → IsImageOr R disk image
     → (n : ℕ) → ((content : List ℕ) → R n content → ⊥) → sector image n ≡ sector disk.seen n
 stays {R} {disk} {image} stable whole is n none = elim (cases_lt n disk.size) [
   | inl below ↦ ⊎_elim (λ was. was) (λ new. absurd (none (sector image n) new)) (stays_or stable is n below)
@@ -121,7 +121,7 @@ stays {R} {disk} {image} stable whole is n none = elim (cases_lt n disk.size) [
 
 -- ---- reads alone
 
-pub reads_nothing : {disk : State} → OnlyReads disk disk
+pub reads_nothing : {disk : DiskState} → OnlyReads disk disk
 reads_nothing = record {
   narrowed = record { size = refl; seen = refl; nothing_else = λ n content holds. holds };
   later = omega arith;
@@ -130,7 +130,7 @@ reads_nothing = record {
 }
 
 -- a read more
-pub reads_more : {old mid new : State} → OnlyReads old mid → IsSame mid new → Elapses mid new → mid.failures ≤ new.failures
+pub reads_more : {old mid new : DiskState} → OnlyReads old mid → IsSame mid new → Elapses mid new → mid.failures ≤ new.failures
     → ((t : ℕ) (image : Image) → t ≤ mid.moment → IsImage mid image → mid.left_since t image) → OnlyReads old new
 reads_more {old} {mid} {new} so_far same time counted counts_now = record {
   narrowed = record {
@@ -146,7 +146,7 @@ reads_more {old} {mid} {new} so_far same time counted counts_now = record {
 }
 
 -- one after the other
-pub reads_joined : {old mid new : State} → OnlyReads old mid → OnlyReads mid new → OnlyReads old new
+pub reads_joined : {old mid new : DiskState} → OnlyReads old mid → OnlyReads mid new → OnlyReads old new
 reads_joined {old} {mid} {new} first second = record {
   narrowed = record {
     size = second.narrowed.size ∙ first.narrowed.size;
@@ -159,7 +159,7 @@ reads_joined {old} {mid} {new} first second = record {
 }
 
 -- a run after reads leaves only what it would have left had it begun before them
-pub reads_then : {old mid new : State} {P : Image → Type 0} → OnlyReads old mid → LeavesOnly mid new P
+pub reads_then : {old mid new : DiskState} {P : Image → Type 0} → OnlyReads old mid → LeavesOnly mid new P
     → ((image : Image) → old.left_since old.moment image → P image) → LeavesOnly old new P
 reads_then {old} {mid} {new} {P} reads run here = record {
   later = omega (arith, reads.later, run.later);
@@ -171,8 +171,8 @@ reads_then {old} {mid} {new} {P} reads run here = record {
 -- ---- faults
 
 -- a fault in the later part is one of the whole, and so is one in the earlier part
-pub failed_later : (old mid new : State) → old.failures ≤ mid.failures → HasFailed mid new → HasFailed old new
+pub failed_later : (old mid new : DiskState) → old.failures ≤ mid.failures → HasFailed mid new → HasFailed old new
 failed_later old mid new grows failed = ⊎_elim (λ more. inl (omega (arith, grows, more))) (λ worn. inr worn) failed
 
-pub failed_earlier : (old mid new : State) → HasFailed old mid → mid.failures ≤ new.failures → new.failures < 2 ^ 64 → HasFailed old new
+pub failed_earlier : (old mid new : DiskState) → HasFailed old mid → mid.failures ≤ new.failures → new.failures < 2 ^ 64 → HasFailed old new
 failed_earlier old mid new failed grows fits = ⊎_elim (λ more. inl (omega (arith, grows, more))) (λ worn. inr (omega (arith, worn, grows, fits))) failed

@@ -2,7 +2,7 @@
 use Rattle.std.proofs.Common.{◌≡◌, ℕ, List, [], ◌∷◌, length, refl, sym, ◌∙◌, ap, subst, fold}
 use Rattle.std.proofs.lemmas.List.Sums.{fold_push}
 use Rattle.sector_disk.specs.Disk.{Image, IsSame}
-use Rattle.sector_disk.specs.Record.{Past, Held, after, held_after, replay, since_sync, MayHold, state_of}
+use Rattle.sector_disk.specs.Record.{Past, Held, after_events, held_after, replay, since_sync, MayHold, recorded_state}
 use Rattle.sector_disk.specs.Replay.{length-after, seen_replayed}
 use Rattle.sector_disk.specs.Whole.{AreWhole, held_whole}
 use Rattle.sector_disk.specs.declared.history.Event.{Event}
@@ -33,7 +33,7 @@ pub length-since_sync : (past : Past) → length (since_sync past).start ≡ len
 length-since_sync past = length-held (record { stable = past.start; pending = [] }) past.events
 
 -- what came before the last sync may be forgotten
-pub same_since_sync : (past : Past) (failures : ℕ) → IsSame (state_of past failures) (state_of (since_sync past) failures)
+pub same_since_sync : (past : Past) (failures : ℕ) → IsSame (recorded_state past failures) (recorded_state (since_sync past) failures)
 same_since_sync past failures = record {
   narrowed = record {
     size = length-since_sync past;

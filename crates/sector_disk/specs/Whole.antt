@@ -7,7 +7,7 @@ use Rattle.std.proofs.Common.{◌≡◌, ⊎_elim, ℕ, zero, suc, ◌<◌, List
 use Rattle.std.specs.Prelude.{Contains}
 use Rattle.std.proofs.lemmas.List.Elements.{Contains-append_left, Contains-append_right, Contains-append_cases}
 use Rattle.sector_disk.specs.Disk.{Image, sector, IsWholeSector}
-use Rattle.sector_disk.specs.Record.{Past, Held, after, held_after, replay, MayHold, Leaves}
+use Rattle.sector_disk.specs.Record.{Past, Held, after_events, held_after, replay, MayHold, Leaves}
 use Rattle.sector_disk.specs.Replay.{after_cases, length-after}
 use Rattle.sector_disk.specs.declared.history.Event.{Event}
 use Rattle.sector_disk.specs.declared.history.Event.TheVariants.{Written, Synced}
@@ -32,10 +32,10 @@ record HoldsWhole (sectors : ℕ) (held : Held) : Type 0 where
 pub none_written : WriteSectors []
 none_written n content found = absurd (omega (arith, found.1))
 
-after_whole : (image : Image) (events : List Event) → AreSectors image → WriteSectors events → AreSectors (after image events)
+after_whole : (image : Image) (events : List Event) → AreSectors image → WriteSectors events → AreSectors (after_events image events)
 after_whole image events here written n below =
     ⊎_elim (λ was. subst IsWholeSector (sym was) (here n (omega (arith, below, length-after image events))))
-    (λ new. written n (sector (after image events) n) new) (after_cases image events n)
+    (λ new. written n (sector (after_events image events) n) new) (after_cases image events n)
 
 -- of the events the first is gone
 others : (event : Event) (events : List Event) → WriteSectors (event ∷ events) → WriteSectors events

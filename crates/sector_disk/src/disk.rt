@@ -2,7 +2,7 @@
 //! A stop leaves in each sector what was there at the last sync that succeeded, or any content written since.
 
 ghost use Rattle.std.specs.Prelude.{◌≡◌, ◌≤◌, ◌<◌, ◌^◌, ◌-◌, ℕ, List, IsErr, OnOk, OnErr};
-ghost use Rattle.sector_disk.specs.Disk.{State, Image, IsImage, IsSame, IsWritten, ChangesOnly, IsStable, IsNarrowed, Elapses, HasCause, HasWriteCause, IsWholeSector, sector};
+ghost use Rattle.sector_disk.specs.Disk.{DiskState, Image, IsImage, IsSame, IsWritten, ChangesOnly, IsStable, IsNarrowed, Elapses, HasCause, HasWriteCause, IsWholeSector, sector};
 
 /// A read, a write or a sync failed, and the disk has counted it.
 #[derive(Clone, Copy, Debug, PartialEq, Eq)]
@@ -14,7 +14,7 @@ pub struct DiskFault;
 /// there after any stop.
 pub trait Disk {
     /// What reads give, what a stop may leave now, and what a stop might have left since an earlier moment.
-    ghost state: { Self → State };
+    ghost state: { Self → DiskState };
 
     /// The number of sectors.
     fn size(&self) -> u32

@@ -2,7 +2,7 @@
 
 ghost use Rattle.std.specs.Prelude.{◌≡◌, ◌^◌, ◌<◌, ◌++◌, [], ◌∷◌, length, vec_len, ℕ, ◌≤◌, Contains, IfSome, OnOk, OnErr, IfOk};
 ghost use Rattle.sector_disk.specs.Disk.{sector};
-ghost use Rattle.sector_disk.specs.Record.{after, replay, since_sync, Leaves, MayHold};
+ghost use Rattle.sector_disk.specs.Record.{after_events, replay, since_sync, Leaves, MayHold};
 
 use std::alloc::{AllocError, Global};
 use std::marker::Model;
@@ -76,7 +76,7 @@ impl History {
     /// What a read gives.
     pub fn read(&self, n: u32, to: &mut [u8; 512])
         requires { n < length self.now.start }
-        ensures { to.new ≡ sector (after self.now.start self.now.events) n }
+        ensures { to.new ≡ sector (after_events self.now.start self.now.events) n }
     {
         *to = self.seen[n as usize];
     }
@@ -135,7 +135,7 @@ impl History {
 
 // Does the writes in an image.
 fn settle(image: &mut [[u8; 512]], pending: &[Event])
-    ensures { image.new ≡ after image.old pending.now }
+    ensures { image.new ≡ after_events image.old pending.now }
 {
     for event in pending {
         if let Event::Written(n, content) = event {

@@ -3,7 +3,7 @@
 
 ghost use Rattle.std.specs.Prelude.{◌≡◌, ◌^◌, ◌<◌, ◌-◌, length, vec_len, replicate, IfOk, IsErr, ◌+◌, ℕ, get_or};
 ghost use Rattle.sector_disk.specs.Disk.{IsFresh, IsWholeSector};
-ghost use Rattle.sector_disk.specs.Record.{state_of};
+ghost use Rattle.sector_disk.specs.Record.{recorded_state};
 ghost use Rattle.sector_disk.specs.Replay.{seen_is_image, counts_now, only_now};
 ghost use Rattle.sector_disk.specs.Whole.{AreSectors, AreWhole, whole_sectors};
 
@@ -100,7 +100,7 @@ fn tell_all_whole(sectors: &[[u8; 512]])
 }
 
 impl Disk for MemDisk {
-    ghost state = { λ disk. state_of disk.history disk.failures };
+    ghost state = { λ disk. recorded_state disk.history disk.failures };
 
     ghost size_fits = { λ disk. disk.small };
 

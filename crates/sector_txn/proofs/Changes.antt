@@ -3,9 +3,9 @@ use Rattle.std.proofs.Common.{◌≡◌, inl, inr, ⊎_elim, ℕ, zero, suc, ◌
 use Rattle.std.proofs.lemmas.Bool.{cases_eq, cases_Bool, cond_both, cond-true, cond-false, true≢false}
 use Rattle.std.proofs.lemmas.Result.{on_err_weaker}
 use Rattle.std.specs.Prelude.{Result, Contains}
-use Rattle.sector_disk.specs.Disk.{State, HasCause}
+use Rattle.sector_disk.specs.Disk.{DiskState, HasCause}
 use Rattle.sector_disk.proofs.Moments.{reads_nothing, reads_joined, failed_later}
-use Rattle.sector_txn.specs.Sectors.{TxnState, SameStore, IsUnchanged, IsPut, lacking, ChangesOnly}
+use Rattle.sector_txn.specs.Sectors.{TxnState, SameStore, IsUnchanged, IsPut, lacking, PutsOnly}
 
 -- ---- the store below
 
@@ -20,7 +20,7 @@ store_joined first second = record {
 }
 
 -- a fault of a later call is one of the whole run
-pub cause_later : {T E : Type 0} {old mid : TxnState} {new : State} {result : Result T E} → SameStore old mid → HasCause mid.disk new result → HasCause old.disk new result
+pub cause_later : {T E : Type 0} {old mid : TxnState} {new : DiskState} {result : Result T E} → SameStore old mid → HasCause mid.disk new result → HasCause old.disk new result
 cause_later {old = old} {mid = mid} {new = new} {result = result} first cause = record {
   later = omega (arith, first.reads.failures, cause.later);
   fault = on_err_weaker result (λ failed. failed_later old.disk mid.disk new first.reads.failures failed) cause.fault;
@@ -86,7 +86,7 @@ room_for txn ns n (k, lt, is) enough none = omega (arith, enough, lacking_some t
 -- ---- the sectors that change
 
 -- before the first call
-pub changes_nothing : {R : ℕ → Type 0} (shared : List ℕ) {txn : TxnState} → ChangesOnly R shared 0 txn txn
+pub changes_nothing : {R : ℕ → Type 0} (shared : List ℕ) {txn : TxnState} → PutsOnly R shared 0 txn txn
 changes_nothing shared = record {
   store = store_same;
   others = λ n out. refl;
@@ -96,7 +96,7 @@ changes_nothing shared = record {
 }
 
 -- a call more that changes nothing
-pub changes_read : {R : ℕ → Type 0} {shared : List ℕ} {more : ℕ} {old mid new : TxnState} → ChangesOnly R shared more old mid → IsUnchanged mid new → ChangesOnly R shared more old new
+pub changes_read : {R : ℕ → Type 0} {shared : List ℕ} {more : ℕ} {old mid new : TxnState} → PutsOnly R shared more old mid → IsUnchanged mid new → PutsOnly R shared more old new
 changes_read {R} {shared} {more} {old} {mid} {new} so_far same = record {
   store = store_joined so_far.store same.store;
   others = λ n out. same.sectors n ∙ so_far.others n out;
@@ -106,7 +106,7 @@ changes_read {R} {shared} {more} {old} {mid} {new} so_far same = record {
 }
 
 -- a put more
-pub changes_put : {R : ℕ → Type 0} {shared : List ℕ} {more n : ℕ} {content : List ℕ} {old mid new : TxnState} → ChangesOnly R shared more old mid → IsPut n content mid new → R n → ChangesOnly R shared (more + 1) old new
+pub changes_put : {R : ℕ → Type 0} {shared : List ℕ} {more n : ℕ} {content : List ℕ} {old mid new : TxnState} → PutsOnly R shared more old mid → IsPut n content mid new → R n → PutsOnly R shared (more + 1) old new
 changes_put {R} {shared} {more} {n} {content} {old} {mid} {new} so_far put allowed = record {
   store = store_joined so_far.store put.store;
   others = λ m out. put.sectors.others m (λ is. out (subst R (sym is) allowed)) ∙ so_far.others m out;
@@ -122,7 +122,7 @@ changes_put {R} {shared} {more} {n} {content} {old} {mid} {new} so_far put allow
 }
 
 -- a put more of a sector of `shared`
-pub changes_put_shared : {R : ℕ → Type 0} {shared : List ℕ} {more n : ℕ} {content : List ℕ} {old mid new : TxnState} → ChangesOnly R shared more old mid → IsPut n content mid new → R n → Contains shared n → ChangesOnly R shared more old new
+pub changes_put_shared : {R : ℕ → Type 0} {shared : List ℕ} {more n : ℕ} {content : List ℕ} {old mid new : TxnState} → PutsOnly R shared more old mid → IsPut n content mid new → R n → Contains shared n → PutsOnly R shared more old new
 changes_put_shared {R} {shared} {more} {n} {content} {old} {mid} {new} so_far put allowed (k, lt, is) =
     let all = changes_put so_far put allowed in
     record {
@@ -137,7 +137,7 @@ changes_put_shared {R} {shared} {more} {n} {content} {old} {mid} {new} so_far pu
     }
 
 -- one run after another
-pub changes_joined : {R : ℕ → Type 0} {shared : List ℕ} {first_more then_more : ℕ} {old mid new : TxnState} → ChangesOnly R shared first_more old mid → ChangesOnly R shared then_more mid new → ChangesOnly R shared (first_more + then_more) old new
+pub changes_joined : {R : ℕ → Type 0} {shared : List ℕ} {first_more then_more : ℕ} {old mid new : TxnState} → PutsOnly R shared first_more old mid → PutsOnly R shared then_more mid new → PutsOnly R shared (first_more + then_more) old new
 changes_joined first then = record {
   store = store_joined first.store then.store;
   others = λ n out. then.others n out ∙ first.others n out;
@@ -147,7 +147,7 @@ changes_joined first then = record {
 }
 
 -- for a caller that asks for less
-pub changes_weaker : {R Q : ℕ → Type 0} {shared : List ℕ} {fewer more : ℕ} {old new : TxnState} → ((n : ℕ) → R n → Q n) → fewer ≤ more → ChangesOnly R shared fewer old new → ChangesOnly Q shared more old new
+pub changes_weaker : {R Q : ℕ → Type 0} {shared : List ℕ} {fewer more : ℕ} {old new : TxnState} → ((n : ℕ) → R n → Q n) → fewer ≤ more → PutsOnly R shared fewer old new → PutsOnly Q shared more old new
 changes_weaker implies at_most run = record {
   store = run.store;
   others = λ n out. run.others n (λ has. out (implies n has));
@@ -157,7 +157,7 @@ changes_weaker implies at_most run = record {
 }
 
 -- for a caller that shares sectors
-pub changes_beside : {R : ℕ → Type 0} {more : ℕ} {old new : TxnState} → ChangesOnly R [] more old new → (shared : List ℕ) → ChangesOnly R shared more old new
+pub changes_beside : {R : ℕ → Type 0} {more : ℕ} {old new : TxnState} → PutsOnly R [] more old new → (shared : List ℕ) → PutsOnly R shared more old new
 changes_beside {R} {more} {old} {new} run shared = record {
   store = run.store;
   others = run.others;

@@ -3,12 +3,12 @@ use Rattle.std.proofs.Common.{◌≡◌, ◌≢◌, ℕ, ◌+◌, ◌-◌, ◌�
 use Rattle.std.proofs.lemmas.Bool.{cond_both, cond-true, cond-false, eq-eqb, ne_eqb, eqb-true}
 use Rattle.fs_layout.specs.Bytes.{SectorMap}
 use Rattle.fs_layout.specs.Changes.{Puts}
-use Rattle.sector_disk.specs.Disk.{State}
+use Rattle.sector_disk.specs.Disk.{DiskState}
 use Rattle.sector_disk.proofs.Moments.{reads_nothing}
 use Rattle.redo_journal.specs.Batch.{Entry, has_entry, put_entry, with_batch}
 use Rattle.redo_journal.specs.Meaning.{data_of}
 use Rattle.sector_txn.specs.Sectors.{IsPut}
-use Rattle.sector_txn.specs.Stores.{state_of, changed, unchanged}
+use Rattle.sector_txn.specs.Stores.{txn_state, map_now, map_before}
 
 -- ---- which sectors have an entry after a put
 pub has_here : (entries : List Entry) (n : ℕ) (content : List ℕ) → has_entry (put_entry entries n content) n ≡ true
@@ -34,10 +34,10 @@ put_into old new n content f map = record {
   others = λ m other. map m ∙ cond-false (eqb m n) content (with_batch old f m) (ne_eqb m n other);
 }
 
-pub delta_put : {D : Type 0} (state : D → State) (disk : D) (waiting old new : List Entry) (n : ℕ) (content : List ℕ) → length old ≤ 64 → (has_entry old n ≡ false → 0 < 64 - length old)
+pub delta_put : {D : Type 0} (state : D → DiskState) (disk : D) (waiting old new : List Entry) (n : ℕ) (content : List ℕ) → length old ≤ 64 → (has_entry old n ≡ false → 0 < 64 - length old)
     → new ≡ put_entry old n content → ((f : SectorMap) (m : ℕ) → with_batch new f m ≡ cond (eqb m n) content (with_batch old f m)) → length new ≡ cond (has_entry old n) (length old) (length old + 1)
-    → IsPut n content (state_of state (record { disk = disk; waiting = waiting; delta = old })) (state_of state (record { disk = disk; waiting = waiting; delta = new }))
-unfolding changed unchanged
+    → IsPut n content (txn_state state (record { disk = disk; waiting = waiting; delta = old })) (txn_state state (record { disk = disk; waiting = waiting; delta = new }))
+unfolding map_now map_before
 delta_put {D} state disk waiting old new n content few room put map len =
     let sectors = with_batch waiting (data_of (state disk)) in
     record {

@@ -1,26 +1,26 @@
 -- What a stop leaves of a store, from one call to the next.
 use Rattle.std.proofs.Common.{◌≡◌, inl, inr, ⊎_elim, refl, ◌∙◌, subst}
 use Rattle.fs_layout.specs.Bytes.{SectorMap}
-use Rattle.sector_disk.specs.Disk.{State, Image, IsImage, IsNarrowed, LeavesOnly, OnlyReads}
+use Rattle.sector_disk.specs.Disk.{DiskState, Image, IsImage, IsNarrowed, LeavesOnly, OnlyReads}
 use Rattle.sector_disk.proofs.Moments.{narrowed, reads_then, started, weaker}
-use Rattle.redo_journal.specs.Meaning.{SameData, IsEither, MeansAs, MeansAsBefore}
+use Rattle.redo_journal.specs.Meaning.{SameMap, IsEither, MeansAs, MeansAsBefore}
 use Rattle.redo_journal.proofs.Meaning.{reads_same}
 use Rattle.sector_txn.specs.Images.{IsOneOf, LeavesOneOf}
 
 -- an image means what it means itself
-pub means_itself : {disk : State} {image : Image} → IsImage disk image → MeansAsBefore disk image
+pub means_itself : {disk : DiskState} {image : Image} → IsImage disk image → MeansAsBefore disk image
 means_itself {disk} {image} is = (image, is, record { whole = is.size; commit = (λ valid. valid, λ valid. valid); reads = λ n part. refl })
 
 -- a call that does nothing
-pub nothing_left : {before after : SectorMap} {disk : State} → ((image : Image) → disk.left_since disk.moment image → IsImage disk image) → LeavesOneOf before after disk disk
+pub nothing_left : {before after : SectorMap} {disk : DiskState} → ((image : Image) → disk.left_since disk.moment image → IsImage disk image) → LeavesOneOf before after disk disk
 nothing_left only_now = record { size = refl; any_moment = started only_now (λ image is. inl (means_itself is)) }
 
 -- a whole commit
-pub commit_left : {before after : SectorMap} {old new : State} → new.size ≡ old.size → LeavesOnly old new (IsEither old.size before after) → LeavesOneOf before after old new
+pub commit_left : {before after : SectorMap} {old new : DiskState} → new.size ≡ old.size → LeavesOnly old new (IsEither old.size before after) → LeavesOneOf before after old new
 commit_left size run = record { size = size; any_moment = weaker (λ image either. inr either) run }
 
 -- the same of maps with the same data
-pub maps_same : {before after before' after' : SectorMap} {old new : State} → SameData before before' → SameData after after' → LeavesOneOf before after old new → LeavesOneOf before' after' old new
+pub maps_same : {before after before' after' : SectorMap} {old new : DiskState} → SameMap before before' → SameMap after after' → LeavesOneOf before after old new → LeavesOneOf before' after' old new
 maps_same {before} {after} {before'} {after'} {old} {new} same_before same_after run = record {
   size = run.size;
   any_moment = weaker
@@ -31,14 +31,14 @@ maps_same {before} {after} {before'} {after'} {old} {new} same_before same_after
 }
 
 -- an image of a later moment, before which the disk was only read
-one_of_earlier : {before after : SectorMap} {old new : State} → IsNarrowed old new → (image : Image) → IsOneOf new before after image → IsOneOf old before after image
+one_of_earlier : {before after : SectorMap} {old new : DiskState} → IsNarrowed old new → (image : Image) → IsOneOf new before after image → IsOneOf old before after image
 one_of_earlier {before} {after} {old} {new} changes image =
     ⊎_elim (λ (means : MeansAsBefore new image). inl (means.0, narrowed changes means.1, subst (λ k. MeansAs k means.0 image) changes.size means.2))
     (⊎_elim (λ reads. inr (inl (reads_same old.size new.size before before changes.size (λ n part. refl) image reads)))
     (λ reads. inr (inr (reads_same old.size new.size after after changes.size (λ n part. refl) image reads))))
 
 -- a call that begins with reads alone
-pub after_reads : {before after : SectorMap} {old mid new : State} → ((image : Image) → old.left_since old.moment image → IsImage old image) → OnlyReads old mid → LeavesOneOf before after mid new → LeavesOneOf before after old new
+pub after_reads : {before after : SectorMap} {old mid new : DiskState} → ((image : Image) → old.left_since old.moment image → IsImage old image) → OnlyReads old mid → LeavesOneOf before after mid new → LeavesOneOf before after old new
 after_reads only_now reads run = record {
   size = run.size ∙ reads.narrowed.size;
   any_moment = reads_then reads (weaker (one_of_earlier reads.narrowed) run.any_moment) (λ image left. inl (means_itself (only_now image left)));

@@ -2,7 +2,7 @@
 use Rattle.std.proofs.Common.{◌≡◌, inl, inr, ⊎_elim, ℕ, zero, suc, ◌+◌, ◌≤◌, ◌<◌, cond, List, [], ◌∷◌, length, take, eqb, arith, refl, sym, ◌∙◌, ap, add-one}
 use Rattle.std.proofs.lemmas.Bool.Decides.{nat_tests}
 use Rattle.fs_layout.specs.Bytes.{SectorMap}
-use Rattle.sector_disk.specs.Disk.{State, IsImage}
+use Rattle.sector_disk.specs.Disk.{DiskState, IsImage}
 use Rattle.sector_disk.proofs.Moments.{weaker}
 use Rattle.redo_journal.specs.Batch.{Entry, IsBatch, IsOnDisk, target_at, content_at, with_batch}
 use Rattle.redo_journal.specs.Meaning.{data_of}
@@ -13,7 +13,7 @@ use Rattle.sector_txn.specs.Images.{LeavesOneOf}
 
 -- ---- images
 -- a commit of what waits: an image means what the disk does, or it reads with all of it
-pub waiting_left : {after : SectorMap} {old new : State} → IsIdle old → IsImage old old.seen → LeavesOneOf (data_of old) after old new → LeavesOneOf after after old new
+pub waiting_left : {after : SectorMap} {old new : DiskState} → IsIdle old → IsImage old old.seen → LeavesOneOf (data_of old) after old new → LeavesOneOf after after old new
 waiting_left {after} {old} {new} idle seen run = record {
   size = run.size;
   any_moment = weaker
@@ -23,7 +23,7 @@ waiting_left {after} {old} {new} idle seen run = record {
 }
 
 -- images of which none reads as the second map
-pub first_map : {before after : SectorMap} {old new : State} → LeavesOneOf before before old new → LeavesOneOf before after old new
+pub first_map : {before after : SectorMap} {old new : DiskState} → LeavesOneOf before before old new → LeavesOneOf before after old new
 first_map run = record {
   size = run.size;
   any_moment = weaker (λ image. ⊎_elim (λ means. inl means) (⊎_elim (λ reads. inr (inl reads)) (λ reads. inr (inl reads)))) run.any_moment;

@@ -5,19 +5,19 @@
 use Rattle.std.specs.Prelude.{◌≡◌, ◌⊎◌}
 use Rattle.fs_layout.specs.Bytes.{SectorMap}
 use Rattle.redo_journal.specs.Meaning.{ReadsAs, MeansAsBefore}
-use Rattle.sector_disk.specs.Disk.{State, Image, IsImage, LeavesOnly}
+use Rattle.sector_disk.specs.Disk.{DiskState, Image, IsImage, LeavesOnly}
 
 -- The image means what an image did that a stop might have left at the start, or it reads as one of the two maps. In each
 -- case it has the disk's length, and its commit sector is valid, at least where that of the other image is.
-abbrev pub IsOneOf : State → SectorMap → SectorMap → Image → Type 0
+abbrev pub IsOneOf : DiskState → SectorMap → SectorMap → Image → Type 0
 IsOneOf start before after image =
     MeansAsBefore start image ⊎ ReadsAs start.size before image ⊎ ReadsAs start.size after image
 
 -- a stop at any moment since old leaves such an image, and the disk keeps its length
-pub record LeavesOneOf (before after : SectorMap) (old new : State) : Type 0 where
+pub record LeavesOneOf (before after : SectorMap) (old new : DiskState) : Type 0 where
   pub size : new.size ≡ old.size
   pub any_moment : LeavesOnly old new (IsOneOf old before after)
 
 -- a stop leaves only what reads as the map
-abbrev pub EachReadsAs : SectorMap → State → Type 0
+abbrev pub EachReadsAs : SectorMap → DiskState → Type 0
 EachReadsAs sectors disk = (image : Image) → IsImage disk image → ReadsAs disk.size sectors image

@@ -3,11 +3,11 @@
 --     SameStore        the store below it is the same
 --     IsUnchanged, IsPut        what a `get` and a `put` do
 --     lacking        how much room sectors need
---     ChangesOnly        what several gets and puts do
+--     PutsOnly        what several gets and puts do
 use Rattle.std.specs.Prelude.{◌≡◌, ◌≢◌, ◌⊎◌, ℕ, ◌+◌, ◌≤◌, List, [], ◌∷◌, Bool, true, false, if◌then◌else◌}
 use Rattle.fs_layout.specs.Bytes.{SectorMap}
 use Rattle.fs_layout.specs.Changes.{Puts}
-use Rattle.sector_disk.specs.Disk.{State, OnlyReads}
+use Rattle.sector_disk.specs.Disk.{DiskState, OnlyReads}
 
 -- what is known of a transaction at one moment
 pub record TxnState : Type 1 where
@@ -20,7 +20,7 @@ pub record TxnState : Type 1 where
   -- how many sectors can still be put that weren't yet
   pub room : ℕ
   -- the disk below
-  pub disk : State
+  pub disk : DiskState
 
 -- what the transaction began with is the same, and the disk was only read
 pub record SameStore (old new : TxnState) : Type 0 where
@@ -50,7 +50,7 @@ lacking txn (n ∷ ns) = if txn.has_put n then lacking txn ns else lacking txn n
 
 -- Only sectors with R differ or were put. They have taken the room of those that were put from `shared`, and of at most
 -- so many more.
-pub record ChangesOnly (R : ℕ → Type 0) (shared : List ℕ) (more : ℕ) (old new : TxnState) : Type 0 where
+pub record PutsOnly (R : ℕ → Type 0) (shared : List ℕ) (more : ℕ) (old new : TxnState) : Type 0 where
   pub store : SameStore old new
   pub others : (n : ℕ) → (R n → ⊥) → new.sectors n ≡ old.sectors n
   pub delta : (n : ℕ) → new.has_put n ≡ true → (old.has_put n ≡ true) ⊎ R n

@@ -1,6 +1,6 @@
 -- A store and a transaction, as callers see them.
 --     StoreView, TxnView        their values
---     present, state_of        the map of a store; the state of a transaction
+--     present, txn_state        the map of a store; the state of a transaction
 --     disk_after        the disk in what `keep` and `flush` give
 --     IsStore, IsTxn        what each of them is
 use Rattle.std.specs.Prelude.{◌≡◌, ◌-◌, ◌≤◌, List, [], length, Result, Ok, Err}
@@ -8,7 +8,7 @@ use Rattle.fs_layout.specs.Bytes.{SectorMap}
 use Rattle.redo_journal.specs.Batch.{Entry, IsOnDisk, has_entry, with_batch}
 use Rattle.redo_journal.specs.Meaning.{data_of}
 use Rattle.redo_journal.specs.States.{IsIdle}
-use Rattle.sector_disk.specs.Disk.{State}
+use Rattle.sector_disk.specs.Disk.{DiskState}
 use Rattle.sector_txn.specs.Sectors.{TxnState}
 
 -- a store: its disk, and the sectors that were kept and wait for their commit
@@ -23,20 +23,20 @@ pub record TxnView (D : Type 0) : Type 0 where
   pub delta : List Entry
 
 -- the map of a store
-unfoldable pub present : {D : Type 0} → (D → State) → StoreView D → SectorMap
+unfoldable pub present : {D : Type 0} → (D → DiskState) → StoreView D → SectorMap
 present state store = with_batch store.waiting (data_of (state store.disk))
 
 -- the map of a transaction, without what was put and with it
-unfoldable pub unchanged : {D : Type 0} → (D → State) → TxnView D → SectorMap
-unchanged state txn = with_batch txn.waiting (data_of (state txn.disk))
+unfoldable pub map_before : {D : Type 0} → (D → DiskState) → TxnView D → SectorMap
+map_before state txn = with_batch txn.waiting (data_of (state txn.disk))
 
-unfoldable pub changed : {D : Type 0} → (D → State) → TxnView D → SectorMap
-changed state txn = with_batch txn.delta (unchanged state txn)
+unfoldable pub map_now : {D : Type 0} → (D → DiskState) → TxnView D → SectorMap
+map_now state txn = with_batch txn.delta (map_before state txn)
 
-abbrev pub state_of : {D : Type 0} → (D → State) → TxnView D → TxnState
-state_of state txn = record {
-  sectors = changed state txn;
-  before = unchanged state txn;
+abbrev pub txn_state : {D : Type 0} → (D → DiskState) → TxnView D → TxnState
+txn_state state txn = record {
+  sectors = map_now state txn;
+  before = map_before state txn;
   has_put = has_entry txn.delta;
   room = 64 - length txn.delta;
   disk = state txn.disk;
@@ -48,12 +48,12 @@ disk_after (Ok store) = store.disk
 disk_after (Err broken) = broken
 
 -- no commit is under way, and nothing waits for one
-pub record IsStore (disk : State) (delta : List Entry) : Type 0 where
+pub record IsStore (disk : DiskState) (delta : List Entry) : Type 0 where
   pub idle : IsIdle disk
   pub empty : delta ≡ []
 
 -- no commit is under way, and at most 64 sectors are put, all of them on the disk
-pub record IsTxn (disk : State) (delta : List Entry) : Type 0 where
+pub record IsTxn (disk : DiskState) (delta : List Entry) : Type 0 where
   pub idle : IsIdle disk
   pub few : length delta ≤ 64
   pub on_disk : IsOnDisk disk.size delta

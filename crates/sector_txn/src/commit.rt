@@ -2,7 +2,7 @@
 
 ghost use Rattle.std.specs.Prelude.{◌≡◌, length, Ok, IfOk};
 ghost use Rattle.redo_journal.specs.Batch.{IsOnDisk, with_batch};
-ghost use Rattle.redo_journal.specs.Meaning.{SameData, data_of, disk_of};
+ghost use Rattle.redo_journal.specs.Meaning.{SameMap, data_of, disk_of};
 ghost use Rattle.redo_journal.specs.States.{IsIdle};
 ghost use Rattle.sector_disk.specs.Disk.{HasCause};
 ghost use Rattle.sector_txn.specs.Images.{LeavesOneOf};
@@ -16,7 +16,7 @@ pub(crate) fn commit<D: Disk>(journal: Journal<D>, batch: &Batch) -> Result<Jour
     requires on_disk { IsOnDisk (D.state journal).size batch.now }
 
     ensures idle { IfOk result (λ after. IsIdle (D.state after)) }
-    ensures changed { IfOk result (λ after. SameData (data_of (D.state after)) (with_batch batch.now (data_of (D.state journal)))) }
+    ensures changed { IfOk result (λ after. SameMap (data_of (D.state after)) (with_batch batch.now (data_of (D.state journal)))) }
 
     // A stop at any moment of the call leaves what means as before it, or reads with the whole batch.
     ensures images { LeavesOneOf (data_of (D.state journal)) (with_batch batch.now (data_of (D.state journal))) (D.state journal) (D.state (disk_of result)) }

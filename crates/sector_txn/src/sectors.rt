@@ -1,7 +1,7 @@
 //! The sectors that a call reads and changes.
 
 ghost use Rattle.std.specs.Prelude.{◌≡◌, ◌≤◌, ◌<◌, ℕ, false, OnOk};
-ghost use Rattle.redo_journal.specs.Meaning.{IsData};
+ghost use Rattle.redo_journal.specs.Meaning.{IsMapped};
 ghost use Rattle.sector_disk.specs.Disk.{HasCause};
 ghost use Rattle.sector_txn.specs.Sectors.{TxnState, IsUnchanged, IsPut};
 
@@ -17,7 +17,7 @@ pub trait Sectors {
 
     /// Reads a sector, as the last `put` left it. At `Err` nothing is said of the buffer.
     fn get(&mut self, n: u32, to: &mut [u8; 512]) -> Result<(), DiskFault>
-        requires part { IsData n }
+        requires part { IsMapped n }
         requires on_disk { n < (state self.old).disk.size }
         ensures content { OnOk result (to.new ≡ (state self.old).sectors n) }
         ensures same { IsUnchanged (state self.old) (state self.new) }

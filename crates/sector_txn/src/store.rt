@@ -1,12 +1,12 @@
 //! A store of sectors, and one call's transaction on it.
-#![tactic(auto, unfolding(crate::specs::Stores::present, crate::specs::Stores::unchanged, crate::specs::Stores::changed))]
+#![tactic(auto, unfolding(crate::specs::Stores::present, crate::specs::Stores::map_before, crate::specs::Stores::map_now))]
 
 ghost use Rattle.std.specs.Prelude.{◌≡◌, ℕ, false, IsOk, IfOk, MatchResult};
-ghost use Rattle.redo_journal.specs.Meaning.{SameData, data_of};
+ghost use Rattle.redo_journal.specs.Meaning.{SameMap, data_of};
 ghost use Rattle.redo_journal.specs.States.{IsIdle};
 ghost use Rattle.sector_disk.specs.Disk.{IsSame, Elapses, HasCause};
 ghost use Rattle.sector_txn.specs.Images.{LeavesOneOf, EachReadsAs};
-ghost use Rattle.sector_txn.specs.Stores.{present, state_of, disk_after};
+ghost use Rattle.sector_txn.specs.Stores.{present, txn_state, disk_after};
 
 use crate::Sectors;
 use crate::commit::commit;
@@ -62,7 +62,7 @@ impl<D: Disk> Store<D> {
     pub fn new(alloc: Global, journal: Journal<D>) -> Result<Store<D>, (AllocError, Journal<D>)>
         requires { IsIdle (D.state journal) }
         ensures disk { MatchResult result (λ store. store.disk ≡ journal) (λ e. e.1 ≡ journal) }
-        ensures map { IfOk result (λ store. SameData (present D.state store) (data_of (D.state journal))) }
+        ensures map { IfOk result (λ store. SameMap (present D.state store) (data_of (D.state journal))) }
         ensures lasting { IfOk result (λ store. EachReadsAs (present D.state store) (D.state store.disk)) }
     {
         match Batch::new(alloc) {
@@ -74,10 +74,10 @@ impl<D: Disk> Store<D> {
     /// A transaction without changes.
     pub fn begin(self) -> Txn<D>
         ensures disk { result.disk ≡ self.disk }
-        ensures map { SameData (state_of D.state result).sectors (present D.state self) }
-        ensures before { SameData (state_of D.state result).before (present D.state self) }
-        ensures delta { (n : ℕ) → (state_of D.state result).has_put n ≡ false }
-        ensures room { (state_of D.state result).room ≡ 64 }
+        ensures map { SameMap (txn_state D.state result).sectors (present D.state self) }
+        ensures before { SameMap (txn_state D.state result).before (present D.state self) }
+        ensures delta { (n : ℕ) → (txn_state D.state result).has_put n ≡ false }
+        ensures room { (txn_state D.state result).room ≡ 64 }
     {
         let Store { journal, delta } = self;
         Txn { journal, delta }
@@ -85,7 +85,7 @@ impl<D: Disk> Store<D> {
 
     /// From `Ok` on, all that was kept outlasts a stop.
     pub fn flush(self) -> Result<Store<D>, Broken<D>>
-        ensures map { IfOk result (λ store. SameData (present D.state store) (present D.state self)) }
+        ensures map { IfOk result (λ store. SameMap (present D.state store) (present D.state self)) }
 
         // A stop at any moment of the call leaves what means as before it, or reads as the store.
         ensures images { LeavesOneOf (present D.state self) (present D.state self) (D.state self.disk) (D.state (disk_after result)) }
@@ -112,7 +112,7 @@ impl<D: Disk> Store<D> {
 impl<D: CrashDisk> Store<D> {
     /// Lets this many writes and syncs of the disk pass, and fails all later ones.
     pub fn arm(&mut self, passes: u64)
-        ensures map { SameData (present D.state self.new) (present D.state self.old) }
+        ensures map { SameMap (present D.state self.new) (present D.state self.old) }
         ensures unchanged { IsSame (D.state self.old.disk) (D.state self.new.disk) }
         ensures time { Elapses (D.state self.old.disk) (D.state self.new.disk) }
         ensures failures { (D.state self.new.disk).failures ≡ (D.state self.old.disk).failures }
@@ -124,14 +124,14 @@ impl<D: CrashDisk> Store<D> {
 impl<D: Disk> Txn<D> {
     /// Makes the changes part of the store, all of them at once.
     pub fn keep(self) -> Result<Store<D>, Broken<D>>
-        ensures map { IfOk result (λ store. SameData (present D.state store) (state_of D.state self).sectors) }
+        ensures map { IfOk result (λ store. SameMap (present D.state store) (txn_state D.state self).sectors) }
 
         // A stop at any moment of the call leaves what means as before it, or reads as the store without the changes
         // or with all of them.
-        ensures images { LeavesOneOf (state_of D.state self).before (state_of D.state self).sectors (D.state self.disk) (D.state (disk_after result)) }
+        ensures images { LeavesOneOf (txn_state D.state self).before (txn_state D.state self).sectors (D.state self.disk) (D.state (disk_after result)) }
 
         // Without changes the disk isn't called.
-        ensures empty { (state_of D.state self).room ≡ 64 → IsOk result × (disk_after result ≡ self.disk) }
+        ensures empty { (txn_state D.state self).room ≡ 64 → IsOk result × (disk_after result ≡ self.disk) }
 
         ensures cause { HasCause (D.state self.disk) (D.state (disk_after result)) result }
     {
@@ -148,7 +148,7 @@ impl<D: Disk> Txn<D> {
     /// Takes the changes back. The store is as it was.
     pub fn drop_delta(self) -> Store<D>
         ensures disk { result.disk ≡ self.disk }
-        ensures map { SameData (present D.state result) (state_of D.state self).before }
+        ensures map { SameMap (present D.state result) (txn_state D.state self).before }
     {
         let Txn { journal, mut delta } = self;
         delta.clear();
@@ -157,7 +157,7 @@ impl<D: Disk> Txn<D> {
 }
 
 impl<D: Disk> Sectors for Txn<D> {
-    ghost state = { λ txn. state_of D.state txn };
+    ghost state = { λ txn. txn_state D.state txn };
 
     fn get(&mut self, n: u32, to: &mut [u8; 512]) -> Result<(), DiskFault> {
         match self.delta.get(n) {

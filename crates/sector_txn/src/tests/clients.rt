@@ -1,10 +1,10 @@
 //! Callers of a transaction, proved from its contracts alone.
 
 ghost use Rattle.std.specs.Prelude.{◌≡◌, ◌⊎◌, ◌≤◌, ◌<◌, ℕ, [], nat_eq, if◌then◌else◌, All, Contains, IfOk, OnOk, slice_set, slice_index, replicate};
-ghost use Rattle.redo_journal.specs.Meaning.{IsData, SameData};
+ghost use Rattle.redo_journal.specs.Meaning.{IsMapped, SameMap};
 ghost use Rattle.sector_disk.specs.Disk.{HasCause};
 ghost use Rattle.sector_txn.specs.Images.{LeavesOneOf};
-ghost use Rattle.sector_txn.specs.Sectors.{SameStore, ChangesOnly, lacking};
+ghost use Rattle.sector_txn.specs.Sectors.{SameStore, PutsOnly, lacking};
 ghost use Rattle.sector_txn.specs.Stores.{present, disk_after};
 
 use crate::{Sectors, Store};
@@ -13,12 +13,12 @@ use sector_disk::{Disk, DiskFault};
 
 // Writes a sector that is like the first one, but for its first byte, which is that of the second one.
 pub(super) fn mix<S: Sectors>(s: &mut S, first: u32, second: u32, at: u32) -> Result<(), DiskFault>
-    requires first { IsData first × (first < (S.state s.old).disk.size) }
-    requires second { IsData second × (second < (S.state s.old).disk.size) }
+    requires first { IsMapped first × (first < (S.state s.old).disk.size) }
+    requires second { IsMapped second × (second < (S.state s.old).disk.size) }
     requires at { (128 ≤ at) × (at < (S.state s.old).disk.size) }
     requires room { 0 < (S.state s.old).room }
     ensures written { OnOk result ((S.state s.new).sectors at ≡ slice_set ((S.state s.old).sectors first) 0 (slice_index ((S.state s.old).sectors second) 0)) }
-    ensures changes { OnOk result (ChangesOnly (λ n. n ≡ at) [] 1 (S.state s.old) (S.state s.new)) }
+    ensures changes { OnOk result (PutsOnly (λ n. n ≡ at) [] 1 (S.state s.old) (S.state s.new)) }
     ensures store { SameStore (S.state s.old) (S.state s.new) }
     ensures cause { HasCause (S.state s.old).disk (S.state s.new).disk result }
 {
@@ -36,7 +36,7 @@ pub(super) fn clear_all<S: Sectors>(s: &mut S, sectors: &[u32])
     requires part { All (λ n. (128 ≤ n) × (n < (S.state s.old).disk.size)) sectors.now }
     requires room { lacking (S.state s.old) sectors.now ≤ (S.state s.old).room }
     ensures cleared { (n : ℕ) → Contains sectors.now n → (S.state s.new).sectors n ≡ replicate 512 0 }
-    ensures changes { ChangesOnly (Contains sectors.now) sectors.now 0 (S.state s.old) (S.state s.new) }
+    ensures changes { PutsOnly (Contains sectors.now) sectors.now 0 (S.state s.old) (S.state s.new) }
 {
     let zeros = [0; 512];
     for n in sectors {
@@ -51,11 +51,11 @@ pub(super) fn mix_whole<D: Disk>(
     second: u32,
     at: u32,
 ) -> Result<Store<D>, Broken<D>>
-    requires first { IsData first × (first < (D.state store.disk).size) }
-    requires second { IsData second × (second < (D.state store.disk).size) }
+    requires first { IsMapped first × (first < (D.state store.disk).size) }
+    requires second { IsMapped second × (second < (D.state store.disk).size) }
     requires at { (128 ≤ at) × (at < (D.state store.disk).size) }
     ensures map { let old = present D.state store in
-        IfOk result (λ after. SameData (present D.state after) old ⊎ SameData (present D.state after) (λ n. if nat_eq n at then slice_set (old first) 0 (slice_index (old second) 0) else old n)) }
+        IfOk result (λ after. SameMap (present D.state after) old ⊎ SameMap (present D.state after) (λ n. if nat_eq n at then slice_set (old first) 0 (slice_index (old second) 0) else old n)) }
     ensures images { let old = present D.state store in
         LeavesOneOf old (λ n. if nat_eq n at then slice_set (old first) 0 (slice_index (old second) 0) else old n) (D.state store.disk) (D.state (disk_after result)) }
     ensures failures { (D.state store.disk).failures ≤ (D.state (disk_after result)).failures }

@@ -1,14 +1,14 @@
 //! A second store: it gathers the changes of several calls in memory, and commits them together. Its contracts are those
 //! of `Store` and `Txn`, word for word.
-#![tactic(auto, unfolding(crate::specs::Stores::present, crate::specs::Stores::unchanged, crate::specs::Stores::changed))]
+#![tactic(auto, unfolding(crate::specs::Stores::present, crate::specs::Stores::map_before, crate::specs::Stores::map_now))]
 
 ghost use Rattle.std.specs.Prelude.{◌≡◌, ◌≤◌, ◌+◌, ℕ, List, false, length, Ok, IsOk, IfOk, MatchResult};
 ghost use Rattle.redo_journal.specs.Batch.{IsOnDisk, with_batch};
-ghost use Rattle.redo_journal.specs.Meaning.{SameData, data_of, disk_of};
+ghost use Rattle.redo_journal.specs.Meaning.{SameMap, data_of, disk_of};
 ghost use Rattle.redo_journal.specs.States.{IsIdle};
 ghost use Rattle.sector_disk.specs.Disk.{HasCause};
 ghost use Rattle.sector_txn.specs.Images.{LeavesOneOf, EachReadsAs};
-ghost use Rattle.sector_txn.specs.Stores.{present, state_of, disk_after};
+ghost use Rattle.sector_txn.specs.Stores.{present, txn_state, disk_after};
 
 use crate::Sectors;
 use crate::commit::commit;
@@ -61,7 +61,7 @@ impl<D: Disk> SharedStore<D> {
     ) -> Result<SharedStore<D>, (AllocError, Journal<D>)>
         requires { IsIdle (D.state journal) }
         ensures disk { MatchResult result (λ store. store.disk ≡ journal) (λ e. e.1 ≡ journal) }
-        ensures map { IfOk result (λ store. SameData (present D.state store) (data_of (D.state journal))) }
+        ensures map { IfOk result (λ store. SameMap (present D.state store) (data_of (D.state journal))) }
         ensures lasting { IfOk result (λ store. EachReadsAs (present D.state store) (D.state store.disk)) }
     {
         match Batch::new(alloc) {
@@ -79,10 +79,10 @@ impl<D: Disk> SharedStore<D> {
 
     pub(super) fn begin(self) -> SharedTxn<D>
         ensures disk { result.disk ≡ self.disk }
-        ensures map { SameData (state_of D.state result).sectors (present D.state self) }
-        ensures before { SameData (state_of D.state result).before (present D.state self) }
-        ensures delta { (n : ℕ) → (state_of D.state result).has_put n ≡ false }
-        ensures room { (state_of D.state result).room ≡ 64 }
+        ensures map { SameMap (txn_state D.state result).sectors (present D.state self) }
+        ensures before { SameMap (txn_state D.state result).before (present D.state self) }
+        ensures delta { (n : ℕ) → (txn_state D.state result).has_put n ≡ false }
+        ensures room { (txn_state D.state result).room ≡ 64 }
     {
         let SharedStore {
             journal,
@@ -97,7 +97,7 @@ impl<D: Disk> SharedStore<D> {
     }
 
     pub(super) fn flush(self) -> Result<SharedStore<D>, Broken<D>>
-        ensures map { IfOk result (λ store. SameData (present D.state store) (present D.state self)) }
+        ensures map { IfOk result (λ store. SameMap (present D.state store) (present D.state self)) }
         ensures images { LeavesOneOf (present D.state self) (present D.state self) (D.state self.disk) (D.state (disk_after result)) }
         ensures lasting { IfOk result (λ store. EachReadsAs (present D.state self) (D.state store.disk)) }
         ensures cause { HasCause (D.state self.disk) (D.state (disk_after result)) result }
@@ -134,9 +134,9 @@ impl<D: Disk> SharedStore<D> {
 
 impl<D: Disk> SharedTxn<D> {
     pub(super) fn keep(self) -> Result<SharedStore<D>, Broken<D>>
-        ensures map { IfOk result (λ store. SameData (present D.state store) (state_of D.state self).sectors) }
-        ensures images { LeavesOneOf (state_of D.state self).before (state_of D.state self).sectors (D.state self.disk) (D.state (disk_after result)) }
-        ensures empty { (state_of D.state self).room ≡ 64 → IsOk result × (disk_after result ≡ self.disk) }
+        ensures map { IfOk result (λ store. SameMap (present D.state store) (txn_state D.state self).sectors) }
+        ensures images { LeavesOneOf (txn_state D.state self).before (txn_state D.state self).sectors (D.state self.disk) (D.state (disk_after result)) }
+        ensures empty { (txn_state D.state self).room ≡ 64 → IsOk result × (disk_after result ≡ self.disk) }
         ensures cause { HasCause (D.state self.disk) (D.state (disk_after result)) result }
     {
         let SharedTxn {
@@ -160,7 +160,7 @@ impl<D: Disk> SharedTxn<D> {
 
     pub(super) fn drop_delta(self) -> SharedStore<D>
         ensures disk { result.disk ≡ self.disk }
-        ensures map { SameData (present D.state result) (state_of D.state self).before }
+        ensures map { SameMap (present D.state result) (txn_state D.state self).before }
     {
         let SharedTxn {
             journal,
@@ -177,7 +177,7 @@ impl<D: Disk> SharedTxn<D> {
 }
 
 impl<D: Disk> Sectors for SharedTxn<D> {
-    ghost state = { λ txn. state_of D.state txn };
+    ghost state = { λ txn. txn_state D.state txn };
 
     fn get(&mut self, n: u32, to: &mut [u8; 512]) -> Result<(), DiskFault> {
         match self.delta.get(n) {
@@ -216,7 +216,7 @@ fn commit_if_full<D: Disk>(
     ensures idle { IfOk result (λ after. IsIdle (D.state after)) }
     ensures on_disk { (size : ℕ) → IsOnDisk size waiting.old → IsOnDisk size waiting.new }
     ensures room { IfOk result (λ after. length waiting.new + more ≤ 126) }
-    ensures same { IfOk result (λ after. SameData (with_batch waiting.new (data_of (D.state after))) (with_batch waiting.old (data_of (D.state journal)))) }
+    ensures same { IfOk result (λ after. SameMap (with_batch waiting.new (data_of (D.state after))) (with_batch waiting.old (data_of (D.state journal)))) }
     ensures images { LeavesOneOf (with_batch waiting.old (data_of (D.state journal))) (with_batch waiting.old (data_of (D.state journal))) (D.state journal) (D.state (disk_of result)) }
     ensures empty { more ≡ 0 → result ≡ Ok journal }
     ensures cause { HasCause (D.state journal) (D.state (disk_of result)) result }

@@ -1,7 +1,7 @@
 use Rattle.std.proofs.Common.{rules, tests}
 use Rattle.std.proofs.lemmas.Iterator.Consumers.{count_from_yields_List}
 use Rattle.std.proofs.lemmas.Iterator.Splits.{YieldsList-from_slice_split}
-use Rattle.fs_shell.specs.Words.{is_comma}
+use Rattle.posix_acl.specs.Text.{is_comma}
 use Rattle.fs_shell.proofs.forms.count_pieces.Goals as goal
 
 pub returns : goal.returns

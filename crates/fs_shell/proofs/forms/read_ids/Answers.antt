@@ -4,7 +4,8 @@ use Rattle.std.proofs.lemmas.Iterator.Consumers.{YieldsList-so_far, YieldsList-t
 use Rattle.std.proofs.lemmas.Iterator.Splits.{YieldsList-from_slice_split}
 use Rattle.std.proofs.lemmas.Result.{err_from_is_err_and}
 use Rattle.fs_shell.specs.Lines.{each}
-use Rattle.fs_shell.specs.Words.{is_comma, id_of}
+use Rattle.posix_acl.specs.Text.{is_comma}
+use Rattle.fs_shell.specs.Words.{id_of}
 use Rattle.fs_shell.proofs.Each.{each_push_plain, fault_at}
 use Rattle.fs_shell.proofs.forms.read_ids.Goals as goal
 

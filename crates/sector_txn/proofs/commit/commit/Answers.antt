@@ -2,7 +2,7 @@ use Rattle.std.proofs.Common.{◌∙◌, inl, inr}
 use Rattle.std.proofs.lemmas.Result.{IfOk-weaker}
 use Rattle.sector_disk.proofs.Moments.{joined, weaker}
 use Rattle.redo_journal.specs.Batch.{with_batch}
-use Rattle.redo_journal.specs.Meaning.{data_of, SameData}
+use Rattle.redo_journal.specs.Meaning.{data_of, SameMap}
 use Rattle.redo_journal.proofs.Meaning.{either_on, reads_same, with_batch_same}
 use Rattle.sector_txn.proofs.Images.{commit_left}
 use Rattle.sector_txn.proofs.commit.commit.Goals as goal
@@ -20,7 +20,7 @@ returns-in-Ok-seal-clause-images g c =
     let before = g.D.Disk.state c.args.journal in
     let logged = g.D.Disk.state c.in-Ok.logged in
     let sealed = g.D.Disk.state c.in-Ok-seal.sealed in
-    let same : SameData (data_of sealed) (with_batch batch (data_of before)) = λ n part.
+    let same : SameMap (data_of sealed) (with_batch batch (data_of before)) = λ n part.
     c.in-Ok-seal.ensures.changed n part ∙ with_batch_same batch (data_of logged) (data_of before) n (c.in-Ok.ensures.same n part) in
     let first = weaker (λ image reads. inl reads) c.in-Ok.ensures.any_moment in
     let second = weaker (either_on batch before logged c.in-Ok.ensures.size c.in-Ok.ensures.same) c.in-Ok-seal.ensures.any_moment in
@@ -33,6 +33,6 @@ returns-in-Ok-seal-clause-changed g c =
     let before = g.D.Disk.state c.args.journal in
     let logged = g.D.Disk.state c.in-Ok.logged in
     let sealed = g.D.Disk.state c.in-Ok-seal.sealed in
-    let same : SameData (data_of sealed) (with_batch batch (data_of before)) = λ n part.
+    let same : SameMap (data_of sealed) (with_batch batch (data_of before)) = λ n part.
     c.in-Ok-seal.ensures.changed n part ∙ with_batch_same batch (data_of logged) (data_of before) n (c.in-Ok.ensures.same n part) in
     IfOk-weaker c.install.result _ _ (λ after is n part. is n part ∙ same n part) c.install.ensures.same

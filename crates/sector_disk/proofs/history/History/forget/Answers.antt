@@ -1,7 +1,7 @@
 use Rattle.std.proofs.Common.{◌-◌, ◌∙◌, ap, sym, take, length, List}
 use Rattle.std.specs.Vec.{with_items}
 use Rattle.std.proofs.lemmas.List.{with_items_is}
-use Rattle.sector_disk.specs.Record.{after}
+use Rattle.sector_disk.specs.Record.{after_events}
 use Rattle.sector_disk.specs.Replay.{length-after}
 use Rattle.sector_disk.specs.Disk.{Image}
 use Rattle.sector_disk.specs.declared.history.Event.{Event}
@@ -14,8 +14,8 @@ invariant_of-self c =
     let r = c.self.invariant in
     let image = c.settle.new.image in
     let is_after =
-    c.settle.ensures ∙ ap (λ (was : Image). after was (take i.synced c.deref.result.now)) c.deref_mut.ensures.value
-    ∙ ap (λ (l : List Event). after i.first.items (take i.synced l)) c.deref.ensures.value in
+    c.settle.ensures ∙ ap (λ (was : Image). after_events was (take i.synced c.deref.result.now)) c.deref_mut.ensures.value
+    ∙ ap (λ (l : List Event). after_events i.first.items (take i.synced l)) c.deref.ensures.value in
     let first = with_items_is i.first image (ap length is_after ∙ length-after i.first.items (take i.synced i.done.items) ∙ sym i.first.ok.0) ∙ is_after in
     let events =
     c.truncate.ensures.items ∙ ap (λ (l : List Event). take (c.len.result - i.synced) l) c.rotate_left.ensures.items

@@ -1,6 +1,6 @@
 use Rattle.std.proofs.Common.{length, ap, sym, subst, ◌∙◌, arith}
 use Rattle.sector_disk.specs.Disk.{IsSame}
-use Rattle.sector_disk.specs.Record.{Past, state_of}
+use Rattle.sector_disk.specs.Record.{Past, recorded_state}
 use Rattle.sector_disk.specs.Whole.{AreWhole}
 use Rattle.sector_disk.specs.Forgotten.{length-since_sync, same_since_sync, whole_since_sync}
 use Rattle.sector_disk.proofs.memory.MemDiskDisk.forget.Goals as goal
@@ -18,4 +18,4 @@ invariant_of-self c =
 pub returns-clause-same : goal.returns-clause-same
 returns-clause-same c =
     let disk = c.args.self.now in
-    subst (λ (p : Past). IsSame (state_of disk.history disk.failures) (state_of p disk.failures)) (sym c.forget.ensures) (same_since_sync disk.history disk.failures)
+    subst (λ (p : Past). IsSame (recorded_state disk.history disk.failures) (recorded_state p disk.failures)) (sym c.forget.ensures) (same_since_sync disk.history disk.failures)

@@ -3,9 +3,9 @@ use Rattle.std.specs.Prelude.{nat_eq, if◌then◌else◌, slice_set, slice_inde
 use Rattle.std.proofs.lemmas.Bool.{cases_eq, cond-true, cond-false, eq-eqb, ne_eqb}
 use Rattle.std.proofs.lemmas.Result.{IfOk-weaker}
 use Rattle.fs_layout.specs.Bytes.{SectorMap}
-use Rattle.redo_journal.specs.Meaning.{IsData, SameData}
+use Rattle.redo_journal.specs.Meaning.{IsMapped, SameMap}
 use Rattle.sector_txn.specs.Images.{LeavesOneOf}
-use Rattle.sector_txn.specs.Stores.{present, changed, disk_after}
+use Rattle.sector_txn.specs.Stores.{present, map_now, disk_after}
 use Rattle.sector_txn.proofs.Images.{after_reads, maps_same, nothing_left}
 use Rattle.sector_txn.proofs.tests.clients.mix_whole.Goals as goal
 
@@ -13,8 +13,8 @@ use Rattle.sector_txn.proofs.tests.clients.mix_whole.Goals as goal
 abbrev mixed : SectorMap → ℕ → ℕ → ℕ → SectorMap
 mixed old first second at n = if nat_eq n at then slice_set (old first) 0 (slice_index (old second) 0) else old n
 
-mixed_same : (old from now : SectorMap) (first second at : ℕ) → IsData first → IsData second → SameData from old → now at ≡ slice_set (from first) 0 (slice_index (from second) 0)
-    → ((n : ℕ) → (n ≡ at → ⊥) → now n ≡ from n) → SameData now (mixed old first second at)
+mixed_same : (old from now : SectorMap) (first second at : ℕ) → IsMapped first → IsMapped second → SameMap from old → now at ≡ slice_set (from first) 0 (slice_index (from second) 0)
+    → ((n : ℕ) → (n ≡ at → ⊥) → now n ≡ from n) → SameMap now (mixed old first second at)
 mixed_same old from now first second at first_part second_part same here others n part =
     let content = slice_set (old first) 0 (slice_index (old second) 0) in
     elim (cases_eq n at) [
@@ -29,7 +29,7 @@ mixed_same old from now first second at first_part second_part same here others 
 pub returns-in-Ok-clause-map : goal.returns-in-Ok-clause-map
 returns-in-Ok-clause-map g c =
     let state = g.D.Disk.state in
-    let after = mixed_same (present state c.args.store) (changed state c.begin-txn.result) (changed state c.mix.new.s) c.args.first c.args.second c.args.at
+    let after = mixed_same (present state c.args.store) (map_now state c.begin-txn.result) (map_now state c.mix.new.s) c.args.first c.args.second c.args.at
     c.requires.first.0 c.requires.second.0 c.begin-txn.ensures.map c.in-Ok.ensures.written c.in-Ok.ensures.changes.others in
     IfOk-weaker c.keep.result _ _ (λ store is. inr (λ n part. is n part ∙ after n part)) c.keep.ensures.map
 
@@ -41,7 +41,7 @@ returns-in-Ok-clause-images g c =
     let state = g.D.Disk.state in
     let old = present state c.args.store in
     let began = c.begin-txn.ensures in
-    let after = mixed_same old (changed state c.begin-txn.result) (changed state c.mix.new.s) c.args.first c.args.second c.args.at
+    let after = mixed_same old (map_now state c.begin-txn.result) (map_now state c.mix.new.s) c.args.first c.args.second c.args.at
     c.requires.first.0 c.requires.second.0 began.map c.in-Ok.ensures.written c.in-Ok.ensures.changes.others in
     subst (λ disk. LeavesOneOf old (mixed old c.args.first c.args.second c.args.at) (state disk) (state (disk_after c.keep.result))) began.disk
     (after_reads (g.met.D.Disk.only_now c.begin-txn.result.disk) c.in-Ok.ensures.store.reads
