@@ -80,7 +80,7 @@ pub data LineAnswers {S : Type 0} (serves : S → Event → ReplyType → S → 
 -- The lines of a script, one after another.
 abbrev pub ScriptAnswers : {S : Type 0} → (S → Event → ReplyType → S → Type 0) → S → List (List ℕ) → List Answer → S → Type 0
 ScriptAnswers serves old [] [] new = new ≡ old
-Answers {S} serves old (line ∷ lines) (answer ∷ answers) new = (mid : S) × LineAnswers serves line old answer mid × ScriptAnswers serves mid lines answers new
+ScriptAnswers {S} serves old (line ∷ lines) (answer ∷ answers) new = (mid : S) × LineAnswers serves line old answer mid × ScriptAnswers serves mid lines answers new
 ScriptAnswers serves old _ _ new = ⊥
 
 -- The script is done: its lines are all lines of the input, and their answers are what was written.
