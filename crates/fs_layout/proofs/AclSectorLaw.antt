@@ -2,7 +2,7 @@
 use Rattle.std.proofs.Common.{◌≡◌, ℕ, ◌+◌, ◌*◌, ◌-◌, ◌≤◌, List, ◌++◌, length, take, drop, refl, sym, ap, subst, ◌∙◌, append_assoc, length-append, arith, Bool, true, false, cond, ◌&&◌, Result, Ok, Err, nat_lt}
 use Rattle.std.proofs.lemmas.List.{drop-drop, drop_at, take_rest}
 use Rattle.std.proofs.lemmas.Bool.{and_parts, le-ltb, ltb-false}
-use Rattle.fs_layout.specs.declared.acl_sector.AclEntry.{AclEntry}
+use Rattle.posix_acl.specs.declared.entry.EntryNumbers.{EntryNumbers}
 use Rattle.fs_layout.specs.declared.fault.LayoutFault.{LayoutFault}
 use Rattle.fs_layout.specs.declared.fault.LayoutFault.TheVariants.{BadNumber, NotZero}
 use Rattle.fs_layout.specs.Bytes.{IsBytes, window, splice, le16, zeros, u16_of, are_zero}
@@ -26,11 +26,11 @@ spelled s n len fits count few pad rest =
     e0 ∙ ap (λ (k : ℕ). le16 k ++ drop 2 s) (count ∙ sym counted)
     ∙ ap (λ (r : List ℕ). le16 (length es) ++ r) (e1 ∙ ap (λ (r : List ℕ). zeros 6 ++ r) (e2 ∙ ap (λ (r : List ℕ). entries_bytes es ++ r) e3))
 
-back : (s : List ℕ) (v : List AclEntry) → length s ≡ 512 → IsBytes s → acl_sector_of s ≡ Ok v → (s ≡ acl_sector_bytes v) × FitsAclSector v
+back : (s : List ℕ) (v : List EntryNumbers) → length s ≡ 512 → IsBytes s → acl_sector_of s ≡ Ok v → (s ≡ acl_sector_bytes v) × FitsAclSector v
 unfolding acl_sector_of
 back s v len fits e =
     let n = u16_of s 0 in
-    let good : Result (List AclEntry) LayoutFault = Ok (acl_entries_at s 8 n) in
+    let good : Result (List EntryNumbers) LayoutFault = Ok (acl_entries_at s 8 n) in
     let a = passed (nat_lt 32 n) (cond (are_zero (window s 2 6) && are_zero (drop (8 + 8 * n) s)) good (Err NotZero)) BadNumber v e in
     let b = held (are_zero (window s 2 6) && are_zero (drop (8 + 8 * n) s)) good NotZero v a.1 in
     let padded = and_parts (are_zero (window s 2 6)) (are_zero (drop (8 + 8 * n) s)) b.0 in
@@ -41,7 +41,7 @@ back s v len fits e =
     (spelled s n len fits refl few padded.0 padded.1 ∙ ap acl_sector_bytes same, subst FitsAclSector same fit)
 
 -- a sector that passes each test
-reads : (s : List ℕ) (es : List AclEntry) (n : ℕ) → u16_of s 0 ≡ n → acl_entries_at s 8 n ≡ es → n ≤ 32 → are_zero (window s 2 6) ≡ true
+reads : (s : List ℕ) (es : List EntryNumbers) (n : ℕ) → u16_of s 0 ≡ n → acl_entries_at s 8 n ≡ es → n ≤ 32 → are_zero (window s 2 6) ≡ true
     → are_zero (drop (8 + 8 * n) s) ≡ true
     → acl_sector_of s ≡ Ok es
 unfolding acl_sector_of
@@ -49,15 +49,15 @@ reads s es n count are few pad rest =
     let small : nat_lt 32 n ≡ false = le-ltb 32 n few in
     rw count (rw (small, are, pad, rest) refl)
 
-padding_again : (es : List AclEntry) → window (acl_sector_bytes es) 2 6 ≡ zeros 6
+padding_again : (es : List EntryNumbers) → window (acl_sector_bytes es) 2 6 ≡ zeros 6
 unfolding le16 zeros
 padding_again es = refl
 
-listed : (es : List AclEntry) → drop 8 (acl_sector_bytes es) ≡ entries_bytes es ++ zeros (504 - 8 * length es)
+listed : (es : List EntryNumbers) → drop 8 (acl_sector_bytes es) ≡ entries_bytes es ++ zeros (504 - 8 * length es)
 unfolding le16 zeros
 listed es = refl
 
-again : (es : List AclEntry) → FitsAclSector es → acl_sector_of (acl_sector_bytes es) ≡ Ok es
+again : (es : List EntryNumbers) → FitsAclSector es → acl_sector_of (acl_sector_bytes es) ≡ Ok es
 again es f =
     let s = acl_sector_bytes es in
     let n = length es in
@@ -71,13 +71,13 @@ again es f =
 pub acl_sector_codec : IsCodec 512 FitsAclSector acl_sector_bytes acl_sector_of
 acl_sector_codec = record { back = back; again = again }
 
-pub length-acl_sector_bytes : (es : List AclEntry) → length es ≤ 32 → length (acl_sector_bytes es) ≡ 512
+pub length-acl_sector_bytes : (es : List EntryNumbers) → length es ≤ 32 → length (acl_sector_bytes es) ≡ 512
 unfolding le16 zeros
 length-acl_sector_bytes es few =
     omega (arith, entries_len es, length-append (entries_bytes es) (zeros (504 - 8 * length es)), length-zeros (504 - 8 * length es))
 
 -- a reading that came to its end
-pub read_to_end : (s : List ℕ) (to : List AclEntry) (n : ℕ) (zero_pad zero_rest : Bool) → n ≡ u16_of s 0 → n ≤ 32
+pub read_to_end : (s : List ℕ) (to : List EntryNumbers) (n : ℕ) (zero_pad zero_rest : Bool) → n ≡ u16_of s 0 → n ≤ 32
     → zero_pad ≡ are_zero (window s 2 6) → zero_pad ≡ true
     → zero_rest ≡ are_zero (take (length s - (8 + 8 * n)) (drop (8 + 8 * n) s)) → zero_rest ≡ true → to ≡ acl_entries_at s 8 32 → Ok (take n to) ≡ acl_sector_of s
 read_to_end s to n zero_pad zero_rest count few pad pad_true tested rest_true e =
@@ -85,7 +85,7 @@ read_to_end s to n zero_pad zero_rest count few pad pad_true tested rest_true e 
     sym (reads s (take n to) n (sym count) (sym (ap (take n) e ∙ take-entries_of s 8 n 32 few)) few (sym pad ∙ pad_true) rest)
 
 -- the four writes of an ACL's sector
-pub written : (old a b d e : List ℕ) (es : List AclEntry) (n : ℕ) → length old ≡ 512 → length es ≤ 32 → n ≡ length es
+pub written : (old a b d e : List ℕ) (es : List EntryNumbers) (n : ℕ) → length old ≡ 512 → length es ≤ 32 → n ≡ length es
     → a ≡ splice old 0 (le16 n) → b ≡ splice a 2 (zeros 6)
     → d ≡ splice b 8 (entries_bytes es) → e ≡ splice d (8 + 8 * n) (zeros (504 - 8 * n)) → e ≡ acl_sector_bytes es
 unfolding le16

@@ -5,7 +5,7 @@ use Rattle.std.specs.List.{flat_map}
 use Rattle.std.proofs.lemmas.List.{append-nil, drop-drop, drop_at, take_more, take_more_set, length-take-le}
 use Rattle.std.proofs.lemmas.List.Concat.{flat_map-append}
 use Rattle.std.proofs.lemmas.List.Elements.{All-nil, All-cons, All-head, All-tail}
-use Rattle.fs_layout.specs.declared.acl_sector.AclEntry.{AclEntry}
+use Rattle.posix_acl.specs.declared.entry.EntryNumbers.{EntryNumbers}
 use Rattle.fs_layout.specs.Bytes.{IsBytes, splice, le16, le32, u16_of, u32_of}
 use Rattle.fs_layout.specs.AclSector.{FitsAclEntry, entry_bytes, entries_bytes, acl_entry_at, acl_entries_at}
 use Rattle.fs_layout.proofs.Fields.{back16, back32, read16, read32}
@@ -13,23 +13,23 @@ use Rattle.fs_layout.proofs.Small.{u16_small, u32_small}
 use Rattle.fs_layout.proofs.Writes.{put_step}
 use native.Mathlib.Numerals.{unary_clauses}
 
-entry_len : (e : AclEntry) → length (entry_bytes e) ≡ 8
+entry_len : (e : EntryNumbers) → length (entry_bytes e) ≡ 8
 unfolding le16 le32
 entry_len e = refl
 
-pub entries_len : (es : List AclEntry) → length (entries_bytes es) ≡ 8 * length es
+pub entries_len : (es : List EntryNumbers) → length (entries_bytes es) ≡ 8 * length es
 unfolding entries_bytes le16 le32
 entries_len [] = refl
 entries_len (e ∷ es) = let h : length (entries_bytes es) ≡ 8 * length es = entries_len es in simp unary_clauses (omega (arith, h))
 
-entries_more : (es : List AclEntry) (i : ℕ) (d : AclEntry) → i < length es
+entries_more : (es : List EntryNumbers) (i : ℕ) (d : EntryNumbers) → i < length es
     → entries_bytes (take (i + 1) es) ≡ entries_bytes (take i es) ++ entry_bytes (get_or es i d)
 unfolding entries_bytes
 entries_more es i d h =
     ap entries_bytes (take_more es i d h) ∙ flat_map-append entry_bytes (take i es) (get_or es i d ∷ [])
     ∙ ap (λ (r : List ℕ). flat_map entry_bytes (take i es) ++ r) (append-nil (entry_bytes (get_or es i d)))
 
-pub put_more : (s t u : List ℕ) (es : List AclEntry) (d : AclEntry) (place i : ℕ) → place + 8 * length es ≤ length s → i < length es
+pub put_more : (s t u : List ℕ) (es : List EntryNumbers) (d : EntryNumbers) (place i : ℕ) → place + 8 * length es ≤ length s → i < length es
     → t ≡ splice s place (entries_bytes (take i es)) → u ≡ splice t (place + 8 * i) (entry_bytes (get_or es i d))
     → u ≡ splice s place (entries_bytes (take (i + 1) es))
 put_more s t u es d place i fits lt e f =
@@ -45,12 +45,12 @@ entries_suc s place (suc i) =
     let ih : acl_entries_at s (place + 8) (suc i) ≡ acl_entries_at s (place + 8) i ++ acl_entry_at s (place + 8 + 8 * i) ∷ [] =
     entries_suc s (place + 8) i in
     let k : place + 8 + 8 * i ≡ place + 8 * suc i = simp unary_clauses (omega arith) in
-    ap (λ (r : List AclEntry). acl_entry_at s place ∷ r) (ih ∙ ap (λ (k : ℕ). acl_entries_at s (place + 8) i ++ acl_entry_at s k ∷ []) k)
+    ap (λ (r : List EntryNumbers). acl_entry_at s place ∷ r) (ih ∙ ap (λ (k : ℕ). acl_entries_at s (place + 8) i ++ acl_entry_at s k ∷ []) k)
 
-pub get_more : (s : List ℕ) (to : List AclEntry) (place i : ℕ) (x : AclEntry) → i < length to → take i to ≡ acl_entries_at s place i
+pub get_more : (s : List ℕ) (to : List EntryNumbers) (place i : ℕ) (x : EntryNumbers) → i < length to → take i to ≡ acl_entries_at s place i
     → x ≡ acl_entry_at s (place + 8 * i) → take (i + 1) (set to i x) ≡ acl_entries_at s place (i + 1)
 get_more s to place i x lt e f =
-    take_more_set to i x lt ∙ ap (λ (r : List AclEntry). r ++ x ∷ []) e ∙ ap (λ (k : AclEntry). acl_entries_at s place i ++ k ∷ []) f
+    take_more_set to i x lt ∙ ap (λ (r : List EntryNumbers). r ++ x ∷ []) e ∙ ap (λ (k : EntryNumbers). acl_entries_at s place i ++ k ∷ []) f
     ∙ sym (rw add-one (entries_suc s place i))
 
 pub none_read : (s : List ℕ) (place : ℕ) → [] ≡ acl_entries_at s place 0
@@ -86,7 +86,7 @@ entries_back (suc n) s place fits room =
     ∙ sym (append_assoc (entry_bytes (acl_entry_at s place)) (entries_bytes (acl_entries_at s (place + 8) n)) (drop (place + 8 * suc n) s))
 
 -- what is spelled so is read
-entry_read : (s : List ℕ) (place : ℕ) (e : AclEntry) (rest : List ℕ) → drop place s ≡ entry_bytes e ++ rest → FitsAclEntry e
+entry_read : (s : List ℕ) (place : ℕ) (e : EntryNumbers) (rest : List ℕ) → drop place s ≡ entry_bytes e ++ rest → FitsAclEntry e
     → acl_entry_at s place ≡ e
 unfolding le16
 entry_read s place e rest is f =
@@ -97,7 +97,7 @@ entry_read s place e rest is f =
     let id : u32_of s (place + 4) ≡ e.id = read32 s (place + 4) e.id rest after4 f.id in
     rw (tag, perms, id) refl
 
-pub entries_read : (es : List AclEntry) (s : List ℕ) (place : ℕ) (rest : List ℕ) → drop place s ≡ entries_bytes es ++ rest
+pub entries_read : (es : List EntryNumbers) (s : List ℕ) (place : ℕ) (rest : List ℕ) → drop place s ≡ entries_bytes es ++ rest
     → All FitsAclEntry es → acl_entries_at s place (length es) ≡ es
 unfolding entries_bytes acl_entries_at
 entries_read [] s place rest is fits = refl
@@ -107,7 +107,7 @@ entries_read (e ∷ es) s place rest is fits =
     let after : drop (place + 8) s ≡ entries_bytes es ++ rest =
     sym (drop-drop 8 place s) ∙ ap (drop 8) here ∙ drop_at (entry_bytes e) (entries_bytes es ++ rest) 8 (entry_len e) in
     let others : acl_entries_at s (place + 8) (length es) ≡ es = entries_read es s (place + 8) rest after (All-tail FitsAclEntry e es fits) in
-    ap (λ (x : AclEntry). x ∷ acl_entries_at s (place + 8) (length es)) first ∙ ap (λ (r : List AclEntry). e ∷ r) others
+    ap (λ (x : EntryNumbers). x ∷ acl_entries_at s (place + 8) (length es)) first ∙ ap (λ (r : List EntryNumbers). e ∷ r) others
 
 -- what is read fits its fields
 pub length-entries_of : (s : List ℕ) (place n : ℕ) → length (acl_entries_at s place n) ≡ n
@@ -127,4 +127,4 @@ unfolding acl_entries_at
 take-entries_of s place zero n le = refl
 take-entries_of s place (suc k) zero le = absurd (omega (arith, le))
 take-entries_of s place (suc k) (suc n) le =
-    ap (λ (r : List AclEntry). acl_entry_at s place ∷ r) (take-entries_of s (place + 8) k n (omega (arith, le)))
+    ap (λ (r : List EntryNumbers). acl_entry_at s place ∷ r) (take-entries_of s (place + 8) k n (omega (arith, le)))

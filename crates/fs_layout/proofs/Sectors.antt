@@ -2,7 +2,7 @@
 use Rattle.std.proofs.Common.{ℕ, zero, suc, ◌+◌, ◌-◌, ◌<◌, ◌≤◌, List, [], ◌∷◌, ◌++◌, length, take, drop, refl, arith, inl, inr, ◌*◌}
 use Rattle.std.proofs.lemmas.Bool.{cases_lt}
 use Rattle.std.proofs.lemmas.List.{get_or-append_right, get_or_append_left, get_or-drop, get_or-take, get_or_past, length-append, length-drop, length-take, length-take-le}
-use Rattle.fs_layout.specs.declared.acl_sector.AclEntry.{AclEntry}
+use Rattle.posix_acl.specs.declared.entry.EntryNumbers.{EntryNumbers}
 use Rattle.fs_layout.specs.declared.inode.Inode.{Inode}
 use Rattle.fs_layout.specs.declared.superblock.Super.{Super}
 use Rattle.fs_layout.specs.Bytes.{IsBytes, IsSector, splice, le16, le32, le64, le32s, zeros}
@@ -109,17 +109,17 @@ IsSector-commit_bytes ts few = record {
       (IsBytes-append (le32s ts) (zeros (504 - 4 * length ts)) (IsBytes-le32s ts) (IsBytes-zeros (504 - 4 * length ts))));
 }
 
-entry_is_bytes : (e : AclEntry) → IsBytes (entry_bytes e)
+entry_is_bytes : (e : EntryNumbers) → IsBytes (entry_bytes e)
 entry_is_bytes e =
     IsBytes-append (le16 e.tag) (le16 e.perms ++ le32 e.id) (IsBytes-le16 e.tag)
     (IsBytes-append (le16 e.perms) (le32 e.id) (IsBytes-le16 e.perms) (IsBytes-le32 e.id))
 
-entries_are_bytes : (es : List AclEntry) → IsBytes (entries_bytes es)
+entries_are_bytes : (es : List EntryNumbers) → IsBytes (entries_bytes es)
 unfolding entries_bytes
 entries_are_bytes [] i = omega arith
 entries_are_bytes (e ∷ es) i = IsBytes-append (entry_bytes e) (entries_bytes es) (entry_is_bytes e) (entries_are_bytes es) i
 
-pub IsSector-acl_sector_bytes : (es : List AclEntry) → length es ≤ 32 → IsSector (acl_sector_bytes es)
+pub IsSector-acl_sector_bytes : (es : List EntryNumbers) → length es ≤ 32 → IsSector (acl_sector_bytes es)
 IsSector-acl_sector_bytes es few = record {
   len = length-acl_sector_bytes es few;
   bytes =

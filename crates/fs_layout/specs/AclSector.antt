@@ -1,45 +1,45 @@
 -- An ACL, one sector: its bytes, and what bytes are read as.
 use Rattle.std.specs.Prelude.{ℕ, zero, suc, ◌+◌, ◌-◌, ◌*◌, ◌<◌, ◌≤◌, ◌^◌, ◌++◌, List, [], ◌∷◌, length, drop, Result, Ok, Err, nat_lt, if◌then◌else◌, ◌&&◌, All}
 use Rattle.std.specs.List.{flat_map}
-use Rattle.fs_layout.specs.declared.acl_sector.AclEntry.{AclEntry}
+use Rattle.posix_acl.specs.declared.entry.EntryNumbers.{EntryNumbers}
 use Rattle.fs_layout.specs.declared.fault.LayoutFault.{LayoutFault}
 use Rattle.fs_layout.specs.declared.fault.LayoutFault.TheVariants.{BadNumber, NotZero}
 use Rattle.fs_layout.specs.Bytes.{window, le16, le32, zeros, u16_of, u32_of, are_zero}
 
 -- tag, permissions, id
-abbrev pub entry_bytes : AclEntry → List ℕ
+abbrev pub entry_bytes : EntryNumbers → List ℕ
 entry_bytes e = le16 e.tag ++ (le16 e.perms ++ le32 e.id)
 
 -- entries one after the other
-unfoldable pub entries_bytes : List AclEntry → List ℕ
+unfoldable pub entries_bytes : List EntryNumbers → List ℕ
 entries_bytes es = flat_map entry_bytes es
 
 -- how many entries, zeros, the entries, zeros
-abbrev pub acl_sector_bytes : List AclEntry → List ℕ
+abbrev pub acl_sector_bytes : List EntryNumbers → List ℕ
 acl_sector_bytes es = le16 (length es) ++ (zeros 6 ++ (entries_bytes es ++ zeros (504 - 8 * length es)))
 
 -- each number fits its field
-pub record FitsAclEntry (e : AclEntry) : Type 0 where
+pub record FitsAclEntry (e : EntryNumbers) : Type 0 where
   pub tag : e.tag < 2 ^ 16
   pub perms : e.perms < 2 ^ 16
   pub id : e.id < 2 ^ 32
 
 -- the entries have room, and fit their fields
-pub record FitsAclSector (es : List AclEntry) : Type 0 where
+pub record FitsAclSector (es : List EntryNumbers) : Type 0 where
   pub few : length es ≤ 32
   pub entries : All FitsAclEntry es
 
 -- the entry that stands at a place
-abbrev pub acl_entry_at : List ℕ → ℕ → AclEntry
+abbrev pub acl_entry_at : List ℕ → ℕ → EntryNumbers
 acl_entry_at s place = record { tag = u16_of s place; perms = u16_of s (place + 2); id = u32_of s (place + 4) }
 
 -- the n entries that stand from a place on
-unfoldable pub acl_entries_at : List ℕ → ℕ → ℕ → List AclEntry
+unfoldable pub acl_entries_at : List ℕ → ℕ → ℕ → List EntryNumbers
 acl_entries_at s place zero = []
 acl_entries_at s place (suc n) = acl_entry_at s place ∷ acl_entries_at s (place + 8) n
 
 -- the entries that 512 bytes are, or the first fault
-unfoldable pub acl_sector_of : List ℕ → Result (List AclEntry) LayoutFault
+unfoldable pub acl_sector_of : List ℕ → Result (List EntryNumbers) LayoutFault
 acl_sector_of s =
     if nat_lt 32 (u16_of s 0) then Err BadNumber else
     (if are_zero (window s 2 6) && are_zero (drop (8 + 8 * u16_of s 0) s) then Ok (acl_entries_at s 8 (u16_of s 0)) else Err NotZero)

@@ -1,15 +1,23 @@
--- Laws that functions without a body prove: numbers as bytes, what a recovered image is, and what changing one inode
--- leaves alone.
-use Rattle.std.specs.Prelude.{ℕ, ◌+◌, ◌<◌, ◌≤◌, ◌^◌, ◌≡◌, ◌≢◌, List, length, get_or, Contains}
+-- Laws that functions without a body prove: numbers as bytes, what a recovered image is, what changing one inode
+-- leaves alone, and what maps, a directory's names and stored ACLs are.
+use Rattle.std.specs.Prelude.{ℕ, ◌+◌, ◌<◌, ◌≤◌, ◌^◌, ◌≡◌, ◌≢◌, List, length, map, get_or, Option, None, Some, Ok, Contains, ◌↔◌}
+use Rattle.std.specs.List.{range_with_len}
+use Rattle.std.specs.declared.cmp.Ordering.{Ordering}
+use Rattle.posix_acl.specs.AccessList.{AccessList, IsAcl, IsSomeAcl, list_numbers, mode_bits}
 use Rattle.fs_layout.specs.declared.inode.Inode.{Inode}
 use Rattle.fs_layout.specs.declared.place.Place.{Place}
-use Rattle.fs_layout.specs.Bytes.{IsBytes, SectorMap, splice, window}
+use Rattle.fs_layout.specs.Bytes.{IsBytes, IsSector, SectorMap, splice, window}
 use Rattle.fs_layout.specs.Inode.{FitsInode}
-use Rattle.fs_layout.specs.Images.{inode_at}
+use Rattle.fs_layout.specs.Slot.{NamedInode, slot_of}
+use Rattle.fs_layout.specs.AclSector.{FitsAclSector, acl_sector_of}
+use Rattle.fs_layout.specs.Images.{inode_at, pointer}
 use Rattle.fs_layout.specs.Ownership.{IsConsistent, Agrees}
 use Rattle.fs_layout.specs.Changes.{Keeps, ChangesBlocks, ChangesInode, Saves}
 use Rattle.fs_layout.specs.Commit.{IsCommit, IsValidCommit}
 use Rattle.fs_layout.specs.Recovered.{recovered}
+use Rattle.fs_layout.specs.Maps.{name_cmp, get, with_entry, without, IsMap}
+use Rattle.fs_layout.specs.Directories.{names_of_slots, HaveDistinctNames, slot_count, stored_slot, slot_at, HasNames}
+use Rattle.fs_layout.specs.StoredAcls.{acl_content, HoldsAcl, kept_acl}
 
 -- numbers of n bytes: one that is read is written as the bytes that it was read from, and one that is written is read
 pub record AreNumbersAsBytes (n : ℕ) (bytes : ℕ → List ℕ) (number : List ℕ → ℕ → ℕ) : Type 0 where
@@ -50,3 +58,65 @@ RestsOnUsed = (p : Place) (old new : SectorMap) → IsConsistent p old → Agree
 -- There is a consistent image.
 abbrev pub SomeConsistent : Type 0
 SomeConsistent = (p : Place) × (image : SectorMap) × IsConsistent p image
+
+-- Finite maps with keys in this order: an entry that is set or removed is no longer what it was, each other one is; and a
+-- map is what it has at each key.
+pub record HaveEntries {K : Type 0} (X : Type 0) (R : K → K → Ordering) : Type 0 where
+  pub here : (m : List (K × X)) (k : K) (x : X) → get R (with_entry R m k x) k ≡ Some x
+  pub others : (m : List (K × X)) (k q : K) (x : X) → q ≢ k → get R (with_entry R m k x) q ≡ get R m q
+  pub gone : (m : List (K × X)) (k : K) → get R (without R m k) k ≡ None
+  pub left : (m : List (K × X)) (k q : K) → q ≢ k → get R (without R m k) q ≡ get R m q
+  pub with_is : (m : List (K × X)) (k : K) (x : X) → IsMap R m → IsMap R (with_entry R m k x)
+  pub without_is : (m : List (K × X)) (k : K) → IsMap R m → IsMap R (without R m k)
+  pub more : (m : List (K × X)) (k : K) (x : X) → IsMap R m → get R m k ≡ None → length (with_entry R m k x) ≡ length m + 1
+  pub fewer : (m : List (K × X)) (k : K) (x : X) → IsMap R m → get R m k ≡ Some x → length m ≡ length (without R m k) + 1
+  pub one : (m n : List (K × X)) → IsMap R m → IsMap R n → ((q : K) → get R m q ≡ get R n q) → m ≡ n
+
+-- The names of slots, none of which stands twice, are a map with an entry for each slot.
+pub record AreNamesOf (slots : List NamedInode) : Type 0 where
+  pub map_is : IsMap name_cmp (names_of_slots slots)
+  pub count : length (names_of_slots slots) ≡ length slots
+  pub each : (name : List ℕ) (n : ℕ) → (get name_cmp (names_of_slots slots) name ≡ Some n) ↔ Contains slots (record { inode = n; name = name })
+
+abbrev pub SlotsHaveNames : Type 0
+SlotsHaveNames = (slots : List NamedInode) → HaveDistinctNames slots → AreNamesOf slots
+
+-- A directory has one map of names,
+abbrev pub OneMapOfNames : Type 0
+OneMapOfNames = (image : SectorMap) (v : Inode) (names others : List (List ℕ × ℕ)) → HasNames image v names → HasNames image v others → names ≡ others
+
+-- which its slots say, each read by itself, where the sectors of its blocks are whole,
+pub record AreRead (image : SectorMap) (v : Inode) (names : List (List ℕ × ℕ)) : Type 0 where
+  pub each : (k : ℕ) → k < slot_count v → slot_of (stored_slot image v k) ≡ Ok (slot_at image v k)
+  pub apart : (j k : ℕ) → j < k → k < slot_count v → (slot_at image v j).name ≢ (slot_at image v k).name
+  pub are : names ≡ names_of_slots (map (slot_at image v) (range_with_len 0 (slot_count v)))
+
+abbrev pub NamesAreRead : Type 0
+NamesAreRead =
+    (image : SectorMap) (v : Inode) (names : List (List ℕ × ℕ)) → HasNames image v names
+    → ((k : ℕ) → pointer image v k ≢ 0 → IsSector (image (pointer image v k))) → AreRead image v names
+
+-- and which stays where the sectors that it owns stay.
+abbrev pub NamesStay : Type 0
+NamesStay = (old new : SectorMap) (v : Inode) (names : List (List ℕ × ℕ)) → Keeps old new v → HasNames old v names → HasNames new v names
+
+-- A valid ACL has a sector of its own.
+pub record HasSector (a : AccessList) : Type 0 where
+  pub whole : IsSector (acl_content a)
+  pub fits : FitsAclSector (list_numbers a)
+  pub read : acl_sector_of (acl_content a) ≡ Ok (list_numbers a)
+  pub one : (b : AccessList) → IsAcl b → acl_content b ≡ acl_content a → b ≡ a
+
+abbrev pub AclsHaveSectors : Type 0
+AclsHaveSectors = (a : AccessList) → IsAcl a → HasSector a
+
+-- So a sector holds one ACL or none,
+abbrev pub HoldsOneAcl : Type 0
+HoldsOneAcl =
+    (image : SectorMap) (s : ℕ) (x y : Option AccessList) → IsSomeAcl x → IsSomeAcl y → HoldsAcl image s x → HoldsAcl image s y → x ≡ y
+
+-- and the sector of an access ACL tells it, together with the mode bits.
+abbrev pub ModeTellsTheRest : Type 0
+ModeTellsTheRest =
+    (image : SectorMap) (s : ℕ) (a b : AccessList) → IsAcl a → IsAcl b → mode_bits a ≡ mode_bits b
+    → HoldsAcl image s (kept_acl a) → HoldsAcl image s (kept_acl b) → a ≡ b

@@ -2,11 +2,14 @@ pub mod AclSector
 pub mod Bytes
 pub mod Changes
 pub mod Commit
+pub mod Directories
 pub mod Images
 pub mod Inode
 pub mod Laws
+pub mod Maps
 pub mod Ownership
 pub mod Place
 pub mod Recovered
 pub mod Slot
+pub mod StoredAcls
 pub mod Superblock

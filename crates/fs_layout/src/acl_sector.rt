@@ -1,50 +1,41 @@
 //! The sector of an ACL.
 
 ghost use Rattle.std.specs.Prelude.{◌≡◌, ◌≤◌, ◌+◌, ◌*◌, List, length, IfOk, Ok};
-ghost use Rattle.fs_layout.specs.declared.acl_sector.AclEntry.{AclEntry};
+ghost use Rattle.posix_acl.specs.declared.entry.EntryNumbers.{EntryNumbers};
 ghost use Rattle.fs_layout.specs.Bytes.{splice};
 ghost use Rattle.fs_layout.specs.AclSector.{acl_sector_bytes, acl_sector_of, entry_bytes, entries_bytes, acl_entry_at, acl_entries_at, FitsAclSector};
 
 use crate::bytes::{are_zero, put_u16, put_u32, put_zeros, u16_at, u32_at};
 use crate::fault::LayoutFault;
+use posix_acl::EntryNumbers;
 use std::marker::Model;
 
-/// One entry of an ACL as three numbers. Which of them are valid, and what they mean, is not this crate's matter.
-#[derive(Clone, Copy, PartialEq, Eq)]
-pub struct AclEntry {
-    /// What the entry is for.
-    pub tag: u16,
-    /// The permissions, as bits.
-    pub perms: u16,
-    /// The user or group of a named entry.
-    pub id: u32,
-}
-
-/// The entries of an ACL, at most 32, in the order of the sector. A contract sees them as a list.
+/// The entries of an ACL as numbers, at most 32, in the order of the sector. Whether they make an ACL is not asked. A
+/// contract sees them as a list.
 #[derive(Drop)]
 pub struct AclSector {
     count: usize,
-    entries: [AclEntry; 32],
+    entries: [EntryNumbers; 32],
 }
 
 impl Model for AclSector {
     ghost use Rattle.std.specs.Prelude.{◌≤◌, List, take};
-    ghost use Rattle.fs_layout.specs.declared.acl_sector.AclEntry.{AclEntry};
+    ghost use Rattle.posix_acl.specs.declared.entry.EntryNumbers.{EntryNumbers};
 
-    ghost Value = { List AclEntry };
+    ghost Value = { List EntryNumbers };
 
     ghost view = { λ a. take a.count a.entries };
 
     ghost invariant = { λ a. a.count ≤ 32 };
 }
 
-const NONE: AclEntry = AclEntry {
+const NONE: EntryNumbers = EntryNumbers {
     tag: 0,
     perms: 0,
     id: 0,
 };
 
-fn put_entry(to: &mut [u8], at: usize, entry: &AclEntry)
+fn put_entry(to: &mut [u8], at: usize, entry: &EntryNumbers)
     requires { at + 8 ≤ length to.old }
     ensures { to.new ≡ splice to.old at (entry_bytes entry.now) }
 {
@@ -53,7 +44,7 @@ fn put_entry(to: &mut [u8], at: usize, entry: &AclEntry)
     put_u32(to, at + 4, entry.id);
 }
 
-fn put_entries(to: &mut [u8], at: usize, entries: &[AclEntry])
+fn put_entries(to: &mut [u8], at: usize, entries: &[EntryNumbers])
     requires { at + 8 * length entries.now ≤ length to.old }
     ensures { to.new ≡ splice to.old at (entries_bytes entries.now) }
 {
@@ -62,18 +53,18 @@ fn put_entries(to: &mut [u8], at: usize, entries: &[AclEntry])
     }
 }
 
-fn get_entry(from: &[u8], at: usize) -> AclEntry
+fn get_entry(from: &[u8], at: usize) -> EntryNumbers
     requires { at + 8 ≤ length from.now }
     ensures { result ≡ acl_entry_at from.now at }
 {
-    AclEntry {
+    EntryNumbers {
         tag: u16_at(from, at),
         perms: u16_at(from, at + 2),
         id: u32_at(from, at + 4),
     }
 }
 
-fn get_entries(from: &[u8], at: usize, to: &mut [AclEntry])
+fn get_entries(from: &[u8], at: usize, to: &mut [EntryNumbers])
     requires { at + 8 * length to.old ≤ length from.now }
     ensures { to.new ≡ acl_entries_at from.now at (length to.old) }
 {
@@ -84,7 +75,7 @@ fn get_entries(from: &[u8], at: usize, to: &mut [AclEntry])
 
 impl AclSector {
     /// These entries, at most 32.
-    pub fn new(entries: &[AclEntry]) -> AclSector
+    pub fn new(entries: &[EntryNumbers]) -> AclSector
         requires { length entries.now ≤ 32 }
         ensures { result ≡ entries.now }
     {
@@ -97,7 +88,7 @@ impl AclSector {
     }
 
     /// The entries, at most 32.
-    pub fn entries(&self) -> &[AclEntry]
+    pub fn entries(&self) -> &[EntryNumbers]
         ensures value { result.now ≡ self.now }
         ensures few { length self.now ≤ 32 }
     {
@@ -149,7 +140,7 @@ impl AclSector {
         // What is read is spelled so.
         ensures found { IfOk result (λ v. (from.now ≡ acl_sector_bytes v) × FitsAclSector v) }
         // What is spelled so is read.
-        ensures only { (v : List AclEntry) → FitsAclSector v → from.now ≡ acl_sector_bytes v → result ≡ Ok v }
+        ensures only { (v : List EntryNumbers) → FitsAclSector v → from.now ≡ acl_sector_bytes v → result ≡ Ok v }
         // Which fault it is.
         ensures first_fault { result ≡ acl_sector_of from.now }
     {

@@ -1,7 +1,10 @@
 //! Laws of the layout, each proved by a function that does nothing: its contract is the law.
 
 ghost use Rattle.fs_layout.specs.Bytes.{le16, le32, le64, u16_of, u32_of, u64_of};
-ghost use Rattle.fs_layout.specs.Laws.{AreNumbersAsBytes, RecoversEach, OneInodeChanges, SavingEnds, RestsOnUsed, SomeConsistent};
+ghost use Rattle.std.specs.Prelude.{ℕ};
+ghost use Rattle.std.specs.Ordering.{nat_cmp};
+ghost use Rattle.fs_layout.specs.Maps.{name_cmp};
+ghost use Rattle.fs_layout.specs.Laws.{AreNumbersAsBytes, RecoversEach, OneInodeChanges, SavingEnds, RestsOnUsed, SomeConsistent, HaveEntries, SlotsHaveNames, OneMapOfNames, NamesAreRead, NamesStay, AclsHaveSectors, HoldsOneAcl, ModeTellsTheRest};
 
 /// A number of 16 bits that is read from bytes is written as these bytes, and one that is written is read again.
 pub fn numbers_of_16_bits()
@@ -44,4 +47,28 @@ pub fn consistency_rests_on_used_sectors()
 /// The definition of a consistent image can be met.
 pub fn some_image_is_consistent()
     ensures { SomeConsistent }
+{}
+
+/// A finite map with an entry set has that one and else what it had; with one removed it has none there and else what it
+/// had. Two maps that have the same at each key are one.
+pub fn maps_have_entries()
+    ensures names { HaveEntries ℕ name_cmp }
+    ensures numbers { HaveEntries ℕ nat_cmp }
+{}
+
+/// Slots without a name that stands twice are a map of names with an entry for each slot. A directory has one such map,
+/// its slots say it one by one, and it stays where the directory's sectors stay.
+pub fn slots_say_the_names()
+    ensures slots { SlotsHaveNames }
+    ensures one { OneMapOfNames }
+    ensures read { NamesAreRead }
+    ensures stay { NamesStay }
+{}
+
+/// Each ACL has a sector's content of its own, and is read from it. So a sector holds one ACL, and the access ACL of an
+/// inode is told by its sector and the mode bits.
+pub fn sectors_say_the_acls()
+    ensures content { AclsHaveSectors }
+    ensures one { HoldsOneAcl }
+    ensures access { ModeTellsTheRest }
 {}

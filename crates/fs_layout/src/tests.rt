@@ -1,7 +1,8 @@
 //! What the documents say of an image's bytes, and that each call succeeds.
 
 use crate::LayoutFault::{self, BadKind, BadMagic, BadNumber, BadVersion, NotZero};
-use crate::{AclEntry, AclSector, Commit, Inode, Kind, Slot, Super, is_name, place_of};
+use crate::{AclSector, Commit, Inode, Kind, Slot, Super, is_name, place_of};
+use posix_acl::EntryNumbers;
 
 // A structure. The tests have each at a place of its own in a sector.
 #[derive(Clone, Copy, Debug)]
@@ -45,13 +46,13 @@ const FILE: Inode = Inode {
 
 const TARGETS: [u32; 2] = [128, 1000];
 
-const OWNER: AclEntry = AclEntry {
+const OWNER: EntryNumbers = EntryNumbers {
     tag: 1,
     perms: 7,
     id: 0,
 };
 
-const USER: AclEntry = AclEntry {
+const USER: EntryNumbers = EntryNumbers {
     tag: 2,
     perms: 6,
     id: 1000,

@@ -15,18 +15,19 @@ use Rattle.fs_layout.specs.Place.{IsPlace}
 use Rattle.fs_layout.specs.Images.{bit, inode_bitmap, HasWholeTables, stored, inode_at, pointer, Owns, byte_in, byte_at, Holds}
 use Rattle.fs_layout.specs.Ownership.{IsConsistent}
 use Rattle.fs_model.specs.Limits.{root}
-use Rattle.fs_model.specs.Maps.{name_cmp, get, IsMap}
+use Rattle.fs_layout.specs.Maps.{name_cmp, get, IsMap}
 use Rattle.fs_model.specs.Nodes.{Node, Body, File, Dir, Link, Directory}
 use Rattle.fs_model.specs.Trees.{Tree, node_at, names_of, parent, IsEntry, IsDirectory, IsTarget, IsBody, NamesFit, IsUnderRoot, is_root, is_in, IsNode, IsTree}
-use Rattle.fs_model.specs.StoredNodes.{Placed, HoldsBody, HoldsDirectory, HoldsLink, names_of_slots, names_field, parent_field}
+use Rattle.fs_layout.specs.Directories.{names_of_slots, slot_at, slot_count}
+use Rattle.fs_model.specs.StoredNodes.{Placed, HoldsBody, HoldsDirectory, HoldsLink, names_field, parent_field}
 use Rattle.fs_model.specs.Stands.{HoldsPlaced, HoldsAll, placed, room_of}
 use Rattle.fs_model.proofs.StepsParents.{parent_is}
-use Rattle.fs_model.specs.Rules.{ImageRule, InodeBits, Inodes, InData, OwnedOnce, BlockBits, LaidOut, Acls, Slots, NamesApart, Names, Parents, Ways, ObeysEach, IsLaidOut, HasAcls, IsGoodInode, HasNameCount, GoesUp, at_root, above, namings, namings_in, is_directory_kind, slot_at, slot_count}
+use Rattle.fs_model.specs.Rules.{ImageRule, InodeBits, Inodes, InData, OwnedOnce, BlockBits, LaidOut, Acls, Slots, NamesApart, Names, Parents, Ways, ObeysEach, IsLaidOut, HasAcls, IsGoodInode, HasNameCount, GoesUp, at_root, above, namings, namings_in, is_directory_kind}
 use Rattle.fs_model.proofs.ListedMaps.{listed, listed-IsMap, get-listed, get-past}
-use Rattle.fs_model.proofs.SlotNames.{names-IsMap, length-names, named_by}
+use Rattle.fs_layout.proofs.SlotNames.{names-IsMap, length-names, named_by}
 use Rattle.fs_model.specs.Summaries.{is_used}
 use Rattle.fs_model.proofs.KindFields.{kind_field, inode_fits_at}
-use Rattle.fs_model.proofs.ImageSlots.{length-slots_of, slot_there, HasWholeBlocks}
+use Rattle.fs_layout.proofs.ImageSlots.{length-slots_of, slot_there, HasWholeBlocks}
 use Rattle.fs_model.proofs.StoredTrees.{StoresAt, Stores, unnamed, names_there, names_are_slots, used_is, directory_there, directory_stored, below_if, stored_at, directory_slots, no_namings, is_directory_kind-true}
 use Rattle.fs_model.proofs.BuiltNodes.{file_node, link_node, directory_node, whole_blocks, file_fits, directory_fits, link_fits}
 
@@ -176,15 +177,15 @@ module _ (p : Place) (m : SectorMap) (place : IsPlace p) (sectors : (s : ℕ) �
       }
 
   entry_is : (n : ℕ) → n < p.inodes → {a : _} {d : _} → (h : HoldsDirectory m (inode_at p m n) a d) → (name : List ℕ) (x : ℕ)
-      → get name_cmp (names_of_slots h.slots) name ≡ Some x → IsEntry tree name x
+      → get name_cmp (names_of_slots h.names.slots) name ≡ Some x → IsEntry tree name x
   entry_is n lt h name x e =
       let none = slot_at m (inode_at p m n) 0 in
-      let r = named_by h.slots none name x e in
+      let r = named_by h.names.slots none name x e in
       let same = directory_slots m (inode_at p m n) (blocks n lt) h in
-      let fit = h.each r.at none r.below in
+      let fit = h.names.each r.at none r.below in
       let below : r.at < slot_count (inode_at p m n) = (let l = r.below in let c = ap length same in omega (arith, l, c, length-slots_of m (inode_at p m n))) in
-      let slot = rules Slots n lt h.kind r.at below in
-      let here : slot_at m (inode_at p m n) r.at ≡ get_or h.slots r.at none = sym (slot_there m (inode_at p m n) r.at none below) ∙ ap (λ (q : List NamedInode). get_or q r.at none) (sym same) in
+      let slot = rules Slots n lt h.names.kind r.at below in
+      let here : slot_at m (inode_at p m n) r.at ≡ get_or h.names.slots r.at none = sym (slot_there m (inode_at p m n) r.at none below) ∙ ap (λ (q : List NamedInode). get_or q r.at none) (sym same) in
       let number : (slot_at m (inode_at p m n) r.at).inode ≡ x = ap (λ (s : NamedInode). s.inode) here ∙ r.inode_is in
       let used : is_used (inode_at p m x).kind ≡ true = (
       subst (λ q. is_used (inode_at p m q).kind ≡ true) number (used_if (inode_at p m (slot_at m (inode_at p m n) r.at).inode).kind slot.used)) in
@@ -203,13 +204,13 @@ module _ (p : Place) (m : SectorMap) (place : IsPlace p) (sectors : (s : ℕ) �
 
   directory_is : (n : ℕ) → n < p.inodes → {a : _} {d : Directory} → (h : HoldsDirectory m (inode_at p m n) a d) → IsDirectory tree d
   directory_is n lt {d = d} h =
-      let numbers = directory_fits (inode_at p m n) h.kind (fits n lt).valid.numbers in
+      let numbers = directory_fits (inode_at p m n) h.names.kind (fits n lt).valid.numbers in
       let same = ap length (directory_slots m (inode_at p m n) (blocks n lt) h) in
-      let count = ap length h.names in
+      let count = ap length h.names.are in
       record {
-        names = subst (IsMap name_cmp) (sym h.names) (names-IsMap h.slots);
-        few = omega (arith, numbers.1, same, count, length-names h.slots h.apart, length-slots_of m (inode_at p m n));
-        each = λ name x e. entry_is n lt h name x (ap (λ q. get name_cmp q name) (sym h.names) ∙ e);
+        names = subst (IsMap name_cmp) (sym h.names.are) (names-IsMap h.names.slots);
+        few = omega (arith, numbers.1, same, count, length-names h.names.slots h.names.apart, length-slots_of m (inode_at p m n));
+        each = λ name x e. entry_is n lt h name x (ap (λ q. get name_cmp q name) (sym h.names.are) ∙ e);
       }
 
   body_is : (n : ℕ) → n < p.inodes → (b : Body) → HoldsBody m (inode_at p m n) b → IsBody (room_of p) tree b
@@ -222,17 +223,17 @@ module _ (p : Place) (m : SectorMap) (place : IsPlace p) (sectors : (s : ℕ) �
 
   names_fit : (n : ℕ) → n < p.inodes → (b : Body) → HoldsBody m (inode_at p m n) b → NamesFit n b (names_of tree n)
   names_fit n lt (File a bytes) h = (subst (λ k. HasNameCount k n (inode_at p m n).names (names_of tree n)) h.kind (names_rule n lt)).1
-  names_fit n lt (Dir a d) h = (subst (λ k. HasNameCount k n (inode_at p m n).names (names_of tree n)) h.kind (names_rule n lt)).1
+  names_fit n lt (Dir a d) h = (subst (λ k. HasNameCount k n (inode_at p m n).names (names_of tree n)) h.names.kind (names_rule n lt)).1
   names_fit n lt (Link target) h = let x = subst (λ k. HasNameCount k n (inode_at p m n).names (names_of tree n)) h.kind (names_rule n lt) in (x.1, x.2)
 
   names_said : (n : ℕ) → n < p.inodes → (b : Body) → HoldsBody m (inode_at p m n) b → (inode_at p m n).names ≡ names_field b (names_of tree n)
   names_said n lt (File a bytes) h = (subst (λ k. HasNameCount k n (inode_at p m n).names (names_of tree n)) h.kind (names_rule n lt)).0
-  names_said n lt (Dir a d) h = (subst (λ k. HasNameCount k n (inode_at p m n).names (names_of tree n)) h.kind (names_rule n lt)).0
+  names_said n lt (Dir a d) h = (subst (λ k. HasNameCount k n (inode_at p m n).names (names_of tree n)) h.names.kind (names_rule n lt)).0
   names_said n lt (Link target) h = (subst (λ k. HasNameCount k n (inode_at p m n).names (names_of tree n)) h.kind (names_rule n lt)).0
 
   parent_said : (n : ℕ) → n < p.inodes → (b : Body) → HoldsBody m (inode_at p m n) b → (inode_at p m n).parent ≡ parent_field b (parent tree n)
   parent_said n lt (File a bytes) h = (rules Parents n lt).none (λ e. let c : kinds.File ≡ kinds.Directory = sym h.kind ∙ e in cc)
-  parent_said n lt (Dir a d) h = parent_field_is n lt h.kind
+  parent_said n lt (Dir a d) h = parent_field_is n lt h.names.kind
   parent_said n lt (Link target) h = (rules Parents n lt).none (λ e. let c : kinds.Link ≡ kinds.Directory = sym h.kind ∙ e in cc)
 
   node_held : (n : ℕ) → n < p.inodes → (o : Option Node) → StoresAt m (inode_at p m n) o

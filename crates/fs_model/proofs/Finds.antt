@@ -5,12 +5,12 @@ use Rattle.std.proofs.lemmas.Bool.{cases_eq}
 use Rattle.std.specs.Ordering.{nat_cmp}
 use Rattle.fs_cred.specs.declared.errno.Errno.TheVariants.{ENOTDIR, ENAMETOOLONG}
 use Rattle.fs_model.specs.Limits.{root, links_limit, name_limit}
-use Rattle.fs_model.specs.Maps.{get, name_cmp, IsMap}
+use Rattle.fs_layout.specs.Maps.{get, name_cmp, IsMap}
 use Rattle.fs_model.specs.Nodes.{Node, Body, File, Dir, Link, is_directory, names_in}
 use Rattle.fs_model.specs.Trees.{Tree, Room, node_at, names_for, parent, IsTree, IsBody}
 use Rattle.fs_model.specs.Parts.{Parts, parts_of, start_of, is_empty}
 use Rattle.fs_model.specs.Trails.{Form, Trail, Outcome, Faulty, Absent, Reaches, Through, GoesOn, reached, reached_body, named_inode, arrival, looked_up, is_dot, is_dot_dot, onward, through_if, lookups_from, trail_with, trail_of, follows_last}
-use Rattle.fs_model.proofs.Entries.{at_same, at_other, right}
+use Rattle.fs_layout.proofs.FirstEntries.{at_same, at_other, right}
 
 abbrev pub IsThere : Tree → ℕ → Type 0
 IsThere t n = IsTrue (is_some (node_at t n))

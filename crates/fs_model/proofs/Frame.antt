@@ -14,14 +14,14 @@ use Rattle.fs_layout.specs.Changes.{ChangesBlocks, ChangesInode, Saves}
 use Rattle.fs_layout.proofs.Bits.{bit_kept}
 use Rattle.fs_layout.proofs.Agree.{agree_consistent, agree_inode, agree_keeps}
 use Rattle.fs_layout.proofs.Consistent.{stays_consistent, other_inode, other_keeps, saved_stays_consistent}
-use Rattle.fs_model.specs.Maps.{IsMap}
+use Rattle.fs_layout.specs.Maps.{IsMap}
 use Rattle.fs_model.specs.Nodes.{Node, names_in}
 use Rattle.fs_model.specs.Trees.{Tree, node_at, with_node, names_of, parent}
 use Rattle.fs_model.specs.StoredNodes.{Placed, HoldsNode}
 use Rattle.fs_model.specs.Stands.{HoldsPlaced, HoldsAll, placed}
 use Rattle.fs_model.specs.Laws.{OneIsPlaced}
-use Rattle.fs_model.proofs.Entries.{apart}
-use Rattle.fs_model.proofs.MapLaws.{get-with_entry}
+use Rattle.fs_layout.proofs.FirstEntries.{apart}
+use Rattle.fs_layout.proofs.MapLaws.{get-with_entry}
 use Rattle.fs_model.proofs.Rewrites.{names_of-rewritten, parent-rewritten}
 use Rattle.fs_model.proofs.Kept.{node_kept, placed_kept}
 

@@ -1,6 +1,6 @@
 -- The free inodes of a tree are the clear bits of the inode bitmap of an image that holds it.
 use Rattle.std.specs.Prelude.{◌≡◌, ℕ, zero, suc, ◌+◌, ◌-◌, ◌<◌, ◌≤◌, Bool, true, false, not, ◌||◌, cond, nat_eq, nat_le, length, Option, Some, None, is_some, count_by}
-use Rattle.std.proofs.Common.{refl, sym, ap, subst, arith, ◌∙◌}
+use Rattle.std.proofs.Common.{refl, ap, arith, ◌∙◌}
 use Rattle.std.specs.List.{range_with_len}
 use Rattle.std.specs.Option.{option_map}
 use Rattle.std.proofs.lemmas.Bool.{ne_eqb}
@@ -9,11 +9,10 @@ use Rattle.fs_layout.specs.declared.place.Place.{Place}
 use Rattle.fs_layout.specs.Bytes.{SectorMap}
 use Rattle.fs_layout.specs.Images.{bit, inode_bitmap}
 use Rattle.fs_model.specs.Nodes.{Node}
-use Rattle.fs_model.specs.StoredNodes.{Placed}
 use Rattle.fs_model.specs.Trees.{Tree, node_at, names_of, parent, free_inodes, IsTree}
 use Rattle.fs_model.specs.Stands.{HoldsAll, placed, room_of}
 use Rattle.fs_model.proofs.Counting.{one_if, count_cons}
-use Rattle.fs_model.proofs.MapLaws.{summand}
+use Rattle.fs_layout.proofs.MapLaws.{summand}
 use Rattle.fs_model.proofs.RulesFromTree.{stores}
 use Rattle.fs_model.proofs.Summaries.{count_is, length_is}
 

@@ -1,39 +1,29 @@
 -- What an inode holds rests on its own sectors alone.
-use Rattle.std.specs.Prelude.{◌≡◌, ◌≢◌, ℕ, Option, None, Some, MatchOption}
+use Rattle.std.specs.Prelude.{◌≡◌, Option, None, Some, MatchOption}
 use Rattle.std.proofs.Common.{◌∙◌, sym, subst}
-use Rattle.posix_acl.specs.AccessList.{AccessList}
 use Rattle.fs_layout.specs.declared.inode.Inode.{Inode}
 use Rattle.fs_layout.specs.Bytes.{SectorMap}
 use Rattle.fs_layout.specs.Inode.{free_inode}
 use Rattle.fs_layout.specs.Changes.{Keeps}
 use Rattle.fs_layout.proofs.Parts.{Holds-kept, HasNoHole-kept, owns_acl, owns_default_acl}
+use Rattle.fs_layout.proofs.KeptParts.{HasNames-kept, HoldsAcl-kept}
 use Rattle.fs_model.specs.Nodes.{Body, File, Dir, Link}
-use Rattle.fs_model.specs.StoredNodes.{Placed, HoldsAcl, HoldsBody, HoldsNode}
-
-acl_kept : (old new : SectorMap) (s : ℕ) (a : Option AccessList) → (s ≢ 0 → new s ≡ old s) → HoldsAcl old s a → HoldsAcl new s a
-acl_kept old new s None same h = h
-acl_kept old new s (Some a) same h = (h.0, same h.0 ∙ h.1)
+use Rattle.fs_model.specs.StoredNodes.{Placed, HoldsBody, HoldsNode}
 
 body_kept : (old new : SectorMap) (v : Inode) (b : Body) → Keeps old new v → HoldsBody old v b → HoldsBody new v b
 body_kept old new v (File a bytes) keeps h = record {
   kind = h.kind;
   holds = Holds-kept keeps h.holds;
   acl = h.acl;
-  has_acl = acl_kept old new v.acl _ (λ some. keeps v.acl (owns_acl old v some)) h.has_acl;
+  has_acl = HoldsAcl-kept old new v.acl _ (λ some. keeps v.acl (owns_acl old v some)) h.has_acl;
   no_default = h.no_default;
 }
 body_kept old new v (Dir a d) keeps h = record {
-  kind = h.kind;
-  slots = h.slots;
-  names = h.names;
-  apart = h.apart;
-  each = h.each;
-  holds = Holds-kept keeps h.holds;
-  whole = HasNoHole-kept keeps h.whole;
+  names = HasNames-kept keeps h.names;
   acl = h.acl;
   default = h.default;
-  has_acl = acl_kept old new v.acl _ (λ some. keeps v.acl (owns_acl old v some)) h.has_acl;
-  has_default = acl_kept old new v.default_acl d.default (λ some. keeps v.default_acl (owns_default_acl old v some)) h.has_default;
+  has_acl = HoldsAcl-kept old new v.acl _ (λ some. keeps v.acl (owns_acl old v some)) h.has_acl;
+  has_default = HoldsAcl-kept old new v.default_acl d.default (λ some. keeps v.default_acl (owns_default_acl old v some)) h.has_default;
 }
 body_kept old new v (Link target) keeps h = record {
   kind = h.kind;

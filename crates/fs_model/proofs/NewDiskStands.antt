@@ -24,10 +24,11 @@ use Rattle.fs_layout.proofs.Saves.{inode_there, valid_there}
 use Rattle.fs_model.specs.Limits.{root}
 use Rattle.fs_model.specs.Nodes.{Node, Dir}
 use Rattle.fs_model.specs.Trees.{Room, node_at, names_of, parent, IsNode, IsTree, is_root}
-use Rattle.fs_model.specs.StoredNodes.{Placed, HoldsNode, names_of_slots}
+use Rattle.fs_layout.specs.Directories.{names_of_slots}
+use Rattle.fs_model.specs.StoredNodes.{Placed, HoldsNode}
 use Rattle.fs_model.specs.Stands.{HoldsPlaced, HoldsAll, placed, room_of, Stands}
 use Rattle.fs_model.specs.NewDisk.{empty_tree, root_inode, IsNewImage}
-use Rattle.fs_model.proofs.Entries.{apart, tied}
+use Rattle.fs_layout.proofs.FirstEntries.{apart, tied}
 
 -- ---- the root's inode
 
@@ -135,13 +136,15 @@ module _ (p : Place) (image : SectorMap) (h : IsNewImage p image) where
     names = refl;
     parent = refl;
     body = record {
-      kind = refl;
-      slots = [];
-      names = refl;
-      apart = λ i j d lt within. absurd (omega (arith, within));
-      each = All-nil FitsSlot;
-      holds = holds_nothing image root_inode root_has_no_sector refl;
-      whole = λ k lt none. absurd (omega (arith, lt));
+      names = record {
+        kind = refl;
+        slots = [];
+        are = refl;
+        apart = λ i j d lt within. absurd (omega (arith, within));
+        each = All-nil FitsSlot;
+        holds = holds_nothing image root_inode root_has_no_sector refl;
+        whole = λ k lt none. absurd (omega (arith, lt));
+      };
       acl = minimal_is_acl;
       default = tt;
       has_acl = refl;

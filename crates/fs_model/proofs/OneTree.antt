@@ -18,7 +18,7 @@ use Rattle.fs_model.specs.Trees.{Tree, Room, node_at, names_of, parent, IsTree}
 use Rattle.fs_model.specs.StoredNodes.{Placed, HoldsNode}
 use Rattle.fs_model.specs.Stands.{HoldsAll, placed, room_of, Stands}
 use Rattle.fs_model.specs.Laws.{AreSame}
-use Rattle.fs_model.proofs.MapLaws.{same_map}
+use Rattle.fs_layout.proofs.MapLaws.{same_map}
 use Rattle.fs_model.proofs.OneNode.{node_same, body_not_free}
 
 abbrev placed_at : Tree → ℕ → Node → Placed

@@ -6,11 +6,11 @@ use Rattle.std.specs.declared.cmp.Ordering.TheVariants.{Less, Equal, Greater}
 use Rattle.std.specs.Ordering.{nat_cmp, is_eq, is_lt}
 use Rattle.std.specs.FinMap.Entries.{by_order}
 use Rattle.fs_model.specs.Limits.{root}
-use Rattle.fs_model.specs.Maps.{get, IsMap}
+use Rattle.fs_layout.specs.Maps.{get, IsMap}
 use Rattle.fs_model.specs.Nodes.{Node, Body, File, Dir, Link, names_in, is_directory}
 use Rattle.fs_model.specs.Trees.{Tree, Room, node_at, with_node, names_for, names_of, parent, IsBody, NamesFit, IsUnderRoot, is_root, is_in, IsNode, IsTree, IsDirectoryAt}
-use Rattle.fs_model.proofs.Entries.{above, left, right, lower, tied}
-use Rattle.fs_model.proofs.MapLaws.{get-with_entry, with_entry-IsMap, sum-with_entry, summand}
+use Rattle.fs_layout.proofs.FirstEntries.{above, left, right, lower, tied}
+use Rattle.fs_layout.proofs.MapLaws.{get-with_entry, with_entry-IsMap, sum-with_entry, summand}
 
 -- the same number of names for d in both bodies, for each d
 module _ (t : Tree) (k : ℕ) (old new : Node) (m : IsMap nat_cmp t) (was : node_at t k ≡ Some old) (names : names_in new.body ≡ names_in old.body) where

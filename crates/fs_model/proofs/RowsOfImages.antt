@@ -17,7 +17,9 @@ use Rattle.fs_layout.specs.Images.{pointer, byte_in, byte_at, Holds, HasNoHole}
 use Rattle.fs_layout.proofs.Pointers.{pointer_direct, pointer_without}
 use Rattle.fs_layout.proofs.SplicedBytes.{get_or-zeros}
 use Rattle.fs_model.specs.Nodes.{File, Dir, Link, Directory}
-use Rattle.fs_model.specs.StoredNodes.{acl_content, HaveDistinctNames, slots_bytes, names_of_slots, HoldsNode}
+use Rattle.fs_layout.specs.Directories.{HaveDistinctNames, slots_bytes, names_of_slots}
+use Rattle.fs_layout.specs.StoredAcls.{acl_content}
+use Rattle.fs_model.specs.StoredNodes.{HoldsNode}
 
 -- the inode has one block, with these bytes and zeros behind them
 record HasOneBlock (image : SectorMap) (v : Inode) (s : ℕ) (bytes : List ℕ) : Type 0 where
@@ -234,13 +236,15 @@ a_directory_with_two_names = record {
   names = refl;
   parent = refl;
   body = record {
-    kind = refl;
-    slots = slots;
-    names = refl;
-    apart = slots_are_apart;
-    each = slots_fit;
-    holds = one_block_holds image directory_inode 149 (slots_bytes slots) directory_has_a_block;
-    whole = one_block_is_whole image directory_inode 149 (slots_bytes slots) directory_has_a_block;
+    names = record {
+      kind = refl;
+      slots = slots;
+      are = refl;
+      apart = slots_are_apart;
+      each = slots_fit;
+      holds = one_block_holds image directory_inode 149 (slots_bytes slots) directory_has_a_block;
+      whole = one_block_is_whole image directory_inode 149 (slots_bytes slots) directory_has_a_block;
+    };
     acl = minimal_is_valid;
     default = tt;
     has_acl = refl;

@@ -5,7 +5,7 @@ use Rattle.std.specs.Option.{option_map}
 use Rattle.std.proofs.lemmas.Bool.{cases_eq, cases_lt}
 use Rattle.std.proofs.lemmas.Bool.Decides.{nat_tests}
 use Rattle.std.proofs.lemmas.List.{get_or_past}
-use Rattle.posix_acl.specs.AccessList.{AccessList, IsAcl, is_extended, mode_bits}
+use Rattle.posix_acl.specs.AccessList.{AccessList, IsAcl, is_extended, mode_bits, IsSomeAcl}
 use Rattle.fs_layout.specs.declared.inode.Kind.TheVariants as kinds
 use Rattle.fs_layout.specs.declared.inode.Inode.{Inode}
 use Rattle.fs_layout.specs.declared.place.Place.{Place}
@@ -18,18 +18,20 @@ use Rattle.fs_layout.proofs.AclSectorLaw.{acl_sector_codec}
 use Rattle.fs_layout.proofs.Free.{free_has_no_sector, holds_nothing}
 use Rattle.fs_layout.proofs.Parts.{owns_block}
 use Rattle.fs_model.specs.Limits.{root}
-use Rattle.fs_model.specs.Maps.{name_cmp, get}
+use Rattle.fs_layout.specs.Maps.{name_cmp, get}
 use Rattle.fs_model.specs.Nodes.{Node, Body, File, Dir, Link, Directory, shown_mode}
-use Rattle.fs_model.specs.Trees.{Tree, Room, node_at, names_of, parent, IsBody, NamesFit, IsUnderRoot, is_root, is_in, IsDirectoryAt, IsTree, IsTarget, IsSomeAcl, IsDirectory}
-use Rattle.fs_model.specs.StoredNodes.{Placed, acl_content, HoldsAcl, HoldsBody, HoldsDirectory, HoldsNode, names_field, parent_field}
+use Rattle.fs_model.specs.Trees.{Tree, Room, node_at, names_of, parent, IsBody, NamesFit, IsUnderRoot, is_root, is_in, IsDirectoryAt, IsTree, IsTarget, IsDirectory}
+use Rattle.fs_layout.specs.StoredAcls.{acl_content, HoldsAcl}
+use Rattle.fs_model.specs.StoredNodes.{Placed, HoldsBody, HoldsNode, names_field, parent_field}
 use Rattle.fs_model.specs.Stands.{HoldsPlaced, HoldsAll, placed, room_of}
-use Rattle.fs_model.proofs.OneAcl.{sector_fits, mode_small}
+use Rattle.fs_layout.proofs.OneAcl.{sector_fits, mode_small}
 use Rattle.fs_model.proofs.StepsParents.{parent_names, parent_at, under_root}
-use Rattle.fs_model.specs.Rules.{ImageRule, InodeBits, Inodes, InData, OwnedOnce, BlockBits, LaidOut, Acls, Slots, NamesApart, Names, Parents, Ways, ObeysEach, IsBit, IsLaidOut, IsStoredAcl, HasAccessAcl, HasDefaultAcl, HasAcls, stored_slot, IsGoodInode, IsGoodSlot, HasNameCount, HasParent, AreNamesApart, GoesUp, at_root, above, namings, namings_in, slot_at, slot_count}
-use Rattle.fs_model.proofs.SlotNames.{slot_leads}
+use Rattle.fs_layout.specs.Directories.{HasNames, stored_slot, slot_at, slot_count}
+use Rattle.fs_model.specs.Rules.{ImageRule, InodeBits, Inodes, InData, OwnedOnce, BlockBits, LaidOut, Acls, Slots, NamesApart, Names, Parents, Ways, ObeysEach, IsBit, IsLaidOut, IsStoredAcl, HasAccessAcl, HasDefaultAcl, HasAcls, IsGoodInode, IsGoodSlot, HasNameCount, HasParent, AreNamesApart, GoesUp, at_root, above, namings, namings_in}
+use Rattle.fs_layout.proofs.SlotNames.{slot_leads}
 use Rattle.fs_model.specs.Summaries.{is_used}
 use Rattle.fs_model.proofs.KindFields.{kind_field}
-use Rattle.fs_model.proofs.ImageSlots.{slot_is, count_is}
+use Rattle.fs_layout.proofs.ImageSlots.{slot_is, count_is}
 use Rattle.fs_model.proofs.StoredTrees.{StoresAt, Stores, unnamed, names_there, names_are_slots, used_is, directory_there, directory_stored, below_if}
 
 -- ---- one inode
@@ -62,7 +64,7 @@ body_laid_out : (room : Room) (t : Tree) (m : SectorMap) (v : Inode) (b : Body) 
 body_laid_out room t m v (File a bytes) h is =
     laid_out_if m v bytes h.holds (λ ne. absurd (ne h.kind)) (λ e. absurd (let c : kinds.File ≡ kinds.Link = sym h.kind ∙ e in cc))
 body_laid_out room t m v (Dir a d) h is =
-    laid_out_if m v _ h.holds (λ ne. h.whole) (λ e. absurd (let c : kinds.Directory ≡ kinds.Link = sym h.kind ∙ e in cc))
+    laid_out_if m v _ h.names.holds (λ ne. h.names.whole) (λ e. absurd (let c : kinds.Directory ≡ kinds.Link = sym h.names.kind ∙ e in cc))
 body_laid_out room t m v (Link target) h is = laid_out_if m v target h.holds (λ ne. h.whole) (λ e. is)
 
 stored_acl : (s : List ℕ) (a : AccessList) → IsAcl a → s ≡ acl_content a → IsStoredAcl s a
@@ -97,8 +99,8 @@ body_acls m v (File a bytes) h mode =
 body_acls m v (Dir a d) h mode = record {
   access = access_stored m v a (is_extended a) refl h.acl (low_bits v.mode (mode_bits a) d.sticky d.set_group_id (mode_small a) mode) h.has_acl;
   default = default_stored m v d.default h.default h.has_default;
-  no_link = λ e. absurd (let c : kinds.Directory ≡ kinds.Link = sym h.kind ∙ e in cc);
-  only_directory = λ ne. absurd (ne h.kind);
+  no_link = λ e. absurd (let c : kinds.Directory ≡ kinds.Link = sym h.names.kind ∙ e in cc);
+  only_directory = λ ne. absurd (ne h.names.kind);
 }
 body_acls m v (Link target) h mode = record {
   access = λ some. absurd (some h.no_acl);
@@ -118,12 +120,12 @@ free_acls m = record {
 body_has_names : (n : ℕ) (m : SectorMap) (v : Inode) (b : Body) (count : ℕ) → HoldsBody m v b → NamesFit n b count → v.names ≡ names_field b count
     → HasNameCount v.kind n v.names count
 body_has_names n m v (File a bytes) count h fit e = subst (λ k. HasNameCount k n v.names count) (sym h.kind) (e, fit)
-body_has_names n m v (Dir a d) count h fit e = subst (λ k. HasNameCount k n v.names count) (sym h.kind) (e, fit)
+body_has_names n m v (Dir a d) count h fit e = subst (λ k. HasNameCount k n v.names count) (sym h.names.kind) (e, fit)
 body_has_names n m v (Link target) count h fit e = subst (λ k. HasNameCount k n v.names count) (sym h.kind) (e, fit.0, fit.1)
 
 no_parent : (m : SectorMap) (v : Inode) (b : Body) (parent : ℕ) → HoldsBody m v b → v.parent ≡ parent_field b parent → v.kind ≢ kinds.Directory → v.parent ≡ 0
 no_parent m v (File a bytes) parent h e ne = e
-no_parent m v (Dir a d) parent h e ne = absurd (ne h.kind)
+no_parent m v (Dir a d) parent h e ne = absurd (ne h.names.kind)
 no_parent m v (Link target) parent h e ne = e
 
 its_parent : (m : SectorMap) (v : Inode) (b : Body) (parent : ℕ) → HoldsBody m v b → v.parent ≡ parent_field b parent → v.kind ≡ kinds.Directory → v.parent ≡ parent
@@ -233,9 +235,8 @@ module _ (p : Place) (m : SectorMap) (t : Tree) (held : HoldsAll p m (placed t))
 
   -- what stands at a directory's number
   record DirectoryAt (n : ℕ) : Type 0 where
-    acl : AccessList
     dir : Directory
-    body : HoldsDirectory m (inode_at p m n) acl dir
+    names : HasNames m (inode_at p m n) dir.names
     valid : IsDirectory t dir
 
   directory_at : (n : ℕ) → n < p.inodes → (inode_at p m n).kind ≡ kinds.Directory → DirectoryAt n
@@ -245,16 +246,16 @@ module _ (p : Place) (m : SectorMap) (t : Tree) (held : HoldsAll p m (placed t))
     where
       go : (b : Body) → HoldsBody m (inode_at p m n) b → IsBody (room_of p) t b → DirectoryAt n
       go (File a bytes) h is = absurd (let c : kinds.File ≡ kinds.Directory = sym h.kind ∙ kind in cc)
-      go (Dir a d) h is = record { acl = a; dir = d; body = h; valid = is.2 }
+      go (Dir a d) h is = record { dir = d; names = h.names; valid = is.2 }
       go (Link target) h is = absurd (let c : kinds.Link ≡ kinds.Directory = sym h.kind ∙ kind in cc)
 
   read_slot : (n : ℕ) (lt : n < p.inodes) (x : DirectoryAt n) (k : ℕ) (d : NamedInode) → k < slot_count (inode_at p m n)
-      → (k < length x.body.slots) × (slot_of (stored_slot m (inode_at p m n) k) ≡ Ok (slot_at m (inode_at p m n) k))
-      × (slot_at m (inode_at p m n) k ≡ get_or x.body.slots k d)
+      → (k < length x.names.slots) × (slot_of (stored_slot m (inode_at p m n) k) ≡ Ok (slot_at m (inode_at p m n) k))
+      × (slot_at m (inode_at p m n) k ≡ get_or x.names.slots k d)
   read_slot n lt x k d below =
-      let h = x.body in
+      let h = x.names in
       let count = count_is m (inode_at p m n) h.slots h.whole (stores.blocks n lt) h.each h.holds in
-      let there : k < length x.body.slots = omega (arith, below, count) in
+      let there : k < length x.names.slots = omega (arith, below, count) in
       let both = slot_is m (inode_at p m n) h.slots h.whole (stores.blocks n lt) h.each h.holds k d there in
       (there, both.0, both.1)
 
@@ -263,9 +264,9 @@ module _ (p : Place) (m : SectorMap) (t : Tree) (held : HoldsAll p m (placed t))
       let x = directory_at n lt kind in
       let none = slot_at m (inode_at p m n) k in
       let r = read_slot n lt x k none below in
-      let s = get_or x.body.slots k none in
+      let s = get_or x.names.slots k none in
       let leads : get name_cmp x.dir.names s.name ≡ Some s.inode =
-      ap (λ q. get name_cmp q s.name) x.body.names ∙ slot_leads x.body.slots none k x.body.apart r.0 in
+      ap (λ q. get name_cmp q s.name) x.names.are ∙ slot_leads x.names.slots none k x.names.apart r.0 in
       let entry = (x.valid.each s.name s.inode leads).leads in
       let number : s.inode ≡ (slot_at m (inode_at p m n) k).inode = ap (λ (q : NamedInode). q.inode) (sym r.2) in
       let few : s.inode < p.inodes = there s.inode entry.1 in
@@ -290,7 +291,7 @@ module _ (p : Place) (m : SectorMap) (t : Tree) (held : HoldsAll p m (placed t))
       let none = slot_at m (inode_at p m n) k in
       let a = read_slot n lt x j none (omega (arith, less, below)) in
       let b = read_slot n lt x k none below in
-      λ e. x.body.apart j k none less b.0 (ap (λ (q : NamedInode). q.name) (sym a.2) ∙ e ∙ ap (λ (q : NamedInode). q.name) b.2)
+      λ e. x.names.apart j k none less b.0 (ap (λ (q : NamedInode). q.name) (sym a.2) ∙ e ∙ ap (λ (q : NamedInode). q.name) b.2)
 
   parent_there : (n : ℕ) → n < p.inodes → (inode_at p m n).kind ≡ kinds.Directory → (inode_at p m n).parent ≡ parent t n
   parent_there n lt kind =

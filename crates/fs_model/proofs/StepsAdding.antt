@@ -6,12 +6,12 @@ use Rattle.std.specs.Ordering.{nat_cmp, eq_by_cmp}
 use Rattle.fs_layout.specs.Bytes.{IsBytes}
 use Rattle.fs_layout.specs.Slot.{IsName}
 use Rattle.fs_model.specs.Limits.{root, entries_limit}
-use Rattle.fs_model.specs.Maps.{get, name_cmp, with_entry, IsMap}
+use Rattle.fs_layout.specs.Maps.{get, name_cmp, with_entry, IsMap}
 use Rattle.fs_model.specs.Nodes.{Node, is_directory, names_in, with_names}
 use Rattle.fs_model.specs.Trees.{Tree, Room, node_at, names_of, parent, NamesFit, IsEntry, IsUnderRoot, is_in, IsNode, IsDirectoryAt, IsTree}
 use Rattle.fs_model.proofs.Finds.{IsThere}
-use Rattle.fs_model.proofs.MapLaws.{with_entry-IsMap}
-use Rattle.fs_model.proofs.StepsEntries.{Names, leading, once_if, once_same, once_other, get-with_name, with_name-IsMap, length-with_name, leading-with_name, tied_names}
+use Rattle.fs_layout.proofs.MapLaws.{with_entry-IsMap}
+use Rattle.fs_layout.proofs.NameMaps.{Names, leading, once_if, once_same, once_other, get-with_name, with_name-IsMap, length-with_name, leading-with_name, tied_names}
 use Rattle.fs_model.proofs.StepsKinds.{KeepsTypes, directory_moves, same_fit}
 use Rattle.fs_model.proofs.StepsNaming.{renamed_node, renamed, at_it, at_others, still_there, names_there, names_elsewhere, names_of-renamed, renamed_keeps_types, types_compose, type_with_names, IsShape, node_from_shape, AreNames, entry_moves, body_moves, body_renamed, are_names}
 use Rattle.fs_model.proofs.StepsParents.{names_or, names_at, parent_is, parent_kept, under_all, directory_named, parent_at, under_root}

@@ -3,7 +3,7 @@ use Rattle.std.specs.Prelude.{◌≡◌, ℕ, ◌+◌, ◌-◌, ◌/◌, ◌^◌
 use Rattle.std.proofs.Common.{refl, arith, inl, inr}
 use Rattle.std.proofs.lemmas.Bool.{cases_lt}
 use Rattle.std.proofs.lemmas.List.{length-append, length-take, length-drop, length-replicate, get_or-replicate, get_or_past}
-use Rattle.posix_acl.specs.AccessList.{AccessList, IsAcl, with_mode_bits}
+use Rattle.posix_acl.specs.AccessList.{AccessList, IsAcl, with_mode_bits, IsSomeAcl}
 use Rattle.posix_acl.specs.Entries.{perms_of}
 use Rattle.posix_acl.proofs.Classes.{IsAcl-with_classes}
 use Rattle.fs_cred.specs.Credentials.{Credential}
@@ -12,7 +12,7 @@ use Rattle.fs_layout.proofs.Sectors.{IsBytes-append, IsBytes-take, IsBytes-drop}
 use Rattle.fs_model.specs.declared.call.AclType.{AclType}
 use Rattle.fs_model.specs.declared.call.AclType.TheVariants.{Access, Default}
 use Rattle.fs_model.specs.Nodes.{Node, Body, File, Dir, Link, Directory, names_in, bytes_in, type_of, with_bytes}
-use Rattle.fs_model.specs.Trees.{Tree, Room, IsBody, IsSomeAcl, IsDirectory, IsNode}
+use Rattle.fs_model.specs.Trees.{Tree, Room, IsBody, IsDirectory, IsNode}
 use Rattle.fs_model.specs.DescriptorCalls.{resized, overwritten}
 use Rattle.fs_model.specs.AttributeCalls.{with_mode, moded, owned, with_set_acl}
 use Rattle.fs_model.specs.Ranges.{IsSomeId}

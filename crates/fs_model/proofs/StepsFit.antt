@@ -3,7 +3,7 @@ use Rattle.std.specs.Prelude.{◌≡◌, ℕ, ◌+◌, true, cond, List, [], ◌
 use Rattle.std.proofs.Common.{refl, ap, arith, ◌∙◌}
 use Rattle.std.specs.Ordering.{nat_cmp}
 use Rattle.fs_model.specs.declared.reply.Reply.{Reply}
-use Rattle.fs_model.specs.Maps.{get, with_entry, IsMap}
+use Rattle.fs_layout.specs.Maps.{get, with_entry, IsMap}
 use Rattle.fs_model.specs.Nodes.{Node}
 use Rattle.fs_model.specs.Trees.{Tree, Room, node_at, with_node, IsTree}
 use Rattle.fs_model.specs.Processes.{Process}
@@ -15,7 +15,7 @@ use Rattle.fs_model.specs.Trails.{Form}
 use Rattle.fs_model.specs.Walks.{found_of}
 use Rattle.fs_model.specs.Steps.{scene_of, found_by, first_found, second_found}
 use Rattle.fs_model.proofs.Finds.{IsThere, finds_are_there}
-use Rattle.fs_model.proofs.MapLaws.{with_entry-IsMap, length-with_entry}
+use Rattle.fs_layout.proofs.MapLaws.{with_entry-IsMap, length-with_entry}
 use Rattle.fs_model.proofs.StepsKinds.{KeepsTypes, types_stay, process_moves, MayReplace, replaced_is_tree, replaced_keeps_types}
 use Rattle.fs_model.proofs.StepsProcesses.{in_with_entry}
 use Rattle.fs_model.proofs.StepsSwept.{MayBeLeft, tree_may_be_left}

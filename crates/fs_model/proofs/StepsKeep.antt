@@ -9,7 +9,7 @@ use Rattle.fs_model.specs.declared.event.Event.{Event}
 use Rattle.fs_model.specs.declared.event.Event.TheVariants.{Spawn, Exit, Call as Calls, Fsync, Sync, Statfs, Arm, Restart}
 use Rattle.fs_model.specs.declared.reply.Reply.{Reply}
 use Rattle.fs_model.specs.Limits.{processes_limit}
-use Rattle.fs_model.specs.Maps.{get, with_entry, without, IsMap}
+use Rattle.fs_layout.specs.Maps.{get, with_entry, without, IsMap}
 use Rattle.fs_model.specs.Processes.{Process, Desks, new_process}
 use Rattle.fs_model.specs.Changes.{changed}
 use Rattle.fs_model.specs.States.{State, IsProcess, IsState}
@@ -18,7 +18,7 @@ use Rattle.fs_model.specs.Scenes.{Row}
 use Rattle.fs_model.specs.Rows.{row_of}
 use Rattle.fs_model.specs.Steps.{Choice, After, after, after_call, demand_of, early_refusal, late_refusal, firm_refusal, other_refusal, scene_of, Acts, HasNewNumber, HaltedDesks, Answers, is_halted, refuses_early, refuses_late, acts, lacks_memory, read_fails, write_fails, Step}
 use Rattle.fs_model.specs.Ranges.{IsEvent, IsCall}
-use Rattle.fs_model.proofs.MapLaws.{with_entry-IsMap, length-with_entry}
+use Rattle.fs_layout.proofs.MapLaws.{with_entry-IsMap, length-with_entry}
 use Rattle.fs_model.proofs.StepsDemands.{unrefused}
 use Rattle.fs_model.proofs.StepsFit.{length-replaced}
 use Rattle.fs_model.proofs.StepsOfCalls.{process_leaves}

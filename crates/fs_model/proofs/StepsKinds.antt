@@ -6,8 +6,8 @@ use Rattle.fs_model.specs.Nodes.{Node, Body, File, Dir, Link, is_directory, is_l
 use Rattle.fs_model.specs.Trees.{Tree, Room, node_at, with_node, names_of, NamesFit, IsBody, IsTree, IsDirectoryAt}
 use Rattle.fs_model.specs.Processes.{Process, Descriptor}
 use Rattle.fs_model.specs.States.{IsDescriptor, IsProcess}
-use Rattle.fs_model.proofs.Entries.{tied}
-use Rattle.fs_model.proofs.MapLaws.{get-with_entry}
+use Rattle.fs_layout.proofs.FirstEntries.{tied}
+use Rattle.fs_layout.proofs.MapLaws.{get-with_entry}
 use Rattle.fs_model.proofs.Rewrites.{rewritten_is_tree}
 
 -- ---- what the type decides

@@ -5,7 +5,7 @@ use Rattle.std.proofs.lemmas.Bool.{cases_eq, cases_lt, or_right}
 use Rattle.std.proofs.lemmas.Bool.Decides.{nat_tests}
 use Rattle.std.specs.Ordering.{nat_cmp}
 use Rattle.fs_model.specs.Limits.{root, processes_limit}
-use Rattle.fs_model.specs.Maps.{get, IsMap}
+use Rattle.fs_layout.specs.Maps.{get, IsMap}
 use Rattle.fs_model.specs.Nodes.{Node, Body, File, Dir, Link, is_directory, names_in, type_of}
 use Rattle.fs_model.specs.Trees.{Tree, Room, node_at, names_of, NamesFit, IsBody, IsUnderRoot, IsNode, IsDirectoryAt, IsTree}
 use Rattle.fs_model.specs.Processes.{Desks, Process, is_in_use}

@@ -4,21 +4,21 @@ use Rattle.std.proofs.Common.{refl, sym, ap, arith, ◌∙◌, subst, inl, inr}
 use Rattle.std.proofs.lemmas.Bool.{cases_eq, cases_lt}
 use Rattle.std.proofs.lemmas.Bool.Decides.{nat_tests}
 use Rattle.std.specs.Ordering.{nat_cmp}
-use Rattle.posix_acl.specs.AccessList.{AccessList, IsAcl, group_class}
+use Rattle.posix_acl.specs.AccessList.{AccessList, IsAcl, group_class, IsSomeAcl}
 use Rattle.posix_acl.specs.Entries.{perms_of, meet}
 use Rattle.posix_acl.proofs.Classes.{IsAcl-with_classes}
 use Rattle.fs_cred.specs.Credentials.{Credential, IsCredential}
 use Rattle.fs_layout.specs.Bytes.{IsBytes}
 use Rattle.fs_layout.specs.Slot.{IsName}
 use Rattle.fs_model.specs.Limits.{root, entries_limit}
-use Rattle.fs_model.specs.Maps.{get, name_cmp}
+use Rattle.fs_layout.specs.Maps.{get, name_cmp}
 use Rattle.fs_model.specs.Nodes.{Node, Body, File, Dir, Link, is_directory, names_in, directory_in}
-use Rattle.fs_model.specs.Trees.{Tree, Room, node_at, with_node, names_for, names_of, parent, NamesFit, IsBody, IsSomeAcl, IsTarget, IsDirectoryAt, IsTree}
+use Rattle.fs_model.specs.Trees.{Tree, Room, node_at, with_node, names_for, names_of, parent, NamesFit, IsBody, IsTarget, IsDirectoryAt, IsTree}
 use Rattle.fs_model.specs.Births.{the_directory, no_directory, masked_acl, born_acl, born, born_file, born_directory, born_link}
 use Rattle.fs_model.proofs.Finds.{IsThere}
-use Rattle.fs_model.proofs.MapLaws.{with_entry-IsMap, sum-with_entry, summand}
+use Rattle.fs_layout.proofs.MapLaws.{with_entry-IsMap, sum-with_entry, summand}
 use Rattle.fs_model.proofs.StepsAdding.{AddsName}
-use Rattle.fs_model.proofs.StepsEntries.{leading, name_if}
+use Rattle.fs_layout.proofs.NameMaps.{leading, name_if}
 use Rattle.fs_model.proofs.StepsKinds.{KeepsTypes}
 use Rattle.fs_model.proofs.StepsNaming.{at_it, at_others, still_there, are_names}
 use Rattle.fs_model.proofs.StepsParents.{names_or, names_at, parent_names}

@@ -6,13 +6,13 @@ use Rattle.std.specs.Ordering.{nat_cmp, eq_by_cmp}
 use Rattle.fs_layout.specs.Bytes.{IsBytes}
 use Rattle.fs_layout.specs.Slot.{IsName}
 use Rattle.fs_model.specs.Limits.{root, entries_limit}
-use Rattle.fs_model.specs.Maps.{get, name_cmp, with_entry, without, IsMap}
+use Rattle.fs_layout.specs.Maps.{get, name_cmp, with_entry, without, IsMap}
 use Rattle.fs_model.specs.Nodes.{Node, is_directory, names_in, with_names}
 use Rattle.fs_model.specs.Trees.{Tree, Room, node_at, names_of, parent, IsEntry, IsUnderRoot, is_in, IsDirectoryAt, IsTree}
 use Rattle.fs_model.specs.Processes.{Desks, is_in_use}
 use Rattle.fs_model.proofs.Finds.{IsThere}
-use Rattle.fs_model.proofs.MapLaws.{with_entry-IsMap}
-use Rattle.fs_model.proofs.StepsEntries.{Names, leading, once_if, once_same, once_other, tied_names, get-with_name, with_name-IsMap, length-with_name, get-without_name, length-without_name, leading-without_name, leading_if, length-set_name, lost_of, leading-set_name}
+use Rattle.fs_layout.proofs.MapLaws.{with_entry-IsMap}
+use Rattle.fs_layout.proofs.NameMaps.{Names, leading, once_if, once_same, once_other, tied_names, get-with_name, with_name-IsMap, length-with_name, get-without_name, length-without_name, leading-without_name, leading_if, length-set_name, lost_of, leading-set_name}
 use Rattle.fs_model.proofs.StepsKinds.{same_directory}
 use Rattle.fs_model.proofs.StepsLosing.{Stood, LosesNames}
 use Rattle.fs_model.proofs.StepsNaming.{renamed_node, renamed, at_it, at_others, still_there, names_there, names_elsewhere, names_of-renamed, renamed_keeps_types, types_compose, type_with_names, AreNames, entry_moves, body_moves, body_renamed, are_names}

@@ -4,13 +4,13 @@ use Rattle.std.proofs.Common.{refl, ap, arith, ◌∙◌, inl, inr}
 use Rattle.std.proofs.lemmas.Bool.{cases_eq}
 use Rattle.std.specs.Ordering.{nat_cmp}
 use Rattle.fs_model.specs.Limits.{entries_limit}
-use Rattle.fs_model.specs.Maps.{get, name_cmp, IsMap}
+use Rattle.fs_layout.specs.Maps.{get, name_cmp, IsMap}
 use Rattle.fs_model.specs.Nodes.{Node, Body, File, Dir, Link, is_directory, names_in, with_names, type_of}
 use Rattle.fs_model.specs.Trees.{Tree, Room, node_at, with_node, names_for, names_of, NamesFit, IsEntry, IsBody, IsUnderRoot, IsNode}
-use Rattle.fs_model.proofs.Entries.{ties, apart}
+use Rattle.fs_layout.proofs.FirstEntries.{ties, apart}
 use Rattle.fs_model.proofs.Finds.{IsThere}
-use Rattle.fs_model.proofs.MapLaws.{get-with_entry, sum-with_entry, summand}
-use Rattle.fs_model.proofs.StepsEntries.{Names, leading}
+use Rattle.fs_layout.proofs.MapLaws.{get-with_entry, sum-with_entry, summand}
+use Rattle.fs_layout.proofs.NameMaps.{Names, leading}
 use Rattle.fs_model.proofs.StepsKinds.{KeepsTypes, replaced_keeps_types}
 use Rattle.fs_model.proofs.StepsParents.{names_or, names_at}
 

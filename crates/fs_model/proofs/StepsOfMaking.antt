@@ -11,7 +11,7 @@ use Rattle.fs_model.specs.declared.call.Flags.{Flags}
 use Rattle.fs_model.specs.declared.reply.Reply.{Reply}
 use Rattle.fs_model.specs.declared.reply.Reply.TheVariants.{Ok as Done, Fd}
 use Rattle.fs_model.specs.Limits.{entries_limit, descriptors_limit, names_limit, target_limit}
-use Rattle.fs_model.specs.Maps.{get, name_cmp, with_entry}
+use Rattle.fs_layout.specs.Maps.{get, name_cmp, with_entry}
 use Rattle.fs_model.specs.Nodes.{Node, Body, File, Dir, Link, is_directory, names_in, with_bytes}
 use Rattle.fs_model.specs.Trees.{Tree, node_at, with_node, names_of, NamesFit, IsTarget, IsDirectoryAt, IsTree}
 use Rattle.fs_model.specs.Births.{the_node, born_file, born_directory, born_link}

@@ -3,7 +3,7 @@ use Rattle.std.specs.Prelude.{◌≡◌, ℕ, ◌%◌, ◌≤◌, nat_lt, true, 
 use Rattle.std.proofs.Common.{refl, arith}
 use Rattle.std.proofs.lemmas.Bool.{not-false}
 use Rattle.std.proofs.lemmas.Bool.Decides.{nat_tests}
-use Rattle.posix_acl.specs.AccessList.{AccessList}
+use Rattle.posix_acl.specs.AccessList.{AccessList, IsSomeAcl}
 use Rattle.fs_cred.specs.declared.errno.Errno.TheVariants.{ENOENT, ENOTDIR, EFBIG}
 use Rattle.fs_model.specs.declared.call.AclType.{AclType}
 use Rattle.fs_model.specs.declared.reply.Reply.TheVariants.{Ok as Done, Mask}
@@ -13,7 +13,6 @@ use Rattle.fs_model.specs.Walks.{Found}
 use Rattle.fs_model.specs.Scenes.{Scene, is_found, number, node_found, body_found, must_be_there}
 use Rattle.fs_model.specs.DescriptorCalls.{resized, resized_node}
 use Rattle.fs_model.specs.AttributeCalls.{truncate_demands, truncate_effect, chmod_demands, moded, chmod_effect, chown_demands, owned, chown_effect, with_set_acl, set_acl_demands, set_acl_effect, chdir_demands, chdir_effect, umask_effect}
-use Rattle.fs_model.specs.Trees.{IsSomeAcl}
 use Rattle.fs_model.specs.Ranges.{IsSomeId}
 use Rattle.fs_model.proofs.StepsBodies.{bytes_are_bytes, length-resized, IsBytes-resized, bytes_may_replace, mode_may_replace, acl_may_replace, owner_may_replace}
 use Rattle.fs_model.proofs.StepsDemands.{AreMet, unrefused}

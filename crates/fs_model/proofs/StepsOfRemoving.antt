@@ -4,7 +4,7 @@ use Rattle.std.proofs.Common.{refl, sym, ap, ◌∙◌, subst}
 use Rattle.std.proofs.lemmas.Bool.{or_from}
 use Rattle.std.specs.Ordering.{nat_cmp}
 use Rattle.fs_cred.specs.declared.errno.Errno.TheVariants.{EBUSY, EISDIR, EINVAL, ENOTEMPTY}
-use Rattle.fs_model.specs.Maps.{get, name_cmp, with_entry, without}
+use Rattle.fs_layout.specs.Maps.{get, name_cmp, with_entry, without}
 use Rattle.fs_model.specs.Nodes.{is_directory, names_in}
 use Rattle.fs_model.specs.Trees.{IsDirectoryAt}
 use Rattle.fs_model.specs.Processes.{is_in_use}
@@ -14,7 +14,7 @@ use Rattle.fs_model.specs.Trails.{Parent}
 use Rattle.fs_model.specs.Scenes.{Scene, is_found, is_special, number, node_found, body_found, place_node, is_directory_found, has_names, ends_top, ends_dot, ends_dot_dot}
 use Rattle.fs_model.specs.NameCalls.{unlink_demands, rmdir_demands}
 use Rattle.fs_model.proofs.StepsDemands.{AreMet, unrefused, and_false}
-use Rattle.fs_model.proofs.StepsEntries.{once_if}
+use Rattle.fs_layout.proofs.NameMaps.{once_if}
 use Rattle.fs_model.proofs.StepsFit.{IsScene}
 use Rattle.fs_model.proofs.StepsFound.{IsNameAt, IsWalked}
 use Rattle.fs_model.proofs.StepsLosing.{LosesNames, loses_may_be_left}

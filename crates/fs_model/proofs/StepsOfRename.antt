@@ -6,7 +6,7 @@ use Rattle.std.proofs.lemmas.Bool.Decides.{nat_tests}
 use Rattle.std.specs.Ordering.{nat_cmp}
 use Rattle.fs_cred.specs.declared.errno.Errno.TheVariants.{EBUSY, EINVAL, ENOTEMPTY, ENOSPC}
 use Rattle.fs_model.specs.Limits.{entries_limit}
-use Rattle.fs_model.specs.Maps.{get, name_cmp, with_entry, without}
+use Rattle.fs_layout.specs.Maps.{get, name_cmp, with_entry, without}
 use Rattle.fs_model.specs.Nodes.{is_directory, names_in}
 use Rattle.fs_model.specs.Trees.{node_at, lookup, lookup_in, is_within, IsDirectoryAt}
 use Rattle.fs_model.specs.Processes.{is_in_use}
@@ -16,7 +16,7 @@ use Rattle.fs_model.specs.Demands.{only_if}
 use Rattle.fs_model.specs.Scenes.{Scene, is_found, is_special, number, node_found, body_found, place_node, is_directory_found, has_names, ends_top, ends_dot, ends_dot_dot, no_blocks, no_names}
 use Rattle.fs_model.specs.RenameCall.{is_same, moves, rename_permissions, rename_kinds, rename_directories, rename_moved, rename_space, rename_demands}
 use Rattle.fs_model.proofs.StepsDemands.{AreMet, unrefused, and_false, met_left, met_right}
-use Rattle.fs_model.proofs.StepsEntries.{lost_of}
+use Rattle.fs_layout.proofs.NameMaps.{lost_of}
 use Rattle.fs_model.proofs.StepsFit.{IsScene, node_is_there}
 use Rattle.fs_model.proofs.StepsFound.{IsNameAt, IsWalked}
 use Rattle.fs_model.proofs.StepsLosing.{LosesNames}

@@ -6,11 +6,11 @@ use Rattle.std.proofs.lemmas.Bool.Decides.{nat_tests}
 use Rattle.std.proofs.lemmas.List.Sums.{sum_by-cons}
 use Rattle.std.specs.Ordering.{nat_cmp}
 use Rattle.fs_model.specs.Limits.{root}
-use Rattle.fs_model.specs.Maps.{IsMap}
+use Rattle.fs_layout.specs.Maps.{IsMap}
 use Rattle.fs_model.specs.Nodes.{Node, Body, File, Dir, Link, is_directory, names_in}
 use Rattle.fs_model.specs.Trees.{Tree, Room, node_at, names_for, names_of, parent, NamesFit, IsUnderRoot, is_root, is_in, IsDirectoryAt, IsTree}
-use Rattle.fs_model.proofs.Entries.{in_rest, at_same, at_other, above, left, right}
-use Rattle.fs_model.proofs.StepsEntries.{Names, leading}
+use Rattle.fs_layout.proofs.FirstEntries.{in_rest, at_same, at_other, above, left, right}
+use Rattle.fs_layout.proofs.NameMaps.{Names, leading}
 
 -- the names in what stands at a number
 abbrev pub names_or : Option Node → Names

@@ -4,12 +4,12 @@ use Rattle.std.proofs.Common.{refl, sym, arith, ◌∙◌, subst}
 use Rattle.std.specs.List.{filter}
 use Rattle.std.specs.Ordering.{nat_cmp, eq_by_cmp, is_eq}
 use Rattle.fs_cred.specs.Credentials.{Credential, IsCredential}
-use Rattle.fs_model.specs.Maps.{get, with_entry, without, IsMap}
+use Rattle.fs_layout.specs.Maps.{get, with_entry, without, IsMap}
 use Rattle.fs_model.specs.Trees.{Tree, Room, IsTree, IsDirectoryAt}
 use Rattle.fs_model.specs.Processes.{Process, Descriptor, new_process, descriptor, the_descriptor, with_descriptor, with_offset, least_unused}
 use Rattle.fs_model.specs.States.{IsDescriptor, IsProcess}
-use Rattle.fs_model.proofs.Entries.{tied}
-use Rattle.fs_model.proofs.MapLaws.{get-with_entry, with_entry-IsMap}
+use Rattle.fs_layout.proofs.FirstEntries.{tied}
+use Rattle.fs_layout.proofs.MapLaws.{get-with_entry, with_entry-IsMap}
 use Rattle.fs_model.proofs.Swept.{kept, get-filter, filter-IsMap}
 
 -- ---- a map without a key

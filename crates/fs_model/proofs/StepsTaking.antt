@@ -4,13 +4,13 @@ use Rattle.std.proofs.Common.{refl, sym, ap, arith, ◌∙◌, subst, inl, inr}
 use Rattle.std.proofs.lemmas.Bool.{cases_eq}
 use Rattle.std.specs.Ordering.{eq_by_cmp}
 use Rattle.fs_model.specs.Limits.{root}
-use Rattle.fs_model.specs.Maps.{get, name_cmp, without}
+use Rattle.fs_layout.specs.Maps.{get, name_cmp, without}
 use Rattle.fs_model.specs.Nodes.{Node, is_directory, names_in}
 use Rattle.fs_model.specs.Trees.{Tree, Room, node_at, names_of, parent, IsUnderRoot, IsDirectoryAt, IsTree}
 use Rattle.fs_model.specs.Processes.{Desks, is_in_use}
 use Rattle.fs_model.proofs.Finds.{IsThere}
-use Rattle.fs_model.proofs.MapLaws.{with_entry-IsMap}
-use Rattle.fs_model.proofs.StepsEntries.{Names, leading, once_if, once_other, get-without_name, without_name-IsMap, length-without_name, leading-without_name}
+use Rattle.fs_layout.proofs.MapLaws.{with_entry-IsMap}
+use Rattle.fs_layout.proofs.NameMaps.{Names, leading, once_if, once_other, get-without_name, without_name-IsMap, length-without_name, leading-without_name}
 use Rattle.fs_model.proofs.StepsLosing.{Stood, LosesNames}
 use Rattle.fs_model.proofs.StepsNaming.{renamed_node, renamed, at_it, at_others, still_there, names_there, names_elsewhere, names_of-renamed, renamed_keeps_types, type_with_names, AreNames, entry_moves, body_moves, body_renamed, are_names}
 use Rattle.fs_model.proofs.StepsParents.{names_or, names_at, parent_kept, parent_names, under_all, directory_named, parent_at, under_root}

@@ -9,9 +9,9 @@ use Rattle.std.specs.List.{AllByRecursion}
 use Rattle.std.specs.Ordering.{nat_cmp, eq_by_cmp, is_eq}
 use Rattle.std.specs.FinMap.Entries.{find-where_key, length_without}
 use Rattle.fs_model.specs.Limits.{root}
-use Rattle.fs_model.specs.Maps.{get, without, IsMap}
+use Rattle.fs_layout.specs.Maps.{get, without, IsMap}
 use Rattle.fs_model.specs.Trees.{Tree, Room, parent, is_within, IsUnderRoot, is_root, is_in, IsDirectoryAt, IsTree}
-use Rattle.fs_model.proofs.Entries.{apart, tied}
+use Rattle.fs_layout.proofs.FirstEntries.{apart, tied}
 use Rattle.fs_model.proofs.StepsDemands.{and_false}
 use Rattle.fs_model.proofs.StepsParents.{parent_at}
 use Rattle.fs_model.proofs.StepsProcesses.{without-IsMap}

@@ -10,7 +10,7 @@ use Rattle.fs_layout.specs.declared.place.Place.{Place}
 use Rattle.fs_layout.specs.Bytes.{SectorMap}
 use Rattle.fs_layout.specs.Inode.{free_inode}
 use Rattle.fs_layout.specs.Images.{inode_at}
-use Rattle.fs_model.specs.Maps.{IsMap}
+use Rattle.fs_layout.specs.Maps.{IsMap}
 use Rattle.fs_model.specs.Nodes.{Node, Body, File, Dir, Link, is_directory, is_link}
 use Rattle.fs_model.specs.Trees.{Tree, node_at, names_of, IsTree}
 use Rattle.fs_model.specs.StoredNodes.{Placed, HoldsBody, HoldsNode, names_field}
@@ -18,7 +18,7 @@ use Rattle.fs_model.specs.Stands.{HoldsPlaced, HoldsAll, placed, room_of}
 use Rattle.fs_model.specs.Rules.{is_directory_kind}
 use Rattle.fs_model.specs.Summaries.{is_file_kind, is_link_kind, is_used, is_file_body, named_files, nameless_files, directories, links}
 use Rattle.fs_model.proofs.ListedMaps.{sum-of_map, sum-same}
-use Rattle.fs_model.proofs.MapLaws.{summand}
+use Rattle.fs_layout.proofs.MapLaws.{summand}
 use Rattle.fs_model.proofs.StoredTrees.{Stores}
 use Rattle.fs_model.proofs.RulesFromTree.{stores, put}
 
@@ -36,22 +36,22 @@ length_is (e ∷ t) = let rest = length_is t in omega (arith, rest, sum_by-cons 
 
 body_is_file : (m : SectorMap) (v : Inode) (b : Body) → HoldsBody m v b → is_file_body b ≡ is_file_kind v.kind
 body_is_file m v (File a bytes) h = sym (ap is_file_kind h.kind)
-body_is_file m v (Dir a d) h = sym (ap is_file_kind h.kind)
+body_is_file m v (Dir a d) h = sym (ap is_file_kind h.names.kind)
 body_is_file m v (Link target) h = sym (ap is_file_kind h.kind)
 
 body_is_directory : (m : SectorMap) (v : Inode) (b : Body) → HoldsBody m v b → is_directory b ≡ is_directory_kind v.kind
 body_is_directory m v (File a bytes) h = sym (ap is_directory_kind h.kind)
-body_is_directory m v (Dir a d) h = sym (ap is_directory_kind h.kind)
+body_is_directory m v (Dir a d) h = sym (ap is_directory_kind h.names.kind)
 body_is_directory m v (Link target) h = sym (ap is_directory_kind h.kind)
 
 body_is_link : (m : SectorMap) (v : Inode) (b : Body) → HoldsBody m v b → is_link b ≡ is_link_kind v.kind
 body_is_link m v (File a bytes) h = sym (ap is_link_kind h.kind)
-body_is_link m v (Dir a d) h = sym (ap is_link_kind h.kind)
+body_is_link m v (Dir a d) h = sym (ap is_link_kind h.names.kind)
 body_is_link m v (Link target) h = sym (ap is_link_kind h.kind)
 
 body_is_used : (m : SectorMap) (v : Inode) (b : Body) → HoldsBody m v b → true ≡ is_used v.kind
 body_is_used m v (File a bytes) h = sym (ap is_used h.kind)
-body_is_used m v (Dir a d) h = sym (ap is_used h.kind)
+body_is_used m v (Dir a d) h = sym (ap is_used h.names.kind)
 body_is_used m v (Link target) h = sym (ap is_used h.kind)
 
 -- of a file the names field is the number of its names
@@ -61,7 +61,7 @@ file_names m v x none h = go x.node.body h.body h.names
   where
     go : (b : Body) → HoldsBody m v b → v.names ≡ names_field b x.names → (is_file_body b && none (x.names == 0)) ≡ (is_file_kind v.kind && none (v.names == 0))
     go (File a bytes) h e = ap (λ (n : ℕ). none (n == 0)) (sym e) ∙ sym (ap (λ k. is_file_kind k && none (v.names == 0)) h.kind)
-    go (Dir a d) h e = sym (ap (λ k. is_file_kind k && none (v.names == 0)) h.kind)
+    go (Dir a d) h e = sym (ap (λ k. is_file_kind k && none (v.names == 0)) h.names.kind)
     go (Link target) h e = sym (ap (λ k. is_file_kind k && none (v.names == 0)) h.kind)
 
 module _ (p : Place) (m : SectorMap) (t : Tree) (held : HoldsAll p m (placed t)) (is : IsTree (room_of p) t) where

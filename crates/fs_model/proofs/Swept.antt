@@ -8,12 +8,12 @@ use Rattle.std.specs.Ordering.{nat_cmp, is_eq, eq_by_cmp}
 use Rattle.std.specs.FinMap.{is_sorted}
 use Rattle.std.specs.FinMap.Entries.{below_all}
 use Rattle.fs_model.specs.Limits.{root}
-use Rattle.fs_model.specs.Maps.{get, name_cmp, IsMap}
+use Rattle.fs_layout.specs.Maps.{get, name_cmp, IsMap}
 use Rattle.fs_model.specs.Nodes.{Node, Body, File, Dir, Link, names_in, is_directory}
 use Rattle.fs_model.specs.Trees.{Tree, Room, node_at, names_for, names_of, parent, NamesFit, IsNode, IsTree, IsBody, IsDirectoryAt}
 use Rattle.fs_model.specs.Processes.{Desks}
 use Rattle.fs_model.specs.Changes.{swept, pruned, lives_nameless}
-use Rattle.fs_model.proofs.Entries.{above, left, right, tied, at_other, at_same, in_rest}
+use Rattle.fs_layout.proofs.FirstEntries.{above, left, right, tied, at_other, at_same, in_rest}
 use Rattle.fs_model.proofs.Rewrites.{under}
 
 module _ {X : Type 0} (keeps : ℕ × X → Bool) where

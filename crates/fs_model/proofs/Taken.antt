@@ -28,14 +28,16 @@ use Rattle.fs_layout.proofs.Bits.{has_bit, set_or_clear}
 use Rattle.fs_layout.proofs.Free.{HasNoSector, owns_nothing, free_has_no_sector}
 use Rattle.fs_layout.proofs.SlotLaw.{length-slot_bytes}
 use Rattle.fs_model.specs.Limits.{target_limit}
-use Rattle.fs_model.specs.Maps.{name_cmp, get}
+use Rattle.fs_layout.specs.Maps.{name_cmp, get}
 use Rattle.fs_model.specs.Nodes.{Node, Body, File, Dir, Link, target_in, sectors_for, sectors_of}
 use Rattle.fs_model.specs.Trees.{Tree, Room, node_at, names_of, parent, sectors_needed, IsBody, IsTree}
 use Rattle.fs_model.specs.States.{MayBeFree}
-use Rattle.fs_model.specs.StoredNodes.{HoldsAcl, kept_acl, HaveDistinctNames, slots_bytes, names_of_slots, HoldsBody, HoldsNode}
+use Rattle.fs_layout.specs.Directories.{HaveDistinctNames, slots_bytes, names_of_slots}
+use Rattle.fs_layout.specs.StoredAcls.{HoldsAcl, kept_acl}
+use Rattle.fs_model.specs.StoredNodes.{HoldsBody, HoldsNode}
 use Rattle.fs_model.specs.Stands.{HoldsAll, placed, Stands}
 use Rattle.fs_model.proofs.Counting.{Names, in_first, in_second, passes_or_named}
-use Rattle.fs_model.proofs.Entries.{in_rest}
+use Rattle.fs_layout.proofs.FirstEntries.{in_rest}
 
 -- ---- the sectors of one inode
 
@@ -200,8 +202,8 @@ module _ (image : SectorMap) (v : Inode) where
       in_first (content image v (length bytes)) (only (is_extended a) v.acl) (pointer image v k) (in_bytes (length bytes) bytes h.holds refl (Block k) (inr (k, refl)) some)
   part_taken (Dir a d) h short at some = in_directory at some
     where
-      len : length (slots_bytes h.slots) ≡ 128 * length d.names
-      len = let x = length-slots h.slots h.each in let y = ap length h.names ∙ length-names h.slots h.apart in omega (arith, x, y)
+      len : length (slots_bytes h.names.slots) ≡ 128 * length d.names
+      len = let n = h.names in let x = length-slots n.slots n.each in let y = ap length n.are ∙ length-names n.slots n.apart in omega (arith, x, y)
 
       bytes : List ℕ
       bytes = content image v (128 * length d.names)
@@ -215,11 +217,11 @@ module _ (image : SectorMap) (v : Inode) where
           (in_only (is_some d.default) v.default_acl (default_is_there image v.default_acl d.default h.has_default some))
       in_directory Indirect some =
           in_first (bytes ++ only (is_extended a) v.acl) (only (is_some d.default) v.default_acl) v.indirect
-          (in_first bytes (only (is_extended a) v.acl) v.indirect (in_bytes (128 * length d.names) (slots_bytes h.slots) h.holds len Indirect (inl refl) some))
+          (in_first bytes (only (is_extended a) v.acl) v.indirect (in_bytes (128 * length d.names) (slots_bytes h.names.slots) h.names.holds len Indirect (inl refl) some))
       in_directory DoubleIndirect some = absurd (some refl)
       in_directory (Block k) some =
           in_first (bytes ++ only (is_extended a) v.acl) (only (is_some d.default) v.default_acl) (pointer image v k)
-          (in_first bytes (only (is_extended a) v.acl) (pointer image v k) (in_bytes (128 * length d.names) (slots_bytes h.slots) h.holds len (Block k) (inr (k, refl)) some))
+          (in_first bytes (only (is_extended a) v.acl) (pointer image v k) (in_bytes (128 * length d.names) (slots_bytes h.names.slots) h.names.holds len (Block k) (inr (k, refl)) some))
   part_taken (Link target) h short AccessAcl some = absurd (some h.no_acl)
   part_taken (Link target) h short DefaultAcl some = absurd (some h.no_default)
   part_taken (Link target) h short Indirect some = absurd (some (h.holds.trim_pointers (let size = h.holds.size in omega (arith, size, short))))

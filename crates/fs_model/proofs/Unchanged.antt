@@ -6,15 +6,15 @@ use Rattle.std.proofs.lemmas.Bool.Decides.{nat_tests}
 use Rattle.std.specs.List.{filter}
 use Rattle.std.specs.Ordering.{nat_cmp, is_eq}
 use Rattle.fs_model.specs.Limits.{root}
-use Rattle.fs_model.specs.Maps.{get, with_entry, IsMap}
+use Rattle.fs_layout.specs.Maps.{get, with_entry, IsMap}
 use Rattle.fs_model.specs.Nodes.{Node, Body, File, Dir, Link, names_in, sectors_of, is_directory}
 use Rattle.fs_model.specs.Trees.{Tree, Room, node_at, with_node, names_of, NamesFit, IsTree}
 use Rattle.fs_model.specs.Processes.{Process, Desks, is_open}
 use Rattle.fs_model.specs.Changes.{swept, lives_nameless}
 use Rattle.fs_model.specs.States.{FitsTree}
 use Rattle.fs_model.specs.Laws.{IsRewritten}
-use Rattle.fs_model.proofs.Entries.{right, tied}
-use Rattle.fs_model.proofs.MapLaws.{get-with_entry, with_entry-IsMap, same_map, length-with_entry, sum-with_entry, summand}
+use Rattle.fs_layout.proofs.FirstEntries.{right, tied}
+use Rattle.fs_layout.proofs.MapLaws.{get-with_entry, with_entry-IsMap, same_map, length-with_entry, sum-with_entry, summand}
 use Rattle.fs_model.proofs.Rewrites.{names_of-rewritten, parent-rewritten}
 use Rattle.fs_model.proofs.Swept.{stays, at_first, at_rest}
 

@@ -7,7 +7,7 @@ use Rattle.std.specs.List.{list_any}
 use Rattle.std.specs.Ordering.{nat_cmp}
 use Rattle.fs_cred.specs.declared.node.Node.{Node as AccessNode}
 use Rattle.fs_cred.specs.Verdicts.{verdict}
-use Rattle.fs_model.specs.Maps.{get}
+use Rattle.fs_layout.specs.Maps.{get}
 use Rattle.fs_model.specs.Nodes.{Node, Body, File, accessed}
 use Rattle.fs_model.specs.Trees.{Tree}
 use Rattle.fs_model.specs.Processes.{Process}

@@ -4,7 +4,7 @@
 use Rattle.std.specs.Prelude.{ℕ, ◌==◌, Bool, not, ◌||◌, List, [], Option, None, Some, unwrap_or}
 use Rattle.std.specs.List.{filter}
 use Rattle.fs_model.specs.Limits.{root}
-use Rattle.fs_model.specs.Maps.{name_cmp, with_entry, without}
+use Rattle.fs_layout.specs.Maps.{name_cmp, with_entry, without}
 use Rattle.fs_model.specs.Nodes.{Node, Body, File, names_in, with_names}
 use Rattle.fs_model.specs.Trees.{Tree, node_at, with_node, names_of, lookup}
 use Rattle.fs_model.specs.Processes.{Desks, is_open}

@@ -11,7 +11,7 @@ use Rattle.fs_model.specs.declared.call.Whence.TheVariants.{Set, Cur, End}
 use Rattle.fs_model.specs.declared.reply.Status.{Status}
 use Rattle.fs_model.specs.declared.reply.Reply.TheVariants.{Ok as Done, Data, Wrote, At, Shown, Names}
 use Rattle.fs_model.specs.Limits.{move_limit}
-use Rattle.fs_model.specs.Maps.{without}
+use Rattle.fs_layout.specs.Maps.{without}
 use Rattle.fs_model.specs.Nodes.{Node, is_directory, names_in, bytes_in, with_bytes, type_of, shown_mode, shown_size}
 use Rattle.fs_model.specs.Trees.{Tree, parent, names_of}
 use Rattle.fs_model.specs.Processes.{the_descriptor, with_offset}

@@ -9,7 +9,7 @@ use Rattle.std.specs.List.{list_any}
 use Rattle.std.specs.Ordering.{nat_cmp}
 use Rattle.fs_cred.specs.Credentials.{Credential}
 use Rattle.fs_model.specs.Limits.{root}
-use Rattle.fs_model.specs.Maps.{get, with_entry}
+use Rattle.fs_layout.specs.Maps.{get, with_entry}
 
 -- the node, the offset, what it was opened for, and O_APPEND
 pub record Descriptor : Type 0 where

@@ -3,7 +3,7 @@
 use Rattle.std.specs.Prelude.{ℕ, ◌^◌, ◌<◌, ◌⊎◌, IsTrue, Option, None, Some, ℤ, pos, negsuc}
 use Rattle.fs_cred.specs.Credentials.{IsCredential}
 use Rattle.fs_layout.specs.Bytes.{IsBytes}
-use Rattle.fs_model.specs.Trees.{IsSomeAcl}
+use Rattle.posix_acl.specs.AccessList.{IsSomeAcl}
 use Rattle.fs_model.specs.declared.call.Flags.{Flags}
 use Rattle.fs_model.specs.declared.call.Call.{Call}
 use Rattle.fs_model.specs.declared.call.Call.TheVariants.{Open, Read, Write, Lseek, Close, Fstat, Stat, Lstat, Access, Truncate, Ftruncate, Chmod, Chown, GetAcl, SetAcl, Readdir, Mkdir, Rmdir, Link, Symlink, Readlink, Unlink, Rename, Chdir, Umask}

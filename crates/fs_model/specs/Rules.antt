@@ -1,13 +1,12 @@
 -- The checker's rules, each a predicate on an image, read from its bytes: our own layout.
 --     IsPlaceOf, HasCommit        the first two: the superblock gives the disk this place; the commit sector is valid
 --     ImageRule, rule_number        the others, and their numbers; they speak of the recovered image
---     stored_slot, slot_at, slot_count        the slots of a directory
 --     namings_in, namings        how many slots of one directory, and of all, name an inode
 --     IsBit, IsGoodInode, IsLaidOut, HasAcls, IsGoodSlot, HasNameCount, HasParent, GoesUp        what single rules ask
 --     Obeys        an image obeys a rule at a number
 --     ObeysAll, ObeysBefore        all rules at each number; those with a lower number than k
 --     IsFinding        the first rule that fails, at its least number
-use Rattle.std.specs.Prelude.{◌≡◌, ◌≢◌, ℕ, ◌*◌, ◌/◌, ◌%◌, ◌<◌, ◌≤◌, ◌==◌, nat_eq, nat_lt, nat_le, Bool, true, false, not, ◌||◌, List, [], map, if◌then◌else◌, Some, Result, Ok, Err, IsTrue, count_by, sum_by, ◌⊎◌, ◌↔◌}
+use Rattle.std.specs.Prelude.{◌≡◌, ◌≢◌, ℕ, ◌*◌, ◌%◌, ◌<◌, ◌≤◌, ◌==◌, nat_eq, nat_lt, nat_le, Bool, true, false, not, ◌||◌, List, if◌then◌else◌, Some, Ok, IsTrue, count_by, sum_by, ◌⊎◌, ◌↔◌}
 use Rattle.std.specs.List.{range_with_len}
 use Rattle.posix_acl.specs.AccessList.{AccessList, IsAcl, is_extended, list_numbers, mode_bits}
 use Rattle.fs_layout.specs.declared.superblock.Super.{Super}
@@ -15,19 +14,18 @@ use Rattle.fs_layout.specs.declared.inode.Kind.{Kind}
 use Rattle.fs_layout.specs.declared.inode.Kind.TheVariants as kinds
 use Rattle.fs_layout.specs.declared.inode.Inode.{Inode}
 use Rattle.fs_layout.specs.declared.place.Place.{Place}
-use Rattle.fs_layout.specs.declared.fault.LayoutFault.{LayoutFault}
-use Rattle.fs_layout.specs.Bytes.{SectorMap, IsSector, window, u16_of}
+use Rattle.fs_layout.specs.Bytes.{SectorMap, IsSector, u16_of}
 use Rattle.fs_layout.specs.Superblock.{super_of}
 use Rattle.fs_layout.specs.Commit.{commit_of, AreTargets}
 use Rattle.fs_layout.specs.Inode.{inode_of}
-use Rattle.fs_layout.specs.Slot.{NamedInode, slot_of}
+use Rattle.fs_layout.specs.Slot.{slot_of}
 use Rattle.fs_layout.specs.AclSector.{acl_sector_of}
+use Rattle.fs_layout.specs.Directories.{slot_count, stored_slot, slot_at}
 use Rattle.fs_layout.specs.Place.{the_place}
 use Rattle.fs_layout.specs.Images.{bit, inode_bitmap, block_bitmap, map_bits, IsData, stored, inode_at, pointer, Owns, byte_at, HasNoHole}
 use Rattle.fs_layout.specs.Ownership.{IsOwned}
 use Rattle.fs_layout.specs.Recovered.{recovered}
 use Rattle.fs_model.specs.Limits.{root, names_limit}
-use Rattle.fs_model.specs.StoredNodes.{stored_entry}
 
 -- ---- the superblock and the commit sector
 
@@ -48,23 +46,7 @@ pub record HasCommit (sectors : ℕ) (image : SectorMap) : Type 0 where
   pub commit_is : commit_of (image 1) ≡ Ok targets
   pub valid : AreTargets sectors targets
 
--- ---- slots
-
--- how many slots a directory has
-abbrev pub slot_count : Inode → ℕ
-slot_count v = v.size / 128
-
--- the bytes of slot k
-unfoldable pub stored_slot : SectorMap → Inode → ℕ → List ℕ
-stored_slot m v k = window (m (pointer m v (k / 4))) (128 * (k % 4)) 128
-
-abbrev pub slot_or_none : Result NamedInode LayoutFault → NamedInode
-slot_or_none (Ok x) = x
-slot_or_none (Err e) = record { inode = 0; name = [] }
-
--- slot k, one of no name where its bytes are none
-unfoldable pub slot_at : SectorMap → Inode → ℕ → NamedInode
-slot_at m v k = slot_or_none (slot_of (stored_slot m v k))
+-- ---- names
 
 abbrev pub is_directory_kind : Kind → Bool
 is_directory_kind kinds.Free = false
@@ -118,7 +100,7 @@ pub record IsLaidOut (m : SectorMap) (v : Inode) : Type 0 where
 -- a sector's content is a valid ACL in canonical order
 pub record IsStoredAcl (content : List ℕ) (a : AccessList) : Type 0 where
   pub valid : IsAcl a
-  pub entries : acl_sector_of content ≡ Ok (map stored_entry (list_numbers a))
+  pub entries : acl_sector_of content ≡ Ok (list_numbers a)
 
 -- the sector of an access ACL: more than the three base entries, with the permission bits of the mode
 pub record HasAccessAcl (m : SectorMap) (v : Inode) : Type 0 where

@@ -7,7 +7,7 @@ use Rattle.std.specs.Prelude.{◌≡◌, ◌≢◌, ℕ, ◌-◌, ◌^◌, ◌<�
 use Rattle.std.specs.Ordering.{nat_cmp}
 use Rattle.fs_cred.specs.Credentials.{IsCredential}
 use Rattle.fs_model.specs.Limits.{root, descriptors_limit, processes_limit}
-use Rattle.fs_model.specs.Maps.{get, IsMap}
+use Rattle.fs_layout.specs.Maps.{get, IsMap}
 use Rattle.fs_model.specs.Nodes.{Node, is_link, is_directory}
 use Rattle.fs_model.specs.Trees.{Tree, Room, node_at, names_of, sectors_needed, IsTree, IsDirectoryAt}
 use Rattle.fs_model.specs.Processes.{Desks, Process, Descriptor, is_open}

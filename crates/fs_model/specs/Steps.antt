@@ -16,7 +16,7 @@ use Rattle.fs_model.specs.declared.reply.Reply.TheVariants.{Ok as Done, Pid, Spa
 use Rattle.fs_model.specs.declared.event.Event.{Event}
 use Rattle.fs_model.specs.declared.event.Event.TheVariants.{Spawn, Exit, Call as Calls, Fsync, Statfs, Arm, Restart}
 use Rattle.fs_model.specs.Limits.{processes_limit}
-use Rattle.fs_model.specs.Maps.{get, with_entry, without}
+use Rattle.fs_layout.specs.Maps.{get, with_entry, without}
 use Rattle.fs_model.specs.Trees.{Tree, node_at, free_inodes}
 use Rattle.fs_model.specs.Processes.{Process, Desks, new_process}
 use Rattle.fs_model.specs.Changes.{Change, Same, Make, changed, swept}

@@ -7,7 +7,7 @@ use Rattle.std.specs.Prelude.{ℕ, zero, suc, ◌==◌, nat_lt, Bool, true, fals
 use Rattle.fs_cred.specs.declared.errno.Errno.{Errno}
 use Rattle.fs_cred.specs.declared.errno.Errno.TheVariants.{ENOENT, ENOTDIR, ENAMETOOLONG, ELOOP}
 use Rattle.fs_model.specs.Limits.{name_limit, links_limit}
-use Rattle.fs_model.specs.Maps.{name_cmp, get}
+use Rattle.fs_layout.specs.Maps.{name_cmp, get}
 use Rattle.fs_model.specs.Nodes.{Node, Body, Link, is_directory, names_in}
 use Rattle.fs_model.specs.Trees.{Tree, node_at, parent}
 use Rattle.fs_model.specs.Parts.{Parts, parts_of, start_of, is_empty}

@@ -7,11 +7,11 @@
 --     sectors_needed, free_inodes        what a tree takes of a disk, and what it leaves
 use Rattle.std.specs.Prelude.{◌≡◌, ◌≢◌, ℕ, zero, suc, ◌-◌, ◌^◌, ◌<◌, ◌≤◌, ◌==◌, nat_lt, Bool, not, ◌&&◌, ◌||◌, List, [], ◌∷◌, length, if◌then◌else◌, Option, None, Some, IsTrue, is_some, count_by, sum_by, All}
 use Rattle.std.specs.Ordering.{nat_cmp}
-use Rattle.posix_acl.specs.AccessList.{AccessList, IsAcl}
+use Rattle.posix_acl.specs.AccessList.{IsAcl, IsSomeAcl}
 use Rattle.fs_layout.specs.Bytes.{IsBytes}
 use Rattle.fs_layout.specs.Slot.{IsName}
 use Rattle.fs_model.specs.Limits.{root, entries_limit, names_limit, target_limit}
-use Rattle.fs_model.specs.Maps.{name_cmp, get, with_entry, IsMap}
+use Rattle.fs_layout.specs.Maps.{name_cmp, get, with_entry, IsMap}
 use Rattle.fs_model.specs.Nodes.{Node, Body, File, Dir, Link, Directory, is_directory, names_in, sectors_of}
 
 abbrev pub Tree : Type 0
@@ -75,11 +75,6 @@ pub record IsTarget (target : List ℕ) : Type 0 where
   pub short : length target ≤ target_limit
   pub bytes : IsBytes target
   pub no_zero : All (λ b. b ≢ 0) target
-
--- an ACL where there is one is valid
-abbrev pub IsSomeAcl : Option AccessList → Type 0
-IsSomeAcl None = Unit {0}
-IsSomeAcl (Some a) = IsAcl a
 
 -- what is true of each kind of object in a tree
 abbrev pub IsBody : Room → Tree → Body → Type 0

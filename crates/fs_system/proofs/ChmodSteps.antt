@@ -16,7 +16,7 @@ use Rattle.fs_model.specs.declared.reply.Reply.TheVariants.{Ok as Done, Refused}
 use Rattle.fs_model.specs.declared.event.Event.{Event}
 use Rattle.fs_model.specs.declared.event.Event.TheVariants.{Call as Calls}
 use Rattle.fs_model.specs.Limits.{root}
-use Rattle.fs_model.specs.Maps.{get, with_entry}
+use Rattle.fs_layout.specs.Maps.{get, with_entry}
 use Rattle.fs_model.specs.Nodes.{Node, Directory, Dir, is_directory, sectors_of}
 use Rattle.fs_model.specs.Trees.{Tree, node_at, with_node, names_of, sectors_needed, IsTree, IsDirectoryAt}
 use Rattle.fs_model.specs.Processes.{Process, Descriptor, Desks}
@@ -28,8 +28,8 @@ use Rattle.fs_model.specs.Rows.{row_of}
 use Rattle.fs_model.specs.Steps.{Choice, After, Acts, HasNewNumber, IsAllowed, firm_refusal, other_refusal, after, tree_after}
 use Rattle.fs_model.specs.Steps as step
 use Rattle.fs_model.specs.Stops.{Halts}
-use Rattle.fs_model.proofs.Entries.{apart}
-use Rattle.fs_model.proofs.MapLaws.{get-with_entry}
+use Rattle.fs_layout.proofs.FirstEntries.{apart}
+use Rattle.fs_layout.proofs.MapLaws.{get-with_entry}
 use Rattle.fs_model.proofs.Rewrites.{rewritten_is_tree}
 use Rattle.fs_model.proofs.Unchanged.{nothing_to_drop, same_process_stays, rewriting_keeps}
 use Rattle.fs_system.specs.Serving.{the_root, Serves}

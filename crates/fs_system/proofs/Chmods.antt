@@ -21,7 +21,7 @@ use Rattle.fs_model.specs.declared.call.Call.TheVariants.{Chmod}
 use Rattle.fs_model.specs.declared.reply.Reply.TheVariants.{Ok as Done, Refused}
 use Rattle.fs_model.specs.declared.event.Event.TheVariants.{Call as Calls}
 use Rattle.fs_model.specs.Limits.{root}
-use Rattle.fs_model.specs.Maps.{get}
+use Rattle.fs_layout.specs.Maps.{get}
 use Rattle.fs_model.specs.Nodes.{Dir, shown_mode}
 use Rattle.fs_model.specs.Trees.{Tree}
 use Rattle.fs_model.specs.Processes.{Process, Desks}
@@ -81,7 +81,7 @@ chmod_ends_bad disk only_now place desks s pid cred r up at path mode big =
 pub saved_is_inode_of : (old : DiskState) (place : Place) (desks : Desks) (s : State) (r : IsRunning old place desks s) (v : Inode) → ShowsRoot s.tree v
     → v ≡ inode_at r.whole.stands.place (sector old.seen) root → FitsInode v → (bits : ℕ) → bits ≤ 2047 → IsInode (record v { mode = bits })
 saved_is_inode_of old place desks s r v shows exact fits bits few =
-    (mode_fits v bits fits (was_held old.seen s.room s.tree s.free r.whole.stands r.whole.idle v exact fits shows).body.kind few).valid
+    (mode_fits v bits fits (was_held old.seen s.room s.tree s.free r.whole.stands r.whole.idle v exact fits shows).body.names.kind few).valid
 
 module _ (old mid : DiskState) (only_now : (image : Image) → old.left_since old.moment image → IsImage old image) (seen_is : IsImage old old.seen)
     (same : IsSame old mid) (time : Elapses old mid) (later : old.failures ≤ mid.failures) (quiet : mid.failed_writes ≡ old.failed_writes)

@@ -13,7 +13,7 @@ use Rattle.fs_model.specs.declared.reply.Reply.{Reply}
 use Rattle.fs_model.specs.declared.reply.Reply.TheVariants.{Ok as Done, Pid, Refused}
 use Rattle.fs_model.specs.declared.event.Event.{Event}
 use Rattle.fs_model.specs.declared.event.Event.TheVariants.{Call as Calls, Spawn, Sync}
-use Rattle.fs_model.specs.Maps.{get, with_entry}
+use Rattle.fs_layout.specs.Maps.{get, with_entry}
 use Rattle.fs_model.specs.Trees.{Tree, Room}
 use Rattle.fs_model.specs.Processes.{Desks, Process, new_process}
 use Rattle.fs_model.specs.Changes.{pruned}

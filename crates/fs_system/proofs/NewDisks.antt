@@ -12,7 +12,7 @@ use Rattle.fs_model.specs.Trees.{Tree, Room, node_at}
 use Rattle.fs_model.specs.States.{FitsTree}
 use Rattle.fs_model.specs.Stands.{Stands, room_of}
 use Rattle.fs_model.specs.NewDisk.{empty_tree, IsNewImage}
-use Rattle.fs_model.proofs.Entries.{tied}
+use Rattle.fs_layout.proofs.FirstEntries.{tied}
 use Rattle.fs_model.proofs.NewDiskStands.{new_disk_stands}
 use Rattle.fs_system.specs.Seen.{HasPlainRoot}
 use Rattle.fs_system.specs.Mounting.{IsMountable}

@@ -21,7 +21,7 @@ use Rattle.fs_model.specs.declared.reply.FileType.TheVariants.{Directory as Dire
 use Rattle.fs_model.specs.declared.reply.Reply.{Reply}
 use Rattle.fs_model.specs.declared.reply.Reply.TheVariants.{Shown, Granted, Refused}
 use Rattle.fs_model.specs.declared.event.Event.TheVariants.{Call as Calls}
-use Rattle.fs_model.specs.Maps.{get}
+use Rattle.fs_layout.specs.Maps.{get}
 use Rattle.fs_model.specs.Processes.{Process, Desks}
 use Rattle.fs_model.specs.States.{State}
 use Rattle.fs_model.specs.Stops.{is_io_error}

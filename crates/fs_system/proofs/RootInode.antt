@@ -22,9 +22,10 @@ use Rattle.fs_model.specs.Nodes.{Node, Body, Dir, shown_mode}
 use Rattle.fs_model.specs.Trees.{Tree, Room, node_at, names_of, parent}
 use Rattle.fs_model.specs.Processes.{Desks}
 use Rattle.fs_model.specs.States.{State}
-use Rattle.fs_model.specs.StoredNodes.{HoldsNode, HoldsAcl}
+use Rattle.fs_layout.specs.StoredAcls.{HoldsAcl}
+use Rattle.fs_model.specs.StoredNodes.{HoldsNode}
 use Rattle.fs_model.specs.Stands.{HoldsAll, HoldsPlaced, placed}
-use Rattle.fs_model.proofs.OneAcl.{access_same, mode_small}
+use Rattle.fs_layout.proofs.OneAcl.{access_same, mode_small}
 use Rattle.fs_system.specs.Standing.{StandsFor}
 use Rattle.fs_system.specs.Seen.{HasPlainRoot, IsRunning}
 use Rattle.fs_system.specs.Rooted.{ShowsRoot}
@@ -128,8 +129,8 @@ module _ (seen : Image) (room : Room) (t : Tree) (free : ℕ) (st : StandsFor ro
               ∙ ap (λ (n : ℕ). Some (record { owner = v.uid; group = n; body = Dir plain.acl plain.directory })) (sym h.group)
               ∙ ap (λ (a : AccessList). Some (record { owner = v.uid; group = v.gid; body = Dir a plain.directory })) (sym bits_tell);
           mode = h.mode ∙ ap (λ (a : AccessList). shown_mode (Dir a plain.directory)) (sym bits_tell);
-          size = h.body.holds.size ∙ slots_length h.body.slots h.body.each
-              ∙ ap (λ (n : ℕ). 128 * n) (sym (ap length h.body.names ∙ names_length h.body.slots h.body.apart));
+          size = h.body.names.holds.size ∙ slots_length h.body.names.slots h.body.names.each
+              ∙ ap (λ (n : ℕ). 128 * n) (sym (ap length h.body.names.are ∙ names_length h.body.names.slots h.body.names.apart));
         }
 
 -- ---- of a file system that runs

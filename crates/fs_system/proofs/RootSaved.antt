@@ -30,7 +30,7 @@ use Rattle.fs_model.specs.Trees.{Tree, Room, with_node, names_of, parent, IsTree
 use Rattle.fs_model.specs.StoredNodes.{Placed, HoldsNode}
 use Rattle.fs_model.specs.Stands.{HoldsAll, HoldsPlaced, placed}
 use Rattle.fs_model.proofs.Frame.{saved_node, placed_elsewhere}
-use Rattle.fs_model.proofs.MapLaws.{get-with_entry}
+use Rattle.fs_layout.proofs.MapLaws.{get-with_entry}
 use Rattle.fs_model.proofs.Unchanged.{rewriting_keeps}
 use Rattle.fs_system.specs.Standing.{StandsFor}
 use Rattle.fs_system.specs.Rooted.{ShowsRoot}
@@ -147,13 +147,15 @@ module _ (seen : Image) (room : Room) (t : Tree) (free : ℕ) (st : StandsFor ro
           names = h.names;
           parent = h.parent;
           body = record {
-            kind = h.body.kind;
-            slots = h.body.slots;
-            names = h.body.names;
-            apart = h.body.apart;
-            each = h.body.each;
-            holds = fields_hold (sector seen) v w _ refl refl refl h.body.holds;
-            whole = HasNoHole-again same_blocks h.body.whole;
+            names = record {
+              kind = h.body.names.kind;
+              slots = h.body.names.slots;
+              are = h.body.names.are;
+              apart = h.body.names.apart;
+              each = h.body.names.each;
+              holds = fields_hold (sector seen) v w _ refl refl refl h.body.names.holds;
+              whole = HasNoHole-again same_blocks h.body.names.whole;
+            };
             acl = minimal_is_acl mode;
             default = h.body.default;
             has_acl = h.body.has_acl;
@@ -170,7 +172,7 @@ module _ (seen : Image) (room : Room) (t : Tree) (free : ℕ) (st : StandsFor ro
         (subst (λ (u : Inode). ChangesBlocks p u w (sector seen) (sector seen)) is_v
         (fields_change all.consistent.place all.consistent.sectors
         (subst (IsOwnedApart p (sector seen)) (sym is_v) (owned_is_apart all.consistent root below)) refl refl refl refl))
-        now_held (mode_fits v bits fits_v was_held.body.kind few) saves
+        now_held (mode_fits v bits fits_v was_held.body.names.kind few) saves
 
     after_tables : 129 < p.table
     after_tables = after_map (the_place_fits seen room t free st idle)

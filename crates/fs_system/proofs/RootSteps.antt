@@ -27,7 +27,7 @@ use Rattle.fs_model.specs.declared.reply.Reply.TheVariants.{Ok as Done, Shown, G
 use Rattle.fs_model.specs.declared.event.Event.{Event}
 use Rattle.fs_model.specs.declared.event.Event.TheVariants.{Call as Calls, Spawn, Sync}
 use Rattle.fs_model.specs.Limits.{root}
-use Rattle.fs_model.specs.Maps.{get, with_entry}
+use Rattle.fs_layout.specs.Maps.{get, with_entry}
 use Rattle.fs_model.specs.Nodes.{Dir}
 use Rattle.fs_model.specs.Trees.{Tree, node_at}
 use Rattle.fs_model.specs.Parts.{slash}
@@ -39,7 +39,7 @@ use Rattle.fs_model.specs.Walks.{first_refusal, found_of}
 use Rattle.fs_model.specs.Rows.{row_of}
 use Rattle.fs_model.specs.Steps.{Step, Choice, After, HasNewNumber, HasNewPid, is_of_machine, firm_refusal, other_refusal, after, tree_after}
 use Rattle.fs_model.specs.Steps as step
-use Rattle.fs_model.proofs.MapLaws.{get-with_entry, with_entry-IsMap, length-with_entry}
+use Rattle.fs_layout.proofs.MapLaws.{get-with_entry, with_entry-IsMap, length-with_entry}
 use Rattle.fs_model.proofs.Unchanged.{nothing_to_drop, same_process_stays}
 use Rattle.fs_system.specs.Serving.{path_of, the_root, Serves}
 use Rattle.fs_system.specs.Rooted.{is_the_root, ShowsRoot}

@@ -12,8 +12,8 @@ use Rattle.std.proofs.lemmas.List.Concat.{flat_map-cons}
 use Rattle.std.proofs.lemmas.List.Elements.{All-head, All-tail}
 use Rattle.fs_layout.specs.Slot.{NamedInode, FitsSlot, slot_bytes}
 use Rattle.fs_layout.proofs.SlotLaw.{length-slot_bytes}
-use Rattle.fs_model.specs.Maps.{name_cmp, get, IsMap}
-use Rattle.fs_model.specs.StoredNodes.{slots_bytes, names_of_slots, HaveDistinctNames}
+use Rattle.fs_layout.specs.Maps.{name_cmp, get, IsMap}
+use Rattle.fs_layout.specs.Directories.{slots_bytes, names_of_slots, HaveDistinctNames}
 
 pub slots_length : (slots : List NamedInode) → All FitsSlot slots → length (slots_bytes slots) ≡ 128 * length slots
 slots_length [] fits = refl

@@ -11,10 +11,10 @@ use Rattle.std.proofs.lemmas.List.Sums.{sum_by-cons}
 use Rattle.slab.specs.Slab.{Slab, Updates}
 use Rattle.slab.specs.Slab as slab
 use Rattle.fs_cred.specs.Credentials.{Credential}
-use Rattle.fs_model.specs.Maps.{get, with_entry, IsMap}
+use Rattle.fs_layout.specs.Maps.{get, with_entry, IsMap}
 use Rattle.fs_model.specs.Processes.{Process, new_process}
-use Rattle.fs_model.proofs.Entries.{at_other, at_same}
-use Rattle.fs_model.proofs.MapLaws.{same_map, get-with_entry, with_entry-IsMap}
+use Rattle.fs_layout.proofs.FirstEntries.{at_other, at_same}
+use Rattle.fs_layout.proofs.MapLaws.{same_map, get-with_entry, with_entry-IsMap}
 use Rattle.fs_system.specs.Table.{desks_from, desks_of, cred_at}
 
 -- ---- what stands at a number

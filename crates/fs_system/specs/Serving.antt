@@ -12,7 +12,7 @@ use Rattle.fs_model.specs.declared.reply.Reply.{Reply}
 use Rattle.fs_model.specs.declared.reply.Reply.TheVariants.{Refused}
 use Rattle.fs_model.specs.declared.event.Event.{Event}
 use Rattle.fs_model.specs.declared.event.Event.TheVariants.{Call as Calls}
-use Rattle.fs_model.specs.Maps.{get}
+use Rattle.fs_layout.specs.Maps.{get}
 use Rattle.fs_model.specs.Parts.{slash}
 use Rattle.fs_model.specs.States.{State}
 use Rattle.fs_model.specs.Steps.{Step}

@@ -6,7 +6,7 @@ use Rattle.std.specs.Option.{option_map}
 use Rattle.std.specs.Ordering.{nat_cmp}
 use Rattle.slab.specs.Slab.{Slab}
 use Rattle.fs_cred.specs.Credentials.{Credential}
-use Rattle.fs_model.specs.Maps.{get}
+use Rattle.fs_layout.specs.Maps.{get}
 use Rattle.fs_model.specs.Processes.{Desks, new_process}
 
 -- the first slot has this number; each process is as it began

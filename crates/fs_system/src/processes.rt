@@ -2,7 +2,7 @@
 
 ghost use Rattle.std.specs.Prelude.{◌≡◌, [], None, length, option_copied, IfOk, OnErr};
 ghost use Rattle.std.specs.Ordering.{nat_cmp};
-ghost use Rattle.fs_model.specs.Maps.{get, with_entry};
+ghost use Rattle.fs_layout.specs.Maps.{get, with_entry};
 ghost use Rattle.fs_model.specs.Processes.{new_process};
 ghost use Rattle.fs_system.specs.Table.{cred_at};
 

@@ -15,37 +15,37 @@ take_past zero (x ∷ xs) le = absurd (omega arith)
 take_past (suc n) [] le = refl
 take_past (suc n) (x ∷ xs) le = ap (λ ys. x ∷ ys) (take_past n xs (omega arith))
 
-some_place : (b : Bool) (n at : ℕ) → cond b (Some n) None ≡ Some at → (b ≡ true) × (n ≡ at)
-some_place true n at found = (refl, cc)
-some_place false n at found = absurd (cc)
+some_index : (b : Bool) (n at : ℕ) → cond b (Some n) None ≡ Some at → (b ≡ true) × (n ≡ at)
+some_index true n at found = (refl, cc)
+some_index false n at found = absurd (cc)
 
-no_place : (b : Bool) (n : ℕ) → cond b (Some n) None ≡ None → b ≡ false
-no_place true n found = absurd (cc)
-no_place false n found = refl
+no_index : (b : Bool) (n : ℕ) → cond b (Some n) None ≡ None → b ≡ false
+no_index true n found = absurd (cc)
+no_index false n found = refl
 
 pub cut_found : (p : ℕ → Bool) (text : List ℕ) (at : ℕ) → position p text ≡ Some at
     → slice_split p text ≡ take at text ∷ slice_split p (take (length text - (at + 1)) (drop (at + 1) text))
 cut_found p text at found =
-    let place = some_place (nat_lt (position_or_len p text) (length text)) (position_or_len p text) at found in
-    let inside : position_or_len p text < length text = ltb-true (position_or_len p text) (length text) place.0 in
-    let here : position_or_len p text ≡ at = place.1 in
+    let index = some_index (nat_lt (position_or_len p text) (length text)) (position_or_len p text) at found in
+    let inside : position_or_len p text < length text = ltb-true (position_or_len p text) (length text) index.0 in
+    let here : position_or_len p text ≡ at = index.1 in
     let rest : take (length text - (at + 1)) (drop (at + 1) text) ≡ drop (at + 1) text =
     take_past (length text - (at + 1)) (drop (at + 1) text) (omega (arith, length-drop (at + 1) text)) in
     slice_split_first p text 0 inside ∙ rw (here, rest) refl
 
 pub cut_none : (p : ℕ → Bool) (text : List ℕ) → position p text ≡ None → slice_split p text ≡ text ∷ []
 cut_none p text none =
-    let past : length text ≤ position_or_len p text = ltb-false (position_or_len p text) (length text) (no_place (nat_lt (position_or_len p text) (length text)) (position_or_len p text) none) in
+    let past : length text ≤ position_or_len p text = ltb-false (position_or_len p text) (length text) (no_index (nat_lt (position_or_len p text) (length text)) (position_or_len p text) none) in
     slice_split_none p text (λ k d below. fails_before_first p text k d (omega arith))
 
 pub front_found : (p : ℕ → Bool) (text : List ℕ) (at : ℕ) → position p text ≡ Some at → take at text ≡ before_first p text
 front_found p text at found =
-    let place = some_place (nat_lt (position_or_len p text) (length text)) (position_or_len p text) at found in
-    ap (λ n. take n text) (sym place.1)
+    let index = some_index (nat_lt (position_or_len p text) (length text)) (position_or_len p text) at found in
+    ap (λ n. take n text) (sym index.1)
 
 pub front_none : (p : ℕ → Bool) (text : List ℕ) → position p text ≡ None → text ≡ before_first p text
 front_none p text none =
-    sym (take_past (position_or_len p text) text (ltb-false (position_or_len p text) (length text) (no_place (nat_lt (position_or_len p text) (length text)) (position_or_len p text) none)))
+    sym (take_past (position_or_len p text) text (ltb-false (position_or_len p text) (length text) (no_index (nat_lt (position_or_len p text) (length text)) (position_or_len p text) none)))
 
 pub too_many : (p : ℕ → Bool) (word name letters rest : List ℕ) (e : Entry) → AreEntryFields (word ∷ name ∷ letters ∷ slice_split p rest) e → ⊥
 too_many p word name letters rest e are = more (slice_split p rest) (omega (arith, length-slice_split p rest)) are

@@ -11,7 +11,7 @@ use Rattle.posix_acl.specs.declared.fault.AclFault.TheVariants.{MissingBase, Twi
 use Rattle.posix_acl.specs.Entries.{is_tag, entry}
 use Rattle.posix_acl.specs.AccessList.{AccessList, IsAcl, IdsFit, entries_of, named_entries, mask_entries}
 use Rattle.posix_acl.specs.Faults.{count_tagged, has_fault, first_fault}
-use Rattle.posix_acl.specs.Order.{place, IsOrdered, same_name}
+use Rattle.posix_acl.specs.Order.{rank, IsOrdered, same_name}
 use Rattle.posix_acl.proofs.Ordering.{FitsAll}
 use Rattle.posix_acl.proofs.OneList.{IsStrict, strictly_ordered, behind_owner, behind_users, behind_group, behind_groups}
 use Rattle.posix_acl.proofs.Repeats.{Apart, no_repeat, same_parts}
@@ -78,13 +78,13 @@ counted a Group = count_parts a Group ∙ omega arith
 counted a Mask = count_parts a Mask ∙ omega arith
 counted a Other = count_parts a Other
 
-weaker : (p : ℕ) (xs : List Entry) → AllByRecursion (λ y. p < place y) xs → AllByRecursion (λ y. p ≤ place y) xs
+weaker : (p : ℕ) (xs : List Entry) → AllByRecursion (λ y. p < rank y) xs → AllByRecursion (λ y. p ≤ rank y) xs
 weaker p [] all = tt
 weaker p (x ∷ xs) all = (let lt = all.0 in omega arith, weaker p xs all.1)
 
 ordered_from : (xs : List Entry) → IsStrict xs → IsOrdered xs
 ordered_from [] strict = tt
-ordered_from (x ∷ xs) strict = (weaker (place x) xs strict.0, ordered_from xs strict.1)
+ordered_from (x ∷ xs) strict = (weaker (rank x) xs strict.0, ordered_from xs strict.1)
 
 apart_from : (xs : List Entry) → IsStrict xs → Apart xs
 apart_from [] strict k below = absurd (omega arith)

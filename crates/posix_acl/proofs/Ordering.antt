@@ -8,7 +8,7 @@ use Rattle.std.proofs.lemmas.List.Sorted.{IsNonDecreasingBy-from_all_adjacent}
 use Rattle.posix_acl.specs.declared.entry.Entry.{Entry}
 use Rattle.posix_acl.specs.Entries.{tag_number, entry}
 use Rattle.posix_acl.specs.declared.entry.Tag.TheVariants.{UserObj}
-use Rattle.posix_acl.specs.Order.{place, IsOrdered}
+use Rattle.posix_acl.specs.Order.{rank, IsOrdered}
 
 -- the ids that entries of a program have
 abbrev pub FitsAll : List Entry → Type 0
@@ -24,13 +24,13 @@ pair_in_order a b i j fi fj h = grind (arith, nat_tests)
 pub ordered_from_sort : (es : List Entry) → FitsAll es
     → IsSortedBy (λ x y. is_lt (ordering_then (nat_cmp (tag_number x.tag) (tag_number y.tag)) (nat_cmp x.id y.id))) es → IsOrdered es
 ordered_from_sort es fits up =
-    by_recursion es (IsNonDecreasingBy-from_all_adjacent place es (λ k d h. pair_in_order _ _ _ _ (fits k d (omega arith)) (fits (k + 1) d h) (up k d (omega arith) h)))
+    by_recursion es (IsNonDecreasingBy-from_all_adjacent rank es (λ k d h. pair_in_order _ _ _ _ (fits k d (omega arith)) (fits (k + 1) d h) (up k d (omega arith) h)))
   where
-    all_after : (x : Entry) (xs : List Entry) → ((j : ℕ) (d : Entry) → j < length xs → place x ≤ place (get_or xs j d)) → AllByRecursion (λ y. place x ≤ place y) xs
+    all_after : (x : Entry) (xs : List Entry) → ((j : ℕ) (d : Entry) → j < length xs → rank x ≤ rank (get_or xs j d)) → AllByRecursion (λ y. rank x ≤ rank y) xs
     all_after x [] h = tt
     all_after x (y ∷ ys) h = (h 0 y (omega arith), all_after x ys (λ j d below. h (suc j) d (omega arith)))
 
-    by_recursion : (xs : List Entry) → IsNonDecreasingBy place xs → IsOrdered xs
+    by_recursion : (xs : List Entry) → IsNonDecreasingBy rank xs → IsOrdered xs
     by_recursion [] h = tt
     by_recursion (x ∷ xs) h = (
       all_after x xs (λ j d below. h 0 (suc j) d (omega arith) (omega arith)),

@@ -9,7 +9,7 @@ use Rattle.posix_acl.specs.declared.entry.Tag.TheVariants.{UserObj, User, GroupO
 use Rattle.posix_acl.specs.declared.fault.AclFault.TheVariants.{TwiceQualifier}
 use Rattle.posix_acl.specs.Entries.{tag_number, is_tag, is_named}
 use Rattle.posix_acl.specs.Faults.{count_qualified, has_fault}
-use Rattle.posix_acl.specs.Order.{place, IsOrdered, same_name}
+use Rattle.posix_acl.specs.Order.{rank, IsOrdered, same_name}
 use Rattle.posix_acl.proofs.Ordering.{FitsAll, blank}
 
 pub tag_injective : (a b : Tag) → is_tag a b ≡ true → a ≡ b
@@ -25,8 +25,8 @@ tag_injective a b same = absurd (false≢true same)
 abbrev pub has_name : Tag → ℕ → Entry → Bool
 has_name tag id e = is_tag e.tag tag && eqb e.id id
 
-pub named_place : (tag : Tag) (id : ℕ) (e : Entry) → has_name tag id e ≡ true → (tag_number e.tag ≡ tag_number tag) × (e.id ≡ id)
-named_place tag id e hit = let parts = and_parts _ _ hit in (eqb-true _ _ parts.0, eqb-true _ _ parts.1)
+pub named_parts : (tag : Tag) (id : ℕ) (e : Entry) → has_name tag id e ≡ true → (tag_number e.tag ≡ tag_number tag) × (e.id ≡ id)
+named_parts tag id e hit = let parts = and_parts _ _ hit in (eqb-true _ _ parts.0, eqb-true _ _ parts.1)
 
 pub has_name_from : (tag : Tag) (id : ℕ) (e : Entry) → tag_number e.tag ≡ tag_number tag → e.id ≡ id → has_name tag id e ≡ true
 has_name_from tag id e tags ids =
@@ -44,17 +44,17 @@ count_head_miss tag id x xs miss = sum_by-cons (λ e. cond (has_name tag id e) 1
 pub count_head_hit : (tag : Tag) (id : ℕ) (x : Entry) (xs : List Entry) → has_name tag id x ≡ true → count_qualified tag id (x ∷ xs) ≡ 1 + count_qualified tag id xs
 count_head_hit tag id x xs hit = sum_by-cons (λ e. cond (has_name tag id e) 1 0) x xs ∙ rw hit refl
 
--- what stands behind a place doesn't have the name that stands at it
-none_after : (tag : Tag) (id : ℕ) (p : ℕ) → p ≡ tag_number tag * 2 ^ 32 + id → (ys : List Entry) → AllByRecursion (λ y. p < place y) ys → count_qualified tag id ys ≡ 0
+-- what ranks above a name doesn't have it
+none_after : (tag : Tag) (id : ℕ) (p : ℕ) → p ≡ tag_number tag * 2 ^ 32 + id → (ys : List Entry) → AllByRecursion (λ y. p < rank y) ys → count_qualified tag id ys ≡ 0
 none_after tag id p at [] after = refl
 none_after tag id p at (y ∷ ys) after =
     let miss : has_name tag id y ≡ false =
-    false_from_ne_true _ (λ hit. let same = named_place tag id y hit in let far = after.0 in absurd (omega arith)) in
+    false_from_ne_true _ (λ hit. let same = named_parts tag id y hit in let far = after.0 in absurd (omega arith)) in
     count_head_miss tag id y ys miss ∙ none_after tag id p at ys after.1
 
-strictly : (x y : Entry) → place x ≤ place y → x.id < 2 ^ 32 → y.id < 2 ^ 32 → is_named x.tag ≡ true → same_name x y ≡ false → place x < place y
+strictly : (x y : Entry) → rank x ≤ rank y → x.id < 2 ^ 32 → y.id < 2 ^ 32 → is_named x.tag ≡ true → same_name x y ≡ false → rank x < rank y
 strictly x y le fx fy named differ =
-    elim (cases_order (place x) (place y)) [
+    elim (cases_order (rank x) (rank y)) [
       | inl same ↦
           let tags : tag_number x.tag ≡ tag_number y.tag = omega arith in
           let ids : x.id ≡ y.id = omega arith in
@@ -62,7 +62,7 @@ strictly x y le fx fy named differ =
       | inr rest ↦ elim rest [ inl lt ↦ lt | inr gt ↦ absurd (omega arith) ]
     ]
 
-after_all : (p q : ℕ) (ys : List Entry) → p < q → AllByRecursion (λ y. q ≤ place y) ys → AllByRecursion (λ y. p < place y) ys
+after_all : (p q : ℕ) (ys : List Entry) → p < q → AllByRecursion (λ y. q ≤ rank y) ys → AllByRecursion (λ y. p < rank y) ys
 after_all p q [] lt all = tt
 after_all p q (y ∷ ys) lt all = (let le = all.0 in omega arith, after_all p q ys lt all.1)
 
@@ -73,10 +73,10 @@ Apart es = (k : ℕ) → suc k < length es → same_name (get_or es k blank) (ge
 none_behind : (tag : Tag) (id : ℕ) (x : Entry) (xs : List Entry) → IsOrdered (x ∷ xs) → FitsAll (x ∷ xs) → Apart (x ∷ xs) → is_named tag ≡ true → has_name tag id x ≡ true → count_qualified tag id xs ≡ 0
 none_behind tag id x [] ordered fits apart named hit = refl
 none_behind tag id x (y ∷ ys) ordered fits apart named hit =
-    let same = named_place tag id x hit in
+    let same = named_parts tag id x hit in
     let x_named : is_named x.tag ≡ true = ap is_named (tag_injective x.tag tag (and_parts _ _ hit).0) ∙ named in
-    let lt : place x < place y = strictly x y ordered.0.0 (fits 0 x (omega arith)) (fits 1 x (omega arith)) x_named (apart 0 (omega arith)) in
-    none_after tag id (place x) (omega arith) (y ∷ ys) (lt, after_all (place x) (place y) ys lt ordered.1.0)
+    let lt : rank x < rank y = strictly x y ordered.0.0 (fits 0 x (omega arith)) (fits 1 x (omega arith)) x_named (apart 0 (omega arith)) in
+    none_after tag id (rank x) (omega arith) (y ∷ ys) (lt, after_all (rank x) (rank y) ys lt ordered.1.0)
 
 pub tail_fits : (x : Entry) (xs : List Entry) → FitsAll (x ∷ xs) → FitsAll xs
 tail_fits x xs fits = λ k d below. fits (suc k) d (omega arith)
@@ -128,7 +128,7 @@ repeat_found es k d below same =
     let e = get_or es k d in
     let two : 2 ≤ count_qualified e.tag e.id es = two_of_name es k d below same in
     one_passes (λ x. is_named x.tag && nat_lt 1 (count_qualified x.tag x.id es)) e.tag e.id (λ x hit.
-    let at = named_place e.tag e.id x hit in
+    let at = named_parts e.tag e.id x hit in
     let tags : x.tag ≡ e.tag = tag_injective x.tag e.tag (and_parts (is_tag x.tag e.tag) (eqb x.id e.id) hit).0 in
     let named : is_named x.tag ≡ true = ap is_named tags ∙ (same_parts e (get_or es (suc k) d) same).0 in
     let two_here : 1 < count_qualified x.tag x.id es = rw (tags, at.1) (omega arith) in

@@ -13,7 +13,7 @@ use Rattle.posix_acl.specs.Entries.{tag_number, is_tag, is_named, entry, plain}
 use Rattle.posix_acl.specs.AccessList.{AccessList, IdsRise, IdsFit, entries_of, entry_count, named_entries, mask_entries}
 use Rattle.posix_acl.specs.Stored.{perms_tagged, base_perms, qualified, access_list, IsCanonical}
 use Rattle.posix_acl.specs.Faults.{count_tagged, count_qualified, has_fault, first_fault}
-use Rattle.posix_acl.specs.Order.{place, IsOrdered}
+use Rattle.posix_acl.specs.Order.{rank, IsOrdered}
 use Rattle.posix_acl.proofs.Ordering.{FitsAll}
 use Rattle.posix_acl.proofs.Repeats.{tag_injective, has_name, has_name_from, count_head_hit, count_head_miss, tail_fits}
 
@@ -64,7 +64,7 @@ in_front Other id perms es above same =
     let g : tagged Mask es ≡ [] = lacks Mask 32 (omega arith) es above in
     rw (a, b, d, f, g) (ap (λ xs. entry Other id perms ∷ xs) (rw (a, b, d, f, g) at same))
 
-tags_rise : (x : Entry) → x.id < 2 ^ 32 → (es : List Entry) → FitsAll es → AllByRecursion (λ y. place x ≤ place y) es → From (tag_number x.tag) es
+tags_rise : (x : Entry) → x.id < 2 ^ 32 → (es : List Entry) → FitsAll es → AllByRecursion (λ y. rank x ≤ rank y) es → From (tag_number x.tag) es
 tags_rise x fit [] fits after = tt
 tags_rise x fit (y ∷ ys) fits after =
     (let le = after.0 in let y_fits : y.id < 2 ^ 32 = fits 0 y (omega arith) in omega arith, tags_rise x fit ys (tail_fits y ys fits) after.1)
@@ -203,7 +203,7 @@ length_named tag es =
     sym (length-map (qualified tag es) (λ x. entry tag x.0 x.1)) ∙ ap length (sym (named_section tag es)) ∙ length-filter (λ e. is_tag e.tag tag) es
 
 -- the ids behind an entry of the same tag are above its own
-ids_above : (tag : Tag) (x : Entry) → is_tag x.tag tag ≡ true → (ys : List Entry) → AllByRecursion (λ y. place x ≤ place y) ys → count_qualified tag x.id ys ≡ 0 → AllByRecursion (λ y. x.id < y.0) (qualified tag ys)
+ids_above : (tag : Tag) (x : Entry) → is_tag x.tag tag ≡ true → (ys : List Entry) → AllByRecursion (λ y. rank x ≤ rank y) ys → count_qualified tag x.id ys ≡ 0 → AllByRecursion (λ y. x.id < y.0) (qualified tag ys)
 ids_above tag x same [] after none = tt
 ids_above tag x same (y ∷ ys) after none =
     elim (cases_Bool (is_tag y.tag tag)) [

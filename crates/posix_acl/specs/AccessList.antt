@@ -1,15 +1,16 @@
 -- An access control list by its parts, and what is read off it and made of it.
---     AccessList, IsAcl        the parts; a valid list
---     entries_of, numbers_of_list        its entries in canonical order, and these as stored numbers
+--     AccessList, IsAcl, IsSomeAcl        the parts; a valid list; one where there is one
+--     entries_of, list_numbers        its entries in canonical order, and these as stored numbers
 --     mode_bits, with_mode_bits, minimal, is_extended        the permission bits of a file mode
 --     inherited        what a new object takes from a default ACL
 use Rattle.std.specs.Prelude.{ℕ, ◌+◌, ◌*◌, ◌/◌, ◌<◌, ◌≤◌, ◌^◌, ◌==◌, Bool, not, ◌||◌, List, [], ◌∷◌, ◌++◌, length, map, Option, Some, None, IsSome, is_some, unwrap_or, if◌then◌else◌}
 use Rattle.std.specs.List.{AllByRecursion}
 use Rattle.posix_acl.specs.declared.entry.Perms.{Perms}
 use Rattle.posix_acl.specs.declared.entry.Entry.{Entry}
+use Rattle.posix_acl.specs.declared.entry.EntryNumbers.{EntryNumbers}
 use Rattle.posix_acl.specs.declared.entry.Tag.{Tag}
 use Rattle.posix_acl.specs.declared.entry.Tag.TheVariants.{UserObj, User, GroupObj, Group, Mask, Other}
-use Rattle.posix_acl.specs.Entries.{perms_of, digit_of, meet, entry, EntryNumbers, numbers_of}
+use Rattle.posix_acl.specs.Entries.{perms_of, digit_of, meet, entry, numbers_of}
 
 -- The three base entries, the named users and groups, and the mask, if there is one.
 pub record AccessList : Type 0 where
@@ -40,6 +41,11 @@ pub record IsAcl (a : AccessList) : Type 0 where
   -- named entries need a mask
   pub masked : 0 < length a.users + length a.groups → IsSome a.mask
   pub few : entry_count a ≤ 32
+
+-- valid, where there is one
+abbrev pub IsSomeAcl : Option AccessList → Type 0
+IsSomeAcl None = Unit {0}
+IsSomeAcl (Some a) = IsAcl a
 
 -- the named entries of one tag
 abbrev pub named_entries : Tag → List (ℕ × Perms) → List Entry

@@ -2,6 +2,7 @@
 use Rattle.std.specs.Prelude.{ℕ, ◌+◌, ◌/◌, ◌%◌, ◌==◌, Bool, true, false, ◌&&◌, List, map, if◌then◌else◌}
 use Rattle.posix_acl.specs.declared.entry.Perms.{Perms}
 use Rattle.posix_acl.specs.declared.entry.Entry.{Entry}
+use Rattle.posix_acl.specs.declared.entry.EntryNumbers.{EntryNumbers}
 use Rattle.posix_acl.specs.declared.entry.Tag.{Tag}
 use Rattle.posix_acl.specs.declared.entry.Tag.TheVariants.{UserObj, User, GroupObj, Group, Mask, Other}
 
@@ -47,11 +48,6 @@ plain e = entry e.tag (if is_named e.tag then e.id else 0) e.perms
 abbrev pub plain_entries : List Entry → List Entry
 plain_entries es = map plain es
 
--- an entry as it is stored: tag, permissions, id
-pub record EntryNumbers : Type 0 where
-  pub tag : ℕ
-  pub perms : ℕ
-  pub id : ℕ
-
+-- an entry as it is stored
 abbrev pub numbers_of : Entry → EntryNumbers
 numbers_of e = record { tag = tag_number e.tag; perms = digit_of e.perms; id = e.id }

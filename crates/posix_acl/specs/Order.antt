@@ -5,13 +5,13 @@ use Rattle.posix_acl.specs.declared.entry.Entry.{Entry}
 use Rattle.posix_acl.specs.Entries.{tag_number, is_tag, is_named}
 
 -- where an entry stands: by tag, and then by id
-abbrev pub place : Entry → ℕ
-place e = tag_number e.tag * 2 ^ 32 + e.id
+abbrev pub rank : Entry → ℕ
+rank e = tag_number e.tag * 2 ^ 32 + e.id
 
 -- each entry stands before those that follow it
 abbrev pub IsOrdered : List Entry → Type 0
 IsOrdered [] = Unit {0}
-IsOrdered (x ∷ xs) = AllByRecursion (λ y. place x ≤ place y) xs × IsOrdered xs
+IsOrdered (x ∷ xs) = AllByRecursion (λ y. rank x ≤ rank y) xs × IsOrdered xs
 
 -- both name the same user, or the same group
 abbrev pub same_name : Entry → Entry → Bool

@@ -148,7 +148,7 @@ AreEntryFields fields e = ⊥
 abbrev pub IsEntryText : List ℕ → Entry → Type 0
 IsEntryText text e = AreEntryFields (slice_split is_colon text) e
 
--- each piece is the entry in its place
+-- each piece is the entry at its index
 abbrev pub AreEntryTexts : List (List ℕ) → List Entry → Type 0
 AreEntryTexts [] [] = Unit {0}
 AreEntryTexts (p ∷ ps) (e ∷ es) = IsEntryText p e × AreEntryTexts ps es

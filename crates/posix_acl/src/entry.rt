@@ -112,23 +112,48 @@ pub struct Entry {
     pub perms: Perms,
 }
 
+/// An entry as it is stored. Numbers that no entry has are possible too.
+#[derive(Clone, Copy, PartialEq, Eq)]
+pub struct EntryNumbers {
+    /// That of the tag.
+    pub tag: u16,
+    /// The permissions as an octal digit.
+    pub perms: u16,
+    /// The user or the group; 0 where the tag takes none.
+    pub id: u32,
+}
+
 impl Entry {
     ghost use Rattle.std.specs.Prelude.{◌≡◌, IfSome, Some};
     ghost use Rattle.posix_acl.specs.Order.{same_name};
     ghost use Rattle.posix_acl.specs.Entries.{plain, numbers_of};
     ghost use Rattle.posix_acl.specs.declared.entry.Entry.{Entry};
 
-    /// The entry that is stored as these numbers, where one is.
-    pub fn from_numbers(tag: u16, perms: u16, id: u32) -> Option<Entry>
-        ensures found { IfSome result (λ e. numbers_of e ≡ record { tag = tag; perms = perms; id = id }) }
-        ensures only { (e : Entry) → numbers_of e ≡ record { tag = tag; perms = perms; id = id } → result ≡ Some e }
+    /// The numbers as which the entry is stored.
+    pub fn numbers(self) -> EntryNumbers
+        ensures { result ≡ numbers_of self }
     {
-        let tag = Tag::from_number(tag)?;
-        if perms > 7 {
+        EntryNumbers {
+            tag: u16::from(self.tag.number()),
+            perms: self.perms.digit(),
+            id: self.id,
+        }
+    }
+
+    /// The entry that is stored as these numbers, where one is.
+    pub fn from_numbers(numbers: EntryNumbers) -> Option<Entry>
+        ensures found { IfSome result (λ e. numbers_of e ≡ numbers) }
+        ensures only { (e : Entry) → numbers_of e ≡ numbers → result ≡ Some e }
+    {
+        let tag = Tag::from_number(numbers.tag)?;
+        if numbers.perms > 7 {
             return None;
         }
-        let perms = Perms::from_digit(perms);
-        Some(Entry { tag, id, perms })
+        Some(Entry {
+            tag,
+            id: numbers.id,
+            perms: Perms::from_digit(numbers.perms),
+        })
     }
 
     /// The entry with the id 0 where the tag takes none.

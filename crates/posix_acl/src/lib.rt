@@ -11,7 +11,7 @@ mod text;
 mod validity;
 
 pub use acl::Acl;
-pub use entry::{Entry, Perms, Tag};
+pub use entry::{Entry, EntryNumbers, Perms, Tag};
 pub use fault::AclFault;
 pub use text::TextForm;
 pub use validity::MAX_ENTRIES;

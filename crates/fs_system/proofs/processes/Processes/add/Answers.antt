@@ -1,6 +1,6 @@
 use Rattle.std.proofs.Common.{◌+◌, ◌∙◌, ap, sym}
 use Rattle.std.specs.Ordering.{nat_cmp}
-use Rattle.fs_model.specs.Maps.{get, with_entry}
+use Rattle.fs_layout.specs.Maps.{get, with_entry}
 use Rattle.fs_model.specs.Processes.{new_process}
 use Rattle.fs_system.proofs.Tables.{number_is_new, process_added}
 use Rattle.fs_system.proofs.processes.Processes.add.Goals as goal

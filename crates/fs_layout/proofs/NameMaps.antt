@@ -11,9 +11,9 @@ use Rattle.std.specs.Ordering.{eq_by_cmp, is_eq, is_lt}
 use Rattle.std.specs.Cmp.{tied_itself}
 use Rattle.std.specs.FinMap.{nat_cmp-IsAntisymmetric, slice_cmp-IsAntisymmetric}
 use Rattle.std.specs.FinMap.Entries.{find-put, length-put, is_sorted-put, is_sorted-where_key, find-where_key, by_order, below_all, length_without, same_entries}
-use Rattle.fs_model.specs.Maps.{name_cmp, get, with_entry, without, IsMap}
-use Rattle.fs_model.proofs.Entries.{left, right}
-use Rattle.fs_model.proofs.MapLaws.{from_T}
+use Rattle.fs_layout.specs.Maps.{name_cmp, get, with_entry, without, IsMap}
+use Rattle.fs_layout.proofs.FirstEntries.{left, right}
+use Rattle.fs_layout.proofs.MapLaws.{from_T}
 
 abbrev pub Names : Type 0
 Names = List (List ℕ × ℕ)

@@ -11,8 +11,8 @@ use Rattle.std.proofs.lemmas.Cmp.{nat_cmp_total}
 use Rattle.std.specs.FinMap.{nat_cmp-IsAntisymmetric}
 use Rattle.std.specs.FinMap.Entries.{find-put, length-put, same_entries, is_sorted-put, by_order}
 use Rattle.std.proofs.lemmas.List.Sums.{sum_by-cons}
-use Rattle.fs_model.specs.Maps.{get, with_entry, IsMap}
-use Rattle.fs_model.proofs.Entries.{above, left, right, lower, tied}
+use Rattle.fs_layout.specs.Maps.{get, with_entry, IsMap}
+use Rattle.fs_layout.proofs.FirstEntries.{above, left, right, lower, tied}
 
 pub from_T : (b : Bool) → T b → b ≡ true
 from_T true h = refl
