@@ -3,10 +3,9 @@ use Rattle.std.proofs.Common.{◌≡◌, ℕ, ◌==◌, Bool, true, false, ◌&&
 use Rattle.posix_acl.specs.declared.entry.Perms.{Perms}
 use Rattle.posix_acl.specs.declared.entry.Entry.{Entry}
 use Rattle.posix_acl.specs.declared.entry.Tag.{Tag}
-use Rattle.posix_acl.specs.declared.entry.Tag.TheVariants.{User, Group, Mask, Other}
+use Rattle.posix_acl.specs.declared.entry.Tag.TheVariants.{User, Group, Other}
 use Rattle.posix_acl.specs.Entries.{is_tag, entry}
 use Rattle.posix_acl.specs.AccessList.{AccessList, entries_of, named_entries, mask_entries}
-use Rattle.posix_acl.specs.Stored.{perms_tagged}
 use Rattle.fs_cred.specs.declared.node.Node.{Node}
 use Rattle.fs_cred.specs.declared.rule.Rule.{Rule}
 use Rattle.fs_cred.specs.declared.rule.Rule.TheVariants.{OwningGroup, NamedGroup}
@@ -15,23 +14,12 @@ use Rattle.fs_cred.specs.Credentials.{Credential, is_member}
 use Rattle.fs_cred.specs.Verdicts.{perms_named, first_named, first_of_groups}
 use Rattle.fs_cred.specs.Scans.{group_rule}
 
--- entries with another tag are passed over
-mask_past_named : (tag : Tag) → is_tag tag Mask ≡ false → (xs : List (ℕ × Perms)) (es : List Entry) → perms_tagged Mask (named_entries tag xs ++ es) ≡ perms_tagged Mask es
-mask_past_named tag other [] es = refl
-mask_past_named tag other (x ∷ xs) es = rw other (mask_past_named tag other xs es)
-
-mask_last : (mask : Option Perms) (p : Perms) → perms_tagged Mask (mask_entries mask ++ entry Other 0 p ∷ []) ≡ mask
-mask_last None p = refl
-mask_last (Some m) p = refl
-
-pub mask_found : (a : AccessList) → perms_tagged Mask (entries_of a) ≡ a.mask
-mask_found a = mask_past_named User refl a.users _ ∙ mask_past_named Group refl a.groups _ ∙ mask_last a.mask a.other
-
 -- what the first entry of the user gives
 abbrev pub user_in : ℕ → List Entry → Option Perms
 user_in user [] = None
 user_in user (e ∷ es) = cond (is_tag e.tag User && e.id == user) (Some e.perms) (user_in user es)
 
+-- entries with another tag are passed over
 user_past_named : (user : ℕ) (tag : Tag) → is_tag tag User ≡ false → (xs : List (ℕ × Perms)) (es : List Entry) → user_in user (named_entries tag xs ++ es) ≡ user_in user es
 user_past_named user tag other [] es = refl
 user_past_named user tag other (x ∷ xs) es = rw other (user_past_named user tag other xs es)

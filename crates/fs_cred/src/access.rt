@@ -80,7 +80,7 @@ fn by_groups(cred: &Cred, node: &Node, want: Perms) -> Verdict
 fn past_mask(acl: &Acl, want: Perms, rule: Rule) -> Verdict
     ensures { result ≡ past_mask acl.now want rule }
 {
-    match mask(acl) {
+    match acl.mask() {
         Some(mask) if !holds(mask, want) => refused(Rule::Mask),
         _ => granted(rule),
     }
@@ -103,17 +103,6 @@ fn has_execute_bit(acl: &Acl) -> bool
     ensures { result ≡ has_execute_bit acl.now }
 {
     acl.owner().execute || acl.group_class().execute || acl.other().execute
-}
-
-fn mask(acl: &Acl) -> Option<Perms>
-    ensures { result ≡ acl.now.mask }
-{
-    for entry in acl.entries() {
-        if entry.tag.is(Tag::Mask) {
-            return Some(entry.perms);
-        }
-    }
-    None
 }
 
 // What the entry of this user gives, if there is one.

@@ -2,7 +2,7 @@ ghost use Rattle.std.specs.Prelude.{◌≡◌};
 ghost use Rattle.fs_cred.specs.Errnos.{errno_name, errno_number};
 
 /// Why a call fails: the errors of errno(3) that this file system answers, with their numbers on Linux.
-#[derive(Clone, Copy)]
+#[derive(Clone, Copy, PartialEq, Eq)]
 pub enum Errno {
     /// Operation not permitted.
     EPERM = 1,

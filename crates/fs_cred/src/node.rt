@@ -1,7 +1,7 @@
 use posix_acl::Acl;
 
 /// What a node is, where access to it is decided: a symbolic link's is never asked.
-#[derive(Clone, Copy)]
+#[derive(Clone, Copy, PartialEq, Eq)]
 pub enum NodeKind {
     File,
     Directory,

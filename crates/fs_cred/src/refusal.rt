@@ -6,7 +6,7 @@ use crate::rule::Rule;
 use posix_acl::Perms;
 
 /// What a call asks for at an object.
-#[derive(Clone, Copy)]
+#[derive(Clone, Copy, PartialEq, Eq)]
 pub enum Need {
     /// To look up a name in a directory.
     Search,
@@ -36,7 +36,7 @@ impl Need {
 }
 
 /// Where a permission was refused, and by which rule.
-#[derive(Clone, Copy)]
+#[derive(Clone, Copy, PartialEq, Eq)]
 pub struct Denial {
     /// That of the need.
     pub errno: Errno,
@@ -51,7 +51,7 @@ pub struct Denial {
 }
 
 /// Why a call is refused.
-#[derive(Clone, Copy)]
+#[derive(Clone, Copy, PartialEq, Eq)]
 pub enum Refusal {
     /// The caller may not.
     Denied(Denial),

@@ -89,6 +89,18 @@ impl Acl {
         self.entries[self.entries.len() - 2].perms
     }
 
+    /// The most that named entries and the owning group give, where there is a mask.
+    pub fn mask(&self) -> Option<Perms>
+        ensures { result ≡ self.now.mask }
+    {
+        for entry in &self.entries {
+            if entry.tag.is(Tag::Mask) {
+                return Some(entry.perms);
+            }
+        }
+        None
+    }
+
     /// What everyone else may do.
     pub fn other(&self) -> Perms
         ensures { result ≡ self.now.other }

@@ -73,6 +73,10 @@ pub struct Perms {
 }
 
 impl Perms {
+    ghost use Rattle.std.specs.Prelude.{◌≡◌, IfSome, Some};
+    ghost use Rattle.posix_acl.specs.Text.{perms_text};
+    ghost use Rattle.posix_acl.specs.declared.entry.Perms.{Perms};
+
     /// The permissions of the lowest octal digit of mode bits.
     pub fn from_digit(digit: u16) -> Perms
         ensures { result ≡ perms_of digit }
@@ -90,6 +94,37 @@ impl Perms {
         ensures below { result < 8 }
     {
         u16::from(self.read) * 4 + u16::from(self.write) * 2 + u16::from(self.execute)
+    }
+
+    /// `r`, `w` and `x`, or `-` in place of each.
+    pub fn letters(self) -> &'static str
+        ensures { result.now ≡ perms_text self }
+    {
+        match (self.read, self.write, self.execute) {
+            (true, true, true) => "rwx",
+            (true, true, false) => "rw-",
+            (true, false, true) => "r-x",
+            (true, false, false) => "r--",
+            (false, true, true) => "-wx",
+            (false, true, false) => "-w-",
+            (false, false, true) => "--x",
+            (false, false, false) => "---",
+        }
+    }
+
+    /// The permissions of which these are the letters.
+    pub fn from_letters(letters: &[u8]) -> Option<Perms>
+        ensures found { IfSome result (λ p. perms_text p ≡ letters.now) }
+        ensures only { (p : Perms) → perms_text p ≡ letters.now → result ≡ Some p }
+    {
+        match letters {
+            [r @ (b'r' | b'-'), w @ (b'w' | b'-'), x @ (b'x' | b'-')] => Some(Perms {
+                read: *r == b'r',
+                write: *w == b'w',
+                execute: *x == b'x',
+            }),
+            _ => None,
+        }
     }
 
     /// What both allow.

@@ -4,10 +4,10 @@ ghost use Rattle.posix_acl.specs.declared.fault.AclFault.TheVariants.{OutOfMemor
 ghost use Rattle.std.specs.Fmt.{decimal};
 ghost use Rattle.posix_acl.specs.declared.entry.Entry.{Entry};
 ghost use Rattle.posix_acl.specs.AccessList.{AccessList, IsAcl};
-ghost use Rattle.posix_acl.specs.Text.{IsText, SaysList, ReadsBack, SaysFault, written_text, word_of, entry_text, perms_text, long_text, short_text};
+ghost use Rattle.posix_acl.specs.Text.{IsText, SaysList, ReadsBack, SaysFault, written_text, word_of, entry_text, long_text, short_text};
 
 use crate::acl::Acl;
-use crate::entry::{Entry, Perms, Tag};
+use crate::entry::{Entry, Tag};
 use crate::fault::AclFault;
 use crate::reading::read_text;
 use std::alloc::{AllocError, Global};
@@ -92,7 +92,7 @@ fn push_entry(text: &mut String, entry: Entry) -> Result<(), AllocError>
         push_id(text, entry.id)?;
     }
     text.push(':')?;
-    push_perms(text, entry.perms)
+    text.push_str(entry.perms.letters())
 }
 
 fn word(tag: Tag) -> &'static str
@@ -110,13 +110,4 @@ fn push_id(text: &mut String, id: u32) -> Result<(), AllocError>
     ensures { OnOk result (string_bytes text.new ≡ string_bytes text.old ++ decimal id) }
 {
     write!(text, "{id}")
-}
-
-fn push_perms(text: &mut String, perms: Perms) -> Result<(), AllocError>
-    ensures { OnOk result (string_bytes text.new ≡ string_bytes text.old ++ perms_text perms) }
-{
-    text.push(if perms.read { 'r' } else { '-' })?;
-    text.push(if perms.write { 'w' } else { '-' })?;
-    text.push(if perms.execute { 'x' } else { '-' })?;
-    Ok(())
 }
