@@ -1,5 +1,5 @@
 -- What a record keeps when an event is added to it, or isn't.
-use Rattle.std.proofs.Common.{◌≡◌, ℕ, ◌<◌, List, [], ◌∷◌, length, refl, sym, ap, subst, ◌∙◌, arith}
+use Rattle.std.proofs.Common.{◌≡◌, ℕ, List, length, sym, ap, subst}
 use Rattle.std.specs.Prelude.{Result, Ok, Err, OnOk, OnErr}
 use Rattle.sector_disk.specs.Disk.{IsWholeSector}
 use Rattle.sector_disk.specs.Record.{Past}

@@ -15,6 +15,10 @@ abbrev pub with_failures : DiskState → ℕ → ℕ → DiskState
 with_failures disk reads writes =
     record disk { failures = min (disk.failures + (reads + writes)) (2 ^ 64 - 1); failed_writes = disk.failed_writes + writes }
 
+-- how the layers above see it
+abbrev pub faulty_state : {D : Type 0} → (D → DiskState) → Faulty D → DiskState
+faulty_state state faulty = with_failures (state faulty.disk) faulty.failed_reads faulty.failed_writes
+
 pub failures_fit : (disk : DiskState) (reads writes : ℕ) → (with_failures disk reads writes).failures < 2 ^ 64
 failures_fit disk reads writes = omega arith
 

@@ -1,8 +1,8 @@
 -- What a record says of the present moment rests on what was done since the last sync.
 use Rattle.std.proofs.Common.{◌≡◌, ℕ, List, [], ◌∷◌, length, refl, sym, ◌∙◌, ap, subst, fold}
 use Rattle.std.proofs.lemmas.List.Sums.{fold_push}
-use Rattle.sector_disk.specs.Disk.{Image, IsSame}
-use Rattle.sector_disk.specs.Record.{Past, Held, after_events, held_after, replay, since_sync, MayHold, recorded_state}
+use Rattle.sector_disk.specs.Disk.{IsSame}
+use Rattle.sector_disk.specs.Record.{Past, Held, held_after, replay, since_sync, MayHold, recorded_state}
 use Rattle.sector_disk.specs.Replay.{length-after, seen_replayed}
 use Rattle.sector_disk.specs.Whole.{AreWhole, held_whole}
 use Rattle.sector_disk.specs.declared.history.Event.{Event}

@@ -5,3 +5,4 @@ pub mod History
 pub mod Record
 pub mod Replay
 pub mod Whole
+pub mod Writes

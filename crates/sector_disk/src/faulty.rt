@@ -2,7 +2,7 @@
 
 ghost use Rattle.std.specs.Prelude.{◌≡◌, ◌<◌, ◌-◌, ◌^◌, OnOk};
 ghost use Rattle.sector_disk.specs.Disk.{HasCause, HasWriteCause};
-ghost use Rattle.sector_disk.specs.Faults.{with_failures, failures_fit, seen_is_image, counts_now, only_now};
+ghost use Rattle.sector_disk.specs.Faults.{faulty_state, failures_fit, seen_is_image, counts_now, only_now};
 
 use crate::{Disk, DiskFault};
 use std::marker::Model;
@@ -72,10 +72,8 @@ impl<D: Disk, const FAULTS: u64> FaultyDisk<D, FAULTS> {
         ensures disk { self.new.disk ≡ self.old.disk }
         ensures quiet { self.new.failed_writes ≡ self.old.failed_writes }
         ensures failures { OnOk result (self.new ≡ self.old) }
-        ensures worn { OnOk result
-            ((with_failures (D.state self.old.disk) self.old.failed_reads self.old.failed_writes).failures < 2 ^ 64 - 1) }
-        ensures cause { HasCause (with_failures (D.state self.old.disk) self.old.failed_reads self.old.failed_writes)
-            (with_failures (D.state self.new.disk) self.new.failed_reads self.new.failed_writes) result }
+        ensures worn { OnOk result ((faulty_state D.state self.old).failures < 2 ^ 64 - 1) }
+        ensures cause { HasCause (faulty_state D.state self.old) (faulty_state D.state self.new) result }
     {
         if self.failures() == u64::MAX {
             return Err(DiskFault);
@@ -91,12 +89,9 @@ impl<D: Disk, const FAULTS: u64> FaultyDisk<D, FAULTS> {
     fn pass_write(&mut self) -> Result<(), DiskFault>
         ensures disk { self.new.disk ≡ self.old.disk }
         ensures failures { OnOk result (self.new ≡ self.old) }
-        ensures worn { OnOk result
-            ((with_failures (D.state self.old.disk) self.old.failed_reads self.old.failed_writes).failures < 2 ^ 64 - 1) }
-        ensures cause { HasCause (with_failures (D.state self.old.disk) self.old.failed_reads self.old.failed_writes)
-            (with_failures (D.state self.new.disk) self.new.failed_reads self.new.failed_writes) result }
-        ensures told { HasWriteCause (with_failures (D.state self.old.disk) self.old.failed_reads self.old.failed_writes)
-            (with_failures (D.state self.new.disk) self.new.failed_reads self.new.failed_writes) result }
+        ensures worn { OnOk result ((faulty_state D.state self.old).failures < 2 ^ 64 - 1) }
+        ensures cause { HasCause (faulty_state D.state self.old) (faulty_state D.state self.new) result }
+        ensures told { HasWriteCause (faulty_state D.state self.old) (faulty_state D.state self.new) result }
     {
         if self.failures() == u64::MAX {
             return Err(DiskFault);
@@ -110,7 +105,7 @@ impl<D: Disk, const FAULTS: u64> FaultyDisk<D, FAULTS> {
 }
 
 impl<D: Disk, const FAULTS: u64> Disk for FaultyDisk<D, FAULTS> {
-    ghost state = { λ faulty. with_failures (D.state faulty.disk) faulty.failed_reads faulty.failed_writes };
+    ghost state = { λ faulty. faulty_state D.state faulty };
 
     ghost size_fits = { λ faulty. D.size_fits faulty.disk };
 

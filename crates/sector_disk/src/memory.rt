@@ -13,8 +13,9 @@ use std::alloc::{AllocError, Global};
 
 /// A disk in memory, for tests and for a file system that isn't to last.
 ///
-/// Each write and sync is recorded, until [`forget`](Disk::forget) lets go of what came before the last sync. One whose record finds no memory fails and is counted, and its content isn't
-/// kept; one that fails because of [`arm`](CrashDisk::arm) is recorded, so that a stop may leave its content.
+/// Each write and sync is recorded, until [`forget`](Disk::forget) lets go of what came before the last sync. One whose
+/// record finds no memory fails and is counted, and its content isn't kept; one that fails because of
+/// [`arm`](CrashDisk::arm) is recorded, so that a stop may leave its content.
 #[derive(Drop)]
 pub struct MemDisk {
     history: History,

@@ -1,8 +1,9 @@
 //! Clients over any disk, which show that the clauses can be met and used; and what no clause says: which call fails,
 //! and which content a stop leaves.
 
-ghost use Rattle.std.specs.Prelude.{◌≡◌, ◌≢◌, ◌<◌, ◌⊎◌, OnOk, All, Contains, fold, slice_set};
+ghost use Rattle.std.specs.Prelude.{◌≡◌, ◌≢◌, ◌<◌, ◌⊎◌, OnOk, All};
 ghost use Rattle.sector_disk.specs.Disk.{Image, sector, IsStable, HasCause, LeavesOnly, AddsOnly, IsImageOr};
+ghost use Rattle.sector_disk.specs.Writes.{IsAmong, after_writes};
 
 use crate::{CrashDisk, Disk, DiskFault, FailOnce, FaultyDisk, FuseDisk, MemDisk};
 use std::test::Fail;
@@ -39,9 +40,9 @@ fn write_and_mark<D: Disk>(
 // Writes each content in its sector, wherever that is.
 fn scatter<D: Disk>(disk: &mut D, contents: &[(u32, [u8; 512])]) -> Result<(), DiskFault>
     requires { All (λ content. content.0 < (D.state disk.old).size) contents.now }
-    ensures seen { OnOk result ((D.state disk.new).seen ≡ fold (λ image content. slice_set image content.0 content.1) (D.state disk.old).seen contents.now) }
-    ensures adds { AddsOnly (λ n content. Contains contents.now (n, content)) (D.state disk.old) (D.state disk.new) }
-    ensures any_moment { LeavesOnly (D.state disk.old) (D.state disk.new) (IsImageOr (λ n content. Contains contents.now (n, content)) (D.state disk.old)) }
+    ensures seen { OnOk result ((D.state disk.new).seen ≡ after_writes (D.state disk.old).seen contents.now) }
+    ensures adds { AddsOnly (IsAmong contents.now) (D.state disk.old) (D.state disk.new) }
+    ensures any_moment { LeavesOnly (D.state disk.old) (D.state disk.new) (IsImageOr (IsAmong contents.now) (D.state disk.old)) }
     ensures cause { HasCause (D.state disk.old) (D.state disk.new) result }
 {
     for content in contents {

@@ -16,6 +16,14 @@ among contents i n content d below is_n is_content =
     let same : (n, content) ≡ get_or contents i d = λ j. (is_n j, is_content j) in
     subst (Contains contents) (sym same) (i, below, grind (arith, common_steps))
 
+pub returns-in_err-write-clause-adds : goal.returns-in_err-write-clause-adds
+returns-in_err-write-clause-adds g c =
+    adds_write c.loop-content.invariant.adds c.write.ensures.changes
+    (λ n content is_n is_content. among c.args.contents.now c.loop-content.content-index n content (0, []) c.loop-content-test.true is_n is_content)
+
+pub returns-in_err-write-clause-any_moment : goal.returns-in_err-write-clause-any_moment
+returns-in_err-write-clause-any_moment g c = goes_on c.loop-content.invariant.any_moment c.write.ensures.time (image_or (returns-in_err-write-clause-adds g c))
+
 pub loop-content-preserved : goal.loop-content-preserved
 loop-content-preserved g c =
     let so_far = c.loop-content.invariant in
@@ -29,11 +37,3 @@ loop-content-preserved g c =
       any_moment = goes_on so_far.any_moment c.write.ensures.time (image_or adds);
       failures = omega (arith, so_far.failures, c.write.ensures.cause.later);
     }
-
-pub returns-in_err-write-clause-any_moment : goal.returns-in_err-write-clause-any_moment
-returns-in_err-write-clause-any_moment g c =
-    let so_far = c.loop-content.invariant in
-    let contents = c.args.contents.now in
-    let i = c.loop-content.content-index in
-    goes_on so_far.any_moment c.write.ensures.time (image_or (adds_write so_far.adds c.write.ensures.changes
-    (λ n content is_n is_content. among contents i n content (0, []) c.loop-content-test.true is_n is_content)))

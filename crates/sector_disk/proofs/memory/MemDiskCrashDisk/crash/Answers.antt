@@ -1,5 +1,4 @@
-use Rattle.std.proofs.Common.{subst, sym, ap, arith, refl}
-use Rattle.sector_disk.specs.Record.{Past}
+use Rattle.std.proofs.Common.{subst, sym, arith}
 use Rattle.sector_disk.specs.Whole.{AreWhole, whole_stopped}
 use Rattle.sector_disk.proofs.memory.MemDiskCrashDisk.crash.Goals as goal
 
