@@ -1,6 +1,5 @@
 mod Both
 pub mod Entries
-mod Puts
+pub mod Puts
 pub mod Meaning
 mod Writing
-mod Now

@@ -7,9 +7,9 @@ use Rattle.fs_layout.specs.Recovered.{replayed, recovered}
 use Rattle.fs_layout.proofs.Targets.{no_targets, targets_in-commit}
 use Rattle.fs_layout.proofs.RecoveryLaw.{low_no_target, recovered-commit, recovered-idle, recovered-installed, recovered-same}
 use Rattle.sector_disk.specs.Disk.{DiskState, Image, sector, Elapses, IsImage, IsImageOr, IsNarrowed, IsSame, IsStable, LeavesOnly, IsWrite}
-use Rattle.sector_disk.proofs.Moments.{narrowed, one_call, stays, stays_or, stable_image, unchanged}
+use Rattle.sector_disk.proofs.Moments.{holds_now, joined, narrowed, one_call, stays, stays_or, stable_image, unchanged, weaker}
 use Rattle.redo_journal.specs.Batch.{Entry, targets, content_at, with_batch}
-use Rattle.redo_journal.specs.Meaning.{IsMapped, SameMap, data_of, ReadsAs, IsEither, MeansAs, MeansAsBefore}
+use Rattle.redo_journal.specs.Meaning.{IsMapped, SameMap, data_of, HasValidCommit, ReadsAs, IsEither, LeavesSameMap, MeansAs, MeansAsBefore}
 use Rattle.redo_journal.specs.States.{IsAtRest, IsIdle, IsLogged, IsInstalled, HoldsLog, HoldsTargets, HasReplayed, InLog, InTargets}
 use Rattle.redo_journal.proofs.Entries.{length-targets, target_is}
 
@@ -33,11 +33,22 @@ rest_reads ts disk rest image is =
       reads = λ n part. ap (λ (l : Image). recovered disk.size (sector l) n) same;
     }
 
-pub idle_data : (disk : DiskState) → IsIdle disk → (n : ℕ) → data_of disk n ≡ sector disk.seen n
-idle_data disk idle n = recovered-idle disk.size (sector disk.seen) n idle.small idle.commit.bytes
-
 commit_stays : (size : ℕ) (old new ts : List ℕ) → new ≡ old → IsCommit size old ts → IsCommit size new ts
 commit_stays size old new ts same is = subst (λ content. IsCommit size content ts) (sym same) is
+
+-- a call after which reads give the same, and a stop may leave nothing else, leaves a disk at rest
+pub rest_stays : (ts : List ℕ) (old new : DiskState) → IsNarrowed old new → IsAtRest ts old → IsAtRest ts new
+rest_stays ts old new changes rest = record {
+  room = omega (arith, rest.room, changes.size);
+  small = omega (arith, rest.small, changes.size);
+  whole = ap length changes.seen ∙ rest.whole ∙ sym changes.size;
+  stable = λ n content below may.
+      rest.stable n content (omega (arith, below, changes.size)) (changes.nothing_else n content may) ∙ ap (λ (l : Image). sector l n) (sym changes.seen);
+  commit = subst (λ k. IsCommit k (sector new.seen 1) ts) (sym changes.size) (commit_stays old.size (sector old.seen 1) (sector new.seen 1) ts (ap (λ (l : Image). sector l 1) changes.seen) rest.commit);
+}
+
+pub idle_data : (disk : DiskState) → IsIdle disk → (n : ℕ) → data_of disk n ≡ sector disk.seen n
+idle_data disk idle n = recovered-idle disk.size (sector disk.seen) n idle.small idle.commit.bytes
 
 -- ---- while the log is written
 pub log_keeps : (disk : DiskState) → IsIdle disk → (image : Image) → IsImageOr InLog disk image → ReadsAs disk.size (data_of disk) image
@@ -238,6 +249,23 @@ reads_same n m f h size same image reads = record {
   commit = subst (λ k. IsValidCommit k (sector image 1)) size reads.commit;
   reads = λ l part. ap (λ k. recovered k (sector image) l) (sym size) ∙ reads.reads l part ∙ same l part;
 }
+
+-- after a step in which each image reads as before, so does the disk
+pub same_map : (old new : DiskState) → ((t : ℕ) (image : Image) → t ≤ new.moment → IsImage new image → new.left_since t image) → IsImage new new.seen
+    → new.size ≡ old.size → LeavesSameMap old new → SameMap (data_of new) (data_of old)
+same_map old new counts_now seen size run = λ n part. ap (λ k. recovered k (sector new.seen) n) size ∙ (holds_now run counts_now seen).reads n part
+
+-- one such step after another
+pub same_joined : (old mid new : DiskState) → ((t : ℕ) (image : Image) → t ≤ mid.moment → IsImage mid image → mid.left_since t image) → IsImage mid mid.seen
+    → mid.size ≡ old.size → LeavesSameMap old mid → LeavesSameMap mid new → LeavesSameMap old new
+same_joined old mid new counts_now seen size first then =
+    joined first (weaker (reads_same old.size mid.size (data_of mid) (data_of old) size (same_map old mid counts_now seen size first)) then)
+
+-- a read of a stable disk with a valid commit sector, and such a step
+pub read_then : (old read new : DiskState) → ((image : Image) → old.left_since old.moment image → IsImage old image) → IsStable old → length old.seen ≡ old.size
+    → IsSame old read → Elapses old read → HasValidCommit old.size old.seen → LeavesSameMap read new → LeavesOnly old new (MeansAs old.size old.seen)
+read_then old read new only_now stable whole same time valid then =
+    joined (still_means old read only_now stable whole same time) (weaker (later_means old read same whole valid) then)
 
 -- before and after a batch, seen from an earlier disk with the same data
 pub either_on : (entries : List Entry) (old new : DiskState) → new.size ≡ old.size → SameMap (data_of new) (data_of old) → (image : Image)

@@ -7,6 +7,7 @@ use Rattle.std.proofs.lemmas.Map.Made.{AllPairs-from_IsDistinct, IsDistinct-from
 use Rattle.std.specs.Prelude.{All}
 use Rattle.std.specs.List.{AllByRecursion, IsDistinct}
 use Rattle.fs_layout.specs.Bytes.{SectorMap}
+use Rattle.fs_layout.specs.Changes.{Puts}
 use Rattle.fs_layout.specs.Commit.{AreDistinct}
 use Rattle.redo_journal.specs.Batch.{Entry, targets, target_at, content_at, put_entry, has_entry, with_batch, IsBatch, IsOnDisk}
 
@@ -118,12 +119,18 @@ with_batch_none (e ∷ entries) n f none = elim (cases_Bool (eqb n e.0)) [
 same_key : (m n k : ℕ) (x y z : List ℕ) → n ≡ k → cond (eqb m n) x z ≡ cond (eqb m n) x (cond (eqb m k) y z)
 same_key m n k x y z same = grind (arith, nat_tests)
 
-other_key : (m n k : ℕ) (x y z : List ℕ) → (n ≡ k → ⊥) → cond (eqb m k) y (cond (eqb m n) x z) ≡ cond (eqb m n) x (cond (eqb m k) y z)
+pub other_key : (m n k : ℕ) (x y z : List ℕ) → (n ≡ k → ⊥) → cond (eqb m k) y (cond (eqb m n) x z) ≡ cond (eqb m n) x (cond (eqb m k) y z)
 other_key m n k x y z other = grind (arith, nat_tests)
 
-pub with_batch-put : (entries : List Entry) (n : ℕ) (content : List ℕ) (f : SectorMap) (m : ℕ) → with_batch (put_entry entries n content) f m ≡ cond (eqb m n) content (with_batch entries f m)
+with_batch-put : (entries : List Entry) (n : ℕ) (content : List ℕ) (f : SectorMap) (m : ℕ) → with_batch (put_entry entries n content) f m ≡ cond (eqb m n) content (with_batch entries f m)
 with_batch-put [] n content f m = refl
 with_batch-put (e ∷ entries) n content f m =
     cond_both (eqb n e.0) ((n, content) ∷ entries) (e ∷ put_entry entries n content) (λ l. with_batch l f m ≡ cond (eqb m n) content (with_batch (e ∷ entries) f m))
     (λ is. same_key m n e.0 content e.1 (with_batch entries f m) (eqb-true n e.0 is))
     (λ no. ap (λ (x : List ℕ). cond (eqb m e.0) e.1 x) (with_batch-put entries n content f m) ∙ other_key m n e.0 content e.1 (with_batch entries f m) (eqb-false n e.0 no))
+
+pub puts_put : (old new : List Entry) (n : ℕ) (content : List ℕ) → new ≡ put_entry old n content → (f : SectorMap) → Puts n content (with_batch old f) (with_batch new f)
+puts_put old new n content put f = subst (λ (es : List Entry). Puts n content (with_batch old f) (with_batch es f)) (sym put) (record {
+  here = with_batch-put old n content f n ∙ cond-true (eqb n n) content (with_batch old f n) (eq-eqb n n refl);
+  others = λ m other. with_batch-put old n content f m ∙ cond-false (eqb m n) content (with_batch old f m) (ne_eqb m n other);
+})

@@ -3,18 +3,18 @@ use Rattle.std.proofs.Common.{◌≡◌, inl, inr, ℕ, ◌+◌, ◌<◌, List, 
 use Rattle.std.proofs.lemmas.Bool.{cases_eq}
 use Rattle.sector_disk.specs.Disk.{Image, sector}
 
--- The first i contents are in their places. A write puts the next one there, into a place of its own.
-pub written_more : (place : ℕ → ℕ) (content : ℕ → List ℕ) (old new : Image) (i : ℕ) → place i < length old → new ≡ set old (place i) (content i)
-    → ((k : ℕ) → k < i → place k ≡ place i → ⊥) → ((k : ℕ) → k < i → sector old (place k) ≡ content k) → (k : ℕ) → k < i + 1 → sector new (place k) ≡ content k
-written_more place content old new i fits written apart before k lt = elim (cases_eq k i) [
+-- The first i contents are in their sectors. A write puts the next one into a sector of its own.
+pub written_more : (at : ℕ → ℕ) (content : ℕ → List ℕ) (old new : Image) (i : ℕ) → at i < length old → new ≡ set old (at i) (content i)
+    → ((k : ℕ) → k < i → at k ≡ at i → ⊥) → ((k : ℕ) → k < i → sector old (at k) ≡ content k) → (k : ℕ) → k < i + 1 → sector new (at k) ≡ content k
+written_more at content old new i fits written apart before k lt = elim (cases_eq k i) [
   | inl here ↦
-      ap (λ (l : Image). sector l (place k)) written
-      ∙ ap (λ (j : ℕ). get_or (set old (place i) (content i)) (place j) []) here
-      ∙ get_or-set_same old (place i) (content i) [] fits
+      ap (λ (l : Image). sector l (at k)) written
+      ∙ ap (λ (j : ℕ). get_or (set old (at i) (content i)) (at j) []) here
+      ∙ get_or-set_same old (at i) (content i) [] fits
       ∙ ap content (sym here)
   | inr there ↦
-      ap (λ (l : Image). sector l (place k)) written
-      ∙ get_or-set_other old (place i) (place k) (content i) [] (apart k (omega (arith, lt, there)))
+      ap (λ (l : Image). sector l (at k)) written
+      ∙ get_or-set_other old (at i) (at k) (content i) [] (apart k (omega (arith, lt, there)))
       ∙ before k (omega (arith, lt, there))
 ]
 

@@ -1,7 +1,8 @@
 //! Sectors, and the contents that they are to have.
 
-ghost use Rattle.std.specs.Prelude.{◌≡◌, ◌≢◌, ◌↔◌, ◌≤◌, ◌<◌, ◌+◌, [], ◌∷◌, ℕ, List, IsTrue, true, false, length, IfOk, IfSome, IfNone, if◌then◌else◌, nat_eq};
+ghost use Rattle.std.specs.Prelude.{◌≡◌, ◌≢◌, ◌↔◌, ◌≤◌, ◌<◌, ◌+◌, [], ◌∷◌, ℕ, List, IsTrue, true, false, length, IfOk, IfSome, IfNone, if◌then◌else◌};
 ghost use Rattle.fs_layout.specs.Bytes.{SectorMap};
+ghost use Rattle.fs_layout.specs.Changes.{Puts};
 ghost use Rattle.redo_journal.specs.Batch.{Entry, IsBatch, IsOnDisk, put_entry, has_entry, with_batch, target_at};
 
 use std::alloc::{AllocError, Global};
@@ -46,11 +47,11 @@ impl Batch {
         requires part { 128 ≤ n }
         requires room { has_entry self.old n ≡ false → length self.old < 126 }
         ensures put { self.new ≡ put_entry self.old n from.now }
-        ensures map { (sectors : SectorMap) (m : ℕ) → with_batch self.new sectors m ≡ (if nat_eq m n then from.now else with_batch self.old sectors m) }
+        ensures map { (sectors : SectorMap) → Puts n from.now (with_batch self.old sectors) (with_batch self.new sectors) }
         ensures len { length self.new ≡ (if has_entry self.old n then length self.old else length self.old + 1) }
         ensures on_disk { (size : ℕ) → n < size → IsOnDisk size self.old → IsOnDisk size self.new }
     {
-        match place_of(&self.entries, n) {
+        match index_of(&self.entries, n) {
             Some(k) => {
                 self.entries[k] = (n, *from);
             }
@@ -68,7 +69,7 @@ impl Batch {
         ensures none { IfNone result (has_entry self.now n ≡ false) }
         ensures other { IfNone result ((sectors : SectorMap) → with_batch self.now sectors n ≡ sectors n) }
     {
-        match place_of(&self.entries, n) {
+        match index_of(&self.entries, n) {
             Some(k) => Some(&self.entries[k].1),
             None => None,
         }
@@ -106,11 +107,11 @@ impl Batch {
     }
 }
 
-// Where the sector's entry stands.
-fn place_of(entries: &[(u32, [u8; 512])], n: u32) -> Option<usize>
+// The index of the sector's entry.
+fn index_of(entries: &[(u32, [u8; 512])], n: u32) -> Option<usize>
     ensures none { IfNone result (has_entry entries.now n ≡ false) }
     ensures has { IfSome result (λ k. has_entry entries.now n ≡ true) }
-    ensures place { IfSome result (λ k. k < length entries.now) }
+    ensures below { IfSome result (λ k. k < length entries.now) }
     ensures there { IfSome result (λ k. target_at entries.now k ≡ n) }
     ensures first { IfSome result (λ k. (j : ℕ) → j < k → target_at entries.now j ≢ n) }
 {

@@ -3,9 +3,9 @@
 ghost use Rattle.std.specs.Prelude.{◌≡◌, ◌≤◌, ◌<◌, [], ◌∷◌, ℕ, List, length, IsOk, OnOk, MatchOption};
 ghost use Rattle.fs_layout.specs.Commit.{AreTargets, IsCommit, IsValidCommit, commit_bytes};
 ghost use Rattle.redo_journal.specs.Batch.{Entry, targets, with_batch};
-ghost use Rattle.redo_journal.specs.Meaning.{data_of, ReadsAs, IsEither};
+ghost use Rattle.redo_journal.specs.Meaning.{data_of, EachReadsAs, LeavesSameMap, LeavesAllOrNone};
 ghost use Rattle.redo_journal.specs.States.{IsAtRest, IsIdle, IsLogged, IsSealed, IsInstalled};
-ghost use Rattle.sector_disk.specs.Disk.{Image, IsImage, LeavesOnly, HasCause, sector};
+ghost use Rattle.sector_disk.specs.Disk.{HasCause};
 
 use crate::steps::{copy_log, write_log, write_synced, write_targets};
 use fs_layout::Commit;
@@ -22,7 +22,7 @@ pub(crate) fn log_batch<D: Disk>(
     requires idle { IsIdle (D.state disk.old) }
     requires valid { AreTargets (D.state disk.old).size (targets entries.now) }
     ensures logged { OnOk result (IsLogged entries.now (D.state disk.new)) }
-    ensures any_moment { LeavesOnly (D.state disk.old) (D.state disk.new) (ReadsAs (D.state disk.old).size (data_of (D.state disk.old))) }
+    ensures any_moment { LeavesSameMap (D.state disk.old) (D.state disk.new) }
     ensures empty { length entries.now ≡ 0 → IsOk result × (disk.new ≡ disk.old) }
     ensures size { (D.state disk.new).size ≡ (D.state disk.old).size }
     ensures cause { HasCause (D.state disk.old) (D.state disk.new) result }
@@ -41,9 +41,8 @@ pub(crate) fn seal_batch<D: Disk>(
 ) -> Result<(), DiskFault>
     requires { IsLogged entries.now (D.state disk.old) }
     ensures sealed { OnOk result (IsSealed entries.now (D.state disk.new)) }
-    ensures lasting { OnOk result ((image : Image) → IsImage (D.state disk.new) image → ReadsAs (D.state disk.old).size (with_batch entries.now (data_of (D.state disk.old))) image) }
-    ensures any_moment { LeavesOnly (D.state disk.old) (D.state disk.new)
-        (IsEither (D.state disk.old).size (data_of (D.state disk.old)) (with_batch entries.now (data_of (D.state disk.old)))) }
+    ensures lasting { OnOk result (EachReadsAs (with_batch entries.now (data_of (D.state disk.old))) (D.state disk.new)) }
+    ensures any_moment { LeavesAllOrNone entries.now (D.state disk.old) (D.state disk.new) }
     ensures empty { length entries.now ≡ 0 → IsOk result × (disk.new ≡ disk.old) }
     ensures size { (D.state disk.new).size ≡ (D.state disk.old).size }
     ensures cause { HasCause (D.state disk.old) (D.state disk.new) result }
@@ -61,7 +60,7 @@ pub(crate) fn install_batch<D: Disk>(
 ) -> Result<(), DiskFault>
     requires { IsSealed entries.now (D.state disk.old) }
     ensures idle { OnOk result (IsIdle (D.state disk.new)) }
-    ensures any_moment { LeavesOnly (D.state disk.old) (D.state disk.new) (ReadsAs (D.state disk.old).size (data_of (D.state disk.old))) }
+    ensures any_moment { LeavesSameMap (D.state disk.old) (D.state disk.new) }
     ensures empty { length entries.now ≡ 0 → IsOk result × (disk.new ≡ disk.old) }
     ensures size { (D.state disk.new).size ≡ (D.state disk.old).size }
     ensures cause { HasCause (D.state disk.old) (D.state disk.new) result }
@@ -77,7 +76,7 @@ pub(crate) fn install_batch<D: Disk>(
 fn put_in_place<D: Disk>(disk: &mut D, entries: &[(u32, [u8; 512])]) -> Result<(), DiskFault>
     requires { IsSealed entries.now (D.state disk.old) }
     ensures installed { OnOk result (IsInstalled (targets entries.now) (D.state disk.new)) }
-    ensures any_moment { LeavesOnly (D.state disk.old) (D.state disk.new) (ReadsAs (D.state disk.old).size (data_of (D.state disk.old))) }
+    ensures any_moment { LeavesSameMap (D.state disk.old) (D.state disk.new) }
     ensures size { (D.state disk.new).size ≡ (D.state disk.old).size }
     ensures cause { HasCause (D.state disk.old) (D.state disk.new) result }
 {
@@ -90,7 +89,7 @@ fn put_in_place<D: Disk>(disk: &mut D, entries: &[(u32, [u8; 512])]) -> Result<(
 pub(crate) fn install_log<D: Disk>(disk: &mut D, sectors: &[u32]) -> Result<(), DiskFault>
     requires { IsAtRest sectors.now (D.state disk.old) }
     ensures idle { OnOk result (IsIdle (D.state disk.new)) }
-    ensures any_moment { LeavesOnly (D.state disk.old) (D.state disk.new) (ReadsAs (D.state disk.old).size (data_of (D.state disk.old))) }
+    ensures any_moment { LeavesSameMap (D.state disk.old) (D.state disk.new) }
     ensures size { (D.state disk.new).size ≡ (D.state disk.old).size }
     ensures cause { HasCause (D.state disk.old) (D.state disk.new) result }
 {
@@ -105,7 +104,7 @@ pub(crate) fn install_log<D: Disk>(disk: &mut D, sectors: &[u32]) -> Result<(), 
 fn replay<D: Disk>(disk: &mut D, sectors: &[u32]) -> Result<(), DiskFault>
     requires { IsAtRest sectors.now (D.state disk.old) }
     ensures installed { OnOk result (IsInstalled sectors.now (D.state disk.new)) }
-    ensures any_moment { LeavesOnly (D.state disk.old) (D.state disk.new) (ReadsAs (D.state disk.old).size (data_of (D.state disk.old))) }
+    ensures any_moment { LeavesSameMap (D.state disk.old) (D.state disk.new) }
     ensures size { (D.state disk.new).size ≡ (D.state disk.old).size }
     ensures cause { HasCause (D.state disk.old) (D.state disk.new) result }
 {
@@ -117,7 +116,7 @@ fn replay<D: Disk>(disk: &mut D, sectors: &[u32]) -> Result<(), DiskFault>
 fn clear_commit<D: Disk>(disk: &mut D) -> Result<(), DiskFault>
     requires { (sectors : List ℕ) × IsInstalled sectors (D.state disk.old) }
     ensures idle { OnOk result (IsIdle (D.state disk.new)) }
-    ensures any_moment { LeavesOnly (D.state disk.old) (D.state disk.new) (ReadsAs (D.state disk.old).size (data_of (D.state disk.old))) }
+    ensures any_moment { LeavesSameMap (D.state disk.old) (D.state disk.new) }
     ensures size { (D.state disk.new).size ≡ (D.state disk.old).size }
     ensures cause { HasCause (D.state disk.old) (D.state disk.new) result }
 {

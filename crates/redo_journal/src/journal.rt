@@ -2,9 +2,9 @@
 
 ghost use Rattle.std.specs.Prelude.{◌≡◌, ◌<◌, ℕ, List, length, Ok, IfOk, OnOk};
 ghost use Rattle.redo_journal.specs.Batch.{IsOnDisk, with_batch};
-ghost use Rattle.redo_journal.specs.Meaning.{IsMapped, SameMap, data_of, disk_of, ReadsAs, IsEither};
+ghost use Rattle.redo_journal.specs.Meaning.{IsMapped, SameMap, data_of, disk_of, EachReadsAs, LeavesSameMap, LeavesAllOrNone};
 ghost use Rattle.redo_journal.specs.States.{IsIdle, IsLogged, IsSealed};
-ghost use Rattle.sector_disk.specs.Disk.{Image, IsImage, IsSame, Elapses, LeavesOnly, OnlyReads, HasCause};
+ghost use Rattle.sector_disk.specs.Disk.{IsSame, Elapses, OnlyReads, HasCause};
 
 use crate::Batch;
 use crate::commit::{install_batch, log_batch, seal_batch};
@@ -16,14 +16,18 @@ use std::marker::Model;
 /// A contract sees each of the four states as its disk. Any of them may be dropped, which is as if the disk were
 /// stopped: [`Journal::open`] settles what that leaves.
 #[derive(Drop)]
-pub struct Journal<D> {
+pub struct Journal<D: Disk> {
     disk: D,
 }
 
-impl<D> Model for Journal<D> {
+impl<D: Disk> Model for Journal<D> {
+    ghost use Rattle.redo_journal.specs.States.{IsIdle};
+
     ghost Value = { D };
 
     ghost view = { λ j. j.disk };
+
+    ghost invariant = { λ j. IsIdle (D.state j.disk) };
 }
 
 /// A disk with a batch in its log. Its images still read as without the batch.
@@ -65,23 +69,28 @@ impl<D> Model for Broken<D> {
 impl<D: Disk> Journal<D> {
     // A journal on this disk.
     pub(crate) fn on(disk: D) -> Journal<D>
+        requires { IsIdle (D.state disk) }
         ensures { result ≡ disk }
     {
         Journal { disk }
     }
 
+    /// Does nothing: its clause tells a caller's proof what is true of each journal.
+    pub fn tell_idle(&self)
+        ensures { IsIdle (D.state self.now) }
+    {
+        let _disk = &self.disk;
+    }
+
     /// Writes the batch into the log and syncs.
-    ///
-    /// That the disk is idle is what [`Journal::open`] and [`Sealed::install`] ensure.
     pub fn log(self, batch: &Batch) -> Result<Logged<D>, Broken<D>>
-        requires idle { IsIdle (D.state self) }
-        requires on_disk { IsOnDisk (D.state self).size batch.now }
+        requires { IsOnDisk (D.state self).size batch.now }
 
         ensures logged { IfOk result (λ logged. IsLogged batch.now (D.state logged)) }
         ensures same { IfOk result (λ logged. SameMap (data_of (D.state logged)) (data_of (D.state self))) }
 
         // A stop at any moment of the call leaves what reads as before it.
-        ensures any_moment { LeavesOnly (D.state self) (D.state (disk_of result)) (ReadsAs (D.state self).size (data_of (D.state self))) }
+        ensures any_moment { LeavesSameMap (D.state self) (D.state (disk_of result)) }
 
         // With an empty batch the disk isn't called.
         ensures empty { length batch.now ≡ 0 → result ≡ Ok self }
@@ -98,12 +107,10 @@ impl<D: Disk> Journal<D> {
 
     /// Reads sector 0, or one behind the log. At `Err` nothing is said of the buffer.
     pub fn read(&mut self, n: u32, to: &mut [u8; 512]) -> Result<(), DiskFault>
-        requires idle { IsIdle (D.state self.old) }
         requires part { IsMapped n }
         requires on_disk { n < (D.state self.old).size }
 
         ensures content { OnOk result (to.new ≡ data_of (D.state self.old) n) }
-        ensures idle { IsIdle (D.state self.new) }
         ensures same { (m : ℕ) → data_of (D.state self.new) m ≡ data_of (D.state self.old) m }
         ensures unchanged { IsSame (D.state self.old) (D.state self.new) }
         ensures reads { OnlyReads (D.state self.old) (D.state self.new) }
@@ -114,7 +121,8 @@ impl<D: Disk> Journal<D> {
 
     /// The disk.
     pub fn into_disk(self) -> D
-        ensures { result ≡ self }
+        ensures disk { result ≡ self }
+        ensures idle { IsIdle (D.state result) }
     {
         let Journal { disk } = self;
         disk
@@ -124,7 +132,6 @@ impl<D: Disk> Journal<D> {
 impl<D: CrashDisk> Journal<D> {
     /// Lets this many writes and syncs of the disk pass, and fails all later ones.
     pub fn arm(&mut self, passes: u64)
-        ensures idle { IsIdle (D.state self.old) → IsIdle (D.state self.new) }
         ensures unchanged { IsSame (D.state self.old) (D.state self.new) }
         ensures time { Elapses (D.state self.old) (D.state self.new) }
         ensures failures { (D.state self.new).failures ≡ (D.state self.old).failures }
@@ -142,12 +149,10 @@ impl<D: Disk> Logged<D> {
         ensures changed { IfOk result (λ sealed. SameMap (data_of (D.state sealed)) (with_batch batch.now (data_of (D.state self)))) }
 
         // A stop at any moment of the call leaves what reads as before it, or with the whole batch.
-        ensures any_moment { LeavesOnly (D.state self) (D.state (disk_of result))
-            (IsEither (D.state self).size (data_of (D.state self)) (with_batch batch.now (data_of (D.state self)))) }
+        ensures any_moment { LeavesAllOrNone batch.now (D.state self) (D.state (disk_of result)) }
 
         // From `Ok` on it leaves what reads with the whole batch.
-        ensures lasting { IfOk result (λ sealed. (image : Image) → IsImage (D.state sealed) image
-            → ReadsAs (D.state self).size (with_batch batch.now (data_of (D.state self))) image) }
+        ensures lasting { IfOk result (λ sealed. EachReadsAs (with_batch batch.now (data_of (D.state self))) (D.state sealed)) }
 
         // With an empty batch the disk isn't called.
         ensures empty { length batch.now ≡ 0 → result ≡ Ok self }
@@ -169,11 +174,10 @@ impl<D: Disk> Sealed<D> {
     pub fn install(self, batch: &Batch) -> Result<Journal<D>, Broken<D>>
         requires { IsSealed batch.now (D.state self) }
 
-        ensures idle { IfOk result (λ journal. IsIdle (D.state journal)) }
         ensures same { IfOk result (λ journal. SameMap (data_of (D.state journal)) (data_of (D.state self))) }
 
         // A stop at any moment of the call leaves what reads as before it, which is with the batch.
-        ensures any_moment { LeavesOnly (D.state self) (D.state (disk_of result)) (ReadsAs (D.state self).size (data_of (D.state self))) }
+        ensures any_moment { LeavesSameMap (D.state self) (D.state (disk_of result)) }
 
         // With an empty batch the disk isn't called.
         ensures empty { length batch.now ≡ 0 → result ≡ Ok self }

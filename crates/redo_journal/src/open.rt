@@ -1,11 +1,10 @@
 //! What a stop has left is settled before a journal is there.
 
 ghost use Rattle.std.specs.Prelude.{◌≡◌, ◌≤◌, ◌<◌, ℕ, List, IfOk, IfErr, OnOk, IsErrOf};
-ghost use Rattle.fs_layout.specs.Commit.{IsValidCommit};
 ghost use Rattle.redo_journal.specs.declared.open.OpenFault.TheVariants.{DiskFault as Device};
-ghost use Rattle.redo_journal.specs.Meaning.{SameMap, data_of, disk_opened, MeansAs, MeansAsBefore};
+ghost use Rattle.redo_journal.specs.Meaning.{SameMap, data_of, disk_opened, HasValidCommit, MeansAs, MeansAsBefore};
 ghost use Rattle.redo_journal.specs.States.{IsIdle};
-ghost use Rattle.sector_disk.specs.Disk.{IsStable, LeavesOnly, HasFailed, sector};
+ghost use Rattle.sector_disk.specs.Disk.{IsStable, LeavesOnly, HasFailed};
 
 use crate::Journal;
 use crate::commit::{COMMIT_SECTOR, install_log, valid_commit};
@@ -35,7 +34,6 @@ impl<D: Disk> Journal<D> {
     pub fn open(disk: D) -> Result<Journal<D>, (OpenFault, D)>
         requires { 128 ≤ (D.state disk).size }
 
-        ensures idle { IfOk result (λ journal. IsIdle (D.state journal)) }
         ensures same { SameMap (data_of (D.state (disk_opened result))) (data_of (D.state disk)) }
 
         // A stop at any moment of the call leaves what means the same as an image from before it.
@@ -43,8 +41,8 @@ impl<D: Disk> Journal<D> {
         ensures size { (D.state (disk_opened result)).size ≡ (D.state disk).size }
 
         // But for faults, the commit sector alone decides.
-        ensures valid { IfOk result (λ _. IsValidCommit (D.state disk).size (sector (D.state disk).seen 1)) }
-        ensures invalid { IfErr result (λ e. e.0 ≡ OpenFault.BadCommitSector → IsValidCommit (D.state disk).size (sector (D.state disk).seen 1) → ⊥) }
+        ensures valid { IfOk result (λ _. HasValidCommit (D.state disk).size (D.state disk).seen) }
+        ensures invalid { IfErr result (λ e. e.0 ≡ OpenFault.BadCommitSector → HasValidCommit (D.state disk).size (D.state disk).seen → ⊥) }
         ensures later { (D.state disk).failures ≤ (D.state (disk_opened result)).failures }
         ensures cause { IfErr result (λ e. e.0 ≡ OpenFault.DiskFault → HasFailed (D.state disk) (D.state e.1)) }
     {
@@ -63,8 +61,8 @@ fn settle<D: Disk>(disk: &mut D) -> Result<(), OpenFault>
     ensures any_moment { LeavesOnly (D.state disk.old) (D.state disk.new) (MeansAsBefore (D.state disk.old)) }
     ensures same { SameMap (data_of (D.state disk.new)) (data_of (D.state disk.old)) }
     ensures size { (D.state disk.new).size ≡ (D.state disk.old).size }
-    ensures valid { OnOk result (IsValidCommit (D.state disk.old).size (sector (D.state disk.old).seen 1)) }
-    ensures invalid { IsErrOf result OpenFault.BadCommitSector → IsValidCommit (D.state disk.old).size (sector (D.state disk.old).seen 1) → ⊥ }
+    ensures valid { OnOk result (HasValidCommit (D.state disk.old).size (D.state disk.old).seen) }
+    ensures invalid { IsErrOf result OpenFault.BadCommitSector → HasValidCommit (D.state disk.old).size (D.state disk.old).seen → ⊥ }
     ensures later { (D.state disk.old).failures ≤ (D.state disk.new).failures }
     ensures cause { IsErrOf result OpenFault.DiskFault → HasFailed (D.state disk.old) (D.state disk.new) }
 {
@@ -79,8 +77,8 @@ fn recover<D: Disk>(disk: &mut D) -> Result<(), OpenFault>
     ensures idle { OnOk result (IsIdle (D.state disk.new)) }
     ensures any_moment { LeavesOnly (D.state disk.old) (D.state disk.new) (MeansAs (D.state disk.old).size (D.state disk.old).seen) }
     ensures size { (D.state disk.new).size ≡ (D.state disk.old).size }
-    ensures valid { OnOk result (IsValidCommit (D.state disk.old).size (sector (D.state disk.old).seen 1)) }
-    ensures invalid { IsErrOf result OpenFault.BadCommitSector → IsValidCommit (D.state disk.old).size (sector (D.state disk.old).seen 1) → ⊥ }
+    ensures valid { OnOk result (HasValidCommit (D.state disk.old).size (D.state disk.old).seen) }
+    ensures invalid { IsErrOf result OpenFault.BadCommitSector → HasValidCommit (D.state disk.old).size (D.state disk.old).seen → ⊥ }
     ensures later { (D.state disk.old).failures ≤ (D.state disk.new).failures }
     ensures cause { IsErrOf result OpenFault.DiskFault → HasFailed (D.state disk.old) (D.state disk.new) }
 {

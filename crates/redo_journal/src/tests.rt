@@ -2,7 +2,7 @@
 
 ghost use Rattle.std.specs.Prelude.{◌≡◌, ◌≤◌, ◌<◌, ◌+◌, ℕ, IfOk, IfSome};
 ghost use Rattle.redo_journal.specs.Batch.{IsOnDisk};
-ghost use Rattle.redo_journal.specs.States.{IsIdle, IsLogged, IsSealed};
+ghost use Rattle.redo_journal.specs.States.{IsLogged, IsSealed};
 
 use crate::{Batch, Journal, Logged, OpenFault, Sealed};
 use fs_layout::Commit;
@@ -58,8 +58,7 @@ fn disk_after_logged<D: Disk>(logged: Logged<D>, batch: &Batch) -> D
 
 // The disk after a commit.
 fn disk_after<D: Disk>(journal: Journal<D>, batch: &Batch) -> D
-    requires idle { IsIdle (D.state journal) }
-    requires on_disk { IsOnDisk (D.state journal).size batch.now }
+    requires { IsOnDisk (D.state journal).size batch.now }
     ensures { (D.state result).size ≡ (D.state journal).size }
 {
     match journal.log(batch) {
@@ -119,8 +118,7 @@ fn stopped_within_opening<D: CrashDisk>(disk: D, passes: u64, choice: &[u8]) -> 
 
 // The first bytes of sectors 200 and 201, if they are read.
 fn bytes_in<D: Disk>(journal: &mut Journal<D>) -> Option<(u8, u8)>
-    requires idle { IsIdle (D.state journal.old) }
-    requires room { 202 ≤ (D.state journal.old).size }
+    requires { 202 ≤ (D.state journal.old).size }
 {
     let mut first = [0; 512];
     let mut second = [0; 512];

@@ -28,21 +28,15 @@ has_others (e ∷ entries) n m content other =
     (λ _. ap (λ (b : Bool). cond (eqb m e.0) true b) (has_others entries n m content other))
 
 -- ---- a put into a transaction
-put_into : (old new : List Entry) (n : ℕ) (content : List ℕ) (f : SectorMap) → ((m : ℕ) → with_batch new f m ≡ cond (eqb m n) content (with_batch old f m)) → Puts n content (with_batch old f) (with_batch new f)
-put_into old new n content f map = record {
-  here = map n ∙ cond-true (eqb n n) content (with_batch old f n) (eq-eqb n n refl);
-  others = λ m other. map m ∙ cond-false (eqb m n) content (with_batch old f m) (ne_eqb m n other);
-}
-
 pub delta_put : {D : Type 0} (state : D → DiskState) (disk : D) (waiting old new : List Entry) (n : ℕ) (content : List ℕ) → length old ≤ 64 → (has_entry old n ≡ false → 0 < 64 - length old)
-    → new ≡ put_entry old n content → ((f : SectorMap) (m : ℕ) → with_batch new f m ≡ cond (eqb m n) content (with_batch old f m)) → length new ≡ cond (has_entry old n) (length old) (length old + 1)
+    → new ≡ put_entry old n content → ((f : SectorMap) → Puts n content (with_batch old f) (with_batch new f)) → length new ≡ cond (has_entry old n) (length old) (length old + 1)
     → IsPut n content (txn_state state (record { disk = disk; waiting = waiting; delta = old })) (txn_state state (record { disk = disk; waiting = waiting; delta = new }))
 unfolding map_now map_before
 delta_put {D} state disk waiting old new n content few room put map len =
     let sectors = with_batch waiting (data_of (state disk)) in
     record {
       store = record { before = λ m. refl; reads = reads_nothing };
-      sectors = put_into old new n content sectors (map sectors);
+      sectors = map sectors;
       has = ap (λ (l : List Entry). has_entry l n) put ∙ has_here old n content;
       others = λ m other. ap (λ (l : List Entry). has_entry l m) put ∙ has_others old n m content other;
       first = λ none. let longer = len ∙ cond-false (has_entry old n) (length old) (length old + 1) none in omega (arith, longer, room none, few);

@@ -2,12 +2,11 @@
 --     StoreView, TxnView        their values
 --     present, txn_state        the map of a store; the state of a transaction
 --     disk_after        the disk in what `keep` and `flush` give
---     IsStore, IsTxn        what each of them is
-use Rattle.std.specs.Prelude.{◌≡◌, ◌-◌, ◌≤◌, List, [], length, Result, Ok, Err}
+--     IsTxn        what each transaction is
+use Rattle.std.specs.Prelude.{◌-◌, ◌≤◌, List, length, Result, Ok, Err}
 use Rattle.fs_layout.specs.Bytes.{SectorMap}
 use Rattle.redo_journal.specs.Batch.{Entry, IsOnDisk, has_entry, with_batch}
 use Rattle.redo_journal.specs.Meaning.{data_of}
-use Rattle.redo_journal.specs.States.{IsIdle}
 use Rattle.sector_disk.specs.Disk.{DiskState}
 use Rattle.sector_txn.specs.Sectors.{TxnState}
 
@@ -47,13 +46,7 @@ abbrev pub disk_after : {D : Type 0} → Result (StoreView D) D → D
 disk_after (Ok store) = store.disk
 disk_after (Err broken) = broken
 
--- no commit is under way, and nothing waits for one
-pub record IsStore (disk : DiskState) (delta : List Entry) : Type 0 where
-  pub idle : IsIdle disk
-  pub empty : delta ≡ []
-
--- no commit is under way, and at most 64 sectors are put, all of them on the disk
+-- at most 64 sectors are put, all of them on the disk
 pub record IsTxn (disk : DiskState) (delta : List Entry) : Type 0 where
-  pub idle : IsIdle disk
   pub few : length delta ≤ 64
   pub on_disk : IsOnDisk disk.size delta

@@ -2,11 +2,10 @@
 #![tactic(auto, unfolding(crate::specs::Stores::present, crate::specs::Stores::map_before, crate::specs::Stores::map_now))]
 
 ghost use Rattle.std.specs.Prelude.{◌≡◌, ℕ, false, IsOk, IfOk, MatchResult};
-ghost use Rattle.redo_journal.specs.Meaning.{SameMap, data_of};
-ghost use Rattle.redo_journal.specs.States.{IsIdle};
+ghost use Rattle.redo_journal.specs.Meaning.{SameMap, EachReadsAs, data_of};
 ghost use Rattle.sector_disk.specs.Disk.{IsSame, Elapses, HasCause};
-ghost use Rattle.sector_txn.specs.Images.{LeavesOneOf, EachReadsAs};
-ghost use Rattle.sector_txn.specs.Stores.{present, txn_state, disk_after};
+ghost use Rattle.sector_txn.specs.Images.{LeavesOneOf, LeavesOldOr};
+ghost use Rattle.sector_txn.specs.Stores.{present, map_before, map_now, txn_state, disk_after};
 
 use crate::Sectors;
 use crate::commit::commit;
@@ -29,14 +28,14 @@ pub struct Store<D: Disk> {
 }
 
 impl<D: Disk> Model for Store<D> {
-    ghost use Rattle.std.specs.Prelude.{[]};
-    ghost use Rattle.sector_txn.specs.Stores.{StoreView, IsStore};
+    ghost use Rattle.std.specs.Prelude.{◌≡◌, []};
+    ghost use Rattle.sector_txn.specs.Stores.{StoreView};
 
     ghost Value = { StoreView D };
 
     ghost view = { λ store. record { disk = store.journal; waiting = [] } };
 
-    ghost invariant = { λ store. IsStore (D.state store.journal) store.delta };
+    ghost invariant = { λ store. store.delta ≡ [] };
 }
 
 /// One call's changes to a store, at most 64 sectors. Either [`Txn::keep`] or [`Txn::drop_delta`] has to be called.
@@ -58,13 +57,13 @@ impl<D: Disk> Model for Txn<D> {
 }
 
 impl<D: Disk> Store<D> {
-    /// The store of an idle journal. It reserves the memory of all its transactions.
+    /// The store of a journal. It reserves the memory of all its transactions.
     pub fn new(alloc: Global, journal: Journal<D>) -> Result<Store<D>, (AllocError, Journal<D>)>
-        requires { IsIdle (D.state journal) }
         ensures disk { MatchResult result (λ store. store.disk ≡ journal) (λ e. e.1 ≡ journal) }
         ensures map { IfOk result (λ store. SameMap (present D.state store) (data_of (D.state journal))) }
         ensures lasting { IfOk result (λ store. EachReadsAs (present D.state store) (D.state store.disk)) }
     {
+        journal.tell_idle();
         match Batch::new(alloc) {
             Ok(delta) => Ok(Store { journal, delta }),
             Err(error) => Err((error, journal)),
@@ -88,7 +87,7 @@ impl<D: Disk> Store<D> {
         ensures map { IfOk result (λ store. SameMap (present D.state store) (present D.state self)) }
 
         // A stop at any moment of the call leaves what means as before it, or reads as the store.
-        ensures images { LeavesOneOf (present D.state self) (present D.state self) (D.state self.disk) (D.state (disk_after result)) }
+        ensures images { LeavesOldOr (present D.state self) (D.state self.disk) (D.state (disk_after result)) }
 
         // From `Ok` on it leaves what reads as the store.
         ensures lasting { IfOk result (λ store. EachReadsAs (present D.state self) (D.state store.disk)) }
@@ -97,6 +96,7 @@ impl<D: Disk> Store<D> {
     {
         // What was kept was committed there and then.
         let Store { journal, delta } = self;
+        journal.tell_idle();
         Ok(Store { journal, delta })
     }
 
@@ -128,7 +128,7 @@ impl<D: Disk> Txn<D> {
 
         // A stop at any moment of the call leaves what means as before it, or reads as the store without the changes
         // or with all of them.
-        ensures images { LeavesOneOf (txn_state D.state self).before (txn_state D.state self).sectors (D.state self.disk) (D.state (disk_after result)) }
+        ensures images { LeavesOneOf (map_before D.state self) (map_now D.state self) (D.state self.disk) (D.state (disk_after result)) }
 
         // Without changes the disk isn't called.
         ensures empty { (txn_state D.state self).room ≡ 64 → IsOk result × (disk_after result ≡ self.disk) }

@@ -1,9 +1,10 @@
 //! Callers of a transaction, proved from its contracts alone.
 
-ghost use Rattle.std.specs.Prelude.{◌≡◌, ◌⊎◌, ◌≤◌, ◌<◌, ℕ, [], nat_eq, if◌then◌else◌, All, Contains, IfOk, OnOk, slice_set, slice_index, replicate};
+ghost use Rattle.std.specs.Prelude.{◌≡◌, ◌⊎◌, ◌≤◌, ◌<◌, ℕ, [], All, Contains, IfOk, OnOk, replicate};
 ghost use Rattle.redo_journal.specs.Meaning.{IsMapped, SameMap};
 ghost use Rattle.sector_disk.specs.Disk.{HasCause};
 ghost use Rattle.sector_txn.specs.Images.{LeavesOneOf};
+ghost use Rattle.sector_txn.specs.Mixed.{mixed_content, with_mixed};
 ghost use Rattle.sector_txn.specs.Sectors.{SameStore, PutsOnly, lacking};
 ghost use Rattle.sector_txn.specs.Stores.{present, disk_after};
 
@@ -17,7 +18,7 @@ pub(super) fn mix<S: Sectors>(s: &mut S, first: u32, second: u32, at: u32) -> Re
     requires second { IsMapped second × (second < (S.state s.old).disk.size) }
     requires at { (128 ≤ at) × (at < (S.state s.old).disk.size) }
     requires room { 0 < (S.state s.old).room }
-    ensures written { OnOk result ((S.state s.new).sectors at ≡ slice_set ((S.state s.old).sectors first) 0 (slice_index ((S.state s.old).sectors second) 0)) }
+    ensures written { OnOk result ((S.state s.new).sectors at ≡ mixed_content (S.state s.old).sectors first second) }
     ensures changes { OnOk result (PutsOnly (λ n. n ≡ at) [] 1 (S.state s.old) (S.state s.new)) }
     ensures store { SameStore (S.state s.old) (S.state s.new) }
     ensures cause { HasCause (S.state s.old).disk (S.state s.new).disk result }
@@ -55,9 +56,9 @@ pub(super) fn mix_whole<D: Disk>(
     requires second { IsMapped second × (second < (D.state store.disk).size) }
     requires at { (128 ≤ at) × (at < (D.state store.disk).size) }
     ensures map { let old = present D.state store in
-        IfOk result (λ after. SameMap (present D.state after) old ⊎ SameMap (present D.state after) (λ n. if nat_eq n at then slice_set (old first) 0 (slice_index (old second) 0) else old n)) }
+        IfOk result (λ after. SameMap (present D.state after) old ⊎ SameMap (present D.state after) (with_mixed old first second at)) }
     ensures images { let old = present D.state store in
-        LeavesOneOf old (λ n. if nat_eq n at then slice_set (old first) 0 (slice_index (old second) 0) else old n) (D.state store.disk) (D.state (disk_after result)) }
+        LeavesOneOf old (with_mixed old first second at) (D.state store.disk) (D.state (disk_after result)) }
     ensures failures { (D.state store.disk).failures ≤ (D.state (disk_after result)).failures }
 {
     let mut txn = store.begin();

@@ -4,11 +4,10 @@
 
 ghost use Rattle.std.specs.Prelude.{◌≡◌, ◌≤◌, ◌+◌, ℕ, List, false, length, Ok, IsOk, IfOk, MatchResult};
 ghost use Rattle.redo_journal.specs.Batch.{IsOnDisk, with_batch};
-ghost use Rattle.redo_journal.specs.Meaning.{SameMap, data_of, disk_of};
-ghost use Rattle.redo_journal.specs.States.{IsIdle};
+ghost use Rattle.redo_journal.specs.Meaning.{SameMap, EachReadsAs, data_of, disk_of};
 ghost use Rattle.sector_disk.specs.Disk.{HasCause};
-ghost use Rattle.sector_txn.specs.Images.{LeavesOneOf, EachReadsAs};
-ghost use Rattle.sector_txn.specs.Stores.{present, txn_state, disk_after};
+ghost use Rattle.sector_txn.specs.Images.{LeavesOneOf, LeavesOldOr};
+ghost use Rattle.sector_txn.specs.Stores.{present, map_before, map_now, txn_state, disk_after};
 
 use crate::Sectors;
 use crate::commit::commit;
@@ -26,14 +25,15 @@ pub(super) struct SharedStore<D: Disk> {
 }
 
 impl<D: Disk> Model for SharedStore<D> {
+    ghost use Rattle.std.specs.Prelude.{◌≡◌, []};
     ghost use Rattle.redo_journal.specs.Batch.{IsOnDisk};
-    ghost use Rattle.sector_txn.specs.Stores.{StoreView, IsStore};
+    ghost use Rattle.sector_txn.specs.Stores.{StoreView};
 
     ghost Value = { StoreView D };
 
     ghost view = { λ store. record { disk = store.journal; waiting = store.waiting } };
 
-    ghost invariant = { λ store. IsStore (D.state store.journal) store.delta × IsOnDisk (D.state store.journal).size store.waiting };
+    ghost invariant = { λ store. (store.delta ≡ []) × IsOnDisk (D.state store.journal).size store.waiting };
 }
 
 #[must_use = "its changes are to be kept or dropped"]
@@ -59,11 +59,11 @@ impl<D: Disk> SharedStore<D> {
         alloc: Global,
         journal: Journal<D>,
     ) -> Result<SharedStore<D>, (AllocError, Journal<D>)>
-        requires { IsIdle (D.state journal) }
         ensures disk { MatchResult result (λ store. store.disk ≡ journal) (λ e. e.1 ≡ journal) }
         ensures map { IfOk result (λ store. SameMap (present D.state store) (data_of (D.state journal))) }
         ensures lasting { IfOk result (λ store. EachReadsAs (present D.state store) (D.state store.disk)) }
     {
+        journal.tell_idle();
         match Batch::new(alloc) {
             Ok(waiting) => match Batch::new(alloc) {
                 Ok(delta) => Ok(SharedStore {
@@ -98,7 +98,7 @@ impl<D: Disk> SharedStore<D> {
 
     pub(super) fn flush(self) -> Result<SharedStore<D>, Broken<D>>
         ensures map { IfOk result (λ store. SameMap (present D.state store) (present D.state self)) }
-        ensures images { LeavesOneOf (present D.state self) (present D.state self) (D.state self.disk) (D.state (disk_after result)) }
+        ensures images { LeavesOldOr (present D.state self) (D.state self.disk) (D.state (disk_after result)) }
         ensures lasting { IfOk result (λ store. EachReadsAs (present D.state self) (D.state store.disk)) }
         ensures cause { HasCause (D.state self.disk) (D.state (disk_after result)) result }
     {
@@ -109,6 +109,7 @@ impl<D: Disk> SharedStore<D> {
         } = self;
         match commit(journal, &waiting) {
             Ok(journal) => {
+                journal.tell_idle();
                 waiting.clear();
                 Ok(SharedStore {
                     journal,
@@ -135,7 +136,7 @@ impl<D: Disk> SharedStore<D> {
 impl<D: Disk> SharedTxn<D> {
     pub(super) fn keep(self) -> Result<SharedStore<D>, Broken<D>>
         ensures map { IfOk result (λ store. SameMap (present D.state store) (txn_state D.state self).sectors) }
-        ensures images { LeavesOneOf (txn_state D.state self).before (txn_state D.state self).sectors (D.state self.disk) (D.state (disk_after result)) }
+        ensures images { LeavesOneOf (map_before D.state self) (map_now D.state self) (D.state self.disk) (D.state (disk_after result)) }
         ensures empty { (txn_state D.state self).room ≡ 64 → IsOk result × (disk_after result ≡ self.disk) }
         ensures cause { HasCause (D.state self.disk) (D.state (disk_after result)) result }
     {
@@ -210,14 +211,13 @@ fn commit_if_full<D: Disk>(
     waiting: &mut Batch,
     more: usize,
 ) -> Result<Journal<D>, Broken<D>>
-    requires idle { IsIdle (D.state journal) }
     requires on_disk { IsOnDisk (D.state journal).size waiting.old }
     requires few { more ≤ 126 }
-    ensures idle { IfOk result (λ after. IsIdle (D.state after)) }
     ensures on_disk { (size : ℕ) → IsOnDisk size waiting.old → IsOnDisk size waiting.new }
     ensures room { IfOk result (λ after. length waiting.new + more ≤ 126) }
-    ensures same { IfOk result (λ after. SameMap (with_batch waiting.new (data_of (D.state after))) (with_batch waiting.old (data_of (D.state journal)))) }
-    ensures images { LeavesOneOf (with_batch waiting.old (data_of (D.state journal))) (with_batch waiting.old (data_of (D.state journal))) (D.state journal) (D.state (disk_of result)) }
+    ensures same { let before = with_batch waiting.old (data_of (D.state journal)) in
+        IfOk result (λ after. SameMap (with_batch waiting.new (data_of (D.state after))) before) }
+    ensures images { LeavesOldOr (with_batch waiting.old (data_of (D.state journal))) (D.state journal) (D.state (disk_of result)) }
     ensures empty { more ≡ 0 → result ≡ Ok journal }
     ensures cause { HasCause (D.state journal) (D.state (disk_of result)) result }
 {

@@ -1,6 +1,6 @@
-use Rattle.sector_disk.proofs.Moments.{holds_now, joined, started, weaker}
+use Rattle.sector_disk.proofs.Moments.{started}
 use Rattle.redo_journal.specs.Batch.{targets}
-use Rattle.redo_journal.proofs.Meaning.{reads_on, rest_reads}
+use Rattle.redo_journal.proofs.Meaning.{rest_reads, same_joined}
 use Rattle.redo_journal.proofs.commit.install_batch.Goals as goal
 
 pub returns-then-is_empty-clause-any_moment : goal.returns-then-is_empty-clause-any_moment
@@ -9,8 +9,5 @@ returns-then-is_empty-clause-any_moment g c =
 
 pub returns-clause-any_moment : goal.returns-clause-any_moment
 returns-clause-any_moment g c =
-    let before = g.D.Disk.state c.args.disk.now in
-    let placed = g.D.Disk.state c.put_in_place.new.disk in
-    let first = c.put_in_place.ensures.any_moment in
-    let here = holds_now first (g.met.D.Disk.counts_now c.put_in_place.new.disk) (g.met.D.Disk.seen_is_image c.put_in_place.new.disk) in
-    joined first (weaker (reads_on before placed c.put_in_place.ensures.size here) c.clear_commit.ensures.any_moment)
+    same_joined (g.D.Disk.state c.args.disk.now) (g.D.Disk.state c.put_in_place.new.disk) (g.D.Disk.state c.clear_commit.new.disk) (g.met.D.Disk.counts_now c.put_in_place.new.disk)
+    (g.met.D.Disk.seen_is_image c.put_in_place.new.disk) c.put_in_place.ensures.size c.put_in_place.ensures.any_moment c.clear_commit.ensures.any_moment

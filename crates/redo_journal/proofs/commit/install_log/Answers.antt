@@ -1,5 +1,5 @@
-use Rattle.sector_disk.proofs.Moments.{holds_now, joined, started, weaker}
-use Rattle.redo_journal.proofs.Meaning.{reads_on, rest_reads}
+use Rattle.sector_disk.proofs.Moments.{started}
+use Rattle.redo_journal.proofs.Meaning.{rest_reads, same_joined}
 use Rattle.redo_journal.proofs.commit.install_log.Goals as goal
 
 pub returns-then-is_empty-clause-any_moment : goal.returns-then-is_empty-clause-any_moment
@@ -8,8 +8,5 @@ returns-then-is_empty-clause-any_moment g c =
 
 pub returns-clause-any_moment : goal.returns-clause-any_moment
 returns-clause-any_moment g c =
-    let before = g.D.Disk.state c.args.disk.now in
-    let placed = g.D.Disk.state c.replay.new.disk in
-    let first = c.replay.ensures.any_moment in
-    let here = holds_now first (g.met.D.Disk.counts_now c.replay.new.disk) (g.met.D.Disk.seen_is_image c.replay.new.disk) in
-    joined first (weaker (reads_on before placed c.replay.ensures.size here) c.clear_commit.ensures.any_moment)
+    same_joined (g.D.Disk.state c.args.disk.now) (g.D.Disk.state c.replay.new.disk) (g.D.Disk.state c.clear_commit.new.disk) (g.met.D.Disk.counts_now c.replay.new.disk)
+    (g.met.D.Disk.seen_is_image c.replay.new.disk) c.replay.ensures.size c.replay.ensures.any_moment c.clear_commit.ensures.any_moment

@@ -1,10 +1,11 @@
-use Rattle.std.proofs.Common.{length, sym, ◌≡◌, ◌∙◌, [], ap, arith, set, inl}
+use Rattle.std.proofs.Common.{length, sym, ◌≡◌, ◌∙◌, [], ap, arith, set, subst, inl}
 use Rattle.std.proofs.lemmas.Bool.{eqb-true}
 use Rattle.std.proofs.lemmas.List.{get_or-set_same}
 use Rattle.sector_disk.specs.Disk.{Image, sector}
 use Rattle.sector_disk.proofs.Moments.{image_or, stable_image, started, weaker}
 use Rattle.fs_layout.specs.Commit.{commit_bytes}
-use Rattle.redo_journal.specs.Batch.{targets}
+use Rattle.redo_journal.specs.Batch.{targets, with_batch}
+use Rattle.redo_journal.specs.Meaning.{data_of, ReadsAs}
 use Rattle.redo_journal.proofs.Both.{on_ok_both}
 use Rattle.redo_journal.proofs.Meaning.{nothing_sealed, rest_reads, seal_either, sealed_reads}
 use Rattle.redo_journal.proofs.commit.seal_batch.Goals as goal
@@ -23,8 +24,9 @@ returns-clause-lasting g c =
     let written : after.seen ≡ set before.seen 1 c.commit_sector.result → sector after.seen 1 ≡ commit_bytes (targets c.args.entries.now) =
     λ put. ap (λ (l : Image). sector l 1) put ∙ get_or-set_same before.seen 1 c.commit_sector.result [] (omega (arith, c.requires.at_rest.whole, c.requires.at_rest.room)) ∙ c.commit_sector.ensures in
     on_ok_both c.write_synced.result
-    (λ put stable image is. sealed_reads c.args.entries.now c.commit_sector.result before c.requires image
-    (image_or adds image is) (ap (λ (l : Image). sector l 1) (stable_image stable whole is) ∙ written put))
+    (λ put stable image is. subst (λ k. ReadsAs k (with_batch c.args.entries.now (data_of before)) image) (sym adds.size)
+    (sealed_reads c.args.entries.now c.commit_sector.result before c.requires image
+    (image_or adds image is) (ap (λ (l : Image). sector l 1) (stable_image stable whole is) ∙ written put)))
     c.write_synced.ensures.written c.write_synced.ensures.stable
 
 -- an empty batch

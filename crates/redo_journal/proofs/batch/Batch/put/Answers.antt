@@ -1,6 +1,6 @@
 use Rattle.std.proofs.Common.{◌≡◌, ◌≢◌, ◌<◌, ◌∙◌, ℕ, List, false, length, arith, ap, sym, subst}
-use Rattle.redo_journal.specs.Batch.{Entry, IsBatch, IsOnDisk, target_at, has_entry, put_entry, with_batch}
-use Rattle.redo_journal.proofs.Puts.{length-put, put_at, put_push, batch_put, on_disk_put, with_batch-put}
+use Rattle.redo_journal.specs.Batch.{Entry, IsBatch, IsOnDisk, target_at, has_entry, put_entry}
+use Rattle.redo_journal.proofs.Puts.{length-put, put_at, put_push, batch_put, on_disk_put, puts_put}
 use Rattle.redo_journal.proofs.batch.Batch.put.Goals as goal
 
 -- an entry that is there already
@@ -9,7 +9,7 @@ returns-in-Some-clause-put c =
     let items = c.self.inside.entries.items in
     let found = c.in-Some.ensures in
     let same = c.deref.ensures.value in
-    put_at items c.args.n c.in-Some.k c.args.from.now (subst (λ (es : List Entry). c.in-Some.k < length es) same found.place) (subst (λ (es : List Entry). target_at es c.in-Some.k ≡ c.args.n) same found.there)
+    put_at items c.args.n c.in-Some.k c.args.from.now (subst (λ (es : List Entry). c.in-Some.k < length es) same found.below) (subst (λ (es : List Entry). target_at es c.in-Some.k ≡ c.args.n) same found.there)
     (subst (λ (es : List Entry). (j : ℕ) → j < c.in-Some.k → target_at es j ≢ c.args.n) same found.first)
     ∙ ap (λ (es : List Entry). put_entry es c.args.n c.args.from.now) c.self.view_is
 
@@ -19,13 +19,12 @@ invariant_of-self c =
     let room = subst (λ (es : List Entry). has_entry es c.args.n ≡ false → length es < 126) (sym c.self.view_is) c.requires.room in
     let found = c.in-Some.ensures in
     let same = c.deref.ensures.value in
-    let put = put_at items c.args.n c.in-Some.k c.args.from.now (subst (λ (es : List Entry). c.in-Some.k < length es) same found.place) (subst (λ (es : List Entry). target_at es c.in-Some.k ≡ c.args.n) same found.there)
+    let put = put_at items c.args.n c.in-Some.k c.args.from.now (subst (λ (es : List Entry). c.in-Some.k < length es) same found.below) (subst (λ (es : List Entry). target_at es c.in-Some.k ≡ c.args.n) same found.there)
     (subst (λ (es : List Entry). (j : ℕ) → j < c.in-Some.k → target_at es j ≢ c.args.n) same found.first) in
     (subst IsBatch (sym put) (batch_put items c.args.n c.args.from.now c.self.invariant.0 c.requires.part room), c.self.invariant.1)
 
 pub returns-in-Some-clause-map : goal.returns-in-Some-clause-map
-returns-in-Some-clause-map c = λ sectors m.
-    ap (λ (es : List Entry). with_batch es sectors m) (returns-in-Some-clause-put c) ∙ with_batch-put c.args.self.now c.args.n c.args.from.now sectors m
+returns-in-Some-clause-map c = puts_put c.args.self.now _ c.args.n c.args.from.now (returns-in-Some-clause-put c)
 
 pub returns-in-Some-clause-on_disk : goal.returns-in-Some-clause-on_disk
 returns-in-Some-clause-on_disk c = λ size fits on_disk.
@@ -47,8 +46,7 @@ invariant_of-self-in-Ok c =
     (subst IsBatch (sym pushed) (batch_put items c.args.n c.args.from.now c.self.invariant.0 c.requires.part room), omega (arith, c.self.invariant.1, c.in-Ok.ensures.capacity))
 
 pub returns-in-Ok-clause-map : goal.returns-in-Ok-clause-map
-returns-in-Ok-clause-map c = λ sectors m.
-    ap (λ (es : List Entry). with_batch es sectors m) (returns-in-Ok-clause-put c) ∙ with_batch-put c.args.self.now c.args.n c.args.from.now sectors m
+returns-in-Ok-clause-map c = puts_put c.args.self.now _ c.args.n c.args.from.now (returns-in-Ok-clause-put c)
 
 pub returns-in-Ok-clause-on_disk : goal.returns-in-Ok-clause-on_disk
 returns-in-Ok-clause-on_disk c = λ size fits on_disk.

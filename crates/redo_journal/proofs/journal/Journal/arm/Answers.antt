@@ -1,9 +1,10 @@
-use Rattle.std.proofs.Common.{◌∙◌, ap, rules, subst}
+use Rattle.std.proofs.Common.{◌∙◌, [], ap, subst}
 use Rattle.sector_disk.specs.Disk.{Elapses, IsSame}
+use Rattle.redo_journal.proofs.Meaning.{rest_stays}
 use Rattle.redo_journal.proofs.journal.Journal.arm.Goals as goal
 
-pub returns-clause-idle : goal.returns-clause-idle
-returns-clause-idle g c = search rules
+pub invariant_of-self : goal.invariant_of-self
+invariant_of-self g c = rest_stays [] _ _ c.arm.ensures.same.narrowed c.self.invariant
 
 pub returns-clause-unchanged : goal.returns-clause-unchanged
 returns-clause-unchanged g c = subst (λ d. IsSame (g.D.Disk.state d) (g.D.Disk.state c.arm.new.self)) c.self.view_is c.arm.ensures.same

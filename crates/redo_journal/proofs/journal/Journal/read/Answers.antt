@@ -1,16 +1,17 @@
-use Rattle.std.proofs.Common.{◌≡◌, ◌∙◌, subst, sym}
+use Rattle.std.proofs.Common.{◌≡◌, ◌∙◌, [], subst, sym}
 use Rattle.std.specs.Prelude.{OnOk}
-use Rattle.sector_disk.specs.Disk.{sector}
 use Rattle.std.proofs.lemmas.Result.{on_ok_weaker}
 use Rattle.redo_journal.specs.Meaning.{data_of}
-use Rattle.redo_journal.proofs.Meaning.{data_stays, idle_data}
+use Rattle.redo_journal.proofs.Meaning.{data_stays, idle_data, rest_stays}
 use Rattle.redo_journal.proofs.journal.Journal.read.Goals as goal
+
+pub invariant_of-self : goal.invariant_of-self
+invariant_of-self g c = rest_stays [] _ _ c.read.ensures.same.narrowed c.self.invariant
 
 pub returns-clause-content : goal.returns-clause-content
 returns-clause-content g c =
-    let disk = g.D.Disk.state c.args.self.now in
-    on_ok_weaker c.read.result (λ is. is ∙ sym (idle_data disk c.requires.idle c.args.n))
-    (subst (λ d. OnOk c.read.result (c.read.new.to ≡ sector (g.D.Disk.state d).seen c.args.n)) c.self.view_is c.read.ensures.content)
+    subst (λ d. OnOk c.read.result (c.read.new.to ≡ data_of (g.D.Disk.state d) c.args.n)) c.self.view_is
+    (on_ok_weaker c.read.result (λ is. is ∙ sym (idle_data (g.D.Disk.state c.self.inside.disk) c.self.invariant c.args.n)) c.read.ensures.content)
 
 pub returns-clause-same : goal.returns-clause-same
 returns-clause-same g c = λ m.

@@ -5,4 +5,4 @@ use Rattle.sector_txn.proofs.store.Store.new.Goals as goal
 
 pub returns-in-Ok-clause-lasting : goal.returns-in-Ok-clause-lasting
 unfolding present
-returns-in-Ok-clause-lasting g c = rest_reads [] (g.D.Disk.state c.args.journal) c.requires
+returns-in-Ok-clause-lasting g c = rest_reads [] (g.D.Disk.state c.args.journal) c.tell_idle.ensures

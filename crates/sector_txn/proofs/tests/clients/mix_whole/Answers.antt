@@ -1,22 +1,19 @@
 use Rattle.std.proofs.Common.{◌≡◌, ◌∙◌, ℕ, eqb, ap, sym, subst, inl, inr}
-use Rattle.std.specs.Prelude.{nat_eq, if◌then◌else◌, slice_set, slice_index}
+use Rattle.std.specs.Prelude.{slice_set, slice_index}
 use Rattle.std.proofs.lemmas.Bool.{cases_eq, cond-true, cond-false, eq-eqb, ne_eqb}
 use Rattle.std.proofs.lemmas.Result.{IfOk-weaker}
 use Rattle.fs_layout.specs.Bytes.{SectorMap}
 use Rattle.redo_journal.specs.Meaning.{IsMapped, SameMap}
 use Rattle.sector_txn.specs.Images.{LeavesOneOf}
+use Rattle.sector_txn.specs.Mixed.{mixed_content, with_mixed}
 use Rattle.sector_txn.specs.Stores.{present, map_now, disk_after}
 use Rattle.sector_txn.proofs.Images.{after_reads, maps_same, nothing_left}
 use Rattle.sector_txn.proofs.tests.clients.mix_whole.Goals as goal
 
--- the map with one sector like the first, but for the first byte of the second
-abbrev mixed : SectorMap → ℕ → ℕ → ℕ → SectorMap
-mixed old first second at n = if nat_eq n at then slice_set (old first) 0 (slice_index (old second) 0) else old n
-
-mixed_same : (old from now : SectorMap) (first second at : ℕ) → IsMapped first → IsMapped second → SameMap from old → now at ≡ slice_set (from first) 0 (slice_index (from second) 0)
-    → ((n : ℕ) → (n ≡ at → ⊥) → now n ≡ from n) → SameMap now (mixed old first second at)
+mixed_same : (old from now : SectorMap) (first second at : ℕ) → IsMapped first → IsMapped second → SameMap from old → now at ≡ mixed_content from first second
+    → ((n : ℕ) → (n ≡ at → ⊥) → now n ≡ from n) → SameMap now (with_mixed old first second at)
 mixed_same old from now first second at first_part second_part same here others n part =
-    let content = slice_set (old first) 0 (slice_index (old second) 0) in
+    let content = mixed_content old first second in
     elim (cases_eq n at) [
       | inl is ↦
           ap now is
@@ -43,7 +40,7 @@ returns-in-Ok-clause-images g c =
     let began = c.begin-txn.ensures in
     let after = mixed_same old (map_now state c.begin-txn.result) (map_now state c.mix.new.s) c.args.first c.args.second c.args.at
     c.requires.first.0 c.requires.second.0 began.map c.in-Ok.ensures.written c.in-Ok.ensures.changes.others in
-    subst (λ disk. LeavesOneOf old (mixed old c.args.first c.args.second c.args.at) (state disk) (state (disk_after c.keep.result))) began.disk
+    subst (λ disk. LeavesOneOf old (with_mixed old c.args.first c.args.second c.args.at) (state disk) (state (disk_after c.keep.result))) began.disk
     (after_reads (g.met.D.Disk.only_now c.begin-txn.result.disk) c.in-Ok.ensures.store.reads
     (maps_same (λ n part. c.in-Ok.ensures.store.before n ∙ began.before n part) after c.keep.ensures.images))
 
@@ -52,5 +49,5 @@ returns-in-Err-clause-images g c =
     let state = g.D.Disk.state in
     let old = present state c.args.store in
     let left = after_reads (g.met.D.Disk.only_now c.begin-txn.result.disk) c.in-Err.ensures.store.reads (nothing_left (g.met.D.Disk.only_now c.mix.new.s.disk)) in
-    subst (λ disk. LeavesOneOf old (mixed old c.args.first c.args.second c.args.at) (state disk) (state c.drop_delta.result.disk)) c.begin-txn.ensures.disk
-    (subst (λ disk. LeavesOneOf old (mixed old c.args.first c.args.second c.args.at) (state c.begin-txn.result.disk) (state disk)) (sym c.drop_delta.ensures.disk) left)
+    subst (λ disk. LeavesOneOf old (with_mixed old c.args.first c.args.second c.args.at) (state disk) (state c.drop_delta.result.disk)) c.begin-txn.ensures.disk
+    (subst (λ disk. LeavesOneOf old (with_mixed old c.args.first c.args.second c.args.at) (state c.begin-txn.result.disk) (state disk)) (sym c.drop_delta.ensures.disk) left)

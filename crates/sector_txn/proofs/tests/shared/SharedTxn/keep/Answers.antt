@@ -4,7 +4,7 @@ use Rattle.redo_journal.specs.Meaning.{data_of, SameMap}
 use Rattle.redo_journal.proofs.Meaning.{with_batch_same}
 use Rattle.sector_txn.specs.Images.{LeavesOneOf}
 use Rattle.sector_txn.specs.Stores.{map_before, map_now, present}
-use Rattle.sector_txn.proofs.Sharing.{first_map}
+use Rattle.sector_txn.proofs.Images.{first_map}
 use Rattle.sector_txn.proofs.tests.shared.SharedTxn.keep.Goals as goal
 
 pub returns-in-Ok-clause-map : goal.returns-in-Ok-clause-map
