@@ -1,10 +1,11 @@
 -- How a script is read, a line at a time.
 --     script_limit        the most bytes of a script
 --     Pending, bytes_left        what has been read ahead and how much was given; what is still to come
---     IsTaken, LineRead        a line is taken from what is to come, and read
+--     FindsEnd, GivesByte        the end, or a byte that is given
+--     IsTaken, LineRead, ReadsLine        a line is taken from what is to come, and read
 --     IsOver        what is to come goes past the limit
-use Rattle.std.specs.Prelude.{◌≡◌, ◌+◌, ◌<◌, ℕ, List, ◌∷◌, length, take, Option, None, Some}
-use Rattle.std.specs.Io.KnownBytes.{prepend_known, Consumes}
+use Rattle.std.specs.Prelude.{◌≡◌, ◌+◌, ◌<◌, ℕ, List, [], ◌∷◌, length, take, Option, None, Some}
+use Rattle.std.specs.Io.KnownBytes.{prepend_known, Consumes, IsAtEnd, Keeps}
 use Rattle.fs_shell.specs.Lines.{lines_of}
 
 abbrev pub script_limit : ℕ
@@ -18,6 +19,15 @@ pub record Pending : Type 0 where
 -- The bytes that are still to come, where they are known: those read ahead, and those that the reader has left.
 abbrev pub bytes_left : Pending → Option (List ℕ) → Option (List ℕ)
 bytes_left p remaining = prepend_known p.ahead remaining
+
+-- The script is at its end, and nothing is given.
+abbrev pub FindsEnd : Pending → Option (List ℕ) → Pending → Option (List ℕ) → Type 0
+FindsEnd old before new after =
+    IsAtEnd (bytes_left old before) × IsAtEnd after × Keeps (bytes_left old before) (bytes_left new after) × (new.given ≡ old.given)
+
+-- This byte is given.
+abbrev pub GivesByte : Pending → Option (List ℕ) → Pending → Option (List ℕ) → ℕ → Type 0
+GivesByte old before new after byte = Consumes (bytes_left old before) (bytes_left new after) (byte ∷ []) × (new.given ≡ old.given + 1)
 
 abbrev pub IsFirstLine : List ℕ → List ℕ → Option (List ℕ) → Type 0
 IsFirstLine line xs None = ⊥
@@ -41,6 +51,10 @@ pub record LineRead (old new : Option (List ℕ)) (before after : ℕ) (line : L
   pub consumed : Consumes old new text
   pub counted : after ≡ before + length text
   pub some : before < after
+
+-- A line has been read of what was to come, and is given.
+abbrev pub ReadsLine : Pending → Option (List ℕ) → Pending → Option (List ℕ) → List ℕ → Type 0
+ReadsLine old before new after line = LineRead (bytes_left old before) (bytes_left new after) old.given new.given line
 
 -- After so many bytes, what is to come goes past the limit, where it is known.
 abbrev pub IsOver : Option (List ℕ) → ℕ → Type 0

@@ -2,7 +2,7 @@
 ghost use Rattle.std.specs.Prelude.{◌≡◌, OnOk};
 ghost use Rattle.std.specs.Io.KnownBytes.{IsAtEnd};
 ghost use Rattle.fs_model.specs.States.{State};
-ghost use Rattle.fs_system.specs.Seen.{IsIn};
+ghost use Rattle.fs_system.specs.Seen.{IsIn, IsInSomeState};
 ghost use Rattle.fs_system.specs.Serving.{Serves};
 ghost use Rattle.fs_system.specs.Replies.{spawned};
 ghost use Rattle.fs_shell.specs.Runs.{LineAnswers, Ran};
@@ -27,7 +27,7 @@ pub fn run<R: Read, W: Write, D: Disk>(
     writer: &mut W,
     fs: &mut Fs<D>,
 ) -> Result<Count, RunFault>
-    requires { (s : State) × IsIn D.state fs.old s }
+    requires { IsInSomeState D.state fs.old }
     ensures ran { (s : State) → IsIn D.state fs.old s → (t : State) × IsIn D.state fs.new t
         × Ran Serves (R.remaining reader.old) (W.contents writer.old) (W.contents writer.new) s t result }
     ensures end { OnOk result (IsAtEnd (R.remaining reader.new)) }
@@ -53,7 +53,7 @@ pub fn run<R: Read, W: Write, D: Disk>(
 
 // Performs a line, if nothing is wrong with it.
 fn perform<D: Disk>(alloc: Global, fs: &mut Fs<D>, line: &[u8]) -> Answer
-    requires { (s : State) × IsIn D.state fs.old s }
+    requires { IsInSomeState D.state fs.old }
     ensures { (s : State) → IsIn D.state fs.old s → (t : State) × IsIn D.state fs.new t × LineAnswers Serves line.now s result t }
 {
     match parse_line(alloc, line) {

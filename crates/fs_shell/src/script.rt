@@ -1,8 +1,8 @@
 //! Reads a script, a line at a time.
 ghost use Rattle.std.specs.Prelude.{◌≡◌, ◌≢◌, ◌+◌, ◌<◌, ◌≤◌, ◌∷◌, [], true, false, Ok, IfOk, IfErr, OnOk, MatchOption};
-ghost use Rattle.std.specs.Io.KnownBytes.{Keeps, Consumes, IsAtEnd};
+ghost use Rattle.std.specs.Io.KnownBytes.{Keeps, IsAtEnd};
 ghost use Rattle.fs_shell.specs.declared.fault.RunFault.TheVariants.{ReadFault, TooMuch};
-ghost use Rattle.fs_shell.specs.Scripts.{bytes_left, script_limit, IsOver, LineRead};
+ghost use Rattle.fs_shell.specs.Scripts.{bytes_left, script_limit, FindsEnd, GivesByte, IsOver, ReadsLine};
 
 use crate::fault::RunFault;
 use crate::line::MAX_LINE;
@@ -58,8 +58,7 @@ impl Pending {
         reader: &mut R,
         line: &mut Vec<u8>,
     ) -> Result<bool, RunFault>
-        ensures line { result ≡ Ok true → LineRead (bytes_left self.old (R.remaining reader.old)) (bytes_left self.new (R.remaining reader.new))
-            self.old.given self.new.given line.new.items }
+        ensures line { result ≡ Ok true → ReadsLine self.old (R.remaining reader.old) self.new (R.remaining reader.new) line.new.items }
         ensures end { result ≡ Ok false → IsAtEnd (bytes_left self.old (R.remaining reader.old)) × IsAtEnd (R.remaining reader.new)
             × (self.new.given ≡ self.old.given) }
         ensures limit { self.new.given ≤ script_limit }
@@ -80,11 +79,8 @@ impl Pending {
     // The next byte, or none at the end.
     fn next_byte<R: Read>(&mut self, reader: &mut R) -> Result<Option<u8>, RunFault>
         ensures ok { IfOk result (λ found. MatchOption found
-            (IsAtEnd (bytes_left self.old (R.remaining reader.old)) × IsAtEnd (R.remaining reader.new)
-            × Keeps (bytes_left self.old (R.remaining reader.old)) (bytes_left self.new (R.remaining reader.new))
-            × (self.new.given ≡ self.old.given))
-            (λ byte. Consumes (bytes_left self.old (R.remaining reader.old)) (bytes_left self.new (R.remaining reader.new)) (byte ∷ [])
-            × (self.new.given ≡ self.old.given + 1))) }
+            (FindsEnd self.old (R.remaining reader.old) self.new (R.remaining reader.new))
+            (GivesByte self.old (R.remaining reader.old) self.new (R.remaining reader.new))) }
         ensures limit { self.new.given ≤ script_limit }
         ensures over { IfErr result (λ fault. fault ≡ TooMuch → IsOver (bytes_left self.old (R.remaining reader.old)) self.old.given) }
     {

@@ -1,11 +1,9 @@
 //! Scripts with their replies, over disks of which one call fails and over readers of several kinds; and the text of
 //! each reply.
 
-ghost use Rattle.std.specs.Prelude.{ℕ, IfOk};
-ghost use Rattle.fs_model.specs.Trees.{Tree, Room};
-ghost use Rattle.fs_model.specs.States.{State};
-ghost use Rattle.fs_system.specs.Mounting.{IsMountable};
-ghost use Rattle.fs_system.specs.Seen.{IsIn};
+ghost use Rattle.std.specs.Prelude.{IfOk};
+ghost use Rattle.fs_system.specs.Mounting.{MayBeMounted};
+ghost use Rattle.fs_system.specs.Seen.{IsInSomeState};
 
 use crate::{Count, Line, LineFault, RunFault, fault_text, parse_line, reply_text, run};
 use fs_cred::{Denial, Errno, Need, Refusal, Rule};
@@ -22,7 +20,7 @@ use std::test::Fail;
 
 // An empty file system on the disk, with 64 inodes.
 fn mounted<D: Disk + Drop>(alloc: Global, mut disk: D) -> Result<Fs<D>, Fail>
-    ensures { IfOk result (λ fs. (s : State) × IsIn D.state fs s) }
+    ensures { IfOk result (IsInSomeState D.state) }
 {
     mkfs(&mut disk, 64)?;
     a_new_disk_is_mountable::<D>();
@@ -30,8 +28,8 @@ fn mounted<D: Disk + Drop>(alloc: Global, mut disk: D) -> Result<Fs<D>, Fail>
 }
 
 fn mounted_from<D: Disk + Drop>(alloc: Global, disk: D) -> Result<Fs<D>, Fail>
-    requires { (room : Room) × (t : Tree) × (free : ℕ) × IsMountable (D.state disk) room t free }
-    ensures { IfOk result (λ fs. (s : State) × IsIn D.state fs s) }
+    requires { MayBeMounted (D.state disk) }
+    ensures { IfOk result (IsInSomeState D.state) }
 {
     match Fs::mount(alloc, disk) {
         Ok(fs) => Ok(fs),
@@ -41,8 +39,8 @@ fn mounted_from<D: Disk + Drop>(alloc: Global, disk: D) -> Result<Fs<D>, Fail>
 
 // The file system on the same disk, after an unmount that has to be in order.
 fn mounted_again<D: Disk + Drop>(alloc: Global, fs: Fs<D>) -> Result<Fs<D>, Fail>
-    requires { (s : State) × IsIn D.state fs s }
-    ensures { IfOk result (λ fs. (s : State) × IsIn D.state fs s) }
+    requires { IsInSomeState D.state fs }
+    ensures { IfOk result (IsInSomeState D.state) }
 {
     match fs.unmount() {
         (disk, None) => mounted_from(alloc, disk),
@@ -137,8 +135,8 @@ fn push_run<R: Read, D: Disk>(
     reader: &mut R,
     fs: &mut Fs<D>,
 ) -> Result<(), AllocError>
-    requires { (s : State) × IsIn D.state fs.old s }
-    ensures { (s : State) × IsIn D.state fs.new s }
+    requires { IsInSomeState D.state fs.old }
+    ensures { IsInSomeState D.state fs.new }
 {
     let mut written = Vec::new(alloc);
     let outcome = run(alloc, reader, &mut written, fs);

@@ -1,6 +1,6 @@
 -- chmod of the root, by its ends.
-use Rattle.std.proofs.Common.{◌≡◌, ◌≤◌, ◌<◌, ◌+◌, ◌/◌, ◌%◌, ℕ, List, Bool, true, false, cond, Some, Result, Ok, Err, refl, sym, ap, subst, ◌∙◌, arith, inl, inr, ⊎_elim, nat_lt}
-use Rattle.std.specs.Prelude.{IsFalse, slice_set, ◌==◌, ◌&&◌, ◌||◌, OnErr, if◌then◌else◌}
+use Rattle.std.proofs.Common.{◌≡◌, ◌≤◌, ◌<◌, ◌+◌, ◌/◌, ◌%◌, ℕ, List, Bool, true, false, cond, Some, refl, sym, ap, subst, ◌∙◌, arith, inl, inr, ⊎_elim, nat_lt}
+use Rattle.std.specs.Prelude.{IsFalse, slice_set, ◌==◌, ◌&&◌, ◌||◌, if◌then◌else◌}
 use Rattle.std.specs.Ordering.{nat_cmp}
 use Rattle.std.proofs.lemmas.Bool.Decides.{nat_tests}
 use Rattle.posix_acl.specs.AccessList.{minimal}
@@ -38,10 +38,6 @@ use Rattle.fs_system.proofs.RootSaved.{was_held, mode_fits, stands_now, same_pla
 use Rattle.fs_system.proofs.ChmodSteps.{moded_directory, new_tree, new_tree_is, new_state, new_state_is, root_now, new_nameless, chmod_unread, chmod_bad, chmods, chmod_halts, chmod_adds, chmod_denied}
 use Rattle.fs_system.proofs.Writing.{does_write}
 
-pub on_err : {A E : Type 0} (r : Result A E) (P : Type 0) → P → OnErr r P
-on_err (Ok x) P p = tt
-on_err (Err e) P p = p
-
 small_mode : (mode : ℕ) → mode ≤ 4095 → nat_lt 4095 mode ≡ false
 small_mode mode le = grind (arith, nat_tests)
 
@@ -77,11 +73,17 @@ chmod_ends_bad disk only_now place desks s pid cred r up at path mode big =
 
 -- ---- after the read
 
+-- the root's inode, in the table of the tree
+stored_there : (old : DiskState) (place : Place) (desks : Desks) (s : State) (r : IsRunning old place desks s) (v : Inode) → v ≡ inode_at place (sector old.seen) root
+    → v ≡ inode_at r.whole.stands.place (sector old.seen) root
+stored_there old place desks s r v exact = exact ∙ ap (λ (p : Place). inode_at p (sector old.seen) root) (sym r.same_place)
+
 -- the inode with other bits can be written
 pub saved_is_inode_of : (old : DiskState) (place : Place) (desks : Desks) (s : State) (r : IsRunning old place desks s) (v : Inode) → ShowsRoot s.tree v
-    → v ≡ inode_at r.whole.stands.place (sector old.seen) root → FitsInode v → (bits : ℕ) → bits ≤ 2047 → IsInode (record v { mode = bits })
+    → v ≡ inode_at place (sector old.seen) root → FitsInode v → (bits : ℕ) → bits ≤ 2047 → IsInode (record v { mode = bits })
 saved_is_inode_of old place desks s r v shows exact fits bits few =
-    (mode_fits v bits fits (was_held old.seen s.room s.tree s.free r.whole.stands r.whole.idle v exact fits shows).body.names.kind few).valid
+    let there = stored_there old place desks s r v exact in
+    (mode_fits v bits fits (was_held old.seen s.room s.tree s.free r.whole.stands r.whole.idle v there fits shows).body.names.kind few).valid
 
 module _ (old mid : DiskState) (only_now : (image : Image) → old.left_since old.moment image → IsImage old image) (seen_is : IsImage old old.seen)
     (same : IsSame old mid) (time : Elapses old mid) (later : old.failures ≤ mid.failures) (quiet : mid.failed_writes ≡ old.failed_writes)
@@ -113,7 +115,10 @@ module _ (old mid : DiskState) (only_now : (image : Image) → old.left_since ol
           (chmod_denied s r.is_state up v shows pid mode found.0 found.1 (small_mode mode le) (ap (λ c. may_own c v.uid) found.2 ∙ own)) refl (λ io _. absurd cc),
     )
 
-    module _ (exact : v ≡ inode_at r.whole.stands.place (sector old.seen) root) (fits : FitsInode v) where
+    module _ (exact : v ≡ inode_at place (sector old.seen) root) (fits : FitsInode v) where
+      there : v ≡ inode_at r.whole.stands.place (sector old.seen) root
+      there = stored_there old place desks s r v exact
+
       module _ (owns : may_own cred v.uid ≡ true) (bits : ℕ) (bits_are : bits ≡ shown_bits mode (is_superuser cred || is_member cred v.gid))
           (content : List ℕ) (is : content ≡ splice (sector old.seen place.table) 128 (inode_bytes (record v { mode = bits }))) where
         own : may_own found.0.cred v.uid ≡ true
@@ -152,9 +157,9 @@ module _ (old mid : DiskState) (only_now : (image : Image) → old.left_since ol
             let tree_is = new_tree_is s r.is_state up v shows pid mode found.0 found.1 (small_mode mode le) in
             subst (λ (k : ℕ). StandsWith s.room tree' s.free place (slice_set old.seen k content)) table_is
             (record {
-              stands = stands_now old.seen s.room s.tree s.free st idle v exact fits shows mode bits sticky group_id bits_shown few content content_is tree_is;
-              same_place = same_place_now old.seen s.room s.tree s.free st idle v exact fits shows mode bits sticky group_id bits_shown few content content_is tree_is ∙ r.same_place;
-              idle = idle_now old.seen s.room s.tree s.free st idle v exact fits shows mode bits sticky group_id bits_shown few content content_is tree_is;
+              stands = stands_now old.seen s.room s.tree s.free st idle v there fits shows mode bits sticky group_id bits_shown few content content_is tree_is;
+              same_place = same_place_now old.seen s.room s.tree s.free st idle v there fits shows mode bits sticky group_id bits_shown few content content_is tree_is ∙ r.same_place;
+              idle = idle_now old.seen s.room s.tree s.free st idle v there fits shows mode bits sticky group_id bits_shown few content content_is tree_is;
             })
 
         -- the write failed, or the sync

@@ -1,5 +1,5 @@
 -- What an event ends in: a state, and what was done.
-use Rattle.std.proofs.Common.{◌≡◌, ◌≤◌, ◌<◌, ℕ, [], length, Bool, true, false, None, IsTrue, refl, sym, ap, subst, ◌∙◌, arith, inl}
+use Rattle.std.proofs.Common.{◌≡◌, ◌≤◌, ◌<◌, ℕ, [], length, Bool, true, false, None, Some, IsTrue, refl, sym, ap, subst, ◌∙◌, arith, inl}
 use Rattle.std.specs.Prelude.{IsFalse, ◌&&◌}
 use Rattle.std.specs.Ordering.{nat_cmp}
 use Rattle.sector_disk.specs.Disk.{DiskState, Image, sector, IsImage, IsSame, IsStable, IsNarrowed, Elapses, LeavesOnly, HasFailed, HasFailedToWrite}
@@ -25,7 +25,8 @@ use Rattle.fs_model.proofs.Taken.{free_within_bounds}
 use Rattle.fs_model.proofs.Unchanged.{nothing_to_drop}
 use Rattle.fs_system.specs.Standing.{StandsFor, EachStandsFor}
 use Rattle.fs_system.specs.Doing.{Does, IsFound}
-use Rattle.fs_system.specs.Seen.{IsWhole, IsRunning, IsRooted}
+use Rattle.fs_system.specs.Seen.{System, IsWhole, IsRunning, IsRooted, IsIn}
+use Rattle.fs_system.specs.Rooted.{Performs}
 use Rattle.fs_system.specs.Table.{cred_at}
 use Rattle.fs_system.specs.Playing.{IsMounted, Mounts}
 use Rattle.fs_system.specs.Mounting.{IsMountable}
@@ -108,6 +109,22 @@ module _ (disk : DiskState) (only_now : (image : Image) → disk.left_since disk
             },
             does_nothing disk s t (Spawn cred) (Pid pid) only_now (λ up. up) (spawns s running.is_state up cred valid pid none less) refl (λ io _. absurd cc),
           )
+
+-- ---- a call that was performed on the parts of a file system, seen as one of the file system
+
+module _ {D : Type 0} (state : D → DiskState) (only_now : (disk : D) (image : Image) → (state disk).left_since (state disk).moment image → IsImage (state disk) image)
+    (inside fs : System D) (view_is : inside ≡ fs) (now : D) (s : State) (pid : ℕ) (cred : Credential) where
+  pub ends_performed : (call asked : Call) → call ≡ asked → (halts after : Bool) → after ≡ halts → (reply : Reply) → inside.halted ≡ false
+      → cred_at inside.desks pid ≡ Some cred → Performs (state inside.disk) (state now) inside.place cred asked halts reply → IsIn state fs s
+      → Ends (state fs.disk) (state now) inside.place inside.desks after s (Calls pid call) reply
+  ends_performed call asked same_call halts after same_halts reply runs there performs is =
+      let old = state inside.disk in
+      let here : IsRooted old inside.place inside.desks inside.halted s = subst (λ x. IsIn state x s) (sym view_is) is in
+      let ends = performs inside.desks s pid (running old (only_now inside.disk) inside.place inside.desks s inside.halted runs here)
+      (up old (only_now inside.disk) inside.place inside.desks s inside.halted runs here) there in
+      let called = subst (λ (k : Call). Ends old (state now) inside.place inside.desks halts s (Calls pid k) reply) (sym same_call) ends in
+      let goes = subst (λ (h : Bool). Ends old (state now) inside.place inside.desks h s (Calls pid call) reply) (sym same_halts) called in
+      subst (λ (x : System D). Ends (state x.disk) (state now) inside.place inside.desks after s (Calls pid call) reply) view_is goes
 
 -- ---- the disk has not changed
 

@@ -1,5 +1,5 @@
 -- A new disk may be mounted.
-use Rattle.std.proofs.Common.{◌≡◌, ℕ, ◌-◌, [], length, Bool, true, false, cond, Some, None, refl, ap, subst, arith}
+use Rattle.std.proofs.Common.{◌≡◌, ℕ, ◌-◌, [], length, Bool, true, false, cond, Some, None, refl, ap, subst}
 use Rattle.std.specs.Ordering.{nat_cmp, is_eq}
 use Rattle.posix_acl.specs.AccessList.{minimal}
 use Rattle.sector_disk.specs.Disk.{DiskState, sector, IsStable}

@@ -150,9 +150,12 @@ module _ (disk : DiskState) (place : Place) (s : State) (desks : Desks) (r : IsR
       let b : st.place.table ≡ place.table = ap (λ (p : Place). p.table) r.same_place in
       ap (λ (k : ℕ). inode_of (window (sector disk.seen k) 128 128)) (sym b) ∙ root_read disk.seen s.room s.tree s.free st r.whole.idle
 
-  pub is_root_inode : (v : Inode) → Ok v ≡ inode_of (window (sector disk.seen place.table) 128 128) → v ≡ inode_at r.whole.stands.place (sector disk.seen) root
-  is_root_inode v read = same_ok v _ _ (sym read) root_is_read
+  inode_read : (v : Inode) → Ok v ≡ inode_of (window (sector disk.seen place.table) 128 128) → v ≡ inode_at st.place (sector disk.seen) root
+  inode_read v read = same_ok v _ _ (sym read) root_is_read
+
+  pub is_root_inode : (v : Inode) → Ok v ≡ inode_of (window (sector disk.seen place.table) 128 128) → v ≡ inode_at place (sector disk.seen) root
+  is_root_inode v read = inode_read v read ∙ ap (λ (p : Place). inode_at p (sector disk.seen) root) r.same_place
 
   pub what_is_read : (v : Inode) → Ok v ≡ inode_of (window (sector disk.seen place.table) 128 128) → ShowsRoot s.tree v
   what_is_read v read =
-      subst (ShowsRoot s.tree) (sym (is_root_inode v read)) (root_shown disk.seen s.room s.tree s.free st r.whole.idle r.whole.plain_root)
+      subst (ShowsRoot s.tree) (sym (inode_read v read)) (root_shown disk.seen s.room s.tree s.free st r.whole.idle r.whole.plain_root)

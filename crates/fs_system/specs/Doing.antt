@@ -2,6 +2,7 @@
 --     Adds        the one tree that an event adds to those that a stop may leave
 --     IsFound        what a stop may leave meanwhile
 --     Does        the whole
+--     Happens, HappensLast        the same of a file system, whichever state it was in
 use Rattle.std.specs.Prelude.{◌≡◌, ◌≤◌, ◌⊎◌, ℕ, IsTrue, IsFalse}
 use Rattle.sector_disk.specs.Disk.{DiskState, Image, IsImage, IsSame, LeavesOnly, HasFailed, HasFailedToWrite}
 use Rattle.fs_model.specs.declared.event.Event.{Event}
@@ -12,6 +13,7 @@ use Rattle.fs_model.specs.Steps.{Choice, after, tree_after}
 use Rattle.fs_model.specs.Stops.{Halts, makes_stable, is_io_error}
 use Rattle.fs_system.specs.Standing.{StandsFor, StandsAs, EachStandsFor}
 use Rattle.fs_system.specs.Serving.{Serves}
+use Rattle.fs_system.specs.Seen.{System, IsIn}
 
 -- The tree is the one after the event, or where that halts the machine, the one that its effect would have given.
 abbrev pub Adds : State → Event → State → Tree → Type 0
@@ -42,3 +44,12 @@ pub record Does (before now : DiskState) (old : State) (e : Event) (reply : Repl
   pub later : before.failures ≤ now.failures
   -- a halted one leaves the disk as it is
   pub still : IsTrue old.halted → IsSame before now
+
+-- In each state that the file system was in the event happened, with this reply, and it is in the state after it.
+abbrev pub Happens : {D : Type 0} → (D → DiskState) → System D → System D → Event → Reply → Type 0
+Happens state old new e reply =
+    (s : State) → IsIn state old s → (t : State) × IsIn state new t × Does (state old.disk) (state new.disk) s e reply t
+
+-- the same of its last event, which leaves the disk alone
+abbrev pub HappensLast : {D : Type 0} → (D → DiskState) → System D → D → Event → Reply → Type 0
+HappensLast state old now e reply = (s : State) → IsIn state old s → (t : State) × Does (state old.disk) (state now) s e reply t

@@ -1,11 +1,12 @@
 -- What mkfs makes, and what it refuses.
 --     is_out_of, mkfs_refusal        a number out of its range; the first refusal
+--     IsDeviceFault        it failed since the device did
 --     IsNewDisk        the image of a new disk
---     HasNoSuperblock, IsHalfMade        what a stop may leave meanwhile
+--     HasNoSuperblock, IsHalfCleared, IsHalfDone, IsHalfMade        what a stop may leave meanwhile
 --     BehindSuperblock        what the steps may write, and where
 --     HoldsNewTables, IsCleared, IsPrepared        the disk after each step
 use Rattle.std.specs.Prelude.{◌≡◌, ◌⊎◌, ℕ, ◌+◌, ◌-◌, ◌<◌, ◌≤◌, Bool, nat_lt, ◌||◌, List, [], length, Option, Some, None, if◌then◌else◌}
-use Rattle.sector_disk.specs.Disk.{DiskState, Image, sector, IsImage, IsStable}
+use Rattle.sector_disk.specs.Disk.{DiskState, Image, sector, HasFailed, IsImage, IsStable}
 use Rattle.fs_layout.specs.declared.place.Place.{Place}
 use Rattle.fs_layout.specs.Bytes.{zeros}
 use Rattle.fs_layout.specs.Commit.{commit_bytes}
@@ -13,7 +14,7 @@ use Rattle.fs_layout.specs.Place.{laid_out, the_place}
 use Rattle.fs_model.specs.NewDisk.{empty_tree, IsNewImage}
 use Rattle.fs_model.specs.Stands.{room_of}
 use Rattle.fs_system.specs.declared.faults.MkfsFault.{MkfsFault}
-use Rattle.fs_system.specs.declared.faults.MkfsFault.TheVariants.{BadSize, BadInodes, TooSmall}
+use Rattle.fs_system.specs.declared.faults.MkfsFault.TheVariants.{BadSize, BadInodes, TooSmall, DiskFault}
 use Rattle.fs_system.specs.NewTables.{IsNewTable}
 use Rattle.fs_system.specs.Standing.{StandsFor}
 
@@ -28,6 +29,10 @@ mkfs_refusal sectors inodes =
     (if is_out_of 16 4096 inodes then Some BadInodes else
     (if nat_lt sectors ((laid_out sectors inodes).first_data + 64) then Some TooSmall else None))
 
+-- the device has failed since
+abbrev pub IsDeviceFault : DiskState → DiskState → MkfsFault → Type 0
+IsDeviceFault before now fault = (fault ≡ DiskFault) × HasFailed before now
+
 -- The image is that of a new disk with so many inodes: it stands for an empty root, and all its data sectors are free.
 pub record IsNewDisk (inodes : ℕ) (image : Image) : Type 0 where
   pub place : Place
@@ -39,9 +44,17 @@ pub record IsNewDisk (inodes : ℕ) (image : Image) : Type 0 where
 abbrev pub HasNoSuperblock : Image → Type 0
 HasNoSuperblock image = sector image 0 ≡ zeros 512
 
--- what a stop may leave while a new disk is made: what it might have left before, no superblock, or the new disk
+-- what a stop may leave while the superblock is cleared: what it might have left before, or no superblock
+abbrev pub IsHalfCleared : DiskState → Image → Type 0
+IsHalfCleared before image = IsImage before image ⊎ HasNoSuperblock image
+
+-- while it is written again: no superblock, or the new disk
+abbrev pub IsHalfDone : ℕ → Image → Type 0
+IsHalfDone inodes image = HasNoSuperblock image ⊎ IsNewDisk inodes image
+
+-- in the whole: what it might have left before, no superblock, or the new disk
 abbrev pub IsHalfMade : DiskState → ℕ → Image → Type 0
-IsHalfMade before inodes image = IsImage before image ⊎ (HasNoSuperblock image ⊎ IsNewDisk inodes image)
+IsHalfMade before inodes image = IsImage before image ⊎ IsHalfDone inodes image
 
 -- ---- what the steps may write, and where
 -- any content in any sector but the first

@@ -1,5 +1,5 @@
 -- What a mount asks for now, and what it says where it fails.
---     IsMountable        what is asked of the disk
+--     IsMountable, MayBeMounted        what is asked of the disk
 --     disk_after_mount        the disk, also after a fault
 --     HasReason        why it failed
 use Rattle.std.specs.Prelude.{ℕ, [], Result, Ok, Err}
@@ -14,6 +14,10 @@ use Rattle.fs_system.specs.Seen.{System, IsWhole}
 pub record IsMountable (disk : DiskState) (room : Room) (t : Tree) (free : ℕ) : Type 0 where
   pub whole : IsWhole disk room t free
   pub no_nameless : FitsTree t []
+
+-- for some tree
+abbrev pub MayBeMounted : DiskState → Type 0
+MayBeMounted disk = (room : Room) × (t : Tree) × (free : ℕ) × IsMountable disk room t free
 
 -- the disk, also after a fault
 abbrev pub disk_after_mount : {D : Type 0} → Result (System D) (MountFault × D) → D

@@ -19,7 +19,7 @@ use Rattle.fs_model.specs.Changes.{pruned}
 use Rattle.fs_model.specs.States.{State, MayBeFree}
 use Rattle.fs_model.specs.Steps.{is_of_machine}
 use Rattle.fs_model.specs.Stops.{Machine, MachineRun}
-use Rattle.fs_system.specs.Standing.{StandsFor, StandsAsPruned, EachStandsFor, Covers}
+use Rattle.fs_system.specs.Standing.{StandsFor, StandsForSome, StandsAsPruned, EachStandsFor, Covers}
 use Rattle.fs_system.specs.Serving.{path_of, the_root}
 use Rattle.fs_system.specs.Doing.{Does}
 
@@ -37,7 +37,7 @@ pub record IsMounted (now : DiskState) (room : Room) (tree : Tree) (s : State) :
 
 -- A mount finds the tree for which the disk stands.
 pub record Mounts (before now : DiskState) (s : State) : Type 0 where
-  pub some : (room : Room) × (tree : Tree) × (free : ℕ) × StandsFor room before.seen tree free
+  pub some : StandsForSome before.seen
   pub each : (room : Room) (tree : Tree) (free : ℕ) → StandsFor room before.seen tree free → IsMounted now room tree s
   pub later : before.failures ≤ now.failures
 

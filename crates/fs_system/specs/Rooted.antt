@@ -1,16 +1,19 @@
 -- What the root's inode says of a tree.
 --     is_the_root        whether a path is the root's
---     ShowsRoot        what an inode says of the root
+--     ShowsRoot, ShowsRootOf        what an inode says of the root
 --     IsOldOr        an image of before, or with one sector written
---     Performs        what a call does in each state
-use Rattle.std.specs.Prelude.{◌≡◌, ◌⊎◌, slice_set, ℕ, ◌*◌, ◌==◌, Bool, false, List, [], ◌∷◌, length, Some, IsFalse}
+--     Performs, PerformsOrHalts        what a call does in each state
+use Rattle.std.specs.Prelude.{◌≡◌, ◌⊎◌, slice_set, ℕ, ◌*◌, ◌==◌, Bool, true, false, List, [], ◌∷◌, length, Some, IsFalse, Result, MatchResult}
 use Rattle.posix_acl.specs.AccessList.{minimal}
 use Rattle.sector_disk.specs.Disk.{DiskState, Image}
 use Rattle.fs_layout.specs.declared.place.Place.{Place}
 use Rattle.fs_layout.specs.declared.inode.Inode.{Inode}
 use Rattle.fs_cred.specs.Credentials.{Credential}
+use Rattle.fs_cred.specs.declared.errno.Errno.TheVariants.{EIO}
+use Rattle.fs_cred.specs.declared.refusal.Refusal.TheVariants.{Failed}
 use Rattle.fs_model.specs.declared.call.Call.{Call}
 use Rattle.fs_model.specs.declared.reply.Reply.{Reply}
+use Rattle.fs_model.specs.declared.reply.Reply.TheVariants.{Refused}
 use Rattle.fs_model.specs.declared.event.Event.TheVariants.{Call as Calls}
 use Rattle.fs_model.specs.Limits.{root}
 use Rattle.fs_model.specs.Nodes.{Directory, Dir, shown_mode}
@@ -33,6 +36,10 @@ pub record ShowsRoot (t : Tree) (v : Inode) : Type 0 where
   pub mode : v.mode ≡ shown_mode (Dir (minimal v.mode) directory)
   pub size : v.size ≡ 128 * length directory.names
 
+-- the same of the root of a file system that goes on, in whichever state
+abbrev pub ShowsRootOf : DiskState → Place → Inode → Type 0
+ShowsRootOf disk place v = (desks : Desks) (s : State) → IsRunning disk place desks s → ShowsRoot s.tree v
+
 -- the image of before, or the one with the content in a sector
 abbrev pub IsOldOr : Image → ℕ → List ℕ → Image → Type 0
 IsOldOr old n content image = (image ≡ old) ⊎ (image ≡ slice_set old n content)
@@ -42,3 +49,8 @@ abbrev pub Performs : DiskState → DiskState → Place → Credential → Call 
 Performs before now place cred call halted reply =
     (desks : Desks) (s : State) (pid : ℕ) → IsRunning before place desks s → IsFalse s.halted → cred_at desks pid ≡ Some cred
     → (t : State) × IsRooted now place desks halted t × Does before now s (Calls pid call) reply t
+
+-- The same of what it comes to: at `Err` the reply is EIO, and the file system halts.
+abbrev pub PerformsOrHalts : {E : Type 0} → DiskState → DiskState → Place → Credential → Call → Result Reply E → Type 0
+PerformsOrHalts before now place cred call result =
+    MatchResult result (Performs before now place cred call false) (λ fault. Performs before now place cred call true (Refused (Failed EIO)))

@@ -1,8 +1,9 @@
 -- How a file system is seen.
 --     System        what a contract sees of one
 --     HasPlainRoot, IsWhole        a tree whose root has its base entries alone; a disk at rest that stands for a tree
---     IsRunning, IsRooted        what is true of the parts of one in a state
---     IsIn        the file system is in this state
+--     IsRunning, IsInUse, IsRooted        what is true of the parts of one in a state
+--     IsIn, IsInSomeState        the file system is in this state, or in some
+--     Lasts        a stop leaves the present tree
 use Rattle.std.specs.Prelude.{◌≡◌, ℕ, Bool, [], Some, IsFalse, false}
 use Rattle.posix_acl.specs.AccessList.{AccessList, is_extended}
 use Rattle.sector_disk.specs.Disk.{DiskState, sector, IsStable}
@@ -13,7 +14,7 @@ use Rattle.fs_model.specs.Nodes.{Node, Directory, Dir}
 use Rattle.fs_model.specs.Trees.{Tree, Room, node_at}
 use Rattle.fs_model.specs.Processes.{Desks}
 use Rattle.fs_model.specs.States.{State, IsState, FitsTree}
-use Rattle.fs_system.specs.Standing.{StandsFor}
+use Rattle.fs_system.specs.Standing.{StandsFor, EachStandsFor}
 
 -- its disk, where the parts of that lie, its processes, and whether it is halted
 pub record System (D : Type 0) : Type 0 where
@@ -47,6 +48,10 @@ pub record IsRunning (disk : DiskState) (place : Place) (desks : Desks) (s : Sta
   pub same_place : whole.stands.place ≡ place
   pub no_nameless : FitsTree s.tree []
 
+-- On a disk whose parts lie so a file system goes on, in some state.
+abbrev pub IsInUse : DiskState → Place → Type 0
+IsInUse disk place = (desks : Desks) × (s : State) × IsRunning disk place desks s
+
 -- Of a halted one nothing more is known.
 pub record IsRooted (disk : DiskState) (place : Place) (desks : Desks) (halted : Bool) (s : State) : Type 0 where
   pub same_halted : s.halted ≡ halted
@@ -55,3 +60,11 @@ pub record IsRooted (disk : DiskState) (place : Place) (desks : Desks) (halted :
 -- the file system is in this state
 abbrev pub IsIn : {D : Type 0} → (D → DiskState) → System D → State → Type 0
 IsIn state fs s = IsRooted (state fs.disk) fs.place fs.desks fs.halted s
+
+-- it is in some state
+abbrev pub IsInSomeState : {D : Type 0} → (D → DiskState) → System D → Type 0
+IsInSomeState state fs = (s : State) × IsIn state fs s
+
+-- while it isn't halted, a stop leaves its tree
+abbrev pub Lasts : {D : Type 0} → (D → DiskState) → System D → Type 0
+Lasts state fs = (s : State) → IsIn state fs s → IsFalse s.halted → EachStandsFor s.room (state fs.disk) s.tree

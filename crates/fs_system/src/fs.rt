@@ -1,17 +1,16 @@
 //! A file system on a disk.
 
-ghost use Rattle.std.specs.Prelude.{◌≡◌, ◌≤◌, ℕ, None, IfOk, IfErr, IsTrue, IsFalse};
+ghost use Rattle.std.specs.Prelude.{◌≡◌, None, IfOk, IfErr, IsTrue};
 ghost use Rattle.sector_disk.specs.Disk.{IsSame, Elapses, HasCause, OnlyReads};
-ghost use Rattle.fs_model.specs.Trees.{Tree, Room};
 ghost use Rattle.fs_model.specs.States.{State};
 ghost use Rattle.fs_model.specs.declared.event.Event.TheVariants.{Spawn, Call as Calls, Sync};
-ghost use Rattle.fs_system.specs.Standing.{StandsFor, EachStandsFor};
+ghost use Rattle.fs_system.specs.Standing.{StandsForSome, HasPartsAt};
 ghost use Rattle.fs_system.specs.Serving.{is_served};
-ghost use Rattle.fs_system.specs.Seen.{IsIn};
-ghost use Rattle.fs_system.specs.Doing.{Does};
+ghost use Rattle.fs_system.specs.Seen.{IsIn, IsInSomeState, Lasts};
+ghost use Rattle.fs_system.specs.Doing.{Happens, HappensLast};
 ghost use Rattle.fs_system.specs.Replies.{spawned, unmounted};
 ghost use Rattle.fs_system.specs.Playing.{Mounts};
-ghost use Rattle.fs_system.specs.Mounting.{IsMountable, disk_after_mount, HasReason};
+ghost use Rattle.fs_system.specs.Mounting.{MayBeMounted, disk_after_mount, HasReason};
 
 use crate::faults::MountFault;
 use crate::processes::Processes;
@@ -48,8 +47,8 @@ impl<D> Model for Fs<D> {
 
 // Reads where the parts of the disk lie.
 fn read_place<D: Disk>(disk: &mut D) -> Result<Place, DiskFault>
-    requires { (room : Room) × (t : Tree) × (free : ℕ) × StandsFor room (D.state disk.old).seen t free }
-    ensures found { IfOk result (λ place. (room : Room) (t : Tree) (free : ℕ) → (stands : StandsFor room (D.state disk.old).seen t free) → stands.place ≡ place) }
+    requires { StandsForSome (D.state disk.old).seen }
+    ensures found { IfOk result (HasPartsAt (D.state disk.old).seen) }
     ensures same { IsSame (D.state disk.old) (D.state disk.new) }
     ensures time { Elapses (D.state disk.old) (D.state disk.new) }
     ensures cause { HasCause (D.state disk.old) (D.state disk.new) result }
@@ -69,7 +68,7 @@ impl<D: Disk> Fs<D> {
     /// The file system that the disk stands for, without processes. An error gives the disk back; it may be mounted
     /// again. Nothing is written, and nothing synced.
     pub fn mount(alloc: Global, disk: D) -> Result<Fs<D>, (MountFault, D)>
-        requires { (room : Room) × (t : Tree) × (free : ℕ) × IsMountable (D.state disk) room t free }
+        requires { MayBeMounted (D.state disk) }
 
         ensures mounted { IfOk result (λ fs. (s : State) × IsIn D.state fs s × Mounts (D.state disk) (D.state fs.disk) s) }
         ensures same { IsSame (D.state disk) (D.state (disk_after_mount result)) }
@@ -95,10 +94,9 @@ impl<D: Disk> Fs<D> {
     ///
     /// EIO where the file system is halted, EAGAIN where there are 64 processes, and ENOMEM.
     pub fn spawn(&mut self, cred: Cred) -> Result<usize, Errno>
-        requires { (s : State) × IsIn D.state self.old s }
+        requires { IsInSomeState D.state self.old }
 
-        ensures { (s : State) → IsIn D.state self.old s → (t : State) × IsIn D.state self.new t
-            × Does (D.state self.old.disk) (D.state self.new.disk) s (Spawn cred) (spawned result) t }
+        ensures { Happens D.state self.old self.new (Spawn cred) (spawned result) }
     {
         if self.halted {
             return Err(Errno::EIO);
@@ -116,14 +114,13 @@ impl<D: Disk> Fs<D> {
     ///
     /// After a read that fails nothing has changed, and the call may be made again.
     pub fn call(&mut self, pid: usize, call: &Call) -> Reply
-        requires in_state { (s : State) × IsIn D.state self.old s }
+        requires in_state { IsInSomeState D.state self.old }
         requires served { IsTrue (is_served call.now) }
 
-        ensures does { (s : State) → IsIn D.state self.old s → (t : State) × IsIn D.state self.new t
-            × Does (D.state self.old.disk) (D.state self.new.disk) s (Calls pid call.now) result t }
+        ensures does { Happens D.state self.old self.new (Calls pid call.now) result }
 
         // A stop after the call leaves what it did.
-        ensures lasting { (t : State) → IsIn D.state self.new t → IsFalse t.halted → EachStandsFor t.room (D.state self.new.disk) t.tree }
+        ensures lasting { Lasts D.state self.new }
     {
         if self.halted {
             return failed(Errno::EIO);
@@ -155,7 +152,7 @@ impl<D: Disk> Fs<D> {
     /// Lets go of what the disk keeps of its past: nothing is said any more of the moments before this one. A call may be
     /// made before and after it, and never at the same time.
     pub fn forget(&mut self)
-        requires { (s : State) × IsIn D.state self.old s }
+        requires { IsInSomeState D.state self.old }
 
         ensures state { (s : State) → IsIn D.state self.old s → IsIn D.state self.new s }
         ensures same { IsSame (D.state self.old.disk) (D.state self.new.disk) }
@@ -166,12 +163,12 @@ impl<D: Disk> Fs<D> {
 
     /// Syncs, and gives the disk back, also with an error: EIO, where the device failed or the file system is halted.
     pub fn unmount(self) -> (D, Option<Errno>)
-        requires { (s : State) × IsIn D.state self s }
+        requires { IsInSomeState D.state self }
 
-        ensures does { (s : State) → IsIn D.state self s → (t : State) × Does (D.state self.disk) (D.state result.0) s Sync (unmounted result.1) t }
+        ensures does { HappensLast D.state self result.0 Sync (unmounted result.1) }
 
         // Without an error the disk may be mounted again.
-        ensures again { result.1 ≡ None → (room : Room) × (t : Tree) × (free : ℕ) × IsMountable (D.state result.0) room t free }
+        ensures again { result.1 ≡ None → MayBeMounted (D.state result.0) }
     {
         let Fs {
             mut disk,

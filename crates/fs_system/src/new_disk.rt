@@ -1,11 +1,11 @@
 //! Making a new file system.
 
-ghost use Rattle.std.specs.Prelude.{◌≡◌, ◌≤◌, ◌<◌, ◌⊎◌, ℕ, [], Some, None, Err, IsErr, OnOk, MatchResult, slice_set};
-ghost use Rattle.sector_disk.specs.Disk.{AddsOnly, HasCause, HasFailed, IsImage, IsImageOr, IsStable, LeavesOnly, sector, IsWrite};
+ghost use Rattle.std.specs.Prelude.{◌≡◌, ◌≤◌, ◌<◌, [], Some, None, Err, IfErr, OnOk, MatchResult, slice_set};
+ghost use Rattle.sector_disk.specs.Disk.{AddsOnly, HasCause, IsImageOr, IsStable, LeavesOnly, sector, IsWrite};
 ghost use Rattle.fs_layout.specs.Commit.{commit_bytes};
 ghost use Rattle.fs_layout.specs.Place.{IsPlace, the_place};
 ghost use Rattle.fs_layout.specs.Superblock.{super_bytes};
-ghost use Rattle.fs_system.specs.Making.{BehindSuperblock, HasNoSuperblock, HoldsNewTables, IsCleared, IsHalfMade, IsNewDisk, IsPrepared, mkfs_refusal};
+ghost use Rattle.fs_system.specs.Making.{BehindSuperblock, HasNoSuperblock, HoldsNewTables, IsCleared, IsDeviceFault, IsHalfCleared, IsHalfDone, IsHalfMade, IsNewDisk, IsPrepared, mkfs_refusal};
 
 use crate::MkfsFault;
 use crate::new_tables::{INODE_BITMAP, table_sector};
@@ -23,7 +23,7 @@ const COMMIT_SECTOR: u32 = 1;
 pub fn mkfs<D: Disk>(disk: &mut D, inodes: u32) -> Result<(), MkfsFault>
     // The first refusal in order; the disk isn't touched.
     ensures refused { (f : MkfsFault) → mkfs_refusal (D.state disk.old).size inodes ≡ Some f → (result ≡ Err f) × (disk.new ≡ disk.old) }
-    ensures fault { mkfs_refusal (D.state disk.old).size inodes ≡ None → IsErr result → (result ≡ Err MkfsFault.DiskFault) × HasFailed (D.state disk.old) (D.state disk.new) }
+    ensures fault { mkfs_refusal (D.state disk.old).size inodes ≡ None → IfErr result (IsDeviceFault (D.state disk.old) (D.state disk.new)) }
     ensures made { OnOk result (IsNewDisk inodes (D.state disk.new).seen) }
     ensures stable { OnOk result (IsStable (D.state disk.new)) }
     ensures any_moment { LeavesOnly (D.state disk.old) (D.state disk.new) (IsHalfMade (D.state disk.old) inodes) }
@@ -67,7 +67,7 @@ fn write_all<D: Disk>(disk: &mut D, place: Place) -> Result<(), DiskFault>
 fn clear_superblock<D: Disk>(disk: &mut D) -> Result<(), DiskFault>
     requires { 0 < (D.state disk.old).size }
     ensures cleared { OnOk result (IsCleared (D.state disk.new)) }
-    ensures any_moment { LeavesOnly (D.state disk.old) (D.state disk.new) (λ image. IsImage (D.state disk.old) image ⊎ HasNoSuperblock image) }
+    ensures any_moment { LeavesOnly (D.state disk.old) (D.state disk.new) (IsHalfCleared (D.state disk.old)) }
     ensures size { (D.state disk.new).size ≡ (D.state disk.old).size }
     ensures cause { HasCause (D.state disk.old) (D.state disk.new) result }
 {
@@ -109,7 +109,7 @@ fn write_superblock<D: Disk>(disk: &mut D, place: Place) -> Result<(), DiskFault
     requires { IsPrepared place (D.state disk.old) }
     ensures made { OnOk result (IsNewDisk place.inodes (D.state disk.new).seen) }
     ensures stable { OnOk result (IsStable (D.state disk.new)) }
-    ensures any_moment { LeavesOnly (D.state disk.old) (D.state disk.new) (λ image. HasNoSuperblock image ⊎ IsNewDisk place.inodes image) }
+    ensures any_moment { LeavesOnly (D.state disk.old) (D.state disk.new) (IsHalfDone place.inodes) }
     ensures size { (D.state disk.new).size ≡ (D.state disk.old).size }
     ensures cause { HasCause (D.state disk.old) (D.state disk.new) result }
 {

@@ -12,9 +12,9 @@ ghost use Rattle.fs_model.specs.declared.reply.Reply.TheVariants.{Refused};
 ghost use Rattle.fs_cred.specs.Credentials.{Credential, is_superuser, is_member};
 ghost use Rattle.fs_cred.specs.declared.errno.Errno.TheVariants.{EIO};
 ghost use Rattle.fs_cred.specs.declared.refusal.Refusal.TheVariants.{Failed};
-ghost use Rattle.fs_system.specs.Seen.{IsRunning};
+ghost use Rattle.fs_system.specs.Seen.{IsInUse};
 ghost use Rattle.fs_system.specs.Serving.{the_root};
-ghost use Rattle.fs_system.specs.Rooted.{ShowsRoot, is_the_root, IsOldOr, Performs};
+ghost use Rattle.fs_system.specs.Rooted.{ShowsRootOf, is_the_root, IsOldOr, Performs, PerformsOrHalts};
 
 use fs_cred::{Cred, Denial, Errno, Need, Node, NodeKind, Refusal, Rule, decide, may_own};
 use fs_layout::{Inode, Place};
@@ -46,11 +46,10 @@ pub(crate) fn failed(errno: Errno) -> Reply
 
 // Reads the root's inode, and the sector that it stands in.
 fn read_root<D: Disk>(disk: &mut D, place: Place, to: &mut [u8; 512]) -> Result<Inode, DiskFault>
-    requires { (desks : Desks) × (s : State) × IsRunning (D.state disk.old) place desks s }
+    requires { IsInUse (D.state disk.old) place }
     ensures content { OnOk result (to.new ≡ sector (D.state disk.old).seen place.table) }
-    ensures found { IfOk result (λ inode. (desks : Desks) (s : State) → IsRunning (D.state disk.old) place desks s → ShowsRoot s.tree inode) }
-    ensures exact { IfOk result (λ inode. (desks : Desks) (s : State) → (runs : IsRunning (D.state disk.old) place desks s)
-        → inode ≡ inode_at runs.whole.stands.place (sector (D.state disk.old).seen) root) }
+    ensures found { IfOk result (ShowsRootOf (D.state disk.old) place) }
+    ensures exact { IfOk result (λ inode. inode ≡ inode_at place (sector (D.state disk.old).seen) root) }
     ensures fits { IfOk result FitsInode }
     ensures same { IsSame (D.state disk.old) (D.state disk.new) }
     ensures time { Elapses (D.state disk.old) (D.state disk.new) }
@@ -81,7 +80,7 @@ fn write_through<D: Disk>(disk: &mut D, n: u32, content: &[u8; 512]) -> Result<(
 
 /// stat, by a process that is there.
 pub(crate) fn stat<D: Disk>(disk: &mut D, place: Place, path: &Path) -> Reply
-    requires { (desks : Desks) × (s : State) × IsRunning (D.state disk.old) place desks s }
+    requires { IsInUse (D.state disk.old) place }
     ensures { (cred : Credential) → Performs (D.state disk.old) (D.state disk.new) place cred (Stat path.now) false result }
 {
     if is_the_root(path) {
@@ -100,7 +99,7 @@ pub(crate) fn access<D: Disk>(
     path: &Path,
     want: Perms,
 ) -> Reply
-    requires { (desks : Desks) × (s : State) × IsRunning (D.state disk.old) place desks s }
+    requires { IsInUse (D.state disk.old) place }
     ensures { Performs (D.state disk.old) (D.state disk.new) place cred.now (Access path.now want) false result }
 {
     if is_the_root(path) {
@@ -111,7 +110,7 @@ pub(crate) fn access<D: Disk>(
 }
 
 fn stat_root<D: Disk>(disk: &mut D, place: Place) -> Reply
-    requires { (desks : Desks) × (s : State) × IsRunning (D.state disk.old) place desks s }
+    requires { IsInUse (D.state disk.old) place }
     ensures { (cred : Credential) → Performs (D.state disk.old) (D.state disk.new) place cred (Stat the_root) false result }
 {
     let mut sector = [0; 512];
@@ -136,7 +135,7 @@ fn access_root<D: Disk>(
     cred: &Cred,
     want: Perms,
 ) -> Reply
-    requires { (desks : Desks) × (s : State) × IsRunning (D.state disk.old) place desks s }
+    requires { IsInUse (D.state disk.old) place }
     ensures { Performs (D.state disk.old) (D.state disk.new) place cred.now (Access the_root want) false result }
 {
     let mut sector = [0; 512];
@@ -174,9 +173,8 @@ pub(crate) fn chmod<D: Disk>(
     path: &Path,
     mode: u16,
 ) -> Result<Reply, DiskFault>
-    requires { (desks : Desks) × (s : State) × IsRunning (D.state disk.old) place desks s }
-    ensures done { IfOk result (Performs (D.state disk.old) (D.state disk.new) place cred.now (Chmod path.now mode) false) }
-    ensures halts { OnErr result (Performs (D.state disk.old) (D.state disk.new) place cred.now (Chmod path.now mode) true (Refused (Failed EIO))) }
+    requires { IsInUse (D.state disk.old) place }
+    ensures { PerformsOrHalts (D.state disk.old) (D.state disk.new) place cred.now (Chmod path.now mode) result }
 {
     if mode > ALL_MODE_BITS {
         return Ok(failed(Errno::EINVAL));
@@ -214,10 +212,9 @@ fn chmod_root<D: Disk>(
     cred: &Cred,
     mode: u16,
 ) -> Result<Reply, DiskFault>
-    requires in_state { (desks : Desks) × (s : State) × IsRunning (D.state disk.old) place desks s }
+    requires in_use { IsInUse (D.state disk.old) place }
     requires mode { mode ≤ 4095 }
-    ensures done { IfOk result (Performs (D.state disk.old) (D.state disk.new) place cred.now (Chmod the_root mode) false) }
-    ensures halts { OnErr result (Performs (D.state disk.old) (D.state disk.new) place cred.now (Chmod the_root mode) true (Refused (Failed EIO))) }
+    ensures { PerformsOrHalts (D.state disk.old) (D.state disk.new) place cred.now (Chmod the_root mode) result }
 {
     let mut sector = [0; 512];
     let Ok(inode) = read_root(disk, place, &mut sector) else {

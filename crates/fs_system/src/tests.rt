@@ -1,11 +1,9 @@
 //! What no clause says of a file system whose disk fails, is stopped, or is handed back. Calls and their replies are
 //! shown by the scripts of the shell.
 
-ghost use Rattle.std.specs.Prelude.{ℕ, IfOk};
-ghost use Rattle.fs_model.specs.Trees.{Tree, Room};
-ghost use Rattle.fs_model.specs.States.{State};
-ghost use Rattle.fs_system.specs.Mounting.{IsMountable};
-ghost use Rattle.fs_system.specs.Seen.{IsIn};
+ghost use Rattle.std.specs.Prelude.{IfOk};
+ghost use Rattle.fs_system.specs.Mounting.{MayBeMounted};
+ghost use Rattle.fs_system.specs.Seen.{IsInSomeState};
 
 use crate::fs::Fs;
 use crate::laws::{a_new_disk_is_mountable, histories_are_runs};
@@ -22,15 +20,15 @@ use std::test::Fail;
 
 // Makes an empty file system with 64 inodes.
 fn made<D: Disk + Drop>(mut disk: D) -> Result<D, MkfsFault>
-    ensures { IfOk result (λ disk. (room : Room) × (t : Tree) × (free : ℕ) × IsMountable (D.state disk) room t free) }
+    ensures { IfOk result (λ disk. MayBeMounted (D.state disk)) }
 {
     mkfs(&mut disk, 64)?;
     Ok(disk)
 }
 
 fn mounted<D: Disk + Drop>(alloc: Global, disk: D) -> Result<Fs<D>, MountFault>
-    requires { (room : Room) × (t : Tree) × (free : ℕ) × IsMountable (D.state disk) room t free }
-    ensures { IfOk result (λ fs. (s : State) × IsIn D.state fs s) }
+    requires { MayBeMounted (D.state disk) }
+    ensures { IfOk result (IsInSomeState D.state) }
 {
     match Fs::mount(alloc, disk) {
         Ok(fs) => Ok(fs),
@@ -40,8 +38,8 @@ fn mounted<D: Disk + Drop>(alloc: Global, disk: D) -> Result<Fs<D>, MountFault>
 
 // The disk, all of whose writes and syncs fail after so many.
 fn armed<D: CrashDisk>(mut disk: D, passes: u64) -> D
-    requires { (room : Room) × (t : Tree) × (free : ℕ) × IsMountable (D.state disk) room t free }
-    ensures { (room : Room) × (t : Tree) × (free : ℕ) × IsMountable (D.state result) room t free }
+    requires { MayBeMounted (D.state disk) }
+    ensures { MayBeMounted (D.state result) }
 {
     disk.arm(passes);
     disk
@@ -49,8 +47,8 @@ fn armed<D: CrashDisk>(mut disk: D, passes: u64) -> D
 
 // The disk after an unmount that has to be in order.
 fn unmounted<D: Disk + Drop>(fs: Fs<D>) -> Result<D, Fail>
-    requires { (s : State) × IsIn D.state fs s }
-    ensures { IfOk result (λ disk. (room : Room) × (t : Tree) × (free : ℕ) × IsMountable (D.state disk) room t free) }
+    requires { IsInSomeState D.state fs }
+    ensures { IfOk result (λ disk. MayBeMounted (D.state disk)) }
 {
     match fs.unmount() {
         (disk, None) => Ok(disk),
@@ -81,8 +79,8 @@ fn told_errno(errno: Option<Errno>) -> Option<u8> {
 
 // A new process of the superuser: its number, or the number of the errno.
 fn spawned<D: Disk>(fs: &mut Fs<D>, alloc: Global) -> Result<Result<usize, u8>, Fail>
-    requires { (s : State) × IsIn D.state fs.old s }
-    ensures { (s : State) × IsIn D.state fs.new s }
+    requires { IsInSomeState D.state fs.old }
+    ensures { IsInSomeState D.state fs.new }
 {
     let cred = Cred::new(alloc, 0, 0, &[])?;
     match fs.spawn(cred) {
@@ -96,16 +94,16 @@ fn root(alloc: Global) -> Result<Path, AllocError> {
 }
 
 fn stat<D: Disk>(fs: &mut Fs<D>, alloc: Global, pid: usize) -> Result<Told, AllocError>
-    requires { (s : State) × IsIn D.state fs.old s }
-    ensures { (s : State) × IsIn D.state fs.new s }
+    requires { IsInSomeState D.state fs.old }
+    ensures { IsInSomeState D.state fs.new }
 {
     let call = Call::Stat(root(alloc)?);
     Ok(told(&fs.call(pid, &call)))
 }
 
 fn chmod<D: Disk>(fs: &mut Fs<D>, alloc: Global, pid: usize, mode: u16) -> Result<Told, AllocError>
-    requires { (s : State) × IsIn D.state fs.old s }
-    ensures { (s : State) × IsIn D.state fs.new s }
+    requires { IsInSomeState D.state fs.old }
+    ensures { IsInSomeState D.state fs.new }
 {
     let call = Call::Chmod(root(alloc)?, mode);
     Ok(told(&fs.call(pid, &call)))
@@ -115,7 +113,7 @@ fn chmod<D: Disk>(fs: &mut Fs<D>, alloc: Global, pid: usize, mode: u16) -> Resul
 
 // The disk of a root with the mode 0711.
 fn with_mode_0711<D: Disk + Drop>(alloc: Global, disk: D) -> Result<D, Fail>
-    ensures { IfOk result (λ disk. (room : Room) × (t : Tree) × (free : ℕ) × IsMountable (D.state disk) room t free) }
+    ensures { IfOk result (λ disk. MayBeMounted (D.state disk)) }
 {
     let mut fs = mounted(alloc, made(disk)?)?;
     let _pid = spawned(&mut fs, alloc)?;
@@ -127,8 +125,8 @@ fn with_mode_0711<D: Disk + Drop>(alloc: Global, disk: D) -> Result<D, Fail>
 type Answers = (Told, Result<usize, u8>, Told, Told);
 
 fn answers<D: Disk>(alloc: Global, fs: &mut Fs<D>, pid: usize, mode: u16) -> Result<Answers, Fail>
-    requires { (s : State) × IsIn D.state fs.old s }
-    ensures { (s : State) × IsIn D.state fs.new s }
+    requires { IsInSomeState D.state fs.old }
+    ensures { IsInSomeState D.state fs.new }
 {
     let _first = spawned(fs, alloc)?;
     let changed = chmod(fs, alloc, 1, 0o700)?;

@@ -3,6 +3,7 @@ use Rattle.sector_disk.specs.Disk.{HasFailed, HasFailedToWrite, IsStable}
 use Rattle.fs_layout.specs.Bytes.{splice}
 use Rattle.fs_layout.specs.Inode.{inode_bytes}
 use Rattle.std.specs.Prelude.{slice_set}
+use Rattle.std.proofs.lemmas.Result.{err_from_is_err_and}
 use Rattle.fs_model.specs.declared.reply.Reply.{Reply}
 use Rattle.fs_model.specs.declared.event.Event.TheVariants.{Call as Calls}
 use Rattle.fs_model.specs.declared.call.Call.TheVariants.{Chmod}
@@ -10,11 +11,11 @@ use Rattle.fs_model.specs.States.{State}
 use Rattle.fs_system.specs.Seen.{IsRooted}
 use Rattle.fs_system.specs.Serving.{the_root}
 use Rattle.fs_system.specs.Doing.{Does}
-use Rattle.fs_system.proofs.Chmods.{on_err, few_shown, shown_bits, chmod_ends_unread, chmod_ends_denied, saved_is_inode_of, chmod_ends_halted, chmod_ends_done}
+use Rattle.fs_system.proofs.Chmods.{few_shown, shown_bits, chmod_ends_unread, chmod_ends_denied, saved_is_inode_of, chmod_ends_halted, chmod_ends_done}
 use Rattle.fs_system.proofs.root.chmod_root.Goals as goal
 
-pub returns-in_default-clause-done : goal.returns-in_default-clause-done
-returns-in_default-clause-done g c = λ desks s pid r up at.
+pub returns-in_default : goal.returns-in_default
+returns-in_default g c = λ desks s pid r up at.
     let old = g.D.Disk.state c.args.disk.now in
     let mid = g.D.Disk.state c.read_root.new.disk in
     let failed : HasFailed old mid = search rules in
@@ -22,8 +23,8 @@ returns-in_default-clause-done g c = λ desks s pid r up at.
     (chmod_ends_unread old mid (g.met.D.Disk.only_now c.args.disk.now) (g.met.D.Disk.seen_is_image c.args.disk.now) c.read_root.ensures.same c.read_root.ensures.time c.read_root.ensures.cause.later c.read_root.ensures.quiet
     c.args.place desks s pid c.args.cred.now r up at c.args.mode c.requires.mode failed)
 
-pub returns-then-not-may_own-clause-done : goal.returns-then-not-may_own-clause-done
-returns-then-not-may_own-clause-done g c = λ desks s pid r up at.
+pub returns-then-not-may_own : goal.returns-then-not-may_own
+returns-then-not-may_own g c = λ desks s pid r up at.
     let old = g.D.Disk.state c.args.disk.now in
     let mid = g.D.Disk.state c.read_root.new.disk in
     chmod_ends_denied old mid (g.met.D.Disk.only_now c.args.disk.now) (g.met.D.Disk.seen_is_image c.args.disk.now) c.read_root.ensures.same c.read_root.ensures.time c.read_root.ensures.cause.later c.read_root.ensures.quiet
@@ -34,14 +35,16 @@ pub write_to-requires-clause-valid : goal.write_to-requires-clause-valid
 write_to-requires-clause-valid g c =
     let old = g.D.Disk.state c.args.disk.now in
     let v = c.in-Ok.inode in
-    let desks = c.requires.in_state.0 in
-    let s = c.requires.in_state.1 in
-    let r = c.requires.in_state.2 in
+    let desks = c.requires.in_use.0 in
+    let s = c.requires.in_use.1 in
+    let r = c.requires.in_use.2 in
     let few = few_shown c.args.mode c.directory_mode.result c.keeps_group_bit.result c.directory_mode.ensures in
-    saved_is_inode_of old c.args.place desks s r v (c.in-Ok.ensures.found desks s r) (c.in-Ok.ensures.exact desks s r) c.in-Ok.ensures.fits c.directory_mode.result few
+    saved_is_inode_of old c.args.place desks s r v (c.in-Ok.ensures.found desks s r) c.in-Ok.ensures.exact c.in-Ok.ensures.fits c.directory_mode.result few
 
-pub returns-in_err-write_through-clause-halts : goal.returns-in_err-write_through-clause-halts
-returns-in_err-write_through-clause-halts g c = on_err c.from_residual.result _ (λ desks s pid r up at.
+pub returns-in_err-write_through : goal.returns-in_err-write_through
+returns-in_err-write_through g c =
+    let p = err_from_is_err_and c.from_residual.result c.from_residual.ensures.1 in
+    rw p.1 (λ desks s pid r up at.
     let old = g.D.Disk.state c.args.disk.now in
     let mid = g.D.Disk.state c.read_root.new.disk in
     let new = g.D.Disk.state c.write_through.new.disk in
@@ -52,11 +55,11 @@ returns-in_err-write_through-clause-halts g c = on_err c.from_residual.result _ 
     let failed : HasFailed mid new = search rules in
     let unwritten : HasFailedToWrite mid new = search rules in
     chmod_ends_halted old mid (g.met.D.Disk.only_now c.args.disk.now) (g.met.D.Disk.seen_is_image c.args.disk.now) c.read_root.ensures.same c.read_root.ensures.time c.read_root.ensures.cause.later c.read_root.ensures.quiet
-    c.args.place desks s pid c.args.cred.now r up at c.args.mode c.requires.mode v (c.in-Ok.ensures.found desks s r) (c.in-Ok.ensures.exact desks s r) c.in-Ok.ensures.fits
+    c.args.place desks s pid c.args.cred.now r up at c.args.mode c.requires.mode v (c.in-Ok.ensures.found desks s r) c.in-Ok.ensures.exact c.in-Ok.ensures.fits
     own c.directory_mode.result bits c.write_to.new.to content new c.write_through.ensures.any_moment c.write_through.ensures.cause.later failed unwritten)
 
-pub returns-clause-done : goal.returns-clause-done
-returns-clause-done g c = λ desks s pid r up at.
+pub returns : goal.returns
+returns g c = λ desks s pid r up at.
     let old = g.D.Disk.state c.args.disk.now in
     let mid = g.D.Disk.state c.read_root.new.disk in
     let new = g.D.Disk.state c.write_through.new.disk in
@@ -67,5 +70,5 @@ returns-clause-done g c = λ desks s pid r up at.
     let seen : new.seen ≡ slice_set mid.seen c.args.place.table c.write_to.new.to = search rules in
     let stable : IsStable new = search rules in
     chmod_ends_done old mid (g.met.D.Disk.only_now c.args.disk.now) (g.met.D.Disk.seen_is_image c.args.disk.now) c.read_root.ensures.same c.read_root.ensures.time c.read_root.ensures.cause.later c.read_root.ensures.quiet
-    c.args.place desks s pid c.args.cred.now r up at c.args.mode c.requires.mode v (c.in-Ok.ensures.found desks s r) (c.in-Ok.ensures.exact desks s r) c.in-Ok.ensures.fits
+    c.args.place desks s pid c.args.cred.now r up at c.args.mode c.requires.mode v (c.in-Ok.ensures.found desks s r) c.in-Ok.ensures.exact c.in-Ok.ensures.fits
     own c.directory_mode.result bits c.write_to.new.to content new c.write_through.ensures.any_moment c.write_through.ensures.cause.later seen stable

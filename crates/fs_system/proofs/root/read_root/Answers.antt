@@ -26,8 +26,8 @@ returns-clause-found g c = λ desks s r.
     (sym c.in-Ok.is ∙ c.read_from.ensures.first_fault ∙ ap (λ b. inode_of (window b 128 128)) to)
 
 pub returns-clause-exact : goal.returns-clause-exact
-returns-clause-exact g c = λ desks s r.
+returns-clause-exact g c =
     let before = g.D.Disk.state c.args.disk.now in
     let to : c.read.new.to ≡ sector before.seen c.args.place.table = search rules in
-    is_root_inode before c.args.place s desks r (g.met.D.Disk.seen_is_image c.args.disk.now).size c.in-Ok.inode
+    is_root_inode before c.args.place c.requires.1 c.requires.0 c.requires.2 (g.met.D.Disk.seen_is_image c.args.disk.now).size c.in-Ok.inode
     (sym c.in-Ok.is ∙ c.read_from.ensures.first_fault ∙ ap (λ b. inode_of (window b 128 128)) to)

@@ -1,4 +1,4 @@
-use Rattle.std.proofs.Common.{◌≡◌, ◌∙◌, ap, refl, ℕ, None}
+use Rattle.std.proofs.Common.{◌≡◌, ◌∙◌, ap, ℕ, None}
 use Rattle.fs_system.specs.Making.{mkfs_refusal}
 use Rattle.inofs.proofs.News.{mounted_is_new}
 use Rattle.inofs.proofs.memory.new_file_system.Goals as goal
@@ -14,6 +14,4 @@ pub returns-in-Err : goal.returns-in-Err
 unfolding mkfs_refusal
 returns-in-Err g c =
     let none : mkfs_refusal (g.D.Disk.state c.args.disk).size 64 ≡ None = ap (λ (n : ℕ). mkfs_refusal n 64) c.requires in
-    let fault = c.in-Err.ensures.fault none refl in
-    let same = fault.0 in
-    (cc, tt)
+    ((c.in-Err.ensures.fault none).0, tt)

@@ -1,13 +1,8 @@
-use Rattle.std.proofs.Common.{Bool, true, false, sym, subst, ap, ◌∙◌, refl}
-use Rattle.fs_model.specs.declared.call.Call.{Call}
+use Rattle.std.proofs.Common.{true, sym, subst, ap, ◌∙◌, refl}
 use Rattle.fs_model.specs.declared.reply.Reply.{Reply}
-use Rattle.fs_model.specs.declared.reply.Reply.TheVariants.{Refused}
-use Rattle.fs_cred.specs.declared.errno.Errno.TheVariants.{EIO}
-use Rattle.fs_cred.specs.declared.refusal.Refusal.TheVariants.{Failed}
 use Rattle.fs_model.specs.declared.event.Event.TheVariants.{Call as Calls}
-use Rattle.fs_system.specs.Seen.{IsIn, IsRooted}
 use Rattle.fs_system.specs.Table.{cred_at}
-use Rattle.fs_system.proofs.Ends.{Ends, ends_halted, ends_absent, lasts, up, running}
+use Rattle.fs_system.proofs.Ends.{Ends, ends_halted, ends_absent, ends_performed, lasts}
 use Rattle.fs_system.proofs.fs.Fs.call.Goals as goal
 
 pub returns-then-self-clause-does : goal.returns-then-self-clause-does
@@ -32,16 +27,8 @@ returns-in_default-clause-lasting g c = λ t r up.
 
 pub returns-in-Stat-clause-does : goal.returns-in-Stat-clause-does
 returns-in-Stat-clause-does g c = λ s r.
-    let inside = c.self.inside in
-    let old = g.D.Disk.state inside.disk in
-    let new = g.D.Disk.state c.stat.new.disk in
-    let here : IsRooted old inside.place inside.processes inside.halted s = subst (λ x. IsIn g.D.Disk.state x s) (sym c.self.view_is) r in
-    let runs = running old (g.met.D.Disk.only_now inside.disk) inside.place inside.processes s inside.halted c.if-self.false here in
-    let ups = up old (g.met.D.Disk.only_now inside.disk) inside.place inside.processes s inside.halted c.if-self.false here in
-    let done = c.stat.ensures c.in-Some.cred.now inside.processes s c.args.pid runs ups (sym c.in-Some.ensures) in
-    let called = subst (λ (k : Call). Ends old new inside.place inside.processes false s (Calls c.args.pid k) c.stat.result) (sym c.in-Stat.is) done in
-    let goes = subst (λ (h : Bool). Ends old new inside.place inside.processes h s (Calls c.args.pid c.args.call.now) c.stat.result) (sym c.if-self.false) called in
-    subst (λ x. Ends (g.D.Disk.state x.disk) new inside.place inside.processes inside.halted s (Calls c.args.pid c.args.call.now) c.stat.result) c.self.view_is goes
+    ends_performed g.D.Disk.state g.met.D.Disk.only_now _ _ c.self.view_is c.stat.new.disk s c.args.pid c.in-Some.cred.now c.args.call.now _ c.in-Stat.is
+    _ _ c.if-self.false c.stat.result c.if-self.false (sym c.in-Some.ensures) (c.stat.ensures c.in-Some.cred.now) r
 
 pub returns-in-Stat-clause-lasting : goal.returns-in-Stat-clause-lasting
 returns-in-Stat-clause-lasting g c = λ t r up.
@@ -50,16 +37,8 @@ returns-in-Stat-clause-lasting g c = λ t r up.
 
 pub returns-in-Access-clause-does : goal.returns-in-Access-clause-does
 returns-in-Access-clause-does g c = λ s r.
-    let inside = c.self.inside in
-    let old = g.D.Disk.state inside.disk in
-    let new = g.D.Disk.state c.access.new.disk in
-    let here : IsRooted old inside.place inside.processes inside.halted s = subst (λ x. IsIn g.D.Disk.state x s) (sym c.self.view_is) r in
-    let runs = running old (g.met.D.Disk.only_now inside.disk) inside.place inside.processes s inside.halted c.if-self.false here in
-    let ups = up old (g.met.D.Disk.only_now inside.disk) inside.place inside.processes s inside.halted c.if-self.false here in
-    let done = c.access.ensures inside.processes s c.args.pid runs ups (sym c.in-Some.ensures) in
-    let called = subst (λ (k : Call). Ends old new inside.place inside.processes false s (Calls c.args.pid k) c.access.result) (sym c.in-Access.is) done in
-    let goes = subst (λ (h : Bool). Ends old new inside.place inside.processes h s (Calls c.args.pid c.args.call.now) c.access.result) (sym c.if-self.false) called in
-    subst (λ x. Ends (g.D.Disk.state x.disk) new inside.place inside.processes inside.halted s (Calls c.args.pid c.args.call.now) c.access.result) c.self.view_is goes
+    ends_performed g.D.Disk.state g.met.D.Disk.only_now _ _ c.self.view_is c.access.new.disk s c.args.pid c.in-Some.cred.now c.args.call.now _ c.in-Access.is
+    _ _ c.if-self.false c.access.result c.if-self.false (sym c.in-Some.ensures) c.access.ensures r
 
 pub returns-in-Access-clause-lasting : goal.returns-in-Access-clause-lasting
 returns-in-Access-clause-lasting g c = λ t r up.
@@ -68,16 +47,8 @@ returns-in-Access-clause-lasting g c = λ t r up.
 
 pub returns-in-Ok-clause-does : goal.returns-in-Ok-clause-does
 returns-in-Ok-clause-does g c = λ s r.
-    let inside = c.self.inside in
-    let old = g.D.Disk.state inside.disk in
-    let new = g.D.Disk.state c.chmod.new.disk in
-    let here : IsRooted old inside.place inside.processes inside.halted s = subst (λ x. IsIn g.D.Disk.state x s) (sym c.self.view_is) r in
-    let runs = running old (g.met.D.Disk.only_now inside.disk) inside.place inside.processes s inside.halted c.if-self.false here in
-    let ups = up old (g.met.D.Disk.only_now inside.disk) inside.place inside.processes s inside.halted c.if-self.false here in
-    let done = c.in-Ok.ensures.done inside.processes s c.args.pid runs ups (sym c.in-Some.ensures) in
-    let called = subst (λ (k : Call). Ends old new inside.place inside.processes false s (Calls c.args.pid k) c.in-Ok.reply) (sym c.in-Chmod.is) done in
-    let goes = subst (λ (h : Bool). Ends old new inside.place inside.processes h s (Calls c.args.pid c.args.call.now) c.in-Ok.reply) (sym c.if-self.false) called in
-    subst (λ x. Ends (g.D.Disk.state x.disk) new inside.place inside.processes inside.halted s (Calls c.args.pid c.args.call.now) c.in-Ok.reply) c.self.view_is goes
+    ends_performed g.D.Disk.state g.met.D.Disk.only_now _ _ c.self.view_is c.chmod.new.disk s c.args.pid c.in-Some.cred.now c.args.call.now _ c.in-Chmod.is
+    _ _ c.if-self.false c.in-Ok.reply c.if-self.false (sym c.in-Some.ensures) c.in-Ok.ensures r
 
 pub returns-in-Ok-clause-lasting : goal.returns-in-Ok-clause-lasting
 returns-in-Ok-clause-lasting g c = λ t r up.
@@ -86,16 +57,12 @@ returns-in-Ok-clause-lasting g c = λ t r up.
 
 pub returns-in_default-chmod-clause-does : goal.returns-in_default-chmod-clause-does
 returns-in_default-chmod-clause-does g c = λ s r.
-    let inside = c.self.inside in
-    let old = g.D.Disk.state inside.disk in
+    let old = g.D.Disk.state c.args.self.now.disk in
     let new = g.D.Disk.state c.chmod.new.disk in
-    let here : IsRooted old inside.place inside.processes inside.halted s = subst (λ x. IsIn g.D.Disk.state x s) (sym c.self.view_is) r in
-    let runs = running old (g.met.D.Disk.only_now inside.disk) inside.place inside.processes s inside.halted c.if-self.false here in
-    let ups = up old (g.met.D.Disk.only_now inside.disk) inside.place inside.processes s inside.halted c.if-self.false here in
-    let done = c.in_default-chmod.ensures.halts inside.processes s c.args.pid runs ups (sym c.in-Some.ensures) in
-    let called = subst (λ (k : Call). Ends old new inside.place inside.processes true s (Calls c.args.pid k) (Refused (Failed EIO))) (sym c.in-Chmod.is) done in
-    let told = subst (λ (q : Reply). Ends old new inside.place inside.processes true s (Calls c.args.pid c.args.call.now) q) (sym c.failed-in_default-chmod.ensures) called in
-    subst (λ x. Ends (g.D.Disk.state x.disk) new inside.place inside.processes true s (Calls c.args.pid c.args.call.now) c.failed-in_default-chmod.result) c.self.view_is told
+    let inside = c.self.inside in
+    subst (λ (q : Reply). Ends old new inside.place inside.processes true s (Calls c.args.pid c.args.call.now) q) (sym c.failed-in_default-chmod.ensures)
+    (ends_performed g.D.Disk.state g.met.D.Disk.only_now _ _ c.self.view_is c.chmod.new.disk s c.args.pid c.in-Some.cred.now c.args.call.now _ c.in-Chmod.is
+    true true refl _ c.if-self.false (sym c.in-Some.ensures) c.in_default-chmod.ensures r)
 
 pub returns-in_default-chmod-clause-lasting : goal.returns-in_default-chmod-clause-lasting
 returns-in_default-chmod-clause-lasting g c = λ t r up.
