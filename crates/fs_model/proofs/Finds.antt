@@ -9,7 +9,8 @@ use Rattle.fs_layout.specs.Maps.{get, name_cmp, IsMap}
 use Rattle.fs_model.specs.Nodes.{Node, Body, File, Dir, Link, is_directory, names_in}
 use Rattle.fs_model.specs.Trees.{Tree, Room, node_at, names_for, parent, IsTree, IsBody}
 use Rattle.fs_model.specs.Parts.{Parts, parts_of, start_of, is_empty}
-use Rattle.fs_model.specs.Trails.{Form, Trail, Outcome, Faulty, Absent, Reaches, Through, GoesOn, reached, reached_body, named_inode, arrival, looked_up, is_dot, is_dot_dot, onward, through_if, lookups_from, trail_with, trail_of, follows_last}
+use Rattle.fs_model.specs.declared.walk.Form.{Form}
+use Rattle.fs_model.specs.Trails.{Trail, Outcome, Faulty, Absent, Reaches, Through, GoesOn, reached, reached_body, named_inode, arrival, looked_up, is_dot, is_dot_dot, onward, through_if, lookups_from, trail_with, trail_of, follows_last}
 use Rattle.fs_layout.proofs.FirstEntries.{at_same, at_other, right}
 
 abbrev pub IsThere : Tree → ℕ → Type 0
@@ -39,10 +40,10 @@ module _ (room : Room) (t : Tree) (is : IsTree room t) where
     | inr ne ↦ named_by t d is.numbers ne
   ]
 
-  start_there : (parts : Parts) (place : ℕ) → IsThere t place → IsThere t (start_of parts place)
-  start_there parts place there = go parts.absolute
+  start_there : (parts : Parts) (dir : ℕ) → IsThere t dir → IsThere t (start_of parts dir)
+  start_there parts dir there = go parts.absolute
     where
-      go : (b : Bool) → IsThere t (cond b root place)
+      go : (b : Bool) → IsThere t (cond b root dir)
       go true = root_there
       go false = there
 
@@ -52,14 +53,14 @@ module _ (room : Room) (t : Tree) (is : IsTree room t) where
   entry_there (Dir a d) name n h e = (h.2.each name n e).leads.1
   entry_there (Link target) name n h e = absurd cc
 
-  number_there : (place : ℕ) (node : Node) (name : List ℕ) (n : ℕ) → node_at t place ≡ Some node
-      → named_inode t place (names_in node.body) name ≡ Some n → IsThere t n
-  number_there place node name n at e = go (is_dot name) (is_dot_dot name) e
+  number_there : (dir : ℕ) (node : Node) (name : List ℕ) (n : ℕ) → node_at t dir ≡ Some node
+      → named_inode t dir (names_in node.body) name ≡ Some n → IsThere t n
+  number_there dir node name n at e = go (is_dot name) (is_dot_dot name) e
     where
-      go : (dot dots : Bool) → cond dot (Some place) (cond dots (Some (parent t place)) (get name_cmp (names_in node.body) name)) ≡ Some n → IsThere t n
-      go true dots f = let same : place ≡ n = cc in subst (IsThere t) same (ap is_some at)
-      go false true f = let same : parent t place ≡ n = cc in subst (IsThere t) same (parent_there place)
-      go false false f = entry_there node.body name n (is.each place node at).body f
+      go : (dot dots : Bool) → cond dot (Some dir) (cond dots (Some (parent t dir)) (get name_cmp (names_in node.body) name)) ≡ Some n → IsThere t n
+      go true dots f = let same : dir ≡ n = cc in subst (IsThere t) same (ap is_some at)
+      go false true f = let same : parent t dir ≡ n = cc in subst (IsThere t) same (parent_there dir)
+      go false false f = entry_there node.body name n (is.each dir node at).body f
 
   -- what is reached is there
   abbrev pub Reached : Outcome → Type 0
@@ -83,14 +84,14 @@ module _ (room : Room) (t : Tree) (is : IsTree room t) where
   arrival_reached false follow None h = tt
   arrival_reached is_last follow (Some n) h = node_reached (follow || not is_last) n (node_at t n) (h n refl)
 
-  lookup_reached : (is_last follow : Bool) (place : ℕ) (name : List ℕ) (o : Option Node) → node_at t place ≡ o → Reached (looked_up t is_last follow place name o)
-  lookup_reached is_last follow place name None at = tt
-  lookup_reached is_last follow place name (Some node) at = go (is_directory node.body) (nat_lt name_limit (length name))
+  lookup_reached : (is_last follow : Bool) (dir : ℕ) (name : List ℕ) (o : Option Node) → node_at t dir ≡ o → Reached (looked_up t is_last follow dir name o)
+  lookup_reached is_last follow dir name None at = tt
+  lookup_reached is_last follow dir name (Some node) at = go (is_directory node.body) (nat_lt name_limit (length name))
     where
-      go : (directory long : Bool) → Reached (cond (not directory) (Faulty ENOTDIR) (cond long (Faulty ENAMETOOLONG) (arrival t is_last follow (named_inode t place (names_in node.body) name))))
+      go : (directory long : Bool) → Reached (cond (not directory) (Faulty ENOTDIR) (cond long (Faulty ENAMETOOLONG) (arrival t is_last follow (named_inode t dir (names_in node.body) name))))
       go false long = tt
       go true true = tt
-      go true false = arrival_reached is_last follow (named_inode t place (names_in node.body) name) (λ n e. number_there place node name n at e)
+      go true false = arrival_reached is_last follow (named_inode t dir (names_in node.body) name) (λ n e. number_there dir node name n at e)
 
   -- what the trail found is there
   abbrev pub FindsThere : Trail → Type 0
@@ -98,35 +99,35 @@ module _ (room : Room) (t : Tree) (is : IsTree room t) where
 
   abbrev GoesThere : Option GoesOn → Type 0
   GoesThere None = Unit {0}
-  GoesThere (Some go_on) = (place : ℕ) (names : List (List ℕ)) (slash : Bool) → IsThere t place → FindsThere (go_on place names slash)
+  GoesThere (Some go_on) = (dir : ℕ) (names : List (List ℕ)) (slash : Bool) → IsThere t dir → FindsThere (go_on dir names slash)
 
-  through_there : (behind : Option GoesOn) (place : ℕ) (name : List ℕ) (names : List (List ℕ)) (slash : Bool) (target : List ℕ)
-      → GoesThere behind → IsThere t place → FindsThere (through_if behind place name names slash target)
-  through_there None place name names slash target h there n e = absurd cc
-  through_there (Some go_on) place name names slash target h there n e =
-      h (start_of (parts_of target) place) ((parts_of target).names ++ names) (slash || (is_empty names && (parts_of target).slash_at_end)) (start_there (parts_of target) place there) n e
+  through_there : (behind : Option GoesOn) (dir : ℕ) (name : List ℕ) (names : List (List ℕ)) (slash : Bool) (target : List ℕ)
+      → GoesThere behind → IsThere t dir → FindsThere (through_if behind dir name names slash target)
+  through_there None dir name names slash target h there n e = absurd cc
+  through_there (Some go_on) dir name names slash target h there n e =
+      h (start_of (parts_of target) dir) ((parts_of target).names ++ names) (slash || (is_empty names && (parts_of target).slash_at_end)) (start_there (parts_of target) dir there) n e
 
-  onward_there : (behind : Option GoesOn) (rest : ℕ → Trail) (place : ℕ) (name : List ℕ) (names : List (List ℕ)) (slash : Bool) (o : Outcome)
-      → GoesThere behind → IsThere t place → Reached o → ((n : ℕ) → IsThere t n → FindsThere (rest n)) → FindsThere (onward behind rest place name names slash o)
-  onward_there behind rest place name names slash (Faulty f) h there r more n e = absurd cc
-  onward_there behind rest place name names slash Absent h there r more n e = absurd cc
-  onward_there behind rest place name names slash (Reaches k) h there r more n e = more k r n e
-  onward_there behind rest place name names slash (Through target) h there r more n e = through_there behind place name names slash target h there n e
+  onward_there : (behind : Option GoesOn) (rest : ℕ → Trail) (dir : ℕ) (name : List ℕ) (names : List (List ℕ)) (slash : Bool) (o : Outcome)
+      → GoesThere behind → IsThere t dir → Reached o → ((n : ℕ) → IsThere t n → FindsThere (rest n)) → FindsThere (onward behind rest dir name names slash o)
+  onward_there behind rest dir name names slash (Faulty f) h there r more n e = absurd cc
+  onward_there behind rest dir name names slash Absent h there r more n e = absurd cc
+  onward_there behind rest dir name names slash (Reaches k) h there r more n e = more k r n e
+  onward_there behind rest dir name names slash (Through target) h there r more n e = through_there behind dir name names slash target h there n e
 
-  names_there : (follow : Bool) (behind : Option GoesOn) (place : ℕ) (names : List (List ℕ)) (slash : Bool) → GoesThere behind → IsThere t place
-      → FindsThere (lookups_from t follow behind place names slash)
-  names_there follow behind place [] slash h there n e = let same : place ≡ n = cc in subst (IsThere t) same there
-  names_there follow behind place (name ∷ names) slash h there n e =
-      onward_there behind (λ k. lookups_from t follow behind k names slash) place name names slash
-      (looked_up t (is_empty names) follow place name (node_at t place)) h there
-      (lookup_reached (is_empty names) follow place name (node_at t place) refl)
+  names_there : (follow : Bool) (behind : Option GoesOn) (dir : ℕ) (names : List (List ℕ)) (slash : Bool) → GoesThere behind → IsThere t dir
+      → FindsThere (lookups_from t follow behind dir names slash)
+  names_there follow behind dir [] slash h there n e = let same : dir ≡ n = cc in subst (IsThere t) same there
+  names_there follow behind dir (name ∷ names) slash h there n e =
+      onward_there behind (λ k. lookups_from t follow behind k names slash) dir name names slash
+      (looked_up t (is_empty names) follow dir name (node_at t dir)) h there
+      (lookup_reached (is_empty names) follow dir name (node_at t dir) refl)
       (λ k found. names_there follow behind k names slash h found) n e
 
-  links_there : (follow : Bool) (links place : ℕ) (names : List (List ℕ)) (slash : Bool) → IsThere t place
-      → FindsThere (trail_with t follow links place names slash)
-  links_there follow zero place names slash there = names_there follow None place names slash tt there
-  links_there follow (suc links) place names slash there =
-      names_there follow (Some (trail_with t follow links)) place names slash (λ p ns s h. links_there follow links p ns s h) there
+  links_there : (follow : Bool) (links dir : ℕ) (names : List (List ℕ)) (slash : Bool) → IsThere t dir
+      → FindsThere (trail_with t follow links dir names slash)
+  links_there follow zero dir names slash there = names_there follow None dir names slash tt there
+  links_there follow (suc links) dir names slash there =
+      names_there follow (Some (trail_with t follow links)) dir names slash (λ p ns s h. links_there follow links p ns s h) there
 
   pub finds_are_there : (cwd : ℕ) (form : Form) (path : List ℕ) → IsThere t cwd → FindsThere (trail_of t cwd form path)
   unfolding trail_of

@@ -6,7 +6,7 @@ use Rattle.fs_cred.specs.Credentials.{Credential}
 use Rattle.fs_model.specs.Trees.{Tree}
 use Rattle.fs_model.specs.Demands.{Demand, or_else}
 use Rattle.fs_model.specs.Trails.{Lookup}
-use Rattle.fs_model.specs.Walks.{lookup_refusal, first_refused, IsLeastRefusal}
+use Rattle.fs_model.specs.Walks.{lookup_refusal, least_refusal, IsLeastRefusal}
 
 module _ (cred : Credential) (t : Tree) (walk : ℕ) where
   -- as `IsLeastRefusal`, with the lookups counted from i
@@ -15,7 +15,7 @@ module _ (cred : Credential) (t : Tree) (walk : ℕ) where
       (k : ℕ) × (l : Lookup) × (slice_get lookups k ≡ Some l) × (lookup_refusal cred t walk (i + k) l ≡ Some r)
       × ((j : ℕ) (u : Lookup) → j < k → slice_get lookups j ≡ Some u → lookup_refusal cred t walk (i + j) u ≡ None)
 
-  least_from : (i : ℕ) (lookups : List Lookup) (r : Refusal) → first_refused cred t walk i lookups ≡ Some r → IsLeastFrom i lookups r
+  least_from : (i : ℕ) (lookups : List Lookup) (r : Refusal) → least_refusal cred t walk i lookups ≡ Some r → IsLeastFrom i lookups r
   least_from i [] r h = absurd cc
   least_from i (l ∷ lookups) r h = go (lookup_refusal cred t walk i l) refl h (λ g. least_from (i + 1) lookups r g)
     where
@@ -25,8 +25,8 @@ module _ (cred : Credential) (t : Tree) (walk : ℕ) where
       here : (u : Lookup) → lookup_refusal cred t walk (i + zero) u ≡ lookup_refusal cred t walk i u
       here u = ap (λ n. lookup_refusal cred t walk n u) (omega arith)
 
-      go : (d : Demand) → lookup_refusal cred t walk i l ≡ d → or_else d (first_refused cred t walk (i + 1) lookups) ≡ Some r
-          → (first_refused cred t walk (i + 1) lookups ≡ Some r → IsLeastFrom (i + 1) lookups r) → IsLeastFrom i (l ∷ lookups) r
+      go : (d : Demand) → lookup_refusal cred t walk i l ≡ d → or_else d (least_refusal cred t walk (i + 1) lookups) ≡ Some r
+          → (least_refusal cred t walk (i + 1) lookups ≡ Some r → IsLeastFrom (i + 1) lookups r) → IsLeastFrom i (l ∷ lookups) r
       go (Some q) e f ih = (0, l, refl, here l ∙ e ∙ f, λ j u le g. absurd (omega arith))
       go None e f ih =
           let rest = ih f in
@@ -37,8 +37,8 @@ module _ (cred : Credential) (t : Tree) (walk : ℕ) where
           lower_ones rest zero u le g = here u ∙ ap (lookup_refusal cred t walk i) (let same : l ≡ u = cc in sym same) ∙ e
           lower_ones rest (suc j) u le g = at j u ∙ rest.4 j u (let lt : j < rest.0 = omega arith in lt) g
 
-  pub least_refusal : (lookups : List Lookup) (r : Refusal) → first_refused cred t walk 0 lookups ≡ Some r → IsLeastRefusal cred t walk lookups r
-  least_refusal lookups r h =
+  pub refuses_least : (lookups : List Lookup) (r : Refusal) → least_refusal cred t walk 0 lookups ≡ Some r → IsLeastRefusal cred t walk lookups r
+  refuses_least lookups r h =
       let from = least_from 0 lookups r h in
       record {
         number = from.0;
@@ -51,13 +51,13 @@ module _ (cred : Credential) (t : Tree) (walk : ℕ) where
       zero_before : (k : ℕ) → k ≡ 0 + k
       zero_before k = omega arith
 
-  none_from : (i : ℕ) (lookups : List Lookup) → first_refused cred t walk i lookups ≡ None → (k : ℕ) (u : Lookup)
+  none_from : (i : ℕ) (lookups : List Lookup) → least_refusal cred t walk i lookups ≡ None → (k : ℕ) (u : Lookup)
       → slice_get lookups k ≡ Some u → lookup_refusal cred t walk (i + k) u ≡ None
   none_from i [] h k u g = absurd cc
   none_from i (l ∷ lookups) h k u g = go (lookup_refusal cred t walk i l) refl h (λ f j r. none_from (i + 1) lookups f j u r) k g
     where
-      go : (d : Demand) → lookup_refusal cred t walk i l ≡ d → or_else d (first_refused cred t walk (i + 1) lookups) ≡ None
-          → (first_refused cred t walk (i + 1) lookups ≡ None → (j : ℕ) → slice_get lookups j ≡ Some u → lookup_refusal cred t walk (i + 1 + j) u ≡ None)
+      go : (d : Demand) → lookup_refusal cred t walk i l ≡ d → or_else d (least_refusal cred t walk (i + 1) lookups) ≡ None
+          → (least_refusal cred t walk (i + 1) lookups ≡ None → (j : ℕ) → slice_get lookups j ≡ Some u → lookup_refusal cred t walk (i + 1 + j) u ≡ None)
           → (k : ℕ) → slice_get (l ∷ lookups) k ≡ Some u → lookup_refusal cred t walk (i + k) u ≡ None
       go (Some q) e f ih k g = absurd cc
       go None e f ih zero g =
@@ -65,7 +65,7 @@ module _ (cred : Credential) (t : Tree) (walk : ℕ) where
           ∙ ap (lookup_refusal cred t walk i) (let same : l ≡ u = cc in sym same) ∙ e
       go None e f ih (suc k) g = ap (λ n. lookup_refusal cred t walk n u) (let same : i + suc k ≡ i + 1 + k = omega arith in same) ∙ ih f k g
 
-  pub none_refuses : (lookups : List Lookup) → first_refused cred t walk 0 lookups ≡ None → (k : ℕ) (u : Lookup)
+  pub none_refuses : (lookups : List Lookup) → least_refusal cred t walk 0 lookups ≡ None → (k : ℕ) (u : Lookup)
       → slice_get lookups k ≡ Some u → lookup_refusal cred t walk k u ≡ None
   none_refuses lookups h k u g =
       ap (λ n. lookup_refusal cred t walk n u) (let same : k ≡ 0 + k = omega arith in same) ∙ none_from 0 lookups h k u g

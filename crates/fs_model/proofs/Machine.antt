@@ -14,7 +14,7 @@ use Rattle.fs_cred.specs.Verdicts.{verdict}
 use Rattle.fs_model.specs.declared.call.Flags.{Flags}
 use Rattle.fs_model.specs.declared.call.Call.TheVariants.{Mkdir, Umask}
 use Rattle.fs_model.specs.declared.reply.Reply.{Reply}
-use Rattle.fs_model.specs.declared.reply.Reply.TheVariants.{Ok as Done, Pid, Mask, Shown, Refused}
+use Rattle.fs_model.specs.declared.reply.Reply.TheVariants.{Done, Pid, Mask, Shown, Refused}
 use Rattle.fs_model.specs.declared.reply.FileType.TheVariants.{File, Directory}
 use Rattle.fs_model.specs.declared.event.Event.{Event}
 use Rattle.fs_model.specs.declared.event.Event.TheVariants.{Spawn, Call as Calls}

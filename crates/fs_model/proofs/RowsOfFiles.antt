@@ -5,7 +5,7 @@ use Rattle.fs_cred.specs.declared.errno.Errno.TheVariants.{ENOENT, ESRCH, EBADF,
 use Rattle.fs_cred.specs.Verdicts.{verdict}
 use Rattle.fs_model.specs.declared.call.Whence.TheVariants.{Set}
 use Rattle.fs_model.specs.declared.call.Call.TheVariants.{Open, Read, Write, Lseek, Close, Fstat, Stat, Truncate, Ftruncate, Mkdir, Unlink}
-use Rattle.fs_model.specs.declared.reply.Reply.TheVariants.{Ok as Done, Pid, Fd, Data, Wrote, At, Space}
+use Rattle.fs_model.specs.declared.reply.Reply.TheVariants.{Done, Pid, Fd, Data, Wrote, At, Space}
 use Rattle.fs_model.specs.declared.event.Event.{Event}
 use Rattle.fs_model.specs.declared.event.Event.TheVariants.{Exit, Call as Calls, Fsync, Statfs}
 use Rattle.fs_model.specs.Trails.{trail_of}

@@ -7,7 +7,7 @@ use Rattle.fs_cred.specs.declared.errno.Errno.TheVariants.{ENOSPC, EMLINK}
 use Rattle.fs_cred.specs.Verdicts.{verdict}
 use Rattle.fs_model.specs.declared.call.AclType.TheVariants.{Access as AccessAcl, Default as DefaultAcl}
 use Rattle.fs_model.specs.declared.call.Call.TheVariants.{Open, Write, Stat, Truncate, SetAcl, Mkdir, Link, Symlink, Rename}
-use Rattle.fs_model.specs.declared.reply.Reply.TheVariants.{Ok as Done, Pid, Fd, Wrote, Space}
+use Rattle.fs_model.specs.declared.reply.Reply.TheVariants.{Done, Pid, Fd, Wrote, Space}
 use Rattle.fs_model.specs.declared.event.Event.TheVariants.{Call as Calls, Statfs}
 use Rattle.fs_model.specs.Nodes.{Node, Dir, File}
 use Rattle.fs_model.specs.States.{State}

@@ -11,7 +11,7 @@ use Rattle.fs_cred.specs.Verdicts.{verdict}
 use Rattle.fs_model.specs.declared.call.Whence.TheVariants.{Set, Cur, End}
 use Rattle.fs_model.specs.declared.call.AclType.TheVariants.{Access as AccessAcl, Default as DefaultAcl}
 use Rattle.fs_model.specs.declared.call.Call.TheVariants.{Open, Read, Write, Lseek, Close, Truncate, Ftruncate, Chmod, GetAcl, SetAcl, Readdir, Mkdir, Rmdir, Link, Symlink, Readlink, Unlink, Rename, Chdir}
-use Rattle.fs_model.specs.declared.reply.Reply.TheVariants.{Ok as Done, Fd, Wrote, At, Acl, Names, Target}
+use Rattle.fs_model.specs.declared.reply.Reply.TheVariants.{Done, Fd, Wrote, At, Acl, Names, Target}
 use Rattle.fs_model.specs.declared.event.Event.{Event}
 use Rattle.fs_model.specs.declared.event.Event.TheVariants.{Call as Calls, Fsync}
 use Rattle.fs_model.specs.Trails.{trail_of}

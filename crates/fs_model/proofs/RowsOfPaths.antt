@@ -6,7 +6,7 @@ use Rattle.fs_cred.specs.declared.refusal.Need.TheVariants.{Search}
 use Rattle.fs_cred.specs.declared.rule.Rule.TheVariants.{Other}
 use Rattle.fs_cred.specs.Verdicts.{verdict}
 use Rattle.fs_model.specs.declared.call.Call.TheVariants.{Open, Stat, Lstat, Readdir, Mkdir, Rmdir, Link, Symlink, Readlink, Unlink, Rename, Chdir}
-use Rattle.fs_model.specs.declared.reply.Reply.TheVariants.{Ok as Done, Pid, Fd, Target, Names}
+use Rattle.fs_model.specs.declared.reply.Reply.TheVariants.{Done, Pid, Fd, Target, Names}
 use Rattle.fs_model.specs.declared.event.Event.{Event}
 use Rattle.fs_model.specs.declared.event.Event.TheVariants.{Call as Calls}
 use Rattle.fs_model.specs.Trails.{trail_of}

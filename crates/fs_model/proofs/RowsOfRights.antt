@@ -8,7 +8,7 @@ use Rattle.fs_cred.specs.declared.rule.Rule.TheVariants.{Owner, NamedUser, Named
 use Rattle.fs_cred.specs.Verdicts.{verdict}
 use Rattle.fs_model.specs.declared.call.AclType.TheVariants.{Access as AccessAcl, Default as DefaultAcl}
 use Rattle.fs_model.specs.declared.call.Call.TheVariants.{Open, Stat, Access, Chmod, Chown as ChownCall, GetAcl, SetAcl, Mkdir, Unlink, Umask}
-use Rattle.fs_model.specs.declared.reply.Reply.TheVariants.{Ok as Done, Pid, Fd, Mask, Granted, Acl}
+use Rattle.fs_model.specs.declared.reply.Reply.TheVariants.{Done, Pid, Fd, Mask, Granted, Acl}
 use Rattle.fs_model.specs.declared.event.Event.TheVariants.{Call as Calls}
 use Rattle.fs_model.specs.Trails.{trail_of}
 use Rattle.fs_model.specs.Walks.{first_refusal, found_of}

@@ -5,7 +5,7 @@ use Rattle.std.specs.List.{Contains}
 use Rattle.fs_cred.specs.declared.errno.Errno.TheVariants.{EIO}
 use Rattle.fs_cred.specs.declared.refusal.Refusal.TheVariants.{Failed}
 use Rattle.fs_model.specs.declared.reply.Reply.{Reply}
-use Rattle.fs_model.specs.declared.reply.Reply.TheVariants.{Ok as Success, Refused}
+use Rattle.fs_model.specs.declared.reply.Reply.TheVariants.{Done, Refused}
 use Rattle.fs_model.specs.declared.event.Event.{Event}
 use Rattle.fs_model.specs.declared.event.Event.TheVariants.{Spawn, Exit, Call as Calls, Fsync, Sync, Statfs, Arm, Restart}
 use Rattle.fs_model.specs.declared.event.EventReply.TheVariants.{Reply as Replies}
@@ -42,7 +42,7 @@ one_left new t s trees stop =
     let present : stop.tree ≡ t = only_one t stop.tree (subst (λ ts. Contains ts stop.tree) trees stop.is_one) in
     ap (λ x. x.tree) stop.is ∙ ap pruned present
 
-stable_list : (e : Event) (r : Reply) (trees : List Tree) (t : Tree) → IsTrue (asks_stable e) → r ≡ Success → trees_after e r trees t ≡ t ∷ []
+stable_list : (e : Event) (r : Reply) (trees : List Tree) (t : Tree) → IsTrue (asks_stable e) → r ≡ Done → trees_after e r trees t ≡ t ∷ []
 stable_list (Fsync pid fd) r trees t h is = ap (λ q. trees_after Sync q trees t) is
 stable_list Sync r trees t h is = ap (λ q. trees_after Sync q trees t) is
 stable_list (Spawn cred) r trees t h is = absurd cc
@@ -52,10 +52,10 @@ stable_list Statfs r trees t h is = absurd cc
 stable_list (Arm k) r trees t h is = absurd cc
 stable_list (Restart bytes arm) r trees t h is = absurd cc
 
-pub sync_is_kept : (old new : Machine) (e : Event) (s : State) → IsTrue (asks_stable e) → MachineStep old e (Replies Success) new
+pub sync_is_kept : (old new : Machine) (e : Event) (s : State) → IsTrue (asks_stable e) → MachineStep old e (Replies Done) new
     → Stops new s → s.tree ≡ pruned new.state.tree
 sync_is_kept old new e left asks (steps up r is s a now) stop =
-    let ok : r ≡ Success = cc in
+    let ok : r ≡ Done = cc in
     let trees : new.trees ≡ s.tree ∷ [] = ap (λ m. m.trees) now ∙ stable_list e r old.trees s.tree asks ok in
     one_left new s.tree left trees stop ∙ ap pruned (sym (ap (λ m. m.state.tree) now))
 sync_is_kept old new e left asks (halts up r is s a choice h now) stop =

@@ -17,7 +17,7 @@ use Rattle.fs_model.proofs.StepsNaming.{renamed_node, renamed, at_it, at_others,
 use Rattle.fs_model.proofs.StepsParents.{names_or, names_at, parent_is, parent_kept, under_all, directory_named, parent_at, under_root}
 
 -- From t, or from t with a new node in it, which is w: a name is added in a directory.
-pub record AddsName (room : Room) (t w : Tree) (place : ℕ) (directory : Node) (name : List ℕ) (n : ℕ) (target : Node) : Type 0 where
+pub record AddsName (room : Room) (t w : Tree) (dir : ℕ) (directory : Node) (name : List ℕ) (n : ℕ) (target : Node) : Type 0 where
   pub numbers : IsMap nat_cmp w
   pub here : node_at w n ≡ Some target
   pub others : (m : ℕ) → m ≢ n → node_at w m ≡ node_at t m
@@ -25,8 +25,8 @@ pub record AddsName (room : Room) (t w : Tree) (place : ℕ) (directory : Node) 
   pub names : (k : ℕ) → names_at w k ≡ names_at t k
   pub counts : (x : ℕ) → names_of w x ≡ names_of t x
   pub types : KeepsTypes t w
-  pub stands : node_at t place ≡ Some directory
-  pub is_place : IsTrue (is_directory directory.body)
+  pub stands : node_at t dir ≡ Some directory
+  pub is_dir : IsTrue (is_directory directory.body)
   pub is_new : get name_cmp (names_in directory.body) name ≡ None
   pub has_room : length (names_in directory.body) < entries_limit
   pub is_name : IsName name
@@ -36,25 +36,25 @@ pub record AddsName (room : Room) (t w : Tree) (place : ℕ) (directory : Node) 
   pub fits : NamesFit n target.body (names_of t n + 1)
   pub unnamed : IsTrue (is_directory target.body) → names_of t n ≡ 0
 
-module _ (room : Room) (t w : Tree) (place : ℕ) (directory : Node) (name : List ℕ) (n : ℕ) (target : Node) (is : IsTree room t) (adds : AddsName room t w place directory name n target) where
+module _ (room : Room) (t w : Tree) (dir : ℕ) (directory : Node) (name : List ℕ) (n : ℕ) (target : Node) (is : IsTree room t) (adds : AddsName room t w dir directory name n target) where
   abbrev new : Names
   new = with_entry name_cmp (names_in directory.body) name n
 
   abbrev u : Tree
-  u = renamed w place directory (with_entry name_cmp (names_in directory.body) name n)
+  u = renamed w dir directory (with_entry name_cmp (names_in directory.body) name n)
 
-  place_apart : place ≢ n
-  place_apart = adds.apart place (record { node = directory; is_there = adds.stands; directory = adds.is_place })
+  dir_apart : dir ≢ n
+  dir_apart = adds.apart dir (record { node = directory; is_there = adds.stands; directory = adds.is_dir })
 
-  stands_then : node_at w place ≡ Some directory
-  stands_then = adds.others place place_apart ∙ adds.stands
+  stands_then : node_at w dir ≡ Some directory
+  stands_then = adds.others dir dir_apart ∙ adds.stands
 
   more : (x : ℕ) → leading x new ≡ leading x (names_in directory.body) + once_if n x
   more x = leading-with_name (names_in directory.body) name n x adds.is_new
 
   count : (x : ℕ) → names_of u x ≡ names_of t x + once_if n x
   count x =
-      let all = names_of-renamed w place directory new adds.is_place adds.numbers stands_then x in
+      let all = names_of-renamed w dir directory new adds.is_dir adds.numbers stands_then x in
       let was = adds.counts x in
       let one = more x in
       omega (arith, all, was, one)
@@ -63,24 +63,24 @@ module _ (room : Room) (t w : Tree) (place : ℕ) (directory : Node) (name : Lis
   count_other x ne = let all = count x in let none = once_other n x (λ e. ne (sym e)) in omega (arith, all, none)
 
   there : (m : ℕ) → IsThere t m → IsThere u m
-  there m h = still_there w place (renamed_node directory new) m (adds.still m h)
+  there m h = still_there w dir (renamed_node directory new) m (adds.still m h)
 
   pub added_keeps_types : KeepsTypes t u
-  added_keeps_types = types_compose t w u adds.types (renamed_keeps_types w place directory new stands_then)
+  added_keeps_types = types_compose t w u adds.types (renamed_keeps_types w dir directory new stands_then)
 
   -- ---- names
 
   names_kept : (x k : ℕ) → 1 ≤ leading x (names_at t k) → 1 ≤ leading x (names_at u k)
-  names_kept x k some = elim (cases_eq k place) [
+  names_kept x k some = elim (cases_eq k dir) [
     | inl e ↦
         let was : names_at t k ≡ names_in directory.body = ap (names_at t) e ∙ ap names_or adds.stands in
-        let now : names_at u k ≡ new = ap (names_at u) e ∙ names_there w place directory new adds.is_place in
+        let now : names_at u k ≡ new = ap (names_at u) e ∙ names_there w dir directory new adds.is_dir in
         let before : leading x (names_at t k) ≡ leading x (names_in directory.body) = ap (leading x) was in
         let after : leading x (names_at u k) ≡ leading x new = ap (leading x) now in
         let one = more x in
         omega (arith, before, after, one, some)
     | inr ne ↦
-        let same : names_at u k ≡ names_at t k = names_elsewhere w place directory new adds.is_place k ne ∙ adds.names k in
+        let same : names_at u k ≡ names_at t k = names_elsewhere w dir directory new adds.is_dir k ne ∙ adds.names k in
         subst (λ q. 1 ≤ leading x q) (sym same) some
   ]
 
@@ -96,15 +96,15 @@ module _ (room : Room) (t w : Tree) (place : ℕ) (directory : Node) (name : Lis
             bytes = adds.bytes;
             leads = (
               (λ e. adds.apart root is.root_is_there (sym e)),
-              still_there w place (renamed_node directory new) n (ap is_some adds.here),
+              still_there w dir (renamed_node directory new) n (ap is_some adds.here),
             );
           }))
       go false f i =
-          entry_moves t u q k (there k) ((are_names room t directory.body (is.each place directory adds.stands).body).each q k i)
+          entry_moves t u q k (there k) ((are_names room t directory.body (is.each dir directory adds.stands).body).each q k i)
 
   are_new : AreNames u new
   are_new =
-      let were = are_names room t directory.body (is.each place directory adds.stands).body in
+      let were = are_names room t directory.body (is.each dir directory adds.stands).body in
       record {
         rising = with_name-IsMap (names_in directory.body) name n were.rising;
         few =
@@ -134,10 +134,10 @@ module _ (room : Room) (t w : Tree) (place : ℕ) (directory : Node) (name : Lis
       let one = once_same n n refl in
       let all = count n in
       let led = more n in
-      let names : names_at u place ≡ new = names_there w place directory new adds.is_place in
-      let some : 1 ≤ leading n (names_at u place) = (let same : leading n (names_at u place) ≡ leading n new = ap (leading n) names in omega (arith, same, led, one)) in
-      let up : parent u n ≡ place = parent_is u place n some (omega (arith, all, none, one)) in
-      is_in n (subst (IsUnderRoot u) (sym up) (climbs place (record { node = directory; is_there = adds.stands; directory = adds.is_place })))
+      let names : names_at u dir ≡ new = names_there w dir directory new adds.is_dir in
+      let some : 1 ≤ leading n (names_at u dir) = (let same : leading n (names_at u dir) ≡ leading n new = ap (leading n) names in omega (arith, same, led, one)) in
+      let up : parent u n ≡ dir = parent_is u dir n some (omega (arith, all, none, one)) in
+      is_in n (subst (IsUnderRoot u) (sym up) (climbs dir (record { node = directory; is_there = adds.stands; directory = adds.is_dir })))
 
   -- ---- all nodes
 
@@ -150,20 +150,20 @@ module _ (room : Room) (t w : Tree) (place : ℕ) (directory : Node) (name : Lis
     body = body_moves room t u node.body there was.body;
   }
 
-  place_is : IsNode room u place (renamed_node directory new)
-  place_is =
-      let was = is.each place directory adds.stands in
+  dir_is : IsNode room u dir (renamed_node directory new)
+  dir_is =
+      let was = is.each dir directory adds.stands in
       let type = type_with_names new directory.body in
-      node_from_shape room u place (renamed_node directory new)
+      node_from_shape room u dir (renamed_node directory new)
       (record {
         positive = was.positive;
         below = was.below;
         owner = was.owner;
         group = was.group;
-        body = body_renamed room t u directory.body new adds.is_place are_new was.body;
+        body = body_renamed room t u directory.body new adds.is_dir are_new was.body;
       })
-      (same_fit place (names_of u place) (with_names new directory.body) directory.body type (subst (NamesFit place directory.body) (sym (count_other place place_apart)) was.names))
-      (λ d. climbs place (record { node = directory; is_there = adds.stands; directory = adds.is_place }))
+      (same_fit dir (names_of u dir) (with_names new directory.body) directory.body type (subst (NamesFit dir directory.body) (sym (count_other dir dir_apart)) was.names))
+      (λ d. climbs dir (record { node = directory; is_there = adds.stands; directory = adds.is_dir }))
 
   target_is : IsNode room u n target
   target_is =
@@ -185,13 +185,13 @@ module _ (room : Room) (t w : Tree) (place : ℕ) (directory : Node) (name : Lis
       (λ d. climbs m (record { node = node; is_there = at; directory = d }))
 
   node_is : (m : ℕ) (node : Node) → node_at u m ≡ Some node → IsNode room u m node
-  node_is m node at = elim (cases_eq m place) [
+  node_is m node at = elim (cases_eq m dir) [
     | inl e ↦
-        let here : node_at u m ≡ Some (renamed_node directory new) = ap (node_at u) e ∙ at_it w place (renamed_node directory new) in
+        let here : node_at u m ≡ Some (renamed_node directory new) = ap (node_at u) e ∙ at_it w dir (renamed_node directory new) in
         let same : renamed_node directory new ≡ node = cc in
-        subst (IsNode room u m) same (subst (λ k. IsNode room u k (renamed_node directory new)) (sym e) place_is)
+        subst (IsNode room u m) same (subst (λ k. IsNode room u k (renamed_node directory new)) (sym e) dir_is)
     | inr ne ↦
-        let was : node_at w m ≡ Some node = sym (at_others w place (renamed_node directory new) m ne) ∙ at in
+        let was : node_at w m ≡ Some node = sym (at_others w dir (renamed_node directory new) m ne) ∙ at in
         elim (cases_eq m n) [
           | inl e ↦
               let here : node_at w m ≡ Some target = ap (node_at w) e ∙ adds.here in
@@ -203,7 +203,7 @@ module _ (room : Room) (t w : Tree) (place : ℕ) (directory : Node) (name : Lis
 
   pub added_is_tree : IsTree room u
   added_is_tree = record {
-    numbers = with_entry-IsMap w place (renamed_node directory new) adds.numbers;
+    numbers = with_entry-IsMap w dir (renamed_node directory new) adds.numbers;
     root_is_there = directory_moves t u added_keeps_types root is.root_is_there;
     each = node_is;
   }

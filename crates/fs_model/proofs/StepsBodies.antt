@@ -34,22 +34,22 @@ pub IsBytes-resized : (bytes : List ℕ) (size : ℕ) → IsBytes bytes → IsBy
 IsBytes-resized bytes size are =
     IsBytes-append (take size bytes) (replicate (size - length bytes) 0) (IsBytes-take size bytes are) (IsBytes-zeros (size - length bytes))
 
-pub length-overwritten : (bytes : List ℕ) (place : ℕ) (new : List ℕ) (limit : ℕ) → length bytes ≤ limit → place + length new ≤ limit
-    → length (overwritten bytes place new) ≤ limit
-length-overwritten bytes place new limit few fits =
+pub length-overwritten : (bytes : List ℕ) (offset : ℕ) (new : List ℕ) (limit : ℕ) → length bytes ≤ limit → offset + length new ≤ limit
+    → length (overwritten bytes offset new) ≤ limit
+length-overwritten bytes offset new limit few fits =
     omega (
       arith,
-      length-append (resized bytes place ++ new) (drop (place + length new) bytes),
-      length-append (resized bytes place) new,
-      length-resized bytes place,
-      length-drop (place + length new) bytes,
+      length-append (resized bytes offset ++ new) (drop (offset + length new) bytes),
+      length-append (resized bytes offset) new,
+      length-resized bytes offset,
+      length-drop (offset + length new) bytes,
     )
 
-pub IsBytes-overwritten : (bytes : List ℕ) (place : ℕ) (new : List ℕ) → IsBytes bytes → IsBytes new → IsBytes (overwritten bytes place new)
-IsBytes-overwritten bytes place new are fresh =
-    IsBytes-append (resized bytes place ++ new) (drop (place + length new) bytes)
-    (IsBytes-append (resized bytes place) new (IsBytes-resized bytes place are) fresh)
-    (IsBytes-drop (place + length new) bytes are)
+pub IsBytes-overwritten : (bytes : List ℕ) (offset : ℕ) (new : List ℕ) → IsBytes bytes → IsBytes new → IsBytes (overwritten bytes offset new)
+IsBytes-overwritten bytes offset new are fresh =
+    IsBytes-append (resized bytes offset ++ new) (drop (offset + length new) bytes)
+    (IsBytes-append (resized bytes offset) new (IsBytes-resized bytes offset are) fresh)
+    (IsBytes-drop (offset + length new) bytes are)
 
 -- what a node has for bytes
 pub bytes_are_few : (room : Room) (t : Tree) (b : Body) → IsBody room t b → length (bytes_in b) ≤ room.file_limit

@@ -1,14 +1,14 @@
 -- The components of a pathname: one byte or more, none of them a slash or zero.
-use Rattle.std.specs.Prelude.{◌≡◌, ◌≢◌, ℕ, zero, suc, ◌<◌, ◌≤◌, ◌==◌, Bool, true, false, ◌||◌, cond, List, [], ◌∷◌, ◌++◌, length, All}
+use Rattle.std.specs.Prelude.{◌≡◌, ◌≢◌, ℕ, zero, suc, ◌<◌, ◌≤◌, ◌==◌, Bool, true, false, not, ◌||◌, cond, List, [], ◌∷◌, ◌++◌, length, All}
 use Rattle.std.proofs.Common.{refl, ap, arith}
 use Rattle.std.proofs.lemmas.Bool.Decides.{nat_tests}
 use Rattle.std.proofs.lemmas.List.Elements.{All-from_recursion}
-use Rattle.std.specs.List.{AllByRecursion, list_any}
+use Rattle.std.specs.List.{AllByRecursion, filter, list_any, slice_split, onto_first}
 use Rattle.fs_layout.specs.Bytes.{IsBytes}
 use Rattle.fs_layout.specs.Slot.{IsName}
 use Rattle.fs_model.specs.Limits.{name_limit}
 use Rattle.fs_model.specs.Trees.{IsTarget}
-use Rattle.fs_model.specs.Parts.{slash, with_piece, pieces, parts_of}
+use Rattle.fs_model.specs.Parts.{slash, is_empty, parts_of}
 use Rattle.fs_model.specs.Trails.{is_dot, is_dot_dot}
 
 -- ---- bytes
@@ -73,26 +73,31 @@ component b piece are = record {
   chars = All-from_recursion (λ b. (b ≢ 0) × (b ≢ 47)) (b ∷ piece) (chars_back (b ∷ piece) are);
 }
 
-with_piece_are : (piece : List ℕ) (names : List (List ℕ)) → AreNameBytes piece → AreComponents names → AreComponents (with_piece piece names)
-with_piece_are [] names are all = all
-with_piece_are (b ∷ piece) names are all = (component b piece are, all)
+onto_first_are : (b : ℕ) (pieces : List (List ℕ)) → IsNameByte b → AllByRecursion AreNameBytes pieces
+    → AllByRecursion AreNameBytes (onto_first b pieces)
+onto_first_are b [] is are = ((is, tt), tt)
+onto_first_are b (piece ∷ pieces) is are = ((is, are.0), are.1)
 
-one_more : (piece : List ℕ) (b : ℕ) → AreNameBytes piece → IsNameByte b → AreNameBytes (piece ++ b ∷ [])
-one_more [] b are is = (is, tt)
-one_more (c ∷ piece) b are is = (are.0, one_more piece b are.1 is)
-
-pieces_are : (piece path : List ℕ) → AreNameBytes piece → ArePathBytes path → AreComponents (pieces piece path)
-pieces_are piece [] are all = with_piece_are piece [] are tt
-pieces_are piece (b ∷ path) are all =
-    go (b == slash) refl (pieces_are [] path tt all.1) (λ is. pieces_are (piece ++ b ∷ []) path (one_more piece b are is) all.1)
+-- the pieces between slashes
+pieces_are : (path : List ℕ) → ArePathBytes path → AllByRecursion AreNameBytes (slice_split (λ b. b == slash) path)
+pieces_are [] all = (tt, tt)
+pieces_are (b ∷ path) all = go (b == slash) refl (pieces_are path all.1)
   where
-    go : (t : Bool) → (b == slash) ≡ t → AreComponents (pieces [] path) → (IsNameByte b → AreComponents (pieces (piece ++ b ∷ []) path))
-        → AreComponents (cond t (with_piece piece (pieces [] path)) (pieces (piece ++ b ∷ []) path))
-    go true e rest on = with_piece_are piece (pieces [] path) are rest
-    go false e rest on = on (all.0.0, all.0.1, (λ is. let t : (b == slash) ≡ true = grind (arith, nat_tests) in cc))
+    rest : List (List ℕ)
+    rest = slice_split (λ b. b == slash) path
+
+    go : (t : Bool) → (b == slash) ≡ t → AllByRecursion AreNameBytes rest → AllByRecursion AreNameBytes (cond t ([] ∷ rest) (onto_first b rest))
+    go true e are = (tt, are)
+    go false e are = onto_first_are b rest (all.0.0, all.0.1, (λ is. let t : (b == slash) ≡ true = grind (arith, nat_tests) in cc)) are
+
+-- those of them that aren't empty
+nonempty_are : (pieces : List (List ℕ)) → AllByRecursion AreNameBytes pieces → AreComponents (filter (λ piece. not (is_empty piece)) pieces)
+nonempty_are [] are = tt
+nonempty_are ([] ∷ pieces) are = nonempty_are pieces are.1
+nonempty_are ((b ∷ piece) ∷ pieces) are = (component b piece are.0, nonempty_are pieces are.1)
 
 pub parts_are : (path : List ℕ) → ArePathBytes path → AreComponents (parts_of path).names
-parts_are path all = pieces_are [] path tt all
+parts_are path all = nonempty_are (slice_split (λ b. b == slash) path) (pieces_are path all)
 
 pub components_append : (xs ys : List (List ℕ)) → AreComponents xs → AreComponents ys → AreComponents (xs ++ ys)
 components_append [] ys a b = b

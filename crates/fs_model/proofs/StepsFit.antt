@@ -11,7 +11,7 @@ use Rattle.fs_model.specs.Births.{the_node, no_node}
 use Rattle.fs_model.specs.Changes.{Same, Rewrite, changed}
 use Rattle.fs_model.specs.States.{State, IsProcess, IsState}
 use Rattle.fs_model.specs.Scenes.{Scene, Effect, Row}
-use Rattle.fs_model.specs.Trails.{Form}
+use Rattle.fs_model.specs.declared.walk.Form.{Form}
 use Rattle.fs_model.specs.Walks.{found_of}
 use Rattle.fs_model.specs.Steps.{scene_of, found_by, first_found, second_found}
 use Rattle.fs_model.proofs.Finds.{IsThere, finds_are_there}
@@ -27,8 +27,8 @@ pub record IsScene (c : Scene) : Type 0 where
   pub state : IsState c.state
   pub running : IsFalse c.state.halted
   pub process : IsProcess c.state.tree c.process
-  pub first : (n : ℕ) → c.first.found ≡ Some n → IsThere c.state.tree n
-  pub second : (n : ℕ) → c.second.found ≡ Some n → IsThere c.state.tree n
+  pub first : (n : ℕ) → c.first.ino ≡ Some n → IsThere c.state.tree n
+  pub second : (n : ℕ) → c.second.ino ≡ Some n → IsThere c.state.tree n
 
 -- what stands at a number where something does
 pub node_is_there : (t : Tree) (n : ℕ) → IsThere t n → node_at t n ≡ Some (the_node t n)
@@ -39,15 +39,15 @@ node_is_there t n there = go (node_at t n) there
     go (Some node) h = refl
 
 module _ (room : Room) (t : Tree) (is : IsTree room t) (cwd : ℕ) (there : IsThere t cwd) where
-  found_is_there : (walk : Form × List ℕ) (n : ℕ) → (found_by t cwd walk).found ≡ Some n → IsThere t n
+  found_is_there : (walk : Form × List ℕ) (n : ℕ) → (found_by t cwd walk).ino ≡ Some n → IsThere t n
   unfolding found_of
   found_is_there walk n e = finds_are_there room t is cwd walk.0 walk.1 there n e
 
-  first_is_there : (walks : List (Form × List ℕ)) (n : ℕ) → (first_found t cwd walks).found ≡ Some n → IsThere t n
+  first_is_there : (walks : List (Form × List ℕ)) (n : ℕ) → (first_found t cwd walks).ino ≡ Some n → IsThere t n
   first_is_there [] n e = absurd cc
   first_is_there (walk ∷ walks) n e = found_is_there walk n e
 
-  second_is_there : (walks : List (Form × List ℕ)) (n : ℕ) → (second_found t cwd walks).found ≡ Some n → IsThere t n
+  second_is_there : (walks : List (Form × List ℕ)) (n : ℕ) → (second_found t cwd walks).ino ≡ Some n → IsThere t n
   second_is_there [] n e = absurd cc
   second_is_there (walk ∷ walks) n e = first_is_there walks n e
 
@@ -87,7 +87,7 @@ rewrite_fits s n old new p reply is was may fits =
       process = process_moves s.tree (with_node s.tree n new) types p fits;
     }
 
--- a process takes the place of one that was there
+-- a process is put where one was
 pub length-replaced : {X : Type 0} (m : List (ℕ × X)) (k : ℕ) (x y : X) → IsMap nat_cmp m → get nat_cmp m k ≡ Some x
     → length (with_entry nat_cmp m k y) ≡ length m
 length-replaced m k x y h here = length-with_entry m k y h ∙ ap (λ o. cond (is_some o) (length m) (length m + 1)) here

@@ -105,8 +105,8 @@ first_fits n (File a bytes) ne = omega arith
 first_fits n (Dir a d) ne = let other : (n == root) ≡ false = grind (arith, nat_tests) in sym (ap (λ q. cond q 0 1) other)
 first_fits n (Link target) ne = (omega arith, omega arith)
 
-module _ (room : Room) (t : Tree) (place : ℕ) (directory : Node) (name : List ℕ) (n : ℕ) (new : Node) (is : IsTree room t)
-    (stands : node_at t place ≡ Some directory) (is_place : IsTrue (is_directory directory.body))
+module _ (room : Room) (t : Tree) (dir : ℕ) (directory : Node) (name : List ℕ) (n : ℕ) (new : Node) (is : IsTree room t)
+    (stands : node_at t dir ≡ Some directory) (is_dir : IsTrue (is_directory directory.body))
     (is_new : get name_cmp (names_in directory.body) name ≡ None) (has_room : length (names_in directory.body) < entries_limit)
     (is_name : IsName name) (bytes : IsBytes name)
     (positive : 1 ≤ n) (below : n < room.inodes) (none : node_at t n ≡ None) (newborn : IsNewborn room t new) where
@@ -136,7 +136,7 @@ module _ (room : Room) (t : Tree) (place : ℕ) (directory : Node) (name : List 
       let ne : m ≢ n = (λ e. let gone : node_at t m ≡ None = ap (node_at t) e ∙ none in let both : None ≡ Some node = sym gone ∙ at in cc) in
       record { node = node; is_there = at_others t n new m ne ∙ at; same = refl }
 
-  pub makes_name : AddsName room t (with_node t n new) place directory name n new
+  pub makes_name : AddsName room t (with_node t n new) dir directory name n new
   makes_name =
       let nameless = nothing_leads room t n is none in
       record {
@@ -148,7 +148,7 @@ module _ (room : Room) (t : Tree) (place : ℕ) (directory : Node) (name : List 
         counts = count_same;
         types = types_same;
         stands = stands;
-        is_place = is_place;
+        is_dir = is_dir;
         is_new = is_new;
         has_room = has_room;
         is_name = is_name;

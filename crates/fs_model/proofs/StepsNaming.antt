@@ -18,7 +18,7 @@ abbrev pub renamed_node : Node → Names → Node
 renamed_node node names = record node { body = with_names names node.body }
 
 abbrev pub renamed : Tree → ℕ → Node → Names → Tree
-renamed t place node names = with_node t place (renamed_node node names)
+renamed t dir node names = with_node t dir (renamed_node node names)
 
 pub type_with_names : (names : Names) (b : Body) → type_of (with_names names b) ≡ type_of b
 type_with_names names (File a s) = refl
@@ -45,26 +45,26 @@ module _ (t : Tree) (k : ℕ) (node : Node) where
     | inr ne ↦ ap is_some (at_others m ne) ∙ there
   ]
 
-module _ (t : Tree) (place : ℕ) (node : Node) (names : Names) (directory : IsTrue (is_directory node.body)) where
-  pub names_there : names_at (renamed t place node names) place ≡ names
-  names_there = ap names_or (at_it t place (renamed_node node names)) ∙ names_with_names names node.body directory
+module _ (t : Tree) (dir : ℕ) (node : Node) (names : Names) (directory : IsTrue (is_directory node.body)) where
+  pub names_there : names_at (renamed t dir node names) dir ≡ names
+  names_there = ap names_or (at_it t dir (renamed_node node names)) ∙ names_with_names names node.body directory
 
-  pub names_elsewhere : (k : ℕ) → k ≢ place → names_at (renamed t place node names) k ≡ names_at t k
-  names_elsewhere k ne = ap names_or (at_others t place (renamed_node node names) k ne)
+  pub names_elsewhere : (k : ℕ) → k ≢ dir → names_at (renamed t dir node names) k ≡ names_at t k
+  names_elsewhere k ne = ap names_or (at_others t dir (renamed_node node names) k ne)
 
   -- how many names lead to a node
-  pub names_of-renamed : IsMap nat_cmp t → node_at t place ≡ Some node → (x : ℕ)
-      → names_of (renamed t place node names) x + leading x (names_in node.body) ≡ names_of t x + leading x names
+  pub names_of-renamed : IsMap nat_cmp t → node_at t dir ≡ Some node → (x : ℕ)
+      → names_of (renamed t dir node names) x + leading x (names_in node.body) ≡ names_of t x + leading x names
   names_of-renamed m at x =
       let f : ℕ × Node → ℕ = λ e. names_for x e.1.body in
-      let new : f (place, renamed_node node names) ≡ leading x names = ap (leading x) (names_with_names names node.body directory) in
-      let old : summand f place (get nat_cmp t place) ≡ leading x (names_in node.body) = ap (summand f place) at in
-      omega (arith, sum-with_entry f t place (renamed_node node names) m, new, old)
+      let new : f (dir, renamed_node node names) ≡ leading x names = ap (leading x) (names_with_names names node.body directory) in
+      let old : summand f dir (get nat_cmp t dir) ≡ leading x (names_in node.body) = ap (summand f dir) at in
+      omega (arith, sum-with_entry f t dir (renamed_node node names) m, new, old)
 
-pub renamed_keeps_types : (t : Tree) (place : ℕ) (node : Node) (names : Names) → node_at t place ≡ Some node
-    → KeepsTypes t (renamed t place node names)
-renamed_keeps_types t place node names at =
-    replaced_keeps_types t place node (renamed_node node names) at (type_with_names names node.body)
+pub renamed_keeps_types : (t : Tree) (dir : ℕ) (node : Node) (names : Names) → node_at t dir ≡ Some node
+    → KeepsTypes t (renamed t dir node names)
+renamed_keeps_types t dir node names at =
+    replaced_keeps_types t dir node (renamed_node node names) at (type_with_names names node.body)
 
 pub types_compose : (t u v : Tree) → KeepsTypes t u → KeepsTypes u v → KeepsTypes t v
 types_compose t u v first second n node at =

@@ -8,7 +8,7 @@ use Rattle.fs_layout.specs.Bytes.{IsBytes}
 use Rattle.fs_model.specs.declared.call.Flags.{Flags}
 use Rattle.fs_model.specs.declared.call.Call.{Call}
 use Rattle.fs_model.specs.declared.call.Call.TheVariants.{Open, Read, Write, Lseek, Close, Fstat, Stat, Lstat, Access, Truncate, Ftruncate, Chmod, Chown, GetAcl, SetAcl, Readdir, Mkdir, Rmdir, Link, Symlink, Readlink, Unlink, Rename, Chdir, Umask}
-use Rattle.fs_model.specs.declared.reply.Reply.TheVariants.{Ok as Done}
+use Rattle.fs_model.specs.declared.reply.Reply.TheVariants.{Done}
 use Rattle.fs_layout.specs.Maps.{get, with_entry}
 use Rattle.fs_model.specs.Nodes.{with_bytes}
 use Rattle.fs_model.specs.Trees.{IsTree}
@@ -16,9 +16,10 @@ use Rattle.fs_model.specs.Processes.{Process}
 use Rattle.fs_model.specs.Births.{born_file}
 use Rattle.fs_model.specs.Changes.{Same, Rewrite, Make, MoveName, changed}
 use Rattle.fs_model.specs.States.{State, IsState}
-use Rattle.fs_model.specs.Trails.{Form, Parent}
+use Rattle.fs_model.specs.declared.walk.Form.{Form}
+use Rattle.fs_model.specs.declared.walk.Form.TheVariants.{Parent}
 use Rattle.fs_model.specs.Parts.{path_checks}
-use Rattle.fs_model.specs.Scenes.{Scene, Effect, Row, is_found, number, node_found, body_found, place_node, answers, changes}
+use Rattle.fs_model.specs.Scenes.{Scene, Effect, Row, is_found, number, node_found, body_found, dir_node, answers, changes}
 use Rattle.fs_model.specs.OpenCall.{open_form, open_early, open_found_demands, open_new_demands, open_demands, open_change, open_effect}
 use Rattle.fs_model.specs.RenameCall.{is_same, rename_demands, rename_effect}
 use Rattle.fs_model.specs.Rows.{row_of}
@@ -116,20 +117,20 @@ module _ (c : Scene) (is : IsScene c) (pid : ℕ) (here : get nat_cmp c.state.de
       go : (b : Bool) → is_found c.first ≡ b → Leaves (open_effect flags mode c new)
       go true e = fits_leave (open_effect flags mode c new) (open_fits c is flags e path mode new asked met)
       go false e =
-          let none = no_find c.first.found e in
+          let none = no_find c.first.ino e in
           let asks : AreMet (open_new_demands flags c) = subst (λ b. AreMet (cond b (open_found_demands flags c) (open_new_demands flags c))) e met in
-          let file = born_file c.process.cred c.process.umask mode (place_node c c.first) in
-          let makes : open_change flags mode c new ≡ Make c.first.place c.first.name new file =
-          ap (λ b. cond (not b) (Make c.first.place c.first.name new file)
+          let file = born_file c.process.cred c.process.umask mode (dir_node c c.first) in
+          let makes : open_change flags mode c new ≡ Make c.first.dir c.first.name new file =
+          ap (λ b. cond (not b) (Make c.first.dir c.first.name new file)
           (cond (flags.trunc && flags.write) (Rewrite (number c.first) (record (node_found c c.first) { body = with_bytes [] (body_found c c.first) })) Same)) e in
-          let number : HasNewNumber c.state (Make c.first.place c.first.name new file) = subst (HasNewNumber c.state) makes fresh in
+          let number : HasNewNumber c.state (Make c.first.dir c.first.name new file) = subst (HasNewNumber c.state) makes fresh in
           fits_leave (open_effect flags mode c new)
           (open_new_fits c is (walked.new none) asks.1.1.1.1.0 new number.0 number.1 number.2 flags mode path none asked)
 
   renames_leave : IsWalked c.state.tree Parent c.first → IsWalked c.state.tree Parent c.second → AreMet (rename_demands c) → Leaves (rename_effect c)
   renames_leave first second met = go (is_same c) refl
     where
-      go : (b : Bool) → is_same c ≡ b → Leaves (changes c (cond b Same (MoveName c.first.place c.first.name c.second.place c.second.name)))
+      go : (b : Bool) → is_same c ≡ b → Leaves (changes c (cond b Same (MoveName c.first.dir c.first.name c.second.dir c.second.name)))
       go true e = answer_leaves
       go false e = rename_leaves c is pid here first second met e
 

@@ -9,7 +9,7 @@ use Rattle.fs_layout.specs.Bytes.{IsBytes}
 use Rattle.fs_layout.proofs.Sectors.{IsBytes-take}
 use Rattle.fs_model.specs.declared.call.Whence.{Whence}
 use Rattle.fs_model.specs.declared.reply.Reply.{Reply}
-use Rattle.fs_model.specs.declared.reply.Reply.TheVariants.{Ok as Done, Data, Wrote, At}
+use Rattle.fs_model.specs.declared.reply.Reply.TheVariants.{Done, Data, Wrote, At}
 use Rattle.fs_model.specs.Limits.{move_limit}
 use Rattle.fs_model.specs.Nodes.{bytes_in}
 use Rattle.fs_model.specs.Trees.{node_at, IsNode}
@@ -18,7 +18,7 @@ use Rattle.fs_model.specs.Changes.{Rewrite}
 use Rattle.fs_model.specs.Parts.{is_empty}
 use Rattle.fs_model.specs.Demands.{refuse, only_if}
 use Rattle.fs_model.specs.Scenes.{Scene, node_open, no_blocks, is_bad, is_bad_to_read, is_bad_to_write, answers}
-use Rattle.fs_model.specs.DescriptorCalls.{resized, overwritten, read_bytes, read_effect, write_place, write_count, write_demands, written, write_effect, seekable, seek_base, sought, lseek_effect, close_effect, ftruncate_demands, ftruncate_effect, resized_node}
+use Rattle.fs_model.specs.DescriptorCalls.{resized, overwritten, read_bytes, read_effect, write_offset, write_count, write_demands, written, write_effect, seekable, seek_base, sought, lseek_effect, close_effect, ftruncate_demands, ftruncate_effect, resized_node}
 use Rattle.fs_model.proofs.StepsBodies.{bytes_are_few, bytes_are_bytes, length-resized, IsBytes-resized, length-overwritten, IsBytes-overwritten, bytes_may_replace}
 use Rattle.fs_model.proofs.StepsDemands.{AreMet, unrefused, is_open_here, is_read_here, is_written_here}
 use Rattle.fs_model.proofs.StepsFit.{IsScene, EffectFits, node_is_there, no_change_fits, rewrite_fits}
@@ -79,29 +79,29 @@ module _ (c : Scene) (is : IsScene c) where
         (IsBytes-resized bytes size (bytes_are_bytes c.state.room c.state.tree node.body open_is.body)))
         is.process
 
-    -- at a place below the limit
-    write_fits_here : (bytes : List ℕ) → IsBytes bytes → write_place c fd < c.state.room.file_limit
+    -- at an offset below the limit
+    write_fits_here : (bytes : List ℕ) → IsBytes bytes → write_offset c fd < c.state.room.file_limit
         → EffectFits c.state (record {
-          change = Rewrite (the_descriptor c.process fd).number (written (node_open c fd) (write_place c fd) (take (write_count c fd bytes) bytes));
-          process = with_offset c.process fd (write_place c fd + write_count c fd bytes);
+          change = Rewrite (the_descriptor c.process fd).number (written (node_open c fd) (write_offset c fd) (take (write_count c fd bytes) bytes));
+          process = with_offset c.process fd (write_offset c fd + write_count c fd bytes);
           reply = Wrote (write_count c fd bytes);
         })
     write_fits_here bytes are below =
         let n = (the_descriptor c.process fd).number in
         let node = node_open c fd in
         let old = bytes_in node.body in
-        let place = write_place c fd in
+        let offset = write_offset c fd in
         let limit = c.state.room.file_limit in
-        let count = min (length bytes) (min move_limit (limit - place)) in
+        let count = min (length bytes) (min move_limit (limit - offset)) in
         let new = take count bytes in
         let most : limit < 2 ^ 63 = is.state.room.file_limit in
-        let far : place + count ≤ limit = omega (arith, below) in
-        let len : place + length new ≤ limit = omega (arith, far, length-take count bytes) in
-        rewrite_fits c.state n node (written node place new) (with_offset c.process fd (place + count)) (Wrote count) is.state open_at
-        (bytes_may_replace c.state.room c.state.tree n node open_is (overwritten old place new)
-        (length-overwritten old place new limit open_few len)
-        (IsBytes-overwritten old place new (bytes_are_bytes c.state.room c.state.tree node.body open_is.body) (IsBytes-take count bytes are)))
-        (with_offset_fits c.state.tree c.process is.process fd (place + count) here (omega (arith, far, most)))
+        let far : offset + count ≤ limit = omega (arith, below) in
+        let len : offset + length new ≤ limit = omega (arith, far, length-take count bytes) in
+        rewrite_fits c.state n node (written node offset new) (with_offset c.process fd (offset + count)) (Wrote count) is.state open_at
+        (bytes_may_replace c.state.room c.state.tree n node open_is (overwritten old offset new)
+        (length-overwritten old offset new limit open_few len)
+        (IsBytes-overwritten old offset new (bytes_are_bytes c.state.room c.state.tree node.body open_is.body) (IsBytes-take count bytes are)))
+        (with_offset_fits c.state.tree c.process is.process fd (offset + count) here (omega (arith, far, most)))
 
   pub read_fits : (fd len : ℕ) → AreMet (is_bad_to_read fd c.process ∷ []) → EffectFits c.state (read_effect fd len c)
   read_fits fd len asked =
@@ -129,13 +129,13 @@ module _ (c : Scene) (is : IsScene c) where
       → EffectFits c.state (write_effect fd bytes c)
   write_fits fd bytes are asked met = go (is_empty bytes) met
     where
-      go : (b : Bool) → AreMet (only_if (not b) (refuse EFBIG (nat_le c.state.room.file_limit (write_place c fd)) ∷ no_blocks c ∷ []))
+      go : (b : Bool) → AreMet (only_if (not b) (refuse EFBIG (nat_le c.state.room.file_limit (write_offset c fd)) ∷ no_blocks c ∷ []))
           → EffectFits c.state (cond b (answers c (Wrote 0)) (record {
-            change = Rewrite (the_descriptor c.process fd).number (written (node_open c fd) (write_place c fd) (take (write_count c fd bytes) bytes));
-            process = with_offset c.process fd (write_place c fd + write_count c fd bytes);
+            change = Rewrite (the_descriptor c.process fd).number (written (node_open c fd) (write_offset c fd) (take (write_count c fd bytes) bytes));
+            process = with_offset c.process fd (write_offset c fd + write_count c fd bytes);
             reply = Wrote (write_count c fd bytes);
           }))
       go true met = answer_fits (Wrote 0)
       go false met =
-          let e : nat_le c.state.room.file_limit (write_place c fd) ≡ false = unrefused EFBIG _ met.0 in
+          let e : nat_le c.state.room.file_limit (write_offset c fd) ≡ false = unrefused EFBIG _ met.0 in
           write_fits_here fd (here_if_written fd asked) bytes are (grind (arith, nat_tests))

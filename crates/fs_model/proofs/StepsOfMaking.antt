@@ -9,7 +9,7 @@ use Rattle.fs_cred.specs.declared.errno.Errno.TheVariants.{EPERM, ENOENT, EEXIST
 use Rattle.fs_layout.specs.Bytes.{IsBytes}
 use Rattle.fs_model.specs.declared.call.Flags.{Flags}
 use Rattle.fs_model.specs.declared.reply.Reply.{Reply}
-use Rattle.fs_model.specs.declared.reply.Reply.TheVariants.{Ok as Done, Fd}
+use Rattle.fs_model.specs.declared.reply.Reply.TheVariants.{Done, Fd}
 use Rattle.fs_model.specs.Limits.{entries_limit, descriptors_limit, names_limit, target_limit}
 use Rattle.fs_layout.specs.Maps.{get, name_cmp, with_entry}
 use Rattle.fs_model.specs.Nodes.{Node, Body, File, Dir, Link, is_directory, names_in, with_bytes}
@@ -19,8 +19,8 @@ use Rattle.fs_model.specs.Processes.{least_unused}
 use Rattle.fs_model.specs.Changes.{Same, Rewrite, Make, AddName, with_names_at, named, changed}
 use Rattle.fs_model.specs.States.{IsProcess}
 use Rattle.fs_model.specs.Parts.{is_empty}
-use Rattle.fs_model.specs.Walks.{Found}
-use Rattle.fs_model.specs.Scenes.{Scene, is_found, is_special, number, node_found, body_found, place_node, is_directory_found, must_be_new, no_names}
+use Rattle.fs_model.specs.declared.walk.Found.{Found}
+use Rattle.fs_model.specs.Scenes.{Scene, is_found, is_special, number, node_found, body_found, dir_node, is_directory_found, must_be_new, no_names}
 use Rattle.fs_model.specs.OpenCall.{open_early, open_process, open_effect}
 use Rattle.fs_model.specs.NameCalls.{mkdir_effect, symlink_arguments, symlink_effect, link_demands, link_effect}
 use Rattle.fs_model.proofs.StepsAdding.{AddsName, added_is_tree, added_keeps_types}
@@ -36,102 +36,102 @@ use Rattle.fs_model.proofs.StepsProcesses.{with_descriptor_fits, least_is_low}
 
 -- ---- what a name stands in
 
--- the directory is what stands at the place
-pub place_is_there : (t : Tree) (place : ℕ) (name : List ℕ) (o : Option ℕ) → IsNameAt t place name o
-    → (node_at t place ≡ Some (the_node t place)) × IsTrue (is_directory (the_node t place).body) × (get name_cmp (names_in (the_node t place).body) name ≡ o)
-place_is_there t place name o x =
-    let at = node_is_there t place (ap is_some x.stands) in
-    let same : x.node ≡ the_node t place = cc in
+-- the directory is what stands at the number
+pub dir_is_there : (t : Tree) (dir : ℕ) (name : List ℕ) (o : Option ℕ) → IsNameAt t dir name o
+    → (node_at t dir ≡ Some (the_node t dir)) × IsTrue (is_directory (the_node t dir).body) × (get name_cmp (names_in (the_node t dir).body) name ≡ o)
+dir_is_there t dir name o x =
+    let at = node_is_there t dir (ap is_some x.stands) in
+    let same : x.node ≡ the_node t dir = cc in
     (at, subst (λ v. IsTrue (is_directory v.body)) same x.directory, subst (λ v. get name_cmp (names_in v.body) name ≡ o) same x.leads)
 
-pub named_is : (t : Tree) (place : ℕ) (directory : Node) (name : List ℕ) (n : ℕ) → node_at t place ≡ Some directory
-    → named t place name n ≡ renamed t place directory (with_entry name_cmp (names_in directory.body) name n)
-named_is t place directory name n at = ap (with_names_at t place (λ names. with_entry name_cmp names name n)) at
+pub named_is : (t : Tree) (dir : ℕ) (directory : Node) (name : List ℕ) (n : ℕ) → node_at t dir ≡ Some directory
+    → named t dir name n ≡ renamed t dir directory (with_entry name_cmp (names_in directory.body) name n)
+named_is t dir directory name n at = ap (with_names_at t dir (λ names. with_entry name_cmp names name n)) at
 
 pub no_find : (o : Option ℕ) → is_some o ≡ false → o ≡ None
 no_find None h = refl
 no_find (Some n) h = absurd cc
 
-pub is_new_if : (f : Found) → must_be_new f ≡ None → f.found ≡ None
-is_new_if f met = no_find f.found (or_parts (is_found f) (is_special f) (unrefused EEXIST (is_found f || is_special f) met)).0
+pub is_new_if : (f : Found) → must_be_new f ≡ None → f.ino ≡ None
+is_new_if f met = no_find f.ino (or_parts (is_found f) (is_special f) (unrefused EEXIST (is_found f || is_special f) met)).0
 
 -- ---- a new node
 
-module _ (c : Scene) (is : IsScene c) (name : IsNameAt c.state.tree c.first.place c.first.name None) (met : no_names c c.first ≡ None)
+module _ (c : Scene) (is : IsScene c) (name : IsNameAt c.state.tree c.first.dir c.first.name None) (met : no_names c c.first ≡ None)
     (n : ℕ) (positive : 1 ≤ n) (below : n < c.state.room.inodes) (none : node_at c.state.tree n ≡ None) where
   abbrev Place : Node
-  Place = place_node c c.first
+  Place = dir_node c c.first
 
-  place_at : node_at c.state.tree c.first.place ≡ Some (place_node c c.first)
-  place_at = (place_is_there c.state.tree c.first.place c.first.name None name).0
+  dir_at : node_at c.state.tree c.first.dir ≡ Some (dir_node c c.first)
+  dir_at = (dir_is_there c.state.tree c.first.dir c.first.name None name).0
 
-  has_room : length (names_in (place_node c c.first).body) < entries_limit
-  has_room = let full : nat_le entries_limit (length (names_in (place_node c c.first).body)) ≡ false = unrefused ENOSPC _ met in grind (arith, nat_tests)
+  has_room : length (names_in (dir_node c c.first).body) < entries_limit
+  has_room = let full : nat_le entries_limit (length (names_in (dir_node c c.first).body)) ≡ false = unrefused ENOSPC _ met in grind (arith, nat_tests)
 
   adds : (new : Node) → IsNewborn c.state.room c.state.tree new
-      → AddsName c.state.room c.state.tree (with_node c.state.tree n new) c.first.place (place_node c c.first) c.first.name n new
+      → AddsName c.state.room c.state.tree (with_node c.state.tree n new) c.first.dir (dir_node c c.first) c.first.name n new
   adds new newborn =
-      let x = place_is_there c.state.tree c.first.place c.first.name None name in
-      makes_name c.state.room c.state.tree c.first.place (place_node c c.first) c.first.name n new is.state.tree x.0 x.1 x.2 has_room
+      let x = dir_is_there c.state.tree c.first.dir c.first.name None name in
+      makes_name c.state.room c.state.tree c.first.dir (dir_node c c.first) c.first.name n new is.state.tree x.0 x.1 x.2 has_room
       name.is_name name.bytes positive below none newborn
 
   abbrev made : Node → Tree
-  made new = changed c.state.tree (Make c.first.place c.first.name n new)
+  made new = changed c.state.tree (Make c.first.dir c.first.name n new)
 
   made_is : (new : Node) → IsNewborn c.state.room c.state.tree new
-      → made new ≡ renamed (with_node c.state.tree n new) c.first.place (place_node c c.first) (with_entry name_cmp (names_in (place_node c c.first).body) c.first.name n)
+      → made new ≡ renamed (with_node c.state.tree n new) c.first.dir (dir_node c c.first) (with_entry name_cmp (names_in (dir_node c c.first).body) c.first.name n)
   made_is new newborn =
       let a = adds new newborn in
-      let ne : c.first.place ≢ n = a.apart c.first.place (record { node = place_node c c.first; is_there = a.stands; directory = a.is_place }) in
-      named_is (with_node c.state.tree n new) c.first.place (place_node c c.first) c.first.name n (at_others c.state.tree n new c.first.place ne ∙ place_at)
+      let ne : c.first.dir ≢ n = a.apart c.first.dir (record { node = dir_node c c.first; is_there = a.stands; directory = a.is_dir }) in
+      named_is (with_node c.state.tree n new) c.first.dir (dir_node c c.first) c.first.name n (at_others c.state.tree n new c.first.dir ne ∙ dir_at)
 
   made_is_tree : (new : Node) → IsNewborn c.state.room c.state.tree new → IsTree c.state.room (made new)
   made_is_tree new newborn =
       subst (IsTree c.state.room) (sym (made_is new newborn))
-      (added_is_tree c.state.room c.state.tree (with_node c.state.tree n new) c.first.place (place_node c c.first) c.first.name n new is.state.tree (adds new newborn))
+      (added_is_tree c.state.room c.state.tree (with_node c.state.tree n new) c.first.dir (dir_node c c.first) c.first.name n new is.state.tree (adds new newborn))
 
   made_keeps_types : (new : Node) → IsNewborn c.state.room c.state.tree new → KeepsTypes c.state.tree (made new)
   made_keeps_types new newborn =
       subst (KeepsTypes c.state.tree) (sym (made_is new newborn))
-      (added_keeps_types c.state.room c.state.tree (with_node c.state.tree n new) c.first.place (place_node c c.first) c.first.name n new is.state.tree (adds new newborn))
+      (added_keeps_types c.state.room c.state.tree (with_node c.state.tree n new) c.first.dir (dir_node c c.first) c.first.name n new is.state.tree (adds new newborn))
 
   -- the new node stands in the tree
   made_at : (new : Node) → IsNewborn c.state.room c.state.tree new → node_at (made new) n ≡ Some new
   made_at new newborn =
       let a = adds new newborn in
-      let ne : n ≢ c.first.place = (λ e. a.apart c.first.place (record { node = place_node c c.first; is_there = a.stands; directory = a.is_place }) (sym e)) in
+      let ne : n ≢ c.first.dir = (λ e. a.apart c.first.dir (record { node = dir_node c c.first; is_there = a.stands; directory = a.is_dir }) (sym e)) in
       ap (λ t. node_at t n) (made_is new newborn)
-      ∙ at_others (with_node c.state.tree n new) c.first.place (renamed_node (place_node c c.first) (with_entry name_cmp (names_in (place_node c c.first).body) c.first.name n)) n ne
+      ∙ at_others (with_node c.state.tree n new) c.first.dir (renamed_node (dir_node c c.first) (with_entry name_cmp (names_in (dir_node c c.first).body) c.first.name n)) n ne
       ∙ at_it c.state.tree n new
 
   made_fits : (new : Node) (reply : Reply) → IsNewborn c.state.room c.state.tree new
-      → EffectFits c.state (record { change = Make c.first.place c.first.name n new; process = c.process; reply = reply })
+      → EffectFits c.state (record { change = Make c.first.dir c.first.name n new; process = c.process; reply = reply })
   made_fits new reply newborn =
       let types = made_keeps_types new newborn in
       record { tree = made_is_tree new newborn; types = types; process = process_moves c.state.tree (made new) types c.process is.process }
 
-  small_group : (place_node c c.first).group < 2 ^ 32
-  small_group = (is.state.tree.each c.first.place (place_node c c.first) place_at).group
+  small_group : (dir_node c c.first).group < 2 ^ 32
+  small_group = (is.state.tree.each c.first.dir (dir_node c c.first) dir_at).group
 
   pub mkdir_fits : (mode : ℕ) → EffectFits c.state (mkdir_effect mode c n)
   mkdir_fits mode =
-      made_fits (born_directory c.process.cred c.process.umask mode (place_node c c.first)) Done
-      (directory_is_born c.state.room c.state.tree c.process.cred is.process.cred (place_node c c.first) small_group c.process.umask mode
-      (is.state.tree.each c.first.place (place_node c c.first) place_at).body)
+      made_fits (born_directory c.process.cred c.process.umask mode (dir_node c c.first)) Done
+      (directory_is_born c.state.room c.state.tree c.process.cred is.process.cred (dir_node c c.first) small_group c.process.umask mode
+      (is.state.tree.each c.first.dir (dir_node c c.first) dir_at).body)
 
   pub symlink_fits : (target : List ℕ) → IsTarget target → EffectFits c.state (symlink_effect target c n)
   symlink_fits target valid =
-      made_fits (born_link c.process.cred target (place_node c c.first)) Done
-      (link_is_born c.state.room c.state.tree c.process.cred is.process.cred (place_node c c.first) small_group target valid)
+      made_fits (born_link c.process.cred target (dir_node c c.first)) Done
+      (link_is_born c.state.room c.state.tree c.process.cred is.process.cred (dir_node c c.first) small_group target valid)
 
   -- a new file, and its descriptor
-  pub open_new_fits : (flags : Flags) (mode : ℕ) (path : List ℕ) → c.first.found ≡ None → AreMet (open_early flags path c.process)
+  pub open_new_fits : (flags : Flags) (mode : ℕ) (path : List ℕ) → c.first.ino ≡ None → AreMet (open_early flags path c.process)
       → EffectFits c.state (open_effect flags mode c n)
   open_new_fits flags mode path absent asked =
-      let file = born_file c.process.cred c.process.umask mode (place_node c c.first) in
+      let file = born_file c.process.cred c.process.umask mode (dir_node c c.first) in
       let newborn =
-      file_is_born c.state.room c.state.tree c.process.cred is.process.cred (place_node c c.first) small_group c.process.umask mode
-      (is.state.tree.each c.first.place (place_node c c.first) place_at).body in
+      file_is_born c.state.room c.state.tree c.process.cred is.process.cred (dir_node c c.first) small_group c.process.umask mode
+      (is.state.tree.each c.first.dir (dir_node c c.first) dir_at).body in
       let types = made_keeps_types file newborn in
       let moved = process_moves c.state.tree (made file) types c.process is.process in
       let full : nat_le descriptors_limit (length c.process.descriptors) ≡ false = unrefused EMFILE _ asked.1.0 in
@@ -148,9 +148,9 @@ module _ (c : Scene) (is : IsScene c) (name : IsNameAt c.state.tree c.first.plac
         no_link = refl;
         no_writes = λ directory. absurd cc;
       }) in
-      fits_as c.state (record { change = Make c.first.place c.first.name n file; process = open_process c.process flags n; reply = Fd 0 })
+      fits_as c.state (record { change = Make c.first.dir c.first.name n file; process = open_process c.process flags n; reply = Fd 0 })
       (open_effect flags mode c n)
-      (ap (λ o. cond (not (is_some o)) (Make c.first.place c.first.name n file)
+      (ap (λ o. cond (not (is_some o)) (Make c.first.dir c.first.name n file)
       (cond (flags.trunc && flags.write) (Rewrite (number c.first) (record (node_found c c.first) { body = with_bytes [] (body_found c c.first) })) Same)) absent)
       (ap (λ o. open_process c.process flags (unwrap_or o n)) absent)
       (record { tree = made_is_tree file newborn; types = types; process = process })
@@ -190,7 +190,7 @@ one_name_more n (File a bytes) names d few = omega (arith, few)
 one_name_more n (Dir a dir) names d few = absurd cc
 one_name_more n (Link target) names d few = (omega arith, omega (arith, few))
 
-pub link_fits : (c : Scene) → IsScene c → IsNameAt c.state.tree c.second.place c.second.name None → AreMet (link_demands c)
+pub link_fits : (c : Scene) → IsScene c → IsNameAt c.state.tree c.second.dir c.second.name None → AreMet (link_demands c)
     → EffectFits c.state (link_effect c)
 link_fits c is name met =
     let t = c.state.tree in
@@ -198,15 +198,15 @@ link_fits c is name met =
     let found = is_found_if c.first met.1.0 in
     let target = node_found c c.first in
     let node = first_is c is found in
-    let place = c.second.place in
-    let directory = place_node c c.second in
-    let x = place_is_there t place c.second.name None name in
+    let dir = c.second.dir in
+    let directory = dir_node c c.second in
+    let x = dir_is_there t dir c.second.name None name in
     let no_directory : is_directory target.body ≡ false = and_false (is_found c.first) (is_directory target.body) (unrefused EPERM (is_directory_found c c.first) met.1.1.1.0) found in
     let many : nat_le names_limit (names_of t n) ≡ false = unrefused EMLINK _ met.1.1.1.1.1.1.1.0 in
     let few : names_of t n < names_limit = grind (arith, nat_tests) in
     let full : nat_le entries_limit (length (names_in directory.body)) ≡ false = unrefused ENOSPC _ met.1.1.1.1.1.1.1.1.1.0 in
     let free : length (names_in directory.body) < entries_limit = grind (arith, nat_tests) in
-    let adds : AddsName c.state.room t t place directory c.second.name n target = record {
+    let adds : AddsName c.state.room t t dir directory c.second.name n target = record {
       numbers = is.state.tree.numbers;
       here = first_at c is found;
       others = λ m ne. refl;
@@ -215,7 +215,7 @@ link_fits c is name met =
       counts = λ k. refl;
       types = types_stay t;
       stands = x.0;
-      is_place = x.1;
+      is_dir = x.1;
       is_new = x.2;
       has_room = free;
       is_name = name.is_name;
@@ -225,13 +225,13 @@ link_fits c is name met =
       fits = one_name_more n target.body (names_of t n) no_directory few;
       unnamed = λ d. absurd cc;
     } in
-    let u : changed t (AddName place c.second.name n) ≡ renamed t place directory (with_entry name_cmp (names_in directory.body) c.second.name n) =
-    named_is t place directory c.second.name n x.0 in
-    let tree : IsTree c.state.room (changed t (AddName place c.second.name n)) =
-    subst (IsTree c.state.room) (sym u) (added_is_tree c.state.room t t place directory c.second.name n target is.state.tree adds) in
-    let types : KeepsTypes t (changed t (AddName place c.second.name n)) =
-    subst (KeepsTypes t) (sym u) (added_keeps_types c.state.room t t place directory c.second.name n target is.state.tree adds) in
-    record { tree = tree; types = types; process = process_moves t (changed t (AddName place c.second.name n)) types c.process is.process }
+    let u : changed t (AddName dir c.second.name n) ≡ renamed t dir directory (with_entry name_cmp (names_in directory.body) c.second.name n) =
+    named_is t dir directory c.second.name n x.0 in
+    let tree : IsTree c.state.room (changed t (AddName dir c.second.name n)) =
+    subst (IsTree c.state.room) (sym u) (added_is_tree c.state.room t t dir directory c.second.name n target is.state.tree adds) in
+    let types : KeepsTypes t (changed t (AddName dir c.second.name n)) =
+    subst (KeepsTypes t) (sym u) (added_keeps_types c.state.room t t dir directory c.second.name n target is.state.tree adds) in
+    record { tree = tree; types = types; process = process_moves t (changed t (AddName dir c.second.name n)) types c.process is.process }
   where
     apart : (d : ℕ) → IsDirectoryAt c.state.tree d → d ≡ number c.first → is_directory (body_found c c.first) ≡ false
         → node_at c.state.tree (number c.first) ≡ Some (node_found c c.first) → ⊥

@@ -12,7 +12,7 @@ use Rattle.fs_model.specs.Processes.{least_unused}
 use Rattle.fs_model.specs.Changes.{Same, Rewrite, Make}
 use Rattle.fs_model.specs.States.{State, IsProcess}
 use Rattle.fs_model.specs.Births.{born_file}
-use Rattle.fs_model.specs.Scenes.{Scene, Effect, is_found, number, node_found, body_found, place_node}
+use Rattle.fs_model.specs.Scenes.{Scene, Effect, is_found, number, node_found, body_found, dir_node}
 use Rattle.fs_model.specs.OpenCall.{open_early, open_found_demands, open_new_demands, open_demands, open_change, open_process, open_effect}
 use Rattle.fs_model.proofs.StepsBodies.{bytes_may_replace}
 use Rattle.fs_model.proofs.StepsDemands.{AreMet, unrefused, and_false}
@@ -58,15 +58,15 @@ module _ (c : Scene) (is : IsScene c) (flags : Flags) (found : is_found c.first 
       let n = number c.first in
       let node = node_found c c.first in
       let fits = opened_fits path asked (subst (λ b. AreMet (cond b (open_found_demands flags c) (open_new_demands flags c))) found met) in
-      let process : open_process c.process flags (unwrap_or c.first.found new) ≡ open_process c.process flags n =
-      ap (open_process c.process flags) (unwrapped c.first.found new 0 found) in
+      let process : open_process c.process flags (unwrap_or c.first.ino new) ≡ open_process c.process flags n =
+      ap (open_process c.process flags) (unwrapped c.first.ino new 0 found) in
       let emptied : Node = record node { body = with_bytes [] node.body } in
       let change : open_change flags mode c new ≡ cond (flags.trunc && flags.write) (Rewrite n emptied) Same =
-      ap (λ b. cond (not b) (Make c.first.place c.first.name new (born_file c.process.cred c.process.umask mode (place_node c c.first))) (cond (flags.trunc && flags.write) (Rewrite n emptied) Same)) found in
+      ap (λ b. cond (not b) (Make c.first.dir c.first.name new (born_file c.process.cred c.process.umask mode (dir_node c c.first))) (cond (flags.trunc && flags.write) (Rewrite n emptied) Same)) found in
       go (flags.trunc && flags.write) fits process change
     where
       go : (b : Bool) → IsProcess c.state.tree (open_process c.process flags (number c.first))
-          → open_process c.process flags (unwrap_or c.first.found new) ≡ open_process c.process flags (number c.first)
+          → open_process c.process flags (unwrap_or c.first.ino new) ≡ open_process c.process flags (number c.first)
           → open_change flags mode c new ≡ cond b (Rewrite (number c.first) (record (node_found c c.first) { body = with_bytes [] (body_found c c.first) })) Same
           → EffectFits c.state (open_effect flags mode c new)
       go true fits process change =

@@ -6,10 +6,10 @@ use Rattle.std.proofs.lemmas.Bool.Decides.{nat_tests}
 use Rattle.posix_acl.specs.AccessList.{AccessList, IsSomeAcl}
 use Rattle.fs_cred.specs.declared.errno.Errno.TheVariants.{ENOENT, ENOTDIR, EFBIG}
 use Rattle.fs_model.specs.declared.call.AclType.{AclType}
-use Rattle.fs_model.specs.declared.reply.Reply.TheVariants.{Ok as Done, Mask}
+use Rattle.fs_model.specs.declared.reply.Reply.TheVariants.{Done, Mask}
 use Rattle.fs_model.specs.Nodes.{is_directory, bytes_in}
 use Rattle.fs_model.specs.Trees.{node_at, IsNode}
-use Rattle.fs_model.specs.Walks.{Found}
+use Rattle.fs_model.specs.declared.walk.Found.{Found}
 use Rattle.fs_model.specs.Scenes.{Scene, is_found, number, node_found, body_found, must_be_there}
 use Rattle.fs_model.specs.DescriptorCalls.{resized, resized_node}
 use Rattle.fs_model.specs.AttributeCalls.{truncate_demands, truncate_effect, chmod_demands, moded, chmod_effect, chown_demands, owned, chown_effect, with_set_acl, set_acl_demands, set_acl_effect, chdir_demands, chdir_effect, umask_effect}
@@ -28,7 +28,7 @@ is_found_if f met = not-false (is_found f) (unrefused ENOENT (not (is_found f)) 
 
 module _ (c : Scene) (is : IsScene c) where
   pub first_at : is_found c.first ≡ true → node_at c.state.tree (number c.first) ≡ Some (node_found c c.first)
-  first_at found = node_is_there c.state.tree (number c.first) (is.first (number c.first) (found_number c.first.found found))
+  first_at found = node_is_there c.state.tree (number c.first) (is.first (number c.first) (found_number c.first.ino found))
 
   pub first_is : is_found c.first ≡ true → IsNode c.state.room c.state.tree (number c.first) (node_found c c.first)
   first_is found = is.state.tree.each (number c.first) (node_found c c.first) (first_at found)

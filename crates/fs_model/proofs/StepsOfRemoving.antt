@@ -10,8 +10,8 @@ use Rattle.fs_model.specs.Trees.{IsDirectoryAt}
 use Rattle.fs_model.specs.Processes.{is_in_use}
 use Rattle.fs_model.specs.Changes.{Change, TakeName, with_names_at, changed}
 use Rattle.fs_model.specs.Parts.{is_empty}
-use Rattle.fs_model.specs.Trails.{Parent}
-use Rattle.fs_model.specs.Scenes.{Scene, is_found, is_special, number, node_found, body_found, place_node, is_directory_found, has_names, ends_top, ends_dot, ends_dot_dot}
+use Rattle.fs_model.specs.declared.walk.Form.TheVariants.{Parent}
+use Rattle.fs_model.specs.Scenes.{Scene, is_found, is_special, number, node_found, body_found, dir_node, is_directory_found, has_names, ends_top, ends_dot, ends_dot_dot}
 use Rattle.fs_model.specs.NameCalls.{unlink_demands, rmdir_demands}
 use Rattle.fs_model.proofs.StepsDemands.{AreMet, unrefused, and_false}
 use Rattle.fs_layout.proofs.NameMaps.{once_if}
@@ -19,7 +19,7 @@ use Rattle.fs_model.proofs.StepsFit.{IsScene}
 use Rattle.fs_model.proofs.StepsFound.{IsNameAt, IsWalked}
 use Rattle.fs_model.proofs.StepsLosing.{LosesNames, loses_may_be_left}
 use Rattle.fs_model.proofs.StepsNaming.{renamed}
-use Rattle.fs_model.proofs.StepsOfMaking.{place_is_there}
+use Rattle.fs_model.proofs.StepsOfMaking.{dir_is_there}
 use Rattle.fs_model.proofs.StepsOfPaths.{found_number, first_at, is_found_if}
 use Rattle.fs_model.proofs.StepsParents.{names_or, names_at}
 use Rattle.fs_model.proofs.StepsSwept.{MayBeLeft}
@@ -56,28 +56,28 @@ module _ (c : Scene) (is : IsScene c) (pid : ℕ) (here : get nat_cmp c.state.de
 
   -- ---- unlink and rmdir
 
-  taken_leaves : IsNameAt c.state.tree c.first.place c.first.name c.first.found → is_found c.first ≡ true
+  taken_leaves : IsNameAt c.state.tree c.first.dir c.first.name c.first.ino → is_found c.first ≡ true
       → (IsDirectoryAt c.state.tree (number c.first) → names_at c.state.tree (number c.first) ≡ [])
       → (IsDirectoryAt c.state.tree (number c.first) → is_in_use c.state.desks (number c.first) ≡ false)
-      → MayBeLeft c.state.room (changed c.state.tree (TakeName c.first.place c.first.name)) (with_entry nat_cmp c.state.desks pid c.process)
+      → MayBeLeft c.state.room (changed c.state.tree (TakeName c.first.dir c.first.name)) (with_entry nat_cmp c.state.desks pid c.process)
   taken_leaves name found empty unused =
       let t = c.state.tree in
-      let x = place_is_there t c.first.place c.first.name c.first.found name in
-      let directory = place_node c c.first in
-      let u : changed t (TakeName c.first.place c.first.name) ≡ renamed t c.first.place directory (without name_cmp (names_in directory.body) c.first.name) =
-      ap (with_names_at t c.first.place (λ names. without name_cmp names c.first.name)) x.0 in
-      loses_leaves (TakeName c.first.place c.first.name) (once_if (number c.first))
+      let x = dir_is_there t c.first.dir c.first.name c.first.ino name in
+      let directory = dir_node c c.first in
+      let u : changed t (TakeName c.first.dir c.first.name) ≡ renamed t c.first.dir directory (without name_cmp (names_in directory.body) c.first.name) =
+      ap (with_names_at t c.first.dir (λ names. without name_cmp names c.first.name)) x.0 in
+      loses_leaves (TakeName c.first.dir c.first.name) (once_if (number c.first))
       (subst (λ w. LosesNames c.state.room t w c.state.desks (once_if (number c.first))) (sym u)
-      (takes_loses c.state.room t c.state.desks c.first.place directory c.first.name (number c.first) is.state.tree (record {
+      (takes_loses c.state.room t c.state.desks c.first.dir directory c.first.name (number c.first) is.state.tree (record {
         stands = x.0;
-        is_place = x.1;
-        leads = x.2 ∙ found_number c.first.found found;
+        is_dir = x.1;
+        leads = x.2 ∙ found_number c.first.ino found;
         empty = empty;
         unused = unused;
       })))
 
   pub unlink_leaves : IsWalked c.state.tree Parent c.first → AreMet (unlink_demands c)
-      → MayBeLeft c.state.room (changed c.state.tree (TakeName c.first.place c.first.name)) (with_entry nat_cmp c.state.desks pid c.process)
+      → MayBeLeft c.state.room (changed c.state.tree (TakeName c.first.dir c.first.name)) (with_entry nat_cmp c.state.desks pid c.process)
   unlink_leaves walked met =
       let special : is_special c.first ≡ false = unrefused EISDIR (is_special c.first) met.0 in
       let found = is_found_if c.first met.1.0 in
@@ -87,7 +87,7 @@ module _ (c : Scene) (is : IsScene c) (pid : ℕ) (here : get nat_cmp c.state.de
       (λ d. absurd (let yes = found_directory c is found d in cc))
 
   pub rmdir_leaves : IsWalked c.state.tree Parent c.first → AreMet (rmdir_demands c)
-      → MayBeLeft c.state.room (changed c.state.tree (TakeName c.first.place c.first.name)) (with_entry nat_cmp c.state.desks pid c.process)
+      → MayBeLeft c.state.room (changed c.state.tree (TakeName c.first.dir c.first.name)) (with_entry nat_cmp c.state.desks pid c.process)
   rmdir_leaves walked met =
       let top : ends_top c.first ≡ false = unrefused EBUSY (ends_top c.first) met.0 in
       let dot : ends_dot c.first ≡ false = unrefused EINVAL (ends_dot c.first) met.1.0 in

@@ -43,39 +43,39 @@ names_move t u names still are = record {
 }
 
 -- a name that leads to m is taken
-pub record TakesName (t : Tree) (desks : Desks) (place : ℕ) (directory : Node) (name : List ℕ) (m : ℕ) : Type 0 where
-  pub stands : node_at t place ≡ Some directory
-  pub is_place : IsTrue (is_directory directory.body)
+pub record TakesName (t : Tree) (desks : Desks) (dir : ℕ) (directory : Node) (name : List ℕ) (m : ℕ) : Type 0 where
+  pub stands : node_at t dir ≡ Some directory
+  pub is_dir : IsTrue (is_directory directory.body)
   pub leads : get name_cmp (names_in directory.body) name ≡ Some m
   pub empty : IsDirectoryAt t m → names_at t m ≡ []
   pub unused : IsDirectoryAt t m → is_in_use desks m ≡ false
 
-module _ (room : Room) (t : Tree) (desks : Desks) (place : ℕ) (directory : Node) (name : List ℕ) (m : ℕ) (is : IsTree room t) (takes : TakesName t desks place directory name m) where
+module _ (room : Room) (t : Tree) (desks : Desks) (dir : ℕ) (directory : Node) (name : List ℕ) (m : ℕ) (is : IsTree room t) (takes : TakesName t desks dir directory name m) where
   abbrev new : Names
   new = without name_cmp (names_in directory.body) name
 
   abbrev u : Tree
-  u = renamed t place directory (without name_cmp (names_in directory.body) name)
+  u = renamed t dir directory (without name_cmp (names_in directory.body) name)
 
   were : AreNames t (names_in directory.body)
-  were = are_names room t directory.body (is.each place directory takes.stands).body
+  were = are_names room t directory.body (is.each dir directory takes.stands).body
 
   fewer : (x : ℕ) → leading x new + once_if m x ≡ leading x (names_in directory.body)
   fewer x = leading-without_name (names_in directory.body) name m x were.rising takes.leads
 
   count : (x : ℕ) → names_of u x + once_if m x ≡ names_of t x
   count x =
-      let all = names_of-renamed t place directory new takes.is_place is.numbers takes.stands x in
+      let all = names_of-renamed t dir directory new takes.is_dir is.numbers takes.stands x in
       let one = fewer x in
       omega (arith, all, one)
 
   there : (n : ℕ) → IsThere t n → IsThere u n
-  there n h = still_there t place (renamed_node directory new) n h
+  there n h = still_there t dir (renamed_node directory new) n h
 
   stood : (n : ℕ) (node : Node) → node_at u n ≡ Some node → Stood room t u n node
-  stood n node at = elim (cases_eq n place) [
+  stood n node at = elim (cases_eq n dir) [
     | inl e ↦
-        let here : node_at u n ≡ Some (renamed_node directory new) = ap (node_at u) e ∙ at_it t place (renamed_node directory new) in
+        let here : node_at u n ≡ Some (renamed_node directory new) = ap (node_at u) e ∙ at_it t dir (renamed_node directory new) in
         let same : renamed_node directory new ≡ node = cc in
         subst (Stood room t u n) same (record {
           old = directory;
@@ -84,12 +84,12 @@ module _ (room : Room) (t : Tree) (desks : Desks) (place : ℕ) (directory : Nod
           owner = refl;
           group = refl;
           body =
-              body_renamed room t u directory.body new takes.is_place
+              body_renamed room t u directory.body new takes.is_dir
               (names_move t u new there (are_names_without t (names_in directory.body) name m were takes.leads))
-              (is.each place directory takes.stands).body;
+              (is.each dir directory takes.stands).body;
         })
     | inr ne ↦
-        let was : node_at t n ≡ Some node = sym (at_others t place (renamed_node directory new) n ne) ∙ at in
+        let was : node_at t n ≡ Some node = sym (at_others t dir (renamed_node directory new) n ne) ∙ at in
         record {
           old = node;
           was = was;
@@ -105,8 +105,8 @@ module _ (room : Room) (t : Tree) (desks : Desks) (place : ℕ) (directory : Nod
   names_nothing x d some = (let none : leading x (names_at t m) ≡ 0 = ap (leading x) (takes.empty d) in omega (arith, none, some))
 
   -- and is not the directory
-  not_place : IsDirectoryAt t m → m ≢ place
-  not_place d e =
+  not_dir : IsDirectoryAt t m → m ≢ dir
+  not_dir d e =
       let names : names_at t m ≡ names_in directory.body = ap (names_at t) e ∙ ap names_or takes.stands in
       let none : names_in directory.body ≡ [] = sym names ∙ takes.empty d in
       let gone : get name_cmp (names_in directory.body) name ≡ None = ap (λ ns. get name_cmp ns name) none in
@@ -114,15 +114,15 @@ module _ (room : Room) (t : Tree) (desks : Desks) (place : ℕ) (directory : Nod
       cc
 
   names_kept : (x k : ℕ) → once_if m x ≡ 0 → 1 ≤ leading x (names_at t k) → 1 ≤ leading x (names_at u k)
-  names_kept x k none some = elim (cases_eq k place) [
+  names_kept x k none some = elim (cases_eq k dir) [
     | inl e ↦
         let was : names_at t k ≡ names_in directory.body = ap (names_at t) e ∙ ap names_or takes.stands in
-        let now : names_at u k ≡ new = ap (names_at u) e ∙ names_there t place directory new takes.is_place in
+        let now : names_at u k ≡ new = ap (names_at u) e ∙ names_there t dir directory new takes.is_dir in
         let before : leading x (names_at t k) ≡ leading x (names_in directory.body) = ap (leading x) was in
         let after : leading x (names_at u k) ≡ leading x new = ap (leading x) now in
         let one = fewer x in
         omega (arith, before, after, one, some, none)
-    | inr ne ↦ subst (λ q. 1 ≤ leading x q) (sym (names_elsewhere t place directory new takes.is_place k ne)) some
+    | inr ne ↦ subst (λ q. 1 ≤ leading x q) (sym (names_elsewhere t dir directory new takes.is_dir k ne)) some
   ]
 
   abbrev Stays : ℕ → Type 0
@@ -146,15 +146,15 @@ module _ (room : Room) (t : Tree) (desks : Desks) (place : ℕ) (directory : Nod
 
   pub takes_loses : LosesNames room t u desks (once_if m)
   takes_loses = record {
-    numbers = with_entry-IsMap t place (renamed_node directory new) is.numbers;
-    types = renamed_keeps_types t place directory new takes.stands;
+    numbers = with_entry-IsMap t dir (renamed_node directory new) is.numbers;
+    types = renamed_keeps_types t dir directory new takes.stands;
     each = stood;
     counts = count;
     not_root = λ n some e. (were.each name m takes.leads).leads.0 (sym (once_is m n some) ∙ e);
     empty = λ n d some.
         let here = once_is m n some in
         let at_m : IsDirectoryAt t m = subst (IsDirectoryAt t) here d in
-        ap (names_at u) here ∙ names_elsewhere t place directory new takes.is_place m (not_place at_m) ∙ takes.empty at_m;
+        ap (names_at u) here ∙ names_elsewhere t dir directory new takes.is_dir m (not_dir at_m) ∙ takes.empty at_m;
     unused = λ n d some.
         let here = once_is m n some in
         ap (is_in_use desks) here ∙ takes.unused (subst (IsDirectoryAt t) here d);

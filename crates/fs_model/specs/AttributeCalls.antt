@@ -15,10 +15,10 @@ use Rattle.fs_cred.specs.Ownership.{may_chown, may_chgrp}
 use Rattle.fs_model.specs.declared.call.AclType.{AclType}
 use Rattle.fs_model.specs.declared.call.AclType.TheVariants.{Access, Default}
 use Rattle.fs_model.specs.declared.reply.Reply.{Reply}
-use Rattle.fs_model.specs.declared.reply.Reply.TheVariants.{Ok as Done, Shown, Granted, Acl, Mask}
+use Rattle.fs_model.specs.declared.reply.Reply.TheVariants.{Done, Shown, Granted, Acl, Mask}
 use Rattle.fs_model.specs.Nodes.{Node, Body, File, Dir, Link, is_directory, acl_in, default_in, with_acl, with_default, accessed}
 use Rattle.fs_model.specs.Demands.{Demand, refuse, only_if, perms, denied_unless, search_on}
-use Rattle.fs_model.specs.Trails.{Follow, NoFollow}
+use Rattle.fs_model.specs.declared.walk.Form.TheVariants.{Follow, NoFollow}
 use Rattle.fs_model.specs.Scenes.{Scene, Effect, Row, number, node_found, body_found, permission_at_end, own_at_end, must_be_there, no_blocks, check_of_mode, nothing_asked, answers, with_process, rewrites, none_early, by_path}
 use Rattle.fs_model.specs.DescriptorCalls.{shown, resized_node}
 
@@ -97,8 +97,8 @@ chown_demands owner group s =
     let node = node_found s s.first in
     must_be_there s.first
     ∷ own_at_end s
-    ∷ denied_unless (may_chown s.process.cred node.owner (unwrap_or owner node.owner)) 1 s.first.steps Chown NotSuperuser
-    ∷ denied_unless (may_chgrp s.process.cred node.group (unwrap_or group node.group)) 1 s.first.steps Chgrp NotMember
+    ∷ denied_unless (may_chown s.process.cred node.owner (unwrap_or owner node.owner)) 1 s.first.step Chown NotSuperuser
+    ∷ denied_unless (may_chgrp s.process.cred node.group (unwrap_or group node.group)) 1 s.first.step Chgrp NotMember
     ∷ []
 
 abbrev pub owned : Option ℕ → Option ℕ → Node → Node
@@ -159,7 +159,7 @@ abbrev pub chdir_demands : Scene → List Demand
 chdir_demands s =
     must_be_there s.first
     ∷ refuse ENOTDIR (not (is_directory (body_found s s.first)))
-    ∷ search_on s.process.cred s.state.tree (number s.first) 1 s.first.steps
+    ∷ search_on s.process.cred s.state.tree (number s.first) 1 s.first.step
     ∷ []
 
 abbrev pub chdir_effect : Scene → ℕ → Effect

@@ -26,24 +26,24 @@ pub data Change : Type 0 where
 
 -- the tree in which the names of a directory are changed so
 abbrev pub with_names_at : Tree → ℕ → (List (List ℕ × ℕ) → List (List ℕ × ℕ)) → Option Node → Tree
-with_names_at t place f None = t
-with_names_at t place f (Some node) = with_node t place (record node { body = with_names (f (names_in node.body)) node.body })
+with_names_at t dir f None = t
+with_names_at t dir f (Some node) = with_node t dir (record node { body = with_names (f (names_in node.body)) node.body })
 
 abbrev pub named : Tree → ℕ → List ℕ → ℕ → Tree
-named t place name n = with_names_at t place (λ names. with_entry name_cmp names name n) (node_at t place)
+named t dir name n = with_names_at t dir (λ names. with_entry name_cmp names name n) (node_at t dir)
 
 abbrev pub unnamed : Tree → ℕ → List ℕ → Tree
-unnamed t place name = with_names_at t place (λ names. without name_cmp names name) (node_at t place)
+unnamed t dir name = with_names_at t dir (λ names. without name_cmp names name) (node_at t dir)
 
 -- the tree after a change, before anything is dropped
 abbrev pub changed : Tree → Change → Tree
 changed t Same = t
 changed t (Rewrite n node) = with_node t n node
-changed t (Make place name n node) = named (with_node t n node) place name n
-changed t (AddName place name n) = named t place name n
-changed t (TakeName place name) = unnamed t place name
-changed t (MoveName place name to_place to_name) =
-    named (unnamed t place name) to_place to_name (unwrap_or (lookup t place name) 0)
+changed t (Make dir name n node) = named (with_node t n node) dir name n
+changed t (AddName dir name n) = named t dir name n
+changed t (TakeName dir name) = unnamed t dir name
+changed t (MoveName dir name to_dir to_name) =
+    named (unnamed t dir name) to_dir to_name (unwrap_or (lookup t dir name) 0)
 
 -- a file lives as long as it is open; nothing else but the root lives without a name
 abbrev pub lives_nameless : Desks → ℕ → Body → Bool

@@ -76,7 +76,7 @@ permission_of cred want walk step (Some node) = decided walk step (Perm want) (v
 abbrev pub permission_on : Credential → Tree → ℕ → Perms → ℕ → ℕ → Demand
 permission_on cred t n want walk step = permission_of cred want walk step (accessed_at t n)
 
--- search in a place; of what is no directory it isn't asked
+-- search of a directory; of what is none it isn't asked
 abbrev pub search_of : Credential → ℕ → ℕ → Option AccessNode → Demand
 search_of cred walk step None = None
 search_of cred walk step (Some node) = if is_file node.kind then None else decided walk step Search (verdict cred node search_only)

@@ -9,7 +9,7 @@ use Rattle.fs_cred.specs.declared.errno.Errno.TheVariants.{ENOTDIR, EISDIR, EINV
 use Rattle.fs_model.specs.declared.call.Whence.{Whence}
 use Rattle.fs_model.specs.declared.call.Whence.TheVariants.{Set, Cur, End}
 use Rattle.fs_model.specs.declared.reply.Status.{Status}
-use Rattle.fs_model.specs.declared.reply.Reply.TheVariants.{Ok as Done, Data, Wrote, At, Shown, Names}
+use Rattle.fs_model.specs.declared.reply.Reply.TheVariants.{Done, Data, Wrote, At, Shown, Names}
 use Rattle.fs_model.specs.Limits.{move_limit}
 use Rattle.fs_layout.specs.Maps.{without}
 use Rattle.fs_model.specs.Nodes.{Node, is_directory, names_in, bytes_in, with_bytes, type_of, shown_mode, shown_size}
@@ -43,34 +43,34 @@ read_row fd len = by_descriptor (is_bad_to_read fd) (read_demands fd) (read_effe
 abbrev pub resized : List ℕ → ℕ → List ℕ
 resized bytes size = take size bytes ++ replicate (size - length bytes) 0
 
--- the bytes with others over those from a place on, and zeros up to it
+-- the bytes with others over those from an offset on, and zeros up to it
 abbrev pub overwritten : List ℕ → ℕ → List ℕ → List ℕ
-overwritten bytes place new = resized bytes place ++ new ++ drop (place + length new) bytes
+overwritten bytes offset new = resized bytes offset ++ new ++ drop (offset + length new) bytes
 
-abbrev pub write_place : Scene → ℕ → ℕ
-write_place s fd =
+abbrev pub write_offset : Scene → ℕ → ℕ
+write_offset s fd =
     let d = the_descriptor s.process fd in
     if d.append then length (bytes_in (node_open s fd).body) else d.offset
 
 abbrev pub write_count : Scene → ℕ → List ℕ → ℕ
-write_count s fd bytes = min (length bytes) (min move_limit (s.state.room.file_limit - write_place s fd))
+write_count s fd bytes = min (length bytes) (min move_limit (s.state.room.file_limit - write_offset s fd))
 
 -- to write nothing is never refused
 abbrev pub write_demands : ℕ → List ℕ → Scene → List Demand
 write_demands fd bytes s =
-    only_if (not (is_empty bytes)) (refuse EFBIG (nat_le s.state.room.file_limit (write_place s fd)) ∷ no_blocks s ∷ [])
+    only_if (not (is_empty bytes)) (refuse EFBIG (nat_le s.state.room.file_limit (write_offset s fd)) ∷ no_blocks s ∷ [])
 
 abbrev pub written : Node → ℕ → List ℕ → Node
-written node place new = record node { body = with_bytes (overwritten (bytes_in node.body) place new) node.body }
+written node offset new = record node { body = with_bytes (overwritten (bytes_in node.body) offset new) node.body }
 
 abbrev pub write_effect : ℕ → List ℕ → Scene → Effect
 write_effect fd bytes s =
-    let place = write_place s fd in
+    let offset = write_offset s fd in
     let count = write_count s fd bytes in
     if is_empty bytes then answers s (Wrote 0)
     else record {
-      change = Rewrite (the_descriptor s.process fd).number (written (node_open s fd) place (take count bytes));
-      process = with_offset s.process fd (place + count);
+      change = Rewrite (the_descriptor s.process fd).number (written (node_open s fd) offset (take count bytes));
+      process = with_offset s.process fd (offset + count);
       reply = Wrote count;
     }
 

@@ -14,7 +14,7 @@ use Rattle.fs_layout.specs.Ownership.{Agrees}
 use Rattle.fs_layout.specs.Recovered.{recovered}
 use Rattle.fs_model.specs.declared.event.Event.{Event}
 use Rattle.fs_model.specs.declared.event.EventReply.TheVariants.{Reply as Replies}
-use Rattle.fs_model.specs.declared.reply.Reply.TheVariants.{Ok as Success}
+use Rattle.fs_model.specs.declared.reply.Reply.TheVariants.{Done}
 use Rattle.fs_model.specs.declared.reply.Reply.{Reply}
 use Rattle.fs_layout.specs.Maps.{get, with_entry, IsMap}
 use Rattle.fs_model.specs.Nodes.{Node, names_in, sectors_of}
@@ -22,8 +22,9 @@ use Rattle.fs_model.specs.Trees.{Tree, Room, node_at, with_node, names_of, paren
 use Rattle.fs_model.specs.Processes.{Process, Desks, is_open}
 use Rattle.fs_model.specs.Changes.{pruned, swept}
 use Rattle.fs_model.specs.States.{State, MayBeFree, FitsTree, IsState}
-use Rattle.fs_model.specs.Trails.{Form, Lookup, trail_of}
-use Rattle.fs_model.specs.Walks.{lookup_refusal, first_refused, IsLeastRefusal}
+use Rattle.fs_model.specs.declared.walk.Form.{Form}
+use Rattle.fs_model.specs.Trails.{Lookup, trail_of}
+use Rattle.fs_model.specs.Walks.{lookup_refusal, least_refusal, IsLeastRefusal}
 use Rattle.fs_model.specs.Steps.{Step}
 use Rattle.fs_model.specs.Stops.{Machine, MachineStep, Stops, asks_stable}
 use Rattle.fs_model.specs.Ranges.{IsEvent}
@@ -37,12 +38,12 @@ use Rattle.fs_model.specs.Summaries.{named_files, nameless_files, directories, l
 abbrev pub RefusesLeast : Type 0
 RefusesLeast =
     (cred : Credential) (t : Tree) (walk : ℕ) (lookups : List Lookup) (r : Refusal)
-    → first_refused cred t walk 0 lookups ≡ Some r → IsLeastRefusal cred t walk lookups r
+    → least_refusal cred t walk 0 lookups ≡ Some r → IsLeastRefusal cred t walk lookups r
 
 -- Where none of them is found to refuse, none does.
 abbrev pub NoneRefuses : Type 0
 NoneRefuses =
-    (cred : Credential) (t : Tree) (walk : ℕ) (lookups : List Lookup) → first_refused cred t walk 0 lookups ≡ None
+    (cred : Credential) (t : Tree) (walk : ℕ) (lookups : List Lookup) → least_refusal cred t walk 0 lookups ≡ None
     → (k : ℕ) (l : Lookup) → slice_get lookups k ≡ Some l → lookup_refusal cred t walk k l ≡ None
 
 -- Without its nameless files a tree is a tree.
@@ -85,7 +86,7 @@ RewritingKeeps =
 -- Where fsync or sync answers ok, a stop right after it leaves the present tree, pruned.
 abbrev pub SyncingKeeps : Type 0
 SyncingKeeps =
-    (old new : Machine) (e : Event) (s : State) → IsTrue (asks_stable e) → MachineStep old e (Replies Success) new
+    (old new : Machine) (e : Event) (s : State) → IsTrue (asks_stable e) → MachineStep old e (Replies Done) new
     → Stops new s → s.tree ≡ pruned new.state.tree
 
 -- An image stands for at most one tree, in one room, with one count of free sectors.

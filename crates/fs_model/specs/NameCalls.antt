@@ -13,17 +13,17 @@ use Rattle.fs_model.specs.Births.{born_directory, born_link}
 use Rattle.fs_model.specs.Changes.{Make, AddName, TakeName}
 use Rattle.fs_model.specs.Demands.{Demand, refuse}
 use Rattle.fs_model.specs.Parts.{is_empty}
-use Rattle.fs_model.specs.Trails.{NoFollow, Parent}
-use Rattle.fs_model.specs.Scenes.{Scene, Effect, Row, number, body_found, place_node, is_directory_found, is_nondirectory_found, has_names, is_special, ends_top, ends_dot, ends_dot_dot, permission_at_place, sticky_at_place, no_blocks, no_names, space_to_make, must_be_there, must_be_new, check_of_mode, answers, changes, by_path, by_two_paths}
+use Rattle.fs_model.specs.declared.walk.Form.TheVariants.{NoFollow, Parent}
+use Rattle.fs_model.specs.Scenes.{Scene, Effect, Row, number, body_found, dir_node, is_directory_found, is_nondirectory_found, has_names, is_special, ends_top, ends_dot, ends_dot_dot, permission_at_dir, sticky_at_dir, no_blocks, no_names, space_to_make, must_be_there, must_be_new, check_of_mode, answers, changes, by_path, by_two_paths}
 
 -- ---- mkdir
 
 abbrev pub mkdir_demands : Scene → List Demand
-mkdir_demands s = must_be_new s.first ∷ permission_at_place s s.first 1 ∷ space_to_make s
+mkdir_demands s = must_be_new s.first ∷ permission_at_dir s s.first 1 ∷ space_to_make s
 
 abbrev pub mkdir_effect : ℕ → Scene → ℕ → Effect
 mkdir_effect mode s new =
-    changes s (Make s.first.place s.first.name new (born_directory s.process.cred s.process.umask mode (place_node s s.first)))
+    changes s (Make s.first.dir s.first.name new (born_directory s.process.cred s.process.umask mode (dir_node s s.first)))
 
 abbrev pub mkdir_row : List ℕ → ℕ → Row
 mkdir_row path mode = by_path (check_of_mode mode ∷ []) Parent path mkdir_demands (mkdir_effect mode)
@@ -37,8 +37,8 @@ rmdir_demands s =
     ∷ refuse ENOTEMPTY (ends_dot_dot s.first)
     ∷ must_be_there s.first
     ∷ refuse ENOTDIR (s.first.slash && is_nondirectory_found s s.first)
-    ∷ permission_at_place s s.first 1
-    ∷ sticky_at_place s s.first 1
+    ∷ permission_at_dir s s.first 1
+    ∷ sticky_at_dir s s.first 1
     ∷ refuse ENOTDIR (is_nondirectory_found s s.first)
     ∷ refuse EBUSY (is_in_use s.state.desks (number s.first))
     ∷ refuse ENOTEMPTY (has_names s s.first)
@@ -46,7 +46,7 @@ rmdir_demands s =
 
 -- the name goes
 abbrev pub takes_name : Scene → ℕ → Effect
-takes_name s new = changes s (TakeName s.first.place s.first.name)
+takes_name s new = changes s (TakeName s.first.dir s.first.name)
 
 abbrev pub rmdir_row : List ℕ → Row
 rmdir_row path = by_path [] Parent path rmdir_demands takes_name
@@ -58,8 +58,8 @@ unlink_demands s =
     refuse EISDIR (is_special s.first)
     ∷ must_be_there s.first
     ∷ refuse ENOTDIR (s.first.slash && is_nondirectory_found s s.first)
-    ∷ permission_at_place s s.first 1
-    ∷ sticky_at_place s s.first 1
+    ∷ permission_at_dir s s.first 1
+    ∷ sticky_at_dir s s.first 1
     ∷ refuse EISDIR (is_directory_found s s.first)
     ∷ []
 
@@ -76,14 +76,14 @@ link_demands s =
     ∷ refuse EPERM (is_directory_found s s.first)
     ∷ must_be_new s.second
     ∷ refuse ENOENT s.second.slash
-    ∷ permission_at_place s s.second 2
+    ∷ permission_at_dir s s.second 2
     ∷ refuse EMLINK (nat_le names_limit (names_of s.state.tree (number s.first)))
     ∷ no_blocks s
     ∷ no_names s s.second
     ∷ []
 
 abbrev pub link_effect : Scene → Effect
-link_effect s = changes s (AddName s.second.place s.second.name (number s.first))
+link_effect s = changes s (AddName s.second.dir s.second.name (number s.first))
 
 abbrev pub link_row : List ℕ → List ℕ → Row
 link_row old new = by_two_paths old new link_demands link_effect
@@ -101,12 +101,12 @@ abbrev pub symlink_demands : Scene → List Demand
 symlink_demands s =
     must_be_new s.first
     ∷ refuse ENOENT s.first.slash
-    ∷ permission_at_place s s.first 1
+    ∷ permission_at_dir s s.first 1
     ∷ space_to_make s
 
 abbrev pub symlink_effect : List ℕ → Scene → ℕ → Effect
 symlink_effect target s new =
-    changes s (Make s.first.place s.first.name new (born_link s.process.cred target (place_node s s.first)))
+    changes s (Make s.first.dir s.first.name new (born_link s.process.cred target (dir_node s s.first)))
 
 abbrev pub symlink_row : List ℕ → List ℕ → Row
 symlink_row target path = by_path (symlink_arguments target) Parent path symlink_demands (symlink_effect target)

@@ -12,8 +12,9 @@ use Rattle.fs_model.specs.Births.{born_file}
 use Rattle.fs_model.specs.Changes.{Change, Same, Rewrite, Make}
 use Rattle.fs_model.specs.Demands.{Demand, refuse, perms}
 use Rattle.fs_model.specs.Parts.{ends_with_slash}
-use Rattle.fs_model.specs.Trails.{Form, Follow, NoFollow}
-use Rattle.fs_model.specs.Scenes.{Scene, Effect, Row, is_found, number, node_found, body_found, place_node, permission_at_end, permission_at_place, space_to_make, check_of_mode}
+use Rattle.fs_model.specs.declared.walk.Form.{Form}
+use Rattle.fs_model.specs.declared.walk.Form.TheVariants.{Follow, NoFollow}
+use Rattle.fs_model.specs.Scenes.{Scene, Effect, Row, is_found, number, node_found, body_found, dir_node, permission_at_end, permission_at_dir, space_to_make, check_of_mode}
 
 -- with O_CREAT and O_EXCL a final link isn't followed
 abbrev pub open_form : Flags → Form
@@ -32,7 +33,7 @@ open_early f path p =
 abbrev pub open_new_demands : Flags → Scene → List Demand
 open_new_demands f s =
     refuse ENOENT (not f.create || s.first.slash)
-    ∷ permission_at_place s s.first 1
+    ∷ permission_at_dir s s.first 1
     ∷ space_to_make s
 
 -- what is there
@@ -51,7 +52,7 @@ open_demands f s = if is_found s.first then open_found_demands f s else open_new
 abbrev pub open_change : Flags → ℕ → Scene → ℕ → Change
 open_change f mode s new =
     if not (is_found s.first)
-    then Make s.first.place s.first.name new (born_file s.process.cred s.process.umask mode (place_node s s.first))
+    then Make s.first.dir s.first.name new (born_file s.process.cred s.process.umask mode (dir_node s s.first))
     else (if f.trunc && f.write
     then Rewrite (number s.first) (record (node_found s s.first) { body = with_bytes [] (body_found s s.first) })
     else Same)
@@ -65,7 +66,7 @@ open_process p f n =
 abbrev pub open_effect : Flags → ℕ → Scene → ℕ → Effect
 open_effect f mode s new = record {
   change = open_change f mode s new;
-  process = open_process s.process f (unwrap_or s.first.found new);
+  process = open_process s.process f (unwrap_or s.first.ino new);
   reply = Fd (least_unused 0 s.process.descriptors);
 }
 

@@ -2,8 +2,8 @@
 --     Parts, parts_of        its components, whether it begins with a slash, whether it ends in one
 --     start_of        where it is resolved from
 --     path_checks        what is asked of it before that
-use Rattle.std.specs.Prelude.{ℕ, ◌==◌, nat_lt, Bool, true, false, List, [], ◌∷◌, ◌++◌, length, if◌then◌else◌}
-use Rattle.std.specs.List.{list_any}
+use Rattle.std.specs.Prelude.{ℕ, ◌==◌, nat_lt, Bool, true, false, not, List, [], ◌∷◌, length, if◌then◌else◌}
+use Rattle.std.specs.List.{filter, list_any, slice_split}
 use Rattle.fs_cred.specs.declared.errno.Errno.TheVariants.{ENOENT, EINVAL, ENAMETOOLONG}
 use Rattle.fs_model.specs.Limits.{path_limit, root}
 use Rattle.fs_model.specs.Demands.{Demand, refuse}
@@ -15,15 +15,9 @@ abbrev pub is_empty : {A : Type 0} → List A → Bool
 is_empty [] = true
 is_empty (_ ∷ _) = false
 
--- a component that comes first, unless it is empty
-abbrev pub with_piece : List ℕ → List (List ℕ) → List (List ℕ)
-with_piece [] names = names
-with_piece (b ∷ piece) names = (b ∷ piece) ∷ names
-
--- the nonempty pieces between slashes; `piece` is what of the first one came before
-abbrev pub pieces : List ℕ → List ℕ → List (List ℕ)
-pieces piece [] = with_piece piece []
-pieces piece (b ∷ path) = if b == slash then with_piece piece (pieces [] path) else pieces (piece ++ b ∷ []) path
+-- the nonempty pieces between slashes
+abbrev pub components_of : List ℕ → List (List ℕ)
+components_of path = filter (λ piece. not (is_empty piece)) (slice_split (λ b. b == slash) path)
 
 abbrev pub begins_with_slash : List ℕ → Bool
 begins_with_slash [] = false
@@ -40,11 +34,11 @@ pub record Parts : Type 0 where
   pub slash_at_end : Bool
 
 abbrev pub parts_of : List ℕ → Parts
-parts_of path = record { names = pieces [] path; absolute = begins_with_slash path; slash_at_end = ends_with_slash path }
+parts_of path = record { names = components_of path; absolute = begins_with_slash path; slash_at_end = ends_with_slash path }
 
--- an absolute pathname starts at the root, any other at the place given: 4.13 (Pathname Resolution)
+-- an absolute pathname starts at the root, any other at the directory given: 4.13 (Pathname Resolution)
 abbrev pub start_of : Parts → ℕ → ℕ
-start_of parts place = if parts.absolute then root else place
+start_of parts dir = if parts.absolute then root else dir
 
 -- Before any lookup: an empty pathname is ENOENT, a zero byte EINVAL, one that is too long ENAMETOOLONG.
 abbrev pub path_checks : List ℕ → List Demand

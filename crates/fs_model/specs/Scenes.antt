@@ -1,7 +1,7 @@
 -- What a call finds, asks and leaves: the words in which calls are written.
 --     Scene, Effect, Row        what a call finds; what it leaves; a call's demands and effect
 --     is_found, number, node_found, ..        what a walk has found
---     permission_at_end, permission_at_place, sticky_at_place, own_at_end        denials
+--     permission_at_end, permission_at_dir, sticky_at_dir, own_at_end        denials
 --     no_blocks, no_inodes, no_names        no space
 --     answers, changes, with_process        effects
 --     by_descriptor, by_path, by_two_paths        rows
@@ -12,7 +12,7 @@ use Rattle.fs_cred.specs.declared.refusal.Need.TheVariants.{Own, Remove}
 use Rattle.fs_cred.specs.declared.rule.Rule.TheVariants.{NotOwner, Sticky}
 use Rattle.fs_cred.specs.Ownership.{may_own, sticky_allows}
 use Rattle.fs_model.specs.declared.reply.Reply.{Reply}
-use Rattle.fs_model.specs.declared.reply.Reply.TheVariants.{Ok as Done}
+use Rattle.fs_model.specs.declared.reply.Reply.TheVariants.{Done}
 use Rattle.fs_model.specs.Limits.{entries_limit, least_free}
 use Rattle.fs_model.specs.Nodes.{Node, Body, is_directory, names_in}
 use Rattle.fs_model.specs.Trees.{free_inodes}
@@ -22,8 +22,11 @@ use Rattle.fs_model.specs.Changes.{Change, Same, Rewrite}
 use Rattle.fs_model.specs.States.{State}
 use Rattle.fs_model.specs.Demands.{Demand, refuse, permission_on, denied_unless, write_and_search}
 use Rattle.fs_model.specs.Parts.{is_empty}
-use Rattle.fs_model.specs.Trails.{Form, Parent}
-use Rattle.fs_model.specs.Walks.{Found, Last, Top, Dot, DotDot}
+use Rattle.fs_model.specs.declared.walk.Form.{Form}
+use Rattle.fs_model.specs.declared.walk.Form.TheVariants.{Parent}
+use Rattle.fs_model.specs.declared.walk.Found.{Found}
+use Rattle.fs_model.specs.declared.walk.Last.{Last}
+use Rattle.fs_model.specs.declared.walk.Last.TheVariants.{Top, Dot, DotDot}
 
 -- The state, the caller, and where the call's paths lead. Where a call has no path its find isn't read.
 pub record Scene : Type 0 where
@@ -54,10 +57,10 @@ pub record Row : Type 0 where
 -- ---- what a walk has found
 
 abbrev pub is_found : Found → Bool
-is_found f = is_some f.found
+is_found f = is_some f.ino
 
 abbrev pub number : Found → ℕ
-number f = unwrap_or f.found 0
+number f = unwrap_or f.ino 0
 
 abbrev pub is_top : Last → Bool
 is_top Top = true
@@ -91,8 +94,8 @@ abbrev pub body_found : Scene → Found → Body
 body_found s f = (node_found s f).body
 
 -- the directory in which the last name was looked up
-abbrev pub place_node : Scene → Found → Node
-place_node s f = the_node s.state.tree f.place
+abbrev pub dir_node : Scene → Found → Node
+dir_node s f = the_node s.state.tree f.dir
 
 abbrev pub is_directory_found : Scene → Found → Bool
 is_directory_found s f = is_found f && is_directory (body_found s f)
@@ -111,22 +114,22 @@ node_open s fd = the_node s.state.tree (the_descriptor s.process fd).number
 
 -- on what was found: as many lookups were done as the trail has
 abbrev pub permission_at_end : Scene → Found → ℕ → Perms → Demand
-permission_at_end s f walk want = permission_on s.process.cred s.state.tree (number f) want walk f.steps
+permission_at_end s f walk want = permission_on s.process.cred s.state.tree (number f) want walk f.step
 
 -- to add, remove or rename a name in the directory of the last lookup: one lookup less was done
-abbrev pub permission_at_place : Scene → Found → ℕ → Demand
-permission_at_place s f walk = permission_on s.process.cred s.state.tree f.place write_and_search walk (f.steps - 1)
+abbrev pub permission_at_dir : Scene → Found → ℕ → Demand
+permission_at_dir s f walk = permission_on s.process.cred s.state.tree f.dir write_and_search walk (f.step - 1)
 
 -- in a directory with S_ISVTX the caller owns the directory or the object: unlink(), rmdir(), rename()
-abbrev pub sticky_at_place : Scene → Found → ℕ → Demand
-sticky_at_place s f walk =
-    let directory = place_node s f in
+abbrev pub sticky_at_dir : Scene → Found → ℕ → Demand
+sticky_at_dir s f walk =
+    let directory = dir_node s f in
     denied_unless (sticky_allows s.process.cred (the_directory directory).sticky directory.owner (node_found s f).owner)
-    walk (f.steps - 1) Remove Sticky
+    walk (f.step - 1) Remove Sticky
 
 -- the caller owns what the first path leads to: chmod(), chown()
 abbrev pub own_at_end : Scene → Demand
-own_at_end s = denied_unless (may_own s.process.cred (node_found s s.first).owner) 1 s.first.steps Own NotOwner
+own_at_end s = denied_unless (may_own s.process.cred (node_found s s.first).owner) 1 s.first.step Own NotOwner
 
 -- ENOSPC: few data sectors are free; no inode is; a directory is full
 abbrev pub no_blocks : Scene → Demand
@@ -136,7 +139,7 @@ abbrev pub no_inodes : Scene → Demand
 no_inodes s = refuse ENOSPC (free_inodes s.state.room s.state.tree == 0)
 
 abbrev pub no_names : Scene → Found → Demand
-no_names s f = refuse ENOSPC (nat_le entries_limit (length (names_in (place_node s f).body)))
+no_names s f = refuse ENOSPC (nat_le entries_limit (length (names_in (dir_node s f).body)))
 
 -- space for a new node under the first path
 abbrev pub space_to_make : Scene → List Demand

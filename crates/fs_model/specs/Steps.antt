@@ -12,7 +12,7 @@ use Rattle.fs_cred.specs.declared.refusal.Refusal.TheVariants.{Failed}
 use Rattle.fs_model.specs.declared.call.Call.{Call}
 use Rattle.fs_model.specs.declared.call.Call.TheVariants.{Write, Lseek, Close, Fstat, Ftruncate, Umask}
 use Rattle.fs_model.specs.declared.reply.Reply.{Reply}
-use Rattle.fs_model.specs.declared.reply.Reply.TheVariants.{Ok as Done, Pid, Space, Refused}
+use Rattle.fs_model.specs.declared.reply.Reply.TheVariants.{Done, Pid, Space, Refused}
 use Rattle.fs_model.specs.declared.event.Event.{Event}
 use Rattle.fs_model.specs.declared.event.Event.TheVariants.{Spawn, Exit, Call as Calls, Fsync, Statfs, Arm, Restart}
 use Rattle.fs_model.specs.Limits.{processes_limit}
@@ -23,8 +23,11 @@ use Rattle.fs_model.specs.Changes.{Change, Same, Make, changed, swept}
 use Rattle.fs_model.specs.States.{State, MayBeFree}
 use Rattle.fs_model.specs.Demands.{Demand, refuse, first_of}
 use Rattle.fs_model.specs.Parts.{parts_of, start_of, path_checks}
-use Rattle.fs_model.specs.Trails.{Form, Trail, trail_of}
-use Rattle.fs_model.specs.Walks.{Found, Top, found_of, first_refusal}
+use Rattle.fs_model.specs.declared.walk.Form.{Form}
+use Rattle.fs_model.specs.Trails.{Trail, trail_of}
+use Rattle.fs_model.specs.declared.walk.Found.{Found}
+use Rattle.fs_model.specs.declared.walk.Last.TheVariants.{Top}
+use Rattle.fs_model.specs.Walks.{found_of, first_refusal}
 use Rattle.fs_model.specs.Scenes.{Scene, Effect, Row, is_bad}
 use Rattle.fs_model.specs.Rows.{row_of}
 
@@ -39,7 +42,7 @@ walk_refusals t p k [] = []
 walk_refusals t p k (walk ∷ walks) = first_refusal t p.cred k walk.0 (trail_in t p.cwd walk) ∷ walk_refusals t p (k + 1) walks
 
 abbrev pub nothing_found : Found
-nothing_found = record { place = 0; name = []; last = Top; found = None; slash = false; steps = 0 }
+nothing_found = record { dir = 0; name = []; last = Top; ino = None; slash = false; step = 0 }
 
 abbrev pub found_by : Tree → ℕ → Form × List ℕ → Found
 found_by t cwd walk = found_of (trail_in t cwd walk) (start_of (parts_of walk.1) cwd)
@@ -132,7 +135,7 @@ state_after s a free = record s { tree = tree_after s a; desks = a.desks; free =
 
 -- a new node gets a number that the tree lacks
 abbrev pub HasNewNumber : State → Change → Type 0
-HasNewNumber s (Make place name n node) = (1 ≤ n) × (n < s.room.inodes) × (node_at s.tree n ≡ None)
+HasNewNumber s (Make dir name n node) = (1 ≤ n) × (n < s.room.inodes) × (node_at s.tree n ≡ None)
 HasNewNumber s _ = Unit {0}
 
 -- a new process gets an unused number

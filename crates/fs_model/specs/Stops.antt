@@ -6,13 +6,13 @@ use Rattle.std.specs.Prelude.{◌≡◌, ℕ, ◌+◌, Bool, true, false, not, �
 use Rattle.fs_cred.specs.declared.errno.Errno.TheVariants.{EIO}
 use Rattle.fs_cred.specs.declared.refusal.Refusal.TheVariants.{Failed}
 use Rattle.fs_model.specs.declared.reply.Reply.{Reply}
-use Rattle.fs_model.specs.declared.reply.Reply.TheVariants.{Ok as Success, Refused}
+use Rattle.fs_model.specs.declared.reply.Reply.TheVariants.{Done, Refused}
 use Rattle.fs_model.specs.declared.event.RestartFault.{RestartFault}
 use Rattle.fs_model.specs.declared.event.RestartFault.TheVariants.{DiskFault, OutOfMemory}
 use Rattle.fs_model.specs.declared.event.Event.{Event}
 use Rattle.fs_model.specs.declared.event.Event.TheVariants.{Fsync, Sync, Arm, Restart}
 use Rattle.fs_model.specs.declared.event.EventReply.{EventReply}
-use Rattle.fs_model.specs.declared.event.EventReply.TheVariants.{Reply as Replies, Done, Mounted, MountFailed, Down}
+use Rattle.fs_model.specs.declared.event.EventReply.TheVariants.{Reply as Replies, Armed, Mounted, MountFailed, Down}
 use Rattle.fs_model.specs.Trees.{Tree}
 use Rattle.fs_model.specs.Changes.{pruned}
 use Rattle.fs_model.specs.States.{State, MayBeFree}
@@ -32,7 +32,7 @@ asks_stable Sync = true
 asks_stable _ = false
 
 abbrev pub is_ok : Reply → Bool
-is_ok Success = true
+is_ok Done = true
 is_ok _ = false
 
 abbrev pub makes_stable : Event → Reply → Bool
@@ -81,7 +81,7 @@ stepped old s reply trees =
 -- From old, the machine may answer the event so and go on to new.
 pub data MachineStep (old : Machine) (e : Event) (reply : EventReply) (new : Machine) : Type 0 where
   is_down : IsFalse old.is_up → IsTrue (is_of_machine e) → reply ≡ Down → new ≡ old → MachineStep old e reply new
-  arms : (k : ℕ) → e ≡ Arm k → reply ≡ Done → new ≡ old → MachineStep old e reply new
+  arms : (k : ℕ) → e ≡ Arm k → reply ≡ Armed → new ≡ old → MachineStep old e reply new
   steps : IsTrue old.is_up → (r : Reply) → reply ≡ Replies r → (s : State) → Step old.state e r s
       → new ≡ stepped old s r (trees_after e r old.trees s.tree) → MachineStep old e reply new
   halts : IsTrue old.is_up → (r : Reply) → reply ≡ Replies r → (s : State) → Step old.state e r s

@@ -48,8 +48,8 @@ pub enum AclType {
 pub enum Call {
     /// open: path, flags, mode.
     Open(Path, Flags, u16),
-    /// read: descriptor, how many bytes at most.
-    Read(usize, usize),
+    /// read: at most `len` bytes.
+    Read { fd: usize, len: usize },
     /// write: descriptor, bytes.
     Write(usize, Bytes),
     /// lseek: descriptor, from where, how far.
@@ -70,8 +70,12 @@ pub enum Call {
     Ftruncate(usize, u64),
     /// chmod: path, mode.
     Chmod(Path, u16),
-    /// chown: path, owner, group; where one is absent it stays.
-    Chown(Path, Option<u32>, Option<u32>),
+    /// chown: an owner or a group that is absent stays.
+    Chown {
+        path: Path,
+        owner: Option<u32>,
+        group: Option<u32>,
+    },
     /// Reads an ACL: path, which one.
     GetAcl(Path, AclType),
     /// Sets an ACL, or removes the default one: path, which one, the ACL.
@@ -82,16 +86,16 @@ pub enum Call {
     Mkdir(Path, u16),
     /// rmdir: path.
     Rmdir(Path),
-    /// link: the old path, the new one.
-    Link(Path, Path),
-    /// symlink: target, path.
-    Symlink(Path, Path),
+    /// link: what the path `old` leads to gets the name `new` too.
+    Link { old: Path, new: Path },
+    /// symlink: a link to `target` is made at `path`.
+    Symlink { target: Path, path: Path },
     /// readlink: path.
     Readlink(Path),
     /// unlink: path.
     Unlink(Path),
-    /// rename: the old path, the new one.
-    Rename(Path, Path),
+    /// rename: what has the name `old` gets the name `new` in its stead.
+    Rename { old: Path, new: Path },
     /// chdir: path.
     Chdir(Path),
     /// umask: the mask.

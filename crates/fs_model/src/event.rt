@@ -13,8 +13,8 @@ pub enum Event {
     Exit(usize),
     /// The process with this number makes a call.
     Call(usize, Call),
-    /// fsync: process, descriptor.
-    Fsync(usize, usize),
+    /// fsync, by the process with this number, of one of its descriptors.
+    Fsync { pid: usize, fd: usize },
     /// All that was done becomes stable.
     Sync,
     /// Asks for the space that is free.
@@ -41,7 +41,7 @@ pub enum EventReply {
     /// What the file system answers.
     Reply(Reply),
     /// The disk is armed.
-    Done,
+    Armed,
     /// The disk is mounted again.
     Mounted,
     /// It is not.

@@ -11,6 +11,7 @@ mod listing;
 mod reply;
 #[cfg(test)]
 mod tests;
+mod walk;
 
 pub use bytes::{ByteString, Bytes, ContentRole, Name, NameRole, Path, PathRole};
 pub use call::{AclType, Call, Flags, Whence};
@@ -25,3 +26,4 @@ pub use laws::{
 };
 pub use listing::{Listing, Named};
 pub use reply::{FileType, Reply, Status};
+pub use walk::{Form, Found, Last};

@@ -34,7 +34,7 @@ pub struct Status {
 #[derive(Drop)]
 pub enum Reply {
     /// It is done, and there is no more to say.
-    Ok,
+    Done,
     /// A new process has this number.
     Pid(usize),
     /// What was opened has this descriptor.
@@ -55,7 +55,7 @@ pub enum Reply {
     /// The ACL, or none.
     Acl(Option<Acl>),
     Names(Listing),
-    /// How many data sectors are free, and how many inodes.
-    Space(u32, u32),
+    /// How many data sectors and inodes are free.
+    Space { sectors: u32, inodes: u32 },
     Refused(Refusal),
 }

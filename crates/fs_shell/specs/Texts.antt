@@ -22,7 +22,7 @@ use Rattle.fs_model.specs.declared.reply.FileType.{FileType}
 use Rattle.fs_model.specs.declared.reply.FileType.TheVariants.{File, Directory, Link}
 use Rattle.fs_model.specs.declared.reply.Status.{Status}
 use Rattle.fs_model.specs.declared.reply.Reply.{Reply}
-use Rattle.fs_model.specs.declared.reply.Reply.TheVariants.{Ok, Pid, Fd, Data, Wrote, At, Target, Mask, Shown, Granted, Acl, Names, Space, Refused}
+use Rattle.fs_model.specs.declared.reply.Reply.TheVariants.{Done, Pid, Fd, Data, Wrote, At, Target, Mask, Shown, Granted, Acl, Names, Space, Refused}
 use Rattle.fs_shell.specs.declared.line.LineFault.{LineFault}
 use Rattle.fs_shell.specs.declared.line.LineFault.TheVariants.{TooLong, BadByte, BadEscape, UnknownCommand, WordCount, BadNumber, BadAcl, OutOfMemory}
 use Rattle.fs_shell.specs.Lines.{empty_word, is_plain}
@@ -120,7 +120,7 @@ names_text names = flat_map named_text names
 
 -- The text of what the file system answers.
 unfoldable pub reply_text : Reply → List ℕ
-reply_text Ok = codes "ok"
+reply_text Done = codes "ok"
 reply_text (Pid pid) = codes "pid " ++ decimal pid
 reply_text (Fd fd) = codes "fd " ++ decimal fd
 reply_text (Data bytes) = codes "data " ++ word_text bytes

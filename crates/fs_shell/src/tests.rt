@@ -635,7 +635,7 @@ fn replies_have_their_texts(rt: HostRuntime) -> Result<(), Fail> {
 #[test]
 fn replies_with_numbers_have_their_texts(rt: HostRuntime) -> Result<(), Fail> {
     for (reply, wanted) in &[
-        (Reply::Ok, "ok"),
+        (Reply::Done, "ok"),
         (
             Reply::Pid(18_446_744_073_709_551_615),
             "pid 18446744073709551615",
@@ -645,7 +645,7 @@ fn replies_with_numbers_have_their_texts(rt: HostRuntime) -> Result<(), Fail> {
         (Reply::At(71679), "at 71679"),
         (Reply::Mask(0o22), "umask 0022"),
         (Reply::Acl(None), "acl none"),
-        (Reply::Space(878, 62), "free 878 blocks 62 inodes"),
+        (Reply::Space { sectors: 878, inodes: 62 }, "free 878 blocks 62 inodes"),
     ] {
         expect_text(&rt, reply, wanted)?;
     }

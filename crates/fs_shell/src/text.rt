@@ -36,7 +36,7 @@ fn push_reply(text: &mut String, reply: &Reply) -> Result<(), AllocError>
     ensures { OnOk result (string_bytes text.new ≡ string_bytes text.old ++ reply_text reply.now) }
 {
     match reply {
-        Reply::Ok => text.push_str("ok"),
+        Reply::Done => text.push_str("ok"),
         Reply::Pid(pid) => write!(text, "pid {pid}"),
         Reply::Fd(fd) => write!(text, "fd {fd}"),
         Reply::Data(bytes) => push_labelled_word(text, "data ", bytes.bytes()),
@@ -48,7 +48,7 @@ fn push_reply(text: &mut String, reply: &Reply) -> Result<(), AllocError>
         Reply::Granted(rule) => push_granted(text, *rule),
         Reply::Acl(acl) => push_acl(text, acl),
         Reply::Names(names) => push_names(text, names),
-        Reply::Space(blocks, inodes) => write!(text, "free {blocks} blocks {inodes} inodes"),
+        Reply::Space { sectors, inodes } => write!(text, "free {sectors} blocks {inodes} inodes"),
         Reply::Refused(refusal) => push_refusal(text, refusal),
     }
 }

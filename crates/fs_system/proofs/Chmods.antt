@@ -18,7 +18,7 @@ use Rattle.fs_cred.specs.declared.rule.Rule.TheVariants.{NotOwner}
 use Rattle.fs_cred.specs.Credentials.{Credential, is_superuser, is_member}
 use Rattle.fs_cred.specs.Ownership.{may_own}
 use Rattle.fs_model.specs.declared.call.Call.TheVariants.{Chmod}
-use Rattle.fs_model.specs.declared.reply.Reply.TheVariants.{Ok as Done, Refused}
+use Rattle.fs_model.specs.declared.reply.Reply.TheVariants.{Done, Refused}
 use Rattle.fs_model.specs.declared.event.Event.TheVariants.{Call as Calls}
 use Rattle.fs_model.specs.Limits.{root}
 use Rattle.fs_layout.specs.Maps.{get}

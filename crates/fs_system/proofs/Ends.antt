@@ -10,7 +10,7 @@ use Rattle.fs_cred.specs.declared.refusal.Refusal.TheVariants.{Failed}
 use Rattle.fs_cred.specs.Credentials.{Credential, IsCredential}
 use Rattle.fs_model.specs.declared.call.Call.{Call}
 use Rattle.fs_model.specs.declared.reply.Reply.{Reply}
-use Rattle.fs_model.specs.declared.reply.Reply.TheVariants.{Ok as Done, Pid, Refused}
+use Rattle.fs_model.specs.declared.reply.Reply.TheVariants.{Done, Pid, Refused}
 use Rattle.fs_model.specs.declared.event.Event.{Event}
 use Rattle.fs_model.specs.declared.event.Event.TheVariants.{Call as Calls, Spawn, Sync}
 use Rattle.fs_layout.specs.Maps.{get, with_entry}

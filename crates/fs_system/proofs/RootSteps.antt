@@ -23,7 +23,7 @@ use Rattle.fs_model.specs.declared.call.Call.TheVariants.{Stat, Access}
 use Rattle.fs_model.specs.declared.reply.FileType.TheVariants.{Directory as DirectoryT}
 use Rattle.fs_model.specs.declared.reply.Status.{Status}
 use Rattle.fs_model.specs.declared.reply.Reply.{Reply}
-use Rattle.fs_model.specs.declared.reply.Reply.TheVariants.{Ok as Done, Shown, Granted, Pid, Refused}
+use Rattle.fs_model.specs.declared.reply.Reply.TheVariants.{Done, Shown, Granted, Pid, Refused}
 use Rattle.fs_model.specs.declared.event.Event.{Event}
 use Rattle.fs_model.specs.declared.event.Event.TheVariants.{Call as Calls, Spawn, Sync}
 use Rattle.fs_model.specs.Limits.{root}

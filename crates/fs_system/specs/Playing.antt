@@ -11,7 +11,7 @@ use Rattle.fs_model.specs.declared.reply.Reply.{Reply}
 use Rattle.fs_model.specs.declared.event.Event.{Event}
 use Rattle.fs_model.specs.declared.event.Event.TheVariants.{Call as Calls, Arm, Restart}
 use Rattle.fs_model.specs.declared.event.EventReply.{EventReply}
-use Rattle.fs_model.specs.declared.event.EventReply.TheVariants.{Reply as Replies, Done, Mounted, MountFailed, Down}
+use Rattle.fs_model.specs.declared.event.EventReply.TheVariants.{Reply as Replies, Armed, Mounted, MountFailed, Down}
 use Rattle.fs_model.specs.declared.event.RestartFault.{RestartFault}
 use Rattle.fs_model.specs.declared.event.RestartFault.TheVariants.{DiskFault}
 use Rattle.fs_model.specs.Trees.{Tree, Room}
@@ -75,9 +75,9 @@ pub data Goes {D : Type 0} (state : D → DiskState) : Config D → Event → Ev
       → Goes state (Up s before) e (Replies reply) (Up t now)
   is_down : (disk : D) (e : Event) → IsTrue (is_of_machine e) → Goes state (Off disk) e Down (Off disk)
   arms_up : (before now : D) (s : State) (k : ℕ) → IsSame (state before) (state now) → (state before).failures ≤ (state now).failures
-      → Goes state (Up s before) (Arm k) Done (Up s now)
+      → Goes state (Up s before) (Arm k) Armed (Up s now)
   arms_off : (before now : D) (k : ℕ) → IsSame (state before) (state now) → (state before).failures ≤ (state now).failures
-      → Goes state (Off before) (Arm k) Done (Off now)
+      → Goes state (Off before) (Arm k) Armed (Off now)
   restarts : (c : Config D) (mid now : D) (s : State) (bytes : List ℕ) (arm : Option ℕ) → Stopped (state (device c)) (state mid)
       → Mounts (state mid) (state now) s → Goes state c (Restart bytes arm) Mounted (Up s now)
   fails : (c : Config D) (mid now : D) (fault : RestartFault) (bytes : List ℕ) (arm : Option ℕ) → Stopped (state (device c)) (state mid)

@@ -235,5 +235,5 @@ fn chmod_root<D: Disk>(
     };
     changed.write_to(&mut sector, ROOT_AT);
     write_through(disk, place.table, &sector)?;
-    Ok(Reply::Ok)
+    Ok(Reply::Done)
 }

@@ -63,7 +63,7 @@ type Told = Result<Option<u16>, u8>;
 
 fn told(reply: &Reply) -> Told {
     match reply {
-        Reply::Ok => Ok(None),
+        Reply::Done => Ok(None),
         Reply::Shown(status) => Ok(Some(status.mode)),
         Reply::Refused(Refusal::Failed(errno)) => Err(errno.number()),
         _ => Err(0),

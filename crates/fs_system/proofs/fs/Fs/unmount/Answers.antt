@@ -2,7 +2,7 @@ use Rattle.std.proofs.Common.{rules, sym, subst, refl}
 use Rattle.sector_disk.specs.Disk.{HasFailed, HasFailedToWrite, IsStable}
 use Rattle.fs_cred.specs.declared.errno.Errno.TheVariants.{EIO}
 use Rattle.fs_cred.specs.declared.refusal.Refusal.TheVariants.{Failed}
-use Rattle.fs_model.specs.declared.reply.Reply.TheVariants.{Ok as Done, Refused}
+use Rattle.fs_model.specs.declared.reply.Reply.TheVariants.{Done, Refused}
 use Rattle.fs_model.specs.declared.event.Event.TheVariants.{Sync}
 use Rattle.fs_model.specs.States.{State}
 use Rattle.fs_system.specs.Doing.{Does}
