@@ -7,11 +7,13 @@ pub mod Frame
 pub mod FreeInodes
 pub mod Kept
 pub mod KindFields
+pub mod KindWords
 pub mod Least
 pub mod ListedMaps
 pub mod Machine
 pub mod NewDiskStands
 pub mod NewImages
+pub mod NoIoErrors
 pub mod OneNode
 pub mod OneTree
 pub mod Rests

@@ -64,11 +64,11 @@ abbrev pub user : ℕ → ℕ → List ℕ → Event
 user uid gid groups = Spawn (record { uid = uid; gid = gid; groups = groups })
 
 abbrev pub to_read : Flags
-to_read = record { read = true; write = false; create = false; excl = false; trunc = false; append = false; nofollow = false; directory = false }
+to_read = record { read = true; write = false; create = false; excl = false; trunc = false; append = false; nofollow = false; directory = false; opens = refl }
 
 -- made where it isn't there
 abbrev pub to_write : Flags
-to_write = record to_read { read = false; write = true; create = true }
+to_write = record to_read { read = false; write = true; create = true; opens = refl }
 
 abbrev pub to_read_write : Flags
 to_read_write = record to_write { read = true }

@@ -1,9 +1,12 @@
 -- The laws of the definitions, each the contract of a function.
-use Rattle.std.specs.Prelude.{◌≡◌, ◌≢◌, ℕ, ◌+◌, ◌-◌, ◌<◌, ◌≤◌, ◌==◌, length, nat_eq, nat_le, not, ◌&&◌, ◌||◌, List, slice_get, Option, Some, None, IsTrue, is_some, count_by}
+use Rattle.std.specs.Prelude.{◌≡◌, ◌≢◌, ℕ, ◌+◌, ◌-◌, ◌<◌, ◌≤◌, ◌==◌, length, nat_eq, nat_le, not, ◌&&◌, ◌||◌, List, slice_get, Option, Some, None, IsTrue, is_some, option_map, count_by}
 use Rattle.std.specs.List.{range_with_len}
 use Rattle.std.specs.Ordering.{nat_cmp}
+use Rattle.fs_cred.specs.declared.errno.Errno.TheVariants.{EIO}
 use Rattle.fs_cred.specs.declared.refusal.Refusal.{Refusal}
+use Rattle.fs_cred.specs.declared.refusal.Refusal.TheVariants.{Failed}
 use Rattle.fs_cred.specs.Credentials.{Credential}
+use Rattle.fs_layout.specs.declared.inode.Inode.{Inode}
 use Rattle.fs_layout.specs.declared.place.Place.{Place}
 use Rattle.fs_layout.specs.Bytes.{SectorMap}
 use Rattle.fs_layout.specs.Commit.{IsValidCommit, targets_in}
@@ -16,19 +19,21 @@ use Rattle.fs_model.specs.declared.event.Event.{Event}
 use Rattle.fs_model.specs.declared.event.EventReply.TheVariants.{Reply as Replies}
 use Rattle.fs_model.specs.declared.reply.Reply.TheVariants.{Done}
 use Rattle.fs_model.specs.declared.reply.Reply.{Reply}
+use Rattle.fs_model.specs.declared.reply.FileType.{FileType}
 use Rattle.fs_layout.specs.Maps.{get, with_entry, IsMap}
-use Rattle.fs_model.specs.Nodes.{Node, names_in, sectors_of}
+use Rattle.fs_model.specs.Nodes.{Node, names_in, sectors_of, type_of, accessed}
+use Rattle.fs_model.specs.Kinds.{kind_of_type, type_of_kind, access_kind}
 use Rattle.fs_model.specs.Trees.{Tree, Room, node_at, with_node, names_of, parent, sectors_needed, free_inodes, IsTree}
 use Rattle.fs_model.specs.Processes.{Process, Desks, is_open}
 use Rattle.fs_model.specs.Changes.{pruned, swept}
 use Rattle.fs_model.specs.States.{State, MayBeFree, FitsTree, IsState}
 use Rattle.fs_model.specs.declared.walk.Form.{Form}
 use Rattle.fs_model.specs.Trails.{Lookup, trail_of}
-use Rattle.fs_model.specs.Walks.{lookup_refusal, least_refusal, IsLeastRefusal}
-use Rattle.fs_model.specs.Steps.{Step}
+use Rattle.fs_model.specs.Walks.{lookup_refusal, least_refusal, IsLeastRefusal, first_refusal}
+use Rattle.fs_model.specs.Steps.{Step, firm_refusal, other_refusal}
 use Rattle.fs_model.specs.Stops.{Machine, MachineStep, Stops, asks_stable}
 use Rattle.fs_model.specs.Ranges.{IsEvent}
-use Rattle.fs_model.specs.StoredNodes.{Placed}
+use Rattle.fs_model.specs.StoredNodes.{Placed, HoldsNode}
 use Rattle.fs_model.specs.Stands.{HoldsPlaced, HoldsAll, placed, room_of, Stands}
 use Rattle.fs_model.specs.NewDisk.{empty_tree, IsNewImage}
 use Rattle.fs_model.specs.Rules.{HasWholeSectors, ObeysAll, IsFinding, is_directory_kind}
@@ -45,6 +50,20 @@ abbrev pub NoneRefuses : Type 0
 NoneRefuses =
     (cred : Credential) (t : Tree) (walk : ℕ) (lookups : List Lookup) → least_refusal cred t walk 0 lookups ≡ None
     → (k : ℕ) (l : Lookup) → slice_get lookups k ≡ Some l → lookup_refusal cred t walk k l ≡ None
+
+-- EIO is answered where the disk fails, and for nothing that a call demands: no walk is refused with it,
+abbrev pub WalksRefuseOtherwise : Type 0
+WalksRefuseOtherwise =
+    (t : Tree) (cred : Credential) (walk cwd : ℕ) (form : Form) (path : List ℕ)
+    → first_refusal t cred walk form (trail_of t cwd form path) ≢ Some (Failed EIO)
+
+-- no event early, where nothing stands in for the refusal,
+abbrev pub FirmRefusesOtherwise : Type 0
+FirmRefusesOtherwise = (s : State) (e : Event) → firm_refusal s e ≢ Some (Failed EIO)
+
+-- and none late.
+abbrev pub OtherRefusesOtherwise : Type 0
+OtherRefusesOtherwise = (s : State) (e : Event) → other_refusal s e ≢ Some (Failed EIO)
 
 -- Without its nameless files a tree is a tree.
 abbrev pub PruningKeeps : Type 0
@@ -88,6 +107,18 @@ abbrev pub SyncingKeeps : Type 0
 SyncingKeeps =
     (old new : Machine) (e : Event) (s : State) → IsTrue (asks_stable e) → MachineStep old e (Replies Done) new
     → Stops new s → s.tree ≡ pruned new.state.tree
+
+-- An object has one kind, in whichever words. A type is had back from the kind of its inodes,
+abbrev pub TypesComeBack : Type 0
+TypesComeBack = (t : FileType) → type_of_kind (kind_of_type t) ≡ Some t
+
+-- an inode has the kind of the node that it holds,
+abbrev pub StoredKindsAgree : Type 0
+StoredKindsAgree = (image : SectorMap) (v : Inode) (x : Placed) → HoldsNode image v x → v.kind ≡ kind_of_type (type_of x.node.body)
+
+-- and as a node of that kind access to it is decided, if at all.
+abbrev pub AccessKindsAgree : Type 0
+AccessKindsAgree = (node : Node) → option_map (λ n. n.kind) (accessed node) ≡ access_kind (type_of node.body)
 
 -- An image stands for at most one tree, in one room, with one count of free sectors.
 pub record AreSame (room room' : Room) (t t' : Tree) (free free' : ℕ) : Type 0 where

@@ -1,10 +1,9 @@
 -- Events whose numbers lie in the ranges of their types.
 --     IsCall, IsEvent        each number fits, paths and contents are bytes, and ACLs and credentials are valid
-use Rattle.std.specs.Prelude.{ℕ, ◌^◌, ◌<◌, ◌⊎◌, IsTrue, Option, None, Some, ℤ, pos, negsuc}
+use Rattle.std.specs.Prelude.{ℕ, ◌^◌, ◌<◌, Option, None, Some, ℤ, pos, negsuc}
 use Rattle.fs_cred.specs.Credentials.{IsCredential}
 use Rattle.fs_layout.specs.Bytes.{IsBytes}
 use Rattle.posix_acl.specs.AccessList.{IsSomeAcl}
-use Rattle.fs_model.specs.declared.call.Flags.{Flags}
 use Rattle.fs_model.specs.declared.call.Call.{Call}
 use Rattle.fs_model.specs.declared.call.Call.TheVariants.{Open, Read, Write, Lseek, Close, Fstat, Stat, Lstat, Access, Truncate, Ftruncate, Chmod, Chown, GetAcl, SetAcl, Readdir, Mkdir, Rmdir, Link, Symlink, Readlink, Unlink, Rename, Chdir, Umask}
 use Rattle.fs_model.specs.declared.event.Event.{Event}
@@ -23,12 +22,8 @@ abbrev pub IsOffset : ℤ → Type 0
 IsOffset (pos n) = n < 2 ^ 63
 IsOffset (negsuc n) = n < 2 ^ 63
 
--- O_RDONLY, O_WRONLY or O_RDWR
-abbrev pub OpensAtAll : Flags → Type 0
-OpensAtAll f = IsTrue f.read ⊎ IsTrue f.write
-
 abbrev pub IsCall : Call → Type 0
-IsCall (Open path flags mode) = IsBytes path × OpensAtAll flags × (mode < 2 ^ 16)
+IsCall (Open path flags mode) = IsBytes path × (mode < 2 ^ 16)
 IsCall (Read fd len) = (fd < 2 ^ 64) × (len < 2 ^ 64)
 IsCall (Write fd bytes) = (fd < 2 ^ 64) × IsBytes bytes
 IsCall (Lseek fd whence by) = (fd < 2 ^ 64) × IsOffset by

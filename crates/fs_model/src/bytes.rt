@@ -1,6 +1,7 @@
 //! The bytes that calls take and give: paths, names, and what files hold.
-ghost use Rattle.std.specs.Prelude.{◌≡◌};
+ghost use Rattle.std.specs.Prelude.{◌≡◌, IfOk};
 
+use std::alloc::{AllocError, Global};
 use std::marker::{Model, PhantomData};
 
 /// Bytes, and what they are to a caller. Contracts see a list, whose bytes may be any.
@@ -42,6 +43,8 @@ impl<Role> Model for ByteString<Role> {
 }
 
 impl<Role> ByteString<Role> {
+    ghost use Rattle.fs_layout.specs.Bytes.{IsBytes};
+
     /// These bytes.
     pub fn new(bytes: Vec<u8>) -> ByteString<Role>
         ensures { result ≡ bytes.items }
@@ -52,9 +55,17 @@ impl<Role> ByteString<Role> {
         }
     }
 
+    /// A copy of these bytes.
+    pub fn from_slice(alloc: Global, bytes: &[u8]) -> Result<ByteString<Role>, AllocError>
+        ensures { IfOk result (λ made. made ≡ bytes.now) }
+    {
+        Ok(ByteString::new(Vec::from_slice(alloc, bytes)?))
+    }
+
     /// The bytes.
     pub fn bytes(&self) -> &[u8]
-        ensures { result.now ≡ self.now }
+        ensures all { result.now ≡ self.now }
+        ensures valid { IsBytes self.now }
     {
         &self.bytes
     }

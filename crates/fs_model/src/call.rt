@@ -1,4 +1,6 @@
 //! What a process asks for.
+ghost use Rattle.std.specs.Prelude.{◌||◌, IsTrue};
+
 use crate::bytes::{Bytes, Path};
 use posix_acl::{Acl, Perms};
 
@@ -21,6 +23,7 @@ pub struct Flags {
     pub nofollow: bool,
     /// O_DIRECTORY: refuse what is no directory.
     pub directory: bool,
+    pub ghost opens: { IsTrue (read || write) },
 }
 
 /// From where lseek(2) counts.
@@ -49,7 +52,10 @@ pub enum Call {
     /// open: path, flags, mode.
     Open(Path, Flags, u16),
     /// read: at most `len` bytes.
-    Read { fd: usize, len: usize },
+    Read {
+        fd: usize,
+        len: usize,
+    },
     /// write: descriptor, bytes.
     Write(usize, Bytes),
     /// lseek: descriptor, from where, how far.
@@ -87,15 +93,24 @@ pub enum Call {
     /// rmdir: path.
     Rmdir(Path),
     /// link: what the path `old` leads to gets the name `new` too.
-    Link { old: Path, new: Path },
+    Link {
+        old: Path,
+        new: Path,
+    },
     /// symlink: a link to `target` is made at `path`.
-    Symlink { target: Path, path: Path },
+    Symlink {
+        target: Path,
+        path: Path,
+    },
     /// readlink: path.
     Readlink(Path),
     /// unlink: path.
     Unlink(Path),
     /// rename: what has the name `old` gets the name `new` in its stead.
-    Rename { old: Path, new: Path },
+    Rename {
+        old: Path,
+        new: Path,
+    },
     /// chdir: path.
     Chdir(Path),
     /// umask: the mask.

@@ -1,6 +1,11 @@
-//! The laws of the definitions: each is the contract of a function that does nothing.
+//! The laws of the definitions: each is the contract of a function that changes nothing.
 ghost use Rattle.fs_cred.specs.Laws.{HasAnAnswer, HasOneAnswer, VerdictDecides};
-ghost use Rattle.fs_model.specs.Laws.{CountsFit, FindingRefuses, FindsAreThere, FreeAreClear, NewDiskStands, NewImagesExist, NoneRefuses, NothingToDrop, NumbersAreCounts, ObeyingStands, OneFinding, OneNodeChanges, OpenStays, PruningKeeps, RefusesLeast, RewritingKeeps, SameProcessStays, SomeImageStands, StandingObeys, StandingRests, StandingRestsOnReading, StandsForOne, StepsKeep, SyncingKeeps};
+ghost use Rattle.fs_model.specs.Laws.{AccessKindsAgree, CountsFit, FindingRefuses, FindsAreThere, FirmRefusesOtherwise, FreeAreClear, NewDiskStands, NewImagesExist, NoneRefuses, NothingToDrop, NumbersAreCounts, ObeyingStands, OneFinding, OneNodeChanges, OpenStays, OtherRefusesOtherwise, PruningKeeps, RefusesLeast, RewritingKeeps, SameProcessStays, SomeImageStands, StandingObeys, StandingRests, StandingRestsOnReading, StandsForOne, StepsKeep, StoredKindsAgree, SyncingKeeps, TypesComeBack, WalksRefuseOtherwise};
+ghost use Rattle.fs_model.specs.Ranges.{IsSomeId, IsCall};
+ghost use Rattle.posix_acl.specs.AccessList.{IsSomeAcl};
+
+use crate::call::Call;
+use posix_acl::Acl;
 
 /// Whoever wants whatever of whatever file or directory, there is exactly one answer with its rule.
 pub fn decision_is_unique()
@@ -16,6 +21,67 @@ pub fn first_refusal_is_least()
     ensures least { RefusesLeast }
     ensures none { NoneRefuses }
 {}
+
+/// No demand refuses with EIO: that is answered where the disk has failed.
+pub fn no_demand_is_an_io_error()
+    ensures walks { WalksRefuseOtherwise }
+    ensures firm { FirmRefusesOtherwise }
+    ensures other { OtherRefusesOtherwise }
+{}
+
+// What is read is in the range of its type.
+fn read<T: Copy>(_value: T) {}
+
+// Each id has 32 bits.
+fn id_is_in_range(id: Option<u32>)
+    ensures { IsSomeId id }
+{
+    if let Some(id) = id {
+        read(id);
+    }
+}
+
+// Each ACL is valid.
+fn acl_is_valid(acl: &Option<Acl>)
+    ensures { IsSomeAcl acl.now }
+{
+    if let Some(acl) = acl {
+        read(acl.entries());
+    }
+}
+
+/// Each call is in range: its numbers are those of their types, its paths and contents are bytes, and its ACL is valid. (That
+/// its flags open for reading or writing is a field of them.)
+pub fn call_is_in_range(call: &Call)
+    ensures { IsCall call.now }
+{
+    match call {
+        Call::Open(path, _, mode) | Call::Chmod(path, mode) | Call::Mkdir(path, mode) => {
+            read((path.bytes(), *mode))
+        }
+        Call::Read { fd, len } => read((*fd, *len)),
+        Call::Write(fd, bytes) => read((*fd, bytes.bytes())),
+        Call::Lseek(fd, _, by) => read((*fd, *by)),
+        Call::Close(fd) | Call::Fstat(fd) | Call::Readdir(fd) => read(*fd),
+        Call::Stat(path) | Call::Lstat(path) | Call::Access(path, _) => read(path.bytes()),
+        Call::GetAcl(path, _) | Call::Rmdir(path) | Call::Chdir(path) => read(path.bytes()),
+        Call::Readlink(path) | Call::Unlink(path) => read(path.bytes()),
+        Call::Truncate(path, size) => read((path.bytes(), *size)),
+        Call::Ftruncate(fd, size) => read((*fd, *size)),
+        Call::Chown { path, owner, group } => {
+            read(path.bytes());
+            id_is_in_range(*owner);
+            id_is_in_range(*group);
+        }
+        Call::SetAcl(path, _, acl) => {
+            read(path.bytes());
+            acl_is_valid(acl);
+        }
+        Call::Link { old, new } | Call::Rename { old, new } => read((old.bytes(), new.bytes())),
+        Call::Symlink { target, path } => read((target.bytes(), path.bytes())),
+        Call::Umask(mask) => read(*mask),
+    }
+}
 
 /// What a path leads to is in the tree.
 pub fn finds_are_there()
@@ -52,6 +118,13 @@ pub fn rewriting_keeps_names()
 /// Where fsync or sync answers ok, a stop right after it leaves the present tree, without its nameless files.
 pub fn a_sync_leaves_one_tree()
     ensures { SyncingKeeps }
+{}
+
+/// An object has one kind, in whichever words: of its inode, as stat(2) shows it, and as access to it is decided.
+pub fn kinds_agree()
+    ensures back { TypesComeBack }
+    ensures stored { StoredKindsAgree }
+    ensures access { AccessKindsAgree }
 {}
 
 /// An image stands for at most one tree, in one room, with one count of free sectors.

@@ -1,7 +1,10 @@
 //! What is answered.
+ghost use Rattle.std.specs.Prelude.{◌≡◌};
+
 use crate::bytes::{Bytes, Path};
 use crate::listing::Listing;
-use fs_cred::{Refusal, Rule};
+use fs_cred::{NodeKind, Refusal, Rule};
+use fs_layout::Kind;
 use posix_acl::Acl;
 
 /// The file types of this file system.
@@ -12,6 +15,47 @@ pub enum FileType {
     Directory,
     /// A symbolic link.
     Link,
+}
+
+impl FileType {
+    ghost use Rattle.fs_model.specs.Kinds.{type_of_kind, access_kind};
+
+    /// The type of what an inode of this kind holds; a free one holds nothing.
+    pub fn of_kind(kind: Kind) -> Option<FileType>
+        ensures { result ≡ type_of_kind kind }
+    {
+        match kind {
+            Kind::Free => None,
+            Kind::File => Some(FileType::File),
+            Kind::Directory => Some(FileType::Directory),
+            Kind::Link => Some(FileType::Link),
+        }
+    }
+
+    /// As what access is decided on an object of this type. On a symbolic link it never is.
+    pub fn access_kind(self) -> Option<NodeKind>
+        ensures { result ≡ access_kind self }
+    {
+        match self {
+            FileType::File => Some(NodeKind::File),
+            FileType::Directory => Some(NodeKind::Directory),
+            FileType::Link => None,
+        }
+    }
+}
+
+impl From<FileType> for Kind {
+    ghost use Rattle.fs_model.specs.Kinds.{kind_of_type};
+
+    ghost from_gives = { λ t kind. kind ≡ kind_of_type t };
+
+    fn from(file_type: FileType) -> Kind {
+        match file_type {
+            FileType::File => Kind::File,
+            FileType::Directory => Kind::Directory,
+            FileType::Link => Kind::Link,
+        }
+    }
 }
 
 /// What stat(2) shows of an object.
