@@ -1,3 +1,4 @@
+//! Credentials: who asks.
 ghost use Rattle.std.specs.Prelude.{◌≡◌, ◌<◌, ◌↔◌, Err, length, IfOk};
 ghost use Rattle.fs_cred.specs.declared.cred.CredFault.TheVariants.{OutOfMemory, TooManyGroups};
 

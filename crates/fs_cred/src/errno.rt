@@ -1,3 +1,4 @@
+//! The errors that calls answer.
 ghost use Rattle.std.specs.Prelude.{◌≡◌};
 ghost use Rattle.fs_cred.specs.Errnos.{errno_name, errno_number};
 

@@ -1,3 +1,4 @@
+//! What an access decision reads of a file or a directory.
 use posix_acl::Acl;
 
 /// What a node is, where access to it is decided: a symbolic link's is never asked.

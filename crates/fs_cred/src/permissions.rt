@@ -1,3 +1,4 @@
+//! Whether permissions hold what is wanted.
 ghost use Rattle.std.specs.Prelude.{◌≡◌};
 ghost use Rattle.fs_cred.specs.Permissions.{holds};
 

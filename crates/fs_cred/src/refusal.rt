@@ -1,3 +1,4 @@
+//! What a call asks for, and what it answers where that is refused.
 ghost use Rattle.std.specs.Prelude.{◌≡◌};
 ghost use Rattle.fs_cred.specs.Refusals.{need_errno};
 

@@ -1,3 +1,5 @@
+//! Rules and verdicts.
+
 /// What a decision rests on: the entry or the case that grants or refuses.
 #[derive(Clone, Copy, PartialEq, Eq)]
 pub enum Rule {

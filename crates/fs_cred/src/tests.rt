@@ -1,3 +1,4 @@
+//! Worked rows of the access check and of the rules of ownership.
 use crate::access::decide;
 use crate::cred::{Cred, CredFault};
 use crate::laws::one_answer;

@@ -34,18 +34,18 @@ pub only : {V E : Type 0} (n : ℕ) (Fits : V → Type 0) (bytes : V → List �
 only n Fits bytes of law r s v e fits is = e ∙ ap of is ∙ law.again v fits
 
 -- a sector read whole
-pub whole : (s : List ℕ) (place k n : ℕ) → place ≡ 0 → k ≡ n → length s ≡ n → take k (drop place s) ≡ s
-whole s place k n at all len = ap (λ (p : ℕ). take k (drop p s)) at ∙ take_all k s (omega arith)
+pub whole : (s : List ℕ) (at k n : ℕ) → at ≡ 0 → k ≡ n → length s ≡ n → take k (drop at s) ≡ s
+whole s at k n here all len = ap (λ (p : ℕ). take k (drop p s)) here ∙ take_all k s (omega arith)
 
 -- a sector written whole
-pub whole_written : (s new : List ℕ) (place k n : ℕ) → place ≡ 0 → k ≡ n → length s ≡ n → put_mid place k s new ≡ new
-whole_written s new place k n at all len =
+pub whole_written : (s new : List ℕ) (at k n : ℕ) → at ≡ 0 → k ≡ n → length s ≡ n → put_mid at k s new ≡ new
+whole_written s new at k n here all len =
     let none : drop k (drop 0 s) ≡ [] = drop_all k s (omega arith) in
-    ap (λ (p : ℕ). put_mid p k s new) at ∙ ap (λ (r : List ℕ). new ++ r) none ∙ append-nil new
+    ap (λ (p : ℕ). put_mid p k s new) here ∙ ap (λ (r : List ℕ). new ++ r) none ∙ append-nil new
 
 -- a part of a sector read
-pub part : (s : List ℕ) (place k n : ℕ) → k ≡ n → take k (drop place s) ≡ window s place n
-part s place k n all = ap (λ (m : ℕ). take m (drop place s)) all
+pub part : (s : List ℕ) (at k n : ℕ) → k ≡ n → take k (drop at s) ≡ window s at n
+part s at k n all = ap (λ (m : ℕ). take m (drop at s)) all
 
 -- bytes spell one value
 pub same_spelling : {V E : Type 0} (n : ℕ) (Fits : V → Type 0) (bytes : V → List ℕ) (of : List ℕ → Result V E) → IsCodec n Fits bytes of

@@ -70,11 +70,11 @@ unfolding le32
 length-commit_bytes ts few =
     omega (arith, length-le32s ts, length-append (le32s ts) (zeros (504 - 4 * length ts)), length-zeros (504 - 4 * length ts))
 
-pub take-u32s_of : (s : List ℕ) (place k n : ℕ) → k ≤ n → take k (u32s_of s place n) ≡ u32s_of s place k
+pub take-u32s_of : (s : List ℕ) (at k n : ℕ) → k ≤ n → take k (u32s_of s at n) ≡ u32s_of s at k
 unfolding u32s_of
-take-u32s_of s place zero n le = refl
-take-u32s_of s place (suc k) zero le = absurd (omega (arith, le))
-take-u32s_of s place (suc k) (suc n) le = ap (λ (r : List ℕ). u32_of s place ∷ r) (take-u32s_of s (place + 4) k n (omega (arith, le)))
+take-u32s_of s at zero n le = refl
+take-u32s_of s at (suc k) zero le = absurd (omega (arith, le))
+take-u32s_of s at (suc k) (suc n) le = ap (λ (r : List ℕ). u32_of s at ∷ r) (take-u32s_of s (at + 4) k n (omega (arith, le)))
 
 -- a reading that came to its end
 pub read_to_end : (s to : List ℕ) (magic n : ℕ) (zero_rest : Bool) → magic ≡ u32_of s 0 → magic ≡ commit_magic → n ≡ u32_of s 4 → n ≤ 126

@@ -90,9 +90,9 @@ free_bytes : inode_bytes free_inode ≡ zeros 128
 unfolding le16 le32 le64 le32s zeros
 free_bytes = refl
 
-zeros_window : (place : ℕ) → place + 128 ≤ 512 → window (zeros 512) place 128 ≡ zeros 128
+zeros_window : (at : ℕ) → at + 128 ≤ 512 → window (zeros 512) at 128 ≡ zeros 128
 unfolding zeros
-zeros_window place room = ap (take 128) (drop-replicate place 512 0) ∙ take-replicate 128 (512 - place) 0 (omega arith)
+zeros_window at room = ap (take 128) (drop-replicate at 512 0) ∙ take-replicate 128 (512 - at) 0 (omega arith)
 
 -- a sector of zeros in the table has free inodes, which are valid
 pub free_where_zeros : (p : Place) (image : SectorMap) (n : ℕ) → image (p.table + n / 4) ≡ zeros 512

@@ -81,9 +81,9 @@ bit_is : (s x : ℕ) → s < 4096 → get_or full_ends (s / 8) 0 ≡ x → bit f
 unfolding bit
 bit_is s x lt e =
     let sector : 129 + s / 4096 ≡ 129 = omega arith in
-    let place : s % 4096 / 8 ≡ s / 8 = omega arith in
+    let byte : s % 4096 / 8 ≡ s / 8 = omega arith in
     ap (λ (k : ℕ). nat_eq (bit_at k (s % 8)) 1)
-    (ap (λ (q : ℕ). get_or (fresh q) (s % 4096 / 8) 0) sector ∙ ap (λ (r : List ℕ). get_or r (s % 4096 / 8) 0) at_map ∙ ap (λ (j : ℕ). get_or full_ends j 0) place ∙ e)
+    (ap (λ (q : ℕ). get_or (fresh q) (s % 4096 / 8) 0) sector ∙ ap (λ (r : List ℕ). get_or r (s % 4096 / 8) 0) at_map ∙ ap (λ (j : ℕ). get_or full_ends j 0) byte ∙ e)
 
 set_in : (s x : ℕ) → s < 4096 → get_or full_ends (s / 8) 0 ≡ x → bit_at x (s % 8) ≡ 1 → IsTrue (bit fresh block_bitmap s)
 set_in s x lt e one = bit_is s x lt e ∙ ap (λ (k : ℕ). nat_eq k 1) one

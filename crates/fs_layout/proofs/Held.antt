@@ -196,8 +196,8 @@ window_of_block bytes block k at n is len room fits =
     ext_get_or 0 (window bytes (512 * k + at) n) (window block at n) (a ∙ sym b) (λ i lt.
     let less : i < n = omega (arith, a, lt) in
     get_or-take n (drop (512 * k + at) bytes) i 0 less ∙ get_or-drop (512 * k + at) bytes i 0
-    ∙ is (512 * k + at + i) (omega arith) ∙ ap (λ (j : ℕ). get_or block j 0) (place i less)
+    ∙ is (512 * k + at + i) (omega arith) ∙ ap (λ (j : ℕ). get_or block j 0) (within i less)
     ∙ sym (get_or-take n (drop at block) i 0 less ∙ get_or-drop at block i 0))
   where
-    place : (i : ℕ) → i < n → (512 * k + at + i) % 512 ≡ at + i
-    place i less = omega (arith, less, room)
+    within : (i : ℕ) → i < n → (512 * k + at + i) % 512 ≡ at + i
+    within i less = omega (arith, less, room)

@@ -9,7 +9,7 @@ use Rattle.fs_layout.specs.Recovered.{replayed, recovered}
 use Rattle.fs_layout.proofs.Targets.{no_targets, targets_in-commit, targets_in-invalid, targets_in-valid}
 
 -- ---- sectors that are targets
--- a sector is a target, at some place of the list, or it is none
+-- a sector is a target, at some index of the list, or it is none
 pub target_or_none : (ts : List ℕ) (s : ℕ) → ((k : ℕ) × ((k < length ts) × (get_or ts k 0 ≡ s))) ⊎ (Contains ts s → ⊥)
 target_or_none [] s = inr (λ c. omega (arith, c.1))
 target_or_none (t ∷ ts) s = elim (cases_eq t s) [

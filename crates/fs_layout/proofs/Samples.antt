@@ -1,4 +1,4 @@
--- Worked places in an image: each word computes what the layout says.
+-- Worked samples of an image: each word computes what the layout says.
 use Rattle.std.proofs.Common.{◌≡◌, ◌+◌, ◌*◌, true, false, cond, [], ◌∷◌, ◌++◌, replicate, refl, nat_eq}
 use Rattle.fs_layout.specs.declared.inode.Inode.{Inode}
 use Rattle.fs_layout.specs.Bytes.{SectorMap, u32_of, zeros}
@@ -10,7 +10,7 @@ use Rattle.fs_layout.specs.Images.{bit, inode_bitmap, block_bitmap, pointer, par
 place_of_1024 : laid_out 1024 64 ≡ record { sectors = 1024; inodes = 64; table = 130; first_data = 146 }
 place_of_1024 = refl
 
--- sector 130 of the image has byte 6 at its place 1, and no other sector has anything
+-- sector 130 of the image has byte 6 at offset 1, and no other sector has anything
 two_bits : SectorMap
 two_bits s = cond (nat_eq s 130) (0 ∷ 6 ∷ []) []
 

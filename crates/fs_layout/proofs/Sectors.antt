@@ -72,21 +72,21 @@ IsBytes-le32s [] i = omega arith
 IsBytes-le32s (x ∷ xs) i = IsBytes-append (le32 x) (le32s xs) (IsBytes-le32 x) (IsBytes-le32s xs) i
 
 -- a sector with bytes written into it
-pub IsSector-splice : (s x : List ℕ) (place : ℕ) → IsSector s → IsBytes x → place + length x ≤ 512 → IsSector (splice s place x)
+pub IsSector-splice : (s x : List ℕ) (at : ℕ) → IsSector s → IsBytes x → at + length x ≤ 512 → IsSector (splice s at x)
 unfolding splice
-IsSector-splice s x place is small room = record {
+IsSector-splice s x at is small room = record {
   len =
       omega (
         arith,
         is.len,
-        length-take-le place s (omega (arith, is.len)),
-        length-drop (place + length x) s,
-        length-append x (drop (place + length x) s),
-        length-append (take place s) (x ++ drop (place + length x) s),
+        length-take-le at s (omega (arith, is.len)),
+        length-drop (at + length x) s,
+        length-append x (drop (at + length x) s),
+        length-append (take at s) (x ++ drop (at + length x) s),
       );
   bytes =
-      IsBytes-append (take place s) (x ++ drop (place + length x) s) (IsBytes-take place s is.bytes)
-      (IsBytes-append x (drop (place + length x) s) small (IsBytes-drop (place + length x) s is.bytes));
+      IsBytes-append (take at s) (x ++ drop (at + length x) s) (IsBytes-take at s is.bytes)
+      (IsBytes-append x (drop (at + length x) s) small (IsBytes-drop (at + length x) s is.bytes));
 }
 
 -- ---- what each structure is spelled as

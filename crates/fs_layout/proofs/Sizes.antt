@@ -107,7 +107,7 @@ unfolding part
 turns_default_acl_holds t same size h = Holds-again (same_blocks t (λ k e. cc) same size) (λ le. t.others Indirect (λ e. cc) ∙ h.trim_pointers le) h
 
 -- ---- a smaller size
--- what bytes are up to a place, and zeros from there on
+-- what bytes are up to an offset, and zeros from there on
 unfoldable pub cleared_from : ℕ → List ℕ → List ℕ
 cleared_from n bytes = take n bytes ++ zeros (length bytes - n)
 
@@ -116,7 +116,7 @@ pub length-cleared_from : (n : ℕ) (bytes : List ℕ) → n ≤ length bytes �
 unfolding cleared_from
 length-cleared_from n bytes le = length-append (take n bytes) (zeros (length bytes - n)) ∙ omega (arith, length-take-le n bytes le, length-zeros (length bytes - n))
 
--- a byte before that place
+-- a byte before that offset
 pub get_or-cleared_before : (n : ℕ) (bytes : List ℕ) (i : ℕ) → n ≤ length bytes → i < n → get_or (cleared_from n bytes) i 0 ≡ get_or bytes i 0
 unfolding cleared_from
 get_or-cleared_before n bytes i le lt = get_or_append_left (take n bytes) (zeros (length bytes - n)) 0 i (omega (arith, length-take-le n bytes le)) ∙ get_or-take n bytes i 0 lt
@@ -152,7 +152,7 @@ clears_block bytes k m low high le = record {
   ];
 }
 
--- The bytes from a place in block k on are cleared, the blocks past it being so already.
+-- The bytes from an offset in block k on are cleared, the blocks past it being so already.
 pub clears_rest : (bytes : List ℕ) (block : List ℕ) (k n m : ℕ) → 512 * k ≤ n → n ≤ m → m ≤ 512 * k + 512 → m ≤ length bytes
     → ((i : ℕ) → i / 512 ≡ k → i < n → get_or bytes i 0 ≡ get_or block (i % 512) 0)
     → ((i : ℕ) → i / 512 ≡ k → n ≤ i → get_or block (i % 512) 0 ≡ 0) → ReplacesBlock k block (cleared_from m bytes) (cleared_from n bytes)

@@ -2,6 +2,7 @@
 use Rattle.std.specs.Prelude.{ℕ, zero, suc, ◌+◌, ◌-◌, ◌*◌, ◌<◌, ◌≤◌, ◌^◌, ◌++◌, List, [], ◌∷◌, length, drop, Result, Ok, Err, nat_lt, if◌then◌else◌, ◌&&◌, All}
 use Rattle.std.specs.List.{flat_map}
 use Rattle.posix_acl.specs.declared.entry.EntryNumbers.{EntryNumbers}
+use Rattle.posix_acl.specs.declared.validity.TheConstants.{MAX_ENTRIES}
 use Rattle.fs_layout.specs.declared.fault.LayoutFault.{LayoutFault}
 use Rattle.fs_layout.specs.declared.fault.LayoutFault.TheVariants.{BadNumber, NotZero}
 use Rattle.fs_layout.specs.Bytes.{window, le16, le32, zeros, u16_of, u32_of, are_zero}
@@ -26,20 +27,20 @@ pub record FitsAclEntry (e : EntryNumbers) : Type 0 where
 
 -- the entries have room, and fit their fields
 pub record FitsAclSector (es : List EntryNumbers) : Type 0 where
-  pub few : length es ≤ 32
+  pub few : length es ≤ MAX_ENTRIES
   pub entries : All FitsAclEntry es
 
--- the entry that stands at a place
+-- the entry that stands at an offset
 abbrev pub acl_entry_at : List ℕ → ℕ → EntryNumbers
-acl_entry_at s place = record { tag = u16_of s place; perms = u16_of s (place + 2); id = u32_of s (place + 4) }
+acl_entry_at s at = record { tag = u16_of s at; perms = u16_of s (at + 2); id = u32_of s (at + 4) }
 
--- the n entries that stand from a place on
+-- the n entries that stand from an offset on
 unfoldable pub acl_entries_at : List ℕ → ℕ → ℕ → List EntryNumbers
-acl_entries_at s place zero = []
-acl_entries_at s place (suc n) = acl_entry_at s place ∷ acl_entries_at s (place + 8) n
+acl_entries_at s at zero = []
+acl_entries_at s at (suc n) = acl_entry_at s at ∷ acl_entries_at s (at + 8) n
 
 -- the entries that 512 bytes are, or the first fault
 unfoldable pub acl_sector_of : List ℕ → Result (List EntryNumbers) LayoutFault
 acl_sector_of s =
-    if nat_lt 32 (u16_of s 0) then Err BadNumber else
+    if nat_lt MAX_ENTRIES (u16_of s 0) then Err BadNumber else
     (if are_zero (window s 2 6) && are_zero (drop (8 + 8 * u16_of s 0) s) then Ok (acl_entries_at s 8 (u16_of s 0)) else Err NotZero)

@@ -3,7 +3,7 @@
 --     SectorMap        an image: what each sector holds, by its number
 --     window, splice        a part of a list, and a write into it
 --     le16, le32, le64, le32s, zeros        numbers as bytes, the lowest byte first
---     u16_of, u32_of, u64_of, u32s_of, are_zero        the numbers that stand at a place
+--     u16_of, u32_of, u64_of, u32s_of, are_zero        the numbers that stand at an offset
 use Rattle.std.specs.Prelude.{ℕ, zero, suc, ◌+◌, ◌<◌, ◌≡◌, List, [], ◌∷◌, ◌++◌, length, take, drop, replicate, get_or, Bool, nat_eq}
 use Rattle.std.specs.List.{flat_map, list_all}
 use Rattle.byteorder.specs.Endian.{little_bytes, little_number}
@@ -20,13 +20,13 @@ pub record IsSector (s : List ℕ) : Type 0 where
 abbrev pub SectorMap : Type 0
 SectorMap = ℕ → List ℕ
 
--- the n bytes from a place
+-- the n bytes from an offset
 abbrev pub window : List ℕ → ℕ → ℕ → List ℕ
-window s place n = take n (drop place s)
+window s at n = take n (drop at s)
 
--- s with bytes written at a place, and no other byte changed
+-- s with bytes written at an offset, and no other byte changed
 unfoldable pub splice : List ℕ → ℕ → List ℕ → List ℕ
-splice s place bytes = take place s ++ (bytes ++ drop (place + length bytes) s)
+splice s at bytes = take at s ++ (bytes ++ drop (at + length bytes) s)
 
 -- a number of 16, 32 or 64 bits as bytes
 unfoldable pub le16 : ℕ → List ℕ
@@ -45,20 +45,20 @@ le32s xs = flat_map le32 xs
 unfoldable pub zeros : ℕ → List ℕ
 zeros n = replicate n 0
 
--- the number that stands at a place
+-- the number that stands at an offset
 unfoldable pub u16_of : List ℕ → ℕ → ℕ
-u16_of s place = little_number 2 (drop place s)
+u16_of s at = little_number 2 (drop at s)
 
 unfoldable pub u32_of : List ℕ → ℕ → ℕ
-u32_of s place = little_number 4 (drop place s)
+u32_of s at = little_number 4 (drop at s)
 
 unfoldable pub u64_of : List ℕ → ℕ → ℕ
-u64_of s place = little_number 8 (drop place s)
+u64_of s at = little_number 8 (drop at s)
 
--- the n numbers of 32 bits that stand at a place
+-- the n numbers of 32 bits that stand at an offset
 unfoldable pub u32s_of : List ℕ → ℕ → ℕ → List ℕ
-u32s_of s place zero = []
-u32s_of s place (suc n) = u32_of s place ∷ u32s_of s (place + 4) n
+u32s_of s at zero = []
+u32s_of s at (suc n) = u32_of s at ∷ u32s_of s (at + 4) n
 
 unfoldable pub are_zero : List ℕ → Bool
 are_zero s = list_all (λ b. nat_eq b 0) s

@@ -11,6 +11,7 @@
 use Rattle.std.specs.Prelude.{◌≡◌, ◌≢◌, ℕ, ◌+◌, ◌-◌, ◌*◌, ◌/◌, ◌%◌, ◌^◌, ◌<◌, ◌≤◌, false, Ok, IsTrue, List, length, get_or, set, ◌⊎◌}
 use Rattle.fs_layout.specs.declared.inode.Inode.{Inode}
 use Rattle.fs_layout.specs.declared.place.Place.{Place}
+use Rattle.fs_layout.specs.declared.place.TheConstants.{SECTOR_BITS}
 use Rattle.fs_layout.specs.Bytes.{SectorMap, IsSector, splice, le32}
 use Rattle.fs_layout.specs.Inode.{inode_bytes, inode_of}
 use Rattle.fs_layout.specs.Images.{HasWholeTables, Part, part, map_bits, bit, inode_bitmap, block_bitmap, stored, inode_at, Owns}
@@ -146,10 +147,10 @@ pub record ChangesInode (p : Place) (n : ℕ) (old new : SectorMap) : Type 0 whe
   pub owned : ChangesOwned p (inode_at p old n) (inode_at p new n) old new
   pub valid : inode_of (stored p new n) ≡ Ok (inode_at p new n)
   pub table : (m : ℕ) → m < p.inodes → m ≢ n → stored p new m ≡ stored p old m
-  pub inode_bits : (m : ℕ) → m < 4096 → m ≢ n → bit new inode_bitmap m ≡ bit old inode_bitmap m
+  pub inode_bits : (m : ℕ) → m < SECTOR_BITS → m ≢ n → bit new inode_bitmap m ≡ bit old inode_bitmap m
 
 -- of the inode bitmap no bit but that of inode n differs, and nothing else does
 pub record MarksInode (n : ℕ) (old new : SectorMap) : Type 0 where
   pub whole : IsSector (new inode_bitmap)
-  pub bits : (m : ℕ) → m < 4096 → m ≢ n → bit new inode_bitmap m ≡ bit old inode_bitmap m
+  pub bits : (m : ℕ) → m < SECTOR_BITS → m ≢ n → bit new inode_bitmap m ≡ bit old inode_bitmap m
   pub others : (s : ℕ) → s ≢ inode_bitmap → new s ≡ old s

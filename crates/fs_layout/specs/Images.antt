@@ -12,20 +12,21 @@ use Rattle.std.specs.List.{range_with_len}
 use Rattle.fs_layout.specs.declared.inode.Inode.{Inode}
 use Rattle.fs_layout.specs.declared.fault.LayoutFault.{LayoutFault}
 use Rattle.fs_layout.specs.declared.place.Place.{Place}
+use Rattle.fs_layout.specs.declared.place.TheConstants.{INODE_BITMAP, BLOCK_BITMAP, SECTOR_BITS}
 use Rattle.fs_layout.specs.Bytes.{SectorMap, IsSector, window, u32_of}
 use Rattle.fs_layout.specs.Inode.{inode_of, free_inode}
 
 -- the sector of the inode bitmap
 abbrev pub inode_bitmap : ℕ
-inode_bitmap = 128
+inode_bitmap = INODE_BITMAP
 
 -- the first sector of the block bitmap
 abbrev pub block_bitmap : ℕ
-block_bitmap = 129
+block_bitmap = BLOCK_BITMAP
 
 -- the number of bits of the block bitmap
 abbrev pub map_bits : Place → ℕ
-map_bits p = 4096 * (p.table - 129)
+map_bits p = SECTOR_BITS * (p.table - block_bitmap)
 
 -- a data sector
 abbrev pub IsData : Place → ℕ → Type 0
@@ -33,11 +34,11 @@ IsData p s = (p.first_data ≤ s) × (s < p.sectors)
 
 -- each sector of the bitmaps and of the inode table is whole
 abbrev pub HasWholeTables : Place → SectorMap → Type 0
-HasWholeTables p image = (s : ℕ) → 128 ≤ s → s < p.first_data → IsSector (image s)
+HasWholeTables p image = (s : ℕ) → inode_bitmap ≤ s → s < p.first_data → IsSector (image s)
 
 -- bit n of the bitmap that begins at a sector
 unfoldable pub bit : SectorMap → ℕ → ℕ → Bool
-bit image start n = nat_eq (bit_at (get_or (image (start + n / 4096)) (n % 4096 / 8) 0) (n % 8)) 1
+bit image start n = nat_eq (bit_at (get_or (image (start + n / SECTOR_BITS)) (n % SECTOR_BITS / 8) 0) (n % 8)) 1
 
 -- how many data sectors have a clear bit
 abbrev pub free_sectors : Place → SectorMap → ℕ

@@ -1,10 +1,12 @@
 -- An inode, 128 bytes in the inode table: its bytes, and what bytes are read as.
-use Rattle.std.specs.Prelude.{ℕ, zero, suc, ◌<◌, ◌^◌, ◌≡◌, ◌%◌, ◌++◌, List, length, get_or, drop, replicate, Result, Ok, Err, Option, Some, None, Bool, true, nat_eq, nat_le, if◌then◌else◌, ◌&&◌, IsTrue}
+use Rattle.std.specs.Prelude.{ℕ, zero, suc, ◌<◌, ◌^◌, ◌≡◌, ◌%◌, ◌++◌, List, length, get_or, drop, Result, Ok, Err, Option, Some, None, Bool, true, nat_eq, nat_le, if◌then◌else◌, ◌&&◌, IsTrue}
 use Rattle.fs_layout.specs.declared.inode.Kind.{Kind}
 use Rattle.fs_layout.specs.declared.inode.Kind.TheVariants.{Free, File, Directory, Link}
 use Rattle.fs_layout.specs.declared.inode.Inode.{Inode}
 use Rattle.fs_layout.specs.declared.fault.LayoutFault.{LayoutFault}
 use Rattle.fs_layout.specs.declared.fault.LayoutFault.TheVariants.{BadKind, BadNumber, NotZero}
+use Rattle.fs_layout.specs.declared.inode.TheConstants.{MAX_FILE_SIZE, MAX_LINK_SIZE}
+use Rattle.fs_layout.specs.declared.inode.TheConstants.Inode.{FREE}
 use Rattle.fs_layout.specs.Bytes.{le16, le32, le64, le32s, zeros, u16_of, u32_of, u64_of, u32s_of, are_zero}
 
 abbrev pub kind_number : Kind → ℕ
@@ -29,28 +31,16 @@ inode_bytes v =
 -- mode and size are in the range of the kind
 abbrev pub numbers_fit : Kind → ℕ → ℕ → Bool
 numbers_fit Free mode size = true
-numbers_fit File mode size = nat_le mode 0o777 && nat_le size 71680
-numbers_fit Directory mode size = (nat_le mode 0o3777 && nat_le size 71680) && nat_eq (size % 128) 0
-numbers_fit Link mode size = (nat_eq mode 0o777 && nat_le 1 size) && nat_le size 512
+numbers_fit File mode size = nat_le mode 0o777 && nat_le size MAX_FILE_SIZE
+numbers_fit Directory mode size = (nat_le mode 0o3777 && nat_le size MAX_FILE_SIZE) && nat_eq (size % 128) 0
+numbers_fit Link mode size = (nat_eq mode 0o777 && nat_le 1 size) && nat_le size MAX_LINK_SIZE
 
 unfoldable pub inode_fits : Inode → Bool
 inode_fits v = numbers_fit v.kind v.mode v.size
 
 -- an inode that nothing uses
 abbrev pub free_inode : Inode
-free_inode = record {
-  kind = Free;
-  mode = 0;
-  uid = 0;
-  gid = 0;
-  names = 0;
-  size = 0;
-  parent = 0;
-  acl = 0;
-  default_acl = 0;
-  direct = replicate 12 0;
-  indirect = 0;
-}
+free_inode = FREE
 
 -- what its kind asks of an inode
 pub record IsInode (v : Inode) : Type 0 where
@@ -97,7 +87,9 @@ fields_end Link = 88
 abbrev pub inode_if : Option Kind → List ℕ → Result Inode LayoutFault
 inode_if None s = Err BadKind
 inode_if (Some kind) s =
-    if inode_fits (fields_of kind s) then (if are_zero (drop (fields_end kind) s) then Ok (fields_of kind s) else Err NotZero) else Err BadNumber
+    if inode_fits (fields_of kind s) then
+    (if are_zero (drop (fields_end kind) s) then Ok (fields_of kind s) else Err NotZero)
+    else Err BadNumber
 
 -- the inode that 128 bytes are, or the first fault
 unfoldable pub inode_of : List ℕ → Result Inode LayoutFault

@@ -6,6 +6,7 @@ use Rattle.std.specs.declared.cmp.Ordering.{Ordering}
 use Rattle.posix_acl.specs.AccessList.{AccessList, IsAcl, IsSomeAcl, list_numbers, mode_bits}
 use Rattle.fs_layout.specs.declared.inode.Inode.{Inode}
 use Rattle.fs_layout.specs.declared.place.Place.{Place}
+use Rattle.fs_layout.specs.declared.place.TheConstants.{COMMIT_SECTOR, FIRST_LOG_SECTOR}
 use Rattle.fs_layout.specs.Bytes.{IsBytes, IsSector, SectorMap, splice, window}
 use Rattle.fs_layout.specs.Inode.{FitsInode}
 use Rattle.fs_layout.specs.Slot.{NamedInode, slot_of}
@@ -21,15 +22,16 @@ use Rattle.fs_layout.specs.StoredAcls.{acl_content, HoldsAcl, kept_acl}
 
 -- numbers of n bytes: one that is read is written as the bytes that it was read from, and one that is written is read
 pub record AreNumbersAsBytes (n : ℕ) (bytes : ℕ → List ℕ) (number : List ℕ → ℕ → ℕ) : Type 0 where
-  pub written : (s : List ℕ) (place : ℕ) → IsBytes s → place + n ≤ length s → bytes (number s place) ≡ window s place n
-  pub read : (s : List ℕ) (place x : ℕ) → place + n ≤ length s → x < 256 ^ n → number (splice s place (bytes x)) place ≡ x
+  pub written : (s : List ℕ) (at : ℕ) → IsBytes s → at + n ≤ length s → bytes (number s at) ≡ window s at n
+  pub read : (s : List ℕ) (at x : ℕ) → at + n ≤ length s → x < 256 ^ n → number (splice s at (bytes x)) at ≡ x
 
 -- on a disk of so many sectors a target has its log sector's content, and each other sector its own
 pub record IsRecovery (size : ℕ) : Type 0 where
-  pub target : (image : SectorMap) (targets : List ℕ) (k : ℕ) → IsCommit size (image 1) targets → k < length targets
-      → recovered size image (get_or targets k 0) ≡ image (2 + k)
-  pub other : (image : SectorMap) (targets : List ℕ) (s : ℕ) → IsCommit size (image 1) targets → (Contains targets s → ⊥) → recovered size image s ≡ image s
-  pub invalid : (image : SectorMap) (s : ℕ) → (IsValidCommit size (image 1) → ⊥) → recovered size image s ≡ image s
+  pub target : (image : SectorMap) (targets : List ℕ) (k : ℕ) → IsCommit size (image COMMIT_SECTOR) targets → k < length targets
+      → recovered size image (get_or targets k 0) ≡ image (FIRST_LOG_SECTOR + k)
+  pub other : (image : SectorMap) (targets : List ℕ) (s : ℕ) → IsCommit size (image COMMIT_SECTOR) targets → (Contains targets s → ⊥)
+      → recovered size image s ≡ image s
+  pub invalid : (image : SectorMap) (s : ℕ) → (IsValidCommit size (image COMMIT_SECTOR) → ⊥) → recovered size image s ≡ image s
 
 -- on each disk whose size fits 32 bits
 abbrev pub RecoversEach : Type 0
@@ -43,7 +45,8 @@ pub record LeavesOthers (p : Place) (n : ℕ) (old new : SectorMap) : Type 0 whe
   pub kept : (m : ℕ) → m < p.inodes → m ≢ n → Keeps old new (inode_at p old m)
 
 abbrev pub OneInodeChanges : Type 0
-OneInodeChanges = (p : Place) (n : ℕ) (old new : SectorMap) → IsConsistent p old → n < p.inodes → ChangesInode p n old new → LeavesOthers p n old new
+OneInodeChanges =
+    (p : Place) (n : ℕ) (old new : SectorMap) → IsConsistent p old → n < p.inodes → ChangesInode p n old new → LeavesOthers p n old new
 
 -- Where the blocks of an inode change and then the inode is saved, one inode changes, and it is the one that was saved.
 abbrev pub SavingEnds : Type 0
@@ -76,14 +79,16 @@ pub record HaveEntries {K : Type 0} (X : Type 0) (R : K → K → Ordering) : Ty
 pub record AreNamesOf (slots : List NamedInode) : Type 0 where
   pub map_is : IsMap name_cmp (names_of_slots slots)
   pub count : length (names_of_slots slots) ≡ length slots
-  pub each : (name : List ℕ) (n : ℕ) → (get name_cmp (names_of_slots slots) name ≡ Some n) ↔ Contains slots (record { inode = n; name = name })
+  pub each : (name : List ℕ) (n : ℕ)
+      → (get name_cmp (names_of_slots slots) name ≡ Some n) ↔ Contains slots (record { inode = n; name = name })
 
 abbrev pub SlotsHaveNames : Type 0
 SlotsHaveNames = (slots : List NamedInode) → HaveDistinctNames slots → AreNamesOf slots
 
 -- A directory has one map of names,
 abbrev pub OneMapOfNames : Type 0
-OneMapOfNames = (image : SectorMap) (v : Inode) (names others : List (List ℕ × ℕ)) → HasNames image v names → HasNames image v others → names ≡ others
+OneMapOfNames =
+    (image : SectorMap) (v : Inode) (names others : List (List ℕ × ℕ)) → HasNames image v names → HasNames image v others → names ≡ others
 
 -- which its slots say, each read by itself, where the sectors of its blocks are whole,
 pub record AreRead (image : SectorMap) (v : Inode) (names : List (List ℕ × ℕ)) : Type 0 where

@@ -1,5 +1,6 @@
 -- The recovered image: what a disk means, whose commit sector may be sealed.
 use Rattle.std.specs.Prelude.{ℕ, ◌+◌, List, [], ◌∷◌, nat_eq, if◌then◌else◌}
+use Rattle.fs_layout.specs.declared.place.TheConstants.{COMMIT_SECTOR, FIRST_LOG_SECTOR}
 use Rattle.fs_layout.specs.Bytes.{SectorMap}
 use Rattle.fs_layout.specs.Commit.{targets_in}
 
@@ -9,6 +10,6 @@ replayed image log [] s = image s
 replayed image log (t ∷ ts) s = if nat_eq s t then image log else replayed image (log + 1) ts s
 
 -- the image of a disk of so many sectors as recovery leaves its data: a sealed commit's targets have the contents of
--- the log sectors 2, 3 and so on, and each other sector its own
+-- the log sectors, in their order, and each other sector its own
 unfoldable pub recovered : ℕ → SectorMap → SectorMap
-recovered size image s = replayed image 2 (targets_in size (image 1)) s
+recovered size image s = replayed image FIRST_LOG_SECTOR (targets_in size (image COMMIT_SECTOR)) s

@@ -4,12 +4,13 @@ use Rattle.std.specs.List.{list_all}
 use Rattle.std.specs.Str.{bytes_eq}
 use Rattle.fs_layout.specs.declared.fault.LayoutFault.{LayoutFault}
 use Rattle.fs_layout.specs.declared.fault.LayoutFault.TheVariants.{BadNumber, NotZero}
+use Rattle.fs_layout.specs.declared.slot.TheConstants.{MAX_NAME}
 use Rattle.fs_layout.specs.Bytes.{IsBytes, window, le32, zeros, u32_of, are_zero}
 
--- 1 to 120 bytes, none of them `/` or zero, and neither `.` nor `..`
+-- 1 to `MAX_NAME` bytes, none of them `/` or zero, and neither `.` nor `..`
 pub record IsName (name : List ℕ) : Type 0 where
   pub not_empty : 0 < length name
-  pub short : length name ≤ 120
+  pub short : length name ≤ MAX_NAME
   pub bytes : All (λ b. (b ≢ 0) × (b ≢ 47)) name
   pub not_dot : name ≢ codes "."
   pub not_dot_dot : name ≢ codes ".."
@@ -17,7 +18,7 @@ pub record IsName (name : List ℕ) : Type 0 where
 -- `IsName` as a test
 unfoldable pub name_test : List ℕ → Bool
 name_test name =
-    ((nat_le 1 (length name) && nat_le (length name) 120) && list_all (λ b. not (nat_eq b 0) && not (nat_eq b 47)) name)
+    ((nat_le 1 (length name) && nat_le (length name) MAX_NAME) && list_all (λ b. not (nat_eq b 0) && not (nat_eq b 47)) name)
     && (not (bytes_eq name (codes ".")) && not (bytes_eq name (codes "..")))
 
 -- an inode's number, and a name that it has in a directory
@@ -27,7 +28,7 @@ pub record NamedInode : Type 0 where
 
 -- the inode, the name's length, zeros, the name, zeros
 abbrev pub slot_bytes : NamedInode → List ℕ
-slot_bytes v = le32 v.inode ++ (length v.name ∷ (zeros 3 ++ (v.name ++ zeros (120 - length v.name))))
+slot_bytes v = le32 v.inode ++ (length v.name ∷ (zeros 3 ++ (v.name ++ zeros (MAX_NAME - length v.name))))
 
 -- the name is one, and each number fits its field
 pub record FitsSlot (v : NamedInode) : Type 0 where
@@ -37,7 +38,7 @@ pub record FitsSlot (v : NamedInode) : Type 0 where
 
 -- a name stands in the bytes, and all that is not in use is zero
 abbrev pub has_name : List ℕ → Bool
-has_name s = nat_le (slice_index s 4) 120 && name_test (window s 8 (slice_index s 4))
+has_name s = nat_le (slice_index s 4) MAX_NAME && name_test (window s 8 (slice_index s 4))
 
 abbrev pub has_zeros : List ℕ → Bool
 has_zeros s = are_zero (window s 5 3) && are_zero (drop (8 + slice_index s 4) s)

@@ -2,31 +2,33 @@
 
 ghost use Rattle.std.specs.Prelude.{◌≡◌, ◌≤◌, ◌+◌, ◌*◌, List, length, IfOk, Ok};
 ghost use Rattle.posix_acl.specs.declared.entry.EntryNumbers.{EntryNumbers};
+ghost use Rattle.posix_acl.specs.declared.validity.TheConstants.{MAX_ENTRIES};
 ghost use Rattle.fs_layout.specs.Bytes.{splice};
 ghost use Rattle.fs_layout.specs.AclSector.{acl_sector_bytes, acl_sector_of, entry_bytes, entries_bytes, acl_entry_at, acl_entries_at, FitsAclSector};
 
 use crate::bytes::{are_zero, put_u16, put_u32, put_zeros, u16_at, u32_at};
 use crate::fault::LayoutFault;
-use posix_acl::EntryNumbers;
+use posix_acl::{EntryNumbers, MAX_ENTRIES};
 use std::marker::Model;
 
-/// The entries of an ACL as numbers, at most 32, in the order of the sector. Whether they make an ACL is not asked. A
+/// The entries of an ACL as numbers, at most [`MAX_ENTRIES`], in the order of the sector. Whether they make an ACL is not asked. A
 /// contract sees them as a list.
 #[derive(Drop)]
 pub struct AclSector {
     count: usize,
-    entries: [EntryNumbers; 32],
+    entries: [EntryNumbers; MAX_ENTRIES],
 }
 
 impl Model for AclSector {
     ghost use Rattle.std.specs.Prelude.{◌≤◌, List, take};
+    ghost use Rattle.posix_acl.specs.declared.validity.TheConstants.{MAX_ENTRIES};
     ghost use Rattle.posix_acl.specs.declared.entry.EntryNumbers.{EntryNumbers};
 
     ghost Value = { List EntryNumbers };
 
     ghost view = { λ a. take a.count a.entries };
 
-    ghost invariant = { λ a. a.count ≤ 32 };
+    ghost invariant = { λ a. a.count ≤ MAX_ENTRIES };
 }
 
 const NONE: EntryNumbers = EntryNumbers {
@@ -74,12 +76,12 @@ fn get_entries(from: &[u8], at: usize, to: &mut [EntryNumbers])
 }
 
 impl AclSector {
-    /// These entries, at most 32.
+    /// These entries, at most [`MAX_ENTRIES`].
     pub fn new(entries: &[EntryNumbers]) -> AclSector
-        requires { length entries.now ≤ 32 }
+        requires { length entries.now ≤ MAX_ENTRIES }
         ensures { result ≡ entries.now }
     {
-        let mut all = [NONE; 32];
+        let mut all = [NONE; MAX_ENTRIES];
         (&mut all[..entries.len()]).copy_from_slice(entries);
         AclSector {
             count: entries.len(),
@@ -87,10 +89,10 @@ impl AclSector {
         }
     }
 
-    /// The entries, at most 32.
+    /// The entries, at most [`MAX_ENTRIES`].
     pub fn entries(&self) -> &[EntryNumbers]
         ensures value { result.now ≡ self.now }
-        ensures few { length self.now ≤ 32 }
+        ensures few { length self.now ≤ MAX_ENTRIES }
     {
         &self.entries[..self.count]
     }
@@ -112,7 +114,7 @@ impl AclSector {
         ensures { result ≡ acl_sector_of from.now }
     {
         let count = u16_at(from, 0) as usize;
-        if 32 < count {
+        if MAX_ENTRIES < count {
             return Err(LayoutFault::BadNumber);
         }
         if !are_zero(&from[2..8]) {
@@ -121,7 +123,7 @@ impl AclSector {
         if !are_zero(&from[8 + 8 * count..]) {
             return Err(LayoutFault::NotZero);
         }
-        let mut entries = [NONE; 32];
+        let mut entries = [NONE; MAX_ENTRIES];
         get_entries(from, 8, &mut entries);
         Ok(AclSector { count, entries })
     }

@@ -5,28 +5,33 @@ ghost use Rattle.fs_layout.specs.Commit.{commit_bytes, commit_of, FitsCommit, Ar
 
 use crate::bytes::{are_zero, get_u32s, put_u32, put_u32s, put_zeros, u32_at};
 use crate::fault::LayoutFault;
+use crate::place::{FIRST_LOG_SECTOR, INODE_BITMAP};
 use std::marker::Model;
+
+/// The most targets that a commit has.
+pub const MAX_TARGETS: usize = 126;
 
 const COMMIT_MAGIC: u32 = 0x4a4f4e49;
 
 /// What the commit sector says: the sectors that recovery writes, in the order of their contents in the log.
 ///
-/// The content for target `i`, counted from 0, lies in log sector `2 + i`. A commit without targets is idle, another
+/// The content for target `i`, counted from 0, lies in log sector [`FIRST_LOG_SECTOR`]` + i`. A commit without targets is idle, another
 /// one is sealed. A contract sees a commit as the list of its targets.
 #[derive(Drop)]
 pub struct Commit {
     count: usize,
-    targets: [u32; 126],
+    targets: [u32; MAX_TARGETS],
 }
 
 impl Model for Commit {
     ghost use Rattle.std.specs.Prelude.{ℕ, ◌≤◌, List, take};
+    ghost use Rattle.fs_layout.specs.declared.commit.TheConstants.{MAX_TARGETS};
 
     ghost Value = { List ℕ };
 
     ghost view = { λ c. take c.count c.targets };
 
-    ghost invariant = { λ c. c.count ≤ 126 };
+    ghost invariant = { λ c. c.count ≤ MAX_TARGETS };
 }
 
 impl Commit {
@@ -36,16 +41,16 @@ impl Commit {
     {
         Commit {
             count: 0,
-            targets: [0; 126],
+            targets: [0; MAX_TARGETS],
         }
     }
 
-    /// A commit with these targets, at most 126.
+    /// A commit with these targets, at most [`MAX_TARGETS`].
     pub fn new(targets: &[u32]) -> Commit
-        requires { length targets.now ≤ 126 }
+        requires { length targets.now ≤ MAX_TARGETS }
         ensures { result ≡ targets.now }
     {
-        let mut all = [0; 126];
+        let mut all = [0; MAX_TARGETS];
         (&mut all[..targets.len()]).copy_from_slice(targets);
         Commit {
             count: targets.len(),
@@ -53,10 +58,10 @@ impl Commit {
         }
     }
 
-    /// The targets, at most 126.
+    /// The targets, at most [`MAX_TARGETS`].
     pub fn targets(&self) -> &[u32]
         ensures value { result.now ≡ self.now }
-        ensures few { length self.now ≤ 126 }
+        ensures few { length self.now ≤ MAX_TARGETS }
     {
         &self.targets[..self.count]
     }
@@ -81,23 +86,24 @@ impl Commit {
             return Err(LayoutFault::BadMagic);
         }
         let count = u32_at(from, 4) as usize;
-        if 126 < count {
+        if MAX_TARGETS < count {
             return Err(LayoutFault::BadNumber);
         }
         if !are_zero(&from[8 + 4 * count..]) {
             return Err(LayoutFault::NotZero);
         }
-        let mut targets = [0; 126];
+        let mut targets = [0; MAX_TARGETS];
         get_u32s(from, 8, &mut targets);
         Ok(Commit { count, targets })
     }
+
     /// Every number stands between the layout's sectors and the end of a disk of so many sectors, and none twice.
     pub fn is_valid_for(&self, sectors: u32) -> bool
         ensures { IsTrue result ↔ AreTargets sectors self.now }
     {
         let targets = self.targets();
         for target in targets {
-            if *target < 128 || sectors <= *target {
+            if *target < INODE_BITMAP || sectors <= *target {
                 return false;
             }
         }

@@ -9,6 +9,12 @@ use crate::bytes::{
 };
 use crate::fault::LayoutFault;
 
+/// The most bytes of a file, and of the slots of a directory: 12 blocks of 512, and 128 in the sector of pointers.
+pub const MAX_FILE_SIZE: u64 = (12 + 128) * 512;
+
+/// The most bytes of a link's target.
+pub const MAX_LINK_SIZE: u64 = 512;
+
 /// What an inode is: nothing yet, or a node of the tree.
 #[derive(Clone, Copy, Debug, PartialEq, Eq)]
 pub enum Kind {
@@ -67,8 +73,8 @@ pub struct Inode {
     pub gid: u32,
     /// How many names the inode has in directories; of a directory 1.
     pub names: u32,
-    /// The bytes of a file, at most 71,680; 128 for each slot of a directory, at most 560 slots; the bytes of a link's
-    /// target, 1 to 512.
+    /// The bytes of a file, at most [`MAX_FILE_SIZE`]; 128 for each slot of a directory, at most [`crate::MAX_NAMES`]
+    /// slots; the bytes of a link's target, 1 to [`MAX_LINK_SIZE`].
     pub size: u64,
     /// The inode of the directory that a directory lies in, the root's own for the root; else 0.
     pub parent: u32,
@@ -83,15 +89,32 @@ pub struct Inode {
 }
 
 impl Inode {
+    /// An inode that nothing uses.
+    pub const FREE: Inode = Inode {
+        kind: Kind::Free,
+        mode: 0,
+        uid: 0,
+        gid: 0,
+        names: 0,
+        size: 0,
+        parent: 0,
+        acl: 0,
+        default_acl: 0,
+        direct: [0; 12],
+        indirect: 0,
+    };
+
     #[tactic(auto, unfolding(crate::specs::Inode::inode_fits))]
     fn fits(&self) -> bool
         ensures { result ≡ inode_fits self.now }
     {
         match self.kind {
             Kind::Free => true,
-            Kind::File => self.mode <= 0o777 && self.size <= 71680,
-            Kind::Directory => self.mode <= 0o3777 && self.size <= 71680 && self.size % 128 == 0,
-            Kind::Link => self.mode == 0o777 && 1 <= self.size && self.size <= 512,
+            Kind::File => self.mode <= 0o777 && self.size <= MAX_FILE_SIZE,
+            Kind::Directory => self.mode <= 0o3777
+                && self.size <= MAX_FILE_SIZE
+                && self.size % 128 == 0,
+            Kind::Link => self.mode == 0o777 && 1 <= self.size && self.size <= MAX_LINK_SIZE,
         }
     }
 

@@ -8,30 +8,37 @@ use crate::bytes::{are_zero, put_bytes, put_u32, put_zeros, u32_at};
 use crate::fault::LayoutFault;
 use std::marker::Model;
 
+/// The most bytes that a name has.
+pub const MAX_NAME: usize = 120;
+
+/// The most names that a directory has: its slots are [`crate::MAX_FILE_SIZE`] bytes then.
+pub const MAX_NAMES: usize = 560;
+
 /// An inode and a name that it has in a directory. A contract sees both by `NamedInode`.
 #[derive(Drop)]
 pub struct Slot {
     inode: u32,
     length: usize,
-    name: [u8; 120],
+    name: [u8; MAX_NAME],
 }
 
 impl Model for Slot {
     ghost use Rattle.std.specs.Prelude.{◌≤◌, take};
+    ghost use Rattle.fs_layout.specs.declared.slot.TheConstants.{MAX_NAME};
     ghost use Rattle.fs_layout.specs.Slot.{NamedInode, IsName};
 
     ghost Value = { NamedInode };
 
     ghost view = { λ s. record { inode = s.inode; name = take s.length s.name } };
 
-    ghost invariant = { λ s. (s.length ≤ 120) × IsName (take s.length s.name) };
+    ghost invariant = { λ s. (s.length ≤ MAX_NAME) × IsName (take s.length s.name) };
 }
 
-/// The bytes may stand in a directory as a name: 1 to 120 of them, no `/` and no zero byte, and neither `.` nor `..`.
+/// The bytes may stand in a directory as a name: 1 to [`MAX_NAME`] of them, no `/` and no zero byte, and neither `.` nor `..`.
 pub fn is_name(name: &[u8]) -> bool
     ensures { IsTrue result ↔ IsName name.now }
 {
-    if name.is_empty() || 120 < name.len() {
+    if name.is_empty() || MAX_NAME < name.len() {
         return false;
     }
     if name == b".".as_slice() || name == b"..".as_slice() {
@@ -46,7 +53,7 @@ impl Slot {
         requires { IsName name.now }
         ensures { result ≡ record { inode = inode; name = name.now } }
     {
-        let mut bytes = [0; 120];
+        let mut bytes = [0; MAX_NAME];
         (&mut bytes[..name.len()]).copy_from_slice(name);
         Slot {
             inode,
@@ -79,7 +86,7 @@ impl Slot {
         put_bytes(to, 4, &[name.len() as u8]);
         put_zeros(to, 5, 3);
         put_bytes(to, 8, name);
-        put_zeros(to, 8 + name.len(), 120 - name.len());
+        put_zeros(to, 8 + name.len(), MAX_NAME - name.len());
     }
 
     #[tactic(auto, unfolding(crate::specs::Slot::slot_of))]
@@ -88,7 +95,7 @@ impl Slot {
         ensures { result ≡ slot_of from.now }
     {
         let length = from[4] as usize;
-        if 120 < length {
+        if MAX_NAME < length {
             return Err(LayoutFault::BadNumber);
         }
         let name = &from[8..8 + length];

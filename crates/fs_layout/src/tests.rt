@@ -4,7 +4,7 @@ use crate::LayoutFault::{self, BadKind, BadMagic, BadNumber, BadVersion, NotZero
 use crate::{AclSector, Commit, Inode, Kind, Slot, Super, is_name, place_of};
 use posix_acl::EntryNumbers;
 
-// A structure. The tests have each at a place of its own in a sector.
+// A structure. The tests have each at an offset of its own in a sector.
 #[derive(Clone, Copy, Debug)]
 enum Part {
     Super,
@@ -16,7 +16,7 @@ enum Part {
 
 impl Part {
     // Where it begins, and how many bytes it has.
-    fn place(self) -> (usize, usize) {
+    fn window(self) -> (usize, usize) {
         match self {
             Part::Super | Part::Commit | Part::AclSector => (0, 512),
             Part::Inode => (128, 128),
@@ -87,7 +87,7 @@ const ACL_BYTES: &[u8] = &[
 
 // A sector of 0xff, but for the part's bytes.
 fn sector_of(part: Part, bytes: &[u8]) -> [u8; 512] {
-    let (at, length) = part.place();
+    let (at, length) = part.window();
     let mut sector = [0xff; 512];
     for k in 0..512 {
         if at <= k && k - at < length {
@@ -238,9 +238,9 @@ const READS: [(Part, &[u8], usize, usize, u8, Option<LayoutFault>); 61] = [
     (Part::AclSector, ACL_BYTES, 0, 512, 0xff, Some(BadNumber)),
 ];
 
-// The sector with this byte in some places of the part.
+// The sector with this byte in some bytes of the part.
 fn with_bytes(sector: &[u8; 512], part: Part, first: usize, end: usize, byte: u8) -> [u8; 512] {
-    let (at, _) = part.place();
+    let (at, _) = part.window();
     let mut changed = *sector;
     for k in 0..512 {
         if at <= k && first <= k - at && k - at < end {

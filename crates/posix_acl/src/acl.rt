@@ -1,3 +1,4 @@
+//! A valid access control list, and what is read off it and made of it.
 ghost use Rattle.std.specs.Prelude.{◌≡◌, ◌≢◌, OnOk, IfOk, IfErr};
 
 use crate::entry::{Entry, Perms, Tag};

@@ -1,3 +1,4 @@
+//! Entries of an access control list: tags, permissions, and their numbers.
 ghost use Rattle.std.specs.Prelude.{◌≡◌, ◌<◌};
 ghost use Rattle.posix_acl.specs.Order.{same_name};
 ghost use Rattle.posix_acl.specs.Entries.{tag_number, is_tag, is_named, perms_of, digit_of, meet, plain};

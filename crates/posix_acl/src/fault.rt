@@ -1,3 +1,4 @@
+//! Why entries or a text make no list.
 ghost use Rattle.std.specs.Prelude.{◌≡◌};
 ghost use Rattle.posix_acl.specs.declared.fault.AclFault.TheVariants.{OutOfMemory};
 

@@ -1,4 +1,4 @@
-// Reads the text form of a list.
+//! Reads the text form of a list.
 ghost use Rattle.std.specs.Prelude.{◌≡◌, ◌≢◌, ◌==◌, ℕ, ◌≤◌, ◌∷◌, [], ◌<◌, ◌^◌, ◌⊎◌, ◌↔◌, length, IsTrue, OnOk, IfOk, IfErr, IfSome, IfNone, position};
 ghost use Rattle.std.specs.List.{slice_split, before_first};
 ghost use Rattle.std.specs.Fmt.{decimal};

@@ -1,3 +1,4 @@
+//! Worked rows of texts, permission bits and limits.
 use crate::acl::Acl;
 use crate::entry::{Entry, Perms, Tag};
 use crate::fault::AclFault;
