@@ -1,11 +1,18 @@
 -- What a record keeps when an event is added to it, or isn't.
 use Rattle.std.proofs.Common.{◌≡◌, ℕ, List, length, sym, ap, subst}
-use Rattle.std.specs.Prelude.{Result, Ok, Err, OnOk, OnErr}
+use Rattle.std.specs.Prelude.{Result, Ok, Err, OnOk, OnErr, false}
+use Rattle.std.specs.Result.{is_err}
+use Rattle.std.proofs.lemmas.Bool.{true≢false}
 use Rattle.sector_disk.specs.Disk.{IsWholeSector}
 use Rattle.sector_disk.specs.Record.{Past}
 use Rattle.sector_disk.specs.Whole.{AreWhole, whole_written, whole_synced}
 use Rattle.sector_disk.specs.declared.history.Event.TheVariants.{Written, Synced}
 use Rattle.sector_disk.proofs.Done.{more}
+
+-- where recording is no error, what it says at Ok is true
+pub recorded : {T E P : Type 0} (r : Result T E) → is_err r ≡ false → OnOk r P → P
+recorded (Ok x) fine is = is
+recorded (Err e) fine is = absurd (true≢false fine)
 
 -- as many whole sectors as before
 pub record StaysWhole (past new : Past) : Type 0 where
