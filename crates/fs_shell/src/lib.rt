@@ -14,6 +14,8 @@ mod script;
 #[cfg(test)]
 mod tests;
 mod text;
+#[cfg(test)]
+mod text_tests;
 mod words;
 
 pub use answer::{Answer, Count};

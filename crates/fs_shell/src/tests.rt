@@ -1,19 +1,15 @@
-//! Scripts with their replies, over disks of which one call fails and over readers of several kinds; and the text of
-//! each reply.
+//! Scripts with their replies, over disks of which one call fails, and over readers and writers of several kinds.
 
 ghost use Rattle.std.specs.Prelude.{IfOk};
 ghost use Rattle.fs_system.specs.Mounting.{MayBeMounted};
 ghost use Rattle.fs_system.specs.Seen.{IsInSomeState};
 
-use crate::{Count, Line, LineFault, RunFault, fault_text, parse_line, reply_text, run};
-use fs_cred::{Denial, Errno, Need, Refusal, Rule};
-use fs_model::{Bytes, Call, FileType, Listing, Name, Named, Path, Reply, Status};
+use crate::text_tests::push_other;
+use crate::{Count, RunFault, run};
 use fs_system::{Fs, a_new_disk_is_mountable, mkfs};
-use posix_acl::{Acl, Perms};
 use sector_disk::{Disk, FailOnce, MemDisk};
 use std::alloc::{AllocError, Global};
 use std::io::{self, ErrorKind, Read, Write};
-use std::process::Abort;
 use std::test::Fail;
 
 // ---- file systems
@@ -104,16 +100,33 @@ impl Read for Source<'_> {
     }
 }
 
-// Takes no byte.
-#[derive(Drop)]
-struct Full;
+// Takes so many bytes, and keeps how many it could still take when it was last flushed; a flush may fail.
+#[derive(Clone, Copy)]
+struct Sink {
+    room: usize,
+    flushed: Option<usize>,
+    fails: bool,
+}
 
-impl Write for Full {
-    fn write(&mut self, _buf: &[u8]) -> io::Result<usize> {
-        Ok(0)
+// Takes a hundred bytes.
+const WIDE: Sink = Sink {
+    room: 100,
+    flushed: None,
+    fails: false,
+};
+
+impl Write for Sink {
+    fn write(&mut self, buf: &[u8]) -> io::Result<usize> {
+        let count = buf.len().min(self.room);
+        self.room -= count;
+        Ok(count)
     }
 
     fn flush(&mut self) -> io::Result<()> {
+        if self.fails {
+            return Err(io::Error::from(ErrorKind::Other));
+        }
+        self.flushed = Some(self.room);
         Ok(())
     }
 }
@@ -145,23 +158,36 @@ fn push_run<R: Read, D: Disk>(
     push_outcome(seen, outcome)
 }
 
-// What a script comes to on an empty file system; and another one after an unmount and a mount, if it isn't empty.
-fn seen_on<D: Disk + Drop>(
+// Adds what a script comes to on an empty file system; and what another one does after an unmount and a mount, if it
+// isn't empty.
+fn push_session<D: Disk + Drop>(
     alloc: Global,
+    seen: &mut String,
     disk: D,
     script: Source<'_>,
     again: &[u8],
-) -> Result<String, Fail> {
-    let mut seen = String::new(alloc);
+) -> Result<(), Fail> {
     let mut fs = mounted(alloc, disk)?;
     let mut reader = script;
-    push_run(alloc, &mut seen, &mut reader, &mut fs)?;
-    if again.is_empty() {
-        return Ok(seen);
+    push_run(alloc, seen, &mut reader, &mut fs)?;
+    push_run_again(alloc, seen, fs, again)
+}
+
+fn push_run_again<D: Disk + Drop>(
+    alloc: Global,
+    seen: &mut String,
+    fs: Fs<D>,
+    script: &[u8],
+) -> Result<(), Fail>
+    requires { IsInSomeState D.state fs }
+{
+    if script.is_empty() {
+        return Ok(());
     }
     let mut fs = mounted_again(alloc, fs)?;
-    push_run(alloc, &mut seen, &mut &*again, &mut fs)?;
-    Ok(seen)
+    let mut reader = script;
+    push_run(alloc, seen, &mut reader, &mut fs)?;
+    Ok(())
 }
 
 // The disk's calls by mkfs and mount. The call after these is the first that a script makes.
@@ -169,10 +195,21 @@ const FIRST_CALL: u64 = 25;
 
 const NONE_FAILS: u64 = u64::MAX;
 
-// The same on a disk in memory, whose call with this number fails.
-fn seen_of(alloc: Global, call: u64, script: Source<'_>, again: &[u8]) -> Result<String, Fail> {
+// Adds to the report where such a session, on a disk in memory whose call with this number fails, comes to something
+// other than is wanted.
+fn expect_session(
+    alloc: Global,
+    report: &mut String,
+    call: u64,
+    script: Source<'_>,
+    again: &[u8],
+    wanted: &str,
+) -> Result<(), Fail> {
+    let mut seen = String::new(alloc);
     let disk = FailOnce::new(MemDisk::new(alloc, 1024)?, call);
-    seen_on(alloc, disk, script, again)
+    push_session(alloc, &mut seen, disk, script, again)?;
+    push_other(report, seen.as_str(), wanted)?;
+    Ok(())
 }
 
 // The call of the disk that fails, a script, one after an unmount and a mount, and what is seen.
@@ -311,19 +348,6 @@ const SCRIPTS: [(u64, &str, &str, &str); 11] = [
     ),
 ];
 
-#[test]
-fn scripts_get_their_replies(rt: HostRuntime) -> Result<(), Fail> {
-    for (call, script, again, replies) in SCRIPTS {
-        let source = Source {
-            front: script.as_bytes(),
-            ..EMPTY
-        };
-        let seen = seen_of(rt.alloc(), call, source, again.as_bytes())?;
-        assert!(rt; seen.as_str() == replies, "{call}:\n{script}{seen}");
-    }
-    Ok(())
-}
-
 // What a reader gives, and what is seen.
 const SOURCES: [(Source<'static>, &str); 8] = [
     // Each fault of a line, the first of those that it has. A line has 4,097 bytes.
@@ -433,275 +457,88 @@ const SOURCES: [(Source<'static>, &str); 8] = [
     ),
 ];
 
-#[test]
-fn scripts_are_read_to_their_end(rt: HostRuntime) -> Result<(), Fail> {
+fn expect_sessions(alloc: Global, report: &mut String) -> Result<(), Fail> {
+    for (call, script, again, replies) in SCRIPTS {
+        let source = Source {
+            front: script.as_bytes(),
+            ..EMPTY
+        };
+        expect_session(alloc, report, call, source, again.as_bytes(), replies)?;
+    }
     for (source, replies) in SOURCES {
-        let seen = seen_of(rt.alloc(), NONE_FAILS, source, b"")?;
-        assert!(rt; seen.as_str() == replies, "{seen}");
+        expect_session(alloc, report, NONE_FAILS, source, b"", replies)?;
     }
     Ok(())
 }
 
-// A script without replies, one with a reply, and what is there then.
-fn seen_with_full_writer<D: Disk + Drop>(alloc: Global, disk: D) -> Result<String, Fail> {
-    let mut seen = String::new(alloc);
+#[test]
+fn scripts_get_their_replies(rt: HostRuntime) -> Result<(), Fail> {
+    let mut report = String::new(rt.alloc());
+    expect_sessions(rt.alloc(), &mut report)?;
+    assert!(rt; report.is_empty(), "{report}");
+    Ok(())
+}
+
+// ---- writers
+
+// Runs a script, and adds what the run came to, how many bytes the writer could still take, and how many when it was
+// last flushed.
+fn push_run_into<D: Disk>(
+    alloc: Global,
+    seen: &mut String,
+    script: &[u8],
+    sink: Sink,
+    fs: &mut Fs<D>,
+) -> Result<(), AllocError>
+    requires { IsInSomeState D.state fs.old }
+    ensures { IsInSomeState D.state fs.new }
+{
+    let mut reader = script;
+    let mut writer = sink;
+    let outcome = run(alloc, &mut reader, &mut writer, fs);
+    let Sink { room, flushed, .. } = writer;
+    write!(seen, "{room} {flushed:?} ")?;
+    push_outcome(seen, outcome)
+}
+
+// Adds what scripts come to over several writers, one after another on one file system.
+fn push_writers<D: Disk + Drop>(alloc: Global, seen: &mut String, disk: D) -> Result<(), Fail> {
     let mut fs = mounted(alloc, disk)?;
-    let silent = run(alloc, &mut b"# x\n".as_slice(), &mut Full, &mut fs);
-    push_outcome(&mut seen, silent)?;
-    let script = b"# x\nspawn 0 0\n".as_slice();
-    let unwritten = run(alloc, &mut &*script, &mut Full, &mut fs);
-    push_outcome(&mut seen, unwritten)?;
-    let script = b"1 access / rwx\n".as_slice();
-    push_run(alloc, &mut seen, &mut &*script, &mut fs)?;
-    Ok(seen)
+    for (script, sink) in [
+        // The text of two replies, of six bytes and of 42, is flushed.
+        (b"spawn 0 0\n1 stat /\n".as_slice(), WIDE),
+        // A script without replies needs no room.
+        (b"# x\n".as_slice(), Sink { room: 0, ..WIDE }),
+        // What can't be written ends the run. What was performed stays.
+        (b"# x\nspawn 0 0\n".as_slice(), Sink { room: 0, ..WIDE }),
+        (b"2 access / rwx\n".as_slice(), WIDE),
+        // A flush fails.
+        (
+            b"2 stat \"\"\n".as_slice(),
+            Sink {
+                fails: true,
+                ..WIDE
+            },
+        ),
+    ] {
+        push_run_into(alloc, seen, script, sink, &mut fs)?;
+    }
+    Ok(())
 }
 
 #[test]
-fn a_writer_that_takes_nothing(rt: HostRuntime) -> Result<(), Fail> {
+fn a_run_flushes_its_writer(rt: HostRuntime) -> Result<(), Fail> {
     let alloc = rt.alloc();
-    let seen = seen_with_full_writer(alloc, MemDisk::new(alloc, 1024)?)?;
+    let mut seen = String::new(alloc);
+    push_writers(alloc, &mut seen, MemDisk::new(alloc, 1024)?)?;
     assert!(rt;
-        seen.as_str() == "1 lines, 0 faults\nWriteFault\ngranted superuser\n1 lines, 0 faults\n",
+        seen.as_str()
+            == "52 Some(52) 2 lines, 0 faults\n\
+                0 Some(0) 1 lines, 0 faults\n\
+                0 None WriteFault\n\
+                82 Some(82) 1 lines, 0 faults\n\
+                84 None WriteFault\n",
         "{seen}"
     );
     Ok(())
-}
-
-// ---- lines
-
-const READ: Perms = Perms {
-    read: true,
-    write: false,
-    execute: false,
-};
-
-fn asks_access(line: &Result<Line, LineFault>, pid: usize, path: &[u8], want: Perms) -> bool {
-    match line {
-        Ok(Line::Call(caller, Call::Access(asked, perms))) => {
-            *caller == pid && asked.bytes() == path && *perms == want
-        }
-        _ => false,
-    }
-}
-
-#[test]
-fn a_line_says_a_call(rt: HostRuntime) {
-    let line = parse_line(rt.alloc(), b"\\31 access /a\\20b r--");
-    assert!(rt; asks_access(&line, 1, b"/a b", READ));
-}
-
-#[test]
-fn faults_have_their_texts(rt: HostRuntime) -> Result<(), Fail> {
-    for (fault, wanted) in [
-        (LineFault::TooLong, "fault 1 TooLong"),
-        (LineFault::BadByte, "fault 2 BadByte"),
-        (LineFault::BadEscape, "fault 3 BadEscape"),
-        (LineFault::UnknownCommand, "fault 4 UnknownCommand"),
-        (LineFault::WordCount, "fault 5 WordCount"),
-        (LineFault::BadNumber, "fault 6 BadNumber"),
-        (LineFault::BadAcl, "fault 7 BadAcl"),
-        (LineFault::OutOfMemory, "fault 8 OutOfMemory"),
-    ] {
-        let text = fault_text(rt.alloc(), fault)?;
-        assert!(rt; text.as_str() == wanted, "{wanted} was {text}");
-    }
-    Ok(())
-}
-
-// ---- the text of each reply
-
-fn expect_text(rt: &(impl Abort + AllocGlobal), reply: &Reply, wanted: &str) -> Result<(), Fail> {
-    let text = reply_text(rt.alloc(), reply)?;
-    assert!(rt; text.as_str() == wanted, "{wanted} was {text}");
-    Ok(())
-}
-
-const KINDS: [(FileType, &str); 3] = [
-    (
-        FileType::File,
-        "ino 3 file 0644 links 2 uid 1000 gid 100 size 18446744073709551615",
-    ),
-    (
-        FileType::Directory,
-        "ino 3 dir 0644 links 2 uid 1000 gid 100 size 18446744073709551615",
-    ),
-    (
-        FileType::Link,
-        "ino 3 link 0644 links 2 uid 1000 gid 100 size 18446744073709551615",
-    ),
-];
-
-fn status(kind: FileType) -> Reply {
-    Reply::Shown(Status {
-        inode: 3,
-        kind,
-        mode: 0o644,
-        links: 2,
-        owner: 1000,
-        group: 100,
-        size: 18_446_744_073_709_551_615,
-    })
-}
-
-const NEEDS: [(Need, &str); 6] = [
-    (
-        Need::Search,
-        "denied EACCES 13 walk 2 step 7 need search rule mask",
-    ),
-    (
-        Need::Perm(READ),
-        "denied EACCES 13 walk 2 step 7 need perm r-- rule mask",
-    ),
-    (Need::Own, "denied EPERM 1 walk 2 step 7 need own rule mask"),
-    (
-        Need::Chown,
-        "denied EPERM 1 walk 2 step 7 need chown rule mask",
-    ),
-    (
-        Need::Chgrp,
-        "denied EPERM 1 walk 2 step 7 need chgrp rule mask",
-    ),
-    (
-        Need::Remove,
-        "denied EPERM 1 walk 2 step 7 need remove rule mask",
-    ),
-];
-
-fn denial(need: Need) -> Reply {
-    Reply::Refused(Refusal::Denied(Denial {
-        errno: need.errno(),
-        walk: 2,
-        step: 7,
-        need,
-        rule: Rule::Mask,
-    }))
-}
-
-const ERRORS: [(Errno, &str); 20] = [
-    (Errno::EPERM, "error EPERM 1"),
-    (Errno::ENOENT, "error ENOENT 2"),
-    (Errno::ESRCH, "error ESRCH 3"),
-    (Errno::EIO, "error EIO 5"),
-    (Errno::EBADF, "error EBADF 9"),
-    (Errno::EAGAIN, "error EAGAIN 11"),
-    (Errno::ENOMEM, "error ENOMEM 12"),
-    (Errno::EACCES, "error EACCES 13"),
-    (Errno::EBUSY, "error EBUSY 16"),
-    (Errno::EEXIST, "error EEXIST 17"),
-    (Errno::ENOTDIR, "error ENOTDIR 20"),
-    (Errno::EISDIR, "error EISDIR 21"),
-    (Errno::EINVAL, "error EINVAL 22"),
-    (Errno::EMFILE, "error EMFILE 24"),
-    (Errno::EFBIG, "error EFBIG 27"),
-    (Errno::ENOSPC, "error ENOSPC 28"),
-    (Errno::EMLINK, "error EMLINK 31"),
-    (Errno::ENAMETOOLONG, "error ENAMETOOLONG 36"),
-    (Errno::ENOTEMPTY, "error ENOTEMPTY 39"),
-    (Errno::ELOOP, "error ELOOP 40"),
-];
-
-const RULES: [(Rule, &str); 12] = [
-    (Rule::Owner, "granted owner"),
-    (Rule::NamedUser(1001), "granted user:1001"),
-    (Rule::OwningGroup, "granted group"),
-    (Rule::NamedGroup(6), "granted group:6"),
-    (Rule::Mask, "granted mask"),
-    (Rule::Other, "granted other"),
-    (Rule::Superuser, "granted superuser"),
-    (Rule::NoExecuteBit, "granted no-execute-bit"),
-    (Rule::NotOwner, "granted not-owner"),
-    (Rule::NotSuperuser, "granted not-superuser"),
-    (Rule::NotMember, "granted not-member"),
-    (Rule::Sticky, "granted sticky"),
-];
-
-#[test]
-fn replies_have_their_texts(rt: HostRuntime) -> Result<(), Fail> {
-    for (kind, wanted) in KINDS {
-        expect_text(&rt, &status(kind), wanted)?;
-    }
-    for (need, wanted) in NEEDS {
-        expect_text(&rt, &denial(need), wanted)?;
-    }
-    for (errno, wanted) in ERRORS {
-        expect_text(&rt, &Reply::Refused(Refusal::Failed(errno)), wanted)?;
-    }
-    for (rule, wanted) in RULES {
-        expect_text(&rt, &Reply::Granted(rule), wanted)?;
-    }
-    Ok(())
-}
-
-#[test]
-fn replies_with_numbers_have_their_texts(rt: HostRuntime) -> Result<(), Fail> {
-    for (reply, wanted) in &[
-        (Reply::Done, "ok"),
-        (
-            Reply::Pid(18_446_744_073_709_551_615),
-            "pid 18446744073709551615",
-        ),
-        (Reply::Fd(3), "fd 3"),
-        (Reply::Wrote(5), "wrote 5"),
-        (Reply::At(71679), "at 71679"),
-        (Reply::Mask(0o22), "umask 0022"),
-        (Reply::Acl(None), "acl none"),
-        (Reply::Space { sectors: 878, inodes: 62 }, "free 878 blocks 62 inodes"),
-    ] {
-        expect_text(&rt, reply, wanted)?;
-    }
-    Ok(())
-}
-
-fn data(alloc: Global, bytes: &[u8]) -> Result<Reply, AllocError> {
-    Ok(Reply::Data(Bytes::new(Vec::from_slice(alloc, bytes)?)))
-}
-
-fn target(alloc: Global, bytes: &[u8]) -> Result<Reply, AllocError> {
-    Ok(Reply::Target(Path::new(Vec::from_slice(alloc, bytes)?)))
-}
-
-fn list(alloc: Global, text: &[u8]) -> Result<Reply, Fail> {
-    match Acl::parse_text(alloc, text) {
-        Ok(acl) => Ok(Reply::Acl(Some(acl))),
-        Err(_) => Err("no list")?,
-    }
-}
-
-fn listing(alloc: Global, names: &[(&[u8], u32)]) -> Result<Reply, Fail> {
-    let mut listed = Vec::new(alloc);
-    for (name, inode) in names {
-        let name = Name::new(Vec::from_slice(alloc, name)?);
-        let inode = *inode;
-        listed.push(Named { name, inode })?;
-    }
-    Ok(Reply::Names(Listing::new(listed)))
-}
-
-#[test]
-fn replies_with_words_have_their_texts(rt: HostRuntime) -> Result<(), Fail> {
-    let alloc = rt.alloc();
-    expect_text(&rt, &data(alloc, b"\0\0\0a")?, "data \\00\\00\\00a")?;
-    expect_text(&rt, &data(alloc, b"")?, "data \"\"")?;
-    expect_text(
-        &rt,
-        &target(alloc, b"a \\\"~\x7f\xff")?,
-        "target a\\20\\5c\\22~\\7f\\ff",
-    )?;
-    expect_text(
-        &rt,
-        &list(alloc, b"u::rw-,u:1001:rw-,g::r--,m::rw-,o::---")?,
-        "acl user::rw-,user:1001:rw-,group::r--,mask::rw-,other::---",
-    )?;
-    expect_text(
-        &rt,
-        &listing(
-            alloc,
-            &[
-                (b".".as_slice(), 2),
-                (b"..".as_slice(), 1),
-                (b"a b".as_slice(), 3),
-            ],
-        )?,
-        "list 2:. 1:.. 3:a\\20b",
-    )
 }
