@@ -16,7 +16,7 @@ use Rattle.fs_shell.specs.Words.{number_of, groups_of, perms_in, mode_of}
 use Rattle.fs_shell.specs.Commands.{line_value, words_value, credential_line}
 use Rattle.fs_shell.specs.Texts.{reply_text, fault_text}
 
--- r, w and x, or `-` in the place of each
+-- r, w and x, or `-` instead of each
 abbrev rwx : Perms
 rwx = record { read = true; write = true; execute = true }
 

@@ -31,11 +31,11 @@ pid_of word = number_of 64 word
 unfoldable pub groups_of : List ℕ → Result (List ℕ) LineFault
 groups_of word = if nat_le (length (slice_split is_comma word)) 16 then each id_of (slice_split is_comma word) else Err BadNumber
 
--- the letter, or `-` in its place
+-- the letter, or `-` instead of it
 abbrev pub is_letter : ℕ → ℕ → Bool
 is_letter letter b = b == letter || b == 45
 
--- Permissions are three characters: `r`, `w` and `x`, or `-` in the place of each.
+-- Permissions are three characters: `r`, `w` and `x`, or `-` instead of each.
 unfoldable pub perms_in : List ℕ → Result Perms LineFault
 perms_in (r ∷ w ∷ x ∷ []) =
     if is_letter 114 r && is_letter 119 w && is_letter 120 x then Ok (record { read = r == 114; write = w == 119; execute = x == 120 })

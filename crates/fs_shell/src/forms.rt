@@ -93,7 +93,7 @@ fn read_ids(alloc: Global, word: &[u8]) -> Result<Vec<u32>, LineFault>
     Ok(ids)
 }
 
-/// Permissions: `r`, `w` and `x`, or `-` in the place of each.
+/// Permissions: `r`, `w` and `x`, or `-` instead of each.
 #[tactic(auto, unfolding(crate::specs::Words::perms_in))]
 pub fn read_perms(word: &[u8]) -> Result<Perms, LineFault>
     ensures { result ≡ perms_in word.now }

@@ -13,7 +13,7 @@ use std::alloc::Global;
 
 /// What a line says, without its newline, or the first thing that is wrong with it.
 ///
-/// Memory aside: `OutOfMemory` may stand in place of any other answer once the words are read, so not for lines that are too
+/// Memory aside: `OutOfMemory` may stand in for any other answer once the words are read, so not for lines that are too
 /// long, say nothing, or have a byte that may not stand in a line.
 #[tactic(auto, unfolding(crate::specs::Commands::line_value))]
 pub fn parse_line(alloc: Global, line: &[u8]) -> Result<Line, LineFault>

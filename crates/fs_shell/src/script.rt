@@ -109,7 +109,7 @@ impl Pending {
         byte
     }
 
-    // Reads a part of the script, in place of what has been given. An interruption is an error too.
+    // Reads a part of the script, instead of what has been given. An interruption is an error too.
     fn fill<R: Read>(&mut self, reader: &mut R) -> Result<(), RunFault>
         requires { self.old.ahead ≡ [] }
         ensures kept { OnOk result (Keeps (R.remaining reader.old) (bytes_left self.new (R.remaining reader.new))) }

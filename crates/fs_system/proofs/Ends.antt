@@ -23,9 +23,8 @@ use Rattle.fs_model.specs.Stops.{asks_stable}
 use Rattle.fs_model.proofs.OneTree.{one_tree}
 use Rattle.fs_model.proofs.Taken.{free_within_bounds}
 use Rattle.fs_model.proofs.Unchanged.{nothing_to_drop}
-use Rattle.fs_system.specs.Standing.{StandsFor, EachStandsFor}
 use Rattle.fs_system.specs.Doing.{Does, IsFound}
-use Rattle.fs_system.specs.Seen.{System, IsWhole, IsRunning, IsRooted, IsIn}
+use Rattle.fs_system.specs.Seen.{StandsFor, EachStandsFor, System, IsWhole, IsRunning, IsRooted, IsIn}
 use Rattle.fs_system.specs.Rooted.{Performs}
 use Rattle.fs_system.specs.Table.{cred_at}
 use Rattle.fs_system.specs.Playing.{IsMounted, Mounts}

@@ -11,10 +11,9 @@ use Rattle.fs_model.specs.Trees.{Tree, Room}
 use Rattle.fs_model.specs.Processes.{Desks}
 use Rattle.fs_model.specs.States.{State}
 use Rattle.fs_model.specs.Stops.{makes_stable, is_io_error}
-use Rattle.fs_system.specs.Standing.{StandsFor}
 use Rattle.fs_system.specs.Serving.{Serves}
 use Rattle.fs_system.specs.Doing.{Does, IsFound}
-use Rattle.fs_system.specs.Seen.{IsRunning, IsRooted}
+use Rattle.fs_system.specs.Seen.{StandsFor, IsRunning, IsRooted}
 
 -- ---- a disk on which nothing was called
 

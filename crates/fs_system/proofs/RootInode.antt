@@ -26,8 +26,7 @@ use Rattle.fs_layout.specs.StoredAcls.{HoldsAcl}
 use Rattle.fs_model.specs.StoredNodes.{HoldsNode}
 use Rattle.fs_model.specs.Stands.{HoldsAll, HoldsPlaced, placed}
 use Rattle.fs_layout.proofs.OneAcl.{access_same, mode_small}
-use Rattle.fs_system.specs.Standing.{StandsFor}
-use Rattle.fs_system.specs.Seen.{HasPlainRoot, IsRunning}
+use Rattle.fs_system.specs.Seen.{StandsFor, HasPlainRoot, IsRunning}
 use Rattle.fs_system.specs.Rooted.{ShowsRoot}
 use Rattle.fs_system.proofs.Slots.{slots_length, names_length}
 

@@ -32,7 +32,7 @@ use Rattle.fs_model.specs.Stands.{HoldsAll, HoldsPlaced, placed}
 use Rattle.fs_model.proofs.Frame.{saved_node, placed_elsewhere}
 use Rattle.fs_layout.proofs.MapLaws.{get-with_entry}
 use Rattle.fs_model.proofs.Unchanged.{rewriting_keeps}
-use Rattle.fs_system.specs.Standing.{StandsFor}
+use Rattle.fs_system.specs.Seen.{StandsFor}
 use Rattle.fs_system.specs.Rooted.{ShowsRoot}
 use Rattle.fs_system.proofs.RootInode.{the_place_fits, small, recovered_is, held, root_below, table_below, minimal_is_acl}
 

@@ -11,7 +11,7 @@ use Rattle.fs_model.specs.declared.reply.Reply.{Reply}
 use Rattle.fs_model.specs.Trees.{Tree}
 use Rattle.fs_model.specs.States.{State}
 use Rattle.fs_model.specs.Stops.{makes_stable, is_io_error}
-use Rattle.fs_system.specs.Standing.{StandsFor}
+use Rattle.fs_system.specs.Seen.{StandsFor}
 use Rattle.fs_system.specs.Serving.{Serves}
 use Rattle.fs_system.specs.Doing.{Does, Adds, IsFound}
 use Rattle.fs_system.specs.Rooted.{IsOldOr}

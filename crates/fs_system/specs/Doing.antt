@@ -11,9 +11,8 @@ use Rattle.fs_model.specs.Trees.{Tree}
 use Rattle.fs_model.specs.States.{State}
 use Rattle.fs_model.specs.Steps.{Choice, after, tree_after}
 use Rattle.fs_model.specs.Stops.{Halts, makes_stable, is_io_error}
-use Rattle.fs_system.specs.Standing.{StandsFor, StandsAs, EachStandsFor}
 use Rattle.fs_system.specs.Serving.{Serves}
-use Rattle.fs_system.specs.Seen.{System, IsIn}
+use Rattle.fs_system.specs.Seen.{StandsFor, StandsAs, EachStandsFor, System, IsIn}
 
 -- The tree is the one after the event, or where that halts the machine, the one that its effect would have given.
 abbrev pub Adds : State → Event → State → Tree → Type 0

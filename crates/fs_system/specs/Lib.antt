@@ -1,4 +1,3 @@
-pub mod Standing
 pub mod Serving
 pub mod Doing
 pub mod Seen

@@ -19,7 +19,7 @@ use Rattle.fs_model.specs.Changes.{pruned}
 use Rattle.fs_model.specs.States.{State, MayBeFree}
 use Rattle.fs_model.specs.Steps.{is_of_machine}
 use Rattle.fs_model.specs.Stops.{Machine, MachineRun}
-use Rattle.fs_system.specs.Standing.{StandsFor, StandsForSome, StandsAsPruned, EachStandsFor, Covers}
+use Rattle.fs_system.specs.Seen.{StandsFor, StandsForSome, StandsAsPruned, EachStandsFor, Covers}
 use Rattle.fs_system.specs.Serving.{path_of, the_root}
 use Rattle.fs_system.specs.Doing.{Does}
 

@@ -102,16 +102,16 @@ fn a_fault_is_shown_by_its_name(rt: HostRuntime) -> Result<(), Fail> {
 
 // ---- bytes
 
-// Whether these bytes stand in a sector from a place on.
+// Whether these bytes stand in a sector from an offset on.
 fn has_bytes<D: Disk>(disk: &mut D, n: u32, at: usize, bytes: &[u8]) -> Result<bool, Fail> {
     if n >= disk.size() || at > 512 {
-        return Err(Fail::new("no such sector or place"));
+        return Err(Fail::new("no such sector or offset"));
     }
     let content = content_of(disk, n)?;
     Ok((&content[at..]).starts_with(bytes))
 }
 
-// The first sector and place of these where a new file system of 64 inodes has other bytes.
+// The first sector and offset of these where a new file system of 64 inodes has other bytes.
 fn first_other<D: Disk>(
     disk: &mut D,
     all: &[(u32, usize, &[u8])],
