@@ -11,6 +11,7 @@ pub mod KindWords
 pub mod Least
 pub mod ListedMaps
 pub mod Machine
+pub mod Moves
 pub mod NewDiskStands
 pub mod NewImages
 pub mod NoIoErrors

@@ -85,10 +85,10 @@ unfolding bit byte_of
 bit_there image start n f e =
     let byte : get_or (image (start + n / 4096)) (n % 4096 / 8) 0 ≡ byte_of f (n % 4096 / 8) =
     ap (λ s. get_or s (n % 4096 / 8) 0) e ∙ byte_there f (n % 4096 / 8) (omega arith) in
-    let place : 8 * (n % 4096 / 8) + n % 8 ≡ n % 4096 = omega arith in
+    let index : 8 * (n % 4096 / 8) + n % 8 ≡ n % 4096 = omega arith in
     ap (λ x. nat_eq (bit_at x (n % 8)) 1) byte
     ∙ ap (λ x. nat_eq x 1) (bit_of 8 (n % 8) (λ i. f (8 * (n % 4096 / 8) + i)) (omega arith))
-    ∙ as_bit (f (8 * (n % 4096 / 8) + n % 8)) ∙ ap f place
+    ∙ as_bit (f (8 * (n % 4096 / 8) + n % 8)) ∙ ap f index
 
 from_or : (b c : Bool) → IsTrue (b || c) → IsTrue b ⊎ IsTrue c
 from_or true c t = inl refl

@@ -7,10 +7,11 @@ use Rattle.std.specs.Ordering.{nat_cmp, is_eq, is_lt}
 use Rattle.std.specs.FinMap.Entries.{by_order}
 use Rattle.fs_model.specs.Limits.{root}
 use Rattle.fs_layout.specs.Maps.{get, IsMap}
-use Rattle.fs_model.specs.Nodes.{Node, Body, File, Dir, Link, names_in, is_directory}
+use Rattle.fs_model.specs.Nodes.{Node, Body, names_in, is_directory}
 use Rattle.fs_model.specs.Trees.{Tree, Room, node_at, with_node, names_for, names_of, parent, IsBody, NamesFit, IsUnderRoot, is_root, is_in, IsNode, IsTree, IsDirectoryAt}
 use Rattle.fs_layout.proofs.FirstEntries.{above, left, right, lower, tied}
 use Rattle.fs_layout.proofs.MapLaws.{get-with_entry, with_entry-IsMap, sum-with_entry, summand}
+use Rattle.fs_model.proofs.Moves.{body_moves}
 
 -- the same number of names for d in both bodies, for each d
 module _ (t : Tree) (k : ℕ) (old new : Node) (m : IsMap nat_cmp t) (was : node_at t k ≡ Some old) (names : names_in new.body ≡ names_in old.body) where
@@ -48,21 +49,6 @@ parent-rewritten (e ∷ t) k old new m was names d =
 pub under : (t u : Tree) → ((d : ℕ) → parent u d ≡ parent t d) → {d : ℕ} → IsUnderRoot t d → IsUnderRoot u d
 under t u same is_root = is_root
 under t u same (is_in d below) = is_in d (subst (IsUnderRoot u) (sym (same d)) (under t u same below))
-
-body_moves : (room : Room) (t u : Tree) (b : Body) → ((q : ℕ) → is_some (node_at u q) ≡ is_some (node_at t q)) → IsBody room t b → IsBody room u b
-body_moves room t u (File a bytes) same h = h
-body_moves room t u (Dir a d) same h = (
-  h.0,
-  h.1,
-  record {
-    names = h.2.names;
-    few = h.2.few;
-    each = λ name n e.
-        let old = h.2.each name n e in
-        record { is_name = old.is_name; bytes = old.bytes; leads = (old.leads.0, same n ∙ old.leads.1) };
-  },
-)
-body_moves room t u (Link target) same h = h
 
 fits_moves : (n : ℕ) (b : Body) (names names' : ℕ) → names' ≡ names → NamesFit n b names → NamesFit n b names'
 fits_moves n b names names' e h = subst (NamesFit n b) (sym e) h
@@ -117,7 +103,7 @@ rewritten_is_tree room t k old new h was w = record {
           below = was_node.below;
           owner = w.owner;
           group = w.group;
-          body = body_moves room t (with_node t k new) new.body there w.body;
+          body = body_moves room t (with_node t k new) new.body (λ q h. there q ∙ h) w.body;
           names = fits_moves k new.body _ _ (names_of-rewritten t k old new h.numbers was w.names k) w.fits;
           under_root = λ d. under t (with_node t k new) parents (was_node.under_root (sym w.kind ∙ d));
         }))
@@ -128,7 +114,7 @@ rewritten_is_tree room t k old new h was w = record {
           below = was_node.below;
           owner = was_node.owner;
           group = was_node.group;
-          body = body_moves room t (with_node t k new) node.body there was_node.body;
+          body = body_moves room t (with_node t k new) node.body (λ q h. there q ∙ h) was_node.body;
           names = fits_moves n node.body _ _ (names_of-rewritten t k old new h.numbers was w.names n) was_node.names;
           under_root = λ d. under t (with_node t k new) parents (was_node.under_root d);
         }

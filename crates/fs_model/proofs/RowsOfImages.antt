@@ -31,6 +31,12 @@ record HasOneBlock (image : SectorMap) (v : Inode) (s : ℕ) (bytes : List ℕ) 
   full : 0 < length bytes
   room : length bytes ≤ 512
 
+one_block : (image : SectorMap) (v : Inode) (s : ℕ) (bytes : List ℕ) → v.direct ≡ s ∷ zeros 11 → v.indirect ≡ 0 → s ≢ 0
+    → image s ≡ bytes ++ zeros (512 - length bytes) → v.size ≡ length bytes → 0 < length bytes → length bytes ≤ 512
+    → HasOneBlock image v s bytes
+one_block image v s bytes direct indirect some content size full room =
+    record { direct = direct; indirect = indirect; some = some; content = content; size = size; full = full; room = room }
+
 module _ (image : SectorMap) (v : Inode) (s : ℕ) (bytes : List ℕ) (h : HasOneBlock image v s bytes) where
   first : pointer image v 0 ≡ s
   first = pointer_direct image v 0 (omega arith) ∙ ap (λ d. get_or d 0 0) h.direct
@@ -147,15 +153,8 @@ a_file_with_an_acl = record {
   parent = refl;
   body = record {
     kind = refl;
-    holds = one_block_holds image file_inode 147 (codes "hello") (record {
-      direct = refl;
-      indirect = refl;
-      some = λ e. omega (arith, e);
-      content = refl;
-      size = refl;
-      full = omega arith;
-      room = omega arith;
-    });
+    holds = one_block_holds image file_inode 147 (codes "hello")
+        (one_block image file_inode 147 (codes "hello") refl refl (λ e. omega (arith, e)) refl refl (omega arith) (omega arith));
     acl = acl_is_valid;
     has_acl = (λ e. omega (arith, e), refl);
     no_default = refl;
@@ -211,15 +210,7 @@ slots_fit =
 
 directory_has_a_block : HasOneBlock image directory_inode 149 (slots_bytes slots)
 unfolding directory_inode with_block image slots_block le32 zeros
-directory_has_a_block = record {
-  direct = refl;
-  indirect = refl;
-  some = λ e. omega (arith, e);
-  content = refl;
-  size = refl;
-  full = omega arith;
-  room = omega arith;
-}
+directory_has_a_block = one_block image directory_inode 149 (slots_bytes slots) refl refl (λ e. omega (arith, e)) refl refl (omega arith) (omega arith)
 
 abbrev two_names : Directory
 two_names = record { names = (codes "a", 2) ∷ (codes "b", 3) ∷ []; default = None; set_group_id = true; sticky = true }
@@ -256,15 +247,7 @@ a_directory_with_two_names = record {
 
 link_has_a_block : HasOneBlock image link_inode 150 (codes "a")
 unfolding link_inode with_block image target_block zeros
-link_has_a_block = record {
-  direct = refl;
-  indirect = refl;
-  some = λ e. omega (arith, e);
-  content = refl;
-  size = refl;
-  full = omega arith;
-  room = omega arith;
-}
+link_has_a_block = one_block image link_inode 150 (codes "a") refl refl (λ e. omega (arith, e)) refl refl (omega arith) (omega arith)
 
 a_link_with_two_names : HoldsNode image link_inode (record { node = record { owner = 0; group = 0; body = Link (codes "a") }; names = 2; parent = 1 })
 unfolding link_inode with_block zeros

@@ -13,7 +13,8 @@ use Rattle.fs_model.proofs.Finds.{IsThere}
 use Rattle.fs_layout.proofs.MapLaws.{with_entry-IsMap}
 use Rattle.fs_layout.proofs.NameMaps.{Names, leading, once_if, once_same, once_other, get-with_name, with_name-IsMap, length-with_name, leading-with_name, tied_names}
 use Rattle.fs_model.proofs.StepsKinds.{KeepsTypes, directory_moves, same_fit}
-use Rattle.fs_model.proofs.StepsNaming.{renamed_node, renamed, at_it, at_others, still_there, names_there, names_elsewhere, names_of-renamed, renamed_keeps_types, types_compose, type_with_names, IsShape, node_from_shape, AreNames, entry_moves, body_moves, body_renamed, are_names}
+use Rattle.fs_model.proofs.Moves.{entry_moves, body_moves}
+use Rattle.fs_model.proofs.StepsNaming.{renamed_node, renamed, at_it, at_others, still_there, names_there, names_elsewhere, names_of-renamed, renamed_keeps_types, types_compose, type_with_names, IsShape, node_from_shape, AreNames, body_renamed, are_names}
 use Rattle.fs_model.proofs.StepsParents.{names_or, names_at, parent_is, parent_kept, under_all, directory_named, parent_at, under_root}
 
 -- From t, or from t with a new node in it, which is w: a name is added in a directory.

@@ -15,7 +15,8 @@ use Rattle.fs_layout.proofs.MapLaws.{with_entry-IsMap}
 use Rattle.fs_layout.proofs.NameMaps.{Names, leading, once_if, once_same, once_other, tied_names, get-with_name, with_name-IsMap, length-with_name, get-without_name, length-without_name, leading-without_name, leading_if, length-set_name, lost_of, leading-set_name}
 use Rattle.fs_model.proofs.StepsKinds.{same_directory}
 use Rattle.fs_model.proofs.StepsLosing.{Stood, LosesNames}
-use Rattle.fs_model.proofs.StepsNaming.{renamed_node, renamed, at_it, at_others, still_there, names_there, names_elsewhere, names_of-renamed, renamed_keeps_types, types_compose, type_with_names, AreNames, entry_moves, body_moves, body_renamed, are_names}
+use Rattle.fs_model.proofs.Moves.{entry_moves, body_moves}
+use Rattle.fs_model.proofs.StepsNaming.{renamed_node, renamed, at_it, at_others, still_there, names_there, names_elsewhere, names_of-renamed, renamed_keeps_types, types_compose, type_with_names, AreNames, body_renamed, are_names}
 use Rattle.fs_model.proofs.StepsParents.{names_or, names_at, parent_is, parent_kept, parent_names, under_all, directory_named, parent_at, under_root}
 use Rattle.fs_model.proofs.StepsTaking.{once_is, are_names_without}
 use Rattle.fs_model.proofs.StepsUp.{IsOutside, outside_differs, outside_above}

@@ -12,7 +12,8 @@ use Rattle.fs_model.proofs.Finds.{IsThere}
 use Rattle.fs_layout.proofs.MapLaws.{with_entry-IsMap}
 use Rattle.fs_layout.proofs.NameMaps.{Names, leading, once_if, once_other, get-without_name, without_name-IsMap, length-without_name, leading-without_name}
 use Rattle.fs_model.proofs.StepsLosing.{Stood, LosesNames}
-use Rattle.fs_model.proofs.StepsNaming.{renamed_node, renamed, at_it, at_others, still_there, names_there, names_elsewhere, names_of-renamed, renamed_keeps_types, type_with_names, AreNames, entry_moves, body_moves, body_renamed, are_names}
+use Rattle.fs_model.proofs.Moves.{entry_moves, body_moves}
+use Rattle.fs_model.proofs.StepsNaming.{renamed_node, renamed, at_it, at_others, still_there, names_there, names_elsewhere, names_of-renamed, renamed_keeps_types, type_with_names, AreNames, body_renamed, are_names}
 use Rattle.fs_model.proofs.StepsParents.{names_or, names_at, parent_kept, parent_names, under_all, directory_named, parent_at, under_root}
 
 -- the one that counts
