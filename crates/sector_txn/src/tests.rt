@@ -26,18 +26,25 @@ fn idle_disk(alloc: Global) -> Result<MemDisk, Fail> {
     Ok(disk)
 }
 
-fn opened<D: Disk + Drop>(alloc: Global, disk: D) -> Result<Store<D>, Fail>
-    ensures { IfOk result (λ store. (D.state store.disk).size ≡ 1024) }
+// A journal on a disk of that size.
+fn opened_journal<D: Disk + Drop>(disk: D) -> Result<Journal<D>, Fail>
+    ensures { IfOk result (λ journal. (D.state journal).size ≡ 1024) }
 {
     if disk.size() != 1024 {
         return Err(Fail::new("another size"));
     }
     match Journal::open(disk) {
-        Ok(journal) => match Store::new(alloc, journal) {
-            Ok(store) => Ok(store),
-            Err(_) => Err(Fail::new("no memory")),
-        },
+        Ok(journal) => Ok(journal),
         Err(_) => Err(Fail::new("not opened")),
+    }
+}
+
+fn opened<D: Disk + Drop>(alloc: Global, disk: D) -> Result<Store<D>, Fail>
+    ensures { IfOk result (λ store. (D.state store.disk).size ≡ 1024) }
+{
+    match Store::new(alloc, opened_journal(disk)?) {
+        Ok(store) => Ok(store),
+        Err(_) => Err(Fail::new("no memory")),
     }
 }
 
@@ -311,20 +318,13 @@ fn shared_while_armed<D: CrashDisk + Drop>(
     first: u8,
     second: u8,
 ) -> Result<(bool, bool, u8), Fail> {
-    if disk.size() != 1024 {
-        return Err(Fail::new("another size"));
-    }
-    match Journal::open(disk) {
-        Err(_) => Err(Fail::new("not opened")),
-        Ok(mut journal) => {
-            journal.arm(passes);
-            match SharedStore::new(alloc, journal) {
-                Err(_) => Err(Fail::new("no memory")),
-                Ok(store) => {
-                    let (kept, flushed, disk) = kept_twice(store, first, second);
-                    Ok((kept, flushed, count_lasting(alloc, disk, &[], 64)?))
-                }
-            }
+    let mut journal = opened_journal(disk)?;
+    journal.arm(passes);
+    match SharedStore::new(alloc, journal) {
+        Err(_) => Err(Fail::new("no memory")),
+        Ok(store) => {
+            let (kept, flushed, disk) = kept_twice(store, first, second);
+            Ok((kept, flushed, count_lasting(alloc, disk, &[], 64)?))
         }
     }
 }
