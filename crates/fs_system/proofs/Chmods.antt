@@ -30,7 +30,7 @@ use Rattle.fs_system.specs.Serving.{the_root}
 use Rattle.fs_system.specs.Doing.{Does}
 use Rattle.fs_system.specs.Seen.{IsRunning, IsRooted}
 use Rattle.fs_system.specs.Table.{cred_at}
-use Rattle.fs_system.specs.Rooted.{ShowsRoot, IsOldOr}
+use Rattle.fs_system.specs.Rooted.{shown_bits, ShowsRoot, IsOldOr}
 use Rattle.fs_system.proofs.Moving.{does_same, does_nothing, rooted_same, StandsWith}
 use Rattle.fs_system.proofs.RootInode.{minimal_bits}
 use Rattle.fs_system.proofs.RootSteps.{some_there}
@@ -43,10 +43,6 @@ small_mode mode le = grind (arith, nat_tests)
 
 big_mode : (mode : ℕ) → 4095 < mode → nat_lt 4095 mode ≡ true
 big_mode mode lt = grind (arith, nat_tests)
-
--- the bits that a directory shows
-abbrev pub shown_bits : ℕ → Bool → ℕ
-shown_bits mode keeps = mode % 512 + (if mode / 512 % 2 == 1 then 512 else 0) + (if mode / 1024 % 2 == 1 && keeps then 1024 else 0)
 
 few_bits : (n : ℕ) (s g : Bool) → n % 512 + cond s 512 0 + cond g 1024 0 ≤ 2047
 few_bits n true true = omega arith

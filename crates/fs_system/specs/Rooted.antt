@@ -1,9 +1,10 @@
 -- What the root's inode says of a tree.
 --     is_the_root        whether a path is the root's
 --     ShowsRoot, ShowsRootOf        what an inode says of the root
+--     shown_bits        the mode bits after chmod
 --     IsOldOr        an image of before, or with one sector written
 --     Performs, PerformsOrHalts        what a call does in each state
-use Rattle.std.specs.Prelude.{◌≡◌, ◌⊎◌, slice_set, ℕ, ◌*◌, ◌==◌, Bool, true, false, List, [], ◌∷◌, length, Some, IsFalse, Result, MatchResult}
+use Rattle.std.specs.Prelude.{◌≡◌, ◌⊎◌, slice_set, ℕ, ◌+◌, ◌*◌, ◌/◌, ◌%◌, ◌==◌, ◌&&◌, if◌then◌else◌, Bool, true, false, List, [], ◌∷◌, length, Some, IsFalse, Result, MatchResult}
 use Rattle.posix_acl.specs.AccessList.{minimal}
 use Rattle.sector_disk.specs.Disk.{DiskState, Image}
 use Rattle.fs_layout.specs.declared.place.Place.{Place}
@@ -39,6 +40,10 @@ pub record ShowsRoot (t : Tree) (v : Inode) : Type 0 where
 -- the same of the root of a file system that goes on, in whichever state
 abbrev pub ShowsRootOf : DiskState → Place → Inode → Type 0
 ShowsRootOf disk place v = (desks : Desks) (s : State) → IsRunning disk place desks s → ShowsRoot s.tree v
+
+-- the mode bits after chmod of a directory; S_ISGID only where the caller may set it
+abbrev pub shown_bits : ℕ → Bool → ℕ
+shown_bits mode keeps = mode % 512 + (if mode / 512 % 2 == 1 then 512 else 0) + (if mode / 1024 % 2 == 1 && keeps then 1024 else 0)
 
 -- the image of before, or the one with the content in a sector
 abbrev pub IsOldOr : Image → ℕ → List ℕ → Image → Type 0

@@ -23,7 +23,8 @@ const COMMIT_SECTOR: u32 = 1;
 pub fn mkfs<D: Disk>(disk: &mut D, inodes: u32) -> Result<(), MkfsFault>
     // The first refusal in order; the disk isn't touched.
     ensures refused { (f : MkfsFault) → mkfs_refusal (D.state disk.old).size inodes ≡ Some f → (result ≡ Err f) × (disk.new ≡ disk.old) }
-    ensures fault { mkfs_refusal (D.state disk.old).size inodes ≡ None → IfErr result (IsDeviceFault (D.state disk.old) (D.state disk.new)) }
+    ensures fault { mkfs_refusal (D.state disk.old).size inodes ≡ None
+        → IfErr result (IsDeviceFault (D.state disk.old) (D.state disk.new)) }
     ensures made { OnOk result (IsNewDisk inodes (D.state disk.new).seen) }
     ensures stable { OnOk result (IsStable (D.state disk.new)) }
     ensures any_moment { LeavesOnly (D.state disk.old) (D.state disk.new) (IsHalfMade (D.state disk.old) inodes) }

@@ -14,7 +14,7 @@ ghost use Rattle.fs_cred.specs.declared.errno.Errno.TheVariants.{EIO};
 ghost use Rattle.fs_cred.specs.declared.refusal.Refusal.TheVariants.{Failed};
 ghost use Rattle.fs_system.specs.Seen.{IsInUse};
 ghost use Rattle.fs_system.specs.Serving.{the_root};
-ghost use Rattle.fs_system.specs.Rooted.{ShowsRootOf, is_the_root, IsOldOr, Performs, PerformsOrHalts};
+ghost use Rattle.fs_system.specs.Rooted.{ShowsRootOf, shown_bits, is_the_root, IsOldOr, Performs, PerformsOrHalts};
 
 use fs_cred::{Cred, Denial, Errno, Need, Node, NodeKind, Refusal, Rule, decide, may_own};
 use fs_layout::{Inode, Place};
@@ -194,7 +194,7 @@ fn keeps_group_bit(cred: &Cred, group: u32) -> bool
 
 // The mode after chmod of a directory.
 fn directory_mode(mode: u16, keeps_group_bit: bool) -> u16
-    ensures { result ≡ mode % 512 + (if mode / 512 % 2 == 1 then 512 else 0) + (if mode / 1024 % 2 == 1 && keeps_group_bit then 1024 else 0) }
+    ensures { result ≡ shown_bits mode keeps_group_bit }
 {
     let mut bits = mode % 512;
     if mode / 512 % 2 == 1 {

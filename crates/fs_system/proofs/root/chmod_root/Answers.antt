@@ -11,7 +11,8 @@ use Rattle.fs_model.specs.States.{State}
 use Rattle.fs_system.specs.Seen.{IsRooted}
 use Rattle.fs_system.specs.Serving.{the_root}
 use Rattle.fs_system.specs.Doing.{Does}
-use Rattle.fs_system.proofs.Chmods.{few_shown, shown_bits, chmod_ends_unread, chmod_ends_denied, saved_is_inode_of, chmod_ends_halted, chmod_ends_done}
+use Rattle.fs_system.specs.Rooted.{shown_bits}
+use Rattle.fs_system.proofs.Chmods.{few_shown, chmod_ends_unread, chmod_ends_denied, saved_is_inode_of, chmod_ends_halted, chmod_ends_done}
 use Rattle.fs_system.proofs.root.chmod_root.Goals as goal
 
 pub returns-in_default : goal.returns-in_default
