@@ -6,7 +6,7 @@ use Rattle.fs_layout.specs.declared.inode.Inode.{Inode}
 use Rattle.fs_layout.specs.Bytes.{SectorMap}
 use Rattle.fs_layout.specs.Changes.{Keeps}
 use Rattle.fs_layout.specs.Directories.{HasNames}
-use Rattle.fs_layout.specs.StoredAcls.{HoldsAcl}
+use Rattle.fs_layout.specs.AclSector.{HoldsAcl}
 use Rattle.fs_layout.proofs.Parts.{Holds-kept, HasNoHole-kept}
 
 pub HasNames-kept : {old new : SectorMap} {v : Inode} {names : List (List ℕ × ℕ)} → Keeps old new v → HasNames old v names → HasNames new v names

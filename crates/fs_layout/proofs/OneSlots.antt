@@ -5,12 +5,11 @@ use Rattle.std.proofs.lemmas.List.{take_at, drop_at}
 use Rattle.std.proofs.lemmas.List.Concat.{flat_map-cons}
 use Rattle.std.proofs.lemmas.List.Elements.{All-head, All-tail}
 use Rattle.fs_layout.specs.Bytes.{le32}
-use Rattle.fs_layout.specs.Slot.{NamedInode, FitsSlot, slot_bytes, slot_of}
 use Rattle.fs_layout.proofs.SlotLaw.{slot_codec, length-slot_bytes}
 use Rattle.fs_layout.proofs.Codecs.{same_spelling}
 use Rattle.fs_layout.specs.declared.inode.Inode.{Inode}
 use Rattle.fs_layout.specs.Bytes.{SectorMap}
-use Rattle.fs_layout.specs.Directories.{slots_bytes, names_of_slots, HasNames}
+use Rattle.fs_layout.specs.Directories.{slots_bytes, names_of_slots, HasNames, NamedInode, FitsSlot, slot_bytes, slot_of}
 use Rattle.fs_layout.proofs.Held.{Holds-unique}
 
 slot_len : (x : NamedInode) → FitsSlot x → length (slot_bytes x) ≡ 128

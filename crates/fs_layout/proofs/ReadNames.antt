@@ -3,9 +3,8 @@ use Rattle.std.specs.Prelude.{◌≡◌, ℕ, ◌<◌, List, length, Some, Conta
 use Rattle.std.proofs.Common.{refl, sym, ap, arith, ◌∙◌}
 use Rattle.fs_layout.specs.declared.inode.Inode.{Inode}
 use Rattle.fs_layout.specs.Bytes.{SectorMap}
-use Rattle.fs_layout.specs.Slot.{NamedInode}
 use Rattle.fs_layout.specs.Maps.{name_cmp, get}
-use Rattle.fs_layout.specs.Directories.{names_of_slots, HaveDistinctNames, slot_count, slot_at, HasNames}
+use Rattle.fs_layout.specs.Directories.{names_of_slots, HaveDistinctNames, slot_count, slot_at, HasNames, NamedInode}
 use Rattle.fs_layout.specs.Laws.{AreNamesOf, AreRead}
 use Rattle.fs_layout.proofs.SlotNames.{names-IsMap, length-names, slot_leads, named_by}
 use Rattle.fs_layout.proofs.ImageSlots.{HasWholeBlocks, slots_of, slot_is, slots_are, count_is}

@@ -9,7 +9,7 @@ use Rattle.fs_layout.specs.Bytes.{IsBytes, IsSector, splice, le16, le32, le64, l
 use Rattle.fs_layout.specs.AclSector.{acl_sector_bytes, entry_bytes, entries_bytes}
 use Rattle.fs_layout.specs.Commit.{commit_bytes, commit_magic}
 use Rattle.fs_layout.specs.Inode.{inode_bytes, kind_number}
-use Rattle.fs_layout.specs.Slot.{NamedInode, FitsSlot, slot_bytes}
+use Rattle.fs_layout.specs.Directories.{NamedInode, FitsSlot, slot_bytes}
 use Rattle.fs_layout.specs.Superblock.{super_bytes, super_magic}
 use Rattle.fs_layout.proofs.AclSectorLaw.{length-acl_sector_bytes}
 use Rattle.fs_layout.proofs.CommitLaw.{length-commit_bytes}

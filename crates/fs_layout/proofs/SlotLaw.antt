@@ -7,7 +7,7 @@ use Rattle.std.specs.Prelude.{IsTrue, ◌↔◌}
 use Rattle.fs_layout.specs.declared.fault.LayoutFault.{LayoutFault}
 use Rattle.fs_layout.specs.declared.fault.LayoutFault.TheVariants.{BadNumber, NotZero}
 use Rattle.fs_layout.specs.Bytes.{IsBytes, window, splice, le32, zeros, u32_of, are_zero}
-use Rattle.fs_layout.specs.Slot.{NamedInode, IsName, FitsSlot, name_test, slot_bytes, slot_of}
+use Rattle.fs_layout.specs.Directories.{NamedInode, IsName, FitsSlot, name_test, slot_bytes, slot_of}
 use Rattle.fs_layout.proofs.Codecs.{IsCodec, held, same_ok}
 use Rattle.fs_layout.proofs.Fields.{part_len, IsBytes-part, split, back32, zeros_back, zero_part, zeros-are_zero, read32}
 use Rattle.fs_layout.proofs.Names.{name_test-decides, answers_name_test}

@@ -1,6 +1,6 @@
 -- The sector of an ACL.
 use Rattle.posix_acl.specs.AccessList.{AccessList, IsAcl, list_numbers}
-use Rattle.fs_layout.specs.StoredAcls.{acl_content}
+use Rattle.fs_layout.specs.AclSector.{acl_content}
 use Rattle.fs_layout.specs.Laws.{HasSector}
 use Rattle.fs_layout.proofs.AclSectorLaw.{acl_sector_codec}
 use Rattle.fs_layout.proofs.Sectors.{IsSector-acl_sector_bytes}

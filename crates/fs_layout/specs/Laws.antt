@@ -9,7 +9,7 @@ use Rattle.fs_layout.specs.declared.place.Place.{Place}
 use Rattle.fs_layout.specs.declared.place.TheConstants.{COMMIT_SECTOR, FIRST_LOG_SECTOR}
 use Rattle.fs_layout.specs.Bytes.{IsBytes, IsSector, SectorMap, splice, window}
 use Rattle.fs_layout.specs.Inode.{FitsInode}
-use Rattle.fs_layout.specs.Slot.{NamedInode, slot_of}
+use Rattle.fs_layout.specs.Directories.{NamedInode, slot_of}
 use Rattle.fs_layout.specs.AclSector.{FitsAclSector, acl_sector_of}
 use Rattle.fs_layout.specs.Images.{inode_at, pointer}
 use Rattle.fs_layout.specs.Ownership.{IsConsistent, Agrees}
@@ -18,7 +18,7 @@ use Rattle.fs_layout.specs.Commit.{IsCommit, IsValidCommit}
 use Rattle.fs_layout.specs.Recovered.{recovered}
 use Rattle.fs_layout.specs.Maps.{name_cmp, get, with_entry, without, IsMap}
 use Rattle.fs_layout.specs.Directories.{names_of_slots, HaveDistinctNames, slot_count, stored_slot, slot_at, HasNames}
-use Rattle.fs_layout.specs.StoredAcls.{acl_content, HoldsAcl, kept_acl}
+use Rattle.fs_layout.specs.AclSector.{acl_content, HoldsAcl, kept_acl}
 
 -- numbers of n bytes: one that is read is written as the bytes that it was read from, and one that is written is read
 pub record AreNumbersAsBytes (n : ℕ) (bytes : ℕ → List ℕ) (number : List ℕ → ℕ → ℕ) : Type 0 where

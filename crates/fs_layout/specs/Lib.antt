@@ -10,6 +10,4 @@ pub mod Maps
 pub mod Ownership
 pub mod Place
 pub mod Recovered
-pub mod Slot
-pub mod StoredAcls
 pub mod Superblock

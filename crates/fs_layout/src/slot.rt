@@ -2,7 +2,7 @@
 
 ghost use Rattle.std.specs.Prelude.{◌≡◌, ◌≤◌, ◌+◌, ◌↔◌, length, IfOk, Ok, IsTrue};
 ghost use Rattle.fs_layout.specs.Bytes.{splice, window};
-ghost use Rattle.fs_layout.specs.Slot.{NamedInode, IsName, FitsSlot, slot_bytes, slot_of};
+ghost use Rattle.fs_layout.specs.Directories.{NamedInode, IsName, FitsSlot, slot_bytes, slot_of};
 
 use crate::bytes::{are_zero, put_bytes, put_u32, put_zeros, u32_at};
 use crate::fault::LayoutFault;
@@ -25,7 +25,7 @@ pub struct Slot {
 impl Model for Slot {
     ghost use Rattle.std.specs.Prelude.{◌≤◌, take};
     ghost use Rattle.fs_layout.specs.declared.slot.TheConstants.{MAX_NAME};
-    ghost use Rattle.fs_layout.specs.Slot.{NamedInode, IsName};
+    ghost use Rattle.fs_layout.specs.Directories.{NamedInode, IsName};
 
     ghost Value = { NamedInode };
 
@@ -89,7 +89,7 @@ impl Slot {
         put_zeros(to, 8 + name.len(), MAX_NAME - name.len());
     }
 
-    #[tactic(auto, unfolding(crate::specs::Slot::slot_of))]
+    #[tactic(auto, unfolding(crate::specs::Directories::slot_of))]
     fn get(from: &[u8]) -> Result<Slot, LayoutFault>
         requires { length from.now ≡ 128 }
         ensures { result ≡ slot_of from.now }

@@ -10,7 +10,6 @@ use Rattle.fs_layout.specs.declared.inode.Kind.TheVariants as kinds
 use Rattle.fs_layout.specs.declared.place.Place.{Place}
 use Rattle.fs_layout.specs.Bytes.{SectorMap, IsSector, IsBytes, u16_of}
 use Rattle.fs_layout.specs.Inode.{inode_fits, FitsInode}
-use Rattle.fs_layout.specs.Slot.{NamedInode, IsName}
 use Rattle.fs_layout.specs.Place.{IsPlace}
 use Rattle.fs_layout.specs.Images.{bit, inode_bitmap, HasWholeTables, stored, inode_at, pointer, Owns, byte_in, byte_at, Holds}
 use Rattle.fs_layout.specs.Ownership.{IsConsistent}
@@ -18,7 +17,7 @@ use Rattle.fs_model.specs.Limits.{root}
 use Rattle.fs_layout.specs.Maps.{name_cmp, get, IsMap}
 use Rattle.fs_model.specs.Nodes.{Node, Body, File, Dir, Link, Directory}
 use Rattle.fs_model.specs.Trees.{Tree, node_at, names_of, parent, IsEntry, IsDirectory, IsTarget, IsBody, NamesFit, IsUnderRoot, is_root, is_in, IsNode, IsTree}
-use Rattle.fs_layout.specs.Directories.{names_of_slots, slot_at, slot_count}
+use Rattle.fs_layout.specs.Directories.{names_of_slots, slot_at, slot_count, NamedInode, IsName}
 use Rattle.fs_model.specs.StoredNodes.{Placed, HoldsBody, HoldsDirectory, HoldsLink, names_field, parent_field}
 use Rattle.fs_model.specs.Stands.{HoldsPlaced, HoldsAll, placed, room_of}
 use Rattle.fs_model.proofs.StepsParents.{parent_is}

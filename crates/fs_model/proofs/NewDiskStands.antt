@@ -10,7 +10,6 @@ use Rattle.fs_layout.specs.declared.place.Place.{Place}
 use Rattle.fs_layout.specs.Bytes.{SectorMap}
 use Rattle.fs_layout.specs.Inode.{FitsInode, free_inode, inode_fits, inode_of}
 use Rattle.fs_layout.specs.Place.{IsPlace}
-use Rattle.fs_layout.specs.Slot.{FitsSlot}
 use Rattle.std.specs.Option.{option_map}
 use Rattle.fs_layout.specs.Images.{IsData, bit, block_bitmap, inode_at, stored, free_sectors}
 use Rattle.fs_layout.specs.Ownership.{IsConsistent}
@@ -24,7 +23,7 @@ use Rattle.fs_layout.proofs.Saves.{inode_there, valid_there}
 use Rattle.fs_model.specs.Limits.{root}
 use Rattle.fs_model.specs.Nodes.{Node, Dir}
 use Rattle.fs_model.specs.Trees.{Room, node_at, names_of, parent, IsNode, IsTree, is_root}
-use Rattle.fs_layout.specs.Directories.{names_of_slots}
+use Rattle.fs_layout.specs.Directories.{names_of_slots, FitsSlot}
 use Rattle.fs_model.specs.StoredNodes.{Placed, HoldsNode}
 use Rattle.fs_model.specs.Stands.{HoldsPlaced, HoldsAll, placed, room_of, Stands}
 use Rattle.fs_model.specs.NewDisk.{empty_tree, root_inode, IsNewImage}

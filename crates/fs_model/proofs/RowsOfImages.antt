@@ -11,14 +11,12 @@ use Rattle.fs_layout.specs.declared.inode.Kind.TheVariants as kinds
 use Rattle.fs_layout.specs.declared.inode.Inode.{Inode}
 use Rattle.fs_layout.specs.Bytes.{IsBytes, SectorMap, le16, le32, zeros}
 use Rattle.fs_layout.specs.Inode.{free_inode}
-use Rattle.fs_layout.specs.AclSector.{entries_bytes}
-use Rattle.fs_layout.specs.Slot.{NamedInode, FitsSlot}
+use Rattle.fs_layout.specs.AclSector.{entries_bytes, acl_content}
 use Rattle.fs_layout.specs.Images.{pointer, byte_in, byte_at, Holds, HasNoHole}
 use Rattle.fs_layout.proofs.Pointers.{pointer_direct, pointer_without}
 use Rattle.fs_layout.proofs.SplicedBytes.{get_or-zeros}
 use Rattle.fs_model.specs.Nodes.{File, Dir, Link, Directory}
-use Rattle.fs_layout.specs.Directories.{HaveDistinctNames, slots_bytes, names_of_slots}
-use Rattle.fs_layout.specs.StoredAcls.{acl_content}
+use Rattle.fs_layout.specs.Directories.{HaveDistinctNames, slots_bytes, names_of_slots, NamedInode, FitsSlot}
 use Rattle.fs_model.specs.StoredNodes.{HoldsNode}
 
 -- the inode has one block, with these bytes and zeros behind them

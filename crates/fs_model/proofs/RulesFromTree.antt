@@ -11,8 +11,7 @@ use Rattle.fs_layout.specs.declared.inode.Inode.{Inode}
 use Rattle.fs_layout.specs.declared.place.Place.{Place}
 use Rattle.fs_layout.specs.Bytes.{SectorMap, u16_of}
 use Rattle.fs_layout.specs.Inode.{free_inode}
-use Rattle.fs_layout.specs.Slot.{NamedInode, slot_of}
-use Rattle.fs_layout.specs.AclSector.{acl_sector_of}
+use Rattle.fs_layout.specs.AclSector.{acl_sector_of, acl_content, HoldsAcl}
 use Rattle.fs_layout.specs.Images.{stored, inode_at, pointer, Holds, HasNoHole}
 use Rattle.fs_layout.proofs.AclSectorLaw.{acl_sector_codec}
 use Rattle.fs_layout.proofs.Free.{free_has_no_sector, holds_nothing}
@@ -21,12 +20,11 @@ use Rattle.fs_model.specs.Limits.{root}
 use Rattle.fs_layout.specs.Maps.{name_cmp, get}
 use Rattle.fs_model.specs.Nodes.{Node, Body, File, Dir, Link, Directory, shown_mode}
 use Rattle.fs_model.specs.Trees.{Tree, Room, node_at, names_of, parent, IsBody, NamesFit, IsUnderRoot, is_root, is_in, IsDirectoryAt, IsTree, IsTarget, IsDirectory}
-use Rattle.fs_layout.specs.StoredAcls.{acl_content, HoldsAcl}
 use Rattle.fs_model.specs.StoredNodes.{Placed, HoldsBody, HoldsNode, names_field, parent_field}
 use Rattle.fs_model.specs.Stands.{HoldsPlaced, HoldsAll, placed, room_of}
 use Rattle.fs_layout.proofs.OneAcl.{sector_fits, mode_small}
 use Rattle.fs_model.proofs.StepsParents.{parent_names, parent_at, under_root}
-use Rattle.fs_layout.specs.Directories.{HasNames, stored_slot, slot_at, slot_count}
+use Rattle.fs_layout.specs.Directories.{HasNames, stored_slot, slot_at, slot_count, NamedInode, slot_of}
 use Rattle.fs_model.specs.Rules.{ImageRule, InodeBits, Inodes, InData, OwnedOnce, BlockBits, LaidOut, Acls, Slots, NamesApart, Names, Parents, Ways, ObeysEach, IsBit, IsLaidOut, IsStoredAcl, HasAccessAcl, HasDefaultAcl, HasAcls, IsGoodInode, IsGoodSlot, HasNameCount, HasParent, AreNamesApart, GoesUp, at_root, above, namings, namings_in}
 use Rattle.fs_layout.proofs.SlotNames.{slot_leads}
 use Rattle.fs_model.specs.Summaries.{is_used}

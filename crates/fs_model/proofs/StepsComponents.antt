@@ -5,7 +5,7 @@ use Rattle.std.proofs.lemmas.Bool.Decides.{nat_tests}
 use Rattle.std.proofs.lemmas.List.Elements.{All-from_recursion}
 use Rattle.std.specs.List.{AllByRecursion, filter, list_any, slice_split, onto_first}
 use Rattle.fs_layout.specs.Bytes.{IsBytes}
-use Rattle.fs_layout.specs.Slot.{IsName}
+use Rattle.fs_layout.specs.Directories.{IsName}
 use Rattle.fs_model.specs.Limits.{name_limit}
 use Rattle.fs_model.specs.Trees.{IsTarget}
 use Rattle.fs_model.specs.Parts.{slash, is_empty, parts_of}

@@ -4,7 +4,7 @@ use Rattle.std.proofs.Common.{refl, sym, ap, ◌∙◌, subst}
 use Rattle.std.specs.List.{list_any}
 use Rattle.fs_cred.specs.Credentials.{Credential}
 use Rattle.fs_layout.specs.Bytes.{IsBytes}
-use Rattle.fs_layout.specs.Slot.{IsName}
+use Rattle.fs_layout.specs.Directories.{IsName}
 use Rattle.fs_layout.specs.Maps.{get, name_cmp}
 use Rattle.fs_model.specs.Nodes.{Node, is_directory, names_in}
 use Rattle.fs_model.specs.Trees.{Tree, Room, node_at, parent, IsTree}

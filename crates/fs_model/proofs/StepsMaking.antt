@@ -9,7 +9,7 @@ use Rattle.posix_acl.specs.Entries.{perms_of, meet}
 use Rattle.posix_acl.proofs.Classes.{IsAcl-with_classes}
 use Rattle.fs_cred.specs.Credentials.{Credential, IsCredential}
 use Rattle.fs_layout.specs.Bytes.{IsBytes}
-use Rattle.fs_layout.specs.Slot.{IsName}
+use Rattle.fs_layout.specs.Directories.{IsName}
 use Rattle.fs_model.specs.Limits.{root, entries_limit}
 use Rattle.fs_layout.specs.Maps.{get, name_cmp}
 use Rattle.fs_model.specs.Nodes.{Node, Body, File, Dir, Link, is_directory, names_in, directory_in}

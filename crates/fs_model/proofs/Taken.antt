@@ -19,7 +19,6 @@ use Rattle.posix_acl.specs.AccessList.{AccessList, is_extended}
 use Rattle.fs_layout.specs.declared.inode.Inode.{Inode}
 use Rattle.fs_layout.specs.declared.place.Place.{Place}
 use Rattle.fs_layout.specs.Bytes.{SectorMap}
-use Rattle.fs_layout.specs.Slot.{NamedInode, FitsSlot, slot_bytes}
 use Rattle.fs_layout.specs.Inode.{free_inode}
 use Rattle.fs_layout.specs.Ownership.{IsOwned}
 use Rattle.fs_layout.specs.Images.{IsData, bit, block_bitmap, pointer, Part, AccessAcl, DefaultAcl, Indirect, DoubleIndirect, Block, part, Owns, Holds, inode_at, free_sectors}
@@ -32,8 +31,8 @@ use Rattle.fs_layout.specs.Maps.{name_cmp, get}
 use Rattle.fs_model.specs.Nodes.{Node, Body, File, Dir, Link, target_in, sectors_for, sectors_of}
 use Rattle.fs_model.specs.Trees.{Tree, Room, node_at, names_of, parent, sectors_needed, IsBody, IsTree}
 use Rattle.fs_model.specs.States.{MayBeFree}
-use Rattle.fs_layout.specs.Directories.{HaveDistinctNames, slots_bytes, names_of_slots}
-use Rattle.fs_layout.specs.StoredAcls.{HoldsAcl, kept_acl}
+use Rattle.fs_layout.specs.Directories.{HaveDistinctNames, slots_bytes, names_of_slots, NamedInode, FitsSlot, slot_bytes}
+use Rattle.fs_layout.specs.AclSector.{HoldsAcl, kept_acl}
 use Rattle.fs_model.specs.StoredNodes.{HoldsBody, HoldsNode}
 use Rattle.fs_model.specs.Stands.{HoldsAll, placed, Stands}
 use Rattle.fs_model.proofs.Counting.{Names, in_first, in_second, passes_or_named}

@@ -18,9 +18,8 @@ use Rattle.fs_layout.specs.Bytes.{SectorMap, IsSector, u16_of}
 use Rattle.fs_layout.specs.Superblock.{super_of}
 use Rattle.fs_layout.specs.Commit.{commit_of, AreTargets}
 use Rattle.fs_layout.specs.Inode.{inode_of}
-use Rattle.fs_layout.specs.Slot.{slot_of}
 use Rattle.fs_layout.specs.AclSector.{acl_sector_of}
-use Rattle.fs_layout.specs.Directories.{slot_count, stored_slot, slot_at}
+use Rattle.fs_layout.specs.Directories.{slot_count, stored_slot, slot_at, slot_of}
 use Rattle.fs_layout.specs.Place.{the_place}
 use Rattle.fs_layout.specs.Images.{bit, inode_bitmap, block_bitmap, map_bits, IsData, stored, inode_at, pointer, Owns, byte_at, HasNoHole}
 use Rattle.fs_layout.specs.Ownership.{IsOwned}

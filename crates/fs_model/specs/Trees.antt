@@ -9,7 +9,7 @@ use Rattle.std.specs.Prelude.{◌≡◌, ◌≢◌, ℕ, zero, suc, ◌-◌, ◌
 use Rattle.std.specs.Ordering.{nat_cmp}
 use Rattle.posix_acl.specs.AccessList.{IsAcl, IsSomeAcl}
 use Rattle.fs_layout.specs.Bytes.{IsBytes}
-use Rattle.fs_layout.specs.Slot.{IsName}
+use Rattle.fs_layout.specs.Directories.{IsName}
 use Rattle.fs_model.specs.Limits.{root, entries_limit, names_limit, target_limit}
 use Rattle.fs_layout.specs.Maps.{name_cmp, get, with_entry, IsMap}
 use Rattle.fs_model.specs.Nodes.{Node, Body, File, Dir, Link, Directory, is_directory, names_in, sectors_of}

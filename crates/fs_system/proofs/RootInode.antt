@@ -22,7 +22,7 @@ use Rattle.fs_model.specs.Nodes.{Node, Body, Dir, shown_mode}
 use Rattle.fs_model.specs.Trees.{Tree, Room, node_at, names_of, parent}
 use Rattle.fs_model.specs.Processes.{Desks}
 use Rattle.fs_model.specs.States.{State}
-use Rattle.fs_layout.specs.StoredAcls.{HoldsAcl}
+use Rattle.fs_layout.specs.AclSector.{HoldsAcl}
 use Rattle.fs_model.specs.StoredNodes.{HoldsNode}
 use Rattle.fs_model.specs.Stands.{HoldsAll, HoldsPlaced, placed}
 use Rattle.fs_layout.proofs.OneAcl.{access_same, mode_small}

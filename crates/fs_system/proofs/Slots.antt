@@ -10,10 +10,9 @@ use Rattle.std.specs.FinMap.Entries.{find-put, length-put, is_sorted-put}
 use Rattle.std.proofs.lemmas.Cmp.{nat_list_cmp_total}
 use Rattle.std.proofs.lemmas.List.Concat.{flat_map-cons}
 use Rattle.std.proofs.lemmas.List.Elements.{All-head, All-tail}
-use Rattle.fs_layout.specs.Slot.{NamedInode, FitsSlot, slot_bytes}
 use Rattle.fs_layout.proofs.SlotLaw.{length-slot_bytes}
 use Rattle.fs_layout.specs.Maps.{name_cmp, get, IsMap}
-use Rattle.fs_layout.specs.Directories.{slots_bytes, names_of_slots, HaveDistinctNames}
+use Rattle.fs_layout.specs.Directories.{slots_bytes, names_of_slots, HaveDistinctNames, NamedInode, FitsSlot, slot_bytes}
 
 pub slots_length : (slots : List NamedInode) → All FitsSlot slots → length (slots_bytes slots) ≡ 128 * length slots
 slots_length [] fits = refl

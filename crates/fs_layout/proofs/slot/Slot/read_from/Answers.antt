@@ -1,6 +1,6 @@
 use Rattle.std.proofs.Common.{◌∙◌, ap, arith}
 use Rattle.fs_layout.specs.Bytes.{window}
-use Rattle.fs_layout.specs.Slot.{slot_bytes, slot_of, FitsSlot}
+use Rattle.fs_layout.specs.Directories.{slot_bytes, slot_of, FitsSlot}
 use Rattle.fs_layout.proofs.Codecs.{found, only, part}
 use Rattle.fs_layout.proofs.Fields.{part_len, IsBytes-part}
 use Rattle.fs_layout.proofs.SlotLaw.{slot_codec}
