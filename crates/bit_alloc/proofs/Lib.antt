@@ -1,0 +1,5 @@
+pub mod Counting
+pub mod Maps
+pub mod Marking
+pub mod Transactions
+pub mod Words

@@ -1,0 +1,5 @@
+pub mod Bitmaps
+pub mod Bits
+pub mod Faults
+pub mod Inodes
+pub mod Room
