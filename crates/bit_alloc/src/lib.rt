@@ -17,8 +17,13 @@
 mod bitmap;
 mod bits;
 mod counts;
+mod laws;
 mod marks;
 
 pub use bitmap::{Bitmap, TakeFault};
 pub use counts::{count_free, has_free, is_taken};
+pub use laws::{
+    calls_join, consistent_maps_are_sound, inodes_take_no_sector, soundness_is_kept,
+    spare_at_first, spare_is_left,
+};
 pub use marks::{give, take};
