@@ -19,6 +19,8 @@ mod bits;
 mod counts;
 mod laws;
 mod marks;
+#[cfg(test)]
+mod tests;
 
 pub use bitmap::{Bitmap, TakeFault};
 pub use counts::{count_free, has_free, is_taken};
