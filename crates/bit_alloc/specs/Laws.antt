@@ -20,28 +20,34 @@ use Rattle.bit_alloc.specs.Room.{HasSpare}
 -- a call on one inode leaves a sound map sound
 abbrev pub StaysSound : {T : Type 0} → (T → TxnState) → Type 0
 StaysSound {T} state =
-    (p : Place) (n taken more : ℕ) (old new : T) → IsSound p (state old) → IsNumber p Inodes n → Touches p n taken more (state old) (state new) → IsSound p (state new)
+    (p : Place) (n taken more : ℕ) (old new : T) → IsSound p (state old) → IsNumber p Inodes n
+    → Touches p n taken more (state old) (state new) → IsSound p (state new)
 
 -- two calls on one inode touch it as one
 abbrev pub CallsJoin : {T : Type 0} → (T → TxnState) → Type 0
 CallsJoin {T} state =
-    (p : Place) (n a b j k : ℕ) (old mid new : T) → IsPlace p → Touches p n a j (state old) (state mid) → Touches p n b k (state mid) (state new)
-    → Touches p n (a + b) (j + k) (state old) (state new)
+    (p : Place) (n a b j k : ℕ) (old mid new : T) → IsPlace p → Touches p n a j (state old) (state mid)
+    → Touches p n b k (state mid) (state new) → Touches p n (a + b) (j + k) (state old) (state new)
 
--- A consistent map is sound on a disk that has all its sectors, where the bits of inode 0 and of those past the last one are set.
+-- A consistent map is sound on a disk that has all its sectors, where the bits of inode 0 and of those past the last
+-- one are set.
 abbrev pub BeginsSound : {T : Type 0} → (T → TxnState) → Type 0
 BeginsSound {T} state =
     (p : Place) (txn : T) → IsConsistent p (state txn).sectors → p.sectors ≤ (state txn).disk.size
-    → ((n : ℕ) → n < 4096 → (n ≡ 0) ⊎ (p.inodes ≤ n) → IsTrue (bit (state txn).sectors inode_bitmap n)) → IsSound p (state txn)
+    → ((n : ℕ) → n < 4096 → (n ≡ 0) ⊎ (p.inodes ≤ n) → IsTrue (bit (state txn).sectors inode_bitmap n))
+    → IsSound p (state txn)
 
 -- what puts leave of the room besides the bitmaps
 abbrev pub LeavesSpare : {T : Type 0} → (T → TxnState) → Type 0
 LeavesSpare {T} state =
-    (p : Place) (n taken more rest : ℕ) (old new : T) → HasSpare p (rest + more) (state old) → Touches p n taken more (state old) (state new) → HasSpare p rest (state new)
+    (p : Place) (n taken more rest : ℕ) (old new : T) → HasSpare p (rest + more) (state old)
+    → Touches p n taken more (state old) (state new) → HasSpare p rest (state new)
 
--- where no sector is put yet and 64 can be, 47 can be besides those of the bitmaps
+-- where 64 sectors can be put, 47 can be besides those of the bitmaps
 abbrev pub BeginsWithSpare : {T : Type 0} → (T → TxnState) → Type 0
-BeginsWithSpare {T} state = (p : Place) (sectors inodes : ℕ) (txn : T) → the_place sectors inodes ≡ Some p → (state txn).room ≡ 64 → HasSpare p 47 (state txn)
+BeginsWithSpare {T} state =
+    (p : Place) (sectors inodes : ℕ) (txn : T) → the_place sectors inodes ≡ Some p → (state txn).room ≡ 64
+    → HasSpare p 47 (state txn)
 
 -- the bit of an inode says nothing of sectors
 abbrev pub KeepsFree : Type 0
