@@ -1,0 +1,167 @@
+-- The calls by which an ACL of an inode is saved, one after the other.
+use Rattle.std.proofs.Common.{◌≡◌, ◌≢◌, ℕ, ◌+◌, ◌*◌, ◌/◌, ◌%◌, ◌^◌, ◌<◌, ◌≤◌, List, [], Option, Some, None, refl, sym, ap, subst, ◌∙◌, arith}
+use Rattle.posix_acl.specs.AccessList.{AccessList, IsAcl, IsSomeAcl, mode_bits}
+use Rattle.fs_layout.specs.declared.inode.Kind.TheVariants.{Free, Link}
+use Rattle.fs_layout.specs.declared.inode.Inode.{Inode}
+use Rattle.fs_layout.specs.declared.place.Place.{Place}
+use Rattle.fs_layout.specs.Inode.{FitsInode}
+use Rattle.fs_layout.specs.StoredAcls.{HoldsAcl, kept_acl}
+use Rattle.fs_layout.specs.Images.{IsData, Part, AccessAcl, DefaultAcl, Block, part, bit, inode_at, inode_bitmap}
+use Rattle.fs_layout.specs.Changes.{Saves}
+use Rattle.fs_layout.proofs.Consistent.{owned_is_apart}
+use Rattle.fs_layout.proofs.Free.{inode_fits_there}
+use Rattle.fs_layout.proofs.OneAcl.{mode_small}
+use Rattle.fs_layout.proofs.Parts.{owns_acl, owns_default_acl}
+use Rattle.fs_layout.proofs.Pointers.{turns_acl, turns_default_acl}
+use Rattle.sector_txn.specs.Sectors.{TxnState, SameStore, PutsOnly}
+use Rattle.bit_alloc.specs.Room.{bitmaps}
+use Rattle.bit_alloc.specs.Inodes.{IsSound, Touches, KeepsFields, KeepsBytes, KeepsAccess, KeepsDefault}
+use Rattle.inode_table.specs.Acls.{HasAcl, HasDefaultAcl, with_acl_bits, acl_takes}
+use Rattle.inode_table.specs.Inodes.{DiffersInAttributes}
+use Rattle.inode_table.specs.Storing.{IsForAcls, Stores}
+use Rattle.inode_table.proofs.AclSaved.{IsAclSaved, acl_saved}
+use Rattle.inode_table.proofs.Bits.{with_low_bits}
+use Rattle.inode_table.proofs.Saved.{saved_keeps_access, saved_keeps_default}
+use Rattle.inode_table.proofs.StoredAcls.{contents, contents_whole, kept_valid, holds_acl, acl_stays, takes_same}
+use Rattle.inode_table.proofs.Stores.{HasStored, stored, content_there}
+
+-- a mode with an ACL's bits shows them
+pub bits_shown : (mode : ℕ) (a : AccessList) → with_low_bits mode (mode_bits a) % 512 ≡ mode_bits a
+bits_shown mode a = let small = mode_small a in omega (arith, small)
+
+-- ---- the access ACL
+module _ (p : Place) (n : ℕ) (inode : Inode) (a : AccessList) (y : ℕ) (t0 t1 t2 : TxnState)
+    (sound : IsSound p t0) (lt : n < p.inodes) (attributes : DiffersInAttributes (inode_at p t0.sectors n) inode) (valid : IsAcl a)
+    (way : Stores p inode.acl y (contents (kept_acl a)) t0.sectors t1.sectors)
+    (fits : FitsInode (record inode { mode = with_low_bits inode.mode (mode_bits a); acl = y }))
+    (saves : Saves p n (record inode { mode = with_low_bits inode.mode (mode_bits a); acl = y }) t1.sectors t2.sectors) where
+  was : inode.acl ≡ (inode_at p t0.sectors n).acl
+  was = ap (λ (u : Inode). u.acl) attributes
+
+  access_turned : HasStored p (inode_at p t0.sectors n) (record (inode_at p t0.sectors n) { acl = y }) AccessAcl (acl_takes inode.acl (kept_acl a)) t0.sectors t1.sectors
+  unfolding part
+  access_turned =
+      let v = inode_at p t0.sectors n in
+      subst (λ (k : ℕ). HasStored p v (record v { acl = y }) AccessAcl k t0.sectors t1.sectors) (takes_same inode.acl (kept_acl a))
+      (stored {x = inode.acl} sound.consistent.place sound.consistent.sectors (owned_is_apart sound.consistent n lt) (sym was) {y = y} (contents (kept_acl a)) (λ e. cc)
+      (contents_whole (kept_acl a) (kept_valid a valid)) way (λ keeps. turns_acl t0.sectors t1.sectors v inode.acl y (sym was) keeps))
+
+  default_is : inode.default_acl ≡ (inode_at p t0.sectors n).default_acl
+  default_is = ap (λ (u : Inode). u.default_acl) attributes
+
+  direct_is : inode.direct ≡ (inode_at p t0.sectors n).direct
+  direct_is = ap (λ (u : Inode). u.direct) attributes
+
+  indirect_is : inode.indirect ≡ (inode_at p t0.sectors n).indirect
+  indirect_is = ap (λ (u : Inode). u.indirect) attributes
+
+  access_saved : IsAclSaved p n (inode_at p t0.sectors n) (record inode { mode = with_low_bits inode.mode (mode_bits a); acl = y })
+      (acl_takes inode.acl (kept_acl a)) t0 t1 t2
+  access_saved =
+      let v = inode_at p t0.sectors n in
+      acl_saved p n (record v { acl = y }) (record inode { mode = with_low_bits inode.mode (mode_bits a); acl = y }) AccessAcl (acl_takes inode.acl (kept_acl a)) t0 t1 t2
+      sound lt access_turned refl default_is direct_is indirect_is fits saves (λ k e. cc) refl refl (ap (λ (u : Inode). u.size) attributes)
+
+  pub access_sound : SameStore t0 t2 → IsSound p t2
+  access_sound = access_saved.sound
+
+  pub access_touches : PutsOnly (IsForAcls p) (bitmaps p) 1 t0 t1 → PutsOnly (λ t. t ≡ p.table + n / 4) [] 1 t1 t2
+      → Touches p n (acl_takes inode.acl (kept_acl a)) 2 t0 t2
+  access_touches = access_saved.touches
+
+  pub access_fields : KeepsFields (with_acl_bits inode a) (inode_at p t2.sectors n)
+  access_fields =
+      subst (KeepsFields (with_acl_bits inode a)) (sym access_saved.is) (record { kind = refl; mode = refl; uid = refl; gid = refl; names = refl; parent = refl })
+
+  pub access_bytes : KeepsBytes t0.sectors t2.sectors (inode_at p t0.sectors n) (inode_at p t2.sectors n)
+  access_bytes = access_saved.bytes
+
+  pub access_has : HasAcl t2.sectors (inode_at p t2.sectors n) a
+  access_has =
+      let w : Inode = record inode { mode = with_low_bits inode.mode (mode_bits a); acl = y } in
+      let there = holds_acl t1.sectors y (kept_acl a) (content_there p inode.acl y t0.sectors t1.sectors sound.consistent.place (contents (kept_acl a)) way) in
+      let has : HasAcl t2.sectors w a = record {
+        valid = valid;
+        stored = acl_stays t1.sectors t2.sectors y (kept_acl a) (λ some. access_saved.keeps y (owns_acl t1.sectors w some)) there;
+        bits = bits_shown inode.mode a;
+      } in
+      subst (λ (u : Inode). HasAcl t2.sectors u a) (sym access_saved.is) has
+
+  pub access_keeps_default : KeepsDefault t0.sectors t2.sectors (inode_at p t0.sectors n) (inode_at p t2.sectors n)
+  unfolding part
+  access_keeps_default =
+      let v = inode_at p t0.sectors n in
+      let w : Inode = record inode { mode = with_low_bits inode.mode (mode_bits a); acl = y } in
+      let mid : KeepsDefault t0.sectors t1.sectors v w = record {
+        default = default_is;
+        default_sector = λ some. access_turned.others v.default_acl (record { at = DefaultAcl; is = refl; some = some }) (λ e. cc);
+      } in
+      subst (λ (u : Inode). KeepsDefault t0.sectors t2.sectors v u) (sym access_saved.is) (saved_keeps_default mid access_saved.keeps)
+
+  pub access_bit : bit t2.sectors inode_bitmap n ≡ bit t0.sectors inode_bitmap n
+  access_bit = access_saved.bit_same
+
+-- ---- the default ACL
+module _ (p : Place) (n : ℕ) (inode : Inode) (a : Option AccessList) (y : ℕ) (t0 t1 t2 : TxnState)
+    (sound : IsSound p t0) (lt : n < p.inodes) (attributes : DiffersInAttributes (inode_at p t0.sectors n) inode) (valid : IsSomeAcl a)
+    (way : Stores p inode.default_acl y (contents a) t0.sectors t1.sectors)
+    (fits : FitsInode (record inode { default_acl = y })) (saves : Saves p n (record inode { default_acl = y }) t1.sectors t2.sectors) where
+  was_default : inode.default_acl ≡ (inode_at p t0.sectors n).default_acl
+  was_default = ap (λ (u : Inode). u.default_acl) attributes
+
+  default_turned : HasStored p (inode_at p t0.sectors n) (record (inode_at p t0.sectors n) { default_acl = y }) DefaultAcl (acl_takes inode.default_acl a)
+      t0.sectors t1.sectors
+  unfolding part
+  default_turned =
+      let v = inode_at p t0.sectors n in
+      subst (λ (k : ℕ). HasStored p v (record v { default_acl = y }) DefaultAcl k t0.sectors t1.sectors) (takes_same inode.default_acl a)
+      (stored {x = inode.default_acl} sound.consistent.place sound.consistent.sectors (owned_is_apart sound.consistent n lt) (sym was_default) {y = y} (contents a)
+      (λ e. cc) (contents_whole a valid) way (λ keeps. turns_default_acl t0.sectors t1.sectors v inode.default_acl y (sym was_default) keeps))
+
+  access_is : inode.acl ≡ (inode_at p t0.sectors n).acl
+  access_is = ap (λ (u : Inode). u.acl) attributes
+
+  default_saved : IsAclSaved p n (inode_at p t0.sectors n) (record inode { default_acl = y }) (acl_takes inode.default_acl a) t0 t1 t2
+  default_saved =
+      let v = inode_at p t0.sectors n in
+      acl_saved p n (record v { default_acl = y }) (record inode { default_acl = y }) DefaultAcl (acl_takes inode.default_acl a) t0 t1 t2 sound lt default_turned
+      access_is refl (ap (λ (u : Inode). u.direct) attributes) (ap (λ (u : Inode). u.indirect) attributes) fits saves
+      (λ k e. cc) refl refl (ap (λ (u : Inode). u.size) attributes)
+
+  pub default_sound : SameStore t0 t2 → IsSound p t2
+  default_sound = default_saved.sound
+
+  pub default_touches : PutsOnly (IsForAcls p) (bitmaps p) 1 t0 t1 → PutsOnly (λ t. t ≡ p.table + n / 4) [] 1 t1 t2
+      → Touches p n (acl_takes inode.default_acl a) 2 t0 t2
+  default_touches = default_saved.touches
+
+  pub default_fields : KeepsFields inode (inode_at p t2.sectors n)
+  default_fields =
+      subst (KeepsFields inode) (sym default_saved.is) (record { kind = refl; mode = refl; uid = refl; gid = refl; names = refl; parent = refl })
+
+  pub default_bytes : KeepsBytes t0.sectors t2.sectors (inode_at p t0.sectors n) (inode_at p t2.sectors n)
+  default_bytes = default_saved.bytes
+
+  pub default_has : HasDefaultAcl t2.sectors (inode_at p t2.sectors n) a
+  default_has =
+      let w : Inode = record inode { default_acl = y } in
+      let there = holds_acl t1.sectors y a (content_there p inode.default_acl y t0.sectors t1.sectors sound.consistent.place (contents a) way) in
+      let has : HasDefaultAcl t2.sectors w a = record {
+        valid = valid;
+        stored = acl_stays t1.sectors t2.sectors y a (λ some. default_saved.keeps y (owns_default_acl t1.sectors w some)) there;
+      } in
+      subst (λ (u : Inode). HasDefaultAcl t2.sectors u a) (sym default_saved.is) has
+
+  pub default_keeps_access : KeepsAccess t0.sectors t2.sectors (inode_at p t0.sectors n) (inode_at p t2.sectors n)
+  unfolding part
+  default_keeps_access =
+      let v = inode_at p t0.sectors n in
+      let w : Inode = record inode { default_acl = y } in
+      let mid : KeepsAccess t0.sectors t1.sectors v w = record {
+        acl = access_is;
+        acl_sector = λ some. default_turned.others v.acl (record { at = AccessAcl; is = refl; some = some }) (λ e. cc);
+      } in
+      subst (λ (u : Inode). KeepsAccess t0.sectors t2.sectors v u) (sym default_saved.is) (saved_keeps_access mid default_saved.keeps)
+
+  pub default_bit : bit t2.sectors inode_bitmap n ≡ bit t0.sectors inode_bitmap n
+  default_bit = default_saved.bit_same

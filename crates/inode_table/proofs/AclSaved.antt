@@ -1,0 +1,69 @@
+-- What an inode has once the sector of one of its ACLs has turned and it is saved.
+use Rattle.std.proofs.Common.{◌≡◌, ◌≢◌, ℕ, ◌+◌, ◌/◌, ◌<◌, ◌≤◌, List, [], refl, sym, ap, subst, ◌∙◌, arith}
+use Rattle.fs_layout.specs.declared.inode.Inode.{Inode}
+use Rattle.fs_layout.specs.declared.place.Place.{Place}
+use Rattle.fs_layout.specs.Bytes.{SectorMap}
+use Rattle.fs_layout.specs.Inode.{FitsInode}
+use Rattle.fs_layout.specs.Images.{Part, AccessAcl, DefaultAcl, Block, part, bit, inode_at, inode_bitmap}
+use Rattle.fs_layout.specs.Ownership.{IsConsistent}
+use Rattle.fs_layout.specs.Changes.{Keeps, ChangesBlocks, Saves}
+use Rattle.fs_layout.proofs.Blocks.{fields_change}
+use Rattle.fs_layout.proofs.Composes.{apart_after, both_changes}
+use Rattle.fs_layout.proofs.Consistent.{owned_is_apart, saved_stays_consistent}
+use Rattle.fs_layout.proofs.Places.{after_map}
+use Rattle.fs_layout.proofs.Saves.{IsSaved}
+use Rattle.sector_txn.specs.Sectors.{TxnState, SameStore, PutsOnly}
+use Rattle.sector_txn.proofs.Changes.{changes_joined}
+use Rattle.bit_alloc.specs.Room.{bitmaps}
+use Rattle.bit_alloc.specs.Inodes.{IsSound, Touches, KeepsBytes}
+use Rattle.inode_table.specs.Storing.{IsForAcls}
+use Rattle.inode_table.proofs.Sound.{sound_after, puts_acls, puts_inode}
+use Rattle.inode_table.proofs.Saved.{fields_keep_bytes, saved_keeps_bytes}
+use Rattle.inode_table.proofs.Stores.{HasStored, stored_keeps_bytes}
+
+-- one after the other
+pub bytes_joined : {old mid new : SectorMap} {v u w : Inode} → KeepsBytes old mid v u → KeepsBytes mid new u w → KeepsBytes old new v w
+bytes_joined first then = record { bytes = λ held h. then.bytes held (first.bytes held h); whole = λ h. then.whole (first.whole h) }
+
+-- what has come of it
+pub record IsAclSaved (p : Place) (n : ℕ) (v w : Inode) (taken : ℕ) (t0 t1 t2 : TxnState) : Type 0 where
+  pub is : inode_at p t2.sectors n ≡ w
+  pub keeps : Keeps t1.sectors t2.sectors w
+  pub bit_same : bit t2.sectors inode_bitmap n ≡ bit t0.sectors inode_bitmap n
+  pub sound : SameStore t0 t2 → IsSound p t2
+  pub touches : PutsOnly (IsForAcls p) (bitmaps p) 1 t0 t1 → PutsOnly (λ t. t ≡ p.table + n / 4) [] 1 t1 t2 → Touches p n taken 2 t0 t2
+  pub bytes : KeepsBytes t0.sectors t2.sectors v (inode_at p t2.sectors n)
+
+-- The sector is stored, which leaves u, and w is saved, which has the same sectors.
+module _ (p : Place) (n : ℕ) (u w : Inode) (at : Part) (taken : ℕ) (t0 t1 t2 : TxnState)
+    (sound : IsSound p t0) (lt : n < p.inodes) (st : HasStored p (inode_at p t0.sectors n) u at taken t0.sectors t1.sectors)
+    (acl : w.acl ≡ u.acl) (default_acl : w.default_acl ≡ u.default_acl) (direct : w.direct ≡ u.direct) (indirect : w.indirect ≡ u.indirect)
+    (fits : FitsInode w) (saves : Saves p n w t1.sectors t2.sectors) where
+  changes : ChangesBlocks p (inode_at p t0.sectors n) w t0.sectors t1.sectors
+  changes =
+      let h : IsConsistent p t0.sectors = sound.consistent in
+      both_changes h.place st.changes (fields_change h.place st.changes.owned.sectors (apart_after h.place (owned_is_apart h n lt) st.changes.owned)
+      acl default_acl direct indirect)
+
+  saved : IsConsistent p t2.sectors × IsSaved p n w t0.sectors t1.sectors t2.sectors
+  saved = saved_stays_consistent sound.consistent lt refl fits changes saves
+
+  pub acl_saved : ((k : ℕ) → Block k ≢ at) → u.size ≡ (inode_at p t0.sectors n).size → u.indirect ≡ (inode_at p t0.sectors n).indirect → w.size ≡ u.size
+      → IsAclSaved p n (inode_at p t0.sectors n) w taken t0 t1 t2
+  acl_saved none size pointers same =
+      let few = sound.consistent.place.most_inodes in
+      let from = after_map sound.consistent.place in
+      let mid = bytes_joined (stored_keeps_bytes st none size pointers) (fields_keep_bytes t1.sectors u w same direct indirect) in
+      record {
+        is = saved.1.is;
+        keeps = saved.1.keeps;
+        bit_same = saved.1.inode_bits n (omega (arith, few, lt));
+        sound = λ store. sound_after sound store saved.0 (λ m low none. saved.1.inode_bits m low);
+        touches = λ acl_put inode_put. record {
+          puts = changes_joined (puts_acls p n acl_put) (puts_inode p n inode_put);
+          super = saves.others 0 (λ e. omega (arith, from, e)) ∙ st.low 0 (omega arith);
+          inode = saved.1.changes;
+          free = let a = st.free in omega (arith, a, saved.1.free);
+        };
+        bytes = subst (λ (x : Inode). KeepsBytes t0.sectors t2.sectors (inode_at p t0.sectors n) x) (sym saved.1.is) (saved_keeps_bytes mid saved.1.keeps);
+      }

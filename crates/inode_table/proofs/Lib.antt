@@ -1,0 +1,12 @@
+pub mod Tables
+pub mod Sound
+pub mod Saved
+pub mod Stores
+pub mod Freed
+pub mod Freeing
+pub mod Bits
+pub mod StoredAcls
+pub mod AclSaved
+pub mod Numbers
+pub mod AclCalls
+pub mod Made

@@ -1,0 +1,179 @@
+-- An inode is made: its bit is set, sectors are taken for its ACLs, and it is written.
+use Rattle.std.proofs.Common.{◌≡◌, ◌≢◌, ℕ, ◌+◌, ◌*◌, ◌/◌, ◌%◌, ◌^◌, ◌<◌, ◌≤◌, List, [], Option, Some, None, get_or, refl, sym, ap, subst, ◌∙◌, arith, IsTrue}
+use Rattle.posix_acl.specs.AccessList.{AccessList, IsAcl, IsSomeAcl, mode_bits}
+use Rattle.fs_layout.specs.declared.inode.Inode.{Inode}
+use Rattle.fs_layout.specs.declared.place.Place.{Place}
+use Rattle.fs_layout.specs.Bytes.{SectorMap, zeros}
+use Rattle.fs_layout.specs.Inode.{FitsInode, free_inode}
+use Rattle.fs_layout.specs.StoredAcls.{HoldsAcl, kept_acl}
+use Rattle.fs_layout.specs.Images.{AccessAcl, DefaultAcl, Holds, part, bit, free_sectors, inode_at, inode_bitmap}
+use Rattle.fs_layout.specs.Ownership.{IsConsistent}
+use Rattle.fs_layout.specs.Changes.{IsOwnedApart, ChangesBlocks, ChangesInode, Saves}
+use Rattle.fs_layout.proofs.Blocks.{fields_change}
+use Rattle.fs_layout.proofs.Composes.{apart_after, both_changes, both_inodes}
+use Rattle.fs_layout.proofs.Consistent.{owned_is_apart, stays_consistent, saved_stays_consistent}
+use Rattle.fs_layout.proofs.Free.{HasNoSector, free_has_no_sector, holds_nothing, no_sector_changes}
+use Rattle.fs_layout.proofs.Marks.{marks_change}
+use Rattle.fs_layout.proofs.Parts.{owns_acl, owns_default_acl}
+use Rattle.fs_layout.proofs.Places.{after_map}
+use Rattle.fs_layout.proofs.Pointers.{turns_acl, turns_default_acl}
+use Rattle.fs_layout.proofs.Saves.{IsSaved}
+use Rattle.fs_layout.proofs.SplicedBytes.{get_or-zeros}
+use Rattle.sector_txn.specs.Sectors.{TxnState, SameStore, PutsOnly}
+use Rattle.sector_txn.proofs.Changes.{changes_joined}
+use Rattle.bit_alloc.specs.declared.bitmap.Bitmap.TheVariants.{Inodes}
+use Rattle.bit_alloc.specs.Bitmaps.{IsNumber, TakesNumber}
+use Rattle.bit_alloc.specs.Room.{bitmaps}
+use Rattle.bit_alloc.specs.Inodes.{IsSound, IsSectorFor, Touches, IsBlank, KeepsFields, KeepsBytes}
+use Rattle.inode_table.specs.Acls.{HasAcl, HasDefaultAcl, with_acl_bits, acl_takes, acls_take}
+use Rattle.inode_table.specs.Inodes.{ClearAreFree}
+use Rattle.inode_table.specs.Storing.{IsForAcls, Stores}
+use Rattle.inode_table.proofs.AclCalls.{bits_shown}
+use Rattle.inode_table.proofs.AclSaved.{bytes_joined}
+use Rattle.inode_table.proofs.Bits.{with_low_bits}
+use Rattle.inode_table.proofs.Freed.{mark_keeps_free_sectors}
+use Rattle.inode_table.proofs.Saved.{fields_keep_bytes, saved_keeps_bytes}
+use Rattle.inode_table.proofs.Sound.{sound_after, puts_acls, puts_inode_bit, puts_inode}
+use Rattle.inode_table.proofs.StoredAcls.{contents, contents_whole, kept_valid, holds_acl, acl_stays, takes_same}
+use Rattle.inode_table.proofs.Stores.{HasStored, stored, stored_keeps_bytes, content_there}
+
+blank_has_no_sector : (v : Inode) → IsBlank v → HasNoSector v
+unfolding zeros
+blank_has_no_sector v blank = record {
+  acl = blank.acl;
+  default_acl = blank.default;
+  direct = λ k. ap (λ (l : List ℕ). get_or l k 0) blank.direct ∙ get_or-zeros 12 k;
+  indirect = blank.indirect;
+}
+
+-- ---- what has been put so far
+module _ (p : Place) (n : ℕ) (t0 t1 : TxnState) (sound : IsSound p t0) (lt : n < p.inodes)
+    (bit_put : PutsOnly (λ t. t ≡ inode_bitmap + n / 4096) (bitmaps p) 0 t0 t1) where
+  pub made_puts_1 : PutsOnly (IsSectorFor p n) (bitmaps p) 0 t0 t1
+  made_puts_1 = puts_inode_bit n n sound.consistent.place lt bit_put
+
+  module _ (t2 : TxnState) (access_put : PutsOnly (IsForAcls p) (bitmaps p) 1 t1 t2) where
+    pub made_puts_2 : PutsOnly (IsSectorFor p n) (bitmaps p) 1 t0 t2
+    made_puts_2 = changes_joined made_puts_1 (puts_acls p n access_put)
+
+    module _ (t3 : TxnState) (default_put : PutsOnly (IsForAcls p) (bitmaps p) 1 t2 t3) where
+      pub made_puts_3 : PutsOnly (IsSectorFor p n) (bitmaps p) 2 t0 t3
+      made_puts_3 = changes_joined made_puts_2 (puts_acls p n default_put)
+
+      module _ (t4 : TxnState) (inode_put : PutsOnly (λ t. t ≡ p.table + n / 4) [] 1 t3 t4) where
+        pub made_puts_4 : PutsOnly (IsSectorFor p n) (bitmaps p) 3 t0 t4
+        made_puts_4 = changes_joined made_puts_3 (puts_inode p n inode_put)
+
+-- ---- where the inode's bit is set
+module _ (p : Place) (n : ℕ) (inode : Inode) (a : AccessList) (y : ℕ) (t0 t1 t2 : TxnState)
+    (sound : IsSound p t0) (clear : ClearAreFree p t0.sectors) (taken : TakesNumber p Inodes n t0.sectors t1.sectors)
+    (blank : IsBlank inode) (valid : IsAcl a) (access : Stores p 0 y (contents (kept_acl a)) t1.sectors t2.sectors) where
+  first : ChangesInode p n t0.sectors t1.sectors × (inode_at p t1.sectors n ≡ inode_at p t0.sectors n)
+  first = marks_change sound.consistent taken.free.1 taken.mark
+
+  was_free : inode_at p t1.sectors n ≡ free_inode
+  was_free = first.1 ∙ clear n taken.free.1 taken.free.2
+
+  now : IsConsistent p t1.sectors
+  now = stays_consistent sound.consistent taken.free.1 first.0
+
+  begun : ChangesBlocks p free_inode inode t1.sectors t1.sectors
+  begun =
+      let apart : IsOwnedApart p t1.sectors free_inode = subst (λ (u : Inode). IsOwnedApart p t1.sectors u) was_free (owned_is_apart now n taken.free.1) in
+      no_sector_changes now.place now.sectors apart free_has_no_sector (blank_has_no_sector inode blank)
+
+  apart : IsOwnedApart p t1.sectors inode
+  apart =
+      apart_after now.place (subst (λ (u : Inode). IsOwnedApart p t1.sectors u) was_free (owned_is_apart now n taken.free.1)) begun.owned
+
+  second : HasStored p inode (record inode { acl = y }) AccessAcl (acl_takes 0 (kept_acl a)) t1.sectors t2.sectors
+  unfolding part
+  second =
+      subst (λ (k : ℕ). HasStored p inode (record inode { acl = y }) AccessAcl k t1.sectors t2.sectors) (takes_same 0 (kept_acl a))
+      (stored {x = 0} now.place now.sectors apart blank.acl {y = y} (contents (kept_acl a)) (λ e. cc) (contents_whole (kept_acl a) (kept_valid a valid)) access
+      (λ keeps. turns_acl t1.sectors t2.sectors inode 0 y blank.acl keeps))
+
+  -- as many sectors are free as before, less that of the access ACL
+  pub left_free : free_sectors p t0.sectors ≤ free_sectors p t2.sectors + acl_takes 0 (kept_acl a)
+  left_free = let same = mark_keeps_free_sectors p taken.mark in let f = second.free in omega (arith, same, f)
+
+  module _ (d : Option AccessList) (z : ℕ) (t3 t4 : TxnState) (valid_default : IsSomeAcl d) (default : Stores p 0 z (contents d) t2.sectors t3.sectors)
+      (fits : FitsInode (record inode { mode = with_low_bits inode.mode (mode_bits a); acl = y; default_acl = z }))
+      (saves : Saves p n (record inode { mode = with_low_bits inode.mode (mode_bits a); acl = y; default_acl = z }) t3.sectors t4.sectors) where
+    third : HasStored p (record inode { acl = y }) (record inode { acl = y; default_acl = z }) DefaultAcl (acl_takes 0 d) t2.sectors t3.sectors
+    unfolding part
+    third =
+        let u : Inode = record inode { acl = y } in
+        subst (λ (k : ℕ). HasStored p u (record u { default_acl = z }) DefaultAcl k t2.sectors t3.sectors) (takes_same 0 d)
+        (stored {x = 0} now.place second.changes.owned.sectors (apart_after now.place apart second.changes.owned) blank.default {y = z} (contents d) (λ e. cc)
+        (contents_whole d valid_default) default (λ keeps. turns_default_acl t2.sectors t3.sectors u 0 z blank.default keeps))
+
+    changes : ChangesBlocks p free_inode (record inode { mode = with_low_bits inode.mode (mode_bits a); acl = y; default_acl = z }) t1.sectors t3.sectors
+    changes =
+        let both = both_changes now.place second.changes third.changes in
+        both_changes now.place (both_changes now.place begun both)
+        (fields_change now.place third.changes.owned.sectors (apart_after now.place apart both.owned) refl refl refl refl)
+
+    saved : IsConsistent p t4.sectors
+        × IsSaved p n (record inode { mode = with_low_bits inode.mode (mode_bits a); acl = y; default_acl = z }) t1.sectors t3.sectors t4.sectors
+    saved = saved_stays_consistent now taken.free.1 was_free fits changes saves
+
+    pub made_sound : SameStore t0 t4 → IsSound p t4
+    made_sound store =
+        let number : IsNumber p Inodes n = (taken.free.0, taken.free.1) in
+        sound_after sound store saved.0
+        (λ m few none. saved.1.inode_bits m few ∙ taken.mark.bits m few (λ e. none (subst (IsNumber p Inodes) (sym e) number)))
+
+    pub made_used : IsTrue (bit t4.sectors inode_bitmap n)
+    made_used =
+        let few = sound.consistent.place.most_inodes in
+        let lt = taken.free.1 in
+        saved.1.inode_bits n (omega (arith, few, lt)) ∙ taken.set
+
+    pub made_touches : PutsOnly (IsSectorFor p n) (bitmaps p) 3 t0 t4 → Touches p n (acls_take a d) 3 t0 t4
+    made_touches puts =
+        let from = after_map now.place in
+        let f = left_free in
+        let g = third.free in
+        record {
+          puts = puts;
+          super = saves.others 0 (λ e. omega (arith, from, e)) ∙ third.low 0 (omega arith) ∙ second.low 0 (omega arith) ∙ taken.mark.others 0 (λ e. omega (arith, e));
+          inode = both_inodes now.place first.0 saved.1.changes;
+          free = omega (arith, f, g, saved.1.free);
+        }
+
+    pub made_fields : KeepsFields (with_acl_bits inode a) (inode_at p t4.sectors n)
+    made_fields =
+        subst (KeepsFields (with_acl_bits inode a)) (sym saved.1.is) (record { kind = refl; mode = refl; uid = refl; gid = refl; names = refl; parent = refl })
+
+    pub made_empty : Holds t4.sectors (inode_at p t4.sectors n) []
+    made_empty =
+        let u : Inode = record inode { acl = y; default_acl = z } in
+        let w : Inode = record inode { mode = with_low_bits inode.mode (mode_bits a); acl = y; default_acl = z } in
+        let acls : KeepsBytes t1.sectors t3.sectors inode u = bytes_joined (stored_keeps_bytes second (λ k e. cc) refl refl) (stored_keeps_bytes third (λ k e. cc) refl refl) in
+        let all = saved_keeps_bytes (bytes_joined acls (fields_keep_bytes t3.sectors u w refl refl refl)) saved.1.keeps in
+        subst (λ (v : Inode). Holds t4.sectors v []) (sym saved.1.is)
+        (all.bytes [] (holds_nothing t1.sectors inode (blank_has_no_sector inode blank) blank.size))
+
+    pub made_access : HasAcl t4.sectors (inode_at p t4.sectors n) a
+    unfolding part
+    made_access =
+        let w : Inode = record inode { mode = with_low_bits inode.mode (mode_bits a); acl = y; default_acl = z } in
+        let first_there = holds_acl t2.sectors y (kept_acl a) (content_there p 0 y t1.sectors t2.sectors now.place (contents (kept_acl a)) access) in
+        let there = acl_stays t2.sectors t3.sectors y (kept_acl a) (λ some. third.others y (record { at = AccessAcl; is = refl; some = some }) (λ e. cc)) first_there in
+        let has : HasAcl t4.sectors w a = record {
+          valid = valid;
+          stored = acl_stays t3.sectors t4.sectors y (kept_acl a) (λ some. saved.1.keeps y (owns_acl t3.sectors w some)) there;
+          bits = bits_shown inode.mode a;
+        } in
+        subst (λ (u : Inode). HasAcl t4.sectors u a) (sym saved.1.is) has
+
+    pub made_default : HasDefaultAcl t4.sectors (inode_at p t4.sectors n) d
+    made_default =
+        let w : Inode = record inode { mode = with_low_bits inode.mode (mode_bits a); acl = y; default_acl = z } in
+        let there = holds_acl t3.sectors z d (content_there p 0 z t2.sectors t3.sectors now.place (contents d) default) in
+        let has : HasDefaultAcl t4.sectors w d = record {
+          valid = valid_default;
+          stored = acl_stays t3.sectors t4.sectors z d (λ some. saved.1.keeps z (owns_default_acl t3.sectors w some)) there;
+        } in
+        subst (λ (u : Inode). HasDefaultAcl t4.sectors u d) (sym saved.1.is) has

@@ -1,0 +1,104 @@
+-- What is sound stays so, and what calls in a row put and take.
+use Rattle.std.proofs.Common.{◌≡◌, ◌≢◌, ℕ, ◌+◌, ◌*◌, ◌/◌, ◌<◌, ◌≤◌, List, [], refl, sym, ap, subst, ◌∙◌, arith, inl, inr, IsTrue}
+use Rattle.std.proofs.lemmas.Bool.{cases_lt}
+use Rattle.fs_layout.specs.declared.place.Place.{Place}
+use Rattle.fs_layout.specs.Bytes.{SectorMap, IsSector}
+use Rattle.fs_layout.specs.Place.{IsPlace}
+use Rattle.fs_layout.specs.Images.{IsData, HasWholeTables, map_bits, bit, inode_bitmap, block_bitmap}
+use Rattle.fs_layout.specs.Ownership.{IsConsistent}
+use Rattle.fs_layout.proofs.Places.{after_map, before_data}
+use Rattle.fs_layout.proofs.Bits.{bit_kept}
+use Rattle.sector_txn.specs.Sectors.{TxnState, SameStore, IsUnchanged, IsPut, PutsOnly}
+use Rattle.sector_txn.proofs.Changes.{changes_nothing, changes_read, changes_put, changes_beside, changes_weaker, store_joined}
+use Rattle.bit_alloc.specs.declared.bitmap.Bitmap.{Bitmap}
+use Rattle.bit_alloc.specs.declared.bitmap.Bitmap.TheVariants.{Inodes, Blocks}
+use Rattle.bit_alloc.specs.Bitmaps.{HasBitmaps, HasRestSet, IsNumber, bit_count, first_sector}
+use Rattle.bit_alloc.specs.Room.{bitmaps, HasSpare}
+use Rattle.bit_alloc.specs.Inodes.{IsSound, IsSectorFor}
+use Rattle.inode_table.specs.Storing.{IsForAcls}
+
+-- ---- a consistent image is sound
+-- what is asked of one bitmap
+abbrev RestOf : Place → SectorMap → Bitmap → Type 0
+RestOf p image map = (n : ℕ) → n < bit_count p map → (IsNumber p map n → ⊥) → IsTrue (bit image (first_sector map) n)
+
+-- the bits of the block bitmap follow from consistency, and those of the inodes' that are no inode's stay
+pub sound_after : {p : Place} {old new : TxnState} → IsSound p old → SameStore old new → IsConsistent p new.sectors
+    → ((m : ℕ) → m < 4096 → (IsNumber p Inodes m → ⊥) → bit new.sectors inode_bitmap m ≡ bit old.sectors inode_bitmap m) → IsSound p new
+sound_after {p} {old} {new} sound store h same = record {
+  consistent = h;
+  bitmaps = record {
+    place = h.place;
+    disk = let b = sound.bitmaps.disk in let e = store.reads.narrowed.size in omega (arith, b, e);
+    tables = h.sectors;
+    rest = λ map. elim map as (λ k. RestOf p new.sectors k) [
+      | Inodes ↦ λ m few none. same m few none ∙ sound.bitmaps.rest Inodes m few none
+      | Blocks ↦ λ m few none. (h.block_bits m few).1 (elim (cases_lt m p.first_data) [
+        | inl low ↦ inl low
+        | inr ge ↦ elim (cases_lt m p.sectors) [ inl lt ↦ absurd (none (ge, lt)) | inr past ↦ inr (inl past) ]
+      ])
+    ];
+  };
+}
+
+-- bitmaps and inode table stay where a data sector is put
+pub data_put_keeps_bitmaps : {p : Place} {s : ℕ} {x : List ℕ} {old new : TxnState} → HasBitmaps p old → IsPut s x old new → p.first_data ≤ s → HasBitmaps p new
+data_put_keeps_bitmaps {p} {s} {x} {old} {new} b put ge =
+    let from = after_map b.place in
+    let to = before_data b.place in
+    let low : (t : ℕ) → t < p.first_data → new.sectors t ≡ old.sectors t = λ t lt. put.sectors.others t (λ e. omega (arith, lt, ge, e)) in
+    record {
+      place = b.place;
+      disk = let d = b.disk in let e = put.store.reads.narrowed.size in omega (arith, d, e);
+      tables = λ t past lt. subst IsSector (sym (low t lt)) (b.tables t past lt);
+      rest = λ map. elim map as (λ k. RestOf p new.sectors k) [
+        | Inodes ↦ λ m few none. bit_kept old.sectors new.sectors inode_bitmap m (low (inode_bitmap + m / 4096) (omega (arith, few, from, to))) ∙ b.rest Inodes m few none
+        | Blocks ↦ λ m few none.
+            bit_kept old.sectors new.sectors block_bitmap m (low (block_bitmap + m / 4096) (omega (arith, few, from, to))) ∙ b.rest Blocks m few none
+      ];
+    }
+
+-- ---- one put
+-- a data sector is put
+pub puts_data : (p : Place) (shared : List ℕ) {s : ℕ} {x : List ℕ} {old new : TxnState} → IsPut s x old new → IsData p s → PutsOnly (IsForAcls p) shared 1 old new
+puts_data p shared {s} put at = changes_put {R = IsForAcls p} (changes_nothing shared) put (inr at)
+
+-- a sector of the block bitmap is put
+pub puts_bitmap : (p : Place) {s : ℕ} {old new : TxnState} → s < map_bits p → PutsOnly (λ t. t ≡ block_bitmap + s / 4096) (bitmaps p) 0 old new
+    → PutsOnly (IsForAcls p) (bitmaps p) 0 old new
+puts_bitmap p few puts = changes_weaker {Q = IsForAcls p} (λ t e. inl (omega (arith, e), omega (arith, e, few))) (omega arith) puts
+
+-- a sector is read and put
+pub reads_and_puts : {n : ℕ} {x : List ℕ} {old mid new : TxnState} → IsUnchanged old mid → IsPut n x mid new → PutsOnly (λ t. t ≡ n) [] 1 old new
+reads_and_puts {n} same put = changes_put {R = λ t. t ≡ n} (changes_read (changes_nothing []) same) put refl
+
+-- the inode's sector is put
+pub puts_inode : (p : Place) (n : ℕ) {old new : TxnState} → PutsOnly (λ t. t ≡ p.table + n / 4) [] 1 old new
+    → PutsOnly (IsSectorFor p n) (bitmaps p) 1 old new
+puts_inode p n puts = changes_weaker {Q = IsSectorFor p n} (λ t e. inr (inl e)) (omega arith) (changes_beside puts (bitmaps p))
+
+-- there is room for one more
+pub room_left : (p : Place) (more : ℕ) (txn : TxnState) → HasSpare p more txn → 1 ≤ more → 0 < txn.room
+room_left p more txn spare some = omega (arith, spare, some)
+
+-- ---- several calls
+-- so many can be put after one that has put so many
+pub spare_left : {R : ℕ → Type 0} (p : Place) (put left : ℕ) (old new : TxnState) → HasSpare p (put + left) old → PutsOnly R (bitmaps p) put old new → HasSpare p left new
+spare_left p put left old new spare puts = omega (arith, spare, puts.room)
+
+-- nothing has been put
+pub puts_nothing : {R : ℕ → Type 0} (p : Place) {old new : TxnState} → IsUnchanged old new → PutsOnly R (bitmaps p) 0 old new
+puts_nothing p same = changes_read (changes_nothing (bitmaps p)) same
+
+-- the sectors of ACLs are some of those that a call on an inode may put
+pub puts_acls : (p : Place) (n : ℕ) {more : ℕ} {old new : TxnState} → PutsOnly (IsForAcls p) (bitmaps p) more old new
+    → PutsOnly (IsSectorFor p n) (bitmaps p) more old new
+puts_acls p n puts = changes_weaker {Q = IsSectorFor p n} (λ t way. elim way [ inl map ↦ inl map | inr at ↦ inr (inr at) ]) (omega arith) puts
+
+-- so is that of the inode bitmap
+pub puts_inode_bit : {p : Place} (n m : ℕ) {old new : TxnState} → IsPlace p → m < p.inodes → PutsOnly (λ t. t ≡ inode_bitmap + m / 4096) (bitmaps p) 0 old new
+    → PutsOnly (IsSectorFor p n) (bitmaps p) 0 old new
+puts_inode_bit {p} n m place lt puts =
+    let from = after_map place in
+    let few = place.most_inodes in
+    changes_weaker {Q = IsSectorFor p n} (λ t e. inl (omega (arith, e), omega (arith, e, from, few, lt))) (omega arith) puts

@@ -1,0 +1,18 @@
+use Rattle.std.proofs.Common.{◌∙◌, inr, ap, sym}
+use Rattle.fs_layout.specs.declared.inode.Inode.{Inode}
+use Rattle.inode_table.proofs.StoredAcls.{acl_in_data, data_mapped, told_by_mode}
+use Rattle.inode_table.proofs.acls.load_acl.Goals as goal
+
+pub returns-in-Ok-clause-found : goal.returns-in-Ok-clause-found
+returns-in-Ok-clause-found g c = λ a has.
+    told_by_mode (g.S.Sectors.state c.args.s.now).sectors c.args.inode.now a c.in-Ok.acl has c.if-inode-eq0.true c.in-Ok.ensures.ok
+
+pub get-requires-clause-part : goal.get-requires-clause-part
+get-requires-clause-part g c =
+    let there = c.requires.there in
+    inr (data_mapped c.requires.sound (acl_in_data c.requires.sound there.1 (ap (λ (u : Inode). u.acl) there.2) c.if-inode-eq0.false)).0
+
+pub get-requires-clause-on_disk : goal.get-requires-clause-on_disk
+get-requires-clause-on_disk g c =
+    let there = c.requires.there in
+    (data_mapped c.requires.sound (acl_in_data c.requires.sound there.1 (ap (λ (u : Inode). u.acl) there.2) c.if-inode-eq0.false)).1

@@ -1,0 +1,127 @@
+use Rattle.std.proofs.Common.{◌≡◌, ◌^◌, ◌<◌, ℕ, sym, ap, subst, arith}
+use Rattle.fs_layout.specs.declared.inode.Inode.{Inode}
+use Rattle.fs_layout.specs.Inode.{FitsInode}
+use Rattle.fs_layout.specs.Changes.{Saves}
+use Rattle.fs_layout.specs.StoredAcls.{kept_acl}
+use Rattle.fs_layout.proofs.OneAcl.{mode_small}
+use Rattle.sector_txn.proofs.Changes.{store_joined}
+use Rattle.inode_table.specs.Storing.{Stores}
+use Rattle.inode_table.proofs.Bits.{with_bits_fits, with_low_bits}
+use Rattle.inode_table.proofs.StoredAcls.{acl_in_data}
+use Rattle.inode_table.proofs.AclCalls.{access_sound, access_touches, access_fields, access_bytes, access_has, access_keeps_default, access_bit}
+use Rattle.inode_table.proofs.acls.save_acl.Goals as goal
+
+pub store-requires-clause-owned : goal.store-requires-clause-owned
+store-requires-clause-owned g c = acl_in_data c.requires.sound c.requires.below (ap (λ (u : Inode). u.acl) c.requires.attributes)
+
+pub write_inode-requires-clause-fits : goal.write_inode-requires-clause-fits
+write_inode-requires-clause-fits g c =
+    let v = c.args.inode.now in
+    let small : c.in_ok-sector.sector < 2 ^ 32 = omega arith in
+    subst (λ (m : ℕ). FitsInode (record v { mode = m; acl = c.in_ok-sector.sector })) (sym c.with_bits.ensures)
+    (with_bits_fits v _ c.in_ok-sector.sector v.default_acl c.requires.fits c.requires.used c.requires.no_link (mode_small c.args.acl.now) small c.requires.fits.default_acl)
+
+pub returns-clause-sound : goal.returns-clause-sound
+returns-clause-sound g c =
+    let p = c.args.place in
+    let v = c.args.inode.now in
+    let a = c.args.acl.now in
+    let y = c.in_ok-sector.sector in
+    let t0 = g.S.Sectors.state c.args.s.now in
+    let t1 = g.S.Sectors.state c.store.new.s in
+    let t2 = g.S.Sectors.state c.write_inode.new.s in
+    let small : y < 2 ^ 32 = omega arith in
+    let way = subst (λ content. Stores p v.acl y content t0.sectors t1.sectors) c.kept_content.ensures.content c.in_ok-sector.ensures.stored in
+    let fits = with_bits_fits v _ y v.default_acl c.requires.fits c.requires.used c.requires.no_link (mode_small a) small c.requires.fits.default_acl in
+    let saves = subst (λ (m : ℕ). Saves p c.args.n (record v { mode = m; acl = y }) t1.sectors t2.sectors) c.with_bits.ensures c.in_ok-write_inode.ensures.saved in
+    access_sound p c.args.n v a y t0 t1 t2 c.requires.sound c.requires.below c.requires.attributes c.kept_content.ensures.valid way fits saves (store_joined c.in_ok-sector.ensures.store c.in_ok-write_inode.ensures.store)
+
+pub returns-clause-touches : goal.returns-clause-touches
+returns-clause-touches g c =
+    let p = c.args.place in
+    let v = c.args.inode.now in
+    let a = c.args.acl.now in
+    let y = c.in_ok-sector.sector in
+    let t0 = g.S.Sectors.state c.args.s.now in
+    let t1 = g.S.Sectors.state c.store.new.s in
+    let t2 = g.S.Sectors.state c.write_inode.new.s in
+    let small : y < 2 ^ 32 = omega arith in
+    let way = subst (λ content. Stores p v.acl y content t0.sectors t1.sectors) c.kept_content.ensures.content c.in_ok-sector.ensures.stored in
+    let fits = with_bits_fits v _ y v.default_acl c.requires.fits c.requires.used c.requires.no_link (mode_small a) small c.requires.fits.default_acl in
+    let saves = subst (λ (m : ℕ). Saves p c.args.n (record v { mode = m; acl = y }) t1.sectors t2.sectors) c.with_bits.ensures c.in_ok-write_inode.ensures.saved in
+    access_touches p c.args.n v a y t0 t1 t2 c.requires.sound c.requires.below c.requires.attributes c.kept_content.ensures.valid way fits saves c.in_ok-sector.ensures.puts c.in_ok-write_inode.ensures.puts
+
+pub returns-clause-fields : goal.returns-clause-fields
+returns-clause-fields g c =
+    let p = c.args.place in
+    let v = c.args.inode.now in
+    let a = c.args.acl.now in
+    let y = c.in_ok-sector.sector in
+    let t0 = g.S.Sectors.state c.args.s.now in
+    let t1 = g.S.Sectors.state c.store.new.s in
+    let t2 = g.S.Sectors.state c.write_inode.new.s in
+    let small : y < 2 ^ 32 = omega arith in
+    let way = subst (λ content. Stores p v.acl y content t0.sectors t1.sectors) c.kept_content.ensures.content c.in_ok-sector.ensures.stored in
+    let fits = with_bits_fits v _ y v.default_acl c.requires.fits c.requires.used c.requires.no_link (mode_small a) small c.requires.fits.default_acl in
+    let saves = subst (λ (m : ℕ). Saves p c.args.n (record v { mode = m; acl = y }) t1.sectors t2.sectors) c.with_bits.ensures c.in_ok-write_inode.ensures.saved in
+    access_fields p c.args.n v a y t0 t1 t2 c.requires.sound c.requires.below c.requires.attributes c.kept_content.ensures.valid way fits saves
+
+pub returns-clause-bytes : goal.returns-clause-bytes
+returns-clause-bytes g c =
+    let p = c.args.place in
+    let v = c.args.inode.now in
+    let a = c.args.acl.now in
+    let y = c.in_ok-sector.sector in
+    let t0 = g.S.Sectors.state c.args.s.now in
+    let t1 = g.S.Sectors.state c.store.new.s in
+    let t2 = g.S.Sectors.state c.write_inode.new.s in
+    let small : y < 2 ^ 32 = omega arith in
+    let way = subst (λ content. Stores p v.acl y content t0.sectors t1.sectors) c.kept_content.ensures.content c.in_ok-sector.ensures.stored in
+    let fits = with_bits_fits v _ y v.default_acl c.requires.fits c.requires.used c.requires.no_link (mode_small a) small c.requires.fits.default_acl in
+    let saves = subst (λ (m : ℕ). Saves p c.args.n (record v { mode = m; acl = y }) t1.sectors t2.sectors) c.with_bits.ensures c.in_ok-write_inode.ensures.saved in
+    access_bytes p c.args.n v a y t0 t1 t2 c.requires.sound c.requires.below c.requires.attributes c.kept_content.ensures.valid way fits saves
+
+pub returns-clause-access : goal.returns-clause-access
+returns-clause-access g c =
+    let p = c.args.place in
+    let v = c.args.inode.now in
+    let a = c.args.acl.now in
+    let y = c.in_ok-sector.sector in
+    let t0 = g.S.Sectors.state c.args.s.now in
+    let t1 = g.S.Sectors.state c.store.new.s in
+    let t2 = g.S.Sectors.state c.write_inode.new.s in
+    let small : y < 2 ^ 32 = omega arith in
+    let way = subst (λ content. Stores p v.acl y content t0.sectors t1.sectors) c.kept_content.ensures.content c.in_ok-sector.ensures.stored in
+    let fits = with_bits_fits v _ y v.default_acl c.requires.fits c.requires.used c.requires.no_link (mode_small a) small c.requires.fits.default_acl in
+    let saves = subst (λ (m : ℕ). Saves p c.args.n (record v { mode = m; acl = y }) t1.sectors t2.sectors) c.with_bits.ensures c.in_ok-write_inode.ensures.saved in
+    access_has p c.args.n v a y t0 t1 t2 c.requires.sound c.requires.below c.requires.attributes c.kept_content.ensures.valid way fits saves
+
+pub returns-clause-default : goal.returns-clause-default
+returns-clause-default g c =
+    let p = c.args.place in
+    let v = c.args.inode.now in
+    let a = c.args.acl.now in
+    let y = c.in_ok-sector.sector in
+    let t0 = g.S.Sectors.state c.args.s.now in
+    let t1 = g.S.Sectors.state c.store.new.s in
+    let t2 = g.S.Sectors.state c.write_inode.new.s in
+    let small : y < 2 ^ 32 = omega arith in
+    let way = subst (λ content. Stores p v.acl y content t0.sectors t1.sectors) c.kept_content.ensures.content c.in_ok-sector.ensures.stored in
+    let fits = with_bits_fits v _ y v.default_acl c.requires.fits c.requires.used c.requires.no_link (mode_small a) small c.requires.fits.default_acl in
+    let saves = subst (λ (m : ℕ). Saves p c.args.n (record v { mode = m; acl = y }) t1.sectors t2.sectors) c.with_bits.ensures c.in_ok-write_inode.ensures.saved in
+    access_keeps_default p c.args.n v a y t0 t1 t2 c.requires.sound c.requires.below c.requires.attributes c.kept_content.ensures.valid way fits saves
+
+pub returns-clause-used : goal.returns-clause-used
+returns-clause-used g c =
+    let p = c.args.place in
+    let v = c.args.inode.now in
+    let a = c.args.acl.now in
+    let y = c.in_ok-sector.sector in
+    let t0 = g.S.Sectors.state c.args.s.now in
+    let t1 = g.S.Sectors.state c.store.new.s in
+    let t2 = g.S.Sectors.state c.write_inode.new.s in
+    let small : y < 2 ^ 32 = omega arith in
+    let way = subst (λ content. Stores p v.acl y content t0.sectors t1.sectors) c.kept_content.ensures.content c.in_ok-sector.ensures.stored in
+    let fits = with_bits_fits v _ y v.default_acl c.requires.fits c.requires.used c.requires.no_link (mode_small a) small c.requires.fits.default_acl in
+    let saves = subst (λ (m : ℕ). Saves p c.args.n (record v { mode = m; acl = y }) t1.sectors t2.sectors) c.with_bits.ensures c.in_ok-write_inode.ensures.saved in
+    access_bit p c.args.n v a y t0 t1 t2 c.requires.sound c.requires.below c.requires.attributes c.kept_content.ensures.valid way fits saves

@@ -1,0 +1,126 @@
+use Rattle.std.proofs.Common.{ap, arith}
+use Rattle.fs_layout.proofs.Free.{free_fits}
+use Rattle.bit_alloc.proofs.Transactions.{bitmaps_unchanged}
+use Rattle.inode_table.proofs.Sound.{spare_left, room_left}
+use Rattle.inode_table.proofs.StoredAcls.{acl_in_data, default_acl_in_data}
+use Rattle.inode_table.proofs.Freeing.{puts_2, puts_3, puts_4, puts_5, free_is, free_unused, free_sound, free_touches}
+use Rattle.inode_table.proofs.inodes.free_inode.Goals as goal
+
+pub give-requires-clause-bitmaps : goal.give-requires-clause-bitmaps
+give-requires-clause-bitmaps g c =
+    bitmaps_unchanged c.args.place (g.S.Sectors.state c.args.s.now) (g.S.Sectors.state c.load.new.s) c.requires.sound.bitmaps c.in_ok-inode.ensures.same
+
+pub give_sector-requires-clause-owned : goal.give_sector-requires-clause-owned
+give_sector-requires-clause-owned g c = acl_in_data c.requires.sound c.requires.number.1 (ap (λ v. v.acl) c.in_ok-inode.ensures.found)
+
+pub give_sector-requires-clause-room : goal.give_sector-requires-clause-room
+give_sector-requires-clause-room g c =
+    let p = c.args.place in
+    let t0 = g.S.Sectors.state c.args.s.now in
+    let t1 = g.S.Sectors.state c.load.new.s in
+    let t2 = g.S.Sectors.state c.give.new.s in
+    let puts = puts_2 p c.args.n t0 t1 t2 c.requires.sound c.requires.number c.in_ok-inode.ensures.same c.in_ok-give.ensures.puts in
+    spare_left p 0 0 t0 t2 (omega (arith, c.requires.spare)) puts
+
+pub give_sector-requires-2-clause-owned : goal.give_sector-requires-2-clause-owned
+give_sector-requires-2-clause-owned g c = default_acl_in_data c.requires.sound c.requires.number.1 (ap (λ v. v.default_acl) c.in_ok-inode.ensures.found)
+
+pub give_sector-requires-2-clause-room : goal.give_sector-requires-2-clause-room
+give_sector-requires-2-clause-room g c =
+    let p = c.args.place in
+    let t0 = g.S.Sectors.state c.args.s.now in
+    let t1 = g.S.Sectors.state c.load.new.s in
+    let t2 = g.S.Sectors.state c.give.new.s in
+    let t3 = g.S.Sectors.state c.give_sector.new.s in
+    let puts = puts_3 p c.args.n t0 t1 t2 c.requires.sound c.requires.number c.in_ok-inode.ensures.same c.in_ok-give.ensures.puts
+    t3 c.in_ok-give_sector.ensures.puts in
+    spare_left p 0 0 t0 t3 (omega (arith, c.requires.spare)) puts
+
+pub write_inode-requires-clause-fits : goal.write_inode-requires-clause-fits
+write_inode-requires-clause-fits g c = free_fits
+
+pub write_inode-requires-clause-room : goal.write_inode-requires-clause-room
+write_inode-requires-clause-room g c = λ none.
+    let p = c.args.place in
+    let t0 = g.S.Sectors.state c.args.s.now in
+    let t1 = g.S.Sectors.state c.load.new.s in
+    let t2 = g.S.Sectors.state c.give.new.s in
+    let t3 = g.S.Sectors.state c.give_sector.new.s in
+    let t4 = g.S.Sectors.state c.give_sector-2.new.s in
+    let puts = puts_4 p c.args.n t0 t1 t2 c.requires.sound c.requires.number c.in_ok-inode.ensures.same c.in_ok-give.ensures.puts
+    t3 c.in_ok-give_sector.ensures.puts t4 c.in_ok-give_sector-2.ensures.puts in
+    room_left p 1 t4 (spare_left p 0 1 t0 t4 (omega (arith, c.requires.spare)) puts) (omega arith)
+
+pub returns-clause-store : goal.returns-clause-store
+returns-clause-store g c =
+    let p = c.args.place in
+    let n = c.args.n in
+    let t0 = g.S.Sectors.state c.args.s.now in
+    let t1 = g.S.Sectors.state c.load.new.s in
+    let t2 = g.S.Sectors.state c.give.new.s in
+    let t3 = g.S.Sectors.state c.give_sector.new.s in
+    let t4 = g.S.Sectors.state c.give_sector-2.new.s in
+    let t5 = g.S.Sectors.state c.write_inode.new.s in
+    let puts = puts_5 p n t0 t1 t2 c.requires.sound c.requires.number c.in_ok-inode.ensures.same c.in_ok-give.ensures.puts
+    t3 c.in_ok-give_sector.ensures.puts t4 c.in_ok-give_sector-2.ensures.puts t5 c.in_ok-write_inode.ensures.puts in
+    puts.store
+
+pub returns-clause-sound : goal.returns-clause-sound
+returns-clause-sound g c =
+    let p = c.args.place in
+    let n = c.args.n in
+    let t0 = g.S.Sectors.state c.args.s.now in
+    let t1 = g.S.Sectors.state c.load.new.s in
+    let t2 = g.S.Sectors.state c.give.new.s in
+    let t3 = g.S.Sectors.state c.give_sector.new.s in
+    let t4 = g.S.Sectors.state c.give_sector-2.new.s in
+    let t5 = g.S.Sectors.state c.write_inode.new.s in
+    let puts = puts_5 p n t0 t1 t2 c.requires.sound c.requires.number c.in_ok-inode.ensures.same c.in_ok-give.ensures.puts
+    t3 c.in_ok-give_sector.ensures.puts t4 c.in_ok-give_sector-2.ensures.puts t5 c.in_ok-write_inode.ensures.puts in
+    free_sound p n c.in_ok-inode.inode t0 t1 t2 t3 t4 t5 c.requires.sound c.requires.number c.requires.empty c.in_ok-inode.ensures.found c.in_ok-inode.ensures.same
+    c.in_ok-give.ensures.given c.in_ok-give_sector.ensures.given c.in_ok-give_sector-2.ensures.given c.in_ok-write_inode.ensures.saved puts
+
+pub returns-clause-touches : goal.returns-clause-touches
+returns-clause-touches g c =
+    let p = c.args.place in
+    let n = c.args.n in
+    let t0 = g.S.Sectors.state c.args.s.now in
+    let t1 = g.S.Sectors.state c.load.new.s in
+    let t2 = g.S.Sectors.state c.give.new.s in
+    let t3 = g.S.Sectors.state c.give_sector.new.s in
+    let t4 = g.S.Sectors.state c.give_sector-2.new.s in
+    let t5 = g.S.Sectors.state c.write_inode.new.s in
+    let puts = puts_5 p n t0 t1 t2 c.requires.sound c.requires.number c.in_ok-inode.ensures.same c.in_ok-give.ensures.puts
+    t3 c.in_ok-give_sector.ensures.puts t4 c.in_ok-give_sector-2.ensures.puts t5 c.in_ok-write_inode.ensures.puts in
+    free_touches p n c.in_ok-inode.inode t0 t1 t2 t3 t4 t5 c.requires.sound c.requires.number c.requires.empty c.in_ok-inode.ensures.found c.in_ok-inode.ensures.same
+    c.in_ok-give.ensures.given c.in_ok-give_sector.ensures.given c.in_ok-give_sector-2.ensures.given c.in_ok-write_inode.ensures.saved puts
+
+pub returns-clause-free : goal.returns-clause-free
+returns-clause-free g c =
+    let p = c.args.place in
+    let n = c.args.n in
+    let t0 = g.S.Sectors.state c.args.s.now in
+    let t1 = g.S.Sectors.state c.load.new.s in
+    let t2 = g.S.Sectors.state c.give.new.s in
+    let t3 = g.S.Sectors.state c.give_sector.new.s in
+    let t4 = g.S.Sectors.state c.give_sector-2.new.s in
+    let t5 = g.S.Sectors.state c.write_inode.new.s in
+    let puts = puts_5 p n t0 t1 t2 c.requires.sound c.requires.number c.in_ok-inode.ensures.same c.in_ok-give.ensures.puts
+    t3 c.in_ok-give_sector.ensures.puts t4 c.in_ok-give_sector-2.ensures.puts t5 c.in_ok-write_inode.ensures.puts in
+    free_is p n c.in_ok-inode.inode t0 t1 t2 t3 t4 t5 c.requires.sound c.requires.number c.requires.empty c.in_ok-inode.ensures.found c.in_ok-inode.ensures.same
+    c.in_ok-give.ensures.given c.in_ok-give_sector.ensures.given c.in_ok-give_sector-2.ensures.given c.in_ok-write_inode.ensures.saved puts
+
+pub returns-clause-unused : goal.returns-clause-unused
+returns-clause-unused g c =
+    let p = c.args.place in
+    let n = c.args.n in
+    let t0 = g.S.Sectors.state c.args.s.now in
+    let t1 = g.S.Sectors.state c.load.new.s in
+    let t2 = g.S.Sectors.state c.give.new.s in
+    let t3 = g.S.Sectors.state c.give_sector.new.s in
+    let t4 = g.S.Sectors.state c.give_sector-2.new.s in
+    let t5 = g.S.Sectors.state c.write_inode.new.s in
+    let puts = puts_5 p n t0 t1 t2 c.requires.sound c.requires.number c.in_ok-inode.ensures.same c.in_ok-give.ensures.puts
+    t3 c.in_ok-give_sector.ensures.puts t4 c.in_ok-give_sector-2.ensures.puts t5 c.in_ok-write_inode.ensures.puts in
+    free_unused p n c.in_ok-inode.inode t0 t1 t2 t3 t4 t5 c.requires.sound c.requires.number c.requires.empty c.in_ok-inode.ensures.found c.in_ok-inode.ensures.same
+    c.in_ok-give.ensures.given c.in_ok-give_sector.ensures.given c.in_ok-give_sector-2.ensures.given c.in_ok-write_inode.ensures.saved puts

@@ -1,0 +1,3 @@
+pub mod Acls
+pub mod Inodes
+pub mod Storing

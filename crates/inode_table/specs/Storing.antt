@@ -1,0 +1,34 @@
+-- The sector of an ACL.
+--     IsForAcls        the sectors that storing one may put
+--     GivesBack        a sector is given back
+--     Stores        content is stored, in the sector that is there or in one that is taken
+--     takes_for        how many sectors that takes
+use Rattle.std.specs.Prelude.{◌≡◌, ◌≢◌, ℕ, zero, suc, ◌<◌, ◌≤◌, List, Option, Some, None, ◌⊎◌}
+use Rattle.fs_layout.specs.declared.place.Place.{Place}
+use Rattle.fs_layout.specs.Bytes.{SectorMap}
+use Rattle.fs_layout.specs.Images.{IsData}
+use Rattle.fs_layout.specs.Changes.{Puts}
+use Rattle.bit_alloc.specs.declared.bitmap.Bitmap.TheVariants.{Blocks}
+use Rattle.bit_alloc.specs.Bitmaps.{TakesNumber, GivesNumber}
+
+-- a sector of a bitmap, or of the data
+abbrev pub IsForAcls : Place → ℕ → Type 0
+IsForAcls p s = ((128 ≤ s) × (s < p.table)) ⊎ IsData p s
+
+-- sector x becomes free; 0 is none, and then nothing changes
+abbrev pub GivesBack : Place → ℕ → SectorMap → SectorMap → Type 0
+GivesBack p x old new = ((x ≡ 0) × ((s : ℕ) → new s ≡ old s)) ⊎ ((x ≢ 0) × GivesNumber p Blocks x old new)
+
+-- Sector y has the content, where x had it before: the same sector, or one that is taken where x is 0. Without content x is
+-- given back and y is 0.
+abbrev pub Stores : Place → ℕ → ℕ → Option (List ℕ) → SectorMap → SectorMap → Type 0
+Stores p x y None old new = (y ≡ 0) × GivesBack p x old new
+Stores p x y (Some content) old new =
+    ((x ≢ 0) × (y ≡ x) × Puts x content old new)
+    ⊎ ((x ≡ 0) × ((mid : SectorMap) × TakesNumber p Blocks y old mid × Puts y content mid new))
+
+-- how many sectors content takes where the inode has sector x for it, or 0
+abbrev pub takes_for : ℕ → Option (List ℕ) → ℕ
+takes_for x None = 0
+takes_for zero (Some content) = 1
+takes_for (suc x) (Some content) = 0

@@ -1,0 +1,124 @@
+//! Inodes of the table.
+
+ghost use Rattle.std.specs.Prelude.{◌≡◌, ◌≢◌, ◌≤◌, ◌<◌, ◌+◌, ◌/◌, ◌⊎◌, ℕ, [], true, false, None, Err, IfOk, OnOk};
+ghost use Rattle.std.specs.Option.{option_copied};
+ghost use Rattle.sector_disk.specs.Disk.{HasCause};
+ghost use Rattle.fs_layout.specs.Place.{IsPlace};
+ghost use Rattle.fs_layout.specs.Inode.{FitsInode, free_inode};
+ghost use Rattle.fs_layout.specs.Images.{HasWholeTables, Holds, bit, free_sectors, inode_at, inode_bitmap};
+ghost use Rattle.fs_layout.specs.Changes.{Saves};
+ghost use Rattle.sector_txn.specs.Sectors.{SameStore, IsUnchanged, PutsOnly};
+ghost use Rattle.bit_alloc.specs.declared.bitmap.Bitmap.TheVariants.{Inodes};
+ghost use Rattle.bit_alloc.specs.Bitmaps.{IsNumber};
+ghost use Rattle.bit_alloc.specs.Room.{HasSpare};
+ghost use Rattle.bit_alloc.specs.Inodes.{IsSound, Touches, KeepsFields, KeepsBytes, KeepsAcls, IsBlank};
+ghost use Rattle.inode_table.specs.Inodes.{DiffersInAttributes, ClearAreFree, AllAreUsed};
+
+use crate::stored::give_sector;
+use bit_alloc::{Bitmap, give};
+use fs_layout::{Inode, Kind, Place};
+use sector_disk::DiskFault;
+use sector_txn::Sectors;
+
+// An inode that nothing uses: 128 zero bytes.
+const FREE: Inode = Inode {
+    kind: Kind::Free,
+    mode: 0,
+    uid: 0,
+    gid: 0,
+    names: 0,
+    size: 0,
+    parent: 0,
+    acl: 0,
+    default_acl: 0,
+    direct: [0; 12],
+    indirect: 0,
+};
+
+/// Reads inode n.
+pub fn load<S: Sectors>(s: &mut S, place: Place, n: u32) -> Result<Inode, DiskFault>
+    requires sound { IsSound place (S.state s.old) }
+    requires below { n < place.inodes }
+    ensures found { IfOk result (λ v. v ≡ inode_at place (S.state s.old).sectors n) }
+    ensures fits { IfOk result FitsInode }
+    ensures same { IsUnchanged (S.state s.old) (S.state s.new) }
+    ensures cause { HasCause (S.state s.old).disk (S.state s.new).disk result }
+{
+    let mut content = [0; 512];
+    s.get(place.table + n / 4, &mut content)?;
+    let Ok(inode) = Inode::read_from(&content, 128 * (n % 4) as usize) else {
+        unreachable!()
+    };
+    Ok(inode)
+}
+
+/// Writes inode n into the table, whatever it was. The image need not be consistent, as where sectors of the inode have
+/// changed and the inode hasn't yet.
+pub fn write_inode<S: Sectors>(
+    s: &mut S,
+    place: Place,
+    n: u32,
+    inode: &Inode,
+) -> Result<(), DiskFault>
+    requires place { IsPlace place }
+    requires on_disk { place.sectors ≤ (S.state s.old).disk.size }
+    requires tables { HasWholeTables place (S.state s.old).sectors }
+    requires below { n < place.inodes }
+    requires fits { FitsInode inode.now }
+    requires room { (S.state s.old).has_put (place.table + n / 4) ≡ false → 0 < (S.state s.old).room }
+    ensures saved { OnOk result (Saves place n inode.now (S.state s.old).sectors (S.state s.new).sectors) }
+    ensures puts { OnOk result (PutsOnly (λ t. t ≡ place.table + n / 4) [] 1 (S.state s.old) (S.state s.new)) }
+    ensures store { SameStore (S.state s.old) (S.state s.new) }
+    ensures cause { HasCause (S.state s.old).disk (S.state s.new).disk result }
+{
+    let at = place.table + n / 4;
+    let mut content = [0; 512];
+    s.get(at, &mut content)?;
+    inode.write_to(&mut content, 128 * (n % 4) as usize);
+    s.put(at, &content);
+    Ok(())
+}
+
+/// Saves inode n with other attributes: mode, owner, group, count of names, parent.
+pub fn save<S: Sectors>(s: &mut S, place: Place, n: u32, inode: &Inode) -> Result<(), DiskFault>
+    requires sound { IsSound place (S.state s.old) }
+    requires below { n < place.inodes }
+    requires attributes { DiffersInAttributes (inode_at place (S.state s.old).sectors n) inode.now }
+    requires fits { FitsInode inode.now }
+    requires spare { HasSpare place 1 (S.state s.old) }
+    ensures store { SameStore (S.state s.old) (S.state s.new) }
+    ensures sound { OnOk result (IsSound place (S.state s.new)) }
+    ensures touches { OnOk result (Touches place n 0 1 (S.state s.old) (S.state s.new)) }
+    ensures saved { OnOk result (inode_at place (S.state s.new).sectors n ≡ inode.now) }
+    ensures bytes { OnOk result (KeepsBytes (S.state s.old).sectors (S.state s.new).sectors
+        (inode_at place (S.state s.old).sectors n) (inode_at place (S.state s.new).sectors n)) }
+    ensures acls { OnOk result (KeepsAcls (S.state s.old).sectors (S.state s.new).sectors
+        (inode_at place (S.state s.old).sectors n) (inode_at place (S.state s.new).sectors n)) }
+    ensures used { OnOk result (bit (S.state s.new).sectors inode_bitmap n ≡ bit (S.state s.old).sectors inode_bitmap n) }
+    ensures cause { HasCause (S.state s.old).disk (S.state s.new).disk result }
+{
+    write_inode(s, place, n, inode)?;
+    Ok(())
+}
+
+/// Frees inode n with the sectors of its ACLs: its 128 bytes become zero, and its bit is cleared. It holds nothing any
+/// more, as `release_all` and `set_size` leave it.
+pub fn free_inode<S: Sectors>(s: &mut S, place: Place, n: u32) -> Result<(), DiskFault>
+    requires sound { IsSound place (S.state s.old) }
+    requires number { IsNumber place Inodes n }
+    requires empty { Holds (S.state s.old).sectors (inode_at place (S.state s.old).sectors n) [] }
+    requires spare { HasSpare place 1 (S.state s.old) }
+    ensures store { SameStore (S.state s.old) (S.state s.new) }
+    ensures sound { OnOk result (IsSound place (S.state s.new)) }
+    ensures touches { OnOk result (Touches place n 0 1 (S.state s.old) (S.state s.new)) }
+    ensures free { OnOk result (inode_at place (S.state s.new).sectors n ≡ free_inode) }
+    ensures unused { OnOk result (bit (S.state s.new).sectors inode_bitmap n ≡ false) }
+    ensures cause { HasCause (S.state s.old).disk (S.state s.new).disk result }
+{
+    let inode = load(s, place, n)?;
+    give(s, place, Bitmap::Inodes, n)?;
+    give_sector(s, place, inode.acl)?;
+    give_sector(s, place, inode.default_acl)?;
+    write_inode(s, place, n, &FREE)?;
+    Ok(())
+}

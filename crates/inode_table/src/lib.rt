@@ -1,0 +1,27 @@
+//! Inodes and their ACLs in the inode table: a map from inode numbers.
+//!
+//! Each call works on one transaction. At `Ok` the image is consistent again; at `Err` part of the work may be done, and
+//! the caller drops the transaction's changes. Of the sectors that a call puts, those of the bitmaps are counted apart,
+//! since all calls of a transaction share them.
+//!
+//! What each call reads and puts, where `b` is the number of sectors of the block bitmap that a search passes:
+//!
+//! | Call | `get`s | `put`s |
+//! |---|---|---|
+//! | [`load`] | 1 | 0 |
+//! | [`write_inode`], [`save`] | 1 | 1 |
+//! | [`new_inode`] | 2, and `b` for each ACL that takes a sector | 2, and 2 for each of these |
+//! | [`free_inode`] | 3, and 1 for each ACL sector | 2, and 1 for each of these |
+//! | [`load_acl`], [`load_default_acl`] | 1 where the ACL has a sector, else 0 | 0 |
+//! | [`save_acl`], [`save_default_acl`] | 1, and `b` for a sector taken, 1 for one given back | 1, and 2 for a sector taken, 1 for one given back or rewritten |
+#![tactic(auto)]
+
+mod acls;
+mod faults;
+mod inodes;
+mod sectors;
+mod stored;
+
+pub use acls::{load_acl, load_default_acl, save_acl, save_default_acl};
+pub use faults::LoadAclFault;
+pub use inodes::{free_inode, load, save, write_inode};
