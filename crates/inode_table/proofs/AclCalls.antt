@@ -1,15 +1,13 @@
 -- The calls by which an ACL of an inode is saved, one after the other.
-use Rattle.std.proofs.Common.{◌≡◌, ◌≢◌, ℕ, ◌+◌, ◌*◌, ◌/◌, ◌%◌, ◌^◌, ◌<◌, ◌≤◌, List, [], Option, Some, None, refl, sym, ap, subst, ◌∙◌, arith}
+use Rattle.std.proofs.Common.{◌≡◌, ℕ, ◌+◌, ◌/◌, ◌%◌, ◌<◌, [], Option, refl, sym, ap, subst, arith}
 use Rattle.posix_acl.specs.AccessList.{AccessList, IsAcl, IsSomeAcl, mode_bits}
-use Rattle.fs_layout.specs.declared.inode.Kind.TheVariants.{Free, Link}
 use Rattle.fs_layout.specs.declared.inode.Inode.{Inode}
 use Rattle.fs_layout.specs.declared.place.Place.{Place}
 use Rattle.fs_layout.specs.Inode.{FitsInode}
-use Rattle.fs_layout.specs.StoredAcls.{HoldsAcl, kept_acl}
-use Rattle.fs_layout.specs.Images.{IsData, Part, AccessAcl, DefaultAcl, Block, part, bit, inode_at, inode_bitmap}
+use Rattle.fs_layout.specs.StoredAcls.{kept_acl}
+use Rattle.fs_layout.specs.Images.{AccessAcl, DefaultAcl, part, bit, inode_at, inode_bitmap}
 use Rattle.fs_layout.specs.Changes.{Saves}
 use Rattle.fs_layout.proofs.Consistent.{owned_is_apart}
-use Rattle.fs_layout.proofs.Free.{inode_fits_there}
 use Rattle.fs_layout.proofs.OneAcl.{mode_small}
 use Rattle.fs_layout.proofs.Parts.{owns_acl, owns_default_acl}
 use Rattle.fs_layout.proofs.Pointers.{turns_acl, turns_default_acl}

@@ -1,16 +1,15 @@
 -- An inode is freed: its bit is cleared, the sectors of its ACLs are given back, and zeros are written.
-use Rattle.std.proofs.Common.{◌≡◌, ◌≢◌, ℕ, ◌+◌, ◌*◌, ◌/◌, ◌<◌, ◌≤◌, List, [], None, length, get_or, refl, sym, ap, subst, ◌∙◌, arith, inl, inr, false}
+use Rattle.std.proofs.Common.{◌≡◌, ℕ, ◌+◌, ◌/◌, ◌<◌, ◌≤◌, [], None, length, refl, sym, subst, ◌∙◌, arith, inl, inr}
 use Rattle.std.proofs.lemmas.Bool.{cases_lt}
 use Rattle.std.proofs.lemmas.List.{get_or_past}
 use Rattle.fs_layout.specs.declared.inode.Inode.{Inode}
 use Rattle.fs_layout.specs.declared.place.Place.{Place}
 use Rattle.fs_layout.specs.Bytes.{SectorMap}
-use Rattle.fs_layout.specs.Inode.{FitsInode, free_inode}
-use Rattle.fs_layout.specs.Place.{IsPlace}
-use Rattle.fs_layout.specs.Images.{AccessAcl, DefaultAcl, part, Holds, bit, pointer, free_sectors, inode_at, inode_bitmap, block_bitmap}
+use Rattle.fs_layout.specs.Inode.{free_inode}
+use Rattle.fs_layout.specs.Images.{AccessAcl, DefaultAcl, part, Holds, bit, free_sectors, inode_at, inode_bitmap, block_bitmap}
 use Rattle.fs_layout.specs.Ownership.{IsConsistent}
 use Rattle.fs_layout.specs.Changes.{IsOwnedApart, MarksInode, ChangesBlocks, ChangesInode, Saves}
-use Rattle.fs_layout.proofs.Bits.{bit_kept, free_sectors_kept, has_bit}
+use Rattle.fs_layout.proofs.Bits.{bit_kept, free_sectors_kept}
 use Rattle.fs_layout.proofs.Composes.{apart_after, both_changes, both_inodes}
 use Rattle.fs_layout.proofs.Consistent.{owned_is_apart, stays_consistent, saved_stays_consistent}
 use Rattle.fs_layout.proofs.Free.{HasNoSector, free_fits, free_has_no_sector, inode_fits_there, no_sector_changes}

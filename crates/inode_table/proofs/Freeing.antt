@@ -1,20 +1,20 @@
 -- The calls by which an inode is freed, one after the other.
-use Rattle.std.proofs.Common.{◌≡◌, ◌≢◌, ℕ, ◌+◌, ◌/◌, ◌<◌, [], refl, sym, ap, subst, ◌∙◌, arith, false}
+use Rattle.std.proofs.Common.{◌≡◌, ℕ, ◌+◌, ◌/◌, [], sym, subst, ◌∙◌, arith, false}
 use Rattle.fs_layout.specs.declared.inode.Inode.{Inode}
 use Rattle.fs_layout.specs.declared.place.Place.{Place}
 use Rattle.fs_layout.specs.Inode.{free_inode}
-use Rattle.fs_layout.specs.Images.{IsData, Holds, bit, inode_at, inode_bitmap}
+use Rattle.fs_layout.specs.Images.{Holds, bit, inode_at, inode_bitmap}
 use Rattle.fs_layout.specs.Changes.{MarksInode, Saves}
 use Rattle.sector_txn.specs.Sectors.{TxnState, IsUnchanged, PutsOnly}
 use Rattle.sector_txn.proofs.Changes.{changes_joined}
 use Rattle.bit_alloc.specs.declared.bitmap.Bitmap.TheVariants.{Inodes}
 use Rattle.bit_alloc.specs.Bitmaps.{IsNumber, GivesNumber}
-use Rattle.bit_alloc.specs.Room.{bitmaps, HasSpare}
+use Rattle.bit_alloc.specs.Room.{bitmaps}
 use Rattle.bit_alloc.specs.Inodes.{IsSound, IsSectorFor, Touches}
 use Rattle.bit_alloc.proofs.Transactions.{map_unchanged}
 use Rattle.inode_table.specs.Storing.{IsForAcls, GivesBack}
 use Rattle.inode_table.proofs.Freed.{freed_consistent, freed_changes, freed_is, freed_bits, freed_free_sectors, freed_super}
-use Rattle.inode_table.proofs.Sound.{sound_after, puts_nothing, puts_acls, puts_inode_bit, puts_inode, spare_left}
+use Rattle.inode_table.proofs.Sound.{sound_after, puts_nothing, puts_acls, puts_inode_bit, puts_inode}
 
 -- ---- what has been put so far
 module _ (p : Place) (n : ℕ) (t0 t1 t2 : TxnState) (sound : IsSound p t0) (number : IsNumber p Inodes n)

@@ -1,11 +1,12 @@
 -- An inode is made: its bit is set, sectors are taken for its ACLs, and it is written.
-use Rattle.std.proofs.Common.{◌≡◌, ◌≢◌, ℕ, ◌+◌, ◌*◌, ◌/◌, ◌%◌, ◌^◌, ◌<◌, ◌≤◌, List, [], Option, Some, None, get_or, refl, sym, ap, subst, ◌∙◌, arith, IsTrue}
+use Rattle.std.proofs.Common.{◌≡◌, ℕ, ◌+◌, ◌/◌, ◌<◌, ◌≤◌, List, [], Option, get_or, refl, sym, ap, subst, ◌∙◌, arith, IsTrue, Result, Ok, Err, IsErr, IfErr}
+use Rattle.std.specs.Prelude.{IsErrAnd}
 use Rattle.posix_acl.specs.AccessList.{AccessList, IsAcl, IsSomeAcl, mode_bits}
 use Rattle.fs_layout.specs.declared.inode.Inode.{Inode}
 use Rattle.fs_layout.specs.declared.place.Place.{Place}
 use Rattle.fs_layout.specs.Bytes.{SectorMap, zeros}
 use Rattle.fs_layout.specs.Inode.{FitsInode, free_inode}
-use Rattle.fs_layout.specs.StoredAcls.{HoldsAcl, kept_acl}
+use Rattle.fs_layout.specs.StoredAcls.{kept_acl}
 use Rattle.fs_layout.specs.Images.{AccessAcl, DefaultAcl, Holds, part, bit, free_sectors, inode_at, inode_bitmap}
 use Rattle.fs_layout.specs.Ownership.{IsConsistent}
 use Rattle.fs_layout.specs.Changes.{IsOwnedApart, ChangesBlocks, ChangesInode, Saves}
@@ -21,13 +22,14 @@ use Rattle.fs_layout.proofs.Saves.{IsSaved}
 use Rattle.fs_layout.proofs.SplicedBytes.{get_or-zeros}
 use Rattle.sector_txn.specs.Sectors.{TxnState, SameStore, PutsOnly}
 use Rattle.sector_txn.proofs.Changes.{changes_joined}
+use Rattle.bit_alloc.specs.declared.bitmap.TakeFault.{TakeFault}
 use Rattle.bit_alloc.specs.declared.bitmap.Bitmap.TheVariants.{Inodes}
 use Rattle.bit_alloc.specs.Bitmaps.{IsNumber, TakesNumber}
 use Rattle.bit_alloc.specs.Room.{bitmaps}
 use Rattle.bit_alloc.specs.Inodes.{IsSound, IsSectorFor, Touches, IsBlank, KeepsFields, KeepsBytes}
 use Rattle.inode_table.specs.Acls.{HasAcl, HasDefaultAcl, with_acl_bits, acl_takes, acls_take}
 use Rattle.inode_table.specs.Inodes.{ClearAreFree}
-use Rattle.inode_table.specs.Storing.{IsForAcls, Stores}
+use Rattle.inode_table.specs.Storing.{IsForAcls, Stores, takes_for}
 use Rattle.inode_table.proofs.AclCalls.{bits_shown}
 use Rattle.inode_table.proofs.AclSaved.{bytes_joined}
 use Rattle.inode_table.proofs.Bits.{with_low_bits}
@@ -45,6 +47,28 @@ blank_has_no_sector v blank = record {
   direct = λ k. ap (λ (l : List ℕ). get_or l k 0) blank.direct ∙ get_or-zeros 12 k;
   indirect = blank.indirect;
 }
+
+-- ---- where too few sectors are free
+-- what leaves by a `?`
+pub through_try : {A : Type 0} (Q : TakeFault → Type 0) (r : Result A TakeFault) (x : TakeFault) → IsErr r × IsErrAnd r (λ y. y ≡ x) → Q x → IfErr r Q
+through_try Q (Ok a) x e q = absurd e.1
+through_try Q (Err y) x e q = subst Q (sym e.1) q
+
+-- for the access ACL
+pub too_few_for_access : (p : Place) (n : ℕ) (old new : SectorMap) (a : AccessList) (d : Option AccessList) (content : Option (List ℕ)) → TakesNumber p Inodes n old new
+    → content ≡ contents (kept_acl a) → free_sectors p new < takes_for 0 content → free_sectors p old < acls_take a d
+too_few_for_access p n old new a d content taken is few =
+    let same = mark_keeps_free_sectors p taken.mark in
+    let takes : takes_for 0 content ≡ acl_takes 0 (kept_acl a) = ap (takes_for 0) is ∙ takes_same 0 (kept_acl a) in
+    omega (arith, same, takes, few)
+
+-- and for the default ACL
+pub too_few_for_default : (p : Place) (old new : SectorMap) (a : AccessList) (d : Option AccessList) (content : Option (List ℕ))
+    → free_sectors p old ≤ free_sectors p new + acl_takes 0 (kept_acl a) → content ≡ contents d → free_sectors p new < takes_for 0 content
+    → free_sectors p old < acls_take a d
+too_few_for_default p old new a d content left is few =
+    let takes : takes_for 0 content ≡ acl_takes 0 d = ap (takes_for 0) is ∙ takes_same 0 d in
+    omega (arith, left, takes, few)
 
 -- ---- what has been put so far
 module _ (p : Place) (n : ℕ) (t0 t1 : TxnState) (sound : IsSound p t0) (lt : n < p.inodes)

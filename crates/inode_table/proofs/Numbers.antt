@@ -1,5 +1,5 @@
 -- The entries of an ACL and their numbers, as a sector has them.
-use Rattle.std.proofs.Common.{◌≡◌, ◌≢◌, ℕ, ◌+◌, ◌<◌, ◌≤◌, List, [], ◌∷◌, ◌++◌, length, get_or, set, take, map, Option, Some, None, Result, Ok, Err, refl, sym, ap, subst, ◌∙◌, arith}
+use Rattle.std.proofs.Common.{◌≡◌, ℕ, ◌+◌, ◌<◌, List, [], ◌∷◌, ◌++◌, length, get_or, set, take, map, Some, None, Result, Ok, refl, sym, ap, subst, ◌∙◌, arith}
 use Rattle.std.specs.List.Sorted.{IsPermutation}
 use Rattle.std.proofs.lemmas.List.{take_more, take_more_set, take_all, map-append, get_or-map, length-map}
 use Rattle.std.proofs.lemmas.List.Sorted.{IsPermutation-refl}
@@ -13,7 +13,7 @@ use Rattle.posix_acl.proofs.Laws.{numbers_injective, own_plain}
 use Rattle.posix_acl.proofs.NoFault.{no_fault_in}
 use Rattle.fs_layout.specs.AclSector.{FitsAclSector, acl_sector_bytes}
 use Rattle.fs_layout.specs.StoredAcls.{acl_content}
-use Rattle.fs_layout.proofs.OneAcl.{sector_fits, acl_same}
+use Rattle.fs_layout.proofs.OneAcl.{sector_fits}
 
 -- ---- written
 -- one entry more

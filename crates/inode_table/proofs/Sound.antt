@@ -1,18 +1,18 @@
 -- What is sound stays so, and what calls in a row put and take.
-use Rattle.std.proofs.Common.{◌≡◌, ◌≢◌, ℕ, ◌+◌, ◌*◌, ◌/◌, ◌<◌, ◌≤◌, List, [], refl, sym, ap, subst, ◌∙◌, arith, inl, inr, IsTrue}
+use Rattle.std.proofs.Common.{◌≡◌, ℕ, ◌+◌, ◌/◌, ◌<◌, ◌≤◌, List, [], refl, sym, subst, ◌∙◌, arith, inl, inr, IsTrue}
 use Rattle.std.proofs.lemmas.Bool.{cases_lt}
 use Rattle.fs_layout.specs.declared.place.Place.{Place}
 use Rattle.fs_layout.specs.Bytes.{SectorMap, IsSector}
 use Rattle.fs_layout.specs.Place.{IsPlace}
-use Rattle.fs_layout.specs.Images.{IsData, HasWholeTables, map_bits, bit, inode_bitmap, block_bitmap}
+use Rattle.fs_layout.specs.Images.{IsData, map_bits, bit, inode_bitmap, block_bitmap}
 use Rattle.fs_layout.specs.Ownership.{IsConsistent}
 use Rattle.fs_layout.proofs.Places.{after_map, before_data}
 use Rattle.fs_layout.proofs.Bits.{bit_kept}
 use Rattle.sector_txn.specs.Sectors.{TxnState, SameStore, IsUnchanged, IsPut, PutsOnly}
-use Rattle.sector_txn.proofs.Changes.{changes_nothing, changes_read, changes_put, changes_beside, changes_weaker, store_joined}
+use Rattle.sector_txn.proofs.Changes.{changes_nothing, changes_read, changes_put, changes_beside, changes_weaker}
 use Rattle.bit_alloc.specs.declared.bitmap.Bitmap.{Bitmap}
 use Rattle.bit_alloc.specs.declared.bitmap.Bitmap.TheVariants.{Inodes, Blocks}
-use Rattle.bit_alloc.specs.Bitmaps.{HasBitmaps, HasRestSet, IsNumber, bit_count, first_sector}
+use Rattle.bit_alloc.specs.Bitmaps.{HasBitmaps, IsNumber, bit_count, first_sector}
 use Rattle.bit_alloc.specs.Room.{bitmaps, HasSpare}
 use Rattle.bit_alloc.specs.Inodes.{IsSound, IsSectorFor}
 use Rattle.inode_table.specs.Storing.{IsForAcls}

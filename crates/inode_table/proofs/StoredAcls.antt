@@ -1,5 +1,5 @@
 -- ACLs as sectors' contents, and how many sectors they take.
-use Rattle.std.proofs.Common.{◌≡◌, ◌≢◌, ℕ, zero, suc, ◌+◌, ◌*◌, ◌/◌, ◌%◌, ◌<◌, ◌≤◌, List, Option, Some, None, true, false, refl, sym, ap, subst, ◌∙◌, arith}
+use Rattle.std.proofs.Common.{◌≡◌, ◌≢◌, ℕ, zero, suc, ◌*◌, ◌/◌, ◌%◌, ◌<◌, ◌≤◌, List, Option, Some, None, true, false, refl, sym, subst, ◌∙◌, arith}
 use Rattle.std.specs.Prelude.{if◌then◌else◌, ◌==◌}
 use Rattle.posix_acl.specs.Entries.{digit_of, perms_of}
 use Rattle.std.specs.Option.{option_map}
@@ -8,7 +8,6 @@ use Rattle.fs_layout.specs.declared.inode.Inode.{Inode}
 use Rattle.fs_layout.specs.Bytes.{SectorMap, IsSector}
 use Rattle.fs_layout.specs.StoredAcls.{acl_content, HoldsAcl, kept_acl}
 use Rattle.fs_layout.specs.Images.{IsData, inode_at}
-use Rattle.fs_layout.specs.Changes.{Keeps}
 use Rattle.fs_layout.proofs.OneAcl.{sector_fits, access_same}
 use Rattle.fs_layout.specs.declared.place.Place.{Place}
 use Rattle.fs_layout.proofs.Parts.{owns_acl, owns_default_acl}

@@ -10,13 +10,12 @@ use Rattle.fs_layout.proofs.Parts.{KeepsPointers, pointers_kept, same_part_or_no
 use Rattle.fs_layout.proofs.Places.{after_map, before_data}
 use Rattle.fs_layout.proofs.Blocks.{rewrites, rewrites_free_sectors, put_rewrites, pointers_apart, others_kept}
 use Rattle.fs_layout.proofs.Gains.{gains, gains_free_sectors}
-use Rattle.fs_layout.proofs.Held.{HasSameBlocks}
 use Rattle.fs_layout.proofs.Marks.{takes, takes_keeps, releases_alone, marks_keeps}
 use Rattle.fs_layout.proofs.Releases.{loses}
 use Rattle.bit_alloc.specs.declared.bitmap.Bitmap.TheVariants.{Blocks}
 use Rattle.bit_alloc.specs.Bitmaps.{TakesNumber, GivesNumber}
 use Rattle.bit_alloc.specs.Inodes.{HoldsContent, KeepsBytes}
-use Rattle.inode_table.specs.Storing.{GivesBack, Stores, takes_for}
+use Rattle.inode_table.specs.Storing.{Stores, takes_for}
 use Rattle.inode_table.proofs.Saved.{same_blocks_keep_bytes}
 
 -- each part stays where it was, where one turns into what it was

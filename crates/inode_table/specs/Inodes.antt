@@ -1,8 +1,8 @@
 -- Inodes in the table.
 --     DiffersInAttributes        what `save` may change
 --     IsInodeOf        one that stands in the table
---     ClearAreFree, AllAreUsed        what the inode bitmap says
-use Rattle.std.specs.Prelude.{◌≡◌, ℕ, ◌<◌, true, false}
+--     ClearAreFree        what the inode bitmap says
+use Rattle.std.specs.Prelude.{◌≡◌, ℕ, ◌<◌, false}
 use Rattle.fs_layout.specs.declared.inode.Inode.{Inode}
 use Rattle.fs_layout.specs.declared.place.Place.{Place}
 use Rattle.fs_layout.specs.Bytes.{SectorMap}
@@ -20,7 +20,3 @@ DiffersInAttributes v w = w ≡ (record v { mode = w.mode; uid = w.uid; gid = w.
 -- an inode whose bit is clear is free
 abbrev pub ClearAreFree : Place → SectorMap → Type 0
 ClearAreFree p image = (n : ℕ) → n < p.inodes → bit image inode_bitmap n ≡ false → inode_at p image n ≡ free_inode
-
--- each inode's bit is set
-abbrev pub AllAreUsed : Place → SectorMap → Type 0
-AllAreUsed p image = (n : ℕ) → n < p.inodes → bit image inode_bitmap n ≡ true

@@ -1,6 +1,6 @@
 //! Inodes of the table.
 
-ghost use Rattle.std.specs.Prelude.{◌≡◌, ◌≢◌, ◌≤◌, ◌<◌, ◌+◌, ◌/◌, ◌⊎◌, ℕ, [], true, false, None, Err, IfOk, OnOk};
+ghost use Rattle.std.specs.Prelude.{◌≡◌, ◌≢◌, ◌≤◌, ◌<◌, ◌+◌, ◌/◌, ◌⊎◌, ℕ, [], true, false, None, Err, IfOk, IfErr, OnOk, IsTrue};
 ghost use Rattle.std.specs.Option.{option_copied};
 ghost use Rattle.sector_disk.specs.Disk.{HasCause};
 ghost use Rattle.fs_layout.specs.Place.{IsPlace};
@@ -9,14 +9,18 @@ ghost use Rattle.fs_layout.specs.Images.{HasWholeTables, Holds, bit, free_sector
 ghost use Rattle.fs_layout.specs.Changes.{Saves};
 ghost use Rattle.sector_txn.specs.Sectors.{SameStore, IsUnchanged, PutsOnly};
 ghost use Rattle.bit_alloc.specs.declared.bitmap.Bitmap.TheVariants.{Inodes};
-ghost use Rattle.bit_alloc.specs.Bitmaps.{IsNumber};
+ghost use Rattle.bit_alloc.specs.Bitmaps.{IsNumber, IsFreeNumber, free_numbers};
+ghost use Rattle.bit_alloc.specs.Faults.{HasCauseOf};
 ghost use Rattle.bit_alloc.specs.Room.{HasSpare};
 ghost use Rattle.bit_alloc.specs.Inodes.{IsSound, Touches, KeepsFields, KeepsBytes, KeepsAcls, IsBlank};
-ghost use Rattle.inode_table.specs.Inodes.{DiffersInAttributes, ClearAreFree, AllAreUsed};
+ghost use Rattle.inode_table.specs.Acls.{HasAcl, HasDefaultAcl, with_acl_bits, acls_take};
+ghost use Rattle.inode_table.specs.Inodes.{DiffersInAttributes, ClearAreFree};
 
-use crate::stored::give_sector;
-use bit_alloc::{Bitmap, give};
+use crate::sectors::{content_of, kept_content, with_bits};
+use crate::stored::{give_sector, store};
+use bit_alloc::{Bitmap, TakeFault, give, take};
 use fs_layout::{Inode, Kind, Place};
+use posix_acl::Acl;
 use sector_disk::DiskFault;
 use sector_txn::Sectors;
 
@@ -99,6 +103,48 @@ pub fn save<S: Sectors>(s: &mut S, place: Place, n: u32, inode: &Inode) -> Resul
 {
     write_inode(s, place, n, inode)?;
     Ok(())
+}
+
+/// Makes an inode, a file or a directory, which holds nothing: a free one gets the fields and takes the sectors that its
+/// ACLs need. It is the lowest one, which no clause says. The bits of the access ACL become the mode's low nine. A link
+/// can't be made so, since it is never empty.
+pub fn new_inode<S: Sectors>(
+    s: &mut S,
+    place: Place,
+    inode: &Inode,
+    access: &Acl,
+    default: Option<&Acl>,
+) -> Result<u32, TakeFault>
+    requires sound { IsSound place (S.state s.old) }
+    requires clear { ClearAreFree place (S.state s.old).sectors }
+    requires blank { IsBlank inode.now }
+    requires fits { FitsInode inode.now }
+    requires spare { HasSpare place 3 (S.state s.old) }
+    ensures store { SameStore (S.state s.old) (S.state s.new) }
+    ensures sound { OnOk result (IsSound place (S.state s.new)) }
+    ensures free { IfOk result (IsFreeNumber place Inodes (S.state s.old).sectors) }
+    ensures used { IfOk result (λ n. IsTrue (bit (S.state s.new).sectors inode_bitmap n)) }
+    ensures touches { IfOk result (λ n. Touches place n (acls_take access.now (option_copied default.entry)) 3 (S.state s.old) (S.state s.new)) }
+    ensures fields { IfOk result (λ n. KeepsFields (with_acl_bits inode.now access.now) (inode_at place (S.state s.new).sectors n)) }
+    ensures empty { IfOk result (λ n. Holds (S.state s.new).sectors (inode_at place (S.state s.new).sectors n) []) }
+    ensures access { IfOk result (λ n. HasAcl (S.state s.new).sectors (inode_at place (S.state s.new).sectors n) access.now) }
+    ensures default { IfOk result (λ n. HasDefaultAcl (S.state s.new).sectors (inode_at place (S.state s.new).sectors n)
+        (option_copied default.entry)) }
+    ensures full { IfErr result (λ e. e ≡ TakeFault.Full → (free_numbers place Inodes (S.state s.old).sectors ≡ 0)
+        ⊎ (free_sectors place (S.state s.old).sectors < acls_take access.now (option_copied default.entry))) }
+    ensures cause { HasCauseOf TakeFault.DiskFault (S.state s.old).disk (S.state s.new).disk result }
+{
+    let n = take(s, place, Bitmap::Inodes)?;
+    let acl = store(s, place, 0, kept_content(access))?;
+    let default_acl = store(s, place, 0, content_of(default))?;
+    let made = Inode {
+        mode: with_bits(inode.mode, access),
+        acl,
+        default_acl,
+        ..*inode
+    };
+    write_inode(s, place, n, &made)?;
+    Ok(n)
 }
 
 /// Frees inode n with the sectors of its ACLs: its 128 bytes become zero, and its bit is cleared. It holds nothing any

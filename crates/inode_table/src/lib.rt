@@ -24,4 +24,4 @@ mod stored;
 
 pub use acls::{load_acl, load_default_acl, save_acl, save_default_acl};
 pub use faults::LoadAclFault;
-pub use inodes::{free_inode, load, save, write_inode};
+pub use inodes::{free_inode, load, new_inode, save, write_inode};

@@ -1,4 +1,4 @@
-use Rattle.std.proofs.Common.{◌∙◌, inr, ap, sym}
+use Rattle.std.proofs.Common.{inr, ap}
 use Rattle.fs_layout.specs.declared.inode.Inode.{Inode}
 use Rattle.inode_table.proofs.StoredAcls.{default_acl_in_data, data_mapped}
 use Rattle.inode_table.proofs.acls.load_default_acl.Goals as goal

@@ -1,12 +1,11 @@
-use Rattle.std.proofs.Common.{◌≡◌, ◌^◌, ◌<◌, ℕ, sym, ap, subst, arith}
+use Rattle.std.proofs.Common.{◌^◌, ◌<◌, ℕ, sym, ap, subst, arith}
 use Rattle.fs_layout.specs.declared.inode.Inode.{Inode}
 use Rattle.fs_layout.specs.Inode.{FitsInode}
 use Rattle.fs_layout.specs.Changes.{Saves}
-use Rattle.fs_layout.specs.StoredAcls.{kept_acl}
 use Rattle.fs_layout.proofs.OneAcl.{mode_small}
 use Rattle.sector_txn.proofs.Changes.{store_joined}
 use Rattle.inode_table.specs.Storing.{Stores}
-use Rattle.inode_table.proofs.Bits.{with_bits_fits, with_low_bits}
+use Rattle.inode_table.proofs.Bits.{with_bits_fits}
 use Rattle.inode_table.proofs.StoredAcls.{acl_in_data}
 use Rattle.inode_table.proofs.AclCalls.{access_sound, access_touches, access_fields, access_bytes, access_has, access_keeps_default, access_bit}
 use Rattle.inode_table.proofs.acls.save_acl.Goals as goal

@@ -1,4 +1,4 @@
-use Rattle.std.proofs.Common.{◌≡◌, ◌^◌, ◌<◌, ℕ, sym, ap, subst, arith}
+use Rattle.std.proofs.Common.{◌^◌, ◌<◌, ap, subst, arith}
 use Rattle.std.specs.Option.{option_copied}
 use Rattle.fs_layout.specs.declared.inode.Inode.{Inode}
 use Rattle.sector_txn.proofs.Changes.{store_joined}

@@ -1,4 +1,4 @@
-use Rattle.std.proofs.Common.{rules, ◌≡◌, ◌∙◌, sym, ap, length, arith, get_or}
+use Rattle.std.proofs.Common.{◌∙◌, sym, arith, get_or}
 use Rattle.posix_acl.specs.AccessList.{entries_of, list_numbers}
 use Rattle.posix_acl.proofs.Ordering.{blank}
 use Rattle.fs_layout.proofs.Codecs.{same_ok}
