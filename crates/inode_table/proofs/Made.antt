@@ -6,7 +6,7 @@ use Rattle.fs_layout.specs.declared.inode.Inode.{Inode}
 use Rattle.fs_layout.specs.declared.place.Place.{Place}
 use Rattle.fs_layout.specs.Bytes.{SectorMap, zeros}
 use Rattle.fs_layout.specs.Inode.{FitsInode, free_inode}
-use Rattle.fs_layout.specs.StoredAcls.{kept_acl}
+use Rattle.fs_layout.specs.AclSector.{kept_acl}
 use Rattle.fs_layout.specs.Images.{AccessAcl, DefaultAcl, Holds, part, bit, free_sectors, inode_at, inode_bitmap}
 use Rattle.fs_layout.specs.Ownership.{IsConsistent}
 use Rattle.fs_layout.specs.Changes.{IsOwnedApart, ChangesBlocks, ChangesInode, Saves}

@@ -11,8 +11,7 @@ use Rattle.posix_acl.specs.AccessList.{AccessList, IsAcl, entries_of, list_numbe
 use Rattle.posix_acl.specs.Faults.{first_fault, IsListOf}
 use Rattle.posix_acl.proofs.Laws.{numbers_injective, own_plain}
 use Rattle.posix_acl.proofs.NoFault.{no_fault_in}
-use Rattle.fs_layout.specs.AclSector.{FitsAclSector, acl_sector_bytes}
-use Rattle.fs_layout.specs.StoredAcls.{acl_content}
+use Rattle.fs_layout.specs.AclSector.{FitsAclSector, acl_sector_bytes, acl_content}
 use Rattle.fs_layout.proofs.OneAcl.{sector_fits}
 
 -- ---- written

@@ -6,7 +6,7 @@ use Rattle.std.specs.Option.{option_map}
 use Rattle.posix_acl.specs.AccessList.{AccessList, IsAcl, IsSomeAcl, list_numbers, minimal, mode_bits, is_extended}
 use Rattle.fs_layout.specs.declared.inode.Inode.{Inode}
 use Rattle.fs_layout.specs.Bytes.{SectorMap, IsSector}
-use Rattle.fs_layout.specs.StoredAcls.{acl_content, HoldsAcl, kept_acl}
+use Rattle.fs_layout.specs.AclSector.{acl_content, HoldsAcl, kept_acl}
 use Rattle.fs_layout.specs.Images.{IsData, inode_at}
 use Rattle.fs_layout.proofs.OneAcl.{sector_fits, access_same}
 use Rattle.fs_layout.specs.declared.place.Place.{Place}

@@ -6,7 +6,7 @@ use Rattle.std.specs.Prelude.{◌≡◌, ℕ, zero, suc, ◌+◌, ◌*◌, ◌/�
 use Rattle.posix_acl.specs.AccessList.{AccessList, IsAcl, IsSomeAcl, mode_bits}
 use Rattle.fs_layout.specs.declared.inode.Inode.{Inode}
 use Rattle.fs_layout.specs.Bytes.{SectorMap}
-use Rattle.fs_layout.specs.StoredAcls.{HoldsAcl, kept_acl}
+use Rattle.fs_layout.specs.AclSector.{HoldsAcl, kept_acl}
 
 -- The list is the inode's access ACL: in a sector where it is more than mode bits, and the mode shows its bits.
 pub record HasAcl (image : SectorMap) (v : Inode) (a : AccessList) : Type 0 where

@@ -4,7 +4,7 @@ ghost use Rattle.std.specs.Prelude.{◌≡◌, ◌≢◌, ◌<◌, ℕ, Option, 
 ghost use Rattle.std.specs.Option.{option_copied};
 ghost use Rattle.posix_acl.specs.AccessList.{AccessList};
 ghost use Rattle.fs_layout.specs.Inode.{FitsInode};
-ghost use Rattle.fs_layout.specs.StoredAcls.{kept_acl};
+ghost use Rattle.fs_layout.specs.AclSector.{kept_acl};
 ghost use Rattle.fs_layout.specs.Images.{bit, free_sectors, inode_at, inode_bitmap};
 ghost use Rattle.sector_txn.specs.Sectors.{SameStore, IsUnchanged};
 ghost use Rattle.bit_alloc.specs.Faults.{HasCauseOf};

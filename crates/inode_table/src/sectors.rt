@@ -3,7 +3,7 @@
 ghost use Rattle.std.specs.Prelude.{◌≡◌, ◌+◌, ◌*◌, ◌/◌, IfOk, IfErr};
 ghost use Rattle.std.specs.Option.{option_copied, option_map};
 ghost use Rattle.posix_acl.specs.AccessList.{AccessList, IsAcl, IsSomeAcl, mode_bits};
-ghost use Rattle.fs_layout.specs.StoredAcls.{acl_content, kept_acl};
+ghost use Rattle.fs_layout.specs.AclSector.{acl_content, kept_acl};
 ghost use Rattle.inode_table.specs.declared.faults.LoadAclFault.TheVariants.{OutOfMemory};
 
 use crate::faults::LoadAclFault;
