@@ -1,15 +1,14 @@
 -- An inode is freed: its bit is cleared, the sectors of its ACLs are given back, and zeros are written.
-use Rattle.std.proofs.Common.{◌≡◌, ℕ, ◌+◌, ◌/◌, ◌<◌, ◌≤◌, [], None, length, refl, sym, subst, ◌∙◌, arith, inl, inr}
+use Rattle.std.proofs.Common.{◌≡◌, ℕ, ◌<◌, ◌≤◌, [], None, length, refl, sym, subst, ◌∙◌, arith, inl, inr}
 use Rattle.std.proofs.lemmas.Bool.{cases_lt}
 use Rattle.std.proofs.lemmas.List.{get_or_past}
 use Rattle.fs_layout.specs.declared.inode.Inode.{Inode}
 use Rattle.fs_layout.specs.declared.place.Place.{Place}
 use Rattle.fs_layout.specs.Bytes.{SectorMap}
 use Rattle.fs_layout.specs.Inode.{free_inode}
-use Rattle.fs_layout.specs.Images.{AccessAcl, DefaultAcl, part, Holds, bit, free_sectors, inode_at, inode_bitmap, block_bitmap}
+use Rattle.fs_layout.specs.Images.{AccessAcl, DefaultAcl, part, Holds, bit, free_sectors, inode_at, inode_bitmap}
 use Rattle.fs_layout.specs.Ownership.{IsConsistent}
 use Rattle.fs_layout.specs.Changes.{IsOwnedApart, MarksInode, ChangesBlocks, ChangesInode, Saves}
-use Rattle.fs_layout.proofs.Bits.{bit_kept, free_sectors_kept}
 use Rattle.fs_layout.proofs.Composes.{apart_after, both_changes, both_inodes}
 use Rattle.fs_layout.proofs.Consistent.{owned_is_apart, stays_consistent, saved_stays_consistent}
 use Rattle.fs_layout.proofs.Free.{HasNoSector, free_fits, free_has_no_sector, inode_fits_there, no_sector_changes}
@@ -17,13 +16,9 @@ use Rattle.fs_layout.proofs.Marks.{marks_change}
 use Rattle.fs_layout.proofs.Places.{after_map}
 use Rattle.fs_layout.proofs.Pointers.{pointer_direct, turns_acl, turns_default_acl}
 use Rattle.fs_layout.proofs.Saves.{IsSaved}
+use Rattle.bit_alloc.proofs.Soundness.{free_kept}
 use Rattle.inode_table.specs.Storing.{GivesBack}
 use Rattle.inode_table.proofs.Stores.{HasStored, stored}
-
--- the bit of an inode is written: as many sectors are free as before
-pub mark_keeps_free_sectors : (p : Place) {n : ℕ} {old new : SectorMap} → MarksInode n old new → free_sectors p new ≡ free_sectors p old
-mark_keeps_free_sectors p {n} {old} {new} mark =
-    free_sectors_kept p old new (λ s at. bit_kept old new block_bitmap s (mark.others (block_bitmap + s / 4096) (λ e. omega (arith, e))))
 
 -- an inode that holds nothing has no sector but those of its ACLs
 without_acls : (image : SectorMap) (v : Inode) → length v.direct ≡ 12 → Holds image v [] → HasNoSector (record v { acl = 0; default_acl = 0 })
@@ -90,7 +85,7 @@ module _ {p : Place} {n : ℕ} {m0 m1 m2 m3 m4 : SectorMap}
 
   pub freed_free_sectors : free_sectors p m0 ≤ free_sectors p m4
   freed_free_sectors =
-      let a = mark_keeps_free_sectors p mark in
+      let a = free_kept p n m0 m1 mark in
       omega (arith, a, second.free, third.free, saved.1.free)
 
   pub freed_super : m4 0 ≡ m0 0

@@ -27,13 +27,13 @@ use Rattle.bit_alloc.specs.declared.bitmap.Bitmap.TheVariants.{Inodes}
 use Rattle.bit_alloc.specs.Bitmaps.{IsNumber, TakesNumber}
 use Rattle.bit_alloc.specs.Room.{bitmaps}
 use Rattle.bit_alloc.specs.Inodes.{IsSound, IsSectorFor, Touches, IsBlank, KeepsFields, KeepsBytes}
+use Rattle.bit_alloc.proofs.Soundness.{free_kept}
 use Rattle.inode_table.specs.Acls.{HasAcl, HasDefaultAcl, with_acl_bits, acl_takes, acls_take}
 use Rattle.inode_table.specs.Inodes.{ClearAreFree}
 use Rattle.inode_table.specs.Storing.{IsForAcls, Stores, takes_for}
 use Rattle.inode_table.proofs.AclCalls.{bits_shown}
 use Rattle.inode_table.proofs.AclSaved.{bytes_joined}
 use Rattle.inode_table.proofs.Bits.{with_low_bits}
-use Rattle.inode_table.proofs.Freed.{mark_keeps_free_sectors}
 use Rattle.inode_table.proofs.Saved.{fields_keep_bytes, saved_keeps_bytes}
 use Rattle.inode_table.proofs.Sound.{sound_after, puts_acls, puts_inode_bit, puts_inode}
 use Rattle.inode_table.proofs.StoredAcls.{contents, contents_whole, kept_valid, holds_acl, acl_stays, takes_same}
@@ -58,7 +58,7 @@ through_try Q (Err y) x e q = subst Q (sym e.1) q
 pub too_few_for_access : (p : Place) (n : ℕ) (old new : SectorMap) (a : AccessList) (d : Option AccessList) (content : Option (List ℕ)) → TakesNumber p Inodes n old new
     → content ≡ contents (kept_acl a) → free_sectors p new < takes_for 0 content → free_sectors p old < acls_take a d
 too_few_for_access p n old new a d content taken is few =
-    let same = mark_keeps_free_sectors p taken.mark in
+    let same = free_kept p n old new taken.mark in
     let takes : takes_for 0 content ≡ acl_takes 0 (kept_acl a) = ap (takes_for 0) is ∙ takes_same 0 (kept_acl a) in
     omega (arith, same, takes, few)
 
@@ -119,7 +119,7 @@ module _ (p : Place) (n : ℕ) (inode : Inode) (a : AccessList) (y : ℕ) (t0 t1
 
   -- as many sectors are free as before, less that of the access ACL
   pub left_free : free_sectors p t0.sectors ≤ free_sectors p t2.sectors + acl_takes 0 (kept_acl a)
-  left_free = let same = mark_keeps_free_sectors p taken.mark in let f = second.free in omega (arith, same, f)
+  left_free = let same = free_kept p n t0.sectors t1.sectors taken.mark in let f = second.free in omega (arith, same, f)
 
   module _ (d : Option AccessList) (z : ℕ) (t3 t4 : TxnState) (valid_default : IsSomeAcl d) (default : Stores p 0 z (contents d) t2.sectors t3.sectors)
       (fits : FitsInode (record inode { mode = with_low_bits inode.mode (mode_bits a); acl = y; default_acl = z }))

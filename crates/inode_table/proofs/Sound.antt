@@ -82,10 +82,6 @@ pub room_left : (p : Place) (more : ℕ) (txn : TxnState) → HasSpare p more tx
 room_left p more txn spare some = omega (arith, spare, some)
 
 -- ---- several calls
--- so many can be put after one that has put so many
-pub spare_left : {R : ℕ → Type 0} (p : Place) (put left : ℕ) (old new : TxnState) → HasSpare p (put + left) old → PutsOnly R (bitmaps p) put old new → HasSpare p left new
-spare_left p put left old new spare puts = omega (arith, spare, puts.room)
-
 -- nothing has been put
 pub puts_nothing : {R : ℕ → Type 0} (p : Place) {old new : TxnState} → IsUnchanged old new → PutsOnly R (bitmaps p) 0 old new
 puts_nothing p same = changes_read (changes_nothing (bitmaps p)) same

@@ -129,13 +129,15 @@ pub fn save_default_acl<S: Sectors>(
     requires spare { HasSpare place 2 (S.state s.old) }
     ensures store { SameStore (S.state s.old) (S.state s.new) }
     ensures sound { OnOk result (IsSound place (S.state s.new)) }
-    ensures touches { OnOk result (Touches place n (acl_takes inode.now.default_acl (option_copied acl.entry)) 2 (S.state s.old) (S.state s.new)) }
+    ensures touches { OnOk result (Touches place n (acl_takes inode.now.default_acl (option_copied acl.entry)) 2
+        (S.state s.old) (S.state s.new)) }
     ensures fields { OnOk result (KeepsFields inode.now (inode_at place (S.state s.new).sectors n)) }
     ensures bytes { OnOk result (KeepsBytes (S.state s.old).sectors (S.state s.new).sectors
         (inode_at place (S.state s.old).sectors n) (inode_at place (S.state s.new).sectors n)) }
     ensures access { OnOk result (KeepsAccess (S.state s.old).sectors (S.state s.new).sectors
         (inode_at place (S.state s.old).sectors n) (inode_at place (S.state s.new).sectors n)) }
-    ensures default { OnOk result (HasDefaultAcl (S.state s.new).sectors (inode_at place (S.state s.new).sectors n) (option_copied acl.entry)) }
+    ensures default { OnOk result (HasDefaultAcl (S.state s.new).sectors (inode_at place (S.state s.new).sectors n)
+        (option_copied acl.entry)) }
     ensures used { OnOk result (bit (S.state s.new).sectors inode_bitmap n ≡ bit (S.state s.old).sectors inode_bitmap n) }
     ensures full { IfErr result (λ e. e ≡ TakeFault.Full
         → free_sectors place (S.state s.old).sectors < acl_takes inode.now.default_acl (option_copied acl.entry)) }

@@ -124,7 +124,8 @@ pub fn new_inode<S: Sectors>(
     ensures sound { OnOk result (IsSound place (S.state s.new)) }
     ensures free { IfOk result (IsFreeNumber place Inodes (S.state s.old).sectors) }
     ensures used { IfOk result (λ n. IsTrue (bit (S.state s.new).sectors inode_bitmap n)) }
-    ensures touches { IfOk result (λ n. Touches place n (acls_take access.now (option_copied default.entry)) 3 (S.state s.old) (S.state s.new)) }
+    ensures touches { IfOk result (λ n. Touches place n (acls_take access.now (option_copied default.entry)) 3
+        (S.state s.old) (S.state s.new)) }
     ensures fields { IfOk result (λ n. KeepsFields (with_acl_bits inode.now access.now) (inode_at place (S.state s.new).sectors n)) }
     ensures empty { IfOk result (λ n. Holds (S.state s.new).sectors (inode_at place (S.state s.new).sectors n) []) }
     ensures access { IfOk result (λ n. HasAcl (S.state s.new).sectors (inode_at place (S.state s.new).sectors n) access.now) }
@@ -147,8 +148,8 @@ pub fn new_inode<S: Sectors>(
     Ok(n)
 }
 
-/// Frees inode n with the sectors of its ACLs: its 128 bytes become zero, and its bit is cleared. It holds nothing any
-/// more, as `release_all` and `set_size` leave it.
+/// Frees inode n, which holds no bytes any more, with the sectors of its ACLs: its 128 bytes become zero, and its bit is
+/// cleared.
 pub fn free_inode<S: Sectors>(s: &mut S, place: Place, n: u32) -> Result<(), DiskFault>
     requires sound { IsSound place (S.state s.old) }
     requires number { IsNumber place Inodes n }

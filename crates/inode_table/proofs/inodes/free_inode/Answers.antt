@@ -1,7 +1,8 @@
 use Rattle.std.proofs.Common.{ap, arith}
 use Rattle.fs_layout.proofs.Free.{free_fits}
 use Rattle.bit_alloc.proofs.Transactions.{bitmaps_unchanged}
-use Rattle.inode_table.proofs.Sound.{spare_left, room_left}
+use Rattle.bit_alloc.proofs.Soundness.{spare_then}
+use Rattle.inode_table.proofs.Sound.{room_left}
 use Rattle.inode_table.proofs.StoredAcls.{acl_in_data, default_acl_in_data}
 use Rattle.inode_table.proofs.Freeing.{puts_2, puts_3, puts_4, puts_5, free_is, free_unused, free_sound, free_touches}
 use Rattle.inode_table.proofs.inodes.free_inode.Goals as goal
@@ -20,7 +21,7 @@ give_sector-requires-clause-room g c =
     let t1 = g.S.Sectors.state c.load.new.s in
     let t2 = g.S.Sectors.state c.give.new.s in
     let puts = puts_2 p c.args.n t0 t1 t2 c.requires.sound c.requires.number c.in_ok-inode.ensures.same c.in_ok-give.ensures.puts in
-    spare_left p 0 0 t0 t2 (omega (arith, c.requires.spare)) puts
+    spare_then p 0 0 t0 t2 (omega (arith, c.requires.spare)) puts
 
 pub give_sector-requires-2-clause-owned : goal.give_sector-requires-2-clause-owned
 give_sector-requires-2-clause-owned g c = default_acl_in_data c.requires.sound c.requires.number.1 (ap (λ v. v.default_acl) c.in_ok-inode.ensures.found)
@@ -34,7 +35,7 @@ give_sector-requires-2-clause-room g c =
     let t3 = g.S.Sectors.state c.give_sector.new.s in
     let puts = puts_3 p c.args.n t0 t1 t2 c.requires.sound c.requires.number c.in_ok-inode.ensures.same c.in_ok-give.ensures.puts
     t3 c.in_ok-give_sector.ensures.puts in
-    spare_left p 0 0 t0 t3 (omega (arith, c.requires.spare)) puts
+    spare_then p 0 0 t0 t3 (omega (arith, c.requires.spare)) puts
 
 pub write_inode-requires-clause-fits : goal.write_inode-requires-clause-fits
 write_inode-requires-clause-fits g c = free_fits
@@ -49,7 +50,7 @@ write_inode-requires-clause-room g c = λ none.
     let t4 = g.S.Sectors.state c.give_sector-2.new.s in
     let puts = puts_4 p c.args.n t0 t1 t2 c.requires.sound c.requires.number c.in_ok-inode.ensures.same c.in_ok-give.ensures.puts
     t3 c.in_ok-give_sector.ensures.puts t4 c.in_ok-give_sector-2.ensures.puts in
-    room_left p 1 t4 (spare_left p 0 1 t0 t4 (omega (arith, c.requires.spare)) puts) (omega arith)
+    room_left p 1 t4 (spare_then p 0 1 t0 t4 (omega (arith, c.requires.spare)) puts) (omega arith)
 
 pub returns-clause-store : goal.returns-clause-store
 returns-clause-store g c =

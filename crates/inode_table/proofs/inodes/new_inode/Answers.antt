@@ -3,9 +3,9 @@ use Rattle.std.specs.Option.{option_copied}
 use Rattle.fs_layout.specs.Inode.{FitsInode}
 use Rattle.fs_layout.specs.Changes.{Saves}
 use Rattle.fs_layout.proofs.OneAcl.{mode_small}
+use Rattle.bit_alloc.proofs.Soundness.{spare_then}
 use Rattle.inode_table.specs.Storing.{Stores}
 use Rattle.inode_table.proofs.Bits.{with_bits_fits, empty_no_link}
-use Rattle.inode_table.proofs.Sound.{spare_left}
 use Rattle.inode_table.proofs.Made.{made_puts_1, made_puts_4, left_free, made_sound, made_used, made_touches, made_fields, made_empty, made_access, made_default, through_try, too_few_for_access, too_few_for_default}
 use Rattle.inode_table.proofs.inodes.new_inode.Goals as goal
 
@@ -16,7 +16,7 @@ store-requires-clause-room g c =
     let t1 = g.S.Sectors.state c.take.new.s in
     let n = c.in_ok-n.n in
     let lt = c.in_ok-n.ensures.taken.free.1 in
-    spare_left p 0 1 t0 t1 (omega (arith, c.requires.spare)) (made_puts_1 p n t0 t1 c.requires.sound lt c.in_ok-n.ensures.puts)
+    spare_then p 0 1 t0 t1 (omega (arith, c.requires.spare)) (made_puts_1 p n t0 t1 c.requires.sound lt c.in_ok-n.ensures.puts)
 
 pub returns-in_err-acl-clause-full : goal.returns-in_err-acl-clause-full
 returns-in_err-acl-clause-full g c =
