@@ -1,5 +1,5 @@
 -- A line that is too long may be cut after the byte that makes it so.
-use Rattle.std.proofs.Common.{◌≡◌, ℕ, ◌<◌, nat_lt, true, false, List, length, take, Err, refl, sym, ap, ◌∙◌, inl, inr, arith, length-take, take_all}
+use Rattle.std.proofs.Common.{◌≡◌, ℕ, ◌<◌, nat_lt, true, List, length, take, Err, refl, sym, ap, ◌∙◌, inl, inr, arith, length-take, take_all}
 use Rattle.std.proofs.lemmas.Bool.{cases_Bool, true≢false}
 use borrow.Author.Tests.{ltb-false, ltb-true, lt-ltb}
 use Rattle.fs_model.specs.declared.event.Event.{Event}

@@ -1,6 +1,7 @@
 pub mod Escapes
 pub mod Cut
 pub mod Each
+pub mod Letters
 pub mod Faulty
 pub mod Numbers
 pub mod Reading

@@ -1,13 +1,14 @@
 -- The forms of words in commands. A word that isn't of its form is BadNumber.
 --     number_of, id_of, pid_of        decimal numbers of so many bits
 --     groups_of, perms_in, mode_of        supplementary groups, permissions, modes
-use Rattle.std.specs.Prelude.{ℕ, ◌+◌, ◌-◌, ◌*◌, ◌^◌, ◌==◌, nat_le, nat_lt, Bool, ◌&&◌, ◌||◌, List, [], ◌∷◌, length, Result, Ok, Err, if◌then◌else◌}
-use Rattle.std.specs.List.{slice_split}
+use Rattle.std.specs.Prelude.{ℕ, ◌+◌, ◌-◌, ◌*◌, ◌^◌, nat_le, nat_lt, Bool, ◌&&◌, List, [], ◌∷◌, length, map, ok_or, Result, Ok, Err, if◌then◌else◌}
+use Rattle.std.specs.List.{find, range_with_len, slice_split}
 use Rattle.std.specs.Fmt.{decimal}
 use Rattle.std.specs.Str.{bytes_eq}
 use Rattle.std.specs.Str.Parse.{digits_value}
 use Rattle.posix_acl.specs.declared.entry.Perms.{Perms}
-use Rattle.posix_acl.specs.Text.{is_comma}
+use Rattle.posix_acl.specs.Entries.{perms_of}
+use Rattle.posix_acl.specs.Text.{is_comma, perms_text}
 use Rattle.fs_shell.specs.declared.line.LineFault.{LineFault}
 use Rattle.fs_shell.specs.declared.line.LineFault.TheVariants.{BadNumber}
 use Rattle.fs_shell.specs.Lines.{each}
@@ -31,16 +32,13 @@ pid_of word = number_of 64 word
 unfoldable pub groups_of : List ℕ → Result (List ℕ) LineFault
 groups_of word = if nat_le (length (slice_split is_comma word)) 16 then each id_of (slice_split is_comma word) else Err BadNumber
 
--- the letter, or `-` instead of it
-abbrev pub is_letter : ℕ → ℕ → Bool
-is_letter letter b = b == letter || b == 45
+-- those of the digits 0 to 7
+abbrev pub all_perms : List Perms
+all_perms = map perms_of (range_with_len 0 8)
 
--- Permissions are three characters: `r`, `w` and `x`, or `-` instead of each.
+-- Permissions are written by their letters.
 unfoldable pub perms_in : List ℕ → Result Perms LineFault
-perms_in (r ∷ w ∷ x ∷ []) =
-    if is_letter 114 r && is_letter 119 w && is_letter 120 x then Ok (record { read = r == 114; write = w == 119; execute = x == 120 })
-    else Err BadNumber
-perms_in _ = Err BadNumber
+perms_in word = ok_or (find (λ p. bytes_eq word (perms_text p)) all_perms) BadNumber
 
 abbrev pub is_octal_digit : ℕ → Bool
 is_octal_digit b = nat_le 48 b && nat_le b 55

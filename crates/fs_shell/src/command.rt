@@ -8,7 +8,7 @@ use crate::forms::{read_groups, read_id, read_mode, read_perms, read_pid};
 use crate::line::{Line, LineFault};
 use fs_cred::Cred;
 use fs_model::{Call, Path};
-use std::alloc::{AllocError, Global};
+use std::alloc::Global;
 
 /// A command that lines name.
 #[derive(Clone, Copy)]
@@ -164,7 +164,7 @@ fn read_stat(alloc: Global, pid: usize, words: &[Vec<u8>]) -> Result<Line, LineF
     ensures offered { IfOk result IsOffered }
 {
     match words {
-        [path] => Ok(Line::Call(pid, Call::Stat(new_path(alloc, path)?))),
+        [path] => Ok(Line::Call(pid, Call::Stat(Path::from_slice(alloc, path)?))),
         _ => Err(LineFault::WordCount),
     }
 }
@@ -176,7 +176,7 @@ fn read_access(alloc: Global, pid: usize, words: &[Vec<u8>]) -> Result<Line, Lin
     match words {
         [path, want] => {
             let want = read_perms(want)?;
-            Ok(Line::Call(pid, Call::Access(new_path(alloc, path)?, want)))
+            Ok(Line::Call(pid, Call::Access(Path::from_slice(alloc, path)?, want)))
         }
         _ => Err(LineFault::WordCount),
     }
@@ -189,14 +189,8 @@ fn read_chmod(alloc: Global, pid: usize, words: &[Vec<u8>]) -> Result<Line, Line
     match words {
         [path, mode] => {
             let mode = read_mode(mode)?;
-            Ok(Line::Call(pid, Call::Chmod(new_path(alloc, path)?, mode)))
+            Ok(Line::Call(pid, Call::Chmod(Path::from_slice(alloc, path)?, mode)))
         }
         _ => Err(LineFault::WordCount),
     }
-}
-
-fn new_path(alloc: Global, bytes: &[u8]) -> Result<Path, AllocError>
-    ensures { IfOk result (λ path. path ≡ bytes.now) }
-{
-    Ok(Path::new(Vec::from_slice(alloc, bytes)?))
 }

@@ -94,18 +94,10 @@ fn read_ids(alloc: Global, word: &[u8]) -> Result<Vec<u32>, LineFault>
 }
 
 /// Permissions: `r`, `w` and `x`, or `-` instead of each.
-#[tactic(auto, unfolding(crate::specs::Words::perms_in))]
 pub fn read_perms(word: &[u8]) -> Result<Perms, LineFault>
     ensures { result ≡ perms_in word.now }
 {
-    match word {
-        [r @ (b'r' | b'-'), w @ (b'w' | b'-'), x @ (b'x' | b'-')] => Ok(Perms {
-            read: *r == b'r',
-            write: *w == b'w',
-            execute: *x == b'x',
-        }),
-        _ => Err(LineFault::BadNumber),
-    }
+    Perms::from_letters(word).ok_or(LineFault::BadNumber)
 }
 
 /// A mode: one to four octal digits.

@@ -273,8 +273,5 @@ fn push_perms(text: &mut String, want: Perms) -> Result<(), AllocError>
     ensures { OnOk result (string_bytes text.new ≡ string_bytes text.old ++ (codes "perm " ++ perms_text want)) }
 {
     text.push_str("perm ")?;
-    text.push(if want.read { 'r' } else { '-' })?;
-    text.push(if want.write { 'w' } else { '-' })?;
-    text.push(if want.execute { 'x' } else { '-' })?;
-    Ok(())
+    text.push_str(want.letters())
 }

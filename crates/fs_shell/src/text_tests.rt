@@ -213,7 +213,7 @@ fn expect_data(
     bytes: &[u8],
     wanted: &str,
 ) -> Result<(), AllocError> {
-    let reply = Reply::Data(Bytes::new(Vec::from_slice(alloc, bytes)?));
+    let reply = Reply::Data(Bytes::from_slice(alloc, bytes)?);
     expect_text(alloc, report, reply, wanted)
 }
 
@@ -223,7 +223,7 @@ fn expect_target(
     bytes: &[u8],
     wanted: &str,
 ) -> Result<(), AllocError> {
-    let reply = Reply::Target(Path::new(Vec::from_slice(alloc, bytes)?));
+    let reply = Reply::Target(Path::from_slice(alloc, bytes)?);
     expect_text(alloc, report, reply, wanted)
 }
 
@@ -240,7 +240,7 @@ fn expect_list(
 }
 
 fn named(alloc: Global, name: &[u8], inode: u32) -> Result<Named, AllocError> {
-    let name = Name::new(Vec::from_slice(alloc, name)?);
+    let name = Name::from_slice(alloc, name)?;
     Ok(Named { name, inode })
 }
 

@@ -90,7 +90,7 @@ fn spawned<D: Disk>(fs: &mut Fs<D>, alloc: Global) -> Result<Result<usize, u8>, 
 }
 
 fn root(alloc: Global) -> Result<Path, AllocError> {
-    Ok(Path::new(Vec::from_slice(alloc, b"/")?))
+    Path::from_slice(alloc, b"/")
 }
 
 fn stat<D: Disk>(fs: &mut Fs<D>, alloc: Global, pid: usize) -> Result<Told, AllocError>
