@@ -118,6 +118,15 @@ impl Commit {
         self.put(&mut to[at..at + 512]);
     }
 
+    /// The content of the commit sector.
+    pub fn to_sector(&self) -> [u8; 512]
+        ensures { result ≡ commit_bytes self.now }
+    {
+        let mut content = [0; 512];
+        self.write_to(&mut content, 0);
+        content
+    }
+
     /// Reads the sector; `at` is 0. It does not know the disk's size: ask [`Commit::is_valid_for`] too.
     pub fn read_from(from: &[u8; 512], at: usize) -> Result<Commit, LayoutFault>
         requires { at ≡ 0 }

@@ -13,5 +13,6 @@ mod validity;
 pub use acl::Acl;
 pub use entry::{Entry, EntryNumbers, Perms, Tag};
 pub use fault::AclFault;
+pub use reading::starts_plainly;
 pub use text::TextForm;
 pub use validity::MAX_ENTRIES;

@@ -146,8 +146,9 @@ fn read_id(name: &[u8]) -> Option<u32>
     digits.parse::<u32>().ok()
 }
 
-// With a digit, and not with a zero before other digits.
-fn starts_plainly(name: &[u8]) -> bool
+/// Whether the text starts as a decimal number does: with a digit, and not with a zero before other digits. `parse` of
+/// std takes a sign and zeros in front too.
+pub fn starts_plainly(name: &[u8]) -> bool
     ensures { IsTrue result ↔ StartsPlainly name.now }
 {
     match name {

@@ -1,19 +1,19 @@
 //! Sectors, and the contents that they are to have.
 
 ghost use Rattle.std.specs.Prelude.{◌≡◌, ◌≢◌, ◌↔◌, ◌≤◌, ◌<◌, ◌+◌, [], ◌∷◌, ℕ, List, IsTrue, true, false, length, IfOk, IfSome, IfNone, if◌then◌else◌};
+ghost use Rattle.fs_layout.specs.declared.commit.TheConstants.{MAX_TARGETS};
+ghost use Rattle.fs_layout.specs.declared.place.TheConstants.{INODE_BITMAP};
 ghost use Rattle.fs_layout.specs.Bytes.{SectorMap};
 ghost use Rattle.fs_layout.specs.Changes.{Puts};
 ghost use Rattle.redo_journal.specs.Batch.{Entry, IsBatch, IsOnDisk, put_entry, has_entry, with_batch, target_at};
 
+use fs_layout::MAX_TARGETS;
 use std::alloc::{AllocError, Global};
 use std::marker::Model;
 
-// How many targets a commit sector can name.
-const CAPACITY: usize = 126;
-
 /// A map from sectors behind the log to contents, for one commit.
 ///
-/// It holds 126 sectors, and its memory is reserved once: no later call takes any. A contract sees it as the list of
+/// It holds [`MAX_TARGETS`] sectors, and its memory is reserved once: no later call takes any. A contract sees it as the list of
 /// its entries, in the order of the log.
 #[derive(Drop)]
 pub struct Batch {
@@ -22,13 +22,14 @@ pub struct Batch {
 
 impl Model for Batch {
     ghost use Rattle.std.specs.Prelude.{◌≤◌, ℕ, List, vec_capacity};
+    ghost use Rattle.fs_layout.specs.declared.commit.TheConstants.{MAX_TARGETS};
     ghost use Rattle.redo_journal.specs.Batch.{IsBatch};
 
     ghost Value = { List (ℕ × List ℕ) };
 
     ghost view = { λ b. b.entries.items };
 
-    ghost invariant = { λ b. IsBatch b.entries.items × (126 ≤ vec_capacity b.entries) };
+    ghost invariant = { λ b. IsBatch b.entries.items × (MAX_TARGETS ≤ vec_capacity b.entries) };
 }
 
 impl Batch {
@@ -38,14 +39,14 @@ impl Batch {
         ensures on_disk { IfOk result (λ batch. (size : ℕ) → IsOnDisk size batch) }
     {
         Ok(Batch {
-            entries: Vec::with_capacity(alloc, CAPACITY)?,
+            entries: Vec::with_capacity(alloc, MAX_TARGETS)?,
         })
     }
 
     /// Sets the content for a sector.
     pub fn put(&mut self, n: u32, from: &[u8; 512])
-        requires part { 128 ≤ n }
-        requires room { has_entry self.old n ≡ false → length self.old < 126 }
+        requires part { INODE_BITMAP ≤ n }
+        requires room { has_entry self.old n ≡ false → length self.old < MAX_TARGETS }
         ensures put { self.new ≡ put_entry self.old n from.now }
         ensures map { (sectors : SectorMap) → Puts n from.now (with_batch self.old sectors) (with_batch self.new sectors) }
         ensures len { length self.new ≡ (if has_entry self.old n then length self.old else length self.old + 1) }

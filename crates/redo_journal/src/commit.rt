@@ -7,12 +7,9 @@ ghost use Rattle.redo_journal.specs.Meaning.{data_of, EachReadsAs, LeavesSameMap
 ghost use Rattle.redo_journal.specs.States.{IsAtRest, IsIdle, IsLogged, IsSealed, IsInstalled};
 ghost use Rattle.sector_disk.specs.Disk.{HasCause};
 
-use crate::steps::{copy_log, write_log, write_synced, write_targets};
-use fs_layout::Commit;
-use sector_disk::{Disk, DiskFault};
-
-/// The commit sector's number.
-pub(crate) const COMMIT_SECTOR: u32 = 1;
+use crate::steps::{copy_log, write_log, write_targets};
+use fs_layout::{COMMIT_SECTOR, Commit, MAX_TARGETS};
+use sector_disk::{Disk, DiskFault, write_synced};
 
 /// Writes the batch into the log and syncs. Each image reads as before.
 pub(crate) fn log_batch<D: Disk>(
@@ -120,7 +117,7 @@ fn clear_commit<D: Disk>(disk: &mut D) -> Result<(), DiskFault>
     ensures size { (D.state disk.new).size ≡ (D.state disk.old).size }
     ensures cause { HasCause (D.state disk.old) (D.state disk.new) result }
 {
-    write_synced(disk, COMMIT_SECTOR, &idle_sector())
+    write_synced(disk, COMMIT_SECTOR, &Commit::idle().to_sector())
 }
 
 // The content of a commit sector that names the entries' sectors.
@@ -128,22 +125,11 @@ fn commit_sector(entries: &[(u32, [u8; 512])]) -> [u8; 512]
     requires { length entries.now ≤ 126 }
     ensures { result ≡ commit_bytes (targets entries.now) }
 {
-    let mut sectors = [0; 126];
+    let mut sectors = [0; MAX_TARGETS];
     for (k, entry) in entries.iter().enumerate() {
         sectors[k] = entry.0;
     }
-    let mut content = [0; 512];
-    Commit::new(&sectors[..entries.len()]).write_to(&mut content, 0);
-    content
-}
-
-// The content of a commit sector that names none.
-fn idle_sector() -> [u8; 512]
-    ensures { result ≡ commit_bytes [] }
-{
-    let mut content = [0; 512];
-    Commit::idle().write_to(&mut content, 0);
-    content
+    Commit::new(&sectors[..entries.len()]).to_sector()
 }
 
 /// The commit that a sector's content is, on a disk of so many sectors.

@@ -7,7 +7,8 @@ ghost use Rattle.redo_journal.specs.States.{IsIdle};
 ghost use Rattle.sector_disk.specs.Disk.{IsStable, LeavesOnly, HasFailed};
 
 use crate::Journal;
-use crate::commit::{COMMIT_SECTOR, install_log, valid_commit};
+use crate::commit::{install_log, valid_commit};
+use fs_layout::COMMIT_SECTOR;
 use sector_disk::{Disk, DiskFault};
 
 /// Why a disk has no journal.

@@ -6,23 +6,8 @@ ghost use Rattle.redo_journal.specs.Batch.{Entry, targets};
 ghost use Rattle.redo_journal.specs.States.{HoldsLog, HoldsTargets, HasReplayed, InLog, InTargets};
 ghost use Rattle.sector_disk.specs.Disk.{AddsOnly, IsImageOr, IsStable, LeavesOnly, HasCause, sector, IsWrite};
 
+use fs_layout::FIRST_LOG_SECTOR;
 use sector_disk::{Disk, DiskFault};
-
-// The first sector of the log.
-const LOG: u32 = 2;
-
-/// Writes a sector and syncs.
-pub(crate) fn write_synced<D: Disk>(disk: &mut D, n: u32, from: &[u8; 512]) -> Result<(), DiskFault>
-    requires { n < (D.state disk.old).size }
-    ensures written { OnOk result ((D.state disk.new).seen ≡ slice_set (D.state disk.old).seen n from.now) }
-    ensures stable { OnOk result (IsStable (D.state disk.new)) }
-    ensures adds { AddsOnly (IsWrite n from.now) (D.state disk.old) (D.state disk.new) }
-    ensures any_moment { LeavesOnly (D.state disk.old) (D.state disk.new) (IsImageOr (IsWrite n from.now) (D.state disk.old)) }
-    ensures cause { HasCause (D.state disk.old) (D.state disk.new) result }
-{
-    disk.write(n, from)?;
-    disk.sync()
-}
 
 /// Writes the contents into the log's sectors, from the first on.
 pub(crate) fn write_log<D: Disk>(
@@ -36,7 +21,7 @@ pub(crate) fn write_log<D: Disk>(
     ensures any_moment { LeavesOnly (D.state disk.old) (D.state disk.new) (IsImageOr InLog (D.state disk.old)) }
     ensures cause { HasCause (D.state disk.old) (D.state disk.new) result }
 {
-    let mut at = LOG;
+    let mut at = FIRST_LOG_SECTOR;
     for entry in entries {
         disk.write(at, &entry.1)?;
         at += 1;
@@ -71,7 +56,7 @@ pub(crate) fn copy_log<D: Disk>(disk: &mut D, sectors: &[u32]) -> Result<(), Dis
     ensures cause { HasCause (D.state disk.old) (D.state disk.new) result }
 {
     let mut content = [0; 512];
-    let mut from = LOG;
+    let mut from = FIRST_LOG_SECTOR;
     for target in sectors {
         disk.read(from, &mut content)?;
         disk.write(*target, &content)?;

@@ -1,8 +1,8 @@
 //! A disk as the layers above see it: an array of sectors that may be stopped at any moment, as by a power cut.
 //! A stop leaves in each sector what was there at the last sync that succeeded, or any content written since.
 
-ghost use Rattle.std.specs.Prelude.{◌≡◌, ◌≤◌, ◌<◌, ◌^◌, ◌-◌, ℕ, List, IsErr, OnOk, OnErr};
-ghost use Rattle.sector_disk.specs.Disk.{DiskState, Image, IsImage, IsSame, IsWritten, ChangesOnly, IsStable, IsNarrowed, Elapses, HasCause, HasWriteCause, IsWholeSector, sector};
+ghost use Rattle.std.specs.Prelude.{◌≡◌, ◌≤◌, ◌<◌, ◌^◌, ◌-◌, ℕ, List, IsErr, OnOk, OnErr, slice_set};
+ghost use Rattle.sector_disk.specs.Disk.{DiskState, Image, IsImage, IsSame, IsWritten, ChangesOnly, IsStable, IsNarrowed, Elapses, HasCause, HasWriteCause, IsWholeSector, sector, AddsOnly, IsImageOr, IsWrite, LeavesOnly};
 
 /// A read, a write or a sync failed, and the disk has counted it.
 #[derive(Clone, Copy, Debug, PartialEq, Eq)]
@@ -79,6 +79,19 @@ pub trait Disk {
 
     /// Since this moment there is no other.
     ghost only_now: { (disk : Self) (image : Image) → (state disk).left_since (state disk).moment image → IsImage (state disk) image };
+}
+
+/// Writes a sector and syncs. A stop before the end leaves the new content or one from before it.
+pub fn write_synced<D: Disk>(disk: &mut D, n: u32, content: &[u8; 512]) -> Result<(), DiskFault>
+    requires { n < (D.state disk.old).size }
+    ensures written { OnOk result ((D.state disk.new).seen ≡ slice_set (D.state disk.old).seen n content.now) }
+    ensures stable { OnOk result (IsStable (D.state disk.new)) }
+    ensures adds { AddsOnly (IsWrite n content.now) (D.state disk.old) (D.state disk.new) }
+    ensures any_moment { LeavesOnly (D.state disk.old) (D.state disk.new) (IsImageOr (IsWrite n content.now) (D.state disk.old)) }
+    ensures cause { HasCause (D.state disk.old) (D.state disk.new) result }
+{
+    disk.write(n, content)?;
+    disk.sync()
 }
 
 /// A disk that can be made to fail and to stop, as tests do.

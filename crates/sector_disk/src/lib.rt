@@ -6,7 +6,7 @@ mod faulty;
 mod history;
 mod memory;
 
-pub use disk::{CrashDisk, Disk, DiskFault};
+pub use disk::{CrashDisk, Disk, DiskFault, write_synced};
 pub use faulty::{FailOnce, FaultyDisk, FuseDisk};
 pub use memory::MemDisk;
 

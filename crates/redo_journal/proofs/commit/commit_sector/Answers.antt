@@ -27,4 +27,4 @@ returns c =
     (λ j lt.
     let low : j < n = omega (arith, lt, long, length-targets entries) in
     get_or-take n sectors j 0 low ∙ c.loop-k.invariant.named j (omega (arith, low, c.loop-k-test.false)) ∙ sym (target_is entries j low)) in
-    c.write_to.ensures ∙ ap commit_bytes (c.new.ensures ∙ same)
+    c.to_sector.ensures ∙ ap commit_bytes (c.new.ensures ∙ same)
