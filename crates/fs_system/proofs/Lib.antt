@@ -13,6 +13,5 @@ pub mod RootInode
 pub mod RootSaved
 pub mod RootSteps
 pub mod Runs
-pub mod Slots
 pub mod Tables
 pub mod Writing

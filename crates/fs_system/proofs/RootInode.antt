@@ -6,6 +6,8 @@ use Rattle.posix_acl.specs.Entries.{perms_of, digit_of}
 use Rattle.posix_acl.specs.AccessList.{AccessList, IsAcl, is_extended, minimal, mode_bits}
 use Rattle.posix_acl.proofs.Laws.{digit_back}
 use Rattle.sector_disk.specs.Disk.{DiskState, Image, sector}
+use Rattle.fs_layout.proofs.ImageSlots.{length-slots}
+use Rattle.fs_layout.proofs.SlotNames.{length-names}
 use Rattle.fs_layout.specs.declared.inode.Inode.{Inode}
 use Rattle.fs_layout.specs.declared.place.Place.{Place}
 use Rattle.fs_layout.specs.Bytes.{SectorMap, window}
@@ -28,7 +30,6 @@ use Rattle.fs_model.specs.Stands.{HoldsAll, HoldsPlaced, placed}
 use Rattle.fs_layout.proofs.OneAcl.{access_same, mode_small}
 use Rattle.fs_system.specs.Seen.{StandsFor, HasPlainRoot, IsRunning}
 use Rattle.fs_system.specs.Rooted.{ShowsRoot}
-use Rattle.fs_system.proofs.Slots.{slots_length, names_length}
 
 -- ---- an ACL that its bits tell
 
@@ -128,8 +129,8 @@ module _ (seen : Image) (room : Room) (t : Tree) (free : ℕ) (st : StandsFor ro
               ∙ ap (λ (n : ℕ). Some (record { owner = v.uid; group = n; body = Dir plain.acl plain.directory })) (sym h.group)
               ∙ ap (λ (a : AccessList). Some (record { owner = v.uid; group = v.gid; body = Dir a plain.directory })) (sym bits_tell);
           mode = h.mode ∙ ap (λ (a : AccessList). shown_mode (Dir a plain.directory)) (sym bits_tell);
-          size = h.body.names.holds.size ∙ slots_length h.body.names.slots h.body.names.each
-              ∙ ap (λ (n : ℕ). 128 * n) (sym (ap length h.body.names.are ∙ names_length h.body.names.slots h.body.names.apart));
+          size = h.body.names.holds.size ∙ length-slots h.body.names.slots h.body.names.each
+              ∙ ap (λ (n : ℕ). 128 * n) (sym (ap length h.body.names.are ∙ length-names h.body.names.slots h.body.names.apart));
         }
 
 -- ---- of a file system that runs

@@ -8,13 +8,11 @@ ghost use Rattle.fs_layout.specs.Superblock.{super_bytes};
 ghost use Rattle.fs_system.specs.Making.{BehindSuperblock, HasNoSuperblock, HoldsNewTables, IsCleared, IsDeviceFault, IsHalfCleared, IsHalfDone, IsHalfMade, IsNewDisk, IsPrepared, mkfs_refusal};
 
 use crate::MkfsFault;
-use crate::new_tables::{INODE_BITMAP, table_sector};
-use fs_layout::{Commit, Place, Super, place_of};
-use sector_disk::{Disk, DiskFault};
+use crate::new_tables::table_sector;
+use fs_layout::{COMMIT_SECTOR, Commit, INODE_BITMAP, Place, Super, place_of};
+use sector_disk::{Disk, DiskFault, write_synced};
 
 const SUPERBLOCK: u32 = 0;
-
-const COMMIT_SECTOR: u32 = 1;
 
 /// Makes a file system with so many inodes on the disk, whose root is an empty directory of the superuser's, 0755.
 ///
@@ -84,7 +82,7 @@ fn prepare<D: Disk>(disk: &mut D, place: Place) -> Result<(), DiskFault>
     ensures size { (D.state disk.new).size ≡ (D.state disk.old).size }
     ensures cause { HasCause (D.state disk.old) (D.state disk.new) result }
 {
-    disk.write(COMMIT_SECTOR, &idle_commit())?;
+    disk.write(COMMIT_SECTOR, &Commit::idle().to_sector())?;
     write_tables(disk, place)?;
     disk.sync()
 }
@@ -117,19 +115,6 @@ fn write_superblock<D: Disk>(disk: &mut D, place: Place) -> Result<(), DiskFault
     write_synced(disk, SUPERBLOCK, &superblock(place))
 }
 
-// Writes a sector, and syncs.
-fn write_synced<D: Disk>(disk: &mut D, n: u32, content: &[u8; 512]) -> Result<(), DiskFault>
-    requires { n < (D.state disk.old).size }
-    ensures written { OnOk result ((D.state disk.new).seen ≡ slice_set (D.state disk.old).seen n content.now) }
-    ensures stable { OnOk result (IsStable (D.state disk.new)) }
-    ensures adds { AddsOnly (IsWrite n content.now) (D.state disk.old) (D.state disk.new) }
-    ensures any_moment { LeavesOnly (D.state disk.old) (D.state disk.new) (IsImageOr (IsWrite n content.now) (D.state disk.old)) }
-    ensures cause { HasCause (D.state disk.old) (D.state disk.new) result }
-{
-    disk.write(n, content)?;
-    disk.sync()
-}
-
 // The content of the superblock.
 fn superblock(place: Place) -> [u8; 512]
     ensures { result ≡ super_bytes (record { sectors = place.sectors; inodes = place.inodes }) }
@@ -140,14 +125,5 @@ fn superblock(place: Place) -> [u8; 512]
         inodes: place.inodes,
     }
     .write_to(&mut content, 0);
-    content
-}
-
-// The content of a commit sector that names no sectors.
-fn idle_commit() -> [u8; 512]
-    ensures { result ≡ commit_bytes [] }
-{
-    let mut content = [0; 512];
-    Commit::idle().write_to(&mut content, 0);
     content
 }

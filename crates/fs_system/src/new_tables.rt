@@ -2,22 +2,11 @@
 
 ghost use Rattle.std.specs.Prelude.{◌≡◌, ◌≤◌, ◌<◌, ◌+◌, ◌^◌, ℕ, nat_eq};
 ghost use Rattle.std.specs.Int.{bit_at};
+ghost use Rattle.fs_layout.specs.declared.place.TheConstants.{INODE_BITMAP, SECTOR_BITS};
 ghost use Rattle.fs_layout.specs.Place.{IsPlace};
 ghost use Rattle.fs_system.specs.NewTables.{IsBitmap, IsNewTable, is_outside, root_table};
 
-use fs_layout::{Inode, Kind, Place};
-
-/// The sector of the inode bitmap, the first of the tables.
-pub(crate) const INODE_BITMAP: u32 = 128;
-
-// The first sector of the block bitmap.
-const BLOCK_BITMAP: u32 = 129;
-
-// How many bits a sector has.
-const SECTOR_BITS: u32 = 4096;
-
-// The number of the root's inode.
-const ROOT: u32 = 1;
+use fs_layout::{BLOCK_BITMAP, INODE_BITMAP, Inode, Kind, Place, ROOT, SECTOR_BITS};
 
 /// What sector `n` of the bitmaps and the inode table holds on a new disk.
 #[tactic(auto, unfolding(fs_layout::specs::Bytes::zeros))]

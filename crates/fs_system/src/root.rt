@@ -17,15 +17,13 @@ ghost use Rattle.fs_system.specs.Serving.{the_root};
 ghost use Rattle.fs_system.specs.Rooted.{ShowsRootOf, shown_bits, is_the_root, IsOldOr, Performs, PerformsOrHalts};
 
 use fs_cred::{Cred, Denial, Errno, Need, Node, NodeKind, Refusal, Rule, decide, may_own};
-use fs_layout::{Inode, Place};
+use fs_layout::{Inode, Place, ROOT};
 use fs_model::{FileType, Path, Reply, Status};
 use posix_acl::{Acl, Perms};
 use sector_disk::{Disk, DiskFault};
 use std::alloc::Global;
 
-// The root is inode 1: the second of its table's first sector.
-const ROOT: u32 = 1;
-
+// The root's inode is the second of its table's first sector.
 const ROOT_AT: usize = 128;
 
 const ALL_MODE_BITS: u16 = 0o7777;

@@ -41,7 +41,7 @@ returns-clause-prepared g c =
     let all = adds_narrowed (adds_joined first c.write_tables.ensures.adds) c.sync.ensures.changes in
     let room : 1 < length before.seen = omega (arith, (place_on_disk _ c.args.place.inodes c.args.place c.requires.place).least, c.requires.cleared.whole) in
     let commit : sector written.seen 1 ≡ commit_bytes [] =
-    ap (λ (i : Image). sector i 1) c.in_ok-write.ensures.written.seen ∙ get_or-set_same before.seen 1 c.idle_commit.result [] room ∙ c.idle_commit.ensures in
+    ap (λ (i : Image). sector i 1) c.in_ok-write.ensures.written.seen ∙ get_or-set_same before.seen 1 c.to_sector.result [] room ∙ c.to_sector.ensures ∙ ap commit_bytes c.idle.ensures in
     on_ok_weaker c.sync.result
     (prepared c.args.place before after c.requires.place c.requires.cleared all (g.met.D.Disk.seen_is_image c.sync.new.self)
     (ap (λ (i : Image). sector i 1) seen ∙ c.in_ok-write_tables.ensures.commit ∙ commit)
