@@ -1,18 +1,10 @@
 -- The sectors that inodes own are at most those that their tree needs, so the count of free sectors is within the machine's bounds.
-use Rattle.std.specs.Prelude.{◌≡◌, ◌≢◌, ℕ, zero, suc, ◌+◌, ◌-◌, ◌*◌, ◌/◌, ◌<◌, ◌≤◌, nat_lt, Bool, true, false, not, cond, List, [], ◌∷◌, ◌++◌, length, if◌then◌else◌, Option, None, Some, is_some, MatchOption, ◌⊎◌, All, slice_index_or, T}
+use Rattle.std.specs.Prelude.{◌≡◌, ◌≢◌, ℕ, zero, suc, ◌+◌, ◌-◌, ◌*◌, ◌/◌, ◌<◌, ◌≤◌, nat_lt, Bool, true, false, not, List, [], ◌∷◌, ◌++◌, length, if◌then◌else◌, Option, None, Some, is_some, MatchOption, ◌⊎◌}
 use Rattle.std.proofs.Common.{refl, sym, ap, arith, ◌∙◌, subst, inl, inr}
-use Rattle.std.specs.Ordering.{is_eq, eq_by_cmp}
 use Rattle.std.specs.Option.{option_map}
 use Rattle.std.specs.List.{range_with_len}
-use Rattle.std.specs.declared.cmp.Ordering.{Ordering}
-use Rattle.std.specs.declared.cmp.Ordering.TheVariants.{Less, Equal, Greater}
-use Rattle.std.specs.FinMap.{nat_cmp-IsAntisymmetric, slice_cmp-IsAntisymmetric, is_sorted}
-use Rattle.std.specs.FinMap.Entries.{find-put, length-put, is_sorted-put}
 use Rattle.std.proofs.lemmas.Bool.{cases_eq, cases_lt, lt-ltb}
-use Rattle.std.proofs.lemmas.Cmp.{nat_list_cmp_total}
 use Rattle.std.proofs.lemmas.List.{length-append}
-use Rattle.std.proofs.lemmas.List.Concat.{flat_map-cons}
-use Rattle.std.proofs.lemmas.List.Elements.{All-head, All-tail}
 use Rattle.std.proofs.lemmas.List.Sums.{sum_by-cons, count_by-le-length}
 use Rattle.std.proofs.lemmas.List.FromFn.{length-range_with_len}
 use Rattle.posix_acl.specs.AccessList.{AccessList, is_extended}
@@ -25,13 +17,13 @@ use Rattle.fs_layout.specs.Images.{IsData, bit, block_bitmap, pointer, Part, Acc
 use Rattle.fs_layout.specs.Recovered.{recovered}
 use Rattle.fs_layout.proofs.Bits.{has_bit, set_or_clear}
 use Rattle.fs_layout.proofs.Free.{HasNoSector, owns_nothing, free_has_no_sector}
-use Rattle.fs_layout.proofs.SlotLaw.{length-slot_bytes}
+use Rattle.fs_layout.proofs.ImageSlots.{length-slots}
+use Rattle.fs_layout.proofs.SlotNames.{length-names}
 use Rattle.fs_model.specs.Limits.{target_limit}
-use Rattle.fs_layout.specs.Maps.{name_cmp, get}
 use Rattle.fs_model.specs.Nodes.{Node, Body, File, Dir, Link, target_in, sectors_for, sectors_of}
 use Rattle.fs_model.specs.Trees.{Tree, Room, node_at, names_of, parent, sectors_needed, IsBody, IsTree}
 use Rattle.fs_model.specs.States.{MayBeFree}
-use Rattle.fs_layout.specs.Directories.{HaveDistinctNames, slots_bytes, names_of_slots, NamedInode, FitsSlot, slot_bytes}
+use Rattle.fs_layout.specs.Directories.{slots_bytes}
 use Rattle.fs_layout.specs.AclSector.{HoldsAcl, kept_acl}
 use Rattle.fs_model.specs.StoredNodes.{HoldsBody, HoldsNode}
 use Rattle.fs_model.specs.Stands.{HoldsAll, placed, Stands}
@@ -132,48 +124,6 @@ acl_is_extended image s a h some = go (is_extended a) refl h
 default_is_there : (image : SectorMap) (s : ℕ) (default : Option AccessList) → HoldsAcl image s default → s ≢ 0 → is_some default ≡ true
 default_is_there image s None h some = absurd (some h)
 default_is_there image s (Some a) h some = refl
-
--- ---- a directory has as many names as slots
-
-different : (x y : List ℕ) → x ≢ y → eq_by_cmp name_cmp x y ≡ false
-different x y ne = go (name_cmp x y) refl
-  where
-    go : (o : Ordering) → name_cmp x y ≡ o → is_eq (name_cmp x y) ≡ false
-    go Less e = ap is_eq e
-    go Equal e = absurd (ne (slice_cmp-IsAntisymmetric nat_cmp-IsAntisymmetric x y e))
-    go Greater e = ap is_eq e
-
-absent : (slots : List NamedInode) (name : List ℕ) → ((j : ℕ) (d : NamedInode) → j < length slots → name ≢ (slice_index_or slots j d).name)
-    → get name_cmp (names_of_slots slots) name ≡ None
-unfolding names_of_slots
-absent [] name others = refl
-absent (x ∷ slots) name others =
-    find-put name_cmp nat_list_cmp_total name x.name x.inode (names_of_slots slots)
-    ∙ ap (λ b. cond b (Some x.inode) (get name_cmp (names_of_slots slots) name)) (different name x.name (others 0 x (omega arith)))
-    ∙ absent slots name (λ j d lt. others (suc j) d (omega (arith, lt)))
-
-slots_are_map : (slots : List NamedInode) → T (is_sorted name_cmp (names_of_slots slots))
-unfolding names_of_slots
-slots_are_map [] = tt
-slots_are_map (x ∷ slots) = is_sorted-put name_cmp nat_list_cmp_total x.name x.inode (names_of_slots slots) (slots_are_map slots)
-
-length-names : (slots : List NamedInode) → HaveDistinctNames slots → length (names_of_slots slots) ≡ length slots
-unfolding names_of_slots
-length-names [] apart = refl
-length-names (x ∷ slots) apart =
-    let new = absent slots x.name (λ j d lt. apart 0 (suc j) d (omega arith) (omega (arith, lt))) in
-    let rest = length-names slots (λ i j d less lt. apart (suc i) (suc j) d (omega (arith, less)) (omega (arith, lt))) in
-    length-put name_cmp nat_list_cmp_total x.name x.inode (names_of_slots slots) (slots_are_map slots)
-    ∙ ap (λ o. cond (is_some o) (length (names_of_slots slots)) (length (names_of_slots slots) + 1)) new
-    ∙ omega (arith, rest)
-
-length-slots : (slots : List NamedInode) → All FitsSlot slots → length (slots_bytes slots) ≡ 128 * length slots
-length-slots [] fit = refl
-length-slots (x ∷ slots) fit =
-    let here = length-slot_bytes x (All-head FitsSlot x slots fit).name.short in
-    let rest = length-slots slots (All-tail FitsSlot x slots fit) in
-    let whole = ap length (flat_map-cons slot_bytes x slots) ∙ length-append (slot_bytes x) (slots_bytes slots) in
-    omega (arith, here, rest, whole)
 
 -- ---- what an inode owns
 

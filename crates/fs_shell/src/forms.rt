@@ -10,7 +10,7 @@ ghost use Rattle.fs_shell.specs.Runs.{Gives};
 
 use crate::line::LineFault;
 use fs_cred::MAX_GROUPS;
-use posix_acl::Perms;
+use posix_acl::{Perms, starts_plainly};
 use std::alloc::Global;
 
 /// The id of a user or a group.
@@ -51,17 +51,6 @@ fn plain_text(word: &[u8]) -> Option<&str>
     match std::str::from_utf8(word) {
         Ok(text) => Some(text),
         Err(_) => None,
-    }
-}
-
-// With a digit, and not with a zero before other digits.
-fn starts_plainly(word: &[u8]) -> bool
-    ensures { IsTrue result ↔ StartsPlainly word.now }
-{
-    match word {
-        [] => false,
-        [b'0'] => true,
-        [first, ..] => *first > b'0' && *first <= b'9',
     }
 }
 

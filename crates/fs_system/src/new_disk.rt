@@ -1,8 +1,7 @@
 //! Making a new file system.
 
-ghost use Rattle.std.specs.Prelude.{◌≡◌, ◌≤◌, ◌<◌, [], Some, None, Err, IfErr, OnOk, MatchResult, slice_set};
-ghost use Rattle.sector_disk.specs.Disk.{AddsOnly, HasCause, IsImageOr, IsStable, LeavesOnly, sector, IsWrite};
-ghost use Rattle.fs_layout.specs.Commit.{commit_bytes};
+ghost use Rattle.std.specs.Prelude.{◌≡◌, ◌≤◌, ◌<◌, Some, None, Err, IfErr, OnOk, MatchResult};
+ghost use Rattle.sector_disk.specs.Disk.{AddsOnly, HasCause, IsImageOr, IsStable, LeavesOnly, sector};
 ghost use Rattle.fs_layout.specs.Place.{IsPlace, the_place};
 ghost use Rattle.fs_layout.specs.Superblock.{super_bytes};
 ghost use Rattle.fs_system.specs.Making.{BehindSuperblock, HasNoSuperblock, HoldsNewTables, IsCleared, IsDeviceFault, IsHalfCleared, IsHalfDone, IsHalfMade, IsNewDisk, IsPrepared, mkfs_refusal};
