@@ -3,8 +3,9 @@
 --     SectorMap        an image: what each sector holds, by its number
 --     window, splice        a part of a list, and a write into it
 --     le16, le32, le64, le32s, zeros        numbers as bytes, the lowest byte first
+--     resized, overwritten        bytes cut or made longer; bytes with others written over them
 --     u16_of, u32_of, u64_of, u32s_of, are_zero        the numbers that stand at an offset
-use Rattle.std.specs.Prelude.{ℕ, zero, suc, ◌+◌, ◌<◌, ◌≡◌, List, [], ◌∷◌, ◌++◌, length, take, drop, replicate, get_or, Bool, nat_eq}
+use Rattle.std.specs.Prelude.{ℕ, zero, suc, ◌+◌, ◌<◌, ◌≡◌, List, [], ◌∷◌, ◌++◌, length, take, drop, replicate, get_or, Bool, nat_eq, ◌-◌}
 use Rattle.std.specs.List.{flat_map, list_all}
 use Rattle.byteorder.specs.Endian.{little_bytes, little_number}
 
@@ -27,6 +28,14 @@ window s at n = take n (drop at s)
 -- s with bytes written at an offset, and no other byte changed
 unfoldable pub splice : List ℕ → ℕ → List ℕ → List ℕ
 splice s at bytes = take at s ++ (bytes ++ drop (at + length bytes) s)
+
+-- the bytes cut, or made longer by zeros
+abbrev pub resized : List ℕ → ℕ → List ℕ
+resized bytes size = take size bytes ++ replicate (size - length bytes) 0
+
+-- the bytes with others over those from an offset on, and zeros up to it
+abbrev pub overwritten : List ℕ → ℕ → List ℕ → List ℕ
+overwritten bytes offset new = resized bytes offset ++ new ++ drop (offset + length new) bytes
 
 -- a number of 16, 32 or 64 bits as bytes
 unfoldable pub le16 : ℕ → List ℕ

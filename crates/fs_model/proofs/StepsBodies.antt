@@ -7,13 +7,12 @@ use Rattle.posix_acl.specs.AccessList.{AccessList, IsAcl, with_mode_bits, IsSome
 use Rattle.posix_acl.specs.Entries.{perms_of}
 use Rattle.posix_acl.proofs.Classes.{IsAcl-with_classes}
 use Rattle.fs_cred.specs.Credentials.{Credential}
-use Rattle.fs_layout.specs.Bytes.{IsBytes}
+use Rattle.fs_layout.specs.Bytes.{IsBytes, resized, overwritten}
 use Rattle.fs_layout.proofs.Sectors.{IsBytes-append, IsBytes-take, IsBytes-drop}
 use Rattle.fs_model.specs.declared.call.AclType.{AclType}
 use Rattle.fs_model.specs.declared.call.AclType.TheVariants.{Access, Default}
 use Rattle.fs_model.specs.Nodes.{Node, Body, File, Dir, Link, Directory, names_in, bytes_in, type_of, with_bytes}
 use Rattle.fs_model.specs.Trees.{Tree, Room, IsBody, IsDirectory, IsNode}
-use Rattle.fs_model.specs.DescriptorCalls.{resized, overwritten}
 use Rattle.fs_model.specs.AttributeCalls.{with_mode, moded, owned, with_set_acl}
 use Rattle.fs_model.specs.Ranges.{IsSomeId}
 use Rattle.fs_model.proofs.StepsKinds.{MayReplace}

@@ -5,7 +5,7 @@ use Rattle.std.proofs.lemmas.Bool.{not-false}
 use Rattle.std.proofs.lemmas.Bool.Decides.{nat_tests}
 use Rattle.std.proofs.lemmas.List.{length-take, length-drop}
 use Rattle.fs_cred.specs.declared.errno.Errno.TheVariants.{EBADF, EFBIG}
-use Rattle.fs_layout.specs.Bytes.{IsBytes}
+use Rattle.fs_layout.specs.Bytes.{IsBytes, resized, overwritten}
 use Rattle.fs_layout.proofs.Sectors.{IsBytes-take}
 use Rattle.fs_model.specs.declared.call.Whence.{Whence}
 use Rattle.fs_model.specs.declared.reply.Reply.{Reply}
@@ -18,7 +18,7 @@ use Rattle.fs_model.specs.Changes.{Rewrite}
 use Rattle.fs_model.specs.Parts.{is_empty}
 use Rattle.fs_model.specs.Demands.{refuse, only_if}
 use Rattle.fs_model.specs.Scenes.{Scene, node_open, no_blocks, is_bad, is_bad_to_read, is_bad_to_write, answers}
-use Rattle.fs_model.specs.DescriptorCalls.{resized, overwritten, read_bytes, read_effect, write_offset, write_count, write_demands, written, write_effect, seekable, seek_base, sought, lseek_effect, close_effect, ftruncate_demands, ftruncate_effect, resized_node}
+use Rattle.fs_model.specs.DescriptorCalls.{read_bytes, read_effect, write_offset, write_count, write_demands, written, write_effect, seekable, seek_base, sought, lseek_effect, close_effect, ftruncate_demands, ftruncate_effect, resized_node}
 use Rattle.fs_model.proofs.StepsBodies.{bytes_are_few, bytes_are_bytes, length-resized, IsBytes-resized, length-overwritten, IsBytes-overwritten, bytes_may_replace}
 use Rattle.fs_model.proofs.StepsDemands.{AreMet, unrefused, is_open_here, is_read_here, is_written_here}
 use Rattle.fs_model.proofs.StepsFit.{IsScene, EffectFits, node_is_there, no_change_fits, rewrite_fits}

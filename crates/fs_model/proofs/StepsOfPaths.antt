@@ -4,6 +4,7 @@ use Rattle.std.proofs.Common.{refl, arith}
 use Rattle.std.proofs.lemmas.Bool.{not-false}
 use Rattle.std.proofs.lemmas.Bool.Decides.{nat_tests}
 use Rattle.posix_acl.specs.AccessList.{AccessList, IsSomeAcl}
+use Rattle.fs_layout.specs.Bytes.{resized}
 use Rattle.fs_cred.specs.declared.errno.Errno.TheVariants.{ENOENT, ENOTDIR, EFBIG}
 use Rattle.fs_model.specs.declared.call.AclType.{AclType}
 use Rattle.fs_model.specs.declared.reply.Reply.TheVariants.{Done, Mask}
@@ -11,7 +12,7 @@ use Rattle.fs_model.specs.Nodes.{is_directory, bytes_in}
 use Rattle.fs_model.specs.Trees.{node_at, IsNode}
 use Rattle.fs_model.specs.declared.walk.Found.{Found}
 use Rattle.fs_model.specs.Scenes.{Scene, is_found, number, node_found, body_found, must_be_there}
-use Rattle.fs_model.specs.DescriptorCalls.{resized, resized_node}
+use Rattle.fs_model.specs.DescriptorCalls.{resized_node}
 use Rattle.fs_model.specs.AttributeCalls.{truncate_demands, truncate_effect, chmod_demands, moded, chmod_effect, chown_demands, owned, chown_effect, with_set_acl, set_acl_demands, set_acl_effect, chdir_demands, chdir_effect, umask_effect}
 use Rattle.fs_model.specs.Ranges.{IsSomeId}
 use Rattle.fs_model.proofs.StepsBodies.{bytes_are_bytes, length-resized, IsBytes-resized, bytes_may_replace, mode_may_replace, acl_may_replace, owner_may_replace}

@@ -1,10 +1,10 @@
 -- Calls on a descriptor: POSIX.1-2017, read(), write(), lseek(), close(), fstat(), ftruncate() and readdir().
 -- Permission was asked at open(); here it is asked what the descriptor was opened for.
 --     read_row, write_row, lseek_row, close_row, fstat_row, ftruncate_row, readdir_row        each call
---     resized, overwritten        the bytes of a file after a change
 --     shown        what is shown of a node
 use Rattle.std.specs.Prelude.{ℕ, ◌+◌, ◌-◌, ◌^◌, nat_lt, nat_le, min, not, List, [], ◌∷◌, ◌++◌, length, take, drop, replicate, if◌then◌else◌, Option, None, Some, is_some, unwrap_or, ℤ, pos, negsuc, ◌+ℤ◌}
 use Rattle.std.specs.Ordering.{nat_cmp}
+use Rattle.fs_layout.specs.Bytes.{resized, overwritten}
 use Rattle.fs_cred.specs.declared.errno.Errno.TheVariants.{ENOTDIR, EISDIR, EINVAL, EFBIG}
 use Rattle.fs_model.specs.declared.call.Whence.{Whence}
 use Rattle.fs_model.specs.declared.call.Whence.TheVariants.{Set, Cur, End}
@@ -38,14 +38,6 @@ abbrev pub read_row : ℕ → ℕ → Row
 read_row fd len = by_descriptor (is_bad_to_read fd) (read_demands fd) (read_effect fd len)
 
 -- ---- write: from the offset, or from the end with O_APPEND; over the limit is cut off
-
--- the bytes cut, or made longer by zeros
-abbrev pub resized : List ℕ → ℕ → List ℕ
-resized bytes size = take size bytes ++ replicate (size - length bytes) 0
-
--- the bytes with others over those from an offset on, and zeros up to it
-abbrev pub overwritten : List ℕ → ℕ → List ℕ → List ℕ
-overwritten bytes offset new = resized bytes offset ++ new ++ drop (offset + length new) bytes
 
 abbrev pub write_offset : Scene → ℕ → ℕ
 write_offset s fd =

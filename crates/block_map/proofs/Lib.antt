@@ -1,0 +1,14 @@
+pub mod AddedPointers
+pub mod Alterings
+pub mod Counts
+pub mod Givings
+pub mod Loops
+pub mod Numbers
+pub mod Reading
+pub mod Rewritten
+pub mod Rooms
+pub mod Runs
+pub mod Saving
+pub mod Sizing
+pub mod Writings
+pub mod Wrote

@@ -1,0 +1,5 @@
+pub mod Blocks
+pub mod Contents
+pub mod Drops
+pub mod Faults
+pub mod Steps

@@ -1,0 +1,92 @@
+//! Writing.
+
+ghost use Rattle.std.specs.Prelude.{◌≡◌, ◌≢◌, ◌≤◌, ◌<◌, ◌+◌, ◌-◌, ◌/◌, ◌↔◌, ℕ, max, List, length, Err, OnOk};
+ghost use Rattle.fs_layout.specs.Bytes.{overwritten};
+ghost use Rattle.fs_layout.specs.Images.{Holds, HasNoHole, free_sectors, inode_at};
+ghost use Rattle.sector_txn.specs.Sectors.{SameStore, IsUnchanged};
+ghost use Rattle.bit_alloc.specs.Faults.{HasCauseOf};
+ghost use Rattle.bit_alloc.specs.Inodes.{IsSound};
+ghost use Rattle.bit_alloc.specs.Room.{HasSpare};
+ghost use Rattle.block_map.specs.Contents.{AllowsSize, ChangesContent};
+ghost use Rattle.block_map.specs.Blocks.{IsLoaded};
+ghost use Rattle.block_map.specs.Steps.{MayChange, WritesBlocks, blocks_to, taken_by};
+
+use crate::MapFault;
+use crate::blocks::{BLOCK, Blocks, LIMIT};
+use crate::steps::{add_pointers, write_block};
+use fs_layout::{Inode, Place};
+use inode_table::write_inode;
+use sector_txn::Sectors;
+
+/// Writes bytes within the size of an inode, which isn't saved.
+pub(crate) fn write_blocks<S: Sectors>(
+    s: &mut S,
+    place: Place,
+    blocks: &mut Blocks,
+    offset: u64,
+    bytes: &[u8],
+) -> Result<(), MapFault>
+    requires may { MayChange place (S.state s.old) blocks.old.inode }
+    requires loaded { IsLoaded (S.state s.old).sectors blocks.old (blocks_to (offset + length bytes.now)) }
+    requires inside { (offset + length bytes.now ≤ blocks.old.inode.size) × (blocks.old.inode.size ≤ 71680) }
+    requires room { HasSpare place (blocks_to (offset + length bytes.now) - offset / 512 + 1) (S.state s.old) }
+    ensures written { OnOk result (WritesBlocks place offset bytes.now (S.state s.old) (S.state s.new) blocks.old.inode blocks.new.inode) }
+    ensures full { result ≡ Err MapFault.Full → free_sectors place (S.state s.old).sectors < taken_by (S.state s.old).sectors blocks.old.inode offset (length bytes.now) }
+    ensures small { result ≢ Err MapFault.TooBig }
+    ensures store { SameStore (S.state s.old) (S.state s.new) }
+    ensures cause { HasCauseOf MapFault.DiskFault (S.state s.old).disk (S.state s.new).disk result }
+{
+    let end = (offset + bytes.len() as u64).div_ceil(BLOCK as u64);
+    add_pointers(s, place, blocks, end)?;
+    for k in offset / BLOCK as u64..end {
+        let begin = k * BLOCK as u64;
+        let at = offset.saturating_sub(begin) as usize;
+        let done = begin.saturating_sub(offset) as usize;
+        let len = (BLOCK - at).min(bytes.len() - done);
+        write_block(s, place, blocks, k, at, &bytes[done..done + len])?;
+    }
+    Ok(())
+}
+
+/// Writes bytes into what inode n holds, from `offset` on, and zeros between its end and these. `inode` is inode n,
+/// before and after.
+///
+/// At `Err` the caller drops the changes of the transaction; of `inode` nothing is said then.
+pub fn write_at<S: Sectors>(
+    s: &mut S,
+    place: Place,
+    n: u32,
+    inode: &mut Inode,
+    offset: u64,
+    bytes: &[u8],
+) -> Result<(), MapFault>
+    requires sound { IsSound place (S.state s.old) }
+    requires below { n < place.inodes }
+    requires inode { inode.old ≡ inode_at place (S.state s.old).sectors n }
+    requires size { AllowsSize inode.old.kind (max inode.old.size (offset + length bytes.now)) }
+    requires few { length bytes.now ≤ 4096 }
+    requires spare { HasSpare place 11 (S.state s.old) }
+    ensures change { OnOk result (ChangesContent place n (taken_by (S.state s.old).sectors inode.old offset (length bytes.now)) 11
+        (S.state s.old) (S.state s.new) inode.old inode.new) }
+    ensures held { OnOk result ((held : List ℕ) → Holds (S.state s.old).sectors inode.old held → Holds (S.state s.new).sectors inode.new (overwritten held offset bytes.now)) }
+    // No hole is made but before the bytes.
+    ensures whole { OnOk result (HasNoHole (S.state s.old).sectors inode.old → offset ≤ inode.old.size → HasNoHole (S.state s.new).sectors inode.new) }
+    ensures too_big { (result ≡ Err MapFault.TooBig) ↔ (71680 < offset + length bytes.now) }
+    ensures untouched { 71680 < offset + length bytes.now → IsUnchanged (S.state s.old) (S.state s.new) }
+    ensures full { result ≡ Err MapFault.Full → (free_sectors place (S.state s.old).sectors < taken_by (S.state s.old).sectors inode.old offset (length bytes.now))
+        × (taken_by (S.state s.old).sectors inode.old offset (length bytes.now) ≤ 10) }
+    ensures taken { OnOk result (taken_by (S.state s.old).sectors inode.old offset (length bytes.now) ≤ 10) }
+    ensures store { SameStore (S.state s.old) (S.state s.new) }
+    ensures cause { HasCauseOf MapFault.DiskFault (S.state s.old).disk (S.state s.new).disk result }
+{
+    if offset > LIMIT - bytes.len() as u64 {
+        return Err(MapFault::TooBig);
+    }
+    let end = offset + bytes.len() as u64;
+    let mut blocks = Blocks::load(s, inode, end.div_ceil(BLOCK as u64))?;
+    blocks.inode.size = inode.size.max(end);
+    write_blocks(s, place, &mut blocks, offset, bytes)?;
+    write_inode(s, place, n, &blocks.inode)?;
+    *inode = blocks.inode;
+    Ok(())
+}
