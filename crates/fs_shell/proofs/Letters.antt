@@ -40,8 +40,16 @@ no_letters : (word : List ℕ) → ((p : Perms) → perms_text p ≢ word) → p
 unfolding perms_in
 no_letters word none =
     let other = other_letters word none in
-    rw (other (perms_of 0), other (perms_of 1), other (perms_of 2), other (perms_of 3),
-    other (perms_of 4), other (perms_of 5), other (perms_of 6), other (perms_of 7)) refl
+    rw (
+      other (perms_of 0),
+      other (perms_of 1),
+      other (perms_of 2),
+      other (perms_of 3),
+      other (perms_of 4),
+      other (perms_of 5),
+      other (perms_of 6),
+      other (perms_of 7),
+    ) refl
 
 pub letters_value : (word : List ℕ) (o : Option Perms) → IfSome o (λ p. perms_text p ≡ word) → ((p : Perms) → perms_text p ≡ word → o ≡ Some p)
     → ok_or o BadNumber ≡ perms_in word

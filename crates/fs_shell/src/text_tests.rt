@@ -203,7 +203,10 @@ fn expect_numbers(alloc: Global, report: &mut String) -> Result<(), AllocError> 
     expect_text(alloc, report, Reply::At(71679), "at 71679")?;
     expect_text(alloc, report, Reply::Mask(0o22), "umask 0022")?;
     expect_text(alloc, report, Reply::Acl(None), "acl none")?;
-    let space = Reply::Space { sectors: 878, inodes: 62 };
+    let space = Reply::Space {
+        sectors: 878,
+        inodes: 62,
+    };
     expect_text(alloc, report, space, "free 878 blocks 62 inodes")
 }
 
