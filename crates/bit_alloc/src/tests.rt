@@ -188,77 +188,77 @@ fn agreed_on_disk(alloc: Global, map: Bitmap, clear: &[u32], rows: &[Row]) -> Re
     seen
 }
 
+// Two inodes are free.
+const FEW_INODES: [Row; 12] = [
+    (Call::Count, Some(2), 1, 0),
+    (Call::HasFree(2), Some(1), 1, 0),
+    (Call::HasFree(3), Some(0), 1, 0),
+    (Call::Take, Some(1), 1, 1),
+    (Call::IsTaken(1), Some(1), 1, 0),
+    (Call::Take, Some(63), 1, 1),
+    (Call::Take, None, 1, 0),
+    (Call::Count, Some(0), 1, 0),
+    (Call::Give(1), Some(1), 1, 1),
+    (Call::IsTaken(1), Some(0), 1, 0),
+    (Call::IsTaken(63), Some(1), 1, 0),
+    (Call::Count, Some(1), 1, 0),
+];
+
+// No inode is free at first.
+const NO_INODES: [Row; 7] = [
+    (Call::Take, None, 1, 0),
+    (Call::HasFree(0), Some(1), 0, 0),
+    (Call::HasFree(1), Some(0), 1, 0),
+    (Call::Give(17), Some(17), 1, 1),
+    (Call::Give(17), Some(17), 1, 1),
+    (Call::Count, Some(1), 1, 0),
+    (Call::Take, Some(17), 1, 1),
+];
+
+// Data sectors are free in each sector of the bitmap.
+const SOME_BLOCKS: [Row; 14] = [
+    (Call::Count, Some(8), 3, 0),
+    (Call::HasFree(4), Some(1), 1, 0),
+    (Call::HasFree(5), Some(1), 2, 0),
+    (Call::HasFree(8), Some(1), 3, 0),
+    (Call::HasFree(9), Some(0), 3, 0),
+    (Call::Take, Some(148), 1, 1),
+    (Call::Take, Some(191), 1, 1),
+    (Call::Take, Some(192), 1, 1),
+    (Call::Take, Some(4095), 1, 1),
+    (Call::Take, Some(4096), 2, 1),
+    (Call::Take, Some(8191), 2, 1),
+    (Call::Take, Some(8192), 3, 1),
+    (Call::Take, Some(8999), 3, 1),
+    (Call::Take, None, 3, 0),
+];
+
+// No data sector is free at first.
+const NO_BLOCKS: [Row; 9] = [
+    (Call::Count, Some(0), 3, 0),
+    (Call::Give(8999), Some(8999), 1, 1),
+    (Call::Give(5000), Some(5000), 1, 1),
+    (Call::IsTaken(4999), Some(1), 1, 0),
+    (Call::IsTaken(5000), Some(0), 1, 0),
+    (Call::IsTaken(5001), Some(1), 1, 0),
+    (Call::Count, Some(2), 3, 0),
+    (Call::Take, Some(5000), 2, 1),
+    (Call::Take, Some(8999), 3, 1),
+];
+
 // The lowest number is taken, in whatever word and sector it stands, and given back; a full bitmap says so.
 #[test]
 fn calls(rt: HostRuntime) -> Result<(), Fail> {
     let alloc = rt.alloc();
     let rows: [(Bitmap, &[u32], &[Row]); 4] = [
-        (
-            Bitmap::Inodes,
-            &[1, 63],
-            &[
-                (Call::Count, Some(2), 1, 0),
-                (Call::HasFree(2), Some(1), 1, 0),
-                (Call::HasFree(3), Some(0), 1, 0),
-                (Call::Take, Some(1), 1, 1),
-                (Call::IsTaken(1), Some(1), 1, 0),
-                (Call::Take, Some(63), 1, 1),
-                (Call::Take, None, 1, 0),
-                (Call::Count, Some(0), 1, 0),
-                (Call::Give(1), Some(1), 1, 1),
-                (Call::IsTaken(1), Some(0), 1, 0),
-                (Call::IsTaken(63), Some(1), 1, 0),
-                (Call::Count, Some(1), 1, 0),
-            ],
-        ),
-        (
-            Bitmap::Inodes,
-            &[],
-            &[
-                (Call::Take, None, 1, 0),
-                (Call::HasFree(0), Some(1), 0, 0),
-                (Call::HasFree(1), Some(0), 1, 0),
-                (Call::Give(17), Some(17), 1, 1),
-                (Call::Give(17), Some(17), 1, 1),
-                (Call::Count, Some(1), 1, 0),
-                (Call::Take, Some(17), 1, 1),
-            ],
-        ),
+        (Bitmap::Inodes, &[1, 63], &FEW_INODES),
+        (Bitmap::Inodes, &[], &NO_INODES),
         (
             Bitmap::Blocks,
             &[148, 191, 192, 4095, 4096, 8191, 8192, 8999],
-            &[
-                (Call::Count, Some(8), 3, 0),
-                (Call::HasFree(4), Some(1), 1, 0),
-                (Call::HasFree(5), Some(1), 2, 0),
-                (Call::HasFree(8), Some(1), 3, 0),
-                (Call::HasFree(9), Some(0), 3, 0),
-                (Call::Take, Some(148), 1, 1),
-                (Call::Take, Some(191), 1, 1),
-                (Call::Take, Some(192), 1, 1),
-                (Call::Take, Some(4095), 1, 1),
-                (Call::Take, Some(4096), 2, 1),
-                (Call::Take, Some(8191), 2, 1),
-                (Call::Take, Some(8192), 3, 1),
-                (Call::Take, Some(8999), 3, 1),
-                (Call::Take, None, 3, 0),
-            ],
+            &SOME_BLOCKS,
         ),
-        (
-            Bitmap::Blocks,
-            &[],
-            &[
-                (Call::Count, Some(0), 3, 0),
-                (Call::Give(8999), Some(8999), 1, 1),
-                (Call::Give(5000), Some(5000), 1, 1),
-                (Call::IsTaken(4999), Some(1), 1, 0),
-                (Call::IsTaken(5000), Some(0), 1, 0),
-                (Call::IsTaken(5001), Some(1), 1, 0),
-                (Call::Count, Some(2), 3, 0),
-                (Call::Take, Some(5000), 2, 1),
-                (Call::Take, Some(8999), 3, 1),
-            ],
-        ),
+        (Bitmap::Blocks, &[], &NO_BLOCKS),
     ];
     for (map, clear, calls) in rows {
         let seen = agreed_on_disk(alloc, map, clear, calls)?;
