@@ -25,7 +25,7 @@ use Rattle.fs_model.specs.Stands.{HoldsPlaced, HoldsAll, placed, room_of}
 use Rattle.fs_layout.proofs.OneAcl.{sector_fits, mode_small}
 use Rattle.fs_model.proofs.StepsParents.{parent_names, parent_at, under_root}
 use Rattle.fs_layout.specs.Directories.{HasNames, stored_slot, slot_at, slot_count, NamedInode, slot_of}
-use Rattle.fs_model.specs.Rules.{ImageRule, InodeBits, Inodes, InData, OwnedOnce, BlockBits, LaidOut, Acls, Slots, NamesApart, Names, Parents, Ways, ObeysEach, IsBit, IsLaidOut, IsStoredAcl, HasAccessAcl, HasDefaultAcl, HasAcls, IsGoodInode, IsGoodSlot, HasNameCount, HasParent, AreNamesApart, GoesUp, at_root, above, namings, namings_in}
+use Rattle.fs_model.specs.Rules.{ImageRule, InodeBits, Inodes, InData, OwnedOnce, BlockBits, LaidOut, Acls, Slots, NamesApart, Names, Parents, Ways, ObeysEach, IsBit, IsLaidOut, IsStoredAcl, HasSomeAccessAcl, HasSomeDefaultAcl, HasAcls, IsGoodInode, IsGoodSlot, HasNameCount, HasParent, AreNamesApart, GoesUp, at_root, above, namings, namings_in}
 use Rattle.fs_layout.proofs.SlotNames.{slot_leads}
 use Rattle.fs_model.specs.Summaries.{is_used}
 use Rattle.fs_model.proofs.KindFields.{kind_field}
@@ -71,11 +71,11 @@ stored_acl s a valid e = record { valid = valid; entries = ap acl_sector_of e �
 
 -- the access ACL of a file or a directory
 access_stored : (m : SectorMap) (v : Inode) (a : AccessList) (more : Bool) → is_extended a ≡ more → IsAcl a → mode_bits a ≡ v.mode % 512
-    → HoldsAcl m v.acl (cond more (Some a) None) → v.acl ≢ 0 → HasAccessAcl m v
+    → HoldsAcl m v.acl (cond more (Some a) None) → v.acl ≢ 0 → HasSomeAccessAcl m v
 access_stored m v a true e valid bits h some = record { acl = a; stored = stored_acl (m v.acl) a valid h.1; more = e; bits = bits }
 access_stored m v a false e valid bits h some = absurd (some h)
 
-default_stored : (m : SectorMap) (v : Inode) (d : Option AccessList) → IsSomeAcl d → HoldsAcl m v.default_acl d → v.default_acl ≢ 0 → HasDefaultAcl m v
+default_stored : (m : SectorMap) (v : Inode) (d : Option AccessList) → IsSomeAcl d → HoldsAcl m v.default_acl d → v.default_acl ≢ 0 → HasSomeDefaultAcl m v
 default_stored m v None valid h some = absurd (some h)
 default_stored m v (Some a) valid h some = record { acl = a; stored = stored_acl (m v.default_acl) a valid h.1 }
 

@@ -102,20 +102,20 @@ pub record IsStoredAcl (content : List ℕ) (a : AccessList) : Type 0 where
   pub entries : acl_sector_of content ≡ Ok (list_numbers a)
 
 -- the sector of an access ACL: more than the three base entries, with the permission bits of the mode
-pub record HasAccessAcl (m : SectorMap) (v : Inode) : Type 0 where
+pub record HasSomeAccessAcl (m : SectorMap) (v : Inode) : Type 0 where
   pub acl : AccessList
   pub stored : IsStoredAcl (m v.acl) acl
   pub more : IsTrue (is_extended acl)
   pub bits : mode_bits acl ≡ v.mode % 512
 
-pub record HasDefaultAcl (m : SectorMap) (v : Inode) : Type 0 where
+pub record HasSomeDefaultAcl (m : SectorMap) (v : Inode) : Type 0 where
   pub acl : AccessList
   pub stored : IsStoredAcl (m v.default_acl) acl
 
 -- Rule 9. ACL sectors are valid, none on a link, and default ACLs on directories alone.
 pub record HasAcls (m : SectorMap) (v : Inode) : Type 0 where
-  pub access : v.acl ≢ 0 → HasAccessAcl m v
-  pub default : v.default_acl ≢ 0 → HasDefaultAcl m v
+  pub access : v.acl ≢ 0 → HasSomeAccessAcl m v
+  pub default : v.default_acl ≢ 0 → HasSomeDefaultAcl m v
   pub no_link : v.kind ≡ kinds.Link → v.acl ≡ 0
   pub only_directory : v.kind ≢ kinds.Directory → v.default_acl ≡ 0
 
