@@ -13,5 +13,6 @@ pub mod RootInode
 pub mod RootSaved
 pub mod RootSteps
 pub mod Runs
+pub mod Soundness
 pub mod Tables
 pub mod Writing

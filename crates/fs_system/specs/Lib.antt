@@ -9,3 +9,4 @@ pub mod Rooted
 pub mod Laws
 pub mod NewTables
 pub mod Making
+pub mod Sound
