@@ -14,5 +14,6 @@ pub mod RootSaved
 pub mod RootSteps
 pub mod Runs
 pub mod Soundness
+pub mod SpaceTests
 pub mod Tables
 pub mod Writing

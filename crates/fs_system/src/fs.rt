@@ -45,7 +45,7 @@ impl<D> Model for Fs<D> {
 }
 
 // Reads where the parts of the disk lie.
-fn read_place<D: Disk>(disk: &mut D) -> Result<Place, DiskFault>
+pub(crate) fn read_place<D: Disk>(disk: &mut D) -> Result<Place, DiskFault>
     requires { StandsForSome (D.state disk.old).seen }
     ensures found { IfOk result (HasPartsAt (D.state disk.old).seen) }
     ensures same { IsSame (D.state disk.old) (D.state disk.new) }

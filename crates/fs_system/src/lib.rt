@@ -11,6 +11,8 @@ mod new_tables;
 mod processes;
 mod root;
 #[cfg(test)]
+mod space_tests;
+#[cfg(test)]
 mod tests;
 
 pub use faults::{MkfsFault, MountFault};

@@ -1,0 +1,137 @@
+//! What calls on bitmaps and inodes give on a new disk, and what a read that fails leaves of it.
+
+ghost use Rattle.std.specs.Prelude.{IfOk};
+ghost use Rattle.sector_txn.specs.Stores.{txn_state};
+ghost use Rattle.bit_alloc.specs.Bitmaps.{HasBitmaps};
+ghost use Rattle.bit_alloc.specs.Inodes.{IsSound};
+ghost use Rattle.bit_alloc.specs.Room.{HasSpare};
+ghost use Rattle.inode_table.specs.Inodes.{ClearAreFree};
+ghost use Rattle.fs_system.specs.Sound.{IsSoundDisk};
+
+use crate::fs::read_place;
+use crate::mkfs;
+use bit_alloc::{Bitmap, TakeFault, count_free, take};
+use fs_layout::{Inode, Kind, Place};
+use inode_table::new_inode;
+use posix_acl::Acl;
+use redo_journal::Journal;
+use sector_disk::{Disk, MemDisk};
+use sector_txn::{Sectors, Store, Txn};
+use std::alloc::Global;
+use std::test::Fail;
+
+// An empty file of the superuser's.
+const FILE: Inode = Inode {
+    kind: Kind::File,
+    mode: 0o644,
+    uid: 0,
+    gid: 0,
+    names: 1,
+    size: 0,
+    parent: 0,
+    acl: 0,
+    default_acl: 0,
+    direct: [0; 12],
+    indirect: 0,
+};
+
+// ---- disks and transactions
+
+// A new disk of 1,024 sectors with 64 inodes, and where its parts lie.
+fn new_disk(alloc: Global) -> Result<(MemDisk, Place), Fail>
+    ensures { IfOk result (λ r. IsSoundDisk r.1 (⟦<MemDisk as Disk>⟧.state r.0)) }
+{
+    made(MemDisk::new(alloc, 1024)?)
+}
+
+fn made<D: Disk + Drop>(disk: D) -> Result<(D, Place), Fail>
+    ensures { IfOk result (λ r. IsSoundDisk r.1 (D.state r.0)) }
+{
+    let mut disk = disk;
+    mkfs(&mut disk, 64)?;
+    let place = read_place(&mut disk)?;
+    Ok((disk, place))
+}
+
+// A transaction on a sound disk.
+fn begun<D: Disk + Drop>(alloc: Global, disk: D, place: Place) -> Result<Txn<D>, Fail>
+    requires { IsSoundDisk place (D.state disk) }
+    ensures sound { IfOk result (λ txn. IsSound place (txn_state D.state txn)) }
+    ensures clear { IfOk result (λ txn. ClearAreFree place (txn_state D.state txn).sectors) }
+    ensures spare { IfOk result (λ txn. HasSpare place 47 (txn_state D.state txn)) }
+{
+    match Journal::open(disk) {
+        Ok(journal) => match Store::new(alloc, journal) {
+            Ok(store) => Ok(store.begin()),
+            Err(_) => Err(Fail::new("no memory")),
+        },
+        Err(_) => Err(Fail::new("not opened")),
+    }
+}
+
+// ---- until nothing is free
+
+// How many numbers are free, the first that is taken, and how many are taken until none is free.
+type Taken = (u32, u32, u32);
+
+fn take_all<S: Sectors>(s: &mut S, place: Place) -> Result<Taken, Fail>
+    requires bitmaps { HasBitmaps place (S.state s.old) }
+    requires room { HasSpare place 0 (S.state s.old) }
+{
+    let free = count_free(s, place, Bitmap::Blocks)?;
+    let mut first = 0;
+    for taken in 0..=1024 {
+        match take(s, place, Bitmap::Blocks) {
+            Ok(n) if taken == 0 => first = n,
+            Ok(_) => {}
+            Err(TakeFault::Full) => return Ok((free, first, taken)),
+            Err(TakeFault::DiskFault) => return Err(Fail::new("not read")),
+        }
+    }
+    Err(Fail::new("never full"))
+}
+
+fn make_all<S: Sectors>(s: &mut S, place: Place, access: &Acl) -> Result<Taken, Fail>
+    requires sound { IsSound place (S.state s.old) }
+    requires clear { ClearAreFree place (S.state s.old).sectors }
+{
+    let free = count_free(s, place, Bitmap::Inodes)?;
+    let mut first = 0;
+    for made in 0..=64 {
+        if s.room() < (place.table - 128) as usize + 3 {
+            return Err(Fail::new("no room"));
+        }
+        match new_inode(s, place, &FILE, access, None) {
+            Ok(n) if made == 0 => first = n,
+            Ok(_) => {}
+            Err(TakeFault::Full) => return Ok((free, first, made)),
+            Err(TakeFault::DiskFault) => return Err(Fail::new("not read")),
+        }
+    }
+    Err(Fail::new("never full"))
+}
+
+// The same on a new disk.
+fn blocks_taken(alloc: Global) -> Result<Taken, Fail> {
+    let (disk, place) = new_disk(alloc)?;
+    let mut txn = begun(alloc, disk, place)?;
+    let taken = take_all(&mut txn, place);
+    let _store = txn.drop_delta();
+    taken
+}
+
+fn inodes_made(alloc: Global) -> Result<Taken, Fail> {
+    let access = Acl::from_mode(alloc, 0o644)?;
+    let (disk, place) = new_disk(alloc)?;
+    let mut txn = begun(alloc, disk, place)?;
+    let made = make_all(&mut txn, place, &access);
+    let _store = txn.drop_delta();
+    made
+}
+
+#[test]
+fn a_new_disk_has_so_many_blocks_and_inodes(rt: HostRuntime) -> Result<(), Fail> {
+    let seen = (blocks_taken(rt.alloc())?, inodes_made(rt.alloc())?);
+    assert!(rt; seen == ((878, 146, 878), (62, 2, 62)), "{seen:?}");
+    Ok(())
+}
