@@ -5,6 +5,8 @@ use Rattle.sector_disk.specs.Disk.{DiskState, Image, sector, IsNarrowed}
 use Rattle.fs_layout.specs.declared.inode.Inode.{Inode}
 use Rattle.fs_layout.specs.declared.inode.Kind.TheVariants as kinds
 use Rattle.fs_layout.specs.declared.place.Place.{Place}
+use Rattle.fs_layout.specs.Bytes.{SectorMap}
+use Rattle.fs_layout.specs.Images.{inode_at}
 use Rattle.fs_layout.specs.Inode.{FitsInode, free_inode, inode_fits}
 use Rattle.fs_layout.specs.Ownership.{IsConsistent}
 use Rattle.fs_layout.specs.Recovered.{recovered}
@@ -16,7 +18,7 @@ use Rattle.bit_alloc.specs.Bitmaps.{HasRestSet}
 use Rattle.bit_alloc.specs.Inodes.{IsSound}
 use Rattle.bit_alloc.specs.Room.{bitmaps, HasSpare}
 use Rattle.bit_alloc.proofs.Transactions.{map_unchanged, bitmaps_unchanged}
-use Rattle.inode_table.specs.Inodes.{ClearAreFree}
+use Rattle.inode_table.specs.Inodes.{ClearAreFree, DiffersInAttributes}
 use Rattle.fs_system.specs.Making.{IsNewDisk}
 use Rattle.fs_system.specs.Seen.{HasPartsAt}
 use Rattle.fs_system.specs.Sound.{IsSoundDisk}
@@ -74,3 +76,12 @@ file_fits = record {
   direct = free_fits.direct;
   indirect = omega arith;
 }
+
+pub spare_less : (p : Place) (k most : ℕ) (txn : TxnState) → k ≤ most → HasSpare p most txn → HasSpare p k txn
+spare_less p k most txn less spare = omega (arith, less, spare)
+
+-- an inode that was read has its own attributes
+pub same_attributes : (p : Place) (n : ℕ) (old new : TxnState) → IsUnchanged old new → (v : Inode) → v ≡ inode_at p old.sectors n
+    → DiffersInAttributes (inode_at p new.sectors n) v
+same_attributes p n old new same v is =
+    subst (λ (w : Inode). DiffersInAttributes w v) (is ∙ ap (λ (image : SectorMap). inode_at p image n) (map_unchanged same)) refl

@@ -10,12 +10,13 @@ ghost use Rattle.fs_system.specs.Sound.{IsSoundDisk};
 
 use crate::fs::read_place;
 use crate::mkfs;
-use bit_alloc::{Bitmap, TakeFault, count_free, take};
+use crate::mkfs_tests::content_of;
+use bit_alloc::{Bitmap, TakeFault, count_free, give, has_free, is_taken, take};
 use fs_layout::{Inode, Kind, Place};
-use inode_table::new_inode;
-use posix_acl::Acl;
+use inode_table::{load, new_inode, save};
+use posix_acl::{Acl, Entry, Perms, Tag};
 use redo_journal::Journal;
-use sector_disk::{Disk, MemDisk};
+use sector_disk::{Disk, DiskFault, FailOnce, MemDisk};
 use sector_txn::{Sectors, Store, Txn};
 use std::alloc::Global;
 use std::test::Fail;
@@ -133,5 +134,140 @@ fn inodes_made(alloc: Global) -> Result<Taken, Fail> {
 fn a_new_disk_has_so_many_blocks_and_inodes(rt: HostRuntime) -> Result<(), Fail> {
     let seen = (blocks_taken(rt.alloc())?, inodes_made(rt.alloc())?);
     assert!(rt; seen == ((878, 146, 878), (62, 2, 62)), "{seen:?}");
+    Ok(())
+}
+
+// ---- reads that fail
+
+#[derive(Clone, Copy)]
+enum Call {
+    Take,
+    Give,
+    IsTaken,
+    Count,
+    HasFree,
+    Load,
+    // The root, after it is loaded.
+    Save,
+    NewInode,
+}
+
+fn save_root<S: Sectors>(s: &mut S, place: Place) -> Result<(), DiskFault>
+    requires sound { IsSound place (S.state s.old) }
+    requires spare { HasSpare place 47 (S.state s.old) }
+{
+    let root = load(s, place, 1)?;
+    save(s, place, 1, &root)
+}
+
+fn perform<S: Sectors>(s: &mut S, place: Place, acl: &Acl, call: Call) -> Result<(), TakeFault>
+    requires sound { IsSound place (S.state s.old) }
+    requires clear { ClearAreFree place (S.state s.old).sectors }
+    requires spare { HasSpare place 47 (S.state s.old) }
+{
+    match call {
+        Call::Take => {
+            let _block = take(s, place, Bitmap::Blocks)?;
+        }
+        Call::Give => give(s, place, Bitmap::Blocks, place.first_data)?,
+        Call::IsTaken => {
+            let _taken = is_taken(s, place, Bitmap::Blocks, place.first_data)?;
+        }
+        Call::Count => {
+            let _free = count_free(s, place, Bitmap::Blocks)?;
+        }
+        Call::HasFree => {
+            let _some = has_free(s, place, Bitmap::Blocks, 1)?;
+        }
+        Call::Load => {
+            let _root = load(s, place, 1)?;
+        }
+        Call::Save => save_root(s, place)?,
+        Call::NewInode => {
+            let _inode = new_inode(s, place, &FILE, acl, Some(acl))?;
+        }
+    }
+    Ok(())
+}
+
+fn have_same_image<D: Disk, E: Disk>(left: &mut D, right: &mut E) -> Result<bool, Fail> {
+    if left.size() != 1024 || right.size() != 1024 {
+        return Ok(false);
+    }
+    for n in 0..1024 {
+        if content_of(left, n)? != content_of(right, n)? {
+            return Ok(false);
+        }
+    }
+    Ok(true)
+}
+
+// What a call on a new disk comes to whose read number `k` fails, and whether it leaves the image of before.
+fn after_fault(
+    alloc: Global,
+    acl: &Acl,
+    call: Call,
+    k: u32,
+) -> Result<(Result<(), TakeFault>, bool), Fail> {
+    let (mut before, _) = new_disk(alloc)?;
+    let (disk, place) = new_disk(alloc)?;
+    // Opening the journal makes a sync and a read.
+    let mut txn = begun(alloc, FailOnce::new(disk, 2 + u64::from(k)), place)?;
+    let outcome = perform(&mut txn, place, acl, call);
+    let mut after = txn.drop_delta().into_disk().into_inner();
+    let same = have_same_image(&mut before, &mut after)?;
+    Ok((outcome, same))
+}
+
+// The first read whose fault isn't told, or after which the image is another one; the next read that there isn't, if
+// all are as wanted.
+fn first_other(alloc: Global, acl: &Acl, call: Call, reads: u32) -> Result<Option<u32>, Fail> {
+    for k in 0..=reads {
+        let wanted = if k < reads {
+            Err(TakeFault::DiskFault)
+        } else {
+            Ok(())
+        };
+        if after_fault(alloc, acl, call, k)? != (wanted, true) {
+            return Ok(Some(k));
+        }
+    }
+    Ok(None)
+}
+
+// An ACL that takes a sector.
+fn extended_acl(alloc: Global) -> Result<Acl, Fail> {
+    let entry = |tag, id| Entry {
+        tag,
+        id,
+        perms: Perms::from_digit(4),
+    };
+    let entries = [
+        entry(Tag::UserObj, 0),
+        entry(Tag::User, 5),
+        entry(Tag::GroupObj, 0),
+        entry(Tag::Mask, 0),
+        entry(Tag::Other, 0),
+    ];
+    Ok(Acl::from_entries(alloc, &entries)?)
+}
+
+#[test]
+fn each_read_that_fails_is_told_and_leaves_the_image(rt: HostRuntime) -> Result<(), Fail> {
+    let acl = extended_acl(rt.alloc())?;
+    // How many sectors the call reads.
+    for (call, reads) in [
+        (Call::Take, 1),
+        (Call::Give, 1),
+        (Call::IsTaken, 1),
+        (Call::Count, 1),
+        (Call::HasFree, 1),
+        (Call::Load, 1),
+        (Call::Save, 2),
+        (Call::NewInode, 3),
+    ] {
+        let other = first_other(rt.alloc(), &acl, call, reads)?;
+        assert!(rt; other.is_none(), "{other:?}");
+    }
     Ok(())
 }
