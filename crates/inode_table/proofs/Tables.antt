@@ -1,5 +1,5 @@
 -- Where an inode stands on the disk, what is read there, and what is written.
-use Rattle.std.proofs.Common.{◌≡◌, ℕ, ◌+◌, ◌*◌, ◌/◌, ◌%◌, ◌<◌, ◌≤◌, List, Result, Ok, Err, ap, ◌∙◌, arith}
+use Rattle.std.proofs.Common.{◌≡◌, ℕ, ◌+◌, ◌*◌, ◌/◌, ◌%◌, ◌<◌, ◌≤◌, List, Result, Ok, Err, ap, subst, ◌∙◌, arith}
 use Rattle.fs_layout.specs.declared.inode.Inode.{Inode}
 use Rattle.fs_layout.specs.declared.fault.LayoutFault.{LayoutFault}
 use Rattle.fs_layout.specs.declared.place.Place.{Place}
@@ -14,18 +14,20 @@ use Rattle.fs_layout.proofs.Places.{after_map}
 use Rattle.fs_layout.proofs.Saves.{in_table, put_saves}
 
 -- the inode's sector is one of the map, and on the disk
-pub inode_on_disk : {p : Place} {n size : ℕ} → IsPlace p → n < p.inodes → p.sectors ≤ size → p.table + n / 4 < size
-inode_on_disk {p} {n} place lt disk = let i = in_table p n place lt in let d = place.data_sectors in omega (arith, i, d, disk)
+pub inode_on_disk : {p : Place} {n size at : ℕ} → at ≡ p.table + n / 4 → IsPlace p → n < p.inodes → p.sectors ≤ size → at < size
+inode_on_disk {p} {n} is place lt disk = let i = in_table p n place lt in let d = place.data_sectors in omega (arith, i, d, disk, is)
 
 pub inode_above : {p : Place} (n : ℕ) → IsPlace p → 128 ≤ p.table + n / 4
 inode_above n place = let a = after_map place in omega (arith, a)
 
 -- a sector of the table is read, and the inode in it: it is valid
-module _ {p : Place} {image : SectorMap} {n : ℕ} {s : List ℕ} {r : Result Inode LayoutFault}
-    (h : IsConsistent p image) (lt : n < p.inodes) (is : s ≡ image (p.table + n / 4)) (read : r ≡ inode_of (window s (128 * (n % 4)) 128)) where
+module _ {p : Place} {image : SectorMap} {n at from : ℕ} {s : List ℕ} {r : Result Inode LayoutFault} (h : IsConsistent p image) (lt : n < p.inodes)
+    (sector : at ≡ p.table + n / 4) (begin : from ≡ 128 * (n % 4)) (is : s ≡ image at) (read : r ≡ inode_of (window s from 128)) where
   pub inode_is_read : r ≡ Ok (inode_at p image n)
   unfolding stored
-  inode_is_read = read ∙ ap (λ (b : List ℕ). inode_of (window b (128 * (n % 4)) 128)) is ∙ h.valid n lt
+  inode_is_read =
+      read ∙ ap (λ (k : ℕ). inode_of (window s k 128)) begin ∙ ap (λ (b : List ℕ). inode_of (window b (128 * (n % 4)) 128)) (is ∙ ap image sector)
+      ∙ h.valid n lt
 
   -- so reading it doesn't fail
   pub inode_has_no_fault : (e : LayoutFault) → r ≡ Err e → ⊥
@@ -35,10 +37,13 @@ module _ {p : Place} {image : SectorMap} {n : ℕ} {s : List ℕ} {r : Result In
   inode_found v ok = same_ok v (inode_at p image n) r ok inode_is_read
 
 -- an inode is written into its sector, and the sector is put
-pub sector_saves : {p : Place} {n : ℕ} {v : Inode} {old mid new : SectorMap} {s t : List ℕ} → ((m : ℕ) → mid m ≡ old m) → s ≡ old (p.table + n / 4)
-    → t ≡ splice s (128 * (n % 4)) (inode_bytes v) → Puts (p.table + n / 4) t mid new → Saves p n v old new
-sector_saves {n = n} {v} same is written put =
+pub sector_saves : {p : Place} {n at from : ℕ} {v : Inode} {old mid new : SectorMap} {s t : List ℕ} → at ≡ p.table + n / 4 → from ≡ 128 * (n % 4)
+    → ((m : ℕ) → mid m ≡ old m) → s ≡ old at → t ≡ splice s from (inode_bytes v) → Puts at t mid new → Saves p n v old new
+sector_saves {p} {n} {at} {from} {v} {old} {mid} {new} {s} {t} sector begin same is written put =
+    let there : Puts (p.table + n / 4) t mid new = subst (λ (k : ℕ). Puts k t mid new) sector put in
+    let was : s ≡ old (p.table + n / 4) = is ∙ ap old sector in
+    let bytes : t ≡ splice s (128 * (n % 4)) (inode_bytes v) = written ∙ ap (λ (k : ℕ). splice s k (inode_bytes v)) begin in
     put_saves (record {
-      here = put.here ∙ written ∙ ap (λ (b : List ℕ). splice b (128 * (n % 4)) (inode_bytes v)) is;
-      others = λ m ne. put.others m ne ∙ same m;
+      here = there.here ∙ bytes ∙ ap (λ (b : List ℕ). splice b (128 * (n % 4)) (inode_bytes v)) was;
+      others = λ m ne. there.others m ne ∙ same m;
     })

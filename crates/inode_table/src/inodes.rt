@@ -24,21 +24,6 @@ use posix_acl::Acl;
 use sector_disk::DiskFault;
 use sector_txn::Sectors;
 
-// An inode that nothing uses: 128 zero bytes.
-const FREE: Inode = Inode {
-    kind: Kind::Free,
-    mode: 0,
-    uid: 0,
-    gid: 0,
-    names: 0,
-    size: 0,
-    parent: 0,
-    acl: 0,
-    default_acl: 0,
-    direct: [0; 12],
-    indirect: 0,
-};
-
 /// Reads inode n.
 pub fn load<S: Sectors>(s: &mut S, place: Place, n: u32) -> Result<Inode, DiskFault>
     requires sound { IsSound place (S.state s.old) }
@@ -49,8 +34,8 @@ pub fn load<S: Sectors>(s: &mut S, place: Place, n: u32) -> Result<Inode, DiskFa
     ensures cause { HasCause (S.state s.old).disk (S.state s.new).disk result }
 {
     let mut content = [0; 512];
-    s.get(place.table + n / 4, &mut content)?;
-    let Ok(inode) = Inode::read_from(&content, 128 * (n % 4) as usize) else {
+    s.get(place.inode_sector(n), &mut content)?;
+    let Ok(inode) = Inode::read_from(&content, place.inode_offset(n)) else {
         unreachable!()
     };
     Ok(inode)
@@ -75,10 +60,10 @@ pub fn write_inode<S: Sectors>(
     ensures store { SameStore (S.state s.old) (S.state s.new) }
     ensures cause { HasCause (S.state s.old).disk (S.state s.new).disk result }
 {
-    let at = place.table + n / 4;
+    let at = place.inode_sector(n);
     let mut content = [0; 512];
     s.get(at, &mut content)?;
-    inode.write_to(&mut content, 128 * (n % 4) as usize);
+    inode.write_to(&mut content, place.inode_offset(n));
     s.put(at, &content);
     Ok(())
 }
@@ -166,6 +151,6 @@ pub fn free_inode<S: Sectors>(s: &mut S, place: Place, n: u32) -> Result<(), Dis
     give(s, place, Bitmap::Inodes, n)?;
     give_sector(s, place, inode.acl)?;
     give_sector(s, place, inode.default_acl)?;
-    write_inode(s, place, n, &FREE)?;
+    write_inode(s, place, n, &Inode::FREE)?;
     Ok(())
 }

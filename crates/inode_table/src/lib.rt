@@ -13,7 +13,10 @@
 //! | [`new_inode`] | 2, and `b` for each ACL that takes a sector | 2, and 2 for each of these |
 //! | [`free_inode`] | 3, and 1 for each ACL sector | 2, and 1 for each of these |
 //! | [`load_acl`], [`load_default_acl`] | 1 where the ACL has a sector, else 0 | 0 |
-//! | [`save_acl`], [`save_default_acl`] | 1, and `b` for a sector taken, 1 for one given back | 1, and 2 for a sector taken, 1 for one given back or rewritten |
+//! | [`save_acl`], [`save_default_acl`] | 1 | 1 |
+//! | where they take a sector | `b` more | 2 more |
+//! | where they give one back | 1 more | 1 more |
+//! | where they rewrite one | 0 more | 1 more |
 #![tactic(auto)]
 
 mod acls;

@@ -1,4 +1,4 @@
-use Rattle.std.proofs.Common.{ap, arith}
+use Rattle.std.proofs.Common.{ap, arith, rules}
 use Rattle.fs_layout.proofs.Free.{free_fits}
 use Rattle.bit_alloc.proofs.Transactions.{bitmaps_unchanged}
 use Rattle.bit_alloc.proofs.Soundness.{spare_then}
@@ -24,7 +24,9 @@ give_sector-requires-clause-room g c =
     spare_then p 0 0 t0 t2 (omega (arith, c.requires.spare)) puts
 
 pub give_sector-requires-2-clause-owned : goal.give_sector-requires-2-clause-owned
-give_sector-requires-2-clause-owned g c = default_acl_in_data c.requires.sound c.requires.number.1 (ap (λ v. v.default_acl) c.in_ok-inode.ensures.found)
+give_sector-requires-2-clause-owned g c =
+    let owned = default_acl_in_data c.requires.sound c.requires.number.1 (ap (λ v. v.default_acl) c.in_ok-inode.ensures.found) in
+    search rules
 
 pub give_sector-requires-2-clause-room : goal.give_sector-requires-2-clause-room
 give_sector-requires-2-clause-room g c =
