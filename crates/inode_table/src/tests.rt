@@ -1,5 +1,8 @@
 //! ACLs and the sectors that they have.
 
+mod blank;
+mod calls;
+
 use crate::sectors::{acl_of, content_of, kept_content, sector_of, with_bits};
 use posix_acl::{Acl, AclFault, TextForm};
 use std::alloc::Global;
