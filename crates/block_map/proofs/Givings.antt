@@ -142,7 +142,7 @@ keeps_or_gives {p} {v} {w} {old} {new} place apart g = record {
 }
 
 -- ---- all of it
-past_is_hole : (image : SectorMap) (v : Inode) (k : ℕ) → pointer image v k ≢ 0 → k < 140
+pub past_is_hole : (image : SectorMap) (v : Inode) (k : ℕ) → pointer image v k ≢ 0 → k < 140
 past_is_hole image v k some = elim (cases_lt k 140) [ inl lt ↦ lt | inr past ↦ absurd (some (pointer_past image v k past)) ]
 
 -- the inode has no sector of pointers

@@ -1,10 +1,13 @@
 pub mod AddedPointers
 pub mod Alterings
+pub mod Clearings
 pub mod Counts
+pub mod Dropping
 pub mod Givings
 pub mod Loops
 pub mod Numbers
 pub mod Reading
+pub mod Resizing
 pub mod Rewritten
 pub mod Rooms
 pub mod Runs

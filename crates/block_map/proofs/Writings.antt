@@ -110,12 +110,12 @@ module _ {p : Place} {old new : TxnState} {bits : SectorMap} {b : Blocks} {k at 
       }
 
 -- through the sector of pointers, which is no ACL's
-acl_apart : {p : Place} {image : SectorMap} {v : Inode} → IsOwnedApart p image v → v.indirect ≢ 0 → v.acl ≢ v.indirect
+pub acl_apart : {p : Place} {image : SectorMap} {v : Inode} → IsOwnedApart p image v → v.indirect ≢ 0 → v.acl ≢ v.indirect
 unfolding part
 acl_apart {v = v} apart has f =
     let same : AccessAcl ≡ Indirect = apart.once v.indirect (record { at = AccessAcl; is = f; some = has }) (record { at = Indirect; is = refl; some = has }) in cc
 
-default_apart : {p : Place} {image : SectorMap} {v : Inode} → IsOwnedApart p image v → v.indirect ≢ 0 → v.default_acl ≢ v.indirect
+pub default_apart : {p : Place} {image : SectorMap} {v : Inode} → IsOwnedApart p image v → v.indirect ≢ 0 → v.default_acl ≢ v.indirect
 unfolding part
 default_apart {v = v} apart has f =
     let same : DefaultAcl ≡ Indirect = apart.once v.indirect (record { at = DefaultAcl; is = f; some = has }) (record { at = Indirect; is = refl; some = has }) in cc

@@ -1,5 +1,6 @@
 -- Blocks are given back.
 --     GivesBlocks        their sectors are given back
+--     DropsBlocks        and the inode has them no more
 --     GivesAll, emptied        all that an inode has for its bytes; the inode without it
 use Rattle.std.specs.Prelude.{◌≡◌, ◌≢◌, ◌⊎◌, ℕ, ◌<◌, ◌≤◌, false, IsTrue, replicate}
 use Rattle.fs_layout.specs.declared.inode.Inode.{Inode}
@@ -9,7 +10,7 @@ use Rattle.fs_layout.specs.Changes.{IsBlockMap}
 use Rattle.sector_txn.specs.Sectors.{TxnState, PutsOnly}
 use Rattle.bit_alloc.specs.Bitmaps.{HasBitmaps}
 use Rattle.bit_alloc.specs.Room.{bitmaps}
-use Rattle.block_map.specs.Steps.{IsStepSector}
+use Rattle.block_map.specs.Steps.{IsStepSector, Alters}
 
 -- from `first` on the sectors of the blocks below `end` are given back: their bits are clear, and nothing else differs
 pub record GivesBlocks (p : Place) (v : Inode) (first end : ℕ) (old new : TxnState) : Type 0 where
@@ -20,6 +21,18 @@ pub record GivesBlocks (p : Place) (v : Inode) (first end : ℕ) (old new : TxnS
       → (k : ℕ) × (first ≤ k) × (k < end) × (pointer old.sectors v k ≡ s) × (s ≢ 0)
   pub set : (s : ℕ) → s < map_bits p → IsTrue (bit new.sectors block_bitmap s) → IsTrue (bit old.sectors block_bitmap s)
   pub puts : PutsOnly (IsStepSector p) (bitmaps p) 0 old new
+  pub free : free_sectors p old.sectors ≤ free_sectors p new.sectors
+
+-- The blocks from `first` on are dropped, from v to w, and the sector of pointers if no other block needs it. The other
+-- blocks stay.
+pub record DropsBlocks (p : Place) (first : ℕ) (old new : TxnState) (v w : Inode) : Type 0 where
+  pub alters : Alters p old new v w
+  pub puts : PutsOnly (IsStepSector p) (bitmaps p) 1 old new
+  pub size : w.size ≡ v.size
+  pub indirect : first ≤ 12 → w.indirect ≡ 0
+  pub dropped : (k : ℕ) → first ≤ k → pointer new.sectors w k ≡ 0
+  pub kept : (k : ℕ) → k < first → pointer new.sectors w k ≡ pointer old.sectors v k
+  pub content : (k : ℕ) → k < first → pointer old.sectors v k ≢ 0 → new.sectors (pointer old.sectors v k) ≡ old.sectors (pointer old.sectors v k)
   pub free : free_sectors p old.sectors ≤ free_sectors p new.sectors
 
 -- the sectors of all blocks are given back, and that of the pointers

@@ -2,4 +2,5 @@ pub mod Blocks
 pub mod Contents
 pub mod Drops
 pub mod Faults
+pub mod Sizes
 pub mod Steps

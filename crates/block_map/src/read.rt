@@ -30,12 +30,12 @@ pub fn read_at<S: Sectors>(
     let blocks = Blocks::load(s, inode, end.div_ceil(BLOCK as u64))?;
     let mut done = 0;
     while done < count {
-        let place = offset + done as u64;
-        let at = (place % BLOCK as u64) as usize;
+        let next = offset + done as u64;
+        let at = (next % BLOCK as u64) as usize;
         let len = (BLOCK - at).min(count - done);
         read_block(
             s,
-            blocks.number(place / BLOCK as u64),
+            blocks.number(next / BLOCK as u64),
             at,
             &mut to[done..done + len],
         )?;

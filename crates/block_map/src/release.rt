@@ -18,8 +18,8 @@ use inode_table::write_inode;
 use sector_disk::DiskFault;
 use sector_txn::Sectors;
 
-// Gives back the sectors of the blocks from `first` on, which the inode still points to.
-fn give_blocks<S: Sectors>(
+/// Gives back the sectors of the blocks from `first` on, which the inode still points to.
+pub(crate) fn give_blocks<S: Sectors>(
     s: &mut S,
     place: Place,
     blocks: &Blocks,
