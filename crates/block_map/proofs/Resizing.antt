@@ -22,7 +22,7 @@ use Rattle.bit_alloc.proofs.Transactions.{unchanged_nothing, puts_after}
 use Rattle.block_map.specs.declared.blocks.Blocks.{Blocks}
 use Rattle.block_map.specs.Contents.{AllowsSize}
 use Rattle.block_map.specs.Drops.{DropsBlocks}
-use Rattle.block_map.specs.Sizes.{IsCleared, ClearsTail, Resizes}
+use Rattle.block_map.specs.Sizes.{HasZeroTail, ClearsTail, Resizes}
 use Rattle.block_map.specs.Steps.{MayChange, IsStepSector, Alters, WritesBlock}
 use Rattle.block_map.proofs.Alterings.{alters_joined, may_after, fields_same, acls_kept}
 use Rattle.block_map.proofs.Sizing.{sized, sized_holds, sized_pointer}
@@ -70,7 +70,7 @@ hole_is_clear {bytes = bytes} m h none i ge lt = held_hole h (m / 512) none i (o
 
 -- zeros are written there, up to the old size at least
 pub spliced_is_cleared : (bytes : List ℕ) (m len : ℕ) → m + len ≤ length bytes → (len ≡ 512 - m % 512) ⊎ (m + len ≡ length bytes)
-    → IsCleared m bytes (splice bytes m (zeros len))
+    → HasZeroTail m bytes (splice bytes m (zeros len))
 spliced_is_cleared bytes m len fits way =
     let z : length (zeros len) ≡ len = length-zeros len in
     let whole : length (splice bytes m (zeros len)) ≡ length bytes = length-splice bytes (zeros len) m (omega (arith, z, fits)) in
@@ -117,9 +117,11 @@ tail_written {p} {m} {len} {s} {x} {old} {new} b may is some written e puts fits
       puts = puts;
       pointers = pointer_same old.sectors new.sectors b.inode kept;
       held = λ bytes h.
-          let y = h.size in
-          (splice bytes m (zeros len), subst (λ (k : ℕ). Holds new.sectors b.inode (splice bytes k (zeros len))) at (block.held bytes h),
-          spliced_is_cleared bytes m len (omega (arith, fits, y)) (elim way [ inl f ↦ inl f | inr f ↦ inr (omega (arith, f, y)) ]));
+          let y = h.size in (
+            splice bytes m (zeros len),
+            subst (λ (k : ℕ). Holds new.sectors b.inode (splice bytes k (zeros len))) at (block.held bytes h),
+            spliced_is_cleared bytes m len (omega (arith, fits, y)) (elim way [ inl f ↦ inl f | inr f ↦ inr (omega (arith, f, y)) ]),
+          );
       free = omega (arith, free);
     }
 
@@ -128,7 +130,7 @@ past_cut : (bytes : List ℕ) (m i : ℕ) → m ≤ i → get_or (take m bytes) 
 past_cut bytes m i ge = let e = length-take m bytes in get_or_past (take m bytes) i 0 (omega (arith, e, ge))
 
 cut_byte : {p : Place} {m : ℕ} {mid new : TxnState} {v w : Inode} {bytes then : List ℕ} → DropsBlocks p ((m + 511) / 512) mid new v w → Holds mid.sectors v then
-    → IsCleared m bytes then → (i : ℕ) → byte_at new.sectors w i ≡ get_or (take m bytes) i 0
+    → HasZeroTail m bytes then → (i : ℕ) → byte_at new.sectors w i ≡ get_or (take m bytes) i 0
 unfolding byte_at
 cut_byte {p} {m} {mid} {new} {v} {w} {bytes} {then} d h c i = elim (cases_lt (i / 512) ((m + 511) / 512)) [
   | inl lt ↦
@@ -147,7 +149,7 @@ unfolding byte_at
 sized_byte image w m i = ap (λ (s : ℕ). byte_in image s (i % 512)) (sized_pointer image w m (i / 512))
 
 pub cuts_held : {p : Place} {m : ℕ} {mid new : TxnState} {v w : Inode} {bytes then : List ℕ} → DropsBlocks p ((m + 511) / 512) mid new v w → Holds mid.sectors v then
-    → IsCleared m bytes then → m ≤ length bytes → Holds new.sectors (record w { size = m }) (take m bytes)
+    → HasZeroTail m bytes then → m ≤ length bytes → Holds new.sectors (record w { size = m }) (take m bytes)
 cuts_held {p} {m} {mid} {new} {v} {w} {bytes} {then} d h c le = record {
   size = sym (length-take-le m bytes le);
   byte = λ i. sized_byte new.sectors w m i ∙ cut_byte d h c i;

@@ -1,5 +1,5 @@
 -- An inode gets another size.
---     IsCleared, ClearsTail        the rest of the last block is written with zeros
+--     HasZeroTail, ClearsTail        the rest of the last block is written with zeros
 --     Resizes        the size changes, and what is held with it
 use Rattle.std.specs.Prelude.{◌≡◌, ℕ, ◌+◌, ◌*◌, ◌/◌, ◌<◌, ◌≤◌, List, length, get_or}
 use Rattle.fs_layout.specs.declared.inode.Inode.{Inode}
@@ -13,7 +13,7 @@ use Rattle.block_map.specs.declared.blocks.Blocks.{Blocks}
 use Rattle.block_map.specs.Steps.{IsStepSector, Alters}
 
 -- these are the bytes up to `size`, with zeros from there to the end of the block, if it goes on there
-pub record IsCleared (size : ℕ) (bytes then : List ℕ) : Type 0 where
+pub record HasZeroTail (size : ℕ) (bytes then : List ℕ) : Type 0 where
   pub before : (i : ℕ) → i < size → get_or then i 0 ≡ get_or bytes i 0
   pub after : (i : ℕ) → size ≤ i → i < 512 * ((size + 511) / 512) → get_or then i 0 ≡ 0
   pub len : length then ≡ length bytes
@@ -24,7 +24,7 @@ pub record ClearsTail (p : Place) (size : ℕ) (old new : TxnState) (v : Inode) 
   pub loaded : (b : Blocks) → b.inode ≡ v → (end : ℕ) → IsLoaded old.sectors b end → IsLoaded new.sectors b end
   pub puts : PutsOnly (IsStepSector p) (bitmaps p) 1 old new
   pub pointers : (k : ℕ) → pointer new.sectors v k ≡ pointer old.sectors v k
-  pub held : (bytes : List ℕ) → Holds old.sectors v bytes → (then : List ℕ) × Holds new.sectors v then × IsCleared size bytes then
+  pub held : (bytes : List ℕ) → Holds old.sectors v bytes → (then : List ℕ) × Holds new.sectors v then × HasZeroTail size bytes then
   pub free : free_sectors p old.sectors ≤ free_sectors p new.sectors
 
 -- the inode has this size, and holds so many bytes

@@ -21,7 +21,8 @@ pub fn read_at<S: Sectors>(
     to: &mut [u8],
 ) -> Result<usize, DiskFault>
     requires within { IsWithin (S.state s.old).disk.size (S.state s.old).sectors inode.now }
-    ensures bytes { IfOk result (λ count. (bytes : List ℕ) → Holds (S.state s.old).sectors inode.now bytes → IsReadOf bytes offset to.old to.new count) }
+    ensures bytes { IfOk result (λ count. (bytes : List ℕ) → Holds (S.state s.old).sectors inode.now bytes
+        → IsReadOf bytes offset to.old to.new count) }
     ensures same { IsUnchanged (S.state s.old) (S.state s.new) }
     ensures cause { HasCause (S.state s.old).disk (S.state s.new).disk result }
 {

@@ -145,9 +145,11 @@ pub fn set_size<S: Sectors>(
     requires kind { AllowsSize inode.old.kind size }
     requires spare { HasSpare place 3 (S.state s.old) }
     ensures change { OnOk result (ChangesContent place n 0 3 (S.state s.old) (S.state s.new) inode.old inode.new) }
-    ensures held { OnOk result ((held : List ℕ) → Holds (S.state s.old).sectors inode.old held → Holds (S.state s.new).sectors inode.new (resized held size)) }
+    ensures held { OnOk result ((held : List ℕ) → Holds (S.state s.old).sectors inode.old held
+        → Holds (S.state s.new).sectors inode.new (resized held size)) }
     // A cut makes no hole.
-    ensures whole { OnOk result (HasNoHole (S.state s.old).sectors inode.old → size ≤ inode.old.size → HasNoHole (S.state s.new).sectors inode.new) }
+    ensures whole { OnOk result (HasNoHole (S.state s.old).sectors inode.old → size ≤ inode.old.size
+        → HasNoHole (S.state s.new).sectors inode.new) }
     ensures too_big { (result ≡ Err MapFault.TooBig) ↔ (71680 < size) }
     ensures untouched { 71680 < size → IsUnchanged (S.state s.old) (S.state s.new) }
     ensures never_full { result ≢ Err MapFault.Full }

@@ -30,7 +30,8 @@ pub(crate) fn rewrite<S: Sectors>(
     requires on_disk { number < (S.state s.old).disk.size }
     requires fits { at + length bytes.now ≤ 512 }
     requires room { (S.state s.old).has_put number ≡ false → 0 < (S.state s.old).room }
-    ensures written { OnOk result (Puts number (splice ((S.state s.old).sectors number) at bytes.now) (S.state s.old).sectors (S.state s.new).sectors) }
+    ensures written { OnOk result (Puts number (splice ((S.state s.old).sectors number) at bytes.now)
+        (S.state s.old).sectors (S.state s.new).sectors) }
     ensures puts { OnOk result (PutsOnly (λ n. n ≡ number) [] 1 (S.state s.old) (S.state s.new)) }
     ensures store { SameStore (S.state s.old) (S.state s.new) }
     ensures cause { HasCause (S.state s.old).disk (S.state s.new).disk result }
@@ -50,7 +51,8 @@ pub(crate) fn take_sector<S: Sectors>(
 ) -> Result<u32, TakeFault>
     requires bitmaps { HasBitmaps place (S.state s.old) }
     requires room { HasSpare place 1 (S.state s.old) }
-    ensures taken { IfOk result (λ n. (bits : SectorMap) × Allocates place n content.now (S.state s.old).sectors bits (S.state s.new).sectors) }
+    ensures taken { IfOk result (λ n. (bits : SectorMap)
+        × Allocates place n content.now (S.state s.old).sectors bits (S.state s.new).sectors) }
     ensures free { OnOk result (free_sectors place (S.state s.old).sectors ≡ free_sectors place (S.state s.new).sectors + 1) }
     ensures has { IfOk result (λ n. (S.state s.new).has_put n ≡ true) }
     ensures puts { OnOk result (PutsOnly (IsStepSector place) (bitmaps place) 1 (S.state s.old) (S.state s.new)) }
@@ -80,7 +82,8 @@ pub(crate) fn write_block<S: Sectors>(
     requires inside { 512 * k < blocks.old.inode.size }
     requires room { HasRoomFor place blocks.old.inode 1 (S.state s.old) }
     ensures written { OnOk result (WritesBlock place k at bytes.now (S.state s.old) (S.state s.new) blocks.old blocks.new) }
-    ensures full { result ≡ Err MapFault.Full → (pointer (S.state s.old).sectors blocks.old.inode k ≡ 0) × (free_sectors place (S.state s.old).sectors ≡ 0) }
+    ensures full { result ≡ Err MapFault.Full
+        → (pointer (S.state s.old).sectors blocks.old.inode k ≡ 0) × (free_sectors place (S.state s.old).sectors ≡ 0) }
     ensures small { result ≢ Err MapFault.TooBig }
     ensures store { SameStore (S.state s.old) (S.state s.new) }
     ensures cause { HasCauseOf MapFault.DiskFault (S.state s.old).disk (S.state s.new).disk result }
@@ -113,7 +116,8 @@ pub(crate) fn add_pointers<S: Sectors>(
     requires inside { 12 < end → 6144 < blocks.old.inode.size }
     requires room { HasSpare place 1 (S.state s.old) }
     ensures added { OnOk result (AddsPointers place end (S.state s.old) (S.state s.new) blocks.old blocks.new) }
-    ensures full { result ≡ Err MapFault.Full → (12 < end) × (blocks.old.inode.indirect ≡ 0) × (free_sectors place (S.state s.old).sectors ≡ 0) }
+    ensures full { result ≡ Err MapFault.Full
+        → (12 < end) × (blocks.old.inode.indirect ≡ 0) × (free_sectors place (S.state s.old).sectors ≡ 0) }
     ensures small { result ≢ Err MapFault.TooBig }
     ensures store { SameStore (S.state s.old) (S.state s.new) }
     ensures cause { HasCauseOf MapFault.DiskFault (S.state s.old).disk (S.state s.new).disk result }

@@ -31,7 +31,8 @@ pub(crate) fn write_blocks<S: Sectors>(
     requires inside { (offset + length bytes.now ≤ blocks.old.inode.size) × (blocks.old.inode.size ≤ 71680) }
     requires room { HasSpare place (blocks_to (offset + length bytes.now) - offset / 512 + 1) (S.state s.old) }
     ensures written { OnOk result (WritesBlocks place offset bytes.now (S.state s.old) (S.state s.new) blocks.old.inode blocks.new.inode) }
-    ensures full { result ≡ Err MapFault.Full → free_sectors place (S.state s.old).sectors < taken_by (S.state s.old).sectors blocks.old.inode offset (length bytes.now) }
+    ensures full { result ≡ Err MapFault.Full
+        → free_sectors place (S.state s.old).sectors < taken_by (S.state s.old).sectors blocks.old.inode offset (length bytes.now) }
     ensures small { result ≢ Err MapFault.TooBig }
     ensures store { SameStore (S.state s.old) (S.state s.new) }
     ensures cause { HasCauseOf MapFault.DiskFault (S.state s.old).disk (S.state s.new).disk result }
@@ -68,12 +69,15 @@ pub fn write_at<S: Sectors>(
     requires spare { HasSpare place 11 (S.state s.old) }
     ensures change { OnOk result (ChangesContent place n (taken_by (S.state s.old).sectors inode.old offset (length bytes.now)) 11
         (S.state s.old) (S.state s.new) inode.old inode.new) }
-    ensures held { OnOk result ((held : List ℕ) → Holds (S.state s.old).sectors inode.old held → Holds (S.state s.new).sectors inode.new (overwritten held offset bytes.now)) }
+    ensures held { OnOk result ((held : List ℕ) → Holds (S.state s.old).sectors inode.old held
+        → Holds (S.state s.new).sectors inode.new (overwritten held offset bytes.now)) }
     // No hole is made but before the bytes.
-    ensures whole { OnOk result (HasNoHole (S.state s.old).sectors inode.old → offset ≤ inode.old.size → HasNoHole (S.state s.new).sectors inode.new) }
+    ensures whole { OnOk result (HasNoHole (S.state s.old).sectors inode.old → offset ≤ inode.old.size
+        → HasNoHole (S.state s.new).sectors inode.new) }
     ensures too_big { (result ≡ Err MapFault.TooBig) ↔ (71680 < offset + length bytes.now) }
     ensures untouched { 71680 < offset + length bytes.now → IsUnchanged (S.state s.old) (S.state s.new) }
-    ensures full { result ≡ Err MapFault.Full → (free_sectors place (S.state s.old).sectors < taken_by (S.state s.old).sectors inode.old offset (length bytes.now))
+    ensures full { result ≡ Err MapFault.Full
+        → (free_sectors place (S.state s.old).sectors < taken_by (S.state s.old).sectors inode.old offset (length bytes.now))
         × (taken_by (S.state s.old).sectors inode.old offset (length bytes.now) ≤ 10) }
     ensures taken { OnOk result (taken_by (S.state s.old).sectors inode.old offset (length bytes.now) ≤ 10) }
     ensures store { SameStore (S.state s.old) (S.state s.new) }
