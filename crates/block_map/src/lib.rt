@@ -19,6 +19,8 @@ mod read;
 mod release;
 mod size;
 mod steps;
+#[cfg(test)]
+mod tests;
 mod write;
 
 pub use fault::MapFault;
