@@ -22,7 +22,7 @@ pub record IsLoaded (image : SectorMap) (b : Blocks) (end : ℕ) : Type 0 where
   pub is : b.inode.indirect ≢ 0 → 12 < end → b.pointers ≡ image b.inode.indirect
   pub none : b.inode.indirect ≡ 0 → b.pointers ≡ zeros 512
 
--- of a list of bytes `count` were read from a place on into a buffer: as many as it has and as are left
-pub record IsReadOf (bytes : List ℕ) (place : ℕ) (old new : List ℕ) (count : ℕ) : Type 0 where
-  pub len : count ≡ min (length old) (length bytes - place)
-  pub content : new ≡ window bytes place count ++ drop count old
+-- of a list of bytes `count` were read from an offset on into a buffer: as many as it has and as are left
+pub record IsReadOf (bytes : List ℕ) (offset : ℕ) (old new : List ℕ) (count : ℕ) : Type 0 where
+  pub len : count ≡ min (length old) (length bytes - offset)
+  pub content : new ≡ window bytes offset count ++ drop count old

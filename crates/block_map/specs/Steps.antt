@@ -84,17 +84,17 @@ pub record WritesBlock (p : Place) (k at : ℕ) (x : List ℕ) (old new : TxnSta
 abbrev pub blocks_to : ℕ → ℕ
 blocks_to end = (end + 511) / 512
 
--- how many sectors bytes take that are written at a place: one for each hole that they reach, and one for pointers
+-- how many sectors bytes take that are written at an offset: one for each hole that they reach, and one for pointers
 abbrev pub taken_by : SectorMap → Inode → ℕ → ℕ → ℕ
-taken_by image v place len =
-    holes image v (place / 512) (blocks_to (place + len) - place / 512) + lacks_pointers v (blocks_to (place + len))
+taken_by image v offset len =
+    holes image v (offset / 512) (blocks_to (offset + len) - offset / 512) + lacks_pointers v (blocks_to (offset + len))
 
 -- the bytes are written within the size
-pub record WritesBlocks (p : Place) (place : ℕ) (x : List ℕ) (old new : TxnState) (v w : Inode) : Type 0 where
+pub record WritesBlocks (p : Place) (offset : ℕ) (x : List ℕ) (old new : TxnState) (v w : Inode) : Type 0 where
   pub alters : Alters p old new v w
-  pub puts : PutsOnly (IsStepSector p) (bitmaps p) (blocks_to (place + length x) - place / 512 + 1) old new
+  pub puts : PutsOnly (IsStepSector p) (bitmaps p) (blocks_to (offset + length x) - offset / 512 + 1) old new
   pub size : w.size ≡ v.size
-  pub held : (bytes : List ℕ) → Holds old.sectors v bytes → Holds new.sectors w (splice bytes place x)
+  pub held : (bytes : List ℕ) → Holds old.sectors v bytes → Holds new.sectors w (splice bytes offset x)
   -- where there is no sector there was none, and none of the bytes
-  pub hole : (k : ℕ) → pointer new.sectors w k ≡ 0 → (pointer old.sectors v k ≡ 0) × ((512 * k + 512 ≤ place) ⊎ (place + length x ≤ 512 * k))
-  pub free : free_sectors p old.sectors ≤ free_sectors p new.sectors + taken_by old.sectors v place (length x)
+  pub hole : (k : ℕ) → pointer new.sectors w k ≡ 0 → (pointer old.sectors v k ≡ 0) × ((512 * k + 512 ≤ offset) ⊎ (offset + length x ≤ 512 * k))
+  pub free : free_sectors p old.sectors ≤ free_sectors p new.sectors + taken_by old.sectors v offset (length x)
