@@ -1,6 +1,7 @@
 //! What calls on bitmaps and inodes give on a new disk, and what a read that fails leaves of it.
 
-ghost use Rattle.std.specs.Prelude.{IfOk};
+ghost use Rattle.std.specs.Prelude.{◌≡◌, ◌≤◌, ◌<◌, length, IfOk, OnOk};
+ghost use Rattle.fs_layout.specs.Images.{inode_at};
 ghost use Rattle.sector_txn.specs.Stores.{txn_state};
 ghost use Rattle.bit_alloc.specs.Bitmaps.{HasBitmaps};
 ghost use Rattle.bit_alloc.specs.Inodes.{IsSound};
@@ -12,6 +13,7 @@ use crate::fs::read_place;
 use crate::mkfs;
 use crate::mkfs_tests::content_of;
 use bit_alloc::{Bitmap, TakeFault, count_free, give, has_free, is_taken, take};
+use block_map::{MapFault, read_at, set_size, write_at};
 use fs_layout::{Inode, Kind, Place};
 use inode_table::{load, new_inode, save};
 use posix_acl::{Acl, Entry, Perms, Tag};
@@ -134,6 +136,156 @@ fn inodes_made(alloc: Global) -> Result<Taken, Fail> {
 fn a_new_disk_has_so_many_blocks_and_inodes(rt: HostRuntime) -> Result<(), Fail> {
     let seen = (blocks_taken(rt.alloc())?, inodes_made(rt.alloc())?);
     assert!(rt; seen == ((878, 146, 878), (62, 2, 62)), "{seen:?}");
+    Ok(())
+}
+
+// ---- the bytes of a file
+
+#[derive(Clone, Copy)]
+enum Change {
+    SetSize(u64),
+    // So many bytes of 7, from an offset on.
+    WriteAt(u64, usize),
+}
+
+// Inode n, a file that there is room to change.
+fn file_at<S: Sectors>(s: &mut S, place: Place, n: u32) -> Result<Inode, Fail>
+    requires sound { IsSound place (S.state s.old) }
+    ensures sound { OnOk result (IsSound place (S.state s.new)) }
+    ensures below { OnOk result (n < place.inodes) }
+    ensures inode { IfOk result (λ v. v ≡ inode_at place (S.state s.new).sectors n) }
+    ensures kind { IfOk result (λ v. v.kind ≡ Kind.File) }
+    ensures spare { OnOk result (HasSpare place 11 (S.state s.new)) }
+{
+    if n >= place.inodes {
+        return Err(Fail::new("no inode"));
+    }
+    if s.room() < (place.table - 128) as usize + 11 {
+        return Err(Fail::new("no room"));
+    }
+    let inode = load(s, place, n)?;
+    match inode.kind {
+        Kind::File => Ok(inode),
+        _ => Err(Fail::new("no file")),
+    }
+}
+
+fn size_set<S: Sectors>(
+    s: &mut S,
+    place: Place,
+    n: u32,
+    size: u64,
+) -> Result<Result<(), MapFault>, Fail>
+    requires sound { IsSound place (S.state s.old) }
+    ensures sound { OnOk result (IsSound place (S.state s.new)) }
+{
+    let mut inode = file_at(s, place, n)?;
+    match set_size(s, place, n, &mut inode, size) {
+        Ok(()) => Ok(Ok(())),
+        Err(MapFault::TooBig) => Ok(Err(MapFault::TooBig)),
+        Err(_) => Err(Fail::new("not set")),
+    }
+}
+
+fn written<S: Sectors>(
+    s: &mut S,
+    place: Place,
+    n: u32,
+    offset: u64,
+    bytes: &[u8],
+) -> Result<Result<(), MapFault>, Fail>
+    requires sound { IsSound place (S.state s.old) }
+    requires few { length bytes.now ≤ 4096 }
+    ensures sound { OnOk result (IsSound place (S.state s.new)) }
+{
+    let mut inode = file_at(s, place, n)?;
+    match write_at(s, place, n, &mut inode, offset, bytes) {
+        Ok(()) => Ok(Ok(())),
+        Err(MapFault::TooBig) => Ok(Err(MapFault::TooBig)),
+        Err(_) => Err(Fail::new("not written")),
+    }
+}
+
+fn change_file<S: Sectors>(
+    s: &mut S,
+    place: Place,
+    n: u32,
+    change: Change,
+) -> Result<Result<(), MapFault>, Fail>
+    requires sound { IsSound place (S.state s.old) }
+    ensures sound { OnOk result (IsSound place (S.state s.new)) }
+{
+    match change {
+        Change::SetSize(size) => size_set(s, place, n, size),
+        Change::WriteAt(offset, len) => written(s, place, n, offset, &[7; 600][..len.min(600)]),
+    }
+}
+
+// What a change of inode n comes to, and how many blocks are free then.
+type Changed = (Result<(), MapFault>, u32);
+
+fn changed<S: Sectors>(s: &mut S, place: Place, n: u32, change: Change) -> Result<Changed, Fail>
+    requires sound { IsSound place (S.state s.old) }
+    ensures sound { OnOk result (IsSound place (S.state s.new)) }
+{
+    let outcome = change_file(s, place, n, change)?;
+    let free = count_free(s, place, Bitmap::Blocks)?;
+    Ok((outcome, free))
+}
+
+// The first change of a new file that comes to something else than is wanted, and the first 701 bytes after all.
+type FileSeen = (Option<usize>, [u8; 701]);
+
+fn file_changed<S: Sectors>(
+    s: &mut S,
+    place: Place,
+    access: &Acl,
+    rows: &[(Change, Changed)],
+) -> Result<FileSeen, Fail>
+    requires sound { IsSound place (S.state s.old) }
+    requires clear { ClearAreFree place (S.state s.old).sectors }
+    requires spare { HasSpare place 47 (S.state s.old) }
+{
+    let n = new_inode(s, place, &FILE, access, None)?;
+    let mut other = None;
+    for (i, (change, wanted)) in rows.iter().enumerate() {
+        if changed(s, place, n, *change)? != *wanted && other.is_none() {
+            other = Some(i);
+        }
+    }
+    let inode = file_at(s, place, n)?;
+    let mut bytes = [1; 701];
+    if read_at(s, &inode, 0, &mut bytes)? != 701 {
+        return Err(Fail::new("not all read"));
+    }
+    Ok((other, bytes))
+}
+
+#[test]
+fn a_file_takes_and_gives_back_so_many_blocks(rt: HostRuntime) -> Result<(), Fail> {
+    let access = Acl::from_mode(rt.alloc(), 0o644)?;
+    let (disk, place) = new_disk(rt.alloc())?;
+    let mut txn = begun(rt.alloc(), disk, place)?;
+    let rows = [
+        (Change::SetSize(71_680), (Ok(()), 878)),
+        (Change::SetSize(0), (Ok(()), 878)),
+        // A block past the first twelve, and the sector of pointers.
+        (Change::WriteAt(6_144, 1), (Ok(()), 876)),
+        (Change::SetSize(6_144), (Ok(()), 878)),
+        (Change::WriteAt(71_679, 2), (Err(MapFault::TooBig), 878)),
+        (Change::SetSize(0), (Ok(()), 878)),
+        (Change::WriteAt(0, 600), (Ok(()), 876)),
+        (Change::SetSize(3), (Ok(()), 877)),
+        (Change::WriteAt(700, 1), (Ok(()), 876)),
+    ];
+    let seen = file_changed(&mut txn, place, &access, &rows);
+    let _store = txn.drop_delta();
+    // A cut leaves zeros behind it.
+    let mut bytes = [0; 701];
+    (&mut bytes[..3]).fill(7);
+    bytes[700] = 7;
+    let seen = seen?;
+    assert!(rt; seen == (None, bytes), "{:?}", seen.0);
     Ok(())
 }
 

@@ -1,4 +1,4 @@
-use Rattle.std.proofs.Common.{arith, refl, ◌≡◌, ◌∙◌, sym, subst}
+use Rattle.std.proofs.Common.{arith}
 use Rattle.bit_alloc.proofs.Transactions.{spare_unchanged}
 use Rattle.fs_system.proofs.SpaceTests.{sound_unchanged, spare_less, same_attributes}
 use Rattle.fs_system.proofs.space_tests.save_root.Goals as goal
