@@ -1,4 +1,4 @@
-//! What calls on bitmaps and inodes give on a new disk, and what a read that fails leaves of it.
+//! What calls on bitmaps, inodes and the bytes of files give on a new disk, and what a read that fails leaves of it.
 
 ghost use Rattle.std.specs.Prelude.{◌≡◌, ◌≤◌, ◌<◌, length, IfOk, OnOk};
 ghost use Rattle.fs_layout.specs.Images.{inode_at};
