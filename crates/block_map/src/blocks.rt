@@ -3,7 +3,7 @@
 ghost use Rattle.std.specs.Prelude.{◌≡◌, ◌≢◌, ◌≤◌, ◌<◌, ◌+◌, ◌-◌, ◌*◌, ℕ, length, get_or, false, IfOk, OnOk};
 ghost use Rattle.sector_disk.specs.Disk.{HasCause};
 ghost use Rattle.fs_layout.specs.Bytes.{u32_of, splice, le32};
-ghost use Rattle.fs_layout.specs.Images.{byte_in};
+ghost use Rattle.fs_layout.specs.Images.{byte_in, byte_at};
 ghost use Rattle.sector_txn.specs.Sectors.{IsUnchanged, IsPut};
 
 use byteorder::{ByteOrder, LittleEndian};
@@ -21,12 +21,13 @@ pub(crate) const MOST: u64 = 140;
 /// How many bytes an inode can hold.
 pub(crate) const LIMIT: u64 = 71_680;
 
-/// An inode, and its sector of pointers.
+/// An inode and its sector of pointers, so that blocks can be read one by one.
 #[derive(Drop)]
-pub(crate) struct Blocks {
-    pub(crate) inode: Inode,
-    /// Zeros where the inode has none.
-    pub(crate) pointers: [u8; 512],
+pub struct Blocks {
+    /// The inode.
+    pub inode: Inode,
+    /// Its sector of pointers; zeros where it has none, or where no block that is asked for needs it.
+    pub pointers: [u8; 512],
 }
 
 fn pointer_at(pointers: &[u8; 512], i: usize) -> u32
@@ -47,7 +48,7 @@ impl Blocks {
     ghost use Rattle.block_map.specs.Blocks.{IsWithin, IsLoaded, number_in};
 
     /// Reads the sector of pointers if a block below `end` may need it.
-    pub(crate) fn load<S: Sectors>(s: &mut S, inode: &Inode, end: u64) -> Result<Blocks, DiskFault>
+    pub fn load<S: Sectors>(s: &mut S, inode: &Inode, end: u64) -> Result<Blocks, DiskFault>
         requires within { IsWithin (S.state s.old).disk.size (S.state s.old).sectors inode.now }
         ensures inode { IfOk result (λ b. b.inode ≡ inode.now) }
         ensures pointers { IfOk result (λ b. IsLoaded (S.state s.old).sectors b end) }
@@ -76,6 +77,25 @@ impl Blocks {
         } else {
             0
         }
+    }
+
+    /// Reads block `k`, one below the end that was named to [`Blocks::load`]; a hole reads as zeros.
+    ///
+    /// At `Err` nothing is said of `to`.
+    pub fn read<S: Sectors>(
+        &self,
+        s: &mut S,
+        k: u64,
+        to: &mut [u8; 512],
+    ) -> Result<(), DiskFault>
+        requires within { IsWithin (S.state s.old).disk.size (S.state s.old).sectors self.now.inode }
+        requires loaded { (end : ℕ) × (k < end) × IsLoaded (S.state s.old).sectors self.now end }
+        ensures bytes { OnOk result ((i : ℕ) → i < 512 → get_or to.new i 0 ≡ byte_at (S.state s.old).sectors self.now.inode (512 * k + i)) }
+        ensures same { IsUnchanged (S.state s.old) (S.state s.new) }
+        ensures cause { HasCause (S.state s.old).disk (S.state s.new).disk result }
+    {
+        read_block(s, self.number(k), 0, to)?;
+        Ok(())
     }
 
     /// Writes the sector of a block into the sector of pointers.
