@@ -82,12 +82,7 @@ impl Blocks {
     /// Reads block `k`, one below the end that was named to [`Blocks::load`]; a hole reads as zeros.
     ///
     /// At `Err` nothing is said of `to`.
-    pub fn read<S: Sectors>(
-        &self,
-        s: &mut S,
-        k: u64,
-        to: &mut [u8; 512],
-    ) -> Result<(), DiskFault>
+    pub fn read<S: Sectors>(&self, s: &mut S, k: u64, to: &mut [u8; 512]) -> Result<(), DiskFault>
         requires within { IsWithin (S.state s.old).disk.size (S.state s.old).sectors self.now.inode }
         requires loaded { (end : ℕ) × (k < end) × IsLoaded (S.state s.old).sectors self.now end }
         ensures bytes { OnOk result ((i : ℕ) → i < 512 → get_or to.new i 0 ≡ byte_at (S.state s.old).sectors self.now.inode (512 * k + i)) }
