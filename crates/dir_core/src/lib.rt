@@ -5,12 +5,15 @@
 //! | Call | `get` | `put` |
 //! |---|---|---|
 //! | [`lookup`] | the blocks up to the one with the name, each of `k` where it is absent, and the sector of pointers if there are more than 12 | 0 |
+//! | [`list`] | each of the blocks, and the sector of pointers if there are more than 12 | 0 |
 //! | [`is_empty`] | 0 | 0 |
 #![tactic(auto)]
 
 mod fault;
 mod find;
+mod listing;
 mod names;
 
 pub use fault::DirFault;
+pub use listing::list;
 pub use names::{is_empty, lookup};
