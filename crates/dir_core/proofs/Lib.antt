@@ -1,4 +1,5 @@
 pub mod Entries
+pub mod Filled
 pub mod Found
 pub mod Pieces
 pub mod Scans

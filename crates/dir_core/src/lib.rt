@@ -13,6 +13,8 @@ mod fault;
 mod find;
 mod listing;
 mod names;
+#[cfg(test)]
+mod tests;
 
 pub use fault::DirFault;
 pub use listing::list;
