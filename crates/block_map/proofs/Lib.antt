@@ -4,8 +4,10 @@ pub mod Clearings
 pub mod Counts
 pub mod Dropping
 pub mod Givings
+pub mod Joins
 pub mod Loops
 pub mod Numbers
+pub mod Overwriting
 pub mod Reading
 pub mod Resizing
 pub mod Rewritten

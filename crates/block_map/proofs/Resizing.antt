@@ -162,7 +162,7 @@ cut_is_resized bytes m le =
     let none : m - length bytes ≡ 0 = omega (arith, le) in
     sym (ap (λ (k : ℕ). take m bytes ++ replicate k 0) none ∙ append-nil (take m bytes))
 
-altered_after : {p : Place} {old start mid : TxnState} {v w : Inode} → IsUnchanged old start → Alters p start mid v w → Alters p old mid v w
+pub altered_after : {p : Place} {old start mid : TxnState} {v w : Inode} → IsUnchanged old start → Alters p start mid v w → Alters p old mid v w
 altered_after {p} {old} {start} {mid} {v} {w} same a =
     let e : start.sectors ≡ old.sectors = same_map old.sectors start.sectors same.sectors in
     record {

@@ -1,5 +1,5 @@
 -- Bytes are written and the inode is saved.
-use Rattle.std.proofs.Common.{◌≡◌, ℕ, ◌+◌, ◌-◌, ◌/◌, ◌≤◌, ◌<◌, Bool, true, false, cond, List, [], ◌++◌, length, sym, ap, subst, ◌∙◌, arith, inl, inr}
+use Rattle.std.proofs.Common.{◌≡◌, ℕ, ◌+◌, ◌-◌, ◌/◌, ◌%◌, ◌≤◌, ◌<◌, Bool, true, false, cond, List, [], ◌++◌, length, sym, ap, subst, ◌∙◌, arith, inl, inr}
 use Rattle.std.specs.Prelude.{max, nat_eq, nat_lt}
 use Rattle.fs_layout.specs.declared.inode.Inode.{Inode}
 use Rattle.fs_layout.specs.declared.place.Place.{Place}
@@ -9,13 +9,12 @@ use Rattle.fs_layout.specs.Changes.{Saves}
 use Rattle.fs_layout.proofs.Parts.{Holds-kept, HasNoHole-kept}
 use Rattle.fs_layout.proofs.Places.{after_map, before_data}
 use Rattle.sector_txn.specs.Sectors.{TxnState, IsUnchanged, PutsOnly}
-use Rattle.sector_txn.proofs.Changes.{changes_weaker}
 use Rattle.bit_alloc.specs.Room.{bitmaps}
 use Rattle.bit_alloc.specs.Inodes.{IsSound}
 use Rattle.bit_alloc.proofs.Transactions.{puts_after}
 use Rattle.block_map.specs.Blocks.{IsWithin}
 use Rattle.block_map.specs.Contents.{AllowsSize}
-use Rattle.block_map.specs.Steps.{MayChange, IsStepSector, lacks_pointers, WritesBlocks, blocks_to, taken_by}
+use Rattle.block_map.specs.Steps.{MayChange, IsStepSector, lacks_pointers, WritesBlocks, blocks_to, taken_by, put_by}
 use Rattle.block_map.proofs.Alterings.{alters_joined}
 use Rattle.block_map.proofs.Counts.{holes_few, holes_same}
 use Rattle.block_map.proofs.Runs.{same_map}
@@ -60,22 +59,33 @@ taken_same old mid v m place len same =
 pub free_same : (p : Place) (old mid : TxnState) → IsUnchanged old mid → free_sectors p mid.sectors ≡ free_sectors p old.sectors
 free_same p old mid same = ap (free_sectors p) (same_map old.sectors mid.sectors same.sectors)
 
+-- ---- how many sectors are put
+-- 11 at most
+pub put_few : (place len : ℕ) → len ≤ 4096 → put_by place len ≤ 11
+put_few place len few = omega (arith, few)
+
+-- 3 where the bytes are one slot of a directory
+pub put_for_slot : (place : ℕ) → place % 128 ≡ 0 → put_by place 128 ≡ 3
+put_for_slot place at = omega (arith, at)
+
 -- ---- the whole call
 module _ {p : Place} {n m place : ℕ} {x : List ℕ} {old mid done new : TxnState} {u v w : Inode}
     (sound : IsSound p old) (lt : n < p.inodes) (at : v ≡ inode_at p old.sectors n) (allowed : AllowsSize v.kind m) (limit : m ≤ 71680) (few : length x ≤ 4096)
     (is : m ≡ max v.size (place + length x)) (same : IsUnchanged old mid) (e : u ≡ v) (step : WritesBlocks p place x mid done (record u { size = m }) w) where
   pub wrote : Saves p n w done.sectors new.sectors → PutsOnly (λ t. t ≡ p.table + n / 4) [] 1 done new
-      → IsEnded p n (taken_by old.sectors v place (length x)) 11 old done new v w
+      → IsEnded p n (taken_by old.sectors v place (length x)) (put_by place (length x)) old done new v w
   wrote saves put =
       let written : WritesBlocks p place x mid done (record v { size = m }) w = subst (λ (i : Inode). WritesBlocks p place x mid done (record i { size = m }) w) e step in
-      let puts : PutsOnly (IsStepSector p) (bitmaps p) 10 old done =
-      puts_after same (changes_weaker {Q = IsStepSector p} (λ t r. r) (omega (arith, few)) written.puts) in
+      let reached : ℕ = blocks_to (place + length x) - place / 512 in
+      let puts : PutsOnly (IsStepSector p) (bitmaps p) (reached + 1) old done = puts_after same written.puts in
       let count = taken_same old mid v m place (length x) same in
       let free = written.free in
       let before = free_same p old mid same in
-      saved_after sound lt (sym at) (alters_joined (sized m (may_change m sound lt at allowed) same allowed limit) written.alters) puts (omega (arith, count, free, before)) saves put
+      let more : reached + 1 + 1 ≡ put_by place (length x) = omega arith in
+      subst (λ (k : ℕ). IsEnded p n (taken_by old.sectors v place (length x)) k old done new v w) more
+      (saved_after sound lt (sym at) (alters_joined (sized m (may_change m sound lt at allowed) same allowed limit) written.alters) puts (omega (arith, count, free, before)) saves put)
 
-  pub wrote_held : (ended : IsEnded p n (taken_by old.sectors v place (length x)) 11 old done new v w) → (held : List ℕ) → Holds old.sectors v held
+  pub wrote_held : (ended : IsEnded p n (taken_by old.sectors v place (length x)) (put_by place (length x)) old done new v w) → (held : List ℕ) → Holds old.sectors v held
       → Holds new.sectors w (overwritten held place x)
   wrote_held ended held h =
       let written : WritesBlocks p place x mid done (record v { size = m }) w = subst (λ (i : Inode). WritesBlocks p place x mid done (record i { size = m }) w) e step in
@@ -83,7 +93,7 @@ module _ {p : Place} {n m place : ℕ} {x : List ℕ} {old mid done new : TxnSta
       subst (λ (r : List ℕ). Holds new.sectors w r) (spliced_is_overwritten held x place m (is ∙ ap (λ (k : ℕ). max k (place + length x)) z))
       (Holds-kept ended.keeps (written.held (held ++ zeros (m - length held)) (sized_holds m same (omega (arith, is)) held h)))
 
-  pub wrote_whole : (ended : IsEnded p n (taken_by old.sectors v place (length x)) 11 old done new v w) → HasNoHole old.sectors v → place ≤ v.size → HasNoHole new.sectors w
+  pub wrote_whole : (ended : IsEnded p n (taken_by old.sectors v place (length x)) (put_by place (length x)) old done new v w) → HasNoHole old.sectors v → place ≤ v.size → HasNoHole new.sectors w
   wrote_whole ended whole from =
       let written : WritesBlocks p place x mid done (record v { size = m }) w = subst (λ (i : Inode). WritesBlocks p place x mid done (record i { size = m }) w) e step in
       HasNoHole-kept ended.keeps (λ k inside none.

@@ -4,6 +4,7 @@
 --     Alters        what a step leaves alone
 --     hole, holes, lacks_pointers        how many sectors a block lacks, blocks lack, and pointers
 --     AddsPointers, WritesBlock, WritesBlocks        the inode gets a sector of pointers; bytes of one block are written, and of several
+--     blocks_to, taken_by, put_by        the blocks that bytes reach, and the sectors that they take and put
 use Rattle.std.specs.Prelude.{◌≡◌, ◌≢◌, ◌⊎◌, ℕ, ◌+◌, ◌*◌, ◌<◌, ◌≤◌, ◌-◌, ◌/◌, nat_eq, nat_lt, if◌then◌else◌, count_by, List, ◌∷◌, length}
 use Rattle.std.specs.List.{range_with_len}
 use Rattle.fs_layout.specs.declared.inode.Inode.{Inode}
@@ -88,6 +89,11 @@ blocks_to end = (end + 511) / 512
 abbrev pub taken_by : SectorMap → Inode → ℕ → ℕ → ℕ
 taken_by image v offset len =
     holes image v (offset / 512) (blocks_to (offset + len) - offset / 512) + lacks_pointers v (blocks_to (offset + len))
+
+-- how many sectors are put at most, besides bitmaps, where bytes are written at an offset: those of the blocks that they
+-- reach, that of the pointers, and the inode's
+abbrev pub put_by : ℕ → ℕ → ℕ
+put_by offset len = blocks_to (offset + len) - offset / 512 + 2
 
 -- the bytes are written within the size
 pub record WritesBlocks (p : Place) (offset : ℕ) (x : List ℕ) (old new : TxnState) (v w : Inode) : Type 0 where

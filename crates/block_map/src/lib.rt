@@ -1,8 +1,8 @@
 //! The bytes of files, directories and links: an inode holds a list of bytes, with zeros in holes.
 //!
-//! An inode has 12 direct blocks of 512 bytes, and then a sector of pointers to 128 more. [`read_at`], [`write_at`]
-//! and [`set_size`] serve files, directories and links alike, [`release_all`] files and directories. [`Blocks`] reads one
-//! block after another, as a search does. No call takes memory.
+//! An inode has 12 direct blocks of 512 bytes, and then a sector of pointers to 128 more. [`read_at`], [`write_at`],
+//! [`overwrite`] and [`set_size`] serve files, directories and links alike, [`release_all`] files and directories.
+//! [`Blocks`] reads one block after another, as a search does. No call takes memory.
 //!
 //! What each call reads and puts, where it reaches `k` blocks, `h` of which are holes:
 //!
@@ -12,6 +12,7 @@
 //! | [`Blocks::load`] | the sector of pointers if a block past the first 12 may be reached | 0 |
 //! | [`Blocks::read`] | the block but a hole | 0 |
 //! | [`write_at`] | the sector of pointers as above, `k - h`, the inode's sector, and what `h` sectors taken read in the bitmap | `k`, the inode's sector, the bitmap's for each sector taken, the sector of pointers for each taken past block 11, and once more where it is new |
+//! | [`overwrite`] | the sector of pointers if the block is past the first 12, and the block | 1 |
 //! | [`set_size`] | the inode's sector; and where it cuts, the sector of pointers if there is one, the block that the cut goes through but a hole, and the bitmap's for each sector given back | the inode's sector; and where it cuts, the block that it goes through but a hole, the sector of pointers if one stays, and the bitmap's for each sector given back |
 //! | [`release_all`] | the sector of pointers if there is one, the inode's sector, and the bitmap's for each sector given back | the inode's sector, and the bitmap's for each sector given back |
 #![tactic(auto)]
@@ -31,4 +32,4 @@ pub use fault::MapFault;
 pub use read::read_at;
 pub use release::release_all;
 pub use size::set_size;
-pub use write::write_at;
+pub use write::{overwrite, write_at};

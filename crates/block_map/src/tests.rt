@@ -1,12 +1,15 @@
 //! Calls on the bytes of one file, with what each reads and puts.
 
-ghost use Rattle.std.specs.Prelude.{◌≡◌, ◌≤◌, ◌<◌, IfOk, OnOk};
+ghost use Rattle.std.specs.Prelude.{◌≡◌, ◌≢◌, ◌≤◌, ◌<◌, IfOk, OnOk};
+ghost use Rattle.fs_layout.specs.declared.inode.Kind.TheVariants.{Free};
+ghost use Rattle.fs_layout.specs.Images.{inode_at};
 ghost use Rattle.fs_layout.specs.Place.{IsPlace};
 ghost use Rattle.bit_alloc.specs.Inodes.{IsSound};
+ghost use Rattle.bit_alloc.specs.Room.{HasSpare};
 
 mod blank;
 
-use crate::{read_at, release_all, set_size, write_at};
+use crate::{overwrite, read_at, release_all, set_size, write_at};
 use blank::{is_blank, put_blank};
 use fs_layout::{Commit, Inode, Kind, Place, place_of};
 use inode_table::{load, new_inode};
@@ -53,12 +56,39 @@ enum Call {
     Read(u64),
     // So many bytes of 7, at an offset.
     Write(u64, usize),
+    // Four bytes of 5, at an offset.
+    Overwrite(u64),
     SetSize(u64),
     Release,
 }
 
 // A call, the bytes that it reads, 9 where there are none, and how many sectors it reads and puts.
 type Row = (Call, [u8; 4], u32, u32);
+
+// Writes four bytes over those of one of the first 12 blocks.
+fn overwrite_direct<S: Sectors>(
+    s: &mut S,
+    place: Place,
+    n: u32,
+    inode: &Inode,
+    offset: u64,
+) -> Result<(), Fail>
+    requires sound { IsSound place (S.state s.old) }
+    requires below { n < place.inodes }
+    requires inode { inode.now ≡ inode_at place (S.state s.old).sectors n }
+    requires used { inode.now.kind ≢ Free }
+    requires spare { HasSpare place 1 (S.state s.old) }
+    ensures sound { OnOk result (IsSound place (S.state s.new)) }
+{
+    if 6144 <= offset || inode.size < offset + 4 || 508 < offset % 512 {
+        return Err(Fail::new("not within a block"));
+    }
+    if inode.direct[(offset / 512) as usize] == 0 {
+        return Err(Fail::new("a hole"));
+    }
+    overwrite(s, place, n, inode, offset, &[5; 4])?;
+    Ok(())
+}
 
 fn perform<S: Sectors>(s: &mut S, place: Place, n: u32, call: Call) -> Result<[u8; 4], Fail>
     requires sound { IsSound place (S.state s.old) }
@@ -86,6 +116,10 @@ fn perform<S: Sectors>(s: &mut S, place: Place, n: u32, call: Call) -> Result<[u
                 Ok(()) => Ok(bytes),
                 Err(_) => Err(Fail::new("not written")),
             }
+        }
+        Call::Overwrite(offset) => {
+            overwrite_direct(s, place, n, &inode, offset)?;
+            Ok(bytes)
         }
         Call::SetSize(size) => match set_size(s, place, n, &mut inode, size) {
             Ok(()) => Ok(bytes),
@@ -202,6 +236,8 @@ fn calls(rt: HostRuntime) -> Result<(), Fail> {
             (Call::Read(510), [7, 7, 7, 7], 2, 0),
             (Call::Read(512), [7, 7, 9, 9], 1, 0),
             (Call::Write(0, 1024), done, 3, 3),
+            (Call::Overwrite(508), done, 1, 1),
+            (Call::Read(510), [5, 5, 7, 7], 2, 0),
             (Call::SetSize(513), done, 2, 2),
             (Call::Write(516, 1), done, 2, 2),
             (Call::Read(512), [7, 0, 0, 0], 1, 0),

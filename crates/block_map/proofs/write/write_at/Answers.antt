@@ -3,7 +3,7 @@ use Rattle.fs_layout.specs.declared.inode.Inode.{Inode}
 use Rattle.sector_txn.proofs.Changes.{store_joined}
 use Rattle.bit_alloc.proofs.Transactions.{spare_unchanged}
 use Rattle.block_map.specs.declared.fault.MapFault.TheVariants.{Full}
-use Rattle.block_map.specs.Steps.{MayChange, taken_by}
+use Rattle.block_map.specs.Steps.{MayChange, taken_by, put_by}
 use Rattle.block_map.proofs.Alterings.{may_after}
 use Rattle.block_map.proofs.Sizing.{may_change, sized, size_limit}
 use Rattle.block_map.proofs.Runs.{same_fault}
@@ -49,10 +49,10 @@ returns-in_err-write_blocks-clause-full g c = λ is.
 
 pub write_inode-requires-clause-room : goal.write_inode-requires-clause-room
 write_inode-requires-clause-room g c = λ none.
-    let spare = spare_unchanged c.args.place 11 _ _ c.requires.spare c.in_ok-blocks.ensures.same in
-    omega (arith, spare, c.in_ok-write_blocks.ensures.written.puts.room, c.requires.few)
+    let spare = spare_unchanged c.args.place (put_by c.args.offset (length c.args.bytes.now)) _ _ c.requires.spare c.in_ok-blocks.ensures.same in
+    omega (arith, spare, c.in_ok-write_blocks.ensures.written.puts.room)
 
-ended : (g : _) (c : goal.After-inode-1 g) → IsEnded c.args.place c.args.n (taken_by (g.S.Sectors.state c.args.s.now).sectors c.args.inode.now c.args.offset (length c.args.bytes.now)) 11
+ended : (g : _) (c : goal.After-inode-1 g) → IsEnded c.args.place c.args.n (taken_by (g.S.Sectors.state c.args.s.now).sectors c.args.inode.now c.args.offset (length c.args.bytes.now)) (put_by c.args.offset (length c.args.bytes.now))
     (g.S.Sectors.state c.args.s.now) (g.S.Sectors.state c.write_blocks.new.s) (g.S.Sectors.state c.write_inode.new.s) c.args.inode.now c.write_blocks.new.blocks.inode
 ended g c =
     let v = c.args.inode.now in

@@ -1,6 +1,10 @@
-use Rattle.std.proofs.Common.{ap, ◌∙◌, Err}
+use Rattle.std.proofs.Common.{length, ap, ◌∙◌, arith, Err}
+use Rattle.block_map.proofs.Wrote.{put_few}
 use Rattle.fs_system.proofs.SpaceTests.{sound_unchanged}
 use Rattle.fs_system.proofs.space_tests.written.Goals as goal
+
+pub write_at-requires-clause-spare : goal.write_at-requires-clause-spare
+write_at-requires-clause-spare g c = omega (arith, c.in_ok-inode.ensures.spare, put_few c.args.offset (length c.args.bytes.now) c.requires.few)
 
 pub returns-in-Err-TooBig : goal.returns-in-Err-TooBig
 returns-in-Err-TooBig g c = record {
