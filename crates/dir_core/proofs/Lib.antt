@@ -1,5 +1,9 @@
+pub mod Changing
 pub mod Entries
 pub mod Filled
 pub mod Found
+pub mod NamesAfter
 pub mod Pieces
 pub mod Scans
+pub mod SlotBytes
+pub mod Taking

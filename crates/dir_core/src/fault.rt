@@ -1,8 +1,10 @@
 //! Why a name isn't found, added or removed.
 
 ghost use Rattle.std.specs.Prelude.{◌≡◌};
+ghost use Rattle.dir_core.specs.Faults.{as_dir_fault};
 ghost use Rattle.dir_core.specs.declared.fault.DirFault.TheVariants.{DiskFault as Device, OutOfMemory};
 
+use block_map::MapFault;
 use sector_disk::DiskFault;
 use std::alloc::{AllocError, AllocFailed};
 
@@ -26,6 +28,19 @@ impl From<DiskFault> for DirFault {
 
     fn from(_: DiskFault) -> DirFault {
         DirFault::DiskFault
+    }
+}
+
+impl From<MapFault> for DirFault {
+    ghost from_gives = { λ fault e. e ≡ as_dir_fault fault };
+
+    fn from(fault: MapFault) -> DirFault {
+        match fault {
+            MapFault::Full => DirFault::Full,
+            // A directory of 71,680 bytes has all the names that it can have.
+            MapFault::TooBig => DirFault::Full,
+            MapFault::DiskFault => DirFault::DiskFault,
+        }
     }
 }
 

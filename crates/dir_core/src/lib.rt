@@ -9,6 +9,7 @@
 //! | [`is_empty`] | 0 | 0 |
 #![tactic(auto)]
 
+mod change;
 mod fault;
 mod find;
 mod listing;
@@ -16,6 +17,7 @@ mod names;
 #[cfg(test)]
 mod tests;
 
+pub use change::{insert, remove, replace};
 pub use fault::DirFault;
 pub use listing::list;
 pub use names::{is_empty, lookup};
