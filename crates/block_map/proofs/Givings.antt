@@ -232,26 +232,31 @@ emptied_fits v fits allowed =
       indirect = omega arith;
     }
 
+-- what it owned besides its ACLs is given back
+pub emptied_blocks : {p : Place} {v : Inode} {old new : TxnState} → IsPlace p → IsOwnedApart p old.sectors v → GivesAll p v old new
+    → ChangesBlocks p v (emptied v) old.sectors new.sectors
+unfolding part zeros
+emptied_blocks {p} {v} {old} {new} place apart g = keeps_or_gives place apart (record {
+  tables = g.tables.tables;
+  parts = emptied_parts g;
+  released = λ s few set clear.
+      let r = g.released s few set clear in
+      elim r.1 [
+        | inl w ↦ (Block w.0, w.1, emptied_pointer new.sectors v w.0, r.0)
+        | inr is ↦ (Indirect, is, refl, r.0)
+      ];
+  set = g.set;
+  whole = λ s o. subst IsSector (sym (g.others s (no_map place apart s o))) (apart.whole s o);
+  others = λ s ban map. g.others s map;
+})
+
 -- the inode is emptied
 pub empties : {p : Place} {v : Inode} {old new : TxnState} → MayChange p old v → AllowsSize v.kind 0 → GivesAll p v old new → Alters p old new v (emptied v)
-unfolding part zeros
 empties {p} {v} {old} {new} may allowed g =
     let place : IsPlace p = g.tables.place in
     let same : (s : ℕ) → Owns old.sectors v s → new.sectors s ≡ old.sectors s = λ s o. g.others s (no_map place may.apart s o) in
     record {
-      blocks = keeps_or_gives place may.apart (record {
-        tables = g.tables.tables;
-        parts = emptied_parts g;
-        released = λ s few set clear.
-            let r = g.released s few set clear in
-            elim r.1 [
-              | inl w ↦ (Block w.0, w.1, emptied_pointer new.sectors v w.0, r.0)
-              | inr is ↦ (Indirect, is, refl, r.0)
-            ];
-        set = g.set;
-        whole = λ s o. subst IsSector (sym (same s o)) (may.apart.whole s o);
-        others = λ s ban map. g.others s map;
-      });
+      blocks = emptied_blocks place may.apart g;
       fields = record { kind = refl; mode = refl; uid = refl; gid = refl; names = refl; parent = refl };
       acls = acls_where_kept refl refl same;
       bitmaps = g.tables;

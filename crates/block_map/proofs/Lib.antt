@@ -5,6 +5,7 @@ pub mod Counts
 pub mod Dropping
 pub mod Givings
 pub mod Joins
+pub mod Linking
 pub mod Loops
 pub mod Numbers
 pub mod Overwriting

@@ -37,6 +37,11 @@ sound_after {p} {old} {new} sound store h same = record {
   };
 }
 
+-- the sectors of a step are some of those that a call on an inode may put
+pub puts_steps : (p : Place) (n : ℕ) {more : ℕ} {old new : TxnState} → PutsOnly (IsStepSector p) (bitmaps p) more old new → PutsOnly (IsSectorFor p n) (bitmaps p) more old new
+puts_steps p n puts =
+    changes_weaker {R = IsStepSector p} {Q = IsSectorFor p n} (λ t way. elim way [ inl map ↦ inl map | inr data_sector ↦ inr (inr data_sector) ]) (omega arith) puts
+
 -- what the inode holds is not touched by its save
 pub record IsEnded (p : Place) (n taken more : ℕ) (old mid new : TxnState) (v w : Inode) : Type 0 where
   pub content : ChangesContent p n taken more old new v w
@@ -54,7 +59,7 @@ saved_after {p} {n} {taken} {more} {old} {mid} {new} {v} {w} sound lt at alters 
     let m = after_map h.place in
     let d = before_data h.place in
     let all : PutsOnly (IsSectorFor p n) (bitmaps p) (more + 1) old new =
-    changes_joined (changes_weaker {R = IsStepSector p} {Q = IsSectorFor p n} (λ t way. elim way [ inl map ↦ inl map | inr data_sector ↦ inr (inr data_sector) ]) (omega arith) puts)
+    changes_joined (puts_steps p n puts)
     (changes_weaker {Q = IsSectorFor p n} (λ t e. inr (inl e)) (omega arith) (changes_beside put (bitmaps p))) in
     record {
       content = record {

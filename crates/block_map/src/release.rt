@@ -42,8 +42,8 @@ pub(crate) fn give_blocks<S: Sectors>(
     Ok(())
 }
 
-// Gives back all blocks and the sector of pointers, to which the inode still points.
-fn give_all<S: Sectors>(s: &mut S, place: Place, inode: &Inode) -> Result<(), DiskFault>
+/// Gives back all blocks and the sector of pointers, to which the inode still points.
+pub(crate) fn give_all<S: Sectors>(s: &mut S, place: Place, inode: &Inode) -> Result<(), DiskFault>
     requires may { MayChange place (S.state s.old) inode.now }
     requires room { HasSpare place 0 (S.state s.old) }
     ensures given { OnOk result (GivesAll place inode.now (S.state s.old) (S.state s.new)) }
