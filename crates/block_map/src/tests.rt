@@ -8,6 +8,7 @@ ghost use Rattle.bit_alloc.specs.Inodes.{IsSound};
 ghost use Rattle.bit_alloc.specs.Room.{HasSpare};
 
 mod blank;
+mod links;
 
 use crate::{overwrite, read_at, release_all, set_size, write_at};
 use blank::{is_blank, put_blank};
