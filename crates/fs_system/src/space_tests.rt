@@ -13,7 +13,7 @@ use crate::fs::read_place;
 use crate::mkfs;
 use crate::mkfs_tests::content_of;
 use bit_alloc::{Bitmap, TakeFault, count_free, give, has_free, is_taken, take};
-use block_map::{MapFault, read_at, set_size, write_at};
+use block_map::{MapFault, new_link, read_at, set_size, write_at};
 use fs_layout::{Inode, Kind, Place};
 use inode_table::{load, new_inode, save};
 use posix_acl::{Acl, Entry, Perms, Tag};
@@ -114,6 +114,17 @@ fn make_all<S: Sectors>(s: &mut S, place: Place, access: &Acl) -> Result<Taken, 
     Err(Fail::new("never full"))
 }
 
+// The first link, and how many blocks are free then.
+fn link_made<S: Sectors>(s: &mut S, place: Place) -> Result<(u32, u32), Fail>
+    requires sound { IsSound place (S.state s.old) }
+    requires clear { ClearAreFree place (S.state s.old).sectors }
+    requires spare { HasSpare place 47 (S.state s.old) }
+{
+    let n = new_link(s, place, 0, 0, b"t")?;
+    let free = count_free(s, place, Bitmap::Blocks)?;
+    Ok((n, free))
+}
+
 // The same on a new disk.
 fn blocks_taken(alloc: Global) -> Result<Taken, Fail> {
     let (disk, place) = new_disk(alloc)?;
@@ -132,10 +143,25 @@ fn inodes_made(alloc: Global) -> Result<Taken, Fail> {
     made
 }
 
+fn first_link(alloc: Global) -> Result<(u32, u32), Fail> {
+    let (disk, place) = new_disk(alloc)?;
+    let mut txn = begun(alloc, disk, place)?;
+    let made = link_made(&mut txn, place);
+    let _store = txn.drop_delta();
+    made
+}
+
 #[test]
 fn a_new_disk_has_so_many_blocks_and_inodes(rt: HostRuntime) -> Result<(), Fail> {
-    let seen = (blocks_taken(rt.alloc())?, inodes_made(rt.alloc())?);
-    assert!(rt; seen == ((878, 146, 878), (62, 2, 62)), "{seen:?}");
+    let seen = (
+        blocks_taken(rt.alloc())?,
+        inodes_made(rt.alloc())?,
+        first_link(rt.alloc())?,
+    );
+    assert!(rt;
+        seen == ((878, 146, 878), (62, 2, 62), (2, 877)),
+        "{seen:?}"
+    );
     Ok(())
 }
 
@@ -302,6 +328,7 @@ enum Call {
     // The root, after it is loaded.
     Save,
     NewInode,
+    NewLink,
 }
 
 fn save_root<S: Sectors>(s: &mut S, place: Place) -> Result<(), DiskFault>
@@ -337,6 +364,9 @@ fn perform<S: Sectors>(s: &mut S, place: Place, acl: &Acl, call: Call) -> Result
         Call::Save => save_root(s, place)?,
         Call::NewInode => {
             let _inode = new_inode(s, place, &FILE, acl, Some(acl))?;
+        }
+        Call::NewLink => {
+            let _link = new_link(s, place, 0, 0, b"t")?;
         }
     }
     Ok(())
@@ -417,6 +447,7 @@ fn each_read_that_fails_is_told_and_leaves_the_image(rt: HostRuntime) -> Result<
         (Call::Load, 1),
         (Call::Save, 2),
         (Call::NewInode, 3),
+        (Call::NewLink, 3),
     ] {
         let other = first_other(rt.alloc(), &acl, call, reads)?;
         assert!(rt; other.is_none(), "{other:?}");
