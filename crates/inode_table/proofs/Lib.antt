@@ -10,3 +10,4 @@ pub mod AclSaved
 pub mod Numbers
 pub mod AclCalls
 pub mod Made
+pub mod Lives

@@ -1,7 +1,10 @@
 //! The life of an inode, with what each call reads and puts.
 
-ghost use Rattle.std.specs.Prelude.{◌≡◌, ◌≤◌, IfOk};
+ghost use Rattle.std.specs.Prelude.{◌≡◌, ◌≤◌, ◌<◌, [], IfOk, OnOk};
 ghost use Rattle.fs_layout.specs.Place.{IsPlace};
+ghost use Rattle.fs_layout.specs.Images.{Holds, inode_at};
+ghost use Rattle.bit_alloc.specs.declared.bitmap.Bitmap.TheVariants.{Inodes};
+ghost use Rattle.bit_alloc.specs.Bitmaps.{IsNumber};
 ghost use Rattle.bit_alloc.specs.Room.{HasSpare};
 ghost use Rattle.bit_alloc.specs.Inodes.{IsSound};
 ghost use Rattle.inode_table.specs.Inodes.{ClearAreFree};
@@ -9,7 +12,10 @@ ghost use Rattle.inode_table.specs.Inodes.{ClearAreFree};
 use crate::sectors::content_of;
 use crate::tests::blank::{is_blank, put_blank};
 use crate::tests::parsed;
-use crate::{free_inode, load, load_acl, load_default_acl, new_inode};
+use crate::{
+    free_inode, load, load_acl, load_default_acl, new_inode, save, save_acl, save_default_acl,
+    write_inode,
+};
 use fs_layout::{Commit, Inode, Kind, Place, place_of};
 use posix_acl::Acl;
 use redo_journal::Journal;
@@ -51,19 +57,23 @@ impl<S: Sectors> Sectors for Counted<S> {
 // The `get`s and `put`s of one call.
 type Counts = (u32, u32);
 
-// What a file with these ACLs costs: made, loaded, its ACLs loaded, and freed; and whether its fields and ACLs were read.
-fn life<S: Sectors>(
+// Makes a file with these ACLs: its number, what that, its load and the loads of its ACLs cost, and whether its fields
+// and ACLs were read.
+fn made<S: Sectors>(
     alloc: Global,
     s: &mut Counted<S>,
     place: Place,
     access: &Acl,
     default: Option<&Acl>,
-) -> Result<([Counts; 5], bool), Fail>
+) -> Result<(u32, [Counts; 4], bool), Fail>
     requires sound { IsSound place (S.state s.old.inner) }
     requires clear { ClearAreFree place (S.state s.old.inner).sectors }
     requires spare { HasSpare place 12 (S.state s.old.inner) }
+    ensures sound { OnOk result (IsSound place (S.state s.new.inner)) }
+    ensures number { IfOk result (λ r. IsNumber place Inodes r.0) }
+    ensures empty { IfOk result (λ r. Holds (S.state s.new.inner).sectors (inode_at place (S.state s.new.inner).sectors r.0) []) }
 {
-    let mut counts = [(0, 0); 5];
+    let mut counts = [(0, 0); 4];
     let inode = Inode {
         kind: Kind::File,
         mode: 0o640,
@@ -92,15 +102,114 @@ fn life<S: Sectors>(
         return Err(Fail::new("no default ACL"));
     };
     counts[3] = (s.gets, s.puts);
-    s.gets = 0;
-    s.puts = 0;
-    free_inode(s, place, n)?;
-    counts[4] = (s.gets, s.puts);
     let same = content_of(Some(&read)) == content_of(Some(access))
         && content_of(read_default.as_ref()) == content_of(default)
         && made.names == 1
         && n == 1;
-    Ok((counts, same))
+    Ok((n, counts, same))
+}
+
+#[derive(Clone, Copy)]
+enum Save {
+    Inode,
+    Attributes,
+    Access,
+    Default,
+}
+
+// What a save of file n costs, as it is or with one of these ACLs.
+fn saved<S: Sectors>(
+    s: &mut Counted<S>,
+    place: Place,
+    n: u32,
+    save_as: Save,
+    access: &Acl,
+    default: Option<&Acl>,
+) -> Result<Counts, Fail>
+    requires sound { IsSound place (S.state s.old.inner) }
+    requires below { n < place.inodes }
+    ensures sound { OnOk result (IsSound place (S.state s.new.inner)) }
+    ensures empty { OnOk result (Holds (S.state s.old.inner).sectors (inode_at place (S.state s.old.inner).sectors n) []
+        → Holds (S.state s.new.inner).sectors (inode_at place (S.state s.new.inner).sectors n) []) }
+{
+    let inode = load(s, place, n)?;
+    if s.room() < (place.table - 128) as usize + 2 {
+        return Err(Fail::new("no room"));
+    }
+    let Kind::File = inode.kind else {
+        return Err(Fail::new("no file"));
+    };
+    s.gets = 0;
+    s.puts = 0;
+    match save_as {
+        Save::Inode => {
+            write_inode(s, place, n, &inode)?;
+            Ok((s.gets, s.puts))
+        }
+        Save::Attributes => {
+            save(s, place, n, &inode)?;
+            Ok((s.gets, s.puts))
+        }
+        Save::Access => {
+            save_acl(s, place, n, &inode, access)?;
+            Ok((s.gets, s.puts))
+        }
+        Save::Default => {
+            save_default_acl(s, place, n, &inode, default)?;
+            Ok((s.gets, s.puts))
+        }
+    }
+}
+
+// The same of all saves, one after the other.
+fn saves<S: Sectors>(
+    s: &mut Counted<S>,
+    place: Place,
+    n: u32,
+    access: &Acl,
+    default: Option<&Acl>,
+) -> Result<[Counts; 4], Fail>
+    requires sound { IsSound place (S.state s.old.inner) }
+    requires below { n < place.inodes }
+    ensures sound { OnOk result (IsSound place (S.state s.new.inner)) }
+    ensures empty { OnOk result (Holds (S.state s.old.inner).sectors (inode_at place (S.state s.old.inner).sectors n) []
+        → Holds (S.state s.new.inner).sectors (inode_at place (S.state s.new.inner).sectors n) []) }
+{
+    Ok([
+        saved(s, place, n, Save::Inode, access, default)?,
+        saved(s, place, n, Save::Attributes, access, default)?,
+        saved(s, place, n, Save::Access, access, default)?,
+        saved(s, place, n, Save::Default, access, default)?,
+    ])
+}
+
+// An access ACL, and a default ACL if there is one.
+type Acls<'a> = (&'a Acl, Option<&'a Acl>);
+
+// What a file costs: made and loaded, saved, and freed; and whether its fields and ACLs were read.
+type Life = ([Counts; 4], [Counts; 4], Counts, bool);
+
+// A file is made with ACLs, gets others and is freed.
+fn life<S: Sectors>(
+    alloc: Global,
+    s: &mut Counted<S>,
+    place: Place,
+    first: Acls,
+    then: Acls,
+) -> Result<Life, Fail>
+    requires sound { IsSound place (S.state s.old.inner) }
+    requires clear { ClearAreFree place (S.state s.old.inner).sectors }
+    requires spare { HasSpare place 12 (S.state s.old.inner) }
+{
+    let (n, made, same) = made(alloc, s, place, first.0, first.1)?;
+    let saved = saves(s, place, n, then.0, then.1)?;
+    if s.room() <= (place.table - 128) as usize {
+        return Err(Fail::new("no room"));
+    }
+    s.gets = 0;
+    s.puts = 0;
+    free_inode(s, place, n)?;
+    Ok((made, saved, (s.gets, s.puts), same))
 }
 
 // The same on a map without inodes.
@@ -108,9 +217,9 @@ fn life_on_blank<S: Sectors>(
     alloc: Global,
     s: &mut Counted<S>,
     place: Place,
-    access: &Acl,
-    default: Option<&Acl>,
-) -> Result<([Counts; 5], bool), Fail>
+    first: Acls,
+    then: Acls,
+) -> Result<Life, Fail>
     requires place { IsPlace place }
     requires disk { place.sectors ≤ (S.state s.old.inner).disk.size }
 {
@@ -118,7 +227,7 @@ fn life_on_blank<S: Sectors>(
     if !is_blank(s, place)? {
         return Err(Fail::new("not blank"));
     }
-    life(alloc, s, place, access, default)
+    life(alloc, s, place, first, then)
 }
 
 // A disk of zeros, but for an idle commit sector.
@@ -147,16 +256,7 @@ fn opened<D: Disk + Drop>(alloc: Global, disk: D) -> Result<Store<D>, Fail>
 }
 
 // The same on a new disk.
-fn life_on_disk(
-    alloc: Global,
-    access: &[u8],
-    default: Option<&[u8]>,
-) -> Result<([Counts; 5], bool), Fail> {
-    let access = parsed(alloc, access)?;
-    let default = match default {
-        Some(text) => Some(parsed(alloc, text)?),
-        None => None,
-    };
+fn life_on_disk(alloc: Global, first: Acls, then: Acls) -> Result<Life, Fail> {
     let place = place_of(SECTORS, INODES).ok_or("no place")?;
     if place.sectors != SECTORS {
         return Err(Fail::new("another size"));
@@ -167,7 +267,7 @@ fn life_on_disk(
         gets: 0,
         puts: 0,
     };
-    let seen = life_on_blank(alloc, &mut s, place, &access, default.as_ref());
+    let seen = life_on_blank(alloc, &mut s, place, first, then);
     let Counted {
         inner,
         gets: _,
@@ -177,19 +277,51 @@ fn life_on_disk(
     seen
 }
 
+// The lives of files whose ACLs take a sector, rewrite one or give one back.
+fn lives(alloc: Global) -> Result<[Life; 4], Fail> {
+    let short = parsed(alloc, b"user::rw-,group::r--,other::---")?;
+    let long = parsed(
+        alloc,
+        b"user::rw-,user:1001:rw-,group::r--,mask::rw-,other::---",
+    )?;
+    Ok([
+        life_on_disk(alloc, (&short, None), (&long, Some(&long)))?,
+        life_on_disk(alloc, (&long, None), (&long, None))?,
+        life_on_disk(alloc, (&short, Some(&short)), (&short, None))?,
+        life_on_disk(alloc, (&long, Some(&long)), (&short, Some(&short)))?,
+    ])
+}
+
 #[test]
 fn calls(rt: HostRuntime) -> Result<(), Fail> {
-    let short = b"user::rw-,group::r--,other::---".as_slice();
-    let long = b"user::rw-,user:1001:rw-,group::r--,mask::rw-,other::---".as_slice();
-    // new_inode, load, load_acl, load_default_acl, free_inode
-    for (access, default, wanted) in [
-        (short, None, [(2, 2), (1, 0), (0, 0), (0, 0), (3, 2)]),
-        (long, None, [(3, 4), (1, 0), (1, 0), (0, 0), (4, 3)]),
-        (short, Some(short), [(3, 4), (1, 0), (0, 0), (1, 0), (4, 3)]),
-        (long, Some(long), [(4, 6), (1, 0), (1, 0), (1, 0), (5, 4)]),
-    ] {
-        let seen = life_on_disk(rt.alloc(), access, default)?;
-        assert!(rt; seen == (wanted, true), "{seen:?}");
-    }
+    let seen = lives(rt.alloc())?;
+    // new_inode, load, load_acl, load_default_acl; write_inode, save, save_acl, save_default_acl; free_inode
+    let wanted = [
+        (
+            [(2, 2), (1, 0), (0, 0), (0, 0)],
+            [(1, 1), (1, 1), (2, 3), (2, 3)],
+            (5, 4),
+            true,
+        ),
+        (
+            [(3, 4), (1, 0), (1, 0), (0, 0)],
+            [(1, 1), (1, 1), (1, 2), (1, 1)],
+            (4, 3),
+            true,
+        ),
+        (
+            [(3, 4), (1, 0), (0, 0), (1, 0)],
+            [(1, 1), (1, 1), (1, 1), (2, 2)],
+            (3, 2),
+            true,
+        ),
+        (
+            [(4, 6), (1, 0), (1, 0), (1, 0)],
+            [(1, 1), (1, 1), (2, 2), (1, 2)],
+            (4, 3),
+            true,
+        ),
+    ];
+    assert!(rt; seen == wanted, "{seen:?}");
     Ok(())
 }

@@ -1,60 +1,7 @@
-use Rattle.std.proofs.Common.{ap, subst, ◌∙◌, arith, refl}
-use Rattle.fs_layout.specs.declared.place.Place.{Place}
-use Rattle.fs_layout.specs.Bytes.{zeros}
-use Rattle.fs_layout.specs.Images.{inode_at}
-use Rattle.fs_layout.specs.Inode.{inode_fits}
-use Rattle.fs_layout.specs.Ownership.{IsConsistent}
-use Rattle.fs_layout.proofs.SplicedBytes.{get_or-zeros}
-use Rattle.sector_txn.specs.Sectors.{TxnState, IsUnchanged}
-use Rattle.bit_alloc.specs.Inodes.{IsSound}
-use Rattle.bit_alloc.proofs.Transactions.{map_unchanged, bitmaps_unchanged, unchanged_joined}
+use Rattle.std.proofs.Common.{arith}
+use Rattle.inode_table.proofs.Lives.{has_spare}
 use Rattle.inode_table.proofs.tests.calls.life.Goals as goal
 
-sound_unchanged : (p : Place) (old new : TxnState) → IsSound p old → IsUnchanged old new → IsSound p new
-sound_unchanged p old new sound same = record {
-  consistent = subst (IsConsistent p) (map_unchanged same) sound.consistent;
-  bitmaps = bitmaps_unchanged p old new sound.bitmaps same;
-}
-
-pub new_inode-requires-clause-fits : goal.new_inode-requires-clause-fits
-unfolding inode_fits zeros
-new_inode-requires-clause-fits g c = record {
-  valid = record { numbers = refl; free = λ e. cc };
-  mode = omega arith;
-  uid = omega arith;
-  gid = omega arith;
-  names = omega arith;
-  size = omega arith;
-  parent = omega arith;
-  acl = omega arith;
-  default_acl = omega arith;
-  direct_len = refl;
-  direct = λ i. let e = get_or-zeros 12 i in omega (arith, e);
-  indirect = omega arith;
-}
-
-pub load_acl-requires-clause-sound : goal.load_acl-requires-clause-sound
-load_acl-requires-clause-sound g c =
-    sound_unchanged c.args.place (g.S.Sectors.state c.new_inode.new.s.inner) (g.S.Sectors.state c.load.new.s.inner) c.in-Ok.ensures.sound c.in_ok-made.ensures.same
-
-pub load_acl-requires-clause-there : goal.load_acl-requires-clause-there
-load_acl-requires-clause-there g c =
-    (c.in-Ok.n, c.in-Ok.ensures.free.1, c.in_ok-made.ensures.found ∙ ap (λ image. inode_at c.args.place image c.in-Ok.n) (map_unchanged c.in_ok-made.ensures.same))
-
-pub load_default_acl-requires-clause-sound : goal.load_default_acl-requires-clause-sound
-load_default_acl-requires-clause-sound g c =
-    sound_unchanged c.args.place (g.S.Sectors.state c.new_inode.new.s.inner) (g.S.Sectors.state c.load_acl.new.s.inner) c.in-Ok.ensures.sound
-    (unchanged_joined c.in_ok-made.ensures.same c.in-Ok-load_acl.ensures.same)
-
-pub load_default_acl-requires-clause-there : goal.load_default_acl-requires-clause-there
-load_default_acl-requires-clause-there g c = (
-  c.in-Ok.n,
-  c.in-Ok.ensures.free.1,
-  c.in_ok-made.ensures.found ∙ ap (λ image. inode_at c.args.place image c.in-Ok.n)
-      (map_unchanged (unchanged_joined c.in_ok-made.ensures.same c.in-Ok-load_acl.ensures.same)),
-)
-
-pub free_inode-requires-clause-sound : goal.free_inode-requires-clause-sound
-free_inode-requires-clause-sound g c =
-    sound_unchanged c.args.place (g.S.Sectors.state c.new_inode.new.s.inner) (g.S.Sectors.state c.load_default_acl.new.s.inner) c.in-Ok.ensures.sound
-    (unchanged_joined (unchanged_joined c.in_ok-made.ensures.same c.in-Ok-load_acl.ensures.same) c.in-Ok-load_default_acl.ensures.same)
+pub free_inode-requires-clause-spare : goal.free_inode-requires-clause-spare
+free_inode-requires-clause-spare g c =
+    has_spare c.args.place 1 (g.S.Sectors.state c.saves.new.s.inner) (omega (arith, c.room.ensures, c.if-room-place.false))
