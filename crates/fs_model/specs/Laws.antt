@@ -8,6 +8,7 @@ use Rattle.fs_cred.specs.declared.refusal.Refusal.TheVariants.{Failed}
 use Rattle.fs_cred.specs.Credentials.{Credential}
 use Rattle.fs_layout.specs.declared.inode.Inode.{Inode}
 use Rattle.fs_layout.specs.declared.place.Place.{Place}
+use Rattle.fs_layout.specs.declared.place.TheConstants.{COMMIT_SECTOR, FIRST_LOG_SECTOR, INODE_BITMAP}
 use Rattle.fs_layout.specs.Bytes.{SectorMap}
 use Rattle.fs_layout.specs.Commit.{IsValidCommit, targets_in}
 use Rattle.fs_layout.specs.Place.{the_place}
@@ -140,9 +141,10 @@ CountsFit =
 -- uses, and all sectors from the bitmaps on are alike.
 pub record SaysSame (sectors : ℕ) (old new : SectorMap) : Type 0 where
   pub super : new 0 ≡ old 0
-  pub commit : new 1 ≡ old 1
-  pub log : (k : ℕ) → k < length (targets_in sectors (old 1)) → new (2 + k) ≡ old (2 + k)
-  pub others : (s : ℕ) → 128 ≤ s → s < sectors → new s ≡ old s
+  pub commit : new COMMIT_SECTOR ≡ old COMMIT_SECTOR
+  pub log : (k : ℕ) → k < length (targets_in sectors (old COMMIT_SECTOR))
+      → new (FIRST_LOG_SECTOR + k) ≡ old (FIRST_LOG_SECTOR + k)
+  pub others : (s : ℕ) → INODE_BITMAP ≤ s → s < sectors → new s ≡ old s
 
 -- Then they stand for the same.
 abbrev pub StandingRests : Type 0
@@ -153,7 +155,7 @@ StandingRests =
 -- On a disk of so many sectors, whose parts lie so, the commit sector is valid, and after recovery two images read alike:
 -- the superblock, the tables, and the data sectors that are used.
 pub record ReadsAlike (sectors : ℕ) (p : Place) (old new : SectorMap) : Type 0 where
-  pub commit : IsValidCommit sectors (new 1)
+  pub commit : IsValidCommit sectors (new COMMIT_SECTOR)
   pub super : recovered sectors new 0 ≡ recovered sectors old 0
   pub rest : Agrees p (recovered sectors old) (recovered sectors new)
 

@@ -14,6 +14,7 @@ use Rattle.fs_layout.specs.declared.inode.Kind.{Kind}
 use Rattle.fs_layout.specs.declared.inode.Kind.TheVariants as kinds
 use Rattle.fs_layout.specs.declared.inode.Inode.{Inode}
 use Rattle.fs_layout.specs.declared.place.Place.{Place}
+use Rattle.fs_layout.specs.declared.place.TheConstants.{SECTOR_BITS}
 use Rattle.fs_layout.specs.Bytes.{SectorMap, IsSector, u16_of}
 use Rattle.fs_layout.specs.Superblock.{super_of}
 use Rattle.fs_layout.specs.Commit.{commit_of, AreTargets}
@@ -173,7 +174,7 @@ rule_number Ways = 14
 -- The recovered image m of a disk with this place obeys the rule at a number: that of an inode, but for rule 3 of a bit,
 -- for 6 of a sector and for 7 of a bit. Numbers out of range obey.
 abbrev pub Obeys : Place → SectorMap → ImageRule → ℕ → Type 0
-Obeys p m InodeBits n = n < 4096 → IsBit p m n
+Obeys p m InodeBits n = n < SECTOR_BITS → IsBit p m n
 Obeys p m Inodes n = n < p.inodes → IsGoodInode p m n
 Obeys p m InData n = n < p.inodes → IsInData p m n
 Obeys p m OwnedOnce s = IsOwnedOnce p m s

@@ -7,6 +7,7 @@ use Rattle.std.specs.Prelude.{◌≡◌, ℕ, ◌-◌, ◌<◌, nat_eq, nat_le, 
 use Rattle.std.specs.Option.{option_map}
 use Rattle.fs_layout.specs.declared.superblock.Super.{Super}
 use Rattle.fs_layout.specs.declared.place.Place.{Place}
+use Rattle.fs_layout.specs.declared.place.TheConstants.{COMMIT_SECTOR, SECTOR_BITS}
 use Rattle.fs_layout.specs.Bytes.{SectorMap}
 use Rattle.fs_layout.specs.Superblock.{super_bytes, FitsSuper}
 use Rattle.fs_layout.specs.Inode.{free_inode}
@@ -28,7 +29,7 @@ HoldsPlaced p image n o =
 pub record HoldsAll (p : Place) (image : SectorMap) (what : ℕ → Option Placed) : Type 0 where
   pub consistent : IsConsistent p image
   pub nodes : (n : ℕ) → n < p.inodes → HoldsPlaced p image n (what n)
-  pub inode_bits : (n : ℕ) → n < 4096 → bit image inode_bitmap n ≡ (nat_eq n 0 || nat_le p.inodes n || is_some (what n))
+  pub inode_bits : (n : ℕ) → n < SECTOR_BITS → bit image inode_bitmap n ≡ (nat_eq n 0 || nat_le p.inodes n || is_some (what n))
 
 -- what inode n is to hold for the tree
 abbrev pub placed : Tree → ℕ → Option Placed
@@ -46,7 +47,7 @@ pub record Stands (sectors : ℕ) (image : SectorMap) (room : Room) (tree : Tree
   pub super_fits : FitsSuper super
   pub same_size : super.sectors ≡ sectors
   pub has_place : the_place sectors super.inodes ≡ Some place
-  pub commit_is : IsValidCommit sectors (image 1)
+  pub commit_is : IsValidCommit sectors (image COMMIT_SECTOR)
   pub room_is : room ≡ room_of place
   pub holds : HoldsAll place (recovered sectors image) (placed tree)
   pub tree_is : IsTree room tree

@@ -7,6 +7,7 @@ use Rattle.std.specs.Prelude.{◌≡◌, ◌≢◌, ℕ, ◌-◌, ◌^◌, ◌<�
 use Rattle.std.specs.Ordering.{nat_cmp}
 use Rattle.fs_cred.specs.Credentials.{IsCredential}
 use Rattle.fs_model.specs.Limits.{root, descriptors_limit, processes_limit}
+use Rattle.fs_layout.specs.declared.place.TheConstants.{SECTOR_BITS}
 use Rattle.fs_layout.specs.Maps.{get, IsMap}
 use Rattle.fs_model.specs.Nodes.{Node, is_link, is_directory}
 use Rattle.fs_model.specs.Trees.{Tree, Room, node_at, names_of, sectors_needed, IsTree, IsDirectoryAt}
@@ -21,7 +22,7 @@ pub record State : Type 0 where
 
 -- inodes and data sectors of the largest disk; the end of a file is an offset that lseek() can give
 pub record IsRoom (room : Room) : Type 0 where
-  pub inodes : room.inodes ≤ 4096
+  pub inodes : room.inodes ≤ SECTOR_BITS
   pub sectors : room.sectors ≤ 65536
   pub file_limit : room.file_limit < 2 ^ 63
 

@@ -3,6 +3,8 @@
 --     IsBatch, IsOnDisk        what each batch is; and a batch whose sectors a disk has
 --     has_entry, put_entry, with_batch        a batch as a map
 use Rattle.std.specs.Prelude.{ℕ, ◌<◌, ◌≤◌, Bool, true, false, List, [], ◌∷◌, length, map, All, slice_index_or, if◌then◌else◌, nat_eq}
+use Rattle.fs_layout.specs.declared.commit.TheConstants.{MAX_TARGETS}
+use Rattle.fs_layout.specs.declared.place.TheConstants.{INODE_BITMAP}
 use Rattle.fs_layout.specs.Bytes.{SectorMap}
 use Rattle.fs_layout.specs.Commit.{AreDistinct}
 
@@ -18,10 +20,10 @@ target_at entries k = (slice_index_or entries k (0, [])).0
 abbrev pub content_at : List Entry → ℕ → List ℕ
 content_at entries k = (slice_index_or entries k (0, [])).1
 
--- at most 126 sectors, each once, and each behind the log
+-- at most as many sectors as a commit has, each once, and each behind the log
 pub record IsBatch (entries : List Entry) : Type 0 where
-  pub few : length entries ≤ 126
-  pub high : All (λ t. 128 ≤ t) (targets entries)
+  pub few : length entries ≤ MAX_TARGETS
+  pub high : All (λ t. INODE_BITMAP ≤ t) (targets entries)
   pub apart : AreDistinct (targets entries)
 
 -- a disk of so many sectors has each of them

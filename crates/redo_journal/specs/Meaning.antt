@@ -8,6 +8,7 @@
 --     MeansAs, MeansAsBefore        an image that means what another one does
 --     disk_of        the device in what a step of a commit gives
 use Rattle.std.specs.Prelude.{ℕ, ◌≡◌, ◌≤◌, ◌⊎◌, ◌↔◌, List, length, Result, Ok, Err}
+use Rattle.fs_layout.specs.declared.place.TheConstants.{COMMIT_SECTOR, INODE_BITMAP}
 use Rattle.fs_layout.specs.Bytes.{SectorMap}
 use Rattle.fs_layout.specs.Commit.{IsValidCommit}
 use Rattle.fs_layout.specs.Recovered.{recovered}
@@ -16,7 +17,7 @@ use Rattle.redo_journal.specs.Batch.{Entry, with_batch}
 
 -- sector 0 and those behind the log
 abbrev pub IsMapped : ℕ → Type 0
-IsMapped n = (n ≡ 0) ⊎ (128 ≤ n)
+IsMapped n = (n ≡ 0) ⊎ (INODE_BITMAP ≤ n)
 
 -- two maps that agree on these
 abbrev pub SameMap : SectorMap → SectorMap → Type 0
@@ -28,7 +29,7 @@ data_of disk = recovered disk.size (sector disk.seen)
 
 -- the commit sector of an image of so many sectors is valid
 abbrev pub HasValidCommit : ℕ → Image → Type 0
-HasValidCommit size image = IsValidCommit size (sector image 1)
+HasValidCommit size image = IsValidCommit size (sector image COMMIT_SECTOR)
 
 -- on a disk of so many sectors the image has a valid commit sector, and after recovery it reads as this map
 pub record ReadsAs (size : ℕ) (sectors : SectorMap) (image : Image) : Type 0 where

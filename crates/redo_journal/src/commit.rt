@@ -1,6 +1,7 @@
 //! The steps of a commit, and what images mean while they run.
 
 ghost use Rattle.std.specs.Prelude.{◌≡◌, ◌≤◌, ◌<◌, [], ◌∷◌, ℕ, List, length, IsOk, OnOk, MatchOption};
+ghost use Rattle.fs_layout.specs.declared.commit.TheConstants.{MAX_TARGETS};
 ghost use Rattle.fs_layout.specs.Commit.{AreTargets, IsCommit, IsValidCommit, commit_bytes};
 ghost use Rattle.redo_journal.specs.Batch.{Entry, targets, with_batch};
 ghost use Rattle.redo_journal.specs.Meaning.{data_of, EachReadsAs, LeavesSameMap, LeavesAllOrNone};
@@ -122,7 +123,7 @@ fn clear_commit<D: Disk>(disk: &mut D) -> Result<(), DiskFault>
 
 // The content of a commit sector that names the entries' sectors.
 fn commit_sector(entries: &[(u32, [u8; 512])]) -> [u8; 512]
-    requires { length entries.now ≤ 126 }
+    requires { length entries.now ≤ MAX_TARGETS }
     ensures { result ≡ commit_bytes (targets entries.now) }
 {
     let mut sectors = [0; MAX_TARGETS];

@@ -1,6 +1,7 @@
 //! What a stop has left is settled before a journal is there.
 
 ghost use Rattle.std.specs.Prelude.{◌≡◌, ◌≤◌, ◌<◌, ℕ, List, IfOk, IfErr, OnOk, IsErrOf};
+ghost use Rattle.fs_layout.specs.declared.place.TheConstants.{INODE_BITMAP};
 ghost use Rattle.redo_journal.specs.declared.open.OpenFault.TheVariants.{DiskFault as Device};
 ghost use Rattle.redo_journal.specs.Meaning.{SameMap, data_of, disk_opened, HasValidCommit, MeansAs, MeansAsBefore};
 ghost use Rattle.redo_journal.specs.States.{IsIdle};
@@ -33,7 +34,7 @@ impl<D: Disk> Journal<D> {
     ///
     /// An error gives the disk back. It may be opened again.
     pub fn open(disk: D) -> Result<Journal<D>, (OpenFault, D)>
-        requires { 128 ≤ (D.state disk).size }
+        requires { INODE_BITMAP ≤ (D.state disk).size }
 
         ensures same { SameMap (data_of (D.state (disk_opened result))) (data_of (D.state disk)) }
 
@@ -57,7 +58,7 @@ impl<D: Disk> Journal<D> {
 
 // Syncs and recovers.
 fn settle<D: Disk>(disk: &mut D) -> Result<(), OpenFault>
-    requires { 128 ≤ (D.state disk.old).size }
+    requires { INODE_BITMAP ≤ (D.state disk.old).size }
     ensures idle { OnOk result (IsIdle (D.state disk.new)) }
     ensures any_moment { LeavesOnly (D.state disk.old) (D.state disk.new) (MeansAsBefore (D.state disk.old)) }
     ensures same { SameMap (data_of (D.state disk.new)) (data_of (D.state disk.old)) }
@@ -73,7 +74,7 @@ fn settle<D: Disk>(disk: &mut D) -> Result<(), OpenFault>
 
 // Writes the batch of a commit to its sectors, from the log, and takes the commit away.
 fn recover<D: Disk>(disk: &mut D) -> Result<(), OpenFault>
-    requires room { 128 ≤ (D.state disk.old).size }
+    requires room { INODE_BITMAP ≤ (D.state disk.old).size }
     requires stable { IsStable (D.state disk.old) }
     ensures idle { OnOk result (IsIdle (D.state disk.new)) }
     ensures any_moment { LeavesOnly (D.state disk.old) (D.state disk.new) (MeansAs (D.state disk.old).size (D.state disk.old).seen) }

@@ -1,6 +1,8 @@
 //! The writes of a commit. They know nothing of what an image means.
 
 ghost use Rattle.std.specs.Prelude.{◌≡◌, ◌≤◌, ◌<◌, ◌+◌, ℕ, List, length, OnOk, slice_set, get_or};
+ghost use Rattle.fs_layout.specs.declared.commit.TheConstants.{MAX_TARGETS};
+ghost use Rattle.fs_layout.specs.declared.place.TheConstants.{INODE_BITMAP};
 ghost use Rattle.fs_layout.specs.Commit.{AreTargets, commit_bytes};
 ghost use Rattle.redo_journal.specs.Batch.{Entry, targets};
 ghost use Rattle.redo_journal.specs.States.{HoldsLog, HoldsTargets, HasReplayed, InLog, InTargets};
@@ -14,8 +16,8 @@ pub(crate) fn write_log<D: Disk>(
     disk: &mut D,
     entries: &[(u32, [u8; 512])],
 ) -> Result<(), DiskFault>
-    requires room { 128 ≤ (D.state disk.old).size }
-    requires few { length entries.now ≤ 126 }
+    requires room { INODE_BITMAP ≤ (D.state disk.old).size }
+    requires few { length entries.now ≤ MAX_TARGETS }
     ensures written { OnOk result (HoldsLog entries.now (D.state disk.new).seen) }
     ensures adds { AddsOnly InLog (D.state disk.old) (D.state disk.new) }
     ensures any_moment { LeavesOnly (D.state disk.old) (D.state disk.new) (IsImageOr InLog (D.state disk.old)) }
@@ -49,7 +51,7 @@ pub(crate) fn write_targets<D: Disk>(
 /// Copies the log's sectors to these, one after the other.
 pub(crate) fn copy_log<D: Disk>(disk: &mut D, sectors: &[u32]) -> Result<(), DiskFault>
     requires valid { AreTargets (D.state disk.old).size sectors.now }
-    requires room { 128 ≤ (D.state disk.old).size }
+    requires room { INODE_BITMAP ≤ (D.state disk.old).size }
     ensures written { OnOk result (HasReplayed sectors.now (sector (D.state disk.old).seen) (D.state disk.new).seen) }
     ensures adds { AddsOnly (InTargets sectors.now) (D.state disk.old) (D.state disk.new) }
     ensures any_moment { LeavesOnly (D.state disk.old) (D.state disk.new) (IsImageOr (InTargets sectors.now) (D.state disk.old)) }
