@@ -24,12 +24,12 @@ pub filled : {k : ℕ} {piece x : List ℕ} (at : ℕ) → piece ≡ x → k ≡
 unfolding zeros
 filled {k} {piece} {x} at e wide = part_is_splice (replicate 512 0) piece x at k (length x) refl e wide
 
--- a number is written at a place of a list of known length
-pub number_put : (size : ℕ) (s new x : List ℕ) (place n : ℕ) → length s ≡ size → length x ≡ n → new ≡ x ++ drop n (take (size - place) (drop place s)) → place ≤ size
-    → put_mid place (size - place) s new ≡ splice s place x
-number_put size s new x place n e len =
-    subst (λ (m : ℕ). new ≡ x ++ drop n (take (m - place) (drop place s)) → place ≤ m → put_mid place (m - place) s new ≡ splice s place x) e
-    (λ is fits. put_is_splice s new x place n len is fits)
+-- a number is written at an offset of a list of known length
+pub number_put : (size : ℕ) (s new x : List ℕ) (offset n : ℕ) → length s ≡ size → length x ≡ n → new ≡ x ++ drop n (take (size - offset) (drop offset s)) → offset ≤ size
+    → put_mid offset (size - offset) s new ≡ splice s offset x
+number_put size s new x offset n e len =
+    subst (λ (m : ℕ). new ≡ x ++ drop n (take (m - offset) (drop offset s)) → offset ≤ m → put_mid offset (m - offset) s new ≡ splice s offset x) e
+    (λ is fits. put_is_splice s new x offset n len is fits)
 
 -- a fault that is Full was Full below
 pub was_full : (r : Result (Unit {0}) MapFault) (f : TakeFault) → IsErr r → IsErrAnd r (λ e. e ≡ as_map_fault f) → r ≡ Err faults.Full → f ≡ take.Full

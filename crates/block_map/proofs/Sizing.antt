@@ -151,16 +151,16 @@ unfolding zeros
 no_zeros n e = ap (λ (k : ℕ). replicate k 0) e
 
 -- bytes written into those made longer
-pub spliced_is_overwritten : (bytes x : List ℕ) (place m : ℕ) → m ≡ max (length bytes) (place + length x)
-    → splice (bytes ++ zeros (m - length bytes)) place x ≡ overwritten bytes place x
+pub spliced_is_overwritten : (bytes x : List ℕ) (offset m : ℕ) → m ≡ max (length bytes) (offset + length x)
+    → splice (bytes ++ zeros (m - length bytes)) offset x ≡ overwritten bytes offset x
 unfolding splice
-spliced_is_overwritten bytes x place m is =
+spliced_is_overwritten bytes x offset m is =
     let n : ℕ = m - length bytes in
     let all : length (bytes ++ zeros n) ≡ length bytes + n = length-append bytes (zeros n) ∙ ap (λ (k : ℕ). length bytes + k) (length-zeros n) in
-    let back : drop (place + length x) (bytes ++ zeros n) ≡ drop (place + length x) bytes = elim (cases_lt (length bytes) (place + length x)) [
-      | inl lt ↦ drop_all (place + length x) (bytes ++ zeros n) (omega (arith, all, is, lt)) ∙ sym (drop_all (place + length x) bytes (omega (arith, lt)))
-      | inr ge ↦ ap (λ (r : List ℕ). drop (place + length x) (bytes ++ r)) (no_zeros n (omega (arith, is, ge))) ∙ ap (drop (place + length x)) (append-nil bytes)
+    let back : drop (offset + length x) (bytes ++ zeros n) ≡ drop (offset + length x) bytes = elim (cases_lt (length bytes) (offset + length x)) [
+      | inl lt ↦ drop_all (offset + length x) (bytes ++ zeros n) (omega (arith, all, is, lt)) ∙ sym (drop_all (offset + length x) bytes (omega (arith, lt)))
+      | inr ge ↦ ap (λ (r : List ℕ). drop (offset + length x) (bytes ++ r)) (no_zeros n (omega (arith, is, ge))) ∙ ap (drop (offset + length x)) (append-nil bytes)
     ] in
-    ap (λ (r : List ℕ). r ++ (x ++ drop (place + length x) (bytes ++ zeros n))) (take_padded bytes n place (omega (arith, is)))
-    ∙ ap (λ (r : List ℕ). resized bytes place ++ (x ++ r)) back
-    ∙ sym (append_assoc (resized bytes place) x (drop (place + length x) bytes))
+    ap (λ (r : List ℕ). r ++ (x ++ drop (offset + length x) (bytes ++ zeros n))) (take_padded bytes n offset (omega (arith, is)))
+    ∙ ap (λ (r : List ℕ). resized bytes offset ++ (x ++ r)) back
+    ∙ sym (append_assoc (resized bytes offset) x (drop (offset + length x) bytes))

@@ -18,9 +18,6 @@ pub(crate) const DIRECT: u64 = 12;
 /// How many blocks an inode can have.
 pub(crate) const MOST: u64 = 140;
 
-/// How many bytes an inode can hold.
-pub(crate) const LIMIT: u64 = 71_680;
-
 /// An inode and its sector of pointers, so that blocks can be read one by one.
 #[derive(Drop)]
 pub struct Blocks {

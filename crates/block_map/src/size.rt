@@ -1,6 +1,7 @@
 //! Another size.
 
 ghost use Rattle.std.specs.Prelude.{◌≡◌, ◌≢◌, ◌≤◌, ◌<◌, ◌*◌, ◌↔◌, ℕ, List, length, get_or, Err, OnOk};
+ghost use Rattle.fs_layout.specs.declared.inode.TheConstants.{MAX_FILE_SIZE};
 ghost use Rattle.fs_layout.specs.Bytes.{IsBytes, resized, u32_of};
 ghost use Rattle.fs_layout.specs.Images.{Holds, HasNoHole, inode_at};
 ghost use Rattle.sector_disk.specs.Disk.{HasCause};
@@ -15,11 +16,11 @@ ghost use Rattle.block_map.specs.Sizes.{ClearsTail, Resizes};
 ghost use Rattle.block_map.specs.Steps.{MayChange};
 
 use crate::MapFault;
-use crate::blocks::{BLOCK, Blocks, DIRECT, LIMIT, MOST};
+use crate::blocks::{BLOCK, Blocks, DIRECT, MOST};
 use crate::release::give_blocks;
 use crate::steps::rewrite;
 use bit_alloc::{Bitmap, give};
-use fs_layout::{Inode, Place};
+use fs_layout::{Inode, MAX_FILE_SIZE, Place};
 use inode_table::write_inode;
 use sector_disk::DiskFault;
 use sector_txn::Sectors;
@@ -82,7 +83,7 @@ fn clear_tail<S: Sectors>(
     requires may { MayChange place (S.state s.old) blocks.now.inode }
     requires loaded { IsLoaded (S.state s.old).sectors blocks.now 140 }
     requires less { size < blocks.now.inode.size }
-    requires limit { blocks.now.inode.size ≤ 71680 }
+    requires limit { blocks.now.inode.size ≤ MAX_FILE_SIZE }
     requires room { HasSpare place 1 (S.state s.old) }
     ensures cleared { OnOk result (ClearsTail place size (S.state s.old) (S.state s.new) blocks.now.inode) }
     ensures store { SameStore (S.state s.old) (S.state s.new) }
@@ -110,7 +111,7 @@ fn resize<S: Sectors>(
 ) -> Result<(), DiskFault>
     requires may { MayChange place (S.state s.old) inode.old }
     requires kind { AllowsSize inode.old.kind size }
-    requires limit { (size ≤ 71680) × (inode.old.size ≤ 71680) }
+    requires limit { (size ≤ MAX_FILE_SIZE) × (inode.old.size ≤ MAX_FILE_SIZE) }
     requires room { HasSpare place 2 (S.state s.old) }
     ensures resized { OnOk result (Resizes place size (S.state s.old) (S.state s.new) inode.old inode.new) }
     ensures store { SameStore (S.state s.old) (S.state s.new) }
@@ -150,13 +151,13 @@ pub fn set_size<S: Sectors>(
     // A cut makes no hole.
     ensures whole { OnOk result (HasNoHole (S.state s.old).sectors inode.old → size ≤ inode.old.size
         → HasNoHole (S.state s.new).sectors inode.new) }
-    ensures too_big { (result ≡ Err MapFault.TooBig) ↔ (71680 < size) }
-    ensures untouched { 71680 < size → IsUnchanged (S.state s.old) (S.state s.new) }
+    ensures too_big { (result ≡ Err MapFault.TooBig) ↔ (MAX_FILE_SIZE < size) }
+    ensures untouched { MAX_FILE_SIZE < size → IsUnchanged (S.state s.old) (S.state s.new) }
     ensures never_full { result ≢ Err MapFault.Full }
     ensures store { SameStore (S.state s.old) (S.state s.new) }
     ensures cause { HasCauseOf MapFault.DiskFault (S.state s.old).disk (S.state s.new).disk result }
 {
-    if size > LIMIT {
+    if size > MAX_FILE_SIZE {
         return Err(MapFault::TooBig);
     }
     resize(s, place, inode, size)?;

@@ -1,6 +1,7 @@
 //! Writing.
 
 ghost use Rattle.std.specs.Prelude.{◌≡◌, ◌≢◌, ◌≤◌, ◌<◌, ◌+◌, ◌-◌, ◌/◌, ◌%◌, ◌↔◌, ℕ, max, List, length, Err, OnOk};
+ghost use Rattle.fs_layout.specs.declared.inode.TheConstants.{MAX_FILE_SIZE};
 ghost use Rattle.fs_layout.specs.declared.inode.Kind.TheVariants.{Free};
 ghost use Rattle.fs_layout.specs.Bytes.{overwritten, splice};
 ghost use Rattle.fs_layout.specs.Images.{Holds, HasNoHole, free_sectors, inode_at, pointer};
@@ -14,9 +15,9 @@ ghost use Rattle.block_map.specs.Blocks.{IsLoaded};
 ghost use Rattle.block_map.specs.Steps.{MayChange, WritesBlocks, blocks_to, taken_by, put_by};
 
 use crate::MapFault;
-use crate::blocks::{BLOCK, Blocks, LIMIT};
+use crate::blocks::{BLOCK, Blocks};
 use crate::steps::{add_pointers, rewrite, write_block};
-use fs_layout::{Inode, Place};
+use fs_layout::{Inode, MAX_FILE_SIZE, Place};
 use inode_table::write_inode;
 use sector_disk::DiskFault;
 use sector_txn::Sectors;
@@ -31,7 +32,7 @@ pub(crate) fn write_blocks<S: Sectors>(
 ) -> Result<(), MapFault>
     requires may { MayChange place (S.state s.old) blocks.old.inode }
     requires loaded { IsLoaded (S.state s.old).sectors blocks.old (blocks_to (offset + length bytes.now)) }
-    requires inside { (offset + length bytes.now ≤ blocks.old.inode.size) × (blocks.old.inode.size ≤ 71680) }
+    requires inside { (offset + length bytes.now ≤ blocks.old.inode.size) × (blocks.old.inode.size ≤ MAX_FILE_SIZE) }
     requires room { HasSpare place (blocks_to (offset + length bytes.now) - offset / 512 + 1) (S.state s.old) }
     ensures written { OnOk result (WritesBlocks place offset bytes.now (S.state s.old) (S.state s.new) blocks.old.inode blocks.new.inode) }
     ensures full { result ≡ Err MapFault.Full
@@ -77,8 +78,8 @@ pub fn write_at<S: Sectors>(
     // No hole is made but before the bytes.
     ensures whole { OnOk result (HasNoHole (S.state s.old).sectors inode.old → offset ≤ inode.old.size
         → HasNoHole (S.state s.new).sectors inode.new) }
-    ensures too_big { (result ≡ Err MapFault.TooBig) ↔ (71680 < offset + length bytes.now) }
-    ensures untouched { 71680 < offset + length bytes.now → IsUnchanged (S.state s.old) (S.state s.new) }
+    ensures too_big { (result ≡ Err MapFault.TooBig) ↔ (MAX_FILE_SIZE < offset + length bytes.now) }
+    ensures untouched { MAX_FILE_SIZE < offset + length bytes.now → IsUnchanged (S.state s.old) (S.state s.new) }
     ensures full { result ≡ Err MapFault.Full
         → (free_sectors place (S.state s.old).sectors < taken_by (S.state s.old).sectors inode.old offset (length bytes.now))
         × (taken_by (S.state s.old).sectors inode.old offset (length bytes.now) ≤ 10) }
@@ -86,7 +87,7 @@ pub fn write_at<S: Sectors>(
     ensures store { SameStore (S.state s.old) (S.state s.new) }
     ensures cause { HasCauseOf MapFault.DiskFault (S.state s.old).disk (S.state s.new).disk result }
 {
-    if offset > LIMIT - bytes.len() as u64 {
+    if offset > MAX_FILE_SIZE - bytes.len() as u64 {
         return Err(MapFault::TooBig);
     }
     let end = offset + bytes.len() as u64;
