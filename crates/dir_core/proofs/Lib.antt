@@ -1,6 +1,6 @@
 pub mod Changing
+pub mod Empty
 pub mod Entries
-pub mod Filled
 pub mod Found
 pub mod NamesAfter
 pub mod Pieces
