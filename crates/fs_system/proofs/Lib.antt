@@ -4,6 +4,7 @@ pub mod Chmods
 pub mod Ends
 pub mod MakingMoments
 pub mod MakingRefusals
+pub mod MadeFiles
 pub mod MakingTables
 pub mod Moving
 pub mod NewDisks

@@ -85,3 +85,7 @@ pub same_attributes : (p : Place) (n : ℕ) (old new : TxnState) → IsUnchanged
     → DiffersInAttributes (inode_at p new.sectors n) v
 same_attributes p n old new same v is =
     subst (λ (w : Inode). DiffersInAttributes w v) (is ∙ ap (λ (image : SectorMap). inode_at p image n) (map_unchanged same)) refl
+
+-- and is still the inode of that number
+pub still_there : (p : Place) (n : ℕ) (old new : TxnState) (v : Inode) → IsUnchanged old new → v ≡ inode_at p old.sectors n → v ≡ inode_at p new.sectors n
+still_there p n old new v same is = is ∙ ap (λ (image : SectorMap). inode_at p image n) (map_unchanged same)

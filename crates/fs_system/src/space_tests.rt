@@ -2,20 +2,25 @@
 
 ghost use Rattle.std.specs.Prelude.{◌≡◌, ◌≤◌, ◌<◌, length, IfOk, OnOk};
 ghost use Rattle.fs_layout.specs.Images.{inode_at};
+ghost use Rattle.redo_journal.specs.Meaning.{SameMap, data_of};
+ghost use Rattle.sector_txn.specs.Sectors.{IsUnchanged};
 ghost use Rattle.sector_txn.specs.Stores.{txn_state};
 ghost use Rattle.bit_alloc.specs.Bitmaps.{HasBitmaps};
 ghost use Rattle.bit_alloc.specs.Inodes.{IsSound};
 ghost use Rattle.bit_alloc.specs.Room.{HasSpare};
 ghost use Rattle.inode_table.specs.Inodes.{ClearAreFree};
-ghost use Rattle.fs_system.specs.Sound.{IsSoundDisk};
+ghost use Rattle.fs_system.specs.Sound.{IsSoundDisk, IsEmptyFile};
 
 use crate::fs::read_place;
 use crate::mkfs;
 use crate::mkfs_tests::content_of;
 use bit_alloc::{Bitmap, TakeFault, count_free, give, has_free, is_taken, take};
-use block_map::{MapFault, new_link, read_at, set_size, write_at};
+use block_map::{MapFault, new_link, read_at, release_all, set_size, write_at};
 use fs_layout::{Inode, Kind, Place};
-use inode_table::{load, new_inode, save};
+use inode_table::{
+    LoadAclFault, free_inode, load, load_acl, load_default_acl, new_inode, save, save_acl,
+    save_default_acl,
+};
 use posix_acl::{Acl, Entry, Perms, Tag};
 use redo_journal::Journal;
 use sector_disk::{Disk, DiskFault, FailOnce, MemDisk};
@@ -59,6 +64,7 @@ fn made<D: Disk + Drop>(disk: D) -> Result<(D, Place), Fail>
 // A transaction on a sound disk.
 fn begun<D: Disk + Drop>(alloc: Global, disk: D, place: Place) -> Result<Txn<D>, Fail>
     requires { IsSoundDisk place (D.state disk) }
+    ensures map { IfOk result (λ txn. SameMap (txn_state D.state txn).sectors (data_of (D.state disk))) }
     ensures sound { IfOk result (λ txn. IsSound place (txn_state D.state txn)) }
     ensures clear { IfOk result (λ txn. ClearAreFree place (txn_state D.state txn).sectors) }
     ensures spare { IfOk result (λ txn. HasSpare place 47 (txn_state D.state txn)) }
@@ -178,6 +184,7 @@ enum Change {
 fn file_at<S: Sectors>(s: &mut S, place: Place, n: u32) -> Result<Inode, Fail>
     requires sound { IsSound place (S.state s.old) }
     ensures sound { OnOk result (IsSound place (S.state s.new)) }
+    ensures same { OnOk result (IsUnchanged (S.state s.old) (S.state s.new)) }
     ensures below { OnOk result (n < place.inodes) }
     ensures inode { IfOk result (λ v. v ≡ inode_at place (S.state s.new).sectors n) }
     ensures kind { IfOk result (λ v. v.kind ≡ Kind.File) }
@@ -223,6 +230,7 @@ fn written<S: Sectors>(
     requires sound { IsSound place (S.state s.old) }
     requires few { length bytes.now ≤ 4096 }
     ensures sound { OnOk result (IsSound place (S.state s.new)) }
+    ensures clear { OnOk result (ClearAreFree place (S.state s.old).sectors → ClearAreFree place (S.state s.new).sectors) }
 {
     let mut inode = file_at(s, place, n)?;
     match write_at(s, place, n, &mut inode, offset, bytes) {
@@ -317,6 +325,74 @@ fn a_file_takes_and_gives_back_so_many_blocks(rt: HostRuntime) -> Result<(), Fai
 
 // ---- reads that fail
 
+// A file with a byte in its last direct block and one in the block after it, and a file that holds nothing.
+#[derive(Clone, Copy)]
+struct Files {
+    filled: u32,
+    empty: u32,
+}
+
+// Makes both, with this ACL.
+fn make_files<S: Sectors>(s: &mut S, place: Place, acl: &Acl) -> Result<Files, Fail>
+    requires sound { IsSound place (S.state s.old) }
+    requires clear { ClearAreFree place (S.state s.old).sectors }
+    requires spare { HasSpare place 47 (S.state s.old) }
+    ensures sound { OnOk result (IsSound place (S.state s.new)) }
+    ensures clear { OnOk result (ClearAreFree place (S.state s.new).sectors) }
+    ensures filled { IfOk result (λ files. files.filled < place.inodes) }
+    ensures empty { IfOk result (λ files. IsEmptyFile place (S.state s.new).sectors files.empty) }
+{
+    let filled = new_inode(s, place, &FILE, acl, None)?;
+    let outcome = written(s, place, filled, 6_143, &[7; 2])?;
+    outcome?;
+    if s.room() < (place.table - 128) as usize + 3 {
+        return Err(Fail::new("no room"));
+    }
+    let empty = new_inode(s, place, &FILE, acl, Some(acl))?;
+    Ok(Files { filled, empty })
+}
+
+// The disk, with all that was put.
+fn flushed<D: Disk + Drop>(txn: Txn<D>) -> Result<D, Fail>
+    ensures map { IfOk result (λ disk. SameMap (data_of (D.state disk)) (txn_state D.state txn).sectors) }
+    ensures size { IfOk result (λ disk. (D.state disk).size ≡ (D.state txn.disk).size) }
+{
+    match txn.keep() {
+        Ok(store) => match store.flush() {
+            Ok(store) => Ok(store.into_disk()),
+            Err(_) => Err(Fail::new("not flushed")),
+        },
+        Err(_) => Err(Fail::new("not kept")),
+    }
+}
+
+// The disk with the two files.
+fn with_files<D: Disk + Drop>(
+    alloc: Global,
+    disk: D,
+    place: Place,
+    acl: &Acl,
+) -> Result<(D, Files), Fail>
+    requires { IsSoundDisk place (D.state disk) }
+    ensures sound { IfOk result (λ r. IsSoundDisk place (D.state r.0)) }
+    ensures filled { IfOk result (λ r. r.1.filled < place.inodes) }
+    ensures empty { IfOk result (λ r. IsEmptyFile place (data_of (D.state r.0)) r.1.empty) }
+{
+    let mut txn = begun(alloc, disk, place)?;
+    match make_files(&mut txn, place, acl) {
+        Ok(files) => {
+            let disk = flushed(txn)?;
+            Ok((disk, files))
+        }
+        Err(fail) => {
+            let _store = txn.drop_delta();
+            Err(fail)
+        }
+    }
+}
+
+const ROOT: u32 = 1;
+
 #[derive(Clone, Copy)]
 enum Call {
     Take,
@@ -325,51 +401,162 @@ enum Call {
     Count,
     HasFree,
     Load,
-    // The root, after it is loaded.
     Save,
     NewInode,
     NewLink,
+    // The file that holds nothing.
+    FreeInode,
+    // Both ACLs of that file.
+    LoadAcls,
+    SaveRootAcl(AclSave),
+    // The same of the file that holds nothing.
+    SaveFileAcl(AclSave),
+    // The file that holds something.
+    OnBytes(BytesCall),
+}
+
+#[derive(Clone, Copy)]
+enum AclSave {
+    Access,
+    Default,
+    NoDefault,
+}
+
+// The calls on the two bytes.
+#[derive(Clone, Copy)]
+enum BytesCall {
+    ReadAt,
+    WriteAt,
+    // The first of them becomes the last.
+    SetSize,
+    ReleaseAll,
 }
 
 fn save_root<S: Sectors>(s: &mut S, place: Place) -> Result<(), DiskFault>
     requires sound { IsSound place (S.state s.old) }
     requires spare { HasSpare place 47 (S.state s.old) }
 {
-    let root = load(s, place, 1)?;
-    save(s, place, 1, &root)
+    let root = load(s, place, ROOT)?;
+    save(s, place, ROOT, &root)
 }
 
-fn perform<S: Sectors>(s: &mut S, place: Place, acl: &Acl, call: Call) -> Result<(), TakeFault>
+fn load_acls<S: Sectors>(alloc: Global, s: &mut S, place: Place, n: u32) -> Result<(), LoadAclFault>
+    requires sound { IsSound place (S.state s.old) }
+    requires file { IsEmptyFile place (S.state s.old).sectors n }
+{
+    let inode = load(s, place, n)?;
+    let _access = load_acl(alloc, s, place, &inode)?;
+    let _default = load_default_acl(alloc, s, place, &inode)?;
+    Ok(())
+}
+
+// Nothing is done where the inode isn't a file or a directory: then fewer reads fail than are wanted.
+fn save_one_acl<S: Sectors>(
+    s: &mut S,
+    place: Place,
+    n: u32,
+    acl: &Acl,
+    save_as: AclSave,
+) -> Result<(), TakeFault>
+    requires sound { IsSound place (S.state s.old) }
+    requires below { n < place.inodes }
+    requires spare { HasSpare place 47 (S.state s.old) }
+{
+    let inode = load(s, place, n)?;
+    match inode.kind {
+        Kind::File | Kind::Directory => match save_as {
+            AclSave::Access => save_acl(s, place, n, &inode, acl),
+            AclSave::Default => save_default_acl(s, place, n, &inode, Some(acl)),
+            AclSave::NoDefault => save_default_acl(s, place, n, &inode, None),
+        },
+        _ => Ok(()),
+    }
+}
+
+// Nothing is done where the inode is no file.
+fn on_bytes<S: Sectors>(s: &mut S, place: Place, n: u32, call: BytesCall) -> Result<(), MapFault>
+    requires sound { IsSound place (S.state s.old) }
+    requires below { n < place.inodes }
+    requires spare { HasSpare place 47 (S.state s.old) }
+{
+    let mut inode = load(s, place, n)?;
+    let Kind::File = inode.kind else {
+        return Ok(());
+    };
+    match call {
+        BytesCall::ReadAt => {
+            let _count = read_at(s, &inode, 6_143, &mut [0; 2])?;
+        }
+        BytesCall::WriteAt => write_at(s, place, n, &mut inode, 6_143, &[8; 2])?,
+        BytesCall::SetSize => set_size(s, place, n, &mut inode, 6_143)?,
+        BytesCall::ReleaseAll => release_all(s, place, n, &mut inode)?,
+    }
+    Ok(())
+}
+
+// Whether the outcome is Ok, and not this fault.
+fn is_done<T: Drop, E: PartialEq + Drop>(outcome: Result<T, E>, fault: E) -> Result<bool, Fail> {
+    match outcome {
+        Ok(_) => Ok(true),
+        Err(other) => {
+            if other != fault {
+                return Err(Fail::new("another fault"));
+            }
+            Ok(false)
+        }
+    }
+}
+
+// Whether a call is done, or else tells the fault of the disk.
+fn perform<S: Sectors>(
+    alloc: Global,
+    s: &mut S,
+    place: Place,
+    files: Files,
+    acl: &Acl,
+    call: Call,
+) -> Result<bool, Fail>
     requires sound { IsSound place (S.state s.old) }
     requires clear { ClearAreFree place (S.state s.old).sectors }
     requires spare { HasSpare place 47 (S.state s.old) }
+    requires filled { files.filled < place.inodes }
+    requires empty { IsEmptyFile place (S.state s.old).sectors files.empty }
 {
     match call {
-        Call::Take => {
-            let _block = take(s, place, Bitmap::Blocks)?;
-        }
-        Call::Give => give(s, place, Bitmap::Blocks, place.first_data)?,
-        Call::IsTaken => {
-            let _taken = is_taken(s, place, Bitmap::Blocks, place.first_data)?;
-        }
-        Call::Count => {
-            let _free = count_free(s, place, Bitmap::Blocks)?;
-        }
-        Call::HasFree => {
-            let _some = has_free(s, place, Bitmap::Blocks, 1)?;
-        }
-        Call::Load => {
-            let _root = load(s, place, 1)?;
-        }
-        Call::Save => save_root(s, place)?,
-        Call::NewInode => {
-            let _inode = new_inode(s, place, &FILE, acl, Some(acl))?;
+        Call::Take => is_done(take(s, place, Bitmap::Blocks), TakeFault::DiskFault),
+        Call::Give => is_done(give(s, place, Bitmap::Blocks, place.first_data), DiskFault),
+        Call::IsTaken => is_done(
+            is_taken(s, place, Bitmap::Blocks, place.first_data),
+            DiskFault,
+        ),
+        Call::Count => is_done(count_free(s, place, Bitmap::Blocks), DiskFault),
+        Call::HasFree => is_done(has_free(s, place, Bitmap::Blocks, 1), DiskFault),
+        Call::Load => is_done(load(s, place, ROOT), DiskFault),
+        Call::Save => is_done(save_root(s, place), DiskFault),
+        Call::NewInode => is_done(
+            new_inode(s, place, &FILE, acl, Some(acl)),
+            TakeFault::DiskFault,
+        ),
+        Call::FreeInode => is_done(free_inode(s, place, files.empty), DiskFault),
+        Call::LoadAcls => is_done(
+            load_acls(alloc, s, place, files.empty),
+            LoadAclFault::DiskFault,
+        ),
+        Call::SaveRootAcl(save_as) => is_done(
+            save_one_acl(s, place, ROOT, acl, save_as),
+            TakeFault::DiskFault,
+        ),
+        Call::SaveFileAcl(save_as) => is_done(
+            save_one_acl(s, place, files.empty, acl, save_as),
+            TakeFault::DiskFault,
+        ),
+        Call::OnBytes(call) => {
+            is_done(on_bytes(s, place, files.filled, call), MapFault::DiskFault)
         }
         Call::NewLink => {
             let _link = new_link(s, place, 0, 0, b"t")?;
         }
     }
-    Ok(())
 }
 
 fn have_same_image<D: Disk, E: Disk>(left: &mut D, right: &mut E) -> Result<bool, Fail> {
@@ -384,33 +571,41 @@ fn have_same_image<D: Disk, E: Disk>(left: &mut D, right: &mut E) -> Result<bool
     Ok(true)
 }
 
-// What a call on a new disk comes to whose read number `k` fails, and whether it leaves the image of before.
+// A new disk with the two files.
+fn filled_disk(alloc: Global, acl: &Acl) -> Result<(MemDisk, Place, Files), Fail>
+    ensures sound { IfOk result (λ r. IsSoundDisk r.1 (⟦<MemDisk as Disk>⟧.state r.0)) }
+    ensures filled { IfOk result (λ r. r.2.filled < r.1.inodes) }
+    ensures empty { IfOk result (λ r. IsEmptyFile r.1 (data_of (⟦<MemDisk as Disk>⟧.state r.0)) r.2.empty) }
+{
+    let (disk, place) = new_disk(alloc)?;
+    let (disk, files) = with_files(alloc, disk, place, acl)?;
+    Ok((disk, place, files))
+}
+
+// Whether a call on such a disk is done whose read number `k` fails, and whether it leaves the image of before.
 fn after_fault(
     alloc: Global,
+    before: &mut MemDisk,
     acl: &Acl,
     call: Call,
     k: u32,
-) -> Result<(Result<(), TakeFault>, bool), Fail> {
-    let (mut before, _) = new_disk(alloc)?;
-    let (disk, place) = new_disk(alloc)?;
+) -> Result<(bool, bool), Fail> {
+    let (disk, place, files) = filled_disk(alloc, acl)?;
     // Opening the journal makes a sync and a read.
     let mut txn = begun(alloc, FailOnce::new(disk, 2 + u64::from(k)), place)?;
-    let outcome = perform(&mut txn, place, acl, call);
+    let done = perform(alloc, &mut txn, place, files, acl, call);
     let mut after = txn.drop_delta().into_disk().into_inner();
-    let same = have_same_image(&mut before, &mut after)?;
-    Ok((outcome, same))
+    let done = done?;
+    let same = have_same_image(before, &mut after)?;
+    Ok((done, same))
 }
 
 // The first read whose fault isn't told, or after which the image is another one; the next read that there isn't, if
 // all are as wanted.
 fn first_other(alloc: Global, acl: &Acl, call: Call, reads: u32) -> Result<Option<u32>, Fail> {
+    let (mut before, _, _) = filled_disk(alloc, acl)?;
     for k in 0..=reads {
-        let wanted = if k < reads {
-            Err(TakeFault::DiskFault)
-        } else {
-            Ok(())
-        };
-        if after_fault(alloc, acl, call, k)? != (wanted, true) {
+        if after_fault(alloc, &mut before, acl, call, k)? != (k == reads, true) {
             return Ok(Some(k));
         }
     }
@@ -437,7 +632,7 @@ fn extended_acl(alloc: Global) -> Result<Acl, Fail> {
 #[test]
 fn each_read_that_fails_is_told_and_leaves_the_image(rt: HostRuntime) -> Result<(), Fail> {
     let acl = extended_acl(rt.alloc())?;
-    // How many sectors the call reads.
+    // How many sectors the call reads. An inode is loaded before its ACLs are loaded or saved, and before calls on bytes.
     for (call, reads) in [
         (Call::Take, 1),
         (Call::Give, 1),
@@ -448,6 +643,19 @@ fn each_read_that_fails_is_told_and_leaves_the_image(rt: HostRuntime) -> Result<
         (Call::Save, 2),
         (Call::NewInode, 3),
         (Call::NewLink, 3),
+        // A bitmap's sector that was put isn't read again.
+        (Call::FreeInode, 4),
+        (Call::LoadAcls, 3),
+        // A sector is taken, rewritten or given back.
+        (Call::SaveRootAcl(AclSave::Access), 3),
+        (Call::SaveRootAcl(AclSave::Default), 3),
+        (Call::SaveFileAcl(AclSave::Access), 2),
+        (Call::SaveFileAcl(AclSave::Default), 2),
+        (Call::SaveFileAcl(AclSave::NoDefault), 3),
+        (Call::OnBytes(BytesCall::ReadAt), 4),
+        (Call::OnBytes(BytesCall::WriteAt), 5),
+        (Call::OnBytes(BytesCall::SetSize), 5),
+        (Call::OnBytes(BytesCall::ReleaseAll), 4),
     ] {
         let other = first_other(rt.alloc(), &acl, call, reads)?;
         assert!(rt; other.is_none(), "{other:?}");

@@ -5,6 +5,9 @@ use Rattle.bit_alloc.proofs.Soundness.{spare_first}
 use Rattle.fs_system.proofs.Soundness.{shown_is_sound}
 use Rattle.fs_system.proofs.space_tests.begun.Goals as goal
 
+pub returns-in-Ok-new-clause-map : goal.returns-in-Ok-new-clause-map
+returns-in-Ok-new-clause-map g c = λ n part. c.begin.ensures.map n part ∙ c.in-Ok-new.ensures.map n part ∙ c.in-Ok.ensures.same n part
+
 pub returns-in-Ok-new-clause-sound : goal.returns-in-Ok-new-clause-sound
 returns-in-Ok-new-clause-sound g c =
     let txn = txn_state g.D.Disk.state c.begin.result in
