@@ -19,7 +19,7 @@ use Rattle.fs_layout.specs.Maps.{name_cmp, get, with_entry}
 use Rattle.fs_layout.specs.Directories.{NamedInode, HaveDistinctNames, names_of_slots}
 use Rattle.fs_layout.proofs.MapEntries.{names_have_entries}
 use Rattle.fs_layout.proofs.ReadNames.{are_names_of}
-use Rattle.dir_core.specs.Slots.{entry}
+use Rattle.dir_core.specs.Slots.{name_entry}
 
 abbrev name_of : NamedInode → List ℕ
 name_of x = x.name
@@ -72,14 +72,14 @@ rising xs apart up i j d less lt =
 risen_tail : (x : NamedInode) (xs : List NamedInode) → DoRise (x ∷ xs) → DoRise xs
 risen_tail x xs rise i j d less lt = rise (suc i) (suc j) d (omega (arith, less)) (omega (arith, lt))
 
-entries_are : (xs : List NamedInode) → DoRise xs → names_of_slots xs ≡ map entry xs
+entries_are : (xs : List NamedInode) → DoRise xs → names_of_slots xs ≡ map name_entry xs
 unfolding names_of_slots
 entries_are [] rise = refl
 entries_are (x ∷ []) rise = refl
 entries_are (x ∷ y ∷ ys) rise =
     let less : name_cmp x.name y.name ≡ Less = rise 0 1 x (omega arith) (omega arith) in
     ap (λ m. with_entry name_cmp m x.name x.inode) (entries_are (y ∷ ys) (risen_tail x (y ∷ ys) rise))
-    ∙ ap (λ o. by_order o (entry x ∷ map entry (y ∷ ys)) ((y.name, x.inode) ∷ map entry ys) (entry y ∷ with_entry name_cmp (map entry ys) x.name x.inode)) less
+    ∙ ap (λ o. by_order o (name_entry x ∷ map name_entry (y ∷ ys)) ((y.name, x.inode) ∷ map name_entry ys) (name_entry y ∷ with_entry name_cmp (map name_entry ys) x.name x.inode)) less
 
 -- ---- the same names in another order
 same_names : (xs ys : List NamedInode) → IsPermutation xs ys → HaveDistinctNames xs → HaveDistinctNames ys → names_of_slots ys ≡ names_of_slots xs
@@ -96,7 +96,7 @@ same_names xs ys moved ax ay =
         ((are_names_of ys ay).each q n).1 (Contains-permutation xs ys _ moved (((are_names_of xs ax).each q n).0 f)) ∙ sym f
 
 pub sorted_entries : (xs ys : List NamedInode) → IsPermutation xs ys → HaveDistinctNames xs → IsSortedBy (λ x y. is_lt (name_cmp x.name y.name)) ys
-    → map entry ys ≡ names_of_slots xs
+    → map name_entry ys ≡ names_of_slots xs
 sorted_entries xs ys moved apart up =
     let other = apart_permuted xs ys moved apart in
     sym (entries_are ys (rising ys other up)) ∙ same_names xs ys moved apart other

@@ -23,7 +23,8 @@ taken_for v = if nat_eq (v.size % 512) 0 then (if nat_eq v.size 6144 then 2 else
 -- or fewer sectors are free than one more takes.
 abbrev pub WhyNotAdded : Place → SectorMap → Inode → List (List ℕ × ℕ) → List ℕ → DirFault → Type 0
 WhyNotAdded p image v names name Exists = get name_cmp names name ≢ None
-WhyNotAdded p image v names name Full = (get name_cmp names name ≡ None) × ((length names ≡ MAX_NAMES) ⊎ (free_sectors p image < taken_for v))
+WhyNotAdded p image v names name Full =
+    (get name_cmp names name ≡ None) × ((length names ≡ MAX_NAMES) ⊎ (free_sectors p image < taken_for v))
 WhyNotAdded p image v names name Absent = ⊥
 WhyNotAdded p image v names name DiskFault = Unit {0}
 WhyNotAdded p image v names name OutOfMemory = ⊥

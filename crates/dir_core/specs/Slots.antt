@@ -3,7 +3,7 @@
 --     IsBlock        what a block of the inode holds
 --     IsSlotAt        a slot's bytes stand at an offset
 --     IsFoundIn        what a search for a name finds
---     entry        a slot as an entry of the map of names
+--     name_entry        a slot as an entry of the map of names
 use Rattle.std.specs.Prelude.{◌≡◌, ◌≢◌, ℕ, ◌+◌, ◌*◌, ◌<◌, List, length, slice_index, slice_index_or, All, Option, None, Some}
 use Rattle.fs_layout.specs.declared.inode.Inode.{Inode}
 use Rattle.fs_layout.specs.declared.inode.Kind.TheVariants as kinds
@@ -35,5 +35,5 @@ IsFoundIn slots name (Some found) =
     (found.slot < length slots) × ((d : NamedInode) → slice_index_or slots found.slot d ≡ record { inode = found.inode; name = name })
 
 -- a slot as an entry of the map of names
-abbrev pub entry : NamedInode → List ℕ × ℕ
-entry x = (x.name, x.inode)
+abbrev pub name_entry : NamedInode → List ℕ × ℕ
+name_entry x = (x.name, x.inode)

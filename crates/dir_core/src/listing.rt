@@ -7,7 +7,7 @@ ghost use Rattle.bit_alloc.specs.Faults.{HasCauseOf};
 ghost use Rattle.bit_alloc.specs.Inodes.{IsSound};
 ghost use Rattle.inode_table.specs.Inodes.{IsInodeOf};
 ghost use Rattle.block_map.specs.Blocks.{IsWithin};
-ghost use Rattle.dir_core.specs.Slots.{HasSlots, entry};
+ghost use Rattle.dir_core.specs.Slots.{HasSlots, name_entry};
 ghost use Rattle.dir_core.specs.declared.fault.DirFault.TheVariants.{DiskFault as Device, OutOfMemory};
 
 use crate::DirFault;
@@ -44,7 +44,7 @@ fn read_slots<S: Sectors>(alloc: Global, s: &mut S, inode: &Inode) -> Result<Vec
 // Brings slots into the bytewise order of their names.
 fn sort_by_name(slots: &mut [Slot])
     requires { HaveDistinctNames slots.old }
-    ensures { map entry slots.new ≡ names_of_slots slots.old }
+    ensures { map name_entry slots.new ≡ names_of_slots slots.old }
 {
     slots.sort_unstable_by(|a, b| a.name().cmp(b.name()));
 }
@@ -62,7 +62,7 @@ pub fn list<S: Sectors>(
     requires there { IsInodeOf place (S.state s.old).sectors inode.now }
     requires directory { (names : List (List ℕ × ℕ)) × HasNames (S.state s.old).sectors inode.now names }
     ensures found { IfOk result (λ found. (names : List (List ℕ × ℕ)) → HasNames (S.state s.old).sectors inode.now names
-        → map entry found.items ≡ names) }
+        → map name_entry found.items ≡ names) }
     ensures faults { IfErr result (λ e. (e ≡ Device) ⊎ (e ≡ OutOfMemory)) }
     ensures same { IsUnchanged (S.state s.old) (S.state s.new) }
     ensures cause { HasCauseOf DirFault.DiskFault (S.state s.old).disk (S.state s.new).disk result }
