@@ -1,0 +1,74 @@
+-- What reads leave as it was.
+use Rattle.std.proofs.Common.{◌≡◌, Result, Ok, Err, sym, ap, subst, arith, inl, inr, ◌⊎◌}
+use Rattle.std.specs.Prelude.{IsErr, IsErrAnd, OnOk, MatchResult}
+use Rattle.sector_disk.specs.Disk.{DiskState}
+use Rattle.sector_disk.proofs.Moments.{failed_later}
+use Rattle.fs_cred.specs.declared.refusal.Refusal.{Refusal}
+use Rattle.fs_layout.specs.declared.place.Place.{Place}
+use Rattle.fs_layout.specs.Bytes.{SectorMap}
+use Rattle.fs_layout.specs.Images.{HasWholeTables}
+use Rattle.fs_layout.specs.Ownership.{IsConsistent}
+use Rattle.sector_txn.specs.Sectors.{TxnState, IsUnchanged}
+use Rattle.bit_alloc.specs.Bitmaps.{HasRestSet}
+use Rattle.bit_alloc.specs.Inodes.{IsSound}
+use Rattle.path_walk.specs.Answers.{Interrupts, IsAnswered}
+
+-- the map is the same
+pub same_map : {old new : TxnState} → IsUnchanged old new → new.sectors ≡ old.sectors
+same_map same = λ i n. same.sectors n i
+
+-- so is what is said of it
+pub kept : (P : SectorMap → Type 0) {old new : TxnState} → IsUnchanged old new → P old.sectors → P new.sectors
+kept P same h = subst P (sym (same_map same)) h
+
+pub kept_back : (P : SectorMap → Type 0) {old new : TxnState} → IsUnchanged old new → P new.sectors → P old.sectors
+kept_back P same h = subst P (same_map same) h
+
+pub sound_kept : {p : Place} {old new : TxnState} → IsUnchanged old new → IsSound p old → IsSound p new
+sound_kept {p} {old} {new} same sound = record {
+  consistent = kept (IsConsistent p) same sound.consistent;
+  bitmaps = record {
+    place = sound.bitmaps.place;
+    disk = let b = sound.bitmaps.disk in let e = same.store.reads.narrowed.size in omega (arith, b, e);
+    tables = kept (HasWholeTables p) same sound.bitmaps.tables;
+    rest = kept (HasRestSet p) same sound.bitmaps.rest;
+  };
+}
+
+-- what interrupts a later call, since an earlier moment
+pub interrupts_later : {old mid : TxnState} {r : Refusal} (new : DiskState) → IsUnchanged old mid → Interrupts mid.disk new r → Interrupts old.disk new r
+interrupts_later {old} {mid} new same way = elim way [
+  | inl memory ↦ inl memory
+  | inr read ↦ inr (read.0, failed_later old.disk mid.disk new same.store.reads.failures read.1)
+]
+
+-- ---- errors passed on
+ok_is_no_err : {A : Type 0} (x : A) → IsErr {T = A} {E = Refusal} (Ok x) → ⊥
+ok_is_no_err x h = cc
+
+pub is_err : {A : Type 0} (r : Result A Refusal) (e : Refusal) → IsErr r → IsErrAnd r (λ y. y ≡ e) → r ≡ Err e
+is_err (Ok x) e err and = absurd (ok_is_no_err x err)
+is_err (Err y) e err and = ap (λ (z : Refusal). Err z) and
+
+-- what was answered as an error, is answered so
+pub answered_err : {A : Type 0} (old new : DiskState) (right r : Result A Refusal) (e : Refusal) → IsErr r → IsErrAnd r (λ y. y ≡ e)
+    → (right ≡ Err e) ⊎ Interrupts old new e → IsAnswered old new right r
+answered_err old new right r e err and h = subst (λ (q : Result _ Refusal). IsAnswered old new right q) (sym (is_err r e err and)) h
+
+-- an error of a call that is always right is an interruption
+pub interrupted : {A : Type 0} (old new : DiskState) (x : A) (e : Refusal) → (Ok x ≡ Err e) ⊎ Interrupts old new e → Interrupts old new e
+interrupted old new x e h = elim h [ inl no_ok ↦ absurd (cc) | inr way ↦ way ]
+
+abbrev pub answer : {A : Type 0} → A → Result A Refusal
+answer x = Ok x
+
+pub same_ok : {A : Type 0} (x y : A) → answer x ≡ answer y → x ≡ y
+same_ok x y e = cc
+
+pub on_err : {A : Type 0} (P : Type 0) (r : Result A Refusal) → IsErr r → OnOk r P
+on_err P (Ok x) err = absurd (ok_is_no_err x err)
+on_err P (Err e) err = tt
+
+pub matched_err : {A : Type 0} (r : Result A Refusal) (e : Refusal) (P : A → Type 0) (Q : Refusal → Type 0) → IsErr r → IsErrAnd r (λ y. y ≡ e) → Q e
+    → MatchResult r P Q
+matched_err r e P Q err and q = subst (λ (s : Result _ Refusal). MatchResult s P Q) (sym (is_err r e err and)) q

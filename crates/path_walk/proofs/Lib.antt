@@ -1,0 +1,10 @@
+pub mod Kept
+pub mod Onward
+pub mod Cutting
+pub mod HeldNodes
+pub mod Staging
+pub mod Walking
+pub mod Stepping
+pub mod Finding
+pub mod Reaching
+pub mod Asking

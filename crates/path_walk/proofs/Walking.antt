@@ -1,0 +1,102 @@
+-- The whole of a walk.
+use Rattle.std.specs.Prelude.{◌≡◌, ◌≢◌, ℕ, ◌+◌, ◌*◌, ◌^◌, ◌<◌, ◌≤◌, List, length, None, Some, Result, Ok, Err}
+use Rattle.std.proofs.Common.{sym, ap, subst, arith, ◌∙◌, inl, inr}
+use Rattle.sector_disk.specs.Disk.{DiskState}
+use Rattle.fs_cred.specs.Credentials.{Credential}
+use Rattle.fs_cred.specs.declared.errno.Errno.TheVariants.{EIO, ENOMEM}
+use Rattle.fs_cred.specs.declared.refusal.Refusal.{Refusal}
+use Rattle.fs_cred.specs.declared.refusal.Refusal.TheVariants.{Failed}
+use Rattle.fs_layout.specs.declared.place.Place.{Place}
+use Rattle.fs_layout.specs.Bytes.{SectorMap}
+use Rattle.fs_model.specs.declared.walk.Form.{Form}
+use Rattle.fs_model.specs.declared.walk.Found.{Found}
+use Rattle.fs_model.specs.Demands.{Demand}
+use Rattle.fs_model.specs.Trails.{trail_of}
+use Rattle.fs_model.specs.Trees.{Tree}
+use Rattle.fs_model.specs.Walks.{first_refusal}
+use Rattle.fs_model.proofs.NoIoErrors.{walks_are_no_eio}
+use Rattle.bit_alloc.specs.Faults.{HasCauseOf}
+use Rattle.path_walk.specs.declared.walker.Walker.{Walker}
+use Rattle.path_walk.specs.Answers.{refused_or, IsAnswered}
+use Rattle.path_walk.specs.HeldTrees.{IsThere}
+use Rattle.path_walk.specs.Stages.{IsAt, IsStart, HasTaken, IsWay, HasRoom, bytes_ahead}
+use Rattle.path_walk.specs.Walked.{walk_of}
+
+-- ---- the way ahead
+pub start_room : (cwd : ℕ) (path : List ℕ) (number : ℕ) (w : Walker) → IsStart cwd path number w → length path ≤ 1023 → HasRoom w
+start_room cwd path number w start short =
+    let rest : length w.rest.items ≡ length path = ap length start.rest in
+    let at = start.at in let links = start.links in let step = start.step in
+    record { at = omega (arith, at); ahead = omega (arith, rest, links, short); steps = omega (arith, rest, links, step, short) }
+
+-- the next component is taken, and looked up
+pub room_after : (old mid new : Walker) → HasRoom old → HasTaken old mid → IsWay mid new → HasRoom new
+room_after old mid new room taken way =
+    let at = room.at in let ahead = room.ahead in let steps = room.steps in
+    let later = taken.later in let inside = taken.inside in
+    let rest : length mid.rest.items ≡ length old.rest.items = ap (λ (w : Walker). length w.rest.items) taken.is in
+    let links : mid.links ≡ old.links = ap (λ (w : Walker). w.links) taken.is in
+    let step : mid.step ≡ old.step = ap (λ (w : Walker). w.step) taken.is in
+    let more = way.step in
+    elim way.ahead [
+      | inl same ↦ record {
+        at = way.at;
+        ahead = omega (arith, same, rest, links, ahead, later, inside);
+        steps = omega (arith, same, rest, links, step, more, steps, later, inside);
+      }
+      | inr less ↦ record {
+        at = way.at;
+        ahead = omega (arith, less, rest, links, ahead, later, inside);
+        steps = omega (arith, less, rest, links, step, more, steps, later, inside);
+      }
+    ]
+
+pub goes_less : (old mid new : Walker) → HasRoom old → HasTaken old mid → IsWay mid new
+    → bytes_ahead new + 21544 * new.links < bytes_ahead old + 21544 * old.links
+goes_less old mid new room taken way =
+    let ahead = room.ahead in let later = taken.later in let inside = taken.inside in
+    let rest : length mid.rest.items ≡ length old.rest.items = ap (λ (w : Walker). length w.rest.items) taken.is in
+    let links : mid.links ≡ old.links = ap (λ (w : Walker). w.links) taken.is in
+    elim way.ahead [
+      | inl same ↦ omega (arith, same, rest, links, ahead, later, inside)
+      | inr less ↦ omega (arith, less, rest, links, ahead, later, inside)
+    ]
+
+pub steps_fit : (old mid : Walker) → HasRoom old → HasTaken old mid → mid.step + 1 < 2 ^ 64
+steps_fit old mid room taken =
+    let steps = room.steps in
+    let step : mid.step ≡ old.step = ap (λ (w : Walker). w.step) taken.is in
+    omega (arith, steps, step)
+
+pub at_taken : (p : Place) (image : SectorMap) (old mid : Walker) → HasTaken old mid → IsAt p image old → IsAt p image mid
+at_taken p image old mid taken at =
+    subst (IsAt p image) (sym taken.is) (record { below = at.below; inode = at.inode })
+
+pub dir_taken : (old mid : Walker) → HasTaken old mid → mid.dir ≡ mid.here
+dir_taken old mid taken = ap (λ (w : Walker). w.dir) taken.is ∙ sym (ap (λ (w : Walker). w.here) taken.is)
+
+pub here_taken : (old mid : Walker) (t : Tree) → HasTaken old mid → IsThere t old.here → IsThere t mid.here
+here_taken old mid t taken there = subst (IsThere t) (sym (ap (λ (w : Walker). w.here) taken.is)) there
+
+-- ---- causes
+no_io : (d : Demand) (f : Found) → d ≢ Some (Failed EIO) → refused_or d (Ok f) ≢ Err (Failed EIO)
+no_io None f never e = absurd (cc)
+no_io (Some r) f never e = never (let same : r ≡ Failed EIO = cc in ap (λ (x : Refusal). Some x) same)
+
+pub never_io : (t : Tree) (cred : Credential) (walk cwd : ℕ) (form : Form) (path : List ℕ) → walk_of t cred walk form cwd path ≢ Err (Failed EIO)
+never_io t cred walk cwd form path =
+    no_io (first_refusal t cred walk form (trail_of t cwd form path)) _ (walks_are_no_eio t cred walk cwd form path)
+
+pub cause_is : {A : Type 0} (old new : DiskState) (right r : Result A Refusal) → old.failures ≤ new.failures → right ≢ Err (Failed EIO)
+    → IsAnswered old new right r → HasCauseOf (Failed EIO) old new r
+cause_is old new right (Ok x) later never h = record { later = later; failed = tt }
+cause_is old new right (Err e) later never h = record {
+  later = later;
+  failed = λ is. elim h [
+    | inl a ↦ absurd (never (a ∙ ap (λ (x : Refusal). Err x) is))
+    | inr way ↦ elim way [
+      | inl memory ↦ absurd (let both : Failed ENOMEM ≡ Failed EIO = sym memory ∙ is in cc)
+      | inr read ↦ read.1
+    ]
+  ];
+}

@@ -1,0 +1,38 @@
+use Rattle.std.proofs.Common.{ℕ, Ok, Some, refl, sym, ap, subst, ◌∙◌, inr}
+use Rattle.std.specs.Prelude.{Option}
+use Rattle.fs_layout.specs.declared.inode.Inode.{Inode}
+use Rattle.fs_layout.specs.Directories.{HasNames}
+use Rattle.fs_model.specs.Nodes.{names_in}
+use Rattle.path_walk.proofs.HeldNodes.{held_names, held_parent}
+use Rattle.path_walk.proofs.Finding.{dot_is, dots_are, name_is}
+use Rattle.path_walk.proofs.reads.find.Goals as goal
+
+pub returns-then-is_dot-clause-each : goal.returns-then-is_dot-clause-each
+returns-then-is_dot-clause-each g c = λ t h d.
+    ap (λ (o : Option ℕ). Ok o) (dot_is t c.args.n (names_in d.node.body) c.args.name.now (sym c.is_dot.ensures ∙ c.if-is_dot.true))
+
+pub returns-then-is_dot_dot-clause-each : goal.returns-then-is_dot_dot-clause-each
+returns-then-is_dot_dot-clause-each g c = λ t h d.
+    ap (λ (o : Option ℕ). Ok o)
+    (dots_are t c.args.n (names_in d.node.body) c.args.name.now (sym c.is_dot.ensures ∙ c.if-is_dot.false) (sym c.is_dot_dot.ensures ∙ c.if-is_dot_dot.true)
+    ∙ ap (λ (n : ℕ). Some n) (sym (held_parent h c.args.n d) ∙ ap (λ (v : Inode). v.parent) (sym c.requires.inode)))
+
+pub lookup-requires-clause-there : goal.lookup-requires-clause-there
+lookup-requires-clause-there g c = (c.args.n, c.requires.below, c.requires.inode)
+
+pub lookup-requires-clause-directory : goal.lookup-requires-clause-directory
+lookup-requires-clause-directory g c =
+    let w = c.requires.tree in
+    let image = (g.S.Sectors.state c.args.s.now).sectors in
+    (names_in w.2.node.body, subst (λ (v : Inode). HasNames image v (names_in w.2.node.body)) (sym c.requires.inode) (held_names w.1 c.args.n w.2))
+
+pub returns-in-Ok-clause-each : goal.returns-in-Ok-clause-each
+returns-in-Ok-clause-each g c = λ t h d.
+    let image = (g.S.Sectors.state c.args.s.now).sectors in
+    let names = subst (λ (v : Inode). HasNames image v (names_in d.node.body)) (sym c.requires.inode) (held_names h c.args.n d) in
+    ap (λ (o : Option ℕ). Ok o)
+    (name_is t c.args.n (names_in d.node.body) c.args.name.now (sym c.is_dot.ensures ∙ c.if-is_dot.false) (sym c.is_dot_dot.ensures ∙ c.if-is_dot_dot.false)
+    ∙ sym (c.in-Ok.ensures.found (names_in d.node.body) names))
+
+pub returns-in-Err-clause-each : goal.returns-in-Err-clause-each
+returns-in-Err-clause-each g c = λ t h d. inr (inr (refl, c.in-Err.ensures.cause.fault))

@@ -1,0 +1,268 @@
+use Rattle.std.proofs.Common.{ℕ, List, Ok, Bool, sym, ap, subst, ◌∙◌, inl, inr}
+use Rattle.fs_model.specs.declared.walk.Found.{Found}
+use Rattle.fs_model.specs.Parts.{parts_of}
+use Rattle.fs_model.specs.Trails.{follows_last}
+use Rattle.block_map.proofs.Runs.{unchanged_joined}
+use Rattle.path_walk.specs.HeldTrees.{HoldsTree, IsThere}
+use Rattle.path_walk.specs.Stages.{IsAt, IsNextOf, IsStep, arrival_of}
+use Rattle.path_walk.specs.Walked.{walk_of}
+use Rattle.path_walk.proofs.HeldNodes.{starts_there}
+use Rattle.path_walk.proofs.Kept.{kept, kept_back, sound_kept, interrupts_later, answered_err}
+use Rattle.path_walk.proofs.Staging.{start_stage, taken_stage, end_stage}
+use Rattle.path_walk.proofs.Walking.{start_room, room_after, goes_less, steps_fit, at_taken, dir_taken, here_taken, never_io, cause_is}
+use Rattle.path_walk.proofs.walks.walk.Goals as goal
+
+-- ---- the start
+pub start-requires-clause-sound : goal.start-requires-clause-sound
+start-requires-clause-sound g c = c.requires.sound
+
+pub start-requires-clause-tree : goal.start-requires-clause-tree
+start-requires-clause-tree g c = c.requires.tree
+
+pub returns-in_err-walker-clause-each : goal.returns-in_err-walker-clause-each
+returns-in_err-walker-clause-each g c = λ t h there.
+    let old = g.S.Sectors.state c.args.s.now in
+    let new = g.S.Sectors.state c.start.new.s in
+    let r = c.from_residual.ensures in
+    answered_err old.disk new.disk (walk_of t c.args.cred.now c.args.number c.args.form c.args.cwd c.args.path.now)
+    c.from_residual.result c.in_err-walker.field-0.0 r.0 r.1 (inr c.in_err-walker.ensures.err)
+
+pub returns-in_err-walker-clause-same : goal.returns-in_err-walker-clause-same
+returns-in_err-walker-clause-same g c = c.in_err-walker.ensures.same
+
+pub returns-in_err-walker-clause-cause : goal.returns-in_err-walker-clause-cause
+returns-in_err-walker-clause-cause g c =
+    let tree = c.requires.tree in
+    let t = tree.0 in
+    let old = g.S.Sectors.state c.args.s.now in
+    let new = g.S.Sectors.state c.start.new.s in
+    cause_is old.disk new.disk (walk_of t c.args.cred.now c.args.number c.args.form c.args.cwd c.args.path.now)
+    c.from_residual.result (c.in_err-walker.ensures.same).store.reads.failures
+    (never_io t c.args.cred.now c.args.number c.args.cwd c.args.form c.args.path.now) (returns-in_err-walker-clause-each g c t tree.1 tree.2)
+
+pub loop-walker-init : goal.loop-walker-init
+loop-walker-init g c =
+    let w = c.in_ok-walker.walker in
+    let start = c.in_ok-walker.ensures.ok in
+    let follow = c.follows_last-follow.ensures ∙ ap (λ (l : List ℕ). follows_last c.args.form (parts_of l)) c.bytes.ensures.all in
+    record {
+      same = c.in_ok-walker.ensures.same;
+      at = c.in_ok-walker.ensures.at;
+      room = start_room c.args.cwd c.args.path.now c.args.number w start c.requires.short;
+      each = λ t h there. (
+        start_stage t c.args.cred.now c.args.form c.args.number c.args.cwd c.args.path.now c.follows_last-follow.result w start follow,
+        subst (IsThere t) (sym start.here) (starts_there h c.args.path.now c.args.cwd there),
+      );
+    }
+
+-- ---- a component is taken
+pub next-requires : goal.next-requires
+next-requires g c = c.loop-walker.invariant.room.at
+
+pub returns-in_err-next-clause-each : goal.returns-in_err-next-clause-each
+returns-in_err-next-clause-each g c = λ t h there.
+    let old = g.S.Sectors.state c.args.s.now in
+    let new = g.S.Sectors.state c.loop-walker.s in
+    let r = c.from_residual-in_err-next.ensures in
+    answered_err old.disk new.disk (walk_of t c.args.cred.now c.args.number c.args.form c.args.cwd c.args.path.now)
+    c.from_residual-in_err-next.result c.in_err-next.field-0.0 r.0 r.1 (inr (inl c.in_err-next.ensures))
+
+pub returns-in_err-next-clause-same : goal.returns-in_err-next-clause-same
+returns-in_err-next-clause-same g c = c.loop-walker.invariant.same
+
+pub returns-in_err-next-clause-cause : goal.returns-in_err-next-clause-cause
+returns-in_err-next-clause-cause g c =
+    let tree = c.requires.tree in
+    let t = tree.0 in
+    let old = g.S.Sectors.state c.args.s.now in
+    let new = g.S.Sectors.state c.loop-walker.s in
+    cause_is old.disk new.disk (walk_of t c.args.cred.now c.args.number c.args.form c.args.cwd c.args.path.now)
+    c.from_residual-in_err-next.result (c.loop-walker.invariant.same).store.reads.failures
+    (never_io t c.args.cred.now c.args.number c.args.cwd c.args.form c.args.path.now) (returns-in_err-next-clause-each g c t tree.1 tree.2)
+
+-- ---- it is looked up
+pub step-requires-clause-sound : goal.step-requires-clause-sound
+step-requires-clause-sound g c = sound_kept c.loop-walker.invariant.same c.requires.sound
+
+pub step-requires-clause-at : goal.step-requires-clause-at
+step-requires-clause-at g c =
+    let old = g.S.Sectors.state c.args.s.now in
+    let inv = c.loop-walker.invariant in
+    let w = c.loop-walker.walker in
+    let mid = c.next.new.self in
+    let taken = subst (IsNextOf w mid) c.if-branch.true c.in_ok-next.ensures in
+    kept (λ m. IsAt c.args.place m mid) inv.same (at_taken c.args.place old.sectors w mid taken inv.at)
+
+pub step-requires-clause-inside : goal.step-requires-clause-inside
+step-requires-clause-inside g c =
+    let w = c.loop-walker.walker in
+    let mid = c.next.new.self in
+    let taken = subst (IsNextOf w mid) c.if-branch.true c.in_ok-next.ensures in
+    taken.inside
+
+pub step-requires-clause-taken : goal.step-requires-clause-taken
+step-requires-clause-taken g c =
+    let w = c.loop-walker.walker in
+    let mid = c.next.new.self in
+    let taken = subst (IsNextOf w mid) c.if-branch.true c.in_ok-next.ensures in
+    dir_taken w mid taken
+
+pub step-requires-clause-steps : goal.step-requires-clause-steps
+step-requires-clause-steps g c =
+    let w = c.loop-walker.walker in
+    let mid = c.next.new.self in
+    let taken = subst (IsNextOf w mid) c.if-branch.true c.in_ok-next.ensures in
+    steps_fit w mid c.loop-walker.invariant.room taken
+
+pub step-requires-clause-tree : goal.step-requires-clause-tree
+step-requires-clause-tree g c =
+    let inv = c.loop-walker.invariant in
+    let w = c.loop-walker.walker in
+    let mid = c.next.new.self in
+    let taken = subst (IsNextOf w mid) c.if-branch.true c.in_ok-next.ensures in
+    let tree = c.requires.tree in
+    (tree.0, kept (λ m. HoldsTree c.args.place m tree.0) inv.same tree.1, here_taken w mid tree.0 taken (inv.each tree.0 tree.1 tree.2).1)
+
+pub returns-in_err-step-clause-each : goal.returns-in_err-step-clause-each
+returns-in_err-step-clause-each g c = λ t h there.
+    let old = g.S.Sectors.state c.args.s.now in
+    let inv = c.loop-walker.invariant in
+    let w = c.loop-walker.walker in
+    let mid = c.next.new.self in
+    let taken = subst (IsNextOf w mid) c.if-branch.true c.in_ok-next.ensures in
+    let e = inv.each t h there in
+    let stage = e.0 ∙ taken_stage t c.args.cred.now c.args.form c.follows_last-follow.result w mid taken in
+    let held = kept (λ m. HoldsTree c.args.place m t) inv.same h in
+    let here = here_taken w mid t taken e.1 in
+    let new = g.S.Sectors.state c.step.new.s in
+    let r = c.from_residual-in_err-step.ensures in
+    answered_err old.disk new.disk (walk_of t c.args.cred.now c.args.number c.args.form c.args.cwd c.args.path.now)
+    c.from_residual-in_err-step.result c.in_err-step.field-0.0 r.0 r.1
+    (elim (c.in_err-step.ensures.each t held here c.args.form) [ inl s ↦ inl (stage ∙ s) | inr way ↦ inr (interrupts_later new.disk inv.same way) ])
+
+pub returns-in_err-step-clause-same : goal.returns-in_err-step-clause-same
+returns-in_err-step-clause-same g c = unchanged_joined c.loop-walker.invariant.same c.in_err-step.ensures.same
+
+pub returns-in_err-step-clause-cause : goal.returns-in_err-step-clause-cause
+returns-in_err-step-clause-cause g c =
+    let tree = c.requires.tree in
+    let t = tree.0 in
+    let old = g.S.Sectors.state c.args.s.now in
+    let new = g.S.Sectors.state c.step.new.s in
+    cause_is old.disk new.disk (walk_of t c.args.cred.now c.args.number c.args.form c.args.cwd c.args.path.now)
+    c.from_residual-in_err-step.result (unchanged_joined c.loop-walker.invariant.same c.in_err-step.ensures.same).store.reads.failures
+    (never_io t c.args.cred.now c.args.number c.args.cwd c.args.form c.args.path.now) (returns-in_err-step-clause-each g c t tree.1 tree.2)
+
+pub returns-then-not-branch-clause-each : goal.returns-then-not-branch-clause-each
+returns-then-not-branch-clause-each g c = λ t h there.
+    let old = g.S.Sectors.state c.args.s.now in
+    let inv = c.loop-walker.invariant in
+    let w = c.loop-walker.walker in
+    let mid = c.next.new.self in
+    let taken = subst (IsNextOf w mid) c.if-branch.true c.in_ok-next.ensures in
+    let e = inv.each t h there in
+    let stage = e.0 ∙ taken_stage t c.args.cred.now c.args.form c.follows_last-follow.result w mid taken in
+    let held = kept (λ m. HoldsTree c.args.place m t) inv.same h in
+    let here = here_taken w mid t taken e.1 in
+    let cur = g.S.Sectors.state c.loop-walker.s in
+    let new = g.S.Sectors.state c.step.new.s in
+    let s = subst (λ (b : Bool). IsStep cur.disk new.disk t c.args.cred.now c.args.form c.follows_last-follow.result mid c.step.new.self (Ok b)) c.if-not-branch.true
+    (c.in_ok-step.ensures.each t held here c.args.form) in
+    stage ∙ s ∙ ap (λ (f : Found). Ok f) (sym c.found.ensures)
+
+pub returns-then-not-branch-clause-same : goal.returns-then-not-branch-clause-same
+returns-then-not-branch-clause-same g c = unchanged_joined c.loop-walker.invariant.same c.in_ok-step.ensures.same
+
+pub returns-then-not-branch-clause-cause : goal.returns-then-not-branch-clause-cause
+returns-then-not-branch-clause-cause g c =
+    let tree = c.requires.tree in
+    let t = tree.0 in
+    let old = g.S.Sectors.state c.args.s.now in
+    let new = g.S.Sectors.state c.step.new.s in
+    cause_is old.disk new.disk (walk_of t c.args.cred.now c.args.number c.args.form c.args.cwd c.args.path.now)
+    (Ok c.found.result) (unchanged_joined c.loop-walker.invariant.same c.in_ok-step.ensures.same).store.reads.failures
+    (never_io t c.args.cred.now c.args.number c.args.cwd c.args.form c.args.path.now) (returns-then-not-branch-clause-each g c t tree.1 tree.2)
+
+pub loop-walker-smaller : goal.loop-walker-smaller
+loop-walker-smaller g c =
+    let w = c.loop-walker.walker in
+    let mid = c.next.new.self in
+    let taken = subst (IsNextOf w mid) c.if-branch.true c.in_ok-next.ensures in
+    goes_less w mid c.step.new.self c.loop-walker.invariant.room taken c.in_ok-step.ensures.way
+
+pub loop-walker-preserved : goal.loop-walker-preserved
+loop-walker-preserved g c =
+    let old = g.S.Sectors.state c.args.s.now in
+    let inv = c.loop-walker.invariant in
+    let w = c.loop-walker.walker in
+    let mid = c.next.new.self in
+    let taken = subst (IsNextOf w mid) c.if-branch.true c.in_ok-next.ensures in
+    record {
+      same = unchanged_joined inv.same c.in_ok-step.ensures.same;
+      at = kept_back (λ m. IsAt c.args.place m c.step.new.self) inv.same c.in_ok-step.ensures.at;
+      room = room_after w mid c.step.new.self inv.room taken c.in_ok-step.ensures.way;
+      each = λ t h there.
+          let e = inv.each t h there in
+          let stage = e.0 ∙ taken_stage t c.args.cred.now c.args.form c.follows_last-follow.result w mid taken in
+          let held = kept (λ m. HoldsTree c.args.place m t) inv.same h in
+          let here = here_taken w mid t taken e.1 in
+          let cur = g.S.Sectors.state c.loop-walker.s in
+          let new = g.S.Sectors.state c.step.new.s in
+          let s = subst (λ (b : Bool). IsStep cur.disk new.disk t c.args.cred.now c.args.form c.follows_last-follow.result mid c.step.new.self (Ok b)) c.if-not-branch.false
+          (c.in_ok-step.ensures.each t held here c.args.form) in
+          (stage ∙ s.0, s.1);
+    }
+
+-- ---- the end
+pub returns-in_err-found-clause-each : goal.returns-in_err-found-clause-each
+returns-in_err-found-clause-each g c = λ t h there.
+    let old = g.S.Sectors.state c.args.s.now in
+    let inv = c.loop-walker.invariant in
+    let w = c.loop-walker.walker in
+    let mid = c.next.new.self in
+    let none = subst (IsNextOf w mid) c.if-branch.false c.in_ok-next.ensures in
+    let e = inv.each t h there in
+    let stage = e.0 ∙ end_stage t c.args.cred.now c.args.form c.args.place old.sectors c.follows_last-follow.result w h inv.at e.1 none.0
+    ∙ ap (arrival_of c.args.form) (sym none.1) ∙ sym c.arrive.ensures in
+    let cur = g.S.Sectors.state c.loop-walker.s in
+    let r = c.from_residual-in_err-found.ensures in
+    answered_err old.disk cur.disk (walk_of t c.args.cred.now c.args.number c.args.form c.args.cwd c.args.path.now)
+    c.from_residual-in_err-found.result c.in_err-found.field-0.0 r.0 r.1 (inl (stage ∙ c.in_err-found.was))
+
+pub returns-in_err-found-clause-same : goal.returns-in_err-found-clause-same
+returns-in_err-found-clause-same g c = c.loop-walker.invariant.same
+
+pub returns-in_err-found-clause-cause : goal.returns-in_err-found-clause-cause
+returns-in_err-found-clause-cause g c =
+    let tree = c.requires.tree in
+    let t = tree.0 in
+    let old = g.S.Sectors.state c.args.s.now in
+    let new = g.S.Sectors.state c.loop-walker.s in
+    cause_is old.disk new.disk (walk_of t c.args.cred.now c.args.number c.args.form c.args.cwd c.args.path.now)
+    c.from_residual-in_err-found.result (c.loop-walker.invariant.same).store.reads.failures
+    (never_io t c.args.cred.now c.args.number c.args.cwd c.args.form c.args.path.now) (returns-in_err-found-clause-each g c t tree.1 tree.2)
+
+pub returns-clause-each : goal.returns-clause-each
+returns-clause-each g c = λ t h there.
+    let old = g.S.Sectors.state c.args.s.now in
+    let inv = c.loop-walker.invariant in
+    let w = c.loop-walker.walker in
+    let mid = c.next.new.self in
+    let none = subst (IsNextOf w mid) c.if-branch.false c.in_ok-next.ensures in
+    let e = inv.each t h there in
+    let stage = e.0 ∙ end_stage t c.args.cred.now c.args.form c.args.place old.sectors c.follows_last-follow.result w h inv.at e.1 none.0
+    ∙ ap (arrival_of c.args.form) (sym none.1) ∙ sym c.arrive.ensures in
+    stage ∙ c.in_ok-found.was
+
+pub returns-clause-same : goal.returns-clause-same
+returns-clause-same g c = c.loop-walker.invariant.same
+
+pub returns-clause-cause : goal.returns-clause-cause
+returns-clause-cause g c =
+    let tree = c.requires.tree in
+    let t = tree.0 in
+    let old = g.S.Sectors.state c.args.s.now in
+    let new = g.S.Sectors.state c.loop-walker.s in
+    cause_is old.disk new.disk (walk_of t c.args.cred.now c.args.number c.args.form c.args.cwd c.args.path.now)
+    (Ok c.in_ok-found.found) (c.loop-walker.invariant.same).store.reads.failures
+    (never_io t c.args.cred.now c.args.number c.args.cwd c.args.form c.args.path.now) (returns-clause-each g c t tree.1 tree.2)

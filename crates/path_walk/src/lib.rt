@@ -1,0 +1,21 @@
+//! Paths, walked over the inodes and directories on a disk: path_resolution(7).
+//!
+//! What a walk answers is what the tree's trail says: its first refusal, or what it finds. Memory that is lacking and a
+//! read that fails are told by ENOMEM and EIO, where nothing earlier has refused. Nothing is written.
+#![tactic(auto)]
+
+mod access;
+mod components;
+mod laws;
+mod links;
+mod paths;
+mod reads;
+mod walker;
+mod walks;
+
+pub use access::permission;
+pub use laws::inodes_say_what_stands;
+pub use links::read_target;
+pub use paths::{MAX_PATH, check_path};
+pub use walker::MAX_LINKS;
+pub use walks::walk;

@@ -1,0 +1,59 @@
+//! Inodes and names, as a walk reads them.
+
+ghost use Rattle.std.specs.Prelude.{◌≡◌, ◌<◌, Ok};
+ghost use Rattle.fs_layout.specs.Images.{inode_at};
+ghost use Rattle.fs_model.specs.Nodes.{names_in};
+ghost use Rattle.fs_model.specs.Trails.{named_inode};
+ghost use Rattle.fs_model.specs.Trees.{Tree, IsDirectoryAt};
+ghost use Rattle.sector_txn.specs.Sectors.{IsUnchanged};
+ghost use Rattle.bit_alloc.specs.Inodes.{IsSound};
+ghost use Rattle.path_walk.specs.Answers.{IsAnswered};
+ghost use Rattle.path_walk.specs.HeldTrees.{HoldsTree};
+
+use crate::components::{is_dot, is_dot_dot};
+use dir_core::lookup;
+use fs_cred::{Errno, Refusal};
+use fs_layout::{Inode, Place};
+use inode_table::load;
+use sector_txn::Sectors;
+
+/// Reads inode n.
+pub(crate) fn load_inode<S: Sectors>(s: &mut S, place: Place, n: u32) -> Result<Inode, Refusal>
+    requires sound { IsSound place (S.state s.old) }
+    requires below { n < place.inodes }
+    ensures each { IsAnswered (S.state s.old).disk (S.state s.new).disk (Ok (inode_at place (S.state s.old).sectors n)) result }
+    ensures same { IsUnchanged (S.state s.old) (S.state s.new) }
+{
+    match load(s, place, n) {
+        Ok(inode) => Ok(inode),
+        Err(_) => Err(Refusal::Failed(Errno::EIO)),
+    }
+}
+
+/// What a component leads to in directory n, whose inode this is.
+pub(crate) fn find<S: Sectors>(
+    s: &mut S,
+    place: Place,
+    n: u32,
+    inode: &Inode,
+    name: &[u8],
+) -> Result<Option<u32>, Refusal>
+    requires sound { IsSound place (S.state s.old) }
+    requires below { n < place.inodes }
+    requires inode { inode.now ≡ inode_at place (S.state s.old).sectors n }
+    requires tree { (t : Tree) × HoldsTree place (S.state s.old).sectors t × IsDirectoryAt t n }
+    ensures each { (t : Tree) → HoldsTree place (S.state s.old).sectors t → (d : IsDirectoryAt t n)
+        → IsAnswered (S.state s.old).disk (S.state s.new).disk (Ok (named_inode t n (names_in d.node.body) name.now)) result }
+    ensures same { IsUnchanged (S.state s.old) (S.state s.new) }
+{
+    if is_dot(name) {
+        return Ok(Some(n));
+    }
+    if is_dot_dot(name) {
+        return Ok(Some(inode.parent));
+    }
+    match lookup(s, place, inode, name) {
+        Ok(found) => Ok(found),
+        Err(_) => Err(Refusal::Failed(Errno::EIO)),
+    }
+}

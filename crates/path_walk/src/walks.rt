@@ -1,0 +1,52 @@
+//! The walk of a path.
+
+ghost use Rattle.std.specs.Prelude.{◌≡◌, ◌≤◌, length};
+ghost use Rattle.fs_model.specs.Limits.{path_limit};
+ghost use Rattle.fs_model.specs.Trees.{Tree};
+ghost use Rattle.sector_txn.specs.Sectors.{IsUnchanged};
+ghost use Rattle.bit_alloc.specs.Inodes.{IsSound};
+ghost use Rattle.bit_alloc.specs.Faults.{HasCauseOf};
+ghost use Rattle.path_walk.specs.Answers.{IsAnswered};
+ghost use Rattle.path_walk.specs.HeldTrees.{HoldsTree, IsThere};
+ghost use Rattle.path_walk.specs.Walked.{walk_of};
+
+use crate::components::follows_last;
+use crate::walker::Walker;
+use fs_cred::{Cred, Errno, Refusal};
+use fs_layout::Place;
+use fs_model::{Form, Found, Path};
+use sector_txn::Sectors;
+use std::alloc::Global;
+
+/// Walks a path from the directory `cwd`, as this caller: answers the first refusal of its trail, or what it finds.
+///
+/// `number` is the walk's number in a denial: 1 or 2. The bytes that are still to be walked are kept in memory: of a path of
+/// 1,023 bytes and 40 links at most 1,023 + 40 * 513. ENOMEM where they, a name or an ACL find none.
+pub fn walk<S: Sectors>(
+    alloc: Global,
+    s: &mut S,
+    place: Place,
+    cred: &Cred,
+    cwd: u32,
+    path: &Path,
+    form: Form,
+    number: u8,
+) -> Result<Found, Refusal>
+    requires sound { IsSound place (S.state s.old) }
+    requires tree { (t : Tree) × HoldsTree place (S.state s.old).sectors t × IsThere t cwd }
+    requires short { length path.now ≤ path_limit }
+    ensures each { (t : Tree) → HoldsTree place (S.state s.old).sectors t → IsThere t cwd
+        → IsAnswered (S.state s.old).disk (S.state s.new).disk (walk_of t cred.now number form cwd path.now) result }
+    ensures same { IsUnchanged (S.state s.old) (S.state s.new) }
+    ensures cause { HasCauseOf (Refusal.Failed Errno.EIO) (S.state s.old).disk (S.state s.new).disk result }
+{
+    let follow = follows_last(form, path.bytes());
+    let mut walker = Walker::start(alloc, s, place, cwd, path, number)?;
+    while walker.next()? {
+        if !walker.step(alloc, s, place, cred, follow)? {
+            return Ok(walker.found(None));
+        }
+    }
+    let found = walker.arrive(form)?;
+    Ok(found)
+}
