@@ -14,7 +14,7 @@ use Rattle.fs_model.specs.Limits.{processes_limit}
 use Rattle.fs_model.specs.Processes.{Descriptor, Process, Desks, descriptor, is_open}
 use Rattle.fs_model.proofs.StepsFit.{length-replaced}
 use Rattle.fs_model.proofs.StepsProcesses.{without-IsMap, in_without, in_with_entry, length-without}
-use Rattle.open_files.specs.Tables.{of_found, of_process, open_at, open_in, IsRunning, IsTable, with_changed, changed_where}
+use Rattle.open_files.specs.Tables.{answer_of_found, answer_of, open_at, open_in, IsKeptProcess, IsTable, with_changed, changed_where}
 use Rattle.open_files.proofs.Slots.{low, at_slot, slots_rise, Writes, filled, emptied, within, set_writes, absent, any_value, any_other, any_with_entry}
 
 -- ---- what stands at a number
@@ -76,22 +76,22 @@ not_changed desks pid f none = sym (ap (changed_where desks pid f) none)
 -- ---- it stays a table
 
 pub added_is_table : (desks : Desks) (pid : ℕ) (p : Process) → IsTable desks → get nat_cmp desks pid ≡ None → length desks < processes_limit
-    → IsRunning p → IsTable (with_entry nat_cmp desks pid p)
+    → IsKeptProcess p → IsTable (with_entry nat_cmp desks pid p)
 added_is_table desks pid p t none room runs = record {
   rising = with_entry-IsMap desks pid p t.rising;
   few =
       let count : length (with_entry nat_cmp desks pid p) ≡ length desks + 1 =
       length-with_entry desks pid p t.rising ∙ ap (λ o. cond (is_some o) (length desks) (length desks + 1)) none in
       omega (arith, count, room);
-  each = in_with_entry (λ _ q. IsRunning q) desks pid p runs t.each;
+  each = in_with_entry (λ _ q. IsKeptProcess q) desks pid p runs t.each;
 }
 
-pub changed_is_table : (desks : Desks) (pid : ℕ) (p q : Process) → IsTable desks → get nat_cmp desks pid ≡ Some p → IsRunning q
+pub changed_is_table : (desks : Desks) (pid : ℕ) (p q : Process) → IsTable desks → get nat_cmp desks pid ≡ Some p → IsKeptProcess q
     → IsTable (with_entry nat_cmp desks pid q)
 changed_is_table desks pid p q t there runs = record {
   rising = with_entry-IsMap desks pid q t.rising;
   few = let same = length-replaced desks pid p q t.rising there in let few = t.few in omega (arith, same, few);
-  each = in_with_entry (λ _ r. IsRunning r) desks pid q runs t.each;
+  each = in_with_entry (λ _ r. IsKeptProcess r) desks pid q runs t.each;
 }
 
 pub without_is_table : (desks : Desks) (pid : ℕ) → IsTable desks → IsTable (without nat_cmp desks pid)
@@ -103,7 +103,7 @@ without_is_table desks pid t = record {
 
 -- the table of slots with one set
 pub set_is_table : (slots : List (Option Process)) (pid : ℕ) (p q : Process) → IsTable (entries_from 1 slots) → pid ≢ 0
-    → get_or slots (pid - 1) None ≡ Some p → IsRunning q → IsTable (entries_from 1 (set slots (pid - 1) (Some q)))
+    → get_or slots (pid - 1) None ≡ Some p → IsKeptProcess q → IsTable (entries_from 1 (set slots (pid - 1) (Some q)))
 set_is_table slots pid p q t some here runs =
     subst IsTable (sym (table_set slots pid p q some here))
     (changed_is_table (entries_from 1 slots) pid p q t (at_pid slots pid some ∙ here) runs)
@@ -136,26 +136,26 @@ open_besides desks pid p f ino t there =
 -- ---- an answer that needs a process
 
 pub without_process : {A : Type 0} (desks : Desks) (pid : ℕ) (f : Process → Result A Errno) → get nat_cmp desks pid ≡ None
-    → Err ESRCH ≡ of_process desks pid f
-without_process desks pid f none = sym (ap (of_found f) none)
+    → Err ESRCH ≡ answer_of desks pid f
+without_process desks pid f none = sym (ap (answer_of_found f) none)
 
 pub of_this_process : {A : Type 0} (desks : Desks) (pid : ℕ) (f : Process → Result A Errno) (p : Process) → get nat_cmp desks pid ≡ Some p
-    → f p ≡ of_process desks pid f
-of_this_process desks pid f p there = sym (ap (of_found f) there)
+    → f p ≡ answer_of desks pid f
+of_this_process desks pid f p there = sym (ap (answer_of_found f) there)
 
 -- an answer says that the process is there
-pub answered : {A : Type 0} (desks : Desks) (pid : ℕ) (f : Process → Result A Errno) → is_ok (of_process desks pid f) ≡ true
+pub answered : {A : Type 0} (desks : Desks) (pid : ℕ) (f : Process → Result A Errno) → is_ok (answer_of desks pid f) ≡ true
     → is_some (get nat_cmp desks pid) ≡ true
 answered {A} desks pid f h = go (get nat_cmp desks pid) h
   where
-    go : (o : Option Process) → is_ok (of_found f o) ≡ true → is_some o ≡ true
+    go : (o : Option Process) → is_ok (answer_of_found f o) ≡ true → is_some o ≡ true
     go None h = absurd cc
     go (Some p) h = refl
 
 -- a descriptor of the process that is there is open
 pub open_here : (desks : Desks) (pid fd : ℕ) (p : Process) → is_ok (open_in desks pid fd) ≡ true → get nat_cmp desks pid ≡ Some p
     → is_some (descriptor p fd) ≡ true
-open_here desks pid fd p h there = go (descriptor p fd) (ap (λ o. is_ok (of_found (open_at fd) o)) (sym there) ∙ h)
+open_here desks pid fd p h there = go (descriptor p fd) (ap (λ o. is_ok (answer_of_found (open_at fd) o)) (sym there) ∙ h)
   where
     go : (o : Option Descriptor) → is_ok {E = Errno} (ok_or o EBADF) ≡ true → is_some o ≡ true
     go None e = absurd cc
@@ -198,7 +198,7 @@ module _ (slots : List (Option Process)) (desks : Desks) (v : entries_from 1 slo
       ∙ ap (λ m. with_changed m pid f) v
 
   pub filled_is_table : (new : List (Option Process)) (key : ℕ) (p : Process) → IsTable (entries_from 1 slots) → Writes slots new key (Some p)
-      → get_or slots key None ≡ None → length desks < processes_limit → IsRunning p → IsTable (entries_from 1 new)
+      → get_or slots key None ≡ None → length desks < processes_limit → IsKeptProcess p → IsTable (entries_from 1 new)
   filled_is_table new key p t w none room runs =
       subst IsTable (sym (added new key p w)) (added_is_table desks (key + 1) p (subst IsTable v t) (at_key key ∙ none) room runs)
 

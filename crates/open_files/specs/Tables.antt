@@ -1,9 +1,9 @@
 -- What is asked of the table of processes, and what holds of it.
---     of_process        an answer that needs a process: ESRCH without it
+--     answer_of        an answer that needs a process: ESRCH without it
 --     open_in, slot_in        what a descriptor is for, and the descriptor that an open gets
 --     with_changed, without_descriptor        one process changed; one descriptor closed
 --     IsUnused        a process may open something at a descriptor
---     AreDescriptors, IsRunning, IsTable        what holds of every table
+--     AreDescriptors, IsKeptProcess, IsTable        what holds of every table
 use Rattle.std.specs.Prelude.{◌≡◌, ℕ, ◌<◌, ◌≤◌, nat_le, List, length, if◌then◌else◌, Option, None, Some, Result, Err}
 use Rattle.std.specs.Option.{ok_or}
 use Rattle.std.specs.Ordering.{nat_cmp}
@@ -15,31 +15,31 @@ use Rattle.fs_model.specs.Processes.{Descriptor, Process, Desks, descriptor, lea
 
 -- ---- answers
 
-abbrev pub of_found : {A : Type 0} → (Process → Result A Errno) → Option Process → Result A Errno
-of_found f None = Err ESRCH
-of_found f (Some p) = f p
+abbrev pub answer_of_found : {A : Type 0} → (Process → Result A Errno) → Option Process → Result A Errno
+answer_of_found f None = Err ESRCH
+answer_of_found f (Some p) = f p
 
 -- ESRCH: there is no such process
-abbrev pub of_process : {A : Type 0} → Desks → ℕ → (Process → Result A Errno) → Result A Errno
-of_process desks pid f = of_found f (get nat_cmp desks pid)
+abbrev pub answer_of : {A : Type 0} → Desks → ℕ → (Process → Result A Errno) → Result A Errno
+answer_of desks pid f = answer_of_found f (get nat_cmp desks pid)
 
 -- EBADF: not open
 abbrev pub open_at : ℕ → Process → Result Descriptor Errno
 open_at fd p = ok_or (descriptor p fd) EBADF
 
 abbrev pub open_in : Desks → ℕ → ℕ → Result Descriptor Errno
-open_in desks pid fd = of_process desks pid (open_at fd)
+open_in desks pid fd = answer_of desks pid (open_at fd)
 
 -- the least unused number, where not all are used
 abbrev pub lowest : {X : Type 0} → List (ℕ × X) → Option ℕ
 lowest m = if nat_le descriptors_limit (length m) then None else Some (least_unused 0 m)
 
 -- EMFILE: all are used
-abbrev pub slot_of : Process → Result ℕ Errno
-slot_of p = ok_or (lowest p.descriptors) EMFILE
+abbrev pub lowest_slot : Process → Result ℕ Errno
+lowest_slot p = ok_or (lowest p.descriptors) EMFILE
 
 abbrev pub slot_in : Desks → ℕ → Result ℕ Errno
-slot_in desks pid = of_process desks pid slot_of
+slot_in desks pid = answer_of desks pid lowest_slot
 
 -- the process is there, and may open something at the descriptor
 pub record IsUnused (desks : Desks) (pid fd : ℕ) : Type 0 where
@@ -67,11 +67,11 @@ pub record AreDescriptors (m : List (ℕ × Descriptor)) : Type 0 where
   pub rising : IsMap nat_cmp m
   pub below : (fd : ℕ) (d : Descriptor) → get nat_cmp m fd ≡ Some d → fd < descriptors_limit
 
-pub record IsRunning (p : Process) : Type 0 where
+pub record IsKeptProcess (p : Process) : Type 0 where
   pub umask : p.umask < 512
   pub descriptors : AreDescriptors p.descriptors
 
 pub record IsTable (desks : Desks) : Type 0 where
   pub rising : IsMap nat_cmp desks
   pub few : length desks ≤ processes_limit
-  pub each : (pid : ℕ) (p : Process) → get nat_cmp desks pid ≡ Some p → IsRunning p
+  pub each : (pid : ℕ) (p : Process) → get nat_cmp desks pid ≡ Some p → IsKeptProcess p

@@ -32,20 +32,20 @@ impl Model for Process {
 
     ghost Value = { Running };
 
-    ghost use Rattle.open_files.specs.Tables.{IsRunning};
+    ghost use Rattle.open_files.specs.Tables.{IsKeptProcess};
 
     ghost view = { λ p. record { cred = p.cred; umask = p.umask; cwd = p.cwd; descriptors = p.descriptors } };
 
-    ghost invariant = { λ p. IsRunning (record { cred = p.cred; umask = p.umask; cwd = p.cwd; descriptors = p.descriptors }) };
+    ghost invariant = { λ p. IsKeptProcess (record { cred = p.cred; umask = p.umask; cwd = p.cwd; descriptors = p.descriptors }) };
 }
 
 impl Process {
-    ghost use Rattle.open_files.specs.Tables.{IsRunning, lowest, without_descriptor};
+    ghost use Rattle.open_files.specs.Tables.{IsKeptProcess, lowest, without_descriptor};
 
     // A process as it begins: at the root, with nothing open.
     pub(crate) fn new(cred: Cred) -> Process
         ensures begun { result ≡ new_process cred }
-        ensures kept { IsRunning result }
+        ensures kept { IsKeptProcess result }
     {
         Process {
             cred,
@@ -80,7 +80,7 @@ impl Process {
     pub(crate) fn set_umask(&mut self, mask: u16) -> u16
         ensures old { result ≡ self.old.umask }
         ensures set { self.new ≡ record self.old { umask = mask % 512 } }
-        ensures kept { IsRunning self.new }
+        ensures kept { IsKeptProcess self.new }
     {
         let old = self.umask;
         self.umask = mask & MASKED;
@@ -89,7 +89,7 @@ impl Process {
 
     pub(crate) fn set_cwd(&mut self, ino: u32)
         ensures set { self.new ≡ record self.old { cwd = ino } }
-        ensures kept { IsRunning self.new }
+        ensures kept { IsKeptProcess self.new }
     {
         self.cwd = ino;
     }
@@ -113,7 +113,7 @@ impl Process {
     pub(crate) fn open(&mut self, fd: usize, descriptor: Descriptor)
         requires { fd < descriptors_limit }
         ensures put { self.new ≡ with_descriptor self.old fd descriptor }
-        ensures kept { IsRunning self.new }
+        ensures kept { IsKeptProcess self.new }
     {
         self.descriptors.put(fd, descriptor);
     }
@@ -121,7 +121,7 @@ impl Process {
     pub(crate) fn seek(&mut self, fd: usize, offset: u64)
         requires { IsSome (descriptor self.old fd) }
         ensures moved { self.new ≡ with_offset self.old fd offset }
-        ensures kept { IsRunning self.new }
+        ensures kept { IsKeptProcess self.new }
     {
         if let Some(descriptor) = self.descriptors.get(fd) {
             let moved = Descriptor {
@@ -135,7 +135,7 @@ impl Process {
     pub(crate) fn close(&mut self, fd: usize)
         requires { IsSome (descriptor self.old fd) }
         ensures closed { self.new ≡ without_descriptor self.old fd }
-        ensures kept { IsRunning self.new }
+        ensures kept { IsKeptProcess self.new }
     {
         self.descriptors.remove(fd);
     }

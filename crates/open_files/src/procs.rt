@@ -6,7 +6,7 @@ ghost use Rattle.fs_cred.specs.declared.errno.Errno.TheVariants.{ESRCH, EAGAIN, 
 ghost use Rattle.fs_layout.specs.Maps.{get, with_entry, without};
 ghost use Rattle.fs_model.specs.Limits.{processes_limit};
 ghost use Rattle.fs_model.specs.Processes.{new_process, with_descriptor, with_offset, is_open, is_in_use};
-ghost use Rattle.open_files.specs.Tables.{of_process, open_in, slot_in, IsUnused, with_changed, without_descriptor, IsTable};
+ghost use Rattle.open_files.specs.Tables.{answer_of, open_in, slot_in, IsUnused, with_changed, without_descriptor, IsTable};
 
 use crate::descriptor::Descriptor;
 use crate::process::Process;
@@ -72,7 +72,7 @@ impl Procs {
 
     /// Takes a process away, with all that it has open. `ESRCH`: there is none.
     pub fn exit(&mut self, pid: usize) -> Result<(), Errno>
-        ensures answer { result ≡ of_process self.old pid (λ p. Ok tt) }
+        ensures answer { result ≡ answer_of self.old pid (λ p. Ok tt) }
         ensures gone { self.new ≡ without nat_cmp self.old pid }
     {
         let slab = &mut self.slab;
@@ -105,7 +105,7 @@ impl Procs {
 
     /// Sets the umask of a process to the bits 0777 of `mask`, and answers the old one. `ESRCH`: there is no such process.
     pub fn umask(&mut self, pid: usize, mask: u16) -> Result<u16, Errno>
-        ensures answer { result ≡ of_process self.old pid (λ p. Ok p.umask) }
+        ensures answer { result ≡ answer_of self.old pid (λ p. Ok p.umask) }
         ensures set { self.new ≡ with_changed self.old pid (λ p. record p { umask = mask % 512 }) }
     {
         let slab = &mut self.slab;
