@@ -40,7 +40,7 @@ module _ (room : Room) (t : Tree) (is : IsTree room t) where
     | inr ne ↦ named_by t d is.numbers ne
   ]
 
-  start_there : (parts : Parts) (dir : ℕ) → IsThere t dir → IsThere t (start_of parts dir)
+  pub start_there : (parts : Parts) (dir : ℕ) → IsThere t dir → IsThere t (start_of parts dir)
   start_there parts dir there = go parts.absolute
     where
       go : (b : Bool) → IsThere t (cond b root dir)
@@ -53,7 +53,7 @@ module _ (room : Room) (t : Tree) (is : IsTree room t) where
   entry_there (Dir a d) name n h e = (h.2.each name n e).leads.1
   entry_there (Link target) name n h e = absurd cc
 
-  number_there : (dir : ℕ) (node : Node) (name : List ℕ) (n : ℕ) → node_at t dir ≡ Some node
+  pub number_there : (dir : ℕ) (node : Node) (name : List ℕ) (n : ℕ) → node_at t dir ≡ Some node
       → named_inode t dir (names_in node.body) name ≡ Some n → IsThere t n
   number_there dir node name n at e = go (is_dot name) (is_dot_dot name) e
     where
@@ -84,7 +84,7 @@ module _ (room : Room) (t : Tree) (is : IsTree room t) where
   arrival_reached false follow None h = tt
   arrival_reached is_last follow (Some n) h = node_reached (follow || not is_last) n (node_at t n) (h n refl)
 
-  lookup_reached : (is_last follow : Bool) (dir : ℕ) (name : List ℕ) (o : Option Node) → node_at t dir ≡ o → Reached (looked_up t is_last follow dir name o)
+  pub lookup_reached : (is_last follow : Bool) (dir : ℕ) (name : List ℕ) (o : Option Node) → node_at t dir ≡ o → Reached (looked_up t is_last follow dir name o)
   lookup_reached is_last follow dir name None at = tt
   lookup_reached is_last follow dir name (Some node) at = go (is_directory node.body) (nat_lt name_limit (length name))
     where
