@@ -1,24 +1,21 @@
 //! A walk on its way.
 
-ghost use Rattle.std.specs.Prelude.{◌≡◌, ◌<◌, ◌≤◌, ◌+◌, ◌^◌, ◌++◌, ◌⊎◌, ◌∷◌, ◌&&◌, ◌||◌, not, ℕ, List, true, false, None, Some, Ok, IsTrue, IfOk, IfErr, OnOk, length, MatchResult};
-ghost use Rattle.fs_cred.specs.Credentials.{Credential};
+ghost use Rattle.std.specs.Prelude.{◌≡◌, ◌<◌, ◌≤◌, ◌+◌, ◌^◌, ◌++◌, ◌⊎◌, ◌∷◌, ◌&&◌, ◌||◌, not, ℕ, List, true, false, Some, Ok, IfOk, IfErr, OnOk, length, MatchResult};
 ghost use Rattle.fs_cred.specs.declared.refusal.Refusal.{Refusal};
 ghost use Rattle.fs_model.specs.declared.walk.Form.{Form};
-ghost use Rattle.fs_model.specs.Nodes.{Node, Link};
-ghost use Rattle.fs_model.specs.Parts.{parts_of, start_of, is_empty};
-ghost use Rattle.fs_model.specs.Trees.{Tree, node_at};
+ghost use Rattle.fs_model.specs.Parts.{is_empty};
+ghost use Rattle.fs_model.specs.Trees.{Tree};
 ghost use Rattle.fs_model.specs.Summaries.{is_link_kind};
 ghost use Rattle.fs_model.specs.Rules.{is_directory_kind};
-ghost use Rattle.sector_disk.specs.Disk.{DiskState};
 ghost use Rattle.sector_txn.specs.Sectors.{IsUnchanged};
 ghost use Rattle.bit_alloc.specs.Inodes.{IsSound};
 ghost use Rattle.inode_table.specs.Inodes.{IsInodeOf};
 ghost use Rattle.fs_layout.specs.Images.{Holds};
-ghost use Rattle.path_walk.specs.Answers.{Interrupts, IsAnswered, refused_or};
+ghost use Rattle.path_walk.specs.Answers.{Interrupts, IsAnswered};
 ghost use Rattle.path_walk.specs.HeldTrees.{HoldsTree, IsThere};
 ghost use Rattle.path_walk.specs.Lookups.{lookup_of};
 ghost use Rattle.path_walk.specs.Rests.{found_at, last_of_walk};
-ghost use Rattle.path_walk.specs.Stages.{names_ahead, last_done, stage_of, IsAt, bytes_ahead, HasRoom, IsNextOf, IsStart, IsBehind, IsStep, IsWay, arrival_of};
+ghost use Rattle.path_walk.specs.Stages.{names_ahead, last_done, IsAt, IsNextOf, IsStart, IsBehind, IsStep, IsWay, arrival_of};
 
 use crate::access::search;
 use crate::components::{

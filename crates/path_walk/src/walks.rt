@@ -1,6 +1,6 @@
 //! The walk of a path.
 
-ghost use Rattle.std.specs.Prelude.{◌≡◌, ◌≤◌, length};
+ghost use Rattle.std.specs.Prelude.{◌≤◌, length};
 ghost use Rattle.fs_model.specs.Limits.{path_limit};
 ghost use Rattle.fs_model.specs.Trees.{Tree};
 ghost use Rattle.sector_txn.specs.Sectors.{IsUnchanged};
