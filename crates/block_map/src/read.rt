@@ -1,6 +1,6 @@
 //! Reading.
 
-ghost use Rattle.std.specs.Prelude.{◌≡◌, ℕ, List, IfOk};
+ghost use Rattle.std.specs.Prelude.{◌≡◌, ◌≤◌, ℕ, List, length, IfOk};
 ghost use Rattle.sector_disk.specs.Disk.{HasCause};
 ghost use Rattle.fs_layout.specs.Images.{Holds};
 ghost use Rattle.sector_txn.specs.Sectors.{IsUnchanged};
@@ -23,6 +23,7 @@ pub fn read_at<S: Sectors>(
     requires within { IsWithin (S.state s.old).disk.size (S.state s.old).sectors inode.now }
     ensures bytes { IfOk result (λ count. (bytes : List ℕ) → Holds (S.state s.old).sectors inode.now bytes
         → IsReadOf bytes offset to.old to.new count) }
+    ensures few { IfOk result (λ count. count ≤ length to.old) }
     ensures same { IsUnchanged (S.state s.old) (S.state s.new) }
     ensures cause { HasCause (S.state s.old).disk (S.state s.new).disk result }
 {

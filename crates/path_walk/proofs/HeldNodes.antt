@@ -51,7 +51,7 @@ kind_says image v (Dir a d) h = ap is_directory_kind h.names.kind
 kind_says image v (Link target) h = ap is_directory_kind h.kind
 
 -- what access is decided on
-access_says : (image : SectorMap) (v : Inode) (owner group : ℕ) (b : Body) (x : AccessNode) → v.uid ≡ owner → v.gid ≡ group → v.mode ≡ shown_mode b
+pub access_says : (image : SectorMap) (v : Inode) (owner group : ℕ) (b : Body) (x : AccessNode) → v.uid ≡ owner → v.gid ≡ group → v.mode ≡ shown_mode b
     → HoldsBody image v b → accessed_body owner group b ≡ Some x → HasAccess image v x
 access_says image v owner group (File a bytes) x o g m h e =
     let is : record { kind = nodes.File; owner = owner; group = group; acl = a } ≡ x = cc in

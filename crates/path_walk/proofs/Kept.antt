@@ -1,17 +1,20 @@
 -- What reads leave as it was.
-use Rattle.std.proofs.Common.{◌≡◌, Result, Ok, Err, sym, ap, subst, arith, inl, inr, ◌⊎◌}
-use Rattle.std.specs.Prelude.{IsErr, IsErrAnd, OnOk, MatchResult}
+use Rattle.std.proofs.Common.{◌≡◌, ◌≤◌, ◌∙◌, Result, Ok, Err, sym, ap, subst, arith, inl, inr, ◌⊎◌}
+use Rattle.std.specs.Prelude.{IsErr, IsErrAnd, IfOk, IfErr, OnOk, MatchResult}
 use Rattle.sector_disk.specs.Disk.{DiskState}
 use Rattle.sector_disk.proofs.Moments.{failed_later}
+use Rattle.fs_cred.specs.declared.errno.Errno.TheVariants.{EIO, ELOOP, ENOMEM}
 use Rattle.fs_cred.specs.declared.refusal.Refusal.{Refusal}
+use Rattle.fs_cred.specs.declared.refusal.Refusal.TheVariants.{Failed}
 use Rattle.fs_layout.specs.declared.place.Place.{Place}
 use Rattle.fs_layout.specs.Bytes.{SectorMap}
 use Rattle.fs_layout.specs.Images.{HasWholeTables}
 use Rattle.fs_layout.specs.Ownership.{IsConsistent}
 use Rattle.sector_txn.specs.Sectors.{TxnState, IsUnchanged}
+use Rattle.bit_alloc.specs.Faults.{HasCauseOf}
 use Rattle.bit_alloc.specs.Bitmaps.{HasRestSet}
 use Rattle.bit_alloc.specs.Inodes.{IsSound}
-use Rattle.path_walk.specs.Answers.{Interrupts, IsAnswered}
+use Rattle.path_walk.specs.Answers.{Interrupts, IsCaused, IsAnswered}
 
 -- the map is the same
 pub same_map : {old new : TxnState} → IsUnchanged old new → new.sectors ≡ old.sectors
@@ -72,3 +75,31 @@ on_err P (Err e) err = tt
 pub matched_err : {A : Type 0} (r : Result A Refusal) (e : Refusal) (P : A → Type 0) (Q : Refusal → Type 0) → IsErr r → IsErrAnd r (λ y. y ≡ e) → Q e
     → MatchResult r P Q
 matched_err r e P Q err and q = subst (λ (s : Result _ Refusal). MatchResult s P Q) (sym (is_err r e err and)) q
+
+pub failed_with : {A : Type 0} (r : Result A Refusal) (e : Refusal) (P : Refusal → Type 0) → IsErr r → IsErrAnd r (λ y. y ≡ e) → P e → IfErr r P
+failed_with r e P err and h = subst (λ (s : Result _ Refusal). IfErr s P) (sym (is_err r e err and)) h
+
+-- ---- causes
+pub interrupt_caused : (old new : DiskState) (e : Refusal) → Interrupts old new e → IsCaused old new e
+interrupt_caused old new e way is = elim way [
+  | inl memory ↦ absurd (let both : Failed ENOMEM ≡ Failed EIO = sym memory ∙ is in cc)
+  | inr read ↦ read.1
+]
+
+-- as does what follows a link
+pub loop_caused : (old new : DiskState) (e : Refusal) (P : Type 0) → (P × (e ≡ Failed ELOOP)) ⊎ Interrupts old new e → IsCaused old new e
+loop_caused old new e P way is = elim way [
+  | inl loop ↦ absurd (let both : Failed ELOOP ≡ Failed EIO = sym loop.1 ∙ is in cc)
+  | inr other ↦ interrupt_caused old new e other is
+]
+
+pub caused_later : {old mid : TxnState} {e : Refusal} (new : DiskState) → IsUnchanged old mid → IsCaused mid.disk new e → IsCaused old.disk new e
+caused_later {old} {mid} new same cause is = failed_later old.disk mid.disk new same.store.reads.failures (cause is)
+
+pub cause_of : {A : Type 0} (old new : DiskState) (r : Result A Refusal) (e : Refusal) → old.failures ≤ new.failures → IsErr r → IsErrAnd r (λ y. y ≡ e)
+    → IsCaused old new e → HasCauseOf (Failed EIO) old new r
+cause_of old new r e later err and cause = record { later = later; failed = failed_with r e (IsCaused old new) err and cause }
+
+pub if_err : {A : Type 0} (P : A → Type 0) (r : Result A Refusal) → IsErr r → IfOk r P
+if_err P (Ok x) err = absurd (ok_is_no_err x err)
+if_err P (Err e) err = tt

@@ -2,6 +2,7 @@ pub mod Kept
 pub mod Onward
 pub mod Cutting
 pub mod HeldNodes
+pub mod HeldInodes
 pub mod Staging
 pub mod Walking
 pub mod Stepping

@@ -1,6 +1,7 @@
 -- What a call that asks the tree on a disk answers.
 --     refused_or        an answer, unless something refuses before it
 --     Interrupts        memory is lacking, or the disk has failed
+--     IsCaused        EIO only where the disk has failed
 --     IsAnswered        the right answer, or one of these in its place
 use Rattle.std.specs.Prelude.{◌≡◌, ◌⊎◌, None, Some, Result, Ok, Err}
 use Rattle.sector_disk.specs.Disk.{DiskState, HasFailed}
@@ -17,6 +18,10 @@ refused_or (Some refusal) answer = Err refusal
 -- what may stand in place of an answer: memory is lacking, or the disk has failed since
 abbrev pub Interrupts : DiskState → DiskState → Refusal → Type 0
 Interrupts old new refusal = (refusal ≡ Failed ENOMEM) ⊎ ((refusal ≡ Failed EIO) × HasFailed old new)
+
+-- where it is EIO, the disk has failed since
+abbrev pub IsCaused : DiskState → DiskState → Refusal → Type 0
+IsCaused old new refusal = refusal ≡ Failed EIO → HasFailed old new
 
 -- the answer, or what may stand in its place
 abbrev pub IsAnswered : {A : Type 0} → DiskState → DiskState → Result A Refusal → Result A Refusal → Type 0

@@ -11,6 +11,7 @@ use Rattle.fs_model.specs.Rules.{is_directory_kind}
 use Rattle.fs_model.specs.StoredNodes.{HoldsNode}
 use Rattle.fs_model.specs.Trees.{Tree, node_at, names_of, parent, IsDirectoryAt}
 use Rattle.path_walk.specs.HeldTrees.{HoldsTree, IsThere, HasAccess}
+use Rattle.path_walk.specs.SoundInodes.{HasSoundInodes}
 
 -- What stands at a number has it below the count of inodes,
 abbrev pub NumbersAreBelow : Type 0
@@ -45,3 +46,7 @@ abbrev pub TargetsAreHeld : Type 0
 TargetsAreHeld =
     (p : Place) (image : SectorMap) (t : Tree) (n : ℕ) (node : Node) (target : List ℕ) → HoldsTree p image t → node_at t n ≡ Some node
     → node.body ≡ Link target → Holds image (inode_at p image n) target
+
+-- So its inodes are as a walk asks.
+abbrev pub InodesAreSound : Type 0
+InodesAreSound = (p : Place) (image : SectorMap) (t : Tree) → HoldsTree p image t → HasSoundInodes p image

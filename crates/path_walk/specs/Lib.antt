@@ -1,5 +1,6 @@
 pub mod Answers
 pub mod HeldTrees
+pub mod SoundInodes
 pub mod Walked
 pub mod Lookups
 pub mod Components

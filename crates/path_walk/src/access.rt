@@ -1,6 +1,6 @@
 //! Access decisions on files and directories of a disk.
 
-ghost use Rattle.std.specs.Prelude.{◌≡◌, Ok};
+ghost use Rattle.std.specs.Prelude.{◌≡◌, Ok, IfErr};
 ghost use Rattle.fs_cred.specs.declared.node.Node.{Node as AccessNode};
 ghost use Rattle.fs_cred.specs.declared.refusal.Need.TheVariants.{Search};
 ghost use Rattle.fs_cred.specs.declared.node.NodeKind.{NodeKind};
@@ -10,7 +10,7 @@ ghost use Rattle.sector_txn.specs.Sectors.{IsUnchanged};
 ghost use Rattle.bit_alloc.specs.Inodes.{IsSound};
 ghost use Rattle.bit_alloc.specs.Faults.{HasCauseOf};
 ghost use Rattle.inode_table.specs.Inodes.{IsInodeOf};
-ghost use Rattle.path_walk.specs.Answers.{refused_or, IsAnswered};
+ghost use Rattle.path_walk.specs.Answers.{refused_or, IsCaused, IsAnswered};
 ghost use Rattle.path_walk.specs.HeldTrees.{HasAccess, stored_kind};
 
 use fs_cred::{Cred, Denial, Errno, Need, Node, NodeKind, Refusal, Verdict, decide};
@@ -84,6 +84,7 @@ pub(crate) fn search<S: Sectors>(
     ensures each { (node : AccessNode) → HasAccess (S.state s.old).sectors inode.now node
         → IsAnswered (S.state s.old).disk (S.state s.new).disk
         (refused_or (decided walk step Search (verdict cred.now node search_only)) (Ok tt)) result }
+    ensures cause { IfErr result (IsCaused (S.state s.old).disk (S.state s.new).disk) }
     ensures same { IsUnchanged (S.state s.old) (S.state s.new) }
 {
     let verdict = permission(alloc, s, place, cred, inode, SEARCH)?;

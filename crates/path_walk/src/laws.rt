@@ -1,5 +1,5 @@
 //! The laws of trees on a disk: each is the contract of a function that changes nothing.
-ghost use Rattle.path_walk.specs.Laws.{AccessIsHeld, DirectoriesAreHeld, KindsAreHeld, NodesAreHeld, NumbersAreBelow, TargetsAreHeld};
+ghost use Rattle.path_walk.specs.Laws.{AccessIsHeld, DirectoriesAreHeld, InodesAreSound, KindsAreHeld, NodesAreHeld, NumbersAreBelow, TargetsAreHeld};
 
 /// Where a disk holds a tree, the inode of each number says what stands there: its kind, of a directory the names and the
 /// parent, of a file or a directory what access is decided on, and of a symbolic link the target.
@@ -10,4 +10,5 @@ pub fn inodes_say_what_stands()
     ensures directories { DirectoriesAreHeld }
     ensures access { AccessIsHeld }
     ensures targets { TargetsAreHeld }
+    ensures sound { InodesAreSound }
 {}

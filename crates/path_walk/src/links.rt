@@ -1,12 +1,13 @@
 //! The targets of symbolic links.
 
-ghost use Rattle.std.specs.Prelude.{◌≡◌, ℕ, List, Ok};
+ghost use Rattle.std.specs.Prelude.{◌≡◌, ◌≤◌, ℕ, List, length, Ok, IfOk, IfErr};
+ghost use Rattle.fs_layout.specs.declared.inode.TheConstants.{MAX_LINK_SIZE};
 ghost use Rattle.fs_layout.specs.Images.{Holds};
 ghost use Rattle.sector_txn.specs.Sectors.{IsUnchanged};
 ghost use Rattle.bit_alloc.specs.Inodes.{IsSound};
 ghost use Rattle.bit_alloc.specs.Faults.{HasCauseOf};
 ghost use Rattle.inode_table.specs.Inodes.{IsInodeOf};
-ghost use Rattle.path_walk.specs.Answers.{IsAnswered};
+ghost use Rattle.path_walk.specs.Answers.{Interrupts, IsAnswered};
 
 use block_map::read_at;
 use fs_cred::{Errno, Refusal};
@@ -25,9 +26,10 @@ pub fn read_target<S: Sectors>(
     requires sound { IsSound place (S.state s.old) }
     requires there { IsInodeOf place (S.state s.old).sectors inode.now }
     requires link { inode.now.kind ≡ Kind.Link }
-    requires has { (target : List ℕ) × Holds (S.state s.old).sectors inode.now target }
     ensures each { (target : List ℕ) → Holds (S.state s.old).sectors inode.now target
         → IsAnswered (S.state s.old).disk (S.state s.new).disk (Ok target) result }
+    ensures short { IfOk result (λ target. length target ≤ MAX_LINK_SIZE) }
+    ensures err { IfErr result (Interrupts (S.state s.old).disk (S.state s.new).disk) }
     ensures same { IsUnchanged (S.state s.old) (S.state s.new) }
     ensures cause { HasCauseOf (Refusal.Failed Errno.EIO) (S.state s.old).disk (S.state s.new).disk result }
 {

@@ -1,14 +1,15 @@
 //! Inodes and names, as a walk reads them.
 
-ghost use Rattle.std.specs.Prelude.{◌≡◌, ◌<◌, Ok};
+ghost use Rattle.std.specs.Prelude.{◌≡◌, ◌<◌, ℕ, Some, Ok, IfOk, IfErr};
 ghost use Rattle.fs_layout.specs.Images.{inode_at};
 ghost use Rattle.fs_model.specs.Nodes.{names_in};
 ghost use Rattle.fs_model.specs.Trails.{named_inode};
 ghost use Rattle.fs_model.specs.Trees.{Tree, IsDirectoryAt};
 ghost use Rattle.sector_txn.specs.Sectors.{IsUnchanged};
 ghost use Rattle.bit_alloc.specs.Inodes.{IsSound};
-ghost use Rattle.path_walk.specs.Answers.{IsAnswered};
+ghost use Rattle.path_walk.specs.Answers.{Interrupts, IsAnswered};
 ghost use Rattle.path_walk.specs.HeldTrees.{HoldsTree};
+ghost use Rattle.path_walk.specs.SoundInodes.{LeadsOn};
 
 use crate::components::{is_dot, is_dot_dot};
 use dir_core::lookup;
@@ -41,9 +42,11 @@ pub(crate) fn find<S: Sectors>(
     requires sound { IsSound place (S.state s.old) }
     requires below { n < place.inodes }
     requires inode { inode.now ≡ inode_at place (S.state s.old).sectors n }
-    requires tree { (t : Tree) × HoldsTree place (S.state s.old).sectors t × IsDirectoryAt t n }
+    requires leads { LeadsOn place (S.state s.old).sectors inode.now }
     ensures each { (t : Tree) → HoldsTree place (S.state s.old).sectors t → (d : IsDirectoryAt t n)
         → IsAnswered (S.state s.old).disk (S.state s.new).disk (Ok (named_inode t n (names_in d.node.body) name.now)) result }
+    ensures below { IfOk result (λ found. (m : ℕ) → found ≡ Some m → m < place.inodes) }
+    ensures err { IfErr result (Interrupts (S.state s.old).disk (S.state s.new).disk) }
     ensures same { IsUnchanged (S.state s.old) (S.state s.new) }
 {
     if is_dot(name) {

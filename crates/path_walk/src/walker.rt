@@ -11,9 +11,10 @@ ghost use Rattle.sector_txn.specs.Sectors.{IsUnchanged};
 ghost use Rattle.bit_alloc.specs.Inodes.{IsSound};
 ghost use Rattle.inode_table.specs.Inodes.{IsInodeOf};
 ghost use Rattle.fs_layout.specs.Images.{Holds};
-ghost use Rattle.path_walk.specs.Answers.{Interrupts, IsAnswered};
+ghost use Rattle.path_walk.specs.Answers.{Interrupts, IsCaused, IsAnswered};
 ghost use Rattle.path_walk.specs.HeldTrees.{HoldsTree, IsThere};
 ghost use Rattle.path_walk.specs.Lookups.{lookup_of};
+ghost use Rattle.path_walk.specs.SoundInodes.{HasSoundInodes};
 ghost use Rattle.path_walk.specs.Rests.{found_at, last_of_walk};
 ghost use Rattle.path_walk.specs.Stages.{names_ahead, last_done, IsAt, IsNextOf, IsStart, IsBehind, IsStep, IsWay, arrival_of};
 
@@ -116,7 +117,7 @@ impl Walker {
         number: u8,
     ) -> Result<Walker, Refusal>
         requires sound { IsSound place (S.state s.old) }
-        requires tree { (t : Tree) × HoldsTree place (S.state s.old).sectors t × IsThere t cwd }
+        requires below { cwd < place.inodes }
         ensures ok { IfOk result (λ w. IsStart cwd path.now number w) }
         ensures at { IfOk result (IsAt place (S.state s.old).sectors) }
         ensures err { IfErr result (Interrupts (S.state s.old).disk (S.state s.new).disk) }
@@ -177,10 +178,12 @@ impl Walker {
     ) -> Result<Option<u32>, Refusal>
         requires sound { IsSound place (S.state s.old) }
         requires at { IsAt place (S.state s.old).sectors self.now }
-        requires tree { (t : Tree) × HoldsTree place (S.state s.old).sectors t × IsThere t self.now.here }
+        requires inodes { HasSoundInodes place (S.state s.old).sectors }
         ensures each { (t : Tree) → HoldsTree place (S.state s.old).sectors t → IsThere t self.now.here
             → IsAnswered (S.state s.old).disk (S.state s.new).disk
             (lookup_of t cred.now self.now.number self.now.step self.now.here self.now.name.items) result }
+        ensures below { IfOk result (λ found. (m : ℕ) → found ≡ Some m → m < place.inodes) }
+        ensures cause { IfErr result (IsCaused (S.state s.old).disk (S.state s.new).disk) }
         ensures same { IsUnchanged (S.state s.old) (S.state s.new) }
     {
         if !is_directory(self.inode.kind) {
@@ -208,10 +211,10 @@ impl Walker {
         requires inside { self.old.at ≤ length self.old.rest.items }
         requires there { IsInodeOf place (S.state s.old).sectors link.now }
         requires link { link.now.kind ≡ Kind.Link }
-        requires has { (target : List ℕ) × Holds (S.state s.old).sectors link.now target }
-        ensures each { (target : List ℕ) → Holds (S.state s.old).sectors link.now target
-            → MatchResult result (λ _. IsBehind target is_last self.old self.new)
-            (λ e. ((self.old.links ≡ 0) × (e ≡ Refusal.Failed Errno.ELOOP)) ⊎ Interrupts (S.state s.old).disk (S.state s.new).disk e) }
+        ensures behind { OnOk result ((target : List ℕ) × IsBehind target is_last self.old self.new × (length target ≤ 512)
+            × ((held : List ℕ) → Holds (S.state s.old).sectors link.now held → target ≡ held)) }
+        ensures err { IfErr result (λ e. ((self.old.links ≡ 0) × (e ≡ Refusal.Failed Errno.ELOOP))
+            ⊎ Interrupts (S.state s.old).disk (S.state s.new).disk e) }
         ensures at { OnOk result (IsAt place (S.state s.old).sectors self.new) }
         ensures same { IsUnchanged (S.state s.old) (S.state s.new) }
     {
@@ -246,11 +249,12 @@ impl Walker {
         requires inside { self.old.at ≤ length self.old.rest.items }
         requires taken { self.old.dir ≡ self.old.here }
         requires steps { self.old.step + 1 < 2 ^ 64 }
-        requires tree { (t : Tree) × HoldsTree place (S.state s.old).sectors t × IsThere t self.old.here }
+        requires inodes { HasSoundInodes place (S.state s.old).sectors }
         ensures each { (t : Tree) → HoldsTree place (S.state s.old).sectors t → IsThere t self.old.here
             → (form : Form) → IsStep (S.state s.old).disk (S.state s.new).disk t cred.now form follow self.old self.new result }
         ensures at { OnOk result (IsAt place (S.state s.old).sectors self.new) }
         ensures way { OnOk result (IsWay self.old self.new) }
+        ensures cause { IfErr result (IsCaused (S.state s.old).disk (S.state s.new).disk) }
         ensures same { IsUnchanged (S.state s.old) (S.state s.new) }
     {
         let is_last = self.is_last();

@@ -1,6 +1,6 @@
 //! The walk of a path.
 
-ghost use Rattle.std.specs.Prelude.{◌≤◌, length};
+ghost use Rattle.std.specs.Prelude.{◌<◌, ◌≤◌, length};
 ghost use Rattle.fs_model.specs.Limits.{path_limit};
 ghost use Rattle.fs_model.specs.Trees.{Tree};
 ghost use Rattle.sector_txn.specs.Sectors.{IsUnchanged};
@@ -8,6 +8,7 @@ ghost use Rattle.bit_alloc.specs.Inodes.{IsSound};
 ghost use Rattle.bit_alloc.specs.Faults.{HasCauseOf};
 ghost use Rattle.path_walk.specs.Answers.{IsAnswered};
 ghost use Rattle.path_walk.specs.HeldTrees.{HoldsTree, IsThere};
+ghost use Rattle.path_walk.specs.SoundInodes.{HasSoundInodes};
 ghost use Rattle.path_walk.specs.Walked.{walk_of};
 
 use crate::components::follows_last;
@@ -33,7 +34,8 @@ pub fn walk<S: Sectors>(
     number: u8,
 ) -> Result<Found, Refusal>
     requires sound { IsSound place (S.state s.old) }
-    requires tree { (t : Tree) × HoldsTree place (S.state s.old).sectors t × IsThere t cwd }
+    requires inodes { HasSoundInodes place (S.state s.old).sectors }
+    requires start { cwd < place.inodes }
     requires short { length path.now ≤ path_limit }
     ensures each { (t : Tree) → HoldsTree place (S.state s.old).sectors t → IsThere t cwd
         → IsAnswered (S.state s.old).disk (S.state s.new).disk (walk_of t cred.now number form cwd path.now) result }

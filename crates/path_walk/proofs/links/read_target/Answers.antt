@@ -9,19 +9,26 @@ read_at-requires g c = record { within = inode_within c.requires.sound c.require
 
 pub slice_bounds-bytes-end : goal.slice_bounds-bytes-end
 slice_bounds-bytes-end g c =
-    let r = c.in-Ok.ensures.bytes c.requires.has.0 c.requires.has.1 in
-    let len = r.len in
+    let few = c.in-Ok.ensures.few in
     let same = c.read_at.auto.to in
-    omega (arith, len, same)
+    omega (arith, few, same)
 
 pub slice_bounds-from_slice-end : goal.slice_bounds-from_slice-end
 slice_bounds-from_slice-end g c =
-    let r = c.in-Ok.ensures.bytes c.requires.has.0 c.requires.has.1 in
-    let len = r.len in
+    let few = c.in-Ok.ensures.few in
     let same = c.read_at.auto.to in
-    let few : c.in-Ok.count ≤ length c.read_at.new.to = omega (arith, len, same) in
-    let taken = length-take-le c.in-Ok.count c.read_at.new.to few in
-    omega (arith, taken, few)
+    let within : c.in-Ok.count ≤ length c.read_at.new.to = omega (arith, few, same) in
+    let taken = length-take-le c.in-Ok.count c.read_at.new.to within in
+    omega (arith, taken, within)
+
+pub returns-in-Ok-from_slice-clause-short : goal.returns-in-Ok-from_slice-clause-short
+returns-in-Ok-from_slice-clause-short g c =
+    let few = c.in-Ok.ensures.few in
+    let same = c.read_at.auto.to in
+    let within : c.in-Ok.count ≤ length c.read_at.new.to = omega (arith, few, same) in
+    let taken = length-take-le c.in-Ok.count c.read_at.new.to within in
+    let made = ap length c.in-Ok-from_slice.ensures in
+    omega (arith, taken, made, few)
 
 pub returns-in-Ok-from_slice-clause-each : goal.returns-in-Ok-from_slice-clause-each
 returns-in-Ok-from_slice-clause-each g c = λ target holds.

@@ -1,4 +1,4 @@
-use Rattle.std.proofs.Common.{ℕ, Ok, Some, refl, sym, ap, subst, ◌∙◌, inr}
+use Rattle.std.proofs.Common.{◌≡◌, ℕ, ◌<◌, Ok, Some, refl, sym, ap, subst, ◌∙◌, inr}
 use Rattle.std.specs.Prelude.{Option}
 use Rattle.fs_layout.specs.declared.inode.Inode.{Inode}
 use Rattle.fs_layout.specs.Directories.{HasNames}
@@ -21,10 +21,22 @@ pub lookup-requires-clause-there : goal.lookup-requires-clause-there
 lookup-requires-clause-there g c = (c.args.n, c.requires.below, c.requires.inode)
 
 pub lookup-requires-clause-directory : goal.lookup-requires-clause-directory
-lookup-requires-clause-directory g c =
-    let w = c.requires.tree in
-    let image = (g.S.Sectors.state c.args.s.now).sectors in
-    (names_in w.2.node.body, subst (λ (v : Inode). HasNames image v (names_in w.2.node.body)) (sym c.requires.inode) (held_names w.1 c.args.n w.2))
+lookup-requires-clause-directory g c = (c.requires.leads.names, c.requires.leads.has)
+
+pub returns-then-is_dot-clause-below : goal.returns-then-is_dot-clause-below
+returns-then-is_dot-clause-below g c = λ m e. let same : c.args.n ≡ m = cc in subst (λ (k : ℕ). k < c.args.place.inodes) same c.requires.below
+
+pub returns-then-is_dot_dot-clause-below : goal.returns-then-is_dot_dot-clause-below
+returns-then-is_dot_dot-clause-below g c = λ m e.
+    let same : c.args.inode.now.parent ≡ m = cc in subst (λ (k : ℕ). k < c.args.place.inodes) same c.requires.leads.parent
+
+pub returns-in-Ok-clause-below : goal.returns-in-Ok-clause-below
+returns-in-Ok-clause-below g c = λ m e.
+    let leads = c.requires.leads in
+    leads.inside c.args.name.now m (sym (c.in-Ok.ensures.found leads.names leads.has) ∙ e)
+
+pub returns-in-Err-clause-err : goal.returns-in-Err-clause-err
+returns-in-Err-clause-err g c = inr (refl, c.in-Err.ensures.cause.fault)
 
 pub returns-in-Ok-clause-each : goal.returns-in-Ok-clause-each
 returns-in-Ok-clause-each g c = λ t h d.

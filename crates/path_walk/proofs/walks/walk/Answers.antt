@@ -5,19 +5,20 @@ use Rattle.fs_model.specs.Trails.{follows_last}
 use Rattle.block_map.proofs.Runs.{unchanged_joined}
 use Rattle.path_walk.specs.HeldTrees.{HoldsTree, IsThere}
 use Rattle.path_walk.specs.Stages.{IsAt, IsNextOf, IsStep, arrival_of}
+use Rattle.path_walk.specs.SoundInodes.{HasSoundInodes}
 use Rattle.path_walk.specs.Walked.{walk_of}
 use Rattle.path_walk.proofs.HeldNodes.{starts_there}
-use Rattle.path_walk.proofs.Kept.{kept, kept_back, sound_kept, interrupts_later, answered_err}
+use Rattle.path_walk.proofs.Kept.{kept, kept_back, sound_kept, interrupts_later, answered_err, interrupt_caused, caused_later, cause_of}
 use Rattle.path_walk.proofs.Staging.{start_stage, taken_stage, end_stage}
-use Rattle.path_walk.proofs.Walking.{start_room, room_after, goes_less, steps_fit, at_taken, dir_taken, here_taken, never_io, cause_is}
+use Rattle.path_walk.proofs.Walking.{start_room, room_after, goes_less, steps_fit, at_taken, dir_taken, here_taken, end_caused}
 use Rattle.path_walk.proofs.walks.walk.Goals as goal
 
 -- ---- the start
 pub start-requires-clause-sound : goal.start-requires-clause-sound
 start-requires-clause-sound g c = c.requires.sound
 
-pub start-requires-clause-tree : goal.start-requires-clause-tree
-start-requires-clause-tree g c = c.requires.tree
+pub start-requires-clause-below : goal.start-requires-clause-below
+start-requires-clause-below g c = c.requires.start
 
 pub returns-in_err-walker-clause-each : goal.returns-in_err-walker-clause-each
 returns-in_err-walker-clause-each g c = λ t h there.
@@ -32,13 +33,11 @@ returns-in_err-walker-clause-same g c = c.in_err-walker.ensures.same
 
 pub returns-in_err-walker-clause-cause : goal.returns-in_err-walker-clause-cause
 returns-in_err-walker-clause-cause g c =
-    let tree = c.requires.tree in
-    let t = tree.0 in
     let old = g.S.Sectors.state c.args.s.now in
     let new = g.S.Sectors.state c.start.new.s in
-    cause_is old.disk new.disk (walk_of t c.args.cred.now c.args.number c.args.form c.args.cwd c.args.path.now)
-    c.from_residual.result (c.in_err-walker.ensures.same).store.reads.failures
-    (never_io t c.args.cred.now c.args.number c.args.cwd c.args.form c.args.path.now) (returns-in_err-walker-clause-each g c t tree.1 tree.2)
+    let r = c.from_residual.ensures in
+    cause_of old.disk new.disk c.from_residual.result c.in_err-walker.field-0.0 (c.in_err-walker.ensures.same).store.reads.failures r.0 r.1
+    (interrupt_caused old.disk new.disk c.in_err-walker.field-0.0 c.in_err-walker.ensures.err)
 
 pub loop-walker-init : goal.loop-walker-init
 loop-walker-init g c =
@@ -72,15 +71,12 @@ returns-in_err-next-clause-same g c = c.loop-walker.invariant.same
 
 pub returns-in_err-next-clause-cause : goal.returns-in_err-next-clause-cause
 returns-in_err-next-clause-cause g c =
-    let tree = c.requires.tree in
-    let t = tree.0 in
     let old = g.S.Sectors.state c.args.s.now in
     let new = g.S.Sectors.state c.loop-walker.s in
-    cause_is old.disk new.disk (walk_of t c.args.cred.now c.args.number c.args.form c.args.cwd c.args.path.now)
-    c.from_residual-in_err-next.result (c.loop-walker.invariant.same).store.reads.failures
-    (never_io t c.args.cred.now c.args.number c.args.cwd c.args.form c.args.path.now) (returns-in_err-next-clause-each g c t tree.1 tree.2)
+    let r = c.from_residual-in_err-next.ensures in
+    cause_of old.disk new.disk c.from_residual-in_err-next.result c.in_err-next.field-0.0 (c.loop-walker.invariant.same).store.reads.failures r.0 r.1
+    (interrupt_caused old.disk new.disk c.in_err-next.field-0.0 (inl c.in_err-next.ensures))
 
--- ---- it is looked up
 pub step-requires-clause-sound : goal.step-requires-clause-sound
 step-requires-clause-sound g c = sound_kept c.loop-walker.invariant.same c.requires.sound
 
@@ -114,14 +110,8 @@ step-requires-clause-steps g c =
     let taken = subst (IsNextOf w mid) c.if-branch.true c.in_ok-next.ensures in
     steps_fit w mid c.loop-walker.invariant.room taken
 
-pub step-requires-clause-tree : goal.step-requires-clause-tree
-step-requires-clause-tree g c =
-    let inv = c.loop-walker.invariant in
-    let w = c.loop-walker.walker in
-    let mid = c.next.new.self in
-    let taken = subst (IsNextOf w mid) c.if-branch.true c.in_ok-next.ensures in
-    let tree = c.requires.tree in
-    (tree.0, kept (λ m. HoldsTree c.args.place m tree.0) inv.same tree.1, here_taken w mid tree.0 taken (inv.each tree.0 tree.1 tree.2).1)
+pub step-requires-clause-inodes : goal.step-requires-clause-inodes
+step-requires-clause-inodes g c = kept (HasSoundInodes c.args.place) c.loop-walker.invariant.same c.requires.inodes
 
 pub returns-in_err-step-clause-each : goal.returns-in_err-step-clause-each
 returns-in_err-step-clause-each g c = λ t h there.
@@ -145,13 +135,12 @@ returns-in_err-step-clause-same g c = unchanged_joined c.loop-walker.invariant.s
 
 pub returns-in_err-step-clause-cause : goal.returns-in_err-step-clause-cause
 returns-in_err-step-clause-cause g c =
-    let tree = c.requires.tree in
-    let t = tree.0 in
     let old = g.S.Sectors.state c.args.s.now in
     let new = g.S.Sectors.state c.step.new.s in
-    cause_is old.disk new.disk (walk_of t c.args.cred.now c.args.number c.args.form c.args.cwd c.args.path.now)
-    c.from_residual-in_err-step.result (unchanged_joined c.loop-walker.invariant.same c.in_err-step.ensures.same).store.reads.failures
-    (never_io t c.args.cred.now c.args.number c.args.cwd c.args.form c.args.path.now) (returns-in_err-step-clause-each g c t tree.1 tree.2)
+    let r = c.from_residual-in_err-step.ensures in
+    cause_of old.disk new.disk c.from_residual-in_err-step.result c.in_err-step.field-0.0
+    (unchanged_joined c.loop-walker.invariant.same c.in_err-step.ensures.same).store.reads.failures r.0 r.1
+    (caused_later new.disk c.loop-walker.invariant.same c.in_err-step.ensures.cause)
 
 pub returns-then-not-branch-clause-each : goal.returns-then-not-branch-clause-each
 returns-then-not-branch-clause-each g c = λ t h there.
@@ -174,14 +163,10 @@ pub returns-then-not-branch-clause-same : goal.returns-then-not-branch-clause-sa
 returns-then-not-branch-clause-same g c = unchanged_joined c.loop-walker.invariant.same c.in_ok-step.ensures.same
 
 pub returns-then-not-branch-clause-cause : goal.returns-then-not-branch-clause-cause
-returns-then-not-branch-clause-cause g c =
-    let tree = c.requires.tree in
-    let t = tree.0 in
-    let old = g.S.Sectors.state c.args.s.now in
-    let new = g.S.Sectors.state c.step.new.s in
-    cause_is old.disk new.disk (walk_of t c.args.cred.now c.args.number c.args.form c.args.cwd c.args.path.now)
-    (Ok c.found.result) (unchanged_joined c.loop-walker.invariant.same c.in_ok-step.ensures.same).store.reads.failures
-    (never_io t c.args.cred.now c.args.number c.args.cwd c.args.form c.args.path.now) (returns-then-not-branch-clause-each g c t tree.1 tree.2)
+returns-then-not-branch-clause-cause g c = record {
+  later = (unchanged_joined c.loop-walker.invariant.same c.in_ok-step.ensures.same).store.reads.failures;
+  failed = tt;
+}
 
 pub loop-walker-smaller : goal.loop-walker-smaller
 loop-walker-smaller g c =
@@ -234,13 +219,12 @@ returns-in_err-found-clause-same g c = c.loop-walker.invariant.same
 
 pub returns-in_err-found-clause-cause : goal.returns-in_err-found-clause-cause
 returns-in_err-found-clause-cause g c =
-    let tree = c.requires.tree in
-    let t = tree.0 in
     let old = g.S.Sectors.state c.args.s.now in
     let new = g.S.Sectors.state c.loop-walker.s in
-    cause_is old.disk new.disk (walk_of t c.args.cred.now c.args.number c.args.form c.args.cwd c.args.path.now)
-    c.from_residual-in_err-found.result (c.loop-walker.invariant.same).store.reads.failures
-    (never_io t c.args.cred.now c.args.number c.args.cwd c.args.form c.args.path.now) (returns-in_err-found-clause-each g c t tree.1 tree.2)
+    let w = c.next.new.self in
+    let r = c.from_residual-in_err-found.ensures in
+    cause_of old.disk new.disk c.from_residual-in_err-found.result c.in_err-found.field-0.0 (c.loop-walker.invariant.same).store.reads.failures r.0 r.1
+    (end_caused old.disk new.disk c.args.form w c.in_err-found.field-0.0 (sym c.arrive.ensures ∙ c.in_err-found.was))
 
 pub returns-clause-each : goal.returns-clause-each
 returns-clause-each g c = λ t h there.
@@ -258,11 +242,4 @@ pub returns-clause-same : goal.returns-clause-same
 returns-clause-same g c = c.loop-walker.invariant.same
 
 pub returns-clause-cause : goal.returns-clause-cause
-returns-clause-cause g c =
-    let tree = c.requires.tree in
-    let t = tree.0 in
-    let old = g.S.Sectors.state c.args.s.now in
-    let new = g.S.Sectors.state c.loop-walker.s in
-    cause_is old.disk new.disk (walk_of t c.args.cred.now c.args.number c.args.form c.args.cwd c.args.path.now)
-    (Ok c.in_ok-found.found) (c.loop-walker.invariant.same).store.reads.failures
-    (never_io t c.args.cred.now c.args.number c.args.cwd c.args.form c.args.path.now) (returns-clause-each g c t tree.1 tree.2)
+returns-clause-cause g c = record { later = (c.loop-walker.invariant.same).store.reads.failures; failed = tt }

@@ -1,24 +1,24 @@
-use Rattle.std.proofs.Common.{◌≡◌, drop, Bool, true, false, cond, refl, sym, ap, ◌∙◌, inl, inr, arith}
+use Rattle.std.proofs.Common.{◌≡◌, length, drop, Bool, true, false, cond, refl, sym, ap, ◌∙◌, inl, inr, arith}
 use Rattle.std.proofs.lemmas.List.{take_rest}
 use Rattle.fs_layout.specs.Bytes.{SectorMap}
 use Rattle.fs_layout.specs.Images.{inode_at}
 use Rattle.fs_model.specs.Parts.{begins_with_slash}
 use Rattle.block_map.proofs.Runs.{unchanged_joined}
-use Rattle.path_walk.proofs.Kept.{same_map, sound_kept, interrupted, interrupts_later, same_ok, on_err, matched_err}
+use Rattle.path_walk.proofs.Kept.{same_map, sound_kept, interrupted, interrupts_later, same_ok, on_err, failed_with}
 use Rattle.fs_model.specs.Limits.{root}
 use Rattle.path_walk.proofs.Stepping.{behind_is}
 use Rattle.path_walk.proofs.walker.Walker.follow.Goals as goal
 
-pub returns-then-self-eq0-clause-each : goal.returns-then-self-eq0-clause-each
-returns-then-self-eq0-clause-each g c = λ target h. inl (c.if-self-eq0.true, refl)
+pub returns-then-self-eq0-clause-err : goal.returns-then-self-eq0-clause-err
+returns-then-self-eq0-clause-err g c = inl (c.if-self-eq0.true, refl)
 
-pub returns-in_err-target-clause-each : goal.returns-in_err-target-clause-each
-returns-in_err-target-clause-each g c = λ target h.
-    let old = g.S.Sectors.state c.args.s.now in
-    let new = g.S.Sectors.state c.read_target.new.s in
+pub returns-in_err-target-clause-err : goal.returns-in_err-target-clause-err
+returns-in_err-target-clause-err g c =
     let r = c.from_residual.ensures in
-    matched_err c.from_residual.result c.in_err-target.field-0.0 _ _ r.0 r.1
-    (inr (interrupted old.disk new.disk _ c.in_err-target.field-0.0 (c.in_err-target.ensures.each target h)))
+    failed_with c.from_residual.result c.in_err-target.field-0.0 _ r.0 r.1 (inr c.in_err-target.ensures.err)
+
+pub returns-in_err-target-clause-behind : goal.returns-in_err-target-clause-behind
+returns-in_err-target-clause-behind g c = on_err _ c.from_residual.result c.from_residual.ensures.0
 
 pub returns-in_err-target-clause-at : goal.returns-in_err-target-clause-at
 returns-in_err-target-clause-at g c = on_err _ c.from_residual.result c.from_residual.ensures.0
@@ -26,10 +26,13 @@ returns-in_err-target-clause-at g c = on_err _ c.from_residual.result c.from_res
 pub returns-in_err-target-clause-same : goal.returns-in_err-target-clause-same
 returns-in_err-target-clause-same g c = c.in_err-target.ensures.same
 
-pub returns-in_err-self-clause-each : goal.returns-in_err-self-clause-each
-returns-in_err-self-clause-each g c = λ target h.
+pub returns-in_err-self-clause-err : goal.returns-in_err-self-clause-err
+returns-in_err-self-clause-err g c =
     let r = c.from_residual-in_err-self.ensures in
-    matched_err c.from_residual-in_err-self.result c.in_err-self.field-0.0 _ _ r.0 r.1 (inr (inl c.in_err-self.ensures))
+    failed_with c.from_residual-in_err-self.result c.in_err-self.field-0.0 _ r.0 r.1 (inr (inl c.in_err-self.ensures))
+
+pub returns-in_err-self-clause-behind : goal.returns-in_err-self-clause-behind
+returns-in_err-self-clause-behind g c = on_err _ c.from_residual-in_err-self.result c.from_residual-in_err-self.ensures.0
 
 pub returns-in_err-self-clause-at : goal.returns-in_err-self-clause-at
 returns-in_err-self-clause-at g c = on_err _ c.from_residual-in_err-self.result c.from_residual-in_err-self.ensures.0
@@ -43,29 +46,44 @@ load_inode-requires-clause-sound g c = sound_kept c.in_ok-target.ensures.same c.
 pub load_inode-requires-clause-below : goal.load_inode-requires-clause-below
 load_inode-requires-clause-below g c = let least = c.requires.sound.consistent.place.least_inodes in omega (arith, least)
 
-pub returns-then-not-begins_with_slash-clause-each : goal.returns-then-not-begins_with_slash-clause-each
-returns-then-not-begins_with_slash-clause-each g c = λ target h.
+pub returns-then-not-begins_with_slash-clause-behind : goal.returns-then-not-begins_with_slash-clause-behind
+returns-then-not-begins_with_slash-clause-behind g c =
     let w = c.args.self.now in
-    let bytes : c.bytes-target.result.now ≡ target = c.bytes-target.ensures.all ∙ sym (same_ok _ _ (c.in_ok-target.ensures.each target h)) in
-    let relative : begins_with_slash c.bytes-target.result.now ≡ false = sym c.begins_with_slash.ensures ∙ c.if-not-begins_with_slash.true in
-    behind_is w _ target c.bytes-target.result.now _ c.args.is_last bytes (take_rest c.deref.result.now w.at ∙ ap (drop w.at) c.deref.ensures.value) c.in_ok-self.ensures c.if-self-eq0.false
-    c.slash_behind-self.ensures (sym (ap (λ (b : Bool). cond b root w.here) relative)) refl
+    let target = c.bytes-target.result.now in
+    let way : begins_with_slash target ≡ false = sym c.begins_with_slash.ensures ∙ c.if-not-begins_with_slash.true in
+    let short = c.in_ok-target.ensures.short in
+    let all = ap length c.bytes-target.ensures.all in (
+      target,
+      behind_is w _ target target _ c.args.is_last refl (take_rest c.deref.result.now w.at ∙ ap (drop w.at) c.deref.ensures.value) c.in_ok-self.ensures c.if-self-eq0.false
+          c.slash_behind-self.ensures (sym (ap (λ (b : Bool). cond b root w.here) way)) refl,
+      omega (arith, short, all),
+      λ held h. c.bytes-target.ensures.all ∙ sym (same_ok _ _ (c.in_ok-target.ensures.each held h)),
+    )
 
-pub returns-clause-each : goal.returns-clause-each
-returns-clause-each g c = λ target h.
+pub returns-clause-behind : goal.returns-clause-behind
+returns-clause-behind g c =
     let w = c.args.self.now in
-    let bytes : c.bytes-target.result.now ≡ target = c.bytes-target.ensures.all ∙ sym (same_ok _ _ (c.in_ok-target.ensures.each target h)) in
-    let absolute : begins_with_slash c.bytes-target.result.now ≡ true = sym c.begins_with_slash.ensures ∙ c.if-not-begins_with_slash.false in
-    behind_is w _ target c.bytes-target.result.now _ c.args.is_last bytes (take_rest c.deref.result.now w.at ∙ ap (drop w.at) c.deref.ensures.value) c.in_ok-self.ensures c.if-self-eq0.false
-    c.slash_behind-self.ensures (sym (ap (λ (b : Bool). cond b root w.here) absolute)) refl
+    let target = c.bytes-target.result.now in
+    let way : begins_with_slash target ≡ true = sym c.begins_with_slash.ensures ∙ c.if-not-begins_with_slash.false in
+    let short = c.in_ok-target.ensures.short in
+    let all = ap length c.bytes-target.ensures.all in (
+      target,
+      behind_is w _ target target _ c.args.is_last refl (take_rest c.deref.result.now w.at ∙ ap (drop w.at) c.deref.ensures.value) c.in_ok-self.ensures c.if-self-eq0.false
+          c.slash_behind-self.ensures (sym (ap (λ (b : Bool). cond b root w.here) way)) refl,
+      omega (arith, short, all),
+      λ held h. c.bytes-target.ensures.all ∙ sym (same_ok _ _ (c.in_ok-target.ensures.each held h)),
+    )
 
-pub returns-in_err-self-2-clause-each : goal.returns-in_err-self-2-clause-each
-returns-in_err-self-2-clause-each g c = λ target h.
+pub returns-in_err-self-2-clause-err : goal.returns-in_err-self-2-clause-err
+returns-in_err-self-2-clause-err g c =
     let mid = g.S.Sectors.state c.read_target.new.s in
     let new = g.S.Sectors.state c.load_inode.new.s in
     let r = c.from_residual-in_err-self-2.ensures in
-    matched_err c.from_residual-in_err-self-2.result c.in_err-self-2.field-0.0 _ _ r.0 r.1
+    failed_with c.from_residual-in_err-self-2.result c.in_err-self-2.field-0.0 _ r.0 r.1
     (inr (interrupts_later new.disk c.in_ok-target.ensures.same (interrupted mid.disk new.disk _ c.in_err-self-2.field-0.0 c.in_err-self-2.ensures.each)))
+
+pub returns-in_err-self-2-clause-behind : goal.returns-in_err-self-2-clause-behind
+returns-in_err-self-2-clause-behind g c = on_err _ c.from_residual-in_err-self-2.result c.from_residual-in_err-self-2.ensures.0
 
 pub returns-in_err-self-2-clause-at : goal.returns-in_err-self-2-clause-at
 returns-in_err-self-2-clause-at g c = on_err _ c.from_residual-in_err-self-2.result c.from_residual-in_err-self-2.ensures.0
@@ -98,6 +116,3 @@ read_target-requires-clause-there g c = c.requires.there
 
 pub read_target-requires-clause-link : goal.read_target-requires-clause-link
 read_target-requires-clause-link g c = c.requires.link
-
-pub read_target-requires-clause-has : goal.read_target-requires-clause-has
-read_target-requires-clause-has g c = c.requires.has

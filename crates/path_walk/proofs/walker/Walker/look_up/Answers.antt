@@ -1,14 +1,18 @@
-use Rattle.std.proofs.Common.{◌≡◌, length, true, false, sym, ap, ◌∙◌, inl, inr, arith}
+use Rattle.std.proofs.Common.{◌≡◌, length, true, false, refl, sym, ap, subst, ◌∙◌, inl, inr, arith}
 use Rattle.std.specs.Prelude.{nat_lt}
 use Rattle.std.proofs.lemmas.Bool.Decides.{nat_tests}
+use Rattle.fs_cred.specs.declared.node.NodeKind.TheVariants as nodes
+use Rattle.fs_layout.specs.declared.inode.Inode.{Inode}
 use Rattle.fs_layout.specs.Bytes.{SectorMap}
 use Rattle.fs_layout.specs.Images.{inode_at}
 use Rattle.fs_model.specs.Limits.{name_limit}
 use Rattle.fs_model.specs.Nodes.{names_in}
 use Rattle.fs_model.specs.Trails.{named_inode}
 use Rattle.path_walk.specs.HeldTrees.{HoldsTree}
+use Rattle.path_walk.specs.SoundInodes.{LeadsOn, IsSoundInode}
 use Rattle.path_walk.specs.Lookups.{lookup_of}
-use Rattle.path_walk.proofs.Kept.{same_map, kept, sound_kept, interrupts_later, answered_err, interrupted, same_ok}
+use Rattle.path_walk.proofs.Kept.{same_map, kept, sound_kept, interrupts_later, answered_err, interrupted, same_ok, failed_with, if_err, interrupt_caused, caused_later}
+use Rattle.path_walk.proofs.HeldInodes.{directory_kind}
 use Rattle.path_walk.proofs.Finding.{no_directory, searched, directory_at, search_refused, too_long, is_named}
 use Rattle.block_map.proofs.Runs.{unchanged_joined}
 use Rattle.path_walk.proofs.walker.Walker.look_up.Goals as goal
@@ -23,9 +27,11 @@ search-requires-clause-there g c = (c.args.self.now.here, c.requires.at.below, c
 
 pub search-requires-clause-has : goal.search-requires-clause-has
 search-requires-clause-has g c =
-    let w = c.requires.tree in
-    let x = searched w.1 c.args.self.now.here w.2 c.args.self.now.inode c.requires.at.inode (sym c.is_directory.ensures ∙ c.if-not-is_directory.false) in
-    (x.node, x.has)
+    let w = c.args.self.now in
+    let inode = subst (λ (v : Inode). IsSoundInode c.args.place (g.S.Sectors.state c.args.s.now).sectors v) (sym c.requires.at.inode) (c.requires.inodes w.here c.requires.at.below) in
+    let is = directory_kind w.inode.kind (sym c.is_directory.ensures ∙ c.if-not-is_directory.false) in
+    let a = inode.acl (inr is) in
+    (record { kind = nodes.Directory; owner = w.inode.uid; group = w.inode.gid; acl = a.0 }, record { kind = is; owner = refl; group = refl; acl = a.1 })
 
 pub returns-in_err-search-clause-each : goal.returns-in_err-search-clause-each
 returns-in_err-search-clause-each g c = λ t h there.
@@ -55,13 +61,31 @@ pub find-requires-clause-inode : goal.find-requires-clause-inode
 find-requires-clause-inode g c =
     c.requires.at.inode ∙ sym (ap (λ (m : SectorMap). inode_at c.args.place m c.args.self.now.here) (same_map c.in_ok-search.ensures.same))
 
-pub find-requires-clause-tree : goal.find-requires-clause-tree
-find-requires-clause-tree g c =
-    let w = c.requires.tree in (
-      w.0,
-      kept (λ m. HoldsTree c.args.place m w.0) c.in_ok-search.ensures.same w.1,
-      directory_at w.1 c.args.self.now.here w.2 c.args.self.now.inode c.requires.at.inode (sym c.is_directory.ensures ∙ c.if-not-is_directory.false),
-    )
+pub find-requires-clause-leads : goal.find-requires-clause-leads
+find-requires-clause-leads g c =
+    let w = c.args.self.now in
+    let inode = subst (λ (v : Inode). IsSoundInode c.args.place (g.S.Sectors.state c.args.s.now).sectors v) (sym c.requires.at.inode) (c.requires.inodes w.here c.requires.at.below) in
+    let is = directory_kind w.inode.kind (sym c.is_directory.ensures ∙ c.if-not-is_directory.false) in
+    kept (λ m. LeadsOn c.args.place m w.inode) c.in_ok-search.ensures.same (inode.directory is)
+
+pub returns-in_err-search-clause-cause : goal.returns-in_err-search-clause-cause
+returns-in_err-search-clause-cause g c =
+    let r = c.from_residual.ensures in
+    failed_with c.from_residual.result c.in_err-search.field-0.0 _ r.0 r.1 c.in_err-search.ensures.cause
+
+pub returns-in_err-search-clause-below : goal.returns-in_err-search-clause-below
+returns-in_err-search-clause-below g c = if_err _ c.from_residual.result c.from_residual.ensures.0
+
+pub returns-in_err-found-clause-below : goal.returns-in_err-found-clause-below
+returns-in_err-found-clause-below g c = if_err _ c.from_residual-in_err-found.result c.from_residual-in_err-found.ensures.0
+
+pub returns-in_err-found-clause-cause : goal.returns-in_err-found-clause-cause
+returns-in_err-found-clause-cause g c =
+    let mid = g.S.Sectors.state c.search.new.s in
+    let new = g.S.Sectors.state c.find.new.s in
+    let r = c.from_residual-in_err-found.ensures in
+    failed_with c.from_residual-in_err-found.result c.in_err-found.field-0.0 _ r.0 r.1
+    (caused_later new.disk c.in_ok-search.ensures.same (interrupt_caused mid.disk new.disk c.in_err-found.field-0.0 c.in_err-found.ensures.err))
 
 pub returns-in_err-found-clause-each : goal.returns-in_err-found-clause-each
 returns-in_err-found-clause-each g c = λ t h there.

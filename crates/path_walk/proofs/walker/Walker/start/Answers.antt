@@ -2,16 +2,15 @@ use Rattle.std.proofs.Common.{◌≡◌, ℕ, ◌<◌, List, refl, sym, ap, subs
 use Rattle.std.specs.Prelude.{IfErr}
 use Rattle.fs_model.specs.Parts.{parts_of, start_of}
 use Rattle.path_walk.specs.Answers.{Interrupts}
-use Rattle.path_walk.proofs.HeldNodes.{number_below, starts_there}
+use Rattle.path_walk.proofs.Walking.{start_below}
 use Rattle.path_walk.proofs.Kept.{is_err, interrupted, same_ok}
 use Rattle.path_walk.proofs.walker.Walker.start.Goals as goal
 
 pub load_inode-requires-clause-below : goal.load_inode-requires-clause-below
 load_inode-requires-clause-below g c =
-    let w = c.requires.tree in
     let is : c.start_of-here.result ≡ start_of (parts_of c.args.path.now) c.args.cwd =
     c.start_of-here.ensures ∙ ap (λ (l : List ℕ). start_of (parts_of l) c.args.cwd) c.bytes-bytes.ensures.all in
-    subst (λ (n : ℕ). n < c.args.place.inodes) (sym is) (number_below w.1 (start_of (parts_of c.args.path.now) c.args.cwd) (starts_there w.1 c.args.path.now c.args.cwd w.2))
+    subst (λ (n : ℕ). n < c.args.place.inodes) (sym is) (start_below (parts_of c.args.path.now) c.args.place c.args.cwd c.requires.sound.consistent.place c.requires.below)
 
 pub returns-in_err-inode-clause-err : goal.returns-in_err-inode-clause-err
 returns-in_err-inode-clause-err g c =
@@ -39,11 +38,10 @@ returns-clause-ok g c = record {
 
 pub returns-clause-at : goal.returns-clause-at
 returns-clause-at g c =
-    let w = c.requires.tree in
     let is : c.start_of-here.result ≡ start_of (parts_of c.args.path.now) c.args.cwd =
     c.start_of-here.ensures ∙ ap (λ (l : List ℕ). start_of (parts_of l) c.args.cwd) c.bytes-bytes.ensures.all in
     record {
       below = subst (λ (n : ℕ). n < c.args.place.inodes) (sym is)
-          (number_below w.1 (start_of (parts_of c.args.path.now) c.args.cwd) (starts_there w.1 c.args.path.now c.args.cwd w.2));
+          (start_below (parts_of c.args.path.now) c.args.place c.args.cwd c.requires.sound.consistent.place c.requires.below);
       inode = sym (same_ok _ _ c.in_ok-inode.ensures.each);
     }

@@ -1,4 +1,4 @@
-use Rattle.std.proofs.Common.{◌≡◌, ℕ, ◌+◌, Ok, Err, Bool, true, false, refl, sym, ap, subst, ◌∙◌, inl, inr}
+use Rattle.std.proofs.Common.{◌≡◌, ℕ, ◌+◌, List, Ok, Err, Bool, true, false, refl, sym, ap, subst, ◌∙◌, inl, inr}
 use Rattle.std.specs.Prelude.{Option, not, ◌&&◌, ◌||◌}
 use Rattle.fs_cred.specs.declared.refusal.Refusal.{Refusal}
 use Rattle.fs_layout.specs.Bytes.{SectorMap}
@@ -8,8 +8,8 @@ use Rattle.fs_model.specs.Summaries.{is_link_kind}
 use Rattle.path_walk.specs.HeldTrees.{IsThere}
 use Rattle.path_walk.specs.Stages.{names_ahead, IsStep, IsAt, IsBehind}
 use Rattle.block_map.proofs.Runs.{unchanged_joined}
-use Rattle.path_walk.proofs.HeldNodes.{number_below, starts_there}
-use Rattle.path_walk.proofs.Kept.{same_map, kept, kept_back, sound_kept, is_err, interrupted, interrupts_later, same_ok, on_err}
+use Rattle.path_walk.proofs.HeldNodes.{starts_there}
+use Rattle.path_walk.proofs.Kept.{same_map, kept, kept_back, sound_kept, is_err, interrupted, interrupts_later, same_ok, on_err, failed_with, interrupt_caused, loop_caused, caused_later}
 use Rattle.path_walk.proofs.Staging.{refused_stage, lost_stage, none_stage, moved_stage, looped_stage, behind_stage, is_moved, is_followed}
 use Rattle.path_walk.proofs.Stepping.{found_there, link_is, behind_way}
 use Rattle.path_walk.proofs.walker.Walker.step.Goals as goal
@@ -45,11 +45,7 @@ pub load_inode-requires-clause-sound : goal.load_inode-requires-clause-sound
 load_inode-requires-clause-sound g c = sound_kept c.in_ok-found.ensures.same c.requires.sound
 
 pub load_inode-requires-clause-below : goal.load_inode-requires-clause-below
-load_inode-requires-clause-below g c =
-    let w = c.args.self.now in
-    let tree = c.requires.tree in
-    let a = c.in_ok-found.ensures.each tree.0 tree.1 tree.2 ∙ ap (λ (o : Option ℕ). Ok o) c.in-Some.is in
-    number_below tree.1 c.in-Some.n (found_there tree.1 c.args.cred.now w.number w.step w.here w.name.items c.in-Some.n a)
+load_inode-requires-clause-below g c = c.in_ok-found.ensures.below c.in-Some.n c.in-Some.is
 
 pub returns-in_err-inode-clause-each : goal.returns-in_err-inode-clause-each
 returns-in_err-inode-clause-each g c = λ t h there form.
@@ -79,12 +75,9 @@ follow-requires-clause-at g c =
 
 pub follow-requires-clause-there : goal.follow-requires-clause-there
 follow-requires-clause-there g c =
-    let w = c.args.self.now in
-    let tree = c.requires.tree in
-    let a = c.in_ok-found.ensures.each tree.0 tree.1 tree.2 ∙ ap (λ (o : Option ℕ). Ok o) c.in-Some.is in
     let n = c.in-Some.n in (
       n,
-      number_below tree.1 n (found_there tree.1 c.args.cred.now w.number w.step w.here w.name.items n a),
+      c.in_ok-found.ensures.below n c.in-Some.is,
       sym (same_ok _ _ c.in_ok-inode.ensures.each) ∙ sym (ap (λ (m : SectorMap). inode_at c.args.place m n) (same_map c.in_ok-inode.ensures.same)),
     )
 
@@ -95,19 +88,6 @@ both false b e = e
 pub follow-requires-clause-link : goal.follow-requires-clause-link
 follow-requires-clause-link g c =
     link_is c.in_ok-inode.inode.kind (both (is_link_kind c.in_ok-inode.inode.kind) (c.args.follow || not c.is_last-is_last.result) (sym c.is_followed.ensures ∙ c.if-is_followed.true))
-
-pub follow-requires-clause-has : goal.follow-requires-clause-has
-follow-requires-clause-has g c =
-    let w = c.args.self.now in
-    let tree = c.requires.tree in
-    let n = c.in-Some.n in
-    let a = c.in_ok-found.ensures.each tree.0 tree.1 tree.2 ∙ ap (λ (o : Option ℕ). Ok o) c.in-Some.is in
-    let there = found_there tree.1 c.args.cred.now w.number w.step w.here w.name.items n a in
-    let v = c.in_ok-inode.inode in
-    let is = sym (same_ok _ _ c.in_ok-inode.ensures.each) ∙ ap (λ (m : SectorMap). inode_at c.args.place m n) (same_map c.in_ok-found.ensures.same) in
-    let f = is_followed tree.1 n there v is (c.args.follow || not c.is_last-is_last.result) (sym c.is_followed.ensures ∙ c.if-is_followed.true) in
-    let same = unchanged_joined c.in_ok-found.ensures.same c.in_ok-inode.ensures.same in
-    (f.target, kept (λ m. Holds m v f.target) same f.holds)
 
 pub returns-in_err-follow-clause-each : goal.returns-in_err-follow-clause-each
 returns-in_err-follow-clause-each g c = λ t h there form.
@@ -126,7 +106,7 @@ returns-in_err-follow-clause-each g c = λ t h there form.
     let r = c.from_residual-in_err-follow.ensures in
     subst (λ q. IsStep old.disk new.disk t c.args.cred.now form c.args.follow w c.follow.new.self q)
     (sym (is_err c.from_residual-in_err-follow.result c.in_err-follow.field-0.0 r.0 r.1))
-    (elim (c.in_err-follow.ensures.each f.target (kept (λ m. Holds m v f.target) same f.holds)) [
+    (elim c.in_err-follow.ensures.err [
       | inl l ↦ inl (looped_stage t c.args.cred.now form c.args.follow w c.requires.taken n a f.target f.through l.0 ∙ ap (λ (e : Refusal). Err e) (sym l.1))
       | inr way ↦ inr (interrupts_later new.disk same way)
     ])
@@ -147,8 +127,10 @@ returns-in_ok-follow-clause-each g c = λ t h there form.
     ap (λ (b : Bool). is_link_kind v.kind && (c.args.follow || not b)) (sym last) ∙ sym c.is_followed.ensures ∙ c.if-is_followed.true in
     let f = is_followed h n found v is (c.args.follow || not (is_empty (names_ahead w))) goes in
     let same = unchanged_joined c.in_ok-found.ensures.same c.in_ok-inode.ensures.same in
-    let b = c.in_ok-follow.ensures.each f.target (kept (λ m. Holds m v f.target) same f.holds) in
+    let went = c.in_ok-follow.ensures.behind in
+    let target = went.3 f.target (kept (λ m. Holds m v f.target) same f.holds) in
     let new = c.follow.new.self in
+    let b = subst (λ (l : List ℕ). IsBehind l c.is_last-is_last.result (record w { step = w.step + 1 }) new) target went.1 in
     let behind = subst (λ (l : Bool). IsBehind f.target l (record w { step = w.step + 1 }) new) last b in (
       behind_stage t c.args.cred.now form c.args.follow w c.requires.taken n a f.target f.through (record w { step = w.step + 1 }) new refl behind,
       subst (IsThere t) (sym behind.here) (starts_there h f.target w.here there),
@@ -161,16 +143,8 @@ returns-in_ok-follow-clause-at g c =
 
 pub returns-in_ok-follow-clause-way : goal.returns-in_ok-follow-clause-way
 returns-in_ok-follow-clause-way g c =
-    let w = c.args.self.now in
-    let tree = c.requires.tree in
-    let n = c.in-Some.n in
-    let a = c.in_ok-found.ensures.each tree.0 tree.1 tree.2 ∙ ap (λ (o : Option ℕ). Ok o) c.in-Some.is in
-    let found = found_there tree.1 c.args.cred.now w.number w.step w.here w.name.items n a in
-    let v = c.in_ok-inode.inode in
-    let is = sym (same_ok _ _ c.in_ok-inode.ensures.each) ∙ ap (λ (m : SectorMap). inode_at c.args.place m n) (same_map c.in_ok-found.ensures.same) in
-    let f = is_followed tree.1 n found v is (c.args.follow || not c.is_last-is_last.result) (sym c.is_followed.ensures ∙ c.if-is_followed.true) in
-    let same = unchanged_joined c.in_ok-found.ensures.same c.in_ok-inode.ensures.same in
-    behind_way w c.follow.new.self f.target c.is_last-is_last.result (c.in_ok-follow.ensures.each f.target (kept (λ m. Holds m v f.target) same f.holds)) f.short
+    let b = c.in_ok-follow.ensures.behind in
+    behind_way c.args.self.now c.follow.new.self b.0 c.is_last-is_last.result b.1 b.2
 
 pub returns-in_ok-follow-clause-same : goal.returns-in_ok-follow-clause-same
 returns-in_ok-follow-clause-same g c = unchanged_joined c.in_ok-found.ensures.same (unchanged_joined c.in_ok-inode.ensures.same c.in_ok-follow.ensures.same)
@@ -192,12 +166,9 @@ returns-else-is_followed-clause-each g c = λ t h there form.
 
 pub returns-else-is_followed-clause-at : goal.returns-else-is_followed-clause-at
 returns-else-is_followed-clause-at g c =
-    let w = c.args.self.now in
-    let tree = c.requires.tree in
     let n = c.in-Some.n in
-    let a = c.in_ok-found.ensures.each tree.0 tree.1 tree.2 ∙ ap (λ (o : Option ℕ). Ok o) c.in-Some.is in
     record {
-      below = number_below tree.1 n (found_there tree.1 c.args.cred.now w.number w.step w.here w.name.items n a);
+      below = c.in_ok-found.ensures.below n c.in-Some.is;
       inode = sym (same_ok _ _ c.in_ok-inode.ensures.each) ∙ ap (λ (m : SectorMap). inode_at c.args.place m n) (same_map c.in_ok-found.ensures.same);
     }
 
@@ -214,8 +185,32 @@ is_last-is_last-requires g c = c.requires.inside
 pub look_up-requires-clause-sound : goal.look_up-requires-clause-sound
 look_up-requires-clause-sound g c = c.requires.sound
 
-pub look_up-requires-clause-tree : goal.look_up-requires-clause-tree
-look_up-requires-clause-tree g c = c.requires.tree
+pub look_up-requires-clause-inodes : goal.look_up-requires-clause-inodes
+look_up-requires-clause-inodes g c = c.requires.inodes
+
+-- ---- causes
+pub returns-in_err-found-clause-cause : goal.returns-in_err-found-clause-cause
+returns-in_err-found-clause-cause g c =
+    let r = c.from_residual.ensures in
+    failed_with c.from_residual.result c.in_err-found.field-0.0 _ r.0 r.1 c.in_err-found.ensures.cause
+
+pub returns-in_err-inode-clause-cause : goal.returns-in_err-inode-clause-cause
+returns-in_err-inode-clause-cause g c =
+    let mid = g.S.Sectors.state c.look_up.new.s in
+    let new = g.S.Sectors.state c.load_inode.new.s in
+    let r = c.from_residual-in_err-inode.ensures in
+    failed_with c.from_residual-in_err-inode.result c.in_err-inode.field-0.0 _ r.0 r.1
+    (caused_later new.disk c.in_ok-found.ensures.same (interrupt_caused mid.disk new.disk c.in_err-inode.field-0.0
+    (interrupted mid.disk new.disk _ c.in_err-inode.field-0.0 c.in_err-inode.ensures.each)))
+
+pub returns-in_err-follow-clause-cause : goal.returns-in_err-follow-clause-cause
+returns-in_err-follow-clause-cause g c =
+    let mid = g.S.Sectors.state c.load_inode.new.s in
+    let new = g.S.Sectors.state c.follow.new.s in
+    let same = unchanged_joined c.in_ok-found.ensures.same c.in_ok-inode.ensures.same in
+    let r = c.from_residual-in_err-follow.ensures in
+    failed_with c.from_residual-in_err-follow.result c.in_err-follow.field-0.0 _ r.0 r.1
+    (caused_later new.disk same (loop_caused mid.disk new.disk c.in_err-follow.field-0.0 _ c.in_err-follow.ensures.err))
 
 pub returns-in_err-found-clause-at : goal.returns-in_err-found-clause-at
 returns-in_err-found-clause-at g c = on_err _ c.from_residual.result c.from_residual.ensures.0
