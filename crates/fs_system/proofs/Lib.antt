@@ -2,6 +2,7 @@ pub mod Both
 pub mod ChmodSteps
 pub mod Chmods
 pub mod Ends
+pub mod MadeDirectories
 pub mod MakingMoments
 pub mod MakingRefusals
 pub mod MadeFiles

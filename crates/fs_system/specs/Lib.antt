@@ -10,3 +10,4 @@ pub mod Laws
 pub mod NewTables
 pub mod Making
 pub mod Sound
+pub mod SoundDirectories

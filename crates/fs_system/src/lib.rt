@@ -1,6 +1,8 @@
 //! The file system: processes and their calls on a tree that a disk stands for.
 #![tactic(auto)]
 
+#[cfg(test)]
+mod directory_tests;
 mod faults;
 mod fs;
 mod laws;

@@ -46,13 +46,13 @@ const FILE: Inode = Inode {
 // ---- disks and transactions
 
 // A new disk of 1,024 sectors with 64 inodes, and where its parts lie.
-fn new_disk(alloc: Global) -> Result<(MemDisk, Place), Fail>
+pub(crate) fn new_disk(alloc: Global) -> Result<(MemDisk, Place), Fail>
     ensures { IfOk result (λ r. IsSoundDisk r.1 (⟦<MemDisk as Disk>⟧.state r.0)) }
 {
     made(MemDisk::new(alloc, 1024)?)
 }
 
-fn made<D: Disk + Drop>(disk: D) -> Result<(D, Place), Fail>
+pub(crate) fn made<D: Disk + Drop>(disk: D) -> Result<(D, Place), Fail>
     ensures { IfOk result (λ r. IsSoundDisk r.1 (D.state r.0)) }
 {
     let mut disk = disk;
@@ -62,9 +62,10 @@ fn made<D: Disk + Drop>(disk: D) -> Result<(D, Place), Fail>
 }
 
 // A transaction on a sound disk.
-fn begun<D: Disk + Drop>(alloc: Global, disk: D, place: Place) -> Result<Txn<D>, Fail>
+pub(crate) fn begun<D: Disk + Drop>(alloc: Global, disk: D, place: Place) -> Result<Txn<D>, Fail>
     requires { IsSoundDisk place (D.state disk) }
     ensures map { IfOk result (λ txn. SameMap (txn_state D.state txn).sectors (data_of (D.state disk))) }
+    ensures before { IfOk result (λ txn. SameMap (txn_state D.state txn).before (data_of (D.state disk))) }
     ensures sound { IfOk result (λ txn. IsSound place (txn_state D.state txn)) }
     ensures clear { IfOk result (λ txn. ClearAreFree place (txn_state D.state txn).sectors) }
     ensures spare { IfOk result (λ txn. HasSpare place 47 (txn_state D.state txn)) }
@@ -353,7 +354,7 @@ fn make_files<S: Sectors>(s: &mut S, place: Place, acl: &Acl) -> Result<Files, F
 }
 
 // The disk, with all that was put.
-fn flushed<D: Disk + Drop>(txn: Txn<D>) -> Result<D, Fail>
+pub(crate) fn flushed<D: Disk + Drop>(txn: Txn<D>) -> Result<D, Fail>
     ensures map { IfOk result (λ disk. SameMap (data_of (D.state disk)) (txn_state D.state txn).sectors) }
     ensures size { IfOk result (λ disk. (D.state disk).size ≡ (D.state txn.disk).size) }
 {
