@@ -34,7 +34,7 @@ same_there m n q there back = go (get name_cmp m q) (get name_cmp n q) refl refl
     go None None e f = e ∙ sym f
 
 -- two names are one or two
-cases_name : (a b : List ℕ) → (a ≡ b) ⊎ (a ≢ b)
+pub cases_name : (a b : List ℕ) → (a ≡ b) ⊎ (a ≢ b)
 cases_name a b = go (eq_by_cmp name_cmp a b) refl
   where
     itself : eq_by_cmp name_cmp a a ≡ true

@@ -3,6 +3,7 @@ pub mod ChmodSteps
 pub mod Chmods
 pub mod Ends
 pub mod MadeDirectories
+pub mod MadeNodes
 pub mod MakingMoments
 pub mod MakingRefusals
 pub mod MadeFiles

@@ -24,7 +24,7 @@ use std::alloc::Global;
 use std::test::Fail;
 
 // An empty directory of the superuser's in the root.
-const DIRECTORY: Inode = Inode {
+pub(crate) const DIRECTORY: Inode = Inode {
     kind: Kind::Directory,
     mode: 0o755,
     uid: 0,
@@ -159,7 +159,7 @@ fn changed<D: Disk + Drop>(
 // ---- what is seen
 
 // What a directory shows, and how many sectors are free.
-#[derive(PartialEq, Debug, Drop)]
+#[derive(Debug, Drop)]
 struct Seen {
     // Each name in their order, with the last digit of its inode.
     names: Vec<u8>,
@@ -263,7 +263,7 @@ fn names_are_listed_bytewise_and_refused_as_they_are_there(rt: HostRuntime) -> R
 // ---- many names
 
 // A name for each number below 676.
-fn name_of(i: usize) -> [u8; 2] {
+pub(crate) fn name_of(i: usize) -> [u8; 2] {
     [b'a' + (i / 26 % 26) as u8, b'a' + (i % 26) as u8]
 }
 

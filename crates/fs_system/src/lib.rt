@@ -16,6 +16,8 @@ mod root;
 mod space_tests;
 #[cfg(test)]
 mod tests;
+#[cfg(test)]
+mod walk_tests;
 
 pub use faults::{MkfsFault, MountFault};
 pub use fs::Fs;

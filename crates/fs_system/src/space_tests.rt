@@ -10,6 +10,7 @@ ghost use Rattle.bit_alloc.specs.Inodes.{IsSound};
 ghost use Rattle.bit_alloc.specs.Room.{HasSpare};
 ghost use Rattle.inode_table.specs.Inodes.{ClearAreFree};
 ghost use Rattle.fs_system.specs.Sound.{IsSoundDisk, IsEmptyFile};
+ghost use Rattle.path_walk.specs.SoundInodes.{HasSoundInodes};
 
 use crate::fs::read_place;
 use crate::mkfs;
@@ -29,7 +30,7 @@ use std::alloc::Global;
 use std::test::Fail;
 
 // An empty file of the superuser's.
-const FILE: Inode = Inode {
+pub(crate) const FILE: Inode = Inode {
     kind: Kind::File,
     mode: 0o644,
     uid: 0,
@@ -47,13 +48,15 @@ const FILE: Inode = Inode {
 
 // A new disk of 1,024 sectors with 64 inodes, and where its parts lie.
 pub(crate) fn new_disk(alloc: Global) -> Result<(MemDisk, Place), Fail>
-    ensures { IfOk result (λ r. IsSoundDisk r.1 (⟦<MemDisk as Disk>⟧.state r.0)) }
+    ensures sound { IfOk result (λ r. IsSoundDisk r.1 (⟦<MemDisk as Disk>⟧.state r.0)) }
+    ensures nodes { IfOk result (λ r. HasSoundInodes r.1 (data_of (⟦<MemDisk as Disk>⟧.state r.0))) }
 {
     made(MemDisk::new(alloc, 1024)?)
 }
 
 pub(crate) fn made<D: Disk + Drop>(disk: D) -> Result<(D, Place), Fail>
-    ensures { IfOk result (λ r. IsSoundDisk r.1 (D.state r.0)) }
+    ensures sound { IfOk result (λ r. IsSoundDisk r.1 (D.state r.0)) }
+    ensures nodes { IfOk result (λ r. HasSoundInodes r.1 (data_of (D.state r.0))) }
 {
     let mut disk = disk;
     mkfs(&mut disk, 64)?;
@@ -68,6 +71,8 @@ pub(crate) fn begun<D: Disk + Drop>(alloc: Global, disk: D, place: Place) -> Res
     ensures before { IfOk result (λ txn. SameMap (txn_state D.state txn).before (data_of (D.state disk))) }
     ensures sound { IfOk result (λ txn. IsSound place (txn_state D.state txn)) }
     ensures clear { IfOk result (λ txn. ClearAreFree place (txn_state D.state txn).sectors) }
+    ensures inodes { IfOk result (λ txn. HasSoundInodes place (data_of (D.state disk))
+        → HasSoundInodes place (txn_state D.state txn).sectors) }
     ensures spare { IfOk result (λ txn. HasSpare place 47 (txn_state D.state txn)) }
 {
     match Journal::open(disk) {
@@ -554,13 +559,11 @@ fn perform<S: Sectors>(
         Call::OnBytes(call) => {
             is_done(on_bytes(s, place, files.filled, call), MapFault::DiskFault)
         }
-        Call::NewLink => {
-            let _link = new_link(s, place, 0, 0, b"t")?;
-        }
+        Call::NewLink => is_done(new_link(s, place, 0, 0, b"t"), TakeFault::DiskFault),
     }
 }
 
-fn have_same_image<D: Disk, E: Disk>(left: &mut D, right: &mut E) -> Result<bool, Fail> {
+pub(crate) fn have_same_image<D: Disk, E: Disk>(left: &mut D, right: &mut E) -> Result<bool, Fail> {
     if left.size() != 1024 || right.size() != 1024 {
         return Ok(false);
     }
@@ -614,7 +617,7 @@ fn first_other(alloc: Global, acl: &Acl, call: Call, reads: u32) -> Result<Optio
 }
 
 // An ACL that takes a sector.
-fn extended_acl(alloc: Global) -> Result<Acl, Fail> {
+pub(crate) fn extended_acl(alloc: Global) -> Result<Acl, Fail> {
     let entry = |tag, id| Entry {
         tag,
         id,

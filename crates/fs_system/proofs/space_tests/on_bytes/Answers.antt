@@ -29,8 +29,8 @@ write_at-requires-clause-inode g c =
 
 pub write_at-requires-clause-spare : goal.write_at-requires-clause-spare
 write_at-requires-clause-spare g c =
-    spare_unchanged c.args.place 11 (g.S.Sectors.state c.args.s.now) (g.S.Sectors.state c.load.new.s)
-    (spare_less c.args.place 11 47 (g.S.Sectors.state c.args.s.now) (omega arith) c.requires.spare) c.in_ok-inode.ensures.same
+    spare_unchanged c.args.place 4 (g.S.Sectors.state c.args.s.now) (g.S.Sectors.state c.load.new.s)
+    (spare_less c.args.place 4 47 (g.S.Sectors.state c.args.s.now) (omega arith) c.requires.spare) c.in_ok-inode.ensures.same
 
 pub set_size-requires-clause-sound : goal.set_size-requires-clause-sound
 set_size-requires-clause-sound g c =
