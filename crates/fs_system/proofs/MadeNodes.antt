@@ -1,5 +1,5 @@
 -- The nodes that the tests of walks make.
-use Rattle.std.proofs.Common.{◌≡◌, ◌≢◌, ℕ, ◌+◌, ◌*◌, ◌/◌, ◌%◌, ◌^◌, ◌<◌, ◌≤◌, List, [], ◌∷◌, length, refl, sym, ap, subst, ◌∙◌, arith, inl, inr, ◌⊎◌}
+use Rattle.std.proofs.Common.{◌≡◌, ℕ, ◌%◌, ◌^◌, ◌<◌, List, [], length, refl, sym, ap, subst, ◌∙◌, arith, inl, inr}
 use Rattle.std.proofs.lemmas.Bool.{cases_eq}
 use Rattle.std.specs.Prelude.{Some}
 use Rattle.posix_acl.specs.AccessList.{AccessList}
@@ -35,7 +35,7 @@ use Rattle.dir_core.proofs.NamesAfter.{cases_name}
 use Rattle.path_walk.proofs.HeldInodes.{held_inodes}
 use Rattle.fs_system.specs.Making.{IsNewDisk}
 use Rattle.fs_system.specs.Seen.{HasPartsAt}
-use Rattle.fs_system.specs.SoundDirectories.{IsDirectory}
+use Rattle.fs_system.specs.SoundDirectories.{IsSoundDirectory}
 use Rattle.fs_system.proofs.SpaceTests.{new_file}
 use Rattle.fs_system.proofs.MadeDirectories.{no_names, new_directory}
 
@@ -111,16 +111,19 @@ named_node p n taken more old new v w name to node is change has low =
         inside = inside_with p.inodes d.names name to low d.inside;
         parent = subst (λ (k : ℕ). k < p.inodes) (sym change.fields.parent) d.parent;
       };
-      acl = λ now. (a.0, record {
-        valid = a.1.valid;
-        stored = subst (λ (k : ℕ). HoldsAcl new.sectors k (kept_acl a.0)) (sym kept.acl)
-            (HoldsAcl-kept old.sectors new.sectors v.acl (kept_acl a.0) kept.acl_sector a.1.stored);
-        bits = ap (λ (k : ℕ). k % 512) change.fields.mode ∙ a.1.bits;
-      });
+      acl = λ now. (
+        a.0,
+        record {
+          valid = a.1.valid;
+          stored = subst (λ (k : ℕ). HoldsAcl new.sectors k (kept_acl a.0)) (sym kept.acl)
+              (HoldsAcl-kept old.sectors new.sectors v.acl (kept_acl a.0) kept.acl_sector a.1.stored);
+          bits = ap (λ (k : ℕ). k % 512) change.fields.mode ∙ a.1.bits;
+        },
+      );
     }
 
 pub is_directory : (p : Place) (image : SectorMap) (n : ℕ) (v : Inode) → n < p.inodes → v ≡ inode_at p image n → IsSoundInode p image v → v.kind ≡ kinds.Directory
-    → IsDirectory p image n
+    → IsSoundDirectory p image n
 is_directory p image n v low is node kind =
     let d = node.directory kind in
     record { below = low; names = d.names; has = subst (λ (u : Inode). HasNames image u d.names) is d.has }

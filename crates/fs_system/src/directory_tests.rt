@@ -10,7 +10,7 @@ ghost use Rattle.bit_alloc.specs.Inodes.{IsSound};
 ghost use Rattle.bit_alloc.specs.Room.{HasSpare};
 ghost use Rattle.inode_table.specs.Inodes.{ClearAreFree};
 ghost use Rattle.fs_system.specs.Sound.{IsSoundDisk};
-ghost use Rattle.fs_system.specs.SoundDirectories.{IsDirectory};
+ghost use Rattle.fs_system.specs.SoundDirectories.{IsSoundDirectory};
 
 use crate::space_tests::{begun, flushed, new_disk};
 use bit_alloc::{Bitmap, count_free};
@@ -46,7 +46,7 @@ fn make_directory<S: Sectors>(s: &mut S, place: Place, access: &Acl) -> Result<u
     requires spare { HasSpare place 47 (S.state s.old) }
     ensures sound { OnOk result (IsSound place (S.state s.new)) }
     ensures clear { OnOk result (ClearAreFree place (S.state s.new).sectors) }
-    ensures made { IfOk result (λ n. IsDirectory place (S.state s.new).sectors n) }
+    ensures made { IfOk result (λ n. IsSoundDirectory place (S.state s.new).sectors n) }
 {
     let n = new_inode(s, place, &DIRECTORY, access, None)?;
     Ok(n)
@@ -56,7 +56,7 @@ fn make_directory<S: Sectors>(s: &mut S, place: Place, access: &Acl) -> Result<u
 fn with_directory<D: Disk + Drop>(alloc: Global, disk: D, place: Place) -> Result<(D, u32), Fail>
     requires { IsSoundDisk place (D.state disk) }
     ensures sound { IfOk result (λ r. IsSoundDisk place (D.state r.0)) }
-    ensures made { IfOk result (λ r. IsDirectory place (data_of (D.state r.0)) r.1) }
+    ensures made { IfOk result (λ r. IsSoundDirectory place (data_of (D.state r.0)) r.1) }
 {
     let access = Acl::from_mode(alloc, 0o755)?;
     let mut txn = begun(alloc, disk, place)?;
@@ -101,12 +101,12 @@ fn change_name<S: Sectors>(
     name: &[u8],
 ) -> Result<(), DirFault>
     requires sound { IsSound place (S.state s.old) }
-    requires directory { IsDirectory place (S.state s.old).sectors n }
+    requires directory { IsSoundDirectory place (S.state s.old).sectors n }
     requires name { IsName name.now }
     requires spare { HasSpare place 47 (S.state s.old) }
     ensures sound { OnOk result (IsSound place (S.state s.new)) }
     ensures clear { OnOk result (ClearAreFree place (S.state s.old).sectors → ClearAreFree place (S.state s.new).sectors) }
-    ensures directory { OnOk result (IsDirectory place (S.state s.new).sectors n) }
+    ensures directory { OnOk result (IsSoundDirectory place (S.state s.new).sectors n) }
     ensures store { SameStore (S.state s.old) (S.state s.new) }
 {
     let mut inode = load(s, place, n)?;
@@ -136,9 +136,9 @@ fn changed<D: Disk + Drop>(
     name: &[u8],
 ) -> Result<(D, Result<(), DirFault>), Fail>
     requires sound { IsSoundDisk place (D.state disk) }
-    requires directory { IsDirectory place (data_of (D.state disk)) n }
+    requires directory { IsSoundDirectory place (data_of (D.state disk)) n }
     ensures sound { IfOk result (λ r. IsSoundDisk place (D.state r.0)) }
-    ensures directory { IfOk result (λ r. IsDirectory place (data_of (D.state r.0)) n) }
+    ensures directory { IfOk result (λ r. IsSoundDirectory place (data_of (D.state r.0)) n) }
 {
     if !is_name(name) {
         return Err(Fail::new("no name"));
@@ -169,7 +169,7 @@ struct Seen {
 
 fn see<S: Sectors>(alloc: Global, s: &mut S, place: Place, n: u32) -> Result<Seen, Fail>
     requires sound { IsSound place (S.state s.old) }
-    requires directory { IsDirectory place (S.state s.old).sectors n }
+    requires directory { IsSoundDirectory place (S.state s.old).sectors n }
     ensures store { SameStore (S.state s.old) (S.state s.new) }
 {
     let inode = load(s, place, n)?;
@@ -189,9 +189,9 @@ fn see<S: Sectors>(alloc: Global, s: &mut S, place: Place, n: u32) -> Result<See
 
 fn shown<D: Disk + Drop>(alloc: Global, disk: D, place: Place, n: u32) -> Result<(D, Seen), Fail>
     requires sound { IsSoundDisk place (D.state disk) }
-    requires directory { IsDirectory place (data_of (D.state disk)) n }
+    requires directory { IsSoundDirectory place (data_of (D.state disk)) n }
     ensures sound { IfOk result (λ r. IsSoundDisk place (D.state r.0)) }
-    ensures directory { IfOk result (λ r. IsDirectory place (data_of (D.state r.0)) n) }
+    ensures directory { IfOk result (λ r. IsSoundDirectory place (data_of (D.state r.0)) n) }
 {
     let mut txn = begun(alloc, disk, place)?;
     match see(alloc, &mut txn, place, n) {
@@ -276,9 +276,9 @@ fn filled<D: Disk + Drop>(
     most: usize,
 ) -> Result<(D, usize, Option<DirFault>), Fail>
     requires sound { IsSoundDisk place (D.state disk) }
-    requires directory { IsDirectory place (data_of (D.state disk)) n }
+    requires directory { IsSoundDirectory place (data_of (D.state disk)) n }
     ensures sound { IfOk result (λ r. IsSoundDisk place (D.state r.0)) }
-    ensures directory { IfOk result (λ r. IsDirectory place (data_of (D.state r.0)) n) }
+    ensures directory { IfOk result (λ r. IsSoundDirectory place (data_of (D.state r.0)) n) }
 {
     let mut disk = disk;
     for i in 0..most {

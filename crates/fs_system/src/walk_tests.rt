@@ -202,7 +202,8 @@ fn component(last: Last) -> &'static str {
 fn is_same(found: &Found, way: &Way) -> bool {
     let (dir, name, last, ino, slash, step) = *way;
     let place = (found.dir, found.name.bytes(), component(found.last));
-    place == (dir, name.as_bytes(), last) && (found.ino, found.slash, found.step) == (ino, slash, step)
+    place == (dir, name.as_bytes(), last)
+        && (found.ino, found.slash, found.step) == (ino, slash, step)
 }
 
 fn walked<S: Sectors>(
@@ -280,6 +281,7 @@ fn failed<'a>(errno: Errno) -> Result<Way<'a>, Refusal> {
 
 // Two users, whose groups have the same numbers.
 const SUPERUSER: u32 = 0;
+
 const USER: u32 = 1000;
 
 const ROOT: u32 = 1;
@@ -302,32 +304,74 @@ fn walks_find_and_refuse(rt: HostRuntime) -> Result<(), Fail> {
     let text = |path| (path, "", 0);
     let rows = [
         ((USER, ROOT, text("/a/b/c/d"), follow), no_search(2)),
-        ((SUPERUSER, ROOT, text("/a/b/c/d"), follow), failed(Errno::ENOENT)),
+        (
+            (SUPERUSER, ROOT, text("/a/b/c/d"), follow),
+            failed(Errno::ENOENT),
+        ),
         // The start isn't searchable either.
         ((USER, 4, text("c"), follow), no_search(0)),
         // The root is its own parent.
-        ((SUPERUSER, ROOT, text("/../..//w/."), follow), Ok((2, ".", "dot", Some(2), false, 4))),
-        ((SUPERUSER, ROOT, text("/"), parent), Ok((1, "", "top", Some(1), true, 0))),
-        ((USER, ROOT, ("/", "/", 1_022), parent), Ok((1, "", "top", Some(1), true, 0))),
-        ((USER, ROOT, text("/a/."), parent), Ok((3, ".", "dot", Some(3), false, 2))),
-        ((USER, ROOT, text("/a/.."), parent), Ok((3, "..", "dot dot", Some(1), false, 2))),
+        (
+            (SUPERUSER, ROOT, text("/../..//w/."), follow),
+            Ok((2, ".", "dot", Some(2), false, 4)),
+        ),
+        (
+            (SUPERUSER, ROOT, text("/"), parent),
+            Ok((1, "", "top", Some(1), true, 0)),
+        ),
+        (
+            (USER, ROOT, ("/", "/", 1_022), parent),
+            Ok((1, "", "top", Some(1), true, 0)),
+        ),
+        (
+            (USER, ROOT, text("/a/."), parent),
+            Ok((3, ".", "dot", Some(3), false, 2)),
+        ),
+        (
+            (USER, ROOT, text("/a/.."), parent),
+            Ok((3, "..", "dot dot", Some(1), false, 2)),
+        ),
         // A slash at the end.
         ((USER, ROOT, text("/w/x/"), follow), failed(Errno::ENOTDIR)),
-        ((USER, ROOT, text("/w/x/"), parent), Ok((2, "x", "name", Some(5), true, 2))),
+        (
+            (USER, ROOT, text("/w/x/"), parent),
+            Ok((2, "x", "name", Some(5), true, 2)),
+        ),
         // Names of 121 bytes.
         ((USER, ROOT, ("/a/b/", "n", 121), follow), no_search(2)),
-        ((SUPERUSER, ROOT, ("/a/b/", "n", 121), follow), failed(Errno::ENAMETOOLONG)),
-        ((USER, ROOT, ("/w/", "n", 121), follow), failed(Errno::ENAMETOOLONG)),
+        (
+            (SUPERUSER, ROOT, ("/a/b/", "n", 121), follow),
+            failed(Errno::ENAMETOOLONG),
+        ),
+        (
+            (USER, ROOT, ("/w/", "n", 121), follow),
+            failed(Errno::ENAMETOOLONG),
+        ),
         // Names that are absent.
-        ((USER, ROOT, text("/w/zz"), follow), Ok((2, "zz", "name", None, false, 2))),
+        (
+            (USER, ROOT, text("/w/zz"), follow),
+            Ok((2, "zz", "name", None, false, 2)),
+        ),
         ((USER, ROOT, text("/w/zz/y"), follow), failed(Errno::ENOENT)),
         // Links.
         ((USER, ROOT, text("/w/l"), follow), failed(Errno::ELOOP)),
-        ((USER, ROOT, text("/w/l"), no_follow), Ok((2, "l", "name", Some(6), false, 2))),
+        (
+            (USER, ROOT, text("/w/l"), no_follow),
+            Ok((2, "l", "name", Some(6), false, 2)),
+        ),
         ((USER, ROOT, text("/w/l/"), no_follow), failed(Errno::ELOOP)),
-        ((USER, ROOT, text("/w/t"), follow), Ok((2, "t", "name", Some(1), true, 2))),
-        ((USER, ROOT, text("/w/r"), follow), Ok((2, "x", "name", Some(5), false, 3))),
-        ((USER, 2, text("r"), follow), Ok((2, "x", "name", Some(5), false, 2))),
+        (
+            (USER, ROOT, text("/w/t"), follow),
+            Ok((2, "t", "name", Some(1), true, 2)),
+        ),
+        (
+            (USER, ROOT, text("/w/r"), follow),
+            Ok((2, "x", "name", Some(5), false, 3)),
+        ),
+        (
+            (USER, 2, text("r"), follow),
+            Ok((2, "x", "name", Some(5), false, 2)),
+        ),
         ((USER, ROOT, ("a", "/a", 511), follow), failed(Errno::ELOOP)),
     ];
     let other = first_other_in(rt.alloc(), &TREE, &rows)?;
@@ -465,7 +509,13 @@ fn with_names<D: Disk + Drop>(
     for i in 0..count {
         let name = name_of(i);
         let name = str::from_utf8(&name)?;
-        disk = with_node(alloc, disk, place, &(parent, name, Made::Name(ROOT), 0, 0), access)?;
+        disk = with_node(
+            alloc,
+            disk,
+            place,
+            &(parent, name, Made::Name(ROOT), 0, 0),
+            access,
+        )?;
     }
     let below = (parent, "d", Made::Directory, SUPERUSER, 0);
     let disk = with_node(alloc, disk, place, &below, access)?;
@@ -493,7 +543,10 @@ fn read_by_walk(alloc: Global, access: &Acl) -> Result<(bool, u32), Fail> {
     let (disk, place) = new_disk(alloc)?;
     let disk = deep(alloc, disk, place, access)?;
     let txn = begun(alloc, disk, place)?;
-    let mut counted = Counted { inner: txn, gets: 0 };
+    let mut counted = Counted {
+        inner: txn,
+        gets: 0,
+    };
     let path = (SUPERUSER, ROOT, ("", "/d", 6), Form::Follow);
     let answer = walked(alloc, &mut counted, place, &path);
     let Counted { inner, gets } = counted;
@@ -517,9 +570,10 @@ fn a_walk_reads_each_sector_once(rt: HostRuntime) -> Result<(), Fail> {
 
 // A file, and links each to the one before.
 const CHAIN: [&str; 42] = [
-    "f", "l1", "l2", "l3", "l4", "l5", "l6", "l7", "l8", "l9", "l10", "l11", "l12", "l13", "l14", "l15",
-    "l16", "l17", "l18", "l19", "l20", "l21", "l22", "l23", "l24", "l25", "l26", "l27", "l28", "l29",
-    "l30", "l31", "l32", "l33", "l34", "l35", "l36", "l37", "l38", "l39", "l40", "l41",
+    "f", "l1", "l2", "l3", "l4", "l5", "l6", "l7", "l8", "l9", "l10", "l11", "l12", "l13", "l14",
+    "l15", "l16", "l17", "l18", "l19", "l20", "l21", "l22", "l23", "l24", "l25", "l26", "l27",
+    "l28", "l29", "l30", "l31", "l32", "l33", "l34", "l35", "l36", "l37", "l38", "l39", "l40",
+    "l41",
 ];
 
 fn chain(alloc: Global) -> Result<Vec<NewNode<'static>>, Fail> {
@@ -541,9 +595,18 @@ fn forty_links_are_followed(rt: HostRuntime) -> Result<(), Fail> {
     let nodes = chain(rt.alloc())?;
     let rows = [
         // Each link is a lookup, and so is the file.
-        ((USER, ROOT, ("/l40", "", 0), Form::Follow), Ok((1, "f", "name", Some(2), false, 41))),
-        ((USER, ROOT, ("/l41", "", 0), Form::Follow), failed(Errno::ELOOP)),
-        ((USER, ROOT, ("/l41", "", 0), Form::NoFollow), Ok((1, "l41", "name", Some(43), false, 1))),
+        (
+            (USER, ROOT, ("/l40", "", 0), Form::Follow),
+            Ok((1, "f", "name", Some(2), false, 41)),
+        ),
+        (
+            (USER, ROOT, ("/l41", "", 0), Form::Follow),
+            failed(Errno::ELOOP),
+        ),
+        (
+            (USER, ROOT, ("/l41", "", 0), Form::NoFollow),
+            Ok((1, "l41", "name", Some(43), false, 1)),
+        ),
     ];
     let other = first_other_in(rt.alloc(), nodes.as_slice(), &rows)?;
     assert!(rt; other.is_none(), "{other:?}");

@@ -72,10 +72,6 @@ pub on_err : {A : Type 0} (P : Type 0) (r : Result A Refusal) → IsErr r → On
 on_err P (Ok x) err = absurd (ok_is_no_err x err)
 on_err P (Err e) err = tt
 
-pub matched_err : {A : Type 0} (r : Result A Refusal) (e : Refusal) (P : A → Type 0) (Q : Refusal → Type 0) → IsErr r → IsErrAnd r (λ y. y ≡ e) → Q e
-    → MatchResult r P Q
-matched_err r e P Q err and q = subst (λ (s : Result _ Refusal). MatchResult s P Q) (sym (is_err r e err and)) q
-
 pub failed_with : {A : Type 0} (r : Result A Refusal) (e : Refusal) (P : Refusal → Type 0) → IsErr r → IsErrAnd r (λ y. y ≡ e) → P e → IfErr r P
 failed_with r e P err and h = subst (λ (s : Result _ Refusal). IfErr s P) (sym (is_err r e err and)) h
 

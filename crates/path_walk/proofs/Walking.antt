@@ -91,29 +91,6 @@ dir_taken old mid taken = ap (λ (w : Walker). w.dir) taken.is ∙ sym (ap (λ (
 pub here_taken : (old mid : Walker) (t : Tree) → HasTaken old mid → IsThere t old.here → IsThere t mid.here
 here_taken old mid t taken there = subst (IsThere t) (sym (ap (λ (w : Walker). w.here) taken.is)) there
 
--- ---- causes
-no_io : (d : Demand) (f : Found) → d ≢ Some (Failed EIO) → refused_or d (Ok f) ≢ Err (Failed EIO)
-no_io None f never e = absurd (cc)
-no_io (Some r) f never e = never (let same : r ≡ Failed EIO = cc in ap (λ (x : Refusal). Some x) same)
-
-pub never_io : (t : Tree) (cred : Credential) (walk cwd : ℕ) (form : Form) (path : List ℕ) → walk_of t cred walk form cwd path ≢ Err (Failed EIO)
-never_io t cred walk cwd form path =
-    no_io (first_refusal t cred walk form (trail_of t cwd form path)) _ (walks_are_no_eio t cred walk cwd form path)
-
-pub cause_is : {A : Type 0} (old new : DiskState) (right r : Result A Refusal) → old.failures ≤ new.failures → right ≢ Err (Failed EIO)
-    → IsAnswered old new right r → HasCauseOf (Failed EIO) old new r
-cause_is old new right (Ok x) later never h = record { later = later; failed = tt }
-cause_is old new right (Err e) later never h = record {
-  later = later;
-  failed = λ is. elim h [
-    | inl a ↦ absurd (never (a ∙ ap (λ (x : Refusal). Err x) is))
-    | inr way ↦ elim way [
-      | inl memory ↦ absurd (let both : Failed ENOMEM ≡ Failed EIO = sym memory ∙ is in cc)
-      | inr read ↦ read.1
-    ]
-  ];
-}
-
 -- the end of a walk refuses with ENOTDIR alone
 pub end_caused : (old new : DiskState) (form : Form) (w : Walker) (e : Refusal) → arrival_of form w ≡ Err e → IsCaused old new e
 end_caused old new form w e is eio = go (not (is_parent_form form) && w.slash && not (is_directory_kind w.inode.kind)) is

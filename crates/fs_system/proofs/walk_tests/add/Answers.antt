@@ -1,7 +1,6 @@
 use Rattle.std.proofs.Common.{◌<◌, sym, subst, arith}
-use Rattle.fs_layout.specs.Images.{inode_at}
-use Rattle.bit_alloc.proofs.Transactions.{map_unchanged, spare_unchanged}
-use Rattle.path_walk.specs.SoundInodes.{IsSoundInode, HasSoundInodes}
+use Rattle.bit_alloc.proofs.Transactions.{spare_unchanged}
+use Rattle.path_walk.specs.SoundInodes.{IsSoundInode}
 use Rattle.fs_system.proofs.SpaceTests.{sound_unchanged, clear_unchanged, has_spare, still_there}
 use Rattle.fs_system.proofs.MadeDirectories.{clear_renamed}
 use Rattle.fs_system.proofs.MadeNodes.{nodes_changed, named_node, is_directory, loaded_node, nodes_unchanged}
@@ -19,7 +18,7 @@ insert-requires-clause-inode g c =
 pub insert-requires-clause-directory : goal.insert-requires-clause-directory
 insert-requires-clause-directory g c =
     let node = loaded_node c.args.place c.args.node.now.0 (g.S.Sectors.state c.new_node.new.s) (g.S.Sectors.state c.load.new.s) c.in_ok-inode.inode (omega (arith, c.if-parent-place.false))
-        c.in_ok-inode.ensures.same c.in_ok-inode.ensures.found c.in_ok-n.ensures.nodes in
+    c.in_ok-inode.ensures.same c.in_ok-inode.ensures.found c.in_ok-n.ensures.nodes in
     let d = node.directory c.in-Directory.is in
     (d.names, d.has)
 
