@@ -298,11 +298,13 @@ const TREE: [NewNode; 8] = [
     (3, "a", Made::Link("."), USER, 0),
 ];
 
-#[test]
-fn walks_find_and_refuse(rt: HostRuntime) -> Result<(), Fail> {
-    let (follow, no_follow, parent) = (Form::Follow, Form::NoFollow, Form::Parent);
-    let text = |path| (path, "", 0);
-    let rows = [
+fn text<'a>(path: &'a str) -> (&'a str, &'a str, usize) {
+    (path, "", 0)
+}
+
+fn refused_rows() -> [Row<'static>; 11] {
+    let follow = Form::Follow;
+    [
         ((USER, ROOT, text("/a/b/c/d"), follow), no_search(2)),
         (
             (SUPERUSER, ROOT, text("/a/b/c/d"), follow),
@@ -310,6 +312,31 @@ fn walks_find_and_refuse(rt: HostRuntime) -> Result<(), Fail> {
         ),
         // The start isn't searchable either.
         ((USER, 4, text("c"), follow), no_search(0)),
+        ((USER, ROOT, text("/w/x/"), follow), failed(Errno::ENOTDIR)),
+        // Names of 121 bytes.
+        ((USER, ROOT, ("/a/b/", "n", 121), follow), no_search(2)),
+        (
+            (SUPERUSER, ROOT, ("/a/b/", "n", 121), follow),
+            failed(Errno::ENAMETOOLONG),
+        ),
+        (
+            (USER, ROOT, ("/w/", "n", 121), follow),
+            failed(Errno::ENAMETOOLONG),
+        ),
+        ((USER, ROOT, text("/w/zz/y"), follow), failed(Errno::ENOENT)),
+        // Links to themselves.
+        ((USER, ROOT, text("/w/l"), follow), failed(Errno::ELOOP)),
+        (
+            (USER, ROOT, text("/w/l/"), Form::NoFollow),
+            failed(Errno::ELOOP),
+        ),
+        ((USER, ROOT, ("a", "/a", 511), follow), failed(Errno::ELOOP)),
+    ]
+}
+
+fn found_rows() -> [Row<'static>; 7] {
+    let (follow, parent) = (Form::Follow, Form::Parent);
+    [
         // The root is its own parent.
         (
             (SUPERUSER, ROOT, text("/../..//w/."), follow),
@@ -331,35 +358,24 @@ fn walks_find_and_refuse(rt: HostRuntime) -> Result<(), Fail> {
             (USER, ROOT, text("/a/.."), parent),
             Ok((3, "..", "dot dot", Some(1), false, 2)),
         ),
-        // A slash at the end.
-        ((USER, ROOT, text("/w/x/"), follow), failed(Errno::ENOTDIR)),
         (
             (USER, ROOT, text("/w/x/"), parent),
             Ok((2, "x", "name", Some(5), true, 2)),
         ),
-        // Names of 121 bytes.
-        ((USER, ROOT, ("/a/b/", "n", 121), follow), no_search(2)),
-        (
-            (SUPERUSER, ROOT, ("/a/b/", "n", 121), follow),
-            failed(Errno::ENAMETOOLONG),
-        ),
-        (
-            (USER, ROOT, ("/w/", "n", 121), follow),
-            failed(Errno::ENAMETOOLONG),
-        ),
-        // Names that are absent.
         (
             (USER, ROOT, text("/w/zz"), follow),
             Ok((2, "zz", "name", None, false, 2)),
         ),
-        ((USER, ROOT, text("/w/zz/y"), follow), failed(Errno::ENOENT)),
-        // Links.
-        ((USER, ROOT, text("/w/l"), follow), failed(Errno::ELOOP)),
+    ]
+}
+
+fn link_rows() -> [Row<'static>; 4] {
+    let follow = Form::Follow;
+    [
         (
-            (USER, ROOT, text("/w/l"), no_follow),
+            (USER, ROOT, text("/w/l"), Form::NoFollow),
             Ok((2, "l", "name", Some(6), false, 2)),
         ),
-        ((USER, ROOT, text("/w/l/"), no_follow), failed(Errno::ELOOP)),
         (
             (USER, ROOT, text("/w/t"), follow),
             Ok((2, "t", "name", Some(1), true, 2)),
@@ -372,10 +388,16 @@ fn walks_find_and_refuse(rt: HostRuntime) -> Result<(), Fail> {
             (USER, 2, text("r"), follow),
             Ok((2, "x", "name", Some(5), false, 2)),
         ),
-        ((USER, ROOT, ("a", "/a", 511), follow), failed(Errno::ELOOP)),
-    ];
-    let other = first_other_in(rt.alloc(), &TREE, &rows)?;
-    assert!(rt; other.is_none(), "{other:?}");
+    ]
+}
+
+#[test]
+fn walks_find_and_refuse(rt: HostRuntime) -> Result<(), Fail> {
+    let refused = first_other_in(rt.alloc(), &TREE, &refused_rows())?;
+    let found = first_other_in(rt.alloc(), &TREE, &found_rows())?;
+    let linked = first_other_in(rt.alloc(), &TREE, &link_rows())?;
+    let seen = (refused, found, linked);
+    assert!(rt; seen == (None, None, None), "{seen:?}");
     Ok(())
 }
 
