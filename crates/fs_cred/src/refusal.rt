@@ -1,6 +1,7 @@
 //! What a call asks for, and what it answers where that is refused.
 ghost use Rattle.std.specs.Prelude.{◌≡◌};
 ghost use Rattle.fs_cred.specs.Refusals.{need_errno};
+ghost use Rattle.fs_cred.specs.declared.refusal.Refusal.TheVariants.{Denied, Failed};
 
 use crate::errno::Errno;
 use crate::rule::Rule;
@@ -51,6 +52,21 @@ pub struct Denial {
     pub rule: Rule,
 }
 
+impl Denial {
+    /// A denial with the error of its need.
+    pub fn new(walk: u8, step: usize, need: Need, rule: Rule) -> Denial
+        ensures { result ≡ record { errno = need_errno need; walk = walk; step = step; need = need; rule = rule } }
+    {
+        Denial {
+            errno: need.errno(),
+            walk,
+            step,
+            need,
+            rule,
+        }
+    }
+}
+
 /// Why a call is refused.
 #[derive(Clone, Copy, PartialEq, Eq)]
 pub enum Refusal {
@@ -58,4 +74,20 @@ pub enum Refusal {
     Denied(Denial),
     /// Something else.
     Failed(Errno),
+}
+
+impl From<Denial> for Refusal {
+    ghost from_gives = { λ denial refusal. refusal ≡ Denied denial };
+
+    fn from(denial: Denial) -> Refusal {
+        Refusal::Denied(denial)
+    }
+}
+
+impl From<Errno> for Refusal {
+    ghost from_gives = { λ errno refusal. refusal ≡ Failed errno };
+
+    fn from(errno: Errno) -> Refusal {
+        Refusal::Failed(errno)
+    }
 }
