@@ -9,3 +9,4 @@ pub mod Stepping
 pub mod Finding
 pub mod Reaching
 pub mod Asking
+pub mod Calling

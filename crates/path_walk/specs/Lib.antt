@@ -7,3 +7,5 @@ pub mod Components
 pub mod Rests
 pub mod Stages
 pub mod Laws
+pub mod Performing
+pub mod Paths

@@ -18,4 +18,4 @@ pub use laws::inodes_say_what_stands;
 pub use links::read_target;
 pub use paths::{MAX_PATH, check_path};
 pub use walker::MAX_LINKS;
-pub use walks::walk;
+pub use walks::{resolve, walk};

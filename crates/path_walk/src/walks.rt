@@ -1,6 +1,8 @@
 //! The walk of a path.
 
-ghost use Rattle.std.specs.Prelude.{◌<◌, ◌≤◌, length};
+ghost use Rattle.std.specs.Prelude.{◌≡◌, ◌<◌, ◌≤◌, length, None, Some, Err, IfOk};
+ghost use Rattle.fs_model.specs.Demands.{first_of};
+ghost use Rattle.fs_model.specs.Parts.{path_checks};
 ghost use Rattle.fs_model.specs.Limits.{path_limit};
 ghost use Rattle.fs_model.specs.Trees.{Tree};
 ghost use Rattle.sector_txn.specs.Sectors.{IsUnchanged};
@@ -12,6 +14,7 @@ ghost use Rattle.path_walk.specs.SoundInodes.{HasSoundInodes};
 ghost use Rattle.path_walk.specs.Walked.{walk_of};
 
 use crate::components::follows_last;
+use crate::paths::check_path;
 use crate::walker::Walker;
 use fs_cred::{Cred, Errno, Refusal};
 use fs_layout::Place;
@@ -51,4 +54,31 @@ pub fn walk<S: Sectors>(
     }
     let found = walker.arrive(form)?;
     Ok(found)
+}
+
+/// Checks a path and walks it, as a call with one path does for its caller.
+///
+/// The checks take no memory and read nothing.
+pub fn resolve<S: Sectors>(
+    alloc: Global,
+    s: &mut S,
+    place: Place,
+    cred: &Cred,
+    cwd: u32,
+    path: &Path,
+    form: Form,
+) -> Result<Found, Refusal>
+    requires sound { IsSound place (S.state s.old) }
+    requires inodes { HasSoundInodes place (S.state s.old).sectors }
+    requires start { cwd < place.inodes }
+    ensures checked { (refusal : Refusal) → first_of (path_checks path.now) ≡ Some refusal → result ≡ Err refusal }
+    ensures each { first_of (path_checks path.now) ≡ None
+        → (t : Tree) → HoldsTree place (S.state s.old).sectors t → IsThere t cwd
+        → IsAnswered (S.state s.old).disk (S.state s.new).disk (walk_of t cred.now 1 form cwd path.now) result }
+    ensures valid { IfOk result (λ found. first_of (path_checks path.now) ≡ None) }
+    ensures same { IsUnchanged (S.state s.old) (S.state s.new) }
+    ensures cause { HasCauseOf (Refusal.Failed Errno.EIO) (S.state s.old).disk (S.state s.new).disk result }
+{
+    check_path(path)?;
+    walk(alloc, s, place, cred, cwd, path, form, 1)
 }

@@ -1,0 +1,71 @@
+-- What a call of a process does inside a transaction, in one form for all calls.
+--     IsStateOf        the state of a map and a table of processes
+--     IsReady        a transaction in which a call may be performed
+--     IsDone        nothing refuses the call, and the map holds the tree after it
+--     IsRefused        why the call is refused
+--     Performs        the whole
+use Rattle.std.specs.Prelude.{◌≡◌, ℕ, Option, None, Some, IsTrue, IsFalse, Result, MatchResult, OnOk, OnErr}
+use Rattle.sector_disk.specs.Disk.{DiskState, HasFailed}
+use Rattle.fs_cred.specs.declared.errno.Errno.TheVariants.{ENOMEM, EIO}
+use Rattle.fs_cred.specs.declared.refusal.Refusal.{Refusal}
+use Rattle.fs_cred.specs.declared.refusal.Refusal.TheVariants.{Failed}
+use Rattle.fs_layout.specs.declared.place.Place.{Place}
+use Rattle.fs_layout.specs.Bytes.{SectorMap}
+use Rattle.fs_layout.specs.Images.{free_sectors}
+use Rattle.sector_txn.specs.Sectors.{TxnState, SameStore}
+use Rattle.fs_model.specs.declared.call.Call.{Call}
+use Rattle.fs_model.specs.declared.reply.Reply.{Reply}
+use Rattle.fs_model.specs.declared.event.Event.TheVariants.{Call as Calls}
+use Rattle.fs_model.specs.Processes.{Desks}
+use Rattle.fs_model.specs.Changes.{Change, changed, swept}
+use Rattle.fs_model.specs.States.{State, IsState}
+use Rattle.fs_model.specs.Stands.{HoldsAll, placed, room_of}
+use Rattle.fs_model.specs.Steps.{Choice, HasNewNumber, after, asks_in_call, firm_refusal, other_refusal}
+use Rattle.bit_alloc.specs.Inodes.{IsSound}
+use Rattle.bit_alloc.specs.Room.{HasSpare}
+
+-- a state that runs: its tree is what the map holds, and its processes are those of the table
+pub record IsStateOf (p : Place) (map : SectorMap) (desks : Desks) (s : State) : Type 0 where
+  pub is_state : IsState s
+  pub up : IsFalse s.halted
+  pub same_desks : s.desks ≡ desks
+  pub same_room : s.room ≡ room_of p
+  pub holds : HoldsAll p map (placed s.tree)
+  pub free_is : s.free ≡ free_sectors p map
+
+-- The transaction has put nothing, or little enough: all bitmaps can be put, and as many sectors more as there are at its start.
+-- Its map and the table are those of a state.
+pub record IsReady (p : Place) (txn : TxnState) (desks : Desks) : Type 0 where
+  pub sound : IsSound p txn
+  pub spare : HasSpare p 47 txn
+  pub state : State
+  pub is_state : IsStateOf p txn.sectors desks state
+
+-- a call reads no more of a choice than the number of a new node
+abbrev pub chosen : ℕ → ℕ → Choice
+chosen number free = record { number = number; pid = 0; free = free }
+
+-- Nothing refuses the call. It gives this reply and leaves these processes, and the map holds the tree after it.
+pub record IsDone (p : Place) (map : SectorMap) (desks : Desks) (s : State) (pid : ℕ) (call : Call) (reply : Reply) : Type 0 where
+  pub early : firm_refusal s (Calls pid call) ≡ None
+  pub late : other_refusal s (Calls pid call) ≡ None
+  pub number : ℕ
+  pub change : Change
+  pub effect : after s (Calls pid call) (chosen number 0) ≡ record { change = change; desks = desks; reply = reply }
+  pub new_number : HasNewNumber s change
+  pub holds : HoldsAll p map (placed (swept (changed s.tree change) desks))
+
+-- The call is refused: by what is asked first, by what is asked then, for want of memory, or for a read that failed.
+pub data IsRefused (old new : DiskState) (s : State) (pid : ℕ) (call : Call) (r : Refusal) : Type 0 where
+  early : firm_refusal s (Calls pid call) ≡ Some r → IsRefused old new s pid call r
+  late : firm_refusal s (Calls pid call) ≡ None → other_refusal s (Calls pid call) ≡ Some r → IsRefused old new s pid call r
+  lacks_memory : firm_refusal s (Calls pid call) ≡ None → IsTrue (asks_in_call call) → r ≡ Failed ENOMEM → IsRefused old new s pid call r
+  read_fails : firm_refusal s (Calls pid call) ≡ None → HasFailed old new → r ≡ Failed EIO → IsRefused old new s pid call r
+
+-- A call of process pid. At `Err` the table is as it was, and of the map nothing is said: its changes are dropped.
+pub record Performs (p : Place) (pid : ℕ) (call : Call) (old new : TxnState) (before now : Desks) (result : Result Reply Refusal) : Type 0 where
+  pub store : SameStore old new
+  pub super : OnOk result (new.sectors 0 ≡ old.sectors 0)
+  pub table : OnErr result (now ≡ before)
+  pub each : (s : State) → IsStateOf p old.sectors before s
+      → MatchResult result (λ reply. IsDone p new.sectors now s pid call reply) (λ r. IsRefused old.disk new.disk s pid call r)
