@@ -3,6 +3,7 @@ pub mod BuiltTrees
 pub mod Counting
 pub mod Findings
 pub mod Finds
+pub mod Followed
 pub mod Frame
 pub mod FreeInodes
 pub mod Kept

@@ -1,5 +1,5 @@
 -- The laws of the definitions, each the contract of a function.
-use Rattle.std.specs.Prelude.{◌≡◌, ◌≢◌, ℕ, ◌+◌, ◌-◌, ◌<◌, ◌≤◌, ◌==◌, length, nat_eq, nat_le, not, ◌&&◌, ◌||◌, List, slice_get, Option, Some, None, IsTrue, is_some, option_map, count_by}
+use Rattle.std.specs.Prelude.{IsFalse, ◌≡◌, ◌≢◌, ℕ, ◌+◌, ◌-◌, ◌<◌, ◌≤◌, ◌==◌, length, nat_eq, nat_le, not, ◌&&◌, ◌||◌, List, slice_get, Option, Some, None, IsTrue, is_some, option_map, count_by}
 use Rattle.std.specs.List.{range_with_len}
 use Rattle.std.specs.Ordering.{nat_cmp}
 use Rattle.fs_cred.specs.declared.errno.Errno.TheVariants.{EIO}
@@ -22,13 +22,14 @@ use Rattle.fs_model.specs.declared.reply.Reply.TheVariants.{Done}
 use Rattle.fs_model.specs.declared.reply.Reply.{Reply}
 use Rattle.fs_model.specs.declared.reply.FileType.{FileType}
 use Rattle.fs_layout.specs.Maps.{get, with_entry, IsMap}
-use Rattle.fs_model.specs.Nodes.{Node, names_in, sectors_of, type_of, accessed}
+use Rattle.fs_model.specs.Nodes.{Node, is_link, names_in, sectors_of, type_of, accessed}
 use Rattle.fs_model.specs.Kinds.{kind_of_type, type_of_kind, access_kind}
-use Rattle.fs_model.specs.Trees.{Tree, Room, node_at, with_node, names_of, parent, sectors_needed, free_inodes, IsTree}
+use Rattle.fs_model.specs.Trees.{Tree, Room, node_at, with_node, names_of, parent, sectors_needed, free_inodes, IsTree, IsDirectoryAt}
 use Rattle.fs_model.specs.Processes.{Process, Desks, is_open}
 use Rattle.fs_model.specs.Changes.{pruned, swept}
 use Rattle.fs_model.specs.States.{State, MayBeFree, FitsTree, IsState}
 use Rattle.fs_model.specs.declared.walk.Form.{Form}
+use Rattle.fs_model.specs.declared.walk.Form.TheVariants.{Follow}
 use Rattle.fs_model.specs.Trails.{Lookup, trail_of}
 use Rattle.fs_model.specs.Walks.{lookup_refusal, least_refusal, IsLeastRefusal, first_refusal}
 use Rattle.fs_model.specs.Steps.{Step, firm_refusal, other_refusal}
@@ -170,6 +171,12 @@ abbrev pub FindsAreThere : Type 0
 FindsAreThere =
     (room : Room) (t : Tree) (cwd n : ℕ) (form : Form) (path : List ℕ) → IsTree room t → IsTrue (is_some (node_at t cwd))
     → (trail_of t cwd form path).found ≡ Some n → IsTrue (is_some (node_at t n))
+
+-- Where a link at the end of a path is followed, what is found is none.
+abbrev pub FollowedAreNoLinks : Type 0
+FollowedAreNoLinks =
+    (room : Room) (t : Tree) (cwd n : ℕ) (path : List ℕ) (node : Node) → IsTree room t → IsDirectoryAt t cwd
+    → (trail_of t cwd Follow path).found ≡ Some n → node_at t n ≡ Some node → IsFalse (is_link node.body)
 
 -- One inode changes with what it owns, and holds what it is to hold then; all others are to hold what they held.
 pub record OneIsPlaced (p : Place) (n : ℕ) (new : SectorMap) (what then : ℕ → Option Placed) : Type 0 where

@@ -1,6 +1,6 @@
 //! The laws of the definitions: each is the contract of a function that changes nothing.
 ghost use Rattle.fs_cred.specs.Laws.{HasAnAnswer, HasOneAnswer, VerdictDecides};
-ghost use Rattle.fs_model.specs.Laws.{AccessKindsAgree, CountsFit, FindingRefuses, FindsAreThere, FirmRefusesOtherwise, FreeAreClear, NewDiskStands, NewImagesExist, NoneRefuses, NothingToDrop, NumbersAreCounts, ObeyingStands, OneFinding, OneNodeChanges, OpenStays, OtherRefusesOtherwise, PruningKeeps, RefusesLeast, RewritingKeeps, SameProcessStays, SomeImageStands, StandingObeys, StandingRests, StandingRestsOnReading, StandsForOne, StepsKeep, StoredKindsAgree, SyncingKeeps, TypesComeBack, WalksRefuseOtherwise};
+ghost use Rattle.fs_model.specs.Laws.{AccessKindsAgree, CountsFit, FindingRefuses, FindsAreThere, FirmRefusesOtherwise, FollowedAreNoLinks, FreeAreClear, NewDiskStands, NewImagesExist, NoneRefuses, NothingToDrop, NumbersAreCounts, ObeyingStands, OneFinding, OneNodeChanges, OpenStays, OtherRefusesOtherwise, PruningKeeps, RefusesLeast, RewritingKeeps, SameProcessStays, SomeImageStands, StandingObeys, StandingRests, StandingRestsOnReading, StandsForOne, StepsKeep, StoredKindsAgree, SyncingKeeps, TypesComeBack, WalksRefuseOtherwise};
 ghost use Rattle.fs_model.specs.Ranges.{IsSomeId, IsCall};
 ghost use Rattle.posix_acl.specs.AccessList.{IsSomeAcl};
 
@@ -83,9 +83,10 @@ pub fn call_is_in_range(call: &Call)
     }
 }
 
-/// What a path leads to is in the tree.
+/// What a path leads to is in the tree, and where a link at its end is followed it is no link.
 pub fn finds_are_there()
-    ensures { FindsAreThere }
+    ensures there { FindsAreThere }
+    ensures followed { FollowedAreNoLinks }
 {}
 
 /// Without its nameless files a tree is a tree.
