@@ -202,9 +202,9 @@ module _ (s : State) (pid : ℕ) (q : Process) (call : Call) (form : Form) (path
         ∙ ap (λ (d : Desks). record { change = Same; desks = d; reply = reply }) (same_process_stays s.desks pid q at.is_state.pids there)
 
 -- what the walk of a path has found
-pub resolved : {old new : DiskState} {s : State} {pid : ℕ} {q : Process} {form : Form} {path : List ℕ} (f : Found) → get nat_cmp s.desks pid ≡ Some q
+pub resolved : (old new : DiskState) {s : State} {pid : ℕ} {q : Process} {form : Form} {path : List ℕ} (f : Found) → get nat_cmp s.desks pid ≡ Some q
     → first_of (path_checks path) ≡ None → IsAnswered old new (walk_of s.tree q.cred 1 form q.cwd path) (Ok f) → HasFound s pid q form path f
-resolved {old} {new} {s} {pid} {q} {form} {path} f there checked e =
+resolved old new {s} {pid} {q} {form} {path} f there checked e =
     let is = met_ok (first_refusal s.tree q.cred 1 form (trail_in s.tree q.cwd (form, path))) (found_by s.tree q.cwd (form, path)) f e in
     record { there = there; checked = checked; unrefused = is.0; is = sym is.1 }
 

@@ -18,8 +18,8 @@ use fs_layout::{Inode, Place};
 use inode_table::load;
 use sector_txn::Sectors;
 
-/// Reads inode n.
-pub(crate) fn load_inode<S: Sectors>(s: &mut S, place: Place, n: u32) -> Result<Inode, Refusal>
+/// Reads inode n. EIO: the disk has failed.
+pub fn load_inode<S: Sectors>(s: &mut S, place: Place, n: u32) -> Result<Inode, Refusal>
     requires sound { IsSound place (S.state s.old) }
     requires below { n < place.inodes }
     ensures each { IsAnswered (S.state s.old).disk (S.state s.new).disk (Ok (inode_at place (S.state s.old).sectors n)) result }

@@ -1,0 +1,53 @@
+//! The space that a call asks for before it takes any.
+
+ghost use Rattle.std.specs.Prelude.{◌==◌, nat_lt, Ok};
+ghost use Rattle.fs_cred.specs.declared.errno.Errno.TheVariants.{ENOSPC};
+ghost use Rattle.fs_layout.specs.Images.{free_sectors};
+ghost use Rattle.fs_model.specs.Demands.{refuse};
+ghost use Rattle.fs_model.specs.Limits.{least_free};
+ghost use Rattle.sector_txn.specs.Sectors.{IsUnchanged};
+ghost use Rattle.bit_alloc.specs.Bitmaps.{HasBitmaps, free_numbers};
+ghost use Rattle.bit_alloc.specs.declared.bitmap.Bitmap.TheVariants.{Inodes};
+ghost use Rattle.path_walk.specs.Answers.{refused_or, IsAnswered};
+
+use bit_alloc::{Bitmap, has_free};
+use fs_cred::{Errno, Refusal};
+use fs_layout::Place;
+use sector_txn::Sectors;
+
+/// How many data sectors have to be free for a call that may take one, whatever it needs.
+const LEAST_FREE: u32 = 16;
+
+// Whether so many numbers are free, or else ENOSPC.
+fn ask_for<S: Sectors>(s: &mut S, place: Place, map: Bitmap, count: u32) -> Result<(), Refusal>
+    requires { HasBitmaps place (S.state s.old) }
+    ensures each { IsAnswered (S.state s.old).disk (S.state s.new).disk
+        (refused_or (refuse ENOSPC (nat_lt (free_numbers place map (S.state s.old).sectors) count)) (Ok tt)) result }
+    ensures same { IsUnchanged (S.state s.old) (S.state s.new) }
+{
+    match has_free(s, place, map, count) {
+        Ok(true) => Ok(()),
+        Ok(false) => Err(Refusal::Failed(Errno::ENOSPC)),
+        Err(_) => Err(Refusal::Failed(Errno::EIO)),
+    }
+}
+
+/// Asks for free data sectors, before a call that may take some. ENOSPC: fewer than 16 are free.
+pub fn ask_for_sectors<S: Sectors>(s: &mut S, place: Place) -> Result<(), Refusal>
+    requires { HasBitmaps place (S.state s.old) }
+    ensures each { IsAnswered (S.state s.old).disk (S.state s.new).disk
+        (refused_or (refuse ENOSPC (nat_lt (free_sectors place (S.state s.old).sectors) least_free)) (Ok tt)) result }
+    ensures same { IsUnchanged (S.state s.old) (S.state s.new) }
+{
+    ask_for(s, place, Bitmap::Blocks, LEAST_FREE)
+}
+
+/// Asks for a free inode. ENOSPC: none is free.
+pub fn ask_for_inode<S: Sectors>(s: &mut S, place: Place) -> Result<(), Refusal>
+    requires { HasBitmaps place (S.state s.old) }
+    ensures each { IsAnswered (S.state s.old).disk (S.state s.new).disk
+        (refused_or (refuse ENOSPC (free_numbers place Inodes (S.state s.old).sectors == 0)) (Ok tt)) result }
+    ensures same { IsUnchanged (S.state s.old) (S.state s.new) }
+{
+    ask_for(s, place, Bitmap::Inodes, 1)
+}
