@@ -10,3 +10,4 @@ pub mod Finding
 pub mod Reaching
 pub mod Asking
 pub mod Calling
+pub mod ByPath
