@@ -9,4 +9,4 @@
 mod found;
 mod show;
 
-pub use show::{fstat, lstat, stat};
+pub use show::{lstat, stat};

@@ -1,7 +1,7 @@
 //! What is shown of an object: POSIX.1-2017, stat(), lstat() and fstat().
 
 ghost use Rattle.std.specs.Prelude.{◌≡◌, ◌≢◌, Some};
-ghost use Rattle.fs_model.specs.declared.call.Call.TheVariants.{Stat, Lstat, Fstat};
+ghost use Rattle.fs_model.specs.declared.call.Call.TheVariants.{Stat, Lstat};
 ghost use Rattle.fs_model.specs.declared.reply.FileType.{FileType as ShownType};
 ghost use Rattle.fs_model.specs.Kinds.{type_of_kind};
 ghost use Rattle.sector_txn.specs.Sectors.{IsUnchanged};
@@ -12,7 +12,6 @@ use fs_cred::Refusal;
 use fs_layout::{Inode, Kind, Place};
 use fs_model::{FileType, Form, Path, Reply, Status};
 use open_files::Procs;
-use path_walk::load_inode;
 use sector_txn::Sectors;
 use std::alloc::Global;
 
@@ -79,21 +78,4 @@ pub fn lstat<S: Sectors>(
     let found = find(alloc, s, place, process, path, Form::NoFollow)?;
     let (n, inode) = inode_found(s, place, &found)?;
     Ok(Reply::Shown(status(n, &inode)))
-}
-
-/// Shows what a descriptor is for. EBADF: nothing.
-pub fn fstat<S: Sectors>(
-    s: &mut S,
-    place: Place,
-    procs: &Procs,
-    pid: usize,
-    fd: usize,
-) -> Result<Reply, Refusal>
-    requires ready { IsReady place (S.state s.old) procs.now }
-    ensures performs { Performs place pid (Fstat fd) (S.state s.old) (S.state s.new) procs.now procs.now result }
-    ensures same { IsUnchanged (S.state s.old) (S.state s.new) }
-{
-    let descriptor = procs.get(pid, fd)?;
-    let inode = load_inode(s, place, descriptor.number)?;
-    Ok(Reply::Shown(status(descriptor.number, &inode)))
 }

@@ -124,7 +124,7 @@ or_else-assoc : (a b c : Demand) → or_else a (or_else b c) ≡ or_else (or_els
 or_else-assoc None b c = refl
 or_else-assoc (Some r) b c = refl
 
-or_else-none : (a : Demand) → or_else a None ≡ a
+pub or_else-none : (a : Demand) → or_else a None ≡ a
 or_else-none None = refl
 or_else-none (Some r) = refl
 

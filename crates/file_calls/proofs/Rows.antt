@@ -1,0 +1,53 @@
+-- The rows of calls by one path.
+use Rattle.std.specs.Prelude.{◌≡◌, ℕ, List, [], Option, None, Some}
+use Rattle.std.proofs.Common.{refl}
+use Rattle.posix_acl.specs.declared.entry.Perms.{Perms}
+use Rattle.fs_model.specs.declared.call.AclType.{AclType}
+use Rattle.fs_model.specs.declared.call.Call.TheVariants.{Stat, Lstat, Access, GetAcl, Truncate, Chown}
+use Rattle.fs_model.specs.declared.walk.Form.TheVariants.{Follow, NoFollow}
+use Rattle.fs_model.specs.Rows.{row_of}
+use Rattle.fs_model.specs.AttributeCalls.{stat_row, lstat_row, access_row, get_acl_row, truncate_row, chown_row, stat_demands, stat_effect, access_demands, access_effect, get_acl_effect, truncate_demands, truncate_effect, chown_demands, chown_effect}
+use Rattle.path_walk.proofs.ByPath.{IsByPath}
+
+module _ (path : List ℕ) where
+  stat_is : row_of (Stat path) ≡ stat_row path
+  unfolding row_of
+  stat_is = refl
+
+  pub stat_by_path : IsByPath (Stat path) Follow path stat_demands stat_effect
+  stat_by_path = record { arguments = []; row = stat_is; met = refl; asks = refl }
+
+  lstat_is : row_of (Lstat path) ≡ lstat_row path
+  unfolding row_of
+  lstat_is = refl
+
+  pub lstat_by_path : IsByPath (Lstat path) NoFollow path stat_demands stat_effect
+  lstat_by_path = record { arguments = []; row = lstat_is; met = refl; asks = refl }
+
+  access_is : (want : Perms) → row_of (Access path want) ≡ access_row path want
+  unfolding row_of
+  access_is want = refl
+
+  pub access_by_path : (want : Perms) → IsByPath (Access path want) Follow path (access_demands want) (access_effect want)
+  access_by_path want = record { arguments = []; row = access_is want; met = refl; asks = refl }
+
+  get_acl_is : (which : AclType) → row_of (GetAcl path which) ≡ get_acl_row path which
+  unfolding row_of
+  get_acl_is which = refl
+
+  pub get_acl_by_path : (which : AclType) → IsByPath (GetAcl path which) Follow path stat_demands (get_acl_effect which)
+  get_acl_by_path which = record { arguments = []; row = get_acl_is which; met = refl; asks = refl }
+
+  truncate_is : (size : ℕ) → row_of (Truncate path size) ≡ truncate_row path size
+  unfolding row_of
+  truncate_is size = refl
+
+  pub truncate_by_path : (size : ℕ) → IsByPath (Truncate path size) Follow path (truncate_demands size) (truncate_effect size)
+  truncate_by_path size = record { arguments = []; row = truncate_is size; met = refl; asks = refl }
+
+  chown_is : (owner group : Option ℕ) → row_of (Chown path owner group) ≡ chown_row path owner group
+  unfolding row_of
+  chown_is owner group = refl
+
+  pub chown_by_path : (owner group : Option ℕ) → IsByPath (Chown path owner group) Follow path (chown_demands owner group) (chown_effect owner group)
+  chown_by_path owner group = record { arguments = []; row = chown_is owner group; met = refl; asks = refl }
