@@ -18,6 +18,8 @@ pub mod NewImages
 pub mod NoIoErrors
 pub mod OneNode
 pub mod OneTree
+pub mod PlacedChanges
+pub mod PlacedNodes
 pub mod Rests
 pub mod Rewrites
 pub mod RowsOfFiles

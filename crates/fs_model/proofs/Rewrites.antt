@@ -1,5 +1,5 @@
 -- A node that is rewritten, its kind and names staying.
-use Rattle.std.specs.Prelude.{◌≡◌, ℕ, ◌^◌, ◌<◌, ◌==◌, nat_lt, Bool, true, false, cond, [], ◌∷◌, Some, is_some, count_by, if◌then◌else◌}
+use Rattle.std.specs.Prelude.{◌≡◌, ℕ, ◌^◌, ◌<◌, ◌==◌, nat_lt, Bool, true, false, cond, [], ◌∷◌, Option, None, Some, is_some, count_by, if◌then◌else◌}
 use Rattle.std.proofs.Common.{refl, sym, ap, arith, ◌∙◌, subst}
 use Rattle.std.specs.declared.cmp.Ordering.{Ordering}
 use Rattle.std.specs.declared.cmp.Ordering.TheVariants.{Less, Equal, Greater}
@@ -11,7 +11,9 @@ use Rattle.fs_model.specs.Nodes.{Node, Body, names_in, is_directory}
 use Rattle.fs_model.specs.Trees.{Tree, Room, node_at, with_node, names_for, names_of, parent, IsBody, NamesFit, IsUnderRoot, is_root, is_in, IsNode, IsTree, IsDirectoryAt}
 use Rattle.fs_layout.proofs.FirstEntries.{above, left, right, lower, tied}
 use Rattle.fs_layout.proofs.MapLaws.{get-with_entry, with_entry-IsMap, sum-with_entry, summand}
+use Rattle.fs_layout.proofs.NameMaps.{leading}
 use Rattle.fs_model.proofs.Moves.{body_moves}
+use Rattle.fs_model.proofs.StepsParents.{names_or, names_at}
 
 -- the same number of names for d in both bodies, for each d
 module _ (t : Tree) (k : ℕ) (old new : Node) (m : IsMap nat_cmp t) (was : node_at t k ≡ Some old) (names : names_in new.body ≡ names_in old.body) where
@@ -30,20 +32,24 @@ module _ (t : Tree) (k : ℕ) (old new : Node) (m : IsMap nat_cmp t) (was : node
   pub there-rewritten : (q : ℕ) → is_some (node_at (with_node t k new) q) ≡ is_some (node_at t q)
   there-rewritten q = ap is_some (get-with_entry t k new q) ∙ at-rewritten q _ refl
 
--- the parent is named by the same directory
-pub parent-rewritten : (t : Tree) (k : ℕ) (old new : Node) → IsMap nat_cmp t → node_at t k ≡ Some old → names_in new.body ≡ names_in old.body → (d : ℕ) → parent (with_node t k new) d ≡ parent t d
-parent-rewritten [] k old new m was names d = absurd (cc)
-parent-rewritten (e ∷ t) k old new m was names d =
-    go (nat_cmp k e.0) refl was (λ w. parent-rewritten t k old new (right _ _ m) w names d)
+-- where the new node names d as often as what stood there, if anything, d is named by the same directory
+pub parent-with_node : (t : Tree) (k : ℕ) (new : Node) → IsMap nat_cmp t → (d : ℕ) → names_for d new.body ≡ leading d (names_at t k)
+    → parent (with_node t k new) d ≡ parent t d
+parent-with_node [] k new m d same = ap (λ c. if nat_lt 0 c then k else root) same
+parent-with_node (e ∷ t) k new m d same =
+    go (nat_cmp k e.0) refl (get nat_cmp t k) refl same (parent-with_node t k new (right _ _ m) d)
   where
-    go : (o : Ordering) → nat_cmp k e.0 ≡ o → cond (is_eq o) (Some e.1) (get nat_cmp t k) ≡ Some old → (get nat_cmp t k ≡ Some old → parent (with_node t k new) d ≡ parent t d)
+    go : (o : Ordering) → nat_cmp k e.0 ≡ o → (x : Option Node) → get nat_cmp t k ≡ x → names_for d new.body ≡ leading d (names_or (cond (is_eq o) (Some e.1) x))
+        → (names_for d new.body ≡ leading d (names_at t k) → parent (with_node t k new) d ≡ parent t d)
         → parent (by_order o ((k, new) ∷ e ∷ t) ((e.0, new) ∷ t) (e ∷ with_node t k new)) d ≡ parent (e ∷ t) d
-    go Less c w ih = absurd (let low : e.0 < k = above e.0 t (left _ _ m) k old w in let less : k < e.0 = lower k e.0 (ap is_lt c) in omega arith)
-    go Equal c w ih =
-        let node : e.1 ≡ old = cc in
-        let same : names_in new.body ≡ names_in e.1.body = names ∙ ap (λ n. names_in n.body) (sym node) in
-        ap (λ ns. if nat_lt 0 (count_by (λ q. q.1 == d) ns) then e.0 else parent t d) same
-    go Greater c w ih = ap (λ p. if nat_lt 0 (names_for d e.1.body) then e.0 else p) (ih w)
+    go Less c None at same ih = ap (λ q. if nat_lt 0 q then k else parent (e ∷ t) d) same
+    go Less c (Some v) at same ih = absurd (let low : e.0 < k = above e.0 t (left _ _ m) k v at in let less : k < e.0 = lower k e.0 (ap is_lt c) in omega arith)
+    go Equal c x at same ih = ap (λ q. if nat_lt 0 q then e.0 else parent t d) same
+    go Greater c x at same ih = ap (λ p. if nat_lt 0 (names_for d e.1.body) then e.0 else p) (ih (same ∙ ap (λ o. leading d (names_or o)) (sym at)))
+
+pub parent-rewritten : (t : Tree) (k : ℕ) (old new : Node) → IsMap nat_cmp t → node_at t k ≡ Some old → names_in new.body ≡ names_in old.body → (d : ℕ) → parent (with_node t k new) d ≡ parent t d
+parent-rewritten t k old new m was names d =
+    parent-with_node t k new m d (ap (leading d) names ∙ sym (ap (λ o. leading d (names_or o)) was))
 
 -- from the root's side
 pub under : (t u : Tree) → ((d : ℕ) → parent u d ≡ parent t d) → {d : ℕ} → IsUnderRoot t d → IsUnderRoot u d

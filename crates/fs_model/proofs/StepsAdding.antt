@@ -44,23 +44,23 @@ module _ (room : Room) (t w : Tree) (dir : ℕ) (directory : Node) (name : List 
   abbrev u : Tree
   u = renamed w dir directory (with_entry name_cmp (names_in directory.body) name n)
 
-  dir_apart : dir ≢ n
+  pub dir_apart : dir ≢ n
   dir_apart = adds.apart dir (record { node = directory; is_there = adds.stands; directory = adds.is_dir })
 
-  stands_then : node_at w dir ≡ Some directory
+  pub stands_then : node_at w dir ≡ Some directory
   stands_then = adds.others dir dir_apart ∙ adds.stands
 
-  more : (x : ℕ) → leading x new ≡ leading x (names_in directory.body) + once_if n x
+  pub more : (x : ℕ) → leading x new ≡ leading x (names_in directory.body) + once_if n x
   more x = leading-with_name (names_in directory.body) name n x adds.is_new
 
-  count : (x : ℕ) → names_of u x ≡ names_of t x + once_if n x
+  pub count : (x : ℕ) → names_of u x ≡ names_of t x + once_if n x
   count x =
       let all = names_of-renamed w dir directory new adds.is_dir adds.numbers stands_then x in
       let was = adds.counts x in
       let one = more x in
       omega (arith, all, was, one)
 
-  count_other : (x : ℕ) → x ≢ n → names_of u x ≡ names_of t x
+  pub count_other : (x : ℕ) → x ≢ n → names_of u x ≡ names_of t x
   count_other x ne = let all = count x in let none = once_other n x (λ e. ne (sym e)) in omega (arith, all, none)
 
   there : (m : ℕ) → IsThere t m → IsThere u m
@@ -129,16 +129,19 @@ module _ (room : Room) (t w : Tree) (dir : ℕ) (directory : Node) (name : List 
   climbs : (x : ℕ) → IsDirectoryAt t x → IsUnderRoot u x
   climbs x d = under_all t u (IsDirectoryAt t) step d (under_root room t is x d)
 
-  new_climbs : IsTrue (is_directory target.body) → IsUnderRoot u n
-  new_climbs d =
-      let none = adds.unnamed d in
+  -- what had no name is named here
+  pub new_parent : names_of t n ≡ 0 → parent u n ≡ dir
+  new_parent none =
       let one = once_same n n refl in
       let all = count n in
       let led = more n in
       let names : names_at u dir ≡ new = names_there w dir directory new adds.is_dir in
       let some : 1 ≤ leading n (names_at u dir) = (let same : leading n (names_at u dir) ≡ leading n new = ap (leading n) names in omega (arith, same, led, one)) in
-      let up : parent u n ≡ dir = parent_is u dir n some (omega (arith, all, none, one)) in
-      is_in n (subst (IsUnderRoot u) (sym up) (climbs dir (record { node = directory; is_there = adds.stands; directory = adds.is_dir })))
+      parent_is u dir n some (omega (arith, all, none, one))
+
+  new_climbs : IsTrue (is_directory target.body) → IsUnderRoot u n
+  new_climbs d =
+      is_in n (subst (IsUnderRoot u) (sym (new_parent (adds.unnamed d))) (climbs dir (record { node = directory; is_there = adds.stands; directory = adds.is_dir })))
 
   -- ---- all nodes
 

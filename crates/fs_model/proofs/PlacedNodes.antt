@@ -1,0 +1,104 @@
+-- What an image holds, and what a tree places, where single nodes change.
+--     same_placed, placing, one_placed, one_replaced        what is held, number by number
+--     placed_from        what a tree places, put together from its parts
+--     nothing_goes        where the sweep after a call drops nothing
+use Rattle.std.specs.Prelude.{◌≡◌, ◌≢◌, ℕ, ◌<◌, nat_eq, nat_le, ◌||◌, if◌then◌else◌, Option, Some, is_some, IsTrue, IsFalse}
+use Rattle.std.proofs.Common.{refl, sym, ap, arith, ◌∙◌, subst, inl, inr}
+use Rattle.std.proofs.lemmas.Bool.{cases_eq, cond-true, cond-false, eq-eqb, ne_eqb}
+use Rattle.std.specs.Option.{option_map}
+use Rattle.fs_layout.specs.declared.place.Place.{Place}
+use Rattle.fs_layout.specs.Bytes.{SectorMap}
+use Rattle.fs_layout.specs.Images.{bit, inode_bitmap, inode_at}
+use Rattle.fs_layout.specs.Changes.{ChangesInode}
+use Rattle.fs_model.specs.Nodes.{Node}
+use Rattle.fs_model.specs.Trees.{Tree, node_at, names_of, parent, IsTree}
+use Rattle.fs_model.specs.Processes.{Desks, is_open}
+use Rattle.fs_model.specs.Births.{the_node}
+use Rattle.fs_model.specs.Changes.{swept}
+use Rattle.fs_model.specs.States.{State, IsState, FitsTree}
+use Rattle.fs_model.specs.StoredNodes.{Placed, HoldsNode}
+use Rattle.fs_model.specs.Stands.{HoldsPlaced, HoldsAll, placed}
+use Rattle.fs_model.proofs.Finds.{IsThere}
+use Rattle.fs_model.proofs.Frame.{one_node_changes}
+use Rattle.fs_model.proofs.StepsFit.{node_is_there}
+use Rattle.fs_model.proofs.StepsKinds.{KeepsTypes, process_moves}
+use Rattle.fs_model.proofs.Unchanged.{open_stays}
+
+-- ---- number by number
+
+-- the same is to be held
+pub same_placed : (p : Place) (image : SectorMap) (what next : ℕ → Option Placed) → HoldsAll p image what → ((n : ℕ) → next n ≡ what n)
+    → HoldsAll p image next
+same_placed p image what next h same = record {
+  consistent = h.consistent;
+  nodes = λ n lt. subst (HoldsPlaced p image n) (sym (same n)) (h.nodes n lt);
+  inode_bits = λ n few. h.inode_bits n few ∙ ap (λ o. nat_eq n 0 || nat_le p.inodes n || is_some o) (sym (same n));
+}
+
+-- this at n, and else what there was
+abbrev pub placing : ℕ → Option Placed → (ℕ → Option Placed) → ℕ → Option Placed
+placing n o what m = if nat_eq m n then o else what m
+
+pub placing_here : (n : ℕ) (o : Option Placed) (what : ℕ → Option Placed) → placing n o what n ≡ o
+placing_here n o what = cond-true (nat_eq n n) o (what n) (eq-eqb n n refl)
+
+pub placing_other : (n : ℕ) (o : Option Placed) (what : ℕ → Option Placed) (m : ℕ) → m ≢ n → placing n o what m ≡ what m
+placing_other n o what m ne = cond-false (nat_eq m n) o (what m) (ne_eqb m n ne)
+
+-- what differs at one number alone, and at two
+pub placed_once : (what next : ℕ → Option Placed) (a : ℕ) (x : Option Placed) → next a ≡ x → ((m : ℕ) → m ≢ a → next m ≡ what m)
+    → (m : ℕ) → next m ≡ placing a x what m
+placed_once what next a x here others m = elim (cases_eq m a) [
+  | inl e ↦ subst (λ k. next k ≡ placing a x what k) (sym e) (here ∙ sym (placing_here a x what))
+  | inr ne ↦ others m ne ∙ sym (placing_other a x what m ne)
+]
+
+pub placed_twice : (what next : ℕ → Option Placed) (a b : ℕ) (x y : Option Placed) → next a ≡ x → next b ≡ y
+    → ((m : ℕ) → m ≢ a → m ≢ b → next m ≡ what m) → (m : ℕ) → next m ≡ placing b y (placing a x what) m
+placed_twice what next a b x y at_a at_b others = placed_once (placing a x what) next b y at_b (λ m ne. elim (cases_eq m a) [
+  | inl e ↦ ap next e ∙ at_a ∙ sym (ap (placing a x what) e ∙ placing_here a x what)
+  | inr other ↦ others m other ne ∙ sym (placing_other a x what m other)
+])
+
+module _ (p : Place) (n : ℕ) (old new : SectorMap) (what : ℕ → Option Placed) (h : HoldsAll p old what) (below : n < p.inodes) (changes : ChangesInode p n old new) where
+  -- inode n holds this then
+  pub one_placed : (o : Option Placed) → HoldsPlaced p new n o → bit new inode_bitmap n ≡ (nat_eq n 0 || nat_le p.inodes n || is_some o)
+      → HoldsAll p new (placing n o what)
+  one_placed o here marked =
+      one_node_changes p n old new what (placing n o what) h changes (record {
+        below = below;
+        here = subst (HoldsPlaced p new n) (sym (placing_here n o what)) here;
+        marked = marked ∙ ap (λ q. nat_eq n 0 || nat_le p.inodes n || is_some q) (sym (placing_here n o what));
+        others = placing_other n o what;
+      })
+
+  -- where it held a node before
+  pub one_replaced : (x y : Placed) → what n ≡ Some x → HoldsNode new (inode_at p new n) y → bit new inode_bitmap n ≡ bit old inode_bitmap n
+      → HoldsAll p new (placing n (Some y) what)
+  one_replaced x y was here same =
+      one_placed (Some y) here
+      (same ∙ h.inode_bits n (let most = h.consistent.place.most_inodes in omega (arith, below, most)) ∙ ap (λ q. nat_eq n 0 || nat_le p.inodes n || is_some q) was)
+
+-- ---- what a tree places
+
+-- put together from its parts
+pub placed_from : (t : Tree) (n : ℕ) (o : Option Node) (names up : ℕ) → node_at t n ≡ o → names_of t n ≡ names → parent t n ≡ up
+    → placed t n ≡ option_map (λ node. record { node = node; names = names; parent = up }) o
+placed_from t n o names up at count above =
+    ap (λ q. option_map (λ node. record { node = node; names = names_of t n; parent = parent t n }) q) at
+    ∙ ap (λ k. option_map (λ node. record { node = node; names = k; parent = parent t n }) o) count
+    ∙ ap (λ k. option_map (λ node. record { node = node; names = names; parent = k }) o) above
+
+-- A tree in which each node is of the type that it was, and none has lost its last name. The call closes nothing.
+pub nothing_goes : (s : State) (u : Tree) (desks : Desks) → IsState s → IsFalse s.halted
+    → ((n : ℕ) → IsTrue (is_open s.desks n) → IsTrue (is_open desks n)) → IsTree s.room u → KeepsTypes s.tree u
+    → ((n : ℕ) → IsThere u n → names_of u n ≡ 0 → IsThere s.tree n × (names_of s.tree n ≡ 0)) → swept u desks ≡ u
+nothing_goes s u desks is up still tree types nameless =
+    let fits = is.desks up in
+    let fits_then : FitsTree u s.desks = record {
+      processes = λ pid q there. process_moves s.tree u types q (fits.processes pid q there);
+      nameless = λ n node at none ne.
+          let was = nameless n (ap is_some at) none in
+          fits.nameless n (the_node s.tree n) (node_is_there s.tree n was.0) was.1 ne;
+    } in
+    open_stays s.room u s.desks desks tree fits_then still
