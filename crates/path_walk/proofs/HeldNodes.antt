@@ -76,7 +76,8 @@ names_say image v (File a bytes) is h = absurd (cc)
 names_say image v (Dir a d) is h = h.names
 names_say image v (Link target) is h = absurd (cc)
 
-parent_says : (b : Body) (parent : ℕ) → IsTrue (is_directory b) → parent_field b parent ≡ parent
+-- what is stored of where a directory is named
+pub parent_says : (b : Body) (parent : ℕ) → IsTrue (is_directory b) → parent_field b parent ≡ parent
 parent_says (File a bytes) parent is = absurd (cc)
 parent_says (Dir a d) parent is = refl
 parent_says (Link target) parent is = absurd (cc)

@@ -11,3 +11,4 @@ pub mod Reaching
 pub mod Asking
 pub mod Calling
 pub mod ByPath
+pub mod HeldChanges
