@@ -21,7 +21,7 @@ use Rattle.fs_model.specs.StoredNodes.{HoldsNode}
 use Rattle.fs_model.specs.Stands.{HoldsAll, placed, room_of}
 use Rattle.fs_model.proofs.Finds.{IsThere}
 use Rattle.fs_model.proofs.Frame.{placed_elsewhere}
-use Rattle.fs_model.proofs.PlacedNodes.{same_placed, placing, placing_other, placed_once, placed_twice, one_placed, one_replaced, placed_from, nothing_goes}
+use Rattle.fs_model.proofs.PlacedNodes.{same_placed, placing, placing_other, placed_once, placed_twice, one_placed, one_replaced, placed_from, nothing_goes, below_inodes, node_below}
 use Rattle.fs_model.proofs.Rewrites.{names_of-rewritten, parent-rewritten, parent-with_node, there-rewritten}
 use Rattle.fs_model.proofs.StepsAdding.{AddsName, added_keeps_types, added_is_tree, dir_apart, stands_then, more, count, count_other, new_parent}
 use Rattle.fs_model.proofs.StepsKinds.{MayReplace, replaced_is_tree, replaced_keeps_types}
@@ -109,12 +109,6 @@ module _ (s : State) (is : IsState s) (up : IsFalse s.halted) (desks : Desks) (s
   pub same_held : HoldsAll p old (placed (swept (changed s.tree Same) desks))
   same_held = subst (λ u. HoldsAll p old (placed u)) (sym (open_stays s.room s.tree s.desks desks is.tree (is.desks up) still)) held
 
-  below_inodes : (n : ℕ) → n < s.room.inodes → n < p.inodes
-  below_inodes n lt = let e = ap (λ (q : Room). q.inodes) room in omega (arith, lt, e)
-
-  node_below : (n : ℕ) (node : Node) → node_at s.tree n ≡ Some node → n < p.inodes
-  node_below n node at = below_inodes n (is.tree.each n node at).below
-
   module _ (new : SectorMap) (n : ℕ) (was now : Node) (at : node_at s.tree n ≡ Some was) (may : MayReplace s.room s.tree was now) (changes : ChangesInode p n old new)
       (used : bit new inode_bitmap n ≡ bit old inode_bitmap n)
       (here : HoldsNode new (inode_at p new n) (record { node = now; names = names_of s.tree n; parent = parent s.tree n })) where
@@ -123,7 +117,7 @@ module _ (s : State) (is : IsState s) (up : IsFalse s.halted) (desks : Desks) (s
 
     rewrite_stays : swept (changed s.tree (Rewrite n now)) desks ≡ with_node s.tree n now
     rewrite_stays =
-        nothing_goes s (with_node s.tree n now) desks is up still (replaced_is_tree s.room s.tree n was now is.tree at may) (replaced_keeps_types s.tree n was now at may.same)
+        nothing_goes s is up desks still (with_node s.tree n now) (replaced_is_tree s.room s.tree n was now is.tree at may) (replaced_keeps_types s.tree n was now at may.same)
         (λ x there none. (sym (there-rewritten s.tree n was now is.tree.numbers at may.names x) ∙ there, sym (names_stay x) ∙ none))
 
     -- the node at n was rewritten
@@ -133,7 +127,7 @@ module _ (s : State) (is : IsState s) (up : IsFalse s.halted) (desks : Desks) (s
         placed_from (with_node s.tree n now) n (Some now) _ _ (at_it s.tree n now) (names_stay n) (parent-rewritten s.tree n was now is.tree.numbers at may.names n) in
         subst (λ u. HoldsAll p new (placed u)) (sym rewrite_stays)
         (same_placed p new (placing n (Some (record { node = now; names = names_of s.tree n; parent = parent s.tree n })) (placed s.tree)) (placed (with_node s.tree n now))
-        (one_replaced p n old new (placed s.tree) held (node_below n was at) changes _ _ (placed_from s.tree n (Some was) _ _ at refl refl) here used)
+        (one_replaced p n old new (placed s.tree) held (node_below s p is room n was at) changes _ _ (placed_from s.tree n (Some was) _ _ at refl refl) here used)
         (placed_once (placed s.tree) (placed (with_node s.tree n now)) n _ there (placed_elsewhere s.tree n was now is.tree.numbers at may.names)))
 
   module _ (mid new : SectorMap) (dir : ℕ) (directory : Node) (name : List ℕ) (n : ℕ) (now : Node) (makes : MakesNode s dir directory name n now)
@@ -166,7 +160,7 @@ module _ (s : State) (is : IsState s) (up : IsFalse s.halted) (desks : Desks) (s
     make_stays : swept (changed s.tree (Make dir name n now)) desks ≡ made
     make_stays =
         ap (λ u. swept u desks) tree_is
-        ∙ nothing_goes s made desks is up still (added_is_tree s.room s.tree w dir directory name n now is.tree adds) (added_keeps_types s.room s.tree w dir directory name n now is.tree adds)
+        ∙ nothing_goes s is up desks still made (added_is_tree s.room s.tree w dir directory name n now is.tree adds) (added_keeps_types s.room s.tree w dir directory name n now is.tree adds)
         (added_nameless s.room s.tree w dir directory name n now is.tree adds parents)
 
     node_now : placed made n ≡ Some (record { node = now; names = 1; parent = dir })
@@ -178,7 +172,7 @@ module _ (s : State) (is : IsState s) (up : IsFalse s.halted) (desks : Desks) (s
 
     held_then : HoldsAll p mid (placing n (Some (record { node = now; names = 1; parent = dir })) (placed s.tree))
     held_then =
-        one_placed p n old mid (placed s.tree) held (below_inodes n makes.below) first (Some (record { node = now; names = 1; parent = dir })) born
+        one_placed p n old mid (placed s.tree) held (below_inodes s p room n makes.below) first (Some (record { node = now; names = 1; parent = dir })) born
         (taken ∙ sym (or_right (nat_eq n 0 || nat_le p.inodes n) true refl))
 
     -- a node was made, and named
@@ -186,7 +180,7 @@ module _ (s : State) (is : IsState s) (up : IsFalse s.halted) (desks : Desks) (s
     make_held =
         subst (λ u. HoldsAll p new (placed u)) (sym make_stays)
         (same_placed p new _ (placed made)
-        (one_replaced p dir mid new (placing n (Some (record { node = now; names = 1; parent = dir })) (placed s.tree)) held_then (node_below dir directory makes.stands) second _ _
+        (one_replaced p dir mid new (placing n (Some (record { node = now; names = 1; parent = dir })) (placed s.tree)) held_then (node_below s p is room dir directory makes.stands) second _ _
         (placing_other n _ (placed s.tree) dir apart ∙ placed_from s.tree dir (Some directory) _ _ makes.stands refl refl) here used)
         (placed_twice (placed s.tree) (placed made) n dir _ _ node_now (added_dir s.room s.tree w dir directory name n now is.tree adds parents)
         (added_others s.room s.tree w dir directory name n now is.tree adds parents)))

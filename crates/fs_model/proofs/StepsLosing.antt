@@ -68,14 +68,15 @@ module _ (room : Room) (t u : Tree) (desks : Desks) (lost : ℕ → ℕ) (is : I
       ap (λ q. not q || n == root) z ∙ other
   goes n (Link target) names d ne none = absurd cc
 
-  -- and one that didn't has one, or is the root
-  lives : (n : ℕ) (b : Body) (names : ℕ) → IsTrue (is_directory b) → (n ≢ root → names ≡ 1) → (not (names == 0) || lives_nameless desks n b) ≡ true
-  lives n (File a bytes) names d one = absurd cc
-  lives n (Dir a dir) names d one = elim (cases_eq n root) [
+  -- and one that didn't has one, or is the root, whoever uses it
+  lives : (left : Desks) (n : ℕ) (b : Body) (names : ℕ) → IsTrue (is_directory b) → (n ≢ root → names ≡ 1)
+      → (not (names == 0) || lives_nameless left n b) ≡ true
+  lives left n (File a bytes) names d one = absurd cc
+  lives left n (Dir a dir) names d one = elim (cases_eq n root) [
     | inl e ↦ or_right (not (names == 0)) (n == root) (let k : (n == root) ≡ true = grind (arith, nat_tests) in k)
     | inr ne ↦ let some : names ≡ 1 = one ne in let z : (names == 0) ≡ false = grind (arith, nat_tests) in ap (λ q. not q || n == root) z
   ]
-  lives n (Link target) names d one = absurd cc
+  lives left n (Link target) names d one = absurd cc
 
   keeps_name : (n : ℕ) → IsDirectoryAt t n → lost n ≡ 0 → n ≢ root → names_of u n ≡ 1
   keeps_name n d none ne =
@@ -113,8 +114,8 @@ module _ (room : Room) (t u : Tree) (desks : Desks) (lost : ℕ → ℕ) (is : I
             (λ d. lost_none n node (was_directory n node s d) d stay) ne stay
       ]
 
-  gone_empty : (n : ℕ) (node : Node) → node_at u n ≡ Some node → stays u desks (n, node) ≡ false → names_in node.body ≡ []
-  gone_empty n node at gone = go node.body refl
+  pub gone_empty : (left : Desks) (n : ℕ) (node : Node) → node_at u n ≡ Some node → stays u left (n, node) ≡ false → names_in node.body ≡ []
+  gone_empty left n node at gone = go node.body refl
     where
       go : (b : Body) → node.body ≡ b → names_in b ≡ []
       go (File a bytes) e = refl
@@ -124,14 +125,14 @@ module _ (room : Room) (t u : Tree) (desks : Desks) (lost : ℕ → ℕ) (is : I
           let was = was_directory n node (h.each n node at) directory in
           elim (cases_lt 0 (lost n)) [
             | inl some ↦ ap names_in (sym e) ∙ ap names_or (sym at) ∙ h.empty n was some
-            | inr none ↦ absurd (let stay = lives n node.body (names_of u n) directory (λ ne. keeps_name n was (omega (arith, none)) ne) in cc)
+            | inr none ↦ absurd (let stay = lives left n node.body (names_of u n) directory (λ ne. keeps_name n was (omega (arith, none)) ne) in cc)
           ]
 
   used_stays : (n : ℕ) (node : Node) → node_at u n ≡ Some node → IsTrue (is_directory node.body) → IsTrue (is_in_use desks n)
       → stays u desks (n, node) ≡ true
   used_stays n node at directory used =
       let was = was_directory n node (h.each n node at) directory in
-      lives n node.body (names_of u n) directory (λ ne. keeps_name n was (kept was) ne)
+      lives desks n node.body (names_of u n) directory (λ ne. keeps_name n was (kept was) ne)
     where
       kept : IsDirectoryAt t n → lost n ≡ 0
       kept was = elim (cases_lt 0 (lost n)) [
@@ -146,7 +147,7 @@ module _ (room : Room) (t u : Tree) (desks : Desks) (lost : ℕ → ℕ) (is : I
       numbers = h.numbers;
       root_is_there = directory_moves t u h.types root is.root_is_there;
       each = node_is;
-      gone = gone_empty;
+      gone = gone_empty desks;
     };
     pids = pids;
     few = few;

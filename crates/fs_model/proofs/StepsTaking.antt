@@ -61,10 +61,10 @@ module _ (room : Room) (t : Tree) (desks : Desks) (dir : ℕ) (directory : Node)
   were : AreNames t (names_in directory.body)
   were = are_names room t directory.body (is.each dir directory takes.stands).body
 
-  fewer : (x : ℕ) → leading x new + once_if m x ≡ leading x (names_in directory.body)
+  pub fewer : (x : ℕ) → leading x new + once_if m x ≡ leading x (names_in directory.body)
   fewer x = leading-without_name (names_in directory.body) name m x were.rising takes.leads
 
-  count : (x : ℕ) → names_of u x + once_if m x ≡ names_of t x
+  pub count : (x : ℕ) → names_of u x + once_if m x ≡ names_of t x
   count x =
       let all = names_of-renamed t dir directory new takes.is_dir is.numbers takes.stands x in
       let one = fewer x in
@@ -106,7 +106,7 @@ module _ (room : Room) (t : Tree) (desks : Desks) (dir : ℕ) (directory : Node)
   names_nothing x d some = (let none : leading x (names_at t m) ≡ 0 = ap (leading x) (takes.empty d) in omega (arith, none, some))
 
   -- and is not the directory
-  not_dir : IsDirectoryAt t m → m ≢ dir
+  pub not_dir : IsDirectoryAt t m → m ≢ dir
   not_dir d e =
       let names : names_at t m ≡ names_in directory.body = ap (names_at t) e ∙ ap names_or takes.stands in
       let none : names_in directory.body ≡ [] = sym names ∙ takes.empty d in

@@ -55,7 +55,7 @@ fitting_stays desks n b names fits opened rooted = go (names == 0) refl b fits r
         absurd (omega (arith, k, some))
 
 -- the root is a directory
-root_directory : (room : Room) (t : Tree) (n : ℕ) (node : Node) → IsTree room t → node_at t n ≡ Some node → n ≡ root → IsTrue (is_directory node.body)
+pub root_directory : (room : Room) (t : Tree) (n : ℕ) (node : Node) → IsTree room t → node_at t n ≡ Some node → n ≡ root → IsTrue (is_directory node.body)
 root_directory room t n node is e at =
     let there : node_at t n ≡ Some is.root_is_there.node = ap (node_at t) at ∙ is.root_is_there.is_there in
     let same : is.root_is_there.node ≡ node = cc in
