@@ -1,88 +1,38 @@
 -- What an image holds after a call that changed its tree so: what the changed tree places.
 --     MakesNode        what making a node asks
---     same_held, rewrite_held, make_held        after Same, Rewrite and Make
-use Rattle.std.specs.Prelude.{◌≡◌, ◌≢◌, ℕ, ◌+◌, ◌<◌, ◌≤◌, ◌^◌, nat_eq, nat_le, true, ◌||◌, List, [], length, None, Some, is_some, IsTrue, IsFalse}
-use Rattle.std.proofs.Common.{refl, sym, ap, arith, ◌∙◌, subst, inl, inr}
-use Rattle.std.proofs.lemmas.Bool.{cases_eq, or_right}
+--     same_held, rewrite_held, make_held, add_held, take_held, drop_held        after each change
+use Rattle.std.specs.Prelude.{◌≡◌, ◌≢◌, ℕ, ◌+◌, ◌-◌, ◌<◌, ◌≤◌, ◌^◌, nat_eq, nat_le, ◌==◌, true, false, not, ◌||◌, List, [], length, Option, None, Some, IsTrue, IsFalse}
+use Rattle.std.proofs.Common.{refl, sym, ap, arith, ◌∙◌, subst}
+use Rattle.std.proofs.lemmas.Bool.{or_right}
+use Rattle.std.proofs.lemmas.Bool.Decides.{nat_tests}
 use Rattle.fs_layout.specs.declared.place.Place.{Place}
 use Rattle.fs_layout.specs.Bytes.{SectorMap, IsBytes}
 use Rattle.fs_layout.specs.Changes.{ChangesInode}
 use Rattle.fs_layout.specs.Directories.{IsName}
+use Rattle.fs_layout.specs.Inode.{free_inode}
 use Rattle.fs_layout.specs.Images.{bit, inode_bitmap, inode_at}
-use Rattle.fs_layout.specs.Maps.{get, name_cmp, with_entry}
-use Rattle.fs_layout.proofs.NameMaps.{Names, leading, once_same, once_other}
+use Rattle.fs_layout.specs.Maps.{get, name_cmp, with_entry, without}
+use Rattle.fs_layout.proofs.NameMaps.{leading}
 use Rattle.fs_model.specs.Limits.{entries_limit}
 use Rattle.fs_model.specs.Nodes.{Node, is_directory, names_in}
-use Rattle.fs_model.specs.Trees.{Tree, Room, node_at, with_node, names_of, parent, IsBody, IsTree}
+use Rattle.fs_model.specs.Trees.{Tree, node_at, with_node, names_of, parent, IsBody}
 use Rattle.fs_model.specs.Processes.{Desks, is_open}
-use Rattle.fs_model.specs.Changes.{Same, Rewrite, Make, changed, swept, with_names_at}
+use Rattle.fs_model.specs.Changes.{Same, Rewrite, Make, AddName, TakeName, changed, swept, lives_nameless, with_names_at}
 use Rattle.fs_model.specs.States.{State, IsState}
-use Rattle.fs_model.specs.StoredNodes.{HoldsNode}
+use Rattle.fs_model.specs.StoredNodes.{Placed, HoldsNode}
 use Rattle.fs_model.specs.Stands.{HoldsAll, placed, room_of}
-use Rattle.fs_model.proofs.Finds.{IsThere}
 use Rattle.fs_model.proofs.Frame.{placed_elsewhere}
+use Rattle.fs_model.proofs.PlacedNames.{added_dir, added_node, added_others, added_nameless, taken_dir, taken_others, taken_stays, taken_goes, taken_apart}
 use Rattle.fs_model.proofs.PlacedNodes.{same_placed, placing, placing_other, placed_once, placed_twice, one_placed, one_replaced, placed_from, nothing_goes, below_inodes, node_below}
 use Rattle.fs_model.proofs.Rewrites.{names_of-rewritten, parent-rewritten, parent-with_node, there-rewritten}
-use Rattle.fs_model.proofs.StepsAdding.{AddsName, added_keeps_types, added_is_tree, dir_apart, stands_then, more, count, count_other, new_parent}
+use Rattle.fs_model.proofs.StepsAdding.{AddsName, GivesName, gives_name, added_keeps_types, added_is_tree, dir_apart, stands_then, new_parent}
 use Rattle.fs_model.proofs.StepsKinds.{MayReplace, replaced_is_tree, replaced_keeps_types}
 use Rattle.fs_model.proofs.StepsMaking.{IsNewborn, makes_name, nothing_leads}
-use Rattle.fs_model.proofs.StepsNaming.{renamed_node, renamed, at_it, at_others, names_with_names}
+use Rattle.fs_model.proofs.StepsNaming.{renamed_node, renamed, at_it}
+use Rattle.fs_model.proofs.StepsOfMaking.{named_is}
 use Rattle.fs_model.proofs.StepsParents.{names_or}
+use Rattle.fs_model.proofs.StepsTaking.{TakesName}
 use Rattle.fs_model.proofs.Unchanged.{open_stays}
-
--- ---- a name more: the tree w is t, or has the new node besides
-
-module _ (room : Room) (t w : Tree) (dir : ℕ) (directory : Node) (name : List ℕ) (n : ℕ) (target : Node) (is : IsTree room t)
-    (adds : AddsName room t w dir directory name n target) (parents : (x : ℕ) → parent w x ≡ parent t x) where
-  abbrev new : Names
-  new = with_entry name_cmp (names_in directory.body) name n
-
-  abbrev u : Tree
-  u = renamed w dir directory (with_entry name_cmp (names_in directory.body) name n)
-
-  parent_other : (x : ℕ) → x ≢ n → parent u x ≡ parent t x
-  parent_other x ne =
-      let all = more room t w dir directory name n target is adds x in
-      let none = once_other n x (λ e. ne (sym e)) in
-      let now : leading x (names_in (renamed_node directory new).body) ≡ leading x new = ap (leading x) (names_with_names new directory.body adds.is_dir) in
-      let was : leading x (names_or (node_at w dir)) ≡ leading x (names_in directory.body) = ap (λ o. leading x (names_or o)) (stands_then room t w dir directory name n target is adds) in
-      parent-with_node w dir (renamed_node directory new) adds.numbers x (omega (arith, all, none, now, was)) ∙ parents x
-
-  -- the directory with the name
-  pub added_dir : placed u dir ≡ Some (record { node = renamed_node directory new; names = names_of t dir; parent = parent t dir })
-  added_dir =
-      let apart = dir_apart room t w dir directory name n target is adds in
-      placed_from u dir (Some (renamed_node directory new)) _ _ (at_it w dir (renamed_node directory new))
-      (count_other room t w dir directory name n target is adds dir apart) (parent_other dir apart)
-
-  -- what it leads to
-  pub added_node : placed u n ≡ Some (record { node = target; names = names_of t n + 1; parent = parent u n })
-  added_node =
-      let one = once_same n n refl in
-      let all = count room t w dir directory name n target is adds n in
-      placed_from u n (Some target) _ _ (at_others w dir (renamed_node directory new) n (λ e. dir_apart room t w dir directory name n target is adds (sym e)) ∙ adds.here)
-      (omega (arith, one, all)) refl
-
-  -- and all else
-  pub added_others : (x : ℕ) → x ≢ n → x ≢ dir → placed u x ≡ placed t x
-  added_others x ne other =
-      placed_from u x (node_at t x) _ _ (at_others w dir (renamed_node directory new) x other ∙ adds.others x ne)
-      (count_other room t w dir directory name n target is adds x ne) (parent_other x ne)
-
-  -- what has no name then had none
-  pub added_nameless : (x : ℕ) → IsThere u x → names_of u x ≡ 0 → IsThere t x × (names_of t x ≡ 0)
-  added_nameless x there none =
-      let all = count room t w dir directory name n target is adds x in
-      elim (cases_eq x n) [
-        | inl e ↦ absurd (let one = once_same n x (sym e) in omega (arith, all, none, one))
-        | inr ne ↦ (
-          elim (cases_eq x dir) [
-            | inl e ↦ ap (λ k. is_some (node_at t k)) e ∙ ap is_some adds.stands
-            | inr other ↦ ap is_some (sym (at_others w dir (renamed_node directory new) x other ∙ adds.others x ne)) ∙ there
-          ],
-          omega (arith, all, none),
-        )
-      ]
 
 -- ---- what making a node asks
 
@@ -155,7 +105,7 @@ module _ (s : State) (is : IsState s) (up : IsFalse s.halted) (desks : Desks) (s
     apart = dir_apart s.room s.tree w dir directory name n now is.tree adds
 
     tree_is : changed s.tree (Make dir name n now) ≡ made
-    tree_is = ap (with_names_at w dir (λ names. with_entry name_cmp names name n)) (stands_then s.room s.tree w dir directory name n now is.tree adds)
+    tree_is = named_is w dir directory name n (stands_then s.room s.tree w dir directory name n now is.tree adds)
 
     make_stays : swept (changed s.tree (Make dir name n now)) desks ≡ made
     make_stays =
@@ -184,3 +134,90 @@ module _ (s : State) (is : IsState s) (up : IsFalse s.halted) (desks : Desks) (s
         (placing_other n _ (placed s.tree) dir apart ∙ placed_from s.tree dir (Some directory) _ _ makes.stands refl refl) here used)
         (placed_twice (placed s.tree) (placed made) n dir _ _ node_now (added_dir s.room s.tree w dir directory name n now is.tree adds parents)
         (added_others s.room s.tree w dir directory name n now is.tree adds parents)))
+
+  module _ (mid new : SectorMap) (dir : ℕ) (directory : Node) (name : List ℕ) (n : ℕ) (target : Node) (gives : GivesName s.tree dir directory name n target)
+      (first : ChangesInode p n old mid) (taken : bit mid inode_bitmap n ≡ bit old inode_bitmap n)
+      (counted : HoldsNode mid (inode_at p mid n) (record { node = target; names = names_of s.tree n + 1; parent = parent (changed s.tree (AddName dir name n)) n }))
+      (second : ChangesInode p dir mid new) (used : bit new inode_bitmap dir ≡ bit mid inode_bitmap dir)
+      (here : HoldsNode new (inode_at p new dir) (record { node = renamed_node directory (with_entry name_cmp (names_in directory.body) name n); names = names_of s.tree dir; parent = parent s.tree dir })) where
+    given : AddsName s.room s.tree s.tree dir directory name n target
+    given = gives_name s.room s.tree dir directory name n target is.tree gives
+
+    abbrev linked : Tree
+    linked = renamed s.tree dir directory (with_entry name_cmp (names_in directory.body) name n)
+
+    linked_is : changed s.tree (AddName dir name n) ≡ linked
+    linked_is = named_is s.tree dir directory name n gives.stands
+
+    add_stays : swept (changed s.tree (AddName dir name n)) desks ≡ linked
+    add_stays =
+        ap (λ u. swept u desks) linked_is
+        ∙ nothing_goes s is up desks still linked (added_is_tree s.room s.tree s.tree dir directory name n target is.tree given) (added_keeps_types s.room s.tree s.tree dir directory name n target is.tree given)
+        (added_nameless s.room s.tree s.tree dir directory name n target is.tree given (λ x. refl))
+
+    counted_then : HoldsNode mid (inode_at p mid n) (record { node = target; names = names_of s.tree n + 1; parent = parent linked n })
+    counted_then = subst (λ u. HoldsNode mid (inode_at p mid n) (record { node = target; names = names_of s.tree n + 1; parent = parent u n })) linked_is counted
+
+    -- what is no directory was named once more
+    pub add_held : HoldsAll p new (placed (swept (changed s.tree (AddName dir name n)) desks))
+    add_held =
+        subst (λ u. HoldsAll p new (placed u)) (sym add_stays)
+        (same_placed p new _ (placed linked)
+        (one_replaced p dir mid new _
+        (one_replaced p n old mid (placed s.tree) held (node_below s p is room n target gives.there) first _ _ (placed_from s.tree n (Some target) _ _ gives.there refl refl) counted_then taken)
+        (node_below s p is room dir directory gives.stands) second _ _
+        (placing_other n _ (placed s.tree) dir (dir_apart s.room s.tree s.tree dir directory name n target is.tree given) ∙ placed_from s.tree dir (Some directory) _ _ gives.stands refl refl) here used)
+        (placed_twice (placed s.tree) (placed linked) n dir _ _ (added_node s.room s.tree s.tree dir directory name n target is.tree given (λ x. refl))
+        (added_dir s.room s.tree s.tree dir directory name n target is.tree given (λ x. refl))
+        (added_others s.room s.tree s.tree dir directory name n target is.tree given (λ x. refl))))
+
+  module _ (mid new : SectorMap) (dir : ℕ) (directory : Node) (name : List ℕ) (m : ℕ) (target : Node) (takes : TakesName s.tree s.desks dir directory name m)
+      (at : node_at s.tree m ≡ Some target) (first : ChangesInode p dir old mid) (used : bit mid inode_bitmap dir ≡ bit old inode_bitmap dir)
+      (here : HoldsNode mid (inode_at p mid dir) (record { node = renamed_node directory (without name_cmp (names_in directory.body) name); names = names_of s.tree dir; parent = parent s.tree dir }))
+      (second : ChangesInode p m mid new) where
+    abbrev taken_tree : Tree
+    taken_tree = renamed s.tree dir directory (without name_cmp (names_in directory.body) name)
+
+    taken_is : changed s.tree (TakeName dir name) ≡ taken_tree
+    taken_is = ap (with_names_at s.tree dir (λ names. without name_cmp names name)) takes.stands
+
+    abbrev between : ℕ → Option Placed
+    between = placing dir (Some (record { node = renamed_node directory (without name_cmp (names_in directory.body) name); names = names_of s.tree dir; parent = parent s.tree dir })) (placed s.tree)
+
+    between_held : HoldsAll p mid between
+    between_held =
+        one_replaced p dir old mid (placed s.tree) held (node_below s p is room dir directory takes.stands) first _ _
+        (placed_from s.tree dir (Some directory) _ _ takes.stands refl refl) here used
+
+    below : m < p.inodes
+    below = node_below s p is room m target at
+
+    taken_then : (o : Option Placed) → placed (swept taken_tree desks) m ≡ o → HoldsAll p new (placing m o between)
+        → HoldsAll p new (placed (swept (changed s.tree (TakeName dir name)) desks))
+    taken_then o is_o all =
+        subst (λ u. HoldsAll p new (placed (swept u desks))) (sym taken_is)
+        (same_placed p new (placing m o between) (placed (swept taken_tree desks)) all
+        (placed_twice (placed s.tree) (placed (swept taken_tree desks)) dir m _ o (taken_dir s is up desks still dir directory name m takes) is_o
+        (taken_others s is up desks still dir directory name m takes)))
+
+    -- a name was taken from what stays
+    pub take_held : (not (names_of s.tree m - 1 == 0) || lives_nameless desks m target.body) ≡ true → bit new inode_bitmap m ≡ bit mid inode_bitmap m
+        → HoldsNode new (inode_at p new m) (record { node = target; names = names_of s.tree m - 1; parent = parent (changed s.tree (TakeName dir name)) m })
+        → HoldsAll p new (placed (swept (changed s.tree (TakeName dir name)) desks))
+    take_held stay marked counted =
+        taken_then _ (taken_stays s is up desks still dir directory name m takes target at stay)
+        (one_replaced p m mid new between between_held below second _ _
+        (placing_other dir _ (placed s.tree) m (taken_apart s is up desks still dir directory name m takes) ∙ placed_from s.tree m (Some target) _ _ at refl refl)
+        (subst (λ u. HoldsNode new (inode_at p new m) (record { node = target; names = names_of s.tree m - 1; parent = parent u m })) taken_is counted) marked)
+
+    -- the last name was taken
+    pub drop_held : (not (names_of s.tree m - 1 == 0) || lives_nameless desks m target.body) ≡ false → bit new inode_bitmap m ≡ false
+        → inode_at p new m ≡ free_inode → HoldsAll p new (placed (swept (changed s.tree (TakeName dir name)) desks))
+    drop_held goes clear free =
+        let low = below in
+        let some = (is.tree.each m target at).positive in
+        let positive : nat_eq m 0 ≡ false = grind (arith, nat_tests) in
+        let inside : nat_le p.inodes m ≡ false = grind (arith, nat_tests) in
+        taken_then None (taken_goes s is up desks still dir directory name m takes target at goes)
+        (one_placed p m mid new between between_held below second None free
+        (clear ∙ sym (ap (λ b. b || nat_le p.inodes m || false) positive ∙ ap (λ b. b || false) inside)))

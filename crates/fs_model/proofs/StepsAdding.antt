@@ -1,18 +1,18 @@
 -- One name more: a directory gets a name for a node that is new, or for one that is no directory.
-use Rattle.std.specs.Prelude.{◌≡◌, ◌≢◌, ℕ, ◌+◌, ◌<◌, ◌≤◌, Bool, true, false, cond, List, length, None, Some, is_some, IsTrue, ◌⊎◌}
+use Rattle.std.specs.Prelude.{◌≡◌, ◌≢◌, ℕ, ◌+◌, ◌<◌, ◌≤◌, Bool, true, false, cond, List, length, None, Some, is_some, IsTrue, IsFalse, ◌⊎◌}
 use Rattle.std.proofs.Common.{refl, sym, ap, arith, ◌∙◌, subst, inl, inr}
 use Rattle.std.proofs.lemmas.Bool.{cases_eq}
 use Rattle.std.specs.Ordering.{nat_cmp, eq_by_cmp}
 use Rattle.fs_layout.specs.Bytes.{IsBytes}
 use Rattle.fs_layout.specs.Directories.{IsName}
-use Rattle.fs_model.specs.Limits.{root, entries_limit}
+use Rattle.fs_model.specs.Limits.{root, entries_limit, names_limit}
 use Rattle.fs_layout.specs.Maps.{get, name_cmp, with_entry, IsMap}
-use Rattle.fs_model.specs.Nodes.{Node, is_directory, names_in, with_names}
+use Rattle.fs_model.specs.Nodes.{Node, Body, File, Dir, Link, is_directory, names_in, with_names}
 use Rattle.fs_model.specs.Trees.{Tree, Room, node_at, names_of, parent, NamesFit, IsEntry, IsUnderRoot, is_in, IsNode, IsDirectoryAt, IsTree}
 use Rattle.fs_model.proofs.Finds.{IsThere}
 use Rattle.fs_layout.proofs.MapLaws.{with_entry-IsMap}
 use Rattle.fs_layout.proofs.NameMaps.{Names, leading, once_if, once_same, once_other, get-with_name, with_name-IsMap, length-with_name, leading-with_name, tied_names}
-use Rattle.fs_model.proofs.StepsKinds.{KeepsTypes, directory_moves, same_fit}
+use Rattle.fs_model.proofs.StepsKinds.{KeepsTypes, types_stay, directory_moves, same_fit}
 use Rattle.fs_model.proofs.Moves.{entry_moves, body_moves}
 use Rattle.fs_model.proofs.StepsNaming.{renamed_node, renamed, at_it, at_others, still_there, names_there, names_elsewhere, names_of-renamed, renamed_keeps_types, types_compose, type_with_names, IsShape, node_from_shape, AreNames, body_renamed, are_names}
 use Rattle.fs_model.proofs.StepsParents.{names_or, names_at, parent_is, parent_kept, under_all, directory_named, parent_at, under_root}
@@ -211,3 +211,54 @@ module _ (room : Room) (t w : Tree) (dir : ℕ) (directory : Node) (name : List 
     root_is_there = directory_moves t u added_keeps_types root is.root_is_there;
     each = node_is;
   }
+
+-- ---- a name for what is no directory
+
+pub record GivesName (t : Tree) (dir : ℕ) (directory : Node) (name : List ℕ) (n : ℕ) (target : Node) : Type 0 where
+  pub stands : node_at t dir ≡ Some directory
+  pub is_dir : IsTrue (is_directory directory.body)
+  pub is_new : get name_cmp (names_in directory.body) name ≡ None
+  pub has_room : length (names_in directory.body) < entries_limit
+  pub is_name : IsName name
+  pub bytes : IsBytes name
+  pub there : node_at t n ≡ Some target
+  pub no_directory : IsFalse (is_directory target.body)
+  pub few : names_of t n < names_limit
+
+one_name_more : (n : ℕ) (b : Body) (names : ℕ) → IsFalse (is_directory b) → names < names_limit → NamesFit n b (names + 1)
+one_name_more n (File a bytes) names d few = omega (arith, few)
+one_name_more n (Dir a dir) names d few = absurd cc
+one_name_more n (Link target) names d few = (omega arith, omega (arith, few))
+
+pub gives_name : (room : Room) (t : Tree) (dir : ℕ) (directory : Node) (name : List ℕ) (n : ℕ) (target : Node) → IsTree room t
+    → GivesName t dir directory name n target → AddsName room t t dir directory name n target
+gives_name room t dir directory name n target is gives =
+    let node = is.each n target gives.there in
+    record {
+      numbers = is.numbers;
+      here = gives.there;
+      others = λ m ne. refl;
+      still = λ m there. there;
+      names = λ k. refl;
+      counts = λ k. refl;
+      types = types_stay t;
+      stands = gives.stands;
+      is_dir = gives.is_dir;
+      is_new = gives.is_new;
+      has_room = gives.has_room;
+      is_name = gives.is_name;
+      bytes = gives.bytes;
+      apart = apart;
+      shape = record { positive = node.positive; below = node.below; owner = node.owner; group = node.group; body = node.body };
+      fits = one_name_more n target.body (names_of t n) gives.no_directory gives.few;
+      unnamed = λ d. absurd (let other = gives.no_directory in cc);
+    }
+  where
+    apart : (d : ℕ) → IsDirectoryAt t d → d ≢ n
+    apart d at e =
+        let here : node_at t n ≡ Some at.node = ap (node_at t) (sym e) ∙ at.is_there in
+        let there = gives.there in
+        let same : at.node ≡ target = cc in
+        let directory : is_directory target.body ≡ true = ap (λ v. is_directory v.body) (sym same) ∙ at.directory in
+        let other = gives.no_directory in
+        cc

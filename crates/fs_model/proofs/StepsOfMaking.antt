@@ -1,5 +1,5 @@
 -- What calls that make a node or add a name leave fits: an open of what isn't there, mkdir, symlink and link.
-use Rattle.std.specs.Prelude.{◌≡◌, ◌≢◌, ℕ, ◌+◌, ◌^◌, ◌<◌, ◌≤◌, ◌==◌, nat_le, nat_lt, Bool, true, false, not, ◌&&◌, ◌||◌, cond, List, [], ◌∷◌, length, Option, None, Some, is_some, unwrap_or, IsTrue, All}
+use Rattle.std.specs.Prelude.{◌≡◌, ◌≢◌, ℕ, ◌^◌, ◌<◌, ◌≤◌, ◌==◌, nat_le, nat_lt, Bool, true, false, not, ◌&&◌, ◌||◌, cond, List, [], ◌∷◌, length, Option, None, Some, is_some, unwrap_or, IsTrue, All}
 use Rattle.std.proofs.Common.{refl, sym, ap, arith, ◌∙◌, subst}
 use Rattle.std.proofs.lemmas.Bool.{or_parts}
 use Rattle.std.proofs.lemmas.Bool.Decides.{nat_tests}
@@ -12,8 +12,8 @@ use Rattle.fs_model.specs.declared.reply.Reply.{Reply}
 use Rattle.fs_model.specs.declared.reply.Reply.TheVariants.{Done, Fd}
 use Rattle.fs_model.specs.Limits.{entries_limit, descriptors_limit, names_limit, target_limit}
 use Rattle.fs_layout.specs.Maps.{get, name_cmp, with_entry}
-use Rattle.fs_model.specs.Nodes.{Node, Body, File, Dir, Link, is_directory, names_in, with_bytes}
-use Rattle.fs_model.specs.Trees.{Tree, node_at, with_node, names_of, NamesFit, IsTarget, IsDirectoryAt, IsTree}
+use Rattle.fs_model.specs.Nodes.{Node, is_directory, names_in, with_bytes}
+use Rattle.fs_model.specs.Trees.{Tree, node_at, with_node, names_of, IsTarget, IsTree}
 use Rattle.fs_model.specs.Births.{the_node, born_file, born_directory, born_link}
 use Rattle.fs_model.specs.Processes.{least_unused}
 use Rattle.fs_model.specs.Changes.{Same, Rewrite, Make, AddName, with_names_at, named, changed}
@@ -23,15 +23,15 @@ use Rattle.fs_model.specs.declared.walk.Found.{Found}
 use Rattle.fs_model.specs.Scenes.{Scene, is_found, is_special, number, node_found, body_found, dir_node, is_directory_found, must_be_new, no_names}
 use Rattle.fs_model.specs.OpenCall.{open_early, open_process, open_effect}
 use Rattle.fs_model.specs.NameCalls.{mkdir_effect, symlink_arguments, symlink_effect, link_demands, link_effect}
-use Rattle.fs_model.proofs.StepsAdding.{AddsName, added_is_tree, added_keeps_types}
+use Rattle.fs_model.proofs.StepsAdding.{AddsName, gives_name, added_is_tree, added_keeps_types}
 use Rattle.fs_model.proofs.StepsDemands.{AreMet, unrefused, and_false}
 use Rattle.fs_model.proofs.StepsFit.{IsScene, EffectFits, node_is_there}
 use Rattle.fs_model.proofs.StepsFound.{IsNameAt}
-use Rattle.fs_model.proofs.StepsKinds.{KeepsTypes, types_stay, process_moves}
+use Rattle.fs_model.proofs.StepsKinds.{KeepsTypes, process_moves}
 use Rattle.fs_model.proofs.StepsMaking.{IsNewborn, file_is_born, directory_is_born, link_is_born, makes_name}
 use Rattle.fs_model.proofs.StepsNaming.{renamed, renamed_node, at_it, at_others}
 use Rattle.fs_model.proofs.StepsOfOpen.{fits_as}
-use Rattle.fs_model.proofs.StepsOfPaths.{first_at, first_is, is_found_if}
+use Rattle.fs_model.proofs.StepsOfPaths.{first_at, is_found_if}
 use Rattle.fs_model.proofs.StepsProcesses.{with_descriptor_fits, least_is_low}
 
 -- ---- what a name stands in
@@ -185,11 +185,6 @@ target_is target bytes met =
 
 -- ---- link
 
-one_name_more : (n : ℕ) (b : Body) (names : ℕ) → is_directory b ≡ false → names < names_limit → NamesFit n b (names + 1)
-one_name_more n (File a bytes) names d few = omega (arith, few)
-one_name_more n (Dir a dir) names d few = absurd cc
-one_name_more n (Link target) names d few = (omega arith, omega (arith, few))
-
 pub link_fits : (c : Scene) → IsScene c → IsNameAt c.state.tree c.second.dir c.second.name None → AreMet (link_demands c)
     → EffectFits c.state (link_effect c)
 link_fits c is name met =
@@ -197,7 +192,6 @@ link_fits c is name met =
     let n = number c.first in
     let found = is_found_if c.first met.1.0 in
     let target = node_found c c.first in
-    let node = first_is c is found in
     let dir = c.second.dir in
     let directory = dir_node c c.second in
     let x = dir_is_there t dir c.second.name None name in
@@ -206,25 +200,18 @@ link_fits c is name met =
     let few : names_of t n < names_limit = grind (arith, nat_tests) in
     let full : nat_le entries_limit (length (names_in directory.body)) ≡ false = unrefused ENOSPC _ met.1.1.1.1.1.1.1.1.1.0 in
     let free : length (names_in directory.body) < entries_limit = grind (arith, nat_tests) in
-    let adds : AddsName c.state.room t t dir directory c.second.name n target = record {
-      numbers = is.state.tree.numbers;
-      here = first_at c is found;
-      others = λ m ne. refl;
-      still = λ m there. there;
-      names = λ k. refl;
-      counts = λ k. refl;
-      types = types_stay t;
+    let adds =
+    gives_name c.state.room t dir directory c.second.name n target is.state.tree (record {
       stands = x.0;
       is_dir = x.1;
       is_new = x.2;
       has_room = free;
       is_name = name.is_name;
       bytes = name.bytes;
-      apart = λ d there e. apart d there e no_directory (first_at c is found);
-      shape = record { positive = node.positive; below = node.below; owner = node.owner; group = node.group; body = node.body };
-      fits = one_name_more n target.body (names_of t n) no_directory few;
-      unnamed = λ d. absurd cc;
-    } in
+      there = first_at c is found;
+      no_directory = no_directory;
+      few = few;
+    }) in
     let u : changed t (AddName dir c.second.name n) ≡ renamed t dir directory (with_entry name_cmp (names_in directory.body) c.second.name n) =
     named_is t dir directory c.second.name n x.0 in
     let tree : IsTree c.state.room (changed t (AddName dir c.second.name n)) =
@@ -232,11 +219,3 @@ link_fits c is name met =
     let types : KeepsTypes t (changed t (AddName dir c.second.name n)) =
     subst (KeepsTypes t) (sym u) (added_keeps_types c.state.room t t dir directory c.second.name n target is.state.tree adds) in
     record { tree = tree; types = types; process = process_moves t (changed t (AddName dir c.second.name n)) types c.process is.process }
-  where
-    apart : (d : ℕ) → IsDirectoryAt c.state.tree d → d ≡ number c.first → is_directory (body_found c c.first) ≡ false
-        → node_at c.state.tree (number c.first) ≡ Some (node_found c c.first) → ⊥
-    apart d there e no_directory at =
-        let here : node_at c.state.tree (number c.first) ≡ Some there.node = ap (node_at c.state.tree) (sym e) ∙ there.is_there in
-        let same : there.node ≡ node_found c c.first = cc in
-        let d : is_directory (body_found c c.first) ≡ true = ap (λ v. is_directory v.body) (sym same) ∙ there.directory in
-        cc
