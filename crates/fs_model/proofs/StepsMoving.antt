@@ -1,5 +1,5 @@
 -- A name goes to another directory, or to another name, and what that led to loses it.
-use Rattle.std.specs.Prelude.{◌≡◌, ◌≢◌, ℕ, ◌+◌, ◌<◌, ◌≤◌, Bool, true, false, not, cond, List, [], length, Option, None, Some, IsTrue, ◌⊎◌}
+use Rattle.std.specs.Prelude.{◌≡◌, ◌≢◌, ℕ, ◌+◌, ◌<◌, ◌≤◌, Bool, true, false, not, cond, List, [], length, Option, None, Some, unwrap_or, IsTrue, ◌⊎◌}
 use Rattle.std.proofs.Common.{refl, sym, ap, arith, ◌∙◌, subst, inl, inr}
 use Rattle.std.proofs.lemmas.Bool.{cases_eq}
 use Rattle.std.specs.Ordering.{nat_cmp, eq_by_cmp}
@@ -8,8 +8,9 @@ use Rattle.fs_layout.specs.Directories.{IsName}
 use Rattle.fs_model.specs.Limits.{root, entries_limit}
 use Rattle.fs_layout.specs.Maps.{get, name_cmp, with_entry, without, IsMap}
 use Rattle.fs_model.specs.Nodes.{Node, is_directory, names_in, with_names}
-use Rattle.fs_model.specs.Trees.{Tree, Room, node_at, names_of, parent, IsEntry, IsUnderRoot, is_in, IsDirectoryAt, IsTree}
+use Rattle.fs_model.specs.Trees.{Tree, Room, node_at, names_of, parent, lookup, lookup_in, IsEntry, IsUnderRoot, is_in, IsDirectoryAt, IsTree}
 use Rattle.fs_model.specs.Processes.{Desks, is_in_use}
+use Rattle.fs_model.specs.Changes.{MoveName, with_names_at, named, unnamed, changed}
 use Rattle.fs_model.proofs.Finds.{IsThere}
 use Rattle.fs_layout.proofs.MapLaws.{with_entry-IsMap}
 use Rattle.fs_layout.proofs.NameMaps.{Names, leading, once_if, once_same, once_other, tied_names, get-with_name, with_name-IsMap, length-with_name, get-without_name, length-without_name, leading-without_name, leading_if, length-set_name, lost_of, leading-set_name}
@@ -54,13 +55,13 @@ module _ (room : Room) (t : Tree) (desks : Desks) (dir : ℕ) (directory : Node)
   abbrev v : Tree
   v = renamed t dir directory (without name_cmp (names_in directory.body) name)
 
-  were : AreNames t (names_in directory.body)
+  pub were : AreNames t (names_in directory.body)
   were = are_names room t directory.body (is.each dir directory moves.stands).body
 
   v_there : (q : ℕ) → IsThere t q → IsThere v q
   v_there q h = still_there t dir (renamed_node directory less) q h
 
-  v_numbers : IsMap nat_cmp v
+  pub v_numbers : IsMap nat_cmp v
   v_numbers = with_entry-IsMap t dir (renamed_node directory less) is.numbers
 
   -- the directory without the name
@@ -150,10 +151,10 @@ module _ (room : Room) (t : Tree) (desks : Desks) (dir : ℕ) (directory : Node)
 
   -- ---- counts
 
-  set : (x : ℕ) → leading x new + lost_of o x ≡ leading x (names_in between.node.body) + once_if n x
+  pub set : (x : ℕ) → leading x new + lost_of o x ≡ leading x (names_in between.node.body) + once_if n x
   set x = leading-set_name (names_in between.node.body) to_name n x o between_are.rising between.leads
 
-  fewer : (x : ℕ) → leading x less + once_if n x ≡ leading x (names_in directory.body)
+  pub fewer : (x : ℕ) → leading x less + once_if n x ≡ leading x (names_in directory.body)
   fewer x = leading-without_name (names_in directory.body) name n x were.rising moves.leads
 
   count : (x : ℕ) → names_of moved x + lost_of o x ≡ names_of t x
@@ -264,7 +265,7 @@ module _ (room : Room) (t : Tree) (desks : Desks) (dir : ℕ) (directory : Node)
   to_dir_at : IsDirectoryAt t to_dir
   to_dir_at = record { node = to_directory; is_there = moves.to_stands; directory = moves.is_to_dir }
 
-  to_dir_kept : (p : Option ℕ) → o ≡ p → lost_of p to_dir ≡ 0
+  pub to_dir_kept : (p : Option ℕ) → o ≡ p → lost_of p to_dir ≡ 0
   to_dir_kept None e = refl
   to_dir_kept (Some m) e =
       let are = are_names room t to_directory.body (is.each to_dir to_directory moves.to_stands).body in
@@ -272,13 +273,13 @@ module _ (room : Room) (t : Tree) (desks : Desks) (dir : ℕ) (directory : Node)
       let at : names_at t to_dir ≡ names_in to_directory.body = ap names_or moves.to_stands in
       keeps_if (Some m) e m to_dir to_dir_at (subst (λ q. 1 ≤ leading m q) (sym at) some)
 
-  dir_kept : (p : Option ℕ) → o ≡ p → lost_of p dir ≡ 0
+  pub dir_kept : (p : Option ℕ) → o ≡ p → lost_of p dir ≡ 0
   dir_kept p e =
       let some : 1 ≤ leading n (names_in directory.body) = leading_if (names_in directory.body) name n were.rising moves.leads in
       let at : names_at t dir ≡ names_in directory.body = ap names_or moves.stands in
       keeps_if p e n dir (record { node = directory; is_there = moves.stands; directory = moves.is_dir }) (subst (λ q. 1 ≤ leading n q) (sym at) some)
 
-  n_kept : (p : Option ℕ) → o ≡ p → lost_of p n ≡ 0
+  pub n_kept : (p : Option ℕ) → o ≡ p → lost_of p n ≡ 0
   n_kept None e = refl
   n_kept (Some m) e = once_other m n (moves.other m e)
 
@@ -309,16 +310,19 @@ module _ (room : Room) (t : Tree) (desks : Desks) (dir : ℕ) (directory : Node)
   to_dir_climbs d =
       under_all t moved IsOut out_step (to_dir_at, to_dir_kept o refl, moves.outside d) (under_root room t is to_dir to_dir_at)
 
-  n_climbs : IsDirectoryAt t n → n ≢ root → IsUnderRoot moved n
-  n_climbs d ne =
+  -- a directory that is moved is named there alone
+  pub moved_parent : IsDirectoryAt t n → n ≢ root → parent moved n ≡ to_dir
+  moved_parent d ne =
       let one = directory_named room t is n d ne in
       let all = count n in
       let none = n_kept o refl in
       let single = once_same n n refl in
       let led = set n in
       let some : 1 ≤ leading n (names_at moved to_dir) = (let same : leading n (names_at moved to_dir) ≡ leading n new = ap (leading n) names_to in omega (arith, same, led, none, single)) in
-      let up : parent moved n ≡ to_dir = parent_is moved to_dir n some (omega (arith, one, all, none)) in
-      is_in n (subst (IsUnderRoot moved) (sym up) (to_dir_climbs d))
+      parent_is moved to_dir n some (omega (arith, one, all, none))
+
+  n_climbs : IsDirectoryAt t n → n ≢ root → IsUnderRoot moved n
+  n_climbs d ne = is_in n (subst (IsUnderRoot moved) (sym (moved_parent d ne)) (to_dir_climbs d))
 
   step : (x : ℕ) → Stays x → x ≢ root → IsUnderRoot moved x ⊎ ((parent moved x ≡ parent t x) × Stays (parent t x))
   step x q ne = elim (cases_eq x n) [
@@ -364,3 +368,11 @@ module _ (room : Room) (t : Tree) (desks : Desks) (dir : ℕ) (directory : Node)
     unused = unused_then o refl;
     under = λ x d none. under_all t moved Stays step (d, none) (under_root room t is x d);
   }
+
+  pub moved_is : changed t (MoveName dir name to_dir to_name) ≡ moved
+  moved_is =
+      let gone : unnamed t dir name ≡ v = ap (with_names_at t dir (λ names. without name_cmp names name)) moves.stands in
+      let led : lookup t dir name ≡ Some n = ap (λ q. lookup_in q name) moves.stands ∙ moves.leads in
+      ap (λ w. named w to_dir to_name (unwrap_or (lookup t dir name) 0)) gone
+      ∙ ap (λ q. named v to_dir to_name (unwrap_or q 0)) led
+      ∙ ap (with_names_at v to_dir (λ names. with_entry name_cmp names to_name n)) between.here

@@ -6,11 +6,11 @@ use Rattle.std.proofs.lemmas.Bool.Decides.{nat_tests}
 use Rattle.std.specs.Ordering.{nat_cmp}
 use Rattle.fs_cred.specs.declared.errno.Errno.TheVariants.{EBUSY, EINVAL, ENOTEMPTY, ENOSPC}
 use Rattle.fs_model.specs.Limits.{entries_limit}
-use Rattle.fs_layout.specs.Maps.{get, name_cmp, with_entry, without}
+use Rattle.fs_layout.specs.Maps.{get, with_entry}
 use Rattle.fs_model.specs.Nodes.{is_directory, names_in}
-use Rattle.fs_model.specs.Trees.{node_at, lookup, lookup_in, is_within, IsDirectoryAt}
+use Rattle.fs_model.specs.Trees.{node_at, is_within, IsDirectoryAt}
 use Rattle.fs_model.specs.Processes.{is_in_use}
-use Rattle.fs_model.specs.Changes.{MoveName, with_names_at, named, unnamed, changed}
+use Rattle.fs_model.specs.Changes.{MoveName, changed}
 use Rattle.fs_model.specs.declared.walk.Form.TheVariants.{Parent}
 use Rattle.fs_model.specs.Demands.{only_if}
 use Rattle.fs_model.specs.Scenes.{Scene, is_found, is_special, number, node_found, body_found, dir_node, is_directory_found, has_names, ends_top, ends_dot, ends_dot_dot, no_blocks, no_names}
@@ -20,9 +20,8 @@ use Rattle.fs_layout.proofs.NameMaps.{lost_of}
 use Rattle.fs_model.proofs.StepsFit.{IsScene, node_is_there}
 use Rattle.fs_model.proofs.StepsFound.{IsNameAt, IsWalked}
 use Rattle.fs_model.proofs.StepsLosing.{LosesNames}
-use Rattle.fs_model.proofs.StepsMoving.{MovesName, between, moved, moves_loses}
-use Rattle.fs_model.proofs.StepsNaming.{renamed}
-use Rattle.fs_model.proofs.StepsOfMaking.{dir_is_there, named_is}
+use Rattle.fs_model.proofs.StepsMoving.{MovesName, moves_loses, moved_is}
+use Rattle.fs_model.proofs.StepsOfMaking.{dir_is_there}
 use Rattle.fs_model.proofs.StepsOfPaths.{found_number, is_found_if}
 use Rattle.fs_model.proofs.StepsOfRemoving.{empty_if, loses_leaves, found_directory}
 use Rattle.fs_model.proofs.StepsParents.{names_or, names_at}
@@ -135,30 +134,14 @@ module _ (c : Scene) (is : IsScene c) (asks : IsRenamed c) (same : is_same c ≡
             (record { node = dir_node c c.second; is_there = y.0; directory = y.1 }) (outside d);
       }
 
-  moved_is : (from : IsNameAt c.state.tree c.first.dir c.first.name c.first.ino) (to : IsNameAt c.state.tree c.second.dir c.second.name c.second.ino)
-      → changed c.state.tree (MoveName c.first.dir c.first.name c.second.dir c.second.name)
-      ≡ moved c.state.room c.state.tree c.state.desks c.first.dir (dir_node c c.first) c.first.name (number c.first) c.second.dir (dir_node c c.second) c.second.name c.second.ino
-      is.state.tree (moves_name from to)
-  moved_is from to =
-      let t = c.state.tree in
-      let directory = dir_node c c.first in
-      let x = dir_is_there t c.first.dir c.first.name c.first.ino from in
-      let v = renamed t c.first.dir directory (without name_cmp (names_in directory.body) c.first.name) in
-      let less : unnamed t c.first.dir c.first.name ≡ v = ap (with_names_at t c.first.dir (λ names. without name_cmp names c.first.name)) x.0 in
-      let led : lookup t c.first.dir c.first.name ≡ Some (number c.first) = ap (λ o. lookup_in o c.first.name) x.0 ∙ x.2 ∙ found_number c.first.ino asks.found in
-      let there =
-      between c.state.room t c.state.desks c.first.dir directory c.first.name (number c.first) c.second.dir (dir_node c c.second) c.second.name c.second.ino is.state.tree
-      (moves_name from to) in
-      ap (λ w. named w c.second.dir c.second.name (unwrap_or (lookup t c.first.dir c.first.name) 0)) less
-      ∙ ap (λ o. named v c.second.dir c.second.name (unwrap_or o 0)) led
-      ∙ named_is v c.second.dir there.node c.second.name (number c.first) there.here
-
   rename_loses : IsWalked c.state.tree Parent c.first → IsWalked c.state.tree Parent c.second
       → LosesNames c.state.room c.state.tree (changed c.state.tree (MoveName c.first.dir c.first.name c.second.dir c.second.name)) c.state.desks (lost_of c.second.ino)
   rename_loses from to =
       let a = from.old refl asks.first in
       let b = to.old refl asks.second in
-      subst (λ u. LosesNames c.state.room c.state.tree u c.state.desks (lost_of c.second.ino)) (sym (moved_is a b))
+      subst (λ u. LosesNames c.state.room c.state.tree u c.state.desks (lost_of c.second.ino)) 
+      (sym (moved_is c.state.room c.state.tree c.state.desks c.first.dir (dir_node c c.first) c.first.name (number c.first) c.second.dir (dir_node c c.second)
+      c.second.name c.second.ino is.state.tree (moves_name a b)))
       (moves_loses c.state.room c.state.tree c.state.desks c.first.dir (dir_node c c.first) c.first.name (number c.first) c.second.dir (dir_node c c.second)
       c.second.name c.second.ino is.state.tree (moves_name a b))
 
