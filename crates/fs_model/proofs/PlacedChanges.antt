@@ -2,9 +2,8 @@
 --     MakesNode        what making a node asks
 --     same_held, rewrite_held, make_held, add_held, take_held, drop_held        after each change
 use Rattle.std.specs.Prelude.{◌≡◌, ◌≢◌, ℕ, ◌+◌, ◌-◌, ◌<◌, ◌≤◌, ◌^◌, nat_eq, nat_le, ◌==◌, true, false, not, ◌||◌, List, [], length, Option, None, Some, IsTrue, IsFalse}
-use Rattle.std.proofs.Common.{refl, sym, ap, arith, ◌∙◌, subst}
+use Rattle.std.proofs.Common.{refl, sym, ap, ◌∙◌, subst}
 use Rattle.std.proofs.lemmas.Bool.{or_right}
-use Rattle.std.proofs.lemmas.Bool.Decides.{nat_tests}
 use Rattle.fs_layout.specs.declared.place.Place.{Place}
 use Rattle.fs_layout.specs.Bytes.{SectorMap, IsBytes}
 use Rattle.fs_layout.specs.Changes.{ChangesInode}
@@ -23,7 +22,7 @@ use Rattle.fs_model.specs.StoredNodes.{Placed, HoldsNode}
 use Rattle.fs_model.specs.Stands.{HoldsAll, placed, room_of}
 use Rattle.fs_model.proofs.Frame.{placed_elsewhere}
 use Rattle.fs_model.proofs.PlacedNames.{added_dir, added_node, added_others, added_nameless, taken_dir, taken_others, taken_stays, taken_goes, taken_apart}
-use Rattle.fs_model.proofs.PlacedNodes.{same_placed, placing, placing_other, placed_once, placed_twice, one_placed, one_replaced, placed_from, nothing_goes, below_inodes, node_below}
+use Rattle.fs_model.proofs.PlacedNodes.{same_placed, placing, placing_other, placed_once, placed_twice, one_placed, one_replaced, one_dropped, placed_from, nothing_goes, below_inodes, node_below}
 use Rattle.fs_model.proofs.Rewrites.{names_of-rewritten, parent-rewritten, parent-with_node, there-rewritten}
 use Rattle.fs_model.proofs.StepsAdding.{AddsName, GivesName, gives_name, added_keeps_types, added_is_tree, dir_apart, stands_then, new_parent}
 use Rattle.fs_model.proofs.StepsKinds.{MayReplace, replaced_is_tree, replaced_keeps_types}
@@ -214,10 +213,5 @@ module _ (s : State) (is : IsState s) (up : IsFalse s.halted) (desks : Desks) (s
     pub drop_held : (not (names_of s.tree m - 1 == 0) || lives_nameless desks m target.body) ≡ false → bit new inode_bitmap m ≡ false
         → inode_at p new m ≡ free_inode → HoldsAll p new (placed (swept (changed s.tree (TakeName dir name)) desks))
     drop_held goes clear free =
-        let low = below in
-        let some = (is.tree.each m target at).positive in
-        let positive : nat_eq m 0 ≡ false = grind (arith, nat_tests) in
-        let inside : nat_le p.inodes m ≡ false = grind (arith, nat_tests) in
         taken_then None (taken_goes s is up desks still dir directory name m takes target at goes)
-        (one_placed p m mid new between between_held below second None free
-        (clear ∙ sym (ap (λ b. b || nat_le p.inodes m || false) positive ∙ ap (λ b. b || false) inside)))
+        (one_dropped p m mid new between between_held below second (is.tree.each m target at).positive free clear)

@@ -1,15 +1,17 @@
 -- What an image holds, and what a tree places, where single nodes change.
---     same_placed, placing, one_placed, one_replaced        what is held, number by number
+--     same_placed, placing, one_placed, one_replaced, one_dropped, restated        what is held, number by number
 --     placed_from        what a tree places, put together from its parts
 --     placed_none, placed_stays, placed_goes        what a swept tree places
 --     stays_if, placed_again, nothing_goes        where the sweep drops nothing
-use Rattle.std.specs.Prelude.{◌≡◌, ◌≢◌, ℕ, ◌<◌, nat_eq, nat_le, ◌==◌, true, false, not, ◌||◌, cond, if◌then◌else◌, Option, None, Some, is_some, IsTrue, IsFalse}
+use Rattle.std.specs.Prelude.{◌≡◌, ◌≢◌, ℕ, ◌<◌, ◌≤◌, nat_eq, nat_le, ◌==◌, true, false, not, ◌||◌, cond, if◌then◌else◌, Option, None, Some, is_some, IsTrue, IsFalse}
 use Rattle.std.proofs.Common.{refl, sym, ap, arith, ◌∙◌, subst, inl, inr}
 use Rattle.std.proofs.lemmas.Bool.{cases_eq, cond-true, cond-false, eq-eqb, ne_eqb}
+use Rattle.std.proofs.lemmas.Bool.Decides.{nat_tests}
 use Rattle.std.specs.Option.{option_map}
 use Rattle.std.specs.Ordering.{nat_cmp}
 use Rattle.fs_layout.specs.declared.place.Place.{Place}
 use Rattle.fs_layout.specs.Bytes.{SectorMap}
+use Rattle.fs_layout.specs.Inode.{free_inode}
 use Rattle.fs_layout.specs.Images.{bit, inode_bitmap, inode_at}
 use Rattle.fs_layout.specs.Changes.{ChangesInode}
 use Rattle.fs_layout.specs.Maps.{IsMap}
@@ -82,6 +84,33 @@ module _ (p : Place) (n : ℕ) (old new : SectorMap) (what : ℕ → Option Plac
   one_replaced x y was here same =
       one_placed (Some y) here
       (same ∙ h.inode_bits n (let most = h.consistent.place.most_inodes in omega (arith, below, most)) ∙ ap (λ q. nat_eq n 0 || nat_le p.inodes n || is_some q) was)
+
+  -- where it holds none
+  pub one_dropped : 1 ≤ n → inode_at p new n ≡ free_inode → bit new inode_bitmap n ≡ false → HoldsAll p new (placing n None what)
+  one_dropped some free clear =
+      let low = below in
+      let positive : nat_eq n 0 ≡ false = grind (arith, nat_tests) in
+      let inside : nat_le p.inodes n ≡ false = grind (arith, nat_tests) in
+      one_placed None free (clear ∙ sym (ap (λ b. b || nat_le p.inodes n || false) positive ∙ ap (λ b. b || false) inside))
+
+module _ (p : Place) (image : SectorMap) (what : ℕ → Option Placed) (h : HoldsAll p image what) (n : ℕ) where
+  pub held_at : n < p.inodes → (x : Placed) → what n ≡ Some x → HoldsNode image (inode_at p image n) x
+  held_at below x was = subst (HoldsPlaced p image n) was (h.nodes n below)
+
+  -- nothing changes, and inode n holds another node as well
+  pub restated : (x y : Placed) → what n ≡ Some x → HoldsNode image (inode_at p image n) y → HoldsAll p image (placing n (Some y) what)
+  restated x y was here = record {
+    consistent = h.consistent;
+    nodes = λ m lt. elim (cases_eq m n) [
+      | inl e ↦ subst (λ k. HoldsPlaced p image k (placing n (Some y) what k)) (sym e) (subst (HoldsPlaced p image n) (sym (placing_here n (Some y) what)) here)
+      | inr ne ↦ subst (HoldsPlaced p image m) (sym (placing_other n (Some y) what m ne)) (h.nodes m lt)
+    ];
+    inode_bits = λ m few. elim (cases_eq m n) [
+      | inl e ↦ h.inode_bits m few ∙ ap (λ q. nat_eq m 0 || nat_le p.inodes m || is_some q) (ap what e ∙ was)
+          ∙ ap (λ q. nat_eq m 0 || nat_le p.inodes m || is_some q) (sym (ap (placing n (Some y) what) e ∙ placing_here n (Some y) what))
+      | inr ne ↦ h.inode_bits m few ∙ ap (λ q. nat_eq m 0 || nat_le p.inodes m || is_some q) (sym (placing_other n (Some y) what m ne))
+    ];
+  }
 
 -- ---- what a tree places
 
