@@ -1,18 +1,19 @@
 -- What the inodes of a disk that holds a tree say of its nodes.
 use Rattle.std.specs.Prelude.{◌≡◌, ℕ, ◌+◌, ◌%◌, ◌<◌, Bool, true, false, cond, List, Option, None, Some, IsTrue, is_some}
-use Rattle.std.proofs.Common.{refl, ap, subst, arith, ◌∙◌}
+use Rattle.std.proofs.Common.{refl, sym, ap, subst, arith, ◌∙◌}
 use Rattle.std.specs.Option.{option_map, option_and_then}
 use Rattle.posix_acl.specs.AccessList.{mode_bits}
 use Rattle.fs_cred.specs.declared.node.Node.{Node as AccessNode}
 use Rattle.fs_cred.specs.declared.node.NodeKind.TheVariants as nodes
 use Rattle.fs_layout.specs.declared.inode.Inode.{Inode}
+use Rattle.fs_layout.specs.declared.inode.Kind.TheVariants as kinds
 use Rattle.fs_layout.specs.declared.place.Place.{Place}
 use Rattle.fs_layout.specs.Bytes.{SectorMap}
 use Rattle.fs_layout.specs.Images.{inode_at, Holds}
 use Rattle.fs_layout.specs.Directories.{HasNames}
 use Rattle.fs_layout.proofs.OneAcl.{mode_small}
 use Rattle.fs_model.specs.Demands.{accessed_at}
-use Rattle.fs_model.specs.Nodes.{Node, Body, File, Dir, Link, is_directory, names_in, accessed, accessed_body, shown_mode}
+use Rattle.fs_model.specs.Nodes.{Node, Body, File, Dir, Link, is_directory, default_in, names_in, bytes_in, accessed, accessed_body, shown_mode}
 use Rattle.fs_model.specs.Rules.{is_directory_kind}
 use Rattle.fs_model.specs.Stands.{HoldsPlaced, room_of}
 use Rattle.fs_model.specs.StoredNodes.{HoldsBody, HoldsNode, parent_field}
@@ -20,6 +21,7 @@ use Rattle.fs_model.specs.Trees.{Tree, node_at, names_of, parent, IsDirectoryAt}
 use Rattle.fs_model.specs.Parts.{parts_of, start_of}
 use Rattle.fs_model.specs.Trails.{named_inode}
 use Rattle.fs_model.proofs.Finds.{number_there, start_there}
+use Rattle.inode_table.specs.Acls.{HasDefaultAcl}
 use Rattle.path_walk.specs.HeldTrees.{HoldsTree, IsThere, HasAccess}
 
 -- what stands at a number
@@ -71,10 +73,22 @@ access_says image v owner group (Dir a d) x o g m h e =
     })
 access_says image v owner group (Link target) x o g m h e = absurd (cc)
 
-names_say : (image : SectorMap) (v : Inode) (b : Body) → IsTrue (is_directory b) → HoldsBody image v b → HasNames image v (names_in b)
+-- a directory's names, and its default ACL
+pub names_say : (image : SectorMap) (v : Inode) (b : Body) → IsTrue (is_directory b) → HoldsBody image v b → HasNames image v (names_in b)
 names_say image v (File a bytes) is h = absurd (cc)
 names_say image v (Dir a d) is h = h.names
 names_say image v (Link target) is h = absurd (cc)
+
+pub default_says : (image : SectorMap) (v : Inode) (b : Body) → IsTrue (is_directory b) → HoldsBody image v b → HasDefaultAcl image v (default_in b)
+default_says image v (File a bytes) is h = absurd (cc)
+default_says image v (Dir a d) is h = record { valid = h.default; stored = h.has_default }
+default_says image v (Link target) is h = absurd (cc)
+
+-- a file's bytes
+pub bytes_say : (image : SectorMap) (v : Inode) (b : Body) → v.kind ≡ kinds.File → HoldsBody image v b → Holds image v (bytes_in b)
+bytes_say image v (File a bytes) is h = h.holds
+bytes_say image v (Dir a d) is h = absurd (let c : kinds.Directory ≡ kinds.File = sym h.names.kind ∙ is in cc)
+bytes_say image v (Link target) is h = absurd (let c : kinds.Link ≡ kinds.File = sym h.kind ∙ is in cc)
 
 -- what is stored of where a directory is named
 pub parent_says : (b : Body) (parent : ℕ) → IsTrue (is_directory b) → parent_field b parent ≡ parent
