@@ -19,6 +19,7 @@ pub mod NoIoErrors
 pub mod OneNode
 pub mod OneTree
 pub mod PlacedChanges
+pub mod PlacedClosings
 pub mod PlacedMoves
 pub mod PlacedNames
 pub mod PlacedNodes
