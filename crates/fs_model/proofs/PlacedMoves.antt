@@ -36,6 +36,10 @@ self_is_root : (t : Tree) {d : ℕ} → IsUnderRoot t d → (k : ℕ) → d ≡ 
 self_is_root t is_root k e above = sym e
 self_is_root t (is_in d below) k e above = self_is_root t below k (ap (parent t) e ∙ above) above
 
+as_node : (o : Option Placed) (x y : Node) (names up : ℕ) → o ≡ Some (record { node = x; names = names; parent = up }) → x ≡ y
+    → o ≡ Some (record { node = y; names = names; parent = up })
+as_node o x y names up is same = is ∙ ap (λ q. Some (record { node = q; names = names; parent = up })) same
+
 -- where what is no directory is named isn't stored
 pub named_anywhere : (image : SectorMap) (v : Inode) (x : Placed) (up : ℕ) → IsFalse (is_directory x.node.body) → HoldsNode image v x → HoldsNode image v (record x { parent = up })
 named_anywhere image v x up other h = record {
@@ -190,15 +194,14 @@ module _ (s : State) (is : IsState s) (up : IsFalse s.halted) (desks : Desks) (s
             let stands : node_at v to_dir ≡ Some (renamed_node directory less) = ap (node_at v) e ∙ at_it s.tree dir (renamed_node directory less) in
             let also = middle.here in
             let same : renamed_node directory less ≡ middle.node = cc in
-            ap taken e ∙ placing_here dir _ (placed s.tree)
-            ∙ ap (λ q. Some (record { node = q; names = names_of s.tree dir; parent = parent s.tree dir })) same
-            ∙ ap (λ k. Some (record { node = middle.node; names = names_of s.tree k; parent = parent s.tree k })) (sym e)
+            as_node (taken to_dir) (renamed_node directory less) middle.node (names_of s.tree to_dir) (parent s.tree to_dir)
+            (ap taken e ∙ placing_here dir _ (placed s.tree) ∙ ap (λ k. Some (record { node = renamed_node directory less; names = names_of s.tree k; parent = parent s.tree k })) (sym e)) same
         | inr ne ↦
             let stands : node_at v to_dir ≡ Some to_directory = at_others s.tree dir (renamed_node directory less) to_dir ne ∙ moves.to_stands in
             let also = middle.here in
             let same : to_directory ≡ middle.node = cc in
-            placing_other dir _ (placed s.tree) to_dir ne ∙ placed_from s.tree to_dir (Some to_directory) _ _ moves.to_stands refl refl
-            ∙ ap (λ q. Some (record { node = q; names = names_of s.tree to_dir; parent = parent s.tree to_dir })) same
+            as_node (taken to_dir) to_directory middle.node (names_of s.tree to_dir) (parent s.tree to_dir)
+            (placing_other dir _ (placed s.tree) to_dir ne ∙ placed_from s.tree to_dir (Some to_directory) _ _ moves.to_stands refl refl) same
       ]
 
       to_below : to_dir < p.inodes
