@@ -72,6 +72,26 @@ pub refused_err : {A : Type 0} (d : Demand) (x : A) (r : Refusal) → refused_or
 refused_err None x r e = absurd (cc)
 refused_err (Some q) x r e = cc
 
+-- ---- demands, one after another
+
+-- the first refuses
+pub first_asked : {A B : Type 0} (d : Demand) (ds : List Demand) (y : B) (x : A) (e : Refusal) (old new : DiskState)
+    → IsAnswered old new (refused_or d (Ok y)) (Err e) → IsAnswered old new (refused_or (first_of (d ∷ ds)) (Ok x)) (Err e)
+first_asked {A} d ds y x e old new h = elim h [
+  | inl is ↦ inl (ap (λ (o : Demand). refused_or {A = A} (or_else o (first_of ds)) (Ok x)) (refused_err d y e is))
+  | inr way ↦ inr way
+]
+
+-- the first is met, and one of the others refuses
+pub next_asked : {A : Type 0} (d : Demand) (ds : List Demand) (x : A) (e : Refusal) (old new : DiskState) → d ≡ None
+    → IsAnswered old new (refused_or (first_of ds) (Ok x)) (Err e) → IsAnswered old new (refused_or (first_of (d ∷ ds)) (Ok x)) (Err e)
+next_asked d ds x e old new none h =
+    subst (λ (o : Demand). IsAnswered old new (refused_or (or_else o (first_of ds)) (Ok x)) (Err e)) (sym none) h
+
+-- both are met
+pub both_met : (d : Demand) (ds : List Demand) → d ≡ None → first_of ds ≡ None → first_of (d ∷ ds) ≡ None
+both_met d ds none rest = ap (λ (o : Demand). or_else o (first_of ds)) none ∙ rest
+
 pub answered_later : {A : Type 0} {old mid : TxnState} {right : Result A Refusal} {r : Refusal} (new : DiskState) → IsUnchanged old mid
     → IsAnswered mid.disk new right (Err r) → IsAnswered old.disk new right (Err r)
 answered_later {A} {old} {mid} {right} {r} new same h = elim h [ inl e ↦ inl e | inr way ↦ inr (interrupts_later new same way) ]
@@ -132,7 +152,7 @@ pub first_of-append : (ds es : List Demand) → first_of (ds ++ es) ≡ or_else 
 first_of-append [] es = refl
 first_of-append (d ∷ ds) es = ap (or_else d) (first_of-append ds es) ∙ or_else-assoc d (first_of ds) (first_of es)
 
-found_ino : (t : Tree) (cwd : ℕ) (form : Form) (path : List ℕ) → (found_by t cwd (form, path)).ino ≡ (trail_of t cwd form path).found
+pub found_ino : (t : Tree) (cwd : ℕ) (form : Form) (path : List ℕ) → (found_by t cwd (form, path)).ino ≡ (trail_of t cwd form path).found
 unfolding found_of
 found_ino t cwd form path = refl
 

@@ -1,0 +1,67 @@
+-- What is found where a link at the end of a path is followed: a file or a directory, on which access is decided.
+use Rattle.std.specs.Prelude.{◌≡◌, ℕ, Bool, true, false, List, Option, None, Some, is_some, unwrap_or, option_and_then}
+use Rattle.std.proofs.Common.{refl, sym, ap, subst, ◌∙◌}
+use Rattle.posix_acl.specs.declared.entry.Perms.{Perms}
+use Rattle.fs_cred.specs.declared.node.Node.{Node as AccessNode}
+use Rattle.fs_cred.specs.declared.refusal.Need.TheVariants.{Perm}
+use Rattle.fs_cred.specs.Verdicts.{verdict}
+use Rattle.fs_layout.specs.declared.place.Place.{Place}
+use Rattle.fs_layout.specs.Bytes.{SectorMap}
+use Rattle.fs_model.specs.declared.walk.Form.TheVariants.{Follow}
+use Rattle.fs_model.specs.declared.walk.Found.{Found}
+use Rattle.fs_model.specs.declared.reply.Reply.TheVariants.{Granted}
+use Rattle.fs_model.specs.AttributeCalls.{access_demands, access_effect, granted_by}
+use Rattle.fs_model.specs.Births.{no_node}
+use Rattle.fs_model.specs.Demands.{Demand, accessed_at, decided, permission_of, permission_on}
+use Rattle.fs_model.specs.Nodes.{Node, Body, File, Dir, Link, accessed, accessed_body, is_link}
+use Rattle.fs_model.specs.Processes.{Process, Desks}
+use Rattle.fs_model.specs.Scenes.{number, must_be_there, node_found, permission_at_end, answers}
+use Rattle.fs_model.specs.States.{State}
+use Rattle.fs_model.specs.Trees.{Tree, node_at}
+use Rattle.fs_model.proofs.Followed.{followed_no_link}
+use Rattle.path_walk.specs.Paths.{scene_at, HasFound}
+use Rattle.path_walk.specs.Performing.{IsStateOf}
+use Rattle.path_walk.proofs.Calling.{found_ino, found_there}
+use Rattle.path_walk.proofs.HeldNodes.{stands}
+
+-- what stands at a number, as access to it is decided
+pub record IsAccessed (t : Tree) (n : ℕ) : Type 0 where
+  pub node : Node
+  pub at : node_at t n ≡ Some node
+  pub access : AccessNode
+  pub is : accessed node ≡ Some access
+
+pub accessed_is : (t : Tree) (n : ℕ) (a : IsAccessed t n) → accessed_at t n ≡ Some a.access
+accessed_is t n a = ap (λ o. option_and_then accessed o) a.at ∙ a.is
+
+accessible : (owner group : ℕ) (b : Body) → is_link b ≡ false → (x : AccessNode) × (accessed_body owner group b ≡ Some x)
+accessible owner group (File a bytes) e = (_, refl)
+accessible owner group (Dir a d) e = (_, refl)
+accessible owner group (Link target) e = absurd (cc)
+
+pub followed_access : {p : Place} {map : SectorMap} {desks : Desks} {s : State} {pid : ℕ} {q : Process} {path : List ℕ} {f : Found} (n : ℕ)
+    → IsStateOf p map desks s → HasFound s pid q Follow path f → f.ino ≡ Some n → IsAccessed s.tree n
+followed_access {p} {map} {desks} {s} {pid} {q} {path} {f} n at found is =
+    let there = stands s.tree n (found_there n at found is) in
+    let here = (at.is_state.desks at.up).processes pid q found.there in
+    let none = followed_no_link s.room s.tree at.is_state.tree q.cwd path here.cwd n
+    (sym (found_ino s.tree q.cwd Follow path) ∙ ap (λ (g : Found). g.ino) (sym found.is) ∙ is) there.node there.at in
+    let a = accessible there.node.owner there.node.group there.node.body none in
+    record { node = there.node; at = there.at; access = a.0; is = a.1 }
+
+-- the decision on it is what is asked
+pub asked_of : (s : State) (q : Process) (f : Found) (want : Perms) (n : ℕ) → number f ≡ n → (a : IsAccessed s.tree n)
+    → permission_at_end (scene_at s q f) f 1 want ≡ decided 1 f.step (Perm want) (verdict q.cred a.access want)
+asked_of s q f want n is a =
+    ap (λ (k : ℕ). permission_on q.cred s.tree k want 1 f.step) is
+    ∙ ap (permission_of q.cred want 1 f.step) (accessed_is s.tree n a)
+
+pub node_is : (s : State) (q : Process) (f : Found) (n : ℕ) → number f ≡ n → (a : IsAccessed s.tree n) → node_found (scene_at s q f) f ≡ a.node
+node_is s q f n is a = ap (λ (k : ℕ). unwrap_or (node_at s.tree k) no_node) is ∙ ap (λ o. unwrap_or o no_node) a.at
+
+-- the rule that grants it is answered
+pub rule_told : (s : State) (q : Process) (f : Found) (want : Perms) (n : ℕ) → number f ≡ n → (a : IsAccessed s.tree n)
+    → access_effect want (scene_at s q f) 0 ≡ answers (scene_at s q f) (Granted (verdict q.cred a.access want).rule)
+rule_told s q f want n is a =
+    ap (λ (node : Node). answers (scene_at s q f) (granted_by q.cred want (accessed node))) (node_is s q f n is a)
+    ∙ ap (λ o. answers (scene_at s q f) (granted_by q.cred want o)) a.is

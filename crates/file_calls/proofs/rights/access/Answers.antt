@@ -1,0 +1,79 @@
+use Rattle.std.proofs.Common.{ℕ, [], ◌∷◌, ◌≢◌, sym, subst}
+use Rattle.fs_layout.specs.declared.inode.Inode.{Inode}
+use Rattle.fs_layout.specs.declared.inode.Kind.TheVariants as Kind
+use Rattle.fs_layout.specs.Images.{inode_at}
+use Rattle.fs_model.specs.declared.reply.Reply.TheVariants.{Shown}
+use Rattle.fs_model.specs.Scenes.{number, must_be_there, permission_at_end}
+use Rattle.path_walk.specs.Paths.{scene_at}
+use Rattle.block_map.proofs.Runs.{unchanged_joined}
+use Rattle.path_walk.proofs.ByPath.{absent_performs, find_refused, has_found, found_below, demands_refused, answered}
+use Rattle.path_walk.proofs.Calling.{first_asked, next_asked, both_met, state_tree, state_kept, cwd_below, found_there}
+use Rattle.path_walk.proofs.HeldInodes.{held_inodes}
+use Rattle.path_walk.proofs.Kept.{sound_kept}
+use Rattle.file_calls.proofs.Rows.{access_by_path}
+use Rattle.file_calls.proofs.Shown.{inode_told, is_inode, is_used, stat_told}
+use Rattle.file_calls.proofs.rights.access.Goals as goal
+
+pub returns-in_err-process-clause-performs : goal.returns-in_err-process-clause-performs
+returns-in_err-process-clause-performs g c =
+    let r = c.from_residual.ensures in
+    absent_performs c.from_residual.result c.in_err-process.field-0.0 r.0 r.1 c.in_err-process.ensures.absent
+
+pub find-requires-clause-inodes : goal.find-requires-clause-inodes
+find-requires-clause-inodes g c = held_inodes (state_tree c.requires.ready.is_state)
+
+pub find-requires-clause-start : goal.find-requires-clause-start
+find-requires-clause-start g c = cwd_below c.requires.ready.is_state c.args.pid c.in_ok-process.process.now c.in_ok-process.ensures.found
+
+pub returns-in_err-found-clause-performs : goal.returns-in_err-found-clause-performs
+returns-in_err-found-clause-performs g c =
+    let r = c.from_residual-in_err-found.ensures in
+    let found = c.in_err-found.ensures in
+    find_refused c.args.pid (access_by_path c.args.path.now c.args.want) c.in_ok-process.process.now c.in_ok-process.ensures.found found.same
+    c.from_residual-in_err-found.result c.in_err-found.field-0.0 r.0 r.1 found.checked found.each
+
+pub inode_found-requires-clause-sound : goal.inode_found-requires-clause-sound
+inode_found-requires-clause-sound g c = sound_kept c.in_ok-found.ensures.same c.requires.ready.sound
+
+pub inode_found-requires-clause-below : goal.inode_found-requires-clause-below
+inode_found-requires-clause-below g c =
+    let found = c.in_ok-found.ensures in
+    found_below c.args.pid (access_by_path c.args.path.now c.args.want) c.in_ok-process.process.now c.in_ok-process.ensures.found found.same
+    c.in_ok-found.found found.valid found.each c.requires.ready.state c.requires.ready.is_state
+
+pub returns-in_err-n-clause-performs : goal.returns-in_err-n-clause-performs
+returns-in_err-n-clause-performs g c =
+    let r = c.from_residual-in_err-n.ensures in
+    let found = c.in_ok-found.ensures in
+    let f = c.in_ok-found.found in
+    let q = c.in_ok-process.process.now in
+    let mid = g.S.Sectors.state c.find.new.s in
+    let new = g.S.Sectors.state c.inode_found.new.s in
+    demands_refused c.args.pid (access_by_path c.args.path.now c.args.want) q c.in_ok-process.ensures.found found.same f found.valid found.each
+    new c.from_residual-in_err-n.result c.in_err-n.field-0.0 r.0 r.1 c.in_err-n.ensures.same.store 0
+    (λ s has at. first_asked (must_be_there f) (permission_at_end (scene_at s q f) f 1 c.args.want ∷ []) (number f, inode_at c.args.place mid.sectors (number f)) 0
+    c.in_err-n.field-0.0 mid.disk new.disk c.in_err-n.ensures.each)
+
+pub returns-in_err-n-clause-same : goal.returns-in_err-n-clause-same
+returns-in_err-n-clause-same g c = unchanged_joined c.in_ok-found.ensures.same c.in_err-n.ensures.same
+
+pub permitted-requires-clause-sound : goal.permitted-requires-clause-sound
+permitted-requires-clause-sound g c = sound_kept (unchanged_joined c.in_ok-found.ensures.same c.in_ok-n.ensures.same) c.requires.ready.sound
+
+pub permitted-requires-clause-there : goal.permitted-requires-clause-there
+permitted-requires-clause-there g c = ?
+
+pub permitted-requires-clause-has : goal.permitted-requires-clause-has
+permitted-requires-clause-has g c = ?
+
+pub returns-in_err-rule-clause-performs : goal.returns-in_err-rule-clause-performs
+returns-in_err-rule-clause-performs g c = ?
+
+pub returns-in_err-rule-clause-same : goal.returns-in_err-rule-clause-same
+returns-in_err-rule-clause-same g c = unchanged_joined (unchanged_joined c.in_ok-found.ensures.same c.in_ok-n.ensures.same) c.in_err-rule.ensures.same
+
+pub returns-clause-performs : goal.returns-clause-performs
+returns-clause-performs g c = ?
+
+pub returns-clause-same : goal.returns-clause-same
+returns-clause-same g c = unchanged_joined (unchanged_joined c.in_ok-found.ensures.same c.in_ok-n.ensures.same) c.in_ok-rule.ensures.same

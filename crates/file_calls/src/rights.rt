@@ -1,0 +1,37 @@
+//! access: POSIX.1-2017, access(), by the ids of the process.
+
+ghost use Rattle.fs_model.specs.declared.call.Call.TheVariants.{Access};
+ghost use Rattle.sector_txn.specs.Sectors.{IsUnchanged};
+ghost use Rattle.path_walk.specs.Performing.{IsReady, Performs};
+
+use crate::found::{find, inode_found};
+use fs_cred::Refusal;
+use fs_layout::Place;
+use fs_model::{Form, Path, Reply};
+use open_files::Procs;
+use path_walk::permitted;
+use posix_acl::Perms;
+use sector_txn::Sectors;
+use std::alloc::Global;
+
+/// Asks whether the process has all these permissions on what a path leads to, and answers the rule that grants them. No
+/// permission at all may be asked for. ENOENT: the path leads to nothing.
+pub fn access<S: Sectors>(
+    alloc: Global,
+    s: &mut S,
+    place: Place,
+    procs: &Procs,
+    pid: usize,
+    path: &Path,
+    want: Perms,
+) -> Result<Reply, Refusal>
+    requires ready { IsReady place (S.state s.old) procs.now }
+    ensures performs { Performs place pid (Access path.now want) (S.state s.old) (S.state s.new) procs.now procs.now result }
+    ensures same { IsUnchanged (S.state s.old) (S.state s.new) }
+{
+    let process = procs.process(pid)?;
+    let found = find(alloc, s, place, process, path, Form::Follow)?;
+    let (_, inode) = inode_found(s, place, &found)?;
+    let rule = permitted(alloc, s, place, process.cred(), &inode, want, 1, found.step)?;
+    Ok(Reply::Granted(rule))
+}
