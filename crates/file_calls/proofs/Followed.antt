@@ -1,10 +1,17 @@
 -- What is found where a link at the end of a path is followed: a file or a directory, on which access is decided.
-use Rattle.std.specs.Prelude.{◌≡◌, ℕ, Bool, true, false, List, Option, None, Some, is_some, unwrap_or, option_and_then}
+use Rattle.std.specs.Prelude.{◌≡◌, ℕ, Bool, true, false, List, Option, None, Some, is_some, unwrap_or, option_and_then, Result, Ok, Err}
 use Rattle.std.proofs.Common.{refl, sym, ap, subst, ◌∙◌}
 use Rattle.posix_acl.specs.declared.entry.Perms.{Perms}
 use Rattle.fs_cred.specs.declared.node.Node.{Node as AccessNode}
 use Rattle.fs_cred.specs.declared.refusal.Need.TheVariants.{Perm}
+use Rattle.fs_cred.specs.Credentials.{Credential}
 use Rattle.fs_cred.specs.Verdicts.{verdict}
+use Rattle.sector_disk.specs.Disk.{DiskState}
+use Rattle.fs_cred.specs.declared.refusal.Refusal.{Refusal}
+use Rattle.fs_cred.specs.declared.rule.Rule.{Rule}
+use Rattle.sector_txn.specs.Sectors.{TxnState, IsUnchanged}
+use Rattle.fs_layout.specs.declared.inode.Inode.{Inode}
+use Rattle.fs_layout.specs.Images.{inode_at}
 use Rattle.fs_layout.specs.declared.place.Place.{Place}
 use Rattle.fs_layout.specs.Bytes.{SectorMap}
 use Rattle.fs_model.specs.declared.walk.Form.TheVariants.{Follow}
@@ -19,10 +26,14 @@ use Rattle.fs_model.specs.Scenes.{number, must_be_there, node_found, permission_
 use Rattle.fs_model.specs.States.{State}
 use Rattle.fs_model.specs.Trees.{Tree, node_at}
 use Rattle.fs_model.proofs.Followed.{followed_no_link}
+use Rattle.path_walk.specs.Answers.{refused_or, IsAnswered}
+use Rattle.path_walk.specs.HeldTrees.{HasAccess}
 use Rattle.path_walk.specs.Paths.{scene_at, HasFound}
 use Rattle.path_walk.specs.Performing.{IsStateOf}
-use Rattle.path_walk.proofs.Calling.{found_ino, found_there}
-use Rattle.path_walk.proofs.HeldNodes.{stands}
+use Rattle.path_walk.proofs.Calling.{state_tree, found_ino, found_there, met_ok, answered_later}
+use Rattle.path_walk.proofs.HeldNodes.{stands, held_access}
+use Rattle.path_walk.proofs.Kept.{kept}
+use Rattle.file_calls.proofs.Shown.{IsInode}
 
 -- what stands at a number, as access to it is decided
 pub record IsAccessed (t : Tree) (n : ℕ) : Type 0 where
@@ -65,3 +76,39 @@ pub rule_told : (s : State) (q : Process) (f : Found) (want : Perms) (n : ℕ) �
 rule_told s q f want n is a =
     ap (λ (node : Node). answers (scene_at s q f) (granted_by q.cred want (accessed node))) (node_is s q f n is a)
     ∙ ap (λ o. answers (scene_at s q f) (granted_by q.cred want o)) a.is
+
+-- its inode, as it was read
+module _ {p : Place} {mid new : TxnState} {desks : Desks} {s : State} {pid : ℕ} {q : Process} {path : List ℕ} {f : Found} {n : ℕ} {v : Inode}
+    (at : IsStateOf p mid.sectors desks s) (has : HasFound s pid q Follow path f) (i : IsInode p mid.sectors f n v) (same : IsUnchanged mid new) where
+  pub access_held : HasAccess new.sectors v (followed_access n at has i.some).access
+  access_held =
+      let a = followed_access n at has i.some in
+      kept (λ m. HasAccess m v a.access) same
+      (subst (λ (w : Inode). HasAccess mid.sectors w a.access) (sym i.inode) (held_access (state_tree at) n a.access (accessed_is s.tree n a)))
+
+  pub inode_kept : v ≡ inode_at p new.sectors n
+  inode_kept = kept (λ m. v ≡ inode_at p m n) same i.inode
+
+  -- permission is refused
+  pub permission_refused : (cred : Credential) → cred ≡ q.cred → (want : Perms) (e : Refusal) (last : DiskState)
+      → IsAnswered new.disk last (refused_or {A = Rule} (decided 1 f.step (Perm want) (verdict cred (followed_access n at has i.some).access want))
+      (Ok (verdict cred (followed_access n at has i.some).access want).rule)) (Err e)
+      → IsAnswered mid.disk last (refused_or {A = Rule} (permission_at_end (scene_at s q f) f 1 want) (Ok (verdict q.cred (followed_access n at has i.some).access want).rule)) (Err e)
+  permission_refused cred who want e last asked =
+      let a = followed_access n at has i.some in
+      let h = subst (λ (k : Credential). IsAnswered new.disk last (refused_or {A = Rule} (decided 1 f.step (Perm want) (verdict k a.access want))
+      (Ok (verdict k a.access want).rule)) (Err e)) who asked in
+      subst (λ (d : Demand). IsAnswered mid.disk last (refused_or {A = Rule} d (Ok (verdict q.cred a.access want).rule)) (Err e))
+      (sym (asked_of s q f want n i.number a)) (answered_later last same h)
+
+  -- or granted by this rule
+  pub permission_granted : (cred : Credential) → cred ≡ q.cred → (want : Perms) (rule : Rule)
+      → refused_or {A = Rule} (decided 1 f.step (Perm want) (verdict cred (followed_access n at has i.some).access want))
+      (Ok (verdict cred (followed_access n at has i.some).access want).rule) ≡ Ok rule
+      → (permission_at_end (scene_at s q f) f 1 want ≡ None) × ((verdict q.cred (followed_access n at has i.some).access want).rule ≡ rule)
+  permission_granted cred who want rule asked =
+      let a = followed_access n at has i.some in
+      let e = subst (λ (k : Credential). refused_or {A = Rule} (decided 1 f.step (Perm want) (verdict k a.access want)) (Ok (verdict k a.access want).rule)
+      ≡ Ok rule) who asked in
+      let met = met_ok {A = Rule} (decided 1 f.step (Perm want) (verdict q.cred a.access want)) (verdict q.cred a.access want).rule rule e in
+      (asked_of s q f want n i.number a ∙ met.0, met.1)

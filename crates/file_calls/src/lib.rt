@@ -7,6 +7,8 @@
 #![tactic(auto)]
 
 mod found;
+mod rights;
 mod show;
 
+pub use rights::access;
 pub use show::{lstat, stat};
