@@ -1,3 +1,5 @@
+pub mod ByDescriptor
+pub mod DescriptorRows
 pub mod Rows
 pub mod Shown
 pub mod Followed

@@ -1,11 +1,10 @@
 -- What is shown of an object, as its inode says it.
-use Rattle.std.specs.Prelude.{◌≡◌, ◌≢◌, ℕ, ◌*◌, length, Bool, true, false, not, List, [], ◌∷◌, Option, None, Some, is_some, unwrap_or, if◌then◌else◌, IsTrue, Result, Ok, Err}
+use Rattle.std.specs.Prelude.{◌≡◌, ◌≢◌, ℕ, length, Bool, true, false, not, [], ◌∷◌, Option, None, Some, is_some, unwrap_or, if◌then◌else◌, IsTrue, Result, Ok, Err}
 use Rattle.std.proofs.Common.{refl, sym, ap, subst, arith, ◌∙◌}
 use Rattle.sector_disk.specs.Disk.{DiskState}
 use Rattle.fs_cred.specs.declared.errno.Errno.TheVariants.{ENOENT}
 use Rattle.fs_cred.specs.declared.refusal.Refusal.{Refusal}
 use Rattle.fs_layout.specs.declared.inode.Inode.{Inode}
-use Rattle.fs_layout.specs.declared.inode.Kind.{Kind}
 use Rattle.fs_layout.specs.declared.inode.Kind.TheVariants as kinds
 use Rattle.fs_layout.specs.declared.place.Place.{Place}
 use Rattle.fs_layout.specs.Bytes.{SectorMap}
@@ -31,7 +30,6 @@ use Rattle.path_walk.specs.HeldTrees.{HoldsTree, IsThere}
 use Rattle.path_walk.specs.Paths.{scene_at}
 use Rattle.path_walk.proofs.Calling.{or_else-none, met_ok}
 use Rattle.path_walk.proofs.HeldNodes.{stands, held_node}
-use Rattle.path_walk.proofs.Kept.{answer}
 use Rattle.fs_layout.proofs.ImageSlots.{length-slots}
 use Rattle.fs_layout.proofs.ReadNames.{are_names_of}
 
@@ -66,7 +64,7 @@ module _ (image : SectorMap) (v : Inode) where
       omega (arith, size, bytes, count)
   size_says (Link target) h = h.holds.size
 
-the_node_is : (t : Tree) (n : ℕ) (node : Node) → node_at t n ≡ Some node → the_node t n ≡ node
+pub the_node_is : (t : Tree) (n : ℕ) (node : Node) → node_at t n ≡ Some node → the_node t n ≡ node
 the_node_is t n node at = ap (λ o. unwrap_or o no_node) at
 
 module _ {p : Place} {image : SectorMap} {t : Tree} (h : HoldsTree p image t) (n : ℕ) (there : IsThere t n) where
@@ -147,5 +145,5 @@ pub stat_told : {p : Place} {map : SectorMap} (s : State) (q : Process) (f : Fou
 stat_told {p} {map} s q f n v status is h there says = (
   or_else-none (must_be_there f) ∙ is.met,
   ap (λ (k : ℕ). answers (scene_at s q f) (Shown (shown s.tree k))) is.number
-  ∙ ap (λ (x : Status). answers (scene_at s q f) (Shown x)) (sym (shown_is h n there v status is.inode says)),
+      ∙ ap (λ (x : Status). answers (scene_at s q f) (Shown x)) (sym (shown_is h n there v status is.inode says)),
 )

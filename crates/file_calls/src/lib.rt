@@ -12,3 +12,7 @@ mod show;
 
 pub use rights::access;
 pub use show::{lstat, stat};
+mod opened;
+mod show;
+
+pub use show::{fstat, lstat, stat};

@@ -1,13 +1,14 @@
 //! What is shown of an object: POSIX.1-2017, stat(), lstat() and fstat().
 
 ghost use Rattle.std.specs.Prelude.{◌≡◌, ◌≢◌, Some};
-ghost use Rattle.fs_model.specs.declared.call.Call.TheVariants.{Stat, Lstat};
+ghost use Rattle.fs_model.specs.declared.call.Call.TheVariants.{Stat, Lstat, Fstat};
 ghost use Rattle.fs_model.specs.declared.reply.FileType.{FileType as ShownType};
 ghost use Rattle.fs_model.specs.Kinds.{type_of_kind};
 ghost use Rattle.sector_txn.specs.Sectors.{IsUnchanged};
 ghost use Rattle.path_walk.specs.Performing.{IsReady, Performs};
 
 use crate::found::{find, inode_found};
+use crate::opened::inode_open;
 use fs_cred::Refusal;
 use fs_layout::{Inode, Kind, Place};
 use fs_model::{FileType, Form, Path, Reply, Status};
@@ -19,13 +20,13 @@ use std::alloc::Global;
 fn status(n: u32, inode: &Inode) -> Status
     requires used { inode.now.kind ≢ Kind.Free }
     ensures { (kind : ShownType) → type_of_kind inode.now.kind ≡ Some kind → result ≡ record {
-        inode = n;
-        kind = kind;
-        mode = inode.now.mode;
-        links = inode.now.names;
-        owner = inode.now.uid;
-        group = inode.now.gid;
-        size = inode.now.size;
+      inode = n;
+      kind = kind;
+      mode = inode.now.mode;
+      links = inode.now.names;
+      owner = inode.now.uid;
+      group = inode.now.gid;
+      size = inode.now.size;
     } }
 {
     let Some(kind) = FileType::of_kind(inode.kind) else {
@@ -78,4 +79,21 @@ pub fn lstat<S: Sectors>(
     let found = find(alloc, s, place, process, path, Form::NoFollow)?;
     let (n, inode) = inode_found(s, place, &found)?;
     Ok(Reply::Shown(status(n, &inode)))
+}
+
+/// Shows what a descriptor is for. EBADF: nothing.
+pub fn fstat<S: Sectors>(
+    s: &mut S,
+    place: Place,
+    procs: &Procs,
+    pid: usize,
+    fd: usize,
+) -> Result<Reply, Refusal>
+    requires ready { IsReady place (S.state s.old) procs.now }
+    ensures performs { Performs place pid (Fstat fd) (S.state s.old) (S.state s.new) procs.now procs.now result }
+    ensures same { IsUnchanged (S.state s.old) (S.state s.new) }
+{
+    let descriptor = procs.get(pid, fd)?;
+    let inode = inode_open(s, place, descriptor.number)?;
+    Ok(Reply::Shown(status(descriptor.number, &inode)))
 }

@@ -1,0 +1,56 @@
+-- The rows of calls by a descriptor, and what they ask of an inode and answer.
+use Rattle.std.specs.Prelude.{◌≡◌, ℕ, Option, None, Some, is_some, unwrap_or, not}
+use Rattle.std.proofs.Common.{refl, sym, ap, ◌∙◌}
+use Rattle.fs_cred.specs.declared.errno.Errno.TheVariants.{EBADF}
+use Rattle.fs_cred.specs.declared.refusal.Refusal.TheVariants.{Failed}
+use Rattle.fs_layout.specs.declared.inode.Inode.{Inode}
+use Rattle.fs_layout.specs.declared.place.Place.{Place}
+use Rattle.fs_layout.specs.Bytes.{SectorMap}
+use Rattle.fs_layout.specs.Images.{inode_at}
+use Rattle.fs_model.specs.declared.call.Call.TheVariants.{Fstat}
+use Rattle.fs_model.specs.declared.reply.Reply.TheVariants.{Shown}
+use Rattle.fs_model.specs.declared.reply.FileType.{FileType}
+use Rattle.fs_model.specs.declared.reply.Status.{Status}
+use Rattle.fs_model.specs.Demands.{refuse, first_of}
+use Rattle.fs_model.specs.Kinds.{type_of_kind}
+use Rattle.fs_model.specs.Processes.{Process, Desks, Descriptor, descriptor, no_descriptor}
+use Rattle.fs_model.specs.Rows.{row_of}
+use Rattle.fs_model.specs.Scenes.{answers, is_bad, is_bad_to_read, nothing_asked}
+use Rattle.fs_model.specs.States.{State}
+use Rattle.fs_model.specs.DescriptorCalls.{fstat_row, fstat_effect, shown}
+use Rattle.path_walk.specs.Performing.{IsStateOf}
+use Rattle.path_walk.proofs.Calling.{state_tree}
+use Rattle.file_calls.proofs.ByDescriptor.{open_scene, IsByDescriptor, IsOpened, the_opened, open_there}
+use Rattle.file_calls.proofs.Shown.{shown_is}
+
+-- ---- what the process is asked
+
+pub bad_closed : (fd : ℕ) (q : Process) → descriptor q fd ≡ None → is_bad fd q ≡ Some (Failed EBADF)
+bad_closed fd q none = ap (λ (o : Option Descriptor). refuse EBADF (not (is_some o))) none
+
+pub bad_read_closed : (fd : ℕ) (q : Process) → descriptor q fd ≡ None → is_bad_to_read fd q ≡ Some (Failed EBADF)
+bad_read_closed fd q none = ap (λ (o : Option Descriptor). refuse EBADF (not (unwrap_or o no_descriptor).read)) none
+
+pub not_bad : {desks : Desks} {pid fd : ℕ} {d : Descriptor} → (o : IsOpened desks pid fd d) → is_bad fd o.process ≡ None
+not_bad o = ap (λ (x : Option Descriptor). refuse EBADF (not (is_some x))) o.at
+
+-- ---- fstat
+
+fstat_is : (fd : ℕ) → row_of (Fstat fd) ≡ fstat_row fd
+unfolding row_of
+fstat_is fd = refl
+
+pub fstat_by : (fd : ℕ) → IsByDescriptor (Fstat fd) fd (is_bad fd) nothing_asked (fstat_effect fd)
+fstat_by fd = record { row = fstat_is fd; closed = bad_closed fd }
+
+pub fstat_told : {p : Place} {map : SectorMap} {desks : Desks} {pid fd : ℕ} {d : Descriptor} (o : IsOpened desks pid fd d) (v : Inode) (status : Status)
+    → v ≡ inode_at p map d.number
+    → ((kind : FileType) → type_of_kind v.kind ≡ Some kind → status
+    ≡ record { inode = d.number; kind = kind; mode = v.mode; links = v.names; owner = v.uid; group = v.gid; size = v.size })
+    → (s : State) → IsStateOf p map desks s
+    → (first_of (nothing_asked (open_scene s o.process)) ≡ None) × (fstat_effect fd (open_scene s o.process) ≡ answers (open_scene s o.process) (Shown status))
+fstat_told {p} {map} {desks} {pid} {fd} {d} o v status is says s at = (
+  refl,
+  ap (λ (x : Descriptor). answers (open_scene s o.process) (Shown (shown s.tree x.number))) (the_opened o)
+      ∙ ap (λ (x : Status). answers (open_scene s o.process) (Shown x)) (sym (shown_is (state_tree at) d.number (open_there o s at) v status is says)),
+)
