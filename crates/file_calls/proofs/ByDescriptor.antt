@@ -104,13 +104,13 @@ pub record IsByDescriptor (call : Call) (fd : ℕ) (bad : Process → Demand) (d
 
 module _ (s : State) (pid : ℕ) (q : Process) {call : Call} {fd : ℕ} {bad : Process → Demand} {demands : Scene → List Demand} {effect : Scene → Effect}
     (is : IsByDescriptor call fd bad demands effect) (there : get nat_cmp s.desks pid ≡ Some q) where
-  open_firm : firm_refusal s (Calls pid call) ≡ bad q
+  pub open_firm : firm_refusal s (Calls pid call) ≡ bad q
   open_firm = early_is s pid q call there ∙ ap (early_refusal q) is.row ∙ or_else-none (bad q)
 
-  open_late : other_refusal s (Calls pid call) ≡ first_of (demands (open_scene s q))
+  pub open_late : other_refusal s (Calls pid call) ≡ first_of (demands (open_scene s q))
   open_late = late_is s pid q call there ∙ ap (late_refusal s q) is.row
 
-  open_after : after s (Calls pid call) (chosen 0 0) ≡ after_effect s pid (effect (open_scene s q))
+  pub open_after : after s (Calls pid call) (chosen 0 0) ≡ after_effect s pid (effect (open_scene s q))
   open_after = after_is s pid q call there (chosen 0 0) ∙ ap (λ (x : Row). after_call s pid x 0 (Some q)) is.row
 
 -- ---- tables

@@ -3,3 +3,4 @@ pub mod DescriptorRows
 pub mod Rows
 pub mod Shown
 pub mod Followed
+pub mod Rewritten
