@@ -6,7 +6,7 @@
 --     bad_performs, asked_performs, interrupted_performs, unread_performs        it is refused
 --     told        it answers, and changes nothing
 --     changed_one        it answers, and changes its process
-use Rattle.std.specs.Prelude.{◌≡◌, ℕ, ◌<◌, ◌==◌, Bool, true, false, cond, List, Option, None, Some, unwrap_or, ◌⊎◌, ◌||◌, IsTrue, Result, Ok, Err, IsErr, IsErrAnd}
+use Rattle.std.specs.Prelude.{◌≡◌, ℕ, ◌<◌, ◌==◌, Bool, true, false, cond, List, Option, None, Some, unwrap_or, ◌⊎◌, ◌||◌, IsTrue, Result, Ok, Err, IsOk, IsErr, IsErrAnd}
 use Rattle.std.proofs.Common.{refl, sym, ap, subst, ◌∙◌, inl, inr}
 use Rattle.std.specs.List.{list_any}
 use Rattle.std.specs.Option.{ok_or}
@@ -37,7 +37,7 @@ use Rattle.fs_model.specs.States.{State, IsDescriptor}
 use Rattle.fs_model.specs.Steps.{after, after_call, after_effect, asks_in_call, early_refusal, late_refusal, firm_refusal, other_refusal, nothing_found}
 use Rattle.fs_model.specs.Trees.{Tree}
 use Rattle.fs_model.proofs.Unchanged.{open_stays, same_process_stays}
-use Rattle.open_files.specs.Tables.{answer_of_found, open_at, open_in, changed_where, with_changed}
+use Rattle.open_files.specs.Tables.{answer_of_found, open_at, open_in, changed_where, with_changed, IsTable}
 use Rattle.open_files.proofs.Slots.{any_with_entry}
 use Rattle.path_walk.specs.Answers.{Interrupts}
 use Rattle.path_walk.specs.HeldTrees.{IsThere}
@@ -78,6 +78,9 @@ opened desks pid fd d e = go (get nat_cmp desks pid) refl e
 
 pub opened_as : (desks : Desks) (pid fd : ℕ) {d e : Descriptor} → e ≡ d → Ok d ≡ open_in desks pid fd → IsOpened desks pid fd e
 opened_as desks pid fd {d} {e} same is = subst (IsOpened desks pid fd) (sym same) (opened desks pid fd d (sym is))
+
+pub opened_ok : (desks : Desks) (pid fd : ℕ) (d : Descriptor) → Ok d ≡ open_in desks pid fd → IsOk (open_in desks pid fd)
+opened_ok desks pid fd d is = subst (λ (r : Result Descriptor Errno). IsOk r) is refl
 
 pub the_opened : {desks : Desks} {pid fd : ℕ} {d : Descriptor} → (o : IsOpened desks pid fd d) → the_descriptor o.process fd ≡ d
 the_opened o = ap (λ (x : Option Descriptor). unwrap_or x no_descriptor) o.at
@@ -141,11 +144,16 @@ pub still_open : (desks : Desks) (pid : ℕ) (q r : Process) → IsMap nat_cmp d
     → is_open (with_entry nat_cmp desks pid r) n ≡ is_open desks n
 still_open desks pid q r h there n same = any_kept (has_open n) desks pid q r h there same
 
-pub offset_keeps : (q : Process) (fd offset : ℕ) (d : Descriptor) → IsMap nat_cmp q.descriptors → descriptor q fd ≡ Some d → (n : ℕ)
+offset_keeps : (q : Process) (fd offset : ℕ) (d : Descriptor) → IsMap nat_cmp q.descriptors → descriptor q fd ≡ Some d → (n : ℕ)
     → has_open n (with_offset q fd offset) ≡ has_open n q
 offset_keeps q fd offset d h at n =
     any_kept (λ (x : Descriptor). x.number == n) q.descriptors fd d (record (the_descriptor q fd) { offset = offset }) h at
     (ap (λ (x : Option Descriptor). (unwrap_or x no_descriptor).number == n) at)
+
+pub offset_stays_open : {desks : Desks} {pid fd : ℕ} {d : Descriptor} → (o : IsOpened desks pid fd d) → IsTable desks → (offset n : ℕ)
+    → has_open n (with_offset o.process fd offset) ≡ has_open n o.process
+offset_stays_open {desks} {pid} {fd} {d} o table offset n =
+    offset_keeps o.process fd offset d (table.each pid o.process o.there).descriptors.rising o.at n
 
 pub changed_there : (desks : Desks) (pid : ℕ) (q : Process) (f : Process → Process) → get nat_cmp desks pid ≡ Some q
     → with_changed desks pid f ≡ with_entry nat_cmp desks pid (f q)

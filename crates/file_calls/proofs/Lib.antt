@@ -4,3 +4,5 @@ pub mod Rows
 pub mod Shown
 pub mod Followed
 pub mod Rewritten
+pub mod HeldFiles
+pub mod Writing

@@ -7,12 +7,11 @@
 #![tactic(auto)]
 
 mod found;
+mod opened;
 mod rights;
 mod show;
+mod writes;
 
 pub use rights::access;
-pub use show::{lstat, stat};
-mod opened;
-mod show;
-
 pub use show::{fstat, lstat, stat};
+pub use writes::write;

@@ -1,0 +1,41 @@
+-- What the inode of an open file says of it.
+--     IsFile, open_file        it isn't a directory, and the inode holds its bytes
+--     open_directory        it is a directory
+use Rattle.std.specs.Prelude.{◌≡◌, ◌≢◌, ℕ, true, IsFalse}
+use Rattle.std.proofs.Common.{refl, sym, ap, subst, ◌∙◌}
+use Rattle.fs_layout.specs.declared.inode.Inode.{Inode}
+use Rattle.fs_layout.specs.declared.inode.Kind.TheVariants as kinds
+use Rattle.fs_layout.specs.declared.place.Place.{Place}
+use Rattle.fs_layout.specs.Bytes.{SectorMap}
+use Rattle.fs_layout.specs.Images.{inode_at, Holds}
+use Rattle.fs_model.specs.Nodes.{Node, Body, File, Dir, Link, is_directory, is_link, bytes_in}
+use Rattle.fs_model.specs.Processes.{Desks, Descriptor}
+use Rattle.fs_model.specs.Rules.{is_directory_kind}
+use Rattle.fs_model.specs.Scenes.{node_open}
+use Rattle.fs_model.specs.States.{State}
+use Rattle.fs_model.specs.StoredNodes.{HoldsBody}
+use Rattle.path_walk.specs.Performing.{IsStateOf}
+use Rattle.path_walk.proofs.Calling.{state_tree}
+use Rattle.path_walk.proofs.HeldNodes.{held_node, held_kind}
+use Rattle.file_calls.proofs.ByDescriptor.{open_scene, IsOpened, open_fits, open_node}
+
+pub record IsFile (map : SectorMap) (v : Inode) (b : Body) : Type 0 where
+  pub no_directory : IsFalse (is_directory b)
+  pub holds : Holds map v (bytes_in b)
+
+file_held : (map : SectorMap) (v : Inode) (b : Body) → HoldsBody map v b → IsFalse (is_link b) → v.kind ≢ kinds.Directory → IsFile map v b
+file_held map v (File a bytes) h no_link no_directory = record { no_directory = refl; holds = h.holds }
+file_held map v (Dir a d) h no_link no_directory = absurd (no_directory h.names.kind)
+file_held map v (Link target) h no_link no_directory = absurd (cc)
+
+module _ {p : Place} {map : SectorMap} {desks : Desks} {pid fd : ℕ} {d : Descriptor} (o : IsOpened desks pid fd d) (s : State) (at : IsStateOf p map desks s) where
+  pub open_file : (v : Inode) → v ≡ inode_at p map d.number → v.kind ≢ kinds.Directory → IsFile map v (node_open (open_scene s o.process) fd).body
+  open_file v is no_directory =
+      let x = open_fits o s at in
+      let held = subst (λ (w : Inode). HoldsBody map w x.node.body) (sym is) (held_node (state_tree at) d.number x.node x.is_there).body in
+      subst (λ (n : Node). IsFile map v n.body) (sym (open_node o s at)) (file_held map v x.node.body held x.no_link no_directory)
+
+  pub open_directory : (inode_at p map d.number).kind ≡ kinds.Directory → is_directory (node_open (open_scene s o.process) fd).body ≡ true
+  open_directory is =
+      let x = open_fits o s at in
+      ap (λ (n : Node). is_directory n.body) (open_node o s at) ∙ sym (held_kind (state_tree at) d.number x.node x.is_there) ∙ ap is_directory_kind is

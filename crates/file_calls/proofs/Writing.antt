@@ -1,0 +1,199 @@
+-- What write asks and does.
+--     write_by        its row
+--     write_asked        whether it is open for that
+--     asks_nothing        to write nothing is never refused
+--     too_far, too_full, all_met        what it asks
+--     writes        the tree and the process afterwards
+use Rattle.std.specs.Prelude.{◌≡◌, ◌⊎◌, ℕ, ◌+◌, ◌-◌, ◌<◌, ◌≤◌, ◌==◌, min, Bool, true, false, not, List, [], ◌∷◌, length, take, nat_lt, nat_le, if◌then◌else◌, Option, None, Some, unwrap_or, IsTrue, IsFalse, Result, Ok, Err}
+use Rattle.std.proofs.Common.{refl, sym, ap, subst, arith, ◌∙◌, inl, inr}
+use Rattle.std.proofs.lemmas.Bool.{eqb-true, ltb-false, lt-ltb, le-ltb, le-leb, lt-leb}
+use Rattle.std.proofs.lemmas.List.{length-take}
+use Rattle.fs_cred.specs.declared.errno.Errno.TheVariants.{EBADF, EFBIG, ENOSPC}
+use Rattle.fs_cred.specs.declared.refusal.Refusal.TheVariants.{Failed}
+use Rattle.fs_layout.specs.declared.inode.Inode.{Inode}
+use Rattle.fs_layout.specs.declared.inode.Kind.TheVariants as kinds
+use Rattle.fs_layout.specs.declared.inode.TheConstants.{MAX_FILE_SIZE}
+use Rattle.fs_layout.specs.declared.place.Place.{Place}
+use Rattle.fs_layout.specs.Bytes.{SectorMap, IsBytes, overwritten}
+use Rattle.fs_layout.specs.Images.{inode_at, free_sectors}
+use Rattle.fs_layout.proofs.Sectors.{IsBytes-take}
+use Rattle.sector_txn.specs.Sectors.{TxnState, IsUnchanged}
+use Rattle.sector_txn.proofs.Changes.{store_same}
+use Rattle.fs_model.specs.declared.call.Call.TheVariants.{Write}
+use Rattle.fs_model.specs.declared.reply.Reply.TheVariants.{Wrote}
+use Rattle.fs_model.specs.Changes.{Rewrite}
+use Rattle.fs_model.specs.Demands.{refuse, first_of}
+use Rattle.fs_model.specs.DescriptorCalls.{write_row, write_demands, write_effect, write_offset, written}
+use Rattle.fs_model.specs.Limits.{move_limit, least_free}
+use Rattle.fs_model.specs.Nodes.{Node, Body, File, Dir, Link, bytes_in, is_directory, is_link}
+use Rattle.fs_model.specs.Parts.{is_empty}
+use Rattle.fs_model.specs.Processes.{Process, Desks, Descriptor, descriptor, the_descriptor, no_descriptor, with_offset, is_open}
+use Rattle.fs_model.specs.Rows.{row_of}
+use Rattle.fs_model.specs.Scenes.{Scene, Effect, node_open, is_bad_to_write, answers}
+use Rattle.fs_model.specs.States.{State}
+use Rattle.fs_model.specs.StoredNodes.{HoldsBody}
+use Rattle.fs_model.specs.Trees.{Room}
+use Rattle.fs_model.proofs.StepsBodies.{bytes_are_few, bytes_are_bytes, length-overwritten, IsBytes-overwritten}
+use Rattle.path_walk.specs.Performing.{IsStateOf}
+use Rattle.fs_model.proofs.StepsDemands.{unrefused}
+use Rattle.path_walk.specs.Answers.{refused_or}
+use Rattle.path_walk.proofs.Calling.{state_tree, met_ok}
+use Rattle.path_walk.proofs.HeldNodes.{held_node, bytes_say}
+use Rattle.file_calls.specs.Changes.{ChangesBytes}
+use Rattle.file_calls.proofs.ByDescriptor.{open_scene, IsByDescriptor, IsOpened, the_opened, open_fits, open_node}
+use Rattle.file_calls.proofs.Rewritten.{ChangesTree, bytes_rewritten}
+
+bad_write_closed : (fd : ℕ) (q : Process) → descriptor q fd ≡ None → is_bad_to_write fd q ≡ Some (Failed EBADF)
+bad_write_closed fd q none = ap (λ (o : Option Descriptor). refuse EBADF (not (unwrap_or o no_descriptor).write)) none
+
+write_is : (fd : ℕ) (bytes : List ℕ) → row_of (Write fd bytes) ≡ write_row fd bytes
+unfolding row_of
+write_is fd bytes = refl
+
+pub write_by : (fd : ℕ) (bytes : List ℕ) → IsByDescriptor (Write fd bytes) fd (is_bad_to_write fd) (write_demands fd bytes) (write_effect fd bytes)
+write_by fd bytes = record { row = write_is fd bytes; closed = bad_write_closed fd }
+
+pub unchanged_same : {txn : TxnState} → IsUnchanged txn txn
+unchanged_same = record { store = store_same; sectors = λ n. refl; delta = λ n. refl; room = refl }
+
+pub true_if : (b : Bool) → not b ≡ false → b ≡ true
+true_if true e = refl
+true_if false e = absurd (cc)
+
+pub is_enough : (free least : ℕ) → refused_or {A = Unit {0}} (refuse ENOSPC (nat_lt free least)) (Ok tt) ≡ Ok tt → least ≤ free
+is_enough free least e =
+    let met = met_ok {A = Unit {0}} (refuse ENOSPC (nat_lt free least)) tt tt e in
+    ltb-false free least (unrefused ENOSPC (nat_lt free least) met.0)
+
+-- by the length of what is given
+pub empty_if : (bytes given : List ℕ) → given ≡ bytes → true ≡ (length given == 0) → is_empty bytes ≡ true
+empty_if [] given same is = refl
+empty_if (b ∷ bytes) given same is =
+    let none = eqb-true (length given) 0 (sym is) in
+    absurd (omega (arith, none, ap length same))
+
+pub some_if : (bytes given : List ℕ) → given ≡ bytes → false ≡ (length given == 0) → is_empty bytes ≡ false
+some_if [] given same is = absurd (let e : false ≡ true = is ∙ ap (λ (l : List ℕ). length l == 0) same in cc)
+some_if (b ∷ bytes) given same is = refl
+
+-- a file is open for writing
+written_kind : (map : SectorMap) (v : Inode) (b : Body) → HoldsBody map v b → IsFalse (is_link b) → IsFalse (is_directory b) → v.kind ≡ kinds.File
+written_kind map v (File a bytes) h no_link no_directory = h.kind
+written_kind map v (Dir a d) h no_link no_directory = absurd (cc)
+written_kind map v (Link target) h no_link no_directory = absurd (cc)
+
+no_directory_written : (b w : Bool) → (IsTrue b → IsFalse w) → w ≡ true → IsFalse b
+no_directory_written true w never is = absurd (let e = never refl in let f : true ≡ false = sym is ∙ e in cc)
+no_directory_written false w never is = refl
+
+module _ {desks : Desks} {pid fd : ℕ} {d : Descriptor} (o : IsOpened desks pid fd d) where
+  pub write_asked : (b : Bool) → not d.write ≡ b → is_bad_to_write fd o.process ≡ refuse EBADF b
+  write_asked b e = ap (λ (x : Descriptor). refuse EBADF (not x.write)) (the_opened o) ∙ ap (refuse EBADF) e
+
+  pub asks_nothing : (s : State) (bytes : List ℕ) → is_empty bytes ≡ true
+      → (first_of (write_demands fd bytes (open_scene s o.process)) ≡ None)
+      × (write_effect fd bytes (open_scene s o.process) ≡ answers (open_scene s o.process) (Wrote 0))
+  asks_nothing s [] e = (refl, refl)
+  asks_nothing s (b ∷ bytes) e = absurd (cc)
+
+module _ {p : Place} {map : SectorMap} {desks : Desks} {pid fd : ℕ} {d : Descriptor} (o : IsOpened desks pid fd d) (s : State) (at : IsStateOf p map desks s)
+    (open_to_write : d.write ≡ true) where
+  pub file_kind : (inode_at p map d.number).kind ≡ kinds.File
+  file_kind =
+      let x = open_fits o s at in
+      written_kind map (inode_at p map d.number) x.node.body (held_node (state_tree at) d.number x.node x.is_there).body x.no_link
+      (no_directory_written (is_directory x.node.body) d.write x.no_writes open_to_write)
+
+  file_size : (inode_at p map d.number).size ≡ length (bytes_in (open_fits o s at).node.body)
+  file_size =
+      let x = open_fits o s at in
+      (bytes_say map (inode_at p map d.number) x.node.body file_kind (held_node (state_tree at) d.number x.node x.is_there).body).size
+
+  abbrev scene : Scene
+  scene = open_scene s o.process
+
+  module _ (v : Inode) (is : v ≡ inode_at p map d.number) (offset : ℕ) (offset_is : offset ≡ (if d.append then v.size else d.offset)) where
+    abbrev place_of : Descriptor → Node → ℕ
+    place_of x node = if x.append then length (bytes_in node.body) else x.offset
+
+    starts_at : place_of d (open_fits o s at).node ≡ offset
+    starts_at =
+        ap (λ (n : ℕ). if d.append then n else d.offset) (sym (ap (λ (i : Inode). i.size) is ∙ file_size)) ∙ sym offset_is
+
+    offset_same : write_offset (open_scene s o.process) fd ≡ offset
+    offset_same =
+        ap (λ (x : Descriptor). place_of x (node_open (open_scene s o.process) fd)) (the_opened o)
+        ∙ ap (place_of d) (open_node o s at)
+        ∙ starts_at
+
+    limit_is : s.room.file_limit ≡ MAX_FILE_SIZE
+    limit_is = ap (λ (r : Room). r.file_limit) at.same_room
+
+    module _ (bytes : List ℕ) (some : is_empty bytes ≡ false) where
+      demands_are : first_of (write_demands fd bytes (open_scene s o.process))
+          ≡ first_of (refuse EFBIG (nat_le MAX_FILE_SIZE offset) ∷ refuse ENOSPC (nat_lt s.free least_free) ∷ [])
+      demands_are =
+          ap (λ (b : Bool). first_of (if not b then (refuse EFBIG (nat_le s.room.file_limit (write_offset (open_scene s o.process) fd)) ∷ refuse ENOSPC (nat_lt s.free least_free) ∷ []) else [])) some
+          ∙ ap (λ (n : ℕ). first_of (refuse EFBIG (nat_le n (write_offset (open_scene s o.process) fd)) ∷ refuse ENOSPC (nat_lt s.free least_free) ∷ [])) limit_is
+          ∙ ap (λ (n : ℕ). first_of (refuse EFBIG (nat_le MAX_FILE_SIZE n) ∷ refuse ENOSPC (nat_lt s.free least_free) ∷ [])) offset_same
+
+      pub too_far : MAX_FILE_SIZE ≤ offset → first_of (write_demands fd bytes (open_scene s o.process)) ≡ Some (Failed EFBIG)
+      too_far far =
+          demands_are ∙ ap (λ (b : Bool). first_of (refuse EFBIG b ∷ refuse ENOSPC (nat_lt s.free least_free) ∷ [])) (le-leb MAX_FILE_SIZE offset far)
+
+      module _ (near : offset < MAX_FILE_SIZE) where
+        near_is : first_of (write_demands fd bytes (open_scene s o.process)) ≡ first_of (refuse ENOSPC (nat_lt s.free least_free) ∷ [])
+        near_is =
+            demands_are ∙ ap (λ (b : Bool). first_of (refuse EFBIG b ∷ refuse ENOSPC (nat_lt s.free least_free) ∷ [])) (lt-leb MAX_FILE_SIZE offset near)
+
+        pub too_full : free_sectors p map < least_free → first_of (write_demands fd bytes (open_scene s o.process)) ≡ Some (Failed ENOSPC)
+        too_full few =
+            near_is ∙ ap (λ (b : Bool). first_of (refuse ENOSPC b ∷ []))
+            (ap (λ (n : ℕ). nat_lt n least_free) at.free_is ∙ lt-ltb (free_sectors p map) least_free few)
+
+        pub all_met : least_free ≤ free_sectors p map → first_of (write_demands fd bytes (open_scene s o.process)) ≡ None
+        all_met enough =
+            near_is ∙ ap (λ (b : Bool). first_of (refuse ENOSPC b ∷ []))
+            (ap (λ (n : ℕ). nat_lt n least_free) at.free_is ∙ le-ltb (free_sectors p map) least_free enough)
+
+        abbrev pub effect_at : ℕ → Node → ℕ → ℕ → Effect
+        effect_at n node place limit =
+            let count = min (length bytes) (min move_limit (limit - place)) in
+            record {
+              change = Rewrite n (written node place (take count bytes));
+              process = with_offset o.process fd (place + count);
+              reply = Wrote count;
+            }
+
+        pub effect_is : write_effect fd bytes (open_scene s o.process) ≡ effect_at d.number (open_fits o s at).node offset MAX_FILE_SIZE
+        effect_is =
+            ap (λ (b : Bool). if b then answers (open_scene s o.process) (Wrote 0) else effect_at (the_descriptor o.process fd).number
+            (node_open (open_scene s o.process) fd) (write_offset (open_scene s o.process) fd) s.room.file_limit) some
+            ∙ ap (λ (x : Descriptor). effect_at x.number (node_open (open_scene s o.process) fd) (write_offset (open_scene s o.process) fd) s.room.file_limit) (the_opened o)
+            ∙ ap (λ (x : Node). effect_at d.number x (write_offset (open_scene s o.process) fd) s.room.file_limit) (open_node o s at)
+            ∙ ap (λ (x : ℕ). effect_at d.number (open_fits o s at).node x s.room.file_limit) offset_same
+            ∙ ap (effect_at d.number (open_fits o s at).node offset) limit_is
+
+-- ---- what is written
+
+module _ {p : Place} {old new : TxnState} {desks : Desks} {pid fd : ℕ} {d : Descriptor} (o : IsOpened desks pid fd d) (s : State) (at : IsStateOf p old.sectors desks s)
+    (open_to_write : d.write ≡ true) (v : Inode) (is : v ≡ inode_at p old.sectors d.number) (offset : ℕ) (offset_is : offset ≡ (if d.append then v.size else d.offset))
+    (bytes : List ℕ) (some : is_empty bytes ≡ false) (near : offset < MAX_FILE_SIZE) (fresh : IsBytes bytes) (count : ℕ)
+    (counted : count ≡ min (length bytes) (min move_limit (MAX_FILE_SIZE - offset)))
+    (now : Desks) (still : (n : ℕ) → IsTrue (is_open s.desks n) → IsTrue (is_open now n))
+    (c : ChangesBytes p d.number old new (λ held. overwritten held offset (take count bytes))) where
+  pub writes : ChangesTree p new.sectors s now (write_effect fd bytes (open_scene s o.process)) (with_offset o.process fd (offset + count)) (Wrote count)
+  writes =
+      let x = open_fits o s at in
+      let body = (at.is_state.tree.each d.number x.node x.is_there).body in
+      let limit : s.room.file_limit ≡ MAX_FILE_SIZE = ap (λ (r : Room). r.file_limit) at.same_room in
+      let len = length-take count bytes in
+      record {
+        change = Rewrite d.number (written x.node offset (take count bytes));
+        is = effect_is o s at open_to_write v is offset offset_is bytes some near
+            ∙ ap (λ (k : ℕ). record { change = Rewrite d.number (written x.node offset (take k bytes)); process = with_offset o.process fd (offset + k); reply = Wrote k }) (sym counted);
+        new_number = tt;
+        holds = bytes_rewritten at now still d.number x.node x.is_there (file_kind o s at open_to_write) (λ held. overwritten held offset (take count bytes)) c
+            (length-overwritten (bytes_in x.node.body) offset (take count bytes) s.room.file_limit (bytes_are_few s.room s.tree x.node.body body) (omega (arith, len, counted, limit, near)))
+            (IsBytes-overwritten (bytes_in x.node.body) offset (take count bytes) (bytes_are_bytes s.room s.tree x.node.body body) (IsBytes-take count bytes fresh));
+      }

@@ -1,0 +1,29 @@
+use Rattle.std.proofs.Common.{◌≡◌, ◌≤◌, ◌+◌, ◌<◌, Err, refl, ap, sym, subst, arith, length, max}
+use Rattle.fs_layout.specs.Bytes.{overwritten}
+use Rattle.block_map.specs.Contents.{AllowsSize}
+use Rattle.block_map.specs.declared.fault.MapFault.TheVariants as map
+use Rattle.block_map.proofs.Wrote.{put_few}
+use Rattle.file_calls.proofs.Rewritten.{content_changes, only_fails}
+use Rattle.file_calls.proofs.writes.write_bytes.Goals as goal
+
+pub write_at-requires-clause-size : goal.write_at-requires-clause-size
+write_at-requires-clause-size g c =
+    subst (λ k. AllowsSize k (max c.args.inode.size (c.args.offset + length c.args.bytes.now))) (sym c.requires.file) tt
+
+pub write_at-requires-clause-spare : goal.write_at-requires-clause-spare
+write_at-requires-clause-spare g c =
+    let few = put_few c.args.offset (length c.args.bytes.now) c.requires.few in
+    let room = c.requires.spare in
+    omega (arith, few, room)
+
+pub returns-in-Ok-clause-change : goal.returns-in-Ok-clause-change
+returns-in-Ok-clause-change g c =
+    content_changes (λ held. overwritten held c.args.offset c.args.bytes.now) c.requires.inode c.in-Ok.ensures.change c.in-Ok.ensures.held
+
+pub returns-in-Err-clause-err : goal.returns-in-Err-clause-err
+returns-in-Err-clause-err g c =
+    let e = c.in-Err.ensures in
+    (refl, only_fails (g.S.Sectors.state c.args.s.now).disk (g.S.Sectors.state c.write_at.new.s).disk c.in-Err.field-0
+    (λ big. let far = e.too_big.0 (ap (λ x. Err x) big) in let fits = c.requires.fits in omega (arith, far, fits))
+    (λ full. let few = e.full (ap (λ x. Err x) full) in let less = few.0 in let ten = few.1 in let space = c.requires.space in omega (arith, less, ten, space))
+    e.cause.failed)

@@ -1,0 +1,111 @@
+//! write: POSIX.1-2017, write().
+
+ghost use Rattle.std.specs.Prelude.{◌≡◌, ◌+◌, ◌-◌, ◌<◌, ◌≤◌, length, min, if◌then◌else◌, OnOk, IfErr};
+ghost use Rattle.sector_disk.specs.Disk.{HasFailed};
+ghost use Rattle.fs_layout.specs.declared.inode.Kind.TheVariants.{File};
+ghost use Rattle.fs_layout.specs.declared.inode.TheConstants.{MAX_FILE_SIZE};
+ghost use Rattle.fs_layout.specs.Bytes.{overwritten};
+ghost use Rattle.fs_layout.specs.Images.{inode_at, free_sectors};
+ghost use Rattle.fs_model.specs.Limits.{least_free, move_limit};
+ghost use Rattle.fs_model.specs.declared.call.Call.TheVariants.{Write};
+ghost use Rattle.sector_txn.specs.Sectors.{SameStore};
+ghost use Rattle.bit_alloc.specs.Inodes.{IsSound};
+ghost use Rattle.bit_alloc.specs.Room.{HasSpare};
+ghost use Rattle.path_walk.specs.Performing.{IsReady, Performs};
+ghost use Rattle.file_calls.specs.Changes.{ChangesBytes};
+
+use block_map::write_at;
+use fs_cred::{Errno, Refusal};
+use fs_layout::{Inode, MAX_FILE_SIZE, Place};
+use fs_model::{Bytes, Reply};
+use open_files::{Descriptor, Procs};
+use path_walk::{ask_for_sectors, load_inode};
+use sector_txn::Sectors;
+
+/// The most bytes that one read or write moves.
+const MAX_MOVE: usize = 4096;
+
+// How many of so many bytes are written at an offset within the limit of a file.
+fn write_count(len: usize, offset: u64) -> usize
+    requires { offset ≤ MAX_FILE_SIZE }
+    ensures { result ≡ min len (min move_limit (MAX_FILE_SIZE - offset)) }
+{
+    let left = (MAX_FILE_SIZE - offset) as usize;
+    len.min(MAX_MOVE.min(left))
+}
+
+// Writes bytes that fit into what inode n, a file, holds. EIO: the disk has failed.
+fn write_bytes<S: Sectors>(
+    s: &mut S,
+    place: Place,
+    n: u32,
+    inode: Inode,
+    offset: u64,
+    bytes: &[u8],
+) -> Result<(), Refusal>
+    requires sound { IsSound place (S.state s.old) }
+    requires below { n < place.inodes }
+    requires inode { inode ≡ inode_at place (S.state s.old).sectors n }
+    requires file { inode.kind ≡ File }
+    requires few { length bytes.now ≤ move_limit }
+    requires fits { offset + length bytes.now ≤ MAX_FILE_SIZE }
+    requires space { least_free ≤ free_sectors place (S.state s.old).sectors }
+    requires spare { HasSpare place 47 (S.state s.old) }
+    ensures store { SameStore (S.state s.old) (S.state s.new) }
+    ensures change { OnOk result (ChangesBytes place n (S.state s.old) (S.state s.new) (λ held. overwritten held offset bytes.now)) }
+    ensures err { IfErr result (λ refusal. (refusal ≡ Refusal.Failed Errno.EIO) × HasFailed (S.state s.old).disk (S.state s.new).disk) }
+{
+    let mut inode = inode;
+    match write_at(s, place, n, &mut inode, offset, bytes) {
+        Ok(()) => Ok(()),
+        Err(_) => Err(Refusal::Failed(Errno::EIO)),
+    }
+}
+
+// Where bytes are written: at the offset, or at the end with O_APPEND.
+fn write_offset(descriptor: Descriptor, inode: &Inode) -> u64
+    ensures { result ≡ if descriptor.append then inode.now.size else descriptor.offset }
+{
+    if descriptor.append {
+        inode.size
+    } else {
+        descriptor.offset
+    }
+}
+
+/// Writes bytes from the offset of a descriptor on, with O_APPEND from the end of its file on: at most 4,096 of them, and as
+/// many as fit. Zeros fill what lies between the end and these. The offset moves behind them.
+///
+/// EBADF: it isn't open for writing. EFBIG: nothing fits. ENOSPC: fewer than 16 data sectors are free. To write nothing is
+/// never refused.
+pub fn write<S: Sectors>(
+    s: &mut S,
+    place: Place,
+    procs: &mut Procs,
+    pid: usize,
+    fd: usize,
+    bytes: &Bytes,
+) -> Result<Reply, Refusal>
+    requires ready { IsReady place (S.state s.old) procs.old }
+    ensures { Performs place pid (Write fd bytes.now) (S.state s.old) (S.state s.new) procs.old procs.new result }
+{
+    let descriptor = procs.get(pid, fd)?;
+    if !descriptor.write {
+        return Err(Refusal::Failed(Errno::EBADF));
+    }
+    let bytes = bytes.bytes();
+    if bytes.is_empty() {
+        return Ok(Reply::Wrote(0));
+    }
+    let n = descriptor.number;
+    let inode = load_inode(s, place, n)?;
+    let offset = write_offset(descriptor, &inode);
+    if offset >= MAX_FILE_SIZE {
+        return Err(Refusal::Failed(Errno::EFBIG));
+    }
+    ask_for_sectors(s, place)?;
+    let count = write_count(bytes.len(), offset);
+    write_bytes(s, place, n, inode, offset, &bytes[..count])?;
+    procs.seek(pid, fd, offset + count as u64);
+    Ok(Reply::Wrote(count))
+}
