@@ -1,8 +1,10 @@
 pub mod ByDescriptor
 pub mod DescriptorRows
+pub mod HeldFiles
+pub mod Reading
 pub mod Rows
+pub mod Seeking
 pub mod Shown
 pub mod Followed
 pub mod Rewritten
-pub mod HeldFiles
 pub mod Writing

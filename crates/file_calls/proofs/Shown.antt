@@ -33,7 +33,7 @@ use Rattle.path_walk.proofs.HeldNodes.{stands, held_node}
 use Rattle.fs_layout.proofs.ImageSlots.{length-slots}
 use Rattle.fs_layout.proofs.ReadNames.{are_names_of}
 
-body_kind : (image : SectorMap) (v : Inode) (b : Body) → HoldsBody image v b → v.kind ≡ kind_of_type (type_of b)
+pub body_kind : (image : SectorMap) (v : Inode) (b : Body) → HoldsBody image v b → v.kind ≡ kind_of_type (type_of b)
 body_kind image v (File a bytes) h = h.kind
 body_kind image v (Dir a d) h = h.names.kind
 body_kind image v (Link target) h = h.kind
@@ -54,7 +54,7 @@ links_say (Dir a d) names = refl
 links_say (Link target) names = refl
 
 module _ (image : SectorMap) (v : Inode) where
-  size_says : (b : Body) → HoldsBody image v b → v.size ≡ shown_size b
+  pub size_says : (b : Body) → HoldsBody image v b → v.size ≡ shown_size b
   size_says (File a bytes) h = h.holds.size
   size_says (Dir a d) h =
       let names = h.names in

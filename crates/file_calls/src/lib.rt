@@ -10,8 +10,10 @@ mod found;
 mod opened;
 mod rights;
 mod show;
+mod transfer;
 mod writes;
 
 pub use rights::access;
 pub use show::{fstat, lstat, stat};
+pub use transfer::{MAX_MOVE, lseek, read};
 pub use writes::write;

@@ -1,0 +1,102 @@
+-- What read gives.
+--     read_part        the bytes that are read
+--     read_by        its row
+--     read_fine        it is open for that
+--     read_refused, read_told, read_ends        what it answers, and where it ends
+use Rattle.std.specs.Prelude.{◌≡◌, ◌≢◌, ◌⊎◌, ℕ, ◌+◌, ◌-◌, ◌^◌, ◌<◌, ◌≤◌, min, Bool, not, List, [], ◌∷◌, ◌++◌, length, take, drop, None, Some}
+use Rattle.std.proofs.Common.{refl, sym, ap, subst, arith, ◌∙◌, inl, inr}
+use Rattle.std.proofs.lemmas.List.{length-take, length-drop, append-nil, take-append-le, take_all, take_min, drop_all}
+use Rattle.fs_cred.specs.declared.errno.Errno.TheVariants.{EBADF, EISDIR}
+use Rattle.fs_cred.specs.declared.refusal.Refusal.{Refusal}
+use Rattle.fs_cred.specs.declared.refusal.Refusal.TheVariants.{Failed}
+use Rattle.fs_layout.specs.declared.inode.Inode.{Inode}
+use Rattle.fs_layout.specs.declared.inode.Kind.TheVariants as kinds
+use Rattle.fs_layout.specs.declared.place.Place.{Place}
+use Rattle.fs_layout.specs.Bytes.{SectorMap}
+use Rattle.fs_layout.specs.Images.{inode_at, Holds}
+use Rattle.block_map.specs.Blocks.{IsReadOf}
+use Rattle.fs_model.specs.declared.call.Call.TheVariants.{Read}
+use Rattle.fs_model.specs.declared.reply.Reply.TheVariants.{Data}
+use Rattle.fs_model.specs.Demands.{refuse, first_of}
+use Rattle.fs_model.specs.Limits.{move_limit}
+use Rattle.fs_model.specs.Nodes.{Node, bytes_in}
+use Rattle.fs_model.specs.Processes.{Desks, Descriptor, with_offset}
+use Rattle.fs_model.specs.Rows.{row_of}
+use Rattle.fs_model.specs.Scenes.{Scene, node_open, is_bad_to_read, with_process}
+use Rattle.fs_model.specs.States.{State}
+use Rattle.fs_model.specs.DescriptorCalls.{read_row, read_demands, read_effect}
+use Rattle.fs_model.proofs.StepsBodies.{bytes_are_few}
+use Rattle.path_walk.specs.Performing.{IsStateOf}
+use Rattle.file_calls.proofs.ByDescriptor.{open_scene, IsByDescriptor, IsOpened, the_opened, open_fits, open_node}
+use Rattle.file_calls.proofs.DescriptorRows.{bad_read_closed}
+use Rattle.file_calls.proofs.HeldFiles.{open_file, open_directory}
+
+-- a buffer that is no longer than what is left is read full
+pub read_part : (bytes old new : List ℕ) (offset most size count : ℕ) → length old ≡ min most (size - offset) → size ≡ length bytes
+    → IsReadOf bytes offset old new count → new ≡ take most (drop offset bytes)
+read_part bytes old new offset most size count len is_size is =
+    let left : length (drop offset bytes) ≡ length bytes - offset = length-drop offset bytes in
+    let full : count ≡ length old = omega (arith, is.len, len, is_size) in
+    let whole : count ≡ min most (length (drop offset bytes)) = omega (arith, full, len, is_size, left) in
+    is.content
+    ∙ ap (λ (l : List ℕ). take count (drop offset bytes) ++ l) (drop_all count old (omega (arith, full)))
+    ∙ append-nil (take count (drop offset bytes))
+    ∙ ap (λ (n : ℕ). take n (drop offset bytes)) whole
+    ∙ take_min most (drop offset bytes)
+
+-- a buffer that is written back whole
+pub written_back : (all to rest : List ℕ) (len : ℕ) → all ≡ take len (to ++ rest) → length to ≡ len → all ≡ to
+written_back all to rest len is same =
+    is ∙ take-append-le len to rest (omega (arith, same)) ∙ take_all len to (omega (arith, same))
+
+-- ---- its row
+
+read_is : (fd len : ℕ) → row_of (Read fd len) ≡ read_row fd len
+unfolding row_of
+read_is fd len = refl
+
+pub read_by : (fd len : ℕ) → IsByDescriptor (Read fd len) fd (is_bad_to_read fd) (read_demands fd) (read_effect fd len)
+read_by fd len = record { row = read_is fd len; closed = bad_read_closed fd }
+
+-- ---- what it answers
+
+module _ {desks : Desks} {pid fd : ℕ} {d : Descriptor} (o : IsOpened desks pid fd d) where
+  pub read_asked : (b : Bool) → not d.read ≡ b → is_bad_to_read fd o.process ≡ refuse EBADF b
+  read_asked b e = ap (λ (x : Descriptor). refuse EBADF (not x.read)) (the_opened o) ∙ ap (refuse EBADF) e
+
+module _ {p : Place} {map : SectorMap} {desks : Desks} {pid fd : ℕ} {d : Descriptor} (o : IsOpened desks pid fd d) (s : State) (at : IsStateOf p map desks s) where
+  abbrev scene : Scene
+  scene = open_scene s o.process
+
+  pub read_refused : {F : Type 0} (e : Refusal) → ((e ≡ Failed EISDIR) × ((inode_at p map d.number).kind ≡ kinds.Directory)) ⊎ F
+      → (first_of (read_demands fd scene) ≡ Some e) ⊎ F
+  read_refused e why = elim why [
+    | inl dir ↦ inl (ap (λ (b : Bool). first_of (refuse EISDIR b ∷ [])) (open_directory o s at dir.1) ∙ ap (λ (r : Refusal). Some r) (sym dir.0))
+    | inr read ↦ inr read
+  ]
+
+  module _ (v : Inode) (is : v ≡ inode_at p map d.number) (no_directory : v.kind ≢ kinds.Directory) (len : ℕ) (read : List ℕ)
+      (found : (bytes : List ℕ) → Holds map v bytes → read ≡ take (min len move_limit) (drop d.offset bytes)) where
+    read_is_part : read ≡ take (min len move_limit) (drop d.offset (bytes_in (node_open scene fd).body))
+    read_is_part = found (bytes_in (node_open scene fd).body) (open_file o s at v is no_directory).holds
+
+    pub read_told : (first_of (read_demands fd scene) ≡ None) × (read_effect fd len scene ≡ with_process (with_offset o.process fd (d.offset + length read)) (Data read))
+    read_told =
+        let bytes = bytes_in (node_open scene fd).body in (
+          ap (λ (b : Bool). first_of (refuse EISDIR b ∷ [])) (open_file o s at v is no_directory).no_directory,
+          ap (λ (x : Descriptor). with_process (with_offset o.process fd (x.offset + length (take (min len move_limit) (drop x.offset bytes))))
+              (Data (take (min len move_limit) (drop x.offset bytes)))) (the_opened o)
+              ∙ ap (λ (l : List ℕ). with_process (with_offset o.process fd (d.offset + length l)) (Data l)) (sym read_is_part),
+        )
+
+    -- the offset stays one of 64 bits
+    pub read_ends : d.offset + length read < 2 ^ 64
+    read_ends =
+        let x = open_fits o s at in
+        let bytes = bytes_in (node_open scene fd).body in
+        let few : length bytes ≤ s.room.file_limit =
+        subst (λ (n : Node). length (bytes_in n.body) ≤ s.room.file_limit) (sym (open_node o s at))
+        (bytes_are_few s.room s.tree x.node.body (at.is_state.tree.each d.number x.node x.is_there).body) in
+        let limit : s.room.file_limit < 2 ^ 63 = at.is_state.room.file_limit in
+        let part : length read ≡ length (take (min len move_limit) (drop d.offset bytes)) = ap length read_is_part in
+        omega (arith, part, length-take (min len move_limit) (drop d.offset bytes), length-drop d.offset bytes, few, limit, x.offset)

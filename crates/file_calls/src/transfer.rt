@@ -1,0 +1,131 @@
+//! Bytes through a descriptor: POSIX.1-2017, read() and lseek().
+
+ghost use Rattle.std.specs.Prelude.{◌≡◌, ℕ, List, min, take, drop, pos, ◌+ℤ◌, IfOk, IfErr};
+ghost use Rattle.fs_layout.specs.Images.{Holds};
+ghost use Rattle.fs_model.specs.declared.call.Call.TheVariants.{Read, Lseek};
+ghost use Rattle.fs_model.specs.DescriptorCalls.{seekable};
+ghost use Rattle.fs_model.specs.Limits.{move_limit};
+ghost use Rattle.sector_txn.specs.Sectors.{IsUnchanged};
+ghost use Rattle.block_map.specs.Blocks.{IsWithin};
+ghost use Rattle.path_walk.specs.Answers.{Interrupts};
+ghost use Rattle.path_walk.specs.Performing.{IsReady, Performs};
+
+use crate::opened::file_open;
+use block_map::read_at;
+use fs_cred::{Errno, Refusal};
+use fs_layout::{Inode, Place};
+use fs_model::{Bytes, Reply, Whence};
+use open_files::Procs;
+use sector_txn::Sectors;
+use std::alloc::Global;
+
+/// The most bytes that one read or write moves.
+pub const MAX_MOVE: usize = 4096;
+
+// The least number that is no offset.
+const OFFSET_END: u64 = 1 << 63;
+
+// What a file holds from `offset` on: at most `len` bytes, and at most 4,096. ENOMEM: there is no memory for them.
+fn read_bytes<S: Sectors>(
+    alloc: Global,
+    s: &mut S,
+    inode: &Inode,
+    offset: u64,
+    len: usize,
+) -> Result<Bytes, Refusal>
+    requires within { IsWithin (S.state s.old).disk.size (S.state s.old).sectors inode.now }
+    ensures found { IfOk result (λ read. (bytes : List ℕ) → Holds (S.state s.old).sectors inode.now bytes
+        → read ≡ take (min len move_limit) (drop offset bytes)) }
+    ensures fault { IfErr result (λ e. Interrupts (S.state s.old).disk (S.state s.new).disk e) }
+    ensures same { IsUnchanged (S.state s.old) (S.state s.new) }
+{
+    let count = len
+        .min(MAX_MOVE)
+        .min(inode.size.saturating_sub(offset) as usize);
+    let mut bytes = Vec::new(alloc);
+    let Ok(_) = bytes.resize(count, 0) else {
+        return Err(Refusal::Failed(Errno::ENOMEM));
+    };
+    let Ok(_) = read_at(s, inode, offset, &mut bytes) else {
+        return Err(Refusal::Failed(Errno::EIO));
+    };
+    Ok(Bytes::new(bytes))
+}
+
+/// Reads at most `len` bytes, and at most 4,096, from the offset of a descriptor on, which moves by their number.
+///
+/// EBADF: it isn't open for reading. EISDIR: it is for a directory.
+pub fn read<S: Sectors>(
+    alloc: Global,
+    s: &mut S,
+    place: Place,
+    procs: &mut Procs,
+    pid: usize,
+    fd: usize,
+    len: usize,
+) -> Result<Reply, Refusal>
+    requires ready { IsReady place (S.state s.old) procs.old }
+    ensures performs { Performs place pid (Read fd len) (S.state s.old) (S.state s.new) procs.old procs.new result }
+    ensures same { IsUnchanged (S.state s.old) (S.state s.new) }
+{
+    let descriptor = procs.get(pid, fd)?;
+    if !descriptor.read {
+        return Err(Refusal::Failed(Errno::EBADF));
+    }
+    let inode = file_open(s, place, descriptor.number)?;
+    let bytes = read_bytes(alloc, s, &inode, descriptor.offset, len)?;
+    procs.seek(pid, fd, descriptor.offset + bytes.bytes().len() as u64);
+    Ok(Reply::Data(bytes))
+}
+
+// From where an offset moves.
+fn base(whence: Whence, offset: u64, size: u64) -> u64
+    ensures start { whence ≡ Whence.Set → result ≡ 0 }
+    ensures present { whence ≡ Whence.Cur → result ≡ offset }
+    ensures end { whence ≡ Whence.End → result ≡ size }
+{
+    match whence {
+        Whence::Set => 0,
+        Whence::Cur => offset,
+        Whence::End => size,
+    }
+}
+
+// Where an offset moves, from 0 to 2^63 - 1.
+fn moved(base: u64, by: i64) -> Option<u64>
+    ensures { result ≡ seekable (pos base +ℤ by) }
+{
+    let Some(offset) = base.checked_add_signed(by) else {
+        return None;
+    };
+    if offset < OFFSET_END {
+        Some(offset)
+    } else {
+        None
+    }
+}
+
+/// Moves the offset of a descriptor: to a number counted from the start, from the present offset or from the end.
+///
+/// EBADF: it isn't open. EISDIR: it is for a directory. EINVAL: that would be below 0 or above 2^63 - 1.
+pub fn lseek<S: Sectors>(
+    s: &mut S,
+    place: Place,
+    procs: &mut Procs,
+    pid: usize,
+    fd: usize,
+    whence: Whence,
+    by: i64,
+) -> Result<Reply, Refusal>
+    requires ready { IsReady place (S.state s.old) procs.old }
+    ensures performs { Performs place pid (Lseek fd whence by) (S.state s.old) (S.state s.new) procs.old procs.new result }
+    ensures same { IsUnchanged (S.state s.old) (S.state s.new) }
+{
+    let descriptor = procs.get(pid, fd)?;
+    let inode = file_open(s, place, descriptor.number)?;
+    let Some(offset) = moved(base(whence, descriptor.offset, inode.size), by) else {
+        return Err(Refusal::Failed(Errno::EINVAL));
+    };
+    procs.seek(pid, fd, offset);
+    Ok(Reply::At(offset))
+}
