@@ -11,7 +11,7 @@ use Rattle.std.proofs.Common.{refl, sym, ap, subst, ◌∙◌, inl, inr}
 use Rattle.std.specs.List.{list_any}
 use Rattle.std.specs.Option.{ok_or}
 use Rattle.std.specs.Ordering.{nat_cmp, is_eq}
-use Rattle.sector_disk.specs.Disk.{DiskState, HasFailed}
+use Rattle.sector_disk.specs.Disk.{HasFailed}
 use Rattle.fs_cred.specs.declared.errno.Errno.{Errno}
 use Rattle.fs_cred.specs.declared.errno.Errno.TheVariants.{ESRCH, EBADF, EIO}
 use Rattle.fs_cred.specs.declared.refusal.Refusal.{Refusal}
@@ -46,7 +46,7 @@ use Rattle.path_walk.specs.Performing.{IsStateOf, IsDone, IsRefused, Performs, c
 use Rattle.path_walk.specs.Performing as why
 use Rattle.path_walk.proofs.HeldNodes.{is_there, number_below}
 use Rattle.path_walk.proofs.Kept.{same_map as map_kept}
-use Rattle.path_walk.proofs.Calling.{or_else-none, state_tree, state_process, same_process, early_is, late_is, after_is, absent_refused, interrupted_refused, told_performs}
+use Rattle.path_walk.proofs.Calling.{or_else-none, state_tree, state_process, same_process, early_is, late_is, after_is, interrupted_refused, told_performs}
 use Rattle.path_walk.proofs.ByPath.{refused_performs}
 use Rattle.file_calls.proofs.Shown.{the_node_is}
 
@@ -100,6 +100,10 @@ module _ {p : Place} {map : SectorMap} {desks : Desks} {pid fd : ℕ} {d : Descr
   open_node = ap (λ (x : Descriptor). the_node s.tree x.number) (the_opened o) ∙ the_node_is s.tree d.number open_fits.node open_fits.is_there
 
 -- ---- a row
+
+pub absent_firm : (s : State) (pid : ℕ) (call : Call) → get nat_cmp s.desks pid ≡ None → firm_refusal s (Calls pid call) ≡ Some (Failed ESRCH)
+unfolding firm_refusal
+absent_firm s pid call e = rw e refl
 
 pub record IsByDescriptor (call : Call) (fd : ℕ) (bad : Process → Demand) (demands : Scene → List Demand) (effect : Scene → Effect) : Type 0 where
   pub row : row_of call ≡ by_descriptor bad demands effect
@@ -163,26 +167,27 @@ changed_there desks pid q f there = ap (changed_where desks pid f) there
 
 module _ (pid : ℕ) {call : Call} {fd : ℕ} {bad : Process → Demand} {demands : Scene → List Demand} {effect : Scene → Effect}
     (is : IsByDescriptor call fd bad demands effect) where
-  closed_refused : (disk : DiskState) (desks : Desks) (errno : Errno) → open_in desks pid fd ≡ Err errno → (s : State) → s.desks ≡ desks
-      → IsRefused disk disk s pid call (Failed errno)
-  closed_refused disk desks errno e s same = go (get nat_cmp desks pid) refl e
+  -- there is no such process, or it has nothing open there
+  pub closed_firm : (desks : Desks) (errno : Errno) → open_in desks pid fd ≡ Err errno → (s : State) → s.desks ≡ desks
+      → firm_refusal s (Calls pid call) ≡ Some (Failed errno)
+  closed_firm desks errno e s same = go (get nat_cmp desks pid) refl e
     where
       here : (o : Option Process) → get nat_cmp desks pid ≡ o → get nat_cmp s.desks pid ≡ o
       here o at = ap (λ (d : Desks). get nat_cmp d pid) same ∙ at
 
-      go : (o : Option Process) → get nat_cmp desks pid ≡ o → answer_of_found (open_at fd) o ≡ Err errno → IsRefused disk disk s pid call (Failed errno)
+      go : (o : Option Process) → get nat_cmp desks pid ≡ o → answer_of_found (open_at fd) o ≡ Err errno → firm_refusal s (Calls pid call) ≡ Some (Failed errno)
       go None at e =
           let no : ESRCH ≡ errno = cc in
-          subst (λ (x : Errno). IsRefused disk disk s pid call (Failed x)) no (absent_refused disk disk s pid call (here None at))
+          absent_firm s pid call (here None at) ∙ ap (λ (x : Errno). Some (Failed x)) no
       go (Some q) at e =
           let none = none_if_err (descriptor q fd) EBADF errno e in
-          why.early (open_firm s pid q is (here (Some q) at) ∙ is.closed q none.0 ∙ ap (λ (x : Errno). Some (Failed x)) (sym none.1))
+          open_firm s pid q is (here (Some q) at) ∙ is.closed q none.0 ∙ ap (λ (x : Errno). Some (Failed x)) (sym none.1)
 
 module _ {p : Place} (pid : ℕ) {call : Call} {fd : ℕ} {bad : Process → Demand} {demands : Scene → List Demand} {effect : Scene → Effect}
     (is : IsByDescriptor call fd bad demands effect) (old : TxnState) {desks : Desks} where
   pub closed_performs : (errno : Errno) → open_in desks pid fd ≡ Err errno → (r : Result Reply Refusal) → IsErr r → IsErrAnd r (λ y. y ≡ Failed errno)
       → Performs p pid call old old desks desks r
-  closed_performs errno e r err and = refused_performs r (Failed errno) err and store_same (λ s at. closed_refused pid is old.disk desks errno e s at.same_desks)
+  closed_performs errno e r err and = refused_performs r (Failed errno) err and store_same (λ s at. why.early (closed_firm pid is desks errno e s at.same_desks))
 
   module _ {d : Descriptor} (o : IsOpened desks pid fd d) where
     -- it wasn't opened for that

@@ -4,6 +4,7 @@ pub mod HeldFiles
 pub mod Reading
 pub mod Rows
 pub mod Seeking
+pub mod Settled
 pub mod Shown
 pub mod Followed
 pub mod Rewritten

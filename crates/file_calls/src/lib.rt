@@ -8,11 +8,13 @@
 
 mod found;
 mod opened;
+mod process;
 mod rights;
 mod show;
 mod transfer;
 mod writes;
 
+pub use process::{close, umask};
 pub use rights::access;
 pub use show::{fstat, lstat, stat};
 pub use transfer::{MAX_MOVE, lseek, read};

@@ -1,0 +1,194 @@
+-- Calls that need the table of processes alone.
+--     settled_err        a refusal, passed on
+--     umask_absent, umask_settles        what umask answers
+--     close_by, close_settles        what close answers
+--     umask_performs, close_performs        each call in a transaction
+use Rattle.std.specs.Prelude.{◌≡◌, ◌≢◌, ℕ, ◌%◌, [], Option, None, Some, Result, Ok, Err, IsErr, IsErrAnd}
+use Rattle.std.proofs.Common.{refl, sym, ap, subst, ◌∙◌}
+use Rattle.std.specs.Ordering.{nat_cmp}
+use Rattle.fs_cred.specs.declared.errno.Errno.{Errno}
+use Rattle.fs_cred.specs.declared.errno.Errno.TheVariants.{ESRCH}
+use Rattle.fs_cred.specs.declared.refusal.Refusal.{Refusal}
+use Rattle.fs_cred.specs.declared.refusal.Refusal.TheVariants.{Failed}
+use Rattle.fs_layout.specs.declared.place.Place.{Place}
+use Rattle.fs_layout.specs.Bytes.{SectorMap}
+use Rattle.fs_layout.specs.Maps.{get, with_entry}
+use Rattle.sector_txn.specs.Sectors.{TxnState, IsUnchanged}
+use Rattle.fs_model.specs.declared.call.Call.{Call}
+use Rattle.fs_model.specs.declared.call.Call.TheVariants.{Umask, Close}
+use Rattle.fs_model.specs.declared.event.Event.TheVariants.{Call as Calls}
+use Rattle.fs_model.specs.declared.reply.Reply.{Reply}
+use Rattle.fs_model.specs.declared.reply.Reply.TheVariants.{Done, Mask}
+use Rattle.fs_model.specs.AttributeCalls.{umask_row}
+use Rattle.fs_model.specs.Changes.{Same, swept}
+use Rattle.fs_model.specs.DescriptorCalls.{close_row, close_effect}
+use Rattle.fs_model.specs.Limits.{root}
+use Rattle.fs_model.specs.Nodes.{Node}
+use Rattle.fs_model.specs.Processes.{Descriptor, Process, Desks, is_open}
+use Rattle.fs_model.specs.Rows.{row_of}
+use Rattle.fs_model.specs.Scenes.{Row, is_bad, nothing_asked}
+use Rattle.fs_model.specs.Stands.{HoldsAll, placed}
+use Rattle.fs_model.specs.States.{State, FitsTree}
+use Rattle.fs_model.specs.Steps.{After, after, after_call, early_refusal, late_refusal, firm_refusal}
+use Rattle.fs_model.specs.Trees.{Tree, Room, node_at, names_of, IsTree}
+use Rattle.fs_model.proofs.Unchanged.{open_stays}
+use Rattle.open_files.specs.Tables.{answer_of_found, answer_of, changed_where, with_changed, without_descriptor}
+use Rattle.path_walk.specs.Performing.{IsStateOf, IsDone, Performs, chosen}
+use Rattle.path_walk.specs.Performing as why
+use Rattle.path_walk.proofs.Calling.{early_is, late_is, after_is}
+use Rattle.path_walk.proofs.Kept.{is_err, same_map}
+use Rattle.file_calls.specs.Settling.{IsSettled, Settles}
+use Rattle.file_calls.proofs.ByDescriptor.{IsByDescriptor, IsOpened, absent_firm, open_firm, open_late, open_after, changed_there, still_open}
+use Rattle.file_calls.proofs.DescriptorRows.{bad_closed, not_bad}
+
+-- a refusal, passed on
+pub settled_err : {pid : ℕ} {call : Call} {before now : Desks} (r : Result Reply Refusal) (e : Refusal) → IsErr r → IsErrAnd r (λ y. y ≡ e) → now ≡ before
+    → ((s : State) → s.desks ≡ before → firm_refusal s (Calls pid call) ≡ Some e) → Settles pid call before now r
+settled_err {pid} {call} {before} {now} r e err and table each =
+    subst (λ (x : Result Reply Refusal). Settles pid call before now x) (sym (is_err r e err and)) (record { table = table; each = each })
+
+process_of : (s : State) {before : Desks} → s.desks ≡ before → (pid : ℕ) (o : Option Process) → get nat_cmp before pid ≡ o → get nat_cmp s.desks pid ≡ o
+process_of s same pid o at = ap (λ (d : Desks). get nat_cmp d pid) same ∙ at
+
+-- ---- umask
+
+umask_is : (mask : ℕ) → row_of (Umask mask) ≡ umask_row mask
+unfolding row_of
+umask_is mask = refl
+
+abbrev pub with_umask : ℕ → Process → Process
+with_umask mask p = record p { umask = mask % 512 }
+
+abbrev umask_answer : Process → Result ℕ Errno
+umask_answer p = Ok p.umask
+
+pub umask_absent : (desks : Desks) (pid mask : ℕ) (errno : Errno) → Err errno ≡ answer_of desks pid umask_answer
+    → ((s : State) → s.desks ≡ desks → firm_refusal s (Calls pid (Umask mask)) ≡ Some (Failed errno)) × (with_changed desks pid (with_umask mask) ≡ desks)
+umask_absent desks pid mask errno e = go (get nat_cmp desks pid) refl e
+  where
+    go : (o : Option Process) → get nat_cmp desks pid ≡ o → Err errno ≡ answer_of_found umask_answer o
+        → ((s : State) → s.desks ≡ desks → firm_refusal s (Calls pid (Umask mask)) ≡ Some (Failed errno)) × (with_changed desks pid (with_umask mask) ≡ desks)
+    go None at e =
+        let no : ESRCH ≡ errno = cc in (
+          λ s same. absent_firm s pid (Umask mask) (process_of s same pid None at) ∙ ap (λ (x : Errno). Some (Failed x)) no,
+          ap (changed_where desks pid (with_umask mask)) at,
+        )
+    go (Some q) at e = absurd (cc)
+
+module _ (s : State) (pid mask : ℕ) (q : Process) (there : get nat_cmp s.desks pid ≡ Some q) where
+  umask_after : after s (Calls pid (Umask mask)) (chosen 0 0) ≡ record { change = Same; desks = with_entry nat_cmp s.desks pid (with_umask mask q); reply = Mask q.umask }
+  umask_after = after_is s pid q (Umask mask) there (chosen 0 0) ∙ ap (λ (x : Row). after_call s pid x 0 (Some q)) (umask_is mask)
+
+  umask_done : (now : Desks) (old : ℕ) → with_entry nat_cmp s.desks pid (with_umask mask q) ≡ now → q.umask ≡ old → IsSettled s pid (Umask mask) now (Mask old)
+  umask_done now old is same = record {
+    early = early_is s pid q (Umask mask) there ∙ ap (early_refusal q) (umask_is mask);
+    late = late_is s pid q (Umask mask) there ∙ ap (late_refusal s q) (umask_is mask);
+    effect = umask_after
+        ∙ ap (λ (d : Desks). record { change = Same; desks = d; reply = Mask q.umask }) is
+        ∙ ap (λ (m : ℕ). record { change = Same; desks = now; reply = Mask m }) same;
+  }
+
+pub umask_settles : (desks now : Desks) (pid mask old : ℕ) → Ok old ≡ answer_of desks pid umask_answer → now ≡ with_changed desks pid (with_umask mask)
+    → Settles pid (Umask mask) desks now (Ok (Mask old))
+umask_settles desks now pid mask old e is = go (get nat_cmp desks pid) refl e
+  where
+    go : (o : Option Process) → get nat_cmp desks pid ≡ o → Ok old ≡ answer_of_found umask_answer o → Settles pid (Umask mask) desks now (Ok (Mask old))
+    go None at e = absurd (cc)
+    go (Some q) at e =
+        let same : q.umask ≡ old = cc in
+        record {
+          table = tt;
+          each = λ s desks_are. umask_done s pid mask q (process_of s desks_are pid (Some q) at) now old
+              (ap (λ (d : Desks). with_entry nat_cmp d pid (with_umask mask q)) desks_are ∙ sym (changed_there desks pid q (with_umask mask) at) ∙ sym is) same;
+        }
+
+-- ---- close
+
+close_is : (fd : ℕ) → row_of (Close fd) ≡ close_row fd
+unfolding row_of
+close_is fd = refl
+
+pub close_by : (fd : ℕ) → IsByDescriptor (Close fd) fd (is_bad fd) nothing_asked (close_effect fd)
+close_by fd = record { row = close_is fd; closed = bad_closed fd }
+
+pub close_settles : {desks : Desks} {pid fd : ℕ} {d : Descriptor} (now : Desks) (o : IsOpened desks pid fd d) → now ≡ with_changed desks pid (λ p. without_descriptor p fd)
+    → Settles pid (Close fd) desks now (Ok Done)
+close_settles {desks} {pid} {fd} {d} now o is = record {
+  table = tt;
+  each = λ s same.
+      let here = process_of s same pid (Some o.process) o.there in
+      record {
+        early = open_firm s pid o.process (close_by fd) here ∙ not_bad o;
+        late = open_late s pid o.process (close_by fd) here;
+        effect = open_after s pid o.process (close_by fd) here
+            ∙ ap (λ (x : Desks). record { change = Same; desks = x; reply = Done })
+            (ap (λ (x : Desks). with_entry nat_cmp x pid (without_descriptor o.process fd)) same
+            ∙ sym (changed_there desks pid o.process (λ p. without_descriptor p fd) o.there) ∙ sym is);
+      };
+}
+
+-- ---- in a transaction
+
+settled_performs : {p : Place} {pid : ℕ} {call : Call} {old new : TxnState} {before now : Desks} (result : Result Reply Refusal) → IsUnchanged old new
+    → Settles pid call before now result
+    → ((s : State) → IsStateOf p old.sectors before s → (reply : Reply) → IsSettled s pid call now reply → swept s.tree now ≡ s.tree)
+    → Performs p pid call old new before now result
+settled_performs {p} {pid} {call} {old} {new} {before} {now} (Ok reply) same settles stays = record {
+  store = same.store;
+  super = same.sectors 0;
+  table = tt;
+  each = λ s at.
+      let is = settles.each s at.same_desks in
+      record {
+        early = is.early;
+        late = is.late;
+        number = 0;
+        change = Same;
+        effect = is.effect;
+        new_number = tt;
+        holds = subst (λ (t : Tree). HoldsAll p new.sectors (placed t)) (sym (stays s at reply is))
+            (subst (λ m. HoldsAll p m (placed s.tree)) (sym (same_map same)) at.holds);
+      };
+}
+settled_performs {p} {pid} {call} {old} {new} {before} {now} (Err r) same settles stays = record {
+  store = same.store;
+  super = tt;
+  table = settles.table;
+  each = λ s at. why.early (settles.each s at.same_desks);
+}
+
+umask_stays : (s : State) (pid mask : ℕ) (now : Desks) (reply : Reply) {p : Place} {map : SectorMap} {before : Desks} → IsStateOf p map before s
+    → IsSettled s pid (Umask mask) now reply → swept s.tree now ≡ s.tree
+umask_stays s pid mask now reply at is = go (get nat_cmp s.desks pid) refl
+  where
+    go : (o : Option Process) → get nat_cmp s.desks pid ≡ o → swept s.tree now ≡ s.tree
+    go None none =
+        let both : Some (Failed ESRCH) ≡ None = sym (absent_firm s pid (Umask mask) none) ∙ is.early in
+        absurd (cc)
+    go (Some q) there =
+        let entered : with_entry nat_cmp s.desks pid (with_umask mask q) ≡ now = ap (λ (x : After). x.desks) (sym (umask_after s pid mask q there) ∙ is.effect) in
+        open_stays s.room s.tree s.desks now at.is_state.tree (at.is_state.desks at.up)
+        (λ n was. ap (λ (x : Desks). is_open x n) (sym entered) ∙ still_open s.desks pid q (with_umask mask q) at.is_state.pids there n refl ∙ was)
+
+pub umask_performs : {p : Place} {pid mask : ℕ} {old new : TxnState} {before now : Desks} (result : Result Reply Refusal) → IsUnchanged old new
+    → Settles pid (Umask mask) before now result → Performs p pid (Umask mask) old new before now result
+umask_performs {p} {pid} {mask} {old} {new} {before} {now} result same settles =
+    settled_performs result same settles (λ s at reply is. umask_stays s pid mask now reply at is)
+
+-- where everything but the root has a name, nothing is dropped
+named_stays : (room : Room) (t : Tree) (now : Desks) → IsTree room t
+    → ((n : ℕ) (node : Node) → node_at t n ≡ Some node → n ≢ root → names_of t n ≢ 0) → swept t now ≡ t
+named_stays room t now is named = open_stays room t [] now is nobody (λ n was. absurd (cc))
+  where
+    nobody : FitsTree t []
+    nobody = record {
+      processes = λ pid q there. absurd (cc);
+      nameless = λ n node at none other. absurd (named n node at other none);
+    }
+
+pub close_performs : {p : Place} {pid fd : ℕ} {old new : TxnState} {before now : Desks} (result : Result Reply Refusal) → IsUnchanged old new
+    → Settles pid (Close fd) before now result
+    → ((s : State) → IsStateOf p old.sectors before s → (n : ℕ) (node : Node) → node_at s.tree n ≡ Some node → n ≢ root → names_of s.tree n ≢ 0)
+    → Performs p pid (Close fd) old new before now result
+close_performs {p} {pid} {fd} {old} {new} {before} {now} result same settles named =
+    settled_performs result same settles (λ s at reply is. named_stays s.room s.tree now at.is_state.tree (named s at))
