@@ -1,11 +1,13 @@
 pub mod ByDescriptor
+pub mod Changed
 pub mod DescriptorRows
 pub mod HeldFiles
 pub mod Reading
+pub mod Followed
+pub mod Owned
 pub mod Rows
 pub mod Seeking
 pub mod Settled
 pub mod Shown
-pub mod Followed
 pub mod Rewritten
 pub mod Writing

@@ -1,2 +1,4 @@
 pub mod Changes
 pub mod Settling
+pub mod Asked
+pub mod Given

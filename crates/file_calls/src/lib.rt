@@ -6,6 +6,7 @@
 //! arguments and of the path.
 #![tactic(auto)]
 
+mod attributes;
 mod found;
 mod opened;
 mod process;
@@ -14,6 +15,7 @@ mod show;
 mod transfer;
 mod writes;
 
+pub use attributes::chown;
 pub use process::{close, umask};
 pub use rights::access;
 pub use show::{fstat, lstat, stat};

@@ -14,6 +14,7 @@ ghost use Rattle.bit_alloc.specs.Room.{HasSpare};
 ghost use Rattle.path_walk.specs.Performing.{IsReady, Performs};
 ghost use Rattle.file_calls.specs.Changes.{ChangesBytes};
 
+use crate::transfer::MAX_MOVE;
 use block_map::write_at;
 use fs_cred::{Errno, Refusal};
 use fs_layout::{Inode, MAX_FILE_SIZE, Place};
@@ -21,9 +22,6 @@ use fs_model::{Bytes, Reply};
 use open_files::{Descriptor, Procs};
 use path_walk::{ask_for_sectors, load_inode};
 use sector_txn::Sectors;
-
-/// The most bytes that one read or write moves.
-const MAX_MOVE: usize = 4096;
 
 // How many of so many bytes are written at an offset within the limit of a file.
 fn write_count(len: usize, offset: u64) -> usize

@@ -1,0 +1,10 @@
+use Rattle.std.proofs.Common.{sym, subst}
+use Rattle.fs_layout.specs.Inode.{FitsInode}
+use Rattle.fs_layout.proofs.Free.{inode_fits_there}
+use Rattle.file_calls.proofs.Owned.{owner_given}
+use Rattle.file_calls.proofs.attributes.give_owner.Goals as goal
+
+pub save-requires-clause-fits : goal.save-requires-clause-fits
+save-requires-clause-fits g c =
+    owner_given c.args.inode.now c.args.uid c.args.gid (subst FitsInode (sym c.requires.inode) (inode_fits_there c.requires.sound.consistent c.args.n c.requires.below))
+    c.requires.used c.ranges.uid.fits c.ranges.gid.fits

@@ -1,0 +1,88 @@
+//! Mode, owner and group of what a path leads to: POSIX.1-2017, chmod() and chown().
+
+ghost use Rattle.std.specs.Prelude.{◌≡◌, ◌≢◌, ◌<◌, Ok, OnOk, IfErr};
+ghost use Rattle.fs_layout.specs.Images.{inode_at};
+ghost use Rattle.fs_model.specs.Demands.{first_of};
+ghost use Rattle.fs_model.specs.declared.call.Call.TheVariants.{Chown};
+ghost use Rattle.sector_txn.specs.Sectors.{SameStore};
+ghost use Rattle.bit_alloc.specs.Inodes.{IsSound};
+ghost use Rattle.bit_alloc.specs.Room.{HasSpare};
+ghost use Rattle.path_walk.specs.Answers.{refused_or, Interrupts};
+ghost use Rattle.path_walk.specs.Performing.{IsReady, Performs};
+ghost use Rattle.file_calls.specs.Asked.{owner_asked};
+ghost use Rattle.file_calls.specs.Given.{GivesOwner};
+
+use crate::found::{find, owned};
+use fs_cred::{Cred, Denial, Errno, Need, Refusal, Rule, may_chgrp, may_chown};
+use fs_layout::{Inode, Kind, Place};
+use fs_model::{Form, Path, Reply};
+use inode_table::save;
+use open_files::Procs;
+use sector_txn::Sectors;
+use std::alloc::Global;
+
+// Asks whether the caller, who owns the inode, may give it this owner and group.
+fn check_owner(cred: &Cred, inode: &Inode, uid: u32, gid: u32, step: usize) -> Result<(), Refusal>
+    ensures { result ≡ refused_or (first_of (owner_asked cred.now inode.now.uid inode.now.gid uid gid step)) (Ok tt) }
+{
+    if !may_chown(cred, inode.uid, uid) {
+        return Err(Refusal::Denied(Denial::new(1, step, Need::Chown, Rule::NotSuperuser)));
+    }
+    if !may_chgrp(cred, inode.gid, gid) {
+        return Err(Refusal::Denied(Denial::new(1, step, Need::Chgrp, Rule::NotMember)));
+    }
+    Ok(())
+}
+
+// Gives inode n this owner and group.
+fn give_owner<S: Sectors>(
+    s: &mut S,
+    place: Place,
+    n: u32,
+    inode: &Inode,
+    uid: u32,
+    gid: u32,
+) -> Result<(), Refusal>
+    requires sound { IsSound place (S.state s.old) }
+    requires below { n < place.inodes }
+    requires inode { inode.now ≡ inode_at place (S.state s.old).sectors n }
+    requires used { inode.now.kind ≢ Kind.Free }
+    requires spare { HasSpare place 1 (S.state s.old) }
+    ensures given { OnOk result (GivesOwner place n uid gid (S.state s.old).sectors (S.state s.new).sectors) }
+    ensures store { SameStore (S.state s.old) (S.state s.new) }
+    ensures interrupts { IfErr result (Interrupts (S.state s.old).disk (S.state s.new).disk) }
+{
+    let given = Inode { uid, gid, ..*inode };
+    match save(s, place, n, &given) {
+        Ok(()) => Ok(()),
+        Err(_) => Err(Refusal::Failed(Errno::EIO)),
+    }
+}
+
+/// Gives what a path leads to another owner or group; one that isn't given stays.
+///
+/// Only the superuser may give it another owner, and another group only where the process is in it. S_ISGID and the ACLs
+/// stay. ENOENT: the path leads to nothing.
+pub fn chown<S: Sectors>(
+    alloc: Global,
+    s: &mut S,
+    place: Place,
+    procs: &Procs,
+    pid: usize,
+    path: &Path,
+    owner: Option<u32>,
+    group: Option<u32>,
+) -> Result<Reply, Refusal>
+    requires ready { IsReady place (S.state s.old) procs.now }
+    ensures { Performs place pid (Chown path.now owner group) (S.state s.old) (S.state s.new) procs.now procs.now result }
+{
+    let process = procs.process(pid)?;
+    let found = find(alloc, s, place, process, path, Form::Follow)?;
+    let cred = process.cred();
+    let (n, inode) = owned(s, place, cred, &found)?;
+    let uid = owner.unwrap_or(inode.uid);
+    let gid = group.unwrap_or(inode.gid);
+    check_owner(cred, &inode, uid, gid, found.step)?;
+    give_owner(s, place, n, &inode, uid, gid)?;
+    Ok(Reply::Done)
+}
