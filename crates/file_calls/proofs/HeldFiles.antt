@@ -1,22 +1,24 @@
 -- What the inode of an open file says of it.
 --     IsFile, open_file        it isn't a directory, and the inode holds its bytes
---     open_directory        it is a directory
-use Rattle.std.specs.Prelude.{◌≡◌, ◌≢◌, ℕ, true, IsFalse}
+--     open_directory, open_names, has_names, open_parent        it is a directory, with its names and its parent
+use Rattle.std.specs.Prelude.{◌≡◌, ◌≢◌, ℕ, List, true, IsFalse}
 use Rattle.std.proofs.Common.{refl, sym, ap, subst, ◌∙◌}
 use Rattle.fs_layout.specs.declared.inode.Inode.{Inode}
 use Rattle.fs_layout.specs.declared.inode.Kind.TheVariants as kinds
 use Rattle.fs_layout.specs.declared.place.Place.{Place}
 use Rattle.fs_layout.specs.Bytes.{SectorMap}
 use Rattle.fs_layout.specs.Images.{inode_at, Holds}
-use Rattle.fs_model.specs.Nodes.{Node, Body, File, Dir, Link, is_directory, is_link, bytes_in}
+use Rattle.fs_model.specs.Nodes.{Node, Body, File, Dir, Link, is_directory, is_link, names_in, bytes_in}
 use Rattle.fs_model.specs.Processes.{Desks, Descriptor}
 use Rattle.fs_model.specs.Rules.{is_directory_kind}
 use Rattle.fs_model.specs.Scenes.{node_open}
 use Rattle.fs_model.specs.States.{State}
+use Rattle.fs_model.specs.Trees.{parent, IsDirectoryAt}
+use Rattle.fs_layout.specs.Directories.{HasNames}
 use Rattle.fs_model.specs.StoredNodes.{HoldsBody}
 use Rattle.path_walk.specs.Performing.{IsStateOf}
 use Rattle.path_walk.proofs.Calling.{state_tree}
-use Rattle.path_walk.proofs.HeldNodes.{held_node, held_kind}
+use Rattle.path_walk.proofs.HeldNodes.{held_node, held_kind, held_names, held_parent}
 use Rattle.file_calls.proofs.ByDescriptor.{open_scene, IsOpened, open_fits, open_node}
 
 pub record IsFile (map : SectorMap) (v : Inode) (b : Body) : Type 0 where
@@ -39,3 +41,27 @@ module _ {p : Place} {map : SectorMap} {desks : Desks} {pid fd : ℕ} {d : Descr
   open_directory is =
       let x = open_fits o s at in
       ap (λ (n : Node). is_directory n.body) (open_node o s at) ∙ sym (held_kind (state_tree at) d.number x.node x.is_there) ∙ ap is_directory_kind is
+
+  abbrev the_directory : (inode_at p map d.number).kind ≡ kinds.Directory → IsDirectoryAt s.tree d.number
+  the_directory is =
+      let x = open_fits o s at in
+      record {
+        node = x.node;
+        is_there = x.is_there;
+        directory = sym (held_kind (state_tree at) d.number x.node x.is_there) ∙ ap is_directory_kind is;
+      }
+
+  -- its names and its parent
+  pub open_names : (v : Inode) → v ≡ inode_at p map d.number → v.kind ≡ kinds.Directory → HasNames map v (names_in (node_open (open_scene s o.process) fd).body)
+  open_names v is directory =
+      let here = held_names (state_tree at) d.number (the_directory (sym (ap (λ (w : Inode). w.kind) is) ∙ directory)) in
+      subst (λ (n : Node). HasNames map v (names_in n.body)) (sym (open_node o s at))
+      (subst (λ (w : Inode). HasNames map w (names_in (open_fits o s at).node.body)) (sym is) here)
+
+  pub open_parent : (v : Inode) → v ≡ inode_at p map d.number → v.kind ≡ kinds.Directory → v.parent ≡ parent s.tree d.number
+  open_parent v is directory =
+      ap (λ (w : Inode). w.parent) is
+      ∙ held_parent (state_tree at) d.number (the_directory (sym (ap (λ (w : Inode). w.kind) is) ∙ directory))
+
+  pub has_names : (v : Inode) → v ≡ inode_at p map d.number → v.kind ≡ kinds.Directory → (names : List (List ℕ × ℕ)) × HasNames map v names
+  has_names v is directory = (names_in (node_open (open_scene s o.process) fd).body, open_names v is directory)

@@ -2,6 +2,7 @@ pub mod ByDescriptor
 pub mod Changed
 pub mod DescriptorRows
 pub mod HeldFiles
+pub mod Listed
 pub mod Reading
 pub mod Followed
 pub mod Owned

@@ -8,6 +8,7 @@
 
 mod attributes;
 mod found;
+mod listing;
 mod opened;
 mod process;
 mod rights;
@@ -16,6 +17,7 @@ mod transfer;
 mod writes;
 
 pub use attributes::chown;
+pub use listing::readdir;
 pub use process::{close, umask};
 pub use rights::access;
 pub use show::{fstat, lstat, stat};

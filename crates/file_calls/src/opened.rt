@@ -41,3 +41,20 @@ pub(crate) fn file_open<S: Sectors>(s: &mut S, place: Place, n: u32) -> Result<I
     }
     Ok(inode)
 }
+
+/// The same, where it has to be a directory. ENOTDIR: it is none.
+pub(crate) fn directory_open<S: Sectors>(s: &mut S, place: Place, n: u32) -> Result<Inode, Refusal>
+    requires sound { IsSound place (S.state s.old) }
+    requires below { n < place.inodes }
+    ensures found { IfOk result (λ v. v ≡ inode_at place (S.state s.old).sectors n) }
+    ensures directory { IfOk result (λ v. v.kind ≡ Kind.Directory) }
+    ensures fault { IfErr result (λ e. ((e ≡ Refusal.Failed Errno.ENOTDIR) × ((inode_at place (S.state s.old).sectors n).kind ≢ Kind.Directory))
+        ⊎ ((e ≡ Refusal.Failed Errno.EIO) × HasFailed (S.state s.old).disk (S.state s.new).disk)) }
+    ensures same { IsUnchanged (S.state s.old) (S.state s.new) }
+{
+    let inode = inode_open(s, place, n)?;
+    if inode.kind != Kind::Directory {
+        return Err(Refusal::Failed(Errno::ENOTDIR));
+    }
+    Ok(inode)
+}

@@ -1,0 +1,91 @@
+-- What readdir lists.
+--     listing_begun, listing_grown, listed_as        a listing that grows
+--     readdir_by        its row
+--     readdir_refused, readdir_told        what it answers
+use Rattle.std.specs.Prelude.{◌≡◌, ◌≢◌, ◌⊎◌, ℕ, ◌+◌, ◌<◌, Bool, not, List, [], ◌∷◌, ◌++◌, length, map, take, get_or, None, Some, Result, Ok, Err, IfOk}
+use Rattle.std.proofs.Common.{refl, sym, ap, ◌∙◌, inl, inr}
+use Rattle.std.proofs.lemmas.List.{map-append, take_more}
+use Rattle.fs_cred.specs.declared.errno.Errno.TheVariants.{ENOTDIR}
+use Rattle.fs_cred.specs.declared.refusal.Refusal.{Refusal}
+use Rattle.fs_cred.specs.declared.refusal.Refusal.TheVariants.{Failed}
+use Rattle.fs_layout.specs.declared.inode.Inode.{Inode}
+use Rattle.fs_layout.specs.declared.inode.Kind.TheVariants as kinds
+use Rattle.fs_layout.specs.declared.place.Place.{Place}
+use Rattle.fs_layout.specs.Bytes.{SectorMap}
+use Rattle.fs_layout.specs.Directories.{NamedInode, HasNames}
+use Rattle.fs_layout.specs.Images.{inode_at}
+use Rattle.dir_core.specs.Slots.{name_entry}
+use Rattle.fs_model.specs.declared.call.Call.TheVariants.{Readdir}
+use Rattle.fs_model.specs.declared.reply.Reply.TheVariants.{Names}
+use Rattle.fs_model.specs.Demands.{refuse, first_of}
+use Rattle.fs_model.specs.Nodes.{names_in}
+use Rattle.fs_model.specs.Processes.{Desks, Descriptor}
+use Rattle.fs_model.specs.Rows.{row_of}
+use Rattle.fs_model.specs.Scenes.{Scene, node_open, answers, is_bad_to_read}
+use Rattle.fs_model.specs.States.{State}
+use Rattle.fs_model.specs.Trees.{parent}
+use Rattle.fs_model.specs.DescriptorCalls.{readdir_row, readdir_demands, readdir_effect}
+use Rattle.path_walk.specs.Performing.{IsStateOf}
+use Rattle.file_calls.proofs.ByDescriptor.{open_scene, IsByDescriptor, IsOpened, the_opened}
+use Rattle.file_calls.proofs.DescriptorRows.{bad_read_closed}
+use Rattle.file_calls.proofs.HeldFiles.{open_file, open_directory, open_names, open_parent}
+
+-- ---- a listing that grows
+
+abbrev pub Entries : Type 0
+Entries = List (List ℕ × ℕ)
+
+pub listing_begun : (none one two : Entries) (a b : List ℕ × ℕ) → none ≡ [] → one ≡ none ++ a ∷ [] → two ≡ one ++ b ∷ [] → two ≡ a ∷ b ∷ []
+listing_begun none one two a b empty first second =
+    second ∙ ap (λ (l : Entries). l ++ b ∷ []) (first ∙ ap (λ (l : Entries). l ++ a ∷ []) empty)
+
+pub listing_grown : (a b : List ℕ × ℕ) (now new : Entries) (slots : List NamedInode) (k : ℕ) (slot : NamedInode) (name : List ℕ) (inode : ℕ)
+    → now ≡ a ∷ b ∷ map name_entry (take k slots) → new ≡ now ++ (name, inode) ∷ [] → name ≡ slot.name → inode ≡ slot.inode
+    → slot ≡ get_or slots k slot → k < length slots → new ≡ a ∷ b ∷ map name_entry (take (k + 1) slots)
+listing_grown a b now new slots k slot name inode so_far push same_name same_inode is lt =
+    push
+    ∙ ap (λ (l : Entries). l ++ (name, inode) ∷ []) so_far
+    ∙ ap (λ (x : List ℕ). a ∷ b ∷ (map name_entry (take k slots) ++ (x, inode) ∷ [])) same_name
+    ∙ ap (λ (n : ℕ). a ∷ b ∷ (map name_entry (take k slots) ++ (slot.name, n) ∷ [])) same_inode
+    ∙ ap (λ (l : Entries). a ∷ b ∷ l) (sym (map-append name_entry (take k slots) (slot ∷ [])))
+    ∙ ap (λ (l : List NamedInode). a ∷ b ∷ map name_entry l) (ap (λ (x : NamedInode). take k slots ++ x ∷ []) is ∙ sym (take_more slots k slot lt))
+
+-- the slots of a directory are its names
+pub listed_as : (r : Result Entries Refusal) (a b : List ℕ × ℕ) (entries : Entries) (H : Entries → Type 0) → IfOk r (λ l. l ≡ a ∷ b ∷ entries)
+    → ((names : Entries) → H names → entries ≡ names) → IfOk r (λ l. (names : Entries) → H names → l ≡ a ∷ b ∷ names)
+listed_as (Ok l) a b entries H is names_are = λ names h. is ∙ ap (λ (x : Entries). a ∷ b ∷ x) (names_are names h)
+listed_as (Err e) a b entries H is names_are = tt
+
+-- ---- its row
+
+readdir_is : (fd : ℕ) → row_of (Readdir fd) ≡ readdir_row fd
+unfolding row_of
+readdir_is fd = refl
+
+pub readdir_by : (fd : ℕ) → IsByDescriptor (Readdir fd) fd (is_bad_to_read fd) (readdir_demands fd) (readdir_effect fd)
+readdir_by fd = record { row = readdir_is fd; closed = bad_read_closed fd }
+
+-- ---- what it answers
+
+module _ {p : Place} {map : SectorMap} {desks : Desks} {pid fd : ℕ} {d : Descriptor} (o : IsOpened desks pid fd d) (s : State) (at : IsStateOf p map desks s) where
+  abbrev scene : Scene
+  scene = open_scene s o.process
+
+  pub readdir_refused : {F : Type 0} (e : Refusal) → ((e ≡ Failed ENOTDIR) × ((inode_at p map d.number).kind ≢ kinds.Directory)) ⊎ F
+      → (first_of (readdir_demands fd scene) ≡ Some e) ⊎ F
+  readdir_refused e why = elim why [
+    | inl other ↦ inl (ap (λ (b : Bool). first_of (refuse ENOTDIR (not b) ∷ [])) (open_file o s at (inode_at p map d.number) refl other.1).no_directory
+        ∙ ap (λ (r : Refusal). Some r) (sym other.0))
+    | inr read ↦ inr read
+  ]
+
+  pub readdir_told : (v : Inode) → v ≡ inode_at p map d.number → v.kind ≡ kinds.Directory → (found : List (List ℕ × ℕ))
+      → ((names : List (List ℕ × ℕ)) → HasNames map v names → found ≡ (46 ∷ [], d.number) ∷ (46 ∷ 46 ∷ [], v.parent) ∷ names)
+      → (first_of (readdir_demands fd scene) ≡ None) × (readdir_effect fd scene ≡ answers scene (Names found))
+  readdir_told v is directory found lists =
+      let names = names_in (node_open scene fd).body in (
+        ap (λ (b : Bool). first_of (refuse ENOTDIR (not b) ∷ [])) (open_directory o s at (sym (ap (λ (w : Inode). w.kind) is) ∙ directory)),
+        ap (λ (x : Descriptor). answers scene (Names ((46 ∷ [], x.number) ∷ (46 ∷ 46 ∷ [], parent s.tree x.number) ∷ names))) (the_opened o)
+            ∙ ap (λ (m : ℕ). answers scene (Names ((46 ∷ [], d.number) ∷ (46 ∷ 46 ∷ [], m) ∷ names))) (sym (open_parent o s at v is directory))
+            ∙ ap (λ (l : List (List ℕ × ℕ)). answers scene (Names l)) (sym (lists names (open_names o s at v is directory))),
+      )

@@ -1,0 +1,99 @@
+//! What a directory has: POSIX.1-2017, readdir().
+
+ghost use Rattle.std.specs.Prelude.{◌≡◌, ℕ, List, [], ◌∷◌, ◌++◌, map, codes, OnOk, IfOk, IfErr};
+ghost use Rattle.fs_layout.specs.Directories.{HasNames};
+ghost use Rattle.fs_model.specs.declared.call.Call.TheVariants.{Readdir};
+ghost use Rattle.fs_model.specs.Listings.{pairs};
+ghost use Rattle.sector_txn.specs.Sectors.{IsUnchanged};
+ghost use Rattle.bit_alloc.specs.Inodes.{IsSound};
+ghost use Rattle.inode_table.specs.Inodes.{IsInodeOf};
+ghost use Rattle.dir_core.specs.Slots.{name_entry};
+ghost use Rattle.path_walk.specs.Answers.{Interrupts};
+ghost use Rattle.path_walk.specs.Performing.{IsReady, Performs};
+
+use crate::opened::directory_open;
+use dir_core::{DirFault, list};
+use fs_cred::{Errno, Refusal};
+use fs_layout::{Inode, Place, Slot};
+use fs_model::{Listing, Name, Named, Reply};
+use open_files::Procs;
+use sector_txn::Sectors;
+use std::alloc::Global;
+
+// Adds a name to others. ENOMEM: there is no memory for it.
+fn push_name(alloc: Global, names: &mut Vec<Named>, name: &[u8], inode: u32) -> Result<(), Refusal>
+    ensures added { OnOk result (pairs names.new.items ≡ pairs names.old.items ++ (name.now, inode) ∷ []) }
+    ensures fault { IfErr result (λ e. e ≡ Refusal.Failed Errno.ENOMEM) }
+{
+    let Ok(name) = Name::from_slice(alloc, name) else {
+        return Err(Refusal::Failed(Errno::ENOMEM));
+    };
+    let Ok(_) = names.push(Named { name, inode }) else {
+        return Err(Refusal::Failed(Errno::ENOMEM));
+    };
+    Ok(())
+}
+
+// The listing of directory n: itself, its parent, and its names. ENOMEM: there is no memory for it.
+fn listing(alloc: Global, n: u32, parent: u32, slots: &[Slot]) -> Result<Listing, Refusal>
+    ensures shown { IfOk result (λ names. names ≡ (codes ".", n) ∷ (codes "..", parent) ∷ map name_entry slots.now) }
+    ensures fault { IfErr result (λ e. e ≡ Refusal.Failed Errno.ENOMEM) }
+{
+    let Ok(mut names) = Vec::with_capacity(alloc, slots.len() + 2) else {
+        return Err(Refusal::Failed(Errno::ENOMEM));
+    };
+    push_name(alloc, &mut names, b".", n)?;
+    push_name(alloc, &mut names, b"..", parent)?;
+    for slot in slots {
+        push_name(alloc, &mut names, slot.name(), slot.inode())?;
+    }
+    Ok(Listing::new(names))
+}
+
+// The listing of directory n, whose inode this is.
+fn list_names<S: Sectors>(
+    alloc: Global,
+    s: &mut S,
+    place: Place,
+    n: u32,
+    inode: &Inode,
+) -> Result<Listing, Refusal>
+    requires sound { IsSound place (S.state s.old) }
+    requires there { IsInodeOf place (S.state s.old).sectors inode.now }
+    requires directory { (names : List (List ℕ × ℕ)) × HasNames (S.state s.old).sectors inode.now names }
+    ensures found { IfOk result (λ found. (names : List (List ℕ × ℕ)) → HasNames (S.state s.old).sectors inode.now names
+        → found ≡ (codes ".", n) ∷ (codes "..", inode.now.parent) ∷ names) }
+    ensures fault { IfErr result (λ e. Interrupts (S.state s.old).disk (S.state s.new).disk e) }
+    ensures same { IsUnchanged (S.state s.old) (S.state s.new) }
+{
+    let slots = match list(alloc, s, place, inode) {
+        Ok(slots) => slots,
+        Err(DirFault::OutOfMemory) => return Err(Refusal::Failed(Errno::ENOMEM)),
+        Err(_) => return Err(Refusal::Failed(Errno::EIO)),
+    };
+    listing(alloc, n, inode.parent, &slots)
+}
+
+/// Lists a directory: `.`, `..`, and its names in bytewise order.
+///
+/// EBADF: it isn't open for reading. ENOTDIR: it is no directory.
+pub fn readdir<S: Sectors>(
+    alloc: Global,
+    s: &mut S,
+    place: Place,
+    procs: &Procs,
+    pid: usize,
+    fd: usize,
+) -> Result<Reply, Refusal>
+    requires ready { IsReady place (S.state s.old) procs.now }
+    ensures performs { Performs place pid (Readdir fd) (S.state s.old) (S.state s.new) procs.now procs.now result }
+    ensures same { IsUnchanged (S.state s.old) (S.state s.new) }
+{
+    let descriptor = procs.get(pid, fd)?;
+    if !descriptor.read {
+        return Err(Refusal::Failed(Errno::EBADF));
+    }
+    let inode = directory_open(s, place, descriptor.number)?;
+    let names = list_names(alloc, s, place, descriptor.number, &inode)?;
+    Ok(Reply::Names(names))
+}
