@@ -1,9 +1,13 @@
 -- The exits of a call by a descriptor.
 --     open_scene        what such a call finds
+--     IsOpened, opened, opened_as, opened_ok        what a process has open
+--     open_fits, open_there, open_below, open_node        in a state it is there
 --     IsByDescriptor        what its row is made of
---     IsOpened, opened        what a process has open
---     closed_performs        there is no such process, or it has nothing open there
---     bad_performs, asked_performs, interrupted_performs, unread_performs        it is refused
+--     open_firm, open_late, open_after        what such a row asks and leaves
+--     still_open, offset_stays_open        what a process that changes still has open
+--     closed_firm, closed_performs        there is no such process, or it has nothing open there
+--     bad_performs        it isn't open for that
+--     asked_performs, unread_performs, interrupted_performs        it is refused after that
 --     told        it answers, and changes nothing
 --     changed_one        it answers, and changes its process
 use Rattle.std.specs.Prelude.{◌≡◌, ℕ, ◌<◌, ◌==◌, Bool, true, false, cond, List, Option, None, Some, unwrap_or, ◌⊎◌, ◌||◌, IsTrue, Result, Ok, Err, IsOk, IsErr, IsErrAnd}

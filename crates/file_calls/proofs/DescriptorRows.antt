@@ -1,4 +1,6 @@
--- The rows of calls by a descriptor, and what they ask of an inode and answer.
+-- What a process is asked about a descriptor, and what fstat answers.
+--     bad_closed, bad_read_closed, not_bad        where nothing is open, and where something is
+--     fstat_by, fstat_told        its row, and what it answers
 use Rattle.std.specs.Prelude.{◌≡◌, ℕ, Option, None, Some, is_some, unwrap_or, not}
 use Rattle.std.proofs.Common.{refl, sym, ap, ◌∙◌}
 use Rattle.fs_cred.specs.declared.errno.Errno.TheVariants.{EBADF}

@@ -1,7 +1,7 @@
 -- What read gives.
---     read_part        the bytes that are read
+--     read_part, written_back        the bytes that are read
 --     read_by        its row
---     read_fine        it is open for that
+--     read_asked        whether something is open for reading
 --     read_refused, read_told, read_ends        what it answers, and where it ends
 use Rattle.std.specs.Prelude.{◌≡◌, ◌≢◌, ◌⊎◌, ℕ, ◌+◌, ◌-◌, ◌^◌, ◌<◌, ◌≤◌, min, Bool, not, List, [], ◌∷◌, ◌++◌, length, take, drop, None, Some}
 use Rattle.std.proofs.Common.{refl, sym, ap, subst, arith, ◌∙◌, inl, inr}

@@ -1,5 +1,5 @@
 -- Where lseek moves an offset.
---     moves_out, moves_to        one number added to another
+--     moves_out, moves_to, below, not_below        one number added to another
 --     lseek_by        its row
 --     lseek_refused, lseek_lost, lseek_told        what it answers
 use Rattle.std.specs.Prelude.{◌≡◌, ◌≢◌, ◌⊎◌, ℕ, ◌^◌, ◌<◌, ◌≤◌, nat_lt, Bool, true, false, not, cond, [], ◌∷◌, Option, None, Some, is_some, unwrap_or, ℤ, pos, negsuc, ◌+ℤ◌, unsigned_abs}

@@ -1,6 +1,6 @@
 -- Calls that need the table of processes alone.
 --     settled_err        a refusal, passed on
---     umask_absent, umask_settles        what umask answers
+--     with_umask, umask_absent, umask_settles        what umask answers
 --     close_by, close_settles        what close answers
 --     umask_performs, close_performs        each call in a transaction
 use Rattle.std.specs.Prelude.{◌≡◌, ◌≢◌, ℕ, ◌%◌, [], Option, None, Some, Result, Ok, Err, IsErr, IsErrAnd}

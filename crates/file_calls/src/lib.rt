@@ -2,8 +2,8 @@
 //!
 //! Each call is made in a transaction, by the process of a number, and is one step of the abstract machine: it answers the
 //! first refusal of its demands, or has its effect on tree and process. At `Err` the caller drops the transaction's changes;
-//! the processes are as they were. ENOMEM and EIO may stand in place of any answer that comes after the checks of the
-//! arguments and of the path.
+//! the processes are as they were. [`umask`] and [`close`] need the processes alone, and no transaction. ENOMEM and EIO may
+//! stand in place of any answer that comes after the checks of the arguments and of the path.
 #![tactic(auto)]
 
 mod attributes;

@@ -35,7 +35,7 @@ fn push_name(alloc: Global, names: &mut Vec<Named>, name: &[u8], inode: u32) -> 
 }
 
 // The listing of directory n: itself, its parent, and its names. ENOMEM: there is no memory for it.
-fn listing(alloc: Global, n: u32, parent: u32, slots: &[Slot]) -> Result<Listing, Refusal>
+fn list_slots(alloc: Global, n: u32, parent: u32, slots: &[Slot]) -> Result<Listing, Refusal>
     ensures shown { IfOk result (λ names. names ≡ (codes ".", n) ∷ (codes "..", parent) ∷ map name_entry slots.now) }
     ensures fault { IfErr result (λ e. e ≡ Refusal.Failed Errno.ENOMEM) }
 {
@@ -71,7 +71,7 @@ fn list_names<S: Sectors>(
         Err(DirFault::OutOfMemory) => return Err(Refusal::Failed(Errno::ENOMEM)),
         Err(_) => return Err(Refusal::Failed(Errno::EIO)),
     };
-    listing(alloc, n, inode.parent, &slots)
+    list_slots(alloc, n, inode.parent, &slots)
 }
 
 /// Lists a directory: `.`, `..`, and its names in bytewise order.

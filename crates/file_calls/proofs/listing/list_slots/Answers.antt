@@ -4,7 +4,7 @@ use Rattle.fs_layout.specs.Directories.{NamedInode}
 use Rattle.dir_core.specs.Slots.{name_entry}
 use Rattle.fs_model.specs.Listings.{pairs}
 use Rattle.file_calls.proofs.Listed.{listing_begun, listing_grown}
-use Rattle.file_calls.proofs.listing.listing.Goals as goal
+use Rattle.file_calls.proofs.listing.list_slots.Goals as goal
 
 pub loop-slot-init : goal.loop-slot-init
 loop-slot-init c =
