@@ -8,11 +8,11 @@ ghost use Rattle.sector_txn.specs.Sectors.{IsUnchanged};
 ghost use Rattle.path_walk.specs.Performing.{IsReady, Performs};
 
 use crate::found::{find, inode_found};
-use crate::opened::inode_open;
 use fs_cred::Refusal;
 use fs_layout::{Inode, Kind, Place};
 use fs_model::{FileType, Form, Path, Reply, Status};
 use open_files::Procs;
+use path_walk::load_inode;
 use sector_txn::Sectors;
 use std::alloc::Global;
 
@@ -94,6 +94,6 @@ pub fn fstat<S: Sectors>(
     ensures same { IsUnchanged (S.state s.old) (S.state s.new) }
 {
     let descriptor = procs.get(pid, fd)?;
-    let inode = inode_open(s, place, descriptor.number)?;
+    let inode = load_inode(s, place, descriptor.number)?;
     Ok(Reply::Shown(status(descriptor.number, &inode)))
 }

@@ -1,7 +1,6 @@
 //! write: POSIX.1-2017, write().
 
 ghost use Rattle.std.specs.Prelude.{◌≡◌, ◌+◌, ◌-◌, ◌<◌, ◌≤◌, length, min, if◌then◌else◌, OnOk, IfErr};
-ghost use Rattle.sector_disk.specs.Disk.{HasFailed};
 ghost use Rattle.fs_layout.specs.declared.inode.Kind.TheVariants.{File};
 ghost use Rattle.fs_layout.specs.declared.inode.TheConstants.{MAX_FILE_SIZE};
 ghost use Rattle.fs_layout.specs.Bytes.{overwritten};
@@ -11,6 +10,7 @@ ghost use Rattle.fs_model.specs.declared.call.Call.TheVariants.{Write};
 ghost use Rattle.sector_txn.specs.Sectors.{SameStore};
 ghost use Rattle.bit_alloc.specs.Inodes.{IsSound};
 ghost use Rattle.bit_alloc.specs.Room.{HasSpare};
+ghost use Rattle.path_walk.specs.Answers.{FailsToRead};
 ghost use Rattle.path_walk.specs.Performing.{IsReady, Performs};
 ghost use Rattle.file_calls.specs.Changes.{ChangesBytes};
 
@@ -51,7 +51,7 @@ fn write_bytes<S: Sectors>(
     requires spare { HasSpare place 47 (S.state s.old) }
     ensures store { SameStore (S.state s.old) (S.state s.new) }
     ensures change { OnOk result (ChangesBytes place n (S.state s.old) (S.state s.new) (λ held. overwritten held offset bytes.now)) }
-    ensures err { IfErr result (λ refusal. (refusal ≡ Refusal.Failed Errno.EIO) × HasFailed (S.state s.old).disk (S.state s.new).disk) }
+    ensures err { IfErr result (FailsToRead (S.state s.old).disk (S.state s.new).disk) }
 {
     let mut inode = inode;
     match write_at(s, place, n, &mut inode, offset, bytes) {

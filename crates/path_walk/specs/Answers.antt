@@ -1,5 +1,6 @@
 -- What a call that asks the tree on a disk answers.
 --     refused_or        an answer, unless something refuses before it
+--     FailsToRead        the disk has failed
 --     Interrupts        memory is lacking, or the disk has failed
 --     IsCaused        EIO only where the disk has failed
 --     IsAnswered        the right answer, or one of these in its place
@@ -15,9 +16,13 @@ abbrev pub refused_or : {A : Type 0} → Demand → Result A Refusal → Result 
 refused_or None answer = answer
 refused_or (Some refusal) answer = Err refusal
 
+-- EIO, and the disk has failed since
+abbrev pub FailsToRead : DiskState → DiskState → Refusal → Type 0
+FailsToRead old new refusal = (refusal ≡ Failed EIO) × HasFailed old new
+
 -- what may stand in place of an answer: memory is lacking, or the disk has failed since
 abbrev pub Interrupts : DiskState → DiskState → Refusal → Type 0
-Interrupts old new refusal = (refusal ≡ Failed ENOMEM) ⊎ ((refusal ≡ Failed EIO) × HasFailed old new)
+Interrupts old new refusal = (refusal ≡ Failed ENOMEM) ⊎ FailsToRead old new refusal
 
 -- where it is EIO, the disk has failed since
 abbrev pub IsCaused : DiskState → DiskState → Refusal → Type 0

@@ -5,10 +5,9 @@ ghost use Rattle.fs_layout.specs.Images.{inode_at};
 ghost use Rattle.fs_model.specs.Nodes.{names_in};
 ghost use Rattle.fs_model.specs.Trails.{named_inode};
 ghost use Rattle.fs_model.specs.Trees.{Tree, IsDirectoryAt};
-ghost use Rattle.sector_disk.specs.Disk.{HasFailed};
 ghost use Rattle.sector_txn.specs.Sectors.{IsUnchanged};
 ghost use Rattle.bit_alloc.specs.Inodes.{IsSound};
-ghost use Rattle.path_walk.specs.Answers.{Interrupts, IsAnswered};
+ghost use Rattle.path_walk.specs.Answers.{FailsToRead, Interrupts, IsAnswered};
 ghost use Rattle.path_walk.specs.HeldTrees.{HoldsTree};
 ghost use Rattle.path_walk.specs.SoundInodes.{LeadsOn};
 
@@ -24,7 +23,8 @@ pub fn load_inode<S: Sectors>(s: &mut S, place: Place, n: u32) -> Result<Inode, 
     requires sound { IsSound place (S.state s.old) }
     requires below { n < place.inodes }
     ensures each { IsAnswered (S.state s.old).disk (S.state s.new).disk (Ok (inode_at place (S.state s.old).sectors n)) result }
-    ensures fault { IfErr result (λ refusal. (refusal ≡ Refusal.Failed Errno.EIO) × HasFailed (S.state s.old).disk (S.state s.new).disk) }
+    ensures found { IfOk result (λ inode. inode ≡ inode_at place (S.state s.old).sectors n) }
+    ensures fault { IfErr result (FailsToRead (S.state s.old).disk (S.state s.new).disk) }
     ensures same { IsUnchanged (S.state s.old) (S.state s.new) }
 {
     match load(s, place, n) {

@@ -1,7 +1,6 @@
 //! The space that a call asks for before it takes any.
 
 ghost use Rattle.std.specs.Prelude.{◌≡◌, ◌<◌, ◌⊎◌, ◌==◌, nat_lt, Ok, IfErr};
-ghost use Rattle.sector_disk.specs.Disk.{HasFailed};
 ghost use Rattle.fs_cred.specs.declared.errno.Errno.TheVariants.{ENOSPC};
 ghost use Rattle.fs_layout.specs.Images.{free_sectors};
 ghost use Rattle.fs_model.specs.Demands.{refuse};
@@ -9,7 +8,7 @@ ghost use Rattle.fs_model.specs.Limits.{least_free};
 ghost use Rattle.sector_txn.specs.Sectors.{IsUnchanged};
 ghost use Rattle.bit_alloc.specs.Bitmaps.{HasBitmaps, free_numbers};
 ghost use Rattle.bit_alloc.specs.declared.bitmap.Bitmap.TheVariants.{Inodes};
-ghost use Rattle.path_walk.specs.Answers.{refused_or, IsAnswered};
+ghost use Rattle.path_walk.specs.Answers.{refused_or, FailsToRead, IsAnswered};
 
 use bit_alloc::{Bitmap, has_free};
 use fs_cred::{Errno, Refusal};
@@ -24,8 +23,9 @@ fn ask_for<S: Sectors>(s: &mut S, place: Place, map: Bitmap, count: u32) -> Resu
     requires { HasBitmaps place (S.state s.old) }
     ensures each { IsAnswered (S.state s.old).disk (S.state s.new).disk
         (refused_or (refuse ENOSPC (nat_lt (free_numbers place map (S.state s.old).sectors) count)) (Ok tt)) result }
-    ensures fault { IfErr result (λ refusal. ((refusal ≡ Refusal.Failed Errno.ENOSPC) × (free_numbers place map (S.state s.old).sectors < count))
-        ⊎ ((refusal ≡ Refusal.Failed Errno.EIO) × HasFailed (S.state s.old).disk (S.state s.new).disk)) }
+    ensures fault { IfErr result (λ refusal.
+        ((refusal ≡ Refusal.Failed Errno.ENOSPC) × (free_numbers place map (S.state s.old).sectors < count))
+        ⊎ FailsToRead (S.state s.old).disk (S.state s.new).disk refusal) }
     ensures same { IsUnchanged (S.state s.old) (S.state s.new) }
 {
     match has_free(s, place, map, count) {
@@ -40,8 +40,9 @@ pub fn ask_for_sectors<S: Sectors>(s: &mut S, place: Place) -> Result<(), Refusa
     requires { HasBitmaps place (S.state s.old) }
     ensures each { IsAnswered (S.state s.old).disk (S.state s.new).disk
         (refused_or (refuse ENOSPC (nat_lt (free_sectors place (S.state s.old).sectors) least_free)) (Ok tt)) result }
-    ensures fault { IfErr result (λ refusal. ((refusal ≡ Refusal.Failed Errno.ENOSPC) × (free_sectors place (S.state s.old).sectors < least_free))
-        ⊎ ((refusal ≡ Refusal.Failed Errno.EIO) × HasFailed (S.state s.old).disk (S.state s.new).disk)) }
+    ensures fault { IfErr result (λ refusal.
+        ((refusal ≡ Refusal.Failed Errno.ENOSPC) × (free_sectors place (S.state s.old).sectors < least_free))
+        ⊎ FailsToRead (S.state s.old).disk (S.state s.new).disk refusal) }
     ensures same { IsUnchanged (S.state s.old) (S.state s.new) }
 {
     ask_for(s, place, Bitmap::Blocks, LEAST_FREE)

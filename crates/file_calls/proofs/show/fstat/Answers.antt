@@ -14,8 +14,8 @@ returns-in_err-descriptor-clause-performs g c =
     closed_performs c.args.pid (fstat_by c.args.fd) (g.S.Sectors.state c.args.s.now) c.in_err-descriptor.field-0.0 (sym c.in_err-descriptor.ensures.answer)
     c.from_residual.result r.0 r.1
 
-pub inode_open-requires-clause-below : goal.inode_open-requires-clause-below
-inode_open-requires-clause-below g c =
+pub load_inode-requires-clause-below : goal.load_inode-requires-clause-below
+load_inode-requires-clause-below g c =
     let o = opened_as c.args.procs.now c.args.pid c.args.fd c.descriptor.view_is c.in_ok-descriptor.ensures.answer in
     open_below o c.requires.ready.state c.requires.ready.is_state
 
@@ -24,7 +24,7 @@ returns-in_err-inode-clause-performs g c =
     let o = opened_as c.args.procs.now c.args.pid c.args.fd c.descriptor.view_is c.in_ok-descriptor.ensures.answer in
     let r = c.from_residual-in_err-inode.ensures in
     let failed = c.in_err-inode.ensures in
-    unread_performs c.args.pid (fstat_by c.args.fd) (g.S.Sectors.state c.args.s.now) o (not_bad o) (g.S.Sectors.state c.inode_open.new.s)
+    unread_performs c.args.pid (fstat_by c.args.fd) (g.S.Sectors.state c.args.s.now) o (not_bad o) (g.S.Sectors.state c.load_inode.new.s)
     c.from_residual-in_err-inode.result c.in_err-inode.field-0.0 r.0 r.1 failed.same.store (λ s at. inr failed.fault)
 
 pub status-requires : goal.status-requires
@@ -39,5 +39,5 @@ status-requires g c =
 pub returns-clause-performs : goal.returns-clause-performs
 returns-clause-performs g c =
     let o = opened_as c.args.procs.now c.args.pid c.args.fd c.descriptor.view_is c.in_ok-descriptor.ensures.answer in
-    told c.args.pid (fstat_by c.args.fd) (g.S.Sectors.state c.args.s.now) o (not_bad o) (g.S.Sectors.state c.inode_open.new.s)
+    told c.args.pid (fstat_by c.args.fd) (g.S.Sectors.state c.args.s.now) o (not_bad o) (g.S.Sectors.state c.load_inode.new.s)
     c.in_ok-inode.ensures.same (Shown c.status.result) (fstat_told o c.in_ok-inode.inode c.status.result c.in_ok-inode.ensures.found c.status.ensures)
