@@ -16,6 +16,7 @@ pub mod Moves
 pub mod NewDiskStands
 pub mod NewImages
 pub mod NoIoErrors
+pub mod NoIoReplies
 pub mod OneNode
 pub mod OneTree
 pub mod PlacedChanges

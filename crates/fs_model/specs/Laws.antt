@@ -18,7 +18,7 @@ use Rattle.fs_layout.specs.Ownership.{Agrees}
 use Rattle.fs_layout.specs.Recovered.{recovered}
 use Rattle.fs_model.specs.declared.event.Event.{Event}
 use Rattle.fs_model.specs.declared.event.EventReply.TheVariants.{Reply as Replies}
-use Rattle.fs_model.specs.declared.reply.Reply.TheVariants.{Done}
+use Rattle.fs_model.specs.declared.reply.Reply.TheVariants.{Done, Refused}
 use Rattle.fs_model.specs.declared.reply.Reply.{Reply}
 use Rattle.fs_model.specs.declared.reply.FileType.{FileType}
 use Rattle.fs_layout.specs.Maps.{get, with_entry, IsMap}
@@ -32,7 +32,7 @@ use Rattle.fs_model.specs.declared.walk.Form.{Form}
 use Rattle.fs_model.specs.declared.walk.Form.TheVariants.{Follow}
 use Rattle.fs_model.specs.Trails.{Lookup, trail_of}
 use Rattle.fs_model.specs.Walks.{lookup_refusal, least_refusal, IsLeastRefusal, first_refusal}
-use Rattle.fs_model.specs.Steps.{Step, firm_refusal, other_refusal}
+use Rattle.fs_model.specs.Steps.{Step, Choice, firm_refusal, other_refusal, after}
 use Rattle.fs_model.specs.Stops.{Machine, MachineStep, Stops, asks_stable}
 use Rattle.fs_model.specs.Ranges.{IsEvent}
 use Rattle.fs_model.specs.StoredNodes.{Placed, HoldsNode}
@@ -66,6 +66,10 @@ FirmRefusesOtherwise = (s : State) (e : Event) → firm_refusal s e ≢ Some (Fa
 -- and none late.
 abbrev pub OtherRefusesOtherwise : Type 0
 OtherRefusesOtherwise = (s : State) (e : Event) → other_refusal s e ≢ Some (Failed EIO)
+
+-- Nor is it what an event answers where nothing refuses.
+abbrev pub EffectsAnswerOtherwise : Type 0
+EffectsAnswerOtherwise = (s : State) (e : Event) (choice : Choice) → (after s e choice).reply ≢ Refused (Failed EIO)
 
 -- Without its nameless files a tree is a tree.
 abbrev pub PruningKeeps : Type 0

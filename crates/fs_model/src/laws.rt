@@ -1,6 +1,6 @@
 //! The laws of the definitions: each is the contract of a function that changes nothing.
 ghost use Rattle.fs_cred.specs.Laws.{HasAnAnswer, HasOneAnswer, VerdictDecides};
-ghost use Rattle.fs_model.specs.Laws.{AccessKindsAgree, CountsFit, FindingRefuses, FindsAreThere, FirmRefusesOtherwise, FollowedAreNoLinks, FreeAreClear, NewDiskStands, NewImagesExist, NoneRefuses, NothingToDrop, NumbersAreCounts, ObeyingStands, OneFinding, OneNodeChanges, OpenStays, OtherRefusesOtherwise, PruningKeeps, RefusesLeast, RewritingKeeps, SameProcessStays, SomeImageStands, StandingObeys, StandingRests, StandingRestsOnReading, StandsForOne, StepsKeep, StoredKindsAgree, SyncingKeeps, TypesComeBack, WalksRefuseOtherwise};
+ghost use Rattle.fs_model.specs.Laws.{AccessKindsAgree, CountsFit, EffectsAnswerOtherwise, FindingRefuses, FindsAreThere, FirmRefusesOtherwise, FollowedAreNoLinks, FreeAreClear, NewDiskStands, NewImagesExist, NoneRefuses, NothingToDrop, NumbersAreCounts, ObeyingStands, OneFinding, OneNodeChanges, OpenStays, OtherRefusesOtherwise, PruningKeeps, RefusesLeast, RewritingKeeps, SameProcessStays, SomeImageStands, StandingObeys, StandingRests, StandingRestsOnReading, StandsForOne, StepsKeep, StoredKindsAgree, SyncingKeeps, TypesComeBack, WalksRefuseOtherwise};
 ghost use Rattle.fs_model.specs.Ranges.{IsSomeId, IsCall};
 ghost use Rattle.posix_acl.specs.AccessList.{IsSomeAcl};
 
@@ -22,11 +22,12 @@ pub fn first_refusal_is_least()
     ensures none { NoneRefuses }
 {}
 
-/// No demand refuses with EIO: that is answered where the disk has failed.
+/// No demand refuses with EIO, and no effect answers it: that is answered where the disk has failed.
 pub fn no_demand_is_an_io_error()
     ensures walks { WalksRefuseOtherwise }
     ensures firm { FirmRefusesOtherwise }
     ensures other { OtherRefusesOtherwise }
+    ensures effects { EffectsAnswerOtherwise }
 {}
 
 // What is read is in the range of its type.
