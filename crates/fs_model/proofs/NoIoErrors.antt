@@ -44,16 +44,16 @@ use Rattle.fs_model.specs.Steps.{scene_of, walk_refusals, early_refusal, late_re
 
 -- ---- one demand, and several
 
-abbrev is_eio : Errno → Bool
+abbrev pub is_eio : Errno → Bool
 is_eio EIO = true
 is_eio _ = false
 
-abbrev asks_eio : Demand → Bool
+abbrev pub asks_eio : Demand → Bool
 asks_eio (Some (Failed e)) = is_eio e
 asks_eio _ = false
 
 -- it doesn't refuse with EIO
-abbrev Spares : Demand → Type 0
+abbrev pub Spares : Demand → Type 0
 Spares d = asks_eio d ≡ false
 
 not_eio : (d : Demand) → Spares d → d ≢ Some (Failed EIO)
@@ -374,7 +374,7 @@ process_spares : (f : Process → Demand) (o : Option Process) → ((p : Process
 process_spares f None each = refl
 process_spares f (Some p) each = each p
 
-firm_spares : (s : State) (e : Event) → Spares (firm_refusal s e)
+pub firm_spares : (s : State) (e : Event) → Spares (firm_refusal s e)
 unfolding firm_refusal
 firm_spares s (Calls pid call) =
     process_spares (λ p. early_refusal p (row_of call)) (get nat_cmp s.desks pid) (λ p. early_spares p (row_of call) (row_spares call))
@@ -386,7 +386,7 @@ firm_spares s Statfs = refl
 firm_spares s (Arm k) = refl
 firm_spares s (Restart choice arm) = refl
 
-other_spares : (s : State) (e : Event) → Spares (other_refusal s e)
+pub other_spares : (s : State) (e : Event) → Spares (other_refusal s e)
 unfolding other_refusal
 other_spares s (Calls pid call) =
     process_spares (λ p. late_refusal s p (row_of call)) (get nat_cmp s.desks pid) (λ p. late_spares s p (row_of call) (row_spares call))

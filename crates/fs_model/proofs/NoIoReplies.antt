@@ -5,7 +5,8 @@ use Rattle.std.specs.Ordering.{nat_cmp}
 use Rattle.posix_acl.specs.declared.entry.Perms.{Perms}
 use Rattle.fs_cred.specs.declared.errno.Errno.TheVariants.{EIO}
 use Rattle.fs_cred.specs.declared.node.Node.{Node as AccessNode}
-use Rattle.fs_cred.specs.declared.refusal.Refusal.TheVariants.{Failed}
+use Rattle.fs_cred.specs.declared.refusal.Refusal.{Refusal}
+use Rattle.fs_cred.specs.declared.refusal.Refusal.TheVariants.{Denied, Failed}
 use Rattle.fs_cred.specs.Credentials.{Credential}
 use Rattle.fs_layout.specs.Maps.{get}
 use Rattle.fs_model.specs.declared.call.Call.{Call}
@@ -15,14 +16,16 @@ use Rattle.fs_model.specs.declared.event.Event.TheVariants.{Spawn, Exit, Call as
 use Rattle.fs_model.specs.declared.reply.Reply.TheVariants.{Wrote, Refused}
 use Rattle.fs_model.specs.AttributeCalls.{granted_by}
 use Rattle.fs_model.specs.Changes.{Rewrite}
+use Rattle.fs_model.specs.Demands.{Demand}
 use Rattle.fs_model.specs.DescriptorCalls.{write_offset, write_count, write_effect, written}
 use Rattle.fs_model.specs.Parts.{is_empty}
 use Rattle.fs_model.specs.Processes.{Process, the_descriptor, with_offset}
 use Rattle.fs_model.specs.Rows.{row_of}
 use Rattle.fs_model.specs.Scenes.{Scene, answers, node_open}
 use Rattle.fs_model.specs.States.{State}
-use Rattle.fs_model.specs.Steps.{Choice, after, after_call}
+use Rattle.fs_model.specs.Steps.{Choice, firm_refusal, other_refusal, after, after_call}
 use Rattle.fs_model.specs.Stops.{is_io_error}
+use Rattle.fs_model.proofs.NoIoErrors.{asks_eio, firm_spares, other_spares}
 
 granted_spares : (cred : Credential) (want : Perms) (o : Option AccessNode) → is_io_error (granted_by cred want o) ≡ false
 granted_spares cred want None = refl
@@ -81,6 +84,21 @@ event_answers s Sync choice = refl
 event_answers s Statfs choice = refl
 event_answers s (Arm k) choice = refl
 event_answers s (Restart bytes arm) choice = refl
+
+-- ---- what refuses
+
+same_test : (r : Refusal) → is_io_error (Refused r) ≡ asks_eio (Some r)
+same_test (Failed e) = refl
+same_test (Denied denial) = refl
+
+refusal_spares : (r : Refusal) (d : Demand) → asks_eio d ≡ false → d ≡ Some r → is_io_error (Refused r) ≡ false
+refusal_spares r d spares is = same_test r ∙ sym (ap asks_eio is) ∙ spares
+
+pub firm_spares_reply : (s : State) (e : Event) (r : Refusal) → firm_refusal s e ≡ Some r → is_io_error (Refused r) ≡ false
+firm_spares_reply s e r is = refusal_spares r (firm_refusal s e) (firm_spares s e) is
+
+pub other_spares_reply : (s : State) (e : Event) (r : Refusal) → other_refusal s e ≡ Some r → is_io_error (Refused r) ≡ false
+other_spares_reply s e r is = refusal_spares r (other_refusal s e) (other_spares s e) is
 
 -- ---- the law
 

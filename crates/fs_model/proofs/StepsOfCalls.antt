@@ -38,13 +38,13 @@ use Rattle.fs_model.proofs.StepsSwept.{MayBeLeft}
 
 -- ---- its walks
 
-abbrev Walks : Type 0
+abbrev pub Walks : Type 0
 Walks = List (Form × List ℕ)
 
-abbrev AreBytes : Walks → Type 0
+abbrev pub AreBytes : Walks → Type 0
 AreBytes walks = AllByRecursion (λ w. IsBytes w.1) walks
 
-call_paths : (call : Call) → IsCall call → AreBytes (row_of call).walks
+pub call_paths : (call : Call) → IsCall call → AreBytes (row_of call).walks
 unfolding row_of
 call_paths (Open path flags mode) is = (is.0, tt)
 call_paths (Read fd len) is = tt
@@ -73,7 +73,7 @@ call_paths (Chdir path) is = (is, tt)
 call_paths (Umask mask) is = tt
 
 -- what the first walk found, and the second
-abbrev FirstWalked : Scene → Walks → Type 0
+abbrev pub FirstWalked : Scene → Walks → Type 0
 FirstWalked c [] = Unit {0}
 FirstWalked c (walk ∷ _) = IsWalked c.state.tree walk.0 c.first
 
@@ -82,7 +82,7 @@ SecondWalked c [] = Unit {0}
 SecondWalked c (_ ∷ []) = Unit {0}
 SecondWalked c (_ ∷ walk ∷ _) = IsWalked c.state.tree walk.0 c.second
 
-first_walked : (s : State) (p : Process) (row : Row) (walks : Walks) → IsTree s.room s.tree → row.walks ≡ walks → AreBytes walks
+pub first_walked : (s : State) (p : Process) (row : Row) (walks : Walks) → IsTree s.room s.tree → row.walks ≡ walks → AreBytes walks
     → AreMet (flat_map (λ w. path_checks w.1) walks) → AreMet (walk_refusals s.tree p 1 walks) → FirstWalked (scene_of s p row) walks
 first_walked s p row [] is e bytes asked met = tt
 first_walked s p row (walk ∷ walks) is e bytes asked met =

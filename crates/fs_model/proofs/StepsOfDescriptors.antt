@@ -38,7 +38,7 @@ module _ (c : Scene) (is : IsScene c) where
   answer_fits reply = no_change_fits c.state c.process reply is.state is.process
 
   module _ (fd : ℕ) (here : descriptor c.process fd ≡ Some (the_descriptor c.process fd)) where
-    open_at : node_at c.state.tree (the_descriptor c.process fd).number ≡ Some (node_open c fd)
+    pub open_at : node_at c.state.tree (the_descriptor c.process fd).number ≡ Some (node_open c fd)
     open_at =
         let x = is.process.each fd (the_descriptor c.process fd) here in
         node_is_there c.state.tree (the_descriptor c.process fd).number (ap is_some x.is_there)
@@ -107,10 +107,10 @@ module _ (c : Scene) (is : IsScene c) where
   read_fits fd len asked =
       read_fits_here fd (is_read_here c.process fd (not-false _ (unrefused EBADF (not (the_descriptor c.process fd).read) asked.0))) len
 
-  here_if_open : (fd : ℕ) → AreMet (is_bad fd c.process ∷ []) → descriptor c.process fd ≡ Some (the_descriptor c.process fd)
+  pub here_if_open : (fd : ℕ) → AreMet (is_bad fd c.process ∷ []) → descriptor c.process fd ≡ Some (the_descriptor c.process fd)
   here_if_open fd asked = is_open_here c.process fd (not-false _ (unrefused EBADF (not (is_some (descriptor c.process fd))) asked.0))
 
-  here_if_written : (fd : ℕ) → AreMet (is_bad_to_write fd c.process ∷ []) → descriptor c.process fd ≡ Some (the_descriptor c.process fd)
+  pub here_if_written : (fd : ℕ) → AreMet (is_bad_to_write fd c.process ∷ []) → descriptor c.process fd ≡ Some (the_descriptor c.process fd)
   here_if_written fd asked = is_written_here c.process fd (not-false _ (unrefused EBADF (not (the_descriptor c.process fd).write) asked.0))
 
   pub lseek_fits : (fd : ℕ) (whence : Whence) (by : ℤ) → AreMet (is_bad fd c.process ∷ []) → EffectFits c.state (lseek_effect fd whence by c)

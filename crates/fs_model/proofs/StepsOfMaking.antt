@@ -62,13 +62,13 @@ module _ (c : Scene) (is : IsScene c) (name : IsNameAt c.state.tree c.first.dir 
   abbrev Place : Node
   Place = dir_node c c.first
 
-  dir_at : node_at c.state.tree c.first.dir ≡ Some (dir_node c c.first)
+  pub dir_at : node_at c.state.tree c.first.dir ≡ Some (dir_node c c.first)
   dir_at = (dir_is_there c.state.tree c.first.dir c.first.name None name).0
 
   has_room : length (names_in (dir_node c c.first).body) < entries_limit
   has_room = let full : nat_le entries_limit (length (names_in (dir_node c c.first).body)) ≡ false = unrefused ENOSPC _ met in grind (arith, nat_tests)
 
-  adds : (new : Node) → IsNewborn c.state.room c.state.tree new
+  pub adds : (new : Node) → IsNewborn c.state.room c.state.tree new
       → AddsName c.state.room c.state.tree (with_node c.state.tree n new) c.first.dir (dir_node c c.first) c.first.name n new
   adds new newborn =
       let x = dir_is_there c.state.tree c.first.dir c.first.name None name in
@@ -78,7 +78,7 @@ module _ (c : Scene) (is : IsScene c) (name : IsNameAt c.state.tree c.first.dir 
   abbrev made : Node → Tree
   made new = changed c.state.tree (Make c.first.dir c.first.name n new)
 
-  made_is : (new : Node) → IsNewborn c.state.room c.state.tree new
+  pub made_is : (new : Node) → IsNewborn c.state.room c.state.tree new
       → made new ≡ renamed (with_node c.state.tree n new) c.first.dir (dir_node c c.first) (with_entry name_cmp (names_in (dir_node c c.first).body) c.first.name n)
   made_is new newborn =
       let a = adds new newborn in
@@ -110,7 +110,7 @@ module _ (c : Scene) (is : IsScene c) (name : IsNameAt c.state.tree c.first.dir 
       let types = made_keeps_types new newborn in
       record { tree = made_is_tree new newborn; types = types; process = process_moves c.state.tree (made new) types c.process is.process }
 
-  small_group : (dir_node c c.first).group < 2 ^ 32
+  pub small_group : (dir_node c c.first).group < 2 ^ 32
   small_group = (is.state.tree.each c.first.dir (dir_node c c.first) dir_at).group
 
   pub mkdir_fits : (mode : ℕ) → EffectFits c.state (mkdir_effect mode c n)
