@@ -1,16 +1,18 @@
--- The exit of a call by one path that has changed the tree.
+-- Exits of a call by one path: before its path is read, and after it has changed the tree.
+--     argument_performs        an argument is refused
 --     IsChange        nothing refuses it, and what it leaves
 --     change_performs        it is done
 --     rewritten, rewrites_found        the node that was found is made another
-use Rattle.std.specs.Prelude.{◌≡◌, ℕ, List, None, Some, IsTrue, Ok}
+use Rattle.std.specs.Prelude.{◌≡◌, ℕ, List, [], ◌++◌, None, Some, IsTrue, Result, Ok, IsErr, IsErrAnd}
 use Rattle.std.proofs.Common.{ap, subst, ◌∙◌}
 use Rattle.std.specs.Ordering.{nat_cmp}
+use Rattle.fs_cred.specs.declared.refusal.Refusal.{Refusal}
 use Rattle.fs_layout.specs.declared.place.Place.{Place}
 use Rattle.fs_layout.specs.Bytes.{SectorMap}
 use Rattle.fs_layout.specs.Images.{inode_at}
 use Rattle.fs_layout.specs.Maps.{get}
 use Rattle.sector_txn.specs.Sectors.{TxnState, SameStore, IsUnchanged}
-use Rattle.sector_txn.proofs.Changes.{store_joined}
+use Rattle.sector_txn.proofs.Changes.{store_same, store_joined}
 use Rattle.fs_model.specs.declared.call.Call.{Call}
 use Rattle.fs_model.specs.declared.reply.Reply.{Reply}
 use Rattle.fs_model.specs.declared.reply.Reply.TheVariants.{Done}
@@ -18,14 +20,15 @@ use Rattle.fs_model.specs.declared.walk.Form.{Form}
 use Rattle.fs_model.specs.declared.walk.Found.{Found}
 use Rattle.fs_model.specs.Births.{the_node}
 use Rattle.fs_model.specs.Changes.{Change, Rewrite, changed, swept}
-use Rattle.fs_model.specs.Demands.{Demand, first_of}
+use Rattle.fs_model.specs.Demands.{Demand, or_else, first_of}
+use Rattle.fs_model.specs.Rows.{row_of}
 use Rattle.fs_model.specs.Nodes.{Node}
 use Rattle.fs_model.specs.Parts.{path_checks}
 use Rattle.fs_model.specs.Processes.{Process, Desks, is_open}
-use Rattle.fs_model.specs.Scenes.{Scene, Effect, number, rewrites}
+use Rattle.fs_model.specs.Scenes.{Scene, Effect, number, rewrites, by_path}
 use Rattle.fs_model.specs.Stands.{HoldsAll, placed}
 use Rattle.fs_model.specs.States.{State}
-use Rattle.fs_model.specs.Steps.{HasNewNumber, after_effect}
+use Rattle.fs_model.specs.Steps.{HasNewNumber, after_effect, early_refusal}
 use Rattle.fs_model.specs.StoredNodes.{HoldsNode}
 use Rattle.fs_model.specs.Trees.{Tree, node_at, names_of, parent}
 use Rattle.fs_model.proofs.PlacedChanges.{rewrite_held}
@@ -35,10 +38,26 @@ use Rattle.path_walk.specs.Answers.{IsAnswered}
 use Rattle.path_walk.specs.HeldTrees.{HoldsTree, IsThere}
 use Rattle.path_walk.specs.Paths.{scene_at, HasFound}
 use Rattle.path_walk.specs.Performing.{IsStateOf, Performs}
+use Rattle.path_walk.specs.Performing as why
 use Rattle.path_walk.specs.Walked.{walk_of}
-use Rattle.path_walk.proofs.ByPath.{IsByPath, has_found}
-use Rattle.path_walk.proofs.Calling.{same_process, state_kept, found_firm, found_late, found_after}
+use Rattle.path_walk.proofs.ByPath.{IsByPath, has_found, refused_performs}
+use Rattle.path_walk.proofs.Calling.{early_is, first_of-append, or_else-none, same_process, state_kept, found_firm, found_late, found_after}
 use Rattle.file_calls.specs.Given.{ChangesOne}
+
+-- ---- an argument is refused
+
+module _ {p : Place} (pid : ℕ) {call : Call} {form : Form} {path : List ℕ} {demands : Scene → List Demand} {effect : Scene → ℕ → Effect} (arguments : List Demand)
+    (row : row_of call ≡ by_path arguments form path demands effect) {txn : TxnState} {desks : Desks} (q : Process) (there : get nat_cmp desks pid ≡ Some q) where
+  pub argument_performs : (r : Result Reply Refusal) (e : Refusal) → IsErr r → IsErrAnd r (λ y. y ≡ e) → first_of arguments ≡ Some e
+      → Performs p pid call txn txn desks desks r
+  argument_performs r e err and refuses = refused_performs r e err and store_same
+      (λ s at. why.early (early_is s pid q call (same_process at pid q there) ∙ ap (early_refusal q) row
+      ∙ first_of-append (arguments ++ path_checks path) []
+      ∙ or_else-none (first_of (arguments ++ path_checks path))
+      ∙ first_of-append arguments (path_checks path)
+      ∙ ap (λ (d : Demand). or_else d (first_of (path_checks path))) refuses))
+
+-- ---- a change
 
 -- its demands are met, and the map holds the tree that its effect leaves
 pub record IsChange (p : Place) (map : SectorMap) (desks : Desks) (s : State) (q : Process) (asked : List Demand) (effect : ℕ → Effect) (reply : Reply) : Type 0 where

@@ -1,5 +1,5 @@
 -- What is found where a link at the end of a path is followed: a file or a directory, on which access is decided.
-use Rattle.std.specs.Prelude.{◌≡◌, ℕ, Bool, true, false, List, Option, None, Some, is_some, unwrap_or, option_and_then, Result, Ok, Err}
+use Rattle.std.specs.Prelude.{◌≡◌, ℕ, false, List, None, Some, unwrap_or, option_and_then, Ok, Err}
 use Rattle.std.proofs.Common.{refl, sym, ap, subst, ◌∙◌}
 use Rattle.posix_acl.specs.declared.entry.Perms.{Perms}
 use Rattle.fs_cred.specs.declared.node.Node.{Node as AccessNode}
@@ -17,12 +17,12 @@ use Rattle.fs_layout.specs.Bytes.{SectorMap}
 use Rattle.fs_model.specs.declared.walk.Form.TheVariants.{Follow}
 use Rattle.fs_model.specs.declared.walk.Found.{Found}
 use Rattle.fs_model.specs.declared.reply.Reply.TheVariants.{Granted}
-use Rattle.fs_model.specs.AttributeCalls.{access_demands, access_effect, granted_by}
+use Rattle.fs_model.specs.AttributeCalls.{access_effect, granted_by}
 use Rattle.fs_model.specs.Births.{no_node}
 use Rattle.fs_model.specs.Demands.{Demand, accessed_at, decided, permission_of, permission_on}
 use Rattle.fs_model.specs.Nodes.{Node, Body, File, Dir, Link, accessed, accessed_body, is_link}
 use Rattle.fs_model.specs.Processes.{Process, Desks}
-use Rattle.fs_model.specs.Scenes.{number, must_be_there, node_found, permission_at_end, answers}
+use Rattle.fs_model.specs.Scenes.{number, node_found, permission_at_end, answers}
 use Rattle.fs_model.specs.States.{State}
 use Rattle.fs_model.specs.Trees.{Tree, node_at}
 use Rattle.fs_model.proofs.Followed.{followed_no_link}

@@ -5,6 +5,7 @@ pub mod HeldFiles
 pub mod Listed
 pub mod Reading
 pub mod Followed
+pub mod Moded
 pub mod Owned
 pub mod Rows
 pub mod Seeking

@@ -1,12 +1,14 @@
 -- The rows of calls by one path.
-use Rattle.std.specs.Prelude.{◌≡◌, ℕ, List, [], Option, None, Some}
-use Rattle.std.proofs.Common.{refl}
+use Rattle.std.specs.Prelude.{◌≡◌, ℕ, List, [], ◌∷◌, Option, None}
+use Rattle.std.proofs.Common.{refl, ap}
 use Rattle.posix_acl.specs.declared.entry.Perms.{Perms}
 use Rattle.fs_model.specs.declared.call.AclType.{AclType}
-use Rattle.fs_model.specs.declared.call.Call.TheVariants.{Stat, Lstat, Access, GetAcl, Truncate, Chown}
+use Rattle.fs_model.specs.declared.call.Call.TheVariants.{Stat, Lstat, Access, GetAcl, Truncate, Chmod, Chown}
 use Rattle.fs_model.specs.declared.walk.Form.TheVariants.{Follow, NoFollow}
+use Rattle.fs_model.specs.Demands.{Demand, or_else}
 use Rattle.fs_model.specs.Rows.{row_of}
-use Rattle.fs_model.specs.AttributeCalls.{stat_row, lstat_row, access_row, get_acl_row, truncate_row, chown_row, stat_demands, stat_effect, access_demands, access_effect, get_acl_effect, truncate_demands, truncate_effect, chown_demands, chown_effect}
+use Rattle.fs_model.specs.Scenes.{check_of_mode}
+use Rattle.fs_model.specs.AttributeCalls.{stat_row, lstat_row, access_row, get_acl_row, truncate_row, chmod_row, chown_row, stat_demands, stat_effect, access_demands, access_effect, get_acl_effect, truncate_demands, truncate_effect, chmod_demands, chmod_effect, chown_demands, chown_effect}
 use Rattle.path_walk.proofs.ByPath.{IsByPath}
 
 module _ (path : List ℕ) where
@@ -51,3 +53,16 @@ module _ (path : List ℕ) where
 
   pub chown_by_path : (owner group : Option ℕ) → IsByPath (Chown path owner group) Follow path (chown_demands owner group) (chown_effect owner group)
   chown_by_path owner group = record { arguments = []; row = chown_is owner group; met = refl; asks = refl }
+
+  pub chmod_is : (mode : ℕ) → row_of (Chmod path mode) ≡ chmod_row path mode
+  unfolding row_of
+  chmod_is mode = refl
+
+  -- the mode has no other bits
+  pub chmod_by_path : (mode : ℕ) → check_of_mode mode ≡ None → IsByPath (Chmod path mode) Follow path chmod_demands (chmod_effect mode)
+  chmod_by_path mode none = record {
+    arguments = check_of_mode mode ∷ [];
+    row = chmod_is mode;
+    met = ap (λ (d : Demand). or_else d None) none;
+    asks = refl;
+  }

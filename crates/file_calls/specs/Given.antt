@@ -1,12 +1,18 @@
 -- What a call leaves of the inode that it changes.
 --     ChangesOne        one inode
 --     GivesOwner        another owner and group
-use Rattle.std.specs.Prelude.{◌≡◌, ℕ, ◌<◌, ◌^◌}
+--     special_mode, SavesAcl        another mode or access ACL
+use Rattle.std.specs.Prelude.{◌≡◌, ℕ, ◌+◌, ◌/◌, ◌%◌, ◌==◌, ◌<◌, ◌^◌, ◌&&◌, ◌||◌, cond}
+use Rattle.posix_acl.specs.AccessList.{AccessList}
+use Rattle.fs_cred.specs.Credentials.{Credential, is_superuser, is_member}
+use Rattle.fs_layout.specs.declared.inode.Kind.{Kind}
+use Rattle.fs_layout.specs.declared.inode.Kind.TheVariants.{Directory}
 use Rattle.fs_layout.specs.declared.place.Place.{Place}
 use Rattle.fs_layout.specs.Bytes.{SectorMap}
 use Rattle.fs_layout.specs.Changes.{ChangesInode}
 use Rattle.fs_layout.specs.Images.{bit, inode_bitmap, inode_at}
-use Rattle.bit_alloc.specs.Inodes.{KeepsBytes, KeepsAcls}
+use Rattle.bit_alloc.specs.Inodes.{KeepsFields, KeepsBytes, KeepsDefault, KeepsAcls}
+use Rattle.inode_table.specs.Acls.{HasAcl, with_acl_bits}
 
 -- inode n, and no other, and it stays used or unused
 pub record ChangesOne (p : Place) (n : ℕ) (old new : SectorMap) : Type 0 where
@@ -22,3 +28,17 @@ pub record GivesOwner (p : Place) (n uid gid : ℕ) (old new : SectorMap) : Type
   pub gid_fits : gid < 2 ^ 32
   pub bytes : KeepsBytes old new (inode_at p old n) (inode_at p new n)
   pub acls : KeepsAcls old new (inode_at p old n) (inode_at p new n)
+
+-- of a mode that chmod() gives the bits above the permission bits: a directory's S_ISVTX, and S_ISGID where the caller may
+abbrev pub special_mode : Credential → Kind → ℕ → ℕ → ℕ
+special_mode cred Directory group mode =
+    cond (mode / 512 % 2 == 1) 512 0 + cond (mode / 1024 % 2 == 1 && (is_superuser cred || is_member cred group)) 1024 0
+special_mode cred _ group mode = 0
+
+-- inode n has this access ACL, and its mode the bits of m above the permission bits
+pub record SavesAcl (p : Place) (n m : ℕ) (a : AccessList) (old new : SectorMap) : Type 0 where
+  pub one : ChangesOne p n old new
+  pub fields : KeepsFields (with_acl_bits (record (inode_at p old n) { mode = m }) a) (inode_at p new n)
+  pub bytes : KeepsBytes old new (inode_at p old n) (inode_at p new n)
+  pub default : KeepsDefault old new (inode_at p old n) (inode_at p new n)
+  pub access : HasAcl new (inode_at p new n) a

@@ -3,15 +3,19 @@
 ghost use Rattle.std.specs.Prelude.{◌≡◌, ◌≢◌, ◌<◌, Ok, OnOk, IfErr};
 ghost use Rattle.fs_layout.specs.Images.{inode_at};
 ghost use Rattle.fs_model.specs.Demands.{first_of};
-ghost use Rattle.fs_model.specs.declared.call.Call.TheVariants.{Chown};
+ghost use Rattle.fs_model.specs.Scenes.{check_of_mode};
+ghost use Rattle.posix_acl.specs.AccessList.{AccessList, with_mode_bits};
+ghost use Rattle.inode_table.specs.Acls.{HasAcl};
+ghost use Rattle.fs_model.specs.declared.call.Call.TheVariants.{Chmod, Chown};
 ghost use Rattle.sector_txn.specs.Sectors.{SameStore};
 ghost use Rattle.bit_alloc.specs.Inodes.{IsSound};
 ghost use Rattle.bit_alloc.specs.Room.{HasSpare};
 ghost use Rattle.path_walk.specs.Answers.{refused_or, Interrupts};
 ghost use Rattle.path_walk.specs.Performing.{IsReady, Performs};
 ghost use Rattle.file_calls.specs.Asked.{owner_asked};
-ghost use Rattle.file_calls.specs.Given.{GivesOwner};
+ghost use Rattle.file_calls.specs.Given.{GivesOwner, SavesAcl, special_mode};
 
+use crate::acls::{acl_of, give_acl};
 use crate::found::{find, owned};
 use fs_cred::{Cred, Denial, Errno, Need, Refusal, Rule, may_chgrp, may_chown};
 use fs_layout::{Inode, Kind, Place};
@@ -57,6 +61,89 @@ fn give_owner<S: Sectors>(
         Ok(()) => Ok(()),
         Err(_) => Err(Refusal::Failed(Errno::EIO)),
     }
+}
+
+// Whether these are bits of a mode.
+fn check_mode(mode: u16) -> Result<(), Refusal>
+    ensures { result ≡ refused_or (check_of_mode mode) (Ok tt) }
+{
+    if mode > 0o7777 {
+        return Err(Refusal::Failed(Errno::EINVAL));
+    }
+    Ok(())
+}
+
+// Of a mode that the caller gives to the inode the bits above the permission bits.
+fn special_bits(cred: &Cred, inode: &Inode, mode: u16) -> u16
+    ensures { result ≡ special_mode cred.now inode.now.kind inode.now.gid mode }
+{
+    if inode.kind != Kind::Directory {
+        return 0;
+    }
+    let sticky = if mode / 512 % 2 == 1 { 512 } else { 0 };
+    let asks = mode / 1024 % 2 == 1;
+    if asks && (cred.is_superuser() || cred.is_member(inode.gid)) {
+        return sticky + 1024;
+    }
+    sticky
+}
+
+// Gives inode n this mode.
+fn give_mode<S: Sectors>(
+    alloc: Global,
+    s: &mut S,
+    place: Place,
+    cred: &Cred,
+    n: u32,
+    inode: &Inode,
+    mode: u16,
+) -> Result<(), Refusal>
+    requires sound { IsSound place (S.state s.old) }
+    requires below { n < place.inodes }
+    requires inode { inode.now ≡ inode_at place (S.state s.old).sectors n }
+    requires has { (a : AccessList) × HasAcl (S.state s.old).sectors inode.now a }
+    requires used { inode.now.kind ≢ Kind.Free }
+    requires no_link { inode.now.kind ≢ Kind.Link }
+    requires spare { HasSpare place 2 (S.state s.old) }
+    ensures given { OnOk result ((a : AccessList) → HasAcl (S.state s.old).sectors inode.now a
+        → SavesAcl place n (special_mode cred.now inode.now.kind inode.now.gid mode) (with_mode_bits a mode)
+        (S.state s.old).sectors (S.state s.new).sectors) }
+    ensures store { SameStore (S.state s.old) (S.state s.new) }
+    ensures interrupts { IfErr result (Interrupts (S.state s.old).disk (S.state s.new).disk) }
+{
+    let had = acl_of(alloc, s, place, inode)?;
+    let acl = had.with_mode_bits(mode);
+    let moded = Inode {
+        mode: special_bits(cred, inode, mode),
+        ..*inode
+    };
+    give_acl(s, place, n, &moded, &acl)?;
+    Ok(())
+}
+
+/// Sets the permission bits of what a path leads to, and of a directory S_ISGID and S_ISVTX.
+///
+/// S_ISGID stays clear without an error where the process isn't in the directory's group. EINVAL: the mode has more bits than
+/// 07777. ENOENT: the path leads to nothing.
+pub fn chmod<S: Sectors>(
+    alloc: Global,
+    s: &mut S,
+    place: Place,
+    procs: &Procs,
+    pid: usize,
+    path: &Path,
+    mode: u16,
+) -> Result<Reply, Refusal>
+    requires ready { IsReady place (S.state s.old) procs.now }
+    ensures { Performs place pid (Chmod path.now mode) (S.state s.old) (S.state s.new) procs.now procs.now result }
+{
+    let process = procs.process(pid)?;
+    check_mode(mode)?;
+    let found = find(alloc, s, place, process, path, Form::Follow)?;
+    let cred = process.cred();
+    let (n, inode) = owned(s, place, cred, &found)?;
+    give_mode(alloc, s, place, cred, n, &inode, mode)?;
+    Ok(Reply::Done)
 }
 
 /// Gives what a path leads to another owner or group; one that isn't given stays.

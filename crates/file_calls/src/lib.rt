@@ -6,6 +6,7 @@
 //! stand in place of any answer that comes after the checks of the arguments and of the path.
 #![tactic(auto)]
 
+mod acls;
 mod attributes;
 mod found;
 mod listing;
@@ -16,7 +17,7 @@ mod show;
 mod transfer;
 mod writes;
 
-pub use attributes::chown;
+pub use attributes::{chmod, chown};
 pub use listing::readdir;
 pub use process::{close, umask};
 pub use rights::access;

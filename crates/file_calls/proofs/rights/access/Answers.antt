@@ -1,20 +1,18 @@
-use Rattle.std.proofs.Common.{ℕ, ap, ◌∙◌, [], ◌∷◌, ◌≢◌, sym, subst}
-use Rattle.fs_layout.specs.declared.inode.Inode.{Inode}
-use Rattle.fs_layout.specs.declared.inode.Kind.TheVariants as Kind
+use Rattle.std.proofs.Common.{ℕ, ap, ◌∙◌, [], ◌∷◌}
 use Rattle.fs_layout.specs.Images.{inode_at}
 use Rattle.fs_model.specs.declared.reply.Reply.TheVariants.{Granted}
 use Rattle.fs_model.specs.Scenes.{number, must_be_there, permission_at_end, answers}
 use Rattle.path_walk.specs.Paths.{scene_at}
 use Rattle.block_map.proofs.Runs.{unchanged_joined}
 use Rattle.path_walk.proofs.ByPath.{absent_performs, find_refused, has_found, found_below, demands_refused, answered}
-use Rattle.path_walk.proofs.Calling.{or_else-none, first_asked, next_asked, both_met, state_tree, state_kept, cwd_below, found_there}
+use Rattle.path_walk.proofs.Calling.{or_else-none, first_asked, next_asked, both_met, state_tree, state_kept, cwd_below}
 use Rattle.path_walk.proofs.HeldInodes.{held_inodes}
 use Rattle.path_walk.proofs.Kept.{sound_kept}
 use Rattle.fs_cred.specs.declared.rule.Rule.{Rule}
 use Rattle.fs_cred.specs.Verdicts.{verdict}
 use Rattle.file_calls.proofs.Followed.{followed_access, access_held, inode_kept, permission_refused, permission_granted, rule_told}
 use Rattle.file_calls.proofs.Rows.{access_by_path}
-use Rattle.file_calls.proofs.Shown.{inode_told, is_inode, is_used, stat_told}
+use Rattle.file_calls.proofs.Shown.{is_inode}
 use Rattle.file_calls.proofs.rights.access.Goals as goal
 
 pub returns-in_err-process-clause-performs : goal.returns-in_err-process-clause-performs

@@ -1,0 +1,8 @@
+use Rattle.fs_layout.specs.Images.{inode_at}
+use Rattle.file_calls.proofs.Moded.{attributes_of}
+use Rattle.file_calls.proofs.acls.give_acl.Goals as goal
+
+pub save_acl-requires-clause-attributes : goal.save_acl-requires-clause-attributes
+save_acl-requires-clause-attributes g c =
+    let old = g.S.Sectors.state c.args.s.now in
+    attributes_of (inode_at c.args.place old.sectors c.args.n) c.args.inode.now c.requires.inode
