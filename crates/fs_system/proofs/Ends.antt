@@ -25,7 +25,7 @@ use Rattle.fs_model.proofs.Taken.{free_within_bounds}
 use Rattle.fs_model.proofs.Unchanged.{nothing_to_drop}
 use Rattle.fs_system.specs.Doing.{Does, IsFound}
 use Rattle.fs_system.specs.Seen.{StandsFor, EachStandsFor, System, IsWhole, IsRunning, IsRooted, IsIn}
-use Rattle.fs_system.specs.Rooted.{Performs}
+use Rattle.fs_system.specs.Rooted.{AnswersOnRoot}
 use Rattle.fs_system.specs.Table.{cred_at}
 use Rattle.fs_system.specs.Playing.{IsMounted, Mounts}
 use Rattle.fs_system.specs.Mounting.{IsMountable}
@@ -114,7 +114,7 @@ module _ (disk : DiskState) (only_now : (image : Image) → disk.left_since disk
 module _ {D : Type 0} (state : D → DiskState) (only_now : (disk : D) (image : Image) → (state disk).left_since (state disk).moment image → IsImage (state disk) image)
     (inside fs : System D) (view_is : inside ≡ fs) (now : D) (s : State) (pid : ℕ) (cred : Credential) where
   pub ends_performed : (call asked : Call) → call ≡ asked → (halts after : Bool) → after ≡ halts → (reply : Reply) → inside.halted ≡ false
-      → cred_at inside.desks pid ≡ Some cred → Performs (state inside.disk) (state now) inside.place cred asked halts reply → IsIn state fs s
+      → cred_at inside.desks pid ≡ Some cred → AnswersOnRoot (state inside.disk) (state now) inside.place cred asked halts reply → IsIn state fs s
       → Ends (state fs.disk) (state now) inside.place inside.desks after s (Calls pid call) reply
   ends_performed call asked same_call halts after same_halts reply runs there performs is =
       let old = state inside.disk in

@@ -3,7 +3,7 @@
 --     ShowsRoot, ShowsRootOf        what an inode says of the root
 --     shown_bits        the mode bits after chmod
 --     IsOldOr        an image of before, or with one sector written
---     Performs, PerformsOrHalts        what a call does in each state
+--     AnswersOnRoot, AnswersOrHalts        what a call does in each state
 use Rattle.std.specs.Prelude.{◌≡◌, ◌⊎◌, slice_set, ℕ, ◌+◌, ◌*◌, ◌/◌, ◌%◌, ◌==◌, ◌&&◌, if◌then◌else◌, Bool, true, false, List, [], ◌∷◌, length, Some, IsFalse, Result, MatchResult}
 use Rattle.posix_acl.specs.AccessList.{minimal}
 use Rattle.sector_disk.specs.Disk.{DiskState, Image}
@@ -50,12 +50,12 @@ abbrev pub IsOldOr : Image → ℕ → List ℕ → Image → Type 0
 IsOldOr old n content image = (image ≡ old) ⊎ (image ≡ slice_set old n content)
 
 -- In each state, a call by a process with this credential does this, and then the file system is halted or goes on.
-abbrev pub Performs : DiskState → DiskState → Place → Credential → Call → Bool → Reply → Type 0
-Performs before now place cred call halted reply =
+abbrev pub AnswersOnRoot : DiskState → DiskState → Place → Credential → Call → Bool → Reply → Type 0
+AnswersOnRoot before now place cred call halted reply =
     (desks : Desks) (s : State) (pid : ℕ) → IsRunning before place desks s → IsFalse s.halted → cred_at desks pid ≡ Some cred
     → (t : State) × IsRooted now place desks halted t × Does before now s (Calls pid call) reply t
 
 -- The same of what it comes to: at `Err` the reply is EIO, and the file system halts.
-abbrev pub PerformsOrHalts : {E : Type 0} → DiskState → DiskState → Place → Credential → Call → Result Reply E → Type 0
-PerformsOrHalts before now place cred call result =
-    MatchResult result (Performs before now place cred call false) (λ fault. Performs before now place cred call true (Refused (Failed EIO)))
+abbrev pub AnswersOrHalts : {E : Type 0} → DiskState → DiskState → Place → Credential → Call → Result Reply E → Type 0
+AnswersOrHalts before now place cred call result =
+    MatchResult result (AnswersOnRoot before now place cred call false) (λ fault. AnswersOnRoot before now place cred call true (Refused (Failed EIO)))

@@ -14,7 +14,7 @@ ghost use Rattle.fs_cred.specs.declared.errno.Errno.TheVariants.{EIO};
 ghost use Rattle.fs_cred.specs.declared.refusal.Refusal.TheVariants.{Failed};
 ghost use Rattle.fs_system.specs.Seen.{IsInUse};
 ghost use Rattle.fs_system.specs.Serving.{the_root};
-ghost use Rattle.fs_system.specs.Rooted.{ShowsRootOf, shown_bits, is_the_root, IsOldOr, Performs, PerformsOrHalts};
+ghost use Rattle.fs_system.specs.Rooted.{ShowsRootOf, shown_bits, is_the_root, IsOldOr, AnswersOnRoot, AnswersOrHalts};
 
 use fs_cred::{Cred, Denial, Errno, Need, Node, NodeKind, Refusal, Rule, decide, may_own};
 use fs_layout::{Inode, Place, ROOT};
@@ -79,7 +79,7 @@ fn write_through<D: Disk>(disk: &mut D, n: u32, content: &[u8; 512]) -> Result<(
 /// stat, by a process that is there.
 pub(crate) fn stat<D: Disk>(disk: &mut D, place: Place, path: &Path) -> Reply
     requires { IsInUse (D.state disk.old) place }
-    ensures { (cred : Credential) → Performs (D.state disk.old) (D.state disk.new) place cred (Stat path.now) false result }
+    ensures { (cred : Credential) → AnswersOnRoot (D.state disk.old) (D.state disk.new) place cred (Stat path.now) false result }
 {
     if is_the_root(path) {
         stat_root(disk, place)
@@ -98,7 +98,7 @@ pub(crate) fn access<D: Disk>(
     want: Perms,
 ) -> Reply
     requires { IsInUse (D.state disk.old) place }
-    ensures { Performs (D.state disk.old) (D.state disk.new) place cred.now (Access path.now want) false result }
+    ensures { AnswersOnRoot (D.state disk.old) (D.state disk.new) place cred.now (Access path.now want) false result }
 {
     if is_the_root(path) {
         access_root(alloc, disk, place, cred, want)
@@ -109,7 +109,7 @@ pub(crate) fn access<D: Disk>(
 
 fn stat_root<D: Disk>(disk: &mut D, place: Place) -> Reply
     requires { IsInUse (D.state disk.old) place }
-    ensures { (cred : Credential) → Performs (D.state disk.old) (D.state disk.new) place cred (Stat the_root) false result }
+    ensures { (cred : Credential) → AnswersOnRoot (D.state disk.old) (D.state disk.new) place cred (Stat the_root) false result }
 {
     let mut sector = [0; 512];
     let Ok(inode) = read_root(disk, place, &mut sector) else {
@@ -134,7 +134,7 @@ fn access_root<D: Disk>(
     want: Perms,
 ) -> Reply
     requires { IsInUse (D.state disk.old) place }
-    ensures { Performs (D.state disk.old) (D.state disk.new) place cred.now (Access the_root want) false result }
+    ensures { AnswersOnRoot (D.state disk.old) (D.state disk.new) place cred.now (Access the_root want) false result }
 {
     let mut sector = [0; 512];
     let Ok(inode) = read_root(disk, place, &mut sector) else {
@@ -172,7 +172,7 @@ pub(crate) fn chmod<D: Disk>(
     mode: u16,
 ) -> Result<Reply, DiskFault>
     requires { IsInUse (D.state disk.old) place }
-    ensures { PerformsOrHalts (D.state disk.old) (D.state disk.new) place cred.now (Chmod path.now mode) result }
+    ensures { AnswersOrHalts (D.state disk.old) (D.state disk.new) place cred.now (Chmod path.now mode) result }
 {
     if mode > ALL_MODE_BITS {
         return Ok(failed(Errno::EINVAL));
@@ -212,7 +212,7 @@ fn chmod_root<D: Disk>(
 ) -> Result<Reply, DiskFault>
     requires in_use { IsInUse (D.state disk.old) place }
     requires mode { mode ≤ 4095 }
-    ensures { PerformsOrHalts (D.state disk.old) (D.state disk.new) place cred.now (Chmod the_root mode) result }
+    ensures { AnswersOrHalts (D.state disk.old) (D.state disk.new) place cred.now (Chmod the_root mode) result }
 {
     let mut sector = [0; 512];
     let Ok(inode) = read_root(disk, place, &mut sector) else {
