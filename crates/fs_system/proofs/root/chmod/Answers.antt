@@ -5,7 +5,7 @@ use Rattle.fs_model.specs.declared.call.Call.TheVariants.{Chmod}
 use Rattle.fs_model.specs.States.{State}
 use Rattle.fs_system.specs.Seen.{IsRooted}
 use Rattle.fs_system.specs.Doing.{Does}
-use Rattle.fs_system.specs.Rooted.{PerformsOrHalts}
+use Rattle.fs_system.specs.Rooted.{AnswersOrHalts}
 use Rattle.fs_system.proofs.RootCalls.{Ended, path_ends}
 use Rattle.fs_system.proofs.RootSteps.{root_path, no_root_path}
 use Rattle.fs_system.proofs.Chmods.{chmod_ends_bad}
@@ -28,5 +28,5 @@ pub returns : goal.returns
 returns g c =
     let old = g.D.Disk.state c.args.disk.now in
     let new = g.D.Disk.state c.chmod_root.new.disk in
-    subst (λ (path : List ℕ). PerformsOrHalts old new c.args.place c.args.cred.now (Chmod path c.args.mode) c.chmod_root.result)
+    subst (λ (path : List ℕ). AnswersOrHalts old new c.args.place c.args.cred.now (Chmod path c.args.mode) c.chmod_root.result)
     (sym (root_path c.args.path.now (sym c.is_the_root.ensures ∙ c.if-not-is_the_root.false))) c.chmod_root.ensures
