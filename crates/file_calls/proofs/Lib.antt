@@ -11,5 +11,6 @@ pub mod Rows
 pub mod Seeking
 pub mod Settled
 pub mod Shown
+pub mod Sized
 pub mod Rewritten
 pub mod Writing

@@ -14,6 +14,7 @@ mod opened;
 mod process;
 mod rights;
 mod show;
+mod sizes;
 mod transfer;
 mod writes;
 
@@ -22,5 +23,6 @@ pub use listing::readdir;
 pub use process::{close, umask};
 pub use rights::access;
 pub use show::{fstat, lstat, stat};
+pub use sizes::truncate;
 pub use transfer::{MAX_MOVE, lseek, read};
 pub use writes::write;

@@ -1,0 +1,156 @@
+-- Another size of a file that was found.
+use Rattle.std.specs.Prelude.{◌≡◌, ◌≤◌, ℕ, nat_lt, Bool, true, false, List, [], ◌∷◌, None, Some, Ok, Err}
+use Rattle.std.proofs.Common.{refl, sym, ap, subst, arith, inl, inr, ◌∙◌}
+use Rattle.std.proofs.lemmas.Bool.{cases_lt, lt-ltb}
+use Rattle.sector_disk.specs.Disk.{DiskState}
+use Rattle.fs_cred.specs.declared.errno.Errno.TheVariants.{EISDIR, EFBIG}
+use Rattle.fs_cred.specs.declared.node.NodeKind.{NodeKind}
+use Rattle.fs_cred.specs.declared.node.NodeKind.TheVariants as nodes
+use Rattle.fs_cred.specs.declared.refusal.Refusal.{Refusal}
+use Rattle.fs_layout.specs.declared.inode.Inode.{Inode}
+use Rattle.fs_layout.specs.declared.inode.Kind.{Kind}
+use Rattle.fs_layout.specs.declared.inode.Kind.TheVariants as kinds
+use Rattle.fs_layout.specs.declared.inode.TheConstants.{MAX_FILE_SIZE}
+use Rattle.fs_layout.specs.declared.place.Place.{Place}
+use Rattle.fs_layout.specs.Bytes.{SectorMap, resized}
+use Rattle.fs_layout.specs.Images.{inode_at}
+use Rattle.sector_txn.specs.Sectors.{TxnState}
+use Rattle.fs_model.specs.declared.reply.Reply.TheVariants.{Done}
+use Rattle.fs_model.specs.declared.walk.Form.TheVariants.{Follow}
+use Rattle.fs_model.specs.declared.walk.Found.{Found}
+use Rattle.fs_model.specs.AttributeCalls.{truncate_demands, truncate_effect}
+use Rattle.fs_model.specs.Births.{the_node}
+use Rattle.fs_model.specs.Demands.{Demand, refuse, first_of, perms}
+use Rattle.fs_model.specs.DescriptorCalls.{resized_node}
+use Rattle.fs_model.specs.Nodes.{Node, is_directory, bytes_in}
+use Rattle.fs_model.specs.Processes.{Process, Desks}
+use Rattle.fs_model.specs.Rules.{is_directory_kind}
+use Rattle.fs_model.specs.Scenes.{number, must_be_there, body_found, permission_at_end}
+use Rattle.fs_model.specs.States.{State}
+use Rattle.fs_model.specs.Trees.{Room, names_of, parent}
+use Rattle.fs_model.proofs.StepsBodies.{bytes_may_replace, length-resized, IsBytes-resized, bytes_are_bytes}
+use Rattle.path_walk.specs.Answers.{refused_or, IsAnswered}
+use Rattle.path_walk.specs.HeldTrees.{stored_kind}
+use Rattle.path_walk.specs.Paths.{scene_at, HasFound}
+use Rattle.path_walk.specs.Performing.{IsStateOf}
+use Rattle.path_walk.proofs.Calling.{state_tree, next_asked, first_asked, both_met, or_else-none}
+use Rattle.path_walk.proofs.HeldChanges.{bytes_held}
+use Rattle.path_walk.proofs.HeldNodes.{held_node, held_kind, bytes_say}
+use Rattle.file_calls.specs.Changes.{ChangesBytes}
+use Rattle.file_calls.proofs.Changed.{IsChange, rewrites_found}
+use Rattle.file_calls.proofs.Followed.{followed_access}
+use Rattle.file_calls.proofs.Shown.{the_node_is}
+
+-- on what access is decided is a file, where it is no directory
+pub file_kind : (k : NodeKind) (v : Kind) → v ≡ stored_kind k → refuse EISDIR (is_directory_kind v) ≡ None → v ≡ kinds.File
+file_kind nodes.File v is none = is
+file_kind nodes.Directory v is none = absurd (let c : refuse EISDIR true ≡ None = ap (λ (k : Kind). refuse EISDIR (is_directory_kind k)) (sym is) ∙ none in cc)
+
+pub few_enough : (size : ℕ) → refuse EFBIG (nat_lt MAX_FILE_SIZE size) ≡ None → size ≤ MAX_FILE_SIZE
+few_enough size none = elim (cases_lt MAX_FILE_SIZE size) [
+  | inl lt ↦ absurd (let c : refuse EFBIG true ≡ None = ap (refuse EFBIG) (sym (lt-ltb MAX_FILE_SIZE size lt)) ∙ none in cc)
+  | inr le ↦ le
+]
+
+-- what truncate() asks of what is there
+abbrev pub truncate_rest : ℕ → State → Process → Found → List Demand
+truncate_rest size s q f =
+    refuse EISDIR (is_directory (body_found (scene_at s q f) f))
+    ∷ permission_at_end (scene_at s q f) f 1 (perms false true false)
+    ∷ refuse EFBIG (nat_lt s.room.file_limit size)
+    ∷ []
+
+module _ {p : Place} {map : SectorMap} {desks : Desks} {s : State} {pid : ℕ} {q : Process} {path : List ℕ} {f : Found} {n : ℕ} {v : Inode}
+    (at : IsStateOf p map desks s) (has : HasFound s pid q Follow path f) (some : f.ino ≡ Some n) (number_is : number f ≡ n) (inode : v ≡ inode_at p map n)
+    (size : ℕ) where
+  node_is : the_node s.tree (number f) ≡ (followed_access n at has some).node
+  node_is = let a = followed_access n at has some in ap (the_node s.tree) number_is ∙ the_node_is s.tree n a.node a.at
+
+  directory_is : is_directory (body_found (scene_at s q f) f) ≡ is_directory_kind v.kind
+  directory_is =
+      let a = followed_access n at has some in
+      ap (λ (u : Node). is_directory u.body) node_is ∙ sym (ap (λ (w : Inode). is_directory_kind w.kind) inode ∙ held_kind (state_tree at) n a.node a.at)
+
+  abbrev last_asked : List Demand
+  last_asked = refuse EFBIG (nat_lt MAX_FILE_SIZE size) ∷ []
+
+  abbrev third_asked : List Demand
+  third_asked = permission_at_end (scene_at s q f) f 1 (perms false true false) ∷ last_asked
+
+  abbrev second_asked : List Demand
+  second_asked = refuse EISDIR (is_directory_kind v.kind) ∷ third_asked
+
+  abbrev asked : List Demand
+  asked = must_be_there f ∷ second_asked
+
+  demands_are : truncate_demands size (scene_at s q f) ≡ asked
+  demands_are =
+      ap (λ (b : Bool). must_be_there f ∷ refuse EISDIR b ∷ permission_at_end (scene_at s q f) f 1 (perms false true false)
+      ∷ refuse EFBIG (nat_lt s.room.file_limit size) ∷ []) directory_is
+      ∙ ap (λ (r : Room). must_be_there f ∷ refuse EISDIR (is_directory_kind v.kind) ∷ permission_at_end (scene_at s q f) f 1 (perms false true false)
+      ∷ refuse EFBIG (nat_lt r.file_limit size) ∷ []) at.same_room
+
+  asked_again : {A : Type 0} (x : A) (e : Refusal) (old new : DiskState) → IsAnswered old new (refused_or {A = A} (first_of asked) (Ok x)) (Err e)
+      → IsAnswered old new (refused_or {A = A} (first_of (truncate_demands size (scene_at s q f))) (Ok x)) (Err e)
+  asked_again {A} x e old new h = subst (λ (ds : List Demand). IsAnswered old new (refused_or {A = A} (first_of ds) (Ok x)) (Err e)) (sym demands_are) h
+
+  module _ (there : must_be_there f ≡ None) where
+    -- it is a directory
+    pub directory_refused : {A B : Type 0} (y : B) (x : A) (e : Refusal) (old new : DiskState)
+        → refused_or {A = B} (refuse EISDIR (is_directory_kind v.kind)) (Ok y) ≡ Err e
+        → IsAnswered old new (refused_or {A = A} (first_of (truncate_demands size (scene_at s q f))) (Ok x)) (Err e)
+    directory_refused {A} {B} y x e old new is =
+        asked_again x e old new (next_asked (must_be_there f) second_asked x e old new there
+        (first_asked {B = B} (refuse EISDIR (is_directory_kind v.kind)) third_asked y x e old new (inl is)))
+
+    module _ (file : refuse EISDIR (is_directory_kind v.kind) ≡ None) where
+      -- it may not be written
+      pub write_refused : {A B : Type 0} (y : B) (x : A) (e : Refusal) (old new : DiskState)
+          → IsAnswered old new (refused_or {A = B} (permission_at_end (scene_at s q f) f 1 (perms false true false)) (Ok y)) (Err e)
+          → IsAnswered old new (refused_or {A = A} (first_of (truncate_demands size (scene_at s q f))) (Ok x)) (Err e)
+      write_refused {A} {B} y x e old new h =
+          asked_again x e old new (next_asked (must_be_there f) second_asked x e old new there
+          (next_asked (refuse EISDIR (is_directory_kind v.kind)) third_asked x e old new file
+          (first_asked {B = B} (permission_at_end (scene_at s q f) f 1 (perms false true false)) last_asked y x e old new h)))
+
+      module _ (granted : permission_at_end (scene_at s q f) f 1 (perms false true false) ≡ None) where
+        -- it would be too big
+        pub size_refused : {A B : Type 0} (y : B) (x : A) (e : Refusal) (old new : DiskState)
+            → refused_or {A = B} (refuse EFBIG (nat_lt MAX_FILE_SIZE size)) (Ok y) ≡ Err e
+            → IsAnswered old new (refused_or {A = A} (first_of (truncate_demands size (scene_at s q f))) (Ok x)) (Err e)
+        size_refused {A} {B} y x e old new is =
+            asked_again x e old new (next_asked (must_be_there f) second_asked x e old new there
+            (next_asked (refuse EISDIR (is_directory_kind v.kind)) third_asked x e old new file
+            (next_asked (permission_at_end (scene_at s q f) f 1 (perms false true false)) last_asked x e old new granted
+            (first_asked {B = B} (refuse EFBIG (nat_lt MAX_FILE_SIZE size)) [] y x e old new (inl is)))))
+
+        all_granted : refuse EFBIG (nat_lt MAX_FILE_SIZE size) ≡ None → first_of (truncate_demands size (scene_at s q f)) ≡ None
+        all_granted fits =
+            ap first_of demands_are ∙ both_met (must_be_there f) second_asked there (both_met (refuse EISDIR (is_directory_kind v.kind)) third_asked file
+            (both_met (permission_at_end (scene_at s q f) f 1 (perms false true false)) last_asked granted
+            (or_else-none (refuse EFBIG (nat_lt MAX_FILE_SIZE size)) ∙ fits)))
+
+module _ {p : Place} {old : TxnState} {desks : Desks} {s : State} {pid : ℕ} {q : Process} {path : List ℕ} {f : Found} {n : ℕ} {v : Inode}
+    (at : IsStateOf p old.sectors desks s) (has : HasFound s pid q Follow path f) (some : f.ino ≡ Some n) (number_is : number f ≡ n) (inode : v ≡ inode_at p old.sectors n)
+    (size : ℕ) where
+  -- it has that size
+  pub size_changed : (new : TxnState) → must_be_there f ≡ None → refuse EISDIR (is_directory_kind v.kind) ≡ None
+      → permission_at_end (scene_at s q f) f 1 (perms false true false) ≡ None → refuse EFBIG (nat_lt MAX_FILE_SIZE size) ≡ None
+      → size ≤ MAX_FILE_SIZE → v.kind ≡ kinds.File → ChangesBytes p n old new (λ held. resized held size)
+      → IsChange p new.sectors desks s q (truncate_demands size (scene_at s q f)) (truncate_effect size (scene_at s q f)) Done
+  size_changed new there file granted fits few kind c =
+      let a = followed_access n at has some in
+      let is_file = sym (ap (λ (w : Inode). w.kind) inode) ∙ kind in
+      let held = held_node (state_tree at) n a.node a.at in
+      let is = (at.is_state.tree).each n a.node a.at in
+      let limit = ap (λ (r : Room). r.file_limit) at.same_room in
+      rewrites_found at new.sectors n a.node (resized_node size a.node) a.at
+      (bytes_may_replace s.room s.tree n a.node is (resized (bytes_in a.node.body) size)
+      (let len = length-resized (bytes_in a.node.body) size in omega (arith, len, few, limit))
+      (IsBytes-resized (bytes_in a.node.body) size (bytes_are_bytes s.room s.tree a.node.body is.body)))
+      (record { super = c.super; inode = c.inode; used = c.used })
+      (bytes_held old.sectors new.sectors (inode_at p old.sectors n) (inode_at p new.sectors n)
+      (record { node = a.node; names = names_of s.tree n; parent = parent s.tree n }) held (resized (bytes_in a.node.body) size) is_file c.fields c.acls
+      (c.held (bytes_in a.node.body) (bytes_say old.sectors (inode_at p old.sectors n) a.node.body is_file held.body)))
+      q f (truncate_demands size (scene_at s q f)) (resized_node size) (all_granted at has some number_is inode size there file granted fits) number_is
+      (node_is at has some number_is inode size) refl

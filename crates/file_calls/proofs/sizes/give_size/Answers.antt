@@ -1,0 +1,23 @@
+use Rattle.std.proofs.Common.{Err, refl, ap, sym, subst, arith, inr}
+use Rattle.fs_layout.specs.Bytes.{resized}
+use Rattle.block_map.specs.Contents.{AllowsSize}
+use Rattle.file_calls.proofs.Rewritten.{content_changes, only_fails}
+use Rattle.file_calls.proofs.sizes.give_size.Goals as goal
+
+pub set_size-requires-clause-kind : goal.set_size-requires-clause-kind
+set_size-requires-clause-kind g c = subst (λ k. AllowsSize k c.args.size) (sym c.requires.file) tt
+
+pub returns-in-Ok-clause-change : goal.returns-in-Ok-clause-change
+returns-in-Ok-clause-change g c =
+    content_changes (λ held. resized held c.args.size) c.requires.inode c.in-Ok.ensures.change c.in-Ok.ensures.held
+
+pub returns-in-Err-clause-interrupts : goal.returns-in-Err-clause-interrupts
+returns-in-Err-clause-interrupts g c =
+    let e = c.in-Err.ensures in
+    inr (
+      refl,
+      only_fails (g.S.Sectors.state c.args.s.now).disk (g.S.Sectors.state c.set_size.new.s).disk c.in-Err.field-0
+          (λ big. let far = e.too_big.0 (ap (λ x. Err x) big) in let fits = c.requires.fits in omega (arith, far, fits))
+          (λ full. e.never_full (ap (λ x. Err x) full))
+          e.cause.failed,
+    )

@@ -1,0 +1,112 @@
+//! The size of a file that a path leads to: POSIX.1-2017, truncate().
+
+ghost use Rattle.std.specs.Prelude.{◌≡◌, ◌<◌, ◌≤◌, nat_lt, Ok, OnOk, IfErr};
+ghost use Rattle.fs_cred.specs.declared.errno.Errno.TheVariants.{EISDIR, EFBIG};
+ghost use Rattle.fs_layout.specs.declared.inode.TheConstants.{MAX_FILE_SIZE};
+ghost use Rattle.fs_layout.specs.Bytes.{resized};
+ghost use Rattle.fs_layout.specs.Images.{inode_at};
+ghost use Rattle.fs_model.specs.Demands.{refuse};
+ghost use Rattle.fs_model.specs.Rules.{is_directory_kind};
+ghost use Rattle.fs_model.specs.declared.call.Call.TheVariants.{Truncate};
+ghost use Rattle.sector_txn.specs.Sectors.{SameStore};
+ghost use Rattle.bit_alloc.specs.Inodes.{IsSound};
+ghost use Rattle.bit_alloc.specs.Room.{HasSpare};
+ghost use Rattle.path_walk.specs.Answers.{refused_or, Interrupts};
+ghost use Rattle.path_walk.specs.Performing.{IsReady, Performs};
+ghost use Rattle.file_calls.specs.Changes.{ChangesBytes};
+
+use crate::found::{find, inode_found};
+use block_map::set_size;
+use fs_cred::{Errno, Refusal};
+use fs_layout::{Inode, Kind, MAX_FILE_SIZE, Place};
+use fs_model::{Form, Path, Reply};
+use open_files::Procs;
+use path_walk::permitted;
+use posix_acl::Perms;
+use sector_txn::Sectors;
+use std::alloc::Global;
+
+const WRITE: Perms = Perms {
+    read: false,
+    write: true,
+    execute: false,
+};
+
+// Refuses a directory.
+fn check_kind(kind: Kind) -> Result<(), Refusal>
+    ensures { result ≡ refused_or (refuse EISDIR (is_directory_kind kind)) (Ok tt) }
+{
+    if kind == Kind::Directory {
+        return Err(Refusal::Failed(Errno::EISDIR));
+    }
+    Ok(())
+}
+
+// Refuses a size that no file has.
+fn check_size(size: u64) -> Result<(), Refusal>
+    ensures { result ≡ refused_or (refuse EFBIG (nat_lt MAX_FILE_SIZE size)) (Ok tt) }
+{
+    if size > MAX_FILE_SIZE {
+        return Err(Refusal::Failed(Errno::EFBIG));
+    }
+    Ok(())
+}
+
+// Cuts inode n, a file, to this size, or fills it up with zeros.
+fn give_size<S: Sectors>(
+    s: &mut S,
+    place: Place,
+    n: u32,
+    inode: Inode,
+    size: u64,
+) -> Result<(), Refusal>
+    requires sound { IsSound place (S.state s.old) }
+    requires below { n < place.inodes }
+    requires inode { inode ≡ inode_at place (S.state s.old).sectors n }
+    requires file { inode.kind ≡ Kind.File }
+    requires fits { size ≤ MAX_FILE_SIZE }
+    requires spare { HasSpare place 3 (S.state s.old) }
+    ensures change { OnOk result (ChangesBytes place n (S.state s.old) (S.state s.new) (λ held. resized held size)) }
+    ensures store { SameStore (S.state s.old) (S.state s.new) }
+    ensures interrupts { IfErr result (Interrupts (S.state s.old).disk (S.state s.new).disk) }
+{
+    let mut inode = inode;
+    match set_size(s, place, n, &mut inode, size) {
+        Ok(()) => Ok(()),
+        Err(_) => Err(Refusal::Failed(Errno::EIO)),
+    }
+}
+
+/// Cuts the file that a path leads to, or fills it up with zeros.
+///
+/// ENOENT: the path leads to nothing. EISDIR: it leads to a directory. EFBIG: the size is more than [`MAX_FILE_SIZE`].
+pub fn truncate<S: Sectors>(
+    alloc: Global,
+    s: &mut S,
+    place: Place,
+    procs: &Procs,
+    pid: usize,
+    path: &Path,
+    size: u64,
+) -> Result<Reply, Refusal>
+    requires ready { IsReady place (S.state s.old) procs.now }
+    ensures { Performs place pid (Truncate path.now size) (S.state s.old) (S.state s.new) procs.now procs.now result }
+{
+    let process = procs.process(pid)?;
+    let found = find(alloc, s, place, process, path, Form::Follow)?;
+    let (n, inode) = inode_found(s, place, &found)?;
+    check_kind(inode.kind)?;
+    permitted(
+        alloc,
+        s,
+        place,
+        process.cred(),
+        &inode,
+        WRITE,
+        1,
+        found.step,
+    )?;
+    check_size(size)?;
+    give_size(s, place, n, inode, size)?;
+    Ok(Reply::Done)
+}
