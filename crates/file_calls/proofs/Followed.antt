@@ -1,5 +1,5 @@
 -- What is found where a link at the end of a path is followed: a file or a directory, on which access is decided.
-use Rattle.std.specs.Prelude.{◌≡◌, ℕ, false, List, None, Some, unwrap_or, option_and_then, Ok, Err}
+use Rattle.std.specs.Prelude.{◌≡◌, ℕ, false, List, None, Some, unwrap_or, option_and_then, Ok, Err, IsFalse}
 use Rattle.std.proofs.Common.{refl, sym, ap, subst, ◌∙◌}
 use Rattle.posix_acl.specs.declared.entry.Perms.{Perms}
 use Rattle.fs_cred.specs.declared.node.Node.{Node as AccessNode}
@@ -24,15 +24,17 @@ use Rattle.fs_model.specs.Nodes.{Node, Body, File, Dir, Link, accessed, accessed
 use Rattle.fs_model.specs.Processes.{Process, Desks}
 use Rattle.fs_model.specs.Scenes.{number, node_found, permission_at_end, answers}
 use Rattle.fs_model.specs.States.{State}
-use Rattle.fs_model.specs.Trees.{Tree, node_at}
+use Rattle.fs_model.specs.StoredNodes.{HoldsNode}
+use Rattle.fs_model.specs.Trees.{Tree, node_at, names_of, parent}
 use Rattle.fs_model.proofs.Followed.{followed_no_link}
 use Rattle.path_walk.specs.Answers.{refused_or, IsAnswered}
 use Rattle.path_walk.specs.HeldTrees.{HasAccess}
 use Rattle.path_walk.specs.Paths.{scene_at, HasFound}
 use Rattle.path_walk.specs.Performing.{IsStateOf}
 use Rattle.path_walk.proofs.Calling.{state_tree, found_ino, found_there, met_ok, answered_later}
-use Rattle.path_walk.proofs.HeldNodes.{stands, held_access}
+use Rattle.path_walk.proofs.HeldNodes.{stands, held_access, held_node}
 use Rattle.path_walk.proofs.Kept.{kept}
+use Rattle.file_calls.specs.Given.{HasBody}
 use Rattle.file_calls.proofs.Shown.{IsInode}
 
 -- what stands at a number, as access to it is decided
@@ -44,6 +46,12 @@ pub record IsAccessed (t : Tree) (n : ℕ) : Type 0 where
 
 pub accessed_is : (t : Tree) (n : ℕ) (a : IsAccessed t n) → accessed_at t n ≡ Some a.access
 accessed_is t n a = ap (λ o. option_and_then accessed o) a.at ∙ a.is
+
+-- what access is decided on is no link
+plain : (owner group : ℕ) (b : Body) (x : AccessNode) → accessed_body owner group b ≡ Some x → IsFalse (is_link b)
+plain owner group (File a bytes) x e = refl
+plain owner group (Dir a d) x e = refl
+plain owner group (Link target) x e = absurd (cc)
 
 accessible : (owner group : ℕ) (b : Body) → is_link b ≡ false → (x : AccessNode) × (accessed_body owner group b ≡ Some x)
 accessible owner group (File a bytes) e = (_, refl)
@@ -112,3 +120,11 @@ module _ {p : Place} {mid new : TxnState} {desks : Desks} {s : State} {pid : ℕ
       ≡ Ok rule) who asked in
       let met = met_ok {A = Rule} (decided 1 f.step (Perm want) (verdict q.cred a.access want)) (verdict q.cred a.access want).rule rule e in
       (asked_of s q f want n i.number a ∙ met.0, met.1)
+
+  -- its body is that of a file or a directory
+  pub body_found_held : HasBody new.sectors v (followed_access n at has i.some).node.body
+  body_found_held =
+      let a = followed_access n at has i.some in
+      let held = subst (λ (w : Inode). HoldsNode mid.sectors w (record { node = a.node; names = names_of s.tree n; parent = parent s.tree n })) (sym i.inode)
+      (held_node (state_tree at) n a.node a.at) in
+      kept (λ m. HasBody m v a.node.body) same (record { no_link = plain a.node.owner a.node.group a.node.body a.access a.is; mode = held.mode; held = held.body })

@@ -14,3 +14,5 @@ pub mod Shown
 pub mod Sized
 pub mod Rewritten
 pub mod Writing
+pub mod Cutting
+pub mod ShownAcls

@@ -43,7 +43,7 @@ use Rattle.file_calls.specs.Changes.{ChangesBytes}
 use Rattle.file_calls.proofs.ByDescriptor.{open_scene, IsByDescriptor, IsOpened, the_opened, open_fits, open_node}
 use Rattle.file_calls.proofs.Rewritten.{ChangesTree, bytes_rewritten}
 
-bad_write_closed : (fd : ℕ) (q : Process) → descriptor q fd ≡ None → is_bad_to_write fd q ≡ Some (Failed EBADF)
+pub bad_write_closed : (fd : ℕ) (q : Process) → descriptor q fd ≡ None → is_bad_to_write fd q ≡ Some (Failed EBADF)
 bad_write_closed fd q none = ap (λ (o : Option Descriptor). refuse EBADF (not (unwrap_or o no_descriptor).write)) none
 
 write_is : (fd : ℕ) (bytes : List ℕ) → row_of (Write fd bytes) ≡ write_row fd bytes

@@ -2,7 +2,8 @@
 --     ChangesOne        one inode
 --     GivesOwner        another owner and group
 --     special_mode, SavesAcl        another mode or access ACL
-use Rattle.std.specs.Prelude.{◌≡◌, ℕ, ◌+◌, ◌/◌, ◌%◌, ◌==◌, ◌<◌, ◌^◌, ◌&&◌, ◌||◌, cond}
+--     HasBody        what a call shows of an inode
+use Rattle.std.specs.Prelude.{◌≡◌, ℕ, ◌+◌, ◌/◌, ◌%◌, ◌==◌, ◌<◌, ◌^◌, ◌&&◌, ◌||◌, cond, IsFalse}
 use Rattle.posix_acl.specs.AccessList.{AccessList}
 use Rattle.fs_cred.specs.Credentials.{Credential, is_superuser, is_member}
 use Rattle.fs_layout.specs.declared.inode.Kind.{Kind}
@@ -11,6 +12,9 @@ use Rattle.fs_layout.specs.declared.place.Place.{Place}
 use Rattle.fs_layout.specs.Bytes.{SectorMap}
 use Rattle.fs_layout.specs.Changes.{ChangesInode}
 use Rattle.fs_layout.specs.Images.{bit, inode_bitmap, inode_at}
+use Rattle.fs_layout.specs.declared.inode.Inode.{Inode}
+use Rattle.fs_model.specs.Nodes.{Body, is_link, shown_mode}
+use Rattle.fs_model.specs.StoredNodes.{HoldsBody}
 use Rattle.bit_alloc.specs.Inodes.{KeepsFields, KeepsBytes, KeepsDefault, KeepsAcls}
 use Rattle.inode_table.specs.Acls.{HasAcl, with_acl_bits}
 
@@ -42,3 +46,9 @@ pub record SavesAcl (p : Place) (n m : ℕ) (a : AccessList) (old new : SectorMa
   pub bytes : KeepsBytes old new (inode_at p old n) (inode_at p new n)
   pub default : KeepsDefault old new (inode_at p old n) (inode_at p new n)
   pub access : HasAcl new (inode_at p new n) a
+
+-- the inode is that of a file or a directory with this body
+pub record HasBody (image : SectorMap) (v : Inode) (b : Body) : Type 0 where
+  pub no_link : IsFalse (is_link b)
+  pub mode : v.mode ≡ shown_mode b
+  pub held : HoldsBody image v b

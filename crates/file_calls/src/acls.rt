@@ -5,17 +5,24 @@ ghost use Rattle.posix_acl.specs.AccessList.{AccessList};
 ghost use Rattle.fs_layout.specs.AclSector.{kept_acl};
 ghost use Rattle.fs_layout.specs.Images.{inode_at, free_sectors};
 ghost use Rattle.fs_layout.specs.Inode.{FitsInode};
+ghost use Rattle.fs_model.specs.declared.call.Call.TheVariants.{GetAcl};
+ghost use Rattle.fs_model.specs.AttributeCalls.{acl_shown};
+ghost use Rattle.fs_model.specs.Nodes.{Body, default_in};
 ghost use Rattle.sector_txn.specs.Sectors.{SameStore, IsUnchanged};
 ghost use Rattle.bit_alloc.specs.Inodes.{IsSound};
 ghost use Rattle.bit_alloc.specs.Room.{HasSpare};
 ghost use Rattle.inode_table.specs.Acls.{HasAcl, acl_takes};
 ghost use Rattle.inode_table.specs.Inodes.{IsInodeOf};
 ghost use Rattle.path_walk.specs.Answers.{Interrupts};
-ghost use Rattle.file_calls.specs.Given.{SavesAcl};
+ghost use Rattle.path_walk.specs.Performing.{IsReady, Performs};
+ghost use Rattle.file_calls.specs.Given.{SavesAcl, HasBody};
 
+use crate::found::{find, inode_found};
 use fs_cred::{Errno, Refusal};
 use fs_layout::{Inode, Kind, Place};
-use inode_table::{LoadAclFault, load_acl, save_acl};
+use fs_model::{AclType, Form, Path, Reply};
+use inode_table::{LoadAclFault, load_acl, load_default_acl, save_acl};
+use open_files::Procs;
 use posix_acl::Acl;
 use sector_txn::Sectors;
 use std::alloc::Global;
@@ -66,4 +73,75 @@ pub(crate) fn give_acl<S: Sectors>(
         Ok(()) => Ok(()),
         Err(_) => Err(Refusal::Failed(Errno::EIO)),
     }
+}
+
+// The default ACL of an inode of the table, a file or a directory; what is no directory has none.
+fn shown_default<S: Sectors>(
+    alloc: Global,
+    s: &mut S,
+    place: Place,
+    inode: &Inode,
+) -> Result<Option<Acl>, Refusal>
+    requires sound { IsSound place (S.state s.old) }
+    requires there { IsInodeOf place (S.state s.old).sectors inode.now }
+    requires has { (b : Body) × HasBody (S.state s.old).sectors inode.now b }
+    ensures found { IfOk result (λ acl. (b : Body) → HasBody (S.state s.old).sectors inode.now b → acl ≡ default_in b) }
+    ensures same { IsUnchanged (S.state s.old) (S.state s.new) }
+    ensures interrupts { IfErr result (Interrupts (S.state s.old).disk (S.state s.new).disk) }
+{
+    if inode.kind != Kind::Directory {
+        return Ok(None);
+    }
+    match load_default_acl(alloc, s, place, inode) {
+        Ok(acl) => Ok(acl),
+        Err(LoadAclFault::OutOfMemory) => Err(Refusal::Failed(Errno::ENOMEM)),
+        Err(LoadAclFault::DiskFault) => Err(Refusal::Failed(Errno::EIO)),
+    }
+}
+
+// An ACL of an inode of the table, a file or a directory. What is no directory has no default ACL.
+fn shown_acl<S: Sectors>(
+    alloc: Global,
+    s: &mut S,
+    place: Place,
+    inode: &Inode,
+    which: AclType,
+) -> Result<Option<Acl>, Refusal>
+    requires sound { IsSound place (S.state s.old) }
+    requires there { IsInodeOf place (S.state s.old).sectors inode.now }
+    requires has { (b : Body) × HasBody (S.state s.old).sectors inode.now b }
+    ensures found { IfOk result (λ acl. (b : Body) → HasBody (S.state s.old).sectors inode.now b → acl ≡ acl_shown which b) }
+    ensures same { IsUnchanged (S.state s.old) (S.state s.new) }
+    ensures interrupts { IfErr result (Interrupts (S.state s.old).disk (S.state s.new).disk) }
+{
+    match which {
+        AclType::Access => {
+            let acl = acl_of(alloc, s, place, inode)?;
+            Ok(Some(acl))
+        }
+        AclType::Default => shown_default(alloc, s, place, inode),
+    }
+}
+
+/// Reads an ACL of what a path leads to. ENOENT: the path leads to nothing.
+///
+/// What is no directory has no default ACL, and a directory may have none.
+pub fn get_acl<S: Sectors>(
+    alloc: Global,
+    s: &mut S,
+    place: Place,
+    procs: &Procs,
+    pid: usize,
+    path: &Path,
+    which: AclType,
+) -> Result<Reply, Refusal>
+    requires ready { IsReady place (S.state s.old) procs.now }
+    ensures performs { Performs place pid (GetAcl path.now which) (S.state s.old) (S.state s.new) procs.now procs.now result }
+    ensures same { IsUnchanged (S.state s.old) (S.state s.new) }
+{
+    let process = procs.process(pid)?;
+    let found = find(alloc, s, place, process, path, Form::Follow)?;
+    let (_, inode) = inode_found(s, place, &found)?;
+    let acl = shown_acl(alloc, s, place, &inode, which)?;
+    Ok(Reply::Acl(acl))
 }

@@ -18,11 +18,12 @@ mod sizes;
 mod transfer;
 mod writes;
 
+pub use acls::get_acl;
 pub use attributes::{chmod, chown};
 pub use listing::readdir;
 pub use process::{close, umask};
 pub use rights::access;
 pub use show::{fstat, lstat, stat};
-pub use sizes::truncate;
+pub use sizes::{ftruncate, truncate};
 pub use transfer::{MAX_MOVE, lseek, read};
 pub use writes::write;

@@ -1,4 +1,4 @@
-//! The size of a file that a path leads to: POSIX.1-2017, truncate().
+//! The size of a file: POSIX.1-2017, truncate() and ftruncate().
 
 ghost use Rattle.std.specs.Prelude.{◌≡◌, ◌<◌, ◌≤◌, nat_lt, Ok, OnOk, IfErr};
 ghost use Rattle.fs_cred.specs.declared.errno.Errno.TheVariants.{EISDIR, EFBIG};
@@ -7,11 +7,11 @@ ghost use Rattle.fs_layout.specs.Bytes.{resized};
 ghost use Rattle.fs_layout.specs.Images.{inode_at};
 ghost use Rattle.fs_model.specs.Demands.{refuse};
 ghost use Rattle.fs_model.specs.Rules.{is_directory_kind};
-ghost use Rattle.fs_model.specs.declared.call.Call.TheVariants.{Truncate};
+ghost use Rattle.fs_model.specs.declared.call.Call.TheVariants.{Truncate, Ftruncate};
 ghost use Rattle.sector_txn.specs.Sectors.{SameStore};
 ghost use Rattle.bit_alloc.specs.Inodes.{IsSound};
 ghost use Rattle.bit_alloc.specs.Room.{HasSpare};
-ghost use Rattle.path_walk.specs.Answers.{refused_or, Interrupts};
+ghost use Rattle.path_walk.specs.Answers.{refused_or, FailsToRead};
 ghost use Rattle.path_walk.specs.Performing.{IsReady, Performs};
 ghost use Rattle.file_calls.specs.Changes.{ChangesBytes};
 
@@ -21,7 +21,7 @@ use fs_cred::{Errno, Refusal};
 use fs_layout::{Inode, Kind, MAX_FILE_SIZE, Place};
 use fs_model::{Form, Path, Reply};
 use open_files::Procs;
-use path_walk::permitted;
+use path_walk::{load_inode, permitted};
 use posix_acl::Perms;
 use sector_txn::Sectors;
 use std::alloc::Global;
@@ -68,7 +68,7 @@ fn give_size<S: Sectors>(
     requires spare { HasSpare place 3 (S.state s.old) }
     ensures change { OnOk result (ChangesBytes place n (S.state s.old) (S.state s.new) (λ held. resized held size)) }
     ensures store { SameStore (S.state s.old) (S.state s.new) }
-    ensures interrupts { IfErr result (Interrupts (S.state s.old).disk (S.state s.new).disk) }
+    ensures fault { IfErr result (FailsToRead (S.state s.old).disk (S.state s.new).disk) }
 {
     let mut inode = inode;
     match set_size(s, place, n, &mut inode, size) {
@@ -107,6 +107,31 @@ pub fn truncate<S: Sectors>(
         found.step,
     )?;
     check_size(size)?;
+    give_size(s, place, n, inode, size)?;
+    Ok(Reply::Done)
+}
+
+/// Cuts the file of a descriptor, or fills it up with zeros.
+///
+/// EBADF: it isn't open for writing. EFBIG: the size is more than [`MAX_FILE_SIZE`].
+pub fn ftruncate<S: Sectors>(
+    s: &mut S,
+    place: Place,
+    procs: &Procs,
+    pid: usize,
+    fd: usize,
+    size: u64,
+) -> Result<Reply, Refusal>
+    requires ready { IsReady place (S.state s.old) procs.now }
+    ensures { Performs place pid (Ftruncate fd size) (S.state s.old) (S.state s.new) procs.now procs.now result }
+{
+    let descriptor = procs.get(pid, fd)?;
+    if !descriptor.write {
+        return Err(Refusal::Failed(Errno::EBADF));
+    }
+    let n = descriptor.number;
+    check_size(size)?;
+    let inode = load_inode(s, place, n)?;
     give_size(s, place, n, inode, size)?;
     Ok(Reply::Done)
 }

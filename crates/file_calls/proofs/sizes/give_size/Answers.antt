@@ -1,4 +1,4 @@
-use Rattle.std.proofs.Common.{Err, refl, ap, sym, subst, arith, inr}
+use Rattle.std.proofs.Common.{Err, refl, ap, sym, subst, arith}
 use Rattle.fs_layout.specs.Bytes.{resized}
 use Rattle.block_map.specs.Contents.{AllowsSize}
 use Rattle.file_calls.proofs.Rewritten.{content_changes, only_fails}
@@ -11,10 +11,10 @@ pub returns-in-Ok-clause-change : goal.returns-in-Ok-clause-change
 returns-in-Ok-clause-change g c =
     content_changes (λ held. resized held c.args.size) c.requires.inode c.in-Ok.ensures.change c.in-Ok.ensures.held
 
-pub returns-in-Err-clause-interrupts : goal.returns-in-Err-clause-interrupts
-returns-in-Err-clause-interrupts g c =
+pub returns-in-Err-clause-fault : goal.returns-in-Err-clause-fault
+returns-in-Err-clause-fault g c =
     let e = c.in-Err.ensures in
-    inr (
+    (
       refl,
       only_fails (g.S.Sectors.state c.args.s.now).disk (g.S.Sectors.state c.set_size.new.s).disk c.in-Err.field-0
           (λ big. let far = e.too_big.0 (ap (λ x. Err x) big) in let fits = c.requires.fits in omega (arith, far, fits))

@@ -221,7 +221,7 @@ returns-in_err-give_size g c =
     let e = c.in_err-give_size.field-0.0 in
     demands_refused c.args.pid (truncate_by_path c.args.path.now c.args.size) q c.in_ok-process.ensures.found found.same f found.valid found.each
     new c.from_residual-in_err-give_size.result e r.0 r.1 (store_joined (unchanged_joined c.in_ok-n.ensures.same c.in_ok-permitted.ensures.same).store c.in_err-give_size.ensures.store) {A = ℕ} 0
-    (λ s has at. inr (interrupts_later new.disk (unchanged_joined c.in_ok-n.ensures.same c.in_ok-permitted.ensures.same) c.in_err-give_size.ensures.interrupts))
+    (λ s has at. inr (interrupts_later new.disk (unchanged_joined c.in_ok-n.ensures.same c.in_ok-permitted.ensures.same) (inr c.in_err-give_size.ensures.fault)))
 
 pub returns : goal.returns
 returns g c =

@@ -1,0 +1,86 @@
+-- What ftruncate asks and does.
+--     ftruncate_by        its row
+--     size_asked, size_fits        what it asks
+--     process_stays        its process stays as it is
+--     cuts        the tree afterwards
+use Rattle.std.specs.Prelude.{◌≡◌, ℕ, ◌≤◌, ◌==◌, Bool, true, not, List, [], ◌∷◌, length, nat_lt, None, Some, IsTrue, Ok, Err}
+use Rattle.std.proofs.Common.{refl, sym, ap, subst, arith, ◌∙◌}
+use Rattle.std.proofs.lemmas.Bool.{le-ltb, ltb-false}
+use Rattle.std.specs.Ordering.{nat_cmp}
+use Rattle.fs_cred.specs.declared.errno.Errno.TheVariants.{EFBIG}
+use Rattle.fs_cred.specs.declared.refusal.Refusal.{Refusal}
+use Rattle.fs_layout.specs.declared.inode.TheConstants.{MAX_FILE_SIZE}
+use Rattle.fs_layout.specs.declared.place.Place.{Place}
+use Rattle.fs_layout.specs.Bytes.{resized}
+use Rattle.sector_txn.specs.Sectors.{TxnState}
+use Rattle.fs_model.specs.declared.call.Call.TheVariants.{Ftruncate}
+use Rattle.fs_model.specs.declared.reply.Reply.TheVariants.{Done}
+use Rattle.fs_model.specs.Births.{the_node}
+use Rattle.fs_model.specs.Changes.{Rewrite}
+use Rattle.fs_model.specs.Demands.{Demand, refuse, first_of}
+use Rattle.fs_model.specs.DescriptorCalls.{ftruncate_row, ftruncate_demands, ftruncate_effect, resized_node}
+use Rattle.fs_model.specs.Nodes.{Node, bytes_in}
+use Rattle.fs_model.specs.Processes.{Process, Desks, Descriptor, the_descriptor, is_open}
+use Rattle.fs_model.specs.Rows.{row_of}
+use Rattle.fs_model.specs.Scenes.{Effect, is_bad_to_write}
+use Rattle.fs_model.specs.States.{State}
+use Rattle.fs_model.specs.Trees.{Room}
+use Rattle.fs_model.proofs.StepsBodies.{bytes_are_bytes, length-resized, IsBytes-resized}
+use Rattle.fs_model.proofs.StepsDemands.{unrefused}
+use Rattle.fs_model.proofs.Unchanged.{same_process_stays}
+use Rattle.open_files.specs.Tables.{with_changed, IsTable}
+use Rattle.path_walk.specs.Answers.{refused_or}
+use Rattle.path_walk.specs.Performing.{IsStateOf}
+use Rattle.path_walk.proofs.Calling.{met_ok, refused_err}
+use Rattle.file_calls.specs.Changes.{ChangesBytes}
+use Rattle.file_calls.proofs.ByDescriptor.{open_scene, IsByDescriptor, IsOpened, the_opened, open_fits, open_node, changed_there}
+use Rattle.file_calls.proofs.Rewritten.{ChangesTree, bytes_rewritten}
+use Rattle.file_calls.proofs.Writing.{bad_write_closed, file_kind}
+
+ftruncate_is : (fd size : ℕ) → row_of (Ftruncate fd size) ≡ ftruncate_row fd size
+unfolding row_of
+ftruncate_is fd size = refl
+
+pub ftruncate_by : (fd size : ℕ) → IsByDescriptor (Ftruncate fd size) fd (is_bad_to_write fd) (ftruncate_demands size) (ftruncate_effect fd size)
+ftruncate_by fd size = record { row = ftruncate_is fd size; closed = bad_write_closed fd }
+
+-- its process is written back as it is
+pub process_stays : {desks : Desks} {pid fd : ℕ} {d : Descriptor} → IsOpened desks pid fd d → IsTable desks → desks ≡ with_changed desks pid (λ p. p)
+process_stays {desks} {pid} o table =
+    sym (changed_there desks pid o.process (λ p. p) o.there ∙ same_process_stays desks pid o.process table.rising o.there)
+
+module _ {p : Place} (old : TxnState) {desks : Desks} {pid fd : ℕ} {d : Descriptor} (o : IsOpened desks pid fd d) (size : ℕ) (s : State)
+    (at : IsStateOf p old.sectors desks s) where
+  asked_is : first_of (ftruncate_demands size (open_scene s o.process)) ≡ first_of (refuse EFBIG (nat_lt MAX_FILE_SIZE size) ∷ [])
+  asked_is = ap (λ (r : Room). first_of (refuse EFBIG (nat_lt r.file_limit size) ∷ [])) at.same_room
+
+  one_asked : (b : Bool) (e : Refusal) → refused_or {A = Unit {0}} (refuse EFBIG b) (Ok tt) ≡ Err e → first_of (refuse EFBIG b ∷ []) ≡ Some e
+  one_asked b e is = ap (λ (x : Demand). first_of (x ∷ [])) (refused_err {A = Unit {0}} (refuse EFBIG b) tt e is)
+
+  pub size_asked : (e : Refusal) → refused_or {A = Unit {0}} (refuse EFBIG (nat_lt MAX_FILE_SIZE size)) (Ok tt) ≡ Err e
+      → first_of (ftruncate_demands size (open_scene s o.process)) ≡ Some e
+  size_asked e is = asked_is ∙ one_asked (nat_lt MAX_FILE_SIZE size) e is
+
+  pub size_met : size ≤ MAX_FILE_SIZE → first_of (ftruncate_demands size (open_scene s o.process)) ≡ None
+  size_met fits = asked_is ∙ ap (λ (b : Bool). first_of (refuse EFBIG b ∷ [])) (le-ltb MAX_FILE_SIZE size fits)
+
+  pub cuts : (new : TxnState) → d.write ≡ true → size ≤ MAX_FILE_SIZE → desks ≡ with_changed desks pid (λ p. p)
+      → ChangesBytes p d.number old new (λ held. resized held size)
+      → ChangesTree p new.sectors s desks (ftruncate_effect fd size (open_scene s o.process)) o.process Done
+  cuts new open_to_write fits same c =
+      let x = open_fits o s at in
+      let body = (at.is_state.tree.each d.number x.node x.is_there).body in
+      let limit : s.room.file_limit ≡ MAX_FILE_SIZE = ap (λ (r : Room). r.file_limit) at.same_room in
+      let len = length-resized (bytes_in x.node.body) size in
+      record {
+        change = Rewrite d.number (resized_node size x.node);
+        is = ap (λ (y : Descriptor). change_of y.number (the_node s.tree y.number)) (the_opened o)
+            ∙ ap (change_of d.number) (sym (ap (λ (y : Descriptor). the_node s.tree y.number) (the_opened o)) ∙ open_node o s at);
+        new_number = tt;
+        holds = bytes_rewritten at desks (λ n was. subst (λ (k : Desks). IsTrue (is_open k n)) at.same_desks was) d.number x.node x.is_there
+            (file_kind o s at open_to_write) (λ held. resized held size) c
+            (omega (arith, len, limit, fits)) (IsBytes-resized (bytes_in x.node.body) size (bytes_are_bytes s.room s.tree x.node.body body));
+      }
+    where
+      change_of : ℕ → Node → Effect
+      change_of n node = record { change = Rewrite n (resized_node size node); process = o.process; reply = Done }
