@@ -3,10 +3,9 @@
 --     size_asked, size_fits        what it asks
 --     process_stays        its process stays as it is
 --     cuts        the tree afterwards
-use Rattle.std.specs.Prelude.{◌≡◌, ℕ, ◌≤◌, ◌==◌, Bool, true, not, List, [], ◌∷◌, length, nat_lt, None, Some, IsTrue, Ok, Err}
+use Rattle.std.specs.Prelude.{◌≡◌, ℕ, ◌≤◌, Bool, true, [], ◌∷◌, nat_lt, None, Some, IsTrue, Ok, Err}
 use Rattle.std.proofs.Common.{refl, sym, ap, subst, arith, ◌∙◌}
-use Rattle.std.proofs.lemmas.Bool.{le-ltb, ltb-false}
-use Rattle.std.specs.Ordering.{nat_cmp}
+use Rattle.std.proofs.lemmas.Bool.{le-ltb}
 use Rattle.fs_cred.specs.declared.errno.Errno.TheVariants.{EFBIG}
 use Rattle.fs_cred.specs.declared.refusal.Refusal.{Refusal}
 use Rattle.fs_layout.specs.declared.inode.TheConstants.{MAX_FILE_SIZE}
@@ -20,18 +19,17 @@ use Rattle.fs_model.specs.Changes.{Rewrite}
 use Rattle.fs_model.specs.Demands.{Demand, refuse, first_of}
 use Rattle.fs_model.specs.DescriptorCalls.{ftruncate_row, ftruncate_demands, ftruncate_effect, resized_node}
 use Rattle.fs_model.specs.Nodes.{Node, bytes_in}
-use Rattle.fs_model.specs.Processes.{Process, Desks, Descriptor, the_descriptor, is_open}
+use Rattle.fs_model.specs.Processes.{Desks, Descriptor, is_open}
 use Rattle.fs_model.specs.Rows.{row_of}
 use Rattle.fs_model.specs.Scenes.{Effect, is_bad_to_write}
 use Rattle.fs_model.specs.States.{State}
 use Rattle.fs_model.specs.Trees.{Room}
 use Rattle.fs_model.proofs.StepsBodies.{bytes_are_bytes, length-resized, IsBytes-resized}
-use Rattle.fs_model.proofs.StepsDemands.{unrefused}
 use Rattle.fs_model.proofs.Unchanged.{same_process_stays}
 use Rattle.open_files.specs.Tables.{with_changed, IsTable}
 use Rattle.path_walk.specs.Answers.{refused_or}
 use Rattle.path_walk.specs.Performing.{IsStateOf}
-use Rattle.path_walk.proofs.Calling.{met_ok, refused_err}
+use Rattle.path_walk.proofs.Calling.{refused_err}
 use Rattle.file_calls.specs.Changes.{ChangesBytes}
 use Rattle.file_calls.proofs.ByDescriptor.{open_scene, IsByDescriptor, IsOpened, the_opened, open_fits, open_node, changed_there}
 use Rattle.file_calls.proofs.Rewritten.{ChangesTree, bytes_rewritten}

@@ -2,7 +2,7 @@
 --     bytes_rewritten        the map holds the tree with the file's new bytes
 --     content_changes, only_fails        from block_map's promises
 --     changed_tree        a call by a descriptor has changed the tree and its process
-use Rattle.std.specs.Prelude.{◌≡◌, ℕ, ◌≤◌, ◌==◌, List, length, None, Some, IsTrue, IsFalse, Result, Ok, Err}
+use Rattle.std.specs.Prelude.{◌≡◌, ℕ, ◌≤◌, ◌==◌, List, length, None, Some, IsTrue, Ok}
 use Rattle.std.proofs.Common.{refl, sym, ap, subst, ◌∙◌}
 use Rattle.std.specs.List.{list_any}
 use Rattle.std.specs.Ordering.{nat_cmp}
@@ -18,7 +18,6 @@ use Rattle.block_map.specs.Contents.{ChangesContent}
 use Rattle.block_map.specs.declared.fault.MapFault.{MapFault}
 use Rattle.block_map.specs.declared.fault.MapFault.TheVariants as map
 use Rattle.fs_model.specs.declared.call.Call.{Call}
-use Rattle.fs_model.specs.declared.event.Event.TheVariants.{Call as Calls}
 use Rattle.fs_model.specs.declared.reply.Reply.{Reply}
 use Rattle.fs_model.specs.Changes.{Change, Rewrite, changed, swept}
 use Rattle.fs_model.specs.Demands.{Demand, first_of}
@@ -33,7 +32,7 @@ use Rattle.fs_model.specs.Trees.{node_at, names_of, parent}
 use Rattle.fs_model.proofs.PlacedChanges.{rewrite_held}
 use Rattle.fs_model.proofs.StepsBodies.{bytes_may_replace}
 use Rattle.open_files.specs.Tables.{with_changed}
-use Rattle.path_walk.specs.Performing.{IsStateOf, IsDone, Performs}
+use Rattle.path_walk.specs.Performing.{IsStateOf, Performs}
 use Rattle.path_walk.proofs.Calling.{state_tree, same_process}
 use Rattle.path_walk.proofs.HeldChanges.{bytes_held}
 use Rattle.path_walk.proofs.HeldNodes.{held_node, bytes_say}

@@ -1,20 +1,11 @@
 -- The ACLs of a file or a directory, as its inode has them.
-use Rattle.std.specs.Prelude.{◌≡◌, ◌≢◌, Option, None, Some, IsTrue}
-use Rattle.std.proofs.Common.{refl, sym, ap, ◌∙◌}
+use Rattle.std.specs.Prelude.{◌≡◌, ◌≢◌, None, Some}
+use Rattle.std.proofs.Common.{refl, sym, ◌∙◌}
 use Rattle.posix_acl.specs.AccessList.{AccessList}
 use Rattle.fs_layout.specs.declared.inode.Inode.{Inode}
-use Rattle.fs_layout.specs.declared.inode.Kind.{Kind}
 use Rattle.fs_layout.specs.declared.inode.Kind.TheVariants as kinds
-use Rattle.fs_layout.specs.declared.place.Place.{Place}
 use Rattle.fs_layout.specs.Bytes.{SectorMap}
-use Rattle.fs_model.specs.declared.call.AclType.{AclType}
-use Rattle.fs_model.specs.declared.reply.Reply.TheVariants.{Acl}
-use Rattle.fs_model.specs.AttributeCalls.{stat_demands, get_acl_effect, acl_shown}
-use Rattle.fs_model.specs.Demands.{first_of}
-use Rattle.fs_model.specs.Nodes.{Node, Body, File, Dir, Link, acl_in, default_in, is_directory, is_link, accessed_body}
-use Rattle.fs_model.specs.Processes.{Process}
-use Rattle.fs_model.specs.Scenes.{must_be_there, answers, number}
-use Rattle.fs_model.specs.States.{State}
+use Rattle.fs_model.specs.Nodes.{Body, File, Dir, Link, acl_in, default_in}
 use Rattle.inode_table.specs.Acls.{HasAcl, HasDefaultAcl}
 use Rattle.path_walk.proofs.HeldNodes.{access_says, default_says}
 use Rattle.file_calls.specs.Given.{HasBody}

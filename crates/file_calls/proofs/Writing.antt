@@ -4,8 +4,8 @@
 --     asks_nothing        to write nothing is never refused
 --     too_far, too_full, all_met        what it asks
 --     writes        the tree and the process afterwards
-use Rattle.std.specs.Prelude.{◌≡◌, ◌⊎◌, ℕ, ◌+◌, ◌-◌, ◌<◌, ◌≤◌, ◌==◌, min, Bool, true, false, not, List, [], ◌∷◌, length, take, nat_lt, nat_le, if◌then◌else◌, Option, None, Some, unwrap_or, IsTrue, IsFalse, Result, Ok, Err}
-use Rattle.std.proofs.Common.{refl, sym, ap, subst, arith, ◌∙◌, inl, inr}
+use Rattle.std.specs.Prelude.{◌≡◌, ℕ, ◌+◌, ◌-◌, ◌<◌, ◌≤◌, ◌==◌, min, Bool, true, false, not, List, [], ◌∷◌, length, take, nat_lt, nat_le, if◌then◌else◌, Option, None, Some, unwrap_or, IsTrue, IsFalse, Ok}
+use Rattle.std.proofs.Common.{refl, sym, ap, arith, ◌∙◌}
 use Rattle.std.proofs.lemmas.Bool.{eqb-true, ltb-false, lt-ltb, le-ltb, le-leb, lt-leb}
 use Rattle.std.proofs.lemmas.List.{length-take}
 use Rattle.fs_cred.specs.declared.errno.Errno.TheVariants.{EBADF, EFBIG, ENOSPC}

@@ -1,7 +1,7 @@
 use Rattle.std.proofs.Common.{◌≡◌, rules}
 use Rattle.fs_layout.specs.declared.inode.Kind.TheVariants as kinds
 use Rattle.fs_model.specs.Nodes.{default_in}
-use Rattle.file_calls.proofs.ShownAcls.{default_of_directory, no_default}
+use Rattle.file_calls.proofs.ShownAcls.{default_of_directory}
 use Rattle.file_calls.proofs.acls.shown_default.Goals as goal
 
 pub load_default_acl-requires-clause-has : goal.load_default_acl-requires-clause-has

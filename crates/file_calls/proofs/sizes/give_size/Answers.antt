@@ -13,8 +13,7 @@ returns-in-Ok-clause-change g c =
 
 pub returns-in-Err-clause-fault : goal.returns-in-Err-clause-fault
 returns-in-Err-clause-fault g c =
-    let e = c.in-Err.ensures in
-    (
+    let e = c.in-Err.ensures in (
       refl,
       only_fails (g.S.Sectors.state c.args.s.now).disk (g.S.Sectors.state c.set_size.new.s).disk c.in-Err.field-0
           (λ big. let far = e.too_big.0 (ap (λ x. Err x) big) in let fits = c.requires.fits in omega (arith, far, fits))

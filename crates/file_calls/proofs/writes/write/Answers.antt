@@ -168,8 +168,8 @@ returns g c =
     changed_tree c.args.pid (write_by c.args.fd bytes) old o (write_asked o false c.if-not-descriptor.false) new c.seek.new.self
     (store_joined same.store c.in_ok-write_bytes.ensures.store) (change.super ∙ same.sectors 0) (λ p. with_offset p c.args.fd to) (Wrote count) c.seek.ensures.moved
     (λ s at. (
-    all_met o s at wrote v is offset from bytes some near enough,
-    writes o s (state_kept same at) wrote v (kept (λ (m : SectorMap). v ≡ inode_at c.args.place m c.descriptor.inside.number) same is) offset
-        from bytes some near c.bytes-bytes.ensures.valid count counted c.seek.new.self
-        (still_now o s at c.seek.new.self (λ p. with_offset p c.args.fd to) c.seek.ensures.moved (offset_stays_open o c.in_ok-descriptor.ensures.table to)) change,
+      all_met o s at wrote v is offset from bytes some near enough,
+      writes o s (state_kept same at) wrote v (kept (λ (m : SectorMap). v ≡ inode_at c.args.place m c.descriptor.inside.number) same is) offset
+          from bytes some near c.bytes-bytes.ensures.valid count counted c.seek.new.self
+          (still_now o s at c.seek.new.self (λ p. with_offset p c.args.fd to) c.seek.ensures.moved (offset_stays_open o c.in_ok-descriptor.ensures.table to)) change,
     ))
