@@ -139,7 +139,7 @@ module _ (c : Scene) (is : IsScene c) (asks : IsRenamed c) (same : is_same c ≡
   rename_loses from to =
       let a = from.old refl asks.first in
       let b = to.old refl asks.second in
-      subst (λ u. LosesNames c.state.room c.state.tree u c.state.desks (lost_of c.second.ino)) 
+      subst (λ u. LosesNames c.state.room c.state.tree u c.state.desks (lost_of c.second.ino))
       (sym (moved_is c.state.room c.state.tree c.state.desks c.first.dir (dir_node c c.first) c.first.name (number c.first) c.second.dir (dir_node c c.second)
       c.second.name c.second.ino is.state.tree (moves_name a b)))
       (moves_loses c.state.room c.state.tree c.state.desks c.first.dir (dir_node c c.first) c.first.name (number c.first) c.second.dir (dir_node c c.second)
