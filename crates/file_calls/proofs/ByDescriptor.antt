@@ -127,7 +127,7 @@ module _ (s : State) (pid : ℕ) (q : Process) {call : Call} {fd : ℕ} {bad : P
 -- ---- tables
 
 -- a value that stands at a number stands there again
-entry_again : {X : Type 0} (m : List (ℕ × X)) (k : ℕ) (x : X) → IsMap nat_cmp m → get nat_cmp m k ≡ Some x → with_entry nat_cmp m k x ≡ m
+pub entry_again : {X : Type 0} (m : List (ℕ × X)) (k : ℕ) (x : X) → IsMap nat_cmp m → get nat_cmp m k ≡ Some x → with_entry nat_cmp m k x ≡ m
 entry_again {X} m k x h there = same_map (with_entry nat_cmp m k x) m (with_entry-IsMap m k x h) h
     (λ q. get-with_entry m k x q ∙ at q (is_eq (nat_cmp q k)) refl)
   where

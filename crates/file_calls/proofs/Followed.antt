@@ -20,9 +20,10 @@ use Rattle.fs_model.specs.declared.reply.Reply.TheVariants.{Granted}
 use Rattle.fs_model.specs.AttributeCalls.{access_effect, granted_by}
 use Rattle.fs_model.specs.Births.{no_node}
 use Rattle.fs_model.specs.Demands.{Demand, accessed_at, decided, permission_of, permission_on}
-use Rattle.fs_model.specs.Nodes.{Node, Body, File, Dir, Link, accessed, accessed_body, is_link}
+use Rattle.fs_model.specs.Nodes.{Node, Body, File, Dir, Link, accessed, accessed_body, is_directory, is_link}
 use Rattle.fs_model.specs.Processes.{Process, Desks}
-use Rattle.fs_model.specs.Scenes.{number, node_found, permission_at_end, answers}
+use Rattle.fs_model.specs.Scenes.{number, node_found, body_found, permission_at_end, answers}
+use Rattle.fs_model.specs.Rules.{is_directory_kind}
 use Rattle.fs_model.specs.States.{State}
 use Rattle.fs_model.specs.StoredNodes.{HoldsNode}
 use Rattle.fs_model.specs.Trees.{Tree, node_at, names_of, parent}
@@ -32,7 +33,7 @@ use Rattle.path_walk.specs.HeldTrees.{HasAccess}
 use Rattle.path_walk.specs.Paths.{scene_at, HasFound}
 use Rattle.path_walk.specs.Performing.{IsStateOf}
 use Rattle.path_walk.proofs.Calling.{state_tree, found_ino, found_there, met_ok, answered_later}
-use Rattle.path_walk.proofs.HeldNodes.{stands, held_access, held_node}
+use Rattle.path_walk.proofs.HeldNodes.{stands, held_access, held_kind, held_node}
 use Rattle.path_walk.proofs.Kept.{kept}
 use Rattle.file_calls.specs.Given.{HasBody}
 use Rattle.file_calls.proofs.Shown.{IsInode}
@@ -48,12 +49,12 @@ pub accessed_is : (t : Tree) (n : ℕ) (a : IsAccessed t n) → accessed_at t n 
 accessed_is t n a = ap (λ o. option_and_then accessed o) a.at ∙ a.is
 
 -- what access is decided on is no link
-plain : (owner group : ℕ) (b : Body) (x : AccessNode) → accessed_body owner group b ≡ Some x → IsFalse (is_link b)
+pub plain : (owner group : ℕ) (b : Body) (x : AccessNode) → accessed_body owner group b ≡ Some x → IsFalse (is_link b)
 plain owner group (File a bytes) x e = refl
 plain owner group (Dir a d) x e = refl
 plain owner group (Link target) x e = absurd (cc)
 
-accessible : (owner group : ℕ) (b : Body) → is_link b ≡ false → (x : AccessNode) × (accessed_body owner group b ≡ Some x)
+pub accessible : (owner group : ℕ) (b : Body) → is_link b ≡ false → (x : AccessNode) × (accessed_body owner group b ≡ Some x)
 accessible owner group (File a bytes) e = (_, refl)
 accessible owner group (Dir a d) e = (_, refl)
 accessible owner group (Link target) e = absurd (cc)
@@ -77,6 +78,15 @@ asked_of s q f want n is a =
 
 pub node_is : (s : State) (q : Process) (f : Found) (n : ℕ) → number f ≡ n → (a : IsAccessed s.tree n) → node_found (scene_at s q f) f ≡ a.node
 node_is s q f n is a = ap (λ (k : ℕ). unwrap_or (node_at s.tree k) no_node) is ∙ ap (λ o. unwrap_or o no_node) a.at
+
+-- it is a directory where its inode says so
+pub directory_is : {p : Place} {map : SectorMap} {desks : Desks} {s : State} {pid : ℕ} {q : Process} {path : List ℕ} {f : Found} {n : ℕ} {v : Inode}
+    → IsStateOf p map desks s → HasFound s pid q Follow path f → f.ino ≡ Some n → number f ≡ n → v ≡ inode_at p map n
+    → is_directory (body_found (scene_at s q f) f) ≡ is_directory_kind v.kind
+directory_is {p} {map} {desks} {s} {pid} {q} {path} {f} {n} {v} at has some is inode =
+    let a = followed_access n at has some in
+    ap (λ (u : Node). is_directory u.body) (node_is s q f n is a)
+    ∙ sym (ap (λ (w : Inode). is_directory_kind w.kind) inode ∙ held_kind (state_tree at) n a.node a.at)
 
 -- the rule that grants it is answered
 pub rule_told : (s : State) (q : Process) (f : Found) (want : Perms) (n : ℕ) → number f ≡ n → (a : IsAccessed s.tree n)

@@ -6,6 +6,12 @@ pub mod Listed
 pub mod Reading
 pub mod Followed
 pub mod Moded
+pub mod Masked
+pub mod OpenFound
+pub mod NewFile
+pub mod OpenMade
+pub mod OpenNew
+pub mod OpenRow
 pub mod Owned
 pub mod Rows
 pub mod Seeking
@@ -16,3 +22,4 @@ pub mod Rewritten
 pub mod Writing
 pub mod Cutting
 pub mod ShownAcls
+pub mod GivenAcls

@@ -2,13 +2,14 @@
 use Rattle.std.specs.Prelude.{◌≡◌, ℕ, List, [], ◌∷◌, Option, None}
 use Rattle.std.proofs.Common.{refl, ap}
 use Rattle.posix_acl.specs.declared.entry.Perms.{Perms}
+use Rattle.posix_acl.specs.AccessList.{AccessList}
 use Rattle.fs_model.specs.declared.call.AclType.{AclType}
-use Rattle.fs_model.specs.declared.call.Call.TheVariants.{Stat, Lstat, Access, GetAcl, Truncate, Chmod, Chown}
+use Rattle.fs_model.specs.declared.call.Call.TheVariants.{Stat, Lstat, Access, GetAcl, SetAcl, Truncate, Chmod, Chown}
 use Rattle.fs_model.specs.declared.walk.Form.TheVariants.{Follow, NoFollow}
-use Rattle.fs_model.specs.Demands.{Demand, or_else}
+use Rattle.fs_model.specs.Demands.{Demand, or_else, first_of}
 use Rattle.fs_model.specs.Rows.{row_of}
 use Rattle.fs_model.specs.Scenes.{check_of_mode}
-use Rattle.fs_model.specs.AttributeCalls.{stat_row, lstat_row, access_row, get_acl_row, truncate_row, chmod_row, chown_row, stat_demands, stat_effect, access_demands, access_effect, get_acl_effect, truncate_demands, truncate_effect, chmod_demands, chmod_effect, chown_demands, chown_effect}
+use Rattle.fs_model.specs.AttributeCalls.{stat_row, lstat_row, access_row, get_acl_row, set_acl_row, truncate_row, chmod_row, chown_row, stat_demands, stat_effect, access_demands, access_effect, get_acl_effect, set_acl_arguments, set_acl_demands, set_acl_effect, truncate_demands, truncate_effect, chmod_demands, chmod_effect, chown_demands, chown_effect}
 use Rattle.path_walk.proofs.ByPath.{IsByPath}
 
 module _ (path : List ℕ) where
@@ -66,3 +67,12 @@ module _ (path : List ℕ) where
     met = ap (λ (d : Demand). or_else d None) none;
     asks = refl;
   }
+
+  pub set_acl_is : (which : AclType) (acl : Option AccessList) → row_of (SetAcl path which acl) ≡ set_acl_row path which acl
+  unfolding row_of
+  set_acl_is which acl = refl
+
+  -- no access ACL is removed
+  pub set_acl_by_path : (which : AclType) (acl : Option AccessList) → first_of (set_acl_arguments which acl) ≡ None
+      → IsByPath (SetAcl path which acl) Follow path (set_acl_demands which acl) (set_acl_effect which acl)
+  set_acl_by_path which acl none = record { arguments = set_acl_arguments which acl; row = set_acl_is which acl; met = none; asks = refl }

@@ -19,10 +19,9 @@ use Rattle.fs_model.specs.declared.reply.Reply.TheVariants.{Done}
 use Rattle.fs_model.specs.declared.walk.Form.TheVariants.{Follow}
 use Rattle.fs_model.specs.declared.walk.Found.{Found}
 use Rattle.fs_model.specs.AttributeCalls.{truncate_demands, truncate_effect}
-use Rattle.fs_model.specs.Births.{the_node}
 use Rattle.fs_model.specs.Demands.{Demand, refuse, first_of, perms}
 use Rattle.fs_model.specs.DescriptorCalls.{resized_node}
-use Rattle.fs_model.specs.Nodes.{Node, is_directory, bytes_in}
+use Rattle.fs_model.specs.Nodes.{is_directory, bytes_in}
 use Rattle.fs_model.specs.Processes.{Process, Desks}
 use Rattle.fs_model.specs.Rules.{is_directory_kind}
 use Rattle.fs_model.specs.Scenes.{number, must_be_there, body_found, permission_at_end}
@@ -35,11 +34,10 @@ use Rattle.path_walk.specs.Paths.{scene_at, HasFound}
 use Rattle.path_walk.specs.Performing.{IsStateOf}
 use Rattle.path_walk.proofs.Calling.{state_tree, next_asked, first_asked, both_met, or_else-none}
 use Rattle.path_walk.proofs.HeldChanges.{bytes_held}
-use Rattle.path_walk.proofs.HeldNodes.{held_node, held_kind, bytes_say}
+use Rattle.path_walk.proofs.HeldNodes.{held_node, bytes_say}
 use Rattle.file_calls.specs.Changes.{ChangesBytes}
 use Rattle.file_calls.proofs.Changed.{IsChange, rewrites_found}
-use Rattle.file_calls.proofs.Followed.{followed_access}
-use Rattle.file_calls.proofs.Shown.{the_node_is}
+use Rattle.file_calls.proofs.Followed.{directory_is, followed_access, node_is}
 
 -- on what access is decided is a file, where it is no directory
 pub file_kind : (k : NodeKind) (v : Kind) → v ≡ stored_kind k → refuse EISDIR (is_directory_kind v) ≡ None → v ≡ kinds.File
@@ -63,14 +61,6 @@ truncate_rest size s q f =
 module _ {p : Place} {map : SectorMap} {desks : Desks} {s : State} {pid : ℕ} {q : Process} {path : List ℕ} {f : Found} {n : ℕ} {v : Inode}
     (at : IsStateOf p map desks s) (has : HasFound s pid q Follow path f) (some : f.ino ≡ Some n) (number_is : number f ≡ n) (inode : v ≡ inode_at p map n)
     (size : ℕ) where
-  node_is : the_node s.tree (number f) ≡ (followed_access n at has some).node
-  node_is = let a = followed_access n at has some in ap (the_node s.tree) number_is ∙ the_node_is s.tree n a.node a.at
-
-  directory_is : is_directory (body_found (scene_at s q f) f) ≡ is_directory_kind v.kind
-  directory_is =
-      let a = followed_access n at has some in
-      ap (λ (u : Node). is_directory u.body) node_is ∙ sym (ap (λ (w : Inode). is_directory_kind w.kind) inode ∙ held_kind (state_tree at) n a.node a.at)
-
   abbrev last_asked : List Demand
   last_asked = refuse EFBIG (nat_lt MAX_FILE_SIZE size) ∷ []
 
@@ -86,7 +76,7 @@ module _ {p : Place} {map : SectorMap} {desks : Desks} {s : State} {pid : ℕ} {
   demands_are : truncate_demands size (scene_at s q f) ≡ asked
   demands_are =
       ap (λ (b : Bool). must_be_there f ∷ refuse EISDIR b ∷ permission_at_end (scene_at s q f) f 1 (perms false true false)
-      ∷ refuse EFBIG (nat_lt s.room.file_limit size) ∷ []) directory_is
+      ∷ refuse EFBIG (nat_lt s.room.file_limit size) ∷ []) (directory_is at has some number_is inode)
       ∙ ap (λ (r : Room). must_be_there f ∷ refuse EISDIR (is_directory_kind v.kind) ∷ permission_at_end (scene_at s q f) f 1 (perms false true false)
       ∷ refuse EFBIG (nat_lt r.file_limit size) ∷ []) at.same_room
 
@@ -153,4 +143,4 @@ module _ {p : Place} {old : TxnState} {desks : Desks} {s : State} {pid : ℕ} {q
       (record { node = a.node; names = names_of s.tree n; parent = parent s.tree n }) held (resized (bytes_in a.node.body) size) is_file c.fields c.acls
       (c.held (bytes_in a.node.body) (bytes_say old.sectors (inode_at p old.sectors n) a.node.body is_file held.body)))
       q f (truncate_demands size (scene_at s q f)) (resized_node size) (all_granted at has some number_is inode size there file granted fits) number_is
-      (node_is at has some number_is inode size) refl
+      (node_is s q f n number_is a) refl

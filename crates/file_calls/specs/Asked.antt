@@ -1,12 +1,20 @@
 -- What a call asks on the inode that it has found.
 --     own_asked        to own it
 --     owner_asked        to give it another owner or group
-use Rattle.std.specs.Prelude.{ℕ, List, [], ◌∷◌}
+--     holder_asked, acl_space_asked        to give it an ACL
+use Rattle.std.specs.Prelude.{ℕ, nat_lt, not, ◌&&◌, List, [], ◌∷◌, Option}
+use Rattle.posix_acl.specs.AccessList.{AccessList}
+use Rattle.fs_cred.specs.declared.errno.Errno.TheVariants.{ENOSPC, ENOTDIR}
 use Rattle.fs_cred.specs.declared.refusal.Need.TheVariants.{Own, Chown, Chgrp}
 use Rattle.fs_cred.specs.declared.rule.Rule.TheVariants.{NotOwner, NotSuperuser, NotMember}
 use Rattle.fs_cred.specs.Credentials.{Credential}
 use Rattle.fs_cred.specs.Ownership.{may_own, may_chown, may_chgrp}
-use Rattle.fs_model.specs.Demands.{Demand, denied_unless}
+use Rattle.fs_layout.specs.declared.inode.Kind.{Kind}
+use Rattle.fs_model.specs.declared.call.AclType.{AclType}
+use Rattle.fs_model.specs.AttributeCalls.{is_default, needs_sector}
+use Rattle.fs_model.specs.Demands.{Demand, refuse, only_if, denied_unless}
+use Rattle.fs_model.specs.Limits.{least_free}
+use Rattle.fs_model.specs.Rules.{is_directory_kind}
 
 abbrev pub own_asked : Credential → ℕ → ℕ → Demand
 own_asked cred owner step = denied_unless (may_own cred owner) 1 step Own NotOwner
@@ -17,3 +25,11 @@ owner_asked cred owner group uid gid step =
     denied_unless (may_chown cred owner uid) 1 step Chown NotSuperuser
     ∷ denied_unless (may_chgrp cred group gid) 1 step Chgrp NotMember
     ∷ []
+
+-- what is of this kind gets an ACL of this type
+abbrev pub holder_asked : AclType → Kind → Demand
+holder_asked which kind = refuse ENOTDIR (is_default which && not (is_directory_kind kind))
+
+-- the ACL has a sector, where so many are free
+abbrev pub acl_space_asked : AclType → Option AccessList → ℕ → List Demand
+acl_space_asked which acl free = only_if (needs_sector which acl) (refuse ENOSPC (nat_lt free least_free) ∷ [])

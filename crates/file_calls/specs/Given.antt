@@ -2,8 +2,9 @@
 --     ChangesOne        one inode
 --     GivesOwner        another owner and group
 --     special_mode, SavesAcl        another mode or access ACL
+--     SavesDefaultAcl        another default ACL
 --     HasBody        what a call shows of an inode
-use Rattle.std.specs.Prelude.{◌≡◌, ℕ, ◌+◌, ◌/◌, ◌%◌, ◌==◌, ◌<◌, ◌^◌, ◌&&◌, ◌||◌, cond, IsFalse}
+use Rattle.std.specs.Prelude.{◌≡◌, ℕ, ◌+◌, ◌/◌, ◌%◌, ◌==◌, ◌<◌, ◌^◌, ◌&&◌, ◌||◌, cond, Option, IsFalse}
 use Rattle.posix_acl.specs.AccessList.{AccessList}
 use Rattle.fs_cred.specs.Credentials.{Credential, is_superuser, is_member}
 use Rattle.fs_layout.specs.declared.inode.Kind.{Kind}
@@ -15,8 +16,8 @@ use Rattle.fs_layout.specs.Images.{bit, inode_bitmap, inode_at}
 use Rattle.fs_layout.specs.declared.inode.Inode.{Inode}
 use Rattle.fs_model.specs.Nodes.{Body, is_link, shown_mode}
 use Rattle.fs_model.specs.StoredNodes.{HoldsBody}
-use Rattle.bit_alloc.specs.Inodes.{KeepsFields, KeepsBytes, KeepsDefault, KeepsAcls}
-use Rattle.inode_table.specs.Acls.{HasAcl, with_acl_bits}
+use Rattle.bit_alloc.specs.Inodes.{KeepsFields, KeepsBytes, KeepsAccess, KeepsDefault, KeepsAcls}
+use Rattle.inode_table.specs.Acls.{HasAcl, HasDefaultAcl, with_acl_bits}
 
 -- inode n, and no other, and it stays used or unused
 pub record ChangesOne (p : Place) (n : ℕ) (old new : SectorMap) : Type 0 where
@@ -46,6 +47,14 @@ pub record SavesAcl (p : Place) (n m : ℕ) (a : AccessList) (old new : SectorMa
   pub bytes : KeepsBytes old new (inode_at p old n) (inode_at p new n)
   pub default : KeepsDefault old new (inode_at p old n) (inode_at p new n)
   pub access : HasAcl new (inode_at p new n) a
+
+-- inode n has this default ACL, or none, and all else that it had
+pub record SavesDefaultAcl (p : Place) (n : ℕ) (a : Option AccessList) (old new : SectorMap) : Type 0 where
+  pub one : ChangesOne p n old new
+  pub fields : KeepsFields (inode_at p old n) (inode_at p new n)
+  pub bytes : KeepsBytes old new (inode_at p old n) (inode_at p new n)
+  pub access : KeepsAccess old new (inode_at p old n) (inode_at p new n)
+  pub default : HasDefaultAcl new (inode_at p new n) a
 
 -- the inode is that of a file or a directory with this body
 pub record HasBody (image : SectorMap) (v : Inode) (b : Body) : Type 0 where

@@ -2,3 +2,5 @@ pub mod Changes
 pub mod Settling
 pub mod Asked
 pub mod Given
+pub mod Makings
+pub mod Openings

@@ -1,28 +1,33 @@
 //! The ACLs of what a path leads to: acl_get_file(3) and acl_set_file(3), with acl(5).
 
-ghost use Rattle.std.specs.Prelude.{◌≡◌, ◌≢◌, ◌<◌, ◌≤◌, IfOk, OnOk, IfErr};
+ghost use Rattle.std.specs.Prelude.{◌≡◌, ◌≢◌, ◌<◌, ◌≤◌, None, Some, Ok, IfOk, OnOk, IfErr};
+ghost use Rattle.std.specs.Option.{option_copied};
 ghost use Rattle.posix_acl.specs.AccessList.{AccessList};
 ghost use Rattle.fs_layout.specs.AclSector.{kept_acl};
 ghost use Rattle.fs_layout.specs.Images.{inode_at, free_sectors};
 ghost use Rattle.fs_layout.specs.Inode.{FitsInode};
-ghost use Rattle.fs_model.specs.declared.call.Call.TheVariants.{GetAcl};
-ghost use Rattle.fs_model.specs.AttributeCalls.{acl_shown};
+ghost use Rattle.fs_model.specs.declared.call.Call.TheVariants.{GetAcl, SetAcl};
+ghost use Rattle.fs_model.specs.AttributeCalls.{acl_shown, needs_sector, set_acl_arguments};
+ghost use Rattle.fs_model.specs.Demands.{first_of};
 ghost use Rattle.fs_model.specs.Nodes.{Body, default_in};
 ghost use Rattle.sector_txn.specs.Sectors.{SameStore, IsUnchanged};
+ghost use Rattle.bit_alloc.specs.Bitmaps.{HasBitmaps};
 ghost use Rattle.bit_alloc.specs.Inodes.{IsSound};
 ghost use Rattle.bit_alloc.specs.Room.{HasSpare};
 ghost use Rattle.inode_table.specs.Acls.{HasAcl, acl_takes};
 ghost use Rattle.inode_table.specs.Inodes.{IsInodeOf};
-ghost use Rattle.path_walk.specs.Answers.{Interrupts};
+ghost use Rattle.path_walk.specs.Answers.{refused_or, Interrupts, IsAnswered};
 ghost use Rattle.path_walk.specs.Performing.{IsReady, Performs};
-ghost use Rattle.file_calls.specs.Given.{SavesAcl, HasBody};
+ghost use Rattle.file_calls.specs.Asked.{holder_asked, acl_space_asked};
+ghost use Rattle.file_calls.specs.Given.{SavesAcl, SavesDefaultAcl, HasBody};
 
-use crate::found::{find, inode_found};
+use crate::found::{find, inode_found, owned};
 use fs_cred::{Errno, Refusal};
 use fs_layout::{Inode, Kind, Place};
 use fs_model::{AclType, Form, Path, Reply};
-use inode_table::{LoadAclFault, load_acl, load_default_acl, save_acl};
+use inode_table::{LoadAclFault, load_acl, load_default_acl, save_acl, save_default_acl};
 use open_files::Procs;
+use path_walk::ask_for_sectors;
 use posix_acl::Acl;
 use sector_txn::Sectors;
 use std::alloc::Global;
@@ -144,4 +149,136 @@ pub fn get_acl<S: Sectors>(
     let (_, inode) = inode_found(s, place, &found)?;
     let acl = shown_acl(alloc, s, place, &inode, which)?;
     Ok(Reply::Acl(acl))
+}
+
+// Asks whether this may be given at all: an access ACL can't be removed.
+fn check_acl(which: AclType, acl: Option<&Acl>) -> Result<(), Refusal>
+    ensures { result ≡ refused_or (first_of (set_acl_arguments which (option_copied acl.entry))) (Ok tt) }
+{
+    match (which, acl) {
+        (AclType::Access, None) => Err(Refusal::Failed(Errno::EINVAL)),
+        _ => Ok(()),
+    }
+}
+
+// Asks whether what is of this kind may have it: only a directory has a default ACL.
+fn check_holder(which: AclType, kind: Kind) -> Result<(), Refusal>
+    ensures { result ≡ refused_or (holder_asked which kind) (Ok tt) }
+{
+    match which {
+        AclType::Default if kind != Kind::Directory => Err(Refusal::Failed(Errno::ENOTDIR)),
+        _ => Ok(()),
+    }
+}
+
+// Whether the ACL that is given needs a sector.
+fn takes_sector(which: AclType, acl: Option<&Acl>) -> bool
+    ensures { result ≡ needs_sector which (option_copied acl.entry) }
+{
+    match (which, acl) {
+        (_, None) => false,
+        (AclType::Default, Some(_)) => true,
+        (AclType::Access, Some(acl)) => acl.is_extended(),
+    }
+}
+
+// Asks for free data sectors, where the ACL that is given needs one. ENOSPC: fewer than 16 are free.
+fn ask_for_space<S: Sectors>(
+    s: &mut S,
+    place: Place,
+    which: AclType,
+    acl: Option<&Acl>,
+) -> Result<(), Refusal>
+    requires { HasBitmaps place (S.state s.old) }
+    ensures each { IsAnswered (S.state s.old).disk (S.state s.new).disk (refused_or
+        (first_of (acl_space_asked which (option_copied acl.entry) (free_sectors place (S.state s.old).sectors))) (Ok tt)) result }
+    ensures same { IsUnchanged (S.state s.old) (S.state s.new) }
+{
+    if !takes_sector(which, acl) {
+        return Ok(());
+    }
+    ask_for_sectors(s, place)?;
+    Ok(())
+}
+
+// Gives inode n this default ACL, for which there is space, or none. EIO: the disk has failed.
+fn give_default_acl<S: Sectors>(
+    s: &mut S,
+    place: Place,
+    n: u32,
+    inode: &Inode,
+    acl: Option<&Acl>,
+) -> Result<(), Refusal>
+    requires sound { IsSound place (S.state s.old) }
+    requires below { n < place.inodes }
+    requires inode { inode.now ≡ inode_at place (S.state s.old).sectors n }
+    requires used { inode.now.kind ≢ Kind.Free }
+    requires spare { HasSpare place 2 (S.state s.old) }
+    requires room { acl_takes inode.now.default_acl (option_copied acl) ≤ free_sectors place (S.state s.old).sectors }
+    ensures given { OnOk result (SavesDefaultAcl place n (option_copied acl.entry) (S.state s.old).sectors (S.state s.new).sectors) }
+    ensures store { SameStore (S.state s.old) (S.state s.new) }
+    ensures interrupts { IfErr result (Interrupts (S.state s.old).disk (S.state s.new).disk) }
+{
+    match save_default_acl(s, place, n, inode, acl) {
+        Ok(()) => Ok(()),
+        Err(_) => Err(Refusal::Failed(Errno::EIO)),
+    }
+}
+
+// Gives inode n, a file or a directory, this ACL, for which there is space, or removes its default ACL.
+fn replace_acl<S: Sectors>(
+    s: &mut S,
+    place: Place,
+    n: u32,
+    inode: &Inode,
+    which: AclType,
+    acl: Option<&Acl>,
+) -> Result<(), Refusal>
+    requires sound { IsSound place (S.state s.old) }
+    requires below { n < place.inodes }
+    requires inode { inode.now ≡ inode_at place (S.state s.old).sectors n }
+    requires used { inode.now.kind ≢ Kind.Free }
+    requires no_link { inode.now.kind ≢ Kind.Link }
+    requires spare { HasSpare place 2 (S.state s.old) }
+    requires space { first_of (acl_space_asked which (option_copied acl) (free_sectors place (S.state s.old).sectors)) ≡ None }
+    ensures access { OnOk result (which ≡ AclType.Access → (a : AccessList) → option_copied acl.entry ≡ Some a
+        → SavesAcl place n inode.now.mode a (S.state s.old).sectors (S.state s.new).sectors) }
+    ensures default { OnOk result (which ≡ AclType.Default
+        → SavesDefaultAcl place n (option_copied acl.entry) (S.state s.old).sectors (S.state s.new).sectors) }
+    ensures store { SameStore (S.state s.old) (S.state s.new) }
+    ensures interrupts { IfErr result (Interrupts (S.state s.old).disk (S.state s.new).disk) }
+{
+    match (which, acl) {
+        (AclType::Access, Some(acl)) => give_acl(s, place, n, inode, acl),
+        _ => give_default_acl(s, place, n, inode, acl),
+    }
+}
+
+/// Sets an ACL of what a path leads to, or removes its default ACL.
+///
+/// The permission bits of the mode become those of an access ACL. EINVAL: no access ACL is given. ENOENT: the path leads to
+/// nothing. ENOTDIR: a default ACL for what is no directory. ENOSPC: the ACL needs a sector, and fewer than 16 are free.
+pub fn set_acl<S: Sectors>(
+    alloc: Global,
+    s: &mut S,
+    place: Place,
+    procs: &Procs,
+    pid: usize,
+    path: &Path,
+    which: AclType,
+    acl: Option<&Acl>,
+) -> Result<Reply, Refusal>
+    requires ready { IsReady place (S.state s.old) procs.now }
+    ensures { Performs place pid (SetAcl path.now which (option_copied acl.entry)) (S.state s.old) (S.state s.new)
+        procs.now procs.now result }
+{
+    let process = procs.process(pid)?;
+    check_acl(which, acl)?;
+    let found = find(alloc, s, place, process, path, Form::Follow)?;
+    let cred = process.cred();
+    let (n, inode) = owned(s, place, cred, &found)?;
+    check_holder(which, inode.kind)?;
+    ask_for_space(s, place, which, acl)?;
+    replace_acl(s, place, n, &inode, which, acl)?;
+    Ok(Reply::Done)
 }

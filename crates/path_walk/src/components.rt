@@ -51,7 +51,7 @@ pub(crate) fn begins_with_slash(path: &[u8]) -> bool
 }
 
 /// Whether a path ends in a slash.
-pub(crate) fn ends_with_slash(path: &[u8]) -> bool
+pub fn ends_with_slash(path: &[u8]) -> bool
     ensures { result ≡ ends_with_slash path.now }
 {
     !path.is_empty() && path[path.len() - 1] == SLASH

@@ -15,6 +15,7 @@ mod walker;
 mod walks;
 
 pub use access::{permission, permitted};
+pub use components::ends_with_slash;
 pub use laws::inodes_say_what_stands;
 pub use links::read_target;
 pub use paths::{MAX_PATH, check_path};

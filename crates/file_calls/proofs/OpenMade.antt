@@ -1,0 +1,276 @@
+-- What open asks to make a file, and what it leaves where it made one.
+--     new_name, directory_there, dir_default        the name is new in a directory; its default ACL
+--     none_is_there, make_refused, make_met        nothing may be made; what the directory is asked refuses, or is met
+--     asked_of_it, few_names, can_make        a file may be made
+--     finds_kept, asked_later        reads leave what was found, and what was asked
+--     made_reaches        it was made
+use Rattle.std.specs.Prelude.{◌≡◌, ℕ, ◌+◌, ◌-◌, ◌/◌, ◌%◌, ◌<◌, ◌==◌, nat_lt, nat_le, cond, if◌then◌else◌, Bool, true, false, not, ◌&&◌, ◌||◌, List, [], ◌∷◌, length, Option, None, unwrap_or, is_some, IsTrue, Ok, Err}
+use Rattle.std.proofs.Common.{refl, sym, ap, subst, arith, ◌∙◌, inl}
+use Rattle.std.specs.List.{list_any}
+use Rattle.std.proofs.lemmas.Bool.Decides.{nat_tests}
+use Rattle.fs_cred.specs.declared.errno.Errno.TheVariants.{ENOENT, EINVAL, ENOSPC}
+use Rattle.fs_cred.specs.declared.refusal.Refusal.{Refusal}
+use Rattle.fs_cred.specs.Credentials.{Credential}
+use Rattle.posix_acl.specs.AccessList.{AccessList, mode_bits}
+use Rattle.sector_disk.specs.Disk.{DiskState}
+use Rattle.sector_txn.specs.Sectors.{TxnState, IsUnchanged}
+use Rattle.fs_layout.specs.declared.inode.Inode.{Inode}
+use Rattle.fs_layout.specs.declared.place.Place.{Place}
+use Rattle.fs_layout.specs.Bytes.{SectorMap}
+use Rattle.fs_layout.specs.Images.{inode_at, free_sectors}
+use Rattle.fs_layout.specs.Maps.{name_cmp, with_entry}
+use Rattle.fs_layout.proofs.OneAcl.{mode_small}
+use Rattle.inode_table.specs.Acls.{HasDefaultAcl}
+use Rattle.fs_model.specs.declared.call.Flags.{Flags}
+use Rattle.fs_model.specs.declared.walk.Found.{Found}
+use Rattle.fs_model.specs.Births.{the_node, the_directory, born_acl, born_file}
+use Rattle.fs_model.specs.Changes.{Change, Make, Rewrite, Same, changed, swept}
+use Rattle.fs_model.specs.Demands.{Demand, refuse, first_of, permission_on, write_and_search}
+use Rattle.fs_model.specs.Limits.{entries_limit, least_free}
+use Rattle.fs_model.specs.Nodes.{Node, Body, File, Dir, Link, is_directory, default_in, names_in, with_bytes, with_names, shown_mode}
+use Rattle.fs_model.specs.OpenCall.{open_form, open_demands, open_found_demands, open_new_demands, open_change}
+use Rattle.fs_model.specs.Parts.{is_empty}
+use Rattle.fs_model.specs.Processes.{Process}
+use Rattle.fs_model.specs.Stands.{HoldsAll, placed, room_of}
+use Rattle.fs_model.specs.States.{State}
+use Rattle.fs_model.specs.Steps.{HasNewNumber, found_by}
+use Rattle.fs_model.specs.StoredNodes.{HoldsNode}
+use Rattle.fs_model.specs.Trees.{Room, Tree, free_inodes, names_of, parent, IsDirectoryAt}
+use Rattle.fs_model.proofs.FreeInodes.{free_are_clear}
+use Rattle.fs_model.proofs.PlacedChanges.{make_held}
+use Rattle.fs_model.proofs.StepsDemands.{first_met, then_met, unrefused}
+use Rattle.fs_model.proofs.StepsFound.{IsNameAt, IsWalked, is_walked}
+use Rattle.fs_model.proofs.StepsMaking.{IsNewborn, file_is_born}
+use Rattle.path_walk.specs.Answers.{refused_or, IsAnswered}
+use Rattle.path_walk.specs.Paths.{scene_at}
+use Rattle.path_walk.proofs.Calling.{state_tree, met_ok, first_asked, next_asked, both_met}
+use Rattle.path_walk.proofs.HeldChanges.{new_file_held, names_held}
+use Rattle.path_walk.proofs.HeldNodes.{held_node, names_say, default_says}
+use Rattle.path_walk.proofs.Kept.{kept}
+use Rattle.file_calls.specs.Makings.{CanMake, MakesFile}
+use Rattle.file_calls.specs.Openings.{make_asked, FindsIn, IsRefusedOpen, Reaches}
+use Rattle.file_calls.proofs.NewFile.{nothing_stands, dir_still_held}
+use Rattle.file_calls.proofs.OpenFound.{checked, refused_as}
+use Rattle.file_calls.proofs.Shown.{the_node_is}
+
+-- ---- what a directory gives to what is made in it
+
+group_bit : (n : ℕ) (s g : Bool) → n < 512 → ((n + cond s 512 0 + cond g 1024 0) / 1024 % 2 == 1) ≡ g
+group_bit n true true lt = let e : (n + 512 + 1024) / 1024 % 2 ≡ 1 = omega (arith, lt) in ap (λ (k : ℕ). k == 1) e
+group_bit n true false lt = let e : (n + 512 + 0) / 1024 % 2 ≡ 0 = omega (arith, lt) in ap (λ (k : ℕ). k == 1) e
+group_bit n false true lt = let e : (n + 0 + 1024) / 1024 % 2 ≡ 1 = omega (arith, lt) in ap (λ (k : ℕ). k == 1) e
+group_bit n false false lt = let e : (n + 0 + 0) / 1024 % 2 ≡ 0 = omega (arith, lt) in ap (λ (k : ℕ). k == 1) e
+
+-- S_ISGID of its mode is that of the directory
+set_group_says : (owner group : ℕ) (b : Body) (m : ℕ) → IsTrue (is_directory b) → m ≡ shown_mode b
+    → (m / 1024 % 2 == 1) ≡ (the_directory (record { owner = owner; group = group; body = b })).set_group_id
+set_group_says owner group (File a bytes) m is e = absurd (cc)
+set_group_says owner group (Dir a d) m is e = ap (λ (k : ℕ). k / 1024 % 2 == 1) e ∙ group_bit (mode_bits a) d.sticky d.set_group_id (mode_small a)
+set_group_says owner group (Link target) m is e = absurd (cc)
+
+-- and so is its default ACL
+default_is : (owner group : ℕ) (b : Body) → IsTrue (is_directory b) → default_in b ≡ (the_directory (record { owner = owner; group = group; body = b })).default
+default_is owner group (File a bytes) is = absurd (cc)
+default_is owner group (Dir a d) is = refl
+default_is owner group (Link target) is = absurd (cc)
+
+-- ---- what was found
+
+pub finds_kept : {p : Place} {old mid : TxnState} {flags : Flags} {q : Process} {f : Found} {s : State} → IsUnchanged old mid → FindsIn p old.sectors flags q f s
+    → FindsIn p mid.sectors flags q f s
+finds_kept {p} {old} {mid} {flags} {q} {f} {s} same i = kept (λ (m : SectorMap). FindsIn p m flags q f s) same i
+
+-- and what was asked
+pub asked_later : (p : Place) {old mid : TxnState} (t : Tree) (dir step : ℕ) (cred : Credential) (v : Inode) → IsUnchanged old mid
+    → refused_or {A = Inode} (first_of (make_asked p old.sectors cred t dir step)) (Ok (inode_at p old.sectors dir)) ≡ Ok v
+    → refused_or {A = Inode} (first_of (make_asked p mid.sectors cred t dir step)) (Ok (inode_at p mid.sectors dir)) ≡ Ok v
+asked_later p {old} {mid} t dir step cred v same is =
+    kept (λ (m : SectorMap). refused_or {A = Inode} (first_of (make_asked p m cred t dir step)) (Ok (inode_at p m dir)) ≡ Ok v) same is
+
+module _ {p : Place} {map : SectorMap} {flags : Flags} {q : Process} {f : Found} {s : State} (i : FindsIn p map flags q f s) (none : f.ino ≡ None) where
+  pub new_name : IsNameAt s.tree f.dir f.name None
+  new_name =
+      let later = then_met (refuse ENOENT (is_empty i.path)) _ i.found.checked in
+      let no_zero = unrefused EINVAL (list_any (λ b. b == 0) i.path) (first_met (refuse EINVAL (list_any (λ b. b == 0) i.path)) _ later) in
+      let walked : IsWalked s.tree (open_form flags) (found_by s.tree q.cwd (open_form flags, i.path)) =
+      is_walked s.room s.tree i.is_state.is_state.tree q.cred q.cwd 1 (open_form flags, i.path) i.bytes no_zero i.found.unrefused in
+      (subst (IsWalked s.tree (open_form flags)) (sym i.found.is) walked).new none
+
+  abbrev pub directory_there : IsDirectoryAt s.tree f.dir
+  directory_there = record { node = new_name.node; is_there = new_name.stands; directory = new_name.directory }
+
+  pub dir_default : (v : Inode) → v ≡ inode_at p map f.dir → HasDefaultAcl map v (default_in new_name.node.body)
+  dir_default v is =
+      subst (λ (w : Inode). HasDefaultAcl map w (default_in new_name.node.body)) (sym is)
+      (default_says map (inode_at p map f.dir) new_name.node.body new_name.directory (held_node (state_tree i.is_state) f.dir new_name.node new_name.stands).body)
+
+  -- ---- what is asked
+
+  abbrev absent : Demand
+  absent = refuse ENOENT (not flags.create || f.slash)
+
+  abbrev asked : List Demand
+  asked = make_asked p map q.cred s.tree f.dir (f.step - 1)
+
+  demands_are : open_demands flags (scene_at s q f) ≡ absent ∷ asked
+  demands_are =
+      ap (λ (o : Option ℕ). if is_some o then open_found_demands flags (scene_at s q f) else open_new_demands flags (scene_at s q f)) none
+      ∙ ap (λ (k : ℕ). absent ∷ permission_on q.cred s.tree f.dir write_and_search 1 (f.step - 1) ∷ refuse ENOSPC (nat_lt k least_free)
+      ∷ refuse ENOSPC (free_inodes s.room s.tree == 0) ∷ refuse ENOSPC (nat_le entries_limit (length (names_in (the_node s.tree f.dir).body))) ∷ []) i.is_state.free_is
+      ∙ ap (λ (r : Room). absent ∷ permission_on q.cred s.tree f.dir write_and_search 1 (f.step - 1) ∷ refuse ENOSPC (nat_lt (free_sectors p map) least_free)
+      ∷ refuse ENOSPC (free_inodes r s.tree == 0) ∷ refuse ENOSPC (nat_le entries_limit (length (names_in (the_node s.tree f.dir).body))) ∷ []) i.is_state.same_room
+
+  pub none_is_there : (old new : DiskState) (e : Refusal) → checked absent ≡ Err e → IsRefusedOpen old new flags q f s e
+  none_is_there old new e is =
+      subst (λ (ds : List Demand). IsAnswered old new (refused_or {A = ℕ} (first_of ds) (Ok 0)) (Err e)) (sym demands_are)
+      (first_asked {B = Unit {0}} absent asked tt 0 e old new (inl is))
+
+  module _ (may : checked absent ≡ Ok tt) where
+    may_be_made : absent ≡ None
+    may_be_made = (met_ok {A = Unit {0}} absent tt tt may).0
+
+    module _ {A : Type 0} (y : A) (cred : Credential) (step : ℕ) (same_cred : cred ≡ q.cred) (same_step : step ≡ f.step - 1) where
+      asked_is : make_asked p map cred s.tree f.dir step ≡ asked
+      asked_is =
+          ap (λ (k : Credential). make_asked p map k s.tree f.dir step) same_cred
+          ∙ ap (λ (k : ℕ). make_asked p map q.cred s.tree f.dir k) same_step
+
+      pub make_refused : (old new : DiskState) (e : Refusal) → IsAnswered old new (refused_or {A = A} (first_of (make_asked p map cred s.tree f.dir step)) (Ok y)) (Err e)
+          → IsRefusedOpen old new flags q f s e
+      make_refused old new e is =
+          subst (λ (ds : List Demand). IsAnswered old new (refused_or {A = ℕ} (first_of ds) (Ok 0)) (Err e)) (sym demands_are)
+          (next_asked absent asked 0 e old new may_be_made
+          (refused_as {A = ℕ} {B = A} (first_of asked) y 0 e old new
+          (subst (λ (ds : List Demand). IsAnswered old new (refused_or {A = A} (first_of ds) (Ok y)) (Err e)) asked_is is)))
+
+      module _ (v : A) (is : refused_or {A = A} (first_of (make_asked p map cred s.tree f.dir step)) (Ok y) ≡ Ok v) where
+        asked_none : first_of asked ≡ None
+        asked_none = ap first_of (sym asked_is) ∙ (met_ok {A = A} (first_of (make_asked p map cred s.tree f.dir step)) y v is).0
+
+        pub make_met : first_of (open_demands flags (scene_at s q f)) ≡ None
+        make_met = ap first_of demands_are ∙ both_met absent asked may_be_made asked_none
+
+        pub asked_of_it : v ≡ y
+        asked_of_it = sym (met_ok {A = A} (first_of (make_asked p map cred s.tree f.dir step)) y v is).1
+
+        space_asked : first_of (refuse ENOSPC (nat_lt (free_sectors p map) least_free) ∷ refuse ENOSPC (free_inodes (room_of p) s.tree == 0)
+            ∷ refuse ENOSPC (nat_le entries_limit (length (names_in (the_node s.tree f.dir).body))) ∷ []) ≡ None
+        space_asked = then_met (permission_on q.cred s.tree f.dir write_and_search 1 (f.step - 1)) _ asked_none
+
+        pub few_names : length (names_in new_name.node.body) < entries_limit
+        few_names =
+            let names = length (names_in (the_node s.tree f.dir).body) in
+            let three = then_met (refuse ENOSPC (free_inodes (room_of p) s.tree == 0)) _ (then_met (refuse ENOSPC (nat_lt (free_sectors p map) least_free)) _ space_asked) in
+            let few : nat_le entries_limit names ≡ false = unrefused ENOSPC (nat_le entries_limit names) (first_met (refuse ENOSPC (nat_le entries_limit names)) _ three) in
+            subst (λ (k : ℕ). k < entries_limit) (ap (λ (u : Node). length (names_in u.body)) (the_node_is s.tree f.dir new_name.node new_name.stands)) (grind (arith, nat_tests))
+
+        pub can_make : CanMake p map s.tree f.dir f.name
+        can_make =
+            let h = state_tree i.is_state in
+            let two = then_met (refuse ENOSPC (nat_lt (free_sectors p map) least_free)) _ space_asked in
+            let enough : nat_lt (free_sectors p map) least_free ≡ false =
+            unrefused ENOSPC (nat_lt (free_sectors p map) least_free) (first_met (refuse ENOSPC (nat_lt (free_sectors p map) least_free)) _ space_asked) in
+            let some : (free_inodes (room_of p) s.tree == 0) ≡ false =
+            unrefused ENOSPC (free_inodes (room_of p) s.tree == 0) (first_met (refuse ENOSPC (free_inodes (room_of p) s.tree == 0)) _ two) in
+            let counted = free_are_clear p map s.tree h.holds h.tree in
+            record {
+              holds = h;
+              directory = directory_there;
+              is_name = new_name.is_name;
+              is_new = new_name.leads;
+              has_room = few_names;
+              some = λ zero. let clear : free_inodes (room_of p) s.tree ≡ 0 = counted ∙ zero in grind (arith, nat_tests);
+              enough = grind (arith, nat_tests);
+            }
+
+  -- ---- the file that was made
+
+  module _ (mode : ℕ) (gid : ℕ) (a : AccessList) (new : SectorMap) (n : ℕ) (made : MakesFile p f.dir f.name q.cred.uid gid a map new n) where
+    abbrev node : Node
+    node = new_name.node
+
+    abbrev file : Node
+    file = born_file q.cred q.umask mode node
+
+    newborn : IsNewborn s.room s.tree file
+    newborn =
+        let is = i.is_state.is_state in
+        let here = (is.desks i.is_state.up).processes i.pid q i.found.there in
+        let fits = is.tree.each f.dir node new_name.stands in
+        file_is_born s.room s.tree q.cred here.cred node fits.group q.umask mode fits.body
+
+    change_is : open_change flags mode (scene_at s q f) n ≡ Make f.dir f.name n file
+    change_is =
+        ap (λ (o : Option ℕ). if not (is_some o) then Make f.dir f.name n (born_file q.cred q.umask mode (the_node s.tree f.dir))
+        else (if flags.trunc && flags.write then Rewrite (unwrap_or o 0) (record (the_node s.tree (unwrap_or o 0)) { body = with_bytes [] (the_node s.tree (unwrap_or o 0)).body }) else Same)) none
+        ∙ ap (λ (u : Node). Make f.dir f.name n (born_file q.cred q.umask mode u)) (the_node_is s.tree f.dir node new_name.stands)
+
+    fresh : HasNewNumber s (Make f.dir f.name n file)
+    fresh =
+        let below = made.free.1 in
+        let same = ap (λ (r : Room). r.inodes) i.is_state.same_room in
+        (made.free.0, omega (arith, below, same), nothing_stands (state_tree i.is_state) n made.free)
+
+    module _ (v : Inode) (is_dir : v ≡ inode_at p map f.dir) (group_is : gid ≡ (if v.mode / 1024 % 2 == 1 then v.gid else q.cred.gid))
+        (acl_is : (d : Option AccessList) → HasDefaultAcl map v d → a ≡ born_acl d mode q.umask) where
+      dir_holds : HoldsNode map v (record { node = node; names = names_of s.tree f.dir; parent = parent s.tree f.dir })
+      dir_holds =
+          subst (λ (w : Inode). HoldsNode map w (record { node = node; names = names_of s.tree f.dir; parent = parent s.tree f.dir })) (sym is_dir)
+          (held_node (state_tree i.is_state) f.dir node new_name.stands)
+
+      group_given : gid ≡ file.group
+      group_given =
+          group_is
+          ∙ ap (λ (b : Bool). if b then v.gid else q.cred.gid) (set_group_says node.owner node.group node.body v.mode new_name.directory dir_holds.mode)
+          ∙ ap (λ (k : ℕ). if (the_directory node).set_group_id then k else q.cred.gid) dir_holds.group
+
+      acl_given : a ≡ born_acl (the_directory node).default mode q.umask
+      acl_given =
+          acl_is (default_in node.body) (default_says map v node.body new_name.directory dir_holds.body)
+          ∙ ap (λ (d : Option AccessList). born_acl d mode q.umask) (default_is node.owner node.group node.body new_name.directory)
+
+      born : HoldsNode made.mid (inode_at p made.mid n) (record { node = file; names = 1; parent = f.dir })
+      born =
+          subst (λ (k : ℕ). HoldsNode made.mid (inode_at p made.mid n)
+          (record { node = record { owner = q.cred.uid; group = k; body = File (born_acl (the_directory node).default mode q.umask) [] }; names = 1; parent = f.dir })) group_given
+          (subst (λ (l : AccessList). HoldsNode made.mid (inode_at p made.mid n)
+          (record { node = record { owner = q.cred.uid; group = gid; body = File l [] }; names = 1; parent = f.dir })) acl_given
+          (new_file_held made.mid made.inode (inode_at p made.mid n) q.cred.uid gid made.owner made.group made.names a made.fields made.empty made.access f.dir made.kind made.mode made.parent made.default))
+
+      here : HoldsNode new (inode_at p new f.dir) (record {
+        node = record node { body = with_names (with_entry name_cmp (names_in node.body) f.name n) node.body };
+        names = names_of s.tree f.dir;
+        parent = parent s.tree f.dir;
+      })
+      here =
+          let before = inode_at p made.mid f.dir in
+          let held = dir_still_held (state_tree i.is_state) directory_there n made.free made.first (record { node = file; names = 1; parent = f.dir }) born made.taken in
+          names_held made.mid new before (inode_at p new f.dir) (record { node = node; names = names_of s.tree f.dir; parent = parent s.tree f.dir }) held
+          (with_entry name_cmp (names_in node.body) f.name n) new_name.directory made.kept made.acls
+          (made.named (names_in node.body) (names_say made.mid before node.body new_name.directory held.body))
+
+      pub made_reaches : first_of (open_demands flags (scene_at s q f)) ≡ None → length (names_in node.body) < entries_limit → Reaches p new flags mode q f s n
+      made_reaches met has_room =
+          let at = i.is_state in
+          record {
+            met = met;
+            number = ap (λ (o : Option ℕ). unwrap_or o n) none;
+            new_number = subst (HasNewNumber s) (sym change_is) fresh;
+            holds = λ now still.
+                subst (λ (x : Change). HoldsAll p new (placed (swept (changed s.tree x) now))) (sym change_is)
+                (make_held s at.is_state at.up now still p map at.holds at.same_room made.mid new f.dir node f.name n file (record {
+                  stands = new_name.stands;
+                  is_dir = new_name.directory;
+                  is_new = new_name.leads;
+                  has_room = has_room;
+                  is_name = new_name.is_name;
+                  bytes = new_name.bytes;
+                  positive = fresh.0;
+                  below = fresh.1;
+                  unused = fresh.2;
+                  no_names = refl;
+                  owner = newborn.owner;
+                  group = newborn.group;
+                  body = newborn.body;
+                }) made.first made.taken born made.second made.used here);
+          }

@@ -1,0 +1,7 @@
+use Rattle.std.proofs.Common.{sym, subst}
+use Rattle.fs_layout.specs.Inode.{FitsInode}
+use Rattle.fs_layout.proofs.Free.{inode_fits_there}
+use Rattle.file_calls.proofs.acls.replace_acl.Goals as goal
+
+pub give_acl-requires-clause-fits : goal.give_acl-requires-clause-fits
+give_acl-requires-clause-fits g c = subst FitsInode (sym c.requires.inode) (inode_fits_there c.requires.sound.consistent c.args.n c.requires.below)

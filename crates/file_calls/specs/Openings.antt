@@ -1,0 +1,85 @@
+-- What an open asks, and what it leaves of the tree.
+--     open_asked        asked of the call and of its path
+--     kind_asked        asked of the kind of an inode
+--     found_asked        asked of what stands at a number
+--     make_asked        asked of a directory, to make something in it
+--     FindsIn        a state in which a process has found this
+--     IsRefusedOpen        what it asks of that refuses it
+--     Reaches        nothing refuses it then, and the map holds the tree after it
+use Rattle.std.specs.Prelude.{◌≡◌, ℕ, ◌==◌, nat_lt, nat_le, false, not, ◌&&◌, ◌||◌, List, [], ◌∷◌, ◌++◌, length, None, unwrap_or, IsTrue, Ok, Err}
+use Rattle.sector_disk.specs.Disk.{DiskState}
+use Rattle.fs_cred.specs.declared.refusal.Refusal.{Refusal}
+use Rattle.fs_cred.specs.declared.errno.Errno.TheVariants.{EEXIST, EISDIR, ELOOP, ENOSPC, ENOTDIR}
+use Rattle.fs_cred.specs.Credentials.{Credential}
+use Rattle.fs_layout.specs.declared.inode.Kind.{Kind}
+use Rattle.fs_layout.specs.declared.place.Place.{Place}
+use Rattle.fs_layout.specs.Bytes.{SectorMap, IsBytes}
+use Rattle.fs_layout.specs.Images.{free_sectors}
+use Rattle.fs_model.specs.declared.call.Flags.{Flags}
+use Rattle.fs_model.specs.declared.walk.Found.{Found}
+use Rattle.fs_model.specs.Births.{the_node}
+use Rattle.fs_model.specs.Changes.{changed, swept}
+use Rattle.fs_model.specs.Demands.{Demand, refuse, first_of, perms, permission_on, write_and_search}
+use Rattle.fs_model.specs.Limits.{entries_limit, least_free}
+use Rattle.fs_model.specs.Nodes.{is_directory, is_link, names_in}
+use Rattle.fs_model.specs.OpenCall.{open_arguments, open_form, open_demands, open_change}
+use Rattle.fs_model.specs.Parts.{path_checks, ends_with_slash}
+use Rattle.fs_model.specs.Processes.{Process, Desks, is_open}
+use Rattle.fs_model.specs.Rules.{is_directory_kind}
+use Rattle.fs_model.specs.Stands.{HoldsAll, placed, room_of}
+use Rattle.fs_model.specs.States.{State}
+use Rattle.fs_model.specs.Steps.{HasNewNumber}
+use Rattle.fs_model.specs.Summaries.{is_link_kind}
+use Rattle.fs_model.specs.Trees.{Tree, free_inodes}
+use Rattle.path_walk.specs.Answers.{refused_or, IsAnswered}
+use Rattle.path_walk.specs.Paths.{scene_at, HasFound}
+use Rattle.path_walk.specs.Performing.{IsStateOf}
+
+-- all that is asked early, but for an unused descriptor
+abbrev pub open_asked : Flags → ℕ → List ℕ → List Demand
+open_asked f mode path = (open_arguments f mode ++ path_checks path) ++ (refuse EISDIR (f.create && ends_with_slash path) ∷ [])
+
+abbrev pub kind_asked : Flags → Kind → List Demand
+kind_asked f kind =
+    refuse EEXIST (f.create && f.excl)
+    ∷ refuse ELOOP (is_link_kind kind)
+    ∷ refuse ENOTDIR (f.directory && not (is_directory_kind kind))
+    ∷ refuse EISDIR (is_directory_kind kind && (f.write || f.create))
+    ∷ []
+
+abbrev pub found_asked : Flags → Credential → Tree → ℕ → ℕ → List Demand
+found_asked f cred t n step =
+    refuse EEXIST (f.create && f.excl)
+    ∷ refuse ELOOP (is_link (the_node t n).body)
+    ∷ refuse ENOTDIR (f.directory && not (is_directory (the_node t n).body))
+    ∷ refuse EISDIR (is_directory (the_node t n).body && (f.write || f.create))
+    ∷ permission_on cred t n (perms f.read f.write false) 1 step
+    ∷ []
+
+abbrev pub make_asked : Place → SectorMap → Credential → Tree → ℕ → ℕ → List Demand
+make_asked p map cred t dir step =
+    permission_on cred t dir write_and_search 1 step
+    ∷ refuse ENOSPC (nat_lt (free_sectors p map) least_free)
+    ∷ refuse ENOSPC (free_inodes (room_of p) t == 0)
+    ∷ refuse ENOSPC (nat_le entries_limit (length (names_in (the_node t dir).body)))
+    ∷ []
+
+pub record FindsIn (p : Place) (map : SectorMap) (flags : Flags) (q : Process) (f : Found) (s : State) : Type 0 where
+  pub desks : Desks
+  pub pid : ℕ
+  pub path : List ℕ
+  pub bytes : IsBytes path
+  pub is_state : IsStateOf p map desks s
+  pub found : HasFound s pid q (open_form flags) path f
+
+-- its demands on what was found refuse it, or what may stand in their place does
+abbrev pub IsRefusedOpen : DiskState → DiskState → Flags → Process → Found → State → Refusal → Type 0
+IsRefusedOpen old new flags q f s e = IsAnswered old new (refused_or {A = ℕ} (first_of (open_demands flags (scene_at s q f))) (Ok 0)) (Err e)
+
+-- n is what is opened
+pub record Reaches (p : Place) (map : SectorMap) (flags : Flags) (mode : ℕ) (q : Process) (f : Found) (s : State) (n : ℕ) : Type 0 where
+  pub met : first_of (open_demands flags (scene_at s q f)) ≡ None
+  pub number : unwrap_or f.ino n ≡ n
+  pub new_number : HasNewNumber s (open_change flags mode (scene_at s q f) n)
+  pub holds : (now : Desks) → ((k : ℕ) → IsTrue (is_open s.desks k) → IsTrue (is_open now k))
+      → HoldsAll p map (placed (swept (changed s.tree (open_change flags mode (scene_at s q f) n)) now))

@@ -1,0 +1,259 @@
+//! open: POSIX.1-2017, open(), with the flags of open(2).
+
+ghost use Rattle.std.specs.Prelude.{◌≡◌, ◌<◌, ◌&&◌, ℕ, List, false, None, Some, Ok, OnOk, IfErr, MatchResult};
+ghost use Rattle.fs_layout.specs.Images.{inode_at};
+ghost use Rattle.fs_layout.specs.Bytes.{IsBytes, resized};
+ghost use Rattle.fs_layout.specs.declared.inode.Kind.TheVariants.{File};
+ghost use Rattle.fs_model.specs.Demands.{refuse, first_of};
+ghost use Rattle.fs_model.specs.Parts.{ends_with_slash};
+ghost use Rattle.fs_model.specs.OpenCall.{open_arguments, open_form};
+ghost use Rattle.fs_model.specs.States.{State};
+ghost use Rattle.fs_model.specs.Trees.{Tree};
+ghost use Rattle.fs_model.specs.declared.call.Call.TheVariants.{Open};
+ghost use Rattle.sector_txn.specs.Sectors.{SameStore, IsUnchanged};
+ghost use Rattle.bit_alloc.specs.Inodes.{IsSound};
+ghost use Rattle.bit_alloc.specs.Room.{HasSpare};
+ghost use Rattle.path_walk.specs.Answers.{refused_or, FailsToRead, IsAnswered};
+ghost use Rattle.path_walk.specs.HeldTrees.{HoldsTree, IsThere};
+ghost use Rattle.path_walk.specs.Performing.{IsReady, Performs};
+ghost use Rattle.file_calls.specs.Changes.{ChangesBytes};
+ghost use Rattle.file_calls.specs.Openings.{open_asked, kind_asked, found_asked, FindsIn, IsRefusedOpen, Reaches};
+
+use crate::making::open_new;
+use block_map::set_size;
+use fs_cred::{Cred, Errno, Refusal};
+use fs_layout::{Inode, Kind, Place};
+use fs_model::{Flags, Form, Found, Path, Reply};
+use open_files::{Descriptor, Process, Procs};
+use path_walk::{check_path, ends_with_slash, load_inode, permitted, walk};
+use posix_acl::Perms;
+use sector_txn::Sectors;
+use std::alloc::Global;
+
+// Asks what needs neither the path nor the process.
+fn check_arguments(flags: Flags, mode: u16) -> Result<(), Refusal>
+    ensures { result ≡ refused_or (first_of (open_arguments flags mode)) (Ok tt) }
+{
+    if flags.create && flags.directory {
+        return Err(Refusal::Failed(Errno::EINVAL));
+    }
+    if mode > 0o7777 {
+        return Err(Refusal::Failed(Errno::EINVAL));
+    }
+    Ok(())
+}
+
+// Asks whether a file that may be made would be named as a directory.
+fn check_slash(flags: Flags, path: &Path) -> Result<(), Refusal>
+    ensures answer { result ≡ refused_or (refuse Errno.EISDIR (flags.create && ends_with_slash path.now)) (Ok tt) }
+    ensures bytes { IsBytes path.now }
+{
+    let bytes = path.bytes();
+    if flags.create && ends_with_slash(bytes) {
+        return Err(Refusal::Failed(Errno::EISDIR));
+    }
+    Ok(())
+}
+
+// Asks what needs neither the process nor the tree.
+fn check_open(flags: Flags, mode: u16, path: &Path) -> Result<(), Refusal>
+    ensures answer { result ≡ refused_or (first_of (open_asked flags mode path.now)) (Ok tt) }
+    ensures bytes { OnOk result (IsBytes path.now) }
+{
+    check_arguments(flags, mode)?;
+    check_path(path)?;
+    check_slash(flags, path)?;
+    Ok(())
+}
+
+// How a link at the end of the path is treated.
+fn form_of(flags: Flags) -> Form
+    ensures { result ≡ open_form flags }
+{
+    if flags.nofollow || flags.create && flags.excl {
+        Form::NoFollow
+    } else {
+        Form::Follow
+    }
+}
+
+// Asks whether what is there may be opened so, by its kind.
+fn check_kind(flags: Flags, kind: Kind) -> Result<(), Refusal>
+    ensures { result ≡ refused_or (first_of (kind_asked flags kind)) (Ok tt) }
+{
+    let is_directory = kind == Kind::Directory;
+    if flags.create && flags.excl {
+        return Err(Refusal::Failed(Errno::EEXIST));
+    }
+    if kind == Kind::Link {
+        return Err(Refusal::Failed(Errno::ELOOP));
+    }
+    if flags.directory && !is_directory {
+        return Err(Refusal::Failed(Errno::ENOTDIR));
+    }
+    if is_directory && (flags.write || flags.create) {
+        return Err(Refusal::Failed(Errno::EISDIR));
+    }
+    Ok(())
+}
+
+// What has to be permitted on what is opened.
+fn wanted(flags: Flags) -> Perms
+    ensures { result ≡ record { read = flags.read; write = flags.write; execute = false } }
+{
+    Perms {
+        read: flags.read,
+        write: flags.write,
+        execute: false,
+    }
+}
+
+// Asks all that an open asks of what was found, and answers its inode.
+fn check_found<S: Sectors>(
+    alloc: Global,
+    s: &mut S,
+    place: Place,
+    cred: &Cred,
+    n: u32,
+    step: usize,
+    flags: Flags,
+) -> Result<Inode, Refusal>
+    requires sound { IsSound place (S.state s.old) }
+    requires there { (t : Tree) × HoldsTree place (S.state s.old).sectors t × IsThere t n }
+    ensures each { (t : Tree) → HoldsTree place (S.state s.old).sectors t → IsThere t n
+        → IsAnswered (S.state s.old).disk (S.state s.new).disk
+        (refused_or (first_of (found_asked flags cred.now t n step)) (Ok (inode_at place (S.state s.old).sectors n))) result }
+    ensures same { IsUnchanged (S.state s.old) (S.state s.new) }
+{
+    let inode = load_inode(s, place, n)?;
+    check_kind(flags, inode.kind)?;
+    permitted(alloc, s, place, cred, &inode, wanted(flags), 1, step)?;
+    Ok(inode)
+}
+
+// Takes all bytes from inode n, a file. EIO: the disk has failed.
+fn cut<S: Sectors>(s: &mut S, place: Place, n: u32, inode: Inode) -> Result<(), Refusal>
+    requires sound { IsSound place (S.state s.old) }
+    requires below { n < place.inodes }
+    requires inode { inode ≡ inode_at place (S.state s.old).sectors n }
+    requires file { inode.kind ≡ File }
+    requires spare { HasSpare place 47 (S.state s.old) }
+    ensures store { SameStore (S.state s.old) (S.state s.new) }
+    ensures change { OnOk result (ChangesBytes place n (S.state s.old) (S.state s.new) (λ held. resized held 0)) }
+    ensures err { IfErr result (FailsToRead (S.state s.old).disk (S.state s.new).disk) }
+{
+    let mut inode = inode;
+    match set_size(s, place, n, &mut inode, 0) {
+        Ok(()) => Ok(()),
+        Err(_) => Err(Refusal::Failed(Errno::EIO)),
+    }
+}
+
+// Whether the file loses its bytes.
+fn cuts(flags: Flags) -> bool
+    ensures { result ≡ (flags.trunc && flags.write) }
+{
+    flags.trunc && flags.write
+}
+
+// Opens what was found at n, which loses its bytes with O_TRUNC.
+fn open_old<S: Sectors>(
+    alloc: Global,
+    s: &mut S,
+    place: Place,
+    process: &Process,
+    found: &Found,
+    n: u32,
+    flags: Flags,
+) -> Result<u32, Refusal>
+    requires sound { IsSound place (S.state s.old) }
+    requires spare { HasSpare place 47 (S.state s.old) }
+    requires found { (st : State) × FindsIn place (S.state s.old).sectors flags process.now found.now st }
+    requires some { found.now.ino ≡ Some n }
+    ensures store { SameStore (S.state s.old) (S.state s.new) }
+    ensures superblock { OnOk result ((S.state s.new).sectors 0 ≡ (S.state s.old).sectors 0) }
+    ensures each { (mode : ℕ) (st : State) → FindsIn place (S.state s.old).sectors flags process.now found.now st
+        → MatchResult result (λ m. Reaches place (S.state s.new).sectors flags mode process.now found.now st m)
+        (λ e. IsRefusedOpen (S.state s.old).disk (S.state s.new).disk flags process.now found.now st e) }
+{
+    let inode = check_found(alloc, s, place, process.cred(), n, found.step, flags)?;
+    let cuts = cuts(flags);
+    if !cuts {
+        return Ok(n);
+    }
+    cut(s, place, n, inode)?;
+    Ok(n)
+}
+
+// Opens what was found, or makes it.
+fn reach<S: Sectors>(
+    alloc: Global,
+    s: &mut S,
+    place: Place,
+    process: &Process,
+    found: &Found,
+    flags: Flags,
+    mode: u16,
+) -> Result<u32, Refusal>
+    requires sound { IsSound place (S.state s.old) }
+    requires spare { HasSpare place 47 (S.state s.old) }
+    requires found { (st : State) × FindsIn place (S.state s.old).sectors flags process.now found.now st }
+    ensures store { SameStore (S.state s.old) (S.state s.new) }
+    ensures superblock { OnOk result ((S.state s.new).sectors 0 ≡ (S.state s.old).sectors 0) }
+    ensures each { (st : State) → FindsIn place (S.state s.old).sectors flags process.now found.now st
+        → MatchResult result (λ m. Reaches place (S.state s.new).sectors flags mode process.now found.now st m)
+        (λ e. IsRefusedOpen (S.state s.old).disk (S.state s.new).disk flags process.now found.now st e) }
+{
+    match found.ino {
+        Some(n) => open_old(alloc, s, place, process, found, n, flags),
+        None => open_new(alloc, s, place, process, found, flags, mode),
+    }
+}
+
+/// Opens what a path leads to, at the lowest unused descriptor and at offset 0. With O_CREAT a file is made where there is
+/// none; with O_TRUNC a file that is opened for writing loses its bytes.
+///
+/// EINVAL: O_CREAT with O_DIRECTORY, or a mode above 07777. EISDIR: a directory, for writing or with O_CREAT. EMFILE: all
+/// descriptors are used. EEXIST: it is there, with O_CREAT and O_EXCL. ELOOP: it is a symbolic link. ENOTDIR: it is no
+/// directory, with O_DIRECTORY. ENOENT: nothing is there. ENOSPC: there is no room for a new file.
+pub fn open<S: Sectors>(
+    alloc: Global,
+    s: &mut S,
+    place: Place,
+    procs: &mut Procs,
+    pid: usize,
+    path: &Path,
+    flags: Flags,
+    mode: u16,
+) -> Result<Reply, Refusal>
+    requires ready { IsReady place (S.state s.old) procs.old }
+    ensures { Performs place pid (Open path.now flags mode) (S.state s.old) (S.state s.new) procs.old procs.new result }
+{
+    let process = procs.process(pid)?;
+    check_open(flags, mode, path)?;
+    let fd = procs.open_slot(pid)?;
+    let form = form_of(flags);
+    let found = walk(
+        alloc,
+        s,
+        place,
+        process.cred(),
+        process.cwd(),
+        path,
+        form,
+        1,
+    )?;
+    let n = reach(alloc, s, place, process, &found, flags, mode)?;
+    procs.open(
+        pid,
+        fd,
+        Descriptor {
+            number: n,
+            offset: 0,
+            read: flags.read,
+            write: flags.write,
+            append: flags.append,
+        },
+    );
+    Ok(Reply::Fd(fd))
+}

@@ -1,4 +1,0 @@
-pub mod Scanned
-pub mod Lookups
-pub mod FirstGroup
-pub mod OneAnswer

@@ -1,6 +1,0 @@
-pub mod Lines
-pub mod Words
-pub mod Commands
-pub mod Texts
-pub mod Runs
-pub mod Scripts

@@ -1,5 +1,0 @@
-mod Done
-mod Forgets
-pub mod Moments
-mod Passing
-mod Recorded

@@ -1,4 +1,0 @@
-pub mod Changes
-pub mod Delta
-pub mod Images
-mod Sharing

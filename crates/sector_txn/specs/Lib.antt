@@ -1,4 +1,0 @@
-pub mod Images
-pub mod Mixed
-pub mod Sectors
-pub mod Stores
