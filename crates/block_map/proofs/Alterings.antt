@@ -1,0 +1,93 @@
+-- What a step leaves alone.
+use Rattle.std.proofs.Common.{◌≡◌, ◌≢◌, ℕ, ◌<◌, ◌≤◌, List, refl, sym, subst, ◌∙◌, arith, IsTrue}
+use Rattle.fs_layout.specs.declared.inode.Inode.{Inode}
+use Rattle.fs_layout.specs.declared.place.Place.{Place}
+use Rattle.fs_layout.specs.Bytes.{SectorMap, IsSector}
+use Rattle.fs_layout.specs.Images.{bit, inode_bitmap}
+use Rattle.fs_layout.specs.Changes.{Keeps, Puts}
+use Rattle.fs_layout.proofs.Places.{after_map, before_data}
+use Rattle.fs_layout.proofs.Parts.{owns_acl, owns_default_acl}
+use Rattle.fs_layout.proofs.Bits.{inode_bit_kept, block_bit_kept}
+use Rattle.fs_layout.proofs.Blocks.{map_is_low}
+use Rattle.fs_layout.proofs.Composes.{apart_after, both_changes}
+use Rattle.sector_txn.specs.Sectors.{TxnState, SameStore}
+use Rattle.bit_alloc.specs.declared.bitmap.Bitmap.{Bitmap}
+use Rattle.bit_alloc.specs.declared.bitmap.Bitmap.TheVariants.{Inodes, Blocks}
+use Rattle.bit_alloc.specs.Bitmaps.{HasBitmaps, IsNumber, bit_count, first_sector}
+use Rattle.bit_alloc.specs.Inodes.{KeepsFields, KeepsAcls}
+use Rattle.block_map.specs.Steps.{MayChange, Alters}
+
+-- what is asked of one bitmap
+abbrev pub RestOf : Place → SectorMap → Bitmap → Type 0
+RestOf p image map = (n : ℕ) → n < bit_count p map → (IsNumber p map n → ⊥) → IsTrue (bit image (first_sector map) n)
+
+-- a data sector is put: the bitmaps are as they were
+pub put_keeps_bitmaps : {p : Place} {s : ℕ} {x : List ℕ} {old new : TxnState} → HasBitmaps p old → SameStore old new → p.first_data ≤ s
+    → Puts s x old.sectors new.sectors → HasBitmaps p new
+put_keeps_bitmaps {p} {s} {x} {old} {new} h store ge put =
+    let m = after_map h.place in
+    let d = before_data h.place in
+    record {
+      place = h.place;
+      disk = let b = h.disk in let e = store.reads.narrowed.size in omega (arith, b, e);
+      tables = λ t past low. subst IsSector (sym (put.others t (λ e. omega (arith, low, ge, e)))) (h.tables t past low);
+      rest = λ map. elim map as (λ k. RestOf p new.sectors k) [
+        | Inodes ↦ λ n few none.
+            inode_bit_kept old.sectors new.sectors n few (put.others inode_bitmap (λ e. omega (arith, m, d, ge, e))) ∙ h.rest Inodes n few none
+        | Blocks ↦ λ n few none.
+            block_bit_kept p old.sectors new.sectors n few (λ t low. put.others t (λ e. let l = map_is_low h.place t low in omega (arith, l, ge, e)))
+            ∙ h.rest Blocks n few none
+      ];
+    }
+
+-- the same attributes
+pub fields_same : {v : Inode} → KeepsFields v v
+fields_same = record { kind = refl; mode = refl; uid = refl; gid = refl; names = refl; parent = refl }
+
+-- the sectors of the ACLs are the same
+pub acls_kept : {old new : SectorMap} {v w : Inode} → w.acl ≡ v.acl → w.default_acl ≡ v.default_acl → (v.acl ≢ 0 → new v.acl ≡ old v.acl)
+    → (v.default_acl ≢ 0 → new v.default_acl ≡ old v.default_acl) → KeepsAcls old new v w
+acls_kept acl default one two = record { access = record { acl = acl; acl_sector = one }; default = record { default = default; default_sector = two } }
+
+-- nothing that the inode owns differs
+pub acls_where_kept : {old new : SectorMap} {v w : Inode} → w.acl ≡ v.acl → w.default_acl ≡ v.default_acl → Keeps old new v → KeepsAcls old new v w
+acls_where_kept {old} {new} {v} acl default keeps =
+    acls_kept acl default (λ some. keeps v.acl (owns_acl old v some)) (λ some. keeps v.default_acl (owns_default_acl old v some))
+
+-- one step after another
+pub fields_joined : {u v w : Inode} → KeepsFields u v → KeepsFields v w → KeepsFields u w
+fields_joined a b = record {
+  kind = b.kind ∙ a.kind;
+  mode = b.mode ∙ a.mode;
+  uid = b.uid ∙ a.uid;
+  gid = b.gid ∙ a.gid;
+  names = b.names ∙ a.names;
+  parent = b.parent ∙ a.parent;
+}
+
+acl_on : (mid new : SectorMap) (s t : ℕ) → t ≡ s → (t ≢ 0 → new t ≡ mid t) → s ≢ 0 → new s ≡ mid s
+acl_on mid new s t e same some = subst (λ (u : ℕ). u ≢ 0 → new u ≡ mid u) e same some
+
+pub acls_joined : {old mid new : SectorMap} {u v w : Inode} → KeepsAcls old mid u v → KeepsAcls mid new v w → KeepsAcls old new u w
+acls_joined {old} {mid} {new} {u} {v} {w} a b =
+    acls_kept (b.access.acl ∙ a.access.acl) (b.default.default ∙ a.default.default)
+    (λ some. acl_on mid new u.acl v.acl a.access.acl b.access.acl_sector some ∙ a.access.acl_sector some)
+    (λ some. acl_on mid new u.default_acl v.default_acl a.default.default b.default.default_sector some ∙ a.default.default_sector some)
+
+pub alters_joined : {p : Place} {old mid new : TxnState} {u v w : Inode} → Alters p old mid u v → Alters p mid new v w → Alters p old new u w
+alters_joined a b = record {
+  blocks = both_changes a.bitmaps.place a.blocks b.blocks;
+  fields = fields_joined a.fields b.fields;
+  acls = acls_joined a.acls b.acls;
+  bitmaps = b.bitmaps;
+  fits = b.fits;
+}
+
+-- and the inode may be changed again
+pub may_after : {p : Place} {old new : TxnState} {v w : Inode} → MayChange p old v → Alters p old new v w → MayChange p new w
+may_after may a = record {
+  bitmaps = a.bitmaps;
+  apart = apart_after a.bitmaps.place may.apart a.blocks.owned;
+  fits = a.fits;
+  used = λ e. may.used (sym a.fields.kind ∙ e);
+}

@@ -1,0 +1,253 @@
+-- A link is made with its target, and freed with it.
+use Rattle.std.proofs.Common.{◌≡◌, ℕ, ◌+◌, ◌/◌, ◌%◌, ◌^◌, ◌<◌, ◌≤◌, false, List, [], ◌++◌, length, replicate, refl, sym, ap, subst, ◌∙◌, arith, IsTrue}
+use Rattle.std.proofs.lemmas.Bool.Decides.{nat_tests}
+use Rattle.std.proofs.lemmas.List.{drop_all, append-nil}
+use Rattle.fs_layout.specs.declared.inode.Inode.{Inode}
+use Rattle.fs_layout.specs.declared.inode.Kind.TheVariants as kinds
+use Rattle.fs_layout.specs.declared.place.Place.{Place}
+use Rattle.fs_layout.specs.Bytes.{SectorMap, splice, zeros}
+use Rattle.fs_layout.specs.Inode.{FitsInode, inode_fits, free_inode}
+use Rattle.fs_layout.specs.Images.{pointer, Holds, HasNoHole, bit, free_sectors, inode_at, inode_bitmap}
+use Rattle.fs_layout.specs.Ownership.{IsConsistent}
+use Rattle.fs_layout.specs.Changes.{with_direct, Allocates, IsOwnedApart, ReplacesBlock, MarksInode, ChangesBlocks, ChangesInode, Saves}
+use Rattle.fs_layout.proofs.Composes.{apart_after, both_changes, both_inodes}
+use Rattle.fs_layout.proofs.Consistent.{owned_is_apart, stays_consistent, saved_stays_consistent}
+use Rattle.fs_layout.proofs.Free.{HasNoSector, free_fits, free_has_no_sector, holds_nothing, inode_fits_there, no_sector_changes, with_direct_fits}
+use Rattle.fs_layout.proofs.Held.{splice_replaces}
+use Rattle.fs_layout.proofs.Marks.{marks_change}
+use Rattle.fs_layout.proofs.Parts.{Holds-kept, HasNoHole-kept}
+use Rattle.fs_layout.proofs.Pointers.{pointer_direct}
+use Rattle.fs_layout.proofs.Saves.{IsSaved}
+use Rattle.fs_layout.proofs.Sizes.{extends}
+use Rattle.fs_layout.proofs.SplicedBytes.{IsSector-zeros, get_or-zeros}
+use Rattle.fs_layout.proofs.Steps.{allocated_some, direct_block_gained, direct_block_filled}
+use Rattle.fs_layout.proofs.Writes.{length-zeros}
+use Rattle.sector_txn.specs.Sectors.{TxnState, IsUnchanged, PutsOnly}
+use Rattle.sector_txn.proofs.Changes.{changes_joined}
+use Rattle.bit_alloc.specs.declared.bitmap.Bitmap.TheVariants.{Inodes}
+use Rattle.bit_alloc.specs.Bitmaps.{HasBitmaps, IsNumber, TakesNumber, GivesNumber}
+use Rattle.bit_alloc.specs.Room.{bitmaps}
+use Rattle.bit_alloc.specs.Inodes.{IsSound, IsSectorFor, Touches}
+use Rattle.bit_alloc.proofs.Soundness.{free_kept, super_kept}
+use Rattle.bit_alloc.proofs.Transactions.{map_unchanged}
+use Rattle.inode_table.specs.Inodes.{ClearAreFree}
+use Rattle.inode_table.proofs.Sound.{puts_nothing, puts_inode_bit, puts_inode}
+use Rattle.block_map.specs.Contents.{AllowsSize}
+use Rattle.block_map.specs.Drops.{GivesAll, emptied}
+use Rattle.block_map.specs.Links.{IsNewLink, HasNoAcls}
+use Rattle.block_map.specs.Steps.{MayChange, IsStepSector}
+use Rattle.block_map.proofs.Givings.{emptied_blocks}
+use Rattle.block_map.proofs.Saving.{puts_steps}
+
+-- ---- a link that lacks its sector
+abbrev pub link_of : (owner group size : ℕ) → Inode
+link_of owner group size = record {
+  kind = kinds.Link;
+  mode = 0o777;
+  uid = owner;
+  gid = group;
+  names = 1;
+  size = size;
+  parent = 0;
+  acl = 0;
+  default_acl = 0;
+  direct = replicate 12 0;
+  indirect = 0;
+}
+
+link_has_no_sector : (owner group size : ℕ) → HasNoSector (link_of owner group size)
+unfolding zeros
+link_has_no_sector owner group size = record { acl = refl; default_acl = refl; direct = get_or-zeros 12; indirect = refl }
+
+-- it holds zeros
+link_holds_zeros : (image : SectorMap) (owner group size : ℕ) → Holds image (link_of owner group size) (zeros size)
+link_holds_zeros image owner group size =
+    let none : Holds image (link_of owner group 0) [] = holds_nothing image (link_of owner group 0) (link_has_no_sector owner group 0) refl in
+    let sum : 0 + size ≡ size = omega arith in
+    subst (λ (k : ℕ). Holds image (link_of owner group k) (zeros size)) sum (extends image (link_of owner group 0) [] size none)
+
+-- with a sector it fits its fields
+pub link_fits : (owner group size y : ℕ) → owner < 2 ^ 32 → group < 2 ^ 32 → 1 ≤ size → size ≤ 512 → y < 2 ^ 32
+    → FitsInode (with_direct (link_of owner group size) 0 y)
+unfolding inode_fits zeros
+link_fits owner group size y small_owner small_group some few small =
+    let v : Inode = link_of owner group size in
+    let fits : FitsInode v = record {
+      valid = record { numbers = grind (arith, nat_tests); free = λ e. cc };
+      mode = omega arith;
+      uid = small_owner;
+      gid = small_group;
+      names = omega arith;
+      size = omega (arith, few);
+      parent = omega arith;
+      acl = omega arith;
+      default_acl = omega arith;
+      direct_len = refl;
+      direct = λ i. let z = get_or-zeros 12 i in omega (arith, z);
+      indirect = omega arith;
+    } in
+    with_direct_fits v 0 y fits (λ e. cc) small
+
+-- the target, written into a sector of zeros, stands for the zeros
+target_fills : (target : List ℕ) → length target ≤ 512 → ReplacesBlock 0 (splice (zeros 512) 0 target) (zeros (length target)) target
+unfolding splice
+target_fills target few =
+    let len : length (zeros (length target)) ≡ length target = length-zeros (length target) in
+    let all : splice (zeros (length target)) 0 target ≡ target =
+    ap (λ (r : List ℕ). target ++ r) (drop_all (0 + length target) (zeros (length target)) (omega (arith, len))) ∙ append-nil target in
+    subst (ReplacesBlock 0 (splice (zeros 512) 0 target) (zeros (length target))) all
+    (splice_replaces (zeros (length target)) (zeros 512) target 0 0 (λ i e. get_or-zeros (length target) i ∙ sym (get_or-zeros 512 (i % 512)))
+    IsSector-zeros.len (omega (arith, few)) (omega (arith, len)))
+
+-- ---- a link is made: its inode's bit is set, its target gets a sector, and it is written
+-- what is so then
+pub record IsMade (p : Place) (n owner group : ℕ) (target : List ℕ) (old new : TxnState) : Type 0 where
+  pub touches : Touches p n 1 2 old new
+  pub used : IsTrue (bit new.sectors inode_bitmap n)
+  pub fields : IsNewLink owner group (inode_at p new.sectors n)
+  pub acls : HasNoAcls (inode_at p new.sectors n)
+  pub holds : Holds new.sectors (inode_at p new.sectors n) target
+  pub whole : HasNoHole new.sectors (inode_at p new.sectors n)
+
+module _ {p : Place} {n : ℕ} {t0 t1 : TxnState} (sound : IsSound p t0) (taken : TakesNumber p Inodes n t0.sectors t1.sectors)
+    (bit_put : PutsOnly (λ t. t ≡ inode_bitmap + n / 4096) (bitmaps p) 0 t0 t1) where
+  pub bit_puts : PutsOnly (IsSectorFor p n) (bitmaps p) 0 t0 t1
+  bit_puts = puts_inode_bit n n sound.consistent.place taken.free.1 bit_put
+
+  first : ChangesInode p n t0.sectors t1.sectors × (inode_at p t1.sectors n ≡ inode_at p t0.sectors n)
+  first = marks_change sound.consistent taken.free.1 taken.mark
+
+  now : IsConsistent p t1.sectors
+  now = stays_consistent sound.consistent taken.free.1 first.0
+
+  module _ {t2 : TxnState} (target_put : PutsOnly (IsStepSector p) (bitmaps p) 1 t1 t2) where
+    pub target_puts : PutsOnly (IsSectorFor p n) (bitmaps p) 1 t0 t2
+    target_puts = changes_joined bit_puts (puts_steps p n target_put)
+
+    module _ (owner group : ℕ) (target : List ℕ) {y : ℕ} {content : List ℕ} {bits : SectorMap} (t3 : TxnState) (clear : ClearAreFree p t0.sectors)
+        (size : AllowsSize kinds.Link (length target)) (is : content ≡ splice (zeros 512) 0 target) (a : Allocates p y content t1.sectors bits t2.sectors)
+        (fits : FitsInode (with_direct (link_of owner group (length target)) 0 y))
+        (saves : Saves p n (with_direct (link_of owner group (length target)) 0 y) t2.sectors t3.sectors) where
+      was_free : inode_at p t1.sectors n ≡ free_inode
+      was_free = first.1 ∙ clear n taken.free.1 taken.free.2
+
+      free_apart : IsOwnedApart p t1.sectors free_inode
+      free_apart = subst (λ (u : Inode). IsOwnedApart p t1.sectors u) was_free (owned_is_apart now n taken.free.1)
+
+      begun : ChangesBlocks p free_inode (link_of owner group (length target)) t1.sectors t1.sectors
+      begun = no_sector_changes now.place now.sectors free_apart free_has_no_sector (link_has_no_sector owner group (length target))
+
+      apart : IsOwnedApart p t1.sectors (link_of owner group (length target))
+      apart = apart_after now.place free_apart begun.owned
+
+      hole : pointer t1.sectors (link_of owner group (length target)) 0 ≡ 0
+      hole = pointer_direct t1.sectors (link_of owner group (length target)) 0 (omega arith)
+
+      changes : ChangesBlocks p free_inode (with_direct (link_of owner group (length target)) 0 y) t1.sectors t2.sectors
+      changes = both_changes now.place begun (direct_block_gained now.place apart a 0 (omega arith) refl hole)
+
+      saved : IsConsistent p t3.sectors × IsSaved p n (with_direct (link_of owner group (length target)) 0 y) t1.sectors t2.sectors t3.sectors
+      saved = saved_stays_consistent now taken.free.1 was_free fits changes saves
+
+      holds_target : Holds t2.sectors (with_direct (link_of owner group (length target)) 0 y) target
+      holds_target =
+          direct_block_filled now.place apart a 0 (zeros (length target)) target (omega arith) refl hole (omega (arith, size.0))
+          (link_holds_zeros t1.sectors owner group (length target))
+          (subst (λ (x : List ℕ). ReplacesBlock 0 x (zeros (length target)) target) (sym is) (target_fills target size.1))
+
+      has_sector : HasNoHole t2.sectors (with_direct (link_of owner group (length target)) 0 y)
+      has_sector k lt none =
+          let w : Inode = with_direct (link_of owner group (length target)) 0 y in
+          let one : k ≡ 0 = omega (arith, lt, size.1) in
+          allocated_some now.place apart a (sym (pointer_direct t2.sectors w 0 (omega arith)) ∙ ap (pointer t2.sectors w) (sym one) ∙ none)
+
+      pub link_made : free_sectors p t1.sectors ≡ free_sectors p t2.sectors + 1 → PutsOnly (λ t. t ≡ p.table + n / 4) [] 1 t2 t3 → IsMade p n owner group target t0 t3
+      link_made one inode_put =
+          let puts : PutsOnly (IsSectorFor p n) (bitmaps p) 2 t0 t3 = changes_joined target_puts (puts_inode p n inode_put) in
+          let same = free_kept p n t0.sectors t1.sectors taken.mark in
+          let f = saved.1.free in
+          let most = sound.consistent.place.most_inodes in
+          let lt = taken.free.1 in
+          record {
+            touches = record {
+              puts = puts;
+              super = super_kept p n 2 t0 t3 now.place puts;
+              inode = both_inodes now.place first.0 saved.1.changes;
+              free = omega (arith, one, same, f);
+            };
+            used = saved.1.inode_bits n (omega (arith, most, lt)) ∙ taken.set;
+            fields = subst (IsNewLink owner group) (sym saved.1.is) (record { kind = refl; mode = refl; uid = refl; gid = refl; names = refl; parent = refl });
+            acls = subst HasNoAcls (sym saved.1.is) (record { acl = refl; default = refl });
+            holds = subst (λ (u : Inode). Holds t3.sectors u target) (sym saved.1.is) (Holds-kept saved.1.keeps holds_target);
+            whole = subst (HasNoHole t3.sectors) (sym saved.1.is) (HasNoHole-kept saved.1.keeps has_sector);
+          }
+
+-- ---- a link is freed: its inode's bit is cleared, its blocks are given back, and zeros are written
+-- what is so then
+pub record IsFreed (p : Place) (n : ℕ) (old new : TxnState) : Type 0 where
+  pub touches : Touches p n 0 1 old new
+  pub free : inode_at p new.sectors n ≡ free_inode
+  pub unused : bit new.sectors inode_bitmap n ≡ false
+
+-- without its blocks it has no sector
+emptied_has_no_sector : (v : Inode) → HasNoAcls v → HasNoSector (emptied v)
+unfolding zeros
+emptied_has_no_sector v acls = record { acl = acls.acl; default_acl = acls.default; direct = get_or-zeros 12; indirect = refl }
+
+module _ {p : Place} {n : ℕ} {v : Inode} {t0 t1 t2 : TxnState} (sound : IsSound p t0) (number : IsNumber p Inodes n)
+    (is : v ≡ inode_at p t0.sectors n) (read : IsUnchanged t0 t1) (given : GivesNumber p Inodes n t1.sectors t2.sectors)
+    (bit_put : PutsOnly (λ t. t ≡ inode_bitmap + n / 4096) (bitmaps p) 0 t1 t2) where
+  pub cleared_puts : PutsOnly (IsSectorFor p n) (bitmaps p) 0 t0 t2
+  cleared_puts = changes_joined (puts_nothing p read) (puts_inode_bit n n sound.consistent.place number.1 bit_put)
+
+  mark : MarksInode n t0.sectors t2.sectors
+  mark = subst (λ m. MarksInode n m t2.sectors) (sym (map_unchanged read)) given.mark
+
+  cleared : ChangesInode p n t0.sectors t2.sectors × (inode_at p t2.sectors n ≡ inode_at p t0.sectors n)
+  cleared = marks_change sound.consistent number.1 mark
+
+  then : IsConsistent p t2.sectors
+  then = stays_consistent sound.consistent number.1 cleared.0
+
+  -- between, the link may be changed
+  pub link_may_change : (inode_at p t0.sectors n).kind ≡ kinds.Link → HasBitmaps p t2 → MayChange p t2 v
+  link_may_change kind tables = record {
+    bitmaps = tables;
+    apart = subst (λ (u : Inode). IsOwnedApart p t2.sectors u) (cleared.1 ∙ sym is) (owned_is_apart then n number.1);
+    fits = subst FitsInode (cleared.1 ∙ sym is) (inode_fits_there then n number.1);
+    used = λ e. let both = sym kind ∙ ap (λ (u : Inode). u.kind) (sym is) ∙ e in cc;
+  }
+
+  module _ {t3 : TxnState} (all : GivesAll p v t2 t3) where
+    pub given_puts : PutsOnly (IsSectorFor p n) (bitmaps p) 0 t0 t3
+    given_puts = changes_joined cleared_puts (puts_steps p n all.puts)
+
+    module _ (t4 : TxnState) (may : MayChange p t2 v) (acls : HasNoAcls (inode_at p t0.sectors n)) (saves : Saves p n free_inode t3.sectors t4.sectors) where
+      frees : ChangesBlocks p v free_inode t2.sectors t3.sectors
+      frees =
+          let place = then.place in
+          let blocks : ChangesBlocks p v (emptied v) t2.sectors t3.sectors = emptied_blocks place may.apart all in
+          let none : HasNoSector (emptied v) = emptied_has_no_sector v (subst HasNoAcls (sym is) acls) in
+          both_changes place blocks (no_sector_changes place all.tables.tables (apart_after place may.apart blocks.owned) none free_has_no_sector)
+
+      ended : IsConsistent p t4.sectors × IsSaved p n free_inode t2.sectors t3.sectors t4.sectors
+      ended = saved_stays_consistent then number.1 (cleared.1 ∙ sym is) free_fits frees saves
+
+      pub link_freed : PutsOnly (λ t. t ≡ p.table + n / 4) [] 1 t3 t4 → IsFreed p n t0 t4
+      link_freed inode_put =
+          let puts : PutsOnly (IsSectorFor p n) (bitmaps p) 1 t0 t4 = changes_joined given_puts (puts_inode p n inode_put) in
+          let same = free_kept p n t0.sectors t2.sectors mark in
+          let f = all.free in
+          let e = ended.1.free in
+          let most = then.place.most_inodes in
+          let lt = number.1 in
+          record {
+            touches = record {
+              puts = puts;
+              super = super_kept p n 1 t0 t4 then.place puts;
+              inode = both_inodes then.place cleared.0 ended.1.changes;
+              free = omega (arith, same, f, e);
+            };
+            free = ended.1.is;
+            unused = ended.1.inode_bits n (omega (arith, most, lt)) ∙ given.clear;
+          }

@@ -1,0 +1,107 @@
+-- Bytes are written and the inode is saved.
+use Rattle.std.proofs.Common.{◌≡◌, ℕ, ◌+◌, ◌-◌, ◌/◌, ◌%◌, ◌≤◌, ◌<◌, Bool, true, false, cond, List, [], ◌++◌, length, sym, ap, subst, ◌∙◌, arith, inl, inr}
+use Rattle.std.specs.Prelude.{max, nat_eq, nat_lt}
+use Rattle.fs_layout.specs.declared.inode.Inode.{Inode}
+use Rattle.fs_layout.specs.declared.place.Place.{Place}
+use Rattle.fs_layout.specs.Bytes.{SectorMap, zeros, overwritten}
+use Rattle.fs_layout.specs.Images.{pointer, Holds, HasNoHole, inode_at, free_sectors}
+use Rattle.fs_layout.specs.Changes.{Saves}
+use Rattle.fs_layout.proofs.Parts.{Holds-kept, HasNoHole-kept}
+use Rattle.fs_layout.proofs.Places.{after_map, before_data}
+use Rattle.sector_txn.specs.Sectors.{TxnState, IsUnchanged, PutsOnly}
+use Rattle.bit_alloc.specs.Room.{bitmaps}
+use Rattle.bit_alloc.specs.Inodes.{IsSound}
+use Rattle.bit_alloc.proofs.Transactions.{puts_after}
+use Rattle.block_map.specs.Blocks.{IsWithin}
+use Rattle.block_map.specs.Contents.{AllowsSize}
+use Rattle.block_map.specs.Steps.{MayChange, IsStepSector, lacks_pointers, WritesBlocks, blocks_to, taken_by, put_by}
+use Rattle.block_map.proofs.Alterings.{alters_joined}
+use Rattle.block_map.proofs.Counts.{holes_few, holes_same}
+use Rattle.block_map.proofs.Runs.{same_map}
+use Rattle.block_map.proofs.Saving.{IsEnded, saved_after}
+use Rattle.block_map.proofs.Sizing.{may_change, sized, sized_holds, sized_pointer, spliced_is_overwritten}
+
+-- what may be changed can be read
+pub may_within : {p : Place} {txn : TxnState} {v : Inode} → MayChange p txn v → IsWithin txn.disk.size txn.sectors v
+may_within {p} {txn} {v} may s o =
+    let d = may.apart.each s o in
+    let m = after_map may.bitmaps.place in
+    let b = before_data may.bitmaps.place in
+    let k = may.bitmaps.disk in
+    (omega (arith, d.0, m, b), omega (arith, d.1, k))
+
+-- the size after a write within the limit
+pub limit_at : (m size offset len : ℕ) → m ≡ max size (offset + len) → offset ≤ 71680 - len → len ≤ 4096 → size ≤ 71680 → m ≤ 71680
+limit_at m size offset len is within few small = omega (arith, is, within, few, small)
+
+-- ---- how many sectors are taken
+one_at_most : (b c : Bool) → cond b (cond c 1 0) 0 ≤ 1
+one_at_most true true = omega arith
+one_at_most true false = omega arith
+one_at_most false c = omega arith
+
+pub taken_few : (image : SectorMap) (v : Inode) (offset len : ℕ) → len ≤ 4096 → taken_by image v offset len ≤ 10
+taken_few image v offset len few =
+    let end : ℕ = blocks_to (offset + len) in
+    let some = holes_few image v (offset / 512) (end - offset / 512) in
+    let one : lacks_pointers v end ≤ 1 = one_at_most (nat_lt 12 end) (nat_eq v.indirect 0) in
+    let most : end - offset / 512 ≤ 9 = omega (arith, few) in
+    omega (arith, some, one, most)
+
+-- the size says nothing of it, nor do reads
+pub taken_same : (old mid : TxnState) (v : Inode) (m offset len : ℕ) → IsUnchanged old mid → taken_by mid.sectors (record v { size = m }) offset len ≡ taken_by old.sectors v offset len
+taken_same old mid v m offset len same =
+    let e : mid.sectors ≡ old.sectors = same_map old.sectors mid.sectors same.sectors in
+    ap (λ (image : SectorMap). taken_by image (record v { size = m }) offset len) e
+    ∙ ap (λ (h : ℕ). h + lacks_pointers v (blocks_to (offset + len)))
+    (holes_same old.sectors old.sectors v (record v { size = m }) (λ k. sized_pointer old.sectors v m k) (offset / 512) (blocks_to (offset + len) - offset / 512))
+
+pub free_same : (p : Place) (old mid : TxnState) → IsUnchanged old mid → free_sectors p mid.sectors ≡ free_sectors p old.sectors
+free_same p old mid same = ap (free_sectors p) (same_map old.sectors mid.sectors same.sectors)
+
+-- ---- how many sectors are put
+-- 11 at most
+pub put_few : (offset len : ℕ) → len ≤ 4096 → put_by offset len ≤ 11
+put_few offset len few = omega (arith, few)
+
+-- 3 where the bytes are one slot of a directory
+pub put_for_slot : (offset : ℕ) → offset % 128 ≡ 0 → put_by offset 128 ≡ 3
+put_for_slot offset at = omega (arith, at)
+
+-- ---- the whole call
+module _ {p : Place} {n m offset : ℕ} {x : List ℕ} {old mid done new : TxnState} {u v w : Inode}
+    (sound : IsSound p old) (lt : n < p.inodes) (at : v ≡ inode_at p old.sectors n) (allowed : AllowsSize v.kind m) (limit : m ≤ 71680) (few : length x ≤ 4096)
+    (is : m ≡ max v.size (offset + length x)) (same : IsUnchanged old mid) (e : u ≡ v) (step : WritesBlocks p offset x mid done (record u { size = m }) w) where
+  pub wrote : Saves p n w done.sectors new.sectors → PutsOnly (λ t. t ≡ p.table + n / 4) [] 1 done new
+      → IsEnded p n (taken_by old.sectors v offset (length x)) (put_by offset (length x)) old done new v w
+  wrote saves put =
+      let written : WritesBlocks p offset x mid done (record v { size = m }) w = subst (λ (i : Inode). WritesBlocks p offset x mid done (record i { size = m }) w) e step in
+      let reached : ℕ = blocks_to (offset + length x) - offset / 512 in
+      let puts : PutsOnly (IsStepSector p) (bitmaps p) (reached + 1) old done = puts_after same written.puts in
+      let count = taken_same old mid v m offset (length x) same in
+      let free = written.free in
+      let before = free_same p old mid same in
+      let more : reached + 1 + 1 ≡ put_by offset (length x) = omega arith in
+      subst (λ (k : ℕ). IsEnded p n (taken_by old.sectors v offset (length x)) k old done new v w) more
+      (saved_after sound lt (sym at) (alters_joined (sized m (may_change m sound lt at allowed) same allowed limit) written.alters) puts (omega (arith, count, free, before)) saves put)
+
+  pub wrote_held : (ended : IsEnded p n (taken_by old.sectors v offset (length x)) (put_by offset (length x)) old done new v w) → (held : List ℕ) → Holds old.sectors v held
+      → Holds new.sectors w (overwritten held offset x)
+  wrote_held ended held h =
+      let written : WritesBlocks p offset x mid done (record v { size = m }) w = subst (λ (i : Inode). WritesBlocks p offset x mid done (record i { size = m }) w) e step in
+      let z = h.size in
+      subst (λ (r : List ℕ). Holds new.sectors w r) (spliced_is_overwritten held x offset m (is ∙ ap (λ (k : ℕ). max k (offset + length x)) z))
+      (Holds-kept ended.keeps (written.held (held ++ zeros (m - length held)) (sized_holds m same (omega (arith, is)) held h)))
+
+  pub wrote_whole : (ended : IsEnded p n (taken_by old.sectors v offset (length x)) (put_by offset (length x)) old done new v w) → HasNoHole old.sectors v → offset ≤ v.size → HasNoHole new.sectors w
+  wrote_whole ended whole from =
+      let written : WritesBlocks p offset x mid done (record v { size = m }) w = subst (λ (i : Inode). WritesBlocks p offset x mid done (record i { size = m }) w) e step in
+      HasNoHole-kept ended.keeps (λ k inside none.
+      let none_before = written.hole k none in
+      let was : pointer old.sectors v k ≡ 0 =
+      ap (λ (image : SectorMap). pointer image v k) (sym (same_map old.sectors mid.sectors same.sectors)) ∙ sym (sized_pointer mid.sectors v m k) ∙ none_before.0 in
+      let size = written.size in
+      elim none_before.1 [
+        | inl before ↦ whole k (omega (arith, before, from)) was
+        | inr past ↦ whole k (omega (arith, inside, size, is, past)) was
+      ])

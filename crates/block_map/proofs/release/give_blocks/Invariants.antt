@@ -1,0 +1,9 @@
+use Rattle.std.proofs.Common.{◌≤◌}
+use Rattle.block_map.specs.Drops.{GivesBlocks}
+use Rattle.block_map.proofs.release.give_blocks.Given as goal
+
+abbrev pub invariant-loop-k : goal.invariant-loop-k
+invariant-loop-k g l = record {
+  from : l.first ≤ l.k;
+  given : GivesBlocks l.place l.blocks.inode l.first l.k (g.S.Sectors.state l.fn.s) (g.S.Sectors.state l.s);
+}

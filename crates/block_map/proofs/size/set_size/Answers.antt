@@ -1,0 +1,31 @@
+use Rattle.std.proofs.Common.{sym, arith}
+use Rattle.fs_layout.proofs.Parts.{Holds-kept, HasNoHole-kept}
+use Rattle.block_map.proofs.Saving.{saved_after}
+use Rattle.block_map.proofs.Sizing.{may_change, size_limit}
+use Rattle.block_map.proofs.size.set_size.Goals as goal
+
+pub resize-requires-clause-may : goal.resize-requires-clause-may
+resize-requires-clause-may g c = may_change c.args.size c.requires.sound c.requires.below c.requires.inode c.requires.kind
+
+pub resize-requires-clause-limit : goal.resize-requires-clause-limit
+resize-requires-clause-limit g c = (omega (arith, c.if-size-gt-MAX_FILE_SIZE.false), size_limit c.args.size c.requires.sound c.requires.below c.requires.inode c.requires.kind)
+
+pub returns-clause-change : goal.returns-clause-change
+returns-clause-change g c =
+    let r = c.in_ok-resize.ensures.resized in
+    (saved_after {taken = 0} {more = 2} c.requires.sound c.requires.below (sym c.requires.inode) r.alters r.puts (let f = r.free in omega (arith, f)) c.in_ok-write_inode.ensures.saved
+    c.in_ok-write_inode.ensures.puts).content
+
+pub returns-clause-held : goal.returns-clause-held
+returns-clause-held g c = λ held h.
+    let r = c.in_ok-resize.ensures.resized in
+    let ended = saved_after {taken = 0} {more = 2} c.requires.sound c.requires.below (sym c.requires.inode) r.alters r.puts (let f = r.free in omega (arith, f)) c.in_ok-write_inode.ensures.saved
+    c.in_ok-write_inode.ensures.puts in
+    Holds-kept ended.keeps (r.held held h)
+
+pub returns-clause-whole : goal.returns-clause-whole
+returns-clause-whole g c = λ none less.
+    let r = c.in_ok-resize.ensures.resized in
+    let ended = saved_after {taken = 0} {more = 2} c.requires.sound c.requires.below (sym c.requires.inode) r.alters r.puts (let f = r.free in omega (arith, f)) c.in_ok-write_inode.ensures.saved
+    c.in_ok-write_inode.ensures.puts in
+    HasNoHole-kept ended.keeps (r.whole none less)

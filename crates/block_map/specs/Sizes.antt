@@ -1,0 +1,36 @@
+-- An inode gets another size.
+--     HasZeroTail, ClearsTail        the rest of the last block is written with zeros
+--     Resizes        the size changes, and what is held with it
+use Rattle.std.specs.Prelude.{◌≡◌, ℕ, ◌+◌, ◌*◌, ◌/◌, ◌<◌, ◌≤◌, List, length, get_or}
+use Rattle.fs_layout.specs.declared.inode.Inode.{Inode}
+use Rattle.fs_layout.specs.declared.place.Place.{Place}
+use Rattle.fs_layout.specs.Bytes.{resized}
+use Rattle.fs_layout.specs.Images.{pointer, Holds, HasNoHole, free_sectors}
+use Rattle.sector_txn.specs.Sectors.{TxnState, PutsOnly}
+use Rattle.bit_alloc.specs.Room.{bitmaps}
+use Rattle.block_map.specs.Blocks.{IsLoaded}
+use Rattle.block_map.specs.declared.blocks.Blocks.{Blocks}
+use Rattle.block_map.specs.Steps.{IsStepSector, Alters}
+
+-- these are the bytes up to `size`, with zeros from there to the end of the block, if it goes on there
+pub record HasZeroTail (size : ℕ) (bytes then : List ℕ) : Type 0 where
+  pub before : (i : ℕ) → i < size → get_or then i 0 ≡ get_or bytes i 0
+  pub after : (i : ℕ) → size ≤ i → i < 512 * ((size + 511) / 512) → get_or then i 0 ≡ 0
+  pub len : length then ≡ length bytes
+
+-- the bytes from `size` to the end of their block are zeros
+pub record ClearsTail (p : Place) (size : ℕ) (old new : TxnState) (v : Inode) : Type 0 where
+  pub alters : Alters p old new v v
+  pub loaded : (b : Blocks) → b.inode ≡ v → (end : ℕ) → IsLoaded old.sectors b end → IsLoaded new.sectors b end
+  pub puts : PutsOnly (IsStepSector p) (bitmaps p) 1 old new
+  pub pointers : (k : ℕ) → pointer new.sectors v k ≡ pointer old.sectors v k
+  pub held : (bytes : List ℕ) → Holds old.sectors v bytes → (then : List ℕ) × Holds new.sectors v then × HasZeroTail size bytes then
+  pub free : free_sectors p old.sectors ≤ free_sectors p new.sectors
+
+-- the inode has this size, and holds so many bytes
+pub record Resizes (p : Place) (size : ℕ) (old new : TxnState) (v w : Inode) : Type 0 where
+  pub alters : Alters p old new v w
+  pub puts : PutsOnly (IsStepSector p) (bitmaps p) 2 old new
+  pub held : (bytes : List ℕ) → Holds old.sectors v bytes → Holds new.sectors w (resized bytes size)
+  pub whole : HasNoHole old.sectors v → size ≤ v.size → HasNoHole new.sectors w
+  pub free : free_sectors p old.sectors ≤ free_sectors p new.sectors

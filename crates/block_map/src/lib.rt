@@ -1,0 +1,40 @@
+//! The bytes of files, directories and links: an inode holds a list of bytes, with zeros in holes.
+//!
+//! An inode has 12 direct blocks of 512 bytes, and then a sector of pointers to 128 more. [`read_at`], [`write_at`],
+//! [`overwrite`] and [`set_size`] serve files, directories and links alike, [`release_all`] files and directories. A link is
+//! never empty: [`new_link`] makes it with its target, and [`free_link`] frees both. [`Blocks`] reads one block after
+//! another, as a search does. No call takes memory.
+//!
+//! What each call reads and puts, where it reaches `k` blocks, `h` of which are holes:
+//!
+//! | Call | `get` | `put` |
+//! |---|---|---|
+//! | [`read_at`] | the sector of pointers if a block past the first 12 is reached, and each block but the holes | 0 |
+//! | [`Blocks::load`] | the sector of pointers if a block past the first 12 may be reached | 0 |
+//! | [`Blocks::read`] | the block but a hole | 0 |
+//! | [`write_at`] | the sector of pointers as above, `k - h`, the inode's sector, and what `h` sectors taken read in the bitmap | `k`, the inode's sector, the bitmap's for each sector taken, the sector of pointers for each taken past block 11, and once more where it is new |
+//! | [`overwrite`] | the sector of pointers if the block is past the first 12, and the block | 1 |
+//! | [`set_size`] | the inode's sector; and where it cuts, the sector of pointers if there is one, the block that the cut goes through but a hole, and the bitmap's for each sector given back | the inode's sector; and where it cuts, the block that it goes through but a hole, the sector of pointers if one stays, and the bitmap's for each sector given back |
+//! | [`release_all`] | the sector of pointers if there is one, the inode's sector, and the bitmap's for each sector given back | the inode's sector, and the bitmap's for each sector given back |
+//! | [`new_link`] | the inode bitmap, the inode's sector, and what a sector taken reads in the bitmap | the inode bitmap, the inode's sector, the target's, and the bitmap's |
+//! | [`free_link`] | the inode's sector twice, the inode bitmap, and the bitmap's | the inode bitmap, the inode's sector, and the bitmap's |
+#![tactic(auto)]
+
+mod blocks;
+mod fault;
+mod link;
+mod read;
+mod release;
+mod size;
+mod steps;
+#[cfg(test)]
+mod tests;
+mod write;
+
+pub use blocks::Blocks;
+pub use fault::MapFault;
+pub use link::{free_link, new_link};
+pub use read::read_at;
+pub use release::release_all;
+pub use size::set_size;
+pub use write::{overwrite, write_at};

@@ -1,0 +1,89 @@
+//! Links: each is made with its target, and freed with it.
+
+ghost use Rattle.std.specs.Prelude.{◌≡◌, ◌≤◌, ◌⊎◌, length, false, IfOk, IfErr, OnOk, IsTrue};
+ghost use Rattle.sector_disk.specs.Disk.{HasCause};
+ghost use Rattle.fs_layout.specs.Inode.{free_inode};
+ghost use Rattle.fs_layout.specs.Images.{HasNoHole, Holds, bit, free_sectors, inode_at, inode_bitmap};
+ghost use Rattle.sector_txn.specs.Sectors.{SameStore};
+ghost use Rattle.bit_alloc.specs.declared.bitmap.Bitmap.TheVariants.{Inodes};
+ghost use Rattle.bit_alloc.specs.Bitmaps.{IsNumber, IsFreeNumber, free_numbers};
+ghost use Rattle.bit_alloc.specs.Faults.{HasCauseOf};
+ghost use Rattle.bit_alloc.specs.Inodes.{IsSound, Touches};
+ghost use Rattle.bit_alloc.specs.Room.{HasSpare};
+ghost use Rattle.inode_table.specs.Inodes.{ClearAreFree};
+ghost use Rattle.block_map.specs.Contents.{AllowsSize};
+ghost use Rattle.block_map.specs.Links.{IsNewLink, HasNoAcls};
+
+use crate::blocks::BLOCK;
+use crate::release::give_all;
+use crate::steps::take_sector;
+use bit_alloc::{Bitmap, TakeFault, give, take};
+use fs_layout::{Inode, Kind, Place};
+use inode_table::{load, write_inode};
+use sector_disk::DiskFault;
+use sector_txn::Sectors;
+
+/// Makes a link with this target, of 1 to 512 bytes, which take one sector: a free inode gets the fields. It is the lowest
+/// one, which no clause says. What the target's bytes are is not looked at.
+pub fn new_link<S: Sectors>(
+    s: &mut S,
+    place: Place,
+    uid: u32,
+    gid: u32,
+    target: &[u8],
+) -> Result<u32, TakeFault>
+    requires sound { IsSound place (S.state s.old) }
+    requires clear { ClearAreFree place (S.state s.old).sectors }
+    requires target { AllowsSize Kind.Link (length target.now) }
+    requires spare { HasSpare place 2 (S.state s.old) }
+    ensures store { SameStore (S.state s.old) (S.state s.new) }
+    ensures sound { OnOk result (IsSound place (S.state s.new)) }
+    ensures free { IfOk result (IsFreeNumber place Inodes (S.state s.old).sectors) }
+    ensures used { IfOk result (λ n. IsTrue (bit (S.state s.new).sectors inode_bitmap n)) }
+    ensures touches { IfOk result (λ n. Touches place n 1 2 (S.state s.old) (S.state s.new)) }
+    ensures fields { IfOk result (λ n. IsNewLink uid gid (inode_at place (S.state s.new).sectors n)) }
+    ensures acls { IfOk result (λ n. HasNoAcls (inode_at place (S.state s.new).sectors n)) }
+    ensures holds { IfOk result (λ n. Holds (S.state s.new).sectors (inode_at place (S.state s.new).sectors n) target.now) }
+    ensures whole { IfOk result (λ n. HasNoHole (S.state s.new).sectors (inode_at place (S.state s.new).sectors n)) }
+    ensures full { IfErr result (λ e. e ≡ TakeFault.Full → (free_numbers place Inodes (S.state s.old).sectors ≡ 0)
+        ⊎ (free_sectors place (S.state s.old).sectors ≡ 0)) }
+    ensures cause { HasCauseOf TakeFault.DiskFault (S.state s.old).disk (S.state s.new).disk result }
+{
+    let n = take(s, place, Bitmap::Inodes)?;
+    let mut content = [0; BLOCK];
+    (&mut content[..target.len()]).copy_from_slice(target);
+    let mut link = Inode {
+        kind: Kind::Link,
+        mode: 0o777,
+        uid,
+        gid,
+        names: 1,
+        size: target.len() as u64,
+        ..Inode::FREE
+    };
+    link.direct[0] = take_sector(s, place, &content)?;
+    write_inode(s, place, n, &link)?;
+    Ok(n)
+}
+
+/// Frees inode n, a link, with the sector of its target: its 128 bytes become zero, and its bit is cleared. Links have no
+/// ACLs.
+pub fn free_link<S: Sectors>(s: &mut S, place: Place, n: u32) -> Result<(), DiskFault>
+    requires sound { IsSound place (S.state s.old) }
+    requires number { IsNumber place Inodes n }
+    requires kind { (inode_at place (S.state s.old).sectors n).kind ≡ Kind.Link }
+    requires acls { HasNoAcls (inode_at place (S.state s.old).sectors n) }
+    requires spare { HasSpare place 1 (S.state s.old) }
+    ensures store { SameStore (S.state s.old) (S.state s.new) }
+    ensures sound { OnOk result (IsSound place (S.state s.new)) }
+    ensures touches { OnOk result (Touches place n 0 1 (S.state s.old) (S.state s.new)) }
+    ensures free { OnOk result (inode_at place (S.state s.new).sectors n ≡ free_inode) }
+    ensures unused { OnOk result (bit (S.state s.new).sectors inode_bitmap n ≡ false) }
+    ensures cause { HasCause (S.state s.old).disk (S.state s.new).disk result }
+{
+    let link = load(s, place, n)?;
+    give(s, place, Bitmap::Inodes, n)?;
+    give_all(s, place, &link)?;
+    write_inode(s, place, n, &Inode::FREE)?;
+    Ok(())
+}

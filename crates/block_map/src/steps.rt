@@ -1,0 +1,130 @@
+//! Steps of a change: what an inode owns changes, and the inode isn't saved yet.
+
+ghost use Rattle.std.specs.Prelude.{◌≡◌, ◌≢◌, ◌≤◌, ◌<◌, ◌+◌, ◌*◌, ℕ, [], length, false, true, Err, IfOk, IfErr, OnOk, OnErr};
+ghost use Rattle.fs_layout.specs.Bytes.{SectorMap, IsSector, splice};
+ghost use Rattle.fs_layout.specs.Images.{pointer, free_sectors};
+ghost use Rattle.fs_layout.specs.Changes.{Puts, Allocates};
+ghost use Rattle.sector_disk.specs.Disk.{HasCause};
+ghost use Rattle.sector_txn.specs.Sectors.{SameStore, PutsOnly};
+ghost use Rattle.bit_alloc.specs.Bitmaps.{HasBitmaps};
+ghost use Rattle.bit_alloc.specs.Faults.{HasCauseOf};
+ghost use Rattle.bit_alloc.specs.Room.{bitmaps, HasSpare};
+ghost use Rattle.block_map.specs.Blocks.{IsLoaded};
+ghost use Rattle.block_map.specs.Steps.{MayChange, IsStepSector, HasRoomFor, AddsPointers, WritesBlock};
+
+use crate::MapFault;
+use crate::blocks::{BLOCK, Blocks, DIRECT};
+use bit_alloc::{Bitmap, TakeFault, take};
+use fs_layout::Place;
+use sector_disk::DiskFault;
+use sector_txn::Sectors;
+
+/// Writes bytes into a sector, from `at` on.
+pub(crate) fn rewrite<S: Sectors>(
+    s: &mut S,
+    number: u32,
+    at: usize,
+    bytes: &[u8],
+) -> Result<(), DiskFault>
+    requires part { 128 ≤ number }
+    requires on_disk { number < (S.state s.old).disk.size }
+    requires fits { at + length bytes.now ≤ 512 }
+    requires room { (S.state s.old).has_put number ≡ false → 0 < (S.state s.old).room }
+    ensures written { OnOk result (Puts number (splice ((S.state s.old).sectors number) at bytes.now)
+        (S.state s.old).sectors (S.state s.new).sectors) }
+    ensures puts { OnOk result (PutsOnly (λ n. n ≡ number) [] 1 (S.state s.old) (S.state s.new)) }
+    ensures store { SameStore (S.state s.old) (S.state s.new) }
+    ensures cause { HasCause (S.state s.old).disk (S.state s.new).disk result }
+{
+    let mut block = [0; BLOCK];
+    s.get(number, &mut block)?;
+    (&mut block[at..at + bytes.len()]).copy_from_slice(bytes);
+    s.put(number, &block);
+    Ok(())
+}
+
+/// Takes a sector, and writes this into it.
+pub(crate) fn take_sector<S: Sectors>(
+    s: &mut S,
+    place: Place,
+    content: &[u8; 512],
+) -> Result<u32, TakeFault>
+    requires bitmaps { HasBitmaps place (S.state s.old) }
+    requires room { HasSpare place 1 (S.state s.old) }
+    ensures taken { IfOk result (λ n. (bits : SectorMap)
+        × Allocates place n content.now (S.state s.old).sectors bits (S.state s.new).sectors) }
+    ensures free { OnOk result (free_sectors place (S.state s.old).sectors ≡ free_sectors place (S.state s.new).sectors + 1) }
+    ensures has { IfOk result (λ n. (S.state s.new).has_put n ≡ true) }
+    ensures puts { OnOk result (PutsOnly (IsStepSector place) (bitmaps place) 1 (S.state s.old) (S.state s.new)) }
+    ensures bitmaps { OnOk result (HasBitmaps place (S.state s.new)) }
+    ensures full { IfErr result (λ e. e ≡ TakeFault.Full → free_sectors place (S.state s.old).sectors ≡ 0) }
+    ensures store { SameStore (S.state s.old) (S.state s.new) }
+    ensures cause { HasCauseOf TakeFault.DiskFault (S.state s.old).disk (S.state s.new).disk result }
+{
+    let number = take(s, place, Bitmap::Blocks)?;
+    s.put(number, content);
+    Ok(number)
+}
+
+/// Writes bytes into block k, from `at` on. A hole takes a sector.
+pub(crate) fn write_block<S: Sectors>(
+    s: &mut S,
+    place: Place,
+    blocks: &mut Blocks,
+    k: u64,
+    at: usize,
+    bytes: &[u8],
+) -> Result<(), MapFault>
+    requires may { MayChange place (S.state s.old) blocks.old.inode }
+    requires loaded { IsLoaded (S.state s.old).sectors blocks.old (k + 1) }
+    requires pointers { (k < 140) × (12 ≤ k → blocks.old.inode.indirect ≢ 0) }
+    requires fits { (at + length bytes.now ≤ 512) × (512 * k + at + length bytes.now ≤ blocks.old.inode.size) }
+    requires inside { 512 * k < blocks.old.inode.size }
+    requires room { HasRoomFor place blocks.old.inode 1 (S.state s.old) }
+    ensures written { OnOk result (WritesBlock place k at bytes.now (S.state s.old) (S.state s.new) blocks.old blocks.new) }
+    ensures full { result ≡ Err MapFault.Full
+        → (pointer (S.state s.old).sectors blocks.old.inode k ≡ 0) × (free_sectors place (S.state s.old).sectors ≡ 0) }
+    ensures small { result ≢ Err MapFault.TooBig }
+    ensures store { SameStore (S.state s.old) (S.state s.new) }
+    ensures cause { HasCauseOf MapFault.DiskFault (S.state s.old).disk (S.state s.new).disk result }
+{
+    let number = blocks.number(k);
+    if number != 0 {
+        rewrite(s, number, at, bytes)?;
+        return Ok(());
+    }
+    let mut content = [0; BLOCK];
+    (&mut content[at..at + bytes.len()]).copy_from_slice(bytes);
+    let number = take_sector(s, place, &content)?;
+    if k < DIRECT {
+        blocks.inode.direct[k as usize] = number;
+    } else {
+        blocks.put_pointer(s, k, number);
+    }
+    Ok(())
+}
+
+/// Takes a sector for pointers if the blocks below `end` need it.
+pub(crate) fn add_pointers<S: Sectors>(
+    s: &mut S,
+    place: Place,
+    blocks: &mut Blocks,
+    end: u64,
+) -> Result<(), MapFault>
+    requires may { MayChange place (S.state s.old) blocks.old.inode }
+    requires loaded { IsLoaded (S.state s.old).sectors blocks.old end }
+    requires inside { 12 < end → 6144 < blocks.old.inode.size }
+    requires room { HasSpare place 1 (S.state s.old) }
+    ensures added { OnOk result (AddsPointers place end (S.state s.old) (S.state s.new) blocks.old blocks.new) }
+    ensures full { result ≡ Err MapFault.Full
+        → (12 < end) × (blocks.old.inode.indirect ≡ 0) × (free_sectors place (S.state s.old).sectors ≡ 0) }
+    ensures small { result ≢ Err MapFault.TooBig }
+    ensures store { SameStore (S.state s.old) (S.state s.new) }
+    ensures cause { HasCauseOf MapFault.DiskFault (S.state s.old).disk (S.state s.new).disk result }
+{
+    if end <= DIRECT || blocks.inode.indirect != 0 {
+        return Ok(());
+    }
+    blocks.inode.indirect = take_sector(s, place, &[0; BLOCK])?;
+    Ok(())
+}
