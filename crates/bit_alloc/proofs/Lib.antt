@@ -1,0 +1,6 @@
+pub mod Counting
+pub mod Maps
+pub mod Marking
+pub mod Soundness
+pub mod Transactions
+pub mod Words

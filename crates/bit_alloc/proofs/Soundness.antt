@@ -1,0 +1,127 @@
+-- How calls on inodes go together: soundness, the room, and the sectors that they put.
+use Rattle.std.proofs.Common.{◌≡◌, ℕ, ◌+◌, ◌-◌, ◌/◌, ◌<◌, ◌≤◌, sym, ap, subst, ◌∙◌, arith, inl, inr, ◌⊎◌, IsTrue, Some}
+use Rattle.std.proofs.lemmas.Bool.{cases_eq, cases_lt}
+use Rattle.std.proofs.lemmas.List.FromFn.{length-range_with_len}
+use Rattle.fs_layout.specs.declared.place.Place.{Place}
+use Rattle.fs_layout.specs.Bytes.{SectorMap, IsSector}
+use Rattle.fs_layout.specs.Place.{IsPlace, the_place}
+use Rattle.fs_layout.specs.Images.{bit, inode_bitmap, block_bitmap, free_sectors}
+use Rattle.fs_layout.specs.Ownership.{IsConsistent}
+use Rattle.fs_layout.specs.Changes.{MarksInode}
+use Rattle.fs_layout.proofs.Bits.{bit_kept, inode_bit_kept, free_sectors_kept}
+use Rattle.fs_layout.proofs.Composes.{both_inodes}
+use Rattle.fs_layout.proofs.Consistent.{stays_consistent}
+use Rattle.fs_layout.proofs.Places.{after_map, before_data, place_has_bounds}
+use Rattle.sector_txn.specs.Sectors.{TxnState, SameStore, IsPut, PutsOnly}
+use Rattle.sector_txn.proofs.Changes.{changes_joined, lacking_at_most}
+use Rattle.bit_alloc.specs.declared.bitmap.Bitmap.{Bitmap}
+use Rattle.bit_alloc.specs.declared.bitmap.Bitmap.TheVariants.{Inodes, Blocks}
+use Rattle.bit_alloc.specs.Bitmaps.{limit, IsNumber, sector_of, HasRestSet, HasBitmaps}
+use Rattle.bit_alloc.specs.Inodes.{IsSound, IsSectorFor, Touches}
+use Rattle.bit_alloc.specs.Room.{bitmaps, HasSpare}
+use Rattle.bit_alloc.proofs.Marking.{sector_below}
+
+-- ---- the bitmaps, where other sectors are put
+-- bitmaps depend on the sectors before the data alone
+pub bitmaps_kept : (p : Place) (old new : TxnState) → HasBitmaps p old → SameStore old new → ((s : ℕ) → 128 ≤ s → s < p.table → new.sectors s ≡ old.sectors s)
+    → ((s : ℕ) → p.table ≤ s → s < p.first_data → IsSector (new.sectors s)) → HasBitmaps p new
+bitmaps_kept p old new has store same whole = record {
+  place = has.place;
+  disk = omega (arith, has.disk, store.reads.narrowed.size);
+  tables = λ s from to. elim (cases_lt s p.table) [
+    | inl low ↦ subst IsSector (sym (same s from low)) (has.tables s from to)
+    | inr high ↦ whole s high to
+  ];
+  rest = rest_same;
+}
+  where
+    rest_same : HasRestSet p new.sectors
+    rest_same Inodes n low ban =
+        inode_bit_kept old.sectors new.sectors n low (same inode_bitmap (omega arith) (let table = after_map has.place in omega (arith, table))) ∙ has.rest Inodes n low ban
+    rest_same Blocks n low ban =
+        bit_kept old.sectors new.sectors block_bitmap n (same (block_bitmap + n / 4096) (omega arith) (omega (arith, low))) ∙ has.rest Blocks n low ban
+
+-- a sector is put past the bitmaps, one of the table whole
+pub bitmaps_put : (p : Place) (s : ℕ) (x : _) (old new : TxnState) → HasBitmaps p old → p.table ≤ s → IsSector x → IsPut s x old new → HasBitmaps p new
+bitmaps_put p s x old new has high whole put =
+    bitmaps_kept p old new has put.store (λ t from low. put.sectors.others t (λ e. omega (arith, high, low, e)))
+    (λ t from to. elim (cases_eq t s) [
+      | inl e ↦ subst IsSector (sym put.sectors.here ∙ ap new.sectors (sym e)) whole
+      | inr ne ↦ subst IsSector (sym (put.sectors.others t ne)) (has.tables t (let table = after_map has.place in omega (arith, table, from)) to)
+    ])
+
+-- ---- soundness
+-- of a consistent map
+pub sound_from : (p : Place) (txn : TxnState) → IsConsistent p txn.sectors → p.sectors ≤ txn.disk.size
+    → ((n : ℕ) → n < 4096 → (n ≡ 0) ⊎ (p.inodes ≤ n) → IsTrue (bit txn.sectors inode_bitmap n)) → IsSound p txn
+sound_from p txn consistent disk outside = record {
+  consistent = consistent;
+  bitmaps = record { place = consistent.place; disk = disk; tables = consistent.sectors; rest = rest_set };
+}
+  where
+    rest_set : HasRestSet p txn.sectors
+    rest_set Inodes n low ban = elim (cases_lt n p.inodes) [
+      | inr past ↦ outside n low (inr past)
+      | inl below ↦ elim (cases_eq n 0) [ inl none ↦ outside n low (inl none) | inr some ↦ absurd (ban (omega arith, below)) ]
+    ]
+    rest_set Blocks n low ban = elim (cases_lt n p.first_data) [
+      | inl before ↦ (consistent.block_bits n low).1 (inl before)
+      | inr from ↦ elim (cases_lt n p.sectors) [
+        | inl below ↦ absurd (ban (from, below))
+        | inr past ↦ (consistent.block_bits n low).1 (inr (inl past))
+      ]
+    ]
+
+-- after a call on one inode
+pub sound_then : (p : Place) (n taken more : ℕ) (old new : TxnState) → IsSound p old → IsNumber p Inodes n → Touches p n taken more old new → IsSound p new
+sound_then p n taken more old new sound is touches =
+    let disk : p.sectors ≤ new.disk.size = omega (arith, sound.bitmaps.disk, touches.puts.store.reads.narrowed.size) in
+    sound_from p new (stays_consistent sound.consistent is.1 touches.inode) disk (λ m low outside.
+    touches.inode.inode_bits m low (λ e. apart m e outside) ∙ sound.bitmaps.rest Inodes m low (λ number. none m number outside))
+  where
+    none : (m : ℕ) → IsNumber p Inodes m → (m ≡ 0) ⊎ (p.inodes ≤ m) → ⊥
+    none m number (inl e) = let from = number.0 in omega (arith, from, e)
+    none m number (inr past) = let below = number.1 in omega (arith, below, past)
+
+    apart : (m : ℕ) → m ≡ n → (m ≡ 0) ⊎ (p.inodes ≤ m) → ⊥
+    apart m e outside = none m (subst (IsNumber p Inodes) (sym e) is) outside
+
+-- two calls on one inode are one
+pub touches_joined : (p : Place) (n a b j k : ℕ) (old mid new : TxnState) → IsPlace p → Touches p n a j old mid → Touches p n b k mid new → Touches p n (a + b) (j + k) old new
+touches_joined p n a b j k old mid new place first then = record {
+  puts = changes_joined first.puts then.puts;
+  super = then.super ∙ first.super;
+  inode = both_inodes place first.inode then.inode;
+  free = omega (arith, first.free, then.free);
+}
+
+-- ---- the sectors that a call on one inode puts
+-- sector 0 is none of them
+pub super_kept : (p : Place) (n more : ℕ) (old new : TxnState) → IsPlace p → PutsOnly (IsSectorFor p n) (bitmaps p) more old new → new.sectors 0 ≡ old.sectors 0
+super_kept p n more old new place puts = puts.others 0 no
+  where
+    no : IsSectorFor p n 0 → ⊥
+    no (inl map) = let from = map.0 in omega (arith, from)
+    no (inr (inl table)) = let past = after_map place in omega (arith, past, table)
+    no (inr (inr s)) = let from = s.0 in let table = before_data place in let past = after_map place in omega (arith, past, table, from)
+
+-- that of a number's bit is one
+pub mark_is_for : (p : Place) (n : ℕ) (map : Bitmap) (m s : ℕ) → IsPlace p → m < limit p map → s ≡ sector_of map m → IsSectorFor p n s
+mark_is_for p n map m s place low is =
+    let at = sector_below p map m place low in
+    inl (omega (arith, at.0, is), omega (arith, at.1, is))
+
+-- ---- the room
+-- what is left
+pub spare_then : (p : Place) (more rest : ℕ) {R : ℕ → Type 0} (old new : TxnState) → HasSpare p (rest + more) old → PutsOnly R (bitmaps p) more old new → HasSpare p rest new
+spare_then p more rest old new spare puts = omega (arith, spare, puts.room)
+
+-- at the start
+pub spare_first : (p : Place) (sectors inodes : ℕ) (txn : TxnState) → the_place sectors inodes ≡ Some p → txn.room ≡ 64 → HasSpare p 47 txn
+spare_first p sectors inodes txn is room =
+    let table = (place_has_bounds sectors inodes is).table_to in
+    omega (arith, lacking_at_most txn (bitmaps p), length-range_with_len 128 (p.table - 128), table, room)
+
+-- ---- an inode's bit
+pub free_kept : (p : Place) (n : ℕ) (old new : SectorMap) → MarksInode n old new → free_sectors p new ≡ free_sectors p old
+free_kept p n old new mark = free_sectors_kept p old new (λ s here. bit_kept old new block_bitmap s (mark.others (block_bitmap + s / 4096) (λ e. omega (arith, e))))

@@ -1,0 +1,112 @@
+-- The bits of a word of 64 bits, and those of the sector that it stands in.
+use Rattle.std.proofs.Common.{◌≡◌, ℕ, zero, suc, ◌+◌, ◌-◌, ◌*◌, ◌/◌, ◌%◌, ◌^◌, ◌<◌, Bool, false, not, nat_eq, List, get_or, drop, refl, sym, ap, subst, ◌∙◌, arith, inl, inr, IsTrue}
+use Rattle.std.specs.Prelude.{count_by}
+use Rattle.std.specs.List.{range_with_len}
+use Rattle.std.specs.Int.{bit_at, bit_not, trailing_ones, w64}
+use Rattle.std.specs.Int.RustNames.{count_ones}
+use Rattle.std.specs.Int.Count.{ones_step}
+use Rattle.std.proofs.Math.Nat.{pow-suc}
+use Rattle.std.proofs.lemmas.Bool.{cases_lt}
+use Rattle.std.proofs.lemmas.List.{get_or-drop}
+use Rattle.std.proofs.lemmas.Nat.Bits.{bit_at_cat_low, bit_at_cat_high, bit_at-suc, bit_at-lt, bit_at_lowest, bit_at_not, bit_at_ones, bit_at-trailing_ones}
+use Rattle.byteorder.specs.Endian.{little_from}
+use Rattle.fs_layout.specs.Bytes.{IsBytes, IsSector, u64_of}
+use Rattle.fs_layout.proofs.Small.{u64_small}
+use Rattle.bit_alloc.specs.Bits.{clear_below}
+use Rattle.fs_layout.specs.Images.{bit}
+use Rattle.bit_alloc.proofs.Counting.{one_if, count_cons, count_same, count_split, count_moved}
+
+-- bit j of a number of n bytes is one of byte j / 8
+pub number_bit : (xs : List ℕ) → IsBytes xs → (n i j : ℕ) → j < 8 * n → bit_at (little_from i n xs) j ≡ bit_at (get_or xs (i + j / 8) 0) (j % 8)
+number_bit xs bytes zero i j lt = absurd (omega arith)
+number_bit xs bytes (suc n) i j lt =
+    let x : ℕ = get_or xs i 0 in
+    let rest : ℕ = little_from (suc i) n xs in
+    let small : x < 2 ^ 8 = bytes i in
+    let turned : x + 256 * rest ≡ rest * 2 ^ 8 + x = omega arith in
+    ap (λ (m : ℕ). bit_at m j) turned ∙ elim (cases_lt j 8) [
+      | inl low ↦
+          let byte : i ≡ i + j / 8 = omega arith in
+          let place : j ≡ j % 8 = omega arith in
+          bit_at_cat_low rest 8 x j low ∙ ap (λ (m : ℕ). bit_at (get_or xs m 0) j) byte ∙ ap (λ (m : ℕ). bit_at (get_or xs (i + j / 8) 0) m) place
+      | inr high ↦
+          let byte : suc i + (j - 8) / 8 ≡ i + j / 8 = omega arith in
+          let place : (j - 8) % 8 ≡ j % 8 = omega arith in
+          bit_at_cat_high rest 8 x j small high ∙ number_bit xs bytes n (suc i) (j - 8) (omega arith)
+          ∙ ap (λ (m : ℕ). bit_at (get_or xs m 0) ((j - 8) % 8)) byte ∙ ap (λ (m : ℕ). bit_at (get_or xs (i + j / 8) 0) m) place
+    ]
+
+-- the bits of word k of a sector are those from 64 k on
+pub word_bit : (s : List ℕ) → IsBytes s → (k j : ℕ) → k < 64 → j < 64 → nat_eq (bit_at (u64_of s (8 * k)) j) 1 ≡ bit (λ _. s) 0 (64 * k + j)
+unfolding u64_of bit
+word_bit s bytes k j low few =
+    let dropped : IsBytes (drop (8 * k) s) = λ i. rw get_or-drop (bytes (8 * k + i)) in
+    let byte : 8 * k + (0 + j / 8) ≡ (64 * k + j) % 4096 / 8 = omega arith in
+    let place : j % 8 ≡ (64 * k + j) % 8 = omega arith in
+    ap (λ (m : ℕ). nat_eq m 1) (number_bit (drop (8 * k) s) dropped 8 0 j few
+    ∙ ap (λ (m : ℕ). bit_at m (j % 8)) (get_or-drop (8 * k) s (0 + j / 8) 0)
+    ∙ ap (λ (m : ℕ). bit_at (get_or s m 0) (j % 8)) byte ∙ ap (λ (m : ℕ). bit_at (get_or s ((64 * k + j) % 4096 / 8) 0) m) place)
+
+bit_as_number : (b : ℕ) → b < 2 → one_if (nat_eq b 1) ≡ b
+unfolding one_if
+bit_as_number zero lt = refl
+bit_as_number (suc zero) lt = refl
+bit_as_number (suc (suc b)) lt = absurd (omega arith)
+
+-- as many are set as the count of ones says
+pub ones_counted : (k n : ℕ) → n < 2 ^ k → count_ones n ≡ count_by (λ j. nat_eq (bit_at n j) 1) (range_with_len 0 k)
+unfolding count_ones
+ones_counted zero n lt = let none : n ≡ 0 = omega arith in ap count_ones none
+ones_counted (suc k) n lt =
+    let f : ℕ → Bool = λ j. nat_eq (bit_at n j) 1 in
+    let pow : 2 ^ suc k ≡ 2 ^ k * 2 = pow-suc 2 k in
+    let rest : count_ones (n / 2) ≡ count_by (λ j. nat_eq (bit_at (n / 2) j) 1) (range_with_len 0 k) = ones_counted k (n / 2) (omega arith) in
+    let next : count_by (λ j. f (1 + j)) (range_with_len 0 k) ≡ count_by (λ j. nat_eq (bit_at (n / 2) j) 1) (range_with_len 0 k) =
+    count_same _ _ 0 k (λ j from to. let one : 1 + j ≡ suc j = omega arith in ap (λ (m : ℕ). nat_eq (bit_at n m) 1) one ∙ ap (λ (m : ℕ). nat_eq m 1) (bit_at-suc n j)) in
+    let lowest : one_if (f 0) ≡ n % 2 = bit_as_number (bit_at n 0) (bit_at-lt n 0) ∙ bit_at_lowest n in
+    omega (arith, ones_step n, rest, next, lowest, count_cons f 0 k, count_moved f 1 0 k)
+
+clear_is : (b : ℕ) → b < 2 → (c : ℕ) → c ≡ 1 - b → nat_eq c 1 ≡ not (nat_eq b 1)
+clear_is zero lt c is = ap (λ (m : ℕ). nat_eq m 1) is
+clear_is (suc zero) lt c is = ap (λ (m : ℕ). nat_eq m 1) is
+clear_is (suc (suc b)) lt c is = absurd (omega arith)
+
+-- so as many are clear as the count of zeros says
+zeros_counted : (m n : ℕ) → m ≡ 64 → n < 2 ^ 64 → count_ones (bit_not w64 n) ≡ count_by (λ j. not (nat_eq (bit_at n j) 1)) (range_with_len 0 m)
+zeros_counted m n is lt =
+    let turned : ℕ = bit_not w64 n in
+    let small : turned < 2 ^ m = subst (λ (k : ℕ). turned < 2 ^ k) (sym is) (omega arith) in
+    ones_counted m turned small
+    ∙ count_same _ _ 0 m (λ j from to. clear_is (bit_at n j) (bit_at-lt n j) (bit_at turned j) (bit_at_not w64 n j lt (omega (arith, to, is))))
+
+-- one word more of a sector is counted
+pub word_counted : (s : List ℕ) → IsSector s → (k m : ℕ) → m ≡ 64 → k < 64 → clear_below (λ _. s) 0 (64 * k + m) ≡ clear_below (λ _. s) 0 (64 * k) + count_ones (bit_not w64 (u64_of s (8 * k)))
+unfolding clear_below
+word_counted s whole k m is low =
+    let f : ℕ → Bool = λ i. not (bit (λ _. s) 0 i) in
+    let n : ℕ = u64_of s (8 * k) in
+    let word : count_by (λ j. f (64 * k + j)) (range_with_len 0 m) ≡ count_by (λ j. not (nat_eq (bit_at n j) 1)) (range_with_len 0 m) =
+    count_same _ _ 0 m (λ j from to. ap not (sym (word_bit s whole.bytes k j low (omega (arith, to, is))))) in
+    let start : 0 + 64 * k ≡ 64 * k + 0 = omega arith in
+    let moved : count_by f (range_with_len (0 + 64 * k) m) ≡ count_by f (range_with_len (64 * k + 0) m) = ap (λ (q : ℕ). count_by f (range_with_len q m)) start in
+    omega (arith, count_split f 0 (64 * k) m, moved, count_moved f (64 * k) 0 m, word, zeros_counted m n is (u64_small s (8 * k) whole.bytes))
+
+-- where a word isn't full, its lowest clear bit is one of the sector
+pub clear_in_word : (s : List ℕ) → IsBytes s → (k n t : ℕ) → k < 64 → n ≡ u64_of s (8 * k) → n + 1 < 2 ^ 64 → t ≡ trailing_ones w64 n
+    → (64 * k + t < 4096) × (bit (λ _. s) 0 (64 * k + t) ≡ false)
+clear_in_word s bytes k n t low is less at =
+    let lowest = bit_at-trailing_ones w64 n less in
+    let few : t < 64 = omega (arith, at, lowest.0) in
+    (omega (arith, few, low), sym (word_bit s bytes k t low few) ∙ ap (λ (m : ℕ). nat_eq m 1) (ap (λ (m : ℕ). bit_at m t) (sym is) ∙ ap (bit_at n) at ∙ lowest.1))
+
+-- where it is full, each bit up to its end is set
+pub set_in_word : (s : List ℕ) → IsBytes s → (k n : ℕ) → k < 64 → n ≡ u64_of s (8 * k) → n ≡ 2 ^ 64 - 1
+    → ((i : ℕ) → i < 64 * k → IsTrue (bit (λ _. s) 0 i)) → (i : ℕ) → i < 64 * (k + 1) → IsTrue (bit (λ _. s) 0 i)
+set_in_word s bytes k n low is full before i to =
+    elim (cases_lt i (64 * k)) [
+      | inl lt ↦ before i lt
+      | inr from ↦
+          let place : 64 * k + (i - 64 * k) ≡ i = omega arith in
+          ap (bit (λ _. s) 0) (sym place) ∙ sym (word_bit s bytes k (i - 64 * k) low (omega arith))
+          ∙ ap (λ (m : ℕ). nat_eq (bit_at m (i - 64 * k)) 1) (sym is ∙ full) ∙ ap (λ (m : ℕ). nat_eq m 1) (bit_at_ones 64 (i - 64 * k) (omega arith))
+    ]

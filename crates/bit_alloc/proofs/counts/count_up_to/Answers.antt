@@ -1,0 +1,80 @@
+use Rattle.std.proofs.Common.{◌≡◌, ◌+◌, ◌*◌, ◌≤◌, ℕ, ap, sym, ◌∙◌, arith}
+use Rattle.std.specs.Prelude.{List}
+use Rattle.fs_layout.specs.Bytes.{SectorMap}
+use Rattle.bit_alloc.specs.Bits.{clear_below}
+use Rattle.bit_alloc.specs.Bitmaps.{first_sector, bit_count}
+use Rattle.bit_alloc.proofs.Transactions.{unchanged_nothing, unchanged_joined}
+use Rattle.bit_alloc.proofs.Maps.{none_counted, sector_counted, counted_at_most, fewer_counted, few_bits, numbers_counted}
+use Rattle.bit_alloc.proofs.counts.count_up_to.Goals as goal
+
+pub loop-k-init : goal.loop-k-init
+loop-k-init g c = record {
+  same = unchanged_nothing;
+  counted = sym (none_counted (g.S.Sectors.state c.args.s.now).sectors (first_sector c.args.map));
+  few = omega arith;
+}
+
+pub loop-k-preserved : goal.loop-k-preserved
+loop-k-preserved g c =
+    let image : SectorMap = (g.S.Sectors.state c.args.s.now).sectors in
+    let start : ℕ = first_sector c.args.map in
+    let sector : List ℕ = c.get.new.to in
+    let so_far = c.loop-k.invariant in
+    let here : sector ≡ image (start + c.loop-k.k) =
+    c.in_ok-get.ensures.content ∙ so_far.same.sectors (c.first.result + c.loop-k.k) ∙ ap (λ (n : ℕ). image (n + c.loop-k.k)) c.first.ensures in
+    let next : 4096 * c.loop-k.k + 4096 ≡ 4096 * (c.loop-k.k + 1) = omega arith in
+    let more : clear_below image start (4096 * c.loop-k.k + 4096) ≡ clear_below image start (4096 * c.loop-k.k) + clear_below (λ _. sector) 0 4096 =
+    sector_counted image start c.loop-k.k 4096 sector here (omega arith) in
+    record {
+      same = unchanged_joined so_far.same c.in_ok-get.ensures.same;
+      counted = ap (λ (n : ℕ). n + c.count_clear-free.result) so_far.counted ∙ ap (λ (n : ℕ). clear_below image start (4096 * c.loop-k.k) + n) c.count_clear-free.ensures
+          ∙ sym more ∙ ap (clear_below image start) next;
+      few = omega (arith, so_far.few, c.count_clear-free.ensures, counted_at_most (λ _. sector) 0 4096);
+    }
+
+pub overflow_add-free : goal.overflow_add-free
+overflow_add-free g c =
+    let sector : List ℕ = c.get.new.to in
+    omega (
+      arith,
+      c.loop-k.invariant.few,
+      c.count_clear-free.ensures,
+      counted_at_most (λ _. sector) 0 4096,
+      c.loop-k-test.true,
+      c.sectors-k-end.ensures,
+      few_bits c.args.place c.args.map c.requires.place,
+    )
+
+-- the count so far is at most all
+pub returns-then-free-enough-clause-some : goal.returns-then-free-enough-clause-some
+returns-then-free-enough-clause-some g c =
+    let image : SectorMap = (g.S.Sectors.state c.args.s.now).sectors in
+    let start : ℕ = first_sector c.args.map in
+    let within : 4096 * c.loop-k.k ≤ bit_count c.args.place c.args.map = omega (arith, c.loop-k-test.true, c.sectors-k-end.ensures) in
+    omega (
+      arith,
+      c.loop-k.invariant.counted,
+      fewer_counted image start (4096 * c.loop-k.k) (bit_count c.args.place c.args.map) within,
+      numbers_counted c.args.place c.args.map image c.requires.place c.requires.rest,
+    )
+
+-- at the end it is all
+pub returns-clause-some : goal.returns-clause-some
+returns-clause-some g c =
+    let image : SectorMap = (g.S.Sectors.state c.args.s.now).sectors in
+    let start : ℕ = first_sector c.args.map in
+    let within : 4096 * c.loop-k.k ≤ bit_count c.args.place c.args.map = omega (arith, c.loop-k.auto.k-end, c.sectors-k-end.ensures) in
+    omega (
+      arith,
+      c.loop-k.invariant.counted,
+      fewer_counted image start (4096 * c.loop-k.k) (bit_count c.args.place c.args.map) within,
+      numbers_counted c.args.place c.args.map image c.requires.place c.requires.rest,
+    )
+
+pub returns-clause-all : goal.returns-clause-all
+returns-clause-all g c = λ less.
+    let image : SectorMap = (g.S.Sectors.state c.args.s.now).sectors in
+    let start : ℕ = first_sector c.args.map in
+    let all : 4096 * c.loop-k.k ≡ bit_count c.args.place c.args.map = omega (arith, c.loop-k.auto.k-end, c.loop-k-test.false, c.sectors-k-end.ensures) in
+    let end : clear_below image start (4096 * c.loop-k.k) ≡ clear_below image start (bit_count c.args.place c.args.map) = ap (clear_below image start) all in
+    omega (arith, c.loop-k.invariant.counted, end, numbers_counted c.args.place c.args.map image c.requires.place c.requires.rest)

@@ -1,0 +1,88 @@
+-- The numbers that a bitmap keeps.
+--     first_sector, bit_count        where a bitmap begins, and how many bits it has
+--     least, limit, IsNumber        the numbers that it keeps
+--     IsFreeNumber, free_numbers        one that is free; how many are
+--     sector_of        the sector in which a number's bit stands
+--     Marks        one bit of it is written
+--     TakesNumber, GivesNumber        a free number is taken; a number becomes free
+--     HasRestSet, HasBitmaps        what is asked of the bitmaps
+use Rattle.std.specs.Prelude.{◌≡◌, ℕ, ◌+◌, ◌/◌, ◌<◌, ◌≤◌, false, not, IsTrue, count_by}
+use Rattle.std.specs.List.{range_with_len}
+use Rattle.bit_alloc.specs.declared.bitmap.Bitmap.{Bitmap}
+use Rattle.bit_alloc.specs.declared.bitmap.Bitmap.TheVariants.{Inodes, Blocks}
+use Rattle.fs_layout.specs.declared.place.Place.{Place}
+use Rattle.fs_layout.specs.Bytes.{SectorMap}
+use Rattle.fs_layout.specs.Place.{IsPlace}
+use Rattle.fs_layout.specs.Images.{HasWholeTables, inode_bitmap, block_bitmap, map_bits, bit, free_sectors}
+use Rattle.fs_layout.specs.Changes.{MarksSector, MarksInode}
+use Rattle.sector_txn.specs.Sectors.{TxnState}
+
+-- the first sector of the bitmap
+abbrev pub first_sector : Bitmap → ℕ
+first_sector Inodes = inode_bitmap
+first_sector Blocks = block_bitmap
+
+-- how many bits it has
+abbrev pub bit_count : Place → Bitmap → ℕ
+bit_count p Inodes = 4096
+bit_count p Blocks = map_bits p
+
+-- the least number that it keeps
+abbrev pub least : Place → Bitmap → ℕ
+least p Inodes = 1
+least p Blocks = p.first_data
+
+-- the end of these numbers
+abbrev pub limit : Place → Bitmap → ℕ
+limit p Inodes = p.inodes
+limit p Blocks = p.sectors
+
+-- an inode but for inode 0, which isn't used; a data sector
+abbrev pub IsNumber : Place → Bitmap → ℕ → Type 0
+IsNumber p map n = (least p map ≤ n) × (n < limit p map)
+
+-- one whose bit is clear
+abbrev pub IsFreeNumber : Place → Bitmap → SectorMap → ℕ → Type 0
+IsFreeNumber p map image n = (least p map ≤ n) × (n < limit p map) × (bit image (first_sector map) n ≡ false)
+
+-- how many inodes, or data sectors, have a clear bit
+abbrev pub free_numbers : Place → Bitmap → SectorMap → ℕ
+free_numbers p Inodes image = count_by (λ n. not (bit image inode_bitmap n)) (range_with_len 0 p.inodes)
+free_numbers p Blocks image = free_sectors p image
+
+-- the sector in which the bit of n stands
+abbrev pub sector_of : Bitmap → ℕ → ℕ
+sector_of map n = first_sector map + n / 4096
+
+-- of the bitmap no bit but that of n differs, and nothing else does
+abbrev pub Marks : Place → Bitmap → ℕ → SectorMap → SectorMap → Type 0
+Marks p Inodes n old new = MarksInode n old new
+Marks p Blocks n old new = MarksSector p n old new
+
+-- n was free, and its bit is set
+pub record TakesNumber (p : Place) (map : Bitmap) (n : ℕ) (old new : SectorMap) : Type 0 where
+  pub free : IsFreeNumber p map old n
+  pub mark : Marks p map n old new
+  pub set : IsTrue (bit new (first_sector map) n)
+  -- one number less is free
+  pub count : free_numbers p map old ≡ free_numbers p map new + 1
+
+-- the bit of n is clear
+pub record GivesNumber (p : Place) (map : Bitmap) (n : ℕ) (old new : SectorMap) : Type 0 where
+  pub mark : Marks p map n old new
+  pub clear : bit new (first_sector map) n ≡ false
+  -- if n was taken, one number more is free
+  pub count : IsTrue (bit old (first_sector map) n) → free_numbers p map new ≡ free_numbers p map old + 1
+
+-- The bits that are no number's are set: that of inode 0, those below the data, and those past the end. So each clear
+-- bit is that of a free number.
+abbrev pub HasRestSet : Place → SectorMap → Type 0
+HasRestSet p image =
+    (map : Bitmap) (n : ℕ) → n < bit_count p map → (IsNumber p map n → ⊥) → IsTrue (bit image (first_sector map) n)
+
+-- The transaction shows bitmaps and inode table of this layout. Of inodes, and of what they own, nothing is asked.
+pub record HasBitmaps (p : Place) (txn : TxnState) : Type 0 where
+  pub place : IsPlace p
+  pub disk : p.sectors ≤ txn.disk.size
+  pub tables : HasWholeTables p txn.sectors
+  pub rest : HasRestSet p txn.sectors

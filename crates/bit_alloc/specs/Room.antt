@@ -1,0 +1,20 @@
+-- The room that changes take.
+--     bitmaps        the sectors of the bitmaps
+--     HasSpare        how many sectors can be put besides those
+--     TakesSpare        how many were put
+use Rattle.std.specs.Prelude.{ℕ, ◌+◌, ◌-◌, ◌≤◌, List}
+use Rattle.std.specs.List.{range_with_len}
+use Rattle.fs_layout.specs.declared.place.Place.{Place}
+use Rattle.sector_txn.specs.Sectors.{TxnState, lacking}
+
+-- the sectors of both bitmaps: at most 17
+abbrev pub bitmaps : Place → List ℕ
+bitmaps p = range_with_len 128 (p.table - 128)
+
+-- all sectors of the bitmaps can be put, and so many more
+abbrev pub HasSpare : Place → ℕ → TxnState → Type 0
+HasSpare p more txn = lacking txn (bitmaps p) + more ≤ txn.room
+
+-- besides sectors of the bitmaps at most so many were put
+abbrev pub TakesSpare : Place → ℕ → TxnState → TxnState → Type 0
+TakesSpare p more old new = old.room + lacking new (bitmaps p) ≤ new.room + lacking old (bitmaps p) + more

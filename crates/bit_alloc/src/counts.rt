@@ -1,0 +1,74 @@
+//! What a bitmap says.
+
+ghost use Rattle.std.specs.Prelude.{◌≡◌, ◌≤◌, ◌<◌, IfOk, IsTrue, ◌↔◌};
+ghost use Rattle.fs_layout.specs.Place.{IsPlace};
+ghost use Rattle.fs_layout.specs.Images.{bit};
+ghost use Rattle.sector_disk.specs.Disk.{HasCause};
+ghost use Rattle.sector_txn.specs.Sectors.{IsUnchanged};
+ghost use Rattle.bit_alloc.specs.Bitmaps.{first_sector, bit_count, free_numbers, HasBitmaps};
+
+use crate::Bitmap;
+use crate::bits::{count_clear, has_bit};
+use fs_layout::Place;
+use sector_disk::DiskFault;
+use sector_txn::Sectors;
+
+/// Whether a bit is set. It may be one that is no number's.
+pub fn is_taken<S: Sectors>(s: &mut S, place: Place, map: Bitmap, n: u32) -> Result<bool, DiskFault>
+    requires place { IsPlace place }
+    requires disk { place.sectors ≤ (S.state s.old).disk.size }
+    requires bit { n < bit_count place map }
+    ensures taken { IfOk result (λ b. b ≡ bit (S.state s.old).sectors (first_sector map) n) }
+    ensures same { IsUnchanged (S.state s.old) (S.state s.new) }
+    ensures cause { HasCause (S.state s.old).disk (S.state s.new).disk result }
+{
+    let mut sector = [0; 512];
+    s.get(map.first() + n / 4096, &mut sector)?;
+    Ok(has_bit(sector[n as usize % 4096 / 8], n % 8))
+}
+
+/// How many numbers are free.
+pub fn count_free<S: Sectors>(s: &mut S, place: Place, map: Bitmap) -> Result<u32, DiskFault>
+    requires { HasBitmaps place (S.state s.old) }
+    ensures free { IfOk result (λ k. k ≡ free_numbers place map (S.state s.old).sectors) }
+    ensures same { IsUnchanged (S.state s.old) (S.state s.new) }
+    ensures cause { HasCause (S.state s.old).disk (S.state s.new).disk result }
+{
+    let free = count_up_to(s, place, map, u32::MAX)?;
+    Ok(free)
+}
+
+/// Whether at least k numbers are free. It reads no further once it knows.
+pub fn has_free<S: Sectors>(s: &mut S, place: Place, map: Bitmap, k: u32) -> Result<bool, DiskFault>
+    requires { HasBitmaps place (S.state s.old) }
+    ensures free { IfOk result (λ b. IsTrue b ↔ (k ≤ free_numbers place map (S.state s.old).sectors)) }
+    ensures same { IsUnchanged (S.state s.old) (S.state s.new) }
+    ensures cause { HasCause (S.state s.old).disk (S.state s.new).disk result }
+{
+    Ok(count_up_to(s, place, map, k)? >= k)
+}
+
+// Counts sectors until so many numbers are known to be free.
+fn count_up_to<S: Sectors>(
+    s: &mut S,
+    place: Place,
+    map: Bitmap,
+    enough: u32,
+) -> Result<u32, DiskFault>
+    requires { HasBitmaps place (S.state s.old) }
+    ensures some { IfOk result (λ k. k ≤ free_numbers place map (S.state s.old).sectors) }
+    ensures all { IfOk result (λ k. k < enough → k ≡ free_numbers place map (S.state s.old).sectors) }
+    ensures same { IsUnchanged (S.state s.old) (S.state s.new) }
+    ensures cause { HasCause (S.state s.old).disk (S.state s.new).disk result }
+{
+    let mut sector = [0; 512];
+    let mut free = 0;
+    for k in 0..map.sectors(place) {
+        if free >= enough {
+            return Ok(free);
+        }
+        s.get(map.first() + k, &mut sector)?;
+        free += count_clear(&sector);
+    }
+    Ok(free)
+}

@@ -1,0 +1,31 @@
+//! The numbers that the two bitmaps of a disk keep: inodes, and data sectors.
+//!
+//! A bitmap is a set of numbers. [`take`] adds one that the set lacks, [`give`] takes one out of it, [`is_taken`] asks
+//! for one, and [`count_free`] and [`has_free`] count those that the set lacks. No call takes memory.
+//!
+//! The bitmap of the inodes is one sector, that of the blocks 1 to 16. So many of its sectors each call reads and puts:
+//!
+//! | Call | `get` | `put` |
+//! |---|---|---|
+//! | [`take`] | those up to the first that isn't full, or all | 1; none where no number is taken |
+//! | [`give`] | 1 | 1; none where the read fails |
+//! | [`is_taken`] | 1 | 0 |
+//! | [`count_free`] | all | 0 |
+//! | [`has_free`] | those up to the one in which it has found enough, or all | 0 |
+#![tactic(auto)]
+
+mod bitmap;
+mod bits;
+mod counts;
+mod laws;
+mod marks;
+#[cfg(test)]
+mod tests;
+
+pub use bitmap::{Bitmap, TakeFault};
+pub use counts::{count_free, has_free, is_taken};
+pub use laws::{
+    calls_join, consistent_maps_are_sound, inodes_take_no_sector, soundness_is_kept,
+    spare_at_first, spare_is_left,
+};
+pub use marks::{give, take};

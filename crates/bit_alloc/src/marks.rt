@@ -1,0 +1,78 @@
+//! A number is taken or given back.
+
+ghost use Rattle.std.specs.Prelude.{◌≡◌, IfOk, IfErr, OnOk, OnErr};
+ghost use Rattle.fs_layout.specs.Images.{bit};
+ghost use Rattle.sector_disk.specs.Disk.{HasCause};
+ghost use Rattle.sector_txn.specs.Sectors.{IsUnchanged, PutsOnly};
+ghost use Rattle.bit_alloc.specs.Bitmaps.{first_sector, IsNumber, free_numbers, sector_of, Marks, TakesNumber, GivesNumber, HasBitmaps};
+ghost use Rattle.bit_alloc.specs.Faults.{HasCauseOf};
+ghost use Rattle.bit_alloc.specs.Room.{bitmaps, HasSpare};
+
+use crate::bits::{first_clear, with_bit};
+use crate::{Bitmap, TakeFault};
+use fs_layout::Place;
+use sector_disk::DiskFault;
+use sector_txn::Sectors;
+
+/// Takes a number that is free: the lowest one, which no clause says.
+pub fn take<S: Sectors>(s: &mut S, place: Place, map: Bitmap) -> Result<u32, TakeFault>
+    requires bitmaps { HasBitmaps place (S.state s.old) }
+    requires room { HasSpare place 0 (S.state s.old) }
+    ensures taken { IfOk result (λ n. TakesNumber place map n (S.state s.old).sectors (S.state s.new).sectors) }
+    ensures puts { IfOk result (λ n. PutsOnly (λ t. t ≡ sector_of map n) (bitmaps place) 0 (S.state s.old) (S.state s.new)) }
+    ensures bitmaps { OnOk result (HasBitmaps place (S.state s.new)) }
+    ensures full { IfErr result (λ e. e ≡ TakeFault.Full → free_numbers place map (S.state s.old).sectors ≡ 0) }
+    ensures unchanged { OnErr result (IsUnchanged (S.state s.old) (S.state s.new)) }
+    ensures cause { HasCauseOf TakeFault.DiskFault (S.state s.old).disk (S.state s.new).disk result }
+{
+    let mut sector = [0; 512];
+    for k in 0..map.sectors(place) {
+        s.get(map.first() + k, &mut sector)?;
+        if let Some(i) = first_clear(&sector) {
+            let n = 4096 * k + i;
+            put_bit(s, place, map, n, &mut sector, true);
+            return Ok(n);
+        }
+    }
+    Err(TakeFault::Full)
+}
+
+/// Makes a number free. One that was free stays so.
+pub fn give<S: Sectors>(s: &mut S, place: Place, map: Bitmap, n: u32) -> Result<(), DiskFault>
+    requires bitmaps { HasBitmaps place (S.state s.old) }
+    requires number { IsNumber place map n }
+    requires room { HasSpare place 0 (S.state s.old) }
+    ensures given { OnOk result (GivesNumber place map n (S.state s.old).sectors (S.state s.new).sectors) }
+    ensures puts { OnOk result (PutsOnly (λ t. t ≡ sector_of map n) (bitmaps place) 0 (S.state s.old) (S.state s.new)) }
+    ensures bitmaps { OnOk result (HasBitmaps place (S.state s.new)) }
+    ensures unchanged { OnErr result (IsUnchanged (S.state s.old) (S.state s.new)) }
+    ensures cause { HasCause (S.state s.old).disk (S.state s.new).disk result }
+{
+    let mut sector = [0; 512];
+    s.get(map.first() + n / 4096, &mut sector)?;
+    put_bit(s, place, map, n, &mut sector, false);
+    Ok(())
+}
+
+// Writes the bit of a number into its sector, which is read already.
+fn put_bit<S: Sectors>(
+    s: &mut S,
+    place: Place,
+    map: Bitmap,
+    n: u32,
+    sector: &mut [u8; 512],
+    set: bool,
+)
+    requires bitmaps { HasBitmaps place (S.state s.old) }
+    requires number { IsNumber place map n }
+    requires content { sector.old ≡ (S.state s.old).sectors (sector_of map n) }
+    requires room { HasSpare place 0 (S.state s.old) }
+    ensures marks { Marks place map n (S.state s.old).sectors (S.state s.new).sectors }
+    ensures bit { bit (S.state s.new).sectors (first_sector map) n ≡ set }
+    ensures puts { PutsOnly (λ t. t ≡ sector_of map n) (bitmaps place) 0 (S.state s.old) (S.state s.new) }
+    ensures bitmaps { HasBitmaps place (S.state s.new) }
+{
+    let at = n as usize % 4096 / 8;
+    sector[at] = with_bit(sector[at], n % 8, set);
+    s.put(map.first() + n / 4096, sector);
+}

@@ -1,0 +1,136 @@
+-- What a trail finds is in the tree.
+use Rattle.std.specs.Prelude.{◌≡◌, ◌≢◌, ℕ, zero, suc, nat_lt, Bool, true, false, not, ◌&&◌, ◌||◌, cond, List, [], ◌∷◌, ◌++◌, length, Option, None, Some, is_some, IsTrue}
+use Rattle.std.proofs.Common.{refl, ap, ◌∙◌, subst, inl, inr}
+use Rattle.std.proofs.lemmas.Bool.{cases_eq}
+use Rattle.std.specs.Ordering.{nat_cmp}
+use Rattle.fs_cred.specs.declared.errno.Errno.TheVariants.{ENOTDIR, ENAMETOOLONG}
+use Rattle.fs_model.specs.Limits.{root, links_limit, name_limit}
+use Rattle.fs_layout.specs.Maps.{get, name_cmp, IsMap}
+use Rattle.fs_model.specs.Nodes.{Node, Body, File, Dir, Link, is_directory, names_in}
+use Rattle.fs_model.specs.Trees.{Tree, Room, node_at, names_for, parent, IsTree, IsBody}
+use Rattle.fs_model.specs.Parts.{Parts, parts_of, start_of, is_empty}
+use Rattle.fs_model.specs.declared.walk.Form.{Form}
+use Rattle.fs_model.specs.Trails.{Trail, Outcome, Faulty, Absent, Reaches, Through, GoesOn, reached, reached_body, named_inode, arrival, looked_up, is_dot, is_dot_dot, onward, through_if, lookups_from, trail_with, trail_of, follows_last}
+use Rattle.fs_layout.proofs.FirstEntries.{at_same, at_other, right}
+
+abbrev pub IsThere : Tree → ℕ → Type 0
+IsThere t n = IsTrue (is_some (node_at t n))
+
+-- the directory that names something is there, unless it is the root for want of one
+named_by : (t : Tree) (d : ℕ) → IsMap nat_cmp t → (parent t d ≢ root) → IsThere t (parent t d)
+named_by [] d m ne = absurd (ne refl)
+named_by (e ∷ t) d m ne = go (nat_lt 0 (names_for d e.1.body)) ne (λ k. named_by t d (right _ _ m) k)
+  where
+    go : (b : Bool) → cond b e.0 (parent t d) ≢ root → (parent t d ≢ root → IsThere t (parent t d)) → IsThere (e ∷ t) (cond b e.0 (parent t d))
+    go true ne rest = ap is_some (at_same e t)
+    go false ne rest =
+        let below = rest ne in
+        elim (cases_eq (parent t d) e.0) [
+          | inl same ↦ ap (λ k. is_some (node_at (e ∷ t) k)) same ∙ ap is_some (at_same e t)
+          | inr other ↦ ap is_some (at_other e t (parent t d) other) ∙ below
+        ]
+
+module _ (room : Room) (t : Tree) (is : IsTree room t) where
+  root_there : IsThere t root
+  root_there = ap is_some is.root_is_there.is_there
+
+  parent_there : (d : ℕ) → IsThere t (parent t d)
+  parent_there d = elim (cases_eq (parent t d) root) [
+    | inl e ↦ ap (λ k. is_some (node_at t k)) e ∙ root_there
+    | inr ne ↦ named_by t d is.numbers ne
+  ]
+
+  pub start_there : (parts : Parts) (dir : ℕ) → IsThere t dir → IsThere t (start_of parts dir)
+  start_there parts dir there = go parts.absolute
+    where
+      go : (b : Bool) → IsThere t (cond b root dir)
+      go true = root_there
+      go false = there
+
+  -- a name in a directory leads to something
+  entry_there : (b : Body) (name : List ℕ) (n : ℕ) → IsBody room t b → get name_cmp (names_in b) name ≡ Some n → IsThere t n
+  entry_there (File a bytes) name n h e = absurd cc
+  entry_there (Dir a d) name n h e = (h.2.each name n e).leads.1
+  entry_there (Link target) name n h e = absurd cc
+
+  pub number_there : (dir : ℕ) (node : Node) (name : List ℕ) (n : ℕ) → node_at t dir ≡ Some node
+      → named_inode t dir (names_in node.body) name ≡ Some n → IsThere t n
+  number_there dir node name n at e = go (is_dot name) (is_dot_dot name) e
+    where
+      go : (dot dots : Bool) → cond dot (Some dir) (cond dots (Some (parent t dir)) (get name_cmp (names_in node.body) name)) ≡ Some n → IsThere t n
+      go true dots f = let same : dir ≡ n = cc in subst (IsThere t) same (ap is_some at)
+      go false true f = let same : parent t dir ≡ n = cc in subst (IsThere t) same (parent_there dir)
+      go false false f = entry_there node.body name n (is.each dir node at).body f
+
+  -- what is reached is there
+  abbrev pub Reached : Outcome → Type 0
+  Reached (Reaches n) = IsThere t n
+  Reached _ = Unit {0}
+
+  body_reached : (follow : Bool) (n : ℕ) (b : Body) → IsThere t n → Reached (reached_body follow n b)
+  body_reached true n (File a bytes) there = there
+  body_reached true n (Dir a d) there = there
+  body_reached true n (Link target) there = tt
+  body_reached false n (File a bytes) there = there
+  body_reached false n (Dir a d) there = there
+  body_reached false n (Link target) there = there
+
+  node_reached : (follow : Bool) (n : ℕ) (o : Option Node) → IsThere t n → Reached (reached follow n o)
+  node_reached follow n None there = there
+  node_reached follow n (Some node) there = body_reached follow n node.body there
+
+  arrival_reached : (is_last follow : Bool) (o : Option ℕ) → ((n : ℕ) → o ≡ Some n → IsThere t n) → Reached (arrival t is_last follow o)
+  arrival_reached true follow None h = tt
+  arrival_reached false follow None h = tt
+  arrival_reached is_last follow (Some n) h = node_reached (follow || not is_last) n (node_at t n) (h n refl)
+
+  pub lookup_reached : (is_last follow : Bool) (dir : ℕ) (name : List ℕ) (o : Option Node) → node_at t dir ≡ o → Reached (looked_up t is_last follow dir name o)
+  lookup_reached is_last follow dir name None at = tt
+  lookup_reached is_last follow dir name (Some node) at = go (is_directory node.body) (nat_lt name_limit (length name))
+    where
+      go : (directory long : Bool) → Reached (cond (not directory) (Faulty ENOTDIR) (cond long (Faulty ENAMETOOLONG) (arrival t is_last follow (named_inode t dir (names_in node.body) name))))
+      go false long = tt
+      go true true = tt
+      go true false = arrival_reached is_last follow (named_inode t dir (names_in node.body) name) (λ n e. number_there dir node name n at e)
+
+  -- what the trail found is there
+  abbrev pub FindsThere : Trail → Type 0
+  FindsThere trail = (n : ℕ) → trail.found ≡ Some n → IsThere t n
+
+  abbrev GoesThere : Option GoesOn → Type 0
+  GoesThere None = Unit {0}
+  GoesThere (Some go_on) = (dir : ℕ) (names : List (List ℕ)) (slash : Bool) → IsThere t dir → FindsThere (go_on dir names slash)
+
+  through_there : (behind : Option GoesOn) (dir : ℕ) (name : List ℕ) (names : List (List ℕ)) (slash : Bool) (target : List ℕ)
+      → GoesThere behind → IsThere t dir → FindsThere (through_if behind dir name names slash target)
+  through_there None dir name names slash target h there n e = absurd cc
+  through_there (Some go_on) dir name names slash target h there n e =
+      h (start_of (parts_of target) dir) ((parts_of target).names ++ names) (slash || (is_empty names && (parts_of target).slash_at_end)) (start_there (parts_of target) dir there) n e
+
+  onward_there : (behind : Option GoesOn) (rest : ℕ → Trail) (dir : ℕ) (name : List ℕ) (names : List (List ℕ)) (slash : Bool) (o : Outcome)
+      → GoesThere behind → IsThere t dir → Reached o → ((n : ℕ) → IsThere t n → FindsThere (rest n)) → FindsThere (onward behind rest dir name names slash o)
+  onward_there behind rest dir name names slash (Faulty f) h there r more n e = absurd cc
+  onward_there behind rest dir name names slash Absent h there r more n e = absurd cc
+  onward_there behind rest dir name names slash (Reaches k) h there r more n e = more k r n e
+  onward_there behind rest dir name names slash (Through target) h there r more n e = through_there behind dir name names slash target h there n e
+
+  names_there : (follow : Bool) (behind : Option GoesOn) (dir : ℕ) (names : List (List ℕ)) (slash : Bool) → GoesThere behind → IsThere t dir
+      → FindsThere (lookups_from t follow behind dir names slash)
+  names_there follow behind dir [] slash h there n e = let same : dir ≡ n = cc in subst (IsThere t) same there
+  names_there follow behind dir (name ∷ names) slash h there n e =
+      onward_there behind (λ k. lookups_from t follow behind k names slash) dir name names slash
+      (looked_up t (is_empty names) follow dir name (node_at t dir)) h there
+      (lookup_reached (is_empty names) follow dir name (node_at t dir) refl)
+      (λ k found. names_there follow behind k names slash h found) n e
+
+  links_there : (follow : Bool) (links dir : ℕ) (names : List (List ℕ)) (slash : Bool) → IsThere t dir
+      → FindsThere (trail_with t follow links dir names slash)
+  links_there follow zero dir names slash there = names_there follow None dir names slash tt there
+  links_there follow (suc links) dir names slash there =
+      names_there follow (Some (trail_with t follow links)) dir names slash (λ p ns s h. links_there follow links p ns s h) there
+
+  pub finds_are_there : (cwd : ℕ) (form : Form) (path : List ℕ) → IsThere t cwd → FindsThere (trail_of t cwd form path)
+  unfolding trail_of
+  finds_are_there cwd form path there =
+      let parts = parts_of path in
+      links_there (follows_last form parts) links_limit (start_of parts cwd) parts.names parts.slash_at_end (start_there parts cwd there)

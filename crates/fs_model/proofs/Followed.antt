@@ -1,0 +1,104 @@
+-- What a trail finds that follows a link at its end is no link.
+use Rattle.std.specs.Prelude.{◌≡◌, ℕ, zero, suc, nat_lt, Bool, true, false, not, ◌&&◌, ◌||◌, cond, List, [], ◌∷◌, ◌++◌, length, Option, None, Some}
+use Rattle.std.proofs.Common.{refl, sym, ap, ◌∙◌, subst}
+use Rattle.fs_cred.specs.declared.errno.Errno.TheVariants.{ENOTDIR, ENAMETOOLONG}
+use Rattle.fs_model.specs.Limits.{root, links_limit, name_limit}
+use Rattle.fs_model.specs.Nodes.{Node, Body, File, Dir, Link, is_directory, is_link, names_in}
+use Rattle.fs_model.specs.Trees.{Tree, Room, node_at, IsTree, IsDirectoryAt}
+use Rattle.fs_model.specs.Parts.{Parts, parts_of, start_of, is_empty}
+use Rattle.fs_model.specs.declared.walk.Form.TheVariants.{Follow}
+use Rattle.fs_model.specs.Trails.{Trail, Outcome, Faulty, Absent, Reaches, Through, GoesOn, reached, reached_body, named_inode, arrival, looked_up, onward, through_if, lookups_from, trail_with, trail_of, follows_last}
+
+-- no link stands at n
+abbrev pub NoLink : Tree → ℕ → Type 0
+NoLink t n = (node : Node) → node_at t n ≡ Some node → is_link node.body ≡ false
+
+pub directory_no_link : (t : Tree) (n : ℕ) → IsDirectoryAt t n → NoLink t n
+directory_no_link t n d node at =
+    let same : d.node ≡ node = (let e : Some d.node ≡ Some node = sym d.is_there ∙ at in cc) in
+    ap (λ (m : Node). is_link m.body) (sym same) ∙ go d.node.body d.directory
+  where
+    go : (b : Body) → is_directory b ≡ true → is_link b ≡ false
+    go (File a bytes) e = refl
+    go (Dir a dir) e = refl
+    go (Link target) e = absurd (cc)
+
+module _ (room : Room) (t : Tree) (is : IsTree room t) where
+  start_no_link : (parts : Parts) (dir : ℕ) → NoLink t dir → NoLink t (start_of parts dir)
+  start_no_link parts dir none = go parts.absolute
+    where
+      go : (b : Bool) → NoLink t (cond b root dir)
+      go true = directory_no_link t root is.root_is_there
+      go false = none
+
+  abbrev Reached : Outcome → Type 0
+  Reached (Reaches n) = NoLink t n
+  Reached _ = Unit {0}
+
+  node_reached : (n : ℕ) (o : Option Node) → node_at t n ≡ o → Reached (reached true n o)
+  node_reached n None at = λ node there. absurd (let e : None ≡ Some node = sym at ∙ there in cc)
+  node_reached n (Some m) at = go m.body refl
+    where
+      plain : (b : Body) → m.body ≡ b → is_link b ≡ false → NoLink t n
+      plain b e none node there =
+          let same : m ≡ node = (let f : Some m ≡ Some node = sym at ∙ there in cc) in
+          ap (λ (k : Node). is_link k.body) (sym same) ∙ ap is_link e ∙ none
+
+      go : (b : Body) → m.body ≡ b → Reached (reached_body true n b)
+      go (File a bytes) e = plain (File a bytes) e refl
+      go (Dir a d) e = plain (Dir a d) e refl
+      go (Link target) e = tt
+
+  arrival_reached : (is_last : Bool) (o : Option ℕ) → Reached (arrival t is_last true o)
+  arrival_reached true None = tt
+  arrival_reached false None = tt
+  arrival_reached is_last (Some n) = node_reached n (node_at t n) refl
+
+  lookup_reached : (is_last : Bool) (dir : ℕ) (name : List ℕ) (o : Option Node) → Reached (looked_up t is_last true dir name o)
+  lookup_reached is_last dir name None = tt
+  lookup_reached is_last dir name (Some node) = go (is_directory node.body) (nat_lt name_limit (length name))
+    where
+      go : (directory long : Bool) → Reached (cond (not directory) (Faulty ENOTDIR) (cond long (Faulty ENAMETOOLONG) (arrival t is_last true (named_inode t dir (names_in node.body) name))))
+      go false long = tt
+      go true true = tt
+      go true false = arrival_reached is_last (named_inode t dir (names_in node.body) name)
+
+  abbrev FindsNone : Trail → Type 0
+  FindsNone trail = (n : ℕ) → trail.found ≡ Some n → NoLink t n
+
+  abbrev GoesWithout : Option GoesOn → Type 0
+  GoesWithout None = Unit {0}
+  GoesWithout (Some go_on) = (dir : ℕ) (names : List (List ℕ)) (slash : Bool) → NoLink t dir → FindsNone (go_on dir names slash)
+
+  through_none : (behind : Option GoesOn) (dir : ℕ) (name : List ℕ) (names : List (List ℕ)) (slash : Bool) (target : List ℕ)
+      → GoesWithout behind → NoLink t dir → FindsNone (through_if behind dir name names slash target)
+  through_none None dir name names slash target h none n e = absurd cc
+  through_none (Some go_on) dir name names slash target h none n e =
+      h (start_of (parts_of target) dir) ((parts_of target).names ++ names) (slash || (is_empty names && (parts_of target).slash_at_end)) (start_no_link (parts_of target) dir none) n e
+
+  onward_none : (behind : Option GoesOn) (rest : ℕ → Trail) (dir : ℕ) (name : List ℕ) (names : List (List ℕ)) (slash : Bool) (o : Outcome)
+      → GoesWithout behind → NoLink t dir → Reached o → ((n : ℕ) → NoLink t n → FindsNone (rest n)) → FindsNone (onward behind rest dir name names slash o)
+  onward_none behind rest dir name names slash (Faulty f) h none r more n e = absurd cc
+  onward_none behind rest dir name names slash Absent h none r more n e = absurd cc
+  onward_none behind rest dir name names slash (Reaches k) h none r more n e = more k r n e
+  onward_none behind rest dir name names slash (Through target) h none r more n e = through_none behind dir name names slash target h none n e
+
+  names_none : (behind : Option GoesOn) (dir : ℕ) (names : List (List ℕ)) (slash : Bool) → GoesWithout behind → NoLink t dir
+      → FindsNone (lookups_from t true behind dir names slash)
+  names_none behind dir [] slash h none n e = let same : dir ≡ n = cc in subst (NoLink t) same none
+  names_none behind dir (name ∷ names) slash h none n e =
+      onward_none behind (λ k. lookups_from t true behind k names slash) dir name names slash
+      (looked_up t (is_empty names) true dir name (node_at t dir)) h none
+      (lookup_reached (is_empty names) dir name (node_at t dir))
+      (λ k found. names_none behind k names slash h found) n e
+
+  links_none : (links dir : ℕ) (names : List (List ℕ)) (slash : Bool) → NoLink t dir → FindsNone (trail_with t true links dir names slash)
+  links_none zero dir names slash none = names_none None dir names slash tt none
+  links_none (suc links) dir names slash none =
+      names_none (Some (trail_with t true links)) dir names slash (λ p ns s h. links_none links p ns s h) none
+
+  pub followed_no_link : (cwd : ℕ) (path : List ℕ) → IsDirectoryAt t cwd → (n : ℕ) → (trail_of t cwd Follow path).found ≡ Some n → NoLink t n
+  unfolding trail_of
+  followed_no_link cwd path d =
+      let parts = parts_of path in
+      links_none links_limit (start_of parts cwd) parts.names parts.slash_at_end (start_no_link parts cwd (directory_no_link t cwd d))

@@ -1,0 +1,65 @@
+-- An inode holds at most one node.
+use Rattle.std.specs.Prelude.{◌≡◌, ℕ, ◌+◌, ◌<◌, Bool, true, false, cond}
+use Rattle.std.proofs.Common.{refl, sym, ap, arith, ◌∙◌}
+use Rattle.posix_acl.specs.AccessList.{mode_bits}
+use Rattle.fs_layout.specs.declared.inode.Kind.TheVariants as kinds
+use Rattle.fs_layout.specs.declared.inode.Inode.{Inode}
+use Rattle.fs_layout.specs.Bytes.{SectorMap}
+use Rattle.fs_layout.proofs.Held.{Holds-unique}
+use Rattle.fs_model.specs.Nodes.{Node, Body, File, Dir, Link, Directory, shown_mode}
+use Rattle.fs_model.specs.StoredNodes.{Placed, HoldsBody, HoldsNode}
+use Rattle.fs_layout.proofs.OneAcl.{access_same, default_same, mode_small}
+use Rattle.fs_layout.proofs.OneSlots.{names_same}
+
+directory_same : (x y : Directory) → x.names ≡ y.names → x.default ≡ y.default → x.set_group_id ≡ y.set_group_id → x.sticky ≡ y.sticky → x ≡ y
+directory_same x y e f g h =
+    let whole : record x { sticky = x.sticky } ≡ record y { sticky = y.sticky } = rw (e, f, g, h) refl in whole
+
+-- the bits of a mode are told apart
+bits_same : (m n : ℕ) (s g t h : Bool) → m < 512 → n < 512 → m + cond s 512 0 + cond g 1024 0 ≡ n + cond t 512 0 + cond h 1024 0
+    → (m ≡ n) × (s ≡ t) × (g ≡ h)
+bits_same m n true true true true a b e = (omega (arith, e), refl, refl)
+bits_same m n true false true false a b e = (omega (arith, e), refl, refl)
+bits_same m n false true false true a b e = (omega (arith, e), refl, refl)
+bits_same m n false false false false a b e = (omega (arith, e), refl, refl)
+bits_same m n true true true false a b e = absurd (omega (arith, a, b, e))
+bits_same m n true true false true a b e = absurd (omega (arith, a, b, e))
+bits_same m n true true false false a b e = absurd (omega (arith, a, b, e))
+bits_same m n true false true true a b e = absurd (omega (arith, a, b, e))
+bits_same m n true false false true a b e = absurd (omega (arith, a, b, e))
+bits_same m n true false false false a b e = absurd (omega (arith, a, b, e))
+bits_same m n false true true true a b e = absurd (omega (arith, a, b, e))
+bits_same m n false true true false a b e = absurd (omega (arith, a, b, e))
+bits_same m n false true false false a b e = absurd (omega (arith, a, b, e))
+bits_same m n false false true true a b e = absurd (omega (arith, a, b, e))
+bits_same m n false false true false a b e = absurd (omega (arith, a, b, e))
+bits_same m n false false false true a b e = absurd (omega (arith, a, b, e))
+
+body_same : (image : SectorMap) (v : Inode) (x y : Body) → shown_mode x ≡ shown_mode y → HoldsBody image v x → HoldsBody image v y → x ≡ y
+body_same image v (File a s) (File b t) m h k =
+    ap (λ z. File z s) (access_same image v.acl a b h.acl k.acl m h.has_acl k.has_acl)
+    ∙ ap (λ z. File b z) (Holds-unique image v s t h.holds k.holds)
+body_same image v (Dir a d) (Dir b e) m h k =
+    let bits = bits_same (mode_bits a) (mode_bits b) d.sticky d.set_group_id e.sticky e.set_group_id (mode_small a) (mode_small b) m in
+    ap (λ z. Dir z d) (access_same image v.acl a b h.acl k.acl bits.0 h.has_acl k.has_acl)
+    ∙ ap (λ z. Dir b z) (directory_same d e (names_same image v d.names e.names h.names k.names) (default_same image v.default_acl d.default e.default h.default k.default h.has_default k.has_default) bits.2 bits.1)
+body_same image v (Link s) (Link t) m h k = ap (λ z. Link z) (Holds-unique image v s t h.holds k.holds)
+body_same image v (File a s) (Dir b e) m h k = let c : kinds.File ≡ kinds.Directory = sym h.kind ∙ k.names.kind in absurd cc
+body_same image v (File a s) (Link t) m h k = let c : kinds.File ≡ kinds.Link = sym h.kind ∙ k.kind in absurd cc
+body_same image v (Dir a d) (File b t) m h k = let c : kinds.Directory ≡ kinds.File = sym h.names.kind ∙ k.kind in absurd cc
+body_same image v (Dir a d) (Link t) m h k = let c : kinds.Directory ≡ kinds.Link = sym h.names.kind ∙ k.kind in absurd cc
+body_same image v (Link s) (File b t) m h k = let c : kinds.Link ≡ kinds.File = sym h.kind ∙ k.kind in absurd cc
+body_same image v (Link s) (Dir b e) m h k = let c : kinds.Link ≡ kinds.Directory = sym h.kind ∙ k.names.kind in absurd cc
+
+node_parts : (x y : Node) → x.owner ≡ y.owner → x.group ≡ y.group → x.body ≡ y.body → x ≡ y
+node_parts x y e f g = let whole : record x { owner = x.owner } ≡ record y { owner = y.owner } = rw (e, f, g) refl in whole
+
+pub node_same : (image : SectorMap) (v : Inode) (x y : Placed) → HoldsNode image v x → HoldsNode image v y → x.node ≡ y.node
+node_same image v x y h k =
+    node_parts x.node y.node (sym h.owner ∙ k.owner) (sym h.group ∙ k.group) (body_same image v x.node.body y.node.body (sym h.mode ∙ k.mode) h.body k.body)
+
+-- a free inode holds no node
+pub body_not_free : (image : SectorMap) (v : Inode) (b : Body) → HoldsBody image v b → v.kind ≡ kinds.Free → ⊥
+body_not_free image v (File a s) h e = let c : kinds.File ≡ kinds.Free = sym h.kind ∙ e in cc
+body_not_free image v (Dir a d) h e = let c : kinds.Directory ≡ kinds.Free = sym h.names.kind ∙ e in cc
+body_not_free image v (Link s) h e = let c : kinds.Link ≡ kinds.Free = sym h.kind ∙ e in cc

@@ -1,0 +1,217 @@
+-- What an image holds after a call that changed its tree so: what the changed tree places.
+--     MakesNode        what making a node asks
+--     same_held, rewrite_held, make_held, add_held, take_held, drop_held        after each change
+use Rattle.std.specs.Prelude.{◌≡◌, ◌≢◌, ℕ, ◌+◌, ◌-◌, ◌<◌, ◌≤◌, ◌^◌, nat_eq, nat_le, ◌==◌, true, false, not, ◌||◌, List, [], length, Option, None, Some, IsTrue, IsFalse}
+use Rattle.std.proofs.Common.{refl, sym, ap, ◌∙◌, subst}
+use Rattle.std.proofs.lemmas.Bool.{or_right}
+use Rattle.fs_layout.specs.declared.place.Place.{Place}
+use Rattle.fs_layout.specs.Bytes.{SectorMap, IsBytes}
+use Rattle.fs_layout.specs.Changes.{ChangesInode}
+use Rattle.fs_layout.specs.Directories.{IsName}
+use Rattle.fs_layout.specs.Inode.{free_inode}
+use Rattle.fs_layout.specs.Images.{bit, inode_bitmap, inode_at}
+use Rattle.fs_layout.specs.Maps.{get, name_cmp, with_entry, without}
+use Rattle.fs_layout.proofs.NameMaps.{leading}
+use Rattle.fs_model.specs.Limits.{entries_limit}
+use Rattle.fs_model.specs.Nodes.{Node, is_directory, names_in}
+use Rattle.fs_model.specs.Trees.{Tree, node_at, with_node, names_of, parent, IsBody}
+use Rattle.fs_model.specs.Processes.{Desks, is_open}
+use Rattle.fs_model.specs.Changes.{Same, Rewrite, Make, AddName, TakeName, changed, swept, lives_nameless, with_names_at}
+use Rattle.fs_model.specs.States.{State, IsState}
+use Rattle.fs_model.specs.StoredNodes.{Placed, HoldsNode}
+use Rattle.fs_model.specs.Stands.{HoldsAll, placed, room_of}
+use Rattle.fs_model.proofs.Frame.{placed_elsewhere}
+use Rattle.fs_model.proofs.PlacedNames.{added_dir, added_node, added_others, added_nameless, taken_dir, taken_others, taken_stays, taken_goes, taken_apart}
+use Rattle.fs_model.proofs.PlacedNodes.{same_placed, placing, placing_other, placed_once, placed_twice, one_placed, one_replaced, one_dropped, placed_from, nothing_goes, below_inodes, node_below}
+use Rattle.fs_model.proofs.Rewrites.{names_of-rewritten, parent-rewritten, parent-with_node, there-rewritten}
+use Rattle.fs_model.proofs.StepsAdding.{AddsName, GivesName, gives_name, added_keeps_types, added_is_tree, dir_apart, stands_then, new_parent}
+use Rattle.fs_model.proofs.StepsKinds.{MayReplace, replaced_is_tree, replaced_keeps_types}
+use Rattle.fs_model.proofs.StepsMaking.{IsNewborn, makes_name, nothing_leads}
+use Rattle.fs_model.proofs.StepsNaming.{renamed_node, renamed, at_it}
+use Rattle.fs_model.proofs.StepsOfMaking.{named_is}
+use Rattle.fs_model.proofs.StepsParents.{names_or}
+use Rattle.fs_model.proofs.StepsTaking.{TakesName}
+use Rattle.fs_model.proofs.Unchanged.{open_stays}
+
+-- ---- what making a node asks
+
+pub record MakesNode (s : State) (dir : ℕ) (directory : Node) (name : List ℕ) (n : ℕ) (now : Node) : Type 0 where
+  pub stands : node_at s.tree dir ≡ Some directory
+  pub is_dir : IsTrue (is_directory directory.body)
+  pub is_new : get name_cmp (names_in directory.body) name ≡ None
+  pub has_room : length (names_in directory.body) < entries_limit
+  pub is_name : IsName name
+  pub bytes : IsBytes name
+  pub positive : 1 ≤ n
+  pub below : n < s.room.inodes
+  pub unused : node_at s.tree n ≡ None
+  pub no_names : names_in now.body ≡ []
+  pub owner : now.owner < 2 ^ 32
+  pub group : now.group < 2 ^ 32
+  pub body : IsBody s.room s.tree now.body
+
+-- ---- the image after the call
+
+module _ (s : State) (is : IsState s) (up : IsFalse s.halted) (desks : Desks) (still : (n : ℕ) → IsTrue (is_open s.desks n) → IsTrue (is_open desks n))
+    (p : Place) (old : SectorMap) (held : HoldsAll p old (placed s.tree)) (room : s.room ≡ room_of p) where
+  -- nothing changed
+  pub same_held : HoldsAll p old (placed (swept (changed s.tree Same) desks))
+  same_held = subst (λ u. HoldsAll p old (placed u)) (sym (open_stays s.room s.tree s.desks desks is.tree (is.desks up) still)) held
+
+  module _ (new : SectorMap) (n : ℕ) (was now : Node) (at : node_at s.tree n ≡ Some was) (may : MayReplace s.room s.tree was now) (changes : ChangesInode p n old new)
+      (used : bit new inode_bitmap n ≡ bit old inode_bitmap n)
+      (here : HoldsNode new (inode_at p new n) (record { node = now; names = names_of s.tree n; parent = parent s.tree n })) where
+    names_stay : (x : ℕ) → names_of (with_node s.tree n now) x ≡ names_of s.tree x
+    names_stay x = names_of-rewritten s.tree n was now is.tree.numbers at may.names x
+
+    rewrite_stays : swept (changed s.tree (Rewrite n now)) desks ≡ with_node s.tree n now
+    rewrite_stays =
+        nothing_goes s is up desks still (with_node s.tree n now) (replaced_is_tree s.room s.tree n was now is.tree at may) (replaced_keeps_types s.tree n was now at may.same)
+        (λ x there none. (sym (there-rewritten s.tree n was now is.tree.numbers at may.names x) ∙ there, sym (names_stay x) ∙ none))
+
+    -- the node at n was rewritten
+    pub rewrite_held : HoldsAll p new (placed (swept (changed s.tree (Rewrite n now)) desks))
+    rewrite_held =
+        let there : placed (with_node s.tree n now) n ≡ Some (record { node = now; names = names_of s.tree n; parent = parent s.tree n }) =
+        placed_from (with_node s.tree n now) n (Some now) _ _ (at_it s.tree n now) (names_stay n) (parent-rewritten s.tree n was now is.tree.numbers at may.names n) in
+        subst (λ u. HoldsAll p new (placed u)) (sym rewrite_stays)
+        (same_placed p new (placing n (Some (record { node = now; names = names_of s.tree n; parent = parent s.tree n })) (placed s.tree)) (placed (with_node s.tree n now))
+        (one_replaced p n old new (placed s.tree) held (node_below s p is room n was at) changes _ _ (placed_from s.tree n (Some was) _ _ at refl refl) here used)
+        (placed_once (placed s.tree) (placed (with_node s.tree n now)) n _ there (placed_elsewhere s.tree n was now is.tree.numbers at may.names)))
+
+  module _ (mid new : SectorMap) (dir : ℕ) (directory : Node) (name : List ℕ) (n : ℕ) (now : Node) (makes : MakesNode s dir directory name n now)
+      (first : ChangesInode p n old mid) (taken : IsTrue (bit mid inode_bitmap n)) (born : HoldsNode mid (inode_at p mid n) (record { node = now; names = 1; parent = dir }))
+      (second : ChangesInode p dir mid new) (used : bit new inode_bitmap dir ≡ bit mid inode_bitmap dir)
+      (here : HoldsNode new (inode_at p new dir) (record { node = renamed_node directory (with_entry name_cmp (names_in directory.body) name n); names = names_of s.tree dir; parent = parent s.tree dir })) where
+    abbrev w : Tree
+    w = with_node s.tree n now
+
+    abbrev made : Tree
+    made = renamed (with_node s.tree n now) dir directory (with_entry name_cmp (names_in directory.body) name n)
+
+    newborn : IsNewborn s.room s.tree now
+    newborn = record { owner = makes.owner; group = makes.group; body = makes.body; no_names = makes.no_names }
+
+    adds : AddsName s.room s.tree w dir directory name n now
+    adds =
+        makes_name s.room s.tree dir directory name n now is.tree makes.stands makes.is_dir makes.is_new makes.has_room makes.is_name makes.bytes makes.positive makes.below makes.unused newborn
+
+    parents : (x : ℕ) → parent w x ≡ parent s.tree x
+    parents x =
+        parent-with_node s.tree n now is.tree.numbers x (ap (leading x) makes.no_names ∙ sym (ap (λ o. leading x (names_or o)) makes.unused))
+
+    apart : dir ≢ n
+    apart = dir_apart s.room s.tree w dir directory name n now is.tree adds
+
+    tree_is : changed s.tree (Make dir name n now) ≡ made
+    tree_is = named_is w dir directory name n (stands_then s.room s.tree w dir directory name n now is.tree adds)
+
+    make_stays : swept (changed s.tree (Make dir name n now)) desks ≡ made
+    make_stays =
+        ap (λ u. swept u desks) tree_is
+        ∙ nothing_goes s is up desks still made (added_is_tree s.room s.tree w dir directory name n now is.tree adds) (added_keeps_types s.room s.tree w dir directory name n now is.tree adds)
+        (added_nameless s.room s.tree w dir directory name n now is.tree adds parents)
+
+    node_now : placed made n ≡ Some (record { node = now; names = 1; parent = dir })
+    node_now =
+        let none = nothing_leads s.room s.tree n is.tree makes.unused in
+        added_node s.room s.tree w dir directory name n now is.tree adds parents
+        ∙ ap (λ k. Some (record { node = now; names = k + 1; parent = parent made n })) none
+        ∙ ap (λ k. Some (record { node = now; names = 1; parent = k })) (new_parent s.room s.tree w dir directory name n now is.tree adds none)
+
+    held_then : HoldsAll p mid (placing n (Some (record { node = now; names = 1; parent = dir })) (placed s.tree))
+    held_then =
+        one_placed p n old mid (placed s.tree) held (below_inodes s p room n makes.below) first (Some (record { node = now; names = 1; parent = dir })) born
+        (taken ∙ sym (or_right (nat_eq n 0 || nat_le p.inodes n) true refl))
+
+    -- a node was made, and named
+    pub make_held : HoldsAll p new (placed (swept (changed s.tree (Make dir name n now)) desks))
+    make_held =
+        subst (λ u. HoldsAll p new (placed u)) (sym make_stays)
+        (same_placed p new _ (placed made)
+        (one_replaced p dir mid new (placing n (Some (record { node = now; names = 1; parent = dir })) (placed s.tree)) held_then (node_below s p is room dir directory makes.stands) second _ _
+        (placing_other n _ (placed s.tree) dir apart ∙ placed_from s.tree dir (Some directory) _ _ makes.stands refl refl) here used)
+        (placed_twice (placed s.tree) (placed made) n dir _ _ node_now (added_dir s.room s.tree w dir directory name n now is.tree adds parents)
+        (added_others s.room s.tree w dir directory name n now is.tree adds parents)))
+
+  module _ (mid new : SectorMap) (dir : ℕ) (directory : Node) (name : List ℕ) (n : ℕ) (target : Node) (gives : GivesName s.tree dir directory name n target)
+      (first : ChangesInode p n old mid) (taken : bit mid inode_bitmap n ≡ bit old inode_bitmap n)
+      (counted : HoldsNode mid (inode_at p mid n) (record { node = target; names = names_of s.tree n + 1; parent = parent (changed s.tree (AddName dir name n)) n }))
+      (second : ChangesInode p dir mid new) (used : bit new inode_bitmap dir ≡ bit mid inode_bitmap dir)
+      (here : HoldsNode new (inode_at p new dir) (record { node = renamed_node directory (with_entry name_cmp (names_in directory.body) name n); names = names_of s.tree dir; parent = parent s.tree dir })) where
+    given : AddsName s.room s.tree s.tree dir directory name n target
+    given = gives_name s.room s.tree dir directory name n target is.tree gives
+
+    abbrev linked : Tree
+    linked = renamed s.tree dir directory (with_entry name_cmp (names_in directory.body) name n)
+
+    linked_is : changed s.tree (AddName dir name n) ≡ linked
+    linked_is = named_is s.tree dir directory name n gives.stands
+
+    add_stays : swept (changed s.tree (AddName dir name n)) desks ≡ linked
+    add_stays =
+        ap (λ u. swept u desks) linked_is
+        ∙ nothing_goes s is up desks still linked (added_is_tree s.room s.tree s.tree dir directory name n target is.tree given) (added_keeps_types s.room s.tree s.tree dir directory name n target is.tree given)
+        (added_nameless s.room s.tree s.tree dir directory name n target is.tree given (λ x. refl))
+
+    counted_then : HoldsNode mid (inode_at p mid n) (record { node = target; names = names_of s.tree n + 1; parent = parent linked n })
+    counted_then = subst (λ u. HoldsNode mid (inode_at p mid n) (record { node = target; names = names_of s.tree n + 1; parent = parent u n })) linked_is counted
+
+    -- what is no directory was named once more
+    pub add_held : HoldsAll p new (placed (swept (changed s.tree (AddName dir name n)) desks))
+    add_held =
+        subst (λ u. HoldsAll p new (placed u)) (sym add_stays)
+        (same_placed p new _ (placed linked)
+        (one_replaced p dir mid new _
+        (one_replaced p n old mid (placed s.tree) held (node_below s p is room n target gives.there) first _ _ (placed_from s.tree n (Some target) _ _ gives.there refl refl) counted_then taken)
+        (node_below s p is room dir directory gives.stands) second _ _
+        (placing_other n _ (placed s.tree) dir (dir_apart s.room s.tree s.tree dir directory name n target is.tree given) ∙ placed_from s.tree dir (Some directory) _ _ gives.stands refl refl) here used)
+        (placed_twice (placed s.tree) (placed linked) n dir _ _ (added_node s.room s.tree s.tree dir directory name n target is.tree given (λ x. refl))
+        (added_dir s.room s.tree s.tree dir directory name n target is.tree given (λ x. refl))
+        (added_others s.room s.tree s.tree dir directory name n target is.tree given (λ x. refl))))
+
+  module _ (mid new : SectorMap) (dir : ℕ) (directory : Node) (name : List ℕ) (m : ℕ) (target : Node) (takes : TakesName s.tree s.desks dir directory name m)
+      (at : node_at s.tree m ≡ Some target) (first : ChangesInode p dir old mid) (used : bit mid inode_bitmap dir ≡ bit old inode_bitmap dir)
+      (here : HoldsNode mid (inode_at p mid dir) (record { node = renamed_node directory (without name_cmp (names_in directory.body) name); names = names_of s.tree dir; parent = parent s.tree dir }))
+      (second : ChangesInode p m mid new) where
+    abbrev taken_tree : Tree
+    taken_tree = renamed s.tree dir directory (without name_cmp (names_in directory.body) name)
+
+    taken_is : changed s.tree (TakeName dir name) ≡ taken_tree
+    taken_is = ap (with_names_at s.tree dir (λ names. without name_cmp names name)) takes.stands
+
+    abbrev between : ℕ → Option Placed
+    between = placing dir (Some (record { node = renamed_node directory (without name_cmp (names_in directory.body) name); names = names_of s.tree dir; parent = parent s.tree dir })) (placed s.tree)
+
+    between_held : HoldsAll p mid between
+    between_held =
+        one_replaced p dir old mid (placed s.tree) held (node_below s p is room dir directory takes.stands) first _ _
+        (placed_from s.tree dir (Some directory) _ _ takes.stands refl refl) here used
+
+    below : m < p.inodes
+    below = node_below s p is room m target at
+
+    taken_then : (o : Option Placed) → placed (swept taken_tree desks) m ≡ o → HoldsAll p new (placing m o between)
+        → HoldsAll p new (placed (swept (changed s.tree (TakeName dir name)) desks))
+    taken_then o is_o all =
+        subst (λ u. HoldsAll p new (placed (swept u desks))) (sym taken_is)
+        (same_placed p new (placing m o between) (placed (swept taken_tree desks)) all
+        (placed_twice (placed s.tree) (placed (swept taken_tree desks)) dir m _ o (taken_dir s is up desks still dir directory name m takes) is_o
+        (taken_others s is up desks still dir directory name m takes)))
+
+    -- a name was taken from what stays
+    pub take_held : (not (names_of s.tree m - 1 == 0) || lives_nameless desks m target.body) ≡ true → bit new inode_bitmap m ≡ bit mid inode_bitmap m
+        → HoldsNode new (inode_at p new m) (record { node = target; names = names_of s.tree m - 1; parent = parent (changed s.tree (TakeName dir name)) m })
+        → HoldsAll p new (placed (swept (changed s.tree (TakeName dir name)) desks))
+    take_held stay marked counted =
+        taken_then _ (taken_stays s is up desks still dir directory name m takes target at stay)
+        (one_replaced p m mid new between between_held below second _ _
+        (placing_other dir _ (placed s.tree) m (taken_apart s is up desks still dir directory name m takes) ∙ placed_from s.tree m (Some target) _ _ at refl refl)
+        (subst (λ u. HoldsNode new (inode_at p new m) (record { node = target; names = names_of s.tree m - 1; parent = parent u m })) taken_is counted) marked)
+
+    -- the last name was taken
+    pub drop_held : (not (names_of s.tree m - 1 == 0) || lives_nameless desks m target.body) ≡ false → bit new inode_bitmap m ≡ false
+        → inode_at p new m ≡ free_inode → HoldsAll p new (placed (swept (changed s.tree (TakeName dir name)) desks))
+    drop_held goes clear free =
+        taken_then None (taken_goes s is up desks still dir directory name m takes target at goes)
+        (one_dropped p m mid new between between_held below second (is.tree.each m target at).positive free clear)

@@ -1,0 +1,44 @@
+-- What an image stands for rests on what it reads as after recovery: superblock, tables and used data sectors. So it rests
+-- on the superblock, the commit sector with its log, and the sectors from the bitmaps on.
+use Rattle.std.specs.Prelude.{◌≡◌, ℕ, ◌<◌, ◌≤◌}
+use Rattle.std.proofs.Common.{sym, ap, arith, ◌∙◌, subst}
+use Rattle.fs_layout.specs.Bytes.{SectorMap}
+use Rattle.fs_layout.specs.Commit.{IsValidCommit}
+use Rattle.fs_layout.specs.Recovered.{recovered}
+use Rattle.fs_layout.proofs.Agree.{same_agrees, agree_free_sectors}
+use Rattle.fs_layout.proofs.Places.{place_is_laid_out, place_is_place}
+use Rattle.fs_layout.proofs.RecoveryLaw.{recovered-low, recovered-same}
+use Rattle.fs_model.specs.Trees.{Tree, Room}
+use Rattle.fs_model.specs.Stands.{placed, Stands}
+use Rattle.fs_model.specs.Laws.{ReadsAlike, SaysSame}
+use Rattle.fs_model.proofs.Frame.{agreed}
+
+pub standing_rests_on_reading : (sectors : ℕ) (old new : SectorMap) (room : Room) (t : Tree) (free : ℕ) → (stands : Stands sectors old room t free)
+    → ReadsAlike sectors stands.place old new → Stands sectors new room t free
+standing_rests_on_reading sectors old new room t free x alike = record {
+  super = x.super;
+  place = x.place;
+  super_is = sym (recovered-low sectors new 0 (omega arith)) ∙ alike.super ∙ recovered-low sectors old 0 (omega arith) ∙ x.super_is;
+  super_fits = x.super_fits;
+  same_size = x.same_size;
+  has_place = x.has_place;
+  commit_is = alike.commit;
+  room_is = x.room_is;
+  holds = agreed x.place (recovered sectors old) (recovered sectors new) (placed t) x.holds alike.rest;
+  tree_is = x.tree_is;
+  free_is = x.free_is ∙ sym (agree_free_sectors x.holds.consistent alike.rest);
+}
+
+pub standing_rests : (sectors : ℕ) (old new : SectorMap) (room : Room) (t : Tree) (free : ℕ) → SaysSame sectors old new
+    → Stands sectors old room t free → Stands sectors new room t free
+standing_rests sectors old new room t free same x =
+    let p = x.place in
+    let size : p.sectors ≡ sectors = ap (λ q. q.sectors) (place_is_laid_out sectors x.super.inodes x.has_place) in
+    let place = place_is_place sectors x.super.inodes x.has_place in
+    let each : (s : ℕ) → 128 ≤ s → s < p.sectors → recovered sectors new s ≡ recovered sectors old s =
+    λ s past low. recovered-same sectors old new s same.commit same.log (λ none. same.others s past (omega (arith, low, size))) in
+    standing_rests_on_reading sectors old new room t free x (record {
+      commit = subst (IsValidCommit sectors) (sym same.commit) x.commit_is;
+      super = recovered-low sectors new 0 (omega arith) ∙ same.super ∙ sym (recovered-low sectors old 0 (omega arith));
+      rest = same_agrees place each;
+    })

@@ -1,0 +1,141 @@
+-- A step leads from states to states.
+use Rattle.std.specs.Prelude.{◌≡◌, ℕ, ◌+◌, ◌≤◌, nat_le, Bool, true, false, cond, length, Option, None, Some, is_some, IsFalse}
+use Rattle.std.proofs.Common.{refl, sym, arith, subst, inl, inr}
+use Rattle.std.proofs.lemmas.Bool.Decides.{nat_tests}
+use Rattle.std.specs.Ordering.{nat_cmp}
+use Rattle.fs_cred.specs.declared.errno.Errno.TheVariants.{EAGAIN}
+use Rattle.fs_model.specs.declared.call.Call.{Call}
+use Rattle.fs_model.specs.declared.event.Event.{Event}
+use Rattle.fs_model.specs.declared.event.Event.TheVariants.{Spawn, Exit, Call as Calls, Fsync, Sync, Statfs, Arm, Restart}
+use Rattle.fs_model.specs.declared.reply.Reply.{Reply}
+use Rattle.fs_model.specs.Limits.{processes_limit}
+use Rattle.fs_layout.specs.Maps.{get, with_entry, without, IsMap}
+use Rattle.fs_model.specs.Processes.{Process, Desks, new_process}
+use Rattle.fs_model.specs.Changes.{changed}
+use Rattle.fs_model.specs.States.{State, IsProcess, IsState}
+use Rattle.fs_model.specs.Demands.{refuse}
+use Rattle.fs_model.specs.Scenes.{Row}
+use Rattle.fs_model.specs.Rows.{row_of}
+use Rattle.fs_model.specs.Steps.{Choice, After, after, after_call, demand_of, early_refusal, late_refusal, firm_refusal, other_refusal, scene_of, Acts, HasNewNumber, HaltedDesks, Answers, is_halted, refuses_early, refuses_late, acts, lacks_memory, read_fails, write_fails, Step}
+use Rattle.fs_model.specs.Ranges.{IsEvent, IsCall}
+use Rattle.fs_layout.proofs.MapLaws.{with_entry-IsMap, length-with_entry}
+use Rattle.fs_model.proofs.StepsDemands.{unrefused}
+use Rattle.fs_model.proofs.StepsFit.{length-replaced}
+use Rattle.fs_model.proofs.StepsOfCalls.{process_leaves}
+use Rattle.fs_model.proofs.StepsProcesses.{without-IsMap, in_without, length-without, in_with_entry, new_process_fits}
+use Rattle.fs_model.proofs.StepsSwept.{MayBeLeft, left_is_state, tree_may_be_left}
+
+-- ---- the desks after an event
+
+abbrev AreDesks : Desks → Type 0
+AreDesks desks = IsMap nat_cmp desks × (length desks ≤ processes_limit)
+
+room_for_one : (desks : Desks) → refuse EAGAIN (nat_le processes_limit (length desks)) ≡ None → length desks + 1 ≤ processes_limit
+room_for_one desks h = let e : nat_le processes_limit (length desks) ≡ false = unrefused EAGAIN _ h in grind (arith, nat_tests)
+
+length-new : (desks : Desks) (pid : ℕ) (p : Process) → IsMap nat_cmp desks → length (with_entry nat_cmp desks pid p) ≤ length desks + 1
+length-new desks pid p m = go (is_some (get nat_cmp desks pid)) (length-with_entry desks pid p m)
+  where
+    go : (b : Bool) → length (with_entry nat_cmp desks pid p) ≡ cond b (length desks) (length desks + 1) → length (with_entry nat_cmp desks pid p) ≤ length desks + 1
+    go true e = omega arith
+    go false e = omega arith
+
+desks_after_call : (s : State) (pid number : ℕ) (row : Row) (o : Option Process) → get nat_cmp s.desks pid ≡ o → AreDesks s.desks
+    → AreDesks (after_call s pid row number o).desks
+desks_after_call s pid number row None here are = are
+desks_after_call s pid number row (Some p) here are =
+    let q = (row.effect (scene_of s p row) number).process in (
+      with_entry-IsMap s.desks pid q are.0,
+      (let same = length-replaced s.desks pid p q are.0 here in let few = are.1 in omega (arith, same, few)),
+    )
+
+desks_after : (s : State) (e : Event) (choice : Choice) → AreDesks s.desks → firm_refusal s e ≡ None → AreDesks (after s e choice).desks
+unfolding after firm_refusal
+desks_after s (Calls pid call) choice are firm = desks_after_call s pid choice.number (row_of call) (get nat_cmp s.desks pid) refl are
+desks_after s (Spawn cred) choice are firm = (
+  with_entry-IsMap s.desks choice.pid (new_process cred) are.0,
+  (let more = length-new s.desks choice.pid (new_process cred) are.0 in let room = room_for_one s.desks firm in omega (arith, more, room)),
+)
+desks_after s (Exit pid) choice are firm =
+    (without-IsMap s.desks pid are.0, (let less = length-without s.desks pid in let few = are.1 in omega (arith, less, few)))
+desks_after s (Fsync pid fd) choice are firm = are
+desks_after s Sync choice are firm = are
+desks_after s Statfs choice are firm = are
+desks_after s (Arm k) choice are firm = are
+desks_after s (Restart bytes arm) choice are firm = are
+
+-- ---- what an event leaves
+
+module _ (s : State) (is : IsState s) (runs : IsFalse s.halted) where
+  abbrev Leaves : After → Type 0
+  Leaves a = MayBeLeft s.room (changed s.tree a.change) a.desks
+
+  same_left : MayBeLeft s.room s.tree s.desks
+  same_left = tree_may_be_left s.room s.tree s.desks is.tree is.pids is.few (is.desks runs).processes
+
+  call_leaves : (pid number : ℕ) (call : Call) (o : Option Process) → get nat_cmp s.desks pid ≡ o → IsCall call
+      → demand_of (λ p. early_refusal p (row_of call)) o ≡ None → demand_of (λ p. late_refusal s p (row_of call)) o ≡ None
+      → HasNewNumber s (after_call s pid (row_of call) number o).change → Leaves (after_call s pid (row_of call) number o)
+  call_leaves pid number call None here in_range early late fresh = absurd cc
+  call_leaves pid number call (Some p) here in_range early late fresh = process_leaves s pid p call number is runs here in_range early late fresh
+
+  event_leaves : (e : Event) (choice : Choice) → IsEvent e → firm_refusal s e ≡ None → other_refusal s e ≡ None
+      → HasNewNumber s (after s e choice).change → Leaves (after s e choice)
+  unfolding after firm_refusal other_refusal
+  event_leaves (Calls pid call) choice in_range firm other fresh =
+      call_leaves pid choice.number call (get nat_cmp s.desks pid) refl in_range.1 firm other fresh
+  event_leaves (Spawn cred) choice in_range firm other fresh =
+      tree_may_be_left s.room s.tree (with_entry nat_cmp s.desks choice.pid (new_process cred)) is.tree
+      (with_entry-IsMap s.desks choice.pid (new_process cred) is.pids)
+      (let more = length-new s.desks choice.pid (new_process cred) is.pids in let room = room_for_one s.desks firm in omega (arith, more, room))
+      (in_with_entry (λ q p. IsProcess s.tree p) s.desks choice.pid (new_process cred) (new_process_fits s.room s.tree cred is.tree in_range)
+      (is.desks runs).processes)
+  event_leaves (Exit pid) choice in_range firm other fresh =
+      tree_may_be_left s.room s.tree (without nat_cmp s.desks pid) is.tree (without-IsMap s.desks pid is.pids)
+      (let less = length-without s.desks pid in let few = is.few in omega (arith, less, few))
+      (λ q p at. (is.desks runs).processes q p (in_without s.desks pid q p is.pids at))
+  event_leaves (Fsync pid fd) choice in_range firm other fresh = same_left
+  event_leaves Sync choice in_range firm other fresh = same_left
+  event_leaves Statfs choice in_range firm other fresh = same_left
+  event_leaves (Arm k) choice in_range firm other fresh = same_left
+  event_leaves (Restart bytes arm) choice in_range firm other fresh = same_left
+
+-- ---- steps
+
+-- the machine halts with its tree as it was
+halted_is_state : (s : State) (desks : Desks) → IsState s → AreDesks desks → IsState (record s { desks = desks; halted = true })
+halted_is_state s desks is are = record {
+  room = is.room;
+  tree = is.tree;
+  pids = are.0;
+  few = are.1;
+  free = is.free;
+  desks = λ runs. absurd cc;
+}
+
+halted_desks : (s : State) (e : Event) (choice : Choice) (desks : Desks) → IsState s → firm_refusal s e ≡ None → HaltedDesks s e choice desks
+    → AreDesks desks
+halted_desks s e choice desks is firm which = elim which [
+  | inl same ↦ subst AreDesks (sym same) (is.pids, is.few)
+  | inr then ↦ subst AreDesks (sym then) (desks_after s e choice (is.pids, is.few) firm)
+]
+
+-- what a step leaves where each effect leaves what may be left
+answered_is_state : (old new : State) (e : Event) (reply : Reply) → IsState old → Answers old e reply new
+    → ((choice : Choice) → Acts old e choice → MayBeLeft old.room (changed old.tree (after old e choice).change) (after old e choice).desks)
+    → IsState new
+answered_is_state old new e reply is (is_halted h answered same) leaves = subst IsState (sym same) is
+answered_is_state old new e reply is (refuses_early runs r firm answered same) leaves = subst IsState (sym same) is
+answered_is_state old new e reply is (refuses_late runs r firm other answered same) leaves = subst IsState (sym same) is
+answered_is_state old new e reply is (acts choice does answered now) leaves =
+    subst IsState (sym now)
+    (left_is_state old (changed old.tree (after old e choice).change) (after old e choice).desks choice.free is.room (leaves choice does) does.allowed.free)
+answered_is_state old new e reply is (lacks_memory runs firm asks answered same) leaves = subst IsState (sym same) is
+answered_is_state old new e reply is (read_fails runs firm answered same) leaves = subst IsState (sym same) is
+answered_is_state old new e reply is (write_fails choice does answered desks which now) leaves =
+    subst IsState (sym now) (halted_is_state old desks is (halted_desks old e choice desks is does.early which))
+
+pub steps_keep : (old new : State) (e : Event) (reply : Reply) → IsState old → IsEvent e → Step old e reply new → IsState new
+steps_keep old new e reply is in_range step =
+    answered_is_state old new e reply is step.1
+    (λ choice does. event_leaves old is does.running e choice in_range does.early does.late does.allowed.number)

@@ -1,0 +1,153 @@
+-- What a rename leaves.
+use Rattle.std.specs.Prelude.{◌≡◌, ◌≢◌, ℕ, ◌<◌, ◌==◌, nat_le, true, false, not, ◌&&◌, ◌||◌, [], ◌∷◌, ◌++◌, length, None, Some, is_some, unwrap_or}
+use Rattle.std.proofs.Common.{refl, sym, ap, arith, ◌∙◌, subst}
+use Rattle.std.proofs.lemmas.Bool.{or_from, or_parts}
+use Rattle.std.proofs.lemmas.Bool.Decides.{nat_tests}
+use Rattle.std.specs.Ordering.{nat_cmp}
+use Rattle.fs_cred.specs.declared.errno.Errno.TheVariants.{EBUSY, EINVAL, ENOTEMPTY, ENOSPC}
+use Rattle.fs_model.specs.Limits.{entries_limit}
+use Rattle.fs_layout.specs.Maps.{get, with_entry}
+use Rattle.fs_model.specs.Nodes.{is_directory, names_in}
+use Rattle.fs_model.specs.Trees.{node_at, is_within, IsDirectoryAt}
+use Rattle.fs_model.specs.Processes.{is_in_use}
+use Rattle.fs_model.specs.Changes.{MoveName, changed}
+use Rattle.fs_model.specs.declared.walk.Form.TheVariants.{Parent}
+use Rattle.fs_model.specs.Demands.{only_if}
+use Rattle.fs_model.specs.Scenes.{Scene, is_found, is_special, number, node_found, body_found, dir_node, is_directory_found, has_names, ends_top, ends_dot, ends_dot_dot, no_blocks, no_names}
+use Rattle.fs_model.specs.RenameCall.{is_same, moves, rename_permissions, rename_kinds, rename_directories, rename_moved, rename_space, rename_demands}
+use Rattle.fs_model.proofs.StepsDemands.{AreMet, unrefused, and_false, met_left, met_right}
+use Rattle.fs_layout.proofs.NameMaps.{lost_of}
+use Rattle.fs_model.proofs.StepsFit.{IsScene, node_is_there}
+use Rattle.fs_model.proofs.StepsFound.{IsNameAt, IsWalked}
+use Rattle.fs_model.proofs.StepsLosing.{LosesNames}
+use Rattle.fs_model.proofs.StepsMoving.{MovesName, moves_loses, moved_is}
+use Rattle.fs_model.proofs.StepsOfMaking.{dir_is_there}
+use Rattle.fs_model.proofs.StepsOfPaths.{found_number, is_found_if}
+use Rattle.fs_model.proofs.StepsOfRemoving.{empty_if, loses_leaves, found_directory}
+use Rattle.fs_model.proofs.StepsParents.{names_or, names_at}
+use Rattle.fs_model.proofs.StepsSwept.{MayBeLeft}
+use Rattle.fs_model.proofs.StepsUp.{differs, is_outside}
+
+-- what a rename asks where the names are not of one node
+pub record IsRenamed (c : Scene) : Type 0 where
+  pub first : is_special c.first ≡ false
+  pub second : is_special c.second ≡ false
+  pub found : is_found c.first ≡ true
+  pub directories : AreMet (rename_directories c)
+  pub space : AreMet (rename_space c)
+
+rename_asks : (c : Scene) → AreMet (rename_demands c) → is_same c ≡ false → IsRenamed c
+rename_asks c met same =
+    let dots = unrefused EINVAL (ends_dot c.first || ends_dot_dot c.first || ends_dot c.second || ends_dot_dot c.second) met.0 in
+    let tops = unrefused EBUSY (ends_top c.first || ends_top c.second) met.1.0 in
+    let rest : AreMet (rename_permissions c ++ rename_kinds c ++ rename_directories c ++ rename_moved c ++ rename_space c) =
+    subst (λ b. AreMet (only_if (not b) (rename_permissions c ++ rename_kinds c ++ rename_directories c ++ rename_moved c ++ rename_space c))) same met.1.1.1.1 in
+    let last = or_parts (ends_dot c.first || ends_dot_dot c.first || ends_dot c.second) (ends_dot_dot c.second) dots in
+    let third = or_parts (ends_dot c.first || ends_dot_dot c.first) (ends_dot c.second) last.0 in
+    let first = or_parts (ends_dot c.first) (ends_dot_dot c.first) third.0 in
+    let top = or_parts (ends_top c.first) (ends_top c.second) tops in
+    record {
+      first = or_from (ends_top c.first || ends_dot c.first) (ends_dot_dot c.first) (or_from (ends_top c.first) (ends_dot c.first) top.0 first.0) first.1;
+      second = or_from (ends_top c.second || ends_dot c.second) (ends_dot_dot c.second) (or_from (ends_top c.second) (ends_dot c.second) top.1 third.1) last.1;
+      found = is_found_if c.first met.1.1.0;
+      directories =
+          met_right (rename_permissions c ++ rename_kinds c) (rename_directories c)
+          (met_left (rename_permissions c ++ rename_kinds c ++ rename_directories c) (rename_moved c)
+          (met_left (rename_permissions c ++ rename_kinds c ++ rename_directories c ++ rename_moved c) (rename_space c) rest));
+      space = met_right (rename_permissions c ++ rename_kinds c ++ rename_directories c ++ rename_moved c) (rename_space c) rest;
+    }
+
+differ : (x y : ℕ) → x ≢ y → (x == y) ≡ false
+differ x y ne = grind (arith, nat_tests)
+
+module _ (c : Scene) (is : IsScene c) (asks : IsRenamed c) (same : is_same c ≡ false) where
+  second_number : (m : ℕ) → c.second.ino ≡ Some m → number c.second ≡ m
+  second_number m e = ap (λ o. unwrap_or o 0) e
+
+  second_found : (m : ℕ) → c.second.ino ≡ Some m → is_found c.second ≡ true
+  second_found m e = ap is_some e
+
+  second_at : (m : ℕ) → c.second.ino ≡ Some m → node_at c.state.tree (number c.second) ≡ Some (node_found c c.second)
+  second_at m e =
+      let it : c.second.ino ≡ Some (number c.second) = found_number c.second.ino (second_found m e) in
+      node_is_there c.state.tree (number c.second) (is.second (number c.second) it)
+
+  others : (m : ℕ) → c.second.ino ≡ Some m → m ≢ number c.first
+  others m e same_one =
+      let both : (is_found c.first && is_found c.second) ≡ true = (let f = asks.found in let s = second_found m e in ap (λ b. b && is_found c.second) f ∙ s) in
+      let apart : (number c.first == number c.second) ≡ false = and_false (is_found c.first && is_found c.second) (number c.first == number c.second) same both in
+      differs (number c.first) (number c.second) apart (sym same_one ∙ sym (second_number m e))
+
+  has_room : c.second.ino ≡ None → c.first.dir ≢ c.second.dir → length (names_in (dir_node c c.second).body) < entries_limit
+  has_room none ne =
+      let new : not (is_found c.second) ≡ true = ap (λ o. not (is_some o)) none in
+      let goes : moves c ≡ true = ap not (differ c.first.dir c.second.dir ne) in
+      let both : (not (is_found c.second) && moves c) ≡ true = ap (λ b. b && moves c) new ∙ goes in
+      let met : AreMet (no_blocks c ∷ no_names c c.second ∷ []) = subst (λ b. AreMet (only_if b (no_blocks c ∷ no_names c c.second ∷ []))) both asks.space in
+      let full : nat_le entries_limit (length (names_in (dir_node c c.second).body)) ≡ false = unrefused ENOSPC _ met.1.0 in
+      grind (arith, nat_tests)
+
+  replaced_empty : (m : ℕ) → c.second.ino ≡ Some m → names_at c.state.tree m ≡ []
+  replaced_empty m e =
+      let has : has_names c c.second ≡ false =
+      and_false (is_found c.second) (has_names c c.second) (unrefused ENOTEMPTY (is_found c.second && has_names c c.second) asks.directories.1.1.0) (second_found m e) in
+      ap (names_at c.state.tree) (sym (second_number m e)) ∙ ap names_or (second_at m e) ∙ empty_if (names_in (body_found c c.second)) has
+
+  replaced_unused : (m : ℕ) → c.second.ino ≡ Some m → IsDirectoryAt c.state.tree m → is_in_use c.state.desks m ≡ false
+  replaced_unused m e d =
+      let at : node_at c.state.tree m ≡ Some (node_found c c.second) = ap (node_at c.state.tree) (sym (second_number m e)) ∙ second_at m e in
+      let stands = d.is_there in
+      let node : d.node ≡ node_found c c.second = cc in
+      let directory : is_directory (body_found c c.second) ≡ true = ap (λ v. is_directory v.body) (sym node) ∙ d.directory in
+      let both : is_directory_found c c.second ≡ true = ap (λ b. b && is_directory (body_found c c.second)) (second_found m e) ∙ directory in
+      ap (is_in_use c.state.desks) (sym (second_number m e))
+      ∙ and_false (is_directory_found c c.second) (is_in_use c.state.desks (number c.second))
+      (unrefused EBUSY (is_directory_found c c.second && is_in_use c.state.desks (number c.second)) asks.directories.1.0) both
+
+  outside : IsDirectoryAt c.state.tree (number c.first) → is_within (length c.state.tree) c.state.tree (number c.first) c.second.dir ≡ false
+  outside d =
+      let directory = found_directory c is asks.found d in
+      let both : is_directory_found c c.first ≡ true = ap (λ b. b && is_directory (body_found c c.first)) asks.found ∙ directory in
+      and_false (is_directory_found c c.first) (is_within (length c.state.tree) c.state.tree (number c.first) c.second.dir)
+      (unrefused EINVAL (is_directory_found c c.first && is_within (length c.state.tree) c.state.tree (number c.first) c.second.dir) asks.directories.0) both
+
+  moves_name : IsNameAt c.state.tree c.first.dir c.first.name c.first.ino → IsNameAt c.state.tree c.second.dir c.second.name c.second.ino
+      → MovesName c.state.tree c.state.desks c.first.dir (dir_node c c.first) c.first.name (number c.first) c.second.dir (dir_node c c.second) c.second.name c.second.ino
+  moves_name from to =
+      let x = dir_is_there c.state.tree c.first.dir c.first.name c.first.ino from in
+      let y = dir_is_there c.state.tree c.second.dir c.second.name c.second.ino to in
+      record {
+        stands = x.0;
+        is_dir = x.1;
+        leads = x.2 ∙ found_number c.first.ino asks.found;
+        to_stands = y.0;
+        is_to_dir = y.1;
+        to_leads = y.2;
+        is_name = to.is_name;
+        bytes = to.bytes;
+        other = others;
+        has_room = has_room;
+        empty = λ m e d. replaced_empty m e;
+        unused = replaced_unused;
+        outside = λ d.
+            is_outside c.state.room c.state.tree (number c.first) c.second.dir is.state.tree
+            (record { node = dir_node c c.second; is_there = y.0; directory = y.1 }) (outside d);
+      }
+
+  rename_loses : IsWalked c.state.tree Parent c.first → IsWalked c.state.tree Parent c.second
+      → LosesNames c.state.room c.state.tree (changed c.state.tree (MoveName c.first.dir c.first.name c.second.dir c.second.name)) c.state.desks (lost_of c.second.ino)
+  rename_loses from to =
+      let a = from.old refl asks.first in
+      let b = to.old refl asks.second in
+      subst (λ u. LosesNames c.state.room c.state.tree u c.state.desks (lost_of c.second.ino))
+      (sym (moved_is c.state.room c.state.tree c.state.desks c.first.dir (dir_node c c.first) c.first.name (number c.first) c.second.dir (dir_node c c.second)
+      c.second.name c.second.ino is.state.tree (moves_name a b)))
+      (moves_loses c.state.room c.state.tree c.state.desks c.first.dir (dir_node c c.first) c.first.name (number c.first) c.second.dir (dir_node c c.second)
+      c.second.name c.second.ino is.state.tree (moves_name a b))
+
+pub rename_leaves : (c : Scene) (is : IsScene c) (pid : ℕ) → get nat_cmp c.state.desks pid ≡ Some c.process
+    → IsWalked c.state.tree Parent c.first → IsWalked c.state.tree Parent c.second → AreMet (rename_demands c) → is_same c ≡ false
+    → MayBeLeft c.state.room (changed c.state.tree (MoveName c.first.dir c.first.name c.second.dir c.second.name)) (with_entry nat_cmp c.state.desks pid c.process)
+rename_leaves c is pid here from to met same =
+    loses_leaves c is pid here (MoveName c.first.dir c.first.name c.second.dir c.second.name) (lost_of c.second.ino)
+    (rename_loses c is (rename_asks c met same) same from to)

@@ -1,0 +1,180 @@
+-- What a sweep leaves to those who use a tree: the processes that fit the tree fit it, swept, and the state is a state.
+use Rattle.std.specs.Prelude.{◌≡◌, ◌≢◌, ℕ, ◌≤◌, ◌==◌, Bool, true, false, not, ◌||◌, cond, List, [], ◌∷◌, length, Option, Some, IsTrue, IsFalse}
+use Rattle.std.proofs.Common.{refl, sym, ap, arith, ◌∙◌, inl, inr}
+use Rattle.std.proofs.lemmas.Bool.{cases_eq, or_left, or_right}
+use Rattle.std.proofs.lemmas.Bool.Decides.{nat_tests}
+use Rattle.std.specs.List.{list_any}
+use Rattle.std.specs.Ordering.{nat_cmp}
+use Rattle.fs_model.specs.Limits.{root, processes_limit}
+use Rattle.fs_layout.specs.Maps.{get, IsMap}
+use Rattle.fs_model.specs.Nodes.{Node, Body, File, Dir, Link, is_directory, is_link, names_in}
+use Rattle.fs_model.specs.Trees.{Tree, Room, node_at, names_of, NamesFit, IsTree, IsDirectoryAt}
+use Rattle.fs_model.specs.Processes.{Desks, Process, Descriptor, is_open, is_in_use}
+use Rattle.fs_model.specs.Changes.{swept, lives_nameless}
+use Rattle.fs_model.specs.States.{State, IsRoom, MayBeFree, IsDescriptor, IsProcess, FitsTree, IsState}
+use Rattle.fs_layout.proofs.FirstEntries.{in_rest}
+use Rattle.fs_model.proofs.Swept.{kept, get-filter, names_of-filter, stays, MayBeSwept, at-swept, kept_from, swept_is_tree}
+
+-- what a step leaves before what nobody can reach leaves the tree: a directory in use stays
+pub record MayBeLeft (room : Room) (u : Tree) (desks : Desks) : Type 0 where
+  pub tree : MayBeSwept room u desks
+  pub pids : IsMap nat_cmp desks
+  pub few : length desks ≤ processes_limit
+  pub processes : (pid : ℕ) (p : Process) → get nat_cmp desks pid ≡ Some p → IsProcess u p
+  pub used : (n : ℕ) (node : Node) → node_at u n ≡ Some node → IsTrue (is_directory node.body) → IsTrue (is_in_use desks n)
+      → stays u desks (n, node) ≡ true
+
+-- ---- tests on maps
+
+-- what holds of an entry holds of some
+any_entry : {X : Type 0} (f : ℕ × X → Bool) (m : List (ℕ × X)) (k : ℕ) (x : X) → get nat_cmp m k ≡ Some x → f (k, x) ≡ true
+    → list_any f m ≡ true
+any_entry f [] k x e t = absurd cc
+any_entry f (e ∷ m) k x g t = elim (in_rest e m k x g) [
+  | inl w ↦
+      let same : f (k, x) ≡ f e = ap (λ q. f (q, x)) w.0 ∙ ap (λ v. f (e.0, v)) w.1 in
+      or_left (f e) (list_any f m) (sym same ∙ t)
+  | inr w ↦ or_right (f e) (list_any f m) (any_entry f m k x w t)
+]
+
+same_is : (n : ℕ) → (n == n) ≡ true
+same_is n = grind (arith, nat_tests)
+
+-- ---- what is open or in use
+
+open_by : (desks : Desks) (pid : ℕ) (p : Process) (fd : ℕ) (d : Descriptor) → get nat_cmp desks pid ≡ Some p
+    → get nat_cmp p.descriptors fd ≡ Some d → is_open desks d.number ≡ true
+open_by desks pid p fd d here there =
+    any_entry (λ q. list_any (λ e. e.1.number == d.number) q.1.descriptors) desks pid p here
+    (any_entry (λ e. e.1.number == d.number) p.descriptors fd d there (same_is d.number))
+
+used_if_open : (desks : Desks) (n : ℕ) → is_open desks n ≡ true → is_in_use desks n ≡ true
+used_if_open desks n h = or_right (n == root || list_any (λ p. p.1.cwd == n) desks) (is_open desks n) h
+
+used_by : (desks : Desks) (pid : ℕ) (p : Process) → get nat_cmp desks pid ≡ Some p → is_in_use desks p.cwd ≡ true
+used_by desks pid p here =
+    or_left (p.cwd == root || list_any (λ q. q.1.cwd == p.cwd) desks) (is_open desks p.cwd)
+    (or_right (p.cwd == root) (list_any (λ q. q.1.cwd == p.cwd) desks)
+    (any_entry (λ q. q.1.cwd == p.cwd) desks pid p here (same_is p.cwd)))
+
+-- ---- the swept tree
+
+module _ (room : Room) (u : Tree) (desks : Desks) (h : MayBeLeft room u desks) where
+  stays_there : (n : ℕ) (node : Node) → node_at u n ≡ Some node → stays u desks (n, node) ≡ true → node_at (swept u desks) n ≡ Some node
+  stays_there = at-swept room u desks h.tree
+
+  was_there : (n : ℕ) (node : Node) (o : Option Node) → node_at u n ≡ o → kept (stays u desks) n o ≡ Some node
+      → stays u desks (n, node) ≡ true
+  was_there n node o e k = (kept_from room u desks h.tree n node o e k).1
+
+  directory_stays : (n : ℕ) → IsDirectoryAt u n → IsTrue (is_in_use desks n) → IsDirectoryAt (swept u desks) n
+  directory_stays n d used = record {
+    node = d.node;
+    is_there = stays_there n d.node d.is_there (h.used n d.node d.is_there d.directory used);
+    directory = d.directory;
+  }
+
+  -- a file that is open lives; a directory that is open is in use
+  open_stays : (n : ℕ) (node : Node) (b : Body) → node.body ≡ b → node_at u n ≡ Some node → is_open desks n ≡ true → IsFalse (is_link b)
+      → stays u desks (n, node) ≡ true
+  open_stays n node (File a bytes) is at opened no_link =
+      or_right (not (names_of u n == 0)) (lives_nameless desks n node.body) (ap (lives_nameless desks n) is ∙ opened)
+  open_stays n node (Dir a d) is at opened no_link = h.used n node at (ap is_directory is) (used_if_open desks n opened)
+  open_stays n node (Link target) is at opened no_link = absurd cc
+
+  descriptor_stays : (fd : ℕ) (d : Descriptor) → IsDescriptor u fd d → is_open desks d.number ≡ true → IsDescriptor (swept u desks) fd d
+  descriptor_stays fd d x opened = record {
+    below = x.below;
+    offset = x.offset;
+    node = x.node;
+    is_there = stays_there d.number x.node x.is_there (open_stays d.number x.node x.node.body refl x.is_there opened x.no_link);
+    no_link = x.no_link;
+    no_writes = x.no_writes;
+  }
+
+  process_stays : (pid : ℕ) (p : Process) → get nat_cmp desks pid ≡ Some p → IsProcess (swept u desks) p
+  process_stays pid p here =
+      let x = h.processes pid p here in
+      record {
+        cred = x.cred;
+        umask = x.umask;
+        cwd = directory_stays p.cwd x.cwd (used_by desks pid p here);
+        descriptors = x.descriptors;
+        each = λ fd d there. descriptor_stays fd d (x.each fd d there) (open_by desks pid p fd d here there);
+      }
+
+  nameless_lives : (n : ℕ) (b : Body) (names : ℕ) → names ≡ 0 → n ≢ root → (not (names == 0) || lives_nameless desks n b) ≡ true
+      → IsTrue (is_open desks n)
+  nameless_lives n b names none ne k =
+      let zero : (names == 0) ≡ true = grind (arith, nat_tests) in
+      let other : (n == root) ≡ false = grind (arith, nat_tests) in
+      let lives : lives_nameless desks n b ≡ true = sym (ap (λ z. not z || lives_nameless desks n b) zero) ∙ k in
+      go b other lives
+    where
+      go : (b : Body) → (n == root) ≡ false → lives_nameless desks n b ≡ true → IsTrue (is_open desks n)
+      go (File a bytes) other lives = lives
+      go (Dir a d) other lives = absurd cc
+      go (Link target) other lives = absurd cc
+
+  swept_fits : FitsTree (swept u desks) desks
+  swept_fits = record {
+    processes = process_stays;
+    nameless = λ n node at none ne.
+        let stood = was_there n node (node_at u n) refl (sym (get-filter (stays u desks) u h.tree.numbers n) ∙ at) in
+        let names : names_of u n ≡ 0 = sym (names_of-filter (stays u desks) u h.tree.numbers h.tree.gone n) ∙ none in
+        nameless_lives n node.body (names_of u n) names ne stood;
+  }
+
+-- the state that is left
+pub left_is_state : (s : State) (u : Tree) (desks : Desks) (free : ℕ) → IsRoom s.room → MayBeLeft s.room u desks
+    → MayBeFree s.room (swept u desks) free → IsState (record s { tree = swept u desks; desks = desks; free = free })
+left_is_state s u desks free room h may = record {
+  room = room;
+  tree = swept_is_tree s.room u desks h.tree;
+  pids = h.pids;
+  few = h.few;
+  free = may;
+  desks = λ runs. swept_fits s.room u desks h;
+}
+
+-- ---- where the tree is one before the sweep
+
+-- a directory has a name, or is the root
+directory_lives : (desks : Desks) (n : ℕ) (b : Body) (names : ℕ) → NamesFit n b names → IsTrue (is_directory b)
+    → (not (names == 0) || lives_nameless desks n b) ≡ true
+directory_lives desks n (File a bytes) names fits d = absurd cc
+directory_lives desks n (Link target) names fits d = absurd cc
+directory_lives desks n (Dir a dir) names fits d = elim (cases_eq n root) [
+  | inl e ↦ or_right (not (names == 0)) (n == root) (let k : (n == root) ≡ true = grind (arith, nat_tests) in k)
+  | inr ne ↦
+      let other : (n == root) ≡ false = grind (arith, nat_tests) in
+      let one : names ≡ 1 = fits ∙ ap (λ q. cond q 0 1) other in
+      let some : (names == 0) ≡ false = grind (arith, nat_tests) in
+      ap (λ z. not z || n == root) some
+]
+
+-- what goes has no names in it
+goes_empty : (desks : Desks) (n : ℕ) (b : Body) (names : ℕ) → NamesFit n b names → (not (names == 0) || lives_nameless desks n b) ≡ false
+    → names_in b ≡ []
+goes_empty desks n (File a bytes) names fits gone = refl
+goes_empty desks n (Link target) names fits gone = refl
+goes_empty desks n (Dir a d) names fits gone =
+    absurd (let lives : (not (names == 0) || n == root) ≡ true = directory_lives desks n (Dir a d) names fits refl in cc)
+
+pub tree_may_be_swept : (room : Room) (t : Tree) (desks : Desks) → IsTree room t → MayBeSwept room t desks
+tree_may_be_swept room t desks is = record {
+  numbers = is.numbers;
+  root_is_there = is.root_is_there;
+  each = λ n node e _. is.each n node e;
+  gone = λ n node e k. goes_empty desks n node.body (names_of t n) (is.each n node e).names k;
+}
+
+pub tree_may_be_left : (room : Room) (u : Tree) (desks : Desks) → IsTree room u → IsMap nat_cmp desks → length desks ≤ processes_limit
+    → ((pid : ℕ) (p : Process) → get nat_cmp desks pid ≡ Some p → IsProcess u p) → MayBeLeft room u desks
+tree_may_be_left room u desks is pids few processes = record {
+  tree = tree_may_be_swept room u desks is;
+  pids = pids;
+  few = few;
+  processes = processes;
+  used = λ n node at d _. directory_lives desks n node.body (names_of u n) (is.each n node at).names d;
+}

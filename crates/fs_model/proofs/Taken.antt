@@ -1,0 +1,253 @@
+-- The sectors that inodes own are at most those that their tree needs, so the count of free sectors is within the machine's bounds.
+use Rattle.std.specs.Prelude.{◌≡◌, ◌≢◌, ℕ, zero, suc, ◌+◌, ◌-◌, ◌*◌, ◌/◌, ◌<◌, ◌≤◌, nat_lt, Bool, true, false, not, List, [], ◌∷◌, ◌++◌, length, if◌then◌else◌, Option, None, Some, is_some, MatchOption, ◌⊎◌}
+use Rattle.std.proofs.Common.{refl, sym, ap, arith, ◌∙◌, subst, inl, inr}
+use Rattle.std.specs.Option.{option_map}
+use Rattle.std.specs.List.{range_with_len}
+use Rattle.std.proofs.lemmas.Bool.{cases_eq, cases_lt, lt-ltb}
+use Rattle.std.proofs.lemmas.List.{length-append}
+use Rattle.std.proofs.lemmas.List.Sums.{sum_by-cons, count_by-le-length}
+use Rattle.std.proofs.lemmas.List.FromFn.{length-range_with_len}
+use Rattle.posix_acl.specs.AccessList.{AccessList, is_extended}
+use Rattle.fs_layout.specs.declared.inode.Inode.{Inode}
+use Rattle.fs_layout.specs.declared.place.Place.{Place}
+use Rattle.fs_layout.specs.Bytes.{SectorMap}
+use Rattle.fs_layout.specs.Inode.{free_inode}
+use Rattle.fs_layout.specs.Ownership.{IsOwned}
+use Rattle.fs_layout.specs.Images.{IsData, bit, block_bitmap, pointer, Part, AccessAcl, DefaultAcl, Indirect, DoubleIndirect, Block, part, Owns, Holds, inode_at, free_sectors}
+use Rattle.fs_layout.specs.Recovered.{recovered}
+use Rattle.fs_layout.proofs.Bits.{has_bit, set_or_clear}
+use Rattle.fs_layout.proofs.Free.{HasNoSector, owns_nothing, free_has_no_sector}
+use Rattle.fs_layout.proofs.ImageSlots.{length-slots}
+use Rattle.fs_layout.proofs.SlotNames.{length-names}
+use Rattle.fs_model.specs.Limits.{target_limit}
+use Rattle.fs_model.specs.Nodes.{Node, Body, File, Dir, Link, target_in, sectors_for, sectors_of}
+use Rattle.fs_model.specs.Trees.{Tree, Room, node_at, names_of, parent, sectors_needed, IsBody, IsTree}
+use Rattle.fs_model.specs.States.{MayBeFree}
+use Rattle.fs_layout.specs.Directories.{slots_bytes}
+use Rattle.fs_layout.specs.AclSector.{HoldsAcl, kept_acl}
+use Rattle.fs_model.specs.StoredNodes.{HoldsBody, HoldsNode}
+use Rattle.fs_model.specs.Stands.{HoldsAll, placed, Stands}
+use Rattle.fs_model.proofs.Counting.{Names, in_first, in_second, passes_or_named}
+use Rattle.fs_layout.proofs.FirstEntries.{in_rest}
+
+-- ---- the sectors of one inode
+
+only : Bool → ℕ → List ℕ
+only b s = if b then s ∷ [] else []
+
+length-only : (b : Bool) (s : ℕ) → length (only b s) ≡ (if b then 1 else 0)
+unfolding only
+length-only true s = refl
+length-only false s = refl
+
+in_only : (b : Bool) (s : ℕ) → b ≡ true → Names (only b s) s
+unfolding only
+in_only true s e = inl refl
+in_only false s e = absurd cc
+
+abbrev blocks : SectorMap → Inode → ℕ → List ℕ
+blocks image v zero = []
+blocks image v (suc n) = pointer image v n ∷ blocks image v n
+
+length-blocks : (image : SectorMap) (v : Inode) (n : ℕ) → length (blocks image v n) ≡ n
+length-blocks image v zero = refl
+length-blocks image v (suc n) = ap (λ k. suc k) (length-blocks image v n)
+
+in_blocks : (image : SectorMap) (v : Inode) (n k : ℕ) → k < n → Names (blocks image v n) (pointer image v k)
+in_blocks image v zero k lt = absurd (omega arith)
+in_blocks image v (suc n) k lt = elim (cases_eq k n) [
+  | inl e ↦ inl (ap (pointer image v) e)
+  | inr ne ↦ inr (in_blocks image v n k (omega arith))
+]
+
+abbrev blocks_for : ℕ → ℕ
+blocks_for size = (size + 511) / 512
+
+-- of so many bytes: the blocks, and the sector of pointers
+content : SectorMap → Inode → ℕ → List ℕ
+content image v size = blocks image v (blocks_for size) ++ only (nat_lt 12 (blocks_for size)) v.indirect
+
+length-content : (image : SectorMap) (v : Inode) (size : ℕ) → length (content image v size) ≡ sectors_for size
+unfolding content
+length-content image v size =
+    let a = length-append (blocks image v (blocks_for size)) (only (nat_lt 12 (blocks_for size)) v.indirect) in
+    let b = length-blocks image v (blocks_for size) in
+    let c = length-only (nat_lt 12 (blocks_for size)) v.indirect in
+    omega (arith, a, b, c)
+
+abbrev taken : SectorMap → Inode → Body → List ℕ
+taken image v (File a bytes) = content image v (length bytes) ++ only (is_extended a) v.acl
+taken image v (Dir a d) = (content image v (128 * length d.names) ++ only (is_extended a) v.acl) ++ only (is_some d.default) v.default_acl
+taken image v (Link target) = pointer image v 0 ∷ []
+
+length-taken : (image : SectorMap) (v : Inode) (b : Body) → length (taken image v b) ≡ sectors_of b
+length-taken image v (File a bytes) =
+    let x = length-append (content image v (length bytes)) (only (is_extended a) v.acl) in
+    let y = length-content image v (length bytes) in
+    let z = length-only (is_extended a) v.acl in
+    omega (arith, x, y, z)
+length-taken image v (Dir a d) =
+    let w = length-append (content image v (128 * length d.names) ++ only (is_extended a) v.acl) (only (is_some d.default) v.default_acl) in
+    let x = length-append (content image v (128 * length d.names)) (only (is_extended a) v.acl) in
+    let y = length-content image v (128 * length d.names) in
+    let z = length-only (is_extended a) v.acl in
+    let q = length-only (is_some d.default) v.default_acl in
+    omega (arith, w, x, y, z, q)
+length-taken image v (Link target) = refl
+
+-- ---- each sector that an inode owns is one of these
+
+in_content : (image : SectorMap) (v : Inode) (size k : ℕ) → (size ≤ 512 * k → pointer image v k ≡ 0) → pointer image v k ≢ 0
+    → Names (content image v size) (pointer image v k)
+unfolding content
+in_content image v size k trim some = elim (cases_lt (512 * k) size) [
+  | inl lt ↦ in_first (blocks image v (blocks_for size)) _ (pointer image v k) (in_blocks image v (blocks_for size) k (omega (arith, lt)))
+  | inr ge ↦ absurd (some (trim ge))
+]
+
+pointers_in_content : (image : SectorMap) (v : Inode) (size : ℕ) → (size ≤ 6144 → v.indirect ≡ 0) → v.indirect ≢ 0 → Names (content image v size) v.indirect
+unfolding content
+pointers_in_content image v size trim some = elim (cases_lt 6144 size) [
+  | inl lt ↦
+      in_second (blocks image v (blocks_for size)) (only (nat_lt 12 (blocks_for size)) v.indirect) v.indirect
+      (in_only (nat_lt 12 (blocks_for size)) v.indirect (lt-ltb 12 (blocks_for size) (omega (arith, lt))))
+  | inr ge ↦ absurd (some (trim ge))
+]
+
+acl_is_extended : (image : SectorMap) (s : ℕ) (a : AccessList) → HoldsAcl image s (kept_acl a) → s ≢ 0 → is_extended a ≡ true
+acl_is_extended image s a h some = go (is_extended a) refl h
+  where
+    go : (b : Bool) → is_extended a ≡ b → HoldsAcl image s (if b then Some a else None) → is_extended a ≡ true
+    go true e x = e
+    go false e x = absurd (some x)
+
+default_is_there : (image : SectorMap) (s : ℕ) (default : Option AccessList) → HoldsAcl image s default → s ≢ 0 → is_some default ≡ true
+default_is_there image s None h some = absurd (some h)
+default_is_there image s (Some a) h some = refl
+
+-- ---- what an inode owns
+
+module _ (image : SectorMap) (v : Inode) where
+  -- of a file or a directory of so many bytes: a block, or the sector of pointers
+  in_bytes : (size : ℕ) (bytes : List ℕ) → Holds image v bytes → length bytes ≡ size → (at : Part) → (at ≡ Indirect) ⊎ ((k : ℕ) × (at ≡ Block k))
+      → part image v at ≢ 0 → Names (content image v size) (part image v at)
+  unfolding part
+  in_bytes size bytes h len at (inl e) some =
+      subst (λ a. Names (content image v size) (part image v a)) (sym e)
+      (pointers_in_content image v size (λ le. h.trim_pointers (omega (arith, h.size, len, le))) (λ none. some (ap (part image v) e ∙ none)))
+  in_bytes size bytes h len at (inr (k, e)) some =
+      subst (λ a. Names (content image v size) (part image v a)) (sym e)
+      (in_content image v size k (λ le. h.trim k (omega (arith, h.size, len, le))) (λ none. some (ap (part image v) e ∙ none)))
+
+  part_taken : (b : Body) → HoldsBody image v b → length (target_in b) ≤ target_limit → (at : Part) → part image v at ≢ 0 → Names (taken image v b) (part image v at)
+  unfolding part
+  part_taken (File a bytes) h short AccessAcl some =
+      in_second (content image v (length bytes)) (only (is_extended a) v.acl) v.acl (in_only (is_extended a) v.acl (acl_is_extended image v.acl a h.has_acl some))
+  part_taken (File a bytes) h short DefaultAcl some = absurd (some h.no_default)
+  part_taken (File a bytes) h short Indirect some =
+      in_first (content image v (length bytes)) (only (is_extended a) v.acl) v.indirect (in_bytes (length bytes) bytes h.holds refl Indirect (inl refl) some)
+  part_taken (File a bytes) h short DoubleIndirect some = absurd (some refl)
+  part_taken (File a bytes) h short (Block k) some =
+      in_first (content image v (length bytes)) (only (is_extended a) v.acl) (pointer image v k) (in_bytes (length bytes) bytes h.holds refl (Block k) (inr (k, refl)) some)
+  part_taken (Dir a d) h short at some = in_directory at some
+    where
+      len : length (slots_bytes h.names.slots) ≡ 128 * length d.names
+      len = let n = h.names in let x = length-slots n.slots n.each in let y = ap length n.are ∙ length-names n.slots n.apart in omega (arith, x, y)
+
+      bytes : List ℕ
+      bytes = content image v (128 * length d.names)
+
+      in_directory : (at : Part) → part image v at ≢ 0 → Names (taken image v (Dir a d)) (part image v at)
+      in_directory AccessAcl some =
+          in_first (bytes ++ only (is_extended a) v.acl) (only (is_some d.default) v.default_acl) v.acl
+          (in_second bytes (only (is_extended a) v.acl) v.acl (in_only (is_extended a) v.acl (acl_is_extended image v.acl a h.has_acl some)))
+      in_directory DefaultAcl some =
+          in_second (bytes ++ only (is_extended a) v.acl) (only (is_some d.default) v.default_acl) v.default_acl
+          (in_only (is_some d.default) v.default_acl (default_is_there image v.default_acl d.default h.has_default some))
+      in_directory Indirect some =
+          in_first (bytes ++ only (is_extended a) v.acl) (only (is_some d.default) v.default_acl) v.indirect
+          (in_first bytes (only (is_extended a) v.acl) v.indirect (in_bytes (128 * length d.names) (slots_bytes h.names.slots) h.names.holds len Indirect (inl refl) some))
+      in_directory DoubleIndirect some = absurd (some refl)
+      in_directory (Block k) some =
+          in_first (bytes ++ only (is_extended a) v.acl) (only (is_some d.default) v.default_acl) (pointer image v k)
+          (in_first bytes (only (is_extended a) v.acl) (pointer image v k) (in_bytes (128 * length d.names) (slots_bytes h.names.slots) h.names.holds len (Block k) (inr (k, refl)) some))
+  part_taken (Link target) h short AccessAcl some = absurd (some h.no_acl)
+  part_taken (Link target) h short DefaultAcl some = absurd (some h.no_default)
+  part_taken (Link target) h short Indirect some = absurd (some (h.holds.trim_pointers (let size = h.holds.size in omega (arith, size, short))))
+  part_taken (Link target) h short DoubleIndirect some = absurd (some refl)
+  part_taken (Link target) h short (Block k) some = elim (cases_eq k 0) [
+    | inl e ↦ inl (ap (pointer image v) e)
+    | inr ne ↦ absurd (some (h.holds.trim k (let size = h.holds.size in omega (arith, size, short, ne))))
+  ]
+
+  owned_is_taken : (b : Body) (s : ℕ) → HoldsBody image v b → length (target_in b) ≤ target_limit → Owns image v s → Names (taken image v b) s
+  owned_is_taken b s h short o = subst (Names (taken image v b)) o.is (part_taken b h short o.at (λ none. o.some (sym o.is ∙ none)))
+
+-- ---- what all inodes own
+
+module _ (p : Place) (image : SectorMap) where
+  abbrev all_taken : Tree → List ℕ
+  all_taken [] = []
+  all_taken (e ∷ t) = taken image (inode_at p image e.0) e.1.body ++ all_taken t
+
+  length-all_taken : (t : Tree) → length (all_taken t) ≡ sectors_needed t
+  length-all_taken [] = refl
+  length-all_taken (e ∷ t) =
+      let whole = length-append (taken image (inode_at p image e.0) e.1.body) (all_taken t) in
+      let here = length-taken image (inode_at p image e.0) e.1.body in
+      let rest = length-all_taken t in
+      omega (arith, whole, here, rest, sum_by-cons (λ (e : ℕ × Node). sectors_of e.1.body) e t)
+
+  in_all : (t : Tree) (n s : ℕ) (node : Node) → node_at t n ≡ Some node → Names (taken image (inode_at p image n) node.body) s → Names (all_taken t) s
+  in_all [] n s node there i = absurd cc
+  in_all (e ∷ t) n s node there i = elim (in_rest e t n node there) [
+    | inl here ↦
+        in_first (taken image (inode_at p image e.0) e.1.body) (all_taken t) s
+        (subst (λ m. Names (taken image (inode_at p image e.0) m.body) s) here.1 (subst (λ k. Names (taken image (inode_at p image k) node.body) s) here.0 i))
+    | inr rest ↦ in_second (taken image (inode_at p image e.0) e.1.body) (all_taken t) s (in_all t n s node rest i)
+  ]
+
+  short_target : (room : Room) (t : Tree) (b : Body) → IsBody room t b → length (target_in b) ≤ target_limit
+  short_target room t (File a bytes) h = omega arith
+  short_target room t (Dir a d) h = omega arith
+  short_target room t (Link target) h = h.short
+
+  -- each sector that an inode owns is needed
+  owned_is_needed : (room : Room) (t : Tree) → IsTree room t → HoldsAll p image (placed t) → (s : ℕ) → IsOwned p image s → Names (all_taken t) s
+  owned_is_needed room t is h s o = go (node_at t o.by) refl (h.nodes o.by o.below)
+    where
+      go : (x : Option Node) → node_at t o.by ≡ x
+          → MatchOption (option_map (λ node. record { node = node; names = names_of t o.by; parent = parent t o.by }) x) (inode_at p image o.by ≡ free_inode) (λ z. HoldsNode image (inode_at p image o.by) z)
+          → Names (all_taken t) s
+      go None e free = absurd (owns_nothing image (inode_at p image o.by) s (subst HasNoSector (sym free) free_has_no_sector) o.is)
+      go (Some node) e held =
+          in_all t o.by s node e (owned_is_taken image (inode_at p image o.by) node.body s held.body (short_target room t node.body (is.each o.by node e).body) o.is)
+
+  free_or_needed : (room : Room) (t : Tree) → IsTree room t → HoldsAll p image (placed t) → (s : ℕ) → IsData p s
+      → (not (bit image block_bitmap s) ≡ true) ⊎ Names (all_taken t) s
+  free_or_needed room t is h s at = elim (set_or_clear (bit image block_bitmap s)) [
+    | inr clear ↦ inl (ap not clear)
+    | inl set ↦ elim ((h.consistent.block_bits s (has_bit h.consistent.place s at.1)).0 set) [
+      | inl low ↦ absurd (let from = at.0 in omega (arith, from, low))
+      | inr (inl past) ↦ absurd (let to = at.1 in omega (arith, to, past))
+      | inr (inr o) ↦ inr (owned_is_needed room t is h s o)
+    ]
+  ]
+
+  pub count_may_be_free : (room : Room) (t : Tree) → room.sectors ≡ p.sectors - p.first_data → IsTree room t → HoldsAll p image (placed t)
+      → MayBeFree room t (free_sectors p image)
+  count_may_be_free room t size is h =
+      let all : ℕ = p.sectors - p.first_data in
+      let free : ℕ → Bool = λ s. not (bit image block_bitmap s) in
+      let enough = passes_or_named (all_taken t) free p.first_data all (λ s from to. free_or_needed room t is h s (from, omega (arith, to))) in
+      let need = length-all_taken t in
+      let few = count_by-le-length free (range_with_len p.first_data all) in
+      let len = length-range_with_len p.first_data all in
+      record { least = omega (arith, enough, need, size); most = omega (arith, few, len, size) }
+
+-- Where an image stands for a tree, the count of free sectors is within the machine's bounds.
+pub free_within_bounds : (sectors : ℕ) (image : SectorMap) (room : Room) (t : Tree) (free : ℕ) → Stands sectors image room t free → MayBeFree room t free
+free_within_bounds sectors image room t free h =
+    let now : SectorMap = recovered sectors image in
+    let size : room.sectors ≡ h.place.sectors - h.place.first_data = ap (λ r. r.sectors) h.room_is in
+    subst (MayBeFree room t) (sym h.free_is) (count_may_be_free h.place now room t size h.tree_is h.holds)

@@ -1,0 +1,97 @@
+-- What a step that changes little leaves as it was.
+use Rattle.std.specs.Prelude.{◌≡◌, ◌≢◌, ℕ, ◌+◌, ◌==◌, Bool, true, false, not, ◌||◌, cond, [], ◌∷◌, length, Some, is_some, IsTrue}
+use Rattle.std.proofs.Common.{refl, sym, ap, arith, ◌∙◌, inl, inr}
+use Rattle.std.proofs.lemmas.Bool.{cases_eq}
+use Rattle.std.proofs.lemmas.Bool.Decides.{nat_tests}
+use Rattle.std.specs.List.{filter}
+use Rattle.std.specs.Ordering.{nat_cmp, is_eq}
+use Rattle.fs_model.specs.Limits.{root}
+use Rattle.fs_layout.specs.Maps.{get, with_entry, IsMap}
+use Rattle.fs_model.specs.Nodes.{Node, Body, File, Dir, Link, names_in, sectors_of, is_directory}
+use Rattle.fs_model.specs.Trees.{Tree, Room, node_at, with_node, names_of, NamesFit, IsTree}
+use Rattle.fs_model.specs.Processes.{Process, Desks, is_open}
+use Rattle.fs_model.specs.Changes.{swept, lives_nameless}
+use Rattle.fs_model.specs.States.{FitsTree}
+use Rattle.fs_model.specs.Laws.{IsRewritten}
+use Rattle.fs_layout.proofs.FirstEntries.{right, tied}
+use Rattle.fs_layout.proofs.MapLaws.{get-with_entry, with_entry-IsMap, same_map, length-with_entry, sum-with_entry, summand}
+use Rattle.fs_model.proofs.Rewrites.{names_of-rewritten, parent-rewritten}
+use Rattle.fs_model.proofs.Swept.{stays, at_first, at_rest}
+
+-- ---- what is swept
+
+-- a filter that every entry passes
+all_stay : (keeps : ℕ × Node → Bool) (t : Tree) → IsMap nat_cmp t → ((n : ℕ) (node : Node) → node_at t n ≡ Some node → keeps (n, node) ≡ true)
+    → filter keeps t ≡ t
+all_stay keeps [] m h = refl
+all_stay keeps (e ∷ t) m h =
+    ap (λ b. cond b (e ∷ filter keeps t) (filter keeps t)) (at_first keeps (λ n node. keeps (n, node) ≡ true) e t h)
+    ∙ ap (λ r. e ∷ r) (all_stay keeps t (right _ _ m) (at_rest keeps (λ n node. keeps (n, node) ≡ true) e t m h))
+
+-- a node that fits stays: by its names, as the root, or by who has it open
+pub fitting_stays : (desks : Desks) (n : ℕ) (b : Body) (names : ℕ) → NamesFit n b names
+    → (names ≡ 0 → n ≢ root → IsTrue (is_open desks n)) → (n ≡ root → IsTrue (is_directory b))
+    → (not (names == 0) || lives_nameless desks n b) ≡ true
+fitting_stays desks n b names fits opened rooted = go (names == 0) refl b fits rooted
+  where
+    go : (zero : Bool) → (names == 0) ≡ zero → (b : Body) → NamesFit n b names → (n ≡ root → IsTrue (is_directory b))
+        → (not zero || lives_nameless desks n b) ≡ true
+    go false z b fits rooted = refl
+    go true z (File a bytes) fits rooted = elim (cases_eq n root) [
+      | inl e ↦ absurd (let c = rooted e in cc)
+      | inr ne ↦ opened (let k : names ≡ 0 = grind (arith, nat_tests) in k) ne
+    ]
+    go true z (Dir a d) fits rooted = elim (cases_eq n root) [
+      | inl e ↦ let k : (n == root) ≡ true = grind (arith, nat_tests) in k
+      | inr ne ↦
+          let k : names ≡ 0 = grind (arith, nat_tests) in
+          let other : (n == root) ≡ false = grind (arith, nat_tests) in
+          let one : names ≡ 1 = fits ∙ ap (λ q. cond q 0 1) other in
+          absurd (omega (arith, k, one))
+    ]
+    go true z (Link target) fits rooted =
+        let k : names ≡ 0 = grind (arith, nat_tests) in
+        let some = fits.0 in
+        absurd (omega (arith, k, some))
+
+-- the root is a directory
+pub root_directory : (room : Room) (t : Tree) (n : ℕ) (node : Node) → IsTree room t → node_at t n ≡ Some node → n ≡ root → IsTrue (is_directory node.body)
+root_directory room t n node is e at =
+    let there : node_at t n ≡ Some is.root_is_there.node = ap (node_at t) at ∙ is.root_is_there.is_there in
+    let same : is.root_is_there.node ≡ node = cc in
+    ap (λ k. is_directory k.body) (sym same) ∙ is.root_is_there.directory
+
+-- where what is open stays open
+pub open_stays : (room : Room) (t : Tree) (old new : Desks) → IsTree room t → FitsTree t old
+    → ((n : ℕ) → IsTrue (is_open old n) → IsTrue (is_open new n)) → swept t new ≡ t
+open_stays room t old new is fits still =
+    all_stay (stays t new) t is.numbers
+    (λ n node e. fitting_stays new n node.body (names_of t n) (is.each n node e).names (λ none ne. still n (fits.nameless n node e none ne)) (root_directory room t n node is e))
+
+pub nothing_to_drop : (room : Room) (t : Tree) (desks : Desks) → IsTree room t → FitsTree t desks → swept t desks ≡ t
+nothing_to_drop room t desks is fits = open_stays room t desks desks is fits (λ n still. still)
+
+-- ---- processes
+
+pub same_process_stays : (desks : Desks) (pid : ℕ) (p : Process) → IsMap nat_cmp desks → get nat_cmp desks pid ≡ Some p
+    → with_entry nat_cmp desks pid p ≡ desks
+same_process_stays desks pid p m there = same_map (with_entry nat_cmp desks pid p) desks (with_entry-IsMap desks pid p m) m
+    (λ q. get-with_entry desks pid p q ∙ at q (is_eq (nat_cmp q pid)) refl)
+  where
+    at : (q : ℕ) (b : Bool) → is_eq (nat_cmp q pid) ≡ b → cond b (Some p) (get nat_cmp desks q) ≡ get nat_cmp desks q
+    at q true t = sym (ap (get nat_cmp desks) (tied q pid t) ∙ there)
+    at q false f = refl
+
+-- ---- one node
+
+pub rewriting_keeps : (t : Tree) (n : ℕ) (old new : Node) → IsMap nat_cmp t → node_at t n ≡ Some old → names_in new.body ≡ names_in old.body
+    → IsRewritten t (with_node t n new) old new
+rewriting_keeps t n old new m was names = record {
+  count = length-with_entry t n new m ∙ ap (λ o. cond (is_some o) (length t) (length t + 1)) was;
+  names = names_of-rewritten t n old new m was names;
+  parents = parent-rewritten t n old new m was names;
+  need =
+      let sectors : ℕ × Node → ℕ = λ e. sectors_of e.1.body in
+      let had : summand sectors n (get nat_cmp t n) ≡ sectors_of old.body = ap (summand sectors n) was in
+      omega (arith, sum-with_entry sectors t n new m, had);
+}

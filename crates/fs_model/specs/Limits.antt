@@ -1,0 +1,50 @@
+-- The limits of this file system: our own values for the names of limits.h (POSIX.1-2017). Those that the layout gives are
+-- its constants.
+--     name_limit, path_limit, links_limit        NAME_MAX, PATH_MAX less 1, SYMLOOP_MAX
+--     target_limit, names_limit, entries_limit        SYMLINK_MAX, LINK_MAX, the names in one directory
+--     file_size_limit        the bytes of one file
+--     descriptors_limit, processes_limit, move_limit        OPEN_MAX, CHILD_MAX, bytes in one read or write
+--     least_free        free data sectors without which nothing is taken
+--     root        the number of the root's inode
+use Rattle.std.specs.Prelude.{ℕ}
+use Rattle.fs_layout.specs.declared.inode.TheConstants.{MAX_FILE_SIZE, MAX_LINK_SIZE}
+use Rattle.fs_layout.specs.declared.place.TheConstants.{ROOT}
+use Rattle.fs_layout.specs.declared.slot.TheConstants.{MAX_NAME, MAX_NAMES}
+
+abbrev pub name_limit : ℕ
+name_limit = MAX_NAME
+
+abbrev pub path_limit : ℕ
+path_limit = 1023
+
+abbrev pub links_limit : ℕ
+links_limit = 40
+
+abbrev pub target_limit : ℕ
+target_limit = MAX_LINK_SIZE
+
+-- of one file or symbolic link
+abbrev pub names_limit : ℕ
+names_limit = 500
+
+abbrev pub entries_limit : ℕ
+entries_limit = MAX_NAMES
+
+abbrev pub file_size_limit : ℕ
+file_size_limit = MAX_FILE_SIZE
+
+-- of one process
+abbrev pub descriptors_limit : ℕ
+descriptors_limit = 32
+
+abbrev pub processes_limit : ℕ
+processes_limit = 64
+
+abbrev pub move_limit : ℕ
+move_limit = 4096
+
+abbrev pub least_free : ℕ
+least_free = 16
+
+abbrev pub root : ℕ
+root = ROOT

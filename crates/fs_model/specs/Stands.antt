@@ -1,0 +1,54 @@
+-- An image stands for a tree: our own layout.
+--     HoldsAll        each inode holds what is placed at its number
+--     placed        what a tree places at each number
+--     room_of        the room of a disk
+--     Stands        the whole: of a disk of so many sectors the image stands for a tree, with so many free sectors
+use Rattle.std.specs.Prelude.{◌≡◌, ℕ, ◌-◌, ◌<◌, nat_eq, nat_le, ◌||◌, Option, Some, is_some, MatchOption}
+use Rattle.std.specs.Option.{option_map}
+use Rattle.fs_layout.specs.declared.superblock.Super.{Super}
+use Rattle.fs_layout.specs.declared.place.Place.{Place}
+use Rattle.fs_layout.specs.declared.place.TheConstants.{COMMIT_SECTOR, SECTOR_BITS}
+use Rattle.fs_layout.specs.Bytes.{SectorMap}
+use Rattle.fs_layout.specs.Superblock.{super_bytes, FitsSuper}
+use Rattle.fs_layout.specs.Inode.{free_inode}
+use Rattle.fs_layout.specs.Place.{the_place}
+use Rattle.fs_layout.specs.Images.{bit, inode_bitmap, inode_at, free_sectors}
+use Rattle.fs_layout.specs.Ownership.{IsConsistent}
+use Rattle.fs_layout.specs.Commit.{IsValidCommit}
+use Rattle.fs_layout.specs.Recovered.{recovered}
+use Rattle.fs_model.specs.Limits.{file_size_limit}
+use Rattle.fs_model.specs.Trees.{Tree, Room, node_at, names_of, parent, IsTree}
+use Rattle.fs_model.specs.StoredNodes.{Placed, HoldsNode}
+
+-- an inode holds the node that is placed at its number, or is free where none is
+abbrev pub HoldsPlaced : Place → SectorMap → ℕ → Option Placed → Type 0
+HoldsPlaced p image n o =
+    MatchOption o (inode_at p image n ≡ free_inode) (λ x. HoldsNode image (inode_at p image n) x)
+
+-- Each inode holds what `what` has at its number, or is free. The inode bitmap says which are not; inode 0 isn't used.
+pub record HoldsAll (p : Place) (image : SectorMap) (what : ℕ → Option Placed) : Type 0 where
+  pub consistent : IsConsistent p image
+  pub nodes : (n : ℕ) → n < p.inodes → HoldsPlaced p image n (what n)
+  pub inode_bits : (n : ℕ) → n < SECTOR_BITS → bit image inode_bitmap n ≡ (nat_eq n 0 || nat_le p.inodes n || is_some (what n))
+
+-- what inode n is to hold for the tree
+abbrev pub placed : Tree → ℕ → Option Placed
+placed t n = option_map (λ node. record { node = node; names = names_of t n; parent = parent t n }) (node_at t n)
+
+-- so many inodes and data sectors, and files of at most so many bytes
+abbrev pub room_of : Place → Room
+room_of p = record { inodes = p.inodes; sectors = p.sectors - p.first_data; file_limit = file_size_limit }
+
+-- A sealed commit counts as if its targets were written. Log and free sectors may hold anything.
+pub record Stands (sectors : ℕ) (image : SectorMap) (room : Room) (tree : Tree) (free : ℕ) : Type 0 where
+  pub super : Super
+  pub place : Place
+  pub super_is : image 0 ≡ super_bytes super
+  pub super_fits : FitsSuper super
+  pub same_size : super.sectors ≡ sectors
+  pub has_place : the_place sectors super.inodes ≡ Some place
+  pub commit_is : IsValidCommit sectors (image COMMIT_SECTOR)
+  pub room_is : room ≡ room_of place
+  pub holds : HoldsAll place (recovered sectors image) (placed tree)
+  pub tree_is : IsTree room tree
+  pub free_is : free ≡ free_sectors place (recovered sectors image)

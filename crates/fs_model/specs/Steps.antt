@@ -1,0 +1,216 @@
+-- The abstract machine, one event after another. What may stand in for an answer is our own rule.
+--     scene_of        what a call finds
+--     firm_refusal, other_refusal        the first refusal of an event, in order
+--     Choice, After, after, state_after        what an event answers and leaves where nothing refuses
+--     Step, Run        one step, and several
+use Rattle.std.specs.Prelude.{◌≡◌, ℕ, ◌+◌, ◌<◌, ◌≤◌, nat_le, Bool, true, false, List, [], ◌∷◌, ◌++◌, length, Option, None, Some, IsTrue, IsFalse, ◌⊎◌}
+use Rattle.std.specs.List.{flat_map}
+use Rattle.std.specs.Ordering.{nat_cmp}
+use Rattle.fs_cred.specs.declared.errno.Errno.TheVariants.{ESRCH, EIO, EAGAIN, ENOMEM}
+use Rattle.fs_cred.specs.declared.refusal.Refusal.{Refusal}
+use Rattle.fs_cred.specs.declared.refusal.Refusal.TheVariants.{Failed}
+use Rattle.fs_model.specs.declared.call.Call.{Call}
+use Rattle.fs_model.specs.declared.call.Call.TheVariants.{Write, Lseek, Close, Fstat, Ftruncate, Umask}
+use Rattle.fs_model.specs.declared.reply.Reply.{Reply}
+use Rattle.fs_model.specs.declared.reply.Reply.TheVariants.{Done, Pid, Space, Refused}
+use Rattle.fs_model.specs.declared.event.Event.{Event}
+use Rattle.fs_model.specs.declared.event.Event.TheVariants.{Spawn, Exit, Call as Calls, Fsync, Statfs, Arm, Restart}
+use Rattle.fs_model.specs.Limits.{processes_limit}
+use Rattle.fs_layout.specs.Maps.{get, with_entry, without}
+use Rattle.fs_model.specs.Trees.{Tree, node_at, free_inodes}
+use Rattle.fs_model.specs.Processes.{Process, Desks, new_process}
+use Rattle.fs_model.specs.Changes.{Change, Same, Make, changed, swept}
+use Rattle.fs_model.specs.States.{State, MayBeFree}
+use Rattle.fs_model.specs.Demands.{Demand, refuse, first_of}
+use Rattle.fs_model.specs.Parts.{parts_of, start_of, path_checks}
+use Rattle.fs_model.specs.declared.walk.Form.{Form}
+use Rattle.fs_model.specs.Trails.{Trail, trail_of}
+use Rattle.fs_model.specs.declared.walk.Found.{Found}
+use Rattle.fs_model.specs.declared.walk.Last.TheVariants.{Top}
+use Rattle.fs_model.specs.Walks.{found_of, first_refusal}
+use Rattle.fs_model.specs.Scenes.{Scene, Effect, Row, is_bad}
+use Rattle.fs_model.specs.Rows.{row_of}
+
+-- ---- what a call finds
+
+abbrev pub trail_in : Tree → ℕ → Form × List ℕ → Trail
+trail_in t cwd walk = trail_of t cwd walk.0 walk.1
+
+-- the refusals of the walks, the first of them with number k
+abbrev pub walk_refusals : Tree → Process → ℕ → List (Form × List ℕ) → List Demand
+walk_refusals t p k [] = []
+walk_refusals t p k (walk ∷ walks) = first_refusal t p.cred k walk.0 (trail_in t p.cwd walk) ∷ walk_refusals t p (k + 1) walks
+
+abbrev pub nothing_found : Found
+nothing_found = record { dir = 0; name = []; last = Top; ino = None; slash = false; step = 0 }
+
+abbrev pub found_by : Tree → ℕ → Form × List ℕ → Found
+found_by t cwd walk = found_of (trail_in t cwd walk) (start_of (parts_of walk.1) cwd)
+
+abbrev pub first_found : Tree → ℕ → List (Form × List ℕ) → Found
+first_found t cwd [] = nothing_found
+first_found t cwd (walk ∷ _) = found_by t cwd walk
+
+abbrev pub second_found : Tree → ℕ → List (Form × List ℕ) → Found
+second_found t cwd [] = nothing_found
+second_found t cwd (_ ∷ walks) = first_found t cwd walks
+
+abbrev pub scene_of : State → Process → Row → Scene
+scene_of s p row = record {
+  state = s;
+  process = p;
+  first = first_found s.tree p.cwd row.walks;
+  second = second_found s.tree p.cwd row.walks;
+}
+
+-- ---- refusals
+
+-- the call's arguments, its paths, and what it asks of the process
+abbrev pub early_refusal : Process → Row → Demand
+early_refusal p row = first_of (row.arguments ++ flat_map (λ walk. path_checks walk.1) row.walks ++ row.early p)
+
+-- its walks, and what it asks of what they have found
+abbrev pub late_refusal : State → Process → Row → Demand
+late_refusal s p row = first_of (walk_refusals s.tree p 1 row.walks ++ row.demands (scene_of s p row))
+
+-- ESRCH where the process isn't there, and else what is asked of it
+abbrev pub demand_of : (Process → Demand) → Option Process → Demand
+demand_of f None = Some (Failed ESRCH)
+demand_of f (Some p) = f p
+
+abbrev pub of_process : State → ℕ → (Process → Demand) → Demand
+of_process s pid f = demand_of f (get nat_cmp s.desks pid)
+
+-- the first of the refusals for which nothing stands in
+unfoldable pub firm_refusal : State → Event → Demand
+firm_refusal s (Calls pid call) = of_process s pid (λ p. early_refusal p (row_of call))
+firm_refusal s (Fsync pid fd) = of_process s pid (λ p. is_bad fd p)
+firm_refusal s (Exit pid) = of_process s pid (λ p. None)
+firm_refusal s (Spawn cred) = refuse EAGAIN (nat_le processes_limit (length s.desks))
+firm_refusal s _ = None
+
+-- the first of the others
+unfoldable pub other_refusal : State → Event → Demand
+other_refusal s (Calls pid call) = of_process s pid (λ p. late_refusal s p (row_of call))
+other_refusal s _ = None
+
+-- ---- what an event leaves
+
+-- the number of a new node, the number of a new process, and how many data sectors are free afterwards
+pub record Choice : Type 0 where
+  pub number : ℕ
+  pub pid : ℕ
+  pub free : ℕ
+
+-- where nothing refuses
+pub record After : Type 0 where
+  pub change : Change
+  pub desks : Desks
+  pub reply : Reply
+
+abbrev pub unchanged : State → Reply → After
+unchanged s reply = record { change = Same; desks = s.desks; reply = reply }
+
+abbrev pub after_effect : State → ℕ → Effect → After
+after_effect s pid effect =
+    record { change = effect.change; desks = with_entry nat_cmp s.desks pid effect.process; reply = effect.reply }
+
+abbrev pub after_call : State → ℕ → Row → ℕ → Option Process → After
+after_call s pid row number None = unchanged s Done
+after_call s pid row number (Some p) = after_effect s pid (row.effect (scene_of s p row) number)
+
+unfoldable pub after : State → Event → Choice → After
+after s (Calls pid call) choice = after_call s pid (row_of call) choice.number (get nat_cmp s.desks pid)
+after s (Exit pid) choice = record { change = Same; desks = without nat_cmp s.desks pid; reply = Done }
+after s (Spawn cred) choice =
+    record { change = Same; desks = with_entry nat_cmp s.desks choice.pid (new_process cred); reply = Pid choice.pid }
+after s Statfs choice = unchanged s (Space s.free (free_inodes s.room s.tree))
+after s _ choice = unchanged s Done
+
+abbrev pub tree_after : State → After → Tree
+tree_after s a = swept (changed s.tree a.change) a.desks
+
+abbrev pub state_after : State → After → ℕ → State
+state_after s a free = record s { tree = tree_after s a; desks = a.desks; free = free }
+
+-- a new node gets a number that the tree lacks
+abbrev pub HasNewNumber : State → Change → Type 0
+HasNewNumber s (Make dir name n node) = (1 ≤ n) × (n < s.room.inodes) × (node_at s.tree n ≡ None)
+HasNewNumber s _ = Unit {0}
+
+-- a new process gets an unused number
+abbrev pub HasNewPid : State → Event → ℕ → Type 0
+HasNewPid s (Spawn cred) pid = get nat_cmp s.desks pid ≡ None
+HasNewPid s _ pid = Unit {0}
+
+pub record IsAllowed (s : State) (e : Event) (choice : Choice) : Type 0 where
+  pub number : HasNewNumber s (after s e choice).change
+  pub pid : HasNewPid s e choice.pid
+  pub free : MayBeFree s.room (tree_after s (after s e choice)) choice.free
+
+-- ---- steps
+
+-- calls and events that never ask for memory are never answered ENOMEM
+abbrev pub asks_in_call : Call → Bool
+asks_in_call (Umask _) = false
+asks_in_call (Lseek _ _ _) = false
+asks_in_call (Write _ _) = false
+asks_in_call (Fstat _) = false
+asks_in_call (Ftruncate _ _) = false
+asks_in_call (Close _) = false
+asks_in_call _ = true
+
+abbrev pub asks_memory : Event → Bool
+asks_memory (Calls _ call) = asks_in_call call
+asks_memory (Spawn _) = true
+asks_memory _ = false
+
+-- the other events are the disk's
+abbrev pub is_of_machine : Event → Bool
+is_of_machine (Arm _) = false
+is_of_machine (Restart _ _) = false
+is_of_machine _ = true
+
+-- nothing refuses the event
+pub record Acts (s : State) (e : Event) (choice : Choice) : Type 0 where
+  pub running : IsFalse s.halted
+  pub early : firm_refusal s e ≡ None
+  pub late : other_refusal s e ≡ None
+  pub allowed : IsAllowed s e choice
+
+-- the desks as they were, or as the event leaves them; no later reply shows which
+abbrev pub HaltedDesks : State → Event → Choice → Desks → Type 0
+HaltedDesks s e choice desks = (desks ≡ s.desks) ⊎ (desks ≡ (after s e choice).desks)
+
+-- From old, the machine may give this reply to an event and go on to new.
+pub data Answers (old : State) (e : Event) (reply : Reply) (new : State) : Type 0 where
+  -- it is halted: EIO, and nothing changes
+  is_halted : IsTrue old.halted → reply ≡ Refused (Failed EIO) → new ≡ old → Answers old e reply new
+  -- the first refusal in order, and nothing changes
+  refuses_early : IsFalse old.halted → (r : Refusal) → firm_refusal old e ≡ Some r
+      → reply ≡ Refused r → new ≡ old → Answers old e reply new
+  refuses_late : IsFalse old.halted → (r : Refusal) → firm_refusal old e ≡ None → other_refusal old e ≡ Some r
+      → reply ≡ Refused r → new ≡ old → Answers old e reply new
+  -- nothing refuses
+  acts : (choice : Choice) → Acts old e choice → reply ≡ (after old e choice).reply
+      → new ≡ state_after old (after old e choice) choice.free → Answers old e reply new
+  -- memory or a read fails, and nothing changes
+  lacks_memory : IsFalse old.halted → firm_refusal old e ≡ None → IsTrue (asks_memory e)
+      → reply ≡ Refused (Failed ENOMEM) → new ≡ old → Answers old e reply new
+  read_fails : IsFalse old.halted → firm_refusal old e ≡ None
+      → reply ≡ Refused (Failed EIO) → new ≡ old → Answers old e reply new
+  -- a write or a sync fails, and the machine halts with its tree as it was
+  write_fails : (choice : Choice) → Acts old e choice → reply ≡ Refused (Failed EIO)
+      → (desks : Desks) → HaltedDesks old e choice desks
+      → new ≡ record old { desks = desks; halted = true } → Answers old e reply new
+
+-- one step of the machine
+abbrev pub Step : State → Event → Reply → State → Type 0
+Step old e reply new = IsTrue (is_of_machine e) × Answers old e reply new
+
+-- one step after another
+abbrev pub Run : State → List Event → List Reply → State → Type 0
+Run old [] [] new = new ≡ old
+Run old (e ∷ es) (reply ∷ replies) new = (mid : State) × Step old e reply mid × Run mid es replies new
+Run old [] (_ ∷ _) new = ⊥
+Run old (_ ∷ _) [] new = ⊥

@@ -1,0 +1,51 @@
+//! What comes to a file system and its disk, and what comes back.
+use crate::bytes::Bytes;
+use crate::call::Call;
+use crate::reply::Reply;
+use fs_cred::Cred;
+
+/// What comes to a file system and its disk.
+#[derive(Drop)]
+pub enum Event {
+    /// A process with this credential begins.
+    Spawn(Cred),
+    /// The process with this number ends.
+    Exit(usize),
+    /// The process with this number makes a call.
+    Call(usize, Call),
+    /// fsync, by the process with this number, of one of its descriptors.
+    Fsync { pid: usize, fd: usize },
+    /// All that was done becomes stable.
+    Sync,
+    /// Asks for the space that is free.
+    Statfs,
+    /// The disk is to fail after so many writes and syncs.
+    Arm(u64),
+    /// The disk stops, with these choices of what it keeps, may be told to fail again after so many writes and syncs,
+    /// and is mounted.
+    Restart(Bytes, Option<u64>),
+}
+
+/// Why a file system isn't mounted again.
+#[derive(Clone, Copy)]
+pub enum RestartFault {
+    /// The disk failed.
+    DiskFault,
+    /// Memory ran out.
+    OutOfMemory,
+}
+
+/// The answer to an event.
+#[derive(Drop)]
+pub enum EventReply {
+    /// What the file system answers.
+    Reply(Reply),
+    /// The disk is armed.
+    Armed,
+    /// The disk is mounted again.
+    Mounted,
+    /// It is not.
+    MountFailed(RestartFault),
+    /// No file system is mounted.
+    Down,
+}

@@ -1,0 +1,10 @@
+pub mod Escapes
+pub mod Cut
+pub mod Each
+pub mod Letters
+pub mod Faulty
+pub mod Numbers
+pub mod OneMeaning
+pub mod Reading
+pub mod Rows
+pub mod Sessions

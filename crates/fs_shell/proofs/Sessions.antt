@@ -1,0 +1,182 @@
+-- A run of a script, line after line.
+use Rattle.std.proofs.Common.{◌≡◌, ℕ, ◌+◌, ◌≤◌, List, [], ◌∷◌, ◌++◌, length, Option, None, Some, IfSome, Ok, Err, refl, sym, ap, subst, ◌∙◌, arith, append_assoc, append-nil, length-append}
+use Rattle.std.specs.Io.KnownBytes.{Consumes, Appends, Keeps, IsAtEnd}
+use Rattle.std.proofs.KnownBytes.{Consumes-nil, Consumes-trans, Appends-nil, Appends-trans, Appends-kept}
+use Rattle.std.proofs.lemmas.Grind.{flat_map-append}
+use Rattle.fs_model.specs.declared.event.Event.{Event}
+use Rattle.fs_model.specs.declared.reply.Reply.{Reply as ReplyType}
+use Rattle.fs_shell.specs.declared.answer.Answer.{Answer}
+use Rattle.fs_shell.specs.declared.answer.Answer.TheVariants.{Nothing, Reply, Fault}
+use Rattle.fs_shell.specs.declared.answer.Count.{Count}
+use Rattle.fs_shell.specs.declared.fault.RunFault.{RunFault}
+use Rattle.fs_shell.specs.declared.fault.RunFault.TheVariants.{TooMuch}
+use Rattle.fs_shell.specs.Lines.{lines_of}
+use Rattle.fs_shell.specs.Scripts.{script_limit, IsTaken, LineRead, IsOver}
+use Rattle.fs_shell.specs.Runs.{answer_text, answers_text, faults_counted, count_faults, LineAnswers, ScriptAnswers, Ran}
+use Rattle.fs_shell.proofs.Cut.{cut_answers}
+
+-- these lines have been taken from an input, and what is left has the others
+abbrev pub AreTaken : List (List ℕ) → Option (List ℕ) → Option (List ℕ) → Type 0
+AreTaken lines None left = Unit {0}
+AreTaken lines (Some xs) None = ⊥
+AreTaken lines (Some xs) (Some ys) = lines_of xs ≡ lines ++ lines_of ys
+
+pub record Running {S : Type 0} (serves : S → Event → ReplyType → S → Type 0) (input left before after : Option (List ℕ)) (given : ℕ) (count : Count) (old now : S) : Type 0 where
+  pub lines : List (List ℕ)
+  pub answers : List Answer
+  pub text : List ℕ
+  pub served : ScriptAnswers serves old lines answers now
+  pub taken : AreTaken lines input left
+  pub consumed : Consumes input left text
+  pub counted : given ≡ length text
+  pub written : Appends before after (answers_text answers)
+  pub lines_counted : count.lines ≡ length lines
+  pub faults_counted : count.faults ≡ count_faults answers
+
+answers_more : {S : Type 0} (serves : S → Event → ReplyType → S → Type 0) (old mid new : S) (lines : List (List ℕ)) (answers : List Answer) (line : List ℕ) (answer : Answer)
+    → ScriptAnswers serves old lines answers mid → LineAnswers serves line mid answer new → ScriptAnswers serves old (lines ++ line ∷ []) (answers ++ answer ∷ []) new
+answers_more serves old mid new [] [] line answer before last = (new, subst (λ s. LineAnswers serves line s answer new) before last, refl)
+answers_more serves old mid new [] (a ∷ answers) line answer before last = absurd before
+answers_more serves old mid new (l ∷ lines) [] line answer before last = absurd before
+answers_more serves old mid new (l ∷ lines) (a ∷ answers) line answer before last =
+    (before.0, before.1, answers_more serves before.0 mid new lines answers line answer before.2 last)
+
+count_more : (answers : List Answer) (answer : Answer) → count_faults (answers ++ answer ∷ []) ≡ count_faults answers + faults_counted answer
+count_more [] answer = omega arith
+count_more (a ∷ answers) answer = omega (arith, count_more answers answer)
+
+takes_more : (lines : List (List ℕ)) (line : List ℕ) (input left next : Option (List ℕ)) → AreTaken lines input left → IsTaken line left next → AreTaken (lines ++ line ∷ []) input next
+takes_more lines line None left next taken more = tt
+takes_more lines line (Some xs) None next taken more = absurd taken
+takes_more lines line (Some xs) (Some ys) None taken more = absurd more
+takes_more lines line (Some xs) (Some ys) (Some zs) taken more =
+    taken ∙ ap (λ ls. lines ++ ls) more ∙ sym (append_assoc lines (line ∷ []) (lines_of zs))
+
+pub starts : {S : Type 0} (serves : S → Event → ReplyType → S → Type 0) (input left before : Option (List ℕ)) (given : ℕ) (count : Count) (s : S)
+    → left ≡ input → given ≡ 0 → count.lines ≡ 0 → count.faults ≡ 0 → Running serves input left before before given count s s
+starts serves input left before given count s same none lines faults = record {
+  lines = [];
+  answers = [];
+  text = [];
+  served = refl;
+  taken = subst (λ l. AreTaken [] input l) (sym same) (nothing_taken input);
+  consumed = subst (λ l. Consumes input l []) (sym same) (Consumes-nil input);
+  counted = none;
+  written = Appends-nil before;
+  lines_counted = lines;
+  faults_counted = faults;
+}
+  where
+    nothing_taken : (input : Option (List ℕ)) → AreTaken [] input input
+    nothing_taken None = tt
+    nothing_taken (Some xs) = refl
+
+-- one line more has been performed and answered
+pub goes_on : {S : Type 0} (serves : S → Event → ReplyType → S → Type 0) (input left next before after later : Option (List ℕ)) (given more : ℕ) (count new_count : Count) (old now new : S)
+    (line : List ℕ) (answer : Answer)
+    → Running serves input left before after given count old now → LineRead left next given more line → LineAnswers serves line now answer new
+    → Appends after later (answer_text answer) → new_count.lines ≡ count.lines + 1 → new_count.faults ≡ count.faults + faults_counted answer
+    → Running serves input next before later more new_count old new
+goes_on serves input left next before after later given more count new_count old now new line answer run read answered wrote lines faults = record {
+  lines = run.lines ++ read.whole ∷ [];
+  answers = run.answers ++ answer ∷ [];
+  text = run.text ++ read.text;
+  served = answers_more serves old now new run.lines run.answers read.whole answer run.served (cut_answers serves line read.whole now answer new read.kept answered);
+  taken = takes_more run.lines read.whole input left next run.taken read.taken;
+  consumed = Consumes-trans input left next run.text read.text run.consumed read.consumed;
+  counted = omega (arith, run.counted, read.counted, length-append run.text read.text);
+  written = subst (Appends before later) (sym (flat_map-append answer_text run.answers (answer ∷ []) ∙ ap (λ t. answers_text run.answers ++ t) (append-nil (answer_text answer))))
+      (Appends-trans before after later (answers_text run.answers) (answer_text answer) run.written wrote);
+  lines_counted = omega (arith, run.lines_counted, lines, length-append run.lines (read.whole ∷ []));
+  faults_counted = omega (arith, run.faults_counted, faults, count_more run.answers answer);
+}
+
+-- no line is left
+all_taken : (lines : List (List ℕ)) (input left : Option (List ℕ)) → AreTaken lines input left → IsAtEnd left → IfSome input (λ xs. lines ≡ lines_of xs)
+all_taken lines None left taken end = tt
+all_taken lines (Some xs) None taken end = absurd taken
+all_taken lines (Some xs) (Some ys) taken end = sym (taken ∙ ap (λ l. lines ++ lines_of l) end ∙ append-nil lines)
+
+all_fit : (input left : Option (List ℕ)) (text : List ℕ) → Consumes input left text → IsAtEnd left → length text ≤ script_limit → IfSome input (λ xs. length xs ≤ script_limit)
+all_fit None left text took end fits = tt
+all_fit (Some xs) None text took end fits = absurd took
+all_fit (Some xs) (Some ys) text took end fits =
+    let whole : length xs ≡ length text = ap length (took ∙ ap (λ l. text ++ l) end ∙ append-nil text) in
+    omega arith
+
+-- the script ends
+pub finishes : {S : Type 0} (serves : S → Event → ReplyType → S → Type 0) (input left before after later : Option (List ℕ)) (given : ℕ) (count : Count) (old now : S)
+    → Running serves input left before after given count old now → IsAtEnd left → given ≤ script_limit → Keeps after later
+    → Ran serves input before later old now (Ok count)
+finishes serves input left before after later given count old now run end fits keeps = record {
+  lines = run.lines;
+  answers = run.answers;
+  served = run.served;
+  outcome = record {
+    all_lines = all_taken run.lines input left run.taken end;
+    written = Appends-kept before after later (answers_text run.answers) run.written keeps;
+    lines_counted = run.lines_counted;
+    faults_counted = run.faults_counted;
+    fits = all_fit input left run.text run.consumed end (omega (arith, run.counted));
+  };
+}
+
+others_of : Option (List ℕ) → List (List ℕ)
+others_of None = []
+others_of (Some ys) = lines_of ys
+
+first_taken : (lines : List (List ℕ)) (input left : Option (List ℕ)) → AreTaken lines input left → IfSome input (λ xs. lines_of xs ≡ lines ++ others_of left)
+unfolding others_of
+first_taken lines None left taken = tt
+first_taken lines (Some xs) None taken = absurd taken
+first_taken lines (Some xs) (Some ys) taken = taken
+
+goes_over : (input left : Option (List ℕ)) (text : List ℕ) (given : ℕ) → Consumes input left text → given ≡ length text → IsOver left given → IsOver input 0
+goes_over None left text given took count over = tt
+goes_over (Some xs) None text given took count over = absurd took
+goes_over (Some xs) (Some ys) text given took count over =
+    let whole : length xs ≡ length (text ++ ys) = ap length took in
+    omega (arith, length-append text ys)
+
+-- it ends early
+pub ends_early : {S : Type 0} (serves : S → Event → ReplyType → S → Type 0) (input left before after later : Option (List ℕ)) (given : ℕ) (count : Count) (old now : S) (fault : RunFault)
+    → Running serves input left before after given count old now → (fault ≡ TooMuch → IsOver left given)
+    → Ran serves input before later old now (Err fault)
+ends_early serves input left before after later given count old now fault run over = record {
+  lines = run.lines;
+  answers = run.answers;
+  served = run.served;
+  outcome = record {
+    rest = others_of left;
+    first_lines = first_taken run.lines input left run.taken;
+    too_much = λ much. goes_over input left run.text given run.consumed run.counted (over much);
+  };
+}
+
+-- after a line that was performed, whose answer wasn't written
+pub ends_unanswered : {S : Type 0} (serves : S → Event → ReplyType → S → Type 0) (input left next before after later : Option (List ℕ)) (given more : ℕ) (count : Count) (old now new : S)
+    (line : List ℕ) (answer : Answer) (fault : RunFault)
+    → Running serves input left before after given count old now → LineRead left next given more line → LineAnswers serves line now answer new
+    → (fault ≡ TooMuch → ⊥) → Ran serves input before later old new (Err fault)
+ends_unanswered serves input left next before after later given more count old now new line answer fault run read answered other = record {
+  lines = run.lines ++ read.whole ∷ [];
+  answers = run.answers ++ answer ∷ [];
+  served = answers_more serves old now new run.lines run.answers read.whole answer run.served (cut_answers serves line read.whole now answer new read.kept answered);
+  outcome = record {
+    rest = others_of next;
+    first_lines = first_taken (run.lines ++ read.whole ∷ []) input next (takes_more run.lines read.whole input left next run.taken read.taken);
+    too_much = λ much. absurd (other much);
+  };
+}
+
+-- before the first line
+pub ends_at_once : {S : Type 0} (serves : S → Event → ReplyType → S → Type 0) (input before : Option (List ℕ)) (s : S) (fault : RunFault)
+    → (fault ≡ TooMuch → ⊥) → Ran serves input before before s s (Err fault)
+ends_at_once serves input before s fault other =
+    ends_early serves input input before before before 0 (record { lines = 0; faults = 0 }) s s fault
+    (starts serves input input before 0 (record { lines = 0; faults = 0 }) s refl refl refl refl) (λ much. absurd (other much))
+
+pub one_fault_at_most : (answer : Answer) → faults_counted answer ≤ 1
+one_fault_at_most Nothing = omega arith
+one_fault_at_most (Reply reply) = omega arith
+one_fault_at_most (Fault fault) = omega arith

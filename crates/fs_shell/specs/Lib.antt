@@ -1,0 +1,7 @@
+pub mod Lines
+pub mod Words
+pub mod Commands
+pub mod Laws
+pub mod Texts
+pub mod Runs
+pub mod Scripts

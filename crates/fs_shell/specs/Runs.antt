@@ -1,0 +1,126 @@
+-- Runs of scripts: which answers lines get, and what is written.
+--     Gives, GivesSaid        what reading comes to
+--     GivesAcl, GivesAclBy        the same of an ACL
+--     IsRow        a row as it is in the program
+--     is_offered, IsOffered        a line asks for no event but those that are served
+--     answer_text, answers_text, count_faults        what is written for answers
+--     LineAnswers, ScriptAnswers        one line, and all lines of a script
+--     Ran        a run of a script
+use Rattle.std.specs.Prelude.{◌≡◌, ◌≢◌, ◌≤◌, ◌+◌, ℕ, Bool, true, false, List, [], ◌∷◌, ◌++◌, length, Option, IfSome, IsTrue, Result, Ok, Err, MatchResult}
+use Rattle.std.specs.List.{flat_map}
+use Rattle.std.specs.Io.KnownBytes.{Appends}
+use Rattle.posix_acl.specs.AccessList.{AccessList}
+use Rattle.fs_model.specs.declared.event.Event.{Event}
+use Rattle.fs_model.specs.declared.event.Event.TheVariants.{Call as CallEvent, Arm, Restart}
+use Rattle.fs_model.specs.declared.reply.Reply.{Reply as ReplyType}
+use Rattle.fs_shell.specs.declared.answer.Answer.{Answer}
+use Rattle.fs_shell.specs.declared.answer.Answer.TheVariants.{Nothing, Reply, Fault}
+use Rattle.fs_shell.specs.declared.answer.Count.{Count}
+use Rattle.fs_shell.specs.declared.command.Row.{Row}
+use Rattle.fs_shell.specs.declared.fault.RunFault.{RunFault}
+use Rattle.fs_shell.specs.declared.fault.RunFault.TheVariants.{TooMuch}
+use Rattle.fs_shell.specs.declared.line.Line.{Line}
+use Rattle.fs_shell.specs.declared.line.Line.TheVariants.{Blank, Event as Asks}
+use Rattle.fs_shell.specs.declared.line.LineFault.{LineFault}
+use Rattle.fs_shell.specs.declared.line.LineFault.TheVariants.{OutOfMemory}
+use Rattle.fs_shell.specs.Lines.{lines_of}
+use Rattle.fs_shell.specs.Commands.{Said, IsSaid, LineSays, CommandRow, name_of, has_pid, words_behind, fewest_words, most_words, acl_said_at, acl_said_by, has_words}
+use Rattle.fs_shell.specs.Scripts.{script_limit, IsOver}
+use Rattle.fs_system.specs.Serving.{is_served}
+use Rattle.fs_shell.specs.Texts.{reply_text, fault_text}
+
+-- What reading comes to, seen by view, is what is said, unless memory ran out.
+abbrev pub Gives : {X Y : Type 0} → (X → Y) → Result X LineFault → Result Y LineFault → Type 0
+Gives view read said = MatchResult read (λ x. said ≡ Ok (view x)) (λ fault. fault ≢ OutOfMemory → said ≡ Err fault)
+
+-- the same where it is known what is said but for the ACL of a text
+abbrev pub GivesSaid : {X : Type 0} → (X → Line) → Result X LineFault → Result Said LineFault → Type 0
+GivesSaid view read said = MatchResult read (λ x. IsSaid said (Ok (view x))) (λ fault. fault ≢ OutOfMemory → IsSaid said (Err fault))
+
+-- The same of an ACL at the end of a line, whatever asks for it.
+abbrev pub GivesAcl : Result (Option AccessList) LineFault → List (List ℕ) → ℕ → Type 0
+GivesAcl read words n = (says : Option AccessList → Event) → GivesSaid (λ acl. Asks (says acl)) read (acl_said_at says words n)
+
+-- the same of one word
+abbrev pub GivesAclBy : Result (Option AccessList) LineFault → List ℕ → Type 0
+GivesAclBy read word = (says : Option AccessList → Event) → GivesSaid (λ acl. Asks (says acl)) read (acl_said_by says word)
+
+-- It is none of the disk's, and no call but those that are served.
+abbrev pub is_offered : Event → Bool
+is_offered (CallEvent pid call) = is_served call
+is_offered (Arm writes) = false
+is_offered (Restart kept writes) = false
+is_offered _ = true
+
+abbrev pub IsOffered : Line → Type 0
+IsOffered Blank = Unit {0}
+IsOffered (Asks e) = IsTrue (is_offered e)
+
+-- a row as it is in the program
+pub record IsRow (r : CommandRow) (held : Row) : Type 0 where
+  pub name : held.name.now ≡ name_of r
+  pub pid : held.has_pid ≡ has_pid r
+  pub fewest : held.least ≡ fewest_words (words_behind r)
+  pub highest : held.most ≡ most_words (words_behind r)
+
+-- ---- answers
+
+-- what is written for an answer: a line, or nothing
+abbrev pub answer_text : Answer → List ℕ
+answer_text Nothing = []
+answer_text (Reply reply) = reply_text reply ++ 10 ∷ []
+answer_text (Fault fault) = fault_text fault ++ 10 ∷ []
+
+-- What is written for the lines of a script.
+abbrev pub answers_text : List Answer → List ℕ
+answers_text answers = flat_map answer_text answers
+
+-- how many lines have something wrong
+abbrev pub faults_counted : Answer → ℕ
+faults_counted Nothing = 0
+faults_counted (Reply _) = 0
+faults_counted (Fault _) = 1
+
+abbrev pub count_faults : List Answer → ℕ
+count_faults [] = 0
+count_faults (answer ∷ answers) = faults_counted answer + count_faults answers
+
+-- ---- runs
+
+-- A line takes a system from old to new, and gets this answer. `serves` says which reply an event may get.
+pub data LineAnswers {S : Type 0} (serves : S → Event → ReplyType → S → Type 0) (line : List ℕ) (old : S) (answer : Answer) (new : S) : Type 0 where
+  -- it asks for nothing
+  is_blank : LineSays line (Ok Blank) → answer ≡ Nothing → new ≡ old → LineAnswers serves line old answer new
+  -- something is wrong with it, and nothing is performed
+  is_faulty : (fault : LineFault) → LineSays line (Err fault) → answer ≡ Fault fault → new ≡ old → LineAnswers serves line old answer new
+  -- memory runs out over its words, and nothing is performed
+  lacks_memory : has_words line ≡ true → answer ≡ Fault OutOfMemory → new ≡ old → LineAnswers serves line old answer new
+  -- it is performed
+  is_performed : (e : Event) (reply : ReplyType) → LineSays line (Ok (Asks e)) → serves old e reply new → answer ≡ Reply reply → LineAnswers serves line old answer new
+
+-- The lines of a script, one after another.
+abbrev pub ScriptAnswers : {S : Type 0} → (S → Event → ReplyType → S → Type 0) → S → List (List ℕ) → List Answer → S → Type 0
+ScriptAnswers serves old [] [] new = new ≡ old
+ScriptAnswers {S} serves old (line ∷ lines) (answer ∷ answers) new = (mid : S) × LineAnswers serves line old answer mid × ScriptAnswers serves mid lines answers new
+ScriptAnswers serves old _ _ new = ⊥
+
+-- The script is done: its lines are all lines of the input, and their answers are what was written.
+pub record Finished (input : Option (List ℕ)) (before after : Option (List ℕ)) (lines : List (List ℕ)) (answers : List Answer) (count : Count) : Type 0 where
+  pub all_lines : IfSome input (λ xs. lines ≡ lines_of xs)
+  pub written : Appends before after (answers_text answers)
+  pub lines_counted : count.lines ≡ length lines
+  pub faults_counted : count.faults ≡ count_faults answers
+  pub fits : IfSome input (λ xs. length xs ≤ script_limit)
+
+-- It ended early: after some of the lines.
+pub record EndedEarly (input : Option (List ℕ)) (lines : List (List ℕ)) (fault : RunFault) : Type 0 where
+  pub rest : List (List ℕ)
+  pub first_lines : IfSome input (λ xs. lines_of xs ≡ lines ++ rest)
+  pub too_much : fault ≡ TooMuch → IsOver input 0
+
+-- A run over an input, where that is known, takes a system from old to new, and what a writer holds from before to after.
+pub record Ran {S : Type 0} (serves : S → Event → ReplyType → S → Type 0) (input before after : Option (List ℕ)) (old new : S) (result : Result Count RunFault) : Type 0 where
+  pub lines : List (List ℕ)
+  pub answers : List Answer
+  pub served : ScriptAnswers serves old lines answers new
+  pub outcome : MatchResult result (Finished input before after lines answers) (EndedEarly input lines)

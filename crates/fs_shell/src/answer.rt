@@ -1,0 +1,71 @@
+//! What is answered to a line, and how it is written.
+ghost use Rattle.std.specs.Prelude.{◌≢◌, ◌++◌, ◌∷◌, [], IfErr, OnOk, string_bytes};
+ghost use Rattle.std.specs.Io.KnownBytes.{Appends};
+ghost use Rattle.fs_shell.specs.declared.fault.RunFault.TheVariants.{TooMuch};
+ghost use Rattle.fs_shell.specs.Runs.{answer_text};
+
+use crate::fault::RunFault;
+use crate::line::LineFault;
+use crate::text::{fault_text, reply_text};
+use fs_model::Reply;
+use std::alloc::Global;
+use std::io::Write;
+
+/// What is answered to a line.
+#[derive(Drop)]
+pub enum Answer {
+    /// Nothing was asked.
+    Nothing,
+    /// The file system's reply.
+    Reply(Reply),
+    /// The line wasn't performed.
+    Fault(LineFault),
+}
+
+/// How many lines a script had.
+#[derive(Clone, Copy, Debug, PartialEq, Eq)]
+pub struct Count {
+    /// All lines, blank ones and comments too.
+    pub lines: usize,
+    /// Those that were answered with a fault.
+    pub faults: usize,
+}
+
+impl Answer {
+    ghost use Rattle.std.specs.Prelude.{◌≡◌};
+    ghost use Rattle.fs_shell.specs.Runs.{faults_counted};
+
+    /// 1 where the line had a fault, and else 0.
+    pub fn faults(&self) -> usize
+        ensures { result ≡ faults_counted self.now }
+    {
+        match self {
+            Answer::Nothing | Answer::Reply(_) => 0,
+            Answer::Fault(_) => 1,
+        }
+    }
+}
+
+/// Writes an answer, if there is one, on a line of its own.
+pub fn write_answer<W: Write>(alloc: Global, writer: &mut W, answer: Answer) -> Result<(), RunFault>
+    ensures written { OnOk result (Appends (W.contents writer.old) (W.contents writer.new) (answer_text answer)) }
+    ensures fault { IfErr result (λ fault. fault ≢ TooMuch) }
+{
+    match answer {
+        Answer::Nothing => Ok(()),
+        Answer::Reply(reply) => write_line(writer, reply_text(alloc, &reply)?),
+        Answer::Fault(fault) => write_line(writer, fault_text(alloc, fault)?),
+    }
+}
+
+fn write_line<W: Write>(writer: &mut W, text: String) -> Result<(), RunFault>
+    ensures written { OnOk result (Appends (W.contents writer.old) (W.contents writer.new) (string_bytes text ++ 10 ∷ [])) }
+    ensures fault { IfErr result (λ fault. fault ≢ TooMuch) }
+{
+    let mut text = text;
+    text.push('\n')?;
+    match writer.write_all(text.as_bytes()) {
+        Ok(()) => Ok(()),
+        Err(_) => Err(RunFault::WriteFault),
+    }
+}

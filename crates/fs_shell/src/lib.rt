@@ -1,0 +1,35 @@
+//! The shell: scripts of lines that ask a file system for something, and the text of what it answers.
+//!
+//! `specs/` says which lines there are and what each says, and which text a reply has.
+#![tactic(auto)]
+
+mod answer;
+mod asking;
+mod command;
+mod fault;
+mod forms;
+mod laws;
+mod line;
+mod operand;
+mod parse;
+#[cfg(test)]
+mod row_data;
+#[cfg(test)]
+mod row_tests;
+mod runner;
+mod script;
+#[cfg(test)]
+mod tests;
+mod text;
+#[cfg(test)]
+mod text_tests;
+mod words;
+
+pub use answer::{Answer, Count};
+pub use fault::RunFault;
+pub use laws::a_line_says_one_thing;
+pub use line::{Line, LineFault, MAX_LINE};
+pub use parse::parse_line;
+pub use runner::run;
+pub use script::MAX_SCRIPT;
+pub use text::{fault_text, reply_text};

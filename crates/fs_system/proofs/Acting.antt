@@ -1,0 +1,222 @@
+-- Steps of the machine for events that change no node.
+use Rattle.std.proofs.Common.{◌≡◌, ℕ, ◌<◌, ◌≤◌, [], length, true, false, None, Some, IsTrue, refl, sym, ap, subst, ◌∙◌, arith, inl, nat_le}
+use Rattle.std.specs.Prelude.{IsFalse, is_some}
+use Rattle.std.proofs.lemmas.Bool.Decides.{nat_tests}
+use Rattle.std.specs.Ordering.{nat_cmp}
+use Rattle.fs_cred.specs.declared.errno.Errno.TheVariants.{ESRCH, EBADF, EIO, ENOMEM, EAGAIN}
+use Rattle.fs_cred.specs.declared.refusal.Refusal.TheVariants.{Failed}
+use Rattle.fs_cred.specs.Credentials.{Credential}
+use Rattle.fs_layout.specs.Maps.{get, with_entry, without}
+use Rattle.fs_model.specs.declared.reply.Reply.{Reply}
+use Rattle.fs_model.specs.declared.reply.Reply.TheVariants.{Done, Pid, Space, Refused}
+use Rattle.fs_model.specs.declared.event.Event.{Event}
+use Rattle.fs_model.specs.declared.event.Event.TheVariants.{Call as Calls, Spawn, Exit, Fsync, Sync, Statfs, Arm, Restart}
+use Rattle.fs_model.specs.Trees.{Tree, free_inodes}
+use Rattle.fs_model.specs.Processes.{Process, Desks, new_process, descriptor}
+use Rattle.fs_model.specs.Changes.{Same, swept}
+use Rattle.fs_model.specs.States.{State, IsState, FitsTree, MayBeFree}
+use Rattle.fs_model.specs.Steps.{Step, Choice, After, HasNewNumber, HasNewPid, Acts, is_of_machine, firm_refusal, other_refusal, after, tree_after}
+use Rattle.fs_model.specs.Steps as step
+use Rattle.fs_model.specs.Stops.{asks_stable}
+use Rattle.fs_model.proofs.Unchanged.{open_stays}
+
+-- ---- a machine that is halted
+
+pub halted_answers : (s : State) (e : Event) → IsTrue (is_of_machine e) → IsTrue s.halted → Step s e (Refused (Failed EIO)) s
+halted_answers s e machine halted = (machine, step.is_halted halted refl refl)
+
+-- ---- where nothing refuses, and no node changes
+
+module _ (s : State) (is : IsState s) (up : IsFalse s.halted) (all : FitsTree s.tree []) where
+  -- each node has a name, so that none is dropped
+  pub none_dropped : (desks : Desks) → swept s.tree desks ≡ s.tree
+  none_dropped desks = open_stays s.room s.tree [] desks is.tree all (λ n opened. absurd cc)
+
+  abbrev pub choice_of : ℕ → Choice
+  choice_of pid = record { number = 0; pid = pid; free = s.free }
+
+  module _ (e : Event) (pid : ℕ) (reply : Reply) (desks : Desks) (machine : IsTrue (is_of_machine e)) (firm : firm_refusal s e ≡ None)
+      (other : other_refusal s e ≡ None)
+      (does : after s e (record { number = 0; pid = pid; free = s.free }) ≡ record { change = Same; desks = desks; reply = reply }) (new : HasNewPid s e pid) where
+    same_tree : tree_after s (after s e (choice_of pid)) ≡ s.tree
+    same_tree = ap (tree_after s) does ∙ none_dropped desks
+
+    acting : Acts s e (choice_of pid)
+    acting = record {
+      running = up;
+      early = firm;
+      late = other;
+      allowed = record {
+        number = subst (λ (a : After). HasNewNumber s a.change) (sym does) tt;
+        pid = new;
+        free = subst (λ (t : Tree). MayBeFree s.room t s.free) (sym same_tree) is.free;
+      };
+    }
+
+    pub acts_alone : Step s e reply (record s { desks = desks })
+    acts_alone = (
+      machine,
+      step.acts (choice_of pid) acting
+          (sym (ap (λ (a : After). a.reply) does))
+          (sym (ap (λ (t : Tree). record s { tree = t; desks = (after s e (choice_of pid)).desks; free = s.free }) same_tree
+          ∙ ap (λ (a : After). record s { desks = a.desks }) does)),
+    )
+
+    -- a write or a sync fails
+    pub halts_alone : Step s e (Refused (Failed EIO)) (record s { halted = true })
+    halts_alone = (machine, step.write_fails (choice_of pid) acting refl s.desks (inl refl) refl)
+
+-- ---- spawn
+
+module _ (s : State) (up : IsFalse s.halted) (cred : Credential) where
+  spawn_firm : length s.desks < 64 → firm_refusal s (Spawn cred) ≡ None
+  unfolding firm_refusal
+  spawn_firm few = let t : nat_le 64 (length s.desks) ≡ false = grind (arith, nat_tests) in rw t refl
+
+  spawn_other : other_refusal s (Spawn cred) ≡ None
+  unfolding other_refusal
+  spawn_other = refl
+
+  spawn_after : (pid : ℕ) → after s (Spawn cred) (record { number = 0; pid = pid; free = s.free })
+      ≡ record { change = Same; desks = with_entry nat_cmp s.desks pid (new_process cred); reply = Pid pid }
+  unfolding after
+  spawn_after pid = refl
+
+  pub spawns : (is : IsState s) (all : FitsTree s.tree []) (pid : ℕ) → get nat_cmp s.desks pid ≡ None → length s.desks < 64
+      → Step s (Spawn cred) (Pid pid) (record s { desks = with_entry nat_cmp s.desks pid (new_process cred) })
+  spawns is all pid new few =
+      acts_alone s is up all (Spawn cred) pid (Pid pid) (with_entry nat_cmp s.desks pid (new_process cred)) refl (spawn_firm few) spawn_other (spawn_after pid) new
+
+  full : 64 ≤ length s.desks → firm_refusal s (Spawn cred) ≡ Some (Failed EAGAIN)
+  unfolding firm_refusal
+  full many = let t : nat_le 64 (length s.desks) ≡ true = grind (arith, nat_tests) in rw t refl
+
+  pub spawn_full : 64 ≤ length s.desks → Step s (Spawn cred) (Refused (Failed EAGAIN)) s
+  spawn_full many = (refl, step.refuses_early up (Failed EAGAIN) (full many) refl refl)
+
+  pub spawn_unmade : length s.desks < 64 → Step s (Spawn cred) (Refused (Failed ENOMEM)) s
+  spawn_unmade few = (refl, step.lacks_memory up (spawn_firm few) refl refl refl)
+
+-- ---- exit
+
+module _ (s : State) (up : IsFalse s.halted) (pid : ℕ) where
+  exit_firm : (p : Process) → get nat_cmp s.desks pid ≡ Some p → firm_refusal s (Exit pid) ≡ None
+  unfolding firm_refusal
+  exit_firm p there = rw there refl
+
+  exit_other : other_refusal s (Exit pid) ≡ None
+  unfolding other_refusal
+  exit_other = refl
+
+  exit_after : after s (Exit pid) (record { number = 0; pid = 0; free = s.free }) ≡ record { change = Same; desks = without nat_cmp s.desks pid; reply = Done }
+  unfolding after
+  exit_after = refl
+
+  pub exits : (is : IsState s) (all : FitsTree s.tree []) (p : Process) → get nat_cmp s.desks pid ≡ Some p
+      → Step s (Exit pid) Done (record s { desks = without nat_cmp s.desks pid })
+  exits is all p there = acts_alone s is up all (Exit pid) 0 Done (without nat_cmp s.desks pid) refl (exit_firm p there) exit_other exit_after tt
+
+  gone : get nat_cmp s.desks pid ≡ None → firm_refusal s (Exit pid) ≡ Some (Failed ESRCH)
+  unfolding firm_refusal
+  gone none = rw none refl
+
+  pub exit_absent : get nat_cmp s.desks pid ≡ None → Step s (Exit pid) (Refused (Failed ESRCH)) s
+  exit_absent none = (refl, step.refuses_early up (Failed ESRCH) (gone none) refl refl)
+
+-- ---- sync and fsync
+
+pub flush_machine : (e : Event) → IsTrue (asks_stable e) → IsTrue (is_of_machine e)
+flush_machine (Fsync pid fd) asks = refl
+flush_machine Sync asks = refl
+flush_machine (Calls pid call) asks = absurd cc
+flush_machine (Spawn cred) asks = absurd cc
+flush_machine (Exit pid) asks = absurd cc
+flush_machine Statfs asks = absurd cc
+flush_machine (Arm k) asks = absurd cc
+flush_machine (Restart bytes arm) asks = absurd cc
+
+module _ (s : State) where
+  flush_other : (e : Event) → IsTrue (asks_stable e) → other_refusal s e ≡ None
+  unfolding other_refusal
+  flush_other (Fsync pid fd) asks = refl
+  flush_other Sync asks = refl
+  flush_other (Calls pid call) asks = absurd cc
+  flush_other (Spawn cred) asks = absurd cc
+  flush_other (Exit pid) asks = absurd cc
+  flush_other Statfs asks = absurd cc
+  flush_other (Arm k) asks = absurd cc
+  flush_other (Restart bytes arm) asks = absurd cc
+
+  flush_after : (e : Event) → IsTrue (asks_stable e) → after s e (record { number = 0; pid = 0; free = s.free }) ≡ record { change = Same; desks = s.desks; reply = Done }
+  unfolding after
+  flush_after (Fsync pid fd) asks = refl
+  flush_after Sync asks = refl
+  flush_after (Calls pid call) asks = absurd cc
+  flush_after (Spawn cred) asks = absurd cc
+  flush_after (Exit pid) asks = absurd cc
+  flush_after Statfs asks = absurd cc
+  flush_after (Arm k) asks = absurd cc
+  flush_after (Restart bytes arm) asks = absurd cc
+
+  flush_pid : (e : Event) → IsTrue (asks_stable e) → HasNewPid s e 0
+  flush_pid (Fsync pid fd) asks = tt
+  flush_pid Sync asks = tt
+  flush_pid (Calls pid call) asks = absurd cc
+  flush_pid (Spawn cred) asks = absurd cc
+  flush_pid (Exit pid) asks = absurd cc
+  flush_pid Statfs asks = absurd cc
+  flush_pid (Arm k) asks = absurd cc
+  flush_pid (Restart bytes arm) asks = absurd cc
+
+  module _ (is : IsState s) (up : IsFalse s.halted) (all : FitsTree s.tree []) (e : Event) (asks : IsTrue (asks_stable e)) (firm : firm_refusal s e ≡ None) where
+    pub flushes : Step s e Done s
+    flushes = acts_alone s is up all e 0 Done s.desks (flush_machine e asks) firm (flush_other e asks) (flush_after e asks) (flush_pid e asks)
+
+    pub flush_halts : Step s e (Refused (Failed EIO)) (record s { halted = true })
+    flush_halts = halts_alone s is up all e 0 Done s.desks (flush_machine e asks) firm (flush_other e asks) (flush_after e asks) (flush_pid e asks)
+
+  pub sync_firm : firm_refusal s Sync ≡ None
+  unfolding firm_refusal
+  sync_firm = refl
+
+  module _ (pid fd : ℕ) (p : Process) (there : get nat_cmp s.desks pid ≡ Some p) where
+    pub fsync_firm : IsTrue (is_some (descriptor p fd)) → firm_refusal s (Fsync pid fd) ≡ None
+    unfolding firm_refusal
+    fsync_firm opened = rw there (rw opened refl)
+
+    fsync_bad : IsFalse (is_some (descriptor p fd)) → firm_refusal s (Fsync pid fd) ≡ Some (Failed EBADF)
+    unfolding firm_refusal
+    fsync_bad closed = rw there (rw closed refl)
+
+    pub fsync_closed : IsFalse s.halted → IsFalse (is_some (descriptor p fd)) → Step s (Fsync pid fd) (Refused (Failed EBADF)) s
+    fsync_closed up closed = (refl, step.refuses_early up (Failed EBADF) (fsync_bad closed) refl refl)
+
+  module _ (pid fd : ℕ) (none : get nat_cmp s.desks pid ≡ None) where
+    fsync_gone : firm_refusal s (Fsync pid fd) ≡ Some (Failed ESRCH)
+    unfolding firm_refusal
+    fsync_gone = rw none refl
+
+    pub fsync_absent : IsFalse s.halted → Step s (Fsync pid fd) (Refused (Failed ESRCH)) s
+    fsync_absent up = (refl, step.refuses_early up (Failed ESRCH) fsync_gone refl refl)
+
+-- ---- statfs
+
+module _ (s : State) (up : IsFalse s.halted) where
+  space_firm : firm_refusal s Statfs ≡ None
+  unfolding firm_refusal
+  space_firm = refl
+
+  space_other : other_refusal s Statfs ≡ None
+  unfolding other_refusal
+  space_other = refl
+
+  space_after : after s Statfs (record { number = 0; pid = 0; free = s.free })
+      ≡ record { change = Same; desks = s.desks; reply = Space s.free (free_inodes s.room s.tree) }
+  unfolding after
+  space_after = refl
+
+  pub tells_space : (is : IsState s) (all : FitsTree s.tree []) → Step s Statfs (Space s.free (free_inodes s.room s.tree)) s
+  tells_space is all = acts_alone s is up all Statfs 0 (Space s.free (free_inodes s.room s.tree)) s.desks refl space_firm space_other space_after tt
+
+  pub space_unread : Step s Statfs (Refused (Failed EIO)) s
+  space_unread = (refl, step.read_fails up space_firm refl refl)

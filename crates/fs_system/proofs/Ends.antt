@@ -1,0 +1,211 @@
+-- What an event comes to: a state, and what was done to the disk.
+use Rattle.std.proofs.Common.{◌≡◌, ◌≤◌, ℕ, [], Bool, true, false, None, IsTrue, refl, sym, ap, subst, ◌∙◌, arith, inl, inr}
+use Rattle.std.specs.Prelude.{IsFalse, ◌&&◌, not, count_by}
+use Rattle.std.specs.List.{range_with_len}
+use Rattle.sector_disk.specs.Disk.{DiskState, Image, IsImage, IsSame, LeavesOnly, OnlyReads, HasFailed, HasFailedToWrite}
+use Rattle.sector_disk.proofs.Moments.{holds_now, narrowed, reads_nothing}
+use Rattle.fs_layout.specs.declared.place.Place.{Place}
+use Rattle.fs_layout.specs.Bytes.{SectorMap}
+use Rattle.fs_layout.specs.Images.{bit, inode_bitmap, free_sectors}
+use Rattle.fs_cred.specs.declared.errno.Errno.TheVariants.{EIO}
+use Rattle.fs_cred.specs.declared.refusal.Refusal.TheVariants.{Failed}
+use Rattle.redo_journal.specs.Meaning.{SameMap, EachReadsAs}
+use Rattle.sector_txn.specs.Images.{LeavesOldOr}
+use Rattle.fs_model.specs.declared.reply.Reply.{Reply}
+use Rattle.fs_model.specs.declared.reply.Reply.TheVariants.{Done, Space, Refused}
+use Rattle.fs_model.specs.declared.event.Event.{Event}
+use Rattle.fs_model.specs.declared.event.Event.TheVariants.{Statfs}
+use Rattle.fs_model.specs.Trees.{Tree, Room, IsTree, free_inodes}
+use Rattle.fs_model.proofs.FreeInodes.{free_are_clear}
+use Rattle.fs_model.specs.Processes.{Desks}
+use Rattle.fs_model.specs.States.{State, IsState, FitsTree}
+use Rattle.fs_model.specs.Steps.{Step, is_of_machine, firm_refusal}
+use Rattle.fs_model.specs.Stops.{asks_stable, makes_stable, is_io_error}
+use Rattle.path_walk.specs.Performing.{IsStateOf}
+use Rattle.fs_system.specs.Doing.{Does, IsFound}
+use Rattle.fs_system.specs.Layouts.{IsDiskOf}
+use Rattle.fs_system.specs.Mounting.{StandsWithNames, MayBeMounted}
+use Rattle.fs_system.specs.Seen.{EachStandsFor, IsRunning}
+use Rattle.fs_system.proofs.Acting.{halted_answers, flushes, flush_halts, tells_space, space_unread}
+use Rattle.fs_system.proofs.Joining.{HoldsCounted, holds_same, disk_same, leaves_found, each_stands}
+
+-- ---- what a stop leaves
+
+pub found_before : (old : DiskState) (s : State) (added : Tree) (image : Image) → IsImage old image → IsFound old s added image
+found_before old s added image is = inl (image, is, λ room t free stands. stands)
+
+-- what was found stands for a tree in which each file has a name
+named_found : (old : DiskState) (s : State) (added : Tree) → MayBeMounted old → (IsFalse s.halted → FitsTree s.tree []) → FitsTree added []
+    → (image : Image) → IsFound old s added image → StandsWithNames image
+named_found old s added may now then image (inl (from, is, stand)) =
+    let was = may from is in
+    (was.0, was.1, was.2, stand was.0 was.1 was.2 was.3, was.4)
+named_found old s added may now then image (inr (inl (up, (free, stands)))) = (s.room, s.tree, free, stands, now up)
+named_found old s added may now then image (inr (inr (free, stands))) = (s.room, added, free, stands, then)
+
+pub mountable_then : (old new : DiskState) (s : State) (added : Tree)
+    → ((t : ℕ) (image : Image) → t ≤ new.moment → IsImage new image → new.left_since t image)
+    → MayBeMounted old → (IsFalse s.halted → FitsTree s.tree []) → FitsTree added [] → LeavesOnly old new (IsFound old s added) → MayBeMounted new
+mountable_then old new s added counts_now may now then run = λ image is. named_found old s added may now then image (holds_now run counts_now is)
+
+-- ---- where the disk is only read
+
+module _ (old new : DiskState) (only_now : (image : Image) → old.left_since old.moment image → IsImage old image) (reads : OnlyReads old new) where
+  read_images : (s : State) (added : Tree) → LeavesOnly old new (IsFound old s added)
+  read_images s added = record {
+    later = reads.later;
+    each = λ image left. found_before old s added image (only_now image (reads.since old.moment image (omega arith) left));
+    before = λ t image le left. inl (reads.since t image le left);
+  }
+
+  pub does_reading : (s t : State) (e : Event) (r : Reply) → IsFalse s.halted → IsFalse t.halted → Step s e r t → makes_stable e r ≡ false
+      → (IsTrue (is_io_error r) → HasFailed old new) → Does old new s e r t
+  does_reading s t e r up still steps unstable cause = record {
+    serves = steps;
+    added = t.tree;
+    is_added = inl refl;
+    images = read_images s t.tree;
+    synced = λ stable. absurd (let c = sym unstable ∙ stable in cc);
+    cause = λ io running. cause io;
+    halts = λ running halted. absurd (let c = sym still ∙ halted in cc);
+    unread = λ io running. reads;
+    later = reads.failures;
+    still = λ halted. absurd (let c = sym up ∙ halted in cc);
+  }
+
+pub mountable_read : (old new : DiskState) → OnlyReads old new → MayBeMounted old → MayBeMounted new
+mountable_read old new reads may = λ image is. may image (narrowed reads.narrowed is)
+
+-- ---- where the disk isn't called
+
+pub same_disk : (disk : DiskState) → IsSame disk disk
+same_disk disk = record { narrowed = record { size = refl; seen = refl; nothing_else = λ n content holds. holds }; kept = λ n content holds. holds }
+
+and_false : (b c : Bool) → c ≡ false → (b && c) ≡ false
+and_false true c e = e
+and_false false c e = refl
+
+module _ (disk : DiskState) (only_now : (image : Image) → disk.left_since disk.moment image → IsImage disk image) where
+  pub does_nothing : (s t : State) (e : Event) (r : Reply) → IsFalse s.halted → IsFalse t.halted → Step s e r t → makes_stable e r ≡ false
+      → is_io_error r ≡ false → Does disk disk s e r t
+  does_nothing s t e r up still steps unstable no_fault =
+      does_reading disk disk only_now reads_nothing s t e r up still steps unstable (λ io. absurd (let c = sym no_fault ∙ io in cc))
+
+  pub does_halted : (s : State) (e : Event) → IsTrue (is_of_machine e) → IsTrue s.halted → Does disk disk s e (Refused (Failed EIO)) s
+  does_halted s e machine halted = record {
+    serves = halted_answers s e machine halted;
+    added = s.tree;
+    is_added = inl refl;
+    images = read_images disk disk only_now reads_nothing s s.tree;
+    synced = λ stable. absurd (let c = sym (and_false (asks_stable e) false refl) ∙ stable in cc);
+    cause = λ io up. absurd (let c = sym halted ∙ up in cc);
+    halts = λ up now. absurd (let c = sym halted ∙ up in cc);
+    unread = λ io up. absurd (let c = sym halted ∙ up in cc);
+    later = omega arith;
+    still = λ h. same_disk disk;
+  }
+
+-- ---- maps with the same data
+
+pub tree_held : (p : Place) (map : SectorMap) (desks : Desks) (s : State) → IsStateOf p map desks s → HoldsCounted p map s.tree s.free
+tree_held p map desks s at =
+    record { holds = at.holds; tree_is = subst (λ (r : Room). IsTree r s.tree) at.same_room at.is_state.tree; free_is = at.free_is }
+
+pub running_same : (size size' : ℕ) (p : Place) (old new : SectorMap) (desks desks' : Desks) (s : State) → size' ≡ size → SameMap new old → desks' ≡ desks
+    → IsRunning size p old desks s → IsRunning size' p new desks' s
+running_same size size' p old new desks desks' s sized same tabled r =
+    let held = holds_same size p old new s.tree s.free same r.disk_is (tree_held p old desks s r.state_of) in
+    record {
+      disk_is = subst (λ n. IsDiskOf n p new) (sym sized) (disk_same size p old new same r.disk_is);
+      state_of = record {
+        is_state = r.state_of.is_state;
+        up = r.state_of.up;
+        same_desks = r.state_of.same_desks ∙ sym tabled;
+        same_room = r.state_of.same_room;
+        holds = held.holds;
+        free_is = held.free_is;
+      };
+      no_nameless = r.no_nameless;
+    }
+
+-- the same tree with other processes
+pub running_with : (size : ℕ) (p : Place) (map : SectorMap) (desks desks' : Desks) (s : State) → IsState (record s { desks = desks' })
+    → IsRunning size p map desks s → IsRunning size p map desks' (record s { desks = desks' })
+running_with size p map desks desks' s is r = record {
+  disk_is = r.disk_is;
+  state_of = record {
+    is_state = is;
+    up = r.state_of.up;
+    same_desks = refl;
+    same_room = r.state_of.same_room;
+    holds = r.state_of.holds;
+    free_is = r.state_of.free_is;
+  };
+  no_nameless = r.no_nameless;
+}
+
+-- ---- what a flush leaves may be mounted
+
+pub flush_mountable : (old new : DiskState) (p : Place) (map : SectorMap) (desks : Desks) (s : State) → IsRunning old.size p map desks s
+    → LeavesOldOr map old new → ((t : ℕ) (image : Image) → t ≤ new.moment → IsImage new image → new.left_since t image) → MayBeMounted old → MayBeMounted new
+flush_mountable old new p map desks s r run counts_now may =
+    let held = tree_held p map desks s r.state_of in
+    mountable_then old new s s.tree counts_now may (λ up. r.no_nameless) r.no_nameless
+    (leaves_found p map map s s.tree s.free old new r.state_of.same_room r.state_of.up r.disk_is held r.disk_is held run)
+
+-- ---- sync and fsync, from a store whose map is `map` on the disk `old`
+
+module _ (old new : DiskState) (p : Place) (map : SectorMap) (desks : Desks) (s : State) (r : IsRunning old.size p map desks s)
+    (run : LeavesOldOr map old new) (later : old.failures ≤ new.failures) (e : Event) (asks : IsTrue (asks_stable e)) (firm : firm_refusal s e ≡ None) where
+  flush_images : LeavesOnly old new (IsFound old s s.tree)
+  flush_images =
+      let held = tree_held p map desks s r.state_of in
+      leaves_found p map map s s.tree s.free old new r.state_of.same_room r.state_of.up r.disk_is held r.disk_is held run
+
+  pub does_flush : EachReadsAs map new → Does old new s e Done s
+  does_flush lasting = record {
+    serves = flushes s r.state_of.is_state r.state_of.up r.no_nameless e asks firm;
+    added = s.tree;
+    is_added = inl refl;
+    images = flush_images;
+    synced = λ stable. subst (λ (q : Room). EachStandsFor q new s.tree) (sym r.state_of.same_room)
+        (each_stands p map s.tree s.free new (subst (λ n. IsDiskOf n p map) (sym run.size) r.disk_is) (tree_held p map desks s r.state_of) lasting);
+    cause = λ io up. absurd cc;
+    halts = λ up halted. absurd (let c = sym up ∙ halted in cc);
+    unread = λ io up. absurd cc;
+    later = later;
+    still = λ halted. absurd (let c = sym r.state_of.up ∙ halted in cc);
+  }
+
+  pub does_flush_halt : HasFailed old new → HasFailedToWrite old new → Does old new s e (Refused (Failed EIO)) (record s { halted = true })
+  does_flush_halt failed unwritten = record {
+    serves = flush_halts s r.state_of.is_state r.state_of.up r.no_nameless e asks firm;
+    added = s.tree;
+    is_added = inl refl;
+    images = flush_images;
+    synced = λ stable. absurd (let c = sym (and_false (asks_stable e) false refl) ∙ stable in cc);
+    cause = λ io up. failed;
+    halts = λ up halted. unwritten;
+    unread = λ io up. absurd cc;
+    later = later;
+    still = λ halted. absurd (let c = sym r.state_of.up ∙ halted in cc);
+  }
+
+-- ---- statfs
+
+module _ (old new : DiskState) (only_now : (image : Image) → old.left_since old.moment image → IsImage old image) (reads : OnlyReads old new)
+    (size : ℕ) (p : Place) (map : SectorMap) (desks : Desks) (s : State) (r : IsRunning size p map desks s) where
+  pub does_count : (sectors inodes : ℕ) → sectors ≡ free_sectors p map
+      → inodes ≡ count_by (λ n. not (bit map inode_bitmap n)) (range_with_len 0 p.inodes) → Does old new s Statfs (Space sectors inodes) s
+  does_count sectors inodes all clear =
+      let held = tree_held p map desks s r.state_of in
+      let numbers : free_inodes s.room s.tree ≡ inodes =
+      ap (λ (q : Room). free_inodes q s.tree) r.state_of.same_room ∙ free_are_clear p map s.tree held.holds held.tree_is ∙ sym clear in
+      let told : Space s.free (free_inodes s.room s.tree) ≡ Space sectors inodes =
+      ap (λ n. Space n (free_inodes s.room s.tree)) (r.state_of.free_is ∙ sym all) ∙ ap (λ n. Space sectors n) numbers in
+      does_reading old new only_now reads s s Statfs (Space sectors inodes) r.state_of.up r.state_of.up
+      (subst (λ (q : Reply). Step s Statfs q s) told (tells_space s r.state_of.up r.state_of.is_state r.no_nameless)) refl (λ io. absurd cc)
+
+  pub does_uncounted : HasFailed old new → Does old new s Statfs (Refused (Failed EIO)) s
+  does_uncounted failed =
+      does_reading old new only_now reads s s Statfs (Refused (Failed EIO)) r.state_of.up r.state_of.up (space_unread s r.state_of.up) refl (λ io. failed)

@@ -1,0 +1,121 @@
+-- What a journal's image reads as, and the tree that it stands for.
+use Rattle.std.proofs.Common.{◌≡◌, ℕ, ◌+◌, ◌/◌, ◌<◌, ◌≤◌, length, refl, sym, subst, ◌∙◌, arith, inl, inr}
+use Rattle.std.specs.Prelude.{IsFalse}
+use Rattle.sector_disk.specs.Disk.{DiskState, Image, sector, LeavesOnly}
+use Rattle.sector_disk.proofs.Moments.{weaker}
+use Rattle.fs_layout.specs.declared.place.Place.{Place}
+use Rattle.fs_layout.specs.Bytes.{SectorMap}
+use Rattle.fs_layout.specs.Images.{block_bitmap, free_sectors}
+use Rattle.fs_layout.specs.Recovered.{recovered}
+use Rattle.fs_layout.proofs.Agree.{same_agrees}
+use Rattle.fs_layout.proofs.Bits.{bit_kept, free_sectors_kept}
+use Rattle.fs_layout.proofs.Places.{place_is_place}
+use Rattle.fs_layout.proofs.RecoveryLaw.{recovered-low}
+use Rattle.redo_journal.specs.Meaning.{SameMap, ReadsAs, MeansAs, EachReadsAs}
+use Rattle.sector_txn.specs.Images.{IsOneOf, LeavesOneOf}
+use Rattle.fs_model.specs.Trees.{Tree, Room, IsTree}
+use Rattle.fs_model.specs.States.{State}
+use Rattle.fs_model.specs.Stands.{HoldsAll, placed, room_of, Stands}
+use Rattle.fs_model.proofs.Frame.{agreed}
+use Rattle.fs_system.specs.Seen.{StandsFor, StandsAs, EachStandsFor}
+use Rattle.fs_system.specs.Doing.{IsFound}
+use Rattle.fs_system.specs.Layouts.{IsDiskOf}
+
+-- a map holds the tree, and so many data sectors are free
+pub record HoldsCounted (p : Place) (map : SectorMap) (t : Tree) (free : ℕ) : Type 0 where
+  pub holds : HoldsAll p map (placed t)
+  pub tree_is : IsTree (room_of p) t
+  pub free_is : free ≡ free_sectors p map
+
+-- a map with the same data holds the same tree
+pub holds_same : (size : ℕ) (p : Place) (old new : SectorMap) (t : Tree) (free : ℕ) → SameMap new old → IsDiskOf size p old → HoldsCounted p old t free
+    → HoldsCounted p new t free
+holds_same size p old new t free same disk h =
+    let place = place_is_place size disk.super.inodes disk.has_place in
+    let least = place.least_sectors in
+    let most = place.most_sectors in
+    let each : (s : ℕ) → 128 ≤ s → s < p.sectors → new s ≡ old s = λ s past low. same s (inr past) in
+    let bits : free_sectors p new ≡ free_sectors p old =
+    free_sectors_kept p old new (λ s at. bit_kept old new block_bitmap s (let to = at.1 in each (block_bitmap + s / 4096) (omega arith) (omega (arith, to, least, most)))) in
+    record {
+      holds = agreed p old new (placed t) h.holds (same_agrees place each);
+      tree_is = h.tree_is;
+      free_is = h.free_is ∙ sym bits;
+    }
+
+pub disk_same : (size : ℕ) (p : Place) (old new : SectorMap) → SameMap new old → IsDiskOf size p old → IsDiskOf size p new
+disk_same size p old new same d = record {
+  super = d.super;
+  super_is = same 0 (inl refl) ∙ d.super_is;
+  super_fits = d.super_fits;
+  same_size = d.same_size;
+  has_place = d.has_place;
+}
+
+-- The image reads as a map that holds the tree, so it stands for the tree.
+pub stands_for : (size : ℕ) (p : Place) (map : SectorMap) (t : Tree) (free : ℕ) (image : Image) → IsDiskOf size p map → HoldsCounted p map t free
+    → ReadsAs size map image → StandsFor (room_of p) image t free
+stands_for size p map t free image disk h reads =
+    let held = holds_same size p map (recovered size (sector image)) t free reads.reads disk h in
+    subst (λ n. Stands n (sector image) (room_of p) t free) (sym reads.whole) (record {
+      super = disk.super;
+      place = p;
+      super_is = sym (recovered-low size (sector image) 0 (omega arith)) ∙ reads.reads 0 (inl refl) ∙ disk.super_is;
+      super_fits = disk.super_fits;
+      same_size = disk.same_size;
+      has_place = disk.has_place;
+      commit_is = reads.commit;
+      room_is = refl;
+      holds = held.holds;
+      tree_is = held.tree_is;
+      free_is = held.free_is;
+    })
+
+-- And the other way round: the map that a disk reads as holds the tree for which it stands.
+module _ (size : ℕ) (image : SectorMap) (room : Room) (t : Tree) (free : ℕ) (st : Stands size image room t free) where
+  pub disk_of_standing : IsDiskOf size st.place (recovered size image)
+  disk_of_standing = record {
+    super = st.super;
+    super_is = recovered-low size image 0 (omega arith) ∙ st.super_is;
+    super_fits = st.super_fits;
+    same_size = st.same_size;
+    has_place = st.has_place;
+  }
+
+  pub holds_of_standing : HoldsCounted st.place (recovered size image) t free
+  holds_of_standing = record { holds = st.holds; tree_is = subst (λ (r : Room). IsTree r t) st.room_is st.tree_is; free_is = st.free_is }
+
+-- What means the same stands for the same.
+pub stands_as : (size : ℕ) (from image : Image) → length from ≡ size → MeansAs size from image → StandsAs from image
+stands_as size from image whole means = λ room t free stands.
+    let st = subst (λ n. Stands n (sector from) room t free) whole stands in
+    let here = stands_for size st.place (recovered size (sector from)) t free image (disk_of_standing size (sector from) room t free st)
+    (holds_of_standing size (sector from) room t free st)
+    (record { whole = means.whole; commit = means.commit.0 st.commit_is; reads = means.reads }) in
+    subst (λ (r : Room). StandsFor r image t free) (sym st.room_is) here
+
+-- ---- from the store's clauses to those of the file system
+
+-- Each image that a stop may leave reads as the map, so it stands for the tree.
+pub each_stands : (p : Place) (map : SectorMap) (t : Tree) (free : ℕ) (disk : DiskState) → IsDiskOf disk.size p map → HoldsCounted p map t free
+    → EachReadsAs map disk → EachStandsFor (room_of p) disk t
+each_stands p map t free disk is h each = λ image left. (free, stands_for disk.size p map t free image is h (each image left))
+
+-- A stop leaves what means as before, or reads as the map before or after.
+pub found_of_one : (p : Place) (before after : SectorMap) (s : State) (added : Tree) (free : ℕ) (old : DiskState)
+    → s.room ≡ room_of p → IsFalse s.halted
+    → IsDiskOf old.size p before → HoldsCounted p before s.tree s.free → IsDiskOf old.size p after → HoldsCounted p after added free
+    → (image : Image) → IsOneOf old before after image → IsFound old s added image
+found_of_one p before after s added free old room up disk h disk' h' image (inl (from, is, means)) =
+    inl (from, is, stands_as old.size from image is.size means)
+found_of_one p before after s added free old room up disk h disk' h' image (inr (inl reads)) =
+    inr (inl (up, (s.free, subst (λ (r : Room). StandsFor r image s.tree s.free) (sym room) (stands_for old.size p before s.tree s.free image disk h reads))))
+found_of_one p before after s added free old room up disk h disk' h' image (inr (inr reads)) =
+    inr (inr (free, subst (λ (r : Room). StandsFor r image added free) (sym room) (stands_for old.size p after added free image disk' h' reads)))
+
+pub leaves_found : (p : Place) (before after : SectorMap) (s : State) (added : Tree) (free : ℕ) (old new : DiskState)
+    → s.room ≡ room_of p → IsFalse s.halted
+    → IsDiskOf old.size p before → HoldsCounted p before s.tree s.free → IsDiskOf old.size p after → HoldsCounted p after added free
+    → LeavesOneOf before after old new → LeavesOnly old new (IsFound old s added)
+leaves_found p before after s added free old new room up disk h disk' h' run =
+    weaker (found_of_one p before after s added free old room up disk h disk' h') run.any_moment

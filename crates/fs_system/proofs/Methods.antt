@@ -1,0 +1,406 @@
+-- What a file system's methods come to.
+use Rattle.std.proofs.Common.{◌≡◌, ◌≤◌, ◌<◌, ◌^◌, ℕ, [], ◌∷◌, length, Bool, true, false, cond, Option, None, Some, Result, Ok, Err, IsTrue, refl, sym, ap, subst, ◌∙◌, arith, inl, inr}
+use Rattle.std.specs.Prelude.{IsFalse, ◌⊎◌, ◌↔◌, OnErr, IfOk, IfErr, is_some, not}
+use Rattle.std.specs.Option.{ok_or}
+use Rattle.std.specs.Ordering.{nat_cmp}
+use Rattle.std.specs.Ordering.{eq_by_cmp}
+use Rattle.std.proofs.lemmas.Bool.{cases_lt}
+use Rattle.sector_disk.specs.Disk.{DiskState, Image, IsImage, HasFailed, HasFailedToWrite}
+use Rattle.fs_layout.specs.declared.place.Place.{Place}
+use Rattle.fs_layout.specs.Bytes.{SectorMap}
+use Rattle.fs_layout.specs.Maps.{get, with_entry, without}
+use Rattle.fs_cred.specs.Credentials.{Credential, IsCredential}
+use Rattle.fs_cred.specs.declared.errno.Errno.{Errno}
+use Rattle.fs_cred.specs.declared.errno.Errno.TheVariants.{EIO, ESRCH, EBADF, EAGAIN, ENOMEM}
+use Rattle.fs_cred.specs.declared.refusal.Refusal.TheVariants.{Failed}
+use Rattle.redo_journal.specs.Meaning.{SameMap, EachReadsAs}
+use Rattle.sector_txn.specs.Images.{LeavesOldOr}
+use Rattle.sector_txn.specs.Stores.{StoreView, present}
+use Rattle.open_files.specs.Tables.{answer_of, answer_of_found, open_at, open_in}
+use Rattle.fs_model.specs.declared.reply.Reply.{Reply}
+use Rattle.fs_model.specs.declared.reply.Reply.TheVariants.{Done, Refused}
+use Rattle.fs_model.specs.declared.event.Event.{Event}
+use Rattle.fs_model.specs.declared.event.Event.TheVariants.{Spawn, Exit, Fsync, Sync, Statfs}
+use Rattle.fs_model.specs.Processes.{Process, Desks, Descriptor, new_process, descriptor}
+use Rattle.fs_model.specs.States.{State, IsState}
+use Rattle.fs_model.specs.Steps.{Step, is_of_machine, firm_refusal}
+use Rattle.fs_model.specs.Stops.{is_io_error}
+use Rattle.fs_model.proofs.StepsKeep.{steps_keep}
+use Rattle.fs_system.specs.Doing.{Does, Happens, HappensLast, FlushesFor}
+use Rattle.fs_system.specs.Mounting.{MayBeMounted, IsSystem, is_halted}
+use Rattle.fs_system.specs.Replies.{spawned, finished}
+use Rattle.fs_system.specs.Seen.{System, Base, disk_in, IsRunning, IsOn}
+use Rattle.fs_system.proofs.Acting.{spawns, spawn_full, spawn_unmade, exits, exit_absent, flush_machine, fsync_firm, fsync_closed, fsync_absent, sync_firm}
+use Rattle.fs_system.proofs.Ends.{does_nothing, does_halted, does_flush, does_flush_halt, flush_mountable, running_same, running_with}
+
+-- ---- tables
+
+pub gone_same : (desks : Desks) (pid : ℕ) → get nat_cmp desks pid ≡ None → without nat_cmp desks pid ≡ desks
+gone_same [] pid none = refl
+gone_same (e ∷ desks) pid none = go (eq_by_cmp nat_cmp pid e.0) none (λ h. gone_same desks pid h)
+  where
+    go : (b : Bool) → cond b (Some e.1) (get nat_cmp desks pid) ≡ None → (get nat_cmp desks pid ≡ None → without nat_cmp desks pid ≡ desks)
+        → cond (not b) (e ∷ without nat_cmp desks pid) (without nat_cmp desks pid) ≡ e ∷ desks
+    go true n ih = absurd cc
+    go false n ih = ap (λ m. e ∷ m) (ih n)
+
+abbrev err_of : Result ℕ Errno → Errno
+err_of (Ok pid) = EIO
+err_of (Err errno) = errno
+
+-- ---- from one system to the next
+
+module _ {D : Type 0} (state : D → DiskState) where
+  -- it is in some state again
+  pub system_then : (old new : System D) (e : Event) (reply : Reply) → Happens state old new e reply → IsSystem state old
+      → MayBeMounted (disk_in state new.base) → IsSystem state new
+  system_then old new e reply happens was may =
+      let next = happens was.in_some.0 was.in_some.1 in
+      record { in_some = (next.0, next.1); mountable = may }
+
+  module _ (only_now : (disk : D) (image : Image) → (state disk).left_since (state disk).moment image → IsImage (state disk) image) where
+    -- ---- a halted one
+
+    pub halted_happens : (fs : System D) (e : Event) → is_halted fs.base ≡ true → IsTrue (is_of_machine e) → Happens state fs fs e (Refused (Failed EIO))
+    halted_happens fs e halted machine s here = go fs.base halted here
+      where
+        go : (b : Base D) → is_halted b ≡ true → IsOn state fs.place fs.desks b s
+            → (t : State) × IsOn state fs.place fs.desks b t × Does (disk_in state b) (disk_in state b) s e (Refused (Failed EIO)) t
+        go None is on = absurd cc
+        go (Some (Ok store)) is on = absurd cc
+        go (Some (Err broken)) is on = (s, on, does_halted (state broken) (only_now broken) s e machine on)
+
+    -- ---- events that change the processes alone
+
+    module _ (fs : System D) (up : is_halted fs.base ≡ false) (desks : Desks) (e : Event) (reply : Reply) where
+      -- a step of the running state is one of the file system
+      pub moves : ((s : State) → IsState s → IsFalse s.halted → s.desks ≡ fs.desks → (size : ℕ) (map : SectorMap) → IsRunning size fs.place map fs.desks s
+          → (t : State) × IsRunning size fs.place map desks t × ((disk : D) → Does (state disk) (state disk) s e reply t))
+          → Happens state fs (record fs { desks = desks }) e reply
+      moves does s here = go fs.base up here
+        where
+          go : (b : Base D) → is_halted b ≡ false → IsOn state fs.place fs.desks b s
+              → (t : State) × IsOn state fs.place desks b t × Does (disk_in state b) (disk_in state b) s e reply t
+          go None is on = absurd on
+          go (Some (Err broken)) is on = absurd cc
+          go (Some (Ok store)) is on =
+              let next = does s on.state_of.is_state on.state_of.up on.state_of.same_desks (state store.disk).size (present state store) on in
+              (next.0, next.1, next.2 store.disk)
+
+    -- ---- spawn
+
+    module _ (fs : System D) (up : is_halted fs.base ≡ false) (cred : Credential) (valid : IsCredential cred) (desks : Desks) (few : length fs.desks < 64) where
+      pub spawn_made : (pid : ℕ) → get nat_cmp fs.desks pid ≡ None → desks ≡ with_entry nat_cmp fs.desks pid (new_process cred)
+          → Happens state fs (record fs { desks = desks }) (Spawn cred) (spawned (Ok pid))
+      spawn_made pid new is =
+          moves fs up desks (Spawn cred) (spawned (Ok pid))
+          (λ s is_state runs same size map on.
+          let none : get nat_cmp s.desks pid ≡ None = ap (λ d. get nat_cmp d pid) same ∙ new in
+          let less : length s.desks < 64 = (let count : length s.desks ≡ length fs.desks = ap length same in omega (arith, count, few)) in
+          let step = spawns s runs cred is_state on.no_nameless pid none less in
+          let t : State = record s { desks = with_entry nat_cmp s.desks pid (new_process cred) } in
+          let t_is : IsState t = steps_keep s t (Spawn cred) (spawned (Ok pid)) is_state valid step in (
+            t,
+            running_same size size fs.place map map (with_entry nat_cmp s.desks pid (new_process cred)) desks t refl (λ n part. refl)
+                (is ∙ sym (ap (λ d. with_entry nat_cmp d pid (new_process cred)) same))
+                (running_with size fs.place map fs.desks (with_entry nat_cmp s.desks pid (new_process cred)) s t_is on),
+            λ disk. does_nothing (state disk) (only_now disk) s t (Spawn cred) (spawned (Ok pid)) runs runs step refl refl,
+          ))
+
+      pub spawn_lacks : desks ≡ fs.desks → Happens state fs (record fs { desks = desks }) (Spawn cred) (spawned (Err ENOMEM))
+      spawn_lacks same_desks =
+          moves fs up desks (Spawn cred) (spawned (Err ENOMEM))
+          (λ s is_state runs same size map on.
+          let less : length s.desks < 64 = (let count : length s.desks ≡ length fs.desks = ap length same in omega (arith, count, few)) in (
+            s,
+            running_same size size fs.place map map fs.desks desks s refl (λ n part. refl) same_desks on,
+            λ disk. does_nothing (state disk) (only_now disk) s s (Spawn cred) (spawned (Err ENOMEM)) runs runs (spawn_unmade s runs cred less) refl refl,
+          ))
+
+    pub spawn_refused : (fs : System D) (up : is_halted fs.base ≡ false) (cred : Credential) (desks : Desks) → 64 ≤ length fs.desks → desks ≡ fs.desks
+        → Happens state fs (record fs { desks = desks }) (Spawn cred) (spawned (Err EAGAIN))
+    spawn_refused fs up cred desks many same_desks =
+        moves fs up desks (Spawn cred) (spawned (Err EAGAIN))
+        (λ s is_state runs same size map on.
+        let more : 64 ≤ length s.desks = (let count : length s.desks ≡ length fs.desks = ap length same in omega (arith, count, many)) in (
+          s,
+          running_same size size fs.place map map fs.desks desks s refl (λ n part. refl) same_desks on,
+          λ disk. does_nothing (state disk) (only_now disk) s s (Spawn cred) (spawned (Err EAGAIN)) runs runs (spawn_full s runs cred more) refl refl,
+        ))
+
+    -- whatever the table of processes answers
+    pub spawn_happens : (fs : System D) → is_halted fs.base ≡ false → (cred : Credential) → IsCredential cred → (desks : Desks) (result : Result ℕ Errno)
+        → IfOk result (λ pid. get nat_cmp fs.desks pid ≡ None)
+        → IfOk result (λ pid. desks ≡ with_entry nat_cmp fs.desks pid (new_process cred))
+        → (result ≡ Err EAGAIN) ↔ (64 ≤ length fs.desks)
+        → IfErr result (λ errno. (errno ≡ EAGAIN) ⊎ (errno ≡ ENOMEM))
+        → OnErr result (desks ≡ fs.desks) → Happens state fs (record fs { desks = desks }) (Spawn cred) (spawned result)
+    spawn_happens fs up cred valid desks (Ok pid) unused added full refused same = elim (cases_lt (length fs.desks) 64) [
+      | inl few ↦ spawn_made fs up cred valid desks few pid unused added
+      | inr many ↦ absurd (let c = full.1 many in cc)
+    ]
+    spawn_happens fs up cred valid desks (Err errno) unused added full refused same = elim refused [
+      | inl again ↦
+          let many : 64 ≤ length fs.desks = full.0 (ap (λ (x : Errno). Err x) again) in
+          subst (λ (x : Errno). Happens state fs (record fs { desks = desks }) (Spawn cred) (spawned (Err x))) (sym again) (spawn_refused fs up cred desks many same)
+      | inr memory ↦ elim (cases_lt (length fs.desks) 64) [
+        | inl few ↦
+            subst (λ (x : Errno). Happens state fs (record fs { desks = desks }) (Spawn cred) (spawned (Err x))) (sym memory) (spawn_lacks fs up cred valid desks few same)
+        | inr many ↦ absurd (let c = full.1 many in let d : ENOMEM ≡ EAGAIN = sym memory ∙ ap err_of c in cc)
+      ]
+    ]
+
+    -- ---- exit
+
+    pub exit_happens : (fs : System D) → is_halted fs.base ≡ false → (pid : ℕ) → pid < 2 ^ 64 → (desks : Desks) (result : Result (Unit {0}) Errno)
+        → result ≡ answer_of fs.desks pid (λ p. Ok tt) → desks ≡ without nat_cmp fs.desks pid
+        → Happens state fs (record fs { desks = desks }) (Exit pid) (finished result)
+    exit_happens fs up pid small desks result answer gone =
+        subst (λ (r : Result (Unit {0}) Errno). Happens state fs (record fs { desks = desks }) (Exit pid) (finished r)) (sym answer) (go (get nat_cmp fs.desks pid) refl)
+      where
+        go : (o : Option Process) → get nat_cmp fs.desks pid ≡ o
+            → Happens state fs (record fs { desks = desks }) (Exit pid) (finished (answer_of_found (λ p. Ok tt) o))
+        go None none =
+            moves fs up desks (Exit pid) (Refused (Failed ESRCH))
+            (λ s is_state runs same size map on.
+            let absent : get nat_cmp s.desks pid ≡ None = ap (λ d. get nat_cmp d pid) same ∙ none in (
+              s,
+              running_same size size fs.place map map fs.desks desks s refl (λ n part. refl) (gone ∙ gone_same fs.desks pid none) on,
+              λ disk. does_nothing (state disk) (only_now disk) s s (Exit pid) (Refused (Failed ESRCH)) runs runs (exit_absent s runs pid absent) refl refl,
+            ))
+        go (Some p) there =
+            moves fs up desks (Exit pid) Done
+            (λ s is_state runs same size map on.
+            let here : get nat_cmp s.desks pid ≡ Some p = ap (λ d. get nat_cmp d pid) same ∙ there in
+            let step = exits s runs pid is_state on.no_nameless p here in
+            let t : State = record s { desks = without nat_cmp s.desks pid } in
+            let t_is : IsState t = steps_keep s t (Exit pid) Done is_state small step in (
+              t,
+              running_same size size fs.place map map (without nat_cmp s.desks pid) desks t refl (λ n part. refl)
+                  (gone ∙ sym (ap (λ d. without nat_cmp d pid) same))
+                  (running_with size fs.place map fs.desks (without nat_cmp s.desks pid) s t_is on),
+              λ disk. does_nothing (state disk) (only_now disk) s t (Exit pid) Done runs runs step refl refl,
+            ))
+
+    -- ---- fsync, where nothing is open there
+
+    pub fsync_refused : (fs : System D) → is_halted fs.base ≡ false → (pid fd : ℕ) (errno : Errno) → open_in fs.desks pid fd ≡ Err errno
+        → Happens state fs fs (Fsync pid fd) (finished (Err errno))
+    fsync_refused fs up pid fd errno closed =
+        moves fs up fs.desks (Fsync pid fd) (Refused (Failed errno))
+        (λ s is_state runs same size map on. (
+          s,
+          on,
+          λ disk. does_nothing (state disk) (only_now disk) s s (Fsync pid fd) (Refused (Failed errno)) runs runs
+              (go s runs (get nat_cmp s.desks pid) refl (ap (λ d. open_in d pid fd) same ∙ closed)) refl (no_fault s (get nat_cmp s.desks pid) (ap (λ d. open_in d pid fd) same ∙ closed)),
+        ))
+      where
+        bad : (s : State) (p : Process) → get nat_cmp s.desks pid ≡ Some p → IsFalse s.halted → (o : Option Descriptor) → descriptor p fd ≡ o
+            → ok_or o EBADF ≡ Err errno → Step s (Fsync pid fd) (Refused (Failed errno)) s
+        bad s p there runs None e is = subst (λ (x : Errno). Step s (Fsync pid fd) (Refused (Failed x)) s) (let same : EBADF ≡ errno = cc in same) (fsync_closed s pid fd p there runs (ap is_some e))
+        bad s p there runs (Some d) e is = absurd cc
+
+        go : (s : State) → IsFalse s.halted → (o : Option Process) → get nat_cmp s.desks pid ≡ o → answer_of_found (open_at fd) o ≡ Err errno
+            → Step s (Fsync pid fd) (Refused (Failed errno)) s
+        go s runs None e is = subst (λ (x : Errno). Step s (Fsync pid fd) (Refused (Failed x)) s) (let same : ESRCH ≡ errno = cc in same) (fsync_absent s pid fd e runs)
+        go s runs (Some p) e is = bad s p e runs (descriptor p fd) refl is
+
+        spared : (o : Option Descriptor) → ok_or o EBADF ≡ Err errno → is_io_error (Refused (Failed errno)) ≡ false
+        spared None is = ap (λ (x : Errno). is_io_error (Refused (Failed x))) (let same : errno ≡ EBADF = cc in same)
+        spared (Some d) is = absurd cc
+
+        no_fault : (s : State) (o : Option Process) → answer_of_found (open_at fd) o ≡ Err errno → is_io_error (Refused (Failed errno)) ≡ false
+        no_fault s None is = ap (λ (x : Errno). is_io_error (Refused (Failed x))) (let same : errno ≡ ESRCH = cc in same)
+        no_fault s (Some p) is = spared (descriptor p fd) is
+
+    -- what is open there
+    pub open_firm : (s : State) (desks : Desks) (pid fd : ℕ) (d : Descriptor) → s.desks ≡ desks → open_in desks pid fd ≡ Ok d → firm_refusal s (Fsync pid fd) ≡ None
+    open_firm s desks pid fd d same opened = go (get nat_cmp s.desks pid) refl (ap (λ t. open_in t pid fd) same ∙ opened)
+      where
+        found : (p : Process) → get nat_cmp s.desks pid ≡ Some p → (o : Option Descriptor) → descriptor p fd ≡ o → ok_or o EBADF ≡ Ok d → firm_refusal s (Fsync pid fd) ≡ None
+        found p there None e is = absurd cc
+        found p there (Some x) e is = fsync_firm s pid fd p there (ap is_some e)
+
+        go : (o : Option Process) → get nat_cmp s.desks pid ≡ o → answer_of_found (open_at fd) o ≡ Ok d → firm_refusal s (Fsync pid fd) ≡ None
+        go None e is = absurd cc
+        go (Some p) e is = found p e (descriptor p fd) refl is
+
+    -- ---- sync and fsync
+
+    module _ (place : Place) (desks : Desks) (e : Event) where
+      pub flush_done : (before after : StoreView D) → SameMap (present state after) (present state before)
+          → LeavesOldOr (present state before) (state before.disk) (state after.disk) → EachReadsAs (present state before) (state after.disk)
+          → (state before.disk).failures ≤ (state after.disk).failures
+          → FlushesFor state (record { base = Some (Ok before); place = place; desks = desks }) (record { base = Some (Ok after); place = place; desks = desks }) e Done
+      flush_done before after same run lasting later asks s r firm = (
+        s,
+        running_same (state before.disk).size (state after.disk).size place (present state before) (present state after) desks desks s run.size same refl r,
+        does_flush (state before.disk) (state after.disk) place (present state before) desks s r run later e asks firm lasting,
+      )
+
+      pub flush_broke : (before : StoreView D) (broken : D) → LeavesOldOr (present state before) (state before.disk) (state broken)
+          → (state before.disk).failures ≤ (state broken).failures → HasFailed (state before.disk) (state broken) → HasFailedToWrite (state before.disk) (state broken)
+          → FlushesFor state (record { base = Some (Ok before); place = place; desks = desks }) (record { base = Some (Err broken); place = place; desks = desks }) e
+          (Refused (Failed EIO))
+      flush_broke before broken run later failed unwritten asks s r firm = (
+        record s { halted = true },
+        refl,
+        does_flush_halt (state before.disk) (state broken) place (present state before) desks s r run later e asks firm failed unwritten,
+      )
+
+      pub flush_halted : (broken : D)
+          → FlushesFor state (record { base = Some (Err broken); place = place; desks = desks }) (record { base = Some (Err broken); place = place; desks = desks }) e
+          (Refused (Failed EIO))
+      flush_halted broken asks s r firm = (s, r, does_halted (state broken) (only_now broken) s e (flush_machine e asks) r)
+
+    -- ---- as methods do it: of the parts of a file system, which is seen so
+
+    module _ (base : Base D) (place : Place) (procs : Desks) (fs : System D) (view_is : record { base = base; place = place; desks = procs } ≡ fs) where
+      abbrev inside : System D
+      inside = record { base = base; place = place; desks = procs }
+
+      module _ (up : is_halted fs.base ≡ false) where
+        up_inside : is_halted base ≡ false
+        up_inside = ap (λ (x : System D). is_halted x.base) view_is ∙ up
+
+        -- fsync
+        pub fsync_unopened : (pid fd : ℕ) (errno : Errno) → open_in procs pid fd ≡ Err errno → Happens state fs fs (Fsync pid fd) (finished (Err errno))
+        fsync_unopened pid fd errno closed =
+            subst (λ (x : System D). Happens state x x (Fsync pid fd) (finished (Err errno))) view_is (fsync_refused inside up_inside pid fd errno closed)
+
+        pub fsync_flushed : (pid fd : ℕ) (d : Descriptor) → open_in procs pid fd ≡ Ok d → (new : System D) (reply : Reply)
+            → FlushesFor state fs new (Fsync pid fd) reply → Happens state fs new (Fsync pid fd) reply
+        fsync_flushed pid fd d opened new reply flushes =
+            λ s on. flushes refl s on
+            (open_firm s fs.desks pid fd d (go fs.base up s on) (ap (λ (x : System D). open_in x.desks pid fd) (sym view_is) ∙ opened))
+          where
+            go : (b : Base D) → is_halted b ≡ false → (s : State) → IsOn state fs.place fs.desks b s → s.desks ≡ fs.desks
+            go None running s on = absurd on
+            go (Some (Ok store)) running s on = on.state_of.same_desks
+            go (Some (Err broken)) running s on = absurd cc
+
+        -- exit
+        module _ (pid : ℕ) (small : pid < 2 ^ 64) (desks : Desks) (result : Result (Unit {0}) Errno) (answer : result ≡ answer_of procs pid (λ p. Ok tt))
+            (gone : desks ≡ without nat_cmp procs pid) where
+          pub exit_returns : Happens state fs (record { base = base; place = place; desks = desks }) (Exit pid) (finished result)
+          exit_returns =
+              subst (λ (x : System D). Happens state x (record { base = base; place = place; desks = desks }) (Exit pid) (finished result)) view_is
+              (exit_happens inside up_inside pid small desks result answer gone)
+
+          pub exit_system : IsSystem state (record { base = base; place = place; desks = procs }) → IsSystem state (record { base = base; place = place; desks = desks })
+          exit_system was =
+              system_then inside (record { base = base; place = place; desks = desks }) (Exit pid) (finished result)
+              (exit_happens inside up_inside pid small desks result answer gone) was was.mountable
+
+        -- spawn
+        module _ (cred : Credential) (valid : IsCredential cred) (desks : Desks) (result : Result ℕ Errno)
+            (unused : IfOk result (λ pid. get nat_cmp procs pid ≡ None))
+            (added : IfOk result (λ pid. desks ≡ with_entry nat_cmp procs pid (new_process cred)))
+            (full : (result ≡ Err EAGAIN) ↔ (64 ≤ length procs))
+            (refused : IfErr result (λ errno. (errno ≡ EAGAIN) ⊎ (errno ≡ ENOMEM)))
+            (same : OnErr result (desks ≡ procs)) where
+          pub spawn_returns : Happens state fs (record { base = base; place = place; desks = desks }) (Spawn cred) (spawned result)
+          spawn_returns =
+              subst (λ (x : System D). Happens state x (record { base = base; place = place; desks = desks }) (Spawn cred) (spawned result)) view_is
+              (spawn_happens inside up_inside cred valid desks result unused added full refused same)
+
+          pub spawn_system : IsSystem state (record { base = base; place = place; desks = procs }) → IsSystem state (record { base = base; place = place; desks = desks })
+          spawn_system was =
+              system_then inside (record { base = base; place = place; desks = desks }) (Spawn cred) (spawned result)
+              (spawn_happens inside up_inside cred valid desks result unused added full refused same) was was.mountable
+
+      -- where a commit has failed
+      pub broken_returns : (broken : D) → base ≡ Some (Err broken) → (e : Event) → IsTrue (is_of_machine e)
+          → Happens state fs (record { base = Some (Err broken); place = place; desks = procs }) e (Refused (Failed EIO))
+      broken_returns broken is e machine =
+          subst (λ (x : System D). Happens state x (record { base = Some (Err broken); place = place; desks = procs }) e (Refused (Failed EIO)))
+          (ap (λ (b : Base D). record { base = b; place = place; desks = procs }) (sym is) ∙ view_is)
+          (halted_happens (record { base = Some (Err broken); place = place; desks = procs }) e refl machine)
+
+      pub broken_flushes : (broken : D) → base ≡ Some (Err broken) → (e : Event)
+          → FlushesFor state fs (record { base = Some (Err broken); place = place; desks = procs }) e (Refused (Failed EIO))
+      broken_flushes broken is e =
+          subst (λ (x : System D). FlushesFor state x (record { base = Some (Err broken); place = place; desks = procs }) e (Refused (Failed EIO)))
+          (ap (λ (b : Base D). record { base = b; place = place; desks = procs }) (sym is) ∙ view_is) (flush_halted place procs e broken)
+
+      pub last_halted : (broken : D) → base ≡ Some (Err broken) → (disk : D) → disk ≡ broken → HappensLast state fs disk Sync (Refused (Failed EIO))
+      last_halted broken is disk here =
+          subst (λ (d : D). HappensLast state fs d Sync (Refused (Failed EIO))) (sym here)
+          (subst (λ (x : System D). HappensLast state x broken Sync (Refused (Failed EIO)))
+          (ap (λ (b : Base D). record { base = b; place = place; desks = procs }) (sym is) ∙ view_is)
+          (λ s r. (s, does_halted (state broken) (only_now broken) s Sync refl r)))
+
+      pub broken_replies : (broken : D) → base ≡ Some (Err broken) → (e : Event) → IsTrue (is_of_machine e) → (reply : Reply) → reply ≡ Refused (Failed EIO)
+          → Happens state fs (record { base = Some (Err broken); place = place; desks = procs }) e reply
+      broken_replies broken is e machine reply told =
+          subst (λ (q : Reply). Happens state fs (record { base = Some (Err broken); place = place; desks = procs }) e q) (sym told)
+          (broken_returns broken is e machine)
+
+      -- with a store
+      module _ (before : StoreView D) (is : base ≡ Some (Ok before)) where
+        seen_so : record { base = Some (Ok before); place = place; desks = procs } ≡ fs
+        seen_so = ap (λ (b : Base D). record { base = b; place = place; desks = procs }) (sym is) ∙ view_is
+
+        pub space_returns : (after : StoreView D) (reply : Reply)
+            → ((s : State) → IsRunning (state before.disk).size place (present state before) procs s
+            → IsRunning (state after.disk).size place (present state after) procs s × Does (state before.disk) (state after.disk) s Statfs reply s)
+            → Happens state fs (record { base = Some (Ok after); place = place; desks = procs }) Statfs reply
+        space_returns after reply does =
+            subst (λ (x : System D). Happens state x (record { base = Some (Ok after); place = place; desks = procs }) Statfs reply) seen_so
+            (λ s r. let done = does s r in (s, done.0, done.1))
+
+        module _ (after : StoreView D) (same : SameMap (present state after) (present state before))
+            (run : LeavesOldOr (present state before) (state before.disk) (state after.disk)) (lasting : EachReadsAs (present state before) (state after.disk))
+            (later : (state before.disk).failures ≤ (state after.disk).failures) where
+          pub flush_returns : (e : Event) → FlushesFor state fs (record { base = Some (Ok after); place = place; desks = procs }) e Done
+          flush_returns e =
+              subst (λ (x : System D). FlushesFor state x (record { base = Some (Ok after); place = place; desks = procs }) e Done) seen_so
+              (flush_done place procs e before after same run lasting later)
+
+          pub last_done : (disk : D) → disk ≡ after.disk → HappensLast state fs disk Sync Done
+          last_done disk here =
+              subst (λ (d : D). HappensLast state fs d Sync Done) (sym here)
+              (subst (λ (x : System D). HappensLast state x after.disk Sync Done) seen_so
+              (λ s r. let done = flush_done place procs Sync before after same run lasting later refl s r (sync_firm s) in (done.0, done.2)))
+
+        module _ (broken : D) (run : LeavesOldOr (present state before) (state before.disk) (state broken)) (later : (state before.disk).failures ≤ (state broken).failures)
+            (failed : HasFailed (state before.disk) (state broken)) (unwritten : HasFailedToWrite (state before.disk) (state broken)) where
+          pub break_returns : (e : Event) → FlushesFor state fs (record { base = Some (Err broken); place = place; desks = procs }) e (Refused (Failed EIO))
+          break_returns e =
+              subst (λ (x : System D). FlushesFor state x (record { base = Some (Err broken); place = place; desks = procs }) e (Refused (Failed EIO))) seen_so
+              (flush_broke place procs e before broken run later failed unwritten)
+
+          pub last_broken : (disk : D) → disk ≡ broken → HappensLast state fs disk Sync (Refused (Failed EIO))
+          last_broken disk here =
+              subst (λ (d : D). HappensLast state fs d Sync (Refused (Failed EIO))) (sym here)
+              (subst (λ (x : System D). HappensLast state x broken Sync (Refused (Failed EIO))) seen_so
+              (λ s r. let done = flush_broke place procs Sync before broken run later failed unwritten refl s r (sync_firm s) in (done.0, done.2)))
+
+        -- what is left may be mounted
+        pub flush_leaves : (disk : D) → ((t : ℕ) (image : Image) → t ≤ (state disk).moment → IsImage (state disk) image → (state disk).left_since t image)
+            → LeavesOldOr (present state before) (state before.disk) (state disk) → IsSystem state (record { base = base; place = place; desks = procs })
+            → MayBeMounted (state disk)
+        flush_leaves disk counts_now run was =
+            let here = subst (λ (b : Base D). IsSystem state (record { base = b; place = place; desks = procs })) is was in
+            flush_mountable (state before.disk) (state disk) place (present state before) procs here.in_some.0 here.in_some.1 run counts_now here.mountable
+
+        pub flush_system : (after : StoreView D) → ((t : ℕ) (image : Image) → t ≤ (state after.disk).moment → IsImage (state after.disk) image → (state after.disk).left_since t image)
+            → SameMap (present state after) (present state before) → LeavesOldOr (present state before) (state before.disk) (state after.disk)
+            → IsSystem state (record { base = base; place = place; desks = procs }) → IsSystem state (record { base = Some (Ok after); place = place; desks = procs })
+        flush_system after counts_now same run was =
+            let here = subst (λ (b : Base D). IsSystem state (record { base = b; place = place; desks = procs })) is was in
+            record {
+              in_some = (
+                here.in_some.0,
+                running_same (state before.disk).size (state after.disk).size place (present state before) (present state after) procs procs here.in_some.0 run.size same refl
+                    here.in_some.1,
+              );
+              mountable = flush_leaves after.disk counts_now run was;
+            }
+
+        pub break_system : (broken : D) → ((t : ℕ) (image : Image) → t ≤ (state broken).moment → IsImage (state broken) image → (state broken).left_since t image)
+            → LeavesOldOr (present state before) (state before.disk) (state broken)
+            → IsSystem state (record { base = base; place = place; desks = procs }) → IsSystem state (record { base = Some (Err broken); place = place; desks = procs })
+        break_system broken counts_now run was =
+            let here = subst (λ (b : Base D). IsSystem state (record { base = b; place = place; desks = procs })) is was in
+            record { in_some = (record here.in_some.0 { halted = true }, refl); mountable = flush_leaves broken counts_now run was }

@@ -1,0 +1,111 @@
+-- The map of a disk that stands for a tree is sound.
+use Rattle.std.proofs.Common.{◌≡◌, ℕ, ◌<◌, ◌≤◌, length, Bool, true, false, ◌||◌, nat_eq, sym, ap, subst, ◌∙◌, arith, inl, inr, ◌⊎◌, IsTrue}
+use Rattle.std.specs.Prelude.{nat_le, Option, None, Some, is_some}
+use Rattle.std.proofs.lemmas.Bool.{eq-eqb, le-leb, or_parts}
+use Rattle.sector_disk.specs.Disk.{DiskState, sector}
+use Rattle.fs_layout.specs.declared.place.Place.{Place}
+use Rattle.fs_layout.specs.Bytes.{SectorMap}
+use Rattle.fs_layout.specs.Place.{the_place}
+use Rattle.fs_layout.specs.Inode.{free_inode}
+use Rattle.fs_layout.specs.Images.{bit, inode_bitmap, inode_at}
+use Rattle.fs_layout.specs.Ownership.{IsConsistent, Agrees}
+use Rattle.fs_layout.specs.Recovered.{recovered}
+use Rattle.fs_layout.proofs.Agree.{same_agrees, agree_consistent, agree_inode, agree_inode_bit, agree_block_bit}
+use Rattle.fs_layout.proofs.Places.{place_is_laid_out}
+use Rattle.redo_journal.specs.Meaning.{SameMap, data_of}
+use Rattle.sector_txn.specs.Sectors.{TxnState}
+use Rattle.bit_alloc.specs.Inodes.{IsSound}
+use Rattle.bit_alloc.specs.declared.bitmap.Bitmap.TheVariants.{Inodes, Blocks}
+use Rattle.bit_alloc.specs.Bitmaps.{HasRestSet, HasBitmaps}
+use Rattle.bit_alloc.proofs.Soundness.{sound_from}
+use Rattle.inode_table.specs.Inodes.{ClearAreFree}
+use Rattle.fs_model.specs.StoredNodes.{Placed}
+use Rattle.fs_model.specs.Stands.{HoldsAll, HoldsPlaced, placed}
+use Rattle.fs_model.specs.Trees.{Tree, Room}
+use Rattle.fs_system.specs.Seen.{StandsFor}
+use Rattle.fs_system.specs.Sound.{IsSoundDisk}
+
+-- ---- a map that holds nodes
+module _ (p : Place) (image : SectorMap) (what : ℕ → Option Placed) (holds : HoldsAll p image what) where
+  pub outside_set : (n : ℕ) → n < 4096 → (n ≡ 0) ⊎ (p.inodes ≤ n) → IsTrue (bit image inode_bitmap n)
+  outside_set n low (inl none) = holds.inode_bits n low ∙ ap (λ b. b || nat_le p.inodes n || is_some (what n)) (eq-eqb n 0 none)
+  outside_set n low (inr past) = holds.inode_bits n low ∙ either (nat_eq n 0) (nat_le p.inodes n) (is_some (what n)) (le-leb p.inodes n past)
+    where
+      either : (a b c : Bool) → b ≡ true → (a || b || c) ≡ true
+      either true b c e = cc
+      either false b c e = cc
+
+  -- as a transaction that has put nothing shows it
+  pub held_rest : (disk : DiskState) → p.sectors ≤ disk.size → HasRestSet p image
+  held_rest disk size =
+      let txn : TxnState = record { sectors = image; before = image; has_put = λ n. false; room = 64; disk = disk } in
+      (sound_from p txn holds.consistent size outside_set).bitmaps.rest
+
+  free_where_none : (n : ℕ) (o : Option Placed) → is_some o ≡ false → HoldsPlaced p image n o → inode_at p image n ≡ free_inode
+  free_where_none n None none is = is
+  free_where_none n (Some x) none is = absurd cc
+
+  pub held_clear : ClearAreFree p image
+  held_clear n low clear =
+      let few = holds.consistent.place.most_inodes in
+      let none = (or_parts (nat_eq n 0 || nat_le p.inodes n) (is_some (what n)) (sym (holds.inode_bits n (omega (arith, few, low))) ∙ clear)).1 in
+      free_where_none n (what n) none (holds.nodes n low)
+
+-- a disk that stands for a tree, whose size is the length of its image
+pub standing_is_sound : (room : Room) (t : Tree) (free : ℕ) (disk : DiskState) → length disk.seen ≡ disk.size
+    → (stands : StandsFor room disk.seen t free) → IsSoundDisk stands.place disk
+standing_is_sound room t free disk len stands =
+    let laid = place_is_laid_out (length disk.seen) stands.super.inodes stands.has_place in
+    let sectors : length disk.seen ≡ stands.place.sectors = sym (ap (λ (q : Place). q.sectors) laid) in
+    let inodes : stands.super.inodes ≡ stands.place.inodes = sym (ap (λ (q : Place). q.inodes) laid) in
+    let holds : HoldsAll stands.place (data_of disk) (placed t) =
+    subst (λ k. HoldsAll stands.place (recovered k (sector disk.seen)) (placed t)) len stands.holds in
+    let size : stands.place.sectors ≤ disk.size = omega (arith, sectors, len) in
+    record {
+      has_place = ap (λ k. the_place k stands.place.inodes) (sym sectors) ∙ ap (the_place (length disk.seen)) (sym inodes) ∙ stands.has_place;
+      sectors = size;
+      consistent = holds.consistent;
+      rest = held_rest stands.place (data_of disk) (placed t) holds disk size;
+      clear = held_clear stands.place (data_of disk) (placed t) holds;
+    }
+
+-- ---- maps that agree from the bitmaps on
+module _ (p : Place) (old new : SectorMap) (consistent : IsConsistent p old) (same : SameMap new old) where
+  agrees : Agrees p old new
+  agrees = same_agrees consistent.place (λ s past low. same s (inr past))
+
+  pub consistent_same : IsConsistent p new
+  consistent_same = agree_consistent consistent agrees
+
+  pub rest_same : HasRestSet p old → HasRestSet p new
+  rest_same rest Inodes n low ban = agree_inode_bit consistent agrees n low ∙ rest Inodes n low ban
+  rest_same rest Blocks n low ban = agree_block_bit consistent agrees n low ∙ rest Blocks n low ban
+
+  pub clear_same : ClearAreFree p old → ClearAreFree p new
+  clear_same clear n low none =
+      let few = consistent.place.most_inodes in
+      agree_inode consistent agrees n low ∙ clear n low (sym (agree_inode_bit consistent agrees n (omega (arith, few, low))) ∙ none)
+
+-- a transaction that shows a sound disk
+pub shown_is_sound : (p : Place) (disk : DiskState) (txn : TxnState) → IsSoundDisk p disk → SameMap txn.sectors (data_of disk) → disk.size ≤ txn.disk.size
+    → IsSound p txn × ClearAreFree p txn.sectors
+shown_is_sound p disk txn sound same size =
+    let consistent = consistent_same p (data_of disk) txn.sectors sound.consistent same in
+    let bitmaps : HasBitmaps p txn = record {
+      place = consistent.place;
+      disk = omega (arith, sound.sectors, size);
+      tables = consistent.sectors;
+      rest = rest_same p (data_of disk) txn.sectors sound.consistent same sound.rest;
+    } in
+    (record { consistent = consistent; bitmaps = bitmaps }, clear_same p (data_of disk) txn.sectors sound.consistent same sound.clear)
+
+-- a disk that shows what a sound transaction does
+pub kept_is_sound : (p : Place) (txn : TxnState) (disk : DiskState) → the_place p.sectors p.inodes ≡ Some p → IsSound p txn → ClearAreFree p txn.sectors
+    → SameMap (data_of disk) txn.sectors → txn.disk.size ≤ disk.size → IsSoundDisk p disk
+kept_is_sound p txn disk has sound clear same size = record {
+  has_place = has;
+  sectors = let least = sound.bitmaps.disk in omega (arith, least, size);
+  consistent = consistent_same p txn.sectors (data_of disk) sound.consistent same;
+  rest = rest_same p txn.sectors (data_of disk) sound.consistent same sound.bitmaps.rest;
+  clear = clear_same p txn.sectors (data_of disk) sound.consistent same clear;
+}

@@ -1,0 +1,53 @@
+use Rattle.std.proofs.Common.{arith}
+use Rattle.fs_system.specs.Mounting.{fault_of}
+use Rattle.fs_system.proofs.Mounts.{some_stands, same_stands, opened_stands, mountable_as, fails_to_mount, mounts_found, mounted_system, device_failed}
+use Rattle.fs_system.proofs.fs.Fs.mount.Goals as goal
+
+pub read_place-requires : goal.read_place-requires
+read_place-requires g c = some_stands (g.D.Disk.state c.args.disk) (g.met.D.Disk.seen_is_image c.args.disk) c.requires
+
+pub returns-in_default-clause-any_moment : goal.returns-in_default-clause-any_moment
+returns-in_default-clause-any_moment g c =
+    same_stands (g.D.Disk.state c.args.disk) (g.D.Disk.state c.read_place.new.disk) (g.met.D.Disk.only_now c.args.disk) c.read_place.ensures.same c.read_place.ensures.time
+
+pub returns-in-Ok-open_store-clause-any_moment : goal.returns-in-Ok-open_store-clause-any_moment
+returns-in-Ok-open_store-clause-any_moment g c =
+    opened_stands (g.D.Disk.state c.args.disk) (g.D.Disk.state c.read_place.new.disk) (g.D.Disk.state c.in-Ok-open_store.store.disk) (g.met.D.Disk.only_now c.args.disk)
+    c.read_place.ensures.same c.read_place.ensures.time c.in-Ok-open_store.ensures.any_moment
+
+pub returns-in-Ok-open_store-clause-mounted : goal.returns-in-Ok-open_store-clause-mounted
+returns-in-Ok-open_store-clause-mounted g c =
+    mounts_found g.D.Disk.state c.args.disk c.read_place.new.disk c.in-Ok-open_store.store (g.met.D.Disk.seen_is_image c.args.disk) c.requires
+    c.read_place.ensures.same c.read_place.ensures.cause.later c.in-Ok-open_store.ensures.size c.in-Ok-open_store.ensures.map c.in-Ok-open_store.ensures.lasting
+    c.in-Ok-open_store.ensures.later c.in-Ok.place c.in-Ok.ensures.found c.new.result c.new.ensures
+
+pub invariant_of-result : goal.invariant_of-result
+invariant_of-result g c =
+    mounted_system g.D.Disk.state c.args.disk c.read_place.new.disk c.in-Ok-open_store.store (g.met.D.Disk.seen_is_image c.args.disk) c.requires
+    c.read_place.ensures.same c.read_place.ensures.cause.later c.in-Ok-open_store.ensures.size c.in-Ok-open_store.ensures.map c.in-Ok-open_store.ensures.lasting
+    c.in-Ok-open_store.ensures.later c.in-Ok.place c.in-Ok.ensures.found c.new.result c.new.ensures
+    (mountable_as (g.D.Disk.state c.args.disk) (g.D.Disk.state c.in-Ok-open_store.store.disk) (g.met.D.Disk.counts_now c.in-Ok-open_store.store.disk)
+    (opened_stands (g.D.Disk.state c.args.disk) (g.D.Disk.state c.read_place.new.disk) (g.D.Disk.state c.in-Ok-open_store.store.disk) (g.met.D.Disk.only_now c.args.disk)
+    c.read_place.ensures.same c.read_place.ensures.time c.in-Ok-open_store.ensures.any_moment) c.requires)
+
+pub returns-in-Err-clause-any_moment : goal.returns-in-Err-clause-any_moment
+returns-in-Err-clause-any_moment g c =
+    opened_stands (g.D.Disk.state c.args.disk) (g.D.Disk.state c.read_place.new.disk) (g.D.Disk.state c.in-Err.fault.1) (g.met.D.Disk.only_now c.args.disk)
+    c.read_place.ensures.same c.read_place.ensures.time c.in-Err.ensures.any_moment
+
+pub returns-in-Err-clause-again : goal.returns-in-Err-clause-again
+returns-in-Err-clause-again g c =
+    mountable_as (g.D.Disk.state c.args.disk) (g.D.Disk.state c.in-Err.fault.1) (g.met.D.Disk.counts_now c.in-Err.fault.1)
+    (opened_stands (g.D.Disk.state c.args.disk) (g.D.Disk.state c.read_place.new.disk) (g.D.Disk.state c.in-Err.fault.1) (g.met.D.Disk.only_now c.args.disk)
+    c.read_place.ensures.same c.read_place.ensures.time c.in-Err.ensures.any_moment) c.requires
+
+pub returns-in-Err-clause-failed : goal.returns-in-Err-clause-failed
+returns-in-Err-clause-failed g c =
+    let old = g.D.Disk.state c.args.disk in
+    let mid = g.D.Disk.state c.read_place.new.disk in
+    let new = g.D.Disk.state c.in-Err.fault.1 in
+    let first = c.read_place.ensures.cause.later in
+    let then = c.in-Err.ensures.later in
+    fails_to_mount old new (fault_of c.in-Err.fault.0) (g.met.D.Disk.counts_now c.in-Err.fault.1)
+    (opened_stands old mid new (g.met.D.Disk.only_now c.args.disk) c.read_place.ensures.same c.read_place.ensures.time c.in-Err.ensures.any_moment)
+    (omega (arith, first, then)) (device_failed old mid new c.in-Err.fault.0 first c.in-Err.ensures.cause)

@@ -1,0 +1,9 @@
+use Rattle.std.proofs.Common.{arith}
+use Rattle.fs_system.proofs.Places.{many_sectors}
+use Rattle.fs_system.proofs.fs.open_store.Goals as goal
+
+pub open-requires : goal.open-requires
+open-requires g c =
+    let many = many_sectors (g.D.Disk.state c.args.disk).seen c.requires.0 c.requires.1 c.requires.2 c.requires.3 in
+    let size = (g.met.D.Disk.seen_is_image c.args.disk).size in
+    omega (arith, many, size)

@@ -1,0 +1,12 @@
+pub mod Serving
+pub mod Doing
+pub mod Seen
+pub mod Replies
+pub mod Playing
+pub mod Mounting
+pub mod Laws
+pub mod NewTables
+pub mod Making
+pub mod Sound
+pub mod SoundDirectories
+pub mod Layouts

@@ -1,0 +1,25 @@
+-- What the machine's replies are in the results of the calls.
+--     spawned, finished, unmounted, counted        of spawn, of exit, fsync and sync, of unmount, of statfs
+use Rattle.std.specs.Prelude.{ℕ, Result, Ok, Err, Option, Some, None}
+use Rattle.fs_cred.specs.declared.errno.Errno.{Errno}
+use Rattle.fs_cred.specs.declared.refusal.Refusal.TheVariants.{Failed}
+use Rattle.fs_model.specs.declared.reply.Reply.{Reply}
+use Rattle.fs_model.specs.declared.reply.Reply.TheVariants.{Done, Pid, Space, Refused}
+
+abbrev pub spawned : Result ℕ Errno → Reply
+spawned (Ok pid) = Pid pid
+spawned (Err e) = Refused (Failed e)
+
+abbrev pub finished : Result (Unit {0}) Errno → Reply
+finished (Ok done) = Done
+finished (Err e) = Refused (Failed e)
+
+-- how many data sectors and inodes are free
+abbrev pub counted : Result (ℕ × ℕ) Errno → Reply
+counted (Ok free) = Space free.0 free.1
+counted (Err e) = Refused (Failed e)
+
+-- it is asked for a sync
+abbrev pub unmounted : Option Errno → Reply
+unmounted None = Done
+unmounted (Some e) = Refused (Failed e)

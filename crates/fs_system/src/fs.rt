@@ -1,0 +1,324 @@
+//! A file system on a disk.
+
+ghost use Rattle.std.specs.Prelude.{◌≡◌, ◌≤◌, Some, IfOk, IfErr, IsTrue};
+ghost use Rattle.sector_disk.specs.Disk.{IsSame, Elapses, HasCause, HasFailed, LeavesOnly};
+ghost use Rattle.redo_journal.specs.Meaning.{SameMap, EachReadsAs, MeansAsBefore, data_of};
+ghost use Rattle.sector_txn.specs.Stores.{present, disk_after};
+ghost use Rattle.fs_model.specs.Processes.{Desks};
+ghost use Rattle.fs_model.specs.States.{State};
+ghost use Rattle.fs_model.specs.declared.event.Event.{Event};
+ghost use Rattle.fs_model.specs.declared.event.Event.TheVariants.{Spawn, Exit, Call as Calls, Fsync, Sync, Statfs};
+ghost use Rattle.fs_system.specs.Serving.{is_served};
+ghost use Rattle.fs_system.specs.Seen.{StandsForSome, HasPartsAt, disk_in, IsOn, IsIn, IsInSomeState};
+ghost use Rattle.fs_system.specs.Doing.{Happens, HappensLast, FlushesFor};
+ghost use Rattle.fs_system.specs.Replies.{spawned, finished, unmounted, counted};
+ghost use Rattle.fs_system.specs.Playing.{Mounts, FailsToMount};
+ghost use Rattle.fs_system.specs.Mounting.{MayBeMounted, StandsAsBefore, disk_mounted, disk_of_store, fault_of, is_halted, LeavesHalted};
+ghost use Rattle.fs_system.specs.declared.faults.MountFault.TheVariants.{DiskFault as Device};
+
+use crate::faults::MountFault;
+use crate::stored::{count_space, failed, perform_kept};
+use fs_cred::{Cred, Errno};
+use fs_layout::{Place, Super, place_of};
+use fs_model::{Call, Reply};
+use open_files::Procs;
+use redo_journal::{Broken, Journal, OpenFault};
+use sector_disk::{Disk, DiskFault};
+use sector_txn::Store;
+use std::alloc::Global;
+use std::marker::Model;
+
+/// A file system on a disk, with its processes.
+///
+/// A contract sees its disk, where the parts of that lie, and the processes. After a commit that fails it is halted: each
+/// call answers EIO, and the disk isn't called any more.
+#[derive(Drop)]
+pub struct Fs<D: Disk> {
+    // A store, or what a commit that failed has left. It is away only inside a method.
+    base: Option<Result<Store<D>, Broken<D>>>,
+    place: Place,
+    procs: Procs,
+    alloc: Global,
+}
+
+impl<D: Disk> Model for Fs<D> {
+    ghost use Rattle.fs_system.specs.Seen.{System};
+    ghost use Rattle.fs_system.specs.Mounting.{IsSystem};
+
+    ghost Value = { System D };
+
+    ghost view = { λ fs. record { base = fs.base; place = fs.place; desks = fs.procs } };
+
+    // It is in some state, and a stop leaves what may be mounted.
+    ghost invariant = { λ fs. IsSystem D.state (record { base = fs.base; place = fs.place; desks = fs.procs }) };
+}
+
+// Reads where the parts of the disk lie.
+pub(crate) fn read_place<D: Disk>(disk: &mut D) -> Result<Place, DiskFault>
+    requires { StandsForSome (D.state disk.old).seen }
+    ensures found { IfOk result (HasPartsAt (D.state disk.old).seen) }
+    ensures same { IsSame (D.state disk.old) (D.state disk.new) }
+    ensures time { Elapses (D.state disk.old) (D.state disk.new) }
+    ensures cause { HasCause (D.state disk.old) (D.state disk.new) result }
+{
+    let mut sector = [0; 512];
+    disk.read(0, &mut sector)?;
+    let Ok(superblock) = Super::read_from(&sector, 0) else {
+        unreachable!()
+    };
+    let Some(place) = place_of(superblock.sectors, superblock.inodes) else {
+        unreachable!()
+    };
+    Ok(place)
+}
+
+// Settles what a stop has left, and reserves the memory of all transactions.
+fn open_store<D: Disk + Drop>(alloc: Global, disk: D) -> Result<Store<D>, (MountFault, D)>
+    requires { StandsForSome (D.state disk).seen }
+    ensures map { IfOk result (λ store. SameMap (present D.state store) (data_of (D.state disk))) }
+    ensures lasting { IfOk result (λ store. EachReadsAs (present D.state store) (D.state store.disk)) }
+    ensures any_moment { LeavesOnly (D.state disk) (D.state (disk_of_store result)) (MeansAsBefore (D.state disk)) }
+    ensures size { (D.state (disk_of_store result)).size ≡ (D.state disk).size }
+    ensures later { (D.state disk).failures ≤ (D.state (disk_of_store result)).failures }
+    ensures cause { IfErr result (λ fault. fault.0 ≡ Device → HasFailed (D.state disk) (D.state fault.1)) }
+{
+    match Journal::open(disk) {
+        Ok(journal) => match Store::new(alloc, journal) {
+            Ok(store) => Ok(store),
+            Err((_, journal)) => Err((MountFault::OutOfMemory, journal.into_disk())),
+        },
+        Err((OpenFault::DiskFault, disk)) => Err((MountFault::DiskFault, disk)),
+        Err((OpenFault::BadCommitSector, _)) => unreachable!(),
+    }
+}
+
+// A store, or what a commit that failed has left, whose disk lets go of its past.
+fn forgotten<D: Disk>(base: Result<Store<D>, Broken<D>>) -> Result<Store<D>, Broken<D>>
+    ensures stays { (p : Place) (desks : Desks) (s : State) → IsOn D.state p desks (Some base) s → IsOn D.state p desks (Some result) s }
+    ensures same { IsSame (D.state (disk_after base)) (D.state (disk_after result)) }
+    ensures failures { (D.state (disk_after result)).failures ≡ (D.state (disk_after base)).failures }
+{
+    match base {
+        Ok(mut store) => {
+            store.forget();
+            Ok(store)
+        }
+        Err(mut broken) => {
+            broken.forget();
+            Err(broken)
+        }
+    }
+}
+
+impl<D: Disk + Drop> Fs<D> {
+    /// The file system that the disk stands for, without processes. An error gives the disk back; it may be mounted
+    /// again.
+    pub fn mount(alloc: Global, disk: D) -> Result<Fs<D>, (MountFault, D)>
+        requires { MayBeMounted (D.state disk) }
+
+        ensures mounted { IfOk result (λ fs. (s : State) × IsIn D.state fs s × Mounts (D.state disk) (disk_mounted D.state result) s) }
+        ensures failed { IfErr result (λ fault. FailsToMount (D.state disk) (D.state fault.1) (fault_of fault.0)) }
+        ensures again { IfErr result (λ fault. MayBeMounted (D.state fault.1)) }
+
+        // A stop at any moment of the call leaves what stands for what it did before.
+        ensures any_moment { LeavesOnly (D.state disk) (disk_mounted D.state result) (StandsAsBefore (D.state disk)) }
+    {
+        let mut disk = disk;
+        let Ok(place) = read_place(&mut disk) else {
+            return Err((MountFault::DiskFault, disk));
+        };
+        match open_store(alloc, disk) {
+            Ok(store) => Ok(Fs {
+                base: Some(Ok(store)),
+                place,
+                procs: Procs::new(alloc),
+                alloc,
+            }),
+            Err(fault) => Err(fault),
+        }
+    }
+
+    /// Does nothing: its clauses tell a caller's proof what is true of each file system.
+    pub fn tell_state(&self)
+        ensures state { IsInSomeState D.state self.now }
+    {
+        let _base = &self.base;
+    }
+
+    // Whether a commit has failed.
+    fn is_halted(&self) -> bool
+        ensures { result ≡ is_halted self.now.base }
+    {
+        matches!(self.base, Some(Err(_)))
+    }
+
+    /// A new process. Its number is not that of another one; numbers begin with 1.
+    ///
+    /// # Errors
+    ///
+    /// EIO where the file system is halted, EAGAIN where there are 64 processes, and ENOMEM.
+    pub fn spawn(&mut self, cred: Cred) -> Result<usize, Errno>
+        ensures does { Happens D.state self.old self.new (Spawn cred) (spawned result) }
+        ensures halted { LeavesHalted self.old self.new }
+    {
+        if self.is_halted() {
+            return Err(Errno::EIO);
+        }
+        self.procs.spawn(cred)
+    }
+
+    /// A process ends, and what it has open is closed.
+    ///
+    /// # Errors
+    ///
+    /// EIO where the file system is halted, and ESRCH where there is no such process.
+    pub fn exit(&mut self, pid: usize) -> Result<(), Errno>
+        ensures does { Happens D.state self.old self.new (Exit pid) (finished result) }
+        ensures halted { LeavesHalted self.old self.new }
+    {
+        if self.is_halted() {
+            return Err(Errno::EIO);
+        }
+        self.procs.exit(pid)
+    }
+
+    /// What a process asks for.
+    ///
+    /// After a read that fails nothing has changed, and the call may be made again.
+    pub fn call(&mut self, pid: usize, call: &Call) -> Reply
+        requires served { IsTrue (is_served call.now) }
+        ensures does { Happens D.state self.old self.new (Calls pid call.now) result }
+        ensures halted { LeavesHalted self.old self.new }
+    {
+        match self.base.take() {
+            Some(Ok(store)) => {
+                let (reply, base) = perform_kept(
+                    self.alloc,
+                    store,
+                    self.place,
+                    &mut self.procs,
+                    pid,
+                    call,
+                );
+                self.base = Some(base);
+                reply
+            }
+            Some(Err(broken)) => {
+                self.base = Some(Err(broken));
+                failed(Errno::EIO)
+            }
+            None => unreachable!(),
+        }
+    }
+
+    // Makes all stable that was done before. EIO where that fails, or the file system is halted.
+    fn flush(&mut self) -> Result<(), Errno>
+        ensures flushes { (e : Event) → FlushesFor D.state self.old self.new e (finished result) }
+        ensures halted { LeavesHalted self.old self.new }
+    {
+        match self.base.take() {
+            Some(Ok(store)) => match store.flush() {
+                Ok(store) => {
+                    self.base = Some(Ok(store));
+                    Ok(())
+                }
+                Err(broken) => {
+                    self.base = Some(Err(broken));
+                    Err(Errno::EIO)
+                }
+            },
+            Some(Err(broken)) => {
+                self.base = Some(Err(broken));
+                Err(Errno::EIO)
+            }
+            None => unreachable!(),
+        }
+    }
+
+    /// Makes stable what was done before, for a process that has something open at a descriptor.
+    ///
+    /// # Errors
+    ///
+    /// EIO where the device failed or the file system is halted, ESRCH where there is no such process, and EBADF where it
+    /// has nothing open there.
+    pub fn fsync(&mut self, pid: usize, fd: usize) -> Result<(), Errno>
+        ensures does { Happens D.state self.old self.new (Fsync pid fd) (finished result) }
+        ensures halted { LeavesHalted self.old self.new }
+    {
+        if self.is_halted() {
+            return Err(Errno::EIO);
+        }
+        match self.procs.get(pid, fd) {
+            Ok(_) => self.flush(),
+            Err(errno) => Err(errno),
+        }
+    }
+
+    /// Makes stable what was done before.
+    ///
+    /// # Errors
+    ///
+    /// EIO where the device failed or the file system is halted.
+    pub fn sync(&mut self) -> Result<(), Errno>
+        ensures does { Happens D.state self.old self.new Sync (finished result) }
+        ensures halted { LeavesHalted self.old self.new }
+    {
+        self.flush()
+    }
+
+    /// How many data sectors and inodes are free.
+    ///
+    /// # Errors
+    ///
+    /// EIO where a read failed or the file system is halted.
+    pub fn statfs(&mut self) -> Result<(u32, u32), Errno>
+        ensures does { Happens D.state self.old self.new Statfs (counted result) }
+        ensures halted { LeavesHalted self.old self.new }
+    {
+        match self.base.take() {
+            Some(Ok(store)) => {
+                let (free, store) = count_space(store, self.place, &self.procs);
+                self.base = Some(Ok(store));
+                free
+            }
+            Some(Err(broken)) => {
+                self.base = Some(Err(broken));
+                Err(Errno::EIO)
+            }
+            None => unreachable!(),
+        }
+    }
+
+    /// Lets go of what the disk keeps of its past: nothing is said any more of the moments before this one. A call may be
+    /// made before and after it, and never at the same time.
+    pub fn forget(&mut self)
+        ensures state { (s : State) → IsIn D.state self.old s → IsIn D.state self.new s }
+        ensures place { self.new.place ≡ self.old.place }
+        ensures desks { self.new.desks ≡ self.old.desks }
+        ensures same { IsSame (disk_in D.state self.old.base) (disk_in D.state self.new.base) }
+        ensures failures { (disk_in D.state self.new.base).failures ≡ (disk_in D.state self.old.base).failures }
+    {
+        let Some(base) = self.base.take() else {
+            unreachable!()
+        };
+        self.base = Some(forgotten(base));
+    }
+
+    /// Makes stable what was done before, and gives the disk back, also with an error: EIO, where the device failed or the
+    /// file system is halted. The disk may be mounted again.
+    pub fn unmount(self) -> (D, Option<Errno>)
+        ensures does { HappensLast D.state self result.0 Sync (unmounted result.1) }
+        ensures halted { (disk : D) → self.base ≡ Some (Err disk) → result.0 ≡ disk }
+        ensures again { MayBeMounted (D.state result.0) }
+    {
+        let Fs { base, .. } = self;
+        match base {
+            Some(Ok(store)) => match store.flush() {
+                Ok(store) => (store.into_disk(), None),
+                Err(broken) => (broken.into_disk(), Some(Errno::EIO)),
+            },
+            Some(Err(broken)) => (broken.into_disk(), Some(Errno::EIO)),
+            None => unreachable!(),
+        }
+    }
+}

@@ -1,0 +1,25 @@
+//! The file system: processes and their calls on a tree that a disk stands for.
+#![tactic(auto)]
+
+mod calls;
+#[cfg(test)]
+mod directory_tests;
+mod faults;
+mod fs;
+mod laws;
+#[cfg(test)]
+mod mkfs_tests;
+mod new_disk;
+mod new_tables;
+#[cfg(test)]
+mod space_tests;
+mod stored;
+#[cfg(test)]
+mod tests;
+#[cfg(test)]
+mod walk_tests;
+
+pub use faults::{MkfsFault, MountFault};
+pub use fs::Fs;
+pub use laws::{a_new_disk_is_mountable, histories_are_runs, trees_are_sound};
+pub use new_disk::mkfs;

@@ -1,0 +1,248 @@
+//! What no clause of `mkfs` says: its bytes and its texts, that it succeeds, and what is there after each stop and each
+//! fault.
+
+ghost use Rattle.std.specs.Prelude.{◌≡◌, ◌<◌, IfOk, OnOk};
+ghost use Rattle.sector_disk.specs.Disk.{IsStable};
+ghost use Rattle.fs_system.specs.Making.{IsHalfMade, IsNewDisk};
+
+use crate::{Fs, MkfsFault, MountFault, a_new_disk_is_mountable, mkfs};
+use sector_disk::{CrashDisk, Disk, FailOnce, FuseDisk, MemDisk};
+use std::alloc::{AllocError, Global};
+use std::test::Fail;
+
+// What a disk holds that was used before.
+const USED: [u8; 512] = [0xaa; 512];
+
+// A sector without anything.
+const NONE: [u8; 512] = [0; 512];
+
+fn used_disk(alloc: Global, size: u32) -> Result<MemDisk, AllocError>
+    ensures { IfOk result (λ disk. (⟦<MemDisk as Disk>⟧.state disk).size ≡ size) }
+{
+    let mut sectors = Vec::new(alloc);
+    sectors.resize(size as usize, USED)?;
+    MemDisk::from_sectors(alloc, sectors)
+}
+
+// Makes a file system on any disk, and stops the disk: the clauses say what is there then.
+fn make_and_stop<D: CrashDisk>(disk: &mut D, inodes: u32, choice: &[u8]) -> Result<(), MkfsFault>
+    ensures made { OnOk result (IsNewDisk inodes (D.state disk.new).seen) }
+    ensures half_made { IsHalfMade (D.state disk.old) inodes (D.state disk.new).seen }
+    ensures stable { IsStable (D.state disk.new) }
+    ensures size { (D.state disk.new).size ≡ (D.state disk.old).size }
+{
+    let made = mkfs(disk, inodes);
+    disk.crash(choice);
+    made
+}
+
+pub(crate) fn content_of<D: Disk>(disk: &mut D, n: u32) -> Result<[u8; 512], Fail>
+    requires { n < (D.state disk.old).size }
+    ensures { (D.state disk.new).size ≡ (D.state disk.old).size }
+{
+    let mut content = [0; 512];
+    disk.read(n, &mut content)?;
+    Ok(content)
+}
+
+// ---- refusals and texts
+
+fn outcome_of(alloc: Global, sectors: u32, inodes: u32) -> Result<Result<(), MkfsFault>, Fail> {
+    let mut disk = MemDisk::new(alloc, sectors)?;
+    Ok(mkfs(&mut disk, inodes))
+}
+
+#[test]
+fn sizes_and_inodes_out_of_range_are_refused(rt: HostRuntime) -> Result<(), Fail> {
+    for (sectors, inodes, wanted) in [
+        (1023, 64, Err(MkfsFault::BadSize)),
+        (65537, 64, Err(MkfsFault::BadSize)),
+        (1023, 15, Err(MkfsFault::BadSize)),
+        (1024, 15, Err(MkfsFault::BadInodes)),
+        (1024, 4097, Err(MkfsFault::BadInodes)),
+        (1024, 4096, Err(MkfsFault::TooSmall)),
+        // The data would begin at 961.
+        (1024, 3321, Err(MkfsFault::TooSmall)),
+        (1024, 3320, Ok(())),
+        (1024, 16, Ok(())),
+        (65536, 4096, Ok(())),
+    ] {
+        let outcome = outcome_of(rt.alloc(), sectors, inodes)?;
+        assert!(rt; outcome == wanted, "{sectors} {inodes}: {outcome:?}");
+    }
+    Ok(())
+}
+
+// The texts of all faults.
+fn names(alloc: Global) -> Result<String, AllocError> {
+    let mut names = String::new(alloc);
+    for fault in [
+        MkfsFault::BadSize,
+        MkfsFault::BadInodes,
+        MkfsFault::TooSmall,
+        MkfsFault::DiskFault,
+    ] {
+        write!(names, "{fault} ")?;
+    }
+    for fault in [MountFault::DiskFault, MountFault::OutOfMemory] {
+        write!(names, "{fault} ")?;
+    }
+    Ok(names)
+}
+
+#[test]
+fn a_fault_is_shown_by_its_name(rt: HostRuntime) -> Result<(), Fail> {
+    let names = names(rt.alloc())?;
+    assert!(rt;
+        names.as_str() == "BadSize BadInodes TooSmall DiskFault DiskFault OutOfMemory ",
+        "{names}"
+    );
+    Ok(())
+}
+
+// ---- bytes
+
+// Whether these bytes stand in a sector from an offset on.
+fn has_bytes<D: Disk>(disk: &mut D, n: u32, at: usize, bytes: &[u8]) -> Result<bool, Fail> {
+    if n >= disk.size() || at > 512 {
+        return Err(Fail::new("no such sector or offset"));
+    }
+    let content = content_of(disk, n)?;
+    Ok((&content[at..]).starts_with(bytes))
+}
+
+// The first sector and offset of these where a new file system of 64 inodes has other bytes.
+fn first_other<D: Disk>(
+    disk: &mut D,
+    all: &[(u32, usize, &[u8])],
+) -> Result<Option<(u32, usize)>, Fail> {
+    mkfs(disk, 64)?;
+    for (n, at, bytes) in all {
+        if !has_bytes(disk, *n, *at, bytes)? {
+            return Ok(Some((*n, *at)));
+        }
+    }
+    Ok(None)
+}
+
+#[test]
+fn a_new_disk_has_these_bytes(rt: HostRuntime) -> Result<(), Fail> {
+    let mut disk = used_disk(rt.alloc(), 1024)?;
+    let other = first_other(
+        &mut disk,
+        &[
+            // Magic, version 1, 1,024 sectors, 64 inodes.
+            (0, 0, b"INOS\x01\0\0\0\0\x04\0\0\x40\0\0\0\0".as_slice()),
+            // No targets.
+            (1, 0, b"INOJ\0\0\0\0\0".as_slice()),
+            // Inodes 0 and 1, and those from 64 on.
+            (128, 0, b"\x03\0\0\0\0\0\0\0\xff".as_slice()),
+            (128, 511, b"\xff".as_slice()),
+            // Sectors 0 to 145, and those from 1,024 on.
+            (129, 16, b"\xff\xff\x03\0".as_slice()),
+            (129, 126, b"\0\0\xff".as_slice()),
+            (129, 511, b"\xff".as_slice()),
+            // Behind inode 0 a directory with the mode 0755 and one name, which is its own parent.
+            (
+                130,
+                124,
+                b"\0\0\0\0\x02\0\xed\x01\0\0\0\0\0\0\0\0\x01\0\0\0".as_slice(),
+            ),
+            (130, 144, b"\0\0\0\0\0\0\0\0\x01\0\0\0\0\0\0\0".as_slice()),
+            (145, 508, b"\0\0\0\0".as_slice()),
+            // The data is what it was.
+            (146, 0, b"\xaa\xaa".as_slice()),
+        ],
+    )?;
+    assert!(rt; other.is_none(), "{other:?}");
+    Ok(())
+}
+
+// ---- stops and faults
+
+// The superblock of 1,024 sectors and 64 inodes.
+fn new_superblock() -> [u8; 512] {
+    let mut content = NONE;
+    content[..16].copy_from_slice(b"INOS\x01\0\0\0\0\x04\0\0\x40\0\0\0");
+    content
+}
+
+// Whether a file system is made with so many writes and syncs left, and what is in sector 0 after a stop.
+fn made_and_stopped<D: CrashDisk + Drop>(
+    mut disk: D,
+    passes: u64,
+    choice: &[u8],
+) -> Result<(bool, [u8; 512]), Fail>
+    requires { 0 < (D.state disk).size }
+{
+    disk.arm(passes);
+    let made = make_and_stop(&mut disk, 64, choice);
+    let content = content_of(&mut disk, 0)?;
+    Ok((made.is_ok(), content))
+}
+
+#[test]
+fn a_stop_leaves_what_was_there_or_no_superblock_or_the_new_disk(
+    rt: HostRuntime,
+) -> Result<(), Fail> {
+    let alloc = rt.alloc();
+    let new = new_superblock();
+    // Zeros into sector 0 and a sync; sector 1, 18 sectors of tables and a sync; the superblock and a sync.
+    for (passes, made, zeros_chosen, ones_chosen) in [
+        (0, false, USED, NONE),
+        (1, false, USED, NONE),
+        (2, false, NONE, NONE),
+        (3, false, NONE, NONE),
+        (20, false, NONE, NONE),
+        (21, false, NONE, NONE),
+        (22, false, NONE, new),
+        (23, false, NONE, new),
+        (24, true, new, new),
+    ] {
+        let zeros = made_and_stopped(used_disk(alloc, 1024)?, passes, &[])?;
+        let ones = made_and_stopped(used_disk(alloc, 1024)?, passes, &[1; 32])?;
+        assert!(rt;
+            zeros == (made, zeros_chosen) && ones == (made, ones_chosen),
+            "{passes}"
+        );
+    }
+    Ok(())
+}
+
+// What mkfs comes to, how often the disk has failed then, and why it isn't mounted.
+type Outcome = (Result<(), MkfsFault>, u64, Option<MountFault>);
+
+fn made_and_mounted<D: Disk + Drop>(alloc: Global, mut disk: D) -> Outcome {
+    let made = mkfs(&mut disk, 64);
+    let failures = disk.failures();
+    if made.is_err() {
+        return (made, failures, None);
+    }
+    a_new_disk_is_mountable::<D>();
+    match Fs::mount(alloc, disk) {
+        Ok(_) => (made, failures, None),
+        Err((fault, _)) => (made, failures, Some(fault)),
+    }
+}
+
+#[test]
+fn each_failing_call_is_told(rt: HostRuntime) -> Result<(), Fail> {
+    let alloc = rt.alloc();
+    // Each call of mkfs, the two reads and the sync of mount, and the one after these.
+    for call in 0..28 {
+        let once = made_and_mounted(alloc, FailOnce::new(used_disk(alloc, 1024)?, call));
+        let fuse = made_and_mounted(alloc, FuseDisk::new(used_disk(alloc, 1024)?, call));
+        let wanted = if call < 24 {
+            (Err(MkfsFault::DiskFault), 1, None)
+        } else if call < 27 {
+            (Ok(()), 0, Some(MountFault::DiskFault))
+        } else {
+            (Ok(()), 0, None)
+        };
+        assert!(rt;
+            once == wanted && fuse == wanted,
+            "{call}: {once:?} {fuse:?}"
+        );
+    }
+    Ok(())
+}

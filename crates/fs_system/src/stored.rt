@@ -1,0 +1,97 @@
+//! What events do to a store.
+
+ghost use Rattle.std.specs.Prelude.{◌≡◌, Ok, Err, Some, IsTrue, IfOk};
+ghost use Rattle.sector_disk.specs.Disk.{HasCause};
+ghost use Rattle.sector_txn.specs.Sectors.{IsUnchanged};
+ghost use Rattle.sector_txn.specs.Stores.{present, disk_after};
+ghost use Rattle.bit_alloc.specs.declared.bitmap.Bitmap.TheVariants.{Blocks, Inodes};
+ghost use Rattle.bit_alloc.specs.Bitmaps.{HasBitmaps, free_numbers};
+ghost use Rattle.fs_model.specs.States.{State};
+ghost use Rattle.fs_model.specs.declared.event.Event.TheVariants.{Call as Calls, Statfs};
+ghost use Rattle.fs_system.specs.Serving.{is_served};
+ghost use Rattle.fs_system.specs.Seen.{IsRunning, IsOn};
+ghost use Rattle.fs_system.specs.Doing.{Does};
+ghost use Rattle.fs_system.specs.Replies.{counted};
+ghost use Rattle.fs_system.specs.Mounting.{MayBeMounted};
+ghost use Rattle.fs_model.specs.declared.reply.Reply.TheVariants.{Refused};
+ghost use Rattle.fs_cred.specs.declared.refusal.Refusal.TheVariants.{Failed};
+
+use crate::calls::perform;
+use bit_alloc::{Bitmap, count_free};
+use fs_cred::{Errno, Refusal};
+use fs_layout::Place;
+use fs_model::{Call, Reply, call_is_in_range};
+use open_files::Procs;
+use redo_journal::Broken;
+use sector_disk::{Disk, DiskFault};
+use sector_txn::{Sectors, Store};
+use std::alloc::Global;
+
+/// The reply to a call that fails.
+pub(crate) fn failed(errno: Errno) -> Reply
+    ensures { result ≡ Refused (Failed errno) }
+{
+    Reply::Refused(Refusal::Failed(errno))
+}
+
+/// Performs a call. Its changes are kept whole, or where it is refused, not at all. At `Err` a commit has failed.
+pub(crate) fn perform_kept<D: Disk>(
+    alloc: Global,
+    store: Store<D>,
+    place: Place,
+    procs: &mut Procs,
+    pid: usize,
+    call: &Call,
+) -> (Reply, Result<Store<D>, Broken<D>>)
+    requires running { (s : State) × IsRunning (D.state store.disk).size place (present D.state store) procs.old s }
+    requires served { IsTrue (is_served call.now) }
+    requires mountable { MayBeMounted (D.state store.disk) }
+    ensures does { (s : State) → IsRunning (D.state store.disk).size place (present D.state store) procs.old s
+        → (t : State) × IsOn D.state place procs.new (Some result.1) t
+        × Does (D.state store.disk) (D.state (disk_after result.1)) s (Calls pid call.now) result.0 t }
+    ensures mountable { MayBeMounted (D.state (disk_after result.1)) }
+{
+    call_is_in_range(call);
+    let mut txn = store.begin();
+    match perform(alloc, &mut txn, place, procs, pid, call) {
+        Ok(reply) => match txn.keep() {
+            Ok(store) => (reply, Ok(store)),
+            Err(broken) => (failed(Errno::EIO), Err(broken)),
+        },
+        Err(refusal) => (Reply::Refused(refusal), Ok(txn.drop_delta())),
+    }
+}
+
+// How many data sectors and inodes are free.
+fn count_both<S: Sectors>(s: &mut S, place: Place) -> Result<(u32, u32), DiskFault>
+    requires { HasBitmaps place (S.state s.old) }
+    ensures sectors { IfOk result (λ free. free.0 ≡ free_numbers place Blocks (S.state s.old).sectors) }
+    ensures inodes { IfOk result (λ free. free.1 ≡ free_numbers place Inodes (S.state s.old).sectors) }
+    ensures same { IsUnchanged (S.state s.old) (S.state s.new) }
+    ensures cause { HasCause (S.state s.old).disk (S.state s.new).disk result }
+{
+    let sectors = count_free(s, place, Bitmap::Blocks)?;
+    let inodes = count_free(s, place, Bitmap::Inodes)?;
+    Ok((sectors, inodes))
+}
+
+/// How many data sectors and inodes are free.
+pub(crate) fn count_space<D: Disk>(
+    store: Store<D>,
+    place: Place,
+    procs: &Procs,
+) -> (Result<(u32, u32), Errno>, Store<D>)
+    requires running { (s : State) × IsRunning (D.state store.disk).size place (present D.state store) procs.now s }
+    requires mountable { MayBeMounted (D.state store.disk) }
+    ensures does { (s : State) → IsRunning (D.state store.disk).size place (present D.state store) procs.now s
+        → IsRunning (D.state result.1.disk).size place (present D.state result.1) procs.now s
+        × Does (D.state store.disk) (D.state result.1.disk) s Statfs (counted result.0) s }
+    ensures mountable { MayBeMounted (D.state result.1.disk) }
+{
+    let _processes = procs;
+    let mut txn = store.begin();
+    match count_both(&mut txn, place) {
+        Ok(free) => (Ok(free), txn.drop_delta()),
+        Err(DiskFault) => (Err(Errno::EIO), txn.drop_delta()),
+    }
+}

@@ -1,0 +1,182 @@
+//! What no clause says of a file system's methods: that they succeed, and that a halted one leaves its disk alone. Calls
+//! and their replies are shown by the scripts of the shell.
+
+use crate::fs::Fs;
+use crate::laws::{a_new_disk_is_mountable, histories_are_runs, trees_are_sound};
+use crate::new_disk::mkfs;
+use fs_cred::{Cred, Errno, Refusal};
+use fs_model::{Bytes, Call, Flags, Path, Reply};
+use sector_disk::{Disk, FuseDisk, MemDisk};
+use std::alloc::Global;
+use std::test::Fail;
+
+// A new file system of 1,024 sectors with 64 inodes, on any disk of that size.
+fn new_fs<D: Disk + Drop>(alloc: Global, mut disk: D) -> Result<Fs<D>, Fail> {
+    mkfs(&mut disk, 64)?;
+    a_new_disk_is_mountable::<D>();
+    match Fs::mount(alloc, disk) {
+        Ok(fs) => Ok(fs),
+        Err(_) => Err(Fail::new("not mounted")),
+    }
+}
+
+// ---- what is answered
+
+// A number, 0 where none is told, or that of the errno.
+type Told = Result<usize, u8>;
+
+fn told(reply: &Reply) -> Told {
+    match reply {
+        Reply::Done => Ok(0),
+        Reply::Fd(fd) => Ok(*fd),
+        Reply::Wrote(count) => Ok(*count),
+        Reply::Refused(Refusal::Failed(errno)) => Err(errno.number()),
+        _ => Err(0),
+    }
+}
+
+fn told_done(done: Result<(), Errno>) -> Told {
+    match done {
+        Ok(()) => Ok(0),
+        Err(errno) => Err(errno.number()),
+    }
+}
+
+fn told_pid(spawned: Result<usize, Errno>) -> Told {
+    match spawned {
+        Ok(pid) => Ok(pid),
+        Err(errno) => Err(errno.number()),
+    }
+}
+
+// How many sectors are free.
+fn told_space(free: Result<(u32, u32), Errno>) -> Told {
+    match free {
+        Ok((sectors, _)) => Ok(sectors as usize),
+        Err(errno) => Err(errno.number()),
+    }
+}
+
+fn spawned<D: Disk + Drop>(alloc: Global, fs: &mut Fs<D>) -> Result<Told, Fail> {
+    let cred = Cred::new(alloc, 0, 0, &[])?;
+    Ok(told_pid(fs.spawn(cred)))
+}
+
+// Process 1 makes and opens a file for writing.
+fn opened<D: Disk + Drop>(alloc: Global, fs: &mut Fs<D>) -> Result<Told, Fail> {
+    let flags = Flags {
+        read: false,
+        write: true,
+        create: true,
+        excl: true,
+        trunc: false,
+        append: false,
+        nofollow: false,
+        directory: false,
+    };
+    let call = Call::Open(Path::from_slice(alloc, b"/file")?, flags, 0o644);
+    Ok(told(&fs.call(1, &call)))
+}
+
+fn written<D: Disk + Drop>(alloc: Global, fs: &mut Fs<D>) -> Result<Told, Fail> {
+    let call = Call::Write(0, Bytes::from_slice(alloc, b"abc")?);
+    Ok(told(&fs.call(1, &call)))
+}
+
+// ---- each method
+
+// spawn, open, write, fsync, sync, statfs, exit, and another spawn.
+type Answers = [Told; 8];
+
+fn answers<D: Disk + Drop>(alloc: Global, fs: &mut Fs<D>) -> Result<Answers, Fail> {
+    let first = spawned(alloc, fs)?;
+    let opened = opened(alloc, fs)?;
+    let written = written(alloc, fs)?;
+    fs.forget();
+    let stable = told_done(fs.fsync(1, 0));
+    let synced = told_done(fs.sync());
+    let space = told_space(fs.statfs());
+    let gone = told_done(fs.exit(1));
+    let last = spawned(alloc, fs)?;
+    Ok([first, opened, written, stable, synced, space, gone, last])
+}
+
+// The same; then what an unmount tells, and how often the disk has failed.
+type Seen = (Answers, Told, u64);
+
+fn seen<D: Disk + Drop>(alloc: Global, disk: D) -> Result<Seen, Fail> {
+    let mut fs = new_fs(alloc, disk)?;
+    let answers = answers(alloc, &mut fs)?;
+    fs.tell_state();
+    let (disk, errno) = fs.unmount();
+    let end = match errno {
+        None => Ok(0),
+        Some(errno) => Err(errno.number()),
+    };
+    Ok((answers, end, disk.failures()))
+}
+
+const EIO: Told = Err(5);
+
+#[test]
+fn a_halted_one_calls_its_disk_no_more(rt: HostRuntime) -> Result<(), Fail> {
+    let alloc = rt.alloc();
+    let well = [Ok(1), Ok(0), Ok(3), Ok(0), Ok(0), Ok(876), Ok(0), Ok(1)];
+    let halted = [Ok(1), EIO, EIO, EIO, EIO, EIO, EIO, EIO];
+    let unread = [Ok(1), EIO, Err(9), Err(9), Ok(0), EIO, Ok(0), Ok(1)];
+    for (calls, wanted) in [
+        (u64::MAX, (well, Ok(0), 0)),
+        (27, (unread, Ok(0), 2)),
+        (40, (halted, EIO, 1)),
+    ] {
+        let disk = FuseDisk::new(MemDisk::new(alloc, 1024)?, calls);
+        let found = seen(alloc, disk)?;
+        assert!(rt; found == wanted, "{calls}: {found:?}");
+    }
+    Ok(())
+}
+
+// ---- refusals
+
+// Spawns until one is refused: how many there are then, and why.
+fn filled<D: Disk + Drop>(alloc: Global, fs: &mut Fs<D>) -> Result<(usize, Told), Fail> {
+    for count in 0..100 {
+        let told = spawned(alloc, fs)?;
+        if told.is_err() {
+            return Ok((count, told));
+        }
+    }
+    Err(Fail::new("never full"))
+}
+
+// Then, of a process that isn't there, an exit and an fsync; an fsync of what isn't open; and an exit, which makes room
+// for another spawn.
+type Refusals = ((usize, Told), [Told; 5]);
+
+fn refusals<D: Disk + Drop>(alloc: Global, fs: &mut Fs<D>) -> Result<Refusals, Fail> {
+    let filled = filled(alloc, fs)?;
+    let absent = told_done(fs.exit(100));
+    let unknown = told_done(fs.fsync(100, 0));
+    let closed = told_done(fs.fsync(1, 0));
+    let gone = told_done(fs.exit(64));
+    let again = spawned(alloc, fs)?;
+    Ok((filled, [absent, unknown, closed, gone, again]))
+}
+
+#[test]
+fn what_is_not_there_is_refused(rt: HostRuntime) -> Result<(), Fail> {
+    let alloc = rt.alloc();
+    let mut fs = new_fs(alloc, MemDisk::new(alloc, 1024)?)?;
+    let found = refusals(alloc, &mut fs)?;
+    let wanted = ((64, Err(11)), [Err(3), Err(3), Err(9), Ok(0), Ok(64)]);
+    assert!(rt; found == wanted, "{found:?}");
+    Ok(())
+}
+
+// ---- laws
+
+#[test]
+fn laws_do_nothing(_rt: HostRuntime) {
+    histories_are_runs::<MemDisk>();
+    trees_are_sound::<MemDisk>();
+}

@@ -1,0 +1,96 @@
+//! Runs a script on a new file system in memory.
+ghost use Rattle.std.specs.Prelude.{◌≡◌, MatchResult, Ok, Err};
+ghost use Rattle.fs_model.specs.States.{State};
+ghost use Rattle.fs_model.specs.Steps.{Step};
+ghost use Rattle.fs_system.specs.Seen.{IsIn};
+ghost use Rattle.fs_shell.specs.Runs.{Ran};
+ghost use Rattle.inofs.specs.Programs.{IsNew, Fails};
+
+use fs_shell::{Count, RunFault, run};
+use fs_system::{Fs, MkfsFault, MountFault, mkfs};
+use sector_disk::{Disk, MemDisk};
+use std::alloc::Global;
+use std::io::{Read, Write};
+use thiserror::Error;
+
+// The size of the disk.
+const SECTORS: u32 = 1024;
+
+// How many inodes it has, 0 too.
+const INODES: u32 = 64;
+
+/// Why a script wasn't done.
+#[derive(Debug, Drop, Error)]
+pub enum Failure {
+    /// There is no memory for the disk.
+    #[error("image: cannot create")]
+    Image,
+    /// No file system was made on it.
+    #[error("mkfs: {0}")]
+    Mkfs(MkfsFault),
+    /// It was not mounted.
+    #[error("mount: {0}")]
+    Mount(MountFault),
+    /// The run ended early.
+    #[error("run: {0}")]
+    Run(RunFault),
+}
+
+/// Makes an empty file system in memory, and runs the script on it.
+pub fn run_in_memory<R: Read, W: Write>(
+    alloc: Global,
+    reader: &mut R,
+    writer: &mut W,
+) -> Result<Count, Failure>
+    // What was written is the text of a run over the script's lines, which began with an empty file system. It may have
+    // ended early, or not have begun.
+    ensures { MatchResult result
+        (λ count. (s : State) × IsNew SECTORS INODES s × (t : State)
+        × Ran Step (R.remaining reader.old) (W.contents writer.old) (W.contents writer.new) s t (Ok count))
+        (Fails (λ fault. (s : State) × IsNew SECTORS INODES s × (t : State)
+        × Ran Step (R.remaining reader.old) (W.contents writer.old) (W.contents writer.new) s t (Err fault))
+        ((reader.new ≡ reader.old) × (writer.new ≡ writer.old))) }
+{
+    let Ok(disk) = MemDisk::new(alloc, SECTORS) else {
+        return Err(Failure::Image);
+    };
+    run_on(alloc, disk, reader, writer)
+}
+
+// Makes an empty file system on the disk, and runs the script on it.
+fn run_on<D: Disk + Drop, R: Read, W: Write>(
+    alloc: Global,
+    disk: D,
+    reader: &mut R,
+    writer: &mut W,
+) -> Result<Count, Failure>
+    requires { (D.state disk).size ≡ SECTORS }
+    ensures { MatchResult result
+        (λ count. (s : State) × IsNew SECTORS INODES s × (t : State)
+        × Ran Step (R.remaining reader.old) (W.contents writer.old) (W.contents writer.new) s t (Ok count))
+        (Fails (λ fault. (s : State) × IsNew SECTORS INODES s × (t : State)
+        × Ran Step (R.remaining reader.old) (W.contents writer.old) (W.contents writer.new) s t (Err fault))
+        ((reader.new ≡ reader.old) × (writer.new ≡ writer.old))) }
+{
+    let mut fs = new_file_system(alloc, disk)?;
+    match run(alloc, reader, writer, &mut fs) {
+        Ok(count) => Ok(count),
+        Err(fault) => Err(Failure::Run(fault)),
+    }
+}
+
+// Makes an empty file system on the disk, and mounts it.
+fn new_file_system<D: Disk + Drop>(alloc: Global, disk: D) -> Result<Fs<D>, Failure>
+    requires { (D.state disk).size ≡ SECTORS }
+    ensures { MatchResult result (λ fs. (s : State) × IsNew SECTORS INODES s × IsIn D.state fs s)
+        (Fails (λ fault. ⊥) (Unit {0})) }
+{
+    let mut disk = disk;
+    if let Err(fault) = mkfs(&mut disk, INODES) {
+        return Err(Failure::Mkfs(fault));
+    }
+    match Fs::mount(alloc, disk) {
+        Ok(fs) => Ok(fs),
+        Err((fault, _)) => Err(Failure::Mount(fault)),
+    }
+}

@@ -1,0 +1,38 @@
+-- The sectors of a batch's entries.
+use Rattle.std.proofs.Common.{◌≡◌, ℕ, ◌<◌, ◌≤◌, List, [], length, get_or, arith, sym, ◌∙◌}
+use Rattle.std.proofs.lemmas.List.{get_or-map, length-map}
+use Rattle.fs_layout.specs.Commit.{AreDistinct, AreTargets}
+use Rattle.fs_layout.proofs.RecoveryLaw.{contains_at}
+use Rattle.redo_journal.specs.Batch.{Entry, targets, target_at}
+use Rattle.redo_journal.specs.States.{InTargets}
+
+pub length-targets : (entries : List Entry) → length (targets entries) ≡ length entries
+length-targets entries = length-map entries (λ e. e.0)
+
+pub target_is : (entries : List Entry) (k : ℕ) → k < length entries → get_or (targets entries) k 0 ≡ target_at entries k
+target_is entries k lt = get_or-map (λ (e : Entry). e.0) entries k (0, []) 0 lt
+
+-- ---- numbers that stand apart
+pub apart_at : (ns : List ℕ) → AreDistinct ns → (i j : ℕ) → i < j → j < length ns → get_or ns i 0 ≡ get_or ns j 0 → ⊥
+apart_at ns apart i j lt fits same = apart i j 0 lt fits same
+
+pub targets_apart : (entries : List Entry) → AreDistinct (targets entries) → (i j : ℕ) → i < j → j < length entries → target_at entries i ≡ target_at entries j → ⊥
+targets_apart entries apart i j lt fits same =
+    apart_at (targets entries) apart i j lt (omega (arith, fits, length-targets entries))
+    (target_is entries i (omega (arith, lt, fits)) ∙ same ∙ sym (target_is entries j fits))
+
+-- ---- targets on a disk
+pub range_at : (size : ℕ) (ns : List ℕ) → AreTargets size ns → (k : ℕ) → k < length ns → (128 ≤ get_or ns k 0) × (get_or ns k 0 < size)
+range_at size ns valid k lt = valid.in_range k 0 lt
+
+pub in_at : (ns : List ℕ) (k n : ℕ) (content : List ℕ) → k < length ns → n ≡ get_or ns k 0 → InTargets ns n content
+in_at ns k n content lt is = contains_at ns k n lt (sym is)
+
+pub target_range : (size : ℕ) (entries : List Entry) → AreTargets size (targets entries) → (k : ℕ) → k < length entries → (128 ≤ target_at entries k) × (target_at entries k < size)
+target_range size entries valid k lt =
+    let range = range_at size (targets entries) valid k (omega (arith, lt, length-targets entries)) in
+    let same = target_is entries k lt in
+    (omega (arith, range.0, same), omega (arith, range.1, same))
+
+pub in_targets : (entries : List Entry) (k n : ℕ) (content : List ℕ) → k < length entries → n ≡ target_at entries k → InTargets (targets entries) n content
+in_targets entries k n content lt is = in_at (targets entries) k n content (omega (arith, lt, length-targets entries)) (is ∙ sym (target_is entries k lt))

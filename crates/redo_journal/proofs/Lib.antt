@@ -1,0 +1,5 @@
+mod Both
+pub mod Entries
+pub mod Puts
+pub mod Meaning
+mod Writing

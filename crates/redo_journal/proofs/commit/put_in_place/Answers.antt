@@ -1,0 +1,29 @@
+use Rattle.std.proofs.Common.{sym, subst}
+use Rattle.std.proofs.lemmas.Result.{on_ok_weaker}
+use Rattle.sector_disk.proofs.Moments.{adds_narrowed, goes_on, image_or, weaker}
+use Rattle.redo_journal.specs.Batch.{targets}
+use Rattle.redo_journal.proofs.Meaning.{targets_keep, installed_from, batch_replayed}
+use Rattle.redo_journal.specs.States.{HoldsTargets}
+use Rattle.redo_journal.proofs.commit.put_in_place.Goals as goal
+
+pub returns-in_err-write_targets-clause-any_moment : goal.returns-in_err-write_targets-clause-any_moment
+returns-in_err-write_targets-clause-any_moment g c = weaker (targets_keep (targets c.args.entries.now) (g.D.Disk.state c.args.disk.now) c.requires.at_rest) c.write_targets.ensures.any_moment
+
+pub returns-clause-any_moment : goal.returns-clause-any_moment
+returns-clause-any_moment g c =
+    let keep = targets_keep (targets c.args.entries.now) (g.D.Disk.state c.args.disk.now) c.requires.at_rest in
+    let adds = adds_narrowed c.write_targets.ensures.adds c.sync.ensures.changes in
+    goes_on (weaker keep c.write_targets.ensures.any_moment) c.sync.ensures.time (λ image is. keep image (image_or adds image is))
+
+pub returns-clause-installed : goal.returns-clause-installed
+returns-clause-installed g c =
+    let before = g.D.Disk.state c.args.disk.now in
+    let after = g.D.Disk.state c.sync.new.self in
+    let entries = c.args.entries.now in
+    let changes = c.sync.ensures.changes in
+    let adds = adds_narrowed c.write_targets.ensures.adds changes in
+    let image = image_or adds after.seen (g.met.D.Disk.seen_is_image c.sync.new.self) in
+    let in_place = subst (HoldsTargets entries) (sym changes.seen) c.in_ok-write_targets.ensures.written in
+    on_ok_weaker c.sync.result
+    (installed_from (targets entries) before after c.requires.at_rest image adds.size (batch_replayed entries before.seen after.seen c.requires.log in_place))
+    c.sync.ensures.stable

@@ -1,0 +1,16 @@
+use Rattle.std.proofs.Common.{◌∙◌, [], ap, subst}
+use Rattle.sector_disk.specs.Disk.{Elapses, IsSame}
+use Rattle.redo_journal.proofs.Meaning.{rest_stays}
+use Rattle.redo_journal.proofs.journal.Journal.arm.Goals as goal
+
+pub invariant_of-self : goal.invariant_of-self
+invariant_of-self g c = rest_stays [] _ _ c.arm.ensures.same.narrowed c.self.invariant
+
+pub returns-clause-unchanged : goal.returns-clause-unchanged
+returns-clause-unchanged g c = subst (λ d. IsSame (g.D.Disk.state d) (g.D.Disk.state c.arm.new.self)) c.self.view_is c.arm.ensures.same
+
+pub returns-clause-time : goal.returns-clause-time
+returns-clause-time g c = subst (λ d. Elapses (g.D.Disk.state d) (g.D.Disk.state c.arm.new.self)) c.self.view_is c.arm.ensures.time
+
+pub returns-clause-failures : goal.returns-clause-failures
+returns-clause-failures g c = c.arm.ensures.failures ∙ ap (λ d. (g.D.Disk.state d).failures) c.self.view_is

@@ -1,0 +1,48 @@
+use Rattle.std.proofs.Common.{◌≡◌, ◌<◌, ◌+◌, ◌∙◌, [], length, get_or, set, arith, ap, get_or-set_other}
+use Rattle.sector_disk.specs.Disk.{Image, sector}
+use Rattle.sector_disk.proofs.Moments.{adds_write, adds_narrowed, goes_on, image_or}
+use Rattle.redo_journal.proofs.Entries.{apart_at, in_at, range_at}
+use Rattle.redo_journal.proofs.Writing.{written_more}
+use Rattle.redo_journal.proofs.steps.copy_log.Goals as goal
+
+pub returns-in_err-write-clause-any_moment : goal.returns-in_err-write-clause-any_moment
+returns-in_err-write-clause-any_moment g c =
+    let so_far = c.loop-target.invariant in
+    let read = adds_narrowed so_far.adds c.read.ensures.same.narrowed in
+    let adds = adds_write read c.write.ensures.changes (λ k content is same. in_at c.args.sectors.now c.loop-target.target-index k content c.loop-target-test.true is) in
+    goes_on (goes_on so_far.since c.read.ensures.time (image_or read)) c.write.ensures.time (image_or adds)
+
+pub loop-target-preserved : goal.loop-target-preserved
+loop-target-preserved g c =
+    let so_far = c.loop-target.invariant in
+    let sectors = c.args.sectors.now in
+    let i = c.loop-target.target-index in
+    let lt : i < length sectors = c.loop-target-test.true in
+    let first = g.D.Disk.state c.args.disk.now in
+    let last = g.D.Disk.state c.loop-target.disk in
+    let after = g.D.Disk.state c.write.new.self in
+    let range = range_at first.size sectors so_far.valid i lt in
+    let whole : length last.seen ≡ last.size = (g.met.D.Disk.seen_is_image c.loop-target.disk).size in
+    let fits : get_or sectors i 0 < length last.seen = omega (arith, whole, so_far.adds.size, range.1) in
+    let content : c.read.new.to ≡ sector first.seen (2 + i) =
+    c.in_ok-read.ensures.content ∙ so_far.low c.loop-target.from (omega (arith, so_far.from, lt, so_far.valid.few)) ∙ ap (sector first.seen) so_far.from in
+    let put : after.seen ≡ set last.seen (get_or sectors i 0) c.read.new.to =
+    c.in_ok-write.ensures.written.seen ∙ ap (λ (l : Image). set l (get_or sectors i 0) c.read.new.to) c.read.ensures.same.narrowed.seen in
+    let read = adds_narrowed so_far.adds c.read.ensures.same.narrowed in
+    let adds = adds_write read c.write.ensures.changes (λ k content is same. in_at sectors i k content lt is) in
+    record {
+      from = omega (arith, so_far.from);
+      room = so_far.room;
+      valid = so_far.valid;
+      low = λ n low.
+          ap (λ (l : Image). sector l n) put
+          ∙ get_or-set_other last.seen (get_or sectors i 0) n c.read.new.to [] (λ (e : n ≡ get_or sectors i 0). omega (arith, low, e, range.0))
+          ∙ so_far.low n low;
+      written =
+          written_more (λ k. get_or sectors k 0) (λ k. sector first.seen (2 + k)) last.seen after.seen i fits
+          (put ∙ ap (set last.seen (get_or sectors i 0)) content)
+          (λ k low same. apart_at sectors so_far.valid.apart k i low lt same) so_far.written;
+      adds = adds;
+      since = goes_on (goes_on so_far.since c.read.ensures.time (image_or read)) c.write.ensures.time (image_or adds);
+      failures = omega (arith, so_far.failures, c.read.ensures.cause.later, c.write.ensures.cause.later);
+    }

@@ -1,0 +1,17 @@
+use Rattle.std.proofs.Common.{◌≡◌, ◌≤◌, ◌<◌, ◌+◌, ℕ, length}
+use Rattle.sector_disk.specs.Disk.{AddsOnly, IsImageOr, LeavesOnly, sector}
+use Rattle.redo_journal.specs.Batch.{content_at}
+use Rattle.redo_journal.specs.States.{InLog}
+use Rattle.redo_journal.proofs.steps.write_log.Given as goal
+
+abbrev pub invariant-loop-entry : goal.invariant-loop-entry
+invariant-loop-entry g l = record {
+  at : l.at ≡ 2 + l.entry-index;
+  few : length l.entries ≤ 126;
+  room : 128 ≤ (g.D.Disk.state l.initial.disk).size;
+  written : (k : ℕ) → k < l.entry-index → sector (g.D.Disk.state l.disk).seen (2 + k) ≡ content_at l.entries k;
+  adds : AddsOnly InLog (g.D.Disk.state l.initial.disk) (g.D.Disk.state l.disk);
+  since : LeavesOnly (g.D.Disk.state l.initial.disk) (g.D.Disk.state l.disk) (IsImageOr InLog (g.D.Disk.state l.initial.disk));
+  failures : (g.D.Disk.state l.initial.disk).failures ≤ (g.D.Disk.state l.disk).failures;
+  failed_writes : (g.D.Disk.state l.initial.disk).failed_writes ≤ (g.D.Disk.state l.disk).failed_writes;
+}

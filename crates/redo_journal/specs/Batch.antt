@@ -1,0 +1,46 @@
+-- A batch: sectors, and the contents that they are to have.
+--     target_at, content_at, targets        the sectors of the entries, and their contents
+--     IsBatch, IsOnDisk        what each batch is; and a batch whose sectors a disk has
+--     has_entry, put_entry, with_batch        a batch as a map
+use Rattle.std.specs.Prelude.{ℕ, ◌<◌, ◌≤◌, Bool, true, false, List, [], ◌∷◌, length, map, All, slice_index_or, if◌then◌else◌, nat_eq}
+use Rattle.fs_layout.specs.declared.commit.TheConstants.{MAX_TARGETS}
+use Rattle.fs_layout.specs.declared.place.TheConstants.{INODE_BITMAP}
+use Rattle.fs_layout.specs.Bytes.{SectorMap}
+use Rattle.fs_layout.specs.Commit.{AreDistinct}
+
+abbrev pub Entry : Type 0
+Entry = ℕ × List ℕ
+
+abbrev pub targets : List Entry → List ℕ
+targets entries = map (λ e. e.0) entries
+
+abbrev pub target_at : List Entry → ℕ → ℕ
+target_at entries k = (slice_index_or entries k (0, [])).0
+
+abbrev pub content_at : List Entry → ℕ → List ℕ
+content_at entries k = (slice_index_or entries k (0, [])).1
+
+-- at most as many sectors as a commit has, each once, and each behind the log
+pub record IsBatch (entries : List Entry) : Type 0 where
+  pub few : length entries ≤ MAX_TARGETS
+  pub high : All (λ t. INODE_BITMAP ≤ t) (targets entries)
+  pub apart : AreDistinct (targets entries)
+
+-- a disk of so many sectors has each of them
+abbrev pub IsOnDisk : ℕ → List Entry → Type 0
+IsOnDisk size entries = All (λ t. t < size) (targets entries)
+
+-- one of the entries is for this sector
+abbrev pub has_entry : List Entry → ℕ → Bool
+has_entry [] n = false
+has_entry (e ∷ es) n = if nat_eq n e.0 then true else has_entry es n
+
+-- the entries with this content for this sector
+abbrev pub put_entry : List Entry → ℕ → List ℕ → List Entry
+put_entry [] n content = (n, content) ∷ []
+put_entry (e ∷ es) n content = if nat_eq n e.0 then (n, content) ∷ es else e ∷ put_entry es n content
+
+-- a map of sectors, with the batch's contents in place of its own
+abbrev pub with_batch : List Entry → SectorMap → SectorMap
+with_batch [] sectors n = sectors n
+with_batch (e ∷ es) sectors n = if nat_eq n e.0 then e.1 else with_batch es sectors n

@@ -1,0 +1,74 @@
+-- What an image means: the map of sectors that it reads as after recovery.
+--     IsMapped, SameMap        the sectors of that map
+--     data_of        the map of a disk
+--     HasValidCommit        an image whose commit sector is valid
+--     ReadsAs, IsEither        an image that means a map; and one that means one of two
+--     EachReadsAs        a disk of which a stop leaves only what means a map
+--     LeavesSameMap, LeavesAllOrNone        what a stop leaves at any moment of a step of a commit
+--     MeansAs, MeansAsBefore        an image that means what another one does
+--     disk_of        the device in what a step of a commit gives
+use Rattle.std.specs.Prelude.{ℕ, ◌≡◌, ◌≤◌, ◌⊎◌, ◌↔◌, List, length, Result, Ok, Err}
+use Rattle.fs_layout.specs.declared.place.TheConstants.{COMMIT_SECTOR, INODE_BITMAP}
+use Rattle.fs_layout.specs.Bytes.{SectorMap}
+use Rattle.fs_layout.specs.Commit.{IsValidCommit}
+use Rattle.fs_layout.specs.Recovered.{recovered}
+use Rattle.sector_disk.specs.Disk.{DiskState, Image, sector, IsImage, LeavesOnly}
+use Rattle.redo_journal.specs.Batch.{Entry, with_batch}
+
+-- sector 0 and those behind the log
+abbrev pub IsMapped : ℕ → Type 0
+IsMapped n = (n ≡ 0) ⊎ (INODE_BITMAP ≤ n)
+
+-- two maps that agree on these
+abbrev pub SameMap : SectorMap → SectorMap → Type 0
+SameMap left right = (n : ℕ) → IsMapped n → left n ≡ right n
+
+-- the map that a disk reads as after recovery
+abbrev pub data_of : DiskState → SectorMap
+data_of disk = recovered disk.size (sector disk.seen)
+
+-- the commit sector of an image of so many sectors is valid
+abbrev pub HasValidCommit : ℕ → Image → Type 0
+HasValidCommit size image = IsValidCommit size (sector image COMMIT_SECTOR)
+
+-- on a disk of so many sectors the image has a valid commit sector, and after recovery it reads as this map
+pub record ReadsAs (size : ℕ) (sectors : SectorMap) (image : Image) : Type 0 where
+  pub whole : length image ≡ size
+  pub commit : HasValidCommit size image
+  pub reads : SameMap (recovered size (sector image)) sectors
+
+-- the image reads as the first map, or as the second
+abbrev pub IsEither : ℕ → SectorMap → SectorMap → Image → Type 0
+IsEither size before after image = ReadsAs size before image ⊎ ReadsAs size after image
+
+-- a stop leaves only what reads as the map
+abbrev pub EachReadsAs : SectorMap → DiskState → Type 0
+EachReadsAs sectors disk = (image : Image) → IsImage disk image → ReadsAs disk.size sectors image
+
+-- a stop at any moment since old leaves what reads as old does
+abbrev pub LeavesSameMap : DiskState → DiskState → Type 0
+LeavesSameMap old new = LeavesOnly old new (ReadsAs old.size (data_of old))
+
+-- a stop at any moment since old leaves what reads as old does, or as that with the whole batch
+abbrev pub LeavesAllOrNone : List Entry → DiskState → DiskState → Type 0
+LeavesAllOrNone entries old new = LeavesOnly old new (IsEither old.size (data_of old) (with_batch entries (data_of old)))
+
+-- on a disk of so many sectors the image's commit sector is valid exactly where that of the other image is, and
+-- after recovery both read as the same map
+pub record MeansAs (size : ℕ) (from image : Image) : Type 0 where
+  pub whole : length image ≡ size
+  pub commit : HasValidCommit size from ↔ HasValidCommit size image
+  pub reads : SameMap (recovered size (sector image)) (recovered size (sector from))
+
+-- a stop might have left, before, an image that means what this one does
+abbrev pub MeansAsBefore : DiskState → Image → Type 0
+MeansAsBefore old image = (from : Image) × IsImage old from × MeansAs old.size from image
+
+-- the device, also after a fault
+abbrev pub disk_of : {D : Type 0} → Result D D → D
+disk_of (Ok disk) = disk
+disk_of (Err disk) = disk
+
+abbrev pub disk_opened : {D F : Type 0} → Result D (F × D) → D
+disk_opened (Ok disk) = disk
+disk_opened (Err fault) = fault.1

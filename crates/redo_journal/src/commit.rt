@@ -1,0 +1,155 @@
+//! The steps of a commit, and what images mean while they run.
+
+ghost use Rattle.std.specs.Prelude.{◌≡◌, ◌≤◌, ◌<◌, [], ◌∷◌, ℕ, List, length, IsOk, OnOk, MatchOption};
+ghost use Rattle.fs_layout.specs.declared.commit.TheConstants.{MAX_TARGETS};
+ghost use Rattle.fs_layout.specs.Commit.{AreTargets, IsCommit, IsValidCommit, commit_bytes};
+ghost use Rattle.redo_journal.specs.Batch.{Entry, targets, with_batch};
+ghost use Rattle.redo_journal.specs.Meaning.{data_of, EachReadsAs, LeavesSameMap, LeavesAllOrNone};
+ghost use Rattle.redo_journal.specs.States.{IsAtRest, IsIdle, IsLogged, IsSealed, IsInstalled};
+ghost use Rattle.sector_disk.specs.Disk.{HasCause, HasWriteCause};
+
+use crate::steps::{copy_log, write_log, write_targets};
+use fs_layout::{COMMIT_SECTOR, Commit, MAX_TARGETS};
+use sector_disk::{Disk, DiskFault, write_synced};
+
+/// Writes the batch into the log and syncs. Each image reads as before.
+pub(crate) fn log_batch<D: Disk>(
+    disk: &mut D,
+    entries: &[(u32, [u8; 512])],
+) -> Result<(), DiskFault>
+    requires idle { IsIdle (D.state disk.old) }
+    requires valid { AreTargets (D.state disk.old).size (targets entries.now) }
+    ensures logged { OnOk result (IsLogged entries.now (D.state disk.new)) }
+    ensures any_moment { LeavesSameMap (D.state disk.old) (D.state disk.new) }
+    ensures empty { length entries.now ≡ 0 → IsOk result × (disk.new ≡ disk.old) }
+    ensures size { (D.state disk.new).size ≡ (D.state disk.old).size }
+    ensures cause { HasCause (D.state disk.old) (D.state disk.new) result }
+    ensures told { HasWriteCause (D.state disk.old) (D.state disk.new) result }
+{
+    if entries.is_empty() {
+        return Ok(());
+    }
+    write_log(disk, entries)?;
+    disk.sync()
+}
+
+/// Writes the commit sector and syncs. Each image reads as before, or with the whole batch.
+pub(crate) fn seal_batch<D: Disk>(
+    disk: &mut D,
+    entries: &[(u32, [u8; 512])],
+) -> Result<(), DiskFault>
+    requires { IsLogged entries.now (D.state disk.old) }
+    ensures sealed { OnOk result (IsSealed entries.now (D.state disk.new)) }
+    ensures lasting { OnOk result (EachReadsAs (with_batch entries.now (data_of (D.state disk.old))) (D.state disk.new)) }
+    ensures any_moment { LeavesAllOrNone entries.now (D.state disk.old) (D.state disk.new) }
+    ensures empty { length entries.now ≡ 0 → IsOk result × (disk.new ≡ disk.old) }
+    ensures size { (D.state disk.new).size ≡ (D.state disk.old).size }
+    ensures cause { HasCause (D.state disk.old) (D.state disk.new) result }
+    ensures told { HasWriteCause (D.state disk.old) (D.state disk.new) result }
+{
+    if entries.is_empty() {
+        return Ok(());
+    }
+    write_synced(disk, COMMIT_SECTOR, &commit_sector(entries))
+}
+
+/// Writes the batch's sectors and syncs, and takes the commit away and syncs. Each image reads as before.
+pub(crate) fn install_batch<D: Disk>(
+    disk: &mut D,
+    entries: &[(u32, [u8; 512])],
+) -> Result<(), DiskFault>
+    requires { IsSealed entries.now (D.state disk.old) }
+    ensures idle { OnOk result (IsIdle (D.state disk.new)) }
+    ensures any_moment { LeavesSameMap (D.state disk.old) (D.state disk.new) }
+    ensures empty { length entries.now ≡ 0 → IsOk result × (disk.new ≡ disk.old) }
+    ensures size { (D.state disk.new).size ≡ (D.state disk.old).size }
+    ensures cause { HasCause (D.state disk.old) (D.state disk.new) result }
+    ensures told { HasWriteCause (D.state disk.old) (D.state disk.new) result }
+{
+    if entries.is_empty() {
+        return Ok(());
+    }
+    put_in_place(disk, entries)?;
+    clear_commit(disk)
+}
+
+// Writes the batch's contents to its sectors and syncs. The commit stays.
+fn put_in_place<D: Disk>(disk: &mut D, entries: &[(u32, [u8; 512])]) -> Result<(), DiskFault>
+    requires { IsSealed entries.now (D.state disk.old) }
+    ensures installed { OnOk result (IsInstalled (targets entries.now) (D.state disk.new)) }
+    ensures any_moment { LeavesSameMap (D.state disk.old) (D.state disk.new) }
+    ensures size { (D.state disk.new).size ≡ (D.state disk.old).size }
+    ensures cause { HasCause (D.state disk.old) (D.state disk.new) result }
+    ensures told { HasWriteCause (D.state disk.old) (D.state disk.new) result }
+{
+    write_targets(disk, entries)?;
+    disk.sync()
+}
+
+/// Writes the log's contents to the commit's sectors and syncs, and takes the commit away and syncs. Each image reads as
+/// before.
+pub(crate) fn install_log<D: Disk>(disk: &mut D, sectors: &[u32]) -> Result<(), DiskFault>
+    requires { IsAtRest sectors.now (D.state disk.old) }
+    ensures idle { OnOk result (IsIdle (D.state disk.new)) }
+    ensures any_moment { LeavesSameMap (D.state disk.old) (D.state disk.new) }
+    ensures size { (D.state disk.new).size ≡ (D.state disk.old).size }
+    ensures cause { HasCause (D.state disk.old) (D.state disk.new) result }
+{
+    if sectors.is_empty() {
+        return Ok(());
+    }
+    replay(disk, sectors)?;
+    clear_commit(disk)
+}
+
+// Writes the log's contents to the commit's sectors and syncs. The commit stays.
+fn replay<D: Disk>(disk: &mut D, sectors: &[u32]) -> Result<(), DiskFault>
+    requires { IsAtRest sectors.now (D.state disk.old) }
+    ensures installed { OnOk result (IsInstalled sectors.now (D.state disk.new)) }
+    ensures any_moment { LeavesSameMap (D.state disk.old) (D.state disk.new) }
+    ensures size { (D.state disk.new).size ≡ (D.state disk.old).size }
+    ensures cause { HasCause (D.state disk.old) (D.state disk.new) result }
+{
+    copy_log(disk, sectors)?;
+    disk.sync()
+}
+
+// Takes the commit away and syncs.
+fn clear_commit<D: Disk>(disk: &mut D) -> Result<(), DiskFault>
+    requires { (sectors : List ℕ) × IsInstalled sectors (D.state disk.old) }
+    ensures idle { OnOk result (IsIdle (D.state disk.new)) }
+    ensures any_moment { LeavesSameMap (D.state disk.old) (D.state disk.new) }
+    ensures size { (D.state disk.new).size ≡ (D.state disk.old).size }
+    ensures cause { HasCause (D.state disk.old) (D.state disk.new) result }
+    ensures told { HasWriteCause (D.state disk.old) (D.state disk.new) result }
+{
+    write_synced(disk, COMMIT_SECTOR, &Commit::idle().to_sector())
+}
+
+// The content of a commit sector that names the entries' sectors.
+fn commit_sector(entries: &[(u32, [u8; 512])]) -> [u8; 512]
+    requires { length entries.now ≤ MAX_TARGETS }
+    ensures { result ≡ commit_bytes (targets entries.now) }
+{
+    let mut sectors = [0; MAX_TARGETS];
+    for (k, entry) in entries.iter().enumerate() {
+        sectors[k] = entry.0;
+    }
+    Commit::new(&sectors[..entries.len()]).to_sector()
+}
+
+/// The commit that a sector's content is, on a disk of so many sectors.
+pub(crate) fn valid_commit(content: &[u8; 512], size: u32) -> Option<Commit>
+    ensures { MatchOption result (IsValidCommit size content.now → ⊥) (λ sectors. IsCommit size content.now sectors) }
+{
+    match Commit::read_from(content, 0) {
+        Ok(commit) => {
+            if commit.is_valid_for(size) {
+                Some(commit)
+            } else {
+                None
+            }
+        }
+        Err(_) => None,
+    }
+}

@@ -1,0 +1,238 @@
+//! The states of a commit. Each owns the disk, so that a disk has one of them at a time.
+
+ghost use Rattle.std.specs.Prelude.{◌≡◌, ◌<◌, ℕ, List, length, Ok, IfOk, OnOk};
+ghost use Rattle.redo_journal.specs.Batch.{IsOnDisk, with_batch};
+ghost use Rattle.redo_journal.specs.Meaning.{IsMapped, SameMap, data_of, disk_of, EachReadsAs, LeavesSameMap, LeavesAllOrNone};
+ghost use Rattle.redo_journal.specs.States.{IsIdle, IsLogged, IsSealed};
+ghost use Rattle.sector_disk.specs.Disk.{IsSame, Elapses, OnlyReads, HasCause, HasWriteCause};
+
+use crate::Batch;
+use crate::commit::{install_batch, log_batch, seal_batch};
+use sector_disk::{CrashDisk, Disk, DiskFault};
+use std::marker::Model;
+
+/// A disk on which no commit is under way.
+///
+/// A contract sees each of the four states as its disk. Any of them may be dropped, which is as if the disk were
+/// stopped: [`Journal::open`] settles what that leaves.
+#[derive(Drop)]
+pub struct Journal<D: Disk> {
+    disk: D,
+}
+
+impl<D: Disk> Model for Journal<D> {
+    ghost use Rattle.redo_journal.specs.States.{IsIdle};
+
+    ghost Value = { D };
+
+    ghost view = { λ j. j.disk };
+
+    ghost invariant = { λ j. IsIdle (D.state j.disk) };
+}
+
+/// A disk with a batch in its log. Its images still read as without the batch.
+#[derive(Drop)]
+pub struct Logged<D> {
+    disk: D,
+}
+
+impl<D> Model for Logged<D> {
+    ghost Value = { D };
+
+    ghost view = { λ j. j.disk };
+}
+
+/// A disk with the commit of a batch. Its images read as with the batch, though the batch's sectors aren't written.
+#[derive(Drop)]
+pub struct Sealed<D> {
+    disk: D,
+}
+
+impl<D> Model for Sealed<D> {
+    ghost Value = { D };
+
+    ghost view = { λ j. j.disk };
+}
+
+/// A disk that has failed within a commit. Only [`Journal::open`] tells how far the commit came.
+#[derive(Drop)]
+pub struct Broken<D> {
+    disk: D,
+}
+
+impl<D> Model for Broken<D> {
+    ghost Value = { D };
+
+    ghost view = { λ j. j.disk };
+}
+
+impl<D: Disk> Journal<D> {
+    // A journal on this disk.
+    pub(crate) fn on(disk: D) -> Journal<D>
+        requires { IsIdle (D.state disk) }
+        ensures { result ≡ disk }
+    {
+        Journal { disk }
+    }
+
+    /// Does nothing: its clause tells a caller's proof what is true of each journal.
+    pub fn tell_idle(&self)
+        ensures { IsIdle (D.state self.now) }
+    {
+        let _disk = &self.disk;
+    }
+
+    /// Writes the batch into the log and syncs.
+    pub fn log(self, batch: &Batch) -> Result<Logged<D>, Broken<D>>
+        requires { IsOnDisk (D.state self).size batch.now }
+
+        ensures logged { IfOk result (λ logged. IsLogged batch.now (D.state logged)) }
+        ensures same { IfOk result (λ logged. SameMap (data_of (D.state logged)) (data_of (D.state self))) }
+
+        // A stop at any moment of the call leaves what reads as before it.
+        ensures any_moment { LeavesSameMap (D.state self) (D.state (disk_of result)) }
+
+        // With an empty batch the disk isn't called.
+        ensures empty { length batch.now ≡ 0 → result ≡ Ok self }
+
+        ensures size { (D.state (disk_of result)).size ≡ (D.state self).size }
+        ensures cause { HasCause (D.state self) (D.state (disk_of result)) result }
+        ensures told { HasWriteCause (D.state self) (D.state (disk_of result)) result }
+    {
+        let Journal { mut disk } = self;
+        match log_batch(&mut disk, batch.entries()) {
+            Ok(()) => Ok(Logged { disk }),
+            Err(DiskFault) => Err(Broken { disk }),
+        }
+    }
+
+    /// Reads sector 0, or one behind the log. At `Err` nothing is said of the buffer.
+    pub fn read(&mut self, n: u32, to: &mut [u8; 512]) -> Result<(), DiskFault>
+        requires part { IsMapped n }
+        requires on_disk { n < (D.state self.old).size }
+
+        ensures content { OnOk result (to.new ≡ data_of (D.state self.old) n) }
+        ensures same { (m : ℕ) → data_of (D.state self.new) m ≡ data_of (D.state self.old) m }
+        ensures unchanged { IsSame (D.state self.old) (D.state self.new) }
+        ensures reads { OnlyReads (D.state self.old) (D.state self.new) }
+        ensures cause { HasCause (D.state self.old) (D.state self.new) result }
+    {
+        self.disk.read(n, to)
+    }
+
+    /// Lets go of what the disk keeps of its past: nothing is said any more of the moments before this one.
+    pub fn forget(&mut self)
+        ensures unchanged { IsSame (D.state self.old) (D.state self.new) }
+        ensures failures { (D.state self.new).failures ≡ (D.state self.old).failures }
+        ensures failed_writes { (D.state self.new).failed_writes ≡ (D.state self.old).failed_writes }
+    {
+        self.disk.forget();
+    }
+
+    /// The disk.
+    pub fn into_disk(self) -> D
+        ensures disk { result ≡ self }
+        ensures idle { IsIdle (D.state result) }
+    {
+        let Journal { disk } = self;
+        disk
+    }
+}
+
+impl<D: CrashDisk> Journal<D> {
+    /// Lets this many writes and syncs of the disk pass, and fails all later ones.
+    pub fn arm(&mut self, passes: u64)
+        ensures unchanged { IsSame (D.state self.old) (D.state self.new) }
+        ensures time { Elapses (D.state self.old) (D.state self.new) }
+        ensures failures { (D.state self.new).failures ≡ (D.state self.old).failures }
+    {
+        self.disk.arm(passes);
+    }
+}
+
+impl<D: Disk> Logged<D> {
+    /// Writes the commit sector and syncs. The batch is the one that was logged.
+    pub fn seal(self, batch: &Batch) -> Result<Sealed<D>, Broken<D>>
+        requires { IsLogged batch.now (D.state self) }
+
+        ensures sealed { IfOk result (λ sealed. IsSealed batch.now (D.state sealed)) }
+        ensures changed { IfOk result (λ sealed. SameMap (data_of (D.state sealed)) (with_batch batch.now (data_of (D.state self)))) }
+
+        // A stop at any moment of the call leaves what reads as before it, or with the whole batch.
+        ensures any_moment { LeavesAllOrNone batch.now (D.state self) (D.state (disk_of result)) }
+
+        // From `Ok` on it leaves what reads with the whole batch.
+        ensures lasting { IfOk result (λ sealed. EachReadsAs (with_batch batch.now (data_of (D.state self))) (D.state sealed)) }
+
+        // With an empty batch the disk isn't called.
+        ensures empty { length batch.now ≡ 0 → result ≡ Ok self }
+
+        ensures size { (D.state (disk_of result)).size ≡ (D.state self).size }
+        ensures cause { HasCause (D.state self) (D.state (disk_of result)) result }
+        ensures told { HasWriteCause (D.state self) (D.state (disk_of result)) result }
+    {
+        let Logged { mut disk } = self;
+        match seal_batch(&mut disk, batch.entries()) {
+            Ok(()) => Ok(Sealed { disk }),
+            Err(DiskFault) => Err(Broken { disk }),
+        }
+    }
+}
+
+impl<D: Disk> Sealed<D> {
+    /// Writes the batch's sectors and syncs, and then takes the commit away and syncs. The batch is the one that was
+    /// sealed.
+    pub fn install(self, batch: &Batch) -> Result<Journal<D>, Broken<D>>
+        requires { IsSealed batch.now (D.state self) }
+
+        ensures same { IfOk result (λ journal. SameMap (data_of (D.state journal)) (data_of (D.state self))) }
+
+        // A stop at any moment of the call leaves what reads as before it, which is with the batch.
+        ensures any_moment { LeavesSameMap (D.state self) (D.state (disk_of result)) }
+
+        // With an empty batch the disk isn't called.
+        ensures empty { length batch.now ≡ 0 → result ≡ Ok self }
+
+        ensures size { (D.state (disk_of result)).size ≡ (D.state self).size }
+        ensures cause { HasCause (D.state self) (D.state (disk_of result)) result }
+        ensures told { HasWriteCause (D.state self) (D.state (disk_of result)) result }
+    {
+        let Sealed { mut disk } = self;
+        match install_batch(&mut disk, batch.entries()) {
+            Ok(()) => Ok(Journal { disk }),
+            Err(DiskFault) => Err(Broken { disk }),
+        }
+    }
+}
+
+impl<D> Broken<D> {
+    /// The disk.
+    pub fn into_disk(self) -> D
+        ensures { result ≡ self }
+    {
+        let Broken { disk } = self;
+        disk
+    }
+}
+
+impl<D: Disk> Broken<D> {
+    /// Lets go of what the disk keeps of its past: nothing is said any more of the moments before this one.
+    pub fn forget(&mut self)
+        ensures unchanged { IsSame (D.state self.old) (D.state self.new) }
+        ensures failures { (D.state self.new).failures ≡ (D.state self.old).failures }
+        ensures failed_writes { (D.state self.new).failed_writes ≡ (D.state self.old).failed_writes }
+    {
+        self.disk.forget();
+    }
+}
+
+impl<D: CrashDisk> Broken<D> {
+    /// Lets this many writes and syncs of the disk pass, and fails all later ones.
+    pub fn arm(&mut self, passes: u64)
+        ensures unchanged { IsSame (D.state self.old) (D.state self.new) }
+        ensures time { Elapses (D.state self.old) (D.state self.new) }
+        ensures failures { (D.state self.new).failures ≡ (D.state self.old).failures }
+    {
+        self.disk.arm(passes)
+    }
+}

@@ -1,0 +1,5 @@
+mod Done
+mod Forgets
+pub mod Moments
+mod Passing
+mod Recorded

@@ -1,0 +1,14 @@
+//! Disks of 512-byte sectors: what reads give, and what a stop may leave.
+#![tactic(auto)]
+
+mod disk;
+mod faulty;
+mod history;
+mod memory;
+
+pub use disk::{CrashDisk, Disk, DiskFault, write_synced};
+pub use faulty::{FailOnce, FaultyDisk, FuseDisk};
+pub use memory::MemDisk;
+
+#[cfg(test)]
+mod tests;

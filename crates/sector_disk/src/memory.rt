@@ -1,0 +1,170 @@
+//! A disk in memory, which can be stopped. A record of its writes and syncs answers for the moments since the last
+//! stop.
+
+ghost use Rattle.std.specs.Prelude.{◌≡◌, ◌^◌, ◌<◌, ◌-◌, length, vec_len, replicate, IfOk, IsErr, ◌+◌, ℕ, get_or};
+ghost use Rattle.sector_disk.specs.Disk.{IsFresh, IsWholeSector};
+ghost use Rattle.sector_disk.specs.Record.{recorded_state};
+ghost use Rattle.sector_disk.specs.Replay.{seen_is_image, counts_now, only_now};
+ghost use Rattle.sector_disk.specs.Whole.{AreSectors, AreWhole, whole_sectors};
+
+use crate::history::History;
+use crate::{CrashDisk, Disk, DiskFault};
+use std::alloc::{AllocError, Global};
+
+/// A disk in memory, for tests and for a file system that isn't to last.
+///
+/// Each write and sync is recorded, until [`forget`](Disk::forget) lets go of what came before the last sync. One whose
+/// record finds no memory fails and is counted, and its content isn't kept; one that fails because of
+/// [`arm`](CrashDisk::arm) is recorded, so that a stop may leave its content.
+#[derive(Drop)]
+pub struct MemDisk {
+    history: History,
+    // How many writes and syncs pass before all fail.
+    armed: Option<u64>,
+    failures: u64,
+    ghost small: { length history.start < 2 ^ 32 },
+    ghost counted: { failures < 2 ^ 64 },
+    ghost whole: { AreWhole history },
+}
+
+impl MemDisk {
+    /// A disk of zeros, all of them stable.
+    pub fn new(alloc: Global, size: u32) -> Result<Self, AllocError>
+        ensures { IfOk result (λ disk. IsFresh (⟦<MemDisk as Disk>⟧.state disk) (replicate size (replicate 512 0))) }
+    {
+        let mut sectors = Vec::new(alloc);
+        sectors.resize(size as usize, [0; 512])?;
+        MemDisk::from_sectors(alloc, sectors)
+    }
+
+    /// A disk with these contents, all of them stable.
+    pub fn from_sectors(alloc: Global, sectors: Vec<[u8; 512]>) -> Result<Self, AllocError>
+        requires { vec_len sectors < 2 ^ 32 }
+        ensures { IfOk result (λ disk. IsFresh (⟦<MemDisk as Disk>⟧.state disk) sectors.items) }
+    {
+        tell_all_whole(&sectors);
+        Ok(MemDisk {
+            history: History::new(alloc, sectors)?,
+            armed: None,
+            failures: 0,
+        })
+    }
+
+    // Whether one write or sync more passes.
+    fn passes(&mut self) -> bool
+        ensures history { self.new.history ≡ self.old.history }
+        ensures failures { self.new.failures ≡ self.old.failures }
+    {
+        match self.armed {
+            Some(0) => false,
+            Some(more) => {
+                self.armed = Some(more - 1);
+                true
+            }
+            None => true,
+        }
+    }
+
+    // Counts a fault.
+    fn fail(&mut self) -> Result<(), DiskFault>
+        requires { self.old.failures < 2 ^ 64 - 1 }
+        ensures history { self.new.history ≡ self.old.history }
+        ensures counted { self.new.failures ≡ self.old.failures + 1 }
+        ensures result { IsErr result }
+    {
+        self.failures += 1;
+        Err(DiskFault)
+    }
+}
+
+// Bytes are below 256: a fact of their type.
+fn tell_bytes(bytes: &[u8])
+    ensures { (i : ℕ) → get_or bytes.now i 0 < 256 }
+{
+    let _count = bytes.len();
+}
+
+// A sector has 512 of them.
+fn tell_whole(sector: &[u8; 512])
+    ensures { IsWholeSector sector.now }
+{
+    tell_bytes(sector);
+}
+
+// The same of each of these.
+fn tell_all_whole(sectors: &[[u8; 512]])
+    ensures { AreSectors sectors.now }
+{
+    for sector in sectors {
+        tell_whole(sector);
+    }
+}
+
+impl Disk for MemDisk {
+    ghost state = { λ disk. recorded_state disk.history disk.failures };
+
+    ghost size_fits = { λ disk. disk.small };
+
+    ghost failures_fit = { λ disk. disk.counted };
+
+    ghost whole_sectors = { λ disk. whole_sectors disk.history disk.whole };
+
+    ghost seen_is_image = { λ disk. seen_is_image disk.history disk.failures };
+
+    ghost counts_now = { λ disk. counts_now disk.history disk.failures };
+
+    ghost only_now = { λ disk. only_now disk.history disk.failures };
+
+    fn size(&self) -> u32 {
+        self.history.len()
+    }
+
+    fn failures(&self) -> u64 {
+        self.failures
+    }
+
+    fn read(&mut self, n: u32, to: &mut [u8; 512]) -> Result<(), DiskFault> {
+        if self.failures == u64::MAX {
+            return Err(DiskFault);
+        }
+        self.history.read(n, to);
+        Ok(())
+    }
+
+    fn write(&mut self, n: u32, from: &[u8; 512]) -> Result<(), DiskFault> {
+        if self.failures == u64::MAX {
+            return Err(DiskFault);
+        }
+        if self.history.write(n, from).is_err() {
+            return self.fail();
+        }
+        // Where it fails because of `arm`, a stop may still leave the content.
+        if self.passes() { Ok(()) } else { self.fail() }
+    }
+
+    fn sync(&mut self) -> Result<(), DiskFault> {
+        if self.failures == u64::MAX {
+            return Err(DiskFault);
+        }
+        if self.passes() && self.history.sync().is_ok() {
+            Ok(())
+        } else {
+            self.fail()
+        }
+    }
+
+    fn forget(&mut self) {
+        self.history.forget();
+    }
+}
+
+impl CrashDisk for MemDisk {
+    fn arm(&mut self, passes: u64) {
+        self.armed = Some(passes);
+    }
+
+    fn crash(&mut self, choice: &[u8]) {
+        self.armed = None;
+        self.history.stop(choice);
+    }
+}

@@ -1,0 +1,75 @@
+-- What a stop leaves of a store, from one call to the next.
+use Rattle.std.proofs.Common.{◌≡◌, inl, inr, ⊎_elim, List, [], refl, ◌∙◌, subst}
+use Rattle.fs_layout.specs.Bytes.{SectorMap}
+use Rattle.sector_disk.specs.Disk.{DiskState, Image, IsImage, IsNarrowed, OnlyReads}
+use Rattle.sector_disk.proofs.Moments.{joined, narrowed, reads_then, started, weaker}
+use Rattle.redo_journal.specs.Batch.{Entry, with_batch}
+use Rattle.redo_journal.specs.Meaning.{SameMap, LeavesAllOrNone, LeavesSameMap, MeansAs, MeansAsBefore, data_of}
+use Rattle.redo_journal.specs.States.{IsIdle}
+use Rattle.redo_journal.proofs.Meaning.{either_on, reads_means, reads_same, rest_valid, with_batch_same}
+use Rattle.sector_txn.specs.Images.{IsOneOf, LeavesOldOr, LeavesOneOf}
+
+-- an image means what it means itself
+pub means_itself : {disk : DiskState} {image : Image} → IsImage disk image → MeansAsBefore disk image
+means_itself {disk} {image} is = (image, is, record { whole = is.size; commit = (λ valid. valid, λ valid. valid); reads = λ n part. refl })
+
+-- a call that does nothing
+pub nothing_left : {before after : SectorMap} {disk : DiskState} → ((image : Image) → disk.left_since disk.moment image → IsImage disk image) → LeavesOneOf before after disk disk
+nothing_left only_now = record { size = refl; any_moment = started only_now (λ image is. inl (means_itself is)) }
+
+-- ---- a commit
+
+-- a batch that was logged, and then sealed or not
+pub sealed_left : (entries : List Entry) (old logged new : DiskState) → logged.size ≡ old.size → SameMap (data_of logged) (data_of old)
+    → LeavesSameMap old logged → LeavesAllOrNone entries logged new → LeavesAllOrNone entries old new
+sealed_left entries old logged new size same first second = joined (weaker (λ image reads. inl reads) first) (weaker (either_on entries old logged size same) second)
+
+pub sealed_same : (entries : List Entry) (old logged sealed : DiskState) → SameMap (data_of logged) (data_of old) → SameMap (data_of sealed) (with_batch entries (data_of logged))
+    → SameMap (data_of sealed) (with_batch entries (data_of old))
+sealed_same entries old logged sealed same changed n part = changed n part ∙ with_batch_same entries (data_of logged) (data_of old) n (same n part)
+
+-- and then installed or not
+pub installed_left : (entries : List Entry) (old sealed new : DiskState) → sealed.size ≡ old.size → SameMap (data_of sealed) (with_batch entries (data_of old))
+    → LeavesAllOrNone entries old sealed → LeavesSameMap sealed new → LeavesAllOrNone entries old new
+installed_left entries old sealed new size same first second =
+    joined first (weaker (λ image reads. inr (reads_same old.size sealed.size (data_of sealed) (with_batch entries (data_of old)) size same image reads)) second)
+
+-- what reads as before a commit means what the disk shows then
+pub commit_left : (entries : List Entry) (old new : DiskState) → IsIdle old → IsImage old old.seen → new.size ≡ old.size → LeavesAllOrNone entries old new
+    → LeavesOldOr (with_batch entries (data_of old)) old new
+commit_left entries old new idle seen size run = record {
+  size = size;
+  any_moment = weaker (λ image. ⊎_elim (λ reads. inl (old.seen, seen, reads_means old image (rest_valid [] old idle) reads)) (λ reads. inr (inl reads))) run;
+}
+
+-- for a caller that speaks of one map more
+pub second_map : {before after : SectorMap} {old new : DiskState} → LeavesOldOr after old new → LeavesOneOf before after old new
+second_map run = record { size = run.size; any_moment = weaker (λ image. ⊎_elim (λ means. inl means) (⊎_elim (λ reads. inr (inr reads)) (λ reads. inr (inr reads)))) run.any_moment }
+
+pub first_map : {before after : SectorMap} {old new : DiskState} → LeavesOldOr before old new → LeavesOneOf before after old new
+first_map run = record { size = run.size; any_moment = weaker (λ image. ⊎_elim (λ means. inl means) (⊎_elim (λ reads. inr (inl reads)) (λ reads. inr (inl reads)))) run.any_moment }
+
+-- the same of maps with the same data
+pub maps_same : {before after before' after' : SectorMap} {old new : DiskState} → SameMap before before' → SameMap after after' → LeavesOneOf before after old new → LeavesOneOf before' after' old new
+maps_same {before} {after} {before'} {after'} {old} {new} same_before same_after run = record {
+  size = run.size;
+  any_moment = weaker
+      (λ image. ⊎_elim (λ means. inl means)
+      (⊎_elim (λ reads. inr (inl (reads_same old.size old.size before before' refl same_before image reads)))
+      (λ reads. inr (inr (reads_same old.size old.size after after' refl same_after image reads)))))
+      run.any_moment;
+}
+
+-- an image of a later moment, before which the disk was only read
+one_of_earlier : {before after : SectorMap} {old new : DiskState} → IsNarrowed old new → (image : Image) → IsOneOf new before after image → IsOneOf old before after image
+one_of_earlier {before} {after} {old} {new} changes image =
+    ⊎_elim (λ (means : MeansAsBefore new image). inl (means.0, narrowed changes means.1, subst (λ k. MeansAs k means.0 image) changes.size means.2))
+    (⊎_elim (λ reads. inr (inl (reads_same old.size new.size before before changes.size (λ n part. refl) image reads)))
+    (λ reads. inr (inr (reads_same old.size new.size after after changes.size (λ n part. refl) image reads))))
+
+-- a call that begins with reads alone
+pub after_reads : {before after : SectorMap} {old mid new : DiskState} → ((image : Image) → old.left_since old.moment image → IsImage old image) → OnlyReads old mid → LeavesOneOf before after mid new → LeavesOneOf before after old new
+after_reads only_now reads run = record {
+  size = run.size ∙ reads.narrowed.size;
+  any_moment = reads_then reads (weaker (one_of_earlier reads.narrowed) run.any_moment) (λ image left. inl (means_itself (only_now image left)));
+}

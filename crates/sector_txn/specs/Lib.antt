@@ -1,0 +1,4 @@
+pub mod Images
+pub mod Mixed
+pub mod Sectors
+pub mod Stores

@@ -1,0 +1,15 @@
+//! A map of sectors, whose changes of one call are kept whole or not at all.
+//!
+//! A [`Store`] stands on a journal. [`Store::begin`] gives a [`Txn`], in which a call reads and puts sectors by the
+//! trait [`Sectors`]; [`Txn::keep`] makes its changes part of the store, and [`Txn::drop_delta`] takes them back.
+//! [`Store::flush`] says that what was kept lasts.
+#![tactic(auto)]
+
+mod commit;
+mod sectors;
+mod store;
+#[cfg(test)]
+mod tests;
+
+pub use sectors::Sectors;
+pub use store::{Store, Txn};

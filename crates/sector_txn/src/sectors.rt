@@ -1,0 +1,36 @@
+//! The sectors that a call reads and changes.
+
+ghost use Rattle.std.specs.Prelude.{◌≡◌, ◌≤◌, ◌<◌, ℕ, false, OnOk};
+ghost use Rattle.redo_journal.specs.Meaning.{IsMapped};
+ghost use Rattle.sector_disk.specs.Disk.{HasCause};
+ghost use Rattle.sector_txn.specs.Sectors.{TxnState, IsUnchanged, IsPut};
+
+use sector_disk::DiskFault;
+
+/// A map of sectors, and the changes of one call to it.
+///
+/// The map has sector 0 and those from 128 on: between them lies the journal. A call that is refused leaves its
+/// changes behind, and its caller drops them all.
+pub trait Sectors {
+    /// The map, what it was before, which sectors were put, and the disk below.
+    ghost state: { Self → TxnState };
+
+    /// Reads a sector, as the last `put` left it. At `Err` nothing is said of the buffer.
+    fn get(&mut self, n: u32, to: &mut [u8; 512]) -> Result<(), DiskFault>
+        requires part { IsMapped n }
+        requires on_disk { n < (state self.old).disk.size }
+        ensures content { OnOk result (to.new ≡ (state self.old).sectors n) }
+        ensures same { IsUnchanged (state self.old) (state self.new) }
+        ensures cause { HasCause (state self.old).disk (state self.new).disk result };
+
+    /// Changes a sector. A sector that wasn't put yet takes room.
+    fn put(&mut self, n: u32, from: &[u8; 512])
+        requires part { 128 ≤ n }
+        requires on_disk { n < (state self.old).disk.size }
+        requires room { (state self.old).has_put n ≡ false → 0 < (state self.old).room }
+        ensures { IsPut n from.now (state self.old) (state self.new) };
+
+    /// How many sectors can still be put that weren't yet.
+    fn room(&self) -> usize
+        ensures { result ≡ (state self.now).room };
+}

@@ -1,0 +1,193 @@
+//! A store of sectors, and one call's transaction on it.
+#![tactic(auto, unfolding(crate::specs::Stores::present, crate::specs::Stores::map_before, crate::specs::Stores::map_now))]
+
+ghost use Rattle.std.specs.Prelude.{◌≡◌, ℕ, false, IsOk, IfOk, MatchResult};
+ghost use Rattle.redo_journal.specs.Meaning.{SameMap, EachReadsAs, data_of};
+ghost use Rattle.sector_disk.specs.Disk.{IsSame, Elapses, HasCause, HasWriteCause};
+ghost use Rattle.sector_txn.specs.Images.{LeavesOneOf, LeavesOldOr};
+ghost use Rattle.sector_txn.specs.Stores.{present, map_before, map_now, txn_state, disk_after};
+
+use crate::Sectors;
+use crate::commit::commit;
+use redo_journal::{Batch, Broken, Journal};
+use sector_disk::{CrashDisk, Disk, DiskFault};
+use std::alloc::{AllocError, Global};
+use std::marker::Model;
+
+// How many sectors one call may change.
+const DELTA: usize = 64;
+
+/// A map of sectors on a journal: sector 0 and those from 128 on.
+///
+/// It may be dropped, which is as if the disk were stopped.
+#[derive(Drop)]
+pub struct Store<D: Disk> {
+    journal: Journal<D>,
+    // No sectors: its memory serves one transaction after another.
+    delta: Batch,
+}
+
+impl<D: Disk> Model for Store<D> {
+    ghost use Rattle.std.specs.Prelude.{◌≡◌, []};
+    ghost use Rattle.sector_txn.specs.Stores.{StoreView};
+
+    ghost Value = { StoreView D };
+
+    ghost view = { λ store. record { disk = store.journal; waiting = [] } };
+
+    ghost invariant = { λ store. store.delta ≡ [] };
+}
+
+/// One call's changes to a store, at most 64 sectors. Either [`Txn::keep`] or [`Txn::drop_delta`] has to be called.
+#[must_use = "its changes are to be kept or dropped"]
+pub struct Txn<D: Disk> {
+    journal: Journal<D>,
+    delta: Batch,
+}
+
+impl<D: Disk> Model for Txn<D> {
+    ghost use Rattle.std.specs.Prelude.{[]};
+    ghost use Rattle.sector_txn.specs.Stores.{TxnView, IsTxn};
+
+    ghost Value = { TxnView D };
+
+    ghost view = { λ txn. record { disk = txn.journal; waiting = []; delta = txn.delta } };
+
+    ghost invariant = { λ txn. IsTxn (D.state txn.journal) txn.delta };
+}
+
+impl<D: Disk> Store<D> {
+    /// The store of a journal. It reserves the memory of all its transactions.
+    pub fn new(alloc: Global, journal: Journal<D>) -> Result<Store<D>, (AllocError, Journal<D>)>
+        ensures disk { MatchResult result (λ store. store.disk ≡ journal) (λ e. e.1 ≡ journal) }
+        ensures map { IfOk result (λ store. SameMap (present D.state store) (data_of (D.state journal))) }
+        ensures lasting { IfOk result (λ store. EachReadsAs (present D.state store) (D.state store.disk)) }
+    {
+        journal.tell_idle();
+        match Batch::new(alloc) {
+            Ok(delta) => Ok(Store { journal, delta }),
+            Err(error) => Err((error, journal)),
+        }
+    }
+
+    /// A transaction without changes.
+    pub fn begin(self) -> Txn<D>
+        ensures disk { result.disk ≡ self.disk }
+        ensures map { SameMap (txn_state D.state result).sectors (present D.state self) }
+        ensures before { SameMap (txn_state D.state result).before (present D.state self) }
+        ensures delta { (n : ℕ) → (txn_state D.state result).has_put n ≡ false }
+        ensures room { (txn_state D.state result).room ≡ 64 }
+    {
+        let Store { journal, delta } = self;
+        Txn { journal, delta }
+    }
+
+    /// From `Ok` on, all that was kept outlasts a stop.
+    pub fn flush(self) -> Result<Store<D>, Broken<D>>
+        ensures map { IfOk result (λ store. SameMap (present D.state store) (present D.state self)) }
+
+        // A stop at any moment of the call leaves what means as before it, or reads as the store.
+        ensures images { LeavesOldOr (present D.state self) (D.state self.disk) (D.state (disk_after result)) }
+
+        // From `Ok` on it leaves what reads as the store.
+        ensures lasting { IfOk result (λ store. EachReadsAs (present D.state self) (D.state store.disk)) }
+
+        ensures cause { HasCause (D.state self.disk) (D.state (disk_after result)) result }
+
+        ensures told { HasWriteCause (D.state self.disk) (D.state (disk_after result)) result }
+    {
+        // What was kept was committed there and then.
+        let Store { journal, delta } = self;
+        journal.tell_idle();
+        Ok(Store { journal, delta })
+    }
+
+    /// Lets go of what the disk keeps of its past: nothing is said any more of the moments before this one.
+    pub fn forget(&mut self)
+        ensures map { SameMap (present D.state self.new) (present D.state self.old) }
+        ensures unchanged { IsSame (D.state self.old.disk) (D.state self.new.disk) }
+        ensures failures { (D.state self.new.disk).failures ≡ (D.state self.old.disk).failures }
+        ensures failed_writes { (D.state self.new.disk).failed_writes ≡ (D.state self.old.disk).failed_writes }
+    {
+        self.journal.forget();
+    }
+
+    /// The disk. What was kept since the last flush may be lost at a stop.
+    pub fn into_disk(self) -> D
+        ensures { result ≡ self.disk }
+    {
+        let Store { journal, delta: _ } = self;
+        journal.into_disk()
+    }
+}
+
+impl<D: CrashDisk> Store<D> {
+    /// Lets this many writes and syncs of the disk pass, and fails all later ones.
+    pub fn arm(&mut self, passes: u64)
+        ensures map { SameMap (present D.state self.new) (present D.state self.old) }
+        ensures unchanged { IsSame (D.state self.old.disk) (D.state self.new.disk) }
+        ensures time { Elapses (D.state self.old.disk) (D.state self.new.disk) }
+        ensures failures { (D.state self.new.disk).failures ≡ (D.state self.old.disk).failures }
+    {
+        self.journal.arm(passes);
+    }
+}
+
+impl<D: Disk> Txn<D> {
+    /// Makes the changes part of the store, all of them at once.
+    pub fn keep(self) -> Result<Store<D>, Broken<D>>
+        ensures map { IfOk result (λ store. SameMap (present D.state store) (txn_state D.state self).sectors) }
+
+        // A stop at any moment of the call leaves what means as before it, or reads as the store without the changes
+        // or with all of them.
+        ensures images { LeavesOneOf (map_before D.state self) (map_now D.state self) (D.state self.disk) (D.state (disk_after result)) }
+
+        // Without changes the disk isn't called.
+        ensures empty { (txn_state D.state self).room ≡ 64 → IsOk result × (disk_after result ≡ self.disk) }
+
+        ensures cause { HasCause (D.state self.disk) (D.state (disk_after result)) result }
+
+        ensures told { HasWriteCause (D.state self.disk) (D.state (disk_after result)) result }
+    {
+        let Txn { journal, mut delta } = self;
+        match commit(journal, &delta) {
+            Ok(journal) => {
+                delta.clear();
+                Ok(Store { journal, delta })
+            }
+            Err(broken) => Err(broken),
+        }
+    }
+
+    /// Takes the changes back. The store is as it was.
+    pub fn drop_delta(self) -> Store<D>
+        ensures disk { result.disk ≡ self.disk }
+        ensures map { SameMap (present D.state result) (txn_state D.state self).before }
+    {
+        let Txn { journal, mut delta } = self;
+        delta.clear();
+        Store { journal, delta }
+    }
+}
+
+impl<D: Disk> Sectors for Txn<D> {
+    ghost state = { λ txn. txn_state D.state txn };
+
+    fn get(&mut self, n: u32, to: &mut [u8; 512]) -> Result<(), DiskFault> {
+        match self.delta.get(n) {
+            Some(content) => {
+                *to = *content;
+                Ok(())
+            }
+            None => self.journal.read(n, to),
+        }
+    }
+
+    fn put(&mut self, n: u32, from: &[u8; 512]) {
+        self.delta.put(n, from);
+    }
+
+    fn room(&self) -> usize {
+        DELTA - self.delta.len()
+    }
+}
