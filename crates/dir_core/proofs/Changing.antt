@@ -1,0 +1,222 @@
+-- A directory whose slots change, and its names then.
+use Rattle.std.specs.Prelude.{◌≡◌, ◌≢◌, ℕ, ◌+◌, ◌-◌, ◌*◌, ◌/◌, ◌%◌, ◌^◌, ◌<◌, ◌≤◌, List, [], ◌∷◌, ◌++◌, length, drop, set, get_or, replicate, Option, None, Some, All}
+use Rattle.std.proofs.Common.{true, false, Result, Ok, Err, refl, sym, ap, subst, arith, ◌∙◌}
+use Rattle.std.proofs.lemmas.List.{append-nil, length-set, set-get_or}
+use Rattle.fs_layout.specs.declared.inode.Inode.{Inode}
+use Rattle.fs_layout.specs.declared.inode.Kind.{Kind}
+use Rattle.fs_layout.specs.declared.inode.Kind.TheVariants as kinds
+use Rattle.fs_layout.specs.declared.place.Place.{Place}
+use Rattle.fs_layout.specs.declared.slot.TheConstants.{MAX_NAMES}
+use Rattle.fs_layout.specs.Bytes.{SectorMap, IsBytes, splice, window, resized, overwritten}
+use Rattle.fs_layout.specs.Images.{pointer, inode_at, Holds, HasNoHole}
+use Rattle.fs_layout.specs.Maps.{name_cmp, get, with_entry, without}
+use Rattle.fs_layout.specs.Directories.{NamedInode, IsName, FitsSlot, slot_bytes, slots_bytes, names_of_slots, HaveDistinctNames, HasNames}
+use Rattle.fs_layout.proofs.ImageSlots.{length-slots}
+use Rattle.fs_layout.proofs.SlotNames.{length-names}
+use Rattle.sector_txn.specs.Sectors.{TxnState, IsUnchanged}
+use Rattle.sector_txn.proofs.Changes.{changes_nothing, changes_weaker}
+use Rattle.bit_alloc.specs.Inodes.{IsSound}
+use Rattle.bit_alloc.specs.Room.{bitmaps}
+use Rattle.bit_alloc.proofs.Transactions.{map_unchanged}
+use Rattle.block_map.specs.Blocks.{IsWithin, IsReadOf}
+use Rattle.block_map.specs.Contents.{AllowsSize, ChangesContent}
+use Rattle.block_map.specs.Steps.{IsStepSector}
+use Rattle.block_map.proofs.AddedPointers.{alters_nothing}
+use Rattle.block_map.proofs.Overwriting.{used_may_change, changed_unsaved}
+use Rattle.block_map.proofs.Sizing.{size_limit}
+use Rattle.block_map.proofs.Wrote.{may_within}
+use Rattle.dir_core.specs.declared.find.FoundSlot.{FoundSlot}
+use Rattle.dir_core.specs.Slots.{HasSlots, IsFoundIn}
+use Rattle.std.specs.Prelude.{is_some, IsErr, IsErrAnd, IfErr}
+use Rattle.std.proofs.lemmas.Bool.{true≢false}
+use Rattle.block_map.specs.declared.fault.MapFault.{MapFault}
+use Rattle.block_map.specs.declared.fault.MapFault.TheVariants as map
+use Rattle.dir_core.specs.declared.fault.DirFault.{DirFault}
+use Rattle.dir_core.specs.declared.fault.DirFault.TheVariants as faults
+use Rattle.dir_core.specs.Faults.{as_dir_fault}
+use Rattle.std.specs.List.{swap_remove}
+use Rattle.dir_core.proofs.Found.{found_is_entry}
+use Rattle.dir_core.proofs.NamesAfter.{apart_added, names_added, fits_added, fits_set, apart_moved, fits_moved, names_moved, apart_set, names_set}
+use Rattle.dir_core.proofs.SlotBytes.{bytes_added, bytes_replaced, bytes_of_slot, bytes_cut}
+use Rattle.dir_core.proofs.Taking.{size_of_slots}
+
+-- ---- slots and names
+pub slots_there : {image : SectorMap} {v : Inode} {names : List (List ℕ × ℕ)} → (h : HasNames image v names) → HasSlots image v h.slots
+slots_there h = record { kind = h.kind; apart = h.apart; each = h.each; holds = h.holds; whole = h.whole }
+
+pub slots_after_reads : {old mid : TxnState} {v : Inode} {slots : List NamedInode} → IsUnchanged old mid → HasSlots old.sectors v slots → HasSlots mid.sectors v slots
+slots_after_reads {v = v} {slots} same h = subst (λ (image : SectorMap). HasSlots image v slots) (map_unchanged same) h
+
+-- ---- a directory among the inodes
+pub allows : (k : Kind) (m : ℕ) → k ≡ kinds.Directory → m % 128 ≡ 0 → AllowsSize k m
+allows k m e whole = subst (λ (kind : Kind). AllowsSize kind m) (sym e) whole
+
+pub no_free : (k : Kind) → k ≡ kinds.Directory → k ≢ kinds.Free
+no_free k e f = let same : kinds.Directory ≡ kinds.Free = sym e ∙ f in cc
+
+module _ {p : Place} {n : ℕ} {txn : TxnState} {v : Inode} (sound : IsSound p txn) (lt : n < p.inodes) (is : v ≡ inode_at p txn.sectors n) (kind : v.kind ≡ kinds.Directory) where
+  -- it can be read, and is within the limit
+  pub directory_within : IsWithin txn.disk.size txn.sectors v
+  directory_within = may_within (used_may_change sound lt is (no_free v.kind kind))
+
+  pub directory_limit : v.size ≤ 71680
+  directory_limit = size_limit 0 sound lt is (allows v.kind 0 kind refl)
+
+  -- nothing changes
+  pub same_content : ChangesContent p n 0 1 txn txn v v
+  same_content =
+      changed_unsaved sound lt (sym is) (alters_nothing (used_may_change sound lt is (no_free v.kind kind)))
+      (changes_weaker {Q = IsStepSector p} (λ t r. r) (omega arith) (changes_nothing {R = IsStepSector p} (bitmaps p))) (omega arith)
+
+-- ---- a slot within the directory
+module _ {image : SectorMap} {v : Inode} {slots : List NamedInode} (h : HasSlots image v slots) (slot : ℕ) (lt : slot < length slots) where
+  pub slot_inside : slot * 128 + 128 ≤ v.size
+  slot_inside = let size = size_of_slots h in omega (arith, size, lt)
+
+  pub slot_has_block : pointer image v (slot * 128 / 512) ≢ 0
+  slot_has_block = h.whole (slot * 128 / 512) (let size = size_of_slots h in omega (arith, size, lt))
+
+  -- another one is written there
+  pub slot_written : {new : SectorMap} {at : ℕ} {bytes : List ℕ} {x : NamedInode} → FitsSlot x → at ≡ slot * 128 → bytes ≡ slot_bytes x
+      → ((held : List ℕ) → Holds image v held → Holds new v (splice held at bytes)) → Holds new v (slots_bytes (set slots slot x))
+  slot_written {new} {at} {bytes} {x} fit there is write =
+      let here : at ≡ 128 * slot = omega (arith, there) in
+      let e : splice (slots_bytes slots) at bytes ≡ slots_bytes (set slots slot x) =
+      ap (λ (k : ℕ). splice (slots_bytes slots) k bytes) here ∙ ap (splice (slots_bytes slots) (128 * slot)) is ∙ bytes_replaced slots slot x h.each fit lt in
+      subst (λ (r : List ℕ). Holds new v r) e (write (slots_bytes slots) h.holds)
+
+-- ---- the last slot
+-- it moves into its own place
+pub moves_itself : (slots : List NamedInode) (slot : ℕ) (d : NamedInode) → slot ≡ length slots - 1 → set slots slot (get_or slots (length slots - 1) d) ≡ slots
+moves_itself slots slot d e = ap (λ (k : ℕ). set slots k (get_or slots (length slots - 1) d)) e ∙ set-get_or slots (length slots - 1) d
+
+-- its bytes are read
+pub last_read : {image : SectorMap} {v : Inode} {slots : List NamedInode} {offset count : ℕ} {new : List ℕ} → HasSlots image v slots → 0 < length slots → offset ≡ v.size - 128
+    → IsReadOf (slots_bytes slots) offset (replicate 128 0) new count → (d : NamedInode) → new ≡ slot_bytes (get_or slots (length slots - 1) d)
+last_read {v = v} {slots} {offset} {count} {new} h some at read d =
+    let size : v.size ≡ 128 * length slots = size_of_slots h in
+    let all : length (slots_bytes slots) ≡ 128 * length slots = length-slots slots h.each in
+    let last : offset ≡ 128 * (length slots - 1) = omega (arith, at, size, some) in
+    let whole : count ≡ 128 = let l = read.len in omega (arith, l, all, last, some) in
+    read.content
+    ∙ ap (λ (k : ℕ). window (slots_bytes slots) offset k ++ drop k (replicate 128 0)) whole
+    ∙ append-nil (window (slots_bytes slots) offset 128)
+    ∙ ap (λ (k : ℕ). window (slots_bytes slots) k 128) last
+    ∙ bytes_of_slot slots (length slots - 1) d h.each (omega (arith, some))
+
+-- ---- what is found
+module _ (slots : List NamedInode) (name : List ℕ) (apart : HaveDistinctNames slots) where
+  -- a name that is found is there
+  pub found_there : (found : Option FoundSlot) → IsFoundIn slots name found → is_some found ≡ true → get name_cmp (names_of_slots slots) name ≢ None
+  found_there None is e none = absurd (true≢false (sym e))
+  found_there (Some f) is e none = some_none (found_is_entry slots name (Some f) apart is ∙ none)
+    where
+      some_none : Some f.inode ≡ None → ⊥
+      some_none k = cc
+
+  -- one that is not found is not
+  pub not_there : (found : Option FoundSlot) → IsFoundIn slots name found → is_some found ≡ false → get name_cmp (names_of_slots slots) name ≡ None
+  not_there None is e = sym (found_is_entry slots name None apart is)
+  not_there (Some f) is e = absurd (true≢false e)
+
+-- the slot that is found
+pub found_slot : (slots : List NamedInode) (name : List ℕ) (found : Option FoundSlot) (f : FoundSlot) → IsFoundIn slots name found → found ≡ Some f
+    → (f.slot < length slots) × ((d : NamedInode) → get_or slots f.slot d ≡ record { inode = f.inode; name = name })
+found_slot slots name found f is e = subst (IsFoundIn slots name) e is
+
+-- its name is one
+pub found_name : (slots : List NamedInode) (name : List ℕ) (found : Option FoundSlot) (f : FoundSlot) → All FitsSlot slots → IsFoundIn slots name found → found ≡ Some f → IsName name
+found_name slots name found f fits is e =
+    let at = found_slot slots name found f is e in
+    let x : NamedInode = record { inode = f.inode; name = name } in
+    subst IsName (ap (λ (y : NamedInode). y.name) (at.1 x)) (fits f.slot x at.0).name
+
+-- the names of the directory say it
+pub said_by_names : {image : SectorMap} {v : Inode} {names : List (List ℕ × ℕ)} (name : List ℕ) → (h : HasNames image v names)
+    → get name_cmp (names_of_slots h.slots) name ≡ None → get name_cmp names name ≡ None
+said_by_names name h none = ap (λ (m : List (List ℕ × ℕ)). get name_cmp m name) h.are ∙ none
+
+pub said_by_slots : {image : SectorMap} {v : Inode} {names : List (List ℕ × ℕ)} (name : List ℕ) → (h : HasNames image v names)
+    → get name_cmp names name ≡ None → get name_cmp (names_of_slots h.slots) name ≡ None
+said_by_slots name h none = ap (λ (m : List (List ℕ × ℕ)). get name_cmp m name) (sym h.are) ∙ none
+
+-- ---- faults passed on
+pub passed_on : (W : DirFault → Type 0) (r : Result (Unit {0}) DirFault) (f : MapFault) → IsErr r → IsErrAnd r (λ e. e ≡ as_dir_fault f)
+    → (f ≡ map.Full → W faults.Full) → (f ≡ map.TooBig → W faults.Full) → W faults.DiskFault → IfErr r W
+passed_on W (Ok u) f err is full big device = cc
+passed_on W (Err e) map.Full err is full big device = subst W (sym is) (full refl)
+passed_on W (Err e) map.TooBig err is full big device = subst W (sym is) (big refl)
+passed_on W (Err e) map.DiskFault err is full big device = subst W (sym is) device
+
+pub ok_is_no_fault : {f : MapFault} {u : Unit {0}} → Ok u ≡ Err f → ⊥
+ok_is_no_fault e = cc
+
+-- ---- names with one more
+-- the slot of a name
+abbrev pub added : List ℕ → ℕ → NamedInode
+added name to = record { inode = to; name = name }
+
+module _ {image : SectorMap} {v : Inode} {names : List (List ℕ × ℕ)} (h : HasNames image v names) (name : List ℕ) (to : ℕ)
+    (is_name : IsName name) (bytes : IsBytes name) (small : to < 2 ^ 32) (none : get name_cmp (names_of_slots h.slots) name ≡ None) where
+  pub names_with : {new : SectorMap} {w : Inode} → w.kind ≡ v.kind → Holds new w (overwritten (slots_bytes h.slots) v.size (slot_bytes (added name to))) → HasNoHole new w
+      → HasNames new w (with_entry name_cmp names name to)
+  names_with {new} {w} kind holds whole = record {
+    kind = kind ∙ h.kind;
+    slots = h.slots ++ added name to ∷ [];
+    are = ap (λ (m : List (List ℕ × ℕ)). with_entry name_cmp m name to) h.are ∙ sym (names_added h.slots (added name to) h.apart none);
+    apart = apart_added h.slots (added name to) h.apart none;
+    each = fits_added h.slots (added name to) h.each (record { inode = small; name = is_name; bytes = bytes });
+    holds = subst (λ (r : List ℕ). Holds new w r) (bytes_added h.slots (added name to) v.size h.holds.size) holds;
+    whole = whole;
+  }
+
+-- where there is place for one more there are fewer than can be
+pub names_few : {image : SectorMap} {v : Inode} {names : List (List ℕ × ℕ)} → HasNames image v names → v.size + 128 ≤ 71680 → length names < MAX_NAMES
+names_few h most =
+    let count = ap length h.are ∙ length-names h.slots h.apart in
+    let size = size_of_slots (slots_there h) in
+    omega (arith, count, size, most)
+
+-- where there is no place for one more there are as many as can be
+pub names_full : {image : SectorMap} {v : Inode} {names : List (List ℕ × ℕ)} → HasNames image v names → v.size ≤ 71680 → 71680 < v.size + 128 → length names ≡ MAX_NAMES
+names_full h limit full =
+    let count = ap length h.are ∙ length-names h.slots h.apart in
+    let size = size_of_slots (slots_there h) in
+    omega (arith, count, size, limit, full)
+
+-- ---- names with one less
+module _ {image : SectorMap} {v : Inode} {names : List (List ℕ × ℕ)} (h : HasNames image v names) (slot : ℕ) (x : NamedInode)
+    (lt : slot < length h.slots) (is : get_or h.slots slot x ≡ x) where
+  pub names_without : {new : SectorMap} {w : Inode} → w.kind ≡ v.kind → Holds new w (resized (slots_bytes (set h.slots slot (get_or h.slots (length h.slots - 1) x))) (v.size - 128)) → HasNoHole new w
+      → HasNames new w (without name_cmp names x.name)
+  names_without {new} {w} kind holds whole =
+      let last : NamedInode = get_or h.slots (length h.slots - 1) x in
+      let moved : List NamedInode = set h.slots slot last in
+      let size : v.size ≡ 128 * length h.slots = size_of_slots (slots_there h) in
+      let cut : v.size - 128 ≡ 128 * (length h.slots - 1) = omega (arith, size, lt) in
+      let fits : All FitsSlot moved = fits_set h.slots slot last lt h.each (h.each (length h.slots - 1) x (omega (arith, lt))) in
+      let e : resized (slots_bytes moved) (v.size - 128) ≡ slots_bytes (swap_remove h.slots slot x) =
+      ap (resized (slots_bytes moved)) cut ∙ bytes_cut moved (length h.slots - 1) fits (omega (arith, length-set h.slots slot last)) in
+      record {
+        kind = kind ∙ h.kind;
+        slots = swap_remove h.slots slot x;
+        are = ap (λ (m : List (List ℕ × ℕ)). without name_cmp m x.name) h.are ∙ sym (names_moved h.slots slot x lt h.apart is);
+        apart = apart_moved h.slots slot x lt h.apart;
+        each = fits_moved h.slots slot x lt h.each;
+        holds = subst (λ (r : List ℕ). Holds new w r) e holds;
+        whole = whole;
+      }
+
+-- ---- a name for another inode
+module _ {image : SectorMap} {v : Inode} {names : List (List ℕ × ℕ)} (h : HasNames image v names) (slot : ℕ) (x y : NamedInode)
+    (lt : slot < length h.slots) (is : get_or h.slots slot x ≡ x) (same : y.name ≡ x.name) where
+  pub names_led : {new : SectorMap} → FitsSlot y → Holds new v (slots_bytes (set h.slots slot y)) → HasNoHole new v → HasNames new v (with_entry name_cmp names x.name y.inode)
+  names_led {new} fit holds whole = record {
+    kind = h.kind;
+    slots = set h.slots slot y;
+    are = ap (λ (m : List (List ℕ × ℕ)). with_entry name_cmp m x.name y.inode) h.are ∙ sym (names_set h.slots slot x y lt is same h.apart);
+    apart = apart_set h.slots slot x y lt is same h.apart;
+    each = fits_set h.slots slot y lt h.each fit;
+    holds = holds;
+    whole = whole;
+  }

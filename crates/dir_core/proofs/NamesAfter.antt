@@ -1,0 +1,250 @@
+-- The names of slots, where one is added, replaced or removed.
+use Rattle.std.specs.Prelude.{◌≡◌, ◌≢◌, ℕ, ◌-◌, ◌<◌, List, [], ◌∷◌, ◌++◌, length, set, get_or, Bool, true, false, Option, None, Some, All, Contains}
+use Rattle.std.proofs.Common.{refl, sym, ap, subst, arith, ◌∙◌, inl, inr, ◌⊎◌}
+use Rattle.std.specs.List.{swap_remove}
+use Rattle.std.specs.List.Sorted.{IsPermutation}
+use Rattle.std.specs.Ordering.{eq_by_cmp, is_eq}
+use Rattle.std.specs.Cmp.{tied_itself}
+use Rattle.std.proofs.lemmas.Cmp.{nat_list_cmp_total}
+use Rattle.std.proofs.lemmas.Bool.{cases_eq, cases_lt, true≢false}
+use Rattle.std.proofs.lemmas.List.Elements.{All-push}
+use Rattle.std.proofs.lemmas.List.{length-take, length-set, get_or-take, get_or-set_same, get_or-set_other, get_or_default}
+use Rattle.std.proofs.lemmas.List.Kept.{AllPairs-cons}
+use Rattle.std.proofs.lemmas.List.Quantifiers.{all_pairs_push}
+use Rattle.std.proofs.lemmas.List.Sorted.{IsPermutation-to_front, IsPermutation-swap_remove, IsPermutation-sym, Contains-permutation}
+use Rattle.fs_layout.specs.Maps.{name_cmp, get, with_entry, without, IsMap}
+use Rattle.fs_layout.specs.Directories.{NamedInode, FitsSlot, HaveDistinctNames, names_of_slots}
+use Rattle.fs_layout.proofs.MapEntries.{names_have_entries}
+use Rattle.fs_layout.proofs.NameMaps.{tied_names}
+use Rattle.fs_layout.proofs.ReadNames.{are_names_of}
+use Rattle.fs_layout.proofs.SlotNames.{slot_leads}
+
+-- ---- two maps of names
+abbrev Names : Type 0
+Names = List (List ℕ × ℕ)
+
+-- what each has the other has
+same_there : (m n : Names) (q : List ℕ) → ((x : ℕ) → get name_cmp m q ≡ Some x → get name_cmp n q ≡ Some x) → ((x : ℕ) → get name_cmp n q ≡ Some x → get name_cmp m q ≡ Some x)
+    → get name_cmp m q ≡ get name_cmp n q
+same_there m n q there back = go (get name_cmp m q) (get name_cmp n q) refl refl
+  where
+    go : (a b : Option ℕ) → get name_cmp m q ≡ a → get name_cmp n q ≡ b → get name_cmp m q ≡ get name_cmp n q
+    go (Some x) b e f = e ∙ sym (there x e)
+    go None (Some x) e f = back x f ∙ sym f
+    go None None e f = e ∙ sym f
+
+-- two names are one or two
+pub cases_name : (a b : List ℕ) → (a ≡ b) ⊎ (a ≢ b)
+cases_name a b = go (eq_by_cmp name_cmp a b) refl
+  where
+    itself : eq_by_cmp name_cmp a a ≡ true
+    itself = ap is_eq (tied_itself nat_list_cmp_total a)
+
+    go : (t : Bool) → eq_by_cmp name_cmp a b ≡ t → (a ≡ b) ⊎ (a ≢ b)
+    go true e = inl (tied_names a b e)
+    go false e = inr (λ same. true≢false (sym itself ∙ ap (eq_by_cmp name_cmp a) same ∙ e))
+
+-- ---- in any order
+pub names_in_any_order : (xs ys : List NamedInode) → IsPermutation xs ys → HaveDistinctNames xs → HaveDistinctNames ys → names_of_slots xs ≡ names_of_slots ys
+names_in_any_order xs ys order apart_x apart_y =
+    let x = are_names_of xs apart_x in
+    let y = are_names_of ys apart_y in
+    names_have_entries.one (names_of_slots xs) (names_of_slots ys) x.map_is y.map_is (λ q.
+    same_there (names_of_slots xs) (names_of_slots ys) q
+    (λ n e. (y.each q n).1 (Contains-permutation xs ys (record { inode = n; name = q }) order ((x.each q n).0 e)))
+    (λ n e. (x.each q n).1 (Contains-permutation ys xs (record { inode = n; name = q }) (IsPermutation-sym xs ys order) ((y.each q n).0 e))))
+
+-- ---- a name that no slot has
+pub no_such_name : (slots : List NamedInode) (name : List ℕ) → HaveDistinctNames slots → get name_cmp (names_of_slots slots) name ≡ None
+    → (k : ℕ) (d : NamedInode) → k < length slots → (get_or slots k d).name ≢ name
+no_such_name slots name apart none k d lt e = some_none (sym (slot_leads slots d k apart lt) ∙ ap (get name_cmp (names_of_slots slots)) e ∙ none)
+  where
+    some_none : {n : ℕ} → Some n ≡ None → ⊥
+    some_none f = cc
+
+-- and one that a slot has
+pub slot_name_leads : (slots : List NamedInode) (k : ℕ) (x : NamedInode) → HaveDistinctNames slots → k < length slots → get_or slots k x ≡ x
+    → get name_cmp (names_of_slots slots) x.name ≡ Some x.inode
+slot_name_leads slots k x apart lt is =
+    ap (λ (y : NamedInode). get name_cmp (names_of_slots slots) y.name) (sym is) ∙ slot_leads slots x k apart lt ∙ ap (λ (y : NamedInode). Some y.inode) is
+
+-- a name that no slot has leads nowhere
+pub unnamed : (slots : List NamedInode) (name : List ℕ) → HaveDistinctNames slots → ((k : ℕ) (d : NamedInode) → k < length slots → (get_or slots k d).name ≢ name)
+    → get name_cmp (names_of_slots slots) name ≡ None
+unnamed slots name apart other = go (get name_cmp (names_of_slots slots) name) refl
+  where
+    go : (o : Option ℕ) → get name_cmp (names_of_slots slots) name ≡ o → o ≡ None
+    go None e = refl
+    go (Some n) e =
+        let found = ((are_names_of slots apart).each name n).0 e in
+        absurd (other found.0 (record { inode = n; name = name }) found.1 (ap (λ (y : NamedInode). y.name) found.2))
+
+-- an entry that is set and removed
+with_and_without : (m : Names) (name : List ℕ) (n : ℕ) → IsMap name_cmp m → get name_cmp m name ≡ None → m ≡ without name_cmp (with_entry name_cmp m name n) name
+with_and_without m name n is none =
+    let l = names_have_entries in
+    l.one m (without name_cmp (with_entry name_cmp m name n) name) is (l.without_is (with_entry name_cmp m name n) name (l.with_is m name n is)) (λ q.
+    elim (cases_name q name) [
+      | inl e ↦ ap (get name_cmp m) e ∙ none ∙ sym (l.gone (with_entry name_cmp m name n) name) ∙ ap (get name_cmp (without name_cmp (with_entry name_cmp m name n) name)) (sym e)
+      | inr ne ↦ sym (l.left (with_entry name_cmp m name n) name q ne ∙ l.others m name q n ne)
+    ])
+
+-- ---- one more
+pub apart_added : (slots : List NamedInode) (x : NamedInode) → HaveDistinctNames slots → get name_cmp (names_of_slots slots) x.name ≡ None → HaveDistinctNames (slots ++ x ∷ [])
+apart_added slots x apart none = all_pairs_push (λ a b. a.name ≢ b.name) slots x apart (λ k d lt. no_such_name slots x.name apart none k d lt)
+
+pub apart_first : (slots : List NamedInode) (x : NamedInode) → HaveDistinctNames slots → ((k : ℕ) (d : NamedInode) → k < length slots → (get_or slots k d).name ≢ x.name)
+    → HaveDistinctNames (x ∷ slots)
+apart_first slots x apart other = AllPairs-cons (λ a b. a.name ≢ b.name) x slots (λ k d lt e. other k d lt (sym e)) apart
+
+pub names_added : (slots : List NamedInode) (x : NamedInode) → HaveDistinctNames slots → get name_cmp (names_of_slots slots) x.name ≡ None
+    → names_of_slots (slots ++ x ∷ []) ≡ with_entry name_cmp (names_of_slots slots) x.name x.inode
+unfolding names_of_slots
+names_added slots x apart none =
+    names_in_any_order (slots ++ x ∷ []) (x ∷ slots) (IsPermutation-to_front slots x) (apart_added slots x apart none) (apart_first slots x apart (no_such_name slots x.name apart none))
+
+pub fits_added : (slots : List NamedInode) (x : NamedInode) → All FitsSlot slots → FitsSlot x → All FitsSlot (slots ++ x ∷ [])
+fits_added slots x fits fit = All-push FitsSlot slots x fits fit
+
+pub fits_set : (slots : List NamedInode) (i : ℕ) (x : NamedInode) → i < length slots → All FitsSlot slots → FitsSlot x → All FitsSlot (set slots i x)
+fits_set slots i x lt fits fit k d small =
+    let less : k < length slots = omega (arith, small, length-set slots i x) in
+    elim (cases_eq k i) [
+      | inl e ↦ subst FitsSlot (sym (ap (λ (j : ℕ). get_or (set slots i x) j d) e ∙ get_or-set_same slots i x d lt)) fit
+      | inr ne ↦ subst FitsSlot (sym (get_or-set_other slots i k x d ne)) (fits k d less)
+    ]
+
+-- ---- one less
+module _ (slots : List NamedInode) (i : ℕ) (x : NamedInode) (lt : i < length slots) where
+  abbrev last : NamedInode
+  last = get_or slots (length slots - 1) x
+
+  abbrev moved : List NamedInode
+  moved = swap_remove slots i x
+
+  pub length-moved : length moved ≡ length slots - 1
+  length-moved = omega (arith, length-take (length slots - 1) (set slots i last), length-set slots i last)
+
+  -- the last slot stands in the place of the one that is removed, and each other one where it stood
+  moved_here : (k : ℕ) (d : NamedInode) → k < length slots - 1 → k ≡ i → get_or moved k d ≡ get_or slots (length slots - 1) d
+  moved_here k d less e =
+      get_or-take (length slots - 1) (set slots i last) k d less
+      ∙ ap (λ (j : ℕ). get_or (set slots i last) j d) e
+      ∙ get_or-set_same slots i last d lt
+      ∙ get_or_default slots (length slots - 1) x d (omega (arith, lt))
+
+  moved_there : (k : ℕ) (d : NamedInode) → k < length slots - 1 → k ≢ i → get_or moved k d ≡ get_or slots k d
+  moved_there k d less ne = get_or-take (length slots - 1) (set slots i last) k d less ∙ get_or-set_other slots i k last d ne
+
+  -- none has the name of the one that is removed
+  other_names : HaveDistinctNames slots → (k : ℕ) (d : NamedInode) → k < length moved → (get_or moved k d).name ≢ (get_or slots i d).name
+  other_names apart k d small e =
+      let less : k < length slots - 1 = omega (arith, small, length-moved) in
+      elim (cases_eq k i) [
+        | inl here ↦ apart i (length slots - 1) d (omega (arith, here, less)) (omega (arith, lt)) (sym (ap (λ (y : NamedInode). y.name) (sym (moved_here k d less here)) ∙ e))
+        | inr ne ↦
+            let was : (get_or slots k d).name ≡ (get_or slots i d).name = ap (λ (y : NamedInode). y.name) (sym (moved_there k d less ne)) ∙ e in
+            elim (cases_lt k i) [
+              | inl before ↦ apart k i d before lt was
+              | inr past ↦ apart i k d (omega (arith, past, ne)) (omega (arith, less)) (sym was)
+            ]
+      ]
+
+  pub apart_moved : HaveDistinctNames slots → HaveDistinctNames moved
+  apart_moved apart j k d before small e =
+      let less : k < length slots - 1 = omega (arith, small, length-moved) in
+      elim (cases_eq j i) [
+        | inl here ↦
+            apart k (length slots - 1) d less (omega (arith, lt))
+            (ap (λ (y : NamedInode). y.name) (sym (moved_there k d less (omega (arith, here, before)))) ∙ sym e
+            ∙ ap (λ (y : NamedInode). y.name) (moved_here j d (omega (arith, before, less)) here))
+        | inr j_ne ↦
+            let first : (get_or slots j d).name ≡ (get_or moved k d).name = ap (λ (y : NamedInode). y.name) (sym (moved_there j d (omega (arith, before, less)) j_ne)) ∙ e in
+            elim (cases_eq k i) [
+              | inl here ↦ apart j (length slots - 1) d (omega (arith, before, less)) (omega (arith, lt)) (first ∙ ap (λ (y : NamedInode). y.name) (moved_here k d less here))
+              | inr k_ne ↦ apart j k d before (omega (arith, less)) (first ∙ ap (λ (y : NamedInode). y.name) (moved_there k d less k_ne))
+            ]
+      ]
+
+  pub fits_moved : All FitsSlot slots → All FitsSlot moved
+  fits_moved fits k d small =
+      let less : k < length slots - 1 = omega (arith, small, length-moved) in
+      elim (cases_eq k i) [
+        | inl here ↦ subst FitsSlot (sym (moved_here k d less here)) (fits (length slots - 1) d (omega (arith, lt)))
+        | inr ne ↦ subst FitsSlot (sym (moved_there k d less ne)) (fits k d (omega (arith, less)))
+      ]
+
+  -- and the names are those of the slots, without that of the one that is removed
+  pub names_moved : HaveDistinctNames slots → get_or slots i x ≡ x → names_of_slots moved ≡ without name_cmp (names_of_slots slots) x.name
+  unfolding names_of_slots
+  names_moved apart is =
+      let other : (k : ℕ) (d : NamedInode) → k < length moved → (get_or moved k d).name ≢ x.name =
+      λ k d small e. other_names apart k x small
+      (ap (λ (y : NamedInode). y.name) (get_or_default moved k x d small) ∙ e ∙ ap (λ (y : NamedInode). y.name) (sym is)) in
+      let rest : HaveDistinctNames moved = apart_moved apart in
+      let all : names_of_slots slots ≡ with_entry name_cmp (names_of_slots moved) x.name x.inode =
+      names_in_any_order slots (x ∷ moved) (IsPermutation-swap_remove slots i x lt (sym is)) apart (apart_first moved x rest other) in
+      with_and_without (names_of_slots moved) x.name x.inode (are_names_of moved rest).map_is (unnamed moved x.name rest other)
+      ∙ ap (λ (m : Names). without name_cmp m x.name) (sym all)
+
+-- ---- one for another inode
+module _ (slots : List NamedInode) (i : ℕ) (x y : NamedInode) (lt : i < length slots) (is : get_or slots i x ≡ x) (same : y.name ≡ x.name) where
+  -- each name stands where it stood
+  set_name : (k : ℕ) (d : NamedInode) → k < length slots → (get_or (set slots i y) k d).name ≡ (get_or slots k d).name
+  set_name k d less = elim (cases_eq k i) [
+    | inl e ↦
+        ap (λ (j : ℕ). (get_or (set slots i y) j d).name) e
+        ∙ ap (λ (z : NamedInode). z.name) (get_or-set_same slots i y d lt)
+        ∙ same
+        ∙ ap (λ (z : NamedInode). z.name) (sym is ∙ get_or_default slots i x d lt)
+        ∙ ap (λ (j : ℕ). (get_or slots j d).name) (sym e)
+    | inr ne ↦ ap (λ (z : NamedInode). z.name) (get_or-set_other slots i k y d ne)
+  ]
+
+  pub apart_set : HaveDistinctNames slots → HaveDistinctNames (set slots i y)
+  apart_set apart j k d before small e =
+      let less : k < length slots = omega (arith, small, length-set slots i y) in
+      apart j k d before less (sym (set_name j d (omega (arith, before, less))) ∙ e ∙ set_name k d less)
+
+  -- a slot of another name stands in both
+  stands_in_both : (q : List ℕ) (n : ℕ) → q ≢ x.name → Contains (set slots i y) (record { inode = n; name = q }) → Contains slots (record { inode = n; name = q })
+  stands_in_both q n ne (k, small, there) =
+      let z : NamedInode = record { inode = n; name = q } in
+      let less : k < length slots = omega (arith, small, length-set slots i y) in (
+        k,
+        less,
+        elim (cases_eq k i) [
+          | inl e ↦ absurd (ne (ap (λ (w : NamedInode). w.name) (sym there ∙ ap (λ (j : ℕ). get_or (set slots i y) j z) e ∙ get_or-set_same slots i y z lt) ∙ same))
+          | inr other ↦ sym (get_or-set_other slots i k y z other) ∙ there
+        ],
+      )
+
+  stood_in_both : (q : List ℕ) (n : ℕ) → q ≢ x.name → Contains slots (record { inode = n; name = q }) → Contains (set slots i y) (record { inode = n; name = q })
+  stood_in_both q n ne (k, less, there) =
+      let z : NamedInode = record { inode = n; name = q } in (
+        k,
+        omega (arith, less, length-set slots i y),
+        elim (cases_eq k i) [
+          | inl e ↦ absurd (ne (ap (λ (w : NamedInode). w.name) (sym there ∙ ap (λ (j : ℕ). get_or slots j z) e ∙ get_or_default slots i z x lt ∙ is)))
+          | inr other ↦ get_or-set_other slots i k y z other ∙ there
+        ],
+      )
+
+  pub names_set : HaveDistinctNames slots → names_of_slots (set slots i y) ≡ with_entry name_cmp (names_of_slots slots) x.name y.inode
+  names_set apart =
+      let l = names_have_entries in
+      let now = are_names_of (set slots i y) (apart_set apart) in
+      let was = are_names_of slots apart in
+      l.one (names_of_slots (set slots i y)) (with_entry name_cmp (names_of_slots slots) x.name y.inode) now.map_is (l.with_is (names_of_slots slots) x.name y.inode was.map_is) (λ q.
+      elim (cases_name q x.name) [
+        | inl e ↦
+            ap (get name_cmp (names_of_slots (set slots i y))) (e ∙ sym same)
+            ∙ slot_name_leads (set slots i y) i y (apart_set apart) (omega (arith, lt, length-set slots i y)) (get_or-set_same slots i y y lt)
+            ∙ sym (l.here (names_of_slots slots) x.name y.inode)
+            ∙ ap (get name_cmp (with_entry name_cmp (names_of_slots slots) x.name y.inode)) (sym e)
+        | inr ne ↦
+            same_there (names_of_slots (set slots i y)) (names_of_slots slots) q
+            (λ n f. (was.each q n).1 (stands_in_both q n ne ((now.each q n).0 f)))
+            (λ n f. (now.each q n).1 (stood_in_both q n ne ((was.each q n).0 f)))
+            ∙ sym (l.others (names_of_slots slots) x.name q y.inode ne)
+      ])

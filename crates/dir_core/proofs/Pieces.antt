@@ -1,0 +1,110 @@
+-- The slots of a block, as bytes.
+use Rattle.std.proofs.Common.{◌≡◌, ℕ, ◌+◌, ◌-◌, ◌*◌, ◌/◌, ◌%◌, ◌<◌, ◌≤◌, List, [], ◌∷◌, ◌++◌, length, get_or, take, drop, refl, sym, ap, ◌∙◌, append_assoc, arith}
+use Rattle.std.specs.Prelude.{All}
+use Rattle.std.proofs.lemmas.List.{ext_get_or, get_or-take, get_or-drop, get_or_append_left, length-take-le}
+use Rattle.std.proofs.lemmas.List.Concat.{get_or-flat_map}
+use Rattle.fs_layout.specs.declared.inode.Inode.{Inode}
+use Rattle.fs_layout.specs.Bytes.{SectorMap, window, le32, zeros, u32_of}
+use Rattle.fs_layout.specs.Directories.{NamedInode, FitsSlot, slot_bytes, slots_bytes, slot_count, names_of_slots, HasNames}
+use Rattle.fs_layout.proofs.Fields.{part_len, split, read32}
+use Rattle.fs_layout.proofs.ImageSlots.{length-slots}
+use Rattle.fs_layout.proofs.ReadNames.{are_names_of}
+use Rattle.fs_layout.proofs.SlotLaw.{length-slot_bytes}
+use Rattle.dir_core.specs.Slots.{HasSlots, IsBlock, IsSlotAt}
+
+-- ---- where slots stand
+first_fit : (slots : List NamedInode) (k : ℕ) → k ≤ length slots → All FitsSlot slots → All FitsSlot (take k slots)
+first_fit slots k few fits i d lt =
+    let long = length-take-le k slots few in
+    rw (get_or-take k slots i d (omega (arith, lt, long))) (fits i d (omega (arith, lt, long, few)))
+
+-- byte j of slot k
+pub slot_byte : (slots : List NamedInode) (k j : ℕ) (d : NamedInode) → All FitsSlot slots → k < length slots → j < 128
+    → get_or (slots_bytes slots) (128 * k + j) 0 ≡ get_or (slot_bytes (get_or slots k d)) j 0
+slot_byte slots k j d fits lt small =
+    let before : length (slots_bytes (take k slots)) ≡ 128 * k =
+    length-slots (take k slots) (first_fit slots k (omega (arith, lt)) fits) ∙ ap (λ n. 128 * n) (length-take-le k slots (omega (arith, lt))) in
+    let long = length-slot_bytes (get_or slots k d) (fits k d lt).name.short in
+    ap (λ n. get_or (slots_bytes slots) (n + j) 0) (sym before) ∙ get_or-flat_map slot_bytes slots k j d 0 lt (omega (arith, long, small))
+
+module _ {image : SectorMap} {v : Inode} {slots : List NamedInode} (h : HasSlots image v slots) where
+  -- how many slots there are
+  pub slots_are : slot_count v ≡ length slots
+  slots_are = let size = h.holds.size in omega (arith, size, length-slots slots h.each)
+
+  -- slot k, in its block
+  pub slot_there : (block : List ℕ) (k : ℕ) (d : NamedInode) → length block ≡ 512 → IsBlock image v (k / 4) block → k < length slots
+      → IsSlotAt block (128 * (k % 4)) (get_or slots k d)
+  slot_there block k d len read lt =
+      let fits = h.each k d lt in
+      let long = length-slot_bytes (get_or slots k d) fits.name.short in
+      let part : length (window block (128 * (k % 4)) 128) ≡ 128 = part_len 128 (128 * (k % 4)) block (omega (arith, len)) in (
+        fits,
+        ext_get_or 0 (window block (128 * (k % 4)) 128) (slot_bytes (get_or slots k d)) (part ∙ sym long) (λ i small.
+            let below : i < 128 = omega (arith, small, part) in
+            get_or-take 128 (drop (128 * (k % 4)) block) i 0 below
+            ∙ get_or-drop (128 * (k % 4)) block i 0
+            ∙ read (128 * (k % 4) + i) (omega (arith, below))
+            ∙ h.holds.byte (512 * (k / 4) + (128 * (k % 4) + i))
+            ∙ ap (λ n. get_or (slots_bytes slots) n 0) (let e : 512 * (k / 4) + (128 * (k % 4) + i) ≡ 128 * k + i = omega arith in e)
+            ∙ slot_byte slots k i d h.each lt below),
+      )
+
+-- ---- the parts of a slot
+length_first : (x : NamedInode) → get_or (slot_bytes x) 4 0 ≡ length x.name
+unfolding le32
+length_first x = refl
+
+named_then : (x : NamedInode) (i : ℕ) → get_or (slot_bytes x) (8 + i) 0 ≡ get_or (x.name ++ zeros (120 - length x.name)) i 0
+unfolding le32 zeros
+named_then x i = sym (get_or-drop 8 (slot_bytes x) i 0)
+
+module _ (block : List ℕ) (at : ℕ) (x : NamedInode) (is : IsSlotAt block at x) where
+  byte_there : (i : ℕ) → i < 128 → get_or block (at + i) 0 ≡ get_or (slot_bytes x) i 0
+  byte_there i lt =
+      sym (get_or-take 128 (drop at block) i 0 lt ∙ get_or-drop at block i 0) ∙ ap (λ (s : List ℕ). get_or s i 0) is.1
+
+  -- the length of its name
+  pub length_there : get_or block (at + 4) 0 ≡ length x.name
+  length_there = byte_there 4 (omega arith) ∙ length_first x
+
+  -- its name
+  pub name_there : at + 128 ≤ length block → window block (at + 8) (length x.name) ≡ x.name
+  name_there room =
+      let short = is.0.name.short in
+      let part : length (window block (at + 8) (length x.name)) ≡ length x.name = part_len (length x.name) (at + 8) block (omega (arith, room, short)) in
+      ext_get_or 0 (window block (at + 8) (length x.name)) x.name part (λ i lt.
+      let below : i < length x.name = omega (arith, lt, part) in
+      get_or-take (length x.name) (drop (at + 8) block) i 0 below
+      ∙ get_or-drop (at + 8) block i 0
+      ∙ ap (λ n. get_or block n 0) (let e : at + 8 + i ≡ at + (8 + i) = omega arith in e)
+      ∙ byte_there (8 + i) (omega (arith, below, short))
+      ∙ named_then x i
+      ∙ get_or_append_left x.name (zeros (120 - length x.name)) 0 i below)
+
+  -- its inode
+  pub inode_there : u32_of block at ≡ x.inode
+  unfolding le32
+  inode_there =
+      let rest : List ℕ = length x.name ∷ (zeros 3 ++ (x.name ++ zeros (120 - length x.name))) in
+      read32 block at x.inode (rest ++ drop (at + 128) block)
+      (split 128 at block (slot_bytes x) (sym is.1) ∙ append_assoc (le32 x.inode) rest (drop (at + 128) block)) is.0.inode
+
+-- ---- without a name
+no_slots : (slots : List NamedInode) → length slots ≡ 0 → names_of_slots slots ≡ []
+unfolding names_of_slots
+no_slots [] e = refl
+no_slots (x ∷ slots) e = absurd (omega (arith, e))
+
+-- a directory without bytes has no name
+pub empty_at_zero : {image : SectorMap} {v : Inode} {names : List (List ℕ × ℕ)} → HasNames image v names → v.size ≡ 0 → names ≡ []
+empty_at_zero h zero =
+    let size = h.holds.size in
+    h.are ∙ no_slots h.slots (omega (arith, size, zero, length-slots h.slots h.each))
+
+-- and one without a name no bytes
+pub zero_where_empty : {image : SectorMap} {v : Inode} {names : List (List ℕ × ℕ)} → HasNames image v names → names ≡ [] → v.size ≡ 0
+zero_where_empty {names = names} h none =
+    let size = h.holds.size in
+    let count : length names ≡ length h.slots = ap length h.are ∙ (are_names_of h.slots h.apart).count in
+    omega (arith, size, length-slots h.slots h.each, count, ap length none)

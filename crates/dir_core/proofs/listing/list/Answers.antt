@@ -1,0 +1,5 @@
+use Rattle.dir_core.proofs.Scans.{inode_within}
+use Rattle.dir_core.proofs.listing.list.Goals as goal
+
+pub read_slots-requires-clause-within : goal.read_slots-requires-clause-within
+read_slots-requires-clause-within g c = inode_within c.requires.sound c.requires.there

@@ -1,0 +1,39 @@
+-- A directory as its slots in their order, and what is read of them.
+--     HasSlots        an inode is a directory with these slots
+--     IsBlock        what a block of the inode holds
+--     IsSlotAt        a slot's bytes stand at an offset
+--     IsFoundIn        what a search for a name finds
+--     name_entry        a slot as an entry of the map of names
+use Rattle.std.specs.Prelude.{◌≡◌, ◌≢◌, ℕ, ◌+◌, ◌*◌, ◌<◌, List, length, slice_index, slice_index_or, All, Option, None, Some}
+use Rattle.fs_layout.specs.declared.inode.Inode.{Inode}
+use Rattle.fs_layout.specs.declared.inode.Kind.TheVariants as kinds
+use Rattle.fs_layout.specs.Bytes.{SectorMap, window}
+use Rattle.fs_layout.specs.Images.{byte_at, Holds, HasNoHole}
+use Rattle.fs_layout.specs.Directories.{NamedInode, FitsSlot, HaveDistinctNames, slot_bytes, slots_bytes}
+use Rattle.dir_core.specs.declared.find.FoundSlot.{FoundSlot}
+
+-- the inode is a directory, and these are its slots
+pub record HasSlots (image : SectorMap) (v : Inode) (slots : List NamedInode) : Type 0 where
+  pub kind : v.kind ≡ kinds.Directory
+  pub apart : HaveDistinctNames slots
+  pub each : All FitsSlot slots
+  pub holds : Holds image v (slots_bytes slots)
+  pub whole : HasNoHole image v
+
+-- the bytes are those of block k
+abbrev pub IsBlock : SectorMap → Inode → ℕ → List ℕ → Type 0
+IsBlock image v k block = (i : ℕ) → i < 512 → slice_index block i ≡ byte_at image v (512 * k + i)
+
+-- the bytes from an offset on are those of this slot
+abbrev pub IsSlotAt : List ℕ → ℕ → NamedInode → Type 0
+IsSlotAt block at x = FitsSlot x × (window block at 128 ≡ slot_bytes x)
+
+-- the slot that has the name, with its inode; None where no slot has it
+abbrev pub IsFoundIn : List NamedInode → List ℕ → Option FoundSlot → Type 0
+IsFoundIn slots name None = All (λ x. x.name ≢ name) slots
+IsFoundIn slots name (Some found) =
+    (found.slot < length slots) × ((d : NamedInode) → slice_index_or slots found.slot d ≡ record { inode = found.inode; name = name })
+
+-- a slot as an entry of the map of names
+abbrev pub name_entry : NamedInode → List ℕ × ℕ
+name_entry x = (x.name, x.inode)

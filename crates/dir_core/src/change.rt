@@ -1,0 +1,168 @@
+//! Adding a name, removing one, and leading one to another inode.
+
+ghost use Rattle.std.specs.Prelude.{◌≡◌, ◌≢◌, ◌≤◌, ◌<◌, ◌-◌, ◌*◌, ℕ, List, length, slice_index_or, take, set, None, IfErr, OnOk};
+ghost use Rattle.fs_layout.specs.declared.slot.TheConstants.{MAX_NAMES};
+ghost use Rattle.fs_layout.specs.Directories.{NamedInode, IsName, slot_bytes, slots_bytes, HasNames};
+ghost use Rattle.fs_layout.specs.Images.{Holds, HasNoHole, inode_at};
+ghost use Rattle.fs_layout.specs.Maps.{name_cmp, get, with_entry, without};
+ghost use Rattle.sector_disk.specs.Disk.{HasCause};
+ghost use Rattle.sector_txn.specs.Sectors.{SameStore};
+ghost use Rattle.bit_alloc.specs.Faults.{HasCauseOf};
+ghost use Rattle.bit_alloc.specs.Inodes.{IsSound};
+ghost use Rattle.bit_alloc.specs.Room.{HasSpare};
+ghost use Rattle.block_map.specs.Contents.{ChangesContent};
+ghost use Rattle.dir_core.specs.Faults.{taken_for, WhyNotAdded, WhyNotChanged};
+ghost use Rattle.dir_core.specs.Slots.{HasSlots};
+
+use crate::DirFault;
+use crate::find::{SLOT, find_slot};
+use block_map::{overwrite, read_at, set_size, write_at};
+use fs_layout::{Inode, Place, Slot};
+use sector_disk::DiskFault;
+use sector_txn::Sectors;
+
+// A block that begins with a slot.
+fn block_with(inode: u32, name: &[u8]) -> [u8; 512]
+    requires { IsName name.now }
+    ensures { take 128 result ≡ slot_bytes (record { inode = inode; name = name.now }) }
+{
+    let mut block = [0; 512];
+    Slot::new(inode, name).write_to(&mut block, 0);
+    block
+}
+
+/// Adds a name, which leads to inode `to`, to directory n. `inode` is inode n, before and after.
+///
+/// At `Err` the caller drops the changes of the transaction; of `inode` nothing is said then.
+pub fn insert<S: Sectors>(
+    s: &mut S,
+    place: Place,
+    n: u32,
+    inode: &mut Inode,
+    name: &[u8],
+    to: u32,
+) -> Result<(), DirFault>
+    requires sound { IsSound place (S.state s.old) }
+    requires below { n < place.inodes }
+    requires inode { inode.old ≡ inode_at place (S.state s.old).sectors n }
+    requires directory { (names : List (List ℕ × ℕ)) × HasNames (S.state s.old).sectors inode.old names }
+    requires name { IsName name.now }
+    requires spare { HasSpare place 3 (S.state s.old) }
+    ensures change { OnOk result (ChangesContent place n (taken_for inode.old) 3 (S.state s.old) (S.state s.new) inode.old inode.new) }
+    ensures names { OnOk result ((names : List (List ℕ × ℕ)) → HasNames (S.state s.old).sectors inode.old names
+        → (get name_cmp names name.now ≡ None) × (length names < MAX_NAMES)
+        × HasNames (S.state s.new).sectors inode.new (with_entry name_cmp names name.now to)) }
+    ensures why { IfErr result (λ e. (names : List (List ℕ × ℕ)) → HasNames (S.state s.old).sectors inode.old names
+        → WhyNotAdded place (S.state s.old).sectors inode.old names name.now e) }
+    ensures store { SameStore (S.state s.old) (S.state s.new) }
+    ensures cause { HasCauseOf DirFault.DiskFault (S.state s.old).disk (S.state s.new).disk result }
+{
+    if find_slot(s, inode, name)?.is_some() {
+        return Err(DirFault::Exists);
+    }
+    let end = inode.size;
+    write_at(s, place, n, inode, end, &block_with(to, name)[..SLOT])?;
+    Ok(())
+}
+
+// Writes the last slot in the place of another one.
+fn move_last<S: Sectors>(
+    s: &mut S,
+    place: Place,
+    n: u32,
+    inode: &Inode,
+    slot: u64,
+) -> Result<(), DiskFault>
+    requires sound { IsSound place (S.state s.old) }
+    requires below { n < place.inodes }
+    requires inode { inode.now ≡ inode_at place (S.state s.old).sectors n }
+    requires directory { (slots : List NamedInode) × HasSlots (S.state s.old).sectors inode.now slots × (slot < length slots) }
+    requires spare { HasSpare place 1 (S.state s.old) }
+    ensures change { OnOk result (ChangesContent place n 0 1 (S.state s.old) (S.state s.new) inode.now inode.now) }
+    ensures moved { OnOk result ((slots : List NamedInode) (d : NamedInode) → HasSlots (S.state s.old).sectors inode.now slots
+        → Holds (S.state s.new).sectors inode.now (slots_bytes (set slots slot (slice_index_or slots (length slots - 1) d)))) }
+    ensures whole { OnOk result (HasNoHole (S.state s.new).sectors inode.now) }
+    ensures store { SameStore (S.state s.old) (S.state s.new) }
+    ensures cause { HasCause (S.state s.old).disk (S.state s.new).disk result }
+{
+    let at = slot * SLOT as u64;
+    let last = inode.size - SLOT as u64;
+    if at == last {
+        return Ok(());
+    }
+    let mut bytes = [0; SLOT];
+    read_at(s, inode, last, &mut bytes)?;
+    overwrite(s, place, n, inode, at, &bytes)?;
+    Ok(())
+}
+
+/// Removes a name from directory n. `inode` is inode n, before and after.
+///
+/// The last slot moves into the place of the name's. At `Err` the caller drops the changes of the transaction; of `inode`
+/// nothing is said then.
+pub fn remove<S: Sectors>(
+    s: &mut S,
+    place: Place,
+    n: u32,
+    inode: &mut Inode,
+    name: &[u8],
+) -> Result<(), DirFault>
+    requires sound { IsSound place (S.state s.old) }
+    requires below { n < place.inodes }
+    requires inode { inode.old ≡ inode_at place (S.state s.old).sectors n }
+    requires directory { (names : List (List ℕ × ℕ)) × HasNames (S.state s.old).sectors inode.old names }
+    requires spare { HasSpare place 4 (S.state s.old) }
+    ensures change { OnOk result (ChangesContent place n 0 4 (S.state s.old) (S.state s.new) inode.old inode.new) }
+    ensures names { OnOk result ((names : List (List ℕ × ℕ)) → HasNames (S.state s.old).sectors inode.old names
+        → (get name_cmp names name.now ≢ None) × HasNames (S.state s.new).sectors inode.new (without name_cmp names name.now)) }
+    ensures why { IfErr result (λ e. (names : List (List ℕ × ℕ)) → HasNames (S.state s.old).sectors inode.old names
+        → WhyNotChanged names name.now e) }
+    ensures store { SameStore (S.state s.old) (S.state s.new) }
+    ensures cause { HasCauseOf DirFault.DiskFault (S.state s.old).disk (S.state s.new).disk result }
+{
+    let Some(found) = find_slot(s, inode, name)? else {
+        return Err(DirFault::Absent);
+    };
+    move_last(s, place, n, inode, found.slot)?;
+    let size = inode.size - SLOT as u64;
+    set_size(s, place, n, inode, size)?;
+    Ok(())
+}
+
+/// Leads a name of directory n to inode `to`. `inode` is inode n, and stays.
+///
+/// At `Err` the caller drops the changes of the transaction.
+pub fn replace<S: Sectors>(
+    s: &mut S,
+    place: Place,
+    n: u32,
+    inode: &Inode,
+    name: &[u8],
+    to: u32,
+) -> Result<(), DirFault>
+    requires sound { IsSound place (S.state s.old) }
+    requires below { n < place.inodes }
+    requires inode { inode.now ≡ inode_at place (S.state s.old).sectors n }
+    requires directory { (names : List (List ℕ × ℕ)) × HasNames (S.state s.old).sectors inode.now names }
+    requires spare { HasSpare place 1 (S.state s.old) }
+    ensures change { OnOk result (ChangesContent place n 0 1 (S.state s.old) (S.state s.new) inode.now inode.now) }
+    ensures names { OnOk result ((names : List (List ℕ × ℕ)) → HasNames (S.state s.old).sectors inode.now names
+        → (get name_cmp names name.now ≢ None) × HasNames (S.state s.new).sectors inode.now (with_entry name_cmp names name.now to)) }
+    ensures why { IfErr result (λ e. (names : List (List ℕ × ℕ)) → HasNames (S.state s.old).sectors inode.now names
+        → WhyNotChanged names name.now e) }
+    ensures store { SameStore (S.state s.old) (S.state s.new) }
+    ensures cause { HasCauseOf DirFault.DiskFault (S.state s.old).disk (S.state s.new).disk result }
+{
+    let Some(found) = find_slot(s, inode, name)? else {
+        return Err(DirFault::Absent);
+    };
+    overwrite(
+        s,
+        place,
+        n,
+        inode,
+        found.slot * SLOT as u64,
+        &block_with(to, name)[..SLOT],
+    )?;
+    Ok(())
+}

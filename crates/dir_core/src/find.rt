@@ -1,0 +1,98 @@
+//! The slot of a name.
+
+ghost use Rattle.std.specs.Prelude.{◌≡◌, ◌≢◌, ◌↔◌, ◌≤◌, ◌<◌, ◌+◌, ◌/◌, ◌%◌, ℕ, List, length, IsTrue, IfOk, OnOk};
+ghost use Rattle.sector_disk.specs.Disk.{HasCause};
+ghost use Rattle.fs_layout.specs.Directories.{NamedInode};
+ghost use Rattle.sector_txn.specs.Sectors.{IsUnchanged};
+ghost use Rattle.block_map.specs.Blocks.{IsWithin, IsLoaded};
+ghost use Rattle.dir_core.specs.Slots.{HasSlots, IsBlock, IsSlotAt, IsFoundIn};
+
+use block_map::Blocks;
+use byteorder::{ByteOrder, LittleEndian};
+use fs_layout::{Inode, MAX_NAME};
+use sector_disk::DiskFault;
+use sector_txn::Sectors;
+
+/// The bytes of a slot.
+pub(crate) const SLOT: usize = 128;
+/// How many slots a block has.
+pub(crate) const SLOTS: u64 = 4;
+
+/// The slot that has a name.
+#[derive(Clone, Copy)]
+pub(crate) struct FoundSlot {
+    /// The slot's number.
+    pub(crate) slot: u64,
+    /// The inode's number.
+    pub(crate) inode: u32,
+}
+
+// Whether the slot at `at` has the name. The length is compared first.
+fn is_named(block: &[u8; 512], at: usize, name: &[u8]) -> bool
+    requires within { at + 128 ≤ 512 }
+    requires short { length name.now ≤ 120 }
+    ensures { (x : NamedInode) → IsSlotAt block.now at x → (IsTrue result ↔ (x.name ≡ name.now)) }
+{
+    if block[at + 4] as usize != name.len() {
+        return false;
+    }
+    &block[at + 8..at + 8 + name.len()] == name
+}
+
+// The inode of the slot at `at`.
+fn inode_at(block: &[u8; 512], at: usize) -> u32
+    requires { at + 128 ≤ 512 }
+    ensures { (x : NamedInode) → IsSlotAt block.now at x → result ≡ x.inode }
+{
+    LittleEndian::read_u32(&block[at..])
+}
+
+/// Reads the block of a slot, where the slot is the block's first; else the block is at hand.
+pub(crate) fn read_block_of<S: Sectors>(
+    s: &mut S,
+    blocks: &Blocks,
+    slot: u64,
+    block: &mut [u8; 512],
+) -> Result<(), DiskFault>
+    requires within { IsWithin (S.state s.old).disk.size (S.state s.old).sectors blocks.now.inode }
+    requires loaded { (end : ℕ) × (slot / 4 < end) × IsLoaded (S.state s.old).sectors blocks.now end }
+    requires at_hand { slot % 4 ≢ 0 → IsBlock (S.state s.old).sectors blocks.now.inode (slot / 4) block.old }
+    ensures block { OnOk result (IsBlock (S.state s.old).sectors blocks.now.inode (slot / 4) block.new) }
+    ensures same { IsUnchanged (S.state s.old) (S.state s.new) }
+    ensures cause { HasCause (S.state s.old).disk (S.state s.new).disk result }
+{
+    if slot % SLOTS == 0 {
+        blocks.read(s, slot / SLOTS, block)?;
+    }
+    Ok(())
+}
+
+/// Finds the slot of a name, block by block. What can't be a name is not found.
+pub(crate) fn find_slot<S: Sectors>(
+    s: &mut S,
+    inode: &Inode,
+    name: &[u8],
+) -> Result<Option<FoundSlot>, DiskFault>
+    requires within { IsWithin (S.state s.old).disk.size (S.state s.old).sectors inode.now }
+    requires directory { (slots : List NamedInode) × HasSlots (S.state s.old).sectors inode.now slots }
+    ensures found { IfOk result (λ found. (slots : List NamedInode) → HasSlots (S.state s.old).sectors inode.now slots
+        → IsFoundIn slots name.now found) }
+    ensures same { IsUnchanged (S.state s.old) (S.state s.new) }
+    ensures cause { HasCause (S.state s.old).disk (S.state s.new).disk result }
+{
+    if MAX_NAME < name.len() {
+        return Ok(None);
+    }
+    let slots = inode.size / SLOT as u64;
+    let blocks = Blocks::load(s, inode, slots.div_ceil(SLOTS))?;
+    let mut block = [0; 512];
+    for slot in 0..slots {
+        read_block_of(s, &blocks, slot, &mut block)?;
+        let at = SLOT * (slot % SLOTS) as usize;
+        if is_named(&block, at, name) {
+            let inode = inode_at(&block, at);
+            return Ok(Some(FoundSlot { slot, inode }));
+        }
+    }
+    Ok(None)
+}

@@ -1,0 +1,73 @@
+//! All names of a directory.
+
+ghost use Rattle.std.specs.Prelude.{◌≡◌, ◌⊎◌, ℕ, List, map, IfOk, IfErr};
+ghost use Rattle.fs_layout.specs.Directories.{NamedInode, HasNames, HaveDistinctNames, names_of_slots};
+ghost use Rattle.sector_txn.specs.Sectors.{IsUnchanged};
+ghost use Rattle.bit_alloc.specs.Faults.{HasCauseOf};
+ghost use Rattle.bit_alloc.specs.Inodes.{IsSound};
+ghost use Rattle.inode_table.specs.Inodes.{IsInodeOf};
+ghost use Rattle.block_map.specs.Blocks.{IsWithin};
+ghost use Rattle.dir_core.specs.Slots.{HasSlots, name_entry};
+ghost use Rattle.dir_core.specs.declared.fault.DirFault.TheVariants.{DiskFault as Device, OutOfMemory};
+
+use crate::DirFault;
+use crate::find::{SLOT, SLOTS, read_block_of};
+use block_map::Blocks;
+use fs_layout::{Inode, Place, Slot};
+use sector_txn::Sectors;
+use std::alloc::Global;
+
+// The slots of a directory, in their order.
+fn read_slots<S: Sectors>(alloc: Global, s: &mut S, inode: &Inode) -> Result<Vec<Slot>, DirFault>
+    requires within { IsWithin (S.state s.old).disk.size (S.state s.old).sectors inode.now }
+    requires directory { (slots : List NamedInode) × HasSlots (S.state s.old).sectors inode.now slots }
+    ensures found { IfOk result (λ found. (slots : List NamedInode) → HasSlots (S.state s.old).sectors inode.now slots
+        → found.items ≡ slots) }
+    ensures faults { IfErr result (λ e. (e ≡ Device) ⊎ (e ≡ OutOfMemory)) }
+    ensures same { IsUnchanged (S.state s.old) (S.state s.new) }
+    ensures cause { HasCauseOf DirFault.DiskFault (S.state s.old).disk (S.state s.new).disk result }
+{
+    let count = inode.size / SLOT as u64;
+    let mut slots = Vec::with_capacity(alloc, count as usize)?;
+    let blocks = Blocks::load(s, inode, count.div_ceil(SLOTS))?;
+    let mut block = [0; 512];
+    for k in 0..count {
+        read_block_of(s, &blocks, k, &mut block)?;
+        let Ok(slot) = Slot::read_from(&block, SLOT * (k % SLOTS) as usize) else {
+            unreachable!()
+        };
+        slots.push(slot)?;
+    }
+    Ok(slots)
+}
+
+// Brings slots into the bytewise order of their names.
+fn sort_by_name(slots: &mut [Slot])
+    requires { HaveDistinctNames slots.old }
+    ensures { map name_entry slots.new ≡ names_of_slots slots.old }
+{
+    slots.sort_unstable_by(|a, b| a.name().cmp(b.name()));
+}
+
+/// All names of a directory of the table, each with its inode, in the bytewise order of the names.
+///
+/// Room for all of them is taken first. It is refused by [`DirFault::DiskFault`] and [`DirFault::OutOfMemory`] alone.
+pub fn list<S: Sectors>(
+    alloc: Global,
+    s: &mut S,
+    place: Place,
+    inode: &Inode,
+) -> Result<Vec<Slot>, DirFault>
+    requires sound { IsSound place (S.state s.old) }
+    requires there { IsInodeOf place (S.state s.old).sectors inode.now }
+    requires directory { (names : List (List ℕ × ℕ)) × HasNames (S.state s.old).sectors inode.now names }
+    ensures found { IfOk result (λ found. (names : List (List ℕ × ℕ)) → HasNames (S.state s.old).sectors inode.now names
+        → map name_entry found.items ≡ names) }
+    ensures faults { IfErr result (λ e. (e ≡ Device) ⊎ (e ≡ OutOfMemory)) }
+    ensures same { IsUnchanged (S.state s.old) (S.state s.new) }
+    ensures cause { HasCauseOf DirFault.DiskFault (S.state s.old).disk (S.state s.new).disk result }
+{
+    let mut slots = read_slots(alloc, s, inode)?;
+    sort_by_name(&mut slots);
+    Ok(slots)
+}

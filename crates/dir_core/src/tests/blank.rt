@@ -1,0 +1,157 @@
+//! A map without inodes, and the check that it is one.
+
+ghost use Rattle.std.specs.Prelude.{◌≡◌, ◌≤◌, ◌<◌, ℕ, false, replicate, IfOk, IsTrue, ◌↔◌};
+ghost use Rattle.fs_layout.specs.Bytes.{IsBytes, IsSector};
+ghost use Rattle.fs_layout.specs.Place.{IsPlace};
+ghost use Rattle.fs_layout.specs.Images.{HasWholeTables, bit};
+ghost use Rattle.sector_txn.specs.Sectors.{SameStore, IsUnchanged};
+ghost use Rattle.bit_alloc.specs.Bitmaps.{first_sector, bit_count, IsNumber};
+ghost use Rattle.bit_alloc.specs.Room.{HasSpare};
+ghost use Rattle.bit_alloc.specs.Inodes.{IsSound};
+ghost use Rattle.inode_table.specs.Inodes.{ClearAreFree};
+
+use bit_alloc::{Bitmap, is_taken};
+use fs_layout::Place;
+use sector_disk::DiskFault;
+use sector_txn::Sectors;
+
+// Whether the bitmap keeps this number.
+fn is_number(place: Place, map: Bitmap, n: u32) -> bool
+    ensures { IsTrue result ↔ IsNumber place map n }
+{
+    match map {
+        Bitmap::Inodes => 1 <= n && n < place.inodes,
+        Bitmap::Blocks => place.first_data <= n && n < place.sectors,
+    }
+}
+
+// How many bits the bitmap has.
+fn count_bits(place: Place, map: Bitmap) -> u32
+    requires { IsPlace place }
+    ensures { result ≡ bit_count place map }
+{
+    match map {
+        Bitmap::Inodes => 4096,
+        Bitmap::Blocks => 4096 * (place.table - 129),
+    }
+}
+
+// Frees all inodes and data sectors.
+pub(super) fn put_blank<S: Sectors>(s: &mut S, place: Place)
+    requires place { IsPlace place }
+    requires disk { place.sectors ≤ (S.state s.old).disk.size }
+    ensures { SameStore (S.state s.old) (S.state s.new) }
+{
+    for t in 128..place.first_data {
+        if s.room() == 0 {
+            return;
+        }
+        s.put(t, &blank_sector(place, t));
+    }
+}
+
+// Sector t of a map without inodes whose block bitmap is one sector: a bit of a bitmap is set where it is no number's.
+fn blank_sector(place: Place, t: u32) -> [u8; 512] {
+    let mut sector = [0; 512];
+    if place.table <= t {
+        return sector;
+    }
+    let map = if t == 128 {
+        Bitmap::Inodes
+    } else {
+        Bitmap::Blocks
+    };
+    for n in 0..4096 {
+        if !is_number(place, map, n) {
+            sector[(n / 8) as usize] |= 1 << (n % 8);
+        }
+    }
+    sector
+}
+
+// Whether all inodes and data sectors are free, and what has to be set is.
+pub(super) fn is_blank<S: Sectors>(s: &mut S, place: Place) -> Result<bool, DiskFault>
+    requires place { IsPlace place }
+    requires disk { place.sectors ≤ (S.state s.old).disk.size }
+    ensures sound { IfOk result (λ b. IsTrue b → IsSound place (S.state s.new)) }
+    ensures clear { IfOk result (λ b. IsTrue b → ClearAreFree place (S.state s.new).sectors) }
+    ensures spare { IfOk result (λ b. IsTrue b → HasSpare place 12 (S.state s.new)) }
+{
+    let zero = has_zero_table(s, place)?;
+    let inodes = has_bits(s, place, Bitmap::Inodes)?;
+    let blocks = has_bits(s, place, Bitmap::Blocks)?;
+    if !zero {
+        return Ok(false);
+    }
+    if !inodes {
+        return Ok(false);
+    }
+    if !blocks {
+        return Ok(false);
+    }
+    Ok(s.room() >= (place.table - 128) as usize + 12)
+}
+
+// Whether the inode table is zeros.
+fn has_zero_table<S: Sectors>(s: &mut S, place: Place) -> Result<bool, DiskFault>
+    requires place { IsPlace place }
+    requires disk { place.sectors ≤ (S.state s.old).disk.size }
+    ensures tables { IfOk result (λ b. IsTrue b → HasWholeTables place (S.state s.old).sectors) }
+    ensures zero { IfOk result (λ b. IsTrue b → (t : ℕ) → place.table ≤ t → t < place.first_data
+        → (S.state s.old).sectors t ≡ replicate 512 0) }
+    ensures same { IsUnchanged (S.state s.old) (S.state s.new) }
+{
+    let mut sector = [0; 512];
+    for t in 128..place.first_data {
+        s.get(t, &mut sector)?;
+        tell_bytes(&sector);
+        if !may_have(place, t, &sector) {
+            return Ok(false);
+        }
+    }
+    Ok(true)
+}
+
+// Whether sector t isn't one of the inode table, or is zeros.
+fn may_have(place: Place, t: u32, sector: &[u8; 512]) -> bool
+    ensures { IsTrue result → place.table ≤ t → sector.now ≡ replicate 512 0 }
+{
+    if t < place.table {
+        return true;
+    }
+    *sector == [0; 512]
+}
+
+// Bytes are below 256: a fact of their type.
+fn tell_bytes(bytes: &[u8])
+    ensures { IsBytes bytes.now }
+{
+    let _count = bytes.len();
+}
+
+// Whether number n is clear, or the bit of no number is set.
+fn may_be(place: Place, map: Bitmap, n: u32, taken: bool) -> bool
+    ensures { IsTrue result → (IsTrue taken ↔ (IsNumber place map n → ⊥)) }
+{
+    if is_number(place, map, n) {
+        return !taken;
+    }
+    taken
+}
+
+// Whether of one bitmap the bits are set that are no number's, and no others.
+fn has_bits<S: Sectors>(s: &mut S, place: Place, map: Bitmap) -> Result<bool, DiskFault>
+    requires place { IsPlace place }
+    requires disk { place.sectors ≤ (S.state s.old).disk.size }
+    ensures set { IfOk result (λ b. IsTrue b → (n : ℕ) → n < bit_count place map
+        → (IsTrue (bit (S.state s.old).sectors (first_sector map) n) ↔ (IsNumber place map n → ⊥))) }
+    ensures same { IsUnchanged (S.state s.old) (S.state s.new) }
+{
+    for n in 0..count_bits(place, map) {
+        let taken = is_taken(s, place, map, n)?;
+        if !may_be(place, map, n, taken) {
+            return Ok(false);
+        }
+    }
+    Ok(true)
+}

@@ -1,0 +1,4 @@
+pub mod Scanned
+pub mod Lookups
+pub mod FirstGroup
+pub mod OneAnswer

@@ -1,0 +1,9 @@
+pub mod Errnos
+pub mod Refusals
+pub mod Permissions
+pub mod Credentials
+pub mod Decisions
+pub mod Verdicts
+pub mod Scans
+pub mod Ownership
+pub mod Laws

@@ -1,0 +1,143 @@
+//! The access check, after acl(5), "ACCESS CHECK ALGORITHM".
+ghost use Rattle.std.specs.Prelude.{◌≡◌, true, false};
+ghost use Rattle.posix_acl.specs.AccessList.{IsAcl};
+ghost use Rattle.fs_cred.specs.Decisions.{Decides, has_execute_bit};
+ghost use Rattle.fs_cred.specs.Scans.{group_rule};
+ghost use Rattle.fs_cred.specs.Verdicts.{by_entry, by_groups, by_named_user, by_superuser, first_of_groups, past_mask, perms_named, verdict, verdict_of};
+
+use crate::cred::Cred;
+use crate::node::{Node, NodeKind};
+use crate::permissions::{NOTHING, holds};
+use crate::rule::{Rule, Verdict};
+use posix_acl::{Acl, Entry, Perms, Tag};
+
+/// Whether this caller may do all of `want` to this node, and which rule says so. The first case that applies
+/// decides: the superuser, the owner, a named user, the groups that the caller is in, and everyone else.
+#[tactic(auto, unfolding(crate::specs::Verdicts::verdict))]
+pub fn decide(cred: &Cred, node: &Node, want: Perms) -> Verdict
+    ensures decides { Decides cred.now node.now want result.yes result.rule }
+    ensures computed { result ≡ verdict cred.now node.now want }
+{
+    if cred.is_superuser() {
+        by_superuser(node, want)
+    } else if cred.uid() == node.owner {
+        by_entry(node.acl.owner(), want, Rule::Owner)
+    } else if let Some(perms) = named_user(&node.acl, cred.uid()) {
+        by_named_user(node, want, cred.uid(), perms)
+    } else {
+        by_groups(cred, node, want)
+    }
+}
+
+// The superuser may do everything, but not execute a regular file that has no execute bit.
+fn by_superuser(node: &Node, want: Perms) -> Verdict
+    ensures { result ≡ by_superuser node.now want }
+{
+    if want.execute && matches!(node.kind, NodeKind::File) && !has_execute_bit(&node.acl) {
+        refused(Rule::NoExecuteBit)
+    } else {
+        granted(Rule::Superuser)
+    }
+}
+
+// An entry that the mask has no say in: the owner's, and that of others.
+fn by_entry(perms: Perms, want: Perms, rule: Rule) -> Verdict
+    ensures { result ≡ by_entry perms want rule }
+{
+    Verdict {
+        yes: holds(perms, want),
+        rule,
+    }
+}
+
+// The user's own entry decides, with the mask.
+fn by_named_user(node: &Node, want: Perms, user: u32, perms: Perms) -> Verdict
+    ensures { result ≡ by_named_user node.now want user perms }
+{
+    let rule = Rule::NamedUser(user);
+    if holds(perms, want) {
+        past_mask(&node.acl, want, rule)
+    } else {
+        refused(rule)
+    }
+}
+
+// The first entry of the caller's groups that holds all of `want` decides, with the mask. Where none does, the first
+// of them refuses, and where there is none the entry of others decides.
+fn by_groups(cred: &Cred, node: &Node, want: Perms) -> Verdict
+    ensures { result ≡ by_groups cred.now node.now want }
+{
+    if let Some(rule) = first_of_groups(cred, node, want) {
+        past_mask(&node.acl, want, rule)
+    } else if let Some(rule) = first_of_groups(cred, node, NOTHING) {
+        refused(rule)
+    } else {
+        by_entry(node.acl.other(), want, Rule::Other)
+    }
+}
+
+// An entry holds all of `want`, and now the mask has to.
+fn past_mask(acl: &Acl, want: Perms, rule: Rule) -> Verdict
+    ensures { result ≡ past_mask acl.now want rule }
+{
+    match acl.mask() {
+        Some(mask) if !holds(mask, want) => refused(Rule::Mask),
+        _ => granted(rule),
+    }
+}
+
+fn granted(rule: Rule) -> Verdict
+    ensures { result ≡ verdict_of true rule }
+{
+    Verdict { yes: true, rule }
+}
+
+fn refused(rule: Rule) -> Verdict
+    ensures { result ≡ verdict_of false rule }
+{
+    Verdict { yes: false, rule }
+}
+
+// Whether any of the file's three execute bits is set.
+fn has_execute_bit(acl: &Acl) -> bool
+    ensures { result ≡ has_execute_bit acl.now }
+{
+    acl.owner().execute || acl.group_class().execute || acl.other().execute
+}
+
+// What the entry of this user gives, if there is one.
+fn named_user(acl: &Acl, user: u32) -> Option<Perms>
+    ensures found { result ≡ perms_named user acl.now.users }
+    ensures valid { IsAcl acl.now }
+{
+    for entry in acl.entries() {
+        if entry.tag.is(Tag::User) && entry.id == user {
+            return Some(entry.perms);
+        }
+    }
+    None
+}
+
+// The first entry of the caller's groups that holds all of `want`.
+fn first_of_groups(cred: &Cred, node: &Node, want: Perms) -> Option<Rule>
+    ensures { result ≡ first_of_groups cred.now node.now want }
+{
+    for entry in node.acl.entries() {
+        let rule = group_rule(cred, node.group, *entry);
+        if rule.is_some() && holds(entry.perms, want) {
+            return rule;
+        }
+    }
+    None
+}
+
+// The rule by which an entry of the caller's groups is named.
+fn group_rule(cred: &Cred, owning_group: u32, entry: Entry) -> Option<Rule>
+    ensures { result ≡ group_rule cred.now owning_group entry }
+{
+    match entry.tag {
+        Tag::GroupObj if cred.is_member(owning_group) => Some(Rule::OwningGroup),
+        Tag::Group if cred.is_member(entry.id) => Some(Rule::NamedGroup(entry.id)),
+        _ => None,
+    }
+}

@@ -1,0 +1,24 @@
+//! Credentials, and who may do what by which rule: the access check of acl(5), and the rules of ownership of
+//! POSIX.1-2017.
+#![tactic(auto)]
+
+mod access;
+mod cred;
+mod errno;
+mod laws;
+mod node;
+mod ownership;
+mod permissions;
+mod refusal;
+mod rule;
+#[cfg(test)]
+mod tests;
+
+pub use access::decide;
+pub use cred::{Cred, CredFault, MAX_GROUPS};
+pub use errno::Errno;
+pub use laws::one_answer;
+pub use node::{Node, NodeKind};
+pub use ownership::{may_chgrp, may_chown, may_own, sticky_allows};
+pub use refusal::{Denial, Need, Refusal};
+pub use rule::{Rule, Verdict};

@@ -1,0 +1,197 @@
+-- What a bitmap's bits depend on, and how the count of free sectors follows them.
+use Rattle.std.proofs.Common.{◌≡◌, ◌≢◌, ℕ, zero, suc, ◌+◌, ◌-◌, ◌/◌, ◌%◌, ◌<◌, ◌≤◌, nat_eq}
+use Rattle.std.proofs.Common.{Bool, true, false, cond, not, List, length, get_or, set, refl, sym, ap, ◌∙◌, arith, inl, inr, ◌⊎◌, IsTrue}
+use Rattle.std.specs.Prelude.{count_by}
+use Rattle.std.specs.Int.{bit_at}
+use Rattle.std.specs.List.{range_with_len}
+use Rattle.std.proofs.lemmas.Bool.{cases_eq, eq-eqb, ne_eqb}
+use Rattle.std.proofs.lemmas.List.{get_or-set_same, get_or-set_other}
+use Rattle.std.proofs.lemmas.List.Sums.{sum_by-cons}
+use Rattle.fs_layout.specs.declared.place.Place.{Place}
+use Rattle.fs_layout.specs.Bytes.{SectorMap}
+use Rattle.fs_layout.specs.Place.{IsPlace}
+use Rattle.fs_layout.specs.Images.{IsData, map_bits, bit, inode_bitmap, block_bitmap, free_sectors}
+use Rattle.fs_layout.specs.Changes.{IsBlockMap, IsFree}
+
+-- a bit is set or clear, and not both
+pub set_or_clear : (b : Bool) → IsTrue b ⊎ (b ≡ false)
+set_or_clear true = inl refl
+set_or_clear false = inr refl
+
+-- no bit is both
+pub not_both : {b : Bool} → IsTrue b → b ≡ false → ⊥
+not_both h e = cc
+
+-- a bit depends on its sector alone
+pub bit_kept : (old new : SectorMap) (start n : ℕ) → new (start + n / 4096) ≡ old (start + n / 4096) → bit new start n ≡ bit old start n
+unfolding bit
+bit_kept old new start n e = ap (λ (s : List ℕ). nat_eq (bit_at (get_or s (n % 4096 / 8) 0) (n % 8)) 1) e
+
+-- the bits of the inodes stand in one sector
+pub inode_bit_kept : (old new : SectorMap) (n : ℕ) → n < 4096 → new inode_bitmap ≡ old inode_bitmap → bit new inode_bitmap n ≡ bit old inode_bitmap n
+inode_bit_kept old new n lt e = let k : 128 + n / 4096 ≡ 128 = omega arith in bit_kept old new inode_bitmap n (ap new k ∙ e ∙ ap old (sym k))
+
+-- the bit of a sector stands in the block bitmap
+pub in_block_map : (p : Place) (s : ℕ) → s < map_bits p → IsBlockMap p (block_bitmap + s / 4096)
+in_block_map p s lt = (omega arith, omega arith)
+
+-- each sector of the disk has a bit there
+pub has_bit : {p : Place} → IsPlace p → (s : ℕ) → s < p.sectors → s < map_bits p
+has_bit place s lt = let fits = place.bits in omega (arith, fits, lt)
+
+-- the bits of the block bitmap depend on its sectors alone
+pub block_bit_kept : (p : Place) (old new : SectorMap) (s : ℕ) → s < map_bits p → ((t : ℕ) → IsBlockMap p t → new t ≡ old t)
+    → bit new block_bitmap s ≡ bit old block_bitmap s
+block_bit_kept p old new s lt same = bit_kept old new block_bitmap s (same (block_bitmap + s / 4096) (in_block_map p s lt))
+
+-- ---- a write of one byte of a bitmap
+-- new has b for the byte in which bit n of the bitmap stands, and nothing else differs
+pub record PutsByte (start n b : ℕ) (old new : SectorMap) : Type 0 where
+  pub here : new (start + n / 4096) ≡ set (old (start + n / 4096)) (n % 4096 / 8) b
+  pub len : length (old (start + n / 4096)) ≡ 512
+  pub others : (s : ℕ) → s ≢ start + n / 4096 → new s ≡ old s
+
+-- bit n is that of b
+pub bit_put_same : {start n b : ℕ} {old new : SectorMap} → PutsByte start n b old new → bit new start n ≡ nat_eq (bit_at b (n % 8)) 1
+unfolding bit
+bit_put_same {start} {n} {b} {old} {new} p =
+    let e : get_or (new (start + n / 4096)) (n % 4096 / 8) 0 ≡ b =
+    ap (λ (s : List ℕ). get_or s (n % 4096 / 8) 0) p.here ∙ get_or-set_same (old (start + n / 4096)) (n % 4096 / 8) b 0 (omega (arith, p.len)) in
+    ap (λ (k : ℕ). nat_eq (bit_at k (n % 8)) 1) e
+
+-- another bit is the same, if the other bits of the byte are
+pub bit_put_other : {start n b : ℕ} {old new : SectorMap} → PutsByte start n b old new
+    → ((i : ℕ) → i < 8 → i ≢ n % 8 → bit_at b i ≡ bit_at (get_or (old (start + n / 4096)) (n % 4096 / 8) 0) i)
+    → (m : ℕ) → m ≢ n → bit new start m ≡ bit old start m
+unfolding bit
+bit_put_other {start} {n} {b} {old} {new} p same m ne =
+    elim (cases_eq (m / 4096) (n / 4096)) [
+      | inr away ↦ bit_kept old new start m (p.others (start + m / 4096) (λ e. away (omega (arith, e))))
+      | inl e ↦
+          let k : start + m / 4096 ≡ start + n / 4096 = ap (λ (q : ℕ). start + q) e in
+          let sector : new (start + m / 4096) ≡ set (old (start + m / 4096)) (n % 4096 / 8) b = ap new k ∙ p.here ∙ ap (λ (q : ℕ). set (old q) (n % 4096 / 8) b) (sym k) in
+          elim (cases_eq (m % 4096 / 8) (n % 4096 / 8)) [
+            | inr away ↦ ap (λ (x : ℕ). nat_eq (bit_at x (m % 8)) 1)
+                (ap (λ (s : List ℕ). get_or s (m % 4096 / 8) 0) sector ∙ get_or-set_other (old (start + m / 4096)) (n % 4096 / 8) (m % 4096 / 8) b 0 away)
+            | inl there ↦
+                let byte : get_or (new (start + m / 4096)) (m % 4096 / 8) 0 ≡ b =
+                ap (λ (s : List ℕ). get_or s (m % 4096 / 8) 0) sector ∙ ap (λ (j : ℕ). get_or (set (old (start + m / 4096)) (n % 4096 / 8) b) j 0) there
+                ∙ get_or-set_same (old (start + m / 4096)) (n % 4096 / 8) b 0 (omega (arith, ap (λ (q : ℕ). length (old q)) k, p.len)) in
+                let was : get_or (old (start + m / 4096)) (m % 4096 / 8) 0 ≡ get_or (old (start + n / 4096)) (n % 4096 / 8) 0 =
+                ap (λ (q : ℕ). get_or (old q) (m % 4096 / 8) 0) k ∙ ap (λ (j : ℕ). get_or (old (start + n / 4096)) j 0) there in
+                ap (λ (x : ℕ). nat_eq x 1) (ap (λ (x : ℕ). bit_at x (m % 8)) byte ∙ same (m % 8) (omega arith) (apart e there ne) ∙ sym (ap (λ (x : ℕ). bit_at x (m % 8)) was))
+          ]
+    ]
+  where
+    apart : m / 4096 ≡ n / 4096 → m % 4096 / 8 ≡ n % 4096 / 8 → m ≢ n → m % 8 ≢ n % 8
+    apart e f ne g = ne (omega (arith, e, f, g))
+
+-- ---- counts
+one_if : Bool → ℕ
+one_if b = cond b 1 0
+
+count_cons : (f : ℕ → Bool) (a n : ℕ) → count_by f (range_with_len a (suc n)) ≡ one_if (f a) + count_by f (range_with_len (a + 1) n)
+unfolding one_if
+count_cons f a n = sum_by-cons (λ (x : ℕ). cond (f x) 1 0) a (range_with_len (a + 1) n)
+
+-- equal tests count the same
+count_same : (f g : ℕ → Bool) (a n : ℕ) → ((s : ℕ) → a ≤ s → s < a + n → f s ≡ g s)
+    → count_by f (range_with_len a n) ≡ count_by g (range_with_len a n)
+count_same f g a zero same = refl
+count_same f g a (suc n) same =
+    let here : one_if (f a) ≡ one_if (g a) = ap one_if (same a (omega arith) (omega arith)) in
+    let rest : count_by f (range_with_len (a + 1) n) ≡ count_by g (range_with_len (a + 1) n) = count_same f g (a + 1) n (λ s le lt. same s (omega arith) (omega arith)) in
+    count_cons f a n ∙ omega (arith, here, rest) ∙ sym (count_cons g a n)
+
+-- one more number that passes
+count_one_more : (f g : ℕ → Bool) (a n x : ℕ) → a ≤ x → x < a + n → f x ≡ true → g x ≡ false → ((s : ℕ) → a ≤ s → s < a + n → s ≢ x → f s ≡ g s)
+    → count_by f (range_with_len a n) ≡ count_by g (range_with_len a n) + 1
+unfolding one_if
+count_one_more f g a zero x le lt yes_f no_g same = absurd (omega arith)
+count_one_more f g a (suc n) x le lt yes_f no_g same =
+    elim (cases_eq x a) [
+      | inl e ↦
+          let one : one_if (f a) ≡ 1 = ap (λ (k : ℕ). one_if (f k)) (sym e) ∙ ap one_if yes_f in
+          let none : one_if (g a) ≡ 0 = ap (λ (k : ℕ). one_if (g k)) (sym e) ∙ ap one_if no_g in
+          let rest : count_by f (range_with_len (a + 1) n) ≡ count_by g (range_with_len (a + 1) n) =
+          count_same f g (a + 1) n (λ s low high. same s (omega arith) (omega arith) (λ there. omega arith)) in
+          count_cons f a n ∙ omega (arith, one, none, rest) ∙ ap (λ (k : ℕ). k + 1) (sym (count_cons g a n))
+      | inr ne ↦
+          let here : one_if (f a) ≡ one_if (g a) = ap one_if (same a (omega arith) (omega arith) (λ there. ne (sym there))) in
+          let rest : count_by f (range_with_len (a + 1) n) ≡ count_by g (range_with_len (a + 1) n) + 1 =
+          count_one_more f g (a + 1) n x (omega arith) (omega arith) yes_f no_g (λ s low high. same s (omega arith) (omega arith)) in
+          count_cons f a n ∙ omega (arith, here, rest) ∙ ap (λ (k : ℕ). k + 1) (sym (count_cons g a n))
+    ]
+
+-- ---- free sectors
+free_bit : SectorMap → ℕ → Bool
+free_bit image s = not (bit image block_bitmap s)
+
+-- free, and not s
+all_but : SectorMap → ℕ → ℕ → Bool
+all_but image s t = cond (nat_eq t s) false (free_bit image t)
+
+but_one : (image : SectorMap) (s : ℕ) → all_but image s s ≡ false
+unfolding all_but
+but_one image s = rw (eq-eqb s s refl) refl
+
+but_other : (image : SectorMap) (s t : ℕ) → t ≢ s → free_bit image t ≡ all_but image s t
+unfolding all_but
+but_other image s t ne = rw (ne_eqb t s ne) refl
+
+-- a data sector lies between the first one and the end
+in_range : (p : Place) (s : ℕ) → p.first_data ≤ s → s < p.first_data + (p.sectors - p.first_data) → IsData p s
+in_range p s low high = (low, omega arith)
+
+above : (p : Place) (s : ℕ) → p.first_data ≤ s → s < p.sectors → s < p.first_data + (p.sectors - p.first_data)
+above p s low high = omega arith
+
+-- the count of free sectors depends on the bits of data sectors alone
+pub free_sectors_kept : (p : Place) (old new : SectorMap) → ((s : ℕ) → IsData p s → bit new block_bitmap s ≡ bit old block_bitmap s)
+    → free_sectors p new ≡ free_sectors p old
+unfolding free_bit
+free_sectors_kept p old new same =
+    count_same (free_bit new) (free_bit old) p.first_data (p.sectors - p.first_data) (λ s low high. ap not (same s (in_range p s low high)))
+
+-- the bit of data sector s is set, and was clear; then one sector less is free
+pub free_sectors_less : (p : Place) (old new : SectorMap) (s : ℕ) → IsFree p old s → IsTrue (bit new block_bitmap s)
+    → ((t : ℕ) → IsData p t → t ≢ s → bit new block_bitmap t ≡ bit old block_bitmap t) → free_sectors p old ≡ free_sectors p new + 1
+unfolding free_bit
+free_sectors_less p old new s free set same =
+    count_one_more (free_bit old) (free_bit new) p.first_data (p.sectors - p.first_data) s free.0 (above p s free.0 free.1) (ap not free.2) (ap not set)
+    (λ t low high ne. ap not (sym (same t (in_range p t low high) ne)))
+
+-- the bit of data sector s is clear, and was set; then one sector more is free
+pub free_sectors_more : (p : Place) (old new : SectorMap) (s : ℕ) → IsData p s → IsTrue (bit old block_bitmap s) → bit new block_bitmap s ≡ false
+    → ((t : ℕ) → IsData p t → t ≢ s → bit new block_bitmap t ≡ bit old block_bitmap t) → free_sectors p new ≡ free_sectors p old + 1
+free_sectors_more p old new s at set clear same = free_sectors_less p new old s (at.0, at.1, clear) set (λ t here ne. sym (same t here ne))
+
+-- where a sector is free there are free sectors
+pub free_sectors_some : (p : Place) (image : SectorMap) (s : ℕ) → IsFree p image s → 0 < free_sectors p image
+unfolding free_bit
+free_sectors_some p image s free =
+    let all : List ℕ = range_with_len p.first_data (p.sectors - p.first_data) in
+    let one : count_by (free_bit image) all ≡ count_by (all_but image s) all + 1 =
+    count_one_more (free_bit image) (all_but image s) p.first_data (p.sectors - p.first_data) s free.0 (above p s free.0 free.1) (ap not free.2) (but_one image s)
+    (λ t low high ne. but_other image s t ne) in
+    omega (arith, one)
+
+-- where there is none, each data sector's bit is set
+pub free_sectors_none : (p : Place) (image : SectorMap) → free_sectors p image ≡ 0 → (s : ℕ) → IsData p s → IsTrue (bit image block_bitmap s)
+free_sectors_none p image none s at = elim (set_or_clear (bit image block_bitmap s)) [
+  | inl set ↦ set
+  | inr clear ↦ absurd (let some = free_sectors_some p image s (at.0, at.1, clear) in omega (arith, none, some))
+]
+
+count_all : (a n : ℕ) → count_by (λ (s : ℕ). true) (range_with_len a n) ≡ n
+unfolding one_if
+count_all a zero = refl
+count_all a (suc n) = let rest : count_by (λ (s : ℕ). true) (range_with_len (a + 1) n) ≡ n = count_all (a + 1) n in count_cons (λ (s : ℕ). true) a n ∙ omega (arith, rest)
+
+-- where each data sector's bit is clear, all are free
+pub free_sectors_all : (p : Place) (image : SectorMap) → ((s : ℕ) → IsData p s → bit image block_bitmap s ≡ false)
+    → free_sectors p image ≡ p.sectors - p.first_data
+unfolding free_bit
+free_sectors_all p image clear =
+    count_same (free_bit image) (λ (s : ℕ). true) p.first_data (p.sectors - p.first_data) (λ s low high. ap not (clear s (in_range p s low high)))
+    ∙ count_all p.first_data (p.sectors - p.first_data)

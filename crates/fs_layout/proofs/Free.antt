@@ -1,0 +1,165 @@
+-- An inode without sectors; an image in which no inode owns anything; and what an inode of an image fits.
+use Rattle.std.proofs.Common.{◌≡◌, ◌≢◌, ℕ, ◌+◌, ◌-◌, ◌*◌, ◌/◌, ◌%◌, ◌^◌, ◌<◌, ◌≤◌, List, [], length, take, get_or, set, refl, sym, ap, ◌∙◌, arith, inl, inr, ◌⊎◌, ◌↔◌, IsTrue, Ok}
+use Rattle.std.proofs.lemmas.List.{drop-replicate, take-replicate, get_or-set_same, get_or-set_other, length-set, get_or_past}
+use Rattle.std.proofs.lemmas.Bool.{cases_eq, cases_lt}
+use Rattle.fs_layout.specs.declared.inode.Kind.TheVariants.{Free}
+use Rattle.fs_layout.specs.declared.inode.Inode.{Inode}
+use Rattle.fs_layout.specs.declared.place.Place.{Place}
+use Rattle.fs_layout.specs.Bytes.{SectorMap, IsSector, window, zeros, le16, le32, le64, le32s}
+use Rattle.fs_layout.specs.Inode.{inode_bytes, inode_of, inode_fits, free_inode, FitsInode}
+use Rattle.fs_layout.specs.Place.{IsPlace}
+use Rattle.fs_layout.specs.Images.{HasWholeTables, map_bits, bit, block_bitmap, stored, inode_at}
+use Rattle.fs_layout.specs.Images.{pointer, byte_in, byte_at, Part, AccessAcl, DefaultAcl, Indirect, DoubleIndirect, Block, part, Owns, Holds}
+use Rattle.fs_layout.specs.Ownership.{IsOwned, IsConsistent}
+use Rattle.fs_layout.specs.Changes.{with_direct, IsOwnedApart, ChangesBlocks}
+use Rattle.fs_layout.proofs.Places.{after_map}
+use Rattle.fs_layout.proofs.Fields.{part_len, IsBytes-part}
+use Rattle.fs_layout.proofs.InodeLaw.{read_fits}
+use Rattle.fs_layout.proofs.Pointers.{pointer_direct, pointer_without}
+use Rattle.fs_layout.proofs.Saves.{in_table, inode_there, valid_there}
+use Rattle.fs_layout.proofs.Blocks.{rewrites}
+use Rattle.fs_layout.proofs.SplicedBytes.{get_or-zeros}
+
+-- ---- an inode without sectors
+pub record HasNoSector (v : Inode) : Type 0 where
+  pub acl : v.acl ≡ 0
+  pub default_acl : v.default_acl ≡ 0
+  pub direct : (k : ℕ) → get_or v.direct k 0 ≡ 0
+  pub indirect : v.indirect ≡ 0
+
+no_sector_pointer : (image : SectorMap) (v : Inode) (k : ℕ) → HasNoSector v → pointer image v k ≡ 0
+no_sector_pointer image v k none =
+    elim (cases_lt k 12) [
+      | inl lt ↦ pointer_direct image v k lt ∙ none.direct k
+      | inr ge ↦ pointer_without image v k ge none.indirect
+    ]
+
+no_sector_part : (image : SectorMap) (v : Inode) (a : Part) → HasNoSector v → part image v a ≡ 0
+unfolding part
+no_sector_part image v AccessAcl none = none.acl
+no_sector_part image v DefaultAcl none = none.default_acl
+no_sector_part image v Indirect none = none.indirect
+no_sector_part image v DoubleIndirect none = refl
+no_sector_part image v (Block k) none = no_sector_pointer image v k none
+
+-- it owns nothing
+pub owns_nothing : (image : SectorMap) (v : Inode) (s : ℕ) → HasNoSector v → Owns image v s → ⊥
+owns_nothing image v s none o = o.some (sym o.is ∙ no_sector_part image v o.at none)
+
+-- and holds nothing, if its size is 0
+pub holds_nothing : (image : SectorMap) (v : Inode) → HasNoSector v → v.size ≡ 0 → Holds image v []
+unfolding byte_at
+holds_nothing image v none empty = record {
+  size = empty;
+  byte = λ i. ap (λ (s : ℕ). byte_in image s (i % 512)) (no_sector_pointer image v (i / 512) none);
+  trim = λ k le. no_sector_pointer image v k none;
+  trim_pointers = λ le. none.indirect;
+}
+
+-- a free inode has no sector
+pub free_has_no_sector : HasNoSector free_inode
+unfolding zeros
+free_has_no_sector = record { acl = refl; default_acl = refl; direct = get_or-zeros 12; indirect = refl }
+
+-- it fits its fields
+pub free_fits : FitsInode free_inode
+unfolding inode_fits zeros
+free_fits = record {
+  valid = record { numbers = refl; free = λ e. refl };
+  mode = omega arith;
+  uid = omega arith;
+  gid = omega arith;
+  names = omega arith;
+  size = omega arith;
+  parent = omega arith;
+  acl = omega arith;
+  default_acl = omega arith;
+  direct_len = refl;
+  direct = λ i. let e : get_or (zeros 12) i 0 ≡ 0 = get_or-zeros 12 i in omega (arith, e);
+  indirect = omega arith;
+}
+
+-- A used inode without sectors becomes free, or a free one used: what is owned does not change.
+pub no_sector_changes : {p : Place} {v w : Inode} {image : SectorMap} → IsPlace p → HasWholeTables p image → IsOwnedApart p image v → HasNoSector v
+    → HasNoSector w → ChangesBlocks p v w image image
+no_sector_changes {v = v} {w} {image} place tables apart none then =
+    rewrites place tables apart (λ a. no_sector_part image w a then ∙ sym (no_sector_part image v a none)) (record { whole = apart.whole; others = λ s ban. refl })
+
+-- ---- an inode table of zeros
+free_bytes : inode_bytes free_inode ≡ zeros 128
+unfolding le16 le32 le64 le32s zeros
+free_bytes = refl
+
+zeros_window : (at : ℕ) → at + 128 ≤ 512 → window (zeros 512) at 128 ≡ zeros 128
+unfolding zeros
+zeros_window at room = ap (take 128) (drop-replicate at 512 0) ∙ take-replicate 128 (512 - at) 0 (omega arith)
+
+-- a sector of zeros in the table has free inodes, which are valid
+pub free_where_zeros : (p : Place) (image : SectorMap) (n : ℕ) → image (p.table + n / 4) ≡ zeros 512
+    → (inode_at p image n ≡ free_inode) × (inode_of (stored p image n) ≡ Ok (inode_at p image n))
+unfolding stored
+free_where_zeros p image n e =
+    let bytes : stored p image n ≡ inode_bytes free_inode = ap (λ (r : List ℕ). window r (128 * (n % 4)) 128) e ∙ zeros_window (128 * (n % 4)) (omega arith) ∙ sym free_bytes in
+    (inode_there p image n free_inode free_fits bytes, valid_there p image n free_inode free_fits bytes)
+
+-- ---- what is read fits
+-- an inode of a consistent image fits its fields
+pub inode_fits_there : {p : Place} {image : SectorMap} → IsConsistent p image → (n : ℕ) → n < p.inodes → FitsInode (inode_at p image n)
+unfolding stored
+inode_fits_there {p} {image} h n lt =
+    let i = in_table p n h.place lt in
+    let whole : IsSector (image (p.table + n / 4)) = h.sectors (p.table + n / 4) (let a = after_map h.place in omega (arith, a)) i.1 in
+    let room : 128 * (n % 4) + 128 ≤ length (image (p.table + n / 4)) = omega (arith, whole.len) in
+    read_fits (stored p image n) (inode_at p image n) (part_len 128 (128 * (n % 4)) (image (p.table + n / 4)) room)
+    (IsBytes-part 128 (128 * (n % 4)) (image (p.table + n / 4)) whole.bytes) (h.valid n lt)
+
+-- and so it does with another direct block, unless it is free
+pub with_direct_fits : (v : Inode) (k s : ℕ) → FitsInode v → v.kind ≢ Free → s < 2 ^ 32 → FitsInode (with_direct v k s)
+unfolding inode_fits
+with_direct_fits v k s fits used small = record {
+  valid = record { numbers = fits.valid.numbers; free = λ e. absurd (used e) };
+  mode = fits.mode;
+  uid = fits.uid;
+  gid = fits.gid;
+  names = fits.names;
+  size = fits.size;
+  parent = fits.parent;
+  acl = fits.acl;
+  default_acl = fits.default_acl;
+  direct_len = length-set v.direct k s ∙ fits.direct_len;
+  direct = λ i. elim (cases_eq i k) [
+    | inr ne ↦ let e = get_or-set_other v.direct k i s 0 ne in let b = fits.direct i in omega (arith, e, b)
+    | inl here ↦ elim (cases_lt k (length v.direct)) [
+      | inl lt ↦ let e = ap (λ (j : ℕ). get_or (set v.direct k s) j 0) here ∙ get_or-set_same v.direct k s 0 lt in omega (arith, e, small)
+      | inr ge ↦ let e = get_or_past (set v.direct k s) i 0 (omega (arith, length-set v.direct k s, here, ge)) in omega (arith, e)
+    ]
+  ];
+  indirect = fits.indirect;
+}
+
+-- ---- an image in which nothing is owned
+-- It is consistent where its inodes are valid, and the bits set are those below the data and past the end. So is
+-- the image of a new disk.
+pub consistent_without_owners : (p : Place) (image : SectorMap) → IsPlace p → HasWholeTables p image
+    → ((n : ℕ) → n < p.inodes → inode_of (stored p image n) ≡ Ok (inode_at p image n))
+    → ((n s : ℕ) → n < p.inodes → Owns image (inode_at p image n) s → ⊥)
+    → ((s : ℕ) → s < map_bits p → IsTrue (bit image block_bitmap s) ↔ ((s < p.first_data) ⊎ (p.sectors ≤ s)))
+    → IsConsistent p image
+consistent_without_owners p image place tables valid none bits = record {
+  place = place;
+  sectors = tables;
+  owned_sectors = λ n s lt o. absurd (none n s lt o);
+  valid = valid;
+  in_data = λ n s lt o. absurd (none n s lt o);
+  sole = λ n m s ln lm a b. absurd (none n s ln a);
+  block_bits = λ s fits. (λ t. outside s ((bits s fits).0 t), λ o. (bits s fits).1 (back s o));
+}
+  where
+    outside : (s : ℕ) → (s < p.first_data) ⊎ (p.sectors ≤ s) → (s < p.first_data) ⊎ ((p.sectors ≤ s) ⊎ IsOwned p image s)
+    outside s (inl low) = inl low
+    outside s (inr past) = inr (inl past)
+
+    back : (s : ℕ) → (s < p.first_data) ⊎ ((p.sectors ≤ s) ⊎ IsOwned p image s) → (s < p.first_data) ⊎ (p.sectors ≤ s)
+    back s (inl low) = inl low
+    back s (inr (inl past)) = inr past
+    back s (inr (inr o)) = absurd (none o.by s o.below o.is)

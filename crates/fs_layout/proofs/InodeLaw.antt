@@ -1,0 +1,188 @@
+-- What is read of an inode is spelled so, and what is spelled so is read.
+use Rattle.std.proofs.Common.{◌≡◌, ℕ, zero, suc, ◌^◌, ◌<◌, List, ◌++◌, length, drop, refl, sym, ap, subst, ◌∙◌, arith, true, cond, Option, Some, None, Ok, Err}
+use Rattle.std.proofs.lemmas.List.{drop-drop, drop_at}
+use Rattle.fs_layout.specs.declared.inode.Kind.{Kind}
+use Rattle.fs_layout.specs.declared.inode.Kind.TheVariants.{Free, File, Directory, Link}
+use Rattle.fs_layout.specs.declared.inode.Inode.{Inode}
+use Rattle.fs_layout.specs.declared.fault.LayoutFault.TheVariants.{BadNumber, NotZero}
+use Rattle.fs_layout.proofs.Codecs.{IsCodec, held, same_ok}
+use Rattle.fs_layout.proofs.Small.{u16_small, u32_small, u64_small, u32s_small, u32s_len}
+use Rattle.fs_layout.specs.Bytes.{le16, le32, le64, le32s, zeros, u16_of, u32_of, u64_of, u32s_of, are_zero}
+use Rattle.fs_layout.proofs.Writes.{length-le32s}
+use Rattle.fs_layout.proofs.Fields.{back16, back32, back64, back32s, zeros_back, are_zero-zeros, zeros-are_zero, read16, read32, read64, read32s}
+use Rattle.fs_layout.specs.Inode.{FitsInode, free_inode, fields_end, fields_of, inode_bytes, inode_fits, inode_if, inode_of, kind_number, kind_of}
+use Rattle.fs_layout.specs.Bytes.{IsBytes}
+
+number_of_kind : (n : ℕ) (k : Kind) → kind_of n ≡ Some k → n ≡ kind_number k
+number_of_kind zero k e = let f : Free ≡ k = cc in ap kind_number f
+number_of_kind (suc zero) k e = let f : File ≡ k = cc in ap kind_number f
+number_of_kind (suc (suc zero)) k e = let f : Directory ≡ k = cc in ap kind_number f
+number_of_kind (suc (suc (suc zero))) k e = let f : Link ≡ k = cc in ap kind_number f
+number_of_kind (suc (suc (suc (suc n)))) k e = absurd cc
+
+-- the bytes of the fields that stand in s, and of the zeros after them
+spelled : (s : List ℕ) (kind : Kind) → length s ≡ 128 → IsBytes s → u16_of s 0 ≡ kind_number kind → are_zero (drop 88 s) ≡ true
+    → s ≡ inode_bytes (fields_of kind s)
+spelled s kind len fits k z =
+    let e0 : s ≡ le16 (u16_of s 0) ++ drop 2 s = back16 s 0 fits (omega arith) in
+    let e1 : drop 2 s ≡ le16 (u16_of s 2) ++ drop 4 s = back16 s 2 fits (omega arith) in
+    let e2 : drop 4 s ≡ le32 (u32_of s 4) ++ drop 8 s = back32 s 4 fits (omega arith) in
+    let e3 : drop 8 s ≡ le32 (u32_of s 8) ++ drop 12 s = back32 s 8 fits (omega arith) in
+    let e4 : drop 12 s ≡ le32 (u32_of s 12) ++ drop 16 s = back32 s 12 fits (omega arith) in
+    let e5 : drop 16 s ≡ le64 (u64_of s 16) ++ drop 24 s = back64 s 16 fits (omega arith) in
+    let e6 : drop 24 s ≡ le32 (u32_of s 24) ++ drop 28 s = back32 s 24 fits (omega arith) in
+    let e7 : drop 28 s ≡ le32 (u32_of s 28) ++ drop 32 s = back32 s 28 fits (omega arith) in
+    let e8 : drop 32 s ≡ le32 (u32_of s 32) ++ drop 36 s = back32 s 32 fits (omega arith) in
+    let e9 : drop 36 s ≡ le32s (u32s_of s 36 12) ++ drop 84 s = back32s 12 s 36 fits (omega arith) in
+    let e10 : drop 84 s ≡ le32 (u32_of s 84) ++ drop 88 s = back32 s 84 fits (omega arith) in
+    let e11 : drop 88 s ≡ zeros 40 = zeros_back s 88 40 (omega arith) z in
+    let f10 : drop 84 s ≡ le32 (u32_of s 84) ++ zeros 40 = e10 ∙ ap (λ (r : List ℕ). le32 (u32_of s 84) ++ r) e11 in
+    let f9 : drop 36 s ≡ le32s (u32s_of s 36 12) ++ (le32 (u32_of s 84) ++ zeros 40) =
+    e9 ∙ ap (λ (r : List ℕ). le32s (u32s_of s 36 12) ++ r) f10 in
+    let f8 : drop 32 s ≡ le32 (u32_of s 32) ++ (le32s (u32s_of s 36 12) ++ (le32 (u32_of s 84) ++ zeros 40)) =
+    e8 ∙ ap (λ (r : List ℕ). le32 (u32_of s 32) ++ r) f9 in
+    let f6 : drop 24 s ≡ le32 (u32_of s 24) ++ (le32 (u32_of s 28) ++ (le32 (u32_of s 32) ++ (le32s (u32s_of s 36 12) ++ (le32 (u32_of s 84) ++ zeros 40)))) =
+    e6 ∙ ap (λ (r : List ℕ). le32 (u32_of s 24) ++ r) (e7 ∙ ap (λ (r : List ℕ). le32 (u32_of s 28) ++ r) f8) in
+    e0 ∙ ap (λ (n : ℕ). le16 n ++ drop 2 s) k
+    ∙ ap (λ (r : List ℕ). le16 (kind_number kind) ++ r) (e1 ∙ ap (λ (r : List ℕ). le16 (u16_of s 2) ++ r) (e2
+    ∙ ap (λ (r : List ℕ). le32 (u32_of s 4) ++ r) (e3 ∙ ap (λ (r : List ℕ). le32 (u32_of s 8) ++ r) (e4
+    ∙ ap (λ (r : List ℕ). le32 (u32_of s 12) ++ r) (e5 ∙ ap (λ (r : List ℕ). le64 (u64_of s 16) ++ r) f6)))))
+
+-- zeros throughout are zeros past the fields
+zero_tail : (kind : Kind) (s : List ℕ) → length s ≡ 128 → are_zero (drop (fields_end kind) s) ≡ true → are_zero (drop 88 s) ≡ true
+unfolding are_zero zeros
+zero_tail Free s len e = ap (λ (r : List ℕ). are_zero (drop 88 r)) (are_zero-zeros s e ∙ ap zeros len) ∙ refl
+zero_tail File s len e = e
+zero_tail Directory s len e = e
+zero_tail Link s len e = e
+
+takes_if : (o : Option Kind) (s : List ℕ) (v : Inode) → kind_of (u16_of s 0) ≡ o → length s ≡ 128 → IsBytes s → inode_if o s ≡ Ok v
+    → (s ≡ inode_bytes v) × (inode_fits v ≡ true)
+takes_if None s v k len fits e = absurd cc
+takes_if (Some kind) s v k len fits e =
+    let a =
+    held (inode_fits (fields_of kind s)) (cond (are_zero (drop (fields_end kind) s)) (Ok (fields_of kind s)) (Err NotZero)) BadNumber v e in
+    let b = held (are_zero (drop (fields_end kind) s)) (Ok (fields_of kind s)) NotZero v a.1 in
+    let same : fields_of kind s ≡ v = same_ok (fields_of kind s) v (Ok (fields_of kind s)) refl b.1 in
+    (spelled s kind len fits (number_of_kind (u16_of s 0) kind k) (zero_tail kind s len b.0) ∙ ap inode_bytes same, sym (ap inode_fits same) ∙ a.0)
+
+pub inode_takes : (s : List ℕ) (v : Inode) → length s ≡ 128 → IsBytes s → inode_of s ≡ Ok v → (s ≡ inode_bytes v) × (inode_fits v ≡ true)
+unfolding inode_of
+inode_takes s v len fits e = takes_if (kind_of (u16_of s 0)) s v refl len fits e
+
+same_fields : (v : Inode) (k : Kind) (a b c d e f g h : ℕ) (i : List ℕ) (j : ℕ) → a ≡ v.mode → b ≡ v.uid → c ≡ v.gid → d ≡ v.names
+    → e ≡ v.size → f ≡ v.parent → g ≡ v.acl → h ≡ v.default_acl → i ≡ v.direct → j ≡ v.indirect
+    → record { kind = v.kind; mode = a; uid = b; gid = c; names = d; size = e; parent = f; acl = g; default_acl = h; direct = i; indirect = j } ≡ v
+same_fields v k a b c d e f g h i j e0 e1 e2 e3 e4 e5 e6 e7 e8 e9 = rw (e0, e1, e2, e3, e4, e5, e6, e7, e8, e9) refl
+
+drop_le32 : (x : ℕ) (r : List ℕ) → drop 4 (le32 x ++ r) ≡ r
+unfolding le32
+drop_le32 x r = refl
+
+small : (k : Kind) → kind_number k < 2 ^ 16
+small Free = omega arith
+small File = omega arith
+small Directory = omega arith
+small Link = omega arith
+
+-- ---- what is spelled is read
+tail_of : (v : Inode) → length v.direct ≡ 12 → drop 84 (inode_bytes v) ≡ le32 v.indirect ++ zeros 40
+unfolding le16 le32 le64
+tail_of v len =
+    let k : length (le32s v.direct) ≡ 48 = omega (arith, length-le32s v.direct) in
+    sym (drop-drop 48 36 (inode_bytes v)) ∙ drop_at (le32s v.direct) (le32 v.indirect ++ zeros 40) 48 k
+
+kind_again : (k : Kind) → kind_of (kind_number k) ≡ Some k
+kind_again Free = refl
+kind_again File = refl
+kind_again Directory = refl
+kind_again Link = refl
+
+reads_fields : (v : Inode) → FitsInode v → fields_of v.kind (inode_bytes v) ≡ v
+unfolding le16 le32 le64
+reads_fields v f =
+    let s = inode_bytes v in
+    let mode : u16_of s 2 ≡ v.mode = read16 s 2 v.mode (drop 4 s) refl f.mode in
+    let uid : u32_of s 4 ≡ v.uid = read32 s 4 v.uid (drop 8 s) refl f.uid in
+    let gid : u32_of s 8 ≡ v.gid = read32 s 8 v.gid (drop 12 s) refl f.gid in
+    let names : u32_of s 12 ≡ v.names = read32 s 12 v.names (drop 16 s) refl f.names in
+    let size : u64_of s 16 ≡ v.size = read64 s 16 v.size (drop 24 s) refl f.size in
+    let parent : u32_of s 24 ≡ v.parent = read32 s 24 v.parent (drop 28 s) refl f.parent in
+    let acl : u32_of s 28 ≡ v.acl = read32 s 28 v.acl (drop 32 s) refl f.acl in
+    let default_acl : u32_of s 32 ≡ v.default_acl = read32 s 32 v.default_acl (drop 36 s) refl f.default_acl in
+    let direct : u32s_of s 36 12 ≡ v.direct =
+    ap (u32s_of s 36) (sym f.direct_len) ∙ read32s v.direct s 36 (le32 v.indirect ++ zeros 40) refl f.direct in
+    let indirect : u32_of s 84 ≡ v.indirect = read32 s 84 v.indirect (zeros 40) (tail_of v f.direct_len) f.indirect in
+    same_fields v v.kind _ _ _ _ _ _ _ _ _ _ mode uid gid names size parent acl default_acl direct indirect
+
+zeros_end : (v : Inode) → FitsInode v → are_zero (drop 88 (inode_bytes v)) ≡ true
+zeros_end v f =
+    let e : drop 88 (inode_bytes v) ≡ zeros 40 =
+    sym (drop-drop 4 84 (inode_bytes v)) ∙ ap (drop 4) (tail_of v f.direct_len) ∙ drop_le32 v.indirect (zeros 40) in
+    ap are_zero e ∙ zeros-are_zero 40
+
+free_is_zero : are_zero (inode_bytes free_inode) ≡ true
+unfolding are_zero le16 le32 le64 le32s zeros
+free_is_zero = refl
+
+ends : (k : Kind) (v : Inode) → v.kind ≡ k → FitsInode v → are_zero (drop (fields_end k) (inode_bytes v)) ≡ true
+ends Free v e f = ap (λ (u : Inode). are_zero (inode_bytes u)) (f.valid.free e) ∙ free_is_zero
+ends File v e f = zeros_end v f
+ends Directory v e f = zeros_end v f
+ends Link v e f = zeros_end v f
+
+pub inode_again : (v : Inode) → FitsInode v → inode_of (inode_bytes v) ≡ Ok v
+unfolding inode_of le16
+inode_again v f =
+    let s = inode_bytes v in
+    let n : u16_of s 0 ≡ kind_number v.kind = read16 s 0 (kind_number v.kind) (drop 2 s) refl (small v.kind) in
+    let k : kind_of (u16_of s 0) ≡ Some v.kind = ap kind_of n ∙ kind_again v.kind in
+    let fields = reads_fields v f in
+    let fit : inode_fits (fields_of v.kind s) ≡ true = ap inode_fits fields ∙ f.valid.numbers in
+    ap (λ (o : Option Kind). inode_if o s) k ∙ rw (fit, ends v.kind v refl f) (rw fields refl)
+
+-- all zeros are the free inode
+zeros_are_free : (s : List ℕ) → s ≡ zeros 128 → fields_of Free s ≡ free_inode
+unfolding u16_of u32_of u64_of u32s_of zeros
+zeros_are_free s e = ap (fields_of Free) e
+
+-- what is read fits its fields
+fields_fit : (k : Kind) (s : List ℕ) → length s ≡ 128 → IsBytes s → inode_fits (fields_of k s) ≡ true
+    → are_zero (drop (fields_end k) s) ≡ true → s ≡ inode_bytes (fields_of k s) → FitsInode (fields_of k s)
+unfolding inode_fits
+fields_fit k s len h fits end spelled = record {
+  valid = record {
+    numbers = fits;
+    free = λ e.
+        let all : are_zero s ≡ true = subst (λ (q : Kind). are_zero (drop (fields_end q) s) ≡ true) e end in
+        ap (λ (q : Kind). fields_of q s) e ∙ zeros_are_free s (are_zero-zeros s all ∙ ap zeros len);
+  };
+  mode = u16_small s 2 h;
+  uid = u32_small s 4 h;
+  gid = u32_small s 8 h;
+  names = u32_small s 12 h;
+  size = u64_small s 16 h;
+  parent = u32_small s 24 h;
+  acl = u32_small s 28 h;
+  default_acl = u32_small s 32 h;
+  direct_len = u32s_len s 36 12;
+  direct = λ i. u32s_small s 36 12 i h;
+  indirect = u32_small s 84 h;
+}
+
+fits_if : (o : Option Kind) (s : List ℕ) (v : Inode) → kind_of (u16_of s 0) ≡ o → length s ≡ 128 → IsBytes s → inode_if o s ≡ Ok v
+    → FitsInode v
+fits_if None s v k len fits e = absurd cc
+fits_if (Some kind) s v k len fits e =
+    let a =
+    held (inode_fits (fields_of kind s)) (cond (are_zero (drop (fields_end kind) s)) (Ok (fields_of kind s)) (Err NotZero)) BadNumber v e in
+    let b = held (are_zero (drop (fields_end kind) s)) (Ok (fields_of kind s)) NotZero v a.1 in
+    let same : fields_of kind s ≡ v = same_ok (fields_of kind s) v (Ok (fields_of kind s)) refl b.1 in
+    subst FitsInode same (fields_fit kind s len fits a.0 b.0 (spelled s kind len fits (number_of_kind (u16_of s 0) kind k) (zero_tail kind s len b.0)))
+
+pub read_fits : (s : List ℕ) (v : Inode) → length s ≡ 128 → IsBytes s → inode_of s ≡ Ok v → FitsInode v
+unfolding inode_of
+read_fits s v len fits e = fits_if (kind_of (u16_of s 0)) s v refl len fits e
+
+pub inode_codec : IsCodec 128 FitsInode inode_bytes inode_of
+inode_codec = record { back = λ s v len small e. ((inode_takes s v len small e).0, read_fits s v len small e); again = inode_again }

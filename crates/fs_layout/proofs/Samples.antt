@@ -1,0 +1,72 @@
+-- Worked samples of an image: each word computes what the layout says.
+use Rattle.std.proofs.Common.{◌≡◌, ◌+◌, ◌*◌, true, false, cond, [], ◌∷◌, ◌++◌, replicate, refl, nat_eq}
+use Rattle.fs_layout.specs.declared.inode.Inode.{Inode}
+use Rattle.fs_layout.specs.Bytes.{SectorMap, u32_of, zeros}
+use Rattle.fs_layout.specs.Inode.{free_inode}
+use Rattle.fs_layout.specs.Place.{laid_out}
+use Rattle.fs_layout.specs.Images.{bit, inode_bitmap, block_bitmap, pointer, part, Block, byte_at, stored}
+
+-- 1024 sectors and 64 inodes: the table begins at 130, the data at 146
+place_of_1024 : laid_out 1024 64 ≡ record { sectors = 1024; inodes = 64; table = 130; first_data = 146 }
+place_of_1024 = refl
+
+-- sector 130 of the image has byte 6 at offset 1, and no other sector has anything
+two_bits : SectorMap
+two_bits s = cond (nat_eq s 130) (0 ∷ 6 ∷ []) []
+
+-- bit 4096 + 9 of the block bitmap is bit 1 of byte 1 of its second sector
+bit_set : bit two_bits block_bitmap 4105 ≡ true
+unfolding bit two_bits
+bit_set = refl
+
+bit_clear : bit two_bits block_bitmap 4104 ≡ false
+unfolding bit two_bits
+bit_clear = refl
+
+bit_elsewhere : bit two_bits inode_bitmap 9 ≡ false
+unfolding bit two_bits
+bit_elsewhere = refl
+
+-- sector 200 has the pointers 7 and 258, and sector 258 has bytes
+pointers : SectorMap
+pointers s = cond (nat_eq s 200) (7 ∷ 0 ∷ 0 ∷ 0 ∷ 2 ∷ 1 ∷ 0 ∷ 0 ∷ []) (cond (nat_eq s 258) (65 ∷ 66 ∷ []) [])
+
+-- block 0 is sector 150, and the sector of pointers is 200
+file : Inode
+file = record free_inode { direct = 150 ∷ replicate 11 0; indirect = 200 }
+
+first_block : pointer pointers file 0 ≡ 150
+unfolding pointer pointers file
+first_block = refl
+
+-- block 12 is the first of the sector of pointers, block 13 the second
+indirect_block : part pointers file (Block 12) ≡ 7
+unfolding part pointer pointers file u32_of
+indirect_block = refl
+
+next_block : part pointers file (Block 13) ≡ 258
+unfolding part pointer pointers file u32_of
+next_block = refl
+
+-- there is no block 140
+no_block : part pointers file (Block 140) ≡ 0
+unfolding part pointer pointers file
+no_block = refl
+
+-- byte 1 of block 13
+byte_of_block : byte_at pointers file (512 * 13 + 1) ≡ 66
+unfolding byte_at pointer pointers file u32_of
+byte_of_block = refl
+
+-- a byte of a hole
+byte_of_hole : byte_at pointers file 512 ≡ 0
+unfolding byte_at pointer pointers file
+byte_of_hole = refl
+
+-- inode 5 stands in the second sector of the table, from byte 128 on
+second_inode : SectorMap
+second_inode s = cond (nat_eq s 131) (zeros 128 ++ (1 ∷ zeros 383)) []
+
+inode_5 : stored (laid_out 1024 64) second_inode 5 ≡ 1 ∷ zeros 127
+unfolding stored second_inode zeros
+inode_5 = refl

@@ -1,0 +1,5 @@
+use Rattle.std.proofs.Common.{◌≤◌, ◌<◌, ℕ, get_or}
+use Rattle.fs_layout.proofs.commit.Commit.is_valid_for.Given as goal
+
+abbrev pub invariant-loop-target : goal.invariant-loop-target
+invariant-loop-target l = (k d : ℕ) → k < l.target-index → (128 ≤ get_or l.targets k d) × (get_or l.targets k d < l.sectors)

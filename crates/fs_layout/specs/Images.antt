@@ -1,0 +1,112 @@
+-- Where things lie in an image.
+--     inode_bitmap, block_bitmap, map_bits        where the bitmaps begin, and how many bits the latter has
+--     IsData        a data sector
+--     HasWholeTables        the bitmaps and the inode table are whole sectors
+--     bit, free_sectors        a bit of a bitmap; how many data sectors are free
+--     stored, inode_at        an inode's bytes, and the inode
+--     pointer, Part, part, Owns        the sectors that an inode owns, each by its role
+--     byte_at, Holds, HasNoHole        the bytes that an inode holds
+use Rattle.std.specs.Prelude.{◌≡◌, ◌≢◌, ℕ, zero, suc, ◌+◌, ◌-◌, ◌*◌, ◌/◌, ◌%◌, ◌<◌, ◌≤◌, Bool, not, nat_eq, nat_lt, List, get_or, length, count_by, if◌then◌else◌, Result, Ok, Err}
+use Rattle.std.specs.Int.{bit_at}
+use Rattle.std.specs.List.{range_with_len}
+use Rattle.fs_layout.specs.declared.inode.Inode.{Inode}
+use Rattle.fs_layout.specs.declared.fault.LayoutFault.{LayoutFault}
+use Rattle.fs_layout.specs.declared.place.Place.{Place}
+use Rattle.fs_layout.specs.declared.place.TheConstants.{INODE_BITMAP, BLOCK_BITMAP, SECTOR_BITS}
+use Rattle.fs_layout.specs.Bytes.{SectorMap, IsSector, window, u32_of}
+use Rattle.fs_layout.specs.Inode.{inode_of, free_inode}
+
+-- the sector of the inode bitmap
+abbrev pub inode_bitmap : ℕ
+inode_bitmap = INODE_BITMAP
+
+-- the first sector of the block bitmap
+abbrev pub block_bitmap : ℕ
+block_bitmap = BLOCK_BITMAP
+
+-- the number of bits of the block bitmap
+abbrev pub map_bits : Place → ℕ
+map_bits p = SECTOR_BITS * (p.table - block_bitmap)
+
+-- a data sector
+abbrev pub IsData : Place → ℕ → Type 0
+IsData p s = (p.first_data ≤ s) × (s < p.sectors)
+
+-- each sector of the bitmaps and of the inode table is whole
+abbrev pub HasWholeTables : Place → SectorMap → Type 0
+HasWholeTables p image = (s : ℕ) → inode_bitmap ≤ s → s < p.first_data → IsSector (image s)
+
+-- bit n of the bitmap that begins at a sector
+unfoldable pub bit : SectorMap → ℕ → ℕ → Bool
+bit image start n = nat_eq (bit_at (get_or (image (start + n / SECTOR_BITS)) (n % SECTOR_BITS / 8) 0) (n % 8)) 1
+
+-- how many data sectors have a clear bit
+abbrev pub free_sectors : Place → SectorMap → ℕ
+free_sectors p image = count_by (λ s. not (bit image block_bitmap s)) (range_with_len p.first_data (p.sectors - p.first_data))
+
+-- the bytes of inode n
+unfoldable pub stored : Place → SectorMap → ℕ → List ℕ
+stored p image n = window (image (p.table + n / 4)) (128 * (n % 4)) 128
+
+abbrev pub inode_or_free : Result Inode LayoutFault → Inode
+inode_or_free (Ok v) = v
+inode_or_free (Err e) = free_inode
+
+-- inode n, a free one where its bytes are none
+unfoldable pub inode_at : Place → SectorMap → ℕ → Inode
+inode_at p image n = inode_or_free (inode_of (stored p image n))
+
+-- number k of a sector of numbers; 0 where there is no such sector
+abbrev pub pointer_in : SectorMap → ℕ → ℕ → ℕ
+pointer_in image zero k = 0
+pointer_in image (suc s) k = u32_of (image (suc s)) (4 * k)
+
+-- the sector of block k of an inode; 0 for a hole
+unfoldable pub pointer : SectorMap → Inode → ℕ → ℕ
+pointer image v k =
+    if nat_lt k 12 then get_or v.direct k 0 else (if nat_lt k 140 then pointer_in image v.indirect (k - 12) else 0)
+
+-- what an inode may own a sector for
+pub data Part : Type 0 where
+  AccessAcl DefaultAcl : Part
+  -- the sector of the pointers to the blocks from 12 on
+  Indirect : Part
+  -- kept for larger files
+  DoubleIndirect : Part
+  Block : ℕ → Part
+  deriving Discrete as Part-discrete
+
+-- the sector that an inode has for this; 0 where it has none
+unfoldable pub part : SectorMap → Inode → Part → ℕ
+part image v AccessAcl = v.acl
+part image v DefaultAcl = v.default_acl
+part image v Indirect = v.indirect
+part image v DoubleIndirect = 0
+part image v (Block k) = pointer image v k
+
+-- the inode owns sector s
+pub record Owns (image : SectorMap) (v : Inode) (s : ℕ) : Type 0 where
+  pub at : Part
+  pub is : part image v at ≡ s
+  pub some : s ≢ 0
+
+-- a byte of a sector; 0 where there is no such sector
+abbrev pub byte_in : SectorMap → ℕ → ℕ → ℕ
+byte_in image zero i = 0
+byte_in image (suc s) i = get_or (image (suc s)) i 0
+
+-- byte i of what the inode holds; a hole reads as zeros
+unfoldable pub byte_at : SectorMap → Inode → ℕ → ℕ
+byte_at image v i = byte_in image (pointer image v (i / 512)) (i % 512)
+
+-- These bytes are what a file, a directory or a link holds. Past its size it has no blocks, and the rest of its last
+-- block is zero.
+pub record Holds (image : SectorMap) (v : Inode) (bytes : List ℕ) : Type 0 where
+  pub size : v.size ≡ length bytes
+  pub byte : (i : ℕ) → byte_at image v i ≡ get_or bytes i 0
+  pub trim : (k : ℕ) → v.size ≤ 512 * k → pointer image v k ≡ 0
+  pub trim_pointers : v.size ≤ 6144 → v.indirect ≡ 0
+
+-- each block within the size has a sector
+abbrev pub HasNoHole : SectorMap → Inode → Type 0
+HasNoHole image v = (k : ℕ) → 512 * k < v.size → pointer image v k ≢ 0

@@ -1,0 +1,96 @@
+-- An inode, 128 bytes in the inode table: its bytes, and what bytes are read as.
+use Rattle.std.specs.Prelude.{ℕ, zero, suc, ◌<◌, ◌^◌, ◌≡◌, ◌%◌, ◌++◌, List, length, get_or, drop, Result, Ok, Err, Option, Some, None, Bool, true, nat_eq, nat_le, if◌then◌else◌, ◌&&◌, IsTrue}
+use Rattle.fs_layout.specs.declared.inode.Kind.{Kind}
+use Rattle.fs_layout.specs.declared.inode.Kind.TheVariants.{Free, File, Directory, Link}
+use Rattle.fs_layout.specs.declared.inode.Inode.{Inode}
+use Rattle.fs_layout.specs.declared.fault.LayoutFault.{LayoutFault}
+use Rattle.fs_layout.specs.declared.fault.LayoutFault.TheVariants.{BadKind, BadNumber, NotZero}
+use Rattle.fs_layout.specs.declared.inode.TheConstants.{MAX_FILE_SIZE, MAX_LINK_SIZE}
+use Rattle.fs_layout.specs.declared.inode.TheConstants.Inode.{FREE}
+use Rattle.fs_layout.specs.Bytes.{le16, le32, le64, le32s, zeros, u16_of, u32_of, u64_of, u32s_of, are_zero}
+
+abbrev pub kind_number : Kind → ℕ
+kind_number Free = 0
+kind_number File = 1
+kind_number Directory = 2
+kind_number Link = 3
+
+abbrev pub kind_of : ℕ → Option Kind
+kind_of zero = Some Free
+kind_of (suc zero) = Some File
+kind_of (suc (suc zero)) = Some Directory
+kind_of (suc (suc (suc zero))) = Some Link
+kind_of (suc (suc (suc (suc n)))) = None
+
+-- the fields one after the other, and zeros
+abbrev pub inode_bytes : Inode → List ℕ
+inode_bytes v =
+    le16 (kind_number v.kind) ++ (le16 v.mode ++ (le32 v.uid ++ (le32 v.gid ++ (le32 v.names ++ (le64 v.size
+    ++ (le32 v.parent ++ (le32 v.acl ++ (le32 v.default_acl ++ (le32s v.direct ++ (le32 v.indirect ++ zeros 40))))))))))
+
+-- mode and size are in the range of the kind
+abbrev pub numbers_fit : Kind → ℕ → ℕ → Bool
+numbers_fit Free mode size = true
+numbers_fit File mode size = nat_le mode 0o777 && nat_le size MAX_FILE_SIZE
+numbers_fit Directory mode size = (nat_le mode 0o3777 && nat_le size MAX_FILE_SIZE) && nat_eq (size % 128) 0
+numbers_fit Link mode size = (nat_eq mode 0o777 && nat_le 1 size) && nat_le size MAX_LINK_SIZE
+
+unfoldable pub inode_fits : Inode → Bool
+inode_fits v = numbers_fit v.kind v.mode v.size
+
+-- an inode that nothing uses
+abbrev pub free_inode : Inode
+free_inode = FREE
+
+-- what its kind asks of an inode
+pub record IsInode (v : Inode) : Type 0 where
+  pub numbers : IsTrue (inode_fits v)
+  pub free : v.kind ≡ Free → v ≡ free_inode
+
+-- that, and each number fits its field
+pub record FitsInode (v : Inode) : Type 0 where
+  pub valid : IsInode v
+  pub mode : v.mode < 2 ^ 16
+  pub uid : v.uid < 2 ^ 32
+  pub gid : v.gid < 2 ^ 32
+  pub names : v.names < 2 ^ 32
+  pub size : v.size < 2 ^ 64
+  pub parent : v.parent < 2 ^ 32
+  pub acl : v.acl < 2 ^ 32
+  pub default_acl : v.default_acl < 2 ^ 32
+  pub direct_len : length v.direct ≡ 12
+  pub direct : (i : ℕ) → get_or v.direct i 0 < 2 ^ 32
+  pub indirect : v.indirect < 2 ^ 32
+
+abbrev pub fields_of : Kind → List ℕ → Inode
+fields_of kind s = record {
+  kind = kind;
+  mode = u16_of s 2;
+  uid = u32_of s 4;
+  gid = u32_of s 8;
+  names = u32_of s 12;
+  size = u64_of s 16;
+  parent = u32_of s 24;
+  acl = u32_of s 28;
+  default_acl = u32_of s 32;
+  direct = u32s_of s 36 12;
+  indirect = u32_of s 84;
+}
+
+-- from here on the bytes are zero: of a free inode all of them, of another one those past its fields
+abbrev pub fields_end : Kind → ℕ
+fields_end Free = 0
+fields_end File = 88
+fields_end Directory = 88
+fields_end Link = 88
+
+abbrev pub inode_if : Option Kind → List ℕ → Result Inode LayoutFault
+inode_if None s = Err BadKind
+inode_if (Some kind) s =
+    if inode_fits (fields_of kind s) then
+    (if are_zero (drop (fields_end kind) s) then Ok (fields_of kind s) else Err NotZero)
+    else Err BadNumber
+
+-- the inode that 128 bytes are, or the first fault
+unfoldable pub inode_of : List ℕ → Result Inode LayoutFault
+inode_of s = inode_if (kind_of (u16_of s 0)) s

@@ -1,0 +1,13 @@
+pub mod AclSector
+pub mod Bytes
+pub mod Changes
+pub mod Commit
+pub mod Directories
+pub mod Images
+pub mod Inode
+pub mod Laws
+pub mod Maps
+pub mod Ownership
+pub mod Place
+pub mod Recovered
+pub mod Superblock

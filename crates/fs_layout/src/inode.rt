@@ -1,0 +1,192 @@
+//! An inode of the inode table, 128 bytes.
+
+ghost use Rattle.std.specs.Prelude.{◌≡◌, ◌≤◌, ◌+◌, length, IfOk, Ok};
+ghost use Rattle.fs_layout.specs.Bytes.{splice, window};
+ghost use Rattle.fs_layout.specs.Inode.{inode_bytes, inode_of, inode_fits, kind_number, kind_of, fields_end, IsInode, FitsInode};
+
+use crate::bytes::{
+    are_zero, get_u32s, put_u16, put_u32, put_u32s, put_u64, put_zeros, u16_at, u32_at, u64_at,
+};
+use crate::fault::LayoutFault;
+
+/// The most bytes of a file, and of the slots of a directory: 12 blocks of 512, and 128 in the sector of pointers.
+pub const MAX_FILE_SIZE: u64 = (12 + 128) * 512;
+
+/// The most bytes of a link's target.
+pub const MAX_LINK_SIZE: u64 = 512;
+
+/// What an inode is: nothing yet, or a node of the tree.
+#[derive(Clone, Copy, Debug, PartialEq, Eq)]
+pub enum Kind {
+    /// Nothing uses the inode; all its bytes are zero.
+    Free,
+    File,
+    Directory,
+    Link,
+}
+
+impl Kind {
+    fn number(self) -> u16
+        ensures { result ≡ kind_number self }
+    {
+        match self {
+            Kind::Free => 0,
+            Kind::File => 1,
+            Kind::Directory => 2,
+            Kind::Link => 3,
+        }
+    }
+
+    fn fields_end(self) -> usize
+        ensures { result ≡ fields_end self }
+    {
+        match self {
+            Kind::Free => 0,
+            Kind::File | Kind::Directory | Kind::Link => 88,
+        }
+    }
+
+    fn of_number(number: u16) -> Option<Kind>
+        ensures { result ≡ kind_of number }
+    {
+        match number {
+            0 => Some(Kind::Free),
+            1 => Some(Kind::File),
+            2 => Some(Kind::Directory),
+            3 => Some(Kind::Link),
+            _ => None,
+        }
+    }
+}
+
+/// An inode's fields. Its bytes say no more than that kind, mode and size go together: names, parent and sector
+/// numbers may be any.
+#[derive(Clone, Copy, PartialEq, Eq)]
+pub struct Inode {
+    pub kind: Kind,
+    /// The permission bits, and of a directory the bits above them: of a file at most 0o777, of a directory at most
+    /// 0o3777, of a link 0o777.
+    pub mode: u16,
+    /// The owner.
+    pub uid: u32,
+    /// The group.
+    pub gid: u32,
+    /// How many names the inode has in directories; of a directory 1.
+    pub names: u32,
+    /// The bytes of a file, at most [`MAX_FILE_SIZE`]; 128 for each slot of a directory, at most [`crate::MAX_NAMES`]
+    /// slots; the bytes of a link's target, 1 to [`MAX_LINK_SIZE`].
+    pub size: u64,
+    /// The inode of the directory that a directory lies in, the root's own for the root; else 0.
+    pub parent: u32,
+    /// The sector of the ACL, or 0: the ACL is the three entries that the mode is.
+    pub acl: u32,
+    /// The sector of the default ACL, or 0: none.
+    pub default_acl: u32,
+    /// The sectors of the first 12 blocks; 0 is a hole.
+    pub direct: [u32; 12],
+    /// The sector that lists the sectors of the next 128 blocks, or 0: none of them is there.
+    pub indirect: u32,
+}
+
+impl Inode {
+    /// An inode that nothing uses.
+    pub const FREE: Inode = Inode {
+        kind: Kind::Free,
+        mode: 0,
+        uid: 0,
+        gid: 0,
+        names: 0,
+        size: 0,
+        parent: 0,
+        acl: 0,
+        default_acl: 0,
+        direct: [0; 12],
+        indirect: 0,
+    };
+
+    #[tactic(auto, unfolding(crate::specs::Inode::inode_fits))]
+    fn fits(&self) -> bool
+        ensures { result ≡ inode_fits self.now }
+    {
+        match self.kind {
+            Kind::Free => true,
+            Kind::File => self.mode <= 0o777 && self.size <= MAX_FILE_SIZE,
+            Kind::Directory => self.mode <= 0o3777
+                && self.size <= MAX_FILE_SIZE
+                && self.size % 128 == 0,
+            Kind::Link => self.mode == 0o777 && 1 <= self.size && self.size <= MAX_LINK_SIZE,
+        }
+    }
+
+    fn put(&self, to: &mut [u8])
+        requires { length to.old ≡ 128 }
+        ensures { to.new ≡ inode_bytes self.now }
+    {
+        put_u16(to, 0, self.kind.number());
+        put_u16(to, 2, self.mode);
+        put_u32(to, 4, self.uid);
+        put_u32(to, 8, self.gid);
+        put_u32(to, 12, self.names);
+        put_u64(to, 16, self.size);
+        put_u32(to, 24, self.parent);
+        put_u32(to, 28, self.acl);
+        put_u32(to, 32, self.default_acl);
+        put_u32s(to, 36, &self.direct);
+        put_u32(to, 84, self.indirect);
+        put_zeros(to, 88, 40);
+    }
+
+    #[tactic(auto, unfolding(crate::specs::Inode::inode_of))]
+    fn get(from: &[u8]) -> Result<Inode, LayoutFault>
+        requires { length from.now ≡ 128 }
+        ensures { result ≡ inode_of from.now }
+    {
+        let Some(kind) = Kind::of_number(u16_at(from, 0)) else {
+            return Err(LayoutFault::BadKind);
+        };
+        let mut direct = [0; 12];
+        get_u32s(from, 36, &mut direct);
+        let inode = Inode {
+            kind,
+            mode: u16_at(from, 2),
+            uid: u32_at(from, 4),
+            gid: u32_at(from, 8),
+            names: u32_at(from, 12),
+            size: u64_at(from, 16),
+            parent: u32_at(from, 24),
+            acl: u32_at(from, 28),
+            default_acl: u32_at(from, 32),
+            direct,
+            indirect: u32_at(from, 84),
+        };
+        if !inode.fits() {
+            return Err(LayoutFault::BadNumber);
+        }
+        if !are_zero(&from[kind.fields_end()..]) {
+            return Err(LayoutFault::NotZero);
+        }
+        Ok(inode)
+    }
+
+    /// Writes the 128 bytes from `at` on.
+    pub fn write_to(&self, to: &mut [u8; 512], at: usize)
+        requires room { at + 128 ≤ 512 }
+        requires valid { IsInode self.now }
+        ensures { to.new ≡ splice to.old at (inode_bytes self.now) }
+    {
+        self.put(&mut to[at..at + 128]);
+    }
+
+    /// Reads the 128 bytes from `at` on.
+    pub fn read_from(from: &[u8; 512], at: usize) -> Result<Inode, LayoutFault>
+        requires { at + 128 ≤ 512 }
+        // What is read is spelled so.
+        ensures found { IfOk result (λ v. (window from.now at 128 ≡ inode_bytes v) × FitsInode v) }
+        // What is spelled so is read.
+        ensures only { (v : Inode) → FitsInode v → window from.now at 128 ≡ inode_bytes v → result ≡ Ok v }
+        // Which fault it is.
+        ensures first_fault { result ≡ inode_of (window from.now at 128) }
+    {
+        Inode::get(&from[at..at + 128])
+    }
+}

@@ -1,0 +1,74 @@
+//! Laws of the layout, each proved by a function that does nothing: its contract is the law.
+
+ghost use Rattle.fs_layout.specs.Bytes.{le16, le32, le64, u16_of, u32_of, u64_of};
+ghost use Rattle.std.specs.Prelude.{ℕ};
+ghost use Rattle.std.specs.Ordering.{nat_cmp};
+ghost use Rattle.fs_layout.specs.Maps.{name_cmp};
+ghost use Rattle.fs_layout.specs.Laws.{AreNumbersAsBytes, RecoversEach, OneInodeChanges, SavingEnds, RestsOnUsed, SomeConsistent, HaveEntries, SlotsHaveNames, OneMapOfNames, NamesAreRead, NamesStay, AclsHaveSectors, HoldsOneAcl, ModeTellsTheRest};
+
+/// A number of 16 bits that is read from bytes is written as these bytes, and one that is written is read again.
+pub fn numbers_of_16_bits()
+    ensures { AreNumbersAsBytes 2 le16 u16_of }
+{}
+
+/// The same of 32 bits.
+pub fn numbers_of_32_bits()
+    ensures { AreNumbersAsBytes 4 le32 u32_of }
+{}
+
+/// The same of 64 bits.
+pub fn numbers_of_64_bits()
+    ensures { AreNumbersAsBytes 8 le64 u64_of }
+{}
+
+/// In a recovered image the targets of a sealed commit have the contents of their log sectors, and each other sector
+/// its own; an image whose commit sector is idle or not valid is recovered.
+pub fn recovery()
+    ensures { RecoversEach }
+{}
+
+/// In a consistent image one inode may change with what it owns: the image stays consistent, and each other inode is the
+/// same with all that it owns.
+pub fn one_inode_changes()
+    ensures { OneInodeChanges }
+{}
+
+/// The blocks of an inode change, and the inode is saved: then one inode has changed, and it is the one that was saved.
+pub fn saving_ends()
+    ensures { SavingEnds }
+{}
+
+/// Whether an image is consistent rests on its tables and on the data sectors that are used: log, free sectors and what
+/// lies past the end may hold anything.
+pub fn consistency_rests_on_used_sectors()
+    ensures { RestsOnUsed }
+{}
+
+/// The definition of a consistent image can be met.
+pub fn some_image_is_consistent()
+    ensures { SomeConsistent }
+{}
+
+/// A finite map with an entry set has that one and else what it had; with one removed it has none there and else what it
+/// had. Two maps that have the same at each key are one.
+pub fn maps_have_entries()
+    ensures names { HaveEntries ℕ name_cmp }
+    ensures numbers { HaveEntries ℕ nat_cmp }
+{}
+
+/// Slots without a name that stands twice are a map of names with an entry for each slot. A directory has one such map,
+/// its slots say it one by one, and it stays where the directory's sectors stay.
+pub fn slots_say_the_names()
+    ensures slots { SlotsHaveNames }
+    ensures one { OneMapOfNames }
+    ensures read { NamesAreRead }
+    ensures stay { NamesStay }
+{}
+
+/// Each ACL has a sector's content of its own, and is read from it. So a sector holds one ACL, and the access ACL of an
+/// inode is told by its sector and the mode bits.
+pub fn sectors_say_the_acls()
+    ensures content { AclsHaveSectors }
+    ensures one { HoldsOneAcl }
+    ensures access { ModeTellsTheRest }
+{}

@@ -1,0 +1,29 @@
+//! The layout of an image: where each part of a disk lies, and how each structure is written in bytes.
+#![tactic(auto)]
+
+mod acl_sector;
+mod bytes;
+mod commit;
+mod fault;
+mod inode;
+mod laws;
+mod place;
+mod slot;
+mod superblock;
+#[cfg(test)]
+mod tests;
+
+pub use acl_sector::AclSector;
+pub use commit::{Commit, MAX_TARGETS};
+pub use fault::LayoutFault;
+pub use inode::{Inode, Kind, MAX_FILE_SIZE, MAX_LINK_SIZE};
+pub use laws::{
+    consistency_rests_on_used_sectors, maps_have_entries, numbers_of_16_bits, numbers_of_32_bits,
+    numbers_of_64_bits, one_inode_changes, recovery, saving_ends, sectors_say_the_acls,
+    slots_say_the_names, some_image_is_consistent,
+};
+pub use place::{
+    BLOCK_BITMAP, COMMIT_SECTOR, FIRST_LOG_SECTOR, INODE_BITMAP, Place, ROOT, SECTOR_BITS, place_of,
+};
+pub use slot::{MAX_NAME, MAX_NAMES, Slot, is_name};
+pub use superblock::Super;

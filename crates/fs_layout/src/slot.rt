@@ -1,0 +1,134 @@
+//! A slot of a directory, 128 bytes.
+
+ghost use Rattle.std.specs.Prelude.{◌≡◌, ◌≤◌, ◌+◌, ◌↔◌, length, IfOk, Ok, IsTrue};
+ghost use Rattle.fs_layout.specs.Bytes.{splice, window};
+ghost use Rattle.fs_layout.specs.Directories.{NamedInode, IsName, FitsSlot, slot_bytes, slot_of};
+
+use crate::bytes::{are_zero, put_bytes, put_u32, put_zeros, u32_at};
+use crate::fault::LayoutFault;
+use std::marker::Model;
+
+/// The most bytes that a name has.
+pub const MAX_NAME: usize = 120;
+
+/// The most names that a directory has: its slots are [`crate::MAX_FILE_SIZE`] bytes then.
+pub const MAX_NAMES: usize = 560;
+
+/// An inode and a name that it has in a directory. A contract sees both by `NamedInode`.
+#[derive(Drop)]
+pub struct Slot {
+    inode: u32,
+    length: usize,
+    name: [u8; MAX_NAME],
+}
+
+impl Model for Slot {
+    ghost use Rattle.std.specs.Prelude.{◌≤◌, take};
+    ghost use Rattle.fs_layout.specs.declared.slot.TheConstants.{MAX_NAME};
+    ghost use Rattle.fs_layout.specs.Directories.{NamedInode, IsName};
+
+    ghost Value = { NamedInode };
+
+    ghost view = { λ s. record { inode = s.inode; name = take s.length s.name } };
+
+    ghost invariant = { λ s. (s.length ≤ MAX_NAME) × IsName (take s.length s.name) };
+}
+
+/// The bytes may stand in a directory as a name: 1 to [`MAX_NAME`] of them, no `/` and no zero byte, and neither `.` nor `..`.
+pub fn is_name(name: &[u8]) -> bool
+    ensures { IsTrue result ↔ IsName name.now }
+{
+    if name.is_empty() || MAX_NAME < name.len() {
+        return false;
+    }
+    if name == b".".as_slice() || name == b"..".as_slice() {
+        return false;
+    }
+    name.iter().all(|b| *b != 0 && *b != b'/')
+}
+
+impl Slot {
+    /// This name for this inode.
+    pub fn new(inode: u32, name: &[u8]) -> Slot
+        requires { IsName name.now }
+        ensures { result ≡ record { inode = inode; name = name.now } }
+    {
+        let mut bytes = [0; MAX_NAME];
+        (&mut bytes[..name.len()]).copy_from_slice(name);
+        Slot {
+            inode,
+            length: name.len(),
+            name: bytes,
+        }
+    }
+
+    /// The number of the inode.
+    pub fn inode(&self) -> u32
+        ensures { result ≡ self.now.inode }
+    {
+        self.inode
+    }
+
+    /// The name's bytes.
+    pub fn name(&self) -> &[u8]
+        ensures value { result.now ≡ self.now.name }
+        ensures is_name { IsName self.now.name }
+    {
+        &self.name[..self.length]
+    }
+
+    fn put(&self, to: &mut [u8])
+        requires { length to.old ≡ 128 }
+        ensures { to.new ≡ slot_bytes self.now }
+    {
+        let name = self.name();
+        put_u32(to, 0, self.inode());
+        put_bytes(to, 4, &[name.len() as u8]);
+        put_zeros(to, 5, 3);
+        put_bytes(to, 8, name);
+        put_zeros(to, 8 + name.len(), MAX_NAME - name.len());
+    }
+
+    #[tactic(auto, unfolding(crate::specs::Directories::slot_of))]
+    fn get(from: &[u8]) -> Result<Slot, LayoutFault>
+        requires { length from.now ≡ 128 }
+        ensures { result ≡ slot_of from.now }
+    {
+        let length = from[4] as usize;
+        if MAX_NAME < length {
+            return Err(LayoutFault::BadNumber);
+        }
+        let name = &from[8..8 + length];
+        if !is_name(name) {
+            return Err(LayoutFault::BadNumber);
+        }
+        if !are_zero(&from[5..8]) {
+            return Err(LayoutFault::NotZero);
+        }
+        if !are_zero(&from[8 + length..]) {
+            return Err(LayoutFault::NotZero);
+        }
+        Ok(Slot::new(u32_at(from, 0), name))
+    }
+
+    /// Writes the 128 bytes from `at` on.
+    pub fn write_to(&self, to: &mut [u8; 512], at: usize)
+        requires { at + 128 ≤ 512 }
+        ensures { to.new ≡ splice to.old at (slot_bytes self.now) }
+    {
+        self.put(&mut to[at..at + 128]);
+    }
+
+    /// Reads the 128 bytes from `at` on. Whether there is such an inode is not asked.
+    pub fn read_from(from: &[u8; 512], at: usize) -> Result<Slot, LayoutFault>
+        requires { at + 128 ≤ 512 }
+        // What is read is spelled so.
+        ensures found { IfOk result (λ v. (window from.now at 128 ≡ slot_bytes v) × FitsSlot v) }
+        // What is spelled so is read.
+        ensures only { (v : NamedInode) → FitsSlot v → window from.now at 128 ≡ slot_bytes v → result ≡ Ok v }
+        // Which fault it is.
+        ensures first_fault { result ≡ slot_of (window from.now at 128) }
+    {
+        Slot::get(&from[at..at + 128])
+    }
+}

@@ -1,0 +1,340 @@
+//! What the documents say of an image's bytes, and that each call succeeds.
+
+use crate::LayoutFault::{self, BadKind, BadMagic, BadNumber, BadVersion, NotZero};
+use crate::{AclSector, Commit, Inode, Kind, Slot, Super, is_name, place_of};
+use posix_acl::EntryNumbers;
+
+// A structure. The tests have each at an offset of its own in a sector.
+#[derive(Clone, Copy, Debug)]
+enum Part {
+    Super,
+    Commit,
+    Inode,
+    Slot,
+    AclSector,
+}
+
+impl Part {
+    // Where it begins, and how many bytes it has.
+    fn window(self) -> (usize, usize) {
+        match self {
+            Part::Super | Part::Commit | Part::AclSector => (0, 512),
+            Part::Inode => (128, 128),
+            Part::Slot => (256, 128),
+        }
+    }
+}
+
+const SUPERBLOCK: Super = Super {
+    sectors: 1024,
+    inodes: 64,
+};
+
+const FILE: Inode = Inode {
+    kind: Kind::File,
+    mode: 0o644,
+    uid: 1000,
+    gid: 0x01020304,
+    names: 2,
+    size: 513,
+    parent: 0,
+    acl: 200,
+    default_acl: 0,
+    direct: [146, 0, 0, 0, 0, 0, 0, 0, 0, 0, 0, 147],
+    indirect: 300,
+};
+
+const TARGETS: [u32; 2] = [128, 1000];
+
+const OWNER: EntryNumbers = EntryNumbers {
+    tag: 1,
+    perms: 7,
+    id: 0,
+};
+
+const USER: EntryNumbers = EntryNumbers {
+    tag: 2,
+    perms: 6,
+    id: 1000,
+};
+
+// The bytes of these, and of others, up to the last that is not zero.
+const SUPER_BYTES: &[u8] = &[0x49, 0x4e, 0x4f, 0x53, 1, 0, 0, 0, 0, 4, 0, 0, 0x40];
+
+const IDLE_BYTES: &[u8] = &[0x49, 0x4e, 0x4f, 0x4a];
+
+const COMMIT_BYTES: &[u8] = &[0x49, 0x4e, 0x4f, 0x4a, 2, 0, 0, 0, 0x80, 0, 0, 0, 0xe8, 3];
+
+const FILE_BYTES: &[u8] = &[
+    1, 0, 0xa4, 1, 0xe8, 3, 0, 0, 4, 3, 2, 1, 2, 0, 0, 0, 1, 2, 0, 0, 0, 0, 0, 0, 0, 0, 0, 0, 0xc8,
+    0, 0, 0, 0, 0, 0, 0, 0x92, 0, 0, 0, 0, 0, 0, 0, 0, 0, 0, 0, 0, 0, 0, 0, 0, 0, 0, 0, 0, 0, 0, 0,
+    0, 0, 0, 0, 0, 0, 0, 0, 0, 0, 0, 0, 0, 0, 0, 0, 0, 0, 0, 0, 0x93, 0, 0, 0, 0x2c, 1,
+];
+
+const LARGEST_FILE: &[u8] = &[
+    1, 0, 0xff, 1, 0, 0, 0, 0, 0, 0, 0, 0, 0, 0, 0, 0, 0, 0x18, 1,
+];
+
+const DIRECTORY: &[u8] = &[2, 0, 0xff, 7, 0, 0, 0, 0, 0, 0, 0, 0, 0, 0, 0, 0, 0x80];
+
+const LONGEST_LINK: &[u8] = &[3, 0, 0xff, 1, 0, 0, 0, 0, 0, 0, 0, 0, 0, 0, 0, 0, 0, 2];
+
+const SLOT_BYTES: &[u8] = &[4, 3, 2, 1, 5, 0, 0, 0, b'h', b'e', b'l', b'l', b'o'];
+
+const ACL_BYTES: &[u8] = &[
+    2, 0, 0, 0, 0, 0, 0, 0, 1, 0, 7, 0, 0, 0, 0, 0, 2, 0, 6, 0, 0xe8, 3,
+];
+
+// A sector of 0xff, but for the part's bytes.
+fn sector_of(part: Part, bytes: &[u8]) -> [u8; 512] {
+    let (at, length) = part.window();
+    let mut sector = [0xff; 512];
+    for k in 0..512 {
+        if at <= k && k - at < length {
+            sector[k] = bytes.get(k - at).copied().unwrap_or(0);
+        }
+    }
+    sector
+}
+
+fn written_super() -> [u8; 512] {
+    let mut sector = [0xff; 512];
+    SUPERBLOCK.write_to(&mut sector, 0);
+    sector
+}
+
+fn written_commit(commit: &Commit) -> [u8; 512] {
+    let mut sector = [0xff; 512];
+    commit.write_to(&mut sector, 0);
+    sector
+}
+
+#[tactic(auto, unfolding(crate::specs::Inode::inode_fits))]
+fn written_file() -> [u8; 512] {
+    let mut sector = [0xff; 512];
+    FILE.write_to(&mut sector, 128);
+    sector
+}
+
+fn written_slot(name: &[u8]) -> [u8; 512] {
+    let mut sector = [0xff; 512];
+    if is_name(name) {
+        Slot::new(0x01020304, name).write_to(&mut sector, 256);
+    }
+    sector
+}
+
+fn written_acl() -> [u8; 512] {
+    let mut sector = [0xff; 512];
+    AclSector::new([OWNER, USER].as_slice()).write_to(&mut sector, 0);
+    sector
+}
+
+// The part's bytes are read as what was written.
+fn is_read_again(part: Part) -> bool {
+    match part {
+        Part::Super => Super::read_from(&sector_of(part, SUPER_BYTES), 0) == Ok(SUPERBLOCK),
+        Part::Commit => match Commit::read_from(&sector_of(part, COMMIT_BYTES), 0) {
+            Ok(read) => read.targets() == TARGETS.as_slice(),
+            Err(_) => false,
+        },
+        Part::Inode => Inode::read_from(&sector_of(part, FILE_BYTES), 128) == Ok(FILE),
+        Part::Slot => match Slot::read_from(&sector_of(part, SLOT_BYTES), 256) {
+            Ok(read) => read.inode() == 0x01020304 && read.name() == b"hello".as_slice(),
+            Err(_) => false,
+        },
+        Part::AclSector => match AclSector::read_from(&sector_of(part, ACL_BYTES), 0) {
+            Ok(read) => read.entries() == [OWNER, USER].as_slice(),
+            Err(_) => false,
+        },
+    }
+}
+
+#[test]
+fn structures_are_as_the_format_says(rt: HostRuntime) {
+    for (part, sector, bytes) in [
+        (Part::Super, written_super(), SUPER_BYTES),
+        (Part::Commit, written_commit(&Commit::idle()), IDLE_BYTES),
+        (
+            Part::Commit,
+            written_commit(&Commit::new(TARGETS.as_slice())),
+            COMMIT_BYTES,
+        ),
+        (Part::Inode, written_file(), FILE_BYTES),
+        (Part::Slot, written_slot(b"hello".as_slice()), SLOT_BYTES),
+        (Part::AclSector, written_acl(), ACL_BYTES),
+    ] {
+        let seen = (sector, is_read_again(part));
+        assert!(rt;
+            seen == (sector_of(part, bytes), true),
+            "{part:?} {bytes:?}"
+        );
+    }
+}
+
+// What is read of a part's bytes where some of them are changed: the first that is, the one past the last, and their
+// new value.
+const READS: [(Part, &[u8], usize, usize, u8, Option<LayoutFault>); 61] = [
+    (Part::Super, SUPER_BYTES, 0, 0, 0, None),
+    (Part::Super, SUPER_BYTES, 0, 1, 0x48, Some(BadMagic)),
+    (Part::Super, SUPER_BYTES, 3, 4, 0, Some(BadMagic)),
+    (Part::Super, SUPER_BYTES, 4, 5, 2, Some(BadVersion)),
+    (Part::Super, SUPER_BYTES, 7, 8, 1, Some(BadVersion)),
+    (Part::Super, SUPER_BYTES, 16, 17, 1, Some(NotZero)),
+    (Part::Super, SUPER_BYTES, 511, 512, 1, Some(NotZero)),
+    (Part::Super, SUPER_BYTES, 0, 512, 1, Some(BadMagic)),
+    (Part::Commit, IDLE_BYTES, 0, 0, 0, None),
+    (Part::Commit, COMMIT_BYTES, 0, 0, 0, None),
+    (Part::Commit, COMMIT_BYTES, 0, 1, 0x48, Some(BadMagic)),
+    (Part::Commit, COMMIT_BYTES, 3, 4, 0x53, Some(BadMagic)),
+    (Part::Commit, COMMIT_BYTES, 4, 5, 127, Some(BadNumber)),
+    (Part::Commit, COMMIT_BYTES, 5, 6, 1, Some(BadNumber)),
+    (Part::Commit, COMMIT_BYTES, 4, 5, 1, Some(NotZero)),
+    (Part::Commit, COMMIT_BYTES, 16, 17, 1, Some(NotZero)),
+    (Part::Commit, COMMIT_BYTES, 511, 512, 1, Some(NotZero)),
+    (Part::Inode, FILE_BYTES, 0, 0, 0, None),
+    (Part::Inode, LARGEST_FILE, 0, 0, 0, None),
+    (Part::Inode, LARGEST_FILE, 0, 1, 4, Some(BadKind)),
+    (Part::Inode, LARGEST_FILE, 1, 2, 1, Some(BadKind)),
+    (Part::Inode, LARGEST_FILE, 3, 4, 2, Some(BadNumber)),
+    (Part::Inode, LARGEST_FILE, 16, 17, 1, Some(BadNumber)),
+    (Part::Inode, LARGEST_FILE, 23, 24, 1, Some(BadNumber)),
+    (Part::Inode, LARGEST_FILE, 88, 89, 1, Some(NotZero)),
+    (Part::Inode, LARGEST_FILE, 92, 93, 1, Some(NotZero)),
+    (Part::Inode, LARGEST_FILE, 127, 128, 1, Some(NotZero)),
+    (Part::Inode, LARGEST_FILE, 0, 128, 5, Some(BadKind)),
+    (Part::Inode, DIRECTORY, 0, 0, 0, None),
+    (Part::Inode, DIRECTORY, 3, 4, 0x0f, Some(BadNumber)),
+    (Part::Inode, DIRECTORY, 16, 17, 0x81, Some(BadNumber)),
+    (Part::Inode, DIRECTORY, 18, 19, 2, Some(BadNumber)),
+    (Part::Inode, LONGEST_LINK, 0, 0, 0, None),
+    (Part::Inode, LONGEST_LINK, 2, 3, 0xfe, Some(BadNumber)),
+    (Part::Inode, LONGEST_LINK, 16, 17, 1, Some(BadNumber)),
+    (Part::Inode, LONGEST_LINK, 17, 18, 0, Some(BadNumber)),
+    (Part::Inode, &[], 0, 0, 0, None),
+    (Part::Inode, &[], 2, 3, 1, Some(NotZero)),
+    (Part::Inode, &[], 16, 17, 1, Some(NotZero)),
+    (Part::Inode, &[], 127, 128, 1, Some(NotZero)),
+    (Part::Slot, SLOT_BYTES, 0, 0, 0, None),
+    (Part::Slot, SLOT_BYTES, 4, 5, 0, Some(BadNumber)),
+    (Part::Slot, SLOT_BYTES, 4, 5, 121, Some(BadNumber)),
+    (Part::Slot, SLOT_BYTES, 4, 5, 6, Some(BadNumber)),
+    (Part::Slot, SLOT_BYTES, 8, 9, 0x2f, Some(BadNumber)),
+    (Part::Slot, SLOT_BYTES, 10, 11, 0, Some(BadNumber)),
+    (Part::Slot, SLOT_BYTES, 5, 6, 1, Some(NotZero)),
+    (Part::Slot, SLOT_BYTES, 7, 8, 1, Some(NotZero)),
+    (Part::Slot, SLOT_BYTES, 4, 5, 4, Some(NotZero)),
+    (Part::Slot, SLOT_BYTES, 13, 14, 1, Some(NotZero)),
+    (Part::Slot, SLOT_BYTES, 127, 128, 1, Some(NotZero)),
+    (Part::Slot, SLOT_BYTES, 0, 128, 0xff, Some(BadNumber)),
+    (Part::AclSector, ACL_BYTES, 0, 0, 0, None),
+    (Part::AclSector, ACL_BYTES, 0, 1, 33, Some(BadNumber)),
+    (Part::AclSector, ACL_BYTES, 1, 2, 1, Some(BadNumber)),
+    (Part::AclSector, ACL_BYTES, 0, 1, 1, Some(NotZero)),
+    (Part::AclSector, ACL_BYTES, 2, 3, 1, Some(NotZero)),
+    (Part::AclSector, ACL_BYTES, 7, 8, 1, Some(NotZero)),
+    (Part::AclSector, ACL_BYTES, 24, 25, 1, Some(NotZero)),
+    (Part::AclSector, ACL_BYTES, 511, 512, 1, Some(NotZero)),
+    (Part::AclSector, ACL_BYTES, 0, 512, 0xff, Some(BadNumber)),
+];
+
+// The sector with this byte in some bytes of the part.
+fn with_bytes(sector: &[u8; 512], part: Part, first: usize, end: usize, byte: u8) -> [u8; 512] {
+    let (at, _) = part.window();
+    let mut changed = *sector;
+    for k in 0..512 {
+        if at <= k && first <= k - at && k - at < end {
+            changed[k] = byte;
+        }
+    }
+    changed
+}
+
+fn fault_of(part: Part, sector: &[u8; 512]) -> Option<LayoutFault> {
+    match part {
+        Part::Super => Super::read_from(sector, 0).err(),
+        Part::Commit => Commit::read_from(sector, 0).err(),
+        Part::Inode => Inode::read_from(sector, 128).err(),
+        Part::Slot => Slot::read_from(sector, 256).err(),
+        Part::AclSector => AclSector::read_from(sector, 0).err(),
+    }
+}
+
+#[test]
+fn wrong_bytes_are_refused(rt: HostRuntime) {
+    for (part, bytes, first, end, byte, fault) in READS {
+        let sector = with_bytes(&sector_of(part, bytes), part, first, end, byte);
+        let found = fault_of(part, &sector);
+        assert!(rt;
+            found == fault,
+            "{part:?} {bytes:?}, {byte} from {first} to {end}"
+        );
+    }
+}
+
+// The table and the first data sector on a disk of so many sectors and inodes.
+const PLACES: [(u32, u32, Option<(u32, u32)>); 9] = [
+    (1024, 64, Some((130, 146))),
+    (4096, 16, Some((130, 134))),
+    (4097, 17, Some((131, 136))),
+    (65536, 4096, Some((145, 1169))),
+    (1023, 64, None),
+    (65537, 64, None),
+    (1024, 15, None),
+    (1024, 4097, None),
+    (1024, 4096, None),
+];
+
+#[test]
+fn places_are_as_the_format_says(rt: HostRuntime) {
+    for (sectors, inodes, starts) in PLACES {
+        let found = place_of(sectors, inodes).map(|place| (place.table, place.first_data));
+        assert!(rt; found == starts, "{sectors} sectors and {inodes} inodes");
+    }
+}
+
+// Whether a commit with these targets is valid for a disk of so many sectors.
+const COMMITS: [(&[u32], u32, bool); 7] = [
+    (&[], 1024, true),
+    (&[128], 129, true),
+    (&[128], 128, false),
+    (&[127], 1024, false),
+    (&[1023, 128], 1024, true),
+    (&[128, 1024], 1024, false),
+    (&[128, 200, 128], 1024, false),
+];
+
+fn is_valid(targets: &[u32], sectors: u32) -> Option<bool> {
+    if 126 < targets.len() {
+        return None;
+    }
+    Some(Commit::new(targets).is_valid_for(sectors))
+}
+
+#[test]
+fn commits_are_valid_for_a_disk(rt: HostRuntime) {
+    for (targets, sectors, valid) in COMMITS {
+        let found = is_valid(targets, sectors);
+        assert!(rt; found == Some(valid), "{targets:?} on {sectors} sectors");
+    }
+}
+
+const NAMES: [(&[u8], bool); 10] = [
+    (b"a", true),
+    (b".a", true),
+    (b"...", true),
+    (&[0xff; 120], true),
+    (b"", false),
+    (b".", false),
+    (b"..", false),
+    (b"a/b", false),
+    (b"a\0", false),
+    (&[b'a'; 121], false),
+];
+
+#[test]
+fn names_are_as_the_format_says(rt: HostRuntime) {
+    for (name, is) in NAMES {
+        assert!(rt; is_name(name) == is, "{name:?}");
+    }
+}

@@ -1,0 +1,3 @@
+pub mod Numbered
+pub mod OpenSlots
+pub mod Slots

@@ -1,0 +1,17 @@
+//! The processes with their open files: POSIX.1-2017, Base Definitions (Process, File Descriptor, Open File Description).
+//!
+//! A [`Procs`] is a finite map from process numbers to processes, and each process has a finite map from descriptors to
+//! open files. Memory is taken by [`Procs::spawn`] alone: a process has room for all its descriptors from its start.
+#![tactic(auto)]
+
+mod descriptor;
+mod descriptors;
+mod process;
+mod procs;
+#[cfg(test)]
+mod tests;
+
+pub use descriptor::Descriptor;
+pub use descriptors::MAX_DESCRIPTORS;
+pub use process::Process;
+pub use procs::{MAX_PROCESSES, Procs};

@@ -1,0 +1,241 @@
+//! The table of processes.
+ghost use Rattle.std.specs.Prelude.{◌≡◌, ◌≤◌, ◌==◌, ◌%◌, ◌↔◌, ◌⊎◌, [], length, option_copied, Some, None, Ok, Err, IsSome, IsOk, IfOk, IfErr, OnErr};
+ghost use Rattle.std.specs.List.{list_any};
+ghost use Rattle.std.specs.Ordering.{nat_cmp};
+ghost use Rattle.fs_cred.specs.declared.errno.Errno.TheVariants.{ESRCH, EAGAIN, ENOMEM};
+ghost use Rattle.fs_layout.specs.Maps.{get, with_entry, without};
+ghost use Rattle.fs_model.specs.Limits.{processes_limit};
+ghost use Rattle.fs_model.specs.Processes.{new_process, with_descriptor, with_offset, is_open, is_in_use};
+ghost use Rattle.open_files.specs.Tables.{answer_of, open_in, slot_in, IsUnused, with_changed, without_descriptor, IsTable};
+
+use crate::descriptor::Descriptor;
+use crate::process::Process;
+use fs_cred::{Cred, Errno};
+use fs_layout::ROOT;
+use slab::Slab;
+use std::alloc::Global;
+use std::marker::Model;
+
+/// The most processes.
+pub const MAX_PROCESSES: usize = 64;
+
+/// The processes by their numbers.
+#[derive(Drop)]
+pub struct Procs {
+    // The process of number n has the key n - 1.
+    slab: Slab<Process>,
+}
+
+impl Model for Procs {
+    ghost use Rattle.slab.specs.Slab.{entries_from};
+    ghost use Rattle.fs_model.specs.Processes.{Desks};
+    ghost use Rattle.open_files.specs.Tables.{IsTable};
+
+    ghost Value = { Desks };
+
+    ghost view = { λ procs. entries_from 1 procs.slab.slots };
+
+    ghost invariant = { λ procs. IsTable (entries_from 1 procs.slab.slots) };
+}
+
+impl Procs {
+    /// No process.
+    pub fn new(alloc: Global) -> Procs
+        ensures { result ≡ [] }
+    {
+        Procs {
+            slab: Slab::new(alloc),
+        }
+    }
+
+    /// Adds a process, and answers its number. `EAGAIN`: there are 64. `ENOMEM`: there is no memory.
+    ///
+    /// A process stands at the root, with umask 022 and nothing open. No later call on it takes memory.
+    pub fn spawn(&mut self, cred: Cred) -> Result<usize, Errno>
+        ensures unused { IfOk result (λ pid. get nat_cmp self.old pid ≡ None) }
+        ensures added { IfOk result (λ pid. self.new ≡ with_entry nat_cmp self.old pid (new_process cred)) }
+        ensures full { (result ≡ Err EAGAIN) ↔ (processes_limit ≤ length self.old) }
+        ensures refused { IfErr result (λ errno. (errno ≡ EAGAIN) ⊎ (errno ≡ ENOMEM)) }
+        ensures same { OnErr result (self.new ≡ self.old) }
+    {
+        if self.slab.len() >= MAX_PROCESSES {
+            return Err(Errno::EAGAIN);
+        }
+        if self.slab.vacant_key() == usize::MAX {
+            return Err(Errno::ENOMEM);
+        }
+        let Ok(key) = self.slab.insert(Process::new(cred)) else {
+            return Err(Errno::ENOMEM);
+        };
+        Ok(key + 1)
+    }
+
+    /// Takes a process away, with all that it has open. `ESRCH`: there is none.
+    pub fn exit(&mut self, pid: usize) -> Result<(), Errno>
+        ensures answer { result ≡ answer_of self.old pid (λ p. Ok tt) }
+        ensures gone { self.new ≡ without nat_cmp self.old pid }
+    {
+        let slab = &mut self.slab;
+        if pid == 0 {
+            return Err(Errno::ESRCH);
+        }
+        let Some(_process) = slab.try_remove(pid - 1) else {
+            return Err(Errno::ESRCH);
+        };
+        Ok(())
+    }
+
+    // The process of this number.
+    fn find(&self, pid: usize) -> Option<&Process>
+        ensures found { option_copied result ≡ get nat_cmp self.now pid }
+        ensures table { IsTable self.now }
+    {
+        let slab = &self.slab;
+        if pid == 0 { None } else { slab.get(pid - 1) }
+    }
+
+    /// The process of this number. `ESRCH`: there is none.
+    pub fn process(&self, pid: usize) -> Result<&Process, Errno>
+        ensures found { IfOk result (λ p. get nat_cmp self.now pid ≡ Some p.now) }
+        ensures absent { IfErr result (λ errno. (errno ≡ ESRCH) × (get nat_cmp self.now pid ≡ None)) }
+        ensures table { IsTable self.now }
+    {
+        self.find(pid).ok_or(Errno::ESRCH)
+    }
+
+    /// Sets the umask of a process to the bits 0777 of `mask`, and answers the old one. `ESRCH`: there is no such process.
+    pub fn umask(&mut self, pid: usize, mask: u16) -> Result<u16, Errno>
+        ensures answer { result ≡ answer_of self.old pid (λ p. Ok p.umask) }
+        ensures set { self.new ≡ with_changed self.old pid (λ p. record p { umask = mask % 512 }) }
+    {
+        let slab = &mut self.slab;
+        if pid == 0 {
+            return Err(Errno::ESRCH);
+        }
+        let Some(process) = slab.get_mut(pid - 1) else {
+            return Err(Errno::ESRCH);
+        };
+        Ok(process.set_umask(mask))
+    }
+
+    /// Sets the current directory of a process that is there.
+    pub fn set_cwd(&mut self, pid: usize, ino: u32)
+        requires found { IsSome (get nat_cmp self.old pid) }
+        ensures set { self.new ≡ with_changed self.old pid (λ p. record p { cwd = ino }) }
+    {
+        let Some(process) = self.slab.get_mut(pid - 1) else {
+            return;
+        };
+        process.set_cwd(ino);
+    }
+
+    /// The lowest unused descriptor of a process, which its next open gets. `ESRCH`: there is no such process. `EMFILE`: all
+    /// 32 are used.
+    pub fn open_slot(&self, pid: usize) -> Result<usize, Errno>
+        ensures answer { result ≡ slot_in self.now pid }
+        ensures unused { IfOk result (λ fd. IsUnused self.now pid fd) }
+    {
+        let process = self.process(pid)?;
+        process.lowest_unused().ok_or(Errno::EMFILE)
+    }
+
+    /// Puts an open file at an unused descriptor.
+    pub fn open(&mut self, pid: usize, fd: usize, descriptor: Descriptor)
+        requires unused { IsUnused self.old pid fd }
+        ensures opened { self.new ≡ with_changed self.old pid (λ p. with_descriptor p fd descriptor) }
+    {
+        let Some(process) = self.slab.get_mut(pid - 1) else {
+            return;
+        };
+        process.open(fd, descriptor);
+    }
+
+    /// What a process has open at a descriptor. `ESRCH`: there is no such process. `EBADF`: nothing.
+    pub fn get(&self, pid: usize, fd: usize) -> Result<Descriptor, Errno>
+        ensures answer { result ≡ open_in self.now pid fd }
+        ensures table { IsTable self.now }
+    {
+        let process = self.process(pid)?;
+        process.descriptor(fd).ok_or(Errno::EBADF)
+    }
+
+    /// Sets the offset of a descriptor that is open.
+    pub fn seek(&mut self, pid: usize, fd: usize, offset: u64)
+        requires open { IsOk (open_in self.old pid fd) }
+        ensures moved { self.new ≡ with_changed self.old pid (λ p. with_offset p fd offset) }
+    {
+        let Some(process) = self.slab.get_mut(pid - 1) else {
+            return;
+        };
+        process.seek(fd, offset);
+    }
+
+    /// Closes a descriptor that is open.
+    pub fn close(&mut self, pid: usize, fd: usize)
+        requires open { IsOk (open_in self.old pid fd) }
+        ensures closed { self.new ≡ with_changed self.old pid (λ p. without_descriptor p fd) }
+    {
+        let Some(process) = self.slab.get_mut(pid - 1) else {
+            return;
+        };
+        process.close(fd);
+    }
+
+    /// Whether an inode is open.
+    pub fn is_open(&self, ino: u32) -> bool
+        ensures { result ≡ is_open self.now ino }
+    {
+        for (_, process) in self.slab.iter() {
+            if process.has_open(ino) {
+                return true;
+            }
+        }
+        false
+    }
+
+    /// Whether a process other than this one, which is there, has an inode open: whether it stays open after [`Procs::exit`].
+    pub fn is_open_by_others(&self, pid: usize, ino: u32) -> bool
+        requires found { IsSome (get nat_cmp self.now pid) }
+        ensures { result ≡ is_open (without nat_cmp self.now pid) ino }
+    {
+        let slab = &self.slab;
+        let own = pid - 1;
+        for (key, process) in slab.iter() {
+            if key != own && process.has_open(ino) {
+                return true;
+            }
+        }
+        false
+    }
+
+    /// Whether an inode is open at a descriptor other than this one, which is open: whether it stays open after
+    /// [`Procs::close`].
+    pub fn is_open_besides(&self, pid: usize, fd: usize, ino: u32) -> bool
+        requires open { IsOk (open_in self.now pid fd) }
+        ensures { result ≡ is_open (with_changed self.now pid (λ p. without_descriptor p fd)) ino }
+    {
+        let Some(process) = self.find(pid) else {
+            return false;
+        };
+        process.has_open_besides(fd, ino) || self.is_open_by_others(pid, ino)
+    }
+
+    // Whether an inode is the current directory of a process.
+    fn is_current(&self, ino: u32) -> bool
+        ensures { result ≡ list_any (λ p. p.1.cwd == ino) self.now }
+    {
+        for (_, process) in self.slab.iter() {
+            if process.cwd() == ino {
+                return true;
+            }
+        }
+        false
+    }
+
+    /// Whether a directory is in use: it is the root, a current directory or open.
+    pub fn in_use(&self, ino: u32) -> bool
+        ensures { result ≡ is_in_use self.now ino }
+    {
+        ino == ROOT || self.is_current(ino) || self.is_open(ino)
+    }
+}

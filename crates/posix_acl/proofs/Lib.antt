@@ -1,0 +1,15 @@
+pub mod Canonical
+pub mod Classes
+pub mod Ordering
+pub mod Repeats
+pub mod Sections
+pub mod Shuffled
+pub mod Ids
+pub mod Cuts
+pub mod Pieces
+pub mod OneReading
+pub mod Parsed
+pub mod OneList
+pub mod NoFault
+pub mod ReadBack
+pub mod Laws
