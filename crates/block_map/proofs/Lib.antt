@@ -3,6 +3,7 @@ pub mod Alterings
 pub mod Clearings
 pub mod Counts
 pub mod Dropping
+pub mod Freeings
 pub mod Givings
 pub mod Joins
 pub mod Linking

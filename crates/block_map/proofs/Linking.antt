@@ -1,5 +1,5 @@
--- A link is made with its target, and freed with it.
-use Rattle.std.proofs.Common.{◌≡◌, ℕ, ◌+◌, ◌/◌, ◌%◌, ◌^◌, ◌<◌, ◌≤◌, false, List, [], ◌++◌, length, replicate, refl, sym, ap, subst, ◌∙◌, arith, IsTrue}
+-- A link is made with its target.
+use Rattle.std.proofs.Common.{◌≡◌, ℕ, ◌+◌, ◌/◌, ◌%◌, ◌^◌, ◌<◌, ◌≤◌, List, [], ◌++◌, length, replicate, refl, sym, ap, subst, ◌∙◌, arith, IsTrue}
 use Rattle.std.proofs.lemmas.Bool.Decides.{nat_tests}
 use Rattle.std.proofs.lemmas.List.{drop_all, append-nil}
 use Rattle.fs_layout.specs.declared.inode.Inode.{Inode}
@@ -9,10 +9,10 @@ use Rattle.fs_layout.specs.Bytes.{SectorMap, splice, zeros}
 use Rattle.fs_layout.specs.Inode.{FitsInode, inode_fits, free_inode}
 use Rattle.fs_layout.specs.Images.{pointer, Holds, HasNoHole, bit, free_sectors, inode_at, inode_bitmap}
 use Rattle.fs_layout.specs.Ownership.{IsConsistent}
-use Rattle.fs_layout.specs.Changes.{with_direct, Allocates, IsOwnedApart, ReplacesBlock, MarksInode, ChangesBlocks, ChangesInode, Saves}
+use Rattle.fs_layout.specs.Changes.{with_direct, Allocates, IsOwnedApart, ReplacesBlock, ChangesBlocks, ChangesInode, Saves}
 use Rattle.fs_layout.proofs.Composes.{apart_after, both_changes, both_inodes}
 use Rattle.fs_layout.proofs.Consistent.{owned_is_apart, stays_consistent, saved_stays_consistent}
-use Rattle.fs_layout.proofs.Free.{HasNoSector, free_fits, free_has_no_sector, holds_nothing, inode_fits_there, no_sector_changes, with_direct_fits}
+use Rattle.fs_layout.proofs.Free.{HasNoSector, free_has_no_sector, holds_nothing, no_sector_changes, with_direct_fits}
 use Rattle.fs_layout.proofs.Held.{splice_replaces}
 use Rattle.fs_layout.proofs.Marks.{marks_change}
 use Rattle.fs_layout.proofs.Parts.{Holds-kept, HasNoHole-kept}
@@ -22,21 +22,18 @@ use Rattle.fs_layout.proofs.Sizes.{extends}
 use Rattle.fs_layout.proofs.SplicedBytes.{IsSector-zeros, get_or-zeros}
 use Rattle.fs_layout.proofs.Steps.{allocated_some, direct_block_gained, direct_block_filled}
 use Rattle.fs_layout.proofs.Writes.{length-zeros}
-use Rattle.sector_txn.specs.Sectors.{TxnState, IsUnchanged, PutsOnly}
+use Rattle.sector_txn.specs.Sectors.{TxnState, PutsOnly}
 use Rattle.sector_txn.proofs.Changes.{changes_joined}
 use Rattle.bit_alloc.specs.declared.bitmap.Bitmap.TheVariants.{Inodes}
-use Rattle.bit_alloc.specs.Bitmaps.{HasBitmaps, IsNumber, TakesNumber, GivesNumber}
+use Rattle.bit_alloc.specs.Bitmaps.{TakesNumber}
 use Rattle.bit_alloc.specs.Room.{bitmaps}
 use Rattle.bit_alloc.specs.Inodes.{IsSound, IsSectorFor, Touches}
 use Rattle.bit_alloc.proofs.Soundness.{free_kept, super_kept}
-use Rattle.bit_alloc.proofs.Transactions.{map_unchanged}
 use Rattle.inode_table.specs.Inodes.{ClearAreFree}
-use Rattle.inode_table.proofs.Sound.{puts_nothing, puts_inode_bit, puts_inode}
+use Rattle.inode_table.proofs.Sound.{puts_inode_bit, puts_inode}
 use Rattle.block_map.specs.Contents.{AllowsSize}
-use Rattle.block_map.specs.Drops.{GivesAll, emptied}
 use Rattle.block_map.specs.Links.{IsNewLink, HasNoAcls}
-use Rattle.block_map.specs.Steps.{MayChange, IsStepSector}
-use Rattle.block_map.proofs.Givings.{emptied_blocks}
+use Rattle.block_map.specs.Steps.{IsStepSector}
 use Rattle.block_map.proofs.Saving.{puts_steps}
 
 -- ---- a link that lacks its sector
@@ -180,74 +177,4 @@ module _ {p : Place} {n : ℕ} {t0 t1 : TxnState} (sound : IsSound p t0) (taken 
             acls = subst HasNoAcls (sym saved.1.is) (record { acl = refl; default = refl });
             holds = subst (λ (u : Inode). Holds t3.sectors u target) (sym saved.1.is) (Holds-kept saved.1.keeps holds_target);
             whole = subst (HasNoHole t3.sectors) (sym saved.1.is) (HasNoHole-kept saved.1.keeps has_sector);
-          }
-
--- ---- a link is freed: its inode's bit is cleared, its blocks are given back, and zeros are written
--- what is so then
-pub record IsFreed (p : Place) (n : ℕ) (old new : TxnState) : Type 0 where
-  pub touches : Touches p n 0 1 old new
-  pub free : inode_at p new.sectors n ≡ free_inode
-  pub unused : bit new.sectors inode_bitmap n ≡ false
-
--- without its blocks it has no sector
-emptied_has_no_sector : (v : Inode) → HasNoAcls v → HasNoSector (emptied v)
-unfolding zeros
-emptied_has_no_sector v acls = record { acl = acls.acl; default_acl = acls.default; direct = get_or-zeros 12; indirect = refl }
-
-module _ {p : Place} {n : ℕ} {v : Inode} {t0 t1 t2 : TxnState} (sound : IsSound p t0) (number : IsNumber p Inodes n)
-    (is : v ≡ inode_at p t0.sectors n) (read : IsUnchanged t0 t1) (given : GivesNumber p Inodes n t1.sectors t2.sectors)
-    (bit_put : PutsOnly (λ t. t ≡ inode_bitmap + n / 4096) (bitmaps p) 0 t1 t2) where
-  pub cleared_puts : PutsOnly (IsSectorFor p n) (bitmaps p) 0 t0 t2
-  cleared_puts = changes_joined (puts_nothing p read) (puts_inode_bit n n sound.consistent.place number.1 bit_put)
-
-  mark : MarksInode n t0.sectors t2.sectors
-  mark = subst (λ m. MarksInode n m t2.sectors) (sym (map_unchanged read)) given.mark
-
-  cleared : ChangesInode p n t0.sectors t2.sectors × (inode_at p t2.sectors n ≡ inode_at p t0.sectors n)
-  cleared = marks_change sound.consistent number.1 mark
-
-  then : IsConsistent p t2.sectors
-  then = stays_consistent sound.consistent number.1 cleared.0
-
-  -- between, the link may be changed
-  pub link_may_change : (inode_at p t0.sectors n).kind ≡ kinds.Link → HasBitmaps p t2 → MayChange p t2 v
-  link_may_change kind tables = record {
-    bitmaps = tables;
-    apart = subst (λ (u : Inode). IsOwnedApart p t2.sectors u) (cleared.1 ∙ sym is) (owned_is_apart then n number.1);
-    fits = subst FitsInode (cleared.1 ∙ sym is) (inode_fits_there then n number.1);
-    used = λ e. let both = sym kind ∙ ap (λ (u : Inode). u.kind) (sym is) ∙ e in cc;
-  }
-
-  module _ {t3 : TxnState} (all : GivesAll p v t2 t3) where
-    pub given_puts : PutsOnly (IsSectorFor p n) (bitmaps p) 0 t0 t3
-    given_puts = changes_joined cleared_puts (puts_steps p n all.puts)
-
-    module _ (t4 : TxnState) (may : MayChange p t2 v) (acls : HasNoAcls (inode_at p t0.sectors n)) (saves : Saves p n free_inode t3.sectors t4.sectors) where
-      frees : ChangesBlocks p v free_inode t2.sectors t3.sectors
-      frees =
-          let place = then.place in
-          let blocks : ChangesBlocks p v (emptied v) t2.sectors t3.sectors = emptied_blocks place may.apart all in
-          let none : HasNoSector (emptied v) = emptied_has_no_sector v (subst HasNoAcls (sym is) acls) in
-          both_changes place blocks (no_sector_changes place all.tables.tables (apart_after place may.apart blocks.owned) none free_has_no_sector)
-
-      ended : IsConsistent p t4.sectors × IsSaved p n free_inode t2.sectors t3.sectors t4.sectors
-      ended = saved_stays_consistent then number.1 (cleared.1 ∙ sym is) free_fits frees saves
-
-      pub link_freed : PutsOnly (λ t. t ≡ p.table + n / 4) [] 1 t3 t4 → IsFreed p n t0 t4
-      link_freed inode_put =
-          let puts : PutsOnly (IsSectorFor p n) (bitmaps p) 1 t0 t4 = changes_joined given_puts (puts_inode p n inode_put) in
-          let same = free_kept p n t0.sectors t2.sectors mark in
-          let f = all.free in
-          let e = ended.1.free in
-          let most = then.place.most_inodes in
-          let lt = number.1 in
-          record {
-            touches = record {
-              puts = puts;
-              super = super_kept p n 1 t0 t4 then.place puts;
-              inode = both_inodes then.place cleared.0 ended.1.changes;
-              free = omega (arith, same, f, e);
-            };
-            free = ended.1.is;
-            unused = ended.1.inode_bits n (omega (arith, most, lt)) ∙ given.clear;
           }

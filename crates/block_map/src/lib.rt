@@ -2,8 +2,8 @@
 //!
 //! An inode has 12 direct blocks of 512 bytes, and then a sector of pointers to 128 more. [`read_at`], [`write_at`],
 //! [`overwrite`] and [`set_size`] serve files, directories and links alike, [`release_all`] files and directories. A link is
-//! never empty: [`new_link`] makes it with its target, and [`free_link`] frees both. [`Blocks`] reads one block after
-//! another, as a search does. No call takes memory.
+//! never empty: [`new_link`] makes it with its target. [`free_all`] frees each of them with all that it owns. [`Blocks`] reads one
+//! block after another, as a search does. No call takes memory.
 //!
 //! What each call reads and puts, where it reaches `k` blocks, `h` of which are holes:
 //!
@@ -17,11 +17,12 @@
 //! | [`set_size`] | the inode's sector; and where it cuts, the sector of pointers if there is one, the block that the cut goes through but a hole, and the bitmap's for each sector given back | the inode's sector; and where it cuts, the block that it goes through but a hole, the sector of pointers if one stays, and the bitmap's for each sector given back |
 //! | [`release_all`] | the sector of pointers if there is one, the inode's sector, and the bitmap's for each sector given back | the inode's sector, and the bitmap's for each sector given back |
 //! | [`new_link`] | the inode bitmap, the inode's sector, and what a sector taken reads in the bitmap | the inode bitmap, the inode's sector, the target's, and the bitmap's |
-//! | [`free_link`] | the inode's sector twice, the inode bitmap, and the bitmap's | the inode bitmap, the inode's sector, and the bitmap's |
+//! | [`free_all`] | the inode's sector twice, the inode bitmap, the sector of pointers if there is one, and the bitmap's for each sector given back | the inode bitmap, the inode's sector, and the bitmap's for each sector given back |
 #![tactic(auto)]
 
 mod blocks;
 mod fault;
+mod free;
 mod link;
 mod read;
 mod release;
@@ -33,7 +34,8 @@ mod write;
 
 pub use blocks::Blocks;
 pub use fault::MapFault;
-pub use link::{free_link, new_link};
+pub use free::free_all;
+pub use link::new_link;
 pub use read::read_at;
 pub use release::release_all;
 pub use size::set_size;

@@ -1,12 +1,10 @@
-//! Links: each is made with its target, and freed with it.
+//! Links: each is made with its target.
 
-ghost use Rattle.std.specs.Prelude.{◌≡◌, ◌≤◌, ◌⊎◌, length, false, IfOk, IfErr, OnOk, IsTrue};
-ghost use Rattle.sector_disk.specs.Disk.{HasCause};
-ghost use Rattle.fs_layout.specs.Inode.{free_inode};
+ghost use Rattle.std.specs.Prelude.{◌≡◌, ◌≤◌, ◌⊎◌, length, IfOk, IfErr, OnOk, IsTrue};
 ghost use Rattle.fs_layout.specs.Images.{HasNoHole, Holds, bit, free_sectors, inode_at, inode_bitmap};
 ghost use Rattle.sector_txn.specs.Sectors.{SameStore};
 ghost use Rattle.bit_alloc.specs.declared.bitmap.Bitmap.TheVariants.{Inodes};
-ghost use Rattle.bit_alloc.specs.Bitmaps.{IsNumber, IsFreeNumber, free_numbers};
+ghost use Rattle.bit_alloc.specs.Bitmaps.{IsFreeNumber, free_numbers};
 ghost use Rattle.bit_alloc.specs.Faults.{HasCauseOf};
 ghost use Rattle.bit_alloc.specs.Inodes.{IsSound, Touches};
 ghost use Rattle.bit_alloc.specs.Room.{HasSpare};
@@ -15,12 +13,10 @@ ghost use Rattle.block_map.specs.Contents.{AllowsSize};
 ghost use Rattle.block_map.specs.Links.{IsNewLink, HasNoAcls};
 
 use crate::blocks::BLOCK;
-use crate::release::give_all;
 use crate::steps::take_sector;
-use bit_alloc::{Bitmap, TakeFault, give, take};
+use bit_alloc::{Bitmap, TakeFault, take};
 use fs_layout::{Inode, Kind, Place};
-use inode_table::{load, write_inode};
-use sector_disk::DiskFault;
+use inode_table::write_inode;
 use sector_txn::Sectors;
 
 /// Makes a link with this target, of 1 to 512 bytes, which take one sector: a free inode gets the fields. It is the lowest
@@ -64,26 +60,4 @@ pub fn new_link<S: Sectors>(
     link.direct[0] = take_sector(s, place, &content)?;
     write_inode(s, place, n, &link)?;
     Ok(n)
-}
-
-/// Frees inode n, a link, with the sector of its target: its 128 bytes become zero, and its bit is cleared. Links have no
-/// ACLs.
-pub fn free_link<S: Sectors>(s: &mut S, place: Place, n: u32) -> Result<(), DiskFault>
-    requires sound { IsSound place (S.state s.old) }
-    requires number { IsNumber place Inodes n }
-    requires kind { (inode_at place (S.state s.old).sectors n).kind ≡ Kind.Link }
-    requires acls { HasNoAcls (inode_at place (S.state s.old).sectors n) }
-    requires spare { HasSpare place 1 (S.state s.old) }
-    ensures store { SameStore (S.state s.old) (S.state s.new) }
-    ensures sound { OnOk result (IsSound place (S.state s.new)) }
-    ensures touches { OnOk result (Touches place n 0 1 (S.state s.old) (S.state s.new)) }
-    ensures free { OnOk result (inode_at place (S.state s.new).sectors n ≡ free_inode) }
-    ensures unused { OnOk result (bit (S.state s.new).sectors inode_bitmap n ≡ false) }
-    ensures cause { HasCause (S.state s.old).disk (S.state s.new).disk result }
-{
-    let link = load(s, place, n)?;
-    give(s, place, Bitmap::Inodes, n)?;
-    give_all(s, place, &link)?;
-    write_inode(s, place, n, &Inode::FREE)?;
-    Ok(())
 }

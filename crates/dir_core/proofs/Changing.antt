@@ -9,9 +9,10 @@ use Rattle.fs_layout.specs.declared.place.Place.{Place}
 use Rattle.fs_layout.specs.declared.slot.TheConstants.{MAX_NAMES}
 use Rattle.fs_layout.specs.Bytes.{SectorMap, IsBytes, splice, window, resized, overwritten}
 use Rattle.fs_layout.specs.Images.{pointer, inode_at, Holds, HasNoHole}
-use Rattle.fs_layout.specs.Maps.{name_cmp, get, with_entry, without}
+use Rattle.fs_layout.specs.Maps.{name_cmp, get, with_entry, without, IsMap}
 use Rattle.fs_layout.specs.Directories.{NamedInode, IsName, FitsSlot, slot_bytes, slots_bytes, names_of_slots, HaveDistinctNames, HasNames}
 use Rattle.fs_layout.proofs.ImageSlots.{length-slots}
+use Rattle.fs_layout.proofs.ReadNames.{are_names_of}
 use Rattle.fs_layout.proofs.SlotNames.{length-names}
 use Rattle.sector_txn.specs.Sectors.{TxnState, IsUnchanged}
 use Rattle.sector_txn.proofs.Changes.{changes_nothing, changes_weaker}
@@ -36,7 +37,7 @@ use Rattle.dir_core.specs.declared.fault.DirFault.TheVariants as faults
 use Rattle.dir_core.specs.Faults.{as_dir_fault}
 use Rattle.std.specs.List.{swap_remove}
 use Rattle.dir_core.proofs.Found.{found_is_entry}
-use Rattle.dir_core.proofs.NamesAfter.{apart_added, names_added, fits_added, fits_set, apart_moved, fits_moved, names_moved, apart_set, names_set}
+use Rattle.dir_core.proofs.NamesAfter.{apart_added, names_added, fits_added, fits_set, apart_moved, fits_moved, names_moved, no_such_name, IsNameOfOne, its_own_name, apart_set, names_set, without_and_with}
 use Rattle.dir_core.proofs.SlotBytes.{bytes_added, bytes_replaced, bytes_of_slot, bytes_cut}
 use Rattle.dir_core.proofs.Taking.{size_of_slots}
 
@@ -140,6 +141,16 @@ pub said_by_slots : {image : SectorMap} {v : Inode} {names : List (List ℕ × �
     → get name_cmp names name ≡ None → get name_cmp (names_of_slots h.slots) name ≡ None
 said_by_slots name h none = ap (λ (m : List (List ℕ × ℕ)). get name_cmp m name) (sym h.are) ∙ none
 
+-- what they lead to is found
+pub leads_to_found : {image : SectorMap} {v : Inode} {names : List (List ℕ × ℕ)} {to : ℕ} (h : HasNames image v names) (name : List ℕ) (found : Option FoundSlot) (f : FoundSlot)
+    → IsFoundIn h.slots name found → found ≡ Some f → get name_cmp names name ≡ Some to → f.inode ≡ to
+leads_to_found {to = to} h name found f is e leads =
+    let entry = found_is_entry h.slots name (Some f) h.apart (subst (IsFoundIn h.slots name) e is) in
+    one_number (entry ∙ ap (λ (m : List (List ℕ × ℕ)). get name_cmp m name) (sym h.are) ∙ leads)
+  where
+    one_number : Some f.inode ≡ Some to → f.inode ≡ to
+    one_number k = cc
+
 -- ---- faults passed on
 pub passed_on : (W : DirFault → Type 0) (r : Result (Unit {0}) DirFault) (f : MapFault) → IsErr r → IsErrAnd r (λ e. e ≡ as_dir_fault f)
     → (f ≡ map.Full → W faults.Full) → (f ≡ map.TooBig → W faults.Full) → W faults.DiskFault → IfErr r W
@@ -207,16 +218,44 @@ module _ {image : SectorMap} {v : Inode} {names : List (List ℕ × ℕ)} (h : H
         whole = whole;
       }
 
--- ---- a name for another inode
+-- ---- another slot in the place of one
 module _ {image : SectorMap} {v : Inode} {names : List (List ℕ × ℕ)} (h : HasNames image v names) (slot : ℕ) (x y : NamedInode)
-    (lt : slot < length h.slots) (is : get_or h.slots slot x ≡ x) (same : y.name ≡ x.name) where
-  pub names_led : {new : SectorMap} → FitsSlot y → Holds new v (slots_bytes (set h.slots slot y)) → HasNoHole new v → HasNames new v (with_entry name_cmp names x.name y.inode)
-  names_led {new} fit holds whole = record {
-    kind = h.kind;
+    (lt : slot < length h.slots) (is : get_or h.slots slot x ≡ x) where
+  changed_slots : IsNameOfOne h.slots slot y.name → {new : SectorMap} → HasSlots new v (set h.slots slot y)
+      → HasNames new v (with_entry name_cmp (without name_cmp names x.name) y.name y.inode)
+  changed_slots alone {new} now = record {
+    kind = now.kind;
     slots = set h.slots slot y;
-    are = ap (λ (m : List (List ℕ × ℕ)). with_entry name_cmp m x.name y.inode) h.are ∙ sym (names_set h.slots slot x y lt is same h.apart);
-    apart = apart_set h.slots slot x y lt is same h.apart;
-    each = fits_set h.slots slot y lt h.each fit;
-    holds = holds;
-    whole = whole;
+    are =
+        ap (λ (m : List (List ℕ × ℕ)). with_entry name_cmp (without name_cmp m x.name) y.name y.inode) h.are
+        ∙ sym (names_set h.slots slot x y lt is alone h.apart);
+    apart = now.apart;
+    each = now.each;
+    holds = now.holds;
+    whole = now.whole;
   }
+
+  -- the same name leads to another inode
+  own_name : y.name ≡ x.name → IsNameOfOne h.slots slot y.name
+  own_name same = subst (IsNameOfOne h.slots slot) (sym same) (its_own_name h.slots slot x h.apart lt is)
+
+  pub apart_led : y.name ≡ x.name → HaveDistinctNames (set h.slots slot y)
+  apart_led same = apart_set h.slots slot x y lt is (own_name same) h.apart
+
+  pub names_led : y.name ≡ x.name → {new : SectorMap} → HasSlots new v (set h.slots slot y) → HasNames new v (with_entry name_cmp names x.name y.inode)
+  names_led same {new} now =
+      let map_is : IsMap name_cmp names = subst (IsMap name_cmp) (sym h.are) (are_names_of h.slots h.apart).map_is in
+      subst (λ (m : List (List ℕ × ℕ)). HasNames new v m)
+      (ap (λ (q : List ℕ). with_entry name_cmp (without name_cmp names x.name) q y.inode) same ∙ without_and_with names x.name y.inode map_is)
+      (changed_slots (own_name same) now)
+
+  -- a new name leads to the same inode
+  new_name : get name_cmp names y.name ≡ None → IsNameOfOne h.slots slot y.name
+  new_name none k d less ne = no_such_name h.slots y.name h.apart (said_by_slots y.name h none) k d less
+
+  pub apart_renamed : get name_cmp names y.name ≡ None → HaveDistinctNames (set h.slots slot y)
+  apart_renamed none = apart_set h.slots slot x y lt is (new_name none) h.apart
+
+  pub names_renamed : get name_cmp names y.name ≡ None → {new : SectorMap} → HasSlots new v (set h.slots slot y)
+      → HasNames new v (with_entry name_cmp (without name_cmp names x.name) y.name y.inode)
+  names_renamed none {new} now = changed_slots (new_name none) now

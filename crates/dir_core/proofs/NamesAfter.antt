@@ -89,6 +89,18 @@ with_and_without m name n is none =
       | inr ne ↦ sym (l.left (with_entry name_cmp m name n) name q ne ∙ l.others m name q n ne)
     ])
 
+-- and one that is removed and set
+pub without_and_with : (m : Names) (name : List ℕ) (n : ℕ) → IsMap name_cmp m → with_entry name_cmp (without name_cmp m name) name n ≡ with_entry name_cmp m name n
+without_and_with m name n is =
+    let l = names_have_entries in
+    let rest : Names = without name_cmp m name in
+    l.one (with_entry name_cmp rest name n) (with_entry name_cmp m name n) (l.with_is rest name n (l.without_is m name is)) (l.with_is m name n is) (λ q.
+    elim (cases_name q name) [
+      | inl e ↦
+          ap (get name_cmp (with_entry name_cmp rest name n)) e ∙ l.here rest name n ∙ sym (l.here m name n) ∙ ap (get name_cmp (with_entry name_cmp m name n)) (sym e)
+      | inr ne ↦ l.others rest name q n ne ∙ l.left m name q ne ∙ sym (l.others m name q n ne)
+    ])
+
 -- ---- one more
 pub apart_added : (slots : List NamedInode) (x : NamedInode) → HaveDistinctNames slots → get name_cmp (names_of_slots slots) x.name ≡ None → HaveDistinctNames (slots ++ x ∷ [])
 apart_added slots x apart none = all_pairs_push (λ a b. a.name ≢ b.name) slots x apart (λ k d lt. no_such_name slots x.name apart none k d lt)
@@ -187,39 +199,59 @@ module _ (slots : List NamedInode) (i : ℕ) (x : NamedInode) (lt : i < length s
       with_and_without (names_of_slots moved) x.name x.inode (are_names_of moved rest).map_is (unnamed moved x.name rest other)
       ∙ ap (λ (m : Names). without name_cmp m x.name) (sym all)
 
--- ---- one for another inode
-module _ (slots : List NamedInode) (i : ℕ) (x y : NamedInode) (lt : i < length slots) (is : get_or slots i x ≡ x) (same : y.name ≡ x.name) where
-  -- each name stands where it stood
-  set_name : (k : ℕ) (d : NamedInode) → k < length slots → (get_or (set slots i y) k d).name ≡ (get_or slots k d).name
-  set_name k d less = elim (cases_eq k i) [
-    | inl e ↦
-        ap (λ (j : ℕ). (get_or (set slots i y) j d).name) e
-        ∙ ap (λ (z : NamedInode). z.name) (get_or-set_same slots i y d lt)
-        ∙ same
-        ∙ ap (λ (z : NamedInode). z.name) (sym is ∙ get_or_default slots i x d lt)
-        ∙ ap (λ (j : ℕ). (get_or slots j d).name) (sym e)
-    | inr ne ↦ ap (λ (z : NamedInode). z.name) (get_or-set_other slots i k y d ne)
-  ]
+-- ---- one in the place of another
+-- no slot but this one has the name
+abbrev pub IsNameOfOne : List NamedInode → ℕ → List ℕ → Type 0
+IsNameOfOne slots i name = (k : ℕ) (d : NamedInode) → k < length slots → k ≢ i → (get_or slots k d).name ≢ name
 
-  pub apart_set : HaveDistinctNames slots → HaveDistinctNames (set slots i y)
-  apart_set apart j k d before small e =
-      let less : k < length slots = omega (arith, small, length-set slots i y) in
-      apart j k d before less (sym (set_name j d (omega (arith, before, less))) ∙ e ∙ set_name k d less)
+-- the name of a slot
+pub its_own_name : (slots : List NamedInode) (i : ℕ) (x : NamedInode) → HaveDistinctNames slots → i < length slots → get_or slots i x ≡ x → IsNameOfOne slots i x.name
+its_own_name slots i x apart lt is k d less ne e =
+    let here : (get_or slots k d).name ≡ (get_or slots i d).name = e ∙ ap (λ (y : NamedInode). y.name) (sym is ∙ get_or_default slots i x d lt) in
+    elim (cases_lt k i) [
+      | inl before ↦ apart k i d before lt here
+      | inr past ↦ apart i k d (omega (arith, past, ne)) less (sym here)
+    ]
 
-  -- a slot of another name stands in both
-  stands_in_both : (q : List ℕ) (n : ℕ) → q ≢ x.name → Contains (set slots i y) (record { inode = n; name = q }) → Contains slots (record { inode = n; name = q })
+module _ (slots : List NamedInode) (i : ℕ) (x y : NamedInode) (lt : i < length slots) (is : get_or slots i x ≡ x) (alone : IsNameOfOne slots i y.name) (apart : HaveDistinctNames slots) where
+  abbrev after : List NamedInode
+  after = set slots i y
+
+  within : (k : ℕ) → k < length after → k < length slots
+  within k small = omega (arith, small, length-set slots i y)
+
+  -- it has its new name alone
+  set_alone : (k : ℕ) (d : NamedInode) → k < length after → k ≢ i → (get_or after k d).name ≢ y.name
+  set_alone k d small ne e = alone k d (within k small) ne (ap (λ (z : NamedInode). z.name) (sym (get_or-set_other slots i k y d ne)) ∙ e)
+
+  set_here : (k : ℕ) (d : NamedInode) → k ≡ i → get_or after k d ≡ y
+  set_here k d e = ap (λ (j : ℕ). get_or after j d) e ∙ get_or-set_same slots i y d lt
+
+  pub apart_set : HaveDistinctNames after
+  apart_set j k d before small e =
+      elim (cases_eq j i) [
+        | inl here ↦ set_alone k d small (omega (arith, here, before)) (sym e ∙ ap (λ (z : NamedInode). z.name) (set_here j d here))
+        | inr j_ne ↦ elim (cases_eq k i) [
+          | inl here ↦ set_alone j d (omega (arith, before, small)) j_ne (e ∙ ap (λ (z : NamedInode). z.name) (set_here k d here))
+          | inr k_ne ↦
+              apart j k d before (within k small)
+              (ap (λ (z : NamedInode). z.name) (sym (get_or-set_other slots i j y d j_ne)) ∙ e ∙ ap (λ (z : NamedInode). z.name) (get_or-set_other slots i k y d k_ne))
+        ]
+      ]
+
+  -- a slot of a third name stands in both
+  stands_in_both : (q : List ℕ) (n : ℕ) → q ≢ y.name → Contains after (record { inode = n; name = q }) → Contains slots (record { inode = n; name = q })
   stands_in_both q n ne (k, small, there) =
-      let z : NamedInode = record { inode = n; name = q } in
-      let less : k < length slots = omega (arith, small, length-set slots i y) in (
+      let z : NamedInode = record { inode = n; name = q } in (
         k,
-        less,
+        within k small,
         elim (cases_eq k i) [
-          | inl e ↦ absurd (ne (ap (λ (w : NamedInode). w.name) (sym there ∙ ap (λ (j : ℕ). get_or (set slots i y) j z) e ∙ get_or-set_same slots i y z lt) ∙ same))
+          | inl e ↦ absurd (ne (ap (λ (w : NamedInode). w.name) (sym there ∙ set_here k z e)))
           | inr other ↦ sym (get_or-set_other slots i k y z other) ∙ there
         ],
       )
 
-  stood_in_both : (q : List ℕ) (n : ℕ) → q ≢ x.name → Contains slots (record { inode = n; name = q }) → Contains (set slots i y) (record { inode = n; name = q })
+  stood_in_both : (q : List ℕ) (n : ℕ) → q ≢ x.name → Contains slots (record { inode = n; name = q }) → Contains after (record { inode = n; name = q })
   stood_in_both q n ne (k, less, there) =
       let z : NamedInode = record { inode = n; name = q } in (
         k,
@@ -230,21 +262,44 @@ module _ (slots : List NamedInode) (i : ℕ) (x y : NamedInode) (lt : i < length
         ],
       )
 
-  pub names_set : HaveDistinctNames slots → names_of_slots (set slots i y) ≡ with_entry name_cmp (names_of_slots slots) x.name y.inode
-  names_set apart =
+  -- the old name is gone, where it is another one
+  old_is_gone : x.name ≢ y.name → (k : ℕ) (d : NamedInode) → k < length after → (get_or after k d).name ≢ x.name
+  old_is_gone ne k d small e =
+      elim (cases_eq k i) [
+        | inl here ↦ ne (sym e ∙ ap (λ (z : NamedInode). z.name) (set_here k d here))
+        | inr other ↦ its_own_name slots i x apart lt is k d (within k small) other (ap (λ (z : NamedInode). z.name) (sym (get_or-set_other slots i k y d other)) ∙ e)
+      ]
+
+  -- each name but the new one leads where it led, and the old one nowhere
+  leads_on : (q : List ℕ) → q ≢ y.name → get name_cmp (names_of_slots after) q ≡ get name_cmp (without name_cmp (names_of_slots slots) x.name) q
+  leads_on q ne =
       let l = names_have_entries in
-      let now = are_names_of (set slots i y) (apart_set apart) in
+      let now = are_names_of after apart_set in
       let was = are_names_of slots apart in
-      l.one (names_of_slots (set slots i y)) (with_entry name_cmp (names_of_slots slots) x.name y.inode) now.map_is (l.with_is (names_of_slots slots) x.name y.inode was.map_is) (λ q.
       elim (cases_name q x.name) [
         | inl e ↦
-            ap (get name_cmp (names_of_slots (set slots i y))) (e ∙ sym same)
-            ∙ slot_name_leads (set slots i y) i y (apart_set apart) (omega (arith, lt, length-set slots i y)) (get_or-set_same slots i y y lt)
-            ∙ sym (l.here (names_of_slots slots) x.name y.inode)
-            ∙ ap (get name_cmp (with_entry name_cmp (names_of_slots slots) x.name y.inode)) (sym e)
-        | inr ne ↦
-            same_there (names_of_slots (set slots i y)) (names_of_slots slots) q
+            unnamed after q apart_set (λ k d small f. old_is_gone (λ g. ne (e ∙ g)) k d small (f ∙ e))
+            ∙ sym (l.gone (names_of_slots slots) x.name)
+            ∙ ap (get name_cmp (without name_cmp (names_of_slots slots) x.name)) (sym e)
+        | inr other ↦
+            same_there (names_of_slots after) (names_of_slots slots) q
             (λ n f. (was.each q n).1 (stands_in_both q n ne ((now.each q n).0 f)))
-            (λ n f. (now.each q n).1 (stood_in_both q n ne ((was.each q n).0 f)))
-            ∙ sym (l.others (names_of_slots slots) x.name q y.inode ne)
+            (λ n f. (now.each q n).1 (stood_in_both q n other ((was.each q n).0 f)))
+            ∙ sym (l.left (names_of_slots slots) x.name q other)
+      ]
+
+  pub names_set : names_of_slots after ≡ with_entry name_cmp (without name_cmp (names_of_slots slots) x.name) y.name y.inode
+  names_set =
+      let l = names_have_entries in
+      let now = are_names_of after apart_set in
+      let rest : Names = without name_cmp (names_of_slots slots) x.name in
+      let rest_is = l.without_is (names_of_slots slots) x.name (are_names_of slots apart).map_is in
+      l.one (names_of_slots after) (with_entry name_cmp rest y.name y.inode) now.map_is (l.with_is rest y.name y.inode rest_is) (λ q.
+      elim (cases_name q y.name) [
+        | inl e ↦
+            ap (get name_cmp (names_of_slots after)) e
+            ∙ slot_name_leads after i y apart_set (omega (arith, lt, length-set slots i y)) (get_or-set_same slots i y y lt)
+            ∙ sym (l.here rest y.name y.inode)
+            ∙ ap (get name_cmp (with_entry name_cmp rest y.name y.inode)) (sym e)
+        | inr ne ↦ leads_on q ne ∙ sym (l.others rest y.name q y.inode ne)
       ])

@@ -1,6 +1,6 @@
--- Why names are not added, removed or led elsewhere.
+-- Why names are not added, removed, led elsewhere or changed.
 --     taken_for        how many sectors one more name takes
---     WhyNotAdded, WhyNotChanged        why a name isn't added; why one isn't removed, nor led elsewhere
+--     WhyNotAdded, WhyNotChanged        why a name isn't added; why one isn't removed, led elsewhere or changed
 --     as_dir_fault        a fault of what an inode holds, as one of a directory
 use Rattle.std.specs.Prelude.{◌≡◌, ◌≢◌, ◌⊎◌, ℕ, ◌%◌, ◌<◌, nat_eq, if◌then◌else◌, List, length, None}
 use Rattle.fs_layout.specs.declared.inode.Inode.{Inode}
@@ -29,7 +29,7 @@ WhyNotAdded p image v names name Absent = ⊥
 WhyNotAdded p image v names name DiskFault = Unit {0}
 WhyNotAdded p image v names name OutOfMemory = ⊥
 
--- why a name isn't removed from these names, nor led to another inode: it isn't there
+-- why a name isn't removed from these names, led to another inode or changed to another name: it isn't there
 abbrev pub WhyNotChanged : List (List ℕ × ℕ) → List ℕ → DirFault → Type 0
 WhyNotChanged names name Exists = ⊥
 WhyNotChanged names name Full = ⊥

@@ -1,8 +1,8 @@
-//! Adding a name, removing one, and leading one to another inode.
+//! Adding a name, removing one, leading one to another inode, and giving it another name.
 
-ghost use Rattle.std.specs.Prelude.{◌≡◌, ◌≢◌, ◌≤◌, ◌<◌, ◌-◌, ◌*◌, ℕ, List, length, slice_index_or, take, set, None, IfErr, OnOk};
+ghost use Rattle.std.specs.Prelude.{◌≡◌, ◌≢◌, ◌≤◌, ◌<◌, ◌-◌, ◌*◌, ℕ, List, length, slice_index_or, take, set, None, Some, IfErr, OnOk};
 ghost use Rattle.fs_layout.specs.declared.slot.TheConstants.{MAX_NAMES};
-ghost use Rattle.fs_layout.specs.Directories.{NamedInode, IsName, slot_bytes, slots_bytes, HasNames};
+ghost use Rattle.fs_layout.specs.Directories.{NamedInode, IsName, HaveDistinctNames, slot_bytes, slots_bytes, HasNames};
 ghost use Rattle.fs_layout.specs.Images.{Holds, HasNoHole, inode_at};
 ghost use Rattle.fs_layout.specs.Maps.{name_cmp, get, with_entry, without};
 ghost use Rattle.sector_disk.specs.Disk.{HasCause};
@@ -129,6 +129,34 @@ pub fn remove<S: Sectors>(
     Ok(())
 }
 
+// Writes a name, which leads to inode `to`, in the place of a slot.
+fn set_slot<S: Sectors>(
+    s: &mut S,
+    place: Place,
+    n: u32,
+    inode: &Inode,
+    slot: u64,
+    name: &[u8],
+    to: u32,
+) -> Result<(), DiskFault>
+    requires sound { IsSound place (S.state s.old) }
+    requires below { n < place.inodes }
+    requires inode { inode.now ≡ inode_at place (S.state s.old).sectors n }
+    requires directory { (slots : List NamedInode) × HasSlots (S.state s.old).sectors inode.now slots × (slot < length slots) }
+    requires name { IsName name.now }
+    requires spare { HasSpare place 1 (S.state s.old) }
+    ensures change { OnOk result (ChangesContent place n 0 1 (S.state s.old) (S.state s.new) inode.now inode.now) }
+    ensures slots { OnOk result ((slots : List NamedInode) → HasSlots (S.state s.old).sectors inode.now slots
+        → HaveDistinctNames (set slots slot (record { inode = to; name = name.now }))
+        → HasSlots (S.state s.new).sectors inode.now (set slots slot (record { inode = to; name = name.now }))) }
+    ensures store { SameStore (S.state s.old) (S.state s.new) }
+    ensures cause { HasCause (S.state s.old).disk (S.state s.new).disk result }
+{
+    let at = slot * SLOT as u64;
+    overwrite(s, place, n, inode, at, &block_with(to, name)[..SLOT])?;
+    Ok(())
+}
+
 /// Leads a name of directory n to inode `to`. `inode` is inode n, and stays.
 ///
 /// At `Err` the caller drops the changes of the transaction.
@@ -156,13 +184,42 @@ pub fn replace<S: Sectors>(
     let Some(found) = find_slot(s, inode, name)? else {
         return Err(DirFault::Absent);
     };
-    overwrite(
-        s,
-        place,
-        n,
-        inode,
-        found.slot * SLOT as u64,
-        &block_with(to, name)[..SLOT],
-    )?;
+    set_slot(s, place, n, inode, found.slot, name, to)?;
+    Ok(())
+}
+
+/// Gives what has a name in directory n another name there, which is new. `inode` is inode n, and stays.
+///
+/// It takes no sector. At `Err` the caller drops the changes of the transaction.
+pub fn rename<S: Sectors>(
+    s: &mut S,
+    place: Place,
+    n: u32,
+    inode: &Inode,
+    name: &[u8],
+    new_name: &[u8],
+) -> Result<(), DirFault>
+    requires sound { IsSound place (S.state s.old) }
+    requires below { n < place.inodes }
+    requires inode { inode.now ≡ inode_at place (S.state s.old).sectors n }
+    requires directory { (names : List (List ℕ × ℕ)) × HasNames (S.state s.old).sectors inode.now names
+        × (get name_cmp names new_name.now ≡ None) }
+    requires new_name { IsName new_name.now }
+    requires spare { HasSpare place 1 (S.state s.old) }
+    ensures change { OnOk result (ChangesContent place n 0 1 (S.state s.old) (S.state s.new) inode.now inode.now) }
+    ensures there { OnOk result ((names : List (List ℕ × ℕ)) → HasNames (S.state s.old).sectors inode.now names
+        → get name_cmp names name.now ≢ None) }
+    ensures names { OnOk result ((names : List (List ℕ × ℕ)) (to : ℕ) → HasNames (S.state s.old).sectors inode.now names
+        → get name_cmp names name.now ≡ Some to
+        → HasNames (S.state s.new).sectors inode.now (with_entry name_cmp (without name_cmp names name.now) new_name.now to)) }
+    ensures why { IfErr result (λ e. (names : List (List ℕ × ℕ)) → HasNames (S.state s.old).sectors inode.now names
+        → WhyNotChanged names name.now e) }
+    ensures store { SameStore (S.state s.old) (S.state s.new) }
+    ensures cause { HasCauseOf DirFault.DiskFault (S.state s.old).disk (S.state s.new).disk result }
+{
+    let Some(found) = find_slot(s, inode, name)? else {
+        return Err(DirFault::Absent);
+    };
+    set_slot(s, place, n, inode, found.slot, new_name, found.inode)?;
     Ok(())
 }

@@ -9,7 +9,7 @@ ghost use Rattle.bit_alloc.specs.Room.{HasSpare};
 
 mod blank;
 
-use crate::{DirFault, insert, is_empty, list, lookup, remove, replace};
+use crate::{DirFault, insert, is_empty, list, lookup, remove, rename, replace};
 use blank::{is_blank, put_blank};
 use fs_layout::{Commit, Inode, Kind, Place, is_name, place_of};
 use inode_table::{load, new_inode};
@@ -57,6 +57,7 @@ enum Call {
     Insert,
     Remove,
     Replace,
+    Rename,
 }
 
 // What a call gives, and how many sectors it reads and puts. A lookup gives the inode, 0 for none, and each other call the
@@ -100,6 +101,31 @@ fn fill<S: Sectors>(
     Ok(())
 }
 
+// Gives what has a name a new one, which is looked up before.
+fn renamed<S: Sectors>(
+    s: &mut S,
+    place: Place,
+    n: u32,
+    inode: &Inode,
+    name: &[u8],
+) -> Result<(), DirFault>
+    requires sound { IsSound place (S.state s.old) }
+    requires below { n < place.inodes }
+    requires there { inode.now ≡ inode_at place (S.state s.old).sectors n }
+    requires directory { (names : List (List ℕ × ℕ)) × HasNames (S.state s.old).sectors inode.now names }
+    requires spare { HasSpare place 1 (S.state s.old) }
+{
+    let new_name = b"new";
+    if !is_name(new_name) {
+        return Err(DirFault::Absent);
+    }
+    if lookup(s, place, inode, new_name)?.is_some() {
+        return Err(DirFault::Exists);
+    }
+    rename(s, place, n, inode, name, new_name)?;
+    Ok(())
+}
+
 fn perform<S: Sectors>(
     alloc: Global,
     s: &mut S,
@@ -122,6 +148,7 @@ fn perform<S: Sectors>(
         Call::Insert => insert(s, place, n, inode, name, 9)?,
         Call::Remove => remove(s, place, n, inode, name)?,
         Call::Replace => replace(s, place, n, inode, name, 9)?,
+        Call::Rename => renamed(s, place, n, inode, name)?,
     }
     Ok((inode.size / 128) as usize)
 }
@@ -256,10 +283,10 @@ fn reads(rt: HostRuntime) -> Result<(), Fail> {
 }
 
 // A name takes a block where the last one is full, and with name 48 the sector of pointers too. The last slot moves into
-// the place of the one that is removed.
+// the place of the one that is removed. Before a name becomes another one, that is looked up.
 #[test]
 fn changes(rt: HostRuntime) -> Result<(), Fail> {
-    let rows: [Row; 16] = [
+    let rows: [Row; 19] = [
         (0, Call::Insert, 0, (Ok(1), 2, 3)),
         (1, Call::Insert, 0, (Err(DirFault::Exists), 1, 0)),
         (1, Call::Insert, 1, (Ok(2), 3, 2)),
@@ -276,6 +303,9 @@ fn changes(rt: HostRuntime) -> Result<(), Fail> {
         (2, Call::Replace, 0, (Ok(2), 2, 1)),
         (2, Call::Replace, 2, (Err(DirFault::Absent), 1, 0)),
         (50, Call::Replace, 49, (Ok(50), 16, 1)),
+        (2, Call::Rename, 0, (Ok(2), 3, 1)),
+        (2, Call::Rename, 2, (Err(DirFault::Absent), 2, 0)),
+        (50, Call::Rename, 49, (Ok(50), 30, 1)),
     ];
     let seen = agreed(rt.alloc(), &rows)?;
     assert!(rt; seen == rows.len(), "{seen}");

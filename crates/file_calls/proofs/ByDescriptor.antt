@@ -4,7 +4,7 @@
 --     open_fits, open_there, open_below, open_node        in a state it is there
 --     IsByDescriptor        what its row is made of
 --     open_firm, open_late, open_after        what such a row asks and leaves
---     still_open, offset_stays_open        what a process that changes still has open
+--     has_open, still_open, offset_stays_open        what a process that changes still has open
 --     closed_firm, closed_performs        there is no such process, or it has nothing open there
 --     bad_performs        it isn't open for that
 --     asked_performs, unread_performs, interrupted_performs        it is refused after that
@@ -144,7 +144,7 @@ any_kept {X} test m k x y h there same =
     ∙ sym (any_with_entry test m k x h)
     ∙ ap (λ (l : List (ℕ × X)). list_any (λ (e : ℕ × X). test e.1) l) (entry_again m k x h there)
 
-abbrev has_open : ℕ → Process → Bool
+abbrev pub has_open : ℕ → Process → Bool
 has_open n q = list_any (λ d. d.1.number == n) q.descriptors
 
 -- what a process that changes still has open, is still open

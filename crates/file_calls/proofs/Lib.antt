@@ -9,6 +9,7 @@ pub mod Moded
 pub mod Masked
 pub mod OpenFound
 pub mod NewFile
+pub mod Makeable
 pub mod OpenMade
 pub mod OpenNew
 pub mod OpenRow
@@ -16,6 +17,8 @@ pub mod Owned
 pub mod Rows
 pub mod Seeking
 pub mod Settled
+pub mod Leavings
+pub mod Endings
 pub mod Shown
 pub mod Sized
 pub mod Rewritten

@@ -1,9 +1,9 @@
 -- A new inode, and a name for it in a directory.
 --     nothing_stands        nothing stands at a free number
 --     new_file, file_fits        a new file's inode fits its fields
---     takes_few, name_has_room        there is room: the disk alone can fail
+--     takes_one, takes_few, room_suffices, name_has_room        there is room: the disk alone can fail
 --     dir_below, apart_from_new, dir_kept, dir_still_held, dir_names        the directory, once the inode is made
-use Rattle.std.specs.Prelude.{◌≡◌, ◌≢◌, ℕ, ◌+◌, ◌%◌, ◌^◌, ◌<◌, ◌≤◌, nat_eq, nat_le, ◌||◌, if◌then◌else◌, Bool, true, false, List, [], get_or, Option, None, Some, is_some, IsTrue}
+use Rattle.std.specs.Prelude.{◌≡◌, ◌≢◌, ℕ, ◌+◌, ◌%◌, ◌^◌, ◌<◌, ◌≤◌, nat_eq, nat_le, ◌||◌, if◌then◌else◌, Bool, true, false, List, [], length, get_or, Option, None, Some, is_some, IsTrue}
 use Rattle.std.proofs.Common.{refl, sym, ap, arith, ◌∙◌, inl, inr}
 use Rattle.std.proofs.lemmas.Bool.{or_right, true≢false}
 use Rattle.posix_acl.specs.AccessList.{AccessList}
@@ -16,6 +16,7 @@ use Rattle.fs_layout.specs.Bytes.{SectorMap, zeros}
 use Rattle.fs_layout.specs.Changes.{ChangesInode}
 use Rattle.fs_layout.specs.Inode.{FitsInode, inode_fits, free_inode}
 use Rattle.fs_layout.specs.Directories.{HasNames}
+use Rattle.fs_layout.specs.Maps.{name_cmp, get}
 use Rattle.fs_layout.specs.Images.{Holds, bit, inode_at, inode_bitmap, free_sectors}
 use Rattle.fs_layout.proofs.SplicedBytes.{get_or-zeros}
 use Rattle.fs_layout.proofs.Saves.{inode_kept}
@@ -26,6 +27,7 @@ use Rattle.inode_table.specs.Acls.{HasAcl, HasDefaultAcl, with_acl_bits, acl_tak
 use Rattle.dir_core.specs.declared.fault.DirFault.{DirFault}
 use Rattle.dir_core.specs.declared.fault.DirFault.TheVariants as naming
 use Rattle.dir_core.specs.Faults.{taken_for, WhyNotAdded}
+use Rattle.fs_model.specs.Limits.{entries_limit}
 use Rattle.fs_model.specs.Nodes.{Node, names_in}
 use Rattle.fs_model.specs.Stands.{placed}
 use Rattle.fs_model.specs.StoredNodes.{Placed, HoldsNode}
@@ -75,7 +77,8 @@ file_fits uid gid small_uid small_gid = record {
   indirect = omega arith;
 }
 
-takes_one : (o : Option AccessList) → acl_takes 0 o ≤ 1
+-- an ACL takes a sector at most
+pub takes_one : (o : Option AccessList) → acl_takes 0 o ≤ 1
 takes_one None = omega arith
 takes_one (Some a) = omega arith
 
@@ -124,15 +127,22 @@ module _ {p : Place} {map : SectorMap} {t : Tree} (h : HoldsTree p map t) {dir :
 
 -- ---- its name
 
+module _ (p : Place) (map : SectorMap) (v : Inode) (names : List (List ℕ × ℕ)) (name : List ℕ) (is_new : get name_cmp names name ≡ None) (few : length names < entries_limit)
+    (enough : 2 ≤ free_sectors p map) where
+  -- a name isn't refused for want of room, nor because it is there
+  pub room_suffices : (old new : DiskState) (e : DirFault) → WhyNotAdded p map v names name e → (e ≡ naming.DiskFault → HasFailed old new) → HasFailed old new
+  room_suffices old new naming.Exists why failed = absurd (why is_new)
+  room_suffices old new naming.Full why failed = absurd (elim why.1 [
+    | inl many ↦ omega (arith, many, few)
+    | inr less ↦ let two = name_takes_few v in omega (arith, less, two, enough)
+  ])
+  room_suffices old new naming.Absent why failed = absurd why
+  room_suffices old new naming.DiskFault why failed = failed refl
+  room_suffices old new naming.OutOfMemory why failed = absurd why
+
 module _ {p : Place} {map : SectorMap} {t : Tree} {dir : ℕ} {name : List ℕ} (can : CanMake p map t dir name) (mid : SectorMap) (v : Inode)
     (left : free_sectors p map ≤ free_sectors p mid + 1) where
-  -- the name isn't refused for want of room, nor because it is there
   pub name_has_room : (old new : DiskState) (e : DirFault) → WhyNotAdded p mid v (names_in can.directory.node.body) name e → (e ≡ naming.DiskFault → HasFailed old new) → HasFailed old new
-  name_has_room old new naming.Exists why failed = absurd (why can.is_new)
-  name_has_room old new naming.Full why failed = absurd (elim why.1 [
-    | inl many ↦ let has_room = can.has_room in omega (arith, many, has_room)
-    | inr few ↦ let two = name_takes_few v in let enough = can.enough in omega (arith, few, two, enough, left)
-  ])
-  name_has_room old new naming.Absent why failed = absurd why
-  name_has_room old new naming.DiskFault why failed = failed refl
-  name_has_room old new naming.OutOfMemory why failed = absurd why
+  name_has_room =
+      let enough = can.enough in
+      room_suffices p mid v (names_in can.directory.node.body) name can.is_new can.has_room (omega (arith, enough, left))

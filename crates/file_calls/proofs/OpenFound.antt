@@ -95,7 +95,8 @@ module _ (a b : List Demand) (d : Demand) where
 
 -- ---- what is there
 
-link_says : (image : SectorMap) (v : Inode) (b : Body) → HoldsBody image v b → is_link_kind v.kind ≡ is_link b
+-- its kind says whether it is a link
+pub link_says : (image : SectorMap) (v : Inode) (b : Body) → HoldsBody image v b → is_link_kind v.kind ≡ is_link b
 link_says image v (File a bytes) h = ap is_link_kind h.kind
 link_says image v (Dir a d) h = ap is_link_kind h.names.kind
 link_says image v (Link target) h = ap is_link_kind h.kind

@@ -6,9 +6,7 @@
 --     made_reaches        it was made
 use Rattle.std.specs.Prelude.{◌≡◌, ℕ, ◌+◌, ◌-◌, ◌/◌, ◌%◌, ◌<◌, ◌==◌, nat_lt, nat_le, cond, if◌then◌else◌, Bool, true, false, not, ◌&&◌, ◌||◌, List, [], ◌∷◌, length, Option, None, unwrap_or, is_some, IsTrue, Ok, Err}
 use Rattle.std.proofs.Common.{refl, sym, ap, subst, arith, ◌∙◌, inl}
-use Rattle.std.specs.List.{list_any}
-use Rattle.std.proofs.lemmas.Bool.Decides.{nat_tests}
-use Rattle.fs_cred.specs.declared.errno.Errno.TheVariants.{ENOENT, EINVAL, ENOSPC}
+use Rattle.fs_cred.specs.declared.errno.Errno.TheVariants.{ENOENT, ENOSPC}
 use Rattle.fs_cred.specs.declared.refusal.Refusal.{Refusal}
 use Rattle.fs_cred.specs.Credentials.{Credential}
 use Rattle.posix_acl.specs.AccessList.{AccessList, mode_bits}
@@ -28,18 +26,15 @@ use Rattle.fs_model.specs.Changes.{Change, Make, Rewrite, Same, changed, swept}
 use Rattle.fs_model.specs.Demands.{Demand, refuse, first_of, permission_on, write_and_search}
 use Rattle.fs_model.specs.Limits.{entries_limit, least_free}
 use Rattle.fs_model.specs.Nodes.{Node, Body, File, Dir, Link, is_directory, default_in, names_in, with_bytes, with_names, shown_mode}
-use Rattle.fs_model.specs.OpenCall.{open_form, open_demands, open_found_demands, open_new_demands, open_change}
-use Rattle.fs_model.specs.Parts.{is_empty}
+use Rattle.fs_model.specs.OpenCall.{open_demands, open_found_demands, open_new_demands, open_change}
 use Rattle.fs_model.specs.Processes.{Process}
-use Rattle.fs_model.specs.Stands.{HoldsAll, placed, room_of}
+use Rattle.fs_model.specs.Stands.{HoldsAll, placed}
 use Rattle.fs_model.specs.States.{State}
-use Rattle.fs_model.specs.Steps.{HasNewNumber, found_by}
+use Rattle.fs_model.specs.Steps.{HasNewNumber}
 use Rattle.fs_model.specs.StoredNodes.{HoldsNode}
 use Rattle.fs_model.specs.Trees.{Room, Tree, free_inodes, names_of, parent, IsDirectoryAt}
-use Rattle.fs_model.proofs.FreeInodes.{free_are_clear}
 use Rattle.fs_model.proofs.PlacedChanges.{make_held}
-use Rattle.fs_model.proofs.StepsDemands.{first_met, then_met, unrefused}
-use Rattle.fs_model.proofs.StepsFound.{IsNameAt, IsWalked, is_walked}
+use Rattle.fs_model.proofs.StepsFound.{IsNameAt}
 use Rattle.fs_model.proofs.StepsMaking.{IsNewborn, file_is_born}
 use Rattle.path_walk.specs.Answers.{refused_or, IsAnswered}
 use Rattle.path_walk.specs.Paths.{scene_at}
@@ -49,6 +44,7 @@ use Rattle.path_walk.proofs.HeldNodes.{held_node, names_say, default_says}
 use Rattle.path_walk.proofs.Kept.{kept}
 use Rattle.file_calls.specs.Makings.{CanMake, MakesFile}
 use Rattle.file_calls.specs.Openings.{make_asked, FindsIn, IsRefusedOpen, Reaches}
+use Rattle.file_calls.proofs.Makeable.{found_new, has_few, may_make}
 use Rattle.file_calls.proofs.NewFile.{nothing_stands, dir_still_held}
 use Rattle.file_calls.proofs.OpenFound.{checked, refused_as}
 use Rattle.file_calls.proofs.Shown.{the_node_is}
@@ -62,14 +58,14 @@ group_bit n false true lt = let e : (n + 0 + 1024) / 1024 % 2 ≡ 1 = omega (ari
 group_bit n false false lt = let e : (n + 0 + 0) / 1024 % 2 ≡ 0 = omega (arith, lt) in ap (λ (k : ℕ). k == 1) e
 
 -- S_ISGID of its mode is that of the directory
-set_group_says : (owner group : ℕ) (b : Body) (m : ℕ) → IsTrue (is_directory b) → m ≡ shown_mode b
+pub set_group_says : (owner group : ℕ) (b : Body) (m : ℕ) → IsTrue (is_directory b) → m ≡ shown_mode b
     → (m / 1024 % 2 == 1) ≡ (the_directory (record { owner = owner; group = group; body = b })).set_group_id
 set_group_says owner group (File a bytes) m is e = absurd (cc)
 set_group_says owner group (Dir a d) m is e = ap (λ (k : ℕ). k / 1024 % 2 == 1) e ∙ group_bit (mode_bits a) d.sticky d.set_group_id (mode_small a)
 set_group_says owner group (Link target) m is e = absurd (cc)
 
 -- and so is its default ACL
-default_is : (owner group : ℕ) (b : Body) → IsTrue (is_directory b) → default_in b ≡ (the_directory (record { owner = owner; group = group; body = b })).default
+pub default_is : (owner group : ℕ) (b : Body) → IsTrue (is_directory b) → default_in b ≡ (the_directory (record { owner = owner; group = group; body = b })).default
 default_is owner group (File a bytes) is = absurd (cc)
 default_is owner group (Dir a d) is = refl
 default_is owner group (Link target) is = absurd (cc)
@@ -89,12 +85,7 @@ asked_later p {old} {mid} t dir step cred v same is =
 
 module _ {p : Place} {map : SectorMap} {flags : Flags} {q : Process} {f : Found} {s : State} (i : FindsIn p map flags q f s) (none : f.ino ≡ None) where
   pub new_name : IsNameAt s.tree f.dir f.name None
-  new_name =
-      let later = then_met (refuse ENOENT (is_empty i.path)) _ i.found.checked in
-      let no_zero = unrefused EINVAL (list_any (λ b. b == 0) i.path) (first_met (refuse EINVAL (list_any (λ b. b == 0) i.path)) _ later) in
-      let walked : IsWalked s.tree (open_form flags) (found_by s.tree q.cwd (open_form flags, i.path)) =
-      is_walked s.room s.tree i.is_state.is_state.tree q.cred q.cwd 1 (open_form flags, i.path) i.bytes no_zero i.found.unrefused in
-      (subst (IsWalked s.tree (open_form flags)) (sym i.found.is) walked).new none
+  new_name = found_new i.is_state i.found i.bytes none
 
   abbrev pub directory_there : IsDirectoryAt s.tree f.dir
   directory_there = record { node = new_name.node; is_there = new_name.stands; directory = new_name.directory }
@@ -153,35 +144,13 @@ module _ {p : Place} {map : SectorMap} {flags : Flags} {q : Process} {f : Found}
         pub asked_of_it : v ≡ y
         asked_of_it = sym (met_ok {A = A} (first_of (make_asked p map cred s.tree f.dir step)) y v is).1
 
-        space_asked : first_of (refuse ENOSPC (nat_lt (free_sectors p map) least_free) ∷ refuse ENOSPC (free_inodes (room_of p) s.tree == 0)
-            ∷ refuse ENOSPC (nat_le entries_limit (length (names_in (the_node s.tree f.dir).body))) ∷ []) ≡ None
-        space_asked = then_met (permission_on q.cred s.tree f.dir write_and_search 1 (f.step - 1)) _ asked_none
-
         pub few_names : length (names_in new_name.node.body) < entries_limit
         few_names =
-            let names = length (names_in (the_node s.tree f.dir).body) in
-            let three = then_met (refuse ENOSPC (free_inodes (room_of p) s.tree == 0)) _ (then_met (refuse ENOSPC (nat_lt (free_sectors p map) least_free)) _ space_asked) in
-            let few : nat_le entries_limit names ≡ false = unrefused ENOSPC (nat_le entries_limit names) (first_met (refuse ENOSPC (nat_le entries_limit names)) _ three) in
-            subst (λ (k : ℕ). k < entries_limit) (ap (λ (u : Node). length (names_in u.body)) (the_node_is s.tree f.dir new_name.node new_name.stands)) (grind (arith, nat_tests))
+            subst (λ (u : Node). length (names_in u.body) < entries_limit) (the_node_is s.tree f.dir new_name.node new_name.stands)
+            (has_few p map s.tree f.dir q.cred (f.step - 1) asked_none)
 
         pub can_make : CanMake p map s.tree f.dir f.name
-        can_make =
-            let h = state_tree i.is_state in
-            let two = then_met (refuse ENOSPC (nat_lt (free_sectors p map) least_free)) _ space_asked in
-            let enough : nat_lt (free_sectors p map) least_free ≡ false =
-            unrefused ENOSPC (nat_lt (free_sectors p map) least_free) (first_met (refuse ENOSPC (nat_lt (free_sectors p map) least_free)) _ space_asked) in
-            let some : (free_inodes (room_of p) s.tree == 0) ≡ false =
-            unrefused ENOSPC (free_inodes (room_of p) s.tree == 0) (first_met (refuse ENOSPC (free_inodes (room_of p) s.tree == 0)) _ two) in
-            let counted = free_are_clear p map s.tree h.holds h.tree in
-            record {
-              holds = h;
-              directory = directory_there;
-              is_name = new_name.is_name;
-              is_new = new_name.leads;
-              has_room = few_names;
-              some = λ zero. let clear : free_inodes (room_of p) s.tree ≡ 0 = counted ∙ zero in grind (arith, nat_tests);
-              enough = grind (arith, nat_tests);
-            }
+        can_make = may_make q.cred (f.step - 1) asked_none (state_tree i.is_state) directory_there f.name new_name.is_name new_name.leads
 
   -- ---- the file that was made
 

@@ -72,6 +72,14 @@ inodes_later p {old} {mid} new e same is =
 pub size_as : {v w : Inode} {r : Checked} → w ≡ v → checked (refuse ENOSPC (nat_le MAX_FILE_SIZE w.size)) ≡ r → checked (refuse ENOSPC (nat_le MAX_FILE_SIZE v.size)) ≡ r
 size_as {v} {w} {r} same is = subst (λ (u : Inode). checked (refuse ENOSPC (nat_le MAX_FILE_SIZE u.size)) ≡ r) same is
 
+-- the size of its inode says whether a directory has place for one more name
+pub names_are : {p : Place} {map : SectorMap} {t : Tree} → HoldsTree p map t → (dir : ℕ) → IsDirectoryAt t dir
+    → refuse ENOSPC (nat_le MAX_FILE_SIZE (inode_at p map dir).size) ≡ refuse ENOSPC (nat_le entries_limit (length (names_in (the_node t dir).body)))
+names_are {p} {map} {t} h dir d =
+    let size = size_says map (inode_at p map dir) d.node.body (held_node h dir d.node d.is_there).body ∙ names_size d.node.body d.directory in
+    ap (refuse ENOSPC) (same_test (length (names_in d.node.body)) (inode_at p map dir).size size)
+    ∙ sym (ap (λ (u : Node). refuse ENOSPC (nat_le entries_limit (length (names_in u.body)))) (the_node_is t dir d.node d.is_there))
+
 module _ {p : Place} {map : SectorMap} {t : Tree} (h : HoldsTree p map t) (dir : ℕ) (d : IsDirectoryAt t dir) (cred : Credential) (step : ℕ) where
   pub dir_access : IsAccessed t dir
   dir_access =
@@ -102,12 +110,6 @@ module _ {p : Place} {map : SectorMap} {t : Tree} (h : HoldsTree p map t) (dir :
   inodes_are : refuse ENOSPC (free_numbers p Inodes map == 0) ≡ inodes
   inodes_are = ap (λ (n : ℕ). refuse ENOSPC (n == 0)) (sym (free_are_clear p map t h.holds h.tree))
 
-  names_are : refuse ENOSPC (nat_le MAX_FILE_SIZE (inode_at p map dir).size) ≡ names
-  names_are =
-      let size = size_says map (inode_at p map dir) d.node.body (held_node h dir d.node d.is_there).body ∙ names_size d.node.body d.directory in
-      ap (refuse ENOSPC) (same_test (length (names_in d.node.body)) (inode_at p map dir).size size)
-      ∙ sym (ap (λ (u : Node). refuse ENOSPC (nat_le entries_limit (length (names_in u.body)))) (the_node_is t dir d.node d.is_there))
-
   module _ {A : Type 0} (x : A) (e : Refusal) (old new : DiskState) where
     pub make_denied : IsAnswered old new decision (Err e) → IsAnswered old new (refused_or (first_of (make_asked p map cred t dir step)) (Ok x)) (Err e)
     make_denied is =
@@ -132,7 +134,7 @@ module _ {p : Place} {map : SectorMap} {t : Tree} (h : HoldsTree p map t) (dir :
             next_asked allowed (sectors ∷ inodes ∷ names ∷ []) x e old new granted
             (next_asked sectors (inodes ∷ names ∷ []) x e old new enough
             (next_asked inodes (names ∷ []) x e old new some
-            (first_asked {B = Unit {0}} names [] tt x e old new (inl (ap checked (sym names_are) ∙ is)))))
+            (first_asked {B = Unit {0}} names [] tt x e old new (inl (ap checked (sym (names_are h dir d)) ∙ is)))))
 
   pub make_granted : (rule : Rule) → decision ≡ Ok rule → allowed ≡ None
   make_granted rule is =
@@ -144,7 +146,7 @@ module _ {p : Place} {map : SectorMap} {t : Tree} (h : HoldsTree p map t) (dir :
       both_met allowed (sectors ∷ inodes ∷ names ∷ []) granted
       (both_met sectors (inodes ∷ names ∷ []) enough
       (both_met inodes (names ∷ []) some
-      (or_else-none names ∙ sym names_are ∙ (met_ok {A = Unit {0}} (refuse ENOSPC (nat_le MAX_FILE_SIZE (inode_at p map dir).size)) tt tt is).0)))
+      (or_else-none names ∙ sym (names_are h dir d) ∙ (met_ok {A = Unit {0}} (refuse ENOSPC (nat_le MAX_FILE_SIZE (inode_at p map dir).size)) tt tt is).0)))
 
 module _ {p : Place} {old : TxnState} {t : Tree} (h : HoldsTree p old.sectors t) (dir : ℕ) (d : IsDirectoryAt t dir) (cred : Credential) (step : ℕ)
     {mid : TxnState} (same : IsUnchanged old mid) where

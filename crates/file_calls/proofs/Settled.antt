@@ -1,9 +1,9 @@
 -- Calls that need the table of processes alone.
 --     settled_err        a refusal, passed on
 --     with_umask, umask_absent, umask_settles        what umask answers
---     close_by, close_settles        what close answers
---     umask_performs, close_performs        each call in a transaction
-use Rattle.std.specs.Prelude.{◌≡◌, ◌≢◌, ℕ, ◌%◌, [], Option, None, Some, Result, Ok, Err, IsErr, IsErrAnd}
+--     close_by        the row of close
+--     umask_performs        umask in a transaction
+use Rattle.std.specs.Prelude.{◌≡◌, ℕ, ◌%◌, Option, None, Some, Result, Ok, Err, IsErr, IsErrAnd}
 use Rattle.std.proofs.Common.{refl, sym, ap, subst, ◌∙◌}
 use Rattle.std.specs.Ordering.{nat_cmp}
 use Rattle.fs_cred.specs.declared.errno.Errno.{Errno}
@@ -18,28 +18,26 @@ use Rattle.fs_model.specs.declared.call.Call.{Call}
 use Rattle.fs_model.specs.declared.call.Call.TheVariants.{Umask, Close}
 use Rattle.fs_model.specs.declared.event.Event.TheVariants.{Call as Calls}
 use Rattle.fs_model.specs.declared.reply.Reply.{Reply}
-use Rattle.fs_model.specs.declared.reply.Reply.TheVariants.{Done, Mask}
+use Rattle.fs_model.specs.declared.reply.Reply.TheVariants.{Mask}
 use Rattle.fs_model.specs.AttributeCalls.{umask_row}
 use Rattle.fs_model.specs.Changes.{Same, swept}
 use Rattle.fs_model.specs.DescriptorCalls.{close_row, close_effect}
-use Rattle.fs_model.specs.Limits.{root}
-use Rattle.fs_model.specs.Nodes.{Node}
-use Rattle.fs_model.specs.Processes.{Descriptor, Process, Desks, is_open}
+use Rattle.fs_model.specs.Processes.{Process, Desks, is_open}
 use Rattle.fs_model.specs.Rows.{row_of}
 use Rattle.fs_model.specs.Scenes.{Row, is_bad, nothing_asked}
 use Rattle.fs_model.specs.Stands.{HoldsAll, placed}
-use Rattle.fs_model.specs.States.{State, FitsTree}
+use Rattle.fs_model.specs.States.{State}
 use Rattle.fs_model.specs.Steps.{After, after, after_call, early_refusal, late_refusal, firm_refusal}
-use Rattle.fs_model.specs.Trees.{Tree, Room, node_at, names_of, IsTree}
+use Rattle.fs_model.specs.Trees.{Tree}
 use Rattle.fs_model.proofs.Unchanged.{open_stays}
-use Rattle.open_files.specs.Tables.{answer_of_found, answer_of, changed_where, with_changed, without_descriptor}
+use Rattle.open_files.specs.Tables.{answer_of_found, answer_of, changed_where, with_changed}
 use Rattle.path_walk.specs.Performing.{IsStateOf, IsDone, Performs, chosen}
 use Rattle.path_walk.specs.Performing as why
 use Rattle.path_walk.proofs.Calling.{early_is, late_is, after_is}
 use Rattle.path_walk.proofs.Kept.{is_err, same_map}
 use Rattle.file_calls.specs.Settling.{IsSettled, Settles}
-use Rattle.file_calls.proofs.ByDescriptor.{IsByDescriptor, IsOpened, absent_firm, open_firm, open_late, open_after, changed_there, still_open}
-use Rattle.file_calls.proofs.DescriptorRows.{bad_closed, not_bad}
+use Rattle.file_calls.proofs.ByDescriptor.{IsByDescriptor, absent_firm, changed_there, still_open}
+use Rattle.file_calls.proofs.DescriptorRows.{bad_closed}
 
 -- a refusal, passed on
 pub settled_err : {pid : ℕ} {call : Call} {before now : Desks} (r : Result Reply Refusal) (e : Refusal) → IsErr r → IsErrAnd r (λ y. y ≡ e) → now ≡ before
@@ -111,22 +109,6 @@ close_is fd = refl
 pub close_by : (fd : ℕ) → IsByDescriptor (Close fd) fd (is_bad fd) nothing_asked (close_effect fd)
 close_by fd = record { row = close_is fd; closed = bad_closed fd }
 
-pub close_settles : {desks : Desks} {pid fd : ℕ} {d : Descriptor} (now : Desks) (o : IsOpened desks pid fd d) → now ≡ with_changed desks pid (λ p. without_descriptor p fd)
-    → Settles pid (Close fd) desks now (Ok Done)
-close_settles {desks} {pid} {fd} {d} now o is = record {
-  table = tt;
-  each = λ s same.
-      let here = process_of s same pid (Some o.process) o.there in
-      record {
-        early = open_firm s pid o.process (close_by fd) here ∙ not_bad o;
-        late = open_late s pid o.process (close_by fd) here;
-        effect = open_after s pid o.process (close_by fd) here
-            ∙ ap (λ (x : Desks). record { change = Same; desks = x; reply = Done })
-            (ap (λ (x : Desks). with_entry nat_cmp x pid (without_descriptor o.process fd)) same
-            ∙ sym (changed_there desks pid o.process (λ p. without_descriptor p fd) o.there) ∙ sym is);
-      };
-}
-
 -- ---- in a transaction
 
 settled_performs : {p : Place} {pid : ℕ} {call : Call} {old new : TxnState} {before now : Desks} (result : Result Reply Refusal) → IsUnchanged old new
@@ -174,21 +156,3 @@ pub umask_performs : {p : Place} {pid mask : ℕ} {old new : TxnState} {before n
     → Settles pid (Umask mask) before now result → Performs p pid (Umask mask) old new before now result
 umask_performs {p} {pid} {mask} {old} {new} {before} {now} result same settles =
     settled_performs result same settles (λ s at reply is. umask_stays s pid mask now reply at is)
-
--- where everything but the root has a name, nothing is dropped
-named_stays : (room : Room) (t : Tree) (now : Desks) → IsTree room t
-    → ((n : ℕ) (node : Node) → node_at t n ≡ Some node → n ≢ root → names_of t n ≢ 0) → swept t now ≡ t
-named_stays room t now is named = open_stays room t [] now is nobody (λ n was. absurd (cc))
-  where
-    nobody : FitsTree t []
-    nobody = record {
-      processes = λ pid q there. absurd (cc);
-      nameless = λ n node at none other. absurd (named n node at other none);
-    }
-
-pub close_performs : {p : Place} {pid fd : ℕ} {old new : TxnState} {before now : Desks} (result : Result Reply Refusal) → IsUnchanged old new
-    → Settles pid (Close fd) before now result
-    → ((s : State) → IsStateOf p old.sectors before s → (n : ℕ) (node : Node) → node_at s.tree n ≡ Some node → n ≢ root → names_of s.tree n ≢ 0)
-    → Performs p pid (Close fd) old new before now result
-close_performs {p} {pid} {fd} {old} {new} {before} {now} result same settles named =
-    settled_performs result same settles (λ s at reply is. named_stays s.room s.tree now at.is_state.tree (named s at))

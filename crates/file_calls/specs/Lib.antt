@@ -1,4 +1,6 @@
 pub mod Changes
+pub mod Dropping
+pub mod Exiting
 pub mod Settling
 pub mod Asked
 pub mod Given

@@ -63,8 +63,8 @@ fn give_owner<S: Sectors>(
     }
 }
 
-// Whether these are bits of a mode.
-fn check_mode(mode: u16) -> Result<(), Refusal>
+/// Whether these are bits of a mode. EINVAL: there are more bits than 07777.
+pub fn check_mode(mode: u16) -> Result<(), Refusal>
     ensures { result ≡ refused_or (check_of_mode mode) (Ok tt) }
 {
     if mode > 0o7777 {

@@ -23,7 +23,7 @@ use sector_txn::Sectors;
 use std::alloc::Global;
 
 /// What a path leads to for a process.
-pub(crate) fn find<S: Sectors>(
+pub fn find<S: Sectors>(
     alloc: Global,
     s: &mut S,
     place: Place,
@@ -46,7 +46,7 @@ pub(crate) fn find<S: Sectors>(
 }
 
 /// The inode that was found, with its number. ENOENT: none was.
-pub(crate) fn inode_found<S: Sectors>(
+pub fn inode_found<S: Sectors>(
     s: &mut S,
     place: Place,
     found: &Found,

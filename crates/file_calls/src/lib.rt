@@ -2,12 +2,15 @@
 //!
 //! Each call is made in a transaction, by the process of a number, and is one step of the abstract machine: it answers the
 //! first refusal of its demands, or has its effect on tree and process. At `Err` the caller drops the transaction's changes;
-//! the processes are as they were. [`umask`] and [`close`] need the processes alone, and no transaction. ENOMEM and EIO may
-//! stand in place of any answer that comes after the checks of the arguments and of the path.
+//! the processes are as they were. [`umask`] needs the processes alone, and no transaction. ENOMEM and EIO may stand in place
+//! of any answer that comes after the checks of the arguments and of the path. So it is with [`exit`], which is no call but the
+//! end of a process.
 #![tactic(auto)]
 
 mod acls;
 mod attributes;
+mod dropping;
+mod exiting;
 mod found;
 mod listing;
 mod making;
@@ -21,8 +24,12 @@ mod transfer;
 mod writes;
 
 pub use acls::{get_acl, set_acl};
-pub use attributes::{chmod, chown};
+pub use attributes::{check_mode, chmod, chown};
+pub use dropping::{drop_node, leave};
+pub use exiting::exit;
+pub use found::{find, inode_found};
 pub use listing::readdir;
+pub use making::{check_make, check_names, default_of, inherited, new_group};
 pub use opening::open;
 pub use process::{close, umask};
 pub use rights::access;

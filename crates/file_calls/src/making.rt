@@ -1,6 +1,6 @@
 //! New files.
 
-ghost use Rattle.std.specs.Prelude.{◌≡◌, ◌/◌, ◌%◌, ◌==◌, nat_le, not, ◌||◌, if◌then◌else◌, Option, None, Ok, OnOk, IfOk, IfErr, MatchResult};
+ghost use Rattle.std.specs.Prelude.{◌≡◌, ◌/◌, ◌%◌, ◌==◌, nat_le, not, ◌||◌, if◌then◌else◌, Option, None, Ok, option_copied, OnOk, IfOk, IfErr, MatchResult};
 ghost use Rattle.posix_acl.specs.AccessList.{AccessList, minimal};
 ghost use Rattle.fs_layout.specs.declared.inode.TheConstants.{MAX_FILE_SIZE};
 ghost use Rattle.fs_layout.specs.Images.{inode_at};
@@ -35,8 +35,8 @@ const WRITE_AND_SEARCH: Perms = Perms {
     execute: true,
 };
 
-// Asks whether a directory has place for one more slot.
-fn check_names(directory: &Inode) -> Result<(), Refusal>
+/// Asks whether a directory has place for one more slot. ENOSPC: it has none.
+pub fn check_names(directory: &Inode) -> Result<(), Refusal>
     ensures { result ≡ refused_or (refuse Errno.ENOSPC (nat_le MAX_FILE_SIZE directory.now.size)) (Ok tt) }
 {
     if directory.size >= MAX_FILE_SIZE {
@@ -45,8 +45,9 @@ fn check_names(directory: &Inode) -> Result<(), Refusal>
     Ok(())
 }
 
-// Asks all that is asked of a directory before something is made in it, and answers its inode.
-fn check_make<S: Sectors>(
+/// Asks all that is asked of a directory before something is made in it, and answers its inode. ENOSPC: there is no room for its
+/// sectors, its inode or its name.
+pub fn check_make<S: Sectors>(
     alloc: Global,
     s: &mut S,
     place: Place,
@@ -90,9 +91,14 @@ fn masked(mode: u16, umask: u16) -> u16
     64 * owner.digit() + 8 * group.digit() + other.digit()
 }
 
-// What the default ACL of a directory makes of a mode, or without one the umask.
-fn inherited(alloc: Global, default: Option<Acl>, mode: u16, umask: u16) -> Result<Acl, Refusal>
-    ensures born { IfOk result (λ acl. acl ≡ born_acl default mode umask) }
+/// What the default ACL of a directory makes of a mode, or without one the umask. ENOMEM: it finds no memory.
+pub fn inherited(
+    alloc: Global,
+    default: Option<&Acl>,
+    mode: u16,
+    umask: u16,
+) -> Result<Acl, Refusal>
+    ensures born { IfOk result (λ acl. acl ≡ born_acl (option_copied default.entry) mode umask) }
     ensures memory { IfErr result (λ e. e ≡ Refusal.Failed Errno.ENOMEM) }
 {
     let made = match default {
@@ -102,6 +108,27 @@ fn inherited(alloc: Global, default: Option<Acl>, mode: u16, umask: u16) -> Resu
     match made {
         Ok(acl) => Ok(acl),
         Err(_) => Err(Refusal::Failed(Errno::ENOMEM)),
+    }
+}
+
+/// The default ACL of a directory of the table. ENOMEM: it finds no memory. EIO: the disk has failed.
+pub fn default_of<S: Sectors>(
+    alloc: Global,
+    s: &mut S,
+    place: Place,
+    directory: &Inode,
+) -> Result<Option<Acl>, Refusal>
+    requires sound { IsSound place (S.state s.old) }
+    requires there { IsInodeOf place (S.state s.old).sectors directory.now }
+    requires has { (a : Option AccessList) × HasDefaultAcl (S.state s.old).sectors directory.now a }
+    ensures found { IfOk result (λ acl. (a : Option AccessList) → HasDefaultAcl (S.state s.old).sectors directory.now a → acl ≡ a) }
+    ensures err { IfErr result (Interrupts (S.state s.old).disk (S.state s.new).disk) }
+    ensures same { IsUnchanged (S.state s.old) (S.state s.new) }
+{
+    match load_default_acl(alloc, s, place, directory) {
+        Ok(default) => Ok(default),
+        Err(LoadAclFault::OutOfMemory) => Err(Refusal::Failed(Errno::ENOMEM)),
+        Err(LoadAclFault::DiskFault) => Err(Refusal::Failed(Errno::EIO)),
     }
 }
 
@@ -122,12 +149,8 @@ fn new_acl<S: Sectors>(
     ensures err { IfErr result (Interrupts (S.state s.old).disk (S.state s.new).disk) }
     ensures same { IsUnchanged (S.state s.old) (S.state s.new) }
 {
-    let default = match load_default_acl(alloc, s, place, directory) {
-        Ok(default) => default,
-        Err(LoadAclFault::OutOfMemory) => return Err(Refusal::Failed(Errno::ENOMEM)),
-        Err(LoadAclFault::DiskFault) => return Err(Refusal::Failed(Errno::EIO)),
-    };
-    let acl = inherited(alloc, default, mode, umask)?;
+    let default = default_of(alloc, s, place, directory)?;
+    let acl = inherited(alloc, default.as_ref(), mode, umask)?;
     Ok(acl)
 }
 
@@ -167,8 +190,8 @@ fn make_file<S: Sectors>(
     }
 }
 
-// The group of what is made in a directory: the directory's where that has S_ISGID, else the caller's.
-fn new_group(directory: &Inode, cred: &Cred) -> u32
+/// The group of what is made in a directory: the directory's where that has S_ISGID, else the caller's.
+pub fn new_group(directory: &Inode, cred: &Cred) -> u32
     ensures { result ≡ (if directory.now.mode / 1024 % 2 == 1 then directory.now.gid else cred.now.gid) }
 {
     if directory.mode / 1024 % 2 == 1 {

@@ -1,11 +1,15 @@
 //! What a process changes of itself: POSIX.1-2017, umask() and close().
 
 ghost use Rattle.fs_model.specs.declared.call.Call.TheVariants.{Umask, Close};
+ghost use Rattle.path_walk.specs.Performing.{IsReady, Performs};
 ghost use Rattle.file_calls.specs.Settling.{Settles};
 
+use crate::dropping::leave;
 use fs_cred::Refusal;
+use fs_layout::Place;
 use fs_model::Reply;
 use open_files::Procs;
+use sector_txn::Sectors;
 
 /// Sets the umask of a process to the bits 0777 of `mask`, and answers the old one.
 pub fn umask(procs: &mut Procs, pid: usize, mask: u16) -> Result<Reply, Refusal>
@@ -15,13 +19,23 @@ pub fn umask(procs: &mut Procs, pid: usize, mask: u16) -> Result<Reply, Refusal>
     Ok(Reply::Mask(old))
 }
 
-/// Closes a descriptor. EBADF: it isn't open.
+/// Closes a descriptor. What it was for is freed, where nothing names it and nobody else has it open.
 ///
-/// A file without a name that nobody has open any more leaves the tree: that is up to the caller.
-pub fn close(procs: &mut Procs, pid: usize, fd: usize) -> Result<Reply, Refusal>
-    ensures { Settles pid (Close fd) procs.old procs.new result }
+/// EBADF: it isn't open.
+pub fn close<S: Sectors>(
+    s: &mut S,
+    place: Place,
+    procs: &mut Procs,
+    pid: usize,
+    fd: usize,
+) -> Result<Reply, Refusal>
+    requires ready { IsReady place (S.state s.old) procs.old }
+    ensures { Performs place pid (Close fd) (S.state s.old) (S.state s.new) procs.old procs.new result }
 {
-    procs.get(pid, fd)?;
+    let descriptor = procs.get(pid, fd)?;
+    let n = descriptor.number;
+    let stays_open = procs.is_open_besides(pid, fd, n);
+    leave(s, place, n, stays_open)?;
     procs.close(pid, fd);
     Ok(Reply::Done)
 }

@@ -7,7 +7,7 @@ use Rattle.fs_model.specs.Nodes.{Node, Body, File, Dir, Link, is_directory, is_l
 use Rattle.fs_model.specs.Trees.{Tree, Room, node_at, IsTree, IsDirectoryAt}
 use Rattle.fs_model.specs.Parts.{Parts, parts_of, start_of, is_empty}
 use Rattle.fs_model.specs.declared.walk.Form.TheVariants.{Follow}
-use Rattle.fs_model.specs.Trails.{Trail, Outcome, Faulty, Absent, Reaches, Through, GoesOn, reached, reached_body, named_inode, arrival, looked_up, onward, through_if, lookups_from, trail_with, trail_of, follows_last}
+use Rattle.fs_model.specs.Trails.{Trail, Outcome, Faulty, Absent, Reaches, Through, GoesOn, reached, reached_body, named_inode, arrival, looked_up, onward, through_if, lookups_from, trail_with, trail_of}
 
 -- no link stands at n
 abbrev pub NoLink : Tree → ℕ → Type 0

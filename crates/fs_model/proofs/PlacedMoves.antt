@@ -1,6 +1,6 @@
 -- What MoveName places, and what an image holds after it: the name is taken, given to the other directory, then a moved
 -- directory gets its parent, and what was replaced loses its name.
---     begun_held        both directories have their names
+--     begun_held, begun_here        both directories have their names: two, or one
 --     parent_held, no_parent_held        a directory gets its parent; nothing else does
 --     move_held, move_take_held, move_drop_held        nothing was replaced; what was replaced stays, or goes
 use Rattle.std.specs.Prelude.{◌≡◌, ◌≢◌, ℕ, ◌-◌, ◌<◌, ◌≤◌, ◌==◌, Bool, true, false, not, ◌||◌, List, Option, None, Some, IsTrue, IsFalse, ◌⊎◌}
@@ -15,7 +15,7 @@ use Rattle.fs_layout.specs.Images.{bit, inode_bitmap, inode_at}
 use Rattle.fs_layout.specs.Maps.{name_cmp, with_entry, without}
 use Rattle.fs_layout.proofs.NameMaps.{Names, leading, once_same, once_other, lost_of, leading_if}
 use Rattle.fs_model.specs.Limits.{root}
-use Rattle.fs_model.specs.Nodes.{Node, Body, File, Dir, Link, is_directory, names_in}
+use Rattle.fs_model.specs.Nodes.{Node, Body, File, Dir, Link, is_directory, names_in, with_names}
 use Rattle.fs_model.specs.Trees.{Tree, node_at, names_of, parent, IsUnderRoot, is_root, is_in, IsDirectoryAt}
 use Rattle.fs_model.specs.Processes.{Desks, is_open}
 use Rattle.fs_model.specs.Changes.{MoveName, changed, swept, lives_nameless}
@@ -35,6 +35,15 @@ use Rattle.fs_model.proofs.Swept.{DropsNoNames, stays}
 self_is_root : (t : Tree) {d : ℕ} → IsUnderRoot t d → (k : ℕ) → d ≡ k → parent t k ≡ k → k ≡ root
 self_is_root t is_root k e above = sym e
 self_is_root t (is_in d below) k e above = self_is_root t below k (ap (parent t) e ∙ above) above
+
+-- the names that a directory got last
+renamed_twice : (node : Node) (first then : Names) → renamed_node (renamed_node node first) then ≡ renamed_node node then
+renamed_twice node first then = ap (λ (b : Body). record node { body = b }) (go node.body)
+  where
+    go : (b : Body) → with_names then (with_names first b) ≡ with_names then b
+    go (File a bytes) = refl
+    go (Dir a d) = refl
+    go (Link target) = refl
 
 as_node : (o : Option Placed) (x y : Node) (names up : ℕ) → o ≡ Some (record { node = x; names = names; parent = up }) → x ≡ y
     → o ≡ Some (record { node = y; names = names; parent = up })
@@ -86,7 +95,7 @@ module _ (s : State) (is : IsState s) (up : IsFalse s.halted) (desks : Desks) (s
   n_not_root : n ≢ root
   n_not_root = ((were s.room s.tree s.desks dir directory name n to_dir to_directory to_name o is.tree moves).each name n moves.leads).leads.0
 
-  apart_to : n ≢ to_dir
+  pub apart_to : n ≢ to_dir
   apart_to e =
       let d : IsDirectoryAt s.tree n = record { node = to_directory; is_there = ap (node_at s.tree) e ∙ moves.to_stands; directory = moves.is_to_dir } in
       outside_differs s.tree n to_dir (moves.outside d) (sym e)
@@ -99,7 +108,7 @@ module _ (s : State) (is : IsState s) (up : IsFalse s.halted) (desks : Desks) (s
       let names : names_at s.tree dir ≡ names_in directory.body = ap names_or moves.stands in
       parent_is s.tree dir n (subst (λ q. 1 ≤ leading n q) (sym names) some) (omega (arith, one))
 
-  apart_from : n ≢ dir
+  pub apart_from : n ≢ dir
   apart_from e =
       let d : IsDirectoryAt s.tree n = record { node = directory; is_there = ap (node_at s.tree) e ∙ moves.stands; directory = moves.is_dir } in
       n_not_root (self_is_root s.tree (under_root s.room s.tree is.tree n d) n refl (parent_was d ∙ sym e))
@@ -217,10 +226,46 @@ module _ (s : State) (is : IsState s) (up : IsFalse s.halted) (desks : Desks) (s
           → HoldsAll p new begun
       begun_held new second same now = one_replaced p to_dir mid new taken taken_held to_below second _ _ middle_is now same
 
-    begun_n : begun n ≡ Some (record { node = target; names = names_of s.tree n; parent = parent s.tree n })
+    -- one directory gave up the name and got it, at once
+    pub begun_here : (old new : SectorMap) → HoldsAll p old (placed s.tree) → dir ≡ to_dir → ChangesInode p dir old new → bit new inode_bitmap dir ≡ bit old inode_bitmap dir
+        → HoldsNode new (inode_at p new dir) (record { node = renamed_node directory (with_entry name_cmp less to_name n); names = names_of s.tree dir; parent = parent s.tree dir })
+        → HoldsAll p new begun
+    begun_here old new held one changes same here =
+        same_placed p new (placing dir (Some now) (placed s.tree)) begun
+        (one_replaced p dir old new (placed s.tree) held (node_below s p is room dir directory moves.stands) changes _ now
+        (placed_from s.tree dir (Some directory) _ _ moves.stands refl refl) here same) as_one
+      where
+        now : Placed
+        now = record { node = renamed_node directory (with_entry name_cmp less to_name n); names = names_of s.tree dir; parent = parent s.tree dir }
+
+        middle_less : middle.node ≡ renamed_node directory less
+        middle_less =
+            let stands : node_at v to_dir ≡ Some (renamed_node directory less) = ap (node_at v) (sym one) ∙ at_it s.tree dir (renamed_node directory less) in
+            let also = middle.here in
+            cc
+
+        last : renamed_node middle.node more ≡ renamed_node directory (with_entry name_cmp less to_name n)
+        last =
+            let names : names_in middle.node.body ≡ less = ap (λ (q : Node). names_in q.body) middle_less ∙ names_with_names less directory.body moves.is_dir in
+            ap (λ (q : Node). renamed_node q more) middle_less ∙ renamed_twice directory less more
+            ∙ ap (λ (q : Names). renamed_node directory (with_entry name_cmp q to_name n)) names
+
+        at_one : begun to_dir ≡ Some now
+        at_one =
+            as_node (begun to_dir) (renamed_node middle.node more) (renamed_node directory (with_entry name_cmp less to_name n)) (names_of s.tree dir) (parent s.tree dir)
+            (placing_here to_dir _ taken
+            ∙ ap (λ k. Some (record { node = renamed_node middle.node more; names = names_of s.tree k; parent = parent s.tree k })) (sym one)) last
+
+        as_one : (x : ℕ) → begun x ≡ placing dir (Some now) (placed s.tree) x
+        as_one x = elim (cases_eq x dir) [
+          | inl e ↦ ap begun (e ∙ one) ∙ at_one ∙ sym (ap (placing dir (Some now) (placed s.tree)) e ∙ placing_here dir (Some now) (placed s.tree))
+          | inr ne ↦ placing_other to_dir _ taken x (λ e. ne (e ∙ sym one)) ∙ placing_other dir _ (placed s.tree) x ne ∙ sym (placing_other dir (Some now) (placed s.tree) x ne)
+        ]
+
+    pub begun_n : begun n ≡ Some (record { node = target; names = names_of s.tree n; parent = parent s.tree n })
     begun_n = placing_other to_dir _ taken n apart_to ∙ placing_other dir _ (placed s.tree) n apart_from ∙ placed_from s.tree n (Some target) _ _ at refl refl
 
-    n_below : n < p.inodes
+    pub n_below : n < p.inodes
     n_below = node_below s p is room n target at
 
     parent_then : IsTrue (is_directory target.body) → parent u n ≡ to_dir
@@ -255,21 +300,20 @@ module _ (s : State) (is : IsState s) (up : IsFalse s.halted) (desks : Desks) (s
     move_held image held none =
         moved_then image (same_placed p image arrived (placed (swept u desks)) held (λ x. as_arrived x (ap (λ q. lost_of q x) none)))
 
-    module _ (mid new : SectorMap) (held : HoldsAll p mid arrived) (m : ℕ) (led : o ≡ Some m) (replaced : Node) (at_m : node_at s.tree m ≡ Some replaced)
-        (changes : ChangesInode p m mid new) where
+    module _ (m : ℕ) (led : o ≡ Some m) (replaced : Node) (at_m : node_at s.tree m ≡ Some replaced) where
       lost_one : lost_of o m ≡ 1
       lost_one = ap (λ q. lost_of q m) led ∙ once_same m m refl
 
-      m_not_from : m ≢ dir
+      pub m_not_from : m ≢ dir
       m_not_from e = let none : lost_of o m ≡ 0 = ap (lost_of o) e ∙ dir_kept s.room s.tree s.desks dir directory name n to_dir to_directory to_name o is.tree moves o refl in let one = lost_one in omega (arith, none, one)
 
-      m_not_to : m ≢ to_dir
+      pub m_not_to : m ≢ to_dir
       m_not_to e = let none : lost_of o m ≡ 0 = ap (lost_of o) e ∙ to_dir_kept s.room s.tree s.desks dir directory name n to_dir to_directory to_name o is.tree moves o refl in let one = lost_one in omega (arith, none, one)
 
       names_less : names_of u m ≡ names_of s.tree m - 1
       names_less = let all = loses.counts m in let one = lost_one in omega (arith, all, one)
 
-      arrived_m : arrived m ≡ Some (record { node = replaced; names = names_of s.tree m; parent = parent s.tree m })
+      pub arrived_m : arrived m ≡ Some (record { node = replaced; names = names_of s.tree m; parent = parent s.tree m })
       arrived_m =
           placing_other n _ begun m (moves.other m led) ∙ placing_other to_dir _ taken m m_not_to ∙ placing_other dir _ (placed s.tree) m m_not_from
           ∙ placed_from s.tree m (Some replaced) _ _ at_m refl refl
@@ -277,31 +321,32 @@ module _ (s : State) (is : IsState s) (up : IsFalse s.halted) (desks : Desks) (s
       m_below : m < p.inodes
       m_below = node_below s p is room m replaced at_m
 
-      replaced_then : (q : Option Placed) → placed (swept u desks) m ≡ q → HoldsAll p new (placing m q arrived)
-          → HoldsAll p new (placed (swept (changed s.tree (MoveName dir name to_dir to_name)) desks))
-      replaced_then q is_q h =
-          moved_then new
-          (same_placed p new (placing m q arrived) (placed (swept u desks)) h
-          (placed_once arrived (placed (swept u desks)) m q is_q (λ x ne. as_arrived x (ap (λ z. lost_of z x) led ∙ once_other m x (λ e. ne (sym e))))))
-
       at_then : node_at u m ≡ Some replaced
       at_then = at_elsewhere m m_not_from m_not_to ∙ at_m
 
-      -- what was replaced stays
-      pub move_take_held : (not (names_of s.tree m - 1 == 0) || lives_nameless desks m replaced.body) ≡ true → bit new inode_bitmap m ≡ bit mid inode_bitmap m
-          → HoldsNode new (inode_at p new m) (record { node = replaced; names = names_of s.tree m - 1; parent = parent (changed s.tree (MoveName dir name to_dir to_name)) m })
-          → HoldsAll p new (placed (swept (changed s.tree (MoveName dir name to_dir to_name)) desks))
-      move_take_held stay same here =
-          replaced_then _
-          (placed_stays u desks loses.numbers gone m replaced at_then (ap (λ k. not (k == 0) || lives_nameless desks m replaced.body) names_less ∙ stay)
-          ∙ ap (λ k. Some (record { node = replaced; names = k; parent = parent u m })) names_less)
-          (one_replaced p m mid new arrived held m_below changes _ _ arrived_m
-          (subst (λ w. HoldsNode new (inode_at p new m) (record { node = replaced; names = names_of s.tree m - 1; parent = parent w m })) (moved_is s.room s.tree s.desks dir directory name n to_dir to_directory to_name o is.tree moves) here) same)
+      module _ (mid new : SectorMap) (held : HoldsAll p mid arrived) (changes : ChangesInode p m mid new) where
+        replaced_then : (q : Option Placed) → placed (swept u desks) m ≡ q → HoldsAll p new (placing m q arrived)
+            → HoldsAll p new (placed (swept (changed s.tree (MoveName dir name to_dir to_name)) desks))
+        replaced_then q is_q h =
+            moved_then new
+            (same_placed p new (placing m q arrived) (placed (swept u desks)) h
+            (placed_once arrived (placed (swept u desks)) m q is_q (λ x ne. as_arrived x (ap (λ z. lost_of z x) led ∙ once_other m x (λ e. ne (sym e))))))
 
-      -- it goes
-      pub move_drop_held : (not (names_of s.tree m - 1 == 0) || lives_nameless desks m replaced.body) ≡ false → bit new inode_bitmap m ≡ false
-          → inode_at p new m ≡ free_inode → HoldsAll p new (placed (swept (changed s.tree (MoveName dir name to_dir to_name)) desks))
-      move_drop_held goes clear free =
-          replaced_then None
-          (placed_goes u desks loses.numbers gone m replaced at_then (ap (λ k. not (k == 0) || lives_nameless desks m replaced.body) names_less ∙ goes))
-          (one_dropped p m mid new arrived held m_below changes (is.tree.each m replaced at_m).positive free clear)
+        -- what was replaced stays
+        pub move_take_held : (not (names_of s.tree m - 1 == 0) || lives_nameless desks m replaced.body) ≡ true → bit new inode_bitmap m ≡ bit mid inode_bitmap m
+            → HoldsNode new (inode_at p new m) (record { node = replaced; names = names_of s.tree m - 1; parent = parent (changed s.tree (MoveName dir name to_dir to_name)) m })
+            → HoldsAll p new (placed (swept (changed s.tree (MoveName dir name to_dir to_name)) desks))
+        move_take_held stay same here =
+            replaced_then _
+            (placed_stays u desks loses.numbers gone m replaced at_then (ap (λ k. not (k == 0) || lives_nameless desks m replaced.body) names_less ∙ stay)
+            ∙ ap (λ k. Some (record { node = replaced; names = k; parent = parent u m })) names_less)
+            (one_replaced p m mid new arrived held m_below changes _ _ arrived_m
+            (subst (λ w. HoldsNode new (inode_at p new m) (record { node = replaced; names = names_of s.tree m - 1; parent = parent w m })) (moved_is s.room s.tree s.desks dir directory name n to_dir to_directory to_name o is.tree moves) here) same)
+
+        -- it goes
+        pub move_drop_held : (not (names_of s.tree m - 1 == 0) || lives_nameless desks m replaced.body) ≡ false → bit new inode_bitmap m ≡ false
+            → inode_at p new m ≡ free_inode → HoldsAll p new (placed (swept (changed s.tree (MoveName dir name to_dir to_name)) desks))
+        move_drop_held goes clear free =
+            replaced_then None
+            (placed_goes u desks loses.numbers gone m replaced at_then (ap (λ k. not (k == 0) || lives_nameless desks m replaced.body) names_less ∙ goes))
+            (one_dropped p m mid new arrived held m_below changes (is.tree.each m replaced at_m).positive free clear)

@@ -23,7 +23,7 @@ pub then_met : (d e : Demand) → or_else d e ≡ None → e ≡ None
 then_met None e h = h
 then_met (Some r) e h = absurd cc
 
-all_met : (ds : List Demand) → first_of ds ≡ None → AreMet ds
+pub all_met : (ds : List Demand) → first_of ds ≡ None → AreMet ds
 all_met [] h = tt
 all_met (d ∷ ds) h = (first_met d (first_of ds) h, all_met ds (then_met d (first_of ds) h))
 

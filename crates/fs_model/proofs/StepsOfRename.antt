@@ -1,4 +1,8 @@
 -- What a rename leaves.
+--     AreNames, names_say        what it asks of both names
+--     IsRenamed, rename_asks        what it asks where the names are not of one node
+--     others, space_met, has_room, replaced_empty, replaced_unused, outside        what that says
+--     rename_leaves        what it leaves
 use Rattle.std.specs.Prelude.{◌≡◌, ◌≢◌, ℕ, ◌<◌, ◌==◌, nat_le, true, false, not, ◌&&◌, ◌||◌, [], ◌∷◌, ◌++◌, length, None, Some, is_some, unwrap_or}
 use Rattle.std.proofs.Common.{refl, sym, ap, arith, ◌∙◌, subst}
 use Rattle.std.proofs.lemmas.Bool.{or_from, or_parts}
@@ -14,7 +18,7 @@ use Rattle.fs_model.specs.Changes.{MoveName, changed}
 use Rattle.fs_model.specs.declared.walk.Form.TheVariants.{Parent}
 use Rattle.fs_model.specs.Demands.{only_if}
 use Rattle.fs_model.specs.Scenes.{Scene, is_found, is_special, number, node_found, body_found, dir_node, is_directory_found, has_names, ends_top, ends_dot, ends_dot_dot, no_blocks, no_names}
-use Rattle.fs_model.specs.RenameCall.{is_same, moves, rename_permissions, rename_kinds, rename_directories, rename_moved, rename_space, rename_demands}
+use Rattle.fs_model.specs.RenameCall.{is_same, moves, rename_name_demands, rename_permissions, rename_kinds, rename_directories, rename_moved, rename_space, rename_demands}
 use Rattle.fs_model.proofs.StepsDemands.{AreMet, unrefused, and_false, met_left, met_right}
 use Rattle.fs_layout.proofs.NameMaps.{lost_of}
 use Rattle.fs_model.proofs.StepsFit.{IsScene, node_is_there}
@@ -28,20 +32,16 @@ use Rattle.fs_model.proofs.StepsParents.{names_or, names_at}
 use Rattle.fs_model.proofs.StepsSwept.{MayBeLeft}
 use Rattle.fs_model.proofs.StepsUp.{differs, is_outside}
 
--- what a rename asks where the names are not of one node
-pub record IsRenamed (c : Scene) : Type 0 where
+-- what a rename asks of both names
+pub record AreNames (c : Scene) : Type 0 where
   pub first : is_special c.first ≡ false
   pub second : is_special c.second ≡ false
   pub found : is_found c.first ≡ true
-  pub directories : AreMet (rename_directories c)
-  pub space : AreMet (rename_space c)
 
-rename_asks : (c : Scene) → AreMet (rename_demands c) → is_same c ≡ false → IsRenamed c
-rename_asks c met same =
+pub names_say : (c : Scene) → AreMet (rename_name_demands c) → AreNames c
+names_say c met =
     let dots = unrefused EINVAL (ends_dot c.first || ends_dot_dot c.first || ends_dot c.second || ends_dot_dot c.second) met.0 in
     let tops = unrefused EBUSY (ends_top c.first || ends_top c.second) met.1.0 in
-    let rest : AreMet (rename_permissions c ++ rename_kinds c ++ rename_directories c ++ rename_moved c ++ rename_space c) =
-    subst (λ b. AreMet (only_if (not b) (rename_permissions c ++ rename_kinds c ++ rename_directories c ++ rename_moved c ++ rename_space c))) same met.1.1.1.1 in
     let last = or_parts (ends_dot c.first || ends_dot_dot c.first || ends_dot c.second) (ends_dot_dot c.second) dots in
     let third = or_parts (ends_dot c.first || ends_dot_dot c.first) (ends_dot c.second) last.0 in
     let first = or_parts (ends_dot c.first) (ends_dot_dot c.first) third.0 in
@@ -50,6 +50,25 @@ rename_asks c met same =
       first = or_from (ends_top c.first || ends_dot c.first) (ends_dot_dot c.first) (or_from (ends_top c.first) (ends_dot c.first) top.0 first.0) first.1;
       second = or_from (ends_top c.second || ends_dot c.second) (ends_dot_dot c.second) (or_from (ends_top c.second) (ends_dot c.second) top.1 third.1) last.1;
       found = is_found_if c.first met.1.1.0;
+    }
+
+-- what a rename asks where the names are not of one node
+pub record IsRenamed (c : Scene) : Type 0 where
+  pub first : is_special c.first ≡ false
+  pub second : is_special c.second ≡ false
+  pub found : is_found c.first ≡ true
+  pub directories : AreMet (rename_directories c)
+  pub space : AreMet (rename_space c)
+
+pub rename_asks : (c : Scene) → AreMet (rename_demands c) → is_same c ≡ false → IsRenamed c
+rename_asks c met same =
+    let named = names_say c (met.0, (met.1.0, (met.1.1.0, (met.1.1.1.0, tt)))) in
+    let rest : AreMet (rename_permissions c ++ rename_kinds c ++ rename_directories c ++ rename_moved c ++ rename_space c) =
+    subst (λ b. AreMet (only_if (not b) (rename_permissions c ++ rename_kinds c ++ rename_directories c ++ rename_moved c ++ rename_space c))) same met.1.1.1.1 in
+    record {
+      first = named.first;
+      second = named.second;
+      found = named.found;
       directories =
           met_right (rename_permissions c ++ rename_kinds c) (rename_directories c)
           (met_left (rename_permissions c ++ rename_kinds c ++ rename_directories c) (rename_moved c)
@@ -72,28 +91,31 @@ module _ (c : Scene) (is : IsScene c) (asks : IsRenamed c) (same : is_same c ≡
       let it : c.second.ino ≡ Some (number c.second) = found_number c.second.ino (second_found m e) in
       node_is_there c.state.tree (number c.second) (is.second (number c.second) it)
 
-  others : (m : ℕ) → c.second.ino ≡ Some m → m ≢ number c.first
+  pub others : (m : ℕ) → c.second.ino ≡ Some m → m ≢ number c.first
   others m e same_one =
       let both : (is_found c.first && is_found c.second) ≡ true = (let f = asks.found in let s = second_found m e in ap (λ b. b && is_found c.second) f ∙ s) in
       let apart : (number c.first == number c.second) ≡ false = and_false (is_found c.first && is_found c.second) (number c.first == number c.second) same both in
       differs (number c.first) (number c.second) apart (sym same_one ∙ sym (second_number m e))
 
-  has_room : c.second.ino ≡ None → c.first.dir ≢ c.second.dir → length (names_in (dir_node c c.second).body) < entries_limit
-  has_room none ne =
+  pub space_met : c.second.ino ≡ None → c.first.dir ≢ c.second.dir → AreMet (no_blocks c ∷ no_names c c.second ∷ [])
+  space_met none ne =
       let new : not (is_found c.second) ≡ true = ap (λ o. not (is_some o)) none in
       let goes : moves c ≡ true = ap not (differ c.first.dir c.second.dir ne) in
       let both : (not (is_found c.second) && moves c) ≡ true = ap (λ b. b && moves c) new ∙ goes in
-      let met : AreMet (no_blocks c ∷ no_names c c.second ∷ []) = subst (λ b. AreMet (only_if b (no_blocks c ∷ no_names c c.second ∷ []))) both asks.space in
-      let full : nat_le entries_limit (length (names_in (dir_node c c.second).body)) ≡ false = unrefused ENOSPC _ met.1.0 in
+      subst (λ b. AreMet (only_if b (no_blocks c ∷ no_names c c.second ∷ []))) both asks.space
+
+  pub has_room : c.second.ino ≡ None → c.first.dir ≢ c.second.dir → length (names_in (dir_node c c.second).body) < entries_limit
+  has_room none ne =
+      let full : nat_le entries_limit (length (names_in (dir_node c c.second).body)) ≡ false = unrefused ENOSPC _ (space_met none ne).1.0 in
       grind (arith, nat_tests)
 
-  replaced_empty : (m : ℕ) → c.second.ino ≡ Some m → names_at c.state.tree m ≡ []
+  pub replaced_empty : (m : ℕ) → c.second.ino ≡ Some m → names_at c.state.tree m ≡ []
   replaced_empty m e =
       let has : has_names c c.second ≡ false =
       and_false (is_found c.second) (has_names c c.second) (unrefused ENOTEMPTY (is_found c.second && has_names c c.second) asks.directories.1.1.0) (second_found m e) in
       ap (names_at c.state.tree) (sym (second_number m e)) ∙ ap names_or (second_at m e) ∙ empty_if (names_in (body_found c c.second)) has
 
-  replaced_unused : (m : ℕ) → c.second.ino ≡ Some m → IsDirectoryAt c.state.tree m → is_in_use c.state.desks m ≡ false
+  pub replaced_unused : (m : ℕ) → c.second.ino ≡ Some m → IsDirectoryAt c.state.tree m → is_in_use c.state.desks m ≡ false
   replaced_unused m e d =
       let at : node_at c.state.tree m ≡ Some (node_found c c.second) = ap (node_at c.state.tree) (sym (second_number m e)) ∙ second_at m e in
       let stands = d.is_there in
@@ -104,7 +126,7 @@ module _ (c : Scene) (is : IsScene c) (asks : IsRenamed c) (same : is_same c ≡
       ∙ and_false (is_directory_found c c.second) (is_in_use c.state.desks (number c.second))
       (unrefused EBUSY (is_directory_found c c.second && is_in_use c.state.desks (number c.second)) asks.directories.1.0) both
 
-  outside : IsDirectoryAt c.state.tree (number c.first) → is_within (length c.state.tree) c.state.tree (number c.first) c.second.dir ≡ false
+  pub outside : IsDirectoryAt c.state.tree (number c.first) → is_within (length c.state.tree) c.state.tree (number c.first) c.second.dir ≡ false
   outside d =
       let directory = found_directory c is asks.found d in
       let both : is_directory_found c c.first ≡ true = ap (λ b. b && is_directory (body_found c c.first)) asks.found ∙ directory in

@@ -2,7 +2,7 @@
 -- Permission was asked at open(); here it is asked what the descriptor was opened for.
 --     read_row, write_row, lseek_row, close_row, fstat_row, ftruncate_row, readdir_row        each call
 --     shown        what is shown of a node
-use Rattle.std.specs.Prelude.{ℕ, ◌+◌, ◌-◌, ◌^◌, nat_lt, nat_le, min, not, List, [], ◌∷◌, ◌++◌, length, take, drop, replicate, if◌then◌else◌, Option, None, Some, is_some, unwrap_or, ℤ, pos, negsuc, ◌+ℤ◌}
+use Rattle.std.specs.Prelude.{ℕ, ◌+◌, ◌-◌, ◌^◌, nat_lt, nat_le, min, not, List, [], ◌∷◌, length, take, drop, if◌then◌else◌, Option, None, Some, is_some, unwrap_or, ℤ, pos, negsuc, ◌+ℤ◌}
 use Rattle.std.specs.Ordering.{nat_cmp}
 use Rattle.fs_layout.specs.Bytes.{resized, overwritten}
 use Rattle.fs_cred.specs.declared.errno.Errno.TheVariants.{ENOTDIR, EISDIR, EINVAL, EFBIG}

@@ -142,6 +142,23 @@ with_a_list : line_value (codes "1 setacl / access u::rw-,g::r--,o::---")
 unfolding line_value words_value word_bytes number_of acl_type_of digits
 with_a_list = refl
 
+directory_made : line_value (codes "1 mkdir /w 1777") ≡ Ok (asked (Call 1 (calls.Mkdir (codes "/w") 1023)))
+unfolding line_value words_value word_bytes number_of mode_of digits
+directory_made = refl
+
+-- the target of a link comes before its path
+link_made : line_value (codes "1 symlink t /l") ≡ Ok (asked (Call 1 (calls.Symlink (codes "t") (codes "/l"))))
+unfolding line_value words_value word_bytes number_of digits
+link_made = refl
+
+named_again : line_value (codes "1 link /w /m") ≡ Ok (asked (Call 1 (calls.Link (codes "/w") (codes "/m"))))
+unfolding line_value words_value word_bytes number_of digits
+named_again = refl
+
+link_read : line_value (codes "1 readlink /l") ≡ Ok (asked (Call 1 (calls.Readlink (codes "/l"))))
+unfolding line_value words_value word_bytes number_of digits
+link_read = refl
+
 escaped : line_value (92 ∷ codes "31 stat " ++ 34 ∷ 34 ∷ []) ≡ Ok (asked (Call 1 (calls.Stat [])))
 unfolding line_value words_value word_bytes number_of digits
 escaped = refl
@@ -215,10 +232,6 @@ too_large = refl
 too_many_groups : line_value (codes "spawn 0 0 1,2,3,4,5,6,7,8,9,10,11,12,13,14,15,16,17") ≡ Err BadNumber
 unfolding line_value words_value word_bytes number_of groups_of digits
 too_many_groups = refl
-
-no_such_command_yet : line_value (codes "1 mkdir /w 1777") ≡ Err UnknownCommand
-unfolding line_value words_value word_bytes number_of digits
-no_such_command_yet = refl
 
 behind_a_pid : line_value (codes "1 sync") ≡ Err UnknownCommand
 unfolding line_value words_value word_bytes number_of digits

@@ -20,11 +20,13 @@ use Rattle.fs_model.specs.declared.call.Whence.{Whence}
 use Rattle.fs_model.specs.declared.event.Event.{Event}
 use Rattle.fs_model.specs.declared.event.Event.TheVariants as events
 use Rattle.fs_shell.specs.declared.command.Command.{Command}
-use Rattle.fs_shell.specs.declared.command.Command.TheVariants.{Spawn, Sync, Statfs, Exit, Umask, OnPath, OnDescriptor}
+use Rattle.fs_shell.specs.declared.command.Command.TheVariants.{Spawn, Sync, Statfs, Exit, Umask, OnPath, OnDescriptor, OnName}
 use Rattle.fs_shell.specs.declared.command.PathCommand.{PathCommand}
 use Rattle.fs_shell.specs.declared.command.PathCommand.TheVariants.{Open, Stat, Lstat, Access, Truncate, Chmod, Chown, GetAcl, SetAcl}
 use Rattle.fs_shell.specs.declared.command.DescriptorCommand.{DescriptorCommand}
 use Rattle.fs_shell.specs.declared.command.DescriptorCommand.TheVariants.{Read, Write, Lseek, Close, Fstat, Fsync, Ftruncate, Readdir}
+use Rattle.fs_shell.specs.declared.command.NameCommand.{NameCommand}
+use Rattle.fs_shell.specs.declared.command.NameCommand.TheVariants.{Mkdir, Rmdir, Link, Symlink, Readlink, Unlink, Rename, Chdir}
 use Rattle.fs_shell.specs.declared.line.Line.{Line}
 use Rattle.fs_shell.specs.declared.line.Line.TheVariants.{Blank, Event as Asks}
 use Rattle.fs_shell.specs.declared.line.LineFault.{LineFault}
@@ -124,6 +126,16 @@ descriptor_row Fsync = behind_pid (codes "fsync") (number then no_more) (λ pid 
 descriptor_row Ftruncate = behind_pid (codes "ftruncate") (number then number then no_more) (λ pid fd size. events.Call pid (calls.Ftruncate fd size))
 descriptor_row Readdir = behind_pid (codes "readdir") (number then no_more) (λ pid fd. events.Call pid (calls.Readdir fd))
 
+abbrev pub name_row : NameCommand → CommandRow
+name_row Mkdir = behind_pid (codes "mkdir") (bytes then mode then no_more) (λ pid path perm. events.Call pid (calls.Mkdir path perm))
+name_row Rmdir = behind_pid (codes "rmdir") (bytes then no_more) (λ pid path. events.Call pid (calls.Rmdir path))
+name_row Link = behind_pid (codes "link") (bytes then bytes then no_more) (λ pid old new. events.Call pid (calls.Link old new))
+name_row Symlink = behind_pid (codes "symlink") (bytes then bytes then no_more) (λ pid target path. events.Call pid (calls.Symlink target path))
+name_row Readlink = behind_pid (codes "readlink") (bytes then no_more) (λ pid path. events.Call pid (calls.Readlink path))
+name_row Unlink = behind_pid (codes "unlink") (bytes then no_more) (λ pid path. events.Call pid (calls.Unlink path))
+name_row Rename = behind_pid (codes "rename") (bytes then bytes then no_more) (λ pid old new. events.Call pid (calls.Rename old new))
+name_row Chdir = behind_pid (codes "chdir") (bytes then no_more) (λ pid path. events.Call pid (calls.Chdir path))
+
 -- The table.
 abbrev pub command_row : Command → CommandRow
 command_row Spawn = alone (codes "spawn") (id then id then groups or []) (λ uid gid supplementary. credential_event uid gid supplementary)
@@ -133,13 +145,15 @@ command_row Exit = behind_pid (codes "exit") no_more (λ pid. events.Exit pid)
 command_row Umask = behind_pid (codes "umask") (mode then no_more) (λ pid mask. events.Call pid (calls.Umask mask))
 command_row (OnPath command) = path_row command
 command_row (OnDescriptor command) = descriptor_row command
+command_row (OnName command) = name_row command
 
 abbrev pub commands : List Command
 commands =
     Spawn ∷ Sync ∷ Statfs ∷ Exit ∷ Umask
     ∷ OnPath Open ∷ OnPath Stat ∷ OnPath Lstat ∷ OnPath Access ∷ OnPath Truncate ∷ OnPath Chmod ∷ OnPath Chown ∷ OnPath GetAcl ∷ OnPath SetAcl
     ∷ OnDescriptor Read ∷ OnDescriptor Write ∷ OnDescriptor Lseek ∷ OnDescriptor Close ∷ OnDescriptor Fstat ∷ OnDescriptor Fsync
-    ∷ OnDescriptor Ftruncate ∷ OnDescriptor Readdir ∷ []
+    ∷ OnDescriptor Ftruncate ∷ OnDescriptor Readdir
+    ∷ OnName Mkdir ∷ OnName Rmdir ∷ OnName Link ∷ OnName Symlink ∷ OnName Readlink ∷ OnName Unlink ∷ OnName Rename ∷ OnName Chdir ∷ []
 
 abbrev pub name_of : CommandRow → List ℕ
 name_of (alone name _ _) = name

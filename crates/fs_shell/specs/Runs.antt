@@ -2,7 +2,7 @@
 --     Gives, GivesSaid        what reading comes to
 --     GivesAcl, GivesAclBy        the same of an ACL
 --     IsRow        a row as it is in the program
---     is_offered, IsOffered        a line asks for no event but those that are served
+--     is_offered, IsOffered        a line asks for no event of the disk's
 --     answer_text, answers_text, count_faults        what is written for answers
 --     LineAnswers, ScriptAnswers        one line, and all lines of a script
 --     Ran        a run of a script
@@ -11,7 +11,7 @@ use Rattle.std.specs.List.{flat_map}
 use Rattle.std.specs.Io.KnownBytes.{Appends}
 use Rattle.posix_acl.specs.AccessList.{AccessList}
 use Rattle.fs_model.specs.declared.event.Event.{Event}
-use Rattle.fs_model.specs.declared.event.Event.TheVariants.{Call as CallEvent, Arm, Restart}
+use Rattle.fs_model.specs.declared.event.Event.TheVariants.{Arm, Restart}
 use Rattle.fs_model.specs.declared.reply.Reply.{Reply as ReplyType}
 use Rattle.fs_shell.specs.declared.answer.Answer.{Answer}
 use Rattle.fs_shell.specs.declared.answer.Answer.TheVariants.{Nothing, Reply, Fault}
@@ -26,7 +26,6 @@ use Rattle.fs_shell.specs.declared.line.LineFault.TheVariants.{OutOfMemory}
 use Rattle.fs_shell.specs.Lines.{lines_of}
 use Rattle.fs_shell.specs.Commands.{Said, IsSaid, LineSays, CommandRow, name_of, has_pid, words_behind, fewest_words, most_words, acl_said_at, acl_said_by, has_words}
 use Rattle.fs_shell.specs.Scripts.{script_limit, IsOver}
-use Rattle.fs_system.specs.Serving.{is_served}
 use Rattle.fs_shell.specs.Texts.{reply_text, fault_text}
 
 -- What reading comes to, seen by view, is what is said, unless memory ran out.
@@ -45,9 +44,8 @@ GivesAcl read words n = (says : Option AccessList → Event) → GivesSaid (λ a
 abbrev pub GivesAclBy : Result (Option AccessList) LineFault → List ℕ → Type 0
 GivesAclBy read word = (says : Option AccessList → Event) → GivesSaid (λ acl. Asks (says acl)) read (acl_said_by says word)
 
--- It is none of the disk's, and no call but those that are served.
+-- it is none of the disk's
 abbrev pub is_offered : Event → Bool
-is_offered (CallEvent pid call) = is_served call
 is_offered (Arm writes) = false
 is_offered (Restart kept writes) = false
 is_offered _ = true

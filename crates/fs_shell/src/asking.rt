@@ -1,12 +1,12 @@
 //! What the words of a line ask for.
 ghost use Rattle.std.specs.Prelude.{◌≡◌, map, IfOk, MatchResult, IsTrue};
 ghost use Rattle.fs_shell.specs.declared.command.Command.TheVariants.{Spawn};
-ghost use Rattle.fs_shell.specs.Commands.{begins_with_digit, command_row, path_row, descriptor_row, row_says, read_pid, words_value, words_behind_pid, read_command, asked};
+ghost use Rattle.fs_shell.specs.Commands.{begins_with_digit, command_row, path_row, descriptor_row, name_row, row_says, read_pid, words_value, words_behind_pid, read_command, asked};
 ghost use Rattle.fs_shell.specs.declared.line.Line.TheVariants.{Event as Asks};
 ghost use Rattle.fs_shell.specs.declared.line.LineFault.TheVariants.{OutOfMemory};
 ghost use Rattle.fs_shell.specs.Runs.{Gives, GivesSaid, is_offered};
 
-use crate::command::{Command, DescriptorCommand, PathCommand};
+use crate::command::{Command, DescriptorCommand, NameCommand, PathCommand};
 use crate::forms::read_number;
 use crate::line::LineFault;
 use crate::operand::{
@@ -99,6 +99,7 @@ fn read_words(
         Command::Umask => Ok(Event::Call(pid, Call::Umask(mode_at(words, 0)?))),
         Command::OnPath(command) => read_path_words(alloc, command, pid, words),
         Command::OnDescriptor(command) => read_descriptor_words(alloc, command, pid, words),
+        Command::OnName(command) => read_name_words(alloc, command, pid, words),
     }
 }
 
@@ -204,5 +205,41 @@ fn read_descriptor_words(
             Ok(Event::Call(pid, Call::Ftruncate(fd, size)))
         }
         DescriptorCommand::Readdir => Ok(Event::Call(pid, Call::Readdir(fd))),
+    }
+}
+
+// A command on names.
+fn read_name_words(
+    alloc: Global,
+    command: NameCommand,
+    pid: usize,
+    words: &[Vec<u8>],
+) -> Result<Event, LineFault>
+    ensures said { Gives asked result (row_says (name_row command) pid (map (λ word. word.items) words.now)) }
+    ensures offered { IfOk result (λ e. IsTrue (is_offered e)) }
+{
+    let first = bytes_at(alloc, words, 0)?;
+    match command {
+        NameCommand::Mkdir => {
+            let mode = mode_at(words, 1)?;
+            Ok(Event::Call(pid, Call::Mkdir(first, mode)))
+        }
+        NameCommand::Rmdir => Ok(Event::Call(pid, Call::Rmdir(first))),
+        NameCommand::Link => {
+            let new = bytes_at(alloc, words, 1)?;
+            Ok(Event::Call(pid, Call::Link { old: first, new }))
+        }
+        NameCommand::Symlink => {
+            let path = bytes_at(alloc, words, 1)?;
+            let target = first;
+            Ok(Event::Call(pid, Call::Symlink { target, path }))
+        }
+        NameCommand::Readlink => Ok(Event::Call(pid, Call::Readlink(first))),
+        NameCommand::Unlink => Ok(Event::Call(pid, Call::Unlink(first))),
+        NameCommand::Rename => {
+            let new = bytes_at(alloc, words, 1)?;
+            Ok(Event::Call(pid, Call::Rename { old: first, new }))
+        }
+        NameCommand::Chdir => Ok(Event::Call(pid, Call::Chdir(first))),
     }
 }

@@ -12,6 +12,8 @@ pub enum Command {
     OnPath(PathCommand),
     /// Its first word is a descriptor.
     OnDescriptor(DescriptorCommand),
+    /// It is on names: its first word is a path too, or what a link is to lead to.
+    OnName(NameCommand),
 }
 
 /// A command whose first word is a path.
@@ -41,7 +43,20 @@ pub enum DescriptorCommand {
     Readdir,
 }
 
-const COMMANDS: [Command; 22] = [
+/// A command on names.
+#[derive(Clone, Copy)]
+pub enum NameCommand {
+    Mkdir,
+    Rmdir,
+    Link,
+    Symlink,
+    Readlink,
+    Unlink,
+    Rename,
+    Chdir,
+}
+
+const COMMANDS: [Command; 30] = [
     Command::Spawn,
     Command::Sync,
     Command::Statfs,
@@ -64,6 +79,14 @@ const COMMANDS: [Command; 22] = [
     Command::OnDescriptor(DescriptorCommand::Fsync),
     Command::OnDescriptor(DescriptorCommand::Ftruncate),
     Command::OnDescriptor(DescriptorCommand::Readdir),
+    Command::OnName(NameCommand::Mkdir),
+    Command::OnName(NameCommand::Rmdir),
+    Command::OnName(NameCommand::Link),
+    Command::OnName(NameCommand::Symlink),
+    Command::OnName(NameCommand::Readlink),
+    Command::OnName(NameCommand::Unlink),
+    Command::OnName(NameCommand::Rename),
+    Command::OnName(NameCommand::Chdir),
 ];
 
 /// A row of the table.
@@ -148,6 +171,7 @@ impl Command {
             Command::Umask => Row::behind_pid("umask", 1, 1),
             Command::OnPath(command) => command.row(),
             Command::OnDescriptor(command) => command.row(),
+            Command::OnName(command) => command.row(),
         }
     }
 }
@@ -189,6 +213,26 @@ impl DescriptorCommand {
             DescriptorCommand::Fsync => Row::behind_pid("fsync", 1, 1),
             DescriptorCommand::Ftruncate => Row::behind_pid("ftruncate", 2, 2),
             DescriptorCommand::Readdir => Row::behind_pid("readdir", 1, 1),
+        }
+    }
+}
+
+impl NameCommand {
+    ghost use Rattle.fs_shell.specs.Commands.{name_row};
+    ghost use Rattle.fs_shell.specs.Runs.{IsRow};
+
+    fn row(self) -> Row
+        ensures { IsRow (name_row self) result }
+    {
+        match self {
+            NameCommand::Mkdir => Row::behind_pid("mkdir", 2, 2),
+            NameCommand::Rmdir => Row::behind_pid("rmdir", 1, 1),
+            NameCommand::Link => Row::behind_pid("link", 2, 2),
+            NameCommand::Symlink => Row::behind_pid("symlink", 2, 2),
+            NameCommand::Readlink => Row::behind_pid("readlink", 1, 1),
+            NameCommand::Unlink => Row::behind_pid("unlink", 1, 1),
+            NameCommand::Rename => Row::behind_pid("rename", 2, 2),
+            NameCommand::Chdir => Row::behind_pid("chdir", 1, 1),
         }
     }
 }

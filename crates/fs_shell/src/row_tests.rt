@@ -4,12 +4,15 @@
 ghost use Rattle.std.specs.Prelude.{IfOk};
 ghost use Rattle.fs_system.specs.Mounting.{MayBeMounted};
 
-use crate::row_data::{BEFORE, CHANGING, HALTED, LOOK, LOOKING, PRELUDE, ROWS, WRITTEN};
+use crate::row_data::{
+    CHANGING, DEEP, DEEPEST, HALTED, LONG, LOOK, LOOKING, LOOP, PRELUDE, ROWS, USER_ROWS, USERS,
+    WRITTEN,
+};
 use crate::run;
 use crate::text_tests::push_other;
 use fs_model::{Bytes, Call, Reply};
-use fs_system::{Fs, a_new_disk_is_mountable, mkfs};
-use sector_disk::{CrashDisk, Disk, FailOnce, MemDisk};
+use fs_system::{Fs, mkfs};
+use sector_disk::{CrashDisk, Disk, FailOnce, FuseDisk, MemDisk};
 use std::alloc::{AllocError, Global};
 use std::test::Fail;
 
@@ -20,7 +23,6 @@ fn made<D: Disk + Drop>(mut disk: D) -> Result<D, Fail>
     ensures { IfOk result (λ disk. MayBeMounted (D.state disk)) }
 {
     mkfs(&mut disk, 64)?;
-    a_new_disk_is_mountable::<D>();
     Ok(disk)
 }
 
@@ -53,11 +55,53 @@ fn stopped<D: CrashDisk>(mut disk: D, choice: &[u8]) -> D
 
 // ---- rows
 
+// How many rows a row makes, and what stands in them.
+fn repeated(row: &str) -> Option<(u32, &str)> {
+    let (count, pattern) = row.split_once("* ")?;
+    match count.parse::<u32>() {
+        Ok(count) => Some((count, pattern)),
+        Err(_) => None,
+    }
+}
+
+// Adds a pattern with this number, and the next one, in it.
+fn push_numbered(text: &mut String, pattern: &str, number: u32) -> Result<(), AllocError> {
+    let next = u64::from(number) + 1;
+    for letter in pattern.chars() {
+        match letter {
+            '#' => write!(text, "{number}")?,
+            '+' => write!(text, "{next}")?,
+            _ => text.push(letter)?,
+        }
+    }
+    text.push('\n')
+}
+
+fn push_repeated(text: &mut String, pattern: &str, count: u32) -> Result<(), AllocError> {
+    for number in 1..=count {
+        push_numbered(text, pattern, number)?;
+    }
+    Ok(())
+}
+
+// The rows, each as often as it is made.
+fn expanded(alloc: Global, rows: &str) -> Result<String, AllocError> {
+    let mut text = String::new(alloc);
+    for row in rows.split_terminator('\n') {
+        match repeated(row) {
+            Some((count, pattern)) => push_repeated(&mut text, pattern, count)?,
+            None => writeln!(text, "{row}")?,
+        }
+    }
+    Ok(text)
+}
+
 // The lines of rows, and the replies that are wanted.
 fn split_rows(alloc: Global, rows: &str) -> Result<(String, String), AllocError> {
     let mut lines = String::new(alloc);
     let mut replies = String::new(alloc);
-    for row in rows.split_terminator('\n') {
+    let rows = expanded(alloc, rows)?;
+    for row in rows.as_str().split_terminator('\n') {
         match row.split_once(" -> ") {
             Some((line, reply)) => {
                 writeln!(lines, "{line}")?;
@@ -79,18 +123,42 @@ fn replies<D: Disk + Drop>(alloc: Global, fs: &mut Fs<D>, script: &str) -> Resul
     }
 }
 
-// Adds where an empty file system on the disk answers rows in another way than they say.
+// Adds where a file system answers rows in another way than they say.
 fn expect_rows<D: Disk + Drop>(
     alloc: Global,
     report: &mut String,
-    disk: D,
+    fs: &mut Fs<D>,
     rows: &str,
 ) -> Result<(), Fail> {
     let (script, wanted) = split_rows(alloc, rows)?;
-    let mut fs = mounted(alloc, made(disk)?)?;
-    let seen = replies(alloc, &mut fs, script.as_str())?;
+    let seen = replies(alloc, fs, script.as_str())?;
     push_other(report, seen.as_str(), wanted.as_str())?;
     Ok(())
+}
+
+// The same of an empty file system, with rows before them.
+fn expect_rows_after(
+    alloc: Global,
+    report: &mut String,
+    before: &str,
+    rows: &str,
+) -> Result<(), Fail> {
+    let mut fs = mounted(alloc, made(MemDisk::new(alloc, 1024)?)?)?;
+    expect_rows(alloc, report, &mut fs, before)?;
+    expect_rows(alloc, report, &mut fs, rows)
+}
+
+// The rows with long paths.
+fn long_rows(alloc: Global) -> Result<String, AllocError> {
+    let mut rows = String::new(alloc);
+    for (start, piece, count, end) in LONG {
+        write!(rows, "{start}")?;
+        for _ in 0..count {
+            write!(rows, "{piece}")?;
+        }
+        write!(rows, "{end}")?;
+    }
+    Ok(rows)
 }
 
 #[test]
@@ -98,19 +166,89 @@ fn rows_get_their_replies(rt: HostRuntime) -> Result<(), Fail> {
     let alloc = rt.alloc();
     let mut report = String::new(alloc);
     for rows in ROWS {
-        expect_rows(alloc, &mut report, MemDisk::new(alloc, 1024)?, rows)?;
+        expect_rows_after(alloc, &mut report, "", rows)?;
     }
+    for rows in USER_ROWS {
+        expect_rows_after(alloc, &mut report, USERS, rows)?;
+    }
+    let rows = long_rows(alloc)?;
+    expect_rows_after(alloc, &mut report, LOOP, rows.as_str())?;
     assert!(rt; report.is_empty(), "{report}");
     Ok(())
 }
-
-// ---- faults
 
 // Whether a file system gives the replies that the rows say.
 fn answers<D: Disk + Drop>(alloc: Global, fs: &mut Fs<D>, rows: &str) -> Result<bool, Fail> {
     let (script, wanted) = split_rows(alloc, rows)?;
     let seen = replies(alloc, fs, script.as_str())?;
     Ok(seen.as_str() == wanted.as_str())
+}
+
+// ---- how much a walk reads
+
+// The two reads and the sync of a mount, and its read of each inode but the root.
+const MOUNT: u64 = 65;
+
+// Reads the inode of what was found.
+const STAT: u64 = 1;
+
+// Whether a file system gives these replies where so many calls of its disk pass from its mount on.
+fn answers_within(alloc: Global, disk: MemDisk, calls: u64, rows: &str) -> Result<bool, Fail>
+    requires { MayBeMounted (⟦<MemDisk as Disk>⟧.state disk) }
+{
+    let mut fs = mounted(alloc, FuseDisk::new(disk, calls))?;
+    answers(alloc, &mut fs, rows)
+}
+
+// Whether the last of the directories is found then.
+fn deepest_is_found(alloc: Global, calls: u64) -> Result<bool, Fail> {
+    let mut fs = mounted(alloc, made(MemDisk::new(alloc, 1024)?)?)?;
+    if !answers(alloc, &mut fs, DEEP)? {
+        return Err(Fail::new("not made"));
+    }
+    let (disk, _) = fs.unmount();
+    answers_within(alloc, disk, calls, DEEPEST)
+}
+
+#[test]
+fn a_walk_reads_each_sector_once(rt: HostRuntime) -> Result<(), Fail> {
+    let alloc = rt.alloc();
+    // Seven inodes, and the ACLs of the five directories in which a name is looked up. Four names fill a sector: 1 + 25 +
+    // 140 + 1 + 1 + 1 of them, and a sector of pointers in the two large directories.
+    let walk = 7 + 5 + 169 + 2;
+    let seen = (
+        deepest_is_found(alloc, MOUNT + walk)?,
+        deepest_is_found(alloc, MOUNT + walk + STAT)?,
+    );
+    assert!(rt; seen == (false, true), "{seen:?}");
+    Ok(())
+}
+
+// ---- faults
+
+// The lines that look, and what they show after these rows show something else.
+fn looked(alloc: Global, after: &str) -> Result<(String, String), AllocError> {
+    let mut lines = String::new(alloc);
+    let mut seen = String::new(alloc);
+    for row in LOOK.split_terminator('\n') {
+        let Some((line, before)) = row.split_once(" -> ") else {
+            continue;
+        };
+        writeln!(lines, "{line}")?;
+        writeln!(seen, "{}", reply_to(after, line).unwrap_or(before))?;
+    }
+    Ok((lines, seen))
+}
+
+// The reply that rows say to this line.
+fn reply_to<'a>(rows: &'a str, line: &str) -> Option<&'a str> {
+    for row in rows.split_terminator('\n') {
+        match row.split_once(" -> ") {
+            Some((said, reply)) if said == line => return Some(reply),
+            _ => {}
+        }
+    }
+    None
 }
 
 // What a line comes to where one call of the disk fails.
@@ -150,21 +288,22 @@ fn fate_of<D: Disk + Drop>(alloc: Global, disk: D, row: &str) -> Result<Fate, Fa
     if reply.as_str() == wanted.as_str() {
         return Ok(Fate::Done);
     }
-    let seen = replies(alloc, &mut fs, LOOK)?;
+    let (look, before) = looked(alloc, "")?;
+    let seen = replies(alloc, &mut fs, look.as_str())?;
     let answers = answers(alloc, &mut fs, row)?;
     let fails = reply.as_str() == "error EIO 5\n";
     Ok(match seen.as_str() {
-        BEFORE if fails && answers => Fate::Unread,
+        text if fails && answers && text == before.as_str() => Fate::Unread,
         HALTED if fails && !answers => Fate::Halted,
         _ => Fate::Other,
     })
 }
 
-// The first call of the disk after those of mkfs and mount.
-const FIRST_CALL: u64 = 27;
+// A call of the disk by the last line of the prelude.
+const FIRST_CALL: u64 = 260;
 
-// The fates of a line where each call of the disk fails in turn, until none does; those that are the same as the one before
-// are left out.
+// The fates of a line where each call of the disk fails in turn, from the prelude's last line on until none does; those that
+// are the same as the one before are left out.
 fn push_fates(alloc: Global, seen: &mut String, row: &str) -> Result<(), Fail> {
     let mut last = None;
     for call in FIRST_CALL..FIRST_CALL + 500 {
@@ -201,7 +340,7 @@ fn each_fault_is_eio(rt: HostRuntime) -> Result<(), Fail> {
 
 // ---- stops
 
-// A line with its reply, or a write of 4,096 bytes at the file's end. Whether it is done.
+// A line with its reply, or a write of 4,096 bytes. Whether it is done.
 fn does<D: Disk + Drop>(alloc: Global, fs: &mut Fs<D>, row: Option<&str>) -> Result<bool, Fail> {
     if let Some(row) = row {
         return answers(alloc, fs, row);
@@ -231,17 +370,22 @@ fn found<D: CrashDisk + Drop>(
     let (disk, _) = fs.unmount();
     let mut fs = mounted(alloc, stopped(disk, choice))?;
     let there = answers(alloc, &mut fs, "spawn 0 0 -> pid 1\n")?;
-    let seen = replies(alloc, &mut fs, LOOK)?;
+    let (look, before) = looked(alloc, "")?;
+    let (_, after) = looked(alloc, after)?;
+    let seen = replies(alloc, &mut fs, look.as_str())?;
     let letter = match seen.as_str() {
-        BEFORE if there && !done => 'b',
-        text if there && text == after => 'a',
+        text if there && !done && text == before.as_str() => 'b',
+        text if there && text == after.as_str() => 'a',
         _ => '?',
     };
     Ok((letter, done))
 }
 
-// What is found where the disk stops after each of its writes and syncs in turn, until the line is done; what is the same as
-// the one before is left out.
+// So many writes and syncs let the mount pass, and the prelude but for its last line.
+const FIRST_PASSES: u64 = 104;
+
+// What is found where the disk stops after each of its writes and syncs in turn, from the prelude's last line on until the line
+// is done; what is the same as the one before is left out.
 fn push_found(
     alloc: Global,
     seen: &mut String,
@@ -250,7 +394,7 @@ fn push_found(
     after: &str,
 ) -> Result<(), Fail> {
     let mut last = ' ';
-    for passes in 1..500 {
+    for passes in FIRST_PASSES..FIRST_PASSES + 500 {
         let disk = armed(made(MemDisk::new(alloc, 1024)?)?, passes);
         let (letter, done) = found(alloc, disk, choice, row, after)?;
         if letter != last {

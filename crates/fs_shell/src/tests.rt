@@ -177,7 +177,7 @@ fn push_run_again<D: Disk + Drop>(
 }
 
 // The disk's calls by mkfs and mount. The call after these is the first that a script makes.
-const FIRST_CALL: u64 = 28;
+const FIRST_CALL: u64 = 90;
 
 const NONE_FAILS: u64 = u64::MAX;
 

@@ -1,24 +1,26 @@
 -- Steps of the machine for events that change no node.
-use Rattle.std.proofs.Common.{◌≡◌, ℕ, ◌<◌, ◌≤◌, [], length, true, false, None, Some, IsTrue, refl, sym, ap, subst, ◌∙◌, arith, inl, nat_le}
+use Rattle.std.proofs.Common.{◌≡◌, ℕ, ◌<◌, ◌≤◌, length, true, false, None, Some, IsTrue, refl, sym, ap, subst, ◌∙◌, arith, inl, nat_le}
 use Rattle.std.specs.Prelude.{IsFalse, is_some}
 use Rattle.std.proofs.lemmas.Bool.Decides.{nat_tests}
 use Rattle.std.specs.Ordering.{nat_cmp}
 use Rattle.fs_cred.specs.declared.errno.Errno.TheVariants.{ESRCH, EBADF, EIO, ENOMEM, EAGAIN}
 use Rattle.fs_cred.specs.declared.refusal.Refusal.TheVariants.{Failed}
 use Rattle.fs_cred.specs.Credentials.{Credential}
-use Rattle.fs_layout.specs.Maps.{get, with_entry, without}
+use Rattle.fs_layout.specs.Maps.{get, with_entry}
 use Rattle.fs_model.specs.declared.reply.Reply.{Reply}
 use Rattle.fs_model.specs.declared.reply.Reply.TheVariants.{Done, Pid, Space, Refused}
 use Rattle.fs_model.specs.declared.event.Event.{Event}
 use Rattle.fs_model.specs.declared.event.Event.TheVariants.{Call as Calls, Spawn, Exit, Fsync, Sync, Statfs, Arm, Restart}
 use Rattle.fs_model.specs.Trees.{Tree, free_inodes}
-use Rattle.fs_model.specs.Processes.{Process, Desks, new_process, descriptor}
+use Rattle.fs_model.specs.Processes.{Process, Desks, new_process, descriptor, is_open}
 use Rattle.fs_model.specs.Changes.{Same, swept}
-use Rattle.fs_model.specs.States.{State, IsState, FitsTree, MayBeFree}
+use Rattle.fs_model.specs.States.{State, IsState, MayBeFree}
 use Rattle.fs_model.specs.Steps.{Step, Choice, After, HasNewNumber, HasNewPid, Acts, is_of_machine, firm_refusal, other_refusal, after, tree_after}
 use Rattle.fs_model.specs.Steps as step
 use Rattle.fs_model.specs.Stops.{asks_stable}
 use Rattle.fs_model.proofs.Unchanged.{open_stays}
+use Rattle.open_files.proofs.Slots.{absent, any_with_entry}
+use Rattle.file_calls.proofs.ByDescriptor.{has_open}
 
 -- ---- a machine that is halted
 
@@ -27,19 +29,23 @@ halted_answers s e machine halted = (machine, step.is_halted halted refl refl)
 
 -- ---- where nothing refuses, and no node changes
 
-module _ (s : State) (is : IsState s) (up : IsFalse s.halted) (all : FitsTree s.tree []) where
-  -- each node has a name, so that none is dropped
-  pub none_dropped : (desks : Desks) → swept s.tree desks ≡ s.tree
-  none_dropped desks = open_stays s.room s.tree [] desks is.tree all (λ n opened. absurd cc)
+-- what was open is still open
+abbrev pub StaysOpen : Desks → Desks → Type 0
+StaysOpen old new = (n : ℕ) → IsTrue (is_open old n) → IsTrue (is_open new n)
+
+module _ (s : State) (is : IsState s) (up : IsFalse s.halted) where
+  -- what has no name is open, so that none is dropped
+  none_dropped : (desks : Desks) → StaysOpen s.desks desks → swept s.tree desks ≡ s.tree
+  none_dropped desks still = open_stays s.room s.tree s.desks desks is.tree (is.desks up) still
 
   abbrev pub choice_of : ℕ → Choice
   choice_of pid = record { number = 0; pid = pid; free = s.free }
 
-  module _ (e : Event) (pid : ℕ) (reply : Reply) (desks : Desks) (machine : IsTrue (is_of_machine e)) (firm : firm_refusal s e ≡ None)
-      (other : other_refusal s e ≡ None)
+  module _ (e : Event) (pid : ℕ) (reply : Reply) (desks : Desks) (still : StaysOpen s.desks desks) (machine : IsTrue (is_of_machine e))
+      (firm : firm_refusal s e ≡ None) (other : other_refusal s e ≡ None)
       (does : after s e (record { number = 0; pid = pid; free = s.free }) ≡ record { change = Same; desks = desks; reply = reply }) (new : HasNewPid s e pid) where
     same_tree : tree_after s (after s e (choice_of pid)) ≡ s.tree
-    same_tree = ap (tree_after s) does ∙ none_dropped desks
+    same_tree = ap (tree_after s) does ∙ none_dropped desks still
 
     acting : Acts s e (choice_of pid)
     acting = record {
@@ -82,10 +88,17 @@ module _ (s : State) (up : IsFalse s.halted) (cred : Credential) where
   unfolding after
   spawn_after pid = refl
 
-  pub spawns : (is : IsState s) (all : FitsTree s.tree []) (pid : ℕ) → get nat_cmp s.desks pid ≡ None → length s.desks < 64
+  -- a new process has nothing open
+  spawn_stays : IsState s → (pid : ℕ) → get nat_cmp s.desks pid ≡ None → StaysOpen s.desks (with_entry nat_cmp s.desks pid (new_process cred))
+  spawn_stays is pid new n was =
+      any_with_entry (has_open n) s.desks pid (new_process cred) is.pids
+      ∙ sym (ap (λ (d : Desks). is_open d n) (absent s.desks pid is.pids new)) ∙ was
+
+  pub spawns : (is : IsState s) (pid : ℕ) → get nat_cmp s.desks pid ≡ None → length s.desks < 64
       → Step s (Spawn cred) (Pid pid) (record s { desks = with_entry nat_cmp s.desks pid (new_process cred) })
-  spawns is all pid new few =
-      acts_alone s is up all (Spawn cred) pid (Pid pid) (with_entry nat_cmp s.desks pid (new_process cred)) refl (spawn_firm few) spawn_other (spawn_after pid) new
+  spawns is pid new few =
+      acts_alone s is up (Spawn cred) pid (Pid pid) (with_entry nat_cmp s.desks pid (new_process cred)) (spawn_stays is pid new) refl
+      (spawn_firm few) spawn_other (spawn_after pid) new
 
   full : 64 ≤ length s.desks → firm_refusal s (Spawn cred) ≡ Some (Failed EAGAIN)
   unfolding firm_refusal
@@ -96,32 +109,6 @@ module _ (s : State) (up : IsFalse s.halted) (cred : Credential) where
 
   pub spawn_unmade : length s.desks < 64 → Step s (Spawn cred) (Refused (Failed ENOMEM)) s
   spawn_unmade few = (refl, step.lacks_memory up (spawn_firm few) refl refl refl)
-
--- ---- exit
-
-module _ (s : State) (up : IsFalse s.halted) (pid : ℕ) where
-  exit_firm : (p : Process) → get nat_cmp s.desks pid ≡ Some p → firm_refusal s (Exit pid) ≡ None
-  unfolding firm_refusal
-  exit_firm p there = rw there refl
-
-  exit_other : other_refusal s (Exit pid) ≡ None
-  unfolding other_refusal
-  exit_other = refl
-
-  exit_after : after s (Exit pid) (record { number = 0; pid = 0; free = s.free }) ≡ record { change = Same; desks = without nat_cmp s.desks pid; reply = Done }
-  unfolding after
-  exit_after = refl
-
-  pub exits : (is : IsState s) (all : FitsTree s.tree []) (p : Process) → get nat_cmp s.desks pid ≡ Some p
-      → Step s (Exit pid) Done (record s { desks = without nat_cmp s.desks pid })
-  exits is all p there = acts_alone s is up all (Exit pid) 0 Done (without nat_cmp s.desks pid) refl (exit_firm p there) exit_other exit_after tt
-
-  gone : get nat_cmp s.desks pid ≡ None → firm_refusal s (Exit pid) ≡ Some (Failed ESRCH)
-  unfolding firm_refusal
-  gone none = rw none refl
-
-  pub exit_absent : get nat_cmp s.desks pid ≡ None → Step s (Exit pid) (Refused (Failed ESRCH)) s
-  exit_absent none = (refl, step.refuses_early up (Failed ESRCH) (gone none) refl refl)
 
 -- ---- sync and fsync
 
@@ -168,12 +155,12 @@ module _ (s : State) where
   flush_pid (Arm k) asks = absurd cc
   flush_pid (Restart bytes arm) asks = absurd cc
 
-  module _ (is : IsState s) (up : IsFalse s.halted) (all : FitsTree s.tree []) (e : Event) (asks : IsTrue (asks_stable e)) (firm : firm_refusal s e ≡ None) where
+  module _ (is : IsState s) (up : IsFalse s.halted) (e : Event) (asks : IsTrue (asks_stable e)) (firm : firm_refusal s e ≡ None) where
     pub flushes : Step s e Done s
-    flushes = acts_alone s is up all e 0 Done s.desks (flush_machine e asks) firm (flush_other e asks) (flush_after e asks) (flush_pid e asks)
+    flushes = acts_alone s is up e 0 Done s.desks (λ n still. still) (flush_machine e asks) firm (flush_other e asks) (flush_after e asks) (flush_pid e asks)
 
     pub flush_halts : Step s e (Refused (Failed EIO)) (record s { halted = true })
-    flush_halts = halts_alone s is up all e 0 Done s.desks (flush_machine e asks) firm (flush_other e asks) (flush_after e asks) (flush_pid e asks)
+    flush_halts = halts_alone s is up e 0 Done s.desks (λ n still. still) (flush_machine e asks) firm (flush_other e asks) (flush_after e asks) (flush_pid e asks)
 
   pub sync_firm : firm_refusal s Sync ≡ None
   unfolding firm_refusal
@@ -215,8 +202,9 @@ module _ (s : State) (up : IsFalse s.halted) where
   unfolding after
   space_after = refl
 
-  pub tells_space : (is : IsState s) (all : FitsTree s.tree []) → Step s Statfs (Space s.free (free_inodes s.room s.tree)) s
-  tells_space is all = acts_alone s is up all Statfs 0 (Space s.free (free_inodes s.room s.tree)) s.desks refl space_firm space_other space_after tt
+  pub tells_space : IsState s → Step s Statfs (Space s.free (free_inodes s.room s.tree)) s
+  tells_space is =
+      acts_alone s is up Statfs 0 (Space s.free (free_inodes s.room s.tree)) s.desks (λ n still. still) refl space_firm space_other space_after tt
 
   pub space_unread : Step s Statfs (Refused (Failed EIO)) s
   space_unread = (refl, step.read_fails up space_firm refl refl)

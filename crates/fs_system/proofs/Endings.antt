@@ -1,38 +1,48 @@
--- What a call that was performed is to the machine: one step.
-use Rattle.std.proofs.Common.{◌≡◌, ℕ, [], true, false, Option, None, Some, IsTrue, refl, sym, ap, subst, ◌∙◌, inr}
-use Rattle.std.specs.Prelude.{IsFalse}
+-- What an event that was performed in a transaction is to the machine: one step.
+--     IsPerformed        nothing refuses the event, and the map holds the tree after it
+--     call_performed, exit_performed        a call, and the end of a process
+--     done_state        the state after it
+--     done_steps, done_halts        it is a step, also where the commit fails
+--     refused_steps, exit_refused_steps        so is a refusal
+use Rattle.std.proofs.Common.{◌≡◌, ℕ, true, false, Option, None, Some, IsTrue, refl, sym, ap, subst, ◌∙◌, arith, inr}
+use Rattle.std.specs.Prelude.{IsFalse, ◌&&◌}
 use Rattle.std.specs.Ordering.{nat_cmp}
 use Rattle.sector_disk.specs.Disk.{DiskState, HasFailed}
-use Rattle.fs_cred.specs.declared.errno.Errno.TheVariants.{EIO}
+use Rattle.fs_cred.specs.declared.errno.Errno.{Errno}
+use Rattle.fs_cred.specs.declared.errno.Errno.TheVariants.{EIO, ESRCH}
 use Rattle.fs_cred.specs.declared.refusal.Refusal.{Refusal}
 use Rattle.fs_cred.specs.declared.refusal.Refusal.TheVariants.{Failed}
 use Rattle.fs_layout.specs.declared.place.Place.{Place}
 use Rattle.fs_layout.specs.Bytes.{SectorMap}
 use Rattle.fs_layout.specs.Images.{free_sectors}
+use Rattle.fs_layout.specs.Maps.{get, without}
 use Rattle.fs_model.specs.declared.call.Call.{Call}
 use Rattle.fs_model.specs.declared.reply.Reply.{Reply}
-use Rattle.fs_model.specs.declared.reply.Reply.TheVariants.{Refused}
-use Rattle.fs_model.specs.declared.event.Event.TheVariants.{Call as Calls}
-use Rattle.fs_layout.specs.Maps.{get}
+use Rattle.fs_model.specs.declared.reply.Reply.TheVariants.{Done, Refused}
+use Rattle.fs_model.specs.declared.event.Event.{Event}
+use Rattle.fs_model.specs.declared.event.Event.TheVariants.{Call as Calls, Exit}
 use Rattle.fs_model.specs.Trees.{Tree, Room, IsTree}
 use Rattle.fs_model.specs.Processes.{Process, Desks}
-use Rattle.fs_model.specs.Changes.{changed, swept}
-use Rattle.fs_model.specs.States.{State, MayBeFree, FitsTree}
+use Rattle.fs_model.specs.Changes.{Change, Same, changed, swept}
+use Rattle.fs_model.specs.States.{State, MayBeFree}
+use Rattle.fs_model.specs.Stands.{HoldsAll, placed}
 use Rattle.fs_model.specs.Ranges.{IsCall}
 use Rattle.fs_model.specs.Rows.{row_of}
-use Rattle.fs_model.specs.Steps.{Step, Choice, After, Acts, IsAllowed, HasNewNumber, early_refusal, late_refusal, demand_of, after_call, firm_refusal, other_refusal, after, tree_after}
+use Rattle.fs_model.specs.Steps.{Step, Choice, After, Acts, HasNewNumber, HasNewPid, early_refusal, late_refusal, demand_of, after_call, firm_refusal, other_refusal, after, tree_after, is_of_machine}
 use Rattle.fs_model.specs.Steps as step
-use Rattle.fs_model.specs.Stops.{Halts, is_io_error}
+use Rattle.fs_model.specs.Stops.{Halts, asks_stable, makes_stable, is_ok, is_io_error}
 use Rattle.fs_model.proofs.NoIoReplies.{event_answers, firm_spares_reply, other_spares_reply}
 use Rattle.fs_model.proofs.StepsOfCalls.{process_leaves}
-use Rattle.fs_model.proofs.StepsSwept.{MayBeLeft, left_is_state}
+use Rattle.fs_model.proofs.StepsProcesses.{without-IsMap, in_without, length-without}
+use Rattle.fs_model.proofs.StepsSwept.{MayBeLeft, left_is_state, tree_may_be_left}
 use Rattle.fs_model.proofs.Swept.{swept_is_tree}
 use Rattle.fs_model.proofs.Taken.{count_may_be_free}
-use Rattle.fs_system.proofs.Joining.{HoldsCounted}
-use Rattle.fs_system.specs.Serving.{is_served}
-use Rattle.fs_system.proofs.Named.{Named, fits_named, named_fits, swept_named, names_stay}
 use Rattle.path_walk.specs.Performing.{IsStateOf, IsDone, IsRefused, chosen}
 use Rattle.path_walk.specs.Performing as why
+use Rattle.file_calls.specs.Exiting.{IsExited, IsNotExited}
+use Rattle.file_calls.specs.Exiting as ending
+use Rattle.file_calls.proofs.Endings.{exit_after}
+use Rattle.fs_system.proofs.Joining.{HoldsCounted}
 
 -- ---- a call in a state
 
@@ -50,7 +60,7 @@ module _ (s : State) (pid : ℕ) (q : Process) (call : Call) (there : get nat_cm
   after_is choice = rw there refl
 
 -- a call that nothing refuses early has its process
-pub has_process : (s : State) (pid : ℕ) (call : Call) → firm_refusal s (Calls pid call) ≡ None → (q : Process) × (get nat_cmp s.desks pid ≡ Some q)
+has_process : (s : State) (pid : ℕ) (call : Call) → firm_refusal s (Calls pid call) ≡ None → (q : Process) × (get nat_cmp s.desks pid ≡ Some q)
 unfolding firm_refusal
 has_process s pid call firm = go (get nat_cmp s.desks pid) refl firm
   where
@@ -61,49 +71,90 @@ has_process s pid call firm = go (get nat_cmp s.desks pid) refl firm
 
 -- ---- where nothing refused it
 
-module _ (p : Place) (map : SectorMap) (before now : Desks) (old_map : SectorMap) (s : State) (pid : ℕ) (call : Call) (reply : Reply)
-    (at : IsStateOf p old_map before s) (all : FitsTree s.tree []) (is_call : IsCall call) (served : IsTrue (is_served call))
-    (d : IsDone p map now s pid call reply) where
-  there : get nat_cmp s.desks pid ≡ Some (has_process s pid call d.early).0
-  there = (has_process s pid call d.early).1
+-- Nothing refuses the event, which makes nothing stable. It gives this reply and leaves these processes, and the map holds the
+-- tree after it.
+pub record IsPerformed (p : Place) (map : SectorMap) (now : Desks) (s : State) (e : Event) (reply : Reply) : Type 0 where
+  pub machine : IsTrue (is_of_machine e)
+  pub unstable : IsFalse (asks_stable e)
+  pub early : firm_refusal s e ≡ None
+  pub late : other_refusal s e ≡ None
+  pub number : ℕ
+  pub change : Change
+  pub effect : (free : ℕ) → after s e (chosen number free) ≡ record { change = change; desks = now; reply = reply }
+  pub new_number : HasNewNumber s change
+  pub new_pid : HasNewPid s e 0
+  pub left : MayBeLeft s.room (changed s.tree change) now
+  pub holds : HoldsAll p map (placed (swept (changed s.tree change) now))
 
+pub call_performed : {p : Place} {map old_map : SectorMap} {now before : Desks} {s : State} {pid : ℕ} {call : Call} {reply : Reply}
+    → IsStateOf p old_map before s → IsCall call → IsDone p map now s pid call reply → IsPerformed p map now s (Calls pid call) reply
+call_performed {p} {map} {old_map} {now} {before} {s} {pid} {call} {reply} at is_call d = record {
+  machine = refl;
+  unstable = refl;
+  early = d.early;
+  late = d.late;
+  number = d.number;
+  change = d.change;
+  effect = λ free. after_is s pid q call there (chosen d.number free) ∙ by_row;
+  new_number = d.new_number;
+  new_pid = tt;
+  left = subst (λ (a : After). MayBeLeft s.room (changed s.tree a.change) a.desks) by_row
+      (process_leaves s pid q call d.number at.is_state at.up there is_call (sym (early_is s pid q call there) ∙ d.early)
+      (sym (late_is s pid q call there) ∙ d.late) (subst (λ (a : After). HasNewNumber s a.change) (sym by_row) d.new_number));
+  holds = d.holds;
+}
+  where
+    q : Process
+    q = (has_process s pid call d.early).0
+
+    there : get nat_cmp s.desks pid ≡ Some q
+    there = (has_process s pid call d.early).1
+
+    by_row : after_call s pid (row_of call) d.number (Some q) ≡ record { change = d.change; desks = now; reply = reply }
+    by_row = sym (after_is s pid q call there (chosen d.number 0)) ∙ d.effect
+
+pub exit_performed : {p : Place} {map old_map : SectorMap} {now before : Desks} {s : State} {pid : ℕ}
+    → IsStateOf p old_map before s → IsExited p map now s pid → IsPerformed p map now s (Exit pid) Done
+exit_performed {p} {map} {old_map} {now} {before} {s} {pid} at d = record {
+  machine = refl;
+  unstable = refl;
+  early = d.early;
+  late = d.late;
+  number = 0;
+  change = Same;
+  effect = λ free. exit_after s pid free ∙ ap (λ (x : Desks). record { change = Same; desks = x; reply = Done }) is_now;
+  new_number = tt;
+  new_pid = tt;
+  left = subst (λ (x : Desks). MayBeLeft s.room s.tree x) is_now
+      (tree_may_be_left s.room s.tree (without nat_cmp s.desks pid) at.is_state.tree (without-IsMap s.desks pid at.is_state.pids)
+      (let less = length-without s.desks pid in let few = at.is_state.few in omega (arith, less, few))
+      (λ k q here. (at.is_state.desks at.up).processes k q (in_without s.desks pid k q at.is_state.pids here)));
+  holds = d.holds;
+}
+  where
+    is_now : without nat_cmp s.desks pid ≡ now
+    is_now = ap (λ (a : After). a.desks) (sym (exit_after s pid 0) ∙ d.effect)
+
+module _ {p : Place} {map old_map : SectorMap} {now before : Desks} {s : State} {e : Event} {reply : Reply}
+    (at : IsStateOf p old_map before s) (d : IsPerformed p map now s e reply) where
   abbrev pub done_state : State
   done_state = record s { tree = swept (changed s.tree d.change) now; desks = now; free = free_sectors p map }
 
-  effect_is : (free : ℕ) → after s (Calls pid call) (chosen d.number free) ≡ record { change = d.change; desks = now; reply = reply }
-  effect_is free = after_is s pid (has_process s pid call d.early).0 call there (chosen d.number free) ∙ sym (after_is s pid (has_process s pid call d.early).0 call there (chosen d.number 0)) ∙ d.effect
-
-  by_row : record { change = d.change; desks = now; reply = reply } ≡ after_call s pid (row_of call) d.number (Some (has_process s pid call d.early).0)
-  by_row = sym d.effect ∙ after_is s pid (has_process s pid call d.early).0 call there (chosen d.number 0)
-
-  left : MayBeLeft s.room (changed s.tree d.change) now
-  left =
-      subst (λ (a : After). MayBeLeft s.room (changed s.tree a.change) a.desks) (sym by_row)
-      (process_leaves s pid (has_process s pid call d.early).0 call d.number at.is_state at.up there is_call
-      (sym (early_is s pid (has_process s pid call d.early).0 call there) ∙ d.early) (sym (late_is s pid (has_process s pid call d.early).0 call there) ∙ d.late)
-      (subst (λ (a : After). HasNewNumber s a.change) by_row d.new_number))
-
-  pub done_named : FitsTree (swept (changed s.tree d.change) now) []
-  done_named =
-      named_fits (swept (changed s.tree d.change) now)
-      (swept_named s.room (changed s.tree d.change) now left
-      (subst (λ (a : After). Named (changed s.tree a.change)) (sym by_row)
-      (names_stay s pid (has_process s pid call d.early).0 call d.number at.is_state at.up there is_call served
-      (sym (early_is s pid (has_process s pid call d.early).0 call there) ∙ d.early) (sym (late_is s pid (has_process s pid call d.early).0 call there) ∙ d.late)
-      (subst (λ (a : After). HasNewNumber s a.change) by_row d.new_number) (fits_named s.tree all))))
-
   pub done_no_fault : is_io_error reply ≡ false
-  done_no_fault = ap (λ (a : After). is_io_error a.reply) (sym d.effect) ∙ event_answers s (Calls pid call) (chosen d.number 0)
+  done_no_fault = ap (λ (a : After). is_io_error a.reply) (sym (d.effect 0)) ∙ event_answers s e (chosen d.number 0)
+
+  pub done_unstable : (r : Reply) → makes_stable e r ≡ false
+  done_unstable r = ap (λ b. b && is_ok r) d.unstable
 
   tree_is : IsTree s.room (swept (changed s.tree d.change) now)
-  tree_is = swept_is_tree s.room (changed s.tree d.change) now left.tree
+  tree_is = swept_is_tree s.room (changed s.tree d.change) now d.left.tree
 
   may_be_free : MayBeFree s.room (swept (changed s.tree d.change) now) (free_sectors p map)
   may_be_free = count_may_be_free p map s.room (swept (changed s.tree d.change) now) (ap (λ (r : Room). r.sectors) at.same_room) tree_is d.holds
 
   pub done_state_of : IsStateOf p map now done_state
   done_state_of = record {
-    is_state = left_is_state s (changed s.tree d.change) now (free_sectors p map) at.is_state.room left may_be_free;
+    is_state = left_is_state s (changed s.tree d.change) now (free_sectors p map) at.is_state.room d.left may_be_free;
     up = at.up;
     same_desks = refl;
     same_room = at.same_room;
@@ -111,40 +162,37 @@ module _ (p : Place) (map : SectorMap) (before now : Desks) (old_map : SectorMap
     free_is = refl;
   }
 
-  abbrev pub done_choice : Choice
-  done_choice = chosen d.number (free_sectors p map)
+  pub done_tree : tree_after s (after s e (chosen d.number (free_sectors p map))) ≡ swept (changed s.tree d.change) now
+  done_tree = ap (tree_after s) (d.effect (free_sectors p map))
 
-  pub done_tree : tree_after s (after s (Calls pid call) (chosen d.number (free_sectors p map))) ≡ swept (changed s.tree d.change) now
-  done_tree = ap (tree_after s) (effect_is (free_sectors p map))
-
-  pub done_acts : Acts s (Calls pid call) (chosen d.number (free_sectors p map))
+  done_acts : Acts s e (chosen d.number (free_sectors p map))
   done_acts = record {
     running = at.up;
     early = d.early;
     late = d.late;
     allowed = record {
-      number = subst (λ (a : After). HasNewNumber s a.change) (sym (effect_is (free_sectors p map))) d.new_number;
-      pid = tt;
+      number = subst (λ (a : After). HasNewNumber s a.change) (sym (d.effect (free_sectors p map))) d.new_number;
+      pid = d.new_pid;
       free = subst (λ (t : Tree). MayBeFree s.room t (free_sectors p map)) (sym done_tree) may_be_free;
     };
   }
 
-  pub done_steps : Step s (Calls pid call) reply done_state
+  pub done_steps : Step s e reply done_state
   done_steps = (
-    refl,
-    step.acts (chosen d.number (free_sectors p map)) done_acts (sym (ap (λ (a : After). a.reply) (effect_is (free_sectors p map))))
-        (sym (ap (λ (a : After). record s { tree = tree_after s a; desks = a.desks; free = free_sectors p map }) (effect_is (free_sectors p map)))),
+    d.machine,
+    step.acts (chosen d.number (free_sectors p map)) done_acts (sym (ap (λ (a : After). a.reply) (d.effect (free_sectors p map))))
+        (sym (ap (λ (a : After). record s { tree = tree_after s a; desks = a.desks; free = free_sectors p map }) (d.effect (free_sectors p map)))),
   )
 
   -- the commit fails, and what would have been may be found
-  pub done_halts : Step s (Calls pid call) (Refused (Failed EIO)) (record s { desks = now; halted = true })
+  pub done_halts : Step s e (Refused (Failed EIO)) (record s { desks = now; halted = true })
   done_halts = (
-    refl,
+    d.machine,
     step.write_fails (chosen d.number (free_sectors p map)) done_acts refl now
-        (inr (sym (ap (λ (a : After). a.desks) (effect_is (free_sectors p map))))) refl,
+        (inr (sym (ap (λ (a : After). a.desks) (d.effect (free_sectors p map))))) refl,
   )
 
-  pub halts : Halts s (Calls pid call) (record s { desks = now; halted = true }) (chosen d.number (free_sectors p map))
+  pub halts : Halts s e (record s { desks = now; halted = true }) (chosen d.number (free_sectors p map))
   halts = record { halted = refl; acts = done_acts }
 
   pub done_holds : HoldsCounted p map (swept (changed s.tree d.change) now) (free_sectors p map)
@@ -166,3 +214,27 @@ why_failed old new s pid call r (why.early is) io = absurd (let c = sym (firm_sp
 why_failed old new s pid call r (why.late none is) io = absurd (let c = sym (other_spares_reply s (Calls pid call) r is) ∙ io in cc)
 why_failed old new s pid call r (why.lacks_memory none asks is) io = absurd (let c : is_io_error (Refused r) ≡ false = ap (λ q. is_io_error (Refused q)) is in cc)
 why_failed old new s pid call r (why.read_fails none failed is) io = failed
+
+-- so it is with the end of a process
+pub exit_refused_steps : (old new : DiskState) (s : State) (pid : ℕ) (r : Refusal) → IsFalse s.halted → IsNotExited old new s pid r
+    → Step s (Exit pid) (Refused r) s
+exit_refused_steps old new s pid r up (ending.absent is) = (refl, step.refuses_early up r is refl refl)
+exit_refused_steps old new s pid r up (ending.read_fails none failed is) = (refl, step.read_fails up none (ap (λ q. Refused q) is) refl)
+
+pub why_exit_failed : (old new : DiskState) (s : State) (pid : ℕ) (r : Refusal) → IsNotExited old new s pid r → IsTrue (is_io_error (Refused r))
+    → HasFailed old new
+why_exit_failed old new s pid r (ending.absent is) io = absurd (let c = sym (firm_spares_reply s (Exit pid) r is) ∙ io in cc)
+why_exit_failed old new s pid r (ending.read_fails none failed is) io = failed
+
+absent_is : (s : State) (pid : ℕ) (r : Refusal) → firm_refusal s (Exit pid) ≡ Some r → Failed ESRCH ≡ r
+unfolding firm_refusal
+absent_is s pid r is = go (get nat_cmp s.desks pid) is
+  where
+    go : (o : Option Process) → demand_of (λ q. None) o ≡ Some r → Failed ESRCH ≡ r
+    go None e = cc
+    go (Some q) e = absurd cc
+
+-- the end of a process is never denied
+pub exit_errno : (old new : DiskState) (s : State) (pid : ℕ) (r : Refusal) → IsNotExited old new s pid r → (errno : Errno) × (r ≡ Failed errno)
+exit_errno old new s pid r (ending.absent is) = (ESRCH, sym (absent_is s pid r is))
+exit_errno old new s pid r (ending.read_fails none failed is) = (EIO, is)

@@ -1,9 +1,9 @@
 -- What an event comes to: a state, and what was done to the disk.
-use Rattle.std.proofs.Common.{◌≡◌, ◌≤◌, ℕ, [], Bool, true, false, None, IsTrue, refl, sym, ap, subst, ◌∙◌, arith, inl, inr}
+use Rattle.std.proofs.Common.{◌≡◌, ◌≤◌, ℕ, Bool, true, false, None, IsTrue, refl, sym, ap, subst, ◌∙◌, arith, inl, inr}
 use Rattle.std.specs.Prelude.{IsFalse, ◌&&◌, not, count_by}
 use Rattle.std.specs.List.{range_with_len}
 use Rattle.sector_disk.specs.Disk.{DiskState, Image, IsImage, IsSame, LeavesOnly, OnlyReads, HasFailed, HasFailedToWrite}
-use Rattle.sector_disk.proofs.Moments.{holds_now, narrowed, reads_nothing}
+use Rattle.sector_disk.proofs.Moments.{holds_now, reads_nothing}
 use Rattle.fs_layout.specs.declared.place.Place.{Place}
 use Rattle.fs_layout.specs.Bytes.{SectorMap}
 use Rattle.fs_layout.specs.Images.{bit, inode_bitmap, free_sectors}
@@ -18,14 +18,14 @@ use Rattle.fs_model.specs.declared.event.Event.TheVariants.{Statfs}
 use Rattle.fs_model.specs.Trees.{Tree, Room, IsTree, free_inodes}
 use Rattle.fs_model.proofs.FreeInodes.{free_are_clear}
 use Rattle.fs_model.specs.Processes.{Desks}
-use Rattle.fs_model.specs.States.{State, IsState, FitsTree}
+use Rattle.fs_model.specs.States.{State, IsState}
 use Rattle.fs_model.specs.Steps.{Step, is_of_machine, firm_refusal}
 use Rattle.fs_model.specs.Stops.{asks_stable, makes_stable, is_io_error}
 use Rattle.path_walk.specs.Performing.{IsStateOf}
 use Rattle.fs_system.specs.Doing.{Does, IsFound}
 use Rattle.fs_system.specs.Layouts.{IsDiskOf}
-use Rattle.fs_system.specs.Mounting.{StandsWithNames, MayBeMounted}
-use Rattle.fs_system.specs.Seen.{EachStandsFor, IsRunning}
+use Rattle.fs_system.specs.Mounting.{MayBeMounted}
+use Rattle.fs_system.specs.Seen.{StandsForSome, EachStandsFor, IsRunning}
 use Rattle.fs_system.proofs.Acting.{halted_answers, flushes, flush_halts, tells_space, space_unread}
 use Rattle.fs_system.proofs.Joining.{HoldsCounted, holds_same, disk_same, leaves_found, each_stands}
 
@@ -34,19 +34,19 @@ use Rattle.fs_system.proofs.Joining.{HoldsCounted, holds_same, disk_same, leaves
 pub found_before : (old : DiskState) (s : State) (added : Tree) (image : Image) → IsImage old image → IsFound old s added image
 found_before old s added image is = inl (image, is, λ room t free stands. stands)
 
--- what was found stands for a tree in which each file has a name
-named_found : (old : DiskState) (s : State) (added : Tree) → MayBeMounted old → (IsFalse s.halted → FitsTree s.tree []) → FitsTree added []
-    → (image : Image) → IsFound old s added image → StandsWithNames image
-named_found old s added may now then image (inl (from, is, stand)) =
+-- what was found stands for some tree
+found_stands : (old : DiskState) (s : State) (added : Tree) → MayBeMounted old → (image : Image) → IsFound old s added image → StandsForSome image
+found_stands old s added may image (inl (from, is, stand)) =
     let was = may from is in
-    (was.0, was.1, was.2, stand was.0 was.1 was.2 was.3, was.4)
-named_found old s added may now then image (inr (inl (up, (free, stands)))) = (s.room, s.tree, free, stands, now up)
-named_found old s added may now then image (inr (inr (free, stands))) = (s.room, added, free, stands, then)
+    (was.0, was.1, was.2, stand was.0 was.1 was.2 was.3)
+found_stands old s added may image (inr (inl (up, (free, stands)))) = (s.room, s.tree, free, stands)
+found_stands old s added may image (inr (inr (free, stands))) = (s.room, added, free, stands)
 
+-- so that what is left may be mounted
 pub mountable_then : (old new : DiskState) (s : State) (added : Tree)
     → ((t : ℕ) (image : Image) → t ≤ new.moment → IsImage new image → new.left_since t image)
-    → MayBeMounted old → (IsFalse s.halted → FitsTree s.tree []) → FitsTree added [] → LeavesOnly old new (IsFound old s added) → MayBeMounted new
-mountable_then old new s added counts_now may now then run = λ image is. named_found old s added may now then image (holds_now run counts_now is)
+    → MayBeMounted old → LeavesOnly old new (IsFound old s added) → MayBeMounted new
+mountable_then old new s added counts_now may run = λ image is. found_stands old s added may image (holds_now run counts_now is)
 
 -- ---- where the disk is only read
 
@@ -72,9 +72,6 @@ module _ (old new : DiskState) (only_now : (image : Image) → old.left_since ol
     later = reads.failures;
     still = λ halted. absurd (let c = sym up ∙ halted in cc);
   }
-
-pub mountable_read : (old new : DiskState) → OnlyReads old new → MayBeMounted old → MayBeMounted new
-mountable_read old new reads may = λ image is. may image (narrowed reads.narrowed is)
 
 -- ---- where the disk isn't called
 
@@ -125,7 +122,6 @@ running_same size size' p old new desks desks' s sized same tabled r =
         holds = held.holds;
         free_is = held.free_is;
       };
-      no_nameless = r.no_nameless;
     }
 
 -- the same tree with other processes
@@ -141,7 +137,6 @@ running_with size p map desks desks' s is r = record {
     holds = r.state_of.holds;
     free_is = r.state_of.free_is;
   };
-  no_nameless = r.no_nameless;
 }
 
 -- ---- what a flush leaves may be mounted
@@ -150,7 +145,7 @@ pub flush_mountable : (old new : DiskState) (p : Place) (map : SectorMap) (desks
     → LeavesOldOr map old new → ((t : ℕ) (image : Image) → t ≤ new.moment → IsImage new image → new.left_since t image) → MayBeMounted old → MayBeMounted new
 flush_mountable old new p map desks s r run counts_now may =
     let held = tree_held p map desks s r.state_of in
-    mountable_then old new s s.tree counts_now may (λ up. r.no_nameless) r.no_nameless
+    mountable_then old new s s.tree counts_now may
     (leaves_found p map map s s.tree s.free old new r.state_of.same_room r.state_of.up r.disk_is held r.disk_is held run)
 
 -- ---- sync and fsync, from a store whose map is `map` on the disk `old`
@@ -164,7 +159,7 @@ module _ (old new : DiskState) (p : Place) (map : SectorMap) (desks : Desks) (s 
 
   pub does_flush : EachReadsAs map new → Does old new s e Done s
   does_flush lasting = record {
-    serves = flushes s r.state_of.is_state r.state_of.up r.no_nameless e asks firm;
+    serves = flushes s r.state_of.is_state r.state_of.up e asks firm;
     added = s.tree;
     is_added = inl refl;
     images = flush_images;
@@ -179,7 +174,7 @@ module _ (old new : DiskState) (p : Place) (map : SectorMap) (desks : Desks) (s 
 
   pub does_flush_halt : HasFailed old new → HasFailedToWrite old new → Does old new s e (Refused (Failed EIO)) (record s { halted = true })
   does_flush_halt failed unwritten = record {
-    serves = flush_halts s r.state_of.is_state r.state_of.up r.no_nameless e asks firm;
+    serves = flush_halts s r.state_of.is_state r.state_of.up e asks firm;
     added = s.tree;
     is_added = inl refl;
     images = flush_images;
@@ -204,7 +199,7 @@ module _ (old new : DiskState) (only_now : (image : Image) → old.left_since ol
       let told : Space s.free (free_inodes s.room s.tree) ≡ Space sectors inodes =
       ap (λ n. Space n (free_inodes s.room s.tree)) (r.state_of.free_is ∙ sym all) ∙ ap (λ n. Space sectors n) numbers in
       does_reading old new only_now reads s s Statfs (Space sectors inodes) r.state_of.up r.state_of.up
-      (subst (λ (q : Reply). Step s Statfs q s) told (tells_space s r.state_of.up r.state_of.is_state r.no_nameless)) refl (λ io. absurd cc)
+      (subst (λ (q : Reply). Step s Statfs q s) told (tells_space s r.state_of.up r.state_of.is_state)) refl (λ io. absurd cc)
 
   pub does_uncounted : HasFailed old new → Does old new s Statfs (Refused (Failed EIO)) s
   does_uncounted failed =

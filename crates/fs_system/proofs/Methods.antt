@@ -1,26 +1,25 @@
 -- What a file system's methods come to.
-use Rattle.std.proofs.Common.{◌≡◌, ◌≤◌, ◌<◌, ◌^◌, ℕ, [], ◌∷◌, length, Bool, true, false, cond, Option, None, Some, Result, Ok, Err, IsTrue, refl, sym, ap, subst, ◌∙◌, arith, inl, inr}
-use Rattle.std.specs.Prelude.{IsFalse, ◌⊎◌, ◌↔◌, OnErr, IfOk, IfErr, is_some, not}
+use Rattle.std.proofs.Common.{◌≡◌, ◌≤◌, ◌<◌, ℕ, length, true, false, Option, None, Some, Result, Ok, Err, IsTrue, refl, sym, ap, subst, ◌∙◌, arith, inl, inr}
+use Rattle.std.specs.Prelude.{IsFalse, ◌⊎◌, ◌↔◌, OnErr, IfOk, IfErr, is_some}
 use Rattle.std.specs.Option.{ok_or}
 use Rattle.std.specs.Ordering.{nat_cmp}
-use Rattle.std.specs.Ordering.{eq_by_cmp}
 use Rattle.std.proofs.lemmas.Bool.{cases_lt}
 use Rattle.sector_disk.specs.Disk.{DiskState, Image, IsImage, HasFailed, HasFailedToWrite}
 use Rattle.fs_layout.specs.declared.place.Place.{Place}
 use Rattle.fs_layout.specs.Bytes.{SectorMap}
-use Rattle.fs_layout.specs.Maps.{get, with_entry, without}
+use Rattle.fs_layout.specs.Maps.{get, with_entry}
 use Rattle.fs_cred.specs.Credentials.{Credential, IsCredential}
 use Rattle.fs_cred.specs.declared.errno.Errno.{Errno}
 use Rattle.fs_cred.specs.declared.errno.Errno.TheVariants.{EIO, ESRCH, EBADF, EAGAIN, ENOMEM}
 use Rattle.fs_cred.specs.declared.refusal.Refusal.TheVariants.{Failed}
 use Rattle.redo_journal.specs.Meaning.{SameMap, EachReadsAs}
 use Rattle.sector_txn.specs.Images.{LeavesOldOr}
-use Rattle.sector_txn.specs.Stores.{StoreView, present}
-use Rattle.open_files.specs.Tables.{answer_of, answer_of_found, open_at, open_in}
+use Rattle.sector_txn.specs.Stores.{StoreView, present, disk_after}
+use Rattle.open_files.specs.Tables.{answer_of_found, open_at, open_in}
 use Rattle.fs_model.specs.declared.reply.Reply.{Reply}
 use Rattle.fs_model.specs.declared.reply.Reply.TheVariants.{Done, Refused}
 use Rattle.fs_model.specs.declared.event.Event.{Event}
-use Rattle.fs_model.specs.declared.event.Event.TheVariants.{Spawn, Exit, Fsync, Sync, Statfs}
+use Rattle.fs_model.specs.declared.event.Event.TheVariants.{Spawn, Fsync, Sync}
 use Rattle.fs_model.specs.Processes.{Process, Desks, Descriptor, new_process, descriptor}
 use Rattle.fs_model.specs.States.{State, IsState}
 use Rattle.fs_model.specs.Steps.{Step, is_of_machine, firm_refusal}
@@ -30,19 +29,10 @@ use Rattle.fs_system.specs.Doing.{Does, Happens, HappensLast, FlushesFor}
 use Rattle.fs_system.specs.Mounting.{MayBeMounted, IsSystem, is_halted}
 use Rattle.fs_system.specs.Replies.{spawned, finished}
 use Rattle.fs_system.specs.Seen.{System, Base, disk_in, IsRunning, IsOn}
-use Rattle.fs_system.proofs.Acting.{spawns, spawn_full, spawn_unmade, exits, exit_absent, flush_machine, fsync_firm, fsync_closed, fsync_absent, sync_firm}
-use Rattle.fs_system.proofs.Ends.{does_nothing, does_halted, does_flush, does_flush_halt, flush_mountable, running_same, running_with}
+use Rattle.fs_system.proofs.Acting.{spawns, spawn_full, spawn_unmade, flush_machine, fsync_firm, fsync_closed, fsync_absent, sync_firm}
+use Rattle.fs_system.proofs.Ends.{does_nothing, does_halted, does_flush, does_flush_halt, mountable_then, flush_mountable, running_same, running_with}
 
--- ---- tables
-
-pub gone_same : (desks : Desks) (pid : ℕ) → get nat_cmp desks pid ≡ None → without nat_cmp desks pid ≡ desks
-gone_same [] pid none = refl
-gone_same (e ∷ desks) pid none = go (eq_by_cmp nat_cmp pid e.0) none (λ h. gone_same desks pid h)
-  where
-    go : (b : Bool) → cond b (Some e.1) (get nat_cmp desks pid) ≡ None → (get nat_cmp desks pid ≡ None → without nat_cmp desks pid ≡ desks)
-        → cond (not b) (e ∷ without nat_cmp desks pid) (without nat_cmp desks pid) ≡ e ∷ desks
-    go true n ih = absurd cc
-    go false n ih = ap (λ m. e ∷ m) (ih n)
+-- ---- results
 
 abbrev err_of : Result ℕ Errno → Errno
 err_of (Ok pid) = EIO
@@ -97,7 +87,7 @@ module _ {D : Type 0} (state : D → DiskState) where
           (λ s is_state runs same size map on.
           let none : get nat_cmp s.desks pid ≡ None = ap (λ d. get nat_cmp d pid) same ∙ new in
           let less : length s.desks < 64 = (let count : length s.desks ≡ length fs.desks = ap length same in omega (arith, count, few)) in
-          let step = spawns s runs cred is_state on.no_nameless pid none less in
+          let step = spawns s runs cred is_state pid none less in
           let t : State = record s { desks = with_entry nat_cmp s.desks pid (new_process cred) } in
           let t_is : IsState t = steps_keep s t (Spawn cred) (spawned (Ok pid)) is_state valid step in (
             t,
@@ -149,38 +139,6 @@ module _ {D : Type 0} (state : D → DiskState) where
         | inr many ↦ absurd (let c = full.1 many in let d : ENOMEM ≡ EAGAIN = sym memory ∙ ap err_of c in cc)
       ]
     ]
-
-    -- ---- exit
-
-    pub exit_happens : (fs : System D) → is_halted fs.base ≡ false → (pid : ℕ) → pid < 2 ^ 64 → (desks : Desks) (result : Result (Unit {0}) Errno)
-        → result ≡ answer_of fs.desks pid (λ p. Ok tt) → desks ≡ without nat_cmp fs.desks pid
-        → Happens state fs (record fs { desks = desks }) (Exit pid) (finished result)
-    exit_happens fs up pid small desks result answer gone =
-        subst (λ (r : Result (Unit {0}) Errno). Happens state fs (record fs { desks = desks }) (Exit pid) (finished r)) (sym answer) (go (get nat_cmp fs.desks pid) refl)
-      where
-        go : (o : Option Process) → get nat_cmp fs.desks pid ≡ o
-            → Happens state fs (record fs { desks = desks }) (Exit pid) (finished (answer_of_found (λ p. Ok tt) o))
-        go None none =
-            moves fs up desks (Exit pid) (Refused (Failed ESRCH))
-            (λ s is_state runs same size map on.
-            let absent : get nat_cmp s.desks pid ≡ None = ap (λ d. get nat_cmp d pid) same ∙ none in (
-              s,
-              running_same size size fs.place map map fs.desks desks s refl (λ n part. refl) (gone ∙ gone_same fs.desks pid none) on,
-              λ disk. does_nothing (state disk) (only_now disk) s s (Exit pid) (Refused (Failed ESRCH)) runs runs (exit_absent s runs pid absent) refl refl,
-            ))
-        go (Some p) there =
-            moves fs up desks (Exit pid) Done
-            (λ s is_state runs same size map on.
-            let here : get nat_cmp s.desks pid ≡ Some p = ap (λ d. get nat_cmp d pid) same ∙ there in
-            let step = exits s runs pid is_state on.no_nameless p here in
-            let t : State = record s { desks = without nat_cmp s.desks pid } in
-            let t_is : IsState t = steps_keep s t (Exit pid) Done is_state small step in (
-              t,
-              running_same size size fs.place map map (without nat_cmp s.desks pid) desks t refl (λ n part. refl)
-                  (gone ∙ sym (ap (λ d. without nat_cmp d pid) same))
-                  (running_with size fs.place map fs.desks (without nat_cmp s.desks pid) s t_is on),
-              λ disk. does_nothing (state disk) (only_now disk) s t (Exit pid) Done runs runs step refl refl,
-            ))
 
     -- ---- fsync, where nothing is open there
 
@@ -279,19 +237,6 @@ module _ {D : Type 0} (state : D → DiskState) where
             go (Some (Ok store)) running s on = on.state_of.same_desks
             go (Some (Err broken)) running s on = absurd cc
 
-        -- exit
-        module _ (pid : ℕ) (small : pid < 2 ^ 64) (desks : Desks) (result : Result (Unit {0}) Errno) (answer : result ≡ answer_of procs pid (λ p. Ok tt))
-            (gone : desks ≡ without nat_cmp procs pid) where
-          pub exit_returns : Happens state fs (record { base = base; place = place; desks = desks }) (Exit pid) (finished result)
-          exit_returns =
-              subst (λ (x : System D). Happens state x (record { base = base; place = place; desks = desks }) (Exit pid) (finished result)) view_is
-              (exit_happens inside up_inside pid small desks result answer gone)
-
-          pub exit_system : IsSystem state (record { base = base; place = place; desks = procs }) → IsSystem state (record { base = base; place = place; desks = desks })
-          exit_system was =
-              system_then inside (record { base = base; place = place; desks = desks }) (Exit pid) (finished result)
-              (exit_happens inside up_inside pid small desks result answer gone) was was.mountable
-
         -- spawn
         module _ (cred : Credential) (valid : IsCredential cred) (desks : Desks) (result : Result ℕ Errno)
             (unused : IfOk result (λ pid. get nat_cmp procs pid ≡ None))
@@ -341,13 +286,33 @@ module _ {D : Type 0} (state : D → DiskState) where
         seen_so : record { base = Some (Ok before); place = place; desks = procs } ≡ fs
         seen_so = ap (λ (b : Base D). record { base = b; place = place; desks = procs }) (sym is) ∙ view_is
 
-        pub space_returns : (after : StoreView D) (reply : Reply)
-            → ((s : State) → IsRunning (state before.disk).size place (present state before) procs s
-            → IsRunning (state after.disk).size place (present state after) procs s × Does (state before.disk) (state after.disk) s Statfs reply s)
-            → Happens state fs (record { base = Some (Ok after); place = place; desks = procs }) Statfs reply
-        space_returns after reply does =
-            subst (λ (x : System D). Happens state x (record { base = Some (Ok after); place = place; desks = procs }) Statfs reply) seen_so
-            (λ s r. let done = does s r in (s, done.0, done.1))
+        -- an event that was performed
+        module _ (now : Result (StoreView D) D) (desks : Desks) (e : Event) (reply : Reply)
+            (does : (s : State) → IsRunning (state before.disk).size place (present state before) procs s
+            → (t : State) × IsOn state place desks (Some now) t × Does (state before.disk) (state (disk_after now)) s e reply t) where
+          pub kept_returns : Happens state fs (record { base = Some now; place = place; desks = desks }) e reply
+          kept_returns = subst (λ (x : System D). Happens state x (record { base = Some now; place = place; desks = desks }) e reply) seen_so does
+
+          pub kept_system : ((t : ℕ) (image : Image) → t ≤ (state (disk_after now)).moment → IsImage (state (disk_after now)) image → (state (disk_after now)).left_since t image)
+              → IsSystem state (record { base = base; place = place; desks = procs }) → IsSystem state (record { base = Some now; place = place; desks = desks })
+          kept_system counts_now was =
+              let here = subst (λ (b : Base D). IsSystem state (record { base = b; place = place; desks = procs })) is was in
+              let next = does here.in_some.0 here.in_some.1 in
+              record {
+                in_some = (next.0, next.1);
+                mountable = mountable_then (state before.disk) (state (disk_after now)) here.in_some.0 next.2.added counts_now here.mountable next.2.images;
+              }
+
+        -- one that leaves the state as it was
+        module _ (after : StoreView D) (e : Event) (reply : Reply)
+            (does : (s : State) → IsRunning (state before.disk).size place (present state before) procs s
+            → IsRunning (state after.disk).size place (present state after) procs s × Does (state before.disk) (state after.disk) s e reply s) where
+          pub same_returns : Happens state fs (record { base = Some (Ok after); place = place; desks = procs }) e reply
+          same_returns = kept_returns (Ok after) procs e reply (λ s r. let done = does s r in (s, done.0, done.1))
+
+          pub same_system : ((t : ℕ) (image : Image) → t ≤ (state after.disk).moment → IsImage (state after.disk) image → (state after.disk).left_since t image)
+              → IsSystem state (record { base = base; place = place; desks = procs }) → IsSystem state (record { base = Some (Ok after); place = place; desks = procs })
+          same_system counts_now was = kept_system (Ok after) procs e reply (λ s r. let done = does s r in (s, done.0, done.1)) counts_now was
 
         module _ (after : StoreView D) (same : SameMap (present state after) (present state before))
             (run : LeavesOldOr (present state before) (state before.disk) (state after.disk)) (lasting : EachReadsAs (present state before) (state after.disk))

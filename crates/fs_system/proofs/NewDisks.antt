@@ -1,34 +1,15 @@
 -- A new disk may be mounted.
-use Rattle.std.proofs.Common.{◌≡◌, ℕ, ◌-◌, [], length, Bool, true, false, cond, Some, None, refl, sym, ap, subst}
-use Rattle.std.specs.Ordering.{nat_cmp, is_eq}
+use Rattle.std.proofs.Common.{◌≡◌, ℕ, ◌-◌, length, Some, sym, ap, subst}
 use Rattle.sector_disk.specs.Disk.{DiskState, Image, sector, IsStable}
 use Rattle.sector_disk.proofs.Moments.{stable_image}
 use Rattle.fs_layout.specs.declared.place.Place.{Place}
 use Rattle.fs_layout.specs.Place.{the_place}
 use Rattle.fs_layout.proofs.Places.{place_is_laid_out}
-use Rattle.fs_model.specs.Limits.{root}
-use Rattle.fs_model.specs.Nodes.{Node}
-use Rattle.fs_model.specs.Trees.{node_at}
-use Rattle.fs_model.specs.States.{FitsTree}
 use Rattle.fs_model.specs.Stands.{Stands, room_of}
 use Rattle.fs_model.specs.NewDisk.{empty_tree, IsNewImage}
-use Rattle.fs_layout.proofs.FirstEntries.{tied}
 use Rattle.fs_model.proofs.NewDiskStands.{new_disk_stands}
 use Rattle.fs_system.specs.Seen.{StandsFor}
 use Rattle.fs_system.specs.Mounting.{MayBeMounted}
-
-root_alone : (n : ℕ) (node : Node) → node_at empty_tree n ≡ Some node → n ≡ root
-root_alone n node e = go (is_eq (nat_cmp n root)) refl
-  where
-    go : (b : Bool) → is_eq (nat_cmp n root) ≡ b → n ≡ root
-    go true t = tied n root t
-    go false f = absurd (let none : node_at empty_tree n ≡ None = ap (λ b. cond b (node_at empty_tree root) None) f in cc)
-
-none_nameless : FitsTree empty_tree []
-none_nameless = record {
-  processes = λ pid p e. absurd cc;
-  nameless = λ n node e none ne. absurd (ne (root_alone n node e));
-}
 
 pub new_disk_is_mountable : (p : Place) (disk : DiskState) → length disk.seen ≡ disk.size → p.sectors ≡ length disk.seen
     → IsNewImage p (sector disk.seen) → IsStable disk → StandsFor (room_of p) disk.seen empty_tree (p.sectors - p.first_data) × MayBeMounted disk
@@ -41,7 +22,6 @@ new_disk_is_mountable p disk size sectors new stable =
         empty_tree,
         p.sectors - p.first_data,
         subst (λ (i : Image). StandsFor (room_of p) i empty_tree (p.sectors - p.first_data)) (sym (stable_image stable size is)) stands,
-        none_nameless,
       ),
     )
 

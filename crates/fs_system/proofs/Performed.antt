@@ -1,23 +1,15 @@
 -- Calls of processes, each handed to its function.
 --     performed        what that promises of its call, of the call that was matched
---     all_have_names        where nothing lives without a name, in counts
-use Rattle.std.specs.Prelude.{◌≡◌, ◌≢◌, ℕ, [], Some, Result}
+use Rattle.std.specs.Prelude.{◌≡◌, ℕ, Result}
 use Rattle.std.proofs.Common.{sym, subst}
 use Rattle.fs_layout.specs.declared.place.Place.{Place}
 use Rattle.fs_cred.specs.declared.refusal.Refusal.{Refusal}
 use Rattle.sector_txn.specs.Sectors.{TxnState}
 use Rattle.fs_model.specs.declared.call.Call.{Call}
 use Rattle.fs_model.specs.declared.reply.Reply.{Reply}
-use Rattle.fs_model.specs.Limits.{root}
-use Rattle.fs_model.specs.Nodes.{Node}
 use Rattle.fs_model.specs.Processes.{Desks}
-use Rattle.fs_model.specs.States.{FitsTree}
-use Rattle.fs_model.specs.Trees.{Tree, node_at, names_of}
 use Rattle.path_walk.specs.Performing.{Performs}
 
 pub performed : (p : Place) (pid : ℕ) (call this : Call) (old new : TxnState) (before now : Desks) (result : Result Reply Refusal) → call ≡ this
     → Performs p pid this old new before now result → Performs p pid call old new before now result
 performed p pid call this old new before now result is h = subst (λ (q : Call). Performs p pid q old new before now result) (sym is) h
-
-pub all_have_names : (t : Tree) → FitsTree t [] → (n : ℕ) (node : Node) → node_at t n ≡ Some node → n ≢ root → names_of t n ≢ 0
-all_have_names t fits n node at other none = let opened = fits.nameless n node at none other in cc

@@ -98,14 +98,3 @@ shown_is_sound p disk txn sound same size =
       rest = rest_same p (data_of disk) txn.sectors sound.consistent same sound.rest;
     } in
     (record { consistent = consistent; bitmaps = bitmaps }, clear_same p (data_of disk) txn.sectors sound.consistent same sound.clear)
-
--- a disk that shows what a sound transaction does
-pub kept_is_sound : (p : Place) (txn : TxnState) (disk : DiskState) → the_place p.sectors p.inodes ≡ Some p → IsSound p txn → ClearAreFree p txn.sectors
-    → SameMap (data_of disk) txn.sectors → txn.disk.size ≤ disk.size → IsSoundDisk p disk
-kept_is_sound p txn disk has sound clear same size = record {
-  has_place = has;
-  sectors = let least = sound.bitmaps.disk in omega (arith, least, size);
-  consistent = consistent_same p txn.sectors (data_of disk) sound.consistent same;
-  rest = rest_same p txn.sectors (data_of disk) sound.consistent same sound.bitmaps.rest;
-  clear = clear_same p txn.sectors (data_of disk) sound.consistent same clear;
-}

@@ -8,5 +8,5 @@ pub mod Laws
 pub mod NewTables
 pub mod Making
 pub mod Sound
-pub mod SoundDirectories
 pub mod Layouts
+pub mod Sweeping

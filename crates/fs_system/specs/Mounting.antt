@@ -1,32 +1,27 @@
 -- What a mount asks for, and what it gives.
---     StandsWithNames, MayBeMounted        what is asked of the disk
+--     MayBeMounted        what is asked of the disk
+--     StandsAsBefore        what a stop leaves meanwhile
 --     IsSystem        what holds of every file system
 --     disk_mounted, disk_of_store        the disk, also after a fault
 --     is_halted        whether a commit has failed
 --     LeavesHalted        what is halted stays, with its disk
 --     fault_of        the machine's word for a fault
-use Rattle.std.specs.Prelude.{◌≡◌, ℕ, [], Bool, true, false, Some, IsTrue, Result, Ok, Err}
+use Rattle.std.specs.Prelude.{◌≡◌, Bool, true, false, Some, IsTrue, Result, Ok, Err}
 use Rattle.sector_disk.specs.Disk.{DiskState, Image, IsImage}
 use Rattle.sector_txn.specs.Stores.{StoreView}
 use Rattle.fs_model.specs.declared.event.RestartFault.{RestartFault}
 use Rattle.fs_model.specs.declared.event.RestartFault.TheVariants as restarts
-use Rattle.fs_model.specs.Trees.{Tree, Room}
-use Rattle.fs_model.specs.States.{FitsTree}
 use Rattle.fs_system.specs.declared.faults.MountFault.{MountFault}
 use Rattle.fs_system.specs.declared.faults.MountFault.TheVariants.{DiskFault, OutOfMemory}
-use Rattle.fs_system.specs.Seen.{Base, System, StandsFor, StandsAs, disk_in, IsInSomeState}
+use Rattle.fs_system.specs.Seen.{Base, System, StandsForSome, StandsAsPruned, disk_in, IsInSomeState}
 
--- the image stands for a tree in which each file has a name
-abbrev pub StandsWithNames : Image → Type 0
-StandsWithNames image = (room : Room) × (t : Tree) × (free : ℕ) × StandsFor room image t free × FitsTree t []
-
--- so does each image that a stop may leave
+-- each image that a stop may leave stands for some tree
 abbrev pub MayBeMounted : DiskState → Type 0
-MayBeMounted disk = (image : Image) → IsImage disk image → StandsWithNames image
+MayBeMounted disk = (image : Image) → IsImage disk image → StandsForSome image
 
--- the image stands for what one from before it stood for
+-- the image stands for what one from before it stood for, but for files without names
 abbrev pub StandsAsBefore : DiskState → Image → Type 0
-StandsAsBefore before image = (from : Image) × IsImage before from × StandsAs from image
+StandsAsBefore before image = (from : Image) × IsImage before from × StandsAsPruned from image
 
 -- the disk, also after a fault
 abbrev pub disk_mounted : {D : Type 0} → (D → DiskState) → Result (System D) (MountFault × D) → DiskState

@@ -15,7 +15,7 @@ use Rattle.fs_model.specs.Trees.{Tree, Room}
 use Rattle.fs_model.specs.Changes.{pruned}
 use Rattle.fs_model.specs.Stands.{Stands}
 use Rattle.fs_model.specs.Processes.{Desks}
-use Rattle.fs_model.specs.States.{State, FitsTree}
+use Rattle.fs_model.specs.States.{State}
 use Rattle.path_walk.specs.Performing.{IsStateOf}
 use Rattle.fs_system.specs.Layouts.{IsDiskOf}
 
@@ -82,12 +82,10 @@ abbrev pub disk_in : {D : Type 0} → (D → DiskState) → Base D → DiskState
 disk_in state None = no_disk
 disk_in state (Some base) = state (disk_after base)
 
--- On a disk of so many sectors the map is laid out so, and holds the state's tree. No name can be removed yet, so that nothing
--- lives without one.
+-- On a disk of so many sectors the map is laid out so, and holds the state's tree.
 pub record IsRunning (size : ℕ) (p : Place) (map : SectorMap) (desks : Desks) (s : State) : Type 0 where
   pub disk_is : IsDiskOf size p map
   pub state_of : IsStateOf p map desks s
-  pub no_nameless : FitsTree s.tree []
 
 -- It goes on in this state, or is halted. Of a halted one nothing more is known.
 abbrev pub IsOn : {D : Type 0} → (D → DiskState) → Place → Desks → Base D → State → Type 0

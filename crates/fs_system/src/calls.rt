@@ -1,9 +1,8 @@
 //! The calls of processes, each of them performed in a transaction.
 
-ghost use Rattle.std.specs.Prelude.{◌≡◌, [], false, IsTrue};
-ghost use Rattle.fs_model.specs.States.{State, FitsTree};
-ghost use Rattle.path_walk.specs.Performing.{IsReady, IsStateOf, Performs};
-ghost use Rattle.fs_system.specs.Serving.{is_served, is_showing, is_setting};
+ghost use Rattle.std.specs.Prelude.{◌≡◌, false, IsTrue};
+ghost use Rattle.path_walk.specs.Performing.{IsReady, Performs};
+ghost use Rattle.fs_system.specs.Serving.{is_showing, is_setting, is_naming};
 
 use file_calls::{
     access, chmod, chown, close, fstat, ftruncate, get_acl, lseek, lstat, open, read, readdir,
@@ -12,6 +11,7 @@ use file_calls::{
 use fs_cred::Refusal;
 use fs_layout::Place;
 use fs_model::{Call, Reply};
+use name_calls::{chdir, link, mkdir, readlink, rename, rmdir, symlink, unlink};
 use open_files::Procs;
 use sector_txn::Sectors;
 use std::alloc::Global;
@@ -22,7 +22,7 @@ fn shows_path(call: &Call) -> bool
 {
     matches!(
         call,
-        Call::Stat(_) | Call::Lstat(_) | Call::Access(..) | Call::GetAcl(..)
+        Call::Stat(_) | Call::Lstat(_) | Call::Access(..) | Call::GetAcl(..) | Call::Readlink(_)
     )
 }
 
@@ -33,6 +33,21 @@ fn sets_path(call: &Call) -> bool
     matches!(
         call,
         Call::Truncate(..) | Call::Chmod(..) | Call::Chown { .. } | Call::SetAcl(..)
+    )
+}
+
+// Whether the call makes, removes or moves a name.
+fn changes_names(call: &Call) -> bool
+    ensures { result ≡ is_naming call.now }
+{
+    matches!(
+        call,
+        Call::Mkdir(..)
+            | Call::Rmdir(_)
+            | Call::Link { .. }
+            | Call::Symlink { .. }
+            | Call::Unlink(_)
+            | Call::Rename { .. }
     )
 }
 
@@ -54,6 +69,7 @@ fn show_path<S: Sectors>(
         Call::Lstat(path) => lstat(alloc, s, place, procs, pid, path),
         Call::Access(path, want) => access(alloc, s, place, procs, pid, path, *want),
         Call::GetAcl(path, which) => get_acl(alloc, s, place, procs, pid, path, *which),
+        Call::Readlink(path) => readlink(alloc, s, place, procs, pid, path),
         _ => unreachable!(),
     }
 }
@@ -84,6 +100,30 @@ fn set_path<S: Sectors>(
     }
 }
 
+// Performs a call that makes, removes or moves a name.
+fn change_names<S: Sectors>(
+    alloc: Global,
+    s: &mut S,
+    place: Place,
+    procs: &Procs,
+    pid: usize,
+    call: &Call,
+) -> Result<Reply, Refusal>
+    requires ready { IsReady place (S.state s.old) procs.now }
+    requires names { IsTrue (is_naming call.now) }
+    ensures { Performs place pid call.now (S.state s.old) (S.state s.new) procs.now procs.now result }
+{
+    match call {
+        Call::Mkdir(path, mode) => mkdir(alloc, s, place, procs, pid, path, *mode),
+        Call::Rmdir(path) => rmdir(alloc, s, place, procs, pid, path),
+        Call::Link { old, new } => link(alloc, s, place, procs, pid, old, new),
+        Call::Symlink { target, path } => symlink(alloc, s, place, procs, pid, target, path),
+        Call::Unlink(path) => unlink(alloc, s, place, procs, pid, path),
+        Call::Rename { old, new } => rename(alloc, s, place, procs, pid, old, new),
+        _ => unreachable!(),
+    }
+}
+
 // Performs a call that changes the processes, or is made by a descriptor.
 fn perform_with_processes<S: Sectors>(
     alloc: Global,
@@ -94,13 +134,9 @@ fn perform_with_processes<S: Sectors>(
     call: &Call,
 ) -> Result<Reply, Refusal>
     requires ready { IsReady place (S.state s.old) procs.old }
-    requires served { IsTrue (is_served call.now) }
     requires shows { is_showing call.now ≡ false }
     requires sets { is_setting call.now ≡ false }
-
-    // No name can be removed yet, so that nothing lives without one.
-    requires named { (t : State) → IsStateOf place (S.state s.old).sectors procs.old t → FitsTree t.tree [] }
-
+    requires names { is_naming call.now ≡ false }
     ensures { Performs place pid call.now (S.state s.old) (S.state s.new) procs.old procs.new result }
 {
     match call {
@@ -108,10 +144,11 @@ fn perform_with_processes<S: Sectors>(
         Call::Read { fd, len } => read(alloc, s, place, procs, pid, *fd, *len),
         Call::Write(fd, bytes) => write(s, place, procs, pid, *fd, bytes),
         Call::Lseek(fd, whence, by) => lseek(s, place, procs, pid, *fd, *whence, *by),
-        Call::Close(fd) => close(procs, pid, *fd),
+        Call::Close(fd) => close(s, place, procs, pid, *fd),
         Call::Fstat(fd) => fstat(s, place, procs, pid, *fd),
         Call::Ftruncate(fd, size) => ftruncate(s, place, procs, pid, *fd, *size),
         Call::Readdir(fd) => readdir(alloc, s, place, procs, pid, *fd),
+        Call::Chdir(path) => chdir(alloc, s, place, procs, pid, path),
         Call::Umask(mask) => umask(procs, pid, *mask),
         _ => unreachable!(),
     }
@@ -127,11 +164,6 @@ pub(crate) fn perform<S: Sectors>(
     call: &Call,
 ) -> Result<Reply, Refusal>
     requires ready { IsReady place (S.state s.old) procs.old }
-    requires served { IsTrue (is_served call.now) }
-
-    // No name can be removed yet, so that nothing lives without one.
-    requires named { (t : State) → IsStateOf place (S.state s.old).sectors procs.old t → FitsTree t.tree [] }
-
     ensures { Performs place pid call.now (S.state s.old) (S.state s.new) procs.old procs.new result }
 {
     if shows_path(call) {
@@ -139,6 +171,9 @@ pub(crate) fn perform<S: Sectors>(
     }
     if sets_path(call) {
         return set_path(alloc, s, place, procs, pid, call);
+    }
+    if changes_names(call) {
+        return change_names(alloc, s, place, procs, pid, call);
     }
     perform_with_processes(alloc, s, place, procs, pid, call)
 }

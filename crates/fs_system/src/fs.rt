@@ -8,7 +8,6 @@ ghost use Rattle.fs_model.specs.Processes.{Desks};
 ghost use Rattle.fs_model.specs.States.{State};
 ghost use Rattle.fs_model.specs.declared.event.Event.{Event};
 ghost use Rattle.fs_model.specs.declared.event.Event.TheVariants.{Spawn, Exit, Call as Calls, Fsync, Sync, Statfs};
-ghost use Rattle.fs_system.specs.Serving.{is_served};
 ghost use Rattle.fs_system.specs.Seen.{StandsForSome, HasPartsAt, disk_in, IsOn, IsIn, IsInSomeState};
 ghost use Rattle.fs_system.specs.Doing.{Happens, HappensLast, FlushesFor};
 ghost use Rattle.fs_system.specs.Replies.{spawned, finished, unmounted, counted};
@@ -17,7 +16,8 @@ ghost use Rattle.fs_system.specs.Mounting.{MayBeMounted, StandsAsBefore, disk_mo
 ghost use Rattle.fs_system.specs.declared.faults.MountFault.TheVariants.{DiskFault as Device};
 
 use crate::faults::MountFault;
-use crate::stored::{count_space, failed, perform_kept};
+use crate::stored::{count_space, exit_kept, failed, perform_kept};
+use crate::sweeping::sweep;
 use fs_cred::{Cred, Errno};
 use fs_layout::{Place, Super, place_of};
 use fs_model::{Call, Reply};
@@ -111,8 +111,8 @@ fn forgotten<D: Disk>(base: Result<Store<D>, Broken<D>>) -> Result<Store<D>, Bro
 }
 
 impl<D: Disk + Drop> Fs<D> {
-    /// The file system that the disk stands for, without processes. An error gives the disk back; it may be mounted
-    /// again.
+    /// The file system that the disk stands for, without processes. Files without names, which a stop may have left, are
+    /// freed. An error gives the disk back; it may be mounted again.
     pub fn mount(alloc: Global, disk: D) -> Result<Fs<D>, (MountFault, D)>
         requires { MayBeMounted (D.state disk) }
 
@@ -120,7 +120,7 @@ impl<D: Disk + Drop> Fs<D> {
         ensures failed { IfErr result (λ fault. FailsToMount (D.state disk) (D.state fault.1) (fault_of fault.0)) }
         ensures again { IfErr result (λ fault. MayBeMounted (D.state fault.1)) }
 
-        // A stop at any moment of the call leaves what stands for what it did before.
+        // A stop at any moment of the call leaves what stands for what it did before, but for files without names.
         ensures any_moment { LeavesOnly (D.state disk) (disk_mounted D.state result) (StandsAsBefore (D.state disk)) }
     {
         let mut disk = disk;
@@ -128,12 +128,15 @@ impl<D: Disk + Drop> Fs<D> {
             return Err((MountFault::DiskFault, disk));
         };
         match open_store(alloc, disk) {
-            Ok(store) => Ok(Fs {
-                base: Some(Ok(store)),
-                place,
-                procs: Procs::new(alloc),
-                alloc,
-            }),
+            Ok(store) => match sweep(store, place) {
+                Ok(store) => Ok(Fs {
+                    base: Some(Ok(store)),
+                    place,
+                    procs: Procs::new(alloc),
+                    alloc,
+                }),
+                Err(disk) => Err((MountFault::DiskFault, disk)),
+            },
             Err(fault) => Err(fault),
         }
     }
@@ -167,26 +170,33 @@ impl<D: Disk + Drop> Fs<D> {
         self.procs.spawn(cred)
     }
 
-    /// A process ends, and what it has open is closed.
+    /// A process ends, and what it has open is closed. A file that it alone had open, and that has no name, is freed.
     ///
     /// # Errors
     ///
-    /// EIO where the file system is halted, and ESRCH where there is no such process.
+    /// EIO where the device failed or the file system is halted, and ESRCH where there is no such process.
     pub fn exit(&mut self, pid: usize) -> Result<(), Errno>
         ensures does { Happens D.state self.old self.new (Exit pid) (finished result) }
         ensures halted { LeavesHalted self.old self.new }
     {
-        if self.is_halted() {
-            return Err(Errno::EIO);
+        match self.base.take() {
+            Some(Ok(store)) => {
+                let (done, base) = exit_kept(store, self.place, &mut self.procs, pid);
+                self.base = Some(base);
+                done
+            }
+            Some(Err(broken)) => {
+                self.base = Some(Err(broken));
+                Err(Errno::EIO)
+            }
+            None => unreachable!(),
         }
-        self.procs.exit(pid)
     }
 
     /// What a process asks for.
     ///
     /// After a read that fails nothing has changed, and the call may be made again.
     pub fn call(&mut self, pid: usize, call: &Call) -> Reply
-        requires served { IsTrue (is_served call.now) }
         ensures does { Happens D.state self.old self.new (Calls pid call.now) result }
         ensures halted { LeavesHalted self.old self.new }
     {

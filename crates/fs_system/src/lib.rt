@@ -2,8 +2,6 @@
 #![tactic(auto)]
 
 mod calls;
-#[cfg(test)]
-mod directory_tests;
 mod faults;
 mod fs;
 mod laws;
@@ -14,10 +12,9 @@ mod new_tables;
 #[cfg(test)]
 mod space_tests;
 mod stored;
+mod sweeping;
 #[cfg(test)]
 mod tests;
-#[cfg(test)]
-mod walk_tests;
 
 pub use faults::{MkfsFault, MountFault};
 pub use fs::Fs;

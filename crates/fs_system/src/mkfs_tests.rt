@@ -5,7 +5,7 @@ ghost use Rattle.std.specs.Prelude.{◌≡◌, ◌<◌, IfOk, OnOk};
 ghost use Rattle.sector_disk.specs.Disk.{IsStable};
 ghost use Rattle.fs_system.specs.Making.{IsHalfMade, IsNewDisk};
 
-use crate::{Fs, MkfsFault, MountFault, a_new_disk_is_mountable, mkfs};
+use crate::{Fs, MkfsFault, MountFault, mkfs};
 use sector_disk::{CrashDisk, Disk, FailOnce, FuseDisk, MemDisk};
 use std::alloc::{AllocError, Global};
 use std::test::Fail;
@@ -36,7 +36,7 @@ fn make_and_stop<D: CrashDisk>(disk: &mut D, inodes: u32, choice: &[u8]) -> Resu
     made
 }
 
-pub(crate) fn content_of<D: Disk>(disk: &mut D, n: u32) -> Result<[u8; 512], Fail>
+fn content_of<D: Disk>(disk: &mut D, n: u32) -> Result<[u8; 512], Fail>
     requires { n < (D.state disk.old).size }
     ensures { (D.state disk.new).size ≡ (D.state disk.old).size }
 {
@@ -218,7 +218,6 @@ fn made_and_mounted<D: Disk + Drop>(alloc: Global, mut disk: D) -> Outcome {
     if made.is_err() {
         return (made, failures, None);
     }
-    a_new_disk_is_mountable::<D>();
     match Fs::mount(alloc, disk) {
         Ok(_) => (made, failures, None),
         Err((fault, _)) => (made, failures, Some(fault)),
@@ -228,13 +227,13 @@ fn made_and_mounted<D: Disk + Drop>(alloc: Global, mut disk: D) -> Outcome {
 #[test]
 fn each_failing_call_is_told(rt: HostRuntime) -> Result<(), Fail> {
     let alloc = rt.alloc();
-    // Each call of mkfs, the two reads and the sync of mount, and the one after these.
-    for call in 0..28 {
+    // Each call of mkfs, the two reads and the sync of mount, its read of each inode but the root, and the one after these.
+    for call in 0..90 {
         let once = made_and_mounted(alloc, FailOnce::new(used_disk(alloc, 1024)?, call));
         let fuse = made_and_mounted(alloc, FuseDisk::new(used_disk(alloc, 1024)?, call));
         let wanted = if call < 24 {
             (Err(MkfsFault::DiskFault), 1, None)
-        } else if call < 27 {
+        } else if call < 89 {
             (Ok(()), 0, Some(MountFault::DiskFault))
         } else {
             (Ok(()), 0, None)

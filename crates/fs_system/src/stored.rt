@@ -7,17 +7,16 @@ ghost use Rattle.sector_txn.specs.Stores.{present, disk_after};
 ghost use Rattle.bit_alloc.specs.declared.bitmap.Bitmap.TheVariants.{Blocks, Inodes};
 ghost use Rattle.bit_alloc.specs.Bitmaps.{HasBitmaps, free_numbers};
 ghost use Rattle.fs_model.specs.States.{State};
-ghost use Rattle.fs_model.specs.declared.event.Event.TheVariants.{Call as Calls, Statfs};
-ghost use Rattle.fs_system.specs.Serving.{is_served};
+ghost use Rattle.fs_model.specs.declared.event.Event.TheVariants.{Call as Calls, Exit, Statfs};
 ghost use Rattle.fs_system.specs.Seen.{IsRunning, IsOn};
 ghost use Rattle.fs_system.specs.Doing.{Does};
-ghost use Rattle.fs_system.specs.Replies.{counted};
-ghost use Rattle.fs_system.specs.Mounting.{MayBeMounted};
+ghost use Rattle.fs_system.specs.Replies.{finished, counted};
 ghost use Rattle.fs_model.specs.declared.reply.Reply.TheVariants.{Refused};
 ghost use Rattle.fs_cred.specs.declared.refusal.Refusal.TheVariants.{Failed};
 
 use crate::calls::perform;
 use bit_alloc::{Bitmap, count_free};
+use file_calls::exit;
 use fs_cred::{Errno, Refusal};
 use fs_layout::Place;
 use fs_model::{Call, Reply, call_is_in_range};
@@ -44,12 +43,9 @@ pub(crate) fn perform_kept<D: Disk>(
     call: &Call,
 ) -> (Reply, Result<Store<D>, Broken<D>>)
     requires running { (s : State) × IsRunning (D.state store.disk).size place (present D.state store) procs.old s }
-    requires served { IsTrue (is_served call.now) }
-    requires mountable { MayBeMounted (D.state store.disk) }
     ensures does { (s : State) → IsRunning (D.state store.disk).size place (present D.state store) procs.old s
         → (t : State) × IsOn D.state place procs.new (Some result.1) t
         × Does (D.state store.disk) (D.state (disk_after result.1)) s (Calls pid call.now) result.0 t }
-    ensures mountable { MayBeMounted (D.state (disk_after result.1)) }
 {
     call_is_in_range(call);
     let mut txn = store.begin();
@@ -59,6 +55,30 @@ pub(crate) fn perform_kept<D: Disk>(
             Err(broken) => (failed(Errno::EIO), Err(broken)),
         },
         Err(refusal) => (Reply::Refused(refusal), Ok(txn.drop_delta())),
+    }
+}
+
+/// Ends a process. What it alone had open, and nothing names, is freed with it, or where that is refused, nothing. At `Err` a
+/// commit has failed.
+pub(crate) fn exit_kept<D: Disk>(
+    store: Store<D>,
+    place: Place,
+    procs: &mut Procs,
+    pid: usize,
+) -> (Result<(), Errno>, Result<Store<D>, Broken<D>>)
+    requires running { (s : State) × IsRunning (D.state store.disk).size place (present D.state store) procs.old s }
+    ensures does { (s : State) → IsRunning (D.state store.disk).size place (present D.state store) procs.old s
+        → (t : State) × IsOn D.state place procs.new (Some result.1) t
+        × Does (D.state store.disk) (D.state (disk_after result.1)) s (Exit pid) (finished result.0) t }
+{
+    let mut txn = store.begin();
+    match exit(&mut txn, place, procs, pid) {
+        Ok(()) => match txn.keep() {
+            Ok(store) => (Ok(()), Ok(store)),
+            Err(broken) => (Err(Errno::EIO), Err(broken)),
+        },
+        Err(Refusal::Failed(errno)) => (Err(errno), Ok(txn.drop_delta())),
+        Err(Refusal::Denied(_)) => unreachable!(),
     }
 }
 
@@ -82,11 +102,9 @@ pub(crate) fn count_space<D: Disk>(
     procs: &Procs,
 ) -> (Result<(u32, u32), Errno>, Store<D>)
     requires running { (s : State) × IsRunning (D.state store.disk).size place (present D.state store) procs.now s }
-    requires mountable { MayBeMounted (D.state store.disk) }
     ensures does { (s : State) → IsRunning (D.state store.disk).size place (present D.state store) procs.now s
         → IsRunning (D.state result.1.disk).size place (present D.state result.1) procs.now s
         × Does (D.state store.disk) (D.state result.1.disk) s Statfs (counted result.0) s }
-    ensures mountable { MayBeMounted (D.state result.1.disk) }
 {
     let _processes = procs;
     let mut txn = store.begin();

@@ -13,7 +13,6 @@ use std::test::Fail;
 // A new file system of 1,024 sectors with 64 inodes, on any disk of that size.
 fn new_fs<D: Disk + Drop>(alloc: Global, mut disk: D) -> Result<Fs<D>, Fail> {
     mkfs(&mut disk, 64)?;
-    a_new_disk_is_mountable::<D>();
     match Fs::mount(alloc, disk) {
         Ok(fs) => Ok(fs),
         Err(_) => Err(Fail::new("not mounted")),
@@ -126,8 +125,8 @@ fn a_halted_one_calls_its_disk_no_more(rt: HostRuntime) -> Result<(), Fail> {
     let unread = [Ok(1), EIO, Err(9), Err(9), Ok(0), EIO, Ok(0), Ok(1)];
     for (calls, wanted) in [
         (u64::MAX, (well, Ok(0), 0)),
-        (27, (unread, Ok(0), 2)),
-        (40, (halted, EIO, 1)),
+        (89, (unread, Ok(0), 2)),
+        (102, (halted, EIO, 1)),
     ] {
         let disk = FuseDisk::new(MemDisk::new(alloc, 1024)?, calls);
         let found = seen(alloc, disk)?;
@@ -177,6 +176,7 @@ fn what_is_not_there_is_refused(rt: HostRuntime) -> Result<(), Fail> {
 
 #[test]
 fn laws_do_nothing(_rt: HostRuntime) {
+    a_new_disk_is_mountable::<MemDisk>();
     histories_are_runs::<MemDisk>();
     trees_are_sound::<MemDisk>();
 }

@@ -12,6 +12,7 @@
 //! | [`write_inode`], [`save`] | 1 | 1 |
 //! | [`new_inode`] | 2, and `b` for each ACL that takes a sector | 2, and 2 for each of these |
 //! | [`free_inode`] | 3, and 1 for each ACL sector | 2, and 1 for each of these |
+//! | [`give_sector`] | 1 where there is a sector, else 0 | the same |
 //! | [`load_acl`], [`load_default_acl`] | 1 where the ACL has a sector, else 0 | 0 |
 //! | [`save_acl`], [`save_default_acl`] | 1 | 1 |
 //! | where they take a sector | `b` more | 2 more |
@@ -30,3 +31,4 @@ mod tests;
 pub use acls::{load_acl, load_default_acl, save_acl, save_default_acl};
 pub use faults::LoadAclFault;
 pub use inodes::{free_inode, load, new_inode, save, write_inode};
+pub use stored::give_sector;

@@ -14,8 +14,8 @@ use fs_layout::Place;
 use sector_disk::DiskFault;
 use sector_txn::Sectors;
 
-// Gives a sector back, if there is one: 0 is none.
-pub(crate) fn give_sector<S: Sectors>(s: &mut S, place: Place, sector: u32) -> Result<(), DiskFault>
+/// Gives a sector of the data back, if there is one: 0 is none.
+pub fn give_sector<S: Sectors>(s: &mut S, place: Place, sector: u32) -> Result<(), DiskFault>
     requires bitmaps { HasBitmaps place (S.state s.old) }
     requires owned { sector ≢ 0 → IsData place sector }
     requires room { HasSpare place 0 (S.state s.old) }

@@ -68,8 +68,9 @@ fn node_kind(kind: Kind) -> NodeKind
     }
 }
 
-/// Asks for search on a directory, before lookup number `step` of the walk with this number.
-pub(crate) fn search<S: Sectors>(
+/// Asks for search on a directory of the inode table, after `step` lookups of the walk with this number. ENOMEM where the ACL
+/// finds no memory.
+pub fn search<S: Sectors>(
     alloc: Global,
     s: &mut S,
     place: Place,

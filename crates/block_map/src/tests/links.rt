@@ -10,7 +10,7 @@ ghost use Rattle.inode_table.specs.Inodes.{ClearAreFree};
 
 use crate::tests::blank::{is_blank, put_blank};
 use crate::tests::{Counted, INODES, SECTORS, idle_disk, opened};
-use crate::{free_link, new_link};
+use crate::{free_all, new_link};
 use bit_alloc::{Bitmap, count_free};
 use fs_layout::{Place, place_of};
 use sector_txn::Sectors;
@@ -53,7 +53,7 @@ fn life<S: Sectors>(s: &mut Counted<S>, place: Place, target: &[u8]) -> Result<L
     let between = free(s, place)?;
     s.gets = 0;
     s.puts = 0;
-    free_link(s, place, n)?;
+    free_all(s, place, n)?;
     let freed = (s.gets, s.puts);
     let after = free(s, place)?;
     Ok(([before, between, after], [made, freed]))

@@ -3,8 +3,8 @@ use Rattle.std.proofs.Common.{rules, SFits, w64, sym, ap, ◌∙◌}
 use Rattle.std.proofs.lemmas.Int.{to_z-of_z}
 use Rattle.fs_model.specs.declared.call.Call.TheVariants.{Lseek}
 use Rattle.bit_alloc.proofs.Transactions.{unchanged_nothing}
-use Rattle.file_calls.proofs.Settled.{umask_performs, close_performs}
-use Rattle.fs_system.proofs.Performed.{performed, all_have_names}
+use Rattle.file_calls.proofs.Settled.{umask_performs}
+use Rattle.fs_system.proofs.Performed.{performed}
 use Rattle.fs_system.proofs.calls.perform_with_processes.Goals as goal
 
 pub open-requires : goal.open-requires
@@ -19,6 +19,9 @@ write-requires g c = record { ready = c.requires.ready }
 pub lseek-requires : goal.lseek-requires
 lseek-requires g c = record { ready = c.requires.ready }
 
+pub close-requires : goal.close-requires
+close-requires g c = record { ready = c.requires.ready }
+
 pub fstat-requires : goal.fstat-requires
 fstat-requires g c = record { ready = c.requires.ready }
 
@@ -27,6 +30,9 @@ ftruncate-requires g c = record { ready = c.requires.ready }
 
 pub readdir-requires : goal.readdir-requires
 readdir-requires g c = record { ready = c.requires.ready }
+
+pub chdir-requires : goal.chdir-requires
+chdir-requires g c = record { ready = c.requires.ready }
 
 pub returns-in-Open : goal.returns-in-Open
 returns-in-Open g c =
@@ -48,8 +54,7 @@ returns-in-Lseek g c =
 
 pub returns-in-Close : goal.returns-in-Close
 returns-in-Close g c =
-    performed c.args.place c.args.pid c.args.call.now _ (g.S.Sectors.state c.args.s.now) (g.S.Sectors.state c.args.s.now) c.args.procs.now c.close.new.procs c.close.result c.in-Close.is
-    (close_performs c.close.result unchanged_nothing c.close.ensures (λ s at. all_have_names s.tree (c.requires.named s at)))
+    performed c.args.place c.args.pid c.args.call.now _ (g.S.Sectors.state c.args.s.now) (g.S.Sectors.state c.close.new.s) c.args.procs.now c.close.new.procs c.close.result c.in-Close.is c.close.ensures
 
 pub returns-in-Fstat : goal.returns-in-Fstat
 returns-in-Fstat g c =
@@ -62,6 +67,10 @@ returns-in-Ftruncate g c =
 pub returns-in-Readdir : goal.returns-in-Readdir
 returns-in-Readdir g c =
     performed c.args.place c.args.pid c.args.call.now _ (g.S.Sectors.state c.args.s.now) (g.S.Sectors.state c.readdir.new.s) c.args.procs.now c.args.procs.now c.readdir.result c.in-Readdir.is c.readdir.ensures.performs
+
+pub returns-in-Chdir : goal.returns-in-Chdir
+returns-in-Chdir g c =
+    performed c.args.place c.args.pid c.args.call.now _ (g.S.Sectors.state c.args.s.now) (g.S.Sectors.state c.chdir.new.s) c.args.procs.now c.chdir.new.procs c.chdir.result c.in-Chdir.is c.chdir.ensures.performs
 
 pub returns-in-Umask : goal.returns-in-Umask
 returns-in-Umask g c =

@@ -1,13 +1,7 @@
 use Rattle.fs_system.proofs.SpaceTests.{new_is_sound}
-use Rattle.fs_system.proofs.MadeNodes.{new_has_nodes}
 use Rattle.fs_system.proofs.space_tests.made.Goals as goal
 
-pub returns-clause-sound : goal.returns-clause-sound
-returns-clause-sound g c =
+pub returns : goal.returns
+returns g c =
     new_is_sound 64 c.in_ok-place.place (g.D.Disk.state c.mkfs.new.disk) (g.D.Disk.state c.read_place.new.disk)
-    (g.met.D.Disk.seen_is_image c.mkfs.new.disk).size c.in_ok-mkfs.ensures.made c.in_ok-place.ensures.found c.read_place.ensures.same.narrowed
-
-pub returns-clause-nodes : goal.returns-clause-nodes
-returns-clause-nodes g c =
-    new_has_nodes 64 c.in_ok-place.place (g.D.Disk.state c.mkfs.new.disk) (g.D.Disk.state c.read_place.new.disk)
     (g.met.D.Disk.seen_is_image c.mkfs.new.disk).size c.in_ok-mkfs.ensures.made c.in_ok-place.ensures.found c.read_place.ensures.same.narrowed

@@ -1,4 +1,5 @@
-use Rattle.std.proofs.Common.{sym, ap, subst, ◌∙◌, arith}
+use Rattle.std.proofs.Common.{◌≡◌, sym, ap, subst, ◌∙◌, arith}
+use Rattle.fs_layout.specs.declared.inode.Kind.TheVariants as kinds
 use Rattle.fs_layout.specs.declared.place.Place.{Place}
 use Rattle.fs_layout.specs.Images.{inode_at}
 use Rattle.fs_layout.specs.Ownership.{IsConsistent}
@@ -7,7 +8,6 @@ use Rattle.bit_alloc.specs.Inodes.{IsSound}
 use Rattle.bit_alloc.proofs.Soundness.{spare_then}
 use Rattle.bit_alloc.proofs.Transactions.{map_unchanged, bitmaps_unchanged, spare_unchanged}
 use Rattle.inode_table.specs.Inodes.{ClearAreFree}
-use Rattle.block_map.specs.Links.{HasNoAcls}
 use Rattle.block_map.proofs.tests.links.life.Goals as goal
 
 sound_unchanged : (p : Place) (old new : TxnState) → IsSound p old → IsUnchanged old new → IsSound p new
@@ -23,19 +23,18 @@ new_link-requires-clause-sound g c =
 pub new_link-requires-clause-clear : goal.new_link-requires-clause-clear
 new_link-requires-clause-clear g c = subst (ClearAreFree c.args.place) (map_unchanged c.in_ok-before.ensures) c.requires.clear
 
-pub free_link-requires-clause-sound : goal.free_link-requires-clause-sound
-free_link-requires-clause-sound g c =
+pub free_all-requires-clause-sound : goal.free_all-requires-clause-sound
+free_all-requires-clause-sound g c =
     sound_unchanged c.args.place (g.S.Sectors.state c.new_link.new.s.inner) (g.S.Sectors.state c.free-2.new.s.inner) c.in-Ok.ensures.sound c.in_ok-between.ensures
 
-pub free_link-requires-clause-kind : goal.free_link-requires-clause-kind
-free_link-requires-clause-kind g c =
-    ap (λ image. (inode_at c.args.place image c.in-Ok.n).kind) (sym (map_unchanged c.in_ok-between.ensures)) ∙ c.in-Ok.ensures.fields.kind
+pub free_all-requires-clause-used : goal.free_all-requires-clause-used
+free_all-requires-clause-used g c = λ e.
+    let is = ap (λ image. (inode_at c.args.place image c.in-Ok.n).kind) (sym (map_unchanged c.in_ok-between.ensures)) ∙ c.in-Ok.ensures.fields.kind in
+    let both : kinds.Link ≡ kinds.Free = sym is ∙ e in
+    cc
 
-pub free_link-requires-clause-acls : goal.free_link-requires-clause-acls
-free_link-requires-clause-acls g c = subst (λ image. HasNoAcls (inode_at c.args.place image c.in-Ok.n)) (map_unchanged c.in_ok-between.ensures) c.in-Ok.ensures.acls
-
-pub free_link-requires-clause-spare : goal.free_link-requires-clause-spare
-free_link-requires-clause-spare g c =
+pub free_all-requires-clause-spare : goal.free_all-requires-clause-spare
+free_all-requires-clause-spare g c =
     let p = c.args.place in
     let t0 = g.S.Sectors.state c.args.s.now.inner in
     let t1 = g.S.Sectors.state c.free.new.s.inner in

@@ -1,18 +1,24 @@
-use Rattle.std.proofs.Common.{refl, sym, ◌∙◌}
+use Rattle.std.proofs.Common.{Some, sym, ap, refl, ◌∙◌}
+use Rattle.sector_txn.specs.Stores.{disk_after}
 use Rattle.fs_model.specs.declared.event.Event.TheVariants.{Exit}
-use Rattle.fs_system.proofs.Methods.{halted_happens, exit_returns, exit_system}
+use Rattle.fs_system.specs.Replies.{finished}
+use Rattle.fs_system.proofs.Methods.{broken_returns, kept_returns, kept_system}
 use Rattle.fs_system.proofs.fs.Fs.exit.Goals as goal
-
-pub returns-then-is_halted-clause-does : goal.returns-then-is_halted-clause-does
-returns-then-is_halted-clause-does g c =
-    halted_happens g.D.Disk.state g.met.D.Disk.only_now c.args.self.now (Exit c.args.pid) (sym c.is_halted.ensures ∙ c.if-is_halted.true) refl
 
 pub invariant_of-self : goal.invariant_of-self
 invariant_of-self g c =
-    exit_system g.D.Disk.state g.met.D.Disk.only_now c.self.inside.base c.self.inside.place c.self.inside.procs c.args.self.now c.self.view_is
-    (sym c.is_halted.ensures ∙ c.if-is_halted.false) c.args.pid c.ranges.pid.fits c.exit.new.self c.exit.result c.exit.ensures.answer c.exit.ensures.gone c.self.invariant
+    kept_system g.D.Disk.state g.met.D.Disk.only_now c.self.inside.base c.self.inside.place c.self.inside.procs c.args.self.now c.self.view_is c.in-Some-Ok.store
+    (sym c.take.ensures.value ∙ c.in-Some-Ok.is ∙ ap (λ k. Some k) c.in-Some-Ok.field-0-is) c.exit_kept-done.result.1 c.exit_kept-done.new.procs
+    (Exit c.args.pid) (finished c.exit_kept-done.result.0) c.exit_kept-done.ensures.does
+    (g.met.D.Disk.counts_now (disk_after c.exit_kept-done.result.1)) c.self.invariant
 
-pub returns-clause-does : goal.returns-clause-does
-returns-clause-does g c =
-    exit_returns g.D.Disk.state g.met.D.Disk.only_now c.self.inside.base c.self.inside.place c.self.inside.procs c.args.self.now c.self.view_is
-    (sym c.is_halted.ensures ∙ c.if-is_halted.false) c.args.pid c.ranges.pid.fits c.exit.new.self c.exit.result c.exit.ensures.answer c.exit.ensures.gone
+pub returns-in-Some-Ok-clause-does : goal.returns-in-Some-Ok-clause-does
+returns-in-Some-Ok-clause-does g c =
+    kept_returns g.D.Disk.state g.met.D.Disk.only_now c.self.inside.base c.self.inside.place c.self.inside.procs c.args.self.now c.self.view_is c.in-Some-Ok.store
+    (sym c.take.ensures.value ∙ c.in-Some-Ok.is ∙ ap (λ k. Some k) c.in-Some-Ok.field-0-is) c.exit_kept-done.result.1 c.exit_kept-done.new.procs
+    (Exit c.args.pid) (finished c.exit_kept-done.result.0) c.exit_kept-done.ensures.does
+
+pub returns-in-Some-Err-clause-does : goal.returns-in-Some-Err-clause-does
+returns-in-Some-Err-clause-does g c =
+    broken_returns g.D.Disk.state g.met.D.Disk.only_now c.self.inside.base c.self.inside.place c.self.inside.procs c.args.self.now c.self.view_is c.in-Some-Err.broken
+    (sym c.take.ensures.value ∙ c.in-Some-Err.is ∙ ap (λ k. Some k) c.in-Some-Err.field-0-is) (Exit c.args.pid) refl

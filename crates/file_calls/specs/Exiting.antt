@@ -1,0 +1,52 @@
+-- What the end of a process does inside a transaction.
+--     IsExited        nothing refuses it, and the map holds the tree after it
+--     IsNotExited        why it is refused
+--     Exits        the whole
+--     LeavesAt        what becomes of what one descriptor is for
+use Rattle.std.specs.Prelude.{◌≡◌, ℕ, None, Some, Result, Ok, Err, MatchResult, OnOk, OnErr}
+use Rattle.sector_disk.specs.Disk.{DiskState, HasFailed}
+use Rattle.fs_cred.specs.declared.errno.Errno.{Errno}
+use Rattle.fs_cred.specs.declared.errno.Errno.TheVariants.{EIO}
+use Rattle.fs_cred.specs.declared.refusal.Refusal.{Refusal}
+use Rattle.fs_cred.specs.declared.refusal.Refusal.TheVariants.{Failed}
+use Rattle.fs_layout.specs.declared.place.Place.{Place}
+use Rattle.fs_layout.specs.Bytes.{SectorMap}
+use Rattle.fs_layout.specs.Maps.{without}
+use Rattle.std.specs.Ordering.{nat_cmp}
+use Rattle.sector_txn.specs.Sectors.{TxnState, SameStore, IsUnchanged}
+use Rattle.fs_model.specs.declared.event.Event.TheVariants.{Exit}
+use Rattle.fs_model.specs.declared.reply.Reply.TheVariants.{Done}
+use Rattle.fs_model.specs.Changes.{Same, swept}
+use Rattle.fs_model.specs.Processes.{Descriptor, Desks, is_open}
+use Rattle.fs_model.specs.Stands.{HoldsAll, placed}
+use Rattle.fs_model.specs.States.{State}
+use Rattle.fs_model.specs.Steps.{after, firm_refusal, other_refusal}
+use Rattle.open_files.specs.Tables.{open_in}
+use Rattle.path_walk.specs.Performing.{IsStateOf, chosen}
+use Rattle.file_calls.specs.Dropping.{LeavesInode}
+
+-- Nothing refuses the end of the process. It leaves these processes, and the map holds the tree after it.
+pub record IsExited (p : Place) (map : SectorMap) (desks : Desks) (s : State) (pid : ℕ) : Type 0 where
+  pub early : firm_refusal s (Exit pid) ≡ None
+  pub late : other_refusal s (Exit pid) ≡ None
+  pub effect : after s (Exit pid) (chosen 0 0) ≡ record { change = Same; desks = desks; reply = Done }
+  pub holds : HoldsAll p map (placed (swept s.tree desks))
+
+-- It is refused: there is no such process, or a read failed.
+pub data IsNotExited (old new : DiskState) (s : State) (pid : ℕ) (r : Refusal) : Type 0 where
+  absent : firm_refusal s (Exit pid) ≡ Some r → IsNotExited old new s pid r
+  read_fails : firm_refusal s (Exit pid) ≡ None → HasFailed old new → r ≡ Failed EIO → IsNotExited old new s pid r
+
+-- The end of process pid. At `Err` the table is as it was, and of the map nothing is said: its changes are dropped.
+pub record Exits (p : Place) (pid : ℕ) (old new : TxnState) (before now : Desks) (result : Result (Unit {0}) Refusal) : Type 0 where
+  pub store : SameStore old new
+  pub super : OnOk result (new.sectors 0 ≡ old.sectors 0)
+  pub table : OnErr result (now ≡ before)
+  pub each : (s : State) → IsStateOf p old.sectors before s
+      → MatchResult result (λ done. IsExited p new.sectors now s pid) (λ r. IsNotExited old.disk new.disk s pid r)
+
+-- Where a process has something open at the descriptor, that is as it was, or gone: no other process may have it open.
+pub data LeavesAt (p : Place) (desks : Desks) (pid fd : ℕ) (old new : TxnState) : Type 0 where
+  is_closed : (errno : Errno) → open_in desks pid fd ≡ Err errno → IsUnchanged old new → LeavesAt p desks pid fd old new
+  was_open : (d : Descriptor) → open_in desks pid fd ≡ Ok d → LeavesInode p d.number (is_open (without nat_cmp desks pid) d.number) old new
+      → LeavesAt p desks pid fd old new

@@ -1,0 +1,87 @@
+//! The end of a process: what it has open is closed.
+
+ghost use Rattle.std.specs.Prelude.{◌≡◌, Ok, IsSome, OnOk, IfErr};
+ghost use Rattle.std.specs.Ordering.{nat_cmp};
+ghost use Rattle.fs_layout.specs.Maps.{get, without};
+ghost use Rattle.sector_txn.specs.Sectors.{SameStore};
+ghost use Rattle.bit_alloc.specs.declared.bitmap.Bitmap.TheVariants.{Inodes};
+ghost use Rattle.bit_alloc.specs.Bitmaps.{IsNumber};
+ghost use Rattle.bit_alloc.specs.Inodes.{IsSound};
+ghost use Rattle.bit_alloc.specs.Room.{HasSpare};
+ghost use Rattle.fs_model.specs.Changes.{swept};
+ghost use Rattle.fs_model.specs.Processes.{Descriptor as OpenFile};
+ghost use Rattle.fs_model.specs.Stands.{HoldsAll, placed};
+ghost use Rattle.fs_model.specs.States.{State};
+ghost use Rattle.open_files.specs.Tables.{open_in};
+ghost use Rattle.path_walk.specs.Answers.{FailsToRead};
+ghost use Rattle.path_walk.specs.Performing.{IsReady, IsStateOf};
+ghost use Rattle.file_calls.specs.Exiting.{Exits, LeavesAt};
+
+use crate::dropping::leave;
+use fs_cred::Refusal;
+use fs_layout::Place;
+use open_files::{MAX_DESCRIPTORS, Procs};
+use sector_txn::Sectors;
+
+// Frees what a process that ends has open at a descriptor, unless another process has it open, it has a name, or it was
+// freed before. EIO: the disk has failed.
+fn leave_descriptor<S: Sectors>(
+    s: &mut S,
+    place: Place,
+    procs: &Procs,
+    pid: usize,
+    fd: usize,
+) -> Result<(), Refusal>
+    requires sound { IsSound place (S.state s.old) }
+    requires found { IsSome (get nat_cmp procs.now pid) }
+    requires number { (d : OpenFile) → open_in procs.now pid fd ≡ Ok d → IsNumber place Inodes d.number }
+    requires spare { HasSpare place 1 (S.state s.old) }
+    ensures store { SameStore (S.state s.old) (S.state s.new) }
+    ensures leaves { OnOk result (LeavesAt place procs.now pid fd (S.state s.old) (S.state s.new)) }
+    ensures fault { IfErr result (FailsToRead (S.state s.old).disk (S.state s.new).disk) }
+{
+    let descriptor = match procs.get(pid, fd) {
+        Ok(descriptor) => descriptor,
+        Err(_) => return Ok(()),
+    };
+    let n = descriptor.number;
+    let stays_open = procs.is_open_by_others(pid, n);
+    leave(s, place, n, stays_open)?;
+    Ok(())
+}
+
+// Frees what a process that ends has open alone, and that has no name. EIO: the disk has failed.
+fn leave_all<S: Sectors>(s: &mut S, place: Place, procs: &Procs, pid: usize) -> Result<(), Refusal>
+    requires sound { IsSound place (S.state s.old) }
+    requires found { IsSome (get nat_cmp procs.now pid) }
+    requires state { (st : State) × IsStateOf place (S.state s.old).sectors procs.now st }
+    requires spare { HasSpare place 47 (S.state s.old) }
+    ensures store { SameStore (S.state s.old) (S.state s.new) }
+    ensures superblock { OnOk result ((S.state s.new).sectors 0 ≡ (S.state s.old).sectors 0) }
+    ensures left { OnOk result ((st : State) → IsStateOf place (S.state s.old).sectors procs.now st
+        → HoldsAll place (S.state s.new).sectors (placed (swept st.tree (without nat_cmp procs.now pid)))) }
+    ensures fault { IfErr result (FailsToRead (S.state s.old).disk (S.state s.new).disk) }
+{
+    for fd in 0..MAX_DESCRIPTORS {
+        leave_descriptor(s, place, procs, pid, fd)?;
+    }
+    Ok(())
+}
+
+/// Ends a process. What it alone has open, and nothing names, is freed.
+///
+/// ESRCH: there is no such process. EIO: the disk has failed.
+pub fn exit<S: Sectors>(
+    s: &mut S,
+    place: Place,
+    procs: &mut Procs,
+    pid: usize,
+) -> Result<(), Refusal>
+    requires ready { IsReady place (S.state s.old) procs.old }
+    ensures { Exits place pid (S.state s.old) (S.state s.new) procs.old procs.new result }
+{
+    procs.process(pid)?;
+    leave_all(s, place, procs, pid)?;
+    procs.exit(pid)?;
+    Ok(())
+}

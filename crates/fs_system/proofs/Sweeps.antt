@@ -1,0 +1,216 @@
+-- What a sweep comes to, commit after commit.
+--     counted, stored_same        maps with the same data
+--     begins_sound, begins_spare        a transaction that has put nothing
+--     opened_tree        a store on a disk that stands for a tree
+--     kept_images, commit_images, commit_frees, dropped_images        one number
+--     IsSweeping, sweeping_begun, sweeping_on, sweeping_ends        all numbers
+--     flushed_images, flushed_stable, keeps_both        the flush at the end
+--     err_disk        the disk of an error
+use Rattle.std.specs.Prelude.{◌≡◌, ℕ, ◌+◌, ◌<◌, ◌≤◌, false, length, Result, Ok, Err, IsErr, IsErrAnd}
+use Rattle.std.proofs.Common.{refl, sym, ap, subst, arith, ◌∙◌, inl, inr}
+use Rattle.sector_disk.specs.Disk.{DiskState, Image, IsImage, sector, LeavesOnly, OnlyReads}
+use Rattle.sector_disk.proofs.Moments.{joined, weaker, holds_now, started}
+use Rattle.fs_layout.specs.declared.place.Place.{Place}
+use Rattle.fs_layout.specs.Bytes.{SectorMap}
+use Rattle.fs_layout.specs.Images.{free_sectors}
+use Rattle.fs_layout.specs.Recovered.{recovered}
+use Rattle.fs_layout.proofs.Places.{place_is_laid_out}
+use Rattle.redo_journal.specs.Meaning.{SameMap, EachReadsAs, data_of}
+use Rattle.sector_txn.specs.Images.{IsOneOf, LeavesOneOf, LeavesOldOr}
+use Rattle.sector_txn.specs.Sectors.{TxnState}
+use Rattle.sector_txn.specs.Stores.{StoreView, disk_after}
+use Rattle.sector_txn.proofs.Images.{after_reads}
+use Rattle.bit_alloc.specs.Inodes.{IsSound}
+use Rattle.bit_alloc.specs.Room.{HasSpare}
+use Rattle.bit_alloc.proofs.Soundness.{spare_first, sound_from}
+use Rattle.fs_model.specs.Changes.{pruned}
+use Rattle.fs_model.specs.Stands.{placed, room_of}
+use Rattle.fs_model.specs.Trees.{Tree, Room}
+use Rattle.fs_model.proofs.Swept.{pruned_twice}
+use Rattle.path_walk.specs.HeldTrees.{HoldsTree}
+use Rattle.file_calls.specs.Dropping.{LeavesInode}
+use Rattle.file_calls.proofs.Leavings.{left_super}
+use Rattle.fs_system.specs.Layouts.{IsDiskOf}
+use Rattle.fs_system.specs.Seen.{StandsFor, EachStandsFor}
+use Rattle.fs_system.specs.Sweeping.{IsStored, StandsPruned, HasTree, IsNamedBelow, FreesNameless, KeepsTree}
+use Rattle.fs_system.proofs.EventEnds.{disk_kept}
+use Rattle.fs_system.proofs.FreedFiles.{IsFreed, freed, named_first, named_all}
+use Rattle.fs_system.proofs.Joining.{HoldsCounted, disk_of_standing, holds_of_standing, disk_same, holds_same, stands_for, stands_as, each_stands}
+use Rattle.fs_system.proofs.Soundness.{outside_set}
+
+-- ---- maps with the same data
+
+pub counted : {p : Place} {map : SectorMap} {t : Tree} → HoldsTree p map t → HoldsCounted p map t (free_sectors p map)
+counted h = record { holds = h.holds; tree_is = h.tree; free_is = refl }
+
+pub stored_same : {size size' : ℕ} {p : Place} {old new : SectorMap} {t : Tree} → size' ≡ size → SameMap new old → IsStored size p old t → IsStored size' p new t
+stored_same {size} {size'} {p} {old} {new} {t} sized same is =
+    let held = holds_same size p old new t (free_sectors p old) same is.disk_is (counted is.holds) in
+    record {
+      disk_is = subst (λ n. IsDiskOf n p new) (sym sized) (disk_same size p old new same is.disk_is);
+      holds = record { holds = held.holds; tree = held.tree_is };
+    }
+
+-- a transaction that begins
+
+pub begins_sound : (p : Place) (txn : TxnState) (t : Tree) → IsStored txn.disk.size p txn.sectors t → IsSound p txn
+begins_sound p txn t is =
+    let sectors : p.sectors ≡ txn.disk.size = ap (λ (q : Place). q.sectors) (place_is_laid_out txn.disk.size is.disk_is.super.inodes is.disk_is.has_place) in
+    sound_from p txn is.holds.holds.consistent (omega (arith, sectors)) (outside_set p txn.sectors (placed t) is.holds.holds)
+
+pub begins_spare : (p : Place) (txn : TxnState) (t : Tree) → txn.room ≡ 64 → IsStored txn.disk.size p txn.sectors t → HasSpare p 1 txn
+begins_spare p txn t room is =
+    let spare = spare_first p txn.disk.size is.disk_is.super.inodes txn is.disk_is.has_place room in omega (arith, spare)
+
+-- a store that was opened on a disk which stands for a tree
+pub opened_tree : (old new : DiskState) (map : SectorMap) (room : Room) (t : Tree) (free : ℕ) → length old.seen ≡ old.size → new.size ≡ old.size
+    → SameMap map (data_of old) → EachReadsAs map new → (stands : StandsFor room old.seen t free) → HasTree stands.place map new t
+opened_tree old new map room t free whole sized same lasting stands =
+    let disk : IsDiskOf old.size stands.place (data_of old) =
+    subst (λ n. IsDiskOf n stands.place (recovered n (sector old.seen))) whole (disk_of_standing (length old.seen) (sector old.seen) room t free stands) in
+    let held : HoldsCounted stands.place (data_of old) t free =
+    subst (λ n. HoldsCounted stands.place (recovered n (sector old.seen)) t free) whole (holds_of_standing (length old.seen) (sector old.seen) room t free stands) in
+    let stored : IsStored new.size stands.place map t =
+    stored_same sized same (record { disk_is = disk; holds = record { holds = held.holds; tree = held.tree_is } }) in
+    record {
+      stored = stored;
+      images = λ image is.
+          (t, free_sectors stands.place map, stands_for new.size stands.place map t (free_sectors stands.place map) image stored.disk_is (counted stored.holds) (lasting image is), refl);
+    }
+
+-- ---- one number
+
+-- what the map holds once the number is done with
+pub freed_stored : {size : ℕ} {p : Place} {n : ℕ} {old new : TxnState} {t : Tree} → n < p.inodes → (is : IsStored size p old.sectors t)
+    → LeavesInode p n false old new → (f : IsFreed p n new.sectors t) × IsStored size p new.sectors f.tree
+freed_stored {size} {p} {n} {old} {new} {t} below is leaves =
+    let f = freed p n old new t is.holds below leaves in
+    (f, record { disk_is = disk_kept size p old.sectors new.sectors (left_super leaves) is.disk_is; holds = f.holds })
+
+-- a delta is kept
+module _ (old mid new : DiskState) (only_now : (image : Image) → old.left_since old.moment image → IsImage old image) (p : Place) (map now : SectorMap)
+    (reads : OnlyReads old mid) (run : LeavesOneOf map now mid new) (t u : Tree) (h : HasTree p map old t) (stored : IsStored old.size p now u) (same : pruned u ≡ pruned t) where
+  one_of : (image : Image) → IsOneOf old map now image → StandsPruned (room_of p) t image
+  one_of image (inl (from, is, means)) =
+      let was = h.images from is in
+      (was.0, was.1, stands_as old.size from image is.size means (room_of p) was.0 was.1 was.2, was.3)
+  one_of image (inr (inl reads)) =
+      (t, free_sectors p map, stands_for old.size p map t (free_sectors p map) image h.stored.disk_is (counted h.stored.holds) reads, refl)
+  one_of image (inr (inr reads)) =
+      (u, free_sectors p now, stands_for old.size p now u (free_sectors p now) image stored.disk_is (counted stored.holds) reads, same)
+
+  pub kept_images : LeavesOnly old new (StandsPruned (room_of p) t)
+  kept_images = weaker one_of (after_reads only_now reads run).any_moment
+
+  pub kept_tree : (map' : SectorMap) → SameMap map' now → ((t : ℕ) (image : Image) → t ≤ new.moment → IsImage new image → new.left_since t image)
+      → HasTree p map' new u
+  kept_tree map' alike counts_now = record {
+    stored = stored_same (run.size ∙ reads.narrowed.size) alike stored;
+    images = λ image is. let found = holds_now kept_images counts_now is in (found.0, found.1, found.2, found.3 ∙ sym same);
+  }
+
+-- a transaction frees the inode where it is a file without a name, and is kept
+module _ (old mid new : DiskState) (only_now : (image : Image) → old.left_since old.moment image → IsImage old image) (p : Place) (n : ℕ) (below : n < p.inodes) (map : SectorMap)
+    (first last : TxnState) (began : SameMap first.sectors map) (leaves : LeavesInode p n false first last) (reads : OnlyReads old mid)
+    (run : LeavesOneOf map last.sectors mid new) (t : Tree) (h : HasTree p map old t) where
+  after : (f : IsFreed p n last.sectors t) × IsStored old.size p last.sectors f.tree
+  after = freed_stored below (stored_same refl began h.stored) leaves
+
+  pub commit_images : LeavesOnly old new (StandsPruned (room_of p) t)
+  commit_images = kept_images old mid new only_now p map last.sectors reads run t after.0.tree h after.1 after.0.same
+
+  pub commit_frees : (map' : SectorMap) → SameMap map' last.sectors → ((t : ℕ) (image : Image) → t ≤ new.moment → IsImage new image → new.left_since t image)
+      → (u : Tree) × HasTree p map' new u × (pruned u ≡ pruned t) × (IsNamedBelow n t → IsNamedBelow (n + 1) u)
+  commit_frees map' alike counts_now = (
+    after.0.tree,
+    kept_tree old mid new only_now p map last.sectors reads run t after.0.tree h after.1 after.0.same map' alike counts_now,
+    after.0.same,
+    after.0.named,
+  )
+
+-- or it is dropped
+pub dropped_images : (old new : DiskState) → ((image : Image) → old.left_since old.moment image → IsImage old image) → OnlyReads old new
+    → (p : Place) (map : SectorMap) → KeepsTree p map old new
+dropped_images old new only_now reads p map t h = record {
+  later = reads.later;
+  each = λ image left. h.images image (only_now image (reads.since old.moment image (omega arith) left));
+  before = λ k image le left. inl (reads.since k image le left);
+}
+
+-- ---- all numbers
+
+-- The numbers below k are done with.
+pub record IsSweeping (p : Place) (map : SectorMap) (old : DiskState) (now : SectorMap) (new : DiskState) (k : ℕ) : Type 0 where
+  pub each : (t : Tree) → HasTree p map old t → (u : Tree) × HasTree p now new u × (pruned u ≡ pruned t) × IsNamedBelow k u
+  pub keeps : KeepsTree p map old new
+  pub size : new.size ≡ old.size
+  pub later : old.failures ≤ new.failures
+
+pub sweeping_begun : (p : Place) (map : SectorMap) (old : DiskState) → ((image : Image) → old.left_since old.moment image → IsImage old image)
+    → IsSweeping p map old map old 2
+sweeping_begun p map old only_now = record {
+  each = λ t h. (t, h, refl, named_first (room_of p) t h.stored.holds.tree);
+  keeps = λ t h. started only_now h.images;
+  size = refl;
+  later = omega arith;
+}
+
+-- what stands for a tree with the same names
+pub pruned_same : (room : Room) (t u : Tree) → pruned u ≡ pruned t → (image : Image) → StandsPruned room u image → StandsPruned room t image
+pruned_same room t u same image (v, free, stands, is) = (v, free, stands, is ∙ same)
+
+pub keeps_on : {p : Place} {map now : SectorMap} {old mid new : DiskState} {k : ℕ} → IsSweeping p map old now mid k → KeepsTree p now mid new → KeepsTree p map old new
+keeps_on {p} {map} {now} {old} {mid} {new} {k} so_far keeps t h =
+    let left = so_far.each t h in
+    joined (so_far.keeps t h) (weaker (pruned_same (room_of p) t left.0 left.2) (keeps left.0 left.1))
+
+pub sweeping_on : {p : Place} {map now next : SectorMap} {old mid new : DiskState} {k : ℕ} → IsSweeping p map old now mid k
+    → FreesNameless p k now mid next new → KeepsTree p now mid new → new.size ≡ mid.size → mid.failures ≤ new.failures → IsSweeping p map old next new (k + 1)
+sweeping_on {p} {map} {now} {next} {old} {mid} {new} {k} so_far frees keeps size later = record {
+  each = λ t h.
+      let left = so_far.each t h in
+      let then = frees left.0 left.1 in
+      (then.0, then.1, then.2 ∙ left.2, then.3 left.3);
+  keeps = keeps_on so_far keeps;
+  size = size ∙ so_far.size;
+  later = omega (arith, so_far.later, later);
+}
+
+-- all of them
+pub sweeping_ends : {p : Place} {map now : SectorMap} {old new : DiskState} {k : ℕ} → p.inodes ≤ k → IsSweeping p map old now new k
+    → (t : Tree) → HasTree p map old t → HasTree p now new (pruned t)
+sweeping_ends {p} {map} {now} {old} {new} {k} all done t h =
+    let left = done.each t h in
+    let named = named_all (room_of p) left.0 k left.1.stored.holds.tree all left.3 in
+    subst (HasTree p now new) (sym named ∙ left.2) left.1
+
+-- ---- the flush at the end
+
+pub flushed_images : (old new : DiskState) (p : Place) (map : SectorMap) → LeavesOldOr map old new → KeepsTree p map old new
+flushed_images old new p map run t h = weaker each run.any_moment
+  where
+    each : (image : Image) → IsOneOf old map map image → StandsPruned (room_of p) t image
+    each image (inl (from, is, means)) =
+        let was = h.images from is in
+        (was.0, was.1, stands_as old.size from image is.size means (room_of p) was.0 was.1 was.2, was.3)
+    each image (inr (inl reads)) =
+        (t, free_sectors p map, stands_for old.size p map t (free_sectors p map) image h.stored.disk_is (counted h.stored.holds) reads, refl)
+    each image (inr (inr reads)) =
+        (t, free_sectors p map, stands_for old.size p map t (free_sectors p map) image h.stored.disk_is (counted h.stored.holds) reads, refl)
+
+pub flushed_stable : (old new : DiskState) (p : Place) (map : SectorMap) (t : Tree) → new.size ≡ old.size → EachReadsAs map new → HasTree p map old t
+    → EachStandsFor (room_of p) new t
+flushed_stable old new p map t sized lasting h =
+    each_stands p map t (free_sectors p map) new (subst (λ n. IsDiskOf n p map) (sym sized) h.stored.disk_is) (counted h.stored.holds) lasting
+
+-- after the sweep of all numbers
+pub keeps_both : {p : Place} {map now : SectorMap} {old mid new : DiskState} → ((t : Tree) → HasTree p map old t → HasTree p now mid (pruned t))
+    → KeepsTree p map old mid → KeepsTree p now mid new → KeepsTree p map old new
+keeps_both {p} {map} {now} {old} {mid} {new} swept first second t h =
+    joined (first t h) (weaker (pruned_same (room_of p) t (pruned t) (pruned_twice (room_of p) t h.stored.holds.tree)) (second (pruned t) (swept t h)))
+
+-- ---- the disk of an error that is passed on
+
+pub err_disk : {D : Type 0} (r : Result (StoreView D) D) (disk : D) → IsErr r → IsErrAnd r (λ d. d ≡ disk) → disk_after r ≡ disk
+err_disk (Ok store) disk err and = absurd cc
+err_disk (Err d) disk err and = and

@@ -1,0 +1,78 @@
+//! What a mount does to files that a stop has left without a name.
+
+ghost use Rattle.std.specs.Prelude.{◌≡◌, IfOk};
+ghost use Rattle.sector_disk.specs.Disk.{HasCause};
+ghost use Rattle.sector_txn.specs.Stores.{present, disk_after};
+ghost use Rattle.bit_alloc.specs.declared.bitmap.Bitmap.TheVariants.{Inodes};
+ghost use Rattle.bit_alloc.specs.Bitmaps.{IsNumber};
+ghost use Rattle.fs_model.specs.Changes.{pruned};
+ghost use Rattle.fs_model.specs.Stands.{room_of};
+ghost use Rattle.fs_model.specs.Trees.{Tree};
+ghost use Rattle.fs_system.specs.Seen.{EachStandsFor};
+ghost use Rattle.fs_system.specs.Sweeping.{IsStored, HasTree, FreesNameless, KeepsTree};
+
+use file_calls::leave;
+use fs_layout::{Place, ROOT};
+use sector_disk::Disk;
+use sector_txn::Store;
+
+// Frees inode n where it is that of a file without a name, in a commit of its own. At `Err` a read or the commit has failed.
+fn free_nameless<D: Disk>(store: Store<D>, place: Place, n: u32) -> Result<Store<D>, D>
+    requires number { IsNumber place Inodes n }
+    requires tree { (t : Tree) × HasTree place (present D.state store) (D.state store.disk) t }
+    ensures frees { IfOk result (λ after.
+        FreesNameless place n (present D.state store) (D.state store.disk) (present D.state after) (D.state after.disk)) }
+    ensures any_moment { KeepsTree place (present D.state store) (D.state store.disk) (D.state (disk_after result)) }
+    ensures size { (D.state (disk_after result)).size ≡ (D.state store.disk).size }
+    ensures cause { HasCause (D.state store.disk) (D.state (disk_after result)) result }
+{
+    let mut txn = store.begin();
+    match leave(&mut txn, place, n, false) {
+        Ok(()) => match txn.keep() {
+            Ok(store) => Ok(store),
+            Err(broken) => Err(broken.into_disk()),
+        },
+        Err(_) => Err(txn.drop_delta().into_disk()),
+    }
+}
+
+// The same of each inode but the root.
+fn free_all_nameless<D: Disk>(store: Store<D>, place: Place) -> Result<Store<D>, D>
+    requires tree { (t : Tree) × HasTree place (present D.state store) (D.state store.disk) t }
+    ensures swept { IfOk result (λ after. (t : Tree) → HasTree place (present D.state store) (D.state store.disk) t
+        → HasTree place (present D.state after) (D.state after.disk) (pruned t)) }
+    ensures any_moment { KeepsTree place (present D.state store) (D.state store.disk) (D.state (disk_after result)) }
+    ensures size { (D.state (disk_after result)).size ≡ (D.state store.disk).size }
+    ensures cause { HasCause (D.state store.disk) (D.state (disk_after result)) result }
+{
+    let mut store = store;
+    for n in ROOT + 1..place.inodes {
+        store = free_nameless(store, place, n)?;
+    }
+    Ok(store)
+}
+
+/// Frees each file without a name, in a commit of its own, and makes all stable. At `Err` a read or a commit has failed.
+pub(crate) fn sweep<D: Disk>(store: Store<D>, place: Place) -> Result<Store<D>, D>
+    requires tree { (t : Tree) × HasTree place (present D.state store) (D.state store.disk) t }
+
+    // The tree is there without them.
+    ensures swept { IfOk result (λ after. (t : Tree) → HasTree place (present D.state store) (D.state store.disk) t
+        → IsStored (D.state after.disk).size place (present D.state after) (pruned t)) }
+
+    // From `Ok` on a stop leaves what stands for it.
+    ensures lasting { IfOk result (λ after. (t : Tree) → HasTree place (present D.state store) (D.state store.disk) t
+        → EachStandsFor (room_of place) (D.state after.disk) (pruned t)) }
+
+    // A stop at any moment of the call leaves what stands for the tree, but for files without names.
+    ensures any_moment { KeepsTree place (present D.state store) (D.state store.disk) (D.state (disk_after result)) }
+
+    ensures size { (D.state (disk_after result)).size ≡ (D.state store.disk).size }
+    ensures cause { HasCause (D.state store.disk) (D.state (disk_after result)) result }
+{
+    let store = free_all_nameless(store, place)?;
+    match store.flush() {
+        Ok(store) => Ok(store),
+        Err(broken) => Err(broken.into_disk()),
+    }
+}

@@ -1,0 +1,141 @@
+-- A directory that is made.
+--     new_directory, directory_fits        its inode
+--     acls_few, directory_taken        an inode was taken for it
+--     mode_performs, mkdir_by_path, is_new_name, directory_changes        mkdir
+use Rattle.std.specs.Prelude.{◌≡◌, ℕ, ◌+◌, ◌-◌, ◌/◌, ◌%◌, ◌^◌, ◌<◌, ◌≤◌, ◌==◌, nat_eq, nat_le, ◌&&◌, cond, Bool, true, false, List, [], ◌∷◌, get_or, Option, None, Some, IsTrue, Result, Ok, Err, IsErr, IsErrAnd}
+use Rattle.std.proofs.Common.{refl, ap, arith, ◌∙◌}
+use Rattle.std.specs.Ordering.{nat_cmp}
+use Rattle.std.proofs.lemmas.Bool.Decides.{nat_tests}
+use Rattle.posix_acl.specs.AccessList.{AccessList}
+use Rattle.fs_cred.specs.declared.refusal.Refusal.{Refusal}
+use Rattle.fs_layout.specs.declared.inode.Inode.{Inode}
+use Rattle.fs_layout.specs.declared.inode.Kind.TheVariants as kinds
+use Rattle.fs_layout.specs.declared.inode.TheConstants.{MAX_FILE_SIZE}
+use Rattle.fs_layout.specs.declared.place.Place.{Place}
+use Rattle.fs_layout.specs.AclSector.{kept_acl}
+use Rattle.fs_layout.specs.Bytes.{SectorMap, IsBytes, zeros}
+use Rattle.fs_layout.specs.Maps.{get}
+use Rattle.fs_layout.specs.Inode.{FitsInode, inode_fits, free_inode}
+use Rattle.fs_layout.specs.Images.{Holds, bit, inode_at, inode_bitmap}
+use Rattle.fs_layout.proofs.SplicedBytes.{get_or-zeros}
+use Rattle.sector_txn.specs.Sectors.{TxnState}
+use Rattle.bit_alloc.specs.declared.bitmap.Bitmap.TheVariants.{Inodes}
+use Rattle.bit_alloc.specs.Bitmaps.{IsFreeNumber}
+use Rattle.bit_alloc.specs.Inodes.{KeepsFields, Touches}
+use Rattle.inode_table.specs.Acls.{HasAcl, HasDefaultAcl, with_acl_bits, acls_take}
+use Rattle.fs_model.specs.declared.call.Call.TheVariants.{Mkdir}
+use Rattle.fs_model.specs.declared.reply.Reply.{Reply}
+use Rattle.fs_model.specs.declared.reply.Reply.TheVariants.{Done}
+use Rattle.fs_model.specs.declared.walk.Form.TheVariants.{Parent}
+use Rattle.fs_model.specs.declared.walk.Found.{Found}
+use Rattle.fs_model.specs.Births.{the_node, born_directory}
+use Rattle.fs_model.specs.Demands.{first_of}
+use Rattle.fs_model.specs.NameCalls.{mkdir_row, mkdir_demands, mkdir_effect}
+use Rattle.fs_model.specs.Processes.{Process, Desks}
+use Rattle.fs_model.specs.Rows.{row_of}
+use Rattle.fs_model.specs.Scenes.{must_be_new, check_of_mode}
+use Rattle.fs_model.specs.States.{State}
+use Rattle.fs_model.proofs.StepsMaking.{directory_is_born}
+use Rattle.fs_model.proofs.StepsOfMaking.{is_new_if}
+use Rattle.path_walk.specs.Answers.{refused_or}
+use Rattle.path_walk.specs.Paths.{scene_at, HasFound}
+use Rattle.path_walk.specs.Performing.{IsStateOf, Performs}
+use Rattle.path_walk.proofs.ByPath.{IsByPath}
+use Rattle.path_walk.proofs.Calling.{or_else-none, met_ok, refused_err}
+use Rattle.path_walk.proofs.HeldChanges.{new_directory_held}
+use Rattle.file_calls.specs.Openings.{make_asked}
+use Rattle.file_calls.proofs.Changed.{IsChange, argument_performs}
+use Rattle.file_calls.proofs.NewFile.{takes_one}
+use Rattle.name_calls.specs.NewNodes.{MakesNode, TakesInode, directory_made}
+use Rattle.name_calls.proofs.NewNames.{caller_fits, parent_fits, space_met, node_made}
+
+-- named once, in directory dir
+abbrev pub new_directory : ℕ → ℕ → ℕ → ℕ → Inode
+new_directory dir uid gid bits = record free_inode { kind = kinds.Directory; mode = bits; uid = uid; gid = gid; names = 1; parent = dir }
+
+pub directory_fits : (dir uid gid bits : ℕ) → dir < 2 ^ 32 → uid < 2 ^ 32 → gid < 2 ^ 32 → bits < 2048 → FitsInode (new_directory dir uid gid bits)
+unfolding inode_fits zeros
+directory_fits dir uid gid bits small_dir small_uid small_gid few =
+    let low : nat_le bits 0o3777 ≡ true = grind (arith, nat_tests) in
+    record {
+      valid = record { numbers = ap (λ (b : Bool). (b && nat_le 0 MAX_FILE_SIZE) && nat_eq (0 % 128) 0) low; free = λ e. cc };
+      mode = omega (arith, few);
+      uid = small_uid;
+      gid = small_gid;
+      names = omega arith;
+      size = omega arith;
+      parent = small_dir;
+      acl = omega arith;
+      default_acl = omega arith;
+      direct_len = refl;
+      direct = λ i. let z : get_or free_inode.direct i 0 ≡ 0 = get_or-zeros 12 i in omega (arith, z);
+      indirect = omega arith;
+    }
+
+pub acls_few : (a : AccessList) (default : Option AccessList) → acls_take a default ≤ 2
+acls_few a default = let one = takes_one (kept_acl a) in let other = takes_one default in omega (arith, one, other)
+
+both_bits : (bits : ℕ) → bits < 2048 → bits / 512 ≡ cond (bits / 512 % 2 == 1) 1 0 + cond (bits / 1024 % 2 == 1) 2 0
+both_bits bits few = go (bits / 512 % 2 == 1) (bits / 1024 % 2 == 1) refl refl
+  where
+    go : (a b : Bool) → (bits / 512 % 2 == 1) ≡ a → (bits / 1024 % 2 == 1) ≡ b → bits / 512 ≡ cond a 1 0 + cond b 2 0
+    go true true x y = let s : bits / 512 % 2 ≡ 1 = grind (arith, nat_tests) in let g : bits / 1024 % 2 ≡ 1 = grind (arith, nat_tests) in omega (arith, few, s, g)
+    go true false x y = let s : bits / 512 % 2 ≡ 1 = grind (arith, nat_tests) in let g : bits / 1024 % 2 ≡ 0 = grind (arith, nat_tests) in omega (arith, few, s, g)
+    go false true x y = let s : bits / 512 % 2 ≡ 0 = grind (arith, nat_tests) in let g : bits / 1024 % 2 ≡ 1 = grind (arith, nat_tests) in omega (arith, few, s, g)
+    go false false x y = let s : bits / 512 % 2 ≡ 0 = grind (arith, nat_tests) in let g : bits / 1024 % 2 ≡ 0 = grind (arith, nat_tests) in omega (arith, few, s, g)
+
+module _ {p : Place} {n taken more : ℕ} {old new : TxnState} (free : IsFreeNumber p Inodes old.sectors n) (touches : Touches p n taken more old new)
+    (used : IsTrue (bit new.sectors inode_bitmap n)) where
+  pub directory_taken : (dir uid gid bits : ℕ) → bits < 2048 → (a : AccessList) (default : Option AccessList)
+      → KeepsFields (with_acl_bits (new_directory dir uid gid bits) a) (inode_at p new.sectors n) → Holds new.sectors (inode_at p new.sectors n) []
+      → HasAcl new.sectors (inode_at p new.sectors n) a → HasDefaultAcl new.sectors (inode_at p new.sectors n) default
+      → TakesInode p n (record { node = directory_made uid gid bits a default; names = 1; parent = dir }) old.sectors new.sectors
+  directory_taken dir uid gid bits few a default fields empty access has = record {
+    super = touches.super;
+    free = free;
+    change = touches.inode;
+    taken = used;
+    holds = new_directory_held new.sectors (new_directory dir uid gid bits) (inode_at p new.sectors n) uid gid refl refl refl a fields empty access dir default
+        (bits / 512 % 2 == 1) (bits / 1024 % 2 == 1) refl (both_bits bits few) refl has;
+  }
+
+-- ---- mkdir
+
+mkdir_is : (path : List ℕ) (mode : ℕ) → row_of (Mkdir path mode) ≡ mkdir_row path mode
+unfolding row_of
+mkdir_is path mode = refl
+
+-- its mode is refused
+module _ {p : Place} (pid : ℕ) (path : List ℕ) (mode : ℕ) {txn : TxnState} {desks : Desks} (q : Process) (there : get nat_cmp desks pid ≡ Some q) where
+  pub mode_performs : (r : Result Reply Refusal) (e : Refusal) → IsErr r → IsErrAnd r (λ y. y ≡ e) → refused_or {A = Unit {0}} (check_of_mode mode) (Ok tt) ≡ Err e
+      → Performs p pid (Mkdir path mode) txn txn desks desks r
+  mode_performs r e err and is =
+      argument_performs pid {demands = mkdir_demands} {effect = mkdir_effect mode} (check_of_mode mode ∷ []) (mkdir_is path mode) q there r e err and
+      (or_else-none (check_of_mode mode) ∙ refused_err {A = Unit {0}} (check_of_mode mode) tt e is)
+
+-- or has no other bits
+pub mkdir_by_path : (path : List ℕ) (mode : ℕ) → refused_or {A = Unit {0}} (check_of_mode mode) (Ok tt) ≡ Ok tt → IsByPath (Mkdir path mode) Parent path mkdir_demands (mkdir_effect mode)
+mkdir_by_path path mode is = record {
+  arguments = check_of_mode mode ∷ [];
+  row = mkdir_is path mode;
+  met = or_else-none (check_of_mode mode) ∙ (met_ok {A = Unit {0}} (check_of_mode mode) tt tt is).0;
+  asks = refl;
+}
+
+-- what was found is new
+pub is_new_name : (f : Found) → refused_or {A = Unit {0}} (must_be_new f) (Ok tt) ≡ Ok tt → (first_of (must_be_new f ∷ []) ≡ None) × (f.ino ≡ None)
+is_new_name f is =
+    let met = (met_ok {A = Unit {0}} (must_be_new f) tt tt is).0 in
+    (or_else-none (must_be_new f) ∙ met, is_new_if f met)
+
+module _ {p : Place} {map : SectorMap} {desks : Desks} {s : State} (at : IsStateOf p map desks s) (q : Process) (f : Found) {pid : ℕ} {path : List ℕ}
+    (has : HasFound s pid q Parent path f) (bytes : IsBytes path) (is : refused_or {A = Unit {0}} (must_be_new f) (Ok tt) ≡ Ok tt) where
+  pub directory_changes : (mode : ℕ) (new : SectorMap) → first_of (make_asked p map q.cred s.tree f.dir (f.step - 1)) ≡ None
+      → MakesNode p f.dir f.name (born_directory q.cred q.umask mode (the_node s.tree f.dir)) map new
+      → IsChange p new desks s q (mkdir_demands (scene_at s q f)) (mkdir_effect mode (scene_at s q f)) Done
+  directory_changes mode new allows made =
+      let x = is_new_name f is in
+      let fits = parent_fits at q f has bytes x.1 in
+      node_made at q f has bytes x.1 (born_directory q.cred q.umask mode (the_node s.tree f.dir))
+      (directory_is_born s.room s.tree q.cred (caller_fits at has).cred (the_node s.tree f.dir) fits.group q.umask mode fits.body)
+      new made (mkdir_demands (scene_at s q f)) (space_met at q f (must_be_new f ∷ []) x.0 allows) allows

@@ -1,0 +1,126 @@
+-- A symbolic link that is made.
+--     link_taken        an inode was taken for it
+--     none_free        no sector is free
+--     target_size        its target has a size that a link may have
+--     target_performs, symlink_by_path, is_target, is_link_name, link_changes        symlink
+use Rattle.std.specs.Prelude.{◌≡◌, ◌⊎◌, ℕ, ◌-◌, ◌<◌, ◌/◌, ◌%◌, ◌==◌, nat_lt, if◌then◌else◌, List, [], ◌∷◌, length, None, Some, IsTrue, Result, Ok, Err, IsErr, IsErrAnd}
+use Rattle.std.proofs.Common.{refl, subst, arith, inl, inr}
+use Rattle.std.specs.List.{list_any}
+use Rattle.std.specs.Ordering.{nat_cmp}
+use Rattle.fs_cred.specs.declared.errno.Errno.TheVariants.{ENOENT, EINVAL, ENAMETOOLONG}
+use Rattle.fs_cred.specs.declared.refusal.Refusal.{Refusal}
+use Rattle.fs_cred.specs.Credentials.{Credential}
+use Rattle.fs_layout.specs.declared.inode.Inode.{Inode}
+use Rattle.fs_layout.specs.declared.inode.Kind.TheVariants.{Link}
+use Rattle.fs_layout.specs.declared.place.Place.{Place}
+use Rattle.fs_layout.specs.Bytes.{SectorMap, IsBytes}
+use Rattle.fs_layout.specs.Maps.{get}
+use Rattle.fs_layout.specs.Images.{Holds, HasNoHole, bit, inode_at, inode_bitmap}
+use Rattle.sector_txn.specs.Sectors.{TxnState}
+use Rattle.bit_alloc.specs.declared.bitmap.Bitmap.TheVariants.{Inodes}
+use Rattle.bit_alloc.specs.Bitmaps.{IsFreeNumber}
+use Rattle.bit_alloc.specs.Inodes.{Touches}
+use Rattle.block_map.specs.Contents.{AllowsSize}
+use Rattle.block_map.specs.Links.{IsNewLink, HasNoAcls}
+use Rattle.fs_model.specs.declared.call.Call.TheVariants.{Symlink}
+use Rattle.fs_model.specs.declared.reply.Reply.{Reply}
+use Rattle.fs_model.specs.declared.reply.Reply.TheVariants.{Done}
+use Rattle.fs_model.specs.declared.walk.Form.TheVariants.{Parent}
+use Rattle.fs_model.specs.declared.walk.Found.{Found}
+use Rattle.fs_model.specs.Births.{the_node, born_link}
+use Rattle.fs_model.specs.Demands.{refuse, first_of}
+use Rattle.fs_model.specs.Limits.{target_limit}
+use Rattle.fs_model.specs.NameCalls.{symlink_row, symlink_arguments, symlink_demands, symlink_effect}
+use Rattle.fs_model.specs.Parts.{is_empty}
+use Rattle.fs_model.specs.Processes.{Process, Desks}
+use Rattle.fs_model.specs.Rows.{row_of}
+use Rattle.fs_model.specs.Scenes.{must_be_new}
+use Rattle.fs_model.specs.States.{State}
+use Rattle.fs_model.specs.Trees.{IsTarget}
+use Rattle.fs_model.proofs.StepsDemands.{first_met, then_met}
+use Rattle.fs_model.proofs.StepsMaking.{link_is_born}
+use Rattle.fs_model.proofs.StepsOfMaking.{is_new_if, target_is}
+use Rattle.path_walk.specs.Answers.{refused_or}
+use Rattle.path_walk.specs.Paths.{scene_at, HasFound}
+use Rattle.path_walk.specs.Performing.{IsStateOf, Performs}
+use Rattle.path_walk.proofs.ByPath.{IsByPath}
+use Rattle.path_walk.proofs.Calling.{met_ok, refused_err}
+use Rattle.path_walk.proofs.HeldChanges.{new_link_held}
+use Rattle.file_calls.specs.Openings.{make_asked}
+use Rattle.file_calls.proofs.Changed.{IsChange, argument_performs}
+use Rattle.name_calls.specs.NewNodes.{MakesNode, TakesInode, link_made, link_name_asked}
+use Rattle.name_calls.proofs.NewNames.{caller_fits, parent_fits, space_met, node_made}
+
+pub target_size : (target : List ℕ) → IsTarget target → AllowsSize Link (length target)
+target_size target is = (is.some, is.short)
+
+-- none is free: fewer than one
+pub none_free : {a : Type 0} {k : ℕ} → a ⊎ (k ≡ 0) → a ⊎ (k < 1)
+none_free why = elim why [ inl x ↦ inl x | inr none ↦ inr (omega (arith, none)) ]
+
+module _ {p : Place} {n taken more : ℕ} {old new : TxnState} (free : IsFreeNumber p Inodes old.sectors n) (touches : Touches p n taken more old new)
+    (used : IsTrue (bit new.sectors inode_bitmap n)) where
+  pub link_taken : (dir uid gid : ℕ) (directory : Inode) (cred : Credential) (target : List ℕ) → uid ≡ cred.uid
+      → gid ≡ (if directory.mode / 1024 % 2 == 1 then directory.gid else cred.gid) → IsNewLink uid gid (inode_at p new.sectors n)
+      → HasNoAcls (inode_at p new.sectors n) → Holds new.sectors (inode_at p new.sectors n) target → HasNoHole new.sectors (inode_at p new.sectors n)
+      → TakesInode p n (record { node = link_made directory cred target; names = 1; parent = dir }) old.sectors new.sectors
+  link_taken dir uid gid directory cred target owner group is acls holds whole =
+      let group_made : ℕ = if directory.mode / 1024 % 2 == 1 then directory.gid else cred.gid in
+      record {
+        super = touches.super;
+        free = free;
+        change = touches.inode;
+        taken = used;
+        holds = new_link_held new.sectors (inode_at p new.sectors n) cred.uid group_made dir target
+            (subst (λ (k : ℕ). IsNewLink cred.uid k (inode_at p new.sectors n)) group (subst (λ (k : ℕ). IsNewLink k gid (inode_at p new.sectors n)) owner is))
+            acls holds whole;
+      }
+
+-- ---- symlink
+
+symlink_is : (target path : List ℕ) → row_of (Symlink target path) ≡ symlink_row target path
+unfolding row_of
+symlink_is target path = refl
+
+-- its target is refused
+module _ {p : Place} (pid : ℕ) (target path : List ℕ) {txn : TxnState} {desks : Desks} (q : Process) (there : get nat_cmp desks pid ≡ Some q) where
+  pub target_performs : (r : Result Reply Refusal) (e : Refusal) → IsErr r → IsErrAnd r (λ y. y ≡ e)
+      → refused_or {A = Unit {0}} (first_of (symlink_arguments target)) (Ok tt) ≡ Err e → Performs p pid (Symlink target path) txn txn desks desks r
+  target_performs r e err and is =
+      argument_performs pid {demands = symlink_demands} {effect = symlink_effect target} (symlink_arguments target) (symlink_is target path) q there r e err and
+      (refused_err {A = Unit {0}} (first_of (symlink_arguments target)) tt e is)
+
+-- or is one
+module _ (target path : List ℕ) (is : refused_or {A = Unit {0}} (first_of (symlink_arguments target)) (Ok tt) ≡ Ok tt) where
+  met : first_of (symlink_arguments target) ≡ None
+  met = (met_ok {A = Unit {0}} (first_of (symlink_arguments target)) tt tt is).0
+
+  pub symlink_by_path : IsByPath (Symlink target path) Parent path symlink_demands (symlink_effect target)
+  symlink_by_path = record { arguments = symlink_arguments target; row = symlink_is target path; met = met; asks = refl }
+
+  pub is_target : IsBytes target → IsTarget target
+  is_target bytes =
+      let empty = refuse ENOENT (is_empty target) in
+      let zero = refuse EINVAL (list_any (λ b. b == 0) target) in
+      let long = refuse ENAMETOOLONG (nat_lt target_limit (length target)) in
+      let after = then_met empty (first_of (zero ∷ long ∷ [])) met in
+      let last = then_met zero (first_of (long ∷ [])) after in
+      target_is target bytes (first_met empty (first_of (zero ∷ long ∷ [])) met, (first_met zero (first_of (long ∷ [])) after, (first_met long (first_of []) last, tt)))
+
+-- what was found is new
+pub is_link_name : (f : Found) → refused_or {A = Unit {0}} (first_of (link_name_asked f)) (Ok tt) ≡ Ok tt → (first_of (link_name_asked f) ≡ None) × (f.ino ≡ None)
+is_link_name f is =
+    let met = (met_ok {A = Unit {0}} (first_of (link_name_asked f)) tt tt is).0 in
+    (met, is_new_if f (first_met (must_be_new f) (first_of (refuse ENOENT f.slash ∷ [])) met))
+
+module _ {p : Place} {map : SectorMap} {desks : Desks} {s : State} (at : IsStateOf p map desks s) (q : Process) (f : Found) {pid : ℕ} {path : List ℕ}
+    (has : HasFound s pid q Parent path f) (bytes : IsBytes path) (is : refused_or {A = Unit {0}} (first_of (link_name_asked f)) (Ok tt) ≡ Ok tt) where
+  pub link_changes : (target : List ℕ) → IsTarget target → (new : SectorMap) → first_of (make_asked p map q.cred s.tree f.dir (f.step - 1)) ≡ None
+      → MakesNode p f.dir f.name (born_link q.cred target (the_node s.tree f.dir)) map new
+      → IsChange p new desks s q (symlink_demands (scene_at s q f)) (symlink_effect target (scene_at s q f)) Done
+  link_changes target valid new allows made =
+      let x = is_link_name f is in
+      let fits = parent_fits at q f has bytes x.1 in
+      node_made at q f has bytes x.1 (born_link q.cred target (the_node s.tree f.dir))
+      (link_is_born s.room s.tree q.cred (caller_fits at has).cred (the_node s.tree f.dir) fits.group target valid)
+      new made (symlink_demands (scene_at s q f)) (space_met at q f (link_name_asked f) x.0 allows) allows

@@ -1,0 +1,213 @@
+-- What chdir asks of what it has found, as its inode says it, and what it leaves of the process.
+--     chdir_by_path        its row
+--     other_kind_refused, search_held, search_refused, entered        what is asked
+--     process_performs        a call by one path that changes its process alone
+use Rattle.std.specs.Prelude.{◌≡◌, ℕ, ◌==◌, Bool, true, false, not, if◌then◌else◌, List, [], ◌∷◌, None, Some, IsTrue, Ok, Err}
+use Rattle.std.proofs.Common.{refl, sym, ap, subst, ◌∙◌, inl}
+use Rattle.std.specs.List.{list_any}
+use Rattle.std.specs.Ordering.{nat_cmp}
+use Rattle.sector_disk.specs.Disk.{DiskState}
+use Rattle.fs_cred.specs.declared.errno.Errno.TheVariants.{ENOTDIR}
+use Rattle.fs_cred.specs.declared.node.Node.{Node as AccessNode}
+use Rattle.fs_cred.specs.declared.node.NodeKind.TheVariants as NodeKind
+use Rattle.fs_cred.specs.declared.refusal.Need.TheVariants.{Search}
+use Rattle.fs_cred.specs.declared.refusal.Refusal.{Refusal}
+use Rattle.fs_cred.specs.Credentials.{Credential}
+use Rattle.fs_cred.specs.Decisions.{is_file}
+use Rattle.fs_cred.specs.Verdicts.{verdict}
+use Rattle.fs_layout.specs.declared.inode.Inode.{Inode}
+use Rattle.fs_layout.specs.declared.place.Place.{Place}
+use Rattle.fs_layout.specs.Bytes.{SectorMap}
+use Rattle.fs_layout.specs.Maps.{get, with_entry}
+use Rattle.sector_txn.specs.Sectors.{TxnState, IsUnchanged}
+use Rattle.block_map.proofs.Runs.{unchanged_joined}
+use Rattle.fs_model.specs.declared.call.Call.{Call}
+use Rattle.fs_model.specs.declared.call.Call.TheVariants.{Chdir}
+use Rattle.fs_model.specs.declared.reply.Reply.{Reply}
+use Rattle.fs_model.specs.declared.walk.Form.{Form}
+use Rattle.fs_model.specs.declared.walk.Form.TheVariants.{Follow}
+use Rattle.fs_model.specs.declared.walk.Found.{Found}
+use Rattle.fs_model.specs.AttributeCalls.{chdir_row, chdir_demands, chdir_effect}
+use Rattle.fs_model.specs.Births.{the_node}
+use Rattle.fs_model.specs.Changes.{Same}
+use Rattle.fs_model.specs.Demands.{Demand, refuse, first_of, decided, search_of, search_on, search_only}
+use Rattle.fs_model.specs.Nodes.{Node, Body, File, Dir, Link, is_directory, accessed_body}
+use Rattle.fs_model.specs.Parts.{path_checks}
+use Rattle.fs_model.specs.Processes.{Process, Desks, Descriptor, is_open}
+use Rattle.fs_model.specs.Rows.{row_of}
+use Rattle.fs_model.specs.Rules.{is_directory_kind}
+use Rattle.fs_model.specs.Scenes.{Scene, Effect, number, must_be_there, with_process}
+use Rattle.fs_model.specs.Stands.{HoldsAll, placed}
+use Rattle.fs_model.specs.States.{State}
+use Rattle.fs_model.specs.Steps.{after_effect}
+use Rattle.fs_model.specs.Trees.{Tree, IsDirectoryAt}
+use Rattle.fs_model.proofs.StepsDemands.{unrefused}
+use Rattle.fs_model.proofs.Unchanged.{open_stays}
+use Rattle.path_walk.specs.Answers.{refused_or, IsAnswered}
+use Rattle.path_walk.specs.HeldTrees.{HoldsTree, IsThere, HasAccess}
+use Rattle.path_walk.specs.Paths.{scene_at, HasFound}
+use Rattle.path_walk.specs.Performing.{IsStateOf, Performs}
+use Rattle.path_walk.specs.Walked.{walk_of}
+use Rattle.path_walk.proofs.ByPath.{IsByPath, has_found}
+use Rattle.path_walk.proofs.Calling.{or_else-none, first_asked, next_asked, both_met, met_ok, same_process, state_kept, found_firm, found_late, found_after}
+use Rattle.path_walk.proofs.HeldNodes.{held_kind}
+use Rattle.path_walk.proofs.Kept.{same_map}
+use Rattle.file_calls.proofs.ByDescriptor.{still_open}
+use Rattle.file_calls.proofs.Followed.{IsAccessed, accessed_is}
+use Rattle.file_calls.proofs.OpenNew.{dir_access, dir_held}
+use Rattle.file_calls.proofs.Owned.{IsNode, node_of}
+use Rattle.file_calls.proofs.Shown.{IsInode}
+use Rattle.name_calls.specs.Entering.{enter_asked}
+
+-- ---- its row
+
+chdir_is : (path : List ℕ) → row_of (Chdir path) ≡ chdir_row path
+unfolding row_of
+chdir_is path = refl
+
+pub chdir_by_path : (path : List ℕ) → IsByPath (Chdir path) Follow path chdir_demands chdir_effect
+chdir_by_path path = record { arguments = []; row = chdir_is path; met = refl; asks = refl }
+
+-- ---- what is asked
+
+not_not : (b : Bool) → not b ≡ false → b ≡ true
+not_not true e = refl
+not_not false e = absurd (cc)
+
+-- access is decided on a directory as on none else
+no_file : (owner group : ℕ) (b : Body) (x : AccessNode) → is_directory b ≡ true → accessed_body owner group b ≡ Some x → is_file x.kind ≡ false
+no_file owner group (File a bytes) x is e = absurd (cc)
+no_file owner group (Dir a d) x is e =
+    let same : record { kind = NodeKind.Directory; owner = owner; group = group; acl = a } ≡ x = cc in
+    ap (λ (y : AccessNode). is_file y.kind) (sym same)
+no_file owner group (Link target) x is e = absurd (cc)
+
+-- what is asked after it is there
+abbrev pub entering_rest : Credential → Tree → Found → List Demand
+entering_rest cred t f = refuse ENOTDIR (not (is_directory (the_node t (number f)).body)) ∷ search_on cred t (number f) 1 f.step ∷ []
+
+directory_access : (t : Tree) (n : ℕ) (a : IsAccessed t n) → IsDirectoryAt t n → is_file a.access.kind ≡ false
+directory_access t n a d =
+    let same : d.node ≡ a.node = (let e : Some d.node ≡ Some a.node = sym d.is_there ∙ a.at in cc) in
+    no_file a.node.owner a.node.group a.node.body a.access (ap (λ (u : Node). is_directory u.body) (sym same) ∙ d.directory) a.is
+
+module _ {p : Place} {map : SectorMap} {t : Tree} (h : HoldsTree p map t) (f : Found) (n : ℕ) (v : Inode) (i : IsInode p map f n v) (there : IsThere t n) (cred : Credential) where
+  node : IsNode map t f n v
+  node = node_of h f n v i.number i.inode there
+
+  abbrev other_kind : Demand
+  other_kind = refuse ENOTDIR (not (is_directory (the_node t (number f)).body))
+
+  abbrev searched : Demand
+  searched = search_on cred t (number f) 1 f.step
+
+  kind_is : refuse ENOTDIR (not (is_directory_kind v.kind)) ≡ other_kind
+  kind_is = ap (λ (b : Bool). refuse ENOTDIR (not b))
+      (ap (λ (w : Inode). is_directory_kind w.kind) i.inode ∙ held_kind h n node.node node.at ∙ sym (ap (λ (u : Node). is_directory u.body) node.is))
+
+  -- it is no directory
+  pub other_kind_refused : {A : Type 0} (x : A) (e : Refusal) (old new : DiskState) → refused_or {A = Unit {0}} (refuse ENOTDIR (not (is_directory_kind v.kind))) (Ok tt) ≡ Err e
+      → IsAnswered old new (refused_or {A = A} (first_of (enter_asked cred t f)) (Ok x)) (Err e)
+  other_kind_refused {A} x e old new is =
+      next_asked (must_be_there f) (other_kind ∷ searched ∷ []) x e old new i.met
+      (first_asked {B = Unit {0}} other_kind (searched ∷ []) tt x e old new
+      (inl (ap (λ (d : Demand). refused_or {A = Unit {0}} d (Ok tt)) (sym kind_is) ∙ is)))
+
+  module _ (is : refused_or {A = Unit {0}} (refuse ENOTDIR (not (is_directory_kind v.kind))) (Ok tt) ≡ Ok tt) where
+    kind_met : other_kind ≡ None
+    kind_met = sym kind_is ∙ (met_ok {A = Unit {0}} (refuse ENOTDIR (not (is_directory_kind v.kind))) tt tt is).0
+
+    pub directory : IsDirectoryAt t n
+    directory = record {
+      node = node.node;
+      is_there = node.at;
+      directory = not_not (is_directory node.node.body)
+          (ap (λ (u : Node). not (is_directory u.body)) (sym node.is) ∙ unrefused ENOTDIR (not (is_directory (the_node t (number f)).body)) kind_met);
+    }
+
+    abbrev pub access : AccessNode
+    access = (dir_access h n directory cred f.step).access
+
+    pub search_held : HasAccess map v access
+    search_held = subst (λ (w : Inode). HasAccess map w access) (sym i.inode) (dir_held h n directory cred f.step)
+
+    search_is : searched ≡ decided 1 f.step Search (verdict cred access search_only)
+    search_is =
+        let a = dir_access h n directory cred f.step in
+        ap (λ (k : ℕ). search_on cred t k 1 f.step) i.number
+        ∙ ap (search_of cred 1 f.step) (accessed_is t n a)
+        ∙ ap (λ (b : Bool). if b then None else decided 1 f.step Search (verdict cred a.access search_only))
+        (directory_access t n a directory)
+
+    -- it may not be searched
+    pub search_refused : {A : Type 0} (x : A) (e : Refusal) (old new : DiskState)
+        → IsAnswered old new (refused_or {A = Unit {0}} (decided 1 f.step Search (verdict cred access search_only)) (Ok tt)) (Err e)
+        → IsAnswered old new (refused_or {A = A} (first_of (enter_asked cred t f)) (Ok x)) (Err e)
+    search_refused {A} x e old new asked =
+        next_asked (must_be_there f) (other_kind ∷ searched ∷ []) x e old new i.met
+        (next_asked other_kind (searched ∷ []) x e old new kind_met
+        (first_asked {B = Unit {0}} searched [] tt x e old new
+        (subst (λ (d : Demand). IsAnswered old new (refused_or {A = Unit {0}} d (Ok tt)) (Err e)) (sym search_is) asked)))
+
+    -- it may
+    pub entered : refused_or {A = Unit {0}} (decided 1 f.step Search (verdict cred access search_only)) (Ok tt) ≡ Ok tt → first_of (enter_asked cred t f) ≡ None
+    entered asked =
+        both_met (must_be_there f) (other_kind ∷ searched ∷ []) i.met
+        (both_met other_kind (searched ∷ []) kind_met
+        (or_else-none searched ∙ search_is ∙ (met_ok {A = Unit {0}} (decided 1 f.step Search (verdict cred access search_only)) tt tt asked).0))
+
+-- as the process' credential
+module _ (t : Tree) (f : Found) {cred who : Credential} where
+  pub entering_as : (e : Refusal) (old new : DiskState) → cred ≡ who
+      → IsAnswered old new (refused_or {A = ℕ} (first_of (enter_asked cred t f)) (Ok (number f))) (Err e)
+      → IsAnswered old new (refused_or {A = ℕ} (first_of (enter_asked who t f)) (Ok (number f))) (Err e)
+  entering_as e old new same is =
+      subst (λ (k : Credential). IsAnswered old new (refused_or {A = ℕ} (first_of (enter_asked k t f)) (Ok (number f))) (Err e)) same is
+
+  pub entered_as : (n : ℕ) → cred ≡ who → refused_or {A = ℕ} (first_of (enter_asked cred t f)) (Ok (number f)) ≡ Ok n
+      → (first_of (enter_asked who t f) ≡ None) × (number f ≡ n)
+  entered_as n same is =
+      met_ok {A = ℕ} (first_of (enter_asked who t f)) (number f) n
+      (subst (λ (k : Credential). refused_or {A = ℕ} (first_of (enter_asked k t f)) (Ok (number f)) ≡ Ok n) same is)
+
+-- ---- a call that changes its process alone
+
+module _ {p : Place} (pid : ℕ) {call : Call} {form : Form} {path : List ℕ} {demands : Scene → List Demand} {effect : Scene → ℕ → Effect}
+    (is : IsByPath call form path demands effect) {old mid : TxnState} {desks : Desks} (q : Process) (there : get nat_cmp desks pid ≡ Some q)
+    (same : IsUnchanged old mid) (f : Found) (checked : first_of (path_checks path) ≡ None)
+    (each : first_of (path_checks path) ≡ None → (t : Tree) → HoldsTree p old.sectors t → IsThere t q.cwd
+    → IsAnswered old.disk mid.disk (walk_of t q.cred 1 form q.cwd path) (Ok f)) where
+  -- what it has open stays
+  pub process_performs : (new : TxnState) (now : Desks) → IsUnchanged mid new → (r : Process) (reply : Reply) → now ≡ with_entry nat_cmp desks pid r
+      → r.descriptors ≡ q.descriptors
+      → ((s : State) → HasFound s pid q form path f → IsStateOf p mid.sectors desks s
+      → (first_of (demands (scene_at s q f)) ≡ None) × (effect (scene_at s q f) 0 ≡ with_process r reply))
+      → Performs p pid call old new desks now (Ok reply)
+  process_performs new now kept r reply is_now descriptors told =
+      let whole = unchanged_joined same kept in
+      record {
+        store = whole.store;
+        super = whole.sectors 0;
+        table = tt;
+        each = λ s at.
+            let found = has_found pid is q there same f checked each s at in
+            let here = same_process at pid q there in
+            let t = told s found (state_kept same at) in
+            let of_state : with_entry nat_cmp s.desks pid r ≡ now = ap (λ (d : Desks). with_entry nat_cmp d pid r) at.same_desks ∙ sym is_now in
+            let still : (n : ℕ) → IsTrue (is_open s.desks n) → IsTrue (is_open now n) = λ n was.
+            ap (λ (d : Desks). is_open d n) (sym of_state)
+            ∙ still_open s.desks pid q r at.is_state.pids here n (ap (λ (l : List (ℕ × Descriptor)). list_any (λ (d : ℕ × Descriptor). d.1.number == n) l) descriptors) ∙ was in
+            record {
+              early = found_firm s pid q call form path is.arguments demands effect is.row is.met here f found;
+              late = found_late s pid q call form path is.arguments demands effect is.row is.met here f found ∙ t.0;
+              number = 0;
+              change = Same;
+              effect = found_after s pid q call form path is.arguments demands effect is.row is.met here f found 0
+                  ∙ ap (after_effect s pid) t.1
+                  ∙ ap (λ (d : Desks). record { change = Same; desks = d; reply = reply }) of_state;
+              new_number = tt;
+              holds = subst (λ (t : Tree). HoldsAll p new.sectors (placed t))
+                  (sym (open_stays s.room s.tree s.desks now at.is_state.tree (at.is_state.desks at.up) still))
+                  (subst (λ (m : SectorMap). HoldsAll p m (placed s.tree)) (sym (same_map whole)) at.holds);
+            };
+      }

@@ -1,0 +1,276 @@
+-- One more name for what is no directory.
+--     link_by_two        the row of link
+--     IsLinkable, link_told        where all that is asked is met
+--     name_at        the directory in which the name is new
+--     link_may, few_names        the name may be given
+--     target_below, dir_same, dir_room, link_holds        the count of names, the directory, and both
+--     link_changes        the name was given
+use Rattle.std.specs.Prelude.{◌≡◌, ◌≢◌, ℕ, ◌+◌, ◌-◌, ◌<◌, ◌≤◌, nat_lt, nat_le, true, false, List, [], ◌∷◌, ◌++◌, length, None, Some, IsTrue, Ok}
+use Rattle.std.proofs.Common.{refl, sym, ap, subst, arith, ◌∙◌}
+use Rattle.std.proofs.lemmas.Bool.Decides.{nat_tests}
+use Rattle.fs_cred.specs.declared.errno.Errno.TheVariants.{EMLINK, ENOSPC}
+use Rattle.fs_layout.specs.declared.inode.Inode.{Inode}
+use Rattle.fs_layout.specs.declared.inode.Kind.TheVariants as kinds
+use Rattle.fs_layout.specs.declared.place.Place.{Place}
+use Rattle.fs_layout.specs.Bytes.{SectorMap}
+use Rattle.fs_layout.specs.Directories.{HasNames}
+use Rattle.fs_layout.specs.Images.{inode_at}
+use Rattle.fs_layout.specs.Maps.{name_cmp, with_entry}
+use Rattle.fs_layout.proofs.Saves.{inode_kept}
+use Rattle.sector_txn.specs.Sectors.{TxnState}
+use Rattle.fs_model.specs.declared.call.Call.TheVariants.{Link}
+use Rattle.fs_model.specs.declared.reply.Reply.TheVariants.{Done}
+use Rattle.fs_model.specs.declared.walk.Found.{Found}
+use Rattle.fs_model.specs.Births.{the_node}
+use Rattle.fs_model.specs.Changes.{AddName, changed, swept}
+use Rattle.fs_model.specs.Demands.{Demand, refuse, first_of, permission_on, write_and_search}
+use Rattle.fs_model.specs.Limits.{names_limit, entries_limit, least_free}
+use Rattle.fs_model.specs.NameCalls.{link_row, link_demands, link_effect}
+use Rattle.fs_model.specs.Nodes.{Node, is_directory, names_in}
+use Rattle.fs_model.specs.Processes.{Process, Desks, is_open}
+use Rattle.fs_model.specs.Rows.{row_of}
+use Rattle.fs_model.specs.Scenes.{number}
+use Rattle.fs_model.specs.Stands.{HoldsAll, placed}
+use Rattle.fs_model.specs.States.{State}
+use Rattle.fs_model.specs.StoredNodes.{Placed, HoldsNode}
+use Rattle.fs_model.specs.Trees.{names_of, parent, IsDirectoryAt}
+use Rattle.fs_model.proofs.OneNode.{body_not_free}
+use Rattle.fs_model.proofs.PlacedChanges.{add_held}
+use Rattle.fs_model.proofs.PlacedNodes.{placed_from, placing, placing_other, one_replaced, held_at, node_below}
+use Rattle.fs_model.proofs.StepsAdding.{GivesName}
+use Rattle.fs_model.proofs.StepsDemands.{first_met, then_met, unrefused}
+use Rattle.fs_model.proofs.StepsFound.{IsNameAt}
+use Rattle.path_walk.specs.Answers.{refused_or}
+use Rattle.path_walk.specs.Performing.{IsStateOf}
+use Rattle.path_walk.proofs.Calling.{state_tree, first_of-append, met_ok}
+use Rattle.path_walk.proofs.HeldChanges.{names_held, counted_held}
+use Rattle.path_walk.proofs.HeldNodes.{held_node, names_say}
+use Rattle.file_calls.proofs.Changed.{IsChange}
+use Rattle.file_calls.proofs.Shown.{IsInode, the_node_is}
+use Rattle.name_calls.specs.Dropping.{Counts}
+use Rattle.name_calls.specs.Linking.{source_asked, MayLink}
+use Rattle.name_calls.specs.NewNodes.{MayBeNamed, NamesInode, link_name_asked}
+use Rattle.name_calls.specs.TwoPaths.{scene_with, FindsBoth}
+use Rattle.name_calls.proofs.BornLinks.{is_link_name}
+use Rattle.name_calls.proofs.ByTwoPaths.{IsByTwoPaths}
+use Rattle.name_calls.proofs.FoundBoth.{second_walked}
+use Rattle.name_calls.proofs.LinkAsked.{source_inode, source_node, source_kind, source_names}
+use Rattle.name_calls.proofs.Takings.{field_is}
+
+-- ---- the row
+
+module _ (old new : List ℕ) where
+  link_is : row_of (Link old new) ≡ link_row old new
+  unfolding row_of
+  link_is = refl
+
+  pub link_by_two : IsByTwoPaths (Link old new) old new link_demands link_effect
+  link_by_two = record { row = link_is; asks = refl }
+
+-- ---- all is met
+
+pub record IsLinkable (p : Place) (map : SectorMap) (s : State) (q : Process) (f g : Found) (n : ℕ) (v d : Inode) : Type 0 where
+  pub met : first_of (link_demands (scene_with s q f g)) ≡ None
+  pub source_met : first_of (source_asked s.tree f) ≡ None
+  pub name_met : first_of (link_name_asked g) ≡ None
+  pub inode : IsInode p map f n v
+  pub directory : d ≡ inode_at p map g.dir
+
+-- what is asked of the directory of the second path
+abbrev place_demands : State → Process → Found → Found → List Demand
+place_demands s q f g =
+    permission_on q.cred s.tree g.dir write_and_search 2 (g.step - 1)
+    ∷ refuse EMLINK (nat_le names_limit (names_of s.tree (number f)))
+    ∷ refuse ENOSPC (nat_lt s.free least_free)
+    ∷ refuse ENOSPC (nat_le entries_limit (length (names_in (the_node s.tree g.dir).body)))
+    ∷ []
+
+parts : (s : State) (q : Process) (f g : Found) → first_of (link_demands (scene_with s q f g)) ≡ None
+    → (first_of (source_asked s.tree f) ≡ None) × (first_of (link_name_asked g) ≡ None) × (first_of (place_demands s q f g) ≡ None)
+parts s q f g met =
+    let one = sym (first_of-append (source_asked s.tree f) (link_name_asked g ++ place_demands s q f g)) ∙ met in
+    let rest = then_met (first_of (source_asked s.tree f)) (first_of (link_name_asked g ++ place_demands s q f g)) one in
+    let two = sym (first_of-append (link_name_asked g) (place_demands s q f g)) ∙ rest in (
+      first_met (first_of (source_asked s.tree f)) (first_of (link_name_asked g ++ place_demands s q f g)) one,
+      first_met (first_of (link_name_asked g)) (first_of (place_demands s q f g)) two,
+      then_met (first_of (link_name_asked g)) (first_of (place_demands s q f g)) two,
+    )
+
+module _ {p : Place} {map : SectorMap} {q : Process} {f g : Found} (s : State) {n : ℕ} {v d : Inode} where
+  pub link_told : refused_or {A = ℕ × Inode × Inode} (first_of (link_demands (scene_with s q f g)))
+      (Ok (number f, inode_at p map (number f), inode_at p map g.dir)) ≡ Ok (n, v, d) → IsLinkable p map s q f g n v d
+  link_told is =
+      let both = met_ok {A = ℕ × Inode × Inode} (first_of (link_demands (scene_with s q f g)))
+      (number f, inode_at p map (number f), inode_at p map g.dir) (n, v, d) is in
+      let all = parts s q f g both.0 in
+      let k = source_inode s.tree f p map {n = n} {v = v}
+      (ap (λ (o : Demand). refused_or {A = ℕ × Inode} o (Ok (number f, inode_at p map (number f)))) all.0
+      ∙ ap (λ (x : ℕ × Inode × Inode). Ok (x.0, x.1)) both.1) in
+      record {
+        met = both.0;
+        source_met = all.0;
+        name_met = all.1;
+        inode = k.1;
+        directory = sym (ap (λ (x : ℕ × Inode × Inode). x.2) both.1);
+      }
+
+module _ {p : Place} {map : SectorMap} {desks : Desks} {q : Process} {f g : Found} {s : State} (i : FindsBoth p map desks q f g s) where
+  -- the name is new in a directory
+  pub name_at : first_of (link_name_asked g) ≡ None → IsNameAt s.tree g.dir g.name None
+  name_at met = (second_walked i).new (is_link_name g (ap (λ (o : Demand). refused_or {A = Unit {0}} o (Ok tt)) met)).1
+
+  pub name_dir : first_of (link_name_asked g) ≡ None → IsDirectoryAt s.tree g.dir
+  name_dir met = let x = name_at met in record { node = x.node; is_there = x.stands; directory = x.directory }
+
+  module _ {n : ℕ} {v d : Inode} (l : IsLinkable p map s q f g n v d) where
+    last_met : first_of (place_demands s q f g) ≡ None
+    last_met = (parts s q f g l.met).2
+
+    few_are : names_of s.tree n < names_limit
+    few_are =
+        let two = then_met (permission_on q.cred s.tree g.dir write_and_search 2 (g.step - 1)) _ last_met in
+        let many : nat_le names_limit (names_of s.tree (number f)) ≡ false =
+        unrefused EMLINK (nat_le names_limit (names_of s.tree (number f))) (first_met (refuse EMLINK (nat_le names_limit (names_of s.tree (number f)))) _ two) in
+        let few : names_of s.tree (number f) < names_limit = grind (arith, nat_tests) in
+        subst (λ (m : ℕ). names_of s.tree m < names_limit) l.inode.number few
+
+    pub few_names : v.names < names_limit
+    few_names = subst (λ (m : ℕ). m < names_limit) (sym (source_names i l.source_met l.name_met l.inode)) few_are
+
+    pub link_may : MayLink p map s.tree g.dir g.name n
+    unfolding name_at name_dir
+    link_may =
+        let x = name_at l.name_met in
+        let node = source_node i l.source_met l.name_met l.inode in
+        let two = then_met (permission_on q.cred s.tree g.dir write_and_search 2 (g.step - 1)) _ last_met in
+        let three = then_met (refuse EMLINK (nat_le names_limit (names_of s.tree (number f)))) _ two in
+        let low : nat_lt s.free least_free ≡ false = unrefused ENOSPC (nat_lt s.free least_free) (first_met (refuse ENOSPC (nat_lt s.free least_free)) _ three) in
+        let four = then_met (refuse ENOSPC (nat_lt s.free least_free)) _ three in
+        let full : nat_le entries_limit (length (names_in (the_node s.tree g.dir).body)) ≡ false =
+        unrefused ENOSPC (nat_le entries_limit (length (names_in (the_node s.tree g.dir).body)))
+        (first_met (refuse ENOSPC (nat_le entries_limit (length (names_in (the_node s.tree g.dir).body)))) None four) in
+        let some : length (names_in (the_node s.tree g.dir).body) < entries_limit = grind (arith, nat_tests) in
+        let enough : least_free ≤ s.free = grind (arith, nat_tests) in
+        record {
+          directory = name_dir l.name_met;
+          is_name = x.is_name;
+          bytes = x.bytes;
+          is_new = x.leads;
+          has_room = subst (λ (u : Node). length (names_in u.body) < entries_limit) (the_node_is s.tree g.dir x.node x.stands) some;
+          enough = subst (λ (k : ℕ). least_free ≤ k) i.is_state.free_is enough;
+          target = node.node;
+          there = node.at;
+          no_directory = source_kind i l.source_met l.name_met l.inode;
+          few = few_are;
+        }
+
+-- ---- the name is given
+
+module _ {p : Place} (old : TxnState) {desks : Desks} {s : State} (at : IsStateOf p old.sectors desks s) {dir : ℕ} {name : List ℕ} {n : ℕ}
+    (may : MayLink p old.sectors s.tree dir name n) where
+  abbrev directory : Node
+  directory = may.directory.node
+
+  abbrev is_target : Placed
+  is_target = record { node = may.target; names = names_of s.tree n; parent = parent s.tree n }
+
+  abbrev is_dir : Placed
+  is_dir = record { node = directory; names = names_of s.tree dir; parent = parent s.tree dir }
+
+  pub target_below : n < p.inodes
+  target_below = node_below s p at.is_state at.same_room n may.target may.there
+
+  dir_below : dir < p.inodes
+  dir_below = node_below s p at.is_state at.same_room dir directory may.directory.is_there
+
+  apart : dir ≢ n
+  apart e =
+      let stands = may.directory.is_there in
+      let there = may.there in
+      let same : directory ≡ may.target = cc in
+      let both : true ≡ false = sym may.directory.directory ∙ ap (λ (u : Node). is_directory u.body) same ∙ may.no_directory in
+      cc
+
+  target_held : HoldsNode old.sectors (inode_at p old.sectors n) is_target
+  target_held = held_node (state_tree at) n may.target may.there
+
+  pub target_used : (inode_at p old.sectors n).kind ≢ kinds.Free
+  target_used e = body_not_free old.sectors (inode_at p old.sectors n) may.target.body target_held.body e
+
+  gives : GivesName s.tree dir directory name n may.target
+  gives = record {
+    stands = may.directory.is_there;
+    is_dir = may.directory.directory;
+    is_new = may.is_new;
+    has_room = may.has_room;
+    is_name = may.is_name;
+    bytes = may.bytes;
+    there = may.there;
+    no_directory = may.no_directory;
+    few = may.few;
+  }
+
+  module _ {names : ℕ} (more : names ≡ (inode_at p old.sectors n).names + 1) {mid : TxnState} (counts : Counts p n names old mid) where
+    abbrev v : Inode
+    v = inode_at p old.sectors n
+
+    count_is : names ≡ names_of s.tree n + 1
+    count_is = more ∙ ap (λ (k : ℕ). k + 1) (target_held.names ∙ field_is may.target.body (names_of s.tree n) may.no_directory)
+
+    counted : (up : ℕ) → HoldsNode mid.sectors (inode_at p mid.sectors n) (record { node = may.target; names = names_of s.tree n + 1; parent = up })
+    counted up =
+        counted_held old.sectors mid.sectors v (inode_at p mid.sectors n) is_target target_held (names_of s.tree n + 1) up may.no_directory
+        (counts.saved ∙ ap (λ (k : ℕ). record v { names = k }) count_is) counts.bytes counts.acls
+
+    -- the directory stands as before
+    pub dir_same : inode_at p mid.sectors dir ≡ inode_at p old.sectors dir
+    dir_same = inode_kept p dir old.sectors mid.sectors (counts.touches.inode.table dir dir_below apart)
+
+    dir_held : HoldsNode mid.sectors (inode_at p mid.sectors dir) is_dir
+    dir_held =
+        held_at p mid.sectors (placing n (Some (record { node = may.target; names = names_of s.tree n + 1; parent = 0 })) (placed s.tree))
+        (one_replaced p n old.sectors mid.sectors (placed s.tree) at.holds target_below counts.touches.inode _ _
+        (placed_from s.tree n (Some may.target) _ _ may.there refl refl) (counted 0) counts.used)
+        dir dir_below is_dir
+        (placing_other n (Some (record { node = may.target; names = names_of s.tree n + 1; parent = 0 })) (placed s.tree) dir apart
+        ∙ placed_from s.tree dir (Some directory) _ _ may.directory.is_there refl refl)
+
+    dir_names : HasNames mid.sectors (inode_at p mid.sectors dir) (names_in directory.body)
+    dir_names = names_say mid.sectors (inode_at p mid.sectors dir) directory.body may.directory.directory dir_held.body
+
+    pub dir_room : MayBeNamed p mid.sectors dir name
+    dir_room =
+        let left = counts.touches.free in
+        let enough = may.enough in
+        record {
+          below = dir_below;
+          is_name = may.is_name;
+          names = names_in directory.body;
+          are = dir_names;
+          is_new = may.is_new;
+          few = may.has_room;
+          enough = omega (arith, enough, left);
+        }
+
+    module _ (new : SectorMap) (named : NamesInode p dir name n mid.sectors new) where
+      pub link_holds : HoldsAll p new (placed (swept (changed s.tree (AddName dir name n)) desks))
+      link_holds =
+          add_held s at.is_state at.up desks (λ k is. subst (λ (d : Desks). IsTrue (is_open d k)) at.same_desks is) p old.sectors at.holds at.same_room
+          mid.sectors new dir directory name n may.target gives counts.touches.inode counts.used (counted (parent (changed s.tree (AddName dir name n)) n))
+          named.change named.used
+          (names_held mid.sectors new (inode_at p mid.sectors dir) (inode_at p new dir) is_dir dir_held (with_entry name_cmp (names_in directory.body) name n)
+          may.directory.directory named.kept named.acls (named.named (names_in directory.body) dir_names))
+
+-- ---- the step
+
+pub link_changes : {p : Place} {new : SectorMap} {desks : Desks} (s : State) (q : Process) (f g : Found) (n : ℕ) → number f ≡ n
+    → first_of (link_demands (scene_with s q f g)) ≡ None → HoldsAll p new (placed (swept (changed s.tree (AddName g.dir g.name n)) desks))
+    → IsChange p new desks s q (link_demands (scene_with s q f g)) (λ k. link_effect (scene_with s q f g)) Done
+link_changes {p} {new} {desks} s q f g n is met holds = record {
+  met = met;
+  number = 0;
+  change = AddName g.dir g.name (number f);
+  is = refl;
+  new_number = tt;
+  holds = subst (λ (k : ℕ). HoldsAll p new (placed (swept (changed s.tree (AddName g.dir g.name k)) desks))) (sym is) holds;
+}

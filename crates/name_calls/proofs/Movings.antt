@@ -1,0 +1,442 @@
+-- A name that goes to another place, and what that leaves.
+--     names_changed, removed_names, named_names        what dir_core promises of it
+--     taken_after, taken_joined        how many sectors were put
+--     parented_fits        another parent fits an inode
+--     there_is, nothing_there, is_nothing, is_something        what is replaced
+--     dir_below, moved_below, moved_used, named_first, named_here, leads_first, may_lead        what stands before each part
+--     entry_super, moved_same        the names have changed, and what was moved stands as before
+--     follow_super, moved_none        its parent, too; the whole where nothing was replaced
+--     replaced_number, replaced_same, replaced_used, replaced_named, replaced_holds        what was replaced; the whole
+use Rattle.std.specs.Prelude.{◌≡◌, ◌≢◌, ◌⊎◌, ℕ, ◌+◌, ◌-◌, ◌==◌, ◌<◌, ◌≤◌, ◌^◌, Bool, true, false, not, ◌||◌, List, Option, None, Some, is_some, IsTrue, IsFalse}
+use Rattle.std.proofs.Common.{refl, sym, ap, subst, arith, inl, inr, ◌∙◌}
+use Rattle.std.proofs.lemmas.Bool.{ne_eqb}
+use Rattle.fs_layout.specs.declared.inode.Inode.{Inode}
+use Rattle.fs_layout.specs.declared.inode.Kind.{Kind}
+use Rattle.fs_layout.specs.declared.inode.Kind.TheVariants as kinds
+use Rattle.fs_layout.specs.declared.place.Place.{Place}
+use Rattle.fs_layout.specs.Bytes.{SectorMap}
+use Rattle.fs_layout.specs.Changes.{ChangesInode}
+use Rattle.fs_layout.specs.Directories.{HasNames}
+use Rattle.fs_layout.specs.Images.{bit, free_sectors, inode_at, inode_bitmap}
+use Rattle.fs_layout.specs.Inode.{FitsInode, inode_fits}
+use Rattle.fs_layout.specs.Maps.{name_cmp, get, with_entry, without}
+use Rattle.fs_layout.proofs.NameMaps.{once_same, lost_of}
+use Rattle.fs_layout.proofs.Saves.{inode_kept}
+use Rattle.sector_txn.specs.Sectors.{TxnState, IsUnchanged}
+use Rattle.sector_txn.proofs.Changes.{lacking_less}
+use Rattle.bit_alloc.specs.declared.bitmap.Bitmap.TheVariants.{Inodes}
+use Rattle.bit_alloc.specs.Bitmaps.{IsNumber}
+use Rattle.bit_alloc.specs.Inodes.{KeepsFields, KeepsAcls}
+use Rattle.bit_alloc.specs.Room.{bitmaps, TakesSpare}
+use Rattle.block_map.specs.Contents.{ChangesContent}
+use Rattle.fs_model.specs.Changes.{MoveName, changed, swept, lives_nameless}
+use Rattle.fs_model.specs.Limits.{root}
+use Rattle.fs_model.specs.Nodes.{Node, is_directory, names_in}
+use Rattle.fs_model.specs.Processes.{Desks, is_open}
+use Rattle.fs_model.specs.Rules.{is_directory_kind}
+use Rattle.fs_model.specs.Stands.{HoldsAll, placed}
+use Rattle.fs_model.specs.States.{State}
+use Rattle.fs_model.specs.StoredNodes.{Placed, HoldsNode}
+use Rattle.fs_model.specs.Trees.{names_of, parent, IsEntry}
+use Rattle.fs_model.proofs.OneNode.{body_not_free}
+use Rattle.fs_model.proofs.PlacedMoves.{middle, begun, arrived, apart_to, apart_from, begun_n, middle_held, begun_held, begun_here, parent_held, no_parent_held, move_held, m_not_from, m_not_to, arrived_m, move_take_held, move_drop_held}
+use Rattle.fs_model.proofs.PlacedNodes.{held_at, node_below}
+use Rattle.fs_model.proofs.StepsMoving.{MovesName, Between, moves_loses}
+use Rattle.fs_model.proofs.StepsNaming.{renamed_node, renamed, are_names}
+use Rattle.fs_model.proofs.StepsParents.{names_or, directory_named}
+use Rattle.fs_model.proofs.StepsUp.{is_outside}
+use Rattle.path_walk.specs.Performing.{IsStateOf}
+use Rattle.path_walk.proofs.Calling.{state_tree}
+use Rattle.path_walk.proofs.HeldChanges.{names_held, moved_held}
+use Rattle.path_walk.proofs.HeldNodes.{Stands, stands, held_node, held_names, held_kind, names_say}
+use Rattle.path_walk.proofs.Kept.{kept, kept_back}
+use Rattle.name_calls.specs.Dropping.{LosesName}
+use Rattle.name_calls.specs.Moving.{MayMove, MayLead, ChangesNames, MovesEntry, within, across, ParentFollows, goes, stays}
+use Rattle.name_calls.specs.NewNodes.{NamesInode}
+use Rattle.name_calls.specs.Removing.{RemovesName}
+use Rattle.name_calls.specs.Renaming.{inode_there}
+use Rattle.name_calls.proofs.Takings.{field_named, left_counts, left_held, left_drops}
+
+-- ---- what dir_core promises
+
+pub names_changed : {p : Place} {dir taken puts : ℕ} {f : List (List ℕ × ℕ) → List (List ℕ × ℕ)} {old mid new : TxnState} {v w : Inode} → IsUnchanged old mid
+    → v ≡ inode_at p old.sectors dir → ChangesContent p dir taken puts mid new v w
+    → ((names : List (List ℕ × ℕ)) → HasNames mid.sectors v names → HasNames new.sectors w (f names))
+    → ChangesNames p dir f old.sectors new.sectors
+names_changed {p} {dir} {taken} {puts} {f} {old} {mid} {new} {v} {w} same is c says = record {
+  super = c.touches.super ∙ same.sectors 0;
+  change = kept_back (λ (m : SectorMap). ChangesInode p dir m new.sectors) same c.touches.inode;
+  used = kept_back (λ (m : SectorMap). bit new.sectors inode_bitmap dir ≡ bit m inode_bitmap dir) same c.used;
+  fields = subst (λ (u : Inode). KeepsFields u (inode_at p new.sectors dir)) is (subst (KeepsFields v) (sym c.now) c.fields);
+  acls = kept_back (λ (m : SectorMap). KeepsAcls m new.sectors (inode_at p old.sectors dir) (inode_at p new.sectors dir)) same
+      (subst (λ (u : Inode). KeepsAcls mid.sectors new.sectors u (inode_at p new.sectors dir)) is (subst (KeepsAcls mid.sectors new.sectors v) (sym c.now) c.acls));
+  names = λ names has.
+      subst (λ (u : Inode). HasNames new.sectors u (f names)) (sym c.now)
+      (says names (kept (λ (m : SectorMap). HasNames m v names) same (subst (λ (u : Inode). HasNames old.sectors u names) (sym is) has)));
+}
+
+pub removed_names : {p : Place} {dir : ℕ} {name : List ℕ} {old new : TxnState} → RemovesName p dir name old new
+    → ChangesNames p dir (λ names. without name_cmp names name) old.sectors new.sectors
+removed_names r = record {
+  super = r.touches.super;
+  change = r.touches.inode;
+  used = r.used;
+  fields = r.fields;
+  acls = r.acls;
+  names = r.names;
+}
+
+pub named_names : {p : Place} {dir : ℕ} {name : List ℕ} {n : ℕ} {old new : SectorMap} → NamesInode p dir name n old new
+    → ChangesNames p dir (λ names. with_entry name_cmp names name n) old new
+named_names r = record {
+  super = r.super;
+  change = r.change;
+  used = r.used;
+  fields = r.kept;
+  acls = r.acls;
+  names = r.named;
+}
+
+-- what was put, since before a read
+pub taken_after : (p : Place) (more : ℕ) {old mid : TxnState} (new : TxnState) → IsUnchanged old mid → TakesSpare p more mid new → TakesSpare p more old new
+taken_after p more {old} {mid} new same taken =
+    let room = same.room in
+    let lacks = lacking_less old mid (λ k has. same.delta k ∙ has) (bitmaps p) in
+    omega (arith, taken, room, lacks)
+
+-- by one call after another
+pub taken_joined : (p : Place) (first then more : ℕ) (old mid new : TxnState) → first + then ≤ more → TakesSpare p first old mid → TakesSpare p then mid new
+    → TakesSpare p more old new
+taken_joined p first then more old mid new fits one two = omega (arith, fits, one, two)
+
+-- ---- another parent
+
+pub parented_fits : (v : Inode) (parent : ℕ) → FitsInode v → v.kind ≢ kinds.Free → parent < 2 ^ 32 → FitsInode (record v { parent = parent })
+unfolding inode_fits
+parented_fits v parent fits used few = record {
+  valid = record { numbers = fits.valid.numbers; free = λ free. absurd (used free) };
+  mode = fits.mode;
+  uid = fits.uid;
+  gid = fits.gid;
+  names = fits.names;
+  size = fits.size;
+  parent = few;
+  acl = fits.acl;
+  default_acl = fits.default_acl;
+  direct_len = fits.direct_len;
+  direct = fits.direct;
+  indirect = fits.indirect;
+}
+
+other_kind_is : (k : Kind) → k ≢ kinds.Directory → is_directory_kind k ≡ false
+other_kind_is kinds.Free ne = refl
+other_kind_is kinds.File ne = refl
+other_kind_is kinds.Directory ne = absurd (ne refl)
+other_kind_is kinds.Link ne = refl
+
+pub follow_super : {p : Place} {n dir to_dir : ℕ} {old new : SectorMap} → ParentFollows p n dir to_dir old new → new 0 ≡ old 0
+follow_super (goes ne kind gets) = gets.super
+follow_super (stays why same) = ap (λ (m : SectorMap). m 0) same
+
+-- ---- what is replaced
+
+pub there_is : (p : Place) (map : SectorMap) (o : Option ℕ) (m : ℕ) (v : Inode) → Some (m, v) ≡ inode_there p map o → (o ≡ Some m) × (v ≡ inode_at p map m)
+there_is p map None m v e = absurd (cc)
+there_is p map (Some k) m v e =
+    let both : (m, v) ≡ (k, inode_at p map k) = cc in
+    let same : m ≡ k = ap (λ (x : ℕ × Inode). x.0) both in
+    (ap (λ (j : ℕ). Some j) (sym same), ap (λ (x : ℕ × Inode). x.1) both ∙ ap (inode_at p map) (sym same))
+
+pub nothing_there : (p : Place) (map : SectorMap) (o : Option ℕ) (there : Option (ℕ × Inode)) → there ≡ inode_there p map o
+    → ((x : ℕ × Inode) → there ≡ Some x → ⊥) → o ≡ None
+nothing_there p map None there is none = refl
+nothing_there p map (Some m) there is none = absurd (none (m, inode_at p map m) is)
+
+-- as a test for None says it
+pub is_nothing : (o : Option ℕ) (b : Bool) → is_some o ≡ not b → b ≡ true → o ≡ None
+is_nothing None b is set = refl
+is_nothing (Some m) b is set = absurd (let both : true ≡ false = is ∙ ap not set in cc)
+
+pub is_something : (o : Option ℕ) (b : Bool) → is_some o ≡ not b → b ≡ false → o ≢ None
+is_something None b is clear none = let both : false ≡ true = is ∙ ap not clear in cc
+is_something (Some m) b is clear none = cc
+
+-- ---- a name that may move
+
+module _ {p : Place} (old : TxnState) {desks : Desks} {s : State} (at : IsStateOf p old.sectors desks s) {dir : ℕ} {name : List ℕ} {n to_dir : ℕ} {to_name : List ℕ}
+    {o : Option ℕ} (may : MayMove p old.sectors s dir name n to_dir to_name o) where
+  abbrev directory : Node
+  directory = may.directory.node
+
+  abbrev to_directory : Node
+  to_directory = may.to_directory.node
+
+  still : (k : ℕ) → IsTrue (is_open s.desks k) → IsTrue (is_open desks k)
+  still k is = subst (λ (d : Desks). IsTrue (is_open d k)) at.same_desks is
+
+  moves : MovesName s.tree s.desks dir directory name n to_dir to_directory to_name o
+  moves = record {
+    stands = may.directory.is_there;
+    is_dir = may.directory.directory;
+    leads = may.leads;
+    to_stands = may.to_directory.is_there;
+    is_to_dir = may.to_directory.directory;
+    to_leads = may.to_leads;
+    is_name = may.is_name;
+    bytes = may.bytes;
+    other = may.other;
+    has_room = λ none ne. (may.has_room none ne).0;
+    empty = λ m led d. ap names_or d.is_there ∙ may.empty m led d;
+    unused = may.unused;
+    outside = λ d. is_outside s.room s.tree n to_dir at.is_state.tree may.to_directory (may.outside d);
+  }
+
+  target : Stands s.tree n
+  target =
+      stands s.tree n
+      ((are_names s.room s.tree directory.body (at.is_state.tree.each dir directory may.directory.is_there).body).each name n may.leads).leads.1
+
+  abbrev is_dir : Placed
+  is_dir = record { node = directory; names = names_of s.tree dir; parent = parent s.tree dir }
+
+  abbrev is_target : Placed
+  is_target = record { node = target.node; names = names_of s.tree n; parent = parent s.tree n }
+
+  abbrev between : Between s.room s.tree (renamed s.tree dir directory (without name_cmp (names_in directory.body) name)) to_dir to_name o
+  between = middle s at.is_state at.up desks still dir directory name n to_dir to_directory to_name o moves target.node target.at
+
+  abbrev fewer : List (List ℕ × ℕ)
+  fewer = without name_cmp (names_in directory.body) name
+
+  abbrev then_begun : ℕ → Option Placed
+  then_begun = begun s at.is_state at.up desks still dir directory name n to_dir to_directory to_name o moves target.node target.at
+
+  abbrev then_arrived : ℕ → Option Placed
+  then_arrived = arrived s at.is_state at.up desks still dir directory name n to_dir to_directory to_name o moves target.node target.at
+
+  pub dir_below : dir < p.inodes
+  dir_below = node_below s p at.is_state at.same_room dir directory may.directory.is_there
+
+  pub to_below : to_dir < p.inodes
+  to_below = node_below s p at.is_state at.same_room to_dir to_directory may.to_directory.is_there
+
+  pub moved_below : n < p.inodes
+  moved_below = node_below s p at.is_state at.same_room n target.node target.at
+
+  dir_held : HoldsNode old.sectors (inode_at p old.sectors dir) is_dir
+  dir_held = held_node (state_tree at) dir directory may.directory.is_there
+
+  pub moved_used : (inode_at p old.sectors n).kind ≢ kinds.Free
+  moved_used e = body_not_free old.sectors (inode_at p old.sectors n) target.node.body (held_node (state_tree at) n target.node target.at).body e
+
+  dir_names : HasNames old.sectors (inode_at p old.sectors dir) (names_in directory.body)
+  dir_names = held_names (state_tree at) dir may.directory
+
+  has_first : get name_cmp (names_in directory.body) name ≢ None
+  has_first none = let both : None ≡ Some n = sym none ∙ may.leads in cc
+
+  -- the directory has the name
+  pub named_first : (names : List (List ℕ × ℕ)) × HasNames old.sectors (inode_at p old.sectors dir) names × (get name_cmp names name ≢ None)
+  named_first = (names_in directory.body, dir_names, has_first)
+
+  -- and not the other one, where nothing is to be replaced in it
+  pub named_here : dir ≡ to_dir → o ≡ None
+      → (names : List (List ℕ × ℕ)) × HasNames old.sectors (inode_at p old.sectors dir) names × (get name_cmp names name ≢ None) × (get name_cmp names to_name ≡ None)
+  named_here one none =
+      let stands = may.directory.is_there in
+      let also = may.to_directory.is_there in
+      let same : directory ≡ to_directory = cc in (
+        names_in directory.body,
+        dir_names,
+        has_first,
+        ap (λ (u : Node). get name_cmp (names_in u.body) to_name) same ∙ may.to_leads ∙ none,
+      )
+
+  pub leads_first : HasNames old.sectors (inode_at p old.sectors dir) (names_in directory.body) × (get name_cmp (names_in directory.body) name ≡ Some n)
+  leads_first = (dir_names, may.leads)
+
+  -- ---- the name is gone from the directory
+
+  module _ {mid : SectorMap} (removes : ChangesNames p dir (λ names. without name_cmp names name) old.sectors mid) where
+    here : HoldsNode mid (inode_at p mid dir) (record is_dir { node = renamed_node directory fewer })
+    here =
+        names_held old.sectors mid (inode_at p old.sectors dir) (inode_at p mid dir) is_dir dir_held fewer may.directory.directory
+        removes.fields removes.acls (removes.names (names_in directory.body) dir_names)
+
+    to_held : HoldsNode mid (inode_at p mid to_dir) (record { node = between.node; names = names_of s.tree to_dir; parent = parent s.tree to_dir })
+    to_held =
+        middle_held s at.is_state at.up desks still dir directory name n to_dir to_directory to_name o moves target.node target.at p at.same_room
+        old.sectors mid at.holds removes.change removes.used here
+
+    to_names : HasNames mid (inode_at p mid to_dir) (names_in between.node.body)
+    to_names = names_say mid (inode_at p mid to_dir) between.node.body between.directory to_held.body
+
+    -- the other name may lead to what it led to
+    pub may_lead : free_sectors p old.sectors ≤ free_sectors p mid + 0 → (o ≡ None → dir ≢ to_dir) → MayLead p mid to_dir to_name o
+    may_lead left differ = go o refl
+      where
+        go : (q : Option ℕ) → o ≡ q → MayLead p mid to_dir to_name q
+        go None e =
+            let few = between.short e in
+            let room = may.has_room e (differ e) in
+            let enough = room.1 in
+            record {
+              below = to_below;
+              is_name = may.is_name;
+              names = names_in between.node.body;
+              are = to_names;
+              is_new = between.leads ∙ e;
+              few = omega (arith, few);
+              enough = omega (arith, enough, left);
+            }
+        go (Some m) e =
+            (to_below, (names_in between.node.body, to_names, λ none. let both : None ≡ Some m = sym none ∙ between.leads ∙ e in cc))
+
+  -- ---- both directories have their names
+
+  entry_held : (new : SectorMap) → MovesEntry p dir name n to_dir to_name o old.sectors new → HoldsAll p new then_begun
+  entry_held new (within one none c) =
+      begun_here s at.is_state at.up desks still dir directory name n to_dir to_directory to_name o moves target.node target.at p at.same_room
+      old.sectors new at.holds one c.change c.used
+      (names_held old.sectors new (inode_at p old.sectors dir) (inode_at p new dir) is_dir dir_held (with_entry name_cmp fewer to_name n) may.directory.directory
+      c.fields c.acls (c.names (names_in directory.body) dir_names))
+  entry_held new (across mid removes leads) =
+      begun_held s at.is_state at.up desks still dir directory name n to_dir to_directory to_name o moves target.node target.at p at.same_room
+      old.sectors mid at.holds removes.change removes.used (here removes) new leads.change leads.used
+      (names_held mid new (inode_at p mid to_dir) (inode_at p new to_dir) _ (to_held removes) (with_entry name_cmp (names_in between.node.body) to_name n)
+      between.directory leads.fields leads.acls (leads.names (names_in between.node.body) (to_names removes)))
+
+  pub entry_super : {new : SectorMap} → MovesEntry p dir name n to_dir to_name o old.sectors new → new 0 ≡ old.sectors 0
+  entry_super (within one none c) = c.super
+  entry_super (across mid removes leads) = leads.super ∙ removes.super
+
+  -- no other inode changes
+  entry_same : {new : SectorMap} → MovesEntry p dir name n to_dir to_name o old.sectors new → (x : ℕ) → x < p.inodes → x ≢ dir → x ≢ to_dir
+      → inode_at p new x ≡ inode_at p old.sectors x
+  entry_same {new} (within one none c) x below from to = inode_kept p x old.sectors new (c.change.table x below from)
+  entry_same {new} (across mid removes leads) x below from to =
+      inode_kept p x mid new (leads.change.table x below to) ∙ inode_kept p x old.sectors mid (removes.change.table x below from)
+
+  module _ {mid : SectorMap} (entry : MovesEntry p dir name n to_dir to_name o old.sectors mid) where
+    -- what was moved stands as before
+    pub moved_same : inode_at p mid n ≡ inode_at p old.sectors n
+    moved_same =
+        entry_same entry n moved_below
+        (apart_from s at.is_state at.up desks still dir directory name n to_dir to_directory to_name o moves target.node target.at)
+        (apart_to s at.is_state at.up desks still dir directory name n to_dir to_directory to_name o moves target.node target.at)
+
+    target_held : HoldsNode mid (inode_at p mid n) is_target
+    target_held =
+        held_at p mid then_begun (entry_held mid entry) n moved_below is_target
+        (begun_n s at.is_state at.up desks still dir directory name n to_dir to_directory to_name o moves target.node target.at p at.same_room)
+
+    target_kind : is_directory_kind (inode_at p mid n).kind ≡ is_directory target.node.body
+    target_kind = ap (λ (v : Inode). is_directory_kind v.kind) moved_same ∙ held_kind (state_tree at) n target.node target.at
+
+    -- ---- and what was moved has its parent
+
+    module _ {now : SectorMap} (follows : ParentFollows p n dir to_dir mid now) where
+      followed : HoldsAll p now then_arrived
+      followed = go follows
+        where
+          go : ParentFollows p n dir to_dir mid now → HoldsAll p now then_arrived
+          go (goes ne kind gets) =
+              let is : IsTrue (is_directory target.node.body) = sym target_kind ∙ ap is_directory_kind kind in
+              parent_held s at.is_state at.up desks still dir directory name n to_dir to_directory to_name o moves target.node target.at p at.same_room
+              mid now (entry_held mid entry) is gets.change gets.used
+              (moved_held mid now (inode_at p mid n) (inode_at p now n) is_target target_held to_dir is gets.saved gets.bytes gets.acls)
+          go (stays why same) =
+              let none : IsFalse (is_directory target.node.body) ⊎ (dir ≡ to_dir) = elim why [
+                | inl ne ↦ inl (sym target_kind ∙ other_kind_is (inode_at p mid n).kind ne)
+                | inr one ↦ inr one
+              ] in
+              subst (λ (m : SectorMap). HoldsAll p m then_arrived) (sym same)
+              (no_parent_held s at.is_state at.up desks still dir directory name n to_dir to_directory to_name o moves target.node target.at p at.same_room
+              mid (entry_held mid entry) none)
+
+      follow_same : (x : ℕ) → x < p.inodes → x ≢ n → inode_at p now x ≡ inode_at p mid x
+      follow_same x below other = go follows
+        where
+          go : ParentFollows p n dir to_dir mid now → inode_at p now x ≡ inode_at p mid x
+          go (goes ne kind gets) = inode_kept p x mid now (gets.change.table x below other)
+          go (stays why same) = ap (λ (m : SectorMap). inode_at p m x) same
+
+      -- nothing was replaced
+      pub moved_none : o ≡ None → HoldsAll p now (placed (swept (changed s.tree (MoveName dir name to_dir to_name)) desks))
+      moved_none =
+          move_held s at.is_state at.up desks still dir directory name n to_dir to_directory to_name o moves target.node target.at p at.same_room now followed
+
+      -- ---- what was replaced
+
+      module _ {m : ℕ} (led : o ≡ Some m) where
+        entry_is : IsEntry s.tree to_name m
+        entry_is =
+            (are_names s.room s.tree to_directory.body (at.is_state.tree.each to_dir to_directory may.to_directory.is_there).body).each to_name m
+            (may.to_leads ∙ led)
+
+        replaced : Stands s.tree m
+        replaced = stands s.tree m entry_is.leads.1
+
+        abbrev is_replaced : Placed
+        is_replaced = record { node = replaced.node; names = names_of s.tree m; parent = parent s.tree m }
+
+        pub replaced_number : IsNumber p Inodes m
+        replaced_number = ((at.is_state.tree.each m replaced.node replaced.at).positive, node_below s p at.is_state at.same_room m replaced.node replaced.at)
+
+        -- its inode stands as before
+        pub replaced_same : inode_at p now m ≡ inode_at p old.sectors m
+        replaced_same =
+            follow_same m replaced_number.1 (may.other m led)
+            ∙ entry_same entry m replaced_number.1
+            (m_not_from s at.is_state at.up desks still dir directory name n to_dir to_directory to_name o moves target.node target.at p at.same_room m led replaced.node replaced.at)
+            (m_not_to s at.is_state at.up desks still dir directory name n to_dir to_directory to_name o moves target.node target.at p at.same_room m led replaced.node replaced.at)
+
+        was_held : HoldsNode old.sectors (inode_at p old.sectors m) is_replaced
+        was_held = held_node (state_tree at) m replaced.node replaced.at
+
+        pub replaced_used : (inode_at p old.sectors m).kind ≢ kinds.Free
+        replaced_used e = body_not_free old.sectors (inode_at p old.sectors m) replaced.node.body was_held.body e
+
+        some_name : 1 ≤ names_of s.tree m
+        some_name =
+            let all = (moves_loses s.room s.tree s.desks dir directory name n to_dir to_directory to_name o at.is_state.tree moves).counts m in
+            let one : lost_of o m ≡ 1 = ap (λ q. lost_of q m) led ∙ once_same m m refl in
+            omega (arith, all, one)
+
+        pub replaced_named : 1 ≤ (inode_at p old.sectors m).names
+        replaced_named = subst (λ (k : ℕ). 1 ≤ k) (sym was_held.names) (field_named replaced.node.body (names_of s.tree m) some_name)
+
+        other : (m == root) ≡ false
+        other = ne_eqb m root entry_is.leads.0
+
+        one_name : IsTrue (is_directory replaced.node.body) → names_of s.tree m ≡ 1
+        one_name d =
+            directory_named s.room s.tree at.is_state.tree m (record { node = replaced.node; is_there = replaced.at; directory = d }) entry_is.leads.0
+
+        replaced_held : HoldsNode now (inode_at p now m) is_replaced
+        replaced_held =
+            held_at p now then_arrived followed m replaced_number.1 is_replaced
+            (arrived_m s at.is_state at.up desks still dir directory name n to_dir to_directory to_name o moves target.node target.at p at.same_room m led replaced.node replaced.at)
+
+  -- ---- and what was replaced loses its name
+
+  module _ {mid : SectorMap} (entry : MovesEntry p dir name n to_dir to_name o old.sectors mid) {now : TxnState} (follows : ParentFollows p n dir to_dir mid now.sectors) {m : ℕ}
+      (led : o ≡ Some m) {new : TxnState} (opened : Bool) (is : opened ≡ is_open desks m) (loses : LosesName p m opened now new) where
+    abbrev node : Node
+    node = (replaced entry follows led).node
+
+    pub replaced_holds : HoldsAll p new.sectors (placed (swept (changed s.tree (MoveName dir name to_dir to_name)) desks))
+    replaced_holds = go (not (names_of s.tree m - 1 == 0) || lives_nameless desks m node.body) refl
+      where
+        go : (b : Bool) → (not (names_of s.tree m - 1 == 0) || lives_nameless desks m node.body) ≡ b
+            → HoldsAll p new.sectors (placed (swept (changed s.tree (MoveName dir name to_dir to_name)) desks))
+        go true stay =
+            let counts = left_counts desks (replaced_held entry follows led) (one_name entry follows led) (other entry follows led) opened is loses stay in
+            move_take_held s at.is_state at.up desks still dir directory name n to_dir to_directory to_name o moves target.node target.at p at.same_room
+            m led node (replaced entry follows led).at now.sectors new.sectors (followed entry follows) counts.touches.inode stay counts.used
+            (left_held desks (replaced_held entry follows led) (one_name entry follows led) (other entry follows led) opened is loses stay
+            (parent (changed s.tree (MoveName dir name to_dir to_name)) m))
+        go false gone =
+            let drops = left_drops desks (replaced_held entry follows led) (one_name entry follows led) (other entry follows led) opened is loses gone in
+            move_drop_held s at.is_state at.up desks still dir directory name n to_dir to_directory to_name o moves target.node target.at p at.same_room
+            m led node (replaced entry follows led).at now.sectors new.sectors (followed entry follows) drops.touches.inode gone drops.clear drops.free

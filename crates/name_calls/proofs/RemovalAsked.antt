@@ -1,0 +1,198 @@
+-- What is asked before a name is removed, as the inodes say it.
+--     body_kind_is        an inode has the kind of a directory where its body is one
+--     yields        what S_ISVTX of a directory asks
+--     dir_access        access to the directory is decided
+--     removal_absent, removal_slashed, removal_denied, removal_sticky        one of the demands refuses
+--     removal_met        all are met
+--     directory_checked        what remains to be asked of a directory
+use Rattle.std.specs.Prelude.{◌≡◌, ℕ, ◌+◌, ◌-◌, ◌/◌, ◌%◌, ◌<◌, ◌==◌, Bool, true, false, not, ◌&&◌, cond, List, [], ◌∷◌, Option, None, is_some, IsTrue, Result, Ok, Err}
+use Rattle.std.proofs.Common.{refl, sym, ap, subst, arith, ◌∙◌, inl}
+use Rattle.fs_cred.specs.declared.errno.Errno.TheVariants.{EBUSY, ENOTDIR, ENOTEMPTY}
+use Rattle.fs_cred.specs.declared.refusal.Need.TheVariants.{Perm, Remove}
+use Rattle.fs_cred.specs.declared.refusal.Refusal.{Refusal}
+use Rattle.fs_cred.specs.declared.rule.Rule.{Rule}
+use Rattle.fs_cred.specs.declared.rule.Rule.TheVariants.{Sticky}
+use Rattle.fs_cred.specs.Credentials.{Credential}
+use Rattle.fs_cred.specs.Ownership.{sticky_allows}
+use Rattle.fs_cred.specs.Verdicts.{verdict}
+use Rattle.posix_acl.specs.AccessList.{mode_bits}
+use Rattle.sector_disk.specs.Disk.{DiskState}
+use Rattle.fs_layout.specs.declared.inode.Inode.{Inode}
+use Rattle.fs_layout.specs.declared.inode.Kind.TheVariants as kinds
+use Rattle.fs_layout.specs.declared.place.Place.{Place}
+use Rattle.fs_layout.specs.Bytes.{SectorMap}
+use Rattle.fs_layout.specs.Directories.{HasNames}
+use Rattle.fs_layout.specs.Images.{inode_at}
+use Rattle.fs_layout.proofs.OneAcl.{mode_small}
+use Rattle.fs_model.specs.declared.walk.Found.{Found}
+use Rattle.fs_model.specs.Births.{the_node, the_directory}
+use Rattle.fs_model.specs.Demands.{Demand, refuse, or_else, first_of, decided, denied_unless, permission_of, permission_on, write_and_search}
+use Rattle.fs_model.specs.Kinds.{kind_of_type}
+use Rattle.fs_model.specs.Nodes.{Node, Body, File, Dir, Link, is_directory, type_of, shown_mode}
+use Rattle.fs_model.specs.Parts.{is_empty}
+use Rattle.fs_model.specs.Rules.{is_directory_kind}
+use Rattle.fs_model.specs.Scenes.{is_found, number, must_be_there}
+use Rattle.fs_model.specs.StoredNodes.{HoldsBody}
+use Rattle.fs_model.specs.Trees.{Tree, IsDirectoryAt}
+use Rattle.path_walk.specs.Answers.{refused_or, IsAnswered}
+use Rattle.path_walk.specs.HeldTrees.{HoldsTree, HasAccess}
+use Rattle.path_walk.proofs.Calling.{met_ok, or_else-none, first_asked, next_asked, both_met}
+use Rattle.path_walk.proofs.HeldNodes.{held_node}
+use Rattle.file_calls.proofs.Followed.{IsAccessed, accessed_is}
+use Rattle.file_calls.proofs.OpenFound.{checked}
+use Rattle.file_calls.proofs.OpenNew.{dir_access, dir_held}
+use Rattle.file_calls.proofs.Owned.{IsNode, node_of}
+use Rattle.file_calls.proofs.Shown.{IsInode, body_kind, the_node_is}
+use Rattle.name_calls.specs.Removing.{IsNamedThere, removal_asked, sticky_asked, directory_asked}
+
+-- ---- what an inode says
+
+type_says : (b : Body) → is_directory_kind (kind_of_type (type_of b)) ≡ is_directory b
+type_says (File a bytes) = refl
+type_says (Dir a d) = refl
+type_says (Link target) = refl
+
+pub body_kind_is : (image : SectorMap) (v : Inode) (b : Body) → HoldsBody image v b → is_directory_kind v.kind ≡ is_directory b
+body_kind_is image v b h = ap is_directory_kind (body_kind image v b h) ∙ type_says b
+
+sticky_bit : (n : ℕ) (s g : Bool) → n < 512 → ((n + cond s 512 0 + cond g 1024 0) / 512 % 2 == 1) ≡ s
+sticky_bit n true true lt = let e : (n + 512 + 1024) / 512 % 2 ≡ 1 = omega (arith, lt) in ap (λ (k : ℕ). k == 1) e
+sticky_bit n true false lt = let e : (n + 512 + 0) / 512 % 2 ≡ 1 = omega (arith, lt) in ap (λ (k : ℕ). k == 1) e
+sticky_bit n false true lt = let e : (n + 0 + 1024) / 512 % 2 ≡ 0 = omega (arith, lt) in ap (λ (k : ℕ). k == 1) e
+sticky_bit n false false lt = let e : (n + 0 + 0) / 512 % 2 ≡ 0 = omega (arith, lt) in ap (λ (k : ℕ). k == 1) e
+
+-- S_ISVTX of its mode is that of the directory
+sticky_says : (owner group : ℕ) (b : Body) (m : ℕ) → IsTrue (is_directory b) → m ≡ shown_mode b
+    → (m / 512 % 2 == 1) ≡ (the_directory (record { owner = owner; group = group; body = b })).sticky
+sticky_says owner group (File a bytes) m is e = absurd (cc)
+sticky_says owner group (Dir a d) m is e = ap (λ (k : ℕ). k / 512 % 2 == 1) e ∙ sticky_bit (mode_bits a) d.sticky d.set_group_id (mode_small a)
+sticky_says owner group (Link target) m is e = absurd (cc)
+
+-- what S_ISVTX of a directory asks
+pub yields : {p : Place} {map : SectorMap} {t : Tree} (h : HoldsTree p map t) (cred : Credential) {f : Found} (directory : IsDirectoryAt t f.dir)
+    {n : ℕ} {v : Inode} (node : IsNode map t f n v) {d : Inode} → d ≡ inode_at p map f.dir → (walk step : ℕ) → step ≡ f.step - 1
+    → denied_unless (sticky_allows cred (the_directory (the_node t f.dir)).sticky (the_node t f.dir).owner (the_node t (number f)).owner) walk (f.step - 1) Remove Sticky
+    ≡ sticky_asked cred d v walk step
+yields {p} {map} {t} h cred {f} directory {n} {v} node {d} d_is walk step step_is =
+    let dir = directory.node in
+    let held = held_node h f.dir dir directory.is_there in
+    let w = inode_at p map f.dir in
+    let here = the_node_is t f.dir dir directory.is_there in
+    ap (λ (k : ℕ). denied_unless (sticky_allows cred (the_directory (the_node t f.dir)).sticky (the_node t f.dir).owner (the_node t (number f)).owner) walk k Remove Sticky) (sym step_is)
+    ∙ ap (λ (u : Node). denied_unless (sticky_allows cred (the_directory u).sticky u.owner (the_node t (number f)).owner) walk step Remove Sticky) here
+    ∙ ap (λ (u : Node). denied_unless (sticky_allows cred (the_directory dir).sticky dir.owner u.owner) walk step Remove Sticky) node.is
+    ∙ ap (λ (k : ℕ). denied_unless (sticky_allows cred (the_directory dir).sticky dir.owner k) walk step Remove Sticky) (sym node.holds.owner)
+    ∙ ap (λ (k : ℕ). denied_unless (sticky_allows cred (the_directory dir).sticky k v.uid) walk step Remove Sticky) (sym held.owner)
+    ∙ ap (λ (b : Bool). denied_unless (sticky_allows cred b w.uid v.uid) walk step Remove Sticky)
+    (sym (sticky_says dir.owner dir.group dir.body w.mode directory.directory held.mode))
+    ∙ ap (λ (u : Inode). sticky_asked cred u v walk step) (sym d_is)
+
+-- ---- what is asked
+
+module _ {p : Place} {map : SectorMap} {t : Tree} (h : HoldsTree p map t) {f : Found} (named : IsNamedThere t f) (cred : Credential) where
+  abbrev absent : Demand
+  absent = must_be_there f
+
+  abbrev slashed : Demand
+  slashed = refuse ENOTDIR (f.slash && (is_found f && not (is_directory (the_node t (number f)).body)))
+
+  abbrev allowed : Demand
+  allowed = permission_on cred t f.dir write_and_search 1 (f.step - 1)
+
+  abbrev yielded : Demand
+  yielded =
+      denied_unless (sticky_allows cred (the_directory (the_node t f.dir)).sticky (the_node t f.dir).owner (the_node t (number f)).owner) 1 (f.step - 1) Remove Sticky
+
+  -- access to the directory is decided
+  abbrev pub access : IsAccessed t f.dir
+  access = dir_access h f.dir named.directory cred (f.step - 1)
+
+  pub access_held : HasAccess map (inode_at p map f.dir) access.access
+  access_held = dir_held h f.dir named.directory cred (f.step - 1)
+
+  -- nothing is there
+  pub removal_absent : {A B : Type 0} (x : A) (y : B) (e : Refusal) (old new : DiskState) → IsAnswered old new (refused_or absent (Ok y)) (Err e)
+      → IsAnswered old new (refused_or (first_of (removal_asked cred t f)) (Ok x)) (Err e)
+  removal_absent {A} {B} x y e old new is = first_asked {A = A} {B = B} absent (slashed ∷ allowed ∷ yielded ∷ []) y x e old new is
+
+  module _ {n : ℕ} {v : Inode} (i : IsInode p map f n v) where
+    node : IsNode map t f n v
+    node = node_of h f n v i.number i.inode (named.found n i.some)
+
+    slash_is : slashed ≡ refuse ENOTDIR (f.slash && not (is_directory_kind v.kind))
+    slash_is =
+        ap (λ (o : Option ℕ). refuse ENOTDIR (f.slash && (is_some o && not (is_directory (the_node t (number f)).body)))) i.some
+        ∙ ap (λ (u : Node). refuse ENOTDIR (f.slash && not (is_directory u.body))) node.is
+        ∙ ap (λ (b : Bool). refuse ENOTDIR (f.slash && not b)) (sym (body_kind_is map v node.node.body node.holds.body))
+
+    -- it is no directory, and named as one
+    pub removal_slashed : {A : Type 0} (x : A) (e : Refusal) (old new : DiskState) → checked (refuse ENOTDIR (f.slash && not (is_directory_kind v.kind))) ≡ Err e
+        → IsAnswered old new (refused_or (first_of (removal_asked cred t f)) (Ok x)) (Err e)
+    removal_slashed {A} x e old new is =
+        next_asked absent (slashed ∷ allowed ∷ yielded ∷ []) x e old new i.met
+        (first_asked {A = A} {B = Unit {0}} slashed (allowed ∷ yielded ∷ []) tt x e old new (inl (ap checked slash_is ∙ is)))
+
+    module _ (no_slash : checked (refuse ENOTDIR (f.slash && not (is_directory_kind v.kind))) ≡ Ok tt) (step : ℕ) (step_is : step ≡ f.step - 1) where
+      slash_met : slashed ≡ None
+      slash_met = slash_is ∙ (met_ok {A = Unit {0}} (refuse ENOTDIR (f.slash && not (is_directory_kind v.kind))) tt tt no_slash).0
+
+      abbrev decision : Result Rule Refusal
+      decision = refused_or {A = Rule} (decided 1 step (Perm write_and_search) (verdict cred access.access write_and_search)) (Ok (verdict cred access.access write_and_search).rule)
+
+      allowed_is : allowed ≡ decided 1 step (Perm write_and_search) (verdict cred access.access write_and_search)
+      allowed_is =
+          ap (λ (k : ℕ). permission_on cred t f.dir write_and_search 1 k) (sym step_is)
+          ∙ ap (permission_of cred write_and_search 1 step) (accessed_is t f.dir access)
+
+      -- the directory may not be written, or not searched
+      pub removal_denied : {A : Type 0} (x : A) (e : Refusal) (old new : DiskState) → IsAnswered old new decision (Err e)
+          → IsAnswered old new (refused_or (first_of (removal_asked cred t f)) (Ok x)) (Err e)
+      removal_denied {A} x e old new is =
+          next_asked absent (slashed ∷ allowed ∷ yielded ∷ []) x e old new i.met
+          (next_asked slashed (allowed ∷ yielded ∷ []) x e old new slash_met
+          (first_asked {A = A} {B = Rule} allowed (yielded ∷ []) (verdict cred access.access write_and_search).rule x e old new
+          (subst (λ (o : Demand). IsAnswered old new (refused_or {A = Rule} o (Ok (verdict cred access.access write_and_search).rule)) (Err e)) (sym allowed_is) is)))
+
+      module _ {rule : Rule} (granted : decision ≡ Ok rule) {d : Inode} (d_is : d ≡ inode_at p map f.dir) where
+        allowed_met : allowed ≡ None
+        allowed_met =
+            allowed_is
+            ∙ (met_ok {A = Rule} (decided 1 step (Perm write_and_search) (verdict cred access.access write_and_search)) (verdict cred access.access write_and_search).rule rule granted).0
+
+        yielded_is : yielded ≡ sticky_asked cred d v 1 step
+        yielded_is = yields h cred named.directory node d_is 1 step step_is
+
+        -- the directory keeps it from the caller
+        pub removal_sticky : {A : Type 0} (x : A) (e : Refusal) (old new : DiskState) → checked (sticky_asked cred d v 1 step) ≡ Err e
+            → IsAnswered old new (refused_or (first_of (removal_asked cred t f)) (Ok x)) (Err e)
+        removal_sticky {A} x e old new is =
+            next_asked absent (slashed ∷ allowed ∷ yielded ∷ []) x e old new i.met
+            (next_asked slashed (allowed ∷ yielded ∷ []) x e old new slash_met
+            (next_asked allowed (yielded ∷ []) x e old new allowed_met
+            (first_asked {A = A} {B = Unit {0}} yielded [] tt x e old new (inl (ap checked yielded_is ∙ is)))))
+
+        -- nothing refuses
+        pub removal_met : checked (sticky_asked cred d v 1 step) ≡ Ok tt → first_of (removal_asked cred t f) ≡ None
+        removal_met is =
+            both_met absent (slashed ∷ allowed ∷ yielded ∷ []) i.met
+            (both_met slashed (allowed ∷ yielded ∷ []) slash_met
+            (both_met allowed (yielded ∷ []) allowed_met
+            (or_else-none yielded ∙ yielded_is ∙ (met_ok {A = Unit {0}} (sticky_asked cred d v 1 step) tt tt is).0)))
+
+-- ---- a directory that is to go
+
+empty_says : {X : Type 0} (xs : List X) (empty : Bool) → (IsTrue empty → xs ≡ []) × (xs ≡ [] → IsTrue empty) → is_empty xs ≡ empty
+empty_says [] empty says = sym (says.1 refl)
+empty_says (x ∷ xs) true says = let none = says.0 refl in absurd (cc)
+empty_says (x ∷ xs) false says = refl
+
+-- it is a directory that isn't in use, and a test says whether it has names
+pub directory_checked : (image : SectorMap) (v : Inode) (b : Body) → HoldsBody image v b → v.kind ≡ kinds.Directory → (used empty : Bool) → used ≡ false
+    → ((names : List (List ℕ × ℕ)) → HasNames image v names → (IsTrue empty → names ≡ []) × (names ≡ [] → IsTrue empty))
+    → first_of (directory_asked b used) ≡ refuse ENOTEMPTY (not empty)
+directory_checked image v (File a bytes) h is used empty free says = absurd (let c : kinds.File ≡ kinds.Directory = sym h.kind ∙ is in cc)
+directory_checked image v (Dir a d) h is used empty free says =
+    ap (λ (u : Bool). or_else (refuse EBUSY u) (or_else (refuse ENOTEMPTY (not (is_empty d.names))) None)) free
+    ∙ or_else-none (refuse ENOTEMPTY (not (is_empty d.names)))
+    ∙ ap (λ (e : Bool). refuse ENOTEMPTY (not e)) (empty_says d.names empty (says d.names h.names))
+directory_checked image v (Link target) h is used empty free says = absurd (let c : kinds.Link ≡ kinds.Directory = sym h.kind ∙ is in cc)

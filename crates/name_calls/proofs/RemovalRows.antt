@@ -1,0 +1,248 @@
+-- unlink and rmdir, by their rows.
+--     unlink_by_path, rmdir_by_path        the rows
+--     asked_first, asked_second, asked_third, all_asked, parts_met        demands in three parts
+--     finds_name, plain_name, last_is_name, name_there        a name was found, with what it leads to
+--     kind_told, directory_told        the last part, as the inode says it
+--     inode_told, unlink_told, unlink_may, rmdir_told, rmdir_may        where all is met
+--     name_gone        the name is gone
+use Rattle.std.specs.Prelude.{◌≡◌, ℕ, ◌==◌, Bool, true, false, not, ◌&&◌, ◌||◌, List, [], ◌∷◌, ◌++◌, Option, None, is_some, IsTrue, Ok, Err}
+use Rattle.std.proofs.Common.{refl, sym, ap, subst, ◌∙◌, inl}
+use Rattle.std.specs.List.{list_any}
+use Rattle.fs_cred.specs.declared.errno.Errno.TheVariants.{EBUSY, EINVAL, EISDIR, ENOENT, ENOTDIR, ENOTEMPTY}
+use Rattle.fs_cred.specs.declared.refusal.Refusal.{Refusal}
+use Rattle.sector_disk.specs.Disk.{DiskState}
+use Rattle.fs_layout.specs.declared.inode.Inode.{Inode}
+use Rattle.fs_layout.specs.declared.place.Place.{Place}
+use Rattle.fs_layout.specs.Bytes.{SectorMap, IsBytes}
+use Rattle.fs_layout.specs.Images.{inode_at}
+use Rattle.fs_model.specs.declared.call.Call.TheVariants.{Unlink, Rmdir}
+use Rattle.fs_model.specs.declared.walk.Form.TheVariants.{Parent}
+use Rattle.fs_model.specs.declared.walk.Found.{Found}
+use Rattle.fs_model.specs.declared.reply.Reply.TheVariants.{Done}
+use Rattle.fs_model.specs.Births.{the_node}
+use Rattle.fs_model.specs.Changes.{TakeName, changed, swept}
+use Rattle.fs_model.specs.Demands.{Demand, refuse, first_of}
+use Rattle.fs_model.specs.NameCalls.{unlink_row, rmdir_row, unlink_demands, rmdir_demands, takes_name}
+use Rattle.fs_model.specs.Nodes.{Node, is_directory, names_in}
+use Rattle.fs_model.specs.Parts.{is_empty}
+use Rattle.fs_model.specs.Processes.{Process, Desks, is_in_use}
+use Rattle.fs_model.specs.Rows.{row_of}
+use Rattle.fs_model.specs.Rules.{is_directory_kind}
+use Rattle.fs_model.specs.Scenes.{is_found, is_special, ends_top, ends_dot, ends_dot_dot, number, must_be_there}
+use Rattle.fs_model.specs.Stands.{HoldsAll, placed}
+use Rattle.fs_model.specs.States.{State}
+use Rattle.fs_model.specs.Steps.{found_by}
+use Rattle.fs_model.specs.StoredNodes.{HoldsBody}
+use Rattle.fs_model.proofs.StepsDemands.{first_met, then_met, unrefused, and_false}
+use Rattle.fs_model.proofs.StepsFound.{IsNameAt, IsWalked, is_walked}
+use Rattle.fs_model.proofs.StepsOfRemoving.{empty_if}
+use Rattle.path_walk.specs.Answers.{refused_or, IsAnswered}
+use Rattle.path_walk.specs.Paths.{scene_at, HasFound}
+use Rattle.path_walk.specs.Performing.{IsStateOf}
+use Rattle.path_walk.proofs.ByPath.{IsByPath}
+use Rattle.path_walk.proofs.Calling.{state_tree, found_there, first_of-append, met_ok}
+use Rattle.file_calls.proofs.Changed.{IsChange}
+use Rattle.file_calls.proofs.OpenFound.{checked, refused_as}
+use Rattle.file_calls.proofs.Owned.{IsNode, node_of, some_asked, others_asked, all_met}
+use Rattle.file_calls.proofs.Shown.{IsInode, is_inode}
+use Rattle.name_calls.specs.Removing.{FindsName, IsNamedThere, removal_asked, last_asked, directory_asked, MayGo}
+use Rattle.name_calls.proofs.RemovalAsked.{body_kind_is}
+
+-- ---- the rows
+
+module _ (path : List ℕ) where
+  unlink_is : row_of (Unlink path) ≡ unlink_row path
+  unfolding row_of
+  unlink_is = refl
+
+  pub unlink_by_path : IsByPath (Unlink path) Parent path unlink_demands takes_name
+  unlink_by_path = record { arguments = []; row = unlink_is; met = refl; asks = refl }
+
+  rmdir_is : row_of (Rmdir path) ≡ rmdir_row path
+  unfolding row_of
+  rmdir_is = refl
+
+  pub rmdir_by_path : IsByPath (Rmdir path) Parent path rmdir_demands takes_name
+  rmdir_by_path = record { arguments = []; row = rmdir_is; met = refl; asks = refl }
+
+-- ---- demands in three parts
+
+module _ (a b c : List Demand) where
+  module _ {A : Type 0} (x : A) (e : Refusal) (old new : DiskState) where
+    pub asked_first : checked (first_of a) ≡ Err e → IsAnswered old new (refused_or (first_of (a ++ (b ++ c))) (Ok x)) (Err e)
+    asked_first is = some_asked {A = A} {B = Unit {0}} a (b ++ c) tt x e old new (inl is)
+
+    module _ (first : checked (first_of a) ≡ Ok tt) where
+      a_met : first_of a ≡ None
+      a_met = (met_ok {A = Unit {0}} (first_of a) tt tt first).0
+
+      pub asked_second : {B : Type 0} (y : B) → IsAnswered old new (refused_or (first_of b) (Ok y)) (Err e) → IsAnswered old new (refused_or (first_of (a ++ (b ++ c))) (Ok x)) (Err e)
+      asked_second {B} y is = others_asked a (b ++ c) x e old new a_met (some_asked {A = A} {B = B} b c y x e old new is)
+
+      pub asked_third : {B : Type 0} (y z : B) → refused_or (first_of b) (Ok y) ≡ Ok z → checked (first_of c) ≡ Err e
+          → IsAnswered old new (refused_or (first_of (a ++ (b ++ c))) (Ok x)) (Err e)
+      asked_third {B} y z second is =
+          others_asked a (b ++ c) x e old new a_met
+          (others_asked b c x e old new (met_ok {A = B} (first_of b) y z second).0 (refused_as {A = A} {B = Unit {0}} (first_of c) tt x e old new (inl is)))
+
+  pub all_asked : {B : Type 0} (y z : B) → checked (first_of a) ≡ Ok tt → refused_or (first_of b) (Ok y) ≡ Ok z → checked (first_of c) ≡ Ok tt
+      → refused_or (first_of (a ++ (b ++ c))) (Ok y) ≡ Ok z
+  all_asked {B} y z first second third =
+      let none = all_met a (b ++ c) (met_ok {A = Unit {0}} (first_of a) tt tt first).0
+      (all_met b c (met_ok {A = B} (first_of b) y z second).0 (met_ok {A = Unit {0}} (first_of c) tt tt third).0) in
+      ap (λ (d : Demand). refused_or {A = B} d (Ok y)) none ∙ ap (λ (k : B). Ok k) (met_ok {A = B} (first_of b) y z second).1
+
+  pub parts_met : first_of (a ++ (b ++ c)) ≡ None → (first_of a ≡ None) × (first_of b ≡ None) × (first_of c ≡ None)
+  parts_met none =
+      let one = sym (first_of-append a (b ++ c)) ∙ none in
+      let two = sym (first_of-append b c) ∙ then_met (first_of a) (first_of (b ++ c)) one in
+      (first_met (first_of a) (first_of (b ++ c)) one, first_met (first_of b) (first_of c) two, then_met (first_of b) (first_of c) two)
+
+-- ---- what was found
+
+pub finds_name : {p : Place} {map : SectorMap} {desks : Desks} {s : State} {pid : ℕ} {q : Process} {path : List ℕ} {f : Found} → IsBytes path
+    → IsStateOf p map desks s → HasFound s pid q Parent path f → FindsName p map desks q f s
+finds_name {p} {map} {desks} {s} {pid} {q} {path} {f} bytes at has = record { pid = pid; path = path; bytes = bytes; is_state = at; found = has }
+
+-- where unlink asks nothing more of the last component, it is a name
+pub plain_name : (special : Bool) → checked (first_of (refuse EISDIR special ∷ [])) ≡ Ok tt → special ≡ false
+plain_name special is =
+    unrefused EISDIR special (first_met (refuse EISDIR special) None (met_ok {A = Unit {0}} (first_of (refuse EISDIR special ∷ [])) tt tt is).0)
+
+-- where rmdir asks nothing more of the last component, it is a name
+pub last_is_name : (f : Found) → first_of (last_asked f) ≡ None → is_special f ≡ false
+last_is_name f none =
+    let top = unrefused EBUSY (ends_top f) (first_met (refuse EBUSY (ends_top f)) _ none) in
+    let rest = then_met (refuse EBUSY (ends_top f)) _ none in
+    let dot = unrefused EINVAL (ends_dot f) (first_met (refuse EINVAL (ends_dot f)) _ rest) in
+    let dots = unrefused ENOTEMPTY (ends_dot_dot f) (first_met (refuse ENOTEMPTY (ends_dot_dot f)) None (then_met (refuse EINVAL (ends_dot f)) _ rest)) in
+    ap (λ (b : Bool). b || ends_dot f || ends_dot_dot f) top ∙ ap (λ (b : Bool). b || ends_dot_dot f) dot ∙ dots
+
+module _ {p : Place} {map : SectorMap} {desks : Desks} {q : Process} {f : Found} {s : State} (i : FindsName p map desks q f s) where
+  name_at : is_special f ≡ false → IsNameAt s.tree f.dir f.name f.ino
+  name_at special =
+      let later = then_met (refuse ENOENT (is_empty i.path)) _ i.found.checked in
+      let no_zero = unrefused EINVAL (list_any (λ b. b == 0) i.path) (first_met (refuse EINVAL (list_any (λ b. b == 0) i.path)) _ later) in
+      let walked : IsWalked s.tree Parent (found_by s.tree q.cwd (Parent, i.path)) =
+      is_walked s.room s.tree i.is_state.is_state.tree q.cred q.cwd 1 (Parent, i.path) i.bytes no_zero i.found.unrefused in
+      (subst (IsWalked s.tree Parent) (sym i.found.is) walked).old refl special
+
+  pub name_there : is_special f ≡ false → IsNamedThere s.tree f
+  name_there special =
+      let x = name_at special in
+      record {
+        directory = record { node = x.node; is_there = x.stands; directory = x.directory };
+        found = λ n some. found_there n i.is_state i.found some;
+      }
+
+  module _ {n : ℕ} {v : Inode} (k : IsInode p map f n v) where
+    pub node : IsNode map s.tree f n v
+    node = node_of (state_tree i.is_state) f n v k.number k.inode (found_there n i.is_state i.found k.some)
+
+    -- what it is
+    pub node_held : HoldsBody map v node.node.body
+    node_held = node.holds.body
+
+    -- that it is no directory
+    pub kind_told : first_of (refuse EISDIR (is_directory_kind v.kind) ∷ []) ≡ first_of (refuse EISDIR (is_found f && is_directory (the_node s.tree (number f)).body) ∷ [])
+    kind_told =
+        ap (λ (b : Bool). first_of (refuse EISDIR b ∷ [])) (body_kind_is map v node.node.body node.holds.body)
+        ∙ ap (λ (u : Node). first_of (refuse EISDIR (is_directory u.body) ∷ [])) (sym node.is)
+        ∙ ap (λ (o : Option ℕ). first_of (refuse EISDIR (is_some o && is_directory (the_node s.tree (number f)).body) ∷ [])) (sym k.some)
+
+    -- that it is an empty directory that isn't in use
+    pub directory_told : directory_asked node.node.body (is_in_use desks n)
+        ≡ (refuse ENOTDIR (is_found f && not (is_directory (the_node s.tree (number f)).body)) ∷ refuse EBUSY (is_in_use s.desks (number f))
+        ∷ refuse ENOTEMPTY (not (is_empty (names_in (the_node s.tree (number f)).body))) ∷ [])
+    directory_told =
+        let B = (the_node s.tree (number f)).body in
+        ap (λ (u : Node). directory_asked u.body (is_in_use desks n)) (sym node.is)
+        ∙ ap (λ (m : ℕ). directory_asked (the_node s.tree (number f)).body (is_in_use desks m)) (sym k.number)
+        ∙ ap (λ (d : Desks). directory_asked (the_node s.tree (number f)).body (is_in_use d (number f))) (sym i.is_state.same_desks)
+        ∙ ap (λ (o : Option ℕ). refuse ENOTDIR (is_some o && not (is_directory (the_node s.tree (number f)).body)) ∷ refuse EBUSY (is_in_use s.desks (number f))
+        ∷ refuse ENOTEMPTY (not (is_empty (names_in (the_node s.tree (number f)).body))) ∷ []) (sym k.some)
+
+    may_go : is_special f ≡ false → (IsTrue (is_directory node.node.body) → (names_in node.node.body ≡ []) × (is_in_use s.desks n ≡ false)) → MayGo s f.dir f.name n
+    may_go special free =
+        let x = name_at special in
+        record {
+          directory = record { node = x.node; is_there = x.stands; directory = x.directory };
+          leads = x.leads ∙ k.some;
+          target = node.node;
+          there = node.at;
+          empty = λ yes. (free yes).0;
+          unused = λ yes. (free yes).1;
+        }
+
+  -- where all is asked, what was found is there
+  pub inode_told : {n : ℕ} {v : Inode} (a c : List Demand)
+      → refused_or {A = ℕ × Inode} (first_of (a ++ (removal_asked q.cred s.tree f ++ c))) (Ok (number f, inode_at p map (number f))) ≡ Ok (n, v)
+      → IsInode p map f n v
+  inode_told {n} {v} a c is =
+      let d = first_of (a ++ (removal_asked q.cred s.tree f ++ c)) in
+      let both = met_ok {A = ℕ × Inode} d (number f, inode_at p map (number f)) (n, v) is in
+      let there = first_met (must_be_there f) _ (parts_met a (removal_asked q.cred s.tree f) c both.0).1 in
+      is_inode p map f n v
+      (ap (λ (e : Demand). refused_or {A = ℕ × Inode} e (Ok (number f, inode_at p map (number f)))) there ∙ ap (λ (x : ℕ × Inode). Ok x) both.1)
+
+  module _ {n : ℕ} {v : Inode} where
+    pub unlink_told : refused_or {A = ℕ × Inode} (first_of (unlink_demands (scene_at s q f))) (Ok (number f, inode_at p map (number f))) ≡ Ok (n, v)
+        → IsInode p map f n v
+    unlink_told is = inode_told (refuse EISDIR (is_special f) ∷ []) (refuse EISDIR (is_found f && is_directory (the_node s.tree (number f)).body) ∷ []) is
+
+    -- what unlink may remove
+    pub unlink_may : refused_or {A = ℕ × Inode} (first_of (unlink_demands (scene_at s q f))) (Ok (number f, inode_at p map (number f))) ≡ Ok (n, v)
+        → MayGo s f.dir f.name n
+    unlink_may is =
+        let a = refuse EISDIR (is_special f) ∷ [] in
+        let c = refuse EISDIR (is_found f && is_directory (the_node s.tree (number f)).body) ∷ [] in
+        let k = unlink_told is in
+        let none = (met_ok {A = ℕ × Inode} (first_of (unlink_demands (scene_at s q f))) (number f, inode_at p map (number f)) (n, v) is).0 in
+        let parts = parts_met a (removal_asked q.cred s.tree f) c none in
+        let special = unrefused EISDIR (is_special f) (first_met (refuse EISDIR (is_special f)) None parts.0) in
+        let other = unrefused EISDIR (is_found f && is_directory (the_node s.tree (number f)).body)
+        (first_met (refuse EISDIR (is_found f && is_directory (the_node s.tree (number f)).body)) None parts.2) in
+        let no = and_false (is_found f) (is_directory (the_node s.tree (number f)).body) other (ap is_some k.some) in
+        let here : is_directory (node k).node.body ≡ false = ap (λ (u : Node). is_directory u.body) (sym (node k).is) ∙ no in
+        may_go k special (λ yes. absurd (let both : true ≡ false = sym yes ∙ here in cc))
+
+    pub rmdir_told : refused_or {A = ℕ × Inode} (first_of (rmdir_demands (scene_at s q f))) (Ok (number f, inode_at p map (number f))) ≡ Ok (n, v)
+        → IsInode p map f n v
+    rmdir_told is =
+        inode_told (last_asked f) (refuse ENOTDIR (is_found f && not (is_directory (the_node s.tree (number f)).body)) ∷ refuse EBUSY (is_in_use s.desks (number f))
+        ∷ refuse ENOTEMPTY (not (is_empty (names_in (the_node s.tree (number f)).body))) ∷ []) is
+
+    -- what rmdir may remove
+    pub rmdir_may : refused_or {A = ℕ × Inode} (first_of (rmdir_demands (scene_at s q f))) (Ok (number f, inode_at p map (number f))) ≡ Ok (n, v)
+        → MayGo s f.dir f.name n
+    rmdir_may is =
+        let a = last_asked f in
+        let c = refuse ENOTDIR (is_found f && not (is_directory (the_node s.tree (number f)).body)) ∷ refuse EBUSY (is_in_use s.desks (number f))
+        ∷ refuse ENOTEMPTY (not (is_empty (names_in (the_node s.tree (number f)).body))) ∷ [] in
+        let k = rmdir_told is in
+        let none = (met_ok {A = ℕ × Inode} (first_of (rmdir_demands (scene_at s q f))) (number f, inode_at p map (number f)) (n, v) is).0 in
+        let parts = parts_met a (removal_asked q.cred s.tree f) c none in
+        let used = unrefused EBUSY (is_in_use s.desks (number f)) (first_met (refuse EBUSY (is_in_use s.desks (number f))) _
+        (then_met (refuse ENOTDIR (is_found f && not (is_directory (the_node s.tree (number f)).body))) _ parts.2)) in
+        let names = unrefused ENOTEMPTY (not (is_empty (names_in (the_node s.tree (number f)).body)))
+        (first_met (refuse ENOTEMPTY (not (is_empty (names_in (the_node s.tree (number f)).body)))) None
+        (then_met (refuse EBUSY (is_in_use s.desks (number f))) _
+        (then_met (refuse ENOTDIR (is_found f && not (is_directory (the_node s.tree (number f)).body))) _ parts.2))) in
+        may_go k (last_is_name f parts.0)
+        (λ yes. (
+          ap (λ (u : Node). names_in u.body) (sym (node k).is) ∙ empty_if (names_in (the_node s.tree (number f)).body) names,
+          ap (is_in_use s.desks) (sym k.number) ∙ used,
+        ))
+
+-- ---- the name is gone
+
+pub name_gone : {p : Place} {new : SectorMap} {desks : Desks} (s : State) (q : Process) (f : Found) (asked : List Demand) → first_of asked ≡ None
+    → HoldsAll p new (placed (swept (changed s.tree (TakeName f.dir f.name)) desks)) → IsChange p new desks s q asked (takes_name (scene_at s q f)) Done
+name_gone {p} {new} {desks} s q f asked met holds = record {
+  met = met;
+  number = 0;
+  change = TakeName f.dir f.name;
+  is = refl;
+  new_number = tt;
+  holds = holds;
+}

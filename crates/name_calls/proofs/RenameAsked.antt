@@ -1,0 +1,115 @@
+-- What rename asks, as the inodes say it.
+--     kind_at, first_kind, first_other, second_other, second_directory        whether what was found is a directory
+--     slashes_are, kinds_are        the demands on that
+--     ends_refuse, first_absent, slashes_refuse, names_met        all that is asked of both names
+use Rattle.std.specs.Prelude.{◌≡◌, ℕ, Bool, not, ◌&&◌, ◌||◌, [], ◌∷◌, Option, None, Some, is_some, unwrap_or, Ok, Err}
+use Rattle.std.proofs.Common.{refl, sym, ap, ◌∙◌, inl}
+use Rattle.sector_disk.specs.Disk.{DiskState}
+use Rattle.fs_cred.specs.declared.errno.Errno.TheVariants.{ENOTDIR, EISDIR}
+use Rattle.fs_cred.specs.declared.refusal.Refusal.{Refusal}
+use Rattle.fs_layout.specs.declared.inode.Inode.{Inode}
+use Rattle.fs_layout.specs.declared.place.Place.{Place}
+use Rattle.fs_layout.specs.Bytes.{SectorMap}
+use Rattle.fs_layout.specs.Images.{inode_at}
+use Rattle.fs_model.specs.declared.walk.Found.{Found}
+use Rattle.fs_model.specs.Births.{the_node}
+use Rattle.fs_model.specs.Demands.{refuse, first_of}
+use Rattle.fs_model.specs.Nodes.{Node, is_directory}
+use Rattle.fs_model.specs.Rules.{is_directory_kind}
+use Rattle.fs_model.specs.Scenes.{is_found, number, must_be_there}
+use Rattle.fs_model.specs.Trees.{Tree}
+use Rattle.path_walk.specs.Answers.{refused_or, IsAnswered}
+use Rattle.path_walk.specs.HeldTrees.{HoldsTree, IsThere}
+use Rattle.path_walk.proofs.Calling.{met_ok, or_else-none, first_asked, next_asked, both_met}
+use Rattle.path_walk.proofs.HeldNodes.{stands, held_kind}
+use Rattle.file_calls.proofs.OpenFound.{checked}
+use Rattle.file_calls.proofs.Owned.{some_asked, others_asked, all_met}
+use Rattle.file_calls.proofs.Shown.{IsInode, the_node_is}
+use Rattle.name_calls.specs.Renaming.{ends_asked, is_other, slash_asked, names_asked, kinds_asked, inode_there, other_kind, directory_kind, slash_told, replacing_asked}
+
+module _ {p : Place} {map : SectorMap} {t : Tree} (h : HoldsTree p map t) where
+  -- whether it is a directory
+  pub kind_at : (m : ℕ) → IsThere t m → is_directory (the_node t m).body ≡ is_directory_kind (inode_at p map m).kind
+  kind_at m there =
+      let s = stands t m there in
+      ap (λ (u : Node). is_directory u.body) (the_node_is t m s.node s.at) ∙ sym (held_kind h m s.node s.at)
+
+  module _ (g : Found) (there : (m : ℕ) → g.ino ≡ Some m → IsThere t m) where
+    -- whether the second path leads to something that is no directory
+    pub second_other : is_other t g ≡ other_kind (inode_there p map g.ino)
+    second_other = go g.ino refl
+      where
+        go : (o : Option ℕ) → g.ino ≡ o → is_other t g ≡ other_kind (inode_there p map g.ino)
+        go None e =
+            ap (λ (o : Option ℕ). is_some o && not (is_directory (the_node t (number g)).body)) e
+            ∙ sym (ap (λ (o : Option ℕ). other_kind (inode_there p map o)) e)
+        go (Some m) e =
+            ap (λ (o : Option ℕ). is_some o && not (is_directory (the_node t (unwrap_or o 0)).body)) e
+            ∙ ap not (kind_at m (there m e)) ∙ sym (ap (λ (o : Option ℕ). other_kind (inode_there p map o)) e)
+
+    -- whether it leads to a directory
+    pub second_directory : (is_found g && is_directory (the_node t (number g)).body) ≡ directory_kind (inode_there p map g.ino)
+    second_directory = go g.ino refl
+      where
+        go : (o : Option ℕ) → g.ino ≡ o → (is_found g && is_directory (the_node t (number g)).body) ≡ directory_kind (inode_there p map g.ino)
+        go None e =
+            ap (λ (o : Option ℕ). is_some o && is_directory (the_node t (number g)).body) e
+            ∙ sym (ap (λ (o : Option ℕ). directory_kind (inode_there p map o)) e)
+        go (Some m) e =
+            ap (λ (o : Option ℕ). is_some o && is_directory (the_node t (unwrap_or o 0)).body) e
+            ∙ kind_at m (there m e) ∙ sym (ap (λ (o : Option ℕ). directory_kind (inode_there p map o)) e)
+
+  module _ {f : Found} {n : ℕ} {v : Inode} (k : IsInode p map f n v) (first : (m : ℕ) → f.ino ≡ Some m → IsThere t m) where
+    pub first_kind : (is_found f && is_directory (the_node t (number f)).body) ≡ is_directory_kind v.kind
+    first_kind =
+        ap (λ (o : Option ℕ). is_some o && is_directory (the_node t (unwrap_or o 0)).body) k.some
+        ∙ kind_at n (first n k.some) ∙ ap (λ (w : Inode). is_directory_kind w.kind) (sym k.inode)
+
+    first_other : is_other t f ≡ not (is_directory_kind v.kind)
+    first_other =
+        ap (λ (o : Option ℕ). is_some o && not (is_directory (the_node t (unwrap_or o 0)).body)) k.some
+        ∙ ap not (kind_at n (first n k.some)) ∙ ap (λ (w : Inode). not (is_directory_kind w.kind)) (sym k.inode)
+
+    module _ (g : Found) (second : (m : ℕ) → g.ino ≡ Some m → IsThere t m) {replaced : Option (ℕ × Inode)} (is : replaced ≡ inode_there p map g.ino) where
+      pub slashes_are : slash_asked t f g ≡ slash_told f g v.kind replaced
+      slashes_are =
+          ap (λ (b : Bool). refuse ENOTDIR ((b && (f.slash || g.slash)) || (is_other t g && g.slash))) first_other
+          ∙ ap (λ (b : Bool). refuse ENOTDIR ((not (is_directory_kind v.kind) && (f.slash || g.slash)) || (b && g.slash))) (second_other g second ∙ ap other_kind (sym is))
+
+      -- what is replaced, and what replaces it
+      pub kinds_are : kinds_asked t f g ≡ replacing_asked v.kind replaced
+      kinds_are =
+          ap (λ (b : Bool). refuse EISDIR (b && (is_found g && is_directory (the_node t (number g)).body))
+          ∷ refuse ENOTDIR ((is_found f && is_directory (the_node t (number f)).body) && is_other t g) ∷ []) first_other
+          ∙ ap (λ (b : Bool). refuse EISDIR (not (is_directory_kind v.kind) && b)
+          ∷ refuse ENOTDIR ((is_found f && is_directory (the_node t (number f)).body) && is_other t g) ∷ []) (second_directory g second ∙ ap directory_kind (sym is))
+          ∙ ap (λ (b : Bool). refuse EISDIR (not (is_directory_kind v.kind) && directory_kind replaced) ∷ refuse ENOTDIR (b && is_other t g) ∷ []) first_kind
+          ∙ ap (λ (b : Bool). refuse EISDIR (not (is_directory_kind v.kind) && directory_kind replaced) ∷ refuse ENOTDIR (is_directory_kind v.kind && b) ∷ [])
+          (second_other g second ∙ ap other_kind (sym is))
+
+-- ---- all that is asked of both names
+
+module _ (t : Tree) (f g : Found) where
+  module _ {A : Type 0} (x : A) (e : Refusal) (old new : DiskState) where
+    pub ends_refuse : checked (first_of (ends_asked f g)) ≡ Err e → IsAnswered old new (refused_or (first_of (names_asked t f g)) (Ok x)) (Err e)
+    ends_refuse is = some_asked {A = A} {B = Unit {0}} (ends_asked f g) (must_be_there f ∷ slash_asked t f g ∷ []) tt x e old new (inl is)
+
+    module _ (ends : checked (first_of (ends_asked f g)) ≡ Ok tt) where
+      pub first_absent : {B : Type 0} (y : B) → IsAnswered old new (refused_or (must_be_there f) (Ok y)) (Err e)
+          → IsAnswered old new (refused_or (first_of (names_asked t f g)) (Ok x)) (Err e)
+      first_absent {B} y is =
+          others_asked {A = A} (ends_asked f g) (must_be_there f ∷ slash_asked t f g ∷ []) x e old new (met_ok {A = Unit {0}} (first_of (ends_asked f g)) tt tt ends).0
+          (first_asked {A = A} {B = B} (must_be_there f) (slash_asked t f g ∷ []) y x e old new is)
+
+      pub slashes_refuse : must_be_there f ≡ None → checked (slash_asked t f g) ≡ Err e
+          → IsAnswered old new (refused_or (first_of (names_asked t f g)) (Ok x)) (Err e)
+      slashes_refuse there is =
+          others_asked {A = A} (ends_asked f g) (must_be_there f ∷ slash_asked t f g ∷ []) x e old new (met_ok {A = Unit {0}} (first_of (ends_asked f g)) tt tt ends).0
+          (next_asked {A = A} (must_be_there f) (slash_asked t f g ∷ []) x e old new there
+          (first_asked {A = A} {B = Unit {0}} (slash_asked t f g) [] tt x e old new (inl is)))
+
+  pub names_met : checked (first_of (ends_asked f g)) ≡ Ok tt → must_be_there f ≡ None → checked (slash_asked t f g) ≡ Ok tt → first_of (names_asked t f g) ≡ None
+  names_met ends there slash =
+      all_met (ends_asked f g) (must_be_there f ∷ slash_asked t f g ∷ []) (met_ok {A = Unit {0}} (first_of (ends_asked f g)) tt tt ends).0
+      (both_met (must_be_there f) (slash_asked t f g ∷ []) there
+      (or_else-none (slash_asked t f g) ∙ (met_ok {A = Unit {0}} (slash_asked t f g) tt tt slash).0))

@@ -1,0 +1,234 @@
+-- rename, by its row.
+--     rename_by_two        the row
+--     to_rename        what was found, where the names ask nothing more
+--     same_is        whether both names are of one object
+--     names_refuse, move_refuses, same_met, move_met        the whole
+--     IsRenamable, rename_told        where all that is asked is met
+--     may_move, rename_changes, rename_stays        the name may go, it has gone, and nothing changed
+use Rattle.std.specs.Prelude.{◌≡◌, ◌≢◌, ℕ, ◌<◌, ◌≤◌, ◌==◌, nat_lt, Bool, true, false, not, ◌&&◌, List, length, Option, None, Some, is_some, unwrap_or, if◌then◌else◌, IsTrue, Ok, Err}
+use Rattle.std.proofs.Common.{refl, sym, ap, subst, arith, ◌∙◌}
+use Rattle.std.proofs.lemmas.Bool.Decides.{nat_tests}
+use Rattle.sector_disk.specs.Disk.{DiskState}
+use Rattle.fs_cred.specs.declared.errno.Errno.TheVariants.{ENOSPC}
+use Rattle.fs_cred.specs.declared.refusal.Refusal.{Refusal}
+use Rattle.fs_layout.specs.declared.inode.Inode.{Inode}
+use Rattle.fs_layout.specs.declared.place.Place.{Place}
+use Rattle.fs_layout.specs.Bytes.{SectorMap}
+use Rattle.fs_layout.specs.Images.{inode_at, free_sectors}
+use Rattle.fs_model.specs.declared.call.Call.TheVariants.{Rename}
+use Rattle.fs_model.specs.declared.reply.Reply.TheVariants.{Done}
+use Rattle.fs_model.specs.declared.walk.Found.{Found}
+use Rattle.fs_model.specs.Changes.{Same, MoveName, changed, swept}
+use Rattle.fs_model.specs.Demands.{Demand, first_of, only_if}
+use Rattle.fs_model.specs.Limits.{entries_limit, least_free}
+use Rattle.fs_model.specs.Nodes.{Node, names_in}
+use Rattle.fs_model.specs.Processes.{Process, Desks, is_open}
+use Rattle.fs_model.specs.RenameCall.{is_same, rename_demands, rename_effect, rename_row}
+use Rattle.fs_model.specs.Rows.{row_of}
+use Rattle.fs_model.specs.Scenes.{Scene, is_found, number, changes}
+use Rattle.fs_model.specs.Stands.{HoldsAll, placed}
+use Rattle.fs_model.specs.States.{State}
+use Rattle.fs_model.specs.Trees.{Tree, is_within, IsDirectoryAt}
+use Rattle.fs_model.proofs.PlacedChanges.{same_held}
+use Rattle.fs_model.proofs.StepsDemands.{first_met, unrefused}
+use Rattle.fs_model.proofs.StepsDemands as demands
+use Rattle.fs_model.proofs.StepsFound.{IsNameAt}
+use Rattle.fs_model.proofs.StepsOfRename.{IsRenamed, names_say, rename_asks, others, space_met, has_room, replaced_empty, replaced_unused, outside}
+use Rattle.fs_model.proofs.StepsParents.{names_or}
+use Rattle.path_walk.specs.Answers.{refused_or, IsAnswered}
+use Rattle.path_walk.specs.Performing.{IsStateOf}
+use Rattle.path_walk.proofs.Calling.{first_of-append, met_ok}
+use Rattle.path_walk.specs.HeldTrees.{IsThere}
+use Rattle.file_calls.proofs.Changed.{IsChange}
+use Rattle.file_calls.proofs.OpenFound.{refused_as}
+use Rattle.file_calls.proofs.Owned.{some_asked, others_asked, all_met}
+use Rattle.file_calls.proofs.Shown.{number_of, the_node_is}
+use Rattle.name_calls.specs.Moving.{MayMove}
+use Rattle.name_calls.specs.Removing.{IsNamedThere}
+use Rattle.name_calls.specs.Renaming.{names_asked, inode_there}
+use Rattle.name_calls.specs.Replacing.{IsToRename, same_number, move_asked}
+use Rattle.name_calls.specs.TwoPaths.{scene_with, FindsBoth}
+use Rattle.name_calls.proofs.ByTwoPaths.{IsByTwoPaths}
+use Rattle.name_calls.proofs.FoundBoth.{first_there, second_there, first_walked, second_walked, is_scene}
+
+-- ---- the row
+
+module _ (old new : List ℕ) where
+  rename_is : row_of (Rename old new) ≡ rename_row old new
+  unfolding row_of
+  rename_is = refl
+
+  pub rename_by_two : IsByTwoPaths (Rename old new) old new rename_demands rename_effect
+  rename_by_two = record { row = rename_is; asks = refl }
+
+-- ---- the demands in two parts
+
+module _ (s : State) (q : Process) (f g : Found) where
+  abbrev names : List Demand
+  names = names_asked s.tree f g
+
+  abbrev rest : List Demand
+  rest = only_if (not (is_same (scene_with s q f g))) (move_asked (scene_with s q f g))
+
+  module _ {A : Type 0} (x : A) (e : Refusal) (old new : DiskState) where
+    pub names_refuse : {B : Type 0} (y : B) → IsAnswered old new (refused_or (first_of (names_asked s.tree f g)) (Ok y)) (Err e)
+        → IsAnswered old new (refused_or (first_of (rename_demands (scene_with s q f g))) (Ok x)) (Err e)
+    names_refuse {B} y is = some_asked {A = A} {B = B} names rest y x e old new is
+
+    pub move_refuses : first_of (names_asked s.tree f g) ≡ None → is_same (scene_with s q f g) ≡ false → {B : Type 0} (y : B)
+        → IsAnswered old new (refused_or (first_of (move_asked (scene_with s q f g))) (Ok y)) (Err e)
+        → IsAnswered old new (refused_or (first_of (rename_demands (scene_with s q f g))) (Ok x)) (Err e)
+    move_refuses met apart {B} y is =
+        others_asked {A = A} names rest x e old new met
+        (subst (λ (b : Bool). IsAnswered old new (refused_or {A = A} (first_of (only_if (not b) (move_asked (scene_with s q f g)))) (Ok x)) (Err e)) (sym apart)
+        (refused_as {A = A} {B = B} (first_of (move_asked (scene_with s q f g))) y x e old new is))
+
+  pub same_met : first_of (names_asked s.tree f g) ≡ None → is_same (scene_with s q f g) ≡ true → first_of (rename_demands (scene_with s q f g)) ≡ None
+  same_met met same = all_met names rest met (ap (λ (b : Bool). first_of (only_if (not b) (move_asked (scene_with s q f g)))) same)
+
+  pub move_met : first_of (names_asked s.tree f g) ≡ None → is_same (scene_with s q f g) ≡ false → first_of (move_asked (scene_with s q f g)) ≡ None
+      → first_of (rename_demands (scene_with s q f g)) ≡ None
+  move_met met apart is = all_met names rest met (ap (λ (b : Bool). first_of (only_if (not b) (move_asked (scene_with s q f g)))) apart ∙ is)
+
+  names_of_all : first_of (rename_demands (scene_with s q f g)) ≡ None → first_of (names_asked s.tree f g) ≡ None
+  names_of_all met = first_met (first_of names) (first_of rest) (sym (first_of-append names rest) ∙ met)
+
+-- ---- what was found
+
+abbrev pub Renamed : Type 0
+Renamed = ℕ × Inode × Option (ℕ × Inode)
+
+named_there : (t : Tree) (x : Found) → IsNameAt t x.dir x.name x.ino → ((m : ℕ) → x.ino ≡ Some m → IsThere t m) → IsNamedThere t x
+named_there t x at there = record { directory = record { node = at.node; is_there = at.stands; directory = at.directory }; found = there }
+
+pub record IsRenamable (p : Place) (map : SectorMap) (desks : Desks) (q : Process) (f g : Found) (n : ℕ) (v : Inode) (there : Option (ℕ × Inode)) (s : State) : Type 0 where
+  pub met : first_of (rename_demands (scene_with s q f g)) ≡ None
+  pub found : IsToRename p map desks f g n v there s
+
+module _ {p : Place} {map : SectorMap} {desks : Desks} {q : Process} {f g : Found} {s : State} (i : FindsBoth p map desks q f g s) where
+  module _ {n : ℕ} {v : Inode} {there : Option (ℕ × Inode)} where
+    found_to_rename : first_of (names_asked s.tree f g) ≡ None
+        → ◌≡◌ {A = Renamed} (number f, inode_at p map (number f), inode_there p map g.ino) (n, v, there)
+        → IsToRename p map desks f g n v there s
+    found_to_rename met is =
+        let named = names_say (scene_with s q f g) (demands.all_met (names_asked s.tree f g) met) in
+        let same : number f ≡ n = ap (λ (x : Renamed). x.0) is in
+        record {
+          is_state = i.is_state;
+          first = named_there s.tree f ((first_walked i).old refl named.first) (first_there i);
+          second = named_there s.tree g ((second_walked i).old refl named.second) (second_there i);
+          leads = number_of f named.found ∙ ap Some same;
+          inode = sym (ap (λ (x : Renamed). x.1) is) ∙ ap (inode_at p map) same;
+          replaced_is = sym (ap (λ (x : Renamed). x.2) is);
+        }
+
+    names_told : refused_or {A = Renamed} (first_of (names_asked s.tree f g)) (Ok (number f, inode_at p map (number f), inode_there p map g.ino)) ≡ Ok (n, v, there)
+        → first_of (names_asked s.tree f g) ≡ None
+    names_told told = (met_ok {A = Renamed} (first_of (names_asked s.tree f g)) (number f, inode_at p map (number f), inode_there p map g.ino) (n, v, there) told).0
+
+    -- the names ask nothing more
+    pub to_rename : refused_or {A = Renamed} (first_of (names_asked s.tree f g)) (Ok (number f, inode_at p map (number f), inode_there p map g.ino)) ≡ Ok (n, v, there)
+        → (first_of (names_asked s.tree f g) ≡ None) × IsToRename p map desks f g n v there s
+    to_rename told = (
+      names_told told,
+      found_to_rename (names_told told) (met_ok {A = Renamed} (first_of (names_asked s.tree f g)) (number f, inode_at p map (number f), inode_there p map g.ino) (n, v, there) told).1,
+    )
+
+    pub rename_told : refused_or {A = Renamed} (first_of (rename_demands (scene_with s q f g))) (Ok (number f, inode_at p map (number f), inode_there p map g.ino)) ≡ Ok (n, v, there)
+        → IsRenamable p map desks q f g n v there s
+    rename_told told =
+        let both = met_ok {A = Renamed} (first_of (rename_demands (scene_with s q f g))) (number f, inode_at p map (number f), inode_there p map g.ino) (n, v, there) told in
+        record { met = both.0; found = found_to_rename (names_of_all s q f g both.0) both.1 }
+
+-- ---- whether both are one object
+
+pub same_is : {p : Place} {map : SectorMap} {desks : Desks} (q : Process) {f g : Found} {n : ℕ} {v : Inode} {there : Option (ℕ × Inode)} {s : State}
+    → IsToRename p map desks f g n v there s → is_same (scene_with s q f g) ≡ same_number n there
+same_is {p} {map} {desks} q {f} {g} {n} {v} {there} {s} r = go g.ino refl
+  where
+    first : is_same (scene_with s q f g) ≡ (is_found g && n == number g)
+    first = ap (λ (o : Option ℕ). is_some o && is_found g && unwrap_or o 0 == number g) r.leads
+
+    go : (o : Option ℕ) → g.ino ≡ o → is_same (scene_with s q f g) ≡ same_number n there
+    go None e =
+        first ∙ ap (λ (o : Option ℕ). is_some o && n == unwrap_or o 0) e
+        ∙ sym (ap (same_number n) (r.replaced_is ∙ ap (inode_there p map) e))
+    go (Some m) e =
+        first ∙ ap (λ (o : Option ℕ). is_some o && n == unwrap_or o 0) e
+        ∙ sym (ap (same_number n) (r.replaced_is ∙ ap (inode_there p map) e))
+
+-- ---- the name may go
+
+module _ {p : Place} {map : SectorMap} {desks : Desks} {q : Process} {f g : Found} {s : State} (i : FindsBoth p map desks q f g s)
+    {n : ℕ} {v : Inode} {there : Option (ℕ × Inode)} (r : IsRenamable p map desks q f g n v there s) (apart : same_number n there ≡ false) where
+  abbrev scene : Scene
+  scene = scene_with s q f g
+
+  differ : is_same (scene_with s q f g) ≡ false
+  differ = same_is q r.found ∙ apart
+
+  asks : IsRenamed (scene_with s q f g)
+  asks = rename_asks (scene_with s q f g) (demands.all_met (rename_demands (scene_with s q f g)) r.met) differ
+
+  from : IsNameAt s.tree f.dir f.name f.ino
+  from = (first_walked i).old refl asks.first
+
+  to : IsNameAt s.tree g.dir g.name g.ino
+  to = (second_walked i).old refl asks.second
+
+  number_is : number f ≡ n
+  number_is = ap (λ (o : Option ℕ). unwrap_or o 0) r.found.leads
+
+  enough : g.ino ≡ None → f.dir ≢ g.dir → least_free ≤ free_sectors p map
+  enough none ne =
+      let low : nat_lt s.free least_free ≡ false = unrefused ENOSPC (nat_lt s.free least_free) (space_met scene (is_scene i) asks differ none ne).0 in
+      let left : least_free ≤ s.free = grind (arith, nat_tests) in
+      subst (λ (k : ℕ). least_free ≤ k) i.is_state.free_is left
+
+  pub may_move : MayMove p map s f.dir f.name n g.dir g.name g.ino
+  unfolding from to
+  may_move = record {
+    directory = record { node = from.node; is_there = from.stands; directory = from.directory };
+    leads = from.leads ∙ r.found.leads;
+    to_directory = record { node = to.node; is_there = to.stands; directory = to.directory };
+    to_leads = to.leads;
+    is_name = to.is_name;
+    bytes = to.bytes;
+    other = λ m some same. others scene (is_scene i) asks differ m some (same ∙ sym number_is);
+    has_room = λ none ne. (
+      subst (λ (u : Node). length (names_in u.body) < entries_limit) (the_node_is s.tree g.dir to.node to.stands) (has_room scene (is_scene i) asks differ none ne),
+      enough none ne,
+    );
+    empty = λ m some d. sym (ap names_or d.is_there) ∙ replaced_empty scene (is_scene i) asks differ m some;
+    unused = λ m some d. replaced_unused scene (is_scene i) asks differ m some d;
+    outside = λ d.
+        ap (λ (k : ℕ). is_within (length s.tree) s.tree k g.dir) (sym number_is)
+        ∙ outside scene (is_scene i) asks differ (subst (λ (k : ℕ). IsDirectoryAt s.tree k) (sym number_is) d);
+  }
+
+-- ---- the step
+
+module _ {p : Place} {new : SectorMap} {desks : Desks} (s : State) (q : Process) (f g : Found) (met : first_of (rename_demands (scene_with s q f g)) ≡ None) where
+  pub rename_changes : is_same (scene_with s q f g) ≡ false
+      → HoldsAll p new (placed (swept (changed s.tree (MoveName f.dir f.name g.dir g.name)) desks))
+      → IsChange p new desks s q (rename_demands (scene_with s q f g)) (λ k. rename_effect (scene_with s q f g)) Done
+  rename_changes apart holds = record {
+    met = met;
+    number = 0;
+    change = MoveName f.dir f.name g.dir g.name;
+    is = ap (λ (b : Bool). changes (scene_with s q f g) (if b then Same else MoveName f.dir f.name g.dir g.name)) apart;
+    new_number = tt;
+    holds = holds;
+  }
+
+  -- both names are of one object
+  pub rename_stays : is_same (scene_with s q f g) ≡ true → IsStateOf p new desks s
+      → IsChange p new desks s q (rename_demands (scene_with s q f g)) (λ k. rename_effect (scene_with s q f g)) Done
+  rename_stays same at = record {
+    met = met;
+    number = 0;
+    change = Same;
+    is = ap (λ (b : Bool). changes (scene_with s q f g) (if b then Same else MoveName f.dir f.name g.dir g.name)) same;
+    new_number = tt;
+    holds = same_held s at.is_state at.up desks (λ k is. subst (λ (d : Desks). IsTrue (is_open d k)) at.same_desks is) p new at.holds at.same_room;
+  }

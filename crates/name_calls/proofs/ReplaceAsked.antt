@@ -1,0 +1,386 @@
+-- What rename asks of directories and of what it replaces, as the inodes say it.
+--     asked_as        permission on a directory
+--     inode_of, node_first, directory_of        what is renamed
+--     first_denied, second_denied, first_keeps, second_keeps, first_yields, permissions_met        both directories
+--     below_is, directories_are, below_refuses, replaced_refuses, directories_met, below_told        the demands on directories
+--     kinds_refuse, kinds_met        those on the kinds of both
+--     granted, to_rename_kept        what is known then
+--     there_some, other_replaced, there_body, directory_replaced        what is replaced
+--     other_moved, same_moved, moved_access, moved_held, moved_denied, moved_met        a directory that goes to another
+--     room_is        room for a new name
+--     first_part, second_part, third_part, fourth_part, fifth_part, five_met        all of it
+use Rattle.std.specs.Prelude.{◌≡◌, ◌≢◌, ℕ, ◌-◌, ◌==◌, nat_lt, nat_le, Bool, true, false, not, ◌&&◌, List, [], ◌∷◌, ◌++◌, length, Option, None, Some, is_some, unwrap_or, Result, Ok, Err}
+use Rattle.std.proofs.Common.{refl, sym, ap, subst, arith, ◌∙◌, inl}
+use Rattle.std.proofs.lemmas.Bool.Decides.{nat_tests}
+use Rattle.sector_disk.specs.Disk.{DiskState}
+use Rattle.fs_cred.specs.declared.errno.Errno.TheVariants.{EBUSY, EINVAL, ENOENT, ENOSPC, ENOTDIR, ENOTEMPTY}
+use Rattle.fs_cred.specs.declared.node.Node.{Node as AccessNode}
+use Rattle.fs_cred.specs.declared.refusal.Need.TheVariants.{Perm, Remove}
+use Rattle.fs_cred.specs.declared.refusal.Refusal.{Refusal}
+use Rattle.fs_cred.specs.declared.rule.Rule.{Rule}
+use Rattle.fs_cred.specs.declared.rule.Rule.TheVariants.{Sticky}
+use Rattle.fs_cred.specs.Credentials.{Credential}
+use Rattle.fs_cred.specs.Ownership.{sticky_allows}
+use Rattle.fs_cred.specs.Verdicts.{verdict}
+use Rattle.posix_acl.specs.declared.entry.Perms.{Perms}
+use Rattle.fs_layout.specs.declared.inode.Inode.{Inode}
+use Rattle.fs_layout.specs.declared.inode.Kind.{Kind}
+use Rattle.fs_layout.specs.declared.inode.Kind.TheVariants as kinds
+use Rattle.fs_layout.specs.declared.place.Place.{Place}
+use Rattle.fs_layout.specs.Bytes.{SectorMap}
+use Rattle.fs_layout.specs.Images.{inode_at}
+use Rattle.sector_txn.specs.Sectors.{TxnState, IsUnchanged}
+use Rattle.fs_model.specs.declared.walk.Found.{Found}
+use Rattle.fs_model.specs.Births.{the_node, the_directory}
+use Rattle.fs_model.specs.Demands.{Demand, refuse, or_else, first_of, only_if, decided, denied_unless, permission_of, permission_on, perms, write_and_search}
+use Rattle.fs_model.specs.Limits.{entries_limit, least_free}
+use Rattle.fs_model.specs.Nodes.{Node, Body, File, Dir, Link, is_directory, names_in}
+use Rattle.fs_model.specs.Parts.{is_empty}
+use Rattle.fs_model.specs.Processes.{Process, Desks, is_in_use}
+use Rattle.fs_model.specs.RenameCall.{rename_permissions, rename_kinds, rename_directories, rename_moved, rename_space}
+use Rattle.fs_model.specs.Rules.{is_directory_kind}
+use Rattle.fs_model.specs.Scenes.{is_found, number}
+use Rattle.fs_model.specs.States.{State}
+use Rattle.fs_model.specs.Trees.{Tree, is_within, IsDirectoryAt}
+use Rattle.path_walk.specs.Answers.{refused_or, IsAnswered}
+use Rattle.path_walk.specs.HeldTrees.{HoldsTree, IsThere, HasAccess}
+use Rattle.path_walk.proofs.Calling.{state_tree, met_ok, or_else-none, first_asked, next_asked, both_met}
+use Rattle.path_walk.proofs.Kept.{kept}
+use Rattle.file_calls.proofs.Followed.{accessed_is}
+use Rattle.file_calls.proofs.OpenFound.{checked, refused_as}
+use Rattle.file_calls.proofs.OpenNew.{dir_access, dir_held}
+use Rattle.file_calls.proofs.Owned.{IsNode, node_of, some_asked, others_asked, all_met}
+use Rattle.file_calls.proofs.Shown.{IsInode}
+use Rattle.name_calls.specs.Linking.{room_asked}
+use Rattle.name_calls.specs.Removing.{sticky_asked, directory_asked}
+use Rattle.name_calls.specs.Renaming.{inode_there, replacing_asked}
+use Rattle.name_calls.specs.Replacing.{IsToRename, sticky_there, below_asked, replaced_asked}
+use Rattle.name_calls.specs.TwoPaths.{scene_with}
+use Rattle.name_calls.proofs.RemovalAsked.{body_kind_is, yields}
+use Rattle.name_calls.proofs.RenameAsked.{kind_at, first_kind, kinds_are}
+
+-- permission on a directory, of the same caller after as many lookups
+pub asked_as : {cred who : Credential} {step steps : ℕ} (t : Tree) (dir walk : ℕ) (y : Inode) (r : Result Inode Refusal) (old new : DiskState) → cred ≡ who → step ≡ steps
+    → IsAnswered old new (refused_or {A = Inode} (permission_on cred t dir write_and_search walk step) (Ok y)) r
+    → IsAnswered old new (refused_or {A = Inode} (permission_on who t dir write_and_search walk steps) (Ok y)) r
+asked_as {cred} {who} {step} {steps} t dir walk y r old new same is h =
+    subst (λ (k : ℕ). IsAnswered old new (refused_or {A = Inode} (permission_on who t dir write_and_search walk k) (Ok y)) r) is
+    (subst (λ (k : Credential). IsAnswered old new (refused_or {A = Inode} (permission_on k t dir write_and_search walk step) (Ok y)) r) same h)
+
+same_number_is : (x y : ℕ) → x ≡ y → (x == y) ≡ true
+same_number_is x y same = grind (arith, nat_tests)
+
+other_number_is : (x y : ℕ) → x ≢ y → (x == y) ≡ false
+other_number_is x y apart = grind (arith, nat_tests)
+
+-- ---- what is renamed
+
+module _ {p : Place} {map : SectorMap} {desks : Desks} {f g : Found} {n : ℕ} {v : Inode} {there : Option (ℕ × Inode)} {s : State} (r : IsToRename p map desks f g n v there s) where
+  pub inode_of : IsInode p map f n v
+  inode_of = record {
+    some = r.leads;
+    number = ap (λ (o : Option ℕ). unwrap_or o 0) r.leads;
+    inode = r.inode;
+    met = ap (λ (o : Option ℕ). refuse ENOENT (not (is_some o))) r.leads;
+  }
+
+  pub node_first : IsNode map s.tree f n v
+  node_first = node_of (state_tree r.is_state) f n v (ap (λ (o : Option ℕ). unwrap_or o 0) r.leads) r.inode (r.first.found n r.leads)
+
+  pub directory_of : v.kind ≡ kinds.Directory → IsDirectoryAt s.tree n
+  directory_of is =
+      let x = node_first in
+      record { node = x.node; is_there = x.at; directory = sym (body_kind_is map v x.node.body x.holds.body) ∙ ap is_directory_kind is }
+
+  -- ---- both directories
+
+  module _ (q : Process) where
+    abbrev one : Demand
+    one = permission_on q.cred s.tree f.dir write_and_search 1 (f.step - 1)
+
+    abbrev two : Demand
+    two = permission_on q.cred s.tree g.dir write_and_search 2 (g.step - 1)
+
+    abbrev three : Demand
+    three = denied_unless (sticky_allows q.cred (the_directory (the_node s.tree f.dir)).sticky (the_node s.tree f.dir).owner (the_node s.tree (number f)).owner) 1 (f.step - 1) Remove Sticky
+
+    abbrev last : Demand
+    last = denied_unless (sticky_allows q.cred (the_directory (the_node s.tree g.dir)).sticky (the_node s.tree g.dir).owner (the_node s.tree (number g)).owner) 2 (g.step - 1) Remove Sticky
+
+    abbrev four : List Demand
+    four = only_if (is_found g) (last ∷ [])
+
+    three_is : {d : Inode} → d ≡ inode_at p map f.dir → (step : ℕ) → step ≡ f.step - 1 → three ≡ sticky_asked q.cred d v 1 step
+    three_is d_is step step_is = yields (state_tree r.is_state) q.cred r.first.directory node_first d_is 1 step step_is
+
+    four_is : {d : Inode} → d ≡ inode_at p map g.dir → (step : ℕ) → step ≡ g.step - 1 → four ≡ sticky_there q.cred d there step
+    four_is {d} d_is step step_is = go g.ino refl
+      where
+        go : (o : Option ℕ) → g.ino ≡ o → four ≡ sticky_there q.cred d there step
+        go None e =
+            ap (λ (o : Option ℕ). only_if (is_some o) (last ∷ [])) e
+            ∙ sym (ap (λ (o : Option (ℕ × Inode)). sticky_there q.cred d o step) (r.replaced_is ∙ ap (inode_there p map) e))
+        go (Some m) e =
+            let node = node_of (state_tree r.is_state) g m (inode_at p map m) (ap (λ (o : Option ℕ). unwrap_or o 0) e) refl (r.second.found m e) in
+            ap (λ (o : Option ℕ). only_if (is_some o) (last ∷ [])) e
+            ∙ ap (λ (x : Demand). x ∷ []) (yields (state_tree r.is_state) q.cred r.second.directory node d_is 2 step step_is)
+            ∙ sym (ap (λ (o : Option (ℕ × Inode)). sticky_there q.cred d o step) (r.replaced_is ∙ ap (inode_there p map) e))
+
+    module _ {A : Type 0} (x : A) (e : Refusal) (old new : DiskState) where
+      pub first_denied : {B : Type 0} (y : B) → IsAnswered old new (refused_or (permission_on q.cred s.tree f.dir write_and_search 1 (f.step - 1)) (Ok y)) (Err e)
+          → IsAnswered old new (refused_or (first_of (rename_permissions (scene_with s q f g))) (Ok x)) (Err e)
+      first_denied {B} y is = first_asked {A = A} {B = B} one (two ∷ three ∷ four) y x e old new is
+
+      module _ (first : permission_on q.cred s.tree f.dir write_and_search 1 (f.step - 1) ≡ None) where
+        pub second_denied : {B : Type 0} (y : B) → IsAnswered old new (refused_or (permission_on q.cred s.tree g.dir write_and_search 2 (g.step - 1)) (Ok y)) (Err e)
+            → IsAnswered old new (refused_or (first_of (rename_permissions (scene_with s q f g))) (Ok x)) (Err e)
+        second_denied {B} y is =
+            next_asked {A = A} one (two ∷ three ∷ four) x e old new first (first_asked {A = A} {B = B} two (three ∷ four) y x e old new is)
+
+        module _ (second : permission_on q.cred s.tree g.dir write_and_search 2 (g.step - 1) ≡ None) where
+          -- the first directory keeps what is renamed from the caller
+          pub first_keeps : {d : Inode} → d ≡ inode_at p map f.dir → (step : ℕ) → step ≡ f.step - 1 → checked (sticky_asked q.cred d v 1 step) ≡ Err e
+              → IsAnswered old new (refused_or (first_of (rename_permissions (scene_with s q f g))) (Ok x)) (Err e)
+          first_keeps d_is step step_is is =
+              next_asked {A = A} one (two ∷ three ∷ four) x e old new first
+              (next_asked {A = A} two (three ∷ four) x e old new second
+              (first_asked {A = A} {B = Unit {0}} three four tt x e old new (inl (ap checked (three_is d_is step step_is) ∙ is))))
+
+          -- the second keeps what is replaced
+          pub second_keeps : three ≡ None → {d : Inode} → d ≡ inode_at p map g.dir → (step : ℕ) → step ≡ g.step - 1
+              → checked (first_of (sticky_there q.cred d there step)) ≡ Err e
+              → IsAnswered old new (refused_or (first_of (rename_permissions (scene_with s q f g))) (Ok x)) (Err e)
+          second_keeps third d_is step step_is is =
+              next_asked {A = A} one (two ∷ three ∷ four) x e old new first
+              (next_asked {A = A} two (three ∷ four) x e old new second
+              (next_asked {A = A} three four x e old new third
+              (refused_as {A = A} {B = Unit {0}} (first_of four) tt x e old new
+              (inl (ap (λ (ds : List Demand). checked (first_of ds)) (four_is d_is step step_is) ∙ is)))))
+
+    pub first_yields : {d : Inode} → d ≡ inode_at p map f.dir → (step : ℕ) → step ≡ f.step - 1 → checked (sticky_asked q.cred d v 1 step) ≡ Ok tt → three ≡ None
+    first_yields {d} d_is step step_is is = three_is d_is step step_is ∙ (met_ok {A = Unit {0}} (sticky_asked q.cred d v 1 step) tt tt is).0
+
+    pub permissions_met : permission_on q.cred s.tree f.dir write_and_search 1 (f.step - 1) ≡ None → permission_on q.cred s.tree g.dir write_and_search 2 (g.step - 1) ≡ None
+        → three ≡ None → {d : Inode} → d ≡ inode_at p map g.dir → (step : ℕ) → step ≡ g.step - 1 → checked (first_of (sticky_there q.cred d there step)) ≡ Ok tt
+        → first_of (rename_permissions (scene_with s q f g)) ≡ None
+    permissions_met first second third {d} d_is step step_is is =
+        both_met one (two ∷ three ∷ four) first
+        (both_met two (three ∷ four) second
+        (both_met three four third
+        (ap first_of (four_is d_is step step_is) ∙ (met_ok {A = Unit {0}} (first_of (sticky_there q.cred d there step)) tt tt is).0)))
+
+    -- ---- a directory below itself
+
+    pub below_is : refuse EINVAL ((is_found f && is_directory (the_node s.tree (number f)).body) && is_within (length s.tree) s.tree (number f) g.dir)
+        ≡ below_asked s.tree v.kind n g.dir
+    below_is =
+        ap (λ (b : Bool). refuse EINVAL (b && is_within (length s.tree) s.tree (number f) g.dir)) (first_kind (state_tree r.is_state) inode_of r.first.found)
+        ∙ ap (λ (m : ℕ). refuse EINVAL (is_directory_kind v.kind && is_within (length s.tree) s.tree m g.dir)) inode_of.number
+
+    pub directories_are : rename_directories (scene_with s q f g) ≡ below_asked s.tree v.kind n g.dir ∷ replaced_asked s.tree desks g
+    directories_are =
+        ap (λ (d : Demand). d ∷ replaced_asked s.tree s.desks g) below_is
+        ∙ ap (λ (d : Desks). below_asked s.tree v.kind n g.dir ∷ replaced_asked s.tree d g) r.is_state.same_desks
+
+    below_met : refused_or {A = Unit {0}} (below_asked s.tree v.kind n g.dir) (Ok tt) ≡ Ok tt → below_asked s.tree v.kind n g.dir ≡ None
+    below_met is = (met_ok {A = Unit {0}} (below_asked s.tree v.kind n g.dir) tt tt is).0
+
+    pub below_refuses : (e : Refusal) (old new : DiskState) → IsAnswered old new (refused_or {A = Unit {0}} (below_asked s.tree v.kind n g.dir) (Ok tt)) (Err e)
+        → IsAnswered old new (checked (first_of (rename_directories (scene_with s q f g)))) (Err e)
+    below_refuses e old new is =
+        subst (λ (ds : List Demand). IsAnswered old new (checked (first_of ds)) (Err e)) (sym directories_are)
+        (first_asked {A = Unit {0}} {B = Unit {0}} (below_asked s.tree v.kind n g.dir) (replaced_asked s.tree desks g) tt tt e old new is)
+
+    module _ (apart : refused_or {A = Unit {0}} (below_asked s.tree v.kind n g.dir) (Ok tt) ≡ Ok tt) where
+      pub replaced_refuses : {e : Refusal} → checked (first_of (replaced_asked s.tree desks g)) ≡ Err e → checked (first_of (rename_directories (scene_with s q f g))) ≡ Err e
+      replaced_refuses is =
+          ap (λ (ds : List Demand). checked (first_of ds)) directories_are
+          ∙ ap (λ (o : Demand). checked (or_else o (first_of (replaced_asked s.tree desks g)))) (below_met apart) ∙ is
+
+      pub directories_met : checked (first_of (replaced_asked s.tree desks g)) ≡ Ok tt → first_of (rename_directories (scene_with s q f g)) ≡ None
+      directories_met is =
+          ap first_of directories_are
+          ∙ both_met (below_asked s.tree v.kind n g.dir) (replaced_asked s.tree desks g) (below_met apart) (met_ok {A = Unit {0}} (first_of (replaced_asked s.tree desks g)) tt tt is).0
+
+    -- ---- the kinds of both
+
+    told_kinds : rename_kinds (scene_with s q f g) ≡ replacing_asked v.kind there
+    told_kinds = kinds_are (state_tree r.is_state) inode_of r.first.found g r.second.found r.replaced_is
+
+    pub kinds_refuse : {e : Refusal} → checked (first_of (replacing_asked v.kind there)) ≡ Err e → checked (first_of (rename_kinds (scene_with s q f g))) ≡ Err e
+    kinds_refuse is = ap (λ (ds : List Demand). checked (first_of ds)) told_kinds ∙ is
+
+    pub kinds_met : checked (first_of (replacing_asked v.kind there)) ≡ Ok tt → first_of (rename_kinds (scene_with s q f g)) ≡ None
+    kinds_met is = ap first_of told_kinds ∙ (met_ok {A = Unit {0}} (first_of (replacing_asked v.kind there)) tt tt is).0
+
+    -- what both directories grant, with the inode of the second
+    pub granted : {d : Inode} → refused_or {A = Inode} (first_of (rename_permissions (scene_with s q f g))) (Ok (inode_at p map g.dir)) ≡ Ok d
+        → (first_of (rename_permissions (scene_with s q f g)) ≡ None) × (inode_at p map g.dir ≡ d)
+    granted {d} is = met_ok {A = Inode} (first_of (rename_permissions (scene_with s q f g))) (inode_at p map g.dir) d is
+
+    -- ---- a directory that goes to another
+
+    abbrev written : Demand
+    written = permission_on q.cred s.tree (number f) (perms false true false) 1 f.step
+
+    and_none : (b : Bool) → (b && false) ≡ false
+    and_none true = refl
+    and_none false = refl
+
+    pub other_moved : is_directory_kind v.kind ≡ false → first_of (rename_moved (scene_with s q f g)) ≡ None
+    other_moved no_dir =
+        ap (λ (b : Bool). first_of (only_if (b && not (f.dir == g.dir)) (written ∷ []))) (first_kind (state_tree r.is_state) inode_of r.first.found ∙ no_dir)
+
+    pub same_moved : f.dir ≡ g.dir → first_of (rename_moved (scene_with s q f g)) ≡ None
+    same_moved same =
+        ap (λ (b : Bool). first_of (only_if ((is_found f && is_directory (the_node s.tree (number f)).body) && not b) (written ∷ []))) (same_number_is f.dir g.dir same)
+        ∙ ap (λ (b : Bool). first_of (only_if b (written ∷ []))) (and_none (is_found f && is_directory (the_node s.tree (number f)).body))
+
+    module _ (is : v.kind ≡ kinds.Directory) where
+      abbrev pub moved_access : AccessNode
+      moved_access = (dir_access (state_tree r.is_state) n (directory_of is) q.cred f.step).access
+
+      pub moved_held : HasAccess map v moved_access
+      moved_held =
+          subst (λ (w : Inode). HasAccess map w moved_access) (sym r.inode) (dir_held (state_tree r.is_state) n (directory_of is) q.cred f.step)
+
+      abbrev want : Perms
+      want = perms false true false
+
+      module _ (goes : f.dir ≢ g.dir) where
+        moved_is : first_of (rename_moved (scene_with s q f g)) ≡ decided 1 f.step (Perm want) (verdict q.cred moved_access want)
+        moved_is =
+            let h = state_tree r.is_state in
+            ap (λ (b : Bool). first_of (only_if (b && not (f.dir == g.dir)) (written ∷ []))) (first_kind h inode_of r.first.found ∙ ap is_directory_kind is)
+            ∙ ap (λ (b : Bool). first_of (only_if (not b) (written ∷ []))) (other_number_is f.dir g.dir goes)
+            ∙ or_else-none written
+            ∙ ap (λ (k : ℕ). permission_on q.cred s.tree k want 1 f.step) inode_of.number
+            ∙ ap (permission_of q.cred want 1 f.step) (accessed_is s.tree n (dir_access h n (directory_of is) q.cred f.step))
+
+        pub moved_denied : {A : Type 0} (x : A) (e : Refusal) (old new : DiskState) {cred : Credential} → cred ≡ q.cred
+            → IsAnswered old new (refused_or {A = Rule} (decided 1 f.step (Perm want) (verdict cred moved_access want)) (Ok (verdict cred moved_access want).rule)) (Err e)
+            → IsAnswered old new (refused_or (first_of (rename_moved (scene_with s q f g))) (Ok x)) (Err e)
+        moved_denied {A} x e old new {cred} same h =
+            let rule = (verdict q.cred moved_access want).rule in
+            refused_as {A = A} {B = Rule} (first_of (rename_moved (scene_with s q f g))) rule x e old new
+            (subst (λ (o : Demand). IsAnswered old new (refused_or {A = Rule} o (Ok rule)) (Err e)) (sym moved_is)
+            (subst (λ (k : Credential). IsAnswered old new
+            (refused_or {A = Rule} (decided 1 f.step (Perm want) (verdict k moved_access want)) (Ok (verdict k moved_access want).rule)) (Err e)) same h))
+
+        pub moved_met : (rule : Rule) {cred : Credential} → cred ≡ q.cred
+            → refused_or {A = Rule} (decided 1 f.step (Perm want) (verdict cred moved_access want)) (Ok (verdict cred moved_access want).rule) ≡ Ok rule
+            → first_of (rename_moved (scene_with s q f g)) ≡ None
+        moved_met rule {cred} same h =
+            moved_is
+            ∙ (met_ok {A = Rule} (decided 1 f.step (Perm want) (verdict q.cred moved_access want)) (verdict q.cred moved_access want).rule rule
+            (subst (λ (k : Credential). refused_or {A = Rule} (decided 1 f.step (Perm want) (verdict k moved_access want)) (Ok (verdict k moved_access want).rule) ≡ Ok rule) same h)).0
+
+    -- ---- room for a name
+
+    abbrev space : List Demand
+    space = refuse ENOSPC (nat_lt s.free least_free) ∷ refuse ENOSPC (nat_le entries_limit (length (names_in (the_node s.tree g.dir).body))) ∷ []
+
+    pub room_is : is_some g.ino ≡ false → f.dir ≢ g.dir → rename_space (scene_with s q f g) ≡ room_asked p map s.tree g.dir
+    room_is none goes =
+        ap (λ (b : Bool). only_if (not b && not (f.dir == g.dir)) space) none
+        ∙ ap (λ (b : Bool). only_if (not b) space) (other_number_is f.dir g.dir goes)
+        ∙ ap (λ (c : ℕ). refuse ENOSPC (nat_lt c least_free) ∷ refuse ENOSPC (nat_le entries_limit (length (names_in (the_node s.tree g.dir).body))) ∷ []) r.is_state.free_is
+
+-- the same after reads
+pub to_rename_kept : {p : Place} {old new : TxnState} {desks : Desks} {f g : Found} {n : ℕ} {v : Inode} {there : Option (ℕ × Inode)} {s : State} → IsUnchanged old new
+    → IsToRename p old.sectors desks f g n v there s → IsToRename p new.sectors desks f g n v there s
+to_rename_kept {p} {old} {new} {desks} {f} {g} {n} {v} {there} {s} same r = kept (λ (m : SectorMap). IsToRename p m desks f g n v there s) same r
+
+-- ---- below itself
+
+pub below_told : (t : Tree) (kind : Kind) (n dir : ℕ) (b : Bool) → kind ≡ kinds.Directory → is_within (length t) t n dir ≡ b → below_asked t kind n dir ≡ refuse EINVAL b
+below_told t kind n dir b is within = ap (λ (k : Kind). refuse EINVAL (is_directory_kind k && is_within (length t) t n dir)) is ∙ ap (refuse EINVAL) within
+
+-- ---- what is replaced
+
+pub there_some : (p : Place) (map : SectorMap) (o : Option ℕ) (m : ℕ) (v : Inode) → Some (m, v) ≡ inode_there p map o → (o ≡ Some m) × (v ≡ inode_at p map m)
+there_some p map None m v e = absurd (cc)
+there_some p map (Some k) m v e =
+    let pair : (m, v) ≡ (k, inode_at p map k) = some_is (m, v) (k, inode_at p map k) e in
+    let same : m ≡ k = ap (λ (x : ℕ × Inode). x.0) pair in
+    (ap Some (sym same), ap (λ (x : ℕ × Inode). x.1) pair ∙ ap (inode_at p map) (sym same))
+  where
+    some_is : (x y : ℕ × Inode) → Some x ≡ Some y → x ≡ y
+    some_is x y h = cc
+
+no_names : (b : Body) → is_directory b ≡ false → names_in b ≡ []
+no_names (File a bytes) e = refl
+no_names (Dir a d) e = absurd (cc)
+no_names (Link target) e = refl
+
+module _ {p : Place} {map : SectorMap} {t : Tree} (h : HoldsTree p map t) (g : Found) (there : (m : ℕ) → g.ino ≡ Some m → IsThere t m) (desks : Desks) where
+  abbrev body : Body
+  body = (the_node t (number g)).body
+
+  module _ (m : ℕ) (some : g.ino ≡ Some m) where
+    kind_is : is_directory body ≡ is_directory_kind (inode_at p map m).kind
+    kind_is = ap (λ (o : Option ℕ). is_directory (the_node t (unwrap_or o 0)).body) some ∙ kind_at h m (there m some)
+
+    here : (d : Bool) → is_directory body ≡ d → replaced_asked t desks g ≡ refuse EBUSY (d && is_in_use desks m) ∷ refuse ENOTEMPTY (not (is_empty (names_in body))) ∷ []
+    here d is =
+        ap (λ (o : Option ℕ). refuse EBUSY ((is_some o && is_directory body) && is_in_use desks (number g)) ∷ refuse ENOTEMPTY (is_some o && not (is_empty (names_in body))) ∷ []) some
+        ∙ ap (λ (b : Bool). refuse EBUSY (b && is_in_use desks (number g)) ∷ refuse ENOTEMPTY (not (is_empty (names_in body))) ∷ []) is
+        ∙ ap (λ (o : Option ℕ). refuse EBUSY (d && is_in_use desks (unwrap_or o 0)) ∷ refuse ENOTEMPTY (not (is_empty (names_in body))) ∷ []) some
+
+    -- it is no directory
+    pub other_replaced : is_directory_kind (inode_at p map m).kind ≡ false → first_of (replaced_asked t desks g) ≡ None
+    other_replaced other =
+        ap first_of (here false (kind_is ∙ other))
+        ∙ ap (λ (names : List (List ℕ × ℕ)). first_of (refuse EBUSY (false && is_in_use desks m) ∷ refuse ENOTEMPTY (not (is_empty names)) ∷ [])) (no_names body (kind_is ∙ other))
+
+    -- what its inode holds
+    pub there_body : (v : Inode) → v ≡ inode_at p map m → IsNode map t g m v
+    there_body v is = node_of h g m v (ap (λ (o : Option ℕ). unwrap_or o 0) some) is (there m some)
+
+    -- it is one
+    pub directory_replaced : (v : Inode) (is : v ≡ inode_at p map m) → v.kind ≡ kinds.Directory
+        → first_of (directory_asked (there_body v is).node.body (is_in_use desks m)) ≡ first_of (replaced_asked t desks g)
+    directory_replaced v is kind =
+        let x = there_body v is in
+        let dir : is_directory body ≡ true = kind_is ∙ ap (λ (w : Inode). is_directory_kind w.kind) (sym is) ∙ ap is_directory_kind kind in
+        ap (λ (u : Node). first_of (directory_asked u.body (is_in_use desks m))) (sym x.is)
+        ∙ ap (λ (b : Bool). first_of (refuse ENOTDIR (not b) ∷ refuse EBUSY (is_in_use desks m) ∷ refuse ENOTEMPTY (not (is_empty (names_in body))) ∷ [])) dir
+        ∙ sym (ap first_of (here true dir))
+
+-- ---- five parts
+
+module _ (a b c d e : List Demand) where
+  module _ {A : Type 0} (x : A) (r : Refusal) (old new : DiskState) {B : Type 0} (y : B) where
+    pub first_part : IsAnswered old new (refused_or (first_of a) (Ok y)) (Err r) → IsAnswered old new (refused_or (first_of (a ++ b ++ c ++ d ++ e)) (Ok x)) (Err r)
+    first_part is =
+        some_asked {A = A} {B = B} (a ++ b ++ c ++ d) e y x r old new
+        (some_asked {A = B} {B = B} (a ++ b ++ c) d y y r old new
+        (some_asked {A = B} {B = B} (a ++ b) c y y r old new (some_asked {A = B} {B = B} a b y y r old new is)))
+
+    module _ (one : first_of a ≡ None) where
+      pub second_part : IsAnswered old new (refused_or (first_of b) (Ok y)) (Err r) → IsAnswered old new (refused_or (first_of (a ++ b ++ c ++ d ++ e)) (Ok x)) (Err r)
+      second_part is =
+          some_asked {A = A} {B = B} (a ++ b ++ c ++ d) e y x r old new
+          (some_asked {A = B} {B = B} (a ++ b ++ c) d y y r old new
+          (some_asked {A = B} {B = B} (a ++ b) c y y r old new (others_asked {A = B} a b y r old new one is)))
+
+      module _ (two : first_of b ≡ None) where
+        pub third_part : IsAnswered old new (refused_or (first_of c) (Ok y)) (Err r) → IsAnswered old new (refused_or (first_of (a ++ b ++ c ++ d ++ e)) (Ok x)) (Err r)
+        third_part is =
+            some_asked {A = A} {B = B} (a ++ b ++ c ++ d) e y x r old new
+            (some_asked {A = B} {B = B} (a ++ b ++ c) d y y r old new (others_asked {A = B} (a ++ b) c y r old new (all_met a b one two) is))
+
+        module _ (three : first_of c ≡ None) where
+          pub fourth_part : IsAnswered old new (refused_or (first_of d) (Ok y)) (Err r) → IsAnswered old new (refused_or (first_of (a ++ b ++ c ++ d ++ e)) (Ok x)) (Err r)
+          fourth_part is =
+              some_asked {A = A} {B = B} (a ++ b ++ c ++ d) e y x r old new
+              (others_asked {A = B} (a ++ b ++ c) d y r old new (all_met (a ++ b) c (all_met a b one two) three) is)
+
+          pub fifth_part : first_of d ≡ None → IsAnswered old new (refused_or (first_of e) (Ok y)) (Err r) → IsAnswered old new (refused_or (first_of (a ++ b ++ c ++ d ++ e)) (Ok x)) (Err r)
+          fifth_part four is =
+              others_asked {A = A} (a ++ b ++ c ++ d) e x r old new (all_met (a ++ b ++ c) d (all_met (a ++ b) c (all_met a b one two) three) four)
+              (refused_as {A = A} {B = B} (first_of e) y x r old new is)
+
+  pub five_met : first_of a ≡ None → first_of b ≡ None → first_of c ≡ None → first_of d ≡ None → first_of e ≡ None → first_of (a ++ b ++ c ++ d ++ e) ≡ None
+  five_met one two three four five =
+      all_met (a ++ b ++ c ++ d) e (all_met (a ++ b ++ c) d (all_met (a ++ b) c (all_met a b one two) three) four) five

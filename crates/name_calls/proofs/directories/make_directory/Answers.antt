@@ -1,0 +1,142 @@
+use Rattle.std.proofs.Common.{◌≡◌, ◌<◌, ◌/◌, ◌%◌, ◌==◌, ◌-◌, List, ℕ, sym, ap, subst, inl, inr, ◌∙◌}
+use Rattle.std.specs.Option.{option_copied}
+use Rattle.std.specs.Prelude.{if◌then◌else◌}
+use Rattle.fs_cred.specs.Credentials.{Credential}
+use Rattle.fs_layout.specs.Bytes.{SectorMap}
+use Rattle.fs_layout.specs.Images.{inode_at}
+use Rattle.sector_txn.proofs.Changes.{store_joined}
+use Rattle.bit_alloc.proofs.Transactions.{spare_unchanged, unchanged_joined}
+use Rattle.inode_table.specs.Acls.{HasDefaultAcl}
+use Rattle.fs_model.specs.Births.{the_node, born_acl, born_directory}
+use Rattle.fs_model.specs.Nodes.{Node, default_in}
+use Rattle.path_walk.proofs.HeldNodes.{number_below, is_there}
+use Rattle.path_walk.proofs.Kept.{kept, kept_back, sound_kept, interrupts_later}
+use Rattle.file_calls.specs.Makings.{CanMake}
+use Rattle.file_calls.proofs.Makeable.{may_make}
+use Rattle.name_calls.specs.NewNodes.{MakesNode, directory_made}
+use Rattle.name_calls.proofs.Inherited.{bits_below, default_held, directory_is}
+use Rattle.name_calls.proofs.NewNames.{allowed, not_allowed, not_made}
+use Rattle.name_calls.proofs.directories.make_directory.Goals as goal
+
+pub check_make-requires-clause-there : goal.check_make-requires-clause-there
+check_make-requires-clause-there g c = let x = c.requires.name in (x.0, x.1, x.2.directory)
+
+pub returns-in_err-directory-clause-each : goal.returns-in_err-directory-clause-each
+returns-in_err-directory-clause-each g c = λ t h i.
+    let r = c.from_residual.ensures in
+    let old = g.S.Sectors.state c.args.s.now in
+    let new = g.S.Sectors.state c.check_make.new.s in
+    let q = c.args.process.now in
+    let f = c.args.found.now in
+    not_allowed c.args.place old new q.cred t f (born_directory q.cred q.umask c.args.mode (the_node t f.dir)) c.cred-cred.ensures c.saturating_sub-step.ensures
+    c.from_residual.result c.in_err-directory.field-0.0 r.0 r.1 (inode_at c.args.place old.sectors f.dir) (c.in_err-directory.ensures.each t h i.directory)
+
+pub default_of-requires : goal.default_of-requires
+default_of-requires g c =
+    let p = c.args.place in
+    let old = g.S.Sectors.state c.args.s.now in
+    let same = c.in_ok-directory.ensures.same in
+    let v = c.in_ok-directory.directory in
+    let f = c.args.found.now in
+    let x = c.requires.name in
+    let is = (allowed p old.sectors x.0 f c.cred-cred.ensures c.saturating_sub-step.ensures (inode_at p old.sectors f.dir) v (c.in_ok-directory.ensures.each x.0 x.1 x.2.directory)).1 in
+    record {
+      sound = sound_kept same c.requires.sound;
+      there = (f.dir, number_below x.1 f.dir (is_there x.0 f.dir x.2.directory.node x.2.directory.is_there), kept (λ (m : SectorMap). v ≡ inode_at p m f.dir) same is);
+      has = (default_in x.2.directory.node.body, kept (λ (m : SectorMap). HasDefaultAcl m v (default_in x.2.directory.node.body)) same (default_held x.1 x.2 v is));
+    }
+
+pub returns-in_err-inherits-clause-store : goal.returns-in_err-inherits-clause-store
+returns-in_err-inherits-clause-store g c = store_joined c.in_ok-directory.ensures.same.store c.in_err-inherits.ensures.same.store
+
+pub returns-in_err-inherits-clause-each : goal.returns-in_err-inherits-clause-each
+returns-in_err-inherits-clause-each g c = λ t h i.
+    let r = c.from_residual-in_err-inherits.ensures in
+    let old = g.S.Sectors.state c.args.s.now in
+    let new = g.S.Sectors.state c.default_of.new.s in
+    let q = c.args.process.now in
+    let f = c.args.found.now in
+    not_made c.args.place old new q.cred t f (born_directory q.cred q.umask c.args.mode (the_node t f.dir)) c.from_residual-in_err-inherits.result c.in_err-inherits.field-0.0 r.0 r.1
+    (inr (interrupts_later new.disk c.in_ok-directory.ensures.same c.in_err-inherits.ensures.err))
+
+pub returns-in_err-access-clause-store : goal.returns-in_err-access-clause-store
+returns-in_err-access-clause-store g c = store_joined c.in_ok-directory.ensures.same.store c.in_ok-inherits.ensures.same.store
+
+pub returns-in_err-access-clause-each : goal.returns-in_err-access-clause-each
+returns-in_err-access-clause-each g c = λ t h i.
+    let r = c.from_residual-in_err-access.ensures in
+    let old = g.S.Sectors.state c.args.s.now in
+    let new = g.S.Sectors.state c.default_of.new.s in
+    let q = c.args.process.now in
+    let f = c.args.found.now in
+    not_made c.args.place old new q.cred t f (born_directory q.cred q.umask c.args.mode (the_node t f.dir)) c.from_residual-in_err-access.result c.in_err-access.field-0.0 r.0 r.1
+    (inr (inl c.in_err-access.ensures.memory))
+
+pub place_directory-requires : goal.place_directory-requires
+place_directory-requires g c =
+    let p = c.args.place in
+    let old = g.S.Sectors.state c.args.s.now in
+    let mid = g.S.Sectors.state c.default_of.new.s in
+    let joined = unchanged_joined c.in_ok-directory.ensures.same c.in_ok-inherits.ensures.same in
+    let v = c.in_ok-directory.directory in
+    let f = c.args.found.now in
+    let q = c.args.process.now in
+    let x = c.requires.name in
+    let met = allowed p old.sectors x.0 f c.cred-cred.ensures c.saturating_sub-step.ensures (inode_at p old.sectors f.dir) v (c.in_ok-directory.ensures.each x.0 x.1 x.2.directory) in
+    record {
+      sound = sound_kept joined c.requires.sound;
+      directory = kept (λ (m : SectorMap). v ≡ inode_at p m f.dir) joined met.1;
+      may = (
+        x.0,
+        subst (CanMake p mid.sectors x.0 f.dir) (sym c.bytes-name.ensures.all)
+            (kept (λ (m : SectorMap). CanMake p m x.0 f.dir f.name) joined (may_make q.cred (f.step - 1) met.0 x.1 x.2.directory f.name x.2.is_name x.2.is_new)),
+      );
+      bits = subst (λ (k : ℕ). k < 2048) (sym c.special_bits-bits.ensures) (bits_below (c.args.mode / 512 % 2 == 1) (v.mode / 1024 % 2 == 1));
+      spare = spare_unchanged p 47 old mid c.requires.spare joined;
+    }
+
+pub returns-in_err-place_directory-clause-store : goal.returns-in_err-place_directory-clause-store
+returns-in_err-place_directory-clause-store g c =
+    store_joined (unchanged_joined c.in_ok-directory.ensures.same c.in_ok-inherits.ensures.same).store c.in_err-place_directory.ensures.store
+
+pub returns-in_err-place_directory-clause-each : goal.returns-in_err-place_directory-clause-each
+returns-in_err-place_directory-clause-each g c = λ t h i.
+    let r = c.from_residual-in_err-place_directory.ensures in
+    let old = g.S.Sectors.state c.args.s.now in
+    let new = g.S.Sectors.state c.place_directory.new.s in
+    let q = c.args.process.now in
+    let f = c.args.found.now in
+    not_made c.args.place old new q.cred t f (born_directory q.cred q.umask c.args.mode (the_node t f.dir)) c.from_residual-in_err-place_directory.result c.in_err-place_directory.field-0.0 r.0 r.1
+    (inr (interrupts_later new.disk (unchanged_joined c.in_ok-directory.ensures.same c.in_ok-inherits.ensures.same) (inr c.in_err-place_directory.ensures.err)))
+
+pub returns-clause-store : goal.returns-clause-store
+returns-clause-store g c =
+    store_joined (unchanged_joined c.in_ok-directory.ensures.same c.in_ok-inherits.ensures.same).store c.in_ok-place_directory.ensures.store
+
+pub returns-clause-each : goal.returns-clause-each
+returns-clause-each g c = λ t h i.
+    let p = c.args.place in
+    let old = g.S.Sectors.state c.args.s.now in
+    let new = g.S.Sectors.state c.place_directory.new.s in
+    let joined = unchanged_joined c.in_ok-directory.ensures.same c.in_ok-inherits.ensures.same in
+    let v = c.in_ok-directory.directory in
+    let f = c.args.found.now in
+    let q = c.args.process.now in
+    let mode = c.args.mode in
+    let bits = c.special_bits-bits.result in
+    let gid = c.new_group-gid.result in
+    let a = c.in_ok-access.access in
+    let met = allowed p old.sectors t f c.cred-cred.ensures c.saturating_sub-step.ensures (inode_at p old.sectors f.dir) v (c.in_ok-directory.ensures.each t h i.directory) in
+    let d = option_copied c.as_ref-default.result in
+    let has = kept (λ (m : SectorMap). HasDefaultAcl m v (default_in i.directory.node.body)) c.in_ok-directory.ensures.same (default_held h i v met.1) in
+    let given : d ≡ default_in i.directory.node.body = c.as_ref-default.ensures.value ∙ c.in_ok-inherits.ensures.found (default_in i.directory.node.body) has in
+    let node : directory_made c.uid-uid.result gid bits a d ≡ born_directory q.cred q.umask mode (the_node t f.dir) =
+    directory_is h i v met.1 q.cred q.umask mode c.uid-uid.result gid bits a d (c.uid-uid.ensures ∙ ap (λ (k : Credential). k.uid) c.cred-cred.ensures)
+    (c.new_group-gid.ensures ∙ ap (λ (k : Credential). if v.mode / 1024 % 2 == 1 then v.gid else k.gid) c.cred-cred.ensures) c.special_bits-bits.ensures
+    given (c.in_ok-access.ensures.born ∙ ap (born_acl d mode) c.umask.ensures) in (
+      met.0,
+      kept_back (λ (m : SectorMap). MakesNode p f.dir f.name (born_directory q.cred q.umask mode (the_node t f.dir)) m new.sectors) joined
+          (subst (λ (x : Node). MakesNode p f.dir f.name x (g.S.Sectors.state c.default_of.new.s).sectors new.sectors) node
+          (subst (λ (name : List ℕ). MakesNode p f.dir name (directory_made c.uid-uid.result gid bits a d) (g.S.Sectors.state c.default_of.new.s).sectors new.sectors)
+          c.bytes-name.ensures.all c.in_ok-place_directory.ensures.made)),
+    )

@@ -1,0 +1,74 @@
+use Rattle.std.proofs.Common.{refl, sym, arith, ◌∙◌}
+use Rattle.std.specs.Option.{option_copied}
+use Rattle.sector_disk.proofs.Moments.{failed_later}
+use Rattle.sector_txn.proofs.Changes.{store_joined}
+use Rattle.inode_table.specs.Acls.{acls_take}
+use Rattle.path_walk.specs.Answers.{FailsToRead}
+use Rattle.path_walk.proofs.Kept.{failed_with}
+use Rattle.file_calls.proofs.NewFile.{dir_kept}
+use Rattle.name_calls.specs.NewNodes.{directory_made}
+use Rattle.name_calls.proofs.BornDirectories.{directory_fits, acls_few, directory_taken}
+use Rattle.name_calls.proofs.NewNames.{room_then, was_taken}
+use Rattle.name_calls.proofs.directories.place_directory.Goals as goal
+
+pub new_inode-requires-clause-fits : goal.new_inode-requires-clause-fits
+new_inode-requires-clause-fits g c =
+    let small_dir = c.ranges.dir.fits in
+    let small_uid = c.ranges.uid.fits in
+    let small_gid = c.ranges.gid.fits in
+    directory_fits c.args.dir c.args.uid c.args.gid c.args.bits (omega (arith, small_dir)) (omega (arith, small_uid)) (omega (arith, small_gid)) c.requires.bits
+
+pub returns-in_default-clause-err : goal.returns-in_default-clause-err
+returns-in_default-clause-err g c =
+    let old = g.S.Sectors.state c.args.s.now in
+    let new = g.S.Sectors.state c.new_inode.new.s in
+    let default = option_copied c.args.default in (
+      refl,
+      was_taken c.requires.may.1 (acls_take c.args.access.now default) (acls_few c.args.access.now default) old.disk new.disk c.in_default.field-0
+          c.in_default.ensures.full c.in_default.ensures.cause.failed,
+    )
+
+pub name_inode-requires-clause-inode : goal.name_inode-requires-clause-inode
+name_inode-requires-clause-inode g c =
+    let can = c.requires.may.1 in
+    let e = c.in-Ok.ensures in
+    c.requires.directory ∙ sym (dir_kept can.holds can.directory c.in-Ok.n e.free e.touches.inode)
+
+pub name_inode-requires-clause-room : goal.name_inode-requires-clause-room
+name_inode-requires-clause-room g c =
+    let mid = g.S.Sectors.state c.new_inode.new.s in
+    let e = c.in-Ok.ensures in
+    let default = option_copied c.args.default in
+    let few = acls_few c.args.access.now default in
+    let left = e.touches.free in
+    room_then c.requires.may.1 mid.sectors c.in-Ok.n (record { node = directory_made c.args.uid c.args.gid c.args.bits c.args.access.now default; names = 1; parent = c.args.dir })
+    (directory_taken e.free e.touches e.used c.args.dir c.args.uid c.args.gid c.args.bits c.requires.bits c.args.access.now default e.fields e.empty e.access e.default)
+    (omega (arith, few, left))
+
+pub returns-in_err-name_inode-clause-store : goal.returns-in_err-name_inode-clause-store
+returns-in_err-name_inode-clause-store g c = store_joined c.in-Ok.ensures.store c.in_err-name_inode.ensures.store
+
+pub returns-in_err-name_inode-clause-err : goal.returns-in_err-name_inode-clause-err
+returns-in_err-name_inode-clause-err g c =
+    let r = c.from_residual.ensures in
+    let old = g.S.Sectors.state c.args.s.now in
+    let mid = g.S.Sectors.state c.new_inode.new.s in
+    let new = g.S.Sectors.state c.name_inode.new.s in
+    let failed = c.in_err-name_inode.ensures.err in
+    failed_with c.from_residual.result c.in_err-name_inode.field-0.0 (FailsToRead old.disk new.disk) r.0 r.1
+    (failed.0, failed_later old.disk mid.disk new.disk c.in-Ok.ensures.cause.later failed.1)
+
+pub returns-clause-store : goal.returns-clause-store
+returns-clause-store g c = store_joined c.in-Ok.ensures.store c.in_ok-name_inode.ensures.store
+
+pub returns-clause-made : goal.returns-clause-made
+returns-clause-made g c =
+    let mid = g.S.Sectors.state c.new_inode.new.s in
+    let e = c.in-Ok.ensures in
+    let default = option_copied c.args.default in
+    record {
+      number = c.in-Ok.n;
+      mid = mid.sectors;
+      takes = directory_taken e.free e.touches e.used c.args.dir c.args.uid c.args.gid c.args.bits c.requires.bits c.args.access.now default e.fields e.empty e.access e.default;
+      names = c.in_ok-name_inode.ensures.named;
+    }

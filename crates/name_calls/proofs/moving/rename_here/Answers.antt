@@ -1,0 +1,57 @@
+use Rattle.std.proofs.Common.{refl, subst, sym, ap, ◌∙◌}
+use Rattle.sector_disk.proofs.Moments.{failed_later}
+use Rattle.fs_layout.specs.declared.inode.Inode.{Inode}
+use Rattle.fs_layout.specs.Bytes.{SectorMap}
+use Rattle.fs_layout.specs.Directories.{HasNames}
+use Rattle.fs_layout.specs.Maps.{name_cmp, get}
+use Rattle.fs_layout.proofs.OneSlots.{names_same}
+use Rattle.bit_alloc.proofs.Transactions.{puts_after}
+use Rattle.path_walk.proofs.Kept.{kept, sound_kept}
+use Rattle.name_calls.proofs.Movings.{names_changed}
+use Rattle.name_calls.proofs.Takings.{not_removed}
+use Rattle.name_calls.proofs.moving.rename_here.Goals as goal
+
+pub rename-requires-clause-sound : goal.rename-requires-clause-sound
+rename-requires-clause-sound g c = sound_kept c.in_ok-directory.ensures.same c.requires.sound
+
+pub rename-requires-clause-directory : goal.rename-requires-clause-directory
+rename-requires-clause-directory g c =
+    let named = c.requires.named in
+    let old = g.S.Sectors.state c.args.s.now in (
+      named.0,
+      kept (λ (m : SectorMap). HasNames m c.in_ok-directory.directory named.0) c.in_ok-directory.ensures.same
+          (subst (λ (v : Inode). HasNames old.sectors v named.0) (sym c.in_ok-directory.ensures.found) named.1),
+      named.3,
+    )
+
+pub returns-in-Ok-clause-sound : goal.returns-in-Ok-clause-sound
+returns-in-Ok-clause-sound g c = c.in-Ok.ensures.change.sound
+
+pub returns-in-Ok-clause-taken : goal.returns-in-Ok-clause-taken
+returns-in-Ok-clause-taken g c = (puts_after c.in_ok-directory.ensures.same c.in-Ok.ensures.change.touches.puts).room
+
+pub returns-in-Ok-clause-renames : goal.returns-in-Ok-clause-renames
+returns-in-Ok-clause-renames g c = λ names n has leads.
+    let old = g.S.Sectors.state c.args.s.now in
+    let mid = g.S.Sectors.state c.load_inode.new.s in
+    let same = c.in_ok-directory.ensures.same in
+    let found = c.in_ok-directory.ensures.found in
+    let there = kept (λ (m : SectorMap). HasNames m c.in_ok-directory.directory names) same (subst (λ (v : Inode). HasNames old.sectors v names) (sym found) has) in
+    names_changed same found c.in-Ok.ensures.change
+    (λ all h.
+    c.in-Ok.ensures.names all n h
+    (ap (λ ns. get name_cmp ns c.args.name.now) (names_same mid.sectors c.in_ok-directory.directory all names h there) ∙ leads))
+
+pub returns-in-Err-clause-fault : goal.returns-in-Err-clause-fault
+returns-in-Err-clause-fault g c =
+    let old = g.S.Sectors.state c.args.s.now in
+    let mid = g.S.Sectors.state c.load_inode.new.s in
+    let new = g.S.Sectors.state c.rename.new.s in
+    let same = c.in_ok-directory.ensures.same in
+    let named = c.requires.named in
+    let has = kept (λ (m : SectorMap). HasNames m c.in_ok-directory.directory named.0) same
+    (subst (λ (v : Inode). HasNames old.sectors v named.0) (sym c.in_ok-directory.ensures.found) named.1) in (
+      refl,
+      failed_later old.disk mid.disk new.disk same.store.reads.failures
+          (not_removed named.0 c.args.name.now mid.disk new.disk c.in-Err.field-0 named.2 (c.in-Err.ensures.why named.0 has) c.in-Err.ensures.cause.failed),
+    )

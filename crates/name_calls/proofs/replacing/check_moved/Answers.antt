@@ -1,0 +1,51 @@
+use Rattle.std.proofs.Common.{rules, ◌≡◌, false, ap}
+use Rattle.fs_layout.specs.declared.inode.Kind.TheVariants as kinds
+use Rattle.fs_model.specs.Demands.{first_of}
+use Rattle.fs_model.specs.RenameCall.{rename_moved}
+use Rattle.fs_model.specs.Rules.{is_directory_kind}
+use Rattle.path_walk.proofs.Calling.{state_tree}
+use Rattle.path_walk.proofs.HeldNodes.{number_below}
+use Rattle.path_walk.proofs.Kept.{answered_err}
+use Rattle.file_calls.proofs.OpenFound.{checked}
+use Rattle.name_calls.specs.TwoPaths.{scene_with}
+use Rattle.name_calls.proofs.ReplaceAsked.{other_moved, same_moved, moved_access, moved_held, moved_denied, moved_met}
+use Rattle.name_calls.proofs.replacing.check_moved.Goals as goal
+
+pub returns-then-ne-clause-each : goal.returns-then-ne-clause-each
+returns-then-ne-clause-each g c = λ desks n there st r.
+    let other : is_directory_kind c.args.inode.now.kind ≡ false = search rules in
+    ap checked (other_moved r c.args.process.now other)
+
+pub returns-then-first-second-clause-each : goal.returns-then-first-second-clause-each
+returns-then-first-second-clause-each g c = λ desks n there st r.
+    ap checked (same_moved r c.args.process.now c.if-first-second.true)
+
+pub permitted-requires-clause-there : goal.permitted-requires-clause-there
+permitted-requires-clause-there g c =
+    let x = c.requires.names in
+    let r = x.4 in
+    (x.1, number_below (state_tree r.is_state) x.1 (r.first.found x.1 r.leads), r.inode)
+
+pub permitted-requires-clause-has : goal.permitted-requires-clause-has
+permitted-requires-clause-has g c =
+    let r = c.requires.names.4 in
+    let kind : c.args.inode.now.kind ≡ kinds.Directory = search rules in
+    (moved_access r c.args.process.now kind, moved_held r c.args.process.now kind)
+
+pub returns-in_err-permitted-clause-each : goal.returns-in_err-permitted-clause-each
+returns-in_err-permitted-clause-each g c = λ desks n there st r.
+    let k = c.from_residual.ensures in
+    let old = g.S.Sectors.state c.args.s.now in
+    let new = g.S.Sectors.state c.permitted.new.s in
+    let q = c.args.process.now in
+    let sc = scene_with st q c.args.first.now c.args.second.now in
+    let e = c.in_err-permitted.field-0.0 in
+    let kind : c.args.inode.now.kind ≡ kinds.Directory = search rules in
+    answered_err {A = Unit {0}} old.disk new.disk (checked (first_of (rename_moved sc))) c.from_residual.result e k.0 k.1
+    (moved_denied r q kind c.if-first-second.false {A = Unit {0}} tt e old.disk new.disk c.cred-cred.ensures (c.in_err-permitted.ensures.each (moved_access r q kind) (moved_held r q kind)))
+
+pub returns-clause-each : goal.returns-clause-each
+returns-clause-each g c = λ desks n there st r.
+    let q = c.args.process.now in
+    let kind : c.args.inode.now.kind ≡ kinds.Directory = search rules in
+    ap checked (moved_met r q kind c.if-first-second.false c.in_ok-permitted.field-0 c.cred-cred.ensures (c.in_ok-permitted.ensures.each (moved_access r q kind) (moved_held r q kind)))

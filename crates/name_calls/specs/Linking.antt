@@ -1,0 +1,51 @@
+-- What one more name for what is no directory asks, and what it leaves.
+--     source_asked        asked of what the first path leads to
+--     room_asked, place_asked        asked of a directory that gets a name
+--     MayLink        a name that it may get
+use Rattle.std.specs.Prelude.{◌≡◌, ℕ, ◌<◌, ◌≤◌, nat_lt, nat_le, not, ◌&&◌, List, [], ◌∷◌, length, None, Some, IsFalse}
+use Rattle.fs_cred.specs.declared.errno.Errno.TheVariants.{EPERM, ENOTDIR, EMLINK, ENOSPC}
+use Rattle.fs_cred.specs.Credentials.{Credential}
+use Rattle.fs_layout.specs.declared.place.Place.{Place}
+use Rattle.fs_layout.specs.Bytes.{SectorMap, IsBytes}
+use Rattle.fs_layout.specs.Directories.{IsName}
+use Rattle.fs_layout.specs.Images.{free_sectors}
+use Rattle.fs_layout.specs.Maps.{name_cmp, get}
+use Rattle.fs_model.specs.declared.walk.Found.{Found}
+use Rattle.fs_model.specs.Births.{the_node}
+use Rattle.fs_model.specs.Demands.{Demand, refuse, permission_on, write_and_search}
+use Rattle.fs_model.specs.Limits.{names_limit, entries_limit, least_free}
+use Rattle.fs_model.specs.Nodes.{Node, is_directory, names_in}
+use Rattle.fs_model.specs.Scenes.{is_found, is_special, number, must_be_there}
+use Rattle.fs_model.specs.Trees.{Tree, node_at, names_of, IsDirectoryAt}
+
+-- asked of the first path and of what it leads to
+abbrev pub source_asked : Tree → Found → List Demand
+source_asked t f =
+    refuse EPERM (is_special f)
+    ∷ must_be_there f
+    ∷ refuse ENOTDIR (f.slash && (is_found f && not (is_directory (the_node t (number f)).body)))
+    ∷ refuse EPERM (is_found f && is_directory (the_node t (number f)).body)
+    ∷ []
+
+-- sectors are left, and a slot in the directory
+abbrev pub room_asked : Place → SectorMap → Tree → ℕ → List Demand
+room_asked p map t dir =
+    refuse ENOSPC (nat_lt (free_sectors p map) least_free) ∷ refuse ENOSPC (nat_le entries_limit (length (names_in (the_node t dir).body))) ∷ []
+
+-- asked of the directory of the second path, for what has so many names
+abbrev pub place_asked : Place → SectorMap → Credential → Tree → ℕ → ℕ → ℕ → List Demand
+place_asked p map cred t dir step names =
+    permission_on cred t dir write_and_search 2 step ∷ refuse EMLINK (nat_le names_limit names) ∷ room_asked p map t dir
+
+-- the name is new in directory dir, there is room for it, and n is no directory and has room for one more name
+pub record MayLink (p : Place) (map : SectorMap) (t : Tree) (dir : ℕ) (name : List ℕ) (n : ℕ) : Type 0 where
+  pub directory : IsDirectoryAt t dir
+  pub is_name : IsName name
+  pub bytes : IsBytes name
+  pub is_new : get name_cmp (names_in directory.node.body) name ≡ None
+  pub has_room : length (names_in directory.node.body) < entries_limit
+  pub enough : least_free ≤ free_sectors p map
+  pub target : Node
+  pub there : node_at t n ≡ Some target
+  pub no_directory : IsFalse (is_directory target.body)
+  pub few : names_of t n < names_limit

@@ -1,0 +1,73 @@
+-- What a name that goes to another place asks, and what it leaves.
+--     MayMove        a name that may go to another place
+--     MayLead        a name that may lead to another inode
+--     ChangesNames        of a directory the names change
+--     MovesEntry        the names of one directory, or of two, are changed
+--     GetsParent, ParentFollows        what was moved gets its parent
+use Rattle.std.specs.Prelude.{◌≡◌, ◌≢◌, ◌⊎◌, ℕ, ◌<◌, ◌≤◌, false, List, [], length, Option, None, Some, IsFalse}
+use Rattle.fs_layout.specs.declared.inode.Kind.TheVariants as kinds
+use Rattle.fs_layout.specs.declared.place.Place.{Place}
+use Rattle.fs_layout.specs.Bytes.{SectorMap, IsBytes}
+use Rattle.fs_layout.specs.Changes.{ChangesInode}
+use Rattle.fs_layout.specs.Directories.{IsName, HasNames}
+use Rattle.fs_layout.specs.Images.{bit, free_sectors, inode_at, inode_bitmap}
+use Rattle.fs_layout.specs.Maps.{name_cmp, get, with_entry, without}
+use Rattle.bit_alloc.specs.Inodes.{KeepsFields, KeepsBytes, KeepsAcls}
+use Rattle.fs_model.specs.Limits.{entries_limit, least_free}
+use Rattle.fs_model.specs.Nodes.{names_in}
+use Rattle.fs_model.specs.Processes.{is_in_use}
+use Rattle.fs_model.specs.States.{State}
+use Rattle.fs_model.specs.Trees.{is_within, IsDirectoryAt}
+use Rattle.name_calls.specs.NewNodes.{MayBeNamed}
+
+-- The name leads from directory dir to n, and n may get to_name in directory to_dir, which leads to what is replaced, or to
+-- nothing.
+pub record MayMove (p : Place) (map : SectorMap) (s : State) (dir : ℕ) (name : List ℕ) (n to_dir : ℕ) (to_name : List ℕ) (replaced : Option ℕ) : Type 0 where
+  pub directory : IsDirectoryAt s.tree dir
+  pub leads : get name_cmp (names_in directory.node.body) name ≡ Some n
+  pub to_directory : IsDirectoryAt s.tree to_dir
+  pub to_leads : get name_cmp (names_in to_directory.node.body) to_name ≡ replaced
+  pub is_name : IsName to_name
+  pub bytes : IsBytes to_name
+  pub other : (m : ℕ) → replaced ≡ Some m → m ≢ n
+  pub has_room : replaced ≡ None → dir ≢ to_dir → (length (names_in to_directory.node.body) < entries_limit) × (least_free ≤ free_sectors p map)
+  pub empty : (m : ℕ) → replaced ≡ Some m → (d : IsDirectoryAt s.tree m) → names_in d.node.body ≡ []
+  pub unused : (m : ℕ) → replaced ≡ Some m → IsDirectoryAt s.tree m → IsFalse (is_in_use s.desks m)
+  pub outside : IsDirectoryAt s.tree n → is_within (length s.tree) s.tree n to_dir ≡ false
+
+-- In directory dir the name may lead to another inode: it leads to one, or there is room for it.
+abbrev pub MayLead : Place → SectorMap → ℕ → List ℕ → Option ℕ → Type 0
+MayLead p map dir name None = MayBeNamed p map dir name
+MayLead p map dir name (Some m) =
+    (dir < p.inodes) × ((names : List (List ℕ × ℕ)) × HasNames map (inode_at p map dir) names × (get name_cmp names name ≢ None))
+
+-- directory dir has other names, which f makes of those that it had, and is else as it was
+pub record ChangesNames (p : Place) (dir : ℕ) (f : List (List ℕ × ℕ) → List (List ℕ × ℕ)) (old new : SectorMap) : Type 0 where
+  pub super : new 0 ≡ old 0
+  pub change : ChangesInode p dir old new
+  pub used : bit new inode_bitmap dir ≡ bit old inode_bitmap dir
+  pub fields : KeepsFields (inode_at p old dir) (inode_at p new dir)
+  pub acls : KeepsAcls old new (inode_at p old dir) (inode_at p new dir)
+  pub names : (names : List (List ℕ × ℕ)) → HasNames old (inode_at p old dir) names → HasNames new (inode_at p new dir) (f names)
+
+-- A directory leads to_name to n, and the name no longer; or it has lost the name, and then another one, or itself, leads
+-- to_name to n.
+pub data MovesEntry (p : Place) (dir : ℕ) (name : List ℕ) (n to_dir : ℕ) (to_name : List ℕ) (replaced : Option ℕ) (old new : SectorMap) : Type 0 where
+  within : dir ≡ to_dir → replaced ≡ None → ChangesNames p dir (λ names. with_entry name_cmp (without name_cmp names name) to_name n) old new
+      → MovesEntry p dir name n to_dir to_name replaced old new
+  across : (mid : SectorMap) → ChangesNames p dir (λ names. without name_cmp names name) old mid
+      → ChangesNames p to_dir (λ names. with_entry name_cmp names to_name n) mid new → MovesEntry p dir name n to_dir to_name replaced old new
+
+-- inode n has this parent, and all else that it had
+pub record GetsParent (p : Place) (n parent : ℕ) (old new : SectorMap) : Type 0 where
+  pub super : new 0 ≡ old 0
+  pub change : ChangesInode p n old new
+  pub saved : inode_at p new n ≡ record (inode_at p old n) { parent = parent }
+  pub bytes : KeepsBytes old new (inode_at p old n) (inode_at p new n)
+  pub acls : KeepsAcls old new (inode_at p old n) (inode_at p new n)
+  pub used : bit new inode_bitmap n ≡ bit old inode_bitmap n
+
+-- what goes from directory dir to to_dir: a directory gets another one as its parent, and nothing else changes
+pub data ParentFollows (p : Place) (n dir to_dir : ℕ) (old new : SectorMap) : Type 0 where
+  goes : dir ≢ to_dir → (inode_at p old n).kind ≡ kinds.Directory → GetsParent p n to_dir old new → ParentFollows p n dir to_dir old new
+  stays : ((inode_at p old n).kind ≢ kinds.Directory) ⊎ (dir ≡ to_dir) → new ≡ old → ParentFollows p n dir to_dir old new

@@ -1,0 +1,87 @@
+-- What removing a name asks, and what it leaves.
+--     FindsName        what a process has found, for a call on a name
+--     IsNamedThere, removal_asked        what was found and its directory are there, and what is asked of both
+--     sticky_asked, last_asked, directory_asked        asked of two inodes, of the last component, of a directory
+--     MayGo        a name that may go
+--     RemovesName        it goes from its directory
+use Rattle.std.specs.Prelude.{◌≡◌, ℕ, ◌-◌, ◌/◌, ◌%◌, ◌==◌, Bool, not, ◌&&◌, List, [], ◌∷◌, Some, IsTrue, IsFalse}
+use Rattle.fs_cred.specs.declared.errno.Errno.TheVariants.{EBUSY, EINVAL, ENOTDIR, ENOTEMPTY}
+use Rattle.fs_cred.specs.declared.refusal.Need.TheVariants.{Remove}
+use Rattle.fs_cred.specs.declared.rule.Rule.TheVariants.{Sticky}
+use Rattle.fs_cred.specs.Credentials.{Credential}
+use Rattle.fs_cred.specs.Ownership.{sticky_allows}
+use Rattle.fs_layout.specs.declared.inode.Inode.{Inode}
+use Rattle.fs_layout.specs.declared.place.Place.{Place}
+use Rattle.fs_layout.specs.Bytes.{SectorMap, IsBytes}
+use Rattle.fs_layout.specs.Directories.{HasNames}
+use Rattle.fs_layout.specs.Images.{bit, inode_at, inode_bitmap}
+use Rattle.fs_layout.specs.Maps.{name_cmp, get, without}
+use Rattle.sector_txn.specs.Sectors.{TxnState}
+use Rattle.bit_alloc.specs.Inodes.{IsSound, Touches, KeepsFields, KeepsAcls}
+use Rattle.fs_model.specs.declared.walk.Form.TheVariants.{Parent}
+use Rattle.fs_model.specs.declared.walk.Found.{Found}
+use Rattle.fs_model.specs.Births.{the_node, the_directory}
+use Rattle.fs_model.specs.Demands.{Demand, refuse, permission_on, denied_unless, write_and_search}
+use Rattle.fs_model.specs.Nodes.{Node, Body, is_directory, names_in}
+use Rattle.fs_model.specs.Parts.{is_empty}
+use Rattle.fs_model.specs.Processes.{Process, Desks, is_in_use}
+use Rattle.fs_model.specs.Scenes.{is_found, number, ends_top, ends_dot, ends_dot_dot, must_be_there}
+use Rattle.fs_model.specs.States.{State}
+use Rattle.fs_model.specs.Trees.{Tree, node_at, IsDirectoryAt}
+use Rattle.path_walk.specs.HeldTrees.{IsThere}
+use Rattle.path_walk.specs.Paths.{HasFound}
+use Rattle.path_walk.specs.Performing.{IsStateOf}
+
+-- in a state of this map and this table the process has found this, by a path that ends in a name
+pub record FindsName (p : Place) (map : SectorMap) (desks : Desks) (q : Process) (f : Found) (s : State) : Type 0 where
+  pub pid : ℕ
+  pub path : List ℕ
+  pub bytes : IsBytes path
+  pub is_state : IsStateOf p map desks s
+  pub found : HasFound s pid q Parent path f
+
+-- the directory that names what was found is there, and so is what was found
+pub record IsNamedThere (t : Tree) (f : Found) : Type 0 where
+  pub directory : IsDirectoryAt t f.dir
+  pub found : (n : ℕ) → f.ino ≡ Some n → IsThere t n
+
+-- asked of what was found and of its directory, whatever it is
+abbrev pub removal_asked : Credential → Tree → Found → List Demand
+removal_asked cred t f =
+    must_be_there f
+    ∷ refuse ENOTDIR (f.slash && (is_found f && not (is_directory (the_node t (number f)).body)))
+    ∷ permission_on cred t f.dir write_and_search 1 (f.step - 1)
+    ∷ denied_unless (sticky_allows cred (the_directory (the_node t f.dir)).sticky (the_node t f.dir).owner (the_node t (number f)).owner)
+    1 (f.step - 1) Remove Sticky
+    ∷ []
+
+-- the last of it, of the directory's inode d and of v, after so many lookups of the walk with this number
+abbrev pub sticky_asked : Credential → Inode → Inode → ℕ → ℕ → Demand
+sticky_asked cred d v walk step = denied_unless (sticky_allows cred (d.mode / 512 % 2 == 1) d.uid v.uid) walk step Remove Sticky
+
+-- asked of the last component, where a directory is to go
+abbrev pub last_asked : Found → List Demand
+last_asked f = refuse EBUSY (ends_top f) ∷ refuse EINVAL (ends_dot f) ∷ refuse ENOTEMPTY (ends_dot_dot f) ∷ []
+
+-- asked of the body of what is to go as a directory
+abbrev pub directory_asked : Body → Bool → List Demand
+directory_asked b used = refuse ENOTDIR (not (is_directory b)) ∷ refuse EBUSY used ∷ refuse ENOTEMPTY (not (is_empty (names_in b))) ∷ []
+
+-- the name leads from directory dir to n, which is no directory, or an empty one that isn't in use
+pub record MayGo (s : State) (dir : ℕ) (name : List ℕ) (n : ℕ) : Type 0 where
+  pub directory : IsDirectoryAt s.tree dir
+  pub leads : get name_cmp (names_in directory.node.body) name ≡ Some n
+  pub target : Node
+  pub there : node_at s.tree n ≡ Some target
+  pub empty : IsTrue (is_directory target.body) → names_in target.body ≡ []
+  pub unused : IsTrue (is_directory target.body) → IsFalse (is_in_use s.desks n)
+
+-- directory dir has all its names but this one
+pub record RemovesName (p : Place) (dir : ℕ) (name : List ℕ) (old new : TxnState) : Type 0 where
+  pub sound : IsSound p new
+  pub touches : Touches p dir 0 4 old new
+  pub used : bit new.sectors inode_bitmap dir ≡ bit old.sectors inode_bitmap dir
+  pub fields : KeepsFields (inode_at p old.sectors dir) (inode_at p new.sectors dir)
+  pub acls : KeepsAcls old.sectors new.sectors (inode_at p old.sectors dir) (inode_at p new.sectors dir)
+  pub names : (names : List (List ℕ × ℕ)) → HasNames old.sectors (inode_at p old.sectors dir) names
+      → HasNames new.sectors (inode_at p new.sectors dir) (without name_cmp names name)

@@ -1,0 +1,202 @@
+//! Directories: POSIX.1-2017, mkdir() and chdir().
+
+ghost use Rattle.std.specs.Prelude.{◌≡◌, ◌+◌, ◌/◌, ◌%◌, ◌<◌, ◌==◌, ℕ, cond, not, Some, Ok, option_copied, OnOk, IfErr};
+ghost use Rattle.fs_layout.specs.Images.{inode_at};
+ghost use Rattle.fs_model.specs.declared.call.Call.TheVariants.{Mkdir, Chdir};
+ghost use Rattle.fs_model.specs.Births.{born_directory, the_node};
+ghost use Rattle.fs_model.specs.Demands.{refuse, first_of};
+ghost use Rattle.fs_model.specs.Rules.{is_directory_kind};
+ghost use Rattle.fs_model.specs.Scenes.{number, must_be_new};
+ghost use Rattle.fs_model.specs.Trees.{Tree};
+ghost use Rattle.sector_txn.specs.Sectors.{SameStore, IsUnchanged};
+ghost use Rattle.bit_alloc.specs.Inodes.{IsSound};
+ghost use Rattle.bit_alloc.specs.Room.{HasSpare};
+ghost use Rattle.path_walk.specs.Answers.{refused_or, FailsToRead, IsAnswered};
+ghost use Rattle.path_walk.specs.HeldTrees.{HoldsTree, IsThere};
+ghost use Rattle.path_walk.specs.Performing.{IsReady, Performs};
+ghost use Rattle.file_calls.specs.Makings.{CanMake};
+ghost use Rattle.name_calls.specs.Entering.{enter_asked};
+ghost use Rattle.name_calls.specs.NewNodes.{IsMade, IsNewIn, MakesNode, directory_made};
+
+use crate::naming::{find_name, is_new, name_inode};
+use file_calls::{check_make, check_mode, default_of, find, inherited, inode_found, new_group};
+use fs_cred::{Cred, Errno, Refusal};
+use fs_layout::{Inode, Kind, Place};
+use fs_model::{Form, Found, Path, Reply};
+use inode_table::new_inode;
+use open_files::{Process, Procs};
+use path_walk::search;
+use posix_acl::Acl;
+use sector_txn::Sectors;
+use std::alloc::Global;
+
+// The bits of a new directory's mode above the permission bits: S_ISGID as the directory that names it, S_ISVTX as the mode.
+fn special_bits(directory: &Inode, mode: u16) -> u16
+    ensures { result ≡ cond (mode / 512 % 2 == 1) 512 0 + cond (directory.now.mode / 1024 % 2 == 1) 1024 0 }
+{
+    let sticky = if mode / 512 % 2 == 1 { 512 } else { 0 };
+    let set_group_id = if directory.mode / 1024 % 2 == 1 {
+        1024
+    } else {
+        0
+    };
+    sticky + set_group_id
+}
+
+// Makes a directory with this owner, group, ACLs and bits of the mode, and names it in directory dir. EIO: the disk has failed.
+fn place_directory<S: Sectors>(
+    s: &mut S,
+    place: Place,
+    dir: u32,
+    directory: Inode,
+    name: &[u8],
+    uid: u32,
+    gid: u32,
+    bits: u16,
+    access: &Acl,
+    default: Option<&Acl>,
+) -> Result<(), Refusal>
+    requires sound { IsSound place (S.state s.old) }
+    requires directory { directory ≡ inode_at place (S.state s.old).sectors dir }
+    requires may { (t : Tree) × CanMake place (S.state s.old).sectors t dir name.now }
+    requires bits { bits < 2048 }
+    requires spare { HasSpare place 47 (S.state s.old) }
+    ensures store { SameStore (S.state s.old) (S.state s.new) }
+    ensures made { OnOk result (MakesNode place dir name.now (directory_made uid gid bits access.now (option_copied default.entry))
+        (S.state s.old).sectors (S.state s.new).sectors) }
+    ensures err { IfErr result (FailsToRead (S.state s.old).disk (S.state s.new).disk) }
+{
+    let made = Inode {
+        kind: Kind::Directory,
+        mode: bits,
+        uid,
+        gid,
+        names: 1,
+        parent: dir,
+        ..Inode::FREE
+    };
+    let Ok(n) = new_inode(s, place, &made, access, default) else {
+        return Err(Refusal::Failed(Errno::EIO));
+    };
+    name_inode(s, place, dir, directory, name, n)?;
+    Ok(())
+}
+
+// Asks what is asked of the directory of the last lookup, and makes a directory of the last name in it.
+fn make_directory<S: Sectors>(
+    alloc: Global,
+    s: &mut S,
+    place: Place,
+    process: &Process,
+    found: &Found,
+    mode: u16,
+) -> Result<(), Refusal>
+    requires sound { IsSound place (S.state s.old) }
+    requires spare { HasSpare place 47 (S.state s.old) }
+    requires name { (t : Tree) × HoldsTree place (S.state s.old).sectors t × IsNewIn t found.now.dir found.now.name }
+    ensures store { SameStore (S.state s.old) (S.state s.new) }
+    ensures each { (t : Tree) → HoldsTree place (S.state s.old).sectors t → IsNewIn t found.now.dir found.now.name
+        → IsMade place (S.state s.old) (S.state s.new) process.now.cred t found.now
+        (born_directory process.now.cred process.now.umask mode (the_node t found.now.dir)) result }
+{
+    let cred = process.cred();
+    let step = found.step.saturating_sub(1);
+    let directory = check_make(alloc, s, place, cred, found.dir, step)?;
+    let inherits = default_of(alloc, s, place, &directory)?;
+    let default = inherits.as_ref();
+    let access = inherited(alloc, default, mode, process.umask())?;
+    let bits = special_bits(&directory, mode);
+    let gid = new_group(&directory, cred);
+    let name = found.name.bytes();
+    let uid = cred.uid();
+    place_directory(
+        s, place, found.dir, directory, name, uid, gid, bits, &access, default,
+    )?;
+    Ok(())
+}
+
+// Asks whether nothing was found where something is to be made.
+fn check_new(found: &Found) -> Result<(), Refusal>
+    ensures { result ≡ refused_or (must_be_new found.now) (Ok tt) }
+{
+    if !is_new(found) {
+        return Err(Refusal::Failed(Errno::EEXIST));
+    }
+    Ok(())
+}
+
+/// Makes a directory. EEXIST: there is something of the name, or the path doesn't end in a name. EINVAL: the mode has more bits
+/// than 07777.
+///
+/// It gets the default ACL and S_ISGID of the directory that names it, and S_ISVTX as the mode says.
+pub fn mkdir<S: Sectors>(
+    alloc: Global,
+    s: &mut S,
+    place: Place,
+    procs: &Procs,
+    pid: usize,
+    path: &Path,
+    mode: u16,
+) -> Result<Reply, Refusal>
+    requires ready { IsReady place (S.state s.old) procs.now }
+    ensures { Performs place pid (Mkdir path.now mode) (S.state s.old) (S.state s.new) procs.now procs.now result }
+{
+    let process = procs.process(pid)?;
+    check_mode(mode)?;
+    let found = find_name(alloc, s, place, process, path)?;
+    check_new(&found)?;
+    make_directory(alloc, s, place, process, &found, mode)?;
+    Ok(Reply::Done)
+}
+
+// Asks whether an inode is that of a directory.
+fn check_directory(inode: &Inode) -> Result<(), Refusal>
+    ensures { result ≡ refused_or (refuse Errno.ENOTDIR (not (is_directory_kind inode.now.kind))) (Ok tt) }
+{
+    if inode.kind != Kind::Directory {
+        return Err(Refusal::Failed(Errno::ENOTDIR));
+    }
+    Ok(())
+}
+
+// The directory that was found, which the caller may search. ENOENT: nothing was. ENOTDIR: it is none.
+fn directory_found<S: Sectors>(
+    alloc: Global,
+    s: &mut S,
+    place: Place,
+    cred: &Cred,
+    found: &Found,
+) -> Result<u32, Refusal>
+    requires sound { IsSound place (S.state s.old) }
+    requires there { (t : Tree) × HoldsTree place (S.state s.old).sectors t × ((n : ℕ) → found.now.ino ≡ Some n → IsThere t n) }
+    ensures each { (t : Tree) → HoldsTree place (S.state s.old).sectors t → ((n : ℕ) → found.now.ino ≡ Some n → IsThere t n)
+        → IsAnswered (S.state s.old).disk (S.state s.new).disk
+        (refused_or (first_of (enter_asked cred.now t found.now)) (Ok (number found.now))) result }
+    ensures same { IsUnchanged (S.state s.old) (S.state s.new) }
+{
+    let (n, inode) = inode_found(s, place, found)?;
+    check_directory(&inode)?;
+    search(alloc, s, place, cred, &inode, 1, found.step)?;
+    Ok(n)
+}
+
+/// Makes what a path leads to the current directory of the process. ENOENT: the path leads to nothing. ENOTDIR: it leads to
+/// what is no directory.
+pub fn chdir<S: Sectors>(
+    alloc: Global,
+    s: &mut S,
+    place: Place,
+    procs: &mut Procs,
+    pid: usize,
+    path: &Path,
+) -> Result<Reply, Refusal>
+    requires ready { IsReady place (S.state s.old) procs.old }
+    ensures performs { Performs place pid (Chdir path.now) (S.state s.old) (S.state s.new) procs.old procs.new result }
+    ensures same { IsUnchanged (S.state s.old) (S.state s.new) }
+{
+    let process = procs.process(pid)?;
+    let found = find(alloc, s, place, process, path, Form::Follow)?;
+    let n = directory_found(alloc, s, place, process.cred(), &found)?;
+    procs.set_cwd(pid, n);
+    Ok(Reply::Done)
+}

@@ -1,0 +1,79 @@
+//! What becomes of a node that loses a name: POSIX.1-2017, unlink().
+
+ghost use Rattle.std.specs.Prelude.{◌≡◌, ◌≢◌, ◌≤◌, ◌<◌, ◌^◌, OnOk, IfErr};
+ghost use Rattle.fs_layout.specs.Images.{inode_at};
+ghost use Rattle.sector_txn.specs.Sectors.{SameStore};
+ghost use Rattle.bit_alloc.specs.declared.bitmap.Bitmap.TheVariants.{Inodes};
+ghost use Rattle.bit_alloc.specs.Bitmaps.{IsNumber};
+ghost use Rattle.bit_alloc.specs.Inodes.{IsSound};
+ghost use Rattle.bit_alloc.specs.Room.{HasSpare};
+ghost use Rattle.fs_model.specs.Processes.{is_open};
+ghost use Rattle.path_walk.specs.Answers.{FailsToRead};
+ghost use Rattle.name_calls.specs.Dropping.{Counts, LosesName, stays_with};
+
+use file_calls::drop_node;
+use fs_cred::{Errno, Refusal};
+use fs_layout::{Inode, Kind, Place};
+use inode_table::save;
+use open_files::Procs;
+use sector_txn::Sectors;
+
+/// Gives inode n, which is used, another count of names. EIO: the disk has failed.
+pub(crate) fn set_names<S: Sectors>(
+    s: &mut S,
+    place: Place,
+    n: u32,
+    inode: &Inode,
+    names: u32,
+) -> Result<(), Refusal>
+    requires sound { IsSound place (S.state s.old) }
+    requires below { n < place.inodes }
+    requires inode { inode.now ≡ inode_at place (S.state s.old).sectors n }
+    requires used { inode.now.kind ≢ Kind.Free }
+    requires spare { HasSpare place 1 (S.state s.old) }
+    ensures store { SameStore (S.state s.old) (S.state s.new) }
+    ensures counts { OnOk result (Counts place n names (S.state s.old) (S.state s.new)) }
+    ensures fault { IfErr result (FailsToRead (S.state s.old).disk (S.state s.new).disk) }
+{
+    let counted = Inode { names, ..*inode };
+    match save(s, place, n, &counted) {
+        Ok(()) => Ok(()),
+        Err(_) => Err(Refusal::Failed(Errno::EIO)),
+    }
+}
+
+// Whether inode n, of this kind and with so many names left, stays.
+fn stays(procs: &Procs, n: u32, kind: Kind, names: u32) -> bool
+    ensures { result ≡ stays_with kind names (is_open procs.now n) }
+{
+    names != 0 || kind == Kind::File && procs.is_open(n)
+}
+
+/// Takes one name from the count of inode n; where that was its last, and it is no file that is open, it is dropped. EIO:
+/// the disk has failed.
+pub(crate) fn lose_name<S: Sectors>(
+    s: &mut S,
+    place: Place,
+    procs: &Procs,
+    n: u32,
+    inode: &Inode,
+) -> Result<(), Refusal>
+    requires sound { IsSound place (S.state s.old) }
+    requires number { IsNumber place Inodes n }
+    requires inode { inode.now ≡ inode_at place (S.state s.old).sectors n }
+    requires used { inode.now.kind ≢ Kind.Free }
+    requires named { 1 ≤ inode.now.names }
+    requires spare { HasSpare place 1 (S.state s.old) }
+    ensures store { SameStore (S.state s.old) (S.state s.new) }
+    ensures loses { OnOk result (LosesName place n (is_open procs.now n) (S.state s.old) (S.state s.new)) }
+    ensures fault { IfErr result (FailsToRead (S.state s.old).disk (S.state s.new).disk) }
+{
+    let names = inode.names - 1;
+    let stays = stays(procs, n, inode.kind, names);
+    if !stays {
+        drop_node(s, place, n)?;
+        return Ok(());
+    }
+    set_names(s, place, n, inode, names)?;
+    Ok(())
+}

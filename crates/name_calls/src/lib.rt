@@ -1,0 +1,24 @@
+//! Calls on names: on directories and what they name.
+//!
+//! Each call is made in a transaction, by the process of a number, and is one step of the abstract machine: it answers the
+//! first refusal of its demands, or has its effect on tree and process. At `Err` the caller drops the transaction's changes;
+//! the processes are as they were. ENOMEM and EIO may stand in place of any answer that comes after the checks of the arguments
+//! and of the path.
+#![tactic(auto)]
+
+mod directories;
+mod dropping;
+mod linking;
+mod links;
+mod moving;
+mod naming;
+mod removal;
+mod renaming;
+mod replacing;
+mod ways;
+
+pub use directories::{chdir, mkdir};
+pub use linking::link;
+pub use links::{readlink, symlink};
+pub use removal::{rmdir, unlink};
+pub use renaming::rename;

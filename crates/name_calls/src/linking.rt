@@ -1,0 +1,185 @@
+//! More names for what is there: POSIX.1-2017, link().
+
+ghost use Rattle.std.specs.Prelude.{◌≡◌, ◌-◌, ◌<◌, nat_le, ℕ, [], ◌∷◌, not, ◌&&◌, Some, Ok, OnOk, IfErr};
+ghost use Rattle.fs_layout.specs.Images.{inode_at};
+ghost use Rattle.sector_txn.specs.Sectors.{SameStore, IsUnchanged};
+ghost use Rattle.bit_alloc.specs.Inodes.{IsSound};
+ghost use Rattle.bit_alloc.specs.Room.{HasSpare};
+ghost use Rattle.fs_model.specs.declared.call.Call.TheVariants.{Link};
+ghost use Rattle.fs_model.specs.Changes.{AddName, changed, swept};
+ghost use Rattle.fs_model.specs.Demands.{refuse, first_of};
+ghost use Rattle.fs_model.specs.Limits.{names_limit};
+ghost use Rattle.fs_model.specs.NameCalls.{link_demands};
+ghost use Rattle.fs_model.specs.Processes.{Desks};
+ghost use Rattle.fs_model.specs.Rules.{is_directory_kind};
+ghost use Rattle.fs_model.specs.Scenes.{number, is_special};
+ghost use Rattle.fs_model.specs.Stands.{HoldsAll, placed};
+ghost use Rattle.fs_model.specs.States.{State};
+ghost use Rattle.fs_model.specs.Trees.{Tree, IsDirectoryAt};
+ghost use Rattle.path_walk.specs.Answers.{refused_or, FailsToRead, IsAnswered};
+ghost use Rattle.path_walk.specs.HeldTrees.{HoldsTree, IsThere};
+ghost use Rattle.path_walk.specs.Performing.{IsReady, IsStateOf, Performs};
+ghost use Rattle.name_calls.specs.Linking.{source_asked, place_asked, MayLink};
+ghost use Rattle.name_calls.specs.TwoPaths.{scene_with, FindsBoth};
+
+use crate::dropping::set_names;
+use crate::links::check_link_name;
+use crate::naming::{ask_directory, ask_for_name, find_names, name_inode};
+use crate::removal::check_slash;
+use file_calls::inode_found;
+use fs_cred::{Cred, Errno, Refusal};
+use fs_layout::{Inode, Kind, Place};
+use fs_model::{Found, Last, Path, Reply};
+use open_files::{Process, Procs};
+use sector_txn::Sectors;
+use std::alloc::Global;
+
+// The most names of a file or a symbolic link, as in limits.h.
+const LINK_MAX: u32 = 500;
+
+// Asks whether a path ends in a name.
+fn check_last(found: &Found) -> Result<(), Refusal>
+    ensures { result ≡ refused_or (first_of (refuse Errno.EPERM (is_special found.now) ∷ [])) (Ok tt) }
+{
+    match found.last {
+        Last::Name => Ok(()),
+        Last::Dot | Last::DotDot | Last::Top => Err(Refusal::Failed(Errno::EPERM)),
+    }
+}
+
+// Asks whether what was found is no directory, and wasn't named as one.
+fn check_kind(found: &Found, kind: Kind) -> Result<(), Refusal>
+    ensures { result ≡ refused_or (first_of
+        (refuse Errno.ENOTDIR (found.now.slash && not (is_directory_kind kind)) ∷ refuse Errno.EPERM (is_directory_kind kind) ∷ [])) (Ok tt) }
+{
+    check_slash(found, kind)?;
+    if kind == Kind::Directory {
+        return Err(Refusal::Failed(Errno::EPERM));
+    }
+    Ok(())
+}
+
+// Asks all that is asked of what is to get the name, and answers its number and its inode.
+fn check_source<S: Sectors>(s: &mut S, place: Place, found: &Found) -> Result<(u32, Inode), Refusal>
+    requires sound { IsSound place (S.state s.old) }
+    requires there { (t : Tree) × HoldsTree place (S.state s.old).sectors t × ((n : ℕ) → found.now.ino ≡ Some n → IsThere t n) }
+    ensures each { (t : Tree) → HoldsTree place (S.state s.old).sectors t → ((n : ℕ) → found.now.ino ≡ Some n → IsThere t n)
+        → IsAnswered (S.state s.old).disk (S.state s.new).disk
+        (refused_or (first_of (source_asked t found.now)) (Ok (number found.now, inode_at place (S.state s.old).sectors (number found.now)))) result }
+    ensures same { IsUnchanged (S.state s.old) (S.state s.new) }
+{
+    check_last(found)?;
+    let (n, inode) = inode_found(s, place, found)?;
+    check_kind(found, inode.kind)?;
+    Ok((n, inode))
+}
+
+// Asks whether what has so many names may have one more.
+fn check_count(names: u32) -> Result<(), Refusal>
+    ensures { result ≡ refused_or (refuse Errno.EMLINK (nat_le names_limit names)) (Ok tt) }
+{
+    if names >= LINK_MAX {
+        return Err(Refusal::Failed(Errno::EMLINK));
+    }
+    Ok(())
+}
+
+// Asks all that is asked of the directory that names what has so many names, and answers its inode.
+fn check_place<S: Sectors>(
+    alloc: Global,
+    s: &mut S,
+    place: Place,
+    cred: &Cred,
+    found: &Found,
+    names: u32,
+) -> Result<Inode, Refusal>
+    requires sound { IsSound place (S.state s.old) }
+    requires there { (t : Tree) × HoldsTree place (S.state s.old).sectors t × IsDirectoryAt t found.now.dir }
+    ensures each { (t : Tree) → HoldsTree place (S.state s.old).sectors t → IsDirectoryAt t found.now.dir
+        → IsAnswered (S.state s.old).disk (S.state s.new).disk
+        (refused_or (first_of (place_asked place (S.state s.old).sectors cred.now t found.now.dir (found.now.step - 1) names))
+        (Ok (inode_at place (S.state s.old).sectors found.now.dir))) result }
+    ensures same { IsUnchanged (S.state s.old) (S.state s.new) }
+{
+    let step = found.step.saturating_sub(1);
+    let directory = ask_directory(alloc, s, place, cred, found.dir, 2, step)?;
+    check_count(names)?;
+    ask_for_name(s, place, &directory)?;
+    Ok(directory)
+}
+
+// Asks all that link asks of what was found, and answers number and inode of what is to get the name, and the directory's inode.
+fn check_link<S: Sectors>(
+    alloc: Global,
+    s: &mut S,
+    place: Place,
+    process: &Process,
+    first: &Found,
+    second: &Found,
+) -> Result<(u32, Inode, Inode), Refusal>
+    requires sound { IsSound place (S.state s.old) }
+    requires found { (desks : Desks) × (st : State) × FindsBoth place (S.state s.old).sectors desks process.now first.now second.now st }
+    ensures each { (desks : Desks) (st : State) → FindsBoth place (S.state s.old).sectors desks process.now first.now second.now st
+        → IsAnswered (S.state s.old).disk (S.state s.new).disk
+        (refused_or (first_of (link_demands (scene_with st process.now first.now second.now)))
+        (Ok (number first.now, inode_at place (S.state s.old).sectors (number first.now), inode_at place (S.state s.old).sectors second.now.dir))) result }
+    ensures same { IsUnchanged (S.state s.old) (S.state s.new) }
+{
+    let (n, inode) = check_source(s, place, first)?;
+    check_link_name(second)?;
+    let directory = check_place(alloc, s, place, process.cred(), second, inode.names)?;
+    Ok((n, inode, directory))
+}
+
+// Names inode n, which is no directory, once more, in directory dir. EIO: the disk has failed.
+fn add_name<S: Sectors>(
+    s: &mut S,
+    place: Place,
+    dir: u32,
+    directory: Inode,
+    name: &[u8],
+    n: u32,
+    inode: &Inode,
+) -> Result<(), Refusal>
+    requires sound { IsSound place (S.state s.old) }
+    requires inode { inode.now ≡ inode_at place (S.state s.old).sectors n }
+    requires few { inode.now.names < names_limit }
+    requires directory { directory ≡ inode_at place (S.state s.old).sectors dir }
+    requires may { (desks : Desks) × (st : State) × IsStateOf place (S.state s.old).sectors desks st
+        × MayLink place (S.state s.old).sectors st.tree dir name.now n }
+    requires spare { HasSpare place 47 (S.state s.old) }
+    ensures store { SameStore (S.state s.old) (S.state s.new) }
+    ensures superblock { OnOk result ((S.state s.new).sectors 0 ≡ (S.state s.old).sectors 0) }
+    ensures added { OnOk result ((desks : Desks) (st : State) → IsStateOf place (S.state s.old).sectors desks st
+        → MayLink place (S.state s.old).sectors st.tree dir name.now n
+        → HoldsAll place (S.state s.new).sectors (placed (swept (changed st.tree (AddName dir name.now n)) desks))) }
+    ensures fault { IfErr result (FailsToRead (S.state s.old).disk (S.state s.new).disk) }
+{
+    set_names(s, place, n, inode, inode.names + 1)?;
+    name_inode(s, place, dir, directory, name, n)?;
+    Ok(())
+}
+
+/// Gives what the path `old` leads to the name that the path `new` ends in, too: a file, or a symbolic link itself.
+///
+/// EPERM: `old` leads to a directory, or ends in no name. ENOENT: it leads to nothing, or `new` ends in a slash. ENOTDIR: `old`
+/// ends in a slash. EEXIST: there is something of the new name, or `new` ends in no name. EMLINK: there are 500 names already.
+pub fn link<S: Sectors>(
+    alloc: Global,
+    s: &mut S,
+    place: Place,
+    procs: &Procs,
+    pid: usize,
+    old: &Path,
+    new: &Path,
+) -> Result<Reply, Refusal>
+    requires ready { IsReady place (S.state s.old) procs.now }
+    ensures { Performs place pid (Link old.now new.now) (S.state s.old) (S.state s.new) procs.now procs.now result }
+{
+    let process = procs.process(pid)?;
+    let (first, second) = find_names(alloc, s, place, process, old, new)?;
+    let (n, inode, directory) = check_link(alloc, s, place, process, &first, &second)?;
+    let name = second.name.bytes();
+    add_name(s, place, second.dir, directory, name, n, &inode)?;
+    Ok(Reply::Done)
+}

@@ -1,0 +1,169 @@
+//! Symbolic links: POSIX.1-2017, symlink() and readlink().
+
+ghost use Rattle.std.specs.Prelude.{◌≡◌, not, Ok, OnOk, IfErr};
+ghost use Rattle.fs_layout.specs.Bytes.{IsBytes};
+ghost use Rattle.fs_layout.specs.Images.{inode_at};
+ghost use Rattle.fs_model.specs.declared.call.Call.TheVariants.{Symlink, Readlink};
+ghost use Rattle.fs_model.specs.Births.{born_link, the_node};
+ghost use Rattle.fs_model.specs.Demands.{refuse, first_of};
+ghost use Rattle.fs_model.specs.NameCalls.{symlink_arguments};
+ghost use Rattle.fs_model.specs.Summaries.{is_link_kind};
+ghost use Rattle.fs_model.specs.Trees.{Tree, IsTarget};
+ghost use Rattle.sector_txn.specs.Sectors.{SameStore, IsUnchanged};
+ghost use Rattle.bit_alloc.specs.Inodes.{IsSound};
+ghost use Rattle.bit_alloc.specs.Room.{HasSpare};
+ghost use Rattle.path_walk.specs.Answers.{refused_or, FailsToRead};
+ghost use Rattle.path_walk.specs.HeldTrees.{HoldsTree};
+ghost use Rattle.path_walk.specs.Performing.{IsReady, Performs};
+ghost use Rattle.file_calls.specs.Makings.{CanMake};
+ghost use Rattle.name_calls.specs.NewNodes.{IsMade, IsNewIn, MakesNode, link_made, link_name_asked};
+
+use crate::naming::{find_name, is_new, name_inode};
+use block_map::new_link;
+use file_calls::{check_make, find, inode_found, new_group};
+use fs_cred::{Cred, Errno, Refusal};
+use fs_layout::{Inode, Kind, MAX_LINK_SIZE, Place};
+use fs_model::{Form, Found, Path, Reply};
+use open_files::{Process, Procs};
+use path_walk::read_target;
+use sector_txn::Sectors;
+use std::alloc::Global;
+
+// Asks whether these bytes may be a target: at least one, none of them zero, and no more than 512.
+fn check_target(target: &Path) -> Result<(), Refusal>
+    ensures answer { result ≡ refused_or (first_of (symlink_arguments target.now)) (Ok tt) }
+    ensures bytes { IsBytes target.now }
+{
+    let bytes = target.bytes();
+    if bytes.is_empty() {
+        return Err(Refusal::Failed(Errno::ENOENT));
+    }
+    if bytes.contains(&0) {
+        return Err(Refusal::Failed(Errno::EINVAL));
+    }
+    if bytes.len() as u64 > MAX_LINK_SIZE {
+        return Err(Refusal::Failed(Errno::ENAMETOOLONG));
+    }
+    Ok(())
+}
+
+/// Asks whether nothing was found where a link is to be made, and whether its name has no slash behind it.
+pub(crate) fn check_link_name(found: &Found) -> Result<(), Refusal>
+    ensures { result ≡ refused_or (first_of (link_name_asked found.now)) (Ok tt) }
+{
+    if !is_new(found) {
+        return Err(Refusal::Failed(Errno::EEXIST));
+    }
+    if found.slash {
+        return Err(Refusal::Failed(Errno::ENOENT));
+    }
+    Ok(())
+}
+
+// Makes a link with this target, and names it in directory dir. EIO: the disk has failed.
+fn place_link<S: Sectors>(
+    s: &mut S,
+    place: Place,
+    dir: u32,
+    directory: Inode,
+    name: &[u8],
+    cred: &Cred,
+    target: &[u8],
+) -> Result<(), Refusal>
+    requires sound { IsSound place (S.state s.old) }
+    requires directory { directory ≡ inode_at place (S.state s.old).sectors dir }
+    requires may { (t : Tree) × CanMake place (S.state s.old).sectors t dir name.now }
+    requires target { IsTarget target.now }
+    requires spare { HasSpare place 47 (S.state s.old) }
+    ensures store { SameStore (S.state s.old) (S.state s.new) }
+    ensures made { OnOk result (MakesNode place dir name.now (link_made directory cred.now target.now)
+        (S.state s.old).sectors (S.state s.new).sectors) }
+    ensures err { IfErr result (FailsToRead (S.state s.old).disk (S.state s.new).disk) }
+{
+    let uid = cred.uid();
+    let gid = new_group(&directory, cred);
+    let Ok(n) = new_link(s, place, uid, gid, target) else {
+        return Err(Refusal::Failed(Errno::EIO));
+    };
+    name_inode(s, place, dir, directory, name, n)?;
+    Ok(())
+}
+
+// Asks what is asked of the directory of the last lookup, and makes a link of the last name in it.
+fn make_link<S: Sectors>(
+    alloc: Global,
+    s: &mut S,
+    place: Place,
+    process: &Process,
+    found: &Found,
+    target: &Path,
+) -> Result<(), Refusal>
+    requires sound { IsSound place (S.state s.old) }
+    requires spare { HasSpare place 47 (S.state s.old) }
+    requires name { (t : Tree) × HoldsTree place (S.state s.old).sectors t × IsNewIn t found.now.dir found.now.name }
+    requires target { IsTarget target.now }
+    ensures store { SameStore (S.state s.old) (S.state s.new) }
+    ensures each { (t : Tree) → HoldsTree place (S.state s.old).sectors t → IsNewIn t found.now.dir found.now.name
+        → IsMade place (S.state s.old) (S.state s.new) process.now.cred t found.now (born_link process.now.cred target.now (the_node t found.now.dir)) result }
+{
+    let cred = process.cred();
+    let step = found.step.saturating_sub(1);
+    let directory = check_make(alloc, s, place, cred, found.dir, step)?;
+    let name = found.name.bytes();
+    let bytes = target.bytes();
+    place_link(s, place, found.dir, directory, name, cred, bytes)?;
+    Ok(())
+}
+
+/// Makes a symbolic link. ENOENT: the target is empty, or the path ends in a slash. EINVAL: the target has a zero byte.
+/// ENAMETOOLONG: it has more than 512 bytes. EEXIST: there is something of the name, or the path doesn't end in a name.
+pub fn symlink<S: Sectors>(
+    alloc: Global,
+    s: &mut S,
+    place: Place,
+    procs: &Procs,
+    pid: usize,
+    target: &Path,
+    path: &Path,
+) -> Result<Reply, Refusal>
+    requires ready { IsReady place (S.state s.old) procs.now }
+    ensures { Performs place pid (Symlink target.now path.now) (S.state s.old) (S.state s.new) procs.now procs.now result }
+{
+    let process = procs.process(pid)?;
+    check_target(target)?;
+    let found = find_name(alloc, s, place, process, path)?;
+    check_link_name(&found)?;
+    make_link(alloc, s, place, process, &found, target)?;
+    Ok(Reply::Done)
+}
+
+// Asks whether an inode is that of a symbolic link.
+fn check_link(inode: &Inode) -> Result<(), Refusal>
+    ensures { result ≡ refused_or (refuse Errno.EINVAL (not (is_link_kind inode.now.kind))) (Ok tt) }
+{
+    if inode.kind != Kind::Link {
+        return Err(Refusal::Failed(Errno::EINVAL));
+    }
+    Ok(())
+}
+
+/// Answers the target of the symbolic link that a path leads to. ENOENT: the path leads to nothing. EINVAL: to no link.
+pub fn readlink<S: Sectors>(
+    alloc: Global,
+    s: &mut S,
+    place: Place,
+    procs: &Procs,
+    pid: usize,
+    path: &Path,
+) -> Result<Reply, Refusal>
+    requires ready { IsReady place (S.state s.old) procs.now }
+    ensures performs { Performs place pid (Readlink path.now) (S.state s.old) (S.state s.new) procs.now procs.now result }
+    ensures same { IsUnchanged (S.state s.old) (S.state s.new) }
+{
+    let process = procs.process(pid)?;
+    let found = find(alloc, s, place, process, path, Form::NoFollow)?;
+    let (_, inode) = inode_found(s, place, &found)?;
+    check_link(&inode)?;
+    let target = read_target(alloc, s, place, &inode)?;
+    Ok(Reply::Target(target))
+}

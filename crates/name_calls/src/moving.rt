@@ -1,0 +1,227 @@
+//! Moving names: what rename() changes.
+
+ghost use Rattle.std.specs.Prelude.{◌≡◌, ◌≢◌, ◌<◌, ℕ, List, None, Some, OnOk, IfErr};
+ghost use Rattle.fs_layout.specs.Directories.{IsName, HasNames};
+ghost use Rattle.fs_layout.specs.Images.{inode_at};
+ghost use Rattle.fs_layout.specs.Maps.{name_cmp, get, with_entry, without};
+ghost use Rattle.sector_txn.specs.Sectors.{SameStore};
+ghost use Rattle.bit_alloc.specs.Inodes.{IsSound};
+ghost use Rattle.bit_alloc.specs.Room.{HasSpare, TakesSpare};
+ghost use Rattle.fs_model.specs.Changes.{MoveName, changed, swept};
+ghost use Rattle.fs_model.specs.Processes.{Desks};
+ghost use Rattle.fs_model.specs.Stands.{HoldsAll, placed};
+ghost use Rattle.fs_model.specs.States.{State};
+ghost use Rattle.path_walk.specs.Answers.{FailsToRead};
+ghost use Rattle.path_walk.specs.Performing.{IsStateOf};
+ghost use Rattle.name_calls.specs.Moving.{MayMove, MayLead, ChangesNames, MovesEntry, ParentFollows};
+ghost use Rattle.name_calls.specs.NewNodes.{MayBeNamed};
+ghost use Rattle.name_calls.specs.Renaming.{inode_there};
+
+use crate::dropping::lose_name;
+use crate::naming::name_inode;
+use crate::removal::remove_name;
+use dir_core::{rename, replace};
+use fs_cred::{Errno, Refusal};
+use fs_layout::{Inode, Kind, Place};
+use fs_model::Found;
+use inode_table::save;
+use open_files::Procs;
+use path_walk::load_inode;
+use sector_txn::Sectors;
+
+// Gives what a name of directory dir leads to another name there, which leads to nothing. EIO: the disk has failed.
+fn rename_here<S: Sectors>(
+    s: &mut S,
+    place: Place,
+    dir: u32,
+    name: &[u8],
+    to_name: &[u8],
+) -> Result<(), Refusal>
+    requires sound { IsSound place (S.state s.old) }
+    requires below { dir < place.inodes }
+    requires named { (names : List (List ℕ × ℕ)) × HasNames (S.state s.old).sectors (inode_at place (S.state s.old).sectors dir) names
+        × (get name_cmp names name.now ≢ None) × (get name_cmp names to_name.now ≡ None) }
+    requires is_name { IsName to_name.now }
+    requires spare { HasSpare place 1 (S.state s.old) }
+    ensures store { SameStore (S.state s.old) (S.state s.new) }
+    ensures sound { OnOk result (IsSound place (S.state s.new)) }
+    ensures taken { OnOk result (TakesSpare place 1 (S.state s.old) (S.state s.new)) }
+    ensures renames { OnOk result ((names : List (List ℕ × ℕ)) (n : ℕ)
+        → HasNames (S.state s.old).sectors (inode_at place (S.state s.old).sectors dir) names
+        → get name_cmp names name.now ≡ Some n
+        → ChangesNames place dir (λ all. with_entry name_cmp (without name_cmp all name.now) to_name.now n) (S.state s.old).sectors (S.state s.new).sectors) }
+    ensures fault { IfErr result (FailsToRead (S.state s.old).disk (S.state s.new).disk) }
+{
+    let directory = load_inode(s, place, dir)?;
+    match rename(s, place, dir, &directory, name, to_name) {
+        Ok(()) => Ok(()),
+        Err(_) => Err(Refusal::Failed(Errno::EIO)),
+    }
+}
+
+// Leads a name of directory dir to inode n. EIO: the disk has failed.
+fn lead_name<S: Sectors>(
+    s: &mut S,
+    place: Place,
+    dir: u32,
+    name: &[u8],
+    n: u32,
+) -> Result<(), Refusal>
+    requires sound { IsSound place (S.state s.old) }
+    requires below { dir < place.inodes }
+    requires named { (names : List (List ℕ × ℕ)) × HasNames (S.state s.old).sectors (inode_at place (S.state s.old).sectors dir) names
+        × (get name_cmp names name.now ≢ None) }
+    requires spare { HasSpare place 1 (S.state s.old) }
+    ensures store { SameStore (S.state s.old) (S.state s.new) }
+    ensures sound { OnOk result (IsSound place (S.state s.new)) }
+    ensures taken { OnOk result (TakesSpare place 1 (S.state s.old) (S.state s.new)) }
+    ensures leads { OnOk result (ChangesNames place dir (λ names. with_entry name_cmp names name.now n)
+        (S.state s.old).sectors (S.state s.new).sectors) }
+    ensures fault { IfErr result (FailsToRead (S.state s.old).disk (S.state s.new).disk) }
+{
+    let directory = load_inode(s, place, dir)?;
+    match replace(s, place, dir, &directory, name, n) {
+        Ok(()) => Ok(()),
+        Err(_) => Err(Refusal::Failed(Errno::EIO)),
+    }
+}
+
+// Gives inode n another name in directory dir, where there is room for it. EIO: the disk has failed.
+fn add_entry<S: Sectors>(
+    s: &mut S,
+    place: Place,
+    dir: u32,
+    name: &[u8],
+    n: u32,
+) -> Result<(), Refusal>
+    requires sound { IsSound place (S.state s.old) }
+    requires room { MayBeNamed place (S.state s.old).sectors dir name.now }
+    requires spare { HasSpare place 3 (S.state s.old) }
+    ensures store { SameStore (S.state s.old) (S.state s.new) }
+    ensures sound { OnOk result (IsSound place (S.state s.new)) }
+    ensures taken { OnOk result (TakesSpare place 3 (S.state s.old) (S.state s.new)) }
+    ensures leads { OnOk result (ChangesNames place dir (λ names. with_entry name_cmp names name.now n)
+        (S.state s.old).sectors (S.state s.new).sectors) }
+    ensures fault { IfErr result (FailsToRead (S.state s.old).disk (S.state s.new).disk) }
+{
+    let directory = load_inode(s, place, dir)?;
+    name_inode(s, place, dir, directory, name, n)?;
+    Ok(())
+}
+
+// Leads the second name to inode n, whether it led to something or to nothing. EIO: the disk has failed.
+fn give_name<S: Sectors>(s: &mut S, place: Place, second: &Found, n: u32) -> Result<(), Refusal>
+    requires sound { IsSound place (S.state s.old) }
+    requires may { MayLead place (S.state s.old).sectors second.now.dir second.now.name second.now.ino }
+    requires spare { HasSpare place 3 (S.state s.old) }
+    ensures store { SameStore (S.state s.old) (S.state s.new) }
+    ensures sound { OnOk result (IsSound place (S.state s.new)) }
+    ensures taken { OnOk result (TakesSpare place 3 (S.state s.old) (S.state s.new)) }
+    ensures leads { OnOk result (ChangesNames place second.now.dir (λ names. with_entry name_cmp names second.now.name n)
+        (S.state s.old).sectors (S.state s.new).sectors) }
+    ensures fault { IfErr result (FailsToRead (S.state s.old).disk (S.state s.new).disk) }
+{
+    let name = second.name.bytes();
+    match second.ino {
+        Some(_) => lead_name(s, place, second.dir, name, n)?,
+        None => add_entry(s, place, second.dir, name, n)?,
+    }
+    Ok(())
+}
+
+// Leads the second name to what the first leads to, inode n, and the first to nothing. EIO: the disk has failed.
+fn move_entry<S: Sectors>(
+    s: &mut S,
+    place: Place,
+    first: &Found,
+    second: &Found,
+    n: u32,
+) -> Result<(), Refusal>
+    requires sound { IsSound place (S.state s.old) }
+    requires may { (desks : Desks) × (st : State) × IsStateOf place (S.state s.old).sectors desks st
+        × MayMove place (S.state s.old).sectors st first.now.dir first.now.name n second.now.dir second.now.name second.now.ino }
+    requires spare { HasSpare place 7 (S.state s.old) }
+    ensures store { SameStore (S.state s.old) (S.state s.new) }
+    ensures sound { OnOk result (IsSound place (S.state s.new)) }
+    ensures taken { OnOk result (TakesSpare place 7 (S.state s.old) (S.state s.new)) }
+    ensures moves { OnOk result (MovesEntry place first.now.dir first.now.name n second.now.dir second.now.name second.now.ino
+        (S.state s.old).sectors (S.state s.new).sectors) }
+    ensures fault { IfErr result (FailsToRead (S.state s.old).disk (S.state s.new).disk) }
+{
+    let name = first.name.bytes();
+    if first.dir == second.dir && second.ino.is_none() {
+        let to_name = second.name.bytes();
+        rename_here(s, place, first.dir, name, to_name)?;
+        return Ok(());
+    }
+    remove_name(s, place, first.dir, name)?;
+    give_name(s, place, second, n)?;
+    Ok(())
+}
+
+// Gives inode n, which goes from directory dir to to_dir, its parent, where it is a directory. EIO: the disk has failed.
+fn follow<S: Sectors>(
+    s: &mut S,
+    place: Place,
+    n: u32,
+    inode: &Inode,
+    dir: u32,
+    to_dir: u32,
+) -> Result<(), Refusal>
+    requires sound { IsSound place (S.state s.old) }
+    requires below { n < place.inodes }
+    requires inode { inode.now ≡ inode_at place (S.state s.old).sectors n }
+    requires used { inode.now.kind ≢ Kind.Free }
+    requires spare { HasSpare place 1 (S.state s.old) }
+    ensures store { SameStore (S.state s.old) (S.state s.new) }
+    ensures sound { OnOk result (IsSound place (S.state s.new)) }
+    ensures taken { OnOk result (TakesSpare place 1 (S.state s.old) (S.state s.new)) }
+    ensures follows { OnOk result (ParentFollows place n dir to_dir (S.state s.old).sectors (S.state s.new).sectors) }
+    ensures fault { IfErr result (FailsToRead (S.state s.old).disk (S.state s.new).disk) }
+{
+    if inode.kind != Kind::Directory || dir == to_dir {
+        return Ok(());
+    }
+    let moved = Inode {
+        parent: to_dir,
+        ..*inode
+    };
+    match save(s, place, n, &moved) {
+        Ok(()) => Ok(()),
+        Err(_) => Err(Refusal::Failed(Errno::EIO)),
+    }
+}
+
+/// Gives what the first name leads to the second name instead, and takes that name from what it led to, which goes with its
+/// last name unless it is open. A directory that goes to another one gets its parent. EIO: the disk has failed.
+pub(crate) fn move_name<S: Sectors>(
+    s: &mut S,
+    place: Place,
+    procs: &Procs,
+    first: &Found,
+    second: &Found,
+    n: u32,
+    inode: &Inode,
+    replaced: &Option<(u32, Inode)>,
+) -> Result<(), Refusal>
+    requires sound { IsSound place (S.state s.old) }
+    requires inode { inode.now ≡ inode_at place (S.state s.old).sectors n }
+    requires replaced { replaced.now ≡ inode_there place (S.state s.old).sectors second.now.ino }
+    requires may { (st : State) × IsStateOf place (S.state s.old).sectors procs.now st
+        × MayMove place (S.state s.old).sectors st first.now.dir first.now.name n second.now.dir second.now.name second.now.ino }
+    requires spare { HasSpare place 47 (S.state s.old) }
+    ensures store { SameStore (S.state s.old) (S.state s.new) }
+    ensures superblock { OnOk result ((S.state s.new).sectors 0 ≡ (S.state s.old).sectors 0) }
+    ensures moved { OnOk result ((st : State) → IsStateOf place (S.state s.old).sectors procs.now st
+        → MayMove place (S.state s.old).sectors st first.now.dir first.now.name n second.now.dir second.now.name second.now.ino
+        → HoldsAll place (S.state s.new).sectors
+        (placed (swept (changed st.tree (MoveName first.now.dir first.now.name second.now.dir second.now.name)) procs.now))) }
+    ensures fault { IfErr result (FailsToRead (S.state s.old).disk (S.state s.new).disk) }
+{
+    move_entry(s, place, first, second, n)?;
+    follow(s, place, n, inode, first.dir, second.dir)?;
+    if let Some((m, inode)) = replaced {
+        lose_name(s, place, procs, *m, inode)?;
+    }
+    Ok(())
+}

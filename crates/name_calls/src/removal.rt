@@ -1,0 +1,291 @@
+//! Removing names: POSIX.1-2017, unlink() and rmdir().
+
+ghost use Rattle.std.specs.Prelude.{◌≡◌, ◌≢◌, ◌<◌, ◌&&◌, ℕ, List, [], ◌∷◌, not, Ok, OnOk, IfOk, IfErr};
+ghost use Rattle.fs_layout.specs.Bytes.{SectorMap, IsBytes};
+ghost use Rattle.fs_layout.specs.Directories.{HasNames};
+ghost use Rattle.fs_layout.specs.Images.{inode_at};
+ghost use Rattle.fs_layout.specs.Maps.{name_cmp, get};
+ghost use Rattle.sector_txn.specs.Sectors.{SameStore, IsUnchanged};
+ghost use Rattle.bit_alloc.specs.Inodes.{IsSound};
+ghost use Rattle.bit_alloc.specs.Room.{HasSpare};
+ghost use Rattle.fs_model.specs.declared.call.Call.TheVariants.{Unlink, Rmdir};
+ghost use Rattle.fs_model.specs.Changes.{TakeName, changed, swept};
+ghost use Rattle.fs_model.specs.Demands.{refuse, first_of};
+ghost use Rattle.fs_model.specs.NameCalls.{unlink_demands, rmdir_demands};
+ghost use Rattle.fs_model.specs.Nodes.{Body};
+ghost use Rattle.fs_model.specs.Parts.{path_checks};
+ghost use Rattle.fs_model.specs.Processes.{Desks, is_in_use};
+ghost use Rattle.fs_model.specs.Rules.{is_directory_kind};
+ghost use Rattle.fs_model.specs.Scenes.{number, is_special};
+ghost use Rattle.fs_model.specs.Stands.{HoldsAll, placed};
+ghost use Rattle.fs_model.specs.States.{State};
+ghost use Rattle.fs_model.specs.StoredNodes.{HoldsBody};
+ghost use Rattle.fs_model.specs.Trees.{Tree};
+ghost use Rattle.path_walk.specs.Answers.{refused_or, FailsToRead, IsAnswered};
+ghost use Rattle.path_walk.specs.HeldTrees.{HoldsTree, IsThere};
+ghost use Rattle.path_walk.specs.Paths.{scene_at};
+ghost use Rattle.path_walk.specs.Performing.{IsReady, IsStateOf, Performs};
+ghost use Rattle.path_walk.specs.SoundInodes.{HasSoundInodes};
+ghost use Rattle.path_walk.specs.Walked.{walk_of};
+ghost use Rattle.name_calls.specs.Removing.{FindsName, IsNamedThere, removal_asked, sticky_asked, last_asked, directory_asked, MayGo, RemovesName};
+
+use crate::dropping::lose_name;
+use crate::naming::find_name;
+use dir_core::{is_empty, remove};
+use file_calls::{find, inode_found};
+use fs_cred::{Cred, Denial, Errno, Need, Refusal, Rule, sticky_allows};
+use fs_layout::{Inode, Kind, Place};
+use fs_model::{Form, Found, Last, Path, Reply};
+use open_files::{Process, Procs};
+use path_walk::{load_inode, permitted};
+use posix_acl::Perms;
+use sector_txn::Sectors;
+use std::alloc::Global;
+
+/// What adding, removing and renaming a name takes of a directory.
+pub(crate) const WRITE_AND_SEARCH: Perms = Perms {
+    read: false,
+    write: true,
+    execute: true,
+};
+
+// Asks whether a path of unlink ends in a name.
+fn check_name(found: &Found) -> Result<(), Refusal>
+    ensures { result ≡ refused_or (first_of (refuse Errno.EISDIR (is_special found.now) ∷ [])) (Ok tt) }
+{
+    match found.last {
+        Last::Name => Ok(()),
+        Last::Dot | Last::DotDot | Last::Top => Err(Refusal::Failed(Errno::EISDIR)),
+    }
+}
+
+// Asks whether a path of rmdir ends in a name.
+fn check_last(found: &Found) -> Result<(), Refusal>
+    ensures { result ≡ refused_or (first_of (last_asked found.now)) (Ok tt) }
+{
+    match found.last {
+        Last::Name => Ok(()),
+        Last::Top => Err(Refusal::Failed(Errno::EBUSY)),
+        Last::Dot => Err(Refusal::Failed(Errno::EINVAL)),
+        Last::DotDot => Err(Refusal::Failed(Errno::ENOTEMPTY)),
+    }
+}
+
+/// Asks whether what is no directory was named with a slash.
+pub(crate) fn check_slash(found: &Found, kind: Kind) -> Result<(), Refusal>
+    ensures { result ≡ refused_or (refuse Errno.ENOTDIR (found.now.slash && not (is_directory_kind kind))) (Ok tt) }
+{
+    if found.slash && kind != Kind::Directory {
+        return Err(Refusal::Failed(Errno::ENOTDIR));
+    }
+    Ok(())
+}
+
+/// Asks whether a directory, where it has S_ISVTX, lets the caller take what has this inode from it, after `step` lookups of
+/// the walk with this number.
+pub(crate) fn check_sticky(
+    cred: &Cred,
+    directory: &Inode,
+    inode: &Inode,
+    walk: u8,
+    step: usize,
+) -> Result<(), Refusal>
+    ensures { result ≡ refused_or (sticky_asked cred.now directory.now inode.now walk step) (Ok tt) }
+{
+    let sticky = directory.mode / 512 % 2 == 1;
+    if !sticky_allows(cred, sticky, directory.uid, inode.uid) {
+        return Err(Refusal::Denied(Denial::new(walk, step, Need::Remove, Rule::Sticky)));
+    }
+    Ok(())
+}
+
+// Asks all that is asked before a name is removed, whatever it leads to, and answers number and inode of that.
+fn check_removal<S: Sectors>(
+    alloc: Global,
+    s: &mut S,
+    place: Place,
+    cred: &Cred,
+    found: &Found,
+) -> Result<(u32, Inode), Refusal>
+    requires sound { IsSound place (S.state s.old) }
+    requires there { (t : Tree) × HoldsTree place (S.state s.old).sectors t × IsNamedThere t found.now }
+    ensures each { (t : Tree) → HoldsTree place (S.state s.old).sectors t → IsNamedThere t found.now
+        → IsAnswered (S.state s.old).disk (S.state s.new).disk
+        (refused_or (first_of (removal_asked cred.now t found.now)) (Ok (number found.now, inode_at place (S.state s.old).sectors (number found.now)))) result }
+    ensures same { IsUnchanged (S.state s.old) (S.state s.new) }
+{
+    let (n, inode) = inode_found(s, place, found)?;
+    check_slash(found, inode.kind)?;
+    let step = found.step.saturating_sub(1);
+    let directory = load_inode(s, place, found.dir)?;
+    permitted(alloc, s, place, cred, &directory, WRITE_AND_SEARCH, 1, step)?;
+    check_sticky(cred, &directory, &inode, 1, step)?;
+    Ok((n, inode))
+}
+
+// Asks whether what is to go is no directory.
+fn check_no_directory(kind: Kind) -> Result<(), Refusal>
+    ensures { result ≡ refused_or (first_of (refuse Errno.EISDIR (is_directory_kind kind) ∷ [])) (Ok tt) }
+{
+    if kind == Kind::Directory {
+        return Err(Refusal::Failed(Errno::EISDIR));
+    }
+    Ok(())
+}
+
+/// Asks whether what is to go is an empty directory that isn't in use.
+pub(crate) fn check_directory(procs: &Procs, n: u32, inode: &Inode) -> Result<(), Refusal>
+    ensures { (image : SectorMap) (b : Body) → HoldsBody image inode.now b
+        → result ≡ refused_or (first_of (directory_asked b (is_in_use procs.now n))) (Ok tt) }
+{
+    if inode.kind != Kind::Directory {
+        return Err(Refusal::Failed(Errno::ENOTDIR));
+    }
+    if procs.in_use(n) {
+        return Err(Refusal::Failed(Errno::EBUSY));
+    }
+    if !is_empty(inode) {
+        return Err(Refusal::Failed(Errno::ENOTEMPTY));
+    }
+    Ok(())
+}
+
+// Asks all that unlink asks of what was found, and answers its number and its inode.
+fn check_unlink<S: Sectors>(
+    alloc: Global,
+    s: &mut S,
+    place: Place,
+    process: &Process,
+    found: &Found,
+) -> Result<(u32, Inode), Refusal>
+    requires sound { IsSound place (S.state s.old) }
+    requires found { (desks : Desks) × (st : State) × FindsName place (S.state s.old).sectors desks process.now found.now st }
+    ensures each { (desks : Desks) (st : State) → FindsName place (S.state s.old).sectors desks process.now found.now st
+        → IsAnswered (S.state s.old).disk (S.state s.new).disk
+        (refused_or (first_of (unlink_demands (scene_at st process.now found.now))) (Ok (number found.now, inode_at place (S.state s.old).sectors (number found.now)))) result }
+    ensures same { IsUnchanged (S.state s.old) (S.state s.new) }
+{
+    check_name(found)?;
+    let (n, inode) = check_removal(alloc, s, place, process.cred(), found)?;
+    check_no_directory(inode.kind)?;
+    Ok((n, inode))
+}
+
+// Asks all that rmdir asks of what was found, and answers its number and its inode.
+fn check_rmdir<S: Sectors>(
+    alloc: Global,
+    s: &mut S,
+    place: Place,
+    procs: &Procs,
+    process: &Process,
+    found: &Found,
+) -> Result<(u32, Inode), Refusal>
+    requires sound { IsSound place (S.state s.old) }
+    requires found { (st : State) × FindsName place (S.state s.old).sectors procs.now process.now found.now st }
+    ensures each { (st : State) → FindsName place (S.state s.old).sectors procs.now process.now found.now st
+        → IsAnswered (S.state s.old).disk (S.state s.new).disk
+        (refused_or (first_of (rmdir_demands (scene_at st process.now found.now))) (Ok (number found.now, inode_at place (S.state s.old).sectors (number found.now)))) result }
+    ensures same { IsUnchanged (S.state s.old) (S.state s.new) }
+{
+    check_last(found)?;
+    let (n, inode) = check_removal(alloc, s, place, process.cred(), found)?;
+    check_directory(procs, n, &inode)?;
+    Ok((n, inode))
+}
+
+/// Removes a name from directory dir. EIO: the disk has failed.
+pub(crate) fn remove_name<S: Sectors>(
+    s: &mut S,
+    place: Place,
+    dir: u32,
+    name: &[u8],
+) -> Result<(), Refusal>
+    requires sound { IsSound place (S.state s.old) }
+    requires below { dir < place.inodes }
+    requires named { (names : List (List ℕ × ℕ)) × HasNames (S.state s.old).sectors (inode_at place (S.state s.old).sectors dir) names
+        × (get name_cmp names name.now ≢ None) }
+    requires spare { HasSpare place 4 (S.state s.old) }
+    ensures store { SameStore (S.state s.old) (S.state s.new) }
+    ensures removes { OnOk result (RemovesName place dir name.now (S.state s.old) (S.state s.new)) }
+    ensures fault { IfErr result (FailsToRead (S.state s.old).disk (S.state s.new).disk) }
+{
+    let mut directory = load_inode(s, place, dir)?;
+    match remove(s, place, dir, &mut directory, name) {
+        Ok(()) => Ok(()),
+        Err(_) => Err(Refusal::Failed(Errno::EIO)),
+    }
+}
+
+// Takes a name from directory dir, where it leads to inode n, which goes with its last name unless it is open. EIO: the
+// disk has failed.
+fn take_name<S: Sectors>(
+    s: &mut S,
+    place: Place,
+    procs: &Procs,
+    dir: u32,
+    name: &[u8],
+    n: u32,
+    inode: Inode,
+) -> Result<(), Refusal>
+    requires sound { IsSound place (S.state s.old) }
+    requires inode { inode ≡ inode_at place (S.state s.old).sectors n }
+    requires may { (st : State) × IsStateOf place (S.state s.old).sectors procs.now st × MayGo st dir name.now n }
+    requires spare { HasSpare place 47 (S.state s.old) }
+    ensures store { SameStore (S.state s.old) (S.state s.new) }
+    ensures superblock { OnOk result ((S.state s.new).sectors 0 ≡ (S.state s.old).sectors 0) }
+    ensures taken { OnOk result ((st : State) → IsStateOf place (S.state s.old).sectors procs.now st → MayGo st dir name.now n
+        → HoldsAll place (S.state s.new).sectors (placed (swept (changed st.tree (TakeName dir name.now)) procs.now))) }
+    ensures fault { IfErr result (FailsToRead (S.state s.old).disk (S.state s.new).disk) }
+{
+    remove_name(s, place, dir, name)?;
+    lose_name(s, place, procs, n, &inode)?;
+    Ok(())
+}
+
+/// Removes the name that a path ends in, of a file or a symbolic link. With its last name the file goes, once nobody has it
+/// open; the link goes.
+///
+/// In a directory with S_ISVTX only the owner of one of both may. EISDIR: the path leads to a directory, or ends in no name.
+/// ENOENT: it leads to nothing. ENOTDIR: it ends in a slash.
+pub fn unlink<S: Sectors>(
+    alloc: Global,
+    s: &mut S,
+    place: Place,
+    procs: &Procs,
+    pid: usize,
+    path: &Path,
+) -> Result<Reply, Refusal>
+    requires ready { IsReady place (S.state s.old) procs.now }
+    ensures { Performs place pid (Unlink path.now) (S.state s.old) (S.state s.new) procs.now procs.now result }
+{
+    let process = procs.process(pid)?;
+    let found = find_name(alloc, s, place, process, path)?;
+    let (n, inode) = check_unlink(alloc, s, place, process, &found)?;
+    let name = found.name.bytes();
+    take_name(s, place, procs, found.dir, name, n, inode)?;
+    Ok(Reply::Done)
+}
+
+/// Removes the directory that a path leads to, with its name.
+///
+/// In a directory with S_ISVTX only the owner of one of both may. EBUSY: it is the root, or a process stands in it or has it
+/// open. EINVAL: the path ends in `.`. ENOTEMPTY: it ends in `..`, or the directory has names. ENOENT: it leads to nothing.
+/// ENOTDIR: it leads to no directory.
+pub fn rmdir<S: Sectors>(
+    alloc: Global,
+    s: &mut S,
+    place: Place,
+    procs: &Procs,
+    pid: usize,
+    path: &Path,
+) -> Result<Reply, Refusal>
+    requires ready { IsReady place (S.state s.old) procs.now }
+    ensures { Performs place pid (Rmdir path.now) (S.state s.old) (S.state s.new) procs.now procs.now result }
+{
+    let process = procs.process(pid)?;
+    let found = find_name(alloc, s, place, process, path)?;
+    let (n, inode) = check_rmdir(alloc, s, place, procs, process, &found)?;
+    let name = found.name.bytes();
+    take_name(s, place, procs, found.dir, name, n, inode)?;
+    Ok(Reply::Done)
+}

@@ -1,0 +1,232 @@
+//! Names that change: POSIX.1-2017, rename().
+
+ghost use Rattle.std.specs.Prelude.{◌≡◌, ◌<◌, ◌||◌, ℕ, Some, Ok};
+ghost use Rattle.fs_layout.specs.Images.{inode_at};
+ghost use Rattle.sector_txn.specs.Sectors.{IsUnchanged};
+ghost use Rattle.bit_alloc.specs.Inodes.{IsSound};
+ghost use Rattle.fs_model.specs.declared.call.Call.TheVariants.{Rename};
+ghost use Rattle.fs_model.specs.Demands.{first_of};
+ghost use Rattle.fs_model.specs.RenameCall.{rename_demands};
+ghost use Rattle.fs_model.specs.Scenes.{number, ends_top, ends_dot, ends_dot_dot};
+ghost use Rattle.fs_model.specs.States.{State};
+ghost use Rattle.fs_model.specs.Trees.{Tree};
+ghost use Rattle.path_walk.specs.Answers.{refused_or, IsAnswered};
+ghost use Rattle.path_walk.specs.HeldTrees.{HoldsTree, IsThere};
+ghost use Rattle.path_walk.specs.Performing.{IsReady, Performs};
+ghost use Rattle.name_calls.specs.Renaming.{ends_asked, names_asked, inode_there, other_kind, directory_kind, slash_told, replacing_asked};
+ghost use Rattle.name_calls.specs.Replacing.{same_number};
+ghost use Rattle.name_calls.specs.TwoPaths.{scene_with, FindsBoth};
+
+use crate::moving::move_name;
+use crate::naming::find_names;
+use crate::replacing::check_move;
+use file_calls::inode_found;
+use fs_cred::{Errno, Refusal};
+use fs_layout::{Inode, Kind, Place};
+use fs_model::{Found, Last, Path, Reply};
+use open_files::{Process, Procs};
+use path_walk::load_inode;
+use sector_txn::Sectors;
+use std::alloc::Global;
+
+// Whether a path ends in `.` or `..`.
+fn ends_in_dots(found: &Found) -> bool
+    ensures { result ≡ (ends_dot found.now || ends_dot_dot found.now) }
+{
+    match found.last {
+        Last::Dot | Last::DotDot => true,
+        Last::Name | Last::Top => false,
+    }
+}
+
+// Whether a path leads to where it starts.
+fn ends_in_top(found: &Found) -> bool
+    ensures { result ≡ ends_top found.now }
+{
+    match found.last {
+        Last::Top => true,
+        Last::Name | Last::Dot | Last::DotDot => false,
+    }
+}
+
+// Asks whether both paths of rename end in names.
+fn check_ends(first: &Found, second: &Found) -> Result<(), Refusal>
+    ensures { result ≡ refused_or (first_of (ends_asked first.now second.now)) (Ok tt) }
+{
+    let dots = ends_in_dots(first);
+    let more_dots = ends_in_dots(second);
+    if dots || more_dots {
+        return Err(Refusal::Failed(Errno::EINVAL));
+    }
+    let top = ends_in_top(first);
+    let other_top = ends_in_top(second);
+    if top || other_top {
+        return Err(Refusal::Failed(Errno::EBUSY));
+    }
+    Ok(())
+}
+
+// Number and inode of what was found, where something was. EIO: the disk has failed.
+fn inode_replaced<S: Sectors>(
+    s: &mut S,
+    place: Place,
+    found: &Found,
+) -> Result<Option<(u32, Inode)>, Refusal>
+    requires sound { IsSound place (S.state s.old) }
+    requires below { (n : ℕ) → found.now.ino ≡ Some n → n < place.inodes }
+    ensures each { IsAnswered (S.state s.old).disk (S.state s.new).disk
+        (Ok (inode_there place (S.state s.old).sectors found.now.ino)) result }
+    ensures same { IsUnchanged (S.state s.old) (S.state s.new) }
+{
+    let Some(n) = found.ino else {
+        return Ok(None);
+    };
+    let inode = load_inode(s, place, n)?;
+    Ok(Some((n, inode)))
+}
+
+// Whether something is there that is no directory.
+fn is_other(there: &Option<(u32, Inode)>) -> bool
+    ensures { result ≡ other_kind there.now }
+{
+    match there {
+        Some((_, inode)) => inode.kind != Kind::Directory,
+        None => false,
+    }
+}
+
+// Asks whether what is no directory, of this kind or found by the second path, was named with a slash.
+fn check_slashes(
+    first: &Found,
+    second: &Found,
+    kind: Kind,
+    replaced: &Option<(u32, Inode)>,
+) -> Result<(), Refusal>
+    ensures { result ≡ refused_or (slash_told first.now second.now kind replaced.now) (Ok tt) }
+{
+    let other = is_other(replaced);
+    if kind != Kind::Directory && (first.slash || second.slash) || other && second.slash {
+        return Err(Refusal::Failed(Errno::ENOTDIR));
+    }
+    Ok(())
+}
+
+// Whether something is there that is a directory.
+fn is_directory(there: &Option<(u32, Inode)>) -> bool
+    ensures { result ≡ directory_kind there.now }
+{
+    match there {
+        Some((_, inode)) => inode.kind == Kind::Directory,
+        None => false,
+    }
+}
+
+/// Asks whether what has this kind may replace what the new name leads to. EISDIR: that alone is a directory. ENOTDIR: this
+/// alone is one.
+pub(crate) fn check_kinds(kind: Kind, replaced: &Option<(u32, Inode)>) -> Result<(), Refusal>
+    ensures { result ≡ refused_or (first_of (replacing_asked kind replaced.now)) (Ok tt) }
+{
+    let other = is_other(replaced);
+    let directory = is_directory(replaced);
+    if kind != Kind::Directory && directory {
+        return Err(Refusal::Failed(Errno::EISDIR));
+    }
+    if kind == Kind::Directory && other {
+        return Err(Refusal::Failed(Errno::ENOTDIR));
+    }
+    Ok(())
+}
+
+// Asks all that rename asks of both names, and answers number and inode of what is renamed, and of what the new name leads to.
+// EINVAL: a path ends in `.` or `..`. EBUSY: it leads to where it starts. ENOENT: nothing has the old name. ENOTDIR: what is no
+// directory was named with a slash.
+fn check_renamed<S: Sectors>(
+    s: &mut S,
+    place: Place,
+    first: &Found,
+    second: &Found,
+) -> Result<(u32, Inode, Option<(u32, Inode)>), Refusal>
+    requires sound { IsSound place (S.state s.old) }
+    requires there { (t : Tree) × HoldsTree place (S.state s.old).sectors t
+        × ((n : ℕ) → first.now.ino ≡ Some n → IsThere t n) × ((n : ℕ) → second.now.ino ≡ Some n → IsThere t n) }
+    ensures each { (t : Tree) → HoldsTree place (S.state s.old).sectors t
+        → ((n : ℕ) → first.now.ino ≡ Some n → IsThere t n) → ((n : ℕ) → second.now.ino ≡ Some n → IsThere t n)
+        → IsAnswered (S.state s.old).disk (S.state s.new).disk
+        (refused_or (first_of (names_asked t first.now second.now))
+        (Ok (number first.now, inode_at place (S.state s.old).sectors (number first.now), inode_there place (S.state s.old).sectors second.now.ino))) result }
+    ensures same { IsUnchanged (S.state s.old) (S.state s.new) }
+{
+    check_ends(first, second)?;
+    let (n, inode) = inode_found(s, place, first)?;
+    let replaced = inode_replaced(s, place, second)?;
+    check_slashes(first, second, inode.kind, &replaced)?;
+    Ok((n, inode, replaced))
+}
+
+// Whether what is replaced is inode n itself.
+fn is_same(n: u32, replaced: &Option<(u32, Inode)>) -> bool
+    ensures { result ≡ same_number n replaced.now }
+{
+    match replaced {
+        Some((m, _)) => n == *m,
+        None => false,
+    }
+}
+
+// Asks all that rename asks of what was found, and answers number and inode of what is renamed, and of what the new name leads
+// to. Where both are one object, nothing is asked but of the names.
+fn check_rename<S: Sectors>(
+    alloc: Global,
+    s: &mut S,
+    place: Place,
+    procs: &Procs,
+    process: &Process,
+    first: &Found,
+    second: &Found,
+) -> Result<(u32, Inode, Option<(u32, Inode)>), Refusal>
+    requires sound { IsSound place (S.state s.old) }
+    requires found { (st : State) × FindsBoth place (S.state s.old).sectors procs.now process.now first.now second.now st }
+    ensures each { (st : State) → FindsBoth place (S.state s.old).sectors procs.now process.now first.now second.now st
+        → IsAnswered (S.state s.old).disk (S.state s.new).disk
+        (refused_or (first_of (rename_demands (scene_with st process.now first.now second.now)))
+        (Ok (number first.now, inode_at place (S.state s.old).sectors (number first.now), inode_there place (S.state s.old).sectors second.now.ino))) result }
+    ensures same { IsUnchanged (S.state s.old) (S.state s.new) }
+{
+    let (n, inode, replaced) = check_renamed(s, place, first, second)?;
+    if is_same(n, &replaced) {
+        return Ok((n, inode, replaced));
+    }
+    check_move(
+        alloc, s, place, procs, process, first, second, n, &inode, &replaced,
+    )?;
+    Ok((n, inode, replaced))
+}
+
+/// Gives what the path `old` leads to the name that the path `new` ends in, in place of what that led to: a file, a symbolic
+/// link itself, or a directory. Where both are one object nothing changes.
+///
+/// In a directory with S_ISVTX only the owner of one of both may. ENOENT: `old` leads to nothing. EINVAL: a path ends in `.` or
+/// `..`, or a directory would go below itself. EBUSY: a path leads to where it starts, or the directory that is replaced is in
+/// use. ENOTDIR: a path of what is no directory ends in a slash, or a directory would replace what is none. EISDIR: something
+/// else would replace a directory. ENOTEMPTY: the directory that is replaced has names.
+pub fn rename<S: Sectors>(
+    alloc: Global,
+    s: &mut S,
+    place: Place,
+    procs: &Procs,
+    pid: usize,
+    old: &Path,
+    new: &Path,
+) -> Result<Reply, Refusal>
+    requires ready { IsReady place (S.state s.old) procs.now }
+    ensures { Performs place pid (Rename old.now new.now) (S.state s.old) (S.state s.new) procs.now procs.now result }
+{
+    let process = procs.process(pid)?;
+    let (first, second) = find_names(alloc, s, place, process, old, new)?;
+    let (n, inode, replaced) = check_rename(alloc, s, place, procs, process, &first, &second)?;
+    if is_same(n, &replaced) {
+        return Ok(Reply::Done);
+    }
+    move_name(s, place, procs, &first, &second, n, &inode, &replaced)?;
+    Ok(Reply::Done)
+}

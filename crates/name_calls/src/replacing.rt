@@ -1,0 +1,209 @@
+//! What rename asks of both directories, and of what it replaces.
+
+ghost use Rattle.std.specs.Prelude.{◌≡◌, ℕ, Option, Some, Ok};
+ghost use Rattle.fs_layout.specs.Bytes.{SectorMap};
+ghost use Rattle.fs_layout.specs.Images.{inode_at};
+ghost use Rattle.sector_txn.specs.Sectors.{IsUnchanged};
+ghost use Rattle.bit_alloc.specs.Inodes.{IsSound};
+ghost use Rattle.fs_model.specs.Demands.{first_of};
+ghost use Rattle.fs_model.specs.Processes.{Desks, Process as Caller};
+ghost use Rattle.fs_model.specs.RenameCall.{rename_permissions, rename_moved, rename_space};
+ghost use Rattle.fs_model.specs.States.{State};
+ghost use Rattle.fs_model.specs.Trees.{Tree, IsDirectoryAt};
+ghost use Rattle.path_walk.specs.Answers.{refused_or, IsAnswered};
+ghost use Rattle.path_walk.specs.HeldTrees.{HoldsTree, IsThere};
+ghost use Rattle.name_calls.specs.Renaming.{inode_there};
+ghost use Rattle.name_calls.specs.Replacing.{IsToRename, sticky_there, below_asked, replaced_asked, move_asked};
+ghost use Rattle.name_calls.specs.TwoPaths.{scene_with};
+
+use crate::naming::{ask_directory, ask_for_name};
+use crate::removal::{check_directory, check_sticky};
+use crate::renaming::check_kinds;
+use crate::ways::is_below;
+use fs_cred::{Cred, Errno, Refusal};
+use fs_layout::{Inode, Kind, Place};
+use fs_model::Found;
+use open_files::{Process, Procs};
+use path_walk::permitted;
+use posix_acl::Perms;
+use sector_txn::Sectors;
+use std::alloc::Global;
+
+// What is asked of a directory that goes to another one: its `..` changes.
+const WRITE: Perms = Perms {
+    read: false,
+    write: true,
+    execute: false,
+};
+
+// Asks whether a directory with S_ISVTX lets the caller take what is replaced, where something is.
+fn check_sticky_there(
+    cred: &Cred,
+    directory: &Inode,
+    replaced: &Option<(u32, Inode)>,
+    step: usize,
+) -> Result<(), Refusal>
+    ensures { result ≡ refused_or (first_of (sticky_there cred.now directory.now replaced.now step)) (Ok tt) }
+{
+    let Some((_, inode)) = replaced else {
+        return Ok(());
+    };
+    check_sticky(cred, directory, inode, 2, step)?;
+    Ok(())
+}
+
+// Asks both directories for what renaming takes of them, and answers the inode of the second.
+fn check_permissions<S: Sectors>(
+    alloc: Global,
+    s: &mut S,
+    place: Place,
+    process: &Process,
+    first: &Found,
+    second: &Found,
+    inode: &Inode,
+    replaced: &Option<(u32, Inode)>,
+) -> Result<Inode, Refusal>
+    requires sound { IsSound place (S.state s.old) }
+    requires names { (desks : Desks) × (n : ℕ) × (st : State)
+        × IsToRename place (S.state s.old).sectors desks first.now second.now n inode.now replaced.now st }
+    ensures each { (desks : Desks) (n : ℕ) (st : State)
+        → IsToRename place (S.state s.old).sectors desks first.now second.now n inode.now replaced.now st
+        → IsAnswered (S.state s.old).disk (S.state s.new).disk
+        (refused_or (first_of (rename_permissions (scene_with st process.now first.now second.now)))
+        (Ok (inode_at place (S.state s.old).sectors second.now.dir))) result }
+    ensures same { IsUnchanged (S.state s.old) (S.state s.new) }
+{
+    let cred = process.cred();
+    let step = first.step.saturating_sub(1);
+    let directory = ask_directory(alloc, s, place, cred, first.dir, 1, step)?;
+    let to_step = second.step.saturating_sub(1);
+    let to_directory = ask_directory(alloc, s, place, cred, second.dir, 2, to_step)?;
+    check_sticky(cred, &directory, inode, 1, step)?;
+    check_sticky_there(cred, &to_directory, replaced, to_step)?;
+    Ok(to_directory)
+}
+
+// Asks whether what has this kind may go to directory dir: a directory doesn't go below itself.
+fn check_below<S: Sectors>(
+    s: &mut S,
+    place: Place,
+    n: u32,
+    kind: Kind,
+    dir: u32,
+) -> Result<(), Refusal>
+    requires sound { IsSound place (S.state s.old) }
+    requires there { (t : Tree) × HoldsTree place (S.state s.old).sectors t × IsDirectoryAt t dir }
+    ensures each { (t : Tree) → HoldsTree place (S.state s.old).sectors t → IsDirectoryAt t dir
+        → IsAnswered (S.state s.old).disk (S.state s.new).disk (refused_or (below_asked t kind n dir) (Ok tt)) result }
+    ensures same { IsUnchanged (S.state s.old) (S.state s.new) }
+{
+    if kind != Kind::Directory {
+        return Ok(());
+    }
+    let below = is_below(s, place, n, dir)?;
+    if below {
+        return Err(Refusal::Failed(Errno::EINVAL));
+    }
+    Ok(())
+}
+
+// Asks whether what is replaced may go: a directory is empty and not in use.
+fn check_replaced(procs: &Procs, replaced: &Option<(u32, Inode)>) -> Result<(), Refusal>
+    ensures { (p : Place) (map : SectorMap) (t : Tree) (g : Found) → HoldsTree p map t → ((m : ℕ) → g.ino ≡ Some m → IsThere t m)
+        → replaced.now ≡ inode_there p map g.ino
+        → result ≡ refused_or (first_of (replaced_asked t procs.now g)) (Ok tt) }
+{
+    let Some((n, inode)) = replaced else {
+        return Ok(());
+    };
+    if inode.kind != Kind::Directory {
+        return Ok(());
+    }
+    check_directory(procs, *n, inode)?;
+    Ok(())
+}
+
+// Asks for write permission on a directory that goes to another one.
+fn check_moved<S: Sectors>(
+    alloc: Global,
+    s: &mut S,
+    place: Place,
+    process: &Process,
+    first: &Found,
+    second: &Found,
+    inode: &Inode,
+) -> Result<(), Refusal>
+    requires sound { IsSound place (S.state s.old) }
+    requires names { (desks : Desks) × (n : ℕ) × (there : Option (ℕ × Inode)) × (st : State)
+        × IsToRename place (S.state s.old).sectors desks first.now second.now n inode.now there st }
+    ensures each { (desks : Desks) (n : ℕ) (there : Option (ℕ × Inode)) (st : State)
+        → IsToRename place (S.state s.old).sectors desks first.now second.now n inode.now there st
+        → IsAnswered (S.state s.old).disk (S.state s.new).disk
+        (refused_or (first_of (rename_moved (scene_with st process.now first.now second.now))) (Ok tt)) result }
+    ensures same { IsUnchanged (S.state s.old) (S.state s.new) }
+{
+    if inode.kind != Kind::Directory {
+        return Ok(());
+    }
+    if first.dir == second.dir {
+        return Ok(());
+    }
+    let cred = process.cred();
+    permitted(alloc, s, place, cred, inode, WRITE, 1, first.step)?;
+    Ok(())
+}
+
+// Asks for space, where a name is new in another directory.
+fn check_space<S: Sectors>(
+    s: &mut S,
+    place: Place,
+    first: &Found,
+    second: &Found,
+    to_directory: &Inode,
+) -> Result<(), Refusal>
+    requires sound { IsSound place (S.state s.old) }
+    ensures each { (desks : Desks) (q : Caller) (n : ℕ) (v : Inode) (there : Option (ℕ × Inode)) (st : State)
+        → IsToRename place (S.state s.old).sectors desks first.now second.now n v there st
+        → to_directory.now ≡ inode_at place (S.state s.old).sectors second.now.dir
+        → IsAnswered (S.state s.old).disk (S.state s.new).disk
+        (refused_or (first_of (rename_space (scene_with st q first.now second.now))) (Ok tt)) result }
+    ensures same { IsUnchanged (S.state s.old) (S.state s.new) }
+{
+    if second.ino.is_some() {
+        return Ok(());
+    }
+    if first.dir == second.dir {
+        return Ok(());
+    }
+    ask_for_name(s, place, to_directory)?;
+    Ok(())
+}
+
+/// Asks all that rename asks where its names aren't of one object.
+pub(crate) fn check_move<S: Sectors>(
+    alloc: Global,
+    s: &mut S,
+    place: Place,
+    procs: &Procs,
+    process: &Process,
+    first: &Found,
+    second: &Found,
+    n: u32,
+    inode: &Inode,
+    replaced: &Option<(u32, Inode)>,
+) -> Result<(), Refusal>
+    requires sound { IsSound place (S.state s.old) }
+    requires names { (st : State) × IsToRename place (S.state s.old).sectors procs.now first.now second.now n inode.now replaced.now st }
+    ensures each { (st : State) → IsToRename place (S.state s.old).sectors procs.now first.now second.now n inode.now replaced.now st
+        → IsAnswered (S.state s.old).disk (S.state s.new).disk
+        (refused_or (first_of (move_asked (scene_with st process.now first.now second.now))) (Ok tt)) result }
+    ensures same { IsUnchanged (S.state s.old) (S.state s.new) }
+{
+    let to_directory = check_permissions(alloc, s, place, process, first, second, inode, replaced)?;
+    check_kinds(inode.kind, replaced)?;
+    check_below(s, place, n, inode.kind, second.dir)?;
+    check_replaced(procs, replaced)?;
+    check_moved(alloc, s, place, process, first, second, inode)?;
+    check_space(s, place, first, second, &to_directory)?;
+    Ok(())
+}

@@ -1,0 +1,34 @@
+//! The way up from a directory to the root.
+
+ghost use Rattle.std.specs.Prelude.{length, Ok, IfErr};
+ghost use Rattle.sector_txn.specs.Sectors.{IsUnchanged};
+ghost use Rattle.bit_alloc.specs.Inodes.{IsSound};
+ghost use Rattle.fs_model.specs.Trees.{Tree, is_within, IsDirectoryAt};
+ghost use Rattle.path_walk.specs.Answers.{FailsToRead, IsAnswered};
+ghost use Rattle.path_walk.specs.HeldTrees.{HoldsTree};
+
+use fs_cred::Refusal;
+use fs_layout::{Place, ROOT};
+use path_walk::load_inode;
+use sector_txn::Sectors;
+
+/// Whether directory dir is directory n, or lies below it. EIO: the disk has failed.
+pub(crate) fn is_below<S: Sectors>(
+    s: &mut S,
+    place: Place,
+    n: u32,
+    dir: u32,
+) -> Result<bool, Refusal>
+    requires sound { IsSound place (S.state s.old) }
+    requires there { (t : Tree) × HoldsTree place (S.state s.old).sectors t × IsDirectoryAt t dir }
+    ensures each { (t : Tree) → HoldsTree place (S.state s.old).sectors t → IsDirectoryAt t dir
+        → IsAnswered (S.state s.old).disk (S.state s.new).disk (Ok (is_within (length t) t n dir)) result }
+    ensures fault { IfErr result (FailsToRead (S.state s.old).disk (S.state s.new).disk) }
+    ensures same { IsUnchanged (S.state s.old) (S.state s.new) }
+{
+    let mut at = dir;
+    while at != n && at != ROOT {
+        at = load_inode(s, place, at)?.parent;
+    }
+    Ok(at == n)
+}
