@@ -1,3 +1,4 @@
+mod Counted
 mod Done
 mod Forgets
 pub mod Moments

@@ -81,6 +81,13 @@ impl History {
         *to = self.seen[n as usize];
     }
 
+    /// The same, where there is a sector of that number.
+    pub fn content(&self, n: u32) -> Option<[u8; 512]>
+        ensures { IfSome result (λ content. content ≡ sector (after_events self.now.start self.now.events) n) }
+    {
+        self.seen.get(n as usize).copied()
+    }
+
     /// Records a write; at `Err` nothing has changed.
     pub fn write(&mut self, n: u32, content: &[u8; 512]) -> Result<(), AllocError>
         requires { n < length self.old.start }

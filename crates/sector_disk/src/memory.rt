@@ -1,8 +1,8 @@
 //! A disk in memory, which can be stopped. A record of its writes and syncs answers for the moments since the last
 //! stop.
 
-ghost use Rattle.std.specs.Prelude.{◌≡◌, ◌^◌, ◌<◌, ◌-◌, length, vec_len, replicate, IfOk, IsErr, ◌+◌, ℕ, get_or};
-ghost use Rattle.sector_disk.specs.Disk.{IsFresh, IsWholeSector};
+ghost use Rattle.std.specs.Prelude.{◌≡◌, ◌^◌, ◌<◌, ◌-◌, length, vec_len, replicate, IfOk, IsErr, ◌+◌, ℕ, get_or, min, IfSome};
+ghost use Rattle.sector_disk.specs.Disk.{IsFresh, IsWholeSector, sector};
 ghost use Rattle.sector_disk.specs.Record.{recorded_state};
 ghost use Rattle.sector_disk.specs.Replay.{seen_is_image, counts_now, only_now};
 ghost use Rattle.sector_disk.specs.Whole.{AreSectors, AreWhole, whole_sectors};
@@ -65,15 +65,21 @@ impl MemDisk {
         }
     }
 
-    // Counts a fault.
-    fn fail(&mut self) -> Result<(), DiskFault>
-        requires { self.old.failures < 2 ^ 64 - 1 }
+    /// Counts a fault.
+    pub(crate) fn fail(&mut self) -> Result<(), DiskFault>
         ensures history { self.new.history ≡ self.old.history }
-        ensures counted { self.new.failures ≡ self.old.failures + 1 }
+        ensures counted { self.new.failures ≡ min (self.old.failures + 1) (2 ^ 64 - 1) }
         ensures result { IsErr result }
     {
-        self.failures += 1;
+        self.failures = self.failures.saturating_add(1);
         Err(DiskFault)
+    }
+
+    /// What a read of the sector gives, where there is one of that number.
+    pub(crate) fn content(&self, n: u32) -> Option<[u8; 512]>
+        ensures { IfSome result (λ content. content ≡ sector (⟦<MemDisk as Disk>⟧.state self.now).seen n) }
+    {
+        self.history.content(n)
     }
 }
 

@@ -5,6 +5,8 @@ ghost use Rattle.std.specs.Prelude.{◌≡◌, ◌≢◌, ◌<◌, ◌⊎◌, On
 ghost use Rattle.sector_disk.specs.Disk.{Image, sector, IsStable, HasCause, LeavesOnly, AddsOnly, IsImageOr};
 ghost use Rattle.sector_disk.specs.Writes.{IsAmong, after_writes};
 
+mod files;
+
 use crate::{CrashDisk, Disk, DiskFault, FailOnce, FaultyDisk, FuseDisk, MemDisk};
 use std::test::Fail;
 

@@ -1,0 +1,305 @@
+//! Disks in files of this machine, and in files that fail.
+
+use super::{Call, first_byte, four_calls};
+use crate::{Disk, FileDisk, FileFault};
+use std::cell::Cell;
+use std::fs::{self, File, Metadata, OpenFile, OpenOptions};
+use std::io::{self, ErrorKind, Read, Seek, SeekFrom, Write};
+use std::path::{Path, PathBuf};
+use std::test::Fail;
+use std::{env, process};
+
+// A file that fails some of its seeks, writes and syncs: so many of them, from the one of this number on.
+#[derive(Drop)]
+struct Flaky {
+    file: File,
+    first: u64,
+    count: u64,
+    calls: Cell<u64>,
+}
+
+impl Flaky {
+    fn pass(&self) -> io::Result<()> {
+        let call = self.calls.get();
+        self.calls.set(call.saturating_add(1));
+        if call >= self.first && call - self.first < self.count {
+            return Err(io::Error::from(ErrorKind::StorageFull));
+        }
+        Ok(())
+    }
+}
+
+impl Read for Flaky {
+    fn read(&mut self, to: &mut [u8]) -> io::Result<usize> {
+        self.file.read(to)
+    }
+}
+
+impl Write for Flaky {
+    fn write(&mut self, from: &[u8]) -> io::Result<usize> {
+        self.pass()?;
+        self.file.write(from)
+    }
+
+    fn flush(&mut self) -> io::Result<()> {
+        self.file.flush()
+    }
+}
+
+impl Seek for Flaky {
+    fn seek(&mut self, to: SeekFrom) -> io::Result<u64> {
+        self.pass()?;
+        self.file.seek(to)
+    }
+}
+
+impl OpenFile for Flaky {
+    fn metadata(&self) -> io::Result<Metadata> {
+        self.file.metadata()
+    }
+
+    fn set_len(&self, size: u64) -> io::Result<()> {
+        self.file.set_len(size)
+    }
+
+    fn sync_all(&self) -> io::Result<()> {
+        self.pass()?;
+        self.file.sync_all()
+    }
+
+    fn sync_data(&self) -> io::Result<()> {
+        self.file.sync_data()
+    }
+}
+
+// A path of this process alone.
+fn scratch(rt: &HostRuntime, what: &str) -> Result<PathBuf, Fail> {
+    let process = process::id(rt.process());
+    let name = format!(in rt.alloc(); "sector_disk-{process}-{what}")?;
+    Ok(env::temp_dir(rt)?.join(rt.alloc(), name.as_str())?)
+}
+
+// How many sectors a disk has, and the first byte of each of the first three.
+type Seen = (u32, [u8; 3]);
+
+// A sector that can't be read counts as 255.
+fn see<D: Disk>(disk: &mut D) -> Seen {
+    let bytes = [
+        first_byte(disk, 0).unwrap_or(255),
+        first_byte(disk, 1).unwrap_or(255),
+        first_byte(disk, 2).unwrap_or(255),
+    ];
+    (disk.size(), bytes)
+}
+
+// What is done to a file, or to the disk in it.
+#[derive(Clone, Copy)]
+enum Step {
+    Create,
+    Open,
+    // A file of so many zeros, and the disk in it.
+    Zeros(u64),
+    // A file of three sectors and 100 bytes, all of them 7, and the disk in it.
+    Sevens,
+    // Writes two sectors of the disk, with a sync between them.
+    Write,
+    // The file's length, and three of the bytes past its third sector.
+    Tail,
+}
+
+fn take_step(rt: &HostRuntime, path: Path<'_>, step: Step) -> Result<Seen, FileFault> {
+    match step {
+        Step::Create => Ok(see(&mut FileDisk::create(rt, rt.alloc(), path, 4)?)),
+        Step::Open => opened(rt, path),
+        Step::Zeros(len) => zeros(rt, path, len),
+        Step::Sevens => sevens(rt, path),
+        Step::Write => written(rt, path),
+        Step::Tail => tail(rt, path),
+    }
+}
+
+fn opened(rt: &HostRuntime, path: Path<'_>) -> Result<Seen, FileFault> {
+    Ok(see(&mut FileDisk::open(rt, rt.alloc(), path)?))
+}
+
+fn zeros(rt: &HostRuntime, path: Path<'_>, len: u64) -> Result<Seen, FileFault> {
+    match File::create(rt, path) {
+        Ok(file) if file.set_len(len).is_ok() => opened(rt, path),
+        _ => Err(FileFault::Failed),
+    }
+}
+
+fn sevens(rt: &HostRuntime, path: Path<'_>) -> Result<Seen, FileFault> {
+    if fs::write(rt, path, [7; 1636].as_slice()).is_err() {
+        return Err(FileFault::Failed);
+    }
+    opened(rt, path)
+}
+
+fn written(rt: &HostRuntime, path: Path<'_>) -> Result<Seen, FileFault> {
+    let mut disk = FileDisk::open(rt, rt.alloc(), path)?;
+    let calls = [
+        Call::Write(1, 1),
+        Call::Sync,
+        Call::Write(2, 3),
+        Call::Read(2),
+    ];
+    if four_calls(&mut disk, calls) != [true; 4] {
+        return Err(FileFault::Failed);
+    }
+    Ok(see(&mut disk))
+}
+
+fn tail(rt: &HostRuntime, path: Path<'_>) -> Result<Seen, FileFault> {
+    let Ok(bytes) = fs::read(rt, path) else {
+        return Err(FileFault::Failed);
+    };
+    let byte = |at: usize| bytes.get(at).copied().unwrap_or(255);
+    let len = u32::try_from(bytes.len()).unwrap_or(u32::MAX);
+    Ok((len, [byte(1536), byte(1600), byte(1635)]))
+}
+
+// The number of the first row that isn't so, and what there is instead.
+fn first_wrong(
+    rt: &HostRuntime,
+    path: Path<'_>,
+    rows: &[(Step, Result<Seen, FileFault>)],
+) -> Option<(usize, Result<Seen, FileFault>)> {
+    for (i, row) in rows.iter().enumerate() {
+        let seen = take_step(rt, path, row.0);
+        if seen != row.1 {
+            return Some((i, seen));
+        }
+    }
+    None
+}
+
+#[test]
+fn a_file_keeps_its_sectors(rt: HostRuntime) -> Result<(), Fail> {
+    let path = scratch(&rt, "kept")?;
+    let wrong = first_wrong(
+        &rt,
+        path.as_path(),
+        &[
+            (Step::Open, Err(FileFault::Failed)),
+            (Step::Create, Ok((4, [0, 0, 0]))),
+            (Step::Create, Err(FileFault::Exists)),
+            (Step::Open, Ok((4, [0, 0, 0]))),
+            (Step::Sevens, Ok((3, [7, 7, 7]))),
+            (Step::Write, Ok((3, [7, 1, 3]))),
+            (Step::Open, Ok((3, [7, 1, 3]))),
+            (Step::Tail, Ok((1636, [7, 7, 7]))),
+            (Step::Zeros(511), Ok((0, [255, 255, 255]))),
+            (Step::Zeros(1023), Ok((1, [0, 255, 255]))),
+            (Step::Zeros(65_537 * 512), Ok((65_537, [0, 0, 0]))),
+            (Step::Zeros(65_538 * 512), Ok((65_537, [0, 0, 0]))),
+        ],
+    );
+    let _ = fs::remove_file(&rt, path.as_path());
+    assert!(rt; wrong == None, "{wrong:?}");
+    Ok(())
+}
+
+// Which calls of a disk in a failing file pass, how often it has failed, what it has, and what the file has.
+fn fail(
+    rt: &HostRuntime,
+    path: Path<'_>,
+    first: u64,
+    count: u64,
+) -> Result<([bool; 4], u64, Seen, Seen), FileFault> {
+    let _ = zeros(rt, path, 3 * 512)?;
+    let mut how = OpenOptions::new();
+    how.read(true).write(true);
+    let Ok(file) = how.open(rt, path) else {
+        return Err(FileFault::Failed);
+    };
+    let calls = Cell::new(0);
+    let mut disk = FileDisk::over(
+        rt.alloc(),
+        Flaky {
+            file,
+            first,
+            count,
+            calls,
+        },
+    )?;
+    let calls = [
+        Call::Write(0, 1),
+        Call::Write(1, 2),
+        Call::Sync,
+        Call::Write(2, 3),
+    ];
+    let passed = four_calls(&mut disk, calls);
+    Ok((passed, disk.failures(), see(&mut disk), opened(rt, path)?))
+}
+
+// Where the file isn't failing: a sync when it is opened, then a seek and a write for each write. The first call that
+// fails and how many do; the disk's failures and which calls pass; what reads give, and what the file has.
+type Failing = (
+    u64,
+    u64,
+    Result<([bool; 4], u64, [u8; 3], [u8; 3]), FileFault>,
+);
+
+const FAILING: [Failing; 9] = [
+    (0, 1, Err(FileFault::Failed)),
+    (
+        1,
+        1,
+        Ok(([false, true, true, true], 1, [1, 2, 3], [1, 2, 3])),
+    ),
+    (
+        2,
+        1,
+        Ok(([false, true, true, true], 1, [1, 2, 3], [1, 2, 3])),
+    ),
+    // What the file lacks can't be written again: the second write isn't begun.
+    (
+        2,
+        2,
+        Ok(([false, false, true, true], 2, [1, 0, 3], [1, 0, 3])),
+    ),
+    (
+        2,
+        3,
+        Ok(([false, false, false, true], 3, [1, 0, 3], [1, 0, 3])),
+    ),
+    (
+        5,
+        1,
+        Ok(([true, true, false, true], 1, [1, 2, 3], [1, 2, 3])),
+    ),
+    // The last call would write all three sectors again.
+    (
+        5,
+        2,
+        Ok(([true, true, false, false], 2, [1, 2, 0], [1, 2, 0])),
+    ),
+    (
+        7,
+        1,
+        Ok(([true, true, true, false], 1, [1, 2, 3], [1, 2, 0])),
+    ),
+    (
+        8,
+        1,
+        Ok(([true, true, true, true], 0, [1, 2, 3], [1, 2, 3])),
+    ),
+];
+
+#[test]
+fn a_failing_file_is_a_failing_disk(rt: HostRuntime) -> Result<(), Fail> {
+    let path = scratch(&rt, "flaky")?;
+    for (first, count, wanted) in FAILING {
+        let seen = fail(&rt, path.as_path(), first, count);
+        let _ = fs::remove_file(&rt, path.as_path());
+        let wanted = wanted.map(|(passed, failures, read, file)| (
+            passed,
+            failures,
+            (3, read),
+            (3, file),
+        ));
+        assert!(rt; seen == wanted, "{first} {count} {seen:?}");
+    }
+    Ok(())
+}
