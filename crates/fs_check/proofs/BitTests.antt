@@ -1,0 +1,100 @@
+-- A bit of a bitmap, and what it has to be.
+use Rattle.std.specs.Prelude.{◌≡◌, ℕ, ◌+◌, ◌*◌, ◌/◌, ◌%◌, ◌<◌, ◌≤◌, nat_eq, nat_lt, nat_le, not, ◌||◌, Bool, true, false, List, drop, get_or, IsTrue, ◌⊎◌, ◌↔◌}
+use Rattle.std.proofs.Common.{refl, sym, ap, arith, ◌∙◌}
+use Rattle.std.specs.Int.{bit_at}
+use Rattle.std.proofs.Math.Bool.{beq}
+use Rattle.std.proofs.lemmas.Bool.{le-ltb, lt-leb}
+use Rattle.byteorder.specs.Endian.{little_number}
+use Rattle.byteorder.specs.Numbers.{little_from-take}
+use Rattle.fs_layout.specs.declared.place.Place.{Place}
+use Rattle.fs_layout.specs.Bytes.{SectorMap, u16_of}
+use Rattle.fs_layout.specs.Images.{bit, inode_bitmap, block_bitmap, stored}
+use Rattle.fs_layout.specs.Ownership.{IsOwned}
+use Rattle.fs_layout.proofs.Places.{place_is_place, place_has_bounds, after_map, before_data}
+use Rattle.fs_model.specs.Rules.{IsPlaceOf, IsBit, IsBlockBit}
+use Rattle.sector_disk.specs.Disk.{DiskState, OnlyReads}
+use Rattle.fs_check.specs.Checks.{meaning}
+use Rattle.fs_check.specs.TableSectors.{IsTableSector}
+use Rattle.fs_check.proofs.Carrying.{meaning_same}
+use Rattle.fs_check.proofs.Openings.{place_size}
+
+pub bit_there : (m : SectorMap) (start n : ℕ) (s : List ℕ) → s ≡ m (start + n / 4096) → nat_eq (bit_at (get_or s (n % 4096 / 8) 0) (n % 8)) 1 ≡ bit m start n
+unfolding bit
+bit_there m start n s is = ap (λ (t : List ℕ). nat_eq (bit_at (get_or t (n % 4096 / 8) 0) (n % 8)) 1) is
+
+-- a field at the start of an inode's bytes
+field_there : (p : Place) (m : SectorMap) (n : ℕ) (content : List ℕ) → content ≡ m (p.table + n / 4) → u16_of content (128 * (n % 4)) ≡ u16_of (stored p m n) 0
+unfolding stored u16_of
+field_there p m n content is =
+    ap (λ (s : List ℕ). little_number 2 (drop (128 * (n % 4)) s)) is
+    ∙ sym (little_from-take 0 2 128 (drop (128 * (n % 4)) (m (p.table + n / 4))) (omega arith))
+
+pub taken_there : (p : Place) (m : SectorMap) (n : ℕ) (content : List ℕ) (k : ℕ) → 2 ≤ n → n < p.inodes → k ≡ u16_of content (128 * (n % 4))
+    → IsTableSector p m n content
+    → not (nat_eq k 0) ≡ (nat_lt n 2 || nat_le p.inodes n || not (nat_eq (u16_of (stored p m n) 0) 0))
+taken_there p m n content k past below is there =
+    let field : k ≡ u16_of (stored p m n) 0 = is ∙ field_there p m n content (there below) in
+    let low : nat_lt n 2 ≡ false = le-ltb n 2 past in
+    let high : nat_le p.inodes n ≡ false = lt-leb p.inodes n below in
+    rw (low, high) (ap (λ (x : ℕ). not (nat_eq x 0)) field)
+
+pub same_bits : (b t : Bool) → not (beq b t) ≡ false → b ≡ t
+same_bits true true e = refl
+same_bits false false e = refl
+same_bits true false e = absurd cc
+same_bits false true e = absurd cc
+
+pub other_bits : (b t : Bool) → not (beq b t) ≡ true → b ≡ t → ⊥
+other_bits true true e same = absurd cc
+other_bits false false e same = absurd cc
+other_bits true false e same = absurd cc
+other_bits false true e same = absurd cc
+
+-- bit n of the inode bitmap, read before its inode's sector, and what it has to be
+pub is_bit : (old mid : DiskState) (p : Place) (n : ℕ) (map table : List ℕ) (b t : Bool) → OnlyReads old mid → n < 4096 → map ≡ meaning old inode_bitmap
+    → IsTableSector p (meaning mid) n table
+    → ((m : SectorMap) (start : ℕ) → map ≡ m (start + n / 4096) → b ≡ bit m start n)
+    → ((m : SectorMap) → IsTableSector p m n table → t ≡ (nat_lt n 2 || nat_le p.inodes n || not (nat_eq (u16_of (stored p m n) 0) 0)))
+    → (b ≡ t) ↔ IsBit p (meaning mid) n
+is_bit old mid p n map table b t reads lt read there set taken =
+    let sector : inode_bitmap ≡ inode_bitmap + n / 4096 = omega (arith, lt) in
+    let is = set (meaning mid) inode_bitmap (read ∙ ap (λ (m : SectorMap). m inode_bitmap) (sym (meaning_same reads)) ∙ ap (meaning mid) sector) in
+    let should = taken (meaning mid) there in
+    ((λ same. sym is ∙ same ∙ should), (λ bit_is. is ∙ bit_is ∙ sym should))
+
+alike : (b t : Bool) → (IsTrue b → IsTrue t) → (IsTrue t → IsTrue b) → b ≡ t
+alike true t to from = sym (to refl)
+alike false true to from = from refl
+alike false false to from = refl
+
+-- bit s of the block bitmap, and what it has to be
+pub is_block_bit : (p : Place) (m : SectorMap) (s : ℕ) (b t : Bool) → b ≡ bit m block_bitmap s
+    → (IsTrue t ↔ ((s < p.first_data) ⊎ ((p.sectors ≤ s) ⊎ IsOwned p m s))) → (b ≡ t) ↔ IsBlockBit p m s
+is_block_bit p m s b t is used = (
+  λ same. ((λ set. used.0 (sym same ∙ is ∙ set)), (λ has. sym is ∙ same ∙ used.1 has)),
+  λ right. alike b t (λ set. used.1 (right.0 (sym is ∙ set))) (λ set. is ∙ right.1 (used.0 set)),
+)
+
+-- a bit of sector k of a bitmap
+pub in_sector : (m : SectorMap) (start k n : ℕ) (map : List ℕ) → 4096 * k ≤ n → n < 4096 * (k + 1) → map ≡ m (start + k) → map ≡ m (start + n / 4096)
+in_sector m start k n map low lt there =
+    let same : k ≡ n / 4096 = omega (arith, low, lt) in
+    there ∙ ap (λ (j : ℕ). m (start + j)) same
+
+-- where the block bitmap stands
+pub record HasMap (size : ℕ) (p : Place) : Type 0 where
+  pub from : 129 < p.table
+  pub upto : p.table ≤ 145
+  pub on_disk : p.table < size
+  pub room : 128 ≤ size
+
+pub map_place : (size : ℕ) (image : SectorMap) (p : Place) → IsPlaceOf size image p → HasMap size p
+map_place size image p x =
+    let place = place_is_place size x.super.inodes x.has_place in
+    let bounds = place_has_bounds size x.super.inodes x.has_place in
+    let same = place_size size image p x in
+    let to = bounds.table_to in
+    let before = before_data place in
+    let room = place.data_sectors in
+    let least = place.least_sectors in
+    record { from = after_map place; upto = to; on_disk = omega (arith, same, before, room); room = omega (arith, same, least) }

@@ -1,0 +1,132 @@
+-- What a check has read stays so while it reads on.
+use Rattle.std.specs.Prelude.{◌≡◌, ℕ, ◌+◌, ◌≤◌, List, Result, Ok, Err, OnOk, IfOk}
+use Rattle.std.proofs.Common.{sym, ap, arith, ◌∙◌, subst, inl, inr}
+use Rattle.fs_layout.specs.declared.inode.Inode.{Inode}
+use Rattle.fs_layout.specs.declared.place.Place.{Place}
+use Rattle.fs_layout.specs.Recovered.{recovered}
+use Rattle.sector_disk.specs.Disk.{DiskState, Image, IsImage, IsSame, Elapses, OnlyReads, HasFailed, sector}
+use Rattle.sector_disk.proofs.Moments.{reads_nothing, reads_more, reads_joined}
+use Rattle.fs_layout.specs.Commit.{IsCommit}
+use Rattle.fs_model.specs.Rules.{IsPlaceOf, HasCommit, ImageRule, rule_number, ObeysEach, ObeysBefore, IsFinding, fails}
+use Rattle.fs_check.specs.declared.faults.CheckFault.{CheckFault}
+use Rattle.fs_check.specs.declared.faults.CheckFault.TheVariants.{Found, DiskFault, OutOfMemory}
+use Rattle.fs_check.specs.Checks.{meaning, IsOpened, AreInodes, IsReason, Passed, IsLeast, IsFirst, IsFailureOf}
+use Rattle.fs_model.proofs.Findings.{next_obeyed}
+
+-- the same facts of two states
+same_of : (P : ℕ → Image → Type 0) {old new : DiskState} → OnlyReads old new → P old.size old.seen → P new.size new.seen
+same_of P {old} {new} reads x = subst (P new.size) (sym reads.narrowed.seen) (subst (λ n. P n old.seen) (sym reads.narrowed.size) x)
+
+pub back_of : (P : ℕ → Image → Type 0) {old new : DiskState} → OnlyReads old new → P new.size new.seen → P old.size old.seen
+back_of P {old} {new} reads x = subst (P old.size) reads.narrowed.seen (subst (λ n. P n new.seen) reads.narrowed.size x)
+
+module _ {old mid : DiskState} (reads : OnlyReads old mid) where
+  pub meaning_same : meaning mid ≡ meaning old
+  meaning_same = ap (λ n. recovered n (sector mid.seen)) reads.narrowed.size ∙ ap (λ (i : Image). recovered old.size (sector i)) reads.narrowed.seen
+
+  pub opened_still : {p : Place} {targets : List ℕ} → IsOpened old p targets → IsOpened mid p targets
+  opened_still {p} {targets} x = record {
+    place = same_of (λ n i. IsPlaceOf n (sector i) p) reads x.place;
+    commit = same_of (λ n i. HasCommit n (sector i)) reads x.commit;
+    targets_are = same_of (λ n i. IsCommit n (sector i 1) targets) reads x.targets_are;
+  }
+
+  pub table_still : {p : Place} {inodes : List Inode} → AreInodes p (meaning old) inodes → AreInodes p (meaning mid) inodes
+  table_still {p} {inodes} x = subst (λ m. AreInodes p m inodes) (sym meaning_same) x
+
+  pub each_back : (p : Place) (r : ImageRule) → ObeysEach p (meaning mid) r → ObeysEach p (meaning old) r
+  each_back p r x = subst (λ m. ObeysEach p m r) meaning_same x
+
+  failed_back : (new : DiskState) → HasFailed mid new → HasFailed old new
+  failed_back new (inl lt) = let later = reads.failures in inl (omega (arith, lt, later))
+  failed_back new (inr e) = inr e
+
+  -- why a later part ends the check is why the whole does
+  pub reason_back : (new : DiskState) (e : CheckFault) → IsReason IsFirst mid new e → IsReason IsFirst old new e
+  reason_back new (Found f) x = back_of (λ n i. IsFinding n (sector i) f.rule f.at) reads x
+  reason_back new DiskFault x = failed_back new x
+  reason_back new OutOfMemory x = tt
+
+-- a rule whose predecessors hold: its finding is the first
+pub first_if : {old : DiskState} {p : Place} {targets : List ℕ} (new : DiskState) (r : ImageRule) (e : CheckFault) → IsOpened old p targets
+    → ObeysBefore p (meaning old) (rule_number r) → IsReason (IsLeast p r) old new e → IsReason IsFirst old new e
+first_if {old} {p} new r (Found f) opened before x =
+    subst (λ k. IsFinding old.size (sector old.seen) k f.at) (sym x.0) (fails p r f.at opened.place opened.commit before x.1)
+first_if new r DiskFault opened before x = x
+first_if new r OutOfMemory opened before x = tt
+
+-- the failure of a rule that was found in tables
+pub failed_of : {T : Type 0} (old mid new : DiskState) {p : Place} {targets : List ℕ} → OnlyReads old mid → OnlyReads mid new → IsOpened old p targets
+    → (e y : CheckFault) (q : Result T CheckFault) → q ≡ Err y → y ≡ e → IsFailureOf p (meaning mid) e → Passed IsFirst old new q
+failed_of {T} old mid new {p} reads then opened e y q at same x =
+    subst (λ z. Passed {T = T} IsFirst old new z) (sym (at ∙ ap (λ z. Err z) same)) (record { reads = reads_joined reads then; reason = go e x })
+  where
+    go : (e : CheckFault) → IsFailureOf p (meaning mid) e → IsReason IsFirst old new e
+    go (Found f) x =
+        let now = opened_still reads opened in
+        back_of (λ n i. IsFinding n (sector i) f.rule f.at) reads
+        (subst (λ k. IsFinding mid.size (sector mid.seen) k f.at) (sym x.number) (fails p x.of f.at now.place now.commit x.before x.least))
+    go DiskFault x = absurd x
+    go OutOfMemory x = tt
+
+-- one read
+pub reads_once : {old new : DiskState} → IsSame old new → Elapses old new → old.failures ≤ new.failures → new.failed_writes ≡ old.failed_writes
+    → ((t : ℕ) (image : Image) → t ≤ old.moment → IsImage old image → old.left_since t image) → OnlyReads old new
+reads_once same time later quiet counts = reads_more reads_nothing same time later quiet counts
+
+-- ---- one part after the other
+
+pub before_still : {old mid : DiskState} {p : Place} {k : ℕ} → OnlyReads old mid → ObeysBefore p (meaning old) k → ObeysBefore p (meaning mid) k
+before_still {p = p} {k} reads x = subst (λ m. ObeysBefore p m k) (sym (meaning_same reads)) x
+
+pub before_back : {old mid : DiskState} {p : Place} {k : ℕ} → OnlyReads old mid → ObeysBefore p (meaning mid) k → ObeysBefore p (meaning old) k
+before_back {p = p} {k} reads x = subst (λ m. ObeysBefore p m k) (meaning_same reads) x
+
+pub next_before : (old mid : DiskState) {p : Place} (r : ImageRule) (k : ℕ) → rule_number r ≡ k → OnlyReads old mid → ObeysBefore p (meaning old) k
+    → ObeysEach p (meaning mid) r → ObeysBefore p (meaning old) (k + 1)
+next_before old mid {p} r k is reads before each = next_obeyed p (meaning old) r k is before (each_back reads p r each)
+
+passed_err : {T U : Type 0} (I J : DiskState → ℕ → ℕ → Type 0) (old mid new : DiskState) → OnlyReads old mid
+    → ((x : CheckFault) → IsReason I mid new x → IsReason J old new x) → (e y : CheckFault) (r : Result U CheckFault) → r ≡ Err y → y ≡ e
+    → Passed {T = T} I mid new (Err e) → Passed {T = U} J old new r
+passed_err {T} {U} I J old mid new reads back e y r is same x =
+    subst (λ q. Passed {T = U} J old new q) (sym (is ∙ ap (λ z. Err z) same)) (record { reads = reads_joined reads x.reads; reason = back e x.reason })
+
+passed_on : {T : Type 0} (I J : DiskState → ℕ → ℕ → Type 0) (old mid new : DiskState) → OnlyReads old mid
+    → ((x : CheckFault) → IsReason I mid new x → IsReason J old new x) → (r : Result T CheckFault) → Passed I mid new r → Passed J old new r
+passed_on I J old mid new reads back (Ok v) x = record { reads = reads_joined reads x.reads; reason = tt }
+passed_on I J old mid new reads back (Err e) x = record { reads = reads_joined reads x.reads; reason = back e x.reason }
+
+reason_of_rule : {old mid : DiskState} {p : Place} {targets : List ℕ} (new : DiskState) (r : ImageRule) (k : ℕ) → rule_number r ≡ k → OnlyReads old mid
+    → IsOpened old p targets → ObeysBefore p (meaning old) k → (x : CheckFault) → IsReason (IsLeast p r) mid new x → IsReason IsFirst old new x
+reason_of_rule {mid = mid} {p} new r k is reads opened before x h =
+    reason_back reads new x (first_if new r x (opened_still reads opened) (subst (λ q. ObeysBefore p (meaning mid) q) (sym is) (before_still reads before)) h)
+
+-- a rule's part, and the error of one
+pub rule_error : {T U : Type 0} (old mid new : DiskState) {p : Place} {targets : List ℕ} (r : ImageRule) (k : ℕ) → rule_number r ≡ k → OnlyReads old mid
+    → IsOpened old p targets
+    → ObeysBefore p (meaning old) k → (e y : CheckFault) (q : Result U CheckFault) → q ≡ Err y → y ≡ e → Passed {T = T} (IsLeast p r) mid new (Err e)
+    → Passed IsFirst old new q
+rule_error old mid new {p} r k is reads opened before e y q at same x =
+    passed_err (IsLeast p r) IsFirst old mid new reads (reason_of_rule new r k is reads opened before) e y q at same x
+
+pub rule_passed : {T : Type 0} (old mid new : DiskState) {p : Place} {targets : List ℕ} (r : ImageRule) (k : ℕ) → rule_number r ≡ k → OnlyReads old mid
+    → IsOpened old p targets → ObeysBefore p (meaning old) k → (q : Result T CheckFault) → Passed (IsLeast p r) mid new q → Passed IsFirst old new q
+rule_passed old mid new {p} r k is reads opened before q x =
+    passed_on (IsLeast p r) IsFirst old mid new reads (reason_of_rule new r k is reads opened before) q x
+
+-- a part of several rules
+pub part_error : {T U : Type 0} (old mid new : DiskState) → OnlyReads old mid → (e y : CheckFault) (q : Result U CheckFault) → q ≡ Err y → y ≡ e
+    → Passed {T = T} IsFirst mid new (Err e) → Passed IsFirst old new q
+part_error old mid new reads e y q at same x = passed_err IsFirst IsFirst old mid new reads (reason_back reads new) e y q at same x
+
+pub part_passed : {T : Type 0} (old mid new : DiskState) → OnlyReads old mid → (q : Result T CheckFault) → Passed IsFirst mid new q → Passed IsFirst old new q
+part_passed old mid new reads q x = passed_on IsFirst IsFirst old mid new reads (reason_back reads new) q x
+
+pub on_ok : {T E P Q : Type 0} (r : Result T E) → OnOk r P → (P → Q) → OnOk r Q
+on_ok (Ok x) p f = f p
+on_ok (Err e) p f = tt
+
+pub if_ok : {T E : Type 0} {P Q : T → Type 0} (r : Result T E) → IfOk r P → ((x : T) → P x → Q x) → IfOk r Q
+if_ok (Ok x) p f = f x p
+if_ok (Err e) p f = tt

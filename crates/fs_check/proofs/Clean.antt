@@ -1,0 +1,154 @@
+-- A disk that obeys all rules stands for a tree, which the summary counts.
+use Rattle.std.specs.Prelude.{◌≡◌, ℕ, zero, suc, ◌+◌, ◌-◌, ◌<◌, ◌≤◌, ◌^◌, ◌==◌, ◌&&◌, Bool, true, false, not, cond}
+use Rattle.std.specs.Prelude.{List, length, get_or, drop, map, count_by, IsTrue, ◌↔◌}
+use Rattle.std.proofs.Common.{refl, sym, ap, arith, ◌∙◌, subst, inl, inr}
+use Rattle.std.specs.List.{range_with_len}
+use Rattle.std.proofs.lemmas.List.{ext_get_or, get_or-drop, length-drop}
+use Rattle.std.proofs.lemmas.List.FromFn.{get_or-map-range_with_len, length-map-range_with_len}
+use Rattle.std.proofs.lemmas.List.Sums.{sum_by-cons}
+use Rattle.fs_layout.specs.declared.inode.Inode.{Inode}
+use Rattle.fs_layout.specs.declared.place.Place.{Place}
+use Rattle.fs_layout.specs.Bytes.{SectorMap}
+use Rattle.fs_layout.specs.Inode.{free_inode}
+use Rattle.fs_layout.specs.Place.{IsPlace}
+use Rattle.fs_layout.specs.Images.{IsData, bit, block_bitmap, inode_at, free_sectors}
+use Rattle.fs_layout.specs.Commit.{IsCommit}
+use Rattle.fs_layout.proofs.Bits.{has_bit}
+use Rattle.fs_layout.proofs.Places.{place_is_place}
+use Rattle.fs_layout.proofs.Targets.{targets_in-commit}
+use Rattle.sector_disk.specs.Disk.{DiskState, IsImage, IsWholeSector, OnlyReads, sector}
+use Rattle.fs_model.specs.Rules.{IsPlaceOf, HasCommit, BlockBits, is_directory_kind, ObeysBefore, ObeysAll, HasWholeSectors}
+use Rattle.fs_model.specs.Summaries.{is_file_kind, is_link_kind, is_used, some_target}
+use Rattle.fs_model.specs.Trees.{Tree}
+use Rattle.fs_model.specs.Stands.{room_of}
+use Rattle.fs_model.proofs.BuiltTrees.{tree_is, held_all}
+use Rattle.fs_model.proofs.RulesLaw.{place, now_whole, the_tree, stands}
+use Rattle.fs_model.proofs.Findings.{each_obeyed}
+use Rattle.fs_model.proofs.Summaries.{files_counted, nameless_counted, directories_counted, links_counted, nodes_counted}
+use Rattle.fs_check.specs.declared.faults.Summary.{Summary}
+use Rattle.fs_check.specs.Checks.{meaning, IsOpened, AreInodes, IsOwnerMap, IsCounted, IsClean}
+use Rattle.fs_check.proofs.Carrying.{back_of, meaning_same, before_back}
+
+-- ---- counts over lists and over ranges
+
+counted : {A : Type 0} (f : A → Bool) (g : ℕ → A) (a n : ℕ) → count_by f (map g (range_with_len a n)) ≡ count_by (λ k. f (g k)) (range_with_len a n)
+counted f g a zero = refl
+counted f g a (suc n) =
+    let rest = counted f g (a + 1) n in
+    let one = sum_by-cons (λ x. cond (f x) 1 0) (g a) (map g (range_with_len (a + 1) n)) in
+    let two = sum_by-cons (λ (k : ℕ). cond (f (g k)) 1 0) a (range_with_len (a + 1) n) in
+    omega (arith, one, two, rest)
+
+-- a list whose elements are known
+list_is : {A : Type 0} (xs : List A) (d : A) (g : ℕ → A) (a n : ℕ) → length xs ≡ n → ((k : ℕ) → k < n → get_or xs k d ≡ g (a + k))
+    → xs ≡ map g (range_with_len a n)
+list_is xs d g a n len each =
+    ext_get_or d xs (map g (range_with_len a n)) (len ∙ sym (length-map-range_with_len g a n)) (λ k lt.
+    let below : k < n = omega (arith, lt, len) in
+    each k below ∙ sym (get_or-map-range_with_len g a n k (a + k) d below refl))
+
+same_bools : (b c : Bool) → IsTrue b ↔ IsTrue c → b ≡ c
+same_bools true true h = refl
+same_bools true false h = absurd (let e : false ≡ true = h.0 refl in cc)
+same_bools false true h = absurd (let e : false ≡ true = h.1 refl in cc)
+same_bools false false h = refl
+
+-- ---- the whole
+
+-- each sector of what is seen has 512 bytes
+pub whole_seen : (d : DiskState) → IsImage d d.seen → ((n : ℕ) (content : List ℕ) → n < d.size → d.may_hold n content → IsWholeSector content)
+    → HasWholeSectors d.size (sector d.seen)
+whole_seen d is each s lt = let here = each s (sector d.seen s) lt (is.each s lt) in record { len = here.len; bytes = here.bytes }
+
+module _ (d : DiskState) (p : Place) (targets : List ℕ) (inodes : List Inode) (owned : List Bool) (s : Summary) (small : d.size < 2 ^ 32)
+    (whole : HasWholeSectors d.size (sector d.seen)) (opened : IsOpened d p targets) (table : AreInodes p (meaning d) inodes)
+    (owners : IsOwnerMap p (meaning d) owned)
+    (before : ObeysBefore p (meaning d) 15) (counts : IsCounted p targets inodes owned s) where
+  abbrev pub all : ObeysAll d.size (sector d.seen)
+  all = record { place = p; is_place = opened.place; commit = opened.commit; rules = each_obeyed p (meaning d) before }
+
+  abbrev pub the_place_is : IsPlace p
+  the_place_is = place d.size (sector d.seen) whole all
+
+  abbrev pub t : Tree
+  t = the_tree d.size (sector d.seen) whole all
+
+  inode_list : inodes ≡ map (inode_at p (meaning d)) (range_with_len 0 p.inodes)
+  inode_list = list_is inodes free_inode (inode_at p (meaning d)) 0 p.inodes table.len
+      (λ k lt. table.each k lt ∙ ap (inode_at p (meaning d)) (let e : k ≡ 0 + k = omega arith in e))
+
+  by_list : (f : Inode → Bool) → count_by f inodes ≡ count_by (λ n. f (inode_at p (meaning d) n)) (range_with_len 0 p.inodes)
+  by_list f = ap (count_by f) inode_list ∙ counted f (inode_at p (meaning d)) 0 p.inodes
+
+  -- a data sector's bit says whether it is owned
+  bit_is : (k : ℕ) → IsData p k → get_or owned k false ≡ bit (meaning d) block_bitmap k
+  bit_is k data_sector =
+      let rule = before BlockBits (omega arith) k (has_bit the_place_is k data_sector.1) in
+      same_bools _ _ (
+        (λ set. rule.1 (inr (inr ((owners.each k data_sector.1).0 set)))),
+        (λ set. elim (rule.0 set) [
+          | inl low ↦ absurd (let from = data_sector.0 in omega (arith, low, from))
+          | inr past ↦ elim past [
+            | inl high ↦ absurd (let to = data_sector.1 in omega (arith, high, to))
+            | inr is ↦ (owners.each k data_sector.1).1 is
+          ]
+        ]),
+      )
+
+  free_list : drop p.first_data owned ≡ map (bit (meaning d) block_bitmap) (range_with_len p.first_data (p.sectors - p.first_data))
+  free_list =
+      let len = owners.len in
+      let room = the_place_is.data_sectors in
+      list_is (drop p.first_data owned) false (bit (meaning d) block_bitmap) p.first_data (p.sectors - p.first_data)
+      (omega (arith, len, length-drop p.first_data owned))
+      (λ k lt. get_or-drop p.first_data owned k false ∙ bit_is (p.first_data + k) (omega arith, omega (arith, lt)))
+
+  free_is : count_by not (drop p.first_data owned) ≡ free_sectors p (meaning d)
+  free_is = ap (count_by not) free_list ∙ counted not (bit (meaning d) block_bitmap) p.first_data (p.sectors - p.first_data)
+
+  pub clean : IsClean d s
+  unfolding the_tree
+  clean =
+      let whole' = now_whole d.size (sector d.seen) whole all in
+      let held = held_all p (meaning d) (place d.size (sector d.seen) whole all) whole' all.rules in
+      let is = tree_is p (meaning d) (place d.size (sector d.seen) whole all) whole' all.rules in (
+        room_of p,
+        t,
+        free_sectors p (meaning d),
+        stands d.size (sector d.seen) whole all,
+        record {
+          files = counts.files ∙ by_list (λ v. is_file_kind v.kind && not (v.names == 0)) ∙ sym (files_counted p (meaning d) t held is);
+          dirs = counts.dirs ∙ by_list (λ v. is_directory_kind v.kind) ∙ sym (directories_counted p (meaning d) t held is);
+          link_count = counts.link_count ∙ by_list (λ v. is_link_kind v.kind) ∙ sym (links_counted p (meaning d) t held is);
+          nameless = counts.nameless ∙ by_list (λ v. is_file_kind v.kind && v.names == 0) ∙ sym (nameless_counted p (meaning d) t held is);
+          blocks = counts.blocks ∙ free_is;
+          inodes = counts.free ∙ ap (λ k. p.inodes - 1 - k) (by_list (λ v. is_used v.kind) ∙ sym (nodes_counted p (meaning d) t held is));
+          pending = counts.pending ∙ ap some_target (sym (targets_in-commit d.size (sector d.seen 1) targets small opened.targets_are));
+        },
+      )
+
+-- facts that were found one after the other
+pub clean_after : (s0 s1 s2 s3 : DiskState) (p : Place) (targets : List ℕ) (items inodes : List Inode) (bits owned : List Bool) (s : Summary)
+    → s0.size < 2 ^ 32 → HasWholeSectors s0.size (sector s0.seen) → IsPlaceOf s0.size (sector s0.seen) p
+    → OnlyReads s0 s1 → HasCommit s1.size (sector s1.seen) → IsCommit s1.size (sector s1.seen 1) targets
+    → OnlyReads s0 s2 → AreInodes p (meaning s2) items → inodes ≡ items
+    → OnlyReads s0 s3 → IsOwnerMap p (meaning s3) bits → owned ≡ bits → ObeysBefore p (meaning s3) 15 → IsCounted p targets inodes owned s → IsClean s0 s
+clean_after s0 s1 s2 s3 p targets items inodes bits owned s small whole at r1 commit are r2 table same r3 owners also before counts =
+    let opened : IsOpened s0 p targets = record {
+      place = at;
+      commit = back_of (λ n i. HasCommit n (sector i)) r1 commit;
+      targets_are = back_of (λ n i. IsCommit n (sector i 1) targets) r1 are;
+    } in
+    clean s0 p targets inodes owned s small whole opened
+    (subst (AreInodes p (meaning s0)) (sym same) (subst (λ m. AreInodes p m items) (meaning_same r2) table))
+    (subst (IsOwnerMap p (meaning s0)) (sym also) (subst (λ m. IsOwnerMap p m bits) (meaning_same r3) owners))
+    (before_back r3 before) counts
+
+-- the data begins within the owner map
+pub first_within : (size : ℕ) (image : SectorMap) (p : Place) (m : SectorMap) (bits owned : List Bool) → IsPlaceOf size image p → IsOwnerMap p m bits
+    → owned ≡ bits → p.first_data ≤ length owned
+first_within size image p m bits owned at owners same =
+    let room = (place_is_place size at.super.inodes at.has_place).data_sectors in
+    let len = owners.len in
+    let long = ap length same in
+    omega (arith, room, len, long)

@@ -1,0 +1,105 @@
+-- The slots of one directory.
+use Rattle.std.specs.Prelude.{◌≡◌, ◌≢◌, ℕ, ◌+◌, ◌-◌, ◌*◌, ◌/◌, ◌%◌, ◌<◌, List, Result, Ok, Bool, true, false, IsTrue, ◌↔◌, All}
+use Rattle.std.proofs.Common.{refl, sym, ap, arith, ◌∙◌, subst, inl, inr}
+use Rattle.std.proofs.lemmas.Bool.{cases_eq}
+use Rattle.fs_layout.specs.declared.fault.LayoutFault.{LayoutFault}
+use Rattle.fs_layout.specs.declared.inode.Inode.{Inode}
+use Rattle.fs_layout.specs.declared.place.Place.{Place}
+use Rattle.fs_layout.specs.Bytes.{SectorMap, window}
+use Rattle.fs_layout.specs.Images.{Part, part, pointer, Owns, IsData}
+use Rattle.fs_layout.specs.Directories.{NamedInode, stored_slot, slot_at, slot_of, slot_or_none, slot_count}
+use Rattle.sector_disk.specs.Disk.{DiskState, OnlyReads}
+use Rattle.fs_model.specs.Rules.{IsPlaceOf}
+use Rattle.fs_check.specs.Checks.{meaning, AreInodes}
+use Rattle.fs_layout.specs.declared.inode.Kind.TheVariants.{Free}
+use Rattle.fs_check.proofs.Tests.{refuses}
+use Rattle.fs_check.specs.Naming.{AreValid, AreSlots, IsUsable, HasGoodSlots}
+use Rattle.fs_check.specs.Owning.{part_at}
+use Rattle.fs_check.proofs.Carrying.{meaning_same}
+use Rattle.fs_check.proofs.Openings.{many_sectors, place_size}
+use Rattle.fs_check.proofs.OwnedParts.{at_block}
+
+-- ---- the block of a slot
+
+pub block_is : (m : SectorMap) (v : Inode) (k : ℕ) → part m v (part_at (3 + k)) ≡ pointer m v k
+unfolding part
+block_is m v k =
+    ap (part m v) (at_block (3 + k) (λ z. omega (arith, z)) (λ z. omega (arith, z)) (λ z. omega (arith, z)))
+    ∙ ap (pointer m v) (let e : 3 + k - 3 ≡ k = omega arith in e)
+
+-- what an inode has is on the disk, or it has none
+pub part_on_disk : (size : ℕ) (image : SectorMap) (p : Place) (m : SectorMap) (v : Inode) (a : Part) → IsPlaceOf size image p
+    → ((s : ℕ) → Owns m v s → IsData p s) → part m v a < size
+part_on_disk size image p m v a at in_data = elim (cases_eq (part m v a) 0) [
+  | inl none ↦ (let many = many_sectors size image (record { place = p; is = at }) in omega (arith, none, many))
+  | inr some ↦
+      let below = (in_data (part m v a) (record { at = a; is = refl; some = some })).1 in
+      let same = place_size size image p at in
+      omega (arith, below, same)
+]
+
+module _ (old mid : DiskState) (reads : OnlyReads old mid) (v : Inode) where
+  pub in_data_still : (p : Place) → ((s : ℕ) → Owns (meaning old) v s → IsData p s) → (s : ℕ) → Owns (meaning mid) v s → IsData p s
+  in_data_still p x = subst (λ m. (s : ℕ) → Owns m v s → IsData p s) (sym (meaning_same reads)) x
+
+  pub block_back : (k : ℕ) (block : List ℕ) → block ≡ meaning mid (pointer (meaning mid) v k) → block ≡ meaning old (pointer (meaning old) v k)
+  block_back k block x = subst (λ (m : SectorMap). block ≡ m (pointer m v k)) (meaning_same reads) x
+
+-- ---- one slot
+
+module _ (m : SectorMap) (v : Inode) (k : ℕ) (block : List ℕ) (is : block ≡ m (pointer m v (k / 4))) where
+  slot_here : window block (128 * (k % 4)) 128 ≡ stored_slot m v k
+  unfolding stored_slot
+  slot_here = ap (λ (s : List ℕ). window s (128 * (k % 4)) 128) is
+
+  pub valid_here : (x : NamedInode) (r : Result NamedInode LayoutFault) → r ≡ slot_of (window block (128 * (k % 4)) 128) → r ≡ Ok x
+      → (slot_of (stored_slot m v k) ≡ Ok (slot_at m v k)) × (x ≡ slot_at m v k)
+  unfolding slot_at
+  valid_here x r from found =
+      let read : slot_of (stored_slot m v k) ≡ Ok x = ap slot_of (sym slot_here) ∙ sym from ∙ found in
+      let at : slot_or_none (slot_of (stored_slot m v k)) ≡ x = ap slot_or_none read in
+      (read ∙ ap (λ y. Ok y) (sym at), sym at)
+
+  pub not_valid : (r : Result NamedInode LayoutFault) → r ≡ slot_of (window block (128 * (k % 4)) 128) → ((x : NamedInode) → r ≡ Ok x → ⊥) → k < slot_count v
+      → AreValid m v → ⊥
+  not_valid r from none lt valid = none (slot_at m v k) (from ∙ ap slot_of slot_here ∙ valid k lt)
+
+  -- the next slot stands in the same block, or begins one
+  pub same_block : (k + 1) % 4 ≢ 0 → block ≡ m (pointer m v ((k + 1) / 4))
+  same_block ne = is ∙ ap (λ b. m (pointer m v b)) (let e : k / 4 ≡ (k + 1) / 4 = omega (arith, ne) in e)
+
+-- ---- the rule on slots
+
+module _ (p : Place) (m : SectorMap) (v : Inode) (inodes : List Inode) (slots : List NamedInode) (table : AreInodes p m inodes) (are : AreSlots m v slots) where
+  good_if_usable : All (IsUsable inodes) slots → HasGoodSlots p m v
+  good_if_usable usable k lt =
+      let len = are.len in
+      let u = subst (IsUsable inodes) (are.each k (slot_at m v k) lt) (usable k (slot_at m v k) (omega (arith, lt, len))) in
+      let size = table.len in
+      let low = u.below in
+      let below : (slot_at m v k).inode < p.inodes = omega (arith, size, low) in
+      record {
+        is = are.valid k lt;
+        below = below;
+        used = subst (λ (w : Inode). w.kind ≢ Free) (table.each (slot_at m v k).inode below) u.used;
+        not_root = u.not_root;
+      }
+
+  usable_if_good : HasGoodSlots p m v → All (IsUsable inodes) slots
+  usable_if_good good k d lt =
+      let len = are.len in
+      let below : k < slot_count v = omega (arith, lt, len) in
+      let x = good k below in
+      let size = table.len in
+      let low = x.below in
+      subst (IsUsable inodes) (sym (are.each k d below)) (record {
+        below = omega (arith, size, low);
+        used = subst (λ (w : Inode). w.kind ≢ Free) (sym (table.each (slot_at m v k).inode low)) x.used;
+        not_root = x.not_root;
+      })
+
+  pub not_good : (b : Bool) (seen : List NamedInode) → seen ≡ slots → b ≡ false → (IsTrue b ↔ All (IsUsable inodes) seen) → HasGoodSlots p m v → ⊥
+  not_good b seen same e test good = refuses (All (IsUsable inodes) seen) b e test (subst (All (IsUsable inodes)) (sym same) (usable_if_good good))
+
+  pub are_good : (b : Bool) (seen : List NamedInode) → seen ≡ slots → b ≡ true → (IsTrue b ↔ All (IsUsable inodes) seen) → HasGoodSlots p m v
+  are_good b seen same e test = good_if_usable (subst (All (IsUsable inodes)) same (test.0 e))

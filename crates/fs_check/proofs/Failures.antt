@@ -1,0 +1,66 @@
+-- Rules that are tried on tables, one after the other.
+use Rattle.std.specs.Prelude.{◌≡◌, ℕ, ◌+◌, List, Option, Some, None, Result, Ok, Err, IfSome, IfNone, MatchOption, MatchResult}
+use Rattle.std.proofs.Common.{sym, ap, ◌∙◌, subst}
+use Rattle.fs_layout.specs.declared.inode.Inode.{Inode}
+use Rattle.fs_layout.specs.declared.place.Place.{Place}
+use Rattle.fs_layout.specs.Bytes.{SectorMap}
+use Rattle.fs_model.specs.Rules.{ImageRule, rule_number, ObeysEach, ObeysBefore, IsLeastFailure}
+use Rattle.fs_model.proofs.Findings.{next_obeyed}
+use Rattle.fs_check.specs.declared.faults.CheckFault.{CheckFault}
+use Rattle.fs_check.specs.declared.faults.CheckFault.TheVariants.{Found}
+use Rattle.sector_disk.specs.Disk.{DiskState}
+use Rattle.fs_check.specs.Checks.{meaning, AreInodes, IsNameTable, IsReason, IsLeast, IsFailureOf}
+
+-- what a rule's test says of one image
+pub of_image : (p : Place) (r : ImageRule) (k : ℕ) (inodes : List Inode) (counts directories : List ℕ) (first : Option ℕ)
+    → IfSome first (λ n. (m : SectorMap) → AreInodes p m inodes → IsNameTable p m counts directories → ObeysBefore p m k → IsLeastFailure p m r n)
+    → IfNone first ((m : SectorMap) → AreInodes p m inodes → IsNameTable p m counts directories → ObeysBefore p m k → ObeysEach p m r)
+    → (m : SectorMap) → AreInodes p m inodes → IsNameTable p m counts directories → ObeysBefore p m k
+    → MatchOption first (ObeysEach p m r) (λ n. IsLeastFailure p m r n)
+of_image p r k inodes counts directories (Some n) some none m table named before = some m table named before
+of_image p r k inodes counts directories None some none m table named before = none m table named before
+
+-- the answer to the least number that fails rule k, if one does
+abbrev IsAnswer : ℕ → Option ℕ → Result (Unit {0}) CheckFault → Type 0
+IsAnswer k first result = MatchOption first (result ≡ Ok tt) (λ n. result ≡ Err (Found (record { rule = k; at = n })))
+
+module _ (p : Place) (m : SectorMap) where
+  -- one rule
+  pub rule_found : (r : ImageRule) (k : ℕ) → rule_number r ≡ k → (first : Option ℕ) (result : Result (Unit {0}) CheckFault)
+      → IsAnswer k first result
+      → MatchOption first (ObeysEach p m r) (λ n. IsLeastFailure p m r n) → ObeysBefore p m k
+      → MatchResult result (λ _. ObeysBefore p m (k + 1)) (IsFailureOf p m)
+  rule_found r k is (Some n) result says least before =
+      subst (λ q. MatchResult q (λ _. ObeysBefore p m (k + 1)) (IsFailureOf p m)) (sym says)
+      (record { of = r; number = sym is; before = subst (ObeysBefore p m) (sym is) before; least = least })
+  rule_found r k is None result says each before =
+      subst (λ q. MatchResult q (λ _. ObeysBefore p m (k + 1)) (IsFailureOf p m)) (sym says) (next_obeyed p m r k is before each)
+
+  -- where it ends the check
+  pub tree_error : (k l : ℕ) (e y : CheckFault) (r q : Result (Unit {0}) CheckFault) → r ≡ Err e → q ≡ Err y → y ≡ e
+      → MatchResult r (λ _. ObeysBefore p m k) (IsFailureOf p m) → MatchResult q (λ _. ObeysBefore p m l) (IsFailureOf p m)
+  tree_error k l e y r q was is same x =
+      subst (λ z. MatchResult z (λ _. ObeysBefore p m l) (IsFailureOf p m)) (sym (is ∙ ap (λ z. Err z) same))
+      (subst (λ z. MatchResult z (λ _. ObeysBefore p m k) (IsFailureOf p m)) was x)
+
+  -- where it goes on
+  pub tree_next : (k : ℕ) (u : Unit {0}) (r : Result (Unit {0}) CheckFault) → r ≡ Ok u
+      → MatchResult r (λ _. ObeysBefore p m k) (IsFailureOf p m) → ObeysBefore p m k
+  tree_next k u r was x = subst (λ z. MatchResult z (λ _. ObeysBefore p m k) (IsFailureOf p m)) was x
+
+-- ---- a rule whose least failure is known before it is tried
+
+-- what is found of it is why the check ends
+pub found_reason : (p : Place) (r : ImageRule) (k : ℕ) → rule_number r ≡ k → (old new : DiskState) (first : Option ℕ) (e : CheckFault)
+    → IsAnswer k first (Err e)
+    → MatchOption first (ObeysEach p (meaning old) r) (λ n. IsLeastFailure p (meaning old) r n) → IsReason (IsLeast p r) old new e
+found_reason p r k is old new (Some n) e says least =
+    subst (IsReason (IsLeast p r) old new) (let same : Found (record { rule = k; at = n }) ≡ e = cc in same) (sym is, least)
+found_reason p r k is old new None e says each = absurd cc
+
+-- nothing found
+pub found_none : (p : Place) (m : SectorMap) (r : ImageRule) (k : ℕ) (first : Option ℕ)
+    → IsAnswer k first (Ok tt)
+    → MatchOption first (ObeysEach p m r) (λ n. IsLeastFailure p m r n) → ObeysEach p m r
+found_none p m r k (Some n) says least = absurd cc
+found_none p m r k None says each = each

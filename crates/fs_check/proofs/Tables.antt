@@ -1,0 +1,73 @@
+-- Inodes read from the table.
+use Rattle.std.specs.Prelude.{◌≡◌, ℕ, ◌+◌, ◌-◌, ◌*◌, ◌/◌, ◌%◌, ◌<◌, ◌≤◌, List, length, get_or, ◌++◌, []}
+use Rattle.std.specs.Prelude.{◌∷◌, Option, Some, None, Ok, IfSome, IfNone, MatchOption}
+use Rattle.std.proofs.Common.{sym, ap, arith, ◌∙◌, subst, inl, inr}
+use Rattle.std.proofs.lemmas.Bool.{cases_lt}
+use Rattle.std.proofs.lemmas.List.{get_or_append_left, get_or-append_right}
+use Rattle.fs_layout.specs.declared.inode.Inode.{Inode}
+use Rattle.fs_layout.specs.declared.inode.Kind.TheVariants.{Free, Directory}
+use Rattle.fs_layout.specs.declared.place.Place.{Place}
+use Rattle.fs_layout.specs.Bytes.{SectorMap, window}
+use Rattle.fs_layout.specs.Inode.{inode_of}
+use Rattle.fs_layout.specs.Images.{stored, inode_at, inode_or_free}
+use Rattle.fs_layout.proofs.Places.{place_is_place}
+use Rattle.fs_model.specs.Rules.{IsPlaceOf, IsGoodInode}
+use Rattle.fs_check.proofs.Openings.{place_size}
+
+-- where inode n stands
+pub record HasSector (size : ℕ) (p : Place) (n : ℕ) : Type 0 where
+  pub on_disk : p.table + n / 4 < size
+  pub room : 128 ≤ size
+  pub small : size ≤ 65536
+
+pub table_place : (size : ℕ) (image : SectorMap) (p : Place) (n : ℕ) → IsPlaceOf size image p → n < p.inodes → HasSector size p n
+table_place size image p n x lt =
+    let place = place_is_place size x.super.inodes x.has_place in
+    let same = place_size size image p x in
+    let slots = place.slots in
+    let room = place.data_sectors in
+    let least = place.least_sectors in
+    let most = place.most_sectors in
+    record { on_disk = omega (arith, same, slots, room, lt); room = omega (arith, same, least); small = omega (arith, same, most) }
+
+at_is : (p : Place) (m : SectorMap) (n : ℕ) (v : Inode) → inode_of (stored p m n) ≡ Ok v → inode_at p m n ≡ v
+unfolding inode_at
+at_is p m n v e = ap inode_or_free e
+
+there : (p : Place) (m : SectorMap) (n : ℕ) (content : List ℕ) → content ≡ m (p.table + n / 4) → window content (128 * (n % 4)) 128 ≡ stored p m n
+unfolding stored
+there p m n content e = ap (λ (s : List ℕ). window s (128 * (n % 4)) 128) e
+
+pub good_is : (p : Place) (m : SectorMap) (n : ℕ) (content : List ℕ) (o : Option Inode) → content ≡ m (p.table + n / 4)
+    → IfSome o (λ v. inode_of (window content (128 * (n % 4)) 128) ≡ Ok v) → IfSome o (λ v. n ≡ 0 → v.kind ≡ Free) → IfSome o (λ v. n ≡ 1 → v.kind ≡ Directory)
+    → IfNone o ((v : Inode) → inode_of (window content (128 * (n % 4)) 128) ≡ Ok v → (n ≡ 0 → v.kind ≡ Free) → (n ≡ 1 → v.kind ≡ Directory) → ⊥)
+    → MatchOption o (IsGoodInode p m n → ⊥) (λ v. IsGoodInode p m n × (v ≡ inode_at p m n))
+good_is p m n content (Some v) e is free top none =
+    let read : inode_of (stored p m n) ≡ Ok v = ap inode_of (sym (there p m n content e)) ∙ is in
+    let same : inode_at p m n ≡ v = at_is p m n v read in (
+      record {
+        is = read ∙ ap (λ u. Ok u) (sym same);
+        none = λ z. ap (λ (u : Inode). u.kind) same ∙ free z;
+        top = λ z. ap (λ (u : Inode). u.kind) same ∙ top z;
+      },
+      sym same,
+    )
+good_is p m n content None e is free top none = λ good. none (inode_at p m n) (ap inode_of (there p m n content e) ∙ good.is) good.none good.top
+
+-- one more in a vector
+pub more_there : {A : Type 0} (xs ys : List A) (x d : A) (what : ℕ → A) (n : ℕ) → ys ≡ xs ++ x ∷ [] → length xs ≡ n
+    → ((k : ℕ) → k < n → get_or xs k d ≡ what k) → x ≡ what n → (k : ℕ) → k < n + 1 → get_or ys k d ≡ what k
+more_there xs ys x d what n is len each here k lt = elim (cases_lt k n) [
+  | inl low ↦ ap (λ l. get_or l k d) is ∙ get_or_append_left xs (x ∷ []) d k (omega (arith, low, len)) ∙ each k low
+  | inr ge ↦
+      let same : k ≡ n = omega (arith, ge, lt) in
+      let zero_behind : k - n ≡ 0 = omega (arith, same) in
+      ap (λ l. get_or l k d) is ∙ get_or-append_right xs (x ∷ []) n k d len (omega (arith, ge))
+      ∙ ap (λ i. get_or (x ∷ []) i d) zero_behind ∙ here ∙ ap what (sym same)
+]
+
+pub more_good : (P : ℕ → Type 0) (n : ℕ) → ((k : ℕ) → k < n → P k) → P n → (k : ℕ) → k < n + 1 → P k
+more_good P n each here k lt = elim (cases_lt k n) [
+  | inl low ↦ each k low
+  | inr ge ↦ subst P (let same : n ≡ k = omega (arith, ge, lt) in same) here
+]

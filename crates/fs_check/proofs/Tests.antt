@@ -1,0 +1,57 @@
+-- A rule, tried at one number after the other.
+use Rattle.std.specs.Prelude.{◌≡◌, ℕ, ◌+◌, ◌<◌, Bool, true, false, List, [], get_or, IsTrue, ◌↔◌, Option, Some, None, MatchOption}
+use Rattle.std.proofs.Common.{refl, sym, arith, ◌∙◌, subst}
+use Rattle.std.proofs.lemmas.List.{get_or_default}
+use Rattle.fs_layout.specs.declared.inode.Kind.TheVariants as kinds
+use Rattle.fs_layout.specs.declared.inode.Inode.{Inode}
+use Rattle.fs_layout.specs.declared.place.Place.{Place}
+use Rattle.fs_layout.specs.Bytes.{SectorMap}
+use Rattle.fs_layout.specs.Inode.{free_inode}
+use Rattle.fs_layout.specs.Images.{inode_at}
+use Rattle.fs_model.specs.Rules.{ImageRule, Obeys, IsLeastFailure}
+use Rattle.sector_disk.specs.Disk.{DiskState, OnlyReads}
+use Rattle.fs_check.specs.Checks.{meaning, AreInodes}
+use Rattle.fs_check.proofs.Carrying.{meaning_same}
+use Rattle.fs_check.proofs.Tables.{more_good}
+
+-- an inode of the table
+pub inode_here : (p : Place) (m : SectorMap) (inodes : List Inode) (n : ℕ) (d : Inode) → AreInodes p m inodes → n < p.inodes
+    → get_or inodes n d ≡ inode_at p m n
+inode_here p m inodes n d table lt =
+    let len = table.len in
+    get_or_default inodes n d free_inode (omega (arith, lt, len)) ∙ table.each n lt
+
+-- what is known of it later, of the image as it was
+pub known_of : (P : SectorMap → Inode → Type 0) (old mid : DiskState) (p : Place) (inodes : List Inode) (n : ℕ) (d : Inode) → OnlyReads old mid
+    → AreInodes p (meaning old) inodes → n < p.inodes → P (meaning mid) (get_or inodes n d) → P (meaning old) (inode_at p (meaning old) n)
+known_of P old mid p inodes n d reads table lt known =
+    subst (λ v. P (meaning old) v) (inode_here p (meaning old) inodes n d table lt) (subst (λ m. P m (get_or inodes n d)) (meaning_same reads) known)
+
+pub refuses : (P : Type 0) (b : Bool) → b ≡ false → (IsTrue b ↔ P) → P → ⊥
+refuses P b e test x = let c : false ≡ true = sym e ∙ test.1 x in absurd cc
+
+-- a test of inode n that was made later, where those before it have passed
+module _ (P : SectorMap → Inode → Type 0) (old mid : DiskState) (p : Place) (inodes : List Inode) (n : ℕ) (d : Inode) (b : Bool) (reads : OnlyReads old mid)
+    (table : AreInodes p (meaning old) inodes) (lt : n < p.inodes) (test : IsTrue b ↔ P (meaning mid) (get_or inodes n d))
+    (before : (k : ℕ) → k < n → P (meaning old) (inode_at p (meaning old) k)) where
+  here : IsTrue b ↔ P (meaning old) (inode_at p (meaning old) n)
+  here = known_of (λ m v. IsTrue b ↔ P m v) old mid p inodes n d reads table lt test
+
+  pub next_passes : b ≡ true → (k : ℕ) → k < n + 1 → P (meaning old) (inode_at p (meaning old) k)
+  next_passes e = more_good (λ k. P (meaning old) (inode_at p (meaning old) k)) n before (here.0 e)
+
+  pub fails_first : (r : ImageRule) → ((k : ℕ) → Obeys p (meaning old) r k ↔ (k < p.inodes → P (meaning old) (inode_at p (meaning old) k))) → b ≡ false
+      → IsLeastFailure p (meaning old) r n
+  fails_first r is e = record {
+    fails = λ h. refuses (P (meaning old) (inode_at p (meaning old) n)) b e here ((is n).0 h lt);
+    least = λ k low. (is k).1 (λ below. before k low);
+  }
+
+-- where nothing is found
+pub not_found : {A : Type 0} (o : Option A) (P : Type 0) (Q : A → Type 0) → ((x : A) → o ≡ Some x → ⊥) → MatchOption o P Q → P
+not_found (Some x) P Q none found = absurd (none x refl)
+not_found None P Q none found = found
+
+-- what a read past the end of a list of inodes would give
+abbrev pub blank : Inode
+blank = record { kind = kinds.Free; mode = 0; uid = 0; gid = 0; names = 0; size = 0; parent = 0; acl = 0; default_acl = 0; direct = []; indirect = 0 }

@@ -1,0 +1,52 @@
+use Rattle.std.proofs.Common.{◌≡◌, ◌≤◌, ℕ, get_or, arith, refl, sym, subst}
+use Rattle.fs_layout.specs.declared.inode.Kind.TheVariants.{Link}
+use Rattle.fs_layout.specs.declared.inode.Inode.{Inode}
+use Rattle.fs_layout.specs.Bytes.{SectorMap}
+use Rattle.fs_layout.specs.Images.{IsData, Owns, inode_at}
+use Rattle.fs_model.specs.Rules.{InData, IsLaidOut, LaidOut}
+use Rattle.sector_disk.proofs.Moments.{reads_joined}
+use Rattle.fs_check.specs.Checks.{meaning}
+use Rattle.fs_check.proofs.Carrying.{meaning_same}
+use Rattle.fs_check.proofs.Tests.{inode_here, blank, next_passes, fails_first}
+use Rattle.fs_check.proofs.Trims.{short_link}
+use Rattle.fs_check.proofs.contents.laid_out.Goals as goal
+
+pub is_laid_out-requires-clause-in_data : goal.is_laid_out-requires-clause-in_data
+is_laid_out-requires-clause-in_data g c =
+    let s0 = g.D.Disk.state c.args.disk.now in
+    let p = c.args.place in
+    let lt = c.loop-n-test.true in
+    let here = inode_here p (meaning s0) c.args.inodes.now c.loop-n.n blank c.requires.table lt in
+    let now : (s : ℕ) → Owns (meaning s0) (inode_at p (meaning s0) c.loop-n.n) s → IsData p s = c.requires.before InData (omega arith) c.loop-n.n lt in
+    subst (λ (m : SectorMap). (s : ℕ) → Owns m (get_or c.args.inodes.now c.loop-n.n blank) s → IsData p s) (sym (meaning_same c.loop-n.invariant.reads))
+    (subst (λ (v : Inode). (s : ℕ) → Owns (meaning s0) v s → IsData p s) (sym here) now)
+
+pub is_laid_out-requires-clause-short : goal.is_laid_out-requires-clause-short
+is_laid_out-requires-clause-short g c =
+    let s0 = g.D.Disk.state c.args.disk.now in
+    let p = c.args.place in
+    let lt = c.loop-n-test.true in
+    let here = inode_here p (meaning s0) c.args.inodes.now c.loop-n.n blank c.requires.table lt in
+    subst (λ (v : Inode). v.kind ≡ Link → v.size ≤ 512) (sym here) (short_link p (meaning s0) c.loop-n.n c.requires.before lt)
+
+pub loop-n-preserved : goal.loop-n-preserved
+loop-n-preserved g c = record {
+  reads = reads_joined c.loop-n.invariant.reads c.in_ok-is_laid_out.ensures.passed.reads;
+  good = next_passes IsLaidOut (g.D.Disk.state c.args.disk.now) (g.D.Disk.state c.loop-n.disk) c.args.place c.args.inodes.now c.loop-n.n _
+      c.in_ok-is_laid_out.field-0 c.loop-n.invariant.reads c.requires.table c.loop-n-test.true c.in_ok-is_laid_out.ensures.test
+      c.loop-n.invariant.good c.if-not-branch.false;
+}
+
+pub returns-then-not-branch-clause-passed : goal.returns-then-not-branch-clause-passed
+returns-then-not-branch-clause-passed g c = record {
+  reads = reads_joined c.loop-n.invariant.reads c.in_ok-is_laid_out.ensures.passed.reads;
+  reason = (
+    refl,
+    fails_first IsLaidOut (g.D.Disk.state c.args.disk.now) (g.D.Disk.state c.loop-n.disk) c.args.place c.args.inodes.now c.loop-n.n _
+        c.in_ok-is_laid_out.field-0 c.loop-n.invariant.reads c.requires.table c.loop-n-test.true c.in_ok-is_laid_out.ensures.test
+        c.loop-n.invariant.good LaidOut (λ k. ((λ h. h), (λ h. h))) c.if-not-branch.true,
+  );
+}
+
+pub returns-clause-each : goal.returns-clause-each
+returns-clause-each g c = λ n lt. c.loop-n.invariant.good n (let past = c.loop-n-test.false in omega (arith, lt, past))

@@ -1,0 +1,95 @@
+use Rattle.std.proofs.Common.{◌≡◌, ◌≢◌, ◌+◌, ◌<◌, ◌≤◌, ◌↔◌, ℕ, List, get_or, length, rules, refl, sym, ap, subst, arith, ◌∙◌}
+use Rattle.std.proofs.lemmas.List.{take_at}
+use Rattle.std.proofs.lemmas.Option.{MatchOption-at_some}
+use Rattle.fs_layout.specs.declared.inode.Inode.{Inode}
+use Rattle.fs_layout.specs.declared.inode.Kind.TheVariants.{Directory}
+use Rattle.fs_layout.specs.Images.{Owns, IsData}
+use Rattle.fs_layout.specs.Directories.{HaveDistinctNames}
+use Rattle.fs_model.specs.Rules.{Obeys, InData, Inodes, NamesApart}
+use Rattle.fs_check.specs.Checks.{meaning}
+use Rattle.fs_check.specs.Naming.{AreSlots, HasGoodSlots}
+use Rattle.fs_check.proofs.Tables.{table_place}
+use Rattle.fs_check.proofs.Tests.{inode_here, blank}
+use Rattle.fs_check.proofs.Tallies.{directory_size, same_naming, next_naming, has_room, adds_same, naming_same}
+use Rattle.fs_check.proofs.directories.add_directory.Goals as goal
+
+pub returns-then-ne-clause-names : goal.returns-then-ne-clause-names
+returns-then-ne-clause-names g c =
+    let m = meaning (g.D.Disk.state c.args.disk.now) in
+    let p = c.args.place in
+    let d = c.args.d in
+    let here = inode_here p m c.args.inodes.now d blank c.requires.table c.requires.below in
+    let other : (get_or c.args.inodes.now d blank).kind ≢ Directory = search rules in
+    λ t. same_naming p m d c.args.names.now.counts.items c.args.names.now.directories.items c.args.names.now.repeated
+    (λ e. other (ap (λ (v : Inode). v.kind) here ∙ e)) c.requires.names
+
+pub read_good_slots-requires-clause-in_data : goal.read_good_slots-requires-clause-in_data
+read_good_slots-requires-clause-in_data g c =
+    let m = meaning (g.D.Disk.state c.args.disk.now) in
+    let here = inode_here c.args.place m c.args.inodes.now c.args.d blank c.requires.table c.requires.below in
+    subst (λ v. (s : ℕ) → Owns m v s → IsData c.args.place s) (sym here) (c.requires.before InData (omega arith) c.args.d c.requires.below)
+
+pub read_good_slots-requires-clause-size : goal.read_good_slots-requires-clause-size
+read_good_slots-requires-clause-size g c =
+    let m = meaning (g.D.Disk.state c.args.disk.now) in
+    let p = c.args.place in
+    let d = c.args.d in
+    let here = inode_here p m c.args.inodes.now d blank c.requires.table c.requires.below in
+    let is : (get_or c.args.inodes.now d blank).kind ≡ Directory = search rules in
+    subst (λ (v : Inode). v.size ≤ 71680) (sym here) (directory_size p m d (c.requires.before Inodes (omega arith) d c.requires.below)
+    (sym (ap (λ (v : Inode). v.kind) here) ∙ is))
+
+pub add_slots-requires-clause-room : goal.add_slots-requires-clause-room
+add_slots-requires-clause-room g c =
+    let s0 = g.D.Disk.state c.args.disk.now in
+    let m = meaning s0 in
+    let p = c.args.place in
+    let d = c.args.d in
+    let below = c.requires.below in
+    let at = table_place _ _ p d c.requires.opened.place below in
+    let on_disk = at.on_disk in
+    let small = at.small in
+    let here = inode_here p m c.args.inodes.now d blank c.requires.table below in
+    let is : (get_or c.args.inodes.now d blank).kind ≡ Directory = search rules in
+    let size = directory_size p m d (c.requires.before Inodes (omega arith) d below) (sym (ap (λ (v : Inode). v.kind) here) ∙ is) in
+    let found : AreSlots m (get_or c.args.inodes.now d blank) c.in-Some.slots.items =
+    (MatchOption-at_some _ _ c.in-Some.slots c.in-Some.is c.in_ok-slots.ensures.slots).1 in
+    let len = found.len in
+    let same = ap (λ (v : Inode). v.size) here in
+    let seen = ap length c.deref.ensures.value in
+    subst (λ (l : List ℕ). (n : ℕ) → n < length l → get_or l n 0 + length c.deref.result.now < 4294967296) (sym c.deref_mut.ensures.value) (λ n lt.
+    let room = has_room p m d c.in-Some.slots.items c.args.names.now.counts.items c.args.names.now.directories.items (omega (arith, on_disk, small))
+    (λ k low kind. directory_size p m k (c.requires.before Inodes (omega arith) k (omega (arith, low, below))) kind)
+    (omega (arith, len, same, size)) c.requires.names.tally n lt in
+    omega (arith, room, seen))
+
+pub returns-clause-test : goal.returns-clause-test
+returns-clause-test g c =
+    let m = meaning (g.D.Disk.state c.args.disk.now) in
+    let p = c.args.place in
+    let here = inode_here p m c.args.inodes.now c.args.d blank c.requires.table c.requires.below in
+    let good : HasGoodSlots p m (get_or c.args.inodes.now c.args.d blank) =
+    (MatchOption-at_some _ _ c.in-Some.slots c.in-Some.is c.in_ok-slots.ensures.slots).0 in
+    ((λ t lt kind. subst (HasGoodSlots p m) here good), (λ o. refl))
+
+pub returns-clause-names : goal.returns-clause-names
+returns-clause-names g c =
+    let m = meaning (g.D.Disk.state c.args.disk.now) in
+    let p = c.args.place in
+    let d = c.args.d in
+    let names = c.args.names.now in
+    let slots = c.in-Some.slots.items in
+    let here = inode_here p m c.args.inodes.now d blank c.requires.table c.requires.below in
+    let is : (get_or c.args.inodes.now d blank).kind ≡ Directory = search rules in
+    let found : AreSlots m (get_or c.args.inodes.now d blank) c.in-Some.slots.items =
+    (MatchOption-at_some _ _ c.in-Some.slots c.in-Some.is c.in_ok-slots.ensures.slots).1 in
+    let are = subst (λ v. AreSlots m v slots) here found in
+    let adds = adds_same d slots c.deref.result.now names.counts.items names.directories.items c.add_slots.new.counts c.add_slots.new.directories
+    c.deref_mut.result.now c.deref_mut-2.result.now c.deref.ensures.value c.deref_mut.ensures.value c.deref_mut-2.ensures.value c.add_slots.ensures in
+    λ t. naming_same p m (d + 1) c.add_slots.new.counts c.add_slots.new.directories _ _ c.first_repeated-names.result
+    (take_at c.add_slots.new.counts _ names.counts.len (c.add_slots.ensures.counts_len ∙ c.deref_mut.ensures.len))
+    (take_at c.add_slots.new.directories _ names.directories.len (c.add_slots.ensures.directories_len ∙ c.deref_mut-2.ensures.len))
+    (next_naming p m d slots names.counts.items names.directories.items c.add_slots.new.counts c.add_slots.new.directories names.repeated
+    c.first_repeated-names.result
+    c.requires.below (sym (ap (λ (v : Inode). v.kind) here) ∙ is) are adds c.requires.names
+    (λ x test. c.first_repeated-names.ensures p m x (subst (λ l. HaveDistinctNames l ↔ Obeys p m NamesApart d) (sym c.deref_mut-3.ensures.value) test)))

@@ -1,0 +1,64 @@
+use Rattle.std.proofs.Common.{◌+◌, arith, refl, subst, sym}
+use Rattle.fs_model.specs.Rules.{Obeys, Slots}
+use Rattle.sector_disk.proofs.Moments.{reads_joined}
+use Rattle.fs_check.specs.Checks.{meaning}
+use Rattle.fs_check.specs.Naming.{IsNaming}
+use Rattle.fs_check.proofs.Carrying.{meaning_same}
+use Rattle.fs_check.proofs.Tables.{more_good}
+use Rattle.fs_check.proofs.Tests.{refuses}
+use Rattle.fs_check.proofs.Tallies.{all_repeated, all_named}
+use Rattle.fs_check.proofs.directories.read_names.Goals as goal
+
+pub add_directory-requires-clause-names : goal.add_directory-requires-clause-names
+add_directory-requires-clause-names g c =
+    subst (λ m. IsNaming c.args.place m c.loop-d.d c.loop-d.names.counts.items c.loop-d.names.directories.items c.loop-d.names.repeated)
+    (sym (meaning_same c.loop-d.invariant.reads)) c.loop-d.invariant.naming
+
+pub loop-d-preserved : goal.loop-d-preserved
+loop-d-preserved g c =
+    let s0 = g.D.Disk.state c.args.disk.now in
+    let p = c.args.place in
+    let d = c.loop-d.d in
+    let new = c.add_directory.new.names in
+    let same = meaning_same c.loop-d.invariant.reads in
+    let is = c.if-not-branch.false in
+    record {
+      reads = reads_joined c.loop-d.invariant.reads c.in_ok-add_directory.ensures.passed.reads;
+      good = more_good (Obeys p (meaning s0) Slots) d c.loop-d.invariant.good (subst (λ m. Obeys p m Slots d) same (c.in_ok-add_directory.ensures.test.0 is));
+      naming = subst (λ m. IsNaming p m (d + 1) new.counts.items new.directories.items new.repeated) same (c.in_ok-add_directory.ensures.names is);
+    }
+
+pub returns-then-not-branch-clause-passed : goal.returns-then-not-branch-clause-passed
+returns-then-not-branch-clause-passed g c =
+    let s0 = g.D.Disk.state c.args.disk.now in
+    let s1 = g.D.Disk.state c.loop-d.disk in
+    let p = c.args.place in
+    let d = c.loop-d.d in
+    record {
+      reads = reads_joined c.loop-d.invariant.reads c.in_ok-add_directory.ensures.passed.reads;
+      reason = (
+        refl,
+        record {
+          fails = λ h.
+              refuses (Obeys p (meaning s1) Slots d) c.in_ok-add_directory.field-0 c.if-not-branch.true c.in_ok-add_directory.ensures.test
+              (subst (λ m. Obeys p m Slots d) (sym (meaning_same c.loop-d.invariant.reads)) h);
+          least = c.loop-d.invariant.good;
+        },
+      );
+    }
+
+pub returns-clause-each : goal.returns-clause-each
+returns-clause-each g c = λ n lt. c.loop-d.invariant.good n (let past = c.loop-d-test.false in omega (arith, lt, past)) lt
+
+pub returns-clause-names : goal.returns-clause-names
+returns-clause-names g c =
+    let past = c.loop-d-test.false in
+    let end = c.loop-d.auto.d-end in
+    all_named c.args.place (meaning (g.D.Disk.state c.args.disk.now)) c.loop-d.d c.loop-d.names.counts.items c.loop-d.names.directories.items
+    (omega (arith, past, end)) c.loop-d.invariant.naming.tally
+
+pub returns-clause-repeated : goal.returns-clause-repeated
+returns-clause-repeated g c =
+    let past = c.loop-d-test.false in
+    all_repeated c.args.place (meaning (g.D.Disk.state c.args.disk.now)) c.loop-d.d c.loop-d.names.repeated (omega (arith, past))
+    c.loop-d.invariant.naming.repeated

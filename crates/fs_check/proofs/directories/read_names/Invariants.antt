@@ -1,0 +1,13 @@
+use Rattle.std.proofs.Common.{◌<◌, ℕ}
+use Rattle.fs_model.specs.Rules.{Obeys, Slots}
+use Rattle.sector_disk.specs.Disk.{OnlyReads}
+use Rattle.fs_check.specs.Checks.{meaning}
+use Rattle.fs_check.specs.Naming.{IsNaming}
+use Rattle.fs_check.proofs.directories.read_names.Given as goal
+
+abbrev pub invariant-loop-d : goal.invariant-loop-d
+invariant-loop-d g l = record {
+  reads : OnlyReads (g.D.Disk.state l.fn.disk) (g.D.Disk.state l.disk);
+  good : (k : ℕ) → k < l.d → Obeys l.place (meaning (g.D.Disk.state l.fn.disk)) Slots k;
+  naming : IsNaming l.place (meaning (g.D.Disk.state l.fn.disk)) l.d l.names.counts.items l.names.directories.items l.names.repeated;
+}

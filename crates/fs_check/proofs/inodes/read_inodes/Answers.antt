@@ -1,0 +1,48 @@
+use Rattle.std.proofs.Common.{Some, None, refl}
+use Rattle.fs_layout.specs.Inode.{free_inode}
+use Rattle.fs_layout.specs.Images.{inode_at}
+use Rattle.fs_model.specs.Rules.{IsGoodInode}
+use Rattle.sector_disk.proofs.Moments.{reads_joined}
+use Rattle.fs_check.specs.Checks.{meaning}
+use Rattle.fs_check.proofs.Tables.{good_is, more_there, more_good}
+use Rattle.fs_check.proofs.TableSectors.{same_sector, sector_back, sector_still, one_longer}
+use Rattle.fs_check.proofs.inodes.read_inodes.Goals as goal
+
+pub read_table-requires-clause-kept : goal.read_table-requires-clause-kept
+read_table-requires-clause-kept g c = λ inside.
+    sector_still _ _ c.args.place c.loop-n.n c.loop-n.table c.loop-n.invariant.reads (c.loop-n.invariant.kept inside)
+
+pub loop-n-preserved : goal.loop-n-preserved
+loop-n-preserved g c =
+    let s0 = g.D.Disk.state c.args.disk.now in
+    let s1 = g.D.Disk.state c.loop-n.disk in
+    let p = c.args.place in
+    let n = c.loop-n.n in
+    let so_far = c.loop-n.invariant in
+    let here = sector_back s0 s1 p n c.read_table.new.table so_far.reads c.in_ok-read_table.ensures.table in
+    let v = c.in-Some.inode in
+    let told = c.in-Some.ensures in
+    let pushed = c.in_ok-push-in-Some.ensures.items in
+    let good = good_is p (meaning s0) n c.read_table.new.table (Some v) (here c.loop-n-test.true) told.is told.free told.top told.none in
+    record {
+      reads = reads_joined so_far.reads c.in_ok-read_table.ensures.passed.reads;
+      kept = same_sector p (meaning s0) n c.read_table.new.table here;
+      len = one_longer c.loop-n.inodes.items c.push.new.self.items v n pushed so_far.len;
+      each = more_there c.loop-n.inodes.items c.push.new.self.items v free_inode (inode_at p (meaning s0)) n pushed so_far.len so_far.each good.1;
+      good = more_good (IsGoodInode p (meaning s0)) n so_far.good good.0;
+    }
+
+pub returns-in-None-clause-passed : goal.returns-in-None-clause-passed
+returns-in-None-clause-passed g c =
+    let s0 = g.D.Disk.state c.args.disk.now in
+    let s1 = g.D.Disk.state c.loop-n.disk in
+    let p = c.args.place in
+    let n = c.loop-n.n in
+    let so_far = c.loop-n.invariant in
+    let here = sector_back s0 s1 p n c.read_table.new.table so_far.reads c.in_ok-read_table.ensures.table in
+    let told = c.in-None.ensures in
+    let bad = good_is p (meaning s0) n c.read_table.new.table None (here c.loop-n-test.true) told.is told.free told.top told.none in
+    record {
+      reads = reads_joined so_far.reads c.in_ok-read_table.ensures.passed.reads;
+      reason = (refl, record { fails = λ h. bad (h c.loop-n-test.true); least = λ k low below. so_far.good k low });
+    }

@@ -1,0 +1,7 @@
+use Rattle.std.proofs.Common.{◌<◌, ℕ, get_or}
+use Rattle.fs_layout.specs.Inode.{free_inode}
+use Rattle.fs_check.proofs.Namings.{IsPlaced}
+use Rattle.fs_check.proofs.names.misplaced.Given as goal
+
+abbrev pub invariant-loop-n : goal.invariant-loop-n
+invariant-loop-n l = (k : ℕ) → k < l.n → IsPlaced l.names.directories.items k (get_or l.inodes k free_inode)

@@ -1,0 +1,7 @@
+pub mod Owning
+pub mod LastBlocks
+pub mod Checks
+pub mod StoredAcls
+pub mod TableSectors
+pub mod Ways
+pub mod Naming

@@ -1,0 +1,27 @@
+-- What a check finds in the sector of an ACL.
+--     AreNoEntries        no entries have these numbers
+--     IsListed        the ACL with these entries, in canonical order, or none where there is none
+--     IsAclIn        the ACL that a sector has, or none where it has none
+--     IsInPlace        an inode has no ACL of a sort that it mustn't have
+use Rattle.std.specs.Prelude.{◌≡◌, ◌≢◌, ℕ, List, map, Option, Some, None}
+use Rattle.posix_acl.specs.declared.entry.Entry.{Entry}
+use Rattle.posix_acl.specs.declared.entry.EntryNumbers.{EntryNumbers}
+use Rattle.posix_acl.specs.Entries.{numbers_of}
+use Rattle.posix_acl.specs.AccessList.{AccessList, IsAcl, list_numbers}
+use Rattle.fs_layout.specs.declared.inode.Kind.TheVariants as kinds
+use Rattle.fs_layout.specs.declared.inode.Inode.{Inode}
+use Rattle.fs_model.specs.Rules.{IsStoredAcl}
+
+abbrev pub AreNoEntries : List EntryNumbers → Type 0
+AreNoEntries ns = (es : List Entry) → map numbers_of es ≢ ns
+
+abbrev pub IsListed : List EntryNumbers → Option AccessList → Type 0
+IsListed ns None = (a : AccessList) → IsAcl a → list_numbers a ≢ ns
+IsListed ns (Some a) = IsAcl a × (list_numbers a ≡ ns)
+
+abbrev pub IsAclIn : List ℕ → Option AccessList → Type 0
+IsAclIn content None = (a : AccessList) → IsStoredAcl content a → ⊥
+IsAclIn content (Some a) = IsStoredAcl content a
+
+abbrev pub IsInPlace : Inode → Type 0
+IsInPlace v = (v.kind ≡ kinds.Link → v.acl ≡ 0) × (v.kind ≢ kinds.Directory → v.default_acl ≡ 0)

@@ -1,0 +1,120 @@
+//! The two bitmaps.
+
+ghost use Rattle.std.specs.Prelude.{◌≡◌, ◌<◌, ◌≤◌, ◌+◌, ◌*◌, ◌/◌, ℕ, length, nat_lt, nat_le, nat_eq, not, ◌||◌, ◌⊎◌, OnOk, IfSome, IfNone, IsTrue, ◌↔◌};
+ghost use Rattle.fs_layout.specs.Bytes.{SectorMap, u16_of};
+ghost use Rattle.fs_layout.specs.Images.{bit, block_bitmap, stored};
+ghost use Rattle.fs_layout.specs.Ownership.{IsOwned};
+ghost use Rattle.fs_model.specs.Rules.{ObeysEach, InodeBits, BlockBits, IsBlockBit};
+ghost use Rattle.fs_check.specs.Checks.{meaning, IsOpened, IsOwnerMap, Passed, IsLeast};
+ghost use Rattle.fs_check.specs.TableSectors.{IsTableSector};
+
+use crate::faults::{CheckFault, Finding};
+use crate::inodes::read_table;
+use crate::reading::read_recovered;
+use byteorder::{ByteOrder, LittleEndian};
+use fs_layout::{BLOCK_BITMAP, Commit, INODE_BITMAP, Place, SECTOR_BITS};
+use sector_disk::Disk;
+
+const INODE_BITS: u8 = 3;
+
+const BLOCK_BITS: u8 = 7;
+
+// Bit n of a bitmap; `map` is its sector that has the bit.
+fn has_bit(map: &[u8; 512], n: u32) -> bool
+    ensures { (m : SectorMap) (start : ℕ) → map.now ≡ m (start + n / 4096) → result ≡ bit m start n }
+{
+    let byte = map[(n % SECTOR_BITS / 8) as usize];
+    byte >> (n % 8) & 1 == 1
+}
+
+// The kind field of an inode, whose bytes begin here.
+fn kind_field(table: &[u8; 512], at: usize) -> u16
+    requires { at + 128 ≤ 512 }
+    ensures { result ≡ u16_of table.now at }
+{
+    LittleEndian::read_u16(&table[at..])
+}
+
+// What bit n of the inode bitmap has to be; `table` is the sector of the inode, if there is such an inode.
+fn is_taken(place: Place, table: &[u8; 512], n: u32) -> bool
+    ensures { (m : SectorMap) → IsTableSector place m n table.now
+        → result ≡ (nat_lt n 2 || nat_le place.inodes n || not (nat_eq (u16_of (stored place m n) 0) 0)) }
+{
+    n < 2 || place.inodes <= n || kind_field(table, place.inode_offset(n)) != 0
+}
+
+/// Each bit of the inode bitmap is set exactly where it has to be.
+pub(crate) fn inode_bits<D: Disk>(
+    disk: &mut D,
+    place: Place,
+    commit: &Commit,
+) -> Result<(), CheckFault>
+    requires opened { IsOpened (D.state disk.old) place commit.now }
+    ensures each { OnOk result (ObeysEach place (meaning (D.state disk.old)) InodeBits) }
+    ensures passed { Passed (IsLeast place InodeBits) (D.state disk.old) (D.state disk.new) result }
+{
+    let mut map = [0; 512];
+    read_recovered(disk, commit, INODE_BITMAP, &mut map)?;
+    let mut table = [0; 512];
+    for n in 0..SECTOR_BITS {
+        read_table(disk, place, commit, n, &mut table)?;
+        if has_bit(&map, n) != is_taken(place, &table, n) {
+            return Err(CheckFault::Found(Finding {
+                rule: INODE_BITS,
+                at: n,
+            }));
+        }
+    }
+    Ok(())
+}
+
+// What bit s of the block bitmap has to be.
+fn is_used(place: Place, owned: &[bool], s: u32) -> bool
+    requires { length owned.now ≡ place.sectors }
+    ensures { (m : SectorMap) → IsOwnerMap place m owned.now
+        → IsTrue result ↔ ((s < place.first_data) ⊎ ((place.sectors ≤ s) ⊎ IsOwned place m s)) }
+{
+    s < place.first_data || place.sectors <= s || owned[s as usize]
+}
+
+// The least bit that isn't what it has to be, of those in sector k of the block bitmap, which is `map`.
+fn first_wrong(place: Place, map: &[u8; 512], owned: &[bool], k: u32) -> Option<u32>
+    requires owned { length owned.now ≡ place.sectors }
+    requires low { k < 16 }
+    ensures wrong { (m : SectorMap) → IsOwnerMap place m owned.now → map.now ≡ m (block_bitmap + k)
+        → IfSome result (λ s. (s < 4096 * (k + 1)) × (IsBlockBit place m s → ⊥) × ((i : ℕ) → 4096 * k ≤ i → i < s → IsBlockBit place m i)) }
+    ensures none { (m : SectorMap) → IsOwnerMap place m owned.now → map.now ≡ m (block_bitmap + k)
+        → IfNone result ((i : ℕ) → 4096 * k ≤ i → i < 4096 * (k + 1) → IsBlockBit place m i) }
+{
+    for s in SECTOR_BITS * k..SECTOR_BITS * (k + 1) {
+        if has_bit(map, s) != is_used(place, owned, s) {
+            return Some(s);
+        }
+    }
+    None
+}
+
+/// Each bit of the block bitmap is set exactly where it has to be.
+pub(crate) fn block_bits<D: Disk>(
+    disk: &mut D,
+    place: Place,
+    commit: &Commit,
+    owned: &[bool],
+) -> Result<(), CheckFault>
+    requires opened { IsOpened (D.state disk.old) place commit.now }
+    requires owners { IsOwnerMap place (meaning (D.state disk.old)) owned.now }
+    ensures each { OnOk result (ObeysEach place (meaning (D.state disk.old)) BlockBits) }
+    ensures passed { Passed (IsLeast place BlockBits) (D.state disk.old) (D.state disk.new) result }
+{
+    let mut map = [0; 512];
+    for k in 0..place.table - BLOCK_BITMAP {
+        read_recovered(disk, commit, BLOCK_BITMAP + k, &mut map)?;
+        if let Some(s) = first_wrong(place, &map, owned, k) {
+            return Err(CheckFault::Found(Finding {
+                rule: BLOCK_BITS,
+                at: s,
+            }));
+        }
+    }
+    Ok(())
+}

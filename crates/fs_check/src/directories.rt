@@ -1,0 +1,128 @@
+//! The slots of all directories.
+
+ghost use Rattle.std.specs.Prelude.{◌≡◌, ◌<◌, ◌+◌, ◌^◌, ℕ, length, get_or, OnOk, IfOk, IsTrue, ◌↔◌, All, set, MatchOption};
+ghost use Rattle.fs_layout.specs.Bytes.{SectorMap};
+ghost use Rattle.fs_layout.specs.Directories.{HaveDistinctNames};
+ghost use Rattle.fs_model.specs.Rules.{Obeys, ObeysEach, ObeysBefore, IsLeastFailure, Slots, NamesApart};
+ghost use Rattle.fs_check.specs.Naming.{AddsSlots, IsRepeated, IsNaming};
+ghost use Rattle.fs_check.specs.Checks.{meaning, IsOpened, AreInodes, IsNameTable, Passed, IsNone, IsLeast};
+
+use crate::faults::{CheckFault, Finding};
+use crate::slots::{are_names_apart, read_good_slots};
+use fs_layout::{Commit, Inode, Kind, Place, Slot};
+use sector_disk::Disk;
+use std::alloc::Global;
+
+const SLOTS: u8 = 10;
+
+/// What the slots of all directories name.
+#[derive(Drop)]
+pub(crate) struct Names {
+    /// For each inode, how many slots name it.
+    pub counts: Vec<u32>,
+    /// For each inode, a directory that has a slot which names it, where there is one.
+    pub directories: Vec<u32>,
+    /// The first directory in which a name stands twice.
+    pub repeated: Option<u32>,
+}
+
+// One more name of inode n, in directory d.
+fn add_name(n: usize, d: u32, counts: &mut [u32], directories: &mut [u32])
+    requires counts { n < length counts.old }
+    requires directories { n < length directories.old }
+    requires room { get_or counts.old n 0 + 1 < 2 ^ 32 }
+    ensures counts { counts.new ≡ set counts.old n (get_or counts.old n 0 + 1) }
+    ensures directories { directories.new ≡ set directories.old n d }
+{
+    counts[n] += 1;
+    directories[n] = d;
+}
+
+// Adds what the slots of directory d name.
+fn add_slots(slots: &[Slot], d: u32, counts: &mut [u32], directories: &mut [u32])
+    requires counts { All (λ x. x.inode < length counts.old) slots.now }
+    requires directories { All (λ x. x.inode < length directories.old) slots.now }
+    requires room { (n : ℕ) → n < length counts.old → get_or counts.old n 0 + length slots.now < 2 ^ 32 }
+    ensures { AddsSlots d slots.now counts.old directories.old counts.new directories.new }
+{
+    for slot in slots {
+        add_name(slot.inode() as usize, d, counts, directories);
+    }
+}
+
+// The first directory in which a name stands twice, where d with these slots is the next.
+fn first_repeated(first: Option<u32>, d: u32, slots: &mut [Slot]) -> Option<u32>
+    ensures { (p : Place) (m : SectorMap) → IsRepeated p m d first → (HaveDistinctNames slots.old ↔ Obeys p m NamesApart d)
+        → IsRepeated p m (d + 1) result }
+{
+    if first.is_some() {
+        return first;
+    }
+    if are_names_apart(slots) {
+        return None;
+    }
+    Some(d)
+}
+
+// Adds inode d, where it is a directory; not where one of its slots names no inode that it may.
+fn add_directory<D: Disk>(
+    alloc: Global,
+    disk: &mut D,
+    place: Place,
+    commit: &Commit,
+    inodes: &[Inode],
+    d: u32,
+    names: &mut Names,
+) -> Result<bool, CheckFault>
+    requires opened { IsOpened (D.state disk.old) place commit.now }
+    requires table { AreInodes place (meaning (D.state disk.old)) inodes.now }
+    requires before { ObeysBefore place (meaning (D.state disk.old)) 10 }
+    requires below { d < place.inodes }
+    requires names { IsNaming place (meaning (D.state disk.old)) d names.old.counts.items names.old.directories.items names.old.repeated }
+    ensures test { IfOk result (λ b. IsTrue b ↔ Obeys place (meaning (D.state disk.old)) Slots d) }
+    ensures names { IfOk result (λ b. IsTrue b
+        → IsNaming place (meaning (D.state disk.old)) (d + 1) names.new.counts.items names.new.directories.items names.new.repeated) }
+    ensures passed { Passed IsNone (D.state disk.old) (D.state disk.new) result }
+{
+    let inode = inodes[d as usize];
+    if inode.kind != Kind::Directory {
+        return Ok(true);
+    }
+    let Some(mut slots) = read_good_slots(alloc, disk, place, commit, inodes, &inode)? else {
+        return Ok(false);
+    };
+    add_slots(&slots, d, &mut names.counts, &mut names.directories);
+    names.repeated = first_repeated(names.repeated, d, &mut slots);
+    Ok(true)
+}
+
+/// What the slots of all directories name, where each is valid and its inode is in use and isn't the root. Each sector of a
+/// directory is read once.
+pub(crate) fn read_names<D: Disk>(
+    alloc: Global,
+    disk: &mut D,
+    place: Place,
+    commit: &Commit,
+    inodes: &[Inode],
+) -> Result<Names, CheckFault>
+    requires opened { IsOpened (D.state disk.old) place commit.now }
+    requires table { AreInodes place (meaning (D.state disk.old)) inodes.now }
+    requires before { ObeysBefore place (meaning (D.state disk.old)) 10 }
+    ensures each { OnOk result (ObeysEach place (meaning (D.state disk.old)) Slots) }
+    ensures names { IfOk result (λ names. IsNameTable place (meaning (D.state disk.old)) names.counts.items names.directories.items) }
+    ensures repeated { IfOk result (λ names. MatchOption names.repeated (ObeysEach place (meaning (D.state disk.old)) NamesApart)
+        (λ d. IsLeastFailure place (meaning (D.state disk.old)) NamesApart d)) }
+    ensures passed { Passed (IsLeast place Slots) (D.state disk.old) (D.state disk.new) result }
+{
+    let mut names = Names {
+        counts: vec![in alloc; 0; place.inodes as usize]?,
+        directories: vec![in alloc; 0; place.inodes as usize]?,
+        repeated: None,
+    };
+    for d in 0..place.inodes {
+        if !add_directory(alloc, disk, place, commit, inodes, d, &mut names)? {
+            return Err(CheckFault::Found(Finding { rule: SLOTS, at: d }));
+        }
+    }
+    Ok(names)
+}

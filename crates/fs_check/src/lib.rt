@@ -1,0 +1,23 @@
+//! The checker: whether a disk stands for a tree, and where not, what is wrong with it first.
+//!
+//! The rules stand in `fs_model`; nothing is written.
+#![tactic(auto)]
+
+mod acls;
+mod bitmaps;
+mod checking;
+mod contents;
+mod directories;
+mod faults;
+mod inodes;
+mod marking;
+mod names;
+mod opening;
+mod owning;
+mod reading;
+mod slots;
+mod summary;
+mod ways;
+
+pub use checking::check;
+pub use faults::{CheckFault, Finding, Summary};

@@ -1,0 +1,72 @@
+//! How often each inode is named, and its parent.
+
+ghost use Rattle.std.specs.Prelude.{◌≡◌, length, IsTrue, ◌↔◌, IfSome, IfNone};
+ghost use Rattle.fs_layout.specs.Bytes.{SectorMap};
+ghost use Rattle.fs_model.specs.Rules.{HasNameCount, ObeysEach, ObeysBefore, IsLeastFailure, Names as NameCounts, Parents};
+ghost use Rattle.fs_check.specs.Checks.{AreInodes, IsNameTable};
+ghost use Rattle.fs_check.specs.Ways.{the_parent};
+
+use crate::directories::Names;
+use fs_layout::{Inode, Kind, Place, ROOT};
+
+// The most names of a file or a link.
+const MOST_NAMES: u32 = 500;
+
+// Whether inode n may have the names field that it has, where so many slots name it.
+fn has_name_count(n: u32, inode: &Inode, count: u32) -> bool
+    ensures { IsTrue result ↔ HasNameCount inode.now.kind n inode.now.names count }
+{
+    match inode.kind {
+        Kind::Free => true,
+        Kind::File => inode.names == count && count <= MOST_NAMES,
+        Kind::Directory => inode.names == 1 && count == if n == ROOT { 0 } else { 1 },
+        Kind::Link => inode.names == count && 1 <= count && count <= MOST_NAMES,
+    }
+}
+
+/// The first inode whose count of names isn't the number of slots that name it, or isn't one that it may have.
+pub(crate) fn miscounted(place: Place, inodes: &[Inode], names: &Names) -> Option<u32>
+    requires inodes { length inodes.now ≡ place.inodes }
+    requires counts { length names.now.counts.items ≡ place.inodes }
+    ensures some { IfSome result (λ n. (m : SectorMap) → AreInodes place m inodes.now
+        → IsNameTable place m names.now.counts.items names.now.directories.items → ObeysBefore place m 12 → IsLeastFailure place m NameCounts n) }
+    ensures none { IfNone result ((m : SectorMap) → AreInodes place m inodes.now
+        → IsNameTable place m names.now.counts.items names.now.directories.items → ObeysBefore place m 12 → ObeysEach place m NameCounts) }
+{
+    for n in 0..place.inodes {
+        if !has_name_count(n, &inodes[n as usize], names.counts[n as usize]) {
+            return Some(n);
+        }
+    }
+    None
+}
+
+// Whether inode n may have the parent field that it has, where this directory names it, or none does.
+fn has_parent(n: u32, inode: &Inode, directory: u32) -> bool
+    ensures { IsTrue result ↔ (inode.now.parent ≡ the_parent n inode.now.kind directory) }
+{
+    if n == ROOT {
+        return inode.parent == ROOT;
+    }
+    match inode.kind {
+        Kind::Directory => inode.parent == directory,
+        Kind::Free | Kind::File | Kind::Link => inode.parent == 0,
+    }
+}
+
+/// The first inode whose parent field isn't the directory that names it.
+pub(crate) fn misplaced(place: Place, inodes: &[Inode], names: &Names) -> Option<u32>
+    requires inodes { length inodes.now ≡ place.inodes }
+    requires directories { length names.now.directories.items ≡ place.inodes }
+    ensures some { IfSome result (λ n. (m : SectorMap) → AreInodes place m inodes.now
+        → IsNameTable place m names.now.counts.items names.now.directories.items → ObeysBefore place m 13 → IsLeastFailure place m Parents n) }
+    ensures none { IfNone result ((m : SectorMap) → AreInodes place m inodes.now
+        → IsNameTable place m names.now.counts.items names.now.directories.items → ObeysBefore place m 13 → ObeysEach place m Parents) }
+{
+    for n in 0..place.inodes {
+        if !has_parent(n, &inodes[n as usize], names.directories[n as usize]) {
+            return Some(n);
+        }
+    }
+    None
+}

@@ -1,0 +1,81 @@
+//! The superblock and the commit sector.
+
+ghost use Rattle.std.specs.Prelude.{◌≡◌, IfOk, IfSome, IfNone};
+ghost use Rattle.fs_layout.specs.Bytes.{SectorMap};
+ghost use Rattle.fs_layout.specs.Commit.{IsCommit};
+ghost use Rattle.fs_model.specs.Rules.{IsPlaceOf, HasPlace, HasCommit};
+ghost use Rattle.sector_disk.specs.Disk.{sector};
+ghost use Rattle.fs_check.specs.Checks.{Passed, IsFirst};
+
+use crate::faults::{CheckFault, Finding};
+use fs_layout::{Commit, Place, Super, place_of};
+use sector_disk::Disk;
+
+const NO_PLACE: CheckFault = CheckFault::Found(Finding { rule: 1, at: 0 });
+
+const NO_COMMIT: CheckFault = CheckFault::Found(Finding { rule: 2, at: 1 });
+
+// The layout of a disk of so many sectors, as its superblock says it.
+fn place_in(content: &[u8; 512], size: u32) -> Option<Place>
+    ensures some { IfSome result (λ p. (image : SectorMap) → image 0 ≡ content.now → IsPlaceOf size image p) }
+    ensures none { IfNone result ((image : SectorMap) → image 0 ≡ content.now → HasPlace size image → ⊥) }
+{
+    let Ok(superblock) = Super::read_from(content, 0) else {
+        return None;
+    };
+    if superblock.sectors != size {
+        return None;
+    }
+    place_of(size, superblock.inodes)
+}
+
+/// Reads where the parts of the disk lie: the first rule.
+pub(crate) fn open_place<D: Disk>(disk: &mut D) -> Result<Place, CheckFault>
+    ensures place { IfOk result (λ p. IsPlaceOf (D.state disk.old).size (sector (D.state disk.old).seen) p) }
+    ensures passed { Passed IsFirst (D.state disk.old) (D.state disk.new) result }
+{
+    let size = disk.size();
+    if size == 0 {
+        return Err(NO_PLACE);
+    }
+    let mut content = [0; 512];
+    disk.read(0, &mut content)?;
+    match place_in(&content, size) {
+        Some(place) => Ok(place),
+        None => Err(NO_PLACE),
+    }
+}
+
+// The commit that a sector's content is, on a disk of so many sectors.
+fn commit_in(content: &[u8; 512], size: u32) -> Option<Commit>
+    ensures some { IfSome result (λ targets. (image : SectorMap) → image 1 ≡ content.now
+        → IsCommit size content.now targets × HasCommit size image) }
+    ensures none { IfNone result ((image : SectorMap) → image 1 ≡ content.now → HasCommit size image → ⊥) }
+{
+    match Commit::read_from(content, 0) {
+        Ok(commit) => {
+            if commit.is_valid_for(size) {
+                Some(commit)
+            } else {
+                None
+            }
+        }
+        Err(_) => None,
+    }
+}
+
+/// Reads the commit sector: the second rule.
+pub(crate) fn open_commit<D: Disk>(disk: &mut D) -> Result<Commit, CheckFault>
+    requires { HasPlace (D.state disk.old).size (sector (D.state disk.old).seen) }
+    ensures targets { IfOk result (λ targets. IsCommit (D.state disk.old).size (sector (D.state disk.old).seen 1) targets) }
+    ensures commit { IfOk result (λ _. HasCommit (D.state disk.old).size (sector (D.state disk.old).seen)) }
+    ensures passed { Passed IsFirst (D.state disk.old) (D.state disk.new) result }
+{
+    let size = disk.size();
+    let mut content = [0; 512];
+    disk.read(1, &mut content)?;
+    match commit_in(&content, size) {
+        Some(commit) => Ok(commit),
+        None => Err(NO_COMMIT),
+    }
+}

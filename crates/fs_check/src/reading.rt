@@ -1,0 +1,56 @@
+//! Sectors as recovery would leave them.
+
+ghost use Rattle.std.specs.Prelude.{◌≡◌, ◌≢◌, ◌≤◌, ◌<◌, ◌^◌, ℕ, length, get_or, IfSome, IfNone, OnOk};
+ghost use Rattle.fs_layout.specs.Bytes.{SectorMap};
+ghost use Rattle.fs_layout.specs.Commit.{IsCommit};
+ghost use Rattle.fs_layout.specs.Recovered.{recovered};
+ghost use Rattle.sector_disk.specs.Disk.{IsSame, Elapses, HasCause, sector};
+ghost use Rattle.fs_check.specs.Checks.{meaning};
+
+use fs_layout::Commit;
+use sector_disk::{Disk, DiskFault};
+
+// Where the sector stands among the targets.
+fn place_of(targets: &[u32], n: u32) -> Option<usize>
+    ensures none { IfNone result ((k : ℕ) → k < length targets.now → get_or targets.now k 0 ≢ n) }
+    ensures place { IfSome result (λ k. k < length targets.now) }
+    ensures there { IfSome result (λ k. get_or targets.now k 0 ≡ n) }
+{
+    for (k, target) in targets.iter().enumerate() {
+        if *target == n {
+            return Some(k);
+        }
+    }
+    None
+}
+
+// The sector that has the content of sector n: a target of the commit has it in the log.
+fn content_of(commit: &Commit, n: u32) -> u32
+    ensures content { (size : ℕ) (image : SectorMap) → size < 2 ^ 32 → IsCommit size (image 1) commit.now
+        → recovered size image n ≡ image result }
+    ensures on_disk { (size : ℕ) → 128 ≤ size → n < size → result < size }
+{
+    match place_of(commit.targets(), n) {
+        Some(k) => 2 + k as u32,
+        None => n,
+    }
+}
+
+/// Reads a sector as recovery would leave it.
+pub(crate) fn read_recovered<D: Disk>(
+    disk: &mut D,
+    commit: &Commit,
+    n: u32,
+    to: &mut [u8; 512],
+) -> Result<(), DiskFault>
+    requires on_disk { n < (D.state disk.old).size }
+    requires room { 128 ≤ (D.state disk.old).size }
+    requires commit { IsCommit (D.state disk.old).size (sector (D.state disk.old).seen 1) commit.now }
+    ensures content { OnOk result (to.new ≡ meaning (D.state disk.old) n) }
+    ensures same { IsSame (D.state disk.old) (D.state disk.new) }
+    ensures time { Elapses (D.state disk.old) (D.state disk.new) }
+    ensures cause { HasCause (D.state disk.old) (D.state disk.new) result }
+    ensures quiet { (D.state disk.new).failed_writes ≡ (D.state disk.old).failed_writes }
+{
+    disk.read(content_of(commit, n), to)
+}
