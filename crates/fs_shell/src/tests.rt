@@ -1,7 +1,5 @@
 //! Scripts with their replies, over disks of which one call fails, and over readers and writers of several kinds.
 
-ghost use Rattle.fs_system.specs.Mounting.{MayBeMounted};
-
 use crate::text_tests::push_other;
 use crate::{Count, RunFault, run};
 use fs_system::{Fs, mkfs};
@@ -18,9 +16,7 @@ fn mounted<D: Disk + Drop>(alloc: Global, mut disk: D) -> Result<Fs<D>, Fail> {
     mounted_from(alloc, disk)
 }
 
-fn mounted_from<D: Disk + Drop>(alloc: Global, disk: D) -> Result<Fs<D>, Fail>
-    requires { MayBeMounted (D.state disk) }
-{
+fn mounted_from<D: Disk + Drop>(alloc: Global, disk: D) -> Result<Fs<D>, Fail> {
     match Fs::mount(alloc, disk) {
         Ok(fs) => Ok(fs),
         Err((fault, _)) => Err(fault)?,
@@ -177,7 +173,7 @@ fn push_run_again<D: Disk + Drop>(
 }
 
 // The disk's calls by mkfs and mount. The call after these is the first that a script makes.
-const FIRST_CALL: u64 = 90;
+const FIRST_CALL: u64 = 126;
 
 const NONE_FAILS: u64 = u64::MAX;
 

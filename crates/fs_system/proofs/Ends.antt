@@ -24,8 +24,7 @@ use Rattle.fs_model.specs.Stops.{asks_stable, makes_stable, is_io_error}
 use Rattle.path_walk.specs.Performing.{IsStateOf}
 use Rattle.fs_system.specs.Doing.{Does, IsFound}
 use Rattle.fs_system.specs.Layouts.{IsDiskOf}
-use Rattle.fs_system.specs.Mounting.{MayBeMounted}
-use Rattle.fs_system.specs.Seen.{StandsForSome, EachStandsFor, IsRunning}
+use Rattle.fs_system.specs.Seen.{EachStandsForSome, StandsForSome, EachStandsFor, IsRunning}
 use Rattle.fs_system.proofs.Acting.{halted_answers, flushes, flush_halts, tells_space, space_unread}
 use Rattle.fs_system.proofs.Joining.{HoldsCounted, holds_same, disk_same, leaves_found, each_stands}
 
@@ -35,7 +34,7 @@ pub found_before : (old : DiskState) (s : State) (added : Tree) (image : Image) 
 found_before old s added image is = inl (image, is, λ room t free stands. stands)
 
 -- what was found stands for some tree
-found_stands : (old : DiskState) (s : State) (added : Tree) → MayBeMounted old → (image : Image) → IsFound old s added image → StandsForSome image
+found_stands : (old : DiskState) (s : State) (added : Tree) → EachStandsForSome old → (image : Image) → IsFound old s added image → StandsForSome image
 found_stands old s added may image (inl (from, is, stand)) =
     let was = may from is in
     (was.0, was.1, was.2, stand was.0 was.1 was.2 was.3)
@@ -45,7 +44,7 @@ found_stands old s added may image (inr (inr (free, stands))) = (s.room, added, 
 -- so that what is left may be mounted
 pub mountable_then : (old new : DiskState) (s : State) (added : Tree)
     → ((t : ℕ) (image : Image) → t ≤ new.moment → IsImage new image → new.left_since t image)
-    → MayBeMounted old → LeavesOnly old new (IsFound old s added) → MayBeMounted new
+    → EachStandsForSome old → LeavesOnly old new (IsFound old s added) → EachStandsForSome new
 mountable_then old new s added counts_now may run = λ image is. found_stands old s added may image (holds_now run counts_now is)
 
 -- ---- where the disk is only read
@@ -142,7 +141,7 @@ running_with size p map desks desks' s is r = record {
 -- ---- what a flush leaves may be mounted
 
 pub flush_mountable : (old new : DiskState) (p : Place) (map : SectorMap) (desks : Desks) (s : State) → IsRunning old.size p map desks s
-    → LeavesOldOr map old new → ((t : ℕ) (image : Image) → t ≤ new.moment → IsImage new image → new.left_since t image) → MayBeMounted old → MayBeMounted new
+    → LeavesOldOr map old new → ((t : ℕ) (image : Image) → t ≤ new.moment → IsImage new image → new.left_since t image) → EachStandsForSome old → EachStandsForSome new
 flush_mountable old new p map desks s r run counts_now may =
     let held = tree_held p map desks s r.state_of in
     mountable_then old new s s.tree counts_now may

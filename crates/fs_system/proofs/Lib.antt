@@ -1,5 +1,6 @@
 pub mod Acting
 pub mod Both
+pub mod Checked
 pub mod Endings
 pub mod Ends
 pub mod EventEnds
@@ -11,7 +12,6 @@ pub mod MakingRefusals
 pub mod MakingTables
 pub mod Methods
 pub mod Mounts
-pub mod NewDisks
 pub mod Performed
 pub mod Places
 pub mod Runs

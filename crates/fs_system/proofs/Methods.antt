@@ -26,9 +26,9 @@ use Rattle.fs_model.specs.Steps.{Step, is_of_machine, firm_refusal}
 use Rattle.fs_model.specs.Stops.{is_io_error}
 use Rattle.fs_model.proofs.StepsKeep.{steps_keep}
 use Rattle.fs_system.specs.Doing.{Does, Happens, HappensLast, FlushesFor}
-use Rattle.fs_system.specs.Mounting.{MayBeMounted, IsSystem, is_halted}
+use Rattle.fs_system.specs.Mounting.{IsSystem, is_halted}
 use Rattle.fs_system.specs.Replies.{spawned, finished}
-use Rattle.fs_system.specs.Seen.{System, Base, disk_in, IsRunning, IsOn}
+use Rattle.fs_system.specs.Seen.{EachStandsForSome, System, Base, disk_in, IsRunning, IsOn}
 use Rattle.fs_system.proofs.Acting.{spawns, spawn_full, spawn_unmade, flush_machine, fsync_firm, fsync_closed, fsync_absent, sync_firm}
 use Rattle.fs_system.proofs.Ends.{does_nothing, does_halted, does_flush, does_flush_halt, mountable_then, flush_mountable, running_same, running_with}
 
@@ -43,7 +43,7 @@ err_of (Err errno) = errno
 module _ {D : Type 0} (state : D → DiskState) where
   -- it is in some state again
   pub system_then : (old new : System D) (e : Event) (reply : Reply) → Happens state old new e reply → IsSystem state old
-      → MayBeMounted (disk_in state new.base) → IsSystem state new
+      → EachStandsForSome (disk_in state new.base) → IsSystem state new
   system_then old new e reply happens was may =
       let next = happens was.in_some.0 was.in_some.1 in
       record { in_some = (next.0, next.1); mountable = may }
@@ -344,7 +344,7 @@ module _ {D : Type 0} (state : D → DiskState) where
         -- what is left may be mounted
         pub flush_leaves : (disk : D) → ((t : ℕ) (image : Image) → t ≤ (state disk).moment → IsImage (state disk) image → (state disk).left_since t image)
             → LeavesOldOr (present state before) (state before.disk) (state disk) → IsSystem state (record { base = base; place = place; desks = procs })
-            → MayBeMounted (state disk)
+            → EachStandsForSome (state disk)
         flush_leaves disk counts_now run was =
             let here = subst (λ (b : Base D). IsSystem state (record { base = b; place = place; desks = procs })) is was in
             flush_mountable (state before.disk) (state disk) place (present state before) procs here.in_some.0 here.in_some.1 run counts_now here.mountable

@@ -21,9 +21,7 @@ use Rattle.fs_model.proofs.Taken.{count_may_be_free}
 use Rattle.fs_system.specs.Layouts.{IsDiskOf}
 use Rattle.redo_journal.proofs.Meaning.{data_stays}
 use Rattle.sector_txn.specs.Stores.{StoreView, present}
-use Rattle.fs_system.specs.declared.faults.MountFault.{MountFault}
-use Rattle.fs_system.specs.declared.faults.MountFault.TheVariants as faults
-use Rattle.fs_system.specs.Mounting.{MayBeMounted, StandsAsBefore, IsSystem, fault_of}
+use Rattle.fs_system.specs.Mounting.{StandsAsBefore, IsSystem}
 use Rattle.fs_system.specs.Playing.{IsMounted, Mounts, FailsToMount}
 use Rattle.fs_system.specs.Seen.{StandsFor, StandsForSome, HasPartsAt, EachStandsFor, IsRunning}
 use Rattle.fs_system.specs.Sweeping.{IsStored, StandsPruned, HasTree, KeepsTree}
@@ -35,15 +33,6 @@ use Rattle.fs_system.proofs.Places.{is_room}
 -- what means as before stands as before
 pub means_stands : (old : DiskState) (image : Image) → MeansAsBefore old image → StandsAsBefore old image
 means_stands old image (from, is, means) = (from, is, λ room t free stands. (t, free, stands_as old.size from image is.size means room t free stands, refl))
-
--- what stands as before may be mounted as before
-pub mountable_as : (old new : DiskState) → ((t : ℕ) (image : Image) → t ≤ new.moment → IsImage new image → new.left_since t image)
-    → LeavesOnly old new (StandsAsBefore old) → MayBeMounted old → MayBeMounted new
-mountable_as old new counts_now run may = λ image is.
-    let found = holds_now run counts_now is in
-    let was = may found.0 found.1 in
-    let now = found.2 was.0 was.1 was.2 was.3 in
-    (was.0, now.0, now.1, now.2)
 
 -- where nothing has changed
 pub same_stands : (old new : DiskState) → ((image : Image) → old.left_since old.moment image → IsImage old image) → IsSame old new → Elapses old new
@@ -82,10 +71,6 @@ fails_to_mount old new fault counts_now run later cause = record {
 }
 
 -- ---- a store whose map is that of a disk which stands for a tree
-
--- what a disk that may be mounted stands for
-pub some_stands : (disk : DiskState) → IsImage disk disk.seen → MayBeMounted disk → StandsForSome disk.seen
-some_stands disk is may = may disk.seen is
 
 module _ (old : DiskState) (size : length old.seen ≡ old.size) (room : Room) (t : Tree) (free : ℕ) (stands : StandsFor room old.seen t free) where
   module _ (new : DiskState) (sized : new.size ≡ old.size) (map : SectorMap) (same : SameMap map (data_of old)) (lasting : EachReadsAs map new) where
@@ -153,18 +138,14 @@ module _ (old : DiskState) (size : length old.seen ≡ old.size) (room : Room) (
 
 -- ---- as a mount does it: where the parts of the disk lie is read, then a store is opened, and then swept
 
-pub device_failed : (old mid new : DiskState) (fault : MountFault) → old.failures ≤ mid.failures → (fault ≡ faults.DiskFault → HasFailed mid new)
-    → fault_of fault ≡ DiskFault → HasFailed old new
-device_failed old mid new faults.DiskFault later cause is = failed_later old mid new later (cause refl)
-device_failed old mid new faults.OutOfMemory later cause is = absurd cc
+pub device_failed : (old mid new : DiskState) (fault : RestartFault) → old.failures ≤ mid.failures → (fault ≡ DiskFault → HasFailed mid new)
+    → fault ≡ DiskFault → HasFailed old new
+device_failed old mid new fault later cause is = failed_later old mid new later (cause is)
 
-module _ {D : Type 0} (state : D → DiskState) (disk read : D) (store : StoreView D) (seen : IsImage (state disk) (state disk).seen) (may : MayBeMounted (state disk))
+module _ {D : Type 0} (state : D → DiskState) (disk read : D) (store : StoreView D) (seen : IsImage (state disk) (state disk).seen) (was : StandsForSome (state disk).seen)
     (same : IsSame (state disk) (state read)) (size : (state store.disk).size ≡ (state read).size)
     (map : SameMap (present state store) (data_of (state read))) (lasting : EachReadsAs (present state store) (state store.disk))
     (place : Place) (found : HasPartsAt (state disk).seen place) where
-  abbrev was : StandsForSome (state disk).seen
-  was = may (state disk).seen seen
-
   abbrev at : was.3.place ≡ place
   at = found was.0 was.1 was.2 was.3
 
@@ -187,5 +168,8 @@ module _ {D : Type 0} (state : D → DiskState) (disk read : D) (store : StoreVi
         ends_mounted (state disk) seen.size was.0 was.1 was.2 was.3 (state then.disk) (present state then) place at (swept was.1 opened_tree)
         (stable was.1 opened_tree) later desks none
 
-    pub mounted_system : MayBeMounted (state then.disk) → IsSystem state (record { base = Some (Ok then); place = place; desks = desks })
-    mounted_system again = let is = mounts_found in record { in_some = (is.0, is.1); mountable = again }
+    pub mounted_system : IsSystem state (record { base = Some (Ok then); place = place; desks = desks })
+    mounted_system =
+        let is = mounts_found in
+        let each = stable was.1 opened_tree in
+        record { in_some = (is.0, is.1); mountable = λ image left. let one = each image left in (room_of place, pruned was.1, one.0, one.1) }

@@ -1,23 +1,14 @@
 -- The laws of the file system, each the contract of a function.
-use Rattle.std.specs.Prelude.{◌≡◌, ℕ, ◌-◌, ◌≤◌, length}
-use Rattle.sector_disk.specs.Disk.{DiskState, sector, IsStable}
+use Rattle.std.specs.Prelude.{ℕ, ◌≤◌}
+use Rattle.sector_disk.specs.Disk.{DiskState}
 use Rattle.fs_layout.specs.declared.place.Place.{Place}
 use Rattle.redo_journal.specs.Meaning.{SameMap, data_of}
 use Rattle.sector_txn.specs.Stores.{TxnView, txn_state}
 use Rattle.bit_alloc.specs.Inodes.{IsSound}
 use Rattle.inode_table.specs.Inodes.{ClearAreFree}
 use Rattle.fs_model.specs.Trees.{Tree, Room}
-use Rattle.fs_model.specs.Stands.{room_of}
-use Rattle.fs_model.specs.NewDisk.{empty_tree, IsNewImage}
-use Rattle.fs_system.specs.Mounting.{MayBeMounted}
 use Rattle.fs_system.specs.Seen.{StandsFor}
 use Rattle.fs_system.specs.Sound.{IsSoundDisk}
-
--- A new disk that is stable stands for the tree of an empty root, and may be mounted.
-abbrev pub NewDiskIsMountable : {D : Type 0} → (D → DiskState) → Type 0
-NewDiskIsMountable {D} state =
-    (p : Place) (disk : D) → p.sectors ≡ length (state disk).seen → IsNewImage p (sector (state disk).seen) → IsStable (state disk)
-    → StandsFor (room_of p) (state disk).seen empty_tree (p.sectors - p.first_data) × MayBeMounted (state disk)
 
 -- A disk that stands for a tree is sound.
 abbrev pub TreesAreSound : {D : Type 0} → (D → DiskState) → Type 0

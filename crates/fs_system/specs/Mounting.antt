@@ -1,44 +1,62 @@
 -- What a mount asks for, and what it gives.
---     MayBeMounted        what is asked of the disk
 --     StandsAsBefore        what a stop leaves meanwhile
 --     IsSystem        what holds of every file system
 --     disk_mounted, disk_of_store        the disk, also after a fault
+--     HasFinding, IsNotMounted        why a disk is not mounted
+--     IsFaultOfCheck, fault_of        the fault of a mount for that of a check, and for the machine's
 --     is_halted        whether a commit has failed
 --     LeavesHalted        what is halted stays, with its disk
---     fault_of        the machine's word for a fault
-use Rattle.std.specs.Prelude.{◌≡◌, Bool, true, false, Some, IsTrue, Result, Ok, Err}
-use Rattle.sector_disk.specs.Disk.{DiskState, Image, IsImage}
+use Rattle.std.specs.Prelude.{◌≡◌, ◌≢◌, ◌⊎◌, ℕ, Bool, true, false, Some, IsTrue, Result, Ok, Err}
+use Rattle.sector_disk.specs.Disk.{DiskState, Image, IsImage, OnlyReads, sector}
 use Rattle.sector_txn.specs.Stores.{StoreView}
 use Rattle.fs_model.specs.declared.event.RestartFault.{RestartFault}
 use Rattle.fs_model.specs.declared.event.RestartFault.TheVariants as restarts
+use Rattle.fs_model.specs.Rules.{IsFinding}
+use Rattle.fs_check.specs.declared.faults.CheckFault.{CheckFault}
+use Rattle.fs_check.specs.declared.faults.CheckFault.TheVariants as checks
 use Rattle.fs_system.specs.declared.faults.MountFault.{MountFault}
-use Rattle.fs_system.specs.declared.faults.MountFault.TheVariants.{DiskFault, OutOfMemory}
-use Rattle.fs_system.specs.Seen.{Base, System, StandsForSome, StandsAsPruned, disk_in, IsInSomeState}
-
--- each image that a stop may leave stands for some tree
-abbrev pub MayBeMounted : DiskState → Type 0
-MayBeMounted disk = (image : Image) → IsImage disk image → StandsForSome image
+use Rattle.fs_system.specs.declared.faults.MountFault.TheVariants.{NotAFileSystem, Damaged, DiskFault, OutOfMemory}
+use Rattle.fs_system.specs.Playing.{FailsToMount}
+use Rattle.fs_system.specs.Seen.{Base, System, EachStandsForSome, StandsAsPruned, disk_in, IsInSomeState}
 
 -- the image stands for what one from before it stood for, but for files without names
 abbrev pub StandsAsBefore : DiskState → Image → Type 0
 StandsAsBefore before image = (from : Image) × IsImage before from × StandsAsPruned from image
 
 -- the disk, also after a fault
-abbrev pub disk_mounted : {D : Type 0} → (D → DiskState) → Result (System D) (MountFault × D) → DiskState
+abbrev pub disk_mounted : {D E : Type 0} → (D → DiskState) → Result (System D) (E × D) → DiskState
 disk_mounted state (Ok fs) = disk_in state fs.base
 disk_mounted state (Err fault) = state fault.1
 
-abbrev pub fault_of : MountFault → RestartFault
-fault_of DiskFault = restarts.DiskFault
-fault_of OutOfMemory = restarts.OutOfMemory
+-- The disk stands for no tree: this is the first rule that fails, at its least number. It was only read.
+pub record HasFinding (before now : DiskState) (rule at : ℕ) : Type 0 where
+  pub finding : IsFinding before.size (sector before.seen) rule at
+  pub reads : OnlyReads before now
+
+-- Why a disk was not mounted.
+abbrev pub IsNotMounted : DiskState → DiskState → MountFault → Type 0
+IsNotMounted before now NotAFileSystem = (at : ℕ) × HasFinding before now 1 at
+IsNotMounted before now (Damaged f) = HasFinding before now f.rule f.at × (f.rule ≢ 1)
+IsNotMounted before now DiskFault = FailsToMount before now restarts.DiskFault
+IsNotMounted before now OutOfMemory = FailsToMount before now restarts.OutOfMemory
+
+-- a finding of the rule on the superblock is that there is no file system, any other is damage
+abbrev pub IsFaultOfCheck : CheckFault → MountFault → Type 0
+IsFaultOfCheck (checks.Found f) fault = ((f.rule ≡ 1) × (fault ≡ NotAFileSystem)) ⊎ ((f.rule ≢ 1) × (fault ≡ Damaged f))
+IsFaultOfCheck checks.DiskFault fault = fault ≡ DiskFault
+IsFaultOfCheck checks.OutOfMemory fault = fault ≡ OutOfMemory
+
+abbrev pub fault_of : RestartFault → MountFault
+fault_of restarts.DiskFault = DiskFault
+fault_of restarts.OutOfMemory = OutOfMemory
 
 -- what holds of every file system: it is in some state, and a stop leaves what may be mounted
 pub record IsSystem {D : Type 0} (state : D → DiskState) (fs : System D) : Type 0 where
   pub in_some : IsInSomeState state fs
-  pub mountable : MayBeMounted (disk_in state fs.base)
+  pub mountable : EachStandsForSome (disk_in state fs.base)
 
 -- the store's disk, also after a fault
-abbrev pub disk_of_store : {D : Type 0} → Result (StoreView D) (MountFault × D) → D
+abbrev pub disk_of_store : {D : Type 0} → Result (StoreView D) (RestartFault × D) → D
 disk_of_store (Ok store) = store.disk
 disk_of_store (Err fault) = fault.1
 

@@ -2,7 +2,8 @@
 --     StandsFor, StandsForSome        an image stands for a tree
 --     HasPartsAt        where the parts of a disk lie on an image
 --     StandsAs, StandsAsPruned        an image stands for what another one stands for
---     EachStandsFor, Covers        each image that a stop may leave stands for a tree, or for one of several
+--     EachStandsFor, EachStandsForSome, Covers        each image that a stop may leave stands for a tree, for some, or for one
+--             of several
 --     System, disk_in        what a contract sees of one, and its disk
 --     IsRunning, IsOn        a store goes on in a state; so does a file system, or it is halted
 --     IsIn, IsInSomeState        the file system is in this state, or in some
@@ -46,6 +47,10 @@ StandsAsPruned from image =
 -- each image that a stop may leave stands for the tree
 abbrev pub EachStandsFor : Room → DiskState → Tree → Type 0
 EachStandsFor room disk t = (image : Image) → IsImage disk image → (free : ℕ) × StandsFor room image t free
+
+-- each stands for some tree
+abbrev pub EachStandsForSome : DiskState → Type 0
+EachStandsForSome disk = (image : Image) → IsImage disk image → StandsForSome image
 
 -- each stands for one of the trees, but for files without names
 abbrev pub Covers : Room → List Tree → DiskState → Type 0

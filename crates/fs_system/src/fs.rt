@@ -8,19 +8,20 @@ ghost use Rattle.fs_model.specs.Processes.{Desks};
 ghost use Rattle.fs_model.specs.States.{State};
 ghost use Rattle.fs_model.specs.declared.event.Event.{Event};
 ghost use Rattle.fs_model.specs.declared.event.Event.TheVariants.{Spawn, Exit, Call as Calls, Fsync, Sync, Statfs};
-ghost use Rattle.fs_system.specs.Seen.{StandsForSome, HasPartsAt, disk_in, IsOn, IsIn, IsInSomeState};
+ghost use Rattle.fs_system.specs.Seen.{StandsForSome, EachStandsForSome, HasPartsAt, disk_in, IsOn, IsIn, IsInSomeState};
 ghost use Rattle.fs_system.specs.Doing.{Happens, HappensLast, FlushesFor};
 ghost use Rattle.fs_system.specs.Replies.{spawned, finished, unmounted, counted};
 ghost use Rattle.fs_system.specs.Playing.{Mounts, FailsToMount};
-ghost use Rattle.fs_system.specs.Mounting.{MayBeMounted, StandsAsBefore, disk_mounted, disk_of_store, fault_of, is_halted, LeavesHalted};
-ghost use Rattle.fs_system.specs.declared.faults.MountFault.TheVariants.{DiskFault as Device};
+ghost use Rattle.fs_system.specs.Mounting.{StandsAsBefore, IsNotMounted, disk_mounted, disk_of_store, is_halted, LeavesHalted};
+ghost use Rattle.fs_model.specs.declared.event.RestartFault.TheVariants.{DiskFault as Device};
 
 use crate::faults::MountFault;
 use crate::stored::{count_space, exit_kept, failed, perform_kept};
 use crate::sweeping::sweep;
+use fs_check::check;
 use fs_cred::{Cred, Errno};
 use fs_layout::{Place, Super, place_of};
-use fs_model::{Call, Reply};
+use fs_model::{Call, Reply, RestartFault};
 use open_files::Procs;
 use redo_journal::{Broken, Journal, OpenFault};
 use sector_disk::{Disk, DiskFault};
@@ -73,7 +74,7 @@ pub(crate) fn read_place<D: Disk>(disk: &mut D) -> Result<Place, DiskFault>
 }
 
 // Settles what a stop has left, and reserves the memory of all transactions.
-fn open_store<D: Disk + Drop>(alloc: Global, disk: D) -> Result<Store<D>, (MountFault, D)>
+fn open_store<D: Disk + Drop>(alloc: Global, disk: D) -> Result<Store<D>, (RestartFault, D)>
     requires { StandsForSome (D.state disk).seen }
     ensures map { IfOk result (λ store. SameMap (present D.state store) (data_of (D.state disk))) }
     ensures lasting { IfOk result (λ store. EachReadsAs (present D.state store) (D.state store.disk)) }
@@ -85,9 +86,9 @@ fn open_store<D: Disk + Drop>(alloc: Global, disk: D) -> Result<Store<D>, (Mount
     match Journal::open(disk) {
         Ok(journal) => match Store::new(alloc, journal) {
             Ok(store) => Ok(store),
-            Err((_, journal)) => Err((MountFault::OutOfMemory, journal.into_disk())),
+            Err((_, journal)) => Err((RestartFault::OutOfMemory, journal.into_disk())),
         },
-        Err((OpenFault::DiskFault, disk)) => Err((MountFault::DiskFault, disk)),
+        Err((OpenFault::DiskFault, disk)) => Err((RestartFault::DiskFault, disk)),
         Err((OpenFault::BadCommitSector, _)) => unreachable!(),
     }
 }
@@ -111,21 +112,16 @@ fn forgotten<D: Disk>(base: Result<Store<D>, Broken<D>>) -> Result<Store<D>, Bro
 }
 
 impl<D: Disk + Drop> Fs<D> {
-    /// The file system that the disk stands for, without processes. Files without names, which a stop may have left, are
-    /// freed. An error gives the disk back; it may be mounted again.
-    pub fn mount(alloc: Global, disk: D) -> Result<Fs<D>, (MountFault, D)>
-        requires { MayBeMounted (D.state disk) }
-
+    // The same of a disk that stands for a tree.
+    fn mount_checked(alloc: Global, disk: D) -> Result<Fs<D>, (RestartFault, D)>
+        requires { StandsForSome (D.state disk).seen }
         ensures mounted { IfOk result (λ fs. (s : State) × IsIn D.state fs s × Mounts (D.state disk) (disk_mounted D.state result) s) }
-        ensures failed { IfErr result (λ fault. FailsToMount (D.state disk) (D.state fault.1) (fault_of fault.0)) }
-        ensures again { IfErr result (λ fault. MayBeMounted (D.state fault.1)) }
-
-        // A stop at any moment of the call leaves what stands for what it did before, but for files without names.
+        ensures failed { IfErr result (λ fault. FailsToMount (D.state disk) (D.state fault.1) fault.0) }
         ensures any_moment { LeavesOnly (D.state disk) (disk_mounted D.state result) (StandsAsBefore (D.state disk)) }
     {
         let mut disk = disk;
         let Ok(place) = read_place(&mut disk) else {
-            return Err((MountFault::DiskFault, disk));
+            return Err((RestartFault::DiskFault, disk));
         };
         match open_store(alloc, disk) {
             Ok(store) => match sweep(store, place) {
@@ -135,9 +131,30 @@ impl<D: Disk + Drop> Fs<D> {
                     procs: Procs::new(alloc),
                     alloc,
                 }),
-                Err(disk) => Err((MountFault::DiskFault, disk)),
+                Err(disk) => Err((RestartFault::DiskFault, disk)),
             },
             Err(fault) => Err(fault),
+        }
+    }
+
+    /// The file system that the disk stands for, without processes. Files without names, which a stop may have left, are
+    /// freed. An error gives the disk back; where it is that of the device or of memory, the disk may be mounted again.
+    ///
+    /// The disk is checked first, and a disk that stands for no tree is only read.
+    pub fn mount(alloc: Global, disk: D) -> Result<Fs<D>, (MountFault, D)>
+        ensures mounted { IfOk result (λ fs. (s : State) × IsIn D.state fs s × Mounts (D.state disk) (disk_mounted D.state result) s) }
+        ensures failed { IfErr result (λ fault. IsNotMounted (D.state disk) (D.state fault.1) fault.0) }
+
+        // A stop at any moment of the call leaves what stands for what it did before, but for files without names.
+        ensures any_moment { LeavesOnly (D.state disk) (disk_mounted D.state result) (StandsAsBefore (D.state disk)) }
+    {
+        let mut disk = disk;
+        if let Err(fault) = check(alloc, &mut disk) {
+            return Err((MountFault::from(fault), disk));
+        }
+        match Fs::mount_checked(alloc, disk) {
+            Ok(fs) => Ok(fs),
+            Err((fault, disk)) => Err((MountFault::from(fault), disk)),
         }
     }
 
@@ -319,7 +336,7 @@ impl<D: Disk + Drop> Fs<D> {
     pub fn unmount(self) -> (D, Option<Errno>)
         ensures does { HappensLast D.state self result.0 Sync (unmounted result.1) }
         ensures halted { (disk : D) → self.base ≡ Some (Err disk) → result.0 ≡ disk }
-        ensures again { MayBeMounted (D.state result.0) }
+        ensures again { EachStandsForSome (D.state result.0) }
     {
         let Fs { base, .. } = self;
         match base {

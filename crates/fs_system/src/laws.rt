@@ -1,5 +1,5 @@
 //! The laws of the file system: each is the contract of a function that does nothing.
-ghost use Rattle.fs_system.specs.Laws.{NewDiskIsMountable, TreesAreSound, SoundDisksAreShown};
+ghost use Rattle.fs_system.specs.Laws.{TreesAreSound, SoundDisksAreShown};
 ghost use Rattle.fs_system.specs.Playing.{HistoriesAreRuns};
 
 use sector_disk::Disk;
@@ -8,11 +8,6 @@ use sector_disk::Disk;
 /// trees cover what a stop leaves, and which counts no more faults than the disk.
 pub fn histories_are_runs<D: Disk>()
     ensures { HistoriesAreRuns D.state }
-{}
-
-/// A new disk may be mounted, once it is stable.
-pub fn a_new_disk_is_mountable<D: Disk>()
-    ensures { NewDiskIsMountable D.state }
 {}
 
 /// A disk that stands for a tree is sound: its map is consistent, the bits that are no number's are set, and an inode

@@ -18,5 +18,5 @@ mod tests;
 
 pub use faults::{MkfsFault, MountFault};
 pub use fs::Fs;
-pub use laws::{a_new_disk_is_mountable, histories_are_runs, trees_are_sound};
+pub use laws::{histories_are_runs, trees_are_sound};
 pub use new_disk::mkfs;

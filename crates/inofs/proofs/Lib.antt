@@ -1,1 +1,5 @@
 mod News
+pub mod Getters
+pub mod Refusals
+pub mod Taken
+pub mod Values

@@ -1,8 +1,8 @@
 -- What a script begins with, how it may end, and the status of the program.
 --     IsNew        the state of a new file system
 --     Fails        what a failure says
---     status_of        the status
-use Rattle.std.specs.Prelude.{◌≡◌, ◌==◌, ℕ, [], IsFalse, Result, Ok, Err, if◌then◌else◌}
+--     status_of, code_of        the status of a script, and the number of a status
+use Rattle.std.specs.Prelude.{◌≡◌, ◌==◌, ℕ, [], IsFalse, if◌then◌else◌}
 use Rattle.fs_layout.specs.Place.{laid_out}
 use Rattle.fs_model.specs.Stands.{room_of}
 use Rattle.fs_model.specs.States.{State}
@@ -10,8 +10,10 @@ use Rattle.fs_model.specs.NewDisk.{empty_tree}
 use Rattle.fs_shell.specs.declared.answer.Count.{Count}
 use Rattle.fs_shell.specs.declared.fault.RunFault.{RunFault}
 use Rattle.fs_system.specs.declared.faults.MkfsFault.TheVariants.{DiskFault}
-use Rattle.inofs.specs.declared.memory.Failure.{Failure}
-use Rattle.inofs.specs.declared.memory.Failure.TheVariants.{Image, Mkfs, Mount, Run}
+use Rattle.inofs.specs.declared.failure.Failure.{Failure}
+use Rattle.inofs.specs.declared.failure.Failure.TheVariants.{Exists, NotCreated, NotOpened, NoScript, Mkfs, Mount, Check, Run, Unmount}
+use Rattle.inofs.specs.declared.status.Status.{Status}
+use Rattle.inofs.specs.declared.status.Status.TheVariants.{Done, Faulty, BadWords, Failed}
 
 -- on a disk of so many sectors, with so many inodes: an empty root, all data sectors free, and no process
 pub record IsNew (sectors inodes : ℕ) (s : State) : Type 0 where
@@ -23,12 +25,23 @@ pub record IsNew (sectors inodes : ℕ) (s : State) : Type 0 where
 
 -- The run ended early, and then it was one; or it didn't begin, and then nothing was read or written.
 abbrev pub Fails : (RunFault → Type 0) → Type 0 → Failure → Type 0
-Fails ran untouched Image = untouched
+Fails ran untouched NotCreated = untouched
 Fails ran untouched (Mkfs fault) = (fault ≡ DiskFault) × untouched
 Fails ran untouched (Mount fault) = untouched
 Fails ran untouched (Run fault) = ran fault
+-- those of files
+Fails ran untouched Exists = ⊥
+Fails ran untouched NotOpened = ⊥
+Fails ran untouched NoScript = ⊥
+Fails ran untouched (Check fault) = ⊥
+Fails ran untouched Unmount = ⊥
 
--- 0 where each line was in order, 1 where one had a fault, 3 where the script wasn't done
-abbrev pub status_of : Result Count Failure → ℕ
-status_of (Ok count) = if count.faults == 0 then 0 else 1
-status_of (Err failure) = 3
+-- a script that was run to its end: done where each of its lines was in order
+abbrev pub status_of : Count → Status
+status_of count = if count.faults == 0 then Done else Faulty
+
+abbrev pub code_of : Status → ℕ
+code_of Done = 0
+code_of Faulty = 1
+code_of BadWords = 2
+code_of Failed = 3

@@ -1,34 +1,42 @@
-//! The program `inofs`: makes an empty file system in memory, runs the script on the standard input, and prints what is
-//! answered. Its status is 0 where the script was done, 1 where a line of it had a fault, and 3 where it wasn't done.
+//! The program `inofs`: makes, runs and checks file systems in images. `docs/inofs.1` says how it is called and what it prints.
 #![tactic(auto)]
 
-ghost use Rattle.std.specs.Prelude.{◌≡◌};
-ghost use Rattle.inofs.specs.Programs.{status_of};
-
+#[cfg(test)]
+mod check_tests;
+mod failure;
+mod jobs;
 mod memory;
+mod status;
 #[cfg(test)]
 mod tests;
+mod words;
+#[cfg(test)]
+mod words_tests;
 
-use crate::memory::{Failure, run_in_memory};
-use fs_shell::Count;
+use crate::jobs::perform;
+use crate::status::Status;
 use std::process::ExitCode;
+use std::{env, io};
 
 fn main(rt: HostRuntime) -> ExitCode {
-    let outcome = run_in_memory(rt.alloc(), &mut rt.stdin(), &mut rt.stdout());
-    if let Err(failure) = &outcome {
-        // A text that can't be written is passed over.
-        let _ = eprintln!(rt; "{failure}");
-    }
-    ExitCode::from(status(&outcome))
+    let words = match command_line(&rt) {
+        Ok(words) => words,
+        Err(error) => {
+            let _ = eprintln!(rt; "error: {error}");
+            return ExitCode::from(Status::BadWords.code());
+        }
+    };
+    let status = perform(
+        &rt,
+        &words,
+        &mut rt.stdin(),
+        &mut rt.stdout(),
+        &mut rt.stderr(),
+    );
+    ExitCode::from(status)
 }
 
-// What the program ends with.
-fn status(outcome: &Result<Count, Failure>) -> u8
-    ensures { result ≡ status_of outcome.now }
-{
-    match outcome {
-        Ok(count) if count.faults == 0 => 0,
-        Ok(_) => 1,
-        Err(_) => 3,
-    }
+// The words of the command line, the program's name first.
+fn command_line(rt: &HostRuntime) -> io::Result<Vec<String>> {
+    Ok(env::args(rt)?.collect(rt.alloc())?)
 }

@@ -6,35 +6,18 @@ ghost use Rattle.fs_system.specs.Seen.{IsIn};
 ghost use Rattle.fs_shell.specs.Runs.{Ran};
 ghost use Rattle.inofs.specs.Programs.{IsNew, Fails};
 
-use fs_shell::{Count, RunFault, run};
-use fs_system::{Fs, MkfsFault, MountFault, mkfs};
+use crate::failure::Failure;
+use fs_shell::{Count, run};
+use fs_system::{Fs, mkfs};
 use sector_disk::{Disk, MemDisk};
 use std::alloc::Global;
 use std::io::{Read, Write};
-use thiserror::Error;
 
 // The size of the disk.
 const SECTORS: u32 = 1024;
 
 // How many inodes it has, 0 too.
 const INODES: u32 = 64;
-
-/// Why a script wasn't done.
-#[derive(Debug, Drop, Error)]
-pub enum Failure {
-    /// There is no memory for the disk.
-    #[error("image: cannot create")]
-    Image,
-    /// No file system was made on it.
-    #[error("mkfs: {0}")]
-    Mkfs(MkfsFault),
-    /// It was not mounted.
-    #[error("mount: {0}")]
-    Mount(MountFault),
-    /// The run ended early.
-    #[error("run: {0}")]
-    Run(RunFault),
-}
 
 /// Makes an empty file system in memory, and runs the script on it.
 pub fn run_in_memory<R: Read, W: Write>(
@@ -52,7 +35,7 @@ pub fn run_in_memory<R: Read, W: Write>(
         ((reader.new ≡ reader.old) × (writer.new ≡ writer.old))) }
 {
     let Ok(disk) = MemDisk::new(alloc, SECTORS) else {
-        return Err(Failure::Image);
+        return Err(Failure::NotCreated);
     };
     run_on(alloc, disk, reader, writer)
 }

@@ -1,7 +1,6 @@
 use Rattle.std.proofs.Common.{◌≡◌, ◌∙◌, ap, ℕ, None}
 use Rattle.fs_system.specs.Making.{mkfs_refusal}
 use Rattle.fs_system.specs.Seen.{disk_in}
-use Rattle.fs_system.proofs.NewDisks.{new_disk_mounts}
 use Rattle.inofs.proofs.News.{mounted_is_new}
 use Rattle.inofs.proofs.memory.new_file_system.Goals as goal
 
@@ -17,9 +16,3 @@ unfolding mkfs_refusal
 returns-in-Err g c =
     let none : mkfs_refusal (g.D.Disk.state c.args.disk).size 64 ≡ None = ap (λ (n : ℕ). mkfs_refusal n 64) c.requires in
     ((c.in-Err.ensures.fault none).0, tt)
-
-pub mount-requires : goal.mount-requires
-mount-requires g c =
-    let size = (g.met.D.Disk.seen_is_image c.mkfs.new.disk).size in
-    let made = c.in_default.ensures.made in
-    new_disk_mounts (g.D.Disk.state c.mkfs.new.disk) 64 made.place size made.has_place made.new c.in_default.ensures.stable

@@ -1,109 +1,30 @@
-use Rattle.std.proofs.Common.{arith}
-use Rattle.sector_disk.proofs.Moments.{failed_later}
-use Rattle.fs_model.specs.declared.event.RestartFault.TheVariants.{DiskFault}
-use Rattle.fs_system.specs.Mounting.{fault_of}
-use Rattle.fs_system.proofs.Mounts.{some_stands, same_stands, opened_stands, opened_tree, swept_moments, mountable_as, fails_to_mount, mounts_found, mounted_system, device_failed}
+use Rattle.std.proofs.Common.{sym, subst}
+use Rattle.fs_system.specs.Mounting.{IsNotMounted}
+use Rattle.fs_system.specs.Seen.{disk_in}
+use Rattle.fs_system.proofs.Checked.{then_mounts, then_refused, then_stands}
 use Rattle.fs_system.proofs.fs.Fs.mount.Goals as goal
 
-pub read_place-requires : goal.read_place-requires
-read_place-requires g c = some_stands (g.D.Disk.state c.args.disk) (g.met.D.Disk.seen_is_image c.args.disk) c.requires
+pub returns-in-Ok-clause-mounted : goal.returns-in-Ok-clause-mounted
+returns-in-Ok-clause-mounted g c =
+    let m = c.in-Ok.ensures.mounted in (
+      m.0,
+      m.1,
+      then_mounts (g.D.Disk.state c.args.disk) (g.D.Disk.state c.check.new.disk) c.in_default.ensures.passed.reads (disk_in g.D.Disk.state c.in-Ok.fs.base) m.0 m.2,
+    )
 
-pub sweep-requires : goal.sweep-requires
-sweep-requires g c =
-    let was = c.requires (g.D.Disk.state c.args.disk).seen (g.met.D.Disk.seen_is_image c.args.disk) in
-    record {
-      tree = (
-        was.1,
-        opened_tree g.D.Disk.state c.args.disk c.read_place.new.disk c.in-Ok-open_store.store (g.met.D.Disk.seen_is_image c.args.disk) c.requires
-            c.read_place.ensures.same c.in-Ok-open_store.ensures.size c.in-Ok-open_store.ensures.map c.in-Ok-open_store.ensures.lasting c.in-Ok.place c.in-Ok.ensures.found,
-      );
-    }
+pub returns-in-Ok-clause-any_moment : goal.returns-in-Ok-clause-any_moment
+returns-in-Ok-clause-any_moment g c =
+    then_stands (g.D.Disk.state c.args.disk) (g.D.Disk.state c.check.new.disk) c.in_default.ensures.passed.reads (g.met.D.Disk.only_now c.args.disk)
+    (disk_in g.D.Disk.state c.in-Ok.fs.base) c.in-Ok.ensures.any_moment
 
-pub returns-in_default-clause-any_moment : goal.returns-in_default-clause-any_moment
-returns-in_default-clause-any_moment g c =
-    same_stands (g.D.Disk.state c.args.disk) (g.D.Disk.state c.read_place.new.disk) (g.met.D.Disk.only_now c.args.disk) c.read_place.ensures.same c.read_place.ensures.time
-
-pub returns-in-Ok-sweep-clause-any_moment : goal.returns-in-Ok-sweep-clause-any_moment
-returns-in-Ok-sweep-clause-any_moment g c =
-    swept_moments g.D.Disk.state c.args.disk c.read_place.new.disk c.in-Ok-open_store.store (g.met.D.Disk.seen_is_image c.args.disk) c.requires
-    c.read_place.ensures.same c.in-Ok-open_store.ensures.size c.in-Ok-open_store.ensures.map c.in-Ok-open_store.ensures.lasting c.in-Ok.place c.in-Ok.ensures.found
-    (g.D.Disk.state c.in-Ok-sweep.store.disk)
-    (opened_stands (g.D.Disk.state c.args.disk) (g.D.Disk.state c.read_place.new.disk) (g.D.Disk.state c.in-Ok-open_store.store.disk) (g.met.D.Disk.only_now c.args.disk)
-    c.read_place.ensures.same c.read_place.ensures.time c.in-Ok-open_store.ensures.any_moment) c.in-Ok-sweep.ensures.any_moment
-
-pub returns-in-Ok-sweep-clause-mounted : goal.returns-in-Ok-sweep-clause-mounted
-returns-in-Ok-sweep-clause-mounted g c =
-    let first = c.read_place.ensures.cause.later in
-    let then = c.in-Ok-open_store.ensures.later in
-    let last = c.in-Ok-sweep.ensures.cause.later in
-    mounts_found g.D.Disk.state c.args.disk c.read_place.new.disk c.in-Ok-open_store.store (g.met.D.Disk.seen_is_image c.args.disk) c.requires
-    c.read_place.ensures.same c.in-Ok-open_store.ensures.size c.in-Ok-open_store.ensures.map c.in-Ok-open_store.ensures.lasting c.in-Ok.place c.in-Ok.ensures.found
-    c.in-Ok-sweep.store c.in-Ok-sweep.ensures.swept c.in-Ok-sweep.ensures.lasting (omega (arith, first, then, last)) c.new.result c.new.ensures
-
-pub invariant_of-result : goal.invariant_of-result
-invariant_of-result g c =
-    let first = c.read_place.ensures.cause.later in
-    let then = c.in-Ok-open_store.ensures.later in
-    let last = c.in-Ok-sweep.ensures.cause.later in
-    mounted_system g.D.Disk.state c.args.disk c.read_place.new.disk c.in-Ok-open_store.store (g.met.D.Disk.seen_is_image c.args.disk) c.requires
-    c.read_place.ensures.same c.in-Ok-open_store.ensures.size c.in-Ok-open_store.ensures.map c.in-Ok-open_store.ensures.lasting c.in-Ok.place c.in-Ok.ensures.found
-    c.in-Ok-sweep.store c.in-Ok-sweep.ensures.swept c.in-Ok-sweep.ensures.lasting (omega (arith, first, then, last)) c.new.result c.new.ensures
-    (mountable_as (g.D.Disk.state c.args.disk) (g.D.Disk.state c.in-Ok-sweep.store.disk) (g.met.D.Disk.counts_now c.in-Ok-sweep.store.disk)
-    (swept_moments g.D.Disk.state c.args.disk c.read_place.new.disk c.in-Ok-open_store.store (g.met.D.Disk.seen_is_image c.args.disk) c.requires
-    c.read_place.ensures.same c.in-Ok-open_store.ensures.size c.in-Ok-open_store.ensures.map c.in-Ok-open_store.ensures.lasting c.in-Ok.place c.in-Ok.ensures.found
-    (g.D.Disk.state c.in-Ok-sweep.store.disk)
-    (opened_stands (g.D.Disk.state c.args.disk) (g.D.Disk.state c.read_place.new.disk) (g.D.Disk.state c.in-Ok-open_store.store.disk) (g.met.D.Disk.only_now c.args.disk)
-    c.read_place.ensures.same c.read_place.ensures.time c.in-Ok-open_store.ensures.any_moment) c.in-Ok-sweep.ensures.any_moment) c.requires)
-
-pub returns-in-Err-sweep-clause-any_moment : goal.returns-in-Err-sweep-clause-any_moment
-returns-in-Err-sweep-clause-any_moment g c =
-    swept_moments g.D.Disk.state c.args.disk c.read_place.new.disk c.in-Ok-open_store.store (g.met.D.Disk.seen_is_image c.args.disk) c.requires
-    c.read_place.ensures.same c.in-Ok-open_store.ensures.size c.in-Ok-open_store.ensures.map c.in-Ok-open_store.ensures.lasting c.in-Ok.place c.in-Ok.ensures.found
-    (g.D.Disk.state c.in-Err-sweep.disk)
-    (opened_stands (g.D.Disk.state c.args.disk) (g.D.Disk.state c.read_place.new.disk) (g.D.Disk.state c.in-Ok-open_store.store.disk) (g.met.D.Disk.only_now c.args.disk)
-    c.read_place.ensures.same c.read_place.ensures.time c.in-Ok-open_store.ensures.any_moment) c.in-Err-sweep.ensures.any_moment
-
-pub returns-in-Err-sweep-clause-again : goal.returns-in-Err-sweep-clause-again
-returns-in-Err-sweep-clause-again g c =
-    mountable_as (g.D.Disk.state c.args.disk) (g.D.Disk.state c.in-Err-sweep.disk) (g.met.D.Disk.counts_now c.in-Err-sweep.disk)
-    (swept_moments g.D.Disk.state c.args.disk c.read_place.new.disk c.in-Ok-open_store.store (g.met.D.Disk.seen_is_image c.args.disk) c.requires
-    c.read_place.ensures.same c.in-Ok-open_store.ensures.size c.in-Ok-open_store.ensures.map c.in-Ok-open_store.ensures.lasting c.in-Ok.place c.in-Ok.ensures.found
-    (g.D.Disk.state c.in-Err-sweep.disk)
-    (opened_stands (g.D.Disk.state c.args.disk) (g.D.Disk.state c.read_place.new.disk) (g.D.Disk.state c.in-Ok-open_store.store.disk) (g.met.D.Disk.only_now c.args.disk)
-    c.read_place.ensures.same c.read_place.ensures.time c.in-Ok-open_store.ensures.any_moment) c.in-Err-sweep.ensures.any_moment) c.requires
-
-pub returns-in-Err-sweep-clause-failed : goal.returns-in-Err-sweep-clause-failed
-returns-in-Err-sweep-clause-failed g c =
-    let first = c.read_place.ensures.cause.later in
-    let then = c.in-Ok-open_store.ensures.later in
-    let last = c.in-Err-sweep.ensures.cause.later in
-    fails_to_mount (g.D.Disk.state c.args.disk) (g.D.Disk.state c.in-Err-sweep.disk) DiskFault (g.met.D.Disk.counts_now c.in-Err-sweep.disk)
-    (swept_moments g.D.Disk.state c.args.disk c.read_place.new.disk c.in-Ok-open_store.store (g.met.D.Disk.seen_is_image c.args.disk) c.requires
-    c.read_place.ensures.same c.in-Ok-open_store.ensures.size c.in-Ok-open_store.ensures.map c.in-Ok-open_store.ensures.lasting c.in-Ok.place c.in-Ok.ensures.found
-    (g.D.Disk.state c.in-Err-sweep.disk)
-    (opened_stands (g.D.Disk.state c.args.disk) (g.D.Disk.state c.read_place.new.disk) (g.D.Disk.state c.in-Ok-open_store.store.disk) (g.met.D.Disk.only_now c.args.disk)
-    c.read_place.ensures.same c.read_place.ensures.time c.in-Ok-open_store.ensures.any_moment) c.in-Err-sweep.ensures.any_moment) (omega (arith, first, then, last))
-    (λ is. failed_later (g.D.Disk.state c.args.disk) (g.D.Disk.state c.in-Ok-open_store.store.disk) (g.D.Disk.state c.in-Err-sweep.disk) (omega (arith, first, then))
-    c.in-Err-sweep.ensures.cause.fault)
-
-pub returns-in-Err-clause-any_moment : goal.returns-in-Err-clause-any_moment
-returns-in-Err-clause-any_moment g c =
-    opened_stands (g.D.Disk.state c.args.disk) (g.D.Disk.state c.read_place.new.disk) (g.D.Disk.state c.in-Err.fault.1) (g.met.D.Disk.only_now c.args.disk)
-    c.read_place.ensures.same c.read_place.ensures.time c.in-Err.ensures.any_moment
-
-pub returns-in-Err-clause-again : goal.returns-in-Err-clause-again
-returns-in-Err-clause-again g c =
-    mountable_as (g.D.Disk.state c.args.disk) (g.D.Disk.state c.in-Err.fault.1) (g.met.D.Disk.counts_now c.in-Err.fault.1)
-    (opened_stands (g.D.Disk.state c.args.disk) (g.D.Disk.state c.read_place.new.disk) (g.D.Disk.state c.in-Err.fault.1) (g.met.D.Disk.only_now c.args.disk)
-    c.read_place.ensures.same c.read_place.ensures.time c.in-Err.ensures.any_moment) c.requires
-
-pub returns-in-Err-clause-failed : goal.returns-in-Err-clause-failed
-returns-in-Err-clause-failed g c =
+pub returns-in-Err-mount_checked-clause-failed : goal.returns-in-Err-mount_checked-clause-failed
+returns-in-Err-mount_checked-clause-failed g c =
     let old = g.D.Disk.state c.args.disk in
-    let mid = g.D.Disk.state c.read_place.new.disk in
-    let new = g.D.Disk.state c.in-Err.fault.1 in
-    let first = c.read_place.ensures.cause.later in
-    let then = c.in-Err.ensures.later in
-    fails_to_mount old new (fault_of c.in-Err.fault.0) (g.met.D.Disk.counts_now c.in-Err.fault.1)
-    (opened_stands old mid new (g.met.D.Disk.only_now c.args.disk) c.read_place.ensures.same c.read_place.ensures.time c.in-Err.ensures.any_moment)
-    (omega (arith, first, then)) (device_failed old mid new c.in-Err.fault.0 first c.in-Err.ensures.cause)
+    let new = g.D.Disk.state c.in-Err-mount_checked.disk in
+    subst (IsNotMounted old new) (sym c.from-in-Err-mount_checked.ensures)
+    (then_refused old (g.D.Disk.state c.check.new.disk) c.in_default.ensures.passed.reads new c.in-Err-mount_checked.fault c.in-Err-mount_checked.ensures.failed)
+
+pub returns-in-Err-mount_checked-clause-any_moment : goal.returns-in-Err-mount_checked-clause-any_moment
+returns-in-Err-mount_checked-clause-any_moment g c =
+    then_stands (g.D.Disk.state c.args.disk) (g.D.Disk.state c.check.new.disk) c.in_default.ensures.passed.reads (g.met.D.Disk.only_now c.args.disk)
+    (g.D.Disk.state c.in-Err-mount_checked.disk) c.in-Err-mount_checked.ensures.any_moment

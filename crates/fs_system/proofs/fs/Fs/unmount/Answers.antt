@@ -1,7 +1,7 @@
 use Rattle.std.proofs.Common.{Some, sym, ap, subst, ◌∙◌}
-use Rattle.fs_system.specs.Mounting.{MayBeMounted}
 use Rattle.fs_system.proofs.Methods.{last_done, last_broken, last_halted, flush_leaves}
 use Rattle.fs_system.proofs.fs.Fs.unmount.Goals as goal
+use Rattle.fs_system.specs.Seen.{EachStandsForSome}
 
 pub returns-in-Ok-clause-does : goal.returns-in-Ok-clause-does
 returns-in-Ok-clause-does g c =
@@ -11,7 +11,7 @@ returns-in-Ok-clause-does g c =
 
 pub returns-in-Ok-clause-again : goal.returns-in-Ok-clause-again
 returns-in-Ok-clause-again g c =
-    subst (λ d. MayBeMounted (g.D.Disk.state d)) (sym c.into_disk.ensures)
+    subst (λ d. EachStandsForSome (g.D.Disk.state d)) (sym c.into_disk.ensures)
     (flush_leaves g.D.Disk.state g.met.D.Disk.only_now c.self.inside.base c.self.inside.place c.self.inside.procs c.args.self c.self.view_is c.in-Some-Ok.store
     (c.in-Some-Ok.is ∙ ap (λ k. Some k) c.in-Some-Ok.field-0-is) c.in-Ok.store.disk (g.met.D.Disk.counts_now c.in-Ok.store.disk) c.in-Ok.ensures.images c.self.invariant)
 
@@ -23,7 +23,7 @@ returns-in-Some-Ok-clause-does g c =
 
 pub returns-in-Some-Ok-clause-again : goal.returns-in-Some-Ok-clause-again
 returns-in-Some-Ok-clause-again g c =
-    subst (λ d. MayBeMounted (g.D.Disk.state d)) (sym c.into_disk-in-Err.ensures)
+    subst (λ d. EachStandsForSome (g.D.Disk.state d)) (sym c.into_disk-in-Err.ensures)
     (flush_leaves g.D.Disk.state g.met.D.Disk.only_now c.self.inside.base c.self.inside.place c.self.inside.procs c.args.self c.self.view_is c.in-Some-Ok.store
     (c.in-Some-Ok.is ∙ ap (λ k. Some k) c.in-Some-Ok.field-0-is) c.in-Err.broken (g.met.D.Disk.counts_now c.in-Err.broken) c.in-Err.ensures.images c.self.invariant)
 

@@ -1,0 +1,38 @@
+//! Why a job wasn't done. The text is the line that is printed on the standard error.
+
+use fs_check::CheckFault;
+use fs_shell::RunFault;
+use fs_system::{MkfsFault, MountFault};
+use thiserror::Error;
+
+/// Why a job wasn't done.
+#[derive(Debug, Drop, Error)]
+pub enum Failure {
+    /// The file that is to be made is there.
+    #[error("image: exists")]
+    Exists,
+    /// The image can't be made: the file, or the disk in memory.
+    #[error("image: cannot create")]
+    NotCreated,
+    /// The image can't be opened.
+    #[error("image: cannot open")]
+    NotOpened,
+    /// The script can't be opened.
+    #[error("script: cannot open")]
+    NoScript,
+    /// No file system was made.
+    #[error("mkfs: {0}")]
+    Mkfs(MkfsFault),
+    /// The file system was not mounted.
+    #[error("mount: {0}")]
+    Mount(MountFault),
+    /// The image was not checked to the end.
+    #[error("check: {0}")]
+    Check(CheckFault),
+    /// The run ended early.
+    #[error("run: {0}")]
+    Run(RunFault),
+    /// What the script did may not last.
+    #[error("unmount: EIO")]
+    Unmount,
+}
