@@ -112,7 +112,7 @@ fn forgotten<D: Disk>(base: Result<Store<D>, Broken<D>>) -> Result<Store<D>, Bro
 }
 
 impl<D: Disk + Drop> Fs<D> {
-    // The same of a disk that stands for a tree.
+    // Mounts a disk that stands for a tree.
     fn mount_checked(alloc: Global, disk: D) -> Result<Fs<D>, (RestartFault, D)>
         requires { StandsForSome (D.state disk).seen }
         ensures mounted { IfOk result (λ fs. (s : State) × IsIn D.state fs s × Mounts (D.state disk) (disk_mounted D.state result) s) }
