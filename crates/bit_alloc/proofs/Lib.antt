@@ -4,3 +4,4 @@ pub mod Marking
 pub mod Soundness
 pub mod Transactions
 pub mod Words
+pub mod Vectors

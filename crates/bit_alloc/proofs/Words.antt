@@ -1,5 +1,5 @@
 -- The bits of a word of 64 bits, and those of the sector that it stands in.
-use Rattle.std.proofs.Common.{◌≡◌, ℕ, zero, suc, ◌+◌, ◌-◌, ◌*◌, ◌/◌, ◌%◌, ◌^◌, ◌<◌, Bool, false, not, nat_eq, List, get_or, drop, refl, sym, ap, subst, ◌∙◌, arith, inl, inr, IsTrue}
+use Rattle.std.proofs.Common.{◌≡◌, ℕ, zero, suc, ◌+◌, ◌-◌, ◌*◌, ◌/◌, ◌%◌, ◌^◌, ◌<◌, ◌≤◌, Bool, not, nat_eq, List, get_or, drop, refl, sym, ap, subst, ◌∙◌, arith, inl, inr}
 use Rattle.std.specs.Prelude.{count_by}
 use Rattle.std.specs.List.{range_with_len}
 use Rattle.std.specs.Int.{bit_at, bit_not, trailing_ones, w64}
@@ -12,7 +12,7 @@ use Rattle.std.proofs.lemmas.Nat.Bits.{bit_at_cat_low, bit_at_cat_high, bit_at-s
 use Rattle.byteorder.specs.Endian.{little_from}
 use Rattle.fs_layout.specs.Bytes.{IsBytes, IsSector, u64_of}
 use Rattle.fs_layout.proofs.Small.{u64_small}
-use Rattle.bit_alloc.specs.Bits.{clear_below}
+use Rattle.bit_alloc.specs.Bits.{AreSet, HasFullWords, IsLeastClear, clear_below}
 use Rattle.fs_layout.specs.Images.{bit}
 use Rattle.bit_alloc.proofs.Counting.{one_if, count_cons, count_same, count_split, count_moved}
 
@@ -91,22 +91,31 @@ word_counted s whole k m is low =
     let moved : count_by f (range_with_len (0 + 64 * k) m) ≡ count_by f (range_with_len (64 * k + 0) m) = ap (λ (q : ℕ). count_by f (range_with_len q m)) start in
     omega (arith, count_split f 0 (64 * k) m, moved, count_moved f (64 * k) 0 m, word, zeros_counted m n is (u64_small s (8 * k) whole.bytes))
 
--- where a word isn't full, its lowest clear bit is one of the sector
-pub clear_in_word : (s : List ℕ) → IsBytes s → (k n t : ℕ) → k < 64 → n ≡ u64_of s (8 * k) → n + 1 < 2 ^ 64 → t ≡ trailing_ones w64 n
-    → (64 * k + t < 4096) × (bit (λ _. s) 0 (64 * k + t) ≡ false)
-clear_in_word s bytes k n t low is less at =
+-- where the first words are full, each bit up to their end is set
+pub set_in_words : (s : List ℕ) → IsBytes s → (n : ℕ) → n ≤ 64 → HasFullWords s n → AreSet s (64 * n)
+set_in_words s bytes n few full i to =
+    let k : ℕ = i / 64 in
+    let j : ℕ = i % 64 in
+    let place : 64 * k + j ≡ i = omega arith in
+    ap (bit (λ _. s) 0) (sym place) ∙ sym (word_bit s bytes k j (omega arith) (omega arith))
+    ∙ ap (λ (m : ℕ). nat_eq (bit_at m j) 1) (full k (omega arith)) ∙ ap (λ (m : ℕ). nat_eq m 1) (bit_at_ones 64 j (omega arith))
+
+-- where the next one isn't, its lowest clear bit is that of the sector
+pub least_in_word : (s : List ℕ) → IsBytes s → (k n t : ℕ) → k < 64 → n ≡ u64_of s (8 * k) → n + 1 < 2 ^ 64 → t ≡ trailing_ones w64 n → HasFullWords s k
+    → IsLeastClear s (64 * k + t)
+least_in_word s bytes k n t low is less at full =
     let lowest = bit_at-trailing_ones w64 n less in
     let few : t < 64 = omega (arith, at, lowest.0) in
-    (omega (arith, few, low), sym (word_bit s bytes k t low few) ∙ ap (λ (m : ℕ). nat_eq m 1) (ap (λ (m : ℕ). bit_at m t) (sym is) ∙ ap (bit_at n) at ∙ lowest.1))
-
--- where it is full, each bit up to its end is set
-pub set_in_word : (s : List ℕ) → IsBytes s → (k n : ℕ) → k < 64 → n ≡ u64_of s (8 * k) → n ≡ 2 ^ 64 - 1
-    → ((i : ℕ) → i < 64 * k → IsTrue (bit (λ _. s) 0 i)) → (i : ℕ) → i < 64 * (k + 1) → IsTrue (bit (λ _. s) 0 i)
-set_in_word s bytes k n low is full before i to =
-    elim (cases_lt i (64 * k)) [
-      | inl lt ↦ before i lt
-      | inr from ↦
-          let place : 64 * k + (i - 64 * k) ≡ i = omega arith in
-          ap (bit (λ _. s) 0) (sym place) ∙ sym (word_bit s bytes k (i - 64 * k) low (omega arith))
-          ∙ ap (λ (m : ℕ). nat_eq (bit_at m (i - 64 * k)) 1) (sym is ∙ full) ∙ ap (λ (m : ℕ). nat_eq m 1) (bit_at_ones 64 (i - 64 * k) (omega arith))
-    ]
+    let here : (j : ℕ) → j < 64 → bit (λ _. s) 0 (64 * k + j) ≡ nat_eq (bit_at n j) 1 =
+    λ j lt. sym (word_bit s bytes k j low lt) ∙ ap (λ (m : ℕ). nat_eq (bit_at m j) 1) (sym is) in
+    record {
+      within = omega (arith, few, low);
+      clear = here t few ∙ ap (λ (m : ℕ). nat_eq m 1) (ap (bit_at n) at ∙ lowest.1);
+      below = λ i to. elim (cases_lt i (64 * k)) [
+        | inl lt ↦ set_in_words s bytes k (omega arith) full i lt
+        | inr from ↦
+            let j : ℕ = i - 64 * k in
+            let place : 64 * k + j ≡ i = omega arith in
+            ap (bit (λ _. s) 0) (sym place) ∙ here j (omega arith) ∙ ap (λ (m : ℕ). nat_eq m 1) (lowest.2 j (omega (arith, at, to, from)))
+      ];
+    }

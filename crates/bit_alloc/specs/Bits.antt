@@ -1,9 +1,25 @@
--- How many bits of a bitmap are clear.
---     clear_below        so many of its first bits
-use Rattle.std.specs.Prelude.{ℕ, not, count_by}
+-- The bits of one sector, and those of a bitmap.
+--     AreSet, IsLeastClear        the first bits of a sector are set; the lowest that is clear
+--     HasFullWords        the first words of 64 bits have all their bits set
+--     clear_below        how many of a bitmap's first bits are clear
+use Rattle.std.specs.Prelude.{◌≡◌, ℕ, ◌*◌, ◌-◌, ◌^◌, ◌<◌, List, false, not, IsTrue, count_by}
 use Rattle.std.specs.List.{range_with_len}
-use Rattle.fs_layout.specs.Bytes.{SectorMap}
+use Rattle.fs_layout.specs.Bytes.{SectorMap, u64_of}
 use Rattle.fs_layout.specs.Images.{bit}
+
+-- each of the first n bits is set
+abbrev pub AreSet : List ℕ → ℕ → Type 0
+AreSet sector n = (i : ℕ) → i < n → IsTrue (bit (λ _. sector) 0 i)
+
+-- bit n is clear, and each lower one is set
+pub record IsLeastClear (sector : List ℕ) (n : ℕ) : Type 0 where
+  pub within : n < 4096
+  pub clear : bit (λ _. sector) 0 n ≡ false
+  pub below : AreSet sector n
+
+-- each of the first n words has all its bits set
+abbrev pub HasFullWords : List ℕ → ℕ → Type 0
+HasFullWords sector n = (k : ℕ) → k < n → u64_of sector (8 * k) ≡ 2 ^ 64 - 1
 
 -- how many of the first n bits of the bitmap that begins at a sector are clear
 unfoldable pub clear_below : SectorMap → ℕ → ℕ → ℕ

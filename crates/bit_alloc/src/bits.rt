@@ -1,15 +1,18 @@
 //! The bits of one sector of a bitmap.
 
-ghost use Rattle.std.specs.Prelude.{◌≡◌, ◌≢◌, ◌+◌, ◌*◌, ◌<◌, ◌≤◌, ℕ, length, false, nat_eq, IsTrue, MatchOption};
+ghost use Rattle.std.specs.Prelude.{◌≡◌, ◌≢◌, ◌+◌, ◌*◌, ◌-◌, ◌^◌, ◌<◌, ◌≤◌, ℕ, length, get_or, nat_eq, IsTrue, MatchOption};
 ghost use Rattle.std.specs.Int.{bit_at};
 ghost use Rattle.fs_layout.specs.Bytes.{u64_of};
-ghost use Rattle.fs_layout.specs.Images.{bit};
-ghost use Rattle.bit_alloc.specs.Bits.{clear_below};
+ghost use Rattle.bit_alloc.specs.Bits.{AreSet, HasFullWords, IsLeastClear, clear_below};
 
 use byteorder::{ByteOrder, LittleEndian};
+use std::simd::prelude::*;
 
 // How many words of 64 bits a sector has.
 const WORDS: u32 = 64;
+
+// How many of them stand in one vector.
+const LANES: u32 = 8;
 
 // Word k of a sector: its bits are those of the sector from 64 k on.
 fn word(sector: &[u8], k: u32) -> u64
@@ -19,12 +22,40 @@ fn word(sector: &[u8], k: u32) -> u64
     LittleEndian::read_u64(&sector[8 * k as usize..])
 }
 
-// The lowest bit that is clear, by whole words.
-pub(crate) fn first_clear(sector: &[u8; 512]) -> Option<u32>
-    ensures { MatchOption result ((i : ℕ) → i < 4096 → IsTrue (bit (λ _. sector.now) 0 i))
-        (λ n. (n < 4096) × (bit (λ _. sector.now) 0 n ≡ false)) }
+// The words of a sector from word 8 k on.
+fn lanes(sector: &[u8], k: u32) -> u64x8
+    requires { 64 * k + 64 ≤ length sector.now }
+    ensures { (j : ℕ) → j < 8 → get_or result j 0 ≡ u64_of sector.now (8 * (8 * k + j)) }
 {
-    for k in 0..WORDS {
+    u64x8::from_le_bytes(u8x64::from_slice(&sector[64 * k as usize..]))
+}
+
+// Whether all bits of these words are set.
+fn are_full(words: u64x8) -> bool
+    ensures { IsTrue result → (j : ℕ) → j < 8 → get_or words j 0 ≡ 2 ^ 64 - 1 }
+{
+    !words.simd_ne(u64x8::splat(u64::MAX)).any()
+}
+
+// So many words at the front are full: those before the first vector in which a bit is clear.
+fn full_words(sector: &[u8; 512]) -> u32
+    ensures { HasFullWords sector.now result }
+{
+    for k in 0..WORDS / LANES {
+        if !are_full(lanes(sector, k)) {
+            return LANES * k;
+        }
+    }
+    WORDS
+}
+
+/// The lowest bit that is clear, or none where all 4,096 are set. Bit i is bit i % 8 of byte i / 8.
+///
+/// It tests 512 bits at once, up to the first of them that aren't all set, and from there on words of 64.
+pub fn first_clear(sector: &[u8; 512]) -> Option<u32>
+    ensures { MatchOption result (AreSet sector.now 4096) (IsLeastClear sector.now) }
+{
+    for k in full_words(sector)..WORDS {
         let bits = word(sector, k);
         if bits < u64::MAX {
             return Some(64 * k + bits.trailing_ones());

@@ -1,7 +1,8 @@
 //! The numbers that the two bitmaps of a disk keep: inodes, and data sectors.
 //!
 //! A bitmap is a set of numbers. [`take`] adds one that the set lacks, [`give`] takes one out of it, [`is_taken`] asks
-//! for one, and [`count_free`] and [`has_free`] count those that the set lacks. No call takes memory.
+//! for one, and [`count_free`] and [`has_free`] count those that the set lacks. [`first_clear`] is the search in one
+//! sector. No call takes memory.
 //!
 //! The bitmap of the inodes is one sector, that of the blocks 1 to 16. So many of its sectors each call reads and puts:
 //!
@@ -23,6 +24,7 @@ mod marks;
 mod tests;
 
 pub use bitmap::{Bitmap, TakeFault};
+pub use bits::first_clear;
 pub use counts::{count_free, has_free, is_taken};
 pub use laws::{
     calls_join, consistent_maps_are_sound, inodes_take_no_sector, soundness_is_kept,

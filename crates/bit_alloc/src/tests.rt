@@ -5,6 +5,7 @@ ghost use Rattle.fs_layout.specs.Place.{IsPlace};
 ghost use Rattle.bit_alloc.specs.Bitmaps.{HasBitmaps};
 ghost use Rattle.bit_alloc.specs.Room.{HasSpare};
 
+mod searches;
 mod tables;
 
 use crate::{Bitmap, TakeFault, count_free, give, has_free, is_taken, take};

@@ -42,7 +42,7 @@ put_bit-requires-clause-number g c =
     let here : c.get.new.to ≡ image (first_sector c.args.map + c.loop-k.k) =
     c.in_ok-get.ensures.content ∙ c.loop-k.invariant.same.sectors (c.first.result + c.loop-k.k) ∙ ap (λ (n : ℕ). image (n + c.loop-k.k)) c.first.ensures in
     let free = found_free c.args.place c.args.map image c.loop-k.k c.in-Some.i c.sectors-k-end.result c.get.new.to c.requires.bitmaps.rest here c.sectors-k-end.ensures c.loop-k-test.true
-    c.in-Some.ensures.0 c.in-Some.ensures.1 in
+    c.in-Some.ensures.within c.in-Some.ensures.clear in
     (free.0, free.1)
 
 pub returns-in-Some-clause-taken : goal.returns-in-Some-clause-taken
@@ -55,7 +55,7 @@ returns-in-Some-clause-taken g c =
     c.in_ok-get.ensures.content ∙ sym (c.in_ok-get.ensures.same.sectors (c.first.result + c.loop-k.k)) ∙ ap (λ (m : ℕ). mid.sectors (m + c.loop-k.k)) c.first.ensures in
     let same = map_unchanged (unchanged_joined c.loop-k.invariant.same c.in_ok-get.ensures.same) in
     let free = found_free c.args.place c.args.map mid.sectors c.loop-k.k c.in-Some.i c.sectors-k-end.result c.get.new.to (subst (HasRestSet c.args.place) same c.requires.bitmaps.rest) here
-    c.sectors-k-end.ensures c.loop-k-test.true c.in-Some.ensures.0 c.in-Some.ensures.1 in
+    c.sectors-k-end.ensures c.loop-k-test.true c.in-Some.ensures.within c.in-Some.ensures.clear in
     let taken : TakesNumber c.args.place c.args.map n mid.sectors new.sectors = record {
       free = free;
       mark = c.put_bit.ensures.marks;
