@@ -1,5 +1,5 @@
 -- How a count over numbers in a row follows its parts.
-use Rattle.std.proofs.Common.{◌≡◌, ◌≢◌, ℕ, zero, suc, ◌+◌, ◌<◌, ◌≤◌, Bool, true, false, cond, refl, sym, ap, ◌∙◌, arith, inl, inr}
+use Rattle.std.proofs.Common.{◌≡◌, ◌≢◌, ℕ, zero, suc, ◌+◌, ◌<◌, ◌≤◌, Bool, true, false, not, cond, refl, sym, ap, ◌∙◌, arith, inl, inr}
 use Rattle.std.specs.Prelude.{count_by}
 use Rattle.std.specs.List.{range_with_len}
 use Rattle.std.proofs.lemmas.Bool.{cases_eq}
@@ -20,6 +20,16 @@ count_same f g a (suc n) same =
     let here : one_if (f a) ≡ one_if (g a) = ap one_if (same a (omega arith) (omega arith)) in
     let rest : count_by f (range_with_len (a + 1) n) ≡ count_by g (range_with_len (a + 1) n) = count_same f g (a + 1) n (λ s le lt. same s (omega arith) (omega arith)) in
     count_cons f a n ∙ omega (arith, here, rest) ∙ sym (count_cons g a n)
+
+one_of : (b : Bool) → one_if b + one_if (not b) ≡ 1
+unfolding one_if
+one_of true = refl
+one_of false = refl
+
+-- each number passes a test or its opposite
+pub count_both : (f : ℕ → Bool) (a n : ℕ) → count_by f (range_with_len a n) + count_by (λ s. not (f s)) (range_with_len a n) ≡ n
+count_both f a zero = refl
+count_both f a (suc n) = omega (arith, count_cons f a n, count_cons (λ s. not (f s)) a n, count_both f (a + 1) n, one_of (f a))
 
 -- one part after the other
 pub count_split : (f : ℕ → Bool) (a m n : ℕ) → count_by f (range_with_len a (m + n)) ≡ count_by f (range_with_len a m) + count_by f (range_with_len (a + m) n)

@@ -1,20 +1,20 @@
 -- The bits of a word of 64 bits, and those of the sector that it stands in.
-use Rattle.std.proofs.Common.{◌≡◌, ℕ, zero, suc, ◌+◌, ◌-◌, ◌*◌, ◌/◌, ◌%◌, ◌^◌, ◌<◌, ◌≤◌, Bool, not, nat_eq, List, get_or, drop, refl, sym, ap, subst, ◌∙◌, arith, inl, inr}
+use Rattle.std.proofs.Common.{◌≡◌, ℕ, zero, suc, ◌+◌, ◌-◌, ◌*◌, ◌/◌, ◌%◌, ◌^◌, ◌<◌, ◌≤◌, Bool, nat_eq, List, get_or, drop, refl, sym, ap, subst, ◌∙◌, arith, inl, inr}
 use Rattle.std.specs.Prelude.{count_by}
 use Rattle.std.specs.List.{range_with_len}
-use Rattle.std.specs.Int.{bit_at, bit_not, trailing_ones, w64}
+use Rattle.std.specs.Int.{bit_at, trailing_ones, w64}
 use Rattle.std.specs.Int.RustNames.{count_ones}
 use Rattle.std.specs.Int.Count.{ones_step}
 use Rattle.std.proofs.Math.Nat.{pow-suc}
 use Rattle.std.proofs.lemmas.Bool.{cases_lt}
 use Rattle.std.proofs.lemmas.List.{get_or-drop}
-use Rattle.std.proofs.lemmas.Nat.Bits.{bit_at_cat_low, bit_at_cat_high, bit_at-suc, bit_at-lt, bit_at_lowest, bit_at_not, bit_at_ones, bit_at-trailing_ones}
+use Rattle.std.proofs.lemmas.Nat.Bits.{bit_at_cat_low, bit_at_cat_high, bit_at-suc, bit_at-lt, bit_at_lowest, bit_at_ones, bit_at-trailing_ones}
 use Rattle.byteorder.specs.Endian.{little_from}
 use Rattle.fs_layout.specs.Bytes.{IsBytes, IsSector, u64_of}
 use Rattle.fs_layout.proofs.Small.{u64_small}
 use Rattle.bit_alloc.specs.Bits.{AreSet, HasFullWords, IsLeastClear, clear_below}
 use Rattle.fs_layout.specs.Images.{bit}
-use Rattle.bit_alloc.proofs.Counting.{one_if, count_cons, count_same, count_split, count_moved}
+use Rattle.bit_alloc.proofs.Counting.{one_if, count_cons, count_same, count_both, count_split, count_moved}
 
 -- bit j of a number of n bytes is one of byte j / 8
 pub number_bit : (xs : List ℕ) → IsBytes xs → (n i j : ℕ) → j < 8 * n → bit_at (little_from i n xs) j ≡ bit_at (get_or xs (i + j / 8) 0) (j % 8)
@@ -66,30 +66,23 @@ ones_counted (suc k) n lt =
     let lowest : one_if (f 0) ≡ n % 2 = bit_as_number (bit_at n 0) (bit_at-lt n 0) ∙ bit_at_lowest n in
     omega (arith, ones_step n, rest, next, lowest, count_cons f 0 k, count_moved f 1 0 k)
 
-clear_is : (b : ℕ) → b < 2 → (c : ℕ) → c ≡ 1 - b → nat_eq c 1 ≡ not (nat_eq b 1)
-clear_is zero lt c is = ap (λ (m : ℕ). nat_eq m 1) is
-clear_is (suc zero) lt c is = ap (λ (m : ℕ). nat_eq m 1) is
-clear_is (suc (suc b)) lt c is = absurd (omega arith)
-
--- so as many are clear as the count of zeros says
-zeros_counted : (m n : ℕ) → m ≡ 64 → n < 2 ^ 64 → count_ones (bit_not w64 n) ≡ count_by (λ j. not (nat_eq (bit_at n j) 1)) (range_with_len 0 m)
-zeros_counted m n is lt =
-    let turned : ℕ = bit_not w64 n in
-    let small : turned < 2 ^ m = subst (λ (k : ℕ). turned < 2 ^ k) (sym is) (omega arith) in
-    ones_counted m turned small
-    ∙ count_same _ _ 0 m (λ j from to. clear_is (bit_at n j) (bit_at-lt n j) (bit_at turned j) (bit_at_not w64 n j lt (omega (arith, to, is))))
-
 -- one word more of a sector is counted
-pub word_counted : (s : List ℕ) → IsSector s → (k m : ℕ) → m ≡ 64 → k < 64 → clear_below (λ _. s) 0 (64 * k + m) ≡ clear_below (λ _. s) 0 (64 * k) + count_ones (bit_not w64 (u64_of s (8 * k)))
-unfolding clear_below
+pub word_counted : (s : List ℕ) → IsSector s → (k m : ℕ) → m ≡ 64 → k < 64
+    → count_by (bit (λ _. s) 0) (range_with_len 0 (64 * k + m)) ≡ count_by (bit (λ _. s) 0) (range_with_len 0 (64 * k)) + count_ones (u64_of s (8 * k))
 word_counted s whole k m is low =
-    let f : ℕ → Bool = λ i. not (bit (λ _. s) 0 i) in
+    let f : ℕ → Bool = bit (λ _. s) 0 in
     let n : ℕ = u64_of s (8 * k) in
-    let word : count_by (λ j. f (64 * k + j)) (range_with_len 0 m) ≡ count_by (λ j. not (nat_eq (bit_at n j) 1)) (range_with_len 0 m) =
-    count_same _ _ 0 m (λ j from to. ap not (sym (word_bit s whole.bytes k j low (omega (arith, to, is))))) in
+    let small : n < 2 ^ m = subst (λ (j : ℕ). n < 2 ^ j) (sym is) (u64_small s (8 * k) whole.bytes) in
+    let word : count_by (λ j. f (64 * k + j)) (range_with_len 0 m) ≡ count_by (λ j. nat_eq (bit_at n j) 1) (range_with_len 0 m) =
+    count_same _ _ 0 m (λ j from to. sym (word_bit s whole.bytes k j low (omega (arith, to, is)))) in
     let start : 0 + 64 * k ≡ 64 * k + 0 = omega arith in
     let moved : count_by f (range_with_len (0 + 64 * k) m) ≡ count_by f (range_with_len (64 * k + 0) m) = ap (λ (q : ℕ). count_by f (range_with_len q m)) start in
-    omega (arith, count_split f 0 (64 * k) m, moved, count_moved f (64 * k) 0 m, word, zeros_counted m n is (u64_small s (8 * k) whole.bytes))
+    omega (arith, count_split f 0 (64 * k) m, moved, count_moved f (64 * k) 0 m, word, ones_counted m n small)
+
+-- what the set bits leave of a sector is clear
+pub rest_clear : (s : List ℕ) (n : ℕ) → clear_below (λ _. s) 0 n ≡ n - count_by (bit (λ _. s) 0) (range_with_len 0 n)
+unfolding clear_below
+rest_clear s n = omega (arith, count_both (bit (λ _. s) 0) 0 n)
 
 -- where the first words are full, each bit up to their end is set
 pub set_in_words : (s : List ℕ) → IsBytes s → (n : ℕ) → n ≤ 64 → HasFullWords s n → AreSet s (64 * n)

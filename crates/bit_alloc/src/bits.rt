@@ -64,15 +64,15 @@ pub fn first_clear(sector: &[u8; 512]) -> Option<u32>
     None
 }
 
-// How many bits are clear, by whole words.
+// How many bits are clear: all but those that are set in the words.
 pub(crate) fn count_clear(sector: &[u8; 512]) -> u32
     ensures { result ≡ clear_below (λ _. sector.now) 0 4096 }
 {
-    let mut clear = 0;
+    let mut set = 0;
     for k in 0..WORDS {
-        clear += word(sector, k).count_zeros();
+        set += word(sector, k).count_ones();
     }
-    clear
+    64 * WORDS - set
 }
 
 // The byte with bit i set or clear.
