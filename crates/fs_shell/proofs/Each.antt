@@ -46,14 +46,7 @@ pub fault_at : {A B : Type 0} (read : A → Result B LineFault) (all : List A) (
 fault_at read all n d ys fault front below bad =
     ap (each read) (split_at all n d below) ∙ each_fault read (take n all) ys (get_or all n d) (drop (suc n) all) fault front bad
 
--- the same of a vector that grows, and of what its items are seen as
-pub each_push : {A B X Y : Type 0} (read : A → Result B LineFault) (see : X → A) (show : Y → B) (xs : List X) (ys new : List Y) (x : X) (y : Y)
-    → new ≡ ys ++ y ∷ [] → each read (map see xs) ≡ Ok (map show ys) → read (see x) ≡ Ok (show y)
-    → each read (map see (xs ++ x ∷ [])) ≡ Ok (map show new)
-each_push read see show xs ys new x y pushed front last =
-    rw (pushed, map-append see xs (x ∷ []), map-append show ys (y ∷ [])) (each_more read (map see xs) (map show ys) (see x) (show y) front last)
-
--- the same where the items are seen as they are
+-- the same of a vector that grows
 pub each_push_plain : {A B X : Type 0} (read : A → Result B LineFault) (see : X → A) (xs : List X) (ys new : List B) (x : X) (y : B)
     → new ≡ ys ++ y ∷ [] → each read (map see xs) ≡ Ok ys → read (see x) ≡ Ok y
     → each read (map see (xs ++ x ∷ [])) ≡ Ok new

@@ -1,5 +1,6 @@
 pub mod Escapes
 pub mod Cut
+pub mod Cutting
 pub mod Each
 pub mod Letters
 pub mod Faulty

@@ -12,6 +12,7 @@ mod laws;
 mod line;
 mod operand;
 mod parse;
+mod places;
 #[cfg(test)]
 mod row_data;
 #[cfg(test)]

@@ -58,11 +58,15 @@ fn first_past_spaces(line: &[u8]) -> Option<u8>
     line.iter().copied().find(|byte| *byte != b' ')
 }
 
-// Whether it has only bytes that a line may have.
+// Whether it has only bytes that a line may have. Not stopping at the first other byte, it tests many at once.
 fn is_clean(line: &[u8]) -> bool
     ensures { result ≡ list_all is_printable line.now }
 {
-    line.iter().all(|byte| is_printable(*byte))
+    let mut clean = true;
+    for byte in line {
+        clean &= is_printable(*byte);
+    }
+    clean
 }
 
 fn is_printable(byte: u8) -> bool

@@ -1,10 +1,12 @@
 //! Words of lines: what they say, and the forms that commands ask for.
-ghost use Rattle.std.specs.Prelude.{◌≡◌, ◌<◌, [], true, map, length, IfOk, IfErr, MatchOption, Err};
+ghost use Rattle.std.specs.Prelude.{◌≡◌, ◌<◌, [], ◌∷◌, true, false, map, length, slice_index, IfOk, IfErr, MatchOption, Err};
 ghost use Rattle.fs_shell.specs.declared.line.LineFault.TheVariants.{BadEscape};
-ghost use Rattle.fs_shell.specs.Lines.{is_hex_digit, hex_value, unescaped, word_bytes, words_of, each, with_byte};
+ghost use Rattle.fs_shell.specs.Lines.{is_hex_digit, hex_value, is_plain, unescaped, word_bytes, words_of, each, with_byte};
 ghost use Rattle.fs_shell.specs.Runs.{Gives};
 
 use crate::line::LineFault;
+use crate::places::{len_before, spaces_before};
+use memchr::memchr2;
 use std::alloc::Global;
 
 /// The words of a line, each with the bytes that it says.
@@ -12,46 +14,67 @@ pub fn read_words(alloc: Global, line: &[u8]) -> Result<Vec<Vec<u8>>, LineFault>
     ensures { Gives (λ words. map (λ word. word.items) words.items) result (each word_bytes (words_of line.now)) }
 {
     let mut words = Vec::new(alloc);
-    for word in line
-        .split(|byte| *byte == b' ')
-        .filter(|word| !word.is_empty())
-    {
+    let mut rest = line;
+    while let Some((word, after)) = first_word(rest) {
         words.push(decoded(alloc, word)?)?;
+        rest = after;
     }
     Ok(words)
 }
 
+// The first word of a line, and what stands behind it.
+fn first_word(line: &[u8]) -> Option<(&[u8], &[u8])>
+    ensures { MatchOption result (words_of line.now ≡ []) (λ x.
+        (length x.1.now < length line.now) × (words_of line.now ≡ x.0.now ∷ words_of x.1.now)) }
+{
+    let (_, begun) = line.split_at(spaces_before(line));
+    if begun.is_empty() {
+        return None;
+    }
+    Some(begun.split_at(len_before(b' ', begun)))
+}
+
 // The bytes that a word says.
-#[tactic(auto, using(crate::proofs::Escapes::one_more, crate::proofs::Escapes::none_more), unfolding(crate::specs::Lines::word_bytes))]
+#[tactic(auto, unfolding(crate::specs::Lines::word_bytes))]
 fn decoded(alloc: Global, word: &[u8]) -> Result<Vec<u8>, LineFault>
     ensures { Gives (λ bytes. bytes.items) result (word_bytes word.now) }
 {
-    let mut bytes = Vec::new(alloc);
     if word == b"\"\"".as_slice() {
-        return Ok(bytes);
+        return Ok(Vec::new(alloc));
     }
-    let mut rest = word;
-    while let Some((byte, after)) = first_byte(rest)? {
+    unescaped(alloc, word)
+}
+
+// The bytes that a text with escapes says.
+fn unescaped(alloc: Global, text: &[u8]) -> Result<Vec<u8>, LineFault>
+    ensures { Gives (λ bytes. bytes.items) result (unescaped text.now) }
+{
+    let mut bytes = Vec::with_capacity(alloc, text.len())?;
+    let mut rest = text;
+    while let Some(at) = memchr2(b'\\', b'"', rest) {
+        let (plain, escape) = rest.split_at(at);
+        bytes.extend_from_slice(plain)?;
+        let (byte, after) = first_escape(escape)?;
         bytes.push(byte)?;
         rest = after;
     }
+    bytes.extend_from_slice(rest)?;
     Ok(bytes)
 }
 
-// The first byte that a text with escapes says, and the text behind it.
-fn first_byte(text: &[u8]) -> Result<Option<(u8, &[u8])>, LineFault>
-    ensures ok { IfOk result (λ first. MatchOption first (text.now ≡ []) (λ x.
-        (length x.1.now < length text.now) × (unescaped text.now ≡ with_byte x.0 (unescaped x.1.now)))) }
+// The byte that the escape at the front of a text says, and the text behind it.
+fn first_escape(text: &[u8]) -> Result<(u8, &[u8]), LineFault>
+    requires { is_plain (slice_index text.now 0) ≡ false }
+    ensures ok { IfOk result (λ x.
+        (length x.1.now < length text.now) × (unescaped text.now ≡ with_byte x.0 (unescaped x.1.now))) }
     ensures err { IfErr result (λ fault. (fault ≡ BadEscape) × (unescaped text.now ≡ Err BadEscape)) }
 {
     match text {
-        [] => Ok(None),
         [b'\\', high, low, after @ ..] if is_hex_digit(*high) && is_hex_digit(*low) => {
             let byte = 16 * hex_value(*high) + hex_value(*low);
-            Ok(Some((byte, after)))
+            Ok((byte, after))
         }
-        [b'\\' | b'"', ..] => Err(LineFault::BadEscape),
-        [byte, after @ ..] => Ok(Some((*byte, after))),
+        _ => Err(LineFault::BadEscape),
     }
 }
 
