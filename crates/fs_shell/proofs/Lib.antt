@@ -6,6 +6,7 @@ pub mod Letters
 pub mod Faulty
 pub mod Numbers
 pub mod OneMeaning
+pub mod Pieces
 pub mod Reading
 pub mod Rows
 pub mod Sessions

@@ -1,7 +1,7 @@
 -- A line while it is read.
-use Rattle.std.proofs.Common.{◌≡◌, ◌≢◌, ℕ, ◌+◌, ◌<◌, ◌≤◌, ◌==◌, Bool, true, false, List, [], ◌∷◌, ◌++◌, length, take, Option, None, Some, Result, Ok, not, refl, sym, ap, subst, ◌∙◌, append_assoc, append-nil, length-append, length-take, arith, take_all}
-use Rattle.std.proofs.lemmas.Bool.{false≢true, ne_eqb}
-use Rattle.std.proofs.lemmas.List.{take-append-le}
+use Rattle.std.proofs.Common.{◌≡◌, ◌≢◌, ℕ, ◌+◌, ◌<◌, ◌≤◌, ◌==◌, Bool, true, false, List, [], ◌∷◌, ◌++◌, length, take, Option, None, Some, Result, Ok, not, refl, sym, ap, subst, ◌∙◌, append_assoc, append-nil, length-append, length-take, arith, take_all, inl, inr}
+use Rattle.std.proofs.lemmas.Bool.{false≢true, ne_eqb, cases_lt}
+use Rattle.std.proofs.lemmas.List.{take-append-le, take-take}
 use Rattle.std.specs.Io.KnownBytes.{Consumes, Keeps, IsAtEnd}
 use Rattle.std.proofs.KnownBytes.{Consumes-nil, Consumes-trans, Consumes-kept}
 use Rattle.fs_shell.specs.Lines.{lines_of}
@@ -11,9 +11,9 @@ abbrev pub HasNoNewline : List ℕ → Type 0
 HasNoNewline [] = Unit {0}
 HasNoNewline (b ∷ bs) = ((b == 10) ≡ false) × HasNoNewline bs
 
-no_newline_yet : (bs : List ℕ) (b : ℕ) → HasNoNewline bs → (b == 10) ≡ false → HasNoNewline (bs ++ b ∷ [])
-no_newline_yet [] b clean other = (other, tt)
-no_newline_yet (c ∷ bs) b clean other = (clean.0, no_newline_yet bs b clean.1 other)
+no_newline_in : (bs cs : List ℕ) → HasNoNewline bs → HasNoNewline cs → HasNoNewline (bs ++ cs)
+no_newline_in [] cs front back = back
+no_newline_in (b ∷ bs) cs front back = (front.0, no_newline_in bs cs front.1 back)
 
 -- a line ends at its newline
 pub line_and_more : (bs rest : List ℕ) → HasNoNewline bs → lines_of (bs ++ 10 ∷ rest) ≡ bs ∷ lines_of rest
@@ -36,43 +36,41 @@ pub record IsReading (old now : Option (List ℕ)) (before after : ℕ) (line : 
 pub begins : (old : Option (List ℕ)) (before : ℕ) (line : List ℕ) → line ≡ [] → IsReading old old before before line
 begins old before line none = record { whole = []; kept = none; clean = tt; consumed = Consumes-nil old; counted = omega arith }
 
--- what is kept of a longer line
-keeps_more : (whole line next : List ℕ) (b : ℕ) → line ≡ kept_front whole → length line ≤ 4096 → next ≡ line ++ b ∷ [] → next ≡ kept_front (whole ++ b ∷ [])
-keeps_more whole line next b kept room pushed =
-    let count : length line ≡ length (take 4097 whole) = ap length kept in
-    let short : length whole ≤ 4097 = omega (arith, length-take 4097 whole) in
-    let all : take 4097 whole ≡ whole = take_all 4097 whole short in
-    let fits : length (whole ++ b ∷ []) ≤ 4097 = omega (arith, length-append whole (b ∷ []), length-take 4097 whole) in
-    pushed ∙ ap (λ l. l ++ b ∷ []) (kept ∙ all) ∙ sym (take_all 4097 (whole ++ b ∷ []) fits)
+pub line_fits : (old now : Option (List ℕ)) (before after : ℕ) (line : List ℕ) → IsReading old now before after line → length line ≤ 4097
+line_fits old now before after line is = omega (arith, ap length is.kept, length-take 4097 is.whole)
 
-keeps_full : (whole line : List ℕ) (b : ℕ) → line ≡ kept_front whole → 4096 < length line → line ≡ kept_front (whole ++ b ∷ [])
-keeps_full whole line b kept full =
-    let count : length line ≡ length (take 4097 whole) = ap length kept in
-    let long : 4097 ≤ length whole = omega (arith, length-take 4097 whole) in
-    kept ∙ sym (take-append-le 4097 whole (b ∷ []) long)
-
--- one more byte, which is kept
-pub reads_more : (old now next : Option (List ℕ)) (before after later : ℕ) (line longer : List ℕ) (b : ℕ) → IsReading old now before after line
-    → Consumes now next (b ∷ []) → later ≡ after + 1 → (b == 10) ≡ false → length line ≤ 4096 → longer ≡ line ++ b ∷ []
-    → IsReading old next before later longer
-reads_more old now next before after later line longer b is took count other room pushed = record {
-  whole = is.whole ++ b ∷ [];
-  kept = keeps_more is.whole line longer b is.kept room pushed;
-  clean = no_newline_yet is.whole b is.clean other;
-  consumed = Consumes-trans old now next is.whole (b ∷ []) is.consumed took;
-  counted = omega (arith, is.counted, length-append is.whole (b ∷ []));
+-- more bytes have been looked for
+pub still_reads : (old now next : Option (List ℕ)) (before after later : ℕ) (line : List ℕ) → IsReading old now before after line → Keeps now next → later ≡ after
+    → IsReading old next before later line
+still_reads old now next before after later line is same count = record {
+  whole = is.whole;
+  kept = is.kept;
+  clean = is.clean;
+  consumed = Consumes-kept old now next is.whole is.consumed same;
+  counted = count ∙ is.counted;
 }
 
--- one that is not
-pub reads_on : (old now next : Option (List ℕ)) (before after later : ℕ) (line : List ℕ) (b : ℕ) → IsReading old now before after line
-    → Consumes now next (b ∷ []) → later ≡ after + 1 → (b == 10) ≡ false → 4096 < length line
-    → IsReading old next before later line
-reads_on old now next before after later line b is took count other full = record {
-  whole = is.whole ++ b ∷ [];
-  kept = keeps_full is.whole line b is.kept full;
-  clean = no_newline_yet is.whole b is.clean other;
-  consumed = Consumes-trans old now next is.whole (b ∷ []) is.consumed took;
-  counted = omega (arith, is.counted, length-append is.whole (b ∷ []));
+-- what is kept of a longer line
+keeps_more : (n : ℕ) (whole piece : List ℕ) → take n (take n whole ++ piece) ≡ take n (whole ++ piece)
+keeps_more n whole piece = elim (cases_lt (length whole) n) [
+  | inl short ↦ ap (λ l. take n (l ++ piece)) (take_all n whole (omega arith))
+  | inr long ↦
+      let full : n ≤ length (take n whole) = omega (arith, length-take n whole) in
+      take-append-le n (take n whole) piece full ∙ take-take n n whole (omega arith) ∙ sym (take-append-le n whole piece long)
+]
+
+longer_kept : (whole line longer piece : List ℕ) → line ≡ kept_front whole → longer ≡ kept_front (line ++ piece) → longer ≡ kept_front (whole ++ piece)
+longer_kept whole line longer piece kept pushed = pushed ∙ ap (λ l. kept_front (l ++ piece)) kept ∙ keeps_more 4097 whole piece
+
+-- one more piece, which has no newline behind it
+pub reads_more : (old now next : Option (List ℕ)) (before after later : ℕ) (line longer piece : List ℕ) → IsReading old now before after line
+    → Consumes now next piece → HasNoNewline piece → later ≡ after + length piece → longer ≡ kept_front (line ++ piece) → IsReading old next before later longer
+reads_more old now next before after later line longer piece is took clean count pushed = record {
+  whole = is.whole ++ piece;
+  kept = longer_kept is.whole line longer piece is.kept pushed;
+  clean = no_newline_in is.whole piece is.clean clean;
+  consumed = Consumes-trans old now next is.whole piece is.consumed took;
+  counted = omega (arith, is.counted, length-append is.whole piece);
 }
 
 taken_by : (old next : Option (List ℕ)) (whole : List ℕ) → HasNoNewline whole → Consumes old next (whole ++ 10 ∷ []) → IsTaken whole old next
@@ -81,18 +79,20 @@ taken_by (Some xs) None whole clean took = took
 taken_by (Some xs) (Some ys) whole clean took =
     ap lines_of (took ∙ append_assoc whole (10 ∷ []) ys) ∙ line_and_more whole ys clean
 
--- the newline
-pub reads_line : (old now next : Option (List ℕ)) (before after later : ℕ) (line : List ℕ) (b : ℕ) → IsReading old now before after line
-    → Consumes now next (b ∷ []) → later ≡ after + 1 → b ≡ 10 → LineRead old next before later line
-reads_line old now next before after later line b is took count newline =
-    let all : Consumes old next (is.whole ++ 10 ∷ []) = Consumes-trans old now next is.whole (10 ∷ []) is.consumed (subst (λ x. Consumes now next (x ∷ [])) newline took) in
+-- one with its newline
+pub reads_line : (old now next : Option (List ℕ)) (before after later : ℕ) (line longer piece : List ℕ) → IsReading old now before after line
+    → Consumes now next (piece ++ 10 ∷ []) → HasNoNewline piece → later ≡ after + length piece + 1 → longer ≡ kept_front (line ++ piece) → LineRead old next before later longer
+reads_line old now next before after later line longer piece is took clean count pushed =
+    let none : HasNoNewline (is.whole ++ piece) = no_newline_in is.whole piece is.clean clean in
+    let all : Consumes old next ((is.whole ++ piece) ++ 10 ∷ []) =
+    subst (Consumes old next) (sym (append_assoc is.whole piece (10 ∷ []))) (Consumes-trans old now next is.whole (piece ++ 10 ∷ []) is.consumed took) in
     record {
-      whole = is.whole;
-      text = is.whole ++ 10 ∷ [];
-      kept = is.kept;
-      taken = taken_by old next is.whole is.clean all;
+      whole = is.whole ++ piece;
+      text = (is.whole ++ piece) ++ 10 ∷ [];
+      kept = longer_kept is.whole line longer piece is.kept pushed;
+      taken = taken_by old next (is.whole ++ piece) none all;
       consumed = all;
-      counted = omega (arith, is.counted, length-append is.whole (10 ∷ []));
+      counted = omega (arith, is.counted, length-append (is.whole ++ piece) (10 ∷ []), length-append is.whole piece);
       some = omega (arith, is.counted);
     }
 

@@ -1,10 +1,10 @@
 -- How a script is read, a line at a time.
 --     script_limit        the most bytes of a script
 --     Pending, bytes_left        what has been read ahead and how much was given; what is still to come
---     FindsEnd, GivesByte        the end, or a byte that is given
+--     FindsEnd        the end of a script
 --     IsTaken, LineRead, ReadsLine        a line is taken from what is to come, and read
 --     IsOver        what is to come goes past the limit
-use Rattle.std.specs.Prelude.{◌≡◌, ◌+◌, ◌<◌, ℕ, List, [], ◌∷◌, length, take, Option, None, Some}
+use Rattle.std.specs.Prelude.{◌≡◌, ◌+◌, ◌<◌, ℕ, List, ◌∷◌, length, take, Option, None, Some}
 use Rattle.std.specs.Io.KnownBytes.{prepend_known, Consumes, IsAtEnd, Keeps}
 use Rattle.fs_shell.specs.Lines.{lines_of}
 
@@ -24,10 +24,6 @@ bytes_left p remaining = prepend_known p.ahead remaining
 abbrev pub FindsEnd : Pending → Option (List ℕ) → Pending → Option (List ℕ) → Type 0
 FindsEnd old before new after =
     IsAtEnd (bytes_left old before) × IsAtEnd after × Keeps (bytes_left old before) (bytes_left new after) × (new.given ≡ old.given)
-
--- This byte is given.
-abbrev pub GivesByte : Pending → Option (List ℕ) → Pending → Option (List ℕ) → ℕ → Type 0
-GivesByte old before new after byte = Consumes (bytes_left old before) (bytes_left new after) (byte ∷ []) × (new.given ≡ old.given + 1)
 
 abbrev pub IsFirstLine : List ℕ → List ℕ → Option (List ℕ) → Type 0
 IsFirstLine line xs None = ⊥

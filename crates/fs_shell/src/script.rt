@@ -1,11 +1,14 @@
 //! Reads a script, a line at a time.
-ghost use Rattle.std.specs.Prelude.{◌≡◌, ◌≢◌, ◌+◌, ◌<◌, ◌≤◌, ◌∷◌, [], true, false, Ok, IfOk, IfErr, OnOk, MatchOption};
+ghost use Rattle.std.specs.Prelude.{◌≡◌, ◌≢◌, ◌+◌, ◌++◌, ◌<◌, ◌≤◌, [], length, true, false, Ok, IfOk, IfErr, OnOk};
+ghost use Rattle.std.specs.List.{list_any, before_first, after_first};
 ghost use Rattle.std.specs.Io.KnownBytes.{Keeps, IsAtEnd};
 ghost use Rattle.fs_shell.specs.declared.fault.RunFault.TheVariants.{ReadFault, TooMuch};
-ghost use Rattle.fs_shell.specs.Scripts.{bytes_left, script_limit, FindsEnd, GivesByte, IsOver, ReadsLine};
+ghost use Rattle.posix_acl.specs.Text.{is_newline};
+ghost use Rattle.fs_shell.specs.Scripts.{bytes_left, script_limit, kept_front, FindsEnd, IsOver, ReadsLine};
 
 use crate::fault::RunFault;
 use crate::line::MAX_LINE;
+use crate::places::len_before;
 use std::alloc::{AllocError, Global};
 use std::io::Read;
 use std::marker::Model;
@@ -65,48 +68,50 @@ impl Pending {
         ensures over { IfErr result (λ fault. fault ≡ TooMuch → IsOver (bytes_left self.old (R.remaining reader.old)) self.old.given) }
     {
         line.clear();
-        while let Some(byte) = self.next_byte(reader)? {
-            if byte == b'\n' {
+        while self.has_more(reader)? {
+            if self.take_piece(line)? {
                 return Ok(true);
-            }
-            if line.len() <= MAX_LINE {
-                line.push(byte)?;
             }
         }
         Ok(!line.is_empty())
     }
 
-    // The next byte, or none at the end.
-    fn next_byte<R: Read>(&mut self, reader: &mut R) -> Result<Option<u8>, RunFault>
-        ensures ok { IfOk result (λ found. MatchOption found
-            (FindsEnd self.old (R.remaining reader.old) self.new (R.remaining reader.new))
-            (GivesByte self.old (R.remaining reader.old) self.new (R.remaining reader.new))) }
+    // Whether bytes are still to come. If so, the next ones have been read then.
+    fn has_more<R: Read>(&mut self, reader: &mut R) -> Result<bool, RunFault>
+        ensures more { result ≡ Ok true → self.new.ahead ≢ [] }
+        ensures end { result ≡ Ok false → FindsEnd self.old (R.remaining reader.old) self.new (R.remaining reader.new) }
+        ensures kept { OnOk result (Keeps (bytes_left self.old (R.remaining reader.old)) (bytes_left self.new (R.remaining reader.new))) }
+        ensures count { self.new.given ≡ self.old.given }
         ensures limit { self.new.given ≤ script_limit }
-        ensures over { IfErr result (λ fault. fault ≡ TooMuch → IsOver (bytes_left self.old (R.remaining reader.old)) self.old.given) }
+        ensures fault { IfErr result (λ fault. fault ≡ ReadFault) }
     {
         if self.next == self.end {
             self.fill(reader)?;
         }
-        if self.next == self.end {
-            return Ok(None);
-        }
-        if self.given == MAX_SCRIPT {
-            return Err(RunFault::TooMuch);
-        }
-        Ok(Some(self.give()))
+        Ok(self.next < self.end)
     }
 
-    // Gives a byte that has been read.
-    fn give(&mut self) -> u8
-        requires some { self.old.ahead ≢ [] }
-        requires room { self.old.given < script_limit }
-        ensures byte { self.old.ahead ≡ result ∷ self.new.ahead }
-        ensures count { self.new.given ≡ self.old.given + 1 }
+    // Gives the bytes up to the next newline to `line`, or all that have been read, and says whether it was there.
+    fn take_piece(&mut self, line: &mut Vec<u8>) -> Result<bool, RunFault>
+        requires room { length line.old.items ≤ 4097 }
+        ensures newline { IfOk result (λ newline. newline ≡ list_any is_newline self.old.ahead) }
+        ensures line { OnOk result (line.new.items ≡ kept_front (line.old.items ++ before_first is_newline self.old.ahead)) }
+        ensures rest { OnOk result (self.new.ahead ≡ after_first is_newline self.old.ahead) }
+        ensures count { OnOk result (self.new.given + length self.new.ahead ≡ self.old.given + length self.old.ahead) }
+        ensures limit { self.new.given ≤ script_limit }
+        ensures over { IfErr result (λ fault. fault ≡ TooMuch → script_limit < self.old.given + length self.old.ahead) }
     {
-        let byte = self.bytes[self.next];
-        self.next += 1;
-        self.given += 1;
-        byte
+        let ahead = &self.bytes[self.next..self.end];
+        let piece = &ahead[..len_before(b'\n', ahead)];
+        let taken = ahead.len().min(piece.len() + 1);
+        if taken > MAX_SCRIPT - self.given {
+            return Err(RunFault::TooMuch);
+        }
+        push_front(line, piece)?;
+        let newline = piece.len() < ahead.len();
+        self.next += taken;
+        self.given += taken;
+        Ok(newline)
     }
 
     // Reads a part of the script, instead of what has been given. An interruption is an error too.
@@ -124,4 +129,14 @@ impl Pending {
         self.end = count;
         Ok(())
     }
+}
+
+// Adds what is kept of a line.
+fn push_front(line: &mut Vec<u8>, piece: &[u8]) -> Result<(), AllocError>
+    requires { length line.old.items ≤ 4097 }
+    ensures { OnOk result (line.new.items ≡ kept_front (line.old.items ++ piece.now)) }
+{
+    let room = MAX_LINE + 1 - line.len();
+    line.extend_from_slice(&piece[..room.min(piece.len())])?;
+    Ok(())
 }

@@ -1,49 +1,49 @@
-use Rattle.std.proofs.Common.{◌≡◌, ◌≤◌, ◌<◌, length, [], sym, ◌∙◌, rules, arith}
-use Rattle.std.proofs.lemmas.Bool.{ne_eqb}
+use Rattle.std.proofs.Common.{◌≡◌, [], Ok, sym, ap, ◌∙◌, arith}
 use Rattle.std.proofs.lemmas.Result.{err_from_is_err_and}
-use Rattle.fs_shell.proofs.Reading.{reads_more, reads_on, reads_line, reads_last, reads_none, reads_over, some_kept, none_kept}
+use Rattle.fs_shell.specs.Scripts.{bytes_left}
+use Rattle.fs_shell.proofs.Pieces.{clean_piece, consumes_line, consumes_piece, line_count, piece_count, count_grows, piece_over}
+use Rattle.fs_shell.proofs.Reading.{line_fits, still_reads, reads_more, reads_line, reads_last, reads_none, reads_over, some_kept, none_kept}
 use Rattle.fs_shell.proofs.script.Pending.read_line.Goals as goal
 
-pub returns-in_err-byte-clause-over : goal.returns-in_err-byte-clause-over
-returns-in_err-byte-clause-over g c =
-    let p = err_from_is_err_and c.from_residual.result c.from_residual.ensures.1 in
-    rw p.1 (λ over. reads_over _ _ _ _ _ c.loop-byte.invariant (c.in_err-byte.ensures.over (sym p.2 ∙ over)))
+pub take_piece-requires : goal.take_piece-requires
+take_piece-requires g c = record { room = line_fits _ _ _ _ _ c.loop-self.invariant }
 
-pub returns-then-byte-eq10-clause-line : goal.returns-then-byte-eq10-clause-line
-returns-then-byte-eq10-clause-line g c =
-    let took = rw c.in-Some.is at c.in_ok-byte.ensures.ok in
-    λ _. reads_line _ _ _ _ _ _ _ _ c.loop-byte.invariant took.0 took.1 c.if-byte-eq10.true
+pub returns-in_err-take_piece-clause-over : goal.returns-in_err-take_piece-clause-over
+returns-in_err-take_piece-clause-over g c =
+    let p = err_from_is_err_and c.from_residual-in_err-take_piece.result c.from_residual-in_err-take_piece.ensures.1 in
+    let now = still_reads _ _ (bytes_left c.has_more.new.self (g.R.Read.remaining c.has_more.new.reader)) _ _ _ _ c.loop-self.invariant c.in_ok-has_more.ensures.kept c.has_more.ensures.count in
+    rw p.1 (λ over. reads_over _ _ _ _ _ now (piece_over _ _ _ (c.in_err-take_piece.ensures.over (sym p.2 ∙ over))))
 
-pub loop-byte-preserved-in-Continue-branch-3 : goal.loop-byte-preserved-in-Continue-branch-3
-loop-byte-preserved-in-Continue-branch-3 g c =
-    let took = rw c.in-Some.is at c.in_ok-byte.ensures.ok in
-    let room : length c.loop-byte.line.items ≤ 4096 = search rules in
-    reads_more _ _ _ _ _ _ _ _ c.in-Some.byte c.loop-byte.invariant took.0 took.1 (ne_eqb c.in-Some.byte 10 c.if-byte-eq10.false) room c.in_ok-push.ensures.items
+pub returns-then-branch-2-clause-line : goal.returns-then-branch-2-clause-line
+returns-then-branch-2-clause-line g c = λ _.
+    let now = still_reads _ _ (bytes_left c.has_more.new.self (g.R.Read.remaining c.has_more.new.reader)) _ _ _ _ c.loop-self.invariant c.in_ok-has_more.ensures.kept c.has_more.ensures.count in
+    let took = c.in_ok-take_piece.ensures in
+    let newline = sym took.newline ∙ c.if-branch-2.true in
+    reads_line _ _ _ _ _ _ _ _ _ now (consumes_line (g.R.Read.remaining c.has_more.new.reader) c.has_more.new.self.ahead c.take_piece.new.self.ahead newline took.rest)
+    (clean_piece c.has_more.new.self.ahead) (line_count c.has_more.new.self.ahead c.take_piece.new.self.ahead _ _ newline took.rest took.count) took.line
 
-pub loop-byte-preserved : goal.loop-byte-preserved
-loop-byte-preserved g c =
-    let took = rw c.in-Some.is at c.in_ok-byte.ensures.ok in
-    let full : 4096 < length c.loop-byte.line.items = search rules in
-    reads_on _ _ _ _ _ _ _ c.in-Some.byte c.loop-byte.invariant took.0 took.1 (ne_eqb c.in-Some.byte 10 c.if-byte-eq10.false) full
+pub loop-self-preserved : goal.loop-self-preserved
+loop-self-preserved g c =
+    let now = still_reads _ _ (bytes_left c.has_more.new.self (g.R.Read.remaining c.has_more.new.reader)) _ _ _ _ c.loop-self.invariant c.in_ok-has_more.ensures.kept c.has_more.ensures.count in
+    let took = c.in_ok-take_piece.ensures in
+    let none = sym took.newline ∙ c.if-branch-2.false in
+    reads_more _ _ _ _ _ _ _ _ _ now (consumes_piece (g.R.Read.remaining c.has_more.new.reader) c.has_more.new.self.ahead c.take_piece.new.self.ahead none took.rest)
+    (clean_piece c.has_more.new.self.ahead) (piece_count c.has_more.new.self.ahead c.take_piece.new.self.ahead _ _ none took.rest took.count) took.line
 
-pub loop-byte-smaller-in-Continue-branch-3 : goal.loop-byte-smaller-in-Continue-branch-3
-loop-byte-smaller-in-Continue-branch-3 g c =
-    let took = rw c.in-Some.is at c.in_ok-byte.ensures.ok in
-    omega (arith, took.1, c.in_ok-byte.ensures.limit)
-
-pub loop-byte-smaller : goal.loop-byte-smaller
-loop-byte-smaller g c =
-    let took = rw c.in-Some.is at c.in_ok-byte.ensures.ok in
-    omega (arith, took.1, c.in_ok-byte.ensures.limit)
+pub loop-self-smaller : goal.loop-self-smaller
+loop-self-smaller g c =
+    let some = c.has_more.ensures.more (c.in_ok-has_more.was ∙ ap Ok c.if-branch.true) in
+    let took = c.in_ok-take_piece.ensures in
+    omega (arith, count_grows c.has_more.new.self.ahead c.take_piece.new.self.ahead _ _ some took.rest took.count, c.has_more.ensures.count, c.take_piece.ensures.limit)
 
 pub returns-clause-line : goal.returns-clause-line
 returns-clause-line g c = λ yes.
-    let end = rw c.in_default.is at c.in_ok-byte.ensures.ok in
-    reads_last _ _ _ _ _ _ _ c.loop-byte.invariant end.0 end.2 end.3 (some_kept c.loop-byte.line.items _ c.is_empty.result c.loop-byte.line.ok.0 c.is_empty.ensures yes)
+    let end = c.has_more.ensures.end (c.in_ok-has_more.was ∙ ap Ok c.if-branch.false) in
+    reads_last _ _ _ _ _ _ _ c.loop-self.invariant end.0 end.2 end.3 (some_kept c.loop-self.line.items _ c.is_empty.result c.loop-self.line.ok.0 c.is_empty.ensures yes)
 
 pub returns-clause-end : goal.returns-clause-end
 returns-clause-end g c = λ no.
-    let end = rw c.in_default.is at c.in_ok-byte.ensures.ok in
-    let none : c.loop-byte.line.items ≡ [] = none_kept c.loop-byte.line.items _ c.is_empty.result c.loop-byte.line.ok.0 c.is_empty.ensures no in
-    let all = reads_none _ _ _ _ _ c.loop-byte.invariant end.0 none in
+    let end = c.has_more.ensures.end (c.in_ok-has_more.was ∙ ap Ok c.if-branch.false) in
+    let none : c.loop-self.line.items ≡ [] = none_kept c.loop-self.line.items _ c.is_empty.result c.loop-self.line.ok.0 c.is_empty.ensures no in
+    let all = reads_none _ _ _ _ _ c.loop-self.invariant end.0 none in
     (all.0, end.1, end.3 ∙ all.1)
