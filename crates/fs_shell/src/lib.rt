@@ -20,6 +20,8 @@ mod row_tests;
 mod runner;
 mod script;
 #[cfg(test)]
+mod stop_tests;
+#[cfg(test)]
 mod tests;
 mod text;
 #[cfg(test)]

@@ -450,7 +450,8 @@ pub(crate) const PRELUDE: &str = "spawn 0 0 -> pid 1\n\
      1 setacl /d access u::rwx,u:7:r-x,g::r-x,m::r-x,o::r-x -> ok\n\
      1 setacl /d default u::rwx,u:7:r-x,g::r-x,m::r-x,o::--- -> ok\n\
      1 mkdir /e 0755 -> ok\n\
-     1 symlink f /l -> ok\n";
+     1 symlink f /l -> ok\n\
+     sync -> ok\n";
 
 /// What is looked at then, and what is seen.
 pub(crate) const LOOK: &str = "1 stat /f -> ino 2 file 0644 links 1 uid 0 gid 0 size 6146\n\

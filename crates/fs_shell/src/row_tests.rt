@@ -18,12 +18,12 @@ use std::test::Fail;
 // ---- file systems
 
 // The disk with an empty file system of 64 inodes.
-fn made<D: Disk + Drop>(mut disk: D) -> Result<D, Fail> {
+pub(crate) fn made<D: Disk + Drop>(mut disk: D) -> Result<D, Fail> {
     mkfs(&mut disk, 64)?;
     Ok(disk)
 }
 
-fn mounted<D: Disk + Drop>(alloc: Global, disk: D) -> Result<Fs<D>, Fail> {
+pub(crate) fn mounted<D: Disk + Drop>(alloc: Global, disk: D) -> Result<Fs<D>, Fail> {
     match Fs::mount(alloc, disk) {
         Ok(fs) => Ok(fs),
         Err((fault, _)) => Err(fault)?,
@@ -31,13 +31,13 @@ fn mounted<D: Disk + Drop>(alloc: Global, disk: D) -> Result<Fs<D>, Fail> {
 }
 
 // The disk, all of whose writes and syncs fail after so many.
-fn armed<D: CrashDisk>(mut disk: D, passes: u64) -> D {
+pub(crate) fn armed<D: CrashDisk>(mut disk: D, passes: u64) -> D {
     disk.arm(passes);
     disk
 }
 
 // The disk after a stop that picks so.
-fn stopped<D: CrashDisk>(mut disk: D, choice: &[u8]) -> D {
+pub(crate) fn stopped<D: CrashDisk>(mut disk: D, choice: &[u8]) -> D {
     disk.crash(choice);
     disk
 }
@@ -103,7 +103,11 @@ fn split_rows(alloc: Global, rows: &str) -> Result<(String, String), AllocError>
 }
 
 // What a file system answers to a script.
-fn replies<D: Disk + Drop>(alloc: Global, fs: &mut Fs<D>, script: &str) -> Result<String, Fail> {
+pub(crate) fn replies<D: Disk + Drop>(
+    alloc: Global,
+    fs: &mut Fs<D>,
+    script: &str,
+) -> Result<String, Fail> {
     let mut written = Vec::new(alloc);
     let mut reader = script.as_bytes();
     match run(alloc, &mut reader, &mut written, fs) {
@@ -167,7 +171,11 @@ fn rows_get_their_replies(rt: HostRuntime) -> Result<(), Fail> {
 }
 
 // Whether a file system gives the replies that the rows say.
-fn answers<D: Disk + Drop>(alloc: Global, fs: &mut Fs<D>, rows: &str) -> Result<bool, Fail> {
+pub(crate) fn answers<D: Disk + Drop>(
+    alloc: Global,
+    fs: &mut Fs<D>,
+    rows: &str,
+) -> Result<bool, Fail> {
     let (script, wanted) = split_rows(alloc, rows)?;
     let seen = replies(alloc, fs, script.as_str())?;
     Ok(seen.as_str() == wanted.as_str())
@@ -180,11 +188,8 @@ fn answers<D: Disk + Drop>(alloc: Global, fs: &mut Fs<D>, rows: &str) -> Result<
 // directories, five ACLs, and 169 sectors of names.
 const CHECK: u64 = 4 + 32 + 6 + 6 + 5 + 169;
 
-// That, two reads and a sync, and the read of each inode but the root.
-const MOUNT: u64 = CHECK + 65;
-
-// Reads the inode of what was found.
-const STAT: u64 = 1;
+// That, two reads and a sync, and the sectors of the inode table.
+const MOUNT: u64 = CHECK + 19;
 
 // Whether a file system gives these replies where so many calls of its disk pass from its mount on.
 fn answers_within(alloc: Global, disk: MemDisk, calls: u64, rows: &str) -> Result<bool, Fail> {
@@ -205,12 +210,13 @@ fn deepest_is_found(alloc: Global, calls: u64) -> Result<bool, Fail> {
 #[test]
 fn a_walk_reads_each_sector_once(rt: HostRuntime) -> Result<(), Fail> {
     let alloc = rt.alloc();
-    // Seven inodes, and the ACLs of the five directories in which a name is looked up. Four names fill a sector: 1 + 25 +
-    // 140 + 1 + 1 + 1 of them, and a sector of pointers in the two large directories.
-    let walk = 7 + 5 + 169 + 2;
+    // The ACLs of the five directories in which a name is looked up. Four names fill a sector: 1 + 25 + 140 + 1 + 1 + 1 of
+    // them, and a sector of pointers in the two large directories. The inodes are in memory since the mount, but for the last
+    // four, of two sectors, once 140 sectors of names have been read.
+    let walk = 5 + 169 + 2 + 2;
     let seen = (
+        deepest_is_found(alloc, MOUNT + walk - 1)?,
         deepest_is_found(alloc, MOUNT + walk)?,
-        deepest_is_found(alloc, MOUNT + walk + STAT)?,
     );
     assert!(rt; seen == (false, true), "{seen:?}");
     Ok(())
@@ -243,16 +249,16 @@ fn reply_to<'a>(rows: &'a str, line: &str) -> Option<&'a str> {
     None
 }
 
-// What a line comes to where one call of the disk fails.
+// What a line and a sync after it come to where one call of the disk fails.
 #[derive(Clone, Copy, PartialEq, Eq)]
 enum Fate {
     // A call of an earlier line fails.
     Earlier,
     // It is EIO, nothing has changed, and made again it has its reply.
     Unread,
-    // It is EIO, and so is all that comes after it.
+    // It has its reply. The sync is EIO, and so is all that comes after it.
     Halted,
-    // It has its reply.
+    // It has its reply, and the sync is in order.
     Done,
     Other,
 }
@@ -277,7 +283,8 @@ fn fate_of<D: Disk + Drop>(alloc: Global, disk: D, row: &str) -> Result<Fate, Fa
     }
     let (line, wanted) = split_rows(alloc, row)?;
     let reply = replies(alloc, &mut fs, line.as_str())?;
-    if reply.as_str() == wanted.as_str() {
+    let does = reply.as_str() == wanted.as_str();
+    if does && answers(alloc, &mut fs, "sync -> ok\n")? {
         return Ok(Fate::Done);
     }
     let (look, before) = looked(alloc, "")?;
@@ -286,13 +293,13 @@ fn fate_of<D: Disk + Drop>(alloc: Global, disk: D, row: &str) -> Result<Fate, Fa
     let fails = reply.as_str() == "error EIO 5\n";
     Ok(match seen.as_str() {
         text if fails && answers && text == before.as_str() => Fate::Unread,
-        HALTED if fails && !answers => Fate::Halted,
+        HALTED if does && !answers => Fate::Halted,
         _ => Fate::Other,
     })
 }
 
-// A call of the disk by the last line of the prelude.
-const FIRST_CALL: u64 = 296;
+// The last call of the disk by the prelude: after the 79 of mkfs and mount, two bitmaps are read, and 12 sectors committed.
+const FIRST_CALL: u64 = 79 + 2 + 29;
 
 // The fates of a line where each call of the disk fails in turn, from the prelude's last line on until none does; those that
 // are the same as the one before are left out.
@@ -357,7 +364,8 @@ fn found<D: CrashDisk + Drop>(
         return Ok(('e', false));
     }
     let done = does(alloc, &mut fs, row)?;
-    let (disk, _) = fs.unmount();
+    let (disk, errno) = fs.unmount();
+    let done = done && errno.is_none();
     let mut fs = mounted(alloc, stopped(disk, choice))?;
     let there = answers(alloc, &mut fs, "spawn 0 0 -> pid 1\n")?;
     let (look, before) = looked(alloc, "")?;
@@ -371,8 +379,8 @@ fn found<D: CrashDisk + Drop>(
     Ok((letter, done))
 }
 
-// So many writes and syncs let the mount pass, and the prelude but for its last line.
-const FIRST_PASSES: u64 = 104;
+// So many writes and syncs let the mount pass, and the prelude but for the last sync of its commit.
+const FIRST_PASSES: u64 = 1 + 29;
 
 // What is found where the disk stops after each of its writes and syncs in turn, from the prelude's last line on until the line
 // is done; what is the same as the one before is left out.

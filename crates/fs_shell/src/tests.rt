@@ -173,7 +173,7 @@ fn push_run_again<D: Disk + Drop>(
 }
 
 // The disk's calls by mkfs and mount. The call after these is the first that a script makes.
-const FIRST_CALL: u64 = 126;
+const FIRST_CALL: u64 = 79;
 
 const NONE_FAILS: u64 = u64::MAX;
 
@@ -195,7 +195,7 @@ fn expect_session(
 }
 
 // The call of the disk that fails, a script, one after an unmount and a mount, and what is seen.
-const SCRIPTS: [(u64, &str, &str, &str); 13] = [
+const SCRIPTS: [(u64, &str, &str, &str); 12] = [
     // The empty root.
     (
         NONE_FAILS,
@@ -332,57 +332,53 @@ const SCRIPTS: [(u64, &str, &str, &str); 13] = [
          fault 6 BadNumber\n\
          9 lines, 9 faults\n",
     ),
-    // A read fails, and the call is made again.
+    // A read fails, and the call is made again. The inode of the root is in memory since the mount.
     (
         FIRST_CALL,
-        "spawn 0 0\n1 stat /\n1 stat /\n",
+        "spawn 0 0\n1 stat /\n1 access / r--\nstatfs\nstatfs\n",
         "",
         "pid 1\n\
-         error EIO 5\n\
          ino 1 dir 0755 links 1 uid 0 gid 0 size 0\n\
-         3 lines, 0 faults\n",
-    ),
-    (
-        FIRST_CALL,
-        "spawn 0 0\n1 access / r--\n1 access / r--\n",
-        "",
-        "pid 1\n\
-         error EIO 5\n\
          granted superuser\n\
-         3 lines, 0 faults\n",
+         error EIO 5\n\
+         free 878 blocks 62 inodes\n\
+         5 lines, 0 faults\n",
     ),
     (
         FIRST_CALL,
-        "spawn 0 0\n1 chmod / 0711\n1 chmod / 0711\n1 stat /\n",
+        "spawn 0 0\n1 chmod / 0711\n1 mkdir /d 0755\n1 mkdir /d 0755\n1 stat /\n",
         "",
         "pid 1\n\
+         ok\n\
          error EIO 5\n\
          ok\n\
-         ino 1 dir 0711 links 1 uid 0 gid 0 size 0\n\
-         4 lines, 0 faults\n",
-    ),
-    // A write fails, or a sync, and the file system is halted.
-    (
-        FIRST_CALL + 2,
-        "spawn 0 0\n1 chmod / 0711\n1 chmod / 0711\n1 stat /\nspawn 0 0\n",
-        "",
-        "pid 1\n\
-         error EIO 5\n\
-         error EIO 5\n\
-         error EIO 5\n\
-         error EIO 5\n\
+         ino 1 dir 0711 links 1 uid 0 gid 0 size 128\n\
          5 lines, 0 faults\n",
     ),
+    // A write of a commit fails, or a sync, and the file system is halted.
     (
-        FIRST_CALL + 3,
-        "spawn 0 0\n1 chmod / 0711\n1 chmod / 0711\n1 stat /\nspawn 0 0\n",
+        FIRST_CALL,
+        "spawn 0 0\n1 chmod / 0711\nsync\n1 chmod / 0711\n1 stat /\nspawn 0 0\n",
         "",
         "pid 1\n\
+         ok\n\
          error EIO 5\n\
          error EIO 5\n\
          error EIO 5\n\
          error EIO 5\n\
-         5 lines, 0 faults\n",
+         6 lines, 0 faults\n",
+    ),
+    (
+        FIRST_CALL + 1,
+        "spawn 0 0\n1 chmod / 0711\nsync\n1 chmod / 0711\n1 stat /\nspawn 0 0\n",
+        "",
+        "pid 1\n\
+         ok\n\
+         error EIO 5\n\
+         error EIO 5\n\
+         error EIO 5\n\
+         error EIO 5\n\
+         6 lines, 0 faults\n",
     ),
 ];
 

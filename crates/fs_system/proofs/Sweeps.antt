@@ -3,13 +3,13 @@
 --     begins_sound, begins_spare        a transaction that has put nothing
 --     opened_tree        a store on a disk that stands for a tree
 --     kept_images, commit_images, commit_frees, dropped_images        one number
---     IsSweeping, sweeping_begun, sweeping_on, sweeping_ends        all numbers
---     flushed_images, flushed_stable, keeps_both        the flush at the end
---     err_disk        the disk of an error
-use Rattle.std.specs.Prelude.{◌≡◌, ℕ, ◌+◌, ◌<◌, ◌≤◌, false, length, Result, Ok, Err, IsErr, IsErrAnd}
+--     flushed_images, flushed_stable, flushed_tree        what is kept is made stable
+--     IsSweeping, sweeping_begun, sweeping_on, sweeping_stable, sweeping_ends, keeps_both        all numbers
+--     err_disk, err_cause        the disk of an error, and its cause
+use Rattle.std.specs.Prelude.{◌≡◌, ℕ, ◌+◌, ◌<◌, ◌≤◌, false, length, Result, Ok, Err, IsErr, IsErrAnd, OnErr}
 use Rattle.std.proofs.Common.{refl, sym, ap, subst, arith, ◌∙◌, inl, inr}
-use Rattle.sector_disk.specs.Disk.{DiskState, Image, IsImage, sector, LeavesOnly, OnlyReads}
-use Rattle.sector_disk.proofs.Moments.{joined, weaker, holds_now, started}
+use Rattle.sector_disk.specs.Disk.{DiskState, Image, IsImage, sector, LeavesOnly, OnlyReads, HasCause}
+use Rattle.sector_disk.proofs.Moments.{failed_later, joined, weaker, holds_now, started}
 use Rattle.fs_layout.specs.declared.place.Place.{Place}
 use Rattle.fs_layout.specs.Bytes.{SectorMap}
 use Rattle.fs_layout.specs.Images.{free_sectors}
@@ -137,6 +137,32 @@ dropped_images old new only_now reads p map t h = record {
   before = λ k image le left. inl (reads.since k image le left);
 }
 
+-- ---- what is kept is made stable
+
+pub flushed_images : (old new : DiskState) (p : Place) (map : SectorMap) → LeavesOldOr map old new → KeepsTree p map old new
+flushed_images old new p map run t h = weaker each run.any_moment
+  where
+    each : (image : Image) → IsOneOf old map map image → StandsPruned (room_of p) t image
+    each image (inl (from, is, means)) =
+        let was = h.images from is in
+        (was.0, was.1, stands_as old.size from image is.size means (room_of p) was.0 was.1 was.2, was.3)
+    each image (inr (inl reads)) =
+        (t, free_sectors p map, stands_for old.size p map t (free_sectors p map) image h.stored.disk_is (counted h.stored.holds) reads, refl)
+    each image (inr (inr reads)) =
+        (t, free_sectors p map, stands_for old.size p map t (free_sectors p map) image h.stored.disk_is (counted h.stored.holds) reads, refl)
+
+pub flushed_stable : (old new : DiskState) (p : Place) (map : SectorMap) (t : Tree) → new.size ≡ old.size → EachReadsAs map new → HasTree p map old t
+    → EachStandsFor (room_of p) new t
+flushed_stable old new p map t sized lasting h =
+    each_stands p map t (free_sectors p map) new (subst (λ n. IsDiskOf n p map) (sym sized) h.stored.disk_is) (counted h.stored.holds) lasting
+
+pub flushed_tree : (old new : DiskState) (p : Place) (map map' : SectorMap) (t : Tree) → new.size ≡ old.size → SameMap map' map → EachReadsAs map new → HasTree p map old t
+    → HasTree p map' new t
+flushed_tree old new p map map' t sized same lasting h = record {
+  stored = stored_same sized same h.stored;
+  images = λ image is. let stands = flushed_stable old new p map t sized lasting h image is in (t, stands.0, stands.1, refl);
+}
+
 -- ---- all numbers
 
 -- The numbers below k are done with.
@@ -176,6 +202,16 @@ sweeping_on {p} {map} {now} {next} {old} {mid} {new} {k} so_far frees keeps size
   later = omega (arith, so_far.later, later);
 }
 
+-- what was done is made stable
+pub sweeping_stable : {p : Place} {map now next : SectorMap} {old mid new : DiskState} {k : ℕ} → IsSweeping p map old now mid k
+    → ((t : Tree) → HasTree p now mid t → HasTree p next new t) → KeepsTree p now mid new → new.size ≡ mid.size → mid.failures ≤ new.failures → IsSweeping p map old next new k
+sweeping_stable so_far kept keeps size later = record {
+  each = λ t h. let left = so_far.each t h in (left.0, kept left.0 left.1, left.2, left.3);
+  keeps = keeps_on so_far keeps;
+  size = size ∙ so_far.size;
+  later = omega (arith, so_far.later, later);
+}
+
 -- all of them
 pub sweeping_ends : {p : Place} {map now : SectorMap} {old new : DiskState} {k : ℕ} → p.inodes ≤ k → IsSweeping p map old now new k
     → (t : Tree) → HasTree p map old t → HasTree p now new (pruned t)
@@ -183,25 +219,6 @@ sweeping_ends {p} {map} {now} {old} {new} {k} all done t h =
     let left = done.each t h in
     let named = named_all (room_of p) left.0 k left.1.stored.holds.tree all left.3 in
     subst (HasTree p now new) (sym named ∙ left.2) left.1
-
--- ---- the flush at the end
-
-pub flushed_images : (old new : DiskState) (p : Place) (map : SectorMap) → LeavesOldOr map old new → KeepsTree p map old new
-flushed_images old new p map run t h = weaker each run.any_moment
-  where
-    each : (image : Image) → IsOneOf old map map image → StandsPruned (room_of p) t image
-    each image (inl (from, is, means)) =
-        let was = h.images from is in
-        (was.0, was.1, stands_as old.size from image is.size means (room_of p) was.0 was.1 was.2, was.3)
-    each image (inr (inl reads)) =
-        (t, free_sectors p map, stands_for old.size p map t (free_sectors p map) image h.stored.disk_is (counted h.stored.holds) reads, refl)
-    each image (inr (inr reads)) =
-        (t, free_sectors p map, stands_for old.size p map t (free_sectors p map) image h.stored.disk_is (counted h.stored.holds) reads, refl)
-
-pub flushed_stable : (old new : DiskState) (p : Place) (map : SectorMap) (t : Tree) → new.size ≡ old.size → EachReadsAs map new → HasTree p map old t
-    → EachStandsFor (room_of p) new t
-flushed_stable old new p map t sized lasting h =
-    each_stands p map t (free_sectors p map) new (subst (λ n. IsDiskOf n p map) (sym sized) h.stored.disk_is) (counted h.stored.holds) lasting
 
 -- after the sweep of all numbers
 pub keeps_both : {p : Place} {map now : SectorMap} {old mid new : DiskState} → ((t : Tree) → HasTree p map old t → HasTree p now mid (pruned t))
@@ -214,3 +231,14 @@ keeps_both {p} {map} {now} {old} {mid} {new} swept first second t h =
 pub err_disk : {D : Type 0} (r : Result (StoreView D) D) (disk : D) → IsErr r → IsErrAnd r (λ d. d ≡ disk) → disk_after r ≡ disk
 err_disk (Ok store) disk err and = absurd cc
 err_disk (Err d) disk err and = and
+
+on_any_error : {T E P : Type 0} (r : Result T E) → P → OnErr r P
+on_any_error (Ok x) p = tt
+on_any_error (Err e) p = p
+
+-- an error of a later step is one of the whole
+pub err_cause : {D : Type 0} (state : D → DiskState) (old mid : DiskState) (r : Result (StoreView D) D) (disk : D) → disk_after r ≡ disk → old.failures ≤ mid.failures
+    → HasCause {T = StoreView D} {E = D} mid (state disk) (Err disk) → HasCause old (state (disk_after r)) r
+err_cause state old mid r disk is grows cause =
+    subst (λ k. HasCause old (state k) r) (sym is)
+    (record { later = omega (arith, grows, cause.later); fault = on_any_error r (failed_later old mid (state disk) grows cause.fault) })

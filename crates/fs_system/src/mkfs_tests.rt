@@ -227,14 +227,14 @@ fn made_and_mounted<D: Disk + Drop>(alloc: Global, mut disk: D) -> Outcome {
 #[test]
 fn each_failing_call_is_told(rt: HostRuntime) -> Result<(), Fail> {
     let alloc = rt.alloc();
-    // Each call of mkfs; those of mount: the 36 reads of a check, two reads and a sync, and a read of each inode but the root; and
+    // Each call of mkfs; those of mount: the 36 reads of a check, two reads and a sync, and the 16 sectors of the inode table; and
     // the one after these.
-    for call in 0..126 {
+    for call in 0..80 {
         let once = made_and_mounted(alloc, FailOnce::new(used_disk(alloc, 1024)?, call));
         let fuse = made_and_mounted(alloc, FuseDisk::new(used_disk(alloc, 1024)?, call));
         let wanted = if call < 24 {
             (Err(MkfsFault::DiskFault), 1, None)
-        } else if call < 125 {
+        } else if call < 79 {
             (Ok(()), 0, Some(MountFault::DiskFault))
         } else {
             (Ok(()), 0, None)

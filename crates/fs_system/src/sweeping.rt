@@ -1,6 +1,7 @@
 //! What a mount does to files that a stop has left without a name.
 
 ghost use Rattle.std.specs.Prelude.{◌≡◌, IfOk};
+ghost use Rattle.fs_layout.specs.declared.place.Place.{Place as Parts};
 ghost use Rattle.sector_disk.specs.Disk.{HasCause};
 ghost use Rattle.sector_txn.specs.Stores.{present, disk_after};
 ghost use Rattle.bit_alloc.specs.declared.bitmap.Bitmap.TheVariants.{Inodes};
@@ -16,7 +17,7 @@ use fs_layout::{Place, ROOT};
 use sector_disk::Disk;
 use sector_txn::Store;
 
-// Frees inode n where it is that of a file without a name, in a commit of its own. At `Err` a read or the commit has failed.
+// Frees inode n where it is that of a file without a name. At `Err` a read or a commit has failed.
 fn free_nameless<D: Disk>(store: Store<D>, place: Place, n: u32) -> Result<Store<D>, D>
     requires number { IsNumber place Inodes n }
     requires tree { (t : Tree) × HasTree place (present D.state store) (D.state store.disk) t }
@@ -36,7 +37,23 @@ fn free_nameless<D: Disk>(store: Store<D>, place: Place, n: u32) -> Result<Store
     }
 }
 
-// The same of each inode but the root.
+// Makes stable what was kept. At `Err` the commit has failed.
+fn make_stable<D: Disk>(store: Store<D>) -> Result<Store<D>, D>
+    ensures kept { IfOk result (λ after. (p : Parts) (t : Tree) → HasTree p (present D.state store) (D.state store.disk) t
+        → HasTree p (present D.state after) (D.state after.disk) t) }
+    ensures lasting { IfOk result (λ after. (p : Parts) (t : Tree) → HasTree p (present D.state store) (D.state store.disk) t
+        → EachStandsFor (room_of p) (D.state after.disk) t) }
+    ensures any_moment { (p : Parts) → KeepsTree p (present D.state store) (D.state store.disk) (D.state (disk_after result)) }
+    ensures size { (D.state (disk_after result)).size ≡ (D.state store.disk).size }
+    ensures cause { HasCause (D.state store.disk) (D.state (disk_after result)) result }
+{
+    match store.flush() {
+        Ok(store) => Ok(store),
+        Err(broken) => Err(broken.into_disk()),
+    }
+}
+
+// Frees each inode but the root that is that of a file without a name, each in a commit of its own.
 fn free_all_nameless<D: Disk>(store: Store<D>, place: Place) -> Result<Store<D>, D>
     requires tree { (t : Tree) × HasTree place (present D.state store) (D.state store.disk) t }
     ensures swept { IfOk result (λ after. (t : Tree) → HasTree place (present D.state store) (D.state store.disk) t
@@ -47,7 +64,8 @@ fn free_all_nameless<D: Disk>(store: Store<D>, place: Place) -> Result<Store<D>,
 {
     let mut store = store;
     for n in ROOT + 1..place.inodes {
-        store = free_nameless(store, place, n)?;
+        let freed = free_nameless(store, place, n)?;
+        store = make_stable(freed)?;
     }
     Ok(store)
 }
@@ -70,9 +88,7 @@ pub(crate) fn sweep<D: Disk>(store: Store<D>, place: Place) -> Result<Store<D>, 
     ensures size { (D.state (disk_after result)).size ≡ (D.state store.disk).size }
     ensures cause { HasCause (D.state store.disk) (D.state (disk_after result)) result }
 {
-    let store = free_all_nameless(store, place)?;
-    match store.flush() {
-        Ok(store) => Ok(store),
-        Err(broken) => Err(broken.into_disk()),
-    }
+    let freed = free_all_nameless(store, place)?;
+    let stable = make_stable(freed)?;
+    Ok(stable)
 }

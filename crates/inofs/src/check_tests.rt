@@ -260,8 +260,8 @@ fn each_failing_read_is_told(rt: HostRuntime) -> Result<(), Fail> {
         }
         disk = failing.into_inner();
     }
-    // Then the superblock and the commit sector again, a sync, and each inode but the root.
-    let calls = reads + 3 + 62;
+    // Then the superblock and the commit sector again, a sync, and the sectors of the table.
+    let calls = reads + 3 + 16;
     let mut refused: u64 = 0;
     let mut settled = true;
     for call in 0..=calls {

@@ -283,7 +283,7 @@ fn halted(alloc: Global) -> Result<String, Fail> {
     // The sync of the mount passes.
     disk.arm(1);
     let mut out = Vec::new(alloc);
-    let mut script = "spawn 0 0\n1 chmod / 0700\n".as_bytes();
+    let mut script = "spawn 0 0\n1 chmod / 0700\nsync\n".as_bytes();
     let ended = run_on_disk(alloc, disk, &mut script, &mut out, &mut Vec::new(alloc));
     let out = String::from_utf8_lossy(alloc, &out)?;
     match ended {
@@ -308,7 +308,7 @@ fn what_fails_is_told(rt: HostRuntime) -> Result<(), Fail> {
     let unread = seen(&rt, "", "", &mut NoReader)?;
     let halted = halted(alloc)?;
     let seen = format!(in alloc; "{unwritten}\n{err}{unread}{halted}")?;
-    let wanted = "3\nrun: WriteFault\n3\nrun: ReadFault\npid 1\nerror EIO 5\nunmount: EIO\n";
+    let wanted = "3\nrun: WriteFault\n3\nrun: ReadFault\npid 1\nok\nerror EIO 5\nunmount: EIO\n";
     assert!(rt; seen.as_str() == wanted, "{seen}");
     Ok(())
 }

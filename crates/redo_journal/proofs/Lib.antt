@@ -1,5 +1,6 @@
 mod Both
 pub mod Entries
 pub mod Puts
+mod Absorbing
 pub mod Meaning
 mod Writing

@@ -1,43 +1,88 @@
 -- A put into a batch.
-use Rattle.std.proofs.Common.{◌≡◌, ◌≢◌, ℕ, zero, suc, ◌+◌, ◌≤◌, ◌<◌, true, false, cond, List, [], ◌∷◌, ◌++◌, length, set, eqb, arith, refl, sym, ◌∙◌, ap, subst, inl, inr, length-append}
+use Rattle.std.proofs.Common.{◌≡◌, ◌≢◌, ℕ, suc, ◌+◌, ◌≤◌, ◌<◌, Bool, true, false, cond, List, [], ◌∷◌, length, eqb, Bor, Option, Some, None, IfSome, IfNone, is_some, unwrap_or, arith, refl, sym, ◌∙◌, ap, subst, inl, inr}
 use Rattle.std.proofs.lemmas.Bool.{cases_Bool, cond_both, cond-true, cond-false, eq-eqb, ne_eqb, eqb-true, eqb-false, true≢false}
 use Rattle.std.proofs.lemmas.Bool.Decides.{nat_tests, Decides-eqb}
 use Rattle.std.proofs.lemmas.List.Elements.{All-nil, All-cons, All-head, All-tail}
 use Rattle.std.proofs.lemmas.Map.Made.{AllPairs-from_IsDistinct, IsDistinct-from_AllPairs}
 use Rattle.std.specs.Prelude.{All}
 use Rattle.std.specs.List.{AllByRecursion, IsDistinct}
+use Rattle.std.specs.Option.{option_copied}
+use Rattle.std.specs.Map.{lookup, set_value}
+use Rattle.indexmap.specs.IndexMap.{insert_entry}
 use Rattle.fs_layout.specs.Bytes.{SectorMap}
 use Rattle.fs_layout.specs.Changes.{Puts}
 use Rattle.fs_layout.specs.Commit.{AreDistinct}
-use Rattle.redo_journal.specs.Batch.{Entry, targets, target_at, content_at, put_entry, has_entry, with_batch, IsBatch, IsOnDisk}
+use Rattle.redo_journal.specs.Batch.{Entry, targets, put_entry, has_entry, with_batch, IsBatch, IsOnDisk}
 
--- ---- whether a sector has an entry
-pub has_at : (entries : List Entry) (n k : ℕ) → k < length entries → target_at entries k ≡ n → has_entry entries n ≡ true
-has_at [] n k lt is = absurd (omega (arith, lt))
-has_at (e ∷ entries) n zero lt is = cond-true (eqb n e.0) true (has_entry entries n) (eq-eqb n e.0 (sym is))
-has_at (e ∷ entries) n (suc k) lt is = cond_both (eqb n e.0) true (has_entry entries n) (λ b. b ≡ true) (λ _. refl) (λ _. has_at entries n k (omega (arith, lt)) is)
+-- ---- what a look-up finds
+pub has_is : (entries : List Entry) (n : ℕ) → is_some (lookup (eqb n) entries) ≡ has_entry entries n
+has_is [] n = refl
+has_is (e ∷ entries) n =
+    cond_both (eqb n e.0) (Some e.1) (lookup (eqb n) entries) (λ r. is_some r ≡ has_entry (e ∷ entries) n)
+    (λ here. sym (cond-true (eqb n e.0) true (has_entry entries n) here))
+    (λ other. has_is entries n ∙ sym (cond-false (eqb n e.0) true (has_entry entries n) other))
 
-pub has_none : (entries : List Entry) (n : ℕ) → ((j : ℕ) → j < length entries → target_at entries j ≢ n) → has_entry entries n ≡ false
-has_none [] n none = refl
-has_none (e ∷ entries) n none =
-    cond-false (eqb n e.0) true (has_entry entries n) (ne_eqb n e.0 (λ is. none 0 (omega arith) (sym is))) ∙ has_none entries n (λ j lt. none (suc j) (omega (arith, lt)))
+pub with_batch_is : (entries : List Entry) (n : ℕ) (f : SectorMap) → with_batch entries f n ≡ unwrap_or (lookup (eqb n) entries) (f n)
+with_batch_is [] n f = refl
+with_batch_is (e ∷ entries) n f =
+    cond_both (eqb n e.0) (Some e.1) (lookup (eqb n) entries) (λ r. with_batch (e ∷ entries) f n ≡ unwrap_or r (f n))
+    (λ is. cond-true (eqb n e.0) e.1 (with_batch entries f n) is)
+    (λ other. cond-false (eqb n e.0) e.1 (with_batch entries f n) other ∙ with_batch_is entries n f)
+
+pub found_has : (r : Option (Bor (List ℕ))) (entries : List Entry) (n : ℕ) → option_copied r ≡ lookup (eqb n) entries → IfSome r (λ content. has_entry entries n ≡ true)
+found_has (Some content) entries n is = sym (has_is entries n) ∙ sym (ap is_some is)
+found_has None entries n is = tt
+
+pub found_content : (r : Option (Bor (List ℕ))) (entries : List Entry) (n : ℕ) → option_copied r ≡ lookup (eqb n) entries → IfSome r (λ content. (f : SectorMap) → with_batch entries f n ≡ content.now)
+found_content (Some content) entries n is = λ f. with_batch_is entries n f ∙ sym (ap (λ v. unwrap_or v (f n)) is)
+found_content None entries n is = tt
+
+pub none_has : (r : Option (Bor (List ℕ))) (entries : List Entry) (n : ℕ) → option_copied r ≡ lookup (eqb n) entries → IfNone r (has_entry entries n ≡ false)
+none_has (Some content) entries n is = tt
+none_has None entries n is = sym (has_is entries n) ∙ sym (ap is_some is)
+
+pub none_content : (r : Option (Bor (List ℕ))) (entries : List Entry) (n : ℕ) → option_copied r ≡ lookup (eqb n) entries → IfNone r ((f : SectorMap) → with_batch entries f n ≡ f n)
+none_content (Some content) entries n is = tt
+none_content None entries n is = λ f. with_batch_is entries n f ∙ sym (ap (λ v. unwrap_or v (f n)) is)
 
 -- ---- the entries after a put
-pub put_at : (entries : List Entry) (n k : ℕ) (content : List ℕ) → k < length entries → target_at entries k ≡ n → ((j : ℕ) → j < k → target_at entries j ≢ n) → set entries k (n, content) ≡ put_entry entries n content
-put_at [] n k content lt is first = absurd (omega (arith, lt))
-put_at (e ∷ entries) n zero content lt is first = sym (cond-true (eqb n e.0) ((n, content) ∷ entries) (e ∷ put_entry entries n content) (eq-eqb n e.0 (sym is)))
-put_at (e ∷ entries) n (suc k) content lt is first =
-    ap (λ (l : List Entry). e ∷ l) (put_at entries n k content (omega (arith, lt)) is (λ j low. first (suc j) (omega (arith, low))))
-    ∙ sym (cond-false (eqb n e.0) ((n, content) ∷ entries) (e ∷ put_entry entries n content) (ne_eqb n e.0 (λ here. first 0 (omega arith) (sym here))))
-
-pub put_push : (entries : List Entry) (n : ℕ) (content : List ℕ) → has_entry entries n ≡ false → entries ++ (n, content) ∷ [] ≡ put_entry entries n content
-put_push [] n content none = refl
-put_push (e ∷ entries) n content none = elim (cases_Bool (eqb n e.0)) [
-  | inl here ↦ absurd (true≢false (sym (cond-true (eqb n e.0) true (has_entry entries n) here) ∙ none))
+-- a new content for a sector that has one
+pub put_set : (entries : List Entry) (n : ℕ) (content : List ℕ) → has_entry entries n ≡ true → set_value (eqb n) entries content ≡ put_entry entries n content
+put_set [] n content has = absurd (true≢false (sym has))
+put_set (e ∷ entries) n content has = elim (cases_Bool (eqb n e.0)) [
+  | inl here ↦
+      cond-true (eqb n e.0) ((e.0, content) ∷ entries) (e ∷ set_value (eqb n) entries content) here
+      ∙ ap (λ (k : ℕ). (k, content) ∷ entries) (sym (eqb-true n e.0 here))
+      ∙ sym (cond-true (eqb n e.0) ((n, content) ∷ entries) (e ∷ put_entry entries n content) here)
   | inr there ↦
-      ap (λ (l : List Entry). e ∷ l) (put_push entries n content (sym (cond-false (eqb n e.0) true (has_entry entries n) there) ∙ none))
+      cond-false (eqb n e.0) ((e.0, content) ∷ entries) (e ∷ set_value (eqb n) entries content) there
+      ∙ ap (λ (l : List Entry). e ∷ l) (put_set entries n content (sym (cond-false (eqb n e.0) true (has_entry entries n) there) ∙ has))
       ∙ sym (cond-false (eqb n e.0) ((n, content) ∷ entries) (e ∷ put_entry entries n content) there)
 ]
+
+-- a sector more
+pub put_insert : (entries : List Entry) (n : ℕ) (content : List ℕ) → insert_entry eqb entries n content ≡ put_entry entries n content
+put_insert [] n content = refl
+put_insert (e ∷ entries) n content = elim (cases_Bool (eqb n e.0)) [
+  | inl here ↦
+      cond-true (eqb n e.0) ((e.0, content) ∷ entries) (e ∷ insert_entry eqb entries n content) here
+      ∙ ap (λ (k : ℕ). (k, content) ∷ entries) (sym (eqb-true n e.0 here))
+      ∙ sym (cond-true (eqb n e.0) ((n, content) ∷ entries) (e ∷ put_entry entries n content) here)
+  | inr there ↦
+      cond-false (eqb n e.0) ((e.0, content) ∷ entries) (e ∷ insert_entry eqb entries n content) there
+      ∙ ap (λ (l : List Entry). e ∷ l) (put_insert entries n content)
+      ∙ sym (cond-false (eqb n e.0) ((n, content) ∷ entries) (e ∷ put_entry entries n content) there)
+]
+
+-- ---- which other sectors have an entry
+pub has_others : (entries : List Entry) (n m : ℕ) (content : List ℕ) → m ≢ n → has_entry (put_entry entries n content) m ≡ has_entry entries m
+has_others [] n m content other = cond-false (eqb m n) true false (ne_eqb m n other)
+has_others (e ∷ entries) n m content other =
+    cond_both (eqb n e.0) ((n, content) ∷ entries) (e ∷ put_entry entries n content) (λ l. has_entry l m ≡ has_entry (e ∷ entries) m)
+    (λ is.
+    let not_e : m ≡ e.0 → ⊥ = λ same. other (same ∙ sym (eqb-true n e.0 is)) in
+    cond-false (eqb m n) true (has_entry entries m) (ne_eqb m n other) ∙ sym (cond-false (eqb m e.0) true (has_entry entries m) (ne_eqb m e.0 not_e)))
+    (λ _. ap (λ (b : Bool). cond (eqb m e.0) true b) (has_others entries n m content other))
 
 -- ---- what stays true of the sectors
 all_put : (P : ℕ → Type 0) (entries : List Entry) (n : ℕ) (content : List ℕ) → All P (targets entries) → P n → All P (targets (put_entry entries n content))
@@ -64,28 +109,25 @@ apart_put : (entries : List Entry) (n : ℕ) (content : List ℕ) → AreDistinc
 apart_put entries n content apart =
     AllPairs-from_IsDistinct Decides-eqb (targets (put_entry entries n content)) (distinct_put entries n content (IsDistinct-from_AllPairs Decides-eqb (targets entries) apart))
 
-length-put_there : (es : List Entry) (n : ℕ) (content : List ℕ) → has_entry es n ≡ true → length (put_entry es n content) ≡ length es
-length-put_there [] n content has = absurd (true≢false (sym has))
-length-put_there (e ∷ es) n content has = elim (cases_Bool (eqb n e.0)) [
-  | inl here ↦ ap length (cond-true (eqb n e.0) ((n, content) ∷ es) (e ∷ put_entry es n content) here)
+pub length-put : (es : List Entry) (n : ℕ) (content : List ℕ) → length (put_entry es n content) ≡ cond (has_entry es n) (length es) (length es + 1)
+length-put [] n content = refl
+length-put (e ∷ es) n content = elim (cases_Bool (eqb n e.0)) [
+  | inl here ↦
+      ap length (cond-true (eqb n e.0) ((n, content) ∷ es) (e ∷ put_entry es n content) here)
+      ∙ sym (ap (λ (b : Bool). cond b (length (e ∷ es)) (length (e ∷ es) + 1)) (cond-true (eqb n e.0) true (has_entry es n) here))
   | inr there ↦
       ap length (cond-false (eqb n e.0) ((n, content) ∷ es) (e ∷ put_entry es n content) there)
-      ∙ ap suc (length-put_there es n content (sym (cond-false (eqb n e.0) true (has_entry es n) there) ∙ has))
-]
-
-length-put_new : (es : List Entry) (n : ℕ) (content : List ℕ) → has_entry es n ≡ false → length (put_entry es n content) ≡ length es + 1
-length-put_new es n content none = ap length (sym (put_push es n content none)) ∙ length-append es ((n, content) ∷ [])
-
-pub length-put : (es : List Entry) (n : ℕ) (content : List ℕ) → length (put_entry es n content) ≡ cond (has_entry es n) (length es) (length es + 1)
-length-put es n content = elim (cases_Bool (has_entry es n)) [
-  | inl has ↦ length-put_there es n content has ∙ sym (cond-true (has_entry es n) (length es) (length es + 1) has)
-  | inr none ↦ length-put_new es n content none ∙ sym (cond-false (has_entry es n) (length es) (length es + 1) none)
+      ∙ ap suc (length-put es n content)
+      ∙ cond_both (has_entry es n) (length es) (length es + 1) (λ (k : ℕ). suc k ≡ cond (has_entry es n) (length (e ∷ es)) (length (e ∷ es) + 1))
+      (λ has. sym (cond-true (has_entry es n) (length (e ∷ es)) (length (e ∷ es) + 1) has))
+      (λ none. omega arith ∙ sym (cond-false (has_entry es n) (length (e ∷ es)) (length (e ∷ es) + 1) none))
+      ∙ sym (ap (λ (b : Bool). cond b (length (e ∷ es)) (length (e ∷ es) + 1)) (cond-false (eqb n e.0) true (has_entry es n) there))
 ]
 
 few_put : (most : ℕ) (es : List Entry) (n : ℕ) (content : List ℕ) → (has_entry es n ≡ false → length es < most) → length es ≤ most → length (put_entry es n content) ≤ most
 few_put most es n content room few = elim (cases_Bool (has_entry es n)) [
-  | inl has ↦ omega (arith, few, length-put_there es n content has)
-  | inr none ↦ omega (arith, room none, length-put_new es n content none)
+  | inl has ↦ omega (arith, few, length-put es n content, cond-true (has_entry es n) (length es) (length es + 1) has)
+  | inr none ↦ omega (arith, room none, length-put es n content, cond-false (has_entry es n) (length es) (length es + 1) none)
 ]
 
 pub batch_put : (entries : List Entry) (n : ℕ) (content : List ℕ) → IsBatch entries → 128 ≤ n → (has_entry entries n ≡ false → length entries < 126) → IsBatch (put_entry entries n content)
@@ -98,23 +140,7 @@ batch_put entries n content is high room = record {
 pub on_disk_put : (size : ℕ) (entries : List Entry) (n : ℕ) (content : List ℕ) → n < size → IsOnDisk size entries → IsOnDisk size (put_entry entries n content)
 on_disk_put size entries n content fits on_disk = all_put (λ m. m < size) entries n content on_disk fits
 
-pub empty_batch : IsBatch []
-empty_batch = record { few = omega arith; high = All-nil (λ m. 128 ≤ m); apart = λ i j d lt fits. absurd (omega (arith, fits)) }
-
 -- ---- a batch as a map
-pub with_batch_at : (entries : List Entry) (n k : ℕ) (f : SectorMap) → k < length entries → target_at entries k ≡ n → ((j : ℕ) → j < k → target_at entries j ≢ n) → with_batch entries f n ≡ content_at entries k
-with_batch_at [] n k f lt is first = absurd (omega (arith, lt))
-with_batch_at (e ∷ entries) n zero f lt is first = cond-true (eqb n e.0) e.1 (with_batch entries f n) (eq-eqb n e.0 (sym is))
-with_batch_at (e ∷ entries) n (suc k) f lt is first =
-    cond-false (eqb n e.0) e.1 (with_batch entries f n) (ne_eqb n e.0 (λ here. first 0 (omega arith) (sym here))) ∙ with_batch_at entries n k f (omega (arith, lt)) is (λ j low. first (suc j) (omega (arith, low)))
-
-pub with_batch_none : (entries : List Entry) (n : ℕ) (f : SectorMap) → has_entry entries n ≡ false → with_batch entries f n ≡ f n
-with_batch_none [] n f none = refl
-with_batch_none (e ∷ entries) n f none = elim (cases_Bool (eqb n e.0)) [
-  | inl here ↦ absurd (true≢false (sym (cond-true (eqb n e.0) true (has_entry entries n) here) ∙ none))
-  | inr there ↦ cond-false (eqb n e.0) e.1 (with_batch entries f n) there ∙ with_batch_none entries n f (sym (cond-false (eqb n e.0) true (has_entry entries n) there) ∙ none)
-]
-
 -- a put into a batch is a put into the map
 same_key : (m n k : ℕ) (x y z : List ℕ) → n ≡ k → cond (eqb m n) x z ≡ cond (eqb m n) x (cond (eqb m k) y z)
 same_key m n k x y z same = grind (arith, nat_tests)
@@ -122,7 +148,7 @@ same_key m n k x y z same = grind (arith, nat_tests)
 pub other_key : (m n k : ℕ) (x y z : List ℕ) → (n ≡ k → ⊥) → cond (eqb m k) y (cond (eqb m n) x z) ≡ cond (eqb m n) x (cond (eqb m k) y z)
 other_key m n k x y z other = grind (arith, nat_tests)
 
-with_batch-put : (entries : List Entry) (n : ℕ) (content : List ℕ) (f : SectorMap) (m : ℕ) → with_batch (put_entry entries n content) f m ≡ cond (eqb m n) content (with_batch entries f m)
+pub with_batch-put : (entries : List Entry) (n : ℕ) (content : List ℕ) (f : SectorMap) (m : ℕ) → with_batch (put_entry entries n content) f m ≡ cond (eqb m n) content (with_batch entries f m)
 with_batch-put [] n content f m = refl
 with_batch-put (e ∷ entries) n content f m =
     cond_both (eqb n e.0) ((n, content) ∷ entries) (e ∷ put_entry entries n content) (λ l. with_batch l f m ≡ cond (eqb m n) content (with_batch (e ∷ entries) f m))

@@ -18,9 +18,6 @@ written_more at content old new i fits written apart before k lt = elim (cases_e
       ∙ before k (omega (arith, lt, there))
 ]
 
--- the same for numbers in an array
-pub number_more : (number : ℕ → ℕ) (old : List ℕ) (i : ℕ) → i < length old → ((k : ℕ) → k < i → get_or old k 0 ≡ number k) → (k : ℕ) → k < i + 1 → get_or (set old i (number i)) k 0 ≡ number k
-number_more number old i fits before k lt = elim (cases_eq k i) [
-  | inl here ↦ ap (λ (j : ℕ). get_or (set old i (number i)) j 0) here ∙ get_or-set_same old i (number i) 0 fits ∙ ap number (sym here)
-  | inr there ↦ get_or-set_other old i k (number i) 0 there ∙ before k (omega (arith, lt, there))
-]
+-- a write to this sector of this content
+pub written_so : (old new : Image) (at n : ℕ) (content next : List ℕ) → new ≡ set old at content → at ≡ n → content ≡ next → new ≡ set old n next
+written_so old new at n content next written is same = written ∙ (λ j. set old (is j) (same j))

@@ -1,8 +1,9 @@
 -- A batch: sectors, and the contents that they are to have.
---     target_at, content_at, targets        the sectors of the entries, and their contents
+--     targets, contents, target_at, content_at        the sectors of the entries, and their contents
 --     IsBatch, IsOnDisk        what each batch is; and a batch whose sectors a disk has
 --     has_entry, put_entry, with_batch        a batch as a map
-use Rattle.std.specs.Prelude.{ℕ, ◌<◌, ◌≤◌, Bool, true, false, List, [], ◌∷◌, length, map, All, slice_index_or, if◌then◌else◌, nat_eq}
+--     added        how many sectors another batch adds
+use Rattle.std.specs.Prelude.{ℕ, ◌<◌, ◌≤◌, Bool, true, false, List, [], ◌∷◌, length, map, All, slice_index_or, if◌then◌else◌, nat_eq, not, count_by}
 use Rattle.fs_layout.specs.declared.commit.TheConstants.{MAX_TARGETS}
 use Rattle.fs_layout.specs.declared.place.TheConstants.{INODE_BITMAP}
 use Rattle.fs_layout.specs.Bytes.{SectorMap}
@@ -13,6 +14,9 @@ Entry = ℕ × List ℕ
 
 abbrev pub targets : List Entry → List ℕ
 targets entries = map (λ e. e.0) entries
+
+abbrev pub contents : List Entry → List (List ℕ)
+contents entries = map (λ e. e.1) entries
 
 abbrev pub target_at : List Entry → ℕ → ℕ
 target_at entries k = (slice_index_or entries k (0, [])).0
@@ -44,3 +48,7 @@ put_entry (e ∷ es) n content = if nat_eq n e.0 then (n, content) ∷ es else e
 abbrev pub with_batch : List Entry → SectorMap → SectorMap
 with_batch [] sectors n = sectors n
 with_batch (e ∷ es) sectors n = if nat_eq n e.0 then e.1 else with_batch es sectors n
+
+-- how many of the others' sectors the entries don't have
+abbrev pub added : List Entry → List Entry → ℕ
+added entries others = count_by (λ n. not (has_entry entries n)) (targets others)

@@ -1,88 +1,79 @@
 //! The steps of a commit, and what images mean while they run.
 
-ghost use Rattle.std.specs.Prelude.{◌≡◌, ◌≤◌, ◌<◌, [], ◌∷◌, ℕ, List, length, IsOk, OnOk, MatchOption};
-ghost use Rattle.fs_layout.specs.declared.commit.TheConstants.{MAX_TARGETS};
-ghost use Rattle.fs_layout.specs.Commit.{AreTargets, IsCommit, IsValidCommit, commit_bytes};
-ghost use Rattle.redo_journal.specs.Batch.{Entry, targets, with_batch};
+ghost use Rattle.std.specs.Prelude.{◌≡◌, ℕ, List, length, IsOk, OnOk, MatchOption};
+ghost use Rattle.fs_layout.specs.Commit.{IsCommit, IsValidCommit, commit_bytes};
+ghost use Rattle.redo_journal.specs.Batch.{IsOnDisk, targets, with_batch};
 ghost use Rattle.redo_journal.specs.Meaning.{data_of, EachReadsAs, LeavesSameMap, LeavesAllOrNone};
 ghost use Rattle.redo_journal.specs.States.{IsAtRest, IsIdle, IsLogged, IsSealed, IsInstalled};
 ghost use Rattle.sector_disk.specs.Disk.{HasCause, HasWriteCause};
 
+use crate::Batch;
 use crate::steps::{copy_log, write_log, write_targets};
-use fs_layout::{COMMIT_SECTOR, Commit, MAX_TARGETS};
+use fs_layout::{COMMIT_SECTOR, Commit};
 use sector_disk::{Disk, DiskFault, write_synced};
 
 /// Writes the batch into the log and syncs. Each image reads as before.
-pub(crate) fn log_batch<D: Disk>(
-    disk: &mut D,
-    entries: &[(u32, [u8; 512])],
-) -> Result<(), DiskFault>
+pub(crate) fn log_batch<D: Disk>(disk: &mut D, batch: &Batch) -> Result<(), DiskFault>
     requires idle { IsIdle (D.state disk.old) }
-    requires valid { AreTargets (D.state disk.old).size (targets entries.now) }
-    ensures logged { OnOk result (IsLogged entries.now (D.state disk.new)) }
+    requires on_disk { IsOnDisk (D.state disk.old).size batch.now }
+    ensures logged { OnOk result (IsLogged batch.now (D.state disk.new)) }
     ensures any_moment { LeavesSameMap (D.state disk.old) (D.state disk.new) }
-    ensures empty { length entries.now ≡ 0 → IsOk result × (disk.new ≡ disk.old) }
+    ensures empty { length batch.now ≡ 0 → IsOk result × (disk.new ≡ disk.old) }
     ensures size { (D.state disk.new).size ≡ (D.state disk.old).size }
     ensures cause { HasCause (D.state disk.old) (D.state disk.new) result }
     ensures told { HasWriteCause (D.state disk.old) (D.state disk.new) result }
 {
-    if entries.is_empty() {
+    if batch.sectors().is_empty() {
         return Ok(());
     }
-    write_log(disk, entries)?;
+    write_log(disk, batch)?;
     disk.sync()
 }
 
 /// Writes the commit sector and syncs. Each image reads as before, or with the whole batch.
-pub(crate) fn seal_batch<D: Disk>(
-    disk: &mut D,
-    entries: &[(u32, [u8; 512])],
-) -> Result<(), DiskFault>
-    requires { IsLogged entries.now (D.state disk.old) }
-    ensures sealed { OnOk result (IsSealed entries.now (D.state disk.new)) }
-    ensures lasting { OnOk result (EachReadsAs (with_batch entries.now (data_of (D.state disk.old))) (D.state disk.new)) }
-    ensures any_moment { LeavesAllOrNone entries.now (D.state disk.old) (D.state disk.new) }
-    ensures empty { length entries.now ≡ 0 → IsOk result × (disk.new ≡ disk.old) }
+pub(crate) fn seal_batch<D: Disk>(disk: &mut D, batch: &Batch) -> Result<(), DiskFault>
+    requires { IsLogged batch.now (D.state disk.old) }
+    ensures sealed { OnOk result (IsSealed batch.now (D.state disk.new)) }
+    ensures lasting { OnOk result (EachReadsAs (with_batch batch.now (data_of (D.state disk.old))) (D.state disk.new)) }
+    ensures any_moment { LeavesAllOrNone batch.now (D.state disk.old) (D.state disk.new) }
+    ensures empty { length batch.now ≡ 0 → IsOk result × (disk.new ≡ disk.old) }
     ensures size { (D.state disk.new).size ≡ (D.state disk.old).size }
     ensures cause { HasCause (D.state disk.old) (D.state disk.new) result }
     ensures told { HasWriteCause (D.state disk.old) (D.state disk.new) result }
 {
-    if entries.is_empty() {
+    if batch.is_empty() {
         return Ok(());
     }
-    write_synced(disk, COMMIT_SECTOR, &commit_sector(entries))
+    write_synced(disk, COMMIT_SECTOR, &commit_sector(batch))
 }
 
 /// Writes the batch's sectors and syncs, and takes the commit away and syncs. Each image reads as before.
-pub(crate) fn install_batch<D: Disk>(
-    disk: &mut D,
-    entries: &[(u32, [u8; 512])],
-) -> Result<(), DiskFault>
-    requires { IsSealed entries.now (D.state disk.old) }
+pub(crate) fn install_batch<D: Disk>(disk: &mut D, batch: &Batch) -> Result<(), DiskFault>
+    requires { IsSealed batch.now (D.state disk.old) }
     ensures idle { OnOk result (IsIdle (D.state disk.new)) }
     ensures any_moment { LeavesSameMap (D.state disk.old) (D.state disk.new) }
-    ensures empty { length entries.now ≡ 0 → IsOk result × (disk.new ≡ disk.old) }
+    ensures empty { length batch.now ≡ 0 → IsOk result × (disk.new ≡ disk.old) }
     ensures size { (D.state disk.new).size ≡ (D.state disk.old).size }
     ensures cause { HasCause (D.state disk.old) (D.state disk.new) result }
     ensures told { HasWriteCause (D.state disk.old) (D.state disk.new) result }
 {
-    if entries.is_empty() {
+    if batch.is_empty() {
         return Ok(());
     }
-    put_in_place(disk, entries)?;
+    put_in_place(disk, batch)?;
     clear_commit(disk)
 }
 
 // Writes the batch's contents to its sectors and syncs. The commit stays.
-fn put_in_place<D: Disk>(disk: &mut D, entries: &[(u32, [u8; 512])]) -> Result<(), DiskFault>
-    requires { IsSealed entries.now (D.state disk.old) }
-    ensures installed { OnOk result (IsInstalled (targets entries.now) (D.state disk.new)) }
+fn put_in_place<D: Disk>(disk: &mut D, batch: &Batch) -> Result<(), DiskFault>
+    requires { IsSealed batch.now (D.state disk.old) }
+    ensures installed { OnOk result (IsInstalled (targets batch.now) (D.state disk.new)) }
     ensures any_moment { LeavesSameMap (D.state disk.old) (D.state disk.new) }
     ensures size { (D.state disk.new).size ≡ (D.state disk.old).size }
     ensures cause { HasCause (D.state disk.old) (D.state disk.new) result }
     ensures told { HasWriteCause (D.state disk.old) (D.state disk.new) result }
 {
-    write_targets(disk, entries)?;
+    write_targets(disk, batch)?;
     disk.sync()
 }
 
@@ -126,16 +117,11 @@ fn clear_commit<D: Disk>(disk: &mut D) -> Result<(), DiskFault>
     write_synced(disk, COMMIT_SECTOR, &Commit::idle().to_sector())
 }
 
-// The content of a commit sector that names the entries' sectors.
-fn commit_sector(entries: &[(u32, [u8; 512])]) -> [u8; 512]
-    requires { length entries.now ≤ MAX_TARGETS }
-    ensures { result ≡ commit_bytes (targets entries.now) }
+// The content of a commit sector that names the batch's sectors.
+fn commit_sector(batch: &Batch) -> [u8; 512]
+    ensures { result ≡ commit_bytes (targets batch.now) }
 {
-    let mut sectors = [0; MAX_TARGETS];
-    for (k, entry) in entries.iter().enumerate() {
-        sectors[k] = entry.0;
-    }
-    Commit::new(&sectors[..entries.len()]).to_sector()
+    Commit::new(batch.sectors()).to_sector()
 }
 
 /// The commit that a sector's content is, on a disk of so many sectors.

@@ -100,7 +100,7 @@ impl<D: Disk> Journal<D> {
         ensures told { HasWriteCause (D.state self) (D.state (disk_of result)) result }
     {
         let Journal { mut disk } = self;
-        match log_batch(&mut disk, batch.entries()) {
+        match log_batch(&mut disk, batch) {
             Ok(()) => Ok(Logged { disk }),
             Err(DiskFault) => Err(Broken { disk }),
         }
@@ -172,7 +172,7 @@ impl<D: Disk> Logged<D> {
         ensures told { HasWriteCause (D.state self) (D.state (disk_of result)) result }
     {
         let Logged { mut disk } = self;
-        match seal_batch(&mut disk, batch.entries()) {
+        match seal_batch(&mut disk, batch) {
             Ok(()) => Ok(Sealed { disk }),
             Err(DiskFault) => Err(Broken { disk }),
         }
@@ -198,7 +198,7 @@ impl<D: Disk> Sealed<D> {
         ensures told { HasWriteCause (D.state self) (D.state (disk_of result)) result }
     {
         let Sealed { mut disk } = self;
-        match install_batch(&mut disk, batch.entries()) {
+        match install_batch(&mut disk, batch) {
             Ok(()) => Ok(Journal { disk }),
             Err(DiskFault) => Err(Broken { disk }),
         }

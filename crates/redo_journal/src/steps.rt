@@ -1,51 +1,44 @@
 //! The writes of a commit. They know nothing of what an image means.
 
-ghost use Rattle.std.specs.Prelude.{◌≡◌, ◌≤◌, ◌<◌, ◌+◌, ℕ, List, length, OnOk, slice_set, get_or};
-ghost use Rattle.fs_layout.specs.declared.commit.TheConstants.{MAX_TARGETS};
+ghost use Rattle.std.specs.Prelude.{◌≤◌, OnOk};
 ghost use Rattle.fs_layout.specs.declared.place.TheConstants.{INODE_BITMAP};
-ghost use Rattle.fs_layout.specs.Commit.{AreTargets, commit_bytes};
-ghost use Rattle.redo_journal.specs.Batch.{Entry, targets};
+ghost use Rattle.fs_layout.specs.Commit.{AreTargets};
+ghost use Rattle.redo_journal.specs.Batch.{targets};
 ghost use Rattle.redo_journal.specs.States.{HoldsLog, HoldsTargets, HasReplayed, InLog, InTargets};
-ghost use Rattle.sector_disk.specs.Disk.{AddsOnly, IsImageOr, IsStable, LeavesOnly, HasCause, HasWriteCause, sector, IsWrite};
+ghost use Rattle.sector_disk.specs.Disk.{AddsOnly, IsImageOr, LeavesOnly, HasCause, HasWriteCause, sector};
 
+use crate::Batch;
 use fs_layout::FIRST_LOG_SECTOR;
 use sector_disk::{Disk, DiskFault};
 
-/// Writes the contents into the log's sectors, from the first on.
-pub(crate) fn write_log<D: Disk>(
-    disk: &mut D,
-    entries: &[(u32, [u8; 512])],
-) -> Result<(), DiskFault>
+/// Writes the batch's contents into the log's sectors, from the first on.
+pub(crate) fn write_log<D: Disk>(disk: &mut D, batch: &Batch) -> Result<(), DiskFault>
     requires room { INODE_BITMAP ≤ (D.state disk.old).size }
-    requires few { length entries.now ≤ MAX_TARGETS }
-    ensures written { OnOk result (HoldsLog entries.now (D.state disk.new).seen) }
+    ensures written { OnOk result (HoldsLog batch.now (D.state disk.new).seen) }
     ensures adds { AddsOnly InLog (D.state disk.old) (D.state disk.new) }
     ensures any_moment { LeavesOnly (D.state disk.old) (D.state disk.new) (IsImageOr InLog (D.state disk.old)) }
     ensures cause { HasCause (D.state disk.old) (D.state disk.new) result }
     ensures told { HasWriteCause (D.state disk.old) (D.state disk.new) result }
 {
     let mut at = FIRST_LOG_SECTOR;
-    for entry in entries {
-        disk.write(at, &entry.1)?;
+    for content in batch.contents() {
+        disk.write(at, content)?;
         at += 1;
     }
     Ok(())
 }
 
-/// Writes the contents to their sectors.
-pub(crate) fn write_targets<D: Disk>(
-    disk: &mut D,
-    entries: &[(u32, [u8; 512])],
-) -> Result<(), DiskFault>
-    requires { AreTargets (D.state disk.old).size (targets entries.now) }
-    ensures written { OnOk result (HoldsTargets entries.now (D.state disk.new).seen) }
-    ensures adds { AddsOnly (InTargets (targets entries.now)) (D.state disk.old) (D.state disk.new) }
-    ensures any_moment { LeavesOnly (D.state disk.old) (D.state disk.new) (IsImageOr (InTargets (targets entries.now)) (D.state disk.old)) }
+/// Writes the batch's contents to its sectors.
+pub(crate) fn write_targets<D: Disk>(disk: &mut D, batch: &Batch) -> Result<(), DiskFault>
+    requires { AreTargets (D.state disk.old).size (targets batch.now) }
+    ensures written { OnOk result (HoldsTargets batch.now (D.state disk.new).seen) }
+    ensures adds { AddsOnly (InTargets (targets batch.now)) (D.state disk.old) (D.state disk.new) }
+    ensures any_moment { LeavesOnly (D.state disk.old) (D.state disk.new) (IsImageOr (InTargets (targets batch.now)) (D.state disk.old)) }
     ensures cause { HasCause (D.state disk.old) (D.state disk.new) result }
     ensures told { HasWriteCause (D.state disk.old) (D.state disk.new) result }
 {
-    for entry in entries {
-        disk.write(entry.0, &entry.1)?;
+    for (n, content) in batch.sectors().iter().zip(batch.contents()) {
+        disk.write(*n, content)?;
     }
     Ok(())
 }

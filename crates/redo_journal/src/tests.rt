@@ -400,27 +400,52 @@ fn ends_of(batch: &Batch, n: u32) -> Option<(u8, u8)> {
 
 type Ends = Option<(u8, u8)>;
 
-// A batch of two sectors of which the first is put again: that it is empty, how many sectors it has, and three of them;
-// and once it is cleared that it is empty, and one.
-fn batch_seen(alloc: Global) -> Result<((bool, usize, [Ends; 3]), (bool, Ends)), Fail> {
+// What a batch has for sectors 200 to 202.
+fn contents_of(batch: &Batch) -> [Ends; 3] {
+    [
+        ends_of(batch, 200),
+        ends_of(batch, 201),
+        ends_of(batch, 202),
+    ]
+}
+
+// That it is empty, how many sectors it has, the last of them, and its contents.
+type Seen = (bool, usize, Option<u32>, [Ends; 3]);
+
+fn seen_of(batch: &Batch) -> Seen {
+    let last = batch.sectors().last().copied();
+    (batch.is_empty(), batch.len(), last, contents_of(batch))
+}
+
+// A batch of two sectors of which the first is put again; the same once it has taken those of another of three, and once
+// it is cleared; and how many sectors the other one added.
+fn batch_seen(alloc: Global) -> Result<([Seen; 3], usize), Fail> {
     let mut batch = batch_of(alloc, 2)?;
     if batch.len() < 126 {
         batch.put(200, &[9; 512]);
     }
-    let contents = [
-        ends_of(&batch, 200),
-        ends_of(&batch, 201),
-        ends_of(&batch, 202),
-    ];
-    let full = (batch.is_empty(), batch.len(), contents);
+    let first = seen_of(&batch);
+    let other = batch_of(alloc, 3)?;
+    let added = batch.added_by(&other);
+    if batch.len() + added <= 126 {
+        batch.absorb(&other);
+    }
+    let taken = seen_of(&batch);
     batch.clear();
-    Ok((full, (batch.is_empty(), ends_of(&batch, 200))))
+    Ok(([first, taken, seen_of(&batch)], added))
 }
 
 #[test]
 fn a_batch_is_a_map(rt: HostRuntime) -> Result<(), Fail> {
     let found = batch_seen(rt.alloc())?;
-    let contents = [Some((9, 9)), Some((8, 8)), None];
-    assert!(rt; found == ((false, 2, contents), (true, None)), "{found:?}");
+    let first = (false, 2, Some(201), [Some((9, 9)), Some((8, 8)), None]);
+    let taken = (
+        false,
+        3,
+        Some(202),
+        [Some((7, 7)), Some((8, 8)), Some((9, 9))],
+    );
+    let cleared = (true, 0, None, [None, None, None]);
+    assert!(rt; found == ([first, taken, cleared], 1), "{found:?}");
     Ok(())
 }

@@ -1,12 +1,13 @@
 -- A put into a delta.
-use Rattle.std.proofs.Common.{◌≡◌, ◌≢◌, ℕ, ◌+◌, ◌-◌, ◌≤◌, ◌<◌, Bool, true, false, cond, List, [], ◌∷◌, length, eqb, arith, refl, sym, ◌∙◌, ap}
-use Rattle.std.proofs.lemmas.Bool.{cond_both, cond-true, cond-false, eq-eqb, ne_eqb, eqb-true}
+use Rattle.std.proofs.Common.{◌≡◌, ℕ, ◌+◌, ◌-◌, ◌≤◌, ◌<◌, true, false, cond, List, [], ◌∷◌, length, eqb, arith, refl, ◌∙◌, ap}
+use Rattle.std.proofs.lemmas.Bool.{cond_both, cond-true, cond-false, eq-eqb}
 use Rattle.fs_layout.specs.Bytes.{SectorMap}
 use Rattle.fs_layout.specs.Changes.{Puts}
 use Rattle.sector_disk.specs.Disk.{DiskState}
 use Rattle.sector_disk.proofs.Moments.{reads_nothing}
 use Rattle.redo_journal.specs.Batch.{Entry, has_entry, put_entry, with_batch}
 use Rattle.redo_journal.specs.Meaning.{data_of}
+use Rattle.redo_journal.proofs.Puts.{has_others}
 use Rattle.sector_txn.specs.Sectors.{IsPut}
 use Rattle.sector_txn.specs.Stores.{txn_state, map_now, map_before}
 
@@ -17,15 +18,6 @@ has_here (e ∷ entries) n content =
     cond_both (eqb n e.0) ((n, content) ∷ entries) (e ∷ put_entry entries n content) (λ l. has_entry l n ≡ true)
     (λ _. cond-true (eqb n n) true (has_entry entries n) (eq-eqb n n refl))
     (λ no. cond-false (eqb n e.0) true (has_entry (put_entry entries n content) n) no ∙ has_here entries n content)
-
-pub has_others : (entries : List Entry) (n m : ℕ) (content : List ℕ) → m ≢ n → has_entry (put_entry entries n content) m ≡ has_entry entries m
-has_others [] n m content other = cond-false (eqb m n) true false (ne_eqb m n other)
-has_others (e ∷ entries) n m content other =
-    cond_both (eqb n e.0) ((n, content) ∷ entries) (e ∷ put_entry entries n content) (λ l. has_entry l m ≡ has_entry (e ∷ entries) m)
-    (λ is.
-    let not_e : m ≡ e.0 → ⊥ = λ same. other (same ∙ sym (eqb-true n e.0 is)) in
-    cond-false (eqb m n) true (has_entry entries m) (ne_eqb m n other) ∙ sym (cond-false (eqb m e.0) true (has_entry entries m) (ne_eqb m e.0 not_e)))
-    (λ _. ap (λ (b : Bool). cond (eqb m e.0) true b) (has_others entries n m content other))
 
 -- ---- a put into a transaction
 pub delta_put : {D : Type 0} (state : D → DiskState) (disk : D) (waiting old new : List Entry) (n : ℕ) (content : List ℕ) → length old ≤ 64 → (has_entry old n ≡ false → 0 < 64 - length old)

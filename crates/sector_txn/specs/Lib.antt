@@ -1,3 +1,4 @@
+pub mod Clean
 pub mod Images
 pub mod Mixed
 pub mod Sectors

@@ -1,11 +1,14 @@
-//! The three steps of a commit in a row.
+//! The three steps of a commit in a row, and when a commit is due.
 
-ghost use Rattle.std.specs.Prelude.{◌≡◌, length, Ok, IfOk};
-ghost use Rattle.redo_journal.specs.Batch.{IsOnDisk, with_batch};
+ghost use Rattle.std.specs.Prelude.{◌≡◌, ◌≤◌, ◌+◌, ℕ, length, Ok, IfOk};
+ghost use Rattle.fs_layout.specs.declared.commit.TheConstants.{MAX_TARGETS};
+ghost use Rattle.redo_journal.specs.Batch.{IsOnDisk, with_batch, added};
 ghost use Rattle.redo_journal.specs.Meaning.{SameMap, data_of, disk_of};
 ghost use Rattle.sector_disk.specs.Disk.{HasCause, HasWriteCause};
 ghost use Rattle.sector_txn.specs.Images.{LeavesOldOr};
 
+use crate::cached::CachedJournal;
+use fs_layout::MAX_TARGETS;
 use redo_journal::{Batch, Broken, Journal};
 use sector_disk::Disk;
 
@@ -31,6 +34,41 @@ pub(crate) fn commit<D: Disk>(journal: Journal<D>, batch: &Batch) -> Result<Jour
             Ok(sealed) => sealed.install(batch),
             Err(broken) => Err(broken),
         },
+        Err(broken) => Err(broken),
+    }
+}
+
+/// Commits what waits, where the changes wouldn't fit beside it: all of it, before they are kept.
+pub(crate) fn commit_if_full<D: Disk>(
+    journal: CachedJournal<D>,
+    waiting: &mut Batch,
+    delta: &Batch,
+) -> Result<CachedJournal<D>, Broken<D>>
+    requires on_disk { IsOnDisk (D.state journal).size waiting.old }
+    requires few { length delta.now ≤ 64 }
+    ensures on_disk { (size : ℕ) → IsOnDisk size waiting.old → IsOnDisk size waiting.new }
+    ensures room { IfOk result (λ after. length waiting.new + added waiting.new delta.now ≤ MAX_TARGETS) }
+
+    // What was to be read stays so.
+    ensures same { let before = with_batch waiting.old (data_of (D.state journal)) in
+        IfOk result (λ after. SameMap (with_batch waiting.new (data_of (D.state after))) before) }
+
+    ensures images { LeavesOldOr (with_batch waiting.old (data_of (D.state journal))) (D.state journal) (D.state (disk_of result)) }
+
+    // Without changes the disk isn't called.
+    ensures empty { length delta.now ≡ 0 → result ≡ Ok journal }
+
+    ensures cause { HasCause (D.state journal) (D.state (disk_of result)) result }
+    ensures told { HasWriteCause (D.state journal) (D.state (disk_of result)) result }
+{
+    if waiting.len() + waiting.added_by(delta) <= MAX_TARGETS {
+        return Ok(journal);
+    }
+    match journal.commit(waiting) {
+        Ok(journal) => {
+            waiting.clear();
+            Ok(journal)
+        }
         Err(broken) => Err(broken),
     }
 }

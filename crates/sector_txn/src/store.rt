@@ -1,14 +1,15 @@
 //! A store of sectors, and one call's transaction on it.
 #![tactic(auto, unfolding(crate::specs::Stores::present, crate::specs::Stores::map_before, crate::specs::Stores::map_now))]
 
-ghost use Rattle.std.specs.Prelude.{◌≡◌, ℕ, false, IsOk, IfOk, MatchResult};
+ghost use Rattle.std.specs.Prelude.{◌≡◌, ℕ, [], false, IsOk, IfOk, MatchResult};
 ghost use Rattle.redo_journal.specs.Meaning.{SameMap, EachReadsAs, data_of};
 ghost use Rattle.sector_disk.specs.Disk.{IsSame, Elapses, HasCause, HasWriteCause};
 ghost use Rattle.sector_txn.specs.Images.{LeavesOneOf, LeavesOldOr};
 ghost use Rattle.sector_txn.specs.Stores.{present, map_before, map_now, txn_state, disk_after};
 
 use crate::Sectors;
-use crate::commit::commit;
+use crate::cached::CachedJournal;
+use crate::commit::commit_if_full;
 use redo_journal::{Batch, Broken, Journal};
 use sector_disk::{CrashDisk, Disk, DiskFault};
 use std::alloc::{AllocError, Global};
@@ -19,53 +20,62 @@ const DELTA: usize = 64;
 
 /// A map of sectors on a journal: sector 0 and those from 128 on.
 ///
-/// It may be dropped, which is as if the disk were stopped.
+/// At most 126 sectors that were kept wait in memory for their commit, which [`Store::flush`] makes. It may be dropped, which
+/// is as if the disk were stopped.
 #[derive(Drop)]
 pub struct Store<D: Disk> {
-    journal: Journal<D>,
+    journal: CachedJournal<D>,
+    // What was kept since the last commit.
+    waiting: Batch,
     // No sectors: its memory serves one transaction after another.
     delta: Batch,
 }
 
 impl<D: Disk> Model for Store<D> {
     ghost use Rattle.std.specs.Prelude.{◌≡◌, []};
+    ghost use Rattle.redo_journal.specs.Batch.{IsOnDisk};
     ghost use Rattle.sector_txn.specs.Stores.{StoreView};
 
     ghost Value = { StoreView D };
 
-    ghost view = { λ store. record { disk = store.journal; waiting = [] } };
+    ghost view = { λ store. record { disk = store.journal; waiting = store.waiting } };
 
-    ghost invariant = { λ store. store.delta ≡ [] };
+    ghost invariant = { λ store. (store.delta ≡ []) × IsOnDisk (D.state store.journal).size store.waiting };
 }
 
 /// One call's changes to a store, at most 64 sectors. Either [`Txn::keep`] or [`Txn::drop_delta`] has to be called.
 #[must_use = "its changes are to be kept or dropped"]
 pub struct Txn<D: Disk> {
-    journal: Journal<D>,
+    journal: CachedJournal<D>,
+    waiting: Batch,
     delta: Batch,
 }
 
 impl<D: Disk> Model for Txn<D> {
-    ghost use Rattle.std.specs.Prelude.{[]};
+    ghost use Rattle.redo_journal.specs.Batch.{IsOnDisk};
     ghost use Rattle.sector_txn.specs.Stores.{TxnView, IsTxn};
 
     ghost Value = { TxnView D };
 
-    ghost view = { λ txn. record { disk = txn.journal; waiting = []; delta = txn.delta } };
+    ghost view = { λ txn. record { disk = txn.journal; waiting = txn.waiting; delta = txn.delta } };
 
-    ghost invariant = { λ txn. IsTxn (D.state txn.journal) txn.delta };
+    ghost invariant = { λ txn. IsTxn (D.state txn.journal) txn.delta × IsOnDisk (D.state txn.journal).size txn.waiting };
 }
 
 impl<D: Disk> Store<D> {
-    /// The store of a journal. It reserves the memory of all its transactions.
+    /// The store of a journal. It reserves the memory of all its transactions, and of what waits; the cache takes what it finds.
     pub fn new(alloc: Global, journal: Journal<D>) -> Result<Store<D>, (AllocError, Journal<D>)>
         ensures disk { MatchResult result (λ store. store.disk ≡ journal) (λ e. e.1 ≡ journal) }
         ensures map { IfOk result (λ store. SameMap (present D.state store) (data_of (D.state journal))) }
         ensures lasting { IfOk result (λ store. EachReadsAs (present D.state store) (D.state store.disk)) }
     {
         journal.tell_idle();
-        match Batch::new(alloc) {
-            Ok(delta) => Ok(Store { journal, delta }),
+        match reserved(alloc) {
+            Ok((waiting, delta)) => Ok(Store {
+                journal: CachedJournal::new(alloc, journal),
+                waiting,
+                delta,
+            }),
             Err(error) => Err((error, journal)),
         }
     }
@@ -78,8 +88,16 @@ impl<D: Disk> Store<D> {
         ensures delta { (n : ℕ) → (txn_state D.state result).has_put n ≡ false }
         ensures room { (txn_state D.state result).room ≡ 64 }
     {
-        let Store { journal, delta } = self;
-        Txn { journal, delta }
+        let Store {
+            journal,
+            waiting,
+            delta,
+        } = self;
+        Txn {
+            journal,
+            waiting,
+            delta,
+        }
     }
 
     /// From `Ok` on, all that was kept outlasts a stop.
@@ -96,10 +114,23 @@ impl<D: Disk> Store<D> {
 
         ensures told { HasWriteCause (D.state self.disk) (D.state (disk_after result)) result }
     {
-        // What was kept was committed there and then.
-        let Store { journal, delta } = self;
-        journal.tell_idle();
-        Ok(Store { journal, delta })
+        let Store {
+            journal,
+            mut waiting,
+            delta,
+        } = self;
+        match journal.commit(&waiting) {
+            Ok(journal) => {
+                journal.tell_idle();
+                waiting.clear();
+                Ok(Store {
+                    journal,
+                    waiting,
+                    delta,
+                })
+            }
+            Err(broken) => Err(broken),
+        }
     }
 
     /// Lets go of what the disk keeps of its past: nothing is said any more of the moments before this one.
@@ -116,7 +147,11 @@ impl<D: Disk> Store<D> {
     pub fn into_disk(self) -> D
         ensures { result ≡ self.disk }
     {
-        let Store { journal, delta: _ } = self;
+        let Store {
+            journal,
+            waiting: _,
+            delta: _,
+        } = self;
         journal.into_disk()
     }
 }
@@ -134,7 +169,8 @@ impl<D: CrashDisk> Store<D> {
 }
 
 impl<D: Disk> Txn<D> {
-    /// Makes the changes part of the store, all of them at once.
+    /// Makes the changes part of the store, all of them at once. Where they don't fit beside what waits, all of that is committed
+    /// first; a sector that waits already takes no new place.
     pub fn keep(self) -> Result<Store<D>, Broken<D>>
         ensures map { IfOk result (λ store. SameMap (present D.state store) (txn_state D.state self).sectors) }
 
@@ -149,11 +185,20 @@ impl<D: Disk> Txn<D> {
 
         ensures told { HasWriteCause (D.state self.disk) (D.state (disk_after result)) result }
     {
-        let Txn { journal, mut delta } = self;
-        match commit(journal, &delta) {
+        let Txn {
+            journal,
+            mut waiting,
+            mut delta,
+        } = self;
+        match commit_if_full(journal, &mut waiting, &delta) {
             Ok(journal) => {
+                waiting.absorb(&delta);
                 delta.clear();
-                Ok(Store { journal, delta })
+                Ok(Store {
+                    journal,
+                    waiting,
+                    delta,
+                })
             }
             Err(broken) => Err(broken),
         }
@@ -164,9 +209,17 @@ impl<D: Disk> Txn<D> {
         ensures disk { result.disk ≡ self.disk }
         ensures map { SameMap (present D.state result) (txn_state D.state self).before }
     {
-        let Txn { journal, mut delta } = self;
+        let Txn {
+            journal,
+            waiting,
+            mut delta,
+        } = self;
         delta.clear();
-        Store { journal, delta }
+        Store {
+            journal,
+            waiting,
+            delta,
+        }
     }
 }
 
@@ -179,7 +232,13 @@ impl<D: Disk> Sectors for Txn<D> {
                 *to = *content;
                 Ok(())
             }
-            None => self.journal.read(n, to),
+            None => match self.waiting.get(n) {
+                Some(content) => {
+                    *to = *content;
+                    Ok(())
+                }
+                None => self.journal.read(n, to),
+            },
         }
     }
 
@@ -190,4 +249,11 @@ impl<D: Disk> Sectors for Txn<D> {
     fn room(&self) -> usize {
         DELTA - self.delta.len()
     }
+}
+
+// The memory of the sectors that wait, and of a transaction's.
+fn reserved(alloc: Global) -> Result<(Batch, Batch), AllocError>
+    ensures { IfOk result (λ batches. (batches.0 ≡ []) × (batches.1 ≡ [])) }
+{
+    Ok((Batch::new(alloc)?, Batch::new(alloc)?))
 }

@@ -1,18 +1,15 @@
-//! Transactions over disks that fail and stop, callers as the layers above write them, and a second store, which shares
-//! commits.
+//! Transactions over disks that fail and stop, and callers as the layers above write them.
 
 ghost use Rattle.std.specs.Prelude.{◌≡◌, ◌≤◌, ◌<◌, ◌+◌, IfOk};
 ghost use Rattle.sector_txn.specs.Sectors.{SameStore};
 
 mod clients;
-mod shared;
 
 use crate::{Sectors, Store, Txn};
 use clients::{clear_all, mix_whole};
 use fs_layout::Commit;
 use redo_journal::Journal;
 use sector_disk::{CrashDisk, Disk, DiskFault, FailOnce, FuseDisk, MemDisk};
-use shared::{SharedStore, SharedTxn};
 use std::alloc::Global;
 use std::test::Fail;
 
@@ -48,12 +45,12 @@ fn opened<D: Disk + Drop>(alloc: Global, disk: D) -> Result<Store<D>, Fail>
     }
 }
 
-// Puts so many sectors from 200 on, whose bytes are 7, 8 and so on.
-fn put_some<S: Sectors>(s: &mut S, count: u8)
+// Puts the sectors 200 + k for these k, each with the byte k + 7.
+fn put_some<S: Sectors>(s: &mut S, from: u8, to: u8)
     requires { (S.state s.old).disk.size ≡ 1024 }
     ensures { SameStore (S.state s.old) (S.state s.new) }
 {
-    for k in 0..count {
+    for k in from..to {
         if s.room() == 0 {
             return;
         }
@@ -108,13 +105,13 @@ fn count_lasting<D: CrashDisk + Drop>(
     Ok(found?)
 }
 
-// A transaction that has put so many sectors.
-fn with_some<D: Disk>(store: Store<D>, count: u8) -> Txn<D>
+// A transaction that has put these sectors.
+fn with_some<D: Disk>(store: Store<D>, from: u8, to: u8) -> Txn<D>
     requires { (D.state store.disk).size ≡ 1024 }
     ensures { (D.state result.disk).size ≡ 1024 }
 {
     let mut txn = store.begin();
-    put_some(&mut txn, count);
+    put_some(&mut txn, from, to);
     txn
 }
 
@@ -122,7 +119,7 @@ fn with_some<D: Disk>(store: Store<D>, count: u8) -> Txn<D>
 fn with_kept<D: Disk + Drop>(alloc: Global, disk: D, count: u8) -> Result<Store<D>, Fail>
     ensures { IfOk result (λ store. (D.state store.disk).size ≡ 1024) }
 {
-    match with_some(opened(alloc, disk)?, count).keep() {
+    match with_some(opened(alloc, disk)?, 0, count).keep() {
         Ok(store) => Ok(store),
         Err(_) => Err(Fail::new("broken")),
     }
@@ -134,7 +131,7 @@ fn after_keep<D: CrashDisk + Drop>(
     disk: D,
     count: u8,
 ) -> Result<(usize, u8, u8), Fail> {
-    let txn = with_some(opened(alloc, disk)?, count);
+    let txn = with_some(opened(alloc, disk)?, 0, count);
     let room = txn.room();
     match txn.keep() {
         Err(_) => Err(Fail::new("broken")),
@@ -157,7 +154,7 @@ fn after_drop<D: CrashDisk + Drop>(
     disk: D,
     count: u8,
 ) -> Result<(u8, u8, u8), Fail> {
-    let mut txn = with_some(opened(alloc, disk)?, count);
+    let mut txn = with_some(opened(alloc, disk)?, 0, count);
     let put = count_put(&mut txn, count);
     let (found, store) = count_kept(txn.drop_delta(), count);
     let lasting = count_lasting(alloc, store.into_disk(), &[], count)?;
@@ -200,147 +197,181 @@ fn a_call_is_kept_or_dropped(rt: HostRuntime) -> Result<(), Fail> {
 }
 
 // Whether sector 201 is read after a put of sector 200, what that gives, and whether sector 201 is read then; the room,
-// and whether the change is kept.
+// and whether the change is kept and flushed.
 fn around_a_fault<D: Disk + Drop>(
     alloc: Global,
     disk: D,
-) -> Result<(bool, u8, bool, usize, bool), Fail> {
-    let mut txn = with_some(opened(alloc, disk)?, 1);
+) -> Result<(bool, u8, bool, usize, (bool, bool)), Fail> {
+    let mut txn = with_some(opened(alloc, disk)?, 0, 1);
     let read = byte_at(&mut txn, 201).is_ok();
     let put = byte_at(&mut txn, 200);
     let read_again = byte_at(&mut txn, 201).is_ok();
     let room = txn.room();
-    let kept = txn.keep().is_ok();
-    Ok((read, put?, read_again, room, kept))
+    let (kept, flushed, _) = kept_and_flushed(txn);
+    Ok((read, put?, read_again, room, (kept, flushed)))
 }
 
-// Whether a store can keep nothing, and flush.
-fn keeps_nothing<D: Disk + Drop>(alloc: Global, disk: D) -> Result<bool, Fail> {
-    match opened(alloc, disk)?.begin().keep() {
-        Ok(store) => Ok(store.flush().is_ok()),
-        Err(_) => Ok(false),
+// Whether a transaction is kept, and whether it is flushed.
+fn kept_and_flushed<D: Disk>(txn: Txn<D>) -> (bool, bool, D) {
+    match txn.keep() {
+        Err(broken) => (false, false, broken.into_disk()),
+        Ok(store) => match store.flush() {
+            Err(broken) => (true, false, broken.into_disk()),
+            Ok(store) => (true, true, store.into_disk()),
+        },
     }
 }
 
 #[test]
 fn a_failed_get_leaves_map_and_delta(rt: HostRuntime) -> Result<(), Fail> {
-    // Opening an idle journal makes a sync and a read; keeping nothing makes no call.
+    // Opening an idle journal makes a sync and a read; keeping one change makes no call, and flushing nothing none.
+    let idle = FuseDisk::new(idle_disk(rt.alloc())?, 2);
+    let (kept, flushed, _) = kept_and_flushed(opened(rt.alloc(), idle)?.begin());
     let seen = (
         around_a_fault(rt.alloc(), FailOnce::new(idle_disk(rt.alloc())?, 2))?,
         around_a_fault(rt.alloc(), FuseDisk::new(idle_disk(rt.alloc())?, 2))?,
-        keeps_nothing(rt.alloc(), FuseDisk::new(idle_disk(rt.alloc())?, 2))?,
+        (kept, flushed),
     );
     let wanted = (
-        (false, 7, true, 63, true),
-        (false, 7, false, 63, false),
-        true,
+        (false, 7, true, 63, (true, true)),
+        (false, 7, false, 63, (true, false)),
+        (true, true),
     );
     assert!(rt; seen == wanted, "{seen:?}");
     Ok(())
 }
 
-// Whether a commit of two sectors broke that was armed so, and how many are there after a stop.
+// Whether a store that was armed so has kept and flushed so many sectors, and how many are there after a stop.
 fn kept_while_armed<D: CrashDisk + Drop>(
     alloc: Global,
     disk: D,
     passes: u64,
+    count: u8,
     choice: &[u8],
-) -> Result<(bool, u8), Fail> {
+) -> Result<(bool, bool, u8), Fail> {
     let mut store = opened(alloc, disk)?;
     store.arm(passes);
-    let (broken, disk) = match with_some(store, 2).keep() {
-        Ok(store) => (false, store.into_disk()),
-        Err(broken) => (true, broken.into_disk()),
-    };
-    Ok((broken, count_lasting(alloc, disk, choice, 2)?))
+    let (kept, flushed, disk) = kept_and_flushed(with_some(store, 0, count));
+    Ok((kept, flushed, count_lasting(alloc, disk, choice, count)?))
 }
 
 #[test]
-fn a_stop_within_keep_leaves_all_or_nothing(rt: HostRuntime) -> Result<(), Fail> {
-    // How many writes and syncs pass, and how many sectors are there for choices 0 and for choices 1.
-    for (passes, zeros, ones) in [
-        (0, 0, 0),
-        (1, 0, 0),
-        (2, 0, 0),
-        (3, 0, 2),
-        (4, 0, 2),
-        (5, 2, 2),
-        (6, 2, 2),
-        (7, 2, 2),
-        (8, 2, 2),
-        (9, 2, 2),
-        (10, 2, 2),
+fn a_stop_within_a_flush_leaves_all_or_nothing(rt: HostRuntime) -> Result<(), Fail> {
+    // How many writes and syncs pass, of how many sectors, and how many are there for choices 0 and for choices 1: a
+    // commit of n sectors makes 2n + 6.
+    for (passes, count, zeros, ones) in [
+        (0, 2, 0, 0),
+        (1, 2, 0, 0),
+        (2, 2, 0, 0),
+        (3, 2, 0, 2),
+        (4, 2, 0, 2),
+        (5, 2, 2, 2),
+        (6, 2, 2, 2),
+        (7, 2, 2, 2),
+        (8, 2, 2, 2),
+        (9, 2, 2, 2),
+        (10, 2, 2, 2),
+        (7, 1, 1, 1),
+        (8, 1, 1, 1),
+        (133, 64, 64, 64),
+        (134, 64, 64, 64),
     ] {
+        let flushed = passes == 2 * u64::from(count) + 6;
         for (choice, want) in [
             ([].as_slice(), zeros),
             ([1, 1, 1].as_slice(), ones),
             ([0, 1].as_slice(), zeros),
             ([1, 0].as_slice(), ones),
         ] {
-            let found = kept_while_armed(rt.alloc(), idle_disk(rt.alloc())?, passes, choice)?;
-            assert!(rt; found == (passes < 10, want), "{passes} {choice:?}");
+            let found = kept_while_armed(
+                rt.alloc(),
+                idle_disk(rt.alloc())?,
+                passes,
+                count,
+                choice,
+            )?;
+            assert!(rt;
+                found == (true, flushed, want),
+                "{passes} {count} {choice:?}"
+            );
         }
     }
     Ok(())
 }
 
-// A transaction of a store that shares commits, which has put so many sectors.
-fn with_some_shared<D: Disk>(store: SharedStore<D>, count: u8) -> SharedTxn<D>
-    requires { (D.state store.disk).size ≡ 1024 }
-    ensures { (D.state result.disk).size ≡ 1024 }
-{
-    let mut txn = store.begin();
-    put_some(&mut txn, count);
-    txn
-}
-
-// Two transactions of so many sectors and a flush, and then the disk.
-fn kept_twice<D: Disk>(store: SharedStore<D>, first: u8, second: u8) -> (bool, bool, D)
-    requires { (D.state store.disk).size ≡ 1024 }
-{
-    match with_some_shared(store, first).keep() {
-        Err(broken) => (false, false, broken.into_disk()),
-        Ok(store) => match with_some_shared(store, second).keep() {
-            Err(broken) => (false, false, broken.into_disk()),
-            Ok(store) => match store.flush() {
-                Err(broken) => (true, false, broken.into_disk()),
-                Ok(store) => (true, true, store.into_disk()),
-            },
-        },
-    }
-}
-
-// Whether two transactions were kept and flushed, and how many sectors are there after a stop.
-fn shared_while_armed<D: CrashDisk + Drop>(
+// Whether the sectors below a number and then others are kept by two transactions of an armed store, and flushed; and
+// how many of all are there after a stop.
+fn kept_twice<D: CrashDisk + Drop>(
     alloc: Global,
     disk: D,
     passes: u64,
     first: u8,
-    second: u8,
+    (from, to): (u8, u8),
 ) -> Result<(bool, bool, u8), Fail> {
-    let mut journal = opened_journal(disk)?;
-    journal.arm(passes);
-    match SharedStore::new(alloc, journal) {
-        Err(_) => Err(Fail::new("no memory")),
-        Ok(store) => {
-            let (kept, flushed, disk) = kept_twice(store, first, second);
-            Ok((kept, flushed, count_lasting(alloc, disk, &[], 64)?))
-        }
+    let mut store = opened(alloc, disk)?;
+    store.arm(passes);
+    let (kept, flushed, disk) = match with_some(store, 0, first).keep() {
+        Err(broken) => (false, false, broken.into_disk()),
+        Ok(store) => kept_and_flushed(with_some(store, from, to)),
+    };
+    Ok((kept, flushed, count_lasting(alloc, disk, &[], 128)?))
+}
+
+#[test]
+fn calls_share_a_commit_while_they_fit(rt: HostRuntime) -> Result<(), Fail> {
+    // How many writes and syncs pass, the sectors of the two transactions, and what comes of them. A sector that waits
+    // already takes no new place, and all that waits is committed before what doesn't fit beside it is kept.
+    for (passes, first, second, want) in [
+        (0, 62, (62, 126), (true, false, 0)),
+        (257, 62, (62, 126), (true, false, 126)),
+        (258, 62, (62, 126), (true, true, 126)),
+        (0, 64, (1, 65), (true, false, 0)),
+        (136, 64, (1, 65), (true, true, 65)),
+        (0, 64, (64, 127), (false, false, 0)),
+        (134, 64, (64, 127), (true, false, 64)),
+        (266, 64, (64, 127), (true, true, 127)),
+    ] {
+        let found = kept_twice(rt.alloc(), idle_disk(rt.alloc())?, passes, first, second)?;
+        assert!(rt; found == want, "{passes} {first} {second:?}");
+    }
+    Ok(())
+}
+
+// Which of these reads are answered by a disk that fails after so many calls: two of sector 200, and one of sector 201;
+// and then, once sector 200 was put, kept and flushed, one of each.
+fn read_twice<D: Disk + Drop>(alloc: Global, disk: D) -> Result<[bool; 5], Fail> {
+    let mut txn = opened(alloc, disk)?.begin();
+    let first = byte_at(&mut txn, 200).is_ok();
+    let again = byte_at(&mut txn, 200).is_ok();
+    let other = byte_at(&mut txn, 201).is_ok();
+    put_some(&mut txn, 0, 1);
+    match txn.keep() {
+        Err(_) => Err(Fail::new("not kept")),
+        Ok(store) => match store.flush() {
+            Err(_) => Ok([first, again, other, false, false]),
+            Ok(store) => {
+                let mut txn = store.begin();
+                let changed = byte_at(&mut txn, 200).is_ok();
+                let same = byte_at(&mut txn, 201).is_ok();
+                let _ = txn.drop_delta();
+                Ok([first, again, other, changed, same])
+            }
+        },
     }
 }
 
 #[test]
-fn shared_commits_come_late(rt: HostRuntime) -> Result<(), Fail> {
-    // How many writes and syncs pass, the sectors of the two transactions, and what comes of them.
-    for (passes, first, second, want) in [
-        (0, 62, 64, (true, false, 0)),
-        (0, 64, 63, (false, false, 0)),
-        (134, 64, 63, (true, false, 64)),
-        (1000, 62, 64, (true, true, 64)),
-        (1000, 64, 63, (true, true, 64)),
+fn a_sector_is_read_once_until_it_changes(rt: HostRuntime) -> Result<(), Fail> {
+    // How many calls the disk answers; two of them open the journal, and a commit of one sector makes 8.
+    for (calls, want) in [
+        (2, [false, false, false, false, false]),
+        (3, [true, true, false, false, false]),
+        (4, [true, true, true, false, false]),
+        (12, [true, true, true, false, true]),
+        (13, [true, true, true, true, true]),
     ] {
-        let found = shared_while_armed(rt.alloc(), idle_disk(rt.alloc())?, passes, first, second)?;
-        assert!(rt; found == want, "{passes} {first} {second}");
+        let found = read_twice(rt.alloc(), FuseDisk::new(idle_disk(rt.alloc())?, calls))?;
+        assert!(rt; found == want, "{calls}");
     }
     Ok(())
 }

@@ -5,7 +5,7 @@ use Rattle.redo_journal.proofs.commit.install_batch.Goals as goal
 
 pub returns-then-is_empty-clause-any_moment : goal.returns-then-is_empty-clause-any_moment
 returns-then-is_empty-clause-any_moment g c =
-    started (g.met.D.Disk.only_now c.args.disk.now) (rest_reads (targets c.args.entries.now) (g.D.Disk.state c.args.disk.now) c.requires.at_rest)
+    started (g.met.D.Disk.only_now c.args.disk.now) (rest_reads (targets c.args.batch.now) (g.D.Disk.state c.args.disk.now) c.requires.at_rest)
 
 pub returns-clause-any_moment : goal.returns-clause-any_moment
 returns-clause-any_moment g c =

@@ -1,29 +1,36 @@
-use Rattle.std.proofs.Common.{◌≡◌, ◌<◌, ◌+◌, length, arith, subst, set}
+use Rattle.std.proofs.Common.{◌≡◌, ◌<◌, ◌+◌, ◌∙◌, ℕ, List, [], length, get_or, arith, subst, set, ap}
 use Rattle.sector_disk.proofs.Moments.{adds_write, goes_on, image_or}
-use Rattle.redo_journal.specs.Batch.{content_at}
+use Rattle.redo_journal.proofs.Entries.{content_is, length-contents}
 use Rattle.redo_journal.proofs.Writing.{written_more}
 use Rattle.redo_journal.proofs.steps.write_log.Goals as goal
 
-pub loop-entry-preserved : goal.loop-entry-preserved
-loop-entry-preserved g c =
-    let so_far = c.loop-entry.invariant in
-    let entries = c.args.entries.now in
-    let i = c.loop-entry.entry-index in
-    let last = g.D.Disk.state c.loop-entry.disk in
+pub loop-content-preserved : goal.loop-content-preserved
+loop-content-preserved g c =
+    let so_far = c.loop-content.invariant in
+    let items = c.contents-content-items.result.now in
+    let i = c.loop-content.content-index in
+    let last = g.D.Disk.state c.loop-content.disk in
     let after = g.D.Disk.state c.write.new.self in
-    let whole : length last.seen ≡ last.size = (g.met.D.Disk.seen_is_image c.loop-entry.disk).size in
-    let fits : 2 + i < length last.seen = omega (arith, whole, so_far.at, so_far.room, so_far.few, so_far.adds.size, c.loop-entry-test.true) in
-    let adds = adds_write so_far.adds c.write.ensures.changes (λ k content is same. (omega (arith, is, so_far.at), omega (arith, is, so_far.at, so_far.few, c.loop-entry-test.true))) in
+    let whole : length last.seen ≡ last.size = (g.met.D.Disk.seen_is_image c.loop-content.disk).size in
+    let fits : 2 + i < length last.seen = omega (arith, whole, so_far.at, so_far.room, so_far.few, so_far.adds.size, c.loop-content-test.true) in
+    let adds = adds_write so_far.adds c.write.ensures.changes (λ k content is same. (omega (arith, is, so_far.at), omega (arith, is, so_far.at, so_far.few, c.loop-content-test.true))) in
     record {
       at = omega (arith, so_far.at);
       few = so_far.few;
       room = so_far.room;
       written =
-          written_more (λ k. 2 + k) (content_at entries) last.seen after.seen i fits
-          (subst (λ n. after.seen ≡ set last.seen n (content_at entries i)) so_far.at c.in_ok-write.ensures.written.seen)
+          written_more (λ k. 2 + k) (λ k. get_or items k []) last.seen after.seen i fits
+          (subst (λ n. after.seen ≡ set last.seen n (get_or items i [])) so_far.at c.in_ok-write.ensures.written.seen)
           (λ k lt same. omega (arith, lt, same)) so_far.written;
       adds = adds;
       since = goes_on so_far.since c.write.ensures.time (image_or adds);
       failures = omega (arith, so_far.failures, c.write.ensures.cause.later);
       failed_writes = omega (arith, so_far.failed_writes, c.write.ensures.told.later);
     }
+
+pub returns-clause-written : goal.returns-clause-written
+returns-clause-written g c = λ k lt.
+    let entries = c.args.batch.now in
+    let of_contents = c.contents-content-items.ensures.contents in
+    c.loop-content.invariant.written k (omega (arith, lt, c.loop-content-test.false, ap length of_contents, length-contents entries))
+    ∙ ap (λ (l : List (List ℕ)). get_or l k []) of_contents ∙ content_is entries k lt

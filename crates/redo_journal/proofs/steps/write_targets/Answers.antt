@@ -1,37 +1,45 @@
-use Rattle.std.proofs.Common.{◌≡◌, ◌<◌, length, arith}
+use Rattle.std.proofs.Common.{◌≡◌, ◌<◌, ◌∙◌, [], ◌∷◌, length, set, arith, rules, length-append}
+use Rattle.std.proofs.lemmas.Slice.Zip.{zip_turn}
 use Rattle.sector_disk.proofs.Moments.{adds_write, goes_on, image_or}
 use Rattle.redo_journal.specs.Batch.{target_at, content_at}
-use Rattle.redo_journal.proofs.Entries.{in_targets, target_range, targets_apart}
-use Rattle.redo_journal.proofs.Writing.{written_more}
+use Rattle.redo_journal.proofs.Entries.{entry_is, in_targets, target_range, targets_apart}
+use Rattle.redo_journal.proofs.Writing.{written_more, written_so}
 use Rattle.redo_journal.proofs.steps.write_targets.Goals as goal
 
 pub write-requires : goal.write-requires
 write-requires g c =
-    let so_far = c.loop-entry.invariant in
-    omega (arith, so_far.adds.size, (target_range _ c.args.entries.now so_far.valid c.loop-entry.entry-index c.loop-entry-test.true).1)
+    let so_far = c.loop-n.invariant in
+    let next = entry_is c.args.batch.now _ _ (length c.loop-n.yielded) c.in-Some.n.now c.in-Some.content.now c.sectors.ensures.sectors c.contents.ensures.contents
+    (zip_turn _ _ c.loop-n.yielded c.into_iter-n-iterator.result c.loop-n.n-iterator c.next.new.self c.next.result (search rules) (search rules) c.loop-n.yielded_by (c.in-Some.n, c.in-Some.content) c.in-Some.is c.next.ensures.steps) in
+    omega (arith, so_far.adds.size, next.1, (target_range _ c.args.batch.now so_far.valid (length c.loop-n.yielded) next.0).1)
 
 pub returns-in_err-write-clause-adds : goal.returns-in_err-write-clause-adds
 returns-in_err-write-clause-adds g c =
-    adds_write c.loop-entry.invariant.adds c.write.ensures.changes (λ k content is same. in_targets c.args.entries.now c.loop-entry.entry-index k content c.loop-entry-test.true is)
+    let next = entry_is c.args.batch.now _ _ (length c.loop-n.yielded) c.in-Some.n.now c.in-Some.content.now c.sectors.ensures.sectors c.contents.ensures.contents
+    (zip_turn _ _ c.loop-n.yielded c.into_iter-n-iterator.result c.loop-n.n-iterator c.next.new.self c.next.result (search rules) (search rules) c.loop-n.yielded_by (c.in-Some.n, c.in-Some.content) c.in-Some.is c.next.ensures.steps) in
+    adds_write c.loop-n.invariant.adds c.write.ensures.changes (λ k content is same. in_targets c.args.batch.now (length c.loop-n.yielded) k content next.0 (is ∙ next.1))
 
 pub returns-in_err-write-clause-any_moment : goal.returns-in_err-write-clause-any_moment
-returns-in_err-write-clause-any_moment g c = goes_on c.loop-entry.invariant.since c.write.ensures.time (image_or (returns-in_err-write-clause-adds g c))
+returns-in_err-write-clause-any_moment g c = goes_on c.loop-n.invariant.since c.write.ensures.time (image_or (returns-in_err-write-clause-adds g c))
 
-pub loop-entry-preserved : goal.loop-entry-preserved
-loop-entry-preserved g c =
-    let so_far = c.loop-entry.invariant in
-    let entries = c.args.entries.now in
-    let i = c.loop-entry.entry-index in
-    let last = g.D.Disk.state c.loop-entry.disk in
+pub loop-n-preserved : goal.loop-n-preserved
+loop-n-preserved g c =
+    let so_far = c.loop-n.invariant in
+    let entries = c.args.batch.now in
+    let i = length c.loop-n.yielded in
+    let next = entry_is entries _ _ i c.in-Some.n.now c.in-Some.content.now c.sectors.ensures.sectors c.contents.ensures.contents
+    (zip_turn _ _ c.loop-n.yielded c.into_iter-n-iterator.result c.loop-n.n-iterator c.next.new.self c.next.result (search rules) (search rules) c.loop-n.yielded_by (c.in-Some.n, c.in-Some.content) c.in-Some.is c.next.ensures.steps) in
+    let last = g.D.Disk.state c.loop-n.disk in
     let after = g.D.Disk.state c.write.new.self in
-    let whole : length last.seen ≡ last.size = (g.met.D.Disk.seen_is_image c.loop-entry.disk).size in
-    let fits : target_at entries i < length last.seen = omega (arith, whole, so_far.adds.size, (target_range _ entries so_far.valid i c.loop-entry-test.true).1) in
-    let adds = adds_write so_far.adds c.write.ensures.changes (λ k content is same. in_targets entries i k content c.loop-entry-test.true is) in
+    let whole : length last.seen ≡ last.size = (g.met.D.Disk.seen_is_image c.loop-n.disk).size in
+    let fits : target_at entries i < length last.seen = omega (arith, whole, so_far.adds.size, (target_range _ entries so_far.valid i next.0).1) in
+    let written : after.seen ≡ set last.seen (target_at entries i) (content_at entries i) = written_so last.seen after.seen c.in-Some.n.now (target_at entries i) c.in-Some.content.now (content_at entries i) c.in_ok-write.ensures.written.seen next.1 next.2 in
+    let adds = adds_write so_far.adds c.write.ensures.changes (λ k content is same. in_targets entries i k content next.0 (is ∙ next.1)) in
     record {
       valid = so_far.valid;
-      written =
-          written_more (target_at entries) (content_at entries) last.seen after.seen i fits c.in_ok-write.ensures.written.seen
-          (λ k lt same. targets_apart entries so_far.valid.apart k i lt c.loop-entry-test.true same) so_far.written;
+      written = λ k lt.
+          written_more (target_at entries) (content_at entries) last.seen after.seen i fits written (λ k lt same. targets_apart entries so_far.valid.apart k i lt next.0 same) so_far.written k
+          (omega (arith, lt, length-append c.loop-n.yielded ((c.in-Some.n, c.in-Some.content) ∷ [])));
       adds = adds;
       since = goes_on so_far.since c.write.ensures.time (image_or adds);
       failures = omega (arith, so_far.failures, c.write.ensures.cause.later);

@@ -7,7 +7,7 @@ pub returns-in-Ok-clause-changed : goal.returns-in-Ok-clause-changed
 returns-in-Ok-clause-changed g c =
     let old = g.D.Disk.state c.self.inside.disk in
     let new = g.D.Disk.state c.seal_batch.new.disk in
-    let after = with_batch c.entries.result.now (data_of old) in
+    let after = with_batch c.args.batch.now (data_of old) in
     let here : SameMap (data_of new) after = (c.in-Ok.ensures.lasting new.seen (g.met.D.Disk.seen_is_image c.seal_batch.new.disk)).reads in
     subst (λ d. SameMap (data_of new) (with_batch c.args.batch.now (data_of (g.D.Disk.state d)))) c.self.view_is
-    (subst (λ es. SameMap (data_of new) (with_batch es (data_of old))) c.entries.ensures.entries here)
+    here

@@ -1,11 +1,26 @@
-use Rattle.std.proofs.Common.{subst, []}
-use Rattle.redo_journal.proofs.Meaning.{rest_reads}
+use Rattle.std.proofs.Common.{subst, [], refl}
 use Rattle.redo_journal.specs.Meaning.{EachReadsAs}
+use Rattle.redo_journal.proofs.Meaning.{rest_reads, reads_same}
+use Rattle.sector_txn.specs.Images.{LeavesOldOr}
 use Rattle.sector_txn.specs.Stores.{present}
 use Rattle.sector_txn.proofs.store.Store.flush.Goals as goal
 
-pub returns-clause-lasting : goal.returns-clause-lasting
+pub returns-in-Ok-clause-images : goal.returns-in-Ok-clause-images
 unfolding present
-returns-clause-lasting g c =
-    subst (λ store. EachReadsAs (present g.D.Disk.state store) (g.D.Disk.state c.self.inside.journal)) c.self.view_is
-    (rest_reads [] (g.D.Disk.state c.self.inside.journal) c.tell_idle.ensures)
+returns-in-Ok-clause-images g c =
+    let state = g.D.Disk.state in
+    subst (λ store. LeavesOldOr (present state store) (state store.disk) (state c.in-Ok.journal)) c.self.view_is c.in-Ok.ensures.images
+
+pub returns-in-Err-clause-images : goal.returns-in-Err-clause-images
+unfolding present
+returns-in-Err-clause-images g c =
+    let state = g.D.Disk.state in
+    subst (λ store. LeavesOldOr (present state store) (state store.disk) (state c.in-Err.broken)) c.self.view_is c.in-Err.ensures.images
+
+pub returns-in-Ok-clause-lasting : goal.returns-in-Ok-clause-lasting
+unfolding present
+returns-in-Ok-clause-lasting g c =
+    let state = g.D.Disk.state in
+    let after = state c.in-Ok.journal in
+    subst (λ store. EachReadsAs (present state store) after) c.self.view_is
+    (λ image is. reads_same after.size after.size _ _ refl c.in-Ok.ensures.changed image (rest_reads [] after c.tell_idle.ensures image is))

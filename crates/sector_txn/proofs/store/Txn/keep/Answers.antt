@@ -1,17 +1,28 @@
-use Rattle.std.proofs.Common.{subst}
+use Rattle.std.proofs.Common.{◌∙◌, subst}
+use Rattle.redo_journal.specs.Batch.{with_batch}
+use Rattle.redo_journal.specs.Meaning.{data_of, SameMap}
+use Rattle.redo_journal.proofs.Meaning.{with_batch_same}
 use Rattle.sector_txn.specs.Images.{LeavesOneOf}
-use Rattle.sector_txn.specs.Stores.{map_before, map_now}
-use Rattle.sector_txn.proofs.Images.{second_map}
+use Rattle.sector_txn.specs.Stores.{map_before, map_now, present}
+use Rattle.sector_txn.proofs.Images.{first_map}
 use Rattle.sector_txn.proofs.store.Txn.keep.Goals as goal
 
+pub returns-in-Ok-clause-map : goal.returns-in-Ok-clause-map
+unfolding present map_now map_before
+returns-in-Ok-clause-map g c =
+    let state = g.D.Disk.state in
+    let after = data_of (state c.in-Ok.journal) in
+    subst (λ txn. SameMap (with_batch c.absorb.new.self after) (map_now state txn)) c.self.view_is
+    (λ n part. c.absorb.ensures.map after n ∙ with_batch_same c.self.inside.delta _ _ n (c.in-Ok.ensures.same n part))
+
 pub returns-in-Ok-clause-images : goal.returns-in-Ok-clause-images
-unfolding map_before map_now
+unfolding map_now map_before
 returns-in-Ok-clause-images g c =
     let state = g.D.Disk.state in
-    subst (λ txn. LeavesOneOf (map_before state txn) (map_now state txn) (state txn.disk) (state c.in-Ok.journal)) c.self.view_is (second_map c.in-Ok.ensures.images)
+    subst (λ txn. LeavesOneOf (map_before state txn) (map_now state txn) (state txn.disk) (state c.in-Ok.journal)) c.self.view_is (first_map c.in-Ok.ensures.images)
 
 pub returns-in-Err-clause-images : goal.returns-in-Err-clause-images
-unfolding map_before map_now
+unfolding map_now map_before
 returns-in-Err-clause-images g c =
     let state = g.D.Disk.state in
-    subst (λ txn. LeavesOneOf (map_before state txn) (map_now state txn) (state txn.disk) (state c.in-Err.broken)) c.self.view_is (second_map c.in-Err.ensures.images)
+    subst (λ txn. LeavesOneOf (map_before state txn) (map_now state txn) (state txn.disk) (state c.in-Err.broken)) c.self.view_is (first_map c.in-Err.ensures.images)

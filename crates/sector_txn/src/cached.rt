@@ -1,0 +1,116 @@
+//! A journal whose sectors are kept in memory once they are read.
+
+ghost use Rattle.std.specs.Prelude.{◌≡◌, ◌<◌, ℕ, length, Ok, IfOk, OnOk};
+ghost use Rattle.redo_journal.specs.Batch.{IsOnDisk, with_batch};
+ghost use Rattle.redo_journal.specs.Meaning.{IsMapped, SameMap, data_of, disk_of};
+ghost use Rattle.redo_journal.specs.States.{IsIdle};
+ghost use Rattle.sector_disk.specs.Disk.{IsSame, Elapses, OnlyReads, HasCause, HasWriteCause};
+ghost use Rattle.sector_txn.specs.Images.{LeavesOldOr};
+
+use crate::clean::CleanSectors;
+use crate::commit::commit;
+use redo_journal::{Batch, Broken, Journal};
+use sector_disk::{CrashDisk, Disk, DiskFault};
+use std::alloc::Global;
+use std::marker::Model;
+
+/// A journal with a cache of its sectors, each as the device reads it. A contract sees it as its disk, as it sees a
+/// journal: of the cache it sees nothing.
+#[derive(Drop)]
+pub(crate) struct CachedJournal<D: Disk> {
+    journal: Journal<D>,
+    clean: CleanSectors,
+}
+
+impl<D: Disk> Model for CachedJournal<D> {
+    ghost use Rattle.redo_journal.specs.Meaning.{data_of};
+    ghost use Rattle.sector_txn.specs.Clean.{IsPartOf};
+
+    ghost Value = { D };
+
+    ghost view = { λ cached. cached.journal };
+
+    ghost invariant = { λ cached. IsPartOf (data_of (D.state cached.journal)) cached.clean };
+}
+
+impl<D: Disk> CachedJournal<D> {
+    /// The journal, with an empty cache.
+    pub(crate) fn new(alloc: Global, journal: Journal<D>) -> CachedJournal<D>
+        ensures { result ≡ journal }
+    {
+        CachedJournal {
+            journal,
+            clean: CleanSectors::new(alloc),
+        }
+    }
+
+    /// Does nothing: its clause tells a caller's proof what is true of each journal.
+    pub(crate) fn tell_idle(&self)
+        ensures { IsIdle (D.state self.now) }
+    {
+        self.journal.tell_idle();
+    }
+
+    /// Reads a sector, from the device or as it was last read there. At `Err` nothing is said of the buffer.
+    pub(crate) fn read(&mut self, n: u32, to: &mut [u8; 512]) -> Result<(), DiskFault>
+        requires part { IsMapped n }
+        requires on_disk { n < (D.state self.old).size }
+        ensures content { OnOk result (to.new ≡ data_of (D.state self.old) n) }
+        ensures same { (m : ℕ) → data_of (D.state self.new) m ≡ data_of (D.state self.old) m }
+        ensures unchanged { IsSame (D.state self.old) (D.state self.new) }
+        ensures reads { OnlyReads (D.state self.old) (D.state self.new) }
+        ensures cause { HasCause (D.state self.old) (D.state self.new) result }
+    {
+        if self.clean.get(n, to) {
+            return Ok(());
+        }
+        self.journal.read(n, to)?;
+        self.clean.put(n, to);
+        Ok(())
+    }
+
+    /// Logs, seals and installs a batch. What the cache has of its sectors is dropped before they are written.
+    pub(crate) fn commit(self, batch: &Batch) -> Result<CachedJournal<D>, Broken<D>>
+        requires { IsOnDisk (D.state self).size batch.now }
+        ensures changed { IfOk result (λ after. SameMap (data_of (D.state after)) (with_batch batch.now (data_of (D.state self)))) }
+        ensures images { LeavesOldOr (with_batch batch.now (data_of (D.state self))) (D.state self) (D.state (disk_of result)) }
+        ensures empty { length batch.now ≡ 0 → result ≡ Ok self }
+        ensures cause { HasCause (D.state self) (D.state (disk_of result)) result }
+        ensures told { HasWriteCause (D.state self) (D.state (disk_of result)) result }
+    {
+        let CachedJournal { journal, mut clean } = self;
+        clean.forget_all(batch.sectors());
+        match commit(journal, batch) {
+            Ok(journal) => Ok(CachedJournal { journal, clean }),
+            Err(broken) => Err(broken),
+        }
+    }
+
+    /// Lets go of what the disk keeps of its past: nothing is said any more of the moments before this one.
+    pub(crate) fn forget(&mut self)
+        ensures unchanged { IsSame (D.state self.old) (D.state self.new) }
+        ensures failures { (D.state self.new).failures ≡ (D.state self.old).failures }
+        ensures failed_writes { (D.state self.new).failed_writes ≡ (D.state self.old).failed_writes }
+    {
+        self.journal.forget();
+    }
+
+    /// The disk.
+    pub(crate) fn into_disk(self) -> D
+        ensures { result ≡ self }
+    {
+        let CachedJournal { journal, clean: _ } = self;
+        journal.into_disk()
+    }
+}
+
+impl<D: CrashDisk> CachedJournal<D> {
+    /// Lets this many writes and syncs of the disk pass, and fails all later ones.
+    pub(crate) fn arm(&mut self, passes: u64)
+        ensures unchanged { IsSame (D.state self.old) (D.state self.new) }
+        ensures time { Elapses (D.state self.old) (D.state self.new) }
+        ensures failures { (D.state self.new).failures ≡ (D.state self.old).failures }
+    {
+        self.journal.arm(passes);
+    }
+}

@@ -1,0 +1,83 @@
+//! Sectors as the device reads them, kept in memory.
+
+ghost use Rattle.std.specs.Prelude.{◌≡◌, ◌≢◌, ◌⊎◌, [], ℕ, List, Contains, IsTrue};
+
+use lru::LruCache;
+use std::alloc::Global;
+use std::marker::Model;
+use std::num::NonZeroUsize;
+
+// How many sectors are kept: those that were read last.
+const SECTORS: usize = 128;
+
+/// A cache of sectors. It has none where it found no memory.
+#[derive(Drop)]
+pub(crate) struct CleanSectors {
+    cache: Option<LruCache<u32, [u8; 512]>>,
+}
+
+impl Model for CleanSectors {
+    ghost use Rattle.std.specs.Prelude.{ℕ, List};
+    ghost use Rattle.sector_txn.specs.Clean.{pairs_of};
+
+    ghost Value = { List (ℕ × List ℕ) };
+
+    ghost view = { λ clean. pairs_of clean.cache };
+}
+
+impl CleanSectors {
+    /// A cache without sectors.
+    pub(crate) fn new(alloc: Global) -> CleanSectors
+        ensures { result ≡ [] }
+    {
+        CleanSectors {
+            cache: LruCache::new(alloc, NonZeroUsize::new(SECTORS).unwrap()).ok(),
+        }
+    }
+
+    /// Reads a sector, if it is there.
+    pub(crate) fn get(&mut self, n: u32, to: &mut [u8; 512]) -> bool
+        ensures found { IsTrue result → Contains self.old (n, to.new) }
+        ensures kept { (pair : ℕ × List ℕ) → Contains self.new pair → Contains self.old pair }
+    {
+        if let Some(cache) = &mut self.cache
+            && let Some(content) = cache.get(&n)
+        {
+            *to = *content;
+            return true;
+        }
+        false
+    }
+
+    /// Keeps a sector's content, memory aside.
+    pub(crate) fn put(&mut self, n: u32, content: &[u8; 512])
+        ensures { (pair : ℕ × List ℕ) → Contains self.new pair → Contains self.old pair ⊎ (pair ≡ (n, content.now)) }
+    {
+        if let Some(cache) = &mut self.cache {
+            let _ = cache.put(n, *content);
+        }
+    }
+
+    /// Drops a sector.
+    pub(crate) fn forget(&mut self, n: u32)
+        ensures kept { (pair : ℕ × List ℕ) → Contains self.new pair → Contains self.old pair }
+        ensures gone { (content : List ℕ) → Contains self.new (n, content) → ⊥ }
+    {
+        // The clause of `len` says that no sector is there twice.
+        if let Some(cache) = &mut self.cache
+            && cache.len() > 0
+        {
+            let _ = cache.pop(&n);
+        }
+    }
+
+    /// Drops these sectors.
+    pub(crate) fn forget_all(&mut self, sectors: &[u32])
+        ensures kept { (pair : ℕ × List ℕ) → Contains self.new pair → Contains self.old pair }
+        ensures gone { (pair : ℕ × List ℕ) → Contains self.new pair → Contains sectors.now pair.0 → ⊥ }
+    {
+        for n in sectors {
+            self.forget(*n);
+        }
+    }
+}
