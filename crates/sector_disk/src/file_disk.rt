@@ -47,7 +47,7 @@ impl From<AllocError> for FileFault {
 #[derive(Drop)]
 pub struct FileDisk<F> {
     // What reads give and what a stop may leave.
-    memory: MemDisk,
+    memory: Box<MemDisk>,
     file: F,
     // From the first of these sectors up to the second the file may lack what reads give.
     behind: u32,
@@ -85,7 +85,7 @@ impl<F: Read + Write + Seek + OpenFile + Drop> FileDisk<F> {
         requires { sectors ≤ 65537 }
         ensures { IfOk result (λ disk. IsFresh (⟦<FileDisk<F> as Disk>⟧.state disk) (replicate sectors (replicate 512 0))) }
     {
-        let memory = MemDisk::new(alloc, sectors)?;
+        let memory = boxed(alloc, MemDisk::new(alloc, sectors)?)?;
         let file = new_file(rt, path, u64::from(sectors) * 512)?;
         Ok(FileDisk {
             memory,
@@ -102,7 +102,7 @@ impl<F: Read + Write + Seek + OpenFile + Drop> FileDisk<F> {
         ensures fault { IfErr result (λ fault. fault ≢ Exists) }
     {
         let mut file = file;
-        let memory = load(alloc, &mut file)?;
+        let memory = boxed(alloc, load(alloc, &mut file)?)?;
         Ok(FileDisk {
             memory,
             file,
@@ -113,7 +113,7 @@ impl<F: Read + Write + Seek + OpenFile + Drop> FileDisk<F> {
 
     // Writes a sector to the file.
     fn store(&mut self, n: u32, content: &[u8; 512]) -> io::Result<()>
-        ensures { self.new.memory ≡ self.old.memory }
+        ensures { self.new.memory.value ≡ self.old.memory.value }
     {
         self.file.seek(SeekFrom::Start(u64::from(n) * 512))?;
         self.file.write_all(content)
@@ -121,7 +121,7 @@ impl<F: Read + Write + Seek + OpenFile + Drop> FileDisk<F> {
 
     // Writes to the file what it may lack.
     fn catch_up(&mut self) -> io::Result<()>
-        ensures { self.new.memory ≡ self.old.memory }
+        ensures { self.new.memory.value ≡ self.old.memory.value }
     {
         for n in self.behind..self.behind_end {
             self.behind = n;
@@ -173,6 +173,13 @@ fn load<F: Read + OpenFile>(alloc: Global, file: &mut F) -> Result<MemDisk, File
     Ok(MemDisk::from_sectors(alloc, sectors)?)
 }
 
+// The disk on the heap: a `FileDisk` is moved often.
+fn boxed(alloc: Global, disk: MemDisk) -> Result<Box<MemDisk>, AllocError>
+    ensures { IfOk result (λ place. place.value ≡ disk) }
+{
+    Ok(Box::new(alloc, disk)?)
+}
+
 // How many sectors of the file a disk has, once it is synced.
 fn synced_sectors<F: OpenFile>(file: &F) -> io::Result<u32>
     ensures { IfOk result (λ count. count ≤ 65537) }
@@ -193,19 +200,19 @@ fn read_sectors<F: Read>(file: &mut F, sectors: &mut [[u8; 512]]) -> io::Result<
 }
 
 impl<F: Read + Write + Seek + OpenFile + Drop> Disk for FileDisk<F> {
-    ghost state = { λ disk. recorded_state disk.memory.history disk.memory.failures };
+    ghost state = { λ disk. recorded_state disk.memory.value.history disk.memory.value.failures };
 
-    ghost size_fits = { λ disk. disk.memory.small };
+    ghost size_fits = { λ disk. disk.memory.value.small };
 
-    ghost failures_fit = { λ disk. disk.memory.counted };
+    ghost failures_fit = { λ disk. disk.memory.value.counted };
 
-    ghost whole_sectors = { λ disk. whole_sectors disk.memory.history disk.memory.whole };
+    ghost whole_sectors = { λ disk. whole_sectors disk.memory.value.history disk.memory.value.whole };
 
-    ghost seen_is_image = { λ disk. seen_is_image disk.memory.history disk.memory.failures };
+    ghost seen_is_image = { λ disk. seen_is_image disk.memory.value.history disk.memory.value.failures };
 
-    ghost counts_now = { λ disk. counts_now disk.memory.history disk.memory.failures };
+    ghost counts_now = { λ disk. counts_now disk.memory.value.history disk.memory.value.failures };
 
-    ghost only_now = { λ disk. only_now disk.memory.history disk.memory.failures };
+    ghost only_now = { λ disk. only_now disk.memory.value.history disk.memory.value.failures };
 
     fn size(&self) -> u32 {
         self.memory.size()

@@ -1,4 +1,11 @@
+use Rattle.std.proofs.Common.{◌≡◌, subst}
+use Rattle.std.specs.Prelude.{OnOk}
+use Rattle.sector_disk.specs.Disk.{sector}
+use Rattle.sector_disk.specs.Record.{recorded_state}
+use Rattle.sector_disk.specs.declared.memory.MemDisk.{MemDisk}
 use Rattle.sector_disk.proofs.file_disk.FileDiskDisk.read.Goals as goal
 
 pub returns-clause-content : goal.returns-clause-content
-returns-clause-content g c = c.read.ensures.content
+returns-clause-content g c =
+    subst (λ (disk : MemDisk). OnOk c.read.result (c.read.new.to ≡ sector (recorded_state disk.history disk.failures).seen c.args.n))
+    c.deref_mut.ensures.value c.read.ensures.content
