@@ -1,78 +1,15 @@
 -- A put into a batch.
-use Rattle.std.proofs.Common.{◌≡◌, ◌≢◌, ℕ, suc, ◌+◌, ◌≤◌, ◌<◌, Bool, true, false, cond, List, [], ◌∷◌, length, eqb, Bor, Option, Some, None, IfSome, IfNone, is_some, unwrap_or, arith, refl, sym, ◌∙◌, ap, subst, inl, inr}
-use Rattle.std.proofs.lemmas.Bool.{cases_Bool, cond_both, cond-true, cond-false, eq-eqb, ne_eqb, eqb-true, eqb-false, true≢false}
+use Rattle.std.proofs.Common.{◌≡◌, ◌≢◌, ℕ, suc, ◌+◌, ◌≤◌, ◌<◌, Bool, true, false, cond, List, [], ◌∷◌, length, eqb, arith, refl, sym, ◌∙◌, ap, subst, inl, inr}
+use Rattle.std.proofs.lemmas.Bool.{cases_Bool, cond_both, cond-true, cond-false, eq-eqb, ne_eqb, eqb-true, eqb-false}
 use Rattle.std.proofs.lemmas.Bool.Decides.{nat_tests, Decides-eqb}
 use Rattle.std.proofs.lemmas.List.Elements.{All-nil, All-cons, All-head, All-tail}
 use Rattle.std.proofs.lemmas.Map.Made.{AllPairs-from_IsDistinct, IsDistinct-from_AllPairs}
 use Rattle.std.specs.Prelude.{All}
 use Rattle.std.specs.List.{AllByRecursion, IsDistinct}
-use Rattle.std.specs.Option.{option_copied}
-use Rattle.std.specs.Map.{lookup, set_value}
-use Rattle.indexmap.specs.IndexMap.{insert_entry}
 use Rattle.fs_layout.specs.Bytes.{SectorMap}
 use Rattle.fs_layout.specs.Changes.{Puts}
 use Rattle.fs_layout.specs.Commit.{AreDistinct}
 use Rattle.redo_journal.specs.Batch.{Entry, targets, put_entry, has_entry, with_batch, IsBatch, IsOnDisk}
-
--- ---- what a look-up finds
-pub has_is : (entries : List Entry) (n : ℕ) → is_some (lookup (eqb n) entries) ≡ has_entry entries n
-has_is [] n = refl
-has_is (e ∷ entries) n =
-    cond_both (eqb n e.0) (Some e.1) (lookup (eqb n) entries) (λ r. is_some r ≡ has_entry (e ∷ entries) n)
-    (λ here. sym (cond-true (eqb n e.0) true (has_entry entries n) here))
-    (λ other. has_is entries n ∙ sym (cond-false (eqb n e.0) true (has_entry entries n) other))
-
-pub with_batch_is : (entries : List Entry) (n : ℕ) (f : SectorMap) → with_batch entries f n ≡ unwrap_or (lookup (eqb n) entries) (f n)
-with_batch_is [] n f = refl
-with_batch_is (e ∷ entries) n f =
-    cond_both (eqb n e.0) (Some e.1) (lookup (eqb n) entries) (λ r. with_batch (e ∷ entries) f n ≡ unwrap_or r (f n))
-    (λ is. cond-true (eqb n e.0) e.1 (with_batch entries f n) is)
-    (λ other. cond-false (eqb n e.0) e.1 (with_batch entries f n) other ∙ with_batch_is entries n f)
-
-pub found_has : (r : Option (Bor (List ℕ))) (entries : List Entry) (n : ℕ) → option_copied r ≡ lookup (eqb n) entries → IfSome r (λ content. has_entry entries n ≡ true)
-found_has (Some content) entries n is = sym (has_is entries n) ∙ sym (ap is_some is)
-found_has None entries n is = tt
-
-pub found_content : (r : Option (Bor (List ℕ))) (entries : List Entry) (n : ℕ) → option_copied r ≡ lookup (eqb n) entries → IfSome r (λ content. (f : SectorMap) → with_batch entries f n ≡ content.now)
-found_content (Some content) entries n is = λ f. with_batch_is entries n f ∙ sym (ap (λ v. unwrap_or v (f n)) is)
-found_content None entries n is = tt
-
-pub none_has : (r : Option (Bor (List ℕ))) (entries : List Entry) (n : ℕ) → option_copied r ≡ lookup (eqb n) entries → IfNone r (has_entry entries n ≡ false)
-none_has (Some content) entries n is = tt
-none_has None entries n is = sym (has_is entries n) ∙ sym (ap is_some is)
-
-pub none_content : (r : Option (Bor (List ℕ))) (entries : List Entry) (n : ℕ) → option_copied r ≡ lookup (eqb n) entries → IfNone r ((f : SectorMap) → with_batch entries f n ≡ f n)
-none_content (Some content) entries n is = tt
-none_content None entries n is = λ f. with_batch_is entries n f ∙ sym (ap (λ v. unwrap_or v (f n)) is)
-
--- ---- the entries after a put
--- a new content for a sector that has one
-pub put_set : (entries : List Entry) (n : ℕ) (content : List ℕ) → has_entry entries n ≡ true → set_value (eqb n) entries content ≡ put_entry entries n content
-put_set [] n content has = absurd (true≢false (sym has))
-put_set (e ∷ entries) n content has = elim (cases_Bool (eqb n e.0)) [
-  | inl here ↦
-      cond-true (eqb n e.0) ((e.0, content) ∷ entries) (e ∷ set_value (eqb n) entries content) here
-      ∙ ap (λ (k : ℕ). (k, content) ∷ entries) (sym (eqb-true n e.0 here))
-      ∙ sym (cond-true (eqb n e.0) ((n, content) ∷ entries) (e ∷ put_entry entries n content) here)
-  | inr there ↦
-      cond-false (eqb n e.0) ((e.0, content) ∷ entries) (e ∷ set_value (eqb n) entries content) there
-      ∙ ap (λ (l : List Entry). e ∷ l) (put_set entries n content (sym (cond-false (eqb n e.0) true (has_entry entries n) there) ∙ has))
-      ∙ sym (cond-false (eqb n e.0) ((n, content) ∷ entries) (e ∷ put_entry entries n content) there)
-]
-
--- a sector more
-pub put_insert : (entries : List Entry) (n : ℕ) (content : List ℕ) → insert_entry eqb entries n content ≡ put_entry entries n content
-put_insert [] n content = refl
-put_insert (e ∷ entries) n content = elim (cases_Bool (eqb n e.0)) [
-  | inl here ↦
-      cond-true (eqb n e.0) ((e.0, content) ∷ entries) (e ∷ insert_entry eqb entries n content) here
-      ∙ ap (λ (k : ℕ). (k, content) ∷ entries) (sym (eqb-true n e.0 here))
-      ∙ sym (cond-true (eqb n e.0) ((n, content) ∷ entries) (e ∷ put_entry entries n content) here)
-  | inr there ↦
-      cond-false (eqb n e.0) ((e.0, content) ∷ entries) (e ∷ insert_entry eqb entries n content) there
-      ∙ ap (λ (l : List Entry). e ∷ l) (put_insert entries n content)
-      ∙ sym (cond-false (eqb n e.0) ((n, content) ∷ entries) (e ∷ put_entry entries n content) there)
-]
 
 -- ---- which other sectors have an entry
 pub has_others : (entries : List Entry) (n m : ℕ) (content : List ℕ) → m ≢ n → has_entry (put_entry entries n content) m ≡ has_entry entries m

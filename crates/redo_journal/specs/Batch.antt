@@ -1,9 +1,11 @@
 -- A batch: sectors, and the contents that they are to have.
 --     targets, contents, target_at, content_at        the sectors of the entries, and their contents
 --     IsBatch, IsOnDisk        what each batch is; and a batch whose sectors a disk has
+--     HasPlaces        sectors and contents of which a batch is made
 --     has_entry, put_entry, with_batch        a batch as a map
 --     added        how many sectors another batch adds
-use Rattle.std.specs.Prelude.{ℕ, ◌<◌, ◌≤◌, Bool, true, false, List, [], ◌∷◌, length, map, All, slice_index_or, if◌then◌else◌, nat_eq, not, count_by}
+use Rattle.std.specs.Prelude.{ℕ, ◌≡◌, ◌<◌, ◌≤◌, ◌+◌, Bool, true, false, List, [], ◌∷◌, length, map, All, slice_index_or, if◌then◌else◌, nat_eq, not, count_by}
+use Rattle.std.specs.List.{zip}
 use Rattle.fs_layout.specs.declared.commit.TheConstants.{MAX_TARGETS}
 use Rattle.fs_layout.specs.declared.place.TheConstants.{INODE_BITMAP}
 use Rattle.fs_layout.specs.Bytes.{SectorMap}
@@ -33,6 +35,13 @@ pub record IsBatch (entries : List Entry) : Type 0 where
 -- a disk of so many sectors has each of them
 abbrev pub IsOnDisk : ℕ → List Entry → Type 0
 IsOnDisk size entries = All (λ t. t < size) (targets entries)
+
+-- sectors, each beside its content, of which there are as many as a commit has sectors; and so many more sectors fit
+pub record HasPlaces (sectors : List ℕ) (contents : List (List ℕ)) (spare : ℕ) : Type 0 where
+  pub batch : IsBatch (zip sectors contents)
+  pub few : length sectors ≤ MAX_TARGETS
+  pub all : length contents ≡ MAX_TARGETS
+  pub room : MAX_TARGETS ≤ length sectors + spare
 
 -- one of the entries is for this sector
 abbrev pub has_entry : List Entry → ℕ → Bool

@@ -1,14 +1,15 @@
 //! Sectors, and the contents that they are to have.
 
-ghost use Rattle.std.specs.Prelude.{◌≡◌, ◌↔◌, ◌≤◌, ◌<◌, ◌+◌, [], ℕ, List, IsTrue, true, false, length, IfOk, IfSome, IfNone, if◌then◌else◌};
+ghost use Rattle.std.specs.Prelude.{◌≡◌, ◌↔◌, ◌≤◌, ◌<◌, ◌+◌, [], ℕ, List, IsTrue, true, false, length, IfOk, IfSome, IfNone, if◌then◌else◌, nat_eq};
 ghost use Rattle.fs_layout.specs.declared.commit.TheConstants.{MAX_TARGETS};
 ghost use Rattle.fs_layout.specs.declared.place.TheConstants.{INODE_BITMAP};
 ghost use Rattle.fs_layout.specs.Bytes.{SectorMap};
 ghost use Rattle.fs_layout.specs.Changes.{Puts};
+ghost use Rattle.indexmap.specs.IndexSet.{contains, index_set_len, insert_index, insert_key, spare};
 ghost use Rattle.redo_journal.specs.Batch.{IsBatch, IsOnDisk, targets, contents, added, put_entry, has_entry, with_batch};
 
 use fs_layout::MAX_TARGETS;
-use indexmap::IndexMap;
+use indexmap::IndexSet;
 use std::alloc::{AllocError, Global};
 use std::marker::Model;
 
@@ -18,20 +19,43 @@ use std::marker::Model;
 /// reserved once: no later call takes any. A contract sees it as the list of its entries, in that order.
 #[derive(Drop)]
 pub struct Batch {
-    by_sector: IndexMap<u32, [u8; 512]>,
+    // The sectors, each with its place in the log.
+    sectors: IndexSet<u32>,
+
+    // What they are to have, in that order; behind them stands what is no part of the batch. It always has `MAX_TARGETS` of
+    // these, so that a put copies its content once.
+    contents: Vec<[u8; 512]>,
 }
 
 impl Model for Batch {
-    ghost use Rattle.std.specs.Prelude.{◌≤◌, ◌+◌, ℕ, List};
-    ghost use Rattle.fs_layout.specs.declared.commit.TheConstants.{MAX_TARGETS};
-    ghost use Rattle.indexmap.specs.IndexMap.{index_map_len, spare};
-    ghost use Rattle.redo_journal.specs.Batch.{IsBatch};
+    ghost use Rattle.std.specs.Prelude.{ℕ, List};
+    ghost use Rattle.std.specs.List.{zip};
+    ghost use Rattle.indexmap.specs.IndexSet.{spare};
+    ghost use Rattle.redo_journal.specs.Batch.{HasPlaces};
 
     ghost Value = { List (ℕ × List ℕ) };
 
-    ghost view = { λ b. b.by_sector.entries };
+    ghost view = { λ b. zip b.sectors.keys b.contents.items };
 
-    ghost invariant = { λ b. IsBatch b.by_sector.entries × (MAX_TARGETS ≤ index_map_len b.by_sector + spare b.by_sector) };
+    ghost invariant = { λ b. HasPlaces b.sectors.keys b.contents.items (spare b.sectors) };
+}
+
+// The sector's place: the one that it has, or else the next one, which it then has. A sector that is there is not inserted
+// again, since that might take from the room.
+fn place_of(sectors: &mut IndexSet<u32>, n: u32) -> usize
+    requires room { contains nat_eq sectors.old n ≡ false → 0 < spare sectors.old }
+    ensures place { result ≡ insert_index nat_eq sectors.old n }
+    ensures within { result < index_set_len sectors.new }
+    ensures sectors { sectors.new.keys ≡ insert_key nat_eq sectors.old.keys n }
+    ensures room { index_set_len sectors.old + spare sectors.old ≤ index_set_len sectors.new + spare sectors.new }
+{
+    match sectors.get_index_of(&n) {
+        Some(at) => at,
+        None => match sectors.insert_full(n) {
+            Ok((at, _)) => at,
+            Err(_) => unreachable!(),
+        },
+    }
 }
 
 impl Batch {
@@ -40,9 +64,10 @@ impl Batch {
         ensures empty { IfOk result (λ batch. batch ≡ []) }
         ensures on_disk { IfOk result (λ batch. (size : ℕ) → IsOnDisk size batch) }
     {
-        Ok(Batch {
-            by_sector: IndexMap::with_capacity(alloc, MAX_TARGETS)?,
-        })
+        let sectors = IndexSet::with_capacity(alloc, MAX_TARGETS)?;
+        let mut contents = Vec::with_capacity(alloc, MAX_TARGETS)?;
+        contents.resize(MAX_TARGETS, [0; 512])?;
+        Ok(Batch { sectors, contents })
     }
 
     /// Sets the content for a sector. A new sector goes last.
@@ -54,15 +79,8 @@ impl Batch {
         ensures len { length self.new ≡ (if has_entry self.old n then length self.old else length self.old + 1) }
         ensures on_disk { (size : ℕ) → n < size → IsOnDisk size self.old → IsOnDisk size self.new }
     {
-        match self.by_sector.get_mut(&n) {
-            Some(content) => {
-                *content = *from;
-            }
-            None => match self.by_sector.insert(n, *from) {
-                Ok(_) => {}
-                Err(_) => unreachable!(),
-            },
-        }
+        let at = place_of(&mut self.sectors, n);
+        self.contents[at] = *from;
     }
 
     /// The content for a sector, if the batch has one.
@@ -72,14 +90,19 @@ impl Batch {
         ensures none { IfNone result (has_entry self.now n ≡ false) }
         ensures other { IfNone result ((sectors : SectorMap) → with_batch self.now sectors n ≡ sectors n) }
     {
-        self.by_sector.get(&n)
+        // No hash is needed where nothing was put.
+        if self.is_empty() {
+            return None;
+        }
+        let at = self.sectors.get_index_of(&n)?;
+        Some(&self.contents[at])
     }
 
     // It has a content for the sector.
     fn has(&self, n: u32) -> bool
         ensures { result ≡ has_entry self.now n }
     {
-        self.by_sector.contains_key(&n)
+        self.sectors.contains(&n)
     }
 
     /// How many sectors it has.
@@ -87,14 +110,14 @@ impl Batch {
         ensures len { result ≡ length self.now }
         ensures batch { IsBatch self.now }
     {
-        self.by_sector.len()
+        self.sectors.len()
     }
 
     /// It has no sectors.
     pub fn is_empty(&self) -> bool
         ensures { IsTrue result ↔ (self.now ≡ []) }
     {
-        self.by_sector.is_empty()
+        self.sectors.is_empty()
     }
 
     /// Takes all sectors out. The memory stays reserved.
@@ -102,7 +125,7 @@ impl Batch {
         ensures empty { self.new ≡ [] }
         ensures on_disk { (size : ℕ) → IsOnDisk size self.new }
     {
-        self.by_sector.clear();
+        self.sectors.clear();
     }
 
     /// The sectors, in the order of the log.
@@ -110,7 +133,7 @@ impl Batch {
         ensures sectors { result.now ≡ targets self.now }
         ensures batch { IsBatch self.now }
     {
-        self.by_sector.keys().as_slice()
+        self.sectors.as_slice()
     }
 
     /// The sectors' contents, in the order of the log.
@@ -118,7 +141,7 @@ impl Batch {
         ensures contents { result.now ≡ contents self.now }
         ensures batch { IsBatch self.now }
     {
-        self.by_sector.values().as_slice()
+        &self.contents[..self.sectors.len()]
     }
 
     /// How many of the other's sectors this batch doesn't have.

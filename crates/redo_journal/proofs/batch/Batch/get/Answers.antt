@@ -1,16 +1,38 @@
-use Rattle.std.proofs.Common.{◌∙◌, eqb, ap}
-use Rattle.std.specs.Map.{lookup}
-use Rattle.redo_journal.proofs.Puts.{found_content, found_has, none_content, none_has}
+use Rattle.std.proofs.Common.{◌≡◌, ◌∙◌, List, true, false, eqb, ap, sym, subst}
+use Rattle.std.proofs.lemmas.List.Quantifiers.{position-Some}
+use Rattle.std.specs.Prelude.{IfNone}
+use Rattle.std.specs.List.{list_any}
+use Rattle.fs_layout.specs.Bytes.{SectorMap}
+use Rattle.redo_journal.specs.Batch.{Entry, has_entry, with_batch}
+use Rattle.redo_journal.proofs.Places.{fits_places, has_is, with_batch_at, with_batch_none}
 use Rattle.redo_journal.proofs.batch.Batch.get.Goals as goal
 
+no_entry : (c : goal.After-from_residual) → has_entry c.args.self.now c.args.n ≡ false
+no_entry c =
+    let ns = c.self.inside.sectors.keys in
+    let bytes = c.self.inside.contents.items in
+    let none : list_any (eqb c.args.n) ns ≡ false = sym c.in_err-at.ensures.found in
+    sym (ap (λ (es : List Entry). has_entry es c.args.n) c.self.view_is) ∙ sym (has_is ns bytes c.args.n (fits_places ns bytes _ c.self.invariant)) ∙ none
+
+pub returns-in_err-at-clause-none : goal.returns-in_err-at-clause-none
+returns-in_err-at-clause-none c = subst (λ r. IfNone r (has_entry c.args.self.now c.args.n ≡ false)) (sym c.from_residual.ensures) (no_entry c)
+
+pub returns-in_err-at-clause-other : goal.returns-in_err-at-clause-other
+returns-in_err-at-clause-other c =
+    subst (λ r. IfNone r ((f : SectorMap) → with_batch c.args.self.now f c.args.n ≡ f c.args.n)) (sym c.from_residual.ensures)
+    (λ f. with_batch_none c.args.self.now c.args.n f (no_entry c))
+
 pub returns-clause-found : goal.returns-clause-found
-returns-clause-found c = found_has c.get.result c.args.self.now c.args.n (c.get.ensures.value ∙ ap (lookup (eqb c.args.n)) c.self.view_is)
+returns-clause-found c =
+    let ns = c.self.inside.sectors.keys in
+    let bytes = c.self.inside.contents.items in
+    let has : list_any (eqb c.args.n) ns ≡ true = sym c.in_ok-at.ensures.found in
+    sym (ap (λ (es : List Entry). has_entry es c.args.n) c.self.view_is) ∙ sym (has_is ns bytes c.args.n (fits_places ns bytes _ c.self.invariant)) ∙ has
 
 pub returns-clause-content : goal.returns-clause-content
-returns-clause-content c = found_content c.get.result c.args.self.now c.args.n (c.get.ensures.value ∙ ap (lookup (eqb c.args.n)) c.self.view_is)
-
-pub returns-clause-none : goal.returns-clause-none
-returns-clause-none c = none_has c.get.result c.args.self.now c.args.n (c.get.ensures.value ∙ ap (lookup (eqb c.args.n)) c.self.view_is)
-
-pub returns-clause-other : goal.returns-clause-other
-returns-clause-other c = none_content c.get.result c.args.self.now c.args.n (c.get.ensures.value ∙ ap (lookup (eqb c.args.n)) c.self.view_is)
+returns-clause-content c = λ f.
+    let ns = c.self.inside.sectors.keys in
+    let bytes = c.self.inside.contents.items in
+    let place = position-Some (eqb c.args.n) ns c.in_ok-at.at 0 (sym c.in_ok-at.ensures.index) in
+    sym (ap (λ (es : List Entry). with_batch es f c.args.n) c.self.view_is)
+    ∙ with_batch_at ns bytes c.args.n c.in_ok-at.at c.index.result.now f (fits_places ns bytes _ c.self.invariant) place ∙ sym c.index.ensures
