@@ -1,15 +1,16 @@
 -- Sectors that are kept as the device reads them.
 --     pairs_of        what a cache has
 --     IsPartOf        each of the contents is what a map has
-use Rattle.std.specs.Prelude.{◌≡◌, ℕ, List, [], Contains, Option, Some, None}
+use Rattle.std.specs.Prelude.{◌≡◌, ℕ, List, [], Contains, Option, Some, None, Box}
+use Rattle.std.specs.Global.{Global}
 use Rattle.lru.specs.LruCache.{LruCache}
 use Rattle.fs_layout.specs.Bytes.{SectorMap}
 use Rattle.redo_journal.specs.Meaning.{IsMapped}
 
 -- the sectors of a cache with their contents
-abbrev pub pairs_of : Option (LruCache ℕ (List ℕ)) → List (ℕ × List ℕ)
+abbrev pub pairs_of : Option (Box (LruCache ℕ (List ℕ)) Global) → List (ℕ × List ℕ)
 pairs_of None = []
-pairs_of (Some cache) = cache.entries
+pairs_of (Some cache) = cache.value.entries
 
 -- each of the contents is what the map has there
 abbrev pub IsPartOf : SectorMap → List (ℕ × List ℕ) → Type 0

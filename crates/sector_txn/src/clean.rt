@@ -1,9 +1,9 @@
 //! Sectors as the device reads them, kept in memory.
 
-ghost use Rattle.std.specs.Prelude.{◌≡◌, ◌≢◌, ◌⊎◌, [], ℕ, List, Contains, IsTrue};
+ghost use Rattle.std.specs.Prelude.{◌≡◌, ◌≢◌, ◌⊎◌, [], ℕ, List, Contains, IsTrue, IfOk};
 
 use lru::LruCache;
-use std::alloc::Global;
+use std::alloc::{AllocError, Global};
 use std::marker::Model;
 use std::num::NonZeroUsize;
 
@@ -13,7 +13,7 @@ const SECTORS: usize = 128;
 /// A cache of sectors. It has none where it found no memory.
 #[derive(Drop)]
 pub(crate) struct CleanSectors {
-    cache: Option<LruCache<u32, [u8; 512]>>,
+    cache: Option<Box<LruCache<u32, [u8; 512]>>>,
 }
 
 impl Model for CleanSectors {
@@ -31,7 +31,7 @@ impl CleanSectors {
         ensures { result ≡ [] }
     {
         CleanSectors {
-            cache: LruCache::new(alloc, NonZeroUsize::new(SECTORS).unwrap()).ok(),
+            cache: empty_cache(alloc).ok(),
         }
     }
 
@@ -80,4 +80,12 @@ impl CleanSectors {
             self.forget(*n);
         }
     }
+}
+
+// A cache without sectors, which may come to have so many.
+fn empty_cache(alloc: Global) -> Result<Box<LruCache<u32, [u8; 512]>>, AllocError>
+    ensures { IfOk result (λ cache. cache.value.entries ≡ []) }
+{
+    let cache = LruCache::new(alloc, NonZeroUsize::new(SECTORS).unwrap())?;
+    Ok(Box::new(alloc, cache)?)
 }

@@ -1,6 +1,6 @@
 //! The three steps of a commit in a row, and when a commit is due.
 
-ghost use Rattle.std.specs.Prelude.{◌≡◌, ◌≤◌, ◌+◌, ℕ, length, Ok, IfOk};
+ghost use Rattle.std.specs.Prelude.{◌≡◌, ◌≤◌, ◌+◌, ◌↔◌, ℕ, length, Ok, IfOk, IsTrue};
 ghost use Rattle.fs_layout.specs.declared.commit.TheConstants.{MAX_TARGETS};
 ghost use Rattle.redo_journal.specs.Batch.{IsOnDisk, with_batch, added};
 ghost use Rattle.redo_journal.specs.Meaning.{SameMap, data_of, disk_of};
@@ -38,6 +38,15 @@ pub(crate) fn commit<D: Disk>(journal: Journal<D>, batch: &Batch) -> Result<Jour
     }
 }
 
+// Whether the changes fit beside what waits. Nothing is looked up where they would if all their sectors were new.
+fn fits(waiting: &Batch, delta: &Batch) -> bool
+    ensures fits { IsTrue result ↔ (length waiting.now + added waiting.now delta.now ≤ MAX_TARGETS) }
+    ensures empty { length delta.now ≡ 0 → IsTrue result }
+{
+    waiting.len() + delta.len() <= MAX_TARGETS
+        || waiting.len() + waiting.added_by(delta) <= MAX_TARGETS
+}
+
 /// Commits what waits, where the changes wouldn't fit beside it: all of it, before they are kept.
 pub(crate) fn commit_if_full<D: Disk>(
     journal: CachedJournal<D>,
@@ -61,7 +70,7 @@ pub(crate) fn commit_if_full<D: Disk>(
     ensures cause { HasCause (D.state journal) (D.state (disk_of result)) result }
     ensures told { HasWriteCause (D.state journal) (D.state (disk_of result)) result }
 {
-    if waiting.len() + waiting.added_by(delta) <= MAX_TARGETS {
+    if fits(waiting, delta) {
         return Ok(journal);
     }
     match journal.commit(waiting) {

@@ -26,9 +26,9 @@ const DELTA: usize = 64;
 pub struct Store<D: Disk> {
     journal: CachedJournal<D>,
     // What was kept since the last commit.
-    waiting: Batch,
+    waiting: Box<Batch>,
     // No sectors: its memory serves one transaction after another.
-    delta: Batch,
+    delta: Box<Batch>,
 }
 
 impl<D: Disk> Model for Store<D> {
@@ -38,17 +38,17 @@ impl<D: Disk> Model for Store<D> {
 
     ghost Value = { StoreView D };
 
-    ghost view = { λ store. record { disk = store.journal; waiting = store.waiting } };
+    ghost view = { λ store. record { disk = store.journal; waiting = store.waiting.value } };
 
-    ghost invariant = { λ store. (store.delta ≡ []) × IsOnDisk (D.state store.journal).size store.waiting };
+    ghost invariant = { λ store. (store.delta.value ≡ []) × IsOnDisk (D.state store.journal).size store.waiting.value };
 }
 
 /// One call's changes to a store, at most 64 sectors. Either [`Txn::keep`] or [`Txn::drop_delta`] has to be called.
 #[must_use = "its changes are to be kept or dropped"]
 pub struct Txn<D: Disk> {
     journal: CachedJournal<D>,
-    waiting: Batch,
-    delta: Batch,
+    waiting: Box<Batch>,
+    delta: Box<Batch>,
 }
 
 impl<D: Disk> Model for Txn<D> {
@@ -57,9 +57,9 @@ impl<D: Disk> Model for Txn<D> {
 
     ghost Value = { TxnView D };
 
-    ghost view = { λ txn. record { disk = txn.journal; waiting = txn.waiting; delta = txn.delta } };
+    ghost view = { λ txn. record { disk = txn.journal; waiting = txn.waiting.value; delta = txn.delta.value } };
 
-    ghost invariant = { λ txn. IsTxn (D.state txn.journal) txn.delta × IsOnDisk (D.state txn.journal).size txn.waiting };
+    ghost invariant = { λ txn. IsTxn (D.state txn.journal) txn.delta.value × IsOnDisk (D.state txn.journal).size txn.waiting.value };
 }
 
 impl<D: Disk> Store<D> {
@@ -252,8 +252,10 @@ impl<D: Disk> Sectors for Txn<D> {
 }
 
 // The memory of the sectors that wait, and of a transaction's.
-fn reserved(alloc: Global) -> Result<(Batch, Batch), AllocError>
-    ensures { IfOk result (λ batches. (batches.0 ≡ []) × (batches.1 ≡ [])) }
+fn reserved(alloc: Global) -> Result<(Box<Batch>, Box<Batch>), AllocError>
+    ensures { IfOk result (λ batches. (batches.0.value ≡ []) × (batches.1.value ≡ [])) }
 {
-    Ok((Batch::new(alloc)?, Batch::new(alloc)?))
+    let waiting = Box::new(alloc, Batch::new(alloc)?)?;
+    let delta = Box::new(alloc, Batch::new(alloc)?)?;
+    Ok((waiting, delta))
 }

@@ -1,5 +1,6 @@
 use Rattle.std.proofs.Common.{subst, [], refl}
-use Rattle.redo_journal.specs.Meaning.{EachReadsAs}
+use Rattle.redo_journal.specs.Batch.{with_batch}
+use Rattle.redo_journal.specs.Meaning.{EachReadsAs, data_of}
 use Rattle.redo_journal.proofs.Meaning.{rest_reads, reads_same}
 use Rattle.sector_txn.specs.Images.{LeavesOldOr}
 use Rattle.sector_txn.specs.Stores.{present}
@@ -9,13 +10,17 @@ pub returns-in-Ok-clause-images : goal.returns-in-Ok-clause-images
 unfolding present
 returns-in-Ok-clause-images g c =
     let state = g.D.Disk.state in
-    subst (λ store. LeavesOldOr (present state store) (state store.disk) (state c.in-Ok.journal)) c.self.view_is c.in-Ok.ensures.images
+    let before = state c.self.inside.journal in
+    subst (λ store. LeavesOldOr (present state store) (state store.disk) (state c.in-Ok.journal)) c.self.view_is
+    (subst (λ entries. LeavesOldOr (with_batch entries (data_of before)) before (state c.in-Ok.journal)) c.deref.ensures c.in-Ok.ensures.images)
 
 pub returns-in-Err-clause-images : goal.returns-in-Err-clause-images
 unfolding present
 returns-in-Err-clause-images g c =
     let state = g.D.Disk.state in
-    subst (λ store. LeavesOldOr (present state store) (state store.disk) (state c.in-Err.broken)) c.self.view_is c.in-Err.ensures.images
+    let before = state c.self.inside.journal in
+    subst (λ store. LeavesOldOr (present state store) (state store.disk) (state c.in-Err.broken)) c.self.view_is
+    (subst (λ entries. LeavesOldOr (with_batch entries (data_of before)) before (state c.in-Err.broken)) c.deref.ensures c.in-Err.ensures.images)
 
 pub returns-in-Ok-clause-lasting : goal.returns-in-Ok-clause-lasting
 unfolding present
@@ -23,4 +28,5 @@ returns-in-Ok-clause-lasting g c =
     let state = g.D.Disk.state in
     let after = state c.in-Ok.journal in
     subst (λ store. EachReadsAs (present state store) after) c.self.view_is
-    (λ image is. reads_same after.size after.size _ _ refl c.in-Ok.ensures.changed image (rest_reads [] after c.tell_idle.ensures image is))
+    (subst (λ entries. EachReadsAs (with_batch entries (data_of (state c.self.inside.journal))) after) c.deref.ensures
+    (λ image is. reads_same after.size after.size _ _ refl c.in-Ok.ensures.changed image (rest_reads [] after c.tell_idle.ensures image is)))

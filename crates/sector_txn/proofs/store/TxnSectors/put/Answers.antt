@@ -1,4 +1,4 @@
-use Rattle.std.proofs.Common.{sym, subst, false, length, ◌≡◌, ◌-◌, ◌<◌}
+use Rattle.std.proofs.Common.{sym, subst, false, length, ◌≡◌, ◌-◌, ◌<◌, ◌≤◌}
 use Rattle.redo_journal.specs.Batch.{has_entry}
 use Rattle.sector_txn.specs.Sectors.{IsPut}
 use Rattle.sector_txn.specs.Stores.{txn_state}
@@ -8,6 +8,13 @@ use Rattle.sector_txn.proofs.store.TxnSectors.put.Goals as goal
 pub returns : goal.returns
 returns g c =
     let inside = c.self.inside in
-    let room = subst (λ t. has_entry t.delta c.args.n ≡ false → 0 < 64 - length t.delta) (sym c.self.view_is) c.requires.room in
-    subst (λ t. IsPut c.args.n c.args.from.now (txn_state g.D.Disk.state t) (txn_state g.D.Disk.state record { disk = inside.journal; waiting = inside.waiting; delta = c.put.new.self })) c.self.view_is
-    (delta_put g.D.Disk.state inside.journal inside.waiting inside.delta c.put.new.self c.args.n c.args.from.now c.self.invariant.0.few room c.put.ensures.put c.put.ensures.map c.put.ensures.len)
+    let state = g.D.Disk.state in
+    let n = c.args.n in
+    let content = c.args.from.now in
+    let room = subst (λ t. has_entry t.delta n ≡ false → 0 < 64 - length t.delta) (sym c.self.view_is) c.requires.room in
+    let after = txn_state state record { disk = inside.journal; waiting = inside.waiting.value; delta = c.put.new.self } in
+    subst (λ t. IsPut n content (txn_state state t) after) c.self.view_is
+    (subst (λ delta. length delta ≤ 64 → (has_entry delta n ≡ false → 0 < 64 - length delta)
+    → IsPut n content (txn_state state record { disk = inside.journal; waiting = inside.waiting.value; delta = delta }) after) c.deref_mut.ensures.value
+    (λ few free. delta_put state inside.journal inside.waiting.value c.deref_mut.result.now c.put.new.self n content few free c.put.ensures.put c.put.ensures.map c.put.ensures.len)
+    c.self.invariant.0.few room)
