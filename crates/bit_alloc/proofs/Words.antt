@@ -14,7 +14,7 @@ use Rattle.fs_layout.specs.Bytes.{IsBytes, IsSector, u64_of}
 use Rattle.fs_layout.proofs.Small.{u64_small}
 use Rattle.bit_alloc.specs.Bits.{AreSet, HasFullWords, IsLeastClear, clear_below}
 use Rattle.fs_layout.specs.Images.{bit}
-use Rattle.bit_alloc.proofs.Counting.{one_if, count_cons, count_same, count_both, count_split, count_moved}
+use Rattle.bit_alloc.proofs.Counting.{one_if, count_cons, count_same, count_both, count_split, count_moved, count_at_most}
 
 -- bit j of a number of n bytes is one of byte j / 8
 pub number_bit : (xs : List ℕ) → IsBytes xs → (n i j : ℕ) → j < 8 * n → bit_at (little_from i n xs) j ≡ bit_at (get_or xs (i + j / 8) 0) (j % 8)
@@ -65,6 +65,10 @@ ones_counted (suc k) n lt =
     count_same _ _ 0 k (λ j from to. let one : 1 + j ≡ suc j = omega arith in ap (λ (m : ℕ). nat_eq (bit_at n m) 1) one ∙ ap (λ (m : ℕ). nat_eq m 1) (bit_at-suc n j)) in
     let lowest : one_if (f 0) ≡ n % 2 = bit_as_number (bit_at n 0) (bit_at-lt n 0) ∙ bit_at_lowest n in
     omega (arith, ones_step n, rest, next, lowest, count_cons f 0 k, count_moved f 1 0 k)
+
+-- no more than it has bits
+pub ones_few : (k n : ℕ) → n < 2 ^ k → count_ones n ≤ k
+ones_few k n lt = omega (arith, ones_counted k n lt, count_at_most (λ j. nat_eq (bit_at n j) 1) 0 k)
 
 -- one word more of a sector is counted
 pub word_counted : (s : List ℕ) → IsSector s → (k m : ℕ) → m ≡ 64 → k < 64

@@ -64,15 +64,31 @@ pub fn first_clear(sector: &[u8; 512]) -> Option<u32>
     None
 }
 
-// How many bits are clear: all but those that are set in the words.
-pub(crate) fn count_clear(sector: &[u8; 512]) -> u32
-    ensures { result ≡ clear_below (λ _. sector.now) 0 4096 }
+// How many bits of the words from word 8 k on are clear, in as many words as a vector has.
+fn clear_in(sector: &[u8; 512], k: u32) -> u32
+    requires { k < 8 }
+    ensures { clear_below (λ _. sector.now) 0 (512 * k + 512) ≡ clear_below (λ _. sector.now) 0 (512 * k) + result }
 {
     let mut set = 0;
-    for k in 0..WORDS {
-        set += word(sector, k).count_ones();
+    for i in LANES * k..LANES * k + LANES {
+        set += word(sector, i).count_ones();
     }
-    64 * WORDS - set
+    64 * LANES - set
+}
+
+// How many bits are clear, or so many of them that `enough` is reached.
+pub(crate) fn count_clear_up_to(sector: &[u8; 512], enough: u32) -> u32
+    ensures some { result ≤ clear_below (λ _. sector.now) 0 4096 }
+    ensures all { result < enough → result ≡ clear_below (λ _. sector.now) 0 4096 }
+{
+    let mut free = 0;
+    for k in 0..WORDS / LANES {
+        if free >= enough {
+            return free;
+        }
+        free += clear_in(sector, k);
+    }
+    free
 }
 
 // The byte with bit i set or clear.

@@ -8,7 +8,7 @@ ghost use Rattle.sector_txn.specs.Sectors.{IsUnchanged};
 ghost use Rattle.bit_alloc.specs.Bitmaps.{first_sector, bit_count, free_numbers, HasBitmaps};
 
 use crate::Bitmap;
-use crate::bits::{count_clear, has_bit};
+use crate::bits::{count_clear_up_to, has_bit};
 use fs_layout::Place;
 use sector_disk::DiskFault;
 use sector_txn::Sectors;
@@ -68,7 +68,7 @@ fn count_up_to<S: Sectors>(
             return Ok(free);
         }
         s.get(map.first() + k, &mut sector)?;
-        free += count_clear(&sector);
+        free += count_clear_up_to(&sector, enough - free);
     }
     Ok(free)
 }

@@ -8,11 +8,9 @@ use Rattle.bit_alloc.proofs.Maps.{none_counted, sector_counted, counted_at_most,
 use Rattle.bit_alloc.proofs.counts.count_up_to.Goals as goal
 
 pub loop-k-init : goal.loop-k-init
-loop-k-init g c = record {
-  same = unchanged_nothing;
-  counted = sym (none_counted (g.S.Sectors.state c.args.s.now).sectors (first_sector c.args.map));
-  few = omega arith;
-}
+loop-k-init g c =
+    let none = none_counted (g.S.Sectors.state c.args.s.now).sectors (first_sector c.args.map) in
+    record { same = unchanged_nothing; some = omega arith; all = λ less. sym none }
 
 pub loop-k-preserved : goal.loop-k-preserved
 loop-k-preserved g c =
@@ -23,22 +21,24 @@ loop-k-preserved g c =
     let here : sector ≡ image (start + c.loop-k.k) =
     c.in_ok-get.ensures.content ∙ so_far.same.sectors (c.first.result + c.loop-k.k) ∙ ap (λ (n : ℕ). image (n + c.loop-k.k)) c.first.ensures in
     let next : 4096 * c.loop-k.k + 4096 ≡ 4096 * (c.loop-k.k + 1) = omega arith in
-    let more : clear_below image start (4096 * c.loop-k.k + 4096) ≡ clear_below image start (4096 * c.loop-k.k) + clear_below (λ _. sector) 0 4096 =
-    sector_counted image start c.loop-k.k 4096 sector here (omega arith) in
+    let more : clear_below image start (4096 * (c.loop-k.k + 1)) ≡ clear_below image start (4096 * c.loop-k.k) + clear_below (λ _. sector) 0 4096 =
+    ap (clear_below image start) (sym next) ∙ sector_counted image start c.loop-k.k 4096 sector here (omega arith) in
+    let before : c.loop-k.free ≡ clear_below image start (4096 * c.loop-k.k) = so_far.all (omega arith) in
     record {
       same = unchanged_joined so_far.same c.in_ok-get.ensures.same;
-      counted = ap (λ (n : ℕ). n + c.count_clear-free.result) so_far.counted ∙ ap (λ (n : ℕ). clear_below image start (4096 * c.loop-k.k) + n) c.count_clear-free.ensures
-          ∙ sym more ∙ ap (clear_below image start) next;
-      few = omega (arith, so_far.few, c.count_clear-free.ensures, counted_at_most (λ _. sector) 0 4096);
+      some = omega (arith, before, more, c.count_clear_up_to-free.ensures.some);
+      all = λ less. let rest = c.count_clear_up_to-free.ensures.all (omega (arith, less)) in omega (arith, before, more, rest);
     }
 
 pub overflow_add-free : goal.overflow_add-free
 overflow_add-free g c =
+    let image : SectorMap = (g.S.Sectors.state c.args.s.now).sectors in
     let sector : List ℕ = c.get.new.to in
     omega (
       arith,
-      c.loop-k.invariant.few,
-      c.count_clear-free.ensures,
+      c.loop-k.invariant.some,
+      counted_at_most image (first_sector c.args.map) (4096 * c.loop-k.k),
+      c.count_clear_up_to-free.ensures.some,
       counted_at_most (λ _. sector) 0 4096,
       c.loop-k-test.true,
       c.sectors-k-end.ensures,
@@ -53,7 +53,7 @@ returns-then-free-enough-clause-some g c =
     let within : 4096 * c.loop-k.k ≤ bit_count c.args.place c.args.map = omega (arith, c.loop-k-test.true, c.sectors-k-end.ensures) in
     omega (
       arith,
-      c.loop-k.invariant.counted,
+      c.loop-k.invariant.some,
       fewer_counted image start (4096 * c.loop-k.k) (bit_count c.args.place c.args.map) within,
       numbers_counted c.args.place c.args.map image c.requires.place c.requires.rest,
     )
@@ -66,7 +66,7 @@ returns-clause-some g c =
     let within : 4096 * c.loop-k.k ≤ bit_count c.args.place c.args.map = omega (arith, c.loop-k.auto.k-end, c.sectors-k-end.ensures) in
     omega (
       arith,
-      c.loop-k.invariant.counted,
+      c.loop-k.invariant.some,
       fewer_counted image start (4096 * c.loop-k.k) (bit_count c.args.place c.args.map) within,
       numbers_counted c.args.place c.args.map image c.requires.place c.requires.rest,
     )
@@ -77,4 +77,4 @@ returns-clause-all g c = λ less.
     let start : ℕ = first_sector c.args.map in
     let all : 4096 * c.loop-k.k ≡ bit_count c.args.place c.args.map = omega (arith, c.loop-k.auto.k-end, c.loop-k-test.false, c.sectors-k-end.ensures) in
     let end : clear_below image start (4096 * c.loop-k.k) ≡ clear_below image start (bit_count c.args.place c.args.map) = ap (clear_below image start) all in
-    omega (arith, c.loop-k.invariant.counted, end, numbers_counted c.args.place c.args.map image c.requires.place c.requires.rest)
+    omega (arith, c.loop-k.invariant.all less, end, numbers_counted c.args.place c.args.map image c.requires.place c.requires.rest)

@@ -1,4 +1,4 @@
-use Rattle.std.proofs.Common.{◌≡◌, ◌*◌, ◌≤◌}
+use Rattle.std.proofs.Common.{◌≡◌, ◌*◌, ◌<◌, ◌≤◌}
 use Rattle.sector_txn.specs.Sectors.{IsUnchanged}
 use Rattle.bit_alloc.specs.Bits.{clear_below}
 use Rattle.bit_alloc.specs.Bitmaps.{first_sector}
@@ -7,6 +7,6 @@ use Rattle.bit_alloc.proofs.counts.count_up_to.Given as goal
 abbrev pub invariant-loop-k : goal.invariant-loop-k
 invariant-loop-k g l = record {
   same : IsUnchanged (g.S.Sectors.state l.initial.s) (g.S.Sectors.state l.s);
-  counted : l.free ≡ clear_below (g.S.Sectors.state l.initial.s).sectors (first_sector l.map) (4096 * l.k);
-  few : l.free ≤ 4096 * l.k;
+  some : l.free ≤ clear_below (g.S.Sectors.state l.initial.s).sectors (first_sector l.map) (4096 * l.k);
+  all : l.free < l.enough → l.free ≡ clear_below (g.S.Sectors.state l.initial.s).sectors (first_sector l.map) (4096 * l.k);
 }
