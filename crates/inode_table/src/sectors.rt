@@ -46,9 +46,10 @@ pub(crate) fn kept_content(acl: &Acl) -> Option<[u8; 512]>
     ensures content { result ≡ option_map acl_content (kept_acl acl.now) }
     ensures valid { IsAcl acl.now }
 {
-    let content = sector_of(acl);
+    // That the list is valid is said with its entries.
+    let _entries = acl.entries();
     if acl.is_extended() {
-        Some(content)
+        Some(sector_of(acl))
     } else {
         None
     }
