@@ -73,6 +73,19 @@ hole_given {p} {v} {first} {k} {old} {new} g none = record {
   free = g.free;
 }
 
+-- nor have blocks past the last that the inode can have
+pub rest_given : {p : Place} {v : Inode} {first k : ℕ} {old new : TxnState} → GivesBlocks p v first k old new → (end : ℕ) → k ≤ end
+    → ((j : ℕ) → k ≤ j → pointer old.sectors v j ≡ 0) → GivesBlocks p v first end old new
+rest_given {p} {v} {first} {k} {old} {new} g end le none = record {
+  tables = g.tables;
+  others = g.others;
+  cleared = λ j low high some. elim (cases_lt j k) [ inl lt ↦ g.cleared j low lt some | inr ge ↦ absurd (some (none j ge)) ];
+  released = λ s few set clear. let w = g.released s few set clear in (w.0, w.1, omega (arith, w.2, le), w.3, w.4);
+  set = g.set;
+  puts = g.puts;
+  free = g.free;
+}
+
 -- a block more
 pub block_given : {p : Place} {v : Inode} {first k n : ℕ} {old mid new : TxnState} → IsOwnedApart p old.sectors v → GivesBlocks p v first k old mid → first ≤ k
     → pointer old.sectors v k ≡ n → n ≢ 0 → n < map_bits p → GivesNumber p BlockMap n mid.sectors new.sectors → HasBitmaps p new → PutsOnly (λ t. t ≡ sector_of BlockMap n) (bitmaps p) 0 mid new

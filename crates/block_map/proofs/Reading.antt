@@ -28,6 +28,13 @@ byte_of_block image v offset i k at s is lt e =
     sym (ap (λ (j : ℕ). byte_in image (pointer image v j) ((offset + i) % 512)) block ∙ ap (λ (t : ℕ). byte_in image t ((offset + i) % 512)) e
     ∙ ap (byte_in image s) inside)
 
+-- a whole block
+pub block_read : (image : SectorMap) (v : Inode) (piece : List ℕ) (k s : ℕ) → s ≡ pointer image v k → ((i : ℕ) → get_or piece i 0 ≡ byte_in image s i)
+    → (i : ℕ) → i < 512 → get_or piece i 0 ≡ byte_at image v (512 * k + i)
+block_read image v piece k s is bytes i lt =
+    let there : i ≡ 0 + i = omega arith in
+    bytes i ∙ ap (byte_in image s) there ∙ byte_of_block image v (512 * k) i k 0 s (omega arith) (omega (arith, lt)) (sym is)
+
 -- a piece more is read, from one block
 pub more_read : {image : SectorMap} {v : Inode} {offset done : ℕ} {old to : List ℕ} → IsReadSoFar image v offset old to done
     → (piece : List ℕ) (len k at s seen : ℕ) → length piece ≡ len → done + len ≤ length to → offset + done ≡ 512 * k + at → at + len ≤ 512

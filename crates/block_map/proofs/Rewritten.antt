@@ -1,8 +1,9 @@
 -- A part of a sector is written, and a sector is filled.
-use Rattle.std.proofs.Common.{◌≡◌, ℕ, ◌-◌, ◌≤◌, List, ◌++◌, length, take, drop, replicate, refl, ap, subst, ◌∙◌, Result, Ok, Err}
+use Rattle.std.proofs.Common.{◌≡◌, ℕ, ◌+◌, ◌-◌, ◌≤◌, List, [], ◌++◌, length, take, drop, replicate, refl, sym, ap, subst, ◌∙◌, arith, Result, Ok, Err}
+use Rattle.std.proofs.lemmas.List.{append-nil, drop_all}
 use Rattle.fs_layout.specs.Bytes.{SectorMap, splice, zeros}
 use Rattle.fs_layout.specs.Changes.{Puts}
-use Rattle.fs_layout.proofs.Writes.{part_is_splice, put_is_splice}
+use Rattle.fs_layout.proofs.Writes.{length-zeros, part_is_splice, put_is_splice}
 use Rattle.std.specs.Prelude.{IsErr, IsErrAnd}
 use Rattle.bit_alloc.specs.declared.bitmap.TakeFault.{TakeFault}
 use Rattle.bit_alloc.specs.declared.bitmap.TakeFault.TheVariants as take
@@ -23,6 +24,13 @@ rewritten {old} {n = n} {k} {block} {piece} {x} at is same e wide put = record {
 pub filled : {k : ℕ} {piece x : List ℕ} (at : ℕ) → piece ≡ x → k ≡ length x → put_mid at k (replicate 512 0) piece ≡ splice (zeros 512) at x
 unfolding zeros
 filled {k} {piece} {x} at e wide = part_is_splice (replicate 512 0) piece x at k (length x) refl e wide
+
+-- zeros are written as a whole
+pub filled_whole : (at : ℕ) (x : List ℕ) → length x ≡ 512 → at ≡ 0 → x ≡ splice (zeros 512) at x
+unfolding splice
+filled_whole at x long first =
+    let rest : drop (0 + length x) (zeros 512) ≡ [] = drop_all (0 + length x) (zeros 512) (omega (arith, long, length-zeros 512)) in
+    sym (ap (λ (n : ℕ). splice (zeros 512) n x) first ∙ ap (λ (r : List ℕ). x ++ r) rest ∙ append-nil x)
 
 -- a number is written at an offset of a list of known length
 pub number_put : (size : ℕ) (s new x : List ℕ) (offset n : ℕ) → length s ≡ size → length x ≡ n → new ≡ x ++ drop n (take (size - offset) (drop offset s)) → offset ≤ size

@@ -1,9 +1,9 @@
 //! The blocks of an inode.
 
-ghost use Rattle.std.specs.Prelude.{◌≡◌, ◌≢◌, ◌≤◌, ◌<◌, ◌+◌, ◌-◌, ◌*◌, ℕ, length, get_or, false, IfOk, OnOk};
+ghost use Rattle.std.specs.Prelude.{◌≡◌, ◌≢◌, ◌≤◌, ◌<◌, ◌+◌, ◌-◌, ◌*◌, ℕ, length, get_or, false, OnOk};
 ghost use Rattle.sector_disk.specs.Disk.{HasCause};
-ghost use Rattle.fs_layout.specs.Bytes.{u32_of, splice, le32};
-ghost use Rattle.fs_layout.specs.Images.{byte_in, byte_at};
+ghost use Rattle.fs_layout.specs.Bytes.{SectorMap, u32_of, splice, le32, zeros};
+ghost use Rattle.fs_layout.specs.Images.{byte_in, byte_at, pointer};
 ghost use Rattle.sector_txn.specs.Sectors.{IsUnchanged, IsPut};
 
 use byteorder::{ByteOrder, LittleEndian};
@@ -23,7 +23,7 @@ pub(crate) const MOST: u64 = 140;
 pub struct Blocks {
     /// The inode.
     pub inode: Inode,
-    /// Its sector of pointers; zeros where it has none, or where no block that is asked for needs it.
+    /// Its sector of pointers; zeros before [`Blocks::load`], where it has none, or where no block that is asked for needs it.
     pub pointers: [u8; 512],
 }
 
@@ -44,22 +44,21 @@ fn write_pointer(pointers: &mut [u8; 512], i: usize, number: u32)
 impl Blocks {
     ghost use Rattle.block_map.specs.Blocks.{IsWithin, IsLoaded, number_in};
 
-    /// Reads the sector of pointers if a block below `end` may need it.
-    pub fn load<S: Sectors>(s: &mut S, inode: &Inode, end: u64) -> Result<Blocks, DiskFault>
-        requires within { IsWithin (S.state s.old).disk.size (S.state s.old).sectors inode.now }
-        ensures inode { IfOk result (λ b. b.inode ≡ inode.now) }
-        ensures pointers { IfOk result (λ b. IsLoaded (S.state s.old).sectors b end) }
+    /// Reads the sector of pointers if a block below `end` may need it. They are zeros before.
+    ///
+    /// At `Err` nothing is said of the pointers.
+    pub fn load<S: Sectors>(&mut self, s: &mut S, end: u64) -> Result<(), DiskFault>
+        requires within { IsWithin (S.state s.old).disk.size (S.state s.old).sectors self.old.inode }
+        requires unread { self.old.pointers ≡ zeros 512 }
+        ensures inode { self.new.inode ≡ self.old.inode }
+        ensures pointers { OnOk result (IsLoaded (S.state s.old).sectors self.new end) }
         ensures same { IsUnchanged (S.state s.old) (S.state s.new) }
         ensures cause { HasCause (S.state s.old).disk (S.state s.new).disk result }
     {
-        let mut pointers = [0; 512];
-        if inode.indirect != 0 && DIRECT < end {
-            s.get(inode.indirect, &mut pointers)?;
+        if self.inode.indirect != 0 && DIRECT < end {
+            s.get(self.inode.indirect, &mut self.pointers)?;
         }
-        Ok(Blocks {
-            inode: *inode,
-            pointers,
-        })
+        Ok(())
     }
 
     /// The sector of a block; 0 for a hole.
@@ -76,6 +75,18 @@ impl Blocks {
         }
     }
 
+    /// Where the blocks end that the inode can have, by whether it has a sector of pointers.
+    pub(crate) fn end(&self) -> u64
+        ensures most { result ≤ 140 }
+        ensures past { (image : SectorMap) → (k : ℕ) → result ≤ k → pointer image self.now.inode k ≡ 0 }
+    {
+        if self.inode.indirect == 0 {
+            DIRECT
+        } else {
+            MOST
+        }
+    }
+
     /// Reads block `k`, one below the end that was named to [`Blocks::load`]; a hole reads as zeros.
     ///
     /// At `Err` nothing is said of `to`.
@@ -86,7 +97,12 @@ impl Blocks {
         ensures same { IsUnchanged (S.state s.old) (S.state s.new) }
         ensures cause { HasCause (S.state s.old).disk (S.state s.new).disk result }
     {
-        read_block(s, self.number(k), 0, to)?;
+        let number = self.number(k);
+        if number == 0 {
+            to.fill(0);
+            return Ok(());
+        }
+        s.get(number, to)?;
         Ok(())
     }
 
@@ -119,6 +135,11 @@ pub(crate) fn read_block<S: Sectors>(
 {
     if number == 0 {
         to.fill(0);
+        return Ok(());
+    }
+    // A whole block is read into its place.
+    if let Some(whole) = to.as_mut_array() {
+        s.get(number, whole)?;
         return Ok(());
     }
     let mut block = [0; BLOCK];

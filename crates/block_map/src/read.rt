@@ -29,7 +29,11 @@ pub fn read_at<S: Sectors>(
 {
     let count = to.len().min(inode.size.saturating_sub(offset) as usize);
     let end = offset + count as u64;
-    let blocks = Blocks::load(s, inode, end.div_ceil(BLOCK as u64))?;
+    let mut blocks = Blocks {
+        inode: *inode,
+        pointers: [0; BLOCK],
+    };
+    blocks.load(s, end.div_ceil(BLOCK as u64))?;
     let mut done = 0;
     while done < count {
         let next = offset + done as u64;

@@ -11,7 +11,7 @@ ghost use Rattle.block_map.specs.Contents.{AllowsSize, ChangesContent};
 ghost use Rattle.block_map.specs.Drops.{GivesBlocks, GivesAll};
 ghost use Rattle.block_map.specs.Steps.{MayChange};
 
-use crate::blocks::{Blocks, MOST};
+use crate::blocks::{BLOCK, Blocks, MOST};
 use bit_alloc::{Bitmap, give};
 use fs_layout::{Inode, Place};
 use inode_table::write_inode;
@@ -33,7 +33,8 @@ pub(crate) fn give_blocks<S: Sectors>(
     ensures store { SameStore (S.state s.old) (S.state s.new) }
     ensures cause { HasCause (S.state s.old).disk (S.state s.new).disk result }
 {
-    for k in first..MOST {
+    let end = blocks.end();
+    for k in first..end {
         let number = blocks.number(k);
         if number != 0 {
             give(s, place, Bitmap::Blocks, number)?;
@@ -50,7 +51,11 @@ pub(crate) fn give_all<S: Sectors>(s: &mut S, place: Place, inode: &Inode) -> Re
     ensures store { SameStore (S.state s.old) (S.state s.new) }
     ensures cause { HasCause (S.state s.old).disk (S.state s.new).disk result }
 {
-    let blocks = Blocks::load(s, inode, MOST)?;
+    let mut blocks = Blocks {
+        inode: *inode,
+        pointers: [0; BLOCK],
+    };
+    blocks.load(s, MOST)?;
     give_blocks(s, place, &blocks, 0)?;
     if inode.indirect != 0 {
         give(s, place, Bitmap::Blocks, inode.indirect)?;

@@ -121,7 +121,11 @@ fn resize<S: Sectors>(
         inode.size = size;
         return Ok(());
     }
-    let mut blocks = Blocks::load(s, inode, MOST)?;
+    let mut blocks = Blocks {
+        inode: *inode,
+        pointers: [0; BLOCK],
+    };
+    blocks.load(s, MOST)?;
     clear_tail(s, place, &blocks, size)?;
     drop_blocks(s, place, &mut blocks, size.div_ceil(BLOCK as u64))?;
     blocks.inode.size = size;

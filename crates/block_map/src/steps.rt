@@ -1,7 +1,7 @@
 //! Steps of a change: what an inode owns changes, and the inode isn't saved yet.
 
 ghost use Rattle.std.specs.Prelude.{◌≡◌, ◌≢◌, ◌≤◌, ◌<◌, ◌+◌, ◌*◌, ℕ, [], length, false, true, Err, IfOk, IfErr, OnOk, OnErr};
-ghost use Rattle.fs_layout.specs.Bytes.{SectorMap, IsSector, splice};
+ghost use Rattle.fs_layout.specs.Bytes.{SectorMap, IsSector, splice, zeros};
 ghost use Rattle.fs_layout.specs.Images.{pointer, free_sectors};
 ghost use Rattle.fs_layout.specs.Changes.{Puts, Allocates};
 ghost use Rattle.sector_disk.specs.Disk.{HasCause};
@@ -66,6 +66,37 @@ pub(crate) fn take_sector<S: Sectors>(
     Ok(number)
 }
 
+// Takes a sector, and writes bytes into it, from `at` on, with zeros before and after them.
+fn take_block<S: Sectors>(
+    s: &mut S,
+    place: Place,
+    at: usize,
+    bytes: &[u8],
+) -> Result<u32, TakeFault>
+    requires bitmaps { HasBitmaps place (S.state s.old) }
+    requires fits { at + length bytes.now ≤ 512 }
+    requires room { HasSpare place 1 (S.state s.old) }
+    ensures taken { IfOk result (λ n. (bits : SectorMap)
+        × Allocates place n (splice (zeros 512) at bytes.now) (S.state s.old).sectors bits (S.state s.new).sectors) }
+    ensures free { OnOk result (free_sectors place (S.state s.old).sectors ≡ free_sectors place (S.state s.new).sectors + 1) }
+    ensures has { IfOk result (λ n. (S.state s.new).has_put n ≡ true) }
+    ensures puts { OnOk result (PutsOnly (IsStepSector place) (bitmaps place) 1 (S.state s.old) (S.state s.new)) }
+    ensures bitmaps { OnOk result (HasBitmaps place (S.state s.new)) }
+    ensures full { IfErr result (λ e. e ≡ TakeFault.Full → free_sectors place (S.state s.old).sectors ≡ 0) }
+    ensures store { SameStore (S.state s.old) (S.state s.new) }
+    ensures cause { HasCauseOf TakeFault.DiskFault (S.state s.old).disk (S.state s.new).disk result }
+{
+    // A whole block is written from its place.
+    if let Some(whole) = bytes.as_array() {
+        let number = take_sector(s, place, whole)?;
+        return Ok(number);
+    }
+    let mut content = [0; BLOCK];
+    (&mut content[at..at + bytes.len()]).copy_from_slice(bytes);
+    let number = take_sector(s, place, &content)?;
+    Ok(number)
+}
+
 /// Writes bytes into block k, from `at` on. A hole takes a sector.
 pub(crate) fn write_block<S: Sectors>(
     s: &mut S,
@@ -93,9 +124,7 @@ pub(crate) fn write_block<S: Sectors>(
         rewrite(s, number, at, bytes)?;
         return Ok(());
     }
-    let mut content = [0; BLOCK];
-    (&mut content[at..at + bytes.len()]).copy_from_slice(bytes);
-    let number = take_sector(s, place, &content)?;
+    let number = take_block(s, place, at, bytes)?;
     if k < DIRECT {
         blocks.inode.direct[k as usize] = number;
     } else {

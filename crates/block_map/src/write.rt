@@ -91,7 +91,11 @@ pub fn write_at<S: Sectors>(
         return Err(MapFault::TooBig);
     }
     let end = offset + bytes.len() as u64;
-    let mut blocks = Blocks::load(s, inode, end.div_ceil(BLOCK as u64))?;
+    let mut blocks = Blocks {
+        inode: *inode,
+        pointers: [0; BLOCK],
+    };
+    blocks.load(s, end.div_ceil(BLOCK as u64))?;
     blocks.inode.size = inode.size.max(end);
     write_blocks(s, place, &mut blocks, offset, bytes)?;
     write_inode(s, place, n, &blocks.inode)?;
@@ -126,7 +130,11 @@ pub fn overwrite<S: Sectors>(
     ensures cause { HasCause (S.state s.old).disk (S.state s.new).disk result }
 {
     let block = offset / BLOCK as u64;
-    let blocks = Blocks::load(s, inode, block + 1)?;
+    let mut blocks = Blocks {
+        inode: *inode,
+        pointers: [0; BLOCK],
+    };
+    blocks.load(s, block + 1)?;
     let at = (offset % BLOCK as u64) as usize;
     rewrite(s, blocks.number(block), at, bytes)?;
     Ok(())

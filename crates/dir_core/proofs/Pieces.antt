@@ -68,6 +68,25 @@ module _ (block : List ℕ) (at : ℕ) (x : NamedInode) (is : IsSlotAt block at 
   pub length_there : get_or block (at + 4) 0 ≡ length x.name
   length_there = byte_there 4 (omega arith) ∙ length_first x
 
+  -- a byte of its name
+  pub name_byte : (i : ℕ) → i < length x.name → get_or block (at + 8 + i) 0 ≡ get_or x.name i 0
+  name_byte i lt =
+      let short = is.0.name.short in
+      ap (λ n. get_or block n 0) (let e : at + 8 + i ≡ at + (8 + i) = omega arith in e)
+      ∙ byte_there (8 + i) (omega (arith, lt, short))
+      ∙ named_then x i
+      ∙ get_or_append_left x.name (zeros (120 - length x.name)) 0 i lt
+
+  -- the last one, where the name is known
+  pub last_byte : (name : List ℕ) → x.name ≡ name → get_or block (at + 7 + length name) 0 ≡ get_or name (length name - 1) 0
+  last_byte name same =
+      let some = is.0.name.not_empty in
+      let long : length x.name ≡ length name = ap length same in
+      let place : at + 7 + length name ≡ at + 8 + (length name - 1) = omega (arith, some, long) in
+      ap (λ n. get_or block n 0) place
+      ∙ name_byte (length name - 1) (omega (arith, some, long))
+      ∙ ap (λ (s : List ℕ). get_or s (length name - 1) 0) same
+
   -- its name
   pub name_there : at + 128 ≤ length block → window block (at + 8) (length x.name) ≡ x.name
   name_there room =
@@ -77,10 +96,7 @@ module _ (block : List ℕ) (at : ℕ) (x : NamedInode) (is : IsSlotAt block at 
       let below : i < length x.name = omega (arith, lt, part) in
       get_or-take (length x.name) (drop (at + 8) block) i 0 below
       ∙ get_or-drop (at + 8) block i 0
-      ∙ ap (λ n. get_or block n 0) (let e : at + 8 + i ≡ at + (8 + i) = omega arith in e)
-      ∙ byte_there (8 + i) (omega (arith, below, short))
-      ∙ named_then x i
-      ∙ get_or_append_left x.name (zeros (120 - length x.name)) 0 i below)
+      ∙ name_byte i below)
 
   -- its inode
   pub inode_there : u32_of block at ≡ x.inode

@@ -27,16 +27,21 @@ pub(crate) struct FoundSlot {
     pub(crate) inode: u32,
 }
 
-// Whether the slot at `at` has the name. The length is compared first.
+// Whether the slot at `at` has the name. The length is compared first, and then the last byte, since names of one directory
+// often begin alike.
 fn is_named(block: &[u8; 512], at: usize, name: &[u8]) -> bool
     requires within { at + 128 ≤ 512 }
-    requires short { length name.now ≤ 120 }
+    requires len { (0 < length name.now) × (length name.now ≤ 120) }
     ensures { (x : NamedInode) → IsSlotAt block.now at x → (IsTrue result ↔ (x.name ≡ name.now)) }
 {
-    if block[at + 4] as usize != name.len() {
+    let len = name.len();
+    if block[at + 4] as usize != len {
         return false;
     }
-    &block[at + 8..at + 8 + name.len()] == name
+    if block[at + 7 + len] != name[len - 1] {
+        return false;
+    }
+    &block[at + 8..at + 8 + len] == name
 }
 
 // The inode of the slot at `at`.
@@ -80,11 +85,18 @@ pub(crate) fn find_slot<S: Sectors>(
     ensures same { IsUnchanged (S.state s.old) (S.state s.new) }
     ensures cause { HasCause (S.state s.old).disk (S.state s.new).disk result }
 {
+    if name.is_empty() {
+        return Ok(None);
+    }
     if MAX_NAME < name.len() {
         return Ok(None);
     }
     let slots = inode.size / SLOT as u64;
-    let blocks = Blocks::load(s, inode, slots.div_ceil(SLOTS))?;
+    let mut blocks = Blocks {
+        inode: *inode,
+        pointers: [0; 512],
+    };
+    blocks.load(s, slots.div_ceil(SLOTS))?;
     let mut block = [0; 512];
     for slot in 0..slots {
         read_block_of(s, &blocks, slot, &mut block)?;

@@ -29,7 +29,11 @@ fn read_slots<S: Sectors>(alloc: Global, s: &mut S, inode: &Inode) -> Result<Vec
 {
     let count = inode.size / SLOT as u64;
     let mut slots = Vec::with_capacity(alloc, count as usize)?;
-    let blocks = Blocks::load(s, inode, count.div_ceil(SLOTS))?;
+    let mut blocks = Blocks {
+        inode: *inode,
+        pointers: [0; 512],
+    };
+    blocks.load(s, count.div_ceil(SLOTS))?;
     let mut block = [0; 512];
     for k in 0..count {
         read_block_of(s, &blocks, k, &mut block)?;

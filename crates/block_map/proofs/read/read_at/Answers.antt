@@ -1,4 +1,5 @@
 use Rattle.std.proofs.Common.{◌≡◌, ◌≤◌, ◌<◌, ◌+◌, ◌-◌, ◌/◌, ◌%◌, refl, sym, ap, subst, ◌∙◌, length, take, drop, arith}
+use Rattle.fs_layout.specs.Bytes.{zeros}
 use Rattle.std.specs.Prelude.{min}
 use Rattle.std.proofs.lemmas.List.{length-take-le, length-drop}
 use Rattle.fs_layout.specs.Images.{pointer, byte_in}
@@ -8,12 +9,19 @@ use Rattle.block_map.proofs.Runs.{unchanged_joined, same_map}
 use Rattle.block_map.proofs.Reading.{more_read, none_read, all_read}
 use Rattle.block_map.proofs.read.read_at.Goals as goal
 
+pub load-requires-clause-unread : goal.load-requires-clause-unread
+unfolding zeros
+load-requires-clause-unread g c = refl
+
+pub load-requires-clause-within : goal.load-requires-clause-within
+load-requires-clause-within g c = c.requires.within
+
 pub read_block-requires-clause-within : goal.read_block-requires-clause-within
 read_block-requires-clause-within g c =
     let old = g.S.Sectors.state c.args.s.now in
     let k = (c.args.offset + c.loop-done.done) / 512 in
-    let loaded = c.in_ok-blocks.ensures.pointers in
-    let within : IsWithin old.disk.size old.sectors c.in_ok-blocks.blocks.inode = subst (λ v. IsWithin old.disk.size old.sectors v) (sym c.in_ok-blocks.ensures.inode) c.requires.within in
+    let loaded = c.in_ok-load.ensures.pointers in
+    let within : IsWithin old.disk.size old.sectors c.load.new.self.inode = subst (λ v. IsWithin old.disk.size old.sectors v) (sym c.in_ok-load.ensures.inode) c.requires.within in
     let below : k < c.div_ceil.result = omega arith in
     λ some.
     let w = number_within loaded within k below (λ e. some (c.number.ensures ∙ e)) in
@@ -22,7 +30,7 @@ read_block-requires-clause-within g c =
 pub loop-done-init : goal.loop-done-init
 loop-done-init g c = record {
   few = omega arith;
-  same = c.in_ok-blocks.ensures.same;
+  same = c.in_ok-load.ensures.same;
   read = none_read (g.S.Sectors.state c.args.s.now).sectors c.args.inode.now c.args.offset c.args.to.now;
 }
 
@@ -38,7 +46,7 @@ loop-done-preserved g c =
     length-take-le (c.loop-done.done + len - c.loop-done.done) (drop c.loop-done.done c.loop-done.to) (omega (arith, length-drop c.loop-done.done c.loop-done.to, room)) ∙ omega arith in
     let below : k < c.div_ceil.result = omega arith in
     let is : c.number.result ≡ pointer old.sectors c.args.inode.now k =
-    c.number.ensures ∙ number_is c.in_ok-blocks.ensures.pointers k below ∙ ap (λ v. pointer old.sectors v k) c.in_ok-blocks.ensures.inode in
+    c.number.ensures ∙ number_is c.in_ok-load.ensures.pointers k below ∙ ap (λ v. pointer old.sectors v k) c.in_ok-load.ensures.inode in
     let same : mid.sectors ≡ old.sectors = same_map old.sectors mid.sectors c.loop-done.invariant.same.sectors in
     record {
       few = omega arith;

@@ -5,5 +5,6 @@ use Rattle.block_map.proofs.release.give_blocks.Given as goal
 abbrev pub invariant-loop-k : goal.invariant-loop-k
 invariant-loop-k g l = record {
   from : l.first ≤ l.k;
+  most : l.k ≤ 140;
   given : GivesBlocks l.place l.blocks.inode l.first l.k (g.S.Sectors.state l.fn.s) (g.S.Sectors.state l.s);
 }

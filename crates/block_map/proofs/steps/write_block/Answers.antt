@@ -9,7 +9,7 @@ use Rattle.bit_alloc.specs.Room.{bitmaps}
 use Rattle.block_map.specs.declared.blocks.Blocks.{Blocks}
 use Rattle.block_map.specs.Steps.{IsStepSector, WritesBlock}
 use Rattle.block_map.proofs.Numbers.{number_is}
-use Rattle.block_map.proofs.Rewritten.{filled, was_full}
+use Rattle.block_map.proofs.Rewritten.{was_full}
 use Rattle.block_map.proofs.Rooms.{puts_beside}
 use Rattle.block_map.proofs.Writings.{writes_block_there, writes_direct_block, writes_entry_block}
 use Rattle.block_map.proofs.steps.write_block.Goals as goal
@@ -65,7 +65,7 @@ returns-then-k-lt-DIRECT-clause-written g c =
     let old = g.S.Sectors.state c.args.s.now in
     let v = c.args.blocks.now.inode in
     let none : pointer old.sectors v c.args.k ≡ 0 = sym (number_is c.requires.loaded c.args.k (omega arith)) ∙ sym c.number-number.ensures ∙ c.if-number-ne0.false in
-    writes_direct_block c.requires.may none c.requires.fits.0 (filled c.args.at c.copy_from_slice.ensures.after (omega arith)) c.requires.fits.1 c.requires.inside
+    writes_direct_block c.requires.may none c.requires.fits.0 refl c.requires.fits.1 c.requires.inside
     c.in_ok-number.ensures.taken.1 c.in_ok-number.ensures.free c.in_ok-number.ensures.bitmaps (puts_beside c.in_ok-number.ensures.puts v.indirect) c.if-k-lt-DIRECT.true
 
 pub returns-else-k-lt-DIRECT-clause-written : goal.returns-else-k-lt-DIRECT-clause-written
@@ -83,6 +83,6 @@ returns-else-k-lt-DIRECT-clause-written g c =
     let first : Contains (u ∷ bitmaps p) u = (0, omega arith, refl) in
     let puts = changes_put_shared {R = IsStepSector p} (puts_beside c.in_ok-number.ensures.puts u) c.put_pointer.ensures.put (inr (d.0, d.1)) first in
     subst (λ (r : Blocks). WritesBlock p c.args.k c.args.at c.args.bytes.now old new b r) (sym is)
-    (writes_entry_block c.requires.may none c.requires.fits.0 (filled c.args.at c.copy_from_slice.ensures.after (omega arith)) c.requires.fits.1 c.requires.inside
+    (writes_entry_block c.requires.may none c.requires.fits.0 refl c.requires.fits.1 c.requires.inside
     c.in_ok-number.ensures.taken.1 c.in_ok-number.ensures.free c.in_ok-number.ensures.bitmaps c.if-k-lt-DIRECT.false c.requires.pointers.0 has
     (c.requires.loaded.is has (omega arith)) c.put_pointer.ensures.pointers c.put_pointer.ensures.put.sectors c.put_pointer.ensures.put.store puts)

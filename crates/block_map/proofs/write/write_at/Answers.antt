@@ -1,4 +1,5 @@
-use Rattle.std.proofs.Common.{◌≡◌, ◌+◌, length, sym, ap, subst, ◌∙◌, arith, Err}
+use Rattle.std.proofs.Common.{refl, ◌≡◌, ◌+◌, length, sym, ap, subst, ◌∙◌, arith, Err}
+use Rattle.fs_layout.specs.Bytes.{zeros}
 use Rattle.fs_layout.specs.declared.inode.Inode.{Inode}
 use Rattle.sector_txn.proofs.Changes.{store_joined}
 use Rattle.bit_alloc.proofs.Transactions.{spare_unchanged}
@@ -13,8 +14,13 @@ use Rattle.block_map.specs.Contents.{AllowsSize}
 use Rattle.block_map.proofs.Saving.{IsEnded}
 use Rattle.block_map.proofs.write.write_at.Goals as goal
 
-pub load-requires : goal.load-requires
-load-requires g c = record { within = may_within (may_change (max c.args.inode.now.size (c.args.offset + length c.args.bytes.now)) c.requires.sound c.requires.below c.requires.inode c.requires.size) }
+pub load-requires-clause-unread : goal.load-requires-clause-unread
+unfolding zeros
+load-requires-clause-unread g c = refl
+
+pub load-requires-clause-within : goal.load-requires-clause-within
+load-requires-clause-within g c =
+    (may_within (may_change (max c.args.inode.now.size (c.args.offset + length c.args.bytes.now)) c.requires.sound c.requires.below c.requires.inode c.requires.size))
 
 pub write_blocks-requires-clause-may : goal.write_blocks-requires-clause-may
 write_blocks-requires-clause-may g c =
@@ -24,8 +30,8 @@ write_blocks-requires-clause-may g c =
     let is : m ≡ max v.size (c.args.offset + length c.args.bytes.now) = c.max-blocks.ensures in
     let allowed : AllowsSize v.kind m = subst (AllowsSize v.kind) (sym is) c.requires.size in
     let may : MayChange c.args.place old v = may_change m c.requires.sound c.requires.below c.requires.inode allowed in
-    subst (λ (u : Inode). MayChange c.args.place (g.S.Sectors.state c.load.new.s) (record u { size = m })) (sym c.in_ok-blocks.ensures.inode)
-    (may_after may (sized m may c.in_ok-blocks.ensures.same allowed (limit_at c.max-blocks.result v.size c.args.offset (length c.args.bytes.now) c.max-blocks.ensures c.if-offset-bytes.false c.requires.few (size_limit c.max-blocks.result c.requires.sound c.requires.below c.requires.inode allowed))))
+    subst (λ (u : Inode). MayChange c.args.place (g.S.Sectors.state c.load.new.s) (record u { size = m })) (sym c.in_ok-load.ensures.inode)
+    (may_after may (sized m may c.in_ok-load.ensures.same allowed (limit_at c.max-blocks.result v.size c.args.offset (length c.args.bytes.now) c.max-blocks.ensures c.if-offset-bytes.false c.requires.few (size_limit c.max-blocks.result c.requires.sound c.requires.below c.requires.inode allowed))))
 
 pub write_blocks-requires-clause-inside : goal.write_blocks-requires-clause-inside
 write_blocks-requires-clause-inside g c =
@@ -42,14 +48,14 @@ returns-in_err-write_blocks-clause-full g c = λ is.
     let len = length c.args.bytes.now in
     let e = c.from_residual-in_err-write_blocks.ensures in
     let f = c.in_err-write_blocks.ensures.full (ap Err (same_fault c.from_residual-in_err-write_blocks.result c.in_err-write_blocks.field-0.0 Full e.0 e.1 is)) in
-    let count : taken_by mid.sectors (record c.in_ok-blocks.blocks.inode { size = c.max-blocks.result }) c.args.offset len ≡ taken_by old.sectors v c.args.offset len =
-    ap (λ (u : Inode). taken_by mid.sectors (record u { size = c.max-blocks.result }) c.args.offset len) c.in_ok-blocks.ensures.inode
-    ∙ taken_same old mid v c.max-blocks.result c.args.offset len c.in_ok-blocks.ensures.same in
-    (omega (arith, f, count, free_same c.args.place old mid c.in_ok-blocks.ensures.same), taken_few old.sectors v c.args.offset len c.requires.few)
+    let count : taken_by mid.sectors (record c.load.new.self.inode { size = c.max-blocks.result }) c.args.offset len ≡ taken_by old.sectors v c.args.offset len =
+    ap (λ (u : Inode). taken_by mid.sectors (record u { size = c.max-blocks.result }) c.args.offset len) c.in_ok-load.ensures.inode
+    ∙ taken_same old mid v c.max-blocks.result c.args.offset len c.in_ok-load.ensures.same in
+    (omega (arith, f, count, free_same c.args.place old mid c.in_ok-load.ensures.same), taken_few old.sectors v c.args.offset len c.requires.few)
 
 pub write_inode-requires-clause-room : goal.write_inode-requires-clause-room
 write_inode-requires-clause-room g c = λ none.
-    let spare = spare_unchanged c.args.place (put_by c.args.offset (length c.args.bytes.now)) _ _ c.requires.spare c.in_ok-blocks.ensures.same in
+    let spare = spare_unchanged c.args.place (put_by c.args.offset (length c.args.bytes.now)) _ _ c.requires.spare c.in_ok-load.ensures.same in
     omega (arith, spare, c.in_ok-write_blocks.ensures.written.puts.room)
 
 ended : (g : _) (c : goal.After-inode-1 g) → IsEnded c.args.place c.args.n (taken_by (g.S.Sectors.state c.args.s.now).sectors c.args.inode.now c.args.offset (length c.args.bytes.now)) (put_by c.args.offset (length c.args.bytes.now))
@@ -58,7 +64,7 @@ ended g c =
     let v = c.args.inode.now in
     let is : c.max-blocks.result ≡ max v.size (c.args.offset + length c.args.bytes.now) = c.max-blocks.ensures in
     let allowed : AllowsSize v.kind c.max-blocks.result = subst (AllowsSize v.kind) (sym is) c.requires.size in
-    wrote c.requires.sound c.requires.below c.requires.inode allowed (limit_at c.max-blocks.result v.size c.args.offset (length c.args.bytes.now) c.max-blocks.ensures c.if-offset-bytes.false c.requires.few (size_limit c.max-blocks.result c.requires.sound c.requires.below c.requires.inode allowed)) c.requires.few is c.in_ok-blocks.ensures.same c.in_ok-blocks.ensures.inode
+    wrote c.requires.sound c.requires.below c.requires.inode allowed (limit_at c.max-blocks.result v.size c.args.offset (length c.args.bytes.now) c.max-blocks.ensures c.if-offset-bytes.false c.requires.few (size_limit c.max-blocks.result c.requires.sound c.requires.below c.requires.inode allowed)) c.requires.few is c.in_ok-load.ensures.same c.in_ok-load.ensures.inode
     c.in_ok-write_blocks.ensures.written c.in_ok-write_inode.ensures.saved c.in_ok-write_inode.ensures.puts
 
 pub returns-clause-change : goal.returns-clause-change
@@ -69,7 +75,7 @@ returns-clause-held g c =
     let v = c.args.inode.now in
     let is : c.max-blocks.result ≡ max v.size (c.args.offset + length c.args.bytes.now) = c.max-blocks.ensures in
     let allowed : AllowsSize v.kind c.max-blocks.result = subst (AllowsSize v.kind) (sym is) c.requires.size in
-    wrote_held c.requires.sound c.requires.below c.requires.inode allowed (limit_at c.max-blocks.result v.size c.args.offset (length c.args.bytes.now) c.max-blocks.ensures c.if-offset-bytes.false c.requires.few (size_limit c.max-blocks.result c.requires.sound c.requires.below c.requires.inode allowed)) c.requires.few is c.in_ok-blocks.ensures.same c.in_ok-blocks.ensures.inode
+    wrote_held c.requires.sound c.requires.below c.requires.inode allowed (limit_at c.max-blocks.result v.size c.args.offset (length c.args.bytes.now) c.max-blocks.ensures c.if-offset-bytes.false c.requires.few (size_limit c.max-blocks.result c.requires.sound c.requires.below c.requires.inode allowed)) c.requires.few is c.in_ok-load.ensures.same c.in_ok-load.ensures.inode
     c.in_ok-write_blocks.ensures.written (ended g c)
 
 pub returns-clause-whole : goal.returns-clause-whole
@@ -77,7 +83,7 @@ returns-clause-whole g c =
     let v = c.args.inode.now in
     let is : c.max-blocks.result ≡ max v.size (c.args.offset + length c.args.bytes.now) = c.max-blocks.ensures in
     let allowed : AllowsSize v.kind c.max-blocks.result = subst (AllowsSize v.kind) (sym is) c.requires.size in
-    wrote_whole c.requires.sound c.requires.below c.requires.inode allowed (limit_at c.max-blocks.result v.size c.args.offset (length c.args.bytes.now) c.max-blocks.ensures c.if-offset-bytes.false c.requires.few (size_limit c.max-blocks.result c.requires.sound c.requires.below c.requires.inode allowed)) c.requires.few is c.in_ok-blocks.ensures.same c.in_ok-blocks.ensures.inode
+    wrote_whole c.requires.sound c.requires.below c.requires.inode allowed (limit_at c.max-blocks.result v.size c.args.offset (length c.args.bytes.now) c.max-blocks.ensures c.if-offset-bytes.false c.requires.few (size_limit c.max-blocks.result c.requires.sound c.requires.below c.requires.inode allowed)) c.requires.few is c.in_ok-load.ensures.same c.in_ok-load.ensures.inode
     c.in_ok-write_blocks.ensures.written (ended g c)
 
 pub returns-clause-taken : goal.returns-clause-taken
@@ -85,4 +91,4 @@ returns-clause-taken g c = taken_few _ _ _ _ c.requires.few
 
 pub returns-clause-store : goal.returns-clause-store
 returns-clause-store g c =
-    store_joined (store_joined c.in_ok-blocks.ensures.same.store c.in_ok-write_blocks.ensures.store) c.in_ok-write_inode.ensures.store
+    store_joined (store_joined c.in_ok-load.ensures.same.store c.in_ok-write_blocks.ensures.store) c.in_ok-write_inode.ensures.store

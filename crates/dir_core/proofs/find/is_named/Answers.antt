@@ -1,11 +1,15 @@
 use Rattle.std.proofs.Common.{◌≡◌, ℕ, ◌+◌, ◌-◌, ap, sym, ◌∙◌, length, take, drop, arith}
 use Rattle.std.proofs.lemmas.Slice.Eq.{bytes_eq-Decides}
-use Rattle.dir_core.proofs.Pieces.{length_there, name_there}
+use Rattle.dir_core.proofs.Pieces.{length_there, last_byte, name_there}
 use Rattle.dir_core.proofs.find.is_named.Goals as goal
 
 pub returns-then-block-at : goal.returns-then-block-at
 returns-then-block-at c = λ x is.
     ((λ f. absurd cc), λ same. absurd (c.if-block-at.true (length_there c.args.block.now c.args.at x is ∙ ap length same)))
+
+pub returns-then-block-at-2 : goal.returns-then-block-at-2
+returns-then-block-at-2 c = λ x is.
+    ((λ f. absurd cc), λ same. absurd (c.if-block-at-2.true (last_byte c.args.block.now c.args.at x is c.args.name.now same)))
 
 pub returns : goal.returns
 returns c = λ x is.
