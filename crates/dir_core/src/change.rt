@@ -31,6 +31,37 @@ fn block_with(inode: u32, name: &[u8]) -> [u8; 512]
     block
 }
 
+/// Adds a name, which is new and leads to inode `to`, to directory n. `inode` is inode n, before and after.
+///
+/// It doesn't look for the name. At `Err` the caller drops the changes of the transaction; of `inode` nothing is said then.
+pub fn insert_new<S: Sectors>(
+    s: &mut S,
+    place: Place,
+    n: u32,
+    inode: &mut Inode,
+    name: &[u8],
+    to: u32,
+) -> Result<(), DirFault>
+    requires sound { IsSound place (S.state s.old) }
+    requires below { n < place.inodes }
+    requires inode { inode.old ≡ inode_at place (S.state s.old).sectors n }
+    requires directory { (names : List (List ℕ × ℕ)) × HasNames (S.state s.old).sectors inode.old names
+        × (get name_cmp names name.now ≡ None) }
+    requires name { IsName name.now }
+    requires spare { HasSpare place 3 (S.state s.old) }
+    ensures change { OnOk result (ChangesContent place n (taken_for inode.old) 3 (S.state s.old) (S.state s.new) inode.old inode.new) }
+    ensures names { OnOk result ((names : List (List ℕ × ℕ)) → HasNames (S.state s.old).sectors inode.old names
+        → (length names < MAX_NAMES) × HasNames (S.state s.new).sectors inode.new (with_entry name_cmp names name.now to)) }
+    ensures why { IfErr result (λ e. (names : List (List ℕ × ℕ)) → HasNames (S.state s.old).sectors inode.old names
+        → WhyNotAdded place (S.state s.old).sectors inode.old names name.now e) }
+    ensures store { SameStore (S.state s.old) (S.state s.new) }
+    ensures cause { HasCauseOf DirFault.DiskFault (S.state s.old).disk (S.state s.new).disk result }
+{
+    let end = inode.size;
+    write_at(s, place, n, inode, end, &block_with(to, name)[..SLOT])?;
+    Ok(())
+}
+
 /// Adds a name, which leads to inode `to`, to directory n. `inode` is inode n, before and after.
 ///
 /// At `Err` the caller drops the changes of the transaction; of `inode` nothing is said then.
@@ -60,8 +91,7 @@ pub fn insert<S: Sectors>(
     if find_slot(s, inode, name)?.is_some() {
         return Err(DirFault::Exists);
     }
-    let end = inode.size;
-    write_at(s, place, n, inode, end, &block_with(to, name)[..SLOT])?;
+    insert_new(s, place, n, inode, name, to)?;
     Ok(())
 }
 

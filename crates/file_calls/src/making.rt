@@ -18,7 +18,7 @@ ghost use Rattle.path_walk.specs.HeldTrees.{HoldsTree};
 ghost use Rattle.file_calls.specs.Makings.{CanMake, MakesFile};
 ghost use Rattle.file_calls.specs.Openings.{make_asked, FindsIn, IsRefusedOpen, Reaches};
 
-use dir_core::insert;
+use dir_core::insert_new;
 use fs_cred::{Cred, Errno, Refusal};
 use fs_layout::{Inode, Kind, MAX_FILE_SIZE, Place};
 use fs_model::{Flags, Found};
@@ -184,7 +184,7 @@ fn make_file<S: Sectors>(
         return Err(Refusal::Failed(Errno::EIO));
     };
     let mut directory = directory;
-    match insert(s, place, dir, &mut directory, name, n) {
+    match insert_new(s, place, dir, &mut directory, name, n) {
         Ok(()) => Ok(n),
         Err(_) => Err(Refusal::Failed(Errno::EIO)),
     }

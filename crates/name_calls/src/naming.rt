@@ -20,7 +20,7 @@ ghost use Rattle.name_calls.specs.NewNodes.{MayBeNamed, NamesInode};
 ghost use Rattle.name_calls.specs.TwoPaths.{both_checks, walks_of};
 
 use crate::removal::WRITE_AND_SEARCH;
-use dir_core::insert;
+use dir_core::insert_new;
 use file_calls::{check_names, find};
 use fs_cred::{Cred, Errno, Refusal};
 use fs_layout::{Inode, Place};
@@ -166,7 +166,7 @@ pub(crate) fn name_inode<S: Sectors>(
     ensures err { IfErr result (FailsToRead (S.state s.old).disk (S.state s.new).disk) }
 {
     let mut directory = directory;
-    match insert(s, place, dir, &mut directory, name, n) {
+    match insert_new(s, place, dir, &mut directory, name, n) {
         Ok(()) => Ok(()),
         Err(_) => Err(Refusal::Failed(Errno::EIO)),
     }

@@ -1,19 +1,14 @@
-use Rattle.std.proofs.Common.{◌≡◌, ◌+◌, ◌≤◌, ℕ, List, length, take, Err, None, sym, ap, subst, ◌∙◌, arith, rules, inl, inr}
-use Rattle.std.proofs.lemmas.Bool.{cases_lt}
-use Rattle.fs_layout.specs.Bytes.{overwritten}
-use Rattle.fs_layout.specs.Images.{Holds}
-use Rattle.fs_layout.specs.Maps.{name_cmp, get}
-use Rattle.fs_layout.specs.Directories.{HasNames, slots_bytes, names_of_slots, slot_bytes}
-use Rattle.fs_layout.proofs.SlotLaw.{length-slot_bytes}
+use Rattle.std.proofs.Common.{ℕ, List, Result, sym, subst, ◌∙◌}
+use Rattle.std.specs.Prelude.{IfErr}
+use Rattle.std.proofs.lemmas.Result.{err_from_is_err_and}
+use Rattle.dir_core.specs.declared.fault.DirFault.{DirFault}
+use Rattle.fs_layout.specs.Bytes.{SectorMap}
+use Rattle.fs_layout.specs.Directories.{HasNames}
 use Rattle.sector_txn.proofs.Changes.{store_joined}
-use Rattle.bit_alloc.proofs.Transactions.{spare_unchanged}
-use Rattle.block_map.specs.Contents.{ChangesContent}
-use Rattle.block_map.specs.Steps.{taken_by, put_by}
+use Rattle.bit_alloc.proofs.Transactions.{map_unchanged}
 use Rattle.block_map.proofs.Joins.{sound_after_reads, content_after_reads}
-use Rattle.block_map.proofs.Wrote.{free_same, put_for_slot}
-use Rattle.dir_core.specs.Faults.{taken_for, WhyNotAdded}
-use Rattle.dir_core.proofs.Changing.{allows, slots_there, slots_after_reads, directory_within, directory_limit, found_there, not_there, said_by_names, said_by_slots, passed_on, ok_is_no_fault, added, names_with, names_few, names_full}
-use Rattle.dir_core.proofs.Taking.{size_of_slots, taken_is}
+use Rattle.dir_core.specs.Faults.{WhyNotAdded}
+use Rattle.dir_core.proofs.Changing.{slots_there, directory_within, found_there, not_there, said_by_names, said_by_slots}
 use Rattle.dir_core.proofs.change.insert.Goals as goal
 
 pub find_slot-requires-clause-within : goal.find_slot-requires-clause-within
@@ -24,96 +19,39 @@ returns-then-is_some-clause-why g c = λ names h none.
     found_there h.slots c.args.name.now h.apart c.in_ok-find_slot.field-0 (c.in_ok-find_slot.ensures.found h.slots (slots_there h)) (sym c.is_some.ensures ∙ c.if-is_some.true)
     (said_by_slots c.args.name.now h none)
 
-pub slice_bounds-write_at-end-2 : goal.slice_bounds-write_at-end-2
-slice_bounds-write_at-end-2 g c = sym (ap length c.block_with.ensures ∙ length-slot_bytes (added c.args.name.now c.args.to) c.requires.name.short)
+pub insert_new-requires-clause-sound : goal.insert_new-requires-clause-sound
+insert_new-requires-clause-sound g c = sound_after_reads c.requires.sound c.in_ok-find_slot.ensures.same
 
-pub write_at-requires-clause-sound : goal.write_at-requires-clause-sound
-write_at-requires-clause-sound g c = sound_after_reads c.requires.sound c.in_ok-find_slot.ensures.same
-
-pub write_at-requires-clause-size : goal.write_at-requires-clause-size
-write_at-requires-clause-size g c =
+pub insert_new-requires-clause-directory : goal.insert_new-requires-clause-directory
+insert_new-requires-clause-directory g c =
     let h = c.requires.directory.1 in
-    let size = size_of_slots (slots_there h) in
-    let len = ap length c.block_with.ensures ∙ length-slot_bytes (added c.args.name.now c.args.to) c.requires.name.short in
-    allows c.args.inode.now.kind _ h.kind (omega (arith, size, len))
+    let mid = (g.S.Sectors.state c.find_slot.new.s).sectors in
+    let none = not_there h.slots c.args.name.now h.apart c.in_ok-find_slot.field-0 (c.in_ok-find_slot.ensures.found h.slots (slots_there h)) (sym c.is_some.ensures ∙ c.if-is_some.false) in (
+      c.requires.directory.0,
+      subst (λ (image : SectorMap). HasNames image c.args.inode.now c.requires.directory.0) (map_unchanged c.in_ok-find_slot.ensures.same) h,
+      said_by_names c.args.name.now h none,
+    )
 
-pub write_at-requires-clause-few : goal.write_at-requires-clause-few
-write_at-requires-clause-few g c =
-    let len = ap length c.block_with.ensures ∙ length-slot_bytes (added c.args.name.now c.args.to) c.requires.name.short in
-    omega (arith, len)
-
-pub write_at-requires-clause-spare : goal.write_at-requires-clause-spare
-write_at-requires-clause-spare g c =
-    let size = size_of_slots (slots_there c.requires.directory.1) in
-    let len = ap length c.block_with.ensures ∙ length-slot_bytes (added c.args.name.now c.args.to) c.requires.name.short in
-    let spare = spare_unchanged c.args.place 3 _ _ c.requires.spare c.in_ok-find_slot.ensures.same in
-    omega (arith, spare, size, len)
-
-pub returns-in_err-write_at-clause-why : goal.returns-in_err-write_at-clause-why
-returns-in_err-write_at-clause-why g c =
-    let old = g.S.Sectors.state c.args.s.now in
-    let mid = g.S.Sectors.state c.find_slot.new.s in
-    let p = c.args.place in
-    let v = c.args.inode.now in
+pub returns-in_err-insert_new-clause-why : goal.returns-in_err-insert_new-clause-why
+returns-in_err-insert_new-clause-why g c =
     let name = c.args.name.now in
-    let e = c.from_residual-in_err-write_at.ensures in
-    let r = c.in_err-write_at.ensures in
-    let len : length (take 128 c.block_with.result) ≡ 128 = ap length c.block_with.ensures ∙ length-slot_bytes (added c.args.name.now c.args.to) c.requires.name.short in
-    passed_on (λ f. (names : List (List ℕ × ℕ)) → HasNames old.sectors v names → WhyNotAdded p old.sectors v names name f)
-    c.from_residual-in_err-write_at.result c.in_err-write_at.field-0.0 e.0 e.1
-    (λ full names h.
-    let none = not_there h.slots name h.apart c.in_ok-find_slot.field-0 (c.in_ok-find_slot.ensures.found h.slots (slots_there h)) (sym c.is_some.ensures ∙ c.if-is_some.false) in
-    let few = (r.full (ap Err full)).0 in
-    let takes : taken_by mid.sectors v v.size (length (take 128 c.block_with.result)) ≡ taken_for v =
-    ap (taken_by mid.sectors v v.size) len ∙ taken_is (slots_after_reads c.in_ok-find_slot.ensures.same (slots_there h)) in
-    let free = free_same p old mid c.in_ok-find_slot.ensures.same in
-    (said_by_names name h none, inr (omega (arith, few, takes, free))))
-    (λ big names h.
-    let none = not_there h.slots name h.apart c.in_ok-find_slot.field-0 (c.in_ok-find_slot.ensures.found h.slots (slots_there h)) (sym c.is_some.ensures ∙ c.if-is_some.false) in
-    let past = r.too_big.0 (ap Err big) in
-    (said_by_names name h none, inl (names_full h (directory_limit c.requires.sound c.requires.below c.requires.inode h.kind) (omega (arith, past, len)))))
-    (λ names h. tt)
+    let v = c.args.inode.now in
+    let r = c.from_residual-in_err-insert_new.result in
+    let exit = err_from_is_err_and r c.from_residual-in_err-insert_new.ensures.1 in
+    let Why : SectorMap → DirFault → Type 0 = λ image e. (names : List (List ℕ × ℕ)) → HasNames image v names → WhyNotAdded c.args.place image v names name e in
+    let mid = (g.S.Sectors.state c.find_slot.new.s).sectors in
+    let why : IfErr r (Why mid) = subst (λ (result : Result (Unit {0}) DirFault). IfErr result (Why mid)) (sym exit.1) (subst (Why mid) (sym exit.2) c.in_err-insert_new.ensures.why) in
+    subst (λ (image : SectorMap). IfErr r (Why image)) (sym (map_unchanged c.in_ok-find_slot.ensures.same)) why
 
 pub returns-clause-change : goal.returns-clause-change
-returns-clause-change g c =
-    let old = g.S.Sectors.state c.args.s.now in
-    let mid = g.S.Sectors.state c.find_slot.new.s in
-    let new = g.S.Sectors.state c.write_at.new.s in
-    let p = c.args.place in
-    let v = c.args.inode.now in
-    let h = c.requires.directory.1 in
-    let size = size_of_slots (slots_there h) in
-    let len : length (take 128 c.block_with.result) ≡ 128 = ap length c.block_with.ensures ∙ length-slot_bytes (added c.args.name.now c.args.to) c.requires.name.short in
-    let takes : taken_by mid.sectors v v.size (length (take 128 c.block_with.result)) ≡ taken_for v =
-    ap (taken_by mid.sectors v v.size) len ∙ taken_is (slots_after_reads c.in_ok-find_slot.ensures.same (slots_there h)) in
-    let puts : put_by v.size (length (take 128 c.block_with.result)) ≡ 3 = ap (put_by v.size) len ∙ put_for_slot v.size (omega (arith, size)) in
-    content_after_reads c.in_ok-find_slot.ensures.same
-    (subst (λ (k : ℕ). ChangesContent p c.args.n (taken_for v) k mid new v c.write_at.new.inode) puts
-    (subst (λ (k : ℕ). ChangesContent p c.args.n k (put_by v.size (length (take 128 c.block_with.result))) mid new v c.write_at.new.inode) takes
-    c.in_ok-write_at.ensures.change))
+returns-clause-change g c = content_after_reads c.in_ok-find_slot.ensures.same c.in_ok-insert_new.ensures.change
 
 pub returns-clause-names : goal.returns-clause-names
 returns-clause-names g c = λ names h.
-    let new = g.S.Sectors.state c.write_at.new.s in
-    let v = c.args.inode.now in
-    let w = c.write_at.new.inode in
-    let name = c.args.name.now in
-    let r = c.in_ok-write_at.ensures in
-    let len : length (take 128 c.block_with.result) ≡ 128 = ap length c.block_with.ensures ∙ length-slot_bytes (added c.args.name.now c.args.to) c.requires.name.short in
-    let none : get name_cmp (names_of_slots h.slots) name ≡ None =
-    not_there h.slots name h.apart c.in_ok-find_slot.field-0 (c.in_ok-find_slot.ensures.found h.slots (slots_there h)) (sym c.is_some.ensures ∙ c.if-is_some.false) in
-    let mid = slots_after_reads c.in_ok-find_slot.ensures.same (slots_there h) in
-    let place : v.size + 128 ≤ 71680 = elim (cases_lt 71680 (v.size + length (take 128 c.block_with.result))) [
-      | inl past ↦ absurd (ok_is_no_fault (r.too_big.1 past))
-      | inr fits ↦ omega (arith, fits, len)
-    ] in
-    let holds : Holds new.sectors w (overwritten (slots_bytes h.slots) v.size (slot_bytes (added name c.args.to))) =
-    subst (λ (x : List ℕ). Holds new.sectors w (overwritten (slots_bytes h.slots) v.size x)) c.block_with.ensures (r.held (slots_bytes h.slots) mid.holds) in (
-      said_by_names name h none,
-      names_few h place,
-      names_with h name c.args.to c.requires.name (λ i. let f = c.type_inv.name i in search rules) (let f = c.ranges.to.fits in omega (arith, f)) none r.change.fields.kind holds
-          (r.whole mid.whole (omega arith)),
-    )
+    let none = not_there h.slots c.args.name.now h.apart c.in_ok-find_slot.field-0 (c.in_ok-find_slot.ensures.found h.slots (slots_there h)) (sym c.is_some.ensures ∙ c.if-is_some.false) in
+    let now = subst (λ (image : SectorMap). HasNames image c.args.inode.now names) (map_unchanged c.in_ok-find_slot.ensures.same) h in
+    let r = c.in_ok-insert_new.ensures.names names now in
+    (said_by_names c.args.name.now h none, r.0, r.1)
 
 pub returns-clause-store : goal.returns-clause-store
-returns-clause-store g c = store_joined c.in_ok-find_slot.ensures.same.store c.in_ok-write_at.ensures.store
+returns-clause-store g c = store_joined c.in_ok-find_slot.ensures.same.store c.in_ok-insert_new.ensures.store

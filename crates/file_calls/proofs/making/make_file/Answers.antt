@@ -16,39 +16,40 @@ new_inode-requires-clause-fits g c =
     let small_gid = c.ranges.gid.fits in
     file_fits c.args.uid c.args.gid (omega (arith, small_uid)) (omega (arith, small_gid))
 
-pub insert-requires-clause-below : goal.insert-requires-clause-below
-insert-requires-clause-below g c = dir_below c.requires.may.1
+pub insert_new-requires-clause-below : goal.insert_new-requires-clause-below
+insert_new-requires-clause-below g c = dir_below c.requires.may.1
 
-pub insert-requires-clause-inode : goal.insert-requires-clause-inode
-insert-requires-clause-inode g c =
+pub insert_new-requires-clause-inode : goal.insert_new-requires-clause-inode
+insert_new-requires-clause-inode g c =
     let can = c.requires.may.1 in
     let e = c.in-Ok.ensures in
     c.requires.directory ∙ sym (dir_kept can.holds can.directory c.in-Ok.n e.free e.touches.inode)
 
-pub insert-requires-clause-directory : goal.insert-requires-clause-directory
-insert-requires-clause-directory g c =
+pub insert_new-requires-clause-directory : goal.insert_new-requires-clause-directory
+insert_new-requires-clause-directory g c =
     let can = c.requires.may.1 in
     let mid = (g.S.Sectors.state c.new_inode.new.s).sectors in
     let e = c.in-Ok.ensures in (
       names_in can.directory.node.body,
       subst (λ (v : Inode). HasNames mid v (names_in can.directory.node.body))
-          (sym (insert-requires-clause-inode g c))
+          (sym (insert_new-requires-clause-inode g c))
           (dir_names can.holds can.directory c.in-Ok.n e.free e.touches.inode c.args.uid c.args.gid c.args.acl.now e.fields e.empty e.access e.default e.used),
+      can.is_new,
     )
 
-pub returns-in-Ok-insert-clause-store : goal.returns-in-Ok-insert-clause-store
-returns-in-Ok-insert-clause-store g c = store_joined c.in-Ok.ensures.store c.in-Ok-insert.ensures.store
+pub returns-in-Ok-insert_new-clause-store : goal.returns-in-Ok-insert_new-clause-store
+returns-in-Ok-insert_new-clause-store g c = store_joined c.in-Ok.ensures.store c.in-Ok-insert_new.ensures.store
 
-pub returns-in-Ok-insert-clause-made : goal.returns-in-Ok-insert-clause-made
-returns-in-Ok-insert-clause-made g c =
+pub returns-in-Ok-insert_new-clause-made : goal.returns-in-Ok-insert_new-clause-made
+returns-in-Ok-insert_new-clause-made g c =
     let p = c.args.place in
     let can = c.requires.may.1 in
     let mid = (g.S.Sectors.state c.new_inode.new.s).sectors in
-    let new = (g.S.Sectors.state c.insert.new.s).sectors in
+    let new = (g.S.Sectors.state c.insert_new.new.s).sectors in
     let e = c.in-Ok.ensures in
     let n = c.in-Ok.n in
     let dir = c.args.dir in
-    let change = c.in-Ok-insert.ensures.change in
+    let change = c.in-Ok-insert_new.ensures.change in
     let same = c.requires.directory ∙ sym (dir_kept can.holds can.directory n e.free e.touches.inode) in
     record {
       mid = mid;
@@ -73,7 +74,7 @@ returns-in-Ok-insert-clause-made g c =
       acls = subst (λ (u : Inode). KeepsAcls mid new u (inode_at p new dir)) same (subst (KeepsAcls mid new c.args.directory) (sym change.now) change.acls);
       named = λ names has.
           subst (λ (u : Inode). HasNames new u (with_entry name_cmp names c.args.name.now n)) (sym change.now)
-          (c.in-Ok-insert.ensures.names names (subst (λ (u : Inode). HasNames mid u names) (sym same) has)).2;
+          (c.in-Ok-insert_new.ensures.names names (subst (λ (u : Inode). HasNames mid u names) (sym same) has)).1;
     }
 
 pub returns-in-Err-clause-store : goal.returns-in-Err-clause-store
@@ -84,7 +85,7 @@ returns-in-Err-clause-err g c =
     let can = c.requires.may.1 in
     let old = g.S.Sectors.state c.args.s.now in
     let mid = g.S.Sectors.state c.new_inode.new.s in
-    let new = g.S.Sectors.state c.insert.new.s in
+    let new = g.S.Sectors.state c.insert_new.new.s in
     let e = c.in-Ok.ensures in
     let few = takes_few c.args.acl.now in
     let left = e.touches.free in
