@@ -93,21 +93,16 @@ fn open_store<D: Disk + Drop>(alloc: Global, disk: D) -> Result<Store<D>, (Resta
     }
 }
 
-// A store, or what a commit that failed has left, whose disk lets go of its past.
-fn forgotten<D: Disk>(base: Result<Store<D>, Broken<D>>) -> Result<Store<D>, Broken<D>>
-    ensures stays { (p : Place) (desks : Desks) (s : State) → IsOn D.state p desks (Some base) s → IsOn D.state p desks (Some result) s }
-    ensures same { IsSame (D.state (disk_after base)) (D.state (disk_after result)) }
-    ensures failures { (D.state (disk_after result)).failures ≡ (D.state (disk_after base)).failures }
+// The disk of a store, or of what a commit that failed has left, lets go of its past.
+fn forget_past<D: Disk>(base: &mut Result<Store<D>, Broken<D>>)
+    ensures stays { (p : Place) (desks : Desks) (s : State)
+        → IsOn D.state p desks (Some base.old) s → IsOn D.state p desks (Some base.new) s }
+    ensures same { IsSame (D.state (disk_after base.old)) (D.state (disk_after base.new)) }
+    ensures failures { (D.state (disk_after base.new)).failures ≡ (D.state (disk_after base.old)).failures }
 {
     match base {
-        Ok(mut store) => {
-            store.forget();
-            Ok(store)
-        }
-        Err(mut broken) => {
-            broken.forget();
-            Err(broken)
-        }
+        Ok(store) => store.forget(),
+        Err(broken) => broken.forget(),
     }
 }
 
@@ -325,10 +320,10 @@ impl<D: Disk + Drop> Fs<D> {
         ensures same { IsSame (disk_in D.state self.old.base) (disk_in D.state self.new.base) }
         ensures failures { (disk_in D.state self.new.base).failures ≡ (disk_in D.state self.old.base).failures }
     {
-        let Some(base) = self.base.take() else {
+        let Some(base) = &mut self.base else {
             unreachable!()
         };
-        self.base = Some(forgotten(base));
+        forget_past(base);
     }
 
     /// Makes stable what was done before, and gives the disk back, also with an error: EIO, where the device failed or the

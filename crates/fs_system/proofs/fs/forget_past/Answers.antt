@@ -1,7 +1,7 @@
 use Rattle.std.proofs.Common.{Some, subst}
 use Rattle.fs_system.specs.Seen.{IsOn}
 use Rattle.fs_system.proofs.Forgetting.{store_stays}
-use Rattle.fs_system.proofs.fs.forgotten.Goals as goal
+use Rattle.fs_system.proofs.fs.forget_past.Goals as goal
 
 pub returns-in-Ok-clause-stays : goal.returns-in-Ok-clause-stays
 returns-in-Ok-clause-stays g c = λ p desks s r.
