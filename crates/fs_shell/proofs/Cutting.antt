@@ -1,8 +1,8 @@
 -- The words of a line, one after another.
-use Rattle.std.proofs.Common.{◌≡◌, ℕ, suc, ◌+◌, ◌<◌, ◌≤◌, ◌==◌, Bool, true, false, cond, not, List, [], ◌∷◌, ◌++◌, length, take, drop, get_or, map, Result, Ok, Err, refl, sym, ap, subst, ◌∙◌, arith, take_all, append-nil, length-take, length-drop, inl, inr}
+use Rattle.std.proofs.Common.{◌≡◌, ℕ, suc, ◌+◌, ◌<◌, ◌≤◌, ◌==◌, Bool, true, false, cond, not, List, [], ◌∷◌, ◌++◌, length, take, drop, get_or, Result, Ok, Err, refl, sym, ap, subst, ◌∙◌, arith, take_all, append-nil, length-take, length-drop, inl, inr}
 use Rattle.std.specs.List.{All, filter, slice_split, prefix_len, position_or_len, before_first, after_first}
 use Rattle.std.proofs.lemmas.Bool.{ne_eqb, cases_lt}
-use Rattle.std.proofs.lemmas.List.{drop_more, drop_all, get_or-drop, map-append}
+use Rattle.std.proofs.lemmas.List.{drop_more, drop_all, get_or-drop}
 use Rattle.std.proofs.lemmas.List.Splits.{slice_split-cons_yes, slice_split_none, slice_split_first}
 use Rattle.std.proofs.lemmas.List.Sums.{prefix_len-le-length, prefix_len_stops, passes_at_first, fails_before_first}
 use Rattle.fs_shell.specs.declared.line.LineFault.{LineFault}
@@ -86,13 +86,13 @@ one_read : (word bytes : List ℕ) (words : List (List ℕ)) → word_bytes word
 one_read word bytes words said = rw said refl
 
 -- one more word is read
-pub reads_word : {X : Type 0} (show : X → List ℕ) (old new : List X) (x : X) (word rest after : List ℕ) (said : Result (List (List ℕ)) LineFault)
-    → with_front (map show old) (each word_bytes (words_of rest)) ≡ said → words_of rest ≡ word ∷ words_of after → word_bytes word ≡ Ok (show x) → new ≡ old ++ x ∷ []
-    → with_front (map show new) (each word_bytes (words_of after)) ≡ said
-reads_word show old new x word rest after said so_far cut read pushed =
-    rw (pushed, map-append show old (x ∷ []))
-    (front_more (map show old) (show x ∷ []) (each word_bytes (words_of after))
-    ∙ ap (with_front (map show old)) (one_read word (show x) (words_of after) read ∙ ap (each word_bytes) (sym cut)) ∙ so_far)
+pub reads_word : (old new : List (List ℕ)) (bytes word rest after : List ℕ) (said : Result (List (List ℕ)) LineFault)
+    → with_front old (each word_bytes (words_of rest)) ≡ said → words_of rest ≡ word ∷ words_of after → word_bytes word ≡ Ok bytes → new ≡ old ++ bytes ∷ []
+    → with_front new (each word_bytes (words_of after)) ≡ said
+reads_word old new bytes word rest after said so_far cut read pushed =
+    rw pushed
+    (front_more old (bytes ∷ []) (each word_bytes (words_of after))
+    ∙ ap (with_front old) (one_read word bytes (words_of after) read ∙ ap (each word_bytes) (sym cut)) ∙ so_far)
 
 -- one that can't be read
 pub word_fails : (front : List (List ℕ)) (word rest after : List ℕ) (fault : LineFault) (said : Result (List (List ℕ)) LineFault)

@@ -1,5 +1,5 @@
 -- What words say, a part after another.
-use Rattle.std.proofs.Common.{◌≡◌, ℕ, ◌<◌, ◌≤◌, ◌==◌, Bool, true, false, cond, not, ◌||◌, ◌&&◌, List, [], ◌∷◌, ◌++◌, take, drop, length, get_or, slice_index, None, Some, Result, Ok, Err, refl, sym, ap, ◌∙◌, append_assoc, append-nil, length-take, take_all, take-append-drop, subst, arith}
+use Rattle.std.proofs.Common.{◌≡◌, ℕ, ◌<◌, ◌≤◌, ◌==◌, Bool, true, false, cond, not, ◌||◌, ◌&&◌, List, [], ◌∷◌, ◌++◌, take, drop, length, get_or, slice_index, Option, None, Some, is_some, Result, Ok, Err, refl, sym, ap, ◌∙◌, append_assoc, append-nil, length-take, take_all, take-append-drop, subst, arith}
 use Rattle.std.specs.List.{All}
 use Rattle.std.proofs.lemmas.Bool.{false_from_ne_true}
 use Rattle.std.proofs.lemmas.List.{get_or-take, get_or-drop, get_or_default}
@@ -99,10 +99,17 @@ pub escape_fails : (front run escape rest : List ℕ) (n : ℕ) (said : Result (
 escape_fails front run escape rest n said so_far at is_run is_escape bad =
     sym so_far ∙ ap (with_front front) (run_first run escape rest n at is_run is_escape ∙ ap (with_front run) bad)
 
+-- a text without escapes
+alone : (text : List ℕ) → IsFirstByte (is_byte2 92 34) text None → unescaped text ≡ Ok text
+alone text none =
+    let plain : AllPlain text = subst AllPlain (take_all (length text) text (omega arith)) (plain_before text (length text) none (omega arith)) in
+    ap unescaped (sym (append-nil text)) ∙ plain_run text [] plain ∙ ap Ok (append-nil text)
+
+pub says_all : (text : List ℕ) (r : Option ℕ) → IsFirstByte (is_byte2 92 34) text r → is_some r ≡ false → unescaped text ≡ Ok text
+says_all text None first none = alone text first
+says_all text (Some n) first none = absurd (cc)
+
 -- the run behind the last escape
 pub reads_rest : (front rest new : List ℕ) (said : Result (List ℕ) LineFault) → with_front front (unescaped rest) ≡ said → IsFirstByte (is_byte2 92 34) rest None
     → new ≡ front ++ rest → said ≡ Ok new
-reads_rest front rest new said so_far none grown =
-    let plain : AllPlain rest = subst AllPlain (take_all (length rest) rest (omega arith)) (plain_before rest (length rest) none (omega arith)) in
-    let alone : unescaped rest ≡ Ok rest = ap unescaped (sym (append-nil rest)) ∙ plain_run rest [] plain ∙ ap Ok (append-nil rest) in
-    sym so_far ∙ ap (with_front front) alone ∙ ap Ok (sym grown)
+reads_rest front rest new said so_far none grown = sym so_far ∙ ap (with_front front) (alone rest none) ∙ ap Ok (sym grown)

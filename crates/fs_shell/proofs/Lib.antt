@@ -3,6 +3,7 @@ pub mod Cut
 pub mod Cutting
 pub mod Each
 pub mod Letters
+pub mod Names
 pub mod Faulty
 pub mod Numbers
 pub mod OneMeaning

@@ -24,7 +24,7 @@ use Rattle.fs_shell.specs.declared.line.Line.TheVariants.{Blank, Event as Asks}
 use Rattle.fs_shell.specs.declared.line.LineFault.{LineFault}
 use Rattle.fs_shell.specs.declared.line.LineFault.TheVariants.{OutOfMemory}
 use Rattle.fs_shell.specs.Lines.{lines_of}
-use Rattle.fs_shell.specs.Commands.{Said, IsSaid, LineSays, CommandRow, name_of, has_pid, words_behind, fewest_words, most_words, acl_said_at, acl_said_by, has_words}
+use Rattle.fs_shell.specs.Commands.{Said, IsSaid, LineSays, CommandRow, has_pid, words_behind, fewest_words, most_words, acl_said_at, acl_said_by, has_words}
 use Rattle.fs_shell.specs.Scripts.{script_limit, IsOver}
 use Rattle.fs_shell.specs.Texts.{reply_text, fault_text}
 
@@ -54,9 +54,8 @@ abbrev pub IsOffered : Line → Type 0
 IsOffered Blank = Unit {0}
 IsOffered (Asks e) = IsTrue (is_offered e)
 
--- a row as it is in the program
+-- a row as it is in the program, its name aside
 pub record IsRow (r : CommandRow) (held : Row) : Type 0 where
-  pub name : held.name.now ≡ name_of r
   pub pid : held.has_pid ≡ has_pid r
   pub fewest : held.least ≡ fewest_words (words_behind r)
   pub highest : held.most ≡ most_words (words_behind r)

@@ -1,5 +1,5 @@
 //! What the words of a line ask for.
-ghost use Rattle.std.specs.Prelude.{◌≡◌, map, IfOk, MatchResult, IsTrue};
+ghost use Rattle.std.specs.Prelude.{◌≡◌, IfOk, MatchResult, IsTrue};
 ghost use Rattle.fs_shell.specs.declared.command.Command.TheVariants.{Spawn};
 ghost use Rattle.fs_shell.specs.Commands.{begins_with_digit, command_row, path_row, descriptor_row, name_row, row_says, read_pid, words_value, words_behind_pid, read_command, asked};
 ghost use Rattle.fs_shell.specs.declared.line.Line.TheVariants.{Event as Asks};
@@ -13,6 +13,7 @@ use crate::operand::{
     acl_at, acl_type_at, bytes_at, flags_at, groups_at, id_at, kept_id_at, mode_at, mode_at_or,
     number_at, offset_at, perms_at, whence_at,
 };
+use crate::words::Word;
 use fs_cred::Cred;
 use fs_model::{Call, Event};
 use std::alloc::Global;
@@ -22,13 +23,14 @@ const NEW_FILE_MODE: u16 = 0o666;
 
 /// What the words of a line ask for.
 #[tactic(auto, unfolding(crate::specs::Commands::words_value))]
-pub fn read_line(alloc: Global, words: &[Vec<u8>]) -> Result<Event, LineFault>
-    ensures said { GivesSaid Asks result (words_value (map (λ word. word.items) words.now)) }
+pub fn read_line(alloc: Global, words: &[Word<'_>]) -> Result<Event, LineFault>
+    ensures said { GivesSaid Asks result (words_value words.now) }
     ensures offered { IfOk result (λ e. IsTrue (is_offered e)) }
 {
     let Some((first, rest)) = words.split_first() else {
         return Err(LineFault::WordCount);
     };
+    let first = first.bytes();
     if begins_with_digit(first) {
         read_behind_pid(alloc, first, rest)
     } else {
@@ -43,12 +45,12 @@ fn begins_with_digit(word: &[u8]) -> bool
 }
 
 // What the words behind a pid ask for.
-fn read_behind_pid(alloc: Global, pid: &[u8], words: &[Vec<u8>]) -> Result<Event, LineFault>
-    ensures said { GivesSaid Asks result (words_behind_pid pid.now (map (λ word. word.items) words.now)) }
+fn read_behind_pid(alloc: Global, pid: &[u8], words: &[Word<'_>]) -> Result<Event, LineFault>
+    ensures said { GivesSaid Asks result (words_behind_pid pid.now words.now) }
     ensures offered { IfOk result (λ e. IsTrue (is_offered e)) }
 {
     match words.split_first() {
-        Some((name, rest)) => read_command(alloc, Command::named(name, true), pid, rest),
+        Some((name, rest)) => read_command(alloc, Command::named(name.bytes(), true), pid, rest),
         None => Err(LineFault::WordCount),
     }
 }
@@ -58,9 +60,9 @@ fn read_command(
     alloc: Global,
     command: Option<Command>,
     pid: &[u8],
-    words: &[Vec<u8>],
+    words: &[Word<'_>],
 ) -> Result<Event, LineFault>
-    ensures said { GivesSaid Asks result (read_command command pid.now (map (λ word. word.items) words.now)) }
+    ensures said { GivesSaid Asks result (read_command command pid.now words.now) }
     ensures offered { IfOk result (λ e. IsTrue (is_offered e)) }
 {
     let Some(command) = command else {
@@ -86,9 +88,9 @@ fn read_words(
     alloc: Global,
     command: Command,
     pid: usize,
-    words: &[Vec<u8>],
+    words: &[Word<'_>],
 ) -> Result<Event, LineFault>
-    ensures said { GivesSaid Asks result (row_says (command_row command) pid (map (λ word. word.items) words.now)) }
+    ensures said { GivesSaid Asks result (row_says (command_row command) pid words.now) }
     ensures offered { IfOk result (λ e. IsTrue (is_offered e)) }
 {
     match command {
@@ -104,8 +106,8 @@ fn read_words(
 }
 
 // The credential of a new process.
-fn read_spawn(alloc: Global, words: &[Vec<u8>]) -> Result<Event, LineFault>
-    ensures said { Gives asked result (row_says (command_row Spawn) 0 (map (λ word. word.items) words.now)) }
+fn read_spawn(alloc: Global, words: &[Word<'_>]) -> Result<Event, LineFault>
+    ensures said { Gives asked result (row_says (command_row Spawn) 0 words.now) }
     ensures offered { IfOk result (λ e. IsTrue (is_offered e)) }
 {
     let uid = id_at(words, 0)?;
@@ -129,9 +131,9 @@ fn read_path_words(
     alloc: Global,
     command: PathCommand,
     pid: usize,
-    words: &[Vec<u8>],
+    words: &[Word<'_>],
 ) -> Result<Event, LineFault>
-    ensures said { GivesSaid Asks result (row_says (path_row command) pid (map (λ word. word.items) words.now)) }
+    ensures said { GivesSaid Asks result (row_says (path_row command) pid words.now) }
     ensures offered { IfOk result (λ e. IsTrue (is_offered e)) }
 {
     let path = bytes_at(alloc, words, 0)?;
@@ -177,9 +179,9 @@ fn read_descriptor_words(
     alloc: Global,
     command: DescriptorCommand,
     pid: usize,
-    words: &[Vec<u8>],
+    words: &[Word<'_>],
 ) -> Result<Event, LineFault>
-    ensures said { Gives asked result (row_says (descriptor_row command) pid (map (λ word. word.items) words.now)) }
+    ensures said { Gives asked result (row_says (descriptor_row command) pid words.now) }
     ensures offered { IfOk result (λ e. IsTrue (is_offered e)) }
 {
     let fd = number_at(words, 0)?;
@@ -213,9 +215,9 @@ fn read_name_words(
     alloc: Global,
     command: NameCommand,
     pid: usize,
-    words: &[Vec<u8>],
+    words: &[Word<'_>],
 ) -> Result<Event, LineFault>
-    ensures said { Gives asked result (row_says (name_row command) pid (map (λ word. word.items) words.now)) }
+    ensures said { Gives asked result (row_says (name_row command) pid words.now) }
     ensures offered { IfOk result (λ e. IsTrue (is_offered e)) }
 {
     let first = bytes_at(alloc, words, 0)?;

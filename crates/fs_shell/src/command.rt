@@ -1,4 +1,7 @@
-//! The table of commands.
+//! The table of commands: their names, and which words each stands between.
+ghost use Rattle.std.specs.Prelude.{◌≡◌, option_map};
+ghost use Rattle.std.specs.List.{find};
+ghost use Rattle.std.specs.Str.{bytes_eq};
 
 /// A command that lines name.
 #[derive(Clone, Copy)]
@@ -56,44 +59,50 @@ pub enum NameCommand {
     Chdir,
 }
 
-const COMMANDS: [Command; 30] = [
-    Command::Spawn,
-    Command::Sync,
-    Command::Statfs,
-    Command::Exit,
-    Command::Umask,
-    Command::OnPath(PathCommand::Open),
-    Command::OnPath(PathCommand::Stat),
-    Command::OnPath(PathCommand::Lstat),
-    Command::OnPath(PathCommand::Access),
-    Command::OnPath(PathCommand::Truncate),
-    Command::OnPath(PathCommand::Chmod),
-    Command::OnPath(PathCommand::Chown),
-    Command::OnPath(PathCommand::GetAcl),
-    Command::OnPath(PathCommand::SetAcl),
-    Command::OnDescriptor(DescriptorCommand::Read),
-    Command::OnDescriptor(DescriptorCommand::Write),
-    Command::OnDescriptor(DescriptorCommand::Lseek),
-    Command::OnDescriptor(DescriptorCommand::Close),
-    Command::OnDescriptor(DescriptorCommand::Fstat),
-    Command::OnDescriptor(DescriptorCommand::Fsync),
-    Command::OnDescriptor(DescriptorCommand::Ftruncate),
-    Command::OnDescriptor(DescriptorCommand::Readdir),
-    Command::OnName(NameCommand::Mkdir),
-    Command::OnName(NameCommand::Rmdir),
-    Command::OnName(NameCommand::Link),
-    Command::OnName(NameCommand::Symlink),
-    Command::OnName(NameCommand::Readlink),
-    Command::OnName(NameCommand::Unlink),
-    Command::OnName(NameCommand::Rename),
-    Command::OnName(NameCommand::Chdir),
+// The commands that stand alone, by their names.
+const ALONE: [(&str, Command); 3] = [
+    ("spawn", Command::Spawn),
+    ("sync", Command::Sync),
+    ("statfs", Command::Statfs),
 ];
 
-/// A row of the table.
+// Those behind a pid.
+const BEHIND_PID: [(&str, Command); 27] = [
+    ("exit", Command::Exit),
+    ("umask", Command::Umask),
+    ("open", Command::OnPath(PathCommand::Open)),
+    ("stat", Command::OnPath(PathCommand::Stat)),
+    ("lstat", Command::OnPath(PathCommand::Lstat)),
+    ("access", Command::OnPath(PathCommand::Access)),
+    ("truncate", Command::OnPath(PathCommand::Truncate)),
+    ("chmod", Command::OnPath(PathCommand::Chmod)),
+    ("chown", Command::OnPath(PathCommand::Chown)),
+    ("getacl", Command::OnPath(PathCommand::GetAcl)),
+    ("setacl", Command::OnPath(PathCommand::SetAcl)),
+    ("read", Command::OnDescriptor(DescriptorCommand::Read)),
+    ("write", Command::OnDescriptor(DescriptorCommand::Write)),
+    ("lseek", Command::OnDescriptor(DescriptorCommand::Lseek)),
+    ("close", Command::OnDescriptor(DescriptorCommand::Close)),
+    ("fstat", Command::OnDescriptor(DescriptorCommand::Fstat)),
+    ("fsync", Command::OnDescriptor(DescriptorCommand::Fsync)),
+    (
+        "ftruncate",
+        Command::OnDescriptor(DescriptorCommand::Ftruncate),
+    ),
+    ("readdir", Command::OnDescriptor(DescriptorCommand::Readdir)),
+    ("mkdir", Command::OnName(NameCommand::Mkdir)),
+    ("rmdir", Command::OnName(NameCommand::Rmdir)),
+    ("link", Command::OnName(NameCommand::Link)),
+    ("symlink", Command::OnName(NameCommand::Symlink)),
+    ("readlink", Command::OnName(NameCommand::Readlink)),
+    ("unlink", Command::OnName(NameCommand::Unlink)),
+    ("rename", Command::OnName(NameCommand::Rename)),
+    ("chdir", Command::OnName(NameCommand::Chdir)),
+];
+
+/// Which words a command stands between.
 #[derive(Clone, Copy)]
 pub struct Row {
-    /// The word that names the command.
-    pub name: &'static str,
     /// Whether the pid of a process stands before it.
     pub has_pid: bool,
     /// The fewest words behind it.
@@ -107,14 +116,12 @@ impl Row {
     ghost use Rattle.fs_shell.specs.Commands.{lies_between};
 
     // The row of a command that stands alone.
-    fn alone(name: &'static str, least: usize, most: usize) -> Row
-        ensures name { result.name.now ≡ name.now }
+    fn alone(least: usize, most: usize) -> Row
         ensures pid { result.has_pid ≡ false }
         ensures fewest { result.least ≡ least }
         ensures highest { result.most ≡ most }
     {
         Row {
-            name,
             has_pid: false,
             least,
             most,
@@ -122,14 +129,12 @@ impl Row {
     }
 
     // The row of a command behind a pid.
-    fn behind_pid(name: &'static str, least: usize, most: usize) -> Row
-        ensures name { result.name.now ≡ name.now }
+    fn behind_pid(least: usize, most: usize) -> Row
         ensures pid { result.has_pid ≡ true }
         ensures fewest { result.least ≡ least }
         ensures highest { result.most ≡ most }
     {
         Row {
-            name,
             has_pid: true,
             least,
             most,
@@ -144,6 +149,14 @@ impl Row {
     }
 }
 
+// The first command of the table with this name.
+fn named_in(table: &[(&str, Command)], name: &[u8]) -> Option<Command>
+    ensures { result ≡ option_map (λ row. row.1) (find (λ row. bytes_eq name.now row.0.now) table.now) }
+{
+    let (_, command) = table.iter().find(|(known, _)| name == known.as_bytes())?;
+    Some(*command)
+}
+
 impl Command {
     ghost use Rattle.std.specs.Prelude.{◌≡◌};
     ghost use Rattle.fs_shell.specs.Commands.{command_row, command_named};
@@ -153,22 +166,23 @@ impl Command {
     pub fn named(name: &[u8], has_pid: bool) -> Option<Command>
         ensures { result ≡ command_named has_pid name.now }
     {
-        COMMANDS.iter().copied().find(|command| {
-            let row = command.row();
-            row.has_pid == has_pid && name == row.name.as_bytes()
-        })
+        if has_pid {
+            named_in(&BEHIND_PID, name)
+        } else {
+            named_in(&ALONE, name)
+        }
     }
 
-    /// Its row of the table.
+    /// Which words it stands between.
     pub fn row(self) -> Row
         ensures { IsRow (command_row self) result }
     {
         match self {
-            Command::Spawn => Row::alone("spawn", 2, 3),
-            Command::Sync => Row::alone("sync", 0, 0),
-            Command::Statfs => Row::alone("statfs", 0, 0),
-            Command::Exit => Row::behind_pid("exit", 0, 0),
-            Command::Umask => Row::behind_pid("umask", 1, 1),
+            Command::Spawn => Row::alone(2, 3),
+            Command::Sync => Row::alone(0, 0),
+            Command::Statfs => Row::alone(0, 0),
+            Command::Exit => Row::behind_pid(0, 0),
+            Command::Umask => Row::behind_pid(1, 1),
             Command::OnPath(command) => command.row(),
             Command::OnDescriptor(command) => command.row(),
             Command::OnName(command) => command.row(),
@@ -184,15 +198,15 @@ impl PathCommand {
         ensures { IsRow (path_row self) result }
     {
         match self {
-            PathCommand::Open => Row::behind_pid("open", 2, 3),
-            PathCommand::Stat => Row::behind_pid("stat", 1, 1),
-            PathCommand::Lstat => Row::behind_pid("lstat", 1, 1),
-            PathCommand::Access => Row::behind_pid("access", 2, 2),
-            PathCommand::Truncate => Row::behind_pid("truncate", 2, 2),
-            PathCommand::Chmod => Row::behind_pid("chmod", 2, 2),
-            PathCommand::Chown => Row::behind_pid("chown", 3, 3),
-            PathCommand::GetAcl => Row::behind_pid("getacl", 2, 2),
-            PathCommand::SetAcl => Row::behind_pid("setacl", 3, 3),
+            PathCommand::Open => Row::behind_pid(2, 3),
+            PathCommand::Stat => Row::behind_pid(1, 1),
+            PathCommand::Lstat => Row::behind_pid(1, 1),
+            PathCommand::Access => Row::behind_pid(2, 2),
+            PathCommand::Truncate => Row::behind_pid(2, 2),
+            PathCommand::Chmod => Row::behind_pid(2, 2),
+            PathCommand::Chown => Row::behind_pid(3, 3),
+            PathCommand::GetAcl => Row::behind_pid(2, 2),
+            PathCommand::SetAcl => Row::behind_pid(3, 3),
         }
     }
 }
@@ -205,14 +219,14 @@ impl DescriptorCommand {
         ensures { IsRow (descriptor_row self) result }
     {
         match self {
-            DescriptorCommand::Read => Row::behind_pid("read", 2, 2),
-            DescriptorCommand::Write => Row::behind_pid("write", 2, 2),
-            DescriptorCommand::Lseek => Row::behind_pid("lseek", 3, 3),
-            DescriptorCommand::Close => Row::behind_pid("close", 1, 1),
-            DescriptorCommand::Fstat => Row::behind_pid("fstat", 1, 1),
-            DescriptorCommand::Fsync => Row::behind_pid("fsync", 1, 1),
-            DescriptorCommand::Ftruncate => Row::behind_pid("ftruncate", 2, 2),
-            DescriptorCommand::Readdir => Row::behind_pid("readdir", 1, 1),
+            DescriptorCommand::Read => Row::behind_pid(2, 2),
+            DescriptorCommand::Write => Row::behind_pid(2, 2),
+            DescriptorCommand::Lseek => Row::behind_pid(3, 3),
+            DescriptorCommand::Close => Row::behind_pid(1, 1),
+            DescriptorCommand::Fstat => Row::behind_pid(1, 1),
+            DescriptorCommand::Fsync => Row::behind_pid(1, 1),
+            DescriptorCommand::Ftruncate => Row::behind_pid(2, 2),
+            DescriptorCommand::Readdir => Row::behind_pid(1, 1),
         }
     }
 }
@@ -225,14 +239,14 @@ impl NameCommand {
         ensures { IsRow (name_row self) result }
     {
         match self {
-            NameCommand::Mkdir => Row::behind_pid("mkdir", 2, 2),
-            NameCommand::Rmdir => Row::behind_pid("rmdir", 1, 1),
-            NameCommand::Link => Row::behind_pid("link", 2, 2),
-            NameCommand::Symlink => Row::behind_pid("symlink", 2, 2),
-            NameCommand::Readlink => Row::behind_pid("readlink", 1, 1),
-            NameCommand::Unlink => Row::behind_pid("unlink", 1, 1),
-            NameCommand::Rename => Row::behind_pid("rename", 2, 2),
-            NameCommand::Chdir => Row::behind_pid("chdir", 1, 1),
+            NameCommand::Mkdir => Row::behind_pid(2, 2),
+            NameCommand::Rmdir => Row::behind_pid(1, 1),
+            NameCommand::Link => Row::behind_pid(2, 2),
+            NameCommand::Symlink => Row::behind_pid(2, 2),
+            NameCommand::Readlink => Row::behind_pid(1, 1),
+            NameCommand::Unlink => Row::behind_pid(1, 1),
+            NameCommand::Rename => Row::behind_pid(2, 2),
+            NameCommand::Chdir => Row::behind_pid(1, 1),
         }
     }
 }

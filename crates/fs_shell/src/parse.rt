@@ -39,7 +39,7 @@ fn read_clean(alloc: Global, line: &[u8]) -> Result<Line, LineFault>
     ensures offered { IfOk result IsOffered }
 {
     let words = read_words(alloc, line)?;
-    Ok(Line::Event(read_line(alloc, &words)?))
+    read_line(alloc, &words).map(Line::Event)
 }
 
 // Whether it has no words, or is a comment.

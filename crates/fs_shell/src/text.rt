@@ -11,11 +11,14 @@ use fs_model::{FileType, Listing, Reply, Status};
 use posix_acl::{Acl, Perms, TextForm};
 use std::alloc::{AllocError, Global};
 
+// Most replies have no more bytes, and so take memory once.
+const USUAL_TEXT: usize = 96;
+
 /// The text of a reply, without a newline.
 pub fn reply_text(alloc: Global, reply: &Reply) -> Result<String, AllocError>
     ensures { IfOk result (λ text. string_bytes text ≡ reply_text reply.now) }
 {
-    let mut text = String::new(alloc);
+    let mut text = String::with_capacity(alloc, USUAL_TEXT)?;
     push_reply(&mut text, reply)?;
     Ok(text)
 }

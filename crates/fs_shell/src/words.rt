@@ -1,5 +1,5 @@
 //! Words of lines: what they say, and the forms that commands ask for.
-ghost use Rattle.std.specs.Prelude.{◌≡◌, ◌<◌, [], ◌∷◌, true, false, map, length, slice_index, IfOk, IfErr, MatchOption, Err};
+ghost use Rattle.std.specs.Prelude.{◌≡◌, ◌<◌, [], ◌∷◌, true, false, length, slice_index, IfOk, IfErr, MatchOption, Err};
 ghost use Rattle.fs_shell.specs.declared.line.LineFault.TheVariants.{BadEscape};
 ghost use Rattle.fs_shell.specs.Lines.{is_hex_digit, hex_value, is_plain, unescaped, word_bytes, words_of, each, with_byte};
 ghost use Rattle.fs_shell.specs.Runs.{Gives};
@@ -8,15 +8,65 @@ use crate::line::LineFault;
 use crate::places::{len_before, spaces_before};
 use memchr::memchr2;
 use std::alloc::Global;
+use std::borrow::CowSlice;
+use std::marker::Model;
 
-/// The words of a line, each with the bytes that it says.
-pub fn read_words(alloc: Global, line: &[u8]) -> Result<Vec<Vec<u8>>, LineFault>
-    ensures { Gives (λ words. map (λ word. word.items) words.items) result (each word_bytes (words_of line.now)) }
+// A list gets room for so many words at once: no command has more, a pid and its name among them.
+const MOST_WORDS: usize = 5;
+
+/// A word of a line, as the bytes that it says.
+#[derive(Drop)]
+pub struct Word<'a> {
+    // Only those of a word with escapes stand elsewhere than in the line.
+    said: CowSlice<'a, u8>,
+}
+
+impl<'a> Model for Word<'a> {
+    ghost use Rattle.std.specs.Prelude.{ℕ, List};
+    ghost use Rattle.std.specs.Cow.{cow_slice_items};
+
+    ghost Value = { List ℕ };
+
+    ghost view = { λ word. cow_slice_items word.said };
+}
+
+impl<'a> Word<'a> {
+    /// The bytes that it says.
+    pub fn bytes(&self) -> &[u8]
+        ensures { result.now ≡ self.now }
+    {
+        self.said.as_slice()
+    }
+
+    // The word that stands so in a line.
+    #[tactic(auto, unfolding(crate::specs::Lines::word_bytes))]
+    fn read(alloc: Global, text: &'a [u8]) -> Result<Word<'a>, LineFault>
+        ensures { Gives (λ word. word) result (word_bytes text.now) }
+    {
+        if text == b"\"\"".as_slice() {
+            return Ok(Word {
+                said: CowSlice::Borrowed(&[]),
+            });
+        }
+        if memchr2(b'\\', b'"', text).is_none() {
+            return Ok(Word {
+                said: CowSlice::Borrowed(text),
+            });
+        }
+        Ok(Word {
+            said: CowSlice::Owned(unescaped(alloc, text)?),
+        })
+    }
+}
+
+/// The words of a line.
+pub fn read_words(alloc: Global, line: &[u8]) -> Result<Vec<Word<'_>>, LineFault>
+    ensures { Gives (λ words. words.items) result (each word_bytes (words_of line.now)) }
 {
-    let mut words = Vec::new(alloc);
+    let mut words = Vec::with_capacity(alloc, MOST_WORDS)?;
     let mut rest = line;
     while let Some((word, after)) = first_word(rest) {
-        words.push(decoded(alloc, word)?)?;
+        words.push(Word::read(alloc, word)?)?;
         rest = after;
     }
     Ok(words)
@@ -32,17 +82,6 @@ fn first_word(line: &[u8]) -> Option<(&[u8], &[u8])>
         return None;
     }
     Some(begun.split_at(len_before(b' ', begun)))
-}
-
-// The bytes that a word says.
-#[tactic(auto, unfolding(crate::specs::Lines::word_bytes))]
-fn decoded(alloc: Global, word: &[u8]) -> Result<Vec<u8>, LineFault>
-    ensures { Gives (λ bytes. bytes.items) result (word_bytes word.now) }
-{
-    if word == b"\"\"".as_slice() {
-        return Ok(Vec::new(alloc));
-    }
-    unescaped(alloc, word)
 }
 
 // The bytes that a text with escapes says.

@@ -1,10 +1,10 @@
-use Rattle.std.proofs.Common.{◌≡◌, length, map}
+use Rattle.std.proofs.Common.{◌≡◌, length}
 use Rattle.fs_shell.specs.Lines.{each, word_bytes, words_of}
 use Rattle.fs_shell.proofs.Escapes.{with_front}
 use Rattle.fs_shell.proofs.words.read_words.Given as goal
 
 abbrev pub invariant-loop-word : goal.invariant-loop-word
-invariant-loop-word l = with_front (map (λ word. word.items) l.words.items) (each word_bytes (words_of l.rest)) ≡ each word_bytes (words_of l.fn.line)
+invariant-loop-word l = with_front l.words.items (each word_bytes (words_of l.rest)) ≡ each word_bytes (words_of l.fn.line)
 
 abbrev pub decreases-loop-word : goal.decreases-loop-word
 decreases-loop-word l = length l.rest
