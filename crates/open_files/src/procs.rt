@@ -1,5 +1,5 @@
 //! The table of processes.
-ghost use Rattle.std.specs.Prelude.{◌≡◌, ◌≤◌, ◌==◌, ◌%◌, ◌↔◌, ◌⊎◌, [], length, option_copied, Some, None, Ok, Err, IsSome, IsOk, IfOk, IfErr, OnErr};
+ghost use Rattle.std.specs.Prelude.{◌≡◌, ◌≤◌, ◌==◌, ◌%◌, ◌↔◌, ◌⊎◌, [], length, option_copied, Some, None, Ok, Err, IsSome, IsOk, IfOk, IfErr, OnErr, IsTrue};
 ghost use Rattle.std.specs.List.{list_any};
 ghost use Rattle.std.specs.Ordering.{nat_cmp};
 ghost use Rattle.fs_cred.specs.declared.errno.Errno.TheVariants.{ESRCH, EAGAIN, ENOMEM};
@@ -48,6 +48,13 @@ impl Procs {
         }
     }
 
+    /// Whether there is no room for another process.
+    pub fn is_full(&self) -> bool
+        ensures { IsTrue result ↔ (processes_limit ≤ length self.now) }
+    {
+        self.slab.len() >= MAX_PROCESSES
+    }
+
     /// Adds a process, and answers its number. `EAGAIN`: there are 64. `ENOMEM`: there is no memory.
     ///
     /// A process stands at the root, with umask 022 and nothing open. No later call on it takes memory.
@@ -58,7 +65,7 @@ impl Procs {
         ensures refused { IfErr result (λ errno. (errno ≡ EAGAIN) ⊎ (errno ≡ ENOMEM)) }
         ensures same { OnErr result (self.new ≡ self.old) }
     {
-        if self.slab.len() >= MAX_PROCESSES {
+        if self.is_full() {
             return Err(Errno::EAGAIN);
         }
         if self.slab.vacant_key() == usize::MAX {

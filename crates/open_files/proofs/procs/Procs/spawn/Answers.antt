@@ -1,35 +1,31 @@
-use Rattle.std.proofs.Common.{◌≡◌, arith, ap, refl, ◌∙◌, length, ◌+◌}
+use Rattle.std.proofs.Common.{◌<◌, ap, refl, ◌∙◌, length, ◌+◌, inl, inr}
+use Rattle.std.proofs.lemmas.Bool.{cases_lt}
 use Rattle.std.specs.Ordering.{nat_cmp}
 use Rattle.fs_layout.specs.Maps.{with_entry}
-use Rattle.open_files.proofs.Numbered.{table_count, at_key, added, filled_is_table}
+use Rattle.open_files.proofs.Numbered.{at_key, added, filled_is_table}
 use Rattle.open_files.proofs.procs.Procs.spawn.Goals as goal
 
-pub returns-then-len-ge-MAX_PROCESSES-clause-full : goal.returns-then-len-ge-MAX_PROCESSES-clause-full
-returns-then-len-ge-MAX_PROCESSES-clause-full c =
-    let count : c.len.result ≡ length c.args.self.now = c.len.ensures ∙ table_count c.self.inside.slab ∙ ap length c.self.view_is in
-    (λ _. omega (arith, count, c.if-len-ge-MAX_PROCESSES.true), λ _. refl)
+pub returns-then-is_full-clause-full : goal.returns-then-is_full-clause-full
+returns-then-is_full-clause-full c = (λ _. c.is_full.ensures.0 c.if-is_full.true, λ _. refl)
 
 pub returns-then-vacant_key-clause-full : goal.returns-then-vacant_key-clause-full
-returns-then-vacant_key-clause-full c =
-    let count : c.len.result ≡ length c.args.self.now = c.len.ensures ∙ table_count c.self.inside.slab ∙ ap length c.self.view_is in
-    (λ e. absurd (cc), λ le. absurd (omega (arith, count, le, c.if-len-ge-MAX_PROCESSES.false)))
+returns-then-vacant_key-clause-full c = (λ e. absurd (cc), λ many. absurd (let full = c.is_full.ensures.1 many in let not_full = c.if-is_full.false in cc))
 
 pub returns-in_default-clause-full : goal.returns-in_default-clause-full
-returns-in_default-clause-full c =
-    let count : c.len.result ≡ length c.args.self.now = c.len.ensures ∙ table_count c.self.inside.slab ∙ ap length c.self.view_is in
-    (λ e. absurd (cc), λ le. absurd (omega (arith, count, le, c.if-len-ge-MAX_PROCESSES.false)))
+returns-in_default-clause-full c = (λ e. absurd (cc), λ many. absurd (let full = c.is_full.ensures.1 many in let not_full = c.if-is_full.false in cc))
 
 pub returns-clause-full : goal.returns-clause-full
-returns-clause-full c =
-    let count : c.len.result ≡ length c.args.self.now = c.len.ensures ∙ table_count c.self.inside.slab ∙ ap length c.self.view_is in
-    (λ e. absurd (cc), λ le. absurd (omega (arith, count, le, c.if-len-ge-MAX_PROCESSES.false)))
+returns-clause-full c = (λ e. absurd (cc), λ many. absurd (let full = c.is_full.ensures.1 many in let not_full = c.if-is_full.false in cc))
 
 pub invariant_of-self-2 : goal.invariant_of-self-2
 invariant_of-self-2 c =
-    let count : c.len.result ≡ length c.args.self.now = c.len.ensures ∙ table_count c.self.inside.slab ∙ ap length c.self.view_is in
+    let few : length c.args.self.now < 64 = elim (cases_lt (length c.args.self.now) 64) [
+      | inl less ↦ less
+      | inr many ↦ absurd (let full = c.is_full.ensures.1 many in let not_full = c.if-is_full.false in cc)
+    ] in
     filled_is_table c.self.inside.slab.slots c.args.self.now c.self.view_is c.insert.new.self.slots c.in-Ok.key c.new.result c.self.invariant
     (record { here = c.in-Ok.ensures.updates.changed; others = c.in-Ok.ensures.updates.others }) c.in-Ok.ensures.was_vacant
-    (omega (arith, count, c.if-len-ge-MAX_PROCESSES.false)) c.new.ensures.kept
+    few c.new.ensures.kept
 
 pub returns-clause-unused : goal.returns-clause-unused
 returns-clause-unused c = at_key c.self.inside.slab.slots c.args.self.now c.self.view_is c.in-Ok.key ∙ c.in-Ok.ensures.was_vacant
