@@ -16,7 +16,6 @@ use Rattle.fs_layout.specs.Maps.{get}
 use Rattle.sector_txn.specs.Sectors.{TxnState, SameStore, IsUnchanged}
 use Rattle.sector_txn.proofs.Changes.{store_same, store_joined}
 use Rattle.fs_model.specs.declared.call.Call.{Call}
-use Rattle.fs_model.specs.declared.event.Event.TheVariants.{Call as Calls}
 use Rattle.fs_model.specs.declared.reply.Reply.{Reply}
 use Rattle.fs_model.specs.declared.walk.Form.{Form}
 use Rattle.fs_model.specs.declared.walk.Found.{Found}
@@ -26,7 +25,7 @@ use Rattle.fs_model.specs.Processes.{Process, Desks}
 use Rattle.fs_model.specs.Rows.{row_of}
 use Rattle.fs_model.specs.Scenes.{Scene, Effect, answers, by_path}
 use Rattle.fs_model.specs.States.{State}
-use Rattle.fs_model.specs.Steps.{asks_in_call, firm_refusal}
+use Rattle.fs_model.specs.Steps.{asks_in_call}
 use Rattle.fs_model.specs.Trees.{Tree}
 use Rattle.block_map.proofs.Runs.{unchanged_joined}
 use Rattle.path_walk.specs.Answers.{refused_or, IsAnswered}

@@ -1,5 +1,5 @@
 -- A call joined from its parts: the checks and the walk of its path, what it asks of what was found, and its effect.
-use Rattle.std.specs.Prelude.{◌≡◌, ℕ, ◌<◌, List, [], ◌∷◌, ◌++◌, Option, None, Some, IsTrue, Result, Ok, Err, OnOk, OnErr}
+use Rattle.std.specs.Prelude.{◌≡◌, ℕ, ◌<◌, List, [], ◌∷◌, ◌++◌, None, Some, IsTrue, Result, Ok, Err, OnOk, OnErr}
 use Rattle.std.proofs.Common.{refl, sym, ap, subst, ◌∙◌, inl, inr}
 use Rattle.std.specs.Ordering.{nat_cmp}
 use Rattle.sector_disk.specs.Disk.{DiskState}
@@ -8,7 +8,7 @@ use Rattle.fs_cred.specs.declared.refusal.Refusal.{Refusal}
 use Rattle.fs_cred.specs.declared.refusal.Refusal.TheVariants.{Failed}
 use Rattle.fs_layout.specs.declared.place.Place.{Place}
 use Rattle.fs_layout.specs.Bytes.{SectorMap}
-use Rattle.fs_layout.specs.Maps.{get, with_entry}
+use Rattle.fs_layout.specs.Maps.{get}
 use Rattle.sector_txn.specs.Sectors.{TxnState, IsUnchanged}
 use Rattle.fs_model.specs.declared.call.Call.{Call}
 use Rattle.fs_model.specs.declared.event.Event.TheVariants.{Call as Calls}
@@ -17,13 +17,13 @@ use Rattle.fs_model.specs.declared.walk.Form.{Form}
 use Rattle.fs_model.specs.declared.walk.Found.{Found}
 use Rattle.fs_model.specs.Changes.{Same, changed, swept}
 use Rattle.fs_model.specs.Demands.{Demand, or_else, first_of}
-use Rattle.fs_model.specs.Parts.{path_checks, parts_of, start_of}
+use Rattle.fs_model.specs.Parts.{path_checks}
 use Rattle.fs_model.specs.Processes.{Process, Desks}
 use Rattle.fs_model.specs.Rows.{row_of}
 use Rattle.fs_model.specs.Scenes.{Scene, Effect, Row, answers, by_path}
-use Rattle.fs_model.specs.Stands.{HoldsAll, placed, room_of}
+use Rattle.fs_model.specs.Stands.{HoldsAll, placed}
 use Rattle.fs_model.specs.States.{State, IsProcess}
-use Rattle.fs_model.specs.Steps.{Choice, After, after, after_call, after_effect, asks_in_call, early_refusal, late_refusal, firm_refusal, other_refusal, found_by, scene_of, trail_in, unchanged}
+use Rattle.fs_model.specs.Steps.{Choice, after, after_call, after_effect, asks_in_call, early_refusal, late_refusal, firm_refusal, other_refusal, found_by, trail_in, unchanged}
 use Rattle.fs_model.specs.Trails.{trail_of}
 use Rattle.fs_model.specs.Trees.{Room, Tree, IsTree}
 use Rattle.fs_model.specs.Walks.{found_of, first_refusal}

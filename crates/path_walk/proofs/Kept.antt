@@ -1,6 +1,6 @@
 -- What reads leave as it was.
 use Rattle.std.proofs.Common.{◌≡◌, ◌≤◌, ◌∙◌, Result, Ok, Err, sym, ap, subst, arith, inl, inr, ◌⊎◌}
-use Rattle.std.specs.Prelude.{IsErr, IsErrAnd, IfOk, IfErr, OnOk, MatchResult}
+use Rattle.std.specs.Prelude.{IsErr, IsErrAnd, IfOk, IfErr, OnOk}
 use Rattle.sector_disk.specs.Disk.{DiskState}
 use Rattle.sector_disk.proofs.Moments.{failed_later}
 use Rattle.fs_cred.specs.declared.errno.Errno.TheVariants.{EIO, ELOOP, ENOMEM}

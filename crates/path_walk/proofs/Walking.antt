@@ -1,31 +1,25 @@
 -- The whole of a walk.
-use Rattle.std.specs.Prelude.{◌≡◌, ◌≢◌, ℕ, ◌+◌, ◌*◌, ◌^◌, ◌<◌, ◌≤◌, Bool, true, false, not, ◌&&◌, cond, List, length, None, Some, Result, Ok, Err}
+use Rattle.std.specs.Prelude.{◌≡◌, ℕ, ◌+◌, ◌*◌, ◌^◌, ◌<◌, ◌≤◌, Bool, true, false, not, ◌&&◌, cond, List, length, Some, Ok, Err}
 use Rattle.std.proofs.Common.{sym, ap, subst, arith, ◌∙◌, inl, inr}
 use Rattle.sector_disk.specs.Disk.{DiskState, HasFailed}
-use Rattle.fs_cred.specs.Credentials.{Credential}
-use Rattle.fs_cred.specs.declared.errno.Errno.TheVariants.{EIO, ENOMEM, ENOTDIR}
+use Rattle.fs_cred.specs.declared.errno.Errno.TheVariants.{EIO, ENOTDIR}
 use Rattle.fs_cred.specs.declared.refusal.Refusal.{Refusal}
 use Rattle.fs_cred.specs.declared.refusal.Refusal.TheVariants.{Failed}
 use Rattle.fs_layout.specs.declared.place.Place.{Place}
 use Rattle.fs_layout.specs.Bytes.{SectorMap}
 use Rattle.fs_layout.specs.Place.{IsPlace}
 use Rattle.fs_model.specs.declared.walk.Form.{Form}
-use Rattle.fs_model.specs.declared.walk.Found.{Found}
-use Rattle.fs_model.specs.Demands.{Demand, refuse}
+use Rattle.fs_model.specs.Demands.{refuse}
 use Rattle.fs_model.specs.Limits.{root}
 use Rattle.fs_model.specs.Parts.{Parts, start_of}
-use Rattle.fs_model.specs.Trails.{trail_of}
 use Rattle.fs_model.specs.Trees.{Tree}
 use Rattle.fs_model.specs.Rules.{is_directory_kind}
-use Rattle.fs_model.specs.Walks.{first_refusal, is_parent_form}
-use Rattle.fs_model.proofs.NoIoErrors.{walks_are_no_eio}
-use Rattle.bit_alloc.specs.Faults.{HasCauseOf}
+use Rattle.fs_model.specs.Walks.{is_parent_form}
 use Rattle.path_walk.specs.declared.walker.Walker.{Walker}
-use Rattle.path_walk.specs.Answers.{refused_or, IsCaused, IsAnswered}
+use Rattle.path_walk.specs.Answers.{refused_or, IsCaused}
 use Rattle.path_walk.specs.Rests.{found_at}
 use Rattle.path_walk.specs.HeldTrees.{IsThere}
 use Rattle.path_walk.specs.Stages.{IsAt, IsStart, HasTaken, IsWay, HasRoom, bytes_ahead, arrival_of, last_done}
-use Rattle.path_walk.specs.Walked.{walk_of}
 
 -- ---- the start
 pub start_below : (parts : Parts) (p : Place) (cwd : ℕ) → IsPlace p → cwd < p.inodes → start_of parts cwd < p.inodes

@@ -4,7 +4,7 @@
 --     IsDone        nothing refuses the call, and the map holds the tree after it
 --     IsRefused        why the call is refused
 --     Performs        the whole
-use Rattle.std.specs.Prelude.{◌≡◌, ℕ, Option, None, Some, IsTrue, IsFalse, Result, MatchResult, OnOk, OnErr}
+use Rattle.std.specs.Prelude.{◌≡◌, ℕ, None, Some, IsTrue, IsFalse, Result, MatchResult, OnOk, OnErr}
 use Rattle.sector_disk.specs.Disk.{DiskState, HasFailed}
 use Rattle.fs_cred.specs.declared.errno.Errno.TheVariants.{ENOMEM, EIO}
 use Rattle.fs_cred.specs.declared.refusal.Refusal.{Refusal}
