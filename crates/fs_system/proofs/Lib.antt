@@ -14,6 +14,7 @@ pub mod Methods
 pub mod Mounts
 pub mod Performed
 pub mod Places
+pub mod Played
 pub mod Runs
 pub mod Soundness
 pub mod SpaceTests

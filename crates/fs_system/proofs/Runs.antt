@@ -49,7 +49,7 @@ halting old new e r (step.lacks_memory h f q i j) runs x = stayed old new runs j
 halting old new e r (step.read_fails h f i j) runs x = ap is_io_error i
 halting old new e r (step.write_fails c a i d q j) runs x = ap is_io_error i
 
-only_here : (t : Tree) → Contains (t ∷ []) t
+pub only_here : (t : Tree) → Contains (t ∷ []) t
 only_here t = (0, omega arith, refl)
 
 -- ---- images

@@ -10,3 +10,4 @@ pub mod Making
 pub mod Sound
 pub mod Layouts
 pub mod Sweeping
+pub mod Played

@@ -41,6 +41,17 @@ pub enum MountFault {
     OutOfMemory,
 }
 
+/// Why [`play`](crate::play) played nothing.
+#[derive(Clone, Copy, Debug, PartialEq, Eq, Error)]
+pub enum PlayFault {
+    /// The disk was not mounted.
+    #[error("Mount {0}")]
+    Mount(MountFault),
+    /// It was mounted, and there was no memory for the replies.
+    #[error("OutOfMemory")]
+    OutOfMemory,
+}
+
 // The number of the rule on the superblock.
 const SUPERBLOCK_RULE: u8 = 1;
 

@@ -12,6 +12,7 @@ ghost use Rattle.fs_system.specs.Seen.{StandsForSome, EachStandsForSome, HasPart
 ghost use Rattle.fs_system.specs.Doing.{Happens, HappensLast, FlushesFor};
 ghost use Rattle.fs_system.specs.Replies.{spawned, finished, unmounted, counted};
 ghost use Rattle.fs_system.specs.Playing.{Mounts, FailsToMount};
+ghost use Rattle.fs_system.specs.Played.{HasDisk};
 ghost use Rattle.fs_system.specs.Mounting.{StandsAsBefore, IsNotMounted, disk_mounted, disk_of_store, is_halted, LeavesHalted};
 ghost use Rattle.fs_model.specs.declared.event.RestartFault.TheVariants.{DiskFault as Device};
 
@@ -24,7 +25,7 @@ use fs_layout::{Place, Super, place_of};
 use fs_model::{Call, Reply, RestartFault};
 use open_files::Procs;
 use redo_journal::{Broken, Journal, OpenFault};
-use sector_disk::{Disk, DiskFault};
+use sector_disk::{CrashDisk, Disk, DiskFault};
 use sector_txn::Store;
 use std::alloc::Global;
 use std::marker::Model;
@@ -90,6 +91,19 @@ fn open_store<D: Disk + Drop>(alloc: Global, disk: D) -> Result<Store<D>, (Resta
         },
         Err((OpenFault::DiskFault, disk)) => Err((RestartFault::DiskFault, disk)),
         Err((OpenFault::BadCommitSector, _)) => unreachable!(),
+    }
+}
+
+// Lets this many writes and syncs of the disk pass, and fails all later ones.
+fn arm_disk<D: CrashDisk>(base: &mut Result<Store<D>, Broken<D>>, passes: u64)
+    ensures stays { (p : Place) (desks : Desks) (s : State)
+        → IsOn D.state p desks (Some base.old) s → IsOn D.state p desks (Some base.new) s }
+    ensures same { IsSame (D.state (disk_after base.old)) (D.state (disk_after base.new)) }
+    ensures failures { (D.state (disk_after base.new)).failures ≡ (D.state (disk_after base.old)).failures }
+{
+    match base {
+        Ok(store) => store.arm(passes),
+        Err(broken) => broken.arm(passes),
     }
 }
 
@@ -180,6 +194,23 @@ impl<D: Disk + Drop> Fs<D> {
             return Err(Errno::EIO);
         }
         self.procs.spawn(cred)
+    }
+
+    // A new process with a copy of this credential.
+    pub(crate) fn spawn_copy(&mut self, cred: &Cred) -> Result<usize, Errno>
+        ensures does { Happens D.state self.old self.new (Spawn cred.now) (spawned result) }
+        ensures halted { LeavesHalted self.old self.new }
+    {
+        if self.is_halted() {
+            return Err(Errno::EIO);
+        }
+        if self.procs.is_full() {
+            return Err(Errno::EAGAIN);
+        }
+        let Ok(copy) = Cred::new(self.alloc, cred.uid(), cred.gid(), cred.groups()) else {
+            return Err(Errno::ENOMEM);
+        };
+        self.spawn(copy)
     }
 
     /// A process ends, and what it has open is closed. A file that it alone had open, and that has no name, is freed.
@@ -342,5 +373,31 @@ impl<D: Disk + Drop> Fs<D> {
             Some(Err(broken)) => (broken.into_disk(), Some(Errno::EIO)),
             None => unreachable!(),
         }
+    }
+    // The disk as it is: what was done since the last sync may be lost at a stop.
+    pub(crate) fn into_disk(self) -> D
+        ensures disk { HasDisk self.base result }
+        ensures again { EachStandsForSome (D.state result) }
+    {
+        let Fs { base, .. } = self;
+        match base {
+            Some(Ok(store)) => store.into_disk(),
+            Some(Err(broken)) => broken.into_disk(),
+            None => unreachable!(),
+        }
+    }
+}
+
+impl<D: CrashDisk + Drop> Fs<D> {
+    // Lets this many writes and syncs of the disk pass, and fails all later ones.
+    pub(crate) fn arm(&mut self, passes: u64)
+        ensures state { (s : State) → IsIn D.state self.old s → IsIn D.state self.new s }
+        ensures same { IsSame (disk_in D.state self.old.base) (disk_in D.state self.new.base) }
+        ensures failures { (disk_in D.state self.new.base).failures ≡ (disk_in D.state self.old.base).failures }
+    {
+        let Some(base) = &mut self.base else {
+            unreachable!()
+        };
+        arm_disk(base, passes);
     }
 }

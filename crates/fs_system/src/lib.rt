@@ -1,6 +1,7 @@
 //! The file system: processes and their calls on a tree that a disk stands for.
 #![tactic(auto)]
 
+mod answering;
 mod calls;
 mod faults;
 mod fs;
@@ -9,6 +10,7 @@ mod laws;
 mod mkfs_tests;
 mod new_disk;
 mod new_tables;
+mod playing;
 #[cfg(test)]
 mod space_tests;
 mod stored;
@@ -16,7 +18,8 @@ mod sweeping;
 #[cfg(test)]
 mod tests;
 
-pub use faults::{MkfsFault, MountFault};
+pub use faults::{MkfsFault, MountFault, PlayFault};
 pub use fs::Fs;
 pub use laws::{histories_are_runs, trees_are_sound};
 pub use new_disk::mkfs;
+pub use playing::play;

@@ -1,0 +1,63 @@
+//! What a file system answers to an event, whichever it is.
+
+ghost use Rattle.std.specs.Prelude.{◌≡◌, IsTrue};
+ghost use Rattle.fs_model.specs.Steps.{is_of_machine};
+ghost use Rattle.fs_system.specs.Doing.{Happens};
+ghost use Rattle.fs_system.specs.Mounting.{LeavesHalted};
+ghost use Rattle.fs_system.specs.Replies.{spawned, finished, counted};
+
+use crate::fs::Fs;
+use fs_cred::{Errno, Refusal};
+use fs_model::{Event, Reply};
+use sector_disk::Disk;
+
+// The reply to spawn.
+fn spawned(outcome: Result<usize, Errno>) -> Reply
+    ensures { result ≡ spawned outcome }
+{
+    match outcome {
+        Ok(pid) => Reply::Pid(pid),
+        Err(errno) => Reply::Refused(Refusal::Failed(errno)),
+    }
+}
+
+// The reply to exit, fsync and sync.
+fn finished(outcome: Result<(), Errno>) -> Reply
+    ensures { result ≡ finished outcome }
+{
+    match outcome {
+        Ok(()) => Reply::Done,
+        Err(errno) => Reply::Refused(Refusal::Failed(errno)),
+    }
+}
+
+// The reply to statfs.
+fn counted(outcome: Result<(u32, u32), Errno>) -> Reply
+    ensures { result ≡ counted outcome }
+{
+    match outcome {
+        Ok((sectors, inodes)) => Reply::Space { sectors, inodes },
+        Err(errno) => Reply::Refused(Refusal::Failed(errno)),
+    }
+}
+
+impl<D: Disk + Drop> Fs<D> {
+    /// The reply to an event that is not the disk's: all but arm and restart.
+    ///
+    /// It is that of the method for the event; a process gets a copy of the credential.
+    pub fn answer(&mut self, event: &Event) -> Reply
+        requires { IsTrue (is_of_machine event.now) }
+        ensures does { Happens D.state self.old self.new event.now result }
+        ensures halted { LeavesHalted self.old self.new }
+    {
+        match event {
+            Event::Spawn(cred) => spawned(self.spawn_copy(cred)),
+            Event::Exit(pid) => finished(self.exit(*pid)),
+            Event::Call(pid, call) => self.call(*pid, call),
+            Event::Fsync { pid, fd } => finished(self.fsync(*pid, *fd)),
+            Event::Sync => finished(self.sync()),
+            Event::Statfs => counted(self.statfs()),
+            Event::Arm(_) | Event::Restart(..) => unreachable!(),
+        }
+    }
+}
