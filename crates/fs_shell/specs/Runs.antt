@@ -2,17 +2,17 @@
 --     Gives, GivesSaid        what reading comes to
 --     GivesAcl, GivesAclBy        the same of an ACL
 --     IsRow        a row as it is in the program
---     is_offered, IsOffered        a line asks for no event of the disk's
+--     IsOffered        a line asks for no event of the disk's
 --     answer_text, answers_text, count_faults        what is written for answers
 --     LineAnswers, ScriptAnswers        one line, and all lines of a script
 --     Ran        a run of a script
-use Rattle.std.specs.Prelude.{◌≡◌, ◌≢◌, ◌≤◌, ◌+◌, ℕ, Bool, true, false, List, [], ◌∷◌, ◌++◌, length, Option, IfSome, IsTrue, Result, Ok, Err, MatchResult}
+use Rattle.std.specs.Prelude.{◌≡◌, ◌≢◌, ◌≤◌, ◌+◌, ℕ, true, List, [], ◌∷◌, ◌++◌, length, Option, IfSome, IsTrue, Result, Ok, Err, MatchResult}
 use Rattle.std.specs.List.{flat_map}
 use Rattle.std.specs.Io.KnownBytes.{Appends}
 use Rattle.posix_acl.specs.AccessList.{AccessList}
 use Rattle.fs_model.specs.declared.event.Event.{Event}
-use Rattle.fs_model.specs.declared.event.Event.TheVariants.{Arm, Restart}
 use Rattle.fs_model.specs.declared.reply.Reply.{Reply as ReplyType}
+use Rattle.fs_model.specs.Steps.{is_of_machine}
 use Rattle.fs_shell.specs.declared.answer.Answer.{Answer}
 use Rattle.fs_shell.specs.declared.answer.Answer.TheVariants.{Nothing, Reply, Fault}
 use Rattle.fs_shell.specs.declared.answer.Count.{Count}
@@ -44,15 +44,9 @@ GivesAcl read words n = (says : Option AccessList → Event) → GivesSaid (λ a
 abbrev pub GivesAclBy : Result (Option AccessList) LineFault → List ℕ → Type 0
 GivesAclBy read word = (says : Option AccessList → Event) → GivesSaid (λ acl. Asks (says acl)) read (acl_said_by says word)
 
--- it is none of the disk's
-abbrev pub is_offered : Event → Bool
-is_offered (Arm writes) = false
-is_offered (Restart kept writes) = false
-is_offered _ = true
-
 abbrev pub IsOffered : Line → Type 0
 IsOffered Blank = Unit {0}
-IsOffered (Asks e) = IsTrue (is_offered e)
+IsOffered (Asks e) = IsTrue (is_of_machine e)
 
 -- a row as it is in the program, its name aside
 pub record IsRow (r : CommandRow) (held : Row) : Type 0 where

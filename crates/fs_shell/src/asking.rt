@@ -4,7 +4,8 @@ ghost use Rattle.fs_shell.specs.declared.command.Command.TheVariants.{Spawn};
 ghost use Rattle.fs_shell.specs.Commands.{begins_with_digit, command_row, path_row, descriptor_row, name_row, row_says, read_pid, words_value, words_behind_pid, read_command, asked};
 ghost use Rattle.fs_shell.specs.declared.line.Line.TheVariants.{Event as Asks};
 ghost use Rattle.fs_shell.specs.declared.line.LineFault.TheVariants.{OutOfMemory};
-ghost use Rattle.fs_shell.specs.Runs.{Gives, GivesSaid, is_offered};
+ghost use Rattle.fs_model.specs.Steps.{is_of_machine};
+ghost use Rattle.fs_shell.specs.Runs.{Gives, GivesSaid};
 
 use crate::command::{Command, DescriptorCommand, NameCommand, PathCommand};
 use crate::forms::read_number;
@@ -25,7 +26,7 @@ const NEW_FILE_MODE: u16 = 0o666;
 #[tactic(auto, unfolding(crate::specs::Commands::words_value))]
 pub fn read_line(alloc: Global, words: &[Word<'_>]) -> Result<Event, LineFault>
     ensures said { GivesSaid Asks result (words_value words.now) }
-    ensures offered { IfOk result (λ e. IsTrue (is_offered e)) }
+    ensures offered { IfOk result (λ e. IsTrue (is_of_machine e)) }
 {
     let Some((first, rest)) = words.split_first() else {
         return Err(LineFault::WordCount);
@@ -47,7 +48,7 @@ fn begins_with_digit(word: &[u8]) -> bool
 // What the words behind a pid ask for.
 fn read_behind_pid(alloc: Global, pid: &[u8], words: &[Word<'_>]) -> Result<Event, LineFault>
     ensures said { GivesSaid Asks result (words_behind_pid pid.now words.now) }
-    ensures offered { IfOk result (λ e. IsTrue (is_offered e)) }
+    ensures offered { IfOk result (λ e. IsTrue (is_of_machine e)) }
 {
     match words.split_first() {
         Some((name, rest)) => read_command(alloc, Command::named(name.bytes(), true), pid, rest),
@@ -63,7 +64,7 @@ fn read_command(
     words: &[Word<'_>],
 ) -> Result<Event, LineFault>
     ensures said { GivesSaid Asks result (read_command command pid.now words.now) }
-    ensures offered { IfOk result (λ e. IsTrue (is_offered e)) }
+    ensures offered { IfOk result (λ e. IsTrue (is_of_machine e)) }
 {
     let Some(command) = command else {
         return Err(LineFault::UnknownCommand);
@@ -91,7 +92,7 @@ fn read_words(
     words: &[Word<'_>],
 ) -> Result<Event, LineFault>
     ensures said { GivesSaid Asks result (row_says (command_row command) pid words.now) }
-    ensures offered { IfOk result (λ e. IsTrue (is_offered e)) }
+    ensures offered { IfOk result (λ e. IsTrue (is_of_machine e)) }
 {
     match command {
         Command::Spawn => read_spawn(alloc, words),
@@ -108,7 +109,7 @@ fn read_words(
 // The credential of a new process.
 fn read_spawn(alloc: Global, words: &[Word<'_>]) -> Result<Event, LineFault>
     ensures said { Gives asked result (row_says (command_row Spawn) 0 words.now) }
-    ensures offered { IfOk result (λ e. IsTrue (is_offered e)) }
+    ensures offered { IfOk result (λ e. IsTrue (is_of_machine e)) }
 {
     let uid = id_at(words, 0)?;
     let gid = id_at(words, 1)?;
@@ -134,7 +135,7 @@ fn read_path_words(
     words: &[Word<'_>],
 ) -> Result<Event, LineFault>
     ensures said { GivesSaid Asks result (row_says (path_row command) pid words.now) }
-    ensures offered { IfOk result (λ e. IsTrue (is_offered e)) }
+    ensures offered { IfOk result (λ e. IsTrue (is_of_machine e)) }
 {
     let path = bytes_at(alloc, words, 0)?;
     match command {
@@ -182,7 +183,7 @@ fn read_descriptor_words(
     words: &[Word<'_>],
 ) -> Result<Event, LineFault>
     ensures said { Gives asked result (row_says (descriptor_row command) pid words.now) }
-    ensures offered { IfOk result (λ e. IsTrue (is_offered e)) }
+    ensures offered { IfOk result (λ e. IsTrue (is_of_machine e)) }
 {
     let fd = number_at(words, 0)?;
     match command {
@@ -218,7 +219,7 @@ fn read_name_words(
     words: &[Word<'_>],
 ) -> Result<Event, LineFault>
     ensures said { Gives asked result (row_says (name_row command) pid words.now) }
-    ensures offered { IfOk result (λ e. IsTrue (is_offered e)) }
+    ensures offered { IfOk result (λ e. IsTrue (is_of_machine e)) }
 {
     let first = bytes_at(alloc, words, 0)?;
     match command {

@@ -31,13 +31,13 @@ pub(crate) fn mounted<D: Disk + Drop>(alloc: Global, disk: D) -> Result<Fs<D>, F
 }
 
 // The disk, all of whose writes and syncs fail after so many.
-pub(crate) fn armed<D: CrashDisk>(mut disk: D, passes: u64) -> D {
+fn armed<D: CrashDisk>(mut disk: D, passes: u64) -> D {
     disk.arm(passes);
     disk
 }
 
 // The disk after a stop that picks so.
-pub(crate) fn stopped<D: CrashDisk>(mut disk: D, choice: &[u8]) -> D {
+fn stopped<D: CrashDisk>(mut disk: D, choice: &[u8]) -> D {
     disk.crash(choice);
     disk
 }

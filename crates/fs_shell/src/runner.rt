@@ -1,20 +1,16 @@
 //! Runs scripts.
-ghost use Rattle.std.specs.Prelude.{◌≡◌, IsTrue, OnOk};
+ghost use Rattle.std.specs.Prelude.{OnOk};
 ghost use Rattle.std.specs.Io.KnownBytes.{IsAtEnd};
 ghost use Rattle.fs_model.specs.States.{State};
 ghost use Rattle.fs_model.specs.Steps.{Step};
 ghost use Rattle.fs_system.specs.Seen.{IsIn};
-ghost use Rattle.fs_system.specs.Doing.{Happens};
-ghost use Rattle.fs_system.specs.Replies.{spawned, finished, counted};
-ghost use Rattle.fs_shell.specs.Runs.{is_offered, LineAnswers, Ran};
+ghost use Rattle.fs_shell.specs.Runs.{LineAnswers, Ran};
 
 use crate::answer::{Answer, Count, write_answer};
 use crate::fault::RunFault;
 use crate::line::{Line, MAX_LINE};
 use crate::parse::parse_line;
 use crate::script::Pending;
-use fs_cred::{Errno, Refusal};
-use fs_model::{Event, Reply};
 use fs_system::Fs;
 use sector_disk::Disk;
 use std::alloc::Global;
@@ -57,53 +53,7 @@ fn perform<D: Disk + Drop>(alloc: Global, fs: &mut Fs<D>, line: &[u8]) -> Answer
 {
     match parse_line(alloc, line) {
         Ok(Line::Blank) => Answer::Nothing,
-        Ok(Line::Event(event)) => Answer::Reply(answer(fs, event)),
+        Ok(Line::Event(event)) => Answer::Reply(fs.answer(&event)),
         Err(fault) => Answer::Fault(fault),
-    }
-}
-
-// What the file system answers to an event.
-fn answer<D: Disk + Drop>(fs: &mut Fs<D>, event: Event) -> Reply
-    requires { IsTrue (is_offered event) }
-    ensures { Happens D.state fs.old fs.new event result }
-{
-    match event {
-        Event::Spawn(cred) => spawned(fs.spawn(cred)),
-        Event::Exit(pid) => finished(fs.exit(pid)),
-        Event::Call(pid, call) => fs.call(pid, &call),
-        Event::Fsync { pid, fd } => finished(fs.fsync(pid, fd)),
-        Event::Sync => finished(fs.sync()),
-        Event::Statfs => counted(fs.statfs()),
-        Event::Arm(_) | Event::Restart(..) => unreachable!(),
-    }
-}
-
-// The reply to spawn.
-fn spawned(outcome: Result<usize, Errno>) -> Reply
-    ensures { result ≡ spawned outcome }
-{
-    match outcome {
-        Ok(pid) => Reply::Pid(pid),
-        Err(errno) => Reply::Refused(Refusal::Failed(errno)),
-    }
-}
-
-// The reply to exit, fsync and sync.
-fn finished(outcome: Result<(), Errno>) -> Reply
-    ensures { result ≡ finished outcome }
-{
-    match outcome {
-        Ok(()) => Reply::Done,
-        Err(errno) => Reply::Refused(Refusal::Failed(errno)),
-    }
-}
-
-// The reply to statfs.
-fn counted(outcome: Result<(u32, u32), Errno>) -> Reply
-    ensures { result ≡ counted outcome }
-{
-    match outcome {
-        Ok((sectors, inodes)) => Reply::Space { sectors, inodes },
-        Err(errno) => Reply::Refused(Refusal::Failed(errno)),
     }
 }

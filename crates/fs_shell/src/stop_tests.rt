@@ -1,46 +1,111 @@
-//! What a stop leaves of calls that share commits, and calls that ask nothing of the disk.
+//! What a stop leaves at each write and sync of a commit and of a mount, as events that are played; and calls that ask nothing
+//! of the disk.
 
-use crate::row_tests::{answers, armed, made, mounted, replies, stopped};
+use crate::line::{Line, LineFault};
+use crate::parse::parse_line;
+use crate::row_tests::{answers, made, mounted, replies};
+use crate::text::reply_text;
 use crate::text_tests::push_other;
-use sector_disk::{CrashDisk, Disk, FuseDisk, MemDisk};
+use fs_model::{Bytes, Event, EventReply, RestartFault};
+use fs_system::play;
+use sector_disk::{FuseDisk, MemDisk};
 use std::alloc::{AllocError, Global};
 use std::test::Fail;
 
-// A disk with a file system on which a script has run.
-fn prepared(alloc: Global, script: &str) -> Result<MemDisk, Fail> {
-    let mut fs = mounted(alloc, made(MemDisk::new(alloc, 1024)?)?)?;
-    replies(alloc, &mut fs, script)?;
-    let (disk, _) = fs.unmount();
-    Ok(disk)
+// ---- scripts with stops
+
+// A stop that picks the content of this number in each sector, after which so many writes and syncs pass, or all.
+fn restart(alloc: Global, words: &str) -> Result<Event, Fail> {
+    let (choice, passes) = match words.split_once(' ') {
+        Some((choice, passes)) => (choice, Some(passes.parse::<u64>()?)),
+        None => (words, None),
+    };
+    let choice = Bytes::from_slice(alloc, &[choice.parse::<u8>()?; 64])?;
+    Ok(Event::Restart(choice, passes))
 }
 
-// What a script is answered where so many writes and syncs pass behind the mount, which makes one sync; and what another one
-// is answered after an unmount, a stop that picks so, and a mount.
-fn around_a_stop<D: CrashDisk + Drop>(
-    alloc: Global,
-    disk: D,
-    passes: u64,
-    choice: &[u8],
-    [script, again]: [&str; 2],
-) -> Result<(String, String), Fail> {
-    let mut fs = mounted(alloc, armed(disk, passes.saturating_add(1)))?;
-    let before = replies(alloc, &mut fs, script)?;
-    let (disk, _) = fs.unmount();
-    let mut fs = mounted(alloc, stopped(disk, choice))?;
-    let after = replies(alloc, &mut fs, again)?;
-    Ok((before, after))
+// The event of a line: one of the shell's, `arm PASSES`, `restart CHOICE`, or `restart CHOICE PASSES`.
+fn event(alloc: Global, line: &str) -> Result<Event, Fail> {
+    match line.split_once(' ') {
+        Some(("arm", passes)) => Ok(Event::Arm(passes.parse::<u64>()?)),
+        Some(("restart", words)) => restart(alloc, words),
+        _ => match parse_line(alloc, line.as_bytes()) {
+            Ok(Line::Event(event)) => Ok(event),
+            Ok(Line::Blank) => Err(LineFault::WordCount)?,
+            Err(fault) => Err(fault)?,
+        },
+    }
+}
+
+fn push_answer(alloc: Global, text: &mut String, reply: &EventReply) -> Result<(), AllocError> {
+    match reply {
+        EventReply::Reply(reply) => text.push_str(reply_text(alloc, reply)?.as_str())?,
+        EventReply::Armed => text.push_str("armed")?,
+        EventReply::Mounted => text.push_str("mounted")?,
+        EventReply::MountFailed(RestartFault::DiskFault) => text.push_str("failed DiskFault")?,
+        EventReply::MountFailed(RestartFault::OutOfMemory) => text.push_str("failed OutOfMemory")?,
+        EventReply::Down => text.push_str("down")?,
+    }
+    text.push('\n')
+}
+
+// What is answered to the lines on a disk, or why they weren't played.
+fn played(alloc: Global, disk: MemDisk, script: &str) -> Result<String, Fail> {
+    let mut events = Vec::new(alloc);
+    for line in script.split_terminator('\n') {
+        events.push(event(alloc, line)?)?;
+    }
+    let mut text = String::new(alloc);
+    let (_, outcome) = play(alloc, disk, &events);
+    match outcome {
+        Ok(replies) => {
+            for reply in &replies {
+                push_answer(alloc, &mut text, reply)?;
+            }
+        }
+        Err(fault) => write!(text, "{fault}")?,
+    }
+    Ok(text)
+}
+
+// The same on a disk with an empty file system.
+fn played_on_new(alloc: Global, script: &str) -> Result<String, Fail> {
+    played(alloc, made(MemDisk::new(alloc, 1024)?)?, script)
+}
+
+#[test]
+fn a_mount_that_failed_is_made_again(rt: HostRuntime) -> Result<(), Fail> {
+    let alloc = rt.alloc();
+    let script = "spawn 0 0\n1 mkdir /a 0755\narm 0\nsync\nrestart 0 0\nstatfs\n\
+                  restart 0\nspawn 0 0\n1 stat /a\n";
+    let wanted = "pid 1\nok\narmed\nerror EIO 5\nfailed DiskFault\ndown\n\
+                  mounted\npid 1\nerror ENOENT 2\n";
+    let seen = played_on_new(alloc, script)?;
+    let unmade = played(alloc, MemDisk::new(alloc, 1024)?, "spawn 0 0\n")?;
+    assert!(rt;
+        seen.as_str() == wanted && unmade.as_str() == "Mount NotAFileSystem",
+        "{seen} {unmade}"
+    );
+    Ok(())
 }
 
 // ---- one changed mode
 
-const MODE: [&str; 2] = [
-    "spawn 0 0\n1 chmod / 0700\nsync\n1 stat /\nspawn 0 0\n",
-    "spawn 0 0\n1 stat /\n",
-];
+const FIRST: &str = "spawn 0 0\n1 chmod / 0711\nsync\n";
 
-const HALTED: &str = "pid 1\nok\nerror EIO 5\nerror EIO 5\nerror EIO 5\n";
+const STABLE: &str = "pid 1\nok\nok\narmed\n";
 
-const SYNCED: &str = "pid 1\nok\nok\nino 1 dir 0700 links 1 uid 0 gid 0 size 0\npid 2\n";
+const MODE: &str = "1 chmod / 0700\nsync\n1 stat /\nspawn 0 0\n";
+
+const LOOK: &str = "spawn 0 0\n1 stat /\n";
+
+const EMPTY: &str = "links 1 uid 0 gid 0 size 0";
+
+// What is answered behind `armed` by a sync that is stopped, by calls before the restart, and by one after it; and the same
+// where the sync ends.
+const HALTED: &str = "ok\nerror EIO 5\nerror EIO 5\nerror EIO 5\n";
+
+const SYNCED: &str = "ok\nok\nino 1 dir 0700 links 1 uid 0 gid 0 size 0\npid 2\n";
 
 // Adds where a sync that stops after so many writes and syncs is answered in another way, or leaves other modes for choices 0
 // and 1.
@@ -51,12 +116,13 @@ fn push_mode(
     answer: &str,
     modes: [u32; 2],
 ) -> Result<(), Fail> {
-    for (choice, mode) in [[0; 64], [1; 64]].iter().zip(modes) {
-        let disk = prepared(alloc, "spawn 0 0\n1 chmod / 0711\nsync\n")?;
-        let (before, after) = around_a_stop(alloc, disk, passes, choice, MODE)?;
-        let wanted = format!(in alloc; "pid 1\nino 1 dir 0{mode} links 1 uid 0 gid 0 size 0\n")?;
-        push_other(report, before.as_str(), answer)?;
-        push_other(report, after.as_str(), wanted.as_str())?;
+    for (choice, mode) in [0, 1].iter().zip(modes) {
+        let script = format!(in alloc; "{FIRST}arm {passes}\n{MODE}restart {choice}\n{LOOK}")?;
+        let wanted = format!(in alloc;
+            "{STABLE}{answer}mounted\npid 1\nino 1 dir 0{mode} {EMPTY}\n"
+        )?;
+        let seen = played_on_new(alloc, script.as_str())?;
+        push_other(report, seen.as_str(), wanted.as_str())?;
     }
     Ok(())
 }
@@ -85,21 +151,30 @@ fn a_stopped_sync_leaves_either_mode(rt: HostRuntime) -> Result<(), Fail> {
 
 // ---- several calls
 
-const FOUR: [&str; 2] = [
-    "spawn 0 0\n1 mkdir /c 0755\n1 mkdir /d 0755\nsync\n",
-    "spawn 0 0\n1 open / r\n1 readdir 0\n",
-];
+const FOUR: &str = "spawn 0 0\n1 mkdir /a 0755\n1 mkdir /b 0755\nsync\n\
+                    1 mkdir /c 0755\n1 mkdir /d 0755\n";
+
+const LIST: &str = "spawn 0 0\n1 open / r\n1 readdir 0\n";
+
+// What stands behind the last `mounted`.
+fn after_restart(replies: &str) -> &str {
+    match replies.rsplit_once("mounted\n") {
+        Some((_, after)) => after,
+        None => replies,
+    }
+}
 
 // Adds the names that are found where the disk stops after each write and sync of a commit of two directories in turn; what
 // is the same as for the one before is left out.
-fn push_names(alloc: Global, seen: &mut String, choice: &[u8]) -> Result<(), Fail> {
+fn push_names(alloc: Global, seen: &mut String, choice: u8) -> Result<(), Fail> {
     let mut last = String::new(alloc);
     for passes in 0..30 {
-        let disk = prepared(alloc, "spawn 0 0\n1 mkdir /a 0755\n1 mkdir /b 0755\nsync\n")?;
-        let (_, after) = around_a_stop(alloc, disk, passes, choice, FOUR)?;
-        if after.as_str() != last.as_str() {
-            seen.push_str(after.as_str())?;
-            last = after;
+        let script = format!(in alloc; "{FOUR}arm {passes}\nsync\nrestart {choice}\n{LIST}")?;
+        let replies = played_on_new(alloc, script.as_str())?;
+        let names = after_restart(replies.as_str());
+        if names != last.as_str() {
+            seen.push_str(names)?;
+            last = String::from_str(alloc, names)?;
         }
     }
     Ok(())
@@ -109,8 +184,8 @@ fn push_names(alloc: Global, seen: &mut String, choice: &[u8]) -> Result<(), Fai
 fn a_stopped_sync_leaves_the_first_calls(rt: HostRuntime) -> Result<(), Fail> {
     let alloc = rt.alloc();
     let mut seen = String::new(alloc);
-    push_names(alloc, &mut seen, &[0; 64])?;
-    push_names(alloc, &mut seen, &[1; 64])?;
+    push_names(alloc, &mut seen, 0)?;
+    push_names(alloc, &mut seen, 1)?;
     let twice = "pid 1\nfd 0\nlist 1:. 1:.. 2:a 3:b\n\
                  pid 1\nfd 0\nlist 1:. 1:.. 2:a 3:b 4:c 5:d\n\
                  pid 1\nfd 0\nlist 1:. 1:.. 2:a 3:b\n\
@@ -119,19 +194,21 @@ fn a_stopped_sync_leaves_the_first_calls(rt: HostRuntime) -> Result<(), Fail> {
     Ok(())
 }
 
-// The lines that make 40 files of 2,048 bytes, and those that look at them.
-fn forty_files(alloc: Global) -> Result<(String, String), AllocError> {
-    let mut script = String::from_str(alloc, "spawn 0 0\n")?;
-    let mut look = String::from_str(alloc, "spawn 0 0\n")?;
+// The lines that make 40 files of 2,048 bytes, a restart, and those that look at the files.
+fn forty_files(alloc: Global) -> Result<String, AllocError> {
+    let mut script = String::from_str(alloc, "arm 260\nspawn 0 0\n")?;
     for n in 1..=40 {
         write!(script, "1 open /f{n} wc 0644\n1 write 0 ")?;
         for _ in 0..2048 {
             script.push('x')?;
         }
         script.push_str("\n1 close 0\n")?;
-        writeln!(look, "1 stat /f{n}")?;
     }
-    Ok((script, look))
+    script.push_str("restart 0\nspawn 0 0\n")?;
+    for n in 1..=40 {
+        writeln!(script, "1 stat /f{n}")?;
+    }
+    Ok(script)
 }
 
 // A letter for each reply of a stat: `w` for a whole file, `e` for an empty one, `-` for none.
@@ -158,16 +235,56 @@ fn are_first_files(letters: &str) -> bool {
 #[test]
 fn a_late_stop_leaves_the_first_files(rt: HostRuntime) -> Result<(), Fail> {
     let alloc = rt.alloc();
-    let (script, look) = forty_files(alloc)?;
-    let disk = prepared(alloc, "")?;
-    // The commit of 126 sectors that comes within the files passes, and the one at the end doesn't.
-    let scripts = [script.as_str(), look.as_str()];
-    let (before, after) = around_a_stop(alloc, disk, 260, &[], scripts)?;
-    let failed = before.as_str().contains("EIO");
-    let seen = letters(alloc, after.as_str())?;
+    // The commit of 126 sectors that comes within the files passes, and nothing behind it is committed.
+    let script = forty_files(alloc)?;
+    let replies = played_on_new(alloc, script.as_str())?;
+    let failed = replies.as_str().contains("EIO");
+    let seen = letters(alloc, after_restart(replies.as_str()))?;
     assert!(rt;
         !failed && are_first_files(seen.as_str()),
         "{failed} {seen}"
+    );
+    Ok(())
+}
+
+// ---- a mount that is stopped
+
+const NAMELESS: &str =
+    "spawn 0 0\n1 open /f rwc 0644\n1 write 0 hello\n1 unlink /f\n1 fsync 0\nstatfs\n";
+
+const UNLINKED: &str = "pid 1\nfd 0\nwrote 5\nok\nok\nfree 877 blocks 61 inodes\n";
+
+const NONE: &str = "spawn 0 0\n1 stat /f\nstatfs\n";
+
+const FREED: &str = "pid 1\nerror ENOENT 2\nfree 878 blocks 62 inodes\n";
+
+// Whether a mount, which frees a file without a name, ends where so many of its writes and syncs pass. Adds where the replies
+// are others than those of either, or where the next mount leaves the file.
+fn push_freed(alloc: Global, report: &mut String, passes: u64) -> Result<bool, Fail> {
+    let script = format!(in alloc; "{NAMELESS}restart 0 {passes}\nrestart 1\n{NONE}")?;
+    let replies = played_on_new(alloc, script.as_str())?;
+    let ends = !replies.as_str().contains("failed");
+    let first = if ends { "mounted" } else { "failed DiskFault" };
+    let wanted = format!(in alloc; "{UNLINKED}{first}\nmounted\n{FREED}")?;
+    push_other(report, replies.as_str(), wanted.as_str())?;
+    Ok(ends)
+}
+
+#[test]
+fn a_stopped_mount_is_made_again(rt: HostRuntime) -> Result<(), Fail> {
+    let alloc = rt.alloc();
+    let mut report = String::new(alloc);
+    let mut first = None;
+    for passes in (0..20).rev() {
+        if push_freed(alloc, &mut report, passes)? {
+            first = Some(passes);
+        }
+    }
+    // A sync; then a commit: its sectors and a sync, the commit sector and a sync, the sectors in their places and a sync, the
+    // idle commit sector and a sync.
+    assert!(rt;
+        report.is_empty() && first == Some(13),
+        "{report} {first:?}"
     );
     Ok(())
 }
@@ -190,9 +307,17 @@ const LINES: [&str; 3] = [
     "1 stat /e/x -> error EIO 5\n",
 ];
 
+// A disk with these.
+fn prepared(alloc: Global) -> Result<MemDisk, Fail> {
+    let mut fs = mounted(alloc, made(MemDisk::new(alloc, 1024)?)?)?;
+    replies(alloc, &mut fs, SMALL)?;
+    let (disk, _) = fs.unmount();
+    Ok(disk)
+}
+
 // Which of these are answered so by a disk that fails after so many calls.
 fn answered_within(alloc: Global, calls: u64) -> Result<[bool; 3], Fail> {
-    let mut fs = mounted(alloc, FuseDisk::new(prepared(alloc, SMALL)?, calls))?;
+    let mut fs = mounted(alloc, FuseDisk::new(prepared(alloc)?, calls))?;
     let cold = answers(alloc, &mut fs, LINES[0])?;
     let warm = answers(alloc, &mut fs, LINES[1])?;
     let unread = answers(alloc, &mut fs, LINES[2])?;

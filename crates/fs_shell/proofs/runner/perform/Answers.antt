@@ -6,7 +6,7 @@ use Rattle.fs_shell.proofs.runner.perform.Goals as goal
 
 pub returns-in-Ok-Event : goal.returns-in-Ok-Event
 returns-in-Ok-Event g c = λ s is.
-    let next = c.answer.ensures s is in
+    let next = c.answer.ensures.does s is in
     (next.0, next.1, is_performed _ _ (rw c.in-Ok-Event.field-0-is at c.in-Ok-Event.ensures.said) next.2.serves refl)
 
 pub returns-in-Err : goal.returns-in-Err
