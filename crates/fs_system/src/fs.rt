@@ -374,6 +374,7 @@ impl<D: Disk + Drop> Fs<D> {
             None => unreachable!(),
         }
     }
+
     // The disk as it is: what was done since the last sync may be lost at a stop.
     pub(crate) fn into_disk(self) -> D
         ensures disk { HasDisk self.base result }
