@@ -1,6 +1,6 @@
 -- A fault more that is counted: all else that is said of a call stays, and an error has its cause.
 use Rattle.std.proofs.Common.{◌≡◌, ◌⊎◌, inl, inr, ⊎_elim, ℕ, ◌<◌, ◌≤◌, ◌+◌, ◌-◌, ◌^◌, List, sym, subst, arith}
-use Rattle.std.specs.Prelude.{Result, Ok, Err, OnErr, min}
+use Rattle.std.specs.Prelude.{Result, Ok, Err, IsErr, OnOk, OnErr, min}
 use Rattle.std.proofs.lemmas.Bool.{cases_lt}
 use Rattle.sector_disk.specs.Disk.{DiskState, ChangesOnly, Elapses, HasCause, HasWriteCause}
 use Rattle.sector_disk.specs.Record.{Past, recorded_state}
@@ -24,10 +24,14 @@ at_err : {T E P : Type 0} (r : Result T E) → P → OnErr r P
 at_err (Ok x) is = tt
 at_err (Err e) is = is
 
+not_ok : {T E : Type 0} (r : Result T E) (P : Type 0) → IsErr r → OnOk r P
+not_ok (Ok x) P failed = cc
+not_ok (Err e) P failed = tt
+
 pub cause_counted : {T E : Type 0} (past later : Past) (old f g : ℕ) (r : Result T E) → old < 2 ^ 64 → old ≤ f → g ≡ min (f + 1) (2 ^ 64 - 1)
     → HasCause (recorded_state past old) (recorded_state later g) r
 cause_counted past later old f g r fits le is = record { later = omega (arith, fits, le, is); fault = at_err r (one_more old f g le is) }
 
-pub told_counted : {T E : Type 0} (past later : Past) (old f g : ℕ) (r : Result T E) → old < 2 ^ 64 → old ≤ f → g ≡ min (f + 1) (2 ^ 64 - 1)
+pub told_counted : {T E : Type 0} (past later : Past) (old f g : ℕ) (r : Result T E) → IsErr r → old < 2 ^ 64 → old ≤ f → g ≡ min (f + 1) (2 ^ 64 - 1)
     → HasWriteCause (recorded_state past old) (recorded_state later g) r
-told_counted past later old f g r fits le is = record { later = omega (arith, fits, le, is); fault = at_err r (one_more old f g le is) }
+told_counted past later old f g r failed fits le is = record { later = omega (arith, fits, le, is); fault = at_err r (one_more old f g le is); quiet = not_ok r (g ≡ old) failed }

@@ -1,8 +1,8 @@
 -- A call that a disk over another passes on to it, where neither has counted a failure before: `below` is what the disk
 -- over it is then, and `new` the disk below afterwards.
-use Rattle.std.proofs.Common.{◌≡◌, inl, inr, ⊎_elim, ℕ, ◌+◌, ◌-◌, ◌^◌, List, arith, subst}
+use Rattle.std.proofs.Common.{◌≡◌, inl, inr, ⊎_elim, ℕ, ◌+◌, ◌-◌, ◌^◌, List, ap, arith, subst}
 use Rattle.std.proofs.lemmas.Bool.{cases_lt}
-use Rattle.std.proofs.lemmas.Result.{on_err_weaker}
+use Rattle.std.proofs.lemmas.Result.{on_err_weaker, on_ok_weaker}
 use Rattle.std.specs.Prelude.{Result}
 use Rattle.sector_disk.specs.Disk.{DiskState, IsSame, IsWritten, ChangesOnly, IsNarrowed, Elapses, HasFailed, HasFailedToWrite, HasCause, HasWriteCause}
 use Rattle.sector_disk.specs.Faults.{Faulty, faulty_state, with_failures}
@@ -64,4 +64,5 @@ pub told : {D T E : Type 0} (state : D → DiskState) {old below : Faulty D} {ne
 told state {old} {below} {new} {result} here is = subst (λ faulty. HasWriteCause (faulty_state state faulty) (faulty_state state (passed below new)) result) here (record {
   later = omega (arith, is.later);
   fault = on_err_weaker result (unwritten (state below.disk) (state new) below.failed_reads below.failed_writes) is.fault;
+  quiet = on_ok_weaker result (ap (λ n. n + below.failed_writes)) is.quiet;
 })

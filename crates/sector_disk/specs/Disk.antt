@@ -8,7 +8,7 @@
 --     HasFailedToWrite, HasWriteCause        why a write or a sync may
 --     LeavesOnly        what a stop leaves at any moment of a run of calls
 --     OnlyReads, AddsOnly, IsImageOr, IsWrite        what several calls do
-use Rattle.std.specs.Prelude.{◌≡◌, ◌⊎◌, ℕ, ◌<◌, ◌≤◌, ◌^◌, ◌-◌, List, [], length, get_or, slice_index_or, slice_set, Result, OnErr}
+use Rattle.std.specs.Prelude.{◌≡◌, ◌⊎◌, ℕ, ◌<◌, ◌≤◌, ◌^◌, ◌-◌, List, [], length, get_or, slice_index_or, slice_set, Result, OnOk, OnErr}
 
 -- the contents of the sectors, in their order
 abbrev pub Image : Type 0
@@ -102,6 +102,8 @@ HasFailedToWrite old new = (old.failed_writes < new.failed_writes) ⊎ (new.fail
 pub record HasWriteCause {T E : Type 0} (old new : DiskState) (result : Result T E) : Type 0 where
   pub later : old.failed_writes ≤ new.failed_writes
   pub fault : OnErr result (HasFailedToWrite old new)
+  -- at Ok no write and no sync has failed since
+  pub quiet : OnOk result (new.failed_writes ≡ old.failed_writes)
 
 -- a stop at any moment since old leaves an image that has P
 pub record LeavesOnly (old new : DiskState) (P : Image → Type 0) : Type 0 where

@@ -43,5 +43,5 @@ returns-clause-told g c =
     let counted = c.fail-2.new.self in
     let later = c.write.ensures.cause.later in
     let same = ap (λ (disk : MemDisk). disk.failures) (c.deref_mut-2.ensures.value ∙ c.catch_up.ensures) in
-    told_counted start.history counted.history start.failures written.failures counted.failures c.fail-2.result start.counted (omega (arith, later, same))
+    told_counted start.history counted.history start.failures written.failures counted.failures c.fail-2.result c.fail-2.ensures.result start.counted (omega (arith, later, same))
     (c.fail-2.ensures.counted ∙ ap (λ (disk : MemDisk). min (disk.failures + 1) (2 ^ 64 - 1)) (c.deref_mut-3.ensures.value ∙ c.store.ensures))
