@@ -5,7 +5,7 @@ ghost use Rattle.fs_layout.specs.Commit.{IsCommit, IsValidCommit, commit_bytes};
 ghost use Rattle.redo_journal.specs.Batch.{IsOnDisk, targets, with_batch};
 ghost use Rattle.redo_journal.specs.Meaning.{data_of, EachReadsAs, LeavesSameMap, LeavesAllOrNone};
 ghost use Rattle.redo_journal.specs.States.{IsAtRest, IsIdle, IsLogged, IsSealed, IsInstalled};
-ghost use Rattle.sector_disk.specs.Disk.{HasCause, HasWriteCause};
+ghost use Rattle.sector_disk.specs.Disk.{HasCause, HasWriteCause, CountsWrites};
 
 use crate::Batch;
 use crate::steps::{copy_log, write_log, write_targets};
@@ -85,6 +85,7 @@ pub(crate) fn install_log<D: Disk>(disk: &mut D, sectors: &[u32]) -> Result<(), 
     ensures any_moment { LeavesSameMap (D.state disk.old) (D.state disk.new) }
     ensures size { (D.state disk.new).size ≡ (D.state disk.old).size }
     ensures cause { HasCause (D.state disk.old) (D.state disk.new) result }
+    ensures counted { CountsWrites (D.state disk.old) (D.state disk.new) result }
 {
     if sectors.is_empty() {
         return Ok(());
@@ -100,6 +101,7 @@ fn replay<D: Disk>(disk: &mut D, sectors: &[u32]) -> Result<(), DiskFault>
     ensures any_moment { LeavesSameMap (D.state disk.old) (D.state disk.new) }
     ensures size { (D.state disk.new).size ≡ (D.state disk.old).size }
     ensures cause { HasCause (D.state disk.old) (D.state disk.new) result }
+    ensures counted { CountsWrites (D.state disk.old) (D.state disk.new) result }
 {
     copy_log(disk, sectors)?;
     disk.sync()

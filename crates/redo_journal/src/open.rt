@@ -5,7 +5,7 @@ ghost use Rattle.fs_layout.specs.declared.place.TheConstants.{INODE_BITMAP};
 ghost use Rattle.redo_journal.specs.declared.open.OpenFault.TheVariants.{DiskFault as Device};
 ghost use Rattle.redo_journal.specs.Meaning.{SameMap, data_of, disk_opened, HasValidCommit, MeansAs, MeansAsBefore};
 ghost use Rattle.redo_journal.specs.States.{IsIdle};
-ghost use Rattle.sector_disk.specs.Disk.{IsStable, LeavesOnly, HasFailed};
+ghost use Rattle.sector_disk.specs.Disk.{IsStable, LeavesOnly, HasFailed, CountsWrites};
 
 use crate::Journal;
 use crate::commit::{install_log, valid_commit};
@@ -47,6 +47,7 @@ impl<D: Disk> Journal<D> {
         ensures invalid { IfErr result (λ e. e.0 ≡ OpenFault.BadCommitSector → HasValidCommit (D.state disk).size (D.state disk).seen → ⊥) }
         ensures later { (D.state disk).failures ≤ (D.state (disk_opened result)).failures }
         ensures cause { IfErr result (λ e. e.0 ≡ OpenFault.DiskFault → HasFailed (D.state disk) (D.state e.1)) }
+        ensures counted { CountsWrites (D.state disk) (D.state (disk_opened result)) result }
     {
         let mut disk = disk;
         match settle(&mut disk) {
@@ -67,6 +68,7 @@ fn settle<D: Disk>(disk: &mut D) -> Result<(), OpenFault>
     ensures invalid { IsErrOf result OpenFault.BadCommitSector → HasValidCommit (D.state disk.old).size (D.state disk.old).seen → ⊥ }
     ensures later { (D.state disk.old).failures ≤ (D.state disk.new).failures }
     ensures cause { IsErrOf result OpenFault.DiskFault → HasFailed (D.state disk.old) (D.state disk.new) }
+    ensures counted { CountsWrites (D.state disk.old) (D.state disk.new) result }
 {
     disk.sync()?;
     recover(disk)
@@ -83,6 +85,7 @@ fn recover<D: Disk>(disk: &mut D) -> Result<(), OpenFault>
     ensures invalid { IsErrOf result OpenFault.BadCommitSector → HasValidCommit (D.state disk.old).size (D.state disk.old).seen → ⊥ }
     ensures later { (D.state disk.old).failures ≤ (D.state disk.new).failures }
     ensures cause { IsErrOf result OpenFault.DiskFault → HasFailed (D.state disk.old) (D.state disk.new) }
+    ensures counted { CountsWrites (D.state disk.old) (D.state disk.new) result }
 {
     let mut content = [0; 512];
     disk.read(COMMIT_SECTOR, &mut content)?;

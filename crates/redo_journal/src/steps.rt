@@ -5,7 +5,7 @@ ghost use Rattle.fs_layout.specs.declared.place.TheConstants.{INODE_BITMAP};
 ghost use Rattle.fs_layout.specs.Commit.{AreTargets};
 ghost use Rattle.redo_journal.specs.Batch.{targets};
 ghost use Rattle.redo_journal.specs.States.{HoldsLog, HoldsTargets, HasReplayed, InLog, InTargets};
-ghost use Rattle.sector_disk.specs.Disk.{AddsOnly, IsImageOr, LeavesOnly, HasCause, HasWriteCause, sector};
+ghost use Rattle.sector_disk.specs.Disk.{AddsOnly, IsImageOr, LeavesOnly, HasCause, HasWriteCause, CountsWrites, sector};
 
 use crate::Batch;
 use fs_layout::FIRST_LOG_SECTOR;
@@ -51,6 +51,7 @@ pub(crate) fn copy_log<D: Disk>(disk: &mut D, sectors: &[u32]) -> Result<(), Dis
     ensures adds { AddsOnly (InTargets sectors.now) (D.state disk.old) (D.state disk.new) }
     ensures any_moment { LeavesOnly (D.state disk.old) (D.state disk.new) (IsImageOr (InTargets sectors.now) (D.state disk.old)) }
     ensures cause { HasCause (D.state disk.old) (D.state disk.new) result }
+    ensures counted { CountsWrites (D.state disk.old) (D.state disk.new) result }
 {
     let mut content = [0; 512];
     let mut from = FIRST_LOG_SECTOR;

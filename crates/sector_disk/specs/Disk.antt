@@ -6,6 +6,7 @@
 --     IsNarrowed, IsSame, IsWritten, ChangesOnly        what one call does
 --     HasFailed, HasCause        why a call may tell a fault
 --     HasFailedToWrite, HasWriteCause        why a write or a sync may
+--     CountsWrites        how often writes and syncs fail in calls that read too
 --     LeavesOnly        what a stop leaves at any moment of a run of calls
 --     OnlyReads, AddsOnly, IsImageOr, IsWrite        what several calls do
 use Rattle.std.specs.Prelude.{◌≡◌, ◌⊎◌, ℕ, ◌<◌, ◌≤◌, ◌^◌, ◌-◌, List, [], length, get_or, slice_index_or, slice_set, Result, OnOk, OnErr}
@@ -103,6 +104,11 @@ pub record HasWriteCause {T E : Type 0} (old new : DiskState) (result : Result T
   pub later : old.failed_writes ≤ new.failed_writes
   pub fault : OnErr result (HasFailedToWrite old new)
   -- at Ok no write and no sync has failed since
+  pub quiet : OnOk result (new.failed_writes ≡ old.failed_writes)
+
+-- the count of failed writes and syncs doesn't fall, and at Ok it is as before
+pub record CountsWrites {T E : Type 0} (old new : DiskState) (result : Result T E) : Type 0 where
+  pub later : old.failed_writes ≤ new.failed_writes
   pub quiet : OnOk result (new.failed_writes ≡ old.failed_writes)
 
 -- a stop at any moment since old leaves an image that has P

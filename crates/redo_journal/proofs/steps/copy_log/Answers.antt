@@ -45,4 +45,5 @@ loop-target-preserved g c =
       adds = adds;
       since = goes_on (goes_on so_far.since c.read.ensures.time (image_or read)) c.write.ensures.time (image_or adds);
       failures = omega (arith, so_far.failures, c.read.ensures.cause.later, c.write.ensures.cause.later);
+      failed_writes = c.in_ok-write.ensures.told.quiet ∙ c.read.ensures.quiet ∙ so_far.failed_writes;
     }

@@ -14,4 +14,5 @@ invariant-loop-target g l = record {
   adds : AddsOnly (InTargets l.sectors) (g.D.Disk.state l.initial.disk) (g.D.Disk.state l.disk);
   since : LeavesOnly (g.D.Disk.state l.initial.disk) (g.D.Disk.state l.disk) (IsImageOr (InTargets l.sectors) (g.D.Disk.state l.initial.disk));
   failures : (g.D.Disk.state l.initial.disk).failures ≤ (g.D.Disk.state l.disk).failures;
+  failed_writes : (g.D.Disk.state l.disk).failed_writes ≡ (g.D.Disk.state l.initial.disk).failed_writes;
 }

@@ -43,5 +43,5 @@ loop-n-preserved g c =
       adds = adds;
       since = goes_on so_far.since c.write.ensures.time (image_or adds);
       failures = omega (arith, so_far.failures, c.write.ensures.cause.later);
-      failed_writes = omega (arith, so_far.failed_writes, c.write.ensures.told.later);
+      failed_writes = c.in_ok-write.ensures.told.quiet ∙ so_far.failed_writes;
     }

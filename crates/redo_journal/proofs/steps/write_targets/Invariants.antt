@@ -12,5 +12,5 @@ invariant-loop-n g l = record {
   adds : AddsOnly (InTargets (targets l.batch)) (g.D.Disk.state l.initial.disk) (g.D.Disk.state l.disk);
   since : LeavesOnly (g.D.Disk.state l.initial.disk) (g.D.Disk.state l.disk) (IsImageOr (InTargets (targets l.batch)) (g.D.Disk.state l.initial.disk));
   failures : (g.D.Disk.state l.initial.disk).failures ≤ (g.D.Disk.state l.disk).failures;
-  failed_writes : (g.D.Disk.state l.initial.disk).failed_writes ≤ (g.D.Disk.state l.disk).failed_writes;
+  failed_writes : (g.D.Disk.state l.disk).failed_writes ≡ (g.D.Disk.state l.initial.disk).failed_writes;
 }
