@@ -1,10 +1,10 @@
 -- A call that a disk over another passes on to it, where neither has counted a failure before: `below` is what the disk
 -- over it is then, and `new` the disk below afterwards.
-use Rattle.std.proofs.Common.{◌≡◌, inl, inr, ⊎_elim, ℕ, ◌+◌, ◌-◌, ◌^◌, List, ap, arith, subst}
+use Rattle.std.proofs.Common.{◌≡◌, inl, inr, ⊎_elim, ℕ, ◌+◌, ◌-◌, ◌^◌, List, ap, arith, refl, subst}
 use Rattle.std.proofs.lemmas.Bool.{cases_lt}
 use Rattle.std.proofs.lemmas.Result.{on_err_weaker, on_ok_weaker}
-use Rattle.std.specs.Prelude.{Result}
-use Rattle.sector_disk.specs.Disk.{DiskState, IsSame, IsWritten, ChangesOnly, IsNarrowed, Elapses, HasFailed, HasFailedToWrite, HasCause, HasWriteCause}
+use Rattle.std.specs.Prelude.{Result, min}
+use Rattle.sector_disk.specs.Disk.{DiskState, IsSame, ForgetsPast, IsWritten, ChangesOnly, IsNarrowed, Elapses, HasFailed, HasFailedToWrite, HasCause, HasWriteCause}
 use Rattle.sector_disk.specs.Faults.{Faulty, faulty_state, with_failures}
 
 -- the disk over it, once the disk below has changed
@@ -17,6 +17,15 @@ pub same : {D : Type 0} (state : D → DiskState) {old below : Faulty D} {new : 
 same state {old} {below} {new} here is = subst (λ faulty. IsSame (faulty_state state faulty) (faulty_state state (passed below new))) here (record {
   narrowed = record { size = is.narrowed.size; seen = is.narrowed.seen; nothing_else = is.narrowed.nothing_else };
   kept = is.kept;
+})
+
+pub forgets : {D : Type 0} (state : D → DiskState) {old below : Faulty D} {new : D} → below ≡ old → ForgetsPast (state below.disk) (state new)
+    → ForgetsPast (faulty_state state old) (faulty_state state (passed below new))
+forgets state {old} {below} {new} here is = subst (λ faulty. ForgetsPast (faulty_state state faulty) (faulty_state state (passed below new))) here (record {
+  same = same state refl is.same;
+  failures = ap (λ n. min (n + (below.failed_reads + below.failed_writes)) (2 ^ 64 - 1)) is.failures;
+  failed_writes = ap (λ n. n + below.failed_writes) is.failed_writes;
+  nothing_earlier = λ t image left. let now = is.nothing_earlier t image left in record { size = now.size; each = now.each };
 })
 
 pub narrowed : {D : Type 0} (state : D → DiskState) {old below : Faulty D} {new : D} → below ≡ old → IsNarrowed (state below.disk) (state new)

@@ -3,7 +3,7 @@
 --     IsWholeSector        512 bytes
 --     DiskState, IsImage, IsStable        what is known at one moment; what a stop may leave then
 --     Elapses        time goes on, and the past is kept
---     IsNarrowed, IsSame, IsWritten, ChangesOnly        what one call does
+--     IsNarrowed, IsSame, ForgetsPast, IsWritten, ChangesOnly        what one call does
 --     HasFailed, HasCause        why a call may tell a fault
 --     HasFailedToWrite, HasWriteCause        why a write or a sync may
 --     CountsWrites        how often writes and syncs fail in calls that read too
@@ -73,6 +73,13 @@ pub record IsNarrowed (old new : DiskState) : Type 0 where
 pub record IsSame (old new : DiskState) : Type 0 where
   pub narrowed : IsNarrowed old new
   pub kept : (n : ℕ) (content : List ℕ) → old.may_hold n content → new.may_hold n content
+
+-- reads give the same, and a stop may leave the same; of earlier moments nothing is known but what it may leave now
+pub record ForgetsPast (old new : DiskState) : Type 0 where
+  pub same : IsSame old new
+  pub failures : new.failures ≡ old.failures
+  pub failed_writes : new.failed_writes ≡ old.failed_writes
+  pub nothing_earlier : (t : ℕ) (image : Image) → new.left_since t image → IsImage new image
 
 -- A read of sector n gives the content, and a stop may leave it there.
 pub record IsWritten (old new : DiskState) (n : ℕ) (content : List ℕ) : Type 0 where

@@ -1,8 +1,8 @@
 //! A disk as the layers above see it: an array of sectors that may be stopped at any moment, as by a power cut.
 //! A stop leaves in each sector what was there at the last sync that succeeded, or any content written since.
 
-ghost use Rattle.std.specs.Prelude.{◌≡◌, ◌≤◌, ◌<◌, ◌^◌, ◌-◌, ℕ, List, IsErr, OnOk, OnErr, slice_set};
-ghost use Rattle.sector_disk.specs.Disk.{DiskState, Image, IsImage, IsSame, IsWritten, ChangesOnly, IsStable, IsNarrowed, Elapses, HasCause, HasWriteCause, IsWholeSector, sector, AddsOnly, IsImageOr, IsWrite, LeavesOnly};
+ghost use Rattle.std.specs.Prelude.{◌≡◌, ◌≤◌, ◌<◌, ◌^◌, ◌-◌, ℕ, List, Option, Some, None, IsErr, OnOk, OnErr, slice_set};
+ghost use Rattle.sector_disk.specs.Disk.{DiskState, Image, IsImage, IsSame, ForgetsPast, IsWritten, ChangesOnly, IsStable, IsNarrowed, Elapses, HasCause, HasWriteCause, IsWholeSector, sector, AddsOnly, IsImageOr, IsWrite, LeavesOnly};
 
 /// A read, a write or a sync failed, and the disk has counted it.
 #[derive(Clone, Copy, Debug, PartialEq, Eq)]
@@ -57,9 +57,7 @@ pub trait Disk {
     /// Lets the past go: what reads give and what a stop may leave stay, and nothing is said any more of the moments before
     /// this one. A disk that keeps a record of them lets go of its memory.
     fn forget(&mut self)
-        ensures same { IsSame (state self.old) (state self.new) }
-        ensures failures { (state self.new).failures ≡ (state self.old).failures }
-        ensures failed_writes { (state self.new).failed_writes ≡ (state self.old).failed_writes };
+        ensures { ForgetsPast (state self.old) (state self.new) };
 
     /// The number of sectors is a `u32`.
     ghost size_fits: { (disk : Self) → (state disk).size < 2 ^ 32 };
@@ -97,8 +95,12 @@ pub fn write_synced<D: Disk>(disk: &mut D, n: u32, content: &[u8; 512]) -> Resul
 
 /// A disk that can be made to fail and to stop, as tests do.
 pub trait CrashDisk: Disk {
+    /// How many writes and syncs pass before all fail; `None` where all pass.
+    ghost armed: { Self → Option ℕ };
+
     /// Lets this many writes and syncs pass, and fails all later ones. Reads go on.
     fn arm(&mut self, passes: u64)
+        ensures armed { armed self.new ≡ Some passes }
         ensures same { IsSame (Self.state self.old) (Self.state self.new) }
         ensures time { Elapses (Self.state self.old) (Self.state self.new) }
         ensures failures { (Self.state self.new).failures ≡ (Self.state self.old).failures }
@@ -108,6 +110,7 @@ pub trait CrashDisk: Disk {
     /// rising order, the next byte of `choice` (0 past its end) modulo the number of contents picks one, the synced
     /// content first and then those written since in their order. Nothing is said of the moments before it.
     fn crash(&mut self, choice: &[u8])
+        ensures armed { armed self.new ≡ None }
         ensures image { IsImage (Self.state self.old) (Self.state self.new).seen }
         ensures stable { IsStable (Self.state self.new) }
         ensures size { (Self.state self.new).size ≡ (Self.state self.old).size }

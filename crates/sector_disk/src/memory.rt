@@ -165,6 +165,8 @@ impl Disk for MemDisk {
 }
 
 impl CrashDisk for MemDisk {
+    ghost armed = { λ disk. disk.armed };
+
     fn arm(&mut self, passes: u64) {
         self.armed = Some(passes);
     }
