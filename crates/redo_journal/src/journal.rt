@@ -1,10 +1,10 @@
 //! The states of a commit. Each owns the disk, so that a disk has one of them at a time.
 
-ghost use Rattle.std.specs.Prelude.{◌≡◌, ◌<◌, ℕ, List, length, Ok, IfOk, OnOk};
+ghost use Rattle.std.specs.Prelude.{◌≡◌, ◌<◌, ℕ, List, length, Some, Ok, IfOk, OnOk};
 ghost use Rattle.redo_journal.specs.Batch.{IsOnDisk, with_batch};
 ghost use Rattle.redo_journal.specs.Meaning.{IsMapped, SameMap, data_of, disk_of, EachReadsAs, LeavesSameMap, LeavesAllOrNone};
 ghost use Rattle.redo_journal.specs.States.{IsIdle, IsLogged, IsSealed};
-ghost use Rattle.sector_disk.specs.Disk.{IsSame, Elapses, OnlyReads, HasCause, HasWriteCause};
+ghost use Rattle.sector_disk.specs.Disk.{IsSame, ForgetsPast, Elapses, OnlyReads, HasCause, HasWriteCause};
 
 use crate::Batch;
 use crate::commit::{install_batch, log_batch, seal_batch};
@@ -120,11 +120,9 @@ impl<D: Disk> Journal<D> {
         self.disk.read(n, to)
     }
 
-    /// Lets go of what the disk keeps of its past: nothing is said any more of the moments before this one.
+    /// Lets go of what the disk keeps of its past.
     pub fn forget(&mut self)
-        ensures unchanged { IsSame (D.state self.old) (D.state self.new) }
-        ensures failures { (D.state self.new).failures ≡ (D.state self.old).failures }
-        ensures failed_writes { (D.state self.new).failed_writes ≡ (D.state self.old).failed_writes }
+        ensures { ForgetsPast (D.state self.old) (D.state self.new) }
     {
         self.disk.forget();
     }
@@ -142,9 +140,11 @@ impl<D: Disk> Journal<D> {
 impl<D: CrashDisk> Journal<D> {
     /// Lets this many writes and syncs of the disk pass, and fails all later ones.
     pub fn arm(&mut self, passes: u64)
+        ensures armed { D.armed self.new ≡ Some passes }
         ensures unchanged { IsSame (D.state self.old) (D.state self.new) }
         ensures time { Elapses (D.state self.old) (D.state self.new) }
         ensures failures { (D.state self.new).failures ≡ (D.state self.old).failures }
+        ensures failed_writes { (D.state self.new).failed_writes ≡ (D.state self.old).failed_writes }
     {
         self.disk.arm(passes);
     }
@@ -216,11 +216,9 @@ impl<D> Broken<D> {
 }
 
 impl<D: Disk> Broken<D> {
-    /// Lets go of what the disk keeps of its past: nothing is said any more of the moments before this one.
+    /// Lets go of what the disk keeps of its past.
     pub fn forget(&mut self)
-        ensures unchanged { IsSame (D.state self.old) (D.state self.new) }
-        ensures failures { (D.state self.new).failures ≡ (D.state self.old).failures }
-        ensures failed_writes { (D.state self.new).failed_writes ≡ (D.state self.old).failed_writes }
+        ensures { ForgetsPast (D.state self.old) (D.state self.new) }
     {
         self.disk.forget();
     }
@@ -229,9 +227,11 @@ impl<D: Disk> Broken<D> {
 impl<D: CrashDisk> Broken<D> {
     /// Lets this many writes and syncs of the disk pass, and fails all later ones.
     pub fn arm(&mut self, passes: u64)
+        ensures armed { D.armed self.new ≡ Some passes }
         ensures unchanged { IsSame (D.state self.old) (D.state self.new) }
         ensures time { Elapses (D.state self.old) (D.state self.new) }
         ensures failures { (D.state self.new).failures ≡ (D.state self.old).failures }
+        ensures failed_writes { (D.state self.new).failed_writes ≡ (D.state self.old).failed_writes }
     {
         self.disk.arm(passes)
     }

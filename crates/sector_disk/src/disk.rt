@@ -54,8 +54,8 @@ pub trait Disk {
         ensures told { HasWriteCause (state self.old) (state self.new) result }
         ensures worn { (state self.old).failures ≡ 2 ^ 64 - 1 → IsErr result };
 
-    /// Lets the past go: what reads give and what a stop may leave stay, and nothing is said any more of the moments before
-    /// this one. A disk that keeps a record of them lets go of its memory.
+    /// Lets the past go: of the moments before this one nothing is said any more. A disk that keeps a record of them lets go of
+    /// its memory.
     fn forget(&mut self)
         ensures { ForgetsPast (state self.old) (state self.new) };
 

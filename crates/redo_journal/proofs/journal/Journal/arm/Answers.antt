@@ -14,3 +14,6 @@ returns-clause-time g c = subst (λ d. Elapses (g.D.Disk.state d) (g.D.Disk.stat
 
 pub returns-clause-failures : goal.returns-clause-failures
 returns-clause-failures g c = c.arm.ensures.failures ∙ ap (λ d. (g.D.Disk.state d).failures) c.self.view_is
+
+pub returns-clause-failed_writes : goal.returns-clause-failed_writes
+returns-clause-failed_writes g c = c.arm.ensures.failed_writes ∙ ap (λ d. (g.D.Disk.state d).failed_writes) c.self.view_is
