@@ -1,10 +1,10 @@
 //! A journal whose sectors are kept in memory once they are read.
 
-ghost use Rattle.std.specs.Prelude.{◌≡◌, ◌<◌, ℕ, length, Ok, IfOk, OnOk};
+ghost use Rattle.std.specs.Prelude.{◌≡◌, ◌<◌, ℕ, length, Some, Ok, IfOk, OnOk};
 ghost use Rattle.redo_journal.specs.Batch.{IsOnDisk, with_batch};
 ghost use Rattle.redo_journal.specs.Meaning.{IsMapped, SameMap, data_of, disk_of};
 ghost use Rattle.redo_journal.specs.States.{IsIdle};
-ghost use Rattle.sector_disk.specs.Disk.{IsSame, Elapses, OnlyReads, HasCause, HasWriteCause};
+ghost use Rattle.sector_disk.specs.Disk.{IsSame, ForgetsPast, Elapses, OnlyReads, HasCause, HasWriteCause};
 ghost use Rattle.sector_txn.specs.Images.{LeavesOldOr};
 
 use crate::clean::CleanSectors;
@@ -86,11 +86,9 @@ impl<D: Disk> CachedJournal<D> {
         }
     }
 
-    /// Lets go of what the disk keeps of its past: nothing is said any more of the moments before this one.
+    /// Lets go of what the disk keeps of its past.
     pub(crate) fn forget(&mut self)
-        ensures unchanged { IsSame (D.state self.old) (D.state self.new) }
-        ensures failures { (D.state self.new).failures ≡ (D.state self.old).failures }
-        ensures failed_writes { (D.state self.new).failed_writes ≡ (D.state self.old).failed_writes }
+        ensures { ForgetsPast (D.state self.old) (D.state self.new) }
     {
         self.journal.forget();
     }
@@ -107,9 +105,11 @@ impl<D: Disk> CachedJournal<D> {
 impl<D: CrashDisk> CachedJournal<D> {
     /// Lets this many writes and syncs of the disk pass, and fails all later ones.
     pub(crate) fn arm(&mut self, passes: u64)
+        ensures armed { D.armed self.new ≡ Some passes }
         ensures unchanged { IsSame (D.state self.old) (D.state self.new) }
         ensures time { Elapses (D.state self.old) (D.state self.new) }
         ensures failures { (D.state self.new).failures ≡ (D.state self.old).failures }
+        ensures failed_writes { (D.state self.new).failed_writes ≡ (D.state self.old).failed_writes }
     {
         self.journal.arm(passes);
     }

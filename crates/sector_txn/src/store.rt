@@ -1,9 +1,9 @@
 //! A store of sectors, and one call's transaction on it.
 #![tactic(auto, unfolding(crate::specs::Stores::present, crate::specs::Stores::map_before, crate::specs::Stores::map_now))]
 
-ghost use Rattle.std.specs.Prelude.{◌≡◌, ℕ, [], false, IsOk, IfOk, MatchResult};
+ghost use Rattle.std.specs.Prelude.{◌≡◌, ℕ, [], false, Some, IsOk, IfOk, MatchResult};
 ghost use Rattle.redo_journal.specs.Meaning.{SameMap, EachReadsAs, data_of};
-ghost use Rattle.sector_disk.specs.Disk.{IsSame, Elapses, HasCause, HasWriteCause};
+ghost use Rattle.sector_disk.specs.Disk.{IsSame, ForgetsPast, Elapses, HasCause, HasWriteCause};
 ghost use Rattle.sector_txn.specs.Images.{LeavesOneOf, LeavesOldOr};
 ghost use Rattle.sector_txn.specs.Stores.{present, map_before, map_now, txn_state, disk_after};
 
@@ -133,12 +133,10 @@ impl<D: Disk> Store<D> {
         }
     }
 
-    /// Lets go of what the disk keeps of its past: nothing is said any more of the moments before this one.
+    /// Lets go of what the disk keeps of its past.
     pub fn forget(&mut self)
         ensures map { SameMap (present D.state self.new) (present D.state self.old) }
-        ensures unchanged { IsSame (D.state self.old.disk) (D.state self.new.disk) }
-        ensures failures { (D.state self.new.disk).failures ≡ (D.state self.old.disk).failures }
-        ensures failed_writes { (D.state self.new.disk).failed_writes ≡ (D.state self.old.disk).failed_writes }
+        ensures past { ForgetsPast (D.state self.old.disk) (D.state self.new.disk) }
     {
         self.journal.forget();
     }
@@ -159,10 +157,12 @@ impl<D: Disk> Store<D> {
 impl<D: CrashDisk> Store<D> {
     /// Lets this many writes and syncs of the disk pass, and fails all later ones.
     pub fn arm(&mut self, passes: u64)
+        ensures armed { D.armed self.new.disk ≡ Some passes }
         ensures map { SameMap (present D.state self.new) (present D.state self.old) }
         ensures unchanged { IsSame (D.state self.old.disk) (D.state self.new.disk) }
         ensures time { Elapses (D.state self.old.disk) (D.state self.new.disk) }
         ensures failures { (D.state self.new.disk).failures ≡ (D.state self.old.disk).failures }
+        ensures failed_writes { (D.state self.new.disk).failed_writes ≡ (D.state self.old.disk).failed_writes }
     {
         self.journal.arm(passes);
     }
