@@ -23,7 +23,7 @@ pub enum Event {
     Arm(u64),
     /// The disk stops, with these choices of what it keeps, may be told to fail again after so many writes and syncs,
     /// and is mounted.
-    Restart(Bytes, Option<u64>),
+    Restart { choice: Bytes, arm: Option<u64> },
 }
 
 /// Why a file system isn't mounted again.

@@ -21,7 +21,10 @@ fn restart(alloc: Global, words: &str) -> Result<Event, Fail> {
         None => (words, None),
     };
     let choice = Bytes::from_slice(alloc, &[choice.parse::<u8>()?; 64])?;
-    Ok(Event::Restart(choice, passes))
+    Ok(Event::Restart {
+        choice,
+        arm: passes,
+    })
 }
 
 // The event of a line: one of the shell's, `arm PASSES`, `restart CHOICE`, or `restart CHOICE PASSES`.

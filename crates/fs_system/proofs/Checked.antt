@@ -1,5 +1,5 @@
 -- A mount after a check, which only reads.
-use Rattle.std.proofs.Common.{refl, sym, subst, arith}
+use Rattle.std.proofs.Common.{refl, sym, subst, arith, ◌∙◌}
 use Rattle.sector_disk.specs.Disk.{DiskState, Image, IsImage, LeavesOnly, OnlyReads}
 use Rattle.sector_disk.proofs.Moments.{failed_later, narrowed, reads_then, weaker}
 use Rattle.fs_model.specs.declared.event.RestartFault.{RestartFault}
@@ -16,6 +16,7 @@ module _ (old mid : DiskState) (reads : OnlyReads old mid) where
     some = subst StandsForSome reads.narrowed.seen found.some;
     each = λ room t free stands. found.each room t free (subst (λ (image : Image). StandsFor room image t free) (sym reads.narrowed.seen) stands);
     later = let first = reads.failures in let then = found.later in omega (arith, first, then);
+    unhalted = found.unhalted ∙ reads.failed_writes;
   }
 
   pub then_fails : (now : DiskState) (fault : RestartFault) → FailsToMount mid now fault → FailsToMount old now fault

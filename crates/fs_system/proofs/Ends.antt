@@ -67,6 +67,7 @@ module _ (old new : DiskState) (only_now : (image : Image) → old.left_since ol
     synced = λ stable. absurd (let c = sym unstable ∙ stable in cc);
     cause = λ io running. cause io;
     halts = λ running halted. absurd (let c = sym still ∙ halted in cc);
+    unhalted = λ running. reads.failed_writes;
     unread = λ io running. reads;
     later = reads.failures;
     still = λ halted. absurd (let c = sym up ∙ halted in cc);
@@ -96,6 +97,7 @@ module _ (disk : DiskState) (only_now : (image : Image) → disk.left_since disk
     synced = λ stable. absurd (let c = sym (and_false (asks_stable e) false refl) ∙ stable in cc);
     cause = λ io up. absurd (let c = sym halted ∙ up in cc);
     halts = λ up now. absurd (let c = sym halted ∙ up in cc);
+    unhalted = λ up. refl;
     unread = λ io up. absurd (let c = sym halted ∙ up in cc);
     later = omega arith;
     still = λ h. same_disk disk;
@@ -156,8 +158,8 @@ module _ (old new : DiskState) (p : Place) (map : SectorMap) (desks : Desks) (s 
       let held = tree_held p map desks s r.state_of in
       leaves_found p map map s s.tree s.free old new r.state_of.same_room r.state_of.up r.disk_is held r.disk_is held run
 
-  pub does_flush : EachReadsAs map new → Does old new s e Done s
-  does_flush lasting = record {
+  pub does_flush : EachReadsAs map new → new.failed_writes ≡ old.failed_writes → Does old new s e Done s
+  does_flush lasting quiet = record {
     serves = flushes s r.state_of.is_state r.state_of.up e asks firm;
     added = s.tree;
     is_added = inl refl;
@@ -166,6 +168,7 @@ module _ (old new : DiskState) (p : Place) (map : SectorMap) (desks : Desks) (s 
         (each_stands p map s.tree s.free new (subst (λ n. IsDiskOf n p map) (sym run.size) r.disk_is) (tree_held p map desks s r.state_of) lasting);
     cause = λ io up. absurd cc;
     halts = λ up halted. absurd (let c = sym up ∙ halted in cc);
+    unhalted = λ up. quiet;
     unread = λ io up. absurd cc;
     later = later;
     still = λ halted. absurd (let c = sym r.state_of.up ∙ halted in cc);
@@ -180,6 +183,7 @@ module _ (old new : DiskState) (p : Place) (map : SectorMap) (desks : Desks) (s 
     synced = λ stable. absurd (let c = sym (and_false (asks_stable e) false refl) ∙ stable in cc);
     cause = λ io up. failed;
     halts = λ up halted. unwritten;
+    unhalted = λ up. absurd cc;
     unread = λ io up. absurd cc;
     later = later;
     still = λ halted. absurd (let c = sym r.state_of.up ∙ halted in cc);

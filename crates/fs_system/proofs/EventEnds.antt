@@ -74,8 +74,8 @@ module _ (old : DiskState) (only_now : (image : Image) → old.left_since old.mo
     event_runs size map' sized alike =
         running_same old.size size p now_map map' now now (done_state at d) sized alike refl (record { disk_is = now_disk; state_of = done_state_of at d })
 
-    pub does_event : Does old new s e reply (done_state at d)
-    does_event = record {
+    pub does_event : new.failed_writes ≡ mid.failed_writes → Does old new s e reply (done_state at d)
+    does_event quiet = record {
       serves = done_steps at d;
       added = swept (changed s.tree d.change) now;
       is_added = inl refl;
@@ -83,6 +83,7 @@ module _ (old : DiskState) (only_now : (image : Image) → old.left_since old.mo
       synced = λ stable. absurd (let c = sym (done_unstable at d reply) ∙ stable in cc);
       cause = λ io up. absurd (let c = sym (done_no_fault at d) ∙ io in cc);
       halts = λ up halted. absurd (let c = sym r.state_of.up ∙ halted in cc);
+      unhalted = λ up. quiet ∙ reads.failed_writes;
       unread = λ io up. absurd (let c = sym (done_no_fault at d) ∙ io in cc);
       later = omega (arith, reads.failures, later);
       still = λ halted. absurd (let c = sym r.state_of.up ∙ halted in cc);
@@ -97,6 +98,7 @@ module _ (old : DiskState) (only_now : (image : Image) → old.left_since old.mo
       synced = λ stable. absurd (let c = sym (done_unstable at d (Refused (Failed EIO))) ∙ stable in cc);
       cause = λ io up. failed_later old mid new reads.failures failed;
       halts = λ up halted. write_failed_later old mid new reads.failed_writes unwritten;
+      unhalted = λ up. absurd cc;
       unread = λ io up. absurd cc;
       later = omega (arith, reads.failures, later);
       still = λ halted. absurd (let c = sym r.state_of.up ∙ halted in cc);

@@ -1,6 +1,6 @@
 -- A file system whose disk lets go of its past.
 use Rattle.std.proofs.Common.{◌≡◌, Some, Ok, Result, refl, sym, subst}
-use Rattle.sector_disk.specs.Disk.{DiskState, IsSame}
+use Rattle.sector_disk.specs.Disk.{DiskState, IsSame, ForgetsPast}
 use Rattle.sector_disk.proofs.Moments.{narrowed}
 use Rattle.fs_layout.specs.declared.place.Place.{Place}
 use Rattle.redo_journal.specs.Meaning.{SameMap}
@@ -37,3 +37,8 @@ module _ {D : Type 0} (state : D → DiskState) (old : Base D) (place : Place) (
 
     pub forgot_same : IsSame (disk_in state fs.base) (state (disk_after now))
     forgot_same = subst (λ (x : System D). IsSame (disk_in state x.base) (state (disk_after now))) view_is same_disk
+
+    pub forgot_past : ForgetsPast (state (disk_after before)) (state (disk_after now)) → ForgetsPast (disk_in state fs.base) (state (disk_after now))
+    forgot_past past =
+        subst (λ (x : System D). ForgetsPast (disk_in state x.base) (state (disk_after now))) view_is
+        (subst (λ (b : Base D). ForgetsPast (disk_in state b) (state (disk_after now))) (sym is) past)

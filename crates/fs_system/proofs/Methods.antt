@@ -188,12 +188,12 @@ module _ {D : Type 0} (state : D → DiskState) where
     module _ (place : Place) (desks : Desks) (e : Event) where
       pub flush_done : (before after : StoreView D) → SameMap (present state after) (present state before)
           → LeavesOldOr (present state before) (state before.disk) (state after.disk) → EachReadsAs (present state before) (state after.disk)
-          → (state before.disk).failures ≤ (state after.disk).failures
+          → (state before.disk).failures ≤ (state after.disk).failures → (state after.disk).failed_writes ≡ (state before.disk).failed_writes
           → FlushesFor state (record { base = Some (Ok before); place = place; desks = desks }) (record { base = Some (Ok after); place = place; desks = desks }) e Done
-      flush_done before after same run lasting later asks s r firm = (
+      flush_done before after same run lasting later quiet asks s r firm = (
         s,
         running_same (state before.disk).size (state after.disk).size place (present state before) (present state after) desks desks s run.size same refl r,
-        does_flush (state before.disk) (state after.disk) place (present state before) desks s r run later e asks firm lasting,
+        does_flush (state before.disk) (state after.disk) place (present state before) desks s r run later e asks firm lasting quiet,
       )
 
       pub flush_broke : (before : StoreView D) (broken : D) → LeavesOldOr (present state before) (state before.disk) (state broken)
@@ -316,17 +316,17 @@ module _ {D : Type 0} (state : D → DiskState) where
 
         module _ (after : StoreView D) (same : SameMap (present state after) (present state before))
             (run : LeavesOldOr (present state before) (state before.disk) (state after.disk)) (lasting : EachReadsAs (present state before) (state after.disk))
-            (later : (state before.disk).failures ≤ (state after.disk).failures) where
+            (later : (state before.disk).failures ≤ (state after.disk).failures) (quiet : (state after.disk).failed_writes ≡ (state before.disk).failed_writes) where
           pub flush_returns : (e : Event) → FlushesFor state fs (record { base = Some (Ok after); place = place; desks = procs }) e Done
           flush_returns e =
               subst (λ (x : System D). FlushesFor state x (record { base = Some (Ok after); place = place; desks = procs }) e Done) seen_so
-              (flush_done place procs e before after same run lasting later)
+              (flush_done place procs e before after same run lasting later quiet)
 
           pub last_done : (disk : D) → disk ≡ after.disk → HappensLast state fs disk Sync Done
           last_done disk here =
               subst (λ (d : D). HappensLast state fs d Sync Done) (sym here)
               (subst (λ (x : System D). HappensLast state x after.disk Sync Done) seen_so
-              (λ s r. let done = flush_done place procs Sync before after same run lasting later refl s r (sync_firm s) in (done.0, done.2)))
+              (λ s r. let done = flush_done place procs Sync before after same run lasting later quiet refl s r (sync_firm s) in (done.0, done.2)))
 
         module _ (broken : D) (run : LeavesOldOr (present state before) (state before.disk) (state broken)) (later : (state before.disk).failures ≤ (state broken).failures)
             (failed : HasFailed (state before.disk) (state broken)) (unwritten : HasFailedToWrite (state before.disk) (state broken)) where

@@ -94,7 +94,7 @@ module _ (old : DiskState) (size : length old.seen ≡ old.size) (room : Room) (
 
   -- and that holds the tree then, without files that have no name
   module _ (new : DiskState) (map : SectorMap) (place : Place) (found : stands.place ≡ place) (stored : IsStored new.size place map (pruned t))
-      (images : EachStandsFor (room_of place) new (pruned t)) (later : old.failures ≤ new.failures) where
+      (images : EachStandsFor (room_of place) new (pruned t)) (later : old.failures ≤ new.failures) (quiet : new.failed_writes ≡ old.failed_writes) where
     abbrev pub state_found : State
     state_found = record { room = room; tree = pruned t; desks = []; free = free_sectors place map; halted = false }
 
@@ -133,6 +133,7 @@ module _ (old : DiskState) (size : length old.seen ≡ old.size) (room : Room) (
             let one = one_tree (length old.seen) (sector old.seen) room room' t t' free free' stands stands' in
             subst (λ (q : Room). IsMounted new q t' state_found) one.rooms (subst (λ (u : Tree). IsMounted new room u state_found) one.trees mounted_here);
         later = later;
+        unhalted = quiet;
       },
     )
 
@@ -162,11 +163,12 @@ module _ {D : Type 0} (state : D → DiskState) (disk read : D) (store : StoreVi
   module _ (then : StoreView D)
       (swept : (t : Tree) → HasTree place (present state store) (state store.disk) t → IsStored (state then.disk).size place (present state then) (pruned t))
       (stable : (t : Tree) → HasTree place (present state store) (state store.disk) t → EachStandsFor (room_of place) (state then.disk) (pruned t))
-      (later : (state disk).failures ≤ (state then.disk).failures) (desks : Desks) (none : desks ≡ []) where
+      (later : (state disk).failures ≤ (state then.disk).failures) (quiet : (state then.disk).failed_writes ≡ (state disk).failed_writes)
+      (desks : Desks) (none : desks ≡ []) where
     pub mounts_found : (s : State) × IsRunning (state then.disk).size place (present state then) desks s × Mounts (state disk) (state then.disk) s
     mounts_found =
         ends_mounted (state disk) seen.size was.0 was.1 was.2 was.3 (state then.disk) (present state then) place at (swept was.1 opened_tree)
-        (stable was.1 opened_tree) later desks none
+        (stable was.1 opened_tree) later quiet desks none
 
     pub mounted_system : IsSystem state (record { base = Some (Ok then); place = place; desks = desks })
     mounted_system =

@@ -171,6 +171,7 @@ pub record IsSweeping (p : Place) (map : SectorMap) (old : DiskState) (now : Sec
   pub keeps : KeepsTree p map old new
   pub size : new.size ≡ old.size
   pub later : old.failures ≤ new.failures
+  pub quiet : new.failed_writes ≡ old.failed_writes
 
 pub sweeping_begun : (p : Place) (map : SectorMap) (old : DiskState) → ((image : Image) → old.left_since old.moment image → IsImage old image)
     → IsSweeping p map old map old 2
@@ -179,6 +180,7 @@ sweeping_begun p map old only_now = record {
   keeps = λ t h. started only_now h.images;
   size = refl;
   later = omega arith;
+  quiet = refl;
 }
 
 -- what stands for a tree with the same names
@@ -191,8 +193,9 @@ keeps_on {p} {map} {now} {old} {mid} {new} {k} so_far keeps t h =
     joined (so_far.keeps t h) (weaker (pruned_same (room_of p) t left.0 left.2) (keeps left.0 left.1))
 
 pub sweeping_on : {p : Place} {map now next : SectorMap} {old mid new : DiskState} {k : ℕ} → IsSweeping p map old now mid k
-    → FreesNameless p k now mid next new → KeepsTree p now mid new → new.size ≡ mid.size → mid.failures ≤ new.failures → IsSweeping p map old next new (k + 1)
-sweeping_on {p} {map} {now} {next} {old} {mid} {new} {k} so_far frees keeps size later = record {
+    → FreesNameless p k now mid next new → KeepsTree p now mid new → new.size ≡ mid.size → mid.failures ≤ new.failures
+    → new.failed_writes ≡ mid.failed_writes → IsSweeping p map old next new (k + 1)
+sweeping_on {p} {map} {now} {next} {old} {mid} {new} {k} so_far frees keeps size later quiet = record {
   each = λ t h.
       let left = so_far.each t h in
       let then = frees left.0 left.1 in
@@ -200,16 +203,19 @@ sweeping_on {p} {map} {now} {next} {old} {mid} {new} {k} so_far frees keeps size
   keeps = keeps_on so_far keeps;
   size = size ∙ so_far.size;
   later = omega (arith, so_far.later, later);
+  quiet = quiet ∙ so_far.quiet;
 }
 
 -- what was done is made stable
 pub sweeping_stable : {p : Place} {map now next : SectorMap} {old mid new : DiskState} {k : ℕ} → IsSweeping p map old now mid k
-    → ((t : Tree) → HasTree p now mid t → HasTree p next new t) → KeepsTree p now mid new → new.size ≡ mid.size → mid.failures ≤ new.failures → IsSweeping p map old next new k
-sweeping_stable so_far kept keeps size later = record {
+    → ((t : Tree) → HasTree p now mid t → HasTree p next new t) → KeepsTree p now mid new → new.size ≡ mid.size → mid.failures ≤ new.failures
+    → new.failed_writes ≡ mid.failed_writes → IsSweeping p map old next new k
+sweeping_stable so_far kept keeps size later quiet = record {
   each = λ t h. let left = so_far.each t h in (left.0, kept left.0 left.1, left.2, left.3);
   keeps = keeps_on so_far keeps;
   size = size ∙ so_far.size;
   later = omega (arith, so_far.later, later);
+  quiet = quiet ∙ so_far.quiet;
 }
 
 -- all of them

@@ -37,6 +37,8 @@ pub record Does (before now : DiskState) (old : State) (e : Event) (reply : Repl
   pub cause : IsTrue (is_io_error reply) → IsFalse old.halted → HasFailed before now
   -- it halts only where a write or a sync failed
   pub halts : IsFalse old.halted → IsTrue new.halted → HasFailedToWrite before now
+  -- where it isn't halted then, no write and no sync has failed
+  pub unhalted : IsFalse new.halted → now.failed_writes ≡ before.failed_writes
   -- EIO without halting is that of a read: the disk was only read
   pub unread : IsTrue (is_io_error reply) → IsFalse new.halted → OnlyReads before now
   pub later : before.failures ≤ now.failures

@@ -39,6 +39,8 @@ pub record Mounts (before now : DiskState) (s : State) : Type 0 where
   pub some : StandsForSome before.seen
   pub each : (room : Room) (tree : Tree) (free : ℕ) → StandsFor room before.seen tree free → IsMounted now room tree s
   pub later : before.failures ≤ now.failures
+  -- no write and no sync has failed
+  pub unhalted : now.failed_writes ≡ before.failed_writes
 
 -- A mount that fails leaves what stands for the same trees, but for files without names.
 pub record FailsToMount (before now : DiskState) (fault : RestartFault) : Type 0 where

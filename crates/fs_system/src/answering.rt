@@ -57,7 +57,7 @@ impl<D: Disk + Drop> Fs<D> {
             Event::Fsync { pid, fd } => finished(self.fsync(*pid, *fd)),
             Event::Sync => finished(self.sync()),
             Event::Statfs => counted(self.statfs()),
-            Event::Arm(_) | Event::Restart(..) => unreachable!(),
+            Event::Arm(_) | Event::Restart { .. } => unreachable!(),
         }
     }
 }

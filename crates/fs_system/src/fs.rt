@@ -1,7 +1,7 @@
 //! A file system on a disk.
 
 ghost use Rattle.std.specs.Prelude.{◌≡◌, ◌≤◌, Some, IfOk, IfErr, IsTrue};
-ghost use Rattle.sector_disk.specs.Disk.{IsSame, Elapses, HasCause, HasFailed, LeavesOnly};
+ghost use Rattle.sector_disk.specs.Disk.{IsSame, ForgetsPast, Elapses, HasCause, HasFailed, LeavesOnly};
 ghost use Rattle.redo_journal.specs.Meaning.{SameMap, EachReadsAs, MeansAsBefore, data_of};
 ghost use Rattle.sector_txn.specs.Stores.{present, disk_after};
 ghost use Rattle.fs_model.specs.Processes.{Desks};
@@ -62,6 +62,7 @@ pub(crate) fn read_place<D: Disk>(disk: &mut D) -> Result<Place, DiskFault>
     ensures same { IsSame (D.state disk.old) (D.state disk.new) }
     ensures time { Elapses (D.state disk.old) (D.state disk.new) }
     ensures cause { HasCause (D.state disk.old) (D.state disk.new) result }
+    ensures quiet { (D.state disk.new).failed_writes ≡ (D.state disk.old).failed_writes }
 {
     let mut sector = [0; 512];
     disk.read(0, &mut sector)?;
@@ -83,6 +84,7 @@ fn open_store<D: Disk + Drop>(alloc: Global, disk: D) -> Result<Store<D>, (Resta
     ensures size { (D.state (disk_of_store result)).size ≡ (D.state disk).size }
     ensures later { (D.state disk).failures ≤ (D.state (disk_of_store result)).failures }
     ensures cause { IfErr result (λ fault. fault.0 ≡ Device → HasFailed (D.state disk) (D.state fault.1)) }
+    ensures quiet { IfOk result (λ store. (D.state store.disk).failed_writes ≡ (D.state disk).failed_writes) }
 {
     match Journal::open(disk) {
         Ok(journal) => match Store::new(alloc, journal) {
@@ -100,6 +102,7 @@ fn arm_disk<D: CrashDisk>(base: &mut Result<Store<D>, Broken<D>>, passes: u64)
         → IsOn D.state p desks (Some base.old) s → IsOn D.state p desks (Some base.new) s }
     ensures same { IsSame (D.state (disk_after base.old)) (D.state (disk_after base.new)) }
     ensures failures { (D.state (disk_after base.new)).failures ≡ (D.state (disk_after base.old)).failures }
+    ensures armed { D.armed (disk_after base.new) ≡ Some passes }
 {
     match base {
         Ok(store) => store.arm(passes),
@@ -111,8 +114,7 @@ fn arm_disk<D: CrashDisk>(base: &mut Result<Store<D>, Broken<D>>, passes: u64)
 fn forget_past<D: Disk>(base: &mut Result<Store<D>, Broken<D>>)
     ensures stays { (p : Place) (desks : Desks) (s : State)
         → IsOn D.state p desks (Some base.old) s → IsOn D.state p desks (Some base.new) s }
-    ensures same { IsSame (D.state (disk_after base.old)) (D.state (disk_after base.new)) }
-    ensures failures { (D.state (disk_after base.new)).failures ≡ (D.state (disk_after base.old)).failures }
+    ensures past { ForgetsPast (D.state (disk_after base.old)) (D.state (disk_after base.new)) }
 {
     match base {
         Ok(store) => store.forget(),
@@ -342,14 +344,14 @@ impl<D: Disk + Drop> Fs<D> {
         }
     }
 
-    /// Lets go of what the disk keeps of its past: nothing is said any more of the moments before this one. A call may be
-    /// made before and after it, and never at the same time.
+    /// Lets go of what the disk keeps of its past: nothing is said any more of the moments before this one.
+    ///
+    /// The disk of a halted file system is let go of its past too: it is told so, and nothing it holds or counts changes.
     pub fn forget(&mut self)
         ensures state { (s : State) → IsIn D.state self.old s → IsIn D.state self.new s }
         ensures place { self.new.place ≡ self.old.place }
         ensures desks { self.new.desks ≡ self.old.desks }
-        ensures same { IsSame (disk_in D.state self.old.base) (disk_in D.state self.new.base) }
-        ensures failures { (disk_in D.state self.new.base).failures ≡ (disk_in D.state self.old.base).failures }
+        ensures past { ForgetsPast (disk_in D.state self.old.base) (disk_in D.state self.new.base) }
     {
         let Some(base) = &mut self.base else {
             unreachable!()
@@ -395,6 +397,7 @@ impl<D: CrashDisk + Drop> Fs<D> {
         ensures state { (s : State) → IsIn D.state self.old s → IsIn D.state self.new s }
         ensures same { IsSame (disk_in D.state self.old.base) (disk_in D.state self.new.base) }
         ensures failures { (disk_in D.state self.new.base).failures ≡ (disk_in D.state self.old.base).failures }
+        ensures armed { (disk : D) → HasDisk self.new.base disk → D.armed disk ≡ Some passes }
     {
         let Some(base) = &mut self.base else {
             unreachable!()

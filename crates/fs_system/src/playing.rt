@@ -1,6 +1,6 @@
 //! Events with stops of the disk among them.
 
-ghost use Rattle.std.specs.Prelude.{◌≡◌, ◌∷◌, [], IfOk, IfErr, IsTrue};
+ghost use Rattle.std.specs.Prelude.{◌≡◌, ◌∷◌, [], Some, IfOk, IfErr, IsTrue};
 ghost use Rattle.fs_model.specs.Steps.{is_of_machine};
 ghost use Rattle.fs_model.specs.declared.event.Event.TheVariants.{Arm, Restart};
 ghost use Rattle.fs_model.specs.declared.event.EventReply.TheVariants.{Armed};
@@ -35,6 +35,7 @@ fn into_disk<D: CrashDisk + Drop>(served: Served<D>) -> D
 fn arm<D: CrashDisk + Drop>(served: Served<D>, passes: u64) -> Served<D>
     requires { MayMount D.state served }
     ensures answers { Plays D.state served (Arm passes ∷ []) (Armed ∷ []) result }
+    ensures armed { (disk : D) → HasDiskOf result disk → D.armed disk ≡ Some passes }
     ensures again { MayMount D.state result }
 {
     match served {
@@ -55,6 +56,7 @@ fn arm<D: CrashDisk + Drop>(served: Served<D>, passes: u64) -> Served<D>
 fn stop<D: CrashDisk + Drop>(disk: D, choice: &[u8], passes: Option<u64>) -> D
     requires { EachStandsForSome (D.state disk) }
     ensures stopped { Stopped (D.state disk) (D.state result) }
+    ensures armed { D.armed result ≡ passes }
     ensures stands { StandsForSome (D.state result).seen }
 {
     let mut disk = disk;
@@ -125,7 +127,7 @@ fn answer<D: CrashDisk + Drop>(
 {
     match event {
         Event::Arm(passes) => (arm(served, *passes), EventReply::Armed),
-        Event::Restart(choice, passes) => restart(alloc, served, choice.bytes(), *passes),
+        Event::Restart { choice, arm } => restart(alloc, served, choice.bytes(), *arm),
         _ => serve(served, event),
     }
 }

@@ -26,6 +26,7 @@ fn free_nameless<D: Disk>(store: Store<D>, place: Place, n: u32) -> Result<Store
     ensures any_moment { KeepsTree place (present D.state store) (D.state store.disk) (D.state (disk_after result)) }
     ensures size { (D.state (disk_after result)).size ≡ (D.state store.disk).size }
     ensures cause { HasCause (D.state store.disk) (D.state (disk_after result)) result }
+    ensures quiet { IfOk result (λ after. (D.state after.disk).failed_writes ≡ (D.state store.disk).failed_writes) }
 {
     let mut txn = store.begin();
     match leave(&mut txn, place, n, false) {
@@ -46,6 +47,7 @@ fn make_stable<D: Disk>(store: Store<D>) -> Result<Store<D>, D>
     ensures any_moment { (p : Parts) → KeepsTree p (present D.state store) (D.state store.disk) (D.state (disk_after result)) }
     ensures size { (D.state (disk_after result)).size ≡ (D.state store.disk).size }
     ensures cause { HasCause (D.state store.disk) (D.state (disk_after result)) result }
+    ensures quiet { IfOk result (λ after. (D.state after.disk).failed_writes ≡ (D.state store.disk).failed_writes) }
 {
     match store.flush() {
         Ok(store) => Ok(store),
@@ -61,6 +63,7 @@ fn free_all_nameless<D: Disk>(store: Store<D>, place: Place) -> Result<Store<D>,
     ensures any_moment { KeepsTree place (present D.state store) (D.state store.disk) (D.state (disk_after result)) }
     ensures size { (D.state (disk_after result)).size ≡ (D.state store.disk).size }
     ensures cause { HasCause (D.state store.disk) (D.state (disk_after result)) result }
+    ensures quiet { IfOk result (λ after. (D.state after.disk).failed_writes ≡ (D.state store.disk).failed_writes) }
 {
     let mut store = store;
     for n in ROOT + 1..place.inodes {
@@ -87,6 +90,7 @@ pub(crate) fn sweep<D: Disk>(store: Store<D>, place: Place) -> Result<Store<D>, 
 
     ensures size { (D.state (disk_after result)).size ≡ (D.state store.disk).size }
     ensures cause { HasCause (D.state store.disk) (D.state (disk_after result)) result }
+    ensures quiet { IfOk result (λ after. (D.state after.disk).failed_writes ≡ (D.state store.disk).failed_writes) }
 {
     let freed = free_all_nameless(store, place)?;
     let stable = make_stable(freed)?;

@@ -9,5 +9,5 @@ returns-in-Arm-clause-answers g c = rw c.in-Arm.is (c.arm.ensures.answers)
 pub returns-in-Restart-clause-answers : goal.returns-in-Restart-clause-answers
 returns-in-Restart-clause-answers g c =
     rw c.in-Restart.is (subst
-    (λ choice. Plays g.D.Disk.state c.args.served (Restart choice c.in-Restart.passes ∷ []) (c.restart.result.1 ∷ []) c.restart.result.0)
+    (λ choice. Plays g.D.Disk.state c.args.served (Restart choice c.in-Restart.arm ∷ []) (c.restart.result.1 ∷ []) c.restart.result.0)
     c.bytes.ensures.all c.restart.ensures.answers)

@@ -10,7 +10,7 @@ returns-in-Ok-clause-answers g c =
     let kept = c.forget.ensures in
     let event = c.args.event.now in
     let reply = c.answer-reply.result in
-    rw c.in-Ok.is (forgotten_then state c.in-Ok.fs c.forget.new.self kept.state kept.same kept.failures (Ok c.answer-reply.new.self) (event ∷ []) (Replies reply ∷ [])
+    rw c.in-Ok.is (forgotten_then state c.in-Ok.fs c.forget.new.self kept.state kept.past.same kept.past.failures (Ok c.answer-reply.new.self) (event ∷ []) (Replies reply ∷ [])
     (system_answers state c.forget.new.self c.answer-reply.new.self event reply c.answer-reply.ensures.does))
 
 pub returns-in-Err-clause-answers : goal.returns-in-Err-clause-answers

@@ -52,7 +52,7 @@ returns-in-Ok-keep g c = record {
         event_runs old only_now place map desks s r (Calls c.args.pid c.args.call.now) first.sectors last.sectors began.map done.super
             last.disk new reads run kept.cause.later now c.in-Ok.reply at d new.size (present state c.in-Ok-keep.store) (kept.images.size ∙ reads.narrowed.size) kept.map,
         does_event old only_now place map desks s r (Calls c.args.pid c.args.call.now) first.sectors last.sectors began.map done.super
-            last.disk new reads run kept.cause.later now c.in-Ok.reply at d,
+            last.disk new reads run kept.cause.later now c.in-Ok.reply at d kept.told.quiet,
       );
 }
 

@@ -21,7 +21,7 @@ pub loop-n-preserved : goal.loop-n-preserved
 loop-n-preserved g c =
     let one = c.in_ok-freed.ensures in
     let then = c.in_ok-store.ensures in
-    sweeping_stable (sweeping_on c.loop-n.invariant one.frees one.any_moment one.size one.cause.later) (then.kept c.args.place) (then.any_moment c.args.place) then.size then.cause.later
+    sweeping_stable (sweeping_on c.loop-n.invariant one.frees one.any_moment one.size one.cause.later one.quiet) (then.kept c.args.place) (then.any_moment c.args.place) then.size then.cause.later then.quiet
 
 pub returns-in_err-freed-clause-any_moment : goal.returns-in_err-freed-clause-any_moment
 returns-in_err-freed-clause-any_moment g c = λ t h.
@@ -37,7 +37,7 @@ returns-in_err-store-clause-any_moment g c = λ t h.
     let old = state c.args.store.disk in
     let r = c.from_residual-in_err-store.ensures in
     let one = c.in_ok-freed.ensures in
-    let so_far = sweeping_on c.loop-n.invariant one.frees one.any_moment one.size one.cause.later in
+    let so_far = sweeping_on c.loop-n.invariant one.frees one.any_moment one.size one.cause.later one.quiet in
     subst (λ k. LeavesOnly old (state k) (StandsPruned (room_of c.args.place) t)) (sym (err_disk c.from_residual-in_err-store.result c.in_err-store.field-0.0 r.0 r.1))
     (keeps_on so_far (c.in_err-store.ensures.any_moment c.args.place) t h)
 
@@ -54,7 +54,7 @@ returns-in_err-store-clause-cause g c =
     let r = c.from_residual-in_err-store.ensures in
     let disk = err_disk c.from_residual-in_err-store.result c.in_err-store.field-0.0 r.0 r.1 in
     let one = c.in_ok-freed.ensures in
-    let so_far = sweeping_on c.loop-n.invariant one.frees one.any_moment one.size one.cause.later in
+    let so_far = sweeping_on c.loop-n.invariant one.frees one.any_moment one.size one.cause.later one.quiet in
     err_cause state (state c.args.store.disk) (state c.in_ok-freed.freed.disk) c.from_residual-in_err-store.result c.in_err-store.field-0.0 disk so_far.later c.in_err-store.ensures.cause
 
 pub returns-clause-swept : goal.returns-clause-swept

@@ -23,3 +23,6 @@ returns-clause-failures g c =
     let state = g.D.Disk.state in
     c.arm_disk.ensures.failures ∙ ap (λ (b : Base g.row.D.Denot). (disk_in state b).failures) (sym c.in-Some.is)
     ∙ ap (λ (x : System g.row.D.Denot). (disk_in state x.base).failures) c.self.view_is
+
+pub returns-clause-armed : goal.returns-clause-armed
+returns-clause-armed g c = λ disk has. ap (λ (d : g.row.D.Denot). g.D.CrashDisk.armed d) (sym has) ∙ c.arm_disk.ensures.armed

@@ -18,7 +18,7 @@ pub returns-in-Ok-clause-flushes : goal.returns-in-Ok-clause-flushes
 returns-in-Ok-clause-flushes g c = λ e.
     flush_returns g.D.Disk.state g.met.D.Disk.only_now c.self.inside.base c.self.inside.place c.self.inside.procs c.args.self.now c.self.view_is c.in-Some-Ok.store
     (sym c.take.ensures.value ∙ c.in-Some-Ok.is ∙ ap (λ k. Some k) c.in-Some-Ok.field-0-is) c.in-Ok.store
-    c.in-Ok.ensures.map c.in-Ok.ensures.images c.in-Ok.ensures.lasting c.in-Ok.ensures.cause.later e
+    c.in-Ok.ensures.map c.in-Ok.ensures.images c.in-Ok.ensures.lasting c.in-Ok.ensures.cause.later c.in-Ok.ensures.told.quiet e
 
 pub returns-in-Err-clause-flushes : goal.returns-in-Err-clause-flushes
 returns-in-Err-clause-flushes g c = λ e.

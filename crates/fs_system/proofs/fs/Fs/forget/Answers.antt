@@ -1,25 +1,17 @@
-use Rattle.std.proofs.Common.{sym, ap, ◌∙◌}
-use Rattle.fs_system.specs.Seen.{System, Base, disk_in}
-use Rattle.fs_system.proofs.Forgetting.{forgot_system, forgot_state, forgot_same}
+use Rattle.fs_system.proofs.Forgetting.{forgot_system, forgot_state, forgot_past}
 use Rattle.fs_system.proofs.fs.Fs.forget.Goals as goal
 
 pub invariant_of-self : goal.invariant_of-self
 invariant_of-self g c =
     forgot_system g.D.Disk.state c.self.inside.base c.self.inside.place c.self.inside.procs c.in-Some.base c.forget_past.new.base
-    c.in-Some.is c.forget_past.ensures.same c.forget_past.ensures.stays c.self.invariant
+    c.in-Some.is c.forget_past.ensures.past.same c.forget_past.ensures.stays c.self.invariant
 
 pub returns-clause-state : goal.returns-clause-state
 returns-clause-state g c =
     forgot_state g.D.Disk.state c.self.inside.base c.self.inside.place c.self.inside.procs c.in-Some.base c.forget_past.new.base
-    c.in-Some.is c.forget_past.ensures.same c.forget_past.ensures.stays c.args.self.now c.self.view_is
+    c.in-Some.is c.forget_past.ensures.past.same c.forget_past.ensures.stays c.args.self.now c.self.view_is
 
-pub returns-clause-same : goal.returns-clause-same
-returns-clause-same g c =
-    forgot_same g.D.Disk.state c.self.inside.base c.self.inside.place c.self.inside.procs c.in-Some.base c.forget_past.new.base
-    c.in-Some.is c.forget_past.ensures.same c.forget_past.ensures.stays c.args.self.now c.self.view_is
-
-pub returns-clause-failures : goal.returns-clause-failures
-returns-clause-failures g c =
-    let state = g.D.Disk.state in
-    c.forget_past.ensures.failures ∙ ap (λ (b : Base g.row.D.Denot). (disk_in state b).failures) (sym c.in-Some.is)
-    ∙ ap (λ (x : System g.row.D.Denot). (disk_in state x.base).failures) c.self.view_is
+pub returns-clause-past : goal.returns-clause-past
+returns-clause-past g c =
+    forgot_past g.D.Disk.state c.self.inside.base c.self.inside.place c.self.inside.procs c.in-Some.base c.forget_past.new.base
+    c.in-Some.is c.forget_past.ensures.past.same c.forget_past.ensures.stays c.args.self.now c.self.view_is c.forget_past.ensures.past

@@ -1,4 +1,4 @@
-use Rattle.std.proofs.Common.{arith}
+use Rattle.std.proofs.Common.{arith, ◌∙◌}
 use Rattle.sector_disk.proofs.Moments.{failed_later}
 use Rattle.fs_model.specs.declared.event.RestartFault.TheVariants.{DiskFault}
 use Rattle.fs_system.proofs.Mounts.{same_stands, opened_stands, opened_tree, swept_moments, fails_to_mount, mounts_found, mounted_system, device_failed}
@@ -33,7 +33,8 @@ returns-in-Ok-sweep-clause-mounted g c =
     let last = c.in-Ok-sweep.ensures.cause.later in
     mounts_found g.D.Disk.state c.args.disk c.read_place.new.disk c.in-Ok-open_store.store (g.met.D.Disk.seen_is_image c.args.disk) c.requires
     c.read_place.ensures.same c.in-Ok-open_store.ensures.size c.in-Ok-open_store.ensures.map c.in-Ok-open_store.ensures.lasting c.in-Ok.place c.in-Ok.ensures.found
-    c.in-Ok-sweep.store c.in-Ok-sweep.ensures.swept c.in-Ok-sweep.ensures.lasting (omega (arith, first, then, last)) c.new.result c.new.ensures
+    c.in-Ok-sweep.store c.in-Ok-sweep.ensures.swept c.in-Ok-sweep.ensures.lasting (omega (arith, first, then, last))
+    (c.in-Ok-sweep.ensures.quiet ∙ c.in-Ok-open_store.ensures.quiet ∙ c.read_place.ensures.quiet) c.new.result c.new.ensures
 
 pub invariant_of-result : goal.invariant_of-result
 invariant_of-result g c =
@@ -42,7 +43,8 @@ invariant_of-result g c =
     let last = c.in-Ok-sweep.ensures.cause.later in
     mounted_system g.D.Disk.state c.args.disk c.read_place.new.disk c.in-Ok-open_store.store (g.met.D.Disk.seen_is_image c.args.disk) c.requires
     c.read_place.ensures.same c.in-Ok-open_store.ensures.size c.in-Ok-open_store.ensures.map c.in-Ok-open_store.ensures.lasting c.in-Ok.place c.in-Ok.ensures.found
-    c.in-Ok-sweep.store c.in-Ok-sweep.ensures.swept c.in-Ok-sweep.ensures.lasting (omega (arith, first, then, last)) c.new.result c.new.ensures
+    c.in-Ok-sweep.store c.in-Ok-sweep.ensures.swept c.in-Ok-sweep.ensures.lasting (omega (arith, first, then, last))
+    (c.in-Ok-sweep.ensures.quiet ∙ c.in-Ok-open_store.ensures.quiet ∙ c.read_place.ensures.quiet) c.new.result c.new.ensures
 
 pub returns-in-Err-sweep-clause-any_moment : goal.returns-in-Err-sweep-clause-any_moment
 returns-in-Err-sweep-clause-any_moment g c =

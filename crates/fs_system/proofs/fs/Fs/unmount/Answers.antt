@@ -7,7 +7,7 @@ pub returns-in-Ok-clause-does : goal.returns-in-Ok-clause-does
 returns-in-Ok-clause-does g c =
     last_done g.D.Disk.state g.met.D.Disk.only_now c.self.inside.base c.self.inside.place c.self.inside.procs c.args.self c.self.view_is c.in-Some-Ok.store
     (c.in-Some-Ok.is ∙ ap (λ k. Some k) c.in-Some-Ok.field-0-is) c.in-Ok.store
-    c.in-Ok.ensures.map c.in-Ok.ensures.images c.in-Ok.ensures.lasting c.in-Ok.ensures.cause.later c.into_disk.result c.into_disk.ensures
+    c.in-Ok.ensures.map c.in-Ok.ensures.images c.in-Ok.ensures.lasting c.in-Ok.ensures.cause.later c.in-Ok.ensures.told.quiet c.into_disk.result c.into_disk.ensures
 
 pub returns-in-Ok-clause-again : goal.returns-in-Ok-clause-again
 returns-in-Ok-clause-again g c =
