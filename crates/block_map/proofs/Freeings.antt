@@ -27,8 +27,8 @@ use Rattle.bit_alloc.specs.Room.{bitmaps}
 use Rattle.bit_alloc.specs.Inodes.{IsSound, IsSectorFor, Touches}
 use Rattle.bit_alloc.proofs.Soundness.{free_kept, super_kept}
 use Rattle.bit_alloc.proofs.Transactions.{map_unchanged}
-use Rattle.inode_table.specs.Storing.{IsForAcls, GivesBack}
-use Rattle.inode_table.proofs.Sound.{puts_nothing, puts_acls, puts_inode_bit, puts_inode}
+use Rattle.inode_table.specs.Storing.{IsForAcl, GivesBack}
+use Rattle.inode_table.proofs.Sound.{puts_nothing, puts_acl, puts_inode_bit, puts_inode}
 use Rattle.inode_table.proofs.Stores.{HasStored, stored}
 use Rattle.block_map.specs.Drops.{GivesAll, emptied}
 use Rattle.block_map.specs.Steps.{MayChange}
@@ -67,13 +67,13 @@ module _ {p : Place} {n : ℕ} {v : Inode} {t0 t1 t2 : TxnState} (sound : IsSoun
     pub given_puts : PutsOnly (IsSectorFor p n) (bitmaps p) 0 t0 t3
     given_puts = changes_joined cleared_puts (puts_steps p n all.puts)
 
-    module _ {t4 : TxnState} (access_put : PutsOnly (IsForAcls p) (bitmaps p) 0 t3 t4) where
+    module _ {t4 : TxnState} (access_put : PutsOnly (IsForAcl p 0) (bitmaps p) 0 t3 t4) where
       pub access_puts : PutsOnly (IsSectorFor p n) (bitmaps p) 0 t0 t4
-      access_puts = changes_joined given_puts (puts_acls p n access_put)
+      access_puts = changes_joined given_puts (puts_acl p n access_put)
 
-      module _ {t5 : TxnState} (default_put : PutsOnly (IsForAcls p) (bitmaps p) 0 t4 t5) where
+      module _ {t5 : TxnState} (default_put : PutsOnly (IsForAcl p 0) (bitmaps p) 0 t4 t5) where
         pub default_puts : PutsOnly (IsSectorFor p n) (bitmaps p) 0 t0 t5
-        default_puts = changes_joined access_puts (puts_acls p n default_put)
+        default_puts = changes_joined access_puts (puts_acl p n default_put)
 
         module _ (t6 : TxnState) (may : MayChange p t2 v) (access : GivesBack p v.acl t3.sectors t4.sectors) (default : GivesBack p v.default_acl t4.sectors t5.sectors)
             (saves : Saves p n free_inode t5.sectors t6.sectors) where

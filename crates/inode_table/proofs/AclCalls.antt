@@ -1,5 +1,5 @@
 -- The calls by which an ACL of an inode is saved, one after the other.
-use Rattle.std.proofs.Common.{◌≡◌, ℕ, ◌+◌, ◌/◌, ◌%◌, ◌<◌, [], Option, refl, sym, ap, subst, arith}
+use Rattle.std.proofs.Common.{◌≡◌, ℕ, ◌+◌, ◌/◌, ◌%◌, ◌<◌, [], Option, refl, sym, ap, subst, ◌∙◌, arith}
 use Rattle.posix_acl.specs.AccessList.{AccessList, IsAcl, IsSomeAcl, mode_bits}
 use Rattle.fs_layout.specs.declared.inode.Inode.{Inode}
 use Rattle.fs_layout.specs.declared.place.Place.{Place}
@@ -12,14 +12,15 @@ use Rattle.fs_layout.proofs.OneAcl.{mode_small}
 use Rattle.fs_layout.proofs.Parts.{owns_acl, owns_default_acl}
 use Rattle.fs_layout.proofs.Pointers.{turns_acl, turns_default_acl}
 use Rattle.sector_txn.specs.Sectors.{TxnState, SameStore, PutsOnly}
-use Rattle.bit_alloc.specs.Room.{bitmaps}
+use Rattle.bit_alloc.specs.Room.{bitmaps, TakesSpare}
 use Rattle.bit_alloc.specs.Inodes.{IsSound, Touches, KeepsFields, KeepsBytes, KeepsAccess, KeepsDefault}
 use Rattle.inode_table.specs.Acls.{HasAcl, HasDefaultAcl, with_acl_bits, acl_takes}
 use Rattle.inode_table.specs.Inodes.{DiffersInAttributes}
-use Rattle.inode_table.specs.Storing.{IsForAcls, Stores}
+use Rattle.inode_table.specs.Storing.{IsForAcl, IsForSaving, Stores}
 use Rattle.inode_table.proofs.AclSaved.{IsAclSaved, acl_saved}
 use Rattle.inode_table.proofs.Bits.{with_low_bits}
 use Rattle.inode_table.proofs.Saved.{saved_keeps_access, saved_keeps_default}
+use Rattle.inode_table.proofs.Sound.{puts_saving, spare_saving}
 use Rattle.inode_table.proofs.StoredAcls.{contents, contents_whole, kept_valid, holds_acl, acl_stays, takes_same}
 use Rattle.inode_table.proofs.Stores.{HasStored, stored, content_there}
 
@@ -63,9 +64,18 @@ module _ (p : Place) (n : ℕ) (inode : Inode) (a : AccessList) (y : ℕ) (t0 t1
   pub access_sound : SameStore t0 t2 → IsSound p t2
   access_sound = access_saved.sound
 
-  pub access_touches : PutsOnly (IsForAcls p) (bitmaps p) 1 t0 t1 → PutsOnly (λ t. t ≡ p.table + n / 4) [] 1 t1 t2
+  pub access_touches : PutsOnly (IsForAcl p y) (bitmaps p) 1 t0 t1 → PutsOnly (λ t. t ≡ p.table + n / 4) [] 1 t1 t2
       → Touches p n (acl_takes inode.acl (kept_acl a)) 2 t0 t2
   access_touches = access_saved.touches
+
+  pub access_puts : PutsOnly (IsForAcl p y) (bitmaps p) 1 t0 t1 → PutsOnly (λ t. t ≡ p.table + n / 4) [] 1 t1 t2
+      → PutsOnly (IsForSaving p n (inode_at p t2.sectors n).acl) (bitmaps p) 2 t0 t2
+  access_puts acl inode =
+      subst (λ (u : Inode). PutsOnly (IsForSaving p n u.acl) (bitmaps p) 2 t0 t2) (sym access_saved.is) (puts_saving p n y acl inode)
+
+  pub access_none : (y ≡ 0 → TakesSpare p 0 t0 t1) → PutsOnly (λ t. t ≡ p.table + n / 4) [] 1 t1 t2
+      → (inode_at p t2.sectors n).acl ≡ 0 → TakesSpare p 1 t0 t2
+  access_none taken inode none = spare_saving p n t0 t1 t2 (taken (sym (ap (λ (u : Inode). u.acl) access_saved.is) ∙ none)) inode
 
   pub access_fields : KeepsFields (with_acl_bits inode a) (inode_at p t2.sectors n)
   access_fields =
@@ -129,9 +139,18 @@ module _ (p : Place) (n : ℕ) (inode : Inode) (a : Option AccessList) (y : ℕ)
   pub default_sound : SameStore t0 t2 → IsSound p t2
   default_sound = default_saved.sound
 
-  pub default_touches : PutsOnly (IsForAcls p) (bitmaps p) 1 t0 t1 → PutsOnly (λ t. t ≡ p.table + n / 4) [] 1 t1 t2
+  pub default_touches : PutsOnly (IsForAcl p y) (bitmaps p) 1 t0 t1 → PutsOnly (λ t. t ≡ p.table + n / 4) [] 1 t1 t2
       → Touches p n (acl_takes inode.default_acl a) 2 t0 t2
   default_touches = default_saved.touches
+
+  pub default_puts : PutsOnly (IsForAcl p y) (bitmaps p) 1 t0 t1 → PutsOnly (λ t. t ≡ p.table + n / 4) [] 1 t1 t2
+      → PutsOnly (IsForSaving p n (inode_at p t2.sectors n).default_acl) (bitmaps p) 2 t0 t2
+  default_puts acl inode =
+      subst (λ (u : Inode). PutsOnly (IsForSaving p n u.default_acl) (bitmaps p) 2 t0 t2) (sym default_saved.is) (puts_saving p n y acl inode)
+
+  pub default_none : (y ≡ 0 → TakesSpare p 0 t0 t1) → PutsOnly (λ t. t ≡ p.table + n / 4) [] 1 t1 t2
+      → (inode_at p t2.sectors n).default_acl ≡ 0 → TakesSpare p 1 t0 t2
+  default_none taken inode none = spare_saving p n t0 t1 t2 (taken (sym (ap (λ (u : Inode). u.default_acl) default_saved.is) ∙ none)) inode
 
   pub default_fields : KeepsFields inode (inode_at p t2.sectors n)
   default_fields =

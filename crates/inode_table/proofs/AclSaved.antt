@@ -16,8 +16,8 @@ use Rattle.sector_txn.specs.Sectors.{TxnState, SameStore, PutsOnly}
 use Rattle.sector_txn.proofs.Changes.{changes_joined}
 use Rattle.bit_alloc.specs.Room.{bitmaps}
 use Rattle.bit_alloc.specs.Inodes.{IsSound, Touches, KeepsBytes}
-use Rattle.inode_table.specs.Storing.{IsForAcls}
-use Rattle.inode_table.proofs.Sound.{sound_after, puts_acls, puts_inode}
+use Rattle.inode_table.specs.Storing.{IsForAcl}
+use Rattle.inode_table.proofs.Sound.{sound_after, puts_acl, puts_inode}
 use Rattle.inode_table.proofs.Saved.{fields_keep_bytes, saved_keeps_bytes}
 use Rattle.inode_table.proofs.Stores.{HasStored, stored_keeps_bytes}
 
@@ -31,7 +31,7 @@ pub record IsAclSaved (p : Place) (n : ℕ) (v w : Inode) (taken : ℕ) (t0 t1 t
   pub keeps : Keeps t1.sectors t2.sectors w
   pub bit_same : bit t2.sectors inode_bitmap n ≡ bit t0.sectors inode_bitmap n
   pub sound : SameStore t0 t2 → IsSound p t2
-  pub touches : PutsOnly (IsForAcls p) (bitmaps p) 1 t0 t1 → PutsOnly (λ t. t ≡ p.table + n / 4) [] 1 t1 t2 → Touches p n taken 2 t0 t2
+  pub touches : {x : ℕ} → PutsOnly (IsForAcl p x) (bitmaps p) 1 t0 t1 → PutsOnly (λ t. t ≡ p.table + n / 4) [] 1 t1 t2 → Touches p n taken 2 t0 t2
   pub bytes : KeepsBytes t0.sectors t2.sectors v (inode_at p t2.sectors n)
 
 -- The sector is stored, which leaves u, and w is saved, which has the same sectors.
@@ -59,8 +59,8 @@ module _ (p : Place) (n : ℕ) (u w : Inode) (at : Part) (taken : ℕ) (t0 t1 t2
         keeps = saved.1.keeps;
         bit_same = saved.1.inode_bits n (omega (arith, few, lt));
         sound = λ store. sound_after sound store saved.0 (λ m low none. saved.1.inode_bits m low);
-        touches = λ acl_put inode_put. record {
-          puts = changes_joined (puts_acls p n acl_put) (puts_inode p n inode_put);
+        touches = λ {x} acl_put inode_put. record {
+          puts = changes_joined (puts_acl p n acl_put) (puts_inode p n inode_put);
           super = saves.others 0 (λ e. omega (arith, from, e)) ∙ st.low 0 (omega arith);
           inode = saved.1.changes;
           free = let a = st.free in omega (arith, a, saved.1.free);

@@ -10,36 +10,36 @@ use Rattle.sector_txn.proofs.Changes.{changes_joined}
 use Rattle.bit_alloc.specs.declared.bitmap.Bitmap.TheVariants.{Inodes}
 use Rattle.bit_alloc.specs.Bitmaps.{IsNumber, GivesNumber}
 use Rattle.bit_alloc.specs.Room.{bitmaps}
-use Rattle.bit_alloc.specs.Inodes.{IsSound, IsSectorFor, Touches}
+use Rattle.bit_alloc.specs.Inodes.{IsSound, Touches}
 use Rattle.bit_alloc.proofs.Transactions.{map_unchanged}
-use Rattle.inode_table.specs.Storing.{IsForAcls, GivesBack}
+use Rattle.inode_table.specs.Storing.{IsForAcl, IsForSaving, GivesBack}
 use Rattle.inode_table.proofs.Freed.{freed_consistent, freed_changes, freed_is, freed_bits, freed_free_sectors, freed_super}
-use Rattle.inode_table.proofs.Sound.{sound_after, puts_nothing, puts_acls, puts_inode_bit, puts_inode}
+use Rattle.inode_table.proofs.Sound.{sound_after, puts_nothing, puts_saving, puts_saved, puts_inode_map}
 
 -- ---- what has been put so far
 module _ (p : Place) (n : ℕ) (t0 t1 t2 : TxnState) (sound : IsSound p t0) (number : IsNumber p Inodes n)
     (read : IsUnchanged t0 t1) (bit_put : PutsOnly (λ t. t ≡ inode_bitmap + n / 4096) (bitmaps p) 0 t1 t2) where
-  pub puts_2 : PutsOnly (IsSectorFor p n) (bitmaps p) 0 t0 t2
-  puts_2 = changes_joined (puts_nothing p read) (puts_inode_bit n n sound.consistent.place number.1 bit_put)
+  pub puts_2 : PutsOnly (IsForAcl p 0) (bitmaps p) 0 t0 t2
+  puts_2 = changes_joined (puts_nothing p read) (puts_inode_map n sound.consistent.place number.1 bit_put)
 
-  module _ (t3 : TxnState) (access_put : PutsOnly (IsForAcls p) (bitmaps p) 0 t2 t3) where
-    pub puts_3 : PutsOnly (IsSectorFor p n) (bitmaps p) 0 t0 t3
-    puts_3 = changes_joined puts_2 (puts_acls p n access_put)
+  module _ (t3 : TxnState) (access_put : PutsOnly (IsForAcl p 0) (bitmaps p) 0 t2 t3) where
+    pub puts_3 : PutsOnly (IsForAcl p 0) (bitmaps p) 0 t0 t3
+    puts_3 = changes_joined puts_2 access_put
 
-    module _ (t4 : TxnState) (default_put : PutsOnly (IsForAcls p) (bitmaps p) 0 t3 t4) where
-      pub puts_4 : PutsOnly (IsSectorFor p n) (bitmaps p) 0 t0 t4
-      puts_4 = changes_joined puts_3 (puts_acls p n default_put)
+    module _ (t4 : TxnState) (default_put : PutsOnly (IsForAcl p 0) (bitmaps p) 0 t3 t4) where
+      pub puts_4 : PutsOnly (IsForAcl p 0) (bitmaps p) 0 t0 t4
+      puts_4 = changes_joined puts_3 default_put
 
       module _ (t5 : TxnState) (inode_put : PutsOnly (λ t. t ≡ p.table + n / 4) [] 1 t4 t5) where
-        pub puts_5 : PutsOnly (IsSectorFor p n) (bitmaps p) 1 t0 t5
-        puts_5 = changes_joined puts_4 (puts_inode p n inode_put)
+        pub puts_5 : PutsOnly (IsForSaving p n 0) (bitmaps p) 1 t0 t5
+        puts_5 = puts_saving p n 0 puts_4 inode_put
 
 -- ---- what has come of it
 module _ (p : Place) (n : ℕ) (v : Inode) (t0 t1 t2 t3 t4 t5 : TxnState) (sound : IsSound p t0) (number : IsNumber p Inodes n)
     (empty : Holds t0.sectors (inode_at p t0.sectors n) []) (is : v ≡ inode_at p t0.sectors n) (read : IsUnchanged t0 t1)
     (given : GivesNumber p Inodes n t1.sectors t2.sectors) (access : GivesBack p v.acl t2.sectors t3.sectors)
     (default : GivesBack p v.default_acl t3.sectors t4.sectors) (saves : Saves p n free_inode t4.sectors t5.sectors)
-    (puts : PutsOnly (IsSectorFor p n) (bitmaps p) 1 t0 t5) where
+    (puts : PutsOnly (IsForSaving p n 0) (bitmaps p) 1 t0 t5) where
   mark : MarksInode n t0.sectors t2.sectors
   mark = subst (λ m. MarksInode n m t2.sectors) (sym (map_unchanged read)) given.mark
 
@@ -66,7 +66,7 @@ module _ (p : Place) (n : ℕ) (v : Inode) (t0 t1 t2 t3 t4 t5 : TxnState) (sound
 
   pub free_touches : Touches p n 0 1 t0 t5
   free_touches = record {
-    puts = puts;
+    puts = puts_saved p n 0 puts;
     super = freed_super sound.consistent number.1 empty mark access_back default_back saves;
     inode = freed_changes sound.consistent number.1 empty mark access_back default_back saves;
     free = let f = freed_free_sectors sound.consistent number.1 empty mark access_back default_back saves in omega (arith, f);

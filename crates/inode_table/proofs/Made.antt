@@ -30,12 +30,12 @@ use Rattle.bit_alloc.specs.Inodes.{IsSound, IsSectorFor, Touches, IsBlank, Keeps
 use Rattle.bit_alloc.proofs.Soundness.{free_kept}
 use Rattle.inode_table.specs.Acls.{HasAcl, HasDefaultAcl, with_acl_bits, acl_takes, acls_take}
 use Rattle.inode_table.specs.Inodes.{ClearAreFree}
-use Rattle.inode_table.specs.Storing.{IsForAcls, Stores, takes_for}
+use Rattle.inode_table.specs.Storing.{IsForAcl, Stores, takes_for}
 use Rattle.inode_table.proofs.AclCalls.{bits_shown}
 use Rattle.inode_table.proofs.AclSaved.{bytes_joined}
 use Rattle.inode_table.proofs.Bits.{with_low_bits}
 use Rattle.inode_table.proofs.Saved.{fields_keep_bytes, saved_keeps_bytes}
-use Rattle.inode_table.proofs.Sound.{sound_after, puts_acls, puts_inode_bit, puts_inode}
+use Rattle.inode_table.proofs.Sound.{sound_after, puts_acl, puts_inode_bit, puts_inode}
 use Rattle.inode_table.proofs.StoredAcls.{contents, contents_whole, kept_valid, holds_acl, acl_stays, takes_same}
 use Rattle.inode_table.proofs.Stores.{HasStored, stored, stored_keeps_bytes, content_there}
 
@@ -76,13 +76,13 @@ module _ (p : Place) (n : ℕ) (t0 t1 : TxnState) (sound : IsSound p t0) (lt : n
   pub made_puts_1 : PutsOnly (IsSectorFor p n) (bitmaps p) 0 t0 t1
   made_puts_1 = puts_inode_bit n n sound.consistent.place lt bit_put
 
-  module _ (t2 : TxnState) (access_put : PutsOnly (IsForAcls p) (bitmaps p) 1 t1 t2) where
+  module _ (t2 : TxnState) {y : ℕ} (access_put : PutsOnly (IsForAcl p y) (bitmaps p) 1 t1 t2) where
     pub made_puts_2 : PutsOnly (IsSectorFor p n) (bitmaps p) 1 t0 t2
-    made_puts_2 = changes_joined made_puts_1 (puts_acls p n access_put)
+    made_puts_2 = changes_joined made_puts_1 (puts_acl p n access_put)
 
-    module _ (t3 : TxnState) (default_put : PutsOnly (IsForAcls p) (bitmaps p) 1 t2 t3) where
+    module _ (t3 : TxnState) {z : ℕ} (default_put : PutsOnly (IsForAcl p z) (bitmaps p) 1 t2 t3) where
       pub made_puts_3 : PutsOnly (IsSectorFor p n) (bitmaps p) 2 t0 t3
-      made_puts_3 = changes_joined made_puts_2 (puts_acls p n default_put)
+      made_puts_3 = changes_joined made_puts_2 (puts_acl p n default_put)
 
       module _ (t4 : TxnState) (inode_put : PutsOnly (λ t. t ≡ p.table + n / 4) [] 1 t3 t4) where
         pub made_puts_4 : PutsOnly (IsSectorFor p n) (bitmaps p) 3 t0 t4

@@ -9,13 +9,13 @@ use Rattle.fs_layout.specs.Ownership.{IsConsistent}
 use Rattle.fs_layout.proofs.Places.{after_map, before_data}
 use Rattle.fs_layout.proofs.Bits.{bit_kept}
 use Rattle.sector_txn.specs.Sectors.{TxnState, SameStore, IsUnchanged, IsPut, PutsOnly}
-use Rattle.sector_txn.proofs.Changes.{changes_nothing, changes_read, changes_put, changes_beside, changes_weaker}
+use Rattle.sector_txn.proofs.Changes.{changes_nothing, changes_read, changes_put, changes_joined, changes_beside, changes_weaker}
 use Rattle.bit_alloc.specs.declared.bitmap.Bitmap.{Bitmap}
 use Rattle.bit_alloc.specs.declared.bitmap.Bitmap.TheVariants.{Inodes, Blocks}
 use Rattle.bit_alloc.specs.Bitmaps.{HasBitmaps, IsNumber, bit_count, first_sector}
-use Rattle.bit_alloc.specs.Room.{bitmaps, HasSpare}
+use Rattle.bit_alloc.specs.Room.{bitmaps, HasSpare, TakesSpare}
 use Rattle.bit_alloc.specs.Inodes.{IsSound, IsSectorFor}
-use Rattle.inode_table.specs.Storing.{IsForAcls}
+use Rattle.inode_table.specs.Storing.{IsForAcl, IsForSaving}
 
 -- ---- a consistent image is sound
 -- what is asked of one bitmap
@@ -60,13 +60,13 @@ data_put_keeps_bitmaps {p} {s} {x} {old} {new} b put ge =
 
 -- ---- one put
 -- a data sector is put
-pub puts_data : (p : Place) (shared : List ℕ) {s : ℕ} {x : List ℕ} {old new : TxnState} → IsPut s x old new → IsData p s → PutsOnly (IsForAcls p) shared 1 old new
-puts_data p shared {s} put at = changes_put {R = IsForAcls p} (changes_nothing shared) put (inr at)
+pub puts_data : (p : Place) (shared : List ℕ) {s : ℕ} {x : List ℕ} {old new : TxnState} → IsPut s x old new → IsData p s → PutsOnly (IsForAcl p s) shared 1 old new
+puts_data p shared {s} put at = changes_put {R = IsForAcl p s} (changes_nothing shared) put (inr (at, refl))
 
 -- a sector of the block bitmap is put
-pub puts_bitmap : (p : Place) {s : ℕ} {old new : TxnState} → s < map_bits p → PutsOnly (λ t. t ≡ block_bitmap + s / 4096) (bitmaps p) 0 old new
-    → PutsOnly (IsForAcls p) (bitmaps p) 0 old new
-puts_bitmap p few puts = changes_weaker {Q = IsForAcls p} (λ t e. inl (omega (arith, e), omega (arith, e, few))) (omega arith) puts
+pub puts_bitmap : (p : Place) (x : ℕ) {s : ℕ} {old new : TxnState} → s < map_bits p → PutsOnly (λ t. t ≡ block_bitmap + s / 4096) (bitmaps p) 0 old new
+    → PutsOnly (IsForAcl p x) (bitmaps p) 0 old new
+puts_bitmap p x few puts = changes_weaker {Q = IsForAcl p x} (λ t e. inl (omega (arith, e), omega (arith, e, few))) (omega arith) puts
 
 -- a sector is read and put
 pub reads_and_puts : {n : ℕ} {x : List ℕ} {old mid new : TxnState} → IsUnchanged old mid → IsPut n x mid new → PutsOnly (λ t. t ≡ n) [] 1 old new
@@ -86,15 +86,36 @@ room_left p more txn spare some = omega (arith, spare, some)
 pub puts_nothing : {R : ℕ → Type 0} (p : Place) {old new : TxnState} → IsUnchanged old new → PutsOnly R (bitmaps p) 0 old new
 puts_nothing p same = changes_read (changes_nothing (bitmaps p)) same
 
--- the sectors of ACLs are some of those that a call on an inode may put
-pub puts_acls : (p : Place) (n : ℕ) {more : ℕ} {old new : TxnState} → PutsOnly (IsForAcls p) (bitmaps p) more old new
+-- the sectors of an ACL are some of those that a call on an inode may put
+pub puts_acl : (p : Place) (n : ℕ) {x more : ℕ} {old new : TxnState} → PutsOnly (IsForAcl p x) (bitmaps p) more old new
     → PutsOnly (IsSectorFor p n) (bitmaps p) more old new
-puts_acls p n puts = changes_weaker {Q = IsSectorFor p n} (λ t way. elim way [ inl map ↦ inl map | inr at ↦ inr (inr at) ]) (omega arith) puts
+puts_acl p n puts = changes_weaker {Q = IsSectorFor p n} (λ t way. elim way [ inl map ↦ inl map | inr at ↦ inr (inr at.0) ]) (omega arith) puts
 
--- so is that of the inode bitmap
-pub puts_inode_bit : {p : Place} (n m : ℕ) {old new : TxnState} → IsPlace p → m < p.inodes → PutsOnly (λ t. t ≡ inode_bitmap + m / 4096) (bitmaps p) 0 old new
-    → PutsOnly (IsSectorFor p n) (bitmaps p) 0 old new
-puts_inode_bit {p} n m place lt puts =
+-- and with the inode's they are those that saving it may put
+pub puts_saving : (p : Place) (n x : ℕ) {few more : ℕ} {old mid new : TxnState} → PutsOnly (IsForAcl p x) (bitmaps p) few old mid
+    → PutsOnly (λ t. t ≡ p.table + n / 4) [] more mid new → PutsOnly (IsForSaving p n x) (bitmaps p) (few + more) old new
+puts_saving p n x acl inode =
+    changes_joined (changes_weaker {Q = IsForSaving p n x} (λ t way. inr way) (omega arith) acl)
+    (changes_weaker {Q = IsForSaving p n x} (λ t e. inl e) (omega arith) (changes_beside inode (bitmaps p)))
+
+-- the room that both take
+pub spare_saving : (p : Place) (n : ℕ) (old mid new : TxnState) → TakesSpare p 0 old mid → PutsOnly (λ t. t ≡ p.table + n / 4) [] 1 mid new → TakesSpare p 1 old new
+spare_saving p n old mid new taken inode = let beside = (changes_beside inode (bitmaps p)).room in omega (arith, taken, beside)
+
+-- these are some of those too
+pub puts_saved : (p : Place) (n x : ℕ) {more : ℕ} {old new : TxnState} → PutsOnly (IsForSaving p n x) (bitmaps p) more old new
+    → PutsOnly (IsSectorFor p n) (bitmaps p) more old new
+puts_saved p n x puts =
+    changes_weaker {Q = IsSectorFor p n} (λ t way. elim way [ inl e ↦ inr (inl e) | inr (inl map) ↦ inl map | inr (inr at) ↦ inr (inr at.0) ]) (omega arith) puts
+
+-- the sector of the inode bitmap is that of a bitmap
+pub puts_inode_map : {p : Place} (m : ℕ) {old new : TxnState} → IsPlace p → m < p.inodes → PutsOnly (λ t. t ≡ inode_bitmap + m / 4096) (bitmaps p) 0 old new
+    → PutsOnly (IsForAcl p 0) (bitmaps p) 0 old new
+puts_inode_map {p} m place lt puts =
     let from = after_map place in
     let few = place.most_inodes in
-    changes_weaker {Q = IsSectorFor p n} (λ t e. inl (omega (arith, e), omega (arith, e, from, few, lt))) (omega arith) puts
+    changes_weaker {Q = IsForAcl p 0} (λ t e. inl (omega (arith, e), omega (arith, e, from, few, lt))) (omega arith) puts
+
+pub puts_inode_bit : {p : Place} (n m : ℕ) {old new : TxnState} → IsPlace p → m < p.inodes → PutsOnly (λ t. t ≡ inode_bitmap + m / 4096) (bitmaps p) 0 old new
+    → PutsOnly (IsSectorFor p n) (bitmaps p) 0 old new
+puts_inode_bit {p} n m place lt puts = puts_acl p n (puts_inode_map m place lt puts)

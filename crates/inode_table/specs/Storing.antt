@@ -1,9 +1,10 @@
 -- The sector of an ACL.
---     IsForAcls        the sectors that storing one may put
+--     IsForAcl        the sectors that storing one may put
+--     IsForSaving        those that saving an inode with one may put
 --     GivesBack        a sector is given back
 --     Stores        content is stored, in the sector that is there or in one that is taken
 --     takes_for        how many sectors that takes
-use Rattle.std.specs.Prelude.{◌≡◌, ◌≢◌, ℕ, zero, suc, ◌<◌, ◌≤◌, List, Option, Some, None, ◌⊎◌}
+use Rattle.std.specs.Prelude.{◌≡◌, ◌≢◌, ℕ, zero, suc, ◌+◌, ◌/◌, ◌<◌, ◌≤◌, List, Option, Some, None, ◌⊎◌}
 use Rattle.fs_layout.specs.declared.place.Place.{Place}
 use Rattle.fs_layout.specs.Bytes.{SectorMap}
 use Rattle.fs_layout.specs.Images.{IsData}
@@ -11,9 +12,13 @@ use Rattle.fs_layout.specs.Changes.{Puts}
 use Rattle.bit_alloc.specs.declared.bitmap.Bitmap.TheVariants.{Blocks}
 use Rattle.bit_alloc.specs.Bitmaps.{TakesNumber, GivesNumber}
 
--- a sector of a bitmap, or of the data
-abbrev pub IsForAcls : Place → ℕ → Type 0
-IsForAcls p s = ((128 ≤ s) × (s < p.table)) ⊎ IsData p s
+-- a sector of a bitmap, or the data sector x, which the ACL has afterwards; where it has none, x is 0 and no data sector
+abbrev pub IsForAcl : Place → ℕ → ℕ → Type 0
+IsForAcl p x s = ((128 ≤ s) × (s < p.table)) ⊎ (IsData p s × (s ≡ x))
+
+-- one of these, or that of inode n
+abbrev pub IsForSaving : Place → ℕ → ℕ → ℕ → Type 0
+IsForSaving p n x s = (s ≡ p.table + n / 4) ⊎ IsForAcl p x s
 
 -- sector x becomes free; 0 is none, and then nothing changes
 abbrev pub GivesBack : Place → ℕ → SectorMap → SectorMap → Type 0

@@ -6,12 +6,13 @@ ghost use Rattle.posix_acl.specs.AccessList.{AccessList};
 ghost use Rattle.fs_layout.specs.Inode.{FitsInode};
 ghost use Rattle.fs_layout.specs.AclSector.{kept_acl};
 ghost use Rattle.fs_layout.specs.Images.{bit, free_sectors, inode_at, inode_bitmap};
-ghost use Rattle.sector_txn.specs.Sectors.{SameStore, IsUnchanged};
+ghost use Rattle.sector_txn.specs.Sectors.{SameStore, IsUnchanged, PutsOnly};
 ghost use Rattle.bit_alloc.specs.Faults.{HasCauseOf};
-ghost use Rattle.bit_alloc.specs.Room.{HasSpare};
+ghost use Rattle.bit_alloc.specs.Room.{bitmaps, HasSpare, TakesSpare};
 ghost use Rattle.bit_alloc.specs.Inodes.{IsSound, Touches, KeepsFields, KeepsBytes, KeepsAccess, KeepsDefault};
 ghost use Rattle.inode_table.specs.Acls.{HasAcl, HasDefaultAcl, with_acl_bits, acl_takes};
 ghost use Rattle.inode_table.specs.Inodes.{IsInodeOf, DiffersInAttributes};
+ghost use Rattle.inode_table.specs.Storing.{IsForSaving};
 
 use crate::faults::LoadAclFault;
 use crate::inodes::write_inode;
@@ -91,6 +92,9 @@ pub fn save_acl<S: Sectors>(
     ensures store { SameStore (S.state s.old) (S.state s.new) }
     ensures sound { OnOk result (IsSound place (S.state s.new)) }
     ensures touches { OnOk result (Touches place n (acl_takes inode.now.acl (kept_acl acl.now)) 2 (S.state s.old) (S.state s.new)) }
+    ensures puts { OnOk result (PutsOnly (IsForSaving place n (inode_at place (S.state s.new).sectors n).acl) (bitmaps place) 2
+        (S.state s.old) (S.state s.new)) }
+    ensures none { OnOk result ((inode_at place (S.state s.new).sectors n).acl ≡ 0 → TakesSpare place 1 (S.state s.old) (S.state s.new)) }
     ensures fields { OnOk result (KeepsFields (with_acl_bits inode.now acl.now) (inode_at place (S.state s.new).sectors n)) }
     ensures bytes { OnOk result (KeepsBytes (S.state s.old).sectors (S.state s.new).sectors
         (inode_at place (S.state s.old).sectors n) (inode_at place (S.state s.new).sectors n)) }
@@ -131,6 +135,10 @@ pub fn save_default_acl<S: Sectors>(
     ensures sound { OnOk result (IsSound place (S.state s.new)) }
     ensures touches { OnOk result (Touches place n (acl_takes inode.now.default_acl (option_copied acl.entry)) 2
         (S.state s.old) (S.state s.new)) }
+    ensures puts { OnOk result (PutsOnly (IsForSaving place n (inode_at place (S.state s.new).sectors n).default_acl) (bitmaps place) 2
+        (S.state s.old) (S.state s.new)) }
+    ensures none { OnOk result ((inode_at place (S.state s.new).sectors n).default_acl ≡ 0
+        → TakesSpare place 1 (S.state s.old) (S.state s.new)) }
     ensures fields { OnOk result (KeepsFields inode.now (inode_at place (S.state s.new).sectors n)) }
     ensures bytes { OnOk result (KeepsBytes (S.state s.old).sectors (S.state s.new).sectors
         (inode_at place (S.state s.old).sectors n) (inode_at place (S.state s.new).sectors n)) }

@@ -11,10 +11,11 @@ ghost use Rattle.sector_txn.specs.Sectors.{SameStore, IsUnchanged, PutsOnly};
 ghost use Rattle.bit_alloc.specs.declared.bitmap.Bitmap.TheVariants.{Inodes};
 ghost use Rattle.bit_alloc.specs.Bitmaps.{IsNumber, IsFreeNumber, free_numbers};
 ghost use Rattle.bit_alloc.specs.Faults.{HasCauseOf};
-ghost use Rattle.bit_alloc.specs.Room.{HasSpare};
+ghost use Rattle.bit_alloc.specs.Room.{bitmaps, HasSpare};
 ghost use Rattle.bit_alloc.specs.Inodes.{IsSound, Touches, KeepsFields, KeepsBytes, KeepsAcls, IsBlank};
 ghost use Rattle.inode_table.specs.Acls.{HasAcl, HasDefaultAcl, with_acl_bits, acls_take};
 ghost use Rattle.inode_table.specs.Inodes.{DiffersInAttributes, ClearAreFree};
+ghost use Rattle.inode_table.specs.Storing.{IsForSaving};
 
 use crate::sectors::{content_of, kept_content, with_bits};
 use crate::stored::{give_sector, store};
@@ -143,6 +144,7 @@ pub fn free_inode<S: Sectors>(s: &mut S, place: Place, n: u32) -> Result<(), Dis
     ensures store { SameStore (S.state s.old) (S.state s.new) }
     ensures sound { OnOk result (IsSound place (S.state s.new)) }
     ensures touches { OnOk result (Touches place n 0 1 (S.state s.old) (S.state s.new)) }
+    ensures puts { OnOk result (PutsOnly (IsForSaving place n 0) (bitmaps place) 1 (S.state s.old) (S.state s.new)) }
     ensures free { OnOk result (inode_at place (S.state s.new).sectors n ≡ free_inode) }
     ensures unused { OnOk result (bit (S.state s.new).sectors inode_bitmap n ≡ false) }
     ensures cause { HasCause (S.state s.old).disk (S.state s.new).disk result }

@@ -6,8 +6,8 @@ ghost use Rattle.fs_layout.specs.Images.{IsData, free_sectors};
 ghost use Rattle.sector_txn.specs.Sectors.{SameStore, PutsOnly};
 ghost use Rattle.bit_alloc.specs.Bitmaps.{HasBitmaps};
 ghost use Rattle.bit_alloc.specs.Faults.{HasCauseOf};
-ghost use Rattle.bit_alloc.specs.Room.{bitmaps, HasSpare};
-ghost use Rattle.inode_table.specs.Storing.{IsForAcls, GivesBack, Stores, takes_for};
+ghost use Rattle.bit_alloc.specs.Room.{bitmaps, HasSpare, TakesSpare};
+ghost use Rattle.inode_table.specs.Storing.{IsForAcl, GivesBack, Stores, takes_for};
 
 use bit_alloc::{Bitmap, TakeFault, give, take};
 use fs_layout::Place;
@@ -20,7 +20,7 @@ pub fn give_sector<S: Sectors>(s: &mut S, place: Place, sector: u32) -> Result<(
     requires owned { sector ≢ 0 → IsData place sector }
     requires room { HasSpare place 0 (S.state s.old) }
     ensures given { OnOk result (GivesBack place sector (S.state s.old).sectors (S.state s.new).sectors) }
-    ensures puts { OnOk result (PutsOnly (IsForAcls place) (bitmaps place) 0 (S.state s.old) (S.state s.new)) }
+    ensures puts { OnOk result (PutsOnly (IsForAcl place 0) (bitmaps place) 0 (S.state s.old) (S.state s.new)) }
     ensures bitmaps { OnOk result (HasBitmaps place (S.state s.new)) }
     ensures store { SameStore (S.state s.old) (S.state s.new) }
     ensures cause { HasCause (S.state s.old).disk (S.state s.new).disk result }
@@ -44,7 +44,8 @@ pub(crate) fn store<S: Sectors>(
     requires owned { sector ≢ 0 → IsData place sector }
     requires room { HasSpare place 1 (S.state s.old) }
     ensures stored { IfOk result (λ to. Stores place sector to content (S.state s.old).sectors (S.state s.new).sectors) }
-    ensures puts { OnOk result (PutsOnly (IsForAcls place) (bitmaps place) 1 (S.state s.old) (S.state s.new)) }
+    ensures puts { IfOk result (λ to. PutsOnly (IsForAcl place to) (bitmaps place) 1 (S.state s.old) (S.state s.new)) }
+    ensures none { IfOk result (λ to. to ≡ 0 → TakesSpare place 0 (S.state s.old) (S.state s.new)) }
     ensures bitmaps { OnOk result (HasBitmaps place (S.state s.new)) }
     ensures store { SameStore (S.state s.old) (S.state s.new) }
     ensures full { IfErr result (λ e. e ≡ TakeFault.Full → free_sectors place (S.state s.old).sectors < takes_for sector content) }

@@ -68,6 +68,19 @@ returns-clause-store g c =
     t3 c.in_ok-give_sector.ensures.puts t4 c.in_ok-give_sector-2.ensures.puts t5 c.in_ok-write_inode.ensures.puts in
     puts.store
 
+pub returns-clause-puts : goal.returns-clause-puts
+returns-clause-puts g c =
+    let p = c.args.place in
+    let n = c.args.n in
+    let t0 = g.S.Sectors.state c.args.s.now in
+    let t1 = g.S.Sectors.state c.load.new.s in
+    let t2 = g.S.Sectors.state c.give.new.s in
+    let t3 = g.S.Sectors.state c.give_sector.new.s in
+    let t4 = g.S.Sectors.state c.give_sector-2.new.s in
+    let t5 = g.S.Sectors.state c.write_inode.new.s in
+    puts_5 p n t0 t1 t2 c.requires.sound c.requires.number c.in_ok-inode.ensures.same c.in_ok-give.ensures.puts
+    t3 c.in_ok-give_sector.ensures.puts t4 c.in_ok-give_sector-2.ensures.puts t5 c.in_ok-write_inode.ensures.puts
+
 pub returns-clause-sound : goal.returns-clause-sound
 returns-clause-sound g c =
     let p = c.args.place in

@@ -50,6 +50,19 @@ write_inode-requires-clause-fits g c =
     (with_bits_fits v _ c.in_ok-acl.acl c.in_ok-default_acl.default_acl c.requires.fits c.requires.blank.used (empty_no_link v c.requires.fits c.requires.blank.size)
     (mode_small c.args.access.now) small small_default)
 
+pub returns-clause-store : goal.returns-clause-store
+returns-clause-store g c =
+    let p = c.args.place in
+    let n = c.in_ok-n.n in
+    let t0 = g.S.Sectors.state c.args.s.now in
+    let t1 = g.S.Sectors.state c.take.new.s in
+    let t2 = g.S.Sectors.state c.store.new.s in
+    let t3 = g.S.Sectors.state c.store-2.new.s in
+    let t4 = g.S.Sectors.state c.write_inode.new.s in
+    let puts = made_puts_4 p n t0 t1 c.requires.sound c.in_ok-n.ensures.taken.free.1 c.in_ok-n.ensures.puts t2 c.in_ok-acl.ensures.puts t3 c.in_ok-default_acl.ensures.puts
+    t4 c.in_ok-write_inode.ensures.puts in
+    puts.store
+
 pub returns-clause-sound : goal.returns-clause-sound
 returns-clause-sound g c =
     let p = c.args.place in
