@@ -22,7 +22,7 @@ same state {old} {below} {new} here is = subst (λ faulty. IsSame (faulty_state 
 pub forgets : {D : Type 0} (state : D → DiskState) {old below : Faulty D} {new : D} → below ≡ old → ForgetsPast (state below.disk) (state new)
     → ForgetsPast (faulty_state state old) (faulty_state state (passed below new))
 forgets state {old} {below} {new} here is = subst (λ faulty. ForgetsPast (faulty_state state faulty) (faulty_state state (passed below new))) here (record {
-  same = same state refl is.same;
+  same = same state {old = below} {below = below} refl is.same;
   failures = ap (λ n. min (n + (below.failed_reads + below.failed_writes)) (2 ^ 64 - 1)) is.failures;
   failed_writes = ap (λ n. n + below.failed_writes) is.failed_writes;
   nothing_earlier = λ t image left. let now = is.nothing_earlier t image left in record { size = now.size; each = now.each };

@@ -3,10 +3,11 @@ use Rattle.std.specs.Prelude.{ℕ, ◌+◌, ◌-◌, ◌^◌, ◌<◌, ◌≤◌
 use Rattle.std.proofs.Common.{arith}
 use Rattle.sector_disk.specs.Disk.{DiskState, Image, IsImage}
 
--- a disk that fails by itself, as callers see it: the disk below, and how often its reads, and its writes and syncs, have
--- failed by themselves
+-- a disk that fails by itself, as callers see it: the disk below, the first call that is to fail, and how often its reads,
+-- and its writes and syncs, have failed by themselves
 pub record Faulty (D : Type 0) : Type 0 where
   pub disk : D
+  pub call : ℕ
   pub failed_reads : ℕ
   pub failed_writes : ℕ
 

@@ -31,13 +31,13 @@ impl<D, const FAULTS: u64> Model for FaultyDisk<D, FAULTS> {
 
     ghost Value = { Faulty D };
 
-    ghost view = { λ faulty. record { disk = faulty.disk; failed_reads = faulty.failed_reads; failed_writes = faulty.failed_writes } };
+    ghost view = { λ faulty. record { disk = faulty.disk; call = faulty.call; failed_reads = faulty.failed_reads; failed_writes = faulty.failed_writes } };
 }
 
 impl<D, const FAULTS: u64> FaultyDisk<D, FAULTS> {
     /// Calls are counted from 0.
     pub fn new(disk: D, call: u64) -> Self
-        ensures { result ≡ record { disk = disk; failed_reads = 0; failed_writes = 0 } }
+        ensures { result ≡ record { disk = disk; call = call; failed_reads = 0; failed_writes = 0 } }
     {
         FaultyDisk {
             disk,

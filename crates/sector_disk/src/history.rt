@@ -1,6 +1,6 @@
 //! What was done to a disk in memory since it was last stopped.
 
-ghost use Rattle.std.specs.Prelude.{◌≡◌, ◌^◌, ◌<◌, ◌++◌, [], ◌∷◌, length, vec_len, ℕ, ◌≤◌, Contains, IfSome, OnOk, OnErr, IfOk};
+ghost use Rattle.std.specs.Prelude.{◌≡◌, ◌^◌, ◌<◌, ◌++◌, [], ◌∷◌, length, vec_len, ℕ, ◌≤◌, Contains, IfSome, MatchOption, OnOk, OnErr, IfOk};
 ghost use Rattle.sector_disk.specs.Disk.{sector};
 ghost use Rattle.sector_disk.specs.Record.{after_events, replay, since_sync, Leaves, MayHold};
 
@@ -83,7 +83,7 @@ impl History {
 
     /// The same, where there is a sector of that number.
     pub fn content(&self, n: u32) -> Option<[u8; 512]>
-        ensures { IfSome result (λ content. content ≡ sector (after_events self.now.start self.now.events) n) }
+        ensures { MatchOption result (length self.now.start ≤ n) (λ content. content ≡ sector (after_events self.now.start self.now.events) n) }
     {
         self.seen.get(n as usize).copied()
     }
