@@ -3,7 +3,7 @@ use Rattle.std.proofs.Common.{◌≡◌, ℕ, ◌<◌, nat_lt, true, List, lengt
 use Rattle.std.proofs.lemmas.Bool.{cases_Bool, true≢false}
 use borrow.Author.Tests.{ltb-false, ltb-true, lt-ltb}
 use Rattle.fs_model.specs.declared.event.Event.{Event}
-use Rattle.fs_model.specs.declared.reply.Reply.{Reply}
+use Rattle.fs_model.specs.declared.event.EventReply.{EventReply}
 use Rattle.fs_shell.specs.declared.answer.Answer.{Answer}
 use Rattle.fs_shell.specs.declared.line.Line.{Line}
 use Rattle.fs_shell.specs.declared.line.LineFault.{LineFault}
@@ -41,9 +41,9 @@ cut_words whole has =
 cut_says : (line whole : List ℕ) (result : Result Line LineFault) → line ≡ kept_front whole → LineSays line result → LineSays whole result
 cut_says line whole result kept says = subst (λ said. IsSaid said result) (ap line_value kept ∙ cut_value whole) says
 
-pub cut_answers : {S : Type 0} (serves : S → Event → Reply → S → Type 0) (line whole : List ℕ) (old : S) (answer : Answer) (new : S) → line ≡ kept_front whole
-    → LineAnswers serves line old answer new → LineAnswers serves whole old answer new
-cut_answers serves line whole old answer new kept (is_blank says none same) = is_blank (cut_says line whole _ kept says) none same
-cut_answers serves line whole old answer new kept (is_faulty fault says is same) = is_faulty fault (cut_says line whole _ kept says) is same
-cut_answers serves line whole old answer new kept (lacks_memory has is same) = lacks_memory (cut_words whole (ap has_words (sym kept) ∙ has)) is same
-cut_answers serves line whole old answer new kept (is_performed e reply says served is) = is_performed e reply (cut_says line whole _ kept says) served is
+pub cut_answers : (line whole : List ℕ) (answer : Answer) (es : List Event) (replies : List EventReply) → line ≡ kept_front whole
+    → LineAnswers line answer es replies → LineAnswers whole answer es replies
+cut_answers line whole _ _ _ kept (is_blank says) = is_blank (cut_says line whole _ kept says)
+cut_answers line whole _ _ _ kept (is_faulty fault says) = is_faulty fault (cut_says line whole _ kept says)
+cut_answers line whole _ _ _ kept (lacks_memory has) = lacks_memory (cut_words whole (ap has_words (sym kept) ∙ has))
+cut_answers line whole _ _ _ kept (is_performed e reply says) = is_performed e reply (cut_says line whole _ kept says)

@@ -1,7 +1,5 @@
 -- Faults of lines, and what they come from.
-use Rattle.std.proofs.Common.{◌≡◌, ◌≢◌, ◌⊎◌, inl, inr, refl, true, List, ℕ, Result, Err, ap, ◌∙◌}
-use Rattle.fs_model.specs.declared.event.Event.{Event}
-use Rattle.fs_model.specs.declared.reply.Reply.{Reply}
+use Rattle.std.proofs.Common.{◌≡◌, ◌≢◌, ◌⊎◌, inl, inr, refl, true, List, [], ℕ, Result, Err, sym, ap, subst, ◌∙◌}
 use Rattle.fs_shell.specs.declared.answer.Answer.TheVariants.{Fault}
 use Rattle.fs_shell.specs.declared.line.Line.{Line}
 use Rattle.fs_shell.specs.declared.line.LineFault.{LineFault}
@@ -20,11 +18,11 @@ wants_memory BadAcl = inr (λ e. cc)
 wants_memory OutOfMemory = inl refl
 
 -- a fault is answered for what is wrong, or for want of memory
-pub answers_fault : {S : Type 0} (serves : S → Event → Reply → S → Type 0) (line : List ℕ) (s : S) (fault : LineFault) (read : Result Line LineFault)
+pub answers_fault : (line : List ℕ) (fault : LineFault) (read : Result Line LineFault)
     → read ≡ Err fault → (fault ≢ OutOfMemory → LineSays line (Err fault)) → (read ≡ Err OutOfMemory → has_words line ≡ true)
-    → LineAnswers serves line s (Fault fault) s
-answers_fault serves line s fault read is said memory =
+    → LineAnswers line (Fault fault) [] []
+answers_fault line fault read is said memory =
     elim (wants_memory fault) [
-      | inl lost ↦ lacks_memory (memory (is ∙ ap Err lost)) (ap Fault lost) refl
-      | inr other ↦ is_faulty fault (said other) refl refl
+      | inl lost ↦ subst (λ (f : LineFault). LineAnswers line (Fault f) [] []) (sym lost) (lacks_memory (memory (is ∙ ap Err lost)))
+      | inr other ↦ is_faulty fault (said other)
     ]

@@ -1,10 +1,15 @@
 -- A run of a script, line after line.
-use Rattle.std.proofs.Common.{◌≡◌, ℕ, ◌+◌, ◌≤◌, List, [], ◌∷◌, ◌++◌, length, Option, None, Some, IfSome, Ok, Err, refl, sym, ap, subst, ◌∙◌, arith, append_assoc, append-nil, length-append}
+use Rattle.std.proofs.Common.{◌≡◌, ℕ, ◌+◌, ◌≤◌, List, [], ◌∷◌, ◌++◌, length, Option, None, Some, IfSome, Result, Ok, Err, refl, sym, ap, subst, ◌∙◌, arith, append_assoc, append-nil, length-append}
 use Rattle.std.specs.Io.KnownBytes.{Consumes, Appends, Keeps, IsAtEnd}
 use Rattle.std.proofs.KnownBytes.{Consumes-nil, Consumes-trans, Appends-nil, Appends-trans, Appends-kept}
 use Rattle.std.proofs.lemmas.Grind.{flat_map-append}
+use Rattle.sector_disk.specs.Disk.{DiskState}
 use Rattle.fs_model.specs.declared.event.Event.{Event}
-use Rattle.fs_model.specs.declared.reply.Reply.{Reply as ReplyType}
+use Rattle.fs_model.specs.declared.event.EventReply.{EventReply}
+use Rattle.fs_system.specs.Seen.{System}
+use Rattle.fs_system.specs.Played.{IsConfig, Plays}
+use Rattle.fs_system.specs.Playing.{Config}
+use Rattle.fs_system.proofs.Played.{plays_nothing, plays_joined}
 use Rattle.fs_shell.specs.declared.answer.Answer.{Answer}
 use Rattle.fs_shell.specs.declared.answer.Answer.TheVariants.{Nothing, Reply, Fault}
 use Rattle.fs_shell.specs.declared.answer.Count.{Count}
@@ -12,7 +17,7 @@ use Rattle.fs_shell.specs.declared.fault.RunFault.{RunFault}
 use Rattle.fs_shell.specs.declared.fault.RunFault.TheVariants.{TooMuch}
 use Rattle.fs_shell.specs.Lines.{lines_of}
 use Rattle.fs_shell.specs.Scripts.{script_limit, IsTaken, LineRead, IsOver}
-use Rattle.fs_shell.specs.Runs.{answer_text, answers_text, faults_counted, count_faults, LineAnswers, ScriptAnswers, Ran}
+use Rattle.fs_shell.specs.Runs.{answer_text, answers_text, faults_counted, count_faults, LineAnswers, LinePerformed, ScriptAnswers, no_line, a_line, Ran}
 use Rattle.fs_shell.proofs.Cut.{cut_answers}
 
 -- these lines have been taken from an input, and what is left has the others
@@ -21,11 +26,15 @@ AreTaken lines None left = Unit {0}
 AreTaken lines (Some xs) None = ⊥
 AreTaken lines (Some xs) (Some ys) = lines_of xs ≡ lines ++ lines_of ys
 
-pub record Running {S : Type 0} (serves : S → Event → ReplyType → S → Type 0) (input left before after : Option (List ℕ)) (given : ℕ) (count : Count) (old now : S) : Type 0 where
+-- so far
+pub record Running {D : Type 0} (state : D → DiskState) (input left before after : Option (List ℕ)) (given : ℕ) (count : Count) (old now : System D) : Type 0 where
   pub lines : List (List ℕ)
   pub answers : List Answer
+  pub events : List Event
+  pub replies : List EventReply
   pub text : List ℕ
-  pub served : ScriptAnswers serves old lines answers now
+  pub answered : ScriptAnswers lines answers events replies
+  pub plays : Plays state (Ok old) events replies (Ok now)
   pub taken : AreTaken lines input left
   pub consumed : Consumes input left text
   pub counted : given ≡ length text
@@ -33,13 +42,22 @@ pub record Running {S : Type 0} (serves : S → Event → ReplyType → S → Ty
   pub lines_counted : count.lines ≡ length lines
   pub faults_counted : count.faults ≡ count_faults answers
 
-answers_more : {S : Type 0} (serves : S → Event → ReplyType → S → Type 0) (old mid new : S) (lines : List (List ℕ)) (answers : List Answer) (line : List ℕ) (answer : Answer)
-    → ScriptAnswers serves old lines answers mid → LineAnswers serves line mid answer new → ScriptAnswers serves old (lines ++ line ∷ []) (answers ++ answer ∷ []) new
-answers_more serves old mid new [] [] line answer before last = (new, subst (λ s. LineAnswers serves line s answer new) before last, refl)
-answers_more serves old mid new [] (a ∷ answers) line answer before last = absurd before
-answers_more serves old mid new (l ∷ lines) [] line answer before last = absurd before
-answers_more serves old mid new (l ∷ lines) (a ∷ answers) line answer before last =
-    (before.0, before.1, answers_more serves before.0 mid new lines answers line answer before.2 last)
+-- a run from each configuration of the one system to one of the other
+abbrev pub Runs : {D : Type 0} → (D → DiskState) → Option (List ℕ) → Option (List ℕ) → Option (List ℕ) → System D → System D → Result Count RunFault → Type 0
+Runs {D} state input before after old new result =
+    (c : Config D) → IsConfig state (Ok old) c → (d : Config D) × IsConfig state (Ok new) d × Ran state input before after c d result
+
+answers_more : (lines : List (List ℕ)) (answers : List Answer) (es : List Event) (replies : List EventReply)
+    (line : List ℕ) (answer : Answer) (e : List Event) (reply : List EventReply)
+    → ScriptAnswers lines answers es replies → LineAnswers line answer e reply
+    → ScriptAnswers (lines ++ line ∷ []) (answers ++ answer ∷ []) (es ++ e) (replies ++ reply)
+answers_more _ _ _ _ line answer e reply no_line last =
+    subst (λ l. ScriptAnswers (line ∷ []) (answer ∷ []) l reply) (append-nil e)
+    (subst (λ l. ScriptAnswers (line ∷ []) (answer ∷ []) (e ++ []) l) (append-nil reply) (a_line line answer e reply [] [] [] [] last no_line))
+answers_more _ _ _ _ line answer e reply (a_line l a f r ls bs es rs first rest) last =
+    subst (λ x. ScriptAnswers (l ∷ ls ++ line ∷ []) (a ∷ bs ++ answer ∷ []) x ((r ++ rs) ++ reply)) (sym (append_assoc f es e))
+    (subst (λ x. ScriptAnswers (l ∷ ls ++ line ∷ []) (a ∷ bs ++ answer ∷ []) (f ++ (es ++ e)) x) (sym (append_assoc r rs reply))
+    (a_line l a f r (ls ++ line ∷ []) (bs ++ answer ∷ []) (es ++ e) (rs ++ reply) first (answers_more ls bs es rs line answer e reply rest last)))
 
 count_more : (answers : List Answer) (answer : Answer) → count_faults (answers ++ answer ∷ []) ≡ count_faults answers + faults_counted answer
 count_more [] answer = omega arith
@@ -52,13 +70,16 @@ takes_more lines line (Some xs) (Some ys) None taken more = absurd more
 takes_more lines line (Some xs) (Some ys) (Some zs) taken more =
     taken ∙ ap (λ ls. lines ++ ls) more ∙ sym (append_assoc lines (line ∷ []) (lines_of zs))
 
-pub starts : {S : Type 0} (serves : S → Event → ReplyType → S → Type 0) (input left before : Option (List ℕ)) (given : ℕ) (count : Count) (s : S)
-    → left ≡ input → given ≡ 0 → count.lines ≡ 0 → count.faults ≡ 0 → Running serves input left before before given count s s
-starts serves input left before given count s same none lines faults = record {
+pub starts : {D : Type 0} (state : D → DiskState) (input left before : Option (List ℕ)) (given : ℕ) (count : Count) (fs : System D)
+    → left ≡ input → given ≡ 0 → count.lines ≡ 0 → count.faults ≡ 0 → Running state input left before before given count fs fs
+starts state input left before given count fs same none lines faults = record {
   lines = [];
   answers = [];
+  events = [];
+  replies = [];
   text = [];
-  served = refl;
+  answered = no_line;
+  plays = plays_nothing state (Ok fs);
   taken = subst (λ l. AreTaken [] input l) (sym same) (nothing_taken input);
   consumed = subst (λ l. Consumes input l []) (sym same) (Consumes-nil input);
   counted = none;
@@ -72,16 +93,20 @@ starts serves input left before given count s same none lines faults = record {
     nothing_taken (Some xs) = refl
 
 -- one line more has been performed and answered
-pub goes_on : {S : Type 0} (serves : S → Event → ReplyType → S → Type 0) (input left next before after later : Option (List ℕ)) (given more : ℕ) (count new_count : Count) (old now new : S)
+pub goes_on : {D : Type 0} (state : D → DiskState) (input left next before after later : Option (List ℕ)) (given more : ℕ) (count new_count : Count) (old now new : System D)
     (line : List ℕ) (answer : Answer)
-    → Running serves input left before after given count old now → LineRead left next given more line → LineAnswers serves line now answer new
+    → Running state input left before after given count old now → LineRead left next given more line → LinePerformed state line answer now new
     → Appends after later (answer_text answer) → new_count.lines ≡ count.lines + 1 → new_count.faults ≡ count.faults + faults_counted answer
-    → Running serves input next before later more new_count old new
-goes_on serves input left next before after later given more count new_count old now new line answer run read answered wrote lines faults = record {
+    → Running state input next before later more new_count old new
+goes_on state input left next before after later given more count new_count old now new line answer run read one wrote lines faults = record {
   lines = run.lines ++ read.whole ∷ [];
   answers = run.answers ++ answer ∷ [];
+  events = run.events ++ one.events;
+  replies = run.replies ++ one.replies;
   text = run.text ++ read.text;
-  served = answers_more serves old now new run.lines run.answers read.whole answer run.served (cut_answers serves line read.whole now answer new read.kept answered);
+  answered = answers_more run.lines run.answers run.events run.replies read.whole answer one.events one.replies run.answered
+      (cut_answers line read.whole answer one.events one.replies read.kept one.answered);
+  plays = plays_joined state (Ok old) (Ok now) (Ok new) run.events one.events run.replies one.replies run.plays one.plays;
   taken = takes_more run.lines read.whole input left next run.taken read.taken;
   consumed = Consumes-trans input left next run.text read.text run.consumed read.consumed;
   counted = omega (arith, run.counted, read.counted, length-append run.text read.text);
@@ -105,21 +130,29 @@ all_fit (Some xs) (Some ys) text took end fits =
     omega arith
 
 -- the script ends
-pub finishes : {S : Type 0} (serves : S → Event → ReplyType → S → Type 0) (input left before after later : Option (List ℕ)) (given : ℕ) (count : Count) (old now : S)
-    → Running serves input left before after given count old now → IsAtEnd left → given ≤ script_limit → Keeps after later
-    → Ran serves input before later old now (Ok count)
-finishes serves input left before after later given count old now run end fits keeps = record {
-  lines = run.lines;
-  answers = run.answers;
-  served = run.served;
-  outcome = record {
-    all_lines = all_taken run.lines input left run.taken end;
-    written = Appends-kept before after later (answers_text run.answers) run.written keeps;
-    lines_counted = run.lines_counted;
-    faults_counted = run.faults_counted;
-    fits = all_fit input left run.text run.consumed end (omega (arith, run.counted));
-  };
-}
+pub finishes : {D : Type 0} (state : D → DiskState) (input left before after later : Option (List ℕ)) (given : ℕ) (count : Count) (old now : System D)
+    → Running state input left before after given count old now → IsAtEnd left → given ≤ script_limit → Keeps after later
+    → Runs state input before later old now (Ok count)
+finishes state input left before after later given count old now run end fits keeps = λ c is.
+    let played = run.plays c is in (
+      played.0,
+      played.1,
+      record {
+        lines = run.lines;
+        answers = run.answers;
+        events = run.events;
+        replies = run.replies;
+        answered = run.answered;
+        history = played.2;
+        outcome = record {
+          all_lines = all_taken run.lines input left run.taken end;
+          written = Appends-kept before after later (answers_text run.answers) run.written keeps;
+          lines_counted = run.lines_counted;
+          faults_counted = run.faults_counted;
+          fits = all_fit input left run.text run.consumed end (omega (arith, run.counted));
+        };
+      },
+    )
 
 others_of : Option (List ℕ) → List (List ℕ)
 others_of None = []
@@ -139,42 +172,59 @@ goes_over (Some xs) (Some ys) text given took count over =
     omega (arith, length-append text ys)
 
 -- it ends early
-pub ends_early : {S : Type 0} (serves : S → Event → ReplyType → S → Type 0) (input left before after later : Option (List ℕ)) (given : ℕ) (count : Count) (old now : S) (fault : RunFault)
-    → Running serves input left before after given count old now → (fault ≡ TooMuch → IsOver left given)
-    → Ran serves input before later old now (Err fault)
-ends_early serves input left before after later given count old now fault run over = record {
-  lines = run.lines;
-  answers = run.answers;
-  served = run.served;
-  outcome = record {
-    rest = others_of left;
-    first_lines = first_taken run.lines input left run.taken;
-    too_much = λ much. goes_over input left run.text given run.consumed run.counted (over much);
-  };
-}
+pub ends_early : {D : Type 0} (state : D → DiskState) (input left before after later : Option (List ℕ)) (given : ℕ) (count : Count) (old now : System D) (fault : RunFault)
+    → Running state input left before after given count old now → (fault ≡ TooMuch → IsOver left given)
+    → Runs state input before later old now (Err fault)
+ends_early state input left before after later given count old now fault run over = λ c is.
+    let played = run.plays c is in (
+      played.0,
+      played.1,
+      record {
+        lines = run.lines;
+        answers = run.answers;
+        events = run.events;
+        replies = run.replies;
+        answered = run.answered;
+        history = played.2;
+        outcome = record {
+          rest = others_of left;
+          first_lines = first_taken run.lines input left run.taken;
+          too_much = λ much. goes_over input left run.text given run.consumed run.counted (over much);
+        };
+      },
+    )
 
 -- after a line that was performed, whose answer wasn't written
-pub ends_unanswered : {S : Type 0} (serves : S → Event → ReplyType → S → Type 0) (input left next before after later : Option (List ℕ)) (given more : ℕ) (count : Count) (old now new : S)
+pub ends_unanswered : {D : Type 0} (state : D → DiskState) (input left next before after later : Option (List ℕ)) (given more : ℕ) (count : Count) (old now new : System D)
     (line : List ℕ) (answer : Answer) (fault : RunFault)
-    → Running serves input left before after given count old now → LineRead left next given more line → LineAnswers serves line now answer new
-    → (fault ≡ TooMuch → ⊥) → Ran serves input before later old new (Err fault)
-ends_unanswered serves input left next before after later given more count old now new line answer fault run read answered other = record {
-  lines = run.lines ++ read.whole ∷ [];
-  answers = run.answers ++ answer ∷ [];
-  served = answers_more serves old now new run.lines run.answers read.whole answer run.served (cut_answers serves line read.whole now answer new read.kept answered);
-  outcome = record {
-    rest = others_of next;
-    first_lines = first_taken (run.lines ++ read.whole ∷ []) input next (takes_more run.lines read.whole input left next run.taken read.taken);
-    too_much = λ much. absurd (other much);
-  };
-}
+    → Running state input left before after given count old now → LineRead left next given more line → LinePerformed state line answer now new
+    → (fault ≡ TooMuch → ⊥) → Runs state input before later old new (Err fault)
+ends_unanswered state input left next before after later given more count old now new line answer fault run read one other = λ c is.
+    let played = plays_joined state (Ok old) (Ok now) (Ok new) run.events one.events run.replies one.replies run.plays one.plays c is in (
+      played.0,
+      played.1,
+      record {
+        lines = run.lines ++ read.whole ∷ [];
+        answers = run.answers ++ answer ∷ [];
+        events = run.events ++ one.events;
+        replies = run.replies ++ one.replies;
+        answered = answers_more run.lines run.answers run.events run.replies read.whole answer one.events one.replies run.answered
+            (cut_answers line read.whole answer one.events one.replies read.kept one.answered);
+        history = played.2;
+        outcome = record {
+          rest = others_of next;
+          first_lines = first_taken (run.lines ++ read.whole ∷ []) input next (takes_more run.lines read.whole input left next run.taken read.taken);
+          too_much = λ much. absurd (other much);
+        };
+      },
+    )
 
 -- before the first line
-pub ends_at_once : {S : Type 0} (serves : S → Event → ReplyType → S → Type 0) (input before : Option (List ℕ)) (s : S) (fault : RunFault)
-    → (fault ≡ TooMuch → ⊥) → Ran serves input before before s s (Err fault)
-ends_at_once serves input before s fault other =
-    ends_early serves input input before before before 0 (record { lines = 0; faults = 0 }) s s fault
-    (starts serves input input before 0 (record { lines = 0; faults = 0 }) s refl refl refl refl) (λ much. absurd (other much))
+pub ends_at_once : {D : Type 0} (state : D → DiskState) (input before : Option (List ℕ)) (fs : System D) (fault : RunFault)
+    → (fault ≡ TooMuch → ⊥) → Runs state input before before fs fs (Err fault)
+ends_at_once state input before fs fault other =
+    ends_early state input input before before before 0 (record { lines = 0; faults = 0 }) fs fs fault
+    (starts state input input before 0 (record { lines = 0; faults = 0 }) fs refl refl refl refl) (λ much. absurd (other much))
 
 pub one_fault_at_most : (answer : Answer) → faults_counted answer ≤ 1
 one_fault_at_most Nothing = omega arith

@@ -4,15 +4,21 @@
 --     IsRow        a row as it is in the program
 --     IsOffered        a line asks for no event of the disk's
 --     answer_text, answers_text, count_faults        what is written for answers
---     LineAnswers, ScriptAnswers        one line, and all lines of a script
---     Ran        a run of a script
+--     LineAnswers, ScriptAnswers        what is performed for one line, and for all lines of a script
+--     LinePerformed, Ran        a file system performs a line; a run of a script
 use Rattle.std.specs.Prelude.{◌≡◌, ◌≢◌, ◌≤◌, ◌+◌, ℕ, true, List, [], ◌∷◌, ◌++◌, length, Option, IfSome, IsTrue, Result, Ok, Err, MatchResult}
 use Rattle.std.specs.List.{flat_map}
 use Rattle.std.specs.Io.KnownBytes.{Appends}
+use Rattle.sector_disk.specs.Disk.{DiskState}
 use Rattle.posix_acl.specs.AccessList.{AccessList}
 use Rattle.fs_model.specs.declared.event.Event.{Event}
+use Rattle.fs_model.specs.declared.event.EventReply.{EventReply}
+use Rattle.fs_model.specs.declared.event.EventReply.TheVariants.{Reply as Replies}
 use Rattle.fs_model.specs.declared.reply.Reply.{Reply as ReplyType}
 use Rattle.fs_model.specs.Steps.{is_of_machine}
+use Rattle.fs_system.specs.Seen.{System}
+use Rattle.fs_system.specs.Playing.{Config, History}
+use Rattle.fs_system.specs.Played.{Plays}
 use Rattle.fs_shell.specs.declared.answer.Answer.{Answer}
 use Rattle.fs_shell.specs.declared.answer.Answer.TheVariants.{Nothing, Reply, Fault}
 use Rattle.fs_shell.specs.declared.answer.Count.{Count}
@@ -78,22 +84,30 @@ count_faults (answer ∷ answers) = faults_counted answer + count_faults answers
 
 -- ---- runs
 
--- A line takes a system from old to new, and gets this answer. `serves` says which reply an event may get.
-pub data LineAnswers {S : Type 0} (serves : S → Event → ReplyType → S → Type 0) (line : List ℕ) (old : S) (answer : Answer) (new : S) : Type 0 where
+-- A line gets this answer, and the event that is performed for it this reply; or none is performed.
+pub data LineAnswers (line : List ℕ) : Answer → List Event → List EventReply → Type 0 where
   -- it asks for nothing
-  is_blank : LineSays line (Ok Blank) → answer ≡ Nothing → new ≡ old → LineAnswers serves line old answer new
-  -- something is wrong with it, and nothing is performed
-  is_faulty : (fault : LineFault) → LineSays line (Err fault) → answer ≡ Fault fault → new ≡ old → LineAnswers serves line old answer new
-  -- memory runs out over its words, and nothing is performed
-  lacks_memory : has_words line ≡ true → answer ≡ Fault OutOfMemory → new ≡ old → LineAnswers serves line old answer new
+  is_blank : LineSays line (Ok Blank) → LineAnswers line Nothing [] []
+  -- something is wrong with it
+  is_faulty : (fault : LineFault) → LineSays line (Err fault) → LineAnswers line (Fault fault) [] []
+  -- memory runs out over its words
+  lacks_memory : has_words line ≡ true → LineAnswers line (Fault OutOfMemory) [] []
   -- it is performed
-  is_performed : (e : Event) (reply : ReplyType) → LineSays line (Ok (Asks e)) → serves old e reply new → answer ≡ Reply reply → LineAnswers serves line old answer new
+  is_performed : (e : Event) (reply : ReplyType) → LineSays line (Ok (Asks e)) → LineAnswers line (Reply reply) (e ∷ []) (Replies reply ∷ [])
 
--- The lines of a script, one after another.
-abbrev pub ScriptAnswers : {S : Type 0} → (S → Event → ReplyType → S → Type 0) → S → List (List ℕ) → List Answer → S → Type 0
-ScriptAnswers serves old [] [] new = new ≡ old
-ScriptAnswers {S} serves old (line ∷ lines) (answer ∷ answers) new = (mid : S) × LineAnswers serves line old answer mid × ScriptAnswers serves mid lines answers new
-ScriptAnswers serves old _ _ new = ⊥
+-- A line gets this answer, and what is performed for it takes a file system from old to new.
+pub record LinePerformed {D : Type 0} (state : D → DiskState) (line : List ℕ) (answer : Answer) (old new : System D) : Type 0 where
+  pub events : List Event
+  pub replies : List EventReply
+  pub answered : LineAnswers line answer events replies
+  pub plays : Plays state (Ok old) events replies (Ok new)
+
+-- The lines of a script get these answers, and the events that are performed for them these replies.
+pub data ScriptAnswers : List (List ℕ) → List Answer → List Event → List EventReply → Type 0 where
+  no_line : ScriptAnswers [] [] [] []
+  a_line : (line : List ℕ) (answer : Answer) (e : List Event) (reply : List EventReply)
+      (lines : List (List ℕ)) (answers : List Answer) (es : List Event) (replies : List EventReply)
+      → LineAnswers line answer e reply → ScriptAnswers lines answers es replies → ScriptAnswers (line ∷ lines) (answer ∷ answers) (e ++ es) (reply ++ replies)
 
 -- The script is done: its lines are all lines of the input, and their answers are what was written.
 pub record Finished (input : Option (List ℕ)) (before after : Option (List ℕ)) (lines : List (List ℕ)) (answers : List Answer) (count : Count) : Type 0 where
@@ -109,9 +123,13 @@ pub record EndedEarly (input : Option (List ℕ)) (lines : List (List ℕ)) (fau
   pub first_lines : IfSome input (λ xs. lines_of xs ≡ lines ++ rest)
   pub too_much : fault ≡ TooMuch → IsOver input 0
 
--- A run over an input, where that is known, takes a system from old to new, and what a writer holds from before to after.
-pub record Ran {S : Type 0} (serves : S → Event → ReplyType → S → Type 0) (input before after : Option (List ℕ)) (old new : S) (result : Result Count RunFault) : Type 0 where
+-- A run over an input, where that is known, takes a disk and its file system from old to new by a history of what its lines
+-- ask for, and what a writer holds from before to after.
+pub record Ran {D : Type 0} (state : D → DiskState) (input before after : Option (List ℕ)) (old new : Config D) (result : Result Count RunFault) : Type 0 where
   pub lines : List (List ℕ)
   pub answers : List Answer
-  pub served : ScriptAnswers serves old lines answers new
+  pub events : List Event
+  pub replies : List EventReply
+  pub answered : ScriptAnswers lines answers events replies
+  pub history : History state old events replies new
   pub outcome : MatchResult result (Finished input before after lines answers) (EndedEarly input lines)

@@ -1,10 +1,9 @@
 //! Runs scripts.
-ghost use Rattle.std.specs.Prelude.{OnOk};
+ghost use Rattle.std.specs.Prelude.{Ok, OnOk};
 ghost use Rattle.std.specs.Io.KnownBytes.{IsAtEnd};
-ghost use Rattle.fs_model.specs.States.{State};
-ghost use Rattle.fs_model.specs.Steps.{Step};
-ghost use Rattle.fs_system.specs.Seen.{IsIn};
-ghost use Rattle.fs_shell.specs.Runs.{LineAnswers, Ran};
+ghost use Rattle.fs_system.specs.Played.{IsConfig};
+ghost use Rattle.fs_system.specs.Playing.{Config};
+ghost use Rattle.fs_shell.specs.Runs.{LinePerformed, Ran};
 
 use crate::answer::{Answer, Count, write_answer};
 use crate::fault::RunFault;
@@ -16,16 +15,24 @@ use sector_disk::Disk;
 use std::alloc::Global;
 use std::io::{Read, Write};
 
-/// Runs a script, line by line, and writes what is answered, each reply as soon as its line was performed. The disk lets
-/// go of its past before each line.
+/// Runs a script, line by line, and writes what is answered, each reply as soon as its line was performed.
+///
+/// The replies are those of a history of the disk over the events that the lines ask for. So EIO is answered only where the
+/// device failed then, or a commit had failed before; a stop during the run or after it leaves what the history tells; and
+/// what was done before an fsync or a sync that was answered ok is stable. The disk lets go of its past before each event.
+///
+/// # Errors
+///
+/// See [`RunFault`]. The file system stands where the last line that was performed has left it, also where the reply to that
+/// line wasn't written.
 pub fn run<R: Read, W: Write, D: Disk + Drop>(
     alloc: Global,
     reader: &mut R,
     writer: &mut W,
     fs: &mut Fs<D>,
 ) -> Result<Count, RunFault>
-    ensures ran { (s : State) → IsIn D.state fs.old s → (t : State) × IsIn D.state fs.new t
-        × Ran Step (R.remaining reader.old) (W.contents writer.old) (W.contents writer.new) s t result }
+    ensures ran { (c : Config D) → IsConfig D.state (Ok fs.old) c → (d : Config D) × IsConfig D.state (Ok fs.new) d
+        × Ran D.state (R.remaining reader.old) (W.contents writer.old) (W.contents writer.new) c d result }
     ensures end { OnOk result (IsAtEnd (R.remaining reader.new)) }
 {
     let mut pending = Pending::new(alloc)?;
@@ -35,7 +42,6 @@ pub fn run<R: Read, W: Write, D: Disk + Drop>(
         faults: 0,
     };
     while pending.read_line(reader, &mut line)? {
-        fs.forget();
         let answer = perform(alloc, fs, &line);
         count.lines += 1;
         count.faults += answer.faults();
@@ -47,13 +53,13 @@ pub fn run<R: Read, W: Write, D: Disk + Drop>(
     }
 }
 
-// Performs a line, if nothing is wrong with it.
+// Performs a line, if nothing is wrong with it. Else nothing changes.
 fn perform<D: Disk + Drop>(alloc: Global, fs: &mut Fs<D>, line: &[u8]) -> Answer
-    ensures { (s : State) → IsIn D.state fs.old s → (t : State) × IsIn D.state fs.new t × LineAnswers Step line.now s result t }
+    ensures { LinePerformed D.state line.now result fs.old fs.new }
 {
     match parse_line(alloc, line) {
         Ok(Line::Blank) => Answer::Nothing,
-        Ok(Line::Event(event)) => Answer::Reply(fs.answer(&event)),
+        Ok(Line::Event(event)) => Answer::Reply(fs.serve(&event)),
         Err(fault) => Answer::Fault(fault),
     }
 }

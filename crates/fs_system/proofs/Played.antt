@@ -52,7 +52,7 @@ still_room desks desks' full same is not_full = elim (cases_lt (length desks') 6
 module _ {D : Type 0} (state : D → DiskState) where
   -- ---- events one after another
 
-  joined : (a b c : Config D) (es fs : List Event) (rs ms : List EventReply) → History state a es rs b → History state b fs ms c
+  pub joined : (a b c : Config D) (es fs : List Event) (rs ms : List EventReply) → History state a es rs b → History state b fs ms c
       → History state a (es ++ fs) (rs ++ ms) c
   joined a b c es fs rs ms (ends _) then = then
   joined a b c es fs rs ms (goes _ mid _ e reply es' rs' first rest) then =

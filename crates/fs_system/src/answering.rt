@@ -1,9 +1,11 @@
 //! What a file system answers to an event, whichever it is.
 
-ghost use Rattle.std.specs.Prelude.{◌≡◌, IsTrue};
+ghost use Rattle.std.specs.Prelude.{◌≡◌, ◌∷◌, [], Ok, IsTrue};
 ghost use Rattle.fs_model.specs.Steps.{is_of_machine};
+ghost use Rattle.fs_model.specs.declared.event.EventReply.TheVariants.{Reply as Replies};
 ghost use Rattle.fs_system.specs.Doing.{Happens};
 ghost use Rattle.fs_system.specs.Mounting.{LeavesHalted};
+ghost use Rattle.fs_system.specs.Played.{Plays};
 ghost use Rattle.fs_system.specs.Replies.{spawned, finished, counted};
 
 use crate::fs::Fs;
@@ -59,5 +61,14 @@ impl<D: Disk + Drop> Fs<D> {
             Event::Statfs => counted(self.statfs()),
             Event::Arm(_) | Event::Restart { .. } => unreachable!(),
         }
+    }
+
+    /// Lets the disk forget its past, and then answers an event that is not the disk's.
+    pub fn serve(&mut self, event: &Event) -> Reply
+        requires { IsTrue (is_of_machine event.now) }
+        ensures { Plays D.state (Ok self.old) (event.now ∷ []) (Replies result ∷ []) (Ok self.new) }
+    {
+        self.forget();
+        self.answer(event)
     }
 }

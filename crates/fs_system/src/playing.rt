@@ -107,8 +107,7 @@ fn serve<D: CrashDisk + Drop>(served: Served<D>, event: &Event) -> (Served<D>, E
     match served {
         Ok(fs) => {
             let mut fs = fs;
-            fs.forget();
-            let reply = fs.answer(event);
+            let reply = fs.serve(event);
             (Ok(fs), EventReply::Reply(reply))
         }
         Err(disk) => (Err(disk), EventReply::Down),

@@ -1,14 +1,19 @@
 -- What a script begins with, how it may end, and the status of the program.
 --     IsNew        the state of a new file system
+--     Begins, RunsFromNew        such a file system is mounted, and then a script is run
 --     Fails        what a failure says
 --     status_of, code_of        the status of a script, and the number of a status
-use Rattle.std.specs.Prelude.{◌≡◌, ◌==◌, ℕ, [], IsFalse, if◌then◌else◌}
+use Rattle.std.specs.Prelude.{◌≡◌, ◌==◌, ℕ, List, [], Option, Result, IsFalse, if◌then◌else◌}
+use Rattle.sector_disk.specs.Disk.{DiskState, IsStable}
 use Rattle.fs_layout.specs.Place.{laid_out}
 use Rattle.fs_model.specs.Stands.{room_of}
 use Rattle.fs_model.specs.States.{State}
 use Rattle.fs_model.specs.NewDisk.{empty_tree}
 use Rattle.fs_shell.specs.declared.answer.Count.{Count}
 use Rattle.fs_shell.specs.declared.fault.RunFault.{RunFault}
+use Rattle.fs_shell.specs.Runs.{Ran}
+use Rattle.fs_system.specs.Making.{IsNewDisk}
+use Rattle.fs_system.specs.Playing.{Config, Up, Mounts}
 use Rattle.fs_system.specs.declared.faults.MkfsFault.TheVariants.{DiskFault}
 use Rattle.inofs.specs.declared.failure.Failure.{Failure}
 use Rattle.inofs.specs.declared.failure.Failure.TheVariants.{Exists, NotCreated, NotOpened, NoScript, Mkfs, Mount, Check, Run, Unmount}
@@ -22,6 +27,22 @@ pub record IsNew (sectors inodes : ℕ) (s : State) : Type 0 where
   pub desks : s.desks ≡ []
   pub free : s.free ≡ s.room.sectors
   pub running : IsFalse s.halted
+
+-- A new disk, all of it stable, was mounted.
+pub record Begins {D : Type 0} (state : D → DiskState) (sectors inodes : ℕ) (start : Config D) : Type 0 where
+  pub made : D
+  pub is_new_disk : IsNewDisk inodes (state made).seen
+  pub stable : IsStable (state made)
+  pub now : D
+  pub s : State
+  pub mounts : Mounts (state made) (state now) s
+  pub is_new : IsNew sectors inodes s
+  pub is_start : start ≡ Up s now
+
+-- A run that begins so.
+abbrev pub RunsFromNew : {D : Type 0} → (D → DiskState) → ℕ → ℕ → Option (List ℕ) → Option (List ℕ) → Option (List ℕ) → Result Count RunFault → Type 0
+RunsFromNew {D} state sectors inodes input before after result =
+    (c : Config D) × Begins state sectors inodes c × (d : Config D) × Ran state input before after c d result
 
 -- The run ended early, and then it was one; or it didn't begin, and then nothing was read or written.
 abbrev pub Fails : (RunFault → Type 0) → Type 0 → Failure → Type 0

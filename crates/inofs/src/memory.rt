@@ -1,10 +1,8 @@
 //! Runs a script on a new file system in memory.
 ghost use Rattle.std.specs.Prelude.{◌≡◌, MatchResult, Ok, Err};
-ghost use Rattle.fs_model.specs.States.{State};
-ghost use Rattle.fs_model.specs.Steps.{Step};
-ghost use Rattle.fs_system.specs.Seen.{IsIn};
-ghost use Rattle.fs_shell.specs.Runs.{Ran};
-ghost use Rattle.inofs.specs.Programs.{IsNew, Fails};
+ghost use Rattle.fs_system.specs.Played.{IsConfig};
+ghost use Rattle.fs_system.specs.Playing.{Config};
+ghost use Rattle.inofs.specs.Programs.{Begins, RunsFromNew, Fails};
 
 use crate::failure::Failure;
 use fs_shell::{Count, run};
@@ -27,11 +25,9 @@ pub fn run_in_memory<R: Read, W: Write>(
 ) -> Result<Count, Failure>
     // What was written is the text of a run over the script's lines, which began with an empty file system. It may have
     // ended early, or not have begun.
-    ensures { MatchResult result
-        (λ count. (s : State) × IsNew SECTORS INODES s × (t : State)
-        × Ran Step (R.remaining reader.old) (W.contents writer.old) (W.contents writer.new) s t (Ok count))
-        (Fails (λ fault. (s : State) × IsNew SECTORS INODES s × (t : State)
-        × Ran Step (R.remaining reader.old) (W.contents writer.old) (W.contents writer.new) s t (Err fault))
+    ensures { let state = ⟦<MemDisk as Disk>⟧.state in MatchResult result
+        (λ count. RunsFromNew state SECTORS INODES (R.remaining reader.old) (W.contents writer.old) (W.contents writer.new) (Ok count))
+        (Fails (λ fault. RunsFromNew state SECTORS INODES (R.remaining reader.old) (W.contents writer.old) (W.contents writer.new) (Err fault))
         ((reader.new ≡ reader.old) × (writer.new ≡ writer.old))) }
 {
     let Ok(disk) = MemDisk::new(alloc, SECTORS) else {
@@ -49,10 +45,8 @@ fn run_on<D: Disk + Drop, R: Read, W: Write>(
 ) -> Result<Count, Failure>
     requires { (D.state disk).size ≡ SECTORS }
     ensures { MatchResult result
-        (λ count. (s : State) × IsNew SECTORS INODES s × (t : State)
-        × Ran Step (R.remaining reader.old) (W.contents writer.old) (W.contents writer.new) s t (Ok count))
-        (Fails (λ fault. (s : State) × IsNew SECTORS INODES s × (t : State)
-        × Ran Step (R.remaining reader.old) (W.contents writer.old) (W.contents writer.new) s t (Err fault))
+        (λ count. RunsFromNew D.state SECTORS INODES (R.remaining reader.old) (W.contents writer.old) (W.contents writer.new) (Ok count))
+        (Fails (λ fault. RunsFromNew D.state SECTORS INODES (R.remaining reader.old) (W.contents writer.old) (W.contents writer.new) (Err fault))
         ((reader.new ≡ reader.old) × (writer.new ≡ writer.old))) }
 {
     let mut fs = new_file_system(alloc, disk)?;
@@ -65,7 +59,7 @@ fn run_on<D: Disk + Drop, R: Read, W: Write>(
 // Makes an empty file system on the disk, and mounts it.
 fn new_file_system<D: Disk + Drop>(alloc: Global, disk: D) -> Result<Fs<D>, Failure>
     requires { (D.state disk).size ≡ SECTORS }
-    ensures { MatchResult result (λ fs. (s : State) × IsNew SECTORS INODES s × IsIn D.state fs s)
+    ensures { MatchResult result (λ fs. (c : Config D) × IsConfig D.state (Ok fs) c × Begins D.state SECTORS INODES c)
         (Fails (λ fault. ⊥) (Unit {0})) }
 {
     let mut disk = disk;

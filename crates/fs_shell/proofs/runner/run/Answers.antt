@@ -3,19 +3,18 @@ use Rattle.std.proofs.KnownBytes.{prepend_known-nil}
 use Rattle.std.proofs.lemmas.Result.{err_from_is_err_and}
 use Rattle.fs_shell.specs.declared.fault.RunFault.TheVariants.{WriteFault}
 use Rattle.fs_shell.specs.Scripts.{Pending, bytes_left}
-use Rattle.fs_model.specs.Steps.{Step}
 use Rattle.fs_shell.proofs.Sessions.{starts, goes_on, finishes, ends_early, ends_unanswered, ends_at_once, one_fault_at_most}
 use Rattle.fs_shell.proofs.runner.run.Goals as goal
 
 pub returns-in_err-pending-clause-ran : goal.returns-in_err-pending-clause-ran
 returns-in_err-pending-clause-ran g c =
     let p = err_from_is_err_and c.from_residual.result c.from_residual.ensures.1 in
-    λ s is. (s, is, rw p.1 (ends_at_once Step _ _ s p.0 (λ much. cc)))
+    rw p.1 (ends_at_once g.D.Disk.state _ _ c.args.fs.now p.0 (λ much. cc))
 
 pub returns-in_err-line-clause-ran : goal.returns-in_err-line-clause-ran
 returns-in_err-line-clause-ran g c =
     let p = err_from_is_err_and c.from_residual-in_err-line.result c.from_residual-in_err-line.ensures.1 in
-    λ s is. (s, is, rw p.1 (ends_at_once Step _ _ s p.0 (λ much. cc)))
+    rw p.1 (ends_at_once g.D.Disk.state _ _ c.args.fs.now p.0 (λ much. cc))
 
 pub loop-line-init : goal.loop-line-init
 loop-line-init g c =
@@ -23,7 +22,7 @@ loop-line-init g c =
     ap (λ (p : Pending). bytes_left p (g.R.Read.remaining c.args.reader.now)) c.in_ok-pending.ensures ∙ prepend_known-nil (g.R.Read.remaining c.args.reader.now) in
     let none : c.in_ok-pending.pending.given ≡ 0 = ap (λ (p : Pending). p.given) c.in_ok-pending.ensures in
     record {
-      running = λ s is. (s, is, starts Step _ _ _ _ _ s left none refl refl);
+      running = starts g.D.Disk.state _ _ _ _ _ c.args.fs.now left none refl refl;
       lines = omega arith;
       faults = omega arith;
       limit = omega arith;
@@ -32,23 +31,15 @@ loop-line-init g c =
 pub returns-in_err-read_line-clause-ran : goal.returns-in_err-read_line-clause-ran
 returns-in_err-read_line-clause-ran g c =
     let p = err_from_is_err_and c.from_residual-in_err-read_line.result c.from_residual-in_err-read_line.ensures.1 in
-    λ s is.
-    let run = c.loop-line.invariant.running s is in
-    (run.0, run.1, rw p.1 (ends_early Step _ _ _ _ _ _ c.loop-line.count s run.0 p.0 run.2 (λ much. c.in_err-read_line.ensures.over (sym p.2 ∙ much))))
+    rw p.1 (ends_early g.D.Disk.state _ _ _ _ _ _ _ _ _ p.0 c.loop-line.invariant.running (λ much. c.in_err-read_line.ensures.over (sym p.2 ∙ much)))
 
 pub loop-line-preserved : goal.loop-line-preserved
 loop-line-preserved g c =
     let read = c.read_line.ensures.line (c.in_ok-read_line.was ∙ ap Ok c.if-branch.true) in
     let most = one_fault_at_most c.perform-answer.result in
     record {
-      running = λ s is.
-          let run = c.loop-line.invariant.running s is in
-          let then = c.perform-answer.ensures run.0 (c.forget.ensures.state run.0 run.1) in (
-            then.0,
-            then.1,
-            goes_on Step _ _ _ _ _ _ _ _ c.loop-line.count _ s run.0 then.0 _ _ run.2 read (rw c.deref.ensures.value at then.2)
-                c.in_ok-write_answer.ensures.written refl (ap (λ (n : ℕ). c.loop-line.count.faults + n) c.faults.ensures),
-          );
+      running = goes_on g.D.Disk.state _ _ _ _ _ _ _ _ _ _ _ _ _ _ _ c.loop-line.invariant.running read (rw c.deref.ensures.value at c.perform-answer.ensures)
+          c.in_ok-write_answer.ensures.written refl (ap (λ (n : ℕ). c.loop-line.count.faults + n) c.faults.ensures);
       lines = omega (arith, read.some, c.loop-line.invariant.lines);
       faults = omega (arith, most, c.faults.ensures, c.loop-line.invariant.faults);
       limit = c.read_line.ensures.limit;
@@ -58,22 +49,13 @@ pub returns-in_err-write_answer-clause-ran : goal.returns-in_err-write_answer-cl
 returns-in_err-write_answer-clause-ran g c =
     let p = err_from_is_err_and c.from_residual-in_err-write_answer.result c.from_residual-in_err-write_answer.ensures.1 in
     let read = c.read_line.ensures.line (c.in_ok-read_line.was ∙ ap Ok c.if-branch.true) in
-    λ s is.
-    let run = c.loop-line.invariant.running s is in
-    let then = c.perform-answer.ensures run.0 (c.forget.ensures.state run.0 run.1) in (
-      then.0,
-      then.1,
-      rw p.1 (ends_unanswered Step _ _ _ _ _ _ _ _ c.loop-line.count s run.0 then.0 _ _ p.0 run.2 read (rw c.deref.ensures.value at then.2)
-          (λ much. c.in_err-write_answer.ensures.fault (sym p.2 ∙ much))),
-    )
+    rw p.1 (ends_unanswered g.D.Disk.state _ _ _ _ _ _ _ _ _ _ _ _ _ _ p.0 c.loop-line.invariant.running read
+    (rw c.deref.ensures.value at c.perform-answer.ensures) (λ much. c.in_err-write_answer.ensures.fault (sym p.2 ∙ much)))
 
 pub returns-in-Ok-clause-ran : goal.returns-in-Ok-clause-ran
-returns-in-Ok-clause-ran g c = λ s is.
-    let run = c.loop-line.invariant.running s is in
+returns-in-Ok-clause-ran g c =
     let end = c.read_line.ensures.end (c.in_ok-read_line.was ∙ ap Ok c.if-branch.false) in
-    (run.0, run.1, finishes Step _ _ _ _ _ _ c.loop-line.count s run.0 run.2 end.0 c.loop-line.invariant.limit c.flush.ensures.bytes)
+    finishes g.D.Disk.state _ _ _ _ _ _ _ _ _ c.loop-line.invariant.running end.0 c.loop-line.invariant.limit c.flush.ensures.bytes
 
 pub returns-clause-ran : goal.returns-clause-ran
-returns-clause-ran g c = λ s is.
-    let run = c.loop-line.invariant.running s is in
-    (run.0, run.1, ends_early Step _ _ _ _ _ _ c.loop-line.count s run.0 WriteFault run.2 (λ much. absurd (cc)))
+returns-clause-ran g c = ends_early g.D.Disk.state _ _ _ _ _ _ _ _ _ WriteFault c.loop-line.invariant.running (λ much. absurd (cc))
