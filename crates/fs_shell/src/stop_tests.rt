@@ -252,42 +252,68 @@ fn a_late_stop_leaves_the_first_files(rt: HostRuntime) -> Result<(), Fail> {
 
 // ---- a mount that is stopped
 
-const NAMELESS: &str =
-    "spawn 0 0\n1 open /f rwc 0644\n1 write 0 hello\n1 unlink /f\n1 fsync 0\nstatfs\n";
-
-const UNLINKED: &str = "pid 1\nfd 0\nwrote 5\nok\nok\nfree 877 blocks 61 inodes\n";
+// Lines that leave a file without a name, or two, and their replies.
+const NAMELESS: [(&str, &str); 2] = [
+    (
+        "spawn 0 0\n1 open /f rwc 0644\n1 write 0 hello\n1 unlink /f\n1 fsync 0\nstatfs\n",
+        "pid 1\nfd 0\nwrote 5\nok\nok\nfree 877 blocks 61 inodes\n",
+    ),
+    (
+        "spawn 0 0\n1 open /f rwc 0644\n1 write 0 hello\n1 open /g rwc 0644\n1 write 1 hello\n\
+         1 unlink /f\n1 unlink /g\n1 fsync 0\nstatfs\n",
+        "pid 1\nfd 0\nwrote 5\nfd 1\nwrote 5\nok\nok\nok\nfree 876 blocks 60 inodes\n",
+    ),
+];
 
 const NONE: &str = "spawn 0 0\n1 stat /f\nstatfs\n";
 
 const FREED: &str = "pid 1\nerror ENOENT 2\nfree 878 blocks 62 inodes\n";
 
-// Whether a mount, which frees a file without a name, ends where so many of its writes and syncs pass. Adds where the replies
-// are others than those of either, or where the next mount leaves the file.
-fn push_freed(alloc: Global, report: &mut String, passes: u64) -> Result<bool, Fail> {
-    let script = format!(in alloc; "{NAMELESS}restart 0 {passes}\nrestart 1\n{NONE}")?;
+// Whether a mount, which frees files without a name, ends where so many of its writes and syncs pass. Adds where the replies
+// are others than those of either, or where the next mount leaves a file.
+fn push_freed(
+    alloc: Global,
+    report: &mut String,
+    lines: (&str, &str),
+    passes: u64,
+) -> Result<bool, Fail> {
+    let (nameless, unlinked) = lines;
+    let script = format!(in alloc; "{nameless}restart 0 {passes}\nrestart 1\n{NONE}")?;
     let replies = played_on_new(alloc, script.as_str())?;
     let ends = !replies.as_str().contains("failed");
     let first = if ends { "mounted" } else { "failed DiskFault" };
-    let wanted = format!(in alloc; "{UNLINKED}{first}\nmounted\n{FREED}")?;
+    let wanted = format!(in alloc; "{unlinked}{first}\nmounted\n{FREED}")?;
     push_other(report, replies.as_str(), wanted.as_str())?;
     Ok(ends)
+}
+
+// How many writes and syncs the mount makes, of so many at most.
+fn freeing_calls(
+    alloc: Global,
+    report: &mut String,
+    lines: (&str, &str),
+    most: u64,
+) -> Result<Option<u64>, Fail> {
+    let mut first = None;
+    for passes in (0..most).rev() {
+        if push_freed(alloc, report, lines, passes)? {
+            first = Some(passes);
+        }
+    }
+    Ok(first)
 }
 
 #[test]
 fn a_stopped_mount_is_made_again(rt: HostRuntime) -> Result<(), Fail> {
     let alloc = rt.alloc();
     let mut report = String::new(alloc);
-    let mut first = None;
-    for passes in (0..20).rev() {
-        if push_freed(alloc, &mut report, passes)? {
-            first = Some(passes);
-        }
-    }
-    // A sync; then a commit: its sectors and a sync, the commit sector and a sync, the sectors in their places and a sync, the
-    // idle commit sector and a sync.
+    let one = freeing_calls(alloc, &mut report, NAMELESS[0], 20)?;
+    let two = freeing_calls(alloc, &mut report, NAMELESS[1], 28)?;
+    // A sync; then a commit for each file: its sectors and a sync, the commit sector and a sync, the sectors in their places
+    // and a sync, the idle commit sector and a sync.
     assert!(rt;
-        report.is_empty() && first == Some(13),
-        "{report} {first:?}"
+        report.is_empty() && one == Some(13) && two == Some(25),
+        "{report} {one:?} {two:?}"
     );
     Ok(())
 }
