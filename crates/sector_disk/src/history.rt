@@ -83,7 +83,8 @@ impl History {
 
     /// The same, where there is a sector of that number.
     pub fn content(&self, n: u32) -> Option<[u8; 512]>
-        ensures { MatchOption result (length self.now.start ≤ n) (λ content. content ≡ sector (after_events self.now.start self.now.events) n) }
+        ensures { MatchOption result (length self.now.start ≤ n)
+            (λ content. content ≡ sector (after_events self.now.start self.now.events) n) }
     {
         self.seen.get(n as usize).copied()
     }

@@ -77,7 +77,8 @@ impl MemDisk {
 
     /// What a read of the sector gives, where there is one of that number.
     pub(crate) fn content(&self, n: u32) -> Option<[u8; 512]>
-        ensures { MatchOption result ((⟦<MemDisk as Disk>⟧.state self.now).size ≤ n) (λ content. content ≡ sector (⟦<MemDisk as Disk>⟧.state self.now).seen n) }
+        ensures { MatchOption result ((⟦<MemDisk as Disk>⟧.state self.now).size ≤ n)
+            (λ content. content ≡ sector (⟦<MemDisk as Disk>⟧.state self.now).seen n) }
     {
         self.history.content(n)
     }
