@@ -28,10 +28,10 @@ use Rattle.fs_model.proofs.StepsBodies.{bytes_are_bytes, length-resized, IsBytes
 use Rattle.fs_model.proofs.Unchanged.{same_process_stays}
 use Rattle.open_files.specs.Tables.{with_changed, IsTable}
 use Rattle.path_walk.specs.Answers.{refused_or}
-use Rattle.path_walk.specs.Performing.{IsStateOf}
-use Rattle.path_walk.proofs.Calling.{refused_err}
-use Rattle.file_calls.specs.Changes.{ChangesBytes}
-use Rattle.file_calls.proofs.ByDescriptor.{open_scene, IsByDescriptor, IsOpened, the_opened, open_fits, open_node, changed_there}
+use Rattle.call_parts.specs.Performing.{IsStateOf}
+use Rattle.call_parts.proofs.Calling.{refused_err}
+use Rattle.call_parts.specs.Changes.{ChangesBytes}
+use Rattle.call_parts.proofs.ByDescriptor.{open_scene, IsByDescriptor, IsOpened, the_opened, open_fits, open_node, changed_there}
 use Rattle.file_calls.proofs.Rewritten.{ChangesTree, bytes_rewritten}
 use Rattle.file_calls.proofs.Writing.{bad_write_closed, file_kind}
 

@@ -20,10 +20,10 @@ use Rattle.fs_model.specs.Rows.{row_of}
 use Rattle.fs_model.specs.Scenes.{answers, is_bad, is_bad_to_read, nothing_asked}
 use Rattle.fs_model.specs.States.{State}
 use Rattle.fs_model.specs.DescriptorCalls.{fstat_row, fstat_effect, shown}
-use Rattle.path_walk.specs.Performing.{IsStateOf}
-use Rattle.path_walk.proofs.Calling.{state_tree}
-use Rattle.file_calls.proofs.ByDescriptor.{open_scene, IsByDescriptor, IsOpened, the_opened, open_there}
-use Rattle.file_calls.proofs.Shown.{shown_is}
+use Rattle.call_parts.specs.Performing.{IsStateOf}
+use Rattle.call_parts.proofs.Calling.{state_tree}
+use Rattle.call_parts.proofs.ByDescriptor.{open_scene, IsByDescriptor, IsOpened, the_opened, open_there}
+use Rattle.call_parts.proofs.Shown.{shown_is}
 
 -- ---- what the process is asked
 

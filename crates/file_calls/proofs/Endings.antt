@@ -45,14 +45,14 @@ use Rattle.fs_model.proofs.StepsSwept.{tree_may_be_swept}
 use Rattle.fs_model.proofs.Swept.{DropsNoNames, stays, at_first, at_rest}
 use Rattle.open_files.specs.Tables.{answer_of_found, answer_of, open_at, open_in}
 use Rattle.open_files.proofs.Slots.{any_with_entry}
-use Rattle.path_walk.specs.Performing.{IsStateOf, chosen}
-use Rattle.path_walk.proofs.Calling.{same_process, state_process}
+use Rattle.call_parts.specs.Performing.{IsStateOf, chosen}
+use Rattle.call_parts.proofs.Calling.{same_process, state_process}
 use Rattle.path_walk.proofs.Kept.{kept, sound_kept, is_err}
-use Rattle.file_calls.specs.Dropping.{LeavesInode, stays_open, has_name, was_free, goes}
+use Rattle.call_parts.specs.Dropping.{LeavesInode, stays_open, has_name, was_free, goes}
 use Rattle.file_calls.specs.Exiting.{IsExited, IsNotExited, Exits, LeavesAt, is_closed, was_open}
 use Rattle.file_calls.specs.Exiting as why
-use Rattle.file_calls.proofs.ByDescriptor.{IsOpened, opened, open_fits, entry_again, has_open}
-use Rattle.file_calls.proofs.Leavings.{left_super, left_sound, left_node, node_stood, closed_number}
+use Rattle.call_parts.proofs.ByDescriptor.{IsOpened, opened, open_fits, entry_again, has_open}
+use Rattle.call_parts.proofs.Leavings.{left_super, left_sound, left_node, node_stood, closed_number}
 
 -- ---- the map, while the process ends
 

@@ -29,18 +29,18 @@ use Rattle.fs_model.specs.StoredNodes.{Placed, HoldsNode}
 use Rattle.fs_model.specs.Trees.{names_of, parent}
 use Rattle.fs_model.proofs.StepsBodies.{acl_may_replace}
 use Rattle.path_walk.specs.Answers.{refused_or, IsAnswered}
-use Rattle.path_walk.specs.Paths.{scene_at, HasFound}
-use Rattle.path_walk.specs.Performing.{IsStateOf}
-use Rattle.path_walk.proofs.Calling.{state_tree, answered_later, first_asked, next_asked, both_met}
-use Rattle.path_walk.proofs.HeldChanges.{default_held, set_acl_held}
+use Rattle.call_parts.specs.Paths.{scene_at, HasFound}
+use Rattle.call_parts.specs.Performing.{IsStateOf}
+use Rattle.call_parts.proofs.Calling.{state_tree, answered_later, first_asked, next_asked, both_met}
+use Rattle.call_parts.proofs.HeldChanges.{default_held, set_acl_held}
 use Rattle.path_walk.proofs.HeldNodes.{held_kind, held_node}
 use Rattle.path_walk.proofs.Kept.{kept_back}
-use Rattle.file_calls.specs.Asked.{own_asked, holder_asked, acl_space_asked}
-use Rattle.file_calls.specs.Given.{ChangesOne, SavesAcl, SavesDefaultAcl}
-use Rattle.file_calls.proofs.Changed.{IsChange, rewrites_found}
-use Rattle.file_calls.proofs.Followed.{directory_is, followed_access, node_is, plain}
-use Rattle.file_calls.proofs.Owned.{own_met, others_asked, all_met}
-use Rattle.file_calls.proofs.Shown.{IsInode}
+use Rattle.call_parts.specs.Asked.{own_asked, holder_asked, acl_space_asked}
+use Rattle.call_parts.specs.Given.{ChangesOne, SavesAcl, SavesDefaultAcl}
+use Rattle.call_parts.proofs.Changed.{IsChange, rewrites_found}
+use Rattle.call_parts.proofs.Followed.{directory_is, followed_access, node_is, plain}
+use Rattle.call_parts.proofs.Ownership.{own_met, others_asked, all_met}
+use Rattle.call_parts.proofs.Shown.{IsInode}
 
 -- ---- what the inode holds then
 

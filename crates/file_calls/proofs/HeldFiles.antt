@@ -16,10 +16,10 @@ use Rattle.fs_model.specs.States.{State}
 use Rattle.fs_model.specs.Trees.{parent, IsDirectoryAt}
 use Rattle.fs_layout.specs.Directories.{HasNames}
 use Rattle.fs_model.specs.StoredNodes.{HoldsBody}
-use Rattle.path_walk.specs.Performing.{IsStateOf}
-use Rattle.path_walk.proofs.Calling.{state_tree}
+use Rattle.call_parts.specs.Performing.{IsStateOf}
+use Rattle.call_parts.proofs.Calling.{state_tree}
 use Rattle.path_walk.proofs.HeldNodes.{held_node, held_kind, held_names, held_parent}
-use Rattle.file_calls.proofs.ByDescriptor.{open_scene, IsOpened, open_fits, open_node}
+use Rattle.call_parts.proofs.ByDescriptor.{open_scene, IsOpened, open_fits, open_node}
 
 pub record IsFile (map : SectorMap) (v : Inode) (b : Body) : Type 0 where
   pub no_directory : IsFalse (is_directory b)

@@ -25,8 +25,8 @@ use Rattle.fs_model.specs.Scenes.{Scene, node_open, answers, is_bad_to_read}
 use Rattle.fs_model.specs.States.{State}
 use Rattle.fs_model.specs.Trees.{parent}
 use Rattle.fs_model.specs.DescriptorCalls.{readdir_row, readdir_demands, readdir_effect}
-use Rattle.path_walk.specs.Performing.{IsStateOf}
-use Rattle.file_calls.proofs.ByDescriptor.{open_scene, IsByDescriptor, IsOpened, the_opened}
+use Rattle.call_parts.specs.Performing.{IsStateOf}
+use Rattle.call_parts.proofs.ByDescriptor.{open_scene, IsByDescriptor, IsOpened, the_opened}
 use Rattle.file_calls.proofs.DescriptorRows.{bad_read_closed}
 use Rattle.file_calls.proofs.HeldFiles.{open_file, open_directory, open_names, open_parent}
 

@@ -35,17 +35,17 @@ use Rattle.inode_table.specs.Acls.{HasAcl, acl_takes}
 use Rattle.inode_table.specs.Inodes.{DiffersInAttributes}
 use Rattle.inode_table.proofs.Bits.{with_acls_fits}
 use Rattle.path_walk.specs.HeldTrees.{stored_kind}
-use Rattle.path_walk.specs.Paths.{scene_at, HasFound}
-use Rattle.path_walk.specs.Performing.{IsStateOf}
-use Rattle.path_walk.proofs.Calling.{state_tree}
-use Rattle.path_walk.proofs.HeldChanges.{special_bits, moded_held}
+use Rattle.call_parts.specs.Paths.{scene_at, HasFound}
+use Rattle.call_parts.specs.Performing.{IsStateOf}
+use Rattle.call_parts.proofs.Calling.{state_tree}
+use Rattle.call_parts.proofs.HeldChanges.{special_bits, moded_held}
 use Rattle.path_walk.proofs.HeldNodes.{held_node, held_access}
-use Rattle.file_calls.specs.Asked.{own_asked}
-use Rattle.file_calls.specs.Given.{SavesAcl, special_mode}
-use Rattle.file_calls.proofs.Changed.{IsChange, rewrites_found}
-use Rattle.file_calls.proofs.Followed.{accessed_is, followed_access}
-use Rattle.file_calls.proofs.Owned.{own_met}
-use Rattle.file_calls.proofs.Shown.{IsInode, body_kind, the_node_is}
+use Rattle.call_parts.specs.Asked.{own_asked}
+use Rattle.call_parts.specs.Given.{SavesAcl, special_mode}
+use Rattle.call_parts.proofs.Changed.{IsChange, rewrites_found}
+use Rattle.call_parts.proofs.Followed.{accessed_is, followed_access}
+use Rattle.call_parts.proofs.Ownership.{own_met}
+use Rattle.call_parts.proofs.Shown.{IsInode, body_kind, the_node_is}
 
 -- ---- an access ACL is saved
 

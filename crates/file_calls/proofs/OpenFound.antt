@@ -1,10 +1,8 @@
 -- What open asks of what is there, and what it leaves of it.
---     Checked, checked        what a check answers
---     checked_first, checked_second, checked_third, checked_all        some demands, then others, then one more
 --     found_is        the demands on the kind of an inode, and permission
 --     old_reached, old_refused        it is opened, or refused
 use Rattle.std.specs.Prelude.{◌≡◌, ℕ, if◌then◌else◌, MatchResult, Bool, true, false, not, ◌&&◌, ◌||◌, List, [], ◌∷◌, ◌++◌, length, Option, None, Some, unwrap_or, is_some, IsTrue, Result, Ok, Err, IsErr, IsErrAnd}
-use Rattle.std.proofs.Common.{refl, sym, ap, subst, arith, ◌∙◌, inl, inr}
+use Rattle.std.proofs.Common.{refl, sym, ap, subst, arith, ◌∙◌, inl}
 use Rattle.fs_cred.specs.declared.errno.Errno.TheVariants.{EEXIST, EISDIR, ELOOP, ENOTDIR}
 use Rattle.fs_cred.specs.declared.refusal.Need.TheVariants.{Perm}
 use Rattle.fs_cred.specs.declared.refusal.Refusal.{Refusal}
@@ -23,7 +21,7 @@ use Rattle.fs_model.specs.declared.call.Flags.{Flags}
 use Rattle.fs_model.specs.declared.walk.Found.{Found}
 use Rattle.fs_model.specs.Births.{the_node, born_file}
 use Rattle.fs_model.specs.Changes.{Change, Same, Rewrite, Make, changed, swept}
-use Rattle.fs_model.specs.Demands.{Demand, refuse, or_else, first_of, perms, decided, permission_of, permission_on}
+use Rattle.fs_model.specs.Demands.{Demand, refuse, first_of, perms, decided, permission_of, permission_on}
 use Rattle.fs_model.specs.Nodes.{Node, Body, File, Dir, Link, is_directory, is_link, bytes_in, with_bytes}
 use Rattle.fs_model.specs.OpenCall.{open_demands, open_new_demands, open_change}
 use Rattle.fs_model.specs.Processes.{Process, Desks, is_open}
@@ -39,67 +37,20 @@ use Rattle.fs_model.proofs.StepsBodies.{length-resized, IsBytes-resized, bytes_a
 use Rattle.fs_model.proofs.StepsDemands.{first_met, then_met, unrefused}
 use Rattle.path_walk.specs.Answers.{refused_or, IsAnswered}
 use Rattle.path_walk.specs.HeldTrees.{HoldsTree, IsThere, HasAccess}
-use Rattle.path_walk.specs.Paths.{scene_at}
-use Rattle.path_walk.specs.Performing.{IsStateOf}
-use Rattle.path_walk.proofs.Calling.{state_tree, found_there, first_of-append, refused_err, met_ok, or_else-none, first_asked}
+use Rattle.call_parts.specs.Paths.{scene_at}
+use Rattle.call_parts.specs.Performing.{IsStateOf}
+use Rattle.call_parts.proofs.Calling.{state_tree, found_there, met_ok, or_else-none, first_asked}
 use Rattle.path_walk.proofs.HeldNodes.{stands, held_node, held_kind, held_access}
 use Rattle.path_walk.proofs.Kept.{is_err}
-use Rattle.file_calls.specs.Changes.{ChangesBytes}
+use Rattle.call_parts.specs.Changes.{ChangesBytes}
 use Rattle.file_calls.specs.Openings.{kind_asked, found_asked, FindsIn, IsRefusedOpen, Reaches}
-use Rattle.file_calls.proofs.Followed.{IsAccessed, accessed_is, accessible}
-use Rattle.file_calls.proofs.Owned.{some_asked, others_asked, all_met}
+use Rattle.call_parts.proofs.Followed.{IsAccessed, accessed_is, accessible}
+use Rattle.call_parts.proofs.Ownership.{some_asked, others_asked, all_met}
 use Rattle.file_calls.proofs.Rewritten.{bytes_rewritten}
-use Rattle.file_calls.proofs.Shown.{the_node_is}
-
--- ---- some demands, then others, then one more
-
--- what a check of some demands answers
-abbrev pub Checked : Type 0
-Checked = Result (Unit {0}) Refusal
-
-abbrev pub checked : Demand → Checked
-checked d = refused_or {A = Unit {0}} d (Ok tt)
-
-module _ (a b : List Demand) (d : Demand) where
-  three : first_of ((a ++ b) ++ (d ∷ [])) ≡ or_else (or_else (first_of a) (first_of b)) d
-  three = first_of-append (a ++ b) (d ∷ []) ∙ ap (or_else (first_of (a ++ b))) (or_else-none d) ∙ ap (λ x. or_else x d) (first_of-append a b)
-
-  pub checked_first : (r : Checked) (e : Refusal) → IsErr r → IsErrAnd r (λ y. y ≡ e) → checked (first_of a) ≡ Err e
-      → r ≡ checked (first_of ((a ++ b) ++ (d ∷ [])))
-  checked_first r e err and is =
-      is_err r e err and
-      ∙ sym (ap checked (three ∙ ap (λ x. or_else (or_else x (first_of b)) d) (refused_err {A = Unit {0}} (first_of a) tt e is)))
-
-  module _ (first : checked (first_of a) ≡ Ok tt) where
-    first_none : first_of a ≡ None
-    first_none = (met_ok {A = Unit {0}} (first_of a) tt tt first).0
-
-    pub checked_second : (r : Checked) (e : Refusal) → IsErr r → IsErrAnd r (λ y. y ≡ e) → checked (first_of b) ≡ Err e
-        → r ≡ checked (first_of ((a ++ b) ++ (d ∷ [])))
-    checked_second r e err and is =
-        is_err r e err and
-        ∙ sym (ap checked (three ∙ ap (λ x. or_else (or_else x (first_of b)) d) first_none ∙ ap (λ x. or_else x d) (refused_err {A = Unit {0}} (first_of b) tt e is)))
-
-    module _ (second : checked (first_of b) ≡ Ok tt) where
-      last_left : first_of ((a ++ b) ++ (d ∷ [])) ≡ d
-      last_left =
-          three ∙ ap (λ x. or_else (or_else x (first_of b)) d) first_none
-          ∙ ap (λ x. or_else x d) (met_ok {A = Unit {0}} (first_of b) tt tt second).0
-
-      pub checked_third : (r : Checked) (e : Refusal) → IsErr r → IsErrAnd r (λ y. y ≡ e) → checked d ≡ Err e
-          → r ≡ checked (first_of ((a ++ b) ++ (d ∷ [])))
-      checked_third r e err and is = is_err r e err and ∙ sym (ap checked last_left ∙ is)
-
-      pub checked_all : checked d ≡ Ok tt → Ok tt ≡ checked (first_of ((a ++ b) ++ (d ∷ [])))
-      checked_all is = sym (ap checked last_left ∙ is)
+use Rattle.call_parts.proofs.Shown.{the_node_is}
+use Rattle.call_parts.proofs.Checked.{Checked, checked, link_says, refused_as}
 
 -- ---- what is there
-
--- its kind says whether it is a link
-pub link_says : (image : SectorMap) (v : Inode) (b : Body) → HoldsBody image v b → is_link_kind v.kind ≡ is_link b
-link_says image v (File a bytes) h = ap is_link_kind h.kind
-link_says image v (Dir a d) h = ap is_link_kind h.names.kind
-link_says image v (Link target) h = ap is_link_kind h.kind
 
 -- the kind of an inode that was read
 pub kind_met : (f : Flags) {v w : Inode} {r : Checked} → w ≡ v → checked (first_of (kind_asked f w.kind)) ≡ r → checked (first_of (kind_asked f v.kind)) ≡ r
@@ -173,13 +124,6 @@ module _ {p : Place} {map : SectorMap} {t : Tree} (h : HoldsTree p map t) (n : �
         ∙ (met_ok {A = Rule} (decided 1 step (Perm want) (verdict cred kind_access.access want)) (verdict cred kind_access.access want).rule rule is).0)
 
 -- ---- it is opened, or refused
-
-pub refused_as : {A B : Type 0} (d : Demand) (y : B) (x : A) (e : Refusal) (old new : DiskState) → IsAnswered old new (refused_or d (Ok y)) (Err e)
-    → IsAnswered old new (refused_or d (Ok x)) (Err e)
-refused_as {A} d y x e old new h = elim h [
-  | inl is ↦ inl (ap (λ (o : Demand). refused_or {A = A} o (Ok x)) (refused_err d y e is))
-  | inr way ↦ inr way
-]
 
 no_bytes : (l : List ℕ) → length l ≡ 0 → l ≡ []
 no_bytes [] e = refl

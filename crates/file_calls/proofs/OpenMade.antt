@@ -4,12 +4,12 @@
 --     asked_of_it, few_names, can_make        a file may be made
 --     finds_kept, asked_later        reads leave what was found, and what was asked
 --     made_reaches        it was made
-use Rattle.std.specs.Prelude.{◌≡◌, ℕ, ◌+◌, ◌-◌, ◌/◌, ◌%◌, ◌<◌, ◌==◌, nat_lt, nat_le, cond, if◌then◌else◌, Bool, true, false, not, ◌&&◌, ◌||◌, List, [], ◌∷◌, length, Option, None, unwrap_or, is_some, IsTrue, Ok, Err}
+use Rattle.std.specs.Prelude.{◌≡◌, ℕ, ◌-◌, ◌/◌, ◌%◌, ◌<◌, ◌==◌, nat_lt, nat_le, if◌then◌else◌, Bool, not, ◌&&◌, ◌||◌, List, [], ◌∷◌, length, Option, None, unwrap_or, is_some, Ok, Err}
 use Rattle.std.proofs.Common.{refl, sym, ap, subst, arith, ◌∙◌, inl}
 use Rattle.fs_cred.specs.declared.errno.Errno.TheVariants.{ENOENT, ENOSPC}
 use Rattle.fs_cred.specs.declared.refusal.Refusal.{Refusal}
 use Rattle.fs_cred.specs.Credentials.{Credential}
-use Rattle.posix_acl.specs.AccessList.{AccessList, mode_bits}
+use Rattle.posix_acl.specs.AccessList.{AccessList}
 use Rattle.sector_disk.specs.Disk.{DiskState}
 use Rattle.sector_txn.specs.Sectors.{TxnState, IsUnchanged}
 use Rattle.fs_layout.specs.declared.inode.Inode.{Inode}
@@ -17,7 +17,6 @@ use Rattle.fs_layout.specs.declared.place.Place.{Place}
 use Rattle.fs_layout.specs.Bytes.{SectorMap}
 use Rattle.fs_layout.specs.Images.{inode_at, free_sectors}
 use Rattle.fs_layout.specs.Maps.{name_cmp, with_entry}
-use Rattle.fs_layout.proofs.OneAcl.{mode_small}
 use Rattle.inode_table.specs.Acls.{HasDefaultAcl}
 use Rattle.fs_model.specs.declared.call.Flags.{Flags}
 use Rattle.fs_model.specs.declared.walk.Found.{Found}
@@ -25,7 +24,7 @@ use Rattle.fs_model.specs.Births.{the_node, the_directory, born_acl, born_file}
 use Rattle.fs_model.specs.Changes.{Change, Make, Rewrite, Same, changed, swept}
 use Rattle.fs_model.specs.Demands.{Demand, refuse, first_of, permission_on, write_and_search}
 use Rattle.fs_model.specs.Limits.{entries_limit, least_free}
-use Rattle.fs_model.specs.Nodes.{Node, Body, File, Dir, Link, is_directory, default_in, names_in, with_bytes, with_names, shown_mode}
+use Rattle.fs_model.specs.Nodes.{Node, File, default_in, names_in, with_bytes, with_names}
 use Rattle.fs_model.specs.OpenCall.{open_demands, open_found_demands, open_new_demands, open_change}
 use Rattle.fs_model.specs.Processes.{Process}
 use Rattle.fs_model.specs.Stands.{HoldsAll, placed}
@@ -37,38 +36,17 @@ use Rattle.fs_model.proofs.PlacedChanges.{make_held}
 use Rattle.fs_model.proofs.StepsFound.{IsNameAt}
 use Rattle.fs_model.proofs.StepsMaking.{IsNewborn, file_is_born}
 use Rattle.path_walk.specs.Answers.{refused_or, IsAnswered}
-use Rattle.path_walk.specs.Paths.{scene_at}
-use Rattle.path_walk.proofs.Calling.{state_tree, met_ok, first_asked, next_asked, both_met}
-use Rattle.path_walk.proofs.HeldChanges.{new_file_held, names_held}
+use Rattle.call_parts.specs.Paths.{scene_at}
+use Rattle.call_parts.proofs.Calling.{state_tree, met_ok, first_asked, next_asked, both_met}
+use Rattle.call_parts.proofs.HeldChanges.{new_file_held, names_held}
 use Rattle.path_walk.proofs.HeldNodes.{held_node, names_say, default_says}
 use Rattle.path_walk.proofs.Kept.{kept}
-use Rattle.file_calls.specs.Makings.{CanMake, MakesFile}
-use Rattle.file_calls.specs.Openings.{make_asked, FindsIn, IsRefusedOpen, Reaches}
-use Rattle.file_calls.proofs.Makeable.{found_new, has_few, may_make}
-use Rattle.file_calls.proofs.NewFile.{nothing_stands, dir_still_held}
-use Rattle.file_calls.proofs.OpenFound.{checked, refused_as}
-use Rattle.file_calls.proofs.Shown.{the_node_is}
-
--- ---- what a directory gives to what is made in it
-
-group_bit : (n : ℕ) (s g : Bool) → n < 512 → ((n + cond s 512 0 + cond g 1024 0) / 1024 % 2 == 1) ≡ g
-group_bit n true true lt = let e : (n + 512 + 1024) / 1024 % 2 ≡ 1 = omega (arith, lt) in ap (λ (k : ℕ). k == 1) e
-group_bit n true false lt = let e : (n + 512 + 0) / 1024 % 2 ≡ 0 = omega (arith, lt) in ap (λ (k : ℕ). k == 1) e
-group_bit n false true lt = let e : (n + 0 + 1024) / 1024 % 2 ≡ 1 = omega (arith, lt) in ap (λ (k : ℕ). k == 1) e
-group_bit n false false lt = let e : (n + 0 + 0) / 1024 % 2 ≡ 0 = omega (arith, lt) in ap (λ (k : ℕ). k == 1) e
-
--- S_ISGID of its mode is that of the directory
-pub set_group_says : (owner group : ℕ) (b : Body) (m : ℕ) → IsTrue (is_directory b) → m ≡ shown_mode b
-    → (m / 1024 % 2 == 1) ≡ (the_directory (record { owner = owner; group = group; body = b })).set_group_id
-set_group_says owner group (File a bytes) m is e = absurd (cc)
-set_group_says owner group (Dir a d) m is e = ap (λ (k : ℕ). k / 1024 % 2 == 1) e ∙ group_bit (mode_bits a) d.sticky d.set_group_id (mode_small a)
-set_group_says owner group (Link target) m is e = absurd (cc)
-
--- and so is its default ACL
-pub default_is : (owner group : ℕ) (b : Body) → IsTrue (is_directory b) → default_in b ≡ (the_directory (record { owner = owner; group = group; body = b })).default
-default_is owner group (File a bytes) is = absurd (cc)
-default_is owner group (Dir a d) is = refl
-default_is owner group (Link target) is = absurd (cc)
+use Rattle.call_parts.specs.Makings.{CanMake, MakesFile, make_asked}
+use Rattle.file_calls.specs.Openings.{FindsIn, IsRefusedOpen, Reaches}
+use Rattle.call_parts.proofs.Makeable.{found_new, has_few, may_make}
+use Rattle.call_parts.proofs.NewFile.{nothing_stands, dir_still_held, set_group_says, default_is}
+use Rattle.call_parts.proofs.Checked.{checked, refused_as}
+use Rattle.call_parts.proofs.Shown.{the_node_is}
 
 -- ---- what was found
 

@@ -47,14 +47,14 @@ use Rattle.open_files.specs.Tables.{answer_of_found, slot_in, lowest_slot, with_
 use Rattle.open_files.proofs.Slots.{any_with_entry}
 use Rattle.path_walk.specs.Answers.{refused_or, IsAnswered}
 use Rattle.path_walk.specs.HeldTrees.{IsThere}
-use Rattle.path_walk.specs.Paths.{scene_at, HasFound}
-use Rattle.path_walk.specs.Performing.{IsStateOf, IsRefused, Performs, chosen}
-use Rattle.path_walk.specs.Performing as why
+use Rattle.call_parts.specs.Paths.{scene_at, HasFound}
+use Rattle.call_parts.specs.Performing.{IsStateOf, IsRefused, Performs, chosen}
+use Rattle.call_parts.specs.Performing as why
 use Rattle.path_walk.specs.Walked.{walk_of}
-use Rattle.path_walk.proofs.ByPath.{refused_performs}
-use Rattle.path_walk.proofs.Calling.{first_of-append, refused_err, met_ok, resolved, state_kept, same_process, early_is, late_is, after_is, answered_refused, answered_later, interrupted_refused}
+use Rattle.call_parts.proofs.ByPath.{refused_performs}
+use Rattle.call_parts.proofs.Calling.{first_of-append, refused_err, met_ok, resolved, state_kept, same_process, early_is, late_is, after_is, answered_refused, answered_later, interrupted_refused}
 use Rattle.file_calls.specs.Openings.{open_asked, FindsIn, IsRefusedOpen, Reaches}
-use Rattle.file_calls.proofs.ByDescriptor.{changed_there, entry_again}
+use Rattle.call_parts.proofs.ByDescriptor.{changed_there, entry_again}
 
 -- ---- what its row asks and leaves
 

@@ -26,8 +26,8 @@ use Rattle.fs_model.specs.Scenes.{Scene, node_open, is_bad_to_read, with_process
 use Rattle.fs_model.specs.States.{State}
 use Rattle.fs_model.specs.DescriptorCalls.{read_row, read_demands, read_effect}
 use Rattle.fs_model.proofs.StepsBodies.{bytes_are_few}
-use Rattle.path_walk.specs.Performing.{IsStateOf}
-use Rattle.file_calls.proofs.ByDescriptor.{open_scene, IsByDescriptor, IsOpened, the_opened, open_fits, open_node}
+use Rattle.call_parts.specs.Performing.{IsStateOf}
+use Rattle.call_parts.proofs.ByDescriptor.{open_scene, IsByDescriptor, IsOpened, the_opened, open_fits, open_node}
 use Rattle.file_calls.proofs.DescriptorRows.{bad_read_closed}
 use Rattle.file_calls.proofs.HeldFiles.{open_file, open_directory}
 

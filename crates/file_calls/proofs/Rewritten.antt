@@ -32,12 +32,12 @@ use Rattle.fs_model.specs.Trees.{node_at, names_of, parent}
 use Rattle.fs_model.proofs.PlacedChanges.{rewrite_held}
 use Rattle.fs_model.proofs.StepsBodies.{bytes_may_replace}
 use Rattle.open_files.specs.Tables.{with_changed}
-use Rattle.path_walk.specs.Performing.{IsStateOf, Performs}
-use Rattle.path_walk.proofs.Calling.{state_tree, same_process}
-use Rattle.path_walk.proofs.HeldChanges.{bytes_held}
+use Rattle.call_parts.specs.Performing.{IsStateOf, Performs}
+use Rattle.call_parts.proofs.Calling.{state_tree, same_process}
+use Rattle.call_parts.proofs.HeldChanges.{bytes_held}
 use Rattle.path_walk.proofs.HeldNodes.{held_node, bytes_say}
-use Rattle.file_calls.specs.Changes.{ChangesBytes}
-use Rattle.file_calls.proofs.ByDescriptor.{open_scene, IsOpened, IsByDescriptor, open_firm, open_late, open_after, changed_there, still_open}
+use Rattle.call_parts.specs.Changes.{ChangesBytes}
+use Rattle.call_parts.proofs.ByDescriptor.{open_scene, IsOpened, IsByDescriptor, open_firm, open_late, open_after, changed_there, still_open}
 
 pub bytes_rewritten : {p : Place} {old new : TxnState} {desks : Desks} {s : State} (at : IsStateOf p old.sectors desks s) (now : Desks)
     → ((n : ℕ) → IsTrue (is_open s.desks n) → IsTrue (is_open now n)) → (n : ℕ) (node : Node) → node_at s.tree n ≡ Some node

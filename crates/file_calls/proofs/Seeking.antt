@@ -26,8 +26,8 @@ use Rattle.fs_model.specs.Rows.{row_of}
 use Rattle.fs_model.specs.Scenes.{Scene, is_bad, with_process}
 use Rattle.fs_model.specs.States.{State}
 use Rattle.fs_model.specs.DescriptorCalls.{seekable, seek_base, sought, lseek_row, lseek_demands, lseek_effect}
-use Rattle.path_walk.specs.Performing.{IsStateOf}
-use Rattle.file_calls.proofs.ByDescriptor.{open_scene, IsByDescriptor, IsOpened, the_opened}
+use Rattle.call_parts.specs.Performing.{IsStateOf}
+use Rattle.call_parts.proofs.ByDescriptor.{open_scene, IsByDescriptor, IsOpened, the_opened}
 use Rattle.file_calls.proofs.DescriptorRows.{bad_closed}
 use Rattle.file_calls.proofs.HeldFiles.{open_file, open_directory}
 

@@ -31,12 +31,12 @@ use Rattle.fs_model.specs.Steps.{After, after, after_call, early_refusal, late_r
 use Rattle.fs_model.specs.Trees.{Tree}
 use Rattle.fs_model.proofs.Unchanged.{open_stays}
 use Rattle.open_files.specs.Tables.{answer_of_found, answer_of, changed_where, with_changed}
-use Rattle.path_walk.specs.Performing.{IsStateOf, IsDone, Performs, chosen}
-use Rattle.path_walk.specs.Performing as why
-use Rattle.path_walk.proofs.Calling.{early_is, late_is, after_is}
+use Rattle.call_parts.specs.Performing.{IsStateOf, IsDone, Performs, chosen}
+use Rattle.call_parts.specs.Performing as why
+use Rattle.call_parts.proofs.Calling.{early_is, late_is, after_is}
 use Rattle.path_walk.proofs.Kept.{is_err, same_map}
 use Rattle.file_calls.specs.Settling.{IsSettled, Settles}
-use Rattle.file_calls.proofs.ByDescriptor.{IsByDescriptor, absent_firm, changed_there, still_open}
+use Rattle.call_parts.proofs.ByDescriptor.{IsByDescriptor, absent_firm, changed_there, still_open}
 use Rattle.file_calls.proofs.DescriptorRows.{bad_closed}
 
 -- a refusal, passed on

@@ -8,7 +8,7 @@ use Rattle.fs_layout.specs.Bytes.{SectorMap}
 use Rattle.fs_model.specs.Nodes.{Body, File, Dir, Link, acl_in, default_in}
 use Rattle.inode_table.specs.Acls.{HasAcl, HasDefaultAcl}
 use Rattle.path_walk.proofs.HeldNodes.{access_says, default_says}
-use Rattle.file_calls.specs.Given.{HasBody}
+use Rattle.call_parts.specs.Given.{HasBody}
 
 -- its access ACL
 pub record HasAccessAcl (image : SectorMap) (v : Inode) (b : Body) : Type 0 where

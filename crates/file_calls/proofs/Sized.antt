@@ -30,14 +30,14 @@ use Rattle.fs_model.specs.Trees.{Room, names_of, parent}
 use Rattle.fs_model.proofs.StepsBodies.{bytes_may_replace, length-resized, IsBytes-resized, bytes_are_bytes}
 use Rattle.path_walk.specs.Answers.{refused_or, IsAnswered}
 use Rattle.path_walk.specs.HeldTrees.{stored_kind}
-use Rattle.path_walk.specs.Paths.{scene_at, HasFound}
-use Rattle.path_walk.specs.Performing.{IsStateOf}
-use Rattle.path_walk.proofs.Calling.{state_tree, next_asked, first_asked, both_met, or_else-none}
-use Rattle.path_walk.proofs.HeldChanges.{bytes_held}
+use Rattle.call_parts.specs.Paths.{scene_at, HasFound}
+use Rattle.call_parts.specs.Performing.{IsStateOf}
+use Rattle.call_parts.proofs.Calling.{state_tree, next_asked, first_asked, both_met, or_else-none}
+use Rattle.call_parts.proofs.HeldChanges.{bytes_held}
 use Rattle.path_walk.proofs.HeldNodes.{held_node, bytes_say}
-use Rattle.file_calls.specs.Changes.{ChangesBytes}
-use Rattle.file_calls.proofs.Changed.{IsChange, rewrites_found}
-use Rattle.file_calls.proofs.Followed.{directory_is, followed_access, node_is}
+use Rattle.call_parts.specs.Changes.{ChangesBytes}
+use Rattle.call_parts.proofs.Changed.{IsChange, rewrites_found}
+use Rattle.call_parts.proofs.Followed.{directory_is, followed_access, node_is}
 
 -- on what access is decided is a file, where it is no directory
 pub file_kind : (k : NodeKind) (v : Kind) → v ≡ stored_kind k → refuse EISDIR (is_directory_kind v) ≡ None → v ≡ kinds.File

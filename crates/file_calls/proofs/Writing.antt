@@ -34,13 +34,13 @@ use Rattle.fs_model.specs.States.{State}
 use Rattle.fs_model.specs.StoredNodes.{HoldsBody}
 use Rattle.fs_model.specs.Trees.{Room}
 use Rattle.fs_model.proofs.StepsBodies.{bytes_are_few, bytes_are_bytes, length-overwritten, IsBytes-overwritten}
-use Rattle.path_walk.specs.Performing.{IsStateOf}
+use Rattle.call_parts.specs.Performing.{IsStateOf}
 use Rattle.fs_model.proofs.StepsDemands.{unrefused}
 use Rattle.path_walk.specs.Answers.{refused_or}
-use Rattle.path_walk.proofs.Calling.{state_tree, met_ok}
+use Rattle.call_parts.proofs.Calling.{state_tree, met_ok}
 use Rattle.path_walk.proofs.HeldNodes.{held_node, bytes_say}
-use Rattle.file_calls.specs.Changes.{ChangesBytes}
-use Rattle.file_calls.proofs.ByDescriptor.{open_scene, IsByDescriptor, IsOpened, the_opened, open_fits, open_node}
+use Rattle.call_parts.specs.Changes.{ChangesBytes}
+use Rattle.call_parts.proofs.ByDescriptor.{open_scene, IsByDescriptor, IsOpened, the_opened, open_fits, open_node}
 use Rattle.file_calls.proofs.Rewritten.{ChangesTree, bytes_rewritten}
 
 pub bad_write_closed : (fd : ℕ) (q : Process) → descriptor q fd ≡ None → is_bad_to_write fd q ≡ Some (Failed EBADF)

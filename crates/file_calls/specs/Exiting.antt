@@ -22,8 +22,8 @@ use Rattle.fs_model.specs.Stands.{HoldsAll, placed}
 use Rattle.fs_model.specs.States.{State}
 use Rattle.fs_model.specs.Steps.{after, firm_refusal, other_refusal}
 use Rattle.open_files.specs.Tables.{open_in}
-use Rattle.path_walk.specs.Performing.{IsStateOf, chosen}
-use Rattle.file_calls.specs.Dropping.{LeavesInode}
+use Rattle.call_parts.specs.Performing.{IsStateOf, chosen}
+use Rattle.call_parts.specs.Dropping.{LeavesInode}
 
 -- Nothing refuses the end of the process. It leaves these processes, and the map holds the tree after it.
 pub record IsExited (p : Place) (map : SectorMap) (desks : Desks) (s : State) (pid : ℕ) : Type 0 where

@@ -2,38 +2,35 @@
 --     open_asked        asked of the call and of its path
 --     kind_asked        asked of the kind of an inode
 --     found_asked        asked of what stands at a number
---     make_asked        asked of a directory, to make something in it
 --     FindsIn        a state in which a process has found this
 --     IsRefusedOpen        what it asks of that refuses it
 --     Reaches        nothing refuses it then, and the map holds the tree after it
-use Rattle.std.specs.Prelude.{◌≡◌, ℕ, ◌==◌, nat_lt, nat_le, false, not, ◌&&◌, ◌||◌, List, [], ◌∷◌, ◌++◌, length, None, unwrap_or, IsTrue, Ok, Err}
+use Rattle.std.specs.Prelude.{◌≡◌, ℕ, false, not, ◌&&◌, ◌||◌, List, [], ◌∷◌, ◌++◌, None, unwrap_or, IsTrue, Ok, Err}
 use Rattle.sector_disk.specs.Disk.{DiskState}
 use Rattle.fs_cred.specs.declared.refusal.Refusal.{Refusal}
-use Rattle.fs_cred.specs.declared.errno.Errno.TheVariants.{EEXIST, EISDIR, ELOOP, ENOSPC, ENOTDIR}
+use Rattle.fs_cred.specs.declared.errno.Errno.TheVariants.{EEXIST, EISDIR, ELOOP, ENOTDIR}
 use Rattle.fs_cred.specs.Credentials.{Credential}
 use Rattle.fs_layout.specs.declared.inode.Kind.{Kind}
 use Rattle.fs_layout.specs.declared.place.Place.{Place}
 use Rattle.fs_layout.specs.Bytes.{SectorMap, IsBytes}
-use Rattle.fs_layout.specs.Images.{free_sectors}
 use Rattle.fs_model.specs.declared.call.Flags.{Flags}
 use Rattle.fs_model.specs.declared.walk.Found.{Found}
 use Rattle.fs_model.specs.Births.{the_node}
 use Rattle.fs_model.specs.Changes.{changed, swept}
-use Rattle.fs_model.specs.Demands.{Demand, refuse, first_of, perms, permission_on, write_and_search}
-use Rattle.fs_model.specs.Limits.{entries_limit, least_free}
-use Rattle.fs_model.specs.Nodes.{is_directory, is_link, names_in}
+use Rattle.fs_model.specs.Demands.{Demand, refuse, first_of, perms, permission_on}
+use Rattle.fs_model.specs.Nodes.{is_directory, is_link}
 use Rattle.fs_model.specs.OpenCall.{open_arguments, open_form, open_demands, open_change}
 use Rattle.fs_model.specs.Parts.{path_checks, ends_with_slash}
 use Rattle.fs_model.specs.Processes.{Process, Desks, is_open}
 use Rattle.fs_model.specs.Rules.{is_directory_kind}
-use Rattle.fs_model.specs.Stands.{HoldsAll, placed, room_of}
+use Rattle.fs_model.specs.Stands.{HoldsAll, placed}
 use Rattle.fs_model.specs.States.{State}
 use Rattle.fs_model.specs.Steps.{HasNewNumber}
 use Rattle.fs_model.specs.Summaries.{is_link_kind}
-use Rattle.fs_model.specs.Trees.{Tree, free_inodes}
+use Rattle.fs_model.specs.Trees.{Tree}
 use Rattle.path_walk.specs.Answers.{refused_or, IsAnswered}
-use Rattle.path_walk.specs.Paths.{scene_at, HasFound}
-use Rattle.path_walk.specs.Performing.{IsStateOf}
+use Rattle.call_parts.specs.Paths.{scene_at, HasFound}
+use Rattle.call_parts.specs.Performing.{IsStateOf}
 
 -- all that is asked early, but for an unused descriptor
 abbrev pub open_asked : Flags → ℕ → List ℕ → List Demand
@@ -54,14 +51,6 @@ found_asked f cred t n step =
     ∷ refuse ENOTDIR (f.directory && not (is_directory (the_node t n).body))
     ∷ refuse EISDIR (is_directory (the_node t n).body && (f.write || f.create))
     ∷ permission_on cred t n (perms f.read f.write false) 1 step
-    ∷ []
-
-abbrev pub make_asked : Place → SectorMap → Credential → Tree → ℕ → ℕ → List Demand
-make_asked p map cred t dir step =
-    permission_on cred t dir write_and_search 1 step
-    ∷ refuse ENOSPC (nat_lt (free_sectors p map) least_free)
-    ∷ refuse ENOSPC (free_inodes (room_of p) t == 0)
-    ∷ refuse ENOSPC (nat_le entries_limit (length (names_in (the_node t dir).body)))
     ∷ []
 
 pub record FindsIn (p : Place) (map : SectorMap) (flags : Flags) (q : Process) (f : Found) (s : State) : Type 0 where

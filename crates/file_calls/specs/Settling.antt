@@ -10,7 +10,7 @@ use Rattle.fs_model.specs.Changes.{Same}
 use Rattle.fs_model.specs.Processes.{Desks}
 use Rattle.fs_model.specs.States.{State}
 use Rattle.fs_model.specs.Steps.{after, firm_refusal, other_refusal}
-use Rattle.path_walk.specs.Performing.{chosen}
+use Rattle.call_parts.specs.Performing.{chosen}
 
 -- Nothing refuses the call. It gives this reply and leaves these processes, and of the tree it changes nothing.
 pub record IsSettled (s : State) (pid : ℕ) (call : Call) (now : Desks) (reply : Reply) : Type 0 where

@@ -3,7 +3,6 @@
 ghost use Rattle.std.specs.Prelude.{◌≡◌, ◌≢◌, ◌<◌, Ok, OnOk, IfErr};
 ghost use Rattle.fs_layout.specs.Images.{inode_at};
 ghost use Rattle.fs_model.specs.Demands.{first_of};
-ghost use Rattle.fs_model.specs.Scenes.{check_of_mode};
 ghost use Rattle.posix_acl.specs.AccessList.{AccessList, with_mode_bits};
 ghost use Rattle.inode_table.specs.Acls.{HasAcl};
 ghost use Rattle.fs_model.specs.declared.call.Call.TheVariants.{Chmod, Chown};
@@ -11,12 +10,12 @@ ghost use Rattle.sector_txn.specs.Sectors.{SameStore};
 ghost use Rattle.bit_alloc.specs.Inodes.{IsSound};
 ghost use Rattle.bit_alloc.specs.Room.{HasSpare};
 ghost use Rattle.path_walk.specs.Answers.{refused_or, Interrupts};
-ghost use Rattle.path_walk.specs.Performing.{IsReady, Performs};
-ghost use Rattle.file_calls.specs.Asked.{owner_asked};
-ghost use Rattle.file_calls.specs.Given.{GivesOwner, SavesAcl, special_mode};
+ghost use Rattle.call_parts.specs.Performing.{IsReady, Performs};
+ghost use Rattle.call_parts.specs.Asked.{owner_asked};
+ghost use Rattle.call_parts.specs.Given.{GivesOwner, SavesAcl, special_mode};
 
 use crate::acls::{acl_of, give_acl};
-use crate::found::{find, owned};
+use call_parts::{check_mode, find, owned};
 use fs_cred::{Cred, Denial, Errno, Need, Refusal, Rule, may_chgrp, may_chown};
 use fs_layout::{Inode, Kind, Place};
 use fs_model::{Form, Path, Reply};
@@ -61,16 +60,6 @@ fn give_owner<S: Sectors>(
         Ok(()) => Ok(()),
         Err(_) => Err(Refusal::Failed(Errno::EIO)),
     }
-}
-
-/// Whether these are bits of a mode. EINVAL: there are more bits than 07777.
-pub fn check_mode(mode: u16) -> Result<(), Refusal>
-    ensures { result ≡ refused_or (check_of_mode mode) (Ok tt) }
-{
-    if mode > 0o7777 {
-        return Err(Refusal::Failed(Errno::EINVAL));
-    }
-    Ok(())
 }
 
 // Of a mode that the caller gives to the inode the bits above the permission bits.

@@ -14,10 +14,10 @@ ghost use Rattle.fs_model.specs.Stands.{HoldsAll, placed};
 ghost use Rattle.fs_model.specs.States.{State};
 ghost use Rattle.open_files.specs.Tables.{open_in};
 ghost use Rattle.path_walk.specs.Answers.{FailsToRead};
-ghost use Rattle.path_walk.specs.Performing.{IsReady, IsStateOf};
+ghost use Rattle.call_parts.specs.Performing.{IsReady, IsStateOf};
 ghost use Rattle.file_calls.specs.Exiting.{Exits, LeavesAt};
 
-use crate::dropping::leave;
+use call_parts::leave;
 use fs_cred::Refusal;
 use fs_layout::Place;
 use open_files::{MAX_DESCRIPTORS, Procs};

@@ -9,9 +9,7 @@
 
 mod acls;
 mod attributes;
-mod dropping;
 mod exiting;
-mod found;
 mod listing;
 mod making;
 mod opened;
@@ -24,12 +22,9 @@ mod transfer;
 mod writes;
 
 pub use acls::{get_acl, set_acl};
-pub use attributes::{check_mode, chmod, chown};
-pub use dropping::{drop_node, leave};
+pub use attributes::{chmod, chown};
 pub use exiting::exit;
-pub use found::{find, inode_found};
 pub use listing::readdir;
-pub use making::{check_make, check_names, default_of, inherited, new_group};
 pub use opening::open;
 pub use process::{close, umask};
 pub use rights::access;

@@ -9,7 +9,7 @@ ghost use Rattle.bit_alloc.specs.Inodes.{IsSound};
 ghost use Rattle.inode_table.specs.Inodes.{IsInodeOf};
 ghost use Rattle.dir_core.specs.Slots.{name_entry};
 ghost use Rattle.path_walk.specs.Answers.{Interrupts};
-ghost use Rattle.path_walk.specs.Performing.{IsReady, Performs};
+ghost use Rattle.call_parts.specs.Performing.{IsReady, Performs};
 
 use crate::opened::directory_open;
 use dir_core::{DirFault, list};

@@ -1,136 +1,31 @@
 //! New files.
 
-ghost use Rattle.std.specs.Prelude.{◌≡◌, ◌/◌, ◌%◌, ◌==◌, nat_le, not, ◌||◌, if◌then◌else◌, Option, None, Ok, option_copied, OnOk, IfOk, IfErr, MatchResult};
-ghost use Rattle.posix_acl.specs.AccessList.{AccessList, minimal};
-ghost use Rattle.fs_layout.specs.declared.inode.TheConstants.{MAX_FILE_SIZE};
+ghost use Rattle.std.specs.Prelude.{◌≡◌, not, ◌||◌, Option, None, Ok, OnOk, IfOk, IfErr, MatchResult};
+ghost use Rattle.posix_acl.specs.AccessList.{AccessList};
 ghost use Rattle.fs_layout.specs.Images.{inode_at};
-ghost use Rattle.fs_model.specs.Births.{without_perms, masked_acl, born_acl};
-ghost use Rattle.fs_model.specs.Demands.{refuse, first_of};
+ghost use Rattle.fs_model.specs.Births.{born_acl};
+ghost use Rattle.fs_model.specs.Demands.{refuse};
 ghost use Rattle.fs_model.specs.States.{State};
-ghost use Rattle.fs_model.specs.Trees.{Tree, IsDirectoryAt};
+ghost use Rattle.fs_model.specs.Trees.{Tree};
 ghost use Rattle.sector_txn.specs.Sectors.{SameStore, IsUnchanged};
 ghost use Rattle.bit_alloc.specs.Inodes.{IsSound};
 ghost use Rattle.bit_alloc.specs.Room.{HasSpare};
 ghost use Rattle.inode_table.specs.Acls.{HasDefaultAcl};
 ghost use Rattle.inode_table.specs.Inodes.{IsInodeOf};
-ghost use Rattle.path_walk.specs.Answers.{refused_or, FailsToRead, Interrupts, IsAnswered};
-ghost use Rattle.path_walk.specs.HeldTrees.{HoldsTree};
-ghost use Rattle.file_calls.specs.Makings.{CanMake, MakesFile};
-ghost use Rattle.file_calls.specs.Openings.{make_asked, FindsIn, IsRefusedOpen, Reaches};
+ghost use Rattle.path_walk.specs.Answers.{refused_or, FailsToRead, Interrupts};
+ghost use Rattle.call_parts.specs.Makings.{CanMake, MakesFile};
+ghost use Rattle.file_calls.specs.Openings.{FindsIn, IsRefusedOpen, Reaches};
 
+use call_parts::{check_make, default_of, inherited, new_group};
 use dir_core::insert_new;
-use fs_cred::{Cred, Errno, Refusal};
-use fs_layout::{Inode, Kind, MAX_FILE_SIZE, Place};
+use fs_cred::{Errno, Refusal};
+use fs_layout::{Inode, Kind, Place};
 use fs_model::{Flags, Found};
-use inode_table::{LoadAclFault, load_default_acl, new_inode};
+use inode_table::new_inode;
 use open_files::Process;
-use path_walk::{ask_for_inode, ask_for_sectors, load_inode, permitted};
-use posix_acl::{Acl, Perms};
+use posix_acl::Acl;
 use sector_txn::Sectors;
 use std::alloc::Global;
-
-const WRITE_AND_SEARCH: Perms = Perms {
-    read: false,
-    write: true,
-    execute: true,
-};
-
-/// Asks whether a directory has place for one more slot. ENOSPC: it has none.
-pub fn check_names(directory: &Inode) -> Result<(), Refusal>
-    ensures { result ≡ refused_or (refuse Errno.ENOSPC (nat_le MAX_FILE_SIZE directory.now.size)) (Ok tt) }
-{
-    if directory.size >= MAX_FILE_SIZE {
-        return Err(Refusal::Failed(Errno::ENOSPC));
-    }
-    Ok(())
-}
-
-/// Asks all that is asked of a directory before something is made in it, and answers its inode. ENOSPC: there is no room for its
-/// sectors, its inode or its name.
-pub fn check_make<S: Sectors>(
-    alloc: Global,
-    s: &mut S,
-    place: Place,
-    cred: &Cred,
-    dir: u32,
-    step: usize,
-) -> Result<Inode, Refusal>
-    requires sound { IsSound place (S.state s.old) }
-    requires there { (t : Tree) × HoldsTree place (S.state s.old).sectors t × IsDirectoryAt t dir }
-    ensures each { (t : Tree) → HoldsTree place (S.state s.old).sectors t → IsDirectoryAt t dir
-        → IsAnswered (S.state s.old).disk (S.state s.new).disk
-        (refused_or (first_of (make_asked place (S.state s.old).sectors cred.now t dir step)) (Ok (inode_at place (S.state s.old).sectors dir))) result }
-    ensures same { IsUnchanged (S.state s.old) (S.state s.new) }
-{
-    let directory = load_inode(s, place, dir)?;
-    permitted(alloc, s, place, cred, &directory, WRITE_AND_SEARCH, 1, step)?;
-    ask_for_sectors(s, place)?;
-    ask_for_inode(s, place)?;
-    check_names(&directory)?;
-    Ok(directory)
-}
-
-// The permissions that p has and q lacks.
-fn without(p: Perms, q: Perms) -> Perms
-    ensures { result ≡ without_perms p q }
-{
-    Perms {
-        read: p.read && !q.read,
-        write: p.write && !q.write,
-        execute: p.execute && !q.execute,
-    }
-}
-
-// The permission bits of a mode without those of a umask.
-fn masked(mode: u16, umask: u16) -> u16
-    ensures { minimal result ≡ masked_acl mode umask }
-{
-    let owner = without(Perms::from_digit(mode / 64), Perms::from_digit(umask / 64));
-    let group = without(Perms::from_digit(mode / 8), Perms::from_digit(umask / 8));
-    let other = without(Perms::from_digit(mode), Perms::from_digit(umask));
-    64 * owner.digit() + 8 * group.digit() + other.digit()
-}
-
-/// What the default ACL of a directory makes of a mode, or without one the umask. ENOMEM: it finds no memory.
-pub fn inherited(
-    alloc: Global,
-    default: Option<&Acl>,
-    mode: u16,
-    umask: u16,
-) -> Result<Acl, Refusal>
-    ensures born { IfOk result (λ acl. acl ≡ born_acl (option_copied default.entry) mode umask) }
-    ensures memory { IfErr result (λ e. e ≡ Refusal.Failed Errno.ENOMEM) }
-{
-    let made = match default {
-        Some(default) => default.inherit(mode),
-        None => Acl::from_mode(alloc, masked(mode, umask)),
-    };
-    match made {
-        Ok(acl) => Ok(acl),
-        Err(_) => Err(Refusal::Failed(Errno::ENOMEM)),
-    }
-}
-
-/// The default ACL of a directory of the table. ENOMEM: it finds no memory. EIO: the disk has failed.
-pub fn default_of<S: Sectors>(
-    alloc: Global,
-    s: &mut S,
-    place: Place,
-    directory: &Inode,
-) -> Result<Option<Acl>, Refusal>
-    requires sound { IsSound place (S.state s.old) }
-    requires there { IsInodeOf place (S.state s.old).sectors directory.now }
-    requires has { (a : Option AccessList) × HasDefaultAcl (S.state s.old).sectors directory.now a }
-    ensures found { IfOk result (λ acl. (a : Option AccessList) → HasDefaultAcl (S.state s.old).sectors directory.now a → acl ≡ a) }
-    ensures err { IfErr result (Interrupts (S.state s.old).disk (S.state s.new).disk) }
-    ensures same { IsUnchanged (S.state s.old) (S.state s.new) }
-{
-    match load_default_acl(alloc, s, place, directory) {
-        Ok(default) => Ok(default),
-        Err(LoadAclFault::OutOfMemory) => Err(Refusal::Failed(Errno::ENOMEM)),
-        Err(LoadAclFault::DiskFault) => Err(Refusal::Failed(Errno::EIO)),
-    }
-}
 
 // The access ACL of what is made in a directory.
 fn new_acl<S: Sectors>(
@@ -187,17 +82,6 @@ fn make_file<S: Sectors>(
     match insert_new(s, place, dir, &mut directory, name, n) {
         Ok(()) => Ok(n),
         Err(_) => Err(Refusal::Failed(Errno::EIO)),
-    }
-}
-
-/// The group of what is made in a directory: the directory's where that has S_ISGID, else the caller's.
-pub fn new_group(directory: &Inode, cred: &Cred) -> u32
-    ensures { result ≡ (if directory.now.mode / 1024 % 2 == 1 then directory.now.gid else cred.now.gid) }
-{
-    if directory.mode / 1024 % 2 == 1 {
-        directory.gid
-    } else {
-        cred.gid()
     }
 }
 

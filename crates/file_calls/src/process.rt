@@ -1,10 +1,10 @@
 //! What a process changes of itself: POSIX.1-2017, umask() and close().
 
 ghost use Rattle.fs_model.specs.declared.call.Call.TheVariants.{Umask, Close};
-ghost use Rattle.path_walk.specs.Performing.{IsReady, Performs};
+ghost use Rattle.call_parts.specs.Performing.{IsReady, Performs};
 ghost use Rattle.file_calls.specs.Settling.{Settles};
 
-use crate::dropping::leave;
+use call_parts::leave;
 use fs_cred::Refusal;
 use fs_layout::Place;
 use fs_model::Reply;

@@ -2,14 +2,13 @@
 
 ghost use Rattle.fs_model.specs.declared.call.Call.TheVariants.{Access};
 ghost use Rattle.sector_txn.specs.Sectors.{IsUnchanged};
-ghost use Rattle.path_walk.specs.Performing.{IsReady, Performs};
+ghost use Rattle.call_parts.specs.Performing.{IsReady, Performs};
 
-use crate::found::{find, inode_found};
+use call_parts::{find, inode_found, permitted};
 use fs_cred::Refusal;
 use fs_layout::Place;
 use fs_model::{Form, Path, Reply};
 use open_files::Procs;
-use path_walk::permitted;
 use posix_acl::Perms;
 use sector_txn::Sectors;
 use std::alloc::Global;

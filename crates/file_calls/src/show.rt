@@ -5,9 +5,9 @@ ghost use Rattle.fs_model.specs.declared.call.Call.TheVariants.{Stat, Lstat, Fst
 ghost use Rattle.fs_model.specs.declared.reply.FileType.{FileType as ShownType};
 ghost use Rattle.fs_model.specs.Kinds.{type_of_kind};
 ghost use Rattle.sector_txn.specs.Sectors.{IsUnchanged};
-ghost use Rattle.path_walk.specs.Performing.{IsReady, Performs};
+ghost use Rattle.call_parts.specs.Performing.{IsReady, Performs};
 
-use crate::found::{find, inode_found};
+use call_parts::{find, inode_found};
 use fs_cred::Refusal;
 use fs_layout::{Inode, Kind, Place};
 use fs_model::{FileType, Form, Path, Reply, Status};

@@ -8,7 +8,7 @@ ghost use Rattle.fs_model.specs.Limits.{move_limit};
 ghost use Rattle.sector_txn.specs.Sectors.{IsUnchanged};
 ghost use Rattle.block_map.specs.Blocks.{IsWithin};
 ghost use Rattle.path_walk.specs.Answers.{Interrupts};
-ghost use Rattle.path_walk.specs.Performing.{IsReady, Performs};
+ghost use Rattle.call_parts.specs.Performing.{IsReady, Performs};
 
 use crate::opened::file_open;
 use block_map::read_at;

@@ -11,16 +11,17 @@ ghost use Rattle.sector_txn.specs.Sectors.{SameStore};
 ghost use Rattle.bit_alloc.specs.Inodes.{IsSound};
 ghost use Rattle.bit_alloc.specs.Room.{HasSpare};
 ghost use Rattle.path_walk.specs.Answers.{FailsToRead};
-ghost use Rattle.path_walk.specs.Performing.{IsReady, Performs};
-ghost use Rattle.file_calls.specs.Changes.{ChangesBytes};
+ghost use Rattle.call_parts.specs.Performing.{IsReady, Performs};
+ghost use Rattle.call_parts.specs.Changes.{ChangesBytes};
 
 use crate::transfer::MAX_MOVE;
 use block_map::write_at;
+use call_parts::ask_for_sectors;
 use fs_cred::{Errno, Refusal};
 use fs_layout::{Inode, MAX_FILE_SIZE, Place};
 use fs_model::{Bytes, Reply};
 use open_files::{Descriptor, Procs};
-use path_walk::{ask_for_sectors, load_inode};
+use path_walk::load_inode;
 use sector_txn::Sectors;
 
 // How many of so many bytes are written at an offset within the limit of a file.

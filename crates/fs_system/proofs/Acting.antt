@@ -20,7 +20,7 @@ use Rattle.fs_model.specs.Steps as step
 use Rattle.fs_model.specs.Stops.{asks_stable}
 use Rattle.fs_model.proofs.Unchanged.{open_stays}
 use Rattle.open_files.proofs.Slots.{absent, any_with_entry}
-use Rattle.file_calls.proofs.ByDescriptor.{has_open}
+use Rattle.call_parts.proofs.ByDescriptor.{has_open}
 
 -- ---- a machine that is halted
 

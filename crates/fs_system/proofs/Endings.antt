@@ -37,8 +37,8 @@ use Rattle.fs_model.proofs.StepsProcesses.{without-IsMap, in_without, length-wit
 use Rattle.fs_model.proofs.StepsSwept.{MayBeLeft, left_is_state, tree_may_be_left}
 use Rattle.fs_model.proofs.Swept.{swept_is_tree}
 use Rattle.fs_model.proofs.Taken.{count_may_be_free}
-use Rattle.path_walk.specs.Performing.{IsStateOf, IsDone, IsRefused, chosen}
-use Rattle.path_walk.specs.Performing as why
+use Rattle.call_parts.specs.Performing.{IsStateOf, IsDone, IsRefused, chosen}
+use Rattle.call_parts.specs.Performing as why
 use Rattle.file_calls.specs.Exiting.{IsExited, IsNotExited}
 use Rattle.file_calls.specs.Exiting as ending
 use Rattle.file_calls.proofs.Endings.{exit_after}

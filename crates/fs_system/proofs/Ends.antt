@@ -21,7 +21,7 @@ use Rattle.fs_model.specs.Processes.{Desks}
 use Rattle.fs_model.specs.States.{State, IsState}
 use Rattle.fs_model.specs.Steps.{Step, is_of_machine, firm_refusal}
 use Rattle.fs_model.specs.Stops.{asks_stable, makes_stable, is_io_error}
-use Rattle.path_walk.specs.Performing.{IsStateOf}
+use Rattle.call_parts.specs.Performing.{IsStateOf}
 use Rattle.fs_system.specs.Doing.{Does, IsFound}
 use Rattle.fs_system.specs.Layouts.{IsDiskOf}
 use Rattle.fs_system.specs.Seen.{EachStandsForSome, StandsForSome, EachStandsFor, IsRunning}

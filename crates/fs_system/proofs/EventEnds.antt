@@ -20,7 +20,7 @@ use Rattle.fs_model.specs.Changes.{changed, swept}
 use Rattle.fs_model.specs.Processes.{Desks}
 use Rattle.fs_model.specs.Stands.{placed}
 use Rattle.fs_model.specs.States.{State}
-use Rattle.path_walk.specs.Performing.{IsReady, IsStateOf}
+use Rattle.call_parts.specs.Performing.{IsReady, IsStateOf}
 use Rattle.fs_system.specs.Doing.{Does, IsFound}
 use Rattle.fs_system.specs.Layouts.{IsDiskOf}
 use Rattle.fs_system.specs.Seen.{IsRunning}

@@ -29,7 +29,7 @@ use Rattle.fs_model.proofs.Unchanged.{fitting_stays, root_directory, nothing_to_
 use Rattle.path_walk.specs.HeldTrees.{HoldsTree}
 use Rattle.path_walk.proofs.HeldNodes.{held_node}
 use Rattle.path_walk.proofs.Kept.{kept}
-use Rattle.file_calls.specs.Dropping.{LeavesInode, stays_open, has_name, was_free, goes}
+use Rattle.call_parts.specs.Dropping.{LeavesInode, stays_open, has_name, was_free, goes}
 use Rattle.fs_system.specs.Sweeping.{IsNamedBelow}
 
 -- ---- without nameless files

@@ -8,7 +8,7 @@ use Rattle.sector_txn.specs.Sectors.{TxnState}
 use Rattle.fs_model.specs.declared.call.Call.{Call}
 use Rattle.fs_model.specs.declared.reply.Reply.{Reply}
 use Rattle.fs_model.specs.Processes.{Desks}
-use Rattle.path_walk.specs.Performing.{Performs}
+use Rattle.call_parts.specs.Performing.{Performs}
 
 pub performed : (p : Place) (pid : ℕ) (call this : Call) (old new : TxnState) (before now : Desks) (result : Result Reply Refusal) → call ≡ this
     → Performs p pid this old new before now result → Performs p pid call old new before now result

@@ -28,8 +28,8 @@ use Rattle.fs_model.specs.Stands.{placed, room_of}
 use Rattle.fs_model.specs.Trees.{Tree, Room}
 use Rattle.fs_model.proofs.Swept.{pruned_twice}
 use Rattle.path_walk.specs.HeldTrees.{HoldsTree}
-use Rattle.file_calls.specs.Dropping.{LeavesInode}
-use Rattle.file_calls.proofs.Leavings.{left_super}
+use Rattle.call_parts.specs.Dropping.{LeavesInode}
+use Rattle.call_parts.proofs.Leavings.{left_super}
 use Rattle.fs_system.specs.Layouts.{IsDiskOf}
 use Rattle.fs_system.specs.Seen.{StandsFor, EachStandsFor}
 use Rattle.fs_system.specs.Sweeping.{IsStored, StandsPruned, HasTree, IsNamedBelow, FreesNameless, KeepsTree}

@@ -4,8 +4,7 @@
 --     Config, Goes, History        a disk with a file system or without one, one event, and several
 --     on_disk        the same, on another disk
 --     Follows, HistoriesAreRuns        the machine goes along
-use Rattle.std.specs.Prelude.{◌≡◌, ◌≤◌, ◌⊎◌, ◌+◌, ◌-◌, ◌^◌, ℕ, List, [], ◌∷◌, false, IsTrue, IsFalse, Contains}
-use Rattle.std.specs.Prelude.{Option}
+use Rattle.std.specs.Prelude.{◌≡◌, ◌≤◌, ◌⊎◌, ◌+◌, ◌-◌, ◌^◌, ℕ, List, [], ◌∷◌, false, IsTrue, IsFalse, Contains, Option}
 use Rattle.sector_disk.specs.Disk.{DiskState, Image, IsImage, IsSame, HasFailed}
 use Rattle.fs_model.specs.declared.reply.Reply.{Reply}
 use Rattle.fs_model.specs.declared.event.Event.{Event}

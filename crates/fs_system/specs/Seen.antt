@@ -17,7 +17,7 @@ use Rattle.fs_model.specs.Changes.{pruned}
 use Rattle.fs_model.specs.Stands.{Stands}
 use Rattle.fs_model.specs.Processes.{Desks}
 use Rattle.fs_model.specs.States.{State}
-use Rattle.path_walk.specs.Performing.{IsStateOf}
+use Rattle.call_parts.specs.Performing.{IsStateOf}
 use Rattle.fs_system.specs.Layouts.{IsDiskOf}
 
 -- ---- what images stand for

@@ -1,7 +1,7 @@
 //! The calls of processes, each of them performed in a transaction.
 
 ghost use Rattle.std.specs.Prelude.{◌≡◌, false, IsTrue};
-ghost use Rattle.path_walk.specs.Performing.{IsReady, Performs};
+ghost use Rattle.call_parts.specs.Performing.{IsReady, Performs};
 ghost use Rattle.fs_system.specs.Serving.{is_showing, is_setting, is_naming};
 
 use file_calls::{

@@ -12,7 +12,7 @@ ghost use Rattle.fs_model.specs.Trees.{Tree};
 ghost use Rattle.fs_system.specs.Seen.{EachStandsFor};
 ghost use Rattle.fs_system.specs.Sweeping.{IsStored, HasTree, FreesNameless, KeepsTree};
 
-use file_calls::leave;
+use call_parts::leave;
 use fs_layout::{Place, ROOT};
 use sector_disk::Disk;
 use sector_txn::Store;

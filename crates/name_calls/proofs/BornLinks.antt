@@ -41,14 +41,14 @@ use Rattle.fs_model.proofs.StepsDemands.{first_met, then_met}
 use Rattle.fs_model.proofs.StepsMaking.{link_is_born}
 use Rattle.fs_model.proofs.StepsOfMaking.{is_new_if, target_is}
 use Rattle.path_walk.specs.Answers.{refused_or}
-use Rattle.path_walk.specs.Paths.{scene_at, HasFound}
-use Rattle.path_walk.specs.Performing.{IsStateOf, Performs}
-use Rattle.path_walk.proofs.ByPath.{IsByPath}
-use Rattle.path_walk.proofs.Calling.{met_ok, refused_err}
-use Rattle.path_walk.proofs.HeldChanges.{new_link_held}
-use Rattle.file_calls.specs.Openings.{make_asked}
-use Rattle.file_calls.proofs.Changed.{IsChange, argument_performs}
-use Rattle.name_calls.specs.NewNodes.{MakesNode, TakesInode, link_made, link_name_asked}
+use Rattle.call_parts.specs.Paths.{scene_at, HasFound}
+use Rattle.call_parts.specs.Performing.{IsStateOf, Performs}
+use Rattle.call_parts.proofs.ByPath.{IsByPath}
+use Rattle.call_parts.proofs.Calling.{met_ok, refused_err}
+use Rattle.call_parts.proofs.HeldChanges.{new_link_held}
+use Rattle.call_parts.specs.Makings.{make_asked}
+use Rattle.call_parts.proofs.Changed.{IsChange, argument_performs}
+use Rattle.call_parts.specs.NewNodes.{MakesNode, TakesInode, link_made, link_name_asked}
 use Rattle.name_calls.proofs.NewNames.{caller_fits, parent_fits, space_met, node_made}
 
 pub target_size : (target : List ℕ) → IsTarget target → AllowsSize Link (length target)

@@ -45,18 +45,18 @@ use Rattle.fs_model.proofs.StepsDemands.{unrefused}
 use Rattle.fs_model.proofs.Unchanged.{open_stays}
 use Rattle.path_walk.specs.Answers.{refused_or, IsAnswered}
 use Rattle.path_walk.specs.HeldTrees.{HoldsTree, IsThere, HasAccess}
-use Rattle.path_walk.specs.Paths.{scene_at, HasFound}
-use Rattle.path_walk.specs.Performing.{IsStateOf, Performs}
+use Rattle.call_parts.specs.Paths.{scene_at, HasFound}
+use Rattle.call_parts.specs.Performing.{IsStateOf, Performs}
 use Rattle.path_walk.specs.Walked.{walk_of}
-use Rattle.path_walk.proofs.ByPath.{IsByPath, has_found}
-use Rattle.path_walk.proofs.Calling.{or_else-none, first_asked, next_asked, both_met, met_ok, same_process, state_kept, found_firm, found_late, found_after}
+use Rattle.call_parts.proofs.ByPath.{IsByPath, has_found}
+use Rattle.call_parts.proofs.Calling.{or_else-none, first_asked, next_asked, both_met, met_ok, same_process, state_kept, found_firm, found_late, found_after}
 use Rattle.path_walk.proofs.HeldNodes.{held_kind}
 use Rattle.path_walk.proofs.Kept.{same_map}
-use Rattle.file_calls.proofs.ByDescriptor.{still_open}
-use Rattle.file_calls.proofs.Followed.{IsAccessed, accessed_is}
-use Rattle.file_calls.proofs.OpenNew.{dir_access, dir_held}
-use Rattle.file_calls.proofs.Owned.{IsNode, node_of}
-use Rattle.file_calls.proofs.Shown.{IsInode}
+use Rattle.call_parts.proofs.ByDescriptor.{still_open}
+use Rattle.call_parts.proofs.Followed.{IsAccessed, accessed_is}
+use Rattle.call_parts.proofs.MakeAsked.{dir_access, dir_held}
+use Rattle.call_parts.proofs.Ownership.{IsNode, node_of}
+use Rattle.call_parts.proofs.Shown.{IsInode}
 use Rattle.name_calls.specs.Entering.{enter_asked}
 
 -- ---- its row

@@ -17,9 +17,9 @@ use Rattle.fs_model.specs.StoredNodes.{HoldsNode}
 use Rattle.fs_model.specs.Trees.{Tree, names_of, parent}
 use Rattle.path_walk.specs.HeldTrees.{HoldsTree}
 use Rattle.path_walk.proofs.HeldNodes.{held_node, default_says}
-use Rattle.file_calls.proofs.OpenMade.{set_group_says, default_is}
-use Rattle.file_calls.proofs.Shown.{the_node_is}
-use Rattle.name_calls.specs.NewNodes.{IsNewIn, directory_made, link_made}
+use Rattle.call_parts.proofs.NewFile.{set_group_says, default_is}
+use Rattle.call_parts.proofs.Shown.{the_node_is}
+use Rattle.call_parts.specs.NewNodes.{IsNewIn, directory_made, link_made}
 
 sticky_says : (s g : Bool) → ((cond s 512 0 + cond g 1024 0) / 512 % 2 == 1) ≡ s
 sticky_says true true = refl

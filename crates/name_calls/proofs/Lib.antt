@@ -1,9 +1,7 @@
 pub mod BornDirectories
 pub mod BornLinks
-pub mod ByTwoPaths
 pub mod Droppings
 pub mod Entered
-pub mod FoundBoth
 pub mod Inherited
 pub mod LinkAsked
 pub mod Linkings

@@ -1,26 +1,20 @@
 -- What link asks.
---     dir_denied, dir_granted        write and search on a directory
---     room_few, room_crowded, room_met        room for a name
 --     place_denied, place_many, place_full, place_met        all of the directory
 --     kind_says, source_special, source_absent, source_other, source_all_met, source_inode        what is to get the name
 --     source_refuses, name_refuses, place_refuses, link_asked_met        the whole
-use Rattle.std.specs.Prelude.{◌≡◌, ℕ, ◌-◌, nat_lt, nat_le, Bool, not, ◌&&◌, List, [], ◌∷◌, ◌++◌, length, Option, None, is_some, IsFalse, Result, Ok, Err}
+use Rattle.std.specs.Prelude.{◌≡◌, ℕ, ◌-◌, nat_lt, nat_le, Bool, not, ◌&&◌, List, [], ◌∷◌, ◌++◌, length, Option, None, is_some, IsFalse, Ok, Err}
 use Rattle.std.proofs.Common.{sym, ap, subst, ◌∙◌, inl}
 use Rattle.sector_disk.specs.Disk.{DiskState}
 use Rattle.fs_cred.specs.declared.errno.Errno.TheVariants.{EPERM, ENOTDIR, EMLINK, ENOSPC}
-use Rattle.fs_cred.specs.declared.refusal.Need.TheVariants.{Perm}
 use Rattle.fs_cred.specs.declared.refusal.Refusal.{Refusal}
-use Rattle.fs_cred.specs.declared.rule.Rule.{Rule}
 use Rattle.fs_cred.specs.Credentials.{Credential}
-use Rattle.fs_cred.specs.Verdicts.{verdict}
 use Rattle.fs_layout.specs.declared.inode.Inode.{Inode}
-use Rattle.fs_layout.specs.declared.inode.TheConstants.{MAX_FILE_SIZE}
 use Rattle.fs_layout.specs.declared.place.Place.{Place}
 use Rattle.fs_layout.specs.Bytes.{SectorMap}
-use Rattle.fs_layout.specs.Images.{inode_at, free_sectors}
+use Rattle.fs_layout.specs.Images.{inode_at}
 use Rattle.fs_model.specs.declared.walk.Found.{Found}
 use Rattle.fs_model.specs.Births.{the_node}
-use Rattle.fs_model.specs.Demands.{Demand, refuse, first_of, decided, permission_of, permission_on, write_and_search}
+use Rattle.fs_model.specs.Demands.{Demand, refuse, first_of, permission_on, write_and_search}
 use Rattle.fs_model.specs.Limits.{names_limit, entries_limit, least_free}
 use Rattle.fs_model.specs.NameCalls.{link_demands}
 use Rattle.fs_model.specs.Nodes.{Node, is_directory, names_in}
@@ -28,74 +22,20 @@ use Rattle.fs_model.specs.Processes.{Process, Desks}
 use Rattle.fs_model.specs.Rules.{is_directory_kind}
 use Rattle.fs_model.specs.Scenes.{is_found, is_special, number, must_be_there}
 use Rattle.fs_model.specs.States.{State}
-use Rattle.fs_model.specs.Trees.{Tree, names_of, IsDirectoryAt}
+use Rattle.fs_model.specs.Trees.{Tree, names_of}
 use Rattle.fs_model.proofs.StepsDemands.{first_met, then_met, unrefused, and_false}
 use Rattle.path_walk.specs.Answers.{refused_or, IsAnswered}
-use Rattle.path_walk.specs.HeldTrees.{HoldsTree}
-use Rattle.path_walk.proofs.Calling.{state_tree, met_ok, or_else-none, first_asked, next_asked, both_met}
-use Rattle.file_calls.proofs.Followed.{accessed_is}
-use Rattle.file_calls.proofs.OpenFound.{checked, refused_as}
-use Rattle.file_calls.proofs.OpenNew.{dir_access, names_are, size_as}
-use Rattle.file_calls.proofs.Owned.{IsNode, node_of, some_asked, others_asked, all_met}
-use Rattle.file_calls.proofs.Shown.{IsInode, is_inode}
-use Rattle.name_calls.specs.Linking.{source_asked, room_asked, place_asked}
-use Rattle.name_calls.specs.NewNodes.{link_name_asked}
-use Rattle.name_calls.specs.TwoPaths.{scene_with, FindsBoth}
-use Rattle.name_calls.proofs.FoundBoth.{first_there}
+use Rattle.call_parts.proofs.Calling.{state_tree, met_ok, first_asked, next_asked, both_met}
+use Rattle.call_parts.proofs.Checked.{checked, refused_as}
+use Rattle.call_parts.proofs.Ownership.{IsNode, node_of, some_asked, others_asked, all_met}
+use Rattle.call_parts.proofs.Shown.{IsInode, is_inode}
+use Rattle.name_calls.specs.Linking.{source_asked, place_asked}
+use Rattle.call_parts.specs.Makings.{room_asked}
+use Rattle.call_parts.specs.NewNodes.{link_name_asked}
+use Rattle.call_parts.specs.TwoPaths.{scene_with, FindsBoth}
+use Rattle.call_parts.proofs.FoundBoth.{first_there}
 use Rattle.name_calls.proofs.RemovalAsked.{body_kind_is}
 use Rattle.name_calls.proofs.Takings.{field_is}
-
--- ---- write and search on a directory
-
-module _ {p : Place} {map : SectorMap} {t : Tree} (h : HoldsTree p map t) (dir : ℕ) (d : IsDirectoryAt t dir) (cred : Credential) (walk step : ℕ) where
-  abbrev pub decision : Result Rule Refusal
-  decision =
-      refused_or {A = Rule} (decided walk step (Perm write_and_search) (verdict cred (dir_access h dir d cred step).access write_and_search))
-      (Ok (verdict cred (dir_access h dir d cred step).access write_and_search).rule)
-
-  asked_is : permission_on cred t dir write_and_search walk step ≡ decided walk step (Perm write_and_search) (verdict cred (dir_access h dir d cred step).access write_and_search)
-  asked_is = ap (permission_of cred write_and_search walk step) (accessed_is t dir (dir_access h dir d cred step))
-
-  pub dir_denied : {A : Type 0} (x : A) (e : Refusal) (old new : DiskState) → IsAnswered old new decision (Err e)
-      → IsAnswered old new (refused_or (permission_on cred t dir write_and_search walk step) (Ok x)) (Err e)
-  dir_denied {A} x e old new is =
-      let rule = (verdict cred (dir_access h dir d cred step).access write_and_search).rule in
-      refused_as {A = A} {B = Rule} (permission_on cred t dir write_and_search walk step) rule x e old new
-      (subst (λ (o : Demand). IsAnswered old new (refused_or {A = Rule} o (Ok rule)) (Err e)) (sym asked_is) is)
-
-  pub dir_granted : (rule : Rule) → decision ≡ Ok rule → permission_on cred t dir write_and_search walk step ≡ None
-  dir_granted rule is =
-      asked_is
-      ∙ (met_ok {A = Rule} (decided walk step (Perm write_and_search) (verdict cred (dir_access h dir d cred step).access write_and_search))
-      (verdict cred (dir_access h dir d cred step).access write_and_search).rule rule is).0
-
--- ---- room for a name
-
-module _ {p : Place} {map : SectorMap} {t : Tree} (h : HoldsTree p map t) (dir : ℕ) (d : IsDirectoryAt t dir) where
-  abbrev sectors : Demand
-  sectors = refuse ENOSPC (nat_lt (free_sectors p map) least_free)
-
-  abbrev slots : Demand
-  slots = refuse ENOSPC (nat_le entries_limit (length (names_in (the_node t dir).body)))
-
-  pub room_few : (e : Refusal) (old new : DiskState) → IsAnswered old new (checked (refuse ENOSPC (nat_lt (free_sectors p map) least_free))) (Err e)
-      → IsAnswered old new (checked (first_of (room_asked p map t dir))) (Err e)
-  room_few e old new is = first_asked {A = Unit {0}} {B = Unit {0}} sectors (slots ∷ []) tt tt e old new is
-
-  module _ (enough : checked (refuse ENOSPC (nat_lt (free_sectors p map) least_free)) ≡ Ok tt) {v : Inode} (is : v ≡ inode_at p map dir) where
-    enough_met : sectors ≡ None
-    enough_met = (met_ok {A = Unit {0}} sectors tt tt enough).0
-
-    pub room_crowded : (e : Refusal) (old new : DiskState) → checked (refuse ENOSPC (nat_le MAX_FILE_SIZE v.size)) ≡ Err e
-        → IsAnswered old new (checked (first_of (room_asked p map t dir))) (Err e)
-    room_crowded e old new full =
-        next_asked {A = Unit {0}} sectors (slots ∷ []) tt e old new enough_met
-        (first_asked {A = Unit {0}} {B = Unit {0}} slots [] tt tt e old new (inl (ap checked (sym (names_are h dir d)) ∙ size_as is full)))
-
-    pub room_met : checked (refuse ENOSPC (nat_le MAX_FILE_SIZE v.size)) ≡ Ok tt → checked (first_of (room_asked p map t dir)) ≡ Ok tt
-    room_met free =
-        ap checked (both_met sectors (slots ∷ []) enough_met
-        (or_else-none slots ∙ sym (names_are h dir d) ∙ (met_ok {A = Unit {0}} (refuse ENOSPC (nat_le MAX_FILE_SIZE (inode_at p map dir).size)) tt tt (size_as is free)).0))
 
 -- ---- all of the directory
 

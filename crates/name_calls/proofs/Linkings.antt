@@ -41,19 +41,19 @@ use Rattle.fs_model.proofs.StepsAdding.{GivesName}
 use Rattle.fs_model.proofs.StepsDemands.{first_met, then_met, unrefused}
 use Rattle.fs_model.proofs.StepsFound.{IsNameAt}
 use Rattle.path_walk.specs.Answers.{refused_or}
-use Rattle.path_walk.specs.Performing.{IsStateOf}
-use Rattle.path_walk.proofs.Calling.{state_tree, first_of-append, met_ok}
-use Rattle.path_walk.proofs.HeldChanges.{names_held, counted_held}
+use Rattle.call_parts.specs.Performing.{IsStateOf}
+use Rattle.call_parts.proofs.Calling.{state_tree, first_of-append, met_ok}
+use Rattle.call_parts.proofs.HeldChanges.{names_held, counted_held}
 use Rattle.path_walk.proofs.HeldNodes.{held_node, names_say}
-use Rattle.file_calls.proofs.Changed.{IsChange}
-use Rattle.file_calls.proofs.Shown.{IsInode, the_node_is}
-use Rattle.name_calls.specs.Dropping.{Counts}
+use Rattle.call_parts.proofs.Changed.{IsChange}
+use Rattle.call_parts.proofs.Shown.{IsInode, the_node_is}
+use Rattle.call_parts.specs.Dropping.{Counts}
 use Rattle.name_calls.specs.Linking.{source_asked, MayLink}
-use Rattle.name_calls.specs.NewNodes.{MayBeNamed, NamesInode, link_name_asked}
-use Rattle.name_calls.specs.TwoPaths.{scene_with, FindsBoth}
+use Rattle.call_parts.specs.NewNodes.{MayBeNamed, NamesInode, link_name_asked}
+use Rattle.call_parts.specs.TwoPaths.{scene_with, FindsBoth}
 use Rattle.name_calls.proofs.BornLinks.{is_link_name}
-use Rattle.name_calls.proofs.ByTwoPaths.{IsByTwoPaths}
-use Rattle.name_calls.proofs.FoundBoth.{second_walked}
+use Rattle.call_parts.proofs.ByTwoPaths.{IsByTwoPaths}
+use Rattle.call_parts.proofs.FoundBoth.{second_walked}
 use Rattle.name_calls.proofs.LinkAsked.{source_inode, source_node, source_kind, source_names}
 use Rattle.name_calls.proofs.Takings.{field_is}
 

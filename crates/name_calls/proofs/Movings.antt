@@ -45,15 +45,15 @@ use Rattle.fs_model.proofs.StepsMoving.{MovesName, Between, moves_loses}
 use Rattle.fs_model.proofs.StepsNaming.{renamed_node, renamed, are_names}
 use Rattle.fs_model.proofs.StepsParents.{names_or, directory_named}
 use Rattle.fs_model.proofs.StepsUp.{is_outside}
-use Rattle.path_walk.specs.Performing.{IsStateOf}
-use Rattle.path_walk.proofs.Calling.{state_tree}
-use Rattle.path_walk.proofs.HeldChanges.{names_held, moved_held}
+use Rattle.call_parts.specs.Performing.{IsStateOf}
+use Rattle.call_parts.proofs.Calling.{state_tree}
+use Rattle.call_parts.proofs.HeldChanges.{names_held, moved_held}
 use Rattle.path_walk.proofs.HeldNodes.{Stands, stands, held_node, held_names, held_kind, names_say}
 use Rattle.path_walk.proofs.Kept.{kept, kept_back}
 use Rattle.name_calls.specs.Dropping.{LosesName}
+use Rattle.call_parts.specs.Dropping.{RemovesName}
 use Rattle.name_calls.specs.Moving.{MayMove, MayLead, ChangesNames, MovesEntry, within, across, ParentFollows, goes, stays}
-use Rattle.name_calls.specs.NewNodes.{NamesInode}
-use Rattle.name_calls.specs.Removing.{RemovesName}
+use Rattle.call_parts.specs.NewNodes.{NamesInode}
 use Rattle.name_calls.specs.Renaming.{inode_there}
 use Rattle.name_calls.proofs.Takings.{field_named, left_counts, left_held, left_drops}
 

@@ -40,21 +40,20 @@ use Rattle.fs_model.proofs.StepsFound.{IsNameAt}
 use Rattle.fs_model.proofs.StepsMaking.{IsNewborn}
 use Rattle.fs_model.proofs.StepsOfMaking.{dir_is_there}
 use Rattle.path_walk.specs.Answers.{refused_or, IsAnswered}
-use Rattle.path_walk.specs.Paths.{scene_at, HasFound}
-use Rattle.path_walk.specs.Performing.{IsStateOf}
-use Rattle.path_walk.proofs.Calling.{state_tree, met_ok}
-use Rattle.path_walk.proofs.HeldChanges.{names_held}
+use Rattle.call_parts.specs.Paths.{scene_at, HasFound}
+use Rattle.call_parts.specs.Performing.{IsStateOf}
+use Rattle.call_parts.proofs.Calling.{state_tree, met_ok}
+use Rattle.call_parts.proofs.HeldChanges.{names_held}
 use Rattle.path_walk.proofs.HeldNodes.{names_say}
 use Rattle.path_walk.proofs.Kept.{is_err}
-use Rattle.file_calls.specs.Makings.{CanMake}
-use Rattle.file_calls.specs.Openings.{make_asked}
-use Rattle.file_calls.proofs.Changed.{IsChange}
-use Rattle.file_calls.proofs.Makeable.{found_new, has_few}
-use Rattle.file_calls.proofs.NewFile.{dir_below, dir_still_held, nothing_stands}
-use Rattle.file_calls.proofs.OpenFound.{refused_as}
-use Rattle.file_calls.proofs.Owned.{others_asked, all_met}
-use Rattle.file_calls.proofs.Shown.{the_node_is}
-use Rattle.name_calls.specs.NewNodes.{MayBeNamed, IsMade, IsNewIn, MakesNode, TakesInode}
+use Rattle.call_parts.specs.Makings.{CanMake, make_asked}
+use Rattle.call_parts.proofs.Changed.{IsChange}
+use Rattle.call_parts.proofs.Makeable.{found_new, has_few}
+use Rattle.call_parts.proofs.NewFile.{dir_below, dir_still_held, nothing_stands}
+use Rattle.call_parts.proofs.Checked.{refused_as}
+use Rattle.call_parts.proofs.Ownership.{others_asked, all_met}
+use Rattle.call_parts.proofs.Shown.{the_node_is}
+use Rattle.call_parts.specs.NewNodes.{MayBeNamed, IsMade, IsNewIn, MakesNode, TakesInode}
 
 module _ {p : Place} {map : SectorMap} {t : Tree} {dir : ℕ} {name : List ℕ} (can : CanMake p map t dir name) where
   pub room_then : (mid : SectorMap) (n : ℕ) (x : Placed) → TakesInode p n x map mid → free_sectors p map ≤ free_sectors p mid + 2 → MayBeNamed p mid dir name

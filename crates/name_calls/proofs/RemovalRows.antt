@@ -37,14 +37,14 @@ use Rattle.fs_model.proofs.StepsDemands.{first_met, then_met, unrefused, and_fal
 use Rattle.fs_model.proofs.StepsFound.{IsNameAt, IsWalked, is_walked}
 use Rattle.fs_model.proofs.StepsOfRemoving.{empty_if}
 use Rattle.path_walk.specs.Answers.{refused_or, IsAnswered}
-use Rattle.path_walk.specs.Paths.{scene_at, HasFound}
-use Rattle.path_walk.specs.Performing.{IsStateOf}
-use Rattle.path_walk.proofs.ByPath.{IsByPath}
-use Rattle.path_walk.proofs.Calling.{state_tree, found_there, first_of-append, met_ok}
-use Rattle.file_calls.proofs.Changed.{IsChange}
-use Rattle.file_calls.proofs.OpenFound.{checked, refused_as}
-use Rattle.file_calls.proofs.Owned.{IsNode, node_of, some_asked, others_asked, all_met}
-use Rattle.file_calls.proofs.Shown.{IsInode, is_inode}
+use Rattle.call_parts.specs.Paths.{scene_at, HasFound}
+use Rattle.call_parts.specs.Performing.{IsStateOf}
+use Rattle.call_parts.proofs.ByPath.{IsByPath}
+use Rattle.call_parts.proofs.Calling.{state_tree, found_there, first_of-append, met_ok}
+use Rattle.call_parts.proofs.Changed.{IsChange}
+use Rattle.call_parts.proofs.Checked.{checked, refused_as}
+use Rattle.call_parts.proofs.Ownership.{IsNode, node_of, some_asked, others_asked, all_met}
+use Rattle.call_parts.proofs.Shown.{IsInode, is_inode}
 use Rattle.name_calls.specs.Removing.{FindsName, IsNamedThere, removal_asked, last_asked, directory_asked, MayGo}
 use Rattle.name_calls.proofs.RemovalAsked.{body_kind_is}
 

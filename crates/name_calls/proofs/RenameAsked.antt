@@ -20,11 +20,11 @@ use Rattle.fs_model.specs.Scenes.{is_found, number, must_be_there}
 use Rattle.fs_model.specs.Trees.{Tree}
 use Rattle.path_walk.specs.Answers.{refused_or, IsAnswered}
 use Rattle.path_walk.specs.HeldTrees.{HoldsTree, IsThere}
-use Rattle.path_walk.proofs.Calling.{met_ok, or_else-none, first_asked, next_asked, both_met}
+use Rattle.call_parts.proofs.Calling.{met_ok, or_else-none, first_asked, next_asked, both_met}
 use Rattle.path_walk.proofs.HeldNodes.{stands, held_kind}
-use Rattle.file_calls.proofs.OpenFound.{checked}
-use Rattle.file_calls.proofs.Owned.{some_asked, others_asked, all_met}
-use Rattle.file_calls.proofs.Shown.{IsInode, the_node_is}
+use Rattle.call_parts.proofs.Checked.{checked}
+use Rattle.call_parts.proofs.Ownership.{some_asked, others_asked, all_met}
+use Rattle.call_parts.proofs.Shown.{IsInode, the_node_is}
 use Rattle.name_calls.specs.Renaming.{ends_asked, is_other, slash_asked, names_asked, kinds_asked, inode_there, other_kind, directory_kind, slash_told, replacing_asked}
 
 module _ {p : Place} {map : SectorMap} {t : Tree} (h : HoldsTree p map t) where

@@ -36,20 +36,20 @@ use Rattle.fs_model.proofs.StepsFound.{IsNameAt}
 use Rattle.fs_model.proofs.StepsOfRename.{IsRenamed, names_say, rename_asks, others, space_met, has_room, replaced_empty, replaced_unused, outside}
 use Rattle.fs_model.proofs.StepsParents.{names_or}
 use Rattle.path_walk.specs.Answers.{refused_or, IsAnswered}
-use Rattle.path_walk.specs.Performing.{IsStateOf}
-use Rattle.path_walk.proofs.Calling.{first_of-append, met_ok}
+use Rattle.call_parts.specs.Performing.{IsStateOf}
+use Rattle.call_parts.proofs.Calling.{first_of-append, met_ok}
 use Rattle.path_walk.specs.HeldTrees.{IsThere}
-use Rattle.file_calls.proofs.Changed.{IsChange}
-use Rattle.file_calls.proofs.OpenFound.{refused_as}
-use Rattle.file_calls.proofs.Owned.{some_asked, others_asked, all_met}
-use Rattle.file_calls.proofs.Shown.{number_of, the_node_is}
+use Rattle.call_parts.proofs.Changed.{IsChange}
+use Rattle.call_parts.proofs.Checked.{refused_as}
+use Rattle.call_parts.proofs.Ownership.{some_asked, others_asked, all_met}
+use Rattle.call_parts.proofs.Shown.{number_of, the_node_is}
 use Rattle.name_calls.specs.Moving.{MayMove}
 use Rattle.name_calls.specs.Removing.{IsNamedThere}
 use Rattle.name_calls.specs.Renaming.{names_asked, inode_there}
 use Rattle.name_calls.specs.Replacing.{IsToRename, same_number, move_asked}
-use Rattle.name_calls.specs.TwoPaths.{scene_with, FindsBoth}
-use Rattle.name_calls.proofs.ByTwoPaths.{IsByTwoPaths}
-use Rattle.name_calls.proofs.FoundBoth.{first_there, second_there, first_walked, second_walked, is_scene}
+use Rattle.call_parts.specs.TwoPaths.{scene_with, FindsBoth}
+use Rattle.call_parts.proofs.ByTwoPaths.{IsByTwoPaths}
+use Rattle.call_parts.proofs.FoundBoth.{first_there, second_there, first_walked, second_walked, is_scene}
 
 -- ---- the row
 

@@ -44,18 +44,19 @@ use Rattle.fs_model.specs.States.{State}
 use Rattle.fs_model.specs.Trees.{Tree, is_within, IsDirectoryAt}
 use Rattle.path_walk.specs.Answers.{refused_or, IsAnswered}
 use Rattle.path_walk.specs.HeldTrees.{HoldsTree, IsThere, HasAccess}
-use Rattle.path_walk.proofs.Calling.{state_tree, met_ok, or_else-none, first_asked, next_asked, both_met}
+use Rattle.call_parts.proofs.Calling.{state_tree, met_ok, or_else-none, first_asked, next_asked, both_met}
 use Rattle.path_walk.proofs.Kept.{kept}
-use Rattle.file_calls.proofs.Followed.{accessed_is}
-use Rattle.file_calls.proofs.OpenFound.{checked, refused_as}
-use Rattle.file_calls.proofs.OpenNew.{dir_access, dir_held}
-use Rattle.file_calls.proofs.Owned.{IsNode, node_of, some_asked, others_asked, all_met}
-use Rattle.file_calls.proofs.Shown.{IsInode}
-use Rattle.name_calls.specs.Linking.{room_asked}
-use Rattle.name_calls.specs.Removing.{sticky_asked, directory_asked}
+use Rattle.call_parts.proofs.Followed.{accessed_is}
+use Rattle.call_parts.proofs.Checked.{checked, refused_as}
+use Rattle.call_parts.proofs.MakeAsked.{dir_access, dir_held}
+use Rattle.call_parts.proofs.Ownership.{IsNode, node_of, some_asked, others_asked, all_met}
+use Rattle.call_parts.proofs.Shown.{IsInode}
+use Rattle.call_parts.specs.Makings.{room_asked}
+use Rattle.call_parts.specs.Asked.{sticky_asked}
+use Rattle.name_calls.specs.Removing.{directory_asked}
 use Rattle.name_calls.specs.Renaming.{inode_there, replacing_asked}
 use Rattle.name_calls.specs.Replacing.{IsToRename, sticky_there, below_asked, replaced_asked}
-use Rattle.name_calls.specs.TwoPaths.{scene_with}
+use Rattle.call_parts.specs.TwoPaths.{scene_with}
 use Rattle.name_calls.proofs.RemovalAsked.{body_kind_is, yields}
 use Rattle.name_calls.proofs.RenameAsked.{kind_at, first_kind, kinds_are}
 

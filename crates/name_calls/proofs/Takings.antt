@@ -1,34 +1,26 @@
 -- A name that is taken from its directory, and what it led to.
---     name_removed, not_removed        what dir_core promises of it
 --     named_there, is_number, target_held, target_named        what stands before
 --     target_same, target_held_then        what it leads to stands as before, once the name is gone from the directory
 --     field_named, field_is        the count of names that an inode stores
 --     left_counts, left_held, left_drops        what is left of a node that loses a name
 --     taken_holds        the map holds the tree without the name
-use Rattle.std.specs.Prelude.{◌≡◌, ◌≢◌, ℕ, ◌+◌, ◌-◌, ◌==◌, ◌<◌, ◌≤◌, Bool, true, false, not, ◌||◌, List, None, Some, IsTrue, IsFalse}
+use Rattle.std.specs.Prelude.{◌≡◌, ◌≢◌, ℕ, ◌-◌, ◌==◌, ◌<◌, ◌≤◌, Bool, true, false, not, ◌||◌, List, None, Some, IsTrue, IsFalse}
 use Rattle.std.proofs.Common.{refl, sym, ap, subst, arith, ◌∙◌}
 use Rattle.std.proofs.lemmas.Bool.{ne_eqb}
-use Rattle.sector_disk.specs.Disk.{DiskState, HasFailed}
 use Rattle.fs_layout.specs.declared.inode.Inode.{Inode}
 use Rattle.fs_layout.specs.declared.inode.Kind.{Kind}
 use Rattle.fs_layout.specs.declared.inode.Kind.TheVariants as kinds
 use Rattle.fs_layout.specs.declared.place.Place.{Place}
 use Rattle.fs_layout.specs.Bytes.{SectorMap}
-use Rattle.fs_layout.specs.Changes.{ChangesInode}
 use Rattle.fs_layout.specs.Directories.{HasNames}
-use Rattle.fs_layout.specs.Images.{bit, free_sectors, inode_at, inode_bitmap}
+use Rattle.fs_layout.specs.Images.{inode_at}
 use Rattle.fs_layout.specs.Maps.{name_cmp, get, without}
 use Rattle.fs_layout.proofs.NameMaps.{once_same}
 use Rattle.fs_layout.proofs.Saves.{inode_kept}
-use Rattle.sector_txn.specs.Sectors.{TxnState, IsUnchanged}
+use Rattle.sector_txn.specs.Sectors.{TxnState}
 use Rattle.bit_alloc.specs.declared.bitmap.Bitmap.TheVariants.{Inodes}
 use Rattle.bit_alloc.specs.Bitmaps.{IsNumber}
-use Rattle.bit_alloc.specs.Inodes.{KeepsFields, KeepsAcls}
-use Rattle.bit_alloc.proofs.Transactions.{puts_after}
-use Rattle.block_map.specs.Contents.{ChangesContent}
-use Rattle.dir_core.specs.declared.fault.DirFault.{DirFault}
 use Rattle.dir_core.specs.declared.fault.DirFault.TheVariants as faults
-use Rattle.dir_core.specs.Faults.{WhyNotChanged}
 use Rattle.fs_model.specs.Changes.{TakeName, changed, swept, lives_nameless}
 use Rattle.fs_model.specs.Limits.{root}
 use Rattle.fs_model.specs.Nodes.{Node, Body, File, Dir, Link, is_directory, names_in}
@@ -43,46 +35,13 @@ use Rattle.fs_model.proofs.PlacedNodes.{placed_from, placing, placing_other, one
 use Rattle.fs_model.proofs.StepsNaming.{renamed_node, are_names}
 use Rattle.fs_model.proofs.StepsParents.{names_or, directory_named}
 use Rattle.fs_model.proofs.StepsTaking.{TakesName, takes_loses}
-use Rattle.path_walk.specs.Performing.{IsStateOf}
-use Rattle.path_walk.proofs.Calling.{state_tree}
-use Rattle.path_walk.proofs.HeldChanges.{names_held, counted_held}
+use Rattle.call_parts.specs.Performing.{IsStateOf}
+use Rattle.call_parts.proofs.Calling.{state_tree}
+use Rattle.call_parts.proofs.HeldChanges.{names_held, counted_held}
 use Rattle.path_walk.proofs.HeldNodes.{held_node, held_names}
-use Rattle.path_walk.proofs.Kept.{kept, kept_back}
-use Rattle.file_calls.specs.Dropping.{Drops}
-use Rattle.name_calls.specs.Dropping.{Counts, LosesName, stays_with}
-use Rattle.name_calls.specs.Removing.{MayGo, RemovesName}
-
--- ---- the name goes from its directory
-
-pub name_removed : {p : Place} {dir : ℕ} {name : List ℕ} {old mid new : TxnState} {v w : Inode} → IsUnchanged old mid → v ≡ inode_at p old.sectors dir
-    → ChangesContent p dir 0 4 mid new v w
-    → ((names : List (List ℕ × ℕ)) → HasNames mid.sectors v names → (get name_cmp names name ≢ None) × HasNames new.sectors w (without name_cmp names name))
-    → RemovesName p dir name old new
-name_removed {p} {dir} {name} {old} {mid} {new} {v} {w} same is c says = record {
-  sound = c.sound;
-  touches = record {
-    puts = puts_after same c.touches.puts;
-    super = c.touches.super ∙ same.sectors 0;
-    inode = kept_back (λ (m : SectorMap). ChangesInode p dir m new.sectors) same c.touches.inode;
-    free = kept_back (λ (m : SectorMap). free_sectors p m ≤ free_sectors p new.sectors + 0) same c.touches.free;
-  };
-  used = kept_back (λ (m : SectorMap). bit new.sectors inode_bitmap dir ≡ bit m inode_bitmap dir) same c.used;
-  fields = subst (λ (u : Inode). KeepsFields u (inode_at p new.sectors dir)) is (subst (KeepsFields v) (sym c.now) c.fields);
-  acls = kept_back (λ (m : SectorMap). KeepsAcls m new.sectors (inode_at p old.sectors dir) (inode_at p new.sectors dir)) same
-      (subst (λ (u : Inode). KeepsAcls mid.sectors new.sectors u (inode_at p new.sectors dir)) is (subst (KeepsAcls mid.sectors new.sectors v) (sym c.now) c.acls));
-  names = λ names has.
-      subst (λ (u : Inode). HasNames new.sectors u (without name_cmp names name)) (sym c.now)
-      (says names (kept (λ (m : SectorMap). HasNames m v names) same (subst (λ (u : Inode). HasNames old.sectors u names) (sym is) has))).1;
-}
-
--- it fails only where the disk does
-pub not_removed : (names : List (List ℕ × ℕ)) (name : List ℕ) (old new : DiskState) (e : DirFault) → get name_cmp names name ≢ None → WhyNotChanged names name e
-    → (e ≡ faults.DiskFault → HasFailed old new) → HasFailed old new
-not_removed names name old new faults.Exists there why failed = absurd why
-not_removed names name old new faults.Full there why failed = absurd why
-not_removed names name old new faults.Absent there why failed = absurd (there why)
-not_removed names name old new faults.DiskFault there why failed = failed refl
-not_removed names name old new faults.OutOfMemory there why failed = absurd why
+use Rattle.call_parts.specs.Dropping.{Drops, Counts, RemovesName}
+use Rattle.name_calls.specs.Dropping.{LosesName, stays_with}
+use Rattle.name_calls.specs.Removing.{MayGo}
 
 -- ---- whether it stays, as its inode says it
 

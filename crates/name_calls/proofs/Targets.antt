@@ -26,11 +26,11 @@ use Rattle.fs_model.specs.Trees.{Tree}
 use Rattle.fs_model.specs.Summaries.{is_link_kind}
 use Rattle.path_walk.specs.Answers.{refused_or, IsAnswered}
 use Rattle.path_walk.specs.HeldTrees.{HoldsTree, IsThere}
-use Rattle.path_walk.proofs.ByPath.{IsByPath}
-use Rattle.path_walk.proofs.Calling.{or_else-none, first_asked, next_asked, both_met, met_ok}
-use Rattle.file_calls.proofs.OpenFound.{link_says}
-use Rattle.file_calls.proofs.Owned.{IsNode, node_of}
-use Rattle.file_calls.proofs.Shown.{IsInode}
+use Rattle.call_parts.proofs.ByPath.{IsByPath}
+use Rattle.call_parts.proofs.Calling.{or_else-none, first_asked, next_asked, both_met, met_ok}
+use Rattle.call_parts.proofs.Checked.{link_says}
+use Rattle.call_parts.proofs.Ownership.{IsNode, node_of}
+use Rattle.call_parts.proofs.Shown.{IsInode}
 
 -- ---- its row
 

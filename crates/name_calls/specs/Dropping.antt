@@ -1,23 +1,12 @@
 -- What is left of a node that loses a name.
---     Counts        it has another count of names
 --     stays_with, LosesName        it has a name less, or is gone
 use Rattle.std.specs.Prelude.{◌≡◌, ℕ, ◌-◌, ◌==◌, Bool, true, false, not, ◌&&◌, ◌||◌}
 use Rattle.fs_layout.specs.declared.inode.Kind.{Kind}
 use Rattle.fs_layout.specs.declared.place.Place.{Place}
-use Rattle.fs_layout.specs.Images.{bit, inode_at, inode_bitmap}
+use Rattle.fs_layout.specs.Images.{inode_at}
 use Rattle.sector_txn.specs.Sectors.{TxnState}
-use Rattle.bit_alloc.specs.Inodes.{IsSound, Touches, KeepsBytes, KeepsAcls}
 use Rattle.fs_model.specs.Summaries.{is_file_kind}
-use Rattle.file_calls.specs.Dropping.{Drops}
-
--- inode n has this count of names, and all else that it had
-pub record Counts (p : Place) (n names : ℕ) (old new : TxnState) : Type 0 where
-  pub sound : IsSound p new
-  pub touches : Touches p n 0 1 old new
-  pub saved : inode_at p new.sectors n ≡ record (inode_at p old.sectors n) { names = names }
-  pub bytes : KeepsBytes old.sectors new.sectors (inode_at p old.sectors n) (inode_at p new.sectors n)
-  pub acls : KeepsAcls old.sectors new.sectors (inode_at p old.sectors n) (inode_at p new.sectors n)
-  pub used : bit new.sectors inode_bitmap n ≡ bit old.sectors inode_bitmap n
+use Rattle.call_parts.specs.Dropping.{Drops, Counts}
 
 -- what has so many names left stays: a file also as long as it is open
 abbrev pub stays_with : Kind → ℕ → Bool → Bool

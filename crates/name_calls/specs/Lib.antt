@@ -2,8 +2,6 @@ pub mod Dropping
 pub mod Entering
 pub mod Linking
 pub mod Moving
-pub mod NewNodes
 pub mod Removing
 pub mod Renaming
 pub mod Replacing
-pub mod TwoPaths

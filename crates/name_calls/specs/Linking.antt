@@ -1,9 +1,9 @@
--- What one more name for what is no directory asks, and what it leaves.
+-- What one more name for what is no directory asks.
 --     source_asked        asked of what the first path leads to
---     room_asked, place_asked        asked of a directory that gets a name
+--     place_asked        asked of a directory that gets a name
 --     MayLink        a name that it may get
-use Rattle.std.specs.Prelude.{◌≡◌, ℕ, ◌<◌, ◌≤◌, nat_lt, nat_le, not, ◌&&◌, List, [], ◌∷◌, length, None, Some, IsFalse}
-use Rattle.fs_cred.specs.declared.errno.Errno.TheVariants.{EPERM, ENOTDIR, EMLINK, ENOSPC}
+use Rattle.std.specs.Prelude.{◌≡◌, ℕ, ◌<◌, ◌≤◌, nat_le, not, ◌&&◌, List, [], ◌∷◌, length, None, Some, IsFalse}
+use Rattle.fs_cred.specs.declared.errno.Errno.TheVariants.{EPERM, ENOTDIR, EMLINK}
 use Rattle.fs_cred.specs.Credentials.{Credential}
 use Rattle.fs_layout.specs.declared.place.Place.{Place}
 use Rattle.fs_layout.specs.Bytes.{SectorMap, IsBytes}
@@ -17,6 +17,7 @@ use Rattle.fs_model.specs.Limits.{names_limit, entries_limit, least_free}
 use Rattle.fs_model.specs.Nodes.{Node, is_directory, names_in}
 use Rattle.fs_model.specs.Scenes.{is_found, is_special, number, must_be_there}
 use Rattle.fs_model.specs.Trees.{Tree, node_at, names_of, IsDirectoryAt}
+use Rattle.call_parts.specs.Makings.{room_asked}
 
 -- asked of the first path and of what it leads to
 abbrev pub source_asked : Tree → Found → List Demand
@@ -26,11 +27,6 @@ source_asked t f =
     ∷ refuse ENOTDIR (f.slash && (is_found f && not (is_directory (the_node t (number f)).body)))
     ∷ refuse EPERM (is_found f && is_directory (the_node t (number f)).body)
     ∷ []
-
--- sectors are left, and a slot in the directory
-abbrev pub room_asked : Place → SectorMap → Tree → ℕ → List Demand
-room_asked p map t dir =
-    refuse ENOSPC (nat_lt (free_sectors p map) least_free) ∷ refuse ENOSPC (nat_le entries_limit (length (names_in (the_node t dir).body))) ∷ []
 
 -- asked of the directory of the second path, for what has so many names
 abbrev pub place_asked : Place → SectorMap → Credential → Tree → ℕ → ℕ → ℕ → List Demand

@@ -18,7 +18,7 @@ use Rattle.fs_model.specs.Nodes.{names_in}
 use Rattle.fs_model.specs.Processes.{is_in_use}
 use Rattle.fs_model.specs.States.{State}
 use Rattle.fs_model.specs.Trees.{is_within, IsDirectoryAt}
-use Rattle.name_calls.specs.NewNodes.{MayBeNamed}
+use Rattle.call_parts.specs.NewNodes.{MayBeNamed}
 
 -- The name leads from directory dir to n, and n may get to_name in directory to_dir, which leads to what is replaced, or to
 -- nothing.

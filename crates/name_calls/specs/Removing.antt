@@ -1,23 +1,17 @@
--- What removing a name asks, and what it leaves.
+-- What removing a name asks.
 --     FindsName        what a process has found, for a call on a name
 --     IsNamedThere, removal_asked        what was found and its directory are there, and what is asked of both
---     sticky_asked, last_asked, directory_asked        asked of two inodes, of the last component, of a directory
+--     last_asked, directory_asked        asked of the last component, of a directory
 --     MayGo        a name that may go
---     RemovesName        it goes from its directory
-use Rattle.std.specs.Prelude.{◌≡◌, ℕ, ◌-◌, ◌/◌, ◌%◌, ◌==◌, Bool, not, ◌&&◌, List, [], ◌∷◌, Some, IsTrue, IsFalse}
+use Rattle.std.specs.Prelude.{◌≡◌, ℕ, ◌-◌, Bool, not, ◌&&◌, List, [], ◌∷◌, Some, IsTrue, IsFalse}
 use Rattle.fs_cred.specs.declared.errno.Errno.TheVariants.{EBUSY, EINVAL, ENOTDIR, ENOTEMPTY}
 use Rattle.fs_cred.specs.declared.refusal.Need.TheVariants.{Remove}
 use Rattle.fs_cred.specs.declared.rule.Rule.TheVariants.{Sticky}
 use Rattle.fs_cred.specs.Credentials.{Credential}
 use Rattle.fs_cred.specs.Ownership.{sticky_allows}
-use Rattle.fs_layout.specs.declared.inode.Inode.{Inode}
 use Rattle.fs_layout.specs.declared.place.Place.{Place}
 use Rattle.fs_layout.specs.Bytes.{SectorMap, IsBytes}
-use Rattle.fs_layout.specs.Directories.{HasNames}
-use Rattle.fs_layout.specs.Images.{bit, inode_at, inode_bitmap}
-use Rattle.fs_layout.specs.Maps.{name_cmp, get, without}
-use Rattle.sector_txn.specs.Sectors.{TxnState}
-use Rattle.bit_alloc.specs.Inodes.{IsSound, Touches, KeepsFields, KeepsAcls}
+use Rattle.fs_layout.specs.Maps.{name_cmp, get}
 use Rattle.fs_model.specs.declared.walk.Form.TheVariants.{Parent}
 use Rattle.fs_model.specs.declared.walk.Found.{Found}
 use Rattle.fs_model.specs.Births.{the_node, the_directory}
@@ -29,8 +23,8 @@ use Rattle.fs_model.specs.Scenes.{is_found, number, ends_top, ends_dot, ends_dot
 use Rattle.fs_model.specs.States.{State}
 use Rattle.fs_model.specs.Trees.{Tree, node_at, IsDirectoryAt}
 use Rattle.path_walk.specs.HeldTrees.{IsThere}
-use Rattle.path_walk.specs.Paths.{HasFound}
-use Rattle.path_walk.specs.Performing.{IsStateOf}
+use Rattle.call_parts.specs.Paths.{HasFound}
+use Rattle.call_parts.specs.Performing.{IsStateOf}
 
 -- in a state of this map and this table the process has found this, by a path that ends in a name
 pub record FindsName (p : Place) (map : SectorMap) (desks : Desks) (q : Process) (f : Found) (s : State) : Type 0 where
@@ -55,10 +49,6 @@ removal_asked cred t f =
     1 (f.step - 1) Remove Sticky
     ∷ []
 
--- the last of it, of the directory's inode d and of v, after so many lookups of the walk with this number
-abbrev pub sticky_asked : Credential → Inode → Inode → ℕ → ℕ → Demand
-sticky_asked cred d v walk step = denied_unless (sticky_allows cred (d.mode / 512 % 2 == 1) d.uid v.uid) walk step Remove Sticky
-
 -- asked of the last component, where a directory is to go
 abbrev pub last_asked : Found → List Demand
 last_asked f = refuse EBUSY (ends_top f) ∷ refuse EINVAL (ends_dot f) ∷ refuse ENOTEMPTY (ends_dot_dot f) ∷ []
@@ -75,13 +65,3 @@ pub record MayGo (s : State) (dir : ℕ) (name : List ℕ) (n : ℕ) : Type 0 wh
   pub there : node_at s.tree n ≡ Some target
   pub empty : IsTrue (is_directory target.body) → names_in target.body ≡ []
   pub unused : IsTrue (is_directory target.body) → IsFalse (is_in_use s.desks n)
-
--- directory dir has all its names but this one
-pub record RemovesName (p : Place) (dir : ℕ) (name : List ℕ) (old new : TxnState) : Type 0 where
-  pub sound : IsSound p new
-  pub touches : Touches p dir 0 4 old new
-  pub used : bit new.sectors inode_bitmap dir ≡ bit old.sectors inode_bitmap dir
-  pub fields : KeepsFields (inode_at p old.sectors dir) (inode_at p new.sectors dir)
-  pub acls : KeepsAcls old.sectors new.sectors (inode_at p old.sectors dir) (inode_at p new.sectors dir)
-  pub names : (names : List (List ℕ × ℕ)) → HasNames old.sectors (inode_at p old.sectors dir) names
-      → HasNames new.sectors (inode_at p new.sectors dir) (without name_cmp names name)

@@ -23,8 +23,9 @@ use Rattle.fs_model.specs.Rules.{is_directory_kind}
 use Rattle.fs_model.specs.Scenes.{Scene, is_found, number}
 use Rattle.fs_model.specs.States.{State}
 use Rattle.fs_model.specs.Trees.{Tree, is_within}
-use Rattle.path_walk.specs.Performing.{IsStateOf}
-use Rattle.name_calls.specs.Removing.{IsNamedThere, sticky_asked}
+use Rattle.call_parts.specs.Performing.{IsStateOf}
+use Rattle.name_calls.specs.Removing.{IsNamedThere}
+use Rattle.call_parts.specs.Asked.{sticky_asked}
 use Rattle.name_calls.specs.Renaming.{inode_there}
 
 -- in a state of this map and this table both names are in directories: the old one leads to n, with inode v, the new one to what is replaced

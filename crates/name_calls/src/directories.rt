@@ -13,13 +13,15 @@ ghost use Rattle.bit_alloc.specs.Inodes.{IsSound};
 ghost use Rattle.bit_alloc.specs.Room.{HasSpare};
 ghost use Rattle.path_walk.specs.Answers.{refused_or, FailsToRead, IsAnswered};
 ghost use Rattle.path_walk.specs.HeldTrees.{HoldsTree, IsThere};
-ghost use Rattle.path_walk.specs.Performing.{IsReady, Performs};
-ghost use Rattle.file_calls.specs.Makings.{CanMake};
+ghost use Rattle.call_parts.specs.Performing.{IsReady, Performs};
+ghost use Rattle.call_parts.specs.Makings.{CanMake};
 ghost use Rattle.name_calls.specs.Entering.{enter_asked};
-ghost use Rattle.name_calls.specs.NewNodes.{IsMade, IsNewIn, MakesNode, directory_made};
+ghost use Rattle.call_parts.specs.NewNodes.{IsMade, IsNewIn, MakesNode, directory_made};
 
-use crate::naming::{find_name, is_new, name_inode};
-use file_calls::{check_make, check_mode, default_of, find, inherited, inode_found, new_group};
+use call_parts::{
+    check_make, check_mode, default_of, find, find_name, inherited, inode_found, is_new,
+    name_inode, new_group,
+};
 use fs_cred::{Cred, Errno, Refusal};
 use fs_layout::{Inode, Kind, Place};
 use fs_model::{Form, Found, Path, Reply};

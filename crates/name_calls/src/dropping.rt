@@ -1,6 +1,6 @@
 //! What becomes of a node that loses a name: POSIX.1-2017, unlink().
 
-ghost use Rattle.std.specs.Prelude.{◌≡◌, ◌≢◌, ◌≤◌, ◌<◌, ◌^◌, OnOk, IfErr};
+ghost use Rattle.std.specs.Prelude.{◌≡◌, ◌≢◌, ◌≤◌, ◌<◌, OnOk, IfErr};
 ghost use Rattle.fs_layout.specs.Images.{inode_at};
 ghost use Rattle.sector_txn.specs.Sectors.{SameStore};
 ghost use Rattle.bit_alloc.specs.declared.bitmap.Bitmap.TheVariants.{Inodes};
@@ -9,38 +9,13 @@ ghost use Rattle.bit_alloc.specs.Inodes.{IsSound};
 ghost use Rattle.bit_alloc.specs.Room.{HasSpare};
 ghost use Rattle.fs_model.specs.Processes.{is_open};
 ghost use Rattle.path_walk.specs.Answers.{FailsToRead};
-ghost use Rattle.name_calls.specs.Dropping.{Counts, LosesName, stays_with};
+ghost use Rattle.name_calls.specs.Dropping.{LosesName, stays_with};
 
-use file_calls::drop_node;
-use fs_cred::{Errno, Refusal};
+use call_parts::{drop_node, set_names};
+use fs_cred::Refusal;
 use fs_layout::{Inode, Kind, Place};
-use inode_table::save;
 use open_files::Procs;
 use sector_txn::Sectors;
-
-/// Gives inode n, which is used, another count of names. EIO: the disk has failed.
-pub(crate) fn set_names<S: Sectors>(
-    s: &mut S,
-    place: Place,
-    n: u32,
-    inode: &Inode,
-    names: u32,
-) -> Result<(), Refusal>
-    requires sound { IsSound place (S.state s.old) }
-    requires below { n < place.inodes }
-    requires inode { inode.now ≡ inode_at place (S.state s.old).sectors n }
-    requires used { inode.now.kind ≢ Kind.Free }
-    requires spare { HasSpare place 1 (S.state s.old) }
-    ensures store { SameStore (S.state s.old) (S.state s.new) }
-    ensures counts { OnOk result (Counts place n names (S.state s.old) (S.state s.new)) }
-    ensures fault { IfErr result (FailsToRead (S.state s.old).disk (S.state s.new).disk) }
-{
-    let counted = Inode { names, ..*inode };
-    match save(s, place, n, &counted) {
-        Ok(()) => Ok(()),
-        Err(_) => Err(Refusal::Failed(Errno::EIO)),
-    }
-}
 
 // Whether inode n, of this kind and with so many names left, stays.
 fn stays(procs: &Procs, n: u32, kind: Kind, names: u32) -> bool

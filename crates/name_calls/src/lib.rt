@@ -11,7 +11,6 @@ mod dropping;
 mod linking;
 mod links;
 mod moving;
-mod naming;
 mod removal;
 mod renaming;
 mod replacing;

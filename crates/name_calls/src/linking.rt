@@ -18,15 +18,14 @@ ghost use Rattle.fs_model.specs.States.{State};
 ghost use Rattle.fs_model.specs.Trees.{Tree, IsDirectoryAt};
 ghost use Rattle.path_walk.specs.Answers.{refused_or, FailsToRead, IsAnswered};
 ghost use Rattle.path_walk.specs.HeldTrees.{HoldsTree, IsThere};
-ghost use Rattle.path_walk.specs.Performing.{IsReady, IsStateOf, Performs};
+ghost use Rattle.call_parts.specs.Performing.{IsReady, IsStateOf, Performs};
 ghost use Rattle.name_calls.specs.Linking.{source_asked, place_asked, MayLink};
-ghost use Rattle.name_calls.specs.TwoPaths.{scene_with, FindsBoth};
+ghost use Rattle.call_parts.specs.TwoPaths.{scene_with, FindsBoth};
 
-use crate::dropping::set_names;
 use crate::links::check_link_name;
-use crate::naming::{ask_directory, ask_for_name, find_names, name_inode};
-use crate::removal::check_slash;
-use file_calls::inode_found;
+use call_parts::{
+    ask_directory, ask_for_name, check_slash, find_names, inode_found, name_inode, set_names,
+};
 use fs_cred::{Cred, Errno, Refusal};
 use fs_layout::{Inode, Kind, Place};
 use fs_model::{Found, Last, Path, Reply};

@@ -14,13 +14,12 @@ ghost use Rattle.bit_alloc.specs.Inodes.{IsSound};
 ghost use Rattle.bit_alloc.specs.Room.{HasSpare};
 ghost use Rattle.path_walk.specs.Answers.{refused_or, FailsToRead};
 ghost use Rattle.path_walk.specs.HeldTrees.{HoldsTree};
-ghost use Rattle.path_walk.specs.Performing.{IsReady, Performs};
-ghost use Rattle.file_calls.specs.Makings.{CanMake};
-ghost use Rattle.name_calls.specs.NewNodes.{IsMade, IsNewIn, MakesNode, link_made, link_name_asked};
+ghost use Rattle.call_parts.specs.Performing.{IsReady, Performs};
+ghost use Rattle.call_parts.specs.Makings.{CanMake};
+ghost use Rattle.call_parts.specs.NewNodes.{IsMade, IsNewIn, MakesNode, link_made, link_name_asked};
 
-use crate::naming::{find_name, is_new, name_inode};
 use block_map::new_link;
-use file_calls::{check_make, find, inode_found, new_group};
+use call_parts::{check_make, find, find_name, inode_found, is_new, name_inode, new_group};
 use fs_cred::{Cred, Errno, Refusal};
 use fs_layout::{Inode, Kind, MAX_LINK_SIZE, Place};
 use fs_model::{Form, Found, Path, Reply};

@@ -12,14 +12,13 @@ ghost use Rattle.fs_model.specs.Processes.{Desks};
 ghost use Rattle.fs_model.specs.Stands.{HoldsAll, placed};
 ghost use Rattle.fs_model.specs.States.{State};
 ghost use Rattle.path_walk.specs.Answers.{FailsToRead};
-ghost use Rattle.path_walk.specs.Performing.{IsStateOf};
+ghost use Rattle.call_parts.specs.Performing.{IsStateOf};
 ghost use Rattle.name_calls.specs.Moving.{MayMove, MayLead, ChangesNames, MovesEntry, ParentFollows};
-ghost use Rattle.name_calls.specs.NewNodes.{MayBeNamed};
+ghost use Rattle.call_parts.specs.NewNodes.{MayBeNamed};
 ghost use Rattle.name_calls.specs.Renaming.{inode_there};
 
 use crate::dropping::lose_name;
-use crate::naming::name_inode;
-use crate::removal::remove_name;
+use call_parts::{name_inode, remove_name};
 use dir_core::{rename, replace};
 use fs_cred::{Errno, Refusal};
 use fs_layout::{Inode, Kind, Place};

@@ -1,10 +1,8 @@
 //! Removing names: POSIX.1-2017, unlink() and rmdir().
 
-ghost use Rattle.std.specs.Prelude.{◌≡◌, ◌≢◌, ◌<◌, ◌&&◌, ℕ, List, [], ◌∷◌, not, Ok, OnOk, IfOk, IfErr};
-ghost use Rattle.fs_layout.specs.Bytes.{SectorMap, IsBytes};
-ghost use Rattle.fs_layout.specs.Directories.{HasNames};
+ghost use Rattle.std.specs.Prelude.{◌≡◌, ◌<◌, [], ◌∷◌, Ok, OnOk, IfErr};
+ghost use Rattle.fs_layout.specs.Bytes.{SectorMap};
 ghost use Rattle.fs_layout.specs.Images.{inode_at};
-ghost use Rattle.fs_layout.specs.Maps.{name_cmp, get};
 ghost use Rattle.sector_txn.specs.Sectors.{SameStore, IsUnchanged};
 ghost use Rattle.bit_alloc.specs.Inodes.{IsSound};
 ghost use Rattle.bit_alloc.specs.Room.{HasSpare};
@@ -13,7 +11,6 @@ ghost use Rattle.fs_model.specs.Changes.{TakeName, changed, swept};
 ghost use Rattle.fs_model.specs.Demands.{refuse, first_of};
 ghost use Rattle.fs_model.specs.NameCalls.{unlink_demands, rmdir_demands};
 ghost use Rattle.fs_model.specs.Nodes.{Body};
-ghost use Rattle.fs_model.specs.Parts.{path_checks};
 ghost use Rattle.fs_model.specs.Processes.{Desks, is_in_use};
 ghost use Rattle.fs_model.specs.Rules.{is_directory_kind};
 ghost use Rattle.fs_model.specs.Scenes.{number, is_special};
@@ -22,32 +19,23 @@ ghost use Rattle.fs_model.specs.States.{State};
 ghost use Rattle.fs_model.specs.StoredNodes.{HoldsBody};
 ghost use Rattle.fs_model.specs.Trees.{Tree};
 ghost use Rattle.path_walk.specs.Answers.{refused_or, FailsToRead, IsAnswered};
-ghost use Rattle.path_walk.specs.HeldTrees.{HoldsTree, IsThere};
-ghost use Rattle.path_walk.specs.Paths.{scene_at};
-ghost use Rattle.path_walk.specs.Performing.{IsReady, IsStateOf, Performs};
-ghost use Rattle.path_walk.specs.SoundInodes.{HasSoundInodes};
-ghost use Rattle.path_walk.specs.Walked.{walk_of};
-ghost use Rattle.name_calls.specs.Removing.{FindsName, IsNamedThere, removal_asked, sticky_asked, last_asked, directory_asked, MayGo, RemovesName};
+ghost use Rattle.path_walk.specs.HeldTrees.{HoldsTree};
+ghost use Rattle.call_parts.specs.Paths.{scene_at};
+ghost use Rattle.call_parts.specs.Performing.{IsReady, IsStateOf, Performs};
+ghost use Rattle.name_calls.specs.Removing.{FindsName, IsNamedThere, removal_asked, last_asked, directory_asked, MayGo};
 
 use crate::dropping::lose_name;
-use crate::naming::find_name;
-use dir_core::{is_empty, remove};
-use file_calls::{find, inode_found};
-use fs_cred::{Cred, Denial, Errno, Need, Refusal, Rule, sticky_allows};
+use call_parts::{
+    WRITE_AND_SEARCH, check_slash, check_sticky, find_name, inode_found, permitted, remove_name,
+};
+use dir_core::is_empty;
+use fs_cred::{Cred, Errno, Refusal};
 use fs_layout::{Inode, Kind, Place};
-use fs_model::{Form, Found, Last, Path, Reply};
+use fs_model::{Found, Last, Path, Reply};
 use open_files::{Process, Procs};
-use path_walk::{load_inode, permitted};
-use posix_acl::Perms;
+use path_walk::load_inode;
 use sector_txn::Sectors;
 use std::alloc::Global;
-
-/// What adding, removing and renaming a name takes of a directory.
-pub(crate) const WRITE_AND_SEARCH: Perms = Perms {
-    read: false,
-    write: true,
-    execute: true,
-};
 
 // Asks whether a path of unlink ends in a name.
 fn check_name(found: &Found) -> Result<(), Refusal>
@@ -69,34 +57,6 @@ fn check_last(found: &Found) -> Result<(), Refusal>
         Last::Dot => Err(Refusal::Failed(Errno::EINVAL)),
         Last::DotDot => Err(Refusal::Failed(Errno::ENOTEMPTY)),
     }
-}
-
-/// Asks whether what is no directory was named with a slash.
-pub(crate) fn check_slash(found: &Found, kind: Kind) -> Result<(), Refusal>
-    ensures { result ≡ refused_or (refuse Errno.ENOTDIR (found.now.slash && not (is_directory_kind kind))) (Ok tt) }
-{
-    if found.slash && kind != Kind::Directory {
-        return Err(Refusal::Failed(Errno::ENOTDIR));
-    }
-    Ok(())
-}
-
-/// Asks whether a directory, where it has S_ISVTX, lets the caller take what has this inode from it, after `step` lookups of
-/// the walk with this number.
-pub(crate) fn check_sticky(
-    cred: &Cred,
-    directory: &Inode,
-    inode: &Inode,
-    walk: u8,
-    step: usize,
-) -> Result<(), Refusal>
-    ensures { result ≡ refused_or (sticky_asked cred.now directory.now inode.now walk step) (Ok tt) }
-{
-    let sticky = directory.mode / 512 % 2 == 1;
-    if !sticky_allows(cred, sticky, directory.uid, inode.uid) {
-        return Err(Refusal::Denied(Denial::new(walk, step, Need::Remove, Rule::Sticky)));
-    }
-    Ok(())
 }
 
 // Asks all that is asked before a name is removed, whatever it leads to, and answers number and inode of that.
@@ -191,29 +151,6 @@ fn check_rmdir<S: Sectors>(
     let (n, inode) = check_removal(alloc, s, place, process.cred(), found)?;
     check_directory(procs, n, &inode)?;
     Ok((n, inode))
-}
-
-/// Removes a name from directory dir. EIO: the disk has failed.
-pub(crate) fn remove_name<S: Sectors>(
-    s: &mut S,
-    place: Place,
-    dir: u32,
-    name: &[u8],
-) -> Result<(), Refusal>
-    requires sound { IsSound place (S.state s.old) }
-    requires below { dir < place.inodes }
-    requires named { (names : List (List ℕ × ℕ)) × HasNames (S.state s.old).sectors (inode_at place (S.state s.old).sectors dir) names
-        × (get name_cmp names name.now ≢ None) }
-    requires spare { HasSpare place 4 (S.state s.old) }
-    ensures store { SameStore (S.state s.old) (S.state s.new) }
-    ensures removes { OnOk result (RemovesName place dir name.now (S.state s.old) (S.state s.new)) }
-    ensures fault { IfErr result (FailsToRead (S.state s.old).disk (S.state s.new).disk) }
-{
-    let mut directory = load_inode(s, place, dir)?;
-    match remove(s, place, dir, &mut directory, name) {
-        Ok(()) => Ok(()),
-        Err(_) => Err(Refusal::Failed(Errno::EIO)),
-    }
 }
 
 // Takes a name from directory dir, where it leads to inode n, which goes with its last name unless it is open. EIO: the

@@ -12,15 +12,14 @@ ghost use Rattle.fs_model.specs.States.{State};
 ghost use Rattle.fs_model.specs.Trees.{Tree};
 ghost use Rattle.path_walk.specs.Answers.{refused_or, IsAnswered};
 ghost use Rattle.path_walk.specs.HeldTrees.{HoldsTree, IsThere};
-ghost use Rattle.path_walk.specs.Performing.{IsReady, Performs};
+ghost use Rattle.call_parts.specs.Performing.{IsReady, Performs};
 ghost use Rattle.name_calls.specs.Renaming.{ends_asked, names_asked, inode_there, other_kind, directory_kind, slash_told, replacing_asked};
 ghost use Rattle.name_calls.specs.Replacing.{same_number};
-ghost use Rattle.name_calls.specs.TwoPaths.{scene_with, FindsBoth};
+ghost use Rattle.call_parts.specs.TwoPaths.{scene_with, FindsBoth};
 
 use crate::moving::move_name;
-use crate::naming::find_names;
 use crate::replacing::check_move;
-use file_calls::inode_found;
+use call_parts::{find_names, inode_found};
 use fs_cred::{Errno, Refusal};
 use fs_layout::{Inode, Kind, Place};
 use fs_model::{Found, Last, Path, Reply};

@@ -9,6 +9,3 @@ pub mod Stepping
 pub mod Finding
 pub mod Reaching
 pub mod Asking
-pub mod Calling
-pub mod ByPath
-pub mod HeldChanges

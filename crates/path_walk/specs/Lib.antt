@@ -7,5 +7,3 @@ pub mod Components
 pub mod Rests
 pub mod Stages
 pub mod Laws
-pub mod Performing
-pub mod Paths

@@ -2,7 +2,7 @@
 
 ghost use Rattle.std.specs.Prelude.{◌≡◌, Ok, IfErr};
 ghost use Rattle.fs_cred.specs.declared.node.Node.{Node as AccessNode};
-ghost use Rattle.fs_cred.specs.declared.refusal.Need.TheVariants.{Perm, Search};
+ghost use Rattle.fs_cred.specs.declared.refusal.Need.TheVariants.{Search};
 ghost use Rattle.fs_cred.specs.declared.node.NodeKind.{NodeKind};
 ghost use Rattle.fs_cred.specs.Verdicts.{verdict};
 ghost use Rattle.fs_model.specs.Demands.{decided, search_only};
@@ -13,7 +13,7 @@ ghost use Rattle.inode_table.specs.Inodes.{IsInodeOf};
 ghost use Rattle.path_walk.specs.Answers.{refused_or, IsCaused, IsAnswered};
 ghost use Rattle.path_walk.specs.HeldTrees.{HasAccess, stored_kind};
 
-use fs_cred::{Cred, Denial, Errno, Need, Node, NodeKind, Refusal, Rule, Verdict, decide};
+use fs_cred::{Cred, Denial, Errno, Need, Node, NodeKind, Refusal, Verdict, decide};
 use fs_layout::{Inode, Kind, Place};
 use inode_table::{LoadAclFault, load_acl};
 use posix_acl::Perms;
@@ -93,31 +93,4 @@ pub fn search<S: Sectors>(
         return Err(Refusal::Denied(Denial::new(walk, step, Need::Search, verdict.rule)));
     }
     Ok(())
-}
-
-/// Asks for all of `want` on a file or a directory of the inode table, after `step` lookups of the walk with this number.
-/// Answers the rule that grants it. ENOMEM where the ACL finds no memory.
-pub fn permitted<S: Sectors>(
-    alloc: Global,
-    s: &mut S,
-    place: Place,
-    cred: &Cred,
-    inode: &Inode,
-    want: Perms,
-    walk: u8,
-    step: usize,
-) -> Result<Rule, Refusal>
-    requires sound { IsSound place (S.state s.old) }
-    requires there { IsInodeOf place (S.state s.old).sectors inode.now }
-    requires has { (node : AccessNode) × HasAccess (S.state s.old).sectors inode.now node }
-    ensures each { (node : AccessNode) → HasAccess (S.state s.old).sectors inode.now node
-        → IsAnswered (S.state s.old).disk (S.state s.new).disk
-        (refused_or (decided walk step (Perm want) (verdict cred.now node want)) (Ok (verdict cred.now node want).rule)) result }
-    ensures same { IsUnchanged (S.state s.old) (S.state s.new) }
-{
-    let verdict = permission(alloc, s, place, cred, inode, want)?;
-    if !verdict.yes {
-        return Err(Refusal::Denied(Denial::new(walk, step, Need::Perm(want), verdict.rule)));
-    }
-    Ok(verdict.rule)
 }

@@ -10,16 +10,14 @@ mod laws;
 mod links;
 mod paths;
 mod reads;
-mod space;
 mod walker;
 mod walks;
 
-pub use access::{permission, permitted, search};
+pub use access::{permission, search};
 pub use components::ends_with_slash;
 pub use laws::inodes_say_what_stands;
 pub use links::read_target;
 pub use paths::{MAX_PATH, check_path};
 pub use reads::load_inode;
-pub use space::{ask_for_inode, ask_for_sectors};
 pub use walker::MAX_LINKS;
 pub use walks::{resolve, walk};

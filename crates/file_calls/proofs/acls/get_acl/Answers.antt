@@ -1,20 +1,19 @@
-use Rattle.std.proofs.Common.{Option, sym, refl, inr}
+use Rattle.std.proofs.Common.{Option, sym, refl, inr, ℕ, ap, ◌∙◌, []}
 use Rattle.posix_acl.specs.AccessList.{AccessList}
 use Rattle.fs_model.specs.Nodes.{Node}
 use Rattle.fs_model.specs.AttributeCalls.{acl_shown}
-use Rattle.std.proofs.Common.{ℕ, ap, ◌∙◌, []}
 use Rattle.fs_layout.specs.Images.{inode_at}
 use Rattle.fs_model.specs.declared.reply.Reply.TheVariants.{Acl}
 use Rattle.fs_model.specs.Scenes.{number, must_be_there, answers}
-use Rattle.path_walk.specs.Paths.{scene_at}
+use Rattle.call_parts.specs.Paths.{scene_at}
 use Rattle.block_map.proofs.Runs.{unchanged_joined}
-use Rattle.path_walk.proofs.ByPath.{absent_performs, find_refused, has_found, found_below, demands_refused, answered}
-use Rattle.path_walk.proofs.Calling.{first_asked, both_met, state_tree, state_kept, cwd_below}
+use Rattle.call_parts.proofs.ByPath.{absent_performs, find_refused, has_found, found_below, demands_refused, answered}
+use Rattle.call_parts.proofs.Calling.{first_asked, both_met, state_tree, state_kept, cwd_below}
 use Rattle.path_walk.proofs.HeldInodes.{held_inodes}
 use Rattle.path_walk.proofs.Kept.{sound_kept, interrupts_later}
-use Rattle.file_calls.proofs.Followed.{followed_access, inode_kept, node_is, body_found_held}
+use Rattle.call_parts.proofs.Followed.{followed_access, inode_kept, node_is, body_found_held}
 use Rattle.file_calls.proofs.Rows.{get_acl_by_path}
-use Rattle.file_calls.proofs.Shown.{is_inode}
+use Rattle.call_parts.proofs.Shown.{is_inode}
 use Rattle.file_calls.proofs.acls.get_acl.Goals as goal
 
 pub returns-in_err-process-clause-performs : goal.returns-in_err-process-clause-performs

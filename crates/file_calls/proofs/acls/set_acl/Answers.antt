@@ -9,17 +9,17 @@ use Rattle.fs_model.specs.declared.reply.Reply.TheVariants.{Done}
 use Rattle.sector_txn.proofs.Changes.{store_joined}
 use Rattle.bit_alloc.proofs.Transactions.{spare_unchanged}
 use Rattle.block_map.proofs.Runs.{unchanged_joined}
-use Rattle.path_walk.proofs.ByPath.{absent_performs, find_refused, has_found, found_below, demands_refused}
-use Rattle.path_walk.proofs.Calling.{refused_err, met_ok, state_tree, state_kept, cwd_below}
+use Rattle.call_parts.proofs.ByPath.{absent_performs, find_refused, has_found, found_below, demands_refused}
+use Rattle.call_parts.proofs.Calling.{refused_err, met_ok, state_tree, state_kept, cwd_below}
 use Rattle.path_walk.proofs.HeldInodes.{held_inodes}
 use Rattle.path_walk.proofs.Kept.{kept, kept_back, sound_kept, interrupts_later}
-use Rattle.file_calls.specs.Asked.{holder_asked, acl_space_asked}
-use Rattle.file_calls.specs.Given.{SavesAcl, SavesDefaultAcl}
-use Rattle.file_calls.proofs.Changed.{argument_performs, change_performs}
-use Rattle.file_calls.proofs.Followed.{access_held}
+use Rattle.call_parts.specs.Asked.{holder_asked, acl_space_asked}
+use Rattle.call_parts.specs.Given.{SavesAcl, SavesDefaultAcl}
+use Rattle.call_parts.proofs.Changed.{argument_performs, change_performs}
+use Rattle.call_parts.proofs.Followed.{access_held}
 use Rattle.file_calls.proofs.GivenAcls.{acl_rest, given_super, holder_refused, space_refused, space_later, acl_changed}
 use Rattle.file_calls.proofs.Moded.{accessed_kind}
-use Rattle.file_calls.proofs.Owned.{is_owned, own_refused}
+use Rattle.call_parts.proofs.Ownership.{is_owned, own_refused}
 use Rattle.file_calls.proofs.Rows.{set_acl_is, set_acl_by_path}
 use Rattle.file_calls.proofs.acls.set_acl.Goals as goal
 

@@ -8,15 +8,15 @@ use Rattle.bit_alloc.proofs.Transactions.{spare_unchanged}
 use Rattle.block_map.proofs.Runs.{unchanged_joined}
 use Rattle.inode_table.specs.Acls.{HasAcl}
 use Rattle.sector_txn.proofs.Changes.{store_joined}
-use Rattle.path_walk.proofs.ByPath.{absent_performs, find_refused, has_found, found_below, demands_refused}
-use Rattle.path_walk.proofs.Calling.{or_else-none, refused_err, met_ok, state_tree, state_kept, cwd_below}
+use Rattle.call_parts.proofs.ByPath.{absent_performs, find_refused, has_found, found_below, demands_refused}
+use Rattle.call_parts.proofs.Calling.{or_else-none, refused_err, met_ok, state_tree, state_kept, cwd_below}
 use Rattle.path_walk.proofs.HeldInodes.{held_inodes}
 use Rattle.path_walk.proofs.Kept.{kept, kept_back, sound_kept, interrupts_later}
-use Rattle.file_calls.specs.Given.{SavesAcl, special_mode}
-use Rattle.file_calls.proofs.Changed.{argument_performs, change_performs}
-use Rattle.file_calls.proofs.Followed.{access_held}
+use Rattle.call_parts.specs.Given.{SavesAcl, special_mode}
+use Rattle.call_parts.proofs.Changed.{argument_performs, change_performs}
+use Rattle.call_parts.proofs.Followed.{access_held}
 use Rattle.file_calls.proofs.Moded.{accessed_kind, mode_changed}
-use Rattle.file_calls.proofs.Owned.{is_owned, own_refused}
+use Rattle.call_parts.proofs.Ownership.{is_owned, own_refused}
 use Rattle.file_calls.proofs.Rows.{chmod_is, chmod_by_path}
 use Rattle.file_calls.proofs.attributes.chmod.Goals as goal
 

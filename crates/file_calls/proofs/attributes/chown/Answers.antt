@@ -7,15 +7,15 @@ use Rattle.fs_model.specs.Scenes.{number}
 use Rattle.bit_alloc.proofs.Transactions.{spare_unchanged}
 use Rattle.block_map.proofs.Runs.{unchanged_joined}
 use Rattle.sector_txn.proofs.Changes.{store_joined}
-use Rattle.path_walk.proofs.ByPath.{absent_performs, find_refused, has_found, found_below, demands_refused}
-use Rattle.path_walk.proofs.Calling.{state_tree, state_kept, cwd_below, found_there}
+use Rattle.call_parts.proofs.ByPath.{absent_performs, find_refused, has_found, found_below, demands_refused}
+use Rattle.call_parts.proofs.Calling.{state_tree, state_kept, cwd_below, found_there}
 use Rattle.path_walk.proofs.HeldInodes.{held_inodes}
 use Rattle.path_walk.proofs.Kept.{kept, kept_back, sound_kept, interrupts_later}
-use Rattle.file_calls.specs.Given.{GivesOwner}
-use Rattle.file_calls.proofs.Changed.{change_performs}
-use Rattle.file_calls.proofs.Owned.{is_owned, own_refused, owner_rest, owner_refused, owner_changed}
+use Rattle.call_parts.specs.Given.{GivesOwner}
+use Rattle.call_parts.proofs.Changed.{change_performs}
+use Rattle.call_parts.proofs.Ownership.{is_owned, own_refused, owner_rest, owner_refused, owner_changed}
 use Rattle.file_calls.proofs.Rows.{chown_by_path}
-use Rattle.file_calls.proofs.Shown.{is_used}
+use Rattle.call_parts.proofs.Shown.{is_used}
 use Rattle.file_calls.proofs.attributes.chown.Goals as goal
 
 pub returns-in_err-process : goal.returns-in_err-process

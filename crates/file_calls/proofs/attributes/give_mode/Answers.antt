@@ -10,7 +10,7 @@ use Rattle.inode_table.specs.Acls.{acl_takes}
 use Rattle.sector_txn.proofs.Changes.{store_joined}
 use Rattle.path_walk.proofs.Kept.{kept, kept_back, sound_kept, interrupts_later, failed_with}
 use Rattle.path_walk.specs.Answers.{Interrupts}
-use Rattle.file_calls.specs.Given.{SavesAcl, special_mode}
+use Rattle.call_parts.specs.Given.{SavesAcl, special_mode}
 use Rattle.file_calls.proofs.Moded.{mode_fits, mode_takes_none}
 use Rattle.file_calls.proofs.attributes.give_mode.Goals as goal
 

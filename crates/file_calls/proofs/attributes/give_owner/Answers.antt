@@ -1,7 +1,7 @@
 use Rattle.std.proofs.Common.{sym, subst}
 use Rattle.fs_layout.specs.Inode.{FitsInode}
 use Rattle.fs_layout.proofs.Free.{inode_fits_there}
-use Rattle.file_calls.proofs.Owned.{owner_given}
+use Rattle.call_parts.proofs.Ownership.{owner_given}
 use Rattle.file_calls.proofs.attributes.give_owner.Goals as goal
 
 pub save-requires-clause-fits : goal.save-requires-clause-fits

@@ -3,7 +3,7 @@ use Rattle.std.specs.Ordering.{nat_cmp}
 use Rattle.bit_alloc.proofs.Transactions.{unchanged_nothing}
 use Rattle.fs_layout.specs.Maps.{without}
 use Rattle.fs_model.specs.Processes.{Descriptor, is_open}
-use Rattle.file_calls.specs.Dropping.{LeavesInode}
+use Rattle.call_parts.specs.Dropping.{LeavesInode}
 use Rattle.file_calls.specs.Exiting.{is_closed, was_open}
 use Rattle.file_calls.proofs.exiting.leave_descriptor.Goals as goal
 

@@ -8,7 +8,7 @@ use Rattle.fs_model.specs.declared.reply.Reply.TheVariants.{Names}
 use Rattle.sector_txn.proofs.Changes.{store_joined}
 use Rattle.block_map.proofs.Runs.{unchanged_joined}
 use Rattle.path_walk.proofs.Kept.{sound_kept, kept, interrupts_later}
-use Rattle.file_calls.proofs.ByDescriptor.{opened_as, open_below, closed_performs, bad_performs, unread_performs, interrupted_performs, told}
+use Rattle.call_parts.proofs.ByDescriptor.{opened_as, open_below, closed_performs, bad_performs, unread_performs, interrupted_performs, told}
 use Rattle.file_calls.proofs.HeldFiles.{has_names}
 use Rattle.file_calls.proofs.Listed.{readdir_by, readdir_refused, readdir_told}
 use Rattle.file_calls.proofs.Reading.{read_asked}

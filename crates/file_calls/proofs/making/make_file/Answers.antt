@@ -7,7 +7,7 @@ use Rattle.fs_layout.specs.Images.{inode_at}
 use Rattle.bit_alloc.specs.Inodes.{KeepsFields, KeepsAcls}
 use Rattle.fs_layout.specs.Maps.{name_cmp, with_entry}
 use Rattle.fs_model.specs.Nodes.{names_in}
-use Rattle.file_calls.proofs.NewFile.{new_file, file_fits, dir_below, dir_kept, dir_names, name_has_room, takes_few}
+use Rattle.call_parts.proofs.NewFile.{new_file, file_fits, dir_below, dir_kept, dir_names, name_has_room, takes_few}
 use Rattle.file_calls.proofs.making.make_file.Goals as goal
 
 pub new_inode-requires-clause-fits : goal.new_inode-requires-clause-fits

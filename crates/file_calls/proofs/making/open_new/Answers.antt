@@ -8,10 +8,10 @@ use Rattle.bit_alloc.proofs.Transactions.{spare_unchanged, unchanged_joined}
 use Rattle.inode_table.specs.Acls.{HasDefaultAcl}
 use Rattle.fs_model.specs.Births.{born_acl}
 use Rattle.fs_model.specs.Nodes.{default_in}
-use Rattle.path_walk.proofs.Calling.{state_tree}
+use Rattle.call_parts.proofs.Calling.{state_tree}
 use Rattle.path_walk.proofs.HeldNodes.{number_below, is_there}
 use Rattle.path_walk.proofs.Kept.{kept, kept_back, sound_kept, interrupts_later}
-use Rattle.file_calls.specs.Makings.{CanMake, MakesFile}
+use Rattle.call_parts.specs.Makings.{CanMake, MakesFile}
 use Rattle.file_calls.proofs.OpenFound.{refusing}
 use Rattle.file_calls.proofs.OpenMade.{directory_there, dir_default, none_is_there, make_refused, make_met, asked_of_it, few_names, can_make, finds_kept, asked_later, made_reaches}
 use Rattle.file_calls.proofs.making.open_new.Goals as goal

@@ -9,7 +9,7 @@ use Rattle.path_walk.specs.Answers.{refused_or}
 use Rattle.path_walk.specs.HeldTrees.{HasAccess}
 use Rattle.path_walk.proofs.HeldNodes.{number_below}
 use Rattle.path_walk.proofs.Kept.{kept, sound_kept, answered_err}
-use Rattle.path_walk.proofs.Calling.{answered_later}
+use Rattle.call_parts.proofs.Calling.{answered_later}
 use Rattle.file_calls.specs.Openings.{found_asked}
 use Rattle.file_calls.proofs.OpenFound.{kind_met, kind_refuses, kind_access, kind_held, found_refuses, found_met}
 use Rattle.file_calls.proofs.opening.check_found.Goals as goal

@@ -4,7 +4,7 @@ use Rattle.fs_model.specs.Demands.{refuse}
 use Rattle.fs_model.specs.OpenCall.{open_arguments}
 use Rattle.fs_model.specs.Parts.{path_checks, ends_with_slash}
 use Rattle.std.specs.Prelude.{◌&&◌}
-use Rattle.file_calls.proofs.OpenFound.{checked_first, checked_second, checked_third, checked_all}
+use Rattle.call_parts.proofs.Checked.{checked_first, checked_second, checked_third, checked_all}
 use Rattle.file_calls.proofs.opening.check_open.Goals as goal
 
 pub returns-in_err-check_arguments-clause-answer : goal.returns-in_err-check_arguments-clause-answer

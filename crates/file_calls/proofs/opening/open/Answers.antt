@@ -1,10 +1,9 @@
-use Rattle.std.proofs.Common.{Ok, Err, refl, sym}
+use Rattle.std.proofs.Common.{Ok, Err, refl, sym, subst, ◌<◌}
 use Rattle.bit_alloc.proofs.Transactions.{spare_unchanged}
-use Rattle.path_walk.proofs.ByPath.{absent_performs}
-use Rattle.path_walk.proofs.Calling.{state_tree, cwd_below, cwd_there}
+use Rattle.call_parts.proofs.ByPath.{absent_performs}
+use Rattle.call_parts.proofs.Calling.{state_tree, cwd_below, cwd_there}
 use Rattle.path_walk.proofs.HeldInodes.{held_inodes}
 use Rattle.path_walk.proofs.Kept.{sound_kept}
-use Rattle.std.proofs.Common.{subst, ◌<◌}
 use Rattle.file_calls.proofs.OpenRow.{asked_refuses, slot_refuses, walk_refuses, demands_refuse, found_in, opens, asked_met, asked_some, short_path, walked_as}
 use Rattle.file_calls.proofs.opening.open.Goals as goal
 

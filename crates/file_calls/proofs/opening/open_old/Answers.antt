@@ -3,7 +3,7 @@ use Rattle.fs_layout.specs.Images.{inode_at}
 use Rattle.fs_layout.specs.Bytes.{SectorMap}
 use Rattle.bit_alloc.proofs.Transactions.{spare_unchanged}
 use Rattle.sector_txn.proofs.Changes.{store_joined}
-use Rattle.path_walk.proofs.Calling.{state_tree}
+use Rattle.call_parts.proofs.Calling.{state_tree}
 use Rattle.path_walk.proofs.HeldNodes.{number_below}
 use Rattle.path_walk.proofs.Kept.{kept, sound_kept, interrupts_later, same_map}
 use Rattle.file_calls.proofs.OpenFound.{old_there, old_refused, old_inode, old_file, old_reached, old_emptied, refusing}

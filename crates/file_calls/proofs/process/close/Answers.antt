@@ -3,10 +3,10 @@ use Rattle.fs_model.specs.Changes.{Same}
 use Rattle.fs_model.specs.declared.reply.Reply.TheVariants.{Done}
 use Rattle.fs_model.specs.Processes.{Desks, is_open}
 use Rattle.open_files.specs.Tables.{without_descriptor}
-use Rattle.file_calls.specs.Dropping.{LeavesInode}
-use Rattle.file_calls.proofs.ByDescriptor.{opened_as, opened_ok, closed_performs, unread_performs}
+use Rattle.call_parts.specs.Dropping.{LeavesInode}
+use Rattle.call_parts.proofs.ByDescriptor.{opened_as, opened_ok, closed_performs, unread_performs}
 use Rattle.file_calls.proofs.DescriptorRows.{not_bad}
-use Rattle.file_calls.proofs.Leavings.{left_super, closed_number, closed_holds}
+use Rattle.call_parts.proofs.Leavings.{left_super, closed_number, closed_holds}
 use Rattle.file_calls.proofs.Rewritten.{changed_tree}
 use Rattle.file_calls.proofs.Settled.{close_by}
 use Rattle.file_calls.proofs.process.close.Goals as goal

@@ -2,17 +2,17 @@ use Rattle.std.proofs.Common.{ℕ, ap, ◌∙◌, [], ◌∷◌}
 use Rattle.fs_layout.specs.Images.{inode_at}
 use Rattle.fs_model.specs.declared.reply.Reply.TheVariants.{Granted}
 use Rattle.fs_model.specs.Scenes.{number, must_be_there, permission_at_end, answers}
-use Rattle.path_walk.specs.Paths.{scene_at}
+use Rattle.call_parts.specs.Paths.{scene_at}
 use Rattle.block_map.proofs.Runs.{unchanged_joined}
-use Rattle.path_walk.proofs.ByPath.{absent_performs, find_refused, has_found, found_below, demands_refused, answered}
-use Rattle.path_walk.proofs.Calling.{or_else-none, first_asked, next_asked, both_met, state_tree, state_kept, cwd_below}
+use Rattle.call_parts.proofs.ByPath.{absent_performs, find_refused, has_found, found_below, demands_refused, answered}
+use Rattle.call_parts.proofs.Calling.{or_else-none, first_asked, next_asked, both_met, state_tree, state_kept, cwd_below}
 use Rattle.path_walk.proofs.HeldInodes.{held_inodes}
 use Rattle.path_walk.proofs.Kept.{sound_kept}
 use Rattle.fs_cred.specs.declared.rule.Rule.{Rule}
 use Rattle.fs_cred.specs.Verdicts.{verdict}
-use Rattle.file_calls.proofs.Followed.{followed_access, access_held, inode_kept, permission_refused, permission_granted, rule_told}
+use Rattle.call_parts.proofs.Followed.{followed_access, access_held, inode_kept, permission_refused, permission_granted, rule_told}
 use Rattle.file_calls.proofs.Rows.{access_by_path}
-use Rattle.file_calls.proofs.Shown.{is_inode}
+use Rattle.call_parts.proofs.Shown.{is_inode}
 use Rattle.file_calls.proofs.rights.access.Goals as goal
 
 pub returns-in_err-process-clause-performs : goal.returns-in_err-process-clause-performs

@@ -2,10 +2,10 @@ use Rattle.std.proofs.Common.{◌≢◌, sym, subst, inr}
 use Rattle.fs_layout.specs.declared.inode.Inode.{Inode}
 use Rattle.fs_layout.specs.declared.inode.Kind.TheVariants as Kind
 use Rattle.fs_model.specs.declared.reply.Reply.TheVariants.{Shown}
-use Rattle.path_walk.proofs.Calling.{state_tree}
-use Rattle.file_calls.proofs.ByDescriptor.{opened_as, open_below, open_there, closed_performs, unread_performs, told}
+use Rattle.call_parts.proofs.Calling.{state_tree}
+use Rattle.call_parts.proofs.ByDescriptor.{opened_as, open_below, open_there, closed_performs, unread_performs, told}
 use Rattle.file_calls.proofs.DescriptorRows.{fstat_by, not_bad, fstat_told}
-use Rattle.file_calls.proofs.Shown.{is_used}
+use Rattle.call_parts.proofs.Shown.{is_used}
 use Rattle.file_calls.proofs.show.fstat.Goals as goal
 
 pub returns-in_err-descriptor-clause-performs : goal.returns-in_err-descriptor-clause-performs

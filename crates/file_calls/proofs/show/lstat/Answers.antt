@@ -5,12 +5,12 @@ use Rattle.fs_layout.specs.Images.{inode_at}
 use Rattle.fs_model.specs.declared.reply.Reply.TheVariants.{Shown}
 use Rattle.fs_model.specs.Scenes.{number, must_be_there}
 use Rattle.block_map.proofs.Runs.{unchanged_joined}
-use Rattle.path_walk.proofs.ByPath.{absent_performs, find_refused, has_found, found_below, demands_refused, answered}
-use Rattle.path_walk.proofs.Calling.{state_tree, state_kept, cwd_below, found_there}
+use Rattle.call_parts.proofs.ByPath.{absent_performs, find_refused, has_found, found_below, demands_refused, answered}
+use Rattle.call_parts.proofs.Calling.{state_tree, state_kept, cwd_below, found_there}
 use Rattle.path_walk.proofs.HeldInodes.{held_inodes}
 use Rattle.path_walk.proofs.Kept.{sound_kept}
 use Rattle.file_calls.proofs.Rows.{lstat_by_path}
-use Rattle.file_calls.proofs.Shown.{inode_told, is_inode, is_used, stat_told}
+use Rattle.call_parts.proofs.Shown.{inode_told, is_inode, is_used, stat_told}
 use Rattle.file_calls.proofs.show.lstat.Goals as goal
 
 pub returns-in_err-process-clause-performs : goal.returns-in_err-process-clause-performs

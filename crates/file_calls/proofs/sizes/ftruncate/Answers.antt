@@ -11,9 +11,9 @@ use Rattle.fs_model.specs.declared.reply.Reply.TheVariants.{Done}
 use Rattle.sector_disk.proofs.Moments.{failed_later}
 use Rattle.sector_txn.proofs.Changes.{store_same, store_joined}
 use Rattle.bit_alloc.proofs.Transactions.{spare_unchanged}
-use Rattle.path_walk.proofs.Calling.{state_kept, met_ok}
+use Rattle.call_parts.proofs.Calling.{state_kept, met_ok}
 use Rattle.path_walk.proofs.Kept.{sound_kept, kept}
-use Rattle.file_calls.proofs.ByDescriptor.{opened_as, open_below, closed_performs, bad_performs, unread_performs, asked_performs}
+use Rattle.call_parts.proofs.ByDescriptor.{opened_as, open_below, closed_performs, bad_performs, unread_performs, asked_performs}
 use Rattle.file_calls.proofs.Cutting.{ftruncate_by, process_stays, size_asked, size_met, cuts}
 use Rattle.file_calls.proofs.Rewritten.{changed_tree}
 use Rattle.file_calls.proofs.Sized.{few_enough}

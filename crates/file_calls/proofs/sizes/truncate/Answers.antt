@@ -11,14 +11,14 @@ use Rattle.fs_model.specs.Scenes.{number, must_be_there}
 use Rattle.bit_alloc.proofs.Transactions.{spare_unchanged}
 use Rattle.block_map.proofs.Runs.{unchanged_joined}
 use Rattle.sector_txn.proofs.Changes.{store_joined}
-use Rattle.path_walk.proofs.ByPath.{absent_performs, find_refused, has_found, found_below, demands_refused}
-use Rattle.path_walk.proofs.Calling.{first_asked, met_ok, state_tree, state_kept, cwd_below}
+use Rattle.call_parts.proofs.ByPath.{absent_performs, find_refused, has_found, found_below, demands_refused}
+use Rattle.call_parts.proofs.Calling.{first_asked, met_ok, state_tree, state_kept, cwd_below}
 use Rattle.path_walk.proofs.HeldInodes.{held_inodes}
 use Rattle.path_walk.proofs.Kept.{kept, sound_kept, interrupts_later}
-use Rattle.file_calls.proofs.Changed.{change_performs}
-use Rattle.file_calls.proofs.Followed.{followed_access, access_held, inode_kept, permission_refused, permission_granted}
+use Rattle.call_parts.proofs.Changed.{change_performs}
+use Rattle.call_parts.proofs.Followed.{followed_access, access_held, inode_kept, permission_refused, permission_granted}
 use Rattle.file_calls.proofs.Rows.{truncate_by_path}
-use Rattle.file_calls.proofs.Shown.{is_inode}
+use Rattle.call_parts.proofs.Shown.{is_inode}
 use Rattle.file_calls.proofs.Sized.{truncate_rest, few_enough, file_kind, directory_refused, write_refused, size_refused, size_changed}
 use Rattle.file_calls.proofs.sizes.truncate.Goals as goal
 

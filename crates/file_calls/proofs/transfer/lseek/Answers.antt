@@ -5,7 +5,7 @@ use Rattle.fs_cred.specs.declared.errno.Errno.TheVariants.{EINVAL}
 use Rattle.fs_cred.specs.declared.refusal.Refusal.TheVariants.{Failed}
 use Rattle.fs_model.specs.declared.reply.Reply.TheVariants.{At}
 use Rattle.fs_model.specs.Processes.{with_offset}
-use Rattle.file_calls.proofs.ByDescriptor.{opened_as, opened_ok, open_below, closed_performs, unread_performs, asked_performs, changed_one, offset_stays_open}
+use Rattle.call_parts.proofs.ByDescriptor.{opened_as, opened_ok, open_below, closed_performs, unread_performs, asked_performs, changed_one, offset_stays_open}
 use Rattle.file_calls.proofs.DescriptorRows.{not_bad}
 use Rattle.file_calls.proofs.Seeking.{lseek_by, lseek_refused, lseek_lost, lseek_told}
 use Rattle.file_calls.proofs.transfer.lseek.Goals as goal

@@ -10,7 +10,7 @@ use Rattle.sector_txn.proofs.Changes.{store_joined}
 use Rattle.block_map.proofs.Runs.{unchanged_joined}
 use Rattle.dir_core.proofs.Scans.{inode_within}
 use Rattle.path_walk.proofs.Kept.{sound_kept, kept, interrupts_later}
-use Rattle.file_calls.proofs.ByDescriptor.{opened_as, opened_ok, open_below, closed_performs, bad_performs, unread_performs, interrupted_performs, changed_one, offset_stays_open}
+use Rattle.call_parts.proofs.ByDescriptor.{opened_as, opened_ok, open_below, closed_performs, bad_performs, unread_performs, interrupted_performs, changed_one, offset_stays_open}
 use Rattle.file_calls.proofs.Reading.{read_by, read_asked, read_refused, read_told, read_ends}
 use Rattle.file_calls.proofs.transfer.read.Goals as goal
 

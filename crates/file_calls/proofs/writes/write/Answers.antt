@@ -10,15 +10,15 @@ use Rattle.fs_layout.specs.Bytes.{SectorMap, overwritten}
 use Rattle.fs_layout.specs.Images.{inode_at, free_sectors}
 use Rattle.fs_model.specs.Limits.{least_free, move_limit}
 use Rattle.bit_alloc.proofs.Transactions.{spare_unchanged}
-use Rattle.file_calls.specs.Changes.{ChangesBytes}
+use Rattle.call_parts.specs.Changes.{ChangesBytes}
 use Rattle.fs_model.specs.declared.reply.Reply.TheVariants.{Wrote}
 use Rattle.fs_model.specs.Processes.{Descriptor, with_offset}
 use Rattle.sector_disk.proofs.Moments.{failed_later}
 use Rattle.sector_txn.proofs.Changes.{store_joined}
 use Rattle.block_map.proofs.Runs.{unchanged_joined}
-use Rattle.path_walk.proofs.Calling.{state_kept}
+use Rattle.call_parts.proofs.Calling.{state_kept}
 use Rattle.path_walk.proofs.Kept.{sound_kept, kept, kept_back, same_ok}
-use Rattle.file_calls.proofs.ByDescriptor.{opened_as, opened_ok, open_below, closed_performs, bad_performs, unread_performs, asked_performs, told, offset_stays_open}
+use Rattle.call_parts.proofs.ByDescriptor.{opened_as, opened_ok, open_below, closed_performs, bad_performs, unread_performs, asked_performs, told, offset_stays_open}
 use Rattle.file_calls.proofs.Rewritten.{changed_tree, still_now}
 use Rattle.file_calls.proofs.Writing.{unchanged_same, true_if, is_enough, write_by, write_asked, asks_nothing, empty_if, some_if, file_kind, too_far, too_full, all_met, writes}
 use Rattle.file_calls.proofs.writes.write.Goals as goal

@@ -7,7 +7,7 @@ use Rattle.fs_model.specs.declared.event.Event.TheVariants.{Call as Calls}
 use Rattle.fs_model.specs.declared.reply.Reply.{Reply}
 use Rattle.fs_model.specs.declared.reply.Reply.TheVariants.{Refused}
 use Rattle.fs_model.specs.States.{State}
-use Rattle.path_walk.specs.Performing.{IsRefused}
+use Rattle.call_parts.specs.Performing.{IsRefused}
 use Rattle.fs_system.specs.Doing.{Does}
 use Rattle.fs_system.proofs.Endings.{call_performed, refused_steps, why_failed}
 use Rattle.fs_system.proofs.EventEnds.{begins_ready, event_runs, does_event, does_halt}

@@ -2,11 +2,11 @@ use Rattle.std.proofs.Common.{ℕ, ap, ◌∙◌, refl}
 use Rattle.fs_model.specs.declared.reply.Reply.TheVariants.{Done}
 use Rattle.fs_model.specs.Scenes.{number, with_process}
 use Rattle.block_map.proofs.Runs.{unchanged_joined}
-use Rattle.path_walk.proofs.ByPath.{absent_performs, find_refused, is_found_there, demands_refused}
-use Rattle.path_walk.proofs.Calling.{state_tree, state_kept, cwd_below, found_there}
+use Rattle.call_parts.proofs.ByPath.{absent_performs, find_refused, is_found_there, demands_refused}
+use Rattle.call_parts.proofs.Calling.{state_tree, state_kept, cwd_below, found_there}
 use Rattle.path_walk.proofs.HeldInodes.{held_inodes}
 use Rattle.path_walk.proofs.Kept.{sound_kept}
-use Rattle.file_calls.proofs.ByDescriptor.{changed_there}
+use Rattle.call_parts.proofs.ByDescriptor.{changed_there}
 use Rattle.name_calls.proofs.Entered.{chdir_by_path, entering_as, entered_as, process_performs}
 use Rattle.name_calls.proofs.directories.chdir.Goals as goal
 

@@ -6,10 +6,10 @@ use Rattle.fs_model.specs.Scenes.{number, must_be_there}
 use Rattle.block_map.proofs.Runs.{unchanged_joined}
 use Rattle.path_walk.specs.Answers.{refused_or}
 use Rattle.path_walk.specs.HeldTrees.{HasAccess}
-use Rattle.path_walk.proofs.Calling.{first_asked, answered_later}
+use Rattle.call_parts.proofs.Calling.{first_asked, answered_later}
 use Rattle.path_walk.proofs.HeldNodes.{number_below}
 use Rattle.path_walk.proofs.Kept.{answered_err, kept, sound_kept}
-use Rattle.file_calls.proofs.Shown.{is_inode}
+use Rattle.call_parts.proofs.Shown.{is_inode}
 use Rattle.name_calls.specs.Entering.{enter_asked}
 use Rattle.name_calls.proofs.Entered.{access, entering_rest, other_kind_refused, search_held, search_refused, entered}
 use Rattle.name_calls.proofs.directories.directory_found.Goals as goal

@@ -11,9 +11,9 @@ use Rattle.fs_model.specs.Births.{the_node, born_acl, born_directory}
 use Rattle.fs_model.specs.Nodes.{Node, default_in}
 use Rattle.path_walk.proofs.HeldNodes.{number_below, is_there}
 use Rattle.path_walk.proofs.Kept.{kept, kept_back, sound_kept, interrupts_later}
-use Rattle.file_calls.specs.Makings.{CanMake}
-use Rattle.file_calls.proofs.Makeable.{may_make}
-use Rattle.name_calls.specs.NewNodes.{MakesNode, directory_made}
+use Rattle.call_parts.specs.Makings.{CanMake}
+use Rattle.call_parts.proofs.Makeable.{may_make}
+use Rattle.call_parts.specs.NewNodes.{MakesNode, directory_made}
 use Rattle.name_calls.proofs.Inherited.{bits_below, default_held, directory_is}
 use Rattle.name_calls.proofs.NewNames.{allowed, not_allowed, not_made}
 use Rattle.name_calls.proofs.directories.make_directory.Goals as goal

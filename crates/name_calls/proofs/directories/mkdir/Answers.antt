@@ -4,12 +4,12 @@ use Rattle.fs_model.specs.declared.reply.Reply.TheVariants.{Done}
 use Rattle.fs_model.specs.Scenes.{must_be_new}
 use Rattle.std.specs.Prelude.{[], ◌∷◌}
 use Rattle.bit_alloc.proofs.Transactions.{spare_unchanged}
-use Rattle.path_walk.specs.Paths.{scene_at}
-use Rattle.path_walk.proofs.ByPath.{absent_performs, find_refused, has_found, demands_refused}
-use Rattle.path_walk.proofs.Calling.{first_asked, state_tree, state_kept, cwd_below}
+use Rattle.call_parts.specs.Paths.{scene_at}
+use Rattle.call_parts.proofs.ByPath.{absent_performs, find_refused, has_found, demands_refused}
+use Rattle.call_parts.proofs.Calling.{first_asked, state_tree, state_kept, cwd_below}
 use Rattle.path_walk.proofs.HeldInodes.{held_inodes}
 use Rattle.path_walk.proofs.Kept.{sound_kept}
-use Rattle.file_calls.proofs.Changed.{change_performs}
+use Rattle.call_parts.proofs.Changed.{change_performs}
 use Rattle.name_calls.proofs.BornDirectories.{mode_performs, mkdir_by_path, is_new_name, directory_changes}
 use Rattle.name_calls.proofs.NewNames.{space_at, space_refused, new_in}
 use Rattle.name_calls.proofs.directories.mkdir.Goals as goal

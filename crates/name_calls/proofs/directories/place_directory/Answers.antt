@@ -5,8 +5,8 @@ use Rattle.sector_txn.proofs.Changes.{store_joined}
 use Rattle.inode_table.specs.Acls.{acls_take}
 use Rattle.path_walk.specs.Answers.{FailsToRead}
 use Rattle.path_walk.proofs.Kept.{failed_with}
-use Rattle.file_calls.proofs.NewFile.{dir_kept}
-use Rattle.name_calls.specs.NewNodes.{directory_made}
+use Rattle.call_parts.proofs.NewFile.{dir_kept}
+use Rattle.call_parts.specs.NewNodes.{directory_made}
 use Rattle.name_calls.proofs.BornDirectories.{directory_fits, acls_few, directory_taken}
 use Rattle.name_calls.proofs.NewNames.{room_then, was_taken}
 use Rattle.name_calls.proofs.directories.place_directory.Goals as goal

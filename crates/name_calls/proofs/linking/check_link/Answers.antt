@@ -9,12 +9,12 @@ use Rattle.fs_model.specs.Scenes.{number}
 use Rattle.block_map.proofs.Runs.{unchanged_joined}
 use Rattle.path_walk.specs.Answers.{refused_or, IsAnswered}
 use Rattle.path_walk.specs.HeldTrees.{HoldsTree}
-use Rattle.path_walk.proofs.Calling.{state_tree, met_ok, answered_later}
+use Rattle.call_parts.proofs.Calling.{state_tree, met_ok, answered_later}
 use Rattle.path_walk.proofs.Kept.{kept, kept_back, sound_kept, answered_err}
 use Rattle.name_calls.specs.Linking.{source_asked, place_asked}
-use Rattle.name_calls.specs.TwoPaths.{scene_with}
+use Rattle.call_parts.specs.TwoPaths.{scene_with}
 use Rattle.name_calls.proofs.BornLinks.{is_link_name}
-use Rattle.name_calls.proofs.FoundBoth.{first_there}
+use Rattle.call_parts.proofs.FoundBoth.{first_there}
 use Rattle.name_calls.proofs.LinkAsked.{source_refuses, name_refuses, place_refuses, link_asked_met, source_inode}
 use Rattle.name_calls.proofs.Linkings.{name_dir}
 use Rattle.name_calls.proofs.linking.check_link.Goals as goal

@@ -5,10 +5,11 @@ use Rattle.fs_layout.specs.Images.{inode_at}
 use Rattle.fs_model.specs.Demands.{Demand, first_of, permission_on, write_and_search}
 use Rattle.path_walk.specs.Answers.{refused_or, IsAnswered}
 use Rattle.path_walk.specs.HeldTrees.{HoldsTree}
-use Rattle.path_walk.proofs.Calling.{met_ok, answered_later}
+use Rattle.call_parts.proofs.Calling.{met_ok, answered_later}
 use Rattle.path_walk.proofs.Kept.{kept, kept_back, sound_kept, answered_err}
-use Rattle.file_calls.proofs.OpenFound.{checked}
-use Rattle.name_calls.specs.Linking.{room_asked, place_asked}
+use Rattle.call_parts.proofs.Checked.{checked}
+use Rattle.call_parts.specs.Makings.{room_asked}
+use Rattle.name_calls.specs.Linking.{place_asked}
 use Rattle.name_calls.proofs.LinkAsked.{place_denied, place_many, place_full, place_met}
 use Rattle.name_calls.proofs.linking.check_place.Goals as goal
 

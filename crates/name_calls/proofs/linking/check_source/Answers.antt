@@ -4,11 +4,11 @@ use Rattle.fs_layout.specs.Images.{inode_at}
 use Rattle.fs_model.specs.Demands.{Demand, first_of}
 use Rattle.fs_model.specs.Scenes.{number, must_be_there}
 use Rattle.path_walk.specs.Answers.{refused_or}
-use Rattle.path_walk.proofs.Calling.{met_ok}
+use Rattle.call_parts.proofs.Calling.{met_ok}
 use Rattle.path_walk.proofs.HeldNodes.{number_below}
 use Rattle.path_walk.proofs.Kept.{answered_err}
-use Rattle.file_calls.proofs.Owned.{node_of}
-use Rattle.file_calls.proofs.Shown.{is_inode}
+use Rattle.call_parts.proofs.Ownership.{node_of}
+use Rattle.call_parts.proofs.Shown.{is_inode}
 use Rattle.name_calls.specs.Linking.{source_asked}
 use Rattle.name_calls.proofs.LinkAsked.{source_special, source_absent, source_other, source_all_met}
 use Rattle.name_calls.proofs.linking.check_source.Goals as goal

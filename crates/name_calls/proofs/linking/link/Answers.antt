@@ -9,13 +9,13 @@ use Rattle.fs_model.specs.Stands.{HoldsAll, placed}
 use Rattle.bit_alloc.proofs.Transactions.{spare_unchanged}
 use Rattle.block_map.proofs.Runs.{unchanged_joined}
 use Rattle.sector_txn.proofs.Changes.{store_joined}
-use Rattle.path_walk.proofs.ByPath.{absent_performs}
-use Rattle.path_walk.proofs.Calling.{state_tree, state_kept, cwd_below}
+use Rattle.call_parts.proofs.ByPath.{absent_performs}
+use Rattle.call_parts.proofs.Calling.{state_tree, state_kept, cwd_below}
 use Rattle.path_walk.proofs.HeldInodes.{held_inodes}
 use Rattle.path_walk.proofs.Kept.{kept, sound_kept, interrupts_later}
 use Rattle.name_calls.specs.Linking.{MayLink}
-use Rattle.name_calls.proofs.ByTwoPaths.{names_refused, has_found_both, both_refused, both_performs}
-use Rattle.name_calls.proofs.FoundBoth.{finds_both}
+use Rattle.call_parts.proofs.ByTwoPaths.{names_refused, has_found_both, both_refused, both_performs}
+use Rattle.call_parts.proofs.FoundBoth.{finds_both}
 use Rattle.name_calls.proofs.Linkings.{link_by_two, link_told, link_may, few_names, link_changes}
 use Rattle.name_calls.proofs.linking.link.Goals as goal
 

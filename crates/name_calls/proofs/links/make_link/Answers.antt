@@ -8,9 +8,9 @@ use Rattle.fs_model.specs.Births.{the_node, born_link}
 use Rattle.fs_model.specs.Nodes.{Node}
 use Rattle.fs_model.specs.Trees.{IsTarget}
 use Rattle.path_walk.proofs.Kept.{kept, kept_back, sound_kept, interrupts_later}
-use Rattle.file_calls.specs.Makings.{CanMake}
-use Rattle.file_calls.proofs.Makeable.{may_make}
-use Rattle.name_calls.specs.NewNodes.{MakesNode, link_made}
+use Rattle.call_parts.specs.Makings.{CanMake}
+use Rattle.call_parts.proofs.Makeable.{may_make}
+use Rattle.call_parts.specs.NewNodes.{MakesNode, link_made}
 use Rattle.name_calls.proofs.Inherited.{link_is}
 use Rattle.name_calls.proofs.NewNames.{allowed, not_allowed, not_made}
 use Rattle.name_calls.proofs.links.make_link.Goals as goal

@@ -3,8 +3,8 @@ use Rattle.sector_disk.proofs.Moments.{failed_later}
 use Rattle.sector_txn.proofs.Changes.{store_joined}
 use Rattle.path_walk.specs.Answers.{FailsToRead}
 use Rattle.path_walk.proofs.Kept.{failed_with}
-use Rattle.file_calls.proofs.NewFile.{dir_kept}
-use Rattle.name_calls.specs.NewNodes.{link_made}
+use Rattle.call_parts.proofs.NewFile.{dir_kept}
+use Rattle.call_parts.specs.NewNodes.{link_made}
 use Rattle.name_calls.proofs.BornLinks.{link_taken, none_free, target_size}
 use Rattle.name_calls.proofs.NewNames.{room_then, was_taken}
 use Rattle.name_calls.proofs.links.place_link.Goals as goal

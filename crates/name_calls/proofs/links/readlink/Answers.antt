@@ -3,12 +3,12 @@ use Rattle.fs_layout.specs.Images.{Holds, inode_at}
 use Rattle.fs_model.specs.declared.reply.Reply.TheVariants.{Target}
 use Rattle.fs_model.specs.Scenes.{number, must_be_there, answers}
 use Rattle.block_map.proofs.Runs.{unchanged_joined}
-use Rattle.path_walk.specs.Paths.{scene_at}
-use Rattle.path_walk.proofs.ByPath.{absent_performs, find_refused, found_below, demands_refused, answered}
-use Rattle.path_walk.proofs.Calling.{first_asked, state_tree, cwd_below, found_there}
+use Rattle.call_parts.specs.Paths.{scene_at}
+use Rattle.call_parts.proofs.ByPath.{absent_performs, find_refused, found_below, demands_refused, answered}
+use Rattle.call_parts.proofs.Calling.{first_asked, state_tree, cwd_below, found_there}
 use Rattle.path_walk.proofs.HeldInodes.{held_inodes}
 use Rattle.path_walk.proofs.Kept.{kept, sound_kept, interrupts_later, same_ok}
-use Rattle.file_calls.proofs.Shown.{is_inode}
+use Rattle.call_parts.proofs.Shown.{is_inode}
 use Rattle.name_calls.proofs.Targets.{readlink_by_path, readlink_rest, target_of, is_kind_of_link, other_kind_refused, target_holds, target_told}
 use Rattle.name_calls.proofs.links.readlink.Goals as goal
 

@@ -2,14 +2,14 @@ use Rattle.std.proofs.Common.{sym, inl, ◌∙◌}
 use Rattle.sector_txn.proofs.Changes.{store_same}
 use Rattle.fs_model.specs.declared.reply.Reply.TheVariants.{Done}
 use Rattle.bit_alloc.proofs.Transactions.{spare_unchanged}
-use Rattle.path_walk.specs.Paths.{scene_at}
-use Rattle.path_walk.proofs.ByPath.{absent_performs, find_refused, has_found, demands_refused}
-use Rattle.path_walk.proofs.Calling.{state_tree, state_kept, cwd_below}
+use Rattle.call_parts.specs.Paths.{scene_at}
+use Rattle.call_parts.proofs.ByPath.{absent_performs, find_refused, has_found, demands_refused}
+use Rattle.call_parts.proofs.Calling.{state_tree, state_kept, cwd_below}
 use Rattle.path_walk.proofs.HeldInodes.{held_inodes}
 use Rattle.path_walk.proofs.Kept.{sound_kept}
-use Rattle.file_calls.proofs.Changed.{change_performs}
-use Rattle.file_calls.proofs.Owned.{some_asked}
-use Rattle.name_calls.specs.NewNodes.{link_name_asked}
+use Rattle.call_parts.proofs.Changed.{change_performs}
+use Rattle.call_parts.proofs.Ownership.{some_asked}
+use Rattle.call_parts.specs.NewNodes.{link_name_asked}
 use Rattle.name_calls.proofs.BornLinks.{target_performs, symlink_by_path, is_target, is_link_name, link_changes}
 use Rattle.name_calls.proofs.NewNames.{space_at, space_refused, new_in}
 use Rattle.name_calls.proofs.links.symlink.Goals as goal

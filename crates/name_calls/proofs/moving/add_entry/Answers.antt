@@ -6,7 +6,7 @@ use Rattle.bit_alloc.proofs.Transactions.{spare_unchanged}
 use Rattle.path_walk.proofs.Kept.{kept, kept_back, sound_kept}
 use Rattle.sector_txn.proofs.Changes.{store_joined}
 use Rattle.name_calls.specs.Moving.{ChangesNames}
-use Rattle.name_calls.specs.NewNodes.{MayBeNamed}
+use Rattle.call_parts.specs.NewNodes.{MayBeNamed}
 use Rattle.name_calls.proofs.Movings.{named_names, taken_after}
 use Rattle.name_calls.proofs.moving.add_entry.Goals as goal
 

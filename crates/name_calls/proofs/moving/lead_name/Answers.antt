@@ -6,7 +6,7 @@ use Rattle.fs_layout.specs.Directories.{HasNames}
 use Rattle.bit_alloc.proofs.Transactions.{puts_after}
 use Rattle.path_walk.proofs.Kept.{kept, sound_kept}
 use Rattle.name_calls.proofs.Movings.{names_changed}
-use Rattle.name_calls.proofs.Takings.{not_removed}
+use Rattle.call_parts.proofs.Removed.{not_removed}
 use Rattle.name_calls.proofs.moving.lead_name.Goals as goal
 
 pub replace-requires-clause-sound : goal.replace-requires-clause-sound

@@ -7,7 +7,7 @@ use Rattle.sector_txn.proofs.Changes.{store_joined}
 use Rattle.path_walk.specs.Answers.{FailsToRead}
 use Rattle.path_walk.proofs.Kept.{failed_with}
 use Rattle.name_calls.specs.Moving.{ChangesNames, within, across}
-use Rattle.name_calls.specs.Removing.{RemovesName}
+use Rattle.call_parts.specs.Dropping.{RemovesName}
 use Rattle.name_calls.proofs.Movings.{removed_names, is_nothing, is_something, dir_below, named_first, named_here, leads_first, may_lead}
 use Rattle.name_calls.proofs.moving.move_entry.Goals.{else-first-second-via-then-first-second+else-is_none, else-first-second-via-else-first-second}
 use Rattle.name_calls.proofs.moving.move_entry.Goals as goal

@@ -8,7 +8,7 @@ use Rattle.fs_layout.proofs.OneSlots.{names_same}
 use Rattle.bit_alloc.proofs.Transactions.{puts_after}
 use Rattle.path_walk.proofs.Kept.{kept, sound_kept}
 use Rattle.name_calls.proofs.Movings.{names_changed}
-use Rattle.name_calls.proofs.Takings.{not_removed}
+use Rattle.call_parts.proofs.Removed.{not_removed}
 use Rattle.name_calls.proofs.moving.rename_here.Goals as goal
 
 pub rename-requires-clause-sound : goal.rename-requires-clause-sound

@@ -8,10 +8,10 @@ use Rattle.fs_model.specs.Scenes.{number, must_be_there}
 use Rattle.block_map.proofs.Runs.{unchanged_joined}
 use Rattle.path_walk.specs.Answers.{refused_or}
 use Rattle.path_walk.specs.HeldTrees.{HasAccess}
-use Rattle.path_walk.proofs.Calling.{answered_later, met_ok}
+use Rattle.call_parts.proofs.Calling.{answered_later, met_ok}
 use Rattle.path_walk.proofs.HeldNodes.{number_below, is_there}
 use Rattle.path_walk.proofs.Kept.{kept, kept_back, sound_kept, answered_err}
-use Rattle.file_calls.proofs.Shown.{is_inode}
+use Rattle.call_parts.proofs.Shown.{is_inode}
 use Rattle.name_calls.specs.Removing.{removal_asked}
 use Rattle.name_calls.proofs.RemovalAsked.{access, access_held, removal_slashed, removal_denied, removal_sticky, removal_met}
 use Rattle.name_calls.proofs.removal.check_removal.Goals as goal

@@ -9,10 +9,10 @@ use Rattle.fs_model.specs.NameCalls.{unlink_demands}
 use Rattle.fs_model.specs.Nodes.{is_directory}
 use Rattle.fs_model.specs.Scenes.{is_found, is_special, number}
 use Rattle.path_walk.specs.Answers.{refused_or, IsAnswered}
-use Rattle.path_walk.specs.Paths.{scene_at}
-use Rattle.path_walk.proofs.Calling.{state_tree}
+use Rattle.call_parts.specs.Paths.{scene_at}
+use Rattle.call_parts.proofs.Calling.{state_tree}
 use Rattle.path_walk.proofs.Kept.{answered_err}
-use Rattle.file_calls.proofs.OpenFound.{checked}
+use Rattle.call_parts.proofs.Checked.{checked}
 use Rattle.name_calls.specs.Removing.{removal_asked}
 use Rattle.name_calls.proofs.RemovalRows.{asked_first, asked_second, asked_third, all_asked, name_there, plain_name, kind_told, inode_told}
 use Rattle.name_calls.proofs.removal.check_unlink.Goals as goal

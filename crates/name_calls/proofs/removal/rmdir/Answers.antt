@@ -11,12 +11,12 @@ use Rattle.fs_model.specs.Stands.{HoldsAll, placed}
 use Rattle.bit_alloc.proofs.Transactions.{spare_unchanged}
 use Rattle.block_map.proofs.Runs.{unchanged_joined}
 use Rattle.sector_txn.proofs.Changes.{store_joined}
-use Rattle.path_walk.specs.Paths.{scene_at}
-use Rattle.path_walk.proofs.ByPath.{absent_performs, find_refused, has_found, demands_refused}
-use Rattle.path_walk.proofs.Calling.{met_ok, state_tree, state_kept, cwd_below}
+use Rattle.call_parts.specs.Paths.{scene_at}
+use Rattle.call_parts.proofs.ByPath.{absent_performs, find_refused, has_found, demands_refused}
+use Rattle.call_parts.proofs.Calling.{met_ok, state_tree, state_kept, cwd_below}
 use Rattle.path_walk.proofs.HeldInodes.{held_inodes}
 use Rattle.path_walk.proofs.Kept.{kept, sound_kept, interrupts_later}
-use Rattle.file_calls.proofs.Changed.{change_performs}
+use Rattle.call_parts.proofs.Changed.{change_performs}
 use Rattle.name_calls.specs.Removing.{MayGo}
 use Rattle.name_calls.proofs.RemovalRows.{rmdir_by_path, finds_name, rmdir_told, rmdir_may, name_gone}
 use Rattle.name_calls.proofs.removal.rmdir.Goals as goal

@@ -6,13 +6,13 @@ use Rattle.fs_model.specs.RenameCall.{is_same, rename_demands}
 use Rattle.fs_model.specs.Scenes.{number}
 use Rattle.block_map.proofs.Runs.{unchanged_joined}
 use Rattle.path_walk.specs.Answers.{refused_or}
-use Rattle.path_walk.proofs.Calling.{state_tree, met_ok, answered_later}
+use Rattle.call_parts.proofs.Calling.{state_tree, met_ok, answered_later}
 use Rattle.path_walk.proofs.Kept.{sound_kept, answered_err}
-use Rattle.file_calls.proofs.OpenFound.{checked}
+use Rattle.call_parts.proofs.Checked.{checked}
 use Rattle.name_calls.specs.Renaming.{names_asked, inode_there}
 use Rattle.name_calls.specs.Replacing.{move_asked}
-use Rattle.name_calls.specs.TwoPaths.{scene_with}
-use Rattle.name_calls.proofs.FoundBoth.{first_there, second_there}
+use Rattle.call_parts.specs.TwoPaths.{scene_with}
+use Rattle.call_parts.proofs.FoundBoth.{first_there, second_there}
 use Rattle.name_calls.proofs.RenameRows.{Renamed, names_refuse, move_refuses, same_met, move_met, to_rename, same_is}
 use Rattle.name_calls.proofs.ReplaceAsked.{to_rename_kept}
 use Rattle.name_calls.proofs.renaming.check_rename.Goals as goal

@@ -6,11 +6,11 @@ use Rattle.fs_model.specs.Demands.{Demand, first_of}
 use Rattle.fs_model.specs.Scenes.{number, must_be_there}
 use Rattle.block_map.proofs.Runs.{unchanged_joined}
 use Rattle.path_walk.specs.Answers.{refused_or}
-use Rattle.path_walk.proofs.Calling.{met_ok}
+use Rattle.call_parts.proofs.Calling.{met_ok}
 use Rattle.path_walk.proofs.HeldNodes.{number_below}
 use Rattle.path_walk.proofs.Kept.{kept_back, sound_kept, answered_err, interrupted, interrupts_later, same_ok}
-use Rattle.file_calls.proofs.OpenFound.{checked}
-use Rattle.file_calls.proofs.Shown.{is_inode}
+use Rattle.call_parts.proofs.Checked.{checked}
+use Rattle.call_parts.proofs.Shown.{is_inode}
 use Rattle.name_calls.specs.Renaming.{names_asked, inode_there}
 use Rattle.name_calls.proofs.RenameAsked.{ends_refuse, first_absent, slashes_refuse, slashes_are, names_met}
 use Rattle.name_calls.proofs.renaming.check_renamed.Goals as goal

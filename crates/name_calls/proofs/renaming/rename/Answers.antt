@@ -7,15 +7,15 @@ use Rattle.fs_model.specs.Scenes.{number}
 use Rattle.bit_alloc.proofs.Transactions.{spare_unchanged}
 use Rattle.block_map.proofs.Runs.{unchanged_joined}
 use Rattle.sector_txn.proofs.Changes.{store_joined}
-use Rattle.path_walk.proofs.ByPath.{absent_performs}
-use Rattle.path_walk.proofs.Calling.{state_tree, state_kept, cwd_below}
+use Rattle.call_parts.proofs.ByPath.{absent_performs}
+use Rattle.call_parts.proofs.Calling.{state_tree, state_kept, cwd_below}
 use Rattle.path_walk.proofs.HeldInodes.{held_inodes}
 use Rattle.path_walk.proofs.Kept.{kept, sound_kept, interrupts_later}
 use Rattle.name_calls.specs.Moving.{MayMove}
 use Rattle.name_calls.specs.Renaming.{inode_there}
 use Rattle.name_calls.specs.Replacing.{same_number}
-use Rattle.name_calls.proofs.ByTwoPaths.{names_refused, has_found_both, both_refused, both_performs}
-use Rattle.name_calls.proofs.FoundBoth.{finds_both}
+use Rattle.call_parts.proofs.ByTwoPaths.{names_refused, has_found_both, both_refused, both_performs}
+use Rattle.call_parts.proofs.FoundBoth.{finds_both}
 use Rattle.name_calls.proofs.RenameRows.{Renamed, rename_by_two, rename_told, same_is, may_move, rename_changes, rename_stays}
 use Rattle.name_calls.proofs.renaming.rename.Goals as goal
 

@@ -8,12 +8,12 @@ use Rattle.fs_model.specs.RenameCall.{rename_permissions}
 use Rattle.block_map.proofs.Runs.{unchanged_joined}
 use Rattle.path_walk.specs.Answers.{refused_or}
 use Rattle.path_walk.specs.HeldTrees.{HoldsTree}
-use Rattle.path_walk.proofs.Calling.{state_tree, met_ok, answered_later}
+use Rattle.call_parts.proofs.Calling.{state_tree, met_ok, answered_later}
 use Rattle.path_walk.proofs.Kept.{kept, kept_back, sound_kept, answered_err}
-use Rattle.file_calls.proofs.OpenFound.{checked}
-use Rattle.name_calls.specs.Removing.{sticky_asked}
+use Rattle.call_parts.proofs.Checked.{checked}
+use Rattle.call_parts.specs.Asked.{sticky_asked}
 use Rattle.name_calls.specs.Replacing.{sticky_there}
-use Rattle.name_calls.specs.TwoPaths.{scene_with}
+use Rattle.call_parts.specs.TwoPaths.{scene_with}
 use Rattle.name_calls.proofs.ReplaceAsked.{asked_as, first_denied, second_denied, first_keeps, second_keeps, first_yields, permissions_met}
 use Rattle.name_calls.proofs.replacing.check_permissions.Goals as goal
 

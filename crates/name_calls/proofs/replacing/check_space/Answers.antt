@@ -3,10 +3,10 @@ use Rattle.std.specs.Prelude.{is_some}
 use Rattle.fs_model.specs.Demands.{Demand, first_of}
 use Rattle.fs_model.specs.RenameCall.{rename_space}
 use Rattle.path_walk.specs.Answers.{IsAnswered}
-use Rattle.path_walk.proofs.Calling.{state_tree}
+use Rattle.call_parts.proofs.Calling.{state_tree}
 use Rattle.path_walk.proofs.Kept.{answered_err}
-use Rattle.file_calls.proofs.OpenFound.{checked}
-use Rattle.name_calls.specs.TwoPaths.{scene_with}
+use Rattle.call_parts.proofs.Checked.{checked}
+use Rattle.call_parts.specs.TwoPaths.{scene_with}
 use Rattle.name_calls.proofs.ReplaceAsked.{room_is}
 use Rattle.name_calls.proofs.replacing.check_space.Goals as goal
 

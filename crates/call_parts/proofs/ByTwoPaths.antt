@@ -1,0 +1,246 @@
+-- The exits of a call by two paths.
+--     first_unfit, second_unfit        the checks of its paths
+--     walked_as, first_walk_refused, second_walk_refused, both_walked        its walks
+--     IsByTwoPaths        what its row is made of
+--     names_refused        the checks or the walks of its paths refuse
+--     has_found_both        what its walks have found
+--     both_refused        what it asks of that refuses
+--     both_performs        it is done
+use Rattle.std.specs.Prelude.{◌≡◌, ℕ, List, None, Some, IsTrue, Result, Ok, Err, IsErr, IsErrAnd}
+use Rattle.std.proofs.Common.{refl, sym, ap, subst, ◌∙◌, inl, inr}
+use Rattle.std.specs.Ordering.{nat_cmp}
+use Rattle.sector_disk.specs.Disk.{DiskState}
+use Rattle.fs_cred.specs.declared.refusal.Refusal.{Refusal}
+use Rattle.fs_cred.specs.Credentials.{Credential}
+use Rattle.fs_layout.specs.declared.place.Place.{Place}
+use Rattle.fs_layout.specs.Maps.{get}
+use Rattle.sector_txn.specs.Sectors.{TxnState, SameStore, IsUnchanged}
+use Rattle.sector_txn.proofs.Changes.{store_joined}
+use Rattle.fs_model.specs.declared.call.Call.{Call}
+use Rattle.fs_model.specs.declared.event.Event.TheVariants.{Call as Calls}
+use Rattle.fs_model.specs.declared.reply.Reply.{Reply}
+use Rattle.fs_model.specs.declared.walk.Form.TheVariants.{Parent}
+use Rattle.fs_model.specs.declared.walk.Found.{Found}
+use Rattle.fs_model.specs.Demands.{Demand, or_else, first_of}
+use Rattle.fs_model.specs.Parts.{path_checks}
+use Rattle.fs_model.specs.Processes.{Process, Desks}
+use Rattle.fs_model.specs.Rows.{row_of}
+use Rattle.fs_model.specs.Scenes.{Scene, Effect, Row, by_two_paths}
+use Rattle.fs_model.specs.States.{State}
+use Rattle.fs_model.specs.Steps.{after, after_call, after_effect, asks_in_call, early_refusal, late_refusal, firm_refusal, other_refusal, found_by}
+use Rattle.fs_model.specs.Trees.{Tree}
+use Rattle.fs_model.proofs.StepsDemands.{first_met, then_met}
+use Rattle.fs_model.proofs.Unchanged.{same_process_stays}
+use Rattle.path_walk.specs.Answers.{refused_or, IsAnswered}
+use Rattle.path_walk.specs.HeldTrees.{HoldsTree, IsThere}
+use Rattle.call_parts.specs.Performing.{IsStateOf, IsRefused, Performs, chosen}
+use Rattle.call_parts.specs.Performing as why
+use Rattle.path_walk.specs.Walked.{walk_of}
+use Rattle.call_parts.proofs.ByPath.{refusing, refused_performs}
+use Rattle.call_parts.proofs.Calling.{early_is, late_is, after_is, state_tree, state_kept, same_process, cwd_there, first_of-append, met_ok, refused_err, answered_later, answered_refused, interrupted_refused}
+use Rattle.path_walk.proofs.Kept.{is_err}
+use Rattle.call_parts.proofs.Changed.{IsChange}
+use Rattle.call_parts.proofs.Checked.{checked}
+use Rattle.call_parts.specs.TwoPaths.{both_checks, walk_refusal, walks_of, scene_with, HasFoundBoth}
+
+-- ---- both paths, one after the other
+
+module _ {A : Type 0} (old new : List ℕ) (r : Result A Refusal) (e : Refusal) (err : IsErr r) (and : IsErrAnd r (λ y. y ≡ e)) where
+  refused_by : {x : Refusal} → first_of (both_checks old new) ≡ Some e → first_of (both_checks old new) ≡ Some x → r ≡ Err x
+  refused_by {x} is other =
+      let same : e ≡ x = (let both : Some e ≡ Some x = sym is ∙ other in cc) in
+      is_err r e err and ∙ ap (λ (y : Refusal). Err y) same
+
+  -- the first may not be walked
+  pub first_unfit : checked (first_of (path_checks old)) ≡ Err e → (x : Refusal) → first_of (both_checks old new) ≡ Some x → r ≡ Err x
+  first_unfit is x = refused_by
+      (first_of-append (path_checks old) (path_checks new)
+      ∙ ap (λ (d : Demand). or_else d (first_of (path_checks new))) (refused_err {A = Unit {0}} (first_of (path_checks old)) tt e is))
+
+  -- it may, and the second may not
+  pub second_unfit : checked (first_of (path_checks old)) ≡ Ok tt → checked (first_of (path_checks new)) ≡ Err e
+      → (x : Refusal) → first_of (both_checks old new) ≡ Some x → r ≡ Err x
+  second_unfit met is x = refused_by
+      (first_of-append (path_checks old) (path_checks new)
+      ∙ ap (λ (d : Demand). or_else d (first_of (path_checks new))) (met_ok {A = Unit {0}} (first_of (path_checks old)) tt tt met).0
+      ∙ refused_err {A = Unit {0}} (first_of (path_checks new)) tt e is)
+
+-- a walk from the current directory of the process, as the process
+pub walked_as : {cred who : Credential} {cwd here : ℕ} (old new : DiskState) (t : Tree) (walk : ℕ) (path : List ℕ) (r : Result Found Refusal) → cred ≡ who → cwd ≡ here
+    → IsThere t here → (IsThere t cwd → IsAnswered old new (walk_of t cred walk Parent cwd path) r) → IsAnswered old new (walk_of t who walk Parent here path) r
+walked_as {cred} {who} {cwd} {here} old new t walk path r same at there h =
+    subst (λ (k : Credential). IsAnswered old new (walk_of t k walk Parent here path) r) same
+    (subst (λ (n : ℕ). IsAnswered old new (walk_of t cred walk Parent n path) r) at (h (subst (IsThere t) (sym at) there)))
+
+module _ (t : Tree) (cred : Credential) (cwd : ℕ) (old new : List ℕ) (before after : DiskState) where
+  abbrev one : Demand
+  one = walk_refusal t cred 1 cwd old
+
+  abbrev two : Demand
+  two = walk_refusal t cred 2 cwd new
+
+  abbrev finds : Found × Found
+  finds = (found_by t cwd (Parent, old), found_by t cwd (Parent, new))
+
+  -- the first is refused
+  pub first_walk_refused : (e : Refusal) → IsAnswered before after (walk_of t cred 1 Parent cwd old) (Err e)
+      → IsAnswered before after (walks_of t cred cwd old new) (Err e)
+  first_walk_refused e h = elim h [
+    | inl is ↦ inl (ap (λ (d : Demand). refused_or {A = Found × Found} (or_else d two) (Ok finds)) (refused_err {A = Found} one finds.0 e is))
+    | inr way ↦ inr way
+  ]
+
+  module _ (f : Found) (first : walk_of t cred 1 Parent cwd old ≡ Ok f) where
+    met : or_else one two ≡ two
+    met = ap (λ (d : Demand). or_else d two) (met_ok {A = Found} one finds.0 f first).0
+
+    -- it finds this, and the second is refused
+    pub second_walk_refused : (e : Refusal) → IsAnswered before after (walk_of t cred 2 Parent cwd new) (Err e)
+        → IsAnswered before after (walks_of t cred cwd old new) (Err e)
+    second_walk_refused e h = elim h [
+      | inl is ↦ inl (ap (λ (d : Demand). refused_or {A = Found × Found} d (Ok finds)) (met ∙ refused_err {A = Found} two finds.1 e is))
+      | inr way ↦ inr way
+    ]
+
+    -- both find these
+    pub both_walked : (g : Found) → walk_of t cred 2 Parent cwd new ≡ Ok g → walks_of t cred cwd old new ≡ Ok (f, g)
+    both_walked g second =
+        let a = met_ok {A = Found} one finds.0 f first in
+        let b = met_ok {A = Found} two finds.1 g second in
+        ap (λ (d : Demand). refused_or {A = Found × Found} d (Ok finds)) (met ∙ b.0)
+        ∙ ap (λ (x : Found). Ok (x, finds.1)) a.1 ∙ ap (λ (x : Found). Ok (f, x)) b.1
+
+-- ---- a row
+
+pub record IsByTwoPaths (call : Call) (old_path new_path : List ℕ) (demands : Scene → List Demand) (effect : Scene → Effect) : Type 0 where
+  pub row : row_of call ≡ by_two_paths old_path new_path demands effect
+  pub asks : IsTrue (asks_in_call call)
+
+same_err : (x y : Refusal) → refusing (Found × Found) x ≡ Err y → x ≡ y
+same_err x y e = cc
+
+module _ (s : State) (pid : ℕ) (q : Process) {call : Call} {old_path new_path : List ℕ} {demands : Scene → List Demand} {effect : Scene → Effect}
+    (is : IsByTwoPaths call old_path new_path demands effect) (there : get nat_cmp s.desks pid ≡ Some q) where
+  abbrev first : Found
+  first = found_by s.tree q.cwd (Parent, old_path)
+
+  abbrev second : Found
+  second = found_by s.tree q.cwd (Parent, new_path)
+
+  abbrev walks : Demand
+  walks = or_else (walk_refusal s.tree q.cred 1 q.cwd old_path) (walk_refusal s.tree q.cred 2 q.cwd new_path)
+
+  both_firm : firm_refusal s (Calls pid call) ≡ first_of (both_checks old_path new_path)
+  both_firm = early_is s pid q call there ∙ ap (early_refusal q) is.row
+
+  joined : (a b c : Demand) → or_else a (or_else b c) ≡ or_else (or_else a b) c
+  joined None b c = refl
+  joined (Some r) b c = refl
+
+  both_late : other_refusal s (Calls pid call) ≡ or_else walks (first_of (demands (scene_with s q first second)))
+  both_late =
+      late_is s pid q call there ∙ ap (late_refusal s q) is.row
+      ∙ joined (walk_refusal s.tree q.cred 1 q.cwd old_path) (walk_refusal s.tree q.cred 2 q.cwd new_path) (first_of (demands (scene_with s q first second)))
+
+  -- the checks or the walks refuse, or memory or a read fails
+  walks_refuse : (old new : DiskState) (r : Refusal) → ((x : Refusal) → first_of (both_checks old_path new_path) ≡ Some x → r ≡ x)
+      → (first_of (both_checks old_path new_path) ≡ None → IsAnswered old new (walks_of s.tree q.cred q.cwd old_path new_path) (Err r))
+      → IsRefused old new s pid call r
+  walks_refuse old new r fit each = go (first_of (both_checks old_path new_path)) refl
+    where
+      go : (o : Demand) → first_of (both_checks old_path new_path) ≡ o → IsRefused old new s pid call r
+      go (Some x) e = why.early (both_firm ∙ e ∙ ap Some (sym (fit x e)))
+      go None e = elim (each e) [
+        | inl refuses ↦ why.late (both_firm ∙ e)
+            (both_late ∙ ap (λ (x : Demand). or_else x (first_of (demands (scene_with s q first second)))) (refused_err {A = Found × Found} walks (first, second) r refuses))
+        | inr way ↦ interrupted_refused old new s pid call (both_firm ∙ e) is.asks r way
+      ]
+
+  module _ {f g : Found} (found : HasFoundBoth s pid q old_path new_path f g) where
+    found_scene : scene_with s q first second ≡ scene_with s q f g
+    found_scene =
+        ap (λ (x : Found). scene_with s q x second) (sym found.first_is) ∙ ap (λ (x : Found). scene_with s q f x) (sym found.second_is)
+
+    both_found_firm : firm_refusal s (Calls pid call) ≡ None
+    both_found_firm = both_firm ∙ found.checked
+
+    -- what remains are the demands on what was found
+    both_found_late : other_refusal s (Calls pid call) ≡ first_of (demands (scene_with s q f g))
+    both_found_late =
+        both_late
+        ∙ ap (λ (x : Demand). or_else (or_else x (walk_refusal s.tree q.cred 2 q.cwd new_path)) (first_of (demands (scene_with s q first second)))) found.first_unrefused
+        ∙ ap (λ (x : Demand). or_else x (first_of (demands (scene_with s q first second)))) found.second_unrefused
+        ∙ ap (λ (x : Scene). first_of (demands x)) found_scene
+
+    both_found_after : (number : ℕ) → after s (Calls pid call) (chosen number 0) ≡ after_effect s pid (effect (scene_with s q f g))
+    both_found_after number =
+        after_is s pid q call there (chosen number 0)
+        ∙ ap (λ (x : Row). after_call s pid x number (Some q)) is.row
+        ∙ ap (λ (x : Scene). after_effect s pid (effect x)) found_scene
+
+module _ {p : Place} (pid : ℕ) {call : Call} {old_path new_path : List ℕ} {demands : Scene → List Demand} {effect : Scene → Effect}
+    (is : IsByTwoPaths call old_path new_path demands effect) {old mid : TxnState} {desks : Desks} (q : Process) (there : get nat_cmp desks pid ≡ Some q)
+    (same : IsUnchanged old mid) where
+  pub names_refused : (r : Result Reply Refusal) (e : Refusal) → IsErr r → IsErrAnd r (λ y. y ≡ e)
+      → ((x : Refusal) → first_of (both_checks old_path new_path) ≡ Some x → refusing (Found × Found) e ≡ Err x)
+      → (first_of (both_checks old_path new_path) ≡ None → (t : Tree) → HoldsTree p old.sectors t → IsThere t q.cwd
+      → IsAnswered old.disk mid.disk (walks_of t q.cred q.cwd old_path new_path) (Err e))
+      → Performs p pid call old mid desks desks r
+  names_refused r e err and fit each = refused_performs r e err and same.store
+      (λ s at. walks_refuse s pid q is (same_process at pid q there) old.disk mid.disk e
+      (λ x h. same_err e x (fit x h)) (λ none. each none s.tree (state_tree at) (cwd_there at pid q there)))
+
+  module _ (f g : Found) (fit : first_of (both_checks old_path new_path) ≡ None)
+      (each : first_of (both_checks old_path new_path) ≡ None → (t : Tree) → HoldsTree p old.sectors t → IsThere t q.cwd
+      → IsAnswered old.disk mid.disk (walks_of t q.cred q.cwd old_path new_path) (Ok (f, g))) where
+    pub has_found_both : (s : State) → IsStateOf p old.sectors desks s → HasFoundBoth s pid q old_path new_path f g
+    has_found_both s at =
+        let here = same_process at pid q there in
+        let both = met_ok {A = Found × Found} (walks s pid q is here) (first s pid q is here, second s pid q is here) (f, g)
+        (each fit s.tree (state_tree at) (cwd_there at pid q there)) in
+        record {
+          there = here;
+          checked = fit;
+          first_unrefused = first_met (walk_refusal s.tree q.cred 1 q.cwd old_path) (walk_refusal s.tree q.cred 2 q.cwd new_path) both.0;
+          second_unrefused = then_met (walk_refusal s.tree q.cred 1 q.cwd old_path) (walk_refusal s.tree q.cred 2 q.cwd new_path) both.0;
+          first_is = sym (ap (λ (x : Found × Found). x.0) both.1);
+          second_is = sym (ap (λ (x : Found × Found). x.1) both.1);
+        }
+
+    pub both_refused : (new : TxnState) (r : Result Reply Refusal) (e : Refusal) → IsErr r → IsErrAnd r (λ y. y ≡ e) → SameStore mid new
+        → {A : Type 0} (x : A) → ((s : State) → HasFoundBoth s pid q old_path new_path f g → IsStateOf p mid.sectors desks s
+        → IsAnswered mid.disk new.disk (refused_or (first_of (demands (scene_with s q f g))) (Ok x)) (Err e))
+        → Performs p pid call old new desks desks r
+    both_refused new r e err and store {A} x refused = refused_performs r e err and (store_joined same.store store)
+        (λ s at.
+        let found = has_found_both s at in
+        let here = same_process at pid q there in
+        answered_refused old.disk new.disk s pid call (both_found_firm s pid q is here found) is.asks e
+        (first_of (demands (scene_with s q f g))) x (both_found_late s pid q is here found)
+        (answered_later new.disk same (refused s found (state_kept same at))))
+
+    pub both_performs : (new : TxnState) → SameStore mid new → new.sectors 0 ≡ mid.sectors 0 → (reply : Reply)
+        → ((s : State) → HasFoundBoth s pid q old_path new_path f g → IsStateOf p mid.sectors desks s
+        → IsChange p new.sectors desks s q (demands (scene_with s q f g)) (λ n. effect (scene_with s q f g)) reply)
+        → Performs p pid call old new desks desks (Ok reply)
+    both_performs new store super reply changes = record {
+      store = store_joined same.store store;
+      super = super ∙ same.sectors 0;
+      table = tt;
+      each = λ s at.
+          let found = has_found_both s at in
+          let here = same_process at pid q there in
+          let c = changes s found (state_kept same at) in
+          record {
+            early = both_found_firm s pid q is here found;
+            late = both_found_late s pid q is here found ∙ c.met;
+            number = c.number;
+            change = c.change;
+            effect = both_found_after s pid q is here found c.number
+                ∙ ap (after_effect s pid) c.is
+                ∙ ap (λ (d : Desks). record { change = c.change; desks = d; reply = reply })
+                (same_process_stays s.desks pid q at.is_state.pids here ∙ at.same_desks);
+            new_number = c.new_number;
+            holds = c.holds;
+          };
+    }

@@ -1,0 +1,168 @@
+-- What is asked of a directory before something is made in it.
+use Rattle.std.specs.Prelude.{◌≡◌, ℕ, ◌*◌, ◌==◌, nat_lt, nat_le, Bool, true, false, [], ◌∷◌, length, None, Result, Ok, Err}
+use Rattle.std.proofs.Common.{refl, sym, ap, subst, arith, ◌∙◌, inl}
+use Rattle.std.proofs.lemmas.Bool.Decides.{nat_tests}
+use Rattle.fs_cred.specs.declared.errno.Errno.TheVariants.{ENOSPC}
+use Rattle.fs_cred.specs.declared.refusal.Need.TheVariants.{Perm}
+use Rattle.fs_cred.specs.declared.refusal.Refusal.{Refusal}
+use Rattle.fs_cred.specs.declared.rule.Rule.{Rule}
+use Rattle.fs_cred.specs.Credentials.{Credential}
+use Rattle.fs_cred.specs.Verdicts.{verdict}
+use Rattle.sector_disk.specs.Disk.{DiskState}
+use Rattle.fs_layout.specs.declared.inode.Inode.{Inode}
+use Rattle.fs_layout.specs.declared.inode.TheConstants.{MAX_FILE_SIZE}
+use Rattle.fs_layout.specs.declared.place.Place.{Place}
+use Rattle.fs_layout.specs.Bytes.{SectorMap}
+use Rattle.fs_layout.specs.Images.{inode_at, free_sectors}
+use Rattle.sector_txn.specs.Sectors.{TxnState, IsUnchanged}
+use Rattle.bit_alloc.specs.declared.bitmap.Bitmap.TheVariants.{Inodes}
+use Rattle.bit_alloc.specs.Bitmaps.{free_numbers}
+use Rattle.fs_model.specs.Births.{the_node}
+use Rattle.fs_model.specs.Demands.{Demand, refuse, first_of, decided, permission_of, permission_on, write_and_search}
+use Rattle.fs_model.specs.Limits.{entries_limit, least_free}
+use Rattle.fs_model.specs.Nodes.{Node, Body, File, Dir, Link, is_directory, is_link, names_in, shown_size}
+use Rattle.fs_model.specs.Stands.{room_of}
+use Rattle.fs_model.specs.Trees.{Tree, free_inodes, IsDirectoryAt}
+use Rattle.fs_model.proofs.FreeInodes.{free_are_clear}
+use Rattle.path_walk.specs.Answers.{refused_or, IsAnswered}
+use Rattle.path_walk.specs.HeldTrees.{HoldsTree, HasAccess}
+use Rattle.call_parts.proofs.Calling.{met_ok, or_else-none, first_asked, next_asked, both_met, answered_later}
+use Rattle.path_walk.proofs.HeldNodes.{held_node, held_access}
+use Rattle.path_walk.proofs.Kept.{kept, kept_back}
+use Rattle.call_parts.specs.Makings.{make_asked}
+use Rattle.call_parts.proofs.Checked.{Checked, checked}
+use Rattle.call_parts.proofs.Followed.{IsAccessed, accessed_is, accessible}
+use Rattle.call_parts.proofs.Shown.{the_node_is, size_says}
+
+no_link : (b : Body) → is_directory b ≡ true → is_link b ≡ false
+no_link (File a bytes) e = refl
+no_link (Dir a d) e = refl
+no_link (Link target) e = absurd (cc)
+
+names_size : (b : Body) → is_directory b ≡ true → shown_size b ≡ 128 * length (names_in b)
+names_size (File a bytes) e = absurd (cc)
+names_size (Dir a d) e = refl
+names_size (Link target) e = absurd (cc)
+
+same_test : (k size : ℕ) → size ≡ 128 * k → nat_le MAX_FILE_SIZE size ≡ nat_le entries_limit k
+same_test k size e = go (nat_le MAX_FILE_SIZE size) refl (nat_le entries_limit k) refl
+  where
+    go : (a : Bool) → nat_le MAX_FILE_SIZE size ≡ a → (b : Bool) → nat_le entries_limit k ≡ b → nat_le MAX_FILE_SIZE size ≡ nat_le entries_limit k
+    go true x true y = x ∙ sym y
+    go false x false y = x ∙ sym y
+    go true x false y = absurd (grind (arith, nat_tests))
+    go false x true y = absurd (grind (arith, nat_tests))
+
+-- ---- since an earlier moment
+
+pub sectors_later : (p : Place) {old mid : TxnState} (new : DiskState) (e : Refusal) → IsUnchanged old mid
+    → IsAnswered mid.disk new (checked (refuse ENOSPC (nat_lt (free_sectors p mid.sectors) least_free))) (Err e)
+    → IsAnswered old.disk new (checked (refuse ENOSPC (nat_lt (free_sectors p old.sectors) least_free))) (Err e)
+sectors_later p {old} {mid} new e same is =
+    kept_back (λ (m : SectorMap). IsAnswered old.disk new (checked (refuse ENOSPC (nat_lt (free_sectors p m) least_free))) (Err e)) same
+    (answered_later {A = Unit {0}} new same is)
+
+pub inodes_later : (p : Place) {old mid : TxnState} (new : DiskState) (e : Refusal) → IsUnchanged old mid
+    → IsAnswered mid.disk new (checked (refuse ENOSPC (free_numbers p Inodes mid.sectors == 0))) (Err e)
+    → IsAnswered old.disk new (checked (refuse ENOSPC (free_numbers p Inodes old.sectors == 0))) (Err e)
+inodes_later p {old} {mid} new e same is =
+    kept_back (λ (m : SectorMap). IsAnswered old.disk new (checked (refuse ENOSPC (free_numbers p Inodes m == 0))) (Err e)) same
+    (answered_later {A = Unit {0}} new same is)
+
+pub size_as : {v w : Inode} {r : Checked} → w ≡ v → checked (refuse ENOSPC (nat_le MAX_FILE_SIZE w.size)) ≡ r → checked (refuse ENOSPC (nat_le MAX_FILE_SIZE v.size)) ≡ r
+size_as {v} {w} {r} same is = subst (λ (u : Inode). checked (refuse ENOSPC (nat_le MAX_FILE_SIZE u.size)) ≡ r) same is
+
+-- the size of its inode says whether a directory has place for one more name
+pub names_are : {p : Place} {map : SectorMap} {t : Tree} → HoldsTree p map t → (dir : ℕ) → IsDirectoryAt t dir
+    → refuse ENOSPC (nat_le MAX_FILE_SIZE (inode_at p map dir).size) ≡ refuse ENOSPC (nat_le entries_limit (length (names_in (the_node t dir).body)))
+names_are {p} {map} {t} h dir d =
+    let size = size_says map (inode_at p map dir) d.node.body (held_node h dir d.node d.is_there).body ∙ names_size d.node.body d.directory in
+    ap (refuse ENOSPC) (same_test (length (names_in d.node.body)) (inode_at p map dir).size size)
+    ∙ sym (ap (λ (u : Node). refuse ENOSPC (nat_le entries_limit (length (names_in u.body)))) (the_node_is t dir d.node d.is_there))
+
+module _ {p : Place} {map : SectorMap} {t : Tree} (h : HoldsTree p map t) (dir : ℕ) (d : IsDirectoryAt t dir) (cred : Credential) (step : ℕ) where
+  pub dir_access : IsAccessed t dir
+  dir_access =
+      let a = accessible d.node.owner d.node.group d.node.body (no_link d.node.body d.directory) in
+      record { node = d.node; at = d.is_there; access = a.0; is = a.1 }
+
+  pub dir_held : HasAccess map (inode_at p map dir) dir_access.access
+  dir_held = held_access h dir dir_access.access (accessed_is t dir dir_access)
+
+  abbrev allowed : Demand
+  allowed = permission_on cred t dir write_and_search 1 step
+
+  abbrev sectors : Demand
+  sectors = refuse ENOSPC (nat_lt (free_sectors p map) least_free)
+
+  abbrev inodes : Demand
+  inodes = refuse ENOSPC (free_inodes (room_of p) t == 0)
+
+  abbrev names : Demand
+  names = refuse ENOSPC (nat_le entries_limit (length (names_in (the_node t dir).body)))
+
+  abbrev decision : Result Rule Refusal
+  decision = refused_or {A = Rule} (decided 1 step (Perm write_and_search) (verdict cred dir_access.access write_and_search)) (Ok (verdict cred dir_access.access write_and_search).rule)
+
+  allowed_is : allowed ≡ decided 1 step (Perm write_and_search) (verdict cred dir_access.access write_and_search)
+  allowed_is = ap (permission_of cred write_and_search 1 step) (accessed_is t dir dir_access)
+
+  inodes_are : refuse ENOSPC (free_numbers p Inodes map == 0) ≡ inodes
+  inodes_are = ap (λ (n : ℕ). refuse ENOSPC (n == 0)) (sym (free_are_clear p map t h.holds h.tree))
+
+  module _ {A : Type 0} (x : A) (e : Refusal) (old new : DiskState) where
+    pub make_denied : IsAnswered old new decision (Err e) → IsAnswered old new (refused_or (first_of (make_asked p map cred t dir step)) (Ok x)) (Err e)
+    make_denied is =
+        first_asked {B = Rule} allowed (sectors ∷ inodes ∷ names ∷ []) (verdict cred dir_access.access write_and_search).rule x e old new
+        (subst (λ (o : Demand). IsAnswered old new (refused_or {A = Rule} o (Ok (verdict cred dir_access.access write_and_search).rule)) (Err e)) (sym allowed_is) is)
+
+    module _ (granted : allowed ≡ None) where
+      pub make_few : IsAnswered old new (checked sectors) (Err e) → IsAnswered old new (refused_or (first_of (make_asked p map cred t dir step)) (Ok x)) (Err e)
+      make_few is = next_asked allowed (sectors ∷ inodes ∷ names ∷ []) x e old new granted (first_asked {B = Unit {0}} sectors (inodes ∷ names ∷ []) tt x e old new is)
+
+      module _ (enough : sectors ≡ None) where
+        pub make_none : IsAnswered old new (checked (refuse ENOSPC (free_numbers p Inodes map == 0))) (Err e)
+            → IsAnswered old new (refused_or (first_of (make_asked p map cred t dir step)) (Ok x)) (Err e)
+        make_none is =
+            next_asked allowed (sectors ∷ inodes ∷ names ∷ []) x e old new granted
+            (next_asked sectors (inodes ∷ names ∷ []) x e old new enough
+            (first_asked {B = Unit {0}} inodes (names ∷ []) tt x e old new (subst (λ (o : Demand). IsAnswered old new (checked o) (Err e)) inodes_are is)))
+
+        pub make_crowded : inodes ≡ None → checked (refuse ENOSPC (nat_le MAX_FILE_SIZE (inode_at p map dir).size)) ≡ Err e
+            → IsAnswered old new (refused_or (first_of (make_asked p map cred t dir step)) (Ok x)) (Err e)
+        make_crowded some is =
+            next_asked allowed (sectors ∷ inodes ∷ names ∷ []) x e old new granted
+            (next_asked sectors (inodes ∷ names ∷ []) x e old new enough
+            (next_asked inodes (names ∷ []) x e old new some
+            (first_asked {B = Unit {0}} names [] tt x e old new (inl (ap checked (sym (names_are h dir d)) ∙ is)))))
+
+  pub make_granted : (rule : Rule) → decision ≡ Ok rule → allowed ≡ None
+  make_granted rule is =
+      allowed_is ∙ (met_ok {A = Rule} (decided 1 step (Perm write_and_search) (verdict cred dir_access.access write_and_search)) (verdict cred dir_access.access write_and_search).rule rule is).0
+
+  pub make_met : allowed ≡ None → sectors ≡ None → inodes ≡ None → checked (refuse ENOSPC (nat_le MAX_FILE_SIZE (inode_at p map dir).size)) ≡ Ok tt
+      → first_of (make_asked p map cred t dir step) ≡ None
+  make_met granted enough some is =
+      both_met allowed (sectors ∷ inodes ∷ names ∷ []) granted
+      (both_met sectors (inodes ∷ names ∷ []) enough
+      (both_met inodes (names ∷ []) some
+      (or_else-none names ∙ sym (names_are h dir d) ∙ (met_ok {A = Unit {0}} (refuse ENOSPC (nat_le MAX_FILE_SIZE (inode_at p map dir).size)) tt tt is).0)))
+
+module _ {p : Place} {old : TxnState} {t : Tree} (h : HoldsTree p old.sectors t) (dir : ℕ) (d : IsDirectoryAt t dir) (cred : Credential) (step : ℕ)
+    {mid : TxnState} (same : IsUnchanged old mid) where
+  pub held_later : (v : Inode) → v ≡ inode_at p old.sectors dir → HasAccess mid.sectors v (dir_access h dir d cred step).access
+  held_later v is =
+      let a = dir_access h dir d cred step in
+      kept (λ (m : SectorMap). HasAccess m v a.access) same
+      (subst (λ (w : Inode). HasAccess old.sectors w a.access) (sym is) (dir_held h dir d cred step))
+
+  pub make_enough : checked (refuse ENOSPC (nat_lt (free_sectors p mid.sectors) least_free)) ≡ Ok tt → refuse ENOSPC (nat_lt (free_sectors p old.sectors) least_free) ≡ None
+  make_enough is =
+      kept_back (λ (m : SectorMap). refuse ENOSPC (nat_lt (free_sectors p m) least_free) ≡ None) same
+      (met_ok {A = Unit {0}} (refuse ENOSPC (nat_lt (free_sectors p mid.sectors) least_free)) tt tt is).0
+
+  pub make_some : checked (refuse ENOSPC (free_numbers p Inodes mid.sectors == 0)) ≡ Ok tt → refuse ENOSPC (free_inodes (room_of p) t == 0) ≡ None
+  make_some is =
+      sym (inodes_are h dir d cred step)
+      ∙ kept_back (λ (m : SectorMap). refuse ENOSPC (free_numbers p Inodes m == 0) ≡ None) same
+      (met_ok {A = Unit {0}} (refuse ENOSPC (free_numbers p Inodes mid.sectors == 0)) tt tt is).0

@@ -1,0 +1,172 @@
+-- A new inode, and a name for it in a directory.
+--     nothing_stands        nothing stands at a free number
+--     new_file, file_fits        a new file's inode fits its fields
+--     takes_one, takes_few, room_suffices, name_has_room        there is room: the disk alone can fail
+--     dir_below, apart_from_new, dir_kept, dir_still_held, dir_names        the directory, once the inode is made
+--     set_group_says, default_is        what a directory gives to what is made in it
+use Rattle.std.specs.Prelude.{◌≡◌, ◌≢◌, ℕ, ◌+◌, ◌%◌, ◌^◌, ◌<◌, ◌≤◌, nat_eq, nat_le, ◌||◌, if◌then◌else◌, Bool, true, false, List, [], length, get_or, Option, None, Some, is_some, IsTrue, ◌-◌, ◌/◌, ◌==◌, cond}
+use Rattle.std.proofs.Common.{refl, sym, ap, arith, ◌∙◌, inl, inr}
+use Rattle.std.proofs.lemmas.Bool.{or_right, true≢false}
+use Rattle.posix_acl.specs.AccessList.{AccessList, mode_bits}
+use Rattle.sector_disk.specs.Disk.{DiskState, HasFailed}
+use Rattle.fs_layout.specs.declared.inode.Inode.{Inode}
+use Rattle.fs_layout.specs.declared.inode.Kind.TheVariants as kinds
+use Rattle.fs_layout.specs.declared.place.Place.{Place}
+use Rattle.fs_layout.specs.AclSector.{kept_acl}
+use Rattle.fs_layout.specs.Bytes.{SectorMap, zeros}
+use Rattle.fs_layout.specs.Changes.{ChangesInode}
+use Rattle.fs_layout.specs.Inode.{FitsInode, inode_fits, free_inode}
+use Rattle.fs_layout.specs.Directories.{HasNames}
+use Rattle.fs_layout.specs.Maps.{name_cmp, get}
+use Rattle.fs_layout.specs.Images.{Holds, bit, inode_at, inode_bitmap, free_sectors}
+use Rattle.fs_layout.proofs.SplicedBytes.{get_or-zeros}
+use Rattle.fs_layout.proofs.Saves.{inode_kept}
+use Rattle.bit_alloc.specs.declared.bitmap.Bitmap.TheVariants.{Inodes}
+use Rattle.bit_alloc.specs.Bitmaps.{IsFreeNumber}
+use Rattle.bit_alloc.specs.Inodes.{KeepsFields}
+use Rattle.inode_table.specs.Acls.{HasAcl, HasDefaultAcl, with_acl_bits, acl_takes, acls_take}
+use Rattle.dir_core.specs.declared.fault.DirFault.{DirFault}
+use Rattle.dir_core.specs.declared.fault.DirFault.TheVariants as naming
+use Rattle.dir_core.specs.Faults.{taken_for, WhyNotAdded}
+use Rattle.fs_model.specs.Limits.{entries_limit}
+use Rattle.fs_model.specs.Nodes.{Node, names_in, Body, File, Dir, Link, is_directory, default_in, shown_mode}
+use Rattle.fs_model.specs.Stands.{placed}
+use Rattle.fs_model.specs.StoredNodes.{Placed, HoldsNode}
+use Rattle.fs_model.specs.Trees.{Tree, node_at, names_of, parent, IsDirectoryAt}
+use Rattle.fs_model.proofs.PlacedNodes.{placed_from, placing, placing_other, one_placed, held_at}
+use Rattle.path_walk.specs.HeldTrees.{HoldsTree}
+use Rattle.call_parts.proofs.HeldChanges.{new_file_held}
+use Rattle.path_walk.proofs.HeldNodes.{number_below, is_there, names_say}
+use Rattle.call_parts.specs.Makings.{CanMake}
+use Rattle.fs_layout.proofs.OneAcl.{mode_small}
+use Rattle.fs_model.specs.Births.{the_directory}
+
+-- ---- a free number
+
+pub nothing_stands : {p : Place} {map : SectorMap} {t : Tree} → HoldsTree p map t → (n : ℕ) → IsFreeNumber p Inodes map n → node_at t n ≡ None
+nothing_stands {p} {map} {t} h n free = go (node_at t n) refl
+  where
+    go : (o : Option Node) → node_at t n ≡ o → node_at t n ≡ None
+    go None e = e
+    go (Some node) e =
+        let most = h.holds.consistent.place.most_inodes in
+        let below = free.1 in
+        let set : bit map inode_bitmap n ≡ true =
+        h.holds.inode_bits n (omega (arith, below, most))
+        ∙ ap (λ o. nat_eq n 0 || nat_le p.inodes n || is_some o) (placed_from t n (Some node) (names_of t n) (parent t n) e refl refl)
+        ∙ or_right (nat_eq n 0 || nat_le p.inodes n) true refl in
+        absurd (true≢false (sym set ∙ free.2))
+
+-- ---- the new inode
+
+-- an empty file with one name
+abbrev pub new_file : ℕ → ℕ → Inode
+new_file uid gid = record free_inode { kind = kinds.File; uid = uid; gid = gid; names = 1 }
+
+pub file_fits : (uid gid : ℕ) → uid < 2 ^ 32 → gid < 2 ^ 32 → FitsInode (new_file uid gid)
+unfolding inode_fits zeros
+file_fits uid gid small_uid small_gid = record {
+  valid = record { numbers = refl; free = λ e. cc };
+  mode = omega arith;
+  uid = small_uid;
+  gid = small_gid;
+  names = omega arith;
+  size = omega arith;
+  parent = omega arith;
+  acl = omega arith;
+  default_acl = omega arith;
+  direct_len = refl;
+  direct = λ i. let z : get_or free_inode.direct i 0 ≡ 0 = get_or-zeros 12 i in omega (arith, z);
+  indirect = omega arith;
+}
+
+-- an ACL takes a sector at most
+pub takes_one : (o : Option AccessList) → acl_takes 0 o ≤ 1
+takes_one None = omega arith
+takes_one (Some a) = omega arith
+
+pub takes_few : (a : AccessList) → acls_take a None ≤ 1
+takes_few a = let few = takes_one (kept_acl a) in omega (arith, few)
+
+name_takes_few : (v : Inode) → taken_for v ≤ 2
+name_takes_few v = go (nat_eq (v.size % 512) 0) (nat_eq v.size 6144)
+  where
+    go : (a b : Bool) → (if a then (if b then 2 else 1) else 0) ≤ 2
+    go true true = omega arith
+    go true false = omega arith
+    go false b = omega arith
+
+module _ {p : Place} {map : SectorMap} {t : Tree} {dir : ℕ} {name : List ℕ} (can : CanMake p map t dir name) where
+  pub dir_below : dir < p.inodes
+  dir_below = number_below can.holds dir (is_there t dir can.directory.node can.directory.is_there)
+
+module _ {p : Place} {map : SectorMap} {t : Tree} (h : HoldsTree p map t) {dir : ℕ} (d : IsDirectoryAt t dir) {mid : SectorMap} (n : ℕ)
+    (free : IsFreeNumber p Inodes map n) (first : ChangesInode p n map mid) where
+  pub apart_from_new : dir ≢ n
+  apart_from_new e =
+      let both : Some d.node ≡ None = sym d.is_there ∙ ap (node_at t) e ∙ nothing_stands h n free in
+      cc
+
+  -- its inode is the same
+  pub dir_kept : inode_at p mid dir ≡ inode_at p map dir
+  dir_kept = inode_kept p dir map mid (first.table dir (number_below h dir (is_there t dir d.node d.is_there)) apart_from_new)
+
+  -- and it holds what it held
+  pub dir_still_held : (x : Placed) → HoldsNode mid (inode_at p mid n) x → IsTrue (bit mid inode_bitmap n)
+      → HoldsNode mid (inode_at p mid dir) (record { node = d.node; names = names_of t dir; parent = parent t dir })
+  dir_still_held x born taken =
+      held_at p mid (placing n (Some x) (placed t))
+      (one_placed p n map mid (placed t) h.holds free.1 first (Some x) born (taken ∙ sym (or_right (nat_eq n 0 || nat_le p.inodes n) true refl)))
+      dir (number_below h dir (is_there t dir d.node d.is_there)) (record { node = d.node; names = names_of t dir; parent = parent t dir })
+      (placing_other n (Some x) (placed t) dir apart_from_new ∙ placed_from t dir (Some d.node) (names_of t dir) (parent t dir) d.is_there refl refl)
+
+  -- its names among that
+  pub dir_names : (uid gid : ℕ) (a : AccessList) → KeepsFields (with_acl_bits (new_file uid gid) a) (inode_at p mid n) → Holds mid (inode_at p mid n) []
+      → HasAcl mid (inode_at p mid n) a → HasDefaultAcl mid (inode_at p mid n) None → IsTrue (bit mid inode_bitmap n)
+      → HasNames mid (inode_at p mid dir) (names_in d.node.body)
+  dir_names uid gid a fields empty access default taken =
+      let born = new_file_held mid (new_file uid gid) (inode_at p mid n) uid gid refl refl refl a fields empty access dir refl refl refl default in
+      names_say mid (inode_at p mid dir) d.node.body d.directory (dir_still_held _ born taken).body
+
+-- ---- its name
+
+module _ (p : Place) (map : SectorMap) (v : Inode) (names : List (List ℕ × ℕ)) (name : List ℕ) (is_new : get name_cmp names name ≡ None) (few : length names < entries_limit)
+    (enough : 2 ≤ free_sectors p map) where
+  -- a name isn't refused for want of room, nor because it is there
+  pub room_suffices : (old new : DiskState) (e : DirFault) → WhyNotAdded p map v names name e → (e ≡ naming.DiskFault → HasFailed old new) → HasFailed old new
+  room_suffices old new naming.Exists why failed = absurd (why is_new)
+  room_suffices old new naming.Full why failed = absurd (elim why.1 [
+    | inl many ↦ omega (arith, many, few)
+    | inr less ↦ let two = name_takes_few v in omega (arith, less, two, enough)
+  ])
+  room_suffices old new naming.Absent why failed = absurd why
+  room_suffices old new naming.DiskFault why failed = failed refl
+  room_suffices old new naming.OutOfMemory why failed = absurd why
+
+module _ {p : Place} {map : SectorMap} {t : Tree} {dir : ℕ} {name : List ℕ} (can : CanMake p map t dir name) (mid : SectorMap) (v : Inode)
+    (left : free_sectors p map ≤ free_sectors p mid + 1) where
+  pub name_has_room : (old new : DiskState) (e : DirFault) → WhyNotAdded p mid v (names_in can.directory.node.body) name e → (e ≡ naming.DiskFault → HasFailed old new) → HasFailed old new
+  name_has_room =
+      let enough = can.enough in
+      room_suffices p mid v (names_in can.directory.node.body) name can.is_new can.has_room (omega (arith, enough, left))
+
+-- ---- what a directory gives to what is made in it
+
+group_bit : (n : ℕ) (s g : Bool) → n < 512 → ((n + cond s 512 0 + cond g 1024 0) / 1024 % 2 == 1) ≡ g
+group_bit n true true lt = let e : (n + 512 + 1024) / 1024 % 2 ≡ 1 = omega (arith, lt) in ap (λ (k : ℕ). k == 1) e
+group_bit n true false lt = let e : (n + 512 + 0) / 1024 % 2 ≡ 0 = omega (arith, lt) in ap (λ (k : ℕ). k == 1) e
+group_bit n false true lt = let e : (n + 0 + 1024) / 1024 % 2 ≡ 1 = omega (arith, lt) in ap (λ (k : ℕ). k == 1) e
+group_bit n false false lt = let e : (n + 0 + 0) / 1024 % 2 ≡ 0 = omega (arith, lt) in ap (λ (k : ℕ). k == 1) e
+
+-- S_ISGID of its mode is that of the directory
+pub set_group_says : (owner group : ℕ) (b : Body) (m : ℕ) → IsTrue (is_directory b) → m ≡ shown_mode b
+    → (m / 1024 % 2 == 1) ≡ (the_directory (record { owner = owner; group = group; body = b })).set_group_id
+set_group_says owner group (File a bytes) m is e = absurd (cc)
+set_group_says owner group (Dir a d) m is e = ap (λ (k : ℕ). k / 1024 % 2 == 1) e ∙ group_bit (mode_bits a) d.sticky d.set_group_id (mode_small a)
+set_group_says owner group (Link target) m is e = absurd (cc)
+
+-- and so is its default ACL
+pub default_is : (owner group : ℕ) (b : Body) → IsTrue (is_directory b) → default_in b ≡ (the_directory (record { owner = owner; group = group; body = b })).default
+default_is owner group (File a bytes) is = absurd (cc)
+default_is owner group (Dir a d) is = refl
+default_is owner group (Link target) is = absurd (cc)

@@ -1,0 +1,48 @@
+-- What is left of an inode that loses a name or a descriptor, and of its directory.
+--     Drops        it is gone
+--     LeavesInode        it is as it was, or gone
+--     Counts        it has another count of names
+--     RemovesName        a name goes from its directory
+use Rattle.std.specs.Prelude.{◌≡◌, ◌≢◌, ℕ, Bool, true, false, ◌-◌, List}
+use Rattle.fs_layout.specs.declared.inode.Kind.TheVariants as kinds
+use Rattle.fs_layout.specs.declared.place.Place.{Place}
+use Rattle.fs_layout.specs.Inode.{free_inode}
+use Rattle.fs_layout.specs.Images.{bit, inode_at, inode_bitmap}
+use Rattle.sector_txn.specs.Sectors.{TxnState, IsUnchanged}
+use Rattle.bit_alloc.specs.Inodes.{IsSound, Touches, KeepsFields, KeepsAcls, KeepsBytes}
+use Rattle.fs_layout.specs.Directories.{HasNames}
+use Rattle.fs_layout.specs.Maps.{name_cmp, without}
+
+-- inode n is free, and so are the sectors that it owned
+pub record Drops (p : Place) (n : ℕ) (old new : TxnState) : Type 0 where
+  pub sound : IsSound p new
+  pub touches : Touches p n 0 1 old new
+  pub free : inode_at p new.sectors n ≡ free_inode
+  pub clear : bit new.sectors inode_bitmap n ≡ false
+
+-- Inode n is as it was where it stays open, where it has a name, and where it was free before. Else it is gone.
+pub data LeavesInode (p : Place) (n : ℕ) (opened : Bool) (old new : TxnState) : Type 0 where
+  stays_open : opened ≡ true → IsUnchanged old new → LeavesInode p n opened old new
+  has_name : (inode_at p old.sectors n).names ≢ 0 → IsUnchanged old new → LeavesInode p n opened old new
+  was_free : (inode_at p old.sectors n).kind ≡ kinds.Free → IsUnchanged old new → LeavesInode p n opened old new
+  goes : opened ≡ false → (inode_at p old.sectors n).names ≡ 0 → (inode_at p old.sectors n).kind ≢ kinds.Free → Drops p n old new
+      → LeavesInode p n opened old new
+
+-- inode n has this count of names, and all else that it had
+pub record Counts (p : Place) (n names : ℕ) (old new : TxnState) : Type 0 where
+  pub sound : IsSound p new
+  pub touches : Touches p n 0 1 old new
+  pub saved : inode_at p new.sectors n ≡ record (inode_at p old.sectors n) { names = names }
+  pub bytes : KeepsBytes old.sectors new.sectors (inode_at p old.sectors n) (inode_at p new.sectors n)
+  pub acls : KeepsAcls old.sectors new.sectors (inode_at p old.sectors n) (inode_at p new.sectors n)
+  pub used : bit new.sectors inode_bitmap n ≡ bit old.sectors inode_bitmap n
+
+-- directory dir has all its names but this one
+pub record RemovesName (p : Place) (dir : ℕ) (name : List ℕ) (old new : TxnState) : Type 0 where
+  pub sound : IsSound p new
+  pub touches : Touches p dir 0 4 old new
+  pub used : bit new.sectors inode_bitmap dir ≡ bit old.sectors inode_bitmap dir
+  pub fields : KeepsFields (inode_at p old.sectors dir) (inode_at p new.sectors dir)
+  pub acls : KeepsAcls old.sectors new.sectors (inode_at p old.sectors dir) (inode_at p new.sectors dir)
+  pub names : (names : List (List ℕ × ℕ)) → HasNames old.sectors (inode_at p old.sectors dir) names
+      → HasNames new.sectors (inode_at p new.sectors dir) (without name_cmp names name)

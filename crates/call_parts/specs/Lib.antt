@@ -1,0 +1,9 @@
+pub mod Performing
+pub mod Paths
+pub mod Asked
+pub mod Given
+pub mod Changes
+pub mod Dropping
+pub mod Makings
+pub mod NewNodes
+pub mod TwoPaths

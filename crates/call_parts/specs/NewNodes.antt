@@ -1,0 +1,105 @@
+-- What making something in a directory asks and leaves.
+--     IsNewIn        a directory in which a name is new
+--     MayBeNamed        a directory in which something may be named so
+--     NamesInode        a directory has been given a name for an inode
+--     TakesInode        an inode was free, and holds something now
+--     MakesNode        both: something was made
+--     directory_made, link_made        what is made
+--     link_name_asked        asked of the name of a link that is made
+--     IsMade        it was made, or why not
+use Rattle.std.specs.Prelude.{◌≡◌, ℕ, ◌-◌, ◌/◌, ◌%◌, ◌<◌, ◌≤◌, ◌==◌, if◌then◌else◌, List, [], ◌∷◌, length, Option, None, IsTrue, Result, MatchResult, Ok, Err}
+use Rattle.posix_acl.specs.AccessList.{AccessList}
+use Rattle.fs_cred.specs.Credentials.{Credential}
+use Rattle.fs_cred.specs.declared.errno.Errno.TheVariants.{ENOENT}
+use Rattle.fs_cred.specs.declared.refusal.Refusal.{Refusal}
+use Rattle.fs_layout.specs.declared.inode.Inode.{Inode}
+use Rattle.fs_layout.specs.declared.place.Place.{Place}
+use Rattle.fs_layout.specs.Bytes.{SectorMap}
+use Rattle.fs_layout.specs.Changes.{ChangesInode}
+use Rattle.fs_layout.specs.Directories.{IsName, HasNames}
+use Rattle.fs_layout.specs.Images.{bit, inode_at, inode_bitmap, free_sectors}
+use Rattle.fs_layout.specs.Maps.{name_cmp, get, with_entry}
+use Rattle.sector_txn.specs.Sectors.{TxnState}
+use Rattle.bit_alloc.specs.declared.bitmap.Bitmap.TheVariants.{Inodes}
+use Rattle.bit_alloc.specs.Bitmaps.{IsFreeNumber}
+use Rattle.bit_alloc.specs.Inodes.{KeepsFields, KeepsAcls}
+use Rattle.fs_model.specs.declared.walk.Found.{Found}
+use Rattle.fs_model.specs.Demands.{Demand, refuse, first_of}
+use Rattle.fs_model.specs.Limits.{entries_limit}
+use Rattle.fs_model.specs.Nodes.{Node, Dir, Link, names_in}
+use Rattle.fs_model.specs.Scenes.{must_be_new}
+use Rattle.fs_model.specs.StoredNodes.{Placed, HoldsNode}
+use Rattle.fs_model.specs.Trees.{Tree, IsDirectoryAt}
+use Rattle.path_walk.specs.Answers.{refused_or, IsAnswered}
+use Rattle.call_parts.specs.Makings.{make_asked}
+
+pub record IsNewIn (t : Tree) (dir : ℕ) (name : List ℕ) : Type 0 where
+  pub directory : IsDirectoryAt t dir
+  pub is_name : IsName name
+  pub is_new : get name_cmp (names_in directory.node.body) name ≡ None
+
+-- Of the names of directory dir this is none, and it has room for one more, as the disk has for that.
+pub record MayBeNamed (p : Place) (map : SectorMap) (dir : ℕ) (name : List ℕ) : Type 0 where
+  pub below : dir < p.inodes
+  pub is_name : IsName name
+  pub names : List (List ℕ × ℕ)
+  pub are : HasNames map (inode_at p map dir) names
+  pub is_new : get name_cmp names name ≡ None
+  pub few : length names < entries_limit
+  pub enough : 2 ≤ free_sectors p map
+
+-- directory dir names inode n, and is else as it was
+pub record NamesInode (p : Place) (dir : ℕ) (name : List ℕ) (n : ℕ) (old new : SectorMap) : Type 0 where
+  pub super : new 0 ≡ old 0
+  pub change : ChangesInode p dir old new
+  pub used : bit new inode_bitmap dir ≡ bit old inode_bitmap dir
+  pub kept : KeepsFields (inode_at p old dir) (inode_at p new dir)
+  pub acls : KeepsAcls old new (inode_at p old dir) (inode_at p new dir)
+  pub named : (names : List (List ℕ × ℕ)) → HasNames old (inode_at p old dir) names → HasNames new (inode_at p new dir) (with_entry name_cmp names name n)
+
+-- inode n was free, and holds this
+pub record TakesInode (p : Place) (n : ℕ) (x : Placed) (old new : SectorMap) : Type 0 where
+  pub super : new 0 ≡ old 0
+  pub free : IsFreeNumber p Inodes old n
+  pub change : ChangesInode p n old new
+  pub taken : IsTrue (bit new inode_bitmap n)
+  pub holds : HoldsNode new (inode_at p new n) x
+
+-- An inode was free and holds this node, and then directory dir names it.
+pub record MakesNode (p : Place) (dir : ℕ) (name : List ℕ) (node : Node) (old new : SectorMap) : Type 0 where
+  pub number : ℕ
+  pub mid : SectorMap
+  pub takes : TakesInode p number (record { node = node; names = 1; parent = dir }) old mid
+  pub names : NamesInode p dir name number mid new
+
+-- ---- what is made
+
+-- a directory with these bits of its mode above the permission bits
+abbrev pub directory_made : ℕ → ℕ → ℕ → AccessList → Option AccessList → Node
+directory_made uid gid bits access default = record {
+  owner = uid;
+  group = gid;
+  body = Dir access (record { names = []; default = default; set_group_id = bits / 1024 % 2 == 1; sticky = bits / 512 % 2 == 1 });
+}
+
+-- a link of this caller in this directory, whose group it gets where that has S_ISGID
+abbrev pub link_made : Inode → Credential → List ℕ → Node
+link_made directory cred target = record {
+  owner = cred.uid;
+  group = if directory.mode / 1024 % 2 == 1 then directory.gid else cred.gid;
+  body = Link target;
+}
+
+-- nothing is there, and no slash is behind the name
+abbrev pub link_name_asked : Found → List Demand
+link_name_asked f = must_be_new f ∷ refuse ENOENT f.slash ∷ []
+
+-- ---- the whole
+
+-- All that is asked of the directory of the last lookup is met, and it has this node; or one of that is not, or memory or the
+-- disk fails.
+abbrev pub IsMade : Place → TxnState → TxnState → Credential → Tree → Found → Node → Result (Unit {0}) Refusal → Type 0
+IsMade p old new cred t f node result =
+    MatchResult result
+    (λ done. (first_of (make_asked p old.sectors cred t f.dir (f.step - 1)) ≡ None) × MakesNode p f.dir f.name node old.sectors new.sectors)
+    (λ e. IsAnswered old.disk new.disk (refused_or {A = Unit {0}} (first_of (make_asked p old.sectors cred t f.dir (f.step - 1))) (Ok tt)) (Err e))

@@ -1,0 +1,95 @@
+//! What calls ask, one check for each.
+
+ghost use Rattle.std.specs.Prelude.{◌≡◌, Ok, ◌<◌, ◌&&◌, not};
+ghost use Rattle.fs_cred.specs.declared.node.Node.{Node as AccessNode};
+ghost use Rattle.fs_cred.specs.declared.refusal.Need.TheVariants.{Perm};
+ghost use Rattle.fs_cred.specs.Verdicts.{verdict};
+ghost use Rattle.fs_model.specs.Demands.{decided, refuse};
+ghost use Rattle.sector_txn.specs.Sectors.{IsUnchanged};
+ghost use Rattle.bit_alloc.specs.Inodes.{IsSound};
+ghost use Rattle.inode_table.specs.Inodes.{IsInodeOf};
+ghost use Rattle.path_walk.specs.Answers.{refused_or, IsAnswered};
+ghost use Rattle.path_walk.specs.HeldTrees.{HasAccess};
+ghost use Rattle.fs_model.specs.Scenes.{check_of_mode};
+ghost use Rattle.call_parts.specs.Asked.{sticky_asked};
+ghost use Rattle.fs_model.specs.Rules.{is_directory_kind};
+
+use fs_cred::{Cred, Denial, Errno, Need, Refusal, Rule, sticky_allows};
+use fs_layout::{Inode, Kind, Place};
+use fs_model::Found;
+use path_walk::permission;
+use posix_acl::Perms;
+use sector_txn::Sectors;
+use std::alloc::Global;
+
+/// What adding, removing and renaming a name takes of a directory.
+pub const WRITE_AND_SEARCH: Perms = Perms {
+    read: false,
+    write: true,
+    execute: true,
+};
+
+/// Whether these are bits of a mode. EINVAL: there are more bits than 07777.
+pub fn check_mode(mode: u16) -> Result<(), Refusal>
+    ensures { result ≡ refused_or (check_of_mode mode) (Ok tt) }
+{
+    if mode > 0o7777 {
+        return Err(Refusal::Failed(Errno::EINVAL));
+    }
+    Ok(())
+}
+
+/// Asks for all of `want` on a file or a directory of the inode table, after `step` lookups of the walk with this number.
+/// Answers the rule that grants it. ENOMEM where the ACL finds no memory.
+pub fn permitted<S: Sectors>(
+    alloc: Global,
+    s: &mut S,
+    place: Place,
+    cred: &Cred,
+    inode: &Inode,
+    want: Perms,
+    walk: u8,
+    step: usize,
+) -> Result<Rule, Refusal>
+    requires sound { IsSound place (S.state s.old) }
+    requires there { IsInodeOf place (S.state s.old).sectors inode.now }
+    requires has { (node : AccessNode) × HasAccess (S.state s.old).sectors inode.now node }
+    ensures each { (node : AccessNode) → HasAccess (S.state s.old).sectors inode.now node
+        → IsAnswered (S.state s.old).disk (S.state s.new).disk
+        (refused_or (decided walk step (Perm want) (verdict cred.now node want)) (Ok (verdict cred.now node want).rule)) result }
+    ensures same { IsUnchanged (S.state s.old) (S.state s.new) }
+{
+    let verdict = permission(alloc, s, place, cred, inode, want)?;
+    if !verdict.yes {
+        return Err(Refusal::Denied(Denial::new(walk, step, Need::Perm(want), verdict.rule)));
+    }
+    Ok(verdict.rule)
+}
+
+/// Asks whether what is no directory was named with a slash.
+pub fn check_slash(found: &Found, kind: Kind) -> Result<(), Refusal>
+    ensures { result ≡ refused_or (refuse Errno.ENOTDIR (found.now.slash && not (is_directory_kind kind))) (Ok tt) }
+{
+    if found.slash && kind != Kind::Directory {
+        return Err(Refusal::Failed(Errno::ENOTDIR));
+    }
+    Ok(())
+}
+
+/// Asks whether a directory, where it has S_ISVTX, lets the caller take what has this inode from it, after `step` lookups of
+/// the walk with this number.
+pub fn check_sticky(
+    cred: &Cred,
+    directory: &Inode,
+    inode: &Inode,
+    walk: u8,
+    step: usize,
+) -> Result<(), Refusal>
+    ensures { result ≡ refused_or (sticky_asked cred.now directory.now inode.now walk step) (Ok tt) }
+{
+    let sticky = directory.mode / 512 % 2 == 1;
+    if !sticky_allows(cred, sticky, directory.uid, inode.uid) {
+        return Err(Refusal::Denied(Denial::new(walk, step, Need::Remove, Rule::Sticky)));
+    }
+    Ok(())
+}

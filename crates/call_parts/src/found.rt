@@ -1,0 +1,86 @@
+//! What the path of a call leads to.
+
+ghost use Rattle.std.specs.Prelude.{◌≡◌, ◌<◌, ℕ, None, Some, Ok, Err, IfOk, [], ◌∷◌};
+ghost use Rattle.fs_layout.specs.Images.{inode_at};
+ghost use Rattle.fs_model.specs.Demands.{first_of};
+ghost use Rattle.fs_model.specs.Parts.{path_checks};
+ghost use Rattle.fs_model.specs.Scenes.{number, must_be_there};
+ghost use Rattle.fs_model.specs.Trees.{Tree};
+ghost use Rattle.sector_txn.specs.Sectors.{IsUnchanged};
+ghost use Rattle.bit_alloc.specs.Inodes.{IsSound};
+ghost use Rattle.path_walk.specs.Answers.{refused_or, IsAnswered};
+ghost use Rattle.path_walk.specs.HeldTrees.{HoldsTree, IsThere};
+ghost use Rattle.path_walk.specs.SoundInodes.{HasSoundInodes};
+ghost use Rattle.path_walk.specs.Walked.{walk_of};
+ghost use Rattle.call_parts.specs.Asked.{own_asked};
+
+use fs_cred::{Cred, Denial, Errno, Need, Refusal, Rule, may_own};
+use fs_layout::{Inode, Place};
+use fs_model::{Form, Found, Path};
+use open_files::Process;
+use path_walk::{load_inode, resolve};
+use sector_txn::Sectors;
+use std::alloc::Global;
+
+/// What a path leads to for a process.
+pub fn find<S: Sectors>(
+    alloc: Global,
+    s: &mut S,
+    place: Place,
+    process: &Process,
+    path: &Path,
+    form: Form,
+) -> Result<Found, Refusal>
+    requires sound { IsSound place (S.state s.old) }
+    requires inodes { HasSoundInodes place (S.state s.old).sectors }
+    requires start { process.now.cwd < place.inodes }
+    ensures checked { (refusal : Refusal) → first_of (path_checks path.now) ≡ Some refusal → result ≡ Err refusal }
+    ensures each { first_of (path_checks path.now) ≡ None
+        → (t : Tree) → HoldsTree place (S.state s.old).sectors t → IsThere t process.now.cwd
+        → IsAnswered (S.state s.old).disk (S.state s.new).disk
+        (walk_of t process.now.cred 1 form process.now.cwd path.now) result }
+    ensures valid { IfOk result (λ found. first_of (path_checks path.now) ≡ None) }
+    ensures same { IsUnchanged (S.state s.old) (S.state s.new) }
+{
+    resolve(alloc, s, place, process.cred(), process.cwd(), path, form)
+}
+
+/// The inode that was found, with its number. ENOENT: none was.
+pub fn inode_found<S: Sectors>(
+    s: &mut S,
+    place: Place,
+    found: &Found,
+) -> Result<(u32, Inode), Refusal>
+    requires sound { IsSound place (S.state s.old) }
+    requires below { (n : ℕ) → found.now.ino ≡ Some n → n < place.inodes }
+    ensures each { IsAnswered (S.state s.old).disk (S.state s.new).disk (refused_or (must_be_there found.now)
+        (Ok (number found.now, inode_at place (S.state s.old).sectors (number found.now)))) result }
+    ensures same { IsUnchanged (S.state s.old) (S.state s.new) }
+{
+    let Some(n) = found.ino else {
+        return Err(Refusal::Failed(Errno::ENOENT));
+    };
+    let inode = load_inode(s, place, n)?;
+    Ok((n, inode))
+}
+
+/// The same, where the caller may change its mode, owner and ACLs. ENOENT: nothing was found.
+pub fn owned<S: Sectors>(
+    s: &mut S,
+    place: Place,
+    cred: &Cred,
+    found: &Found,
+) -> Result<(u32, Inode), Refusal>
+    requires sound { IsSound place (S.state s.old) }
+    requires below { (n : ℕ) → found.now.ino ≡ Some n → n < place.inodes }
+    ensures each { IsAnswered (S.state s.old).disk (S.state s.new).disk (refused_or
+        (first_of (must_be_there found.now ∷ own_asked cred.now (inode_at place (S.state s.old).sectors (number found.now)).uid found.now.step ∷ []))
+        (Ok (number found.now, inode_at place (S.state s.old).sectors (number found.now)))) result }
+    ensures same { IsUnchanged (S.state s.old) (S.state s.new) }
+{
+    let (n, inode) = inode_found(s, place, found)?;
+    if !may_own(cred, inode.uid) {
+        return Err(Refusal::Denied(Denial::new(1, found.step, Need::Own, Rule::NotOwner)));
+    }
+    Ok((n, inode))
+}

@@ -1,0 +1,22 @@
+//! What calls stand on: reaching what a path leads to, asking what is asked of it, and the smallest changes of a tree on a disk.
+//!
+//! A call is one step of the abstract machine, made in a transaction by the process of a number. Its parts stand here, each
+//! with its own promise: the walk of its paths and the inode that is found, one check for each demand, space, and what is
+//! made, named, counted or freed.
+#![tactic(auto)]
+
+mod checks;
+mod dropping;
+mod found;
+mod making;
+mod naming;
+mod space;
+
+pub use checks::{WRITE_AND_SEARCH, check_mode, check_slash, check_sticky, permitted};
+pub use dropping::{drop_node, leave, set_names};
+pub use found::{find, inode_found, owned};
+pub use making::{check_make, check_names, default_of, inherited, new_group};
+pub use naming::{
+    ask_directory, ask_for_name, find_name, find_names, is_new, name_inode, remove_name,
+};
+pub use space::{ask_for_inode, ask_for_sectors};

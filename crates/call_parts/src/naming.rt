@@ -1,0 +1,197 @@
+//! Names in directories: what they lead to, new ones, and those that go.
+
+ghost use Rattle.std.specs.Prelude.{ℕ, ◌≡◌, ◌<◌, ◌||◌, not, None, Some, Ok, Err, OnOk, IfOk, IfErr, ◌≢◌, List};
+ghost use Rattle.fs_layout.specs.Bytes.{IsBytes};
+ghost use Rattle.fs_layout.specs.Images.{inode_at};
+ghost use Rattle.sector_txn.specs.Sectors.{SameStore, IsUnchanged};
+ghost use Rattle.bit_alloc.specs.Inodes.{IsSound};
+ghost use Rattle.bit_alloc.specs.Room.{HasSpare, TakesSpare};
+ghost use Rattle.bit_alloc.specs.Bitmaps.{HasBitmaps};
+ghost use Rattle.fs_model.specs.Demands.{first_of, permission_on, write_and_search};
+ghost use Rattle.fs_model.specs.Parts.{path_checks};
+ghost use Rattle.fs_model.specs.Scenes.{is_found, is_special};
+ghost use Rattle.fs_model.specs.Trees.{Tree, IsDirectoryAt};
+ghost use Rattle.path_walk.specs.Answers.{refused_or, FailsToRead, IsAnswered};
+ghost use Rattle.path_walk.specs.HeldTrees.{HoldsTree, IsThere};
+ghost use Rattle.path_walk.specs.SoundInodes.{HasSoundInodes};
+ghost use Rattle.path_walk.specs.Walked.{walk_of};
+ghost use Rattle.call_parts.specs.Makings.{room_asked};
+ghost use Rattle.call_parts.specs.NewNodes.{MayBeNamed, NamesInode};
+ghost use Rattle.call_parts.specs.TwoPaths.{both_checks, walks_of};
+ghost use Rattle.fs_layout.specs.Directories.{HasNames};
+ghost use Rattle.fs_layout.specs.Maps.{name_cmp, get};
+ghost use Rattle.call_parts.specs.Dropping.{RemovesName};
+
+use crate::checks::{WRITE_AND_SEARCH, permitted};
+use crate::found::find;
+use crate::making::check_names;
+use crate::space::ask_for_sectors;
+use dir_core::{insert_new, remove};
+use fs_cred::{Cred, Errno, Refusal};
+use fs_layout::{Inode, Place};
+use fs_model::{Form, Found, Last, Path};
+use open_files::Process;
+use path_walk::{check_path, load_inode, walk};
+use sector_txn::Sectors;
+use std::alloc::Global;
+
+/// What a path leads to, a link at its end among that, and the directory that names it.
+pub fn find_name<S: Sectors>(
+    alloc: Global,
+    s: &mut S,
+    place: Place,
+    process: &Process,
+    path: &Path,
+) -> Result<Found, Refusal>
+    requires sound { IsSound place (S.state s.old) }
+    requires inodes { HasSoundInodes place (S.state s.old).sectors }
+    requires start { process.now.cwd < place.inodes }
+    ensures checked { (refusal : Refusal) → first_of (path_checks path.now) ≡ Some refusal → result ≡ Err refusal }
+    ensures each { first_of (path_checks path.now) ≡ None
+        → (t : Tree) → HoldsTree place (S.state s.old).sectors t → IsThere t process.now.cwd
+        → IsAnswered (S.state s.old).disk (S.state s.new).disk
+        (walk_of t process.now.cred 1 Form.Parent process.now.cwd path.now) result }
+    ensures valid { IfOk result (λ found. first_of (path_checks path.now) ≡ None) }
+    ensures bytes { IsBytes path.now }
+    ensures same { IsUnchanged (S.state s.old) (S.state s.new) }
+{
+    let _bytes = path.bytes();
+    find(alloc, s, place, process, path, Form::Parent)
+}
+
+/// What both paths of a call lead to, each as [`find_name`] finds it. Both are checked before the first is walked.
+pub fn find_names<S: Sectors>(
+    alloc: Global,
+    s: &mut S,
+    place: Place,
+    process: &Process,
+    old: &Path,
+    new: &Path,
+) -> Result<(Found, Found), Refusal>
+    requires sound { IsSound place (S.state s.old) }
+    requires inodes { HasSoundInodes place (S.state s.old).sectors }
+    requires start { process.now.cwd < place.inodes }
+    ensures checked { (refusal : Refusal) → first_of (both_checks old.now new.now) ≡ Some refusal → result ≡ Err refusal }
+    ensures each { first_of (both_checks old.now new.now) ≡ None
+        → (t : Tree) → HoldsTree place (S.state s.old).sectors t → IsThere t process.now.cwd
+        → IsAnswered (S.state s.old).disk (S.state s.new).disk
+        (walks_of t process.now.cred process.now.cwd old.now new.now) result }
+    ensures valid { IfOk result (λ found. first_of (both_checks old.now new.now) ≡ None) }
+    ensures old_bytes { IsBytes old.now }
+    ensures new_bytes { IsBytes new.now }
+    ensures same { IsUnchanged (S.state s.old) (S.state s.new) }
+{
+    let _old_bytes = old.bytes();
+    let _new_bytes = new.bytes();
+    check_path(old)?;
+    check_path(new)?;
+    let cred = process.cred();
+    let cwd = process.cwd();
+    let first = walk(alloc, s, place, cred, cwd, old, Form::Parent, 1)?;
+    let second = walk(alloc, s, place, cred, cwd, new, Form::Parent, 2)?;
+    Ok((first, second))
+}
+
+/// Whether nothing was found, where something may be made.
+pub fn is_new(found: &Found) -> bool
+    ensures { result ≡ not (is_found found.now || is_special found.now) }
+{
+    match found.last {
+        Last::Name => found.ino.is_none(),
+        Last::Dot | Last::DotDot | Last::Top => false,
+    }
+}
+
+/// Asks for write and search on directory dir, after `step` lookups of the walk with this number, and answers its inode.
+pub fn ask_directory<S: Sectors>(
+    alloc: Global,
+    s: &mut S,
+    place: Place,
+    cred: &Cred,
+    dir: u32,
+    walk: u8,
+    step: usize,
+) -> Result<Inode, Refusal>
+    requires sound { IsSound place (S.state s.old) }
+    requires there { (t : Tree) × HoldsTree place (S.state s.old).sectors t × IsDirectoryAt t dir }
+    ensures each { (t : Tree) → HoldsTree place (S.state s.old).sectors t → IsDirectoryAt t dir
+        → IsAnswered (S.state s.old).disk (S.state s.new).disk
+        (refused_or (permission_on cred.now t dir write_and_search walk step) (Ok (inode_at place (S.state s.old).sectors dir))) result }
+    ensures same { IsUnchanged (S.state s.old) (S.state s.new) }
+{
+    let directory = load_inode(s, place, dir)?;
+    permitted(
+        alloc,
+        s,
+        place,
+        cred,
+        &directory,
+        WRITE_AND_SEARCH,
+        walk,
+        step,
+    )?;
+    Ok(directory)
+}
+
+/// Asks whether there is room for one more name in a directory. ENOSPC: fewer than 16 sectors are free, or it has no slot left.
+pub fn ask_for_name<S: Sectors>(s: &mut S, place: Place, directory: &Inode) -> Result<(), Refusal>
+    requires { HasBitmaps place (S.state s.old) }
+    ensures each { (t : Tree) (dir : ℕ) → HoldsTree place (S.state s.old).sectors t → IsDirectoryAt t dir
+        → directory.now ≡ inode_at place (S.state s.old).sectors dir
+        → IsAnswered (S.state s.old).disk (S.state s.new).disk
+        (refused_or (first_of (room_asked place (S.state s.old).sectors t dir)) (Ok tt)) result }
+    ensures same { IsUnchanged (S.state s.old) (S.state s.new) }
+{
+    ask_for_sectors(s, place)?;
+    check_names(directory)?;
+    Ok(())
+}
+
+/// Gives inode n a name in directory dir, where there is room for it. EIO: the disk has failed.
+pub fn name_inode<S: Sectors>(
+    s: &mut S,
+    place: Place,
+    dir: u32,
+    directory: Inode,
+    name: &[u8],
+    n: u32,
+) -> Result<(), Refusal>
+    requires sound { IsSound place (S.state s.old) }
+    requires inode { directory ≡ inode_at place (S.state s.old).sectors dir }
+    requires room { MayBeNamed place (S.state s.old).sectors dir name.now }
+    requires spare { HasSpare place 3 (S.state s.old) }
+    ensures store { SameStore (S.state s.old) (S.state s.new) }
+    ensures sound { OnOk result (IsSound place (S.state s.new)) }
+    ensures taken { OnOk result (TakesSpare place 3 (S.state s.old) (S.state s.new)) }
+    ensures named { OnOk result (NamesInode place dir name.now n (S.state s.old).sectors (S.state s.new).sectors) }
+    ensures err { IfErr result (FailsToRead (S.state s.old).disk (S.state s.new).disk) }
+{
+    let mut directory = directory;
+    match insert_new(s, place, dir, &mut directory, name, n) {
+        Ok(()) => Ok(()),
+        Err(_) => Err(Refusal::Failed(Errno::EIO)),
+    }
+}
+
+/// Removes a name from directory dir. EIO: the disk has failed.
+pub fn remove_name<S: Sectors>(
+    s: &mut S,
+    place: Place,
+    dir: u32,
+    name: &[u8],
+) -> Result<(), Refusal>
+    requires sound { IsSound place (S.state s.old) }
+    requires below { dir < place.inodes }
+    requires named { (names : List (List ℕ × ℕ)) × HasNames (S.state s.old).sectors (inode_at place (S.state s.old).sectors dir) names
+        × (get name_cmp names name.now ≢ None) }
+    requires spare { HasSpare place 4 (S.state s.old) }
+    ensures store { SameStore (S.state s.old) (S.state s.new) }
+    ensures removes { OnOk result (RemovesName place dir name.now (S.state s.old) (S.state s.new)) }
+    ensures fault { IfErr result (FailsToRead (S.state s.old).disk (S.state s.new).disk) }
+{
+    let mut directory = load_inode(s, place, dir)?;
+    match remove(s, place, dir, &mut directory, name) {
+        Ok(()) => Ok(()),
+        Err(_) => Err(Refusal::Failed(Errno::EIO)),
+    }
+}
