@@ -1,7 +1,7 @@
 -- The machine run: the least new numbers, and files without holes.
 --     fresh        the state of a disk of 1,024 sectors and 64 inodes that was just made
 --     replies        what it answers to events, one after another
---     then_replies        the same after `three_users`: a directory /w that everyone may write, and processes of the superuser,
+--     then_replies        the same after `three_users`: a directory /w that everyone may write, and processes of user 0,
 --                         of user 1000 and of user 1001
 use Rattle.std.specs.Prelude.{◌≡◌, ℕ, ◌-◌, true, false, List, [], ◌∷◌, codes, None, Some}
 use Rattle.std.proofs.Common.{refl}

@@ -1,5 +1,5 @@
 -- What a new disk holds, as mkfs leaves it: our own layout.
---     empty_tree        an empty root of the superuser's, 0755
+--     empty_tree        an empty root of user 0, 0755
 --     root_inode        its inode
 --     IsNewImage        an image with it, and nothing else
 use Rattle.std.specs.Prelude.{◌≡◌, ◌≢◌, ℕ, ◌<◌, ◌≤◌, ◌⊎◌, ◌↔◌, nat_eq, nat_le, ◌||◌, false, [], ◌∷◌, None, Some, IsTrue}

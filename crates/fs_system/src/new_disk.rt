@@ -13,7 +13,7 @@ use sector_disk::{Disk, DiskFault, write_synced};
 
 const SUPERBLOCK: u32 = 0;
 
-/// Makes a file system with so many inodes on the disk, whose root is an empty directory of the superuser's, 0755.
+/// Makes a file system with so many inodes on the disk, whose root is an empty directory of user 0, 0755.
 ///
 /// The superblock is cleared first and written last, with a sync after each step: a disk on which this was stopped
 /// halfway has none, and isn't taken for a file system.
