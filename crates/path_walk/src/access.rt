@@ -5,7 +5,7 @@ ghost use Rattle.fs_cred.specs.declared.node.Node.{Node as AccessNode};
 ghost use Rattle.fs_cred.specs.declared.refusal.Need.TheVariants.{Perm, Search};
 ghost use Rattle.fs_cred.specs.declared.node.NodeKind.{NodeKind};
 ghost use Rattle.fs_cred.specs.Verdicts.{verdict};
-ghost use Rattle.fs_model.specs.Demands.{decided, search_only};
+ghost use Rattle.fs_model.specs.Demands.{allowed_by, decided, search_only};
 ghost use Rattle.sector_txn.specs.Sectors.{IsUnchanged};
 ghost use Rattle.bit_alloc.specs.Inodes.{IsSound};
 ghost use Rattle.bit_alloc.specs.Faults.{HasCauseOf};
@@ -120,4 +120,16 @@ pub fn permitted<S: Sectors>(
         return Err(Refusal::Denied(Denial::new(walk, step, Need::Perm(want), verdict.rule)));
     }
     Ok(verdict.rule)
+}
+
+/// Asks for what a rule of ownership allows or refuses, after `step` lookups of the walk with this number.
+pub fn allowed_by(
+    walk: u8,
+    step: usize,
+    need: Need,
+    answer: Result<(), Rule>,
+) -> Result<(), Refusal>
+    ensures { result ≡ refused_or (allowed_by walk step need answer) (Ok tt) }
+{
+    answer.map_err(|rule| Refusal::Denied(Denial::new(walk, step, need, rule)))
 }

@@ -14,7 +14,7 @@ mod space;
 mod walker;
 mod walks;
 
-pub use access::{permission, permitted, search};
+pub use access::{allowed_by, permission, permitted, search};
 pub use components::ends_with_slash;
 pub use laws::inodes_say_what_stands;
 pub use links::read_target;
