@@ -5,7 +5,8 @@ use Rattle.posix_acl.specs.declared.entry.Perms.{Perms}
 use Rattle.posix_acl.specs.AccessList.{AccessList, with_mode_bits, is_extended}
 use Rattle.posix_acl.specs.Entries.{perms_of}
 use Rattle.sector_disk.specs.Disk.{DiskState, HasFailed}
-use Rattle.fs_cred.specs.Credentials.{Credential, is_superuser, is_member}
+use Rattle.fs_cred.specs.Credentials.{Credential}
+use Rattle.fs_cred.specs.Ownership.{keeps_set_group_id}
 use Rattle.fs_cred.specs.declared.node.Node.{Node as AccessNode}
 use Rattle.fs_cred.specs.declared.node.NodeKind.{NodeKind}
 use Rattle.fs_cred.specs.declared.node.NodeKind.TheVariants as nodes
@@ -108,13 +109,13 @@ numbers_moded kinds.Directory mode size cred group m other fits =
     let both = first_part (nat_le mode 2047 && nat_le size 71680) (nat_eq (size % 128) 0) fits in
     first_instead (nat_le mode 2047 && nat_le size 71680) (nat_eq (size % 128) 0) (nat_le now 2047 && nat_le size 71680) fits
     (first_instead (nat_le mode 2047) (nat_le size 71680) (nat_le now 2047) both
-    (few (m / 512 % 2 == 1) (m / 1024 % 2 == 1 && (is_superuser cred || is_member cred group))))
+    (few (m / 512 % 2 == 1) (m / 1024 % 2 == 1 && keeps_set_group_id cred group)))
 numbers_moded kinds.Link mode size cred group m other fits = absurd (other refl)
 
 small : (kind : Kind) (cred : Credential) (group m : ℕ) → special_mode cred kind group m ≤ 1536
 small kinds.Free cred group m = omega arith
 small kinds.File cred group m = omega arith
-small kinds.Directory cred group m = go (m / 512 % 2 == 1) (m / 1024 % 2 == 1 && (is_superuser cred || is_member cred group))
+small kinds.Directory cred group m = go (m / 512 % 2 == 1) (m / 1024 % 2 == 1 && keeps_set_group_id cred group)
   where
     go : (s g : Bool) → cond s 512 0 + cond g 1024 0 ≤ 1536
     go true true = omega arith
@@ -136,7 +137,7 @@ special_is : (b : Body) (kind : Kind) (cred : Credential) (group m : ℕ) → ki
     → special_mode cred kind group m / 512 ≡ special_bits (with_mode cred group m b)
 special_is (File a bytes) kind cred group m e = ap (λ (k : Kind). special_mode cred k group m / 512) e
 special_is (Dir a d) kind cred group m e =
-    ap (λ (k : Kind). special_mode cred k group m / 512) e ∙ go (m / 512 % 2 == 1) (m / 1024 % 2 == 1 && (is_superuser cred || is_member cred group))
+    ap (λ (k : Kind). special_mode cred k group m / 512) e ∙ go (m / 512 % 2 == 1) (m / 1024 % 2 == 1 && keeps_set_group_id cred group)
   where
     go : (s g : Bool) → (cond s 512 0 + cond g 1024 0) / 512 ≡ cond s 1 0 + cond g 2 0
     go true true = omega arith
