@@ -11,7 +11,6 @@ use Rattle.fs_cred.specs.declared.errno.Errno.TheVariants.{EBUSY, ENOTDIR, ENOTE
 use Rattle.fs_cred.specs.declared.refusal.Need.TheVariants.{Perm, Remove}
 use Rattle.fs_cred.specs.declared.refusal.Refusal.{Refusal}
 use Rattle.fs_cred.specs.declared.rule.Rule.{Rule}
-use Rattle.fs_cred.specs.declared.rule.Rule.TheVariants.{Sticky}
 use Rattle.fs_cred.specs.Credentials.{Credential}
 use Rattle.fs_cred.specs.Ownership.{sticky_allows}
 use Rattle.fs_cred.specs.Verdicts.{verdict}
@@ -26,7 +25,7 @@ use Rattle.fs_layout.specs.Images.{inode_at}
 use Rattle.fs_layout.proofs.OneAcl.{mode_small}
 use Rattle.fs_model.specs.declared.walk.Found.{Found}
 use Rattle.fs_model.specs.Births.{the_node, the_directory}
-use Rattle.fs_model.specs.Demands.{Demand, refuse, or_else, first_of, decided, denied_unless, permission_of, permission_on, write_and_search}
+use Rattle.fs_model.specs.Demands.{Demand, refuse, or_else, first_of, decided, allowed_by, permission_of, permission_on, write_and_search}
 use Rattle.fs_model.specs.Kinds.{kind_of_type}
 use Rattle.fs_model.specs.Nodes.{Node, Body, File, Dir, Link, is_directory, type_of, shown_mode}
 use Rattle.fs_model.specs.Parts.{is_empty}
@@ -71,19 +70,19 @@ sticky_says owner group (Link target) m is e = absurd (cc)
 -- what S_ISVTX of a directory asks
 pub yields : {p : Place} {map : SectorMap} {t : Tree} (h : HoldsTree p map t) (cred : Credential) {f : Found} (directory : IsDirectoryAt t f.dir)
     {n : ℕ} {v : Inode} (node : IsNode map t f n v) {d : Inode} → d ≡ inode_at p map f.dir → (walk step : ℕ) → step ≡ f.step - 1
-    → denied_unless (sticky_allows cred (the_directory (the_node t f.dir)).sticky (the_node t f.dir).owner (the_node t (number f)).owner) walk (f.step - 1) Remove Sticky
+    → allowed_by walk (f.step - 1) Remove (sticky_allows cred (the_directory (the_node t f.dir)).sticky (the_node t f.dir).owner (the_node t (number f)).owner)
     ≡ sticky_asked cred d v walk step
 yields {p} {map} {t} h cred {f} directory {n} {v} node {d} d_is walk step step_is =
     let dir = directory.node in
     let held = held_node h f.dir dir directory.is_there in
     let w = inode_at p map f.dir in
     let here = the_node_is t f.dir dir directory.is_there in
-    ap (λ (k : ℕ). denied_unless (sticky_allows cred (the_directory (the_node t f.dir)).sticky (the_node t f.dir).owner (the_node t (number f)).owner) walk k Remove Sticky) (sym step_is)
-    ∙ ap (λ (u : Node). denied_unless (sticky_allows cred (the_directory u).sticky u.owner (the_node t (number f)).owner) walk step Remove Sticky) here
-    ∙ ap (λ (u : Node). denied_unless (sticky_allows cred (the_directory dir).sticky dir.owner u.owner) walk step Remove Sticky) node.is
-    ∙ ap (λ (k : ℕ). denied_unless (sticky_allows cred (the_directory dir).sticky dir.owner k) walk step Remove Sticky) (sym node.holds.owner)
-    ∙ ap (λ (k : ℕ). denied_unless (sticky_allows cred (the_directory dir).sticky k v.uid) walk step Remove Sticky) (sym held.owner)
-    ∙ ap (λ (b : Bool). denied_unless (sticky_allows cred b w.uid v.uid) walk step Remove Sticky)
+    ap (λ (k : ℕ). allowed_by walk k Remove (sticky_allows cred (the_directory (the_node t f.dir)).sticky (the_node t f.dir).owner (the_node t (number f)).owner)) (sym step_is)
+    ∙ ap (λ (u : Node). allowed_by walk step Remove (sticky_allows cred (the_directory u).sticky u.owner (the_node t (number f)).owner)) here
+    ∙ ap (λ (u : Node). allowed_by walk step Remove (sticky_allows cred (the_directory dir).sticky dir.owner u.owner)) node.is
+    ∙ ap (λ (k : ℕ). allowed_by walk step Remove (sticky_allows cred (the_directory dir).sticky dir.owner k)) (sym node.holds.owner)
+    ∙ ap (λ (k : ℕ). allowed_by walk step Remove (sticky_allows cred (the_directory dir).sticky k v.uid)) (sym held.owner)
+    ∙ ap (λ (b : Bool). allowed_by walk step Remove (sticky_allows cred b w.uid v.uid))
     (sym (sticky_says dir.owner dir.group dir.body w.mode directory.directory held.mode))
     ∙ ap (λ (u : Inode). sticky_asked cred u v walk step) (sym d_is)
 
@@ -101,7 +100,7 @@ module _ {p : Place} {map : SectorMap} {t : Tree} (h : HoldsTree p map t) {f : F
 
   abbrev yielded : Demand
   yielded =
-      denied_unless (sticky_allows cred (the_directory (the_node t f.dir)).sticky (the_node t f.dir).owner (the_node t (number f)).owner) 1 (f.step - 1) Remove Sticky
+      allowed_by 1 (f.step - 1) Remove (sticky_allows cred (the_directory (the_node t f.dir)).sticky (the_node t f.dir).owner (the_node t (number f)).owner)
 
   -- access to the directory is decided
   abbrev pub access : IsAccessed t f.dir

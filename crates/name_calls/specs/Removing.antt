@@ -7,7 +7,6 @@
 use Rattle.std.specs.Prelude.{◌≡◌, ℕ, ◌-◌, ◌/◌, ◌%◌, ◌==◌, Bool, not, ◌&&◌, List, [], ◌∷◌, Some, IsTrue, IsFalse}
 use Rattle.fs_cred.specs.declared.errno.Errno.TheVariants.{EBUSY, EINVAL, ENOTDIR, ENOTEMPTY}
 use Rattle.fs_cred.specs.declared.refusal.Need.TheVariants.{Remove}
-use Rattle.fs_cred.specs.declared.rule.Rule.TheVariants.{Sticky}
 use Rattle.fs_cred.specs.Credentials.{Credential}
 use Rattle.fs_cred.specs.Ownership.{sticky_allows}
 use Rattle.fs_layout.specs.declared.inode.Inode.{Inode}
@@ -21,7 +20,7 @@ use Rattle.bit_alloc.specs.Inodes.{IsSound, Touches, KeepsFields, KeepsAcls}
 use Rattle.fs_model.specs.declared.walk.Form.TheVariants.{Parent}
 use Rattle.fs_model.specs.declared.walk.Found.{Found}
 use Rattle.fs_model.specs.Births.{the_node, the_directory}
-use Rattle.fs_model.specs.Demands.{Demand, refuse, permission_on, denied_unless, write_and_search}
+use Rattle.fs_model.specs.Demands.{Demand, refuse, permission_on, allowed_by, write_and_search}
 use Rattle.fs_model.specs.Nodes.{Node, Body, is_directory, names_in}
 use Rattle.fs_model.specs.Parts.{is_empty}
 use Rattle.fs_model.specs.Processes.{Process, Desks, is_in_use}
@@ -51,13 +50,13 @@ removal_asked cred t f =
     must_be_there f
     ∷ refuse ENOTDIR (f.slash && (is_found f && not (is_directory (the_node t (number f)).body)))
     ∷ permission_on cred t f.dir write_and_search 1 (f.step - 1)
-    ∷ denied_unless (sticky_allows cred (the_directory (the_node t f.dir)).sticky (the_node t f.dir).owner (the_node t (number f)).owner)
-    1 (f.step - 1) Remove Sticky
+    ∷ allowed_by 1 (f.step - 1) Remove
+    (sticky_allows cred (the_directory (the_node t f.dir)).sticky (the_node t f.dir).owner (the_node t (number f)).owner)
     ∷ []
 
 -- the last of it, of the directory's inode d and of v, after so many lookups of the walk with this number
 abbrev pub sticky_asked : Credential → Inode → Inode → ℕ → ℕ → Demand
-sticky_asked cred d v walk step = denied_unless (sticky_allows cred (d.mode / 512 % 2 == 1) d.uid v.uid) walk step Remove Sticky
+sticky_asked cred d v walk step = allowed_by walk step Remove (sticky_allows cred (d.mode / 512 % 2 == 1) d.uid v.uid)
 
 -- asked of the last component, where a directory is to go
 abbrev pub last_asked : Found → List Demand

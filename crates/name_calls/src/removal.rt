@@ -33,11 +33,11 @@ use crate::dropping::lose_name;
 use crate::naming::find_name;
 use dir_core::{is_empty, remove};
 use file_calls::{find, inode_found};
-use fs_cred::{Cred, Denial, Errno, Need, Refusal, Rule, sticky_allows};
+use fs_cred::{Cred, Errno, Need, Refusal, sticky_allows};
 use fs_layout::{Inode, Kind, Place};
 use fs_model::{Form, Found, Last, Path, Reply};
 use open_files::{Process, Procs};
-use path_walk::{load_inode, permitted};
+use path_walk::{allowed_by, load_inode, permitted};
 use posix_acl::Perms;
 use sector_txn::Sectors;
 use std::alloc::Global;
@@ -93,9 +93,8 @@ pub(crate) fn check_sticky(
     ensures { result ≡ refused_or (sticky_asked cred.now directory.now inode.now walk step) (Ok tt) }
 {
     let sticky = directory.mode / 512 % 2 == 1;
-    if !sticky_allows(cred, sticky, directory.uid, inode.uid) {
-        return Err(Refusal::Denied(Denial::new(walk, step, Need::Remove, Rule::Sticky)));
-    }
+    let answer = sticky_allows(cred, sticky, directory.uid, inode.uid);
+    allowed_by(walk, step, Need::Remove, answer)?;
     Ok(())
 }
 
