@@ -33,15 +33,6 @@ use Rattle.fs_system.specs.Playing.{IsMounted, Mounts, FailsToMount, Stopped, Co
 use Rattle.fs_system.specs.Seen.{System, Base, StandsForSome, EachStandsForSome, Covers, disk_in, IsOn, IsIn}
 use Rattle.fs_system.proofs.Runs.{only_here, histories_are_runs}
 
--- ---- a copy of a credential
-
-pub copied : (cred copy : Credential) (uid gid : ℕ) (groups : List ℕ) → copy ≡ record { uid = uid; gid = gid; groups = groups }
-    → uid ≡ cred.uid → gid ≡ cred.gid → groups ≡ cred.groups → copy ≡ cred
-copied cred copy uid gid groups is same_uid same_gid same_groups =
-    is ∙ ap (λ (n : ℕ). record { uid = n; gid = gid; groups = groups }) same_uid
-    ∙ ap (λ (n : ℕ). record { uid = cred.uid; gid = n; groups = groups }) same_gid
-    ∙ ap (λ (l : List ℕ). record { uid = cred.uid; gid = cred.gid; groups = l }) same_groups
-
 -- there is room where the table isn't full
 pub still_room : (desks desks' : Desks) (full : Bool) → desks ≡ desks' → IsTrue full ↔ (64 ≤ length desks) → full ≡ false → length desks' < 64
 still_room desks desks' full same is not_full = elim (cases_lt (length desks') 64) [

@@ -209,7 +209,7 @@ impl<D: Disk + Drop> Fs<D> {
         if self.procs.is_full() {
             return Err(Errno::EAGAIN);
         }
-        let Ok(copy) = Cred::new(self.alloc, cred.uid(), cred.gid(), cred.groups()) else {
+        let Ok(copy) = cred.try_clone(self.alloc) else {
             return Err(Errno::ENOMEM);
         };
         self.spawn(copy)
