@@ -6,9 +6,9 @@ use Rattle.std.proofs.lemmas.Grind.{flat_map-append}
 use Rattle.sector_disk.specs.Disk.{DiskState}
 use Rattle.fs_model.specs.declared.event.Event.{Event}
 use Rattle.fs_model.specs.declared.event.EventReply.{EventReply}
+use Rattle.fs_system.specs.Playing.{IsConfig, Plays}
+use Rattle.fs_system.specs.Histories.{Config}
 use Rattle.fs_system.specs.Seen.{System}
-use Rattle.fs_system.specs.Played.{IsConfig, Plays}
-use Rattle.fs_system.specs.Playing.{Config}
 use Rattle.fs_system.proofs.Played.{plays_nothing, plays_joined}
 use Rattle.fs_shell.specs.declared.answer.Answer.{Answer}
 use Rattle.fs_shell.specs.declared.answer.Answer.TheVariants.{Nothing, Reply, Fault}

@@ -1,8 +1,8 @@
 //! Runs scripts.
 ghost use Rattle.std.specs.Prelude.{Ok, OnOk};
 ghost use Rattle.std.specs.Io.KnownBytes.{IsAtEnd};
-ghost use Rattle.fs_system.specs.Played.{IsConfig};
-ghost use Rattle.fs_system.specs.Playing.{Config};
+ghost use Rattle.fs_system.specs.Playing.{IsConfig};
+ghost use Rattle.fs_system.specs.Histories.{Config};
 ghost use Rattle.fs_shell.specs.Runs.{LinePerformed, Ran};
 
 use crate::answer::{Answer, Count, write_answer};

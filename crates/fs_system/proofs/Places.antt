@@ -7,7 +7,7 @@ use Rattle.fs_layout.specs.Place.{IsPlace, the_place}
 use Rattle.fs_layout.proofs.Places.{place_is_place, place_is_laid_out}
 use Rattle.fs_model.specs.Trees.{Tree, Room}
 use Rattle.fs_model.specs.States.{IsRoom}
-use Rattle.fs_system.specs.Seen.{StandsFor}
+use Rattle.fs_system.specs.Standing.{StandsFor}
 
 module _ (seen : Image) (room : Room) (t : Tree) (free : ℕ) (st : StandsFor room seen t free) where
   pub is_place : IsPlace st.place

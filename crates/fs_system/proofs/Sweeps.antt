@@ -31,7 +31,7 @@ use Rattle.path_walk.specs.HeldTrees.{HoldsTree}
 use Rattle.file_calls.specs.Dropping.{LeavesInode}
 use Rattle.file_calls.proofs.Leavings.{left_super}
 use Rattle.fs_system.specs.Layouts.{IsDiskOf}
-use Rattle.fs_system.specs.Seen.{StandsFor, EachStandsFor}
+use Rattle.fs_system.specs.Standing.{StandsFor, EachStandsFor}
 use Rattle.fs_system.specs.Sweeping.{IsStored, StandsPruned, HasTree, IsNamedBelow, FreesNameless, KeepsTree}
 use Rattle.fs_system.proofs.EventEnds.{disk_kept}
 use Rattle.fs_system.proofs.FreedFiles.{IsFreed, freed, named_first, named_all}

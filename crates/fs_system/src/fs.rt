@@ -8,12 +8,13 @@ ghost use Rattle.fs_model.specs.Processes.{Desks};
 ghost use Rattle.fs_model.specs.States.{State};
 ghost use Rattle.fs_model.specs.declared.event.Event.{Event};
 ghost use Rattle.fs_model.specs.declared.event.Event.TheVariants.{Spawn, Exit, Call as Calls, Fsync, Sync, Statfs};
-ghost use Rattle.fs_system.specs.Seen.{StandsForSome, EachStandsForSome, HasPartsAt, disk_in, IsOn, IsIn, IsInSomeState};
+ghost use Rattle.fs_system.specs.Playing.{HasDisk};
+ghost use Rattle.fs_system.specs.Mounts.{Mounts, FailsToMount, IsNotMounted};
+ghost use Rattle.fs_system.specs.Mounting.{StandsAsBefore, disk_mounted, disk_of_store, is_halted, LeavesHalted};
+ghost use Rattle.fs_system.specs.Seen.{disk_in, IsOn, IsIn, IsInSomeState};
+ghost use Rattle.fs_system.specs.Standing.{StandsForSome, EachStandsForSome, HasPartsAt};
 ghost use Rattle.fs_system.specs.Doing.{Happens, HappensLast, FlushesFor};
 ghost use Rattle.fs_system.specs.Replies.{spawned, finished, unmounted, counted};
-ghost use Rattle.fs_system.specs.Playing.{Mounts, FailsToMount};
-ghost use Rattle.fs_system.specs.Played.{HasDisk};
-ghost use Rattle.fs_system.specs.Mounting.{StandsAsBefore, IsNotMounted, disk_mounted, disk_of_store, is_halted, LeavesHalted};
 ghost use Rattle.fs_model.specs.declared.event.RestartFault.TheVariants.{DiskFault as Device};
 
 use crate::faults::MountFault;
@@ -44,8 +45,8 @@ pub struct Fs<D: Disk> {
 }
 
 impl<D: Disk> Model for Fs<D> {
-    ghost use Rattle.fs_system.specs.Seen.{System};
     ghost use Rattle.fs_system.specs.Mounting.{IsSystem};
+    ghost use Rattle.fs_system.specs.Seen.{System};
 
     ghost Value = { System D };
 

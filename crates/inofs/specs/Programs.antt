@@ -13,7 +13,8 @@ use Rattle.fs_shell.specs.declared.answer.Count.{Count}
 use Rattle.fs_shell.specs.declared.fault.RunFault.{RunFault}
 use Rattle.fs_shell.specs.Runs.{Ran}
 use Rattle.fs_system.specs.Making.{IsNewDisk}
-use Rattle.fs_system.specs.Playing.{Config, Up, Mounts}
+use Rattle.fs_system.specs.Histories.{Config, Up}
+use Rattle.fs_system.specs.Mounts.{Mounts}
 use Rattle.fs_system.specs.declared.faults.MkfsFault.TheVariants.{DiskFault}
 use Rattle.inofs.specs.declared.failure.Failure.{Failure}
 use Rattle.inofs.specs.declared.failure.Failure.TheVariants.{Exists, NotCreated, NotOpened, NoScript, Mkfs, Mount, Check, Run, Unmount}

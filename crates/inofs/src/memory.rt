@@ -1,7 +1,7 @@
 //! Runs a script on a new file system in memory.
 ghost use Rattle.std.specs.Prelude.{◌≡◌, MatchResult, Ok, Err};
-ghost use Rattle.fs_system.specs.Played.{IsConfig};
-ghost use Rattle.fs_system.specs.Playing.{Config};
+ghost use Rattle.fs_system.specs.Playing.{IsConfig};
+ghost use Rattle.fs_system.specs.Histories.{Config};
 ghost use Rattle.inofs.specs.Programs.{Begins, RunsFromNew, Fails};
 
 use crate::failure::Failure;
