@@ -6,7 +6,6 @@ use Rattle.std.proofs.lemmas.List.{take_more}
 use Rattle.sector_disk.specs.Disk.{DiskState, Image, IsImage, IsSame, IsStable, sector}
 use Rattle.sector_disk.proofs.Moments.{narrowed, stable_image}
 use Rattle.fs_layout.specs.declared.place.Place.{Place}
-use Rattle.fs_cred.specs.Credentials.{Credential}
 use Rattle.sector_txn.specs.Stores.{StoreView, disk_after}
 use Rattle.fs_model.specs.Processes.{Desks}
 use Rattle.fs_model.specs.declared.reply.Reply.{Reply}

@@ -5,7 +5,7 @@
 --     IsFaultOfCheck, fault_of        the fault of a mount for that of a check, and for the machine's
 --     is_halted        whether a commit has failed
 --     LeavesHalted        what is halted stays, with its disk
-use Rattle.std.specs.Prelude.{◌≡◌, ◌≢◌, ◌⊎◌, ℕ, Bool, true, false, Some, IsTrue, Result, Ok, Err}
+use Rattle.std.specs.Prelude.{◌≡◌, ◌≢◌, ◌⊎◌, Bool, true, false, Some, IsTrue, Result, Ok, Err}
 use Rattle.sector_disk.specs.Disk.{DiskState, Image, IsImage}
 use Rattle.sector_txn.specs.Stores.{StoreView}
 use Rattle.fs_model.specs.declared.event.RestartFault.{RestartFault}
