@@ -1,6 +1,7 @@
 -- Worked samples of an image: each word computes what the layout says.
 use Rattle.std.proofs.Common.{◌≡◌, ◌+◌, ◌*◌, true, false, cond, [], ◌∷◌, ◌++◌, replicate, refl, nat_eq}
 use Rattle.fs_layout.specs.declared.inode.Inode.{Inode}
+use Rattle.fs_layout.specs.declared.inode.TheConstants.{MAX_BLOCKS}
 use Rattle.fs_layout.specs.Bytes.{SectorMap, u32_of, zeros}
 use Rattle.fs_layout.specs.Inode.{free_inode}
 use Rattle.fs_layout.specs.Place.{laid_out}
@@ -48,8 +49,8 @@ next_block : part pointers file (Block 13) ≡ 258
 unfolding part pointer pointers file u32_of
 next_block = refl
 
--- there is no block 140
-no_block : part pointers file (Block 140) ≡ 0
+-- there is no block past the last
+no_block : part pointers file (Block MAX_BLOCKS) ≡ 0
 unfolding part pointer pointers file
 no_block = refl
 

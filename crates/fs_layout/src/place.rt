@@ -3,6 +3,8 @@
 ghost use Rattle.std.specs.Prelude.{◌≡◌, ◌+◌, ◌*◌, ◌/◌, ◌%◌, ◌<◌, ◌≤◌, ◌^◌, IfSome};
 ghost use Rattle.fs_layout.specs.Place.{the_place, IsPlace};
 
+use crate::inode::INODE_SIZE;
+
 /// The number of the commit sector.
 pub const COMMIT_SECTOR: u32 = 1;
 
@@ -45,12 +47,12 @@ impl Place {
         self.table + n / 4
     }
 
-    /// Where in its sector the 128 bytes of inode `n` begin.
+    /// Where in its sector the bytes of inode `n` begin.
     pub fn inode_offset(self, n: u32) -> usize
-        ensures value { result ≡ 128 * (n % 4) }
-        ensures room { result + 128 ≤ 512 }
+        ensures value { result ≡ INODE_SIZE * (n % 4) }
+        ensures room { result + INODE_SIZE ≤ 512 }
     {
-        128 * (n % 4) as usize
+        INODE_SIZE * (n % 4) as usize
     }
 }
 
