@@ -1,11 +1,11 @@
 -- One pointer of an inode changes: a direct one, one in the sector of pointers, that sector itself, or an ACL's.
 use Rattle.std.proofs.Common.{◌≡◌, ◌≢◌, ℕ, zero, suc, ◌+◌, ◌-◌, ◌*◌, ◌^◌, ◌<◌, ◌≤◌, List, length, get_or, refl, sym, ap, ◌∙◌, arith, inl, inr, ◌⊎◌}
 use Rattle.std.proofs.lemmas.List.{get_or-set_same, get_or-set_other}
-use Rattle.std.proofs.lemmas.Bool.{cases_lt, lt-ltb, le-ltb}
+use Rattle.std.proofs.lemmas.Bool.{cases_eq, cases_lt, lt-ltb, le-ltb}
 use Rattle.fs_layout.specs.declared.inode.TheConstants.{DIRECT_BLOCKS, INDIRECT_END, MAX_BLOCKS}
 use Rattle.fs_layout.specs.declared.inode.Inode.{Inode}
 use Rattle.fs_layout.specs.Bytes.{SectorMap, splice, le32, zeros, u32_of}
-use Rattle.fs_layout.specs.Images.{pointer_in, pointer, Part, AccessAcl, DefaultAcl, Indirect, DoubleIndirect, Block, part}
+use Rattle.fs_layout.specs.Images.{pointer_in, pointer, HasPointers, block_number, Part, AccessAcl, DefaultAcl, Indirect, DoubleIndirect, Block, part}
 use Rattle.fs_layout.specs.Changes.{Turns, Gains, Loses, with_direct}
 use Rattle.fs_layout.proofs.Parts.{KeepsPointers, entry_kept}
 use Rattle.fs_layout.proofs.Numbers.{are_numbers_32}
@@ -39,6 +39,47 @@ pointer_without image v k ge none =
       | inl lt ↦ pointer_indirect image v k ge lt ∙ ap (λ (s : ℕ). pointer_in image s (k - DIRECT_BLOCKS)) none
       | inr past ↦ pointer_past image v k past
     ]
+
+-- ---- by the content of the sector of pointers
+pub number_direct : (v : Inode) (pointers : List ℕ) (k : ℕ) → k < DIRECT_BLOCKS → block_number v pointers k ≡ get_or v.direct k 0
+unfolding block_number
+number_direct v pointers k lt = rw (lt-ltb k DIRECT_BLOCKS lt) refl
+
+pub number_indirect : (v : Inode) (pointers : List ℕ) (k : ℕ) → DIRECT_BLOCKS ≤ k → k < INDIRECT_END
+    → block_number v pointers k ≡ u32_of pointers (4 * (k - DIRECT_BLOCKS))
+unfolding block_number
+number_indirect v pointers k ge lt = rw (le-ltb k DIRECT_BLOCKS ge, lt-ltb k INDIRECT_END lt) refl
+
+pub number_past : (v : Inode) (pointers : List ℕ) (k : ℕ) → MAX_BLOCKS ≤ k → block_number v pointers k ≡ 0
+unfolding block_number
+number_past v pointers k ge = let low : DIRECT_BLOCKS ≤ k = omega arith in rw (le-ltb k DIRECT_BLOCKS low, le-ltb k INDIRECT_END ge) refl
+
+-- it is the block's sector, where that content is at hand if the block's number stands in it
+pub block_number-pointer : (image : SectorMap) (v : Inode) (pointers : List ℕ) (k : ℕ)
+    → (v.indirect ≢ 0 → DIRECT_BLOCKS ≤ k → pointers ≡ image v.indirect) → (v.indirect ≡ 0 → pointers ≡ zeros 512)
+    → block_number v pointers k ≡ pointer image v k
+block_number-pointer image v pointers k is none =
+    elim (cases_lt k DIRECT_BLOCKS) [
+      | inl lt ↦ number_direct v pointers k lt ∙ sym (pointer_direct image v k lt)
+      | inr ge ↦ elim (cases_lt k INDIRECT_END) [
+        | inr past ↦ number_past v pointers k past ∙ sym (pointer_past image v k past)
+        | inl lt ↦ elim (cases_eq v.indirect 0) [
+          | inl absent ↦
+              number_indirect v pointers k ge lt
+              ∙ ap (λ (s : List ℕ). u32_of s (4 * (k - DIRECT_BLOCKS))) (none absent)
+              ∙ u32_of-zeros 512 (4 * (k - DIRECT_BLOCKS))
+              ∙ sym (pointer_without image v k ge absent)
+          | inr some ↦
+              number_indirect v pointers k ge lt
+              ∙ ap (λ (s : List ℕ). u32_of s (4 * (k - DIRECT_BLOCKS))) (is some ge)
+              ∙ sym (pointer_indirect image v k ge lt ∙ entry_there image v.indirect (k - DIRECT_BLOCKS) some)
+        ]
+      ]
+    ]
+
+pub number_is : (image : SectorMap) (v : Inode) (pointers : List ℕ) (k : ℕ) → HasPointers image v pointers
+    → block_number v pointers k ≡ pointer image v k
+number_is image v pointers k h = block_number-pointer image v pointers k (λ some ge. h.is some) h.none
 
 -- two inodes with one list of direct pointers and one sector of pointers
 pub pointer_alike : (old new : SectorMap) (v w : Inode) → w.direct ≡ v.direct → w.indirect ≡ v.indirect → KeepsPointers old new v → (k : ℕ)

@@ -5,6 +5,7 @@
 --     bit, free_sectors        a bit of a bitmap; how many data sectors are free
 --     stored, inode_at        an inode's bytes, and the inode
 --     pointer, Part, part, Owns        the sectors that an inode owns, each by its role
+--     HasPointers, block_number        the indirect sector at hand, and the sector of a block by it
 --     byte_at, Holds, HasNoHole        the bytes that an inode holds
 use Rattle.std.specs.Prelude.{◌≡◌, ◌≢◌, ℕ, zero, suc, ◌+◌, ◌-◌, ◌*◌, ◌/◌, ◌%◌, ◌<◌, ◌≤◌, Bool, not, nat_eq, nat_lt, List, get_or, length, count_by, if◌then◌else◌, Result, Ok, Err}
 use Rattle.std.specs.Int.{bit_at}
@@ -14,7 +15,7 @@ use Rattle.fs_layout.specs.declared.inode.TheConstants.{INODE_SIZE, DIRECT_BLOCK
 use Rattle.fs_layout.specs.declared.fault.LayoutFault.{LayoutFault}
 use Rattle.fs_layout.specs.declared.place.Place.{Place}
 use Rattle.fs_layout.specs.declared.place.TheConstants.{INODE_BITMAP, BLOCK_BITMAP, SECTOR_BITS}
-use Rattle.fs_layout.specs.Bytes.{SectorMap, IsSector, window, u32_of}
+use Rattle.fs_layout.specs.Bytes.{SectorMap, IsSector, window, zeros, u32_of}
 use Rattle.fs_layout.specs.Inode.{inode_of, free_inode}
 
 -- the sector of the inode bitmap
@@ -67,6 +68,17 @@ unfoldable pub pointer : SectorMap → Inode → ℕ → ℕ
 pointer image v k =
     if nat_lt k DIRECT_BLOCKS then get_or v.direct k 0 else
     (if nat_lt k INDIRECT_END then pointer_in image v.indirect (k - DIRECT_BLOCKS) else 0)
+
+-- the content of an inode's indirect sector; zeros where it has none
+pub record HasPointers (image : SectorMap) (v : Inode) (pointers : List ℕ) : Type 0 where
+  pub is : v.indirect ≢ 0 → pointers ≡ image v.indirect
+  pub none : v.indirect ≡ 0 → pointers ≡ zeros 512
+
+-- the sector of block k by that content; 0 for a hole
+unfoldable pub block_number : Inode → List ℕ → ℕ → ℕ
+block_number v pointers k =
+    if nat_lt k DIRECT_BLOCKS then get_or v.direct k 0 else
+    (if nat_lt k INDIRECT_END then u32_of pointers (4 * (k - DIRECT_BLOCKS)) else 0)
 
 -- what an inode may own a sector for
 pub data Part : Type 0 where

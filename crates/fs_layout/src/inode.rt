@@ -1,7 +1,8 @@
 //! An inode of the inode table, 128 bytes.
 
-ghost use Rattle.std.specs.Prelude.{◌≡◌, ◌≤◌, ◌+◌, length, IfOk, Ok};
-ghost use Rattle.fs_layout.specs.Bytes.{splice, window};
+ghost use Rattle.std.specs.Prelude.{◌≡◌, ◌≤◌, ◌+◌, ℕ, length, IfOk, Ok};
+ghost use Rattle.fs_layout.specs.Bytes.{SectorMap, splice, window};
+ghost use Rattle.fs_layout.specs.Images.{pointer, HasPointers, block_number};
 ghost use Rattle.fs_layout.specs.Inode.{inode_bytes, inode_of, inode_fits, kind_number, kind_of, fields_end, IsInode, FitsInode};
 
 use crate::bytes::{
@@ -197,6 +198,34 @@ impl Inode {
             return Err(LayoutFault::NotZero);
         }
         Ok(inode)
+    }
+
+    /// Where the blocks end that the inode can have, by whether it has an indirect sector.
+    pub fn block_end(&self) -> u64
+        ensures most { result ≤ MAX_BLOCKS }
+        ensures past { (image : SectorMap) (k : ℕ) → result ≤ k → pointer image self.now k ≡ 0 }
+    {
+        if self.indirect == 0 {
+            DIRECT_BLOCKS
+        } else {
+            INDIRECT_END
+        }
+    }
+
+    /// The sector of block `k`; 0 for a hole. `pointers` is the content of the inode's indirect sector, zeros where it
+    /// has none.
+    #[tactic(auto, unfolding(crate::specs::Images::block_number))]
+    pub fn block_number(&self, pointers: &[u8; 512], k: u64) -> u32
+        ensures value { result ≡ block_number self.now pointers.now k }
+        ensures is { (image : SectorMap) → HasPointers image self.now pointers.now → result ≡ pointer image self.now k }
+    {
+        if k < DIRECT_BLOCKS {
+            self.direct[k as usize]
+        } else if k < INDIRECT_END {
+            u32_at(pointers, 4 * (k - DIRECT_BLOCKS) as usize)
+        } else {
+            0
+        }
     }
 
     /// Writes the [`INODE_SIZE`] bytes from `at` on.
