@@ -12,6 +12,7 @@ mod slot;
 mod superblock;
 #[cfg(test)]
 mod tests;
+mod version;
 
 pub use acl_sector::AclSector;
 pub use commit::{Commit, MAX_TARGETS};
@@ -31,3 +32,4 @@ pub use place::{
 };
 pub use slot::{MAX_NAME, MAX_NAMES, SLOT_SIZE, Slot, is_name};
 pub use superblock::Super;
+pub use version::Version;
