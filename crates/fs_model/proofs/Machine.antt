@@ -27,10 +27,12 @@ use Rattle.fs_model.specs.Trails.{trail_of}
 use Rattle.fs_model.specs.Walks.{first_refusal, found_of}
 use Rattle.fs_model.specs.Rows.{row_of}
 use Rattle.fs_model.specs.Steps.{Choice, firm_refusal, other_refusal, after, state_after}
+use Rattle.fs_layout.specs.declared.version.Version.TheVariants.{One}
+use Rattle.fs_layout.specs.Version.{max_file_size}
 
 abbrev pub fresh : State
 fresh = record {
-  room = record { inodes = 64; sectors = 878; file_limit = 71680 };
+  room = record { inodes = 64; sectors = 878; file_limit = max_file_size One };
   tree = empty_tree;
   desks = [];
   free = 878;

@@ -21,6 +21,7 @@ use Rattle.fs_model.specs.Demands.{Demand, refuse, only_if, perms, denied_unless
 use Rattle.fs_model.specs.declared.walk.Form.TheVariants.{Follow, NoFollow}
 use Rattle.fs_model.specs.Scenes.{Scene, Effect, Row, number, node_found, body_found, permission_at_end, own_at_end, must_be_there, no_blocks, check_of_mode, nothing_asked, answers, with_process, rewrites, none_early, by_path}
 use Rattle.fs_model.specs.DescriptorCalls.{shown, resized_node}
+use Rattle.fs_layout.specs.declared.inode.TheConstants.{S_ISGID, S_ISVTX}
 
 -- ---- stat and lstat
 
@@ -76,8 +77,8 @@ abbrev pub with_mode : Credential → ℕ → ℕ → Body → Body
 with_mode cred group mode (File a bytes) = File (with_mode_bits a mode) bytes
 with_mode cred group mode (Dir a d) =
     Dir (with_mode_bits a mode) (record d {
-      sticky = mode / 512 % 2 == 1;
-      set_group_id = mode / 1024 % 2 == 1 && (is_superuser cred || is_member cred group);
+      sticky = mode / S_ISVTX % 2 == 1;
+      set_group_id = mode / S_ISGID % 2 == 1 && (is_superuser cred || is_member cred group);
     })
 with_mode cred group mode (Link target) = Link target
 
