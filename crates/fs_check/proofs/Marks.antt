@@ -5,7 +5,7 @@ use Rattle.std.proofs.Common.{refl, sym, ap, subst, arith, ◌∙◌, inl, inr, 
 use Rattle.std.proofs.lemmas.Bool.{cases_eq, cases_lt}
 use Rattle.fs_layout.specs.declared.place.Place.{Place}
 use Rattle.fs_layout.specs.Bytes.{SectorMap}
-use Rattle.fs_layout.specs.Images.{inode_at, part, Owns, IsData}
+use Rattle.fs_layout.specs.Images.{inode_at, Owns, IsData}
 use Rattle.fs_layout.specs.declared.inode.Inode.{Inode}
 use Rattle.fs_layout.proofs.Parts.{owns_indirect}
 use Rattle.fs_model.specs.Rules.{OwnedOnce, IsPlaceOf, IsInData, IsOwnedOnce, ObeysEach, IsLeastFailure}

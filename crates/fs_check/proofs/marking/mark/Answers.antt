@@ -1,4 +1,4 @@
-use Rattle.std.proofs.Common.{◌≡◌, ◌<◌, ◌+◌, Bool, true, List, set, sym, subst, arith}
+use Rattle.std.proofs.Common.{◌<◌, ◌+◌, Bool, true, List, set, sym, subst, arith}
 use Rattle.fs_check.specs.Owning.{IsMarked}
 use Rattle.fs_check.proofs.Marks.{mark_first, mark_second}
 use Rattle.fs_check.proofs.marking.mark.Goals as goal

@@ -1,4 +1,4 @@
-use Rattle.std.proofs.Common.{◌<◌, ◌*◌, ℕ}
+use Rattle.std.proofs.Common.{◌<◌, ℕ}
 use Rattle.fs_model.specs.Rules.{IsInData}
 use Rattle.sector_disk.specs.Disk.{OnlyReads}
 use Rattle.fs_check.specs.Owning.{owned_part, IsMarked}
