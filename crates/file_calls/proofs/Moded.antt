@@ -9,6 +9,8 @@ use Rattle.fs_cred.specs.Credentials.{Credential, is_superuser, is_member}
 use Rattle.fs_cred.specs.declared.node.Node.{Node as AccessNode}
 use Rattle.fs_cred.specs.declared.node.NodeKind.{NodeKind}
 use Rattle.fs_cred.specs.declared.node.NodeKind.TheVariants as nodes
+use Rattle.fs_layout.specs.declared.slot.TheConstants.{SLOT_SIZE}
+use Rattle.fs_layout.specs.declared.inode.TheConstants.{MAX_DIRECTORY_SIZE, MAX_FILE_SIZE}
 use Rattle.fs_layout.specs.declared.inode.Inode.{Inode}
 use Rattle.fs_layout.specs.declared.inode.Kind.{Kind}
 use Rattle.fs_layout.specs.declared.inode.Kind.TheVariants as kinds
@@ -102,12 +104,12 @@ few false false = refl
 numbers_moded : (kind : Kind) (mode size : ℕ) (cred : Credential) (group m : ℕ) → kind ≢ kinds.Link → numbers_fit kind mode size ≡ true
     → numbers_fit kind (special_mode cred kind group m) size ≡ true
 numbers_moded kinds.Free mode size cred group m other fits = refl
-numbers_moded kinds.File mode size cred group m other fits = first_instead (nat_le mode 511) (nat_le size 71680) (nat_le 0 511) fits refl
+numbers_moded kinds.File mode size cred group m other fits = first_instead (nat_le mode 511) (nat_le size MAX_FILE_SIZE) (nat_le 0 511) fits refl
 numbers_moded kinds.Directory mode size cred group m other fits =
     let now = special_mode cred kinds.Directory group m in
-    let both = first_part (nat_le mode 2047 && nat_le size 71680) (nat_eq (size % 128) 0) fits in
-    first_instead (nat_le mode 2047 && nat_le size 71680) (nat_eq (size % 128) 0) (nat_le now 2047 && nat_le size 71680) fits
-    (first_instead (nat_le mode 2047) (nat_le size 71680) (nat_le now 2047) both
+    let both = first_part (nat_le mode 2047 && nat_le size MAX_DIRECTORY_SIZE) (nat_eq (size % SLOT_SIZE) 0) fits in
+    first_instead (nat_le mode 2047 && nat_le size MAX_DIRECTORY_SIZE) (nat_eq (size % SLOT_SIZE) 0) (nat_le now 2047 && nat_le size MAX_DIRECTORY_SIZE) fits
+    (first_instead (nat_le mode 2047) (nat_le size MAX_DIRECTORY_SIZE) (nat_le now 2047) both
     (few (m / 512 % 2 == 1) (m / 1024 % 2 == 1 && (is_superuser cred || is_member cred group))))
 numbers_moded kinds.Link mode size cred group m other fits = absurd (other refl)
 

@@ -8,6 +8,7 @@ use Rattle.std.proofs.Common.{refl, sym, ap, arith, ◌∙◌, inl, inr}
 use Rattle.std.proofs.lemmas.Bool.{or_right, true≢false}
 use Rattle.posix_acl.specs.AccessList.{AccessList}
 use Rattle.sector_disk.specs.Disk.{DiskState, HasFailed}
+use Rattle.fs_layout.specs.declared.inode.TheConstants.{DIRECT_SIZE}
 use Rattle.fs_layout.specs.declared.inode.Inode.{Inode}
 use Rattle.fs_layout.specs.declared.inode.Kind.TheVariants as kinds
 use Rattle.fs_layout.specs.declared.place.Place.{Place}
@@ -86,7 +87,7 @@ pub takes_few : (a : AccessList) → acls_take a None ≤ 1
 takes_few a = let few = takes_one (kept_acl a) in omega (arith, few)
 
 name_takes_few : (v : Inode) → taken_for v ≤ 2
-name_takes_few v = go (nat_eq (v.size % 512) 0) (nat_eq v.size 6144)
+name_takes_few v = go (nat_eq (v.size % 512) 0) (nat_eq v.size DIRECT_SIZE)
   where
     go : (a b : Bool) → (if a then (if b then 2 else 1) else 0) ≤ 2
     go true true = omega arith

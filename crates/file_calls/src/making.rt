@@ -2,7 +2,7 @@
 
 ghost use Rattle.std.specs.Prelude.{◌≡◌, ◌/◌, ◌%◌, ◌==◌, nat_le, not, ◌||◌, if◌then◌else◌, Option, None, Ok, option_copied, OnOk, IfOk, IfErr, MatchResult};
 ghost use Rattle.posix_acl.specs.AccessList.{AccessList, minimal};
-ghost use Rattle.fs_layout.specs.declared.inode.TheConstants.{MAX_FILE_SIZE};
+ghost use Rattle.fs_layout.specs.declared.inode.TheConstants.{MAX_DIRECTORY_SIZE};
 ghost use Rattle.fs_layout.specs.Images.{inode_at};
 ghost use Rattle.fs_model.specs.Births.{without_perms, masked_acl, born_acl};
 ghost use Rattle.fs_model.specs.Demands.{refuse, first_of};
@@ -20,7 +20,7 @@ ghost use Rattle.file_calls.specs.Openings.{make_asked, FindsIn, IsRefusedOpen, 
 
 use dir_core::insert_new;
 use fs_cred::{Cred, Errno, Refusal};
-use fs_layout::{Inode, Kind, MAX_FILE_SIZE, Place};
+use fs_layout::{Inode, Kind, MAX_DIRECTORY_SIZE, Place};
 use fs_model::{Flags, Found};
 use inode_table::{LoadAclFault, load_default_acl, new_inode};
 use open_files::Process;
@@ -37,9 +37,9 @@ const WRITE_AND_SEARCH: Perms = Perms {
 
 /// Asks whether a directory has place for one more slot. ENOSPC: it has none.
 pub fn check_names(directory: &Inode) -> Result<(), Refusal>
-    ensures { result ≡ refused_or (refuse Errno.ENOSPC (nat_le MAX_FILE_SIZE directory.now.size)) (Ok tt) }
+    ensures { result ≡ refused_or (refuse Errno.ENOSPC (nat_le MAX_DIRECTORY_SIZE directory.now.size)) (Ok tt) }
 {
-    if directory.size >= MAX_FILE_SIZE {
+    if directory.size >= MAX_DIRECTORY_SIZE {
         return Err(Refusal::Failed(Errno::ENOSPC));
     }
     Ok(())
