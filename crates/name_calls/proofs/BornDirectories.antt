@@ -8,9 +8,10 @@ use Rattle.std.specs.Ordering.{nat_cmp}
 use Rattle.std.proofs.lemmas.Bool.Decides.{nat_tests}
 use Rattle.posix_acl.specs.AccessList.{AccessList}
 use Rattle.fs_cred.specs.declared.refusal.Refusal.{Refusal}
+use Rattle.fs_layout.specs.declared.slot.TheConstants.{SLOT_SIZE}
 use Rattle.fs_layout.specs.declared.inode.Inode.{Inode}
 use Rattle.fs_layout.specs.declared.inode.Kind.TheVariants as kinds
-use Rattle.fs_layout.specs.declared.inode.TheConstants.{MAX_FILE_SIZE}
+use Rattle.fs_layout.specs.declared.inode.TheConstants.{MAX_DIRECTORY_SIZE}
 use Rattle.fs_layout.specs.declared.place.Place.{Place}
 use Rattle.fs_layout.specs.AclSector.{kept_acl}
 use Rattle.fs_layout.specs.Bytes.{SectorMap, IsBytes, zeros}
@@ -58,7 +59,7 @@ unfolding inode_fits zeros
 directory_fits dir uid gid bits small_dir small_uid small_gid few =
     let low : nat_le bits 0o3777 ≡ true = grind (arith, nat_tests) in
     record {
-      valid = record { numbers = ap (λ (b : Bool). (b && nat_le 0 MAX_FILE_SIZE) && nat_eq (0 % 128) 0) low; free = λ e. cc };
+      valid = record { numbers = ap (λ (b : Bool). (b && nat_le 0 MAX_DIRECTORY_SIZE) && nat_eq (0 % SLOT_SIZE) 0) low; free = λ e. cc };
       mode = omega (arith, few);
       uid = small_uid;
       gid = small_gid;
