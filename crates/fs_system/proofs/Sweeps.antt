@@ -60,7 +60,7 @@ begins_sound p txn t is =
 
 pub begins_spare : (p : Place) (txn : TxnState) (t : Tree) → txn.room ≡ 64 → IsStored txn.disk.size p txn.sectors t → HasSpare p 1 txn
 begins_spare p txn t room is =
-    let spare = spare_first p txn.disk.size is.disk_is.super.inodes txn is.disk_is.has_place room in omega (arith, spare)
+    let spare = spare_first p _ txn.disk.size is.disk_is.super.inodes txn is.disk_is.has_place room in omega (arith, spare)
 
 -- a store that was opened on a disk which stands for a tree
 pub opened_tree : (old new : DiskState) (map : SectorMap) (room : Room) (t : Tree) (free : ℕ) → length old.seen ≡ old.size → new.size ≡ old.size

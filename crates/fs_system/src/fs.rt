@@ -21,7 +21,7 @@ use crate::stored::{count_space, exit_kept, failed, perform_kept};
 use crate::sweeping::sweep;
 use fs_check::check;
 use fs_cred::{Cred, Errno};
-use fs_layout::{Place, Super, place_of};
+use fs_layout::{Place, Super};
 use fs_model::{Call, Reply, RestartFault};
 use open_files::Procs;
 use redo_journal::{Broken, Journal, OpenFault};
@@ -69,7 +69,7 @@ pub(crate) fn read_place<D: Disk>(disk: &mut D) -> Result<Place, DiskFault>
     let Ok(superblock) = Super::read_from(&sector, 0) else {
         unreachable!()
     };
-    let Some(place) = place_of(superblock.sectors, superblock.inodes) else {
+    let Some(place) = superblock.place() else {
         unreachable!()
     };
     Ok(place)
