@@ -12,6 +12,7 @@ use Rattle.fs_cred.specs.Credentials.{Credential}
 use Rattle.posix_acl.specs.AccessList.{AccessList, mode_bits}
 use Rattle.sector_disk.specs.Disk.{DiskState}
 use Rattle.sector_txn.specs.Sectors.{TxnState, IsUnchanged}
+use Rattle.fs_layout.specs.declared.inode.TheConstants.{S_ISGID, S_ISVTX}
 use Rattle.fs_layout.specs.declared.inode.Inode.{Inode}
 use Rattle.fs_layout.specs.declared.place.Place.{Place}
 use Rattle.fs_layout.specs.Bytes.{SectorMap}
@@ -51,17 +52,17 @@ use Rattle.file_calls.proofs.Shown.{the_node_is}
 
 -- ---- what a directory gives to what is made in it
 
-group_bit : (n : ℕ) (s g : Bool) → n < 512 → ((n + cond s 512 0 + cond g 1024 0) / 1024 % 2 == 1) ≡ g
-group_bit n true true lt = let e : (n + 512 + 1024) / 1024 % 2 ≡ 1 = omega (arith, lt) in ap (λ (k : ℕ). k == 1) e
-group_bit n true false lt = let e : (n + 512 + 0) / 1024 % 2 ≡ 0 = omega (arith, lt) in ap (λ (k : ℕ). k == 1) e
-group_bit n false true lt = let e : (n + 0 + 1024) / 1024 % 2 ≡ 1 = omega (arith, lt) in ap (λ (k : ℕ). k == 1) e
-group_bit n false false lt = let e : (n + 0 + 0) / 1024 % 2 ≡ 0 = omega (arith, lt) in ap (λ (k : ℕ). k == 1) e
+group_bit : (n : ℕ) (s g : Bool) → n < 512 → ((n + cond s S_ISVTX 0 + cond g S_ISGID 0) / S_ISGID % 2 == 1) ≡ g
+group_bit n true true lt = let e : (n + 512 + 1024) / S_ISGID % 2 ≡ 1 = omega (arith, lt) in ap (λ (k : ℕ). k == 1) e
+group_bit n true false lt = let e : (n + 512 + 0) / S_ISGID % 2 ≡ 0 = omega (arith, lt) in ap (λ (k : ℕ). k == 1) e
+group_bit n false true lt = let e : (n + 0 + 1024) / S_ISGID % 2 ≡ 1 = omega (arith, lt) in ap (λ (k : ℕ). k == 1) e
+group_bit n false false lt = let e : (n + 0 + 0) / S_ISGID % 2 ≡ 0 = omega (arith, lt) in ap (λ (k : ℕ). k == 1) e
 
 -- S_ISGID of its mode is that of the directory
 pub set_group_says : (owner group : ℕ) (b : Body) (m : ℕ) → IsTrue (is_directory b) → m ≡ shown_mode b
-    → (m / 1024 % 2 == 1) ≡ (the_directory (record { owner = owner; group = group; body = b })).set_group_id
+    → (m / S_ISGID % 2 == 1) ≡ (the_directory (record { owner = owner; group = group; body = b })).set_group_id
 set_group_says owner group (File a bytes) m is e = absurd (cc)
-set_group_says owner group (Dir a d) m is e = ap (λ (k : ℕ). k / 1024 % 2 == 1) e ∙ group_bit (mode_bits a) d.sticky d.set_group_id (mode_small a)
+set_group_says owner group (Dir a d) m is e = ap (λ (k : ℕ). k / S_ISGID % 2 == 1) e ∙ group_bit (mode_bits a) d.sticky d.set_group_id (mode_small a)
 set_group_says owner group (Link target) m is e = absurd (cc)
 
 -- and so is its default ACL
@@ -180,7 +181,7 @@ module _ {p : Place} {map : SectorMap} {flags : Flags} {q : Process} {f : Found}
         let same = ap (λ (r : Room). r.inodes) i.is_state.same_room in
         (made.free.0, omega (arith, below, same), nothing_stands (state_tree i.is_state) n made.free)
 
-    module _ (v : Inode) (is_dir : v ≡ inode_at p map f.dir) (group_is : gid ≡ (if v.mode / 1024 % 2 == 1 then v.gid else q.cred.gid))
+    module _ (v : Inode) (is_dir : v ≡ inode_at p map f.dir) (group_is : gid ≡ (if v.mode / S_ISGID % 2 == 1 then v.gid else q.cred.gid))
         (acl_is : (d : Option AccessList) → HasDefaultAcl map v d → a ≡ born_acl d mode q.umask) where
       dir_holds : HoldsNode map v (record { node = node; names = names_of s.tree f.dir; parent = parent s.tree f.dir })
       dir_holds =

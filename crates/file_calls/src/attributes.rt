@@ -18,7 +18,7 @@ ghost use Rattle.file_calls.specs.Given.{GivesOwner, SavesAcl, special_mode};
 use crate::acls::{acl_of, give_acl};
 use crate::found::{find, owned};
 use fs_cred::{Cred, Denial, Errno, Need, Refusal, Rule, may_chgrp, may_chown};
-use fs_layout::{Inode, Kind, Place};
+use fs_layout::{Inode, Kind, Place, S_ISGID, S_ISVTX};
 use fs_model::{Form, Path, Reply};
 use inode_table::save;
 use open_files::Procs;
@@ -80,10 +80,10 @@ fn special_bits(cred: &Cred, inode: &Inode, mode: u16) -> u16
     if inode.kind != Kind::Directory {
         return 0;
     }
-    let sticky = if mode / 512 % 2 == 1 { 512 } else { 0 };
-    let asks = mode / 1024 % 2 == 1;
+    let sticky = if mode / S_ISVTX % 2 == 1 { S_ISVTX } else { 0 };
+    let asks = mode / S_ISGID % 2 == 1;
     if asks && (cred.is_superuser() || cred.is_member(inode.gid)) {
-        return sticky + 1024;
+        return sticky + S_ISGID;
     }
     sticky
 }

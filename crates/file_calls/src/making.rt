@@ -20,7 +20,7 @@ ghost use Rattle.file_calls.specs.Openings.{make_asked, FindsIn, IsRefusedOpen, 
 
 use dir_core::insert_new;
 use fs_cred::{Cred, Errno, Refusal};
-use fs_layout::{Inode, Kind, MAX_DIRECTORY_SIZE, Place};
+use fs_layout::{Inode, Kind, MAX_DIRECTORY_SIZE, Place, S_ISGID};
 use fs_model::{Flags, Found};
 use inode_table::{LoadAclFault, load_default_acl, new_inode};
 use open_files::Process;
@@ -192,9 +192,9 @@ fn make_file<S: Sectors>(
 
 /// The group of what is made in a directory: the directory's where that has S_ISGID, else the caller's.
 pub fn new_group(directory: &Inode, cred: &Cred) -> u32
-    ensures { result ≡ (if directory.now.mode / 1024 % 2 == 1 then directory.now.gid else cred.now.gid) }
+    ensures { result ≡ (if directory.now.mode / S_ISGID % 2 == 1 then directory.now.gid else cred.now.gid) }
 {
-    if directory.mode / 1024 % 2 == 1 {
+    if directory.mode / S_ISGID % 2 == 1 {
         directory.gid
     } else {
         cred.gid()
