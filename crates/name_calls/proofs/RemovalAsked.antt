@@ -17,6 +17,7 @@ use Rattle.fs_cred.specs.Ownership.{sticky_allows}
 use Rattle.fs_cred.specs.Verdicts.{verdict}
 use Rattle.posix_acl.specs.AccessList.{mode_bits}
 use Rattle.sector_disk.specs.Disk.{DiskState}
+use Rattle.fs_layout.specs.declared.inode.TheConstants.{S_ISGID, S_ISVTX}
 use Rattle.fs_layout.specs.declared.inode.Inode.{Inode}
 use Rattle.fs_layout.specs.declared.inode.Kind.TheVariants as kinds
 use Rattle.fs_layout.specs.declared.place.Place.{Place}
@@ -55,17 +56,17 @@ type_says (Link target) = refl
 pub body_kind_is : (image : SectorMap) (v : Inode) (b : Body) → HoldsBody image v b → is_directory_kind v.kind ≡ is_directory b
 body_kind_is image v b h = ap is_directory_kind (body_kind image v b h) ∙ type_says b
 
-sticky_bit : (n : ℕ) (s g : Bool) → n < 512 → ((n + cond s 512 0 + cond g 1024 0) / 512 % 2 == 1) ≡ s
-sticky_bit n true true lt = let e : (n + 512 + 1024) / 512 % 2 ≡ 1 = omega (arith, lt) in ap (λ (k : ℕ). k == 1) e
-sticky_bit n true false lt = let e : (n + 512 + 0) / 512 % 2 ≡ 1 = omega (arith, lt) in ap (λ (k : ℕ). k == 1) e
-sticky_bit n false true lt = let e : (n + 0 + 1024) / 512 % 2 ≡ 0 = omega (arith, lt) in ap (λ (k : ℕ). k == 1) e
-sticky_bit n false false lt = let e : (n + 0 + 0) / 512 % 2 ≡ 0 = omega (arith, lt) in ap (λ (k : ℕ). k == 1) e
+sticky_bit : (n : ℕ) (s g : Bool) → n < 512 → ((n + cond s S_ISVTX 0 + cond g S_ISGID 0) / S_ISVTX % 2 == 1) ≡ s
+sticky_bit n true true lt = let e : (n + 512 + 1024) / S_ISVTX % 2 ≡ 1 = omega (arith, lt) in ap (λ (k : ℕ). k == 1) e
+sticky_bit n true false lt = let e : (n + 512 + 0) / S_ISVTX % 2 ≡ 1 = omega (arith, lt) in ap (λ (k : ℕ). k == 1) e
+sticky_bit n false true lt = let e : (n + 0 + 1024) / S_ISVTX % 2 ≡ 0 = omega (arith, lt) in ap (λ (k : ℕ). k == 1) e
+sticky_bit n false false lt = let e : (n + 0 + 0) / S_ISVTX % 2 ≡ 0 = omega (arith, lt) in ap (λ (k : ℕ). k == 1) e
 
 -- S_ISVTX of its mode is that of the directory
 sticky_says : (owner group : ℕ) (b : Body) (m : ℕ) → IsTrue (is_directory b) → m ≡ shown_mode b
-    → (m / 512 % 2 == 1) ≡ (the_directory (record { owner = owner; group = group; body = b })).sticky
+    → (m / S_ISVTX % 2 == 1) ≡ (the_directory (record { owner = owner; group = group; body = b })).sticky
 sticky_says owner group (File a bytes) m is e = absurd (cc)
-sticky_says owner group (Dir a d) m is e = ap (λ (k : ℕ). k / 512 % 2 == 1) e ∙ sticky_bit (mode_bits a) d.sticky d.set_group_id (mode_small a)
+sticky_says owner group (Dir a d) m is e = ap (λ (k : ℕ). k / S_ISVTX % 2 == 1) e ∙ sticky_bit (mode_bits a) d.sticky d.set_group_id (mode_small a)
 sticky_says owner group (Link target) m is e = absurd (cc)
 
 -- what S_ISVTX of a directory asks

@@ -10,6 +10,7 @@ use Rattle.fs_cred.specs.declared.refusal.Need.TheVariants.{Remove}
 use Rattle.fs_cred.specs.declared.rule.Rule.TheVariants.{Sticky}
 use Rattle.fs_cred.specs.Credentials.{Credential}
 use Rattle.fs_cred.specs.Ownership.{sticky_allows}
+use Rattle.fs_layout.specs.declared.inode.TheConstants.{S_ISVTX}
 use Rattle.fs_layout.specs.declared.inode.Inode.{Inode}
 use Rattle.fs_layout.specs.declared.place.Place.{Place}
 use Rattle.fs_layout.specs.Bytes.{SectorMap, IsBytes}
@@ -57,7 +58,7 @@ removal_asked cred t f =
 
 -- the last of it, of the directory's inode d and of v, after so many lookups of the walk with this number
 abbrev pub sticky_asked : Credential → Inode → Inode → ℕ → ℕ → Demand
-sticky_asked cred d v walk step = denied_unless (sticky_allows cred (d.mode / 512 % 2 == 1) d.uid v.uid) walk step Remove Sticky
+sticky_asked cred d v walk step = denied_unless (sticky_allows cred (d.mode / S_ISVTX % 2 == 1) d.uid v.uid) walk step Remove Sticky
 
 -- asked of the last component, where a directory is to go
 abbrev pub last_asked : Found → List Demand

@@ -34,7 +34,7 @@ use crate::naming::find_name;
 use dir_core::{is_empty, remove};
 use file_calls::{find, inode_found};
 use fs_cred::{Cred, Denial, Errno, Need, Refusal, Rule, sticky_allows};
-use fs_layout::{Inode, Kind, Place};
+use fs_layout::{Inode, Kind, Place, S_ISVTX};
 use fs_model::{Form, Found, Last, Path, Reply};
 use open_files::{Process, Procs};
 use path_walk::{load_inode, permitted};
@@ -92,7 +92,7 @@ pub(crate) fn check_sticky(
 ) -> Result<(), Refusal>
     ensures { result ≡ refused_or (sticky_asked cred.now directory.now inode.now walk step) (Ok tt) }
 {
-    let sticky = directory.mode / 512 % 2 == 1;
+    let sticky = directory.mode / S_ISVTX % 2 == 1;
     if !sticky_allows(cred, sticky, directory.uid, inode.uid) {
         return Err(Refusal::Denied(Denial::new(walk, step, Need::Remove, Rule::Sticky)));
     }
