@@ -4,7 +4,8 @@ use Rattle.std.proofs.lemmas.Bool.{cases_eq, cases_lt}
 use Rattle.std.proofs.lemmas.List.FromFn.{length-range_with_len}
 use Rattle.fs_layout.specs.declared.place.Place.{Place}
 use Rattle.fs_layout.specs.Bytes.{SectorMap, IsSector}
-use Rattle.fs_layout.specs.Place.{IsPlace, the_place}
+use Rattle.fs_layout.specs.declared.version.Version.{Version}
+use Rattle.fs_layout.specs.Place.{IsPlace, place_in}
 use Rattle.fs_layout.specs.Images.{bit, inode_bitmap, block_bitmap, free_sectors}
 use Rattle.fs_layout.specs.Ownership.{IsConsistent}
 use Rattle.fs_layout.specs.Changes.{MarksInode}
@@ -117,9 +118,9 @@ pub spare_then : (p : Place) (more rest : ℕ) {R : ℕ → Type 0} (old new : T
 spare_then p more rest old new spare puts = omega (arith, spare, puts.room)
 
 -- at the start
-pub spare_first : (p : Place) (sectors inodes : ℕ) (txn : TxnState) → the_place sectors inodes ≡ Some p → txn.room ≡ 64 → HasSpare p 47 txn
-spare_first p sectors inodes txn is room =
-    let table = (place_has_bounds sectors inodes is).table_to in
+pub spare_first : (p : Place) (version : Version) (sectors inodes : ℕ) (txn : TxnState) → place_in version sectors inodes ≡ Some p → txn.room ≡ 64 → HasSpare p 47 txn
+spare_first p version sectors inodes txn is room =
+    let table = (place_has_bounds version sectors inodes is).table_to in
     omega (arith, lacking_at_most txn (bitmaps p), length-range_with_len 128 (p.table - 128), table, room)
 
 -- ---- an inode's bit

@@ -7,7 +7,8 @@
 use Rattle.std.specs.Prelude.{◌≡◌, ℕ, ◌+◌, ◌<◌, ◌≤◌, ◌⊎◌, Some, IsTrue}
 use Rattle.fs_layout.specs.declared.place.Place.{Place}
 use Rattle.fs_layout.specs.Bytes.{SectorMap}
-use Rattle.fs_layout.specs.Place.{IsPlace, the_place}
+use Rattle.fs_layout.specs.declared.version.Version.{Version}
+use Rattle.fs_layout.specs.Place.{IsPlace, place_in}
 use Rattle.fs_layout.specs.Images.{bit, inode_bitmap, free_sectors}
 use Rattle.fs_layout.specs.Ownership.{IsConsistent}
 use Rattle.fs_layout.specs.Changes.{MarksInode}
@@ -46,7 +47,7 @@ LeavesSpare {T} state =
 -- where 64 sectors can be put, 47 can be besides those of the bitmaps
 abbrev pub BeginsWithSpare : {T : Type 0} → (T → TxnState) → Type 0
 BeginsWithSpare {T} state =
-    (p : Place) (sectors inodes : ℕ) (txn : T) → the_place sectors inodes ≡ Some p → (state txn).room ≡ 64
+    (p : Place) (version : Version) (sectors inodes : ℕ) (txn : T) → place_in version sectors inodes ≡ Some p → (state txn).room ≡ 64
     → HasSpare p 47 (state txn)
 
 -- the bit of an inode says nothing of sectors

@@ -1,6 +1,7 @@
 -- The inode gets a sector of pointers, or has no need of one.
 use Rattle.std.proofs.Common.{◌≡◌, ◌≢◌, ℕ, ◌+◌, ◌^◌, ◌<◌, true, List, ◌∷◌, refl, sym, ◌∙◌, arith}
 use Rattle.std.proofs.lemmas.Bool.{eq-eqb, lt-ltb, cond-true}
+use Rattle.fs_layout.specs.declared.inode.TheConstants.{DIRECT_BLOCKS, DIRECT_SIZE}
 use Rattle.fs_layout.specs.declared.inode.Inode.{Inode}
 use Rattle.fs_layout.specs.declared.inode.Kind.TheVariants as kinds
 use Rattle.fs_layout.specs.declared.place.Place.{Place}
@@ -33,7 +34,7 @@ alters_nothing may = record {
 }
 
 -- there is no need
-pub needs_no_pointers : {p : Place} {end : ℕ} {txn : TxnState} {b : Blocks} → MayChange p txn b.inode → (12 < end → b.inode.indirect ≢ 0) → AddsPointers p end txn txn b b
+pub needs_no_pointers : {p : Place} {end : ℕ} {txn : TxnState} {b : Blocks} → MayChange p txn b.inode → (DIRECT_BLOCKS < end → b.inode.indirect ≢ 0) → AddsPointers p end txn txn b b
 needs_no_pointers {p} {end} {txn} {b} may has = record {
   alters = alters_nothing may;
   loaded = λ l. l;
@@ -65,12 +66,12 @@ with_pointers_fits v s fits used small = record {
 }
 
 -- one is lacking
-pub one_lacks : (v : Inode) (end : ℕ) → 12 < end → v.indirect ≡ 0 → lacks_pointers v end ≡ 1
-one_lacks v end far none = rw (lt-ltb 12 end far, eq-eqb v.indirect 0 none) refl
+pub one_lacks : (v : Inode) (end : ℕ) → DIRECT_BLOCKS < end → v.indirect ≡ 0 → lacks_pointers v end ≡ 1
+one_lacks v end far none = rw (lt-ltb DIRECT_BLOCKS end far, eq-eqb v.indirect 0 none) refl
 
 -- it gets one
-pub gets_pointers : {p : Place} {end s : ℕ} {old new : TxnState} {bits : SectorMap} {x : List ℕ} {b : Blocks} → MayChange p old b.inode → 12 < end → b.inode.indirect ≡ 0
-    → 6144 < b.inode.size → x ≡ zeros 512 → Allocates p s x old.sectors bits new.sectors → free_sectors p old.sectors ≡ free_sectors p new.sectors + 1 → HasBitmaps p new
+pub gets_pointers : {p : Place} {end s : ℕ} {old new : TxnState} {bits : SectorMap} {x : List ℕ} {b : Blocks} → MayChange p old b.inode → DIRECT_BLOCKS < end → b.inode.indirect ≡ 0
+    → DIRECT_SIZE < b.inode.size → x ≡ zeros 512 → Allocates p s x old.sectors bits new.sectors → free_sectors p old.sectors ≡ free_sectors p new.sectors + 1 → HasBitmaps p new
     → PutsOnly (IsStepSector p) (bitmaps p) 1 old new → new.has_put s ≡ true
     → AddsPointers p end old new b (record { inode = record b.inode { indirect = s }; pointers = b.pointers })
 unfolding part

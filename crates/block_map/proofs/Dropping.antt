@@ -2,6 +2,7 @@
 use Rattle.std.proofs.Common.{◌≡◌, ◌≢◌, ℕ, ◌-◌, ◌*◌, ◌<◌, ◌≤◌, List, length, get_or, false, refl, sym, ap, subst, ◌∙◌, arith, inl, inr, ◌⊎◌, IsTrue}
 use Rattle.std.specs.Prelude.{min}
 use Rattle.std.proofs.lemmas.Bool.{cases_eq, cases_lt}
+use Rattle.fs_layout.specs.declared.inode.TheConstants.{DIRECT_BLOCKS, INDIRECT_END, MAX_BLOCKS}
 use Rattle.fs_layout.specs.declared.inode.Inode.{Inode}
 use Rattle.fs_layout.specs.declared.inode.Kind.TheVariants.{Free}
 use Rattle.fs_layout.specs.declared.place.Place.{Place}
@@ -39,7 +40,7 @@ pub record Dropped (p : Place) (v : Inode) (first u : ℕ) (d : List ℕ) (old n
   pub whole : v.indirect ≢ 0 → IsSector (new.sectors v.indirect)
   pub cleared : (k : ℕ) → first ≤ k → pointer old.sectors v k ≢ 0 → bit new.sectors block_bitmap (pointer old.sectors v k) ≡ false
   pub indirect : (u ≡ v.indirect) ⊎ ((u ≡ 0) × (v.indirect ≢ 0 → bit new.sectors block_bitmap v.indirect ≡ false))
-  pub few : first ≤ 12 → u ≡ 0
+  pub few : first ≤ DIRECT_BLOCKS → u ≡ 0
   pub released : (s : ℕ) → s < map_bits p → IsTrue (bit old.sectors block_bitmap s) → bit new.sectors block_bitmap s ≡ false
       → (s ≢ 0) × (((k : ℕ) × (first ≤ k) × (pointer old.sectors v k ≡ s)) ⊎ ((v.indirect ≡ s) × (u ≡ 0)))
   pub set : (s : ℕ) → s < map_bits p → IsTrue (bit new.sectors block_bitmap s) → IsTrue (bit old.sectors block_bitmap s)
@@ -50,11 +51,11 @@ pub record Dropped (p : Place) (v : Inode) (first u : ℕ) (d : List ℕ) (old n
 
 -- the list of direct pointers, with zeros from `first` on
 pub record DropsDirect (first : ℕ) (old new : List ℕ) : Type 0 where
-  pub len : length new ≡ 12
-  pub before : (i : ℕ) → i < min first 12 → get_or new i 0 ≡ get_or old i 0
-  pub after : (i : ℕ) → min first 12 ≤ i → get_or new i 0 ≡ 0
+  pub len : length new ≡ DIRECT_BLOCKS
+  pub before : (i : ℕ) → i < min first DIRECT_BLOCKS → get_or new i 0 ≡ get_or old i 0
+  pub after : (i : ℕ) → min first DIRECT_BLOCKS ≤ i → get_or new i 0 ≡ 0
 
-pub drops_direct : {first m : ℕ} {old new : List ℕ} → m ≡ min first 12 → length new ≡ 12 → ((i : ℕ) → i < m → get_or new i 0 ≡ get_or old i 0)
+pub drops_direct : {first m : ℕ} {old new : List ℕ} → m ≡ min first DIRECT_BLOCKS → length new ≡ DIRECT_BLOCKS → ((i : ℕ) → i < m → get_or new i 0 ≡ get_or old i 0)
     → ((i : ℕ) → m ≤ i → get_or new i 0 ≡ 0) → DropsDirect first old new
 drops_direct is len before after = record { len = len; before = λ i lt. before i (omega (arith, is, lt)); after = λ i ge. after i (omega (arith, is, ge)) }
 
@@ -68,7 +69,7 @@ dropped_parts g Indirect = g.indirect
 dropped_parts g DoubleIndirect = inl refl
 dropped_parts {first = first} g (Block k) = elim (cases_lt k first) [ inl lt ↦ inl (g.kept k lt) | inr ge ↦ inr (g.dropped k ge, g.cleared k ge) ]
 
-below_min : (k first : ℕ) → k < first → k < 12 → k < min first 12
+below_min : (k first : ℕ) → k < first → k < DIRECT_BLOCKS → k < min first DIRECT_BLOCKS
 below_min k first a b = omega (arith, a, b)
 
 dropped_fits : {v : Inode} {first u : ℕ} {d : List ℕ} → FitsInode v → v.kind ≢ Free → DropsDirect first v.direct d → (u ≡ v.indirect) ⊎ (u ≡ 0) → FitsInode (with_pointers v d u)
@@ -84,7 +85,7 @@ dropped_fits {v} {first} {u} {d} fits used direct is = record {
   acl = fits.acl;
   default_acl = fits.default_acl;
   direct_len = direct.len;
-  direct = λ i. elim (cases_lt i (min first 12)) [
+  direct = λ i. elim (cases_lt i (min first DIRECT_BLOCKS)) [
     | inl lt ↦ let e = direct.before i lt in let f = fits.direct i in omega (arith, e, f)
     | inr ge ↦ let e = direct.after i ge in omega (arith, e)
   ];
@@ -136,12 +137,12 @@ drops {p} {v} {first} {u} {d} {old} {new} may direct g =
     }
 
 -- ---- a direct block of the inode that has other pointers
-direct_kept : (v : Inode) {first : ℕ} (u : ℕ) {d : List ℕ} → DropsDirect first v.direct d → (old new : SectorMap) → (k : ℕ) → k < first → k < 12
+direct_kept : (v : Inode) {first : ℕ} (u : ℕ) {d : List ℕ} → DropsDirect first v.direct d → (old new : SectorMap) → (k : ℕ) → k < first → k < DIRECT_BLOCKS
     → pointer new (with_pointers v d u) k ≡ pointer old v k
 direct_kept v {first} u {d} direct old new k lt low =
     pointer_direct new (with_pointers v d u) k low ∙ direct.before k (below_min k first lt low) ∙ sym (pointer_direct old v k low)
 
-direct_dropped : (v : Inode) {first : ℕ} (u : ℕ) {d : List ℕ} → DropsDirect first v.direct d → (new : SectorMap) → (k : ℕ) → first ≤ k → k < 12
+direct_dropped : (v : Inode) {first : ℕ} (u : ℕ) {d : List ℕ} → DropsDirect first v.direct d → (new : SectorMap) → (k : ℕ) → first ≤ k → k < DIRECT_BLOCKS
     → pointer new (with_pointers v d u) k ≡ 0
 direct_dropped v {first} u {d} direct new k ge low = pointer_direct new (with_pointers v d u) k low ∙ direct.after k (omega (arith, ge, low))
 
@@ -149,7 +150,7 @@ same_puts : (p : Place) {old new : TxnState} → PutsOnly (IsStepSector p) (bitm
 same_puts p puts = changes_weaker {Q = IsStepSector p} (λ t r. r) (omega arith) puts
 
 -- the inode has no sector of pointers
-pub dropped_direct : {p : Place} {v : Inode} {first : ℕ} {d : List ℕ} {old new : TxnState} → GivesBlocks p v first 140 old new → DropsDirect first v.direct d → v.indirect ≡ 0
+pub dropped_direct : {p : Place} {v : Inode} {first : ℕ} {d : List ℕ} {old new : TxnState} → GivesBlocks p v first MAX_BLOCKS old new → DropsDirect first v.direct d → v.indirect ≡ 0
     → Dropped p v first v.indirect d old new
 dropped_direct {p} {v} {first} {d} {old} {new} g direct none = record {
   tables = g.tables;
@@ -160,11 +161,11 @@ dropped_direct {p} {v} {first} {d} {old} {new} g direct none = record {
   few = λ le. none;
   released = λ s few set clear. let w = g.released s few set clear in (w.4, inl (w.0, w.1, w.3));
   set = g.set;
-  kept = λ k lt. elim (cases_lt k 12) [
+  kept = λ k lt. elim (cases_lt k DIRECT_BLOCKS) [
     | inl low ↦ direct_kept v v.indirect direct old.sectors new.sectors k lt low
     | inr high ↦ pointer_without new.sectors (with_pointers v d v.indirect) k high none ∙ sym (pointer_without old.sectors v k high none)
   ];
-  dropped = λ k ge. elim (cases_lt k 12) [
+  dropped = λ k ge. elim (cases_lt k DIRECT_BLOCKS) [
     | inl low ↦ direct_dropped v v.indirect direct new.sectors k ge low
     | inr high ↦ pointer_without new.sectors (with_pointers v d v.indirect) k high none
   ];
@@ -173,8 +174,8 @@ dropped_direct {p} {v} {first} {d} {old} {new} g direct none = record {
 }
 
 -- it has one, which is given back too
-pub dropped_pointers : {p : Place} {v : Inode} {first : ℕ} {d : List ℕ} {old mid new : TxnState} → IsOwnedApart p old.sectors v → GivesBlocks p v first 140 old mid
-    → DropsDirect first v.direct d → v.indirect ≢ 0 → first ≤ 12
+pub dropped_pointers : {p : Place} {v : Inode} {first : ℕ} {d : List ℕ} {old mid new : TxnState} → IsOwnedApart p old.sectors v → GivesBlocks p v first MAX_BLOCKS old mid
+    → DropsDirect first v.direct d → v.indirect ≢ 0 → first ≤ DIRECT_BLOCKS
     → GivesNumber p BlockMap v.indirect mid.sectors new.sectors → HasBitmaps p new → PutsOnly (λ t. t ≡ sector_of BlockMap v.indirect) (bitmaps p) 0 mid new
     → Dropped p v first 0 d old new
 dropped_pointers {p} {v} {first} {d} {old} {mid} {new} apart g direct has less given bits puts =
@@ -200,7 +201,7 @@ dropped_pointers {p} {v} {first} {d} {old} {mid} {new} apart g direct has less g
         | inr ne ↦ g.set s small (sym (given.mark.bits s small ne) ∙ set)
       ];
       kept = λ k lt. direct_kept v 0 direct old.sectors new.sectors k lt (omega (arith, lt, less));
-      dropped = λ k ge. elim (cases_lt k 12) [
+      dropped = λ k ge. elim (cases_lt k DIRECT_BLOCKS) [
         | inl low ↦ direct_dropped v 0 direct new.sectors k ge low
         | inr high ↦ pointer_without new.sectors (with_pointers v d 0) k high refl
       ];
@@ -209,9 +210,9 @@ dropped_pointers {p} {v} {first} {d} {old} {mid} {new} apart g direct has less g
     }
 
 -- it has one, which other blocks still need
-pub dropped_entries : {p : Place} {v : Inode} {first : ℕ} {d x y : List ℕ} {old mid new : TxnState} → IsOwnedApart p old.sectors v → GivesBlocks p v first 140 old mid
-    → DropsDirect first v.direct d → v.indirect ≢ 0 → 12 < first → x ≡ old.sectors v.indirect
-    → ((i : ℕ) → i < first - 12 → u32_of y (4 * i) ≡ u32_of x (4 * i)) → ((i : ℕ) → first - 12 ≤ i → u32_of y (4 * i) ≡ 0) → IsSector y
+pub dropped_entries : {p : Place} {v : Inode} {first : ℕ} {d x y : List ℕ} {old mid new : TxnState} → IsOwnedApart p old.sectors v → GivesBlocks p v first MAX_BLOCKS old mid
+    → DropsDirect first v.direct d → v.indirect ≢ 0 → DIRECT_BLOCKS < first → x ≡ old.sectors v.indirect
+    → ((i : ℕ) → i < first - DIRECT_BLOCKS → u32_of y (4 * i) ≡ u32_of x (4 * i)) → ((i : ℕ) → first - DIRECT_BLOCKS ≤ i → u32_of y (4 * i) ≡ 0) → IsSector y
     → IsPut v.indirect y mid new → Dropped p v first v.indirect d old new
 dropped_entries {p} {v} {first} {d} {x} {y} {old} {mid} {new} apart g direct has more loaded before after whole put =
     let place : IsPlace p = g.tables.place in
@@ -221,10 +222,10 @@ dropped_entries {p} {v} {first} {d} {x} {y} {old} {mid} {new} apart g direct has
     λ s few. block_bit_kept p mid.sectors new.sectors s few (λ t m. put.sectors.others t (λ e. let low = map_is_low place t m in omega (arith, low, ge, e))) in
     let few_of : (k : ℕ) → pointer old.sectors v k ≢ 0 → pointer old.sectors v k < map_bits p =
     λ k some. has_bit place (pointer old.sectors v k) (apart.each (pointer old.sectors v k) (owns_block old.sectors v k some)).1 in
-    let now : (k : ℕ) → 12 ≤ k → k < 140 → pointer new.sectors (with_pointers v d v.indirect) k ≡ u32_of y (4 * (k - 12)) =
-    λ k high low. pointer_indirect new.sectors (with_pointers v d v.indirect) k high low ∙ entry_there new.sectors v.indirect (k - 12) has ∙ ap (λ (s : List ℕ). u32_of s (4 * (k - 12))) put.sectors.here in
-    let was : (k : ℕ) → 12 ≤ k → k < 140 → pointer old.sectors v k ≡ u32_of x (4 * (k - 12)) =
-    λ k high low. pointer_indirect old.sectors v k high low ∙ entry_there old.sectors v.indirect (k - 12) has ∙ ap (λ (s : List ℕ). u32_of s (4 * (k - 12))) (sym loaded) in
+    let now : (k : ℕ) → DIRECT_BLOCKS ≤ k → k < INDIRECT_END → pointer new.sectors (with_pointers v d v.indirect) k ≡ u32_of y (4 * (k - DIRECT_BLOCKS)) =
+    λ k high low. pointer_indirect new.sectors (with_pointers v d v.indirect) k high low ∙ entry_there new.sectors v.indirect (k - DIRECT_BLOCKS) has ∙ ap (λ (s : List ℕ). u32_of s (4 * (k - DIRECT_BLOCKS))) put.sectors.here in
+    let was : (k : ℕ) → DIRECT_BLOCKS ≤ k → k < INDIRECT_END → pointer old.sectors v k ≡ u32_of x (4 * (k - DIRECT_BLOCKS)) =
+    λ k high low. pointer_indirect old.sectors v k high low ∙ entry_there old.sectors v.indirect (k - DIRECT_BLOCKS) has ∙ ap (λ (s : List ℕ). u32_of s (4 * (k - DIRECT_BLOCKS))) (sym loaded) in
     record {
       tables = put_keeps_bitmaps g.tables put.store ge put.sectors;
       others = λ s ban ne. put.sectors.others s (ne has) ∙ g.others s ban;
@@ -234,17 +235,17 @@ dropped_entries {p} {v} {first} {d} {x} {y} {old} {mid} {new} apart g direct has
       few = λ le. absurd (omega (arith, le, more));
       released = λ s small set clear. let w = g.released s small set (sym (bits s small) ∙ clear) in (w.4, inl (w.0, w.1, w.3));
       set = λ s small set. g.set s small (sym (bits s small) ∙ set);
-      kept = λ k lt. elim (cases_lt k 12) [
+      kept = λ k lt. elim (cases_lt k DIRECT_BLOCKS) [
         | inl low ↦ direct_kept v v.indirect direct old.sectors new.sectors k lt low
-        | inr high ↦ elim (cases_lt k 140) [
-          | inl most ↦ now k high most ∙ before (k - 12) (omega (arith, lt, high)) ∙ sym (was k high most)
+        | inr high ↦ elim (cases_lt k INDIRECT_END) [
+          | inl most ↦ now k high most ∙ before (k - DIRECT_BLOCKS) (omega (arith, lt, high)) ∙ sym (was k high most)
           | inr past ↦ pointer_past new.sectors (with_pointers v d v.indirect) k past ∙ sym (pointer_past old.sectors v k past)
         ]
       ];
-      dropped = λ k from. elim (cases_lt k 12) [
+      dropped = λ k from. elim (cases_lt k DIRECT_BLOCKS) [
         | inl low ↦ direct_dropped v v.indirect direct new.sectors k from low
-        | inr high ↦ elim (cases_lt k 140) [
-          | inl most ↦ now k high most ∙ after (k - 12) (omega (arith, from, high))
+        | inr high ↦ elim (cases_lt k INDIRECT_END) [
+          | inl most ↦ now k high most ∙ after (k - DIRECT_BLOCKS) (omega (arith, from, high))
           | inr past ↦ pointer_past new.sectors (with_pointers v d v.indirect) k past
         ]
       ];

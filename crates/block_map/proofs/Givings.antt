@@ -1,6 +1,7 @@
 -- Blocks are given back, one after the other.
 use Rattle.std.proofs.Common.{◌≡◌, ◌≢◌, ℕ, ◌+◌, ◌/◌, ◌%◌, [], ◌≤◌, ◌<◌, false, refl, sym, ap, subst, ◌∙◌, arith, inl, inr, ◌⊎◌, IsTrue}
 use Rattle.std.proofs.lemmas.Bool.{cases_eq, cases_lt}
+use Rattle.fs_layout.specs.declared.inode.TheConstants.{DIRECT_BLOCKS, MAX_BLOCKS}
 use Rattle.fs_layout.specs.declared.inode.Inode.{Inode}
 use Rattle.fs_layout.specs.declared.place.Place.{Place}
 use Rattle.fs_layout.specs.Bytes.{SectorMap, IsSector, zeros}
@@ -155,11 +156,11 @@ keeps_or_gives {p} {v} {w} {old} {new} place apart g = record {
 }
 
 -- ---- all of it
-pub past_is_hole : (image : SectorMap) (v : Inode) (k : ℕ) → pointer image v k ≢ 0 → k < 140
-past_is_hole image v k some = elim (cases_lt k 140) [ inl lt ↦ lt | inr past ↦ absurd (some (pointer_past image v k past)) ]
+pub past_is_hole : (image : SectorMap) (v : Inode) (k : ℕ) → pointer image v k ≢ 0 → k < MAX_BLOCKS
+past_is_hole image v k some = elim (cases_lt k MAX_BLOCKS) [ inl lt ↦ lt | inr past ↦ absurd (some (pointer_past image v k past)) ]
 
 -- the inode has no sector of pointers
-pub blocks_are_all : {p : Place} {v : Inode} {old new : TxnState} → GivesBlocks p v 0 140 old new → v.indirect ≡ 0 → GivesAll p v old new
+pub blocks_are_all : {p : Place} {v : Inode} {old new : TxnState} → GivesBlocks p v 0 MAX_BLOCKS old new → v.indirect ≡ 0 → GivesAll p v old new
 blocks_are_all {p} {v} {old} {new} g none = record {
   tables = g.tables;
   others = g.others;
@@ -172,7 +173,7 @@ blocks_are_all {p} {v} {old} {new} g none = record {
 }
 
 -- it has one, which is given back too
-pub pointers_given : {p : Place} {v : Inode} {old mid new : TxnState} → IsOwnedApart p old.sectors v → GivesBlocks p v 0 140 old mid → v.indirect ≢ 0
+pub pointers_given : {p : Place} {v : Inode} {old mid new : TxnState} → IsOwnedApart p old.sectors v → GivesBlocks p v 0 MAX_BLOCKS old mid → v.indirect ≢ 0
     → GivesNumber p BlockMap v.indirect mid.sectors new.sectors → HasBitmaps p new → PutsOnly (λ t. t ≡ sector_of BlockMap v.indirect) (bitmaps p) 0 mid new
     → GivesAll p v old new
 pointers_given {p} {v} {old} {mid} {new} apart g has given bits puts =
@@ -200,8 +201,8 @@ pointers_given {p} {v} {old} {mid} {new} apart g has given bits puts =
 -- the inode without it has no block
 pub emptied_pointer : (image : SectorMap) (v : Inode) (k : ℕ) → pointer image (emptied v) k ≡ 0
 unfolding zeros
-emptied_pointer image v k = elim (cases_lt k 12) [
-  | inl lt ↦ pointer_direct image (emptied v) k lt ∙ get_or-zeros 12 k
+emptied_pointer image v k = elim (cases_lt k DIRECT_BLOCKS) [
+  | inl lt ↦ pointer_direct image (emptied v) k lt ∙ get_or-zeros DIRECT_BLOCKS k
   | inr ge ↦ pointer_without image (emptied v) k ge refl
 ]
 
@@ -240,8 +241,8 @@ emptied_fits v fits allowed =
       parent = fits.parent;
       acl = fits.acl;
       default_acl = fits.default_acl;
-      direct_len = length-zeros 12;
-      direct = λ i. let z = get_or-zeros 12 i in omega (arith, z);
+      direct_len = length-zeros DIRECT_BLOCKS;
+      direct = λ i. let z = get_or-zeros DIRECT_BLOCKS i in omega (arith, z);
       indirect = omega arith;
     }
 

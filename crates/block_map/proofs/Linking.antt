@@ -2,6 +2,7 @@
 use Rattle.std.proofs.Common.{◌≡◌, ℕ, ◌+◌, ◌/◌, ◌%◌, ◌^◌, ◌<◌, ◌≤◌, List, [], ◌++◌, length, replicate, refl, sym, ap, subst, ◌∙◌, arith, IsTrue}
 use Rattle.std.proofs.lemmas.Bool.Decides.{nat_tests}
 use Rattle.std.proofs.lemmas.List.{drop_all, append-nil}
+use Rattle.fs_layout.specs.declared.inode.TheConstants.{DIRECT_BLOCKS}
 use Rattle.fs_layout.specs.declared.inode.Inode.{Inode}
 use Rattle.fs_layout.specs.declared.inode.Kind.TheVariants as kinds
 use Rattle.fs_layout.specs.declared.place.Place.{Place}
@@ -48,13 +49,13 @@ link_of owner group size = record {
   parent = 0;
   acl = 0;
   default_acl = 0;
-  direct = replicate 12 0;
+  direct = replicate DIRECT_BLOCKS 0;
   indirect = 0;
 }
 
 link_has_no_sector : (owner group size : ℕ) → HasNoSector (link_of owner group size)
 unfolding zeros
-link_has_no_sector owner group size = record { acl = refl; default_acl = refl; direct = get_or-zeros 12; indirect = refl }
+link_has_no_sector owner group size = record { acl = refl; default_acl = refl; direct = get_or-zeros DIRECT_BLOCKS; indirect = refl }
 
 -- it holds zeros
 link_holds_zeros : (image : SectorMap) (owner group size : ℕ) → Holds image (link_of owner group size) (zeros size)
@@ -80,7 +81,7 @@ link_fits owner group size y small_owner small_group some few small =
       acl = omega arith;
       default_acl = omega arith;
       direct_len = refl;
-      direct = λ i. let z = get_or-zeros 12 i in omega (arith, z);
+      direct = λ i. let z = get_or-zeros DIRECT_BLOCKS i in omega (arith, z);
       indirect = omega arith;
     } in
     with_direct_fits v 0 y fits (λ e. cc) small

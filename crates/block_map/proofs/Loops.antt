@@ -4,6 +4,7 @@ use Rattle.std.specs.Prelude.{nat_eq, if◌then◌else◌}
 use Rattle.std.proofs.lemmas.Bool.{cases_lt, cases_eq}
 use Rattle.std.proofs.lemmas.List.{length-take-le, take_all}
 use Rattle.std.proofs.Math.Seq.{take-add}
+use Rattle.fs_layout.specs.declared.inode.TheConstants.{DIRECT_BLOCKS}
 use Rattle.fs_layout.specs.declared.inode.Inode.{Inode}
 use Rattle.fs_layout.specs.declared.place.Place.{Place}
 use Rattle.fs_layout.specs.Bytes.{SectorMap, splice}
@@ -173,7 +174,7 @@ block_lacks {p} {offset} {end} {k} {x} {old} {mid} {now} {a} {b} {c} added so_fa
     omega (arith, f, g, full, same_holes (k - first), count, more, one, rest)
 
 -- and so where none is left for the pointers
-pub pointers_lack : (p : Place) (offset end : ℕ) (x : List ℕ) (old : TxnState) (v : Inode) → end ≡ blocks_to (offset + length x) → 12 < end → v.indirect ≡ 0
+pub pointers_lack : (p : Place) (offset end : ℕ) (x : List ℕ) (old : TxnState) (v : Inode) → end ≡ blocks_to (offset + length x) → DIRECT_BLOCKS < end → v.indirect ≡ 0
     → free_sectors p old.sectors ≡ 0 → free_sectors p old.sectors < taken_by old.sectors v offset (length x)
 pointers_lack p offset end x old v is far none full =
     let one : lacks_pointers v (blocks_to (offset + length x)) ≡ 1 = one_lacks v (blocks_to (offset + length x)) (omega (arith, is, far)) none in

@@ -2,6 +2,7 @@
 use Rattle.std.proofs.Common.{◌≡◌, ◌≢◌, ℕ, ◌+◌, ◌-◌, ◌*◌, ◌/◌, ◌%◌, ◌<◌, ◌≤◌, List, ◌++◌, length, take, replicate, get_or, refl, sym, ap, subst, ◌∙◌, arith, inl, inr, ◌⊎◌}
 use Rattle.std.proofs.lemmas.Bool.{cases_lt}
 use Rattle.std.proofs.lemmas.List.{ext_get_or, take_all, append-nil, get_or_past, length-take, length-take-le, get_or-take}
+use Rattle.fs_layout.specs.declared.inode.TheConstants.{MAX_FILE_SIZE}
 use Rattle.fs_layout.specs.declared.inode.Inode.{Inode}
 use Rattle.fs_layout.specs.declared.inode.Kind.{Kind}
 use Rattle.fs_layout.specs.declared.place.Place.{Place}
@@ -32,7 +33,7 @@ use Rattle.block_map.proofs.Writings.{free_after_put, writes_block_there}
 use Rattle.block_map.proofs.Wrote.{free_same}
 
 -- ---- a longer one
-pub grows : {p : Place} {old : TxnState} {v : Inode} (m : ℕ) → MayChange p old v → AllowsSize v.kind m → m ≤ 71680 → v.size ≤ m
+pub grows : {p : Place} {old : TxnState} {v : Inode} (m : ℕ) → MayChange p old v → AllowsSize v.kind m → m ≤ MAX_FILE_SIZE → v.size ≤ m
     → Resizes p m old old v (record v { size = m })
 unfolding zeros
 grows {p} {old} {v} m may allowed few le = record {
@@ -173,7 +174,7 @@ altered_after {p} {old} {start} {mid} {v} {w} same a =
       fits = a.fits;
     }
 
-pub resizes : {p : Place} {m : ℕ} {old start mid new : TxnState} {u v w : Inode} → MayChange p old v → AllowsSize v.kind m → m ≤ v.size → v.size ≤ 71680
+pub resizes : {p : Place} {m : ℕ} {old start mid new : TxnState} {u v w : Inode} → MayChange p old v → AllowsSize v.kind m → m ≤ v.size → v.size ≤ MAX_FILE_SIZE
     → IsUnchanged old start → u ≡ v → ClearsTail p m start mid u → DropsBlocks p ((m + 511) / 512) mid new u w → Resizes p m old new v (record w { size = m })
 resizes {p} {m} {old} {start} {mid} {new} {u} {v} {w} may allowed le small same e clear_u drop_u =
     let t : ClearsTail p m start mid v = subst (λ (i : Inode). ClearsTail p m start mid i) e clear_u in

@@ -4,6 +4,7 @@ use Rattle.std.specs.Prelude.{max}
 use Rattle.std.proofs.lemmas.Bool.{cases_lt}
 use Rattle.std.proofs.lemmas.Bool.Decides.{nat_tests}
 use Rattle.std.proofs.lemmas.List.{ext_get_or, length-append, length-take-le, get_or_append_left, get_or-append_right, get_or_past, get_or-take, take_all, drop_all, append-nil, append_assoc}
+use Rattle.fs_layout.specs.declared.inode.TheConstants.{MAX_FILE_SIZE, MAX_DIRECTORY_SIZE}
 use Rattle.fs_layout.specs.declared.inode.Inode.{Inode}
 use Rattle.fs_layout.specs.declared.inode.Kind.{Kind}
 use Rattle.fs_layout.specs.declared.inode.Kind.TheVariants.{Free, File, Directory, Link}
@@ -27,7 +28,7 @@ use Rattle.block_map.proofs.Alterings.{acls_kept}
 use Rattle.block_map.proofs.Runs.{same_map}
 
 -- ---- an inode with another size
-sized_numbers : (k : Kind) (mode size m : ℕ) → IsTrue (numbers_fit k mode size) → AllowsSize k m → m ≤ 71680 → IsTrue (numbers_fit k mode m)
+sized_numbers : (k : Kind) (mode size m : ℕ) → IsTrue (numbers_fit k mode size) → AllowsSize k m → m ≤ MAX_FILE_SIZE → IsTrue (numbers_fit k mode m)
 sized_numbers Free mode size m fits allowed few = absurd allowed
 sized_numbers File mode size m fits allowed few = grind (arith, nat_tests)
 sized_numbers Directory mode size m fits allowed few = grind (arith, nat_tests)
@@ -41,7 +42,7 @@ is_used Directory m allowed e = cc
 is_used Link m allowed e = cc
 
 -- it fits its fields
-pub sized_fits : (v : Inode) (m : ℕ) → FitsInode v → AllowsSize v.kind m → m ≤ 71680 → FitsInode (record v { size = m })
+pub sized_fits : (v : Inode) (m : ℕ) → FitsInode v → AllowsSize v.kind m → m ≤ MAX_FILE_SIZE → FitsInode (record v { size = m })
 unfolding inode_fits
 sized_fits v m fits allowed few = record {
   valid = record { numbers = sized_numbers v.kind v.mode v.size m fits.valid.numbers allowed few; free = λ e. absurd (is_used v.kind m allowed e) };
@@ -67,21 +68,30 @@ may_change {p} {n} {txn} {v} m sound lt is allowed = record {
   used = is_used v.kind m allowed;
 }
 
-number_limit : (k : Kind) (mode size m : ℕ) → IsTrue (numbers_fit k mode size) → AllowsSize k m → size ≤ 71680
+number_limit : (k : Kind) (mode size m : ℕ) → IsTrue (numbers_fit k mode size) → AllowsSize k m → size ≤ MAX_FILE_SIZE
 number_limit Free mode size m fits allowed = absurd allowed
 number_limit File mode size m fits allowed = grind (arith, nat_tests)
 number_limit Directory mode size m fits allowed = grind (arith, nat_tests)
 number_limit Link mode size m fits allowed = grind (arith, nat_tests)
 
 -- and is within the limit
-pub size_limit : {p : Place} {n : ℕ} {txn : TxnState} {v : Inode} (m : ℕ) → IsSound p txn → n < p.inodes → v ≡ inode_at p txn.sectors n → AllowsSize v.kind m → v.size ≤ 71680
+pub size_limit : {p : Place} {n : ℕ} {txn : TxnState} {v : Inode} (m : ℕ) → IsSound p txn → n < p.inodes → v ≡ inode_at p txn.sectors n → AllowsSize v.kind m → v.size ≤ MAX_FILE_SIZE
 unfolding inode_fits
 size_limit {p} {n} {txn} {v} m sound lt is allowed =
     let fits : FitsInode v = subst FitsInode (sym is) (inode_fits_there sound.consistent n lt) in
     number_limit v.kind v.mode v.size m fits.valid.numbers allowed
 
+-- and a directory within its own
+pub directory_size_limit : {p : Place} {n : ℕ} {txn : TxnState} {v : Inode} → IsSound p txn → n < p.inodes → v ≡ inode_at p txn.sectors n → v.kind ≡ Directory
+    → v.size ≤ MAX_DIRECTORY_SIZE
+unfolding inode_fits
+directory_size_limit {p} {n} {txn} {v} sound lt is kind =
+    let fits : FitsInode v = subst FitsInode (sym is) (inode_fits_there sound.consistent n lt) in
+    let numbers : IsTrue (numbers_fit Directory v.mode v.size) = subst (λ (k : Kind). IsTrue (numbers_fit k v.mode v.size)) kind fits.valid.numbers in
+    grind (arith, nat_tests)
+
 -- its size changes in memory, after reads
-pub sized : {p : Place} {old mid : TxnState} {v : Inode} (m : ℕ) → MayChange p old v → IsUnchanged old mid → AllowsSize v.kind m → m ≤ 71680
+pub sized : {p : Place} {old mid : TxnState} {v : Inode} (m : ℕ) → MayChange p old v → IsUnchanged old mid → AllowsSize v.kind m → m ≤ MAX_FILE_SIZE
     → Alters p old mid v (record v { size = m })
 sized {p} {old} {mid} {v} m may same allowed few =
     let e : old.sectors ≡ mid.sectors = sym (same_map old.sectors mid.sectors same.sectors) in

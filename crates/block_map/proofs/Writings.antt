@@ -1,6 +1,7 @@
 -- A block is written: one that has a sector, or a hole, directly or through the sector of pointers.
 use Rattle.std.proofs.Common.{◌≡◌, ◌≢◌, ℕ, ◌+◌, ◌-◌, ◌*◌, ◌^◌, ◌<◌, ◌≤◌, List, ◌∷◌, length, refl, sym, ap, subst, ◌∙◌, arith}
 use Rattle.std.proofs.lemmas.Bool.{eq-eqb}
+use Rattle.fs_layout.specs.declared.inode.TheConstants.{DIRECT_BLOCKS, INDIRECT_END}
 use Rattle.fs_layout.specs.declared.inode.Inode.{Inode}
 use Rattle.fs_layout.specs.declared.place.Place.{Place}
 use Rattle.fs_layout.specs.Bytes.{SectorMap, IsBytes, IsSector, splice, le32, zeros}
@@ -78,11 +79,11 @@ module _ {p : Place} {old new : TxnState} {bits : SectorMap} {b : Blocks} {k at 
     (may : MayChange p old b.inode) (none : pointer old.sectors b.inode k ≡ 0) (room : at + length x ≤ 512)
     (is : y ≡ splice (zeros 512) at x) (fits : 512 * k + at + length x ≤ b.inode.size) (inside : 512 * k < b.inode.size)
     (a : Allocates p s y old.sectors bits new.sectors) (free : free_sectors p old.sectors ≡ free_sectors p new.sectors + 1) (bitmaps_now : HasBitmaps p new)
-    (puts : PutsOnly (IsStepSector p) (b.inode.indirect ∷ bitmaps p) 1 old new) (lt : k < 12) where
+    (puts : PutsOnly (IsStepSector p) (b.inode.indirect ∷ bitmaps p) 1 old new) (lt : k < DIRECT_BLOCKS) where
   pub writes_direct_block : WritesBlock p k at x old new b (record { inode = with_direct b.inode k s; pointers = b.pointers })
   writes_direct_block =
       let place : IsPlace p = may.bitmaps.place in
-      let len : length b.inode.direct ≡ 12 = may.fits.direct_len in
+      let len : length b.inode.direct ≡ DIRECT_BLOCKS = may.fits.direct_len in
       let turned : Turns old.sectors new.sectors b.inode (with_direct b.inode k s) (Block k) 0 s =
       turns_direct old.sectors new.sectors b.inode k 0 s lt len none (pointers_kept (allocates_keeps place may.apart a)) in
       record {
@@ -124,8 +125,8 @@ module _ {p : Place} {old mid new : TxnState} {bits : SectorMap} {b : Blocks} {k
     (may : MayChange p old b.inode) (none : pointer old.sectors b.inode k ≡ 0) (room : at + length x ≤ 512)
     (is : y ≡ splice (zeros 512) at x) (fits : 512 * k + at + length x ≤ b.inode.size) (inside : 512 * k < b.inode.size)
     (a : Allocates p s y old.sectors bits mid.sectors) (free : free_sectors p old.sectors ≡ free_sectors p mid.sectors + 1) (bitmaps_mid : HasBitmaps p mid)
-    (from : 12 ≤ k) (to : k < 140) (has : b.inode.indirect ≢ 0) (loaded : b.pointers ≡ old.sectors b.inode.indirect)
-    (entry : pointers ≡ splice b.pointers (4 * (k - 12)) (le32 s)) (put : Puts b.inode.indirect pointers mid.sectors new.sectors) (store : SameStore mid new)
+    (from : DIRECT_BLOCKS ≤ k) (to : k < INDIRECT_END) (has : b.inode.indirect ≢ 0) (loaded : b.pointers ≡ old.sectors b.inode.indirect)
+    (entry : pointers ≡ splice b.pointers (4 * (k - DIRECT_BLOCKS)) (le32 s)) (put : Puts b.inode.indirect pointers mid.sectors new.sectors) (store : SameStore mid new)
     (puts : PutsOnly (IsStepSector p) (b.inode.indirect ∷ bitmaps p) 1 old new) where
   pub writes_entry_block : WritesBlock p k at x old new b (record { inode = b.inode; pointers = pointers })
   writes_entry_block =
@@ -133,8 +134,8 @@ module _ {p : Place} {old mid new : TxnState} {bits : SectorMap} {b : Blocks} {k
       let own : Owns old.sectors b.inode b.inode.indirect = owns_indirect old.sectors b.inode has in
       let before : mid.sectors b.inode.indirect ≡ old.sectors b.inode.indirect = allocates_keeps place may.apart a b.inode.indirect own in
       let small : s < 2 ^ 32 = let l = a.free.1 in let most = place.most_sectors in omega (arith, l, most) in
-      let written : pointers ≡ splice (mid.sectors b.inode.indirect) (4 * (k - 12)) (le32 s) =
-      entry ∙ ap (λ (r : List ℕ). splice r (4 * (k - 12)) (le32 s)) (loaded ∙ sym before) in
+      let written : pointers ≡ splice (mid.sectors b.inode.indirect) (4 * (k - DIRECT_BLOCKS)) (le32 s) =
+      entry ∙ ap (λ (r : List ℕ). splice r (4 * (k - DIRECT_BLOCKS)) (le32 s)) (loaded ∙ sym before) in
       let e : PutsEntry b.inode k s mid.sectors new.sectors =
       record { from = from; to = to; some = has; fits = small; put = record { here = put.here ∙ written; others = put.others } } in
       let there : HasEntry b.inode k s old.sectors new.sectors =
@@ -144,7 +145,7 @@ module _ {p : Place} {old mid new : TxnState} {bits : SectorMap} {b : Blocks} {k
         some = has;
         len = (may.apart.whole b.inode.indirect own).len;
         fits = small;
-        is = put.here ∙ entry ∙ ap (λ (r : List ℕ). splice r (4 * (k - 12)) (le32 s)) loaded;
+        is = put.here ∙ entry ∙ ap (λ (r : List ℕ). splice r (4 * (k - DIRECT_BLOCKS)) (le32 s)) loaded;
       } in
       let turned : Turns old.sectors new.sectors b.inode b.inode (Block k) 0 s = turns_entry none there in
       record {

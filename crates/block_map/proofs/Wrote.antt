@@ -1,6 +1,8 @@
 -- Bytes are written and the inode is saved.
 use Rattle.std.proofs.Common.{◌≡◌, ℕ, ◌+◌, ◌-◌, ◌/◌, ◌%◌, ◌≤◌, ◌<◌, Bool, true, false, cond, List, [], ◌++◌, length, sym, ap, subst, ◌∙◌, arith, inl, inr}
 use Rattle.std.specs.Prelude.{max, nat_eq, nat_lt}
+use Rattle.fs_layout.specs.declared.inode.TheConstants.{DIRECT_BLOCKS, MAX_FILE_SIZE}
+use Rattle.fs_layout.specs.declared.slot.TheConstants.{SLOT_SIZE}
 use Rattle.fs_layout.specs.declared.inode.Inode.{Inode}
 use Rattle.fs_layout.specs.declared.place.Place.{Place}
 use Rattle.fs_layout.specs.Bytes.{SectorMap, zeros, overwritten}
@@ -31,8 +33,9 @@ may_within {p} {txn} {v} may s o =
     (omega (arith, d.0, m, b), omega (arith, d.1, k))
 
 -- the size after a write within the limit
-pub limit_at : (m size offset len : ℕ) → m ≡ max size (offset + len) → offset ≤ 71680 - len → len ≤ 4096 → size ≤ 71680 → m ≤ 71680
-limit_at m size offset len is within few small = omega (arith, is, within, few, small)
+pub limit_at : (m size offset len limit : ℕ) → m ≡ max size (offset + len) → offset ≤ limit - len → len ≤ 4096 → 4096 ≤ limit → limit ≤ MAX_FILE_SIZE
+    → size ≤ MAX_FILE_SIZE → m ≤ MAX_FILE_SIZE
+limit_at m size offset len limit is within few least most small = omega (arith, is, within, few, least, most, small)
 
 -- ---- how many sectors are taken
 one_at_most : (b c : Bool) → cond b (cond c 1 0) 0 ≤ 1
@@ -44,7 +47,7 @@ pub taken_few : (image : SectorMap) (v : Inode) (offset len : ℕ) → len ≤ 4
 taken_few image v offset len few =
     let end : ℕ = blocks_to (offset + len) in
     let some = holes_few image v (offset / 512) (end - offset / 512) in
-    let one : lacks_pointers v end ≤ 1 = one_at_most (nat_lt 12 end) (nat_eq v.indirect 0) in
+    let one : lacks_pointers v end ≤ 1 = one_at_most (nat_lt DIRECT_BLOCKS end) (nat_eq v.indirect 0) in
     let most : end - offset / 512 ≤ 9 = omega (arith, few) in
     omega (arith, some, one, most)
 
@@ -65,12 +68,12 @@ pub put_few : (offset len : ℕ) → len ≤ 4096 → put_by offset len ≤ 11
 put_few offset len few = omega (arith, few)
 
 -- 3 where the bytes are one slot of a directory
-pub put_for_slot : (offset : ℕ) → offset % 128 ≡ 0 → put_by offset 128 ≡ 3
+pub put_for_slot : (offset : ℕ) → offset % SLOT_SIZE ≡ 0 → put_by offset SLOT_SIZE ≡ 3
 put_for_slot offset at = omega (arith, at)
 
 -- ---- the whole call
 module _ {p : Place} {n m offset : ℕ} {x : List ℕ} {old mid done new : TxnState} {u v w : Inode}
-    (sound : IsSound p old) (lt : n < p.inodes) (at : v ≡ inode_at p old.sectors n) (allowed : AllowsSize v.kind m) (limit : m ≤ 71680) (few : length x ≤ 4096)
+    (sound : IsSound p old) (lt : n < p.inodes) (at : v ≡ inode_at p old.sectors n) (allowed : AllowsSize v.kind m) (limit : m ≤ MAX_FILE_SIZE) (few : length x ≤ 4096)
     (is : m ≡ max v.size (offset + length x)) (same : IsUnchanged old mid) (e : u ≡ v) (step : WritesBlocks p offset x mid done (record u { size = m }) w) where
   pub wrote : Saves p n w done.sectors new.sectors → PutsOnly (λ t. t ≡ p.table + n / 4) [] 1 done new
       → IsEnded p n (taken_by old.sectors v offset (length x)) (put_by offset (length x)) old done new v w

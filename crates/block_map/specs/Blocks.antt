@@ -3,9 +3,10 @@
 --     number_in, IsLoaded        a block's sector, by an inode and its sector of pointers at hand
 --     IsReadOf        what a read gives
 use Rattle.std.specs.Prelude.{◌≡◌, ◌≢◌, ℕ, ◌-◌, ◌*◌, ◌<◌, ◌≤◌, nat_lt, if◌then◌else◌, List, ◌++◌, length, drop, get_or, min}
+use Rattle.fs_layout.specs.declared.inode.TheConstants.{DIRECT_BLOCKS}
 use Rattle.fs_layout.specs.declared.inode.Inode.{Inode}
 use Rattle.fs_layout.specs.Bytes.{SectorMap, window, zeros, u32_of}
-use Rattle.fs_layout.specs.Images.{Owns}
+use Rattle.fs_layout.specs.Images.{Owns, block_number}
 use Rattle.block_map.specs.declared.blocks.Blocks.{Blocks}
 
 -- each sector that the inode owns lies behind the log, on a disk of so many sectors
@@ -13,13 +14,12 @@ abbrev pub IsWithin : ℕ → SectorMap → Inode → Type 0
 IsWithin size image v = (s : ℕ) → Owns image v s → (128 ≤ s) × (s < size)
 
 -- the sector of block k; 0 for a hole
-unfoldable pub number_in : Blocks → ℕ → ℕ
-number_in b k =
-    if nat_lt k 12 then get_or b.inode.direct k 0 else (if nat_lt k 140 then u32_of b.pointers (4 * (k - 12)) else 0)
+abbrev pub number_in : Blocks → ℕ → ℕ
+number_in b k = block_number b.inode b.pointers k
 
 -- the sector of pointers is at hand, where a block below `end` needs it; zeros where there is none
 pub record IsLoaded (image : SectorMap) (b : Blocks) (end : ℕ) : Type 0 where
-  pub is : b.inode.indirect ≢ 0 → 12 < end → b.pointers ≡ image b.inode.indirect
+  pub is : b.inode.indirect ≢ 0 → DIRECT_BLOCKS < end → b.pointers ≡ image b.inode.indirect
   pub none : b.inode.indirect ≡ 0 → b.pointers ≡ zeros 512
 
 -- of a list of bytes `count` were read from an offset on into a buffer: as many as it has and as are left

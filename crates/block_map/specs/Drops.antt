@@ -3,6 +3,7 @@
 --     DropsBlocks        and the inode has them no more
 --     GivesAll, emptied        all that an inode has for its bytes; the inode without it
 use Rattle.std.specs.Prelude.{◌≡◌, ◌≢◌, ◌⊎◌, ℕ, ◌<◌, ◌≤◌, false, IsTrue, replicate}
+use Rattle.fs_layout.specs.declared.inode.TheConstants.{DIRECT_BLOCKS}
 use Rattle.fs_layout.specs.declared.inode.Inode.{Inode}
 use Rattle.fs_layout.specs.declared.place.Place.{Place}
 use Rattle.fs_layout.specs.Images.{pointer, bit, block_bitmap, map_bits, free_sectors}
@@ -29,7 +30,7 @@ pub record DropsBlocks (p : Place) (first : ℕ) (old new : TxnState) (v w : Ino
   pub alters : Alters p old new v w
   pub puts : PutsOnly (IsStepSector p) (bitmaps p) 1 old new
   pub size : w.size ≡ v.size
-  pub indirect : first ≤ 12 → w.indirect ≡ 0
+  pub indirect : first ≤ DIRECT_BLOCKS → w.indirect ≡ 0
   pub dropped : (k : ℕ) → first ≤ k → pointer new.sectors w k ≡ 0
   pub kept : (k : ℕ) → k < first → pointer new.sectors w k ≡ pointer old.sectors v k
   pub content : (k : ℕ) → k < first → pointer old.sectors v k ≢ 0 → new.sectors (pointer old.sectors v k) ≡ old.sectors (pointer old.sectors v k)
@@ -49,4 +50,4 @@ pub record GivesAll (p : Place) (v : Inode) (old new : TxnState) : Type 0 where
 
 -- the inode with nothing in it
 abbrev pub emptied : Inode → Inode
-emptied v = record v { size = 0; direct = replicate 12 0; indirect = 0 }
+emptied v = record v { size = 0; direct = replicate DIRECT_BLOCKS 0; indirect = 0 }

@@ -7,6 +7,7 @@
 --     blocks_to, taken_by, put_by        the blocks that bytes reach, and the sectors that they take and put
 use Rattle.std.specs.Prelude.{◌≡◌, ◌≢◌, ◌⊎◌, ℕ, ◌+◌, ◌*◌, ◌<◌, ◌≤◌, ◌-◌, ◌/◌, nat_eq, nat_lt, if◌then◌else◌, count_by, List, ◌∷◌, length}
 use Rattle.std.specs.List.{range_with_len}
+use Rattle.fs_layout.specs.declared.inode.TheConstants.{DIRECT_BLOCKS}
 use Rattle.fs_layout.specs.declared.inode.Inode.{Inode}
 use Rattle.fs_layout.specs.declared.inode.Kind.TheVariants as kinds
 use Rattle.fs_layout.specs.declared.place.Place.{Place}
@@ -54,7 +55,7 @@ holes image v first count = count_by (λ k. nat_eq (pointer image v k) 0) (range
 
 -- 1 where blocks up to `end` need a sector of pointers and there is none
 abbrev pub lacks_pointers : Inode → ℕ → ℕ
-lacks_pointers v end = if nat_lt 12 end then (if nat_eq v.indirect 0 then 1 else 0) else 0
+lacks_pointers v end = if nat_lt DIRECT_BLOCKS end then (if nat_eq v.indirect 0 then 1 else 0) else 0
 
 -- the inode has a sector of pointers, if blocks up to `end` need it
 pub record AddsPointers (p : Place) (end : ℕ) (old new : TxnState) (b c : Blocks) : Type 0 where
@@ -64,7 +65,7 @@ pub record AddsPointers (p : Place) (end : ℕ) (old new : TxnState) (b c : Bloc
   -- the room that is left, where the sector of pointers is shared by what comes then
   pub room : old.room + lacking new (c.inode.indirect ∷ bitmaps p) ≤ new.room + lacking old (bitmaps p) + 1
   pub size : c.inode.size ≡ b.inode.size
-  pub has : 12 < end → c.inode.indirect ≢ 0
+  pub has : DIRECT_BLOCKS < end → c.inode.indirect ≢ 0
   pub same : (k : ℕ) → pointer new.sectors c.inode k ≡ pointer old.sectors b.inode k
   pub held : (bytes : List ℕ) → Holds old.sectors b.inode bytes → Holds new.sectors c.inode bytes
   pub free : free_sectors p old.sectors ≤ free_sectors p new.sectors + lacks_pointers b.inode end

@@ -2,21 +2,18 @@
 
 ghost use Rattle.std.specs.Prelude.{◌≡◌, ◌≢◌, ◌≤◌, ◌<◌, ◌+◌, ◌-◌, ◌*◌, ℕ, length, get_or, false, OnOk};
 ghost use Rattle.sector_disk.specs.Disk.{HasCause};
+ghost use Rattle.fs_layout.specs.declared.inode.TheConstants.{DIRECT_BLOCKS, INDIRECT_END, SECTOR_POINTERS};
 ghost use Rattle.fs_layout.specs.Bytes.{SectorMap, u32_of, splice, le32, zeros};
 ghost use Rattle.fs_layout.specs.Images.{byte_in, byte_at, pointer};
 ghost use Rattle.sector_txn.specs.Sectors.{IsUnchanged, IsPut};
 
 use byteorder::{ByteOrder, LittleEndian};
-use fs_layout::Inode;
+use fs_layout::{DIRECT_BLOCKS, Inode};
 use sector_disk::DiskFault;
 use sector_txn::Sectors;
 
 /// The bytes of a block.
 pub(crate) const BLOCK: usize = 512;
-/// How many blocks an inode points to itself.
-pub(crate) const DIRECT: u64 = 12;
-/// How many blocks an inode can have.
-pub(crate) const MOST: u64 = 140;
 
 /// An inode and its sector of pointers, so that blocks can be read one by one.
 #[derive(Drop)]
@@ -27,15 +24,8 @@ pub struct Blocks {
     pub pointers: [u8; 512],
 }
 
-fn pointer_at(pointers: &[u8; 512], i: usize) -> u32
-    requires { i < 128 }
-    ensures { result ≡ u32_of pointers.now (4 * i) }
-{
-    LittleEndian::read_u32(&pointers[4 * i..])
-}
-
 fn write_pointer(pointers: &mut [u8; 512], i: usize, number: u32)
-    requires { i < 128 }
+    requires { i < SECTOR_POINTERS }
     ensures { pointers.new ≡ splice pointers.old (4 * i) (le32 number) }
 {
     LittleEndian::write_u32(&mut pointers[4 * i..], number);
@@ -55,36 +45,17 @@ impl Blocks {
         ensures same { IsUnchanged (S.state s.old) (S.state s.new) }
         ensures cause { HasCause (S.state s.old).disk (S.state s.new).disk result }
     {
-        if self.inode.indirect != 0 && DIRECT < end {
+        if self.inode.indirect != 0 && DIRECT_BLOCKS < end {
             s.get(self.inode.indirect, &mut self.pointers)?;
         }
         Ok(())
     }
 
     /// The sector of a block; 0 for a hole.
-    #[tactic(auto, unfolding(crate::specs::Blocks::number_in))]
     pub(crate) fn number(&self, k: u64) -> u32
         ensures { result ≡ number_in self.now k }
     {
-        if k < DIRECT {
-            self.inode.direct[k as usize]
-        } else if k < MOST {
-            pointer_at(&self.pointers, (k - DIRECT) as usize)
-        } else {
-            0
-        }
-    }
-
-    /// Where the blocks end that the inode can have, by whether it has a sector of pointers.
-    pub(crate) fn end(&self) -> u64
-        ensures most { result ≤ 140 }
-        ensures past { (image : SectorMap) → (k : ℕ) → result ≤ k → pointer image self.now.inode k ≡ 0 }
-    {
-        if self.inode.indirect == 0 {
-            DIRECT
-        } else {
-            MOST
-        }
+        self.inode.block_number(&self.pointers, k)
     }
 
     /// Reads block `k`, one below the end that was named to [`Blocks::load`]; a hole reads as zeros.
@@ -108,14 +79,14 @@ impl Blocks {
 
     /// Writes the sector of a block into the sector of pointers.
     pub(crate) fn put_pointer<S: Sectors>(&mut self, s: &mut S, k: u64, number: u32)
-        requires pointer { (12 ≤ k) × (k < 140) }
+        requires pointer { (DIRECT_BLOCKS ≤ k) × (k < INDIRECT_END) }
         requires within { (128 ≤ self.old.inode.indirect) × (self.old.inode.indirect < (S.state s.old).disk.size) }
         requires room { (S.state s.old).has_put self.old.inode.indirect ≡ false → 0 < (S.state s.old).room }
-        ensures pointers { self.new.pointers ≡ splice self.old.pointers (4 * (k - 12)) (le32 number) }
+        ensures pointers { self.new.pointers ≡ splice self.old.pointers (4 * (k - DIRECT_BLOCKS)) (le32 number) }
         ensures inode { self.new.inode ≡ self.old.inode }
         ensures put { IsPut self.old.inode.indirect self.new.pointers (S.state s.old) (S.state s.new) }
     {
-        write_pointer(&mut self.pointers, (k - DIRECT) as usize, number);
+        write_pointer(&mut self.pointers, (k - DIRECT_BLOCKS) as usize, number);
         s.put(self.inode.indirect, &self.pointers);
     }
 }

@@ -1,6 +1,7 @@
 //! Giving back what an inode has for its bytes.
 
 ghost use Rattle.std.specs.Prelude.{◌≡◌, ◌≤◌, ◌<◌, [], OnOk};
+ghost use Rattle.fs_layout.specs.declared.inode.TheConstants.{MAX_BLOCKS};
 ghost use Rattle.fs_layout.specs.Images.{Holds, inode_at};
 ghost use Rattle.sector_disk.specs.Disk.{HasCause};
 ghost use Rattle.sector_txn.specs.Sectors.{SameStore};
@@ -11,9 +12,9 @@ ghost use Rattle.block_map.specs.Contents.{AllowsSize, ChangesContent};
 ghost use Rattle.block_map.specs.Drops.{GivesBlocks, GivesAll};
 ghost use Rattle.block_map.specs.Steps.{MayChange};
 
-use crate::blocks::{BLOCK, Blocks, MOST};
+use crate::blocks::{BLOCK, Blocks};
 use bit_alloc::{Bitmap, give};
-use fs_layout::{Inode, Place};
+use fs_layout::{DIRECT_BLOCKS, Inode, MAX_BLOCKS, Place};
 use inode_table::write_inode;
 use sector_disk::DiskFault;
 use sector_txn::Sectors;
@@ -26,14 +27,14 @@ pub(crate) fn give_blocks<S: Sectors>(
     first: u64,
 ) -> Result<(), DiskFault>
     requires may { MayChange place (S.state s.old) blocks.now.inode }
-    requires loaded { IsLoaded (S.state s.old).sectors blocks.now 140 }
-    requires few { first ≤ 140 }
+    requires loaded { IsLoaded (S.state s.old).sectors blocks.now MAX_BLOCKS }
+    requires few { first ≤ MAX_BLOCKS }
     requires room { HasSpare place 0 (S.state s.old) }
-    ensures given { OnOk result (GivesBlocks place blocks.now.inode first 140 (S.state s.old) (S.state s.new)) }
+    ensures given { OnOk result (GivesBlocks place blocks.now.inode first MAX_BLOCKS (S.state s.old) (S.state s.new)) }
     ensures store { SameStore (S.state s.old) (S.state s.new) }
     ensures cause { HasCause (S.state s.old).disk (S.state s.new).disk result }
 {
-    let end = blocks.end();
+    let end = blocks.inode.block_end();
     for k in first..end {
         let number = blocks.number(k);
         if number != 0 {
@@ -55,7 +56,7 @@ pub(crate) fn give_all<S: Sectors>(s: &mut S, place: Place, inode: &Inode) -> Re
         inode: *inode,
         pointers: [0; BLOCK],
     };
-    blocks.load(s, MOST)?;
+    blocks.load(s, MAX_BLOCKS)?;
     give_blocks(s, place, &blocks, 0)?;
     if inode.indirect != 0 {
         give(s, place, Bitmap::Blocks, inode.indirect)?;
@@ -84,7 +85,7 @@ pub fn release_all<S: Sectors>(
 {
     give_all(s, place, inode)?;
     inode.size = 0;
-    inode.direct = [0; 12];
+    inode.direct = [0; DIRECT_BLOCKS as usize];
     inode.indirect = 0;
     write_inode(s, place, n, inode)?;
     Ok(())

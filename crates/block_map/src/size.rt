@@ -1,7 +1,8 @@
 //! Another size.
 
 ghost use Rattle.std.specs.Prelude.{◌≡◌, ◌≢◌, ◌≤◌, ◌<◌, ◌*◌, ◌↔◌, ℕ, List, length, get_or, Err, OnOk};
-ghost use Rattle.fs_layout.specs.declared.inode.TheConstants.{MAX_FILE_SIZE};
+ghost use Rattle.fs_layout.specs.declared.inode.TheConstants.{DIRECT_BLOCKS, MAX_BLOCKS, MAX_FILE_SIZE, SECTOR_POINTERS};
+ghost use Rattle.fs_layout.specs.Version.{max_file_size};
 ghost use Rattle.fs_layout.specs.Bytes.{IsBytes, resized, u32_of};
 ghost use Rattle.fs_layout.specs.Images.{Holds, HasNoHole, inode_at};
 ghost use Rattle.sector_disk.specs.Disk.{HasCause};
@@ -16,18 +17,18 @@ ghost use Rattle.block_map.specs.Sizes.{ClearsTail, Resizes};
 ghost use Rattle.block_map.specs.Steps.{MayChange};
 
 use crate::MapFault;
-use crate::blocks::{BLOCK, Blocks, DIRECT, MOST};
+use crate::blocks::{BLOCK, Blocks};
 use crate::release::give_blocks;
 use crate::steps::rewrite;
 use bit_alloc::{Bitmap, give};
-use fs_layout::{Inode, MAX_FILE_SIZE, Place};
+use fs_layout::{DIRECT_BLOCKS, Inode, MAX_BLOCKS, Place};
 use inode_table::write_inode;
 use sector_disk::DiskFault;
 use sector_txn::Sectors;
 
-fn clear_direct(direct: &mut [u32; 12], first: usize)
-    requires { first ≤ 12 }
-    ensures len { length direct.new ≡ 12 }
+fn clear_direct(direct: &mut [u32; DIRECT_BLOCKS as usize], first: usize)
+    requires { first ≤ DIRECT_BLOCKS }
+    ensures len { length direct.new ≡ DIRECT_BLOCKS }
     ensures before { (i : ℕ) → i < first → get_or direct.new i 0 ≡ get_or direct.old i 0 }
     ensures after { (i : ℕ) → first ≤ i → get_or direct.new i 0 ≡ 0 }
 {
@@ -35,7 +36,7 @@ fn clear_direct(direct: &mut [u32; 12], first: usize)
 }
 
 fn clear_pointers(pointers: &mut [u8; 512], first: usize)
-    requires { first ≤ 128 }
+    requires { first ≤ SECTOR_POINTERS }
     ensures bytes { IsBytes pointers.new }
     ensures before { (i : ℕ) → i < first → u32_of pointers.new (4 * i) ≡ u32_of pointers.old (4 * i) }
     ensures after { (i : ℕ) → first ≤ i → u32_of pointers.new (4 * i) ≡ 0 }
@@ -51,24 +52,24 @@ fn drop_blocks<S: Sectors>(
     first: u64,
 ) -> Result<(), DiskFault>
     requires may { MayChange place (S.state s.old) blocks.old.inode }
-    requires loaded { IsLoaded (S.state s.old).sectors blocks.old 140 }
-    requires few { first ≤ 140 }
+    requires loaded { IsLoaded (S.state s.old).sectors blocks.old MAX_BLOCKS }
+    requires few { first ≤ MAX_BLOCKS }
     requires room { HasSpare place 1 (S.state s.old) }
     ensures dropped { OnOk result (DropsBlocks place first (S.state s.old) (S.state s.new) blocks.old.inode blocks.new.inode) }
     ensures store { SameStore (S.state s.old) (S.state s.new) }
     ensures cause { HasCause (S.state s.old).disk (S.state s.new).disk result }
 {
     give_blocks(s, place, blocks, first)?;
-    clear_direct(&mut blocks.inode.direct, first.min(DIRECT) as usize);
+    clear_direct(&mut blocks.inode.direct, first.min(DIRECT_BLOCKS) as usize);
     if blocks.inode.indirect == 0 {
         return Ok(());
     }
-    if first <= DIRECT {
+    if first <= DIRECT_BLOCKS {
         give(s, place, Bitmap::Blocks, blocks.inode.indirect)?;
         blocks.inode.indirect = 0;
         return Ok(());
     }
-    clear_pointers(&mut blocks.pointers, (first - DIRECT) as usize);
+    clear_pointers(&mut blocks.pointers, (first - DIRECT_BLOCKS) as usize);
     s.put(blocks.inode.indirect, &blocks.pointers);
     Ok(())
 }
@@ -81,7 +82,7 @@ fn clear_tail<S: Sectors>(
     size: u64,
 ) -> Result<(), DiskFault>
     requires may { MayChange place (S.state s.old) blocks.now.inode }
-    requires loaded { IsLoaded (S.state s.old).sectors blocks.now 140 }
+    requires loaded { IsLoaded (S.state s.old).sectors blocks.now MAX_BLOCKS }
     requires less { size < blocks.now.inode.size }
     requires limit { blocks.now.inode.size ≤ MAX_FILE_SIZE }
     requires room { HasSpare place 1 (S.state s.old) }
@@ -125,7 +126,7 @@ fn resize<S: Sectors>(
         inode: *inode,
         pointers: [0; BLOCK],
     };
-    blocks.load(s, MOST)?;
+    blocks.load(s, MAX_BLOCKS)?;
     clear_tail(s, place, &blocks, size)?;
     drop_blocks(s, place, &mut blocks, size.div_ceil(BLOCK as u64))?;
     blocks.inode.size = size;
@@ -155,13 +156,13 @@ pub fn set_size<S: Sectors>(
     // A cut makes no hole.
     ensures whole { OnOk result (HasNoHole (S.state s.old).sectors inode.old → size ≤ inode.old.size
         → HasNoHole (S.state s.new).sectors inode.new) }
-    ensures too_big { (result ≡ Err MapFault.TooBig) ↔ (MAX_FILE_SIZE < size) }
-    ensures untouched { MAX_FILE_SIZE < size → IsUnchanged (S.state s.old) (S.state s.new) }
+    ensures too_big { (result ≡ Err MapFault.TooBig) ↔ (max_file_size place.version < size) }
+    ensures untouched { max_file_size place.version < size → IsUnchanged (S.state s.old) (S.state s.new) }
     ensures never_full { result ≢ Err MapFault.Full }
     ensures store { SameStore (S.state s.old) (S.state s.new) }
     ensures cause { HasCauseOf MapFault.DiskFault (S.state s.old).disk (S.state s.new).disk result }
 {
-    if size > MAX_FILE_SIZE {
+    if size > place.max_file_size() {
         return Err(MapFault::TooBig);
     }
     resize(s, place, inode, size)?;

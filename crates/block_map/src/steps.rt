@@ -1,6 +1,7 @@
 //! Steps of a change: what an inode owns changes, and the inode isn't saved yet.
 
 ghost use Rattle.std.specs.Prelude.{◌≡◌, ◌≢◌, ◌≤◌, ◌<◌, ◌+◌, ◌*◌, ℕ, [], length, false, true, Err, IfOk, IfErr, OnOk, OnErr};
+ghost use Rattle.fs_layout.specs.declared.inode.TheConstants.{DIRECT_BLOCKS, DIRECT_SIZE, MAX_BLOCKS};
 ghost use Rattle.fs_layout.specs.Bytes.{SectorMap, IsSector, splice, zeros};
 ghost use Rattle.fs_layout.specs.Images.{pointer, free_sectors};
 ghost use Rattle.fs_layout.specs.Changes.{Puts, Allocates};
@@ -13,9 +14,9 @@ ghost use Rattle.block_map.specs.Blocks.{IsLoaded};
 ghost use Rattle.block_map.specs.Steps.{MayChange, IsStepSector, HasRoomFor, AddsPointers, WritesBlock};
 
 use crate::MapFault;
-use crate::blocks::{BLOCK, Blocks, DIRECT};
+use crate::blocks::{BLOCK, Blocks};
 use bit_alloc::{Bitmap, TakeFault, take};
-use fs_layout::Place;
+use fs_layout::{DIRECT_BLOCKS, Place};
 use sector_disk::DiskFault;
 use sector_txn::Sectors;
 
@@ -108,7 +109,7 @@ pub(crate) fn write_block<S: Sectors>(
 ) -> Result<(), MapFault>
     requires may { MayChange place (S.state s.old) blocks.old.inode }
     requires loaded { IsLoaded (S.state s.old).sectors blocks.old (k + 1) }
-    requires pointers { (k < 140) × (12 ≤ k → blocks.old.inode.indirect ≢ 0) }
+    requires pointers { (k < MAX_BLOCKS) × (DIRECT_BLOCKS ≤ k → blocks.old.inode.indirect ≢ 0) }
     requires fits { (at + length bytes.now ≤ 512) × (512 * k + at + length bytes.now ≤ blocks.old.inode.size) }
     requires inside { 512 * k < blocks.old.inode.size }
     requires room { HasRoomFor place blocks.old.inode 1 (S.state s.old) }
@@ -125,7 +126,7 @@ pub(crate) fn write_block<S: Sectors>(
         return Ok(());
     }
     let number = take_block(s, place, at, bytes)?;
-    if k < DIRECT {
+    if k < DIRECT_BLOCKS {
         blocks.inode.direct[k as usize] = number;
     } else {
         blocks.put_pointer(s, k, number);
@@ -142,16 +143,16 @@ pub(crate) fn add_pointers<S: Sectors>(
 ) -> Result<(), MapFault>
     requires may { MayChange place (S.state s.old) blocks.old.inode }
     requires loaded { IsLoaded (S.state s.old).sectors blocks.old end }
-    requires inside { 12 < end → 6144 < blocks.old.inode.size }
+    requires inside { DIRECT_BLOCKS < end → DIRECT_SIZE < blocks.old.inode.size }
     requires room { HasSpare place 1 (S.state s.old) }
     ensures added { OnOk result (AddsPointers place end (S.state s.old) (S.state s.new) blocks.old blocks.new) }
     ensures full { result ≡ Err MapFault.Full
-        → (12 < end) × (blocks.old.inode.indirect ≡ 0) × (free_sectors place (S.state s.old).sectors ≡ 0) }
+        → (DIRECT_BLOCKS < end) × (blocks.old.inode.indirect ≡ 0) × (free_sectors place (S.state s.old).sectors ≡ 0) }
     ensures small { result ≢ Err MapFault.TooBig }
     ensures store { SameStore (S.state s.old) (S.state s.new) }
     ensures cause { HasCauseOf MapFault.DiskFault (S.state s.old).disk (S.state s.new).disk result }
 {
-    if end <= DIRECT || blocks.inode.indirect != 0 {
+    if end <= DIRECT_BLOCKS || blocks.inode.indirect != 0 {
         return Ok(());
     }
     blocks.inode.indirect = take_sector(s, place, &[0; BLOCK])?;

@@ -2,6 +2,7 @@
 
 ghost use Rattle.std.specs.Prelude.{◌≡◌, ◌≢◌, ◌≤◌, ◌<◌, ◌+◌, ◌-◌, ◌/◌, ◌%◌, ◌↔◌, ℕ, max, List, length, Err, OnOk};
 ghost use Rattle.fs_layout.specs.declared.inode.TheConstants.{MAX_FILE_SIZE};
+ghost use Rattle.fs_layout.specs.Version.{max_file_size};
 ghost use Rattle.fs_layout.specs.declared.inode.Kind.TheVariants.{Free};
 ghost use Rattle.fs_layout.specs.Bytes.{overwritten, splice};
 ghost use Rattle.fs_layout.specs.Images.{Holds, HasNoHole, free_sectors, inode_at, pointer};
@@ -17,7 +18,7 @@ ghost use Rattle.block_map.specs.Steps.{MayChange, WritesBlocks, blocks_to, take
 use crate::MapFault;
 use crate::blocks::{BLOCK, Blocks};
 use crate::steps::{add_pointers, rewrite, write_block};
-use fs_layout::{Inode, MAX_FILE_SIZE, Place};
+use fs_layout::{Inode, Place};
 use inode_table::write_inode;
 use sector_disk::DiskFault;
 use sector_txn::Sectors;
@@ -78,8 +79,8 @@ pub fn write_at<S: Sectors>(
     // No hole is made but before the bytes.
     ensures whole { OnOk result (HasNoHole (S.state s.old).sectors inode.old → offset ≤ inode.old.size
         → HasNoHole (S.state s.new).sectors inode.new) }
-    ensures too_big { (result ≡ Err MapFault.TooBig) ↔ (MAX_FILE_SIZE < offset + length bytes.now) }
-    ensures untouched { MAX_FILE_SIZE < offset + length bytes.now → IsUnchanged (S.state s.old) (S.state s.new) }
+    ensures too_big { (result ≡ Err MapFault.TooBig) ↔ (max_file_size place.version < offset + length bytes.now) }
+    ensures untouched { max_file_size place.version < offset + length bytes.now → IsUnchanged (S.state s.old) (S.state s.new) }
     ensures full { result ≡ Err MapFault.Full
         → (free_sectors place (S.state s.old).sectors < taken_by (S.state s.old).sectors inode.old offset (length bytes.now))
         × (taken_by (S.state s.old).sectors inode.old offset (length bytes.now) ≤ 10) }
@@ -87,7 +88,7 @@ pub fn write_at<S: Sectors>(
     ensures store { SameStore (S.state s.old) (S.state s.new) }
     ensures cause { HasCauseOf MapFault.DiskFault (S.state s.old).disk (S.state s.new).disk result }
 {
-    if offset > MAX_FILE_SIZE - bytes.len() as u64 {
+    if offset > place.max_file_size() - bytes.len() as u64 {
         return Err(MapFault::TooBig);
     }
     let end = offset + bytes.len() as u64;

@@ -8,6 +8,7 @@ use Rattle.std.specs.Prelude.{◌≡◌, ℕ, ◌+◌, ◌*◌, ◌/◌, ◌<◌
 use Rattle.std.proofs.Common.{refl, sym, ap, arith, ◌∙◌, subst}
 use Rattle.posix_acl.specs.AccessList.{AccessList, mode_bits, with_mode_bits}
 use Rattle.fs_cred.specs.Credentials.{Credential}
+use Rattle.fs_layout.specs.declared.inode.TheConstants.{S_ISGID, S_ISVTX}
 use Rattle.fs_layout.specs.declared.inode.Inode.{Inode}
 use Rattle.fs_layout.specs.declared.inode.Kind.TheVariants as kinds
 use Rattle.fs_layout.specs.Bytes.{SectorMap}
@@ -228,13 +229,13 @@ special_bits (File a bytes) = 0
 special_bits (Dir a d) = (if d.sticky then 1 else 0) + (if d.set_group_id then 2 else 0)
 special_bits (Link target) = 0
 
-put_together : (n k : ℕ) (s g : Bool) → k ≡ cond s 1 0 + cond g 2 0 → 512 * k + n ≡ n + cond s 512 0 + cond g 1024 0
+put_together : (n k : ℕ) (s g : Bool) → k ≡ cond s 1 0 + cond g 2 0 → 512 * k + n ≡ n + cond s S_ISVTX 0 + cond g S_ISGID 0
 put_together n k true true e = omega (arith, e)
 put_together n k true false e = omega (arith, e)
 put_together n k false true e = omega (arith, e)
 put_together n k false false e = omega (arith, e)
 
-taken_apart : (n m : ℕ) (s g : Bool) → n < 512 → m ≡ n + cond s 512 0 + cond g 1024 0 → m / 512 ≡ cond s 1 0 + cond g 2 0
+taken_apart : (n m : ℕ) (s g : Bool) → n < 512 → m ≡ n + cond s S_ISVTX 0 + cond g S_ISGID 0 → m / 512 ≡ cond s 1 0 + cond g 2 0
 taken_apart n m true true lt e = omega (arith, lt, e)
 taken_apart n m true false lt e = omega (arith, lt, e)
 taken_apart n m false true lt e = omega (arith, lt, e)

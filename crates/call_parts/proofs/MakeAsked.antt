@@ -9,8 +9,9 @@ use Rattle.fs_cred.specs.declared.rule.Rule.{Rule}
 use Rattle.fs_cred.specs.Credentials.{Credential}
 use Rattle.fs_cred.specs.Verdicts.{verdict}
 use Rattle.sector_disk.specs.Disk.{DiskState}
+use Rattle.fs_layout.specs.declared.slot.TheConstants.{SLOT_SIZE}
 use Rattle.fs_layout.specs.declared.inode.Inode.{Inode}
-use Rattle.fs_layout.specs.declared.inode.TheConstants.{MAX_FILE_SIZE}
+use Rattle.fs_layout.specs.declared.inode.TheConstants.{MAX_DIRECTORY_SIZE}
 use Rattle.fs_layout.specs.declared.place.Place.{Place}
 use Rattle.fs_layout.specs.Bytes.{SectorMap}
 use Rattle.fs_layout.specs.Images.{inode_at, free_sectors}
@@ -39,15 +40,15 @@ no_link (File a bytes) e = refl
 no_link (Dir a d) e = refl
 no_link (Link target) e = absurd (cc)
 
-names_size : (b : Body) → is_directory b ≡ true → shown_size b ≡ 128 * length (names_in b)
+names_size : (b : Body) → is_directory b ≡ true → shown_size b ≡ SLOT_SIZE * length (names_in b)
 names_size (File a bytes) e = absurd (cc)
 names_size (Dir a d) e = refl
 names_size (Link target) e = absurd (cc)
 
-same_test : (k size : ℕ) → size ≡ 128 * k → nat_le MAX_FILE_SIZE size ≡ nat_le entries_limit k
-same_test k size e = go (nat_le MAX_FILE_SIZE size) refl (nat_le entries_limit k) refl
+same_test : (k size : ℕ) → size ≡ SLOT_SIZE * k → nat_le MAX_DIRECTORY_SIZE size ≡ nat_le entries_limit k
+same_test k size e = go (nat_le MAX_DIRECTORY_SIZE size) refl (nat_le entries_limit k) refl
   where
-    go : (a : Bool) → nat_le MAX_FILE_SIZE size ≡ a → (b : Bool) → nat_le entries_limit k ≡ b → nat_le MAX_FILE_SIZE size ≡ nat_le entries_limit k
+    go : (a : Bool) → nat_le MAX_DIRECTORY_SIZE size ≡ a → (b : Bool) → nat_le entries_limit k ≡ b → nat_le MAX_DIRECTORY_SIZE size ≡ nat_le entries_limit k
     go true x true y = x ∙ sym y
     go false x false y = x ∙ sym y
     go true x false y = absurd (grind (arith, nat_tests))
@@ -69,12 +70,12 @@ inodes_later p {old} {mid} new e same is =
     kept_back (λ (m : SectorMap). IsAnswered old.disk new (checked (refuse ENOSPC (free_numbers p Inodes m == 0))) (Err e)) same
     (answered_later {A = Unit {0}} new same is)
 
-pub size_as : {v w : Inode} {r : Checked} → w ≡ v → checked (refuse ENOSPC (nat_le MAX_FILE_SIZE w.size)) ≡ r → checked (refuse ENOSPC (nat_le MAX_FILE_SIZE v.size)) ≡ r
-size_as {v} {w} {r} same is = subst (λ (u : Inode). checked (refuse ENOSPC (nat_le MAX_FILE_SIZE u.size)) ≡ r) same is
+pub size_as : {v w : Inode} {r : Checked} → w ≡ v → checked (refuse ENOSPC (nat_le MAX_DIRECTORY_SIZE w.size)) ≡ r → checked (refuse ENOSPC (nat_le MAX_DIRECTORY_SIZE v.size)) ≡ r
+size_as {v} {w} {r} same is = subst (λ (u : Inode). checked (refuse ENOSPC (nat_le MAX_DIRECTORY_SIZE u.size)) ≡ r) same is
 
 -- the size of its inode says whether a directory has place for one more name
 pub names_are : {p : Place} {map : SectorMap} {t : Tree} → HoldsTree p map t → (dir : ℕ) → IsDirectoryAt t dir
-    → refuse ENOSPC (nat_le MAX_FILE_SIZE (inode_at p map dir).size) ≡ refuse ENOSPC (nat_le entries_limit (length (names_in (the_node t dir).body)))
+    → refuse ENOSPC (nat_le MAX_DIRECTORY_SIZE (inode_at p map dir).size) ≡ refuse ENOSPC (nat_le entries_limit (length (names_in (the_node t dir).body)))
 names_are {p} {map} {t} h dir d =
     let size = size_says map (inode_at p map dir) d.node.body (held_node h dir d.node d.is_there).body ∙ names_size d.node.body d.directory in
     ap (refuse ENOSPC) (same_test (length (names_in d.node.body)) (inode_at p map dir).size size)
@@ -128,7 +129,7 @@ module _ {p : Place} {map : SectorMap} {t : Tree} (h : HoldsTree p map t) (dir :
             (next_asked sectors (inodes ∷ names ∷ []) x e old new enough
             (first_asked {B = Unit {0}} inodes (names ∷ []) tt x e old new (subst (λ (o : Demand). IsAnswered old new (checked o) (Err e)) inodes_are is)))
 
-        pub make_crowded : inodes ≡ None → checked (refuse ENOSPC (nat_le MAX_FILE_SIZE (inode_at p map dir).size)) ≡ Err e
+        pub make_crowded : inodes ≡ None → checked (refuse ENOSPC (nat_le MAX_DIRECTORY_SIZE (inode_at p map dir).size)) ≡ Err e
             → IsAnswered old new (refused_or (first_of (make_asked p map cred t dir step)) (Ok x)) (Err e)
         make_crowded some is =
             next_asked allowed (sectors ∷ inodes ∷ names ∷ []) x e old new granted
@@ -140,13 +141,13 @@ module _ {p : Place} {map : SectorMap} {t : Tree} (h : HoldsTree p map t) (dir :
   make_granted rule is =
       allowed_is ∙ (met_ok {A = Rule} (decided 1 step (Perm write_and_search) (verdict cred dir_access.access write_and_search)) (verdict cred dir_access.access write_and_search).rule rule is).0
 
-  pub make_met : allowed ≡ None → sectors ≡ None → inodes ≡ None → checked (refuse ENOSPC (nat_le MAX_FILE_SIZE (inode_at p map dir).size)) ≡ Ok tt
+  pub make_met : allowed ≡ None → sectors ≡ None → inodes ≡ None → checked (refuse ENOSPC (nat_le MAX_DIRECTORY_SIZE (inode_at p map dir).size)) ≡ Ok tt
       → first_of (make_asked p map cred t dir step) ≡ None
   make_met granted enough some is =
       both_met allowed (sectors ∷ inodes ∷ names ∷ []) granted
       (both_met sectors (inodes ∷ names ∷ []) enough
       (both_met inodes (names ∷ []) some
-      (or_else-none names ∙ sym (names_are h dir d) ∙ (met_ok {A = Unit {0}} (refuse ENOSPC (nat_le MAX_FILE_SIZE (inode_at p map dir).size)) tt tt is).0)))
+      (or_else-none names ∙ sym (names_are h dir d) ∙ (met_ok {A = Unit {0}} (refuse ENOSPC (nat_le MAX_DIRECTORY_SIZE (inode_at p map dir).size)) tt tt is).0)))
 
 module _ {p : Place} {old : TxnState} {t : Tree} (h : HoldsTree p old.sectors t) (dir : ℕ) (d : IsDirectoryAt t dir) (cred : Credential) (step : ℕ)
     {mid : TxnState} (same : IsUnchanged old mid) where

@@ -11,7 +11,7 @@ use Rattle.fs_cred.specs.declared.rule.Rule.{Rule}
 use Rattle.fs_cred.specs.Credentials.{Credential}
 use Rattle.fs_cred.specs.Verdicts.{verdict}
 use Rattle.fs_layout.specs.declared.inode.Inode.{Inode}
-use Rattle.fs_layout.specs.declared.inode.TheConstants.{MAX_FILE_SIZE}
+use Rattle.fs_layout.specs.declared.inode.TheConstants.{MAX_DIRECTORY_SIZE}
 use Rattle.fs_layout.specs.declared.place.Place.{Place}
 use Rattle.fs_layout.specs.Bytes.{SectorMap}
 use Rattle.fs_layout.specs.Images.{inode_at, free_sectors}
@@ -69,13 +69,13 @@ module _ {p : Place} {map : SectorMap} {t : Tree} (h : HoldsTree p map t) (dir :
     enough_met : sectors ≡ None
     enough_met = (met_ok {A = Unit {0}} sectors tt tt enough).0
 
-    pub room_crowded : (e : Refusal) (old new : DiskState) → checked (refuse ENOSPC (nat_le MAX_FILE_SIZE v.size)) ≡ Err e
+    pub room_crowded : (e : Refusal) (old new : DiskState) → checked (refuse ENOSPC (nat_le MAX_DIRECTORY_SIZE v.size)) ≡ Err e
         → IsAnswered old new (checked (first_of (room_asked p map t dir))) (Err e)
     room_crowded e old new full =
         next_asked {A = Unit {0}} sectors (slots ∷ []) tt e old new enough_met
         (first_asked {A = Unit {0}} {B = Unit {0}} slots [] tt tt e old new (inl (ap checked (sym (names_are h dir d)) ∙ size_as is full)))
 
-    pub room_met : checked (refuse ENOSPC (nat_le MAX_FILE_SIZE v.size)) ≡ Ok tt → checked (first_of (room_asked p map t dir)) ≡ Ok tt
+    pub room_met : checked (refuse ENOSPC (nat_le MAX_DIRECTORY_SIZE v.size)) ≡ Ok tt → checked (first_of (room_asked p map t dir)) ≡ Ok tt
     room_met free =
         ap checked (both_met sectors (slots ∷ []) enough_met
-        (or_else-none slots ∙ sym (names_are h dir d) ∙ (met_ok {A = Unit {0}} (refuse ENOSPC (nat_le MAX_FILE_SIZE (inode_at p map dir).size)) tt tt (size_as is free)).0))
+        (or_else-none slots ∙ sym (names_are h dir d) ∙ (met_ok {A = Unit {0}} (refuse ENOSPC (nat_le MAX_DIRECTORY_SIZE (inode_at p map dir).size)) tt tt (size_as is free)).0))

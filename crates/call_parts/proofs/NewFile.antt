@@ -9,6 +9,7 @@ use Rattle.std.proofs.Common.{refl, sym, ap, arith, ◌∙◌, inl, inr}
 use Rattle.std.proofs.lemmas.Bool.{or_right, true≢false}
 use Rattle.posix_acl.specs.AccessList.{AccessList, mode_bits}
 use Rattle.sector_disk.specs.Disk.{DiskState, HasFailed}
+use Rattle.fs_layout.specs.declared.inode.TheConstants.{DIRECT_SIZE, S_ISGID, S_ISVTX}
 use Rattle.fs_layout.specs.declared.inode.Inode.{Inode}
 use Rattle.fs_layout.specs.declared.inode.Kind.TheVariants as kinds
 use Rattle.fs_layout.specs.declared.place.Place.{Place}
@@ -89,7 +90,7 @@ pub takes_few : (a : AccessList) → acls_take a None ≤ 1
 takes_few a = let few = takes_one (kept_acl a) in omega (arith, few)
 
 name_takes_few : (v : Inode) → taken_for v ≤ 2
-name_takes_few v = go (nat_eq (v.size % 512) 0) (nat_eq v.size 6144)
+name_takes_few v = go (nat_eq (v.size % 512) 0) (nat_eq v.size DIRECT_SIZE)
   where
     go : (a b : Bool) → (if a then (if b then 2 else 1) else 0) ≤ 2
     go true true = omega arith
@@ -152,17 +153,17 @@ module _ {p : Place} {map : SectorMap} {t : Tree} {dir : ℕ} {name : List ℕ} 
 
 -- ---- what a directory gives to what is made in it
 
-group_bit : (n : ℕ) (s g : Bool) → n < 512 → ((n + cond s 512 0 + cond g 1024 0) / 1024 % 2 == 1) ≡ g
-group_bit n true true lt = let e : (n + 512 + 1024) / 1024 % 2 ≡ 1 = omega (arith, lt) in ap (λ (k : ℕ). k == 1) e
-group_bit n true false lt = let e : (n + 512 + 0) / 1024 % 2 ≡ 0 = omega (arith, lt) in ap (λ (k : ℕ). k == 1) e
-group_bit n false true lt = let e : (n + 0 + 1024) / 1024 % 2 ≡ 1 = omega (arith, lt) in ap (λ (k : ℕ). k == 1) e
-group_bit n false false lt = let e : (n + 0 + 0) / 1024 % 2 ≡ 0 = omega (arith, lt) in ap (λ (k : ℕ). k == 1) e
+group_bit : (n : ℕ) (s g : Bool) → n < 512 → ((n + cond s S_ISVTX 0 + cond g S_ISGID 0) / S_ISGID % 2 == 1) ≡ g
+group_bit n true true lt = let e : (n + 512 + 1024) / S_ISGID % 2 ≡ 1 = omega (arith, lt) in ap (λ (k : ℕ). k == 1) e
+group_bit n true false lt = let e : (n + 512 + 0) / S_ISGID % 2 ≡ 0 = omega (arith, lt) in ap (λ (k : ℕ). k == 1) e
+group_bit n false true lt = let e : (n + 0 + 1024) / S_ISGID % 2 ≡ 1 = omega (arith, lt) in ap (λ (k : ℕ). k == 1) e
+group_bit n false false lt = let e : (n + 0 + 0) / S_ISGID % 2 ≡ 0 = omega (arith, lt) in ap (λ (k : ℕ). k == 1) e
 
 -- S_ISGID of its mode is that of the directory
 pub set_group_says : (owner group : ℕ) (b : Body) (m : ℕ) → IsTrue (is_directory b) → m ≡ shown_mode b
-    → (m / 1024 % 2 == 1) ≡ (the_directory (record { owner = owner; group = group; body = b })).set_group_id
+    → (m / S_ISGID % 2 == 1) ≡ (the_directory (record { owner = owner; group = group; body = b })).set_group_id
 set_group_says owner group (File a bytes) m is e = absurd (cc)
-set_group_says owner group (Dir a d) m is e = ap (λ (k : ℕ). k / 1024 % 2 == 1) e ∙ group_bit (mode_bits a) d.sticky d.set_group_id (mode_small a)
+set_group_says owner group (Dir a d) m is e = ap (λ (k : ℕ). k / S_ISGID % 2 == 1) e ∙ group_bit (mode_bits a) d.sticky d.set_group_id (mode_small a)
 set_group_says owner group (Link target) m is e = absurd (cc)
 
 -- and so is its default ACL

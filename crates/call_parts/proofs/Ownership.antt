@@ -28,7 +28,7 @@ use Rattle.path_walk.specs.Answers.{refused_or, IsAnswered}
 use Rattle.path_walk.specs.HeldTrees.{HoldsTree, IsThere}
 use Rattle.call_parts.specs.Paths.{scene_at, HasFound}
 use Rattle.call_parts.specs.Performing.{IsStateOf}
-use Rattle.call_parts.proofs.Calling.{state_tree, found_there, first_of-append, refused_err, met_ok}
+use Rattle.call_parts.proofs.Calling.{state_tree, found_there, first_of-append, refused_err, met_ok, next_asked, both_met}
 use Rattle.call_parts.proofs.HeldChanges.{owner_held}
 use Rattle.path_walk.proofs.HeldNodes.{stands, held_node}
 use Rattle.call_parts.specs.Asked.{own_asked, owner_asked}
@@ -164,37 +164,33 @@ module _ {p : Place} {map : SectorMap} {desks : Desks} {s : State} {pid : ℕ} {
   found_node = node_of (state_tree at) f n v i.number i.inode (found_there n at has i.some)
 
   module _ (owner group : Option ℕ) (uid gid : ℕ) (uid_is : uid ≡ unwrap_or owner v.uid) (gid_is : gid ≡ unwrap_or group v.gid) where
-    owner_is : chown_demands owner group (scene_at s q f)
-        ≡ (must_be_there f ∷ own_at_end (scene_at s q f) ∷ []) ++ owner_asked q.cred v.uid v.gid uid gid f.step
+    owner_is : chown_demands owner group (scene_at s q f) ≡ must_be_there f ∷ owner_asked q.cred v.uid v.gid uid gid f.step
     owner_is =
-        ap (λ (k : ℕ). must_be_there f ∷ own_at_end (scene_at s q f)
+        ap (λ (k : ℕ). must_be_there f
         ∷ owner_asked q.cred k (the_node s.tree (number f)).group (unwrap_or owner k) (unwrap_or group (the_node s.tree (number f)).group) f.step)
         (ap (λ (u : Node). u.owner) found_node.is ∙ sym found_node.holds.owner)
-        ∙ ap (λ (k : ℕ). must_be_there f ∷ own_at_end (scene_at s q f) ∷ owner_asked q.cred v.uid k (unwrap_or owner v.uid) (unwrap_or group k) f.step)
+        ∙ ap (λ (k : ℕ). must_be_there f ∷ owner_asked q.cred v.uid k (unwrap_or owner v.uid) (unwrap_or group k) f.step)
         (ap (λ (u : Node). u.group) found_node.is ∙ sym found_node.holds.group)
-        ∙ ap (λ (k : ℕ). must_be_there f ∷ own_at_end (scene_at s q f) ∷ owner_asked q.cred v.uid v.gid k (unwrap_or group v.gid) f.step) (sym uid_is)
-        ∙ ap (λ (k : ℕ). must_be_there f ∷ own_at_end (scene_at s q f) ∷ owner_asked q.cred v.uid v.gid uid k f.step) (sym gid_is)
+        ∙ ap (λ (k : ℕ). must_be_there f ∷ owner_asked q.cred v.uid v.gid k (unwrap_or group v.gid) f.step) (sym uid_is)
+        ∙ ap (λ (k : ℕ). must_be_there f ∷ owner_asked q.cred v.uid v.gid uid k f.step) (sym gid_is)
 
     -- another owner or group is refused
     pub owner_refused : {A B : Type 0} (cred : Credential) (y : B) (x : A) (e : Refusal) (old new : DiskState) → cred ≡ q.cred
-        → first_of (must_be_there f ∷ own_asked q.cred (inode_at p map (number f)).uid f.step ∷ []) ≡ None
         → refused_or (first_of (owner_asked cred v.uid v.gid uid gid f.step)) (Ok y) ≡ Err e
         → IsAnswered old new (refused_or (first_of (chown_demands owner group (scene_at s q f))) (Ok x)) (Err e)
-    owner_refused {A} {B} cred y x e old new same met is =
+    owner_refused {A} {B} cred y x e old new same is =
         subst (λ (ds : List Demand). IsAnswered old new (refused_or {A = A} (first_of ds) (Ok x)) (Err e)) (sym owner_is)
-        (others_asked (must_be_there f ∷ own_at_end (scene_at s q f) ∷ []) (owner_asked q.cred v.uid v.gid uid gid f.step) x e old new
-        (own_met at has met)
+        (next_asked (must_be_there f) (owner_asked q.cred v.uid v.gid uid gid f.step) x e old new i.met
         (inl (ap (λ (d : Demand). refused_or {A = A} d (Ok x))
         (ap (λ (k : Credential). first_of (owner_asked k v.uid v.gid uid gid f.step)) (sym same)
         ∙ refused_err (first_of (owner_asked cred v.uid v.gid uid gid f.step)) y e is))))
 
     -- or it is given
     pub owner_changed : {B : Type 0} (cred : Credential) (y : B) (new : SectorMap) → cred ≡ q.cred
-        → first_of (must_be_there f ∷ own_asked q.cred (inode_at p map (number f)).uid f.step ∷ []) ≡ None
         → refused_or (first_of (owner_asked cred v.uid v.gid uid gid f.step)) (Ok y) ≡ Ok y
         → GivesOwner p n uid gid map new
         → IsChange p new desks s q (chown_demands owner group (scene_at s q f)) (chown_effect owner group (scene_at s q f)) Done
-    owner_changed {B} cred y new same met given gives =
+    owner_changed {B} cred y new same given gives =
         let x = found_node in
         let is = (at.is_state.tree).each n x.node x.at in
         let held = subst (λ (w : Inode). HoldsNode map w (record { node = x.node; names = names_of s.tree n; parent = parent s.tree n })) i.inode x.holds in
@@ -203,7 +199,7 @@ module _ {p : Place} {map : SectorMap} {desks : Desks} {s : State} {pid : ℕ} {
         (owner_held map new (inode_at p map n) (inode_at p new n) _ held uid gid gives.saved gives.bytes gives.acls)
         q f (chown_demands owner group (scene_at s q f)) (owned owner group)
         (ap first_of owner_is
-        ∙ all_met (must_be_there f ∷ own_at_end (scene_at s q f) ∷ []) (owner_asked q.cred v.uid v.gid uid gid f.step) (own_met at has met)
+        ∙ both_met (must_be_there f) (owner_asked q.cred v.uid v.gid uid gid f.step) i.met
         (ap (λ (k : Credential). first_of (owner_asked k v.uid v.gid uid gid f.step)) (sym same)
         ∙ (met_ok (first_of (owner_asked cred v.uid v.gid uid gid f.step)) y y given).0))
         i.number x.is

@@ -4,9 +4,11 @@
 --     special_mode, SavesAcl        another mode or access ACL
 --     SavesDefaultAcl        another default ACL
 --     HasBody        what a call shows of an inode
-use Rattle.std.specs.Prelude.{◌≡◌, ℕ, ◌+◌, ◌/◌, ◌%◌, ◌==◌, ◌<◌, ◌^◌, ◌&&◌, ◌||◌, cond, Option, IsFalse}
+use Rattle.std.specs.Prelude.{◌≡◌, ℕ, ◌+◌, ◌/◌, ◌%◌, ◌==◌, ◌<◌, ◌^◌, ◌&&◌, cond, Option, IsFalse}
 use Rattle.posix_acl.specs.AccessList.{AccessList}
-use Rattle.fs_cred.specs.Credentials.{Credential, is_superuser, is_member}
+use Rattle.fs_cred.specs.Credentials.{Credential}
+use Rattle.fs_cred.specs.Ownership.{keeps_set_group_id}
+use Rattle.fs_layout.specs.declared.inode.TheConstants.{S_ISGID, S_ISVTX}
 use Rattle.fs_layout.specs.declared.inode.Kind.{Kind}
 use Rattle.fs_layout.specs.declared.inode.Kind.TheVariants.{Directory}
 use Rattle.fs_layout.specs.declared.place.Place.{Place}
@@ -37,7 +39,7 @@ pub record GivesOwner (p : Place) (n uid gid : ℕ) (old new : SectorMap) : Type
 -- of a mode that chmod() gives the bits above the permission bits: a directory's S_ISVTX, and S_ISGID where the caller may
 abbrev pub special_mode : Credential → Kind → ℕ → ℕ → ℕ
 special_mode cred Directory group mode =
-    cond (mode / 512 % 2 == 1) 512 0 + cond (mode / 1024 % 2 == 1 && (is_superuser cred || is_member cred group)) 1024 0
+    cond (mode / S_ISVTX % 2 == 1) S_ISVTX 0 + cond (mode / S_ISGID % 2 == 1 && keeps_set_group_id cred group) S_ISGID 0
 special_mode cred _ group mode = 0
 
 -- inode n has this access ACL, and its mode the bits of m above the permission bits

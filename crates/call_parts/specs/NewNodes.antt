@@ -12,6 +12,7 @@ use Rattle.posix_acl.specs.AccessList.{AccessList}
 use Rattle.fs_cred.specs.Credentials.{Credential}
 use Rattle.fs_cred.specs.declared.errno.Errno.TheVariants.{ENOENT}
 use Rattle.fs_cred.specs.declared.refusal.Refusal.{Refusal}
+use Rattle.fs_layout.specs.declared.inode.TheConstants.{S_ISGID, S_ISVTX}
 use Rattle.fs_layout.specs.declared.inode.Inode.{Inode}
 use Rattle.fs_layout.specs.declared.place.Place.{Place}
 use Rattle.fs_layout.specs.Bytes.{SectorMap}
@@ -79,14 +80,14 @@ abbrev pub directory_made : ℕ → ℕ → ℕ → AccessList → Option Access
 directory_made uid gid bits access default = record {
   owner = uid;
   group = gid;
-  body = Dir access (record { names = []; default = default; set_group_id = bits / 1024 % 2 == 1; sticky = bits / 512 % 2 == 1 });
+  body = Dir access (record { names = []; default = default; set_group_id = bits / S_ISGID % 2 == 1; sticky = bits / S_ISVTX % 2 == 1 });
 }
 
 -- a link of this caller in this directory, whose group it gets where that has S_ISGID
 abbrev pub link_made : Inode → Credential → List ℕ → Node
 link_made directory cred target = record {
   owner = cred.uid;
-  group = if directory.mode / 1024 % 2 == 1 then directory.gid else cred.gid;
+  group = if directory.mode / S_ISGID % 2 == 1 then directory.gid else cred.gid;
   body = Link target;
 }
 

@@ -4,7 +4,7 @@ ghost use Rattle.std.specs.Prelude.{◌≡◌, Ok, ◌<◌, ◌&&◌, not};
 ghost use Rattle.fs_cred.specs.declared.node.Node.{Node as AccessNode};
 ghost use Rattle.fs_cred.specs.declared.refusal.Need.TheVariants.{Perm};
 ghost use Rattle.fs_cred.specs.Verdicts.{verdict};
-ghost use Rattle.fs_model.specs.Demands.{decided, refuse};
+ghost use Rattle.fs_model.specs.Demands.{allowed_by, decided, refuse};
 ghost use Rattle.sector_txn.specs.Sectors.{IsUnchanged};
 ghost use Rattle.bit_alloc.specs.Inodes.{IsSound};
 ghost use Rattle.inode_table.specs.Inodes.{IsInodeOf};
@@ -15,7 +15,7 @@ ghost use Rattle.call_parts.specs.Asked.{sticky_asked};
 ghost use Rattle.fs_model.specs.Rules.{is_directory_kind};
 
 use fs_cred::{Cred, Denial, Errno, Need, Refusal, Rule, sticky_allows};
-use fs_layout::{Inode, Kind, Place};
+use fs_layout::{Inode, Kind, Place, S_ISVTX};
 use fs_model::Found;
 use path_walk::permission;
 use posix_acl::Perms;
@@ -66,6 +66,18 @@ pub fn permitted<S: Sectors>(
     Ok(verdict.rule)
 }
 
+/// Asks for what a rule of ownership allows or refuses, after `step` lookups of the walk with this number.
+pub fn allowed_by(
+    walk: u8,
+    step: usize,
+    need: Need,
+    answer: Result<(), Rule>,
+) -> Result<(), Refusal>
+    ensures { result ≡ refused_or (allowed_by walk step need answer) (Ok tt) }
+{
+    answer.map_err(|rule| Refusal::Denied(Denial::new(walk, step, need, rule)))
+}
+
 /// Asks whether what is no directory was named with a slash.
 pub fn check_slash(found: &Found, kind: Kind) -> Result<(), Refusal>
     ensures { result ≡ refused_or (refuse Errno.ENOTDIR (found.now.slash && not (is_directory_kind kind))) (Ok tt) }
@@ -87,9 +99,8 @@ pub fn check_sticky(
 ) -> Result<(), Refusal>
     ensures { result ≡ refused_or (sticky_asked cred.now directory.now inode.now walk step) (Ok tt) }
 {
-    let sticky = directory.mode / 512 % 2 == 1;
-    if !sticky_allows(cred, sticky, directory.uid, inode.uid) {
-        return Err(Refusal::Denied(Denial::new(walk, step, Need::Remove, Rule::Sticky)));
-    }
+    let sticky = directory.mode / S_ISVTX % 2 == 1;
+    let answer = sticky_allows(cred, sticky, directory.uid, inode.uid);
+    allowed_by(walk, step, Need::Remove, answer)?;
     Ok(())
 }

@@ -14,7 +14,8 @@ ghost use Rattle.path_walk.specs.SoundInodes.{HasSoundInodes};
 ghost use Rattle.path_walk.specs.Walked.{walk_of};
 ghost use Rattle.call_parts.specs.Asked.{own_asked};
 
-use fs_cred::{Cred, Denial, Errno, Need, Refusal, Rule, may_own};
+use crate::checks::allowed_by;
+use fs_cred::{Cred, Errno, Need, Refusal, may_own};
 use fs_layout::{Inode, Place};
 use fs_model::{Form, Found, Path};
 use open_files::Process;
@@ -64,7 +65,7 @@ pub fn inode_found<S: Sectors>(
     Ok((n, inode))
 }
 
-/// The same, where the caller may change its mode, owner and ACLs. ENOENT: nothing was found.
+/// The same, where the caller may change its mode and ACLs. ENOENT: nothing was found.
 pub fn owned<S: Sectors>(
     s: &mut S,
     place: Place,
@@ -79,8 +80,6 @@ pub fn owned<S: Sectors>(
     ensures same { IsUnchanged (S.state s.old) (S.state s.new) }
 {
     let (n, inode) = inode_found(s, place, found)?;
-    if !may_own(cred, inode.uid) {
-        return Err(Refusal::Denied(Denial::new(1, found.step, Need::Own, Rule::NotOwner)));
-    }
+    allowed_by(1, found.step, Need::Own, may_own(cred, inode.uid))?;
     Ok((n, inode))
 }

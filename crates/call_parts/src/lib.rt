@@ -12,7 +12,7 @@ mod making;
 mod naming;
 mod space;
 
-pub use checks::{WRITE_AND_SEARCH, check_mode, check_slash, check_sticky, permitted};
+pub use checks::{WRITE_AND_SEARCH, allowed_by, check_mode, check_slash, check_sticky, permitted};
 pub use dropping::{drop_node, leave, set_names};
 pub use found::{find, inode_found, owned};
 pub use making::{check_make, check_names, default_of, inherited, new_group};

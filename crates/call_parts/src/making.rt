@@ -2,7 +2,7 @@
 
 ghost use Rattle.std.specs.Prelude.{◌≡◌, ◌/◌, ◌%◌, ◌==◌, nat_le, if◌then◌else◌, Option, None, Ok, option_copied, IfOk, IfErr};
 ghost use Rattle.posix_acl.specs.AccessList.{AccessList, minimal};
-ghost use Rattle.fs_layout.specs.declared.inode.TheConstants.{MAX_FILE_SIZE};
+ghost use Rattle.fs_layout.specs.declared.inode.TheConstants.{MAX_DIRECTORY_SIZE, S_ISGID};
 ghost use Rattle.fs_layout.specs.Images.{inode_at};
 ghost use Rattle.fs_model.specs.Births.{without_perms, masked_acl, born_acl};
 ghost use Rattle.fs_model.specs.Demands.{refuse, first_of};
@@ -18,7 +18,7 @@ ghost use Rattle.call_parts.specs.Makings.{make_asked};
 use crate::checks::{WRITE_AND_SEARCH, permitted};
 use crate::space::{ask_for_inode, ask_for_sectors};
 use fs_cred::{Cred, Errno, Refusal};
-use fs_layout::{Inode, MAX_FILE_SIZE, Place};
+use fs_layout::{Inode, MAX_DIRECTORY_SIZE, Place, S_ISGID};
 use inode_table::{LoadAclFault, load_default_acl};
 use path_walk::load_inode;
 use posix_acl::{Acl, Perms};
@@ -27,9 +27,9 @@ use std::alloc::Global;
 
 /// Asks whether a directory has place for one more slot. ENOSPC: it has none.
 pub fn check_names(directory: &Inode) -> Result<(), Refusal>
-    ensures { result ≡ refused_or (refuse Errno.ENOSPC (nat_le MAX_FILE_SIZE directory.now.size)) (Ok tt) }
+    ensures { result ≡ refused_or (refuse Errno.ENOSPC (nat_le MAX_DIRECTORY_SIZE directory.now.size)) (Ok tt) }
 {
-    if directory.size >= MAX_FILE_SIZE {
+    if directory.size >= MAX_DIRECTORY_SIZE {
         return Err(Refusal::Failed(Errno::ENOSPC));
     }
     Ok(())
@@ -124,9 +124,9 @@ pub fn default_of<S: Sectors>(
 
 /// The group of what is made in a directory: the directory's where that has S_ISGID, else the caller's.
 pub fn new_group(directory: &Inode, cred: &Cred) -> u32
-    ensures { result ≡ (if directory.now.mode / 1024 % 2 == 1 then directory.now.gid else cred.now.gid) }
+    ensures { result ≡ (if directory.now.mode / S_ISGID % 2 == 1 then directory.now.gid else cred.now.gid) }
 {
-    if directory.mode / 1024 % 2 == 1 {
+    if directory.mode / S_ISGID % 2 == 1 {
         directory.gid
     } else {
         cred.gid()

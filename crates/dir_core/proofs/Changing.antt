@@ -2,11 +2,12 @@
 use Rattle.std.specs.Prelude.{◌≡◌, ◌≢◌, ℕ, ◌+◌, ◌-◌, ◌*◌, ◌/◌, ◌%◌, ◌^◌, ◌<◌, ◌≤◌, List, [], ◌∷◌, ◌++◌, length, drop, set, get_or, replicate, Option, None, Some, All}
 use Rattle.std.proofs.Common.{true, false, Result, Ok, Err, refl, sym, ap, subst, arith, ◌∙◌}
 use Rattle.std.proofs.lemmas.List.{append-nil, length-set, set-get_or}
+use Rattle.fs_layout.specs.declared.inode.TheConstants.{MAX_DIRECTORY_SIZE}
 use Rattle.fs_layout.specs.declared.inode.Inode.{Inode}
 use Rattle.fs_layout.specs.declared.inode.Kind.{Kind}
 use Rattle.fs_layout.specs.declared.inode.Kind.TheVariants as kinds
 use Rattle.fs_layout.specs.declared.place.Place.{Place}
-use Rattle.fs_layout.specs.declared.slot.TheConstants.{MAX_NAMES}
+use Rattle.fs_layout.specs.declared.slot.TheConstants.{MAX_NAMES, SLOT_SIZE}
 use Rattle.fs_layout.specs.Bytes.{SectorMap, IsBytes, splice, window, resized, overwritten}
 use Rattle.fs_layout.specs.Images.{pointer, inode_at, Holds, HasNoHole}
 use Rattle.fs_layout.specs.Maps.{name_cmp, get, with_entry, without, IsMap}
@@ -24,7 +25,7 @@ use Rattle.block_map.specs.Contents.{AllowsSize, ChangesContent}
 use Rattle.block_map.specs.Steps.{IsStepSector}
 use Rattle.block_map.proofs.AddedPointers.{alters_nothing}
 use Rattle.block_map.proofs.Overwriting.{used_may_change, changed_unsaved}
-use Rattle.block_map.proofs.Sizing.{size_limit}
+use Rattle.block_map.proofs.Sizing.{directory_size_limit}
 use Rattle.block_map.proofs.Wrote.{may_within}
 use Rattle.dir_core.specs.declared.find.FoundSlot.{FoundSlot}
 use Rattle.dir_core.specs.Slots.{HasSlots, IsFoundIn}
@@ -49,8 +50,8 @@ pub slots_after_reads : {old mid : TxnState} {v : Inode} {slots : List NamedInod
 slots_after_reads {v = v} {slots} same h = subst (λ (image : SectorMap). HasSlots image v slots) (map_unchanged same) h
 
 -- ---- a directory among the inodes
-pub allows : (k : Kind) (m : ℕ) → k ≡ kinds.Directory → m % 128 ≡ 0 → AllowsSize k m
-allows k m e whole = subst (λ (kind : Kind). AllowsSize kind m) (sym e) whole
+pub allows : (k : Kind) (m : ℕ) → k ≡ kinds.Directory → m ≤ MAX_DIRECTORY_SIZE → m % SLOT_SIZE ≡ 0 → AllowsSize k m
+allows k m e few whole = subst (λ (kind : Kind). AllowsSize kind m) (sym e) (few, whole)
 
 pub no_free : (k : Kind) → k ≡ kinds.Directory → k ≢ kinds.Free
 no_free k e f = let same : kinds.Directory ≡ kinds.Free = sym e ∙ f in cc
@@ -60,8 +61,8 @@ module _ {p : Place} {n : ℕ} {txn : TxnState} {v : Inode} (sound : IsSound p t
   pub directory_within : IsWithin txn.disk.size txn.sectors v
   directory_within = may_within (used_may_change sound lt is (no_free v.kind kind))
 
-  pub directory_limit : v.size ≤ 71680
-  directory_limit = size_limit 0 sound lt is (allows v.kind 0 kind refl)
+  pub directory_limit : v.size ≤ MAX_DIRECTORY_SIZE
+  directory_limit = directory_size_limit sound lt is kind
 
   -- nothing changes
   pub same_content : ChangesContent p n 0 1 txn txn v v
@@ -71,19 +72,19 @@ module _ {p : Place} {n : ℕ} {txn : TxnState} {v : Inode} (sound : IsSound p t
 
 -- ---- a slot within the directory
 module _ {image : SectorMap} {v : Inode} {slots : List NamedInode} (h : HasSlots image v slots) (slot : ℕ) (lt : slot < length slots) where
-  pub slot_inside : slot * 128 + 128 ≤ v.size
+  pub slot_inside : slot * SLOT_SIZE + SLOT_SIZE ≤ v.size
   slot_inside = let size = size_of_slots h in omega (arith, size, lt)
 
-  pub slot_has_block : pointer image v (slot * 128 / 512) ≢ 0
-  slot_has_block = h.whole (slot * 128 / 512) (let size = size_of_slots h in omega (arith, size, lt))
+  pub slot_has_block : pointer image v (slot * SLOT_SIZE / 512) ≢ 0
+  slot_has_block = h.whole (slot * SLOT_SIZE / 512) (let size = size_of_slots h in omega (arith, size, lt))
 
   -- another one is written there
-  pub slot_written : {new : SectorMap} {at : ℕ} {bytes : List ℕ} {x : NamedInode} → FitsSlot x → at ≡ slot * 128 → bytes ≡ slot_bytes x
+  pub slot_written : {new : SectorMap} {at : ℕ} {bytes : List ℕ} {x : NamedInode} → FitsSlot x → at ≡ slot * SLOT_SIZE → bytes ≡ slot_bytes x
       → ((held : List ℕ) → Holds image v held → Holds new v (splice held at bytes)) → Holds new v (slots_bytes (set slots slot x))
   slot_written {new} {at} {bytes} {x} fit there is write =
-      let here : at ≡ 128 * slot = omega (arith, there) in
+      let here : at ≡ SLOT_SIZE * slot = omega (arith, there) in
       let e : splice (slots_bytes slots) at bytes ≡ slots_bytes (set slots slot x) =
-      ap (λ (k : ℕ). splice (slots_bytes slots) k bytes) here ∙ ap (splice (slots_bytes slots) (128 * slot)) is ∙ bytes_replaced slots slot x h.each fit lt in
+      ap (λ (k : ℕ). splice (slots_bytes slots) k bytes) here ∙ ap (splice (slots_bytes slots) (SLOT_SIZE * slot)) is ∙ bytes_replaced slots slot x h.each fit lt in
       subst (λ (r : List ℕ). Holds new v r) e (write (slots_bytes slots) h.holds)
 
 -- ---- the last slot
@@ -92,17 +93,17 @@ pub moves_itself : (slots : List NamedInode) (slot : ℕ) (d : NamedInode) → s
 moves_itself slots slot d e = ap (λ (k : ℕ). set slots k (get_or slots (length slots - 1) d)) e ∙ set-get_or slots (length slots - 1) d
 
 -- its bytes are read
-pub last_read : {image : SectorMap} {v : Inode} {slots : List NamedInode} {offset count : ℕ} {new : List ℕ} → HasSlots image v slots → 0 < length slots → offset ≡ v.size - 128
-    → IsReadOf (slots_bytes slots) offset (replicate 128 0) new count → (d : NamedInode) → new ≡ slot_bytes (get_or slots (length slots - 1) d)
+pub last_read : {image : SectorMap} {v : Inode} {slots : List NamedInode} {offset count : ℕ} {new : List ℕ} → HasSlots image v slots → 0 < length slots → offset ≡ v.size - SLOT_SIZE
+    → IsReadOf (slots_bytes slots) offset (replicate SLOT_SIZE 0) new count → (d : NamedInode) → new ≡ slot_bytes (get_or slots (length slots - 1) d)
 last_read {v = v} {slots} {offset} {count} {new} h some at read d =
-    let size : v.size ≡ 128 * length slots = size_of_slots h in
-    let all : length (slots_bytes slots) ≡ 128 * length slots = length-slots slots h.each in
-    let last : offset ≡ 128 * (length slots - 1) = omega (arith, at, size, some) in
-    let whole : count ≡ 128 = let l = read.len in omega (arith, l, all, last, some) in
+    let size : v.size ≡ SLOT_SIZE * length slots = size_of_slots h in
+    let all : length (slots_bytes slots) ≡ SLOT_SIZE * length slots = length-slots slots h.each in
+    let last : offset ≡ SLOT_SIZE * (length slots - 1) = omega (arith, at, size, some) in
+    let whole : count ≡ SLOT_SIZE = let l = read.len in omega (arith, l, all, last, some) in
     read.content
-    ∙ ap (λ (k : ℕ). window (slots_bytes slots) offset k ++ drop k (replicate 128 0)) whole
-    ∙ append-nil (window (slots_bytes slots) offset 128)
-    ∙ ap (λ (k : ℕ). window (slots_bytes slots) k 128) last
+    ∙ ap (λ (k : ℕ). window (slots_bytes slots) offset k ++ drop k (replicate SLOT_SIZE 0)) whole
+    ∙ append-nil (window (slots_bytes slots) offset SLOT_SIZE)
+    ∙ ap (λ (k : ℕ). window (slots_bytes slots) k SLOT_SIZE) last
     ∙ bytes_of_slot slots (length slots - 1) d h.each (omega (arith, some))
 
 -- ---- what is found
@@ -182,14 +183,14 @@ module _ {image : SectorMap} {v : Inode} {names : List (List ℕ × ℕ)} (h : H
   }
 
 -- where there is place for one more there are fewer than can be
-pub names_few : {image : SectorMap} {v : Inode} {names : List (List ℕ × ℕ)} → HasNames image v names → v.size + 128 ≤ 71680 → length names < MAX_NAMES
+pub names_few : {image : SectorMap} {v : Inode} {names : List (List ℕ × ℕ)} → HasNames image v names → v.size + SLOT_SIZE ≤ MAX_DIRECTORY_SIZE → length names < MAX_NAMES
 names_few h most =
     let count = ap length h.are ∙ length-names h.slots h.apart in
     let size = size_of_slots (slots_there h) in
     omega (arith, count, size, most)
 
 -- where there is no place for one more there are as many as can be
-pub names_full : {image : SectorMap} {v : Inode} {names : List (List ℕ × ℕ)} → HasNames image v names → v.size ≤ 71680 → 71680 < v.size + 128 → length names ≡ MAX_NAMES
+pub names_full : {image : SectorMap} {v : Inode} {names : List (List ℕ × ℕ)} → HasNames image v names → v.size ≤ MAX_DIRECTORY_SIZE → MAX_DIRECTORY_SIZE < v.size + SLOT_SIZE → length names ≡ MAX_NAMES
 names_full h limit full =
     let count = ap length h.are ∙ length-names h.slots h.apart in
     let size = size_of_slots (slots_there h) in
@@ -198,15 +199,15 @@ names_full h limit full =
 -- ---- names with one less
 module _ {image : SectorMap} {v : Inode} {names : List (List ℕ × ℕ)} (h : HasNames image v names) (slot : ℕ) (x : NamedInode)
     (lt : slot < length h.slots) (is : get_or h.slots slot x ≡ x) where
-  pub names_without : {new : SectorMap} {w : Inode} → w.kind ≡ v.kind → Holds new w (resized (slots_bytes (set h.slots slot (get_or h.slots (length h.slots - 1) x))) (v.size - 128)) → HasNoHole new w
+  pub names_without : {new : SectorMap} {w : Inode} → w.kind ≡ v.kind → Holds new w (resized (slots_bytes (set h.slots slot (get_or h.slots (length h.slots - 1) x))) (v.size - SLOT_SIZE)) → HasNoHole new w
       → HasNames new w (without name_cmp names x.name)
   names_without {new} {w} kind holds whole =
       let last : NamedInode = get_or h.slots (length h.slots - 1) x in
       let moved : List NamedInode = set h.slots slot last in
-      let size : v.size ≡ 128 * length h.slots = size_of_slots (slots_there h) in
-      let cut : v.size - 128 ≡ 128 * (length h.slots - 1) = omega (arith, size, lt) in
+      let size : v.size ≡ SLOT_SIZE * length h.slots = size_of_slots (slots_there h) in
+      let cut : v.size - SLOT_SIZE ≡ SLOT_SIZE * (length h.slots - 1) = omega (arith, size, lt) in
       let fits : All FitsSlot moved = fits_set h.slots slot last lt h.each (h.each (length h.slots - 1) x (omega (arith, lt))) in
-      let e : resized (slots_bytes moved) (v.size - 128) ≡ slots_bytes (swap_remove h.slots slot x) =
+      let e : resized (slots_bytes moved) (v.size - SLOT_SIZE) ≡ slots_bytes (swap_remove h.slots slot x) =
       ap (resized (slots_bytes moved)) cut ∙ bytes_cut moved (length h.slots - 1) fits (omega (arith, length-set h.slots slot last)) in
       record {
         kind = kind ∙ h.kind;

@@ -3,6 +3,7 @@ use Rattle.std.proofs.Common.{◌≡◌, ℕ, ◌+◌, ◌-◌, ◌*◌, ◌/◌
 use Rattle.std.specs.Prelude.{All}
 use Rattle.std.proofs.lemmas.List.{ext_get_or, get_or-take, get_or-drop, get_or_append_left, length-take-le}
 use Rattle.std.proofs.lemmas.List.Concat.{get_or-flat_map}
+use Rattle.fs_layout.specs.declared.slot.TheConstants.{SLOT_SIZE}
 use Rattle.fs_layout.specs.declared.inode.Inode.{Inode}
 use Rattle.fs_layout.specs.Bytes.{SectorMap, window, le32, zeros, u32_of}
 use Rattle.fs_layout.specs.Directories.{NamedInode, FitsSlot, slot_bytes, slots_bytes, slot_count, names_of_slots, HasNames}
@@ -19,11 +20,11 @@ first_fit slots k few fits i d lt =
     rw (get_or-take k slots i d (omega (arith, lt, long))) (fits i d (omega (arith, lt, long, few)))
 
 -- byte j of slot k
-pub slot_byte : (slots : List NamedInode) (k j : ℕ) (d : NamedInode) → All FitsSlot slots → k < length slots → j < 128
-    → get_or (slots_bytes slots) (128 * k + j) 0 ≡ get_or (slot_bytes (get_or slots k d)) j 0
+pub slot_byte : (slots : List NamedInode) (k j : ℕ) (d : NamedInode) → All FitsSlot slots → k < length slots → j < SLOT_SIZE
+    → get_or (slots_bytes slots) (SLOT_SIZE * k + j) 0 ≡ get_or (slot_bytes (get_or slots k d)) j 0
 slot_byte slots k j d fits lt small =
-    let before : length (slots_bytes (take k slots)) ≡ 128 * k =
-    length-slots (take k slots) (first_fit slots k (omega (arith, lt)) fits) ∙ ap (λ n. 128 * n) (length-take-le k slots (omega (arith, lt))) in
+    let before : length (slots_bytes (take k slots)) ≡ SLOT_SIZE * k =
+    length-slots (take k slots) (first_fit slots k (omega (arith, lt)) fits) ∙ ap (λ n. SLOT_SIZE * n) (length-take-le k slots (omega (arith, lt))) in
     let long = length-slot_bytes (get_or slots k d) (fits k d lt).name.short in
     ap (λ n. get_or (slots_bytes slots) (n + j) 0) (sym before) ∙ get_or-flat_map slot_bytes slots k j d 0 lt (omega (arith, long, small))
 
@@ -34,19 +35,19 @@ module _ {image : SectorMap} {v : Inode} {slots : List NamedInode} (h : HasSlots
 
   -- slot k, in its block
   pub slot_there : (block : List ℕ) (k : ℕ) (d : NamedInode) → length block ≡ 512 → IsBlock image v (k / 4) block → k < length slots
-      → IsSlotAt block (128 * (k % 4)) (get_or slots k d)
+      → IsSlotAt block (SLOT_SIZE * (k % 4)) (get_or slots k d)
   slot_there block k d len read lt =
       let fits = h.each k d lt in
       let long = length-slot_bytes (get_or slots k d) fits.name.short in
-      let part : length (window block (128 * (k % 4)) 128) ≡ 128 = part_len 128 (128 * (k % 4)) block (omega (arith, len)) in (
+      let part : length (window block (SLOT_SIZE * (k % 4)) SLOT_SIZE) ≡ SLOT_SIZE = part_len SLOT_SIZE (SLOT_SIZE * (k % 4)) block (omega (arith, len)) in (
         fits,
-        ext_get_or 0 (window block (128 * (k % 4)) 128) (slot_bytes (get_or slots k d)) (part ∙ sym long) (λ i small.
-            let below : i < 128 = omega (arith, small, part) in
-            get_or-take 128 (drop (128 * (k % 4)) block) i 0 below
-            ∙ get_or-drop (128 * (k % 4)) block i 0
-            ∙ read (128 * (k % 4) + i) (omega (arith, below))
-            ∙ h.holds.byte (512 * (k / 4) + (128 * (k % 4) + i))
-            ∙ ap (λ n. get_or (slots_bytes slots) n 0) (let e : 512 * (k / 4) + (128 * (k % 4) + i) ≡ 128 * k + i = omega arith in e)
+        ext_get_or 0 (window block (SLOT_SIZE * (k % 4)) SLOT_SIZE) (slot_bytes (get_or slots k d)) (part ∙ sym long) (λ i small.
+            let below : i < SLOT_SIZE = omega (arith, small, part) in
+            get_or-take SLOT_SIZE (drop (SLOT_SIZE * (k % 4)) block) i 0 below
+            ∙ get_or-drop (SLOT_SIZE * (k % 4)) block i 0
+            ∙ read (SLOT_SIZE * (k % 4) + i) (omega (arith, below))
+            ∙ h.holds.byte (512 * (k / 4) + (SLOT_SIZE * (k % 4) + i))
+            ∙ ap (λ n. get_or (slots_bytes slots) n 0) (let e : 512 * (k / 4) + (SLOT_SIZE * (k % 4) + i) ≡ SLOT_SIZE * k + i = omega arith in e)
             ∙ slot_byte slots k i d h.each lt below),
       )
 
@@ -60,9 +61,9 @@ unfolding le32 zeros
 named_then x i = sym (get_or-drop 8 (slot_bytes x) i 0)
 
 module _ (block : List ℕ) (at : ℕ) (x : NamedInode) (is : IsSlotAt block at x) where
-  byte_there : (i : ℕ) → i < 128 → get_or block (at + i) 0 ≡ get_or (slot_bytes x) i 0
+  byte_there : (i : ℕ) → i < SLOT_SIZE → get_or block (at + i) 0 ≡ get_or (slot_bytes x) i 0
   byte_there i lt =
-      sym (get_or-take 128 (drop at block) i 0 lt ∙ get_or-drop at block i 0) ∙ ap (λ (s : List ℕ). get_or s i 0) is.1
+      sym (get_or-take SLOT_SIZE (drop at block) i 0 lt ∙ get_or-drop at block i 0) ∙ ap (λ (s : List ℕ). get_or s i 0) is.1
 
   -- the length of its name
   pub length_there : get_or block (at + 4) 0 ≡ length x.name
@@ -88,7 +89,7 @@ module _ (block : List ℕ) (at : ℕ) (x : NamedInode) (is : IsSlotAt block at 
       ∙ ap (λ (s : List ℕ). get_or s (length name - 1) 0) same
 
   -- its name
-  pub name_there : at + 128 ≤ length block → window block (at + 8) (length x.name) ≡ x.name
+  pub name_there : at + SLOT_SIZE ≤ length block → window block (at + 8) (length x.name) ≡ x.name
   name_there room =
       let short = is.0.name.short in
       let part : length (window block (at + 8) (length x.name)) ≡ length x.name = part_len (length x.name) (at + 8) block (omega (arith, room, short)) in
@@ -103,8 +104,8 @@ module _ (block : List ℕ) (at : ℕ) (x : NamedInode) (is : IsSlotAt block at 
   unfolding le32
   inode_there =
       let rest : List ℕ = length x.name ∷ (zeros 3 ++ (x.name ++ zeros (120 - length x.name))) in
-      read32 block at x.inode (rest ++ drop (at + 128) block)
-      (split 128 at block (slot_bytes x) (sym is.1) ∙ append_assoc (le32 x.inode) rest (drop (at + 128) block)) is.0.inode
+      read32 block at x.inode (rest ++ drop (at + SLOT_SIZE) block)
+      (split SLOT_SIZE at block (slot_bytes x) (sym is.1) ∙ append_assoc (le32 x.inode) rest (drop (at + SLOT_SIZE) block)) is.0.inode
 
 -- ---- without a name
 no_slots : (slots : List NamedInode) → length slots ≡ 0 → names_of_slots slots ≡ []

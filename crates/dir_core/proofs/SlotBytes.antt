@@ -4,13 +4,14 @@ use Rattle.std.proofs.Common.{sym, ap, subst, arith, ◌∙◌}
 use Rattle.std.proofs.lemmas.List.{append-nil, append_assoc, length-append, length-take, length-take-le, get_or-take, set-get_or, take_at, drop_at, take_all, drop_all, take-append-drop, set_split}
 use Rattle.std.proofs.lemmas.List.Concat.{flat_map-cons}
 use Rattle.std.proofs.lemmas.Grind.{flat_map-append}
+use Rattle.fs_layout.specs.declared.slot.TheConstants.{SLOT_SIZE}
 use Rattle.fs_layout.specs.Bytes.{splice, window, resized, overwritten}
 use Rattle.fs_layout.specs.Directories.{NamedInode, FitsSlot, slot_bytes, slots_bytes}
 use Rattle.fs_layout.proofs.ImageSlots.{length-slots}
 use Rattle.fs_layout.proofs.SlotLaw.{length-slot_bytes}
 
 -- a slot has 128 bytes
-pub slot_len : (x : NamedInode) → FitsSlot x → length (slot_bytes x) ≡ 128
+pub slot_len : (x : NamedInode) → FitsSlot x → length (slot_bytes x) ≡ SLOT_SIZE
 slot_len x fits = length-slot_bytes x fits.name.short
 
 -- ---- one more
@@ -38,8 +39,8 @@ take_fits slots n fits k d lt =
     subst FitsSlot (sym (get_or-take n slots k d few)) (fits k d (omega (arith, lt, length-take n slots)))
 
 -- the bytes before a slot
-pub bytes_before : (slots : List NamedInode) (i : ℕ) → All FitsSlot slots → i ≤ length slots → length (slots_bytes (take i slots)) ≡ 128 * i
-bytes_before slots i fits le = length-slots (take i slots) (take_fits slots i fits) ∙ ap (λ (n : ℕ). 128 * n) (length-take-le i slots le)
+pub bytes_before : (slots : List NamedInode) (i : ℕ) → All FitsSlot slots → i ≤ length slots → length (slots_bytes (take i slots)) ≡ SLOT_SIZE * i
+bytes_before slots i fits le = length-slots (take i slots) (take_fits slots i fits) ∙ ap (λ (n : ℕ). SLOT_SIZE * n) (length-take-le i slots le)
 
 -- bytes in three parts
 spliced_middle : (a x y b : List ℕ) (at : ℕ) → at ≡ length a → length x ≡ length y → splice (a ++ (x ++ b)) at y ≡ a ++ (y ++ b)
@@ -57,34 +58,34 @@ around slots i x lt =
     ∙ ap (λ (r : List ℕ). slots_bytes (take i slots) ++ r) (flat_map-cons slot_bytes x (drop (suc i) slots))
 
 pub bytes_replaced : (slots : List NamedInode) (i : ℕ) (x : NamedInode) → All FitsSlot slots → FitsSlot x → i < length slots
-    → splice (slots_bytes slots) (128 * i) (slot_bytes x) ≡ slots_bytes (set slots i x)
+    → splice (slots_bytes slots) (SLOT_SIZE * i) (slot_bytes x) ≡ slots_bytes (set slots i x)
 bytes_replaced slots i x fits fit lt =
     let old : NamedInode = get_or slots i x in
     let was : slots_bytes slots ≡ slots_bytes (take i slots) ++ (slot_bytes old ++ slots_bytes (drop (suc i) slots)) =
     ap slots_bytes (sym (set-get_or slots i x)) ∙ around slots i old lt in
-    ap (λ (r : List ℕ). splice r (128 * i) (slot_bytes x)) was
-    ∙ spliced_middle (slots_bytes (take i slots)) (slot_bytes old) (slot_bytes x) (slots_bytes (drop (suc i) slots)) (128 * i)
+    ap (λ (r : List ℕ). splice r (SLOT_SIZE * i) (slot_bytes x)) was
+    ∙ spliced_middle (slots_bytes (take i slots)) (slot_bytes old) (slot_bytes x) (slots_bytes (drop (suc i) slots)) (SLOT_SIZE * i)
     (sym (bytes_before slots i fits (omega (arith, lt)))) (slot_len old (fits i x lt) ∙ sym (slot_len x fit))
     ∙ sym (around slots i x lt)
 
 -- a slot stands there
-pub bytes_of_slot : (slots : List NamedInode) (i : ℕ) (d : NamedInode) → All FitsSlot slots → i < length slots → window (slots_bytes slots) (128 * i) 128 ≡ slot_bytes (get_or slots i d)
+pub bytes_of_slot : (slots : List NamedInode) (i : ℕ) (d : NamedInode) → All FitsSlot slots → i < length slots → window (slots_bytes slots) (SLOT_SIZE * i) SLOT_SIZE ≡ slot_bytes (get_or slots i d)
 bytes_of_slot slots i d fits lt =
     let x : NamedInode = get_or slots i d in
     let was : slots_bytes slots ≡ slots_bytes (take i slots) ++ (slot_bytes x ++ slots_bytes (drop (suc i) slots)) =
     ap slots_bytes (sym (set-get_or slots i d)) ∙ around slots i x lt in
-    ap (λ (r : List ℕ). window r (128 * i) 128) was
-    ∙ ap (take 128) (drop_at (slots_bytes (take i slots)) (slot_bytes x ++ slots_bytes (drop (suc i) slots)) (128 * i) (bytes_before slots i fits (omega (arith, lt))))
-    ∙ take_at (slot_bytes x) (slots_bytes (drop (suc i) slots)) 128 (slot_len x (fits i d lt))
+    ap (λ (r : List ℕ). window r (SLOT_SIZE * i) SLOT_SIZE) was
+    ∙ ap (take SLOT_SIZE) (drop_at (slots_bytes (take i slots)) (slot_bytes x ++ slots_bytes (drop (suc i) slots)) (SLOT_SIZE * i) (bytes_before slots i fits (omega (arith, lt))))
+    ∙ take_at (slot_bytes x) (slots_bytes (drop (suc i) slots)) SLOT_SIZE (slot_len x (fits i d lt))
 
 -- ---- fewer
-pub bytes_cut : (slots : List NamedInode) (n : ℕ) → All FitsSlot slots → n ≤ length slots → resized (slots_bytes slots) (128 * n) ≡ slots_bytes (take n slots)
+pub bytes_cut : (slots : List NamedInode) (n : ℕ) → All FitsSlot slots → n ≤ length slots → resized (slots_bytes slots) (SLOT_SIZE * n) ≡ slots_bytes (take n slots)
 bytes_cut slots n fits le =
-    let all : length (slots_bytes slots) ≡ 128 * length slots = length-slots slots fits in
-    let none : 128 * n - length (slots_bytes slots) ≡ 0 = omega (arith, all, le) in
+    let all : length (slots_bytes slots) ≡ SLOT_SIZE * length slots = length-slots slots fits in
+    let none : SLOT_SIZE * n - length (slots_bytes slots) ≡ 0 = omega (arith, all, le) in
     let parts : slots_bytes slots ≡ slots_bytes (take n slots) ++ slots_bytes (drop n slots) =
     ap slots_bytes (sym (take-append-drop n slots)) ∙ flat_map-append slot_bytes (take n slots) (drop n slots) in
-    ap (λ (k : ℕ). take (128 * n) (slots_bytes slots) ++ replicate k 0) none
-    ∙ append-nil (take (128 * n) (slots_bytes slots))
-    ∙ ap (take (128 * n)) parts
-    ∙ take_at (slots_bytes (take n slots)) (slots_bytes (drop n slots)) (128 * n) (bytes_before slots n fits le)
+    ap (λ (k : ℕ). take (SLOT_SIZE * n) (slots_bytes slots) ++ replicate k 0) none
+    ∙ append-nil (take (SLOT_SIZE * n) (slots_bytes slots))
+    ∙ ap (take (SLOT_SIZE * n)) parts
+    ∙ take_at (slots_bytes (take n slots)) (slots_bytes (drop n slots)) (SLOT_SIZE * n) (bytes_before slots n fits le)

@@ -3,6 +3,7 @@
 --     WhyNotAdded, WhyNotChanged        why a name isn't added; why one isn't removed, led elsewhere or changed
 --     as_dir_fault        a fault of what an inode holds, as one of a directory
 use Rattle.std.specs.Prelude.{◌≡◌, ◌≢◌, ◌⊎◌, ℕ, ◌%◌, ◌<◌, nat_eq, if◌then◌else◌, List, length, None}
+use Rattle.fs_layout.specs.declared.inode.TheConstants.{DIRECT_SIZE}
 use Rattle.fs_layout.specs.declared.inode.Inode.{Inode}
 use Rattle.fs_layout.specs.declared.place.Place.{Place}
 use Rattle.fs_layout.specs.declared.slot.TheConstants.{MAX_NAMES}
@@ -15,9 +16,9 @@ use Rattle.dir_core.specs.declared.fault.DirFault.{DirFault}
 use Rattle.dir_core.specs.declared.fault.DirFault.TheVariants.{Full, Exists, Absent, DiskFault, OutOfMemory}
 
 -- how many sectors one more name takes: none where the last block has place for a slot, else one; and one more for the
--- pointers to further blocks where the first 12 are full
+-- pointers to further blocks where the direct ones are full
 abbrev pub taken_for : Inode → ℕ
-taken_for v = if nat_eq (v.size % 512) 0 then (if nat_eq v.size 6144 then 2 else 1) else 0
+taken_for v = if nat_eq (v.size % 512) 0 then (if nat_eq v.size DIRECT_SIZE then 2 else 1) else 0
 
 -- Why a name isn't added to a directory with these names, in this order: it is there; there are as many names as can be,
 -- or fewer sectors are free than one more takes.

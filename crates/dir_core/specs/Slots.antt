@@ -5,6 +5,7 @@
 --     IsFoundIn        what a search for a name finds
 --     name_entry        a slot as an entry of the map of names
 use Rattle.std.specs.Prelude.{◌≡◌, ◌≢◌, ℕ, ◌+◌, ◌*◌, ◌<◌, List, length, slice_index, slice_index_or, All, Option, None, Some}
+use Rattle.fs_layout.specs.declared.slot.TheConstants.{SLOT_SIZE}
 use Rattle.fs_layout.specs.declared.inode.Inode.{Inode}
 use Rattle.fs_layout.specs.declared.inode.Kind.TheVariants as kinds
 use Rattle.fs_layout.specs.Bytes.{SectorMap, window}
@@ -26,7 +27,7 @@ IsBlock image v k block = (i : ℕ) → i < 512 → slice_index block i ≡ byte
 
 -- the bytes from an offset on are those of this slot
 abbrev pub IsSlotAt : List ℕ → ℕ → NamedInode → Type 0
-IsSlotAt block at x = FitsSlot x × (window block at 128 ≡ slot_bytes x)
+IsSlotAt block at x = FitsSlot x × (window block at SLOT_SIZE ≡ slot_bytes x)
 
 -- the slot that has the name, with its inode; None where no slot has it
 abbrev pub IsFoundIn : List NamedInode → List ℕ → Option FoundSlot → Type 0

@@ -15,16 +15,16 @@ ghost use Rattle.dir_core.specs.Faults.{taken_for, WhyNotAdded, WhyNotChanged};
 ghost use Rattle.dir_core.specs.Slots.{HasSlots};
 
 use crate::DirFault;
-use crate::find::{SLOT, find_slot};
+use crate::find::find_slot;
 use block_map::{overwrite, read_at, set_size, write_at};
-use fs_layout::{Inode, Place, Slot};
+use fs_layout::{Inode, MAX_DIRECTORY_SIZE, Place, SLOT_SIZE, Slot};
 use sector_disk::DiskFault;
 use sector_txn::Sectors;
 
 // A block that begins with a slot.
 fn block_with(inode: u32, name: &[u8]) -> [u8; 512]
     requires { IsName name.now }
-    ensures { take 128 result ≡ slot_bytes (record { inode = inode; name = name.now }) }
+    ensures { take SLOT_SIZE result ≡ slot_bytes (record { inode = inode; name = name.now }) }
 {
     let mut block = [0; 512];
     Slot::new(inode, name).write_to(&mut block, 0);
@@ -58,7 +58,10 @@ pub fn insert_new<S: Sectors>(
     ensures cause { HasCauseOf DirFault.DiskFault (S.state s.old).disk (S.state s.new).disk result }
 {
     let end = inode.size;
-    write_at(s, place, n, inode, end, &block_with(to, name)[..SLOT])?;
+    if end >= MAX_DIRECTORY_SIZE {
+        return Err(DirFault::Full);
+    }
+    write_at(s, place, n, inode, end, &block_with(to, name)[..SLOT_SIZE])?;
     Ok(())
 }
 
@@ -115,12 +118,12 @@ fn move_last<S: Sectors>(
     ensures store { SameStore (S.state s.old) (S.state s.new) }
     ensures cause { HasCause (S.state s.old).disk (S.state s.new).disk result }
 {
-    let at = slot * SLOT as u64;
-    let last = inode.size - SLOT as u64;
+    let at = slot * SLOT_SIZE as u64;
+    let last = inode.size - SLOT_SIZE as u64;
     if at == last {
         return Ok(());
     }
-    let mut bytes = [0; SLOT];
+    let mut bytes = [0; SLOT_SIZE];
     read_at(s, inode, last, &mut bytes)?;
     overwrite(s, place, n, inode, at, &bytes)?;
     Ok(())
@@ -154,7 +157,7 @@ pub fn remove<S: Sectors>(
         return Err(DirFault::Absent);
     };
     move_last(s, place, n, inode, found.slot)?;
-    let size = inode.size - SLOT as u64;
+    let size = inode.size - SLOT_SIZE as u64;
     set_size(s, place, n, inode, size)?;
     Ok(())
 }
@@ -182,8 +185,8 @@ fn set_slot<S: Sectors>(
     ensures store { SameStore (S.state s.old) (S.state s.new) }
     ensures cause { HasCause (S.state s.old).disk (S.state s.new).disk result }
 {
-    let at = slot * SLOT as u64;
-    overwrite(s, place, n, inode, at, &block_with(to, name)[..SLOT])?;
+    let at = slot * SLOT_SIZE as u64;
+    overwrite(s, place, n, inode, at, &block_with(to, name)[..SLOT_SIZE])?;
     Ok(())
 }
 

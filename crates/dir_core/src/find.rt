@@ -9,12 +9,10 @@ ghost use Rattle.dir_core.specs.Slots.{HasSlots, IsBlock, IsSlotAt, IsFoundIn};
 
 use block_map::Blocks;
 use byteorder::{ByteOrder, LittleEndian};
-use fs_layout::{Inode, MAX_NAME};
+use fs_layout::{Inode, MAX_NAME, SLOT_SIZE};
 use sector_disk::DiskFault;
 use sector_txn::Sectors;
 
-/// The bytes of a slot.
-pub(crate) const SLOT: usize = 128;
 /// How many slots a block has.
 pub(crate) const SLOTS: u64 = 4;
 
@@ -30,8 +28,8 @@ pub(crate) struct FoundSlot {
 // Whether the slot at `at` has the name. The length is compared first, and then the last byte, since names of one directory
 // often begin alike.
 fn is_named(block: &[u8; 512], at: usize, name: &[u8]) -> bool
-    requires within { at + 128 ≤ 512 }
-    requires len { (0 < length name.now) × (length name.now ≤ 120) }
+    requires within { at + SLOT_SIZE ≤ 512 }
+    requires len { (0 < length name.now) × (length name.now ≤ MAX_NAME) }
     ensures { (x : NamedInode) → IsSlotAt block.now at x → (IsTrue result ↔ (x.name ≡ name.now)) }
 {
     let len = name.len();
@@ -46,7 +44,7 @@ fn is_named(block: &[u8; 512], at: usize, name: &[u8]) -> bool
 
 // The inode of the slot at `at`.
 fn inode_at(block: &[u8; 512], at: usize) -> u32
-    requires { at + 128 ≤ 512 }
+    requires { at + SLOT_SIZE ≤ 512 }
     ensures { (x : NamedInode) → IsSlotAt block.now at x → result ≡ x.inode }
 {
     LittleEndian::read_u32(&block[at..])
@@ -91,7 +89,7 @@ pub(crate) fn find_slot<S: Sectors>(
     if MAX_NAME < name.len() {
         return Ok(None);
     }
-    let slots = inode.size / SLOT as u64;
+    let slots = inode.size / SLOT_SIZE as u64;
     let mut blocks = Blocks {
         inode: *inode,
         pointers: [0; 512],
@@ -100,7 +98,7 @@ pub(crate) fn find_slot<S: Sectors>(
     let mut block = [0; 512];
     for slot in 0..slots {
         read_block_of(s, &blocks, slot, &mut block)?;
-        let at = SLOT * (slot % SLOTS) as usize;
+        let at = SLOT_SIZE * (slot % SLOTS) as usize;
         if is_named(&block, at, name) {
             let inode = inode_at(&block, at);
             return Ok(Some(FoundSlot { slot, inode }));

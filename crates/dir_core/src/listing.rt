@@ -11,9 +11,9 @@ ghost use Rattle.dir_core.specs.Slots.{HasSlots, name_entry};
 ghost use Rattle.dir_core.specs.declared.fault.DirFault.TheVariants.{DiskFault as Device, OutOfMemory};
 
 use crate::DirFault;
-use crate::find::{SLOT, SLOTS, read_block_of};
+use crate::find::{SLOTS, read_block_of};
 use block_map::Blocks;
-use fs_layout::{Inode, Place, Slot};
+use fs_layout::{Inode, Place, SLOT_SIZE, Slot};
 use sector_txn::Sectors;
 use std::alloc::Global;
 
@@ -27,7 +27,7 @@ fn read_slots<S: Sectors>(alloc: Global, s: &mut S, inode: &Inode) -> Result<Vec
     ensures same { IsUnchanged (S.state s.old) (S.state s.new) }
     ensures cause { HasCauseOf DirFault.DiskFault (S.state s.old).disk (S.state s.new).disk result }
 {
-    let count = inode.size / SLOT as u64;
+    let count = inode.size / SLOT_SIZE as u64;
     let mut slots = Vec::with_capacity(alloc, count as usize)?;
     let mut blocks = Blocks {
         inode: *inode,
@@ -37,7 +37,7 @@ fn read_slots<S: Sectors>(alloc: Global, s: &mut S, inode: &Inode) -> Result<Vec
     let mut block = [0; 512];
     for k in 0..count {
         read_block_of(s, &blocks, k, &mut block)?;
-        let Ok(slot) = Slot::read_from(&block, SLOT * (k % SLOTS) as usize) else {
+        let Ok(slot) = Slot::read_from(&block, SLOT_SIZE * (k % SLOTS) as usize) else {
             unreachable!()
         };
         slots.push(slot)?;

@@ -11,6 +11,7 @@ use Rattle.fs_cred.specs.declared.refusal.Refusal.{Refusal}
 use Rattle.fs_layout.specs.declared.inode.TheConstants.{MAX_FILE_SIZE}
 use Rattle.fs_layout.specs.declared.place.Place.{Place}
 use Rattle.fs_layout.specs.Bytes.{resized}
+use Rattle.fs_layout.proofs.Versions.{max_file_size_is}
 use Rattle.sector_txn.specs.Sectors.{TxnState}
 use Rattle.fs_model.specs.declared.call.Call.TheVariants.{Ftruncate}
 use Rattle.fs_model.specs.declared.reply.Reply.TheVariants.{Done}
@@ -50,7 +51,9 @@ process_stays {desks} {pid} o table =
 module _ {p : Place} (old : TxnState) {desks : Desks} {pid fd : ℕ} {d : Descriptor} (o : IsOpened desks pid fd d) (size : ℕ) (s : State)
     (at : IsStateOf p old.sectors desks s) where
   asked_is : first_of (ftruncate_demands size (open_scene s o.process)) ≡ first_of (refuse EFBIG (nat_lt MAX_FILE_SIZE size) ∷ [])
-  asked_is = ap (λ (r : Room). first_of (refuse EFBIG (nat_lt r.file_limit size) ∷ [])) at.same_room
+  asked_is =
+      ap (λ (r : Room). first_of (refuse EFBIG (nat_lt r.file_limit size) ∷ [])) at.same_room
+      ∙ ap (λ (n : ℕ). first_of (refuse EFBIG (nat_lt n size) ∷ [])) (max_file_size_is p.version)
 
   one_asked : (b : Bool) (e : Refusal) → refused_or {A = Unit {0}} (refuse EFBIG b) (Ok tt) ≡ Err e → first_of (refuse EFBIG b ∷ []) ≡ Some e
   one_asked b e is = ap (λ (x : Demand). first_of (x ∷ [])) (refused_err {A = Unit {0}} (refuse EFBIG b) tt e is)
@@ -68,7 +71,7 @@ module _ {p : Place} (old : TxnState) {desks : Desks} {pid fd : ℕ} {d : Descri
   cuts new open_to_write fits same c =
       let x = open_fits o s at in
       let body = (at.is_state.tree.each d.number x.node x.is_there).body in
-      let limit : s.room.file_limit ≡ MAX_FILE_SIZE = ap (λ (r : Room). r.file_limit) at.same_room in
+      let limit : s.room.file_limit ≡ MAX_FILE_SIZE = ap (λ (r : Room). r.file_limit) at.same_room ∙ max_file_size_is p.version in
       let len = length-resized (bytes_in x.node.body) size in
       record {
         change = Rewrite d.number (resized_node size x.node);

@@ -5,10 +5,13 @@ use Rattle.posix_acl.specs.declared.entry.Perms.{Perms}
 use Rattle.posix_acl.specs.AccessList.{AccessList, with_mode_bits, is_extended}
 use Rattle.posix_acl.specs.Entries.{perms_of}
 use Rattle.sector_disk.specs.Disk.{DiskState, HasFailed}
-use Rattle.fs_cred.specs.Credentials.{Credential, is_superuser, is_member}
+use Rattle.fs_cred.specs.Credentials.{Credential}
+use Rattle.fs_cred.specs.Ownership.{keeps_set_group_id}
 use Rattle.fs_cred.specs.declared.node.Node.{Node as AccessNode}
 use Rattle.fs_cred.specs.declared.node.NodeKind.{NodeKind}
 use Rattle.fs_cred.specs.declared.node.NodeKind.TheVariants as nodes
+use Rattle.fs_layout.specs.declared.slot.TheConstants.{SLOT_SIZE}
+use Rattle.fs_layout.specs.declared.inode.TheConstants.{MAX_DIRECTORY_SIZE, MAX_FILE_SIZE, S_ISGID, S_ISVTX}
 use Rattle.fs_layout.specs.declared.inode.Inode.{Inode}
 use Rattle.fs_layout.specs.declared.inode.Kind.{Kind}
 use Rattle.fs_layout.specs.declared.inode.Kind.TheVariants as kinds
@@ -93,7 +96,7 @@ first_part : (a b : Bool) → (a && b) ≡ true → a ≡ true
 first_part true b e = refl
 first_part false b e = absurd cc
 
-few : (s g : Bool) → nat_le (cond s 512 0 + cond g 1024 0) 2047 ≡ true
+few : (s g : Bool) → nat_le (cond s S_ISVTX 0 + cond g S_ISGID 0) 2047 ≡ true
 few true true = refl
 few true false = refl
 few false true = refl
@@ -102,21 +105,21 @@ few false false = refl
 numbers_moded : (kind : Kind) (mode size : ℕ) (cred : Credential) (group m : ℕ) → kind ≢ kinds.Link → numbers_fit kind mode size ≡ true
     → numbers_fit kind (special_mode cred kind group m) size ≡ true
 numbers_moded kinds.Free mode size cred group m other fits = refl
-numbers_moded kinds.File mode size cred group m other fits = first_instead (nat_le mode 511) (nat_le size 71680) (nat_le 0 511) fits refl
+numbers_moded kinds.File mode size cred group m other fits = first_instead (nat_le mode 511) (nat_le size MAX_FILE_SIZE) (nat_le 0 511) fits refl
 numbers_moded kinds.Directory mode size cred group m other fits =
     let now = special_mode cred kinds.Directory group m in
-    let both = first_part (nat_le mode 2047 && nat_le size 71680) (nat_eq (size % 128) 0) fits in
-    first_instead (nat_le mode 2047 && nat_le size 71680) (nat_eq (size % 128) 0) (nat_le now 2047 && nat_le size 71680) fits
-    (first_instead (nat_le mode 2047) (nat_le size 71680) (nat_le now 2047) both
-    (few (m / 512 % 2 == 1) (m / 1024 % 2 == 1 && (is_superuser cred || is_member cred group))))
+    let both = first_part (nat_le mode 2047 && nat_le size MAX_DIRECTORY_SIZE) (nat_eq (size % SLOT_SIZE) 0) fits in
+    first_instead (nat_le mode 2047 && nat_le size MAX_DIRECTORY_SIZE) (nat_eq (size % SLOT_SIZE) 0) (nat_le now 2047 && nat_le size MAX_DIRECTORY_SIZE) fits
+    (first_instead (nat_le mode 2047) (nat_le size MAX_DIRECTORY_SIZE) (nat_le now 2047) both
+    (few (m / S_ISVTX % 2 == 1) (m / S_ISGID % 2 == 1 && keeps_set_group_id cred group)))
 numbers_moded kinds.Link mode size cred group m other fits = absurd (other refl)
 
 small : (kind : Kind) (cred : Credential) (group m : ℕ) → special_mode cred kind group m ≤ 1536
 small kinds.Free cred group m = omega arith
 small kinds.File cred group m = omega arith
-small kinds.Directory cred group m = go (m / 512 % 2 == 1) (m / 1024 % 2 == 1 && (is_superuser cred || is_member cred group))
+small kinds.Directory cred group m = go (m / S_ISVTX % 2 == 1) (m / S_ISGID % 2 == 1 && keeps_set_group_id cred group)
   where
-    go : (s g : Bool) → cond s 512 0 + cond g 1024 0 ≤ 1536
+    go : (s g : Bool) → cond s S_ISVTX 0 + cond g S_ISGID 0 ≤ 1536
     go true true = omega arith
     go true false = omega arith
     go false true = omega arith
@@ -136,9 +139,9 @@ special_is : (b : Body) (kind : Kind) (cred : Credential) (group m : ℕ) → ki
     → special_mode cred kind group m / 512 ≡ special_bits (with_mode cred group m b)
 special_is (File a bytes) kind cred group m e = ap (λ (k : Kind). special_mode cred k group m / 512) e
 special_is (Dir a d) kind cred group m e =
-    ap (λ (k : Kind). special_mode cred k group m / 512) e ∙ go (m / 512 % 2 == 1) (m / 1024 % 2 == 1 && (is_superuser cred || is_member cred group))
+    ap (λ (k : Kind). special_mode cred k group m / 512) e ∙ go (m / S_ISVTX % 2 == 1) (m / S_ISGID % 2 == 1 && keeps_set_group_id cred group)
   where
-    go : (s g : Bool) → (cond s 512 0 + cond g 1024 0) / 512 ≡ cond s 1 0 + cond g 2 0
+    go : (s g : Bool) → (cond s S_ISVTX 0 + cond g S_ISGID 0) / 512 ≡ cond s 1 0 + cond g 2 0
     go true true = omega arith
     go true false = omega arith
     go false true = omega arith

@@ -12,6 +12,7 @@ use Rattle.fs_cred.specs.Credentials.{Credential}
 use Rattle.posix_acl.specs.AccessList.{AccessList}
 use Rattle.sector_disk.specs.Disk.{DiskState}
 use Rattle.sector_txn.specs.Sectors.{TxnState, IsUnchanged}
+use Rattle.fs_layout.specs.declared.inode.TheConstants.{S_ISGID, S_ISVTX}
 use Rattle.fs_layout.specs.declared.inode.Inode.{Inode}
 use Rattle.fs_layout.specs.declared.place.Place.{Place}
 use Rattle.fs_layout.specs.Bytes.{SectorMap}
@@ -158,7 +159,7 @@ module _ {p : Place} {map : SectorMap} {flags : Flags} {q : Process} {f : Found}
         let same = ap (λ (r : Room). r.inodes) i.is_state.same_room in
         (made.free.0, omega (arith, below, same), nothing_stands (state_tree i.is_state) n made.free)
 
-    module _ (v : Inode) (is_dir : v ≡ inode_at p map f.dir) (group_is : gid ≡ (if v.mode / 1024 % 2 == 1 then v.gid else q.cred.gid))
+    module _ (v : Inode) (is_dir : v ≡ inode_at p map f.dir) (group_is : gid ≡ (if v.mode / S_ISGID % 2 == 1 then v.gid else q.cred.gid))
         (acl_is : (d : Option AccessList) → HasDefaultAcl map v d → a ≡ born_acl d mode q.umask) where
       dir_holds : HoldsNode map v (record { node = node; names = names_of s.tree f.dir; parent = parent s.tree f.dir })
       dir_holds =

@@ -14,6 +14,7 @@ use Rattle.fs_layout.specs.declared.inode.TheConstants.{MAX_FILE_SIZE}
 use Rattle.fs_layout.specs.declared.place.Place.{Place}
 use Rattle.fs_layout.specs.Bytes.{SectorMap, resized}
 use Rattle.fs_layout.specs.Images.{inode_at}
+use Rattle.fs_layout.proofs.Versions.{max_file_size_is}
 use Rattle.sector_txn.specs.Sectors.{TxnState}
 use Rattle.fs_model.specs.declared.reply.Reply.TheVariants.{Done}
 use Rattle.fs_model.specs.declared.walk.Form.TheVariants.{Follow}
@@ -79,6 +80,8 @@ module _ {p : Place} {map : SectorMap} {desks : Desks} {s : State} {pid : ℕ} {
       ∷ refuse EFBIG (nat_lt s.room.file_limit size) ∷ []) (directory_is at has some number_is inode)
       ∙ ap (λ (r : Room). must_be_there f ∷ refuse EISDIR (is_directory_kind v.kind) ∷ permission_at_end (scene_at s q f) f 1 (perms false true false)
       ∷ refuse EFBIG (nat_lt r.file_limit size) ∷ []) at.same_room
+      ∙ ap (λ (k : ℕ). must_be_there f ∷ refuse EISDIR (is_directory_kind v.kind) ∷ permission_at_end (scene_at s q f) f 1 (perms false true false)
+      ∷ refuse EFBIG (nat_lt k size) ∷ []) (max_file_size_is p.version)
 
   asked_again : {A : Type 0} (x : A) (e : Refusal) (old new : DiskState) → IsAnswered old new (refused_or {A = A} (first_of asked) (Ok x)) (Err e)
       → IsAnswered old new (refused_or {A = A} (first_of (truncate_demands size (scene_at s q f))) (Ok x)) (Err e)
@@ -133,7 +136,7 @@ module _ {p : Place} {old : TxnState} {desks : Desks} {s : State} {pid : ℕ} {q
       let is_file = sym (ap (λ (w : Inode). w.kind) inode) ∙ kind in
       let held = held_node (state_tree at) n a.node a.at in
       let is = (at.is_state.tree).each n a.node a.at in
-      let limit = ap (λ (r : Room). r.file_limit) at.same_room in
+      let limit = ap (λ (r : Room). r.file_limit) at.same_room ∙ max_file_size_is p.version in
       rewrites_found at new.sectors n a.node (resized_node size a.node) a.at
       (bytes_may_replace s.room s.tree n a.node is (resized (bytes_in a.node.body) size)
       (let len = length-resized (bytes_in a.node.body) size in omega (arith, len, few, limit))

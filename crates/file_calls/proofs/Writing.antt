@@ -16,6 +16,7 @@ use Rattle.fs_layout.specs.declared.inode.TheConstants.{MAX_FILE_SIZE}
 use Rattle.fs_layout.specs.declared.place.Place.{Place}
 use Rattle.fs_layout.specs.Bytes.{SectorMap, IsBytes, overwritten}
 use Rattle.fs_layout.specs.Images.{inode_at, free_sectors}
+use Rattle.fs_layout.proofs.Versions.{max_file_size_is}
 use Rattle.fs_layout.proofs.Sectors.{IsBytes-take}
 use Rattle.sector_txn.specs.Sectors.{TxnState, IsUnchanged}
 use Rattle.sector_txn.proofs.Changes.{store_same}
@@ -127,7 +128,7 @@ module _ {p : Place} {map : SectorMap} {desks : Desks} {pid fd : ℕ} {d : Descr
         ∙ starts_at
 
     limit_is : s.room.file_limit ≡ MAX_FILE_SIZE
-    limit_is = ap (λ (r : Room). r.file_limit) at.same_room
+    limit_is = ap (λ (r : Room). r.file_limit) at.same_room ∙ max_file_size_is p.version
 
     module _ (bytes : List ℕ) (some : is_empty bytes ≡ false) where
       demands_are : first_of (write_demands fd bytes (open_scene s o.process))
@@ -186,7 +187,7 @@ module _ {p : Place} {old new : TxnState} {desks : Desks} {pid fd : ℕ} {d : De
   writes =
       let x = open_fits o s at in
       let body = (at.is_state.tree.each d.number x.node x.is_there).body in
-      let limit : s.room.file_limit ≡ MAX_FILE_SIZE = ap (λ (r : Room). r.file_limit) at.same_room in
+      let limit : s.room.file_limit ≡ MAX_FILE_SIZE = ap (λ (r : Room). r.file_limit) at.same_room ∙ max_file_size_is p.version in
       let len = length-take count bytes in
       record {
         change = Rewrite d.number (written x.node offset (take count bytes));

@@ -15,25 +15,24 @@ ghost use Rattle.call_parts.specs.Asked.{owner_asked};
 ghost use Rattle.call_parts.specs.Given.{GivesOwner, SavesAcl, special_mode};
 
 use crate::acls::{acl_of, give_acl};
-use call_parts::{check_mode, find, owned};
-use fs_cred::{Cred, Denial, Errno, Need, Refusal, Rule, may_chgrp, may_chown};
-use fs_layout::{Inode, Kind, Place};
+use call_parts::{allowed_by, check_mode, find, inode_found, owned};
+use fs_cred::{
+    Cred, Errno, Need, Refusal, keeps_set_group_id, may_chgrp, may_chown, owns_or_may_chown,
+};
+use fs_layout::{Inode, Kind, Place, S_ISGID, S_ISVTX};
 use fs_model::{Form, Path, Reply};
 use inode_table::save;
 use open_files::Procs;
 use sector_txn::Sectors;
 use std::alloc::Global;
 
-// Asks whether the caller, who owns the inode, may give it this owner and group.
+// Asks whether the caller may give the inode this owner and group.
 fn check_owner(cred: &Cred, inode: &Inode, uid: u32, gid: u32, step: usize) -> Result<(), Refusal>
     ensures { result ≡ refused_or (first_of (owner_asked cred.now inode.now.uid inode.now.gid uid gid step)) (Ok tt) }
 {
-    if !may_chown(cred, inode.uid, uid) {
-        return Err(Refusal::Denied(Denial::new(1, step, Need::Chown, Rule::NotSuperuser)));
-    }
-    if !may_chgrp(cred, inode.gid, gid) {
-        return Err(Refusal::Denied(Denial::new(1, step, Need::Chgrp, Rule::NotMember)));
-    }
+    allowed_by(1, step, Need::Own, owns_or_may_chown(cred, inode.uid))?;
+    allowed_by(1, step, Need::Chown, may_chown(cred, inode.uid, uid))?;
+    allowed_by(1, step, Need::Chgrp, may_chgrp(cred, inode.gid, gid))?;
     Ok(())
 }
 
@@ -69,10 +68,10 @@ fn special_bits(cred: &Cred, inode: &Inode, mode: u16) -> u16
     if inode.kind != Kind::Directory {
         return 0;
     }
-    let sticky = if mode / 512 % 2 == 1 { 512 } else { 0 };
-    let asks = mode / 1024 % 2 == 1;
-    if asks && (cred.is_superuser() || cred.is_member(inode.gid)) {
-        return sticky + 1024;
+    let sticky = if mode / S_ISVTX % 2 == 1 { S_ISVTX } else { 0 };
+    let asks = mode / S_ISGID % 2 == 1;
+    if asks && keeps_set_group_id(cred, inode.gid) {
+        return sticky + S_ISGID;
     }
     sticky
 }
@@ -112,7 +111,7 @@ fn give_mode<S: Sectors>(
 
 /// Sets the permission bits of what a path leads to, and of a directory S_ISGID and S_ISVTX.
 ///
-/// S_ISGID stays clear without an error where the process isn't in the directory's group. EINVAL: the mode has more bits than
+/// S_ISGID stays clear without an error where `keeps_set_group_id` says so. EINVAL: the mode has more bits than
 /// 07777. ENOENT: the path leads to nothing.
 pub fn chmod<S: Sectors>(
     alloc: Global,
@@ -137,8 +136,8 @@ pub fn chmod<S: Sectors>(
 
 /// Gives what a path leads to another owner or group; one that isn't given stays.
 ///
-/// Only the superuser may give it another owner, and another group only where the process is in it. S_ISGID and the ACLs
-/// stay. ENOENT: the path leads to nothing.
+/// Who may is asked of `owns_or_may_chown`, `may_chown` and `may_chgrp`. S_ISGID and the ACLs stay. ENOENT: the path leads
+/// to nothing.
 pub fn chown<S: Sectors>(
     alloc: Global,
     s: &mut S,
@@ -155,7 +154,7 @@ pub fn chown<S: Sectors>(
     let process = procs.process(pid)?;
     let found = find(alloc, s, place, process, path, Form::Follow)?;
     let cred = process.cred();
-    let (n, inode) = owned(s, place, cred, &found)?;
+    let (n, inode) = inode_found(s, place, &found)?;
     let uid = owner.unwrap_or(inode.uid);
     let gid = group.unwrap_or(inode.gid);
     check_owner(cred, &inode, uid, gid, found.step)?;

@@ -6,6 +6,7 @@ use Rattle.std.proofs.Math.Bool.{beq}
 use Rattle.std.proofs.lemmas.Bool.{le-ltb, lt-leb}
 use Rattle.byteorder.specs.Endian.{little_number}
 use Rattle.byteorder.specs.Numbers.{little_from-take}
+use Rattle.fs_layout.specs.declared.inode.TheConstants.{INODE_SIZE}
 use Rattle.fs_layout.specs.declared.place.Place.{Place}
 use Rattle.fs_layout.specs.Bytes.{SectorMap, u16_of}
 use Rattle.fs_layout.specs.Images.{bit, inode_bitmap, block_bitmap, stored}
@@ -23,13 +24,13 @@ unfolding bit
 bit_there m start n s is = ap (λ (t : List ℕ). nat_eq (bit_at (get_or t (n % 4096 / 8) 0) (n % 8)) 1) is
 
 -- a field at the start of an inode's bytes
-field_there : (p : Place) (m : SectorMap) (n : ℕ) (content : List ℕ) → content ≡ m (p.table + n / 4) → u16_of content (128 * (n % 4)) ≡ u16_of (stored p m n) 0
+field_there : (p : Place) (m : SectorMap) (n : ℕ) (content : List ℕ) → content ≡ m (p.table + n / 4) → u16_of content (INODE_SIZE * (n % 4)) ≡ u16_of (stored p m n) 0
 unfolding stored u16_of
 field_there p m n content is =
-    ap (λ (s : List ℕ). little_number 2 (drop (128 * (n % 4)) s)) is
-    ∙ sym (little_from-take 0 2 128 (drop (128 * (n % 4)) (m (p.table + n / 4))) (omega arith))
+    ap (λ (s : List ℕ). little_number 2 (drop (INODE_SIZE * (n % 4)) s)) is
+    ∙ sym (little_from-take 0 2 INODE_SIZE (drop (INODE_SIZE * (n % 4)) (m (p.table + n / 4))) (omega arith))
 
-pub taken_there : (p : Place) (m : SectorMap) (n : ℕ) (content : List ℕ) (k : ℕ) → 2 ≤ n → n < p.inodes → k ≡ u16_of content (128 * (n % 4))
+pub taken_there : (p : Place) (m : SectorMap) (n : ℕ) (content : List ℕ) (k : ℕ) → 2 ≤ n → n < p.inodes → k ≡ u16_of content (INODE_SIZE * (n % 4))
     → IsTableSector p m n content
     → not (nat_eq k 0) ≡ (nat_lt n 2 || nat_le p.inodes n || not (nat_eq (u16_of (stored p m n) 0) 0))
 taken_there p m n content k past below is there =
@@ -90,8 +91,8 @@ pub record HasMap (size : ℕ) (p : Place) : Type 0 where
 
 pub map_place : (size : ℕ) (image : SectorMap) (p : Place) → IsPlaceOf size image p → HasMap size p
 map_place size image p x =
-    let place = place_is_place size x.super.inodes x.has_place in
-    let bounds = place_has_bounds size x.super.inodes x.has_place in
+    let place = place_is_place _ size x.super.inodes x.has_place in
+    let bounds = place_has_bounds _ size x.super.inodes x.has_place in
     let same = place_size size image p x in
     let to = bounds.table_to in
     let before = before_data place in

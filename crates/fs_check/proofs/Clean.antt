@@ -148,7 +148,7 @@ clean_after s0 s1 s2 s3 p targets items inodes bits owned s small whole at r1 co
 pub first_within : (size : ℕ) (image : SectorMap) (p : Place) (m : SectorMap) (bits owned : List Bool) → IsPlaceOf size image p → IsOwnerMap p m bits
     → owned ≡ bits → p.first_data ≤ length owned
 first_within size image p m bits owned at owners same =
-    let room = (place_is_place size at.super.inodes at.has_place).data_sectors in
+    let room = (place_is_place _ size at.super.inodes at.has_place).data_sectors in
     let len = owners.len in
     let long = ap length same in
     omega (arith, room, len, long)

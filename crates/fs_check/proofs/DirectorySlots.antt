@@ -1,7 +1,8 @@
 -- The slots of one directory.
-use Rattle.std.specs.Prelude.{◌≡◌, ◌≢◌, ℕ, ◌+◌, ◌-◌, ◌*◌, ◌/◌, ◌%◌, ◌<◌, List, Result, Ok, Bool, true, false, IsTrue, ◌↔◌, All}
+use Rattle.std.specs.Prelude.{◌≡◌, ◌≢◌, ℕ, ◌+◌, ◌*◌, ◌/◌, ◌%◌, ◌<◌, List, Result, Ok, Bool, true, false, IsTrue, ◌↔◌, All}
 use Rattle.std.proofs.Common.{refl, sym, ap, arith, ◌∙◌, subst, inl, inr}
 use Rattle.std.proofs.lemmas.Bool.{cases_eq}
+use Rattle.fs_layout.specs.declared.slot.TheConstants.{SLOT_SIZE}
 use Rattle.fs_layout.specs.declared.fault.LayoutFault.{LayoutFault}
 use Rattle.fs_layout.specs.declared.inode.Inode.{Inode}
 use Rattle.fs_layout.specs.declared.place.Place.{Place}
@@ -14,18 +15,10 @@ use Rattle.fs_check.specs.Checks.{meaning, AreInodes}
 use Rattle.fs_layout.specs.declared.inode.Kind.TheVariants.{Free}
 use Rattle.fs_check.proofs.Tests.{refuses}
 use Rattle.fs_check.specs.Naming.{AreValid, AreSlots, IsUsable, HasGoodSlots}
-use Rattle.fs_check.specs.Owning.{part_at}
 use Rattle.fs_check.proofs.Carrying.{meaning_same}
 use Rattle.fs_check.proofs.Openings.{many_sectors, place_size}
-use Rattle.fs_check.proofs.OwnedParts.{at_block}
 
 -- ---- the block of a slot
-
-pub block_is : (m : SectorMap) (v : Inode) (k : ℕ) → part m v (part_at (3 + k)) ≡ pointer m v k
-unfolding part
-block_is m v k =
-    ap (part m v) (at_block (3 + k) (λ z. omega (arith, z)) (λ z. omega (arith, z)) (λ z. omega (arith, z)))
-    ∙ ap (pointer m v) (let e : 3 + k - 3 ≡ k = omega arith in e)
 
 -- what an inode has is on the disk, or it has none
 pub part_on_disk : (size : ℕ) (image : SectorMap) (p : Place) (m : SectorMap) (v : Inode) (a : Part) → IsPlaceOf size image p
@@ -48,11 +41,11 @@ module _ (old mid : DiskState) (reads : OnlyReads old mid) (v : Inode) where
 -- ---- one slot
 
 module _ (m : SectorMap) (v : Inode) (k : ℕ) (block : List ℕ) (is : block ≡ m (pointer m v (k / 4))) where
-  slot_here : window block (128 * (k % 4)) 128 ≡ stored_slot m v k
+  slot_here : window block (SLOT_SIZE * (k % 4)) SLOT_SIZE ≡ stored_slot m v k
   unfolding stored_slot
-  slot_here = ap (λ (s : List ℕ). window s (128 * (k % 4)) 128) is
+  slot_here = ap (λ (s : List ℕ). window s (SLOT_SIZE * (k % 4)) SLOT_SIZE) is
 
-  pub valid_here : (x : NamedInode) (r : Result NamedInode LayoutFault) → r ≡ slot_of (window block (128 * (k % 4)) 128) → r ≡ Ok x
+  pub valid_here : (x : NamedInode) (r : Result NamedInode LayoutFault) → r ≡ slot_of (window block (SLOT_SIZE * (k % 4)) SLOT_SIZE) → r ≡ Ok x
       → (slot_of (stored_slot m v k) ≡ Ok (slot_at m v k)) × (x ≡ slot_at m v k)
   unfolding slot_at
   valid_here x r from found =
@@ -60,7 +53,7 @@ module _ (m : SectorMap) (v : Inode) (k : ℕ) (block : List ℕ) (is : block �
       let at : slot_or_none (slot_of (stored_slot m v k)) ≡ x = ap slot_or_none read in
       (read ∙ ap (λ y. Ok y) (sym at), sym at)
 
-  pub not_valid : (r : Result NamedInode LayoutFault) → r ≡ slot_of (window block (128 * (k % 4)) 128) → ((x : NamedInode) → r ≡ Ok x → ⊥) → k < slot_count v
+  pub not_valid : (r : Result NamedInode LayoutFault) → r ≡ slot_of (window block (SLOT_SIZE * (k % 4)) SLOT_SIZE) → ((x : NamedInode) → r ≡ Ok x → ⊥) → k < slot_count v
       → AreValid m v → ⊥
   not_valid r from none lt valid = none (slot_at m v k) (from ∙ ap slot_of slot_here ∙ valid k lt)
 

@@ -1,88 +1,126 @@
--- One more number is marked.
-use Rattle.std.specs.Prelude.{◌≡◌, ◌≢◌, ℕ, ◌+◌, ◌*◌, ◌/◌, ◌%◌, ◌<◌, Bool, true, false, List, length, get_or, set, IsTrue, ◌↔◌, ◌⊎◌}
+-- One more part of an inode is marked.
+use Rattle.std.specs.Prelude.{◌≡◌, ◌≢◌, ℕ, ◌+◌, ◌<◌, ◌≤◌, Bool, true, false, List, length, get_or, set, IsTrue, ◌↔◌, ◌⊎◌}
 use Rattle.std.specs.Prelude.{Option, Some, None, IfSome, IfNone, MatchOption}
-use Rattle.std.proofs.Common.{sym, ap, arith, ◌∙◌, inl, inr, get_or-set_other, get_or-set_same, length-set}
+use Rattle.std.proofs.Common.{refl, sym, ap, subst, arith, ◌∙◌, inl, inr, get_or-set_other, get_or-set_same, length-set}
 use Rattle.std.proofs.lemmas.Bool.{cases_eq, cases_lt}
 use Rattle.fs_layout.specs.declared.place.Place.{Place}
 use Rattle.fs_layout.specs.Bytes.{SectorMap}
-use Rattle.fs_layout.specs.Images.{inode_at, part, Owns, IsData}
+use Rattle.fs_layout.specs.Images.{inode_at, Owns, IsData}
 use Rattle.fs_layout.specs.declared.inode.Inode.{Inode}
 use Rattle.fs_layout.proofs.Parts.{owns_indirect}
 use Rattle.fs_model.specs.Rules.{OwnedOnce, IsPlaceOf, IsInData, IsOwnedOnce, ObeysEach, IsLeastFailure}
 use Rattle.fs_check.specs.Checks.{IsOwnerMap}
 use Rattle.fs_check.proofs.Openings.{many_sectors, place_size}
-use Rattle.fs_check.specs.Owning.{part_at, owned_number, IsOnce, IsTwice, IsMarked}
+use Rattle.fs_check.specs.Owning.{part_at, owned_part, IsBefore, IsOnce, IsTwice, IsMarked}
 use Rattle.fs_check.proofs.OwnedParts.{counted_part, part_at-injective}
 
-module _ (f : ℕ → ℕ) (T : ℕ) where
-  more : (s : ℕ) → IsOnce f T s → IsOnce f (T + 1) s
-  more s x = let b = x.below in record { at = x.at; below = omega (arith, b); is = x.is; some = x.some }
+-- ---- parts in order
 
-  more_twice : (s : ℕ) → IsTwice f T s → IsTwice f (T + 1) s
-  more_twice s x =
-      let b = x.below in
-      record { first = x.first; second = x.second; apart = x.apart; below = omega (arith, b); first_is = x.first_is; second_is = x.second_is; some = x.some }
+before_more : (a b n i : ℕ) → IsBefore a b n i → IsBefore a b n (i + 1)
+before_more a b n i x = elim x [ inl lt ↦ inl lt | inr y ↦ let lt = y.1 in inr (y.0, omega (arith, lt)) ]
 
-  -- the last number, or an earlier one
-  last_or : (s : ℕ) → IsOnce f (T + 1) s → (f T ≡ s) ⊎ IsOnce f T s
-  last_or s x = elim (cases_lt x.at T) [
-    | inl lt ↦ inr (record { at = x.at; below = lt; is = x.is; some = x.some })
-    | inr ge ↦ let b = x.below in inl (ap f (let same : T ≡ x.at = omega (arith, ge, b) in same) ∙ x.is)
+-- the last part, or one before it
+before_or : (a b n i : ℕ) → IsBefore a b n (i + 1) → ((a ≡ n) × (b ≡ i)) ⊎ IsBefore a b n i
+before_or a b n i x = elim x [
+  | inl lt ↦ inr (inl lt)
+  | inr y ↦ elim (cases_lt b i) [ inl lt ↦ inr (inr (y.0, lt)) | inr ge ↦ let lt = y.1 in inl (y.0, omega (arith, ge, lt)) ]
+]
+
+-- all parts of an inode are before the next one's
+before_next : (a b n i : ℕ) → IsBefore a b n i → IsBefore a b (n + 1) 0
+before_next a b n i x = elim x [ inl lt ↦ inl (omega (arith, lt)) | inr y ↦ let e = y.0 in inl (omega (arith, e)) ]
+
+before_all : (a b n : ℕ) → IsBefore a b n 0 → a < n
+before_all a b n x = elim x [ inl lt ↦ lt | inr y ↦ let lt = y.1 in absurd (omega (arith, lt)) ]
+
+not_itself : (a b i j : ℕ) → a ≡ b → i ≡ j → IsBefore a i b j → ⊥
+not_itself a b i j e f x = elim x [ inl lt ↦ omega (arith, lt, e) | inr y ↦ let lt = y.1 in omega (arith, lt, f) ]
+
+either_before : (a i b j : ℕ) → IsBefore a i b j ⊎ (IsBefore b j a i ⊎ ((a ≡ b) × (i ≡ j)))
+either_before a i b j = elim (cases_lt a b) [
+  | inl lt ↦ inl (inl lt)
+  | inr ge ↦ elim (cases_lt b a) [
+    | inl lt ↦ inr (inl (inl lt))
+    | inr le ↦
+        let same : a ≡ b = omega (arith, ge, le) in
+        elim (cases_lt i j) [
+          | inl lt ↦ inl (inr (same, lt))
+          | inr more ↦ elim (cases_lt j i) [
+            | inl lt ↦ inr (inl (inr (sym same, lt)))
+            | inr less ↦ inr (inr (same, omega (arith, more, less)))
+          ]
+        ]
+  ]
+]
+
+-- ---- one more part
+
+module _ (f : ℕ → ℕ → ℕ) (n i : ℕ) where
+  more : (s : ℕ) → IsOnce f n i s → IsOnce f n (i + 1) s
+  more s x = record { inode = x.inode; at = x.at; before = before_more x.inode x.at n i x.before; is = x.is; some = x.some }
+
+  more_twice : (s : ℕ) → IsTwice f n i s → IsTwice f n (i + 1) s
+  more_twice s x = record { inode = x.inode; at = x.at; before = before_more x.inode x.at n i x.before; is = x.is; other = x.other }
+
+  -- the last part, or an earlier one
+  last_or : (s : ℕ) → IsOnce f n (i + 1) s → (f n i ≡ s) ⊎ IsOnce f n i s
+  last_or s x = elim (before_or x.inode x.at n i x.before) [
+    | inl e ↦ inl (ap (f n) (sym e.1) ∙ ap (λ k. f k x.at) (sym e.0) ∙ x.is)
+    | inr b ↦ inr (record { inode = x.inode; at = x.at; before = b; is = x.is; some = x.some })
   ]
 
-  last_twice_or : (s : ℕ) → IsTwice f (T + 1) s → ((f T ≡ s) × IsOnce f T s) ⊎ IsTwice f T s
-  last_twice_or s x = elim (cases_lt x.second T) [
-    | inl lt ↦ inr (record { first = x.first; second = x.second; apart = x.apart; below = lt; first_is = x.first_is; second_is = x.second_is; some = x.some })
-    | inr ge ↦
-        let b = x.below in
-        let a = x.apart in
-        let same : T ≡ x.second = omega (arith, ge, b) in
-        inl (ap f same ∙ x.second_is, record { at = x.first; below = omega (arith, a, same); is = x.first_is; some = x.some })
+  last_twice_or : (s : ℕ) → IsTwice f n (i + 1) s → ((f n i ≡ s) × IsOnce f n i s) ⊎ IsTwice f n i s
+  last_twice_or s x = elim (before_or x.inode x.at n i x.before) [
+    | inl e ↦ inl (
+      ap (f n) (sym e.1) ∙ ap (λ k. f k x.at) (sym e.0) ∙ x.is,
+      subst (λ k. IsOnce f k i s) e.0 (subst (λ k. IsOnce f x.inode k s) e.1 x.other),
+    )
+    | inr b ↦ inr (record { inode = x.inode; at = x.at; before = b; is = x.is; other = x.other })
   ]
 
-  -- a number 0 is no sector
-  pub mark_none : (size : ℕ) (owned twice : List Bool) → f T ≡ 0 → IsMarked f T size owned twice → IsMarked f (T + 1) size owned twice
+  -- 0 is no sector
+  pub mark_none : (size : ℕ) (owned twice : List Bool) → f n i ≡ 0 → IsMarked f n i size owned twice → IsMarked f n (i + 1) size owned twice
   mark_none size owned twice none x = record {
     owned_len = x.owned_len;
     twice_len = x.twice_len;
     once = λ s lt. (
       (λ set. more s ((x.once s lt).0 set)),
-      (λ n. elim (last_or s n) [ inl e ↦ absurd (n.some (sym e ∙ none)) | inr old ↦ (x.once s lt).1 old ]),
+      (λ y. elim (last_or s y) [ inl e ↦ absurd (y.some (sym e ∙ none)) | inr old ↦ (x.once s lt).1 old ]),
     );
     again = λ s lt. (
       (λ set. more_twice s ((x.again s lt).0 set)),
-      (λ n. elim (last_twice_or s n) [ inl e ↦ absurd (n.some (sym e.0 ∙ none)) | inr old ↦ (x.again s lt).1 old ]),
+      (λ y. elim (last_twice_or s y) [ inl e ↦ absurd (e.1.some (sym e.0 ∙ none)) | inr old ↦ (x.again s lt).1 old ]),
     );
   }
 
-  owned_then : (size n : ℕ) (owned twice : List Bool) → f T ≡ n → n ≢ 0 → n < size → IsMarked f T size owned twice
-      → (s : ℕ) → s < size → IsTrue (get_or (set owned n true) s false) ↔ IsOnce f (T + 1) s
-  owned_then size n owned twice is some below x s lt =
+  owned_then : (size q : ℕ) (owned twice : List Bool) → f n i ≡ q → q ≢ 0 → q < size → IsMarked f n i size owned twice
+      → (s : ℕ) → s < size → IsTrue (get_or (set owned q true) s false) ↔ IsOnce f n (i + 1) s
+  owned_then size q owned twice is some below x s lt =
       let len = x.owned_len in
-      elim (cases_eq s n) [
+      elim (cases_eq s q) [
         | inl e ↦
-            let here : get_or (set owned n true) s false ≡ true = ap (λ k. get_or (set owned n true) k false) e
-            ∙ get_or-set_same owned n true false (omega (arith, below, len)) in
-            ((λ set. record { at = T; below = omega arith; is = is ∙ sym e; some = λ z. some (sym e ∙ z) }), (λ y. here))
+            let here : get_or (set owned q true) s false ≡ true = ap (λ k. get_or (set owned q true) k false) e
+            ∙ get_or-set_same owned q true false (omega (arith, below, len)) in
+            ((λ set. record { inode = n; at = i; before = inr (refl, omega arith); is = is ∙ sym e; some = λ z. some (sym e ∙ z) }), (λ y. here))
         | inr ne ↦
-            let there : get_or (set owned n true) s false ≡ get_or owned s false = get_or-set_other owned n s true false ne in (
+            let there : get_or (set owned q true) s false ≡ get_or owned s false = get_or-set_other owned q s true false ne in (
               (λ set. more s ((x.once s lt).0 (sym there ∙ set))),
               (λ y. there ∙ elim (last_or s y) [ inl e ↦ absurd (ne (sym e ∙ is)) | inr old ↦ (x.once s lt).1 old ]),
             )
       ]
 
   -- a first owner
-  pub mark_first : (size n : ℕ) (owned twice : List Bool) → f T ≡ n → n ≢ 0 → n < size → get_or owned n false ≡ false → IsMarked f T size owned twice
-      → IsMarked f (T + 1) size (set owned n true) twice
-  mark_first size n owned twice is some below free x = record {
-    owned_len = length-set owned n true ∙ x.owned_len;
+  pub mark_first : (size q : ℕ) (owned twice : List Bool) → f n i ≡ q → q ≢ 0 → q < size → get_or owned q false ≡ false → IsMarked f n i size owned twice
+      → IsMarked f n (i + 1) size (set owned q true) twice
+  mark_first size q owned twice is some below free x = record {
+    owned_len = length-set owned q true ∙ x.owned_len;
     twice_len = x.twice_len;
-    once = owned_then size n owned twice is some below x;
+    once = owned_then size q owned twice is some below x;
     again = λ s lt. (
       (λ set. more_twice s ((x.again s lt).0 set)),
       (λ y. elim (last_twice_or s y) [
         | inl e ↦ absurd (
-            let at : s ≡ n = sym e.0 ∙ is in
+            let at : s ≡ q = sym e.0 ∙ is in
             let set : get_or owned s false ≡ true = (x.once s lt).1 e.1 in
             let c : false ≡ true = sym free ∙ ap (λ k. get_or owned k false) (sym at) ∙ set in cc)
         | inr old ↦ (x.again s lt).1 old
@@ -91,90 +129,108 @@ module _ (f : ℕ → ℕ) (T : ℕ) where
   }
 
   -- a second owner
-  pub mark_second : (size n : ℕ) (owned twice : List Bool) → f T ≡ n → n ≢ 0 → n < size → get_or owned n false ≡ true → IsMarked f T size owned twice
-      → IsMarked f (T + 1) size (set owned n true) (set twice n true)
-  mark_second size n owned twice is some below taken x =
+  pub mark_second : (size q : ℕ) (owned twice : List Bool) → f n i ≡ q → q ≢ 0 → q < size → get_or owned q false ≡ true → IsMarked f n i size owned twice
+      → IsMarked f n (i + 1) size (set owned q true) (set twice q true)
+  mark_second size q owned twice is some below taken x =
       let len = x.twice_len in
-      let old = (x.once n below).0 taken in
+      let old = (x.once q below).0 taken in
       record {
-        owned_len = length-set owned n true ∙ x.owned_len;
-        twice_len = length-set twice n true ∙ x.twice_len;
-        once = owned_then size n owned twice is some below x;
-        again = λ s lt. elim (cases_eq s n) [
+        owned_len = length-set owned q true ∙ x.owned_len;
+        twice_len = length-set twice q true ∙ x.twice_len;
+        once = owned_then size q owned twice is some below x;
+        again = λ s lt. elim (cases_eq s q) [
           | inl e ↦
-              let here : get_or (set twice n true) s false ≡ true = ap (λ k. get_or (set twice n true) k false) e
-              ∙ get_or-set_same twice n true false (omega (arith, below, len)) in (
-                (λ set. let b = old.below in record {
-                  first = old.at;
-                  second = T;
-                  apart = b;
-                  below = omega arith;
-                  first_is = old.is ∙ sym e;
-                  second_is = is ∙ sym e;
-                  some = λ z. some (sym e ∙ z);
+              let here : get_or (set twice q true) s false ≡ true = ap (λ k. get_or (set twice q true) k false) e
+              ∙ get_or-set_same twice q true false (omega (arith, below, len)) in (
+                (λ set. record {
+                  inode = n;
+                  at = i;
+                  before = inr (refl, omega arith);
+                  is = is ∙ sym e;
+                  other = record { inode = old.inode; at = old.at; before = old.before; is = old.is ∙ sym e; some = λ z. some (sym e ∙ z) };
                 }),
                 (λ y. here),
               )
           | inr ne ↦
-              let there : get_or (set twice n true) s false ≡ get_or twice s false = get_or-set_other twice n s true false ne in (
+              let there : get_or (set twice q true) s false ≡ get_or twice s false = get_or-set_other twice q s true false ne in (
                 (λ set. more_twice s ((x.again s lt).0 (sym there ∙ set))),
                 (λ y. there ∙ elim (last_twice_or s y) [ inl e ↦ absurd (ne (sym e.0 ∙ is)) | inr before ↦ (x.again s lt).1 before ]),
               )
         ];
       }
 
--- ---- all numbers
+-- ---- the next inode
+
+module _ (f : ℕ → ℕ → ℕ) (n i : ℕ) (none : (k : ℕ) → i ≤ k → f n k ≡ 0) where
+  back_before : (a b : ℕ) → f a b ≢ 0 → IsBefore a b (n + 1) 0 → IsBefore a b n i
+  back_before a b some x =
+      let less = before_all a b (n + 1) x in
+      elim (cases_lt a n) [
+        | inl lt ↦ inl lt
+        | inr ge ↦
+            let same : a ≡ n = omega (arith, less, ge) in
+            elim (cases_lt b i) [ inl lt ↦ inr (same, lt) | inr past ↦ absurd (some (ap (λ k. f k b) same ∙ none b past)) ]
+      ]
+
+  pub mark_next : (size : ℕ) (owned twice : List Bool) → IsMarked f n i size owned twice → IsMarked f (n + 1) 0 size owned twice
+  mark_next size owned twice x = record {
+    owned_len = x.owned_len;
+    twice_len = x.twice_len;
+    once = λ s lt. (
+      (λ set.
+          let y = (x.once s lt).0 set in
+          record { inode = y.inode; at = y.at; before = before_next y.inode y.at n i y.before; is = y.is; some = y.some }),
+      (λ y.
+          let some : f y.inode y.at ≢ 0 = λ z. y.some (sym y.is ∙ z) in
+          (x.once s lt).1 (record { inode = y.inode; at = y.at; before = back_before y.inode y.at some y.before; is = y.is; some = y.some })),
+    );
+    again = λ s lt. (
+      (λ set.
+          let y = (x.again s lt).0 set in
+          record { inode = y.inode; at = y.at; before = before_next y.inode y.at n i y.before; is = y.is; other = y.other }),
+      (λ y.
+          let some : f y.inode y.at ≢ 0 = λ z. y.other.some (sym y.is ∙ z) in
+          (x.again s lt).1 (record { inode = y.inode; at = y.at; before = back_before y.inode y.at some y.before; is = y.is; other = y.other })),
+    );
+  }
+
+-- ---- all parts
 
 module _ (p : Place) (m : SectorMap) where
-  pub place_of : (j i : ℕ) → i < 143 → owned_number p m (143 * j + i) ≡ part m (inode_at p m j) (part_at i)
-  place_of j i lt =
-      let a : (143 * j + i) / 143 ≡ j = omega (arith, lt) in
-      let b : (143 * j + i) % 143 ≡ i = omega (arith, lt) in
-      ap (λ k. part m (inode_at p m k) (part_at ((143 * j + i) % 143))) a ∙ ap (λ k. part m (inode_at p m j) (part_at k)) b
-
   -- where none stands twice
-  pub once_if : (s : ℕ) → (IsTwice (owned_number p m) (143 * p.inodes) s → ⊥) → IsOwnedOnce p m s
+  pub once_if : (s : ℕ) → (IsTwice (owned_part p m) p.inodes 0 s → ⊥) → IsOwnedOnce p m s
   once_if s none j k jl kl a b =
       let x = counted_part m (inode_at p m j) s a in
       let y = counted_part m (inode_at p m k) s b in
-      let xl = x.1 in
-      let yl = y.1 in
-      elim (cases_lt (143 * j + x.0) (143 * k + y.0)) [
-        | inl lt ↦ absurd (none (record {
-          first = 143 * j + x.0;
-          second = 143 * k + y.0;
-          apart = lt;
-          below = omega (arith, kl, yl);
-          first_is = place_of j x.0 x.1 ∙ x.2;
-          second_is = place_of k y.0 y.1 ∙ y.2;
-          some = a.some;
+      elim (either_before j x.0 k y.0) [
+        | inl first ↦ absurd (none (record {
+          inode = k;
+          at = y.0;
+          before = inl kl;
+          is = y.2;
+          other = record { inode = j; at = x.0; before = first; is = x.2; some = a.some };
         }))
-        | inr ge ↦ elim (cases_lt (143 * k + y.0) (143 * j + x.0)) [
-          | inl lt ↦ absurd (none (record {
-            first = 143 * k + y.0;
-            second = 143 * j + x.0;
-            apart = lt;
-            below = omega (arith, jl, xl);
-            first_is = place_of k y.0 y.1 ∙ y.2;
-            second_is = place_of j x.0 x.1 ∙ x.2;
-            some = a.some;
+        | inr o ↦ elim o [
+          | inl second ↦ absurd (none (record {
+            inode = j;
+            at = x.0;
+            before = inl jl;
+            is = x.2;
+            other = record { inode = k; at = y.0; before = second; is = y.2; some = a.some };
           }))
-          | inr le ↦
-              let same : x.0 ≡ y.0 = omega (arith, ge, le, xl, yl) in
-              (omega (arith, ge, le, xl, yl), x.3 ∙ ap part_at same ∙ sym y.3)
+          | inr same ↦ (same.0, x.3 ∙ ap part_at same.1 ∙ sym y.3)
         ]
       ]
 
   -- where one stands twice
-  pub not_once : (s : ℕ) → IsTwice (owned_number p m) (143 * p.inodes) s → IsOwnedOnce p m s → ⊥
+  pub not_once : (s : ℕ) → IsTwice (owned_part p m) p.inodes 0 s → IsOwnedOnce p m s → ⊥
   not_once s x once =
-      let b = x.below in
-      let a = x.apart in
-      let both = once (x.first / 143) (x.second / 143) (omega (arith, a, b)) (omega (arith, b))
-      (record { at = part_at (x.first % 143); is = x.first_is; some = x.some }) (record { at = part_at (x.second % 143); is = x.second_is; some = x.some }) in
-      let low = part_at-injective (x.first % 143) (x.second % 143) both.1 in
-      let high = both.0 in
-      omega (arith, a, low, high)
+      let y = x.other in
+      let below = before_all x.inode x.at p.inodes x.before in
+      let lower : y.inode < p.inodes = elim y.before [ inl lt ↦ omega (arith, lt, below) | inr e ↦ let same = e.0 in omega (arith, same, below) ] in
+      let both = once y.inode x.inode lower below
+      (record { at = part_at y.at; is = y.is; some = y.some }) (record { at = part_at x.at; is = x.is; some = y.some }) in
+      not_itself y.inode x.inode y.at x.at both.0 (part_at-injective y.at x.at both.1) y.before
 
 -- the sector of pointers is one of the disk, or there is none
 pub indirect_on_disk : (size : ℕ) (image : SectorMap) (p : Place) (m : SectorMap) (v : Inode) → IsPlaceOf size image p → ((s : ℕ) → Owns m v s → IsData p s)
@@ -185,19 +241,19 @@ indirect_on_disk size image p m v at in_data = elim (cases_eq v.indirect 0) [
 ]
 
 -- maps that say nothing yet
-pub none_marked : (f : ℕ → ℕ) (size : ℕ) (owned twice : List Bool) → length owned ≡ size → length twice ≡ size
-    → ((s : ℕ) → get_or owned s false ≡ false) → ((s : ℕ) → get_or twice s false ≡ false) → IsMarked f 0 size owned twice
+pub none_marked : (f : ℕ → ℕ → ℕ) (size : ℕ) (owned twice : List Bool) → length owned ≡ size → length twice ≡ size
+    → ((s : ℕ) → get_or owned s false ≡ false) → ((s : ℕ) → get_or twice s false ≡ false) → IsMarked f 0 0 size owned twice
 none_marked f size owned twice a b c d = record {
   owned_len = a;
   twice_len = b;
-  once = λ s lt. ((λ set. absurd (let e : false ≡ true = sym (c s) ∙ set in cc)), (λ x. absurd (let l = x.below in omega (arith, l))));
-  again = λ s lt. ((λ set. absurd (let e : false ≡ true = sym (d s) ∙ set in cc)), (λ x. absurd (let l = x.below in let k = x.apart in omega (arith, l, k))));
+  once = λ s lt. ((λ set. absurd (let e : false ≡ true = sym (c s) ∙ set in cc)), (λ x. absurd (let l = before_all x.inode x.at 0 x.before in omega (arith, l))));
+  again = λ s lt. ((λ set. absurd (let e : false ≡ true = sym (d s) ∙ set in cc)), (λ x. absurd (let l = before_all x.inode x.at 0 x.before in omega (arith, l))));
 }
 
 -- ---- what the maps say
 
-module _ (p : Place) (m : SectorMap) (owned twice : List Bool) (x : IsMarked (owned_number p m) (143 * p.inodes) p.sectors owned twice) where
-  set_not : (s : ℕ) → s < p.sectors → get_or twice s false ≡ false → IsTwice (owned_number p m) (143 * p.inodes) s → ⊥
+module _ (p : Place) (m : SectorMap) (owned twice : List Bool) (x : IsMarked (owned_part p m) p.inodes 0 p.sectors owned twice) where
+  set_not : (s : ℕ) → s < p.sectors → get_or twice s false ≡ false → IsTwice (owned_part p m) p.inodes 0 s → ⊥
   set_not s lt clear y = let c : false ≡ true = sym clear ∙ (x.again s lt).1 y in absurd cc
 
   least_twice : (seen : List Bool) (s : ℕ) → seen ≡ twice → s < length seen → get_or seen s false ≡ true → ((k : ℕ) → k < s → get_or seen k false ≡ false)
@@ -235,13 +291,10 @@ module _ (p : Place) (m : SectorMap) (owned twice : List Bool) (x : IsMarked (ow
     each = λ s lt. (
       (λ set.
           let y = (x.once s lt).0 (ap (λ l. get_or l s false) (sym same) ∙ set) in
-          let below = y.below in
-          record { by = y.at / 143; below = omega (arith, below); is = record { at = part_at (y.at % 143); is = y.is; some = y.some } }),
+          record { by = y.inode; below = before_all y.inode y.at p.inodes y.before; is = record { at = part_at y.at; is = y.is; some = y.some } }),
       (λ o.
           let y = counted_part m (inode_at p m o.by) s o.is in
-          let low = o.below in
-          let part_low = y.1 in
           ap (λ l. get_or l s false) same
-          ∙ (x.once s lt).1 (record { at = 143 * o.by + y.0; below = omega (arith, low, part_low); is = place_of p m o.by y.0 y.1 ∙ y.2; some = o.is.some })),
+          ∙ (x.once s lt).1 (record { inode = o.by; at = y.0; before = inl o.below; is = y.2; some = o.is.some })),
     );
   }

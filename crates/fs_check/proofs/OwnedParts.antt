@@ -1,12 +1,14 @@
 -- The parts of an inode, counted.
-use Rattle.std.specs.Prelude.{◌≡◌, ◌≢◌, ℕ, zero, suc, ◌+◌, ◌-◌, ◌*◌, ◌<◌, ◌≤◌, nat_lt, Bool, true, false, cond, List, get_or, IsTrue, ◌↔◌}
+use Rattle.std.specs.Prelude.{◌≡◌, ◌≢◌, ℕ, zero, suc, ◌+◌, ◌-◌, ◌<◌, ◌≤◌, Bool, true, false, IsTrue, ◌↔◌}
 use Rattle.std.proofs.Common.{refl, sym, ap, arith, ◌∙◌, subst, inl, inr}
 use Rattle.std.proofs.lemmas.Bool.{cases_lt, ne_eqb}
-use Rattle.std.proofs.lemmas.Bool.Decides.{nat_tests}
+use Rattle.fs_layout.specs.declared.inode.TheConstants.{MAX_BLOCKS}
 use Rattle.fs_layout.specs.declared.inode.Inode.{Inode}
 use Rattle.fs_layout.specs.declared.place.Place.{Place}
-use Rattle.fs_layout.specs.Bytes.{SectorMap, u32_of}
-use Rattle.fs_layout.specs.Images.{Part, AccessAcl, DefaultAcl, Indirect, DoubleIndirect, Block, part, pointer, pointer_in, Owns, IsData}
+use Rattle.fs_layout.specs.Bytes.{SectorMap}
+use Rattle.fs_layout.specs.Images.{Part, AccessAcl, DefaultAcl, Indirect, DoubleIndirect, Block, part, pointer, Owns, IsData}
+use Rattle.fs_layout.proofs.Pointers.{pointer_past}
+use Rattle.fs_check.specs.declared.owning.TheConstants.{PARTS}
 use Rattle.fs_check.specs.Owning.{part_at}
 
 pub at_block : (i : ℕ) → i ≢ 0 → i ≢ 1 → i ≢ 2 → part_at i ≡ Block (i - 3)
@@ -29,46 +31,23 @@ module _ (m : SectorMap) (v : Inode) where
   unfolding part
   block_pointer i a b c = ap (part m v) (at_block i a b c)
 
-  pub part_direct : (i : ℕ) → i ≢ 0 → i ≢ 1 → i ≢ 2 → i < 15 → get_or v.direct (i - 3) 0 ≡ part m v (part_at i)
-  unfolding pointer
-  part_direct i a b c lt =
-      let low : nat_lt (i - 3) 12 ≡ true = (let less : i - 3 < 12 = omega (arith, lt) in grind (arith, nat_tests)) in
-      let whole : pointer m v (i - 3) ≡ get_or v.direct (i - 3) 0 =
-      ap (λ t. cond t (get_or v.direct (i - 3) 0) (cond (nat_lt (i - 3) 140) (pointer_in m v.indirect (i - 3 - 12)) 0)) low in
-      sym (block_pointer i a b c ∙ whole)
-
-  pub part_entry : (i : ℕ) → i ≢ 0 → i ≢ 1 → i ≢ 2 → 15 ≤ i → i < 143 → pointer_in m v.indirect (i - 15) ≡ part m v (part_at i)
-  unfolding pointer
-  part_entry i a b c ge lt =
-      let high : nat_lt (i - 3) 12 ≡ false = (let more : 12 ≤ i - 3 = omega (arith, ge) in grind (arith, nat_tests)) in
-      let below : nat_lt (i - 3) 140 ≡ true = (let less : i - 3 < 140 = omega (arith, lt, ge) in grind (arith, nat_tests)) in
-      let whole : pointer m v (i - 3) ≡ pointer_in m v.indirect (i - 3 - 12) =
-      ap (λ t. cond t (get_or v.direct (i - 3) 0) (cond (nat_lt (i - 3) 140) (pointer_in m v.indirect (i - 3 - 12)) 0)) high
-      ∙ ap (λ t. cond t (pointer_in m v.indirect (i - 3 - 12)) 0) below in
-      let same : i - 3 - 12 ≡ i - 15 = omega (arith, ge) in
-      sym (block_pointer i a b c ∙ whole ∙ ap (pointer_in m v.indirect) same)
-
-  pub no_entry : (k : ℕ) → v.indirect ≡ 0 → 0 ≡ pointer_in m v.indirect k
-  no_entry k e = sym (ap (λ s. pointer_in m s k) e)
-
-  pub some_entry : (k : ℕ) (content : List ℕ) → v.indirect ≢ 0 → m v.indirect ≡ content → u32_of content (4 * k) ≡ pointer_in m v.indirect k
-  some_entry k content some is = go v.indirect refl
-    where
-      go : (s : ℕ) → v.indirect ≡ s → u32_of content (4 * k) ≡ pointer_in m v.indirect k
-      go zero e = absurd (some e)
-      go (suc s) e = ap (λ (r : List ℕ). u32_of r (4 * k)) (sym is ∙ ap m e) ∙ sym (ap (λ q. pointer_in m q k) e)
+  -- past the blocks there is nothing
+  pub part_past : (i : ℕ) → PARTS ≤ i → part m v (part_at i) ≡ 0
+  part_past i past =
+      block_pointer i (λ z. omega (arith, z, past)) (λ z. omega (arith, z, past)) (λ z. omega (arith, z, past))
+      ∙ pointer_past m v (i - 3) (omega (arith, past))
 
   -- what is owned is one of these parts
-  pub counted_part : (s : ℕ) → (o : Owns m v s) → (i : ℕ) × (i < 143) × (part m v (part_at i) ≡ s) × (o.at ≡ part_at i)
-  unfolding part pointer
+  pub counted_part : (s : ℕ) → (o : Owns m v s) → (i : ℕ) × (i < PARTS) × (part m v (part_at i) ≡ s) × (o.at ≡ part_at i)
+  unfolding part
   counted_part s o = go o.at o.is o.some
     where
-      go : (a : Part) → part m v a ≡ s → s ≢ 0 → (i : ℕ) × (i < 143) × (part m v (part_at i) ≡ s) × (a ≡ part_at i)
+      go : (a : Part) → part m v a ≡ s → s ≢ 0 → (i : ℕ) × (i < PARTS) × (part m v (part_at i) ≡ s) × (a ≡ part_at i)
       go AccessAcl e some = (0, omega arith, e, refl)
       go DefaultAcl e some = (1, omega arith, e, refl)
       go Indirect e some = (2, omega arith, e, refl)
       go DoubleIndirect e some = absurd (some (sym e))
-      go (Block k) e some = elim (cases_lt k 140) [
+      go (Block k) e some = elim (cases_lt k MAX_BLOCKS) [
         | inl lt ↦
             let same : k + 3 - 3 ≡ k = omega arith in (
               k + 3,
@@ -76,12 +55,7 @@ module _ (m : SectorMap) (v : Inode) where
               block_pointer (k + 3) (λ z. omega (arith, z)) (λ z. omega (arith, z)) (λ z. omega (arith, z)) ∙ ap (pointer m v) same ∙ e,
               sym (at_block (k + 3) (λ z. omega (arith, z)) (λ z. omega (arith, z)) (λ z. omega (arith, z)) ∙ ap Block same),
             )
-        | inr ge ↦
-            let first : nat_lt k 12 ≡ false = grind (arith, nat_tests) in
-            let second : nat_lt k 140 ≡ false = grind (arith, nat_tests) in
-            let none : pointer m v k ≡ 0 = ap (λ t. cond t (get_or v.direct k 0) (cond (nat_lt k 140) (pointer_in m v.indirect (k - 12)) 0)) first
-            ∙ ap (λ t. cond t (pointer_in m v.indirect (k - 12)) 0) second in
-            absurd (some (sym e ∙ none))
+        | inr ge ↦ absurd (some (sym e ∙ pointer_past m v k ge))
       ]
 
 -- the parts are told apart
@@ -115,7 +89,7 @@ not_all p m v i s r e some bad test = (
       let c : false ≡ true = sym bad ∙ test.1 in_data in cc)),
 )
 
-pub all_of : (p : Place) (m : SectorMap) (v : Inode) → ((j : ℕ) → j < 143 → part m v (part_at j) ≢ 0 → IsData p (part m v (part_at j)))
+pub all_of : (p : Place) (m : SectorMap) (v : Inode) → ((j : ℕ) → j < PARTS → part m v (part_at j) ≢ 0 → IsData p (part m v (part_at j)))
     → IsTrue true ↔ ((q : ℕ) → Owns m v q → IsData p q)
 all_of p m v each = (
   (λ t q o.

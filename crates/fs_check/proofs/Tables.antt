@@ -4,6 +4,7 @@ use Rattle.std.specs.Prelude.{◌∷◌, Option, Some, None, Ok, IfSome, IfNone,
 use Rattle.std.proofs.Common.{sym, ap, arith, ◌∙◌, subst, inl, inr}
 use Rattle.std.proofs.lemmas.Bool.{cases_lt}
 use Rattle.std.proofs.lemmas.List.{get_or_append_left, get_or-append_right}
+use Rattle.fs_layout.specs.declared.inode.TheConstants.{INODE_SIZE}
 use Rattle.fs_layout.specs.declared.inode.Inode.{Inode}
 use Rattle.fs_layout.specs.declared.inode.Kind.TheVariants.{Free, Directory}
 use Rattle.fs_layout.specs.declared.place.Place.{Place}
@@ -22,7 +23,7 @@ pub record HasSector (size : ℕ) (p : Place) (n : ℕ) : Type 0 where
 
 pub table_place : (size : ℕ) (image : SectorMap) (p : Place) (n : ℕ) → IsPlaceOf size image p → n < p.inodes → HasSector size p n
 table_place size image p n x lt =
-    let place = place_is_place size x.super.inodes x.has_place in
+    let place = place_is_place _ size x.super.inodes x.has_place in
     let same = place_size size image p x in
     let slots = place.slots in
     let room = place.data_sectors in
@@ -34,13 +35,13 @@ at_is : (p : Place) (m : SectorMap) (n : ℕ) (v : Inode) → inode_of (stored p
 unfolding inode_at
 at_is p m n v e = ap inode_or_free e
 
-there : (p : Place) (m : SectorMap) (n : ℕ) (content : List ℕ) → content ≡ m (p.table + n / 4) → window content (128 * (n % 4)) 128 ≡ stored p m n
+there : (p : Place) (m : SectorMap) (n : ℕ) (content : List ℕ) → content ≡ m (p.table + n / 4) → window content (INODE_SIZE * (n % 4)) INODE_SIZE ≡ stored p m n
 unfolding stored
-there p m n content e = ap (λ (s : List ℕ). window s (128 * (n % 4)) 128) e
+there p m n content e = ap (λ (s : List ℕ). window s (INODE_SIZE * (n % 4)) INODE_SIZE) e
 
 pub good_is : (p : Place) (m : SectorMap) (n : ℕ) (content : List ℕ) (o : Option Inode) → content ≡ m (p.table + n / 4)
-    → IfSome o (λ v. inode_of (window content (128 * (n % 4)) 128) ≡ Ok v) → IfSome o (λ v. n ≡ 0 → v.kind ≡ Free) → IfSome o (λ v. n ≡ 1 → v.kind ≡ Directory)
-    → IfNone o ((v : Inode) → inode_of (window content (128 * (n % 4)) 128) ≡ Ok v → (n ≡ 0 → v.kind ≡ Free) → (n ≡ 1 → v.kind ≡ Directory) → ⊥)
+    → IfSome o (λ v. inode_of (window content (INODE_SIZE * (n % 4)) INODE_SIZE) ≡ Ok v) → IfSome o (λ v. n ≡ 0 → v.kind ≡ Free) → IfSome o (λ v. n ≡ 1 → v.kind ≡ Directory)
+    → IfNone o ((v : Inode) → inode_of (window content (INODE_SIZE * (n % 4)) INODE_SIZE) ≡ Ok v → (n ≡ 0 → v.kind ≡ Free) → (n ≡ 1 → v.kind ≡ Directory) → ⊥)
     → MatchOption o (IsGoodInode p m n → ⊥) (λ v. IsGoodInode p m n × (v ≡ inode_at p m n))
 good_is p m n content (Some v) e is free top none =
     let read : inode_of (stored p m n) ≡ Ok v = ap inode_of (sym (there p m n content e)) ∙ is in

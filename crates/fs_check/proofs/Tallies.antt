@@ -7,6 +7,8 @@ use Rattle.std.proofs.Common.{refl, sym, ap, arith, ◌∙◌, subst, inl, inr, 
 use Rattle.std.proofs.lemmas.Bool.{cases_eq, eq-eqb, ne_eqb}
 use Rattle.std.proofs.lemmas.List.FromFn.{fill_by_all, length-range_with_len}
 use Rattle.std.proofs.lemmas.List.Sums.{sum_by-cons, sum_by_more, count_by-le-length}
+use Rattle.fs_layout.specs.declared.inode.TheConstants.{MAX_DIRECTORY_SIZE}
+use Rattle.fs_layout.specs.declared.slot.TheConstants.{MAX_NAMES}
 use Rattle.fs_layout.specs.declared.fault.LayoutFault.TheVariants.{BadNumber, NotZero}
 use Rattle.fs_layout.specs.declared.inode.Inode.{Inode}
 use Rattle.fs_layout.specs.declared.inode.Kind.{Kind}
@@ -96,7 +98,7 @@ read_fits : (s : List ℕ) (v : Inode) → inode_of s ≡ Ok v → IsTrue (inode
 unfolding inode_of
 read_fits s v e = fits_if (kind_of (u16_of s 0)) s v e
 
-pub directory_size : (p : Place) (m : SectorMap) (n : ℕ) → IsGoodInode p m n → (inode_at p m n).kind ≡ kinds.Directory → (inode_at p m n).size ≤ 71680
+pub directory_size : (p : Place) (m : SectorMap) (n : ℕ) → IsGoodInode p m n → (inode_at p m n).kind ≡ kinds.Directory → (inode_at p m n).size ≤ MAX_DIRECTORY_SIZE
 directory_size p m n good is = (directory_fits (inode_at p m n) is (read_fits (stored p m n) (inode_at p m n) good.is)).1
 
 -- ---- the names in a directory
@@ -120,10 +122,10 @@ other_kind kinds.Link ne = refl
 no_namings : (m : SectorMap) (v : Inode) (n : ℕ) → v.kind ≢ kinds.Directory → namings_in m v n ≡ 0
 no_namings m v n ne = ap (λ b. cond b (count_by (λ k. (slot_at m v k).inode == n) (range_with_len 0 (slot_count v))) 0) (other_kind v.kind ne)
 
-few_namings : (m : SectorMap) (v : Inode) (n : ℕ) → (v.kind ≡ kinds.Directory → v.size ≤ 71680) → namings_in m v n ≤ 560
+few_namings : (m : SectorMap) (v : Inode) (n : ℕ) → (v.kind ≡ kinds.Directory → v.size ≤ MAX_DIRECTORY_SIZE) → namings_in m v n ≤ MAX_NAMES
 few_namings m v n small = go v.kind refl
   where
-    go : (k : Kind) → v.kind ≡ k → namings_in m v n ≤ 560
+    go : (k : Kind) → v.kind ≡ k → namings_in m v n ≤ MAX_NAMES
     go kinds.Free e = let z = no_namings m v n (λ d. absurd (let c : kinds.Free ≡ kinds.Directory = sym e ∙ d in cc)) in omega (arith, z)
     go kinds.File e = let z = no_namings m v n (λ d. absurd (let c : kinds.File ≡ kinds.Directory = sym e ∙ d in cc)) in omega (arith, z)
     go kinds.Link e = let z = no_namings m v n (λ d. absurd (let c : kinds.Link ≡ kinds.Directory = sym e ∙ d in cc)) in omega (arith, z)
@@ -205,12 +207,12 @@ module _ (p : Place) (m : SectorMap) where
 
   -- there is room for one directory more in each count
   pub has_room : (d : ℕ) (slots : List NamedInode) (c0 d0 : List ℕ) → d < 262144
-      → ((k : ℕ) → k < d → (inode_at p m k).kind ≡ kinds.Directory → (inode_at p m k).size ≤ 71680)
-      → length slots ≤ 560 → IsTally p m d c0 d0 → (n : ℕ) → n < length c0 → get_or c0 n 0 + length slots < 2 ^ 32
+      → ((k : ℕ) → k < d → (inode_at p m k).kind ≡ kinds.Directory → (inode_at p m k).size ≤ MAX_DIRECTORY_SIZE)
+      → length slots ≤ MAX_NAMES → IsTally p m d c0 d0 → (n : ℕ) → n < length c0 → get_or c0 n 0 + length slots < 2 ^ 32
   has_room d slots c0 d0 low small few t n lt =
       let width = t.counts_len in
       let sum = t.counted n (omega (arith, lt, width)) in
-      let bound = sum_below (λ d. namings_in m (inode_at p m d) n) 560 d (λ k less. few_namings m (inode_at p m k) n (small k less)) in
+      let bound = sum_below (λ d. namings_in m (inode_at p m d) n) MAX_NAMES d (λ k less. few_namings m (inode_at p m k) n (small k less)) in
       omega (arith, low, few, sum, bound)
 
   pub no_tally : (c0 d0 : List ℕ) → length c0 ≡ p.inodes → length d0 ≡ p.inodes → ((n : ℕ) → n < p.inodes → get_or c0 n 0 ≡ 0) → IsTally p m 0 c0 d0

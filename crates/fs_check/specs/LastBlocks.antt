@@ -3,6 +3,7 @@
 --     FitsPointer, FitPointers        one pointer goes with the size; all do
 --     FitsLast        the content of the last block goes with the size
 use Rattle.std.specs.Prelude.{◌≡◌, ◌≢◌, ℕ, ◌+◌, ◌-◌, ◌*◌, ◌/◌, ◌%◌, ◌<◌, ◌≤◌, List, get_or}
+use Rattle.fs_layout.specs.declared.inode.TheConstants.{DIRECT_SIZE}
 use Rattle.fs_layout.specs.declared.inode.Kind.TheVariants as kinds
 use Rattle.fs_layout.specs.declared.inode.Inode.{Inode}
 use Rattle.fs_layout.specs.Bytes.{SectorMap}
@@ -23,7 +24,7 @@ pub record FitsPointer (v : Inode) (k s : ℕ) : Type 0 where
 -- so each block, and no sector of pointers that serves none
 pub record FitPointers (m : SectorMap) (v : Inode) : Type 0 where
   pub trim : (k : ℕ) → v.size ≤ 512 * k → pointer m v k ≡ 0
-  pub trim_pointers : v.size ≤ 6144 → v.indirect ≡ 0
+  pub trim_pointers : v.size ≤ DIRECT_SIZE → v.indirect ≡ 0
   pub whole : v.kind ≢ kinds.File → HasNoHole m v
 
 -- past the size zeros, and of a link's target no zero

@@ -12,7 +12,7 @@ use crate::faults::{CheckFault, Finding};
 use crate::inodes::read_table;
 use crate::reading::read_recovered;
 use byteorder::{ByteOrder, LittleEndian};
-use fs_layout::{BLOCK_BITMAP, Commit, INODE_BITMAP, Place, SECTOR_BITS};
+use fs_layout::{BLOCK_BITMAP, Commit, INODE_BITMAP, INODE_SIZE, Place, SECTOR_BITS};
 use sector_disk::Disk;
 
 const INODE_BITS: u8 = 3;
@@ -29,7 +29,7 @@ fn has_bit(map: &[u8; 512], n: u32) -> bool
 
 // The kind field of an inode, whose bytes begin here.
 fn kind_field(table: &[u8; 512], at: usize) -> u16
-    requires { at + 128 ≤ 512 }
+    requires { at + INODE_SIZE ≤ 512 }
     ensures { result ≡ u16_of table.now at }
 {
     LittleEndian::read_u16(&table[at..])

@@ -3,81 +3,55 @@
 ghost use Rattle.std.specs.Prelude.{◌≡◌, ◌≢◌, ◌≤◌, ◌<◌, ◌+◌, ◌*◌, ℕ, length, get_or, OnOk, IfOk, IsTrue, ◌↔◌};
 ghost use Rattle.fs_layout.specs.declared.inode.Kind.TheVariants.{Link as ALink};
 ghost use Rattle.fs_layout.specs.Bytes.{SectorMap};
-ghost use Rattle.fs_layout.specs.Images.{pointer, Owns, IsData};
+ghost use Rattle.fs_layout.specs.declared.inode.TheConstants.{MAX_BLOCKS, MAX_LINK_SIZE};
+ghost use Rattle.fs_layout.specs.Images.{pointer, HasPointers, Owns, IsData};
 ghost use Rattle.fs_model.specs.Rules.{ObeysEach, ObeysBefore, LaidOut, IsLaidOut};
 ghost use Rattle.fs_check.specs.LastBlocks.{last_block, FitsPointer, FitPointers, FitsLast};
-ghost use Rattle.fs_check.specs.Owning.{IsPointers};
 ghost use Rattle.fs_check.specs.Checks.{meaning, IsOpened, AreInodes, Passed, IsNone, IsLeast};
 
 use crate::faults::{CheckFault, Finding};
-use crate::owning::{part_number, read_pointers};
+use crate::owning::read_pointers;
 use crate::reading::read_recovered;
-use fs_layout::{Commit, Inode, Kind, Place};
+use fs_layout::{Commit, DIRECT_SIZE, Inode, Kind, Place};
 use sector_disk::Disk;
 
 const LAID_OUT: u8 = 8;
 
-// The part that block 0 is.
-const FIRST_BLOCK: usize = 3;
-
-// The bytes of the blocks whose numbers stand in the inode.
-const DIRECT_BYTES: u64 = 12 * 512;
-
-// From this block on there is none.
-fn block_end(inode: &Inode) -> usize
-    ensures end { result ≤ 140 }
-    ensures none { (m : SectorMap) (k : ℕ) → result ≤ k → pointer m inode.now k ≡ 0 }
-{
-    if inode.indirect == 0 { 12 } else { 140 }
-}
-
 // The number s of block k goes with the size.
-fn fits_pointer(inode: &Inode, k: usize, s: u32) -> bool
-    requires { k < 140 }
+fn fits_pointer(inode: &Inode, k: u64, s: u32) -> bool
+    requires { k < MAX_BLOCKS }
     ensures { IsTrue result ↔ FitsPointer inode.now k s }
 {
-    if inode.size <= 512 * k as u64 {
+    if inode.size <= 512 * k {
         return s == 0;
     }
     s != 0 || inode.kind == Kind::File
 }
 
-// The sector of block k, or 0; `content` is that of the inode's sector of pointers, if it has one.
-fn block_number(inode: &Inode, content: &[u8; 512], k: usize) -> u32
-    requires { k < 140 }
-    ensures { (m : SectorMap) → IsPointers m inode.now content.now → result ≡ pointer m inode.now k }
-{
-    part_number(inode, content, k + FIRST_BLOCK)
-}
-
-// The pointers go with the size; `content` is that of the inode's sector of pointers, if it has one.
+// The pointers go with the size; `content` is that of the inode's sector of pointers, zeros if it has none.
 fn fit_pointers(inode: &Inode, content: &[u8; 512]) -> bool
-    ensures { (m : SectorMap) → IsPointers m inode.now content.now → IsTrue result ↔ FitPointers m inode.now }
+    ensures { (m : SectorMap) → HasPointers m inode.now content.now → IsTrue result ↔ FitPointers m inode.now }
 {
-    let end = block_end(inode);
-    if inode.indirect != 0 && inode.size <= DIRECT_BYTES {
+    let end = inode.block_end();
+    if inode.indirect != 0 && inode.size <= DIRECT_SIZE {
         return false;
     }
-    if inode.kind != Kind::File && 512 * (end as u64) < inode.size {
+    if inode.kind != Kind::File && 512 * end < inode.size {
         return false;
     }
     for k in 0..end {
-        if !fits_pointer(inode, k, block_number(inode, content, k)) {
+        if !fits_pointer(inode, k, inode.block_number(content, k)) {
             return false;
         }
     }
     true
 }
 
-// The sector of the last block, or 0; `content` is that of the inode's sector of pointers, if it has one.
+// The sector of the last block, or 0; `content` is that of the inode's sector of pointers, zeros if it has none.
 fn last_sector(inode: &Inode, content: &[u8; 512]) -> u32
-    ensures { (m : SectorMap) → IsPointers m inode.now content.now → result ≡ pointer m inode.now (last_block inode.now) }
+    ensures { (m : SectorMap) → HasPointers m inode.now content.now → result ≡ pointer m inode.now (last_block inode.now) }
 {
-    let k = (inode.size.saturating_sub(1) / 512) as usize;
-    if block_end(inode) <= k {
-        return 0;
-    }
-    block_number(inode, content, k)
+    inode.block_number(content, inode.size.saturating_sub(1) / 512)
 }
 
 fn are_zero(bytes: &[u8]) -> bool
@@ -112,7 +86,7 @@ fn is_laid_out<D: Disk>(
 ) -> Result<bool, CheckFault>
     requires opened { IsOpened (D.state disk.old) place commit.now }
     requires in_data { (s : ℕ) → Owns (meaning (D.state disk.old)) inode.now s → IsData place s }
-    requires short { inode.now.kind ≡ ALink → inode.now.size ≤ 512 }
+    requires short { inode.now.kind ≡ ALink → inode.now.size ≤ MAX_LINK_SIZE }
     ensures test { IfOk result (λ b. IsTrue b ↔ IsLaidOut (meaning (D.state disk.old)) inode.now) }
     ensures passed { Passed IsNone (D.state disk.old) (D.state disk.new) result }
 {

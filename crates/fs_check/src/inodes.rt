@@ -11,7 +11,7 @@ ghost use Rattle.fs_check.specs.TableSectors.{IsTableSector};
 
 use crate::faults::{CheckFault, Finding};
 use crate::reading::read_recovered;
-use fs_layout::{Commit, Inode, Kind, Place};
+use fs_layout::{Commit, INODE_SIZE, Inode, Kind, Place};
 use sector_disk::Disk;
 use std::alloc::Global;
 
@@ -19,13 +19,13 @@ const INODES: u8 = 4;
 
 // Inode n of its table sector, where it is a good one.
 fn good_inode(content: &[u8; 512], n: u32) -> Option<Inode>
-    ensures is { IfSome result (λ v. inode_of (window content.now (128 * (n % 4)) 128) ≡ Ok v) }
+    ensures is { IfSome result (λ v. inode_of (window content.now (INODE_SIZE * (n % 4)) INODE_SIZE) ≡ Ok v) }
     ensures free { IfSome result (λ v. n ≡ 0 → v.kind ≡ Free) }
     ensures top { IfSome result (λ v. n ≡ 1 → v.kind ≡ Directory) }
-    ensures none { IfNone result ((v : AnInode) → inode_of (window content.now (128 * (n % 4)) 128) ≡ Ok v
+    ensures none { IfNone result ((v : AnInode) → inode_of (window content.now (INODE_SIZE * (n % 4)) INODE_SIZE) ≡ Ok v
         → (n ≡ 0 → v.kind ≡ Free) → (n ≡ 1 → v.kind ≡ Directory) → ⊥) }
 {
-    let Ok(inode) = Inode::read_from(content, 128 * (n as usize % 4)) else {
+    let Ok(inode) = Inode::read_from(content, INODE_SIZE * (n as usize % 4)) else {
         return None;
     };
     if n == 0 && inode.kind != Kind::Free {

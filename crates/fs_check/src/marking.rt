@@ -2,9 +2,9 @@
 
 ghost use Rattle.std.specs.Prelude.{◌≡◌, ◌≢◌, ◌<◌, ◌+◌, ◌*◌, ◌^◌, ℕ, true, false, length, get_or, OnOk, IfOk, IfSome, IfNone, MatchOption};
 ghost use Rattle.fs_layout.specs.Bytes.{SectorMap};
-ghost use Rattle.fs_layout.specs.Images.{part};
+ghost use Rattle.fs_layout.specs.Images.{HasPointers, part};
 ghost use Rattle.fs_model.specs.Rules.{ObeysEach, IsLeastFailure, InData, OwnedOnce};
-ghost use Rattle.fs_check.specs.Owning.{part_at, owned_number, IsPointers, OwnsData, IsMarked};
+ghost use Rattle.fs_check.specs.Owning.{part_at, owned_part, OwnsData, IsMarked};
 ghost use Rattle.fs_check.specs.Checks.{meaning, IsOpened, AreInodes, IsOwnerMap, Passed, IsLeast};
 
 use crate::faults::{CheckFault, Finding};
@@ -28,8 +28,8 @@ pub(crate) struct Owners {
 fn mark(owned: &mut [bool], twice: &mut [bool], s: u32)
     requires owned { s ≢ 0 → s < length owned.old }
     requires twice { s ≢ 0 → s < length twice.old }
-    ensures marked { (f : ℕ → ℕ) (t size : ℕ) → f t ≡ s → IsMarked f t size owned.old twice.old
-        → IsMarked f (t + 1) size owned.new twice.new }
+    ensures marked { (f : ℕ → ℕ → ℕ) (n i size : ℕ) → f n i ≡ s → IsMarked f n i size owned.old twice.old
+        → IsMarked f n (i + 1) size owned.new twice.new }
     ensures owned_len { length owned.new ≡ length owned.old }
     ensures twice_len { length twice.new ≡ length twice.old }
 {
@@ -52,10 +52,10 @@ fn mark_inode(
 )
     requires owned { length owned.old ≡ place.sectors }
     requires twice { length twice.old ≡ place.sectors }
-    requires in_data { (m : SectorMap) × IsPointers m inode.now content.now × OwnsData place m inode.now }
-    ensures marked { (m : SectorMap) (f : ℕ → ℕ) (t : ℕ) → IsPointers m inode.now content.now
-        → ((i : ℕ) → i < 143 → f (t + i) ≡ part m inode.now (part_at i))
-        → IsMarked f t place.sectors owned.old twice.old → IsMarked f (t + 143) place.sectors owned.new twice.new }
+    requires in_data { (m : SectorMap) × HasPointers m inode.now content.now × OwnsData place m inode.now }
+    ensures marked { (m : SectorMap) (f : ℕ → ℕ → ℕ) (n : ℕ) → HasPointers m inode.now content.now
+        → ((i : ℕ) → f n i ≡ part m inode.now (part_at i))
+        → IsMarked f n 0 place.sectors owned.old twice.old → IsMarked f (n + 1) 0 place.sectors owned.new twice.new }
     ensures owned_len { length owned.new ≡ place.sectors }
     ensures twice_len { length twice.new ≡ place.sectors }
 {
@@ -91,10 +91,10 @@ fn mark_all<D: Disk>(
 ) -> Result<(), CheckFault>
     requires opened { IsOpened (D.state disk.old) place commit.now }
     requires table { AreInodes place (meaning (D.state disk.old)) inodes.now }
-    requires none { IsMarked (owned_number place (meaning (D.state disk.old))) 0 place.sectors owned.old twice.old }
+    requires none { IsMarked (owned_part place (meaning (D.state disk.old))) 0 0 place.sectors owned.old twice.old }
     ensures each { OnOk result (ObeysEach place (meaning (D.state disk.old)) InData) }
     ensures marked { OnOk result
-        (IsMarked (owned_number place (meaning (D.state disk.old))) (143 * place.inodes) place.sectors owned.new twice.new) }
+        (IsMarked (owned_part place (meaning (D.state disk.old))) place.inodes 0 place.sectors owned.new twice.new) }
     ensures passed { Passed (IsLeast place InData) (D.state disk.old) (D.state disk.new) result }
 {
     for n in 0..place.inodes {

@@ -7,10 +7,7 @@ ghost use Rattle.fs_check.specs.Checks.{AreInodes, IsNameTable};
 ghost use Rattle.fs_check.specs.Ways.{the_parent};
 
 use crate::directories::Names;
-use fs_layout::{Inode, Kind, Place, ROOT};
-
-// The most names of a file or a link.
-const MOST_NAMES: u32 = 500;
+use fs_layout::{Inode, Kind, MAX_INODE_NAMES, Place, ROOT};
 
 // Whether inode n may have the names field that it has, where so many slots name it.
 fn has_name_count(n: u32, inode: &Inode, count: u32) -> bool
@@ -18,9 +15,9 @@ fn has_name_count(n: u32, inode: &Inode, count: u32) -> bool
 {
     match inode.kind {
         Kind::Free => true,
-        Kind::File => inode.names == count && count <= MOST_NAMES,
+        Kind::File => inode.names == count && count <= MAX_INODE_NAMES,
         Kind::Directory => inode.names == 1 && count == if n == ROOT { 0 } else { 1 },
-        Kind::Link => inode.names == count && 1 <= count && count <= MOST_NAMES,
+        Kind::Link => inode.names == count && 1 <= count && count <= MAX_INODE_NAMES,
     }
 }
 

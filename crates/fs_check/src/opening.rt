@@ -8,7 +8,7 @@ ghost use Rattle.sector_disk.specs.Disk.{sector};
 ghost use Rattle.fs_check.specs.Checks.{Passed, IsFirst};
 
 use crate::faults::{CheckFault, Finding};
-use fs_layout::{Commit, Place, Super, place_of};
+use fs_layout::{Commit, Place, Super};
 use sector_disk::Disk;
 
 const NO_PLACE: CheckFault = CheckFault::Found(Finding { rule: 1, at: 0 });
@@ -26,7 +26,7 @@ fn place_in(content: &[u8; 512], size: u32) -> Option<Place>
     if superblock.sectors != size {
         return None;
     }
-    place_of(size, superblock.inodes)
+    superblock.place()
 }
 
 /// Reads where the parts of the disk lie: the first rule.

@@ -1,27 +1,21 @@
 //! What an inode owns.
 
-ghost use Rattle.std.specs.Prelude.{◌≡◌, ◌≤◌, ◌<◌, ◌+◌, ◌*◌, IfOk, IsTrue, ◌↔◌, MatchOption, length};
-ghost use Rattle.fs_layout.specs.Bytes.{SectorMap, u32_of};
-ghost use Rattle.fs_layout.specs.Images.{IsData, part};
-ghost use Rattle.fs_check.specs.Owning.{part_at, IsPointers, OwnsData};
+ghost use Rattle.std.specs.Prelude.{◌≡◌, ◌<◌, IfOk, IsTrue, ◌↔◌, MatchOption};
+ghost use Rattle.fs_layout.specs.Bytes.{SectorMap};
+ghost use Rattle.fs_layout.specs.Images.{IsData, HasPointers, part};
+ghost use Rattle.fs_check.specs.Owning.{part_at, OwnsData};
 ghost use Rattle.fs_check.specs.Checks.{meaning, IsOpened, Passed, IsNone};
 
 use crate::faults::CheckFault;
 use crate::reading::read_recovered;
-use byteorder::{ByteOrder, LittleEndian};
-use fs_layout::{Commit, Inode, Place};
+use fs_layout::{Commit, Inode, MAX_BLOCKS, Place};
 use sector_disk::Disk;
 
-// How many sectors an inode may own: two ACLs, the sector of pointers, and 140 blocks.
-pub(crate) const PARTS: usize = 143;
+// The part that block 0 is: before it stand two ACLs and the sector of pointers.
+pub(crate) const FIRST_BLOCK: usize = 3;
 
-// Number k of a sector of numbers.
-fn number_at(content: &[u8], k: usize) -> u32
-    requires { 4 * k + 4 ≤ length content.now }
-    ensures { result ≡ u32_of content.now (4 * k) }
-{
-    LittleEndian::read_u32(&content[4 * k..])
-}
+// How many sectors an inode may own.
+pub(crate) const PARTS: usize = FIRST_BLOCK + MAX_BLOCKS as usize;
 
 fn is_data(place: Place, s: u32) -> bool
     ensures { IsTrue result ↔ IsData place s }
@@ -29,10 +23,9 @@ fn is_data(place: Place, s: u32) -> bool
     place.first_data <= s && s < place.sectors
 }
 
-// The sector that the inode has for part i; `content` is that of its sector of pointers, if it has one.
-pub(crate) fn part_number(inode: &Inode, content: &[u8; 512], i: usize) -> u32
-    requires below { i < 143 }
-    ensures { (m : SectorMap) → IsPointers m inode.now content.now → result ≡ part m inode.now (part_at i) }
+// The sector that the inode has for part i; `pointers` is the content of its sector of pointers, zeros if it has none.
+pub(crate) fn part_number(inode: &Inode, pointers: &[u8; 512], i: usize) -> u32
+    ensures { (m : SectorMap) → HasPointers m inode.now pointers.now → result ≡ part m inode.now (part_at i) }
 {
     if i == 0 {
         return inode.acl;
@@ -43,16 +36,10 @@ pub(crate) fn part_number(inode: &Inode, content: &[u8; 512], i: usize) -> u32
     if i == 2 {
         return inode.indirect;
     }
-    if i < 15 {
-        return inode.direct[i - 3];
-    }
-    if inode.indirect == 0 {
-        return 0;
-    }
-    number_at(content, i - 15)
+    inode.block_number(pointers, (i - FIRST_BLOCK) as u64)
 }
 
-// The content of the inode's sector of pointers; any content, if it has none.
+// The content of the inode's sector of pointers; zeros, if it has none.
 pub(crate) fn read_pointers<D: Disk>(
     disk: &mut D,
     place: Place,
@@ -61,7 +48,7 @@ pub(crate) fn read_pointers<D: Disk>(
 ) -> Result<[u8; 512], CheckFault>
     requires opened { IsOpened (D.state disk.old) place commit.now }
     requires on_disk { inode.now.indirect < (D.state disk.old).size }
-    ensures content { IfOk result (IsPointers (meaning (D.state disk.old)) inode.now) }
+    ensures content { IfOk result (HasPointers (meaning (D.state disk.old)) inode.now) }
     ensures passed { Passed IsNone (D.state disk.old) (D.state disk.new) result }
 {
     let mut content = [0; 512];
@@ -74,7 +61,7 @@ pub(crate) fn read_pointers<D: Disk>(
 
 // Each sector that the inode owns is in the data area; `content` is that of its sector of pointers.
 fn all_in_data(place: Place, inode: &Inode, content: &[u8; 512]) -> bool
-    ensures { (m : SectorMap) → IsPointers m inode.now content.now → IsTrue result ↔ OwnsData place m inode.now }
+    ensures { (m : SectorMap) → HasPointers m inode.now content.now → IsTrue result ↔ OwnsData place m inode.now }
 {
     for i in 0..PARTS {
         let s = part_number(inode, content, i);
@@ -94,7 +81,7 @@ pub(crate) fn pointers_in_data<D: Disk>(
 ) -> Result<Option<[u8; 512]>, CheckFault>
     requires opened { IsOpened (D.state disk.old) place commit.now }
     ensures found { IfOk result (λ found. MatchOption found (OwnsData place (meaning (D.state disk.old)) inode.now → ⊥)
-        (λ content. IsPointers (meaning (D.state disk.old)) inode.now content × OwnsData place (meaning (D.state disk.old)) inode.now)) }
+        (λ content. HasPointers (meaning (D.state disk.old)) inode.now content × OwnsData place (meaning (D.state disk.old)) inode.now)) }
     ensures passed { Passed IsNone (D.state disk.old) (D.state disk.new) result }
 {
     if inode.indirect != 0 && !is_data(place, inode.indirect) {

@@ -2,26 +2,21 @@
 
 ghost use Rattle.std.specs.Prelude.{◌≡◌, ◌≢◌, ◌≤◌, ◌<◌, ◌+◌, ◌/◌, ◌%◌, ℕ, length, get_or, OnOk, IfOk, IsTrue, ◌↔◌, MatchOption, All};
 ghost use Rattle.std.specs.List.Sorted.{IsPermutation, IsSortedBy};
-ghost use Rattle.fs_layout.specs.Images.{IsData, Owns, pointer};
+ghost use Rattle.fs_layout.specs.declared.inode.TheConstants.{MAX_DIRECTORY_SIZE};
+ghost use Rattle.fs_layout.specs.Images.{IsData, HasPointers, Owns, pointer};
 ghost use Rattle.fs_layout.specs.Directories.{NamedInode, HaveDistinctNames};
-ghost use Rattle.fs_check.specs.Owning.{IsPointers};
 ghost use Rattle.fs_check.specs.Naming.{AreValid, AreSlots, IsUsable, HasGoodSlots, is_below};
 ghost use Rattle.fs_check.specs.Checks.{meaning, IsOpened, AreInodes, Passed, IsNone};
 
 use crate::faults::CheckFault;
-use crate::owning::{part_number, read_pointers};
+use crate::owning::read_pointers;
 use crate::reading::read_recovered;
-use fs_layout::{Commit, Inode, Kind, Place, Slot};
+use fs_layout::{Commit, Inode, Kind, Place, ROOT, SLOT_SIZE, Slot};
 use sector_disk::Disk;
 use std::alloc::Global;
 
-// The bytes of a slot.
-const SLOT: usize = 128;
-
 // The slots of a block.
 const SLOTS: usize = 4;
-
-const ROOT: u32 = 1;
 
 // Reads the block of slot k, unless the slot before it stands there too; `pointers` is the content of the sector of pointers.
 fn read_block_of<D: Disk>(
@@ -34,15 +29,14 @@ fn read_block_of<D: Disk>(
     block: &mut [u8; 512],
 ) -> Result<(), CheckFault>
     requires opened { IsOpened (D.state disk.old) place commit.now }
-    requires pointers { IsPointers (meaning (D.state disk.old)) inode.now pointers.now }
+    requires pointers { HasPointers (meaning (D.state disk.old)) inode.now pointers.now }
     requires in_data { (s : ℕ) → Owns (meaning (D.state disk.old)) inode.now s → IsData place s }
-    requires below { k < 560 }
     requires before { k % 4 ≢ 0 → block.old ≡ meaning (D.state disk.old) (pointer (meaning (D.state disk.old)) inode.now (k / 4)) }
     ensures content { OnOk result (block.new ≡ meaning (D.state disk.old) (pointer (meaning (D.state disk.old)) inode.now (k / 4))) }
     ensures passed { Passed IsNone (D.state disk.old) (D.state disk.new) result }
 {
     if k % SLOTS == 0 {
-        let s = part_number(inode, pointers, 3 + k / SLOTS);
+        let s = inode.block_number(pointers, (k / SLOTS) as u64);
         read_recovered(disk, commit, s, block)?;
     }
     Ok(())
@@ -58,18 +52,18 @@ fn read_slots<D: Disk>(
 ) -> Result<Option<Vec<Slot>>, CheckFault>
     requires opened { IsOpened (D.state disk.old) place commit.now }
     requires in_data { (s : ℕ) → Owns (meaning (D.state disk.old)) inode.now s → IsData place s }
-    requires size { inode.now.size ≤ 71680 }
+    requires size { inode.now.size ≤ MAX_DIRECTORY_SIZE }
     ensures slots { IfOk result (λ o. MatchOption o (AreValid (meaning (D.state disk.old)) inode.now → ⊥)
         (λ slots. AreSlots (meaning (D.state disk.old)) inode.now slots.items)) }
     ensures passed { Passed IsNone (D.state disk.old) (D.state disk.new) result }
 {
-    let count = inode.size as usize / SLOT;
+    let count = inode.size as usize / SLOT_SIZE;
     let pointers = read_pointers(disk, place, commit, inode)?;
     let mut slots = Vec::with_capacity(alloc, count)?;
     let mut block = [0; 512];
     for k in 0..count {
         read_block_of(disk, place, commit, inode, &pointers, k, &mut block)?;
-        let Ok(slot) = Slot::read_from(&block, SLOT * (k % SLOTS)) else {
+        let Ok(slot) = Slot::read_from(&block, SLOT_SIZE * (k % SLOTS)) else {
             return Ok(None);
         };
         slots.push(slot)?;
@@ -111,7 +105,7 @@ pub(crate) fn read_good_slots<D: Disk>(
     requires opened { IsOpened (D.state disk.old) place commit.now }
     requires table { AreInodes place (meaning (D.state disk.old)) inodes.now }
     requires in_data { (s : ℕ) → Owns (meaning (D.state disk.old)) inode.now s → IsData place s }
-    requires size { inode.now.size ≤ 71680 }
+    requires size { inode.now.size ≤ MAX_DIRECTORY_SIZE }
     ensures slots { IfOk result (λ o. MatchOption o (HasGoodSlots place (meaning (D.state disk.old)) inode.now → ⊥)
         (λ slots. HasGoodSlots place (meaning (D.state disk.old)) inode.now × AreSlots (meaning (D.state disk.old)) inode.now slots.items)) }
     ensures passed { Passed IsNone (D.state disk.old) (D.state disk.new) result }

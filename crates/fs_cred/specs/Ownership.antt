@@ -1,16 +1,27 @@
--- What the owner of an object may do, beside the superuser.
-use Rattle.std.specs.Prelude.{◌≡◌, ℕ, ◌==◌, Bool, not, ◌||◌, IsTrue, IsFalse, ◌⊎◌}
+-- What the owner of an object may do, and the superuser with him.
+--     MayOwn, OwnsOrMayChown, MayChown, MayChgrp, StickyAllows        to whom each question is answered yes
+--     may_own, owns_or_may_chown, may_chown, may_chgrp, sticky_allows        the answers: yes, or the rule that refuses
+--     KeepsSetGroupId, keeps_set_group_id        who sets a directory's S_ISGID
+use Rattle.std.specs.Prelude.{◌≡◌, ℕ, ◌==◌, Bool, not, ◌||◌, if◌then◌else◌, IsTrue, IsFalse, ◌⊎◌, Result, Ok, Err}
+use Rattle.fs_cred.specs.declared.rule.Rule.{Rule}
+use Rattle.fs_cred.specs.declared.rule.Rule.TheVariants.{NotOwner, NotSuperuser, NotMember, Sticky}
 use Rattle.fs_cred.specs.Credentials.{Credential, is_superuser, is_member}
 
--- to change the mode or the ACL: the superuser, or the owner
+-- ---- who may
+
+-- to change the mode or the ACL of an object: the superuser, or its owner
 abbrev pub MayOwn : Credential → ℕ → Type 0
 MayOwn cred owner = IsTrue (is_superuser cred) ⊎ (cred.uid ≡ owner)
 
--- to give the object an owner: the superuser, or it has that owner already
+-- to ask for another owner or group of an object at all: its owner, or the superuser, who may give away what is another's
+abbrev pub OwnsOrMayChown : Credential → ℕ → Type 0
+OwnsOrMayChown cred owner = (cred.uid ≡ owner) ⊎ IsTrue (is_superuser cred)
+
+-- then to give it an owner: the superuser, or it has that owner already
 abbrev pub MayChown : Credential → ℕ → ℕ → Type 0
 MayChown cred owner new_owner = IsTrue (is_superuser cred) ⊎ (new_owner ≡ owner)
 
--- to give the object a group: the superuser, or it has that group already, or the caller is in it
+-- and to give it a group: the superuser, or it has that group already, or the caller is in it
 abbrev pub MayChgrp : Credential → ℕ → ℕ → Type 0
 MayChgrp cred group new_group = IsTrue (is_superuser cred) ⊎ ((new_group ≡ group) ⊎ IsTrue (is_member cred new_group))
 
@@ -18,15 +29,37 @@ MayChgrp cred group new_group = IsTrue (is_superuser cred) ⊎ ((new_group ≡ g
 abbrev pub StickyAllows : Credential → Bool → ℕ → ℕ → Type 0
 StickyAllows cred sticky directory_owner owner = IsFalse sticky ⊎ (MayOwn cred owner ⊎ MayOwn cred directory_owner)
 
--- the same rules, computed
-abbrev pub may_own : Credential → ℕ → Bool
-may_own cred owner = is_superuser cred || cred.uid == owner
+-- to set S_ISGID of a directory by its mode: the superuser, or who is in its group; nobody else is told that it stays off
+abbrev pub KeepsSetGroupId : Credential → ℕ → Type 0
+KeepsSetGroupId cred group = IsTrue (is_superuser cred) ⊎ IsTrue (is_member cred group)
 
-abbrev pub may_chown : Credential → ℕ → ℕ → Bool
-may_chown cred owner new_owner = is_superuser cred || new_owner == owner
+-- ---- the same as answers
 
-abbrev pub may_chgrp : Credential → ℕ → ℕ → Bool
-may_chgrp cred group new_group = is_superuser cred || new_group == group || is_member cred new_group
+-- yes, or the rule that refuses; what allows has no name
+abbrev pub Answer : Type 0
+Answer = Result (Unit {0}) Rule
 
-abbrev pub sticky_allows : Credential → Bool → ℕ → ℕ → Bool
-sticky_allows cred sticky directory_owner owner = not sticky || may_own cred owner || may_own cred directory_owner
+abbrev pub allowed_if : Bool → Rule → Answer
+allowed_if test rule = if test then Ok tt else Err rule
+
+-- the caller is the owner, or the superuser, who counts as every owner
+abbrev pub counts_as_owner : Credential → ℕ → Bool
+counts_as_owner cred owner = is_superuser cred || cred.uid == owner
+
+abbrev pub may_own : Credential → ℕ → Answer
+may_own cred owner = allowed_if (counts_as_owner cred owner) NotOwner
+
+abbrev pub owns_or_may_chown : Credential → ℕ → Answer
+owns_or_may_chown cred owner = allowed_if (cred.uid == owner || is_superuser cred) NotOwner
+
+abbrev pub may_chown : Credential → ℕ → ℕ → Answer
+may_chown cred owner new_owner = allowed_if (is_superuser cred || new_owner == owner) NotSuperuser
+
+abbrev pub may_chgrp : Credential → ℕ → ℕ → Answer
+may_chgrp cred group new_group = allowed_if (is_superuser cred || new_group == group || is_member cred new_group) NotMember
+
+abbrev pub sticky_allows : Credential → Bool → ℕ → ℕ → Answer
+sticky_allows cred sticky directory_owner owner = allowed_if (not sticky || counts_as_owner cred owner || counts_as_owner cred directory_owner) Sticky
+
+abbrev pub keeps_set_group_id : Credential → ℕ → Bool
+keeps_set_group_id cred group = is_superuser cred || is_member cred group

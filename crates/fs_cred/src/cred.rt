@@ -83,6 +83,18 @@ impl Cred {
         &self.groups
     }
 
+    /// The same credential once more.
+    pub fn try_clone(&self, alloc: Global) -> Result<Cred, AllocError>
+        ensures same { IfOk result (λ copy. copy ≡ self.now) }
+        ensures valid { IsCredential self.now }
+    {
+        Ok(Cred {
+            uid: self.uid,
+            gid: self.gid,
+            groups: Vec::from_slice(alloc, &self.groups)?,
+        })
+    }
+
     /// Whether the user is the superuser, who has the id 0.
     pub fn is_superuser(&self) -> bool
         ensures { result ≡ is_superuser self.now }

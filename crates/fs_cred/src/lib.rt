@@ -19,6 +19,8 @@ pub use cred::{Cred, CredFault, MAX_GROUPS};
 pub use errno::Errno;
 pub use laws::one_answer;
 pub use node::{Node, NodeKind};
-pub use ownership::{may_chgrp, may_chown, may_own, sticky_allows};
+pub use ownership::{
+    keeps_set_group_id, may_chgrp, may_chown, may_own, owns_or_may_chown, sticky_allows,
+};
 pub use refusal::{Denial, Need, Refusal};
 pub use rule::{Rule, Verdict};

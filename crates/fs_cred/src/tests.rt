@@ -3,7 +3,9 @@ use crate::access::decide;
 use crate::cred::{Cred, CredFault};
 use crate::laws::one_answer;
 use crate::node::{Node, NodeKind};
-use crate::ownership::{may_chgrp, may_chown, may_own, sticky_allows};
+use crate::ownership::{
+    keeps_set_group_id, may_chgrp, may_chown, may_own, owns_or_may_chown, sticky_allows,
+};
 use crate::rule::{Rule, Verdict};
 use posix_acl::{Acl, AclFault, Entry, Perms, Tag};
 use std::alloc::Global;
@@ -110,11 +112,13 @@ fn the_superuser_needs_an_execute_bit(rt: HostRuntime) -> Result<(), Fail> {
     Ok(())
 }
 
-// The parts of a credential with 16 more groups, whether it is in three groups and the superuser's, and what 17 are.
+type Answer = Result<(), Rule>;
+
+// The parts of a copy of a credential with 16 more groups, whether it is in three groups and the superuser's, and what 17 are.
 fn with_groups(
     alloc: Global,
 ) -> Result<((u32, u32, usize), [bool; 4], Option<CredFault>), CredFault> {
-    let cred = Cred::new(alloc, 7, u32::MAX, &[9; 16])?;
+    let cred = Cred::new(alloc, 7, u32::MAX, &[9; 16])?.try_clone(alloc)?;
     let parts = (cred.uid(), cred.gid(), cred.groups().len());
     let tests = [
         cred.is_member(u32::MAX),
@@ -125,8 +129,20 @@ fn with_groups(
     Ok((parts, tests, Cred::new(alloc, 7, 8, &[9; 17]).err()))
 }
 
-// Who may own, give to a user, give to a group, and remove from a sticky directory.
-fn rights(alloc: Global) -> Result<([bool; 3], [bool; 3], [bool; 4], [bool; 5]), CredFault> {
+// Who may own, ask for another owner, give to a user, give to a group, remove from a sticky directory, and set S_ISGID.
+fn rights(
+    alloc: Global,
+) -> Result<
+    (
+        [Answer; 3],
+        [Answer; 3],
+        [Answer; 3],
+        [Answer; 4],
+        [Answer; 5],
+        [bool; 4],
+    ),
+    CredFault,
+> {
     let root = Cred::new(alloc, 0, 0, &[])?;
     let user = Cred::new(alloc, 1000, 100, &[500])?;
     let other = Cred::new(alloc, 1001, 101, &[])?;
@@ -135,6 +151,11 @@ fn rights(alloc: Global) -> Result<([bool; 3], [bool; 3], [bool; 4], [bool; 5]),
             may_own(&root, 1000),
             may_own(&user, 1000),
             may_own(&user, 0),
+        ],
+        [
+            owns_or_may_chown(&root, 1000),
+            owns_or_may_chown(&user, 1000),
+            owns_or_may_chown(&user, 0),
         ],
         [
             may_chown(&root, 1000, 0),
@@ -154,6 +175,12 @@ fn rights(alloc: Global) -> Result<([bool; 3], [bool; 3], [bool; 4], [bool; 5]),
             sticky_allows(&root, true, 1000, 1001),
             sticky_allows(&other, false, 0, 1000),
         ],
+        [
+            keeps_set_group_id(&root, 7),
+            keeps_set_group_id(&user, 100),
+            keeps_set_group_id(&user, 500),
+            keeps_set_group_id(&user, 7),
+        ],
     ))
 }
 
@@ -168,12 +195,14 @@ fn credentials_have_groups_and_rights(rt: HostRuntime) -> Result<(), Fail> {
     assert!(rt; seen == wanted, "{seen:?}");
     let seen = rights(rt.alloc())?;
     let wanted = (
-        [true, true, false],
-        [true, true, false],
+        [Ok(()), Ok(()), Err(Rule::NotOwner)],
+        [Ok(()), Ok(()), Err(Rule::NotOwner)],
+        [Ok(()), Ok(()), Err(Rule::NotSuperuser)],
+        [Ok(()), Ok(()), Ok(()), Err(Rule::NotMember)],
+        [Ok(()), Err(Rule::Sticky), Ok(()), Ok(()), Ok(())],
         [true, true, true, false],
-        [true, false, true, true, true],
     );
-    assert!(rt; seen == wanted, "{seen:?}");
+    assert!(rt; seen == wanted);
     one_answer();
     Ok(())
 }

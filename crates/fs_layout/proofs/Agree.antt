@@ -1,6 +1,7 @@
 -- A consistent image stays so where only what it says nothing of differs: the sectors below the bitmaps, the free ones,
 -- and those past the end.
 use Rattle.std.proofs.Common.{◌≡◌, ℕ, ◌+◌, ◌/◌, ◌<◌, ◌≤◌, sym, subst, ◌∙◌, arith, inl, inr, ◌⊎◌, ◌↔◌}
+use Rattle.fs_layout.specs.declared.place.TheConstants.{INODE_BITMAP}
 use Rattle.fs_layout.specs.declared.place.Place.{Place}
 use Rattle.fs_layout.specs.Bytes.{SectorMap, IsSector}
 use Rattle.fs_layout.specs.Place.{IsPlace}
@@ -15,7 +16,7 @@ use Rattle.fs_layout.proofs.Consistent.{owns_as, owned_is_used}
 
 -- ---- images that agree
 -- they do where all sectors from the bitmaps on are the same
-pub same_agrees : {p : Place} {old new : SectorMap} → IsPlace p → ((s : ℕ) → 128 ≤ s → s < p.sectors → new s ≡ old s) → Agrees p old new
+pub same_agrees : {p : Place} {old new : SectorMap} → IsPlace p → ((s : ℕ) → INODE_BITMAP ≤ s → s < p.sectors → new s ≡ old s) → Agrees p old new
 same_agrees place same = record {
   tables = λ s past low. same s past (let e = place.data_sectors in omega (arith, low, e));
   used = λ s at set. same s (let m = after_map place in let t = before_data place in omega (arith, at.0, m, t)) at.1;

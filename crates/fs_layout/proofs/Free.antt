@@ -2,6 +2,7 @@
 use Rattle.std.proofs.Common.{◌≡◌, ◌≢◌, ℕ, ◌+◌, ◌-◌, ◌*◌, ◌/◌, ◌%◌, ◌^◌, ◌<◌, ◌≤◌, List, [], length, take, get_or, set, refl, sym, ap, ◌∙◌, arith, inl, inr, ◌⊎◌, ◌↔◌, IsTrue, Ok}
 use Rattle.std.proofs.lemmas.List.{drop-replicate, take-replicate, get_or-set_same, get_or-set_other, length-set, get_or_past}
 use Rattle.std.proofs.lemmas.Bool.{cases_eq, cases_lt}
+use Rattle.fs_layout.specs.declared.inode.TheConstants.{DIRECT_BLOCKS, INODE_SIZE}
 use Rattle.fs_layout.specs.declared.inode.Kind.TheVariants.{Free}
 use Rattle.fs_layout.specs.declared.inode.Inode.{Inode}
 use Rattle.fs_layout.specs.declared.place.Place.{Place}
@@ -29,7 +30,7 @@ pub record HasNoSector (v : Inode) : Type 0 where
 
 no_sector_pointer : (image : SectorMap) (v : Inode) (k : ℕ) → HasNoSector v → pointer image v k ≡ 0
 no_sector_pointer image v k none =
-    elim (cases_lt k 12) [
+    elim (cases_lt k DIRECT_BLOCKS) [
       | inl lt ↦ pointer_direct image v k lt ∙ none.direct k
       | inr ge ↦ pointer_without image v k ge none.indirect
     ]
@@ -59,7 +60,7 @@ holds_nothing image v none empty = record {
 -- a free inode has no sector
 pub free_has_no_sector : HasNoSector free_inode
 unfolding zeros
-free_has_no_sector = record { acl = refl; default_acl = refl; direct = get_or-zeros 12; indirect = refl }
+free_has_no_sector = record { acl = refl; default_acl = refl; direct = get_or-zeros DIRECT_BLOCKS; indirect = refl }
 
 -- it fits its fields
 pub free_fits : FitsInode free_inode
@@ -75,7 +76,7 @@ free_fits = record {
   acl = omega arith;
   default_acl = omega arith;
   direct_len = refl;
-  direct = λ i. let e : get_or (zeros 12) i 0 ≡ 0 = get_or-zeros 12 i in omega (arith, e);
+  direct = λ i. let e : get_or (zeros DIRECT_BLOCKS) i 0 ≡ 0 = get_or-zeros DIRECT_BLOCKS i in omega (arith, e);
   indirect = omega arith;
 }
 
@@ -86,20 +87,20 @@ no_sector_changes {v = v} {w} {image} place tables apart none then =
     rewrites place tables apart (λ a. no_sector_part image w a then ∙ sym (no_sector_part image v a none)) (record { whole = apart.whole; others = λ s ban. refl })
 
 -- ---- an inode table of zeros
-free_bytes : inode_bytes free_inode ≡ zeros 128
+free_bytes : inode_bytes free_inode ≡ zeros INODE_SIZE
 unfolding le16 le32 le64 le32s zeros
 free_bytes = refl
 
-zeros_window : (at : ℕ) → at + 128 ≤ 512 → window (zeros 512) at 128 ≡ zeros 128
+zeros_window : (at : ℕ) → at + INODE_SIZE ≤ 512 → window (zeros 512) at INODE_SIZE ≡ zeros INODE_SIZE
 unfolding zeros
-zeros_window at room = ap (take 128) (drop-replicate at 512 0) ∙ take-replicate 128 (512 - at) 0 (omega arith)
+zeros_window at room = ap (take INODE_SIZE) (drop-replicate at 512 0) ∙ take-replicate INODE_SIZE (512 - at) 0 (omega arith)
 
 -- a sector of zeros in the table has free inodes, which are valid
 pub free_where_zeros : (p : Place) (image : SectorMap) (n : ℕ) → image (p.table + n / 4) ≡ zeros 512
     → (inode_at p image n ≡ free_inode) × (inode_of (stored p image n) ≡ Ok (inode_at p image n))
 unfolding stored
 free_where_zeros p image n e =
-    let bytes : stored p image n ≡ inode_bytes free_inode = ap (λ (r : List ℕ). window r (128 * (n % 4)) 128) e ∙ zeros_window (128 * (n % 4)) (omega arith) ∙ sym free_bytes in
+    let bytes : stored p image n ≡ inode_bytes free_inode = ap (λ (r : List ℕ). window r (INODE_SIZE * (n % 4)) INODE_SIZE) e ∙ zeros_window (INODE_SIZE * (n % 4)) (omega arith) ∙ sym free_bytes in
     (inode_there p image n free_inode free_fits bytes, valid_there p image n free_inode free_fits bytes)
 
 -- ---- what is read fits
@@ -109,9 +110,9 @@ unfolding stored
 inode_fits_there {p} {image} h n lt =
     let i = in_table p n h.place lt in
     let whole : IsSector (image (p.table + n / 4)) = h.sectors (p.table + n / 4) (let a = after_map h.place in omega (arith, a)) i.1 in
-    let room : 128 * (n % 4) + 128 ≤ length (image (p.table + n / 4)) = omega (arith, whole.len) in
-    read_fits (stored p image n) (inode_at p image n) (part_len 128 (128 * (n % 4)) (image (p.table + n / 4)) room)
-    (IsBytes-part 128 (128 * (n % 4)) (image (p.table + n / 4)) whole.bytes) (h.valid n lt)
+    let room : INODE_SIZE * (n % 4) + INODE_SIZE ≤ length (image (p.table + n / 4)) = omega (arith, whole.len) in
+    read_fits (stored p image n) (inode_at p image n) (part_len INODE_SIZE (INODE_SIZE * (n % 4)) (image (p.table + n / 4)) room)
+    (IsBytes-part INODE_SIZE (INODE_SIZE * (n % 4)) (image (p.table + n / 4)) whole.bytes) (h.valid n lt)
 
 -- and so it does with another direct block, unless it is free
 pub with_direct_fits : (v : Inode) (k s : ℕ) → FitsInode v → v.kind ≢ Free → s < 2 ^ 32 → FitsInode (with_direct v k s)

@@ -2,6 +2,7 @@
 use Rattle.std.proofs.Common.{◌≡◌, ◌≢◌, ℕ, ◌+◌, ◌-◌, ◌*◌, ◌/◌, ◌%◌, ◌<◌, ◌≤◌, List, length, drop, get_or, refl, sym, ap, ◌∙◌, arith, inl, inr}
 use Rattle.std.proofs.lemmas.Bool.{cases_eq, cases_lt}
 use Rattle.std.proofs.lemmas.List.{ext_get_or, get_or-take, get_or-drop}
+use Rattle.fs_layout.specs.declared.inode.TheConstants.{DIRECT_SIZE}
 use Rattle.fs_layout.specs.declared.inode.Inode.{Inode}
 use Rattle.fs_layout.specs.declared.place.Place.{Place}
 use Rattle.fs_layout.specs.Bytes.{SectorMap, splice, window, zeros}
@@ -104,7 +105,7 @@ pub record HasBlock (old new : SectorMap) (v w : Inode) (k s : ℕ) (x : List �
   pub same : KeepsBlocks old new v k
   pub size : w.size ≡ v.size
   pub past : v.size ≤ 512 * k → s ≡ 0
-  pub pointers : v.size ≤ 6144 → w.indirect ≡ 0
+  pub pointers : v.size ≤ DIRECT_SIZE → w.indirect ≡ 0
 
 -- then it holds the bytes with x for block k
 pub has_block : {old new : SectorMap} {v w : Inode} {k s : ℕ} {x bytes then : List ℕ} → HasBlock old new v w k s x → Holds old v bytes
@@ -149,7 +150,7 @@ pub record HasSameBlocks (old new : SectorMap) (v w : Inode) : Type 0 where
   pub size : w.size ≡ v.size
 
 -- then the inode holds what it held, if it has no sector of pointers without need
-pub Holds-again : {old new : SectorMap} {v w : Inode} {bytes : List ℕ} → HasSameBlocks old new v w → (v.size ≤ 6144 → w.indirect ≡ 0)
+pub Holds-again : {old new : SectorMap} {v w : Inode} {bytes : List ℕ} → HasSameBlocks old new v w → (v.size ≤ DIRECT_SIZE → w.indirect ≡ 0)
     → Holds old v bytes
     → Holds new w bytes
 unfolding byte_at

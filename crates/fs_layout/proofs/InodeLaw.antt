@@ -4,6 +4,7 @@ use Rattle.std.proofs.lemmas.List.{drop-drop, drop_at}
 use Rattle.fs_layout.specs.declared.inode.Kind.{Kind}
 use Rattle.fs_layout.specs.declared.inode.Kind.TheVariants.{Free, File, Directory, Link}
 use Rattle.fs_layout.specs.declared.inode.Inode.{Inode}
+use Rattle.fs_layout.specs.declared.inode.TheConstants.{INODE_SIZE, DIRECT_BLOCKS}
 use Rattle.fs_layout.specs.declared.fault.LayoutFault.TheVariants.{BadNumber, NotZero}
 use Rattle.fs_layout.proofs.Codecs.{IsCodec, held, same_ok}
 use Rattle.fs_layout.proofs.Small.{u16_small, u32_small, u64_small, u32s_small, u32s_len}
@@ -21,7 +22,7 @@ number_of_kind (suc (suc (suc zero))) k e = let f : Link ≡ k = cc in ap kind_n
 number_of_kind (suc (suc (suc (suc n)))) k e = absurd cc
 
 -- the bytes of the fields that stand in s, and of the zeros after them
-spelled : (s : List ℕ) (kind : Kind) → length s ≡ 128 → IsBytes s → u16_of s 0 ≡ kind_number kind → are_zero (drop 88 s) ≡ true
+spelled : (s : List ℕ) (kind : Kind) → length s ≡ INODE_SIZE → IsBytes s → u16_of s 0 ≡ kind_number kind → are_zero (drop 88 s) ≡ true
     → s ≡ inode_bytes (fields_of kind s)
 spelled s kind len fits k z =
     let e0 : s ≡ le16 (u16_of s 0) ++ drop 2 s = back16 s 0 fits (omega arith) in
@@ -33,15 +34,15 @@ spelled s kind len fits k z =
     let e6 : drop 24 s ≡ le32 (u32_of s 24) ++ drop 28 s = back32 s 24 fits (omega arith) in
     let e7 : drop 28 s ≡ le32 (u32_of s 28) ++ drop 32 s = back32 s 28 fits (omega arith) in
     let e8 : drop 32 s ≡ le32 (u32_of s 32) ++ drop 36 s = back32 s 32 fits (omega arith) in
-    let e9 : drop 36 s ≡ le32s (u32s_of s 36 12) ++ drop 84 s = back32s 12 s 36 fits (omega arith) in
+    let e9 : drop 36 s ≡ le32s (u32s_of s 36 DIRECT_BLOCKS) ++ drop 84 s = back32s DIRECT_BLOCKS s 36 fits (omega arith) in
     let e10 : drop 84 s ≡ le32 (u32_of s 84) ++ drop 88 s = back32 s 84 fits (omega arith) in
     let e11 : drop 88 s ≡ zeros 40 = zeros_back s 88 40 (omega arith) z in
     let f10 : drop 84 s ≡ le32 (u32_of s 84) ++ zeros 40 = e10 ∙ ap (λ (r : List ℕ). le32 (u32_of s 84) ++ r) e11 in
-    let f9 : drop 36 s ≡ le32s (u32s_of s 36 12) ++ (le32 (u32_of s 84) ++ zeros 40) =
-    e9 ∙ ap (λ (r : List ℕ). le32s (u32s_of s 36 12) ++ r) f10 in
-    let f8 : drop 32 s ≡ le32 (u32_of s 32) ++ (le32s (u32s_of s 36 12) ++ (le32 (u32_of s 84) ++ zeros 40)) =
+    let f9 : drop 36 s ≡ le32s (u32s_of s 36 DIRECT_BLOCKS) ++ (le32 (u32_of s 84) ++ zeros 40) =
+    e9 ∙ ap (λ (r : List ℕ). le32s (u32s_of s 36 DIRECT_BLOCKS) ++ r) f10 in
+    let f8 : drop 32 s ≡ le32 (u32_of s 32) ++ (le32s (u32s_of s 36 DIRECT_BLOCKS) ++ (le32 (u32_of s 84) ++ zeros 40)) =
     e8 ∙ ap (λ (r : List ℕ). le32 (u32_of s 32) ++ r) f9 in
-    let f6 : drop 24 s ≡ le32 (u32_of s 24) ++ (le32 (u32_of s 28) ++ (le32 (u32_of s 32) ++ (le32s (u32s_of s 36 12) ++ (le32 (u32_of s 84) ++ zeros 40)))) =
+    let f6 : drop 24 s ≡ le32 (u32_of s 24) ++ (le32 (u32_of s 28) ++ (le32 (u32_of s 32) ++ (le32s (u32s_of s 36 DIRECT_BLOCKS) ++ (le32 (u32_of s 84) ++ zeros 40)))) =
     e6 ∙ ap (λ (r : List ℕ). le32 (u32_of s 24) ++ r) (e7 ∙ ap (λ (r : List ℕ). le32 (u32_of s 28) ++ r) f8) in
     e0 ∙ ap (λ (n : ℕ). le16 n ++ drop 2 s) k
     ∙ ap (λ (r : List ℕ). le16 (kind_number kind) ++ r) (e1 ∙ ap (λ (r : List ℕ). le16 (u16_of s 2) ++ r) (e2
@@ -49,14 +50,14 @@ spelled s kind len fits k z =
     ∙ ap (λ (r : List ℕ). le32 (u32_of s 12) ++ r) (e5 ∙ ap (λ (r : List ℕ). le64 (u64_of s 16) ++ r) f6)))))
 
 -- zeros throughout are zeros past the fields
-zero_tail : (kind : Kind) (s : List ℕ) → length s ≡ 128 → are_zero (drop (fields_end kind) s) ≡ true → are_zero (drop 88 s) ≡ true
+zero_tail : (kind : Kind) (s : List ℕ) → length s ≡ INODE_SIZE → are_zero (drop (fields_end kind) s) ≡ true → are_zero (drop 88 s) ≡ true
 unfolding are_zero zeros
 zero_tail Free s len e = ap (λ (r : List ℕ). are_zero (drop 88 r)) (are_zero-zeros s e ∙ ap zeros len) ∙ refl
 zero_tail File s len e = e
 zero_tail Directory s len e = e
 zero_tail Link s len e = e
 
-takes_if : (o : Option Kind) (s : List ℕ) (v : Inode) → kind_of (u16_of s 0) ≡ o → length s ≡ 128 → IsBytes s → inode_if o s ≡ Ok v
+takes_if : (o : Option Kind) (s : List ℕ) (v : Inode) → kind_of (u16_of s 0) ≡ o → length s ≡ INODE_SIZE → IsBytes s → inode_if o s ≡ Ok v
     → (s ≡ inode_bytes v) × (inode_fits v ≡ true)
 takes_if None s v k len fits e = absurd cc
 takes_if (Some kind) s v k len fits e =
@@ -66,7 +67,7 @@ takes_if (Some kind) s v k len fits e =
     let same : fields_of kind s ≡ v = same_ok (fields_of kind s) v (Ok (fields_of kind s)) refl b.1 in
     (spelled s kind len fits (number_of_kind (u16_of s 0) kind k) (zero_tail kind s len b.0) ∙ ap inode_bytes same, sym (ap inode_fits same) ∙ a.0)
 
-pub inode_takes : (s : List ℕ) (v : Inode) → length s ≡ 128 → IsBytes s → inode_of s ≡ Ok v → (s ≡ inode_bytes v) × (inode_fits v ≡ true)
+pub inode_takes : (s : List ℕ) (v : Inode) → length s ≡ INODE_SIZE → IsBytes s → inode_of s ≡ Ok v → (s ≡ inode_bytes v) × (inode_fits v ≡ true)
 unfolding inode_of
 inode_takes s v len fits e = takes_if (kind_of (u16_of s 0)) s v refl len fits e
 
@@ -86,7 +87,7 @@ small Directory = omega arith
 small Link = omega arith
 
 -- ---- what is spelled is read
-tail_of : (v : Inode) → length v.direct ≡ 12 → drop 84 (inode_bytes v) ≡ le32 v.indirect ++ zeros 40
+tail_of : (v : Inode) → length v.direct ≡ DIRECT_BLOCKS → drop 84 (inode_bytes v) ≡ le32 v.indirect ++ zeros 40
 unfolding le16 le32 le64
 tail_of v len =
     let k : length (le32s v.direct) ≡ 48 = omega (arith, length-le32s v.direct) in
@@ -110,7 +111,7 @@ reads_fields v f =
     let parent : u32_of s 24 ≡ v.parent = read32 s 24 v.parent (drop 28 s) refl f.parent in
     let acl : u32_of s 28 ≡ v.acl = read32 s 28 v.acl (drop 32 s) refl f.acl in
     let default_acl : u32_of s 32 ≡ v.default_acl = read32 s 32 v.default_acl (drop 36 s) refl f.default_acl in
-    let direct : u32s_of s 36 12 ≡ v.direct =
+    let direct : u32s_of s 36 DIRECT_BLOCKS ≡ v.direct =
     ap (u32s_of s 36) (sym f.direct_len) ∙ read32s v.direct s 36 (le32 v.indirect ++ zeros 40) refl f.direct in
     let indirect : u32_of s 84 ≡ v.indirect = read32 s 84 v.indirect (zeros 40) (tail_of v f.direct_len) f.indirect in
     same_fields v v.kind _ _ _ _ _ _ _ _ _ _ mode uid gid names size parent acl default_acl direct indirect
@@ -142,12 +143,12 @@ inode_again v f =
     ap (λ (o : Option Kind). inode_if o s) k ∙ rw (fit, ends v.kind v refl f) (rw fields refl)
 
 -- all zeros are the free inode
-zeros_are_free : (s : List ℕ) → s ≡ zeros 128 → fields_of Free s ≡ free_inode
+zeros_are_free : (s : List ℕ) → s ≡ zeros INODE_SIZE → fields_of Free s ≡ free_inode
 unfolding u16_of u32_of u64_of u32s_of zeros
 zeros_are_free s e = ap (fields_of Free) e
 
 -- what is read fits its fields
-fields_fit : (k : Kind) (s : List ℕ) → length s ≡ 128 → IsBytes s → inode_fits (fields_of k s) ≡ true
+fields_fit : (k : Kind) (s : List ℕ) → length s ≡ INODE_SIZE → IsBytes s → inode_fits (fields_of k s) ≡ true
     → are_zero (drop (fields_end k) s) ≡ true → s ≡ inode_bytes (fields_of k s) → FitsInode (fields_of k s)
 unfolding inode_fits
 fields_fit k s len h fits end spelled = record {
@@ -165,12 +166,12 @@ fields_fit k s len h fits end spelled = record {
   parent = u32_small s 24 h;
   acl = u32_small s 28 h;
   default_acl = u32_small s 32 h;
-  direct_len = u32s_len s 36 12;
-  direct = λ i. u32s_small s 36 12 i h;
+  direct_len = u32s_len s 36 DIRECT_BLOCKS;
+  direct = λ i. u32s_small s 36 DIRECT_BLOCKS i h;
   indirect = u32_small s 84 h;
 }
 
-fits_if : (o : Option Kind) (s : List ℕ) (v : Inode) → kind_of (u16_of s 0) ≡ o → length s ≡ 128 → IsBytes s → inode_if o s ≡ Ok v
+fits_if : (o : Option Kind) (s : List ℕ) (v : Inode) → kind_of (u16_of s 0) ≡ o → length s ≡ INODE_SIZE → IsBytes s → inode_if o s ≡ Ok v
     → FitsInode v
 fits_if None s v k len fits e = absurd cc
 fits_if (Some kind) s v k len fits e =
@@ -180,9 +181,9 @@ fits_if (Some kind) s v k len fits e =
     let same : fields_of kind s ≡ v = same_ok (fields_of kind s) v (Ok (fields_of kind s)) refl b.1 in
     subst FitsInode same (fields_fit kind s len fits a.0 b.0 (spelled s kind len fits (number_of_kind (u16_of s 0) kind k) (zero_tail kind s len b.0)))
 
-pub read_fits : (s : List ℕ) (v : Inode) → length s ≡ 128 → IsBytes s → inode_of s ≡ Ok v → FitsInode v
+pub read_fits : (s : List ℕ) (v : Inode) → length s ≡ INODE_SIZE → IsBytes s → inode_of s ≡ Ok v → FitsInode v
 unfolding inode_of
 read_fits s v len fits e = fits_if (kind_of (u16_of s 0)) s v refl len fits e
 
-pub inode_codec : IsCodec 128 FitsInode inode_bytes inode_of
+pub inode_codec : IsCodec INODE_SIZE FitsInode inode_bytes inode_of
 inode_codec = record { back = λ s v len small e. ((inode_takes s v len small e).0, read_fits s v len small e); again = inode_again }

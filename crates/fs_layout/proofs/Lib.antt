@@ -45,4 +45,5 @@ pub mod Steps
 pub mod StoredLists
 pub mod SuperLaw
 pub mod Targets
+pub mod Versions
 pub mod Writes

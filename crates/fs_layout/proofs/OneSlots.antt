@@ -4,6 +4,7 @@ use Rattle.std.proofs.Common.{refl, sym, ap, ◌∙◌}
 use Rattle.std.proofs.lemmas.List.{take_at, drop_at}
 use Rattle.std.proofs.lemmas.List.Concat.{flat_map-cons}
 use Rattle.std.proofs.lemmas.List.Elements.{All-head, All-tail}
+use Rattle.fs_layout.specs.declared.slot.TheConstants.{SLOT_SIZE}
 use Rattle.fs_layout.specs.Bytes.{le32}
 use Rattle.fs_layout.proofs.SlotLaw.{slot_codec, length-slot_bytes}
 use Rattle.fs_layout.proofs.Codecs.{same_spelling}
@@ -12,14 +13,14 @@ use Rattle.fs_layout.specs.Bytes.{SectorMap}
 use Rattle.fs_layout.specs.Directories.{slots_bytes, names_of_slots, HasNames, NamedInode, FitsSlot, slot_bytes, slot_of}
 use Rattle.fs_layout.proofs.Held.{Holds-unique}
 
-slot_len : (x : NamedInode) → FitsSlot x → length (slot_bytes x) ≡ 128
+slot_len : (x : NamedInode) → FitsSlot x → length (slot_bytes x) ≡ SLOT_SIZE
 slot_len x f = length-slot_bytes x f.name.short
 
 slot_same : (x y : NamedInode) (r q : List ℕ) → FitsSlot x → FitsSlot y → slot_bytes x ++ r ≡ slot_bytes y ++ q → (x ≡ y) × (r ≡ q)
 slot_same x y r q fx fy e =
-    let heads : slot_bytes x ≡ slot_bytes y = sym (take_at (slot_bytes x) r 128 (slot_len x fx)) ∙ ap (take 128) e ∙ take_at (slot_bytes y) q 128 (slot_len y fy) in (
-      same_spelling 128 FitsSlot slot_bytes slot_of slot_codec x y fx fy heads,
-      sym (drop_at (slot_bytes x) r 128 (slot_len x fx)) ∙ ap (drop 128) e ∙ drop_at (slot_bytes y) q 128 (slot_len y fy),
+    let heads : slot_bytes x ≡ slot_bytes y = sym (take_at (slot_bytes x) r SLOT_SIZE (slot_len x fx)) ∙ ap (take SLOT_SIZE) e ∙ take_at (slot_bytes y) q SLOT_SIZE (slot_len y fy) in (
+      same_spelling SLOT_SIZE FitsSlot slot_bytes slot_of slot_codec x y fx fy heads,
+      sym (drop_at (slot_bytes x) r SLOT_SIZE (slot_len x fx)) ∙ ap (drop SLOT_SIZE) e ∙ drop_at (slot_bytes y) q SLOT_SIZE (slot_len y fy),
     )
 
 no_slot : (y : NamedInode) (ys : List NamedInode) → [] ≡ slots_bytes (y ∷ ys) → ⊥

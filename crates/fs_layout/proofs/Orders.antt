@@ -1,6 +1,7 @@
 -- An inode may be saved before or after what another one owns changes.
 use Rattle.std.proofs.Common.{◌≡◌, ◌≢◌, ℕ, ◌+◌, ◌*◌, ◌/◌, ◌%◌, ◌<◌, ◌≤◌, cond, List, refl, sym, ap, ◌∙◌, arith, inl, inr, nat_eq}
 use Rattle.std.proofs.lemmas.Bool.{cases_eq, eq-eqb, ne_eqb}
+use Rattle.fs_layout.specs.declared.inode.TheConstants.{INODE_SIZE}
 use Rattle.fs_layout.specs.declared.inode.Inode.{Inode}
 use Rattle.fs_layout.specs.declared.place.Place.{Place}
 use Rattle.fs_layout.specs.Bytes.{SectorMap, splice}
@@ -16,7 +17,7 @@ use Rattle.fs_layout.proofs.Consistent.{saved_stays_consistent, other_inode, blo
 
 -- the image with inode n written as v
 pub with_inode : Place → ℕ → Inode → SectorMap → SectorMap
-with_inode p n v image s = cond (nat_eq s (p.table + n / 4)) (splice (image s) (128 * (n % 4)) (inode_bytes v)) (image s)
+with_inode p n v image s = cond (nat_eq s (p.table + n / 4)) (splice (image s) (INODE_SIZE * (n % 4)) (inode_bytes v)) (image s)
 
 pub with_inode_saves : (p : Place) (n : ℕ) (v : Inode) (image : SectorMap) → Saves p n v image (with_inode p n v image)
 unfolding with_inode
@@ -60,7 +61,7 @@ save_first {p} {n} {u} {v} {w} {old} {mid} {first} {new} place lt fits tables ap
         | inl e ↦
             let i = in_table p n place lt in
             let same : mid (p.table + n / 4) ≡ old (p.table + n / 4) = x.low (p.table + n / 4) i.1 (λ b. let k = b.1 in omega (arith, k)) in
-            ap new e ∙ after.here ∙ ap (λ (r : List ℕ). splice r (128 * (n % 4)) (inode_bytes u)) same ∙ sym before.here ∙ sym (ap first e)
+            ap new e ∙ after.here ∙ ap (λ (r : List ℕ). splice r (INODE_SIZE * (n % 4)) (inode_bytes u)) same ∙ sym before.here ∙ sym (ap first e)
       ];
     }
 

@@ -1,5 +1,6 @@
 -- What an inode's parts and bytes depend on: its own sectors alone.
 use Rattle.std.proofs.Common.{◌≡◌, ◌≢◌, ℕ, zero, suc, ◌-◌, ◌*◌, ◌/◌, ◌%◌, List, get_or, refl, sym, ap, ◌∙◌, arith, inl, inr, ◌⊎◌}
+use Rattle.fs_layout.specs.declared.inode.TheConstants.{DIRECT_BLOCKS}
 use Rattle.fs_layout.specs.declared.inode.Inode.{Inode}
 use Rattle.fs_layout.specs.Bytes.{SectorMap, u32_of}
 use Rattle.fs_layout.specs.Images.{pointer_in, pointer, part, Owns, byte_in, byte_at, Holds, HasNoHole}
@@ -48,7 +49,7 @@ KeepsPointers old new v = v.indirect ≢ 0 → new v.indirect ≡ old v.indirect
 -- each pointer is the same then
 pub pointer_same : (old new : SectorMap) (v : Inode) → KeepsPointers old new v → (k : ℕ) → pointer new v k ≡ pointer old v k
 unfolding pointer
-pointer_same old new v h k = let e : pointer_in new v.indirect (k - 12) ≡ pointer_in old v.indirect (k - 12) = entry_kept old new v.indirect (k - 12) h in rw e refl
+pointer_same old new v h k = let e : pointer_in new v.indirect (k - DIRECT_BLOCKS) ≡ pointer_in old v.indirect (k - DIRECT_BLOCKS) = entry_kept old new v.indirect (k - DIRECT_BLOCKS) h in rw e refl
 
 -- and each part
 pub part_same : (old new : SectorMap) (v : Inode) → KeepsPointers old new v → (a : Part) → part new v a ≡ part old v a

@@ -1,30 +1,31 @@
 -- One pointer of an inode changes: a direct one, one in the sector of pointers, that sector itself, or an ACL's.
 use Rattle.std.proofs.Common.{◌≡◌, ◌≢◌, ℕ, zero, suc, ◌+◌, ◌-◌, ◌*◌, ◌^◌, ◌<◌, ◌≤◌, List, length, get_or, refl, sym, ap, ◌∙◌, arith, inl, inr, ◌⊎◌}
 use Rattle.std.proofs.lemmas.List.{get_or-set_same, get_or-set_other}
-use Rattle.std.proofs.lemmas.Bool.{cases_lt, lt-ltb, le-ltb}
+use Rattle.std.proofs.lemmas.Bool.{cases_eq, cases_lt, lt-ltb, le-ltb}
+use Rattle.fs_layout.specs.declared.inode.TheConstants.{DIRECT_BLOCKS, INDIRECT_END, MAX_BLOCKS}
 use Rattle.fs_layout.specs.declared.inode.Inode.{Inode}
 use Rattle.fs_layout.specs.Bytes.{SectorMap, splice, le32, zeros, u32_of}
-use Rattle.fs_layout.specs.Images.{pointer_in, pointer, Part, AccessAcl, DefaultAcl, Indirect, DoubleIndirect, Block, part}
+use Rattle.fs_layout.specs.Images.{pointer_in, pointer, HasPointers, block_number, Part, AccessAcl, DefaultAcl, Indirect, DoubleIndirect, Block, part}
 use Rattle.fs_layout.specs.Changes.{Turns, Gains, Loses, with_direct}
 use Rattle.fs_layout.proofs.Parts.{KeepsPointers, entry_kept}
 use Rattle.fs_layout.proofs.Numbers.{are_numbers_32}
 use Rattle.fs_layout.proofs.SplicedBytes.{u32_of-splice_other, u32_of-zeros}
 
 -- ---- where a pointer stands
--- the first 12 stand in the inode
-pub pointer_direct : (image : SectorMap) (v : Inode) (k : ℕ) → k < 12 → pointer image v k ≡ get_or v.direct k 0
+-- the first stand in the inode
+pub pointer_direct : (image : SectorMap) (v : Inode) (k : ℕ) → k < DIRECT_BLOCKS → pointer image v k ≡ get_or v.direct k 0
 unfolding pointer
-pointer_direct image v k lt = rw (lt-ltb k 12 lt) refl
+pointer_direct image v k lt = rw (lt-ltb k DIRECT_BLOCKS lt) refl
 
--- the next 128 in the sector of pointers
-pub pointer_indirect : (image : SectorMap) (v : Inode) (k : ℕ) → 12 ≤ k → k < 140 → pointer image v k ≡ pointer_in image v.indirect (k - 12)
+-- the next in the sector of pointers
+pub pointer_indirect : (image : SectorMap) (v : Inode) (k : ℕ) → DIRECT_BLOCKS ≤ k → k < INDIRECT_END → pointer image v k ≡ pointer_in image v.indirect (k - DIRECT_BLOCKS)
 unfolding pointer
-pointer_indirect image v k ge lt = rw (le-ltb k 12 ge, lt-ltb k 140 lt) refl
+pointer_indirect image v k ge lt = rw (le-ltb k DIRECT_BLOCKS ge, lt-ltb k INDIRECT_END lt) refl
 
 -- and there are no more
-pub pointer_past : (image : SectorMap) (v : Inode) (k : ℕ) → 140 ≤ k → pointer image v k ≡ 0
+pub pointer_past : (image : SectorMap) (v : Inode) (k : ℕ) → MAX_BLOCKS ≤ k → pointer image v k ≡ 0
 unfolding pointer
-pointer_past image v k ge = let low : 12 ≤ k = omega arith in rw (le-ltb k 12 low, le-ltb k 140 ge) refl
+pointer_past image v k ge = let low : DIRECT_BLOCKS ≤ k = omega arith in rw (le-ltb k DIRECT_BLOCKS low, le-ltb k INDIRECT_END ge) refl
 
 -- a number of a sector that there is
 pub entry_there : (image : SectorMap) (s k : ℕ) → s ≢ 0 → pointer_in image s k ≡ u32_of (image s) (4 * k)
@@ -32,19 +33,60 @@ entry_there image zero k some = absurd (some refl)
 entry_there image (suc s) k some = refl
 
 -- where no pointer stands in a sector
-pub pointer_without : (image : SectorMap) (v : Inode) (k : ℕ) → 12 ≤ k → v.indirect ≡ 0 → pointer image v k ≡ 0
+pub pointer_without : (image : SectorMap) (v : Inode) (k : ℕ) → DIRECT_BLOCKS ≤ k → v.indirect ≡ 0 → pointer image v k ≡ 0
 pointer_without image v k ge none =
-    elim (cases_lt k 140) [
-      | inl lt ↦ pointer_indirect image v k ge lt ∙ ap (λ (s : ℕ). pointer_in image s (k - 12)) none
+    elim (cases_lt k INDIRECT_END) [
+      | inl lt ↦ pointer_indirect image v k ge lt ∙ ap (λ (s : ℕ). pointer_in image s (k - DIRECT_BLOCKS)) none
       | inr past ↦ pointer_past image v k past
     ]
+
+-- ---- by the content of the sector of pointers
+pub number_direct : (v : Inode) (pointers : List ℕ) (k : ℕ) → k < DIRECT_BLOCKS → block_number v pointers k ≡ get_or v.direct k 0
+unfolding block_number
+number_direct v pointers k lt = rw (lt-ltb k DIRECT_BLOCKS lt) refl
+
+pub number_indirect : (v : Inode) (pointers : List ℕ) (k : ℕ) → DIRECT_BLOCKS ≤ k → k < INDIRECT_END
+    → block_number v pointers k ≡ u32_of pointers (4 * (k - DIRECT_BLOCKS))
+unfolding block_number
+number_indirect v pointers k ge lt = rw (le-ltb k DIRECT_BLOCKS ge, lt-ltb k INDIRECT_END lt) refl
+
+pub number_past : (v : Inode) (pointers : List ℕ) (k : ℕ) → MAX_BLOCKS ≤ k → block_number v pointers k ≡ 0
+unfolding block_number
+number_past v pointers k ge = let low : DIRECT_BLOCKS ≤ k = omega arith in rw (le-ltb k DIRECT_BLOCKS low, le-ltb k INDIRECT_END ge) refl
+
+-- it is the block's sector, where that content is at hand if the block's number stands in it
+pub block_number-pointer : (image : SectorMap) (v : Inode) (pointers : List ℕ) (k : ℕ)
+    → (v.indirect ≢ 0 → DIRECT_BLOCKS ≤ k → pointers ≡ image v.indirect) → (v.indirect ≡ 0 → pointers ≡ zeros 512)
+    → block_number v pointers k ≡ pointer image v k
+block_number-pointer image v pointers k is none =
+    elim (cases_lt k DIRECT_BLOCKS) [
+      | inl lt ↦ number_direct v pointers k lt ∙ sym (pointer_direct image v k lt)
+      | inr ge ↦ elim (cases_lt k INDIRECT_END) [
+        | inr past ↦ number_past v pointers k past ∙ sym (pointer_past image v k past)
+        | inl lt ↦ elim (cases_eq v.indirect 0) [
+          | inl absent ↦
+              number_indirect v pointers k ge lt
+              ∙ ap (λ (s : List ℕ). u32_of s (4 * (k - DIRECT_BLOCKS))) (none absent)
+              ∙ u32_of-zeros 512 (4 * (k - DIRECT_BLOCKS))
+              ∙ sym (pointer_without image v k ge absent)
+          | inr some ↦
+              number_indirect v pointers k ge lt
+              ∙ ap (λ (s : List ℕ). u32_of s (4 * (k - DIRECT_BLOCKS))) (is some ge)
+              ∙ sym (pointer_indirect image v k ge lt ∙ entry_there image v.indirect (k - DIRECT_BLOCKS) some)
+        ]
+      ]
+    ]
+
+pub number_is : (image : SectorMap) (v : Inode) (pointers : List ℕ) (k : ℕ) → HasPointers image v pointers
+    → block_number v pointers k ≡ pointer image v k
+number_is image v pointers k h = block_number-pointer image v pointers k (λ some ge. h.is some) h.none
 
 -- two inodes with one list of direct pointers and one sector of pointers
 pub pointer_alike : (old new : SectorMap) (v w : Inode) → w.direct ≡ v.direct → w.indirect ≡ v.indirect → KeepsPointers old new v → (k : ℕ)
     → pointer new w k ≡ pointer old v k
 unfolding pointer
 pointer_alike old new v w direct indirect kept k =
-    let e : pointer_in new v.indirect (k - 12) ≡ pointer_in old v.indirect (k - 12) = entry_kept old new v.indirect (k - 12) kept in
+    let e : pointer_in new v.indirect (k - DIRECT_BLOCKS) ≡ pointer_in old v.indirect (k - DIRECT_BLOCKS) = entry_kept old new v.indirect (k - DIRECT_BLOCKS) kept in
     rw (direct, indirect, e) refl
 
 -- two inodes with the same sectors
@@ -61,10 +103,10 @@ part_alike image v w acl default_acl direct indirect (Block k) = pointer_alike i
 -- ---- a direct pointer
 other_pointer : (old new : SectorMap) (v : Inode) (k y m : ℕ) → m ≢ k → KeepsPointers old new v → pointer new (with_direct v k y) m ≡ pointer old v m
 other_pointer old new v k y m ne kept =
-    elim (cases_lt m 12) [
+    elim (cases_lt m DIRECT_BLOCKS) [
       | inl lt ↦ pointer_direct new (with_direct v k y) m lt ∙ get_or-set_other v.direct k m y 0 ne ∙ sym (pointer_direct old v m lt)
-      | inr ge ↦ elim (cases_lt m 140) [
-        | inl lt ↦ pointer_indirect new (with_direct v k y) m ge lt ∙ entry_kept old new v.indirect (m - 12) kept ∙ sym (pointer_indirect old v m ge lt)
+      | inr ge ↦ elim (cases_lt m INDIRECT_END) [
+        | inl lt ↦ pointer_indirect new (with_direct v k y) m ge lt ∙ entry_kept old new v.indirect (m - DIRECT_BLOCKS) kept ∙ sym (pointer_indirect old v m ge lt)
         | inr past ↦ pointer_past new (with_direct v k y) m past ∙ sym (pointer_past old v m past)
       ]
     ]
@@ -79,7 +121,7 @@ other_than_direct old new v k y DoubleIndirect ne kept = refl
 other_than_direct old new v k y (Block m) ne kept = other_pointer old new v k y m (λ e. ne (ap Block e)) kept
 
 -- a direct block becomes y
-pub turns_direct : (old new : SectorMap) (v : Inode) (k x y : ℕ) → k < 12 → length v.direct ≡ 12 → pointer old v k ≡ x → KeepsPointers old new v
+pub turns_direct : (old new : SectorMap) (v : Inode) (k x y : ℕ) → k < DIRECT_BLOCKS → length v.direct ≡ DIRECT_BLOCKS → pointer old v k ≡ x → KeepsPointers old new v
     → Turns old new v (with_direct v k y) (Block k) x y
 unfolding part
 turns_direct old new v k x y lt len was kept = record {
@@ -91,40 +133,40 @@ turns_direct old new v k x y lt len was kept = record {
 -- ---- a pointer in the sector of pointers
 -- the sector of pointers has y for block k, and is the same otherwise
 pub record HasEntry (v : Inode) (k y : ℕ) (old new : SectorMap) : Type 0 where
-  pub from : 12 ≤ k
-  pub to : k < 140
+  pub from : DIRECT_BLOCKS ≤ k
+  pub to : k < INDIRECT_END
   pub some : v.indirect ≢ 0
   pub len : length (old v.indirect) ≡ 512
   pub fits : y < 2 ^ 32
-  pub is : new v.indirect ≡ splice (old v.indirect) (4 * (k - 12)) (le32 y)
+  pub is : new v.indirect ≡ splice (old v.indirect) (4 * (k - DIRECT_BLOCKS)) (le32 y)
 
 put_entry : {v : Inode} {k y : ℕ} {old new : SectorMap} → HasEntry v k y old new → pointer new v k ≡ y
 put_entry {v} {k} {y} {old} {new} p =
-    let room : 4 * (k - 12) + 4 ≤ length (old v.indirect) = let a = p.from in let b = p.to in omega (arith, a, b, p.len) in
+    let room : 4 * (k - DIRECT_BLOCKS) + 4 ≤ length (old v.indirect) = let a = p.from in let b = p.to in omega (arith, a, b, p.len) in
     pointer_indirect new v k p.from p.to
-    ∙ entry_there new v.indirect (k - 12) p.some
-    ∙ ap (λ (s : List ℕ). u32_of s (4 * (k - 12))) p.is
-    ∙ are_numbers_32.read (old v.indirect) (4 * (k - 12)) y room p.fits
+    ∙ entry_there new v.indirect (k - DIRECT_BLOCKS) p.some
+    ∙ ap (λ (s : List ℕ). u32_of s (4 * (k - DIRECT_BLOCKS))) p.is
+    ∙ are_numbers_32.read (old v.indirect) (4 * (k - DIRECT_BLOCKS)) y room p.fits
 
 other_entry : {v : Inode} {k y : ℕ} {old new : SectorMap} → HasEntry v k y old new → (m : ℕ) → m ≢ k → pointer new v m ≡ pointer old v m
 other_entry {v} {k} {y} {old} {new} p m ne =
-    elim (cases_lt m 12) [
+    elim (cases_lt m DIRECT_BLOCKS) [
       | inl lt ↦ pointer_direct new v m lt ∙ sym (pointer_direct old v m lt)
-      | inr ge ↦ elim (cases_lt m 140) [
+      | inr ge ↦ elim (cases_lt m INDIRECT_END) [
         | inl lt ↦
-            let room : 4 * (k - 12) + 4 ≤ length (old v.indirect) = let a = p.from in let b = p.to in omega (arith, a, b, p.len) in
-            let fits : 4 * (m - 12) + 4 ≤ length (old v.indirect) = omega (arith, p.len) in
+            let room : 4 * (k - DIRECT_BLOCKS) + 4 ≤ length (old v.indirect) = let a = p.from in let b = p.to in omega (arith, a, b, p.len) in
+            let fits : 4 * (m - DIRECT_BLOCKS) + 4 ≤ length (old v.indirect) = omega (arith, p.len) in
             pointer_indirect new v m ge lt
-            ∙ entry_there new v.indirect (m - 12) p.some
-            ∙ ap (λ (s : List ℕ). u32_of s (4 * (m - 12))) p.is
-            ∙ u32_of-splice_other (old v.indirect) (4 * (k - 12)) (4 * (m - 12)) y room fits (beside p.from ge ne)
-            ∙ sym (entry_there old v.indirect (m - 12) p.some)
+            ∙ entry_there new v.indirect (m - DIRECT_BLOCKS) p.some
+            ∙ ap (λ (s : List ℕ). u32_of s (4 * (m - DIRECT_BLOCKS))) p.is
+            ∙ u32_of-splice_other (old v.indirect) (4 * (k - DIRECT_BLOCKS)) (4 * (m - DIRECT_BLOCKS)) y room fits (beside p.from ge ne)
+            ∙ sym (entry_there old v.indirect (m - DIRECT_BLOCKS) p.some)
             ∙ sym (pointer_indirect old v m ge lt)
         | inr past ↦ pointer_past new v m past ∙ sym (pointer_past old v m past)
       ]
     ]
   where
-    beside : 12 ≤ k → 12 ≤ m → m ≢ k → (4 * (m - 12) + 4 ≤ 4 * (k - 12)) ⊎ (4 * (k - 12) + 4 ≤ 4 * (m - 12))
+    beside : DIRECT_BLOCKS ≤ k → DIRECT_BLOCKS ≤ m → m ≢ k → (4 * (m - DIRECT_BLOCKS) + 4 ≤ 4 * (k - DIRECT_BLOCKS)) ⊎ (4 * (k - DIRECT_BLOCKS) + 4 ≤ 4 * (m - DIRECT_BLOCKS))
     beside a b ne = elim (cases_lt m k) [ inl lt ↦ inl (omega arith) | inr ge ↦ inr (omega arith) ]
 
 other_than_entry : {v : Inode} {k y : ℕ} {old new : SectorMap} → HasEntry v k y old new → (a : Part) → a ≢ Block k → part new v a ≡ part old v a
@@ -153,14 +195,14 @@ other_than_indirect old new v y same (Block k) ne = same k
 -- a sector of zeros for a sector of pointers has none of them
 zero_pointer : (old new : SectorMap) (v : Inode) (s : ℕ) → v.indirect ≡ 0 → s ≢ 0 → new s ≡ zeros 512 → (k : ℕ) → pointer new (record v { indirect = s }) k ≡ pointer old v k
 zero_pointer old new v s none some clear k =
-    elim (cases_lt k 12) [
+    elim (cases_lt k DIRECT_BLOCKS) [
       | inl lt ↦ pointer_direct new (record v { indirect = s }) k lt ∙ sym (pointer_direct old v k lt)
-      | inr ge ↦ elim (cases_lt k 140) [
+      | inr ge ↦ elim (cases_lt k INDIRECT_END) [
         | inl lt ↦
             pointer_indirect new (record v { indirect = s }) k ge lt
-            ∙ entry_there new s (k - 12) some
-            ∙ ap (λ (r : List ℕ). u32_of r (4 * (k - 12))) clear
-            ∙ u32_of-zeros 512 (4 * (k - 12))
+            ∙ entry_there new s (k - DIRECT_BLOCKS) some
+            ∙ ap (λ (r : List ℕ). u32_of r (4 * (k - DIRECT_BLOCKS))) clear
+            ∙ u32_of-zeros 512 (4 * (k - DIRECT_BLOCKS))
             ∙ sym (pointer_without old v k ge none)
         | inr past ↦ pointer_past new (record v { indirect = s }) k past ∙ sym (pointer_past old v k past)
       ]
@@ -171,15 +213,15 @@ pub gains_indirect : (old new : SectorMap) (v : Inode) (s : ℕ) → v.indirect 
 unfolding part
 gains_indirect old new v s none some clear = record { was = none; now = refl; others = other_than_indirect old new v s (zero_pointer old new v s none some clear) }
 
-no_pointer : (old new : SectorMap) (v : Inode) → ((k : ℕ) → 12 ≤ k → pointer old v k ≡ 0) → (k : ℕ) → pointer new (record v { indirect = 0 }) k ≡ pointer old v k
+no_pointer : (old new : SectorMap) (v : Inode) → ((k : ℕ) → DIRECT_BLOCKS ≤ k → pointer old v k ≡ 0) → (k : ℕ) → pointer new (record v { indirect = 0 }) k ≡ pointer old v k
 no_pointer old new v unused k =
-    elim (cases_lt k 12) [
+    elim (cases_lt k DIRECT_BLOCKS) [
       | inl lt ↦ pointer_direct new (record v { indirect = 0 }) k lt ∙ sym (pointer_direct old v k lt)
       | inr ge ↦ pointer_without new (record v { indirect = 0 }) k ge refl ∙ sym (unused k ge)
     ]
 
 -- the inode gives up its sector of pointers, which are all 0
-pub loses_indirect : (old new : SectorMap) (v : Inode) (s : ℕ) → v.indirect ≡ s → ((k : ℕ) → 12 ≤ k → pointer old v k ≡ 0)
+pub loses_indirect : (old new : SectorMap) (v : Inode) (s : ℕ) → v.indirect ≡ s → ((k : ℕ) → DIRECT_BLOCKS ≤ k → pointer old v k ≡ 0)
     → Loses old new v (record v { indirect = 0 }) Indirect s
 unfolding part
 loses_indirect old new v s was unused = record { was = was; now = refl; others = other_than_indirect old new v 0 (no_pointer old new v unused) }

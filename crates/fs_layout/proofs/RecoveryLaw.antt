@@ -3,6 +3,7 @@ use Rattle.std.proofs.Common.{◌≡◌, ℕ, zero, suc, ◌+◌, ◌^◌, ◌<�
 use Rattle.std.specs.Prelude.{Contains}
 use Rattle.std.proofs.lemmas.Bool.{cases_eq, cond-true, cond-false, eq-eqb, ne_eqb}
 use Rattle.std.proofs.lemmas.List.{get_or_default}
+use Rattle.fs_layout.specs.declared.place.TheConstants.{INODE_BITMAP}
 use Rattle.fs_layout.specs.Bytes.{SectorMap}
 use Rattle.fs_layout.specs.Commit.{AreDistinct, AreTargets, IsCommit, IsValidCommit, commit_bytes, targets_in}
 use Rattle.fs_layout.specs.Recovered.{replayed, recovered}
@@ -30,8 +31,8 @@ contains_at ts k s lt is = (k, lt, get_or_default ts k s 0 lt ∙ is)
 behind : (t : ℕ) (ts : List ℕ) (s : ℕ) → Contains ts s → Contains (t ∷ ts) s
 behind t ts s c = (suc c.0, omega (arith, c.1), c.2)
 
-pub low_no_target : (size : ℕ) (ts : List ℕ) (s : ℕ) → AreTargets size ts → s < 128 → Contains ts s → ⊥
-low_no_target size ts s valid low c = let r : 128 ≤ get_or ts c.0 s = (valid.in_range c.0 s c.1).0 in omega (arith, r, c.2)
+pub low_no_target : (size : ℕ) (ts : List ℕ) (s : ℕ) → AreTargets size ts → s < INODE_BITMAP → Contains ts s → ⊥
+low_no_target size ts s valid low c = let r : INODE_BITMAP ≤ get_or ts c.0 s = (valid.in_range c.0 s c.1).0 in omega (arith, r, c.2)
 
 pub past_no_target : (size : ℕ) (ts : List ℕ) (s : ℕ) → AreTargets size ts → size ≤ s → Contains ts s → ⊥
 past_no_target size ts s valid high c = let r : get_or ts c.0 s < size = (valid.in_range c.0 s c.1).1 in omega (arith, r, c.2)
@@ -106,7 +107,7 @@ unfolding recovered
 recovered-invalid size image s none = ap (λ (l : List ℕ). replayed image 2 l s) (targets_in-invalid size (image 1) none)
 
 -- superblock, commit sector and log are never targets, whatever the commit sector holds
-pub recovered-low : (size : ℕ) (image : SectorMap) (s : ℕ) → s < 128 → recovered size image s ≡ image s
+pub recovered-low : (size : ℕ) (image : SectorMap) (s : ℕ) → s < INODE_BITMAP → recovered size image s ≡ image s
 unfolding recovered
 recovered-low size image s low =
     replayed-other image 2 (targets_in size (image 1)) s (low_no_target size (targets_in size (image 1)) s (targets_in-valid size (image 1)) low)

@@ -1,13 +1,15 @@
 -- Worked samples of an image: each word computes what the layout says.
 use Rattle.std.proofs.Common.{◌≡◌, ◌+◌, ◌*◌, true, false, cond, [], ◌∷◌, ◌++◌, replicate, refl, nat_eq}
 use Rattle.fs_layout.specs.declared.inode.Inode.{Inode}
+use Rattle.fs_layout.specs.declared.inode.TheConstants.{MAX_BLOCKS}
 use Rattle.fs_layout.specs.Bytes.{SectorMap, u32_of, zeros}
 use Rattle.fs_layout.specs.Inode.{free_inode}
+use Rattle.fs_layout.specs.Version.{newest}
 use Rattle.fs_layout.specs.Place.{laid_out}
 use Rattle.fs_layout.specs.Images.{bit, inode_bitmap, block_bitmap, pointer, part, Block, byte_at, stored}
 
 -- 1024 sectors and 64 inodes: the table begins at 130, the data at 146
-place_of_1024 : laid_out 1024 64 ≡ record { sectors = 1024; inodes = 64; table = 130; first_data = 146 }
+place_of_1024 : laid_out 1024 64 ≡ record { version = newest; sectors = 1024; inodes = 64; table = 130; first_data = 146 }
 place_of_1024 = refl
 
 -- sector 130 of the image has byte 6 at offset 1, and no other sector has anything
@@ -48,8 +50,8 @@ next_block : part pointers file (Block 13) ≡ 258
 unfolding part pointer pointers file u32_of
 next_block = refl
 
--- there is no block 140
-no_block : part pointers file (Block 140) ≡ 0
+-- there is no block past the last
+no_block : part pointers file (Block MAX_BLOCKS) ≡ 0
 unfolding part pointer pointers file
 no_block = refl
 

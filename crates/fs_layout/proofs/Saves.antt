@@ -1,6 +1,7 @@
 -- An inode is written into the table, alone or after what it owns changed.
 use Rattle.std.proofs.Common.{◌≡◌, ◌≢◌, ℕ, ◌+◌, ◌*◌, ◌/◌, ◌%◌, ◌<◌, ◌≤◌, List, length, Ok, sym, ap, subst, ◌∙◌, arith, inl, inr, ◌⊎◌}
 use Rattle.std.proofs.lemmas.Bool.{cases_eq, cases_lt}
+use Rattle.fs_layout.specs.declared.inode.TheConstants.{INODE_SIZE}
 use Rattle.fs_layout.specs.declared.inode.Inode.{Inode}
 use Rattle.fs_layout.specs.declared.place.Place.{Place}
 use Rattle.fs_layout.specs.Bytes.{SectorMap, IsSector, splice, window}
@@ -25,7 +26,7 @@ in_table p n place lt = let a = before_data place in let b = place.slots in (ome
 -- an inode's bytes depend on its sector alone
 pub stored_kept : (p : Place) (n : ℕ) (old new : SectorMap) → new (p.table + n / 4) ≡ old (p.table + n / 4) → stored p new n ≡ stored p old n
 unfolding stored
-stored_kept p n old new e = ap (λ (s : List ℕ). window s (128 * (n % 4)) 128) e
+stored_kept p n old new e = ap (λ (s : List ℕ). window s (INODE_SIZE * (n % 4)) INODE_SIZE) e
 
 -- an inode depends on its bytes alone
 pub inode_kept : (p : Place) (n : ℕ) (old new : SectorMap) → stored p new n ≡ stored p old n → inode_at p new n ≡ inode_at p old n
@@ -51,14 +52,14 @@ valid_there p image n v fits e = ap inode_of e ∙ inode_again v fits ∙ ap (λ
 -- ---- a save
 -- a sector of the table is written, with the inode in it
 pub put_saves : {p : Place} {n : ℕ} {v : Inode} {old new : SectorMap}
-    → Puts (p.table + n / 4) (splice (old (p.table + n / 4)) (128 * (n % 4)) (inode_bytes v)) old new → Saves p n v old new
+    → Puts (p.table + n / 4) (splice (old (p.table + n / 4)) (INODE_SIZE * (n % 4)) (inode_bytes v)) old new → Saves p n v old new
 put_saves put = record { here = put.here; others = put.others }
 
 -- two inodes of one sector stand beside one another
-far : (m n : ℕ) → m / 4 ≡ n / 4 → m ≢ n → n % 4 ≤ m % 4 → 128 * (n % 4) + 128 ≤ 128 * (m % 4)
+far : (m n : ℕ) → m / 4 ≡ n / 4 → m ≢ n → n % 4 ≤ m % 4 → INODE_SIZE * (n % 4) + INODE_SIZE ≤ INODE_SIZE * (m % 4)
 far m n e ne ge = omega arith
 
-beside : (m n : ℕ) → m / 4 ≡ n / 4 → m ≢ n → (128 * (m % 4) + 128 ≤ 128 * (n % 4)) ⊎ (128 * (n % 4) + 128 ≤ 128 * (m % 4))
+beside : (m n : ℕ) → m / 4 ≡ n / 4 → m ≢ n → (INODE_SIZE * (m % 4) + INODE_SIZE ≤ INODE_SIZE * (n % 4)) ⊎ (INODE_SIZE * (n % 4) + INODE_SIZE ≤ INODE_SIZE * (m % 4))
 beside m n e ne = elim (cases_lt (m % 4) (n % 4)) [ inl lt ↦ inl (omega arith) | inr ge ↦ inr (far m n e ne ge) ]
 
 module _ {p : Place} {n : ℕ} {w : Inode} {old new : SectorMap}
@@ -71,8 +72,8 @@ module _ {p : Place} {n : ℕ} {w : Inode} {old new : SectorMap}
   unfolding stored
   stored_saved =
       let len : length (old (p.table + n / 4)) ≡ 512 = table_sector.len in
-      ap (λ (b : List ℕ). window b (128 * (n % 4)) 128) saves.here
-      ∙ window_same (old (p.table + n / 4)) (inode_bytes w) (128 * (n % 4)) 128 (length-inode_bytes w fits.direct_len) (omega (arith, len))
+      ap (λ (b : List ℕ). window b (INODE_SIZE * (n % 4)) INODE_SIZE) saves.here
+      ∙ window_same (old (p.table + n / 4)) (inode_bytes w) (INODE_SIZE * (n % 4)) INODE_SIZE (length-inode_bytes w fits.direct_len) (omega (arith, len))
 
   -- the bytes of each other inode are the same
   pub stored_other : (m : ℕ) → m ≢ n → stored p new m ≡ stored p old m
@@ -80,14 +81,14 @@ module _ {p : Place} {n : ℕ} {w : Inode} {old new : SectorMap}
   stored_other m ne =
       let len : length (old (p.table + n / 4)) ≡ 512 = table_sector.len in
       elim (cases_eq (m / 4) (n / 4)) [
-        | inr other ↦ ap (λ (b : List ℕ). window b (128 * (m % 4)) 128) (saves.others (p.table + m / 4) (λ e. other (omega (arith, e))))
+        | inr other ↦ ap (λ (b : List ℕ). window b (INODE_SIZE * (m % 4)) INODE_SIZE) (saves.others (p.table + m / 4) (λ e. other (omega (arith, e))))
         | inl e ↦
             let k : p.table + m / 4 ≡ p.table + n / 4 = ap (λ (q : ℕ). p.table + q) e in
-            ap (λ (q : ℕ). window (new q) (128 * (m % 4)) 128) k
-            ∙ ap (λ (b : List ℕ). window b (128 * (m % 4)) 128) saves.here
-            ∙ window_other (old (p.table + n / 4)) (inode_bytes w) (128 * (n % 4)) (128 * (m % 4)) 128 128 (length-inode_bytes w fits.direct_len)
+            ap (λ (q : ℕ). window (new q) (INODE_SIZE * (m % 4)) INODE_SIZE) k
+            ∙ ap (λ (b : List ℕ). window b (INODE_SIZE * (m % 4)) INODE_SIZE) saves.here
+            ∙ window_other (old (p.table + n / 4)) (inode_bytes w) (INODE_SIZE * (n % 4)) (INODE_SIZE * (m % 4)) INODE_SIZE INODE_SIZE (length-inode_bytes w fits.direct_len)
             (omega (arith, len)) (omega (arith, len)) (beside m n e ne)
-            ∙ ap (λ (q : ℕ). window (old q) (128 * (m % 4)) 128) (sym k)
+            ∙ ap (λ (q : ℕ). window (old q) (INODE_SIZE * (m % 4)) INODE_SIZE) (sym k)
       ]
 
   -- the inode is the one that was written
@@ -103,9 +104,9 @@ module _ {p : Place} {n : ℕ} {w : Inode} {old new : SectorMap}
   tables_saved s past low = elim (cases_eq s (p.table + n / 4)) [
     | inr ne ↦ subst IsSector (sym (saves.others s ne)) (tables s past low)
     | inl e ↦
-        let len : length (inode_bytes w) ≡ 128 = length-inode_bytes w fits.direct_len in
+        let len : length (inode_bytes w) ≡ INODE_SIZE = length-inode_bytes w fits.direct_len in
         subst (λ (t : ℕ). IsSector (new t)) (sym e)
-        (subst IsSector (sym saves.here) (IsSector-splice (old (p.table + n / 4)) (inode_bytes w) (128 * (n % 4)) table_sector (IsBytes-inode_bytes w) (omega (arith, len))))
+        (subst IsSector (sym saves.here) (IsSector-splice (old (p.table + n / 4)) (inode_bytes w) (INODE_SIZE * (n % 4)) table_sector (IsBytes-inode_bytes w) (omega (arith, len))))
   ]
 
   -- data sectors are the same

@@ -11,6 +11,7 @@ use Rattle.fs_layout.specs.Commit.{commit_bytes, commit_magic}
 use Rattle.fs_layout.specs.Inode.{inode_bytes, kind_number}
 use Rattle.fs_layout.specs.Directories.{NamedInode, FitsSlot, slot_bytes}
 use Rattle.fs_layout.specs.Superblock.{super_bytes, super_magic}
+use Rattle.fs_layout.specs.Version.{version_number}
 use Rattle.fs_layout.proofs.AclSectorLaw.{length-acl_sector_bytes}
 use Rattle.fs_layout.proofs.CommitLaw.{length-commit_bytes}
 use Rattle.fs_layout.proofs.SuperLaw.{length-super_bytes}
@@ -91,11 +92,11 @@ IsSector-splice s x at is small room = record {
 
 -- ---- what each structure is spelled as
 pub IsSector-super_bytes : (v : Super) → IsSector (super_bytes v)
-IsSector-super_bytes v = record {
+IsSector-super_bytes v = let n = version_number v.version in record {
   len = length-super_bytes v;
   bytes =
-      IsBytes-append (le32 super_magic) (le32 1 ++ (le32 v.sectors ++ (le32 v.inodes ++ zeros 496))) (IsBytes-le32 super_magic)
-      (IsBytes-append (le32 1) (le32 v.sectors ++ (le32 v.inodes ++ zeros 496)) (IsBytes-le32 1)
+      IsBytes-append (le32 super_magic) (le32 n ++ (le32 v.sectors ++ (le32 v.inodes ++ zeros 496))) (IsBytes-le32 super_magic)
+      (IsBytes-append (le32 n) (le32 v.sectors ++ (le32 v.inodes ++ zeros 496)) (IsBytes-le32 n)
       (IsBytes-append (le32 v.sectors) (le32 v.inodes ++ zeros 496) (IsBytes-le32 v.sectors)
       (IsBytes-append (le32 v.inodes) (zeros 496) (IsBytes-le32 v.inodes) (IsBytes-zeros 496))));
 }

@@ -2,6 +2,7 @@
 use Rattle.std.proofs.Common.{◌≡◌, ◌≢◌, ℕ, ◌+◌, ◌-◌, ◌*◌, ◌/◌, ◌%◌, ◌<◌, ◌≤◌, List, ◌++◌, length, take, get_or, refl, sym, ap, subst, ◌∙◌, arith, inl, inr}
 use Rattle.std.proofs.lemmas.List.{length-append, length-take-le, get_or_append_left, get_or-append_right, get_or_past, get_or-take, take_at, take_all, append-nil}
 use Rattle.std.proofs.lemmas.Bool.{cases_eq, cases_lt}
+use Rattle.fs_layout.specs.declared.inode.TheConstants.{DIRECT_SIZE}
 use Rattle.fs_layout.specs.declared.inode.Inode.{Inode}
 use Rattle.fs_layout.specs.Bytes.{SectorMap, zeros}
 use Rattle.fs_layout.specs.Images.{pointer, Part, AccessAcl, DefaultAcl, Indirect, Block, part, byte_in, byte_at, Holds}
@@ -84,7 +85,7 @@ same_blocks t none same size = record { pointers = λ k. t.others (Block k) (non
 
 -- the inode gets a sector of pointers that it needs, and holds what it held
 pub gains_pointers : {old new : SectorMap} {v w : Inode} {s : ℕ} {bytes : List ℕ} → Gains old new v w Indirect s → KeepsAllBlocks old new v
-    → w.size ≡ v.size → 6144 < v.size → Holds old v bytes → Holds new w bytes
+    → w.size ≡ v.size → DIRECT_SIZE < v.size → Holds old v bytes → Holds new w bytes
 gains_pointers g same size large h = Holds-again (same_blocks g (λ k e. cc) same size) (λ le. absurd (omega (arith, le, large))) h
 
 -- the inode gives up its sector of pointers, and holds what it held
@@ -171,7 +172,7 @@ clears_rest bytes block k n m from low high le kept clear = record {
 -- a smaller size, past which there is no block, and no byte but zero
 pub cuts : (image : SectorMap) (v : Inode) (bytes : List ℕ) (n : ℕ) → Holds image v bytes → n ≤ v.size
     → ((k : ℕ) → n ≤ 512 * k → pointer image v k ≡ 0)
-    → (n ≤ 6144 → v.indirect ≡ 0)
+    → (n ≤ DIRECT_SIZE → v.indirect ≡ 0)
     → ((i : ℕ) → n ≤ i → i / 512 ≡ n / 512 → get_or bytes i 0 ≡ 0) → Holds image (record v { size = n }) (take n bytes)
 unfolding byte_at pointer
 cuts image v bytes n h le none pointers rest = record {
@@ -192,7 +193,7 @@ cuts image v bytes n h le none pointers rest = record {
 
 -- A smaller size, past which there is no block, where all bytes past it are cleared already: what is held is cut.
 pub cuts_cleared : (image : SectorMap) (v : Inode) (bytes : List ℕ) (n : ℕ) → Holds image v (cleared_from n bytes) → n ≤ length bytes
-    → ((k : ℕ) → n ≤ 512 * k → pointer image v k ≡ 0) → (n ≤ 6144 → v.indirect ≡ 0)
+    → ((k : ℕ) → n ≤ 512 * k → pointer image v k ≡ 0) → (n ≤ DIRECT_SIZE → v.indirect ≡ 0)
     → Holds image (record v { size = n }) (take n bytes)
 cuts_cleared image v bytes n h le none pointers =
     let room : n ≤ v.size = omega (arith, h.size, length-cleared_from n bytes le) in

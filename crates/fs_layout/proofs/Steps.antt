@@ -1,5 +1,6 @@
 -- Single writes put together: a sector is taken or released for one thing, and what changes and is held by it.
 use Rattle.std.proofs.Common.{◌≡◌, ◌≢◌, ℕ, ◌-◌, ◌*◌, ◌<◌, ◌≤◌, List, length, refl, sym, ap, subst, ◌∙◌, arith}
+use Rattle.fs_layout.specs.declared.inode.TheConstants.{DIRECT_BLOCKS, DIRECT_SIZE}
 use Rattle.fs_layout.specs.declared.inode.Inode.{Inode}
 use Rattle.fs_layout.specs.declared.place.Place.{Place}
 use Rattle.fs_layout.specs.Bytes.{SectorMap, IsSector, splice, le32, zeros}
@@ -38,11 +39,11 @@ module _ {p : Place} {v : Inode} {s : ℕ} {x : List ℕ} {old mid new : SectorM
   same_content = keeps_all_blocks allocates_keeps
 
   -- for a direct block
-  pub direct_block_gained : (k : ℕ) → k < 12 → length v.direct ≡ 12 → pointer old v k ≡ 0 → ChangesBlocks p v (with_direct v k s) old new
+  pub direct_block_gained : (k : ℕ) → k < DIRECT_BLOCKS → length v.direct ≡ DIRECT_BLOCKS → pointer old v k ≡ 0 → ChangesBlocks p v (with_direct v k s) old new
   direct_block_gained k lt len none = gains place apart (turns_direct old new v k 0 s lt len none kept) allocated
 
   -- then what the inode holds has x there
-  pub direct_block_filled : (k : ℕ) (bytes then : List ℕ) → k < 12 → length v.direct ≡ 12 → pointer old v k ≡ 0 → 512 * k < v.size → Holds old v bytes
+  pub direct_block_filled : (k : ℕ) (bytes then : List ℕ) → k < DIRECT_BLOCKS → length v.direct ≡ DIRECT_BLOCKS → pointer old v k ≡ 0 → 512 * k < v.size → Holds old v bytes
       → ReplacesBlock k x bytes then → Holds new (with_direct v k s) then
   direct_block_filled k bytes then lt len none inside h r =
       fills (turns_direct old new v k 0 s lt len none kept) allocated_some a.put.here (keeps_other_blocks allocates_keeps k) refl refl inside h r
@@ -68,15 +69,15 @@ module _ {p : Place} {v : Inode} {s : ℕ} {x : List ℕ} {old mid new : SectorM
   pointers_gained none clear = gains place apart (gains_indirect old new v s none allocated_some (a.put.here ∙ clear)) allocated
 
   -- it holds what it held
-  pub pointers_gained_holds : (bytes : List ℕ) → v.indirect ≡ 0 → x ≡ zeros 512 → 6144 < v.size → Holds old v bytes → Holds new (record v { indirect = s }) bytes
+  pub pointers_gained_holds : (bytes : List ℕ) → v.indirect ≡ 0 → x ≡ zeros 512 → DIRECT_SIZE < v.size → Holds old v bytes → Holds new (record v { indirect = s }) bytes
   pointers_gained_holds bytes none clear large h = gains_pointers (gains_indirect old new v s none allocated_some (a.put.here ∙ clear)) same_content refl large h
 
 -- ---- a sector is taken for a block of the sector of pointers
 -- the sector of pointers is whole again
 entry_whole : {v : Inode} {k y : ℕ} {old new : SectorMap} → PutsEntry v k y old new → IsSector (old v.indirect)
-    → IsSector (splice (old v.indirect) (4 * (k - 12)) (le32 y))
+    → IsSector (splice (old v.indirect) (4 * (k - DIRECT_BLOCKS)) (le32 y))
 entry_whole {v} {k} {y} {old} e whole =
-    IsSector-splice (old v.indirect) (le32 y) (4 * (k - 12)) whole (IsBytes-le32 y) (let a = e.from in let b = e.to in omega (arith, a, b, length-le32 y))
+    IsSector-splice (old v.indirect) (le32 y) (4 * (k - DIRECT_BLOCKS)) whole (IsBytes-le32 y) (let a = e.from in let b = e.to in omega (arith, a, b, length-le32 y))
 
 -- the pointer is put into what stood there before other sectors were written
 entry_since : {v : Inode} {k y : ℕ} {old mid new : SectorMap} → mid v.indirect ≡ old v.indirect → IsSector (old v.indirect) → PutsEntry v k y mid new
@@ -87,7 +88,7 @@ entry_since {v} {k} {y} same whole e = record {
   some = e.some;
   len = whole.len;
   fits = e.fits;
-  is = e.put.here ∙ ap (λ (r : List ℕ). splice r (4 * (k - 12)) (le32 y)) same;
+  is = e.put.here ∙ ap (λ (r : List ℕ). splice r (4 * (k - DIRECT_BLOCKS)) (le32 y)) same;
 }
 
 module _ {p : Place} {v : Inode} {k s : ℕ} {x : List ℕ} {old mid put new : SectorMap}
@@ -130,11 +131,11 @@ module _ {p : Place} {v : Inode} {s : ℕ} {old new : SectorMap} (place : IsPlac
   same_then = keeps_all_blocks frees_keeps
 
   -- a direct block
-  pub direct_block_lost : (k : ℕ) → k < 12 → length v.direct ≡ 12 → pointer old v k ≡ s → ChangesBlocks p v (with_direct v k 0) old new
+  pub direct_block_lost : (k : ℕ) → k < DIRECT_BLOCKS → length v.direct ≡ DIRECT_BLOCKS → pointer old v k ≡ s → ChangesBlocks p v (with_direct v k 0) old new
   direct_block_lost k lt len was = loses place apart some (turns_direct old new v k s 0 lt len was kept_then) (releases_alone place apart f.mark f.clear)
 
   -- then what the inode holds has zeros there
-  pub direct_block_dropped : (k : ℕ) (bytes then : List ℕ) → k < 12 → length v.direct ≡ 12 → pointer old v k ≡ s → Holds old v bytes
+  pub direct_block_dropped : (k : ℕ) (bytes then : List ℕ) → k < DIRECT_BLOCKS → length v.direct ≡ DIRECT_BLOCKS → pointer old v k ≡ s → Holds old v bytes
       → ReplacesBlock k (zeros 512) bytes then → Holds new (with_direct v k 0) then
   direct_block_dropped k bytes then lt len was h r = drops (turns_direct old new v k s 0 lt len was kept_then) (keeps_other_blocks frees_keeps k) refl refl h r
 
@@ -155,11 +156,11 @@ module _ {p : Place} {v : Inode} {s : ℕ} {old new : SectorMap} (place : IsPlac
   default_acl_lost_holds bytes was h = turns_default_acl_holds (turns_default_acl old new v s 0 was kept_then) same_then refl h
 
   -- the sector of pointers, which are all 0
-  pub pointers_lost : v.indirect ≡ s → ((k : ℕ) → 12 ≤ k → pointer old v k ≡ 0) → ChangesBlocks p v (record v { indirect = 0 }) old new
+  pub pointers_lost : v.indirect ≡ s → ((k : ℕ) → DIRECT_BLOCKS ≤ k → pointer old v k ≡ 0) → ChangesBlocks p v (record v { indirect = 0 }) old new
   pointers_lost was unused = loses place apart some (loses_indirect old new v s was unused) (releases_alone place apart f.mark f.clear)
 
   -- it holds what it held
-  pub pointers_lost_holds : (bytes : List ℕ) → v.indirect ≡ s → ((k : ℕ) → 12 ≤ k → pointer old v k ≡ 0) → Holds old v bytes → Holds new (record v { indirect = 0 }) bytes
+  pub pointers_lost_holds : (bytes : List ℕ) → v.indirect ≡ s → ((k : ℕ) → DIRECT_BLOCKS ≤ k → pointer old v k ≡ 0) → Holds old v bytes → Holds new (record v { indirect = 0 }) bytes
   pointers_lost_holds bytes was unused h = loses_pointers (loses_indirect old new v s was unused) same_then refl h
 
 -- a block of the sector of pointers is released: its pointer is written, and then its bit is cleared

@@ -10,6 +10,7 @@ use Rattle.std.proofs.lemmas.List.{get_or_past}
 use Rattle.std.proofs.lemmas.List.Elements.{All-nil}
 use Rattle.std.proofs.lemmas.Map.Made.{AllPairs-from_IsDistinct, IsDistinct-from_AllPairs}
 use Rattle.std.proofs.lemmas.Slice.Eq.{bytes_eq-Decides}
+use Rattle.fs_layout.specs.declared.place.TheConstants.{INODE_BITMAP}
 use Rattle.fs_layout.specs.declared.fault.LayoutFault.{LayoutFault}
 use Rattle.fs_layout.specs.Commit.{AreDistinct, AreTargets, FitsCommit, IsCommit, IsValidCommit, are_apart, are_targets, commit_bytes, commit_of, targets_if, targets_in}
 use Rattle.fs_layout.proofs.Codecs.{same_ok}
@@ -41,13 +42,13 @@ apart_decides ns =
     (λ e. AllPairs-from_IsDistinct Decides-eqb ns (passed_apart ns e), λ apart. apart_passes ns (IsDistinct-from_AllPairs Decides-eqb ns apart))
 
 abbrev IsInRange : ℕ → ℕ → Type 0
-IsInRange size t = (128 ≤ t) × (t < size)
+IsInRange size t = (INODE_BITMAP ≤ t) × (t < size)
 
 abbrev is_in_range : ℕ → ℕ → Bool
-is_in_range size t = nat_le 128 t && nat_lt t size
+is_in_range size t = nat_le INODE_BITMAP t && nat_lt t size
 
 range_decides : (size t : ℕ) → Decides (is_in_range size t) (IsInRange size t)
-range_decides size t = Decides-and (nat_le 128 t) (nat_lt t size) (leb-true 128 t, le-leb 128 t) (Decides-ltb t size)
+range_decides size t = Decides-and (nat_le INODE_BITMAP t) (nat_lt t size) (leb-true INODE_BITMAP t, le-leb INODE_BITMAP t) (Decides-ltb t size)
 
 ranges_decide : (size : ℕ) (ts : List ℕ) → Decides (list_all (is_in_range size) ts) (All (IsInRange size) ts)
 ranges_decide size ts =

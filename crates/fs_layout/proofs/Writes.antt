@@ -4,6 +4,7 @@ use Rattle.std.proofs.lemmas.List.{take_at, drop_at, drop-drop, drop_all, append
 use Rattle.std.proofs.lemmas.List.Concat.{flat_map-append}
 use Rattle.std.specs.Prelude.{set}
 use Rattle.std.specs.List.{flat_map}
+use Rattle.fs_layout.specs.declared.inode.TheConstants.{DIRECT_BLOCKS, INODE_SIZE}
 use Rattle.fs_layout.specs.declared.inode.Inode.{Inode}
 use native.Mathlib.Numerals.{unary_clauses}
 use Rattle.std.proofs.Common.{add-one}
@@ -122,7 +123,7 @@ pub length-zeros : (n : ℕ) → length (zeros n) ≡ n
 unfolding zeros
 length-zeros n = length-replicate n 0
 
-pub length-inode_bytes : (v : Inode) → length v.direct ≡ 12 → length (inode_bytes v) ≡ 128
+pub length-inode_bytes : (v : Inode) → length v.direct ≡ DIRECT_BLOCKS → length (inode_bytes v) ≡ INODE_SIZE
 unfolding le16 le32 le64
 length-inode_bytes v d = omega (arith, length-le32s v.direct, length-append (le32s v.direct) (le32 v.indirect ++ zeros 40), length-zeros 40)
 

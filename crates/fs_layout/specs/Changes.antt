@@ -10,6 +10,7 @@
 --     ChangesInode        both: one inode changes, with what it owns
 use Rattle.std.specs.Prelude.{◌≡◌, ◌≢◌, ℕ, ◌+◌, ◌-◌, ◌*◌, ◌/◌, ◌%◌, ◌^◌, ◌<◌, ◌≤◌, false, Ok, IsTrue, List, length, get_or, set, ◌⊎◌}
 use Rattle.fs_layout.specs.declared.inode.Inode.{Inode}
+use Rattle.fs_layout.specs.declared.inode.TheConstants.{INODE_SIZE, DIRECT_BLOCKS, INDIRECT_END}
 use Rattle.fs_layout.specs.declared.place.Place.{Place}
 use Rattle.fs_layout.specs.declared.place.TheConstants.{SECTOR_BITS}
 use Rattle.fs_layout.specs.Bytes.{SectorMap, IsSector, splice, le32}
@@ -27,11 +28,11 @@ pub record Puts (s : ℕ) (x : List ℕ) (old new : SectorMap) : Type 0 where
 
 -- in the sector of pointers y is written for block k, and nothing else differs
 pub record PutsEntry (v : Inode) (k y : ℕ) (old new : SectorMap) : Type 0 where
-  pub from : 12 ≤ k
-  pub to : k < 140
+  pub from : DIRECT_BLOCKS ≤ k
+  pub to : k < INDIRECT_END
   pub some : v.indirect ≢ 0
   pub fits : y < 2 ^ 32
-  pub put : Puts v.indirect (splice (old v.indirect) (4 * (k - 12)) (le32 y)) old new
+  pub put : Puts v.indirect (splice (old v.indirect) (4 * (k - DIRECT_BLOCKS)) (le32 y)) old new
 
 -- block k of bytes is x, which is zero where there are no bytes
 abbrev pub IsBlockOf : List ℕ → ℕ → List ℕ → Type 0
@@ -139,7 +140,7 @@ pub record ChangesBlocks (p : Place) (v w : Inode) (old new : SectorMap) : Type 
 
 -- inode n is written as v, and nothing else differs
 pub record Saves (p : Place) (n : ℕ) (v : Inode) (old new : SectorMap) : Type 0 where
-  pub here : new (p.table + n / 4) ≡ splice (old (p.table + n / 4)) (128 * (n % 4)) (inode_bytes v)
+  pub here : new (p.table + n / 4) ≡ splice (old (p.table + n / 4)) (INODE_SIZE * (n % 4)) (inode_bytes v)
   pub others : (s : ℕ) → s ≢ p.table + n / 4 → new s ≡ old s
 
 -- inode n changes with what it owns, and no other inode does

@@ -1,4 +1,4 @@
--- A directory: its slots of 128 bytes each, and the names in them. Our own layout.
+-- A directory: its slots, and the names in them. Our own layout.
 --     IsName, name_test        what a name is
 --     NamedInode, slot_bytes, slot_of        a slot: an inode under a name, its bytes, and what bytes are read as
 --     slots_bytes, names_of_slots, HaveDistinctNames        slots one after the other, and their names as a map
@@ -9,7 +9,7 @@ use Rattle.std.specs.List.{list_all, flat_map}
 use Rattle.std.specs.Str.{bytes_eq}
 use Rattle.fs_layout.specs.declared.fault.LayoutFault.{LayoutFault}
 use Rattle.fs_layout.specs.declared.fault.LayoutFault.TheVariants.{BadNumber, NotZero}
-use Rattle.fs_layout.specs.declared.slot.TheConstants.{MAX_NAME}
+use Rattle.fs_layout.specs.declared.slot.TheConstants.{MAX_NAME, SLOT_SIZE}
 use Rattle.fs_layout.specs.Bytes.{IsBytes, window, le32, zeros, u32_of, are_zero, SectorMap}
 use Rattle.fs_layout.specs.declared.inode.Kind.TheVariants as kinds
 use Rattle.fs_layout.specs.declared.inode.Inode.{Inode}
@@ -54,7 +54,7 @@ has_name s = nat_le (slice_index s 4) MAX_NAME && name_test (window s 8 (slice_i
 abbrev pub has_zeros : List ℕ → Bool
 has_zeros s = are_zero (window s 5 3) && are_zero (drop (8 + slice_index s 4) s)
 
--- the slot that 128 bytes are, or the first fault
+-- the slot that these bytes are, or the first fault
 unfoldable pub slot_of : List ℕ → Result NamedInode LayoutFault
 slot_of s =
     if has_name s then
@@ -79,11 +79,11 @@ HaveDistinctNames slots = AllPairs (λ a b. a.name ≢ b.name) slots
 
 -- how many slots a directory has
 abbrev pub slot_count : Inode → ℕ
-slot_count v = v.size / 128
+slot_count v = v.size / SLOT_SIZE
 
 -- the bytes of slot k
 unfoldable pub stored_slot : SectorMap → Inode → ℕ → List ℕ
-stored_slot m v k = window (m (pointer m v (k / 4))) (128 * (k % 4)) 128
+stored_slot m v k = window (m (pointer m v (k / 4))) (SLOT_SIZE * (k % 4)) SLOT_SIZE
 
 abbrev pub slot_or_none : Result NamedInode LayoutFault → NamedInode
 slot_or_none (Ok x) = x

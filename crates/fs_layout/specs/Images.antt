@@ -5,15 +5,17 @@
 --     bit, free_sectors        a bit of a bitmap; how many data sectors are free
 --     stored, inode_at        an inode's bytes, and the inode
 --     pointer, Part, part, Owns        the sectors that an inode owns, each by its role
+--     HasPointers, block_number        the indirect sector at hand, and the sector of a block by it
 --     byte_at, Holds, HasNoHole        the bytes that an inode holds
 use Rattle.std.specs.Prelude.{◌≡◌, ◌≢◌, ℕ, zero, suc, ◌+◌, ◌-◌, ◌*◌, ◌/◌, ◌%◌, ◌<◌, ◌≤◌, Bool, not, nat_eq, nat_lt, List, get_or, length, count_by, if◌then◌else◌, Result, Ok, Err}
 use Rattle.std.specs.Int.{bit_at}
 use Rattle.std.specs.List.{range_with_len}
 use Rattle.fs_layout.specs.declared.inode.Inode.{Inode}
+use Rattle.fs_layout.specs.declared.inode.TheConstants.{INODE_SIZE, DIRECT_BLOCKS, INDIRECT_END, DIRECT_SIZE}
 use Rattle.fs_layout.specs.declared.fault.LayoutFault.{LayoutFault}
 use Rattle.fs_layout.specs.declared.place.Place.{Place}
 use Rattle.fs_layout.specs.declared.place.TheConstants.{INODE_BITMAP, BLOCK_BITMAP, SECTOR_BITS}
-use Rattle.fs_layout.specs.Bytes.{SectorMap, IsSector, window, u32_of}
+use Rattle.fs_layout.specs.Bytes.{SectorMap, IsSector, window, zeros, u32_of}
 use Rattle.fs_layout.specs.Inode.{inode_of, free_inode}
 
 -- the sector of the inode bitmap
@@ -46,7 +48,7 @@ free_sectors p image = count_by (λ s. not (bit image block_bitmap s)) (range_wi
 
 -- the bytes of inode n
 unfoldable pub stored : Place → SectorMap → ℕ → List ℕ
-stored p image n = window (image (p.table + n / 4)) (128 * (n % 4)) 128
+stored p image n = window (image (p.table + n / 4)) (INODE_SIZE * (n % 4)) INODE_SIZE
 
 abbrev pub inode_or_free : Result Inode LayoutFault → Inode
 inode_or_free (Ok v) = v
@@ -64,12 +66,24 @@ pointer_in image (suc s) k = u32_of (image (suc s)) (4 * k)
 -- the sector of block k of an inode; 0 for a hole
 unfoldable pub pointer : SectorMap → Inode → ℕ → ℕ
 pointer image v k =
-    if nat_lt k 12 then get_or v.direct k 0 else (if nat_lt k 140 then pointer_in image v.indirect (k - 12) else 0)
+    if nat_lt k DIRECT_BLOCKS then get_or v.direct k 0 else
+    (if nat_lt k INDIRECT_END then pointer_in image v.indirect (k - DIRECT_BLOCKS) else 0)
+
+-- the content of an inode's indirect sector; zeros where it has none
+pub record HasPointers (image : SectorMap) (v : Inode) (pointers : List ℕ) : Type 0 where
+  pub is : v.indirect ≢ 0 → pointers ≡ image v.indirect
+  pub none : v.indirect ≡ 0 → pointers ≡ zeros 512
+
+-- the sector of block k by that content; 0 for a hole
+unfoldable pub block_number : Inode → List ℕ → ℕ → ℕ
+block_number v pointers k =
+    if nat_lt k DIRECT_BLOCKS then get_or v.direct k 0 else
+    (if nat_lt k INDIRECT_END then u32_of pointers (4 * (k - DIRECT_BLOCKS)) else 0)
 
 -- what an inode may own a sector for
 pub data Part : Type 0 where
   AccessAcl DefaultAcl : Part
-  -- the sector of the pointers to the blocks from 12 on
+  -- the sector of the pointers to the blocks from `DIRECT_BLOCKS` on
   Indirect : Part
   -- kept for larger files
   DoubleIndirect : Part
@@ -105,7 +119,7 @@ pub record Holds (image : SectorMap) (v : Inode) (bytes : List ℕ) : Type 0 whe
   pub size : v.size ≡ length bytes
   pub byte : (i : ℕ) → byte_at image v i ≡ get_or bytes i 0
   pub trim : (k : ℕ) → v.size ≤ 512 * k → pointer image v k ≡ 0
-  pub trim_pointers : v.size ≤ 6144 → v.indirect ≡ 0
+  pub trim_pointers : v.size ≤ DIRECT_SIZE → v.indirect ≡ 0
 
 -- each block within the size has a sector
 abbrev pub HasNoHole : SectorMap → Inode → Type 0

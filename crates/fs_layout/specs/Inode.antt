@@ -5,8 +5,9 @@ use Rattle.fs_layout.specs.declared.inode.Kind.TheVariants.{Free, File, Director
 use Rattle.fs_layout.specs.declared.inode.Inode.{Inode}
 use Rattle.fs_layout.specs.declared.fault.LayoutFault.{LayoutFault}
 use Rattle.fs_layout.specs.declared.fault.LayoutFault.TheVariants.{BadKind, BadNumber, NotZero}
-use Rattle.fs_layout.specs.declared.inode.TheConstants.{MAX_FILE_SIZE, MAX_LINK_SIZE}
+use Rattle.fs_layout.specs.declared.inode.TheConstants.{DIRECT_BLOCKS, MAX_FILE_SIZE, MAX_DIRECTORY_SIZE, MAX_LINK_SIZE}
 use Rattle.fs_layout.specs.declared.inode.TheConstants.Inode.{FREE}
+use Rattle.fs_layout.specs.declared.slot.TheConstants.{SLOT_SIZE}
 use Rattle.fs_layout.specs.Bytes.{le16, le32, le64, le32s, zeros, u16_of, u32_of, u64_of, u32s_of, are_zero}
 
 abbrev pub kind_number : Kind → ℕ
@@ -32,7 +33,7 @@ inode_bytes v =
 abbrev pub numbers_fit : Kind → ℕ → ℕ → Bool
 numbers_fit Free mode size = true
 numbers_fit File mode size = nat_le mode 0o777 && nat_le size MAX_FILE_SIZE
-numbers_fit Directory mode size = (nat_le mode 0o3777 && nat_le size MAX_FILE_SIZE) && nat_eq (size % 128) 0
+numbers_fit Directory mode size = (nat_le mode 0o3777 && nat_le size MAX_DIRECTORY_SIZE) && nat_eq (size % SLOT_SIZE) 0
 numbers_fit Link mode size = (nat_eq mode 0o777 && nat_le 1 size) && nat_le size MAX_LINK_SIZE
 
 unfoldable pub inode_fits : Inode → Bool
@@ -58,7 +59,7 @@ pub record FitsInode (v : Inode) : Type 0 where
   pub parent : v.parent < 2 ^ 32
   pub acl : v.acl < 2 ^ 32
   pub default_acl : v.default_acl < 2 ^ 32
-  pub direct_len : length v.direct ≡ 12
+  pub direct_len : length v.direct ≡ DIRECT_BLOCKS
   pub direct : (i : ℕ) → get_or v.direct i 0 < 2 ^ 32
   pub indirect : v.indirect < 2 ^ 32
 
@@ -73,7 +74,7 @@ fields_of kind s = record {
   parent = u32_of s 24;
   acl = u32_of s 28;
   default_acl = u32_of s 32;
-  direct = u32s_of s 36 12;
+  direct = u32s_of s 36 DIRECT_BLOCKS;
   indirect = u32_of s 84;
 }
 

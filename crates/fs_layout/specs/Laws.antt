@@ -1,15 +1,17 @@
 -- Laws that functions without a body prove: numbers as bytes, what a recovered image is, what changing one inode
 -- leaves alone, and what maps, a directory's names and stored ACLs are.
-use Rattle.std.specs.Prelude.{ℕ, ◌+◌, ◌<◌, ◌≤◌, ◌^◌, ◌≡◌, ◌≢◌, List, length, map, get_or, Option, None, Some, Ok, Contains, ◌↔◌}
+use Rattle.std.specs.Prelude.{ℕ, ◌+◌, ◌<◌, ◌≤◌, ◌^◌, ◌≡◌, ◌≢◌, List, length, map, get_or, Option, None, Some, Ok, All, Contains, ◌↔◌}
 use Rattle.std.specs.List.{range_with_len}
 use Rattle.std.specs.declared.cmp.Ordering.{Ordering}
 use Rattle.posix_acl.specs.AccessList.{AccessList, IsAcl, IsSomeAcl, list_numbers, mode_bits}
 use Rattle.fs_layout.specs.declared.inode.Inode.{Inode}
+use Rattle.fs_layout.specs.declared.inode.TheConstants.{MAX_DIRECTORY_SIZE}
 use Rattle.fs_layout.specs.declared.place.Place.{Place}
 use Rattle.fs_layout.specs.declared.place.TheConstants.{COMMIT_SECTOR, FIRST_LOG_SECTOR}
+use Rattle.fs_layout.specs.declared.slot.TheConstants.{MAX_NAMES, SLOT_SIZE}
 use Rattle.fs_layout.specs.Bytes.{IsBytes, IsSector, SectorMap, splice, window}
 use Rattle.fs_layout.specs.Inode.{FitsInode}
-use Rattle.fs_layout.specs.Directories.{NamedInode, slot_of}
+use Rattle.fs_layout.specs.Directories.{NamedInode, FitsSlot, slot_bytes, slots_bytes, slot_of}
 use Rattle.fs_layout.specs.AclSector.{FitsAclSector, acl_sector_of}
 use Rattle.fs_layout.specs.Images.{inode_at, pointer}
 use Rattle.fs_layout.specs.Ownership.{IsConsistent, Agrees}
@@ -81,6 +83,11 @@ pub record AreNamesOf (slots : List NamedInode) : Type 0 where
   pub count : length (names_of_slots slots) ≡ length slots
   pub each : (name : List ℕ) (n : ℕ)
       → (get name_cmp (names_of_slots slots) name ≡ Some n) ↔ Contains slots (record { inode = n; name = name })
+
+-- A name fits its slot, and so do as many slots as a directory has names the bytes of the largest one.
+pub record NamesFit : Type 0 where
+  pub slot : (x : NamedInode) → FitsSlot x → length (slot_bytes x) ≡ SLOT_SIZE
+  pub slots : (slots : List NamedInode) → All FitsSlot slots → length slots ≤ MAX_NAMES → length (slots_bytes slots) ≤ MAX_DIRECTORY_SIZE
 
 abbrev pub SlotsHaveNames : Type 0
 SlotsHaveNames = (slots : List NamedInode) → HaveDistinctNames slots → AreNamesOf slots

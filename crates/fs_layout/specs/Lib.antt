@@ -11,3 +11,4 @@ pub mod Ownership
 pub mod Place
 pub mod Recovered
 pub mod Superblock
+pub mod Version

@@ -1,19 +1,51 @@
 //! An inode of the inode table, 128 bytes.
 
-ghost use Rattle.std.specs.Prelude.{◌≡◌, ◌≤◌, ◌+◌, length, IfOk, Ok};
-ghost use Rattle.fs_layout.specs.Bytes.{splice, window};
+ghost use Rattle.std.specs.Prelude.{◌≡◌, ◌≤◌, ◌+◌, ℕ, length, IfOk, Ok};
+ghost use Rattle.fs_layout.specs.Bytes.{SectorMap, splice, window};
+ghost use Rattle.fs_layout.specs.Images.{pointer, HasPointers, block_number};
 ghost use Rattle.fs_layout.specs.Inode.{inode_bytes, inode_of, inode_fits, kind_number, kind_of, fields_end, IsInode, FitsInode};
 
 use crate::bytes::{
     are_zero, get_u32s, put_u16, put_u32, put_u32s, put_u64, put_zeros, u16_at, u32_at, u64_at,
 };
 use crate::fault::LayoutFault;
+use crate::slot::{MAX_NAMES, SLOT_SIZE};
 
-/// The most bytes of a file, and of the slots of a directory: 12 blocks of 512, and 128 in the sector of pointers.
-pub const MAX_FILE_SIZE: u64 = (12 + 128) * 512;
+/// The bytes of an inode in the inode table.
+pub const INODE_SIZE: usize = 128;
+
+/// The blocks of an inode whose sectors' numbers stand in it.
+pub const DIRECT_BLOCKS: u64 = 12;
+
+/// The block numbers that a sector of pointers has.
+pub const SECTOR_POINTERS: u64 = 128;
+
+/// Where the blocks end whose numbers stand in the indirect sector.
+pub const INDIRECT_END: u64 = DIRECT_BLOCKS + SECTOR_POINTERS;
+
+/// The most blocks of an inode.
+pub const MAX_BLOCKS: u64 = INDIRECT_END;
+
+/// The bytes of the direct blocks. An inode of at most so many has no indirect sector.
+pub const DIRECT_SIZE: u64 = 512 * DIRECT_BLOCKS;
+
+/// The most bytes of a file.
+pub const MAX_FILE_SIZE: u64 = 512 * MAX_BLOCKS;
+
+/// The most bytes of a directory: those of [`crate::MAX_NAMES`] slots.
+pub const MAX_DIRECTORY_SIZE: u64 = (MAX_NAMES * SLOT_SIZE) as u64;
 
 /// The most bytes of a link's target.
 pub const MAX_LINK_SIZE: u64 = 512;
+
+/// The most names of one file or link.
+pub const MAX_INODE_NAMES: u32 = 500;
+
+/// The bit of a directory's mode that restricts who removes its names (sticky).
+pub const S_ISVTX: u16 = 0o1000;
+
+/// The bit of a directory's mode that gives its group to what is made in it (set-group-ID).
+pub const S_ISGID: u16 = 0o2000;
 
 /// What an inode is: nothing yet, or a node of the tree.
 #[derive(Clone, Copy, Debug, PartialEq, Eq)]
@@ -73,8 +105,8 @@ pub struct Inode {
     pub gid: u32,
     /// How many names the inode has in directories; of a directory 1.
     pub names: u32,
-    /// The bytes of a file, at most [`MAX_FILE_SIZE`]; 128 for each slot of a directory, at most [`crate::MAX_NAMES`]
-    /// slots; the bytes of a link's target, 1 to [`MAX_LINK_SIZE`].
+    /// The bytes of a file, at most [`MAX_FILE_SIZE`]; [`SLOT_SIZE`] for each slot of a directory, at most
+    /// [`MAX_DIRECTORY_SIZE`]; the bytes of a link's target, 1 to [`MAX_LINK_SIZE`].
     pub size: u64,
     /// The inode of the directory that a directory lies in, the root's own for the root; else 0.
     pub parent: u32,
@@ -82,9 +114,9 @@ pub struct Inode {
     pub acl: u32,
     /// The sector of the default ACL, or 0: none.
     pub default_acl: u32,
-    /// The sectors of the first 12 blocks; 0 is a hole.
-    pub direct: [u32; 12],
-    /// The sector that lists the sectors of the next 128 blocks, or 0: none of them is there.
+    /// The sectors of the first [`DIRECT_BLOCKS`] blocks; 0 is a hole.
+    pub direct: [u32; DIRECT_BLOCKS as usize],
+    /// The sector that lists the sectors of the next [`SECTOR_POINTERS`] blocks, or 0: none of them is there.
     pub indirect: u32,
 }
 
@@ -100,7 +132,7 @@ impl Inode {
         parent: 0,
         acl: 0,
         default_acl: 0,
-        direct: [0; 12],
+        direct: [0; DIRECT_BLOCKS as usize],
         indirect: 0,
     };
 
@@ -112,14 +144,14 @@ impl Inode {
             Kind::Free => true,
             Kind::File => self.mode <= 0o777 && self.size <= MAX_FILE_SIZE,
             Kind::Directory => self.mode <= 0o3777
-                && self.size <= MAX_FILE_SIZE
-                && self.size % 128 == 0,
+                && self.size <= MAX_DIRECTORY_SIZE
+                && self.size % SLOT_SIZE as u64 == 0,
             Kind::Link => self.mode == 0o777 && 1 <= self.size && self.size <= MAX_LINK_SIZE,
         }
     }
 
     fn put(&self, to: &mut [u8])
-        requires { length to.old ≡ 128 }
+        requires { length to.old ≡ INODE_SIZE }
         ensures { to.new ≡ inode_bytes self.now }
     {
         put_u16(to, 0, self.kind.number());
@@ -138,13 +170,13 @@ impl Inode {
 
     #[tactic(auto, unfolding(crate::specs::Inode::inode_of))]
     fn get(from: &[u8]) -> Result<Inode, LayoutFault>
-        requires { length from.now ≡ 128 }
+        requires { length from.now ≡ INODE_SIZE }
         ensures { result ≡ inode_of from.now }
     {
         let Some(kind) = Kind::of_number(u16_at(from, 0)) else {
             return Err(LayoutFault::BadKind);
         };
-        let mut direct = [0; 12];
+        let mut direct = [0; DIRECT_BLOCKS as usize];
         get_u32s(from, 36, &mut direct);
         let inode = Inode {
             kind,
@@ -168,25 +200,53 @@ impl Inode {
         Ok(inode)
     }
 
-    /// Writes the 128 bytes from `at` on.
+    /// Where the blocks end that the inode can have, by whether it has an indirect sector.
+    pub fn block_end(&self) -> u64
+        ensures most { result ≤ MAX_BLOCKS }
+        ensures past { (image : SectorMap) (k : ℕ) → result ≤ k → pointer image self.now k ≡ 0 }
+    {
+        if self.indirect == 0 {
+            DIRECT_BLOCKS
+        } else {
+            INDIRECT_END
+        }
+    }
+
+    /// The sector of block `k`; 0 for a hole. `pointers` is the content of the inode's indirect sector, zeros where it
+    /// has none.
+    #[tactic(auto, unfolding(crate::specs::Images::block_number))]
+    pub fn block_number(&self, pointers: &[u8; 512], k: u64) -> u32
+        ensures value { result ≡ block_number self.now pointers.now k }
+        ensures is { (image : SectorMap) → HasPointers image self.now pointers.now → result ≡ pointer image self.now k }
+    {
+        if k < DIRECT_BLOCKS {
+            self.direct[k as usize]
+        } else if k < INDIRECT_END {
+            u32_at(pointers, 4 * (k - DIRECT_BLOCKS) as usize)
+        } else {
+            0
+        }
+    }
+
+    /// Writes the [`INODE_SIZE`] bytes from `at` on.
     pub fn write_to(&self, to: &mut [u8; 512], at: usize)
-        requires room { at + 128 ≤ 512 }
+        requires room { at + INODE_SIZE ≤ 512 }
         requires valid { IsInode self.now }
         ensures { to.new ≡ splice to.old at (inode_bytes self.now) }
     {
-        self.put(&mut to[at..at + 128]);
+        self.put(&mut to[at..at + INODE_SIZE]);
     }
 
-    /// Reads the 128 bytes from `at` on.
+    /// Reads the [`INODE_SIZE`] bytes from `at` on.
     pub fn read_from(from: &[u8; 512], at: usize) -> Result<Inode, LayoutFault>
-        requires { at + 128 ≤ 512 }
+        requires { at + INODE_SIZE ≤ 512 }
         // What is read is spelled so.
-        ensures found { IfOk result (λ v. (window from.now at 128 ≡ inode_bytes v) × FitsInode v) }
+        ensures found { IfOk result (λ v. (window from.now at INODE_SIZE ≡ inode_bytes v) × FitsInode v) }
         // What is spelled so is read.
-        ensures only { (v : Inode) → FitsInode v → window from.now at 128 ≡ inode_bytes v → result ≡ Ok v }
+        ensures only { (v : Inode) → FitsInode v → window from.now at INODE_SIZE ≡ inode_bytes v → result ≡ Ok v }
         // Which fault it is.
-        ensures first_fault { result ≡ inode_of (window from.now at 128) }
+        ensures first_fault { result ≡ inode_of (window from.now at INODE_SIZE) }
     {
-        Inode::get(&from[at..at + 128])
+        Inode::get(&from[at..at + INODE_SIZE])
     }
 }

@@ -1,7 +1,12 @@
 //! Where the parts of a disk begin.
 
 ghost use Rattle.std.specs.Prelude.{◌≡◌, ◌+◌, ◌*◌, ◌/◌, ◌%◌, ◌<◌, ◌≤◌, ◌^◌, IfSome};
-ghost use Rattle.fs_layout.specs.Place.{the_place, IsPlace};
+ghost use Rattle.fs_layout.specs.Place.{place_in, the_place, IsPlace};
+ghost use Rattle.fs_layout.specs.Version.{max_file_size};
+ghost use Rattle.fs_layout.specs.declared.inode.TheConstants.{MAX_DIRECTORY_SIZE, MAX_FILE_SIZE};
+
+use crate::inode::INODE_SIZE;
+use crate::version::Version;
 
 /// The number of the commit sector.
 pub const COMMIT_SECTOR: u32 = 1;
@@ -21,11 +26,13 @@ pub const SECTOR_BITS: u32 = 4096;
 /// The inode of the root.
 pub const ROOT: u32 = 1;
 
-/// The layout of a disk: how many sectors and inodes it has, and where the inode table and the data begin.
+/// The layout of a disk: its version, how many sectors and inodes it has, and where the inode table and the data begin.
 ///
 /// The inode bitmap is sector [`INODE_BITMAP`] and the block bitmap begins at sector [`BLOCK_BITMAP`], on each disk.
 #[derive(Clone, Copy)]
 pub struct Place {
+    /// The version of the layout.
+    pub version: Version,
     /// The number of sectors of the disk.
     pub sectors: u32,
     /// The number of inodes; inode 0 is never used.
@@ -37,6 +44,15 @@ pub struct Place {
 }
 
 impl Place {
+    /// The most bytes of a file on this disk.
+    pub fn max_file_size(self) -> u64
+        ensures value { result ≡ max_file_size self.version }
+        ensures least { MAX_DIRECTORY_SIZE ≤ result }
+        ensures most { result ≤ MAX_FILE_SIZE }
+    {
+        self.version.max_file_size()
+    }
+
     /// The sector of the inode table that has inode `n`, which lies in it from [`Place::inode_offset`] on.
     pub fn inode_sector(self, n: u32) -> u32
         requires room { self.table + n / 4 < 2 ^ 32 }
@@ -45,19 +61,27 @@ impl Place {
         self.table + n / 4
     }
 
-    /// Where in its sector the 128 bytes of inode `n` begin.
+    /// Where in its sector the bytes of inode `n` begin.
     pub fn inode_offset(self, n: u32) -> usize
-        ensures value { result ≡ 128 * (n % 4) }
-        ensures room { result + 128 ≤ 512 }
+        ensures value { result ≡ INODE_SIZE * (n % 4) }
+        ensures room { result + INODE_SIZE ≤ 512 }
     {
-        128 * (n % 4) as usize
+        INODE_SIZE * (n % 4) as usize
     }
 }
 
-/// The layout of a disk of so many sectors and inodes; None where the disk may not have these numbers.
-#[tactic(auto, unfolding(crate::specs::Place::the_place))]
+/// The layout of a new disk of so many sectors and inodes; None where a disk may not have these numbers.
 pub fn place_of(sectors: u32, inodes: u32) -> Option<Place>
     ensures value { result ≡ the_place sectors inodes }
+    ensures room { IfSome result IsPlace }
+{
+    place_in(Version::NEWEST, sectors, inodes)
+}
+
+// The layout in this version of a disk of so many sectors and inodes; None where a disk may not have these numbers.
+#[tactic(auto, unfolding(crate::specs::Place::place_in))]
+pub(crate) fn place_in(version: Version, sectors: u32, inodes: u32) -> Option<Place>
+    ensures value { result ≡ place_in version sectors inodes }
     ensures room { IfSome result IsPlace }
 {
     if sectors < 1024 || 65536 < sectors || inodes < 16 || SECTOR_BITS < inodes {
@@ -69,6 +93,7 @@ pub fn place_of(sectors: u32, inodes: u32) -> Option<Place>
         return None;
     }
     Some(Place {
+        version,
         sectors,
         inodes,
         table,

@@ -8,10 +8,13 @@ use crate::bytes::{are_zero, put_bytes, put_u32, put_zeros, u32_at};
 use crate::fault::LayoutFault;
 use std::marker::Model;
 
+/// The bytes of a slot.
+pub const SLOT_SIZE: usize = 128;
+
 /// The most bytes that a name has.
 pub const MAX_NAME: usize = 120;
 
-/// The most names that a directory has: its slots are [`crate::MAX_FILE_SIZE`] bytes then.
+/// The most names that a directory has.
 pub const MAX_NAMES: usize = 560;
 
 /// An inode and a name that it has in a directory. A contract sees both by `NamedInode`.
@@ -78,7 +81,7 @@ impl Slot {
     }
 
     fn put(&self, to: &mut [u8])
-        requires { length to.old ≡ 128 }
+        requires { length to.old ≡ SLOT_SIZE }
         ensures { to.new ≡ slot_bytes self.now }
     {
         let name = self.name();
@@ -91,7 +94,7 @@ impl Slot {
 
     #[tactic(auto, unfolding(crate::specs::Directories::slot_of))]
     fn get(from: &[u8]) -> Result<Slot, LayoutFault>
-        requires { length from.now ≡ 128 }
+        requires { length from.now ≡ SLOT_SIZE }
         ensures { result ≡ slot_of from.now }
     {
         let length = from[4] as usize;
@@ -111,24 +114,24 @@ impl Slot {
         Ok(Slot::new(u32_at(from, 0), name))
     }
 
-    /// Writes the 128 bytes from `at` on.
+    /// Writes the [`SLOT_SIZE`] bytes from `at` on.
     pub fn write_to(&self, to: &mut [u8; 512], at: usize)
-        requires { at + 128 ≤ 512 }
+        requires { at + SLOT_SIZE ≤ 512 }
         ensures { to.new ≡ splice to.old at (slot_bytes self.now) }
     {
-        self.put(&mut to[at..at + 128]);
+        self.put(&mut to[at..at + SLOT_SIZE]);
     }
 
-    /// Reads the 128 bytes from `at` on. Whether there is such an inode is not asked.
+    /// Reads the [`SLOT_SIZE`] bytes from `at` on. Whether there is such an inode is not asked.
     pub fn read_from(from: &[u8; 512], at: usize) -> Result<Slot, LayoutFault>
-        requires { at + 128 ≤ 512 }
+        requires { at + SLOT_SIZE ≤ 512 }
         // What is read is spelled so.
-        ensures found { IfOk result (λ v. (window from.now at 128 ≡ slot_bytes v) × FitsSlot v) }
+        ensures found { IfOk result (λ v. (window from.now at SLOT_SIZE ≡ slot_bytes v) × FitsSlot v) }
         // What is spelled so is read.
-        ensures only { (v : NamedInode) → FitsSlot v → window from.now at 128 ≡ slot_bytes v → result ≡ Ok v }
+        ensures only { (v : NamedInode) → FitsSlot v → window from.now at SLOT_SIZE ≡ slot_bytes v → result ≡ Ok v }
         // Which fault it is.
-        ensures first_fault { result ≡ slot_of (window from.now at 128) }
+        ensures first_fault { result ≡ slot_of (window from.now at SLOT_SIZE) }
     {
-        Slot::get(&from[at..at + 128])
+        Slot::get(&from[at..at + SLOT_SIZE])
     }
 }

@@ -1,19 +1,22 @@
 //! The superblock, sector 0.
 
-ghost use Rattle.std.specs.Prelude.{◌≡◌, length, IfOk, Ok};
-ghost use Rattle.fs_layout.specs.Superblock.{super_bytes, super_of, FitsSuper};
+ghost use Rattle.std.specs.Prelude.{◌≡◌, length, IfOk, IfSome, Ok};
+ghost use Rattle.fs_layout.specs.Place.{IsPlace};
+ghost use Rattle.fs_layout.specs.Superblock.{super_bytes, super_of, super_for, place_for, FitsSuper};
 
 use crate::bytes::{are_zero, put_u32, put_zeros, u32_at};
 use crate::fault::LayoutFault;
+use crate::place::{Place, place_in};
+use crate::version::Version;
 
 const SUPER_MAGIC: u32 = 0x534f4e49;
 
-const VERSION: u32 = 1;
-
-/// What the superblock says of its disk. Whether the disk is of that size, and [`crate::place_of`] gives a layout, is
+/// What the superblock says of its disk. Whether the disk is of that size, and [`Super::place`] gives a layout, is
 /// not asked here.
 #[derive(Clone, Copy, PartialEq, Eq)]
 pub struct Super {
+    /// The version of the layout.
+    pub version: Version,
     /// The number of sectors of the disk.
     pub sectors: u32,
     /// The number of inodes; inode 0 is never used.
@@ -21,12 +24,31 @@ pub struct Super {
 }
 
 impl Super {
+    /// The superblock of a disk of this layout.
+    pub fn of_place(place: Place) -> Super
+        ensures { result ≡ super_for place }
+    {
+        Super {
+            version: place.version,
+            sectors: place.sectors,
+            inodes: place.inodes,
+        }
+    }
+
+    /// The layout of the disk; None where a disk may not have these numbers.
+    pub fn place(self) -> Option<Place>
+        ensures value { result ≡ place_for self }
+        ensures room { IfSome result IsPlace }
+    {
+        place_in(self.version, self.sectors, self.inodes)
+    }
+
     fn put(&self, to: &mut [u8])
         requires { length to.old ≡ 512 }
         ensures { to.new ≡ super_bytes self.now }
     {
         put_u32(to, 0, SUPER_MAGIC);
-        put_u32(to, 4, VERSION);
+        put_u32(to, 4, self.version.number());
         put_u32(to, 8, self.sectors);
         put_u32(to, 12, self.inodes);
         put_zeros(to, 16, 496);
@@ -40,15 +62,19 @@ impl Super {
         if u32_at(from, 0) != SUPER_MAGIC {
             return Err(LayoutFault::BadMagic);
         }
-        if u32_at(from, 4) != VERSION {
+        let Some(version) = Version::of_number(u32_at(from, 4)) else {
             return Err(LayoutFault::BadVersion);
-        }
+        };
         if !are_zero(&from[16..]) {
             return Err(LayoutFault::NotZero);
         }
         let sectors = u32_at(from, 8);
         let inodes = u32_at(from, 12);
-        Ok(Super { sectors, inodes })
+        Ok(Super {
+            version,
+            sectors,
+            inodes,
+        })
     }
 
     /// Writes the sector; `at` is 0.

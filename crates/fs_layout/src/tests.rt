@@ -1,7 +1,7 @@
 //! What the documents say of an image's bytes, and that each call succeeds.
 
 use crate::LayoutFault::{self, BadKind, BadMagic, BadNumber, BadVersion, NotZero};
-use crate::{AclSector, Commit, Inode, Kind, Slot, Super, is_name, place_of};
+use crate::{AclSector, Commit, Inode, Kind, Slot, Super, Version, is_name, place_of};
 use posix_acl::EntryNumbers;
 
 // A structure. The tests have each at an offset of its own in a sector.
@@ -26,6 +26,7 @@ impl Part {
 }
 
 const SUPERBLOCK: Super = Super {
+    version: Version::One,
     sectors: 1024,
     inodes: 64,
 };

@@ -23,6 +23,7 @@ use Rattle.fs_model.specs.Stands.{HoldsPlaced, HoldsAll, placed, room_of}
 use Rattle.fs_model.proofs.StepsParents.{parent_is}
 use Rattle.fs_model.specs.Rules.{ImageRule, InodeBits, Inodes, InData, OwnedOnce, BlockBits, LaidOut, Acls, Slots, NamesApart, Names, Parents, Ways, ObeysEach, IsLaidOut, HasAcls, IsGoodInode, HasNameCount, GoesUp, at_root, above, namings, namings_in, is_directory_kind}
 use Rattle.fs_model.proofs.ListedMaps.{listed, listed-IsMap, get-listed, get-past}
+use Rattle.fs_layout.proofs.Versions.{max_file_size_is}
 use Rattle.fs_layout.proofs.SlotNames.{names-IsMap, length-names, named_by}
 use Rattle.fs_model.specs.Summaries.{is_used}
 use Rattle.fs_model.proofs.KindFields.{kind_field, inode_fits_at}
@@ -216,7 +217,8 @@ module _ (p : Place) (m : SectorMap) (place : IsPlace p) (sectors : (s : â„•) â†
   body_is n lt (File a bytes) h =
       let size = h.holds.size in
       let numbers = file_fits (inode_at p m n) h.kind (fits n lt).valid.numbers in
-      (h.acl, omega (arith, size, numbers.1), held_bytes n lt bytes h.holds)
+      let limit = max_file_size_is p.version in
+      (h.acl, omega (arith, size, numbers.1, limit), held_bytes n lt bytes h.holds)
   body_is n lt (Dir a d) h = (h.acl, h.default, directory_is n lt h)
   body_is n lt (Link target) h = target_is n lt target h
 

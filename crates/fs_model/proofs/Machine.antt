@@ -1,7 +1,7 @@
 -- The machine run: the least new numbers, and files without holes.
 --     fresh        the state of a disk of 1,024 sectors and 64 inodes that was just made
 --     replies        what it answers to events, one after another
---     then_replies        the same after `three_users`: a directory /w that everyone may write, and processes of the superuser,
+--     then_replies        the same after `three_users`: a directory /w that everyone may write, and processes of user 0,
 --                         of user 1000 and of user 1001
 use Rattle.std.specs.Prelude.{◌≡◌, ℕ, ◌-◌, true, false, List, [], ◌∷◌, codes, None, Some}
 use Rattle.std.proofs.Common.{refl}
@@ -27,10 +27,12 @@ use Rattle.fs_model.specs.Trails.{trail_of}
 use Rattle.fs_model.specs.Walks.{first_refusal, found_of}
 use Rattle.fs_model.specs.Rows.{row_of}
 use Rattle.fs_model.specs.Steps.{Choice, firm_refusal, other_refusal, after, state_after}
+use Rattle.fs_layout.specs.declared.version.Version.TheVariants.{One}
+use Rattle.fs_layout.specs.Version.{max_file_size}
 
 abbrev pub fresh : State
 fresh = record {
-  room = record { inodes = 64; sectors = 878; file_limit = 71680 };
+  room = record { inodes = 64; sectors = 878; file_limit = max_file_size One };
   tree = empty_tree;
   desks = [];
   free = 878;

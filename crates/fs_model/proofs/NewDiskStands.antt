@@ -9,14 +9,16 @@ use Rattle.fs_layout.specs.declared.inode.Kind.TheVariants as kinds
 use Rattle.fs_layout.specs.declared.place.Place.{Place}
 use Rattle.fs_layout.specs.Bytes.{SectorMap}
 use Rattle.fs_layout.specs.Inode.{FitsInode, free_inode, inode_fits, inode_of}
-use Rattle.fs_layout.specs.Place.{IsPlace}
+use Rattle.fs_layout.specs.Version.{newest}
+use Rattle.fs_layout.specs.Place.{IsPlace, place_in}
+use Rattle.fs_layout.specs.Superblock.{super_for}
 use Rattle.std.specs.Option.{option_map}
 use Rattle.fs_layout.specs.Images.{IsData, bit, block_bitmap, inode_at, stored, free_sectors}
 use Rattle.fs_layout.specs.Ownership.{IsConsistent}
 use Rattle.fs_layout.specs.Recovered.{recovered}
 use Rattle.fs_layout.proofs.Bits.{has_bit, set_or_clear, free_sectors_all}
 use Rattle.fs_layout.proofs.Free.{HasNoSector, owns_nothing, holds_nothing, free_has_no_sector, free_fits, consistent_without_owners}
-use Rattle.fs_layout.proofs.Places.{place_is_place}
+use Rattle.fs_layout.proofs.Places.{place_is_place, place_is_laid_out}
 use Rattle.fs_layout.proofs.RecoveryLaw.{recovered-idle}
 use Rattle.fs_layout.proofs.Targets.{no_targets}
 use Rattle.fs_layout.proofs.Saves.{inode_there, valid_there}
@@ -100,7 +102,7 @@ empty_is_tree room many = record {
 
 module _ (p : Place) (image : SectorMap) (h : IsNewImage p image) where
   place : IsPlace p
-  place = place_is_place p.sectors p.inodes h.has_place
+  place = place_is_place newest p.sectors p.inodes h.has_place
 
   few : root < p.inodes
   few = let many = place.least_inodes in omega (arith, many)
@@ -183,14 +185,19 @@ module _ (p : Place) (image : SectorMap) (h : IsNewImage p image) where
   idle : recovered p.sectors image ≡ image
   idle = λ i s. recovered-idle p.sectors image s small h.commit i
 
+  -- it says its own version
+  own_place : place_in p.version p.sectors p.inodes ≡ Some p
+  own_place =
+      ap (λ v. place_in v p.sectors p.inodes) (ap (λ (q : Place). q.version) (place_is_laid_out {version = newest} p.sectors p.inodes h.has_place)) ∙ h.has_place
+
   pub new_disk_stands : Stands p.sectors image (room_of p) empty_tree (p.sectors - p.first_data)
   new_disk_stands = record {
-    super = record { sectors = p.sectors; inodes = p.inodes };
+    super = super_for p;
     place = p;
     super_is = h.super;
     super_fits = record { sectors = small; inodes = (let most = place.most_inodes in omega (arith, most)) };
     same_size = refl;
-    has_place = h.has_place;
+    has_place = own_place;
     commit_is = record { targets = []; is = record { bytes = h.commit; valid = no_targets p.sectors } };
     room_is = refl;
     holds = subst (λ m. HoldsAll p m (placed empty_tree)) (sym idle) held;

@@ -7,12 +7,14 @@ use Rattle.std.proofs.lemmas.Bool.{cases_eq, cases_lt, eq-eqb, ne_eqb, lt-ltb, l
 use Rattle.std.proofs.lemmas.Nat.Bits.{bit_at_lowest, bit_at-suc}
 use Rattle.std.proofs.lemmas.List.{get_or_past}
 use Rattle.std.proofs.lemmas.List.FromFn.{get_or-map-range_with_len, length-map-range_with_len}
+use Rattle.fs_layout.specs.declared.inode.TheConstants.{INODE_SIZE}
 use Rattle.fs_layout.specs.declared.place.Place.{Place}
 use Rattle.fs_layout.specs.Bytes.{SectorMap, IsBytes, IsSector, window, zeros, le16, le32, le64, le32s}
-use Rattle.fs_layout.specs.Superblock.{super_bytes}
+use Rattle.fs_layout.specs.Superblock.{super_bytes, super_for}
 use Rattle.fs_layout.specs.Commit.{commit_bytes}
 use Rattle.fs_layout.specs.Inode.{inode_bytes, free_inode}
-use Rattle.fs_layout.specs.Place.{IsPlace, the_place, laid_out}
+use Rattle.fs_layout.specs.Version.{newest}
+use Rattle.fs_layout.specs.Place.{IsPlace, place_in, the_place, laid_out}
 use Rattle.fs_layout.specs.Images.{HasWholeTables, map_bits, bit, inode_bitmap, block_bitmap, stored}
 use Rattle.fs_layout.proofs.Places.{place_is_place, after_map}
 use Rattle.fs_layout.proofs.Sectors.{IsBytes-append, IsBytes-zeros, IsBytes-inode_bytes}
@@ -98,7 +100,7 @@ from_or false c t = inr t
 
 -- inode 1 is the second of the four of its sector
 root_sector : List ℕ
-root_sector = zeros 128 ++ (inode_bytes root_inode ++ zeros 256)
+root_sector = zeros INODE_SIZE ++ (inode_bytes root_inode ++ zeros 256)
 
 module _ (p : Place) where
   inode_marks : ℕ → Bool
@@ -118,7 +120,7 @@ module _ (p : Place) where
   tables s = cond (nat_eq s 128) (bit_sector inode_marks) (from_map s)
 
   new_image : SectorMap
-  new_image zero = super_bytes (record { sectors = p.sectors; inodes = p.inodes })
+  new_image zero = super_bytes (super_for p)
   new_image (suc zero) = commit_bytes []
   new_image (suc (suc s)) = cond (nat_lt (suc (suc s)) 128) (zeros 512) (tables (suc (suc s)))
 
@@ -158,7 +160,7 @@ module _ (p : Place) where
 -- ---- inodes
 
 -- a quarter of a sector of zeros is a free inode
-free_quarter : (k : ℕ) → k < 4 → window (zeros 512) (128 * k) 128 ≡ inode_bytes free_inode
+free_quarter : (k : ℕ) → k < 4 → window (zeros 512) (INODE_SIZE * k) INODE_SIZE ≡ inode_bytes free_inode
 unfolding le16 le32 le64 le32s zeros
 free_quarter zero lt = refl
 free_quarter (suc zero) lt = refl
@@ -167,7 +169,7 @@ free_quarter (suc (suc (suc zero))) lt = refl
 free_quarter (suc (suc (suc (suc k)))) lt = absurd (omega arith)
 
 -- and so is one of the root's sector, but for the root's
-other_quarter : (k : ℕ) → k < 4 → k ≢ 1 → window root_sector (128 * k) 128 ≡ inode_bytes free_inode
+other_quarter : (k : ℕ) → k < 4 → k ≢ 1 → window root_sector (INODE_SIZE * k) INODE_SIZE ≡ inode_bytes free_inode
 unfolding root_sector le16 le32 le64 le32s zeros
 other_quarter zero lt ne = refl
 other_quarter (suc zero) lt ne = absurd (ne refl)
@@ -175,14 +177,14 @@ other_quarter (suc (suc zero)) lt ne = refl
 other_quarter (suc (suc (suc zero))) lt ne = refl
 other_quarter (suc (suc (suc (suc k)))) lt ne = absurd (omega arith)
 
-root_quarter : window root_sector 128 128 ≡ inode_bytes root_inode
+root_quarter : window root_sector INODE_SIZE INODE_SIZE ≡ inode_bytes root_inode
 unfolding root_sector le16 le32 le64 le32s zeros
 root_quarter = refl
 
 root_sector_bytes : IsBytes root_sector
 unfolding root_sector
 root_sector_bytes =
-    IsBytes-append (zeros 128) (inode_bytes root_inode ++ zeros 256) (IsBytes-zeros 128)
+    IsBytes-append (zeros INODE_SIZE) (inode_bytes root_inode ++ zeros 256) (IsBytes-zeros 128)
     (IsBytes-append (inode_bytes root_inode) (zeros 256) (IsBytes-inode_bytes root_inode) (IsBytes-zeros 256))
 
 root_sector_whole : IsSector root_sector
@@ -193,7 +195,7 @@ root_sector_whole = record { len = refl; bytes = root_sector_bytes }
 
 module _ (p : Place) (there : the_place p.sectors p.inodes ≡ Some p) where
   place : IsPlace p
-  place = place_is_place p.sectors p.inodes there
+  place = place_is_place newest p.sectors p.inodes there
 
   past_map : 128 < p.table
   past_map = let after = after_map place in omega (arith, after)
@@ -241,15 +243,15 @@ module _ (p : Place) (there : the_place p.sectors p.inodes ≡ Some p) where
   unfolding stored
   root_is =
       let sector : p.table + root / 4 ≡ p.table = omega arith in
-      ap (λ s. window s 128 128) (ap (new_image p) sector ∙ root_there p past_map) ∙ root_quarter
+      ap (λ s. window s INODE_SIZE INODE_SIZE) (ap (new_image p) sector ∙ root_there p past_map) ∙ root_quarter
 
   others_free : (n : ℕ) → n < p.inodes → n ≢ root → stored p (new_image p) n ≡ inode_bytes free_inode
   unfolding stored
   others_free n lt ne = elim (cases_lt n 4) [
     | inl few ↦
         let sector : p.table + n / 4 ≡ p.table = omega arith in
-        ap (λ s. window s (128 * (n % 4)) 128) (ap (new_image p) sector ∙ root_there p past_map) ∙ other_quarter (n % 4) (omega arith) (λ e. ne (omega arith))
-    | inr more ↦ ap (λ s. window s (128 * (n % 4)) 128) (zeros_there p (p.table + n / 4) past_map (omega arith)) ∙ free_quarter (n % 4) (omega arith)
+        ap (λ s. window s (INODE_SIZE * (n % 4)) INODE_SIZE) (ap (new_image p) sector ∙ root_there p past_map) ∙ other_quarter (n % 4) (omega arith) (λ e. ne (omega arith))
+    | inr more ↦ ap (λ s. window s (INODE_SIZE * (n % 4)) INODE_SIZE) (zeros_there p (p.table + n / 4) past_map (omega arith)) ∙ free_quarter (n % 4) (omega arith)
   ]
 
   new_image_is_new : IsNewImage p (new_image p)
@@ -273,7 +275,7 @@ small_disk : Place
 small_disk = laid_out 1024 64
 
 small_disk_is_there : the_place 1024 64 ≡ Some small_disk
-unfolding the_place small_disk
+unfolding place_in small_disk
 small_disk_is_there = refl
 
 -- and so some image stands for a tree

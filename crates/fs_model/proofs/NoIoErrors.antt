@@ -1,5 +1,5 @@
 -- No demand refuses with EIO: of a walk, of a call, or of another event.
-use Rattle.std.specs.Prelude.{◌≡◌, ◌≢◌, ℕ, ◌+◌, zero, suc, ◌-◌, nat_lt, nat_le, Bool, true, false, not, ◌&&◌, ◌||◌, cond, List, [], ◌∷◌, ◌++◌, length, Option, None, Some}
+use Rattle.std.specs.Prelude.{◌≡◌, ◌≢◌, ℕ, ◌+◌, zero, suc, ◌-◌, nat_lt, nat_le, Bool, true, false, not, ◌&&◌, ◌||◌, cond, List, [], ◌∷◌, ◌++◌, length, Option, None, Some, Ok, Err}
 use Rattle.std.proofs.Common.{refl, ap}
 use Rattle.std.specs.List.{flat_map}
 use Rattle.std.specs.Ordering.{nat_cmp}
@@ -10,11 +10,11 @@ use Rattle.fs_cred.specs.declared.node.Node.{Node as AccessNode}
 use Rattle.fs_cred.specs.declared.refusal.Need.{Need}
 use Rattle.fs_cred.specs.declared.refusal.Need.TheVariants.{Search, Perm, Own, Chown as ChownNeed, Chgrp, Remove}
 use Rattle.fs_cred.specs.declared.refusal.Refusal.TheVariants.{Failed}
-use Rattle.fs_cred.specs.declared.rule.Rule.{Rule}
-use Rattle.fs_cred.specs.declared.rule.Rule.TheVariants.{NotOwner, NotSuperuser, NotMember, Sticky}
+use Rattle.fs_cred.specs.declared.rule.Verdict.{Verdict}
 use Rattle.fs_cred.specs.Credentials.{Credential}
 use Rattle.fs_cred.specs.Decisions.{is_file}
 use Rattle.fs_cred.specs.Verdicts.{verdict}
+use Rattle.fs_cred.specs.Ownership.{Answer}
 use Rattle.fs_model.specs.declared.walk.Form.{Form}
 use Rattle.fs_model.specs.declared.walk.Found.{Found}
 use Rattle.fs_model.specs.declared.walk.Form.TheVariants.{Follow, NoFollow, Parent}
@@ -29,7 +29,7 @@ use Rattle.fs_model.specs.Nodes.{Node, Body, File, Dir, Link, is_directory, name
 use Rattle.fs_model.specs.Trees.{Tree, node_at}
 use Rattle.fs_model.specs.Processes.{Process}
 use Rattle.fs_model.specs.States.{State}
-use Rattle.fs_model.specs.Demands.{Demand, refuse, or_else, first_of, only_if, denied_unless, search_only, write_and_search, perms, failed_with, accessed_at, permission_of, permission_on, search_of, search_on}
+use Rattle.fs_model.specs.Demands.{Demand, refuse, or_else, first_of, only_if, decided, allowed_by, search_only, write_and_search, perms, failed_with, accessed_at, permission_of, permission_on, search_of, search_on}
 use Rattle.fs_model.specs.Parts.{is_empty, parts_of, start_of, path_checks}
 use Rattle.fs_model.specs.Trails.{Lookup, Trail, Outcome, Faulty, Absent, Reaches, Through, GoesOn, reached_body, reached, named_inode, arrival, looked_up, through_if, onward, lookups_from, trail_with, follows_last, trail_of}
 use Rattle.fs_model.specs.Walks.{lookup_refusal, least_refusal, slash_refusal, first_refusal}
@@ -83,16 +83,23 @@ only : (b : Bool) (ds : List Demand) → AllSpare ds → AllSpare (only_if b ds)
 only true ds all = all
 only false ds all = tt
 
-denied : (granted : Bool) (walk step : ℕ) (need : Need) (rule : Rule) → Spares (denied_unless granted walk step need rule)
-denied true walk step need rule = refl
-denied false walk step need rule = refl
+denied : (walk step : ℕ) (need : Need) (v : Verdict) → Spares (decided walk step need v)
+denied walk step need v = go v.yes
+  where
+    go : (yes : Bool) → Spares (decided walk step need (record { yes = yes; rule = v.rule }))
+    go true = refl
+    go false = refl
+
+answered : (walk step : ℕ) (need : Need) (a : Answer) → Spares (allowed_by walk step need a)
+answered walk step need (Ok done) = refl
+answered walk step need (Err rule) = refl
 
 permitted : (cred : Credential) (t : Tree) (n : ℕ) (want : Perms) (walk step : ℕ) → Spares (permission_on cred t n want walk step)
 permitted cred t n want walk step = go (accessed_at t n)
   where
     go : (o : Option AccessNode) → Spares (permission_of cred want walk step o)
     go None = refl
-    go (Some node) = let v = verdict cred node want in denied v.yes walk step (Perm want) v.rule
+    go (Some node) = denied walk step (Perm want) (verdict cred node want)
 
 searched : (cred : Credential) (t : Tree) (n walk step : ℕ) → Spares (search_on cred t n walk step)
 searched cred t n walk step = go (accessed_at t n)
@@ -101,9 +108,9 @@ searched cred t n walk step = go (accessed_at t n)
     go None = refl
     go (Some node) = known (is_file node.kind)
       where
-        known : (file : Bool) → Spares (cond file None (let v = verdict cred node search_only in denied_unless v.yes walk step Search v.rule))
+        known : (file : Bool) → Spares (cond file None (decided walk step Search (verdict cred node search_only)))
         known true = refl
-        known false = let v = verdict cred node search_only in denied v.yes walk step Search v.rule
+        known false = denied walk step Search (verdict cred node search_only)
 
 -- ---- walks
 
@@ -237,10 +244,10 @@ at_dir : (s : Scene) (f : Found) (walk : ℕ) → Spares (permission_at_dir s f 
 at_dir s f walk = permitted s.process.cred s.state.tree f.dir write_and_search walk (f.step - 1)
 
 sticky : (s : Scene) (f : Found) (walk : ℕ) → Spares (sticky_at_dir s f walk)
-sticky s f walk = denied _ walk (f.step - 1) Remove Sticky
+sticky s f walk = answered walk (f.step - 1) Remove _
 
 own : (s : Scene) → Spares (own_at_end s)
-own s = denied _ 1 s.first.step Own NotOwner
+own s = answered 1 s.first.step Own _
 
 space : (s : Scene) → AllSpare (space_to_make s)
 space s = (refused ENOSPC _ refl, (refused ENOSPC _ refl, (refused ENOSPC _ refl, tt)))
@@ -300,7 +307,7 @@ row_spares (Chmod path mode) =
     of_path (check_of_mode mode ∷ []) Follow path chmod_demands (chmod_effect mode) (refused EINVAL _ refl, tt) (λ s. (there s.first, (own s, tt)))
 row_spares (Chown path owner group) =
     of_path [] Follow path (chown_demands owner group) (chown_effect owner group) tt
-    (λ s. (there s.first, (own s, (denied _ 1 s.first.step ChownNeed NotSuperuser, (denied _ 1 s.first.step Chgrp NotMember, tt)))))
+    (λ s. (there s.first, (answered 1 s.first.step Own _, (answered 1 s.first.step ChownNeed _, (answered 1 s.first.step Chgrp _, tt)))))
 row_spares (GetAcl path which) = of_path [] Follow path stat_demands (get_acl_effect which) tt (λ s. (there s.first, tt))
 row_spares (SetAcl path which acl) =
     of_path (set_acl_arguments which acl) Follow path (set_acl_demands which acl) (set_acl_effect which acl) (refused EINVAL _ refl, tt)

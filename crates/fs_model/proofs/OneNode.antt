@@ -2,6 +2,7 @@
 use Rattle.std.specs.Prelude.{◌≡◌, ℕ, ◌+◌, ◌<◌, Bool, true, false, cond}
 use Rattle.std.proofs.Common.{refl, sym, ap, arith, ◌∙◌}
 use Rattle.posix_acl.specs.AccessList.{mode_bits}
+use Rattle.fs_layout.specs.declared.inode.TheConstants.{S_ISGID, S_ISVTX}
 use Rattle.fs_layout.specs.declared.inode.Kind.TheVariants as kinds
 use Rattle.fs_layout.specs.declared.inode.Inode.{Inode}
 use Rattle.fs_layout.specs.Bytes.{SectorMap}
@@ -16,7 +17,7 @@ directory_same x y e f g h =
     let whole : record x { sticky = x.sticky } ≡ record y { sticky = y.sticky } = rw (e, f, g, h) refl in whole
 
 -- the bits of a mode are told apart
-bits_same : (m n : ℕ) (s g t h : Bool) → m < 512 → n < 512 → m + cond s 512 0 + cond g 1024 0 ≡ n + cond t 512 0 + cond h 1024 0
+bits_same : (m n : ℕ) (s g t h : Bool) → m < 512 → n < 512 → m + cond s S_ISVTX 0 + cond g S_ISGID 0 ≡ n + cond t S_ISVTX 0 + cond h S_ISGID 0
     → (m ≡ n) × (s ≡ t) × (g ≡ h)
 bits_same m n true true true true a b e = (omega (arith, e), refl, refl)
 bits_same m n true false true false a b e = (omega (arith, e), refl, refl)

@@ -8,7 +8,7 @@ use Rattle.fs_layout.specs.declared.inode.Inode.{Inode}
 use Rattle.fs_layout.specs.Bytes.{SectorMap}
 use Rattle.fs_layout.specs.Inode.{free_inode}
 use Rattle.fs_layout.specs.Images.{inode_at, free_sectors}
-use Rattle.fs_layout.specs.Place.{the_place}
+use Rattle.fs_layout.specs.Place.{place_in}
 use Rattle.fs_layout.specs.Recovered.{recovered}
 use Rattle.fs_layout.specs.Superblock.{FitsSuper, super_bytes, super_of}
 use Rattle.fs_layout.proofs.SuperLaw.{super_codec}
@@ -57,7 +57,7 @@ pub one_tree : (sectors : ℕ) (image : SectorMap) (room room' : Room) (t t' : T
     → Stands sectors image room t free → Stands sectors image room' t' free' → AreSame room room' t t' free free'
 one_tree sectors image room room' t t' free free' x y =
     let super : x.super ≡ y.super = same_spelling 512 FitsSuper super_bytes super_of super_codec x.super y.super x.super_fits y.super_fits (sym x.super_is ∙ y.super_is) in
-    let place : x.place ≡ y.place = some_same x.place y.place _ _ x.has_place y.has_place (ap (λ s. the_place sectors s.inodes) super) in
+    let place : x.place ≡ y.place = some_same x.place y.place _ _ x.has_place y.has_place (ap (λ s. place_in s.version sectors s.inodes) super) in
     let now : SectorMap = recovered sectors image in
     let held : HoldsAll y.place now (placed t) = subst (λ p. HoldsAll p now (placed t)) place x.holds in
     let first : IsTree (room_of y.place) t = subst (λ r. IsTree r t) (x.room_is ∙ ap room_of place) x.tree_is in

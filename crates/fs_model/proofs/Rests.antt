@@ -34,7 +34,7 @@ pub standing_rests : (sectors : ℕ) (old new : SectorMap) (room : Room) (t : Tr
 standing_rests sectors old new room t free same x =
     let p = x.place in
     let size : p.sectors ≡ sectors = ap (λ q. q.sectors) (place_is_laid_out sectors x.super.inodes x.has_place) in
-    let place = place_is_place sectors x.super.inodes x.has_place in
+    let place = place_is_place _ sectors x.super.inodes x.has_place in
     let each : (s : ℕ) → 128 ≤ s → s < p.sectors → recovered sectors new s ≡ recovered sectors old s =
     λ s past low. recovered-same sectors old new s same.commit same.log (λ none. same.others s past (omega (arith, low, size))) in
     standing_rests_on_reading sectors old new room t free x (record {

@@ -72,7 +72,7 @@ pub mkdir_in_order : then_replies (
 unfolding verdict trail_of first_refusal found_of row_of firm_refusal other_refusal after
 mkdir_in_order = refl
 
--- a directory /d of the superuser's, and of user 1000 a file /w/f and a directory /w/m
+-- a directory /d of user 0, and of user 1000 a file /w/f and a directory /w/m
 abbrev some_objects : List Event
 some_objects = Calls 1 (Mkdir (codes "/d") 0o755) ∷ Calls 2 (Open (codes "/w/f") to_write 0o600) ∷ Calls 2 (Mkdir (codes "/w/m") 0o755) ∷ []
 

@@ -16,7 +16,7 @@ use Rattle.fs_model.specs.Rows.{row_of}
 use Rattle.fs_model.specs.Steps.{firm_refusal, other_refusal, after}
 use Rattle.fs_model.proofs.Machine.{fresh, replies, then_replies, user, to_write, denied, shows_file, shows_directory}
 
--- the empty root is the superuser's, and others may read and search it
+-- the empty root is user 0's, and others may read and search it
 pub the_empty_root : replies fresh (
     user 0 0 [] ∷ Calls 1 (Stat (codes "/")) ∷ Calls 1 (Access (codes "/") (perms_of 7)) ∷ user 1000 100 []
     ∷ Calls 2 (Access (codes "/") (perms_of 7)) ∷ Calls 2 (Access (codes "/") (perms_of 5)) ∷ []) ≡
@@ -87,7 +87,7 @@ pub default_acls : then_replies (
 unfolding verdict trail_of first_refusal found_of row_of firm_refusal other_refusal after
 default_acls = refl
 
--- the superuser executes what somebody may execute
+-- user 0 executes what somebody may execute
 pub execute_bits : then_replies (
     Calls 1 (Open (codes "/x") to_write 0o644) ∷ Calls 1 (Access (codes "/x") (perms_of 1)) ∷ Calls 1 (Chmod (codes "/x") 0o1)
     ∷ Calls 1 (Access (codes "/x") (perms_of 1)) ∷ []) ≡

@@ -6,6 +6,7 @@ use Rattle.std.proofs.lemmas.Bool.{cases_eq, cases_lt}
 use Rattle.std.proofs.lemmas.Bool.Decides.{nat_tests}
 use Rattle.std.proofs.lemmas.List.{get_or_past}
 use Rattle.posix_acl.specs.AccessList.{AccessList, IsAcl, is_extended, mode_bits, IsSomeAcl}
+use Rattle.fs_layout.specs.declared.inode.TheConstants.{S_ISGID, S_ISVTX}
 use Rattle.fs_layout.specs.declared.inode.Kind.TheVariants as kinds
 use Rattle.fs_layout.specs.declared.inode.Inode.{Inode}
 use Rattle.fs_layout.specs.declared.place.Place.{Place}
@@ -79,7 +80,7 @@ default_stored : (m : SectorMap) (v : Inode) (d : Option AccessList) → IsSomeA
 default_stored m v None valid h some = absurd (some h)
 default_stored m v (Some a) valid h some = record { acl = a; stored = stored_acl (m v.default_acl) a valid h.1 }
 
-low_bits : (mode low : ℕ) (s g : Bool) → low < 512 → mode ≡ low + cond s 512 0 + cond g 1024 0 → low ≡ mode % 512
+low_bits : (mode low : ℕ) (s g : Bool) → low < 512 → mode ≡ low + cond s S_ISVTX 0 + cond g S_ISGID 0 → low ≡ mode % 512
 low_bits mode low true true small e = omega (arith, small, e)
 low_bits mode low true false small e = omega (arith, small, e)
 low_bits mode low false true small e = omega (arith, small, e)

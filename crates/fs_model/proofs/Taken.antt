@@ -8,6 +8,8 @@ use Rattle.std.proofs.lemmas.List.{length-append}
 use Rattle.std.proofs.lemmas.List.Sums.{sum_by-cons, count_by-le-length}
 use Rattle.std.proofs.lemmas.List.FromFn.{length-range_with_len}
 use Rattle.posix_acl.specs.AccessList.{AccessList, is_extended}
+use Rattle.fs_layout.specs.declared.inode.TheConstants.{DIRECT_BLOCKS, DIRECT_SIZE}
+use Rattle.fs_layout.specs.declared.slot.TheConstants.{SLOT_SIZE}
 use Rattle.fs_layout.specs.declared.inode.Inode.{Inode}
 use Rattle.fs_layout.specs.declared.place.Place.{Place}
 use Rattle.fs_layout.specs.Bytes.{SectorMap}
@@ -65,19 +67,19 @@ blocks_for size = (size + 511) / 512
 
 -- of so many bytes: the blocks, and the sector of pointers
 content : SectorMap → Inode → ℕ → List ℕ
-content image v size = blocks image v (blocks_for size) ++ only (nat_lt 12 (blocks_for size)) v.indirect
+content image v size = blocks image v (blocks_for size) ++ only (nat_lt DIRECT_BLOCKS (blocks_for size)) v.indirect
 
 length-content : (image : SectorMap) (v : Inode) (size : ℕ) → length (content image v size) ≡ sectors_for size
 unfolding content
 length-content image v size =
-    let a = length-append (blocks image v (blocks_for size)) (only (nat_lt 12 (blocks_for size)) v.indirect) in
+    let a = length-append (blocks image v (blocks_for size)) (only (nat_lt DIRECT_BLOCKS (blocks_for size)) v.indirect) in
     let b = length-blocks image v (blocks_for size) in
-    let c = length-only (nat_lt 12 (blocks_for size)) v.indirect in
+    let c = length-only (nat_lt DIRECT_BLOCKS (blocks_for size)) v.indirect in
     omega (arith, a, b, c)
 
 abbrev taken : SectorMap → Inode → Body → List ℕ
 taken image v (File a bytes) = content image v (length bytes) ++ only (is_extended a) v.acl
-taken image v (Dir a d) = (content image v (128 * length d.names) ++ only (is_extended a) v.acl) ++ only (is_some d.default) v.default_acl
+taken image v (Dir a d) = (content image v (SLOT_SIZE * length d.names) ++ only (is_extended a) v.acl) ++ only (is_some d.default) v.default_acl
 taken image v (Link target) = pointer image v 0 ∷ []
 
 length-taken : (image : SectorMap) (v : Inode) (b : Body) → length (taken image v b) ≡ sectors_of b
@@ -87,9 +89,9 @@ length-taken image v (File a bytes) =
     let z = length-only (is_extended a) v.acl in
     omega (arith, x, y, z)
 length-taken image v (Dir a d) =
-    let w = length-append (content image v (128 * length d.names) ++ only (is_extended a) v.acl) (only (is_some d.default) v.default_acl) in
-    let x = length-append (content image v (128 * length d.names)) (only (is_extended a) v.acl) in
-    let y = length-content image v (128 * length d.names) in
+    let w = length-append (content image v (SLOT_SIZE * length d.names) ++ only (is_extended a) v.acl) (only (is_some d.default) v.default_acl) in
+    let x = length-append (content image v (SLOT_SIZE * length d.names)) (only (is_extended a) v.acl) in
+    let y = length-content image v (SLOT_SIZE * length d.names) in
     let z = length-only (is_extended a) v.acl in
     let q = length-only (is_some d.default) v.default_acl in
     omega (arith, w, x, y, z, q)
@@ -105,12 +107,12 @@ in_content image v size k trim some = elim (cases_lt (512 * k) size) [
   | inr ge ↦ absurd (some (trim ge))
 ]
 
-pointers_in_content : (image : SectorMap) (v : Inode) (size : ℕ) → (size ≤ 6144 → v.indirect ≡ 0) → v.indirect ≢ 0 → Names (content image v size) v.indirect
+pointers_in_content : (image : SectorMap) (v : Inode) (size : ℕ) → (size ≤ DIRECT_SIZE → v.indirect ≡ 0) → v.indirect ≢ 0 → Names (content image v size) v.indirect
 unfolding content
-pointers_in_content image v size trim some = elim (cases_lt 6144 size) [
+pointers_in_content image v size trim some = elim (cases_lt DIRECT_SIZE size) [
   | inl lt ↦
-      in_second (blocks image v (blocks_for size)) (only (nat_lt 12 (blocks_for size)) v.indirect) v.indirect
-      (in_only (nat_lt 12 (blocks_for size)) v.indirect (lt-ltb 12 (blocks_for size) (omega (arith, lt))))
+      in_second (blocks image v (blocks_for size)) (only (nat_lt DIRECT_BLOCKS (blocks_for size)) v.indirect) v.indirect
+      (in_only (nat_lt DIRECT_BLOCKS (blocks_for size)) v.indirect (lt-ltb DIRECT_BLOCKS (blocks_for size) (omega (arith, lt))))
   | inr ge ↦ absurd (some (trim ge))
 ]
 
@@ -151,11 +153,11 @@ module _ (image : SectorMap) (v : Inode) where
       in_first (content image v (length bytes)) (only (is_extended a) v.acl) (pointer image v k) (in_bytes (length bytes) bytes h.holds refl (Block k) (inr (k, refl)) some)
   part_taken (Dir a d) h short at some = in_directory at some
     where
-      len : length (slots_bytes h.names.slots) ≡ 128 * length d.names
+      len : length (slots_bytes h.names.slots) ≡ SLOT_SIZE * length d.names
       len = let n = h.names in let x = length-slots n.slots n.each in let y = ap length n.are ∙ length-names n.slots n.apart in omega (arith, x, y)
 
       bytes : List ℕ
-      bytes = content image v (128 * length d.names)
+      bytes = content image v (SLOT_SIZE * length d.names)
 
       in_directory : (at : Part) → part image v at ≢ 0 → Names (taken image v (Dir a d)) (part image v at)
       in_directory AccessAcl some =
@@ -166,11 +168,11 @@ module _ (image : SectorMap) (v : Inode) where
           (in_only (is_some d.default) v.default_acl (default_is_there image v.default_acl d.default h.has_default some))
       in_directory Indirect some =
           in_first (bytes ++ only (is_extended a) v.acl) (only (is_some d.default) v.default_acl) v.indirect
-          (in_first bytes (only (is_extended a) v.acl) v.indirect (in_bytes (128 * length d.names) (slots_bytes h.names.slots) h.names.holds len Indirect (inl refl) some))
+          (in_first bytes (only (is_extended a) v.acl) v.indirect (in_bytes (SLOT_SIZE * length d.names) (slots_bytes h.names.slots) h.names.holds len Indirect (inl refl) some))
       in_directory DoubleIndirect some = absurd (some refl)
       in_directory (Block k) some =
           in_first (bytes ++ only (is_extended a) v.acl) (only (is_some d.default) v.default_acl) (pointer image v k)
-          (in_first bytes (only (is_extended a) v.acl) (pointer image v k) (in_bytes (128 * length d.names) (slots_bytes h.names.slots) h.names.holds len (Block k) (inr (k, refl)) some))
+          (in_first bytes (only (is_extended a) v.acl) (pointer image v k) (in_bytes (SLOT_SIZE * length d.names) (slots_bytes h.names.slots) h.names.holds len (Block k) (inr (k, refl)) some))
   part_taken (Link target) h short AccessAcl some = absurd (some h.no_acl)
   part_taken (Link target) h short DefaultAcl some = absurd (some h.no_default)
   part_taken (Link target) h short Indirect some = absurd (some (h.holds.trim_pointers (let size = h.holds.size in omega (arith, size, short))))

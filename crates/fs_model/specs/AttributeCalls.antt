@@ -6,21 +6,21 @@ use Rattle.std.specs.Prelude.{ℕ, ◌/◌, ◌%◌, ◌==◌, nat_lt, Bool, tru
 use Rattle.posix_acl.specs.declared.entry.Perms.{Perms}
 use Rattle.posix_acl.specs.AccessList.{AccessList, with_mode_bits, is_extended}
 use Rattle.fs_cred.specs.declared.errno.Errno.TheVariants.{ENOTDIR, EISDIR, EINVAL, EFBIG}
-use Rattle.fs_cred.specs.declared.refusal.Need.TheVariants.{Chown, Chgrp}
-use Rattle.fs_cred.specs.declared.rule.Rule.TheVariants.{NotSuperuser, NotMember}
+use Rattle.fs_cred.specs.declared.refusal.Need.TheVariants.{Own, Chown, Chgrp}
 use Rattle.fs_cred.specs.declared.node.Node.{Node as AccessNode}
-use Rattle.fs_cred.specs.Credentials.{Credential, is_superuser, is_member}
+use Rattle.fs_cred.specs.Credentials.{Credential}
 use Rattle.fs_cred.specs.Verdicts.{verdict}
-use Rattle.fs_cred.specs.Ownership.{may_chown, may_chgrp}
+use Rattle.fs_cred.specs.Ownership.{owns_or_may_chown, may_chown, may_chgrp, keeps_set_group_id}
 use Rattle.fs_model.specs.declared.call.AclType.{AclType}
 use Rattle.fs_model.specs.declared.call.AclType.TheVariants.{Access, Default}
 use Rattle.fs_model.specs.declared.reply.Reply.{Reply}
 use Rattle.fs_model.specs.declared.reply.Reply.TheVariants.{Done, Shown, Granted, Acl, Mask}
 use Rattle.fs_model.specs.Nodes.{Node, Body, File, Dir, Link, is_directory, acl_in, default_in, with_acl, with_default, accessed}
-use Rattle.fs_model.specs.Demands.{Demand, refuse, only_if, perms, denied_unless, search_on}
+use Rattle.fs_model.specs.Demands.{Demand, refuse, only_if, perms, allowed_by, search_on}
 use Rattle.fs_model.specs.declared.walk.Form.TheVariants.{Follow, NoFollow}
 use Rattle.fs_model.specs.Scenes.{Scene, Effect, Row, number, node_found, body_found, permission_at_end, own_at_end, must_be_there, no_blocks, check_of_mode, nothing_asked, answers, with_process, rewrites, none_early, by_path}
 use Rattle.fs_model.specs.DescriptorCalls.{shown, resized_node}
+use Rattle.fs_layout.specs.declared.inode.TheConstants.{S_ISGID, S_ISVTX}
 
 -- ---- stat and lstat
 
@@ -67,7 +67,7 @@ truncate_effect size s new = rewrites s (number s.first) (resized_node size)
 abbrev pub truncate_row : List ℕ → ℕ → Row
 truncate_row path size = by_path [] Follow path (truncate_demands size) (truncate_effect size)
 
--- ---- chmod: who isn't in the directory's group can't set S_ISGID, and is told nothing of it
+-- ---- chmod: who may not set S_ISGID of a directory is told nothing of it
 
 abbrev pub chmod_demands : Scene → List Demand
 chmod_demands s = must_be_there s.first ∷ own_at_end s ∷ []
@@ -76,8 +76,8 @@ abbrev pub with_mode : Credential → ℕ → ℕ → Body → Body
 with_mode cred group mode (File a bytes) = File (with_mode_bits a mode) bytes
 with_mode cred group mode (Dir a d) =
     Dir (with_mode_bits a mode) (record d {
-      sticky = mode / 512 % 2 == 1;
-      set_group_id = mode / 1024 % 2 == 1 && (is_superuser cred || is_member cred group);
+      sticky = mode / S_ISVTX % 2 == 1;
+      set_group_id = mode / S_ISGID % 2 == 1 && keeps_set_group_id cred group;
     })
 with_mode cred group mode (Link target) = Link target
 
@@ -96,9 +96,9 @@ abbrev pub chown_demands : Option ℕ → Option ℕ → Scene → List Demand
 chown_demands owner group s =
     let node = node_found s s.first in
     must_be_there s.first
-    ∷ own_at_end s
-    ∷ denied_unless (may_chown s.process.cred node.owner (unwrap_or owner node.owner)) 1 s.first.step Chown NotSuperuser
-    ∷ denied_unless (may_chgrp s.process.cred node.group (unwrap_or group node.group)) 1 s.first.step Chgrp NotMember
+    ∷ allowed_by 1 s.first.step Own (owns_or_may_chown s.process.cred node.owner)
+    ∷ allowed_by 1 s.first.step Chown (may_chown s.process.cred node.owner (unwrap_or owner node.owner))
+    ∷ allowed_by 1 s.first.step Chgrp (may_chgrp s.process.cred node.group (unwrap_or group node.group))
     ∷ []
 
 abbrev pub owned : Option ℕ → Option ℕ → Node → Node

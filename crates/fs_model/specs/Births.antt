@@ -9,6 +9,7 @@ use Rattle.posix_acl.specs.AccessList.{AccessList, inherited}
 use Rattle.fs_cred.specs.Credentials.{Credential}
 use Rattle.fs_model.specs.Nodes.{Node, Body, File, Dir, Link, Directory, directory_in}
 use Rattle.fs_model.specs.Trees.{Tree, node_at}
+use Rattle.fs_layout.specs.declared.inode.TheConstants.{S_ISGID, S_ISVTX}
 
 abbrev pub no_directory : Directory
 no_directory = record { names = []; default = None; set_group_id = false; sticky = false }
@@ -61,7 +62,7 @@ born_directory cred umask mode directory =
       names = [];
       default = d.default;
       set_group_id = d.set_group_id;
-      sticky = mode / 512 % 2 == 1;
+      sticky = mode / S_ISVTX % 2 == 1;
     }))
 
 abbrev pub born_link : Credential → List ℕ → Node → Node

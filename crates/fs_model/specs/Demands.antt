@@ -1,9 +1,10 @@
 -- What a call demands, and with what it is refused where a demand isn't met. Our own rule: the first demand that
 -- fails, in the order in which they are written, refuses.
 --     Demand        nothing, or the refusal
---     refuse, denied_unless, or_else, first_of        one demand, and several
+--     refuse, or_else, first_of        one demand, and several
+--     denial, decided, allowed_by        denied by an access decision, or by a rule of ownership
 --     permission_on, search_on        an access decision on what stands at a number
-use Rattle.std.specs.Prelude.{ℕ, Bool, true, false, List, [], ◌∷◌, if◌then◌else◌, Option, None, Some, option_and_then}
+use Rattle.std.specs.Prelude.{ℕ, Bool, true, false, List, [], ◌∷◌, if◌then◌else◌, Option, None, Some, option_and_then, Ok, Err}
 use Rattle.posix_acl.specs.declared.entry.Perms.{Perms}
 use Rattle.fs_cred.specs.declared.errno.Errno.{Errno}
 use Rattle.fs_cred.specs.declared.refusal.Need.{Need}
@@ -17,6 +18,7 @@ use Rattle.fs_cred.specs.Refusals.{need_errno}
 use Rattle.fs_cred.specs.Credentials.{Credential}
 use Rattle.fs_cred.specs.Decisions.{is_file}
 use Rattle.fs_cred.specs.Verdicts.{verdict}
+use Rattle.fs_cred.specs.Ownership.{Answer}
 use Rattle.fs_model.specs.Nodes.{accessed}
 use Rattle.fs_model.specs.Trees.{Tree, node_at}
 
@@ -47,13 +49,17 @@ failed_with None = None
 failed_with (Some e) = Some (Failed e)
 
 -- A denial names the path (1 or 2), the number of lookups before what refused, what was needed, and the rule.
-abbrev pub denied_unless : Bool → ℕ → ℕ → Need → Rule → Demand
-denied_unless granted walk step need rule =
-    if granted then None
-    else Some (Denied (record { errno = need_errno need; walk = walk; step = step; need = need; rule = rule }))
+abbrev pub denial : ℕ → ℕ → Need → Rule → Refusal
+denial walk step need rule = Denied (record { errno = need_errno need; walk = walk; step = step; need = need; rule = rule })
 
+-- an access decision grants it
 abbrev pub decided : ℕ → ℕ → Need → Verdict → Demand
-decided walk step need v = denied_unless v.yes walk step need v.rule
+decided walk step need v = if v.yes then None else Some (denial walk step need v.rule)
+
+-- a rule of ownership allows it
+abbrev pub allowed_by : ℕ → ℕ → Need → Answer → Demand
+allowed_by walk step need (Ok done) = None
+allowed_by walk step need (Err rule) = Some (denial walk step need rule)
 
 abbrev pub perms : Bool → Bool → Bool → Perms
 perms r w x = record { read = r; write = w; execute = x }

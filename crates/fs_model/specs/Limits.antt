@@ -2,12 +2,11 @@
 -- its constants.
 --     name_limit, path_limit, links_limit        NAME_MAX, PATH_MAX less 1, SYMLOOP_MAX
 --     target_limit, names_limit, entries_limit        SYMLINK_MAX, LINK_MAX, the names in one directory
---     file_size_limit        the bytes of one file
 --     descriptors_limit, processes_limit, move_limit        OPEN_MAX, CHILD_MAX, bytes in one read or write
 --     least_free        free data sectors without which nothing is taken
 --     root        the number of the root's inode
 use Rattle.std.specs.Prelude.{ℕ}
-use Rattle.fs_layout.specs.declared.inode.TheConstants.{MAX_FILE_SIZE, MAX_LINK_SIZE}
+use Rattle.fs_layout.specs.declared.inode.TheConstants.{MAX_INODE_NAMES, MAX_LINK_SIZE}
 use Rattle.fs_layout.specs.declared.place.TheConstants.{ROOT}
 use Rattle.fs_layout.specs.declared.slot.TheConstants.{MAX_NAME, MAX_NAMES}
 
@@ -25,13 +24,10 @@ target_limit = MAX_LINK_SIZE
 
 -- of one file or symbolic link
 abbrev pub names_limit : ℕ
-names_limit = 500
+names_limit = MAX_INODE_NAMES
 
 abbrev pub entries_limit : ℕ
 entries_limit = MAX_NAMES
-
-abbrev pub file_size_limit : ℕ
-file_size_limit = MAX_FILE_SIZE
 
 -- of one process
 abbrev pub descriptors_limit : ℕ

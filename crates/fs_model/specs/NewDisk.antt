@@ -1,5 +1,5 @@
 -- What a new disk holds, as mkfs leaves it: our own layout.
---     empty_tree        an empty root of the superuser's, 0755
+--     empty_tree        an empty root of user 0, 0755
 --     root_inode        its inode
 --     IsNewImage        an image with it, and nothing else
 use Rattle.std.specs.Prelude.{◌≡◌, ◌≢◌, ℕ, ◌<◌, ◌≤◌, ◌⊎◌, ◌↔◌, nat_eq, nat_le, ◌||◌, false, [], ◌∷◌, None, Some, IsTrue}
@@ -9,7 +9,7 @@ use Rattle.fs_layout.specs.declared.inode.Inode.{Inode}
 use Rattle.fs_layout.specs.declared.place.Place.{Place}
 use Rattle.fs_layout.specs.declared.place.TheConstants.{SECTOR_BITS}
 use Rattle.fs_layout.specs.Bytes.{SectorMap}
-use Rattle.fs_layout.specs.Superblock.{super_bytes}
+use Rattle.fs_layout.specs.Superblock.{super_bytes, super_for}
 use Rattle.fs_layout.specs.Commit.{commit_bytes}
 use Rattle.fs_layout.specs.Inode.{inode_bytes, free_inode}
 use Rattle.fs_layout.specs.Place.{the_place}
@@ -36,7 +36,7 @@ root_inode = record free_inode { kind = kinds.Directory; mode = 0o755; names = 1
 -- end are set.
 pub record IsNewImage (p : Place) (image : SectorMap) : Type 0 where
   pub has_place : the_place p.sectors p.inodes ≡ Some p
-  pub super : image 0 ≡ super_bytes (record { sectors = p.sectors; inodes = p.inodes })
+  pub super : image 0 ≡ super_bytes (super_for p)
   pub commit : image 1 ≡ commit_bytes []
   pub tables : HasWholeTables p image
   pub inode_bits : (n : ℕ) → n < SECTOR_BITS → bit image inode_bitmap n ≡ (nat_eq n 0 || nat_le p.inodes n || nat_eq n root)

@@ -12,6 +12,8 @@ use Rattle.fs_cred.specs.declared.node.Node.{Node as AccessNode}
 use Rattle.fs_cred.specs.declared.node.NodeKind.TheVariants.{File as FileKind, Directory as DirectoryKind}
 use Rattle.fs_model.specs.declared.reply.FileType.{FileType}
 use Rattle.fs_model.specs.declared.reply.FileType.TheVariants.{File as FileT, Directory as DirectoryT, Link as LinkT}
+use Rattle.fs_layout.specs.declared.inode.TheConstants.{DIRECT_BLOCKS, S_ISGID, S_ISVTX}
+use Rattle.fs_layout.specs.declared.slot.TheConstants.{SLOT_SIZE}
 
 -- a directory's names with their inode numbers, its default ACL, S_ISGID and S_ISVTX
 pub record Directory : Type 0 where
@@ -94,21 +96,21 @@ type_of (File _ _) = FileT
 type_of (Dir _ _) = DirectoryT
 type_of (Link _) = LinkT
 
--- the file mode bits of sys/stat.h: S_ISVTX is 512 and S_ISGID 1024; a link shows 0777
+-- the file mode bits of sys/stat.h; a link shows 0777
 abbrev pub shown_mode : Body → ℕ
 shown_mode (File a _) = mode_bits a
-shown_mode (Dir a d) = mode_bits a + (if d.sticky then 512 else 0) + (if d.set_group_id then 1024 else 0)
+shown_mode (Dir a d) = mode_bits a + (if d.sticky then S_ISVTX else 0) + (if d.set_group_id then S_ISGID else 0)
 shown_mode (Link _) = 511
 
--- our own rule for a directory: 128 for each name
+-- our own rule for a directory: a slot for each name
 abbrev pub shown_size : Body → ℕ
 shown_size (File _ bytes) = length bytes
-shown_size (Dir _ d) = 128 * length d.names
+shown_size (Dir _ d) = SLOT_SIZE * length d.names
 shown_size (Link target) = length target
 
--- sectors of so many bytes without holes; past 12 there is a sector of pointers
+-- sectors of so many bytes without holes; past the direct blocks there is a sector of pointers
 abbrev pub sectors_for : ℕ → ℕ
-sectors_for bytes = let blocks = (bytes + 511) / 512 in blocks + (if nat_lt 12 blocks then 1 else 0)
+sectors_for bytes = let blocks = (bytes + 511) / 512 in blocks + (if nat_lt DIRECT_BLOCKS blocks then 1 else 0)
 
 -- an ACL that is more than mode bits takes a sector
 abbrev pub acl_sectors : AccessList → ℕ
@@ -116,5 +118,5 @@ acl_sectors a = if is_extended a then 1 else 0
 
 abbrev pub sectors_of : Body → ℕ
 sectors_of (File a bytes) = sectors_for (length bytes) + acl_sectors a
-sectors_of (Dir a d) = sectors_for (128 * length d.names) + acl_sectors a + (if is_some d.default then 1 else 0)
+sectors_of (Dir a d) = sectors_for (SLOT_SIZE * length d.names) + acl_sectors a + (if is_some d.default then 1 else 0)
 sectors_of (Link target) = 1

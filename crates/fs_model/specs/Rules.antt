@@ -9,6 +9,7 @@
 use Rattle.std.specs.Prelude.{◌≡◌, ◌≢◌, ℕ, ◌*◌, ◌%◌, ◌<◌, ◌≤◌, ◌==◌, nat_eq, nat_lt, nat_le, Bool, true, false, not, ◌||◌, List, if◌then◌else◌, Some, Ok, IsTrue, count_by, sum_by, ◌⊎◌, ◌↔◌}
 use Rattle.std.specs.List.{range_with_len}
 use Rattle.posix_acl.specs.AccessList.{AccessList, IsAcl, is_extended, list_numbers, mode_bits}
+use Rattle.fs_layout.specs.declared.inode.TheConstants.{DIRECT_SIZE}
 use Rattle.fs_layout.specs.declared.superblock.Super.{Super}
 use Rattle.fs_layout.specs.declared.inode.Kind.{Kind}
 use Rattle.fs_layout.specs.declared.inode.Kind.TheVariants as kinds
@@ -21,7 +22,7 @@ use Rattle.fs_layout.specs.Commit.{commit_of, AreTargets}
 use Rattle.fs_layout.specs.Inode.{inode_of}
 use Rattle.fs_layout.specs.AclSector.{acl_sector_of}
 use Rattle.fs_layout.specs.Directories.{slot_count, stored_slot, slot_at, slot_of}
-use Rattle.fs_layout.specs.Place.{the_place}
+use Rattle.fs_layout.specs.Place.{place_in}
 use Rattle.fs_layout.specs.Images.{bit, inode_bitmap, block_bitmap, map_bits, IsData, stored, inode_at, pointer, Owns, byte_at, HasNoHole}
 use Rattle.fs_layout.specs.Ownership.{IsOwned}
 use Rattle.fs_layout.specs.Recovered.{recovered}
@@ -34,7 +35,7 @@ pub record IsPlaceOf (sectors : ℕ) (image : SectorMap) (p : Place) : Type 0 wh
   pub super : Super
   pub super_is : super_of (image 0) ≡ Ok super
   pub same_size : super.sectors ≡ sectors
-  pub has_place : the_place sectors super.inodes ≡ Some p
+  pub has_place : place_in super.version sectors super.inodes ≡ Some p
 
 pub record HasPlace (sectors : ℕ) (image : SectorMap) : Type 0 where
   pub place : Place
@@ -92,7 +93,7 @@ IsBlockBit p m s = IsTrue (bit m block_bitmap s) ↔ ((s < p.first_data) ⊎ ((p
 -- only files have holes; no byte of a link's target is zero.
 pub record IsLaidOut (m : SectorMap) (v : Inode) : Type 0 where
   pub trim : (k : ℕ) → v.size ≤ 512 * k → pointer m v k ≡ 0
-  pub trim_pointers : v.size ≤ 6144 → v.indirect ≡ 0
+  pub trim_pointers : v.size ≤ DIRECT_SIZE → v.indirect ≡ 0
   pub rest : (i : ℕ) → v.size ≤ i → byte_at m v i ≡ 0
   pub whole : v.kind ≢ kinds.File → HasNoHole m v
   pub target : v.kind ≡ kinds.Link → (i : ℕ) → i < v.size → byte_at m v i ≢ 0
@@ -131,7 +132,7 @@ pub record IsGoodSlot (p : Place) (m : SectorMap) (v : Inode) (k : ℕ) : Type 0
 abbrev pub AreNamesApart : SectorMap → Inode → Type 0
 AreNamesApart m v = (j k : ℕ) → j < k → k < slot_count v → (slot_at m v j).name ≢ (slot_at m v k).name
 
--- Rule 12. The names field of a file or a link is the number of slots that name it, at most 500, of a link at least 1;
+-- Rule 12. The names field of a file or a link is the number of slots that name it, at most `names_limit`, of a link at least 1;
 -- that of a directory is 1, and one slot names it, the root none.
 abbrev pub HasNameCount : Kind → ℕ → ℕ → ℕ → Type 0
 HasNameCount kinds.Free n field count = Unit {0}

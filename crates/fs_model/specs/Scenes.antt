@@ -9,7 +9,6 @@ use Rattle.std.specs.Prelude.{ℕ, ◌-◌, ◌==◌, nat_lt, nat_le, Bool, true
 use Rattle.posix_acl.specs.declared.entry.Perms.{Perms}
 use Rattle.fs_cred.specs.declared.errno.Errno.TheVariants.{ENOENT, EBADF, EEXIST, EINVAL, ENOSPC}
 use Rattle.fs_cred.specs.declared.refusal.Need.TheVariants.{Own, Remove}
-use Rattle.fs_cred.specs.declared.rule.Rule.TheVariants.{NotOwner, Sticky}
 use Rattle.fs_cred.specs.Ownership.{may_own, sticky_allows}
 use Rattle.fs_model.specs.declared.reply.Reply.{Reply}
 use Rattle.fs_model.specs.declared.reply.Reply.TheVariants.{Done}
@@ -20,7 +19,7 @@ use Rattle.fs_model.specs.Processes.{Process, descriptor, the_descriptor}
 use Rattle.fs_model.specs.Births.{the_node, the_directory}
 use Rattle.fs_model.specs.Changes.{Change, Same, Rewrite}
 use Rattle.fs_model.specs.States.{State}
-use Rattle.fs_model.specs.Demands.{Demand, refuse, permission_on, denied_unless, write_and_search}
+use Rattle.fs_model.specs.Demands.{Demand, refuse, permission_on, allowed_by, write_and_search}
 use Rattle.fs_model.specs.Parts.{is_empty}
 use Rattle.fs_model.specs.declared.walk.Form.{Form}
 use Rattle.fs_model.specs.declared.walk.Form.TheVariants.{Parent}
@@ -124,12 +123,12 @@ permission_at_dir s f walk = permission_on s.process.cred s.state.tree f.dir wri
 abbrev pub sticky_at_dir : Scene → Found → ℕ → Demand
 sticky_at_dir s f walk =
     let directory = dir_node s f in
-    denied_unless (sticky_allows s.process.cred (the_directory directory).sticky directory.owner (node_found s f).owner)
-    walk (f.step - 1) Remove Sticky
+    allowed_by walk (f.step - 1) Remove
+    (sticky_allows s.process.cred (the_directory directory).sticky directory.owner (node_found s f).owner)
 
--- the caller owns what the first path leads to: chmod(), chown()
+-- the caller owns what the first path leads to: chmod(), acl_set_file(3)
 abbrev pub own_at_end : Scene → Demand
-own_at_end s = denied_unless (may_own s.process.cred (node_found s s.first).owner) 1 s.first.step Own NotOwner
+own_at_end s = allowed_by 1 s.first.step Own (may_own s.process.cred (node_found s s.first).owner)
 
 -- ENOSPC: few data sectors are free; no inode is; a directory is full
 abbrev pub no_blocks : Scene → Demand

@@ -11,12 +11,12 @@ use Rattle.fs_layout.specs.declared.place.TheConstants.{COMMIT_SECTOR, SECTOR_BI
 use Rattle.fs_layout.specs.Bytes.{SectorMap}
 use Rattle.fs_layout.specs.Superblock.{super_bytes, FitsSuper}
 use Rattle.fs_layout.specs.Inode.{free_inode}
-use Rattle.fs_layout.specs.Place.{the_place}
+use Rattle.fs_layout.specs.Version.{max_file_size}
+use Rattle.fs_layout.specs.Place.{place_in}
 use Rattle.fs_layout.specs.Images.{bit, inode_bitmap, inode_at, free_sectors}
 use Rattle.fs_layout.specs.Ownership.{IsConsistent}
 use Rattle.fs_layout.specs.Commit.{IsValidCommit}
 use Rattle.fs_layout.specs.Recovered.{recovered}
-use Rattle.fs_model.specs.Limits.{file_size_limit}
 use Rattle.fs_model.specs.Trees.{Tree, Room, node_at, names_of, parent, IsTree}
 use Rattle.fs_model.specs.StoredNodes.{Placed, HoldsNode}
 
@@ -37,7 +37,7 @@ placed t n = option_map (λ node. record { node = node; names = names_of t n; pa
 
 -- so many inodes and data sectors, and files of at most so many bytes
 abbrev pub room_of : Place → Room
-room_of p = record { inodes = p.inodes; sectors = p.sectors - p.first_data; file_limit = file_size_limit }
+room_of p = record { inodes = p.inodes; sectors = p.sectors - p.first_data; file_limit = max_file_size p.version }
 
 -- A sealed commit counts as if its targets were written. Log and free sectors may hold anything.
 pub record Stands (sectors : ℕ) (image : SectorMap) (room : Room) (tree : Tree) (free : ℕ) : Type 0 where
@@ -46,7 +46,7 @@ pub record Stands (sectors : ℕ) (image : SectorMap) (room : Room) (tree : Tree
   pub super_is : image 0 ≡ super_bytes super
   pub super_fits : FitsSuper super
   pub same_size : super.sectors ≡ sectors
-  pub has_place : the_place sectors super.inodes ≡ Some place
+  pub has_place : place_in super.version sectors super.inodes ≡ Some place
   pub commit_is : IsValidCommit sectors (image COMMIT_SECTOR)
   pub room_is : room ≡ room_of place
   pub holds : HoldsAll place (recovered sectors image) (placed tree)

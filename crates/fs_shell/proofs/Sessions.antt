@@ -1,20 +1,20 @@
 -- A run of a script, line after line.
-use Rattle.std.proofs.Common.{◌≡◌, ℕ, ◌+◌, ◌≤◌, List, [], ◌∷◌, ◌++◌, length, Option, None, Some, IfSome, Result, Ok, Err, refl, sym, ap, subst, ◌∙◌, arith, append_assoc, append-nil, length-append}
+use Rattle.std.proofs.Common.{◌≡◌, ◌⊎◌, inl, inr, ℕ, ◌+◌, ◌≤◌, List, [], ◌∷◌, ◌++◌, length, Option, None, Some, IfSome, Result, Ok, Err, refl, sym, ap, subst, ◌∙◌, arith, append_assoc, append-nil, length-append}
 use Rattle.std.specs.Io.KnownBytes.{Consumes, Appends, Keeps, IsAtEnd}
 use Rattle.std.proofs.KnownBytes.{Consumes-nil, Consumes-trans, Appends-nil, Appends-trans, Appends-kept}
 use Rattle.std.proofs.lemmas.Grind.{flat_map-append}
 use Rattle.sector_disk.specs.Disk.{DiskState}
 use Rattle.fs_model.specs.declared.event.Event.{Event}
 use Rattle.fs_model.specs.declared.event.EventReply.{EventReply}
+use Rattle.fs_system.specs.Playing.{IsConfig, Plays}
+use Rattle.fs_system.specs.Histories.{Config}
 use Rattle.fs_system.specs.Seen.{System}
-use Rattle.fs_system.specs.Played.{IsConfig, Plays}
-use Rattle.fs_system.specs.Playing.{Config}
 use Rattle.fs_system.proofs.Played.{plays_nothing, plays_joined}
 use Rattle.fs_shell.specs.declared.answer.Answer.{Answer}
 use Rattle.fs_shell.specs.declared.answer.Answer.TheVariants.{Nothing, Reply, Fault}
 use Rattle.fs_shell.specs.declared.answer.Count.{Count}
 use Rattle.fs_shell.specs.declared.fault.RunFault.{RunFault}
-use Rattle.fs_shell.specs.declared.fault.RunFault.TheVariants.{TooMuch}
+use Rattle.fs_shell.specs.declared.fault.RunFault.TheVariants.{WriteFault, OutOfMemory, TooMuch}
 use Rattle.fs_shell.specs.Lines.{lines_of}
 use Rattle.fs_shell.specs.Scripts.{script_limit, IsTaken, LineRead, IsOver}
 use Rattle.fs_shell.specs.Runs.{answer_text, answers_text, faults_counted, count_faults, LineAnswers, LinePerformed, ScriptAnswers, no_line, a_line, Ran}
@@ -225,6 +225,11 @@ pub ends_at_once : {D : Type 0} (state : D → DiskState) (input before : Option
 ends_at_once state input before fs fault other =
     ends_early state input input before before before 0 (record { lines = 0; faults = 0 }) fs fs fault
     (starts state input input before 0 (record { lines = 0; faults = 0 }) fs refl refl refl refl) (λ much. absurd (other much))
+
+-- what writing an answer may fail by
+pub not_too_much : (fault : RunFault) → (fault ≡ WriteFault) ⊎ (fault ≡ OutOfMemory) → fault ≡ TooMuch → ⊥
+not_too_much fault (inl lost) much = cc
+not_too_much fault (inr lost) much = cc
 
 pub one_fault_at_most : (answer : Answer) → faults_counted answer ≤ 1
 one_fault_at_most Nothing = omega arith

@@ -5,3 +5,4 @@ pub mod Laws
 pub mod Texts
 pub mod Runs
 pub mod Scripts
+pub mod Watching

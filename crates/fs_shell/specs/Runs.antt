@@ -16,9 +16,9 @@ use Rattle.fs_model.specs.declared.event.EventReply.{EventReply}
 use Rattle.fs_model.specs.declared.event.EventReply.TheVariants.{Reply as Replies}
 use Rattle.fs_model.specs.declared.reply.Reply.{Reply as ReplyType}
 use Rattle.fs_model.specs.Steps.{is_of_machine}
+use Rattle.fs_system.specs.Playing.{Plays}
+use Rattle.fs_system.specs.Histories.{Config, History}
 use Rattle.fs_system.specs.Seen.{System}
-use Rattle.fs_system.specs.Playing.{Config, History}
-use Rattle.fs_system.specs.Played.{Plays}
 use Rattle.fs_shell.specs.declared.answer.Answer.{Answer}
 use Rattle.fs_shell.specs.declared.answer.Answer.TheVariants.{Nothing, Reply, Fault}
 use Rattle.fs_shell.specs.declared.answer.Count.{Count}

@@ -1,12 +1,14 @@
 //! What is answered to a line, and how it is written.
-ghost use Rattle.std.specs.Prelude.{◌≢◌, ◌++◌, ◌∷◌, [], IfErr, OnOk, string_bytes};
+ghost use Rattle.std.specs.Prelude.{◌≡◌, ◌⊎◌, ◌++◌, ◌∷◌, [], Err, IfErr, OnOk, string_bytes};
 ghost use Rattle.std.specs.Io.KnownBytes.{Appends};
-ghost use Rattle.fs_shell.specs.declared.fault.RunFault.TheVariants.{TooMuch};
+ghost use Rattle.fs_shell.specs.declared.fault.RunFault.TheVariants.{WriteFault, OutOfMemory};
 ghost use Rattle.fs_shell.specs.Runs.{answer_text};
+ghost use Rattle.fs_shell.specs.Watching.{FailsWhere};
 
 use crate::fault::RunFault;
 use crate::line::LineFault;
 use crate::text::{fault_text, reply_text};
+use crate::watched::Watched;
 use fs_model::Reply;
 use std::alloc::Global;
 use std::io::Write;
@@ -32,7 +34,6 @@ pub struct Count {
 }
 
 impl Answer {
-    ghost use Rattle.std.specs.Prelude.{◌≡◌};
     ghost use Rattle.fs_shell.specs.Runs.{faults_counted};
 
     /// 1 where the line had a fault, and else 0.
@@ -47,9 +48,14 @@ impl Answer {
 }
 
 /// Writes an answer, if there is one, on a line of its own.
-pub fn write_answer<W: Write>(alloc: Global, writer: &mut W, answer: Answer) -> Result<(), RunFault>
-    ensures written { OnOk result (Appends (W.contents writer.old) (W.contents writer.new) (answer_text answer)) }
-    ensures fault { IfErr result (λ fault. fault ≢ TooMuch) }
+pub fn write_answer<W: Write>(
+    alloc: Global,
+    writer: &mut Watched<W>,
+    answer: Answer,
+) -> Result<(), RunFault>
+    ensures written { OnOk result (Appends (W.contents writer.old.inner) (W.contents writer.new.inner) (answer_text answer)) }
+    ensures failed { FailsWhere writer.old.failed writer.new.failed (result ≡ Err WriteFault) }
+    ensures fault { IfErr result (λ fault. (fault ≡ WriteFault) ⊎ (fault ≡ OutOfMemory)) }
 {
     match answer {
         Answer::Nothing => Ok(()),
@@ -58,9 +64,10 @@ pub fn write_answer<W: Write>(alloc: Global, writer: &mut W, answer: Answer) -> 
     }
 }
 
-fn write_line<W: Write>(writer: &mut W, text: String) -> Result<(), RunFault>
-    ensures written { OnOk result (Appends (W.contents writer.old) (W.contents writer.new) (string_bytes text ++ 10 ∷ [])) }
-    ensures fault { IfErr result (λ fault. fault ≢ TooMuch) }
+fn write_line<W: Write>(writer: &mut Watched<W>, text: String) -> Result<(), RunFault>
+    ensures written { OnOk result (Appends (W.contents writer.old.inner) (W.contents writer.new.inner) (string_bytes text ++ 10 ∷ [])) }
+    ensures failed { FailsWhere writer.old.failed writer.new.failed (result ≡ Err WriteFault) }
+    ensures fault { IfErr result (λ fault. (fault ≡ WriteFault) ⊎ (fault ≡ OutOfMemory)) }
 {
     let mut text = text;
     text.push('\n')?;

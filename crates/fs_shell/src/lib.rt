@@ -26,6 +26,7 @@ mod tests;
 mod text;
 #[cfg(test)]
 mod text_tests;
+mod watched;
 mod words;
 
 pub use answer::{Answer, Count};
@@ -36,3 +37,4 @@ pub use parse::parse_line;
 pub use runner::run;
 pub use script::MAX_SCRIPT;
 pub use text::{fault_text, reply_text};
+pub use watched::Watched;

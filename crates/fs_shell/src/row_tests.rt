@@ -7,8 +7,8 @@ use crate::row_data::{
     CHANGING, DEEP, DEEPEST, HALTED, LONG, LOOK, LOOKING, LOOP, PRELUDE, ROWS, USER_ROWS, USERS,
     WRITTEN,
 };
-use crate::run;
 use crate::text_tests::push_other;
+use crate::{Watched, run};
 use fs_model::{Bytes, Call, Reply};
 use fs_system::{Fs, mkfs};
 use sector_disk::{CrashDisk, Disk, FailOnce, FuseDisk, MemDisk};
@@ -109,8 +109,8 @@ pub(crate) fn replies<D: Disk + Drop>(
     script: &str,
 ) -> Result<String, Fail> {
     let mut written = Vec::new(alloc);
-    let mut reader = script.as_bytes();
-    match run(alloc, &mut reader, &mut written, fs) {
+    let mut reader = Watched::new(script.as_bytes());
+    match run(alloc, &mut reader, &mut Watched::new(&mut written), fs) {
         Ok(_) => Ok(String::from_utf8_lossy(alloc, &written)?),
         Err(fault) => Err(fault)?,
     }

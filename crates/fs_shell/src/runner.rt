@@ -1,15 +1,18 @@
 //! Runs scripts.
-ghost use Rattle.std.specs.Prelude.{Ok, OnOk};
+ghost use Rattle.std.specs.Prelude.{◌≡◌, Ok, Err, OnOk, IsTrue};
 ghost use Rattle.std.specs.Io.KnownBytes.{IsAtEnd};
-ghost use Rattle.fs_system.specs.Played.{IsConfig};
-ghost use Rattle.fs_system.specs.Playing.{Config};
+ghost use Rattle.fs_system.specs.Playing.{IsConfig};
+ghost use Rattle.fs_system.specs.Histories.{Config};
+ghost use Rattle.fs_shell.specs.declared.fault.RunFault.TheVariants.{ReadFault, WriteFault};
 ghost use Rattle.fs_shell.specs.Runs.{LinePerformed, Ran};
+ghost use Rattle.fs_shell.specs.Watching.{FailsWhere};
 
 use crate::answer::{Answer, Count, write_answer};
 use crate::fault::RunFault;
 use crate::line::{Line, MAX_LINE};
 use crate::parse::parse_line;
 use crate::script::Pending;
+use crate::watched::Watched;
 use fs_system::Fs;
 use sector_disk::Disk;
 use std::alloc::Global;
@@ -23,17 +26,20 @@ use std::io::{Read, Write};
 ///
 /// # Errors
 ///
-/// See [`RunFault`]. The file system stands where the last line that was performed has left it, also where the reply to that
-/// line wasn't written.
+/// See [`RunFault`]: a fault of the reader or the writer is told exactly where it has failed. The file system stands where the
+/// last line that was performed has left it, also where the reply to that line wasn't written.
 pub fn run<R: Read, W: Write, D: Disk + Drop>(
     alloc: Global,
-    reader: &mut R,
-    writer: &mut W,
+    reader: &mut Watched<R>,
+    writer: &mut Watched<W>,
     fs: &mut Fs<D>,
 ) -> Result<Count, RunFault>
     ensures ran { (c : Config D) → IsConfig D.state (Ok fs.old) c → (d : Config D) × IsConfig D.state (Ok fs.new) d
-        × Ran D.state (R.remaining reader.old) (W.contents writer.old) (W.contents writer.new) c d result }
-    ensures end { OnOk result (IsAtEnd (R.remaining reader.new)) }
+        × Ran D.state (R.remaining reader.old.inner) (W.contents writer.old.inner) (W.contents writer.new.inner) c d result }
+    ensures end { OnOk result (IsAtEnd (R.remaining reader.new.inner)) }
+    ensures read_fault { FailsWhere reader.old.failed reader.new.failed (result ≡ Err ReadFault) }
+    ensures write_fault { FailsWhere writer.old.failed writer.new.failed (result ≡ Err WriteFault) }
+    ensures flushed { OnOk result (IsTrue writer.new.flushed) }
 {
     let mut pending = Pending::new(alloc)?;
     let mut line = Vec::with_capacity(alloc, MAX_LINE + 1)?;

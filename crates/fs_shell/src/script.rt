@@ -1,14 +1,16 @@
 //! Reads a script, a line at a time.
-ghost use Rattle.std.specs.Prelude.{◌≡◌, ◌≢◌, ◌+◌, ◌++◌, ◌<◌, ◌≤◌, [], length, true, false, Ok, IfOk, IfErr, OnOk};
+ghost use Rattle.std.specs.Prelude.{◌≡◌, ◌≢◌, ◌+◌, ◌++◌, ◌<◌, ◌≤◌, [], length, true, false, Ok, Err, IfOk, IfErr, OnOk};
 ghost use Rattle.std.specs.List.{list_any, before_first, after_first};
 ghost use Rattle.std.specs.Io.KnownBytes.{Keeps, IsAtEnd};
-ghost use Rattle.fs_shell.specs.declared.fault.RunFault.TheVariants.{ReadFault, TooMuch};
+ghost use Rattle.fs_shell.specs.declared.fault.RunFault.TheVariants.{ReadFault, WriteFault, TooMuch};
 ghost use Rattle.posix_acl.specs.Text.{is_newline};
+ghost use Rattle.fs_shell.specs.Watching.{FailsWhere};
 ghost use Rattle.fs_shell.specs.Scripts.{bytes_left, script_limit, kept_front, FindsEnd, IsOver, ReadsLine};
 
 use crate::fault::RunFault;
 use crate::line::MAX_LINE;
 use crate::places::len_before;
+use crate::watched::Watched;
 use std::alloc::{AllocError, Global};
 use std::io::Read;
 use std::marker::Model;
@@ -58,14 +60,16 @@ impl Pending {
     /// Of a line that is longer than lines may be, `line` gets one byte more than that, and no more.
     pub fn read_line<R: Read>(
         &mut self,
-        reader: &mut R,
+        reader: &mut Watched<R>,
         line: &mut Vec<u8>,
     ) -> Result<bool, RunFault>
-        ensures line { result ≡ Ok true → ReadsLine self.old (R.remaining reader.old) self.new (R.remaining reader.new) line.new.items }
-        ensures end { result ≡ Ok false → IsAtEnd (bytes_left self.old (R.remaining reader.old)) × IsAtEnd (R.remaining reader.new)
+        ensures line { result ≡ Ok true → ReadsLine self.old (R.remaining reader.old.inner) self.new (R.remaining reader.new.inner) line.new.items }
+        ensures end { result ≡ Ok false → IsAtEnd (bytes_left self.old (R.remaining reader.old.inner)) × IsAtEnd (R.remaining reader.new.inner)
             × (self.new.given ≡ self.old.given) }
         ensures limit { self.new.given ≤ script_limit }
-        ensures over { IfErr result (λ fault. fault ≡ TooMuch → IsOver (bytes_left self.old (R.remaining reader.old)) self.old.given) }
+        ensures over { IfErr result (λ fault. fault ≡ TooMuch → IsOver (bytes_left self.old (R.remaining reader.old.inner)) self.old.given) }
+        ensures failed { FailsWhere reader.old.failed reader.new.failed (result ≡ Err ReadFault) }
+        ensures fault { IfErr result (λ fault. fault ≢ WriteFault) }
     {
         line.clear();
         while self.has_more(reader)? {
@@ -77,12 +81,13 @@ impl Pending {
     }
 
     // Whether bytes are still to come. If so, the next ones have been read then.
-    fn has_more<R: Read>(&mut self, reader: &mut R) -> Result<bool, RunFault>
+    fn has_more<R: Read>(&mut self, reader: &mut Watched<R>) -> Result<bool, RunFault>
         ensures more { result ≡ Ok true → self.new.ahead ≢ [] }
-        ensures end { result ≡ Ok false → FindsEnd self.old (R.remaining reader.old) self.new (R.remaining reader.new) }
-        ensures kept { OnOk result (Keeps (bytes_left self.old (R.remaining reader.old)) (bytes_left self.new (R.remaining reader.new))) }
+        ensures end { result ≡ Ok false → FindsEnd self.old (R.remaining reader.old.inner) self.new (R.remaining reader.new.inner) }
+        ensures kept { OnOk result (Keeps (bytes_left self.old (R.remaining reader.old.inner)) (bytes_left self.new (R.remaining reader.new.inner))) }
         ensures count { self.new.given ≡ self.old.given }
         ensures limit { self.new.given ≤ script_limit }
+        ensures failed { FailsWhere reader.old.failed reader.new.failed (result ≡ Err ReadFault) }
         ensures fault { IfErr result (λ fault. fault ≡ ReadFault) }
     {
         if self.next == self.end {
@@ -100,6 +105,7 @@ impl Pending {
         ensures count { OnOk result (self.new.given + length self.new.ahead ≡ self.old.given + length self.old.ahead) }
         ensures limit { self.new.given ≤ script_limit }
         ensures over { IfErr result (λ fault. fault ≡ TooMuch → script_limit < self.old.given + length self.old.ahead) }
+        ensures fault { IfErr result (λ fault. (fault ≢ ReadFault) × (fault ≢ WriteFault)) }
     {
         let ahead = &self.bytes[self.next..self.end];
         let piece = &ahead[..len_before(b'\n', ahead)];
@@ -115,11 +121,12 @@ impl Pending {
     }
 
     // Reads a part of the script, instead of what has been given. An interruption is an error too.
-    fn fill<R: Read>(&mut self, reader: &mut R) -> Result<(), RunFault>
+    fn fill<R: Read>(&mut self, reader: &mut Watched<R>) -> Result<(), RunFault>
         requires { self.old.ahead ≡ [] }
-        ensures kept { OnOk result (Keeps (R.remaining reader.old) (bytes_left self.new (R.remaining reader.new))) }
-        ensures end { OnOk result (self.new.ahead ≡ [] → IsAtEnd (R.remaining reader.new)) }
+        ensures kept { OnOk result (Keeps (R.remaining reader.old.inner) (bytes_left self.new (R.remaining reader.new.inner))) }
+        ensures end { OnOk result (self.new.ahead ≡ [] → IsAtEnd (R.remaining reader.new.inner)) }
         ensures count { self.new.given ≡ self.old.given }
+        ensures failed { FailsWhere reader.old.failed reader.new.failed (result ≡ Err ReadFault) }
         ensures fault { IfErr result (λ fault. fault ≡ ReadFault) }
     {
         let Ok(count) = reader.read(&mut self.bytes) else {

@@ -1,7 +1,7 @@
 //! Scripts with their replies, over disks of which one call fails, and over readers and writers of several kinds.
 
 use crate::text_tests::push_other;
-use crate::{Count, RunFault, run};
+use crate::{Count, RunFault, Watched, run};
 use fs_system::{Fs, mkfs};
 use sector_disk::{Disk, FailOnce, MemDisk};
 use std::alloc::{AllocError, Global};
@@ -136,7 +136,12 @@ fn push_run<R: Read, D: Disk + Drop>(
     fs: &mut Fs<D>,
 ) -> Result<(), AllocError> {
     let mut written = Vec::new(alloc);
-    let outcome = run(alloc, reader, &mut written, fs);
+    let outcome = run(
+        alloc,
+        &mut Watched::new(reader),
+        &mut Watched::new(&mut written),
+        fs,
+    );
     let text = String::from_utf8_lossy(alloc, &written)?;
     seen.push_str(text.as_str())?;
     push_outcome(seen, outcome)
@@ -515,8 +520,8 @@ fn scripts_get_their_replies(rt: HostRuntime) -> Result<(), Fail> {
 
 // ---- writers
 
-// Runs a script, and adds what the run came to, how many bytes the writer could still take, and how many when it was
-// last flushed.
+// Runs a script, and adds how many bytes the writer can still take, how many it could when it was last flushed, whether it
+// has failed, and what the run came to.
 fn push_run_into<D: Disk + Drop>(
     alloc: Global,
     seen: &mut String,
@@ -524,11 +529,12 @@ fn push_run_into<D: Disk + Drop>(
     sink: Sink,
     fs: &mut Fs<D>,
 ) -> Result<(), AllocError> {
-    let mut reader = script;
-    let mut writer = sink;
-    let outcome = run(alloc, &mut reader, &mut writer, fs);
-    let Sink { room, flushed, .. } = writer;
-    write!(seen, "{room} {flushed:?} ")?;
+    let mut sink = sink;
+    let mut writer = Watched::new(&mut sink);
+    let outcome = run(alloc, &mut Watched::new(script), &mut writer, fs);
+    let failed = writer.has_failed();
+    let Sink { room, flushed, .. } = sink;
+    write!(seen, "{room} {flushed:?} {failed} ")?;
     push_outcome(seen, outcome)
 }
 
@@ -564,11 +570,11 @@ fn a_run_flushes_its_writer(rt: HostRuntime) -> Result<(), Fail> {
     push_writers(alloc, &mut seen, MemDisk::new(alloc, 1024)?)?;
     assert!(rt;
         seen.as_str()
-            == "52 Some(52) 2 lines, 0 faults\n\
-                0 Some(0) 1 lines, 0 faults\n\
-                0 None WriteFault\n\
-                82 Some(82) 1 lines, 0 faults\n\
-                85 None WriteFault\n",
+            == "52 Some(52) false 2 lines, 0 faults\n\
+                0 Some(0) false 1 lines, 0 faults\n\
+                0 None true WriteFault\n\
+                82 Some(82) false 1 lines, 0 faults\n\
+                85 None true WriteFault\n",
         "{seen}"
     );
     Ok(())

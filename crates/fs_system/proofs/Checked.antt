@@ -5,9 +5,9 @@ use Rattle.sector_disk.proofs.Moments.{failed_later, narrowed, reads_then, weake
 use Rattle.fs_model.specs.declared.event.RestartFault.{RestartFault}
 use Rattle.fs_model.specs.declared.event.RestartFault.TheVariants as restarts
 use Rattle.fs_model.specs.States.{State}
-use Rattle.fs_system.specs.Mounting.{StandsAsBefore, IsNotMounted, fault_of}
-use Rattle.fs_system.specs.Playing.{Mounts, FailsToMount}
-use Rattle.fs_system.specs.Seen.{StandsFor, StandsForSome}
+use Rattle.fs_system.specs.Mounts.{IsNotMounted, Mounts, FailsToMount}
+use Rattle.fs_system.specs.Mounting.{StandsAsBefore, fault_of}
+use Rattle.fs_system.specs.Standing.{StandsFor, StandsForSome}
 
 module _ (old mid : DiskState) (reads : OnlyReads old mid) where
   -- what a mount finds then is what was there before the check

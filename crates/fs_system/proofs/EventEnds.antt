@@ -39,7 +39,7 @@ begins_ready p txn desks s room r =
     sound_from p txn r.state_of.holds.consistent (omega (arith, sectors)) (outside_set p txn.sectors (placed s.tree) r.state_of.holds) in
     record {
       sound = sound;
-      spare = spare_first p txn.disk.size r.disk_is.super.inodes txn r.disk_is.has_place room;
+      spare = spare_first p _ txn.disk.size r.disk_is.super.inodes txn r.disk_is.has_place room;
       state = s;
       is_state = r.state_of;
     }

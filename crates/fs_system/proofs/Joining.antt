@@ -17,7 +17,7 @@ use Rattle.fs_model.specs.Trees.{Tree, Room, IsTree}
 use Rattle.fs_model.specs.States.{State}
 use Rattle.fs_model.specs.Stands.{HoldsAll, placed, room_of, Stands}
 use Rattle.fs_model.proofs.Frame.{agreed}
-use Rattle.fs_system.specs.Seen.{StandsFor, StandsAs, EachStandsFor}
+use Rattle.fs_system.specs.Standing.{StandsFor, StandsAs, EachStandsFor}
 use Rattle.fs_system.specs.Doing.{IsFound}
 use Rattle.fs_system.specs.Layouts.{IsDiskOf}
 
@@ -31,7 +31,7 @@ pub record HoldsCounted (p : Place) (map : SectorMap) (t : Tree) (free : ℕ) : 
 pub holds_same : (size : ℕ) (p : Place) (old new : SectorMap) (t : Tree) (free : ℕ) → SameMap new old → IsDiskOf size p old → HoldsCounted p old t free
     → HoldsCounted p new t free
 holds_same size p old new t free same disk h =
-    let place = place_is_place size disk.super.inodes disk.has_place in
+    let place = place_is_place _ size disk.super.inodes disk.has_place in
     let least = place.least_sectors in
     let most = place.most_sectors in
     let each : (s : ℕ) → 128 ≤ s → s < p.sectors → new s ≡ old s = λ s past low. same s (inr past) in

@@ -7,8 +7,9 @@ use Rattle.sector_disk.proofs.Moments.{image_or, stable_image, stays, stays_or}
 use Rattle.fs_layout.specs.declared.place.Place.{Place}
 use Rattle.fs_layout.specs.Bytes.{zeros}
 use Rattle.fs_layout.specs.Commit.{commit_bytes}
+use Rattle.fs_layout.specs.Version.{newest}
 use Rattle.fs_layout.specs.Place.{the_place, IsPlace}
-use Rattle.fs_layout.specs.Superblock.{super_bytes}
+use Rattle.fs_layout.specs.Superblock.{super_bytes, super_for}
 use Rattle.fs_layout.proofs.Places.{place_is_laid_out, place_is_place}
 use Rattle.fs_model.specs.NewDisk.{empty_tree, IsNewImage}
 use Rattle.fs_model.specs.Stands.{room_of, Stands}
@@ -86,13 +87,13 @@ pub record IsOnDisk (p : Place) (size : ℕ) : Type 0 where
 
 pub place_on_disk : (size inodes : ℕ) (p : Place) → the_place size inodes ≡ Some p → IsOnDisk p size
 place_on_disk size inodes p e =
-    let place = place_is_place size inodes e in
+    let place = place_is_place newest size inodes e in
     let same = place_size size inodes p e in
     record { least = omega (arith, place.least_sectors, same); first_data = omega (arith, place.data_sectors, same) }
 
 -- with the superblock a prepared disk is a new one
 pub is_new_disk : (p : Place) (old : DiskState) → IsPrepared p old → (image : Image) → length image ≡ old.size
-    → sector image 0 ≡ super_bytes (record { sectors = p.sectors; inodes = p.inodes })
+    → sector image 0 ≡ super_bytes (super_for p)
     → ((n : ℕ) → 0 < n → n < old.size → sector image n ≡ sector old.seen n) → IsNewDisk p.inodes image
 is_new_disk p old ready image size super others = record {
   place = p;
@@ -105,7 +106,7 @@ is_new_disk p old ready image size super others = record {
     sectors = place_size old.size p.inodes p ready.has_place
 
     place : IsPlace p
-    place = place_is_place old.size p.inodes ready.has_place
+    place = place_is_place newest old.size p.inodes ready.has_place
 
     new : IsNewImage p (sector image)
     new =
@@ -114,7 +115,7 @@ is_new_disk p old ready image size super others = record {
         (λ s ge lt. subst (IsNewTable p s) (sym (others s (omega (arith, ge)) (omega (arith, lt, sectors, place.data_sectors)))) (ready.tables s ge lt))
 
 -- while the superblock is written, an image has none, or is that of a new disk
-pub cleared_or_new : (p : Place) (old : DiskState) (content : List ℕ) → IsPrepared p old → content ≡ super_bytes (record { sectors = p.sectors; inodes = p.inodes })
+pub cleared_or_new : (p : Place) (old : DiskState) (content : List ℕ) → IsPrepared p old → content ≡ super_bytes (super_for p)
     → (image : Image) → IsImageOr (IsWrite 0 content) old image → HasNoSuperblock image ⊎ IsNewDisk p.inodes image
 cleared_or_new p old content ready super image is =
     ⊎_elim (λ was. inl (was ∙ ready.at_rest.cleared))
@@ -123,7 +124,7 @@ cleared_or_new p old content ready super image is =
     (stays_or ready.at_rest.stable is 0 ready.at_rest.room)
 
 -- once it is written
-pub written_new : (p : Place) (old : DiskState) (content : List ℕ) → IsPrepared p old → content ≡ super_bytes (record { sectors = p.sectors; inodes = p.inodes })
+pub written_new : (p : Place) (old : DiskState) (content : List ℕ) → IsPrepared p old → content ≡ super_bytes (super_for p)
     → (image : Image) → image ≡ set old.seen 0 content → IsNewDisk p.inodes image
 written_new p old content ready super image put =
     let room : 0 < length old.seen = omega (arith, ready.at_rest.room, ready.at_rest.whole) in

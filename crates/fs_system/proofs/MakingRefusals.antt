@@ -4,7 +4,7 @@ use Rattle.std.specs.Prelude.{MatchResult}
 use Rattle.std.specs.Option.{ok_or}
 use Rattle.std.proofs.lemmas.Bool.Decides.{nat_tests}
 use Rattle.fs_layout.specs.declared.place.Place.{Place}
-use Rattle.fs_layout.specs.Place.{laid_out, the_place}
+use Rattle.fs_layout.specs.Place.{laid_out, place_in, the_place}
 use Rattle.fs_system.specs.declared.faults.MkfsFault.TheVariants.{BadSize, BadInodes, TooSmall}
 use Rattle.fs_system.specs.Making.{is_out_of, mkfs_refusal}
 
@@ -48,7 +48,7 @@ last_refusal sectors inodes fit = rw (is_within 1024 65536 sectors fit.size.leas
 
 last_test : (sectors inodes : ℕ) → AreInRange sectors inodes
     → the_place sectors inodes ≡ cond (nat_lt sectors ((laid_out sectors inodes).first_data + 64)) None (Some (laid_out sectors inodes))
-unfolding the_place
+unfolding place_in
 last_test sectors inodes fit =
     rw (at_least 1024 sectors fit.size.least, at_least sectors 65536 fit.size.most, at_least 16 inodes fit.least, at_least inodes 4096 fit.most) refl
 

@@ -3,15 +3,17 @@ use Rattle.std.proofs.Common.{◌≡◌, ◌<◌, ◌≤◌, ℕ, length, Option
 use Rattle.sector_disk.specs.Disk.{Image}
 use Rattle.fs_layout.specs.declared.place.Place.{Place}
 use Rattle.fs_layout.specs.declared.superblock.Super.{Super}
-use Rattle.fs_layout.specs.Place.{IsPlace, the_place}
+use Rattle.fs_layout.specs.Place.{IsPlace, place_in}
+use Rattle.fs_layout.specs.Superblock.{place_for}
+use Rattle.fs_layout.proofs.Versions.{file_bounds}
 use Rattle.fs_layout.proofs.Places.{place_is_place, place_is_laid_out}
 use Rattle.fs_model.specs.Trees.{Tree, Room}
 use Rattle.fs_model.specs.States.{IsRoom}
-use Rattle.fs_system.specs.Seen.{StandsFor}
+use Rattle.fs_system.specs.Standing.{StandsFor}
 
 module _ (seen : Image) (room : Room) (t : Tree) (free : ℕ) (st : StandsFor room seen t free) where
   pub is_place : IsPlace st.place
-  is_place = place_is_place (length seen) st.super.inodes st.has_place
+  is_place = place_is_place _ (length seen) st.super.inodes st.has_place
 
   pub some_sectors : 0 < length seen
   some_sectors =
@@ -26,16 +28,17 @@ module _ (seen : Image) (room : Room) (t : Tree) (free : ℕ) (st : StandsFor ro
       let least = is_place.least_sectors in
       omega (arith, all, least)
 
-  -- the place that a superblock's numbers give
-  pub place_found : (v : Super) → v ≡ st.super → the_place v.sectors v.inodes ≡ Some st.place
+  -- the place that a superblock gives
+  pub place_found : (v : Super) → v ≡ st.super → place_for v ≡ Some st.place
   place_found v same =
-      ap (λ (x : Super). the_place x.sectors x.inodes) same ∙ ap (λ (n : ℕ). the_place n st.super.inodes) st.same_size ∙ st.has_place
+      ap place_for same ∙ ap (λ (n : ℕ). place_in st.super.version n st.super.inodes) st.same_size ∙ st.has_place
 
   pub is_room : IsRoom room
   is_room =
       let most = is_place.most_inodes in
       let large = is_place.most_sectors in
-      subst IsRoom (sym st.room_is) (record { inodes = most; sectors = omega (arith, large); file_limit = omega arith })
+      let limit = (file_bounds st.place.version).1 in
+      subst IsRoom (sym st.room_is) (record { inodes = most; sectors = omega (arith, large); file_limit = omega (arith, limit) })
 
 pub some_same : {A : Type 0} (x y : A) (o : Option A) → o ≡ Some x → o ≡ Some y → x ≡ y
 some_same x y o e f = cc

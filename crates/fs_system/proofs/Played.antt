@@ -6,7 +6,6 @@ use Rattle.std.proofs.lemmas.List.{take_more}
 use Rattle.sector_disk.specs.Disk.{DiskState, Image, IsImage, IsSame, IsStable, sector}
 use Rattle.sector_disk.proofs.Moments.{narrowed, stable_image}
 use Rattle.fs_layout.specs.declared.place.Place.{Place}
-use Rattle.fs_cred.specs.Credentials.{Credential}
 use Rattle.sector_txn.specs.Stores.{StoreView, disk_after}
 use Rattle.fs_model.specs.Processes.{Desks}
 use Rattle.fs_model.specs.declared.reply.Reply.{Reply}
@@ -27,20 +26,14 @@ use Rattle.fs_system.specs.declared.faults.MountFault.TheVariants as mounts
 use Rattle.fs_system.specs.declared.faults.PlayFault.{PlayFault}
 use Rattle.fs_system.specs.declared.faults.PlayFault.TheVariants.{OutOfMemory}
 use Rattle.fs_system.specs.Doing.{Does, Happens}
-use Rattle.fs_system.specs.Mounting.{HasFinding, IsNotMounted, IsSystem, fault_of}
-use Rattle.fs_system.specs.Played.{begun, Played, Unplayed, HasDisk, HasDiskOf, IsConfig, Plays, IsOfRestart}
-use Rattle.fs_system.specs.Playing.{IsMounted, Mounts, FailsToMount, Stopped, Config, Up, Off, device, Goes, does, is_down, arms_up, arms_off, restarts as restarts_up, fails, on_disk, History, ends, goes, forgets, Follows, CountsFor}
-use Rattle.fs_system.specs.Seen.{System, Base, StandsForSome, EachStandsForSome, Covers, disk_in, IsOn, IsIn}
+use Rattle.fs_system.specs.Played.{begun, Played, Unplayed, CountsFor}
+use Rattle.fs_system.specs.Playing.{HasDisk, HasDiskOf, IsConfig, Plays, IsOfRestart}
+use Rattle.fs_system.specs.Histories.{Stopped, Config, Up, Off, device, Goes, does, is_down, arms_up, arms_off, restarts as restarts_up, fails, on_disk, History, ends, goes, forgets, Follows}
+use Rattle.fs_system.specs.Mounts.{HasFinding, IsNotMounted, IsMounted, Mounts, FailsToMount}
+use Rattle.fs_system.specs.Mounting.{IsSystem, fault_of}
+use Rattle.fs_system.specs.Seen.{System, Base, disk_in, IsOn, IsIn}
+use Rattle.fs_system.specs.Standing.{StandsForSome, EachStandsForSome, Covers}
 use Rattle.fs_system.proofs.Runs.{only_here, histories_are_runs}
-
--- ---- a copy of a credential
-
-pub copied : (cred copy : Credential) (uid gid : ℕ) (groups : List ℕ) → copy ≡ record { uid = uid; gid = gid; groups = groups }
-    → uid ≡ cred.uid → gid ≡ cred.gid → groups ≡ cred.groups → copy ≡ cred
-copied cred copy uid gid groups is same_uid same_gid same_groups =
-    is ∙ ap (λ (n : ℕ). record { uid = n; gid = gid; groups = groups }) same_uid
-    ∙ ap (λ (n : ℕ). record { uid = cred.uid; gid = n; groups = groups }) same_gid
-    ∙ ap (λ (l : List ℕ). record { uid = cred.uid; gid = cred.gid; groups = l }) same_groups
 
 -- there is room where the table isn't full
 pub still_room : (desks desks' : Desks) (full : Bool) → desks ≡ desks' → IsTrue full ↔ (64 ≤ length desks) → full ≡ false → length desks' < 64

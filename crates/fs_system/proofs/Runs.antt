@@ -19,9 +19,11 @@ use Rattle.fs_model.specs.Steps as step
 use Rattle.fs_model.specs.Stops.{Machine, MachineStep, MachineRun, Stops, Halts, trees_after, makes_stable, is_io_error, faults_in, mount_faults, stepped, restarted}
 use Rattle.fs_model.specs.Stops as machine
 use Rattle.fs_model.proofs.Swept.{pruned_twice}
-use Rattle.fs_system.specs.Seen.{StandsFor, Covers}
+use Rattle.fs_system.specs.Played.{CountsFor}
+use Rattle.fs_system.specs.Histories.{Stopped, Config, Up, Off, device, Goes, does, is_down, arms_up, arms_off, restarts, fails, on_disk, ends, goes, forgets, Follows, HistoriesAreRuns}
+use Rattle.fs_system.specs.Mounts.{Mounts, FailsToMount}
+use Rattle.fs_system.specs.Standing.{StandsFor, Covers}
 use Rattle.fs_system.specs.Doing.{Does, Adds, IsFound}
-use Rattle.fs_system.specs.Playing.{Stopped, Mounts, FailsToMount, Config, Up, Off, device, Goes, does, is_down, arms_up, arms_off, restarts, fails, on_disk, ends, goes, forgets, CountsFor, Follows, HistoriesAreRuns}
 
 -- ---- steps
 

@@ -5,7 +5,7 @@ use Rattle.std.proofs.lemmas.Bool.{eq-eqb, le-leb, or_parts}
 use Rattle.sector_disk.specs.Disk.{DiskState, sector}
 use Rattle.fs_layout.specs.declared.place.Place.{Place}
 use Rattle.fs_layout.specs.Bytes.{SectorMap}
-use Rattle.fs_layout.specs.Place.{the_place}
+use Rattle.fs_layout.specs.Place.{place_in}
 use Rattle.fs_layout.specs.Inode.{free_inode}
 use Rattle.fs_layout.specs.Images.{bit, inode_bitmap, inode_at}
 use Rattle.fs_layout.specs.Ownership.{IsConsistent, Agrees}
@@ -22,7 +22,7 @@ use Rattle.inode_table.specs.Inodes.{ClearAreFree}
 use Rattle.fs_model.specs.StoredNodes.{Placed}
 use Rattle.fs_model.specs.Stands.{HoldsAll, HoldsPlaced, placed}
 use Rattle.fs_model.specs.Trees.{Tree, Room}
-use Rattle.fs_system.specs.Seen.{StandsFor}
+use Rattle.fs_system.specs.Standing.{StandsFor}
 use Rattle.fs_system.specs.Sound.{IsSoundDisk}
 
 -- ---- a map that holds nodes
@@ -62,7 +62,11 @@ standing_is_sound room t free disk len stands =
     subst (λ k. HoldsAll stands.place (recovered k (sector disk.seen)) (placed t)) len stands.holds in
     let size : stands.place.sectors ≤ disk.size = omega (arith, sectors, len) in
     record {
-      has_place = ap (λ k. the_place k stands.place.inodes) (sym sectors) ∙ ap (the_place (length disk.seen)) (sym inodes) ∙ stands.has_place;
+      has_place =
+          ap (λ v. place_in v stands.place.sectors stands.place.inodes) (ap (λ (q : Place). q.version) laid)
+          ∙ ap (λ k. place_in stands.super.version k stands.place.inodes) (sym sectors)
+          ∙ ap (place_in stands.super.version (length disk.seen)) (sym inodes)
+          ∙ stands.has_place;
       sectors = size;
       consistent = holds.consistent;
       rest = held_rest stands.place (data_of disk) (placed t) holds disk size;

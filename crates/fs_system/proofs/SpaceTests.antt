@@ -8,7 +8,7 @@ use Rattle.redo_journal.specs.Meaning.{data_of}
 use Rattle.bit_alloc.specs.Bitmaps.{HasRestSet}
 use Rattle.inode_table.specs.Inodes.{ClearAreFree}
 use Rattle.fs_system.specs.Making.{IsNewDisk}
-use Rattle.fs_system.specs.Seen.{HasPartsAt}
+use Rattle.fs_system.specs.Standing.{HasPartsAt}
 use Rattle.fs_system.specs.Sound.{IsSoundDisk}
 use Rattle.fs_system.proofs.Soundness.{standing_is_sound}
 

@@ -31,7 +31,7 @@ use Rattle.path_walk.specs.HeldTrees.{HoldsTree}
 use Rattle.call_parts.specs.Dropping.{LeavesInode}
 use Rattle.call_parts.proofs.Leavings.{left_super}
 use Rattle.fs_system.specs.Layouts.{IsDiskOf}
-use Rattle.fs_system.specs.Seen.{StandsFor, EachStandsFor}
+use Rattle.fs_system.specs.Standing.{StandsFor, EachStandsFor}
 use Rattle.fs_system.specs.Sweeping.{IsStored, StandsPruned, HasTree, IsNamedBelow, FreesNameless, KeepsTree}
 use Rattle.fs_system.proofs.EventEnds.{disk_kept}
 use Rattle.fs_system.proofs.FreedFiles.{IsFreed, freed, named_first, named_all}
@@ -60,7 +60,7 @@ begins_sound p txn t is =
 
 pub begins_spare : (p : Place) (txn : TxnState) (t : Tree) → txn.room ≡ 64 → IsStored txn.disk.size p txn.sectors t → HasSpare p 1 txn
 begins_spare p txn t room is =
-    let spare = spare_first p txn.disk.size is.disk_is.super.inodes txn is.disk_is.has_place room in omega (arith, spare)
+    let spare = spare_first p _ txn.disk.size is.disk_is.super.inodes txn is.disk_is.has_place room in omega (arith, spare)
 
 -- a store that was opened on a disk which stands for a tree
 pub opened_tree : (old new : DiskState) (map : SectorMap) (room : Room) (t : Tree) (free : ℕ) → length old.seen ≡ old.size → new.size ≡ old.size

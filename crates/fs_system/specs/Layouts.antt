@@ -5,11 +5,11 @@ use Rattle.fs_layout.specs.declared.superblock.Super.{Super}
 use Rattle.fs_layout.specs.declared.place.Place.{Place}
 use Rattle.fs_layout.specs.Bytes.{SectorMap}
 use Rattle.fs_layout.specs.Superblock.{super_bytes, FitsSuper}
-use Rattle.fs_layout.specs.Place.{the_place}
+use Rattle.fs_layout.specs.Place.{place_in}
 
 pub record IsDiskOf (size : ℕ) (p : Place) (map : SectorMap) : Type 0 where
   pub super : Super
   pub super_is : map 0 ≡ super_bytes super
   pub super_fits : FitsSuper super
   pub same_size : super.sectors ≡ size
-  pub has_place : the_place size super.inodes ≡ Some p
+  pub has_place : place_in super.version size super.inodes ≡ Some p

@@ -1,9 +1,12 @@
 pub mod Serving
 pub mod Doing
 pub mod Seen
+pub mod Standing
 pub mod Replies
 pub mod Playing
+pub mod Mounts
 pub mod Mounting
+pub mod Histories
 pub mod Laws
 pub mod NewTables
 pub mod Making

@@ -16,7 +16,7 @@ use Rattle.fs_model.specs.Stands.{room_of}
 use Rattle.fs_system.specs.declared.faults.MkfsFault.{MkfsFault}
 use Rattle.fs_system.specs.declared.faults.MkfsFault.TheVariants.{BadSize, BadInodes, TooSmall, DiskFault}
 use Rattle.fs_system.specs.NewTables.{IsNewTable}
-use Rattle.fs_system.specs.Seen.{StandsFor}
+use Rattle.fs_system.specs.Standing.{StandsFor}
 
 -- less than the least, or more than the most
 abbrev pub is_out_of : ℕ → ℕ → ℕ → Bool

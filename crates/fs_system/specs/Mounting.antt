@@ -1,23 +1,21 @@
--- What a mount asks for, and what it gives.
+-- What a mount goes through, and what holds of what it gives.
 --     StandsAsBefore        what a stop leaves meanwhile
 --     IsSystem        what holds of every file system
 --     disk_mounted, disk_of_store        the disk, also after a fault
---     HasFinding, IsNotMounted        why a disk is not mounted
 --     IsFaultOfCheck, fault_of        the fault of a mount for that of a check, and for the machine's
 --     is_halted        whether a commit has failed
 --     LeavesHalted        what is halted stays, with its disk
-use Rattle.std.specs.Prelude.{◌≡◌, ◌≢◌, ◌⊎◌, ℕ, Bool, true, false, Some, IsTrue, Result, Ok, Err}
-use Rattle.sector_disk.specs.Disk.{DiskState, Image, IsImage, OnlyReads, sector}
+use Rattle.std.specs.Prelude.{◌≡◌, ◌≢◌, ◌⊎◌, Bool, true, false, Some, IsTrue, Result, Ok, Err}
+use Rattle.sector_disk.specs.Disk.{DiskState, Image, IsImage}
 use Rattle.sector_txn.specs.Stores.{StoreView}
 use Rattle.fs_model.specs.declared.event.RestartFault.{RestartFault}
 use Rattle.fs_model.specs.declared.event.RestartFault.TheVariants as restarts
-use Rattle.fs_model.specs.Rules.{IsFinding}
 use Rattle.fs_check.specs.declared.faults.CheckFault.{CheckFault}
 use Rattle.fs_check.specs.declared.faults.CheckFault.TheVariants as checks
 use Rattle.fs_system.specs.declared.faults.MountFault.{MountFault}
 use Rattle.fs_system.specs.declared.faults.MountFault.TheVariants.{NotAFileSystem, Damaged, DiskFault, OutOfMemory}
-use Rattle.fs_system.specs.Playing.{FailsToMount}
-use Rattle.fs_system.specs.Seen.{Base, System, EachStandsForSome, StandsAsPruned, disk_in, IsInSomeState}
+use Rattle.fs_system.specs.Seen.{Base, System, disk_in, IsInSomeState}
+use Rattle.fs_system.specs.Standing.{EachStandsForSome, StandsAsPruned}
 
 -- the image stands for what one from before it stood for, but for files without names
 abbrev pub StandsAsBefore : DiskState → Image → Type 0
@@ -27,18 +25,6 @@ StandsAsBefore before image = (from : Image) × IsImage before from × StandsAsP
 abbrev pub disk_mounted : {D E : Type 0} → (D → DiskState) → Result (System D) (E × D) → DiskState
 disk_mounted state (Ok fs) = disk_in state fs.base
 disk_mounted state (Err fault) = state fault.1
-
--- The disk stands for no tree: this is the first rule that fails, at its least number. It was only read.
-pub record HasFinding (before now : DiskState) (rule at : ℕ) : Type 0 where
-  pub finding : IsFinding before.size (sector before.seen) rule at
-  pub reads : OnlyReads before now
-
--- Why a disk was not mounted.
-abbrev pub IsNotMounted : DiskState → DiskState → MountFault → Type 0
-IsNotMounted before now NotAFileSystem = (at : ℕ) × HasFinding before now 1 at
-IsNotMounted before now (Damaged f) = HasFinding before now f.rule f.at × (f.rule ≢ 1)
-IsNotMounted before now DiskFault = FailsToMount before now restarts.DiskFault
-IsNotMounted before now OutOfMemory = FailsToMount before now restarts.OutOfMemory
 
 -- a finding of the rule on the superblock is that there is no file system, any other is damage
 abbrev pub IsFaultOfCheck : CheckFault → MountFault → Type 0

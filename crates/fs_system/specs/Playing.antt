@@ -1,117 +1,47 @@
--- Events with stops among them, as runs of the machine.
---     mounted, IsMounted, Mounts, FailsToMount        what a mount does
---     Stopped        what a stop does
---     Config, Goes, History        a disk with a file system or without one, one event, and several
---     on_disk        the same, on another disk
---     Follows, HistoriesAreRuns        the machine goes along
-use Rattle.std.specs.Prelude.{◌≡◌, ◌≤◌, ◌⊎◌, ◌+◌, ◌-◌, ◌^◌, ℕ, List, [], ◌∷◌, false, IsTrue, IsFalse, Contains, Option}
-use Rattle.sector_disk.specs.Disk.{DiskState, Image, IsImage, IsSame, HasFailed}
-use Rattle.fs_model.specs.declared.reply.Reply.{Reply}
+-- What the loop of `play` keeps: what is served, and how events lead from one to the next.
+--     HasDisk, HasDiskOf        the disk of a file system, or of what is served
+--     IsConfig        what is served is such a file system, or such a disk
+--     MayMount        what a stop leaves may be mounted
+--     Plays        some events, one after another
+--     IsOfRestart        a fault of the device or of memory
+use Rattle.std.specs.Prelude.{◌≡◌, ◌⊎◌, List, None, Some, Result, Ok, Err}
+use Rattle.sector_disk.specs.Disk.{DiskState}
+use Rattle.sector_txn.specs.Stores.{disk_after}
 use Rattle.fs_model.specs.declared.event.Event.{Event}
-use Rattle.fs_model.specs.declared.event.Event.TheVariants.{Arm, Restart}
 use Rattle.fs_model.specs.declared.event.EventReply.{EventReply}
-use Rattle.fs_model.specs.declared.event.EventReply.TheVariants.{Reply as Replies, Armed, Mounted, MountFailed, Down}
-use Rattle.fs_model.specs.declared.event.RestartFault.{RestartFault}
-use Rattle.fs_model.specs.declared.event.RestartFault.TheVariants.{DiskFault}
-use Rattle.fs_model.specs.Trees.{Tree, Room}
-use Rattle.fs_model.specs.Changes.{pruned}
-use Rattle.fs_model.specs.States.{State, MayBeFree}
-use Rattle.fs_model.specs.Steps.{is_of_machine}
-use Rattle.fs_model.specs.Stops.{Machine, MachineRun}
-use Rattle.fs_system.specs.Seen.{StandsFor, StandsForSome, StandsAsPruned, EachStandsFor, Covers}
-use Rattle.fs_system.specs.Doing.{Does}
+use Rattle.fs_system.specs.declared.faults.MountFault.{MountFault}
+use Rattle.fs_system.specs.declared.faults.MountFault.TheVariants as mounts
+use Rattle.fs_system.specs.Histories.{Config, Up, Off, History}
+use Rattle.fs_system.specs.Seen.{System, Base, IsIn}
+use Rattle.fs_system.specs.Standing.{EachStandsForSome}
 
--- ---- mounts and stops
+-- ---- what is served: a file system, or the disk alone
 
--- the state as a mount leaves it
-abbrev pub mounted : Room → Tree → ℕ → State
-mounted room t free = record { room = room; tree = pruned t; desks = []; free = free; halted = false }
+abbrev pub HasDisk : {D : Type 0} → Base D → D → Type 0
+HasDisk None disk = ⊥
+HasDisk (Some base) disk = disk_after base ≡ disk
 
--- The state is that of a mount on this tree, and each image stands for that tree, but for files without names.
-pub record IsMounted (now : DiskState) (room : Room) (tree : Tree) (s : State) : Type 0 where
-  pub is_mounted : s ≡ mounted room tree s.free
-  pub free : MayBeFree room (pruned tree) s.free
-  pub images : EachStandsFor room now (pruned tree)
+abbrev pub HasDiskOf : {D : Type 0} → Result (System D) D → D → Type 0
+HasDiskOf (Ok fs) disk = HasDisk fs.base disk
+HasDiskOf (Err alone) disk = alone ≡ disk
 
--- A mount finds the tree for which the disk stands.
-pub record Mounts (before now : DiskState) (s : State) : Type 0 where
-  pub some : StandsForSome before.seen
-  pub each : (room : Room) (tree : Tree) (free : ℕ) → StandsFor room before.seen tree free → IsMounted now room tree s
-  pub later : before.failures ≤ now.failures
-  -- no write and no sync has failed
-  pub unhalted : now.failed_writes ≡ before.failed_writes
+abbrev pub IsConfig : {D : Type 0} → (D → DiskState) → Result (System D) D → Config D → Type 0
+IsConfig state (Ok fs) (Up s disk) = HasDisk fs.base disk × IsIn state fs s
+IsConfig state (Ok fs) (Off disk) = ⊥
+IsConfig state (Err alone) (Up s disk) = ⊥
+IsConfig state (Err alone) (Off disk) = alone ≡ disk
 
--- A mount that fails leaves what stands for the same trees, but for files without names.
-pub record FailsToMount (before now : DiskState) (fault : RestartFault) : Type 0 where
-  pub images : (image : Image) → IsImage now image → (from : Image) × IsImage before from × StandsAsPruned from image
-  pub later : before.failures ≤ now.failures
-  pub cause : fault ≡ DiskFault → HasFailed before now
+-- A stop leaves what may be mounted, as it does of every file system.
+abbrev pub MayMount : {D : Type 0} → (D → DiskState) → Result (System D) D → Type 0
+MayMount state (Ok fs) = Unit {0}
+MayMount state (Err alone) = EachStandsForSome (state alone)
 
--- A stop leaves one of the images that might have been left, all of it stable.
-pub record Stopped (before now : DiskState) : Type 0 where
-  pub image : IsImage before now.seen
-  pub each : (image : Image) → IsImage now image → image ≡ now.seen
-  pub later : before.failures ≤ now.failures
+-- Whichever configuration was served, the events have these replies, and lead to one that is served then.
+abbrev pub Plays : {D : Type 0} → (D → DiskState) → Result (System D) D → List Event → List EventReply → Result (System D) D → Type 0
+Plays {D} state old es replies new =
+    (c : Config D) → IsConfig state old c → (d : Config D) × IsConfig state new d × History state c es replies d
 
--- ---- histories
+-- ---- restarts
 
--- a disk with a file system in this state, or with none
-pub data Config (D : Type 0) : Type 0 where
-  Up : State → D → Config D
-  Off : D → Config D
-
-abbrev pub device : {D : Type 0} → Config D → D
-device (Up s disk) = disk
-device (Off disk) = disk
-
--- What an event does to a disk, with its file system or without one.
-pub data Goes {D : Type 0} (state : D → DiskState) : Config D → Event → EventReply → Config D → Type 0 where
-  does : (before now : D) (s t : State) (e : Event) (reply : Reply) → Does (state before) (state now) s e reply t
-      → Goes state (Up s before) e (Replies reply) (Up t now)
-  is_down : (disk : D) (e : Event) → IsTrue (is_of_machine e) → Goes state (Off disk) e Down (Off disk)
-  arms_up : (before now : D) (s : State) (k : ℕ) → IsSame (state before) (state now) → (state before).failures ≤ (state now).failures
-      → Goes state (Up s before) (Arm k) Armed (Up s now)
-  arms_off : (before now : D) (k : ℕ) → IsSame (state before) (state now) → (state before).failures ≤ (state now).failures
-      → Goes state (Off before) (Arm k) Armed (Off now)
-  restarts : (c : Config D) (mid now : D) (s : State) (bytes : List ℕ) (arm : Option ℕ) → Stopped (state (device c)) (state mid)
-      → Mounts (state mid) (state now) s → Goes state c (Restart bytes arm) Mounted (Up s now)
-  fails : (c : Config D) (mid now : D) (fault : RestartFault) (bytes : List ℕ) (arm : Option ℕ) → Stopped (state (device c)) (state mid)
-      → FailsToMount (state mid) (state now) fault → Goes state c (Restart bytes arm) (MountFailed fault) (Off now)
-
--- the same file system, or none, on a disk that has let go of its past
-abbrev pub on_disk : {D : Type 0} → Config D → D → Config D
-on_disk (Up s disk) now = Up s now
-on_disk (Off disk) now = Off now
-
--- a history, one event after another; in between the disk may let go of its past
-pub data History {D : Type 0} (state : D → DiskState) : Config D → List Event → List EventReply → Config D → Type 0 where
-  ends : (c : Config D) → History state c [] [] c
-  goes : (old mid new : Config D) (e : Event) (reply : EventReply) (es : List Event) (replies : List EventReply)
-      → Goes state old e reply mid → History state mid es replies new → History state old (e ∷ es) (reply ∷ replies) new
-  forgets : (old new : Config D) (now : D) (es : List Event) (replies : List EventReply) → IsSame (state (device old)) (state now)
-      → (state (device old)).failures ≤ (state now).failures → History state (on_disk old now) es replies new → History state old es replies new
-
--- ---- runs
-
--- no more faults than the device has counted, as far as it counts
-abbrev pub CountsFor : ℕ → DiskState → DiskState → Type 0
-CountsFor faults start now = (faults + start.failures ≤ now.failures) ⊎ (2 ^ 64 - 1 ≤ now.failures)
-
--- the present tree is one of those that a stop may leave
-abbrev pub HasConfig : {D : Type 0} → Machine → Config D → Type 0
-HasConfig m (Up s disk) = IsTrue m.is_up × (m.state ≡ s) × (IsFalse s.halted → Contains m.trees s.tree)
-HasConfig m (Off disk) = IsFalse m.is_up
-
--- the machine has the state, and its trees cover what a stop leaves
-pub record Follows {D : Type 0} (state : D → DiskState) (room : Room) (start : DiskState) (m : Machine) (c : Config D) : Type 0 where
-  pub same_room : m.state.room ≡ room
-  pub has_config : HasConfig m c
-  pub covers : Covers room m.trees (state (device c))
-  pub faults : CountsFor m.faults start (state (device c))
-
--- Each history is a run of the machine, whose trees cover what a stop leaves.
-abbrev pub HistoriesAreRuns : {D : Type 0} → (D → DiskState) → Type 0
-HistoriesAreRuns {D} state =
-    (room : Room) (start : D) (m : Machine) (old new : Config D) (es : List Event) (replies : List EventReply)
-    → Follows state room (state start) m old → History state old es replies new
-    → (last : Machine) × MachineRun m es replies last × Follows state room (state start) last new
+abbrev pub IsOfRestart : MountFault → Type 0
+IsOfRestart fault = (fault ≡ mounts.DiskFault) ⊎ (fault ≡ mounts.OutOfMemory)

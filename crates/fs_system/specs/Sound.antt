@@ -3,7 +3,7 @@
 use Rattle.std.specs.Prelude.{◌≡◌, ◌≤◌, Some}
 use Rattle.sector_disk.specs.Disk.{DiskState}
 use Rattle.fs_layout.specs.declared.place.Place.{Place}
-use Rattle.fs_layout.specs.Place.{the_place}
+use Rattle.fs_layout.specs.Place.{place_in}
 use Rattle.fs_layout.specs.Ownership.{IsConsistent}
 use Rattle.redo_journal.specs.Meaning.{data_of}
 use Rattle.bit_alloc.specs.Bitmaps.{HasRestSet}
@@ -12,7 +12,7 @@ use Rattle.inode_table.specs.Inodes.{ClearAreFree}
 -- After recovery the map of the disk is consistent, the bits that are no number's are set, and an inode whose bit is clear
 -- is free.
 pub record IsSoundDisk (p : Place) (disk : DiskState) : Type 0 where
-  pub has_place : the_place p.sectors p.inodes ≡ Some p
+  pub has_place : place_in p.version p.sectors p.inodes ≡ Some p
   pub sectors : p.sectors ≤ disk.size
   pub consistent : IsConsistent p (data_of disk)
   pub rest : HasRestSet p (data_of disk)

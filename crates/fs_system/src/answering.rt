@@ -4,8 +4,8 @@ ghost use Rattle.std.specs.Prelude.{◌≡◌, ◌∷◌, [], Ok, IsTrue};
 ghost use Rattle.fs_model.specs.Steps.{is_of_machine};
 ghost use Rattle.fs_model.specs.declared.event.EventReply.TheVariants.{Reply as Replies};
 ghost use Rattle.fs_system.specs.Doing.{Happens};
+ghost use Rattle.fs_system.specs.Playing.{Plays};
 ghost use Rattle.fs_system.specs.Mounting.{LeavesHalted};
-ghost use Rattle.fs_system.specs.Played.{Plays};
 ghost use Rattle.fs_system.specs.Replies.{spawned, finished, counted};
 
 use crate::fs::Fs;

@@ -8,12 +8,13 @@ ghost use Rattle.fs_model.specs.Processes.{Desks};
 ghost use Rattle.fs_model.specs.States.{State};
 ghost use Rattle.fs_model.specs.declared.event.Event.{Event};
 ghost use Rattle.fs_model.specs.declared.event.Event.TheVariants.{Spawn, Exit, Call as Calls, Fsync, Sync, Statfs};
-ghost use Rattle.fs_system.specs.Seen.{StandsForSome, EachStandsForSome, HasPartsAt, disk_in, IsOn, IsIn, IsInSomeState};
+ghost use Rattle.fs_system.specs.Playing.{HasDisk};
+ghost use Rattle.fs_system.specs.Mounts.{Mounts, FailsToMount, IsNotMounted};
+ghost use Rattle.fs_system.specs.Mounting.{StandsAsBefore, disk_mounted, disk_of_store, is_halted, LeavesHalted};
+ghost use Rattle.fs_system.specs.Seen.{disk_in, IsOn, IsIn, IsInSomeState};
+ghost use Rattle.fs_system.specs.Standing.{StandsForSome, EachStandsForSome, HasPartsAt};
 ghost use Rattle.fs_system.specs.Doing.{Happens, HappensLast, FlushesFor};
 ghost use Rattle.fs_system.specs.Replies.{spawned, finished, unmounted, counted};
-ghost use Rattle.fs_system.specs.Playing.{Mounts, FailsToMount};
-ghost use Rattle.fs_system.specs.Played.{HasDisk};
-ghost use Rattle.fs_system.specs.Mounting.{StandsAsBefore, IsNotMounted, disk_mounted, disk_of_store, is_halted, LeavesHalted};
 ghost use Rattle.fs_model.specs.declared.event.RestartFault.TheVariants.{DiskFault as Device};
 
 use crate::faults::MountFault;
@@ -21,7 +22,7 @@ use crate::stored::{count_space, exit_kept, failed, perform_kept};
 use crate::sweeping::sweep;
 use fs_check::check;
 use fs_cred::{Cred, Errno};
-use fs_layout::{Place, Super, place_of};
+use fs_layout::{Place, Super};
 use fs_model::{Call, Reply, RestartFault};
 use open_files::Procs;
 use redo_journal::{Broken, Journal, OpenFault};
@@ -44,8 +45,8 @@ pub struct Fs<D: Disk> {
 }
 
 impl<D: Disk> Model for Fs<D> {
-    ghost use Rattle.fs_system.specs.Seen.{System};
     ghost use Rattle.fs_system.specs.Mounting.{IsSystem};
+    ghost use Rattle.fs_system.specs.Seen.{System};
 
     ghost Value = { System D };
 
@@ -69,7 +70,7 @@ pub(crate) fn read_place<D: Disk>(disk: &mut D) -> Result<Place, DiskFault>
     let Ok(superblock) = Super::read_from(&sector, 0) else {
         unreachable!()
     };
-    let Some(place) = place_of(superblock.sectors, superblock.inodes) else {
+    let Some(place) = superblock.place() else {
         unreachable!()
     };
     Ok(place)
@@ -209,7 +210,7 @@ impl<D: Disk + Drop> Fs<D> {
         if self.procs.is_full() {
             return Err(Errno::EAGAIN);
         }
-        let Ok(copy) = Cred::new(self.alloc, cred.uid(), cred.gid(), cred.groups()) else {
+        let Ok(copy) = cred.try_clone(self.alloc) else {
             return Err(Errno::ENOMEM);
         };
         self.spawn(copy)

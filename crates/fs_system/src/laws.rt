@@ -1,6 +1,6 @@
 //! The laws of the file system: each is the contract of a function that does nothing.
 ghost use Rattle.fs_system.specs.Laws.{TreesAreSound, SoundDisksAreShown};
-ghost use Rattle.fs_system.specs.Playing.{HistoriesAreRuns};
+ghost use Rattle.fs_system.specs.Histories.{HistoriesAreRuns};
 
 use sector_disk::Disk;
 

@@ -3,7 +3,7 @@
 ghost use Rattle.std.specs.Prelude.{◌≡◌, ◌≤◌, ◌<◌, Some, None, Err, IfErr, OnOk, MatchResult};
 ghost use Rattle.sector_disk.specs.Disk.{AddsOnly, HasCause, IsImageOr, IsStable, LeavesOnly, sector};
 ghost use Rattle.fs_layout.specs.Place.{IsPlace, the_place};
-ghost use Rattle.fs_layout.specs.Superblock.{super_bytes};
+ghost use Rattle.fs_layout.specs.Superblock.{super_bytes, super_for};
 ghost use Rattle.fs_system.specs.Making.{BehindSuperblock, HasNoSuperblock, HoldsNewTables, IsCleared, IsDeviceFault, IsHalfCleared, IsHalfDone, IsHalfMade, IsNewDisk, IsPrepared, mkfs_refusal};
 
 use crate::MkfsFault;
@@ -13,7 +13,7 @@ use sector_disk::{Disk, DiskFault, write_synced};
 
 const SUPERBLOCK: u32 = 0;
 
-/// Makes a file system with so many inodes on the disk, whose root is an empty directory of the superuser's, 0755.
+/// Makes a file system with so many inodes on the disk, whose root is an empty directory of user 0, 0755.
 ///
 /// The superblock is cleared first and written last, with a sync after each step: a disk on which this was stopped
 /// halfway has none, and isn't taken for a file system.
@@ -116,13 +116,9 @@ fn write_superblock<D: Disk>(disk: &mut D, place: Place) -> Result<(), DiskFault
 
 // The content of the superblock.
 fn superblock(place: Place) -> [u8; 512]
-    ensures { result ≡ super_bytes (record { sectors = place.sectors; inodes = place.inodes }) }
+    ensures { result ≡ super_bytes (super_for place) }
 {
     let mut content = [0; 512];
-    Super {
-        sectors: place.sectors,
-        inodes: place.inodes,
-    }
-    .write_to(&mut content, 0);
+    Super::of_place(place).write_to(&mut content, 0);
     content
 }

@@ -59,7 +59,7 @@ fn bitmap_byte(first: u32, low: u32, high: u32) -> u8
     byte
 }
 
-// The first sector of the inode table: an empty root of the superuser's, 0755, and three free inodes.
+// The first sector of the inode table: an empty root of user 0, 0755, and three free inodes.
 fn root_sector() -> [u8; 512]
     ensures { result ≡ root_table }
 {

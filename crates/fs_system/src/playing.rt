@@ -5,10 +5,12 @@ ghost use Rattle.fs_model.specs.Steps.{is_of_machine};
 ghost use Rattle.fs_model.specs.declared.event.Event.TheVariants.{Arm, Restart};
 ghost use Rattle.fs_model.specs.declared.event.EventReply.TheVariants.{Armed};
 ghost use Rattle.fs_system.specs.declared.faults.PlayFault.TheVariants.{OutOfMemory};
-ghost use Rattle.fs_system.specs.Played.{Played, Unplayed, IsConfig, Plays, MayMount, HasDiskOf, IsOfRestart};
-ghost use Rattle.fs_system.specs.Playing.{Stopped, FailsToMount};
-ghost use Rattle.fs_system.specs.Mounting.{IsNotMounted, fault_of};
-ghost use Rattle.fs_system.specs.Seen.{StandsForSome, EachStandsForSome};
+ghost use Rattle.fs_system.specs.Played.{Played, Unplayed};
+ghost use Rattle.fs_system.specs.Playing.{IsConfig, Plays, MayMount, HasDiskOf, IsOfRestart};
+ghost use Rattle.fs_system.specs.Histories.{Stopped};
+ghost use Rattle.fs_system.specs.Mounts.{FailsToMount, IsNotMounted};
+ghost use Rattle.fs_system.specs.Mounting.{fault_of};
+ghost use Rattle.fs_system.specs.Standing.{StandsForSome, EachStandsForSome};
 
 use crate::faults::{MountFault, PlayFault};
 use crate::fs::Fs;

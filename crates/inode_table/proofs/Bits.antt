@@ -2,6 +2,8 @@
 use Rattle.std.proofs.Common.{◌≡◌, ◌≢◌, ℕ, ◌+◌, ◌*◌, ◌/◌, ◌%◌, ◌^◌, ◌<◌, ◌≤◌, true, false, Bool, ◌&&◌, nat_le, nat_eq, refl, sym, ap, ◌∙◌, arith}
 use Rattle.std.proofs.lemmas.Bool.{and_parts, leb-true}
 use Rattle.std.proofs.lemmas.Bool.Decides.{nat_tests}
+use Rattle.fs_layout.specs.declared.inode.TheConstants.{MAX_DIRECTORY_SIZE, MAX_FILE_SIZE}
+use Rattle.fs_layout.specs.declared.slot.TheConstants.{SLOT_SIZE}
 use Rattle.fs_layout.specs.declared.inode.Kind.{Kind}
 use Rattle.fs_layout.specs.declared.inode.Kind.TheVariants.{Free, File, Directory, Link}
 use Rattle.fs_layout.specs.declared.inode.Inode.{Inode}
@@ -25,14 +27,14 @@ low_bits_fit : (kind : Kind) (mode size bits : ℕ) → bits < 512 → kind ≢ 
     → numbers_fit kind (with_low_bits mode bits) size ≡ true
 low_bits_fit Free mode size bits small ne fits = refl
 low_bits_fit File mode size bits small ne fits =
-    let was : mode ≤ 511 = leb-true mode 511 (and_parts (nat_le mode 511) (nat_le size 71680) fits).0 in
-    other_first (nat_le mode 511) (nat_le size 71680) (nat_le (with_low_bits mode bits) 511) fits (le_test (with_low_bits mode bits) 511 (omega (arith, was, small)))
+    let was : mode ≤ 511 = leb-true mode 511 (and_parts (nat_le mode 511) (nat_le size MAX_FILE_SIZE) fits).0 in
+    other_first (nat_le mode 511) (nat_le size MAX_FILE_SIZE) (nat_le (with_low_bits mode bits) 511) fits (le_test (with_low_bits mode bits) 511 (omega (arith, was, small)))
 low_bits_fit Directory mode size bits small ne fits =
-    let both = and_parts (nat_le mode 2047 && nat_le size 71680) (nat_eq (size % 128) 0) fits in
-    let was : mode ≤ 2047 = leb-true mode 2047 (and_parts (nat_le mode 2047) (nat_le size 71680) both.0).0 in
-    let now = other_first (nat_le mode 2047) (nat_le size 71680) (nat_le (with_low_bits mode bits) 2047) both.0
+    let both = and_parts (nat_le mode 2047 && nat_le size MAX_DIRECTORY_SIZE) (nat_eq (size % SLOT_SIZE) 0) fits in
+    let was : mode ≤ 2047 = leb-true mode 2047 (and_parts (nat_le mode 2047) (nat_le size MAX_DIRECTORY_SIZE) both.0).0 in
+    let now = other_first (nat_le mode 2047) (nat_le size MAX_DIRECTORY_SIZE) (nat_le (with_low_bits mode bits) 2047) both.0
     (le_test (with_low_bits mode bits) 2047 (omega (arith, was, small))) in
-    other_first (nat_le mode 2047 && nat_le size 71680) (nat_eq (size % 128) 0) (nat_le (with_low_bits mode bits) 2047 && nat_le size 71680) fits now
+    other_first (nat_le mode 2047 && nat_le size MAX_DIRECTORY_SIZE) (nat_eq (size % SLOT_SIZE) 0) (nat_le (with_low_bits mode bits) 2047 && nat_le size MAX_DIRECTORY_SIZE) fits now
 low_bits_fit Link mode size bits small ne fits = absurd (ne refl)
 
 -- an inode with a mode of its kind's range and other sectors for its ACLs

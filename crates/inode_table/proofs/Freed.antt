@@ -2,6 +2,7 @@
 use Rattle.std.proofs.Common.{◌≡◌, ℕ, ◌<◌, ◌≤◌, [], None, length, refl, sym, subst, ◌∙◌, arith, inl, inr}
 use Rattle.std.proofs.lemmas.Bool.{cases_lt}
 use Rattle.std.proofs.lemmas.List.{get_or_past}
+use Rattle.fs_layout.specs.declared.inode.TheConstants.{DIRECT_BLOCKS}
 use Rattle.fs_layout.specs.declared.inode.Inode.{Inode}
 use Rattle.fs_layout.specs.declared.place.Place.{Place}
 use Rattle.fs_layout.specs.Bytes.{SectorMap}
@@ -21,11 +22,11 @@ use Rattle.inode_table.specs.Storing.{GivesBack}
 use Rattle.inode_table.proofs.Stores.{HasStored, stored}
 
 -- an inode that holds nothing has no sector but those of its ACLs
-without_acls : (image : SectorMap) (v : Inode) → length v.direct ≡ 12 → Holds image v [] → HasNoSector (record v { acl = 0; default_acl = 0 })
+without_acls : (image : SectorMap) (v : Inode) → length v.direct ≡ DIRECT_BLOCKS → Holds image v [] → HasNoSector (record v { acl = 0; default_acl = 0 })
 without_acls image v len h = record {
   acl = refl;
   default_acl = refl;
-  direct = λ k. elim (cases_lt k 12) [
+  direct = λ k. elim (cases_lt k DIRECT_BLOCKS) [
     | inl lt ↦ sym (pointer_direct image v k lt) ∙ h.trim k (let z = h.size in omega (arith, z))
     | inr ge ↦ get_or_past v.direct k 0 (omega (arith, len, ge))
   ];

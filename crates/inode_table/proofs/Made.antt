@@ -2,6 +2,7 @@
 use Rattle.std.proofs.Common.{◌≡◌, ℕ, ◌+◌, ◌/◌, ◌<◌, ◌≤◌, List, [], Option, get_or, refl, sym, ap, subst, ◌∙◌, arith, IsTrue, Result, Ok, Err, IsErr, IfErr}
 use Rattle.std.specs.Prelude.{IsErrAnd}
 use Rattle.posix_acl.specs.AccessList.{AccessList, IsAcl, IsSomeAcl, mode_bits}
+use Rattle.fs_layout.specs.declared.inode.TheConstants.{DIRECT_BLOCKS}
 use Rattle.fs_layout.specs.declared.inode.Inode.{Inode}
 use Rattle.fs_layout.specs.declared.place.Place.{Place}
 use Rattle.fs_layout.specs.Bytes.{SectorMap, zeros}
@@ -44,7 +45,7 @@ unfolding zeros
 blank_has_no_sector v blank = record {
   acl = blank.acl;
   default_acl = blank.default;
-  direct = λ k. ap (λ (l : List ℕ). get_or l k 0) blank.direct ∙ get_or-zeros 12 k;
+  direct = λ k. ap (λ (l : List ℕ). get_or l k 0) blank.direct ∙ get_or-zeros DIRECT_BLOCKS k;
   indirect = blank.indirect;
 }
 

@@ -1,5 +1,6 @@
 -- Where an inode stands on the disk, what is read there, and what is written.
 use Rattle.std.proofs.Common.{◌≡◌, ℕ, ◌+◌, ◌*◌, ◌/◌, ◌%◌, ◌<◌, ◌≤◌, List, Result, Ok, Err, ap, subst, ◌∙◌, arith}
+use Rattle.fs_layout.specs.declared.inode.TheConstants.{INODE_SIZE}
 use Rattle.fs_layout.specs.declared.inode.Inode.{Inode}
 use Rattle.fs_layout.specs.declared.fault.LayoutFault.{LayoutFault}
 use Rattle.fs_layout.specs.declared.place.Place.{Place}
@@ -22,11 +23,11 @@ inode_above n place = let a = after_map place in omega (arith, a)
 
 -- a sector of the table is read, and the inode in it: it is valid
 module _ {p : Place} {image : SectorMap} {n at from : ℕ} {s : List ℕ} {r : Result Inode LayoutFault} (h : IsConsistent p image) (lt : n < p.inodes)
-    (sector : at ≡ p.table + n / 4) (begin : from ≡ 128 * (n % 4)) (is : s ≡ image at) (read : r ≡ inode_of (window s from 128)) where
+    (sector : at ≡ p.table + n / 4) (begin : from ≡ INODE_SIZE * (n % 4)) (is : s ≡ image at) (read : r ≡ inode_of (window s from INODE_SIZE)) where
   pub inode_is_read : r ≡ Ok (inode_at p image n)
   unfolding stored
   inode_is_read =
-      read ∙ ap (λ (k : ℕ). inode_of (window s k 128)) begin ∙ ap (λ (b : List ℕ). inode_of (window b (128 * (n % 4)) 128)) (is ∙ ap image sector)
+      read ∙ ap (λ (k : ℕ). inode_of (window s k INODE_SIZE)) begin ∙ ap (λ (b : List ℕ). inode_of (window b (INODE_SIZE * (n % 4)) INODE_SIZE)) (is ∙ ap image sector)
       ∙ h.valid n lt
 
   -- so reading it doesn't fail
@@ -37,13 +38,13 @@ module _ {p : Place} {image : SectorMap} {n at from : ℕ} {s : List ℕ} {r : R
   inode_found v ok = same_ok v (inode_at p image n) r ok inode_is_read
 
 -- an inode is written into its sector, and the sector is put
-pub sector_saves : {p : Place} {n at from : ℕ} {v : Inode} {old mid new : SectorMap} {s t : List ℕ} → at ≡ p.table + n / 4 → from ≡ 128 * (n % 4)
+pub sector_saves : {p : Place} {n at from : ℕ} {v : Inode} {old mid new : SectorMap} {s t : List ℕ} → at ≡ p.table + n / 4 → from ≡ INODE_SIZE * (n % 4)
     → ((m : ℕ) → mid m ≡ old m) → s ≡ old at → t ≡ splice s from (inode_bytes v) → Puts at t mid new → Saves p n v old new
 sector_saves {p} {n} {at} {from} {v} {old} {mid} {new} {s} {t} sector begin same is written put =
     let there : Puts (p.table + n / 4) t mid new = subst (λ (k : ℕ). Puts k t mid new) sector put in
     let was : s ≡ old (p.table + n / 4) = is ∙ ap old sector in
-    let bytes : t ≡ splice s (128 * (n % 4)) (inode_bytes v) = written ∙ ap (λ (k : ℕ). splice s k (inode_bytes v)) begin in
+    let bytes : t ≡ splice s (INODE_SIZE * (n % 4)) (inode_bytes v) = written ∙ ap (λ (k : ℕ). splice s k (inode_bytes v)) begin in
     put_saves (record {
-      here = there.here ∙ bytes ∙ ap (λ (b : List ℕ). splice b (128 * (n % 4)) (inode_bytes v)) was;
+      here = there.here ∙ bytes ∙ ap (λ (b : List ℕ). splice b (INODE_SIZE * (n % 4)) (inode_bytes v)) was;
       others = λ m ne. there.others m ne ∙ same m;
     })

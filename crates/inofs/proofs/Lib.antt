@@ -1,3 +1,4 @@
+pub mod Ends
 mod News
 pub mod Getters
 pub mod Refusals

@@ -11,8 +11,9 @@ use Rattle.fs_model.specs.States.{State}
 use Rattle.fs_model.specs.Stands.{room_of}
 use Rattle.fs_model.specs.NewDisk.{empty_tree}
 use Rattle.fs_system.specs.Making.{IsNewDisk}
-use Rattle.fs_system.specs.Played.{IsConfig}
-use Rattle.fs_system.specs.Playing.{Config, Up, Mounts}
+use Rattle.fs_system.specs.Playing.{IsConfig}
+use Rattle.fs_system.specs.Histories.{Config, Up}
+use Rattle.fs_system.specs.Mounts.{Mounts}
 use Rattle.fs_system.specs.Seen.{System, disk_in, IsIn}
 use Rattle.fs_system.proofs.Played.{seen_in, the_disk}
 use Rattle.inofs.specs.Programs.{IsNew, Begins}

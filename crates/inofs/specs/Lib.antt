@@ -1,2 +1,5 @@
+pub mod Jobs
 pub mod Programs
+pub mod Streams
+pub mod Texts
 pub mod Words

@@ -1,9 +1,9 @@
 -- What a script begins with, how it may end, and the status of the program.
 --     IsNew        the state of a new file system
 --     Begins, RunsFromNew        such a file system is mounted, and then a script is run
---     Fails        what a failure says
+--     Fails, RunsInMemory        what a failure says; what a run on a new disk in memory comes to
 --     status_of, code_of        the status of a script, and the number of a status
-use Rattle.std.specs.Prelude.{◌≡◌, ◌==◌, ℕ, List, [], Option, Result, IsFalse, if◌then◌else◌}
+use Rattle.std.specs.Prelude.{◌≡◌, ◌==◌, ℕ, List, [], Option, Result, Ok, Err, IsFalse, MatchResult, if◌then◌else◌}
 use Rattle.sector_disk.specs.Disk.{DiskState, IsStable}
 use Rattle.fs_layout.specs.Place.{laid_out}
 use Rattle.fs_model.specs.Stands.{room_of}
@@ -13,8 +13,11 @@ use Rattle.fs_shell.specs.declared.answer.Count.{Count}
 use Rattle.fs_shell.specs.declared.fault.RunFault.{RunFault}
 use Rattle.fs_shell.specs.Runs.{Ran}
 use Rattle.fs_system.specs.Making.{IsNewDisk}
-use Rattle.fs_system.specs.Playing.{Config, Up, Mounts}
+use Rattle.fs_system.specs.Playing.{IsOfRestart}
+use Rattle.fs_system.specs.Histories.{Config, Up}
+use Rattle.fs_system.specs.Mounts.{Mounts}
 use Rattle.fs_system.specs.declared.faults.MkfsFault.TheVariants.{DiskFault}
+use Rattle.inofs.specs.Streams.{Reading, Writing}
 use Rattle.inofs.specs.declared.failure.Failure.{Failure}
 use Rattle.inofs.specs.declared.failure.Failure.TheVariants.{Exists, NotCreated, NotOpened, NoScript, Mkfs, Mount, Check, Run, Unmount}
 use Rattle.inofs.specs.declared.status.Status.{Status}
@@ -48,7 +51,7 @@ RunsFromNew {D} state sectors inodes input before after result =
 abbrev pub Fails : (RunFault → Type 0) → Type 0 → Failure → Type 0
 Fails ran untouched NotCreated = untouched
 Fails ran untouched (Mkfs fault) = (fault ≡ DiskFault) × untouched
-Fails ran untouched (Mount fault) = untouched
+Fails ran untouched (Mount fault) = IsOfRestart fault × untouched
 Fails ran untouched (Run fault) = ran fault
 -- those of files
 Fails ran untouched Exists = ⊥
@@ -56,6 +59,12 @@ Fails ran untouched NotOpened = ⊥
 Fails ran untouched NoScript = ⊥
 Fails ran untouched (Check fault) = ⊥
 Fails ran untouched Unmount = ⊥
+
+-- A script is to be run on a new disk of so many sectors, with so many inodes.
+abbrev pub RunsInMemory : {D : Type 0} → (D → DiskState) → ℕ → ℕ → Reading → Writing → Type 0 → Result Count Failure → Type 0
+RunsInMemory state sectors inodes r w untouched result = MatchResult result
+    (λ count. RunsFromNew state sectors inodes r.input w.before w.after (Ok count))
+    (Fails (λ fault. RunsFromNew state sectors inodes r.input w.before w.after (Err fault)) untouched)
 
 -- a script that was run to its end: done where each of its lines was in order
 abbrev pub status_of : Count → Status

@@ -1,7 +1,7 @@
 //! Rows of the checker: an image with some bytes changed, and what is found; that a mount agrees.
 
 use fs_check::{CheckFault, Finding, Summary, check};
-use fs_shell::run;
+use fs_shell::{Watched, run};
 use fs_system::{Fs, MountFault, mkfs};
 use sector_disk::{Disk, DiskFault, FailOnce, MemDisk};
 use std::alloc::Global;
@@ -29,8 +29,13 @@ fn mounted<D: Disk + Drop>(alloc: Global, disk: D) -> Result<Fs<D>, Fail> {
 // The disk on which a script has run.
 fn after<D: Disk + Drop>(alloc: Global, disk: D, script: &str) -> Result<D, Fail> {
     let mut fs = mounted(alloc, disk)?;
-    let mut reader = script.as_bytes();
-    run(alloc, &mut reader, &mut Vec::new(alloc), &mut fs)?;
+    let reader = script.as_bytes();
+    run(
+        alloc,
+        &mut Watched::new(reader),
+        &mut Watched::new(Vec::new(alloc)),
+        &mut fs,
+    )?;
     let (disk, _) = fs.unmount();
     Ok(disk)
 }

@@ -3,6 +3,7 @@
 
 #[cfg(test)]
 mod check_tests;
+mod disks;
 mod failure;
 mod jobs;
 mod memory;
@@ -15,6 +16,7 @@ mod words_tests;
 
 use crate::jobs::perform;
 use crate::status::Status;
+use fs_shell::Watched;
 use std::process::ExitCode;
 use std::{env, io};
 
@@ -29,8 +31,8 @@ fn main(rt: HostRuntime) -> ExitCode {
     let status = perform(
         &rt,
         &words,
-        &mut rt.stdin(),
-        &mut rt.stdout(),
+        &mut Watched::new(rt.stdin()),
+        &mut Watched::new(rt.stdout()),
         &mut rt.stderr(),
     );
     ExitCode::from(status)

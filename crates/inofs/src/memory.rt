@@ -1,11 +1,15 @@
 //! Runs a script on a new file system in memory.
-ghost use Rattle.std.specs.Prelude.{◌≡◌, MatchResult, Ok, Err};
-ghost use Rattle.fs_system.specs.Played.{IsConfig};
-ghost use Rattle.fs_system.specs.Playing.{Config};
-ghost use Rattle.inofs.specs.Programs.{Begins, RunsFromNew, Fails};
+ghost use Rattle.std.specs.Prelude.{◌≡◌, MatchResult, Ok, Err, OnOk, IsTrue};
+ghost use Rattle.fs_shell.specs.declared.fault.RunFault.TheVariants.{ReadFault, WriteFault};
+ghost use Rattle.fs_shell.specs.Watching.{FailsWhere};
+ghost use Rattle.fs_system.specs.Playing.{IsConfig};
+ghost use Rattle.fs_system.specs.Histories.{Config};
+ghost use Rattle.inofs.specs.declared.failure.Failure.TheVariants.{Run};
+ghost use Rattle.inofs.specs.Programs.{Begins, Fails, RunsInMemory};
+ghost use Rattle.inofs.specs.Streams.{reading, writing};
 
 use crate::failure::Failure;
-use fs_shell::{Count, run};
+use fs_shell::{Count, Watched, run};
 use fs_system::{Fs, mkfs};
 use sector_disk::{Disk, MemDisk};
 use std::alloc::Global;
@@ -20,15 +24,16 @@ const INODES: u32 = 64;
 /// Makes an empty file system in memory, and runs the script on it.
 pub fn run_in_memory<R: Read, W: Write>(
     alloc: Global,
-    reader: &mut R,
-    writer: &mut W,
+    reader: &mut Watched<R>,
+    writer: &mut Watched<W>,
 ) -> Result<Count, Failure>
     // What was written is the text of a run over the script's lines, which began with an empty file system. It may have
     // ended early, or not have begun.
-    ensures { let state = ⟦<MemDisk as Disk>⟧.state in MatchResult result
-        (λ count. RunsFromNew state SECTORS INODES (R.remaining reader.old) (W.contents writer.old) (W.contents writer.new) (Ok count))
-        (Fails (λ fault. RunsFromNew state SECTORS INODES (R.remaining reader.old) (W.contents writer.old) (W.contents writer.new) (Err fault))
-        ((reader.new ≡ reader.old) × (writer.new ≡ writer.old))) }
+    ensures ran { RunsInMemory ⟦<MemDisk as Disk>⟧.state SECTORS INODES (reading R.remaining reader.old reader.new)
+        (writing W.contents writer.old writer.new) ((reader.new ≡ reader.old) × (writer.new ≡ writer.old)) result }
+    ensures read_fault { FailsWhere reader.old.failed reader.new.failed (result ≡ Err (Run ReadFault)) }
+    ensures write_fault { FailsWhere writer.old.failed writer.new.failed (result ≡ Err (Run WriteFault)) }
+    ensures flushed { OnOk result (IsTrue writer.new.flushed) }
 {
     let Ok(disk) = MemDisk::new(alloc, SECTORS) else {
         return Err(Failure::NotCreated);
@@ -40,14 +45,15 @@ pub fn run_in_memory<R: Read, W: Write>(
 fn run_on<D: Disk + Drop, R: Read, W: Write>(
     alloc: Global,
     disk: D,
-    reader: &mut R,
-    writer: &mut W,
+    reader: &mut Watched<R>,
+    writer: &mut Watched<W>,
 ) -> Result<Count, Failure>
     requires { (D.state disk).size ≡ SECTORS }
-    ensures { MatchResult result
-        (λ count. RunsFromNew D.state SECTORS INODES (R.remaining reader.old) (W.contents writer.old) (W.contents writer.new) (Ok count))
-        (Fails (λ fault. RunsFromNew D.state SECTORS INODES (R.remaining reader.old) (W.contents writer.old) (W.contents writer.new) (Err fault))
-        ((reader.new ≡ reader.old) × (writer.new ≡ writer.old))) }
+    ensures ran { RunsInMemory D.state SECTORS INODES (reading R.remaining reader.old reader.new)
+        (writing W.contents writer.old writer.new) ((reader.new ≡ reader.old) × (writer.new ≡ writer.old)) result }
+    ensures read_fault { FailsWhere reader.old.failed reader.new.failed (result ≡ Err (Run ReadFault)) }
+    ensures write_fault { FailsWhere writer.old.failed writer.new.failed (result ≡ Err (Run WriteFault)) }
+    ensures flushed { OnOk result (IsTrue writer.new.flushed) }
 {
     let mut fs = new_file_system(alloc, disk)?;
     match run(alloc, reader, writer, &mut fs) {

@@ -1,9 +1,10 @@
 //! What the program prints and ends with.
 
+use crate::disks::run_on_disk;
 use crate::failure::Failure;
-use crate::jobs::{perform, run_on_disk};
+use crate::jobs::perform;
 use fs_check::{CheckFault, Finding};
-use fs_shell::RunFault;
+use fs_shell::{RunFault, Watched};
 use fs_system::{MkfsFault, MountFault, mkfs};
 use sector_disk::{CrashDisk, Disk, MemDisk};
 use std::alloc::Global;
@@ -95,7 +96,13 @@ fn seen<I: Read>(
     let words = words(alloc, folder, line)?;
     let mut out = Vec::new(alloc);
     let mut err = Vec::new(alloc);
-    let status = perform(rt, &words, input, &mut out, &mut err);
+    let status = perform(
+        rt,
+        &words,
+        &mut Watched::new(input),
+        &mut Watched::new(&mut out),
+        &mut err,
+    );
     if status == 2 {
         return Ok(String::from_str(alloc, "2")?);
     }
@@ -283,8 +290,14 @@ fn halted(alloc: Global) -> Result<String, Fail> {
     // The sync of the mount passes.
     disk.arm(1);
     let mut out = Vec::new(alloc);
-    let mut script = "spawn 0 0\n1 chmod / 0700\nsync\n".as_bytes();
-    let ended = run_on_disk(alloc, disk, &mut script, &mut out, &mut Vec::new(alloc));
+    let script = "spawn 0 0\n1 chmod / 0700\nsync\n".as_bytes();
+    let ended = run_on_disk(
+        alloc,
+        disk,
+        &mut Watched::new(script),
+        &mut Watched::new(&mut out),
+        &mut Vec::new(alloc),
+    );
     let out = String::from_utf8_lossy(alloc, &out)?;
     match ended {
         Ok(status) => Ok(format!(in alloc; "{out}{status:?}\n")?),
@@ -300,8 +313,8 @@ fn what_fails_is_told(rt: HostRuntime) -> Result<(), Fail> {
     let unwritten = perform(
         &rt,
         &words,
-        &mut "spawn 0 0\n".as_bytes(),
-        &mut NoWriter,
+        &mut Watched::new("spawn 0 0\n".as_bytes()),
+        &mut Watched::new(NoWriter),
         &mut err,
     );
     let err = String::from_utf8_lossy(alloc, &err)?;

@@ -8,9 +8,10 @@ use Rattle.std.specs.Ordering.{nat_cmp}
 use Rattle.std.proofs.lemmas.Bool.Decides.{nat_tests}
 use Rattle.posix_acl.specs.AccessList.{AccessList}
 use Rattle.fs_cred.specs.declared.refusal.Refusal.{Refusal}
+use Rattle.fs_layout.specs.declared.slot.TheConstants.{SLOT_SIZE}
 use Rattle.fs_layout.specs.declared.inode.Inode.{Inode}
 use Rattle.fs_layout.specs.declared.inode.Kind.TheVariants as kinds
-use Rattle.fs_layout.specs.declared.inode.TheConstants.{MAX_FILE_SIZE}
+use Rattle.fs_layout.specs.declared.inode.TheConstants.{MAX_DIRECTORY_SIZE, S_ISGID, S_ISVTX}
 use Rattle.fs_layout.specs.declared.place.Place.{Place}
 use Rattle.fs_layout.specs.AclSector.{kept_acl}
 use Rattle.fs_layout.specs.Bytes.{SectorMap, IsBytes, zeros}
@@ -58,7 +59,7 @@ unfolding inode_fits zeros
 directory_fits dir uid gid bits small_dir small_uid small_gid few =
     let low : nat_le bits 0o3777 ≡ true = grind (arith, nat_tests) in
     record {
-      valid = record { numbers = ap (λ (b : Bool). (b && nat_le 0 MAX_FILE_SIZE) && nat_eq (0 % 128) 0) low; free = λ e. cc };
+      valid = record { numbers = ap (λ (b : Bool). (b && nat_le 0 MAX_DIRECTORY_SIZE) && nat_eq (0 % SLOT_SIZE) 0) low; free = λ e. cc };
       mode = omega (arith, few);
       uid = small_uid;
       gid = small_gid;
@@ -75,14 +76,14 @@ directory_fits dir uid gid bits small_dir small_uid small_gid few =
 pub acls_few : (a : AccessList) (default : Option AccessList) → acls_take a default ≤ 2
 acls_few a default = let one = takes_one (kept_acl a) in let other = takes_one default in omega (arith, one, other)
 
-both_bits : (bits : ℕ) → bits < 2048 → bits / 512 ≡ cond (bits / 512 % 2 == 1) 1 0 + cond (bits / 1024 % 2 == 1) 2 0
-both_bits bits few = go (bits / 512 % 2 == 1) (bits / 1024 % 2 == 1) refl refl
+both_bits : (bits : ℕ) → bits < 2048 → bits / 512 ≡ cond (bits / S_ISVTX % 2 == 1) 1 0 + cond (bits / S_ISGID % 2 == 1) 2 0
+both_bits bits few = go (bits / S_ISVTX % 2 == 1) (bits / S_ISGID % 2 == 1) refl refl
   where
-    go : (a b : Bool) → (bits / 512 % 2 == 1) ≡ a → (bits / 1024 % 2 == 1) ≡ b → bits / 512 ≡ cond a 1 0 + cond b 2 0
-    go true true x y = let s : bits / 512 % 2 ≡ 1 = grind (arith, nat_tests) in let g : bits / 1024 % 2 ≡ 1 = grind (arith, nat_tests) in omega (arith, few, s, g)
-    go true false x y = let s : bits / 512 % 2 ≡ 1 = grind (arith, nat_tests) in let g : bits / 1024 % 2 ≡ 0 = grind (arith, nat_tests) in omega (arith, few, s, g)
-    go false true x y = let s : bits / 512 % 2 ≡ 0 = grind (arith, nat_tests) in let g : bits / 1024 % 2 ≡ 1 = grind (arith, nat_tests) in omega (arith, few, s, g)
-    go false false x y = let s : bits / 512 % 2 ≡ 0 = grind (arith, nat_tests) in let g : bits / 1024 % 2 ≡ 0 = grind (arith, nat_tests) in omega (arith, few, s, g)
+    go : (a b : Bool) → (bits / S_ISVTX % 2 == 1) ≡ a → (bits / S_ISGID % 2 == 1) ≡ b → bits / 512 ≡ cond a 1 0 + cond b 2 0
+    go true true x y = let s : bits / S_ISVTX % 2 ≡ 1 = grind (arith, nat_tests) in let g : bits / S_ISGID % 2 ≡ 1 = grind (arith, nat_tests) in omega (arith, few, s, g)
+    go true false x y = let s : bits / S_ISVTX % 2 ≡ 1 = grind (arith, nat_tests) in let g : bits / S_ISGID % 2 ≡ 0 = grind (arith, nat_tests) in omega (arith, few, s, g)
+    go false true x y = let s : bits / S_ISVTX % 2 ≡ 0 = grind (arith, nat_tests) in let g : bits / S_ISGID % 2 ≡ 1 = grind (arith, nat_tests) in omega (arith, few, s, g)
+    go false false x y = let s : bits / S_ISVTX % 2 ≡ 0 = grind (arith, nat_tests) in let g : bits / S_ISGID % 2 ≡ 0 = grind (arith, nat_tests) in omega (arith, few, s, g)
 
 module _ {p : Place} {n taken more : ℕ} {old new : TxnState} (free : IsFreeNumber p Inodes old.sectors n) (touches : Touches p n taken more old new)
     (used : IsTrue (bit new.sectors inode_bitmap n)) where
@@ -96,7 +97,7 @@ module _ {p : Place} {n taken more : ℕ} {old new : TxnState} (free : IsFreeNum
     change = touches.inode;
     taken = used;
     holds = new_directory_held new.sectors (new_directory dir uid gid bits) (inode_at p new.sectors n) uid gid refl refl refl a fields empty access dir default
-        (bits / 512 % 2 == 1) (bits / 1024 % 2 == 1) refl (both_bits bits few) refl has;
+        (bits / S_ISVTX % 2 == 1) (bits / S_ISGID % 2 == 1) refl (both_bits bits few) refl has;
   }
 
 -- ---- mkdir

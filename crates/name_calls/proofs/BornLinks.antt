@@ -10,6 +10,7 @@ use Rattle.std.specs.Ordering.{nat_cmp}
 use Rattle.fs_cred.specs.declared.errno.Errno.TheVariants.{ENOENT, EINVAL, ENAMETOOLONG}
 use Rattle.fs_cred.specs.declared.refusal.Refusal.{Refusal}
 use Rattle.fs_cred.specs.Credentials.{Credential}
+use Rattle.fs_layout.specs.declared.inode.TheConstants.{S_ISGID}
 use Rattle.fs_layout.specs.declared.inode.Inode.{Inode}
 use Rattle.fs_layout.specs.declared.inode.Kind.TheVariants.{Link}
 use Rattle.fs_layout.specs.declared.place.Place.{Place}
@@ -61,11 +62,11 @@ none_free why = elim why [ inl x ↦ inl x | inr none ↦ inr (omega (arith, non
 module _ {p : Place} {n taken more : ℕ} {old new : TxnState} (free : IsFreeNumber p Inodes old.sectors n) (touches : Touches p n taken more old new)
     (used : IsTrue (bit new.sectors inode_bitmap n)) where
   pub link_taken : (dir uid gid : ℕ) (directory : Inode) (cred : Credential) (target : List ℕ) → uid ≡ cred.uid
-      → gid ≡ (if directory.mode / 1024 % 2 == 1 then directory.gid else cred.gid) → IsNewLink uid gid (inode_at p new.sectors n)
+      → gid ≡ (if directory.mode / S_ISGID % 2 == 1 then directory.gid else cred.gid) → IsNewLink uid gid (inode_at p new.sectors n)
       → HasNoAcls (inode_at p new.sectors n) → Holds new.sectors (inode_at p new.sectors n) target → HasNoHole new.sectors (inode_at p new.sectors n)
       → TakesInode p n (record { node = link_made directory cred target; names = 1; parent = dir }) old.sectors new.sectors
   link_taken dir uid gid directory cred target owner group is acls holds whole =
-      let group_made : ℕ = if directory.mode / 1024 % 2 == 1 then directory.gid else cred.gid in
+      let group_made : ℕ = if directory.mode / S_ISGID % 2 == 1 then directory.gid else cred.gid in
       record {
         super = touches.super;
         free = free;

@@ -6,6 +6,7 @@ use Rattle.std.specs.Prelude.{◌≡◌, ℕ, ◌+◌, ◌/◌, ◌%◌, ◌<◌
 use Rattle.std.proofs.Common.{refl, sym, ap, subst, arith, ◌∙◌}
 use Rattle.posix_acl.specs.AccessList.{AccessList}
 use Rattle.fs_cred.specs.Credentials.{Credential}
+use Rattle.fs_layout.specs.declared.inode.TheConstants.{S_ISGID, S_ISVTX}
 use Rattle.fs_layout.specs.declared.inode.Inode.{Inode}
 use Rattle.fs_layout.specs.declared.place.Place.{Place}
 use Rattle.fs_layout.specs.Bytes.{SectorMap}
@@ -21,19 +22,19 @@ use Rattle.call_parts.proofs.NewFile.{set_group_says, default_is}
 use Rattle.call_parts.proofs.Shown.{the_node_is}
 use Rattle.call_parts.specs.NewNodes.{IsNewIn, directory_made, link_made}
 
-sticky_says : (s g : Bool) → ((cond s 512 0 + cond g 1024 0) / 512 % 2 == 1) ≡ s
+sticky_says : (s g : Bool) → ((cond s S_ISVTX 0 + cond g S_ISGID 0) / S_ISVTX % 2 == 1) ≡ s
 sticky_says true true = refl
 sticky_says true false = refl
 sticky_says false true = refl
 sticky_says false false = refl
 
-group_says : (s g : Bool) → ((cond s 512 0 + cond g 1024 0) / 1024 % 2 == 1) ≡ g
+group_says : (s g : Bool) → ((cond s S_ISVTX 0 + cond g S_ISGID 0) / S_ISGID % 2 == 1) ≡ g
 group_says true true = refl
 group_says true false = refl
 group_says false true = refl
 group_says false false = refl
 
-pub bits_below : (s g : Bool) → cond s 512 0 + cond g 1024 0 < 2048
+pub bits_below : (s g : Bool) → cond s S_ISVTX 0 + cond g S_ISGID 0 < 2048
 bits_below true true = omega arith
 bits_below true false = omega arith
 bits_below false true = omega arith
@@ -49,7 +50,7 @@ module _ {p : Place} {map : SectorMap} {t : Tree} (h : HoldsTree p map t) {dir :
   it_is : the_node t dir ≡ node
   it_is = the_node_is t dir node i.directory.is_there
 
-  pub set_group_is : (v.mode / 1024 % 2 == 1) ≡ (the_directory (the_node t dir)).set_group_id
+  pub set_group_is : (v.mode / S_ISGID % 2 == 1) ≡ (the_directory (the_node t dir)).set_group_id
   set_group_is =
       set_group_says node.owner node.group node.body v.mode i.directory.directory held.mode
       ∙ sym (ap (λ (u : Node). (the_directory u).set_group_id) it_is)
@@ -57,7 +58,7 @@ module _ {p : Place} {map : SectorMap} {t : Tree} (h : HoldsTree p map t) {dir :
   abbrev group_of : Credential → ℕ
   group_of cred = if (the_directory (the_node t dir)).set_group_id then (the_node t dir).group else cred.gid
 
-  pub group_is : (cred : Credential) → (if v.mode / 1024 % 2 == 1 then v.gid else cred.gid)
+  pub group_is : (cred : Credential) → (if v.mode / S_ISGID % 2 == 1 then v.gid else cred.gid)
       ≡ (if (the_directory (the_node t dir)).set_group_id then (the_node t dir).group else cred.gid)
   group_is cred =
       ap (λ (b : Bool). if b then v.gid else cred.gid) set_group_is
@@ -77,19 +78,19 @@ module _ {p : Place} {map : SectorMap} {t : Tree} (h : HoldsTree p map t) {dir :
   }
 
   pub directory_is : (cred : Credential) (umask mode uid gid bits : ℕ) (access : AccessList) (default : Option AccessList) → uid ≡ cred.uid
-      → gid ≡ (if v.mode / 1024 % 2 == 1 then v.gid else cred.gid) → bits ≡ cond (mode / 512 % 2 == 1) 512 0 + cond (v.mode / 1024 % 2 == 1) 1024 0
+      → gid ≡ (if v.mode / S_ISGID % 2 == 1 then v.gid else cred.gid) → bits ≡ cond (mode / S_ISVTX % 2 == 1) S_ISVTX 0 + cond (v.mode / S_ISGID % 2 == 1) S_ISGID 0
       → default ≡ default_in node.body → access ≡ born_acl default mode umask
       → directory_made uid gid bits access default ≡ born_directory cred umask mode (the_node t dir)
   directory_is cred umask mode uid gid bits access default owner group both inherits born =
-      let s = mode / 512 % 2 == 1 in
-      let g = v.mode / 1024 % 2 == 1 in
+      let s = mode / S_ISVTX % 2 == 1 in
+      let g = v.mode / S_ISGID % 2 == 1 in
       let d = (the_directory (the_node t dir)).default in
       let given = inherits ∙ default_given in
-      let sticky : (bits / 512 % 2 == 1) ≡ s = ap (λ (k : ℕ). k / 512 % 2 == 1) both ∙ sticky_says s g in
-      let set_group : (bits / 1024 % 2 == 1) ≡ (the_directory (the_node t dir)).set_group_id = ap (λ (k : ℕ). k / 1024 % 2 == 1) both ∙ group_says s g ∙ set_group_is in
-      ap (λ (k : ℕ). directory_of k gid (bits / 512 % 2 == 1) (bits / 1024 % 2 == 1) access default) owner
-      ∙ ap (λ (k : ℕ). directory_of cred.uid k (bits / 512 % 2 == 1) (bits / 1024 % 2 == 1) access default) (group ∙ group_is cred)
-      ∙ ap (λ (b : Bool). directory_of cred.uid (group_of cred) b (bits / 1024 % 2 == 1) access default) sticky
+      let sticky : (bits / S_ISVTX % 2 == 1) ≡ s = ap (λ (k : ℕ). k / S_ISVTX % 2 == 1) both ∙ sticky_says s g in
+      let set_group : (bits / S_ISGID % 2 == 1) ≡ (the_directory (the_node t dir)).set_group_id = ap (λ (k : ℕ). k / S_ISGID % 2 == 1) both ∙ group_says s g ∙ set_group_is in
+      ap (λ (k : ℕ). directory_of k gid (bits / S_ISVTX % 2 == 1) (bits / S_ISGID % 2 == 1) access default) owner
+      ∙ ap (λ (k : ℕ). directory_of cred.uid k (bits / S_ISVTX % 2 == 1) (bits / S_ISGID % 2 == 1) access default) (group ∙ group_is cred)
+      ∙ ap (λ (b : Bool). directory_of cred.uid (group_of cred) b (bits / S_ISGID % 2 == 1) access default) sticky
       ∙ ap (λ (b : Bool). directory_of cred.uid (group_of cred) s b access default) set_group
       ∙ ap (λ (a : AccessList). directory_of cred.uid (group_of cred) s (the_directory (the_node t dir)).set_group_id a default)
       (born ∙ ap (λ (o : Option AccessList). born_acl o mode umask) given)

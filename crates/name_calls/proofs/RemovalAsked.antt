@@ -11,12 +11,12 @@ use Rattle.fs_cred.specs.declared.errno.Errno.TheVariants.{EBUSY, ENOTDIR, ENOTE
 use Rattle.fs_cred.specs.declared.refusal.Need.TheVariants.{Perm, Remove}
 use Rattle.fs_cred.specs.declared.refusal.Refusal.{Refusal}
 use Rattle.fs_cred.specs.declared.rule.Rule.{Rule}
-use Rattle.fs_cred.specs.declared.rule.Rule.TheVariants.{Sticky}
 use Rattle.fs_cred.specs.Credentials.{Credential}
 use Rattle.fs_cred.specs.Ownership.{sticky_allows}
 use Rattle.fs_cred.specs.Verdicts.{verdict}
 use Rattle.posix_acl.specs.AccessList.{mode_bits}
 use Rattle.sector_disk.specs.Disk.{DiskState}
+use Rattle.fs_layout.specs.declared.inode.TheConstants.{S_ISGID, S_ISVTX}
 use Rattle.fs_layout.specs.declared.inode.Inode.{Inode}
 use Rattle.fs_layout.specs.declared.inode.Kind.TheVariants as kinds
 use Rattle.fs_layout.specs.declared.place.Place.{Place}
@@ -26,7 +26,7 @@ use Rattle.fs_layout.specs.Images.{inode_at}
 use Rattle.fs_layout.proofs.OneAcl.{mode_small}
 use Rattle.fs_model.specs.declared.walk.Found.{Found}
 use Rattle.fs_model.specs.Births.{the_node, the_directory}
-use Rattle.fs_model.specs.Demands.{Demand, refuse, or_else, first_of, decided, denied_unless, permission_of, permission_on, write_and_search}
+use Rattle.fs_model.specs.Demands.{Demand, refuse, or_else, first_of, decided, allowed_by, permission_of, permission_on, write_and_search}
 use Rattle.fs_model.specs.Kinds.{kind_of_type}
 use Rattle.fs_model.specs.Nodes.{Node, Body, File, Dir, Link, is_directory, type_of, shown_mode}
 use Rattle.fs_model.specs.Parts.{is_empty}
@@ -56,35 +56,35 @@ type_says (Link target) = refl
 pub body_kind_is : (image : SectorMap) (v : Inode) (b : Body) → HoldsBody image v b → is_directory_kind v.kind ≡ is_directory b
 body_kind_is image v b h = ap is_directory_kind (body_kind image v b h) ∙ type_says b
 
-sticky_bit : (n : ℕ) (s g : Bool) → n < 512 → ((n + cond s 512 0 + cond g 1024 0) / 512 % 2 == 1) ≡ s
-sticky_bit n true true lt = let e : (n + 512 + 1024) / 512 % 2 ≡ 1 = omega (arith, lt) in ap (λ (k : ℕ). k == 1) e
-sticky_bit n true false lt = let e : (n + 512 + 0) / 512 % 2 ≡ 1 = omega (arith, lt) in ap (λ (k : ℕ). k == 1) e
-sticky_bit n false true lt = let e : (n + 0 + 1024) / 512 % 2 ≡ 0 = omega (arith, lt) in ap (λ (k : ℕ). k == 1) e
-sticky_bit n false false lt = let e : (n + 0 + 0) / 512 % 2 ≡ 0 = omega (arith, lt) in ap (λ (k : ℕ). k == 1) e
+sticky_bit : (n : ℕ) (s g : Bool) → n < 512 → ((n + cond s S_ISVTX 0 + cond g S_ISGID 0) / S_ISVTX % 2 == 1) ≡ s
+sticky_bit n true true lt = let e : (n + 512 + 1024) / S_ISVTX % 2 ≡ 1 = omega (arith, lt) in ap (λ (k : ℕ). k == 1) e
+sticky_bit n true false lt = let e : (n + 512 + 0) / S_ISVTX % 2 ≡ 1 = omega (arith, lt) in ap (λ (k : ℕ). k == 1) e
+sticky_bit n false true lt = let e : (n + 0 + 1024) / S_ISVTX % 2 ≡ 0 = omega (arith, lt) in ap (λ (k : ℕ). k == 1) e
+sticky_bit n false false lt = let e : (n + 0 + 0) / S_ISVTX % 2 ≡ 0 = omega (arith, lt) in ap (λ (k : ℕ). k == 1) e
 
 -- S_ISVTX of its mode is that of the directory
 sticky_says : (owner group : ℕ) (b : Body) (m : ℕ) → IsTrue (is_directory b) → m ≡ shown_mode b
-    → (m / 512 % 2 == 1) ≡ (the_directory (record { owner = owner; group = group; body = b })).sticky
+    → (m / S_ISVTX % 2 == 1) ≡ (the_directory (record { owner = owner; group = group; body = b })).sticky
 sticky_says owner group (File a bytes) m is e = absurd (cc)
-sticky_says owner group (Dir a d) m is e = ap (λ (k : ℕ). k / 512 % 2 == 1) e ∙ sticky_bit (mode_bits a) d.sticky d.set_group_id (mode_small a)
+sticky_says owner group (Dir a d) m is e = ap (λ (k : ℕ). k / S_ISVTX % 2 == 1) e ∙ sticky_bit (mode_bits a) d.sticky d.set_group_id (mode_small a)
 sticky_says owner group (Link target) m is e = absurd (cc)
 
 -- what S_ISVTX of a directory asks
 pub yields : {p : Place} {map : SectorMap} {t : Tree} (h : HoldsTree p map t) (cred : Credential) {f : Found} (directory : IsDirectoryAt t f.dir)
     {n : ℕ} {v : Inode} (node : IsNode map t f n v) {d : Inode} → d ≡ inode_at p map f.dir → (walk step : ℕ) → step ≡ f.step - 1
-    → denied_unless (sticky_allows cred (the_directory (the_node t f.dir)).sticky (the_node t f.dir).owner (the_node t (number f)).owner) walk (f.step - 1) Remove Sticky
+    → allowed_by walk (f.step - 1) Remove (sticky_allows cred (the_directory (the_node t f.dir)).sticky (the_node t f.dir).owner (the_node t (number f)).owner)
     ≡ sticky_asked cred d v walk step
 yields {p} {map} {t} h cred {f} directory {n} {v} node {d} d_is walk step step_is =
     let dir = directory.node in
     let held = held_node h f.dir dir directory.is_there in
     let w = inode_at p map f.dir in
     let here = the_node_is t f.dir dir directory.is_there in
-    ap (λ (k : ℕ). denied_unless (sticky_allows cred (the_directory (the_node t f.dir)).sticky (the_node t f.dir).owner (the_node t (number f)).owner) walk k Remove Sticky) (sym step_is)
-    ∙ ap (λ (u : Node). denied_unless (sticky_allows cred (the_directory u).sticky u.owner (the_node t (number f)).owner) walk step Remove Sticky) here
-    ∙ ap (λ (u : Node). denied_unless (sticky_allows cred (the_directory dir).sticky dir.owner u.owner) walk step Remove Sticky) node.is
-    ∙ ap (λ (k : ℕ). denied_unless (sticky_allows cred (the_directory dir).sticky dir.owner k) walk step Remove Sticky) (sym node.holds.owner)
-    ∙ ap (λ (k : ℕ). denied_unless (sticky_allows cred (the_directory dir).sticky k v.uid) walk step Remove Sticky) (sym held.owner)
-    ∙ ap (λ (b : Bool). denied_unless (sticky_allows cred b w.uid v.uid) walk step Remove Sticky)
+    ap (λ (k : ℕ). allowed_by walk k Remove (sticky_allows cred (the_directory (the_node t f.dir)).sticky (the_node t f.dir).owner (the_node t (number f)).owner)) (sym step_is)
+    ∙ ap (λ (u : Node). allowed_by walk step Remove (sticky_allows cred (the_directory u).sticky u.owner (the_node t (number f)).owner)) here
+    ∙ ap (λ (u : Node). allowed_by walk step Remove (sticky_allows cred (the_directory dir).sticky dir.owner u.owner)) node.is
+    ∙ ap (λ (k : ℕ). allowed_by walk step Remove (sticky_allows cred (the_directory dir).sticky dir.owner k)) (sym node.holds.owner)
+    ∙ ap (λ (k : ℕ). allowed_by walk step Remove (sticky_allows cred (the_directory dir).sticky k v.uid)) (sym held.owner)
+    ∙ ap (λ (b : Bool). allowed_by walk step Remove (sticky_allows cred b w.uid v.uid))
     (sym (sticky_says dir.owner dir.group dir.body w.mode directory.directory held.mode))
     ∙ ap (λ (u : Inode). sticky_asked cred u v walk step) (sym d_is)
 
@@ -102,7 +102,7 @@ module _ {p : Place} {map : SectorMap} {t : Tree} (h : HoldsTree p map t) {f : F
 
   abbrev yielded : Demand
   yielded =
-      denied_unless (sticky_allows cred (the_directory (the_node t f.dir)).sticky (the_node t f.dir).owner (the_node t (number f)).owner) 1 (f.step - 1) Remove Sticky
+      allowed_by 1 (f.step - 1) Remove (sticky_allows cred (the_directory (the_node t f.dir)).sticky (the_node t f.dir).owner (the_node t (number f)).owner)
 
   -- access to the directory is decided
   abbrev pub access : IsAccessed t f.dir

@@ -18,7 +18,6 @@ use Rattle.fs_cred.specs.declared.node.Node.{Node as AccessNode}
 use Rattle.fs_cred.specs.declared.refusal.Need.TheVariants.{Perm, Remove}
 use Rattle.fs_cred.specs.declared.refusal.Refusal.{Refusal}
 use Rattle.fs_cred.specs.declared.rule.Rule.{Rule}
-use Rattle.fs_cred.specs.declared.rule.Rule.TheVariants.{Sticky}
 use Rattle.fs_cred.specs.Credentials.{Credential}
 use Rattle.fs_cred.specs.Ownership.{sticky_allows}
 use Rattle.fs_cred.specs.Verdicts.{verdict}
@@ -32,7 +31,7 @@ use Rattle.fs_layout.specs.Images.{inode_at}
 use Rattle.sector_txn.specs.Sectors.{TxnState, IsUnchanged}
 use Rattle.fs_model.specs.declared.walk.Found.{Found}
 use Rattle.fs_model.specs.Births.{the_node, the_directory}
-use Rattle.fs_model.specs.Demands.{Demand, refuse, or_else, first_of, only_if, decided, denied_unless, permission_of, permission_on, perms, write_and_search}
+use Rattle.fs_model.specs.Demands.{Demand, refuse, or_else, first_of, only_if, decided, allowed_by, permission_of, permission_on, perms, write_and_search}
 use Rattle.fs_model.specs.Limits.{entries_limit, least_free}
 use Rattle.fs_model.specs.Nodes.{Node, Body, File, Dir, Link, is_directory, names_in}
 use Rattle.fs_model.specs.Parts.{is_empty}
@@ -103,10 +102,10 @@ module _ {p : Place} {map : SectorMap} {desks : Desks} {f g : Found} {n : ℕ} {
     two = permission_on q.cred s.tree g.dir write_and_search 2 (g.step - 1)
 
     abbrev three : Demand
-    three = denied_unless (sticky_allows q.cred (the_directory (the_node s.tree f.dir)).sticky (the_node s.tree f.dir).owner (the_node s.tree (number f)).owner) 1 (f.step - 1) Remove Sticky
+    three = allowed_by 1 (f.step - 1) Remove (sticky_allows q.cred (the_directory (the_node s.tree f.dir)).sticky (the_node s.tree f.dir).owner (the_node s.tree (number f)).owner)
 
     abbrev last : Demand
-    last = denied_unless (sticky_allows q.cred (the_directory (the_node s.tree g.dir)).sticky (the_node s.tree g.dir).owner (the_node s.tree (number g)).owner) 2 (g.step - 1) Remove Sticky
+    last = allowed_by 2 (g.step - 1) Remove (sticky_allows q.cred (the_directory (the_node s.tree g.dir)).sticky (the_node s.tree g.dir).owner (the_node s.tree (number g)).owner)
 
     abbrev four : List Demand
     four = only_if (is_found g) (last ∷ [])

@@ -6,7 +6,6 @@
 use Rattle.std.specs.Prelude.{◌≡◌, ℕ, ◌-◌, Bool, not, ◌&&◌, List, [], ◌∷◌, Some, IsTrue, IsFalse}
 use Rattle.fs_cred.specs.declared.errno.Errno.TheVariants.{EBUSY, EINVAL, ENOTDIR, ENOTEMPTY}
 use Rattle.fs_cred.specs.declared.refusal.Need.TheVariants.{Remove}
-use Rattle.fs_cred.specs.declared.rule.Rule.TheVariants.{Sticky}
 use Rattle.fs_cred.specs.Credentials.{Credential}
 use Rattle.fs_cred.specs.Ownership.{sticky_allows}
 use Rattle.fs_layout.specs.declared.place.Place.{Place}
@@ -15,7 +14,7 @@ use Rattle.fs_layout.specs.Maps.{name_cmp, get}
 use Rattle.fs_model.specs.declared.walk.Form.TheVariants.{Parent}
 use Rattle.fs_model.specs.declared.walk.Found.{Found}
 use Rattle.fs_model.specs.Births.{the_node, the_directory}
-use Rattle.fs_model.specs.Demands.{Demand, refuse, permission_on, denied_unless, write_and_search}
+use Rattle.fs_model.specs.Demands.{Demand, refuse, permission_on, allowed_by, write_and_search}
 use Rattle.fs_model.specs.Nodes.{Node, Body, is_directory, names_in}
 use Rattle.fs_model.specs.Parts.{is_empty}
 use Rattle.fs_model.specs.Processes.{Process, Desks, is_in_use}
@@ -45,8 +44,8 @@ removal_asked cred t f =
     must_be_there f
     ∷ refuse ENOTDIR (f.slash && (is_found f && not (is_directory (the_node t (number f)).body)))
     ∷ permission_on cred t f.dir write_and_search 1 (f.step - 1)
-    ∷ denied_unless (sticky_allows cred (the_directory (the_node t f.dir)).sticky (the_node t f.dir).owner (the_node t (number f)).owner)
-    1 (f.step - 1) Remove Sticky
+    ∷ allowed_by 1 (f.step - 1) Remove
+    (sticky_allows cred (the_directory (the_node t f.dir)).sticky (the_node t f.dir).owner (the_node t (number f)).owner)
     ∷ []
 
 -- asked of the last component, where a directory is to go

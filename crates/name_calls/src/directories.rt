@@ -23,7 +23,7 @@ use call_parts::{
     name_inode, new_group,
 };
 use fs_cred::{Cred, Errno, Refusal};
-use fs_layout::{Inode, Kind, Place};
+use fs_layout::{Inode, Kind, Place, S_ISGID, S_ISVTX};
 use fs_model::{Form, Found, Path, Reply};
 use inode_table::new_inode;
 use open_files::{Process, Procs};
@@ -34,11 +34,11 @@ use std::alloc::Global;
 
 // The bits of a new directory's mode above the permission bits: S_ISGID as the directory that names it, S_ISVTX as the mode.
 fn special_bits(directory: &Inode, mode: u16) -> u16
-    ensures { result ≡ cond (mode / 512 % 2 == 1) 512 0 + cond (directory.now.mode / 1024 % 2 == 1) 1024 0 }
+    ensures { result ≡ cond (mode / S_ISVTX % 2 == 1) S_ISVTX 0 + cond (directory.now.mode / S_ISGID % 2 == 1) S_ISGID 0 }
 {
-    let sticky = if mode / 512 % 2 == 1 { 512 } else { 0 };
-    let set_group_id = if directory.mode / 1024 % 2 == 1 {
-        1024
+    let sticky = if mode / S_ISVTX % 2 == 1 { S_ISVTX } else { 0 };
+    let set_group_id = if directory.mode / S_ISGID % 2 == 1 {
+        S_ISGID
     } else {
         0
     };

@@ -27,14 +27,11 @@ use call_parts::{
     ask_directory, ask_for_name, check_slash, find_names, inode_found, name_inode, set_names,
 };
 use fs_cred::{Cred, Errno, Refusal};
-use fs_layout::{Inode, Kind, Place};
+use fs_layout::{Inode, Kind, MAX_INODE_NAMES, Place};
 use fs_model::{Found, Last, Path, Reply};
 use open_files::{Process, Procs};
 use sector_txn::Sectors;
 use std::alloc::Global;
-
-// The most names of a file or a symbolic link, as in limits.h.
-const LINK_MAX: u32 = 500;
 
 // Asks whether a path ends in a name.
 fn check_last(found: &Found) -> Result<(), Refusal>
@@ -77,7 +74,7 @@ fn check_source<S: Sectors>(s: &mut S, place: Place, found: &Found) -> Result<(u
 fn check_count(names: u32) -> Result<(), Refusal>
     ensures { result ≡ refused_or (refuse Errno.EMLINK (nat_le names_limit names)) (Ok tt) }
 {
-    if names >= LINK_MAX {
+    if names >= MAX_INODE_NAMES {
         return Err(Refusal::Failed(Errno::EMLINK));
     }
     Ok(())
@@ -162,7 +159,7 @@ fn add_name<S: Sectors>(
 /// Gives what the path `old` leads to the name that the path `new` ends in, too: a file, or a symbolic link itself.
 ///
 /// EPERM: `old` leads to a directory, or ends in no name. ENOENT: it leads to nothing, or `new` ends in a slash. ENOTDIR: `old`
-/// ends in a slash. EEXIST: there is something of the new name, or `new` ends in no name. EMLINK: there are 500 names already.
+/// ends in a slash. EEXIST: there is something of the new name, or `new` ends in no name. EMLINK: there are [`MAX_INODE_NAMES`] names already.
 pub fn link<S: Sectors>(
     alloc: Global,
     s: &mut S,

@@ -5,6 +5,7 @@ use Rattle.std.specs.Option.{option_map, option_and_then}
 use Rattle.posix_acl.specs.AccessList.{mode_bits}
 use Rattle.fs_cred.specs.declared.node.Node.{Node as AccessNode}
 use Rattle.fs_cred.specs.declared.node.NodeKind.TheVariants as nodes
+use Rattle.fs_layout.specs.declared.inode.TheConstants.{S_ISGID, S_ISVTX}
 use Rattle.fs_layout.specs.declared.inode.Inode.{Inode}
 use Rattle.fs_layout.specs.declared.inode.Kind.TheVariants as kinds
 use Rattle.fs_layout.specs.declared.place.Place.{Place}
@@ -40,7 +41,7 @@ pub is_there : (t : Tree) (n : ℕ) (node : Node) → node_at t n ≡ Some node 
 is_there t n node at = ap is_some at
 
 -- the bits of a mode without those of a directory
-low_bits : (n : ℕ) (s g : Bool) → n < 512 → (n + cond s 512 0 + cond g 1024 0) % 512 ≡ n
+low_bits : (n : ℕ) (s g : Bool) → n < 512 → (n + cond s S_ISVTX 0 + cond g S_ISGID 0) % 512 ≡ n
 low_bits n true true lt = omega (arith, lt)
 low_bits n true false lt = omega (arith, lt)
 low_bits n false true lt = omega (arith, lt)

@@ -1,4 +1,5 @@
 use Rattle.std.proofs.Common.{◌≡◌, ◌≢◌, ◌+◌, sym, subst, ◌∙◌, arith}
+use Rattle.fs_layout.specs.declared.inode.TheConstants.{MAX_BLOCKS}
 use Rattle.fs_layout.specs.Images.{pointer}
 use Rattle.fs_layout.proofs.Bits.{has_bit}
 use Rattle.fs_layout.proofs.Parts.{owns_block}
@@ -16,10 +17,10 @@ loop-k-preserved g c =
     let old = g.S.Sectors.state c.args.s.now in
     let v = c.args.blocks.now.inode in
     let k = c.loop-k.k in
-    let is : c.number-number.result ≡ pointer old.sectors v k = c.number-number.ensures ∙ number_is c.requires.loaded k (omega (arith, c.loop-k-test.true, c.end-end.ensures.most)) in
+    let is : c.number-number.result ≡ pointer old.sectors v k = c.number-number.ensures ∙ number_is c.requires.loaded k (omega (arith, c.loop-k-test.true, c.block_end-end.ensures.most)) in
     record {
       from = omega (arith, c.loop-k.invariant.from);
-      most = omega (arith, c.loop-k-test.true, c.end-end.ensures.most);
+      most = omega (arith, c.loop-k-test.true, c.block_end-end.ensures.most);
       given = elim c.if-number-ne0.branch [
         | then-number-ne0+in_ok-give w ↦
             let some : pointer old.sectors v k ≢ 0 = λ e. w.if-number-ne0.true (is ∙ e) in
@@ -38,10 +39,10 @@ give-requires-clause-number g c =
     let old = g.S.Sectors.state c.args.s.now in
     let v = c.args.blocks.now.inode in
     let k = c.loop-k.k in
-    let is : c.number-number.result ≡ pointer old.sectors v k = c.number-number.ensures ∙ number_is c.requires.loaded k (omega (arith, c.loop-k-test.true, c.end-end.ensures.most)) in
+    let is : c.number-number.result ≡ pointer old.sectors v k = c.number-number.ensures ∙ number_is c.requires.loaded k (omega (arith, c.loop-k-test.true, c.block_end-end.ensures.most)) in
     let d = c.requires.may.apart.each (pointer old.sectors v k) (owns_block old.sectors v k (λ e. c.if-number-ne0.true (is ∙ e))) in
     (omega (arith, is, d.0), omega (arith, is, d.1))
 
 pub returns-clause-given : goal.returns-clause-given
 returns-clause-given g c =
-    rest_given c.loop-k.invariant.given 140 c.loop-k.invariant.most (λ j ge. c.end-end.ensures.past (g.S.Sectors.state c.args.s.now).sectors j (omega (arith, ge, c.loop-k-test.false)))
+    rest_given c.loop-k.invariant.given MAX_BLOCKS c.loop-k.invariant.most (λ j ge. c.block_end-end.ensures.past (g.S.Sectors.state c.args.s.now).sectors j (omega (arith, ge, c.loop-k-test.false)))

@@ -13,10 +13,10 @@ give-requires-clause-number g c =
     let v = c.args.blocks.now.inode in
     let d = c.requires.may.apart.each v.indirect (owns_indirect (g.S.Sectors.state c.args.s.now).sectors v c.if-blocks-eq0.false) in (d.0, d.1)
 
-pub returns-then-first-le-DIRECT-clause-dropped : goal.returns-then-first-le-DIRECT-clause-dropped
-returns-then-first-le-DIRECT-clause-dropped g c =
+pub returns-then-first-le-DIRECT_BLOCKS-clause-dropped : goal.returns-then-first-le-DIRECT_BLOCKS-clause-dropped
+returns-then-first-le-DIRECT_BLOCKS-clause-dropped g c =
     drops c.requires.may (drops_direct c.min.ensures c.clear_direct.ensures.len c.clear_direct.ensures.before c.clear_direct.ensures.after)
-    (dropped_pointers c.requires.may.apart c.in_ok-give_blocks.ensures.given (drops_direct c.min.ensures c.clear_direct.ensures.len c.clear_direct.ensures.before c.clear_direct.ensures.after) c.if-blocks-eq0.false c.if-first-le-DIRECT.true c.in_ok-give.ensures.given
+    (dropped_pointers c.requires.may.apart c.in_ok-give_blocks.ensures.given (drops_direct c.min.ensures c.clear_direct.ensures.len c.clear_direct.ensures.before c.clear_direct.ensures.after) c.if-blocks-eq0.false c.if-first-le-DIRECT_BLOCKS.true c.in_ok-give.ensures.given
     c.in_ok-give.ensures.bitmaps c.in_ok-give.ensures.puts)
 
 pub put-requires-clause-part : goal.put-requires-clause-part
@@ -37,5 +37,5 @@ pub returns-clause-dropped : goal.returns-clause-dropped
 returns-clause-dropped g c =
     let whole : IsSector c.clear_pointers.new.pointers = record { len = c.clear_pointers.array_long; bytes = c.clear_pointers.ensures.bytes } in
     drops c.requires.may (drops_direct c.min.ensures c.clear_direct.ensures.len c.clear_direct.ensures.before c.clear_direct.ensures.after)
-    (dropped_entries c.requires.may.apart c.in_ok-give_blocks.ensures.given (drops_direct c.min.ensures c.clear_direct.ensures.len c.clear_direct.ensures.before c.clear_direct.ensures.after) c.if-blocks-eq0.false c.if-first-le-DIRECT.false
+    (dropped_entries c.requires.may.apart c.in_ok-give_blocks.ensures.given (drops_direct c.min.ensures c.clear_direct.ensures.len c.clear_direct.ensures.before c.clear_direct.ensures.after) c.if-blocks-eq0.false c.if-first-le-DIRECT_BLOCKS.false
     (c.requires.loaded.is c.if-blocks-eq0.false (omega arith)) c.clear_pointers.ensures.before c.clear_pointers.ensures.after whole c.put.ensures)

@@ -1,4 +1,5 @@
 use Rattle.std.proofs.Common.{◌≡◌, ◌+◌, ◌/◌, ℕ, refl, sym, subst, arith}
+use Rattle.fs_layout.specs.declared.inode.TheConstants.{MAX_BLOCKS}
 use Rattle.fs_layout.specs.declared.inode.Inode.{Inode}
 use Rattle.fs_layout.specs.Bytes.{zeros, SectorMap}
 use Rattle.bit_alloc.proofs.Transactions.{map_unchanged, spare_unchanged}
@@ -29,8 +30,8 @@ drop_blocks-requires-clause-may g c =
 
 pub drop_blocks-requires-clause-loaded : goal.drop_blocks-requires-clause-loaded
 drop_blocks-requires-clause-loaded g c =
-    c.in_ok-clear_tail.ensures.cleared.loaded c.load.new.self refl 140
-    (subst (λ (image : SectorMap). IsLoaded image c.load.new.self 140) (map_unchanged c.in_ok-load.ensures.same) c.in_ok-load.ensures.pointers)
+    c.in_ok-clear_tail.ensures.cleared.loaded c.load.new.self refl MAX_BLOCKS
+    (subst (λ (image : SectorMap). IsLoaded image c.load.new.self MAX_BLOCKS) (map_unchanged c.in_ok-load.ensures.same) c.in_ok-load.ensures.pointers)
 
 pub drop_blocks-requires-clause-room : goal.drop_blocks-requires-clause-room
 drop_blocks-requires-clause-room g c =

@@ -8,7 +8,7 @@ pub resize-requires-clause-may : goal.resize-requires-clause-may
 resize-requires-clause-may g c = may_change c.args.size c.requires.sound c.requires.below c.requires.inode c.requires.kind
 
 pub resize-requires-clause-limit : goal.resize-requires-clause-limit
-resize-requires-clause-limit g c = (omega (arith, c.if-size-gt-MAX_FILE_SIZE.false), size_limit c.args.size c.requires.sound c.requires.below c.requires.inode c.requires.kind)
+resize-requires-clause-limit g c = (omega (arith, c.if-size-max_file_size.false, c.max_file_size.ensures.most), size_limit c.args.size c.requires.sound c.requires.below c.requires.inode c.requires.kind)
 
 pub returns-clause-change : goal.returns-clause-change
 returns-clause-change g c =

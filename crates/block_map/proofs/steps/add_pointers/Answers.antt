@@ -6,5 +6,5 @@ use Rattle.block_map.proofs.steps.add_pointers.Goals as goal
 pub returns-clause-added : goal.returns-clause-added
 unfolding zeros
 returns-clause-added g c =
-    gets_pointers c.requires.may c.if-end-le-DIRECT.false c.if-blocks-ne0.false (c.requires.inside c.if-end-le-DIRECT.false) refl c.in_ok-blocks.ensures.taken.1
+    gets_pointers c.requires.may c.if-end-le-DIRECT_BLOCKS.false c.if-blocks-ne0.false (c.requires.inside c.if-end-le-DIRECT_BLOCKS.false) refl c.in_ok-blocks.ensures.taken.1
     c.in_ok-blocks.ensures.free c.in_ok-blocks.ensures.bitmaps c.in_ok-blocks.ensures.puts c.in_ok-blocks.ensures.has

@@ -60,23 +60,23 @@ put_pointer-requires-clause-within g c =
     let b = before_data c.requires.may.bitmaps.place in
     (omega (arith, d.0, m, b), omega (arith, d.1, c.requires.may.bitmaps.disk, c.in_ok-number.ensures.store.reads.narrowed.size))
 
-pub returns-then-k-lt-DIRECT-clause-written : goal.returns-then-k-lt-DIRECT-clause-written
-returns-then-k-lt-DIRECT-clause-written g c =
+pub returns-then-k-lt-DIRECT_BLOCKS-clause-written : goal.returns-then-k-lt-DIRECT_BLOCKS-clause-written
+returns-then-k-lt-DIRECT_BLOCKS-clause-written g c =
     let old = g.S.Sectors.state c.args.s.now in
     let v = c.args.blocks.now.inode in
     let none : pointer old.sectors v c.args.k ≡ 0 = sym (number_is c.requires.loaded c.args.k (omega arith)) ∙ sym c.number-number.ensures ∙ c.if-number-ne0.false in
     writes_direct_block c.requires.may none c.requires.fits.0 refl c.requires.fits.1 c.requires.inside
-    c.in_ok-number.ensures.taken.1 c.in_ok-number.ensures.free c.in_ok-number.ensures.bitmaps (puts_beside c.in_ok-number.ensures.puts v.indirect) c.if-k-lt-DIRECT.true
+    c.in_ok-number.ensures.taken.1 c.in_ok-number.ensures.free c.in_ok-number.ensures.bitmaps (puts_beside c.in_ok-number.ensures.puts v.indirect) c.if-k-lt-DIRECT_BLOCKS.true
 
-pub returns-else-k-lt-DIRECT-clause-written : goal.returns-else-k-lt-DIRECT-clause-written
-returns-else-k-lt-DIRECT-clause-written g c =
+pub returns-else-k-lt-DIRECT_BLOCKS-clause-written : goal.returns-else-k-lt-DIRECT_BLOCKS-clause-written
+returns-else-k-lt-DIRECT_BLOCKS-clause-written g c =
     let old = g.S.Sectors.state c.args.s.now in
     let new = g.S.Sectors.state c.put_pointer.new.s in
     let p = c.args.place in
     let b = c.args.blocks.now in
     let u = b.inode.indirect in
     let after = c.put_pointer.new.self in
-    let has : u ≢ 0 = c.requires.pointers.1 c.if-k-lt-DIRECT.false in
+    let has : u ≢ 0 = c.requires.pointers.1 c.if-k-lt-DIRECT_BLOCKS.false in
     let none : pointer old.sectors b.inode c.args.k ≡ 0 = sym (number_is c.requires.loaded c.args.k (omega arith)) ∙ sym c.number-number.ensures ∙ c.if-number-ne0.false in
     let d = c.requires.may.apart.each u (owns_indirect old.sectors b.inode has) in
     let is : after ≡ record { inode = b.inode; pointers = after.pointers } = ap (λ (v : Inode). let r : Blocks = record { inode = v; pointers = after.pointers } in r) c.put_pointer.ensures.inode in
@@ -84,5 +84,5 @@ returns-else-k-lt-DIRECT-clause-written g c =
     let puts = changes_put_shared {R = IsStepSector p} (puts_beside c.in_ok-number.ensures.puts u) c.put_pointer.ensures.put (inr (d.0, d.1)) first in
     subst (λ (r : Blocks). WritesBlock p c.args.k c.args.at c.args.bytes.now old new b r) (sym is)
     (writes_entry_block c.requires.may none c.requires.fits.0 refl c.requires.fits.1 c.requires.inside
-    c.in_ok-number.ensures.taken.1 c.in_ok-number.ensures.free c.in_ok-number.ensures.bitmaps c.if-k-lt-DIRECT.false c.requires.pointers.0 has
+    c.in_ok-number.ensures.taken.1 c.in_ok-number.ensures.free c.in_ok-number.ensures.bitmaps c.if-k-lt-DIRECT_BLOCKS.false c.requires.pointers.0 has
     (c.requires.loaded.is has (omega arith)) c.put_pointer.ensures.pointers c.put_pointer.ensures.put.sectors c.put_pointer.ensures.put.store puts)

@@ -31,14 +31,14 @@ write_blocks-requires-clause-may g c =
     let allowed : AllowsSize v.kind m = subst (AllowsSize v.kind) (sym is) c.requires.size in
     let may : MayChange c.args.place old v = may_change m c.requires.sound c.requires.below c.requires.inode allowed in
     subst (λ (u : Inode). MayChange c.args.place (g.S.Sectors.state c.load.new.s) (record u { size = m })) (sym c.in_ok-load.ensures.inode)
-    (may_after may (sized m may c.in_ok-load.ensures.same allowed (limit_at c.max-blocks.result v.size c.args.offset (length c.args.bytes.now) c.max-blocks.ensures c.if-offset-bytes.false c.requires.few (size_limit c.max-blocks.result c.requires.sound c.requires.below c.requires.inode allowed))))
+    (may_after may (sized m may c.in_ok-load.ensures.same allowed (limit_at c.max-blocks.result v.size c.args.offset (length c.args.bytes.now) c.max_file_size.result c.max-blocks.ensures c.if-offset-max_file_size.false c.requires.few (omega (arith, c.max_file_size.ensures.least)) c.max_file_size.ensures.most (size_limit c.max-blocks.result c.requires.sound c.requires.below c.requires.inode allowed))))
 
 pub write_blocks-requires-clause-inside : goal.write_blocks-requires-clause-inside
 write_blocks-requires-clause-inside g c =
     let v = c.args.inode.now in
     let is : c.max-blocks.result ≡ max v.size (c.args.offset + length c.args.bytes.now) = c.max-blocks.ensures in
     let allowed : AllowsSize v.kind c.max-blocks.result = subst (AllowsSize v.kind) (sym is) c.requires.size in
-    (omega (arith, c.max-blocks.ensures), limit_at c.max-blocks.result v.size c.args.offset (length c.args.bytes.now) c.max-blocks.ensures c.if-offset-bytes.false c.requires.few (size_limit c.max-blocks.result c.requires.sound c.requires.below c.requires.inode allowed))
+    (omega (arith, c.max-blocks.ensures), limit_at c.max-blocks.result v.size c.args.offset (length c.args.bytes.now) c.max_file_size.result c.max-blocks.ensures c.if-offset-max_file_size.false c.requires.few (omega (arith, c.max_file_size.ensures.least)) c.max_file_size.ensures.most (size_limit c.max-blocks.result c.requires.sound c.requires.below c.requires.inode allowed))
 
 pub returns-in_err-write_blocks-clause-full : goal.returns-in_err-write_blocks-clause-full
 returns-in_err-write_blocks-clause-full g c = λ is.
@@ -64,7 +64,7 @@ ended g c =
     let v = c.args.inode.now in
     let is : c.max-blocks.result ≡ max v.size (c.args.offset + length c.args.bytes.now) = c.max-blocks.ensures in
     let allowed : AllowsSize v.kind c.max-blocks.result = subst (AllowsSize v.kind) (sym is) c.requires.size in
-    wrote c.requires.sound c.requires.below c.requires.inode allowed (limit_at c.max-blocks.result v.size c.args.offset (length c.args.bytes.now) c.max-blocks.ensures c.if-offset-bytes.false c.requires.few (size_limit c.max-blocks.result c.requires.sound c.requires.below c.requires.inode allowed)) c.requires.few is c.in_ok-load.ensures.same c.in_ok-load.ensures.inode
+    wrote c.requires.sound c.requires.below c.requires.inode allowed (limit_at c.max-blocks.result v.size c.args.offset (length c.args.bytes.now) c.max_file_size.result c.max-blocks.ensures c.if-offset-max_file_size.false c.requires.few (omega (arith, c.max_file_size.ensures.least)) c.max_file_size.ensures.most (size_limit c.max-blocks.result c.requires.sound c.requires.below c.requires.inode allowed)) c.requires.few is c.in_ok-load.ensures.same c.in_ok-load.ensures.inode
     c.in_ok-write_blocks.ensures.written c.in_ok-write_inode.ensures.saved c.in_ok-write_inode.ensures.puts
 
 pub returns-clause-change : goal.returns-clause-change
@@ -75,7 +75,7 @@ returns-clause-held g c =
     let v = c.args.inode.now in
     let is : c.max-blocks.result ≡ max v.size (c.args.offset + length c.args.bytes.now) = c.max-blocks.ensures in
     let allowed : AllowsSize v.kind c.max-blocks.result = subst (AllowsSize v.kind) (sym is) c.requires.size in
-    wrote_held c.requires.sound c.requires.below c.requires.inode allowed (limit_at c.max-blocks.result v.size c.args.offset (length c.args.bytes.now) c.max-blocks.ensures c.if-offset-bytes.false c.requires.few (size_limit c.max-blocks.result c.requires.sound c.requires.below c.requires.inode allowed)) c.requires.few is c.in_ok-load.ensures.same c.in_ok-load.ensures.inode
+    wrote_held c.requires.sound c.requires.below c.requires.inode allowed (limit_at c.max-blocks.result v.size c.args.offset (length c.args.bytes.now) c.max_file_size.result c.max-blocks.ensures c.if-offset-max_file_size.false c.requires.few (omega (arith, c.max_file_size.ensures.least)) c.max_file_size.ensures.most (size_limit c.max-blocks.result c.requires.sound c.requires.below c.requires.inode allowed)) c.requires.few is c.in_ok-load.ensures.same c.in_ok-load.ensures.inode
     c.in_ok-write_blocks.ensures.written (ended g c)
 
 pub returns-clause-whole : goal.returns-clause-whole
@@ -83,7 +83,7 @@ returns-clause-whole g c =
     let v = c.args.inode.now in
     let is : c.max-blocks.result ≡ max v.size (c.args.offset + length c.args.bytes.now) = c.max-blocks.ensures in
     let allowed : AllowsSize v.kind c.max-blocks.result = subst (AllowsSize v.kind) (sym is) c.requires.size in
-    wrote_whole c.requires.sound c.requires.below c.requires.inode allowed (limit_at c.max-blocks.result v.size c.args.offset (length c.args.bytes.now) c.max-blocks.ensures c.if-offset-bytes.false c.requires.few (size_limit c.max-blocks.result c.requires.sound c.requires.below c.requires.inode allowed)) c.requires.few is c.in_ok-load.ensures.same c.in_ok-load.ensures.inode
+    wrote_whole c.requires.sound c.requires.below c.requires.inode allowed (limit_at c.max-blocks.result v.size c.args.offset (length c.args.bytes.now) c.max_file_size.result c.max-blocks.ensures c.if-offset-max_file_size.false c.requires.few (omega (arith, c.max_file_size.ensures.least)) c.max_file_size.ensures.most (size_limit c.max-blocks.result c.requires.sound c.requires.below c.requires.inode allowed)) c.requires.few is c.in_ok-load.ensures.same c.in_ok-load.ensures.inode
     c.in_ok-write_blocks.ensures.written (ended g c)
 
 pub returns-clause-taken : goal.returns-clause-taken

@@ -1,9 +1,12 @@
 use Rattle.std.proofs.Common.{◌≡◌, ◌+◌, ◌≤◌, ℕ, List, length, take, Err, None, sym, ap, subst, ◌∙◌, arith, rules, inl, inr}
 use Rattle.std.proofs.lemmas.Bool.{cases_lt}
+use Rattle.fs_layout.specs.declared.inode.TheConstants.{MAX_DIRECTORY_SIZE}
+use Rattle.fs_layout.specs.declared.slot.TheConstants.{SLOT_SIZE}
 use Rattle.fs_layout.specs.Bytes.{overwritten}
 use Rattle.fs_layout.specs.Images.{Holds}
 use Rattle.fs_layout.specs.Maps.{name_cmp, get}
 use Rattle.fs_layout.specs.Directories.{HasNames, slots_bytes, slot_bytes}
+use Rattle.fs_layout.proofs.Versions.{file_bounds}
 use Rattle.fs_layout.proofs.OneSlots.{names_same}
 use Rattle.fs_layout.proofs.SlotLaw.{length-slot_bytes}
 use Rattle.block_map.specs.Contents.{ChangesContent}
@@ -22,7 +25,8 @@ write_at-requires-clause-size g c =
     let h = c.requires.directory.1 in
     let size = size_of_slots (slots_there h) in
     let len = ap length c.block_with.ensures ∙ length-slot_bytes _ c.requires.name.short in
-    allows c.args.inode.now.kind _ h.kind (omega (arith, size, len))
+    let room = c.if-end-ge-MAX_DIRECTORY_SIZE.false in
+    allows c.args.inode.now.kind _ h.kind (omega (arith, size, len, room)) (omega (arith, size, len))
 
 pub write_at-requires-clause-few : goal.write_at-requires-clause-few
 write_at-requires-clause-few g c =
@@ -35,6 +39,16 @@ write_at-requires-clause-spare g c =
     let len = ap length c.block_with.ensures ∙ length-slot_bytes _ c.requires.name.short in
     omega (arith, c.requires.spare, size, len)
 
+pub returns-then-end-ge-MAX_DIRECTORY_SIZE-clause-why : goal.returns-then-end-ge-MAX_DIRECTORY_SIZE-clause-why
+returns-then-end-ge-MAX_DIRECTORY_SIZE-clause-why g c = λ names h.
+    let old = g.S.Sectors.state c.args.s.now in
+    let v = c.args.inode.now in
+    let name = c.args.name.now in
+    let none : get name_cmp names name ≡ None =
+    ap (λ (m : List (List ℕ × ℕ)). get name_cmp m name) (names_same old.sectors v names c.requires.directory.0 h c.requires.directory.1) ∙ c.requires.directory.2 in
+    let full = c.if-end-ge-MAX_DIRECTORY_SIZE.true in
+    (none, inl (names_full h (directory_limit c.requires.sound c.requires.below c.requires.inode h.kind) (omega (arith, full))))
+
 pub returns-in_err-write_at-clause-why : goal.returns-in_err-write_at-clause-why
 returns-in_err-write_at-clause-why g c =
     let old = g.S.Sectors.state c.args.s.now in
@@ -43,18 +57,21 @@ returns-in_err-write_at-clause-why g c =
     let name = c.args.name.now in
     let e = c.from_residual.ensures in
     let r = c.in_err-write_at.ensures in
-    let len : length (take 128 c.block_with.result) ≡ 128 = ap length c.block_with.ensures ∙ length-slot_bytes _ c.requires.name.short in
+    let len : length (take SLOT_SIZE c.block_with.result) ≡ SLOT_SIZE = ap length c.block_with.ensures ∙ length-slot_bytes _ c.requires.name.short in
     let none : (names : List (List ℕ × ℕ)) → HasNames old.sectors v names → get name_cmp names name ≡ None =
     λ names h. ap (λ (m : List (List ℕ × ℕ)). get name_cmp m name) (names_same old.sectors v names c.requires.directory.0 h c.requires.directory.1) ∙ c.requires.directory.2 in
     passed_on (λ f. (names : List (List ℕ × ℕ)) → HasNames old.sectors v names → WhyNotAdded p old.sectors v names name f)
     c.from_residual.result c.in_err-write_at.field-0.0 e.0 e.1
     (λ full names h.
     let few = (r.full (ap Err full)).0 in
-    let takes : taken_by old.sectors v v.size (length (take 128 c.block_with.result)) ≡ taken_for v = ap (taken_by old.sectors v v.size) len ∙ taken_is (slots_there h) in
+    let takes : taken_by old.sectors v v.size (length (take SLOT_SIZE c.block_with.result)) ≡ taken_for v = ap (taken_by old.sectors v v.size) len ∙ taken_is (slots_there h) in
     (none names h, inr (omega (arith, few, takes))))
     (λ big names h.
     let past = r.too_big.0 (ap Err big) in
-    (none names h, inl (names_full h (directory_limit c.requires.sound c.requires.below c.requires.inode h.kind) (omega (arith, past, len)))))
+    let most = (file_bounds p.version).0 in
+    let size = size_of_slots (slots_there h) in
+    let room = c.if-end-ge-MAX_DIRECTORY_SIZE.false in
+    absurd (omega (arith, past, len, most, size, room)))
     (λ names h. tt)
 
 pub returns-clause-change : goal.returns-clause-change
@@ -65,11 +82,11 @@ returns-clause-change g c =
     let v = c.args.inode.now in
     let h = c.requires.directory.1 in
     let size = size_of_slots (slots_there h) in
-    let len : length (take 128 c.block_with.result) ≡ 128 = ap length c.block_with.ensures ∙ length-slot_bytes _ c.requires.name.short in
-    let takes : taken_by old.sectors v v.size (length (take 128 c.block_with.result)) ≡ taken_for v = ap (taken_by old.sectors v v.size) len ∙ taken_is (slots_there h) in
-    let puts : put_by v.size (length (take 128 c.block_with.result)) ≡ 3 = ap (put_by v.size) len ∙ put_for_slot v.size (omega (arith, size)) in
+    let len : length (take SLOT_SIZE c.block_with.result) ≡ SLOT_SIZE = ap length c.block_with.ensures ∙ length-slot_bytes _ c.requires.name.short in
+    let takes : taken_by old.sectors v v.size (length (take SLOT_SIZE c.block_with.result)) ≡ taken_for v = ap (taken_by old.sectors v v.size) len ∙ taken_is (slots_there h) in
+    let puts : put_by v.size (length (take SLOT_SIZE c.block_with.result)) ≡ 3 = ap (put_by v.size) len ∙ put_for_slot v.size (omega (arith, size)) in
     subst (λ (k : ℕ). ChangesContent p c.args.n (taken_for v) k old new v c.write_at.new.inode) puts
-    (subst (λ (k : ℕ). ChangesContent p c.args.n k (put_by v.size (length (take 128 c.block_with.result))) old new v c.write_at.new.inode) takes
+    (subst (λ (k : ℕ). ChangesContent p c.args.n k (put_by v.size (length (take SLOT_SIZE c.block_with.result))) old new v c.write_at.new.inode) takes
     c.in_ok-write_at.ensures.change)
 
 pub returns-clause-names : goal.returns-clause-names
@@ -80,13 +97,11 @@ returns-clause-names g c = λ names h.
     let w = c.write_at.new.inode in
     let name = c.args.name.now in
     let r = c.in_ok-write_at.ensures in
-    let len : length (take 128 c.block_with.result) ≡ 128 = ap length c.block_with.ensures ∙ length-slot_bytes _ c.requires.name.short in
+    let len : length (take SLOT_SIZE c.block_with.result) ≡ SLOT_SIZE = ap length c.block_with.ensures ∙ length-slot_bytes _ c.requires.name.short in
     let none : get name_cmp names name ≡ None =
     ap (λ (m : List (List ℕ × ℕ)). get name_cmp m name) (names_same old.sectors v names c.requires.directory.0 h c.requires.directory.1) ∙ c.requires.directory.2 in
-    let place : v.size + 128 ≤ 71680 = elim (cases_lt 71680 (v.size + length (take 128 c.block_with.result))) [
-      | inl past ↦ absurd (ok_is_no_fault (r.too_big.1 past))
-      | inr fits ↦ omega (arith, fits, len)
-    ] in
+    let size = size_of_slots (slots_there h) in
+    let place : v.size + SLOT_SIZE ≤ MAX_DIRECTORY_SIZE = let room = c.if-end-ge-MAX_DIRECTORY_SIZE.false in omega (arith, room, size) in
     let holds : Holds new.sectors w (overwritten (slots_bytes h.slots) v.size (slot_bytes (added name c.args.to))) =
     subst (λ (x : List ℕ). Holds new.sectors w (overwritten (slots_bytes h.slots) v.size x)) c.block_with.ensures (r.held (slots_bytes h.slots) h.holds) in (
       names_few h place,

@@ -1,5 +1,6 @@
 use Rattle.std.proofs.Common.{◌-◌, ℕ, List, length, get_or, set, Err, ap, arith}
 use Rattle.std.specs.Prelude.{is_some}
+use Rattle.fs_layout.specs.declared.slot.TheConstants.{SLOT_SIZE}
 use Rattle.fs_layout.specs.Directories.{NamedInode, HasNames, slots_bytes}
 use Rattle.sector_txn.proofs.Changes.{store_joined}
 use Rattle.bit_alloc.proofs.Soundness.{spare_then}
@@ -8,6 +9,7 @@ use Rattle.block_map.proofs.Joins.{sound_after_reads, content_after_reads, conte
 use Rattle.dir_core.specs.Faults.{WhyNotChanged}
 use Rattle.dir_core.proofs.Changing.{allows, slots_there, slots_after_reads, directory_within, directory_limit, found_there, not_there, found_slot, said_by_names, said_by_slots, passed_on, added, names_without}
 use Rattle.dir_core.proofs.Taking.{size_of_slots}
+use Rattle.fs_layout.proofs.Versions.{file_bounds}
 use Rattle.dir_core.proofs.change.remove.Goals as goal
 
 pub find_slot-requires-clause-within : goal.find_slot-requires-clause-within
@@ -40,7 +42,8 @@ pub set_size-requires-clause-kind : goal.set_size-requires-clause-kind
 set_size-requires-clause-kind g c =
     let h = c.requires.directory.1 in
     let size = size_of_slots (slots_there h) in
-    allows c.args.inode.now.kind (c.args.inode.now.size - 128) h.kind (omega (arith, size))
+    let limit = directory_limit c.requires.sound c.requires.below c.requires.inode h.kind in
+    allows c.args.inode.now.kind (c.args.inode.now.size - SLOT_SIZE) h.kind (omega (arith, limit)) (omega (arith, size))
 
 pub set_size-requires-clause-spare : goal.set_size-requires-clause-spare
 set_size-requires-clause-spare g c =
@@ -56,7 +59,7 @@ returns-in_err-set_size-clause-why g c =
     let limit = directory_limit c.requires.sound c.requires.below c.requires.inode c.requires.directory.1.kind in
     passed_on (λ f. (names : List (List ℕ × ℕ)) → HasNames old.sectors v names → WhyNotChanged names c.args.name.now f)
     c.from_residual-in_err-set_size.result c.in_err-set_size.field-0.0 e.0 e.1 (λ full. absurd (r.never_full (ap Err full)))
-    (λ big. let past = r.too_big.0 (ap Err big) in absurd (omega (arith, past, limit))) (λ names h. tt)
+    (λ big. let past = r.too_big.0 (ap Err big) in let most = (file_bounds c.args.place.version).0 in absurd (omega (arith, past, limit, most))) (λ names h. tt)
 
 pub returns-in_err-set_size-clause-store : goal.returns-in_err-set_size-clause-store
 returns-in_err-set_size-clause-store g c = store_joined (store_joined c.in_ok-found.ensures.same.store c.in_ok-move_last.ensures.store) c.in_err-set_size.ensures.store

@@ -1,6 +1,7 @@
 use Rattle.std.proofs.Common.{◌≡◌, ◌/◌, ◌%◌, ◌==◌, sym, ap, subst, inr, ◌∙◌}
 use Rattle.std.specs.Prelude.{if◌then◌else◌}
 use Rattle.fs_cred.specs.Credentials.{Credential}
+use Rattle.fs_layout.specs.declared.inode.TheConstants.{S_ISGID}
 use Rattle.fs_layout.specs.Bytes.{SectorMap}
 use Rattle.fs_layout.specs.Images.{inode_at}
 use Rattle.sector_txn.proofs.Changes.{store_joined}
@@ -135,7 +136,7 @@ returns-clause-each g c = λ st i.
     (subst (λ name. MakesFile p f.dir name c.uid-uid.result gid a mid.sectors new.sectors n) c.bytes-name.ensures.all c.in_ok-n.ensures.made) in
     made_reaches later c.requires.none c.args.mode gid a new.sectors n made v
     (asked_of_it later c.requires.none may y cred step c.cred-cred.ensures c.saturating_sub-step.ensures v is)
-    (c.new_group-gid.ensures ∙ ap (λ (k : Credential). if v.mode / 1024 % 2 == 1 then v.gid else k.gid) c.cred-cred.ensures)
+    (c.new_group-gid.ensures ∙ ap (λ (k : Credential). if v.mode / S_ISGID % 2 == 1 then v.gid else k.gid) c.cred-cred.ensures)
     (λ d has. c.in_ok-acl.ensures.born d (kept_back (λ (m : SectorMap). HasDefaultAcl m v d) c.in_ok-acl.ensures.same has) ∙ ap (born_acl d c.args.mode) c.umask.ensures)
     (make_met later c.requires.none may y cred step c.cred-cred.ensures c.saturating_sub-step.ensures v is)
     (few_names later c.requires.none may y cred step c.cred-cred.ensures c.saturating_sub-step.ensures v is)

@@ -1,6 +1,7 @@
 use Rattle.std.proofs.Common.{◌≡◌, ◌≢◌, ◌+◌, ◌<◌, ◌≤◌, ◌↔◌, ℕ, List, get_or, length, rules, refl, sym, ap, subst, arith, ◌∙◌}
 use Rattle.std.proofs.lemmas.List.{take_at}
 use Rattle.std.proofs.lemmas.Option.{MatchOption-at_some}
+use Rattle.fs_layout.specs.declared.inode.TheConstants.{MAX_DIRECTORY_SIZE}
 use Rattle.fs_layout.specs.declared.inode.Inode.{Inode}
 use Rattle.fs_layout.specs.declared.inode.Kind.TheVariants.{Directory}
 use Rattle.fs_layout.specs.Images.{Owns, IsData}
@@ -36,7 +37,7 @@ read_good_slots-requires-clause-size g c =
     let d = c.args.d in
     let here = inode_here p m c.args.inodes.now d blank c.requires.table c.requires.below in
     let is : (get_or c.args.inodes.now d blank).kind ≡ Directory = search rules in
-    subst (λ (v : Inode). v.size ≤ 71680) (sym here) (directory_size p m d (c.requires.before Inodes (omega arith) d c.requires.below)
+    subst (λ (v : Inode). v.size ≤ MAX_DIRECTORY_SIZE) (sym here) (directory_size p m d (c.requires.before Inodes (omega arith) d c.requires.below)
     (sym (ap (λ (v : Inode). v.kind) here) ∙ is))
 
 pub add_slots-requires-clause-room : goal.add_slots-requires-clause-room

@@ -1,12 +1,11 @@
-use Rattle.std.proofs.Common.{◌≡◌, ◌+◌, ◌*◌, get_or, arith, refl, sym, ap, subst, ◌∙◌}
+use Rattle.std.proofs.Common.{get_or, arith, refl, sym, ap, subst}
 use Rattle.std.proofs.lemmas.Option.{MatchOption-at_some}
-use Rattle.fs_layout.specs.Images.{part}
+use Rattle.fs_layout.specs.Images.{HasPointers, part}
 use Rattle.fs_model.specs.Rules.{IsInData}
 use Rattle.sector_disk.proofs.Moments.{reads_joined}
 use Rattle.fs_check.specs.Checks.{meaning}
-use Rattle.fs_check.specs.Owning.{owned_number, part_at, IsMarked, IsPointers, OwnsData}
+use Rattle.fs_check.specs.Owning.{owned_part, part_at, OwnsData}
 use Rattle.fs_check.proofs.Carrying.{meaning_same}
-use Rattle.fs_check.proofs.Marks.{place_of}
 use Rattle.fs_check.proofs.Tables.{more_good}
 use Rattle.fs_check.proofs.Tests.{inode_here, known_of, not_found, blank}
 use Rattle.fs_check.proofs.marking.mark_all.Goals as goal
@@ -49,12 +48,10 @@ loop-n-preserved g c =
       good = more_good (IsInData p (meaning s0)) n c.loop-n.invariant.good
           (known_of (OwnsData p) s0 s1 p c.args.inodes.now n blank reads c.requires.table lt found.1);
       marked =
-          subst (λ k. IsMarked (owned_number p (meaning s0)) k p.sectors c.mark_inode.new.owned c.mark_inode.new.twice)
-          (let e : 143 * n + 143 ≡ 143 * (n + 1) = omega arith in e)
-          (c.mark_inode.ensures.marked (meaning s0) (owned_number p (meaning s0)) (143 * n)
-          (subst (λ m. IsPointers m (get_or c.args.inodes.now n blank) c.in-Some.content) (meaning_same reads) found.0)
-          (λ i below. place_of p (meaning s0) n i below ∙ ap (λ v. part (meaning s0) v (part_at i)) (sym here))
-          c.loop-n.invariant.marked);
+          c.mark_inode.ensures.marked (meaning s0) (owned_part p (meaning s0)) n
+          (subst (λ m. HasPointers m (get_or c.args.inodes.now n blank) c.in-Some.content) (meaning_same reads) found.0)
+          (λ i. ap (λ v. part (meaning s0) v (part_at i)) (sym here))
+          c.loop-n.invariant.marked;
     }
 
 pub returns-clause-each : goal.returns-clause-each

@@ -1,12 +1,14 @@
-use Rattle.std.proofs.Common.{◌≡◌, ◌+◌, arith, sym, subst, ◌∙◌}
-use Rattle.fs_check.specs.Owning.{IsMarked, part_at}
+use Rattle.std.proofs.Common.{arith, sym, ◌∙◌}
+use Rattle.fs_check.specs.Owning.{part_at}
+use Rattle.fs_check.proofs.OwnedParts.{part_past}
+use Rattle.fs_check.proofs.Marks.{mark_next}
 use Rattle.fs_check.proofs.marking.mark_inode.Goals as goal
 
 pub loop-i-init : goal.loop-i-init
 loop-i-init c = record {
   owned_len = c.requires.owned;
   twice_len = c.requires.twice;
-  marked = λ m f t is at x. subst (λ k. IsMarked f k c.args.place.sectors c.args.owned.now c.args.twice.now) (let e : t ≡ t + 0 = omega arith in e) x;
+  marked = λ m f n is at x. x;
 }
 
 pub mark-requires-clause-owned : goal.mark-requires-clause-owned
@@ -31,17 +33,12 @@ pub loop-i-preserved : goal.loop-i-preserved
 loop-i-preserved c = record {
   owned_len = c.mark.ensures.owned_len ∙ c.loop-i.invariant.owned_len;
   twice_len = c.mark.ensures.twice_len ∙ c.loop-i.invariant.twice_len;
-  marked = λ m f t is at x.
-      subst (λ k. IsMarked f k c.args.place.sectors c.mark.new.owned c.mark.new.twice)
-      (let e : t + c.loop-i.i + 1 ≡ t + (c.loop-i.i + 1) = omega arith in e)
-      (c.mark.ensures.marked f (t + c.loop-i.i) c.args.place.sectors (at c.loop-i.i c.loop-i-test.true ∙ sym (c.part_number.ensures m is))
-      (c.loop-i.invariant.marked m f t is at x));
+  marked = λ m f n is at x.
+      c.mark.ensures.marked f n c.loop-i.i c.args.place.sectors (at c.loop-i.i ∙ sym (c.part_number.ensures m is)) (c.loop-i.invariant.marked m f n is at x);
 }
 
 pub returns-clause-marked : goal.returns-clause-marked
-returns-clause-marked c = λ m f t is at x.
+returns-clause-marked c = λ m f n is at x.
     let past = c.loop-i-test.false in
-    let end = c.loop-i.auto.i-end in
-    subst (λ k. IsMarked f k c.args.place.sectors c.loop-i.owned c.loop-i.twice)
-    (let e : t + c.loop-i.i ≡ t + 143 = omega (arith, past, end) in e)
-    (c.loop-i.invariant.marked m f t is at x)
+    mark_next f n c.loop-i.i (λ k ge. at k ∙ part_past m c.args.inode.now k (omega (arith, past, ge))) c.args.place.sectors c.loop-i.owned c.loop-i.twice
+    (c.loop-i.invariant.marked m f n is at x)

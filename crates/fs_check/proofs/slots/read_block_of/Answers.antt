@@ -1,15 +1,16 @@
-use Rattle.std.proofs.Common.{◌+◌, ◌/◌, arith, ap, ◌∙◌}
+use Rattle.std.proofs.Common.{◌/◌, arith, ap, ◌∙◌}
+use Rattle.fs_layout.specs.Images.{Block, part}
 use Rattle.fs_check.specs.Checks.{meaning}
-use Rattle.fs_check.specs.Owning.{part_at}
 use Rattle.fs_check.proofs.Openings.{many_sectors}
-use Rattle.fs_check.proofs.DirectorySlots.{block_is, part_on_disk}
+use Rattle.fs_check.proofs.DirectorySlots.{part_on_disk}
 use Rattle.fs_check.proofs.slots.read_block_of.Goals as goal
 
 pub read_recovered-requires-clause-on_disk : goal.read_recovered-requires-clause-on_disk
+unfolding part
 read_recovered-requires-clause-on_disk g c =
     let m = meaning (g.D.Disk.state c.args.disk.now) in
-    let is = c.part_number-s.ensures m c.requires.pointers in
-    let at = part_on_disk _ _ c.args.place m c.args.inode.now (part_at (3 + c.args.k / 4)) c.requires.opened.place c.requires.in_data in
+    let is = c.block_number-s.ensures.is m c.requires.pointers in
+    let at = part_on_disk _ _ c.args.place m c.args.inode.now (Block (c.args.k / 4)) c.requires.opened.place c.requires.in_data in
     omega (arith, is, at)
 
 pub read_recovered-requires-clause-room : goal.read_recovered-requires-clause-room
@@ -20,4 +21,4 @@ read_recovered-requires-clause-room g c =
 pub returns-in_ok-read_recovered-clause-content : goal.returns-in_ok-read_recovered-clause-content
 returns-in_ok-read_recovered-clause-content g c =
     let m = meaning (g.D.Disk.state c.args.disk.now) in
-    c.in_ok-read_recovered.ensures.content ∙ ap m (c.part_number-s.ensures m c.requires.pointers ∙ block_is m c.args.inode.now (c.args.k / 4))
+    c.in_ok-read_recovered.ensures.content ∙ ap m (c.block_number-s.ensures.is m c.requires.pointers)

@@ -1,7 +1,6 @@
 use Rattle.std.proofs.Common.{◌≡◌, ◌/◌, arith, sym, subst}
 use Rattle.std.specs.Prelude.{Ok}
-use Rattle.fs_layout.specs.Images.{pointer}
-use Rattle.fs_check.specs.Owning.{IsPointers}
+use Rattle.fs_layout.specs.Images.{pointer, HasPointers}
 use Rattle.fs_check.proofs.Carrying.{opened_still, meaning_same}
 use Rattle.fs_layout.specs.Directories.{slot_at, slot_of, stored_slot}
 use Rattle.sector_disk.proofs.Moments.{reads_joined}
@@ -52,7 +51,7 @@ read_block_of-requires-clause-opened g c = opened_still c.loop-k.invariant.reads
 
 pub read_block_of-requires-clause-pointers : goal.read_block_of-requires-clause-pointers
 read_block_of-requires-clause-pointers g c =
-    subst (λ m. IsPointers m c.args.inode.now c.in_ok-pointers.pointers) (sym (meaning_same c.loop-k.invariant.reads)) c.in_ok-pointers.ensures.content
+    subst (λ m. HasPointers m c.args.inode.now c.in_ok-pointers.pointers) (sym (meaning_same c.loop-k.invariant.reads)) c.in_ok-pointers.ensures.content
 
 pub read_block_of-requires-clause-before : goal.read_block_of-requires-clause-before
 read_block_of-requires-clause-before g c = λ ne.

@@ -1,8 +1,8 @@
 use Rattle.std.proofs.Common.{rules}
 use Rattle.fs_cred.proofs.ownership.may_chgrp.Goals as goal
 
-pub returns-else-new_group-group-clause-rule : goal.returns-else-new_group-group-clause-rule
-returns-else-new_group-group-clause-rule c = search rules
+pub returns-clause-allowed : goal.returns-clause-allowed
+returns-clause-allowed c = search rules
 
-pub returns-else-new_group-group-clause-computed : goal.returns-else-new_group-group-clause-computed
-returns-else-new_group-group-clause-computed c = search rules
+pub returns-clause-computed : goal.returns-clause-computed
+returns-clause-computed c = search rules

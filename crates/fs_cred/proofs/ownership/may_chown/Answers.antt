@@ -1,8 +1,8 @@
 use Rattle.std.proofs.Common.{rules}
 use Rattle.fs_cred.proofs.ownership.may_chown.Goals as goal
 
-pub returns-else-is_superuser-clause-rule : goal.returns-else-is_superuser-clause-rule
-returns-else-is_superuser-clause-rule c = search rules
+pub returns-clause-allowed : goal.returns-clause-allowed
+returns-clause-allowed c = search rules
 
-pub returns-else-is_superuser-clause-computed : goal.returns-else-is_superuser-clause-computed
-returns-else-is_superuser-clause-computed c = search rules
+pub returns-clause-computed : goal.returns-clause-computed
+returns-clause-computed c = search rules

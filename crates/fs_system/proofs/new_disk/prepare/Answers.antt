@@ -3,6 +3,7 @@ use Rattle.std.proofs.lemmas.Result.{on_ok_weaker}
 use Rattle.sector_disk.specs.Disk.{AddsOnly, Image, sector}
 use Rattle.sector_disk.proofs.Moments.{adds_narrowed, adds_nothing, adds_write, goes_on, image_or, joined, started, weaker}
 use Rattle.fs_layout.specs.Commit.{commit_bytes}
+use Rattle.fs_layout.specs.Version.{newest}
 use Rattle.fs_layout.proofs.Places.{place_is_place}
 use Rattle.fs_system.specs.Making.{BehindSuperblock, HoldsNewTables}
 use Rattle.fs_system.proofs.MakingMoments.{adds_joined, image_joined, place_on_disk, prepared, still_cleared}
@@ -12,7 +13,7 @@ pub write-requires : goal.write-requires
 write-requires g c = omega (arith, (place_on_disk _ c.args.place.inodes c.args.place c.requires.place).least)
 
 pub write_tables-requires-clause-place : goal.write_tables-requires-clause-place
-write_tables-requires-clause-place g c = place_is_place _ c.args.place.inodes c.requires.place
+write_tables-requires-clause-place g c = place_is_place newest _ c.args.place.inodes c.requires.place
 
 pub write_tables-requires-clause-room : goal.write_tables-requires-clause-room
 write_tables-requires-clause-room g c =

@@ -1,6 +1,6 @@
 use Rattle.std.proofs.Common.{◌∷◌, [], subst}
 use Rattle.fs_model.specs.declared.event.Event.TheVariants.{Restart}
-use Rattle.fs_system.specs.Played.{Plays}
+use Rattle.fs_system.specs.Playing.{Plays}
 use Rattle.fs_system.proofs.playing.answer.Goals as goal
 
 pub returns-in-Arm-clause-answers : goal.returns-in-Arm-clause-answers

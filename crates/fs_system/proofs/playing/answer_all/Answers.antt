@@ -1,6 +1,6 @@
 use Rattle.std.proofs.Common.{[], subst, sym, arith}
 use Rattle.std.proofs.lemmas.List.{take_all}
-use Rattle.fs_system.specs.Played.{Plays}
+use Rattle.fs_system.specs.Playing.{Plays}
 use Rattle.fs_system.proofs.Played.{plays_nothing, plays_more}
 use Rattle.fs_system.proofs.playing.answer_all.Goals as goal
 

@@ -1,5 +1,5 @@
 use Rattle.std.proofs.Common.{◌≡◌, ◌≤◌, length, take, vec_len, vec_capacity}
-use Rattle.fs_system.specs.Played.{Plays, MayMount}
+use Rattle.fs_system.specs.Playing.{Plays, MayMount}
 use Rattle.fs_system.proofs.playing.answer_all.Given as goal
 
 abbrev pub invariant-loop-event : goal.invariant-loop-event

@@ -15,4 +15,4 @@ returns-in-Ok-new-clause-sound g c =
 
 pub returns-in-Ok-new-clause-spare : goal.returns-in-Ok-new-clause-spare
 returns-in-Ok-new-clause-spare g c =
-    spare_first c.args.place c.args.place.sectors c.args.place.inodes (txn_state g.D.Disk.state c.begin.result) c.requires.has_place c.begin.ensures.room
+    spare_first c.args.place c.args.place.version c.args.place.sectors c.args.place.inodes (txn_state g.D.Disk.state c.begin.result) c.requires.has_place c.begin.ensures.room

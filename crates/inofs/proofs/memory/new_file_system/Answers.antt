@@ -1,5 +1,8 @@
 use Rattle.std.proofs.Common.{◌≡◌, ◌∙◌, ap, ℕ, None}
+use Rattle.fs_model.specs.NewDisk.{empty_tree}
+use Rattle.fs_model.specs.Stands.{room_of}
 use Rattle.fs_system.specs.Making.{mkfs_refusal}
+use Rattle.fs_system.proofs.Played.{fault_of_restart}
 use Rattle.inofs.proofs.News.{begins}
 use Rattle.inofs.proofs.memory.new_file_system.Goals as goal
 
@@ -15,3 +18,13 @@ unfolding mkfs_refusal
 returns-in-Err g c =
     let none : mkfs_refusal (g.D.Disk.state c.args.disk).size 64 ≡ None = ap (λ (n : ℕ). mkfs_refusal n 64) c.requires in
     ((c.in-Err.ensures.fault none).0, tt)
+
+-- what mkfs has made stands for a tree
+pub returns : goal.returns
+returns g c =
+    let made = c.in_default.ensures.made in
+    let whole = (g.met.D.Disk.seen_is_image c.mkfs.new.disk).size in (
+      fault_of_restart (g.D.Disk.state c.mkfs.new.disk) (g.D.Disk.state c.in-Err-mount.field-0-1) whole
+          (room_of made.place, empty_tree, _, made.stands) c.in-Err-mount.fault c.in-Err-mount.ensures.failed,
+      tt,
+    )

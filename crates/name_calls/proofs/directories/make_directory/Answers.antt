@@ -2,6 +2,7 @@ use Rattle.std.proofs.Common.{◌≡◌, ◌<◌, ◌/◌, ◌%◌, ◌==◌, �
 use Rattle.std.specs.Option.{option_copied}
 use Rattle.std.specs.Prelude.{if◌then◌else◌}
 use Rattle.fs_cred.specs.Credentials.{Credential}
+use Rattle.fs_layout.specs.declared.inode.TheConstants.{S_ISGID, S_ISVTX}
 use Rattle.fs_layout.specs.Bytes.{SectorMap}
 use Rattle.fs_layout.specs.Images.{inode_at}
 use Rattle.sector_txn.proofs.Changes.{store_joined}
@@ -91,7 +92,7 @@ place_directory-requires g c =
         subst (CanMake p mid.sectors x.0 f.dir) (sym c.bytes-name.ensures.all)
             (kept (λ (m : SectorMap). CanMake p m x.0 f.dir f.name) joined (may_make q.cred (f.step - 1) met.0 x.1 x.2.directory f.name x.2.is_name x.2.is_new)),
       );
-      bits = subst (λ (k : ℕ). k < 2048) (sym c.special_bits-bits.ensures) (bits_below (c.args.mode / 512 % 2 == 1) (v.mode / 1024 % 2 == 1));
+      bits = subst (λ (k : ℕ). k < 2048) (sym c.special_bits-bits.ensures) (bits_below (c.args.mode / S_ISVTX % 2 == 1) (v.mode / S_ISGID % 2 == 1));
       spare = spare_unchanged p 47 old mid c.requires.spare joined;
     }
 
@@ -132,7 +133,7 @@ returns-clause-each g c = λ t h i.
     let given : d ≡ default_in i.directory.node.body = c.as_ref-default.ensures.value ∙ c.in_ok-inherits.ensures.found (default_in i.directory.node.body) has in
     let node : directory_made c.uid-uid.result gid bits a d ≡ born_directory q.cred q.umask mode (the_node t f.dir) =
     directory_is h i v met.1 q.cred q.umask mode c.uid-uid.result gid bits a d (c.uid-uid.ensures ∙ ap (λ (k : Credential). k.uid) c.cred-cred.ensures)
-    (c.new_group-gid.ensures ∙ ap (λ (k : Credential). if v.mode / 1024 % 2 == 1 then v.gid else k.gid) c.cred-cred.ensures) c.special_bits-bits.ensures
+    (c.new_group-gid.ensures ∙ ap (λ (k : Credential). if v.mode / S_ISGID % 2 == 1 then v.gid else k.gid) c.cred-cred.ensures) c.special_bits-bits.ensures
     given (c.in_ok-access.ensures.born ∙ ap (born_acl d mode) c.umask.ensures) in (
       met.0,
       kept_back (λ (m : SectorMap). MakesNode p f.dir f.name (born_directory q.cred q.umask mode (the_node t f.dir)) m new.sectors) joined

@@ -1,5 +1,5 @@
 use Rattle.std.proofs.Common.{sym, subst}
-use Rattle.fs_system.specs.Mounting.{IsNotMounted}
+use Rattle.fs_system.specs.Mounts.{IsNotMounted}
 use Rattle.fs_system.specs.Seen.{disk_in}
 use Rattle.fs_system.proofs.Checked.{then_mounts, then_refused, then_stands}
 use Rattle.fs_system.proofs.fs.Fs.mount.Goals as goal

@@ -3,7 +3,7 @@ use Rattle.fs_model.specs.declared.event.Event.TheVariants.{Spawn}
 use Rattle.fs_system.specs.Doing.{Happens}
 use Rattle.fs_system.specs.Replies.{spawned}
 use Rattle.fs_system.proofs.Methods.{halted_happens, spawn_refused, spawn_lacks}
-use Rattle.fs_system.proofs.Played.{copied, still_room}
+use Rattle.fs_system.proofs.Played.{still_room}
 use Rattle.fs_system.proofs.fs.Fs.spawn_copy.Goals as goal
 
 pub returns-then-is_halted-clause-does : goal.returns-then-is_halted-clause-does
@@ -17,10 +17,10 @@ returns-then-is_full-clause-does g c =
 
 pub returns-in_default-clause-does : goal.returns-in_default-clause-does
 returns-in_default-clause-does g c =
-    spawn_lacks g.D.Disk.state g.met.D.Disk.only_now c.args.self.now (sym c.is_halted.ensures ∙ c.if-is_halted.false) c.args.cred.now c.groups.ensures.valid
+    spawn_lacks g.D.Disk.state g.met.D.Disk.only_now c.args.self.now (sym c.is_halted.ensures ∙ c.if-is_halted.false) c.args.cred.now c.try_clone.ensures.valid
     c.args.self.now.desks (still_room c.self.inside.procs c.args.self.now.desks c.is_full.result (ap (λ s. s.desks) c.self.view_is) c.is_full.ensures c.if-is_full.false) refl
 
 pub returns-clause-does : goal.returns-clause-does
 returns-clause-does g c =
     subst (λ cred. Happens g.D.Disk.state c.args.self.now c.spawn.new.self (Spawn cred) (spawned c.spawn.result))
-    (copied c.args.cred.now c.in-Ok.copy c.uid.result c.gid.result c.groups.result.now c.in-Ok.ensures.ok c.uid.ensures c.gid.ensures c.groups.ensures.all) c.spawn.ensures.does
+    c.in-Ok.ensures.same c.spawn.ensures.does

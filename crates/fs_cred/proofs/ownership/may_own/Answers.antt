@@ -1,8 +1,0 @@
-use Rattle.std.proofs.Common.{rules}
-use Rattle.fs_cred.proofs.ownership.may_own.Goals as goal
-
-pub returns-else-is_superuser-clause-rule : goal.returns-else-is_superuser-clause-rule
-returns-else-is_superuser-clause-rule c = search rules
-
-pub returns-else-is_superuser-clause-computed : goal.returns-else-is_superuser-clause-computed
-returns-else-is_superuser-clause-computed c = search rules

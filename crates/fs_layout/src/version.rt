@@ -1,0 +1,46 @@
+//! The versions of the layout.
+
+ghost use Rattle.std.specs.Prelude.{◌≡◌};
+ghost use Rattle.fs_layout.specs.Version.{version_number, version_of, max_file_size};
+
+use crate::inode::INDIRECT_END;
+
+/// A version of the layout. It says how many blocks a file may have.
+#[derive(Clone, Copy, PartialEq, Eq)]
+pub enum Version {
+    /// Direct blocks, and those of one indirect sector.
+    One,
+}
+
+impl Version {
+    /// The version of a new disk.
+    pub const NEWEST: Version = Version::One;
+
+    /// The number of the version, as the superblock has it.
+    pub fn number(self) -> u32
+        ensures { result ≡ version_number self }
+    {
+        match self {
+            Version::One => 1,
+        }
+    }
+
+    /// The version of this number; None where there is none.
+    pub fn of_number(number: u32) -> Option<Version>
+        ensures { result ≡ version_of number }
+    {
+        match number {
+            1 => Some(Version::One),
+            _ => None,
+        }
+    }
+
+    /// The most bytes of a file.
+    pub fn max_file_size(self) -> u64
+        ensures { result ≡ max_file_size self }
+    {
+        match self {
+            Version::One => 512 * INDIRECT_END,
+        }
+    }
+}

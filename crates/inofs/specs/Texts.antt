@@ -1,0 +1,30 @@
+-- What the program prints of an image, a line each.
+--     made_text        that it was made
+--     clean_text        what a clean one has
+--     finding_text        which rule fails
+use Rattle.std.specs.Prelude.{ℕ, ◌-◌, Bool, List, ◌++◌, codes, if◌then◌else◌}
+use Rattle.std.specs.Fmt.{decimal}
+use Rattle.fs_layout.specs.declared.place.Place.{Place}
+use Rattle.fs_check.specs.declared.faults.Finding.{Finding}
+use Rattle.fs_check.specs.declared.faults.Summary.{Summary}
+
+abbrev pub made_text : Place → List ℕ
+made_text place =
+    codes "made " ++ decimal place.sectors ++ codes " sectors " ++ decimal place.inodes ++ codes " inodes "
+    ++ decimal (place.sectors - place.first_data) ++ codes " free\n"
+
+abbrev pub kinds_text : Summary → List ℕ
+kinds_text s = codes "clean files " ++ decimal s.files ++ codes " dirs " ++ decimal s.dirs ++ codes " links " ++ decimal s.links
+
+abbrev pub room_text : Summary → List ℕ
+room_text s =
+    codes " nameless " ++ decimal s.nameless ++ codes " blocks " ++ decimal s.blocks ++ codes " inodes " ++ decimal s.inodes
+
+abbrev pub yes_text : Bool → List ℕ
+yes_text b = if b then codes "yes" else codes "no"
+
+abbrev pub clean_text : Summary → List ℕ
+clean_text s = kinds_text s ++ room_text s ++ (codes " pending " ++ yes_text s.pending ++ codes "\n")
+
+abbrev pub finding_text : Finding → List ℕ
+finding_text f = codes "finding " ++ decimal f.rule ++ codes " " ++ decimal f.at ++ codes "\n"
