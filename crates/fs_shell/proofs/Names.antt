@@ -1,16 +1,32 @@
--- The first row of a table with some name.
-use Rattle.std.proofs.Common.{◌≡◌, Bool, true, false, cond, List, [], ◌∷◌, Option, None, Some, option_map, refl}
-use Rattle.std.specs.List.{find}
+-- A name that is no text stands in no row.
+use Rattle.std.proofs.Common.{◌≡◌, ◌<◌, ℕ, suc, zero, Bool, true, false, List, [], ◌∷◌, nat_lt, None, refl, sym, subst, arith}
+use borrow.Author.Tests.{ltb-true}
+use Rattle.std.specs.List.{list_all}
+use Rattle.std.specs.Str.{IsUtf8, IsAscii, bytes_eq}
+use Rattle.std.proofs.lemmas.Bool.{false_from_ne_true, and_parts}
+use Rattle.std.proofs.lemmas.Slice.Eq.{bytes_eq-Decides}
+use Rattle.std.proofs.lemmas.Str.{IsUtf8-from_ascii}
+use Rattle.fs_shell.specs.Commands.{CommandRow, name_of, row_named}
 
-abbrev pub first_seen : {X Y : Type 0} → (X → Bool) → (X → Y) → List X → Option Y
-first_seen test see [] = None
-first_seen test see (x ∷ xs) = cond (test x) (Some (see x)) (first_seen test see xs)
+abbrev is_plain_name : List ℕ → Bool
+is_plain_name name = list_all (λ b. nat_lt b 128) name
 
-seen_of : {X Y : Type 0} (see : X → Y) (x : X) (later : Option X) (passes : Bool) (seen : Option Y)
-    → option_map see later ≡ seen → option_map see (cond passes (Some x) later) ≡ cond passes (Some (see x)) seen
-seen_of see x later true seen same = refl
-seen_of see x later false seen same = same
+-- all names are of ASCII
+abbrev pub are_plain : List CommandRow → Bool
+are_plain rows = list_all (λ r. is_plain_name (name_of r)) rows
 
-pub found_in : {X Y : Type 0} (test : X → Bool) (see : X → Y) (xs : List X) → option_map see (find test xs) ≡ first_seen test see xs
-found_in test see [] = refl
-found_in test see (x ∷ xs) = seen_of see x (find test xs) (test x) (first_seen test see xs) (found_in test see xs)
+plain_at : (name : List ℕ) → is_plain_name name ≡ true → IsAscii name
+plain_at [] plain i = omega arith
+plain_at (b ∷ name) plain zero = ltb-true b 128 (and_parts (nat_lt b 128) (is_plain_name name) plain).0
+plain_at (b ∷ name) plain (suc i) = plain_at name (and_parts (nat_lt b 128) (is_plain_name name) plain).1 i
+
+other_name : (name other : List ℕ) → is_plain_name other ≡ true → (IsUtf8 name → ⊥) → bytes_eq name other ≡ false
+other_name name other plain no_text =
+    false_from_ne_true (bytes_eq name other)
+    (λ same. no_text (subst IsUtf8 (sym ((bytes_eq-Decides name other).0 same)) (IsUtf8-from_ascii other (plain_at other plain))))
+
+pub no_row : (rows : List CommandRow) (name : List ℕ) → are_plain rows ≡ true → (IsUtf8 name → ⊥) → row_named rows name ≡ None
+no_row [] name plain no_text = refl
+no_row (r ∷ rows) name plain no_text =
+    let parts = and_parts (is_plain_name (name_of r)) (are_plain rows) plain in
+    rw (other_name name (name_of r) parts.0 no_text) (no_row rows name parts.1 no_text)

@@ -1,7 +1,6 @@
 -- Runs of scripts: which answers lines get, and what is written.
 --     Gives, GivesSaid        what reading comes to
---     GivesAcl, GivesAclBy        the same of an ACL
---     IsRow        a row as it is in the program
+--     GivesAcl        the same of an ACL
 --     IsOffered        a line asks for no event of the disk's
 --     answer_text, answers_text, count_faults        what is written for answers
 --     LineAnswers, ScriptAnswers        what is performed for one line, and for all lines of a script
@@ -22,7 +21,6 @@ use Rattle.fs_system.specs.Seen.{System}
 use Rattle.fs_shell.specs.declared.answer.Answer.{Answer}
 use Rattle.fs_shell.specs.declared.answer.Answer.TheVariants.{Nothing, Reply, Fault}
 use Rattle.fs_shell.specs.declared.answer.Count.{Count}
-use Rattle.fs_shell.specs.declared.command.Row.{Row}
 use Rattle.fs_shell.specs.declared.fault.RunFault.{RunFault}
 use Rattle.fs_shell.specs.declared.fault.RunFault.TheVariants.{TooMuch}
 use Rattle.fs_shell.specs.declared.line.Line.{Line}
@@ -30,7 +28,7 @@ use Rattle.fs_shell.specs.declared.line.Line.TheVariants.{Blank, Event as Asks}
 use Rattle.fs_shell.specs.declared.line.LineFault.{LineFault}
 use Rattle.fs_shell.specs.declared.line.LineFault.TheVariants.{OutOfMemory}
 use Rattle.fs_shell.specs.Lines.{lines_of}
-use Rattle.fs_shell.specs.Commands.{Said, IsSaid, LineSays, CommandRow, has_pid, words_behind, fewest_words, most_words, acl_said_at, acl_said_by, has_words}
+use Rattle.fs_shell.specs.Commands.{Said, IsSaid, LineSays, acl_said_by, has_words}
 use Rattle.fs_shell.specs.Scripts.{script_limit, IsOver}
 use Rattle.fs_shell.specs.Texts.{reply_text, fault_text}
 
@@ -42,23 +40,13 @@ Gives view read said = MatchResult read (λ x. said ≡ Ok (view x)) (λ fault. 
 abbrev pub GivesSaid : {X : Type 0} → (X → Line) → Result X LineFault → Result Said LineFault → Type 0
 GivesSaid view read said = MatchResult read (λ x. IsSaid said (Ok (view x))) (λ fault. fault ≢ OutOfMemory → IsSaid said (Err fault))
 
--- The same of an ACL at the end of a line, whatever asks for it.
-abbrev pub GivesAcl : Result (Option AccessList) LineFault → List (List ℕ) → ℕ → Type 0
-GivesAcl read words n = (says : Option AccessList → Event) → GivesSaid (λ acl. Asks (says acl)) read (acl_said_at says words n)
-
--- the same of one word
-abbrev pub GivesAclBy : Result (Option AccessList) LineFault → List ℕ → Type 0
-GivesAclBy read word = (says : Option AccessList → Event) → GivesSaid (λ acl. Asks (says acl)) read (acl_said_by says word)
+-- The same of a word that is an ACL, whatever asks for it.
+abbrev pub GivesAcl : Result (Option AccessList) LineFault → List ℕ → Type 0
+GivesAcl read word = (says : Option AccessList → Event) → GivesSaid (λ acl. Asks (says acl)) read (acl_said_by says word)
 
 abbrev pub IsOffered : Line → Type 0
 IsOffered Blank = Unit {0}
 IsOffered (Asks e) = IsTrue (is_of_machine e)
-
--- a row as it is in the program, its name aside
-pub record IsRow (r : CommandRow) (held : Row) : Type 0 where
-  pub pid : held.has_pid ≡ has_pid r
-  pub fewest : held.least ≡ fewest_words (words_behind r)
-  pub highest : held.most ≡ most_words (words_behind r)
 
 -- ---- answers
 

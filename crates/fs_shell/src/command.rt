@@ -1,252 +1,261 @@
-//! The table of commands: their names, and which words each stands between.
-ghost use Rattle.std.specs.Prelude.{◌≡◌, option_map};
-ghost use Rattle.std.specs.List.{find};
-ghost use Rattle.std.specs.Str.{bytes_eq};
+//! The table of commands: each by its name, the words behind it, and what they ask for.
+ghost use Rattle.std.specs.Prelude.{◌≡◌, ◌++◌, [], ℕ, List, Ok, IfOk, IsTrue, codes};
+ghost use Rattle.fs_model.specs.Steps.{is_of_machine};
+ghost use Rattle.fs_shell.specs.declared.line.Line.TheVariants.{Event as Asks};
+ghost use Rattle.fs_shell.specs.Commands.{begins_with_digit, lone_commands, commands, path_commands, descriptor_commands, name_commands, process_commands, row_named, command_says, words_value};
+ghost use Rattle.fs_shell.specs.Words.{number_of};
+ghost use Rattle.fs_shell.specs.Runs.{GivesSaid};
 
-/// A command that lines name.
-#[derive(Clone, Copy)]
-pub enum Command {
-    Spawn,
-    Sync,
-    Statfs,
-    Exit,
-    Umask,
-    /// Its first word is a path.
-    OnPath(PathCommand),
-    /// Its first word is a descriptor.
-    OnDescriptor(DescriptorCommand),
-    /// It is on names: its first word is a path too, or what a link is to lead to.
-    OnName(NameCommand),
-}
+use crate::forms::{read_acl, read_groups, read_number};
+use crate::line::LineFault;
+use crate::operand::{Groups, Operands};
+use crate::words::Word;
+use fs_cred::Cred;
+use fs_model::{AclType, Bytes, Call, Event, Path};
+use std::alloc::Global;
 
-/// A command whose first word is a path.
-#[derive(Clone, Copy)]
-pub enum PathCommand {
-    Open,
-    Stat,
-    Lstat,
-    Access,
-    Truncate,
-    Chmod,
-    Chown,
-    GetAcl,
-    SetAcl,
-}
+// The mode of a file that is made, where none is given.
+const NEW_FILE_MODE: u16 = 0o666;
 
-/// A command whose first word is a descriptor.
-#[derive(Clone, Copy)]
-pub enum DescriptorCommand {
-    Read,
-    Write,
-    Lseek,
-    Close,
-    Fstat,
-    Fsync,
-    Ftruncate,
-    Readdir,
-}
-
-/// A command on names.
-#[derive(Clone, Copy)]
-pub enum NameCommand {
-    Mkdir,
-    Rmdir,
-    Link,
-    Symlink,
-    Readlink,
-    Unlink,
-    Rename,
-    Chdir,
-}
-
-// The commands that stand alone, by their names.
-const ALONE: [(&str, Command); 3] = [
-    ("spawn", Command::Spawn),
-    ("sync", Command::Sync),
-    ("statfs", Command::Statfs),
-];
-
-// Those behind a pid.
-const BEHIND_PID: [(&str, Command); 27] = [
-    ("exit", Command::Exit),
-    ("umask", Command::Umask),
-    ("open", Command::OnPath(PathCommand::Open)),
-    ("stat", Command::OnPath(PathCommand::Stat)),
-    ("lstat", Command::OnPath(PathCommand::Lstat)),
-    ("access", Command::OnPath(PathCommand::Access)),
-    ("truncate", Command::OnPath(PathCommand::Truncate)),
-    ("chmod", Command::OnPath(PathCommand::Chmod)),
-    ("chown", Command::OnPath(PathCommand::Chown)),
-    ("getacl", Command::OnPath(PathCommand::GetAcl)),
-    ("setacl", Command::OnPath(PathCommand::SetAcl)),
-    ("read", Command::OnDescriptor(DescriptorCommand::Read)),
-    ("write", Command::OnDescriptor(DescriptorCommand::Write)),
-    ("lseek", Command::OnDescriptor(DescriptorCommand::Lseek)),
-    ("close", Command::OnDescriptor(DescriptorCommand::Close)),
-    ("fstat", Command::OnDescriptor(DescriptorCommand::Fstat)),
-    ("fsync", Command::OnDescriptor(DescriptorCommand::Fsync)),
-    (
-        "ftruncate",
-        Command::OnDescriptor(DescriptorCommand::Ftruncate),
-    ),
-    ("readdir", Command::OnDescriptor(DescriptorCommand::Readdir)),
-    ("mkdir", Command::OnName(NameCommand::Mkdir)),
-    ("rmdir", Command::OnName(NameCommand::Rmdir)),
-    ("link", Command::OnName(NameCommand::Link)),
-    ("symlink", Command::OnName(NameCommand::Symlink)),
-    ("readlink", Command::OnName(NameCommand::Readlink)),
-    ("unlink", Command::OnName(NameCommand::Unlink)),
-    ("rename", Command::OnName(NameCommand::Rename)),
-    ("chdir", Command::OnName(NameCommand::Chdir)),
-];
-
-/// Which words a command stands between.
-#[derive(Clone, Copy)]
-pub struct Row {
-    /// Whether the pid of a process stands before it.
-    pub has_pid: bool,
-    /// The fewest words behind it.
-    pub least: usize,
-    /// The most words behind it.
-    pub most: usize,
-}
-
-impl Row {
-    ghost use Rattle.std.specs.Prelude.{◌≡◌, true, false};
-    ghost use Rattle.fs_shell.specs.Commands.{lies_between};
-
-    // The row of a command that stands alone.
-    fn alone(least: usize, most: usize) -> Row
-        ensures pid { result.has_pid ≡ false }
-        ensures fewest { result.least ≡ least }
-        ensures highest { result.most ≡ most }
-    {
-        Row {
-            has_pid: false,
-            least,
-            most,
-        }
-    }
-
-    // The row of a command behind a pid.
-    fn behind_pid(least: usize, most: usize) -> Row
-        ensures pid { result.has_pid ≡ true }
-        ensures fewest { result.least ≡ least }
-        ensures highest { result.most ≡ most }
-    {
-        Row {
-            has_pid: true,
-            least,
-            most,
-        }
-    }
-
-    /// Whether so many words may stand behind the command.
-    pub fn takes(self, count: usize) -> bool
-        ensures { result ≡ lies_between self.least self.most count }
-    {
-        self.least <= count && count <= self.most
-    }
-}
-
-// The first command of the table with this name.
-fn named_in(table: &[(&str, Command)], name: &[u8]) -> Option<Command>
-    ensures { result ≡ option_map (λ row. row.1) (find (λ row. bytes_eq name.now row.0.now) table.now) }
+/// What the words of a line ask for.
+#[tactic(auto, unfolding(crate::specs::Commands::words_value))]
+pub fn read_event(alloc: Global, words: &[Word<'_>]) -> Result<Event, LineFault>
+    ensures said { GivesSaid Asks result (words_value words.now) }
+    ensures offered { IfOk result (λ e. IsTrue (is_of_machine e)) }
 {
-    let (_, command) = table.iter().find(|(known, _)| name == known.as_bytes())?;
-    Some(*command)
+    let Some((first, rest)) = words.split_first() else {
+        return Err(LineFault::WordCount);
+    };
+    if !begins_with_digit(first.bytes()) {
+        return read_alone(alloc, first.bytes(), rest);
+    }
+    let Some((name, rest)) = rest.split_first() else {
+        return Err(LineFault::WordCount);
+    };
+    read_behind_pid(alloc, first.bytes(), name.bytes(), rest)
 }
 
-impl Command {
-    ghost use Rattle.std.specs.Prelude.{◌≡◌};
-    ghost use Rattle.fs_shell.specs.Commands.{command_row, command_named};
-    ghost use Rattle.fs_shell.specs.Runs.{IsRow};
-
-    /// The command with this name that stands alone, or behind a pid.
-    pub fn named(name: &[u8], has_pid: bool) -> Option<Command>
-        ensures { result ≡ command_named has_pid name.now }
-    {
-        if has_pid {
-            named_in(&BEHIND_PID, name)
-        } else {
-            named_in(&ALONE, name)
-        }
-    }
-
-    /// Which words it stands between.
-    pub fn row(self) -> Row
-        ensures { IsRow (command_row self) result }
-    {
-        match self {
-            Command::Spawn => Row::alone(2, 3),
-            Command::Sync => Row::alone(0, 0),
-            Command::Statfs => Row::alone(0, 0),
-            Command::Exit => Row::behind_pid(0, 0),
-            Command::Umask => Row::behind_pid(1, 1),
-            Command::OnPath(command) => command.row(),
-            Command::OnDescriptor(command) => command.row(),
-            Command::OnName(command) => command.row(),
-        }
-    }
+fn begins_with_digit(word: &[u8]) -> bool
+    ensures { result ≡ begins_with_digit word.now }
+{
+    matches!(word, [b'0'..=b'9', ..])
 }
 
-impl PathCommand {
-    ghost use Rattle.fs_shell.specs.Commands.{path_row};
-    ghost use Rattle.fs_shell.specs.Runs.{IsRow};
-
-    fn row(self) -> Row
-        ensures { IsRow (path_row self) result }
-    {
-        match self {
-            PathCommand::Open => Row::behind_pid(2, 3),
-            PathCommand::Stat => Row::behind_pid(1, 1),
-            PathCommand::Lstat => Row::behind_pid(1, 1),
-            PathCommand::Access => Row::behind_pid(2, 2),
-            PathCommand::Truncate => Row::behind_pid(2, 2),
-            PathCommand::Chmod => Row::behind_pid(2, 2),
-            PathCommand::Chown => Row::behind_pid(3, 3),
-            PathCommand::GetAcl => Row::behind_pid(2, 2),
-            PathCommand::SetAcl => Row::behind_pid(3, 3),
+// What a command asks for that stands alone.
+fn read_alone(alloc: Global, name: &[u8], words: &[Word<'_>]) -> Result<Event, LineFault>
+    ensures said { GivesSaid Asks result (command_says (row_named lone_commands name.now) [] words.now) }
+    ensures offered { IfOk result (λ e. IsTrue (is_of_machine e)) }
+{
+    let Ok(name) = std::str::from_utf8(name) else {
+        return Err(LineFault::UnknownCommand);
+    };
+    let operands = Operands {
+        alloc,
+        pid: Ok(0),
+        words,
+    };
+    match name {
+        "spawn" => read_spawn(operands),
+        "sync" => {
+            operands.none()?;
+            Ok(Event::Sync)
         }
+        "statfs" => {
+            operands.none()?;
+            Ok(Event::Statfs)
+        }
+        _ => Err(LineFault::UnknownCommand),
     }
 }
 
-impl DescriptorCommand {
-    ghost use Rattle.fs_shell.specs.Commands.{descriptor_row};
-    ghost use Rattle.fs_shell.specs.Runs.{IsRow};
+// What a command asks for that stands behind a pid.
+fn read_behind_pid(
+    alloc: Global,
+    pid: &[u8],
+    name: &[u8],
+    words: &[Word<'_>],
+) -> Result<Event, LineFault>
+    ensures said { GivesSaid Asks result (command_says (row_named commands name.now) pid.now words.now) }
+    ensures offered { IfOk result (λ e. IsTrue (is_of_machine e)) }
+{
+    let Ok(name) = std::str::from_utf8(name) else {
+        return Err(LineFault::UnknownCommand);
+    };
+    let pid = read_number(pid);
+    read_path_command(name, Operands { alloc, pid, words })
+}
 
-    fn row(self) -> Row
-        ensures { IsRow (descriptor_row self) result }
-    {
-        match self {
-            DescriptorCommand::Read => Row::behind_pid(2, 2),
-            DescriptorCommand::Write => Row::behind_pid(2, 2),
-            DescriptorCommand::Lseek => Row::behind_pid(3, 3),
-            DescriptorCommand::Close => Row::behind_pid(1, 1),
-            DescriptorCommand::Fstat => Row::behind_pid(1, 1),
-            DescriptorCommand::Fsync => Row::behind_pid(1, 1),
-            DescriptorCommand::Ftruncate => Row::behind_pid(2, 2),
-            DescriptorCommand::Readdir => Row::behind_pid(1, 1),
+// The commands whose first word is a path, and those below.
+fn read_path_command(name: &str, operands: Operands<'_>) -> Result<Event, LineFault>
+    ensures said { (pid : List ℕ) → operands.entry.pid ≡ number_of 64 pid
+        → GivesSaid Asks result (command_says (row_named commands name.now) pid operands.entry.words.now) }
+    ensures offered { IfOk result (λ e. IsTrue (is_of_machine e)) }
+{
+    match name {
+        "open" => {
+            let (pid, path, flags, mode) = operands.two_or(NEW_FILE_MODE)?;
+            Ok(Event::Call(pid, Call::Open(path, flags, mode)))
         }
+        "stat" => {
+            let (pid, path) = operands.one()?;
+            Ok(Event::Call(pid, Call::Stat(path)))
+        }
+        "lstat" => {
+            let (pid, path) = operands.one()?;
+            Ok(Event::Call(pid, Call::Lstat(path)))
+        }
+        "access" => {
+            let (pid, path, want) = operands.two()?;
+            Ok(Event::Call(pid, Call::Access(path, want)))
+        }
+        "truncate" => {
+            let (pid, path, size) = operands.two()?;
+            Ok(Event::Call(pid, Call::Truncate(path, size)))
+        }
+        "chmod" => {
+            let (pid, path, mode) = operands.two()?;
+            Ok(Event::Call(pid, Call::Chmod(path, mode)))
+        }
+        "chown" => {
+            let (pid, path, owner, group) = operands.three()?;
+            Ok(Event::Call(pid, Call::Chown { path, owner, group }))
+        }
+        "getacl" => {
+            let (pid, path, which) = operands.two()?;
+            Ok(Event::Call(pid, Call::GetAcl(path, which)))
+        }
+        "setacl" => read_set_acl(operands),
+        _ => read_descriptor_command(name, operands),
     }
 }
 
-impl NameCommand {
-    ghost use Rattle.fs_shell.specs.Commands.{name_row};
-    ghost use Rattle.fs_shell.specs.Runs.{IsRow};
-
-    fn row(self) -> Row
-        ensures { IsRow (name_row self) result }
-    {
-        match self {
-            NameCommand::Mkdir => Row::behind_pid(2, 2),
-            NameCommand::Rmdir => Row::behind_pid(1, 1),
-            NameCommand::Link => Row::behind_pid(2, 2),
-            NameCommand::Symlink => Row::behind_pid(2, 2),
-            NameCommand::Readlink => Row::behind_pid(1, 1),
-            NameCommand::Unlink => Row::behind_pid(1, 1),
-            NameCommand::Rename => Row::behind_pid(2, 2),
-            NameCommand::Chdir => Row::behind_pid(1, 1),
+// Those whose first word is a descriptor, and those below.
+fn read_descriptor_command(name: &str, operands: Operands<'_>) -> Result<Event, LineFault>
+    ensures said { (pid : List ℕ) → operands.entry.pid ≡ number_of 64 pid
+        → GivesSaid Asks result (command_says (row_named (descriptor_commands ++ (name_commands ++ process_commands)) name.now) pid operands.entry.words.now) }
+    ensures offered { IfOk result (λ e. IsTrue (is_of_machine e)) }
+{
+    match name {
+        "read" => {
+            let (pid, fd, len) = operands.two()?;
+            Ok(Event::Call(pid, Call::Read { fd, len }))
         }
+        "write" => {
+            let (pid, fd, bytes) = operands.two()?;
+            Ok(Event::Call(pid, Call::Write(fd, bytes)))
+        }
+        "lseek" => {
+            let (pid, fd, whence, offset) = operands.three()?;
+            Ok(Event::Call(pid, Call::Lseek(fd, whence, offset)))
+        }
+        "close" => {
+            let (pid, fd) = operands.one()?;
+            Ok(Event::Call(pid, Call::Close(fd)))
+        }
+        "fstat" => {
+            let (pid, fd) = operands.one()?;
+            Ok(Event::Call(pid, Call::Fstat(fd)))
+        }
+        "fsync" => {
+            let (pid, fd) = operands.one()?;
+            Ok(Event::Fsync { pid, fd })
+        }
+        "ftruncate" => {
+            let (pid, fd, size) = operands.two()?;
+            Ok(Event::Call(pid, Call::Ftruncate(fd, size)))
+        }
+        "readdir" => {
+            let (pid, fd) = operands.one()?;
+            Ok(Event::Call(pid, Call::Readdir(fd)))
+        }
+        _ => read_name_command(name, operands),
+    }
+}
+
+// Those on names, and those below.
+fn read_name_command(name: &str, operands: Operands<'_>) -> Result<Event, LineFault>
+    ensures said { (pid : List ℕ) → operands.entry.pid ≡ number_of 64 pid
+        → GivesSaid Asks result (command_says (row_named (name_commands ++ process_commands) name.now) pid operands.entry.words.now) }
+    ensures offered { IfOk result (λ e. IsTrue (is_of_machine e)) }
+{
+    match name {
+        "mkdir" => {
+            let (pid, path, mode) = operands.two()?;
+            Ok(Event::Call(pid, Call::Mkdir(path, mode)))
+        }
+        "rmdir" => {
+            let (pid, path) = operands.one()?;
+            Ok(Event::Call(pid, Call::Rmdir(path)))
+        }
+        "link" => {
+            let (pid, old, new) = operands.two()?;
+            Ok(Event::Call(pid, Call::Link { old, new }))
+        }
+        "symlink" => {
+            let (pid, target, path) = operands.two()?;
+            Ok(Event::Call(pid, Call::Symlink { target, path }))
+        }
+        "readlink" => {
+            let (pid, path) = operands.one()?;
+            Ok(Event::Call(pid, Call::Readlink(path)))
+        }
+        "unlink" => {
+            let (pid, path) = operands.one()?;
+            Ok(Event::Call(pid, Call::Unlink(path)))
+        }
+        "rename" => {
+            let (pid, old, new) = operands.two()?;
+            Ok(Event::Call(pid, Call::Rename { old, new }))
+        }
+        "chdir" => {
+            let (pid, path) = operands.one()?;
+            Ok(Event::Call(pid, Call::Chdir(path)))
+        }
+        _ => read_process_command(name, operands),
+    }
+}
+
+// Those on the process itself.
+fn read_process_command(name: &str, operands: Operands<'_>) -> Result<Event, LineFault>
+    ensures said { (pid : List ℕ) → operands.entry.pid ≡ number_of 64 pid
+        → GivesSaid Asks result (command_says (row_named process_commands name.now) pid operands.entry.words.now) }
+    ensures offered { IfOk result (λ e. IsTrue (is_of_machine e)) }
+{
+    match name {
+        "umask" => {
+            let (pid, mask) = operands.one()?;
+            Ok(Event::Call(pid, Call::Umask(mask)))
+        }
+        "exit" => {
+            let pid = operands.none()?;
+            Ok(Event::Exit(pid))
+        }
+        _ => Err(LineFault::UnknownCommand),
+    }
+}
+
+// An ACL that is set, or removed.
+fn read_set_acl(operands: Operands<'_>) -> Result<Event, LineFault>
+    ensures said { (pid : List ℕ) → operands.entry.pid ≡ number_of 64 pid
+        → GivesSaid Asks result (command_says (row_named path_commands (codes "setacl")) pid operands.entry.words.now) }
+    ensures offered { IfOk result (λ e. IsTrue (is_of_machine e)) }
+{
+    let (pid, path, which, text): (usize, Path, AclType, Bytes) = operands.three()?;
+    let acl = read_acl(operands.alloc, text.bytes())?;
+    Ok(Event::Call(pid, Call::SetAcl(path, which, acl)))
+}
+
+// The credential of a new process.
+fn read_spawn(operands: Operands<'_>) -> Result<Event, LineFault>
+    ensures said { operands.entry.pid ≡ Ok 0
+        → GivesSaid Asks result (command_says (row_named lone_commands (codes "spawn")) [] operands.entry.words.now) }
+    ensures offered { IfOk result (λ e. IsTrue (is_of_machine e)) }
+{
+    let (_, uid, gid, groups): (usize, u32, u32, Groups) = operands.two_or(Groups::new(
+        operands.alloc,
+    ))?;
+    match Cred::new(operands.alloc, uid, gid, groups.ids()) {
+        Ok(cred) => Ok(Event::Spawn(cred)),
+        Err(_) => Err(LineFault::OutOfMemory),
     }
 }

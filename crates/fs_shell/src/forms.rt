@@ -6,7 +6,7 @@ ghost use Rattle.posix_acl.specs.Numbers.{StartsPlainly};
 ghost use Rattle.posix_acl.specs.Text.{is_comma};
 ghost use Rattle.fs_shell.specs.Words.{number_of, id_of, kept_id_of, offset_of, negated, positive, groups_of, perms_in, mode_of, octal_digits, is_octal_digit, flags_of, left_over, flag_letters, without_letter, whence_of, acl_type_of};
 ghost use Rattle.fs_shell.specs.Lines.{each};
-ghost use Rattle.fs_shell.specs.Runs.{Gives, GivesAclBy};
+ghost use Rattle.fs_shell.specs.Runs.{Gives, GivesAcl};
 
 use crate::line::LineFault;
 use fs_cred::MAX_GROUPS;
@@ -250,7 +250,7 @@ pub fn read_acl_type(word: &[u8]) -> Result<AclType, LineFault>
 
 /// An ACL by its text, or none.
 pub fn read_acl(alloc: Global, word: &[u8]) -> Result<Option<Acl>, LineFault>
-    ensures { GivesAclBy result word.now }
+    ensures { GivesAcl result word.now }
 {
     if word == b"none".as_slice() {
         return Ok(None);

@@ -4,7 +4,6 @@
 #![tactic(auto)]
 
 mod answer;
-mod asking;
 mod command;
 mod fault;
 mod forms;

@@ -1,127 +1,278 @@
-//! The words behind a command, by their index and kind.
-ghost use Rattle.std.specs.Prelude.{◌≡◌, [], Ok, Err, IfOk, IfErr};
-ghost use Rattle.fs_shell.specs.Commands.{word_at, said_at, said_at_or, bytes, number, offset, id, kept_id, groups, mode, perms, flags, whence, acl_type};
-ghost use Rattle.fs_shell.specs.Runs.{Gives, GivesAcl};
+//! The words behind a command, by the values that they say.
+ghost use Rattle.std.specs.Prelude.{◌≡◌, [], ℕ, List, Ok, Err, IfOk, IfErr, Result, ok_or};
+ghost use Rattle.std.specs.List.{slice_get};
+ghost use Rattle.fs_shell.specs.declared.line.LineFault.{LineFault as Fault};
+ghost use Rattle.fs_shell.specs.declared.line.LineFault.TheVariants.{WordCount};
+ghost use Rattle.fs_shell.specs.Commands.{said_at, said_of_or, none_said, one_said, two_said, three_said, two_or_said};
+ghost use Rattle.fs_shell.specs.Runs.{Gives};
 
 use crate::forms::{
-    read_acl, read_acl_type, read_flags, read_groups, read_id, read_kept_id, read_mode,
-    read_number, read_offset, read_perms, read_whence,
+    read_acl_type, read_flags, read_groups, read_id, read_kept_id, read_mode, read_number,
+    read_offset, read_perms, read_whence,
 };
 use crate::line::LineFault;
 use crate::words::Word;
 use fs_model::{AclType, ByteString, Flags, Whence};
-use posix_acl::{Acl, Perms};
+use posix_acl::Perms;
 use std::alloc::Global;
+use std::marker::Model;
 
-// The word with this index.
-fn word_at<'a>(words: &'a [Word<'_>], index: usize) -> Result<&'a [u8], LineFault>
-    ensures found { IfOk result (λ word. word_at words.now index ≡ Ok word.now) }
-    ensures none { IfErr result (λ fault. word_at words.now index ≡ Err fault) }
-{
-    match words.get(index) {
-        Some(word) => Ok(word.bytes()),
-        None => Err(LineFault::WordCount),
+/// A value that a word says.
+pub trait Operand: Drop {
+    ghost said: { List ℕ → Result Self Fault };
+
+    /// The value of a word.
+    fn read(alloc: Global, word: &[u8]) -> Result<Self, LineFault>
+        ensures { Gives (λ value. value) result (said word.now) };
+}
+
+impl<Role> Operand for ByteString<Role> {
+    ghost use Rattle.fs_shell.specs.Commands.{said_by, bytes};
+
+    ghost said = { said_by bytes };
+
+    fn read(alloc: Global, word: &[u8]) -> Result<ByteString<Role>, LineFault> {
+        Ok(ByteString::from_slice(alloc, word)?)
     }
 }
 
-/// Any bytes.
-pub fn bytes_at<Role>(
-    alloc: Global,
-    words: &[Word<'_>],
-    index: usize,
-) -> Result<ByteString<Role>, LineFault>
-    ensures { Gives (λ made. made) result (said_at bytes words.now index) }
-{
-    let word = word_at(words, index)?;
-    Ok(ByteString::from_slice(alloc, word)?)
+impl Operand for usize {
+    ghost use Rattle.fs_shell.specs.Commands.{said_by, number};
+
+    ghost said = { said_by number };
+
+    fn read(_alloc: Global, word: &[u8]) -> Result<usize, LineFault> {
+        read_number(word)
+    }
 }
 
-/// A number of 64 bits.
-pub fn number_at(words: &[Word<'_>], index: usize) -> Result<usize, LineFault>
-    ensures { result ≡ said_at number words.now index }
-{
-    read_number(word_at(words, index)?)
+impl Operand for u64 {
+    ghost use Rattle.fs_shell.specs.Commands.{said_by, number};
+
+    ghost said = { said_by number };
+
+    fn read(_alloc: Global, word: &[u8]) -> Result<u64, LineFault> {
+        Ok(read_number(word)? as u64)
+    }
 }
 
-/// A number that may have a `-`.
-pub fn offset_at(words: &[Word<'_>], index: usize) -> Result<i64, LineFault>
-    ensures { result ≡ said_at offset words.now index }
-{
-    read_offset(word_at(words, index)?)
+impl Operand for i64 {
+    ghost use Rattle.fs_shell.specs.Commands.{said_by, offset};
+
+    ghost said = { said_by offset };
+
+    fn read(_alloc: Global, word: &[u8]) -> Result<i64, LineFault> {
+        read_offset(word)
+    }
 }
 
 /// The id of a user or a group.
-pub fn id_at(words: &[Word<'_>], index: usize) -> Result<u32, LineFault>
-    ensures { result ≡ said_at id words.now index }
-{
-    read_id(word_at(words, index)?)
-}
+impl Operand for u32 {
+    ghost use Rattle.fs_shell.specs.Commands.{said_by, id};
 
-/// An id, or none where the old one is kept.
-pub fn kept_id_at(words: &[Word<'_>], index: usize) -> Result<Option<u32>, LineFault>
-    ensures { result ≡ said_at kept_id words.now index }
-{
-    read_kept_id(word_at(words, index)?)
-}
+    ghost said = { said_by id };
 
-/// Groups, or none where there is no such word.
-pub fn groups_at(alloc: Global, words: &[Word<'_>], index: usize) -> Result<Vec<u32>, LineFault>
-    ensures { Gives (λ ids. ids.items) result (said_at_or groups [] words.now index) }
-{
-    match words.get(index) {
-        Some(word) => read_groups(alloc, word.bytes()),
-        None => Ok(Vec::new(alloc)),
+    fn read(_alloc: Global, word: &[u8]) -> Result<u32, LineFault> {
+        read_id(word)
     }
 }
 
 /// A mode.
-pub fn mode_at(words: &[Word<'_>], index: usize) -> Result<u16, LineFault>
-    ensures { result ≡ said_at mode words.now index }
-{
-    read_mode(word_at(words, index)?)
+impl Operand for u16 {
+    ghost use Rattle.fs_shell.specs.Commands.{said_by, mode};
+
+    ghost said = { said_by mode };
+
+    fn read(_alloc: Global, word: &[u8]) -> Result<u16, LineFault> {
+        read_mode(word)
+    }
 }
 
-/// A mode, or this one where there is no such word.
-pub fn mode_at_or(words: &[Word<'_>], index: usize, missing: u16) -> Result<u16, LineFault>
-    ensures { result ≡ said_at_or mode missing words.now index }
+/// An id, or none where the old one is kept.
+impl Operand for Option<u32> {
+    ghost use Rattle.fs_shell.specs.Commands.{said_by, kept_id};
+
+    ghost said = { said_by kept_id };
+
+    fn read(_alloc: Global, word: &[u8]) -> Result<Option<u32>, LineFault> {
+        read_kept_id(word)
+    }
+}
+
+impl Operand for Perms {
+    ghost use Rattle.fs_shell.specs.Commands.{said_by, perms};
+
+    ghost said = { said_by perms };
+
+    fn read(_alloc: Global, word: &[u8]) -> Result<Perms, LineFault> {
+        read_perms(word)
+    }
+}
+
+impl Operand for Flags {
+    ghost use Rattle.fs_shell.specs.Commands.{said_by, flags};
+
+    ghost said = { said_by flags };
+
+    fn read(_alloc: Global, word: &[u8]) -> Result<Flags, LineFault> {
+        read_flags(word)
+    }
+}
+
+impl Operand for AclType {
+    ghost use Rattle.fs_shell.specs.Commands.{said_by, acl_type};
+
+    ghost said = { said_by acl_type };
+
+    fn read(_alloc: Global, word: &[u8]) -> Result<AclType, LineFault> {
+        read_acl_type(word)
+    }
+}
+
+impl Operand for Whence {
+    ghost use Rattle.fs_shell.specs.Commands.{said_by, whence};
+
+    ghost said = { said_by whence };
+
+    fn read(_alloc: Global, word: &[u8]) -> Result<Whence, LineFault> {
+        read_whence(word)
+    }
+}
+
+/// Supplementary groups.
+#[derive(Drop)]
+pub struct Groups(Vec<u32>);
+
+impl Model for Groups {
+    ghost use Rattle.std.specs.Prelude.{ℕ, List};
+
+    ghost Value = { List ℕ };
+
+    ghost view = { λ groups. groups.0.items };
+}
+
+impl Groups {
+    /// No group.
+    pub fn new(alloc: Global) -> Groups
+        ensures { result ≡ [] }
+    {
+        Groups(Vec::new(alloc))
+    }
+
+    /// Their ids.
+    pub fn ids(&self) -> &[u32]
+        ensures { result.now ≡ self.now }
+    {
+        self.0.as_slice()
+    }
+}
+
+impl Operand for Groups {
+    ghost use Rattle.fs_shell.specs.Commands.{said_by, groups};
+
+    ghost said = { said_by groups };
+
+    fn read(alloc: Global, word: &[u8]) -> Result<Groups, LineFault> {
+        Ok(Groups(read_groups(alloc, word)?))
+    }
+}
+
+/// The words behind a command, and the pid before it.
+#[derive(Clone, Copy)]
+pub struct Operands<'a> {
+    pub alloc: Global,
+    pub pid: Result<usize, LineFault>,
+    pub words: &'a [Word<'a>],
+}
+
+// The value of the word with this index.
+fn operand_at<A: Operand>(alloc: Global, words: &[Word<'_>], index: usize) -> Result<A, LineFault>
+    ensures { Gives (λ value. value) result (said_at A.said words.now index) }
 {
     match words.get(index) {
-        Some(word) => read_mode(word.bytes()),
+        Some(word) => A::read(alloc, word.bytes()),
+        None => Err(LineFault::WordCount),
+    }
+}
+
+// The same, or this one where there is no such word.
+fn operand_at_or<A: Operand>(
+    alloc: Global,
+    words: &[Word<'_>],
+    index: usize,
+    missing: A,
+) -> Result<A, LineFault>
+    ensures { Gives (λ value. value) result (said_of_or A.said missing (slice_get words.now index)) }
+{
+    match words.get(index) {
+        Some(word) => A::read(alloc, word.bytes()),
         None => Ok(missing),
     }
 }
 
-/// Permissions.
-pub fn perms_at(words: &[Word<'_>], index: usize) -> Result<Perms, LineFault>
-    ensures { result ≡ said_at perms words.now index }
-{
-    read_perms(word_at(words, index)?)
-}
+impl Operands<'_> {
+    /// The pid, where there is no word.
+    pub fn none(self) -> Result<usize, LineFault>
+        ensures { result ≡ none_said self.entry.pid self.entry.words.now }
+    {
+        if !self.words.is_empty() {
+            return Err(LineFault::WordCount);
+        }
+        self.pid
+    }
 
-/// How a file is opened.
-pub fn flags_at(words: &[Word<'_>], index: usize) -> Result<Flags, LineFault>
-    ensures { result ≡ said_at flags words.now index }
-{
-    read_flags(word_at(words, index)?)
-}
+    /// The pid and a word.
+    pub fn one<A: Operand>(self) -> Result<(usize, A), LineFault>
+        ensures { Gives (λ x. x) result (one_said A.said self.entry.pid self.entry.words.now) }
+    {
+        if self.words.len() != 1 {
+            return Err(LineFault::WordCount);
+        }
+        let pid = self.pid?;
+        Ok((pid, operand_at(self.alloc, self.words, 0)?))
+    }
 
-/// From where an offset counts.
-pub fn whence_at(words: &[Word<'_>], index: usize) -> Result<Whence, LineFault>
-    ensures { result ≡ said_at whence words.now index }
-{
-    read_whence(word_at(words, index)?)
-}
+    /// The pid and two words.
+    pub fn two<A: Operand, B: Operand>(self) -> Result<(usize, A, B), LineFault>
+        ensures { Gives (λ x. x) result (two_said A.said B.said self.entry.pid self.entry.words.now) }
+    {
+        if self.words.len() != 2 {
+            return Err(LineFault::WordCount);
+        }
+        let pid = self.pid?;
+        let first = operand_at(self.alloc, self.words, 0)?;
+        let second = operand_at(self.alloc, self.words, 1)?;
+        Ok((pid, first, second))
+    }
 
-/// Which ACL is meant.
-pub fn acl_type_at(words: &[Word<'_>], index: usize) -> Result<AclType, LineFault>
-    ensures { result ≡ said_at acl_type words.now index }
-{
-    read_acl_type(word_at(words, index)?)
-}
+    /// The pid and three words.
+    pub fn three<A: Operand, B: Operand, C: Operand>(self) -> Result<(usize, A, B, C), LineFault>
+        ensures { Gives (λ x. x) result (three_said A.said B.said C.said self.entry.pid self.entry.words.now) }
+    {
+        if self.words.len() != 3 {
+            return Err(LineFault::WordCount);
+        }
+        let pid = self.pid?;
+        let first = operand_at(self.alloc, self.words, 0)?;
+        let second = operand_at(self.alloc, self.words, 1)?;
+        let third = operand_at(self.alloc, self.words, 2)?;
+        Ok((pid, first, second, third))
+    }
 
-/// An ACL, or none.
-pub fn acl_at(alloc: Global, words: &[Word<'_>], index: usize) -> Result<Option<Acl>, LineFault>
-    ensures { GivesAcl result words.now index }
-{
-    read_acl(alloc, word_at(words, index)?)
+    /// The pid and three words, the last of which may be left out.
+    pub fn two_or<A: Operand, B: Operand, C: Operand>(
+        self,
+        missing: C,
+    ) -> Result<(usize, A, B, C), LineFault>
+        ensures { Gives (λ x. x) result (two_or_said A.said B.said C.said missing self.entry.pid self.entry.words.now) }
+    {
+        if self.words.len() < 2 || self.words.len() > 3 {
+            return Err(LineFault::WordCount);
+        }
+        let pid = self.pid?;
+        let first = operand_at(self.alloc, self.words, 0)?;
+        let second = operand_at(self.alloc, self.words, 1)?;
+        let third = operand_at_or(self.alloc, self.words, 2, missing)?;
+        Ok((pid, first, second, third))
+    }
 }

@@ -6,7 +6,7 @@ ghost use Rattle.fs_shell.specs.Lines.{is_no_space, is_silent, is_printable};
 ghost use Rattle.fs_shell.specs.Commands.{clean_value, has_words, line_value};
 ghost use Rattle.fs_shell.specs.Runs.{GivesSaid, IsOffered};
 
-use crate::asking::read_line;
+use crate::command::read_event;
 use crate::line::{Line, LineFault, MAX_LINE};
 use crate::words::read_words;
 use std::alloc::Global;
@@ -39,7 +39,7 @@ fn read_clean(alloc: Global, line: &[u8]) -> Result<Line, LineFault>
     ensures offered { IfOk result IsOffered }
 {
     let words = read_words(alloc, line)?;
-    read_line(alloc, &words).map(Line::Event)
+    read_event(alloc, &words).map(Line::Event)
 }
 
 // Whether it has no words, or is a comment.

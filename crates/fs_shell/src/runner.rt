@@ -48,7 +48,7 @@ pub fn run<R: Read, W: Write, D: Disk + Drop>(
         faults: 0,
     };
     while pending.read_line(reader, &mut line)? {
-        let answer = perform(alloc, fs, &line);
+        let answer = perform_line(alloc, fs, &line);
         count.lines += 1;
         count.faults += answer.faults();
         write_answer(alloc, writer, answer)?;
@@ -60,7 +60,7 @@ pub fn run<R: Read, W: Write, D: Disk + Drop>(
 }
 
 // Performs a line, if nothing is wrong with it. Else nothing changes.
-fn perform<D: Disk + Drop>(alloc: Global, fs: &mut Fs<D>, line: &[u8]) -> Answer
+fn perform_line<D: Disk + Drop>(alloc: Global, fs: &mut Fs<D>, line: &[u8]) -> Answer
     ensures { LinePerformed D.state line.now result fs.old fs.new }
 {
     match parse_line(alloc, line) {

@@ -38,9 +38,9 @@ returns-in_err-read_line-clause-ran g c =
 pub loop-line-preserved : goal.loop-line-preserved
 loop-line-preserved g c =
     let read = c.read_line.ensures.line (c.in_ok-read_line.was ∙ ap Ok c.if-branch.true) in
-    let most = one_fault_at_most c.perform-answer.result in
+    let most = one_fault_at_most c.perform_line-answer.result in
     record {
-      running = goes_on g.D.Disk.state _ _ _ _ _ _ _ _ _ _ _ _ _ _ _ c.loop-line.invariant.running read (rw c.deref.ensures.value at c.perform-answer.ensures)
+      running = goes_on g.D.Disk.state _ _ _ _ _ _ _ _ _ _ _ _ _ _ _ c.loop-line.invariant.running read (rw c.deref.ensures.value at c.perform_line-answer.ensures)
           c.in_ok-write_answer.ensures.written refl (ap (λ (n : ℕ). c.loop-line.count.faults + n) c.faults.ensures);
       lines = omega (arith, read.some, c.loop-line.invariant.lines);
       faults = omega (arith, most, c.faults.ensures, c.loop-line.invariant.faults);
@@ -54,7 +54,7 @@ returns-in_err-write_answer-clause-ran g c =
     let p = err_from_is_err_and c.from_residual-in_err-write_answer.result c.from_residual-in_err-write_answer.ensures.1 in
     let read = c.read_line.ensures.line (c.in_ok-read_line.was ∙ ap Ok c.if-branch.true) in
     rw p.1 (ends_unanswered g.D.Disk.state _ _ _ _ _ _ _ _ _ _ _ _ _ _ p.0 c.loop-line.invariant.running read
-    (rw c.deref.ensures.value at c.perform-answer.ensures) (λ much. not_too_much _ c.in_err-write_answer.ensures.fault (sym p.2 ∙ much)))
+    (rw c.deref.ensures.value at c.perform_line-answer.ensures) (λ much. not_too_much _ c.in_err-write_answer.ensures.fault (sym p.2 ∙ much)))
 
 pub returns-in-Ok-clause-ran : goal.returns-in-Ok-clause-ran
 returns-in-Ok-clause-ran g c =

@@ -3,7 +3,7 @@ use Rattle.fs_model.specs.declared.event.EventReply.TheVariants.{Reply as Replie
 use Rattle.fs_system.proofs.Played.{plays_nothing}
 use Rattle.fs_shell.specs.Runs.{is_blank, is_performed}
 use Rattle.fs_shell.proofs.Faulty.{answers_fault}
-use Rattle.fs_shell.proofs.runner.perform.Goals as goal
+use Rattle.fs_shell.proofs.runner.perform_line.Goals as goal
 
 pub returns-in-Ok-Event : goal.returns-in-Ok-Event
 returns-in-Ok-Event g c = record {
