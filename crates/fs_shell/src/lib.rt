@@ -12,14 +12,8 @@ mod line;
 mod operand;
 mod parse;
 mod places;
-#[cfg(test)]
-mod row_data;
-#[cfg(test)]
-mod row_tests;
 mod runner;
 mod script;
-#[cfg(test)]
-mod stop_tests;
 #[cfg(test)]
 mod tests;
 mod text;

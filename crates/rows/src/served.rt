@@ -1,0 +1,170 @@
+//! Runs scripts on disks of which calls may fail, which may be changed, checked, and mounted again.
+
+use anyhow::{anyhow, bail};
+use fs_check::{CheckFault, check};
+use fs_shell::{Watched, run};
+use fs_system::{Fs, mkfs};
+use sector_disk::{Disk, FailOnce, FuseDisk, MemDisk};
+use std::alloc::Global;
+
+/// The sectors of a disk.
+pub const SECTORS: u32 = 1024;
+
+/// Its inodes, 0 too.
+pub const INODES: u32 = 64;
+
+// One call fails; and all from some call on.
+type FailingDisk = FuseDisk<FailOnce<MemDisk>>;
+
+// A file system, or the disk of one that isn't mounted.
+#[derive(Drop)]
+enum Served {
+    Mounted(Fs<FailingDisk>),
+    Down(FailingDisk),
+}
+
+// What a line asks for besides a file system's events.
+#[derive(Clone, Copy)]
+enum Request<'a> {
+    // A mount, which lets so many calls of the disk pass from then on.
+    Mount(u64),
+    // Other bytes on the disk: the sector, the place, and the bytes.
+    Put(&'a str),
+    Check,
+}
+
+/// What is answered to the lines on an empty file system, of whose disk this call fails.
+pub fn replies(alloc: Global, call: u64, lines: &str) -> anyhow::Result<String> {
+    let mut disk = FailOnce::new(MemDisk::new(alloc, SECTORS)?, call);
+    mkfs(&mut disk, INODES)?;
+    let mut seen = String::new(alloc);
+    let mut served = mounted(alloc, &mut seen, FuseDisk::new(disk, u64::MAX))?;
+    seen.clear();
+    let mut script = String::new(alloc);
+    for line in lines.split_terminator('\n') {
+        match requested(line)? {
+            Some(request) => {
+                served = push_replies(alloc, &mut seen, served, script.as_str())?;
+                script.clear();
+                served = answered(alloc, &mut seen, served, &request)?;
+            }
+            None => writeln!(script, "{line}")?,
+        }
+    }
+    push_replies(alloc, &mut seen, served, script.as_str())?;
+    Ok(seen)
+}
+
+fn requested(line: &str) -> anyhow::Result<Option<Request<'_>>> {
+    Ok(match line.split_once(' ') {
+        Some(("mount", calls)) => Some(Request::Mount(calls.parse::<u64>()?)),
+        Some(("put", words)) => Some(Request::Put(words)),
+        None if line == "mount" => Some(Request::Mount(u64::MAX)),
+        None if line == "check" => Some(Request::Check),
+        _ => None,
+    })
+}
+
+// Does what is requested of the disk, after an unmount, and adds what is answered.
+fn answered(
+    alloc: Global,
+    seen: &mut String,
+    served: Served,
+    request: &Request<'_>,
+) -> anyhow::Result<Served> {
+    let mut disk = unmounted(served)?;
+    match request {
+        Request::Mount(calls) => mounted(alloc, seen, FuseDisk::new(disk.into_inner(), *calls)),
+        Request::Put(words) => {
+            put(&mut disk, words)?;
+            Ok(Served::Down(disk))
+        }
+        Request::Check => {
+            match check(alloc, &mut disk) {
+                Ok(_) => seen.push_str("clean\n")?,
+                Err(CheckFault::Found(finding)) => writeln!(seen, "finding {finding}")?,
+                Err(fault) => Err(fault)?,
+            }
+            Ok(Served::Down(disk))
+        }
+    }
+}
+
+// Mounts, and adds what comes of it.
+fn mounted(alloc: Global, seen: &mut String, disk: FailingDisk) -> anyhow::Result<Served> {
+    match Fs::mount(alloc, disk) {
+        Ok(fs) => {
+            seen.push_str("mounted\n")?;
+            Ok(Served::Mounted(fs))
+        }
+        Err((fault, disk)) => {
+            writeln!(seen, "{fault}")?;
+            Ok(Served::Down(disk))
+        }
+    }
+}
+
+// The disk after an unmount, which has to be in order.
+fn unmounted(served: Served) -> anyhow::Result<FailingDisk> {
+    match served {
+        Served::Down(disk) => Ok(disk),
+        Served::Mounted(fs) => match fs.unmount() {
+            (disk, None) => Ok(disk),
+            (_, Some(_)) => bail!("the unmount failed"),
+        },
+    }
+}
+
+// Puts bytes on a disk: the words are the sector, the place in it, and the bytes.
+fn put<D: Disk>(disk: &mut D, words: &str) -> anyhow::Result<()> {
+    let mut words = words.split(' ');
+    let sector = number(words.next())?;
+    let place = number(words.next())?;
+    if sector >= disk.size() {
+        bail!("no sector {sector}");
+    }
+    let mut content = [0; 512];
+    let read = disk.read(sector, &mut content);
+    for (byte, word) in content.iter_mut().skip(place as usize).zip(words) {
+        *byte = word.parse::<u8>()?;
+    }
+    if read.is_err() || disk.write(sector, &content).is_err() || disk.sync().is_err() {
+        bail!("the disk failed");
+    }
+    disk.forget();
+    Ok(())
+}
+
+fn number(word: Option<&str>) -> anyhow::Result<u32> {
+    match word {
+        Some(word) => Ok(word.parse::<u32>()?),
+        None => Err(anyhow!("too few words")),
+    }
+}
+
+// Adds what a file system answers to a script.
+fn push_replies(
+    alloc: Global,
+    seen: &mut String,
+    served: Served,
+    script: &str,
+) -> anyhow::Result<Served> {
+    let mut fs = match served {
+        Served::Mounted(fs) => fs,
+        Served::Down(disk) => {
+            if !script.is_empty() {
+                seen.push_str("down\n")?;
+            }
+            return Ok(Served::Down(disk));
+        }
+    };
+    let mut written = Vec::new(alloc);
+    run(
+        alloc,
+        &mut Watched::new(script.as_bytes()),
+        &mut Watched::new(&mut written),
+        &mut fs,
+    )?;
+    seen.push_str(String::from_utf8_lossy(alloc, &written)?.as_str())?;
+    Ok(Served::Mounted(fs))
+}
