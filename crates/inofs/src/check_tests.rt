@@ -1,4 +1,4 @@
-//! Rows of the checker: an image with some bytes changed, and what is found; that a mount agrees.
+//! The checker on whole disks: what is counted, each call that fails, each byte that is damaged; that a mount agrees.
 
 use fs_check::{CheckFault, Finding, Summary, check};
 use fs_shell::{Watched, run};
@@ -11,13 +11,6 @@ use std::test::Fail;
 
 // A directory, a file of one byte, and a link.
 const BASE: &str = "spawn 0 0\n1 mkdir /d 0755\n1 open /f wc 0644\n1 write 0 x\n1 symlink t /l\n";
-
-// Two files of one byte each.
-const TWO_FILES: &str =
-    "spawn 0 0\n1 open /f wc 0644\n1 write 0 x\n1 open /g wc 0644\n1 write 1 y\n";
-
-// A directory in another one.
-const NESTED: &str = "spawn 0 0\n1 mkdir /d 0755\n1 mkdir /d/e 0755\n";
 
 fn mounted<D: Disk + Drop>(alloc: Global, disk: D) -> Result<Fs<D>, Fail> {
     match Fs::mount(alloc, disk) {
@@ -107,67 +100,6 @@ fn is_for(fault: MountFault, found: Option<(u8, u32)>) -> bool {
         MountFault::Damaged(Finding { rule, at }) => rule != 1 && found == Some((rule, at)),
         MountFault::DiskFault | MountFault::OutOfMemory => false,
     }
-}
-
-// A script, what is changed in the image that it leaves, and the finding.
-type Row = (&'static str, &'static [Edit<'static>], (u8, u32));
-
-const ROWS: [Row; 17] = [
-    (BASE, &[(0, 0, &[0])], (1, 0)),
-    (BASE, &[(128, 0, &[0x3f])], (3, 5)),
-    (BASE, &[(130, 0, &[1, 0])], (4, 0)),
-    (BASE, &[(130, 256, &[9, 0])], (4, 2)),
-    (BASE, &[(130, 420, &[130, 0, 0, 0])], (5, 3)),
-    (BASE, &[(130, 420, &[146, 0, 0, 0])], (6, 146)),
-    (BASE, &[(129, 18, &[0x3f])], (7, 149)),
-    (BASE, &[(147, 1, &[1])], (8, 3)),
-    (BASE, &[(148, 0, &[0])], (8, 4)),
-    (
-        BASE,
-        &[(130, 412, &[149, 0, 0, 0]), (129, 18, &[0x3f])],
-        (9, 3),
-    ),
-    (BASE, &[(146, 4, &[0])], (10, 1)),
-    (BASE, &[(146, 136, &[0x64])], (11, 1)),
-    (BASE, &[(130, 396, &[2, 0, 0, 0])], (12, 3)),
-    (BASE, &[(130, 280, &[2, 0, 0, 0])], (13, 2)),
-    // A commit of 127 sectors.
-    (BASE, &[(1, 4, &[127, 0, 0, 0])], (2, 1)),
-    // One sector in two files.
-    (TWO_FILES, &[(130, 420, &[147, 0, 0, 0])], (6, 147)),
-    // Two directories in each other: the root's sector becomes that of the inner one, which is the other's parent then.
-    (
-        NESTED,
-        &[
-            (130, 144, &[0]),
-            (130, 164, &[0]),
-            (130, 400, &[128]),
-            (130, 420, &[146]),
-            (130, 280, &[3]),
-        ],
-        (14, 2),
-    ),
-];
-
-#[test]
-fn each_rule_has_its_finding(rt: HostRuntime) -> Result<(), Fail> {
-    let alloc = rt.alloc();
-    let mut report = String::new(alloc);
-    for (script, edits, wanted) in ROWS {
-        let mut disk = made(alloc, script)?;
-        let clean = found(alloc, &mut disk);
-        edit(&mut disk, edits)?;
-        let found = found(alloc, &mut disk);
-        let (agrees, _) = mount_agrees(alloc, disk, found);
-        if (clean, found, agrees) != (None, Some(wanted), true) {
-            writeln!(
-                report,
-                "{edits:?}: {clean:?} {found:?} {agrees}, not {wanted:?}"
-            )?;
-        }
-    }
-    assert!(rt; report.as_str() == "", "{report}");
-    Ok(())
 }
 
 // ---- what a clean disk has
