@@ -8,6 +8,7 @@ use Rattle.std.proofs.lemmas.Slice.Eq.{bytes_eq-Decides}
 use Rattle.posix_acl.specs.declared.entry.Perms.{Perms}
 use Rattle.posix_acl.specs.Entries.{perms_of}
 use Rattle.posix_acl.specs.Text.{perms_text}
+use Rattle.fs_model.specs.declared.call.Flags.{Flags}
 use Rattle.fs_shell.specs.declared.line.LineFault.TheVariants.{BadNumber}
 use Rattle.fs_shell.specs.Words.{perms_in, has, without_letter, left_over, flag_letters, flags_with, opened, flags_of}
 
@@ -66,21 +67,24 @@ left_over_more (letter ∷ letters) (suc i) word below =
     let more : suc i + 1 ≡ suc (i + 1) = omega arith in
     rw more (left_over_more letters i (without_letter letter word) (omega arith))
 
+abbrev pub given_flags : (read write create excl trunc append nofollow directory : Bool) → IsTrue (read || write) → Flags
+given_flags read write create excl trunc append nofollow directory opens = record {
+  read = read;
+  write = write;
+  create = create;
+  excl = excl;
+  trunc = trunc;
+  append = append;
+  nofollow = nofollow;
+  directory = directory;
+  opens = opens;
+}
+
 -- the flags of a word that has only their letters, in their order
 same_flags : (word : List ℕ) (read write create excl trunc append nofollow directory : Bool) (opens : IsTrue (read || write))
     → create ≡ has (byte "c") word → excl ≡ has (byte "x") word → trunc ≡ has (byte "t") word → append ≡ has (byte "a") word
     → nofollow ≡ has (byte "n") word → directory ≡ has (byte "d") word
-    → Ok (record {
-      read = read;
-      write = write;
-      create = create;
-      excl = excl;
-      trunc = trunc;
-      append = append;
-      nofollow = nofollow;
-      directory = directory;
-      opens = opens;
-    }) ≡ opened read write word
+    → Ok (given_flags read write create excl trunc append nofollow directory opens) ≡ opened read write word
 same_flags word true write create excl trunc append nofollow directory opens c x t a n d =
     rw (c, x, t, a, n, d) (ap (λ o. Ok (flags_with true write o word)) (Bool-set true true opens refl))
 same_flags word false true create excl trunc append nofollow directory opens c x t a n d =
@@ -91,17 +95,7 @@ pub flags_read : (word : List ℕ) (read write create excl trunc append nofollow
     → (length (left_over flag_letters word) == 0) ≡ true → read ≡ has (byte "r") word → write ≡ has (byte "w") word
     → create ≡ has (byte "c") word → excl ≡ has (byte "x") word → trunc ≡ has (byte "t") word → append ≡ has (byte "a") word
     → nofollow ≡ has (byte "n") word → directory ≡ has (byte "d") word
-    → Ok (record {
-      read = read;
-      write = write;
-      create = create;
-      excl = excl;
-      trunc = trunc;
-      append = append;
-      nofollow = nofollow;
-      directory = directory;
-      opens = opens;
-    }) ≡ flags_of word
+    → Ok (given_flags read write create excl trunc append nofollow directory opens) ≡ flags_of word
 unfolding flags_of
 flags_read word read write create excl trunc append nofollow directory opens none r w c x t a n d =
     rw (none, ← r, ← w) (same_flags word read write create excl trunc append nofollow directory opens c x t a n d)
