@@ -11,32 +11,32 @@ use Rattle.fs_layout.proofs.Parts.{owns_indirect}
 use Rattle.fs_model.specs.Rules.{OwnedOnce, IsPlaceOf, IsInData, IsOwnedOnce, ObeysEach, IsLeastFailure}
 use Rattle.fs_check.specs.Checks.{IsOwnerMap}
 use Rattle.fs_check.proofs.Openings.{many_sectors, place_size}
-use Rattle.fs_check.specs.Owning.{part_at, owned_part, IsBefore, IsOnce, IsTwice, IsMarked}
+use Rattle.fs_check.specs.Owning.{part_at, owned_part, IsEarlierPart, IsOnce, IsTwice, IsMarked}
 use Rattle.fs_check.proofs.OwnedParts.{counted_part, part_at-injective}
 
 -- ---- parts in order
 
-before_more : (a b n i : ℕ) → IsBefore a b n i → IsBefore a b n (i + 1)
+before_more : (a b n i : ℕ) → IsEarlierPart a b n i → IsEarlierPart a b n (i + 1)
 before_more a b n i x = elim x [ inl lt ↦ inl lt | inr y ↦ let lt = y.1 in inr (y.0, omega (arith, lt)) ]
 
 -- the last part, or one before it
-before_or : (a b n i : ℕ) → IsBefore a b n (i + 1) → ((a ≡ n) × (b ≡ i)) ⊎ IsBefore a b n i
+before_or : (a b n i : ℕ) → IsEarlierPart a b n (i + 1) → ((a ≡ n) × (b ≡ i)) ⊎ IsEarlierPart a b n i
 before_or a b n i x = elim x [
   | inl lt ↦ inr (inl lt)
   | inr y ↦ elim (cases_lt b i) [ inl lt ↦ inr (inr (y.0, lt)) | inr ge ↦ let lt = y.1 in inl (y.0, omega (arith, ge, lt)) ]
 ]
 
 -- all parts of an inode are before the next one's
-before_next : (a b n i : ℕ) → IsBefore a b n i → IsBefore a b (n + 1) 0
+before_next : (a b n i : ℕ) → IsEarlierPart a b n i → IsEarlierPart a b (n + 1) 0
 before_next a b n i x = elim x [ inl lt ↦ inl (omega (arith, lt)) | inr y ↦ let e = y.0 in inl (omega (arith, e)) ]
 
-before_all : (a b n : ℕ) → IsBefore a b n 0 → a < n
+before_all : (a b n : ℕ) → IsEarlierPart a b n 0 → a < n
 before_all a b n x = elim x [ inl lt ↦ lt | inr y ↦ let lt = y.1 in absurd (omega (arith, lt)) ]
 
-not_itself : (a b i j : ℕ) → a ≡ b → i ≡ j → IsBefore a i b j → ⊥
+not_itself : (a b i j : ℕ) → a ≡ b → i ≡ j → IsEarlierPart a i b j → ⊥
 not_itself a b i j e f x = elim x [ inl lt ↦ omega (arith, lt, e) | inr y ↦ let lt = y.1 in omega (arith, lt, f) ]
 
-either_before : (a i b j : ℕ) → IsBefore a i b j ⊎ (IsBefore b j a i ⊎ ((a ≡ b) × (i ≡ j)))
+either_before : (a i b j : ℕ) → IsEarlierPart a i b j ⊎ (IsEarlierPart b j a i ⊎ ((a ≡ b) × (i ≡ j)))
 either_before a i b j = elim (cases_lt a b) [
   | inl lt ↦ inl (inl lt)
   | inr ge ↦ elim (cases_lt b a) [
@@ -162,7 +162,7 @@ module _ (f : ℕ → ℕ → ℕ) (n i : ℕ) where
 -- ---- the next inode
 
 module _ (f : ℕ → ℕ → ℕ) (n i : ℕ) (none : (k : ℕ) → i ≤ k → f n k ≡ 0) where
-  back_before : (a b : ℕ) → f a b ≢ 0 → IsBefore a b (n + 1) 0 → IsBefore a b n i
+  back_before : (a b : ℕ) → f a b ≢ 0 → IsEarlierPart a b (n + 1) 0 → IsEarlierPart a b n i
   back_before a b some x =
       let less = before_all a b (n + 1) x in
       elim (cases_lt a n) [

@@ -1,7 +1,7 @@
 -- What an inode may own a sector for, counted, and the owners of sectors so far.
 --     part_at, owned_part        part i of an inode; the sector that inode n has for it
 --     OwnsData        what an inode owns is in the data area
---     IsBefore        parts in order, inode by inode
+--     IsEarlierPart        parts in order, inode by inode
 --     IsOnce, IsTwice, IsMarked        a sector that is owned by the parts so far, once and twice, and two maps of them
 use Rattle.std.specs.Prelude.{◌≡◌, ◌≢◌, ◌⊎◌, ℕ, ◌-◌, ◌<◌, nat_eq, List, length, get_or, Bool, false, if◌then◌else◌, IsTrue, ◌↔◌}
 use Rattle.fs_layout.specs.declared.inode.Inode.{Inode}
@@ -19,14 +19,14 @@ abbrev pub OwnsData : Place → SectorMap → Inode → Type 0
 OwnsData p m v = (s : ℕ) → Owns m v s → IsData p s
 
 -- part i of inode n comes before part j of inode m
-abbrev pub IsBefore : ℕ → ℕ → ℕ → ℕ → Type 0
-IsBefore n i m j = (n < m) ⊎ ((n ≡ m) × (i < j))
+abbrev pub IsEarlierPart : ℕ → ℕ → ℕ → ℕ → Type 0
+IsEarlierPart n i m j = (n < m) ⊎ ((n ≡ m) × (i < j))
 
 -- before part i of inode n, a part has the sector
 pub record IsOnce (f : ℕ → ℕ → ℕ) (n i s : ℕ) : Type 0 where
   pub inode : ℕ
   pub at : ℕ
-  pub before : IsBefore inode at n i
+  pub before : IsEarlierPart inode at n i
   pub is : f inode at ≡ s
   pub some : s ≢ 0
 
@@ -34,7 +34,7 @@ pub record IsOnce (f : ℕ → ℕ → ℕ) (n i s : ℕ) : Type 0 where
 pub record IsTwice (f : ℕ → ℕ → ℕ) (n i s : ℕ) : Type 0 where
   pub inode : ℕ
   pub at : ℕ
-  pub before : IsBefore inode at n i
+  pub before : IsEarlierPart inode at n i
   pub is : f inode at ≡ s
   pub other : IsOnce f inode at s
 

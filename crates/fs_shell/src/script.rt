@@ -63,11 +63,13 @@ impl Pending {
         reader: &mut Watched<R>,
         line: &mut Vec<u8>,
     ) -> Result<bool, RunFault>
-        ensures line { result ≡ Ok true → ReadsLine self.old (R.remaining reader.old.inner) self.new (R.remaining reader.new.inner) line.new.items }
-        ensures end { result ≡ Ok false → IsAtEnd (bytes_left self.old (R.remaining reader.old.inner)) × IsAtEnd (R.remaining reader.new.inner)
-            × (self.new.given ≡ self.old.given) }
+        ensures line { result ≡ Ok true
+            → ReadsLine self.old (R.remaining reader.old.inner) self.new (R.remaining reader.new.inner) line.new.items }
+        ensures end { result ≡ Ok false → IsAtEnd (bytes_left self.old (R.remaining reader.old.inner))
+            × IsAtEnd (R.remaining reader.new.inner) × (self.new.given ≡ self.old.given) }
         ensures limit { self.new.given ≤ script_limit }
-        ensures over { IfErr result (λ fault. fault ≡ TooMuch → IsOver (bytes_left self.old (R.remaining reader.old.inner)) self.old.given) }
+        ensures over { IfErr result (λ fault. fault ≡ TooMuch
+            → IsOver (bytes_left self.old (R.remaining reader.old.inner)) self.old.given) }
         ensures failed { FailsWhere reader.old.failed reader.new.failed (result ≡ Err ReadFault) }
         ensures fault { IfErr result (λ fault. fault ≢ WriteFault) }
     {
@@ -83,8 +85,10 @@ impl Pending {
     // Whether bytes are still to come. If so, the next ones have been read then.
     fn has_more<R: Read>(&mut self, reader: &mut Watched<R>) -> Result<bool, RunFault>
         ensures more { result ≡ Ok true → self.new.ahead ≢ [] }
-        ensures end { result ≡ Ok false → FindsEnd self.old (R.remaining reader.old.inner) self.new (R.remaining reader.new.inner) }
-        ensures kept { OnOk result (Keeps (bytes_left self.old (R.remaining reader.old.inner)) (bytes_left self.new (R.remaining reader.new.inner))) }
+        ensures end { result ≡ Ok false
+            → FindsEnd self.old (R.remaining reader.old.inner) self.new (R.remaining reader.new.inner) }
+        ensures kept { OnOk result (Keeps (bytes_left self.old (R.remaining reader.old.inner))
+            (bytes_left self.new (R.remaining reader.new.inner))) }
         ensures count { self.new.given ≡ self.old.given }
         ensures limit { self.new.given ≤ script_limit }
         ensures failed { FailsWhere reader.old.failed reader.new.failed (result ≡ Err ReadFault) }

@@ -5,7 +5,7 @@
 --     MkfsEnds, CheckEnds        a disk is made a file system, and a disk is checked
 --     RunsOn, RunEnds        a script is run on a disk that is mounted for it
 --     MemoryEnds, ImageMkfsEnds, ImageRunEnds, ImageCheckEnds        the four jobs
---     JobEnds, Performs        a job, and what the program does for its words
+--     JobEnds, ProgramEnds        a job, and what the program does for its words
 use Rattle.std.specs.Prelude.{◌≡◌, ◌⊎◌, ℕ, List, Option, None, IsSome, IsTrue, Result, Ok, Err, OnOk}
 use Rattle.std.specs.Io.KnownBytes.{Appends}
 use Rattle.sector_disk.specs.Disk.{DiskState, IsFresh, IsStable, OnlyReads}
@@ -157,10 +157,10 @@ JobEnds memory file r w (Check image) result = ImageCheckEnds file w result
 -- ---- the program
 
 -- What the program does for its words, and the number that it ends with.
-pub data Performs {M F : Type 0} (memory : M → DiskState) (file : F → DiskState) (words : List (List ℕ)) (r : Reading) (w : Writing) (code : ℕ) : Type 0 where
+pub data ProgramEnds {M F : Type 0} (memory : M → DiskState) (file : F → DiskState) (words : List (List ℕ)) (r : Reading) (w : Writing) (code : ℕ) : Type 0 where
   does_job : (job : Job) (result : Result Status Failure) → AsksFor words job → JobEnds memory file r w job result
-      → code ≡ code_of (ended result) → Performs memory file words r w code
+      → code ≡ code_of (ended result) → ProgramEnds memory file words r w code
   -- the help, the version, or what is wrong is printed
-  refuses : (fault : WordsFault) → Refuses words fault → code ≡ code_of (words_status fault) → Performs memory file words r w code
+  refuses : (fault : WordsFault) → Refuses words fault → code ≡ code_of (words_status fault) → ProgramEnds memory file words r w code
   -- that can't be printed
-  is_mute : (fault : WordsFault) → Refuses words fault → code ≡ code_of Failed → Performs memory file words r w code
+  is_mute : (fault : WordsFault) → Refuses words fault → code ≡ code_of Failed → ProgramEnds memory file words r w code

@@ -3,7 +3,7 @@
 ghost use Rattle.std.specs.Prelude.{◌≡◌, ◌⊎◌, ◌≤◌, map, string_bytes, MatchResult, Err};
 ghost use Rattle.std.specs.Option.{option_copied};
 ghost use Rattle.sector_disk.specs.Disk.{IsFresh};
-ghost use Rattle.inofs.specs.Jobs.{ImageMkfsEnds, ImageRunEnds, ImageCheckEnds, JobEnds, Performs};
+ghost use Rattle.inofs.specs.Jobs.{ImageMkfsEnds, ImageRunEnds, ImageCheckEnds, JobEnds, ProgramEnds};
 ghost use Rattle.inofs.specs.Streams.{reading, writing};
 ghost use Rattle.inofs.specs.Words.{words_status};
 
@@ -32,7 +32,7 @@ pub fn perform<R: Files + AllocGlobal, I: Read, O: Write, E: Write>(
     err: &mut E,
 ) -> u8
     // The words ask for a job, and it has ended with this status; or they ask for none.
-    ensures performs { Performs ⟦<MemDisk as Disk>⟧.state ⟦<FileDisk<R::File> as Disk>⟧.state (map string_bytes words.now)
+    ensures performs { ProgramEnds ⟦<MemDisk as Disk>⟧.state ⟦<FileDisk<R::File> as Disk>⟧.state (map string_bytes words.now)
         (reading I.remaining input.old input.new) (writing O.contents out.old out.new) result }
     ensures range { result ≤ 3 }
 {
