@@ -7,11 +7,10 @@ ghost use Rattle.fs_layout.specs.Place.{IsPlace};
 ghost use Rattle.bit_alloc.specs.Inodes.{IsSound};
 ghost use Rattle.bit_alloc.specs.Room.{HasSpare};
 
-mod blank;
 mod links;
 
 use crate::{overwrite, read_at, release_all, set_size, write_at};
-use blank::{is_blank, put_blank};
+use blank_map::{is_blank, put_blank};
 use fs_layout::{Commit, Inode, Kind, Place, place_of};
 use inode_table::{load, new_inode};
 use posix_acl::Acl;

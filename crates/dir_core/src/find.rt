@@ -43,7 +43,7 @@ fn is_named(block: &[u8; 512], at: usize, name: &[u8]) -> bool
 }
 
 // The inode of the slot at `at`.
-fn inode_at(block: &[u8; 512], at: usize) -> u32
+fn slot_inode(block: &[u8; 512], at: usize) -> u32
     requires { at + SLOT_SIZE ≤ 512 }
     ensures { (x : NamedInode) → IsSlotAt block.now at x → result ≡ x.inode }
 {
@@ -100,7 +100,7 @@ pub(crate) fn find_slot<S: Sectors>(
         read_block_of(s, &blocks, slot, &mut block)?;
         let at = SLOT_SIZE * (slot % SLOTS) as usize;
         if is_named(&block, at, name) {
-            let inode = inode_at(&block, at);
+            let inode = slot_inode(&block, at);
             return Ok(Some(FoundSlot { slot, inode }));
         }
     }

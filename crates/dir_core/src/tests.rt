@@ -7,10 +7,8 @@ ghost use Rattle.fs_layout.specs.Directories.{IsName, HasNames};
 ghost use Rattle.bit_alloc.specs.Inodes.{IsSound};
 ghost use Rattle.bit_alloc.specs.Room.{HasSpare};
 
-mod blank;
-
 use crate::{DirFault, insert, is_empty, list, lookup, remove, rename, replace};
-use blank::{is_blank, put_blank};
+use blank_map::{is_blank, put_blank};
 use fs_layout::{Commit, Inode, Kind, Place, is_name, place_of};
 use inode_table::{load, new_inode};
 use posix_acl::Acl;

@@ -11,7 +11,7 @@ use fs_layout::Commit;
 use sector_disk::{Disk, DiskFault};
 
 // Where the sector stands among the targets.
-fn place_of(targets: &[u32], n: u32) -> Option<usize>
+fn target_index(targets: &[u32], n: u32) -> Option<usize>
     ensures none { IfNone result ((k : ℕ) → k < length targets.now → get_or targets.now k 0 ≢ n) }
     ensures place { IfSome result (λ k. k < length targets.now) }
     ensures there { IfSome result (λ k. get_or targets.now k 0 ≡ n) }
@@ -30,7 +30,7 @@ fn content_of(commit: &Commit, n: u32) -> u32
         → recovered size image n ≡ image result }
     ensures on_disk { (size : ℕ) → 128 ≤ size → n < size → result < size }
 {
-    match place_of(commit.targets(), n) {
+    match target_index(commit.targets(), n) {
         Some(k) => 2 + k as u32,
         None => n,
     }

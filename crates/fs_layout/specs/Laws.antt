@@ -85,7 +85,7 @@ pub record AreNamesOf (slots : List NamedInode) : Type 0 where
       → (get name_cmp (names_of_slots slots) name ≡ Some n) ↔ Contains slots (record { inode = n; name = name })
 
 -- A name fits its slot, and so do as many slots as a directory has names the bytes of the largest one.
-pub record NamesFit : Type 0 where
+pub record SlotsHoldNames : Type 0 where
   pub slot : (x : NamedInode) → FitsSlot x → length (slot_bytes x) ≡ SLOT_SIZE
   pub slots : (slots : List NamedInode) → All FitsSlot slots → length slots ≤ MAX_NAMES → length (slots_bytes slots) ≤ MAX_DIRECTORY_SIZE
 

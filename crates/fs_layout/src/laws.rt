@@ -4,7 +4,7 @@ ghost use Rattle.fs_layout.specs.Bytes.{le16, le32, le64, u16_of, u32_of, u64_of
 ghost use Rattle.std.specs.Prelude.{ℕ};
 ghost use Rattle.std.specs.Ordering.{nat_cmp};
 ghost use Rattle.fs_layout.specs.Maps.{name_cmp};
-ghost use Rattle.fs_layout.specs.Laws.{AreNumbersAsBytes, RecoversEach, OneInodeChanges, SavingEnds, RestsOnUsed, SomeConsistent, HaveEntries, NamesFit, SlotsHaveNames, OneMapOfNames, NamesAreRead, NamesStay, AclsHaveSectors, HoldsOneAcl, ModeTellsTheRest};
+ghost use Rattle.fs_layout.specs.Laws.{AreNumbersAsBytes, RecoversEach, OneInodeChanges, SavingEnds, RestsOnUsed, SomeConsistent, HaveEntries, SlotsHoldNames, SlotsHaveNames, OneMapOfNames, NamesAreRead, NamesStay, AclsHaveSectors, HoldsOneAcl, ModeTellsTheRest};
 
 /// A number of 16 bits that is read from bytes is written as these bytes, and one that is written is read again.
 pub fn numbers_of_16_bits()
@@ -59,7 +59,7 @@ pub fn maps_have_entries()
 /// A slot is [`crate::SLOT_SIZE`] bytes whatever name of up to [`crate::MAX_NAME`] it has, and the slots of up to
 /// [`crate::MAX_NAMES`] names are at most [`crate::MAX_DIRECTORY_SIZE`] bytes.
 pub fn names_fit_their_slots()
-    ensures { NamesFit }
+    ensures { SlotsHoldNames }
 {}
 
 /// Slots without a name that stands twice are a map of names with an entry for each slot. A directory has one such map,

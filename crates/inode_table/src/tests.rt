@@ -1,6 +1,5 @@
 //! ACLs and the sectors that they have.
 
-mod blank;
 mod calls;
 
 use crate::sectors::{acl_of, content_of, kept_content, sector_of, with_bits};

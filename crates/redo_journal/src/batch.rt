@@ -42,7 +42,7 @@ impl Model for Batch {
 
 // The sector's place: the one that it has, or else the next one, which it then has. A sector that is there is not inserted
 // again, since that might take from the room.
-fn place_of(sectors: &mut IndexSet<u32>, n: u32) -> usize
+fn index_for(sectors: &mut IndexSet<u32>, n: u32) -> usize
     requires room { contains nat_eq sectors.old n ≡ false → 0 < spare sectors.old }
     ensures place { result ≡ insert_index nat_eq sectors.old n }
     ensures within { result < index_set_len sectors.new }
@@ -79,7 +79,7 @@ impl Batch {
         ensures len { length self.new ≡ (if has_entry self.old n then length self.old else length self.old + 1) }
         ensures on_disk { (size : ℕ) → n < size → IsOnDisk size self.old → IsOnDisk size self.new }
     {
-        let at = place_of(&mut self.sectors, n);
+        let at = index_for(&mut self.sectors, n);
         self.contents[at] = *from;
     }
 

@@ -8,10 +8,10 @@ ghost use Rattle.bit_alloc.specs.Inodes.{IsSound};
 ghost use Rattle.bit_alloc.specs.Room.{HasSpare};
 ghost use Rattle.inode_table.specs.Inodes.{ClearAreFree};
 
-use crate::tests::blank::{is_blank, put_blank};
 use crate::tests::{Counted, INODES, SECTORS, idle_disk, opened};
 use crate::{free_all, new_link};
 use bit_alloc::{Bitmap, count_free};
+use blank_map::{is_blank, put_blank};
 use fs_layout::{Place, place_of};
 use sector_txn::Sectors;
 use std::alloc::Global;

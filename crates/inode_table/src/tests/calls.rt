@@ -10,12 +10,12 @@ ghost use Rattle.bit_alloc.specs.Inodes.{IsSound};
 ghost use Rattle.inode_table.specs.Inodes.{ClearAreFree};
 
 use crate::sectors::content_of;
-use crate::tests::blank::{is_blank, put_blank};
 use crate::tests::parsed;
 use crate::{
     free_inode, load, load_acl, load_default_acl, new_inode, save, save_acl, save_default_acl,
     write_inode,
 };
+use blank_map::{is_blank, put_blank};
 use fs_layout::{Commit, Inode, Kind, Place, place_of};
 use posix_acl::Acl;
 use redo_journal::Journal;

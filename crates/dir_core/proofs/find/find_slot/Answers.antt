@@ -44,8 +44,8 @@ returns-then-is_named-clause-found g c = λ slots h.
       lt,
       λ d.
           let there = slot_there h block slot d (omega arith) here lt in
-          slot_parts (get_or slots slot d) c.args.name.now c.inode_at-inode.result
-          ((c.is_named.ensures (get_or slots slot d) there).0 c.if-is_named.true) (sym (c.inode_at-inode.ensures (get_or slots slot d) there)),
+          slot_parts (get_or slots slot d) c.args.name.now c.slot_inode-inode.result
+          ((c.is_named.ensures (get_or slots slot d) there).0 c.if-is_named.true) (sym (c.slot_inode-inode.ensures (get_or slots slot d) there)),
     )
 
 pub returns-clause-found : goal.returns-clause-found

@@ -3,7 +3,7 @@ use Rattle.std.specs.Prelude.{List}
 use Rattle.std.proofs.lemmas.Bool.{cases_lt}
 use Rattle.fs_layout.specs.Bytes.{SectorMap, IsSector}
 use Rattle.bit_alloc.proofs.Transactions.{unchanged_joined}
-use Rattle.dir_core.proofs.tests.blank.has_zero_table.Goals as goal
+use Rattle.blank_map.proofs.has_zero_table.Goals as goal
 
 each_so_far : (P : ℕ → Type 0) (low n : ℕ) → ((k : ℕ) → low ≤ k → k < n → P k) → (low ≤ n → P n) → (k : ℕ) → low ≤ k → k < n + 1 → P k
 each_so_far P low n before here k from to = elim (cases_lt k n) [

@@ -16,7 +16,7 @@ use Rattle.bit_alloc.specs.Inodes.{IsSound}
 use Rattle.bit_alloc.specs.Room.{bitmaps}
 use Rattle.bit_alloc.proofs.Transactions.{unchanged_joined, map_unchanged}
 use Rattle.bit_alloc.proofs.Soundness.{sound_from}
-use Rattle.dir_core.proofs.tests.blank.is_blank.Goals as goal
+use Rattle.blank_map.proofs.is_blank.Goals as goal
 
 -- each inode of a table of zeros is one that is not used
 zero_there : (p : Place) (image : SectorMap) → IsPlace p → ((t : ℕ) → p.table ≤ t → t < p.first_data → image t ≡ replicate 512 0)

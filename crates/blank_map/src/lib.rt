@@ -1,14 +1,18 @@
-//! A map without inodes, and the check that it is one.
+//! A map of sectors on which no inode is used, for the tests of the crates above: made, and found to be one.
+//!
+//! What calls on inodes ask of a map, no test can say of one that it has made sector by sector. So it is looked at once:
+//! where [`is_blank`] says yes, calls may begin.
+#![tactic(auto)]
 
 ghost use Rattle.std.specs.Prelude.{◌≡◌, ◌≤◌, ◌<◌, ℕ, false, replicate, IfOk, IsTrue, ◌↔◌};
 ghost use Rattle.fs_layout.specs.Bytes.{IsBytes, IsSector};
 ghost use Rattle.fs_layout.specs.Place.{IsPlace};
-ghost use Rattle.fs_layout.specs.Images.{HasWholeTables, bit};
+ghost use Rattle.fs_layout.specs.Images.{HasWholeTables, bit, inode_bitmap, inode_at};
+ghost use Rattle.fs_layout.specs.Inode.{free_inode};
 ghost use Rattle.sector_txn.specs.Sectors.{SameStore, IsUnchanged};
 ghost use Rattle.bit_alloc.specs.Bitmaps.{first_sector, bit_count, IsNumber};
 ghost use Rattle.bit_alloc.specs.Room.{HasSpare};
 ghost use Rattle.bit_alloc.specs.Inodes.{IsSound};
-ghost use Rattle.inode_table.specs.Inodes.{ClearAreFree};
 
 use bit_alloc::{Bitmap, is_taken};
 use fs_layout::Place;
@@ -36,8 +40,8 @@ fn count_bits(place: Place, map: Bitmap) -> u32
     }
 }
 
-// Frees all inodes and data sectors.
-pub(super) fn put_blank<S: Sectors>(s: &mut S, place: Place)
+/// Puts all bitmaps and the inode table as they are where no inode and no data sector is used, as far as there is room.
+pub fn put_blank<S: Sectors>(s: &mut S, place: Place)
     requires place { IsPlace place }
     requires disk { place.sectors ≤ (S.state s.old).disk.size }
     ensures { SameStore (S.state s.old) (S.state s.new) }
@@ -69,12 +73,15 @@ fn blank_sector(place: Place, t: u32) -> [u8; 512] {
     sector
 }
 
-// Whether all inodes and data sectors are free, and what has to be set is.
-pub(super) fn is_blank<S: Sectors>(s: &mut S, place: Place) -> Result<bool, DiskFault>
+/// Whether all inodes and data sectors are free, the bits are set that are no number's, and there is room for all bitmaps and 12
+/// sectors.
+pub fn is_blank<S: Sectors>(s: &mut S, place: Place) -> Result<bool, DiskFault>
     requires place { IsPlace place }
     requires disk { place.sectors ≤ (S.state s.old).disk.size }
     ensures sound { IfOk result (λ b. IsTrue b → IsSound place (S.state s.new)) }
-    ensures clear { IfOk result (λ b. IsTrue b → ClearAreFree place (S.state s.new).sectors) }
+    // An inode whose bit is clear is free.
+    ensures clear { IfOk result (λ b. IsTrue b → (n : ℕ) → n < place.inodes → bit (S.state s.new).sectors inode_bitmap n ≡ false
+        → inode_at place (S.state s.new).sectors n ≡ free_inode) }
     ensures spare { IfOk result (λ b. IsTrue b → HasSpare place 12 (S.state s.new)) }
 {
     let zero = has_zero_table(s, place)?;

@@ -1,7 +1,7 @@
 use Rattle.std.proofs.Common.{◌≡◌, ℕ, ◌<◌, ◌≤◌, replicate}
 use Rattle.fs_layout.specs.Bytes.{IsSector}
 use Rattle.sector_txn.specs.Sectors.{IsUnchanged}
-use Rattle.dir_core.proofs.tests.blank.has_zero_table.Given as goal
+use Rattle.blank_map.proofs.has_zero_table.Given as goal
 
 abbrev pub invariant-loop-t : goal.invariant-loop-t
 invariant-loop-t g l = record {

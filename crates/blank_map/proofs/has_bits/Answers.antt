@@ -4,7 +4,7 @@ use Rattle.fs_layout.specs.Bytes.{SectorMap}
 use Rattle.fs_layout.specs.Images.{bit}
 use Rattle.bit_alloc.specs.Bitmaps.{first_sector, IsNumber}
 use Rattle.bit_alloc.proofs.Transactions.{map_unchanged, unchanged_joined}
-use Rattle.inode_table.proofs.tests.blank.has_bits.Goals as goal
+use Rattle.blank_map.proofs.has_bits.Goals as goal
 
 each_below : (P : ℕ → Type 0) (n : ℕ) → ((i : ℕ) → i < n → P i) → P n → (i : ℕ) → i < n + 1 → P i
 each_below P n before here i to = elim (cases_lt i n) [
