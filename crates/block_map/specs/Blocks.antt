@@ -2,10 +2,10 @@
 --     IsWithin        an inode's sectors can be read
 --     number_in, IsLoaded        a block's sector, by an inode and its sector of pointers at hand
 --     IsReadOf        what a read gives
-use Rattle.std.specs.Prelude.{◌≡◌, ◌≢◌, ℕ, ◌-◌, ◌*◌, ◌<◌, ◌≤◌, nat_lt, if◌then◌else◌, List, ◌++◌, length, drop, get_or, min}
+use Rattle.std.specs.Prelude.{◌≡◌, ◌≢◌, ℕ, ◌-◌, ◌<◌, ◌≤◌, List, ◌++◌, length, drop, min}
 use Rattle.fs_layout.specs.declared.inode.TheConstants.{DIRECT_BLOCKS}
 use Rattle.fs_layout.specs.declared.inode.Inode.{Inode}
-use Rattle.fs_layout.specs.Bytes.{SectorMap, window, zeros, u32_of}
+use Rattle.fs_layout.specs.Bytes.{SectorMap, window, zeros}
 use Rattle.fs_layout.specs.Images.{Owns, block_number}
 use Rattle.block_map.specs.declared.blocks.Blocks.{Blocks}
 

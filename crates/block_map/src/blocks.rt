@@ -3,8 +3,8 @@
 ghost use Rattle.std.specs.Prelude.{◌≡◌, ◌≢◌, ◌≤◌, ◌<◌, ◌+◌, ◌-◌, ◌*◌, ℕ, length, get_or, false, OnOk};
 ghost use Rattle.sector_disk.specs.Disk.{HasCause};
 ghost use Rattle.fs_layout.specs.declared.inode.TheConstants.{DIRECT_BLOCKS, INDIRECT_END, SECTOR_POINTERS};
-ghost use Rattle.fs_layout.specs.Bytes.{SectorMap, u32_of, splice, le32, zeros};
-ghost use Rattle.fs_layout.specs.Images.{byte_in, byte_at, pointer};
+ghost use Rattle.fs_layout.specs.Bytes.{splice, le32, zeros};
+ghost use Rattle.fs_layout.specs.Images.{byte_in, byte_at};
 ghost use Rattle.sector_txn.specs.Sectors.{IsUnchanged, IsPut};
 
 use byteorder::{ByteOrder, LittleEndian};

@@ -1,9 +1,9 @@
 -- What is read of a superblock is spelled so, and what is spelled so is read.
-use Rattle.std.proofs.Common.{◌≡◌, ℕ, zero, suc, ◌<◌, ◌^◌, List, ◌++◌, length, drop, refl, ap, subst, ◌∙◌, arith, true, cond, Result, Ok, Err, Option, Some, None, nat_eq, sym}
+use Rattle.std.proofs.Common.{◌≡◌, ℕ, zero, suc, ◌<◌, ◌^◌, List, ◌++◌, length, drop, refl, ap, subst, ◌∙◌, arith, true, Result, Ok, Option, Some, None, nat_eq}
 use Rattle.std.proofs.lemmas.Bool.{eqb-true}
 use Rattle.fs_layout.specs.declared.superblock.Super.{Super}
 use Rattle.fs_layout.specs.declared.fault.LayoutFault.{LayoutFault}
-use Rattle.fs_layout.specs.declared.fault.LayoutFault.TheVariants.{BadMagic, BadVersion, NotZero}
+use Rattle.fs_layout.specs.declared.fault.LayoutFault.TheVariants.{BadMagic, NotZero}
 use Rattle.fs_layout.specs.Bytes.{IsBytes, le32, zeros, u32_of, are_zero}
 use Rattle.fs_layout.specs.declared.version.Version.{Version}
 use Rattle.fs_layout.specs.declared.version.Version.TheVariants.{One}

@@ -9,7 +9,7 @@ use Rattle.posix_acl.specs.AccessList.{AccessList, inherited}
 use Rattle.fs_cred.specs.Credentials.{Credential}
 use Rattle.fs_model.specs.Nodes.{Node, Body, File, Dir, Link, Directory, directory_in}
 use Rattle.fs_model.specs.Trees.{Tree, node_at}
-use Rattle.fs_layout.specs.declared.inode.TheConstants.{S_ISGID, S_ISVTX}
+use Rattle.fs_layout.specs.declared.inode.TheConstants.{S_ISVTX}
 
 abbrev pub no_directory : Directory
 no_directory = record { names = []; default = None; set_group_id = false; sticky = false }

@@ -1,5 +1,4 @@
 use Rattle.std.proofs.Common.{◌≡◌, ◌+◌, ◌≤◌, ℕ, List, length, take, Err, None, sym, ap, subst, ◌∙◌, arith, rules, inl, inr}
-use Rattle.std.proofs.lemmas.Bool.{cases_lt}
 use Rattle.fs_layout.specs.declared.inode.TheConstants.{MAX_DIRECTORY_SIZE}
 use Rattle.fs_layout.specs.declared.slot.TheConstants.{SLOT_SIZE}
 use Rattle.fs_layout.specs.Bytes.{overwritten}
@@ -13,7 +12,7 @@ use Rattle.block_map.specs.Contents.{ChangesContent}
 use Rattle.block_map.specs.Steps.{taken_by, put_by}
 use Rattle.block_map.proofs.Wrote.{put_for_slot}
 use Rattle.dir_core.specs.Faults.{taken_for, WhyNotAdded}
-use Rattle.dir_core.proofs.Changing.{allows, slots_there, directory_limit, said_by_slots, passed_on, ok_is_no_fault, added, names_with, names_few, names_full}
+use Rattle.dir_core.proofs.Changing.{allows, slots_there, directory_limit, said_by_slots, passed_on, added, names_with, names_few, names_full}
 use Rattle.dir_core.proofs.Taking.{size_of_slots, taken_is}
 use Rattle.dir_core.proofs.change.insert_new.Goals as goal
 
