@@ -55,7 +55,7 @@ absent_performs {p} {pid} {call} {txn} {desks} r errno err and is = refused_perf
 abbrev pub refusing : (A : Type 0) → Refusal → Result A Refusal
 refusing A e = Err e
 
-same_err : {A : Type 0} (x y : Refusal) → refusing A x ≡ Err y → x ≡ y
+pub same_err : {A : Type 0} (x y : Refusal) → refusing A x ≡ Err y → x ≡ y
 same_err x y e = cc
 
 -- ---- a row

@@ -1,16 +1,18 @@
 -- The exits of a call by two paths.
 --     first_unfit, second_unfit        the checks of its paths
 --     walked_as, first_walk_refused, second_walk_refused, both_walked        its walks
---     IsByTwoPaths        what its row is made of
---     names_refused        the checks or the walks of its paths refuse
---     has_found_both        what its walks have found
+--     absent_both, unwalked_both, walks_refused        its process, the checks or the walks of its paths refuse
+--     both_found        what its walks have found
 --     both_refused        what it asks of that refuses
 --     both_performs        it is done
-use Rattle.std.specs.Prelude.{◌≡◌, ℕ, List, None, Some, IsTrue, Result, Ok, Err, IsErr, IsErrAnd}
+use Rattle.std.specs.Prelude.{◌≡◌, ℕ, List, None, Some, Result, Ok, Err, IsErr, IsErrAnd}
 use Rattle.std.proofs.Common.{refl, sym, ap, subst, ◌∙◌, inl, inr}
 use Rattle.std.specs.Ordering.{nat_cmp}
 use Rattle.sector_disk.specs.Disk.{DiskState}
+use Rattle.fs_cred.specs.declared.errno.Errno.{Errno}
+use Rattle.fs_cred.specs.declared.errno.Errno.TheVariants.{ESRCH}
 use Rattle.fs_cred.specs.declared.refusal.Refusal.{Refusal}
+use Rattle.fs_cred.specs.declared.refusal.Refusal.TheVariants.{Failed}
 use Rattle.fs_cred.specs.Credentials.{Credential}
 use Rattle.fs_layout.specs.declared.place.Place.{Place}
 use Rattle.fs_layout.specs.Maps.{get}
@@ -24,23 +26,22 @@ use Rattle.fs_model.specs.declared.walk.Found.{Found}
 use Rattle.fs_model.specs.Demands.{Demand, or_else, first_of}
 use Rattle.fs_model.specs.Parts.{path_checks}
 use Rattle.fs_model.specs.Processes.{Process, Desks}
-use Rattle.fs_model.specs.Rows.{row_of}
-use Rattle.fs_model.specs.Scenes.{Scene, Effect, Row, by_two_paths}
+use Rattle.fs_model.specs.Scenes.{Scene, Effect, Row}
 use Rattle.fs_model.specs.States.{State}
-use Rattle.fs_model.specs.Steps.{after, after_call, after_effect, asks_in_call, early_refusal, late_refusal, firm_refusal, other_refusal, found_by}
+use Rattle.fs_model.specs.Steps.{after, after_call, after_effect, early_refusal, late_refusal, firm_refusal, other_refusal, found_by}
 use Rattle.fs_model.specs.Trees.{Tree}
 use Rattle.fs_model.proofs.StepsDemands.{first_met, then_met}
 use Rattle.fs_model.proofs.Unchanged.{same_process_stays}
 use Rattle.path_walk.specs.Answers.{refused_or, IsAnswered}
-use Rattle.path_walk.specs.HeldTrees.{HoldsTree, IsThere}
+use Rattle.path_walk.specs.HeldTrees.{IsThere}
 use Rattle.call_parts.specs.Performing.{IsStateOf, IsRefused, Performs, chosen}
 use Rattle.call_parts.specs.Performing as why
 use Rattle.path_walk.specs.Walked.{walk_of}
 use Rattle.call_parts.proofs.ByPath.{refusing, refused_performs}
-use Rattle.call_parts.proofs.Calling.{early_is, late_is, after_is, state_tree, state_kept, same_process, cwd_there, first_of-append, met_ok, refused_err, answered_later, answered_refused, interrupted_refused}
+use Rattle.call_parts.proofs.Calling.{absent_refused, early_is, late_is, after_is, state_kept, same_process, first_of-append, met_ok, refused_err, answered_later, answered_refused, interrupted_refused}
 use Rattle.path_walk.proofs.Kept.{is_err}
 use Rattle.call_parts.proofs.Changed.{IsChange}
-use Rattle.call_parts.proofs.Checked.{checked}
+use Rattle.call_parts.specs.Reaching.{checked, WalksBoth, RefusesBoth, HasWalkedBoth}
 use Rattle.call_parts.specs.TwoPaths.{both_checks, walk_refusal, walks_of, scene_with, HasFoundBoth}
 
 -- ---- both paths, one after the other
@@ -110,17 +111,13 @@ module _ (t : Tree) (cred : Credential) (cwd : ℕ) (old new : List ℕ) (before
         ap (λ (d : Demand). refused_or {A = Found × Found} d (Ok finds)) (met ∙ b.0)
         ∙ ap (λ (x : Found). Ok (x, finds.1)) a.1 ∙ ap (λ (x : Found). Ok (f, x)) b.1
 
--- ---- a row
-
-pub record IsByTwoPaths (call : Call) (old_path new_path : List ℕ) (demands : Scene → List Demand) (effect : Scene → Effect) : Type 0 where
-  pub row : row_of call ≡ by_two_paths old_path new_path demands effect
-  pub asks : IsTrue (asks_in_call call)
-
-same_err : (x y : Refusal) → refusing (Found × Found) x ≡ Err y → x ≡ y
+pub same_err : (x y : Refusal) → refusing (Found × Found) x ≡ Err y → x ≡ y
 same_err x y e = cc
 
+-- ---- a row
+
 module _ (s : State) (pid : ℕ) (q : Process) {call : Call} {old_path new_path : List ℕ} {demands : Scene → List Demand} {effect : Scene → Effect}
-    (is : IsByTwoPaths call old_path new_path demands effect) (there : get nat_cmp s.desks pid ≡ Some q) where
+    (is : WalksBoth call old_path new_path demands effect) (there : get nat_cmp s.desks pid ≡ Some q) where
   abbrev first : Found
   first = found_by s.tree q.cwd (Parent, old_path)
 
@@ -143,7 +140,7 @@ module _ (s : State) (pid : ℕ) (q : Process) {call : Call} {old_path new_path 
       ∙ joined (walk_refusal s.tree q.cred 1 q.cwd old_path) (walk_refusal s.tree q.cred 2 q.cwd new_path) (first_of (demands (scene_with s q first second)))
 
   -- the checks or the walks refuse, or memory or a read fails
-  walks_refuse : (old new : DiskState) (r : Refusal) → ((x : Refusal) → first_of (both_checks old_path new_path) ≡ Some x → r ≡ x)
+  pub walks_refuse : (old new : DiskState) (r : Refusal) → ((x : Refusal) → first_of (both_checks old_path new_path) ≡ Some x → r ≡ x)
       → (first_of (both_checks old_path new_path) ≡ None → IsAnswered old new (walks_of s.tree q.cred q.cwd old_path new_path) (Err r))
       → IsRefused old new s pid call r
   walks_refuse old new r fit each = go (first_of (both_checks old_path new_path)) refl
@@ -178,47 +175,70 @@ module _ (s : State) (pid : ℕ) (q : Process) {call : Call} {old_path new_path 
         ∙ ap (λ (x : Row). after_call s pid x number (Some q)) is.row
         ∙ ap (λ (x : Scene). after_effect s pid (effect x)) found_scene
 
-module _ {p : Place} (pid : ℕ) {call : Call} {old_path new_path : List ℕ} {demands : Scene → List Demand} {effect : Scene → Effect}
-    (is : IsByTwoPaths call old_path new_path demands effect) {old mid : TxnState} {desks : Desks} (q : Process) (there : get nat_cmp desks pid ≡ Some q)
-    (same : IsUnchanged old mid) where
-  pub names_refused : (r : Result Reply Refusal) (e : Refusal) → IsErr r → IsErrAnd r (λ y. y ≡ e)
-      → ((x : Refusal) → first_of (both_checks old_path new_path) ≡ Some x → refusing (Found × Found) e ≡ Err x)
-      → (first_of (both_checks old_path new_path) ≡ None → (t : Tree) → HoldsTree p old.sectors t → IsThere t q.cwd
-      → IsAnswered old.disk mid.disk (walks_of t q.cred q.cwd old_path new_path) (Err e))
-      → Performs p pid call old mid desks desks r
-  names_refused r e err and fit each = refused_performs r e err and same.store
-      (λ s at. walks_refuse s pid q is (same_process at pid q there) old.disk mid.disk e
-      (λ x h. same_err e x (fit x h)) (λ none. each none s.tree (state_tree at) (cwd_there at pid q there)))
+-- ---- each call that walks both so is refused
 
-  module _ (f g : Found) (fit : first_of (both_checks old_path new_path) ≡ None)
-      (each : first_of (both_checks old_path new_path) ≡ None → (t : Tree) → HoldsTree p old.sectors t → IsThere t q.cwd
-      → IsAnswered old.disk mid.disk (walks_of t q.cred q.cwd old_path new_path) (Ok (f, g))) where
-    pub has_found_both : (s : State) → IsStateOf p old.sectors desks s → HasFoundBoth s pid q old_path new_path f g
-    has_found_both s at =
-        let here = same_process at pid q there in
-        let both = met_ok {A = Found × Found} (walks s pid q is here) (first s pid q is here, second s pid q is here) (f, g)
-        (each fit s.tree (state_tree at) (cwd_there at pid q there)) in
-        record {
-          there = here;
-          checked = fit;
-          first_unrefused = first_met (walk_refusal s.tree q.cred 1 q.cwd old_path) (walk_refusal s.tree q.cred 2 q.cwd new_path) both.0;
-          second_unrefused = then_met (walk_refusal s.tree q.cred 1 q.cwd old_path) (walk_refusal s.tree q.cred 2 q.cwd new_path) both.0;
-          first_is = sym (ap (λ (x : Found × Found). x.0) both.1);
-          second_is = sym (ap (λ (x : Found × Found). x.1) both.1);
-        }
+-- there is no such process
+pub absent_both : (old new : DiskState) (s : State) (pid : ℕ) (old_path new_path : List ℕ) (errno : Errno) → errno ≡ ESRCH → get nat_cmp s.desks pid ≡ None
+    → RefusesBoth old new s pid old_path new_path (Failed errno)
+absent_both old new s pid old_path new_path errno is none = record {
+  each = λ call demands effect w. subst (λ (x : Errno). IsRefused old new s pid call (Failed x)) (sym is) (absent_refused old new s pid call none);
+}
 
+-- the checks or the walks of its paths refuse
+pub unwalked_both : (old new : DiskState) (s : State) (pid : ℕ) (q : Process) → get nat_cmp s.desks pid ≡ Some q → (old_path new_path : List ℕ) (e : Refusal)
+    → ((x : Refusal) → first_of (both_checks old_path new_path) ≡ Some x → e ≡ x)
+    → (first_of (both_checks old_path new_path) ≡ None → IsAnswered old new (walks_of s.tree q.cred q.cwd old_path new_path) (Err e))
+    → RefusesBoth old new s pid old_path new_path e
+unwalked_both old new s pid q there old_path new_path e fit each = record {
+  each = λ call demands effect is. walks_refuse s pid q is there old new e fit each;
+}
+
+-- what the walks have found
+pub both_found : (old new : DiskState) (s : State) (pid : ℕ) (q : Process) → get nat_cmp s.desks pid ≡ Some q → (old_path new_path : List ℕ) (f g : Found)
+    → first_of (both_checks old_path new_path) ≡ None
+    → IsAnswered old new (walks_of s.tree q.cred q.cwd old_path new_path) (Ok (f, g)) → HasFoundBoth s pid q old_path new_path f g
+both_found old new s pid q there old_path new_path f g fit is =
+    let one = walk_refusal s.tree q.cred 1 q.cwd old_path in
+    let two = walk_refusal s.tree q.cred 2 q.cwd new_path in
+    let both = met_ok {A = Found × Found} (or_else one two) (found_by s.tree q.cwd (Parent, old_path), found_by s.tree q.cwd (Parent, new_path)) (f, g) is in
+    record {
+      there = there;
+      checked = fit;
+      first_unrefused = first_met one two both.0;
+      second_unrefused = then_met one two both.0;
+      first_is = sym (ap (λ (x : Found × Found). x.0) both.1);
+      second_is = sym (ap (λ (x : Found × Found). x.1) both.1);
+    }
+
+-- ---- a call that walks both so
+
+module _ {pid : ℕ} {call : Call} {old_path new_path : List ℕ} {demands : Scene → List Demand} {effect : Scene → Effect}
+    (is : WalksBoth call old_path new_path demands effect) {p : Place} where
+  -- its refusal is passed on
+  pub walks_refused : {old new : TxnState} {desks : Desks} (r : Result Reply Refusal) (e : Refusal) → IsErr r → IsErrAnd r (λ y. y ≡ e) → IsUnchanged old new
+      → ((s : State) → IsStateOf p old.sectors desks s → RefusesBoth old.disk new.disk s pid old_path new_path e) → Performs p pid call old new desks desks r
+  walks_refused r e err and same refuses = refused_performs r e err and same.store (λ s at. (refuses s at).each call demands effect is)
+
+  module _ {old mid : TxnState} (same : IsUnchanged old mid) {desks : Desks} {q : Process} {f g : Found} (w : HasWalkedBoth p mid desks pid old_path new_path q f g) where
+    module _ (s : State) (at : IsStateOf p old.sectors desks s) where
+      has : HasFoundBoth s pid q old_path new_path f g
+      has = w.found s (state_kept same at)
+
+      here : get nat_cmp s.desks pid ≡ Some q
+      here = same_process at pid q w.there
+
+    -- what it asks of what was found refuses
     pub both_refused : (new : TxnState) (r : Result Reply Refusal) (e : Refusal) → IsErr r → IsErrAnd r (λ y. y ≡ e) → SameStore mid new
         → {A : Type 0} (x : A) → ((s : State) → HasFoundBoth s pid q old_path new_path f g → IsStateOf p mid.sectors desks s
         → IsAnswered mid.disk new.disk (refused_or (first_of (demands (scene_with s q f g))) (Ok x)) (Err e))
         → Performs p pid call old new desks desks r
     both_refused new r e err and store {A} x refused = refused_performs r e err and (store_joined same.store store)
         (λ s at.
-        let found = has_found_both s at in
-        let here = same_process at pid q there in
-        answered_refused old.disk new.disk s pid call (both_found_firm s pid q is here found) is.asks e
-        (first_of (demands (scene_with s q f g))) x (both_found_late s pid q is here found)
-        (answered_later new.disk same (refused s found (state_kept same at))))
+        answered_refused old.disk new.disk s pid call (both_found_firm s pid q is (here s at) (has s at)) is.asks e
+        (first_of (demands (scene_with s q f g))) x (both_found_late s pid q is (here s at) (has s at))
+        (answered_later new.disk same (refused s (has s at) (state_kept same at))))
 
+    -- it has changed the tree
     pub both_performs : (new : TxnState) → SameStore mid new → new.sectors 0 ≡ mid.sectors 0 → (reply : Reply)
         → ((s : State) → HasFoundBoth s pid q old_path new_path f g → IsStateOf p mid.sectors desks s
         → IsChange p new.sectors desks s q (demands (scene_with s q f g)) (λ n. effect (scene_with s q f g)) reply)
@@ -228,18 +248,17 @@ module _ {p : Place} (pid : ℕ) {call : Call} {old_path new_path : List ℕ} {d
       super = super ∙ same.sectors 0;
       table = tt;
       each = λ s at.
-          let found = has_found_both s at in
-          let here = same_process at pid q there in
+          let found = has s at in
           let c = changes s found (state_kept same at) in
           record {
-            early = both_found_firm s pid q is here found;
-            late = both_found_late s pid q is here found ∙ c.met;
+            early = both_found_firm s pid q is (here s at) found;
+            late = both_found_late s pid q is (here s at) found ∙ c.met;
             number = c.number;
             change = c.change;
-            effect = both_found_after s pid q is here found c.number
+            effect = both_found_after s pid q is (here s at) found c.number
                 ∙ ap (after_effect s pid) c.is
                 ∙ ap (λ (d : Desks). record { change = c.change; desks = d; reply = reply })
-                (same_process_stays s.desks pid q at.is_state.pids here ∙ at.same_desks);
+                (same_process_stays s.desks pid q at.is_state.pids (here s at) ∙ at.same_desks);
             new_number = c.new_number;
             holds = c.holds;
           };

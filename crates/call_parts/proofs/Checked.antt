@@ -1,5 +1,4 @@
 -- What a check of some demands answers.
---     Checked, checked        the answer
 --     checked_first, checked_second, checked_third, checked_all        some demands, then others, then one more
 --     link_says        the kind of an inode says whether it is a link
 --     refused_as        a refusal, whatever would be answered else
@@ -14,18 +13,12 @@ use Rattle.fs_model.specs.Demands.{Demand, or_else, first_of}
 use Rattle.fs_model.specs.Nodes.{Body, File, Dir, Link, is_link}
 use Rattle.fs_model.specs.StoredNodes.{HoldsBody}
 use Rattle.fs_model.specs.Summaries.{is_link_kind}
+use Rattle.call_parts.specs.Reaching.{Checked, checked}
 use Rattle.path_walk.specs.Answers.{refused_or, IsAnswered}
 use Rattle.call_parts.proofs.Calling.{first_of-append, refused_err, met_ok, or_else-none}
 use Rattle.path_walk.proofs.Kept.{is_err}
 
 -- ---- some demands, then others, then one more
-
--- what a check of some demands answers
-abbrev pub Checked : Type 0
-Checked = Result (Unit {0}) Refusal
-
-abbrev pub checked : Demand → Checked
-checked d = refused_or {A = Unit {0}} d (Ok tt)
 
 module _ (a b : List Demand) (d : Demand) where
   three : first_of ((a ++ b) ++ (d ∷ [])) ≡ or_else (or_else (first_of a) (first_of b)) d

@@ -36,7 +36,7 @@ use Rattle.call_parts.proofs.Calling.{state_tree, found_ino, found_there, met_ok
 use Rattle.path_walk.proofs.HeldNodes.{stands, held_access, held_kind, held_node}
 use Rattle.path_walk.proofs.Kept.{kept}
 use Rattle.call_parts.specs.Given.{HasBody}
-use Rattle.call_parts.proofs.Shown.{IsInode}
+use Rattle.call_parts.specs.Reaching.{IsInode}
 
 -- what stands at a number, as access to it is decided
 pub record IsAccessed (t : Tree) (n : ℕ) : Type 0 where

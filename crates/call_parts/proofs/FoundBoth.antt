@@ -1,5 +1,5 @@
 -- What the walks of two paths have found.
---     finds_both        it was found in a state
+--     finds_both, finds_each        it was found in a state
 --     first_there, second_there        it is there
 --     first_at, second_at, second_new        names in directories
 --     is_scene        the scene fits the state
@@ -26,12 +26,19 @@ use Rattle.path_walk.specs.HeldTrees.{IsThere}
 use Rattle.call_parts.specs.Performing.{IsStateOf}
 use Rattle.call_parts.proofs.Calling.{first_of-append, found_ino}
 use Rattle.path_walk.proofs.HeldNodes.{is_there}
+use Rattle.sector_txn.specs.Sectors.{TxnState}
+use Rattle.call_parts.specs.Reaching.{HasWalkedBoth}
 use Rattle.call_parts.specs.TwoPaths.{walk_refusal, scene_with, HasFoundBoth, FindsBoth}
 
 pub finds_both : {p : Place} {map : SectorMap} {desks : Desks} {s : State} {pid : ℕ} {q : Process} {old new : List ℕ} {f g : Found} → IsBytes old → IsBytes new
     → IsStateOf p map desks s → HasFoundBoth s pid q old new f g → FindsBoth p map desks q f g s
 finds_both {p} {map} {desks} {s} {pid} {q} {old} {new} {f} {g} old_bytes new_bytes at has =
     record { pid = pid; old = old; new = new; old_bytes = old_bytes; new_bytes = new_bytes; is_state = at; found = has }
+
+-- in each state
+pub finds_each : {p : Place} {txn : TxnState} {desks : Desks} {pid : ℕ} {old new : List ℕ} {q : Process} {f g : Found} → HasWalkedBoth p txn desks pid old new q f g
+    → (s : State) → IsStateOf p txn.sectors desks s → FindsBoth p txn.sectors desks q f g s
+finds_each w s at = finds_both w.old_bytes w.new_bytes at (w.found s at)
 
 -- ---- one of both
 

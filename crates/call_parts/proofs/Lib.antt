@@ -16,3 +16,5 @@ pub mod FoundBoth
 pub mod Checked
 pub mod NameAsked
 pub mod Removed
+pub mod Reachings
+pub mod Performed

@@ -31,7 +31,7 @@ use Rattle.call_parts.proofs.Calling.{met_ok, or_else-none, first_asked, next_as
 use Rattle.path_walk.proofs.HeldNodes.{held_node, held_access}
 use Rattle.path_walk.proofs.Kept.{kept, kept_back}
 use Rattle.call_parts.specs.Makings.{make_asked}
-use Rattle.call_parts.proofs.Checked.{Checked, checked}
+use Rattle.call_parts.specs.Reaching.{Checked, checked}
 use Rattle.call_parts.proofs.Followed.{IsAccessed, accessed_is, accessible}
 use Rattle.call_parts.proofs.Shown.{the_node_is, size_says}
 

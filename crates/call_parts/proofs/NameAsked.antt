@@ -24,9 +24,10 @@ use Rattle.path_walk.specs.Answers.{refused_or, IsAnswered}
 use Rattle.path_walk.specs.HeldTrees.{HoldsTree}
 use Rattle.call_parts.proofs.Calling.{met_ok, or_else-none, first_asked, next_asked, both_met}
 use Rattle.call_parts.proofs.Followed.{accessed_is}
-use Rattle.call_parts.proofs.Checked.{checked, refused_as}
+use Rattle.call_parts.proofs.Checked.{refused_as}
 use Rattle.call_parts.proofs.MakeAsked.{dir_access, names_are, size_as}
 use Rattle.call_parts.specs.Makings.{room_asked}
+use Rattle.call_parts.specs.Reaching.{checked}
 
 -- ---- write and search on a directory
 

@@ -34,7 +34,8 @@ use Rattle.path_walk.proofs.HeldNodes.{stands, held_node}
 use Rattle.call_parts.specs.Asked.{own_asked, owner_asked}
 use Rattle.call_parts.specs.Given.{GivesOwner}
 use Rattle.call_parts.proofs.Changed.{IsChange, rewrites_found}
-use Rattle.call_parts.proofs.Shown.{IsInode, is_inode, number_of, the_node_is}
+use Rattle.call_parts.proofs.Shown.{is_inode, number_of, the_node_is}
+use Rattle.call_parts.specs.Reaching.{IsInode}
 
 -- ---- demands, some and then others
 

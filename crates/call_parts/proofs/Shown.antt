@@ -26,6 +26,7 @@ use Rattle.fs_model.specs.Nodes.{Node, Body, File, Dir, Link, is_directory, show
 use Rattle.fs_model.specs.StoredNodes.{HoldsBody, HoldsNode, names_field}
 use Rattle.fs_model.specs.Trees.{Tree, node_at, names_of, parent}
 use Rattle.path_walk.specs.Answers.{refused_or, IsAnswered}
+use Rattle.call_parts.specs.Reaching.{IsInode}
 use Rattle.path_walk.specs.HeldTrees.{HoldsTree, IsThere}
 use Rattle.call_parts.specs.Paths.{scene_at}
 use Rattle.call_parts.proofs.Calling.{or_else-none, met_ok}
@@ -120,13 +121,6 @@ number_of f some = go f.ino some
 there_unless : (b : Bool) → refuse ENOENT (not b) ≡ None → b ≡ true
 there_unless true e = refl
 there_unless false e = absurd (cc)
-
--- the number and the inode of what was found
-pub record IsInode (p : Place) (image : SectorMap) (f : Found) (n : ℕ) (v : Inode) : Type 0 where
-  pub some : f.ino ≡ Some n
-  pub number : number f ≡ n
-  pub inode : v ≡ inode_at p image n
-  pub met : must_be_there f ≡ None
 
 pub is_inode : (p : Place) (image : SectorMap) (f : Found) (n : ℕ) (v : Inode) → refused_or {A = ℕ × Inode} (must_be_there f) (Ok (number f, inode_at p image (number f))) ≡ Ok (n, v)
     → IsInode p image f n v

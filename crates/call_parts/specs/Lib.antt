@@ -7,3 +7,4 @@ pub mod Dropping
 pub mod Makings
 pub mod NewNodes
 pub mod TwoPaths
+pub mod Reaching

@@ -4,7 +4,8 @@
 --     IsDone        nothing refuses the call, and the map holds the tree after it
 --     IsRefused        why the call is refused
 --     Performs        the whole
-use Rattle.std.specs.Prelude.{◌≡◌, ℕ, None, Some, IsTrue, IsFalse, Result, MatchResult, OnOk, OnErr}
+--     is_on_names        whether a call is on names, or else on files, descriptors and processes
+use Rattle.std.specs.Prelude.{◌≡◌, ℕ, Bool, true, false, None, Some, IsTrue, IsFalse, Result, MatchResult, OnOk, OnErr}
 use Rattle.sector_disk.specs.Disk.{DiskState, HasFailed}
 use Rattle.fs_cred.specs.declared.errno.Errno.TheVariants.{ENOMEM, EIO}
 use Rattle.fs_cred.specs.declared.refusal.Refusal.{Refusal}
@@ -14,6 +15,7 @@ use Rattle.fs_layout.specs.Bytes.{SectorMap}
 use Rattle.fs_layout.specs.Images.{free_sectors}
 use Rattle.sector_txn.specs.Sectors.{TxnState, SameStore}
 use Rattle.fs_model.specs.declared.call.Call.{Call}
+use Rattle.fs_model.specs.declared.call.Call.TheVariants.{Mkdir, Rmdir, Link, Symlink, Readlink, Unlink, Rename, Chdir}
 use Rattle.fs_model.specs.declared.reply.Reply.{Reply}
 use Rattle.fs_model.specs.declared.event.Event.TheVariants.{Call as Calls}
 use Rattle.fs_model.specs.Processes.{Desks}
@@ -69,3 +71,15 @@ pub record Performs (p : Place) (pid : ℕ) (call : Call) (old new : TxnState) (
   pub table : OnErr result (now ≡ before)
   pub each : (s : State) → IsStateOf p old.sectors before s
       → MatchResult result (λ reply. IsDone p new.sectors now s pid call reply) (λ r. IsRefused old.disk new.disk s pid call r)
+
+-- whether the call is on directories and what they name
+abbrev pub is_on_names : Call → Bool
+is_on_names (Mkdir path mode) = true
+is_on_names (Rmdir path) = true
+is_on_names (Link old new) = true
+is_on_names (Symlink target path) = true
+is_on_names (Readlink path) = true
+is_on_names (Unlink path) = true
+is_on_names (Rename old new) = true
+is_on_names (Chdir path) = true
+is_on_names _ = false

@@ -8,13 +8,11 @@ ghost use Rattle.bit_alloc.specs.Inodes.{IsSound};
 ghost use Rattle.bit_alloc.specs.Room.{HasSpare, TakesSpare};
 ghost use Rattle.bit_alloc.specs.Bitmaps.{HasBitmaps};
 ghost use Rattle.fs_model.specs.Demands.{first_of, permission_on, write_and_search};
-ghost use Rattle.fs_model.specs.Parts.{path_checks};
 ghost use Rattle.fs_model.specs.Scenes.{is_found, is_special};
 ghost use Rattle.fs_model.specs.Trees.{Tree, IsDirectoryAt};
 ghost use Rattle.path_walk.specs.Answers.{refused_or, FailsToRead, IsAnswered};
 ghost use Rattle.path_walk.specs.HeldTrees.{HoldsTree, IsThere};
 ghost use Rattle.path_walk.specs.SoundInodes.{HasSoundInodes};
-ghost use Rattle.path_walk.specs.Walked.{walk_of};
 ghost use Rattle.call_parts.specs.Makings.{room_asked};
 ghost use Rattle.call_parts.specs.NewNodes.{MayBeNamed, NamesInode};
 ghost use Rattle.call_parts.specs.TwoPaths.{both_checks, walks_of};
@@ -23,7 +21,6 @@ ghost use Rattle.fs_layout.specs.Maps.{name_cmp, get};
 ghost use Rattle.call_parts.specs.Dropping.{RemovesName};
 
 use crate::checks::{WRITE_AND_SEARCH, permitted};
-use crate::found::find;
 use crate::making::check_names;
 use crate::space::ask_for_sectors;
 use dir_core::{insert_new, remove};
@@ -35,31 +32,7 @@ use path_walk::{check_path, load_inode, walk};
 use sector_txn::Sectors;
 use std::alloc::Global;
 
-/// What a path leads to, a link at its end among that, and the directory that names it.
-pub fn find_name<S: Sectors>(
-    alloc: Global,
-    s: &mut S,
-    place: Place,
-    process: &Process,
-    path: &Path,
-) -> Result<Found, Refusal>
-    requires sound { IsSound place (S.state s.old) }
-    requires inodes { HasSoundInodes place (S.state s.old).sectors }
-    requires start { process.now.cwd < place.inodes }
-    ensures checked { (refusal : Refusal) → first_of (path_checks path.now) ≡ Some refusal → result ≡ Err refusal }
-    ensures each { first_of (path_checks path.now) ≡ None
-        → (t : Tree) → HoldsTree place (S.state s.old).sectors t → IsThere t process.now.cwd
-        → IsAnswered (S.state s.old).disk (S.state s.new).disk
-        (walk_of t process.now.cred 1 Form.Parent process.now.cwd path.now) result }
-    ensures valid { IfOk result (λ found. first_of (path_checks path.now) ≡ None) }
-    ensures bytes { IsBytes path.now }
-    ensures same { IsUnchanged (S.state s.old) (S.state s.new) }
-{
-    let _bytes = path.bytes();
-    find(alloc, s, place, process, path, Form::Parent)
-}
-
-/// What both paths of a call lead to, each as [`find_name`] finds it. Both are checked before the first is walked.
+/// What both paths of a call lead to, each as a walk finds it. Both are checked before the first is walked.
 pub fn find_names<S: Sectors>(
     alloc: Global,
     s: &mut S,

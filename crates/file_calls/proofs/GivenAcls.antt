@@ -40,7 +40,7 @@ use Rattle.call_parts.specs.Given.{ChangesOne, SavesAcl, SavesDefaultAcl}
 use Rattle.call_parts.proofs.Changed.{IsChange, rewrites_found}
 use Rattle.call_parts.proofs.Followed.{directory_is, followed_access, node_is, plain}
 use Rattle.call_parts.proofs.Ownership.{own_met, others_asked, all_met}
-use Rattle.call_parts.proofs.Shown.{IsInode}
+use Rattle.call_parts.specs.Reaching.{IsInode}
 
 -- ---- what the inode holds then
 

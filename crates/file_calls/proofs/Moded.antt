@@ -48,7 +48,8 @@ use Rattle.call_parts.specs.Given.{SavesAcl, special_mode}
 use Rattle.call_parts.proofs.Changed.{IsChange, rewrites_found}
 use Rattle.call_parts.proofs.Followed.{accessed_is, followed_access}
 use Rattle.call_parts.proofs.Ownership.{own_met}
-use Rattle.call_parts.proofs.Shown.{IsInode, body_kind, the_node_is}
+use Rattle.call_parts.proofs.Shown.{body_kind, the_node_is}
+use Rattle.call_parts.specs.Reaching.{IsInode}
 
 -- ---- an access ACL is saved
 

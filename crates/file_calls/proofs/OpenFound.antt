@@ -48,7 +48,8 @@ use Rattle.call_parts.proofs.Followed.{IsAccessed, accessed_is, accessible}
 use Rattle.call_parts.proofs.Ownership.{some_asked, others_asked, all_met}
 use Rattle.file_calls.proofs.Rewritten.{bytes_rewritten}
 use Rattle.call_parts.proofs.Shown.{the_node_is}
-use Rattle.call_parts.proofs.Checked.{Checked, checked, link_says, refused_as}
+use Rattle.call_parts.proofs.Checked.{link_says, refused_as}
+use Rattle.call_parts.specs.Reaching.{Checked, checked}
 
 -- ---- what is there
 

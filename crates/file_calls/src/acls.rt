@@ -21,11 +21,11 @@ ghost use Rattle.call_parts.specs.Performing.{IsReady, Performs};
 ghost use Rattle.call_parts.specs.Asked.{holder_asked, acl_space_asked};
 ghost use Rattle.call_parts.specs.Given.{SavesAcl, SavesDefaultAcl, HasBody};
 
-use call_parts::{ask_for_sectors, find, inode_found, owned};
+use call_parts::{ask_for_sectors, default_of, reach, reach_owned};
 use fs_cred::{Errno, Refusal};
 use fs_layout::{Inode, Kind, Place};
 use fs_model::{AclType, Form, Path, Reply};
-use inode_table::{LoadAclFault, load_acl, load_default_acl, save_acl, save_default_acl};
+use inode_table::{LoadAclFault, load_acl, save_acl, save_default_acl};
 use open_files::Procs;
 use posix_acl::Acl;
 use sector_txn::Sectors;
@@ -96,11 +96,8 @@ fn shown_default<S: Sectors>(
     if inode.kind != Kind::Directory {
         return Ok(None);
     }
-    match load_default_acl(alloc, s, place, inode) {
-        Ok(acl) => Ok(acl),
-        Err(LoadAclFault::OutOfMemory) => Err(Refusal::Failed(Errno::ENOMEM)),
-        Err(LoadAclFault::DiskFault) => Err(Refusal::Failed(Errno::EIO)),
-    }
+    let default = default_of(alloc, s, place, inode)?;
+    Ok(default)
 }
 
 // An ACL of an inode of the table, a file or a directory. What is no directory has no default ACL.
@@ -143,10 +140,8 @@ pub fn get_acl<S: Sectors>(
     ensures performs { Performs place pid (GetAcl path.now which) (S.state s.old) (S.state s.new) procs.now procs.now result }
     ensures same { IsUnchanged (S.state s.old) (S.state s.new) }
 {
-    let process = procs.process(pid)?;
-    let found = find(alloc, s, place, process, path, Form::Follow)?;
-    let (_, inode) = inode_found(s, place, &found)?;
-    let acl = shown_acl(alloc, s, place, &inode, which)?;
+    let reached = reach(alloc, s, place, procs, pid, Ok(()), path, Form::Follow)?;
+    let acl = shown_acl(alloc, s, place, &reached.inode, which)?;
     Ok(Reply::Acl(acl))
 }
 
@@ -271,13 +266,11 @@ pub fn set_acl<S: Sectors>(
     ensures { Performs place pid (SetAcl path.now which (option_copied acl.entry)) (S.state s.old) (S.state s.new)
         procs.now procs.now result }
 {
-    let process = procs.process(pid)?;
-    check_acl(which, acl)?;
-    let found = find(alloc, s, place, process, path, Form::Follow)?;
-    let cred = process.cred();
-    let (n, inode) = owned(s, place, cred, &found)?;
+    let checks = check_acl(which, acl);
+    let reached = reach_owned(alloc, s, place, procs, pid, checks, path, Form::Follow)?;
+    let inode = reached.inode;
     check_holder(which, inode.kind)?;
     ask_for_space(s, place, which, acl)?;
-    replace_acl(s, place, n, &inode, which, acl)?;
+    replace_acl(s, place, reached.number, &inode, which, acl)?;
     Ok(Reply::Done)
 }

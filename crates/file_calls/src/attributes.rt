@@ -15,7 +15,7 @@ ghost use Rattle.call_parts.specs.Asked.{owner_asked};
 ghost use Rattle.call_parts.specs.Given.{GivesOwner, SavesAcl, special_mode};
 
 use crate::acls::{acl_of, give_acl};
-use call_parts::{allowed_by, check_mode, find, inode_found, owned};
+use call_parts::{allowed_by, check_mode, reach, reach_owned};
 use fs_cred::{
     Cred, Errno, Need, Refusal, keeps_set_group_id, may_chgrp, may_chown, owns_or_may_chown,
 };
@@ -125,12 +125,11 @@ pub fn chmod<S: Sectors>(
     requires ready { IsReady place (S.state s.old) procs.now }
     ensures { Performs place pid (Chmod path.now mode) (S.state s.old) (S.state s.new) procs.now procs.now result }
 {
-    let process = procs.process(pid)?;
-    check_mode(mode)?;
-    let found = find(alloc, s, place, process, path, Form::Follow)?;
-    let cred = process.cred();
-    let (n, inode) = owned(s, place, cred, &found)?;
-    give_mode(alloc, s, place, cred, n, &inode, mode)?;
+    let checks = check_mode(mode);
+    let reached = reach_owned(alloc, s, place, procs, pid, checks, path, Form::Follow)?;
+    let cred = reached.process.cred();
+    let n = reached.number;
+    give_mode(alloc, s, place, cred, n, &reached.inode, mode)?;
     Ok(Reply::Done)
 }
 
@@ -151,13 +150,12 @@ pub fn chown<S: Sectors>(
     requires ready { IsReady place (S.state s.old) procs.now }
     ensures { Performs place pid (Chown path.now owner group) (S.state s.old) (S.state s.new) procs.now procs.now result }
 {
-    let process = procs.process(pid)?;
-    let found = find(alloc, s, place, process, path, Form::Follow)?;
-    let cred = process.cred();
-    let (n, inode) = inode_found(s, place, &found)?;
+    let reached = reach(alloc, s, place, procs, pid, Ok(()), path, Form::Follow)?;
+    let cred = reached.process.cred();
+    let inode = reached.inode;
     let uid = owner.unwrap_or(inode.uid);
     let gid = group.unwrap_or(inode.gid);
-    check_owner(cred, &inode, uid, gid, found.step)?;
-    give_owner(s, place, n, &inode, uid, gid)?;
+    check_owner(cred, &inode, uid, gid, reached.found.step)?;
+    give_owner(s, place, reached.number, &inode, uid, gid)?;
     Ok(Reply::Done)
 }

@@ -1,9 +1,8 @@
 //! open: POSIX.1-2017, open(), with the flags of open(2).
 
-ghost use Rattle.std.specs.Prelude.{◌≡◌, ◌<◌, ◌&&◌, ℕ, List, false, None, Some, Ok, OnOk, IfErr, MatchResult};
+ghost use Rattle.std.specs.Prelude.{◌≡◌, ◌<◌, ◌&&◌, ℕ, false, None, Some, Ok, OnOk, MatchResult};
 ghost use Rattle.fs_layout.specs.Images.{inode_at};
-ghost use Rattle.fs_layout.specs.Bytes.{IsBytes, resized};
-ghost use Rattle.fs_layout.specs.declared.inode.Kind.TheVariants.{File};
+ghost use Rattle.fs_layout.specs.Bytes.{IsBytes};
 ghost use Rattle.fs_model.specs.Demands.{refuse, first_of};
 ghost use Rattle.fs_model.specs.Parts.{ends_with_slash};
 ghost use Rattle.fs_model.specs.OpenCall.{open_arguments, open_form};
@@ -13,14 +12,13 @@ ghost use Rattle.fs_model.specs.declared.call.Call.TheVariants.{Open};
 ghost use Rattle.sector_txn.specs.Sectors.{SameStore, IsUnchanged};
 ghost use Rattle.bit_alloc.specs.Inodes.{IsSound};
 ghost use Rattle.bit_alloc.specs.Room.{HasSpare};
-ghost use Rattle.path_walk.specs.Answers.{refused_or, FailsToRead, IsAnswered};
+ghost use Rattle.path_walk.specs.Answers.{refused_or, IsAnswered};
 ghost use Rattle.path_walk.specs.HeldTrees.{HoldsTree, IsThere};
 ghost use Rattle.call_parts.specs.Performing.{IsReady, Performs};
-ghost use Rattle.call_parts.specs.Changes.{ChangesBytes};
 ghost use Rattle.file_calls.specs.Openings.{open_asked, kind_asked, found_asked, FindsIn, IsRefusedOpen, Reaches};
 
 use crate::making::open_new;
-use block_map::set_size;
+use crate::sizes::give_size;
 use call_parts::permitted;
 use fs_cred::{Cred, Errno, Refusal};
 use fs_layout::{Inode, Kind, Place};
@@ -132,24 +130,6 @@ fn check_found<S: Sectors>(
     Ok(inode)
 }
 
-// Takes all bytes from inode n, a file. EIO: the disk has failed.
-fn cut<S: Sectors>(s: &mut S, place: Place, n: u32, inode: Inode) -> Result<(), Refusal>
-    requires sound { IsSound place (S.state s.old) }
-    requires below { n < place.inodes }
-    requires inode { inode ≡ inode_at place (S.state s.old).sectors n }
-    requires file { inode.kind ≡ File }
-    requires spare { HasSpare place 47 (S.state s.old) }
-    ensures store { SameStore (S.state s.old) (S.state s.new) }
-    ensures change { OnOk result (ChangesBytes place n (S.state s.old) (S.state s.new) (λ held. resized held 0)) }
-    ensures err { IfErr result (FailsToRead (S.state s.old).disk (S.state s.new).disk) }
-{
-    let mut inode = inode;
-    match set_size(s, place, n, &mut inode, 0) {
-        Ok(()) => Ok(()),
-        Err(_) => Err(Refusal::Failed(Errno::EIO)),
-    }
-}
-
 // Whether the file loses its bytes.
 fn cuts(flags: Flags) -> bool
     ensures { result ≡ (flags.trunc && flags.write) }
@@ -182,12 +162,12 @@ fn open_old<S: Sectors>(
     if !cuts {
         return Ok(n);
     }
-    cut(s, place, n, inode)?;
+    give_size(s, place, n, inode, 0)?;
     Ok(n)
 }
 
 // Opens what was found, or makes it.
-fn reach<S: Sectors>(
+fn open_inode<S: Sectors>(
     alloc: Global,
     s: &mut S,
     place: Place,
@@ -244,7 +224,7 @@ pub fn open<S: Sectors>(
         form,
         1,
     )?;
-    let n = reach(alloc, s, place, process, &found, flags, mode)?;
+    let n = open_inode(alloc, s, place, process, &found, flags, mode)?;
     procs.open(
         pid,
         fd,

@@ -4,7 +4,7 @@ ghost use Rattle.fs_model.specs.declared.call.Call.TheVariants.{Access};
 ghost use Rattle.sector_txn.specs.Sectors.{IsUnchanged};
 ghost use Rattle.call_parts.specs.Performing.{IsReady, Performs};
 
-use call_parts::{find, inode_found, permitted};
+use call_parts::{permitted, reach};
 use fs_cred::Refusal;
 use fs_layout::Place;
 use fs_model::{Form, Path, Reply};
@@ -28,9 +28,9 @@ pub fn access<S: Sectors>(
     ensures performs { Performs place pid (Access path.now want) (S.state s.old) (S.state s.new) procs.now procs.now result }
     ensures same { IsUnchanged (S.state s.old) (S.state s.new) }
 {
-    let process = procs.process(pid)?;
-    let found = find(alloc, s, place, process, path, Form::Follow)?;
-    let (_, inode) = inode_found(s, place, &found)?;
-    let rule = permitted(alloc, s, place, process.cred(), &inode, want, 1, found.step)?;
+    let reached = reach(alloc, s, place, procs, pid, Ok(()), path, Form::Follow)?;
+    let cred = reached.process.cred();
+    let step = reached.found.step;
+    let rule = permitted(alloc, s, place, cred, &reached.inode, want, 1, step)?;
     Ok(Reply::Granted(rule))
 }

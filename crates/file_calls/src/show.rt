@@ -7,7 +7,7 @@ ghost use Rattle.fs_model.specs.Kinds.{type_of_kind};
 ghost use Rattle.sector_txn.specs.Sectors.{IsUnchanged};
 ghost use Rattle.call_parts.specs.Performing.{IsReady, Performs};
 
-use call_parts::{find, inode_found};
+use call_parts::reach;
 use fs_cred::Refusal;
 use fs_layout::{Inode, Kind, Place};
 use fs_model::{FileType, Form, Path, Reply, Status};
@@ -56,10 +56,8 @@ pub fn stat<S: Sectors>(
     ensures performs { Performs place pid (Stat path.now) (S.state s.old) (S.state s.new) procs.now procs.now result }
     ensures same { IsUnchanged (S.state s.old) (S.state s.new) }
 {
-    let process = procs.process(pid)?;
-    let found = find(alloc, s, place, process, path, Form::Follow)?;
-    let (n, inode) = inode_found(s, place, &found)?;
-    Ok(Reply::Shown(status(n, &inode)))
+    let reached = reach(alloc, s, place, procs, pid, Ok(()), path, Form::Follow)?;
+    Ok(Reply::Shown(status(reached.number, &reached.inode)))
 }
 
 /// The same, but a symbolic link that is the last name of the path is shown itself.
@@ -75,10 +73,8 @@ pub fn lstat<S: Sectors>(
     ensures performs { Performs place pid (Lstat path.now) (S.state s.old) (S.state s.new) procs.now procs.now result }
     ensures same { IsUnchanged (S.state s.old) (S.state s.new) }
 {
-    let process = procs.process(pid)?;
-    let found = find(alloc, s, place, process, path, Form::NoFollow)?;
-    let (n, inode) = inode_found(s, place, &found)?;
-    Ok(Reply::Shown(status(n, &inode)))
+    let reached = reach(alloc, s, place, procs, pid, Ok(()), path, Form::NoFollow)?;
+    Ok(Reply::Shown(status(reached.number, &reached.inode)))
 }
 
 /// Shows what a descriptor is for. EBADF: nothing.

@@ -16,7 +16,7 @@ ghost use Rattle.call_parts.specs.Performing.{IsReady, Performs};
 ghost use Rattle.call_parts.specs.Changes.{ChangesBytes};
 
 use block_map::set_size;
-use call_parts::{find, inode_found, permitted};
+use call_parts::{permitted, reach};
 use fs_cred::{Errno, Refusal};
 use fs_layout::{Inode, Kind, MAX_FILE_SIZE, Place};
 use fs_model::{Form, Path, Reply};
@@ -52,8 +52,8 @@ fn check_size(size: u64) -> Result<(), Refusal>
     Ok(())
 }
 
-// Cuts inode n, a file, to this size, or fills it up with zeros.
-fn give_size<S: Sectors>(
+/// Cuts inode n, a file, to this size, or fills it up with zeros.
+pub(crate) fn give_size<S: Sectors>(
     s: &mut S,
     place: Place,
     n: u32,
@@ -92,22 +92,13 @@ pub fn truncate<S: Sectors>(
     requires ready { IsReady place (S.state s.old) procs.now }
     ensures { Performs place pid (Truncate path.now size) (S.state s.old) (S.state s.new) procs.now procs.now result }
 {
-    let process = procs.process(pid)?;
-    let found = find(alloc, s, place, process, path, Form::Follow)?;
-    let (n, inode) = inode_found(s, place, &found)?;
+    let reached = reach(alloc, s, place, procs, pid, Ok(()), path, Form::Follow)?;
+    let inode = reached.inode;
     check_kind(inode.kind)?;
-    permitted(
-        alloc,
-        s,
-        place,
-        process.cred(),
-        &inode,
-        WRITE,
-        1,
-        found.step,
-    )?;
+    let cred = reached.process.cred();
+    permitted(alloc, s, place, cred, &inode, WRITE, 1, reached.found.step)?;
     check_size(size)?;
-    give_size(s, place, n, inode, size)?;
+    give_size(s, place, reached.number, inode, size)?;
     Ok(Reply::Done)
 }
 

@@ -12,7 +12,6 @@ pub mod MakingRefusals
 pub mod MakingTables
 pub mod Methods
 pub mod Mounts
-pub mod Performed
 pub mod Places
 pub mod Played
 pub mod Runs

@@ -1,4 +1,3 @@
-pub mod Serving
 pub mod Doing
 pub mod Seen
 pub mod Standing

@@ -1,13 +1,11 @@
 -- A directory that is made.
 --     new_directory, directory_fits        its inode
 --     acls_few, directory_taken        an inode was taken for it
---     mode_performs, mkdir_by_path, is_new_name, directory_changes        mkdir
-use Rattle.std.specs.Prelude.{◌≡◌, ℕ, ◌+◌, ◌-◌, ◌/◌, ◌%◌, ◌^◌, ◌<◌, ◌≤◌, ◌==◌, nat_eq, nat_le, ◌&&◌, cond, Bool, true, false, List, [], ◌∷◌, get_or, Option, None, Some, IsTrue, Result, Ok, Err, IsErr, IsErrAnd}
-use Rattle.std.proofs.Common.{refl, ap, arith, ◌∙◌}
-use Rattle.std.specs.Ordering.{nat_cmp}
+--     mkdir_by_path, is_new_name, directory_changes        mkdir
+use Rattle.std.specs.Prelude.{◌≡◌, ℕ, ◌+◌, ◌-◌, ◌/◌, ◌%◌, ◌^◌, ◌<◌, ◌≤◌, ◌==◌, nat_eq, nat_le, ◌&&◌, cond, Bool, true, false, List, [], ◌∷◌, get_or, Option, None, IsTrue, Ok}
+use Rattle.std.proofs.Common.{refl, sym, ap, arith, ◌∙◌}
 use Rattle.std.proofs.lemmas.Bool.Decides.{nat_tests}
 use Rattle.posix_acl.specs.AccessList.{AccessList}
-use Rattle.fs_cred.specs.declared.refusal.Refusal.{Refusal}
 use Rattle.fs_layout.specs.declared.slot.TheConstants.{SLOT_SIZE}
 use Rattle.fs_layout.specs.declared.inode.Inode.{Inode}
 use Rattle.fs_layout.specs.declared.inode.Kind.TheVariants as kinds
@@ -15,7 +13,6 @@ use Rattle.fs_layout.specs.declared.inode.TheConstants.{MAX_DIRECTORY_SIZE, S_IS
 use Rattle.fs_layout.specs.declared.place.Place.{Place}
 use Rattle.fs_layout.specs.AclSector.{kept_acl}
 use Rattle.fs_layout.specs.Bytes.{SectorMap, IsBytes, zeros}
-use Rattle.fs_layout.specs.Maps.{get}
 use Rattle.fs_layout.specs.Inode.{FitsInode, inode_fits, free_inode}
 use Rattle.fs_layout.specs.Images.{Holds, bit, inode_at, inode_bitmap}
 use Rattle.fs_layout.proofs.SplicedBytes.{get_or-zeros}
@@ -25,7 +22,6 @@ use Rattle.bit_alloc.specs.Bitmaps.{IsFreeNumber}
 use Rattle.bit_alloc.specs.Inodes.{KeepsFields, Touches}
 use Rattle.inode_table.specs.Acls.{HasAcl, HasDefaultAcl, with_acl_bits, acls_take}
 use Rattle.fs_model.specs.declared.call.Call.TheVariants.{Mkdir}
-use Rattle.fs_model.specs.declared.reply.Reply.{Reply}
 use Rattle.fs_model.specs.declared.reply.Reply.TheVariants.{Done}
 use Rattle.fs_model.specs.declared.walk.Form.TheVariants.{Parent}
 use Rattle.fs_model.specs.declared.walk.Found.{Found}
@@ -38,14 +34,14 @@ use Rattle.fs_model.specs.Scenes.{must_be_new, check_of_mode}
 use Rattle.fs_model.specs.States.{State}
 use Rattle.fs_model.proofs.StepsMaking.{directory_is_born}
 use Rattle.fs_model.proofs.StepsOfMaking.{is_new_if}
+use Rattle.call_parts.specs.Reaching.{Checked, checked, WalksPath}
 use Rattle.path_walk.specs.Answers.{refused_or}
 use Rattle.call_parts.specs.Paths.{scene_at, HasFound}
-use Rattle.call_parts.specs.Performing.{IsStateOf, Performs}
-use Rattle.call_parts.proofs.ByPath.{IsByPath}
-use Rattle.call_parts.proofs.Calling.{or_else-none, met_ok, refused_err}
+use Rattle.call_parts.specs.Performing.{IsStateOf}
+use Rattle.call_parts.proofs.Calling.{or_else-none, met_ok}
 use Rattle.call_parts.proofs.HeldChanges.{new_directory_held}
 use Rattle.call_parts.specs.Makings.{make_asked}
-use Rattle.call_parts.proofs.Changed.{IsChange, argument_performs}
+use Rattle.call_parts.proofs.Changed.{IsChange}
 use Rattle.call_parts.proofs.NewFile.{takes_one}
 use Rattle.call_parts.specs.NewNodes.{MakesNode, TakesInode, directory_made}
 use Rattle.name_calls.proofs.NewNames.{caller_fits, parent_fits, space_met, node_made}
@@ -106,20 +102,12 @@ mkdir_is : (path : List ℕ) (mode : ℕ) → row_of (Mkdir path mode) ≡ mkdir
 unfolding row_of
 mkdir_is path mode = refl
 
--- its mode is refused
-module _ {p : Place} (pid : ℕ) (path : List ℕ) (mode : ℕ) {txn : TxnState} {desks : Desks} (q : Process) (there : get nat_cmp desks pid ≡ Some q) where
-  pub mode_performs : (r : Result Reply Refusal) (e : Refusal) → IsErr r → IsErrAnd r (λ y. y ≡ e) → refused_or {A = Unit {0}} (check_of_mode mode) (Ok tt) ≡ Err e
-      → Performs p pid (Mkdir path mode) txn txn desks desks r
-  mode_performs r e err and is =
-      argument_performs pid {demands = mkdir_demands} {effect = mkdir_effect mode} (check_of_mode mode ∷ []) (mkdir_is path mode) q there r e err and
-      (or_else-none (check_of_mode mode) ∙ refused_err {A = Unit {0}} (check_of_mode mode) tt e is)
-
--- or has no other bits
-pub mkdir_by_path : (path : List ℕ) (mode : ℕ) → refused_or {A = Unit {0}} (check_of_mode mode) (Ok tt) ≡ Ok tt → IsByPath (Mkdir path mode) Parent path mkdir_demands (mkdir_effect mode)
-mkdir_by_path path mode is = record {
+-- its mode is checked
+pub mkdir_by_path : (path : List ℕ) (mode : ℕ) (checks : Checked) → checks ≡ checked (check_of_mode mode) → WalksPath (Mkdir path mode) checks Parent path mkdir_demands (mkdir_effect mode)
+mkdir_by_path path mode checks are = record {
   arguments = check_of_mode mode ∷ [];
   row = mkdir_is path mode;
-  met = or_else-none (check_of_mode mode) ∙ (met_ok {A = Unit {0}} (check_of_mode mode) tt tt is).0;
+  are_checked = are ∙ ap checked (sym (or_else-none (check_of_mode mode)));
   asks = refl;
 }
 

@@ -2,20 +2,17 @@
 --     link_taken        an inode was taken for it
 --     none_free        no sector is free
 --     target_size        its target has a size that a link may have
---     target_performs, symlink_by_path, is_target, is_link_name, link_changes        symlink
-use Rattle.std.specs.Prelude.{◌≡◌, ◌⊎◌, ℕ, ◌-◌, ◌<◌, ◌/◌, ◌%◌, ◌==◌, nat_lt, if◌then◌else◌, List, [], ◌∷◌, length, None, Some, IsTrue, Result, Ok, Err, IsErr, IsErrAnd}
-use Rattle.std.proofs.Common.{refl, subst, arith, inl, inr}
+--     symlink_by_path, is_target, is_link_name, link_changes        symlink
+use Rattle.std.specs.Prelude.{◌≡◌, ◌⊎◌, ℕ, ◌-◌, ◌<◌, ◌/◌, ◌%◌, ◌==◌, nat_lt, if◌then◌else◌, List, [], ◌∷◌, length, None, IsTrue, Ok}
+use Rattle.std.proofs.Common.{refl, sym, subst, arith, inl, inr, ◌∙◌}
 use Rattle.std.specs.List.{list_any}
-use Rattle.std.specs.Ordering.{nat_cmp}
 use Rattle.fs_cred.specs.declared.errno.Errno.TheVariants.{ENOENT, EINVAL, ENAMETOOLONG}
-use Rattle.fs_cred.specs.declared.refusal.Refusal.{Refusal}
 use Rattle.fs_cred.specs.Credentials.{Credential}
 use Rattle.fs_layout.specs.declared.inode.TheConstants.{S_ISGID}
 use Rattle.fs_layout.specs.declared.inode.Inode.{Inode}
 use Rattle.fs_layout.specs.declared.inode.Kind.TheVariants.{Link}
 use Rattle.fs_layout.specs.declared.place.Place.{Place}
 use Rattle.fs_layout.specs.Bytes.{SectorMap, IsBytes}
-use Rattle.fs_layout.specs.Maps.{get}
 use Rattle.fs_layout.specs.Images.{Holds, HasNoHole, bit, inode_at, inode_bitmap}
 use Rattle.sector_txn.specs.Sectors.{TxnState}
 use Rattle.bit_alloc.specs.declared.bitmap.Bitmap.TheVariants.{Inodes}
@@ -24,7 +21,6 @@ use Rattle.bit_alloc.specs.Inodes.{Touches}
 use Rattle.block_map.specs.Contents.{AllowsSize}
 use Rattle.block_map.specs.Links.{IsNewLink, HasNoAcls}
 use Rattle.fs_model.specs.declared.call.Call.TheVariants.{Symlink}
-use Rattle.fs_model.specs.declared.reply.Reply.{Reply}
 use Rattle.fs_model.specs.declared.reply.Reply.TheVariants.{Done}
 use Rattle.fs_model.specs.declared.walk.Form.TheVariants.{Parent}
 use Rattle.fs_model.specs.declared.walk.Found.{Found}
@@ -41,14 +37,14 @@ use Rattle.fs_model.specs.Trees.{IsTarget}
 use Rattle.fs_model.proofs.StepsDemands.{first_met, then_met}
 use Rattle.fs_model.proofs.StepsMaking.{link_is_born}
 use Rattle.fs_model.proofs.StepsOfMaking.{is_new_if, target_is}
+use Rattle.call_parts.specs.Reaching.{Checked, checked, WalksPath}
 use Rattle.path_walk.specs.Answers.{refused_or}
 use Rattle.call_parts.specs.Paths.{scene_at, HasFound}
-use Rattle.call_parts.specs.Performing.{IsStateOf, Performs}
-use Rattle.call_parts.proofs.ByPath.{IsByPath}
-use Rattle.call_parts.proofs.Calling.{met_ok, refused_err}
+use Rattle.call_parts.specs.Performing.{IsStateOf}
+use Rattle.call_parts.proofs.Calling.{met_ok}
 use Rattle.call_parts.proofs.HeldChanges.{new_link_held}
 use Rattle.call_parts.specs.Makings.{make_asked}
-use Rattle.call_parts.proofs.Changed.{IsChange, argument_performs}
+use Rattle.call_parts.proofs.Changed.{IsChange}
 use Rattle.call_parts.specs.NewNodes.{MakesNode, TakesInode, link_made, link_name_asked}
 use Rattle.name_calls.proofs.NewNames.{caller_fits, parent_fits, space_met, node_made}
 
@@ -83,30 +79,21 @@ symlink_is : (target path : List ℕ) → row_of (Symlink target path) ≡ symli
 unfolding row_of
 symlink_is target path = refl
 
--- its target is refused
-module _ {p : Place} (pid : ℕ) (target path : List ℕ) {txn : TxnState} {desks : Desks} (q : Process) (there : get nat_cmp desks pid ≡ Some q) where
-  pub target_performs : (r : Result Reply Refusal) (e : Refusal) → IsErr r → IsErrAnd r (λ y. y ≡ e)
-      → refused_or {A = Unit {0}} (first_of (symlink_arguments target)) (Ok tt) ≡ Err e → Performs p pid (Symlink target path) txn txn desks desks r
-  target_performs r e err and is =
-      argument_performs pid {demands = symlink_demands} {effect = symlink_effect target} (symlink_arguments target) (symlink_is target path) q there r e err and
-      (refused_err {A = Unit {0}} (first_of (symlink_arguments target)) tt e is)
+-- its target is checked
+pub symlink_by_path : (target path : List ℕ) (checks : Checked) → checks ≡ checked (first_of (symlink_arguments target))
+    → WalksPath (Symlink target path) checks Parent path symlink_demands (symlink_effect target)
+symlink_by_path target path checks are = record { arguments = symlink_arguments target; row = symlink_is target path; are_checked = are; asks = refl }
 
--- or is one
-module _ (target path : List ℕ) (is : refused_or {A = Unit {0}} (first_of (symlink_arguments target)) (Ok tt) ≡ Ok tt) where
-  met : first_of (symlink_arguments target) ≡ None
-  met = (met_ok {A = Unit {0}} (first_of (symlink_arguments target)) tt tt is).0
-
-  pub symlink_by_path : IsByPath (Symlink target path) Parent path symlink_demands (symlink_effect target)
-  symlink_by_path = record { arguments = symlink_arguments target; row = symlink_is target path; met = met; asks = refl }
-
-  pub is_target : IsBytes target → IsTarget target
-  is_target bytes =
-      let empty = refuse ENOENT (is_empty target) in
-      let zero = refuse EINVAL (list_any (λ b. b == 0) target) in
-      let long = refuse ENAMETOOLONG (nat_lt target_limit (length target)) in
-      let after = then_met empty (first_of (zero ∷ long ∷ [])) met in
-      let last = then_met zero (first_of (long ∷ [])) after in
-      target_is target bytes (first_met empty (first_of (zero ∷ long ∷ [])) met, (first_met zero (first_of (long ∷ [])) after, (first_met long (first_of []) last, tt)))
+-- and is one
+pub is_target : (target : List ℕ) (checks : Checked) → checks ≡ checked (first_of (symlink_arguments target)) → checks ≡ Ok tt → IsBytes target → IsTarget target
+is_target target checks are fine bytes =
+    let met = (met_ok {A = Unit {0}} (first_of (symlink_arguments target)) tt tt (sym are ∙ fine)).0 in
+    let empty = refuse ENOENT (is_empty target) in
+    let zero = refuse EINVAL (list_any (λ b. b == 0) target) in
+    let long = refuse ENAMETOOLONG (nat_lt target_limit (length target)) in
+    let after = then_met empty (first_of (zero ∷ long ∷ [])) met in
+    let last = then_met zero (first_of (long ∷ [])) after in
+    target_is target bytes (first_met empty (first_of (zero ∷ long ∷ [])) met, (first_met zero (first_of (long ∷ [])) after, (first_met long (first_of []) last, tt)))
 
 -- what was found is new
 pub is_link_name : (f : Found) → refused_or {A = Unit {0}} (first_of (link_name_asked f)) (Ok tt) ≡ Ok tt → (first_of (link_name_asked f) ≡ None) × (f.ino ≡ None)

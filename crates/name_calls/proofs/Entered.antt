@@ -56,7 +56,7 @@ use Rattle.call_parts.proofs.ByDescriptor.{still_open}
 use Rattle.call_parts.proofs.Followed.{IsAccessed, accessed_is}
 use Rattle.call_parts.proofs.MakeAsked.{dir_access, dir_held}
 use Rattle.call_parts.proofs.Ownership.{IsNode, node_of}
-use Rattle.call_parts.proofs.Shown.{IsInode}
+use Rattle.call_parts.specs.Reaching.{IsInode}
 use Rattle.name_calls.specs.Entering.{enter_asked}
 
 -- ---- its row

@@ -26,9 +26,9 @@ use Rattle.fs_model.specs.Trees.{Tree, names_of}
 use Rattle.fs_model.proofs.StepsDemands.{first_met, then_met, unrefused, and_false}
 use Rattle.path_walk.specs.Answers.{refused_or, IsAnswered}
 use Rattle.call_parts.proofs.Calling.{state_tree, met_ok, first_asked, next_asked, both_met}
-use Rattle.call_parts.proofs.Checked.{checked, refused_as}
+use Rattle.call_parts.proofs.Checked.{refused_as}
 use Rattle.call_parts.proofs.Ownership.{IsNode, node_of, some_asked, others_asked, all_met}
-use Rattle.call_parts.proofs.Shown.{IsInode, is_inode}
+use Rattle.call_parts.proofs.Shown.{is_inode}
 use Rattle.name_calls.specs.Linking.{source_asked, place_asked}
 use Rattle.call_parts.specs.Makings.{room_asked}
 use Rattle.call_parts.specs.NewNodes.{link_name_asked}
@@ -36,6 +36,7 @@ use Rattle.call_parts.specs.TwoPaths.{scene_with, FindsBoth}
 use Rattle.call_parts.proofs.FoundBoth.{first_there}
 use Rattle.name_calls.proofs.RemovalAsked.{body_kind_is}
 use Rattle.name_calls.proofs.Takings.{field_is}
+use Rattle.call_parts.specs.Reaching.{checked, IsInode}
 
 -- ---- all of the directory
 

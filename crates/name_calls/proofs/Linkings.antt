@@ -46,16 +46,17 @@ use Rattle.call_parts.proofs.Calling.{state_tree, first_of-append, met_ok}
 use Rattle.call_parts.proofs.HeldChanges.{names_held, counted_held}
 use Rattle.path_walk.proofs.HeldNodes.{held_node, names_say}
 use Rattle.call_parts.proofs.Changed.{IsChange}
-use Rattle.call_parts.proofs.Shown.{IsInode, the_node_is}
+use Rattle.call_parts.proofs.Shown.{the_node_is}
 use Rattle.call_parts.specs.Dropping.{Counts}
 use Rattle.name_calls.specs.Linking.{source_asked, MayLink}
 use Rattle.call_parts.specs.NewNodes.{MayBeNamed, NamesInode, link_name_asked}
 use Rattle.call_parts.specs.TwoPaths.{scene_with, FindsBoth}
 use Rattle.name_calls.proofs.BornLinks.{is_link_name}
-use Rattle.call_parts.proofs.ByTwoPaths.{IsByTwoPaths}
+use Rattle.call_parts.specs.Reaching.{WalksBoth}
 use Rattle.call_parts.proofs.FoundBoth.{second_walked}
 use Rattle.name_calls.proofs.LinkAsked.{source_inode, source_node, source_kind, source_names}
 use Rattle.name_calls.proofs.Takings.{field_is}
+use Rattle.call_parts.specs.Reaching.{IsInode}
 
 -- ---- the row
 
@@ -64,7 +65,7 @@ module _ (old new : List ℕ) where
   unfolding row_of
   link_is = refl
 
-  pub link_by_two : IsByTwoPaths (Link old new) old new link_demands link_effect
+  pub link_by_two : WalksBoth (Link old new) old new link_demands link_effect
   link_by_two = record { row = link_is; asks = refl }
 
 -- ---- all is met

@@ -39,10 +39,10 @@ use Rattle.path_walk.specs.HeldTrees.{HoldsTree, HasAccess}
 use Rattle.call_parts.proofs.Calling.{met_ok, or_else-none, first_asked, next_asked, both_met}
 use Rattle.path_walk.proofs.HeldNodes.{held_node}
 use Rattle.call_parts.proofs.Followed.{IsAccessed, accessed_is}
-use Rattle.call_parts.proofs.Checked.{checked}
+use Rattle.call_parts.specs.Reaching.{checked, IsInode}
 use Rattle.call_parts.proofs.MakeAsked.{dir_access, dir_held}
 use Rattle.call_parts.proofs.Ownership.{IsNode, node_of}
-use Rattle.call_parts.proofs.Shown.{IsInode, body_kind, the_node_is}
+use Rattle.call_parts.proofs.Shown.{body_kind, the_node_is}
 use Rattle.name_calls.specs.Removing.{IsNamedThere, removal_asked, directory_asked}
 use Rattle.call_parts.specs.Asked.{sticky_asked}
 

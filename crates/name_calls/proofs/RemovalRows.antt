@@ -39,12 +39,12 @@ use Rattle.fs_model.proofs.StepsOfRemoving.{empty_if}
 use Rattle.path_walk.specs.Answers.{refused_or, IsAnswered}
 use Rattle.call_parts.specs.Paths.{scene_at, HasFound}
 use Rattle.call_parts.specs.Performing.{IsStateOf}
-use Rattle.call_parts.proofs.ByPath.{IsByPath}
+use Rattle.call_parts.specs.Reaching.{WalksPath, checked, IsInode}
 use Rattle.call_parts.proofs.Calling.{state_tree, found_there, first_of-append, met_ok}
 use Rattle.call_parts.proofs.Changed.{IsChange}
-use Rattle.call_parts.proofs.Checked.{checked, refused_as}
+use Rattle.call_parts.proofs.Checked.{refused_as}
 use Rattle.call_parts.proofs.Ownership.{IsNode, node_of, some_asked, others_asked, all_met}
-use Rattle.call_parts.proofs.Shown.{IsInode, is_inode}
+use Rattle.call_parts.proofs.Shown.{is_inode}
 use Rattle.name_calls.specs.Removing.{FindsName, IsNamedThere, removal_asked, last_asked, directory_asked, MayGo}
 use Rattle.name_calls.proofs.RemovalAsked.{body_kind_is}
 
@@ -55,15 +55,15 @@ module _ (path : List ℕ) where
   unfolding row_of
   unlink_is = refl
 
-  pub unlink_by_path : IsByPath (Unlink path) Parent path unlink_demands takes_name
-  unlink_by_path = record { arguments = []; row = unlink_is; met = refl; asks = refl }
+  pub unlink_by_path : WalksPath (Unlink path) (Ok tt) Parent path unlink_demands takes_name
+  unlink_by_path = record { arguments = []; row = unlink_is; are_checked = refl; asks = refl }
 
   rmdir_is : row_of (Rmdir path) ≡ rmdir_row path
   unfolding row_of
   rmdir_is = refl
 
-  pub rmdir_by_path : IsByPath (Rmdir path) Parent path rmdir_demands takes_name
-  rmdir_by_path = record { arguments = []; row = rmdir_is; met = refl; asks = refl }
+  pub rmdir_by_path : WalksPath (Rmdir path) (Ok tt) Parent path rmdir_demands takes_name
+  rmdir_by_path = record { arguments = []; row = rmdir_is; are_checked = refl; asks = refl }
 
 -- ---- demands in three parts
 

@@ -22,9 +22,9 @@ use Rattle.path_walk.specs.Answers.{refused_or, IsAnswered}
 use Rattle.path_walk.specs.HeldTrees.{HoldsTree, IsThere}
 use Rattle.call_parts.proofs.Calling.{met_ok, or_else-none, first_asked, next_asked, both_met}
 use Rattle.path_walk.proofs.HeldNodes.{stands, held_kind}
-use Rattle.call_parts.proofs.Checked.{checked}
+use Rattle.call_parts.specs.Reaching.{checked, IsInode}
 use Rattle.call_parts.proofs.Ownership.{some_asked, others_asked, all_met}
-use Rattle.call_parts.proofs.Shown.{IsInode, the_node_is}
+use Rattle.call_parts.proofs.Shown.{the_node_is}
 use Rattle.name_calls.specs.Renaming.{ends_asked, is_other, slash_asked, names_asked, kinds_asked, inode_there, other_kind, directory_kind, slash_told, replacing_asked}
 
 module _ {p : Place} {map : SectorMap} {t : Tree} (h : HoldsTree p map t) where

@@ -48,7 +48,7 @@ use Rattle.name_calls.specs.Removing.{IsNamedThere}
 use Rattle.name_calls.specs.Renaming.{names_asked, inode_there}
 use Rattle.name_calls.specs.Replacing.{IsToRename, same_number, move_asked}
 use Rattle.call_parts.specs.TwoPaths.{scene_with, FindsBoth}
-use Rattle.call_parts.proofs.ByTwoPaths.{IsByTwoPaths}
+use Rattle.call_parts.specs.Reaching.{WalksBoth}
 use Rattle.call_parts.proofs.FoundBoth.{first_there, second_there, first_walked, second_walked, is_scene}
 
 -- ---- the row
@@ -58,7 +58,7 @@ module _ (old new : List ℕ) where
   unfolding row_of
   rename_is = refl
 
-  pub rename_by_two : IsByTwoPaths (Rename old new) old new rename_demands rename_effect
+  pub rename_by_two : WalksBoth (Rename old new) old new rename_demands rename_effect
   rename_by_two = record { row = rename_is; asks = refl }
 
 -- ---- the demands in two parts

@@ -46,10 +46,10 @@ use Rattle.path_walk.specs.HeldTrees.{HoldsTree, IsThere, HasAccess}
 use Rattle.call_parts.proofs.Calling.{state_tree, met_ok, or_else-none, first_asked, next_asked, both_met}
 use Rattle.path_walk.proofs.Kept.{kept}
 use Rattle.call_parts.proofs.Followed.{accessed_is}
-use Rattle.call_parts.proofs.Checked.{checked, refused_as}
+use Rattle.call_parts.proofs.Checked.{refused_as}
 use Rattle.call_parts.proofs.MakeAsked.{dir_access, dir_held}
 use Rattle.call_parts.proofs.Ownership.{IsNode, node_of, some_asked, others_asked, all_met}
-use Rattle.call_parts.proofs.Shown.{IsInode}
+use Rattle.call_parts.specs.Reaching.{checked, IsInode}
 use Rattle.call_parts.specs.Makings.{room_asked}
 use Rattle.call_parts.specs.Asked.{sticky_asked}
 use Rattle.name_calls.specs.Removing.{directory_asked}

@@ -26,11 +26,10 @@ use Rattle.fs_model.specs.Trees.{Tree}
 use Rattle.fs_model.specs.Summaries.{is_link_kind}
 use Rattle.path_walk.specs.Answers.{refused_or, IsAnswered}
 use Rattle.path_walk.specs.HeldTrees.{HoldsTree, IsThere}
-use Rattle.call_parts.proofs.ByPath.{IsByPath}
+use Rattle.call_parts.specs.Reaching.{WalksPath, IsInode}
 use Rattle.call_parts.proofs.Calling.{or_else-none, first_asked, next_asked, both_met, met_ok}
 use Rattle.call_parts.proofs.Checked.{link_says}
 use Rattle.call_parts.proofs.Ownership.{IsNode, node_of}
-use Rattle.call_parts.proofs.Shown.{IsInode}
 
 -- ---- its row
 
@@ -38,8 +37,8 @@ readlink_is : (path : List ℕ) → row_of (Readlink path) ≡ readlink_row path
 unfolding row_of
 readlink_is path = refl
 
-pub readlink_by_path : (path : List ℕ) → IsByPath (Readlink path) NoFollow path readlink_demands readlink_effect
-readlink_by_path path = record { arguments = []; row = readlink_is path; met = refl; asks = refl }
+pub readlink_by_path : (path : List ℕ) → WalksPath (Readlink path) (Ok tt) NoFollow path readlink_demands readlink_effect
+readlink_by_path path = record { arguments = []; row = readlink_is path; are_checked = refl; asks = refl }
 
 -- ---- what it asks and answers
 

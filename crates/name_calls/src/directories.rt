@@ -19,8 +19,8 @@ ghost use Rattle.name_calls.specs.Entering.{enter_asked};
 ghost use Rattle.call_parts.specs.NewNodes.{IsMade, IsNewIn, MakesNode, directory_made};
 
 use call_parts::{
-    check_make, check_mode, default_of, find, find_name, inherited, inode_found, is_new,
-    name_inode, new_group,
+    check_make, check_mode, default_of, find, inherited, inode_found, is_new, name_inode,
+    new_group, walk_path,
 };
 use fs_cred::{Cred, Errno, Refusal};
 use fs_layout::{Inode, Kind, Place, S_ISGID, S_ISVTX};
@@ -143,11 +143,10 @@ pub fn mkdir<S: Sectors>(
     requires ready { IsReady place (S.state s.old) procs.now }
     ensures { Performs place pid (Mkdir path.now mode) (S.state s.old) (S.state s.new) procs.now procs.now result }
 {
-    let process = procs.process(pid)?;
-    check_mode(mode)?;
-    let found = find_name(alloc, s, place, process, path)?;
-    check_new(&found)?;
-    make_directory(alloc, s, place, process, &found, mode)?;
+    let checks = check_mode(mode);
+    let walked = walk_path(alloc, s, place, procs, pid, checks, path, Form::Parent)?;
+    check_new(&walked.found)?;
+    make_directory(alloc, s, place, walked.process, &walked.found, mode)?;
     Ok(Reply::Done)
 }
 

@@ -24,7 +24,7 @@ ghost use Rattle.call_parts.specs.TwoPaths.{scene_with, FindsBoth};
 
 use crate::links::check_link_name;
 use call_parts::{
-    ask_directory, ask_for_name, check_slash, find_names, inode_found, name_inode, set_names,
+    ask_directory, ask_for_name, check_slash, inode_found, name_inode, set_names, walk_both,
 };
 use fs_cred::{Cred, Errno, Refusal};
 use fs_layout::{Inode, Kind, MAX_INODE_NAMES, Place};
@@ -172,9 +172,10 @@ pub fn link<S: Sectors>(
     requires ready { IsReady place (S.state s.old) procs.now }
     ensures { Performs place pid (Link old.now new.now) (S.state s.old) (S.state s.new) procs.now procs.now result }
 {
-    let process = procs.process(pid)?;
-    let (first, second) = find_names(alloc, s, place, process, old, new)?;
-    let (n, inode, directory) = check_link(alloc, s, place, process, &first, &second)?;
+    let walked = walk_both(alloc, s, place, procs, pid, old, new)?;
+    let first = &walked.first;
+    let second = &walked.second;
+    let (n, inode, directory) = check_link(alloc, s, place, walked.process, first, second)?;
     let name = second.name.bytes();
     add_name(s, place, second.dir, directory, name, n, &inode)?;
     Ok(Reply::Done)

@@ -19,7 +19,7 @@ ghost use Rattle.call_parts.specs.Makings.{CanMake};
 ghost use Rattle.call_parts.specs.NewNodes.{IsMade, IsNewIn, MakesNode, link_made, link_name_asked};
 
 use block_map::new_link;
-use call_parts::{check_make, find, find_name, inode_found, is_new, name_inode, new_group};
+use call_parts::{check_make, is_new, name_inode, new_group, reach, walk_path};
 use fs_cred::{Cred, Errno, Refusal};
 use fs_layout::{Inode, Kind, MAX_LINK_SIZE, Place};
 use fs_model::{Form, Found, Path, Reply};
@@ -128,11 +128,10 @@ pub fn symlink<S: Sectors>(
     requires ready { IsReady place (S.state s.old) procs.now }
     ensures { Performs place pid (Symlink target.now path.now) (S.state s.old) (S.state s.new) procs.now procs.now result }
 {
-    let process = procs.process(pid)?;
-    check_target(target)?;
-    let found = find_name(alloc, s, place, process, path)?;
-    check_link_name(&found)?;
-    make_link(alloc, s, place, process, &found, target)?;
+    let checks = check_target(target);
+    let walked = walk_path(alloc, s, place, procs, pid, checks, path, Form::Parent)?;
+    check_link_name(&walked.found)?;
+    make_link(alloc, s, place, walked.process, &walked.found, target)?;
     Ok(Reply::Done)
 }
 
@@ -159,10 +158,8 @@ pub fn readlink<S: Sectors>(
     ensures performs { Performs place pid (Readlink path.now) (S.state s.old) (S.state s.new) procs.now procs.now result }
     ensures same { IsUnchanged (S.state s.old) (S.state s.new) }
 {
-    let process = procs.process(pid)?;
-    let found = find(alloc, s, place, process, path, Form::NoFollow)?;
-    let (_, inode) = inode_found(s, place, &found)?;
-    check_link(&inode)?;
-    let target = read_target(alloc, s, place, &inode)?;
+    let reached = reach(alloc, s, place, procs, pid, Ok(()), path, Form::NoFollow)?;
+    check_link(&reached.inode)?;
+    let target = read_target(alloc, s, place, &reached.inode)?;
     Ok(Reply::Target(target))
 }

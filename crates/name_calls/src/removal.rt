@@ -26,12 +26,12 @@ ghost use Rattle.name_calls.specs.Removing.{FindsName, IsNamedThere, removal_ask
 
 use crate::dropping::lose_name;
 use call_parts::{
-    WRITE_AND_SEARCH, check_slash, check_sticky, find_name, inode_found, permitted, remove_name,
+    WRITE_AND_SEARCH, check_slash, check_sticky, inode_found, permitted, remove_name, walk_path,
 };
 use dir_core::is_empty;
 use fs_cred::{Cred, Errno, Refusal};
 use fs_layout::{Inode, Kind, Place};
-use fs_model::{Found, Last, Path, Reply};
+use fs_model::{Form, Found, Last, Path, Reply};
 use open_files::{Process, Procs};
 use path_walk::load_inode;
 use sector_txn::Sectors;
@@ -195,9 +195,9 @@ pub fn unlink<S: Sectors>(
     requires ready { IsReady place (S.state s.old) procs.now }
     ensures { Performs place pid (Unlink path.now) (S.state s.old) (S.state s.new) procs.now procs.now result }
 {
-    let process = procs.process(pid)?;
-    let found = find_name(alloc, s, place, process, path)?;
-    let (n, inode) = check_unlink(alloc, s, place, process, &found)?;
+    let walked = walk_path(alloc, s, place, procs, pid, Ok(()), path, Form::Parent)?;
+    let found = &walked.found;
+    let (n, inode) = check_unlink(alloc, s, place, walked.process, found)?;
     let name = found.name.bytes();
     take_name(s, place, procs, found.dir, name, n, inode)?;
     Ok(Reply::Done)
@@ -219,9 +219,9 @@ pub fn rmdir<S: Sectors>(
     requires ready { IsReady place (S.state s.old) procs.now }
     ensures { Performs place pid (Rmdir path.now) (S.state s.old) (S.state s.new) procs.now procs.now result }
 {
-    let process = procs.process(pid)?;
-    let found = find_name(alloc, s, place, process, path)?;
-    let (n, inode) = check_rmdir(alloc, s, place, procs, process, &found)?;
+    let walked = walk_path(alloc, s, place, procs, pid, Ok(()), path, Form::Parent)?;
+    let found = &walked.found;
+    let (n, inode) = check_rmdir(alloc, s, place, procs, walked.process, found)?;
     let name = found.name.bytes();
     take_name(s, place, procs, found.dir, name, n, inode)?;
     Ok(Reply::Done)

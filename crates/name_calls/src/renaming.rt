@@ -19,7 +19,7 @@ ghost use Rattle.call_parts.specs.TwoPaths.{scene_with, FindsBoth};
 
 use crate::moving::move_name;
 use crate::replacing::check_move;
-use call_parts::{find_names, inode_found};
+use call_parts::{inode_found, walk_both};
 use fs_cred::{Errno, Refusal};
 use fs_layout::{Inode, Kind, Place};
 use fs_model::{Found, Last, Path, Reply};
@@ -220,12 +220,13 @@ pub fn rename<S: Sectors>(
     requires ready { IsReady place (S.state s.old) procs.now }
     ensures { Performs place pid (Rename old.now new.now) (S.state s.old) (S.state s.new) procs.now procs.now result }
 {
-    let process = procs.process(pid)?;
-    let (first, second) = find_names(alloc, s, place, process, old, new)?;
-    let (n, inode, replaced) = check_rename(alloc, s, place, procs, process, &first, &second)?;
+    let walked = walk_both(alloc, s, place, procs, pid, old, new)?;
+    let first = &walked.first;
+    let second = &walked.second;
+    let (n, inode, replaced) = check_rename(alloc, s, place, procs, walked.process, first, second)?;
     if is_same(n, &replaced) {
         return Ok(Reply::Done);
     }
-    move_name(s, place, procs, &first, &second, n, &inode, &replaced)?;
+    move_name(s, place, procs, first, second, n, &inode, &replaced)?;
     Ok(Reply::Done)
 }

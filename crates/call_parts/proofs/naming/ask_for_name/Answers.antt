@@ -1,7 +1,7 @@
 use Rattle.std.proofs.Common.{sym}
 use Rattle.fs_model.specs.Demands.{first_of}
 use Rattle.path_walk.proofs.Kept.{answered_err}
-use Rattle.call_parts.proofs.Checked.{checked}
+use Rattle.call_parts.specs.Reaching.{checked}
 use Rattle.call_parts.specs.Makings.{room_asked}
 use Rattle.call_parts.proofs.NameAsked.{room_few, room_crowded, room_met}
 use Rattle.call_parts.proofs.naming.ask_for_name.Goals as goal

@@ -52,8 +52,8 @@ returns-in_err-found g c =
     (λ s at. walked_as old.disk mid.disk s.tree q c.args.flags c.args.path.now (Err e) c.cred.result.now c.form_of-form.result c.cwd.result c.cred.ensures
     c.form_of-form.ensures c.cwd.ensures (c.in_err-found.ensures.each s.tree (state_tree at)) (cwd_there at c.args.pid q there))
 
-pub reach-requires : goal.reach-requires
-reach-requires g c =
+pub open_inode-requires : goal.open_inode-requires
+open_inode-requires g c =
     let old = g.S.Sectors.state c.args.s.now in
     let mid = g.S.Sectors.state c.walk.new.s in
     let q = c.in_ok-process.process.now in
@@ -78,7 +78,7 @@ returns-in_err-n g c =
     let r = c.from_residual-in_err-n.ensures in
     let old = g.S.Sectors.state c.args.s.now in
     let mid = g.S.Sectors.state c.walk.new.s in
-    let new = g.S.Sectors.state c.reach.new.s in
+    let new = g.S.Sectors.state c.open_inode.new.s in
     let q = c.in_ok-process.process.now in
     let there = c.in_ok-process.ensures.found in
     let asked = asked_met c.args.path.now c.args.flags c.args.mode (sym c.in_ok-check_open.ensures.answer) in
@@ -95,7 +95,7 @@ pub returns : goal.returns
 returns g c =
     let old = g.S.Sectors.state c.args.s.now in
     let mid = g.S.Sectors.state c.walk.new.s in
-    let new = g.S.Sectors.state c.reach.new.s in
+    let new = g.S.Sectors.state c.open_inode.new.s in
     let q = c.in_ok-process.process.now in
     let there = c.in_ok-process.ensures.found in
     let asked = asked_met c.args.path.now c.args.flags c.args.mode (sym c.in_ok-check_open.ensures.answer) in

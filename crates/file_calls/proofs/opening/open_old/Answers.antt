@@ -1,4 +1,4 @@
-use Rattle.std.proofs.Common.{◌≡◌, sym, inr, ◌∙◌}
+use Rattle.std.proofs.Common.{◌≡◌, arith, sym, inr, ◌∙◌}
 use Rattle.fs_layout.specs.Images.{inode_at}
 use Rattle.fs_layout.specs.Bytes.{SectorMap}
 use Rattle.bit_alloc.proofs.Transactions.{spare_unchanged}
@@ -28,8 +28,8 @@ returns-then-not-cuts-clause-each g c = λ mode st i.
     (c.in_ok-inode.ensures.each st.tree (state_tree i.is_state) (old_there i c.args.n c.requires.some))
     mode new.sectors (sym c.cuts-cuts.ensures ∙ c.if-not-cuts.true) (same_map c.in_ok-inode.ensures.same)
 
-pub cut-requires : goal.cut-requires
-cut-requires g c =
+pub give_size-requires : goal.give_size-requires
+give_size-requires g c =
     let old = g.S.Sectors.state c.args.s.now in
     let new = g.S.Sectors.state c.check_found.new.s in
     let same = c.in_ok-inode.ensures.same in
@@ -37,35 +37,37 @@ cut-requires g c =
     let there = old_there x.1 c.args.n c.requires.some in
     let is = c.in_ok-inode.ensures.each x.0.tree (state_tree x.1.is_state) there in
     let v = c.in_ok-inode.inode in
+    let spare = spare_unchanged c.args.place 47 old new c.requires.spare same in
     record {
       sound = sound_kept same c.requires.sound;
       below = number_below (state_tree x.1.is_state) c.args.n there;
       inode = kept (λ (m : SectorMap). v ≡ inode_at c.args.place m c.args.n) same (old_inode x.1 c.args.n c.requires.some c.cred.result.now v c.cred.ensures is);
       file = old_file x.1 c.args.n c.requires.some c.cred.result.now v c.cred.ensures is (sym c.cuts-cuts.ensures ∙ c.if-not-cuts.false);
-      spare = spare_unchanged c.args.place 47 old new c.requires.spare same;
+      fits = omega arith;
+      spare = omega (arith, spare);
     }
 
-pub returns-in_err-cut-clause-store : goal.returns-in_err-cut-clause-store
-returns-in_err-cut-clause-store g c = store_joined c.in_ok-inode.ensures.same.store c.in_err-cut.ensures.store
+pub returns-in_err-give_size-clause-store : goal.returns-in_err-give_size-clause-store
+returns-in_err-give_size-clause-store g c = store_joined c.in_ok-inode.ensures.same.store c.in_err-give_size.ensures.store
 
-pub returns-in_err-cut-clause-each : goal.returns-in_err-cut-clause-each
-returns-in_err-cut-clause-each g c = λ mode st i.
-    let r = c.from_residual-in_err-cut.ensures in
+pub returns-in_err-give_size-clause-each : goal.returns-in_err-give_size-clause-each
+returns-in_err-give_size-clause-each g c = λ mode st i.
+    let r = c.from_residual-in_err-give_size.ensures in
     let old = g.S.Sectors.state c.args.s.now in
-    let new = g.S.Sectors.state c.cut.new.s in
-    refusing i new.sectors mode old.disk new.disk c.from_residual-in_err-cut.result c.in_err-cut.field-0.0 r.0 r.1
-    (inr (interrupts_later new.disk c.in_ok-inode.ensures.same (inr c.in_err-cut.ensures.err)))
+    let new = g.S.Sectors.state c.give_size.new.s in
+    refusing i new.sectors mode old.disk new.disk c.from_residual-in_err-give_size.result c.in_err-give_size.field-0.0 r.0 r.1
+    (inr (interrupts_later new.disk c.in_ok-inode.ensures.same (inr c.in_err-give_size.ensures.fault)))
 
 pub returns-clause-store : goal.returns-clause-store
-returns-clause-store g c = store_joined c.in_ok-inode.ensures.same.store c.in_ok-cut.ensures.store
+returns-clause-store g c = store_joined c.in_ok-inode.ensures.same.store c.in_ok-give_size.ensures.store
 
 pub returns-clause-superblock : goal.returns-clause-superblock
-returns-clause-superblock g c = c.in_ok-cut.ensures.change.super ∙ c.in_ok-inode.ensures.same.sectors 0
+returns-clause-superblock g c = c.in_ok-give_size.ensures.change.super ∙ c.in_ok-inode.ensures.same.sectors 0
 
 pub returns-clause-each : goal.returns-clause-each
 returns-clause-each g c = λ mode st i.
     let mid = g.S.Sectors.state c.check_found.new.s in
-    let new = g.S.Sectors.state c.cut.new.s in
+    let new = g.S.Sectors.state c.give_size.new.s in
     old_emptied i c.args.n c.requires.some c.cred.result.now c.in_ok-inode.inode c.cred.ensures
     (c.in_ok-inode.ensures.each st.tree (state_tree i.is_state) (old_there i c.args.n c.requires.some))
-    mode mid new (same_map c.in_ok-inode.ensures.same) (sym c.cuts-cuts.ensures ∙ c.if-not-cuts.false) c.in_ok-cut.ensures.change
+    mode mid new (same_map c.in_ok-inode.ensures.same) (sym c.cuts-cuts.ensures ∙ c.if-not-cuts.false) c.in_ok-give_size.ensures.change

@@ -7,7 +7,7 @@ use Rattle.path_walk.specs.Answers.{refused_or, IsAnswered}
 use Rattle.path_walk.specs.HeldTrees.{HoldsTree}
 use Rattle.call_parts.proofs.Calling.{met_ok, answered_later}
 use Rattle.path_walk.proofs.Kept.{kept, kept_back, sound_kept, answered_err}
-use Rattle.call_parts.proofs.Checked.{checked}
+use Rattle.call_parts.specs.Reaching.{checked}
 use Rattle.call_parts.specs.Makings.{room_asked}
 use Rattle.name_calls.specs.Linking.{place_asked}
 use Rattle.name_calls.proofs.LinkAsked.{place_denied, place_many, place_full, place_met}

@@ -1,101 +1,70 @@
 use Rattle.std.proofs.Common.{sym, inl, ◌∙◌}
 use Rattle.sector_txn.proofs.Changes.{store_same}
 use Rattle.fs_model.specs.declared.reply.Reply.TheVariants.{Done}
-use Rattle.bit_alloc.proofs.Transactions.{spare_unchanged}
-use Rattle.call_parts.specs.Paths.{scene_at}
-use Rattle.call_parts.proofs.ByPath.{absent_performs, find_refused, has_found, demands_refused}
-use Rattle.call_parts.proofs.Calling.{state_tree, state_kept, cwd_below}
-use Rattle.path_walk.proofs.HeldInodes.{held_inodes}
-use Rattle.path_walk.proofs.Kept.{sound_kept}
-use Rattle.call_parts.proofs.Changed.{change_performs}
-use Rattle.call_parts.proofs.Ownership.{some_asked}
 use Rattle.call_parts.specs.NewNodes.{link_name_asked}
-use Rattle.name_calls.proofs.BornLinks.{target_performs, symlink_by_path, is_target, is_link_name, link_changes}
+use Rattle.call_parts.specs.Paths.{scene_at}
+use Rattle.call_parts.proofs.Calling.{state_tree}
+use Rattle.call_parts.proofs.Ownership.{some_asked}
+use Rattle.call_parts.proofs.Reachings.{walk_refused, asked_refused, changed}
+use Rattle.name_calls.proofs.BornLinks.{symlink_by_path, is_target, is_link_name, link_changes}
 use Rattle.name_calls.proofs.NewNames.{space_at, space_refused, new_in}
 use Rattle.name_calls.proofs.links.symlink.Goals as goal
 
-pub returns-in_err-process : goal.returns-in_err-process
-returns-in_err-process g c =
+pub returns-in_err-walked : goal.returns-in_err-walked
+returns-in_err-walked g c =
     let r = c.from_residual.ensures in
-    absent_performs c.from_residual.result c.in_err-process.field-0.0 r.0 r.1 c.in_err-process.ensures.absent
-
-pub returns-in_err-check_target : goal.returns-in_err-check_target
-returns-in_err-check_target g c =
-    let r = c.from_residual-in_err-check_target.ensures in
-    target_performs c.args.pid c.args.target.now c.args.path.now c.in_ok-process.process.now c.in_ok-process.ensures.found
-    c.from_residual-in_err-check_target.result c.in_err-check_target.field-0.0 r.0 r.1 (sym c.in_err-check_target.ensures.answer)
-
-pub find_name-requires-clause-inodes : goal.find_name-requires-clause-inodes
-find_name-requires-clause-inodes g c = held_inodes (state_tree c.requires.ready.is_state)
-
-pub find_name-requires-clause-start : goal.find_name-requires-clause-start
-find_name-requires-clause-start g c = cwd_below c.requires.ready.is_state c.args.pid c.in_ok-process.process.now c.in_ok-process.ensures.found
-
-pub returns-in_err-found : goal.returns-in_err-found
-returns-in_err-found g c =
-    let r = c.from_residual-in_err-found.ensures in
-    let found = c.in_err-found.ensures in
-    find_refused c.args.pid (symlink_by_path c.args.target.now c.args.path.now (sym c.in_ok-check_target.ensures.answer)) c.in_ok-process.process.now c.in_ok-process.ensures.found found.same
-    c.from_residual-in_err-found.result c.in_err-found.field-0.0 r.0 r.1 found.checked found.each
+    let x = c.in_err-walked.ensures in
+    walk_refused (symlink_by_path c.args.target.now c.args.path.now c.check_target-checks.result c.check_target-checks.ensures.answer) c.from_residual.result c.in_err-walked.field-0.0 r.0 r.1 x.same x.refused
 
 pub returns-in_err-check_link_name : goal.returns-in_err-check_link_name
 returns-in_err-check_link_name g c =
     let r = c.from_residual-in_err-check_link_name.ensures in
-    let found = c.in_ok-found.ensures in
-    let f = c.in_ok-found.found in
-    let q = c.in_ok-process.process.now in
-    let mid = g.S.Sectors.state c.find_name.new.s in
+    let x = c.in_ok-walked.ensures in
+    let f = c.in_ok-walked.walked.found in
+    let q = c.in_ok-walked.walked.process.now in
+    let mid = g.S.Sectors.state c.walk_path.new.s in
     let e = c.in_err-check_link_name.field-0.0 in
-    demands_refused c.args.pid (symlink_by_path c.args.target.now c.args.path.now (sym c.in_ok-check_target.ensures.answer)) q c.in_ok-process.ensures.found found.same f found.valid found.each
-    mid c.from_residual-in_err-check_link_name.result e r.0 r.1 store_same {A = Unit {0}} tt
+    asked_refused (symlink_by_path c.args.target.now c.args.path.now c.check_target-checks.result c.check_target-checks.ensures.answer) x.same x.walked mid c.from_residual-in_err-check_link_name.result e r.0 r.1 store_same {A = Unit {0}} tt
     (λ s has at. some_asked {B = Unit {0}} (link_name_asked f) (space_at (scene_at s q f)) tt tt e mid.disk mid.disk (inl (sym c.in_err-check_link_name.ensures)))
 
 pub make_link-requires : goal.make_link-requires
 make_link-requires g c =
-    let found = c.in_ok-found.ensures in
-    let f = c.in_ok-found.found in
-    let q = c.in_ok-process.process.now in
-    let old = g.S.Sectors.state c.args.s.now in
-    let mid = g.S.Sectors.state c.find_name.new.s in
-    let at = c.requires.ready.is_state in
-    let has = has_found c.args.pid (symlink_by_path c.args.target.now c.args.path.now (sym c.in_ok-check_target.ensures.answer)) q c.in_ok-process.ensures.found found.same f found.valid found.each
-    c.requires.ready.state at in
-    let later = state_kept found.same at in
+    let w = c.in_ok-walked.ensures.walked in
+    let ready = w.ready in
+    let v = c.in_ok-walked.walked in
     record {
-      sound = sound_kept found.same c.requires.ready.sound;
-      spare = spare_unchanged c.args.place 47 old mid c.requires.ready.spare found.same;
-      target = is_target c.args.target.now c.args.path.now (sym c.in_ok-check_target.ensures.answer) c.in_ok-check_target.ensures.bytes;
-      name = (c.requires.ready.state.tree, state_tree later, new_in later q f has found.bytes (is_link_name f (sym c.in_ok-check_link_name.ensures)).1);
+      sound = ready.sound;
+      spare = ready.spare;
+      target = is_target c.args.target.now c.check_target-checks.result c.check_target-checks.ensures.answer w.fine c.check_target-checks.ensures.bytes;
+      name = (_, state_tree ready.is_state, new_in ready.is_state v.process.now v.found (w.found ready.state ready.is_state) w.bytes (is_link_name v.found (sym c.in_ok-check_link_name.ensures)).1);
     }
 
 pub returns-in_err-make_link : goal.returns-in_err-make_link
 returns-in_err-make_link g c =
     let r = c.from_residual-in_err-make_link.ensures in
-    let found = c.in_ok-found.ensures in
-    let f = c.in_ok-found.found in
-    let q = c.in_ok-process.process.now in
-    let mid = g.S.Sectors.state c.find_name.new.s in
+    let x = c.in_ok-walked.ensures in
+    let f = c.in_ok-walked.walked.found in
+    let q = c.in_ok-walked.walked.process.now in
+    let mid = g.S.Sectors.state c.walk_path.new.s in
     let new = g.S.Sectors.state c.make_link.new.s in
     let e = c.in_err-make_link.field-0.0 in
     let is = is_link_name f (sym c.in_ok-check_link_name.ensures) in
-    demands_refused c.args.pid (symlink_by_path c.args.target.now c.args.path.now (sym c.in_ok-check_target.ensures.answer)) q c.in_ok-process.ensures.found found.same f found.valid found.each
-    new c.from_residual-in_err-make_link.result e r.0 r.1 c.in_err-make_link.ensures.store {A = Unit {0}} tt
-    (λ s has at. space_refused at q f (link_name_asked f) is.0 e mid.disk new.disk (c.in_err-make_link.ensures.each s.tree (state_tree at) (new_in at q f has found.bytes is.1)))
+    asked_refused (symlink_by_path c.args.target.now c.args.path.now c.check_target-checks.result c.check_target-checks.ensures.answer) x.same x.walked new c.from_residual-in_err-make_link.result e r.0 r.1 c.in_err-make_link.ensures.store {A = Unit {0}} tt
+    (λ s has at. space_refused at q f (link_name_asked f) is.0 e mid.disk new.disk (c.in_err-make_link.ensures.each s.tree (state_tree at) (new_in at q f has x.walked.bytes is.1)))
 
 pub returns : goal.returns
 returns g c =
-    let found = c.in_ok-found.ensures in
-    let f = c.in_ok-found.found in
-    let q = c.in_ok-process.process.now in
+    let x = c.in_ok-walked.ensures in
+    let w = x.walked in
+    let ready = w.ready in
+    let f = c.in_ok-walked.walked.found in
+    let q = c.in_ok-walked.walked.process.now in
     let new = g.S.Sectors.state c.make_link.new.s in
     let made = c.in_ok-make_link.ensures in
     let new_name = sym c.in_ok-check_link_name.ensures in
     let is = is_link_name f new_name in
-    let by = symlink_by_path c.args.target.now c.args.path.now (sym c.in_ok-check_target.ensures.answer) in
-    let later = state_kept found.same c.requires.ready.is_state in
-    let has = has_found c.args.pid by q c.in_ok-process.ensures.found found.same f found.valid found.each c.requires.ready.state c.requires.ready.is_state in
-    let done = (made.each c.requires.ready.state.tree (state_tree later) (new_in later q f has found.bytes is.1)).1 in
-    change_performs c.args.pid by q c.in_ok-process.ensures.found found.same f found.valid found.each new made.store (done.names.super ∙ done.takes.super) Done
+    let done = (made.each ready.state.tree (state_tree ready.is_state) (new_in ready.is_state q f (w.found ready.state ready.is_state) w.bytes is.1)).1 in
+    changed (symlink_by_path c.args.target.now c.args.path.now c.check_target-checks.result c.check_target-checks.ensures.answer) x.same w new made.store (done.names.super ∙ done.takes.super) Done
     (λ s has at.
-    let x = made.each s.tree (state_tree at) (new_in at q f has found.bytes is.1) in
-    link_changes at q f has found.bytes new_name c.args.target.now (is_target c.args.target.now c.args.path.now (sym c.in_ok-check_target.ensures.answer) c.in_ok-check_target.ensures.bytes) new.sectors x.0 x.1)
+    let m = made.each s.tree (state_tree at) (new_in at q f has w.bytes is.1) in
+    link_changes at q f has w.bytes new_name c.args.target.now (is_target c.args.target.now c.check_target-checks.result c.check_target-checks.ensures.answer w.fine c.check_target-checks.ensures.bytes) new.sectors m.0 m.1)

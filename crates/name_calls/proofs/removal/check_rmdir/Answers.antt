@@ -14,7 +14,7 @@ use Rattle.path_walk.specs.Answers.{refused_or, IsAnswered}
 use Rattle.call_parts.specs.Paths.{scene_at}
 use Rattle.call_parts.proofs.Calling.{state_tree, met_ok}
 use Rattle.path_walk.proofs.Kept.{answered_err}
-use Rattle.call_parts.proofs.Checked.{checked}
+use Rattle.call_parts.specs.Reaching.{checked}
 use Rattle.name_calls.specs.Removing.{removal_asked, last_asked}
 use Rattle.name_calls.proofs.RemovalRows.{asked_first, asked_second, asked_third, all_asked, name_there, last_is_name, directory_told, node_held, inode_told}
 use Rattle.name_calls.proofs.removal.check_rmdir.Goals as goal

@@ -9,7 +9,7 @@ use Rattle.path_walk.specs.Answers.{refused_or}
 use Rattle.call_parts.proofs.Calling.{met_ok}
 use Rattle.path_walk.proofs.HeldNodes.{number_below}
 use Rattle.path_walk.proofs.Kept.{kept_back, sound_kept, answered_err, interrupted, interrupts_later, same_ok}
-use Rattle.call_parts.proofs.Checked.{checked}
+use Rattle.call_parts.specs.Reaching.{checked}
 use Rattle.call_parts.proofs.Shown.{is_inode}
 use Rattle.name_calls.specs.Renaming.{names_asked, inode_there}
 use Rattle.name_calls.proofs.RenameAsked.{ends_refuse, first_absent, slashes_refuse, slashes_are, names_met}

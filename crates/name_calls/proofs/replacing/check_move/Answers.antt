@@ -9,7 +9,7 @@ use Rattle.path_walk.specs.Answers.{refused_or}
 use Rattle.path_walk.specs.HeldTrees.{HoldsTree}
 use Rattle.call_parts.proofs.Calling.{state_tree, met_ok, answered_later}
 use Rattle.path_walk.proofs.Kept.{kept, sound_kept, answered_err}
-use Rattle.call_parts.proofs.Checked.{checked}
+use Rattle.call_parts.specs.Reaching.{checked}
 use Rattle.name_calls.specs.Replacing.{move_asked}
 use Rattle.call_parts.specs.TwoPaths.{scene_with}
 use Rattle.name_calls.proofs.ReplaceAsked.{to_rename_kept, granted, kinds_met, kinds_refuse, below_refuses, replaced_refuses, directories_met, first_part, second_part, third_part, fourth_part, fifth_part, five_met}

@@ -6,7 +6,7 @@ use Rattle.fs_model.specs.Rules.{is_directory_kind}
 use Rattle.call_parts.proofs.Calling.{state_tree}
 use Rattle.path_walk.proofs.HeldNodes.{number_below}
 use Rattle.path_walk.proofs.Kept.{answered_err}
-use Rattle.call_parts.proofs.Checked.{checked}
+use Rattle.call_parts.specs.Reaching.{checked}
 use Rattle.call_parts.specs.TwoPaths.{scene_with}
 use Rattle.name_calls.proofs.ReplaceAsked.{other_moved, same_moved, moved_access, moved_held, moved_denied, moved_met}
 use Rattle.name_calls.proofs.replacing.check_moved.Goals as goal

@@ -10,7 +10,7 @@ use Rattle.path_walk.specs.Answers.{refused_or}
 use Rattle.path_walk.specs.HeldTrees.{HoldsTree}
 use Rattle.call_parts.proofs.Calling.{state_tree, met_ok, answered_later}
 use Rattle.path_walk.proofs.Kept.{kept, kept_back, sound_kept, answered_err}
-use Rattle.call_parts.proofs.Checked.{checked}
+use Rattle.call_parts.specs.Reaching.{checked}
 use Rattle.call_parts.specs.Asked.{sticky_asked}
 use Rattle.name_calls.specs.Replacing.{sticky_there}
 use Rattle.call_parts.specs.TwoPaths.{scene_with}

@@ -5,7 +5,7 @@ use Rattle.fs_model.specs.RenameCall.{rename_space}
 use Rattle.path_walk.specs.Answers.{IsAnswered}
 use Rattle.call_parts.proofs.Calling.{state_tree}
 use Rattle.path_walk.proofs.Kept.{answered_err}
-use Rattle.call_parts.proofs.Checked.{checked}
+use Rattle.call_parts.specs.Reaching.{checked}
 use Rattle.call_parts.specs.TwoPaths.{scene_with}
 use Rattle.name_calls.proofs.ReplaceAsked.{room_is}
 use Rattle.name_calls.proofs.replacing.check_space.Goals as goal

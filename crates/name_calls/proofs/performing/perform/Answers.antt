@@ -1,5 +1,5 @@
-use Rattle.fs_system.proofs.Performed.{performed}
-use Rattle.fs_system.proofs.calls.change_names.Goals as goal
+use Rattle.call_parts.proofs.Performed.{performed}
+use Rattle.name_calls.proofs.performing.perform.Goals as goal
 
 pub mkdir-requires : goal.mkdir-requires
 mkdir-requires g c = record { ready = c.requires.ready }
@@ -13,11 +13,17 @@ link-requires g c = record { ready = c.requires.ready }
 pub symlink-requires : goal.symlink-requires
 symlink-requires g c = record { ready = c.requires.ready }
 
-pub rename-requires : goal.rename-requires
-rename-requires g c = record { ready = c.requires.ready }
+pub readlink-requires : goal.readlink-requires
+readlink-requires g c = record { ready = c.requires.ready }
 
 pub unlink-requires : goal.unlink-requires
 unlink-requires g c = record { ready = c.requires.ready }
+
+pub rename-requires : goal.rename-requires
+rename-requires g c = record { ready = c.requires.ready }
+
+pub chdir-requires : goal.chdir-requires
+chdir-requires g c = record { ready = c.requires.ready }
 
 pub returns-in-Mkdir : goal.returns-in-Mkdir
 returns-in-Mkdir g c =
@@ -35,6 +41,10 @@ pub returns-in-Symlink : goal.returns-in-Symlink
 returns-in-Symlink g c =
     performed c.args.place c.args.pid c.args.call.now _ (g.S.Sectors.state c.args.s.now) (g.S.Sectors.state c.symlink.new.s) c.args.procs.now c.args.procs.now c.symlink.result c.in-Symlink.is c.symlink.ensures
 
+pub returns-in-Readlink : goal.returns-in-Readlink
+returns-in-Readlink g c =
+    performed c.args.place c.args.pid c.args.call.now _ (g.S.Sectors.state c.args.s.now) (g.S.Sectors.state c.readlink.new.s) c.args.procs.now c.args.procs.now c.readlink.result c.in-Readlink.is c.readlink.ensures.performs
+
 pub returns-in-Unlink : goal.returns-in-Unlink
 returns-in-Unlink g c =
     performed c.args.place c.args.pid c.args.call.now _ (g.S.Sectors.state c.args.s.now) (g.S.Sectors.state c.unlink.new.s) c.args.procs.now c.args.procs.now c.unlink.result c.in-Unlink.is c.unlink.ensures
@@ -42,3 +52,7 @@ returns-in-Unlink g c =
 pub returns-in-Rename : goal.returns-in-Rename
 returns-in-Rename g c =
     performed c.args.place c.args.pid c.args.call.now _ (g.S.Sectors.state c.args.s.now) (g.S.Sectors.state c.rename.new.s) c.args.procs.now c.args.procs.now c.rename.result c.in-Rename.is c.rename.ensures
+
+pub returns-in-Chdir : goal.returns-in-Chdir
+returns-in-Chdir g c =
+    performed c.args.place c.args.pid c.args.call.now _ (g.S.Sectors.state c.args.s.now) (g.S.Sectors.state c.chdir.new.s) c.args.procs.now c.chdir.new.procs c.chdir.result c.in-Chdir.is c.chdir.ensures.performs

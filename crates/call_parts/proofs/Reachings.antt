@@ -1,0 +1,299 @@
+-- Exits of a call that reaches what it acts on by one path.
+--     absent_walk, unchecked_walk, unwalked        its process, its arguments, its path or its walk refuse
+--     walk_reaches, unreached        nothing is there
+--     walk_refused, reach_refused        that is passed on
+--     walk_owned, unowned, owned_refused        it isn't the caller's
+--     asked_refused        what it asks of what was found refuses
+--     told, changed, process_changed        it answers, or has changed the tree, or its process alone
+--     ready_kept, walk_kept, inode_later, walked_below, reached_below, reached_there, reached_used, reached_access, reached_body        what is known then
+use Rattle.std.specs.Prelude.{◌≡◌, ◌≢◌, ℕ, ◌<◌, ◌==◌, List, [], ◌∷◌, ◌++◌, None, Some, IsTrue, Result, Ok, Err, IsErr, IsErrAnd}
+use Rattle.std.specs.List.{list_any}
+use Rattle.std.specs.Ordering.{nat_cmp}
+use Rattle.std.proofs.Common.{sym, ap, subst, ◌∙◌}
+use Rattle.sector_disk.specs.Disk.{DiskState}
+use Rattle.fs_cred.specs.declared.errno.Errno.{Errno}
+use Rattle.fs_cred.specs.declared.errno.Errno.TheVariants.{ESRCH}
+use Rattle.fs_cred.specs.declared.refusal.Refusal.{Refusal}
+use Rattle.fs_cred.specs.declared.refusal.Refusal.TheVariants.{Failed}
+use Rattle.fs_cred.specs.Credentials.{Credential}
+use Rattle.fs_layout.specs.declared.inode.Inode.{Inode}
+use Rattle.fs_layout.specs.declared.inode.Kind.TheVariants as kinds
+use Rattle.fs_layout.specs.declared.place.Place.{Place}
+use Rattle.fs_layout.specs.Bytes.{SectorMap}
+use Rattle.fs_layout.specs.Images.{inode_at}
+use Rattle.fs_layout.specs.Maps.{get, with_entry}
+use Rattle.sector_txn.specs.Sectors.{TxnState, SameStore, IsUnchanged}
+use Rattle.sector_txn.proofs.Changes.{store_joined}
+use Rattle.bit_alloc.proofs.Transactions.{spare_unchanged, unchanged_nothing}
+use Rattle.block_map.proofs.Runs.{unchanged_joined}
+use Rattle.fs_model.specs.declared.call.Call.{Call}
+use Rattle.fs_model.specs.declared.event.Event.TheVariants.{Call as Calls}
+use Rattle.fs_model.specs.declared.reply.Reply.{Reply}
+use Rattle.fs_model.specs.declared.walk.Form.{Form}
+use Rattle.fs_model.specs.declared.walk.Form.TheVariants.{Follow}
+use Rattle.fs_model.specs.declared.walk.Found.{Found}
+use Rattle.fs_model.specs.Changes.{Same}
+use Rattle.fs_model.specs.Demands.{Demand, or_else, first_of}
+use Rattle.fs_model.specs.Parts.{path_checks}
+use Rattle.fs_model.specs.Processes.{Process, Desks, Descriptor, is_open}
+use Rattle.fs_model.specs.Scenes.{Scene, Effect, answers, with_process, number, must_be_there, own_at_end}
+use Rattle.fs_model.specs.Stands.{HoldsAll, placed}
+use Rattle.fs_model.specs.States.{State}
+use Rattle.fs_model.specs.Steps.{after_effect, early_refusal, firm_refusal, other_refusal}
+use Rattle.fs_model.specs.Trees.{Tree}
+use Rattle.fs_model.proofs.Unchanged.{same_process_stays, open_stays}
+use Rattle.path_walk.specs.Answers.{refused_or, IsAnswered}
+use Rattle.path_walk.specs.HeldTrees.{IsThere, HasAccess}
+use Rattle.path_walk.specs.Walked.{walk_of}
+use Rattle.path_walk.proofs.HeldNodes.{number_below}
+use Rattle.path_walk.proofs.Kept.{kept, kept_back, sound_kept, same_map}
+use Rattle.call_parts.specs.Asked.{own_asked}
+use Rattle.call_parts.specs.Given.{HasBody}
+use Rattle.call_parts.specs.Paths.{scene_at, HasFound}
+use Rattle.call_parts.specs.Performing.{IsStateOf, IsReady, IsRefused, Performs}
+use Rattle.call_parts.specs.Performing as why
+use Rattle.call_parts.specs.Reaching.{Checked, WalksPath, RefusesWalk, RefusesReach, RefusesOwned, HasWalked, IsInode, HasReached}
+use Rattle.call_parts.proofs.ByDescriptor.{still_open}
+use Rattle.call_parts.proofs.ByPath.{refused_performs}
+use Rattle.call_parts.proofs.Calling.{absent_refused, early_is, first_of-append, or_else-none, refused_err, met_ok, resolve_refused, found_firm, found_late, found_after, found_told, found_there, answered_refused, answered_later, first_asked, state_kept, state_tree, same_process, told_performs}
+use Rattle.call_parts.proofs.Changed.{IsChange}
+use Rattle.call_parts.proofs.Followed.{IsAccessed, followed_access, access_held, body_found_held}
+use Rattle.call_parts.proofs.Ownership.{own_refused}
+use Rattle.call_parts.proofs.Shown.{is_used}
+
+-- reads leave a transaction in which calls may be performed
+pub ready_kept : {p : Place} {old new : TxnState} {desks : Desks} → IsUnchanged old new → IsReady p old desks → IsReady p new desks
+ready_kept {p} {old} {new} same ready = record {
+  sound = sound_kept same ready.sound;
+  spare = spare_unchanged p 47 old new ready.spare same;
+  state = ready.state;
+  is_state = state_kept same ready.is_state;
+}
+
+pub inode_later : {p : Place} {mid new : TxnState} {f : Found} {n : ℕ} {v : Inode} → IsUnchanged mid new → IsInode p mid.sectors f n v → IsInode p new.sectors f n v
+inode_later {p} {mid} {new} {f} {n} {v} same i = kept (λ (m : SectorMap). IsInode p m f n v) same i
+
+-- ---- each call that walks so is refused
+
+-- there is no such process
+pub absent_walk : (old new : DiskState) (s : State) (pid : ℕ) (checks : Checked) (form : Form) (path : List ℕ) (errno : Errno) → errno ≡ ESRCH → get nat_cmp s.desks pid ≡ None
+    → RefusesWalk old new s pid checks form path (Failed errno)
+absent_walk old new s pid checks form path errno is none = record {
+  each = λ call demands effect w. subst (λ (x : Errno). IsRefused old new s pid call (Failed x)) (sym is) (absent_refused old new s pid call none);
+}
+
+module _ (old new : DiskState) (s : State) (pid : ℕ) (q : Process) (there : get nat_cmp s.desks pid ≡ Some q) (checks : Checked) (form : Form) (path : List ℕ) (e : Refusal) where
+  -- an argument is refused
+  pub unchecked_walk : checks ≡ Err e → RefusesWalk old new s pid checks form path e
+  unchecked_walk is = record {
+    each = λ call demands effect w.
+        why.early (early_is s pid q call there ∙ ap (early_refusal q) w.row
+        ∙ first_of-append (w.arguments ++ path_checks path) []
+        ∙ or_else-none (first_of (w.arguments ++ path_checks path))
+        ∙ first_of-append w.arguments (path_checks path)
+        ∙ ap (λ (d : Demand). or_else d (first_of (path_checks path))) (refused_err {A = Unit {0}} (first_of w.arguments) tt e (sym w.are_checked ∙ is)));
+  }
+
+  -- or the path, or its walk
+  pub unwalked : checks ≡ Ok tt → ((x : Refusal) → first_of (path_checks path) ≡ Some x → e ≡ x)
+      → (first_of (path_checks path) ≡ None → IsAnswered old new (walk_of s.tree q.cred 1 form q.cwd path) (Err e)) → RefusesWalk old new s pid checks form path e
+  unwalked fine path_is walk_is = record {
+    each = λ call demands effect w.
+        resolve_refused s pid q call form path w.arguments demands effect w.row (met_ok {A = Unit {0}} (first_of w.arguments) tt tt (sym w.are_checked ∙ fine)).0
+        there old new e w.asks path_is walk_is;
+  }
+
+-- nothing is there
+pub walk_reaches : {old new : DiskState} {s : State} {pid : ℕ} {checks : Checked} {form : Form} {path : List ℕ} {e : Refusal}
+    → RefusesWalk old new s pid checks form path e → RefusesReach old new s pid checks form path e
+walk_reaches refuses = record { each = λ call rest effect w. refuses.each call (λ x. must_be_there x.first ∷ rest x) effect w }
+
+-- ---- a call that walks so
+
+module _ {pid : ℕ} {call : Call} {checks : Checked} {form : Form} {path : List ℕ} {demands : Scene → List Demand} {effect : Scene → ℕ → Effect}
+    (is : WalksPath call checks form path demands effect) {p : Place} where
+  -- its refusal is passed on
+  pub walk_refused : {old new : TxnState} {desks : Desks} (r : Result Reply Refusal) (e : Refusal) → IsErr r → IsErrAnd r (λ y. y ≡ e) → IsUnchanged old new
+      → ((s : State) → IsStateOf p old.sectors desks s → RefusesWalk old.disk new.disk s pid checks form path e) → Performs p pid call old new desks desks r
+  walk_refused r e err and same refuses = refused_performs r e err and same.store (λ s at. (refuses s at).each call demands effect is)
+
+  module _ {old mid : TxnState} (same : IsUnchanged old mid) {desks : Desks} {q : Process} {f : Found} (w : HasWalked p mid desks pid checks form path q f) where
+    met : first_of is.arguments ≡ None
+    met = (met_ok {A = Unit {0}} (first_of is.arguments) tt tt (sym is.are_checked ∙ w.fine)).0
+
+    module _ (s : State) (at : IsStateOf p old.sectors desks s) where
+      has : HasFound s pid q form path f
+      has = w.found s (state_kept same at)
+
+      here : get nat_cmp s.desks pid ≡ Some q
+      here = same_process at pid q w.there
+
+      pub firm : firm_refusal s (Calls pid call) ≡ None
+      firm = found_firm s pid q call form path is.arguments demands effect is.row met here f has
+
+      pub late : other_refusal s (Calls pid call) ≡ first_of (demands (scene_at s q f))
+      late = found_late s pid q call form path is.arguments demands effect is.row met here f has
+
+      refused_since : (new : DiskState) (e : Refusal) {A : Type 0} (x : A)
+          → IsAnswered mid.disk new (refused_or (first_of (demands (scene_at s q f))) (Ok x)) (Err e) → IsRefused old.disk new s pid call e
+      refused_since new e x h =
+          answered_refused old.disk new s pid call firm is.asks e (first_of (demands (scene_at s q f))) x late (answered_later new same h)
+
+    -- what it asks of what was found refuses
+    pub asked_refused : (new : TxnState) (r : Result Reply Refusal) (e : Refusal) → IsErr r → IsErrAnd r (λ y. y ≡ e) → SameStore mid new → {A : Type 0} (x : A)
+        → ((s : State) → HasFound s pid q form path f → IsStateOf p mid.sectors desks s
+        → IsAnswered mid.disk new.disk (refused_or (first_of (demands (scene_at s q f))) (Ok x)) (Err e))
+        → Performs p pid call old new desks desks r
+    asked_refused new r e err and store x asked = refused_performs r e err and (store_joined same.store store)
+        (λ s at. refused_since s at new.disk e x (asked s (has s at) (state_kept same at)))
+
+    -- it answers
+    pub told : (new : TxnState) → IsUnchanged mid new → (reply : Reply)
+        → ((s : State) → HasFound s pid q form path f → IsStateOf p mid.sectors desks s
+        → (first_of (demands (scene_at s q f)) ≡ None) × (effect (scene_at s q f) 0 ≡ answers (scene_at s q f) reply))
+        → Performs p pid call old new desks desks (Ok reply)
+    told new later reply says = told_performs (Ok reply) (unchanged_joined same later)
+        (λ s at.
+        let t = says s (has s at) (state_kept same at) in (
+          firm s at,
+          late s at ∙ t.0,
+          found_told s pid q call form path is.arguments demands effect is.row met (here s at) f (has s at) reply at t.1,
+        ))
+
+    -- it has changed the tree
+    pub changed : (new : TxnState) → SameStore mid new → new.sectors 0 ≡ mid.sectors 0 → (reply : Reply)
+        → ((s : State) → HasFound s pid q form path f → IsStateOf p mid.sectors desks s
+        → IsChange p new.sectors desks s q (demands (scene_at s q f)) (effect (scene_at s q f)) reply)
+        → Performs p pid call old new desks desks (Ok reply)
+    changed new store super reply changes = record {
+      store = store_joined same.store store;
+      super = super ∙ same.sectors 0;
+      table = tt;
+      each = λ s at.
+          let c = changes s (has s at) (state_kept same at) in
+          record {
+            early = firm s at;
+            late = late s at ∙ c.met;
+            number = c.number;
+            change = c.change;
+            effect = found_after s pid q call form path is.arguments demands effect is.row met (here s at) f (has s at) c.number
+                ∙ ap (after_effect s pid) c.is
+                ∙ ap (λ (d : Desks). record { change = c.change; desks = d; reply = reply })
+                (same_process_stays s.desks pid q at.is_state.pids (here s at) ∙ at.same_desks);
+            new_number = c.new_number;
+            holds = c.holds;
+          };
+    }
+
+    -- its process alone has changed, and what it has open stays
+    pub process_changed : (new : TxnState) (now : Desks) → IsUnchanged mid new → (r : Process) (reply : Reply) → now ≡ with_entry nat_cmp desks pid r
+        → r.descriptors ≡ q.descriptors
+        → ((s : State) → HasFound s pid q form path f → IsStateOf p mid.sectors desks s
+        → (first_of (demands (scene_at s q f)) ≡ None) × (effect (scene_at s q f) 0 ≡ with_process r reply))
+        → Performs p pid call old new desks now (Ok reply)
+    process_changed new now later r reply is_now descriptors says =
+        let whole = unchanged_joined same later in
+        record {
+          store = whole.store;
+          super = whole.sectors 0;
+          table = tt;
+          each = λ s at.
+              let t = says s (has s at) (state_kept same at) in
+              let of_state : with_entry nat_cmp s.desks pid r ≡ now = ap (λ (d : Desks). with_entry nat_cmp d pid r) at.same_desks ∙ sym is_now in
+              let still : (n : ℕ) → IsTrue (is_open s.desks n) → IsTrue (is_open now n) = λ n was.
+              ap (λ (d : Desks). is_open d n) (sym of_state)
+              ∙ still_open s.desks pid q r at.is_state.pids (here s at) n (ap (λ (l : List (ℕ × Descriptor)). list_any (λ (d : ℕ × Descriptor). d.1.number == n) l) descriptors) ∙ was in
+              record {
+                early = firm s at;
+                late = late s at ∙ t.0;
+                number = 0;
+                change = Same;
+                effect = found_after s pid q call form path is.arguments demands effect is.row met (here s at) f (has s at) 0
+                    ∙ ap (after_effect s pid) t.1
+                    ∙ ap (λ (d : Desks). record { change = Same; desks = d; reply = reply }) of_state;
+                new_number = tt;
+                holds = subst (λ (x : Tree). HoldsAll p new.sectors (placed x))
+                    (sym (open_stays s.room s.tree s.desks now at.is_state.tree (at.is_state.desks at.up) still))
+                    (subst (λ (m : SectorMap). HoldsAll p m (placed s.tree)) (sym (same_map whole)) at.holds);
+              };
+        }
+
+-- ---- a call that asks that something is there
+
+module _ {pid : ℕ} {call : Call} {checks : Checked} {form : Form} {path : List ℕ} {rest : Scene → List Demand} {effect : Scene → ℕ → Effect}
+    (is : WalksPath call checks form path (λ x. must_be_there x.first ∷ rest x) effect) {p : Place} where
+  pub reach_refused : {old new : TxnState} {desks : Desks} (r : Result Reply Refusal) (e : Refusal) → IsErr r → IsErrAnd r (λ y. y ≡ e) → IsUnchanged old new
+      → ((s : State) → IsStateOf p old.sectors desks s → RefusesReach old.disk new.disk s pid checks form path e) → Performs p pid call old new desks desks r
+  reach_refused r e err and same refuses = refused_performs r e err and same.store (λ s at. (refuses s at).each call rest effect is)
+
+module _ {p : Place} {desks : Desks} {pid : ℕ} {checks : Checked} {form : Form} {path : List ℕ} {q : Process} {f : Found} where
+  -- nothing is there, or a read fails
+  pub unreached : {old mid : TxnState} (new : DiskState) (e : Refusal) {A : Type 0} (x : A) → IsUnchanged old mid → HasWalked p mid desks pid checks form path q f
+      → IsAnswered mid.disk new (refused_or (must_be_there f) (Ok x)) (Err e)
+      → (s : State) → IsStateOf p old.sectors desks s → RefusesReach old.disk new s pid checks form path e
+  unreached {old} {mid} new e x same w h s at = record {
+    each = λ call rest effect is.
+        refused_since is same w s at new e x (first_asked (must_be_there f) (rest (scene_at s q f)) x x e mid.disk new h);
+  }
+
+  -- ---- what is known once it was reached
+
+  pub walk_kept : {mid new : TxnState} → IsUnchanged mid new → HasWalked p mid desks pid checks form path q f → HasWalked p new desks pid checks form path q f
+  walk_kept {mid} {new} same w = record {
+    ready = ready_kept same w.ready;
+    there = w.there;
+    fine = w.fine;
+    bytes = w.bytes;
+    found = λ s at. w.found s (kept_back (λ (m : SectorMap). IsStateOf p m desks s) same at);
+  }
+
+  pub walked_below : {mid : TxnState} → HasWalked p mid desks pid checks form path q f → (n : ℕ) → f.ino ≡ Some n → n < p.inodes
+  walked_below w n is = let at = w.ready.is_state in number_below (state_tree at) n (found_there n at (w.found w.ready.state at) is)
+
+  module _ {mid : TxnState} {n : ℕ} {v : Inode} (r : HasReached p mid desks pid checks form path q f n v) where
+    pub reached_below : n < p.inodes
+    reached_below = walked_below r.walked n r.inode.some
+
+    -- what was found is there
+    pub reached_there : (s : State) → IsStateOf p mid.sectors desks s → IsThere s.tree n
+    reached_there s at = found_there n at (r.walked.found s at) r.inode.some
+
+    pub reached_used : v.kind ≢ kinds.Free
+    reached_used =
+        let at = r.walked.ready.is_state in
+        subst (λ (u : Inode). u.kind ≢ kinds.Free) (sym r.inode.inode) (is_used (state_tree at) n (reached_there r.walked.ready.state at))
+
+-- ---- a call that asks that it is the caller's
+
+module _ {pid : ℕ} {call : Call} {checks : Checked} {form : Form} {path : List ℕ} {rest : Scene → List Demand} {effect : Scene → ℕ → Effect}
+    (is : WalksPath call checks form path (λ x. must_be_there x.first ∷ own_at_end x ∷ rest x) effect) {p : Place} where
+  pub owned_refused : {old new : TxnState} {desks : Desks} (r : Result Reply Refusal) (e : Refusal) → IsErr r → IsErrAnd r (λ y. y ≡ e) → IsUnchanged old new
+      → ((s : State) → IsStateOf p old.sectors desks s → RefusesOwned old.disk new.disk s pid checks form path e) → Performs p pid call old new desks desks r
+  owned_refused r e err and same refuses = refused_performs r e err and same.store (λ s at. (refuses s at).each call rest effect is)
+
+pub walk_owned : {old new : DiskState} {s : State} {pid : ℕ} {checks : Checked} {form : Form} {path : List ℕ} {e : Refusal}
+    → RefusesWalk old new s pid checks form path e → RefusesOwned old new s pid checks form path e
+walk_owned refuses = record { each = λ call rest effect w. refuses.each call (λ x. must_be_there x.first ∷ own_at_end x ∷ rest x) effect w }
+
+-- it isn't there, or isn't the caller's
+pub unowned : {p : Place} {old mid : TxnState} {desks : Desks} {pid : ℕ} {checks : Checked} {form : Form} {path : List ℕ} {q : Process} {f : Found} (cred : Credential)
+    (new : DiskState) (e : Refusal) {A : Type 0} (x : A) → cred ≡ q.cred → IsUnchanged old mid → HasWalked p mid desks pid checks form path q f
+    → IsAnswered mid.disk new (refused_or (first_of (must_be_there f ∷ own_asked cred (inode_at p mid.sectors (number f)).uid f.step ∷ [])) (Ok x)) (Err e)
+    → (s : State) → IsStateOf p old.sectors desks s → RefusesOwned old.disk new s pid checks form path e
+unowned {p} {old} {mid} {desks} {pid} {checks} {form} {path} {q} {f} cred new e x who same w h s at = record {
+  each = λ call rest effect is.
+      refused_since is same w s at new e x
+      (own_refused (state_kept same at) (w.found s (state_kept same at)) (rest (scene_at s q f)) cred x x e mid.disk new who h);
+}
+
+-- what a link at the end was followed to, as access to it is decided
+module _ {p : Place} {desks : Desks} {pid : ℕ} {checks : Checked} {path : List ℕ} {q : Process} {f : Found} {mid : TxnState} {n : ℕ} {v : Inode}
+    (r : HasReached p mid desks pid checks Follow path q f n v) where
+  abbrev pub accessed : IsAccessed r.walked.ready.state.tree n
+  accessed = let at = r.walked.ready.is_state in followed_access n at (r.walked.found r.walked.ready.state at) r.inode.some
+
+  pub reached_access : HasAccess mid.sectors v accessed.access
+  reached_access = let at = r.walked.ready.is_state in access_held {mid = mid} {new = mid} at (r.walked.found r.walked.ready.state at) r.inode unchanged_nothing
+
+  pub reached_body : HasBody mid.sectors v accessed.node.body
+  reached_body = let at = r.walked.ready.is_state in body_found_held {mid = mid} {new = mid} at (r.walked.found r.walked.ready.state at) r.inode unchanged_nothing

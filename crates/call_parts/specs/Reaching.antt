@@ -1,0 +1,101 @@
+-- How a call reaches what it acts on, whatever call it is.
+--     WalksPath        the row of a call by one path
+--     RefusesWalk, RefusesReach, RefusesOwned        each such call is refused: by its process, arguments, path or walk; or since
+--             nothing is there; or since it isn't the caller's
+--     HasWalked        its walk has found this
+--     IsInode, HasReached, HasOwned        and this inode, which is the caller's
+--     WalksBoth, RefusesBoth, HasWalkedBoth        the same of a call by two paths
+use Rattle.std.specs.Prelude.{◌≡◌, ℕ, List, [], ◌∷◌, None, Some, IsTrue, Result, Ok}
+use Rattle.std.specs.Ordering.{nat_cmp}
+use Rattle.sector_disk.specs.Disk.{DiskState}
+use Rattle.fs_cred.specs.declared.refusal.Refusal.{Refusal}
+use Rattle.fs_layout.specs.declared.inode.Inode.{Inode}
+use Rattle.fs_layout.specs.declared.place.Place.{Place}
+use Rattle.fs_layout.specs.Bytes.{SectorMap, IsBytes}
+use Rattle.fs_layout.specs.Images.{inode_at}
+use Rattle.fs_layout.specs.Maps.{get}
+use Rattle.sector_txn.specs.Sectors.{TxnState}
+use Rattle.fs_model.specs.declared.call.Call.{Call}
+use Rattle.fs_model.specs.declared.walk.Form.{Form}
+use Rattle.fs_model.specs.declared.walk.Found.{Found}
+use Rattle.fs_model.specs.Demands.{Demand, first_of}
+use Rattle.fs_model.specs.Processes.{Process, Desks}
+use Rattle.fs_model.specs.Rows.{row_of}
+use Rattle.fs_model.specs.Scenes.{Scene, Effect, by_path, by_two_paths, number, must_be_there, own_at_end}
+use Rattle.fs_model.specs.States.{State}
+use Rattle.fs_model.specs.Steps.{asks_in_call}
+use Rattle.path_walk.specs.Answers.{refused_or}
+use Rattle.call_parts.specs.Asked.{own_asked}
+use Rattle.call_parts.specs.Paths.{HasFound}
+use Rattle.call_parts.specs.TwoPaths.{HasFoundBoth}
+use Rattle.call_parts.specs.Performing.{IsStateOf, IsReady, IsRefused}
+
+-- what the checks of a call's arguments answer
+abbrev pub Checked : Type 0
+Checked = Result (Unit {0}) Refusal
+
+abbrev pub checked : Demand → Checked
+checked d = refused_or {A = Unit {0}} d (Ok tt)
+
+-- It walks this path so, after its arguments, whose checks answer this. Then it asks these demands of what is found.
+pub record WalksPath (call : Call) (checks : Checked) (form : Form) (path : List ℕ) (demands : Scene → List Demand) (effect : Scene → ℕ → Effect) : Type 0 where
+  pub arguments : List Demand
+  pub row : row_of call ≡ by_path arguments form path demands effect
+  pub are_checked : checks ≡ checked (first_of arguments)
+  pub asks : IsTrue (asks_in_call call)
+
+-- each call that walks so is refused
+pub record RefusesWalk (old new : DiskState) (s : State) (pid : ℕ) (checks : Checked) (form : Form) (path : List ℕ) (e : Refusal) : Type 0 where
+  pub each : (call : Call) (demands : Scene → List Demand) (effect : Scene → ℕ → Effect) → WalksPath call checks form path demands effect
+      → IsRefused old new s pid call e
+
+-- each that asks first that something is there
+pub record RefusesReach (old new : DiskState) (s : State) (pid : ℕ) (checks : Checked) (form : Form) (path : List ℕ) (e : Refusal) : Type 0 where
+  pub each : (call : Call) (rest : Scene → List Demand) (effect : Scene → ℕ → Effect)
+      → WalksPath call checks form path (λ x. must_be_there x.first ∷ rest x) effect → IsRefused old new s pid call e
+
+-- each that asks then that it is the caller's
+pub record RefusesOwned (old new : DiskState) (s : State) (pid : ℕ) (checks : Checked) (form : Form) (path : List ℕ) (e : Refusal) : Type 0 where
+  pub each : (call : Call) (rest : Scene → List Demand) (effect : Scene → ℕ → Effect)
+      → WalksPath call checks form path (λ x. must_be_there x.first ∷ own_at_end x ∷ rest x) effect → IsRefused old new s pid call e
+
+-- Process pid is q, its arguments are fine, and in each state of this map and this table its walk finds f.
+pub record HasWalked (p : Place) (txn : TxnState) (desks : Desks) (pid : ℕ) (checks : Checked) (form : Form) (path : List ℕ) (q : Process) (f : Found) : Type 0 where
+  pub ready : IsReady p txn desks
+  pub there : get nat_cmp desks pid ≡ Some q
+  pub fine : checks ≡ Ok tt
+  pub bytes : IsBytes path
+  pub found : (s : State) → IsStateOf p txn.sectors desks s → HasFound s pid q form path f
+
+-- the number and the inode of what was found
+pub record IsInode (p : Place) (image : SectorMap) (f : Found) (n : ℕ) (v : Inode) : Type 0 where
+  pub some : f.ino ≡ Some n
+  pub number : number f ≡ n
+  pub inode : v ≡ inode_at p image n
+  pub met : must_be_there f ≡ None
+
+pub record HasReached (p : Place) (txn : TxnState) (desks : Desks) (pid : ℕ) (checks : Checked) (form : Form) (path : List ℕ) (q : Process) (f : Found) (n : ℕ) (v : Inode) : Type 0 where
+  pub walked : HasWalked p txn desks pid checks form path q f
+  pub inode : IsInode p txn.sectors f n v
+
+pub record HasOwned (p : Place) (txn : TxnState) (desks : Desks) (pid : ℕ) (checks : Checked) (form : Form) (path : List ℕ) (q : Process) (f : Found) (n : ℕ) (v : Inode) : Type 0 where
+  pub reached : HasReached p txn desks pid checks form path q f n v
+  pub met : first_of (must_be_there f ∷ own_asked q.cred (inode_at p txn.sectors (number f)).uid f.step ∷ []) ≡ None
+
+-- It walks both paths, the first from its start to its end before the second. Then it asks these demands of what is found.
+pub record WalksBoth (call : Call) (old_path new_path : List ℕ) (demands : Scene → List Demand) (effect : Scene → Effect) : Type 0 where
+  pub row : row_of call ≡ by_two_paths old_path new_path demands effect
+  pub asks : IsTrue (asks_in_call call)
+
+-- each call that walks both so is refused
+pub record RefusesBoth (old new : DiskState) (s : State) (pid : ℕ) (old_path new_path : List ℕ) (e : Refusal) : Type 0 where
+  pub each : (call : Call) (demands : Scene → List Demand) (effect : Scene → Effect) → WalksBoth call old_path new_path demands effect
+      → IsRefused old new s pid call e
+
+-- Process pid is q, and in each state of this map and this table its walks find f and g.
+pub record HasWalkedBoth (p : Place) (txn : TxnState) (desks : Desks) (pid : ℕ) (old_path new_path : List ℕ) (q : Process) (f g : Found) : Type 0 where
+  pub ready : IsReady p txn desks
+  pub there : get nat_cmp desks pid ≡ Some q
+  pub old_bytes : IsBytes old_path
+  pub new_bytes : IsBytes new_path
+  pub found : (s : State) → IsStateOf p txn.sectors desks s → HasFoundBoth s pid q old_path new_path f g

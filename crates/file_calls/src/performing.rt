@@ -1,0 +1,69 @@
+//! The calls on files, handed to their functions.
+
+ghost use Rattle.std.specs.Prelude.{◌≡◌, MatchOption, IsTrue};
+ghost use Rattle.call_parts.specs.Performing.{IsReady, Performs, is_on_names};
+
+use crate::acls::{get_acl, set_acl};
+use crate::attributes::{chmod, chown};
+use crate::listing::readdir;
+use crate::opening::open;
+use crate::process::{close, umask};
+use crate::rights::access;
+use crate::show::{fstat, lstat, stat};
+use crate::sizes::{ftruncate, truncate};
+use crate::transfer::{lseek, read};
+use crate::writes::write;
+use fs_cred::Refusal;
+use fs_layout::Place;
+use fs_model::{Call, Reply};
+use open_files::Procs;
+use sector_txn::Sectors;
+use std::alloc::Global;
+
+/// Performs a call on a file, a descriptor or a process. `None`: it is a call on names, and nothing is done.
+pub fn perform<S: Sectors>(
+    alloc: Global,
+    s: &mut S,
+    place: Place,
+    procs: &mut Procs,
+    pid: usize,
+    call: &Call,
+) -> Option<Result<Reply, Refusal>>
+    requires ready { IsReady place (S.state s.old) procs.old }
+    ensures { MatchOption result (IsTrue (is_on_names call.now) × (s.new ≡ s.old) × (procs.new ≡ procs.old))
+        (λ r. Performs place pid call.now (S.state s.old) (S.state s.new) procs.old procs.new r) }
+{
+    match call {
+        Call::Open(path, flags, mode) => Some(open(
+            alloc, s, place, procs, pid, path, *flags, *mode,
+        )),
+        Call::Read { fd, len } => Some(read(alloc, s, place, procs, pid, *fd, *len)),
+        Call::Write(fd, bytes) => Some(write(s, place, procs, pid, *fd, bytes)),
+        Call::Lseek(fd, whence, by) => Some(lseek(s, place, procs, pid, *fd, *whence, *by)),
+        Call::Close(fd) => Some(close(s, place, procs, pid, *fd)),
+        Call::Fstat(fd) => Some(fstat(s, place, procs, pid, *fd)),
+        Call::Ftruncate(fd, size) => Some(ftruncate(s, place, procs, pid, *fd, *size)),
+        Call::Readdir(fd) => Some(readdir(alloc, s, place, procs, pid, *fd)),
+        Call::Umask(mask) => Some(umask(procs, pid, *mask)),
+        Call::Stat(path) => Some(stat(alloc, s, place, procs, pid, path)),
+        Call::Lstat(path) => Some(lstat(alloc, s, place, procs, pid, path)),
+        Call::Access(path, want) => Some(access(alloc, s, place, procs, pid, path, *want)),
+        Call::Truncate(path, size) => Some(truncate(alloc, s, place, procs, pid, path, *size)),
+        Call::Chmod(path, mode) => Some(chmod(alloc, s, place, procs, pid, path, *mode)),
+        Call::Chown { path, owner, group } => Some(chown(
+            alloc, s, place, procs, pid, path, *owner, *group,
+        )),
+        Call::GetAcl(path, which) => Some(get_acl(alloc, s, place, procs, pid, path, *which)),
+        Call::SetAcl(path, which, acl) => Some(set_acl(
+            alloc,
+            s,
+            place,
+            procs,
+            pid,
+            path,
+            *which,
+            acl.as_ref(),
+        )),
+        _ => None,
+    }
+}
