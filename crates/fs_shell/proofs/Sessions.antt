@@ -1,5 +1,5 @@
 -- A run of a script, line after line.
-use Rattle.std.proofs.Common.{◌≡◌, ◌⊎◌, inl, inr, ℕ, ◌+◌, ◌≤◌, List, [], ◌∷◌, ◌++◌, length, Option, None, Some, IfSome, Result, Ok, Err, refl, sym, ap, subst, ◌∙◌, arith, append_assoc, append-nil, length-append}
+use Rattle.std.proofs.Common.{◌≡◌, ◌⊎◌, inl, inr, ℕ, ◌+◌, ◌≤◌, List, [], ◌∷◌, ◌++◌, length, Option, None, Some, IfSome, Result, MatchResult, Ok, Err, refl, sym, ap, subst, ◌∙◌, arith, append_assoc, append-nil, length-append}
 use Rattle.std.specs.Io.KnownBytes.{Consumes, Appends, Keeps, IsAtEnd}
 use Rattle.std.proofs.KnownBytes.{Consumes-nil, Consumes-trans, Appends-nil, Appends-trans, Appends-kept}
 use Rattle.std.proofs.lemmas.Grind.{flat_map-append}
@@ -17,7 +17,7 @@ use Rattle.fs_shell.specs.declared.fault.RunFault.{RunFault}
 use Rattle.fs_shell.specs.declared.fault.RunFault.TheVariants.{WriteFault, OutOfMemory, TooMuch}
 use Rattle.fs_shell.specs.Lines.{lines_of}
 use Rattle.fs_shell.specs.Scripts.{script_limit, IsTaken, LineRead, IsOver}
-use Rattle.fs_shell.specs.Runs.{answer_text, answers_text, faults_counted, count_faults, LineAnswers, LinePerformed, ScriptAnswers, no_line, a_line, Ran}
+use Rattle.fs_shell.specs.Runs.{answer_text, answers_text, faults_counted, count_faults, LineAnswers, LinePerformed, ScriptAnswers, no_line, a_line, Finished, EndedEarly, Ran}
 use Rattle.fs_shell.proofs.Cut.{cut_answers}
 
 -- these lines have been taken from an input, and what is left has the others
@@ -129,11 +129,12 @@ all_fit (Some xs) (Some ys) text took end fits =
     let whole : length xs ≡ length text = ap length (took ∙ ap (λ l. text ++ l) end ∙ append-nil text) in
     omega arith
 
--- the script ends
-pub finishes : {D : Type 0} (state : D → DiskState) (input left before after later : Option (List ℕ)) (given : ℕ) (count : Count) (old now : System D)
-    → Running state input left before after given count old now → IsAtEnd left → given ≤ script_limit → Keeps after later
-    → Runs state input before later old now (Ok count)
-finishes state input left before after later given count old now run end fits keeps = λ c is.
+-- a run that comes to this outcome
+ended : {D : Type 0} (state : D → DiskState) (input left before after later : Option (List ℕ)) (given : ℕ) (count : Count) (old now : System D) (result : Result Count RunFault)
+    (run : Running state input left before after given count old now)
+    → MatchResult result (Finished input before later run.lines run.answers) (EndedEarly input run.lines)
+    → Runs state input before later old now result
+ended state input left before after later given count old now result run outcome = λ c is.
     let played = run.plays c is in (
       played.0,
       played.1,
@@ -144,15 +145,22 @@ finishes state input left before after later given count old now run end fits ke
         replies = run.replies;
         answered = run.answered;
         history = played.2;
-        outcome = record {
-          all_lines = all_taken run.lines input left run.taken end;
-          written = Appends-kept before after later (answers_text run.answers) run.written keeps;
-          lines_counted = run.lines_counted;
-          faults_counted = run.faults_counted;
-          fits = all_fit input left run.text run.consumed end (omega (arith, run.counted));
-        };
+        outcome = outcome;
       },
     )
+
+-- the script ends
+pub finishes : {D : Type 0} (state : D → DiskState) (input left before after later : Option (List ℕ)) (given : ℕ) (count : Count) (old now : System D)
+    → Running state input left before after given count old now → IsAtEnd left → given ≤ script_limit → Keeps after later
+    → Runs state input before later old now (Ok count)
+finishes state input left before after later given count old now run end fits keeps =
+    ended state input left before after later given count old now (Ok count) run (record {
+      all_lines = all_taken run.lines input left run.taken end;
+      written = Appends-kept before after later (answers_text run.answers) run.written keeps;
+      lines_counted = run.lines_counted;
+      faults_counted = run.faults_counted;
+      fits = all_fit input left run.text run.consumed end (omega (arith, run.counted));
+    })
 
 others_of : Option (List ℕ) → List (List ℕ)
 others_of None = []
@@ -175,24 +183,12 @@ goes_over (Some xs) (Some ys) text given took count over =
 pub ends_early : {D : Type 0} (state : D → DiskState) (input left before after later : Option (List ℕ)) (given : ℕ) (count : Count) (old now : System D) (fault : RunFault)
     → Running state input left before after given count old now → (fault ≡ TooMuch → IsOver left given)
     → Runs state input before later old now (Err fault)
-ends_early state input left before after later given count old now fault run over = λ c is.
-    let played = run.plays c is in (
-      played.0,
-      played.1,
-      record {
-        lines = run.lines;
-        answers = run.answers;
-        events = run.events;
-        replies = run.replies;
-        answered = run.answered;
-        history = played.2;
-        outcome = record {
-          rest = others_of left;
-          first_lines = first_taken run.lines input left run.taken;
-          too_much = λ much. goes_over input left run.text given run.consumed run.counted (over much);
-        };
-      },
-    )
+ends_early state input left before after later given count old now fault run over =
+    ended state input left before after later given count old now (Err fault) run (record {
+      rest = others_of left;
+      first_lines = first_taken run.lines input left run.taken;
+      too_much = λ much. goes_over input left run.text given run.consumed run.counted (over much);
+    })
 
 -- after a line that was performed, whose answer wasn't written
 pub ends_unanswered : {D : Type 0} (state : D → DiskState) (input left next before after later : Option (List ℕ)) (given more : ℕ) (count : Count) (old now new : System D)
