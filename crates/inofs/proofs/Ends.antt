@@ -5,6 +5,7 @@ use Rattle.std.specs.Io.KnownBytes.{Appends}
 use Rattle.sector_disk.specs.Disk.{DiskState}
 use Rattle.fs_layout.specs.declared.place.Place.{Place}
 use Rattle.fs_layout.specs.Place.{IsPlace, laid_out, the_place}
+use Rattle.fs_layout.specs.Version.{newest}
 use Rattle.fs_layout.proofs.Places.{place_is_laid_out, place_is_place}
 use Rattle.fs_model.specs.States.{State}
 use Rattle.fs_model.specs.declared.event.Event.TheVariants.{Sync}
@@ -23,6 +24,7 @@ use Rattle.fs_shell.specs.Watching.{FailsWhere}
 use Rattle.fs_shell.specs.declared.fault.RunFault.{RunFault}
 use Rattle.fs_shell.specs.declared.fault.RunFault.TheVariants.{ReadFault, WriteFault}
 use Rattle.inofs.specs.Jobs.{Tells, RunsOn}
+use Rattle.inofs.specs.Streams.{Reading, Writing}
 use Rattle.inofs.specs.declared.status.Status.{Status}
 use Rattle.inofs.specs.declared.status.Status.TheVariants.{Failed}
 
@@ -43,7 +45,7 @@ placed sectors inodes size place has same =
 -- where there is one, mkfs refuses nothing
 pub refuses_nothing : (sectors inodes : ℕ) (place : Place) → the_place sectors inodes ≡ Some place → mkfs_refusal sectors inodes ≡ None
 refuses_nothing sectors inodes place has =
-    let is : IsPlace (laid_out sectors inodes) = subst IsPlace (place_is_laid_out sectors inodes has) (place_is_place sectors inodes has) in
+    let is : IsPlace (laid_out sectors inodes) = subst IsPlace (place_is_laid_out sectors inodes has) (place_is_place newest sectors inodes has) in
     (place_or_too_small sectors inodes (record {
       size = record { least = is.least_sectors; most = is.most_sectors };
       least = is.least_inodes;

@@ -1,5 +1,6 @@
 use Rattle.std.proofs.Common.{refl, subst, Ok}
 use Rattle.fs_layout.specs.declared.place.Place.{Place}
+use Rattle.fs_layout.specs.Version.{newest}
 use Rattle.fs_layout.proofs.Places.{place_is_laid_out, place_is_place}
 use Rattle.inofs.specs.Jobs.{Tells, cannot_make, is_made}
 use Rattle.inofs.specs.Streams.{writing}
@@ -14,7 +15,7 @@ returns-in-Err g c =
     cannot_make c.in-Err.fault (c.in-Err.ensures.fault none) (refl, refl)
 
 pub print_made-requires : goal.print_made-requires
-print_made-requires g c = place_is_place (g.D.Disk.state c.args.disk.now).size c.args.place.inodes c.requires
+print_made-requires g c = place_is_place newest (g.D.Disk.state c.args.disk.now).size c.args.place.inodes c.requires
 
 pub returns : goal.returns
 returns g c =
