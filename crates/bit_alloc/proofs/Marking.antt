@@ -13,7 +13,7 @@ use Rattle.fs_layout.proofs.Places.{after_map}
 use Rattle.fs_layout.proofs.Bits.{has_bit, bit_kept, inode_bit_kept, PutsByte, free_sectors_less, free_sectors_more}
 use Rattle.fs_layout.proofs.Marks.{marks_sector, marks_inode}
 use Rattle.sector_txn.specs.Sectors.{TxnState, SameStore, IsPut, PutsOnly}
-use Rattle.sector_txn.proofs.Changes.{changes_nothing, changes_put_shared, room_for}
+use Rattle.sector_txn.proofs.TransactionRuns.{changes_nothing, changes_put_shared, room_for}
 use Rattle.bit_alloc.specs.declared.bitmap.Bitmap.{Bitmap}
 use Rattle.bit_alloc.specs.declared.bitmap.Bitmap.TheVariants.{Inodes, Blocks}
 use Rattle.bit_alloc.specs.Bitmaps.{first_sector, bit_count, limit, IsNumber, IsFreeNumber, free_numbers, sector_of, Marks, HasRestSet, HasBitmaps}

@@ -8,13 +8,13 @@ use Rattle.fs_layout.specs.declared.version.Version.{Version}
 use Rattle.fs_layout.specs.Place.{IsPlace, place_in}
 use Rattle.fs_layout.specs.Images.{bit, inode_bitmap, block_bitmap, free_sectors}
 use Rattle.fs_layout.specs.Ownership.{IsConsistent}
-use Rattle.fs_layout.specs.Changes.{MarksInode}
+use Rattle.fs_layout.specs.InodeChanges.{MarksInode}
 use Rattle.fs_layout.proofs.Bits.{bit_kept, inode_bit_kept, free_sectors_kept}
 use Rattle.fs_layout.proofs.Composes.{both_inodes}
 use Rattle.fs_layout.proofs.Consistent.{stays_consistent}
 use Rattle.fs_layout.proofs.Places.{after_map, before_data, place_has_bounds}
 use Rattle.sector_txn.specs.Sectors.{TxnState, SameStore, IsPut, PutsOnly}
-use Rattle.sector_txn.proofs.Changes.{changes_joined, lacking_at_most}
+use Rattle.sector_txn.proofs.TransactionRuns.{changes_joined, lacking_at_most}
 use Rattle.bit_alloc.specs.declared.bitmap.Bitmap.{Bitmap}
 use Rattle.bit_alloc.specs.declared.bitmap.Bitmap.TheVariants.{Inodes, Blocks}
 use Rattle.bit_alloc.specs.Bitmaps.{limit, IsNumber, sector_of, HasRestSet, HasBitmaps}

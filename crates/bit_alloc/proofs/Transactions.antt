@@ -2,7 +2,7 @@
 use Rattle.std.proofs.Common.{◌≡◌, ℕ, refl, sym, subst, ◌∙◌, arith, inl, inr, ⊎_elim, List}
 use Rattle.fs_layout.specs.declared.place.Place.{Place}
 use Rattle.sector_txn.specs.Sectors.{TxnState, IsUnchanged, PutsOnly}
-use Rattle.sector_txn.proofs.Changes.{store_same, store_joined, lacking_less}
+use Rattle.sector_txn.proofs.TransactionRuns.{store_same, store_joined, lacking_less}
 use Rattle.bit_alloc.specs.Bitmaps.{HasRestSet, HasBitmaps}
 use Rattle.bit_alloc.specs.Room.{bitmaps, HasSpare}
 use Rattle.fs_layout.specs.Images.{HasWholeTables}

@@ -14,7 +14,7 @@ use Rattle.fs_layout.specs.declared.place.Place.{Place}
 use Rattle.fs_layout.specs.Bytes.{SectorMap}
 use Rattle.fs_layout.specs.Place.{IsPlace}
 use Rattle.fs_layout.specs.Images.{HasWholeTables, inode_bitmap, block_bitmap, map_bits, bit, free_sectors}
-use Rattle.fs_layout.specs.Changes.{MarksSector, MarksInode}
+use Rattle.fs_layout.specs.InodeChanges.{MarksSector, MarksInode}
 use Rattle.sector_txn.specs.Sectors.{TxnState}
 
 -- the first sector of the bitmap

@@ -12,7 +12,7 @@ use Rattle.fs_layout.specs.declared.place.Place.{Place}
 use Rattle.fs_layout.specs.Bytes.{SectorMap}
 use Rattle.fs_layout.specs.Images.{IsData, Holds, HasNoHole, free_sectors}
 use Rattle.fs_layout.specs.Ownership.{IsConsistent}
-use Rattle.fs_layout.specs.Changes.{ChangesInode}
+use Rattle.fs_layout.specs.InodeChanges.{ChangesInode}
 use Rattle.sector_txn.specs.Sectors.{TxnState, PutsOnly}
 use Rattle.bit_alloc.specs.Bitmaps.{HasBitmaps}
 use Rattle.bit_alloc.specs.Room.{bitmaps}

@@ -11,7 +11,7 @@ use Rattle.fs_layout.specs.declared.version.Version.{Version}
 use Rattle.fs_layout.specs.Place.{IsPlace, place_in}
 use Rattle.fs_layout.specs.Images.{bit, inode_bitmap, free_sectors}
 use Rattle.fs_layout.specs.Ownership.{IsConsistent}
-use Rattle.fs_layout.specs.Changes.{MarksInode}
+use Rattle.fs_layout.specs.InodeChanges.{MarksInode}
 use Rattle.sector_txn.specs.Sectors.{TxnState}
 use Rattle.bit_alloc.specs.declared.bitmap.Bitmap.TheVariants.{Inodes}
 use Rattle.bit_alloc.specs.Bitmaps.{IsNumber}

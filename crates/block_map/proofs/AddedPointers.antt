@@ -8,14 +8,14 @@ use Rattle.fs_layout.specs.declared.place.Place.{Place}
 use Rattle.fs_layout.specs.Bytes.{SectorMap, zeros}
 use Rattle.fs_layout.specs.Inode.{FitsInode, inode_fits}
 use Rattle.fs_layout.specs.Images.{Indirect, Block, part, free_sectors}
-use Rattle.fs_layout.specs.Changes.{Allocates, Gains}
+use Rattle.fs_layout.specs.InodeChanges.{Allocates, Gains}
 use Rattle.fs_layout.specs.Place.{IsPlace}
 use Rattle.fs_layout.proofs.Blocks.{nothing_changes}
 use Rattle.fs_layout.proofs.Parts.{indirect_is_no_block}
 use Rattle.fs_layout.proofs.Pointers.{gains_indirect}
 use Rattle.fs_layout.proofs.Steps.{allocates_keeps, allocated_some, pointers_gained, pointers_gained_holds}
 use Rattle.sector_txn.specs.Sectors.{TxnState, PutsOnly, lacking}
-use Rattle.sector_txn.proofs.Changes.{changes_nothing, changes_weaker}
+use Rattle.sector_txn.proofs.TransactionRuns.{changes_nothing, changes_weaker}
 use Rattle.bit_alloc.specs.Bitmaps.{HasBitmaps}
 use Rattle.bit_alloc.specs.Room.{bitmaps}
 use Rattle.block_map.specs.declared.blocks.Blocks.{Blocks}

@@ -4,7 +4,7 @@ use Rattle.fs_layout.specs.declared.inode.Inode.{Inode}
 use Rattle.fs_layout.specs.declared.place.Place.{Place}
 use Rattle.fs_layout.specs.Bytes.{SectorMap, IsSector}
 use Rattle.fs_layout.specs.Images.{bit, inode_bitmap}
-use Rattle.fs_layout.specs.Changes.{Keeps, Puts}
+use Rattle.fs_layout.specs.InodeChanges.{Keeps, Puts}
 use Rattle.fs_layout.proofs.Places.{after_map, before_data}
 use Rattle.fs_layout.proofs.Parts.{owns_acl, owns_default_acl}
 use Rattle.fs_layout.proofs.Bits.{inode_bit_kept, block_bit_kept}

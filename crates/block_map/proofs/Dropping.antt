@@ -10,7 +10,7 @@ use Rattle.fs_layout.specs.Bytes.{SectorMap, IsSector, u32_of}
 use Rattle.fs_layout.specs.Inode.{FitsInode, inode_fits}
 use Rattle.fs_layout.specs.Place.{IsPlace}
 use Rattle.fs_layout.specs.Images.{pointer, Part, AccessAcl, DefaultAcl, Indirect, DoubleIndirect, Block, part, Owns, bit, block_bitmap, map_bits, free_sectors}
-use Rattle.fs_layout.specs.Changes.{IsOwnedApart, IsBlockMap}
+use Rattle.fs_layout.specs.InodeChanges.{IsOwnedApart, IsBlockMap}
 use Rattle.fs_layout.proofs.Bits.{not_both, has_bit, block_bit_kept}
 use Rattle.fs_layout.proofs.Blocks.{map_is_low}
 use Rattle.fs_layout.proofs.Marks.{no_map}
@@ -18,7 +18,7 @@ use Rattle.fs_layout.proofs.Held.{no_block_has_pointers}
 use Rattle.fs_layout.proofs.Parts.{owns_block, owns_indirect, owns_acl, owns_default_acl}
 use Rattle.fs_layout.proofs.Pointers.{pointer_direct, pointer_indirect, entry_there, pointer_past, pointer_without}
 use Rattle.sector_txn.specs.Sectors.{TxnState, IsPut, PutsOnly}
-use Rattle.sector_txn.proofs.Changes.{changes_joined, changes_weaker, changes_put}
+use Rattle.sector_txn.proofs.TransactionRuns.{changes_joined, changes_weaker, changes_put}
 use Rattle.bit_alloc.specs.declared.bitmap.Bitmap.TheVariants.{Blocks as BlockMap}
 use Rattle.bit_alloc.specs.Bitmaps.{HasBitmaps, GivesNumber, sector_of}
 use Rattle.bit_alloc.specs.Room.{bitmaps}

@@ -12,7 +12,7 @@ use Rattle.fs_layout.specs.Bytes.{zeros}
 use Rattle.fs_layout.specs.Inode.{FitsInode, free_inode}
 use Rattle.fs_layout.specs.Images.{AccessAcl, DefaultAcl, part, bit, inode_at, inode_bitmap}
 use Rattle.fs_layout.specs.Ownership.{IsConsistent}
-use Rattle.fs_layout.specs.Changes.{IsOwnedApart, MarksInode, ChangesBlocks, ChangesInode, Saves}
+use Rattle.fs_layout.specs.InodeChanges.{IsOwnedApart, MarksInode, ChangesBlocks, ChangesInode, Saves}
 use Rattle.fs_layout.proofs.Composes.{apart_after, both_changes, both_inodes}
 use Rattle.fs_layout.proofs.Consistent.{owned_is_apart, stays_consistent, saved_stays_consistent}
 use Rattle.fs_layout.proofs.Free.{HasNoSector, free_fits, free_has_no_sector, inode_fits_there, no_sector_changes}
@@ -21,7 +21,7 @@ use Rattle.fs_layout.proofs.Pointers.{turns_acl, turns_default_acl}
 use Rattle.fs_layout.proofs.Saves.{IsSaved}
 use Rattle.fs_layout.proofs.SplicedBytes.{get_or-zeros}
 use Rattle.sector_txn.specs.Sectors.{TxnState, IsUnchanged, PutsOnly}
-use Rattle.sector_txn.proofs.Changes.{changes_joined}
+use Rattle.sector_txn.proofs.TransactionRuns.{changes_joined}
 use Rattle.bit_alloc.specs.declared.bitmap.Bitmap.TheVariants.{Inodes}
 use Rattle.bit_alloc.specs.Bitmaps.{HasBitmaps, IsNumber, GivesNumber}
 use Rattle.bit_alloc.specs.Room.{bitmaps}

@@ -8,7 +8,7 @@ use Rattle.fs_layout.specs.Bytes.{SectorMap, IsSector, zeros}
 use Rattle.fs_layout.specs.Inode.{FitsInode, inode_fits}
 use Rattle.fs_layout.specs.Place.{IsPlace}
 use Rattle.fs_layout.specs.Images.{HasWholeTables, pointer, Part, AccessAcl, DefaultAcl, Indirect, DoubleIndirect, Block, part, Owns, Holds, byte_in, byte_at, bit, block_bitmap, map_bits, free_sectors}
-use Rattle.fs_layout.specs.Changes.{IsOwnedApart, IsBlockMap, ChangesBlocks}
+use Rattle.fs_layout.specs.InodeChanges.{IsOwnedApart, IsBlockMap, ChangesBlocks}
 use Rattle.fs_layout.proofs.Bits.{set_or_clear, not_both, has_bit, free_sectors_kept}
 use Rattle.fs_layout.proofs.Parts.{owns_block, owns_indirect}
 use Rattle.fs_layout.proofs.Held.{no_block_has_pointers}
@@ -22,7 +22,7 @@ use Rattle.fs_layout.proofs.Marks.{no_map}
 use Rattle.sector_txn.specs.Sectors.{TxnState, IsUnchanged, PutsOnly}
 use Rattle.bit_alloc.proofs.Transactions.{bitmaps_unchanged, puts_after}
 use Rattle.block_map.proofs.Runs.{same_map}
-use Rattle.sector_txn.proofs.Changes.{changes_nothing, changes_joined, changes_weaker}
+use Rattle.sector_txn.proofs.TransactionRuns.{changes_nothing, changes_joined, changes_weaker}
 use Rattle.bit_alloc.specs.declared.bitmap.Bitmap.TheVariants.{Blocks as BlockMap}
 use Rattle.bit_alloc.specs.Bitmaps.{HasBitmaps, GivesNumber, sector_of}
 use Rattle.bit_alloc.specs.Room.{bitmaps}

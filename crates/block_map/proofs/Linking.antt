@@ -10,7 +10,7 @@ use Rattle.fs_layout.specs.Bytes.{SectorMap, splice, zeros}
 use Rattle.fs_layout.specs.Inode.{FitsInode, inode_fits, free_inode}
 use Rattle.fs_layout.specs.Images.{pointer, Holds, HasNoHole, bit, free_sectors, inode_at, inode_bitmap}
 use Rattle.fs_layout.specs.Ownership.{IsConsistent}
-use Rattle.fs_layout.specs.Changes.{with_direct, Allocates, IsOwnedApart, ReplacesBlock, ChangesBlocks, ChangesInode, Saves}
+use Rattle.fs_layout.specs.InodeChanges.{with_direct, Allocates, IsOwnedApart, ReplacesBlock, ChangesBlocks, ChangesInode, Saves}
 use Rattle.fs_layout.proofs.Composes.{apart_after, both_changes, both_inodes}
 use Rattle.fs_layout.proofs.Consistent.{owned_is_apart, stays_consistent, saved_stays_consistent}
 use Rattle.fs_layout.proofs.Free.{HasNoSector, free_has_no_sector, holds_nothing, no_sector_changes, with_direct_fits}
@@ -24,7 +24,7 @@ use Rattle.fs_layout.proofs.SplicedBytes.{IsSector-zeros, get_or-zeros}
 use Rattle.fs_layout.proofs.Steps.{allocated_some, direct_block_gained, direct_block_filled}
 use Rattle.fs_layout.proofs.Writes.{length-zeros}
 use Rattle.sector_txn.specs.Sectors.{TxnState, PutsOnly}
-use Rattle.sector_txn.proofs.Changes.{changes_joined}
+use Rattle.sector_txn.proofs.TransactionRuns.{changes_joined}
 use Rattle.bit_alloc.specs.declared.bitmap.Bitmap.TheVariants.{Inodes}
 use Rattle.bit_alloc.specs.Bitmaps.{TakesNumber}
 use Rattle.bit_alloc.specs.Room.{bitmaps}

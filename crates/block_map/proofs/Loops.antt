@@ -11,7 +11,7 @@ use Rattle.fs_layout.specs.Bytes.{SectorMap, splice}
 use Rattle.fs_layout.specs.Images.{pointer, Holds, free_sectors}
 use Rattle.fs_layout.proofs.Writes.{splice_next, nothing_put}
 use Rattle.sector_txn.specs.Sectors.{TxnState, PutsOnly, lacking}
-use Rattle.sector_txn.proofs.Changes.{changes_nothing, changes_joined, store_joined}
+use Rattle.sector_txn.proofs.TransactionRuns.{changes_nothing, changes_joined, store_joined}
 use Rattle.bit_alloc.specs.Room.{bitmaps, HasSpare}
 use Rattle.block_map.specs.declared.blocks.Blocks.{Blocks}
 use Rattle.block_map.specs.Blocks.{IsLoaded}

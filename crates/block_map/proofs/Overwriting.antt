@@ -8,7 +8,7 @@ use Rattle.fs_layout.specs.Bytes.{SectorMap, IsBytes, splice, zeros}
 use Rattle.fs_layout.specs.Inode.{FitsInode}
 use Rattle.fs_layout.specs.Images.{pointer, stored, inode_bitmap, inode_at, Holds, HasNoHole, Owns, free_sectors}
 use Rattle.fs_layout.specs.Ownership.{IsConsistent}
-use Rattle.fs_layout.specs.Changes.{Puts, IsOwnedApart, ChangesInode}
+use Rattle.fs_layout.specs.InodeChanges.{Puts, IsOwnedApart, ChangesInode}
 use Rattle.fs_layout.proofs.Places.{after_map, before_data}
 use Rattle.fs_layout.proofs.Parts.{owns_block}
 use Rattle.fs_layout.proofs.Bits.{inode_bit_kept}
@@ -16,7 +16,7 @@ use Rattle.fs_layout.proofs.Saves.{in_table, stored_kept, valid_kept, owned_at}
 use Rattle.fs_layout.proofs.Consistent.{owned_is_apart, blocks_keep_table, stays_consistent}
 use Rattle.fs_layout.proofs.Free.{inode_fits_there}
 use Rattle.sector_txn.specs.Sectors.{TxnState, IsUnchanged, PutsOnly}
-use Rattle.sector_txn.proofs.Changes.{changes_beside, changes_weaker}
+use Rattle.sector_txn.proofs.TransactionRuns.{changes_beside, changes_weaker}
 use Rattle.bit_alloc.specs.Room.{bitmaps}
 use Rattle.bit_alloc.specs.Inodes.{IsSound, IsSectorFor}
 use Rattle.bit_alloc.proofs.Transactions.{puts_after}

@@ -8,7 +8,7 @@ use Rattle.fs_layout.specs.declared.inode.Kind.{Kind}
 use Rattle.fs_layout.specs.declared.place.Place.{Place}
 use Rattle.fs_layout.specs.Bytes.{SectorMap, splice, zeros, resized}
 use Rattle.fs_layout.specs.Images.{pointer, part, Block, Owns, Holds, byte_in, byte_at, free_sectors}
-use Rattle.fs_layout.specs.Changes.{Puts, ChangesBlocks}
+use Rattle.fs_layout.specs.InodeChanges.{Puts, ChangesBlocks}
 use Rattle.fs_layout.proofs.Blocks.{fields_change, pointers_apart}
 use Rattle.fs_layout.proofs.Parts.{KeepsPointers, pointer_same, byte_in_kept, indirect_is_no_block, owns_block}
 use Rattle.fs_layout.proofs.Held.{held_hole}
@@ -16,7 +16,7 @@ use Rattle.fs_layout.proofs.Sectors.{IsBytes-zeros}
 use Rattle.fs_layout.proofs.Writes.{length-zeros}
 use Rattle.fs_layout.proofs.SplicedBytes.{get_or-zeros, length-splice, get_or-splice_before, get_or-splice_inside}
 use Rattle.sector_txn.specs.Sectors.{TxnState, IsUnchanged, PutsOnly}
-use Rattle.sector_txn.proofs.Changes.{changes_joined, changes_nothing, changes_weaker}
+use Rattle.sector_txn.proofs.TransactionRuns.{changes_joined, changes_nothing, changes_weaker}
 use Rattle.bit_alloc.specs.Inodes.{KeepsAcls}
 use Rattle.bit_alloc.specs.Room.{bitmaps}
 use Rattle.bit_alloc.proofs.Transactions.{unchanged_nothing, puts_after}

@@ -2,7 +2,7 @@
 use Rattle.std.proofs.Common.{◌≡◌, ℕ, ◌+◌, ◌-◌, ◌≤◌, List, [], ◌++◌, length, take, drop, replicate, refl, sym, ap, subst, ◌∙◌, arith, Result, Ok, Err}
 use Rattle.std.proofs.lemmas.List.{append-nil, drop_all}
 use Rattle.fs_layout.specs.Bytes.{SectorMap, splice, zeros}
-use Rattle.fs_layout.specs.Changes.{Puts}
+use Rattle.fs_layout.specs.InodeChanges.{Puts}
 use Rattle.fs_layout.proofs.Writes.{length-zeros, part_is_splice, put_is_splice}
 use Rattle.std.specs.Prelude.{IsErr, IsErrAnd}
 use Rattle.bit_alloc.specs.declared.bitmap.TakeFault.{TakeFault}

@@ -5,7 +5,7 @@ use Rattle.sector_disk.specs.Disk.{DiskState, HasFailed}
 use Rattle.sector_disk.proofs.Moments.{failed_later}
 use Rattle.fs_layout.specs.Bytes.{SectorMap}
 use Rattle.sector_txn.specs.Sectors.{TxnState, SameStore, IsUnchanged}
-use Rattle.sector_txn.proofs.Changes.{store_joined}
+use Rattle.sector_txn.proofs.TransactionRuns.{store_joined}
 use Rattle.bit_alloc.specs.Faults.{HasCauseOf}
 use Rattle.block_map.specs.declared.fault.MapFault.{MapFault}
 

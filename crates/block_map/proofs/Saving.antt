@@ -5,12 +5,12 @@ use Rattle.fs_layout.specs.declared.inode.Inode.{Inode}
 use Rattle.fs_layout.specs.declared.place.Place.{Place}
 use Rattle.fs_layout.specs.Images.{bit, inode_bitmap, inode_at, free_sectors}
 use Rattle.fs_layout.specs.Ownership.{IsConsistent}
-use Rattle.fs_layout.specs.Changes.{Keeps, Saves}
+use Rattle.fs_layout.specs.InodeChanges.{Keeps, Saves}
 use Rattle.fs_layout.proofs.Places.{after_map, before_data}
 use Rattle.fs_layout.proofs.Saves.{IsSaved}
 use Rattle.fs_layout.proofs.Consistent.{saved_stays_consistent}
 use Rattle.sector_txn.specs.Sectors.{TxnState, SameStore, PutsOnly}
-use Rattle.sector_txn.proofs.Changes.{changes_beside, changes_joined, changes_weaker}
+use Rattle.sector_txn.proofs.TransactionRuns.{changes_beside, changes_joined, changes_weaker}
 use Rattle.bit_alloc.specs.declared.bitmap.Bitmap.TheVariants.{Inodes, Blocks}
 use Rattle.bit_alloc.specs.Room.{bitmaps}
 use Rattle.bit_alloc.specs.Inodes.{IsSound, IsSectorFor}

@@ -12,7 +12,7 @@ use Rattle.fs_layout.specs.declared.place.Place.{Place}
 use Rattle.fs_layout.specs.Bytes.{SectorMap, splice, zeros, resized, overwritten}
 use Rattle.fs_layout.specs.Inode.{FitsInode, inode_fits, numbers_fit}
 use Rattle.fs_layout.specs.Images.{pointer, Holds, inode_at}
-use Rattle.fs_layout.specs.Changes.{ChangesBlocks, IsOwnedApart}
+use Rattle.fs_layout.specs.InodeChanges.{ChangesBlocks, IsOwnedApart}
 use Rattle.fs_layout.proofs.Writes.{length-zeros}
 use Rattle.fs_layout.proofs.SplicedBytes.{get_or-zeros}
 use Rattle.fs_layout.proofs.Blocks.{fields_change}

@@ -7,7 +7,7 @@ use Rattle.fs_layout.specs.declared.place.Place.{Place}
 use Rattle.fs_layout.specs.Bytes.{SectorMap, IsBytes, IsSector, splice, le32, zeros}
 use Rattle.fs_layout.specs.Place.{IsPlace}
 use Rattle.fs_layout.specs.Images.{pointer, AccessAcl, DefaultAcl, Indirect, Block, part, Owns, free_sectors}
-use Rattle.fs_layout.specs.Changes.{Puts, PutsEntry, Allocates, Turns, ReplacesBlock, IsOwnedApart, with_direct}
+use Rattle.fs_layout.specs.InodeChanges.{Puts, PutsEntry, Allocates, Turns, ReplacesBlock, IsOwnedApart, with_direct}
 use Rattle.fs_layout.proofs.Parts.{KeepsPointers, indirect_is_no_block, pointer_same, pointers_kept, owns_acl, owns_default_acl, owns_indirect}
 use Rattle.fs_layout.proofs.Sectors.{IsSector-splice}
 use Rattle.fs_layout.proofs.SplicedBytes.{IsSector-zeros}

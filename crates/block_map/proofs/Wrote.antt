@@ -7,7 +7,7 @@ use Rattle.fs_layout.specs.declared.inode.Inode.{Inode}
 use Rattle.fs_layout.specs.declared.place.Place.{Place}
 use Rattle.fs_layout.specs.Bytes.{SectorMap, zeros, overwritten}
 use Rattle.fs_layout.specs.Images.{pointer, Holds, HasNoHole, inode_at, free_sectors}
-use Rattle.fs_layout.specs.Changes.{Saves}
+use Rattle.fs_layout.specs.InodeChanges.{Saves}
 use Rattle.fs_layout.proofs.Parts.{Holds-kept, HasNoHole-kept}
 use Rattle.fs_layout.proofs.Places.{after_map, before_data}
 use Rattle.sector_txn.specs.Sectors.{TxnState, IsUnchanged, PutsOnly}

@@ -7,7 +7,7 @@ use Rattle.fs_layout.specs.declared.inode.TheConstants.{DIRECT_BLOCKS}
 use Rattle.fs_layout.specs.declared.inode.Inode.{Inode}
 use Rattle.fs_layout.specs.declared.place.Place.{Place}
 use Rattle.fs_layout.specs.Images.{pointer, bit, block_bitmap, map_bits, free_sectors}
-use Rattle.fs_layout.specs.Changes.{IsBlockMap}
+use Rattle.fs_layout.specs.InodeChanges.{IsBlockMap}
 use Rattle.sector_txn.specs.Sectors.{TxnState, PutsOnly}
 use Rattle.bit_alloc.specs.Bitmaps.{HasBitmaps}
 use Rattle.bit_alloc.specs.Room.{bitmaps}

@@ -14,7 +14,7 @@ use Rattle.fs_layout.specs.declared.place.Place.{Place}
 use Rattle.fs_layout.specs.Bytes.{SectorMap, splice}
 use Rattle.fs_layout.specs.Inode.{FitsInode}
 use Rattle.fs_layout.specs.Images.{IsData, pointer, Holds, free_sectors}
-use Rattle.fs_layout.specs.Changes.{IsOwnedApart, ChangesBlocks}
+use Rattle.fs_layout.specs.InodeChanges.{IsOwnedApart, ChangesBlocks}
 use Rattle.sector_txn.specs.Sectors.{TxnState, PutsOnly, lacking}
 use Rattle.bit_alloc.specs.Bitmaps.{HasBitmaps}
 use Rattle.bit_alloc.specs.Room.{bitmaps}

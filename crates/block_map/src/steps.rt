@@ -4,7 +4,7 @@ ghost use Rattle.std.specs.Prelude.{◌≡◌, ◌≢◌, ◌≤◌, ◌<◌, �
 ghost use Rattle.fs_layout.specs.declared.inode.TheConstants.{DIRECT_BLOCKS, DIRECT_SIZE, MAX_BLOCKS};
 ghost use Rattle.fs_layout.specs.Bytes.{SectorMap, IsSector, splice, zeros};
 ghost use Rattle.fs_layout.specs.Images.{pointer, free_sectors};
-ghost use Rattle.fs_layout.specs.Changes.{Puts, Allocates};
+ghost use Rattle.fs_layout.specs.InodeChanges.{Puts, Allocates};
 ghost use Rattle.sector_disk.specs.Disk.{HasCause};
 ghost use Rattle.sector_txn.specs.Sectors.{SameStore, PutsOnly};
 ghost use Rattle.bit_alloc.specs.Bitmaps.{HasBitmaps};

@@ -26,11 +26,11 @@ use Rattle.fs_layout.specs.Maps.{get, with_entry, without, IsMap}
 use Rattle.fs_layout.proofs.FirstEntries.{tied}
 use Rattle.fs_layout.proofs.MapLaws.{get-with_entry, with_entry-IsMap, same_map}
 use Rattle.sector_txn.specs.Sectors.{TxnState, SameStore, IsUnchanged}
-use Rattle.sector_txn.proofs.Changes.{store_same}
+use Rattle.sector_txn.proofs.TransactionRuns.{store_same}
 use Rattle.fs_model.specs.declared.call.Call.{Call}
 use Rattle.fs_model.specs.declared.event.Event.TheVariants.{Call as Calls}
 use Rattle.fs_model.specs.declared.reply.Reply.{Reply}
-use Rattle.fs_model.specs.Changes.{Same}
+use Rattle.fs_model.specs.TreeChanges.{Same}
 use Rattle.fs_model.specs.Demands.{Demand, first_of}
 use Rattle.fs_model.specs.Processes.{Descriptor, Process, Desks, descriptor, the_descriptor, no_descriptor, with_offset, is_open}
 use Rattle.fs_model.specs.Births.{the_node}

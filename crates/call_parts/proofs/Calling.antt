@@ -15,7 +15,7 @@ use Rattle.fs_model.specs.declared.event.Event.TheVariants.{Call as Calls}
 use Rattle.fs_model.specs.declared.reply.Reply.{Reply}
 use Rattle.fs_model.specs.declared.walk.Form.{Form}
 use Rattle.fs_model.specs.declared.walk.Found.{Found}
-use Rattle.fs_model.specs.Changes.{Same, changed, swept}
+use Rattle.fs_model.specs.TreeChanges.{Same, changed, swept}
 use Rattle.fs_model.specs.Demands.{Demand, or_else, first_of}
 use Rattle.fs_model.specs.Parts.{path_checks}
 use Rattle.fs_model.specs.Processes.{Process, Desks}

@@ -12,14 +12,14 @@ use Rattle.fs_layout.specs.Bytes.{SectorMap}
 use Rattle.fs_layout.specs.Images.{inode_at}
 use Rattle.fs_layout.specs.Maps.{get}
 use Rattle.sector_txn.specs.Sectors.{TxnState, SameStore, IsUnchanged}
-use Rattle.sector_txn.proofs.Changes.{store_same, store_joined}
+use Rattle.sector_txn.proofs.TransactionRuns.{store_same, store_joined}
 use Rattle.fs_model.specs.declared.call.Call.{Call}
 use Rattle.fs_model.specs.declared.reply.Reply.{Reply}
 use Rattle.fs_model.specs.declared.reply.Reply.TheVariants.{Done}
 use Rattle.fs_model.specs.declared.walk.Form.{Form}
 use Rattle.fs_model.specs.declared.walk.Found.{Found}
 use Rattle.fs_model.specs.Births.{the_node}
-use Rattle.fs_model.specs.Changes.{Change, Rewrite, changed, swept}
+use Rattle.fs_model.specs.TreeChanges.{Change, Rewrite, changed, swept}
 use Rattle.fs_model.specs.Demands.{Demand, or_else, first_of}
 use Rattle.fs_model.specs.Rows.{row_of}
 use Rattle.fs_model.specs.Nodes.{Node}

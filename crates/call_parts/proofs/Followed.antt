@@ -36,7 +36,7 @@ use Rattle.call_parts.proofs.Calling.{state_tree, found_ino, found_there, met_ok
 use Rattle.path_walk.proofs.HeldNodes.{stands, held_access, held_kind, held_node}
 use Rattle.path_walk.proofs.Kept.{kept}
 use Rattle.call_parts.specs.Given.{HasBody}
-use Rattle.call_parts.specs.Reaching.{IsInode}
+use Rattle.call_parts.specs.Reaching.{IsInodeFound}
 
 -- what stands at a number, as access to it is decided
 pub record IsAccessed (t : Tree) (n : ℕ) : Type 0 where
@@ -97,7 +97,7 @@ rule_told s q f want n is a =
 
 -- its inode, as it was read
 module _ {p : Place} {mid new : TxnState} {desks : Desks} {s : State} {pid : ℕ} {q : Process} {path : List ℕ} {f : Found} {n : ℕ} {v : Inode}
-    (at : IsStateOf p mid.sectors desks s) (has : HasFound s pid q Follow path f) (i : IsInode p mid.sectors f n v) (same : IsUnchanged mid new) where
+    (at : IsStateOf p mid.sectors desks s) (has : HasFound s pid q Follow path f) (i : IsInodeFound p mid.sectors f n v) (same : IsUnchanged mid new) where
   pub access_held : HasAccess new.sectors v (followed_access n at has i.some).access
   access_held =
       let a = followed_access n at has i.some in

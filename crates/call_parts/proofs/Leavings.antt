@@ -11,7 +11,7 @@ use Rattle.std.specs.List.{list_any}
 use Rattle.std.specs.Ordering.{nat_cmp}
 use Rattle.fs_layout.specs.declared.place.Place.{Place}
 use Rattle.fs_layout.specs.Bytes.{SectorMap}
-use Rattle.fs_layout.specs.Changes.{ChangesInode}
+use Rattle.fs_layout.specs.InodeChanges.{ChangesInode}
 use Rattle.fs_layout.specs.Images.{inode_at, free_sectors}
 use Rattle.fs_layout.specs.Maps.{get, IsMap}
 use Rattle.sector_txn.specs.Sectors.{TxnState, IsUnchanged}
@@ -19,7 +19,7 @@ use Rattle.bit_alloc.specs.declared.bitmap.Bitmap.TheVariants.{Inodes}
 use Rattle.bit_alloc.specs.Bitmaps.{IsNumber}
 use Rattle.bit_alloc.specs.Inodes.{IsSound}
 use Rattle.bit_alloc.proofs.Transactions.{puts_after}
-use Rattle.fs_model.specs.Changes.{swept, lives_nameless}
+use Rattle.fs_model.specs.TreeChanges.{swept, lives_nameless}
 use Rattle.fs_model.specs.Nodes.{Node, Body, File, Dir, Link, is_link}
 use Rattle.fs_model.specs.Processes.{Descriptor, Process, Desks, is_open}
 use Rattle.fs_model.specs.Stands.{HoldsAll, placed}

@@ -18,3 +18,4 @@ pub mod NameAsked
 pub mod Removed
 pub mod Reachings
 pub mod Performed
+pub mod NewNames

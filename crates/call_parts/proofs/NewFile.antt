@@ -1,8 +1,8 @@
 -- A new inode, and a name for it in a directory.
 --     nothing_stands        nothing stands at a free number
---     new_file, file_fits        a new file's inode fits its fields
---     takes_one, takes_few, room_suffices, name_has_room        there is room: the disk alone can fail
---     dir_below, apart_from_new, dir_kept, dir_still_held, dir_names        the directory, once the inode is made
+--     new_file, file_fits, file_taken        a new file's inode fits its fields, and was taken
+--     takes_one, takes_few, room_suffices        there is room: the disk alone can fail
+--     dir_below, apart_from_new, dir_kept, dir_still_held        the directory, once the inode is made
 --     set_group_says, default_is        what a directory gives to what is made in it
 use Rattle.std.specs.Prelude.{◌≡◌, ◌≢◌, ℕ, ◌+◌, ◌%◌, ◌^◌, ◌<◌, ◌≤◌, nat_eq, nat_le, ◌||◌, if◌then◌else◌, Bool, true, false, List, [], length, get_or, Option, None, Some, is_some, IsTrue, ◌-◌, ◌/◌, ◌==◌, cond}
 use Rattle.std.proofs.Common.{refl, sym, ap, arith, ◌∙◌, inl, inr}
@@ -15,9 +15,8 @@ use Rattle.fs_layout.specs.declared.inode.Kind.TheVariants as kinds
 use Rattle.fs_layout.specs.declared.place.Place.{Place}
 use Rattle.fs_layout.specs.AclSector.{kept_acl}
 use Rattle.fs_layout.specs.Bytes.{SectorMap, zeros}
-use Rattle.fs_layout.specs.Changes.{ChangesInode}
+use Rattle.fs_layout.specs.InodeChanges.{ChangesInode}
 use Rattle.fs_layout.specs.Inode.{FitsInode, inode_fits, free_inode}
-use Rattle.fs_layout.specs.Directories.{HasNames}
 use Rattle.fs_layout.specs.Maps.{name_cmp, get}
 use Rattle.fs_layout.specs.Images.{Holds, bit, inode_at, inode_bitmap, free_sectors}
 use Rattle.fs_layout.proofs.SplicedBytes.{get_or-zeros}
@@ -30,14 +29,17 @@ use Rattle.dir_core.specs.declared.fault.DirFault.{DirFault}
 use Rattle.dir_core.specs.declared.fault.DirFault.TheVariants as naming
 use Rattle.dir_core.specs.Faults.{taken_for, WhyNotAdded}
 use Rattle.fs_model.specs.Limits.{entries_limit}
-use Rattle.fs_model.specs.Nodes.{Node, names_in, Body, File, Dir, Link, is_directory, default_in, shown_mode}
+use Rattle.fs_model.specs.Nodes.{Node, Body, File, Dir, Link, is_directory, default_in, shown_mode}
 use Rattle.fs_model.specs.Stands.{placed}
 use Rattle.fs_model.specs.StoredNodes.{Placed, HoldsNode}
 use Rattle.fs_model.specs.Trees.{Tree, node_at, names_of, parent, IsDirectoryAt}
 use Rattle.fs_model.proofs.PlacedNodes.{placed_from, placing, placing_other, one_placed, held_at}
 use Rattle.path_walk.specs.HeldTrees.{HoldsTree}
 use Rattle.call_parts.proofs.HeldChanges.{new_file_held}
-use Rattle.path_walk.proofs.HeldNodes.{number_below, is_there, names_say}
+use Rattle.path_walk.proofs.HeldNodes.{number_below, is_there}
+use Rattle.sector_txn.specs.Sectors.{TxnState}
+use Rattle.bit_alloc.specs.Inodes.{Touches}
+use Rattle.call_parts.specs.NewNodes.{TakesInode, file_made}
 use Rattle.call_parts.specs.Makings.{CanMake}
 use Rattle.fs_layout.proofs.OneAcl.{mode_small}
 use Rattle.fs_model.specs.Births.{the_directory}
@@ -121,13 +123,18 @@ module _ {p : Place} {map : SectorMap} {t : Tree} (h : HoldsTree p map t) {dir :
       dir (number_below h dir (is_there t dir d.node d.is_there)) (record { node = d.node; names = names_of t dir; parent = parent t dir })
       (placing_other n (Some x) (placed t) dir apart_from_new ∙ placed_from t dir (Some d.node) (names_of t dir) (parent t dir) d.is_there refl refl)
 
-  -- its names among that
-  pub dir_names : (uid gid : ℕ) (a : AccessList) → KeepsFields (with_acl_bits (new_file uid gid) a) (inode_at p mid n) → Holds mid (inode_at p mid n) []
-      → HasAcl mid (inode_at p mid n) a → HasDefaultAcl mid (inode_at p mid n) None → IsTrue (bit mid inode_bitmap n)
-      → HasNames mid (inode_at p mid dir) (names_in d.node.body)
-  dir_names uid gid a fields empty access default taken =
-      let born = new_file_held mid (new_file uid gid) (inode_at p mid n) uid gid refl refl refl a fields empty access dir refl refl refl default in
-      names_say mid (inode_at p mid dir) d.node.body d.directory (dir_still_held _ born taken).body
+module _ {p : Place} {n taken more : ℕ} {old new : TxnState} (free : IsFreeNumber p Inodes old.sectors n) (touches : Touches p n taken more old new)
+    (used : IsTrue (bit new.sectors inode_bitmap n)) where
+  pub file_taken : (dir uid gid : ℕ) (a : AccessList) → KeepsFields (with_acl_bits (new_file uid gid) a) (inode_at p new.sectors n) → Holds new.sectors (inode_at p new.sectors n) []
+      → HasAcl new.sectors (inode_at p new.sectors n) a → HasDefaultAcl new.sectors (inode_at p new.sectors n) None
+      → TakesInode p n (record { node = file_made uid gid a; names = 1; parent = dir }) old.sectors new.sectors
+  file_taken dir uid gid a fields empty access default = record {
+    super = touches.super;
+    free = free;
+    change = touches.inode;
+    taken = used;
+    holds = new_file_held new.sectors (new_file uid gid) (inode_at p new.sectors n) uid gid refl refl refl a fields empty access dir refl refl refl default;
+  }
 
 -- ---- its name
 
@@ -143,13 +150,6 @@ module _ (p : Place) (map : SectorMap) (v : Inode) (names : List (List ℕ × �
   room_suffices old new naming.Absent why failed = absurd why
   room_suffices old new naming.DiskFault why failed = failed refl
   room_suffices old new naming.OutOfMemory why failed = absurd why
-
-module _ {p : Place} {map : SectorMap} {t : Tree} {dir : ℕ} {name : List ℕ} (can : CanMake p map t dir name) (mid : SectorMap) (v : Inode)
-    (left : free_sectors p map ≤ free_sectors p mid + 1) where
-  pub name_has_room : (old new : DiskState) (e : DirFault) → WhyNotAdded p mid v (names_in can.directory.node.body) name e → (e ≡ naming.DiskFault → HasFailed old new) → HasFailed old new
-  name_has_room =
-      let enough = can.enough in
-      room_suffices p mid v (names_in can.directory.node.body) name can.is_new can.has_room (omega (arith, enough, left))
 
 -- ---- what a directory gives to what is made in it
 

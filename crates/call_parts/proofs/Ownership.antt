@@ -35,7 +35,7 @@ use Rattle.call_parts.specs.Asked.{own_asked, owner_asked}
 use Rattle.call_parts.specs.Given.{GivesOwner}
 use Rattle.call_parts.proofs.Changed.{IsChange, rewrites_found}
 use Rattle.call_parts.proofs.Shown.{is_inode, number_of, the_node_is}
-use Rattle.call_parts.specs.Reaching.{IsInode}
+use Rattle.call_parts.specs.Reaching.{IsInodeFound}
 
 -- ---- demands, some and then others
 
@@ -119,7 +119,7 @@ module _ {p : Place} {map : SectorMap} {desks : Desks} {s : State} {pid : ℕ} {
 
 -- the number and the inode of what is the caller's
 pub record IsOwned (p : Place) (map : SectorMap) (cred : Credential) (f : Found) (n : ℕ) (v : Inode) : Type 0 where
-  pub inode : IsInode p map f n v
+  pub inode : IsInodeFound p map f n v
   pub met : first_of (must_be_there f ∷ own_asked cred (inode_at p map (number f)).uid f.step ∷ []) ≡ None
 
 pub is_owned : (p : Place) (map : SectorMap) (cred caller : Credential) (f : Found) (n : ℕ) (v : Inode) → cred ≡ caller
@@ -160,7 +160,7 @@ owner_given v uid gid fits used u g = record {
 }
 
 module _ {p : Place} {map : SectorMap} {desks : Desks} {s : State} {pid : ℕ} {q : Process} {form : Form} {path : List ℕ} {f : Found} {n : ℕ} {v : Inode}
-    (at : IsStateOf p map desks s) (has : HasFound s pid q form path f) (i : IsInode p map f n v) where
+    (at : IsStateOf p map desks s) (has : HasFound s pid q form path f) (i : IsInodeFound p map f n v) where
   found_node : IsNode map s.tree f n v
   found_node = node_of (state_tree at) f n v i.number i.inode (found_there n at has i.some)
 

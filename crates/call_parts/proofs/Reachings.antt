@@ -23,7 +23,7 @@ use Rattle.fs_layout.specs.Bytes.{SectorMap}
 use Rattle.fs_layout.specs.Images.{inode_at}
 use Rattle.fs_layout.specs.Maps.{get, with_entry}
 use Rattle.sector_txn.specs.Sectors.{TxnState, SameStore, IsUnchanged}
-use Rattle.sector_txn.proofs.Changes.{store_joined}
+use Rattle.sector_txn.proofs.TransactionRuns.{store_joined}
 use Rattle.bit_alloc.proofs.Transactions.{spare_unchanged, unchanged_nothing}
 use Rattle.block_map.proofs.Runs.{unchanged_joined}
 use Rattle.fs_model.specs.declared.call.Call.{Call}
@@ -32,7 +32,7 @@ use Rattle.fs_model.specs.declared.reply.Reply.{Reply}
 use Rattle.fs_model.specs.declared.walk.Form.{Form}
 use Rattle.fs_model.specs.declared.walk.Form.TheVariants.{Follow}
 use Rattle.fs_model.specs.declared.walk.Found.{Found}
-use Rattle.fs_model.specs.Changes.{Same}
+use Rattle.fs_model.specs.TreeChanges.{Same}
 use Rattle.fs_model.specs.Demands.{Demand, or_else, first_of}
 use Rattle.fs_model.specs.Parts.{path_checks}
 use Rattle.fs_model.specs.Processes.{Process, Desks, Descriptor, is_open}
@@ -52,7 +52,7 @@ use Rattle.call_parts.specs.Given.{HasBody}
 use Rattle.call_parts.specs.Paths.{scene_at, HasFound}
 use Rattle.call_parts.specs.Performing.{IsStateOf, IsReady, IsRefused, Performs}
 use Rattle.call_parts.specs.Performing as why
-use Rattle.call_parts.specs.Reaching.{Checked, WalksPath, RefusesWalk, RefusesReach, RefusesOwned, HasWalked, IsInode, HasReached}
+use Rattle.call_parts.specs.Reaching.{Checked, WalksPath, RefusesWalk, RefusesReach, RefusesOwned, HasWalked, IsInodeFound, HasReached}
 use Rattle.call_parts.proofs.ByDescriptor.{still_open}
 use Rattle.call_parts.proofs.ByPath.{refused_performs}
 use Rattle.call_parts.proofs.Calling.{absent_refused, early_is, first_of-append, or_else-none, refused_err, met_ok, resolve_refused, found_firm, found_late, found_after, found_told, found_there, answered_refused, answered_later, first_asked, state_kept, state_tree, same_process, told_performs}
@@ -70,8 +70,8 @@ ready_kept {p} {old} {new} same ready = record {
   is_state = state_kept same ready.is_state;
 }
 
-pub inode_later : {p : Place} {mid new : TxnState} {f : Found} {n : ℕ} {v : Inode} → IsUnchanged mid new → IsInode p mid.sectors f n v → IsInode p new.sectors f n v
-inode_later {p} {mid} {new} {f} {n} {v} same i = kept (λ (m : SectorMap). IsInode p m f n v) same i
+pub inode_later : {p : Place} {mid new : TxnState} {f : Found} {n : ℕ} {v : Inode} → IsUnchanged mid new → IsInodeFound p mid.sectors f n v → IsInodeFound p new.sectors f n v
+inode_later {p} {mid} {new} {f} {n} {v} same i = kept (λ (m : SectorMap). IsInodeFound p m f n v) same i
 
 -- ---- each call that walks so is refused
 

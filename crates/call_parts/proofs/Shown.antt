@@ -26,7 +26,7 @@ use Rattle.fs_model.specs.Nodes.{Node, Body, File, Dir, Link, is_directory, show
 use Rattle.fs_model.specs.StoredNodes.{HoldsBody, HoldsNode, names_field}
 use Rattle.fs_model.specs.Trees.{Tree, node_at, names_of, parent}
 use Rattle.path_walk.specs.Answers.{refused_or, IsAnswered}
-use Rattle.call_parts.specs.Reaching.{IsInode}
+use Rattle.call_parts.specs.Reaching.{IsInodeFound}
 use Rattle.path_walk.specs.HeldTrees.{HoldsTree, IsThere}
 use Rattle.call_parts.specs.Paths.{scene_at}
 use Rattle.call_parts.proofs.Calling.{or_else-none, met_ok}
@@ -123,7 +123,7 @@ there_unless true e = refl
 there_unless false e = absurd (cc)
 
 pub is_inode : (p : Place) (image : SectorMap) (f : Found) (n : ℕ) (v : Inode) → refused_or {A = ℕ × Inode} (must_be_there f) (Ok (number f, inode_at p image (number f))) ≡ Ok (n, v)
-    → IsInode p image f n v
+    → IsInodeFound p image f n v
 is_inode p image f n v e =
     let is = met_ok {A = ℕ × Inode} (must_be_there f) (number f, inode_at p image (number f)) (n, v) e in
     let same : number f ≡ n = ap (λ x. x.0) is.1 in
@@ -131,7 +131,7 @@ is_inode p image f n v e =
     record { some = some ∙ ap Some same; number = same; inode = sym (ap (λ x. x.1) is.1) ∙ ap (inode_at p image) same; met = is.0 }
 
 -- what stat and lstat answer
-pub stat_told : {p : Place} {map : SectorMap} (s : State) (q : Process) (f : Found) (n : ℕ) (v : Inode) (status : Status) → IsInode p map f n v
+pub stat_told : {p : Place} {map : SectorMap} (s : State) (q : Process) (f : Found) (n : ℕ) (v : Inode) (status : Status) → IsInodeFound p map f n v
     → HoldsTree p map s.tree → IsThere s.tree n
     → ((kind : FileType) → type_of_kind v.kind ≡ Some kind → status
     ≡ record { inode = n; kind = kind; mode = v.mode; links = v.names; owner = v.uid; group = v.gid; size = v.size })

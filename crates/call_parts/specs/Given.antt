@@ -13,7 +13,7 @@ use Rattle.fs_layout.specs.declared.inode.Kind.{Kind}
 use Rattle.fs_layout.specs.declared.inode.Kind.TheVariants.{Directory}
 use Rattle.fs_layout.specs.declared.place.Place.{Place}
 use Rattle.fs_layout.specs.Bytes.{SectorMap}
-use Rattle.fs_layout.specs.Changes.{ChangesInode}
+use Rattle.fs_layout.specs.InodeChanges.{ChangesInode}
 use Rattle.fs_layout.specs.Images.{bit, inode_bitmap, inode_at}
 use Rattle.fs_layout.specs.declared.inode.Inode.{Inode}
 use Rattle.fs_model.specs.Nodes.{Body, is_link, shown_mode}

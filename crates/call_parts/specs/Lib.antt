@@ -2,7 +2,7 @@ pub mod Performing
 pub mod Paths
 pub mod Asked
 pub mod Given
-pub mod Changes
+pub mod ByteChanges
 pub mod Dropping
 pub mod Makings
 pub mod NewNodes

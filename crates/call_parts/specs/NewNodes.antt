@@ -4,7 +4,7 @@
 --     NamesInode        a directory has been given a name for an inode
 --     TakesInode        an inode was free, and holds something now
 --     MakesNode        both: something was made
---     directory_made, link_made        what is made
+--     file_made, directory_made, link_made        what is made
 --     link_name_asked        asked of the name of a link that is made
 --     IsMade        it was made, or why not
 use Rattle.std.specs.Prelude.{◌≡◌, ℕ, ◌-◌, ◌/◌, ◌%◌, ◌<◌, ◌≤◌, ◌==◌, if◌then◌else◌, List, [], ◌∷◌, length, Option, None, IsTrue, Result, MatchResult, Ok, Err}
@@ -16,7 +16,7 @@ use Rattle.fs_layout.specs.declared.inode.TheConstants.{S_ISGID, S_ISVTX}
 use Rattle.fs_layout.specs.declared.inode.Inode.{Inode}
 use Rattle.fs_layout.specs.declared.place.Place.{Place}
 use Rattle.fs_layout.specs.Bytes.{SectorMap}
-use Rattle.fs_layout.specs.Changes.{ChangesInode}
+use Rattle.fs_layout.specs.InodeChanges.{ChangesInode}
 use Rattle.fs_layout.specs.Directories.{IsName, HasNames}
 use Rattle.fs_layout.specs.Images.{bit, inode_at, inode_bitmap, free_sectors}
 use Rattle.fs_layout.specs.Maps.{name_cmp, get, with_entry}
@@ -27,7 +27,7 @@ use Rattle.bit_alloc.specs.Inodes.{KeepsFields, KeepsAcls}
 use Rattle.fs_model.specs.declared.walk.Found.{Found}
 use Rattle.fs_model.specs.Demands.{Demand, refuse, first_of}
 use Rattle.fs_model.specs.Limits.{entries_limit}
-use Rattle.fs_model.specs.Nodes.{Node, Dir, Link, names_in}
+use Rattle.fs_model.specs.Nodes.{Node, File, Dir, Link, names_in}
 use Rattle.fs_model.specs.Scenes.{must_be_new}
 use Rattle.fs_model.specs.StoredNodes.{Placed, HoldsNode}
 use Rattle.fs_model.specs.Trees.{Tree, IsDirectoryAt}
@@ -66,14 +66,17 @@ pub record TakesInode (p : Place) (n : ℕ) (x : Placed) (old new : SectorMap) :
   pub taken : IsTrue (bit new inode_bitmap n)
   pub holds : HoldsNode new (inode_at p new n) x
 
--- An inode was free and holds this node, and then directory dir names it.
-pub record MakesNode (p : Place) (dir : ℕ) (name : List ℕ) (node : Node) (old new : SectorMap) : Type 0 where
-  pub number : ℕ
+-- Inode n was free and holds this node, and then directory dir names it.
+pub record MakesNode (p : Place) (dir : ℕ) (name : List ℕ) (n : ℕ) (node : Node) (old new : SectorMap) : Type 0 where
   pub mid : SectorMap
-  pub takes : TakesInode p number (record { node = node; names = 1; parent = dir }) old mid
-  pub names : NamesInode p dir name number mid new
+  pub takes : TakesInode p n (record { node = node; names = 1; parent = dir }) old mid
+  pub names : NamesInode p dir name n mid new
 
 -- ---- what is made
+
+-- an empty file
+abbrev pub file_made : ℕ → ℕ → AccessList → Node
+file_made uid gid access = record { owner = uid; group = gid; body = File access [] }
 
 -- a directory with these bits of its mode above the permission bits
 abbrev pub directory_made : ℕ → ℕ → ℕ → AccessList → Option AccessList → Node
@@ -102,5 +105,5 @@ link_name_asked f = must_be_new f ∷ refuse ENOENT f.slash ∷ []
 abbrev pub IsMade : Place → TxnState → TxnState → Credential → Tree → Found → Node → Result (Unit {0}) Refusal → Type 0
 IsMade p old new cred t f node result =
     MatchResult result
-    (λ done. (first_of (make_asked p old.sectors cred t f.dir (f.step - 1)) ≡ None) × MakesNode p f.dir f.name node old.sectors new.sectors)
+    (λ done. (first_of (make_asked p old.sectors cred t f.dir (f.step - 1)) ≡ None) × ((n : ℕ) × MakesNode p f.dir f.name n node old.sectors new.sectors))
     (λ e. IsAnswered old.disk new.disk (refused_or {A = Unit {0}} (first_of (make_asked p old.sectors cred t f.dir (f.step - 1))) (Ok tt)) (Err e))

@@ -19,7 +19,7 @@ use Rattle.fs_model.specs.declared.call.Call.TheVariants.{Mkdir, Rmdir, Link, Sy
 use Rattle.fs_model.specs.declared.reply.Reply.{Reply}
 use Rattle.fs_model.specs.declared.event.Event.TheVariants.{Call as Calls}
 use Rattle.fs_model.specs.Processes.{Desks}
-use Rattle.fs_model.specs.Changes.{Change, changed, swept}
+use Rattle.fs_model.specs.TreeChanges.{Change, changed, swept}
 use Rattle.fs_model.specs.States.{State, IsState}
 use Rattle.fs_model.specs.Stands.{HoldsAll, placed, room_of}
 use Rattle.fs_model.specs.Steps.{Choice, HasNewNumber, after, asks_in_call, firm_refusal, other_refusal}

@@ -3,7 +3,7 @@
 --     RefusesWalk, RefusesReach, RefusesOwned        each such call is refused: by its process, arguments, path or walk; or since
 --             nothing is there; or since it isn't the caller's
 --     HasWalked        its walk has found this
---     IsInode, HasReached, HasOwned        and this inode, which is the caller's
+--     IsInodeFound, HasReached, HasOwned        and this inode, which is the caller's
 --     WalksBoth, RefusesBoth, HasWalkedBoth        the same of a call by two paths
 use Rattle.std.specs.Prelude.{◌≡◌, ℕ, List, [], ◌∷◌, None, Some, IsTrue, Result, Ok}
 use Rattle.std.specs.Ordering.{nat_cmp}
@@ -68,7 +68,7 @@ pub record HasWalked (p : Place) (txn : TxnState) (desks : Desks) (pid : ℕ) (c
   pub found : (s : State) → IsStateOf p txn.sectors desks s → HasFound s pid q form path f
 
 -- the number and the inode of what was found
-pub record IsInode (p : Place) (image : SectorMap) (f : Found) (n : ℕ) (v : Inode) : Type 0 where
+pub record IsInodeFound (p : Place) (image : SectorMap) (f : Found) (n : ℕ) (v : Inode) : Type 0 where
   pub some : f.ino ≡ Some n
   pub number : number f ≡ n
   pub inode : v ≡ inode_at p image n
@@ -76,7 +76,7 @@ pub record IsInode (p : Place) (image : SectorMap) (f : Found) (n : ℕ) (v : In
 
 pub record HasReached (p : Place) (txn : TxnState) (desks : Desks) (pid : ℕ) (checks : Checked) (form : Form) (path : List ℕ) (q : Process) (f : Found) (n : ℕ) (v : Inode) : Type 0 where
   pub walked : HasWalked p txn desks pid checks form path q f
-  pub inode : IsInode p txn.sectors f n v
+  pub inode : IsInodeFound p txn.sectors f n v
 
 pub record HasOwned (p : Place) (txn : TxnState) (desks : Desks) (pid : ℕ) (checks : Checked) (form : Form) (path : List ℕ) (q : Process) (f : Found) (n : ℕ) (v : Inode) : Type 0 where
   pub reached : HasReached p txn desks pid checks form path q f n v

@@ -16,7 +16,7 @@ use Rattle.fs_layout.proofs.ImageSlots.{length-slots}
 use Rattle.fs_layout.proofs.ReadNames.{are_names_of}
 use Rattle.fs_layout.proofs.SlotNames.{length-names}
 use Rattle.sector_txn.specs.Sectors.{TxnState, IsUnchanged}
-use Rattle.sector_txn.proofs.Changes.{changes_nothing, changes_weaker}
+use Rattle.sector_txn.proofs.TransactionRuns.{changes_nothing, changes_weaker}
 use Rattle.bit_alloc.specs.Inodes.{IsSound}
 use Rattle.bit_alloc.specs.Room.{bitmaps}
 use Rattle.bit_alloc.proofs.Transactions.{map_unchanged}

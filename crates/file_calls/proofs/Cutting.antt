@@ -16,7 +16,7 @@ use Rattle.sector_txn.specs.Sectors.{TxnState}
 use Rattle.fs_model.specs.declared.call.Call.TheVariants.{Ftruncate}
 use Rattle.fs_model.specs.declared.reply.Reply.TheVariants.{Done}
 use Rattle.fs_model.specs.Births.{the_node}
-use Rattle.fs_model.specs.Changes.{Rewrite}
+use Rattle.fs_model.specs.TreeChanges.{Rewrite}
 use Rattle.fs_model.specs.Demands.{Demand, refuse, first_of}
 use Rattle.fs_model.specs.DescriptorCalls.{ftruncate_row, ftruncate_demands, ftruncate_effect, resized_node}
 use Rattle.fs_model.specs.Nodes.{Node, bytes_in}
@@ -31,7 +31,7 @@ use Rattle.open_files.specs.Tables.{with_changed, IsTable}
 use Rattle.path_walk.specs.Answers.{refused_or}
 use Rattle.call_parts.specs.Performing.{IsStateOf}
 use Rattle.call_parts.proofs.Calling.{refused_err}
-use Rattle.call_parts.specs.Changes.{ChangesBytes}
+use Rattle.call_parts.specs.ByteChanges.{ChangesBytes}
 use Rattle.call_parts.proofs.ByDescriptor.{open_scene, IsByDescriptor, IsOpened, the_opened, open_fits, open_node, changed_there}
 use Rattle.file_calls.proofs.Rewritten.{ChangesTree, bytes_rewritten}
 use Rattle.file_calls.proofs.Writing.{bad_write_closed, file_kind}

@@ -22,7 +22,7 @@ use Rattle.fs_layout.specs.Inode.{free_inode}
 use Rattle.fs_layout.specs.Maps.{get, without, IsMap}
 use Rattle.fs_layout.proofs.FirstEntries.{right}
 use Rattle.sector_txn.specs.Sectors.{TxnState, SameStore, IsUnchanged}
-use Rattle.sector_txn.proofs.Changes.{store_same, store_joined}
+use Rattle.sector_txn.proofs.TransactionRuns.{store_same, store_joined}
 use Rattle.bit_alloc.specs.declared.bitmap.Bitmap.TheVariants.{Inodes}
 use Rattle.bit_alloc.specs.Bitmaps.{IsNumber}
 use Rattle.bit_alloc.specs.Inodes.{IsSound}
@@ -31,7 +31,7 @@ use Rattle.bit_alloc.proofs.Soundness.{spare_then}
 use Rattle.bit_alloc.proofs.Transactions.{spare_unchanged}
 use Rattle.fs_model.specs.declared.event.Event.TheVariants.{Exit}
 use Rattle.fs_model.specs.declared.reply.Reply.TheVariants.{Done}
-use Rattle.fs_model.specs.Changes.{Same, swept}
+use Rattle.fs_model.specs.TreeChanges.{Same, swept}
 use Rattle.fs_model.specs.Limits.{descriptors_limit}
 use Rattle.fs_model.specs.Nodes.{Node}
 use Rattle.fs_model.specs.Processes.{Descriptor, Process, Desks, is_open}

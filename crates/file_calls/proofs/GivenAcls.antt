@@ -40,7 +40,7 @@ use Rattle.call_parts.specs.Given.{ChangesOne, SavesAcl, SavesDefaultAcl}
 use Rattle.call_parts.proofs.Changed.{IsChange, rewrites_found}
 use Rattle.call_parts.proofs.Followed.{directory_is, followed_access, node_is, plain}
 use Rattle.call_parts.proofs.Ownership.{own_met, others_asked, all_met}
-use Rattle.call_parts.specs.Reaching.{IsInode}
+use Rattle.call_parts.specs.Reaching.{IsInodeFound}
 
 -- ---- what the inode holds then
 
@@ -98,7 +98,7 @@ space_later p which acl {old} {mid} new e same is =
     (answered_later {A = Unit {0}} new same is)
 
 module _ {p : Place} {map : SectorMap} {desks : Desks} {s : State} {pid : ℕ} {q : Process} {path : List ℕ} {f : Found} {n : ℕ} {v : Inode}
-    (at : IsStateOf p map desks s) (has : HasFound s pid q Follow path f) (i : IsInode p map f n v)
+    (at : IsStateOf p map desks s) (has : HasFound s pid q Follow path f) (i : IsInodeFound p map f n v)
     (met : first_of (must_be_there f ∷ own_asked q.cred (inode_at p map (number f)).uid f.step ∷ []) ≡ None) (which : AclType) (acl : Option AccessList) where
   abbrev first_two : List Demand
   first_two = must_be_there f ∷ own_at_end (scene_at s q f) ∷ []

@@ -49,7 +49,7 @@ use Rattle.call_parts.proofs.Changed.{IsChange, rewrites_found}
 use Rattle.call_parts.proofs.Followed.{accessed_is, followed_access}
 use Rattle.call_parts.proofs.Ownership.{own_met}
 use Rattle.call_parts.proofs.Shown.{body_kind, the_node_is}
-use Rattle.call_parts.specs.Reaching.{IsInode}
+use Rattle.call_parts.specs.Reaching.{IsInodeFound}
 
 -- ---- an access ACL is saved
 
@@ -157,7 +157,7 @@ acl_told owner group (Dir a d) x e =
 acl_told owner group (Link target) x e = absurd (cc)
 
 module _ {p : Place} {map : SectorMap} {desks : Desks} {s : State} {pid : ℕ} {q : Process} {path : List ℕ} {f : Found} {n : ℕ} {v : Inode}
-    (at : IsStateOf p map desks s) (has : HasFound s pid q Follow path f) (i : IsInode p map f n v) where
+    (at : IsStateOf p map desks s) (has : HasFound s pid q Follow path f) (i : IsInodeFound p map f n v) where
   -- the mode is given
   pub mode_changed : (cred : Credential) (mode : ℕ) (new : SectorMap) → cred ≡ q.cred
       → first_of (must_be_there f ∷ own_asked q.cred (inode_at p map (number f)).uid f.step ∷ []) ≡ None

@@ -20,7 +20,7 @@ use Rattle.sector_txn.specs.Sectors.{TxnState}
 use Rattle.fs_model.specs.declared.call.Flags.{Flags}
 use Rattle.fs_model.specs.declared.walk.Found.{Found}
 use Rattle.fs_model.specs.Births.{the_node, born_file}
-use Rattle.fs_model.specs.Changes.{Change, Same, Rewrite, Make, changed, swept}
+use Rattle.fs_model.specs.TreeChanges.{Change, Same, Rewrite, Make, changed, swept}
 use Rattle.fs_model.specs.Demands.{Demand, refuse, first_of, perms, decided, permission_of, permission_on}
 use Rattle.fs_model.specs.Nodes.{Node, Body, File, Dir, Link, is_directory, is_link, bytes_in, with_bytes}
 use Rattle.fs_model.specs.OpenCall.{open_demands, open_new_demands, open_change}
@@ -42,7 +42,7 @@ use Rattle.call_parts.specs.Performing.{IsStateOf}
 use Rattle.call_parts.proofs.Calling.{state_tree, found_there, met_ok, or_else-none, first_asked}
 use Rattle.path_walk.proofs.HeldNodes.{stands, held_node, held_kind, held_access}
 use Rattle.path_walk.proofs.Kept.{is_err}
-use Rattle.call_parts.specs.Changes.{ChangesBytes}
+use Rattle.call_parts.specs.ByteChanges.{ChangesBytes}
 use Rattle.file_calls.specs.Openings.{kind_asked, found_asked, FindsIn, IsRefusedOpen, Reaches}
 use Rattle.call_parts.proofs.Followed.{IsAccessed, accessed_is, accessible}
 use Rattle.call_parts.proofs.Ownership.{some_asked, others_asked, all_met}

@@ -22,7 +22,7 @@ use Rattle.inode_table.specs.Acls.{HasDefaultAcl}
 use Rattle.fs_model.specs.declared.call.Flags.{Flags}
 use Rattle.fs_model.specs.declared.walk.Found.{Found}
 use Rattle.fs_model.specs.Births.{the_node, the_directory, born_acl, born_file}
-use Rattle.fs_model.specs.Changes.{Change, Make, Rewrite, Same, changed, swept}
+use Rattle.fs_model.specs.TreeChanges.{Change, Make, Rewrite, Same, changed, swept}
 use Rattle.fs_model.specs.Demands.{Demand, refuse, first_of, permission_on, write_and_search}
 use Rattle.fs_model.specs.Limits.{entries_limit, least_free}
 use Rattle.fs_model.specs.Nodes.{Node, File, default_in, names_in, with_bytes, with_names}
@@ -39,10 +39,11 @@ use Rattle.fs_model.proofs.StepsMaking.{IsNewborn, file_is_born}
 use Rattle.path_walk.specs.Answers.{refused_or, IsAnswered}
 use Rattle.call_parts.specs.Paths.{scene_at}
 use Rattle.call_parts.proofs.Calling.{state_tree, met_ok, first_asked, next_asked, both_met}
-use Rattle.call_parts.proofs.HeldChanges.{new_file_held, names_held}
+use Rattle.call_parts.proofs.HeldChanges.{names_held}
 use Rattle.path_walk.proofs.HeldNodes.{held_node, names_say, default_says}
 use Rattle.path_walk.proofs.Kept.{kept}
-use Rattle.call_parts.specs.Makings.{CanMake, MakesFile, make_asked}
+use Rattle.call_parts.specs.Makings.{CanMake, make_asked}
+use Rattle.call_parts.specs.NewNodes.{MakesNode, file_made}
 use Rattle.file_calls.specs.Openings.{FindsIn, IsRefusedOpen, Reaches}
 use Rattle.call_parts.proofs.Makeable.{found_new, has_few, may_make}
 use Rattle.call_parts.proofs.NewFile.{nothing_stands, dir_still_held, set_group_says, default_is}
@@ -134,7 +135,7 @@ module _ {p : Place} {map : SectorMap} {flags : Flags} {q : Process} {f : Found}
 
   -- ---- the file that was made
 
-  module _ (mode : ℕ) (gid : ℕ) (a : AccessList) (new : SectorMap) (n : ℕ) (made : MakesFile p f.dir f.name q.cred.uid gid a map new n) where
+  module _ (mode : ℕ) (gid : ℕ) (a : AccessList) (new : SectorMap) (n : ℕ) (made : MakesNode p f.dir f.name n (file_made q.cred.uid gid a) map new) where
     abbrev node : Node
     node = new_name.node
 
@@ -156,9 +157,10 @@ module _ {p : Place} {map : SectorMap} {flags : Flags} {q : Process} {f : Found}
 
     fresh : HasNewNumber s (Make f.dir f.name n file)
     fresh =
-        let below = made.free.1 in
+        let free = made.takes.free in
+        let below = free.1 in
         let same = ap (λ (r : Room). r.inodes) i.is_state.same_room in
-        (made.free.0, omega (arith, below, same), nothing_stands (state_tree i.is_state) n made.free)
+        (free.0, omega (arith, below, same), nothing_stands (state_tree i.is_state) n free)
 
     module _ (v : Inode) (is_dir : v ≡ inode_at p map f.dir) (group_is : gid ≡ (if v.mode / S_ISGID % 2 == 1 then v.gid else q.cred.gid))
         (acl_is : (d : Option AccessList) → HasDefaultAcl map v d → a ≡ born_acl d mode q.umask) where
@@ -183,8 +185,7 @@ module _ {p : Place} {map : SectorMap} {flags : Flags} {q : Process} {f : Found}
           subst (λ (k : ℕ). HoldsNode made.mid (inode_at p made.mid n)
           (record { node = record { owner = q.cred.uid; group = k; body = File (born_acl (the_directory node).default mode q.umask) [] }; names = 1; parent = f.dir })) group_given
           (subst (λ (l : AccessList). HoldsNode made.mid (inode_at p made.mid n)
-          (record { node = record { owner = q.cred.uid; group = gid; body = File l [] }; names = 1; parent = f.dir })) acl_given
-          (new_file_held made.mid made.inode (inode_at p made.mid n) q.cred.uid gid made.owner made.group made.names a made.fields made.empty made.access f.dir made.kind made.mode made.parent made.default))
+          (record { node = record { owner = q.cred.uid; group = gid; body = File l [] }; names = 1; parent = f.dir })) acl_given made.takes.holds)
 
       here : HoldsNode new (inode_at p new f.dir) (record {
         node = record node { body = with_names (with_entry name_cmp (names_in node.body) f.name n) node.body };
@@ -193,10 +194,10 @@ module _ {p : Place} {map : SectorMap} {flags : Flags} {q : Process} {f : Found}
       })
       here =
           let before = inode_at p made.mid f.dir in
-          let held = dir_still_held (state_tree i.is_state) directory_there n made.free made.first (record { node = file; names = 1; parent = f.dir }) born made.taken in
+          let held = dir_still_held (state_tree i.is_state) directory_there n made.takes.free made.takes.change (record { node = file; names = 1; parent = f.dir }) born made.takes.taken in
           names_held made.mid new before (inode_at p new f.dir) (record { node = node; names = names_of s.tree f.dir; parent = parent s.tree f.dir }) held
-          (with_entry name_cmp (names_in node.body) f.name n) new_name.directory made.kept made.acls
-          (made.named (names_in node.body) (names_say made.mid before node.body new_name.directory held.body))
+          (with_entry name_cmp (names_in node.body) f.name n) new_name.directory made.names.kept made.names.acls
+          (made.names.named (names_in node.body) (names_say made.mid before node.body new_name.directory held.body))
 
       pub made_reaches : first_of (open_demands flags (scene_at s q f)) ≡ None → length (names_in node.body) < entries_limit → Reaches p new flags mode q f s n
       made_reaches met has_room =
@@ -221,5 +222,5 @@ module _ {p : Place} {map : SectorMap} {flags : Flags} {q : Process} {f : Found}
                   owner = newborn.owner;
                   group = newborn.group;
                   body = newborn.body;
-                }) made.first made.taken born made.second made.used here);
+                }) made.takes.change made.takes.taken born made.names.change made.names.used here);
           }

@@ -21,7 +21,7 @@ use Rattle.fs_layout.specs.Maps.{get, with_entry, without, IsMap}
 use Rattle.fs_layout.proofs.FirstEntries.{tied}
 use Rattle.fs_layout.proofs.MapLaws.{same_map}
 use Rattle.sector_txn.specs.Sectors.{TxnState, SameStore, IsUnchanged}
-use Rattle.sector_txn.proofs.Changes.{store_same, store_joined}
+use Rattle.sector_txn.proofs.TransactionRuns.{store_same, store_joined}
 use Rattle.fs_model.specs.declared.call.Call.TheVariants.{Open}
 use Rattle.fs_model.specs.declared.call.Flags.{Flags}
 use Rattle.fs_model.specs.declared.event.Event.TheVariants.{Call as Calls}

@@ -19,7 +19,7 @@ use Rattle.block_map.specs.declared.fault.MapFault.{MapFault}
 use Rattle.block_map.specs.declared.fault.MapFault.TheVariants as map
 use Rattle.fs_model.specs.declared.call.Call.{Call}
 use Rattle.fs_model.specs.declared.reply.Reply.{Reply}
-use Rattle.fs_model.specs.Changes.{Change, Rewrite, changed, swept}
+use Rattle.fs_model.specs.TreeChanges.{Change, Rewrite, changed, swept}
 use Rattle.fs_model.specs.Demands.{Demand, first_of}
 use Rattle.fs_model.specs.Nodes.{Node, bytes_in, with_bytes}
 use Rattle.fs_model.specs.Processes.{Descriptor, Process, Desks, is_open}
@@ -36,7 +36,7 @@ use Rattle.call_parts.specs.Performing.{IsStateOf, Performs}
 use Rattle.call_parts.proofs.Calling.{state_tree, same_process}
 use Rattle.call_parts.proofs.HeldChanges.{bytes_held}
 use Rattle.path_walk.proofs.HeldNodes.{held_node, bytes_say}
-use Rattle.call_parts.specs.Changes.{ChangesBytes}
+use Rattle.call_parts.specs.ByteChanges.{ChangesBytes}
 use Rattle.call_parts.proofs.ByDescriptor.{open_scene, IsOpened, IsByDescriptor, open_firm, open_late, open_after, changed_there, still_open}
 
 pub bytes_rewritten : {p : Place} {old new : TxnState} {desks : Desks} {s : State} (at : IsStateOf p old.sectors desks s) (now : Desks)

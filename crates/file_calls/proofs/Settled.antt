@@ -20,7 +20,7 @@ use Rattle.fs_model.specs.declared.event.Event.TheVariants.{Call as Calls}
 use Rattle.fs_model.specs.declared.reply.Reply.{Reply}
 use Rattle.fs_model.specs.declared.reply.Reply.TheVariants.{Mask}
 use Rattle.fs_model.specs.AttributeCalls.{umask_row}
-use Rattle.fs_model.specs.Changes.{Same, swept}
+use Rattle.fs_model.specs.TreeChanges.{Same, swept}
 use Rattle.fs_model.specs.DescriptorCalls.{close_row, close_effect}
 use Rattle.fs_model.specs.Processes.{Process, Desks, is_open}
 use Rattle.fs_model.specs.Rows.{row_of}

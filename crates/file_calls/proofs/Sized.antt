@@ -36,7 +36,7 @@ use Rattle.call_parts.specs.Performing.{IsStateOf}
 use Rattle.call_parts.proofs.Calling.{state_tree, next_asked, first_asked, both_met, or_else-none}
 use Rattle.call_parts.proofs.HeldChanges.{bytes_held}
 use Rattle.path_walk.proofs.HeldNodes.{held_node, bytes_say}
-use Rattle.call_parts.specs.Changes.{ChangesBytes}
+use Rattle.call_parts.specs.ByteChanges.{ChangesBytes}
 use Rattle.call_parts.proofs.Changed.{IsChange, rewrites_found}
 use Rattle.call_parts.proofs.Followed.{directory_is, followed_access, node_is}
 

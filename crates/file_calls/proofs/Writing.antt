@@ -19,10 +19,10 @@ use Rattle.fs_layout.specs.Images.{inode_at, free_sectors}
 use Rattle.fs_layout.proofs.Versions.{max_file_size_is}
 use Rattle.fs_layout.proofs.Sectors.{IsBytes-take}
 use Rattle.sector_txn.specs.Sectors.{TxnState, IsUnchanged}
-use Rattle.sector_txn.proofs.Changes.{store_same}
+use Rattle.sector_txn.proofs.TransactionRuns.{store_same}
 use Rattle.fs_model.specs.declared.call.Call.TheVariants.{Write}
 use Rattle.fs_model.specs.declared.reply.Reply.TheVariants.{Wrote}
-use Rattle.fs_model.specs.Changes.{Rewrite}
+use Rattle.fs_model.specs.TreeChanges.{Rewrite}
 use Rattle.fs_model.specs.Demands.{refuse, first_of}
 use Rattle.fs_model.specs.DescriptorCalls.{write_row, write_demands, write_effect, write_offset, written}
 use Rattle.fs_model.specs.Limits.{move_limit, least_free}
@@ -40,7 +40,7 @@ use Rattle.fs_model.proofs.StepsDemands.{unrefused}
 use Rattle.path_walk.specs.Answers.{refused_or}
 use Rattle.call_parts.proofs.Calling.{state_tree, met_ok}
 use Rattle.path_walk.proofs.HeldNodes.{held_node, bytes_say}
-use Rattle.call_parts.specs.Changes.{ChangesBytes}
+use Rattle.call_parts.specs.ByteChanges.{ChangesBytes}
 use Rattle.call_parts.proofs.ByDescriptor.{open_scene, IsByDescriptor, IsOpened, the_opened, open_fits, open_node}
 use Rattle.file_calls.proofs.Rewritten.{ChangesTree, bytes_rewritten}
 

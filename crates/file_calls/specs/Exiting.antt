@@ -16,7 +16,7 @@ use Rattle.std.specs.Ordering.{nat_cmp}
 use Rattle.sector_txn.specs.Sectors.{TxnState, SameStore, IsUnchanged}
 use Rattle.fs_model.specs.declared.event.Event.TheVariants.{Exit}
 use Rattle.fs_model.specs.declared.reply.Reply.TheVariants.{Done}
-use Rattle.fs_model.specs.Changes.{Same, swept}
+use Rattle.fs_model.specs.TreeChanges.{Same, swept}
 use Rattle.fs_model.specs.Processes.{Descriptor, Desks, is_open}
 use Rattle.fs_model.specs.Stands.{HoldsAll, placed}
 use Rattle.fs_model.specs.States.{State}

@@ -16,7 +16,7 @@ use Rattle.fs_layout.specs.Bytes.{SectorMap, IsBytes}
 use Rattle.fs_model.specs.declared.call.Flags.{Flags}
 use Rattle.fs_model.specs.declared.walk.Found.{Found}
 use Rattle.fs_model.specs.Births.{the_node}
-use Rattle.fs_model.specs.Changes.{changed, swept}
+use Rattle.fs_model.specs.TreeChanges.{changed, swept}
 use Rattle.fs_model.specs.Demands.{Demand, refuse, first_of, perms, permission_on}
 use Rattle.fs_model.specs.Nodes.{is_directory, is_link}
 use Rattle.fs_model.specs.OpenCall.{open_arguments, open_form, open_demands, open_change}

@@ -6,7 +6,7 @@ use Rattle.fs_cred.specs.declared.refusal.Refusal.{Refusal}
 use Rattle.fs_model.specs.declared.call.Call.{Call}
 use Rattle.fs_model.specs.declared.reply.Reply.{Reply}
 use Rattle.fs_model.specs.declared.event.Event.TheVariants.{Call as Calls}
-use Rattle.fs_model.specs.Changes.{Same}
+use Rattle.fs_model.specs.TreeChanges.{Same}
 use Rattle.fs_model.specs.Processes.{Desks}
 use Rattle.fs_model.specs.States.{State}
 use Rattle.fs_model.specs.Steps.{after, firm_refusal, other_refusal}

@@ -8,7 +8,7 @@ ghost use Rattle.bit_alloc.specs.declared.bitmap.Bitmap.TheVariants.{Inodes};
 ghost use Rattle.bit_alloc.specs.Bitmaps.{IsNumber};
 ghost use Rattle.bit_alloc.specs.Inodes.{IsSound};
 ghost use Rattle.bit_alloc.specs.Room.{HasSpare};
-ghost use Rattle.fs_model.specs.Changes.{swept};
+ghost use Rattle.fs_model.specs.TreeChanges.{swept};
 ghost use Rattle.fs_model.specs.Processes.{Descriptor as OpenFile};
 ghost use Rattle.fs_model.specs.Stands.{HoldsAll, placed};
 ghost use Rattle.fs_model.specs.States.{State};

@@ -13,11 +13,11 @@ ghost use Rattle.bit_alloc.specs.Room.{HasSpare};
 ghost use Rattle.inode_table.specs.Acls.{HasDefaultAcl};
 ghost use Rattle.inode_table.specs.Inodes.{IsInodeOf};
 ghost use Rattle.path_walk.specs.Answers.{refused_or, FailsToRead, Interrupts};
-ghost use Rattle.call_parts.specs.Makings.{CanMake, MakesFile};
+ghost use Rattle.call_parts.specs.Makings.{CanMake};
+ghost use Rattle.call_parts.specs.NewNodes.{MakesNode, file_made};
 ghost use Rattle.file_calls.specs.Openings.{FindsIn, IsRefusedOpen, Reaches};
 
-use call_parts::{check_make, default_of, inherited, new_group};
-use dir_core::insert_new;
+use call_parts::{check_make, default_of, inherited, name_inode, new_group};
 use fs_cred::{Errno, Refusal};
 use fs_layout::{Inode, Kind, Place};
 use fs_model::{Flags, Found};
@@ -65,7 +65,8 @@ fn make_file<S: Sectors>(
     requires may { (t : Tree) × CanMake place (S.state s.old).sectors t dir name.now }
     requires spare { HasSpare place 47 (S.state s.old) }
     ensures store { SameStore (S.state s.old) (S.state s.new) }
-    ensures made { IfOk result (MakesFile place dir name.now uid gid acl.now (S.state s.old).sectors (S.state s.new).sectors) }
+    ensures made { IfOk result (λ n. MakesNode place dir name.now n (file_made uid gid acl.now)
+        (S.state s.old).sectors (S.state s.new).sectors) }
     ensures err { IfErr result (FailsToRead (S.state s.old).disk (S.state s.new).disk) }
 {
     let file = Inode {
@@ -78,11 +79,8 @@ fn make_file<S: Sectors>(
     let Ok(n) = new_inode(s, place, &file, acl, None) else {
         return Err(Refusal::Failed(Errno::EIO));
     };
-    let mut directory = directory;
-    match insert_new(s, place, dir, &mut directory, name, n) {
-        Ok(()) => Ok(n),
-        Err(_) => Err(Refusal::Failed(Errno::EIO)),
-    }
+    name_inode(s, place, dir, directory, name, n)?;
+    Ok(n)
 }
 
 // Asks whether what was not found may be made.

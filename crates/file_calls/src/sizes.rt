@@ -13,7 +13,7 @@ ghost use Rattle.bit_alloc.specs.Inodes.{IsSound};
 ghost use Rattle.bit_alloc.specs.Room.{HasSpare};
 ghost use Rattle.path_walk.specs.Answers.{refused_or, FailsToRead};
 ghost use Rattle.call_parts.specs.Performing.{IsReady, Performs};
-ghost use Rattle.call_parts.specs.Changes.{ChangesBytes};
+ghost use Rattle.call_parts.specs.ByteChanges.{ChangesBytes};
 
 use block_map::set_size;
 use call_parts::{permitted, reach};

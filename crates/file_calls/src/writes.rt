@@ -12,7 +12,7 @@ ghost use Rattle.bit_alloc.specs.Inodes.{IsSound};
 ghost use Rattle.bit_alloc.specs.Room.{HasSpare};
 ghost use Rattle.path_walk.specs.Answers.{FailsToRead};
 ghost use Rattle.call_parts.specs.Performing.{IsReady, Performs};
-ghost use Rattle.call_parts.specs.Changes.{ChangesBytes};
+ghost use Rattle.call_parts.specs.ByteChanges.{ChangesBytes};
 
 use crate::transfer::MAX_MOVE;
 use block_map::write_at;

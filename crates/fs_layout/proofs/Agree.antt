@@ -7,7 +7,7 @@ use Rattle.fs_layout.specs.Bytes.{SectorMap, IsSector}
 use Rattle.fs_layout.specs.Place.{IsPlace}
 use Rattle.fs_layout.specs.Images.{map_bits, bit, inode_bitmap, block_bitmap, free_sectors, stored, inode_at, Owns}
 use Rattle.fs_layout.specs.Ownership.{IsOwned, IsConsistent, Agrees}
-use Rattle.fs_layout.specs.Changes.{Keeps}
+use Rattle.fs_layout.specs.InodeChanges.{Keeps}
 use Rattle.fs_layout.proofs.Places.{after_map, before_data}
 use Rattle.fs_layout.proofs.Parts.{owns_still, owned_before}
 use Rattle.fs_layout.proofs.Bits.{has_bit, bit_kept, inode_bit_kept, in_block_map, free_sectors_kept}

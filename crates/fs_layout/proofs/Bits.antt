@@ -11,7 +11,7 @@ use Rattle.fs_layout.specs.declared.place.Place.{Place}
 use Rattle.fs_layout.specs.Bytes.{SectorMap}
 use Rattle.fs_layout.specs.Place.{IsPlace}
 use Rattle.fs_layout.specs.Images.{IsData, map_bits, bit, inode_bitmap, block_bitmap, free_sectors}
-use Rattle.fs_layout.specs.Changes.{IsBlockMap, IsFree}
+use Rattle.fs_layout.specs.InodeChanges.{IsBlockMap, IsFree}
 
 -- a bit is set or clear, and not both
 pub set_or_clear : (b : Bool) → IsTrue b ⊎ (b ≡ false)

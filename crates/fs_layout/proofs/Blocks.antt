@@ -6,7 +6,7 @@ use Rattle.fs_layout.specs.declared.place.Place.{Place}
 use Rattle.fs_layout.specs.Bytes.{SectorMap, IsSector}
 use Rattle.fs_layout.specs.Place.{IsPlace}
 use Rattle.fs_layout.specs.Images.{HasWholeTables, map_bits, bit, block_bitmap, free_sectors, pointer, Part, Indirect, Block, part, Owns}
-use Rattle.fs_layout.specs.Changes.{Puts, Rewrites, IsBlockMap, IsOwnedApart, ChangesBlocks}
+use Rattle.fs_layout.specs.InodeChanges.{Puts, Rewrites, IsBlockMap, IsOwnedApart, ChangesBlocks}
 use Rattle.fs_layout.proofs.Places.{before_data}
 use Rattle.fs_layout.proofs.Parts.{KeepsPointers, part_same, indirect_is_no_block}
 use Rattle.fs_layout.proofs.Pointers.{part_alike}

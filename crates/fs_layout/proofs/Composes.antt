@@ -5,7 +5,7 @@ use Rattle.fs_layout.specs.declared.place.Place.{Place}
 use Rattle.fs_layout.specs.Bytes.{SectorMap}
 use Rattle.fs_layout.specs.Place.{IsPlace}
 use Rattle.fs_layout.specs.Images.{IsData, map_bits, bit, block_bitmap, Owns}
-use Rattle.fs_layout.specs.Changes.{IsOwnedApart, ChangesOwned, ChangesBlocks, ChangesInode}
+use Rattle.fs_layout.specs.InodeChanges.{IsOwnedApart, ChangesOwned, ChangesBlocks, ChangesInode}
 use Rattle.fs_layout.proofs.Bits.{has_bit, set_or_clear, not_both}
 
 -- ---- two changes

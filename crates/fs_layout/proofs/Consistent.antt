@@ -8,7 +8,7 @@ use Rattle.fs_layout.specs.Inode.{inode_of, FitsInode}
 use Rattle.fs_layout.specs.Place.{IsPlace}
 use Rattle.fs_layout.specs.Images.{IsData, map_bits, bit, block_bitmap, stored, inode_at, part, Owns}
 use Rattle.fs_layout.specs.Ownership.{IsOwned, IsConsistent}
-use Rattle.fs_layout.specs.Changes.{Keeps, IsOwnedApart, ChangesOwned, ChangesBlocks, Saves, ChangesInode}
+use Rattle.fs_layout.specs.InodeChanges.{Keeps, IsOwnedApart, ChangesOwned, ChangesBlocks, Saves, ChangesInode}
 use Rattle.fs_layout.proofs.Parts.{owns_still, owned_before}
 use Rattle.fs_layout.proofs.Bits.{has_bit, set_or_clear, not_both}
 use Rattle.fs_layout.proofs.Blocks.{fields_change}

@@ -12,7 +12,7 @@ use Rattle.fs_layout.specs.Place.{IsPlace}
 use Rattle.fs_layout.specs.Images.{HasWholeTables, map_bits, bit, block_bitmap, stored, inode_at}
 use Rattle.fs_layout.specs.Images.{pointer, byte_in, byte_at, Part, AccessAcl, DefaultAcl, Indirect, DoubleIndirect, Block, part, Owns, Holds}
 use Rattle.fs_layout.specs.Ownership.{IsOwned, IsConsistent}
-use Rattle.fs_layout.specs.Changes.{with_direct, IsOwnedApart, ChangesBlocks}
+use Rattle.fs_layout.specs.InodeChanges.{with_direct, IsOwnedApart, ChangesBlocks}
 use Rattle.fs_layout.proofs.Places.{after_map}
 use Rattle.fs_layout.proofs.Fields.{part_len, IsBytes-part}
 use Rattle.fs_layout.proofs.InodeLaw.{read_fits}

@@ -6,7 +6,7 @@ use Rattle.fs_layout.specs.declared.place.Place.{Place}
 use Rattle.fs_layout.specs.Bytes.{SectorMap, IsSector}
 use Rattle.fs_layout.specs.Place.{IsPlace}
 use Rattle.fs_layout.specs.Images.{bit, block_bitmap, free_sectors, Part, part, Owns}
-use Rattle.fs_layout.specs.Changes.{Gains, Takes, IsFree, IsOwnedApart, ChangesBlocks}
+use Rattle.fs_layout.specs.InodeChanges.{Gains, Takes, IsFree, IsOwnedApart, ChangesBlocks}
 use Rattle.fs_layout.proofs.Places.{after_map, before_data}
 use Rattle.fs_layout.proofs.Parts.{same_part_or_not}
 use Rattle.fs_layout.proofs.Bits.{has_bit, not_both, free_sectors_less}

@@ -7,7 +7,7 @@ use Rattle.fs_layout.specs.declared.inode.Inode.{Inode}
 use Rattle.fs_layout.specs.declared.place.Place.{Place}
 use Rattle.fs_layout.specs.Bytes.{SectorMap, splice, window, zeros}
 use Rattle.fs_layout.specs.Images.{pointer, Part, Indirect, Block, part, Owns, byte_in, byte_at, Holds, HasNoHole}
-use Rattle.fs_layout.specs.Changes.{Keeps, Puts, IsBlockOf, ReplacesBlock, IsOwnedApart}
+use Rattle.fs_layout.specs.InodeChanges.{Keeps, Puts, IsBlockOf, ReplacesBlock, IsOwnedApart}
 use Rattle.fs_layout.proofs.Parts.{pointer_same, byte_in_kept, byte_in_is, block_is_one, indirect_is_no_block, owns_block}
 use Rattle.fs_layout.proofs.Blocks.{pointers_apart, others_kept}
 use Rattle.fs_layout.proofs.Pointers.{pointer_alike}

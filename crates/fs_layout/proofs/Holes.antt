@@ -5,7 +5,7 @@ use Rattle.fs_layout.specs.declared.inode.Inode.{Inode}
 use Rattle.fs_layout.specs.declared.place.Place.{Place}
 use Rattle.fs_layout.specs.Bytes.{SectorMap}
 use Rattle.fs_layout.specs.Images.{pointer, Block, part, HasNoHole}
-use Rattle.fs_layout.specs.Changes.{Puts, Gains, IsOwnedApart}
+use Rattle.fs_layout.specs.InodeChanges.{Puts, Gains, IsOwnedApart}
 use Rattle.fs_layout.proofs.Parts.{pointer_same, indirect_is_no_block}
 use Rattle.fs_layout.proofs.Pointers.{pointer_alike}
 use Rattle.fs_layout.proofs.Blocks.{pointers_apart}

@@ -4,7 +4,7 @@ use Rattle.std.proofs.Common.{◌∙◌}
 use Rattle.posix_acl.specs.AccessList.{AccessList}
 use Rattle.fs_layout.specs.declared.inode.Inode.{Inode}
 use Rattle.fs_layout.specs.Bytes.{SectorMap}
-use Rattle.fs_layout.specs.Changes.{Keeps}
+use Rattle.fs_layout.specs.InodeChanges.{Keeps}
 use Rattle.fs_layout.specs.Directories.{HasNames}
 use Rattle.fs_layout.specs.AclSector.{HoldsAcl}
 use Rattle.fs_layout.proofs.Parts.{Holds-kept, HasNoHole-kept}

@@ -8,7 +8,7 @@ use Rattle.fs_layout.specs.Bytes.{SectorMap, IsSector}
 use Rattle.fs_layout.specs.Place.{IsPlace}
 use Rattle.fs_layout.specs.Images.{HasWholeTables, map_bits, bit, inode_bitmap, block_bitmap, stored, inode_at, Owns}
 use Rattle.fs_layout.specs.Ownership.{IsConsistent}
-use Rattle.fs_layout.specs.Changes.{Keeps, Puts, IsBlockMap, IsFree, IsOwnedApart, Rewrites, Takes, Releases, MarksSector, MarksInode, ChangesInode}
+use Rattle.fs_layout.specs.InodeChanges.{Keeps, Puts, IsBlockMap, IsFree, IsOwnedApart, Rewrites, Takes, Releases, MarksSector, MarksInode, ChangesInode}
 use Rattle.fs_layout.proofs.Places.{after_map, before_data}
 use Rattle.fs_layout.proofs.Bits.{has_bit, not_both, bit_kept, block_bit_kept, in_block_map, PutsByte, bit_put_other}
 use Rattle.fs_layout.proofs.Blocks.{map_is_low, low_not_owned, nothing_changes}

@@ -9,7 +9,7 @@ use Rattle.fs_layout.specs.Inode.{inode_bytes, FitsInode}
 use Rattle.fs_layout.specs.Place.{IsPlace}
 use Rattle.fs_layout.specs.Images.{HasWholeTables, map_bits, bit, block_bitmap, inode_at}
 use Rattle.fs_layout.specs.Ownership.{IsConsistent}
-use Rattle.fs_layout.specs.Changes.{Keeps, IsOwnedApart, ChangesOwned, ChangesBlocks, Saves}
+use Rattle.fs_layout.specs.InodeChanges.{Keeps, IsOwnedApart, ChangesOwned, ChangesBlocks, Saves}
 use Rattle.fs_layout.proofs.Parts.{owns_still, owned_before}
 use Rattle.fs_layout.proofs.Bits.{has_bit, bit_kept, in_block_map}
 use Rattle.fs_layout.proofs.Saves.{IsSaved, data_saved, below_saved, tables_saved, in_table, owned_on}

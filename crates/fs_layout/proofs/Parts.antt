@@ -5,7 +5,7 @@ use Rattle.fs_layout.specs.declared.inode.Inode.{Inode}
 use Rattle.fs_layout.specs.Bytes.{SectorMap, u32_of}
 use Rattle.fs_layout.specs.Images.{pointer_in, pointer, part, Owns, byte_in, byte_at, Holds, HasNoHole}
 use Rattle.fs_layout.specs.Images.{Part, AccessAcl, DefaultAcl, Indirect, DoubleIndirect, Block, Part-discrete}
-use Rattle.fs_layout.specs.Changes.{Keeps}
+use Rattle.fs_layout.specs.InodeChanges.{Keeps}
 use native.Mathlib.Decide.{ℕ_discrete}
 
 -- ---- parts are told apart

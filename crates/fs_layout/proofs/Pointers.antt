@@ -6,7 +6,7 @@ use Rattle.fs_layout.specs.declared.inode.TheConstants.{DIRECT_BLOCKS, INDIRECT_
 use Rattle.fs_layout.specs.declared.inode.Inode.{Inode}
 use Rattle.fs_layout.specs.Bytes.{SectorMap, splice, le32, zeros, u32_of}
 use Rattle.fs_layout.specs.Images.{pointer_in, pointer, HasPointers, block_number, Part, AccessAcl, DefaultAcl, Indirect, DoubleIndirect, Block, part}
-use Rattle.fs_layout.specs.Changes.{Turns, Gains, Loses, with_direct}
+use Rattle.fs_layout.specs.InodeChanges.{Turns, Gains, Loses, with_direct}
 use Rattle.fs_layout.proofs.Parts.{KeepsPointers, entry_kept}
 use Rattle.fs_layout.proofs.Numbers.{are_numbers_32}
 use Rattle.fs_layout.proofs.SplicedBytes.{u32_of-splice_other, u32_of-zeros}

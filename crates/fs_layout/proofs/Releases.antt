@@ -6,7 +6,7 @@ use Rattle.fs_layout.specs.declared.place.Place.{Place}
 use Rattle.fs_layout.specs.Bytes.{SectorMap}
 use Rattle.fs_layout.specs.Place.{IsPlace}
 use Rattle.fs_layout.specs.Images.{bit, block_bitmap, free_sectors, Part, part, Owns}
-use Rattle.fs_layout.specs.Changes.{Loses, Releases, IsOwnedApart, ChangesBlocks}
+use Rattle.fs_layout.specs.InodeChanges.{Loses, Releases, IsOwnedApart, ChangesBlocks}
 use Rattle.fs_layout.proofs.Bits.{has_bit, not_both, free_sectors_more}
 use Rattle.fs_layout.proofs.Blocks.{low_not_owned, map_is_low}
 

@@ -8,7 +8,7 @@ use Rattle.fs_layout.specs.Bytes.{SectorMap, IsSector, splice, window}
 use Rattle.fs_layout.specs.Inode.{inode_bytes, inode_of, FitsInode}
 use Rattle.fs_layout.specs.Place.{IsPlace}
 use Rattle.fs_layout.specs.Images.{HasWholeTables, map_bits, bit, inode_bitmap, block_bitmap, free_sectors, stored, inode_at, inode_or_free}
-use Rattle.fs_layout.specs.Changes.{Keeps, Puts, IsOwnedApart, ChangesOwned, ChangesBlocks, Saves, ChangesInode}
+use Rattle.fs_layout.specs.InodeChanges.{Keeps, Puts, IsOwnedApart, ChangesOwned, ChangesBlocks, Saves, ChangesInode}
 use Rattle.fs_layout.proofs.Places.{after_map, before_data}
 use Rattle.fs_layout.proofs.InodeLaw.{inode_again}
 use Rattle.fs_layout.proofs.Splices.{window_same, window_other}

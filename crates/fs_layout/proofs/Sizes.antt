@@ -6,7 +6,7 @@ use Rattle.fs_layout.specs.declared.inode.TheConstants.{DIRECT_SIZE}
 use Rattle.fs_layout.specs.declared.inode.Inode.{Inode}
 use Rattle.fs_layout.specs.Bytes.{SectorMap, zeros}
 use Rattle.fs_layout.specs.Images.{pointer, Part, AccessAcl, DefaultAcl, Indirect, Block, part, byte_in, byte_at, Holds}
-use Rattle.fs_layout.specs.Changes.{ReplacesBlock, Turns, Gains, Loses}
+use Rattle.fs_layout.specs.InodeChanges.{ReplacesBlock, Turns, Gains, Loses}
 use Rattle.fs_layout.proofs.Writes.{length-zeros}
 use Rattle.fs_layout.proofs.SplicedBytes.{get_or-zeros}
 use Rattle.fs_layout.proofs.Parts.{byte_in_is, block_is_one}

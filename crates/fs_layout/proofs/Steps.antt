@@ -6,7 +6,7 @@ use Rattle.fs_layout.specs.declared.place.Place.{Place}
 use Rattle.fs_layout.specs.Bytes.{SectorMap, IsSector, splice, le32, zeros}
 use Rattle.fs_layout.specs.Place.{IsPlace}
 use Rattle.fs_layout.specs.Images.{pointer, Block, Owns, Holds}
-use Rattle.fs_layout.specs.Changes.{Keeps, Gains, with_direct, IsOwnedApart, Takes, Rewrites, Allocates, Frees, PutsEntry, ReplacesBlock, ChangesBlocks}
+use Rattle.fs_layout.specs.InodeChanges.{Keeps, Gains, with_direct, IsOwnedApart, Takes, Rewrites, Allocates, Frees, PutsEntry, ReplacesBlock, ChangesBlocks}
 use Rattle.fs_layout.proofs.Places.{after_map, before_data}
 use Rattle.fs_layout.proofs.Parts.{KeepsPointers, pointers_kept, owns_indirect}
 use Rattle.fs_layout.proofs.Sectors.{IsSector-splice, IsBytes-le32}

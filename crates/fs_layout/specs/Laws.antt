@@ -15,7 +15,7 @@ use Rattle.fs_layout.specs.Directories.{NamedInode, FitsSlot, slot_bytes, slots_
 use Rattle.fs_layout.specs.AclSector.{FitsAclSector, acl_sector_of}
 use Rattle.fs_layout.specs.Images.{inode_at, pointer}
 use Rattle.fs_layout.specs.Ownership.{IsConsistent, Agrees}
-use Rattle.fs_layout.specs.Changes.{Keeps, ChangesBlocks, ChangesInode, Saves}
+use Rattle.fs_layout.specs.InodeChanges.{Keeps, ChangesBlocks, ChangesInode, Saves}
 use Rattle.fs_layout.specs.Commit.{IsCommit, IsValidCommit}
 use Rattle.fs_layout.specs.Recovered.{recovered}
 use Rattle.fs_layout.specs.Maps.{name_cmp, get, with_entry, without, IsMap}

@@ -1,10 +1,10 @@
 pub mod AclSector
 pub mod Bytes
-pub mod Changes
 pub mod Commit
 pub mod Directories
 pub mod Images
 pub mod Inode
+pub mod InodeChanges
 pub mod Laws
 pub mod Maps
 pub mod Ownership

@@ -10,7 +10,7 @@ use Rattle.fs_layout.specs.Bytes.{SectorMap}
 use Rattle.fs_layout.specs.Inode.{FitsInode}
 use Rattle.fs_layout.specs.Images.{bit, inode_bitmap, inode_at}
 use Rattle.fs_layout.specs.Ownership.{Agrees}
-use Rattle.fs_layout.specs.Changes.{ChangesBlocks, ChangesInode, Saves}
+use Rattle.fs_layout.specs.InodeChanges.{ChangesBlocks, ChangesInode, Saves}
 use Rattle.fs_layout.proofs.Bits.{bit_kept}
 use Rattle.fs_layout.proofs.Agree.{agree_consistent, agree_inode, agree_keeps}
 use Rattle.fs_layout.proofs.Consistent.{stays_consistent, other_inode, other_keeps, saved_stays_consistent}

@@ -4,7 +4,7 @@ use Rattle.std.proofs.Common.{◌∙◌, sym, subst}
 use Rattle.fs_layout.specs.declared.inode.Inode.{Inode}
 use Rattle.fs_layout.specs.Bytes.{SectorMap}
 use Rattle.fs_layout.specs.Inode.{free_inode}
-use Rattle.fs_layout.specs.Changes.{Keeps}
+use Rattle.fs_layout.specs.InodeChanges.{Keeps}
 use Rattle.fs_layout.proofs.Parts.{Holds-kept, HasNoHole-kept, owns_acl, owns_default_acl}
 use Rattle.fs_layout.proofs.KeptParts.{HasNames-kept, HoldsAcl-kept}
 use Rattle.fs_model.specs.Nodes.{Body, File, Dir, Link}

@@ -15,7 +15,7 @@ use Rattle.fs_model.specs.declared.event.Event.{Event}
 use Rattle.fs_model.specs.declared.event.Event.TheVariants.{Spawn, Exit, Call as Calls, Fsync, Sync, Statfs, Arm, Restart}
 use Rattle.fs_model.specs.declared.reply.Reply.TheVariants.{Wrote, Refused}
 use Rattle.fs_model.specs.AttributeCalls.{granted_by}
-use Rattle.fs_model.specs.Changes.{Rewrite}
+use Rattle.fs_model.specs.TreeChanges.{Rewrite}
 use Rattle.fs_model.specs.Demands.{Demand}
 use Rattle.fs_model.specs.DescriptorCalls.{write_offset, write_count, write_effect, written}
 use Rattle.fs_model.specs.Parts.{is_empty}

@@ -6,7 +6,7 @@ use Rattle.std.proofs.Common.{refl, sym, ap, ◌∙◌, subst}
 use Rattle.std.proofs.lemmas.Bool.{or_right}
 use Rattle.fs_layout.specs.declared.place.Place.{Place}
 use Rattle.fs_layout.specs.Bytes.{SectorMap, IsBytes}
-use Rattle.fs_layout.specs.Changes.{ChangesInode}
+use Rattle.fs_layout.specs.InodeChanges.{ChangesInode}
 use Rattle.fs_layout.specs.Directories.{IsName}
 use Rattle.fs_layout.specs.Inode.{free_inode}
 use Rattle.fs_layout.specs.Images.{bit, inode_bitmap, inode_at}
@@ -16,7 +16,7 @@ use Rattle.fs_model.specs.Limits.{entries_limit}
 use Rattle.fs_model.specs.Nodes.{Node, is_directory, names_in}
 use Rattle.fs_model.specs.Trees.{Tree, node_at, with_node, names_of, parent, IsBody}
 use Rattle.fs_model.specs.Processes.{Desks, is_open}
-use Rattle.fs_model.specs.Changes.{Same, Rewrite, Make, AddName, TakeName, changed, swept, lives_nameless, with_names_at}
+use Rattle.fs_model.specs.TreeChanges.{Same, Rewrite, Make, AddName, TakeName, changed, swept, lives_nameless, with_names_at}
 use Rattle.fs_model.specs.States.{State, IsState}
 use Rattle.fs_model.specs.StoredNodes.{Placed, HoldsNode}
 use Rattle.fs_model.specs.Stands.{HoldsAll, placed, room_of}

@@ -6,13 +6,13 @@ use Rattle.std.proofs.Common.{refl, sym, ap, ◌∙◌, inl, inr}
 use Rattle.std.proofs.lemmas.Bool.{cases_eq}
 use Rattle.fs_layout.specs.declared.place.Place.{Place}
 use Rattle.fs_layout.specs.Bytes.{SectorMap}
-use Rattle.fs_layout.specs.Changes.{ChangesInode}
+use Rattle.fs_layout.specs.InodeChanges.{ChangesInode}
 use Rattle.fs_layout.specs.Inode.{free_inode}
 use Rattle.fs_layout.specs.Images.{bit, inode_bitmap, inode_at}
 use Rattle.fs_model.specs.Nodes.{Node, Body, File, Dir, Link}
 use Rattle.fs_model.specs.Trees.{Tree, Room, node_at, names_of, IsTree}
 use Rattle.fs_model.specs.Processes.{Desks, is_open}
-use Rattle.fs_model.specs.Changes.{swept, lives_nameless}
+use Rattle.fs_model.specs.TreeChanges.{swept, lives_nameless}
 use Rattle.fs_model.specs.Stands.{HoldsAll, placed}
 use Rattle.fs_model.proofs.PlacedNodes.{same_placed, placing, placed_once, one_dropped, placed_none, placed_stays, placed_goes}
 use Rattle.fs_model.proofs.StepsSwept.{tree_may_be_swept}

@@ -9,7 +9,7 @@ use Rattle.std.proofs.lemmas.Bool.{cases_eq}
 use Rattle.fs_layout.specs.declared.inode.Inode.{Inode}
 use Rattle.fs_layout.specs.declared.place.Place.{Place}
 use Rattle.fs_layout.specs.Bytes.{SectorMap}
-use Rattle.fs_layout.specs.Changes.{ChangesInode}
+use Rattle.fs_layout.specs.InodeChanges.{ChangesInode}
 use Rattle.fs_layout.specs.Inode.{free_inode}
 use Rattle.fs_layout.specs.Images.{bit, inode_bitmap, inode_at}
 use Rattle.fs_layout.specs.Maps.{name_cmp, with_entry, without}
@@ -18,7 +18,7 @@ use Rattle.fs_model.specs.Limits.{root}
 use Rattle.fs_model.specs.Nodes.{Node, Body, File, Dir, Link, is_directory, names_in, with_names}
 use Rattle.fs_model.specs.Trees.{Tree, node_at, names_of, parent, IsUnderRoot, is_root, is_in, IsDirectoryAt}
 use Rattle.fs_model.specs.Processes.{Desks, is_open}
-use Rattle.fs_model.specs.Changes.{MoveName, changed, swept, lives_nameless}
+use Rattle.fs_model.specs.TreeChanges.{MoveName, changed, swept, lives_nameless}
 use Rattle.fs_model.specs.States.{State, IsState}
 use Rattle.fs_model.specs.StoredNodes.{Placed, HoldsNode, parent_field}
 use Rattle.fs_model.specs.Stands.{HoldsAll, placed, room_of}

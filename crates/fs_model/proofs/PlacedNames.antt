@@ -9,7 +9,7 @@ use Rattle.fs_layout.proofs.NameMaps.{Names, leading, once_if, once_same, once_o
 use Rattle.fs_model.specs.Nodes.{Node, names_in}
 use Rattle.fs_model.specs.Trees.{Tree, Room, node_at, names_of, parent, IsTree}
 use Rattle.fs_model.specs.Processes.{Desks, is_open}
-use Rattle.fs_model.specs.Changes.{swept, lives_nameless}
+use Rattle.fs_model.specs.TreeChanges.{swept, lives_nameless}
 use Rattle.fs_model.specs.States.{State, IsState}
 use Rattle.fs_model.specs.Stands.{placed}
 use Rattle.fs_model.proofs.Finds.{IsThere}

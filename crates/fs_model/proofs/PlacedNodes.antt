@@ -13,13 +13,13 @@ use Rattle.fs_layout.specs.declared.place.Place.{Place}
 use Rattle.fs_layout.specs.Bytes.{SectorMap}
 use Rattle.fs_layout.specs.Inode.{free_inode}
 use Rattle.fs_layout.specs.Images.{bit, inode_bitmap, inode_at}
-use Rattle.fs_layout.specs.Changes.{ChangesInode}
+use Rattle.fs_layout.specs.InodeChanges.{ChangesInode}
 use Rattle.fs_layout.specs.Maps.{IsMap}
 use Rattle.fs_model.specs.Nodes.{Node, type_of}
 use Rattle.fs_model.specs.Trees.{Tree, Room, node_at, names_of, parent, NamesFit, IsTree}
 use Rattle.fs_model.specs.Processes.{Desks, is_open}
 use Rattle.fs_model.specs.Births.{the_node}
-use Rattle.fs_model.specs.Changes.{swept, lives_nameless}
+use Rattle.fs_model.specs.TreeChanges.{swept, lives_nameless}
 use Rattle.fs_model.specs.States.{State, IsState, FitsTree}
 use Rattle.fs_model.specs.StoredNodes.{Placed, HoldsNode}
 use Rattle.fs_model.specs.Stands.{HoldsPlaced, HoldsAll, placed, room_of}

@@ -16,7 +16,7 @@ use Rattle.fs_model.specs.Limits.{root}
 use Rattle.fs_model.specs.Nodes.{names_in, shown_mode}
 use Rattle.fs_model.specs.Trees.{Tree}
 use Rattle.fs_model.specs.Births.{the_node}
-use Rattle.fs_model.specs.Changes.{pruned}
+use Rattle.fs_model.specs.TreeChanges.{pruned}
 use Rattle.fs_model.specs.States.{State}
 use Rattle.fs_model.specs.Trails.{trail_of}
 use Rattle.fs_model.specs.Walks.{first_refusal, found_of}

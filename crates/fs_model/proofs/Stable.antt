@@ -10,7 +10,7 @@ use Rattle.fs_model.specs.declared.event.Event.{Event}
 use Rattle.fs_model.specs.declared.event.Event.TheVariants.{Spawn, Exit, Call as Calls, Fsync, Sync, Statfs, Arm, Restart}
 use Rattle.fs_model.specs.declared.event.EventReply.TheVariants.{Reply as Replies}
 use Rattle.fs_model.specs.Trees.{Tree}
-use Rattle.fs_model.specs.Changes.{pruned}
+use Rattle.fs_model.specs.TreeChanges.{pruned}
 use Rattle.fs_model.specs.States.{State}
 use Rattle.fs_model.specs.Steps.{Answers, is_halted, refuses_early, refuses_late, acts, lacks_memory, read_fails, write_fails}
 use Rattle.fs_model.specs.Stops.{Machine, MachineStep, is_down, arms, steps, halts, mounts, mount_fails, Stops, asks_stable, trees_after}

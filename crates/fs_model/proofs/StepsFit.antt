@@ -8,7 +8,7 @@ use Rattle.fs_model.specs.Nodes.{Node}
 use Rattle.fs_model.specs.Trees.{Tree, Room, node_at, with_node, IsTree}
 use Rattle.fs_model.specs.Processes.{Process}
 use Rattle.fs_model.specs.Births.{the_node, no_node}
-use Rattle.fs_model.specs.Changes.{Same, Rewrite, changed}
+use Rattle.fs_model.specs.TreeChanges.{Same, Rewrite, changed}
 use Rattle.fs_model.specs.States.{State, IsProcess, IsState}
 use Rattle.fs_model.specs.Scenes.{Scene, Effect, Row}
 use Rattle.fs_model.specs.declared.walk.Form.{Form}

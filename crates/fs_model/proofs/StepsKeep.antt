@@ -11,7 +11,7 @@ use Rattle.fs_model.specs.declared.reply.Reply.{Reply}
 use Rattle.fs_model.specs.Limits.{processes_limit}
 use Rattle.fs_layout.specs.Maps.{get, with_entry, without, IsMap}
 use Rattle.fs_model.specs.Processes.{Process, Desks, new_process}
-use Rattle.fs_model.specs.Changes.{changed}
+use Rattle.fs_model.specs.TreeChanges.{changed}
 use Rattle.fs_model.specs.States.{State, IsProcess, IsState}
 use Rattle.fs_model.specs.Demands.{refuse}
 use Rattle.fs_model.specs.Scenes.{Row}

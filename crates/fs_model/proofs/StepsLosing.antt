@@ -9,7 +9,7 @@ use Rattle.fs_layout.specs.Maps.{get, IsMap}
 use Rattle.fs_model.specs.Nodes.{Node, Body, File, Dir, Link, is_directory, names_in, type_of}
 use Rattle.fs_model.specs.Trees.{Tree, Room, node_at, names_of, NamesFit, IsBody, IsUnderRoot, IsNode, IsDirectoryAt, IsTree}
 use Rattle.fs_model.specs.Processes.{Desks, Process, is_in_use}
-use Rattle.fs_model.specs.Changes.{lives_nameless}
+use Rattle.fs_model.specs.TreeChanges.{lives_nameless}
 use Rattle.fs_model.specs.States.{IsProcess}
 use Rattle.fs_model.proofs.StepsKinds.{KeepsTypes, same_directory, same_fit, directory_moves, process_moves}
 use Rattle.fs_model.proofs.StepsNaming.{node_from_shape}

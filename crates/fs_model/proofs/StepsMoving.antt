@@ -10,7 +10,7 @@ use Rattle.fs_layout.specs.Maps.{get, name_cmp, with_entry, without, IsMap}
 use Rattle.fs_model.specs.Nodes.{Node, is_directory, names_in, with_names}
 use Rattle.fs_model.specs.Trees.{Tree, Room, node_at, names_of, parent, lookup, lookup_in, IsEntry, IsUnderRoot, is_in, IsDirectoryAt, IsTree}
 use Rattle.fs_model.specs.Processes.{Desks, is_in_use}
-use Rattle.fs_model.specs.Changes.{MoveName, with_names_at, named, unnamed, changed}
+use Rattle.fs_model.specs.TreeChanges.{MoveName, with_names_at, named, unnamed, changed}
 use Rattle.fs_model.proofs.Finds.{IsThere}
 use Rattle.fs_layout.proofs.MapLaws.{with_entry-IsMap}
 use Rattle.fs_layout.proofs.NameMaps.{Names, leading, once_if, once_same, once_other, tied_names, get-with_name, with_name-IsMap, length-with_name, get-without_name, length-without_name, leading-without_name, leading_if, length-set_name, lost_of, leading-set_name}

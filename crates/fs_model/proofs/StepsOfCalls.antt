@@ -14,7 +14,7 @@ use Rattle.fs_model.specs.Nodes.{with_bytes}
 use Rattle.fs_model.specs.Trees.{IsTree}
 use Rattle.fs_model.specs.Processes.{Process}
 use Rattle.fs_model.specs.Births.{born_file}
-use Rattle.fs_model.specs.Changes.{Same, Rewrite, Make, MoveName, changed}
+use Rattle.fs_model.specs.TreeChanges.{Same, Rewrite, Make, MoveName, changed}
 use Rattle.fs_model.specs.States.{State, IsState}
 use Rattle.fs_model.specs.declared.walk.Form.{Form}
 use Rattle.fs_model.specs.declared.walk.Form.TheVariants.{Parent}

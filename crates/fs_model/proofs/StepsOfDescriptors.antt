@@ -14,7 +14,7 @@ use Rattle.fs_model.specs.Limits.{move_limit}
 use Rattle.fs_model.specs.Nodes.{bytes_in}
 use Rattle.fs_model.specs.Trees.{node_at, IsNode}
 use Rattle.fs_model.specs.Processes.{descriptor, the_descriptor, with_offset}
-use Rattle.fs_model.specs.Changes.{Rewrite}
+use Rattle.fs_model.specs.TreeChanges.{Rewrite}
 use Rattle.fs_model.specs.Parts.{is_empty}
 use Rattle.fs_model.specs.Demands.{refuse, only_if}
 use Rattle.fs_model.specs.Scenes.{Scene, node_open, no_blocks, is_bad, is_bad_to_read, is_bad_to_write, answers}

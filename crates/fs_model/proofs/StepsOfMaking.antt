@@ -16,7 +16,7 @@ use Rattle.fs_model.specs.Nodes.{Node, is_directory, names_in, with_bytes}
 use Rattle.fs_model.specs.Trees.{Tree, node_at, with_node, names_of, IsTarget, IsTree}
 use Rattle.fs_model.specs.Births.{the_node, born_file, born_directory, born_link}
 use Rattle.fs_model.specs.Processes.{least_unused}
-use Rattle.fs_model.specs.Changes.{Same, Rewrite, Make, AddName, with_names_at, named, changed}
+use Rattle.fs_model.specs.TreeChanges.{Same, Rewrite, Make, AddName, with_names_at, named, changed}
 use Rattle.fs_model.specs.States.{IsProcess}
 use Rattle.fs_model.specs.Parts.{is_empty}
 use Rattle.fs_model.specs.declared.walk.Found.{Found}

@@ -9,7 +9,7 @@ use Rattle.fs_model.specs.declared.reply.Reply.TheVariants.{Fd}
 use Rattle.fs_model.specs.Limits.{descriptors_limit}
 use Rattle.fs_model.specs.Nodes.{Node, is_directory, is_link, with_bytes}
 use Rattle.fs_model.specs.Processes.{least_unused}
-use Rattle.fs_model.specs.Changes.{Same, Rewrite, Make}
+use Rattle.fs_model.specs.TreeChanges.{Same, Rewrite, Make}
 use Rattle.fs_model.specs.States.{State, IsProcess}
 use Rattle.fs_model.specs.Births.{born_file}
 use Rattle.fs_model.specs.Scenes.{Scene, Effect, is_found, number, node_found, body_found, dir_node}

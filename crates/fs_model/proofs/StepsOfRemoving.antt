@@ -8,7 +8,7 @@ use Rattle.fs_layout.specs.Maps.{get, name_cmp, with_entry, without}
 use Rattle.fs_model.specs.Nodes.{is_directory, names_in}
 use Rattle.fs_model.specs.Trees.{IsDirectoryAt}
 use Rattle.fs_model.specs.Processes.{is_in_use}
-use Rattle.fs_model.specs.Changes.{Change, TakeName, with_names_at, changed}
+use Rattle.fs_model.specs.TreeChanges.{Change, TakeName, with_names_at, changed}
 use Rattle.fs_model.specs.Parts.{is_empty}
 use Rattle.fs_model.specs.declared.walk.Form.TheVariants.{Parent}
 use Rattle.fs_model.specs.Scenes.{Scene, is_found, is_special, number, node_found, body_found, dir_node, is_directory_found, has_names, ends_top, ends_dot, ends_dot_dot}

@@ -14,7 +14,7 @@ use Rattle.fs_layout.specs.Maps.{get, with_entry}
 use Rattle.fs_model.specs.Nodes.{is_directory, names_in}
 use Rattle.fs_model.specs.Trees.{node_at, is_within, IsDirectoryAt}
 use Rattle.fs_model.specs.Processes.{is_in_use}
-use Rattle.fs_model.specs.Changes.{MoveName, changed}
+use Rattle.fs_model.specs.TreeChanges.{MoveName, changed}
 use Rattle.fs_model.specs.declared.walk.Form.TheVariants.{Parent}
 use Rattle.fs_model.specs.Demands.{only_if}
 use Rattle.fs_model.specs.Scenes.{Scene, is_found, is_special, number, node_found, body_found, dir_node, is_directory_found, has_names, ends_top, ends_dot, ends_dot_dot, no_blocks, no_names}

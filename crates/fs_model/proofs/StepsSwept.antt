@@ -10,7 +10,7 @@ use Rattle.fs_layout.specs.Maps.{get, IsMap}
 use Rattle.fs_model.specs.Nodes.{Node, Body, File, Dir, Link, is_directory, is_link, names_in}
 use Rattle.fs_model.specs.Trees.{Tree, Room, node_at, names_of, NamesFit, IsTree, IsDirectoryAt}
 use Rattle.fs_model.specs.Processes.{Desks, Process, Descriptor, is_open, is_in_use}
-use Rattle.fs_model.specs.Changes.{swept, lives_nameless}
+use Rattle.fs_model.specs.TreeChanges.{swept, lives_nameless}
 use Rattle.fs_model.specs.States.{State, IsRoom, MayBeFree, IsDescriptor, IsProcess, FitsTree, IsState}
 use Rattle.fs_layout.proofs.FirstEntries.{in_rest}
 use Rattle.fs_model.proofs.Swept.{kept, get-filter, names_of-filter, stays, MayBeSwept, at-swept, kept_from, swept_is_tree}

@@ -12,7 +12,7 @@ use Rattle.fs_layout.specs.Maps.{get, name_cmp, IsMap}
 use Rattle.fs_model.specs.Nodes.{Node, Body, File, Dir, Link, names_in, is_directory}
 use Rattle.fs_model.specs.Trees.{Tree, Room, node_at, names_for, names_of, parent, NamesFit, IsNode, IsTree, IsBody, IsDirectoryAt}
 use Rattle.fs_model.specs.Processes.{Desks}
-use Rattle.fs_model.specs.Changes.{swept, pruned, lives_nameless}
+use Rattle.fs_model.specs.TreeChanges.{swept, pruned, lives_nameless}
 use Rattle.fs_layout.proofs.FirstEntries.{above, left, right, tied, at_other, at_same, in_rest}
 use Rattle.fs_model.proofs.Rewrites.{under}
 

@@ -10,7 +10,7 @@ use Rattle.fs_layout.specs.Maps.{get, with_entry, IsMap}
 use Rattle.fs_model.specs.Nodes.{Node, Body, File, Dir, Link, names_in, sectors_of, is_directory}
 use Rattle.fs_model.specs.Trees.{Tree, Room, node_at, with_node, names_of, NamesFit, IsTree}
 use Rattle.fs_model.specs.Processes.{Process, Desks, is_open}
-use Rattle.fs_model.specs.Changes.{swept, lives_nameless}
+use Rattle.fs_model.specs.TreeChanges.{swept, lives_nameless}
 use Rattle.fs_model.specs.States.{FitsTree}
 use Rattle.fs_model.specs.Laws.{IsRewritten}
 use Rattle.fs_layout.proofs.FirstEntries.{right, tied}

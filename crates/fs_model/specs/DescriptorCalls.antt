@@ -16,7 +16,7 @@ use Rattle.fs_model.specs.Nodes.{Node, is_directory, names_in, bytes_in, with_by
 use Rattle.fs_model.specs.Trees.{Tree, parent, names_of}
 use Rattle.fs_model.specs.Processes.{the_descriptor, with_offset}
 use Rattle.fs_model.specs.Births.{the_node}
-use Rattle.fs_model.specs.Changes.{Rewrite}
+use Rattle.fs_model.specs.TreeChanges.{Rewrite}
 use Rattle.fs_model.specs.Demands.{Demand, refuse, only_if}
 use Rattle.fs_model.specs.Parts.{is_empty}
 use Rattle.fs_model.specs.Scenes.{Scene, Effect, Row, node_open, no_blocks, is_bad, is_bad_to_read, is_bad_to_write, nothing_asked, answers, with_process, rewrites, by_descriptor}

@@ -13,7 +13,7 @@ use Rattle.fs_layout.specs.Bytes.{SectorMap}
 use Rattle.fs_layout.specs.Commit.{IsValidCommit, targets_in}
 use Rattle.fs_layout.specs.Place.{the_place}
 use Rattle.fs_layout.specs.Images.{bit, inode_bitmap, inode_at}
-use Rattle.fs_layout.specs.Changes.{ChangesInode}
+use Rattle.fs_layout.specs.InodeChanges.{ChangesInode}
 use Rattle.fs_layout.specs.Ownership.{Agrees}
 use Rattle.fs_layout.specs.Recovered.{recovered}
 use Rattle.fs_model.specs.declared.event.Event.{Event}
@@ -26,7 +26,7 @@ use Rattle.fs_model.specs.Nodes.{Node, is_link, names_in, sectors_of, type_of, a
 use Rattle.fs_model.specs.Kinds.{kind_of_type, type_of_kind, access_kind}
 use Rattle.fs_model.specs.Trees.{Tree, Room, node_at, with_node, names_of, parent, sectors_needed, free_inodes, IsTree, IsDirectoryAt}
 use Rattle.fs_model.specs.Processes.{Process, Desks, is_open}
-use Rattle.fs_model.specs.Changes.{pruned, swept}
+use Rattle.fs_model.specs.TreeChanges.{pruned, swept}
 use Rattle.fs_model.specs.States.{State, MayBeFree, FitsTree, IsState}
 use Rattle.fs_model.specs.declared.walk.Form.{Form}
 use Rattle.fs_model.specs.declared.walk.Form.TheVariants.{Follow}

@@ -10,7 +10,7 @@ use Rattle.fs_model.specs.Nodes.{is_link, target_in}
 use Rattle.fs_model.specs.Trees.{names_of}
 use Rattle.fs_model.specs.Processes.{is_in_use}
 use Rattle.fs_model.specs.Births.{born_directory, born_link}
-use Rattle.fs_model.specs.Changes.{Make, AddName, TakeName}
+use Rattle.fs_model.specs.TreeChanges.{Make, AddName, TakeName}
 use Rattle.fs_model.specs.Demands.{Demand, refuse}
 use Rattle.fs_model.specs.Parts.{is_empty}
 use Rattle.fs_model.specs.declared.walk.Form.TheVariants.{NoFollow, Parent}

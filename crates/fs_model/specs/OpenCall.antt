@@ -9,7 +9,7 @@ use Rattle.fs_model.specs.Limits.{descriptors_limit}
 use Rattle.fs_model.specs.Nodes.{is_directory, is_link, with_bytes}
 use Rattle.fs_model.specs.Processes.{Process, with_descriptor, least_unused}
 use Rattle.fs_model.specs.Births.{born_file}
-use Rattle.fs_model.specs.Changes.{Change, Same, Rewrite, Make}
+use Rattle.fs_model.specs.TreeChanges.{Change, Same, Rewrite, Make}
 use Rattle.fs_model.specs.Demands.{Demand, refuse, perms}
 use Rattle.fs_model.specs.Parts.{ends_with_slash}
 use Rattle.fs_model.specs.declared.walk.Form.{Form}

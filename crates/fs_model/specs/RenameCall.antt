@@ -5,7 +5,7 @@ use Rattle.std.specs.Prelude.{ℕ, ◌==◌, Bool, true, false, not, ◌&&◌, �
 use Rattle.fs_cred.specs.declared.errno.Errno.TheVariants.{EBUSY, ENOTDIR, EISDIR, EINVAL, ENOTEMPTY}
 use Rattle.fs_model.specs.Trees.{is_within}
 use Rattle.fs_model.specs.Processes.{is_in_use}
-use Rattle.fs_model.specs.Changes.{Same, MoveName}
+use Rattle.fs_model.specs.TreeChanges.{Same, MoveName}
 use Rattle.fs_model.specs.Demands.{Demand, refuse, only_if, perms}
 use Rattle.fs_model.specs.Scenes.{Scene, Effect, Row, is_found, number, is_directory_found, is_nondirectory_found, has_names, ends_top, ends_dot, ends_dot_dot, permission_at_end, permission_at_dir, sticky_at_dir, no_blocks, no_names, must_be_there, changes, by_two_paths}
 

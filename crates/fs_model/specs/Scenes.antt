@@ -17,7 +17,7 @@ use Rattle.fs_model.specs.Nodes.{Node, Body, is_directory, names_in}
 use Rattle.fs_model.specs.Trees.{free_inodes}
 use Rattle.fs_model.specs.Processes.{Process, descriptor, the_descriptor}
 use Rattle.fs_model.specs.Births.{the_node, the_directory}
-use Rattle.fs_model.specs.Changes.{Change, Same, Rewrite}
+use Rattle.fs_model.specs.TreeChanges.{Change, Same, Rewrite}
 use Rattle.fs_model.specs.States.{State}
 use Rattle.fs_model.specs.Demands.{Demand, refuse, permission_on, allowed_by, write_and_search}
 use Rattle.fs_model.specs.Parts.{is_empty}

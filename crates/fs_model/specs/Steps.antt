@@ -19,7 +19,7 @@ use Rattle.fs_model.specs.Limits.{processes_limit}
 use Rattle.fs_layout.specs.Maps.{get, with_entry, without}
 use Rattle.fs_model.specs.Trees.{Tree, node_at, free_inodes}
 use Rattle.fs_model.specs.Processes.{Process, Desks, new_process}
-use Rattle.fs_model.specs.Changes.{Change, Same, Make, changed, swept}
+use Rattle.fs_model.specs.TreeChanges.{Change, Same, Make, changed, swept}
 use Rattle.fs_model.specs.States.{State, MayBeFree}
 use Rattle.fs_model.specs.Demands.{Demand, refuse, first_of}
 use Rattle.fs_model.specs.Parts.{parts_of, start_of, path_checks}

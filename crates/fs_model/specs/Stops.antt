@@ -14,7 +14,7 @@ use Rattle.fs_model.specs.declared.event.Event.TheVariants.{Fsync, Sync, Arm, Re
 use Rattle.fs_model.specs.declared.event.EventReply.{EventReply}
 use Rattle.fs_model.specs.declared.event.EventReply.TheVariants.{Reply as Replies, Armed, Mounted, MountFailed, Down}
 use Rattle.fs_model.specs.Trees.{Tree}
-use Rattle.fs_model.specs.Changes.{pruned}
+use Rattle.fs_model.specs.TreeChanges.{pruned}
 use Rattle.fs_model.specs.States.{State, MayBeFree}
 use Rattle.fs_model.specs.Steps.{Step, Choice, Acts, after, tree_after, is_of_machine}
 

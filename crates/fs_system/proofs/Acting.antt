@@ -13,7 +13,7 @@ use Rattle.fs_model.specs.declared.event.Event.{Event}
 use Rattle.fs_model.specs.declared.event.Event.TheVariants.{Call as Calls, Spawn, Exit, Fsync, Sync, Statfs, Arm, Restart}
 use Rattle.fs_model.specs.Trees.{Tree, free_inodes}
 use Rattle.fs_model.specs.Processes.{Process, Desks, new_process, descriptor, is_open}
-use Rattle.fs_model.specs.Changes.{Same, swept}
+use Rattle.fs_model.specs.TreeChanges.{Same, swept}
 use Rattle.fs_model.specs.States.{State, IsState, MayBeFree}
 use Rattle.fs_model.specs.Steps.{Step, Choice, After, HasNewNumber, HasNewPid, Acts, is_of_machine, firm_refusal, other_refusal, after, tree_after}
 use Rattle.fs_model.specs.Steps as step

@@ -23,7 +23,7 @@ use Rattle.fs_model.specs.declared.event.Event.{Event}
 use Rattle.fs_model.specs.declared.event.Event.TheVariants.{Call as Calls, Exit}
 use Rattle.fs_model.specs.Trees.{Tree, Room, IsTree}
 use Rattle.fs_model.specs.Processes.{Process, Desks}
-use Rattle.fs_model.specs.Changes.{Change, Same, changed, swept}
+use Rattle.fs_model.specs.TreeChanges.{Change, Same, changed, swept}
 use Rattle.fs_model.specs.States.{State, MayBeFree}
 use Rattle.fs_model.specs.Stands.{HoldsAll, placed}
 use Rattle.fs_model.specs.Ranges.{IsCall}

@@ -16,7 +16,7 @@ use Rattle.fs_layout.proofs.Places.{place_is_laid_out}
 use Rattle.fs_model.specs.declared.event.Event.{Event}
 use Rattle.fs_model.specs.declared.reply.Reply.{Reply}
 use Rattle.fs_model.specs.declared.reply.Reply.TheVariants.{Refused}
-use Rattle.fs_model.specs.Changes.{changed, swept}
+use Rattle.fs_model.specs.TreeChanges.{changed, swept}
 use Rattle.fs_model.specs.Processes.{Desks}
 use Rattle.fs_model.specs.Stands.{placed}
 use Rattle.fs_model.specs.States.{State}

@@ -13,7 +13,7 @@ use Rattle.fs_layout.specs.Bytes.{SectorMap}
 use Rattle.fs_layout.specs.Images.{inode_at}
 use Rattle.fs_layout.specs.Inode.{free_inode}
 use Rattle.sector_txn.specs.Sectors.{TxnState, IsUnchanged}
-use Rattle.fs_model.specs.Changes.{pruned, swept, lives_nameless}
+use Rattle.fs_model.specs.TreeChanges.{pruned, swept, lives_nameless}
 use Rattle.fs_model.specs.Limits.{root}
 use Rattle.fs_model.specs.Nodes.{Node, Body, File, Dir, Link}
 use Rattle.fs_model.specs.Processes.{Descriptor, Desks, new_process, is_open}

@@ -10,7 +10,7 @@ use Rattle.redo_journal.specs.Meaning.{SameMap, EachReadsAs, MeansAsBefore, data
 use Rattle.fs_model.specs.declared.event.RestartFault.{RestartFault}
 use Rattle.fs_model.specs.declared.event.RestartFault.TheVariants.{DiskFault}
 use Rattle.fs_model.specs.Trees.{Tree, Room}
-use Rattle.fs_model.specs.Changes.{pruned}
+use Rattle.fs_model.specs.TreeChanges.{pruned}
 use Rattle.fs_model.specs.Processes.{Desks}
 use Rattle.fs_model.specs.States.{State, IsState, MayBeFree}
 use Rattle.fs_model.specs.Stands.{room_of}

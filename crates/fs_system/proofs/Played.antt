@@ -16,7 +16,7 @@ use Rattle.fs_model.specs.declared.event.EventReply.TheVariants.{Reply as Replie
 use Rattle.fs_model.specs.declared.event.RestartFault.{RestartFault}
 use Rattle.fs_model.specs.declared.event.RestartFault.TheVariants as restarts
 use Rattle.fs_model.specs.Trees.{Tree, Room}
-use Rattle.fs_model.specs.Changes.{pruned}
+use Rattle.fs_model.specs.TreeChanges.{pruned}
 use Rattle.fs_model.specs.States.{State}
 use Rattle.fs_model.specs.Stands.{Stands}
 use Rattle.fs_model.specs.Steps.{is_of_machine}

@@ -12,7 +12,7 @@ use Rattle.fs_model.specs.declared.event.EventReply.TheVariants.{Reply as Replie
 use Rattle.fs_model.specs.declared.event.RestartFault.{RestartFault}
 use Rattle.fs_model.specs.declared.event.RestartFault.TheVariants.{DiskFault, OutOfMemory}
 use Rattle.fs_model.specs.Trees.{Tree, Room}
-use Rattle.fs_model.specs.Changes.{pruned}
+use Rattle.fs_model.specs.TreeChanges.{pruned}
 use Rattle.fs_model.specs.States.{State, MayBeFree}
 use Rattle.fs_model.specs.Steps.{Step, Answers, Choice, after, tree_after, is_of_machine}
 use Rattle.fs_model.specs.Steps as step

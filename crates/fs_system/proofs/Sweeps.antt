@@ -23,7 +23,7 @@ use Rattle.sector_txn.proofs.Images.{after_reads}
 use Rattle.bit_alloc.specs.Inodes.{IsSound}
 use Rattle.bit_alloc.specs.Room.{HasSpare}
 use Rattle.bit_alloc.proofs.Soundness.{spare_first, sound_from}
-use Rattle.fs_model.specs.Changes.{pruned}
+use Rattle.fs_model.specs.TreeChanges.{pruned}
 use Rattle.fs_model.specs.Stands.{placed, room_of}
 use Rattle.fs_model.specs.Trees.{Tree, Room}
 use Rattle.fs_model.proofs.Swept.{pruned_twice}

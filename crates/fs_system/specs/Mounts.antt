@@ -7,7 +7,7 @@ use Rattle.sector_disk.specs.Disk.{DiskState, Image, IsImage, OnlyReads, HasFail
 use Rattle.fs_model.specs.declared.event.RestartFault.{RestartFault}
 use Rattle.fs_model.specs.declared.event.RestartFault.TheVariants as restarts
 use Rattle.fs_model.specs.Trees.{Tree, Room}
-use Rattle.fs_model.specs.Changes.{pruned}
+use Rattle.fs_model.specs.TreeChanges.{pruned}
 use Rattle.fs_model.specs.States.{State, MayBeFree}
 use Rattle.fs_model.specs.Rules.{IsFinding}
 use Rattle.fs_system.specs.declared.faults.MountFault.{MountFault}

@@ -8,7 +8,7 @@ use Rattle.sector_disk.specs.Disk.{DiskState}
 use Rattle.fs_model.specs.declared.event.Event.{Event}
 use Rattle.fs_model.specs.declared.event.EventReply.{EventReply}
 use Rattle.fs_model.specs.Trees.{Tree, Room}
-use Rattle.fs_model.specs.Changes.{pruned}
+use Rattle.fs_model.specs.TreeChanges.{pruned}
 use Rattle.fs_model.specs.States.{MayBeFree}
 use Rattle.fs_model.specs.Stops.{Machine, MachineRun}
 use Rattle.fs_system.specs.declared.faults.PlayFault.{PlayFault}

@@ -6,7 +6,7 @@ ghost use Rattle.sector_disk.specs.Disk.{HasCause};
 ghost use Rattle.sector_txn.specs.Stores.{present, disk_after};
 ghost use Rattle.bit_alloc.specs.declared.bitmap.Bitmap.TheVariants.{Inodes};
 ghost use Rattle.bit_alloc.specs.Bitmaps.{IsNumber};
-ghost use Rattle.fs_model.specs.Changes.{pruned};
+ghost use Rattle.fs_model.specs.TreeChanges.{pruned};
 ghost use Rattle.fs_model.specs.Stands.{room_of};
 ghost use Rattle.fs_model.specs.Trees.{Tree};
 ghost use Rattle.fs_system.specs.Standing.{EachStandsFor};

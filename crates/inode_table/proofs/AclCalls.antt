@@ -6,7 +6,7 @@ use Rattle.fs_layout.specs.declared.place.Place.{Place}
 use Rattle.fs_layout.specs.Inode.{FitsInode}
 use Rattle.fs_layout.specs.AclSector.{kept_acl}
 use Rattle.fs_layout.specs.Images.{AccessAcl, DefaultAcl, part, bit, inode_at, inode_bitmap}
-use Rattle.fs_layout.specs.Changes.{Saves}
+use Rattle.fs_layout.specs.InodeChanges.{Saves}
 use Rattle.fs_layout.proofs.Consistent.{owned_is_apart}
 use Rattle.fs_layout.proofs.OneAcl.{mode_small}
 use Rattle.fs_layout.proofs.Parts.{owns_acl, owns_default_acl}

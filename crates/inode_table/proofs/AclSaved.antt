@@ -6,14 +6,14 @@ use Rattle.fs_layout.specs.Bytes.{SectorMap}
 use Rattle.fs_layout.specs.Inode.{FitsInode}
 use Rattle.fs_layout.specs.Images.{Part, Block, bit, inode_at, inode_bitmap}
 use Rattle.fs_layout.specs.Ownership.{IsConsistent}
-use Rattle.fs_layout.specs.Changes.{Keeps, ChangesBlocks, Saves}
+use Rattle.fs_layout.specs.InodeChanges.{Keeps, ChangesBlocks, Saves}
 use Rattle.fs_layout.proofs.Blocks.{fields_change}
 use Rattle.fs_layout.proofs.Composes.{apart_after, both_changes}
 use Rattle.fs_layout.proofs.Consistent.{owned_is_apart, saved_stays_consistent}
 use Rattle.fs_layout.proofs.Places.{after_map}
 use Rattle.fs_layout.proofs.Saves.{IsSaved}
 use Rattle.sector_txn.specs.Sectors.{TxnState, SameStore, PutsOnly}
-use Rattle.sector_txn.proofs.Changes.{changes_joined}
+use Rattle.sector_txn.proofs.TransactionRuns.{changes_joined}
 use Rattle.bit_alloc.specs.Room.{bitmaps}
 use Rattle.bit_alloc.specs.Inodes.{IsSound, Touches, KeepsBytes}
 use Rattle.inode_table.specs.Storing.{IsForAcl}

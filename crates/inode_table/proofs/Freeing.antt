@@ -4,9 +4,9 @@ use Rattle.fs_layout.specs.declared.inode.Inode.{Inode}
 use Rattle.fs_layout.specs.declared.place.Place.{Place}
 use Rattle.fs_layout.specs.Inode.{free_inode}
 use Rattle.fs_layout.specs.Images.{Holds, bit, inode_at, inode_bitmap}
-use Rattle.fs_layout.specs.Changes.{MarksInode, Saves}
+use Rattle.fs_layout.specs.InodeChanges.{MarksInode, Saves}
 use Rattle.sector_txn.specs.Sectors.{TxnState, IsUnchanged, PutsOnly}
-use Rattle.sector_txn.proofs.Changes.{changes_joined}
+use Rattle.sector_txn.proofs.TransactionRuns.{changes_joined}
 use Rattle.bit_alloc.specs.declared.bitmap.Bitmap.TheVariants.{Inodes}
 use Rattle.bit_alloc.specs.Bitmaps.{IsNumber, GivesNumber}
 use Rattle.bit_alloc.specs.Room.{bitmaps}

@@ -7,7 +7,7 @@ use Rattle.fs_layout.specs.Bytes.{SectorMap}
 use Rattle.fs_layout.specs.Images.{Holds, inode_at}
 use Rattle.fs_layout.specs.Ownership.{IsConsistent}
 use Rattle.sector_txn.specs.Sectors.{TxnState, IsUnchanged}
-use Rattle.sector_txn.proofs.Changes.{lacking_at_most}
+use Rattle.sector_txn.proofs.TransactionRuns.{lacking_at_most}
 use Rattle.bit_alloc.specs.Inodes.{IsSound, KeepsBytes}
 use Rattle.bit_alloc.specs.Room.{bitmaps, HasSpare}
 use Rattle.bit_alloc.proofs.Transactions.{map_unchanged, bitmaps_unchanged}

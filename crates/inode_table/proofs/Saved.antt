@@ -6,7 +6,7 @@ use Rattle.fs_layout.specs.Bytes.{SectorMap}
 use Rattle.fs_layout.specs.Inode.{FitsInode}
 use Rattle.fs_layout.specs.Images.{bit, inode_at, inode_bitmap}
 use Rattle.fs_layout.specs.Ownership.{IsConsistent}
-use Rattle.fs_layout.specs.Changes.{Keeps, ChangesBlocks, Saves}
+use Rattle.fs_layout.specs.InodeChanges.{Keeps, ChangesBlocks, Saves}
 use Rattle.fs_layout.proofs.Blocks.{fields_change}
 use Rattle.fs_layout.proofs.Consistent.{owned_is_apart, saved_stays_consistent}
 use Rattle.fs_layout.proofs.Held.{HasSameBlocks, Holds-again, HasNoHole-again}

@@ -9,7 +9,7 @@ use Rattle.fs_layout.specs.Ownership.{IsConsistent}
 use Rattle.fs_layout.proofs.Places.{after_map, before_data}
 use Rattle.fs_layout.proofs.Bits.{bit_kept}
 use Rattle.sector_txn.specs.Sectors.{TxnState, SameStore, IsUnchanged, IsPut, PutsOnly}
-use Rattle.sector_txn.proofs.Changes.{changes_nothing, changes_read, changes_put, changes_joined, changes_beside, changes_weaker}
+use Rattle.sector_txn.proofs.TransactionRuns.{changes_nothing, changes_read, changes_put, changes_joined, changes_beside, changes_weaker}
 use Rattle.bit_alloc.specs.declared.bitmap.Bitmap.{Bitmap}
 use Rattle.bit_alloc.specs.declared.bitmap.Bitmap.TheVariants.{Inodes, Blocks}
 use Rattle.bit_alloc.specs.Bitmaps.{HasBitmaps, IsNumber, bit_count, first_sector}

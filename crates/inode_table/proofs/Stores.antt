@@ -5,7 +5,7 @@ use Rattle.fs_layout.specs.declared.place.Place.{Place}
 use Rattle.fs_layout.specs.Bytes.{SectorMap, IsSector}
 use Rattle.fs_layout.specs.Place.{IsPlace}
 use Rattle.fs_layout.specs.Images.{HasWholeTables, Part, Indirect, Block, part, Owns, free_sectors}
-use Rattle.fs_layout.specs.Changes.{Puts, Turns, IsOwnedApart, Takes, ChangesBlocks}
+use Rattle.fs_layout.specs.InodeChanges.{Puts, Turns, IsOwnedApart, Takes, ChangesBlocks}
 use Rattle.fs_layout.proofs.Parts.{KeepsPointers, pointers_kept, same_part_or_not}
 use Rattle.fs_layout.proofs.Places.{after_map, before_data}
 use Rattle.fs_layout.proofs.Blocks.{rewrites, rewrites_free_sectors, put_rewrites, pointers_apart, others_kept}

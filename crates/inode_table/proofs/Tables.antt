@@ -9,7 +9,7 @@ use Rattle.fs_layout.specs.Inode.{inode_of, inode_bytes}
 use Rattle.fs_layout.specs.Place.{IsPlace}
 use Rattle.fs_layout.specs.Images.{stored, inode_at}
 use Rattle.fs_layout.specs.Ownership.{IsConsistent}
-use Rattle.fs_layout.specs.Changes.{Puts, Saves}
+use Rattle.fs_layout.specs.InodeChanges.{Puts, Saves}
 use Rattle.fs_layout.proofs.Codecs.{same_ok}
 use Rattle.fs_layout.proofs.Places.{after_map}
 use Rattle.fs_layout.proofs.Saves.{in_table, put_saves}

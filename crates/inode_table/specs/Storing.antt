@@ -8,7 +8,7 @@ use Rattle.std.specs.Prelude.{◌≡◌, ◌≢◌, ℕ, zero, suc, ◌+◌, ◌
 use Rattle.fs_layout.specs.declared.place.Place.{Place}
 use Rattle.fs_layout.specs.Bytes.{SectorMap}
 use Rattle.fs_layout.specs.Images.{IsData}
-use Rattle.fs_layout.specs.Changes.{Puts}
+use Rattle.fs_layout.specs.InodeChanges.{Puts}
 use Rattle.bit_alloc.specs.declared.bitmap.Bitmap.TheVariants.{Blocks}
 use Rattle.bit_alloc.specs.Bitmaps.{TakesNumber, GivesNumber}
 

@@ -6,7 +6,7 @@ ghost use Rattle.sector_disk.specs.Disk.{HasCause};
 ghost use Rattle.fs_layout.specs.Place.{IsPlace};
 ghost use Rattle.fs_layout.specs.Inode.{FitsInode, free_inode};
 ghost use Rattle.fs_layout.specs.Images.{HasWholeTables, Holds, bit, free_sectors, inode_at, inode_bitmap};
-ghost use Rattle.fs_layout.specs.Changes.{Saves};
+ghost use Rattle.fs_layout.specs.InodeChanges.{Saves};
 ghost use Rattle.sector_txn.specs.Sectors.{SameStore, IsUnchanged, PutsOnly};
 ghost use Rattle.bit_alloc.specs.declared.bitmap.Bitmap.TheVariants.{Inodes};
 ghost use Rattle.bit_alloc.specs.Bitmaps.{IsNumber, IsFreeNumber, free_numbers};

@@ -6,7 +6,7 @@ use Rattle.fs_layout.specs.declared.place.Place.{Place}
 use Rattle.fs_layout.specs.Place.{laid_out}
 use Rattle.fs_layout.proofs.Places.{place_is_laid_out}
 use Rattle.fs_model.specs.Trees.{sectors_needed}
-use Rattle.fs_model.specs.Changes.{pruned}
+use Rattle.fs_model.specs.TreeChanges.{pruned}
 use Rattle.fs_model.specs.States.{State}
 use Rattle.fs_model.specs.Stands.{room_of}
 use Rattle.fs_model.specs.NewDisk.{empty_tree}

@@ -44,7 +44,7 @@ use Rattle.call_parts.specs.Makings.{make_asked}
 use Rattle.call_parts.proofs.Changed.{IsChange}
 use Rattle.call_parts.proofs.NewFile.{takes_one}
 use Rattle.call_parts.specs.NewNodes.{MakesNode, TakesInode, directory_made}
-use Rattle.name_calls.proofs.NewNames.{caller_fits, parent_fits, space_met, node_made}
+use Rattle.call_parts.proofs.NewNames.{caller_fits, parent_fits, space_met, node_made}
 
 -- named once, in directory dir
 abbrev pub new_directory : ℕ → ℕ → ℕ → ℕ → Inode
@@ -120,11 +120,11 @@ is_new_name f is =
 module _ {p : Place} {map : SectorMap} {desks : Desks} {s : State} (at : IsStateOf p map desks s) (q : Process) (f : Found) {pid : ℕ} {path : List ℕ}
     (has : HasFound s pid q Parent path f) (bytes : IsBytes path) (is : refused_or {A = Unit {0}} (must_be_new f) (Ok tt) ≡ Ok tt) where
   pub directory_changes : (mode : ℕ) (new : SectorMap) → first_of (make_asked p map q.cred s.tree f.dir (f.step - 1)) ≡ None
-      → MakesNode p f.dir f.name (born_directory q.cred q.umask mode (the_node s.tree f.dir)) map new
+      → ((n : ℕ) × MakesNode p f.dir f.name n (born_directory q.cred q.umask mode (the_node s.tree f.dir)) map new)
       → IsChange p new desks s q (mkdir_demands (scene_at s q f)) (mkdir_effect mode (scene_at s q f)) Done
   directory_changes mode new allows made =
       let x = is_new_name f is in
       let fits = parent_fits at q f has bytes x.1 in
       node_made at q f has bytes x.1 (born_directory q.cred q.umask mode (the_node s.tree f.dir))
       (directory_is_born s.room s.tree q.cred (caller_fits at has).cred (the_node s.tree f.dir) fits.group q.umask mode fits.body)
-      new made (mkdir_demands (scene_at s q f)) (space_met at q f (must_be_new f ∷ []) x.0 allows) allows
+      new made.1 (mkdir_demands (scene_at s q f)) (space_met at q f (must_be_new f ∷ []) x.0 allows) allows

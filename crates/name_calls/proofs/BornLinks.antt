@@ -46,7 +46,7 @@ use Rattle.call_parts.proofs.HeldChanges.{new_link_held}
 use Rattle.call_parts.specs.Makings.{make_asked}
 use Rattle.call_parts.proofs.Changed.{IsChange}
 use Rattle.call_parts.specs.NewNodes.{MakesNode, TakesInode, link_made, link_name_asked}
-use Rattle.name_calls.proofs.NewNames.{caller_fits, parent_fits, space_met, node_made}
+use Rattle.call_parts.proofs.NewNames.{caller_fits, parent_fits, space_met, node_made}
 
 pub target_size : (target : List ℕ) → IsTarget target → AllowsSize Link (length target)
 target_size target is = (is.some, is.short)
@@ -104,11 +104,11 @@ is_link_name f is =
 module _ {p : Place} {map : SectorMap} {desks : Desks} {s : State} (at : IsStateOf p map desks s) (q : Process) (f : Found) {pid : ℕ} {path : List ℕ}
     (has : HasFound s pid q Parent path f) (bytes : IsBytes path) (is : refused_or {A = Unit {0}} (first_of (link_name_asked f)) (Ok tt) ≡ Ok tt) where
   pub link_changes : (target : List ℕ) → IsTarget target → (new : SectorMap) → first_of (make_asked p map q.cred s.tree f.dir (f.step - 1)) ≡ None
-      → MakesNode p f.dir f.name (born_link q.cred target (the_node s.tree f.dir)) map new
+      → ((n : ℕ) × MakesNode p f.dir f.name n (born_link q.cred target (the_node s.tree f.dir)) map new)
       → IsChange p new desks s q (symlink_demands (scene_at s q f)) (symlink_effect target (scene_at s q f)) Done
   link_changes target valid new allows made =
       let x = is_link_name f is in
       let fits = parent_fits at q f has bytes x.1 in
       node_made at q f has bytes x.1 (born_link q.cred target (the_node s.tree f.dir))
       (link_is_born s.room s.tree q.cred (caller_fits at has).cred (the_node s.tree f.dir) fits.group target valid)
-      new made (symlink_demands (scene_at s q f)) (space_met at q f (link_name_asked f) x.0 allows) allows
+      new made.1 (symlink_demands (scene_at s q f)) (space_met at q f (link_name_asked f) x.0 allows) allows

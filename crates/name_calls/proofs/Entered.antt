@@ -29,7 +29,7 @@ use Rattle.fs_model.specs.declared.walk.Form.TheVariants.{Follow}
 use Rattle.fs_model.specs.declared.walk.Found.{Found}
 use Rattle.fs_model.specs.AttributeCalls.{chdir_row, chdir_demands, chdir_effect}
 use Rattle.fs_model.specs.Births.{the_node}
-use Rattle.fs_model.specs.Changes.{Same}
+use Rattle.fs_model.specs.TreeChanges.{Same}
 use Rattle.fs_model.specs.Demands.{Demand, refuse, first_of, decided, search_of, search_on, search_only}
 use Rattle.fs_model.specs.Nodes.{Node, Body, File, Dir, Link, is_directory, accessed_body}
 use Rattle.fs_model.specs.Parts.{path_checks}
@@ -56,7 +56,7 @@ use Rattle.call_parts.proofs.ByDescriptor.{still_open}
 use Rattle.call_parts.proofs.Followed.{IsAccessed, accessed_is}
 use Rattle.call_parts.proofs.MakeAsked.{dir_access, dir_held}
 use Rattle.call_parts.proofs.Ownership.{IsNode, node_of}
-use Rattle.call_parts.specs.Reaching.{IsInode}
+use Rattle.call_parts.specs.Reaching.{IsInodeFound}
 use Rattle.name_calls.specs.Entering.{enter_asked}
 
 -- ---- its row
@@ -91,7 +91,7 @@ directory_access t n a d =
     let same : d.node ≡ a.node = (let e : Some d.node ≡ Some a.node = sym d.is_there ∙ a.at in cc) in
     no_file a.node.owner a.node.group a.node.body a.access (ap (λ (u : Node). is_directory u.body) (sym same) ∙ d.directory) a.is
 
-module _ {p : Place} {map : SectorMap} {t : Tree} (h : HoldsTree p map t) (f : Found) (n : ℕ) (v : Inode) (i : IsInode p map f n v) (there : IsThere t n) (cred : Credential) where
+module _ {p : Place} {map : SectorMap} {t : Tree} (h : HoldsTree p map t) (f : Found) (n : ℕ) (v : Inode) (i : IsInodeFound p map f n v) (there : IsThere t n) (cred : Credential) where
   node : IsNode map t f n v
   node = node_of h f n v i.number i.inode there
 

@@ -6,7 +6,6 @@ pub mod Inherited
 pub mod LinkAsked
 pub mod Linkings
 pub mod Movings
-pub mod NewNames
 pub mod RemovalAsked
 pub mod RemovalRows
 pub mod RenameAsked

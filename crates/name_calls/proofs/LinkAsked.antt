@@ -36,7 +36,7 @@ use Rattle.call_parts.specs.TwoPaths.{scene_with, FindsBoth}
 use Rattle.call_parts.proofs.FoundBoth.{first_there}
 use Rattle.name_calls.proofs.RemovalAsked.{body_kind_is}
 use Rattle.name_calls.proofs.Takings.{field_is}
-use Rattle.call_parts.specs.Reaching.{checked, IsInode}
+use Rattle.call_parts.specs.Reaching.{checked, IsInodeFound}
 
 -- ---- all of the directory
 
@@ -74,7 +74,7 @@ module _ (p : Place) (map : SectorMap) (cred : Credential) (t : Tree) (dir step 
 
 -- ---- what is to get the name
 
-module _ {p : Place} {map : SectorMap} {t : Tree} {f : Found} {n : ℕ} {v : Inode} (k : IsInode p map f n v) (node : IsNode map t f n v) where
+module _ {p : Place} {map : SectorMap} {t : Tree} {f : Found} {n : ℕ} {v : Inode} (k : IsInodeFound p map f n v) (node : IsNode map t f n v) where
   abbrev kinds_asked : Bool → List Demand
   kinds_asked b = refuse ENOTDIR (f.slash && not b) ∷ refuse EPERM b ∷ []
 
@@ -109,7 +109,7 @@ module _ (t : Tree) (f : Found) where
       source_absent {B} y is =
           others_asked {A = A} special (must_be_there f ∷ others) x e old new plain_met (first_asked {A = A} {B = B} (must_be_there f) others y x e old new is)
 
-      pub source_other : {p : Place} {map : SectorMap} {n : ℕ} {v : Inode} → IsInode p map f n v → IsNode map t f n v
+      pub source_other : {p : Place} {map : SectorMap} {n : ℕ} {v : Inode} → IsInodeFound p map f n v → IsNode map t f n v
           → checked (first_of (refuse ENOTDIR (f.slash && not (is_directory_kind v.kind)) ∷ refuse EPERM (is_directory_kind v.kind) ∷ [])) ≡ Err e
           → IsAnswered old new (refused_or (first_of (source_asked t f)) (Ok x)) (Err e)
       source_other {p} {map} {n} {v} k node is =
@@ -118,7 +118,7 @@ module _ (t : Tree) (f : Found) where
           (refused_as {A = A} {B = Unit {0}} (first_of others) tt x e old new
           (inl (ap (λ (ds : List Demand). checked (first_of ds)) (sym (kind_says k node)) ∙ is))))
 
-  pub source_all_met : checked (first_of (refuse EPERM (is_special f) ∷ [])) ≡ Ok tt → {p : Place} {map : SectorMap} {n : ℕ} {v : Inode} → IsInode p map f n v → IsNode map t f n v
+  pub source_all_met : checked (first_of (refuse EPERM (is_special f) ∷ [])) ≡ Ok tt → {p : Place} {map : SectorMap} {n : ℕ} {v : Inode} → IsInodeFound p map f n v → IsNode map t f n v
       → checked (first_of (refuse ENOTDIR (f.slash && not (is_directory_kind v.kind)) ∷ refuse EPERM (is_directory_kind v.kind) ∷ [])) ≡ Ok tt
       → first_of (source_asked t f) ≡ None
   source_all_met plain {p} {map} {n} {v} k node is =
@@ -128,7 +128,7 @@ module _ (t : Tree) (f : Found) where
 
   -- where all is met, it is there
   pub source_inode : (p : Place) (map : SectorMap) {n : ℕ} {v : Inode}
-      → refused_or {A = ℕ × Inode} (first_of (source_asked t f)) (Ok (number f, inode_at p map (number f))) ≡ Ok (n, v) → (first_of (source_asked t f) ≡ None) × IsInode p map f n v
+      → refused_or {A = ℕ × Inode} (first_of (source_asked t f)) (Ok (number f, inode_at p map (number f))) ≡ Ok (n, v) → (first_of (source_asked t f) ≡ None) × IsInodeFound p map f n v
   source_inode p map {n} {v} is =
       let both = met_ok {A = ℕ × Inode} (first_of (source_asked t f)) (number f, inode_at p map (number f)) (n, v) is in
       let there = first_met (must_be_there f) _ (then_met (refuse EPERM (is_special f)) _ both.0) in (
@@ -164,7 +164,7 @@ module _ {p : Place} {map : SectorMap} {desks : Desks} {q : Process} {f g : Foun
     name_refuses met is =
         others_asked {A = A} source (name ++ last) x e old new met (some_asked {A = A} {B = Unit {0}} name last tt x e old new (inl is))
 
-  module _ (source_met : first_of (source_asked s.tree f) ≡ None) (name_met : first_of (link_name_asked g) ≡ None) {n : ℕ} {v : Inode} (k : IsInode p map f n v) where
+  module _ (source_met : first_of (source_asked s.tree f) ≡ None) (name_met : first_of (link_name_asked g) ≡ None) {n : ℕ} {v : Inode} (k : IsInodeFound p map f n v) where
     pub source_node : IsNode map s.tree f n v
     source_node = node_of (state_tree i.is_state) f n v k.number k.inode (first_there i n k.some)
 

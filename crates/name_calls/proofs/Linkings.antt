@@ -22,7 +22,7 @@ use Rattle.fs_model.specs.declared.call.Call.TheVariants.{Link}
 use Rattle.fs_model.specs.declared.reply.Reply.TheVariants.{Done}
 use Rattle.fs_model.specs.declared.walk.Found.{Found}
 use Rattle.fs_model.specs.Births.{the_node}
-use Rattle.fs_model.specs.Changes.{AddName, changed, swept}
+use Rattle.fs_model.specs.TreeChanges.{AddName, changed, swept}
 use Rattle.fs_model.specs.Demands.{Demand, refuse, first_of, permission_on, write_and_search}
 use Rattle.fs_model.specs.Limits.{names_limit, entries_limit, least_free}
 use Rattle.fs_model.specs.NameCalls.{link_row, link_demands, link_effect}
@@ -56,7 +56,7 @@ use Rattle.call_parts.specs.Reaching.{WalksBoth}
 use Rattle.call_parts.proofs.FoundBoth.{second_walked}
 use Rattle.name_calls.proofs.LinkAsked.{source_inode, source_node, source_kind, source_names}
 use Rattle.name_calls.proofs.Takings.{field_is}
-use Rattle.call_parts.specs.Reaching.{IsInode}
+use Rattle.call_parts.specs.Reaching.{IsInodeFound}
 
 -- ---- the row
 
@@ -74,7 +74,7 @@ pub record IsLinkable (p : Place) (map : SectorMap) (s : State) (q : Process) (f
   pub met : first_of (link_demands (scene_with s q f g)) ≡ None
   pub source_met : first_of (source_asked s.tree f) ≡ None
   pub name_met : first_of (link_name_asked g) ≡ None
-  pub inode : IsInode p map f n v
+  pub inode : IsInodeFound p map f n v
   pub directory : d ≡ inode_at p map g.dir
 
 -- what is asked of the directory of the second path

@@ -15,7 +15,7 @@ use Rattle.fs_layout.specs.declared.inode.Kind.{Kind}
 use Rattle.fs_layout.specs.declared.inode.Kind.TheVariants as kinds
 use Rattle.fs_layout.specs.declared.place.Place.{Place}
 use Rattle.fs_layout.specs.Bytes.{SectorMap}
-use Rattle.fs_layout.specs.Changes.{ChangesInode}
+use Rattle.fs_layout.specs.InodeChanges.{ChangesInode}
 use Rattle.fs_layout.specs.Directories.{HasNames}
 use Rattle.fs_layout.specs.Images.{bit, free_sectors, inode_at, inode_bitmap}
 use Rattle.fs_layout.specs.Inode.{FitsInode, inode_fits}
@@ -23,13 +23,13 @@ use Rattle.fs_layout.specs.Maps.{name_cmp, get, with_entry, without}
 use Rattle.fs_layout.proofs.NameMaps.{once_same, lost_of}
 use Rattle.fs_layout.proofs.Saves.{inode_kept}
 use Rattle.sector_txn.specs.Sectors.{TxnState, IsUnchanged}
-use Rattle.sector_txn.proofs.Changes.{lacking_less}
+use Rattle.sector_txn.proofs.TransactionRuns.{lacking_less}
 use Rattle.bit_alloc.specs.declared.bitmap.Bitmap.TheVariants.{Inodes}
 use Rattle.bit_alloc.specs.Bitmaps.{IsNumber}
 use Rattle.bit_alloc.specs.Inodes.{KeepsFields, KeepsAcls}
 use Rattle.bit_alloc.specs.Room.{bitmaps, TakesSpare}
 use Rattle.block_map.specs.Contents.{ChangesContent}
-use Rattle.fs_model.specs.Changes.{MoveName, changed, swept, lives_nameless}
+use Rattle.fs_model.specs.TreeChanges.{MoveName, changed, swept, lives_nameless}
 use Rattle.fs_model.specs.Limits.{root}
 use Rattle.fs_model.specs.Nodes.{Node, is_directory, names_in}
 use Rattle.fs_model.specs.Processes.{Desks, is_open}

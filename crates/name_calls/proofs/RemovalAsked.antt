@@ -39,7 +39,7 @@ use Rattle.path_walk.specs.HeldTrees.{HoldsTree, HasAccess}
 use Rattle.call_parts.proofs.Calling.{met_ok, or_else-none, first_asked, next_asked, both_met}
 use Rattle.path_walk.proofs.HeldNodes.{held_node}
 use Rattle.call_parts.proofs.Followed.{IsAccessed, accessed_is}
-use Rattle.call_parts.specs.Reaching.{checked, IsInode}
+use Rattle.call_parts.specs.Reaching.{checked, IsInodeFound}
 use Rattle.call_parts.proofs.MakeAsked.{dir_access, dir_held}
 use Rattle.call_parts.proofs.Ownership.{IsNode, node_of}
 use Rattle.call_parts.proofs.Shown.{body_kind, the_node_is}
@@ -116,7 +116,7 @@ module _ {p : Place} {map : SectorMap} {t : Tree} (h : HoldsTree p map t) {f : F
       → IsAnswered old new (refused_or (first_of (removal_asked cred t f)) (Ok x)) (Err e)
   removal_absent {A} {B} x y e old new is = first_asked {A = A} {B = B} absent (slashed ∷ allowed ∷ yielded ∷ []) y x e old new is
 
-  module _ {n : ℕ} {v : Inode} (i : IsInode p map f n v) where
+  module _ {n : ℕ} {v : Inode} (i : IsInodeFound p map f n v) where
     node : IsNode map t f n v
     node = node_of h f n v i.number i.inode (named.found n i.some)
 

@@ -20,7 +20,7 @@ use Rattle.fs_model.specs.declared.walk.Form.TheVariants.{Parent}
 use Rattle.fs_model.specs.declared.walk.Found.{Found}
 use Rattle.fs_model.specs.declared.reply.Reply.TheVariants.{Done}
 use Rattle.fs_model.specs.Births.{the_node}
-use Rattle.fs_model.specs.Changes.{TakeName, changed, swept}
+use Rattle.fs_model.specs.TreeChanges.{TakeName, changed, swept}
 use Rattle.fs_model.specs.Demands.{Demand, refuse, first_of}
 use Rattle.fs_model.specs.NameCalls.{unlink_row, rmdir_row, unlink_demands, rmdir_demands, takes_name}
 use Rattle.fs_model.specs.Nodes.{Node, is_directory, names_in}
@@ -39,7 +39,7 @@ use Rattle.fs_model.proofs.StepsOfRemoving.{empty_if}
 use Rattle.path_walk.specs.Answers.{refused_or, IsAnswered}
 use Rattle.call_parts.specs.Paths.{scene_at, HasFound}
 use Rattle.call_parts.specs.Performing.{IsStateOf}
-use Rattle.call_parts.specs.Reaching.{WalksPath, checked, IsInode}
+use Rattle.call_parts.specs.Reaching.{WalksPath, checked, IsInodeFound}
 use Rattle.call_parts.proofs.Calling.{state_tree, found_there, first_of-append, met_ok}
 use Rattle.call_parts.proofs.Changed.{IsChange}
 use Rattle.call_parts.proofs.Checked.{refused_as}
@@ -135,7 +135,7 @@ module _ {p : Place} {map : SectorMap} {desks : Desks} {q : Process} {f : Found}
         found = λ n some. found_there n i.is_state i.found some;
       }
 
-  module _ {n : ℕ} {v : Inode} (k : IsInode p map f n v) where
+  module _ {n : ℕ} {v : Inode} (k : IsInodeFound p map f n v) where
     pub node : IsNode map s.tree f n v
     node = node_of (state_tree i.is_state) f n v k.number k.inode (found_there n i.is_state i.found k.some)
 
@@ -177,7 +177,7 @@ module _ {p : Place} {map : SectorMap} {desks : Desks} {q : Process} {f : Found}
   -- where all is asked, what was found is there
   pub inode_told : {n : ℕ} {v : Inode} (a c : List Demand)
       → refused_or {A = ℕ × Inode} (first_of (a ++ (removal_asked q.cred s.tree f ++ c))) (Ok (number f, inode_at p map (number f))) ≡ Ok (n, v)
-      → IsInode p map f n v
+      → IsInodeFound p map f n v
   inode_told {n} {v} a c is =
       let d = first_of (a ++ (removal_asked q.cred s.tree f ++ c)) in
       let both = met_ok {A = ℕ × Inode} d (number f, inode_at p map (number f)) (n, v) is in
@@ -187,7 +187,7 @@ module _ {p : Place} {map : SectorMap} {desks : Desks} {q : Process} {f : Found}
 
   module _ {n : ℕ} {v : Inode} where
     pub unlink_told : refused_or {A = ℕ × Inode} (first_of (unlink_demands (scene_at s q f))) (Ok (number f, inode_at p map (number f))) ≡ Ok (n, v)
-        → IsInode p map f n v
+        → IsInodeFound p map f n v
     unlink_told is = inode_told (refuse EISDIR (is_special f) ∷ []) (refuse EISDIR (is_found f && is_directory (the_node s.tree (number f)).body) ∷ []) is
 
     -- what unlink may remove
@@ -207,7 +207,7 @@ module _ {p : Place} {map : SectorMap} {desks : Desks} {q : Process} {f : Found}
         may_go k special (λ yes. absurd (let both : true ≡ false = sym yes ∙ here in cc))
 
     pub rmdir_told : refused_or {A = ℕ × Inode} (first_of (rmdir_demands (scene_at s q f))) (Ok (number f, inode_at p map (number f))) ≡ Ok (n, v)
-        → IsInode p map f n v
+        → IsInodeFound p map f n v
     rmdir_told is =
         inode_told (last_asked f) (refuse ENOTDIR (is_found f && not (is_directory (the_node s.tree (number f)).body)) ∷ refuse EBUSY (is_in_use s.desks (number f))
         ∷ refuse ENOTEMPTY (not (is_empty (names_in (the_node s.tree (number f)).body))) ∷ []) is

@@ -22,7 +22,7 @@ use Rattle.path_walk.specs.Answers.{refused_or, IsAnswered}
 use Rattle.path_walk.specs.HeldTrees.{HoldsTree, IsThere}
 use Rattle.call_parts.proofs.Calling.{met_ok, or_else-none, first_asked, next_asked, both_met}
 use Rattle.path_walk.proofs.HeldNodes.{stands, held_kind}
-use Rattle.call_parts.specs.Reaching.{checked, IsInode}
+use Rattle.call_parts.specs.Reaching.{checked, IsInodeFound}
 use Rattle.call_parts.proofs.Ownership.{some_asked, others_asked, all_met}
 use Rattle.call_parts.proofs.Shown.{the_node_is}
 use Rattle.name_calls.specs.Renaming.{ends_asked, is_other, slash_asked, names_asked, kinds_asked, inode_there, other_kind, directory_kind, slash_told, replacing_asked}
@@ -59,7 +59,7 @@ module _ {p : Place} {map : SectorMap} {t : Tree} (h : HoldsTree p map t) where
             ap (λ (o : Option ℕ). is_some o && is_directory (the_node t (unwrap_or o 0)).body) e
             ∙ kind_at m (there m e) ∙ sym (ap (λ (o : Option ℕ). directory_kind (inode_there p map o)) e)
 
-  module _ {f : Found} {n : ℕ} {v : Inode} (k : IsInode p map f n v) (first : (m : ℕ) → f.ino ≡ Some m → IsThere t m) where
+  module _ {f : Found} {n : ℕ} {v : Inode} (k : IsInodeFound p map f n v) (first : (m : ℕ) → f.ino ≡ Some m → IsThere t m) where
     pub first_kind : (is_found f && is_directory (the_node t (number f)).body) ≡ is_directory_kind v.kind
     first_kind =
         ap (λ (o : Option ℕ). is_some o && is_directory (the_node t (unwrap_or o 0)).body) k.some

@@ -18,7 +18,7 @@ use Rattle.fs_layout.specs.Images.{inode_at, free_sectors}
 use Rattle.fs_model.specs.declared.call.Call.TheVariants.{Rename}
 use Rattle.fs_model.specs.declared.reply.Reply.TheVariants.{Done}
 use Rattle.fs_model.specs.declared.walk.Found.{Found}
-use Rattle.fs_model.specs.Changes.{Same, MoveName, changed, swept}
+use Rattle.fs_model.specs.TreeChanges.{Same, MoveName, changed, swept}
 use Rattle.fs_model.specs.Demands.{Demand, first_of, only_if}
 use Rattle.fs_model.specs.Limits.{entries_limit, least_free}
 use Rattle.fs_model.specs.Nodes.{Node, names_in}

@@ -49,7 +49,7 @@ use Rattle.call_parts.proofs.Followed.{accessed_is}
 use Rattle.call_parts.proofs.Checked.{refused_as}
 use Rattle.call_parts.proofs.MakeAsked.{dir_access, dir_held}
 use Rattle.call_parts.proofs.Ownership.{IsNode, node_of, some_asked, others_asked, all_met}
-use Rattle.call_parts.specs.Reaching.{checked, IsInode}
+use Rattle.call_parts.specs.Reaching.{checked, IsInodeFound}
 use Rattle.call_parts.specs.Makings.{room_asked}
 use Rattle.call_parts.specs.Asked.{sticky_asked}
 use Rattle.name_calls.specs.Removing.{directory_asked}
@@ -76,7 +76,7 @@ other_number_is x y apart = grind (arith, nat_tests)
 -- ---- what is renamed
 
 module _ {p : Place} {map : SectorMap} {desks : Desks} {f g : Found} {n : ℕ} {v : Inode} {there : Option (ℕ × Inode)} {s : State} (r : IsToRename p map desks f g n v there s) where
-  pub inode_of : IsInode p map f n v
+  pub inode_of : IsInodeFound p map f n v
   inode_of = record {
     some = r.leads;
     number = ap (λ (o : Option ℕ). unwrap_or o 0) r.leads;

@@ -21,7 +21,7 @@ use Rattle.sector_txn.specs.Sectors.{TxnState}
 use Rattle.bit_alloc.specs.declared.bitmap.Bitmap.TheVariants.{Inodes}
 use Rattle.bit_alloc.specs.Bitmaps.{IsNumber}
 use Rattle.dir_core.specs.declared.fault.DirFault.TheVariants as faults
-use Rattle.fs_model.specs.Changes.{TakeName, changed, swept, lives_nameless}
+use Rattle.fs_model.specs.TreeChanges.{TakeName, changed, swept, lives_nameless}
 use Rattle.fs_model.specs.Limits.{root}
 use Rattle.fs_model.specs.Nodes.{Node, Body, File, Dir, Link, is_directory, names_in}
 use Rattle.fs_model.specs.Processes.{Desks, is_open}

@@ -26,7 +26,7 @@ use Rattle.fs_model.specs.Trees.{Tree}
 use Rattle.fs_model.specs.Summaries.{is_link_kind}
 use Rattle.path_walk.specs.Answers.{refused_or, IsAnswered}
 use Rattle.path_walk.specs.HeldTrees.{HoldsTree, IsThere}
-use Rattle.call_parts.specs.Reaching.{WalksPath, IsInode}
+use Rattle.call_parts.specs.Reaching.{WalksPath, IsInodeFound}
 use Rattle.call_parts.proofs.Calling.{or_else-none, first_asked, next_asked, both_met, met_ok}
 use Rattle.call_parts.proofs.Checked.{link_says}
 use Rattle.call_parts.proofs.Ownership.{IsNode, node_of}
@@ -64,7 +64,7 @@ target_says map v (Link target) is h = h.holds
 abbrev pub readlink_rest : Tree → Found → List Demand
 readlink_rest t f = refuse EINVAL (not (is_link (the_node t (number f)).body)) ∷ []
 
-module _ {p : Place} {map : SectorMap} {t : Tree} (h : HoldsTree p map t) (f : Found) (n : ℕ) (v : Inode) (i : IsInode p map f n v) (there : IsThere t n) where
+module _ {p : Place} {map : SectorMap} {t : Tree} (h : HoldsTree p map t) (f : Found) (n : ℕ) (v : Inode) (i : IsInodeFound p map f n v) (there : IsThere t n) where
   -- the node that was found
   pub node : IsNode map t f n v
   node = node_of h f n v i.number i.inode there

@@ -64,7 +64,7 @@ fn place_directory<S: Sectors>(
     requires bits { bits < 2048 }
     requires spare { HasSpare place 47 (S.state s.old) }
     ensures store { SameStore (S.state s.old) (S.state s.new) }
-    ensures made { OnOk result (MakesNode place dir name.now (directory_made uid gid bits access.now (option_copied default.entry))
+    ensures made { OnOk result ((n : ℕ) × MakesNode place dir name.now n (directory_made uid gid bits access.now (option_copied default.entry))
         (S.state s.old).sectors (S.state s.new).sectors) }
     ensures err { IfErr result (FailsToRead (S.state s.old).disk (S.state s.new).disk) }
 {

@@ -6,7 +6,7 @@ ghost use Rattle.sector_txn.specs.Sectors.{SameStore, IsUnchanged};
 ghost use Rattle.bit_alloc.specs.Inodes.{IsSound};
 ghost use Rattle.bit_alloc.specs.Room.{HasSpare};
 ghost use Rattle.fs_model.specs.declared.call.Call.TheVariants.{Link};
-ghost use Rattle.fs_model.specs.Changes.{AddName, changed, swept};
+ghost use Rattle.fs_model.specs.TreeChanges.{AddName, changed, swept};
 ghost use Rattle.fs_model.specs.Demands.{refuse, first_of};
 ghost use Rattle.fs_model.specs.Limits.{names_limit};
 ghost use Rattle.fs_model.specs.NameCalls.{link_demands};

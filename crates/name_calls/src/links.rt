@@ -75,7 +75,7 @@ fn place_link<S: Sectors>(
     requires target { IsTarget target.now }
     requires spare { HasSpare place 47 (S.state s.old) }
     ensures store { SameStore (S.state s.old) (S.state s.new) }
-    ensures made { OnOk result (MakesNode place dir name.now (link_made directory cred.now target.now)
+    ensures made { OnOk result ((n : ℕ) × MakesNode place dir name.now n (link_made directory cred.now target.now)
         (S.state s.old).sectors (S.state s.new).sectors) }
     ensures err { IfErr result (FailsToRead (S.state s.old).disk (S.state s.new).disk) }
 {

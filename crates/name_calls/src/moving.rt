@@ -7,7 +7,7 @@ ghost use Rattle.fs_layout.specs.Maps.{name_cmp, get, with_entry, without};
 ghost use Rattle.sector_txn.specs.Sectors.{SameStore};
 ghost use Rattle.bit_alloc.specs.Inodes.{IsSound};
 ghost use Rattle.bit_alloc.specs.Room.{HasSpare, TakesSpare};
-ghost use Rattle.fs_model.specs.Changes.{MoveName, changed, swept};
+ghost use Rattle.fs_model.specs.TreeChanges.{MoveName, changed, swept};
 ghost use Rattle.fs_model.specs.Processes.{Desks};
 ghost use Rattle.fs_model.specs.Stands.{HoldsAll, placed};
 ghost use Rattle.fs_model.specs.States.{State};

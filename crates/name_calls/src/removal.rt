@@ -7,7 +7,7 @@ ghost use Rattle.sector_txn.specs.Sectors.{SameStore, IsUnchanged};
 ghost use Rattle.bit_alloc.specs.Inodes.{IsSound};
 ghost use Rattle.bit_alloc.specs.Room.{HasSpare};
 ghost use Rattle.fs_model.specs.declared.call.Call.TheVariants.{Unlink, Rmdir};
-ghost use Rattle.fs_model.specs.Changes.{TakeName, changed, swept};
+ghost use Rattle.fs_model.specs.TreeChanges.{TakeName, changed, swept};
 ghost use Rattle.fs_model.specs.Demands.{refuse, first_of};
 ghost use Rattle.fs_model.specs.NameCalls.{unlink_demands, rmdir_demands};
 ghost use Rattle.fs_model.specs.Nodes.{Body};

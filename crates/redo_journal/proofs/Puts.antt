@@ -7,7 +7,7 @@ use Rattle.std.proofs.lemmas.Map.Made.{AllPairs-from_IsDistinct, IsDistinct-from
 use Rattle.std.specs.Prelude.{All}
 use Rattle.std.specs.List.{AllByRecursion, IsDistinct}
 use Rattle.fs_layout.specs.Bytes.{SectorMap}
-use Rattle.fs_layout.specs.Changes.{Puts}
+use Rattle.fs_layout.specs.InodeChanges.{Puts}
 use Rattle.fs_layout.specs.Commit.{AreDistinct}
 use Rattle.redo_journal.specs.Batch.{Entry, targets, put_entry, has_entry, with_batch, IsBatch, IsOnDisk}
 

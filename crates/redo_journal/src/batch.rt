@@ -4,7 +4,7 @@ ghost use Rattle.std.specs.Prelude.{◌≡◌, ◌↔◌, ◌≤◌, ◌<◌, �
 ghost use Rattle.fs_layout.specs.declared.commit.TheConstants.{MAX_TARGETS};
 ghost use Rattle.fs_layout.specs.declared.place.TheConstants.{INODE_BITMAP};
 ghost use Rattle.fs_layout.specs.Bytes.{SectorMap};
-ghost use Rattle.fs_layout.specs.Changes.{Puts};
+ghost use Rattle.fs_layout.specs.InodeChanges.{Puts};
 ghost use Rattle.indexmap.specs.IndexSet.{contains, index_set_len, insert_index, insert_key, spare};
 ghost use Rattle.redo_journal.specs.Batch.{IsBatch, IsOnDisk, targets, contents, added, put_entry, has_entry, with_batch};
 

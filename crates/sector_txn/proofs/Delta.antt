@@ -2,7 +2,7 @@
 use Rattle.std.proofs.Common.{◌≡◌, ℕ, ◌+◌, ◌-◌, ◌≤◌, ◌<◌, true, false, cond, List, [], ◌∷◌, length, eqb, arith, refl, ◌∙◌, ap}
 use Rattle.std.proofs.lemmas.Bool.{cond_both, cond-true, cond-false, eq-eqb}
 use Rattle.fs_layout.specs.Bytes.{SectorMap}
-use Rattle.fs_layout.specs.Changes.{Puts}
+use Rattle.fs_layout.specs.InodeChanges.{Puts}
 use Rattle.sector_disk.specs.Disk.{DiskState}
 use Rattle.sector_disk.proofs.Moments.{reads_nothing}
 use Rattle.redo_journal.specs.Batch.{Entry, has_entry, put_entry, with_batch}

@@ -1,4 +1,4 @@
-pub mod Changes
 pub mod Delta
 pub mod Images
 mod Pairs
+pub mod TransactionRuns

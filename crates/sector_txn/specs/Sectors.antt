@@ -6,7 +6,7 @@
 --     PutsOnly        what several gets and puts do
 use Rattle.std.specs.Prelude.{◌≡◌, ◌≢◌, ◌⊎◌, ℕ, ◌+◌, ◌≤◌, List, [], ◌∷◌, Bool, true, false, if◌then◌else◌}
 use Rattle.fs_layout.specs.Bytes.{SectorMap}
-use Rattle.fs_layout.specs.Changes.{Puts}
+use Rattle.fs_layout.specs.InodeChanges.{Puts}
 use Rattle.sector_disk.specs.Disk.{DiskState, OnlyReads}
 
 -- what is known of a transaction at one moment

@@ -9,7 +9,7 @@ use Rattle.fs_layout.specs.Images.{HasWholeTables, inode_bitmap, block_bitmap, m
 use Rattle.fs_layout.proofs.Free.{free_where_zeros, free_has_no_sector, owns_nothing, consistent_without_owners}
 use Rattle.fs_layout.proofs.Saves.{in_table}
 use Rattle.sector_txn.specs.Sectors.{TxnState}
-use Rattle.sector_txn.proofs.Changes.{lacking_at_most}
+use Rattle.sector_txn.proofs.TransactionRuns.{lacking_at_most}
 use Rattle.bit_alloc.specs.declared.bitmap.Bitmap.TheVariants.{Inodes, Blocks}
 use Rattle.bit_alloc.specs.Bitmaps.{IsNumber}
 use Rattle.bit_alloc.specs.Inodes.{IsSound}

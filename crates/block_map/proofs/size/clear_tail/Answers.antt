@@ -3,7 +3,7 @@ use Rattle.std.proofs.lemmas.Bool.{cases_lt}
 use Rattle.fs_layout.specs.Images.{pointer}
 use Rattle.fs_layout.proofs.Parts.{owns_block}
 use Rattle.fs_layout.proofs.Places.{after_map, before_data}
-use Rattle.sector_txn.proofs.Changes.{changes_beside, changes_weaker}
+use Rattle.sector_txn.proofs.TransactionRuns.{changes_beside, changes_weaker}
 use Rattle.bit_alloc.specs.Room.{bitmaps}
 use Rattle.block_map.specs.Steps.{IsStepSector}
 use Rattle.block_map.proofs.Numbers.{number_is}

@@ -1,5 +1,5 @@
 use Rattle.std.proofs.Common.{List, ℕ, subst, ◌∙◌, arith}
-use Rattle.fs_layout.specs.Changes.{Allocates}
+use Rattle.fs_layout.specs.InodeChanges.{Allocates}
 use Rattle.inode_table.proofs.Made.{through_try}
 use Rattle.block_map.proofs.Rewritten.{filled, filled_whole}
 use Rattle.block_map.proofs.steps.take_block.Goals as goal

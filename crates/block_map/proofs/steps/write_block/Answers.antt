@@ -4,7 +4,7 @@ use Rattle.fs_layout.specs.declared.inode.Inode.{Inode}
 use Rattle.fs_layout.specs.Images.{pointer}
 use Rattle.fs_layout.proofs.Parts.{owns_block, owns_indirect}
 use Rattle.fs_layout.proofs.Places.{after_map, before_data}
-use Rattle.sector_txn.proofs.Changes.{changes_beside, changes_weaker, changes_put_shared}
+use Rattle.sector_txn.proofs.TransactionRuns.{changes_beside, changes_weaker, changes_put_shared}
 use Rattle.bit_alloc.specs.Room.{bitmaps}
 use Rattle.block_map.specs.declared.blocks.Blocks.{Blocks}
 use Rattle.block_map.specs.Steps.{IsStepSector, WritesBlock}

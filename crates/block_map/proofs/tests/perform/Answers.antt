@@ -4,7 +4,7 @@ use Rattle.fs_layout.specs.declared.inode.Inode.{Inode}
 use Rattle.fs_layout.specs.Images.{inode_at, Owns}
 use Rattle.fs_layout.proofs.Consistent.{owned_is_apart}
 use Rattle.fs_layout.proofs.Places.{after_map, before_data}
-use Rattle.sector_txn.proofs.Changes.{lacking_at_most}
+use Rattle.sector_txn.proofs.TransactionRuns.{lacking_at_most}
 use Rattle.bit_alloc.specs.Room.{bitmaps}
 use Rattle.bit_alloc.proofs.Transactions.{map_unchanged, unchanged_joined}
 use Rattle.block_map.proofs.Joins.{sound_after_reads}

@@ -1,7 +1,7 @@
 use Rattle.std.proofs.Common.{refl, ◌≡◌, ◌+◌, length, sym, ap, subst, ◌∙◌, arith, Err}
 use Rattle.fs_layout.specs.Bytes.{zeros}
 use Rattle.fs_layout.specs.declared.inode.Inode.{Inode}
-use Rattle.sector_txn.proofs.Changes.{store_joined}
+use Rattle.sector_txn.proofs.TransactionRuns.{store_joined}
 use Rattle.bit_alloc.proofs.Transactions.{spare_unchanged}
 use Rattle.block_map.specs.declared.fault.MapFault.TheVariants.{Full}
 use Rattle.block_map.specs.Steps.{MayChange, taken_by, put_by}

@@ -4,7 +4,7 @@ use Rattle.std.proofs.lemmas.List.{length-take-le, length-drop}
 use Rattle.block_map.specs.Blocks.{IsLoaded}
 use Rattle.block_map.proofs.Alterings.{may_after}
 use Rattle.block_map.proofs.Loops.{IsWritten, none_written, more_written, loaded_less, all_written, block_lacks, room_for_block}
-use Rattle.sector_txn.proofs.Changes.{store_joined}
+use Rattle.sector_txn.proofs.TransactionRuns.{store_joined}
 use Rattle.block_map.specs.declared.fault.MapFault.TheVariants.{Full}
 use Rattle.block_map.proofs.Runs.{same_fault, cause_on}
 use Rattle.block_map.proofs.write.write_blocks.Goals as goal

@@ -4,7 +4,7 @@ use Rattle.std.proofs.lemmas.Result.{err_from_is_err_and}
 use Rattle.dir_core.specs.declared.fault.DirFault.{DirFault}
 use Rattle.fs_layout.specs.Bytes.{SectorMap}
 use Rattle.fs_layout.specs.Directories.{HasNames}
-use Rattle.sector_txn.proofs.Changes.{store_joined}
+use Rattle.sector_txn.proofs.TransactionRuns.{store_joined}
 use Rattle.bit_alloc.proofs.Transactions.{map_unchanged}
 use Rattle.block_map.proofs.Joins.{sound_after_reads, content_after_reads}
 use Rattle.dir_core.specs.Faults.{WhyNotAdded}

@@ -1,7 +1,7 @@
 use Rattle.std.proofs.Common.{◌≡◌, ◌<◌, ◌-◌, List, length, sym, subst, arith}
 use Rattle.fs_layout.specs.Images.{Holds}
 use Rattle.fs_layout.specs.Directories.{NamedInode, slots_bytes}
-use Rattle.sector_txn.proofs.Changes.{store_joined}
+use Rattle.sector_txn.proofs.TransactionRuns.{store_joined}
 use Rattle.block_map.proofs.Joins.{sound_after_reads, content_after_reads}
 use Rattle.dir_core.proofs.Changing.{slots_after_reads, directory_within, directory_limit, same_content, slot_inside, slot_has_block, slot_written, moves_itself, last_read}
 use Rattle.dir_core.proofs.Taking.{size_of_slots}

@@ -1,6 +1,6 @@
 use Rattle.std.proofs.Common.{◌-◌, sym, arith}
 use Rattle.std.proofs.lemmas.List.FromFn.{length-range_with_len}
-use Rattle.sector_txn.proofs.Changes.{lacking_at_most}
+use Rattle.sector_txn.proofs.TransactionRuns.{lacking_at_most}
 use Rattle.bit_alloc.specs.Room.{bitmaps}
 use Rattle.dir_core.proofs.tests.fill.Goals as goal
 

@@ -7,7 +7,7 @@ use Rattle.fs_layout.specs.Directories.{HasNames}
 use Rattle.fs_layout.proofs.SplicedBytes.{get_or-zeros}
 use Rattle.bit_alloc.proofs.Transactions.{map_unchanged}
 use Rattle.std.proofs.lemmas.List.FromFn.{length-range_with_len}
-use Rattle.sector_txn.proofs.Changes.{lacking_at_most}
+use Rattle.sector_txn.proofs.TransactionRuns.{lacking_at_most}
 use Rattle.bit_alloc.specs.Room.{bitmaps}
 use Rattle.block_map.proofs.Joins.{sound_after_reads}
 use Rattle.dir_core.proofs.Empty.{no_names}

@@ -7,7 +7,7 @@ use Rattle.fs_model.specs.declared.reply.Reply.TheVariants.{Done}
 use Rattle.fs_model.specs.AttributeCalls.{set_acl_arguments}
 use Rattle.fs_model.specs.Demands.{first_of}
 use Rattle.bit_alloc.proofs.Transactions.{spare_unchanged}
-use Rattle.sector_txn.proofs.Changes.{store_same, store_joined}
+use Rattle.sector_txn.proofs.TransactionRuns.{store_same, store_joined}
 use Rattle.path_walk.proofs.Kept.{kept, kept_back, sound_kept, interrupts_later}
 use Rattle.call_parts.specs.Asked.{holder_asked, acl_space_asked}
 use Rattle.call_parts.specs.Given.{SavesAcl, SavesDefaultAcl}

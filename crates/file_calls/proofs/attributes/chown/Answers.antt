@@ -1,6 +1,6 @@
 use Rattle.std.proofs.Common.{arith, ℕ, sym, inr}
 use Rattle.fs_model.specs.declared.reply.Reply.TheVariants.{Done}
-use Rattle.sector_txn.proofs.Changes.{store_same}
+use Rattle.sector_txn.proofs.TransactionRuns.{store_same}
 use Rattle.call_parts.proofs.Ownership.{owner_refused, owner_changed}
 use Rattle.call_parts.proofs.Reachings.{reach_refused, asked_refused, changed, reached_below, reached_used}
 use Rattle.file_calls.proofs.Rows.{chown_by_path}

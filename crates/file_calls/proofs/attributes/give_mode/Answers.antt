@@ -7,7 +7,7 @@ use Rattle.fs_layout.specs.Inode.{FitsInode}
 use Rattle.fs_layout.proofs.Free.{inode_fits_there}
 use Rattle.bit_alloc.proofs.Transactions.{spare_unchanged}
 use Rattle.inode_table.specs.Acls.{acl_takes}
-use Rattle.sector_txn.proofs.Changes.{store_joined}
+use Rattle.sector_txn.proofs.TransactionRuns.{store_joined}
 use Rattle.path_walk.proofs.Kept.{kept, kept_back, sound_kept, interrupts_later, failed_with}
 use Rattle.path_walk.specs.Answers.{Interrupts}
 use Rattle.call_parts.specs.Given.{SavesAcl, special_mode}

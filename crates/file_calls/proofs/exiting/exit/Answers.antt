@@ -1,4 +1,4 @@
-use Rattle.sector_txn.proofs.Changes.{store_same}
+use Rattle.sector_txn.proofs.TransactionRuns.{store_same}
 use Rattle.file_calls.proofs.Endings.{absent_exits, failed_exits, exited, no_exit_err}
 use Rattle.file_calls.proofs.exiting.exit.Goals as goal
 

@@ -5,7 +5,7 @@ use Rattle.fs_layout.specs.Bytes.{SectorMap}
 use Rattle.fs_layout.specs.Directories.{HasNames}
 use Rattle.fs_layout.specs.Images.{inode_at}
 use Rattle.fs_model.specs.declared.reply.Reply.TheVariants.{Names}
-use Rattle.sector_txn.proofs.Changes.{store_joined}
+use Rattle.sector_txn.proofs.TransactionRuns.{store_joined}
 use Rattle.block_map.proofs.Runs.{unchanged_joined}
 use Rattle.path_walk.proofs.Kept.{sound_kept, kept, interrupts_later}
 use Rattle.call_parts.proofs.ByDescriptor.{opened_as, open_below, closed_performs, bad_performs, unread_performs, interrupted_performs, told}

@@ -4,7 +4,7 @@ use Rattle.fs_cred.specs.Credentials.{Credential}
 use Rattle.fs_layout.specs.declared.inode.TheConstants.{S_ISGID}
 use Rattle.fs_layout.specs.Bytes.{SectorMap}
 use Rattle.fs_layout.specs.Images.{inode_at}
-use Rattle.sector_txn.proofs.Changes.{store_joined}
+use Rattle.sector_txn.proofs.TransactionRuns.{store_joined}
 use Rattle.bit_alloc.proofs.Transactions.{spare_unchanged, unchanged_joined}
 use Rattle.inode_table.specs.Acls.{HasDefaultAcl}
 use Rattle.fs_model.specs.Births.{born_acl}
@@ -12,7 +12,8 @@ use Rattle.fs_model.specs.Nodes.{default_in}
 use Rattle.call_parts.proofs.Calling.{state_tree}
 use Rattle.path_walk.proofs.HeldNodes.{number_below, is_there}
 use Rattle.path_walk.proofs.Kept.{kept, kept_back, sound_kept, interrupts_later}
-use Rattle.call_parts.specs.Makings.{CanMake, MakesFile}
+use Rattle.call_parts.specs.Makings.{CanMake}
+use Rattle.call_parts.specs.NewNodes.{MakesNode, file_made}
 use Rattle.file_calls.proofs.OpenFound.{refusing}
 use Rattle.file_calls.proofs.OpenMade.{directory_there, dir_default, none_is_there, make_refused, make_met, asked_of_it, few_names, can_make, finds_kept, asked_later, made_reaches}
 use Rattle.file_calls.proofs.making.open_new.Goals as goal
@@ -111,7 +112,8 @@ returns-clause-store g c =
 
 pub returns-clause-superblock : goal.returns-clause-superblock
 returns-clause-superblock g c =
-    c.in_ok-n.ensures.made.super ∙ (unchanged_joined c.in_ok-directory.ensures.same c.in_ok-acl.ensures.same).sectors 0
+    let made = c.in_ok-n.ensures.made in
+    made.names.super ∙ made.takes.super ∙ (unchanged_joined c.in_ok-directory.ensures.same c.in_ok-acl.ensures.same).sectors 0
 
 pub returns-clause-each : goal.returns-clause-each
 returns-clause-each g c = λ st i.
@@ -132,8 +134,8 @@ returns-clause-each g c = λ st i.
     let is = asked_later p st.tree f.dir step cred v joined (c.in_ok-directory.ensures.each st.tree (state_tree i.is_state) (directory_there i c.requires.none)) in
     let y = inode_at p mid.sectors f.dir in
     let made =
-    subst (λ u. MakesFile p f.dir f.name u gid a mid.sectors new.sectors n) (c.uid-uid.ensures ∙ ap (λ (k : Credential). k.uid) c.cred-cred.ensures)
-    (subst (λ name. MakesFile p f.dir name c.uid-uid.result gid a mid.sectors new.sectors n) c.bytes-name.ensures.all c.in_ok-n.ensures.made) in
+    subst (λ u. MakesNode p f.dir f.name n (file_made u gid a) mid.sectors new.sectors) (c.uid-uid.ensures ∙ ap (λ (k : Credential). k.uid) c.cred-cred.ensures)
+    (subst (λ name. MakesNode p f.dir name n (file_made c.uid-uid.result gid a) mid.sectors new.sectors) c.bytes-name.ensures.all c.in_ok-n.ensures.made) in
     made_reaches later c.requires.none c.args.mode gid a new.sectors n made v
     (asked_of_it later c.requires.none may y cred step c.cred-cred.ensures c.saturating_sub-step.ensures v is)
     (c.new_group-gid.ensures ∙ ap (λ (k : Credential). if v.mode / S_ISGID % 2 == 1 then v.gid else k.gid) c.cred-cred.ensures)

@@ -1,5 +1,5 @@
 use Rattle.std.proofs.Common.{refl, sym, ap, subst, ◌∙◌, inr, arith}
-use Rattle.fs_model.specs.Changes.{Same}
+use Rattle.fs_model.specs.TreeChanges.{Same}
 use Rattle.fs_model.specs.declared.reply.Reply.TheVariants.{Done}
 use Rattle.fs_model.specs.Processes.{Desks, is_open}
 use Rattle.open_files.specs.Tables.{without_descriptor}

@@ -8,7 +8,7 @@ use Rattle.fs_model.specs.declared.reply.Reply.TheVariants.{Done}
 use Rattle.fs_model.specs.Demands.{refuse, perms}
 use Rattle.fs_model.specs.Rules.{is_directory_kind}
 use Rattle.bit_alloc.proofs.Transactions.{unchanged_nothing, spare_unchanged}
-use Rattle.sector_txn.proofs.Changes.{store_same, store_joined}
+use Rattle.sector_txn.proofs.TransactionRuns.{store_same, store_joined}
 use Rattle.call_parts.proofs.Calling.{met_ok, state_kept}
 use Rattle.call_parts.proofs.Followed.{followed_access, access_held, permission_refused, permission_granted}
 use Rattle.call_parts.proofs.Reachings.{reach_refused, asked_refused, changed, reached_below, reached_access}

@@ -6,7 +6,7 @@ use Rattle.fs_layout.specs.Images.{Holds, inode_at}
 use Rattle.fs_model.specs.declared.reply.Reply.TheVariants.{Data}
 use Rattle.fs_model.specs.Processes.{with_offset}
 use Rattle.fs_model.specs.Scenes.{with_process}
-use Rattle.sector_txn.proofs.Changes.{store_joined}
+use Rattle.sector_txn.proofs.TransactionRuns.{store_joined}
 use Rattle.block_map.proofs.Runs.{unchanged_joined}
 use Rattle.dir_core.proofs.Scans.{inode_within}
 use Rattle.path_walk.proofs.Kept.{sound_kept, kept, interrupts_later}

@@ -10,11 +10,11 @@ use Rattle.fs_layout.specs.Bytes.{SectorMap, overwritten}
 use Rattle.fs_layout.specs.Images.{inode_at, free_sectors}
 use Rattle.fs_model.specs.Limits.{least_free, move_limit}
 use Rattle.bit_alloc.proofs.Transactions.{spare_unchanged}
-use Rattle.call_parts.specs.Changes.{ChangesBytes}
+use Rattle.call_parts.specs.ByteChanges.{ChangesBytes}
 use Rattle.fs_model.specs.declared.reply.Reply.TheVariants.{Wrote}
 use Rattle.fs_model.specs.Processes.{Descriptor, with_offset}
 use Rattle.sector_disk.proofs.Moments.{failed_later}
-use Rattle.sector_txn.proofs.Changes.{store_joined}
+use Rattle.sector_txn.proofs.TransactionRuns.{store_joined}
 use Rattle.block_map.proofs.Runs.{unchanged_joined}
 use Rattle.call_parts.proofs.Calling.{state_kept}
 use Rattle.path_walk.proofs.Kept.{sound_kept, kept, kept_back, same_ok}

@@ -1,6 +1,6 @@
 use Rattle.std.proofs.Common.{arith, sym, subst}
 use Rattle.sector_disk.specs.Disk.{LeavesOnly}
-use Rattle.fs_model.specs.Changes.{pruned}
+use Rattle.fs_model.specs.TreeChanges.{pruned}
 use Rattle.fs_model.specs.Stands.{room_of}
 use Rattle.fs_system.specs.Sweeping.{StandsPruned}
 use Rattle.fs_system.proofs.Sweeps.{err_cause, err_disk, keeps_both}

@@ -1,9 +1,9 @@
 use Rattle.std.proofs.Common.{◌^◌, ◌<◌, ℕ, sym, ap, subst, arith}
 use Rattle.fs_layout.specs.declared.inode.Inode.{Inode}
 use Rattle.fs_layout.specs.Inode.{FitsInode}
-use Rattle.fs_layout.specs.Changes.{Saves}
+use Rattle.fs_layout.specs.InodeChanges.{Saves}
 use Rattle.fs_layout.proofs.OneAcl.{mode_small}
-use Rattle.sector_txn.proofs.Changes.{store_joined}
+use Rattle.sector_txn.proofs.TransactionRuns.{store_joined}
 use Rattle.inode_table.specs.Storing.{Stores}
 use Rattle.inode_table.proofs.Bits.{with_bits_fits}
 use Rattle.inode_table.proofs.StoredAcls.{acl_in_data}

@@ -1,7 +1,7 @@
 use Rattle.std.proofs.Common.{◌^◌, ◌<◌, ap, subst, arith}
 use Rattle.std.specs.Option.{option_copied}
 use Rattle.fs_layout.specs.declared.inode.Inode.{Inode}
-use Rattle.sector_txn.proofs.Changes.{store_joined}
+use Rattle.sector_txn.proofs.TransactionRuns.{store_joined}
 use Rattle.inode_table.specs.Storing.{Stores}
 use Rattle.inode_table.proofs.Bits.{with_mode_fits}
 use Rattle.inode_table.proofs.StoredAcls.{default_acl_in_data}

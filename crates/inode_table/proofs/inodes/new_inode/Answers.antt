@@ -1,7 +1,7 @@
 use Rattle.std.proofs.Common.{◌^◌, ◌<◌, ℕ, sym, subst, arith, inr}
 use Rattle.std.specs.Option.{option_copied}
 use Rattle.fs_layout.specs.Inode.{FitsInode}
-use Rattle.fs_layout.specs.Changes.{Saves}
+use Rattle.fs_layout.specs.InodeChanges.{Saves}
 use Rattle.fs_layout.proofs.OneAcl.{mode_small}
 use Rattle.bit_alloc.proofs.Soundness.{spare_then}
 use Rattle.inode_table.specs.Storing.{Stores}

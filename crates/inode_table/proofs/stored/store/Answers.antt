@@ -1,6 +1,6 @@
 use Rattle.bit_alloc.specs.Room.{bitmaps}
 use Rattle.fs_layout.proofs.Bits.{has_bit}
-use Rattle.sector_txn.proofs.Changes.{changes_joined}
+use Rattle.sector_txn.proofs.TransactionRuns.{changes_joined}
 use Rattle.inode_table.proofs.Sound.{data_put_keeps_bitmaps, puts_data, puts_bitmap}
 use Rattle.inode_table.proofs.stored.store.Goals as goal
 

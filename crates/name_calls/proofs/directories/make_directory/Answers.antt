@@ -5,7 +5,7 @@ use Rattle.fs_cred.specs.Credentials.{Credential}
 use Rattle.fs_layout.specs.declared.inode.TheConstants.{S_ISGID, S_ISVTX}
 use Rattle.fs_layout.specs.Bytes.{SectorMap}
 use Rattle.fs_layout.specs.Images.{inode_at}
-use Rattle.sector_txn.proofs.Changes.{store_joined}
+use Rattle.sector_txn.proofs.TransactionRuns.{store_joined}
 use Rattle.bit_alloc.proofs.Transactions.{spare_unchanged, unchanged_joined}
 use Rattle.inode_table.specs.Acls.{HasDefaultAcl}
 use Rattle.fs_model.specs.Births.{the_node, born_acl, born_directory}
@@ -16,7 +16,7 @@ use Rattle.call_parts.specs.Makings.{CanMake}
 use Rattle.call_parts.proofs.Makeable.{may_make}
 use Rattle.call_parts.specs.NewNodes.{MakesNode, directory_made}
 use Rattle.name_calls.proofs.Inherited.{bits_below, default_held, directory_is}
-use Rattle.name_calls.proofs.NewNames.{allowed, not_allowed, not_made}
+use Rattle.call_parts.proofs.NewNames.{allowed, not_allowed, not_made}
 use Rattle.name_calls.proofs.directories.make_directory.Goals as goal
 
 pub check_make-requires-clause-there : goal.check_make-requires-clause-there
@@ -136,8 +136,8 @@ returns-clause-each g c = λ t h i.
     (c.new_group-gid.ensures ∙ ap (λ (k : Credential). if v.mode / S_ISGID % 2 == 1 then v.gid else k.gid) c.cred-cred.ensures) c.special_bits-bits.ensures
     given (c.in_ok-access.ensures.born ∙ ap (born_acl d mode) c.umask.ensures) in (
       met.0,
-      kept_back (λ (m : SectorMap). MakesNode p f.dir f.name (born_directory q.cred q.umask mode (the_node t f.dir)) m new.sectors) joined
-          (subst (λ (x : Node). MakesNode p f.dir f.name x (g.S.Sectors.state c.default_of.new.s).sectors new.sectors) node
-          (subst (λ (name : List ℕ). MakesNode p f.dir name (directory_made c.uid-uid.result gid bits a d) (g.S.Sectors.state c.default_of.new.s).sectors new.sectors)
+      kept_back (λ (m : SectorMap). (n : ℕ) × MakesNode p f.dir f.name n (born_directory q.cred q.umask mode (the_node t f.dir)) m new.sectors) joined
+          (subst (λ (x : Node). (n : ℕ) × MakesNode p f.dir f.name n x (g.S.Sectors.state c.default_of.new.s).sectors new.sectors) node
+          (subst (λ (name : List ℕ). (n : ℕ) × MakesNode p f.dir name n (directory_made c.uid-uid.result gid bits a d) (g.S.Sectors.state c.default_of.new.s).sectors new.sectors)
           c.bytes-name.ensures.all c.in_ok-place_directory.ensures.made)),
     )

@@ -1,13 +1,13 @@
 use Rattle.std.specs.Prelude.{[], ◌∷◌}
 use Rattle.std.proofs.Common.{sym, inl, ◌∙◌}
-use Rattle.sector_txn.proofs.Changes.{store_same}
+use Rattle.sector_txn.proofs.TransactionRuns.{store_same}
 use Rattle.fs_model.specs.declared.reply.Reply.TheVariants.{Done}
 use Rattle.fs_model.specs.Scenes.{must_be_new}
 use Rattle.call_parts.specs.Paths.{scene_at}
 use Rattle.call_parts.proofs.Calling.{first_asked, state_tree}
 use Rattle.call_parts.proofs.Reachings.{walk_refused, asked_refused, changed}
 use Rattle.name_calls.proofs.BornDirectories.{mkdir_by_path, is_new_name, directory_changes}
-use Rattle.name_calls.proofs.NewNames.{space_at, space_refused, new_in}
+use Rattle.call_parts.proofs.NewNames.{space_at, space_refused, new_in}
 use Rattle.name_calls.proofs.directories.mkdir.Goals as goal
 
 pub returns-in_err-walked : goal.returns-in_err-walked
@@ -63,7 +63,7 @@ returns g c =
     let new_name = sym c.in_ok-check_new.ensures in
     let is = is_new_name f new_name in
     let done = (made.each ready.state.tree (state_tree ready.is_state) (new_in ready.is_state q f (w.found ready.state ready.is_state) w.bytes is.1)).1 in
-    changed (mkdir_by_path c.args.path.now c.args.mode c.check_mode-checks.result c.check_mode-checks.ensures) x.same w new made.store (done.names.super ∙ done.takes.super) Done
+    changed (mkdir_by_path c.args.path.now c.args.mode c.check_mode-checks.result c.check_mode-checks.ensures) x.same w new made.store (done.1.names.super ∙ done.1.takes.super) Done
     (λ s has at.
     let m = made.each s.tree (state_tree at) (new_in at q f has w.bytes is.1) in
     directory_changes at q f has w.bytes new_name c.args.mode new.sectors m.0 m.1)

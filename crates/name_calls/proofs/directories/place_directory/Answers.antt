@@ -1,14 +1,14 @@
 use Rattle.std.proofs.Common.{refl, sym, arith, ◌∙◌}
 use Rattle.std.specs.Option.{option_copied}
 use Rattle.sector_disk.proofs.Moments.{failed_later}
-use Rattle.sector_txn.proofs.Changes.{store_joined}
+use Rattle.sector_txn.proofs.TransactionRuns.{store_joined}
 use Rattle.inode_table.specs.Acls.{acls_take}
 use Rattle.path_walk.specs.Answers.{FailsToRead}
 use Rattle.path_walk.proofs.Kept.{failed_with}
 use Rattle.call_parts.proofs.NewFile.{dir_kept}
 use Rattle.call_parts.specs.NewNodes.{directory_made}
 use Rattle.name_calls.proofs.BornDirectories.{directory_fits, acls_few, directory_taken}
-use Rattle.name_calls.proofs.NewNames.{room_then, was_taken}
+use Rattle.call_parts.proofs.NewNames.{room_then, was_taken}
 use Rattle.name_calls.proofs.directories.place_directory.Goals as goal
 
 pub new_inode-requires-clause-fits : goal.new_inode-requires-clause-fits
@@ -65,10 +65,11 @@ pub returns-clause-made : goal.returns-clause-made
 returns-clause-made g c =
     let mid = g.S.Sectors.state c.new_inode.new.s in
     let e = c.in-Ok.ensures in
-    let default = option_copied c.args.default in
-    record {
-      number = c.in-Ok.n;
-      mid = mid.sectors;
-      takes = directory_taken e.free e.touches e.used c.args.dir c.args.uid c.args.gid c.args.bits c.requires.bits c.args.access.now default e.fields e.empty e.access e.default;
-      names = c.in_ok-name_inode.ensures.named;
-    }
+    let default = option_copied c.args.default in (
+      c.in-Ok.n,
+      record {
+        mid = mid.sectors;
+        takes = directory_taken e.free e.touches e.used c.args.dir c.args.uid c.args.gid c.args.bits c.requires.bits c.args.access.now default e.fields e.empty e.access e.default;
+        names = c.in_ok-name_inode.ensures.named;
+      },
+    )

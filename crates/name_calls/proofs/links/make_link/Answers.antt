@@ -2,7 +2,7 @@ use Rattle.std.proofs.Common.{◌≡◌, ℕ, ◌-◌, List, sym, subst, inr}
 use Rattle.fs_cred.specs.Credentials.{Credential}
 use Rattle.fs_layout.specs.Bytes.{SectorMap}
 use Rattle.fs_layout.specs.Images.{inode_at}
-use Rattle.sector_txn.proofs.Changes.{store_joined}
+use Rattle.sector_txn.proofs.TransactionRuns.{store_joined}
 use Rattle.bit_alloc.proofs.Transactions.{spare_unchanged}
 use Rattle.fs_model.specs.Births.{the_node, born_link}
 use Rattle.fs_model.specs.Nodes.{Node}
@@ -12,7 +12,7 @@ use Rattle.call_parts.specs.Makings.{CanMake}
 use Rattle.call_parts.proofs.Makeable.{may_make}
 use Rattle.call_parts.specs.NewNodes.{MakesNode, link_made}
 use Rattle.name_calls.proofs.Inherited.{link_is}
-use Rattle.name_calls.proofs.NewNames.{allowed, not_allowed, not_made}
+use Rattle.call_parts.proofs.NewNames.{allowed, not_allowed, not_made}
 use Rattle.name_calls.proofs.links.make_link.Goals as goal
 
 pub check_make-requires-clause-there : goal.check_make-requires-clause-there
@@ -80,10 +80,10 @@ returns-clause-each g c = λ t h i.
     let target = c.args.target.now in
     let met = allowed p old.sectors t f c.cred-cred.ensures c.saturating_sub-step.ensures (inode_at p old.sectors f.dir) v (c.in_ok-directory.ensures.each t h i.directory) in (
       met.0,
-      kept_back (λ (m : SectorMap). MakesNode p f.dir f.name (born_link cred target (the_node t f.dir)) m new.sectors) same
-          (subst (λ (x : Node). MakesNode p f.dir f.name x mid.sectors new.sectors) (link_is h i v met.1 cred target)
-          (subst (λ (who : Credential). MakesNode p f.dir f.name (link_made v who target) mid.sectors new.sectors) c.cred-cred.ensures
-          (subst (λ (bytes : List ℕ). MakesNode p f.dir f.name (link_made v c.cred-cred.result.now bytes) mid.sectors new.sectors) c.bytes-bytes.ensures.all
-          (subst (λ (name : List ℕ). MakesNode p f.dir name (link_made v c.cred-cred.result.now c.bytes-bytes.result.now) mid.sectors new.sectors) c.bytes-name.ensures.all
+      kept_back (λ (m : SectorMap). (n : ℕ) × MakesNode p f.dir f.name n (born_link cred target (the_node t f.dir)) m new.sectors) same
+          (subst (λ (x : Node). (n : ℕ) × MakesNode p f.dir f.name n x mid.sectors new.sectors) (link_is h i v met.1 cred target)
+          (subst (λ (who : Credential). (n : ℕ) × MakesNode p f.dir f.name n (link_made v who target) mid.sectors new.sectors) c.cred-cred.ensures
+          (subst (λ (bytes : List ℕ). (n : ℕ) × MakesNode p f.dir f.name n (link_made v c.cred-cred.result.now bytes) mid.sectors new.sectors) c.bytes-bytes.ensures.all
+          (subst (λ (name : List ℕ). (n : ℕ) × MakesNode p f.dir name n (link_made v c.cred-cred.result.now c.bytes-bytes.result.now) mid.sectors new.sectors) c.bytes-name.ensures.all
           c.in_ok-place_link.ensures.made)))),
     )

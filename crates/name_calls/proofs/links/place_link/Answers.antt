@@ -1,12 +1,12 @@
 use Rattle.std.proofs.Common.{refl, sym, arith, ◌∙◌}
 use Rattle.sector_disk.proofs.Moments.{failed_later}
-use Rattle.sector_txn.proofs.Changes.{store_joined}
+use Rattle.sector_txn.proofs.TransactionRuns.{store_joined}
 use Rattle.path_walk.specs.Answers.{FailsToRead}
 use Rattle.path_walk.proofs.Kept.{failed_with}
 use Rattle.call_parts.proofs.NewFile.{dir_kept}
 use Rattle.call_parts.specs.NewNodes.{link_made}
 use Rattle.name_calls.proofs.BornLinks.{link_taken, none_free, target_size}
-use Rattle.name_calls.proofs.NewNames.{room_then, was_taken}
+use Rattle.call_parts.proofs.NewNames.{room_then, was_taken}
 use Rattle.name_calls.proofs.links.place_link.Goals as goal
 
 pub new_link-requires-clause-target : goal.new_link-requires-clause-target
@@ -52,11 +52,12 @@ returns-clause-store g c = store_joined c.in-Ok.ensures.store c.in_ok-name_inode
 pub returns-clause-made : goal.returns-clause-made
 returns-clause-made g c =
     let mid = g.S.Sectors.state c.new_link.new.s in
-    let e = c.in-Ok.ensures in
-    record {
-      number = c.in-Ok.n;
-      mid = mid.sectors;
-      takes = link_taken e.free e.touches e.used c.args.dir c.uid-uid.result c.new_group-gid.result c.args.directory c.args.cred.now c.args.target.now c.uid-uid.ensures c.new_group-gid.ensures
-          e.fields e.acls e.holds e.whole;
-      names = c.in_ok-name_inode.ensures.named;
-    }
+    let e = c.in-Ok.ensures in (
+      c.in-Ok.n,
+      record {
+        mid = mid.sectors;
+        takes = link_taken e.free e.touches e.used c.args.dir c.uid-uid.result c.new_group-gid.result c.args.directory c.args.cred.now c.args.target.now c.uid-uid.ensures c.new_group-gid.ensures
+            e.fields e.acls e.holds e.whole;
+        names = c.in_ok-name_inode.ensures.named;
+      },
+    )

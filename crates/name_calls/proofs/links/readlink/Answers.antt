@@ -3,7 +3,7 @@ use Rattle.fs_model.specs.declared.reply.Reply.TheVariants.{Target}
 use Rattle.fs_model.specs.Scenes.{answers}
 use Rattle.bit_alloc.proofs.Transactions.{unchanged_joined}
 use Rattle.path_walk.proofs.Kept.{same_ok}
-use Rattle.sector_txn.proofs.Changes.{store_same}
+use Rattle.sector_txn.proofs.TransactionRuns.{store_same}
 use Rattle.call_parts.specs.Paths.{scene_at}
 use Rattle.call_parts.proofs.Calling.{state_tree}
 use Rattle.call_parts.proofs.Reachings.{reach_refused, asked_refused, told, reached_below, reached_there}

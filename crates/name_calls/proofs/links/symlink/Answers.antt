@@ -1,5 +1,5 @@
 use Rattle.std.proofs.Common.{sym, inl, ◌∙◌}
-use Rattle.sector_txn.proofs.Changes.{store_same}
+use Rattle.sector_txn.proofs.TransactionRuns.{store_same}
 use Rattle.fs_model.specs.declared.reply.Reply.TheVariants.{Done}
 use Rattle.call_parts.specs.NewNodes.{link_name_asked}
 use Rattle.call_parts.specs.Paths.{scene_at}
@@ -7,7 +7,7 @@ use Rattle.call_parts.proofs.Calling.{state_tree}
 use Rattle.call_parts.proofs.Ownership.{some_asked}
 use Rattle.call_parts.proofs.Reachings.{walk_refused, asked_refused, changed}
 use Rattle.name_calls.proofs.BornLinks.{symlink_by_path, is_target, is_link_name, link_changes}
-use Rattle.name_calls.proofs.NewNames.{space_at, space_refused, new_in}
+use Rattle.call_parts.proofs.NewNames.{space_at, space_refused, new_in}
 use Rattle.name_calls.proofs.links.symlink.Goals as goal
 
 pub returns-in_err-walked : goal.returns-in_err-walked
@@ -64,7 +64,7 @@ returns g c =
     let new_name = sym c.in_ok-check_link_name.ensures in
     let is = is_link_name f new_name in
     let done = (made.each ready.state.tree (state_tree ready.is_state) (new_in ready.is_state q f (w.found ready.state ready.is_state) w.bytes is.1)).1 in
-    changed (symlink_by_path c.args.target.now c.args.path.now c.check_target-checks.result c.check_target-checks.ensures.answer) x.same w new made.store (done.names.super ∙ done.takes.super) Done
+    changed (symlink_by_path c.args.target.now c.args.path.now c.check_target-checks.result c.check_target-checks.ensures.answer) x.same w new made.store (done.1.names.super ∙ done.1.takes.super) Done
     (λ s has at.
     let m = made.each s.tree (state_tree at) (new_in at q f has w.bytes is.1) in
     link_changes at q f has w.bytes new_name c.args.target.now (is_target c.args.target.now c.check_target-checks.result c.check_target-checks.ensures.answer w.fine c.check_target-checks.ensures.bytes) new.sectors m.0 m.1)

@@ -4,7 +4,7 @@ use Rattle.fs_layout.specs.Images.{inode_at}
 use Rattle.fs_layout.specs.Maps.{name_cmp, with_entry}
 use Rattle.bit_alloc.proofs.Transactions.{spare_unchanged}
 use Rattle.path_walk.proofs.Kept.{kept, kept_back, sound_kept}
-use Rattle.sector_txn.proofs.Changes.{store_joined}
+use Rattle.sector_txn.proofs.TransactionRuns.{store_joined}
 use Rattle.name_calls.specs.Moving.{ChangesNames}
 use Rattle.call_parts.specs.NewNodes.{MayBeNamed}
 use Rattle.name_calls.proofs.Movings.{named_names, taken_after}

@@ -4,7 +4,7 @@ use Rattle.fs_layout.specs.declared.inode.Kind.TheVariants as kinds
 use Rattle.fs_layout.specs.Images.{inode_at}
 use Rattle.fs_model.specs.Processes.{is_open}
 use Rattle.fs_model.proofs.OneNode.{body_not_free}
-use Rattle.sector_txn.proofs.Changes.{store_joined}
+use Rattle.sector_txn.proofs.TransactionRuns.{store_joined}
 use Rattle.name_calls.proofs.Droppings.{lost_super}
 use Rattle.name_calls.proofs.Takings.{dir_below, is_number, named_there, target_same, target_held, target_named, taken_holds}
 use Rattle.name_calls.proofs.removal.take_name.Goals as goal

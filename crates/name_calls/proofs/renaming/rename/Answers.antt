@@ -5,7 +5,7 @@ use Rattle.fs_layout.specs.Images.{inode_at}
 use Rattle.fs_model.specs.declared.reply.Reply.TheVariants.{Done}
 use Rattle.fs_model.specs.Scenes.{number}
 use Rattle.bit_alloc.proofs.Transactions.{spare_unchanged}
-use Rattle.sector_txn.proofs.Changes.{store_joined}
+use Rattle.sector_txn.proofs.TransactionRuns.{store_joined}
 use Rattle.path_walk.proofs.Kept.{kept, sound_kept, interrupts_later}
 use Rattle.call_parts.proofs.ByTwoPaths.{walks_refused, both_refused, both_performs}
 use Rattle.call_parts.proofs.Calling.{state_kept}

@@ -1,6 +1,6 @@
 use Rattle.std.proofs.Common.{[], ◌∷◌, arith}
 use Rattle.sector_txn.specs.Stores.{txn_state}
-use Rattle.sector_txn.proofs.Changes.{lacking_at_most}
+use Rattle.sector_txn.proofs.TransactionRuns.{lacking_at_most}
 use Rattle.sector_txn.proofs.tests.cleared.Goals as goal
 
 pub clear_all-requires-clause-room : goal.clear_all-requires-clause-room

@@ -4,7 +4,7 @@ use Rattle.std.proofs.lemmas.Bool.{cases_eq}
 use Rattle.std.proofs.lemmas.List.{get_or_default}
 use Rattle.std.proofs.lemmas.List.Elements.{Contains-get_or}
 use Rattle.sector_txn.specs.Sectors.{lacking}
-use Rattle.sector_txn.proofs.Changes.{changes_put_shared, room_for}
+use Rattle.sector_txn.proofs.TransactionRuns.{changes_put_shared, room_for}
 use Rattle.sector_txn.proofs.tests.clients.clear_all.Goals as goal
 
 pub put-requires-clause-room : goal.put-requires-clause-room
