@@ -1,0 +1,219 @@
+-- New names in directories, and what they ask.
+--     room_then        a directory has room once an inode was taken
+--     was_taken        the cause of a failure to take one
+--     asked_as, not_made, not_allowed, allowed        what is asked of the directory
+--     space_at, space_refused, space_met        and of a call that makes something
+--     caller_fits, new_in, ParentFits, parent_fits        the caller and the directory, in a state
+--     node_made        something was made
+use Rattle.std.specs.Prelude.{◌≡◌, ◌⊎◌, ℕ, ◌+◌, ◌-◌, ◌^◌, ◌<◌, ◌≤◌, ◌==◌, nat_lt, nat_le, List, [], ◌∷◌, ◌++◌, length, None, IsTrue, Result, Ok, Err, IsErr, IsErrAnd}
+use Rattle.std.proofs.Common.{refl, sym, ap, subst, arith, ◌∙◌, inl, inr}
+use Rattle.sector_disk.specs.Disk.{DiskState, HasFailed}
+use Rattle.fs_cred.specs.declared.errno.Errno.TheVariants.{ENOSPC}
+use Rattle.fs_cred.specs.declared.refusal.Refusal.{Refusal}
+use Rattle.fs_cred.specs.Credentials.{Credential}
+use Rattle.fs_layout.specs.declared.place.Place.{Place}
+use Rattle.fs_layout.specs.Bytes.{SectorMap, IsBytes}
+use Rattle.fs_layout.specs.Images.{inode_at, free_sectors}
+use Rattle.fs_layout.specs.Maps.{name_cmp, with_entry}
+use Rattle.sector_txn.specs.Sectors.{TxnState}
+use Rattle.bit_alloc.specs.declared.bitmap.Bitmap.TheVariants.{Inodes}
+use Rattle.bit_alloc.specs.declared.bitmap.TakeFault.{TakeFault}
+use Rattle.bit_alloc.specs.declared.bitmap.TakeFault.TheVariants as taking
+use Rattle.bit_alloc.specs.Bitmaps.{free_numbers}
+use Rattle.fs_model.specs.declared.reply.Reply.TheVariants.{Done}
+use Rattle.fs_model.specs.declared.walk.Form.{Form}
+use Rattle.fs_model.specs.declared.walk.Form.TheVariants.{Parent}
+use Rattle.fs_model.specs.declared.walk.Found.{Found}
+use Rattle.fs_model.specs.Births.{the_node}
+use Rattle.fs_model.specs.TreeChanges.{Make}
+use Rattle.fs_model.specs.Demands.{Demand, refuse, first_of}
+use Rattle.fs_model.specs.Limits.{entries_limit, least_free}
+use Rattle.fs_model.specs.Nodes.{Node, names_in, with_names}
+use Rattle.fs_model.specs.Processes.{Process, Desks, is_open}
+use Rattle.fs_model.specs.Scenes.{Scene, permission_at_dir, space_to_make, changes}
+use Rattle.fs_model.specs.States.{State, IsProcess}
+use Rattle.fs_model.specs.Steps.{HasNewNumber}
+use Rattle.fs_model.specs.StoredNodes.{Placed, HoldsNode}
+use Rattle.fs_model.specs.Trees.{Room, Tree, IsBody, IsDirectoryAt, free_inodes, names_of, parent}
+use Rattle.fs_model.proofs.PlacedChanges.{make_held}
+use Rattle.fs_model.proofs.StepsFound.{IsNameAt}
+use Rattle.fs_model.proofs.StepsMaking.{IsNewborn}
+use Rattle.fs_model.proofs.StepsOfMaking.{dir_is_there}
+use Rattle.path_walk.specs.Answers.{refused_or, IsAnswered}
+use Rattle.call_parts.specs.Paths.{scene_at, HasFound}
+use Rattle.call_parts.specs.Performing.{IsStateOf}
+use Rattle.call_parts.proofs.Calling.{state_tree, met_ok}
+use Rattle.call_parts.proofs.HeldChanges.{names_held}
+use Rattle.path_walk.proofs.HeldNodes.{names_say}
+use Rattle.path_walk.proofs.Kept.{is_err}
+use Rattle.call_parts.specs.Makings.{CanMake, make_asked}
+use Rattle.call_parts.proofs.Changed.{IsChange}
+use Rattle.call_parts.proofs.Makeable.{found_new, has_few}
+use Rattle.call_parts.proofs.NewFile.{dir_below, dir_still_held, nothing_stands}
+use Rattle.call_parts.proofs.Checked.{refused_as}
+use Rattle.call_parts.proofs.Ownership.{others_asked, all_met}
+use Rattle.call_parts.proofs.Shown.{the_node_is}
+use Rattle.call_parts.specs.NewNodes.{MayBeNamed, IsMade, IsNewIn, MakesNode, TakesInode}
+
+module _ {p : Place} {map : SectorMap} {t : Tree} {dir : ℕ} {name : List ℕ} (can : CanMake p map t dir name) where
+  pub room_then : (mid : SectorMap) (n : ℕ) (x : Placed) → TakesInode p n x map mid → free_sectors p map ≤ free_sectors p mid + 2 → MayBeNamed p mid dir name
+  room_then mid n x takes left =
+      let held = dir_still_held can.holds can.directory n takes.free takes.change x takes.holds takes.taken in
+      let enough = can.enough in
+      record {
+        below = dir_below can;
+        is_name = can.is_name;
+        names = names_in can.directory.node.body;
+        are = names_say mid (inode_at p mid dir) can.directory.node.body can.directory.directory held.body;
+        is_new = can.is_new;
+        few = can.has_room;
+        enough = omega (arith, enough, left);
+      }
+
+  -- an inode isn't refused for want of room
+  pub was_taken : (sectors : ℕ) → sectors ≤ 2 → (old new : DiskState) (e : TakeFault)
+      → (e ≡ taking.Full → (free_numbers p Inodes map ≡ 0) ⊎ (free_sectors p map < sectors)) → (e ≡ taking.DiskFault → HasFailed old new) → HasFailed old new
+  was_taken sectors few old new taking.Full full failed = absurd (elim (full refl) [
+    | inl none ↦ can.some none
+    | inr less ↦ let enough = can.enough in omega (arith, less, few, enough)
+  ])
+  was_taken sectors few old new taking.DiskFault full failed = failed refl
+
+-- ---- what is asked of the directory
+
+-- as this caller, after so many lookups
+pub asked_as : (p : Place) (map : SectorMap) (t : Tree) (dir : ℕ) {cred who : Credential} {step steps : ℕ} → cred ≡ who → step ≡ steps
+    → make_asked p map cred t dir step ≡ make_asked p map who t dir steps
+asked_as p map t dir {cred} {who} {step} {steps} same count =
+    ap (λ (k : Credential). make_asked p map k t dir step) same ∙ ap (λ (k : ℕ). make_asked p map who t dir k) count
+
+module _ (p : Place) (old new : TxnState) (who : Credential) (t : Tree) (f : Found) (node : Node) where
+  -- it isn't made
+  pub not_made : (r : Result (Unit {0}) Refusal) (e : Refusal) → IsErr r → IsErrAnd r (λ y. y ≡ e)
+      → IsAnswered old.disk new.disk (refused_or {A = Unit {0}} (first_of (make_asked p old.sectors who t f.dir (f.step - 1))) (Ok tt)) (Err e)
+      → IsMade p old new who t f node r
+  not_made r e err and h = subst (λ (x : Result (Unit {0}) Refusal). IsMade p old new who t f node x) (sym (is_err r e err and)) h
+
+  -- what is asked refuses
+  pub not_allowed : {cred : Credential} {step : ℕ} → cred ≡ who → step ≡ f.step - 1 → (r : Result (Unit {0}) Refusal) (e : Refusal) → IsErr r → IsErrAnd r (λ y. y ≡ e)
+      → {B : Type 0} (x : B) → IsAnswered old.disk new.disk (refused_or {A = B} (first_of (make_asked p old.sectors cred t f.dir step)) (Ok x)) (Err e)
+      → IsMade p old new who t f node r
+  not_allowed {cred} {step} same count r e err and {B} x h = not_made r e err and
+      (refused_as {A = Unit {0}} {B = B} (first_of (make_asked p old.sectors who t f.dir (f.step - 1))) x tt e old.disk new.disk
+      (subst (λ (ds : List Demand). IsAnswered old.disk new.disk (refused_or {A = B} (first_of ds) (Ok x)) (Err e)) (asked_as p old.sectors t f.dir same count) h))
+
+-- it is met, and answers this
+pub allowed : (p : Place) (map : SectorMap) (t : Tree) (f : Found) {cred who : Credential} {step : ℕ} → cred ≡ who → step ≡ f.step - 1 → {B : Type 0} (x y : B)
+    → refused_or {A = B} (first_of (make_asked p map cred t f.dir step)) (Ok x) ≡ Ok y → (first_of (make_asked p map who t f.dir (f.step - 1)) ≡ None) × (y ≡ x)
+allowed p map t f {cred} {who} {step} same count {B} x y h =
+    let met = met_ok {A = B} (first_of (make_asked p map cred t f.dir step)) x y h in
+    (ap first_of (sym (asked_as p map t f.dir same count)) ∙ met.0, sym met.1)
+
+-- ---- in a state
+
+-- what a node gives to what is made in it
+pub record ParentFits (room : Room) (t : Tree) (node : Node) : Type 0 where
+  pub group : node.group < 2 ^ 32
+  pub body : IsBody room t node.body
+
+-- the caller is one of the state
+pub caller_fits : {p : Place} {map : SectorMap} {desks : Desks} {s : State} {pid : ℕ} {q : Process} {form : Form} {path : List ℕ} {f : Found}
+    → IsStateOf p map desks s → HasFound s pid q form path f → IsProcess s.tree q
+caller_fits {p} {map} {desks} {s} {pid} {q} at has = (at.is_state.desks at.up).processes pid q has.there
+
+-- what a call asks that makes something, after what it asks of the name
+abbrev pub space_at : Scene → List Demand
+space_at s = permission_at_dir s s.first 1 ∷ space_to_make s
+
+module _ {p : Place} {map : SectorMap} {desks : Desks} {s : State} (at : IsStateOf p map desks s) (q : Process) (f : Found) where
+  abbrev space : List Demand
+  space = space_at (scene_at s q f)
+
+  space_is : space ≡ make_asked p map q.cred s.tree f.dir (f.step - 1)
+  space_is =
+      ap (λ (k : ℕ). permission_at_dir (scene_at s q f) f 1 ∷ refuse ENOSPC (nat_lt k least_free)
+      ∷ refuse ENOSPC (free_inodes s.room s.tree == 0) ∷ refuse ENOSPC (nat_le entries_limit (length (names_in (the_node s.tree f.dir).body))) ∷ []) at.free_is
+      ∙ ap (λ (r : Room). permission_at_dir (scene_at s q f) f 1 ∷ refuse ENOSPC (nat_lt (free_sectors p map) least_free)
+      ∷ refuse ENOSPC (free_inodes r s.tree == 0) ∷ refuse ENOSPC (nat_le entries_limit (length (names_in (the_node s.tree f.dir).body))) ∷ []) at.same_room
+
+  module _ (asked : List Demand) (met : first_of asked ≡ None) where
+    pub space_refused : (e : Refusal) (old new : DiskState)
+        → IsAnswered old new (refused_or {A = Unit {0}} (first_of (make_asked p map q.cred s.tree f.dir (f.step - 1))) (Ok tt)) (Err e)
+        → IsAnswered old new (refused_or {A = Unit {0}} (first_of (asked ++ space)) (Ok tt)) (Err e)
+    space_refused e old new h =
+        others_asked asked space tt e old new met
+        (subst (λ (ds : List Demand). IsAnswered old new (refused_or {A = Unit {0}} (first_of ds) (Ok tt)) (Err e)) (sym space_is) h)
+
+    pub space_met : first_of (make_asked p map q.cred s.tree f.dir (f.step - 1)) ≡ None → first_of (asked ++ space) ≡ None
+    space_met h = all_met asked space met (ap first_of space_is ∙ h)
+
+  module _ {pid : ℕ} {form : Form} {path : List ℕ} (has : HasFound s pid q form path f) (bytes : IsBytes path) (none : f.ino ≡ None) where
+    new_name : IsNameAt s.tree f.dir f.name None
+    new_name = found_new at has bytes none
+
+    abbrev directory_there : IsDirectoryAt s.tree f.dir
+    directory_there = record { node = new_name.node; is_there = new_name.stands; directory = new_name.directory }
+
+    pub new_in : IsNewIn s.tree f.dir f.name
+    new_in = record {
+      directory = directory_there;
+      is_name = new_name.is_name;
+      is_new = new_name.leads;
+    }
+
+    -- the directory fits
+    pub parent_fits : ParentFits s.room s.tree (the_node s.tree f.dir)
+    parent_fits =
+        let is = at.is_state.tree.each f.dir (the_node s.tree f.dir) (dir_is_there s.tree f.dir f.name None new_name).0 in
+        record { group = is.group; body = is.body }
+
+    module _ {n : ℕ} (node : Node) (newborn : IsNewborn s.room s.tree node) (new : SectorMap) (made : MakesNode p f.dir f.name n node map new) where
+      abbrev directory : Node
+      directory = new_name.node
+
+      fresh : HasNewNumber s (Make f.dir f.name n node)
+      fresh =
+          let free = made.takes.free in
+          let below = free.1 in
+          let same = ap (λ (r : Room). r.inodes) at.same_room in
+          (free.0, omega (arith, below, same), nothing_stands (state_tree at) n free)
+
+      renamed_held : HoldsNode new (inode_at p new f.dir) (record {
+        node = record directory { body = with_names (with_entry name_cmp (names_in directory.body) f.name n) directory.body };
+        names = names_of s.tree f.dir;
+        parent = parent s.tree f.dir;
+      })
+      renamed_held =
+          let before = inode_at p made.mid f.dir in
+          let held = dir_still_held (state_tree at) directory_there n made.takes.free made.takes.change (record { node = node; names = 1; parent = f.dir }) made.takes.holds made.takes.taken in
+          names_held made.mid new before (inode_at p new f.dir) (record { node = directory; names = names_of s.tree f.dir; parent = parent s.tree f.dir }) held
+          (with_entry name_cmp (names_in directory.body) f.name n) new_name.directory made.names.kept made.names.acls
+          (made.names.named (names_in directory.body) (names_say made.mid before directory.body new_name.directory held.body))
+
+      -- the node was made
+      pub node_made : (asked : List Demand) → first_of asked ≡ None → first_of (make_asked p map q.cred s.tree f.dir (f.step - 1)) ≡ None
+          → IsChange p new desks s q asked (λ k. changes (scene_at s q f) (Make f.dir f.name k node)) Done
+      node_made asked met allows = record {
+        met = met;
+        number = n;
+        change = Make f.dir f.name n node;
+        is = refl;
+        new_number = fresh;
+        holds =
+            make_held s at.is_state at.up desks (λ k is. subst (λ (d : Desks). IsTrue (is_open d k)) at.same_desks is) p map at.holds at.same_room
+            made.mid new f.dir directory f.name n node (record {
+              stands = new_name.stands;
+              is_dir = new_name.directory;
+              is_new = new_name.leads;
+              has_room = subst (λ (u : Node). length (names_in u.body) < entries_limit) (the_node_is s.tree f.dir directory new_name.stands) (has_few p map s.tree f.dir q.cred (f.step - 1) allows);
+              is_name = new_name.is_name;
+              bytes = new_name.bytes;
+              positive = fresh.0;
+              below = fresh.1;
+              unused = fresh.2;
+              no_names = newborn.no_names;
+              owner = newborn.owner;
+              group = newborn.group;
+              body = newborn.body;
+            }) made.takes.change made.takes.taken made.takes.holds made.names.change made.names.used renamed_held;
+      }

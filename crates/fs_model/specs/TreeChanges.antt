@@ -1,0 +1,59 @@
+-- What calls change in a tree: POSIX.1-2017, unlink(), and our own rule on what is dropped.
+--     Change, changed        one change, and the tree after it
+--     swept, pruned        what nobody can reach any more leaves the tree; what a stop leaves of it
+use Rattle.std.specs.Prelude.{ℕ, ◌==◌, Bool, not, ◌||◌, List, [], Option, None, Some, unwrap_or}
+use Rattle.std.specs.List.{filter}
+use Rattle.fs_model.specs.Limits.{root}
+use Rattle.fs_layout.specs.Maps.{name_cmp, with_entry, without}
+use Rattle.fs_model.specs.Nodes.{Node, Body, File, names_in, with_names}
+use Rattle.fs_model.specs.Trees.{Tree, node_at, with_node, names_of, lookup}
+use Rattle.fs_model.specs.Processes.{Desks, is_open}
+
+-- What a call does to the tree. A number that it speaks of is one of a node that is there, but for the new one of Make.
+pub data Change : Type 0 where
+  -- nothing
+  Same : Change
+  -- a node is rewritten, its kind and names staying
+  Rewrite : ℕ → Node → Change
+  -- in a directory, under a name, at a number, a node is made
+  Make : ℕ → List ℕ → ℕ → Node → Change
+  -- in a directory a name is given to a node
+  AddName : ℕ → List ℕ → ℕ → Change
+  -- from a directory a name is taken
+  TakeName : ℕ → List ℕ → Change
+  -- from a directory a name goes to another directory, or to another name
+  MoveName : ℕ → List ℕ → ℕ → List ℕ → Change
+
+-- the tree in which the names of a directory are changed so
+abbrev pub with_names_at : Tree → ℕ → (List (List ℕ × ℕ) → List (List ℕ × ℕ)) → Option Node → Tree
+with_names_at t dir f None = t
+with_names_at t dir f (Some node) = with_node t dir (record node { body = with_names (f (names_in node.body)) node.body })
+
+abbrev pub named : Tree → ℕ → List ℕ → ℕ → Tree
+named t dir name n = with_names_at t dir (λ names. with_entry name_cmp names name n) (node_at t dir)
+
+abbrev pub unnamed : Tree → ℕ → List ℕ → Tree
+unnamed t dir name = with_names_at t dir (λ names. without name_cmp names name) (node_at t dir)
+
+-- the tree after a change, before anything is dropped
+abbrev pub changed : Tree → Change → Tree
+changed t Same = t
+changed t (Rewrite n node) = with_node t n node
+changed t (Make dir name n node) = named (with_node t n node) dir name n
+changed t (AddName dir name n) = named t dir name n
+changed t (TakeName dir name) = unnamed t dir name
+changed t (MoveName dir name to_dir to_name) =
+    named (unnamed t dir name) to_dir to_name (unwrap_or (lookup t dir name) 0)
+
+-- a file lives as long as it is open; nothing else but the root lives without a name
+abbrev pub lives_nameless : Desks → ℕ → Body → Bool
+lives_nameless desks n (File _ _) = is_open desks n
+lives_nameless desks n _ = n == root
+
+-- what has no name and doesn't live without one leaves the tree
+abbrev pub swept : Tree → Desks → Tree
+swept t desks = filter (λ e. not (names_of t e.0 == 0) || lives_nameless desks e.0 e.1.body) t
+
+-- without its nameless files: what is left where nobody has anything open
+abbrev pub pruned : Tree → Tree
+pruned t = swept t []
