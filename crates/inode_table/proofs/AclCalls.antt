@@ -28,6 +28,26 @@ use Rattle.inode_table.proofs.Stores.{HasStored, stored, content_there}
 pub bits_shown : (mode : ℕ) (a : AccessList) → with_low_bits mode (mode_bits a) % 512 ≡ mode_bits a
 bits_shown mode a = let small = mode_small a in omega (arith, small)
 
+-- what saving either comes to: the sectors taken, where the inode names its ACL, and its fields
+pub record IsSavedWith (p : Place) (n : ℕ) (w : Inode) (sector : Inode → ℕ) (taken : ℕ) (old new : TxnState) : Type 0 where
+  pub sound : IsSound p new
+  pub touches : Touches p n taken 2 old new
+  pub puts : PutsOnly (IsForSaving p n (sector (inode_at p new.sectors n))) (bitmaps p) 2 old new
+  pub none : sector (inode_at p new.sectors n) ≡ 0 → TakesSpare p 1 old new
+  pub fields : KeepsFields w (inode_at p new.sectors n)
+  pub bytes : KeepsBytes old.sectors new.sectors (inode_at p old.sectors n) (inode_at p new.sectors n)
+  pub used : bit new.sectors inode_bitmap n ≡ bit old.sectors inode_bitmap n
+
+pub record IsAccessSaved (p : Place) (n : ℕ) (inode : Inode) (a : AccessList) (old new : TxnState) : Type 0 where
+  pub saved : IsSavedWith p n (with_acl_bits inode a) (λ v. v.acl) (acl_takes inode.acl (kept_acl a)) old new
+  pub access : HasAcl new.sectors (inode_at p new.sectors n) a
+  pub default : KeepsDefault old.sectors new.sectors (inode_at p old.sectors n) (inode_at p new.sectors n)
+
+pub record IsDefaultSaved (p : Place) (n : ℕ) (inode : Inode) (a : Option AccessList) (old new : TxnState) : Type 0 where
+  pub saved : IsSavedWith p n inode (λ v. v.default_acl) (acl_takes inode.default_acl a) old new
+  pub default : HasDefaultAcl new.sectors (inode_at p new.sectors n) a
+  pub access : KeepsAccess old.sectors new.sectors (inode_at p old.sectors n) (inode_at p new.sectors n)
+
 -- ---- the access ACL
 module _ (p : Place) (n : ℕ) (inode : Inode) (a : AccessList) (y : ℕ) (t0 t1 t2 : TxnState)
     (sound : IsSound p t0) (lt : n < p.inodes) (attributes : DiffersInAttributes (inode_at p t0.sectors n) inode) (valid : IsAcl a)
@@ -61,30 +81,30 @@ module _ (p : Place) (n : ℕ) (inode : Inode) (a : AccessList) (y : ℕ) (t0 t1
       acl_saved p n (record v { acl = y }) (record inode { mode = with_low_bits inode.mode (mode_bits a); acl = y }) AccessAcl (acl_takes inode.acl (kept_acl a)) t0 t1 t2
       sound lt access_turned refl default_is direct_is indirect_is fits saves (λ k e. cc) refl refl (ap (λ (u : Inode). u.size) attributes)
 
-  pub access_sound : SameStore t0 t2 → IsSound p t2
+  access_sound : SameStore t0 t2 → IsSound p t2
   access_sound = access_saved.sound
 
-  pub access_touches : PutsOnly (IsForAcl p y) (bitmaps p) 1 t0 t1 → PutsOnly (λ t. t ≡ p.table + n / 4) [] 1 t1 t2
+  access_touches : PutsOnly (IsForAcl p y) (bitmaps p) 1 t0 t1 → PutsOnly (λ t. t ≡ p.table + n / 4) [] 1 t1 t2
       → Touches p n (acl_takes inode.acl (kept_acl a)) 2 t0 t2
   access_touches = access_saved.touches
 
-  pub access_puts : PutsOnly (IsForAcl p y) (bitmaps p) 1 t0 t1 → PutsOnly (λ t. t ≡ p.table + n / 4) [] 1 t1 t2
+  access_puts : PutsOnly (IsForAcl p y) (bitmaps p) 1 t0 t1 → PutsOnly (λ t. t ≡ p.table + n / 4) [] 1 t1 t2
       → PutsOnly (IsForSaving p n (inode_at p t2.sectors n).acl) (bitmaps p) 2 t0 t2
   access_puts acl inode =
       subst (λ (u : Inode). PutsOnly (IsForSaving p n u.acl) (bitmaps p) 2 t0 t2) (sym access_saved.is) (puts_saving p n y acl inode)
 
-  pub access_none : (y ≡ 0 → TakesSpare p 0 t0 t1) → PutsOnly (λ t. t ≡ p.table + n / 4) [] 1 t1 t2
+  access_none : (y ≡ 0 → TakesSpare p 0 t0 t1) → PutsOnly (λ t. t ≡ p.table + n / 4) [] 1 t1 t2
       → (inode_at p t2.sectors n).acl ≡ 0 → TakesSpare p 1 t0 t2
   access_none taken inode none = spare_saving p n t0 t1 t2 (taken (sym (ap (λ (u : Inode). u.acl) access_saved.is) ∙ none)) inode
 
-  pub access_fields : KeepsFields (with_acl_bits inode a) (inode_at p t2.sectors n)
+  access_fields : KeepsFields (with_acl_bits inode a) (inode_at p t2.sectors n)
   access_fields =
       subst (KeepsFields (with_acl_bits inode a)) (sym access_saved.is) (record { kind = refl; mode = refl; uid = refl; gid = refl; names = refl; parent = refl })
 
-  pub access_bytes : KeepsBytes t0.sectors t2.sectors (inode_at p t0.sectors n) (inode_at p t2.sectors n)
+  access_bytes : KeepsBytes t0.sectors t2.sectors (inode_at p t0.sectors n) (inode_at p t2.sectors n)
   access_bytes = access_saved.bytes
 
-  pub access_has : HasAcl t2.sectors (inode_at p t2.sectors n) a
+  access_has : HasAcl t2.sectors (inode_at p t2.sectors n) a
   access_has =
       let w : Inode = record inode { mode = with_low_bits inode.mode (mode_bits a); acl = y } in
       let there = holds_acl t1.sectors y (kept_acl a) (content_there p inode.acl y t0.sectors t1.sectors sound.consistent.place (contents (kept_acl a)) way) in
@@ -95,7 +115,7 @@ module _ (p : Place) (n : ℕ) (inode : Inode) (a : AccessList) (y : ℕ) (t0 t1
       } in
       subst (λ (u : Inode). HasAcl t2.sectors u a) (sym access_saved.is) has
 
-  pub access_keeps_default : KeepsDefault t0.sectors t2.sectors (inode_at p t0.sectors n) (inode_at p t2.sectors n)
+  access_keeps_default : KeepsDefault t0.sectors t2.sectors (inode_at p t0.sectors n) (inode_at p t2.sectors n)
   unfolding part
   access_keeps_default =
       let v = inode_at p t0.sectors n in
@@ -106,8 +126,24 @@ module _ (p : Place) (n : ℕ) (inode : Inode) (a : AccessList) (y : ℕ) (t0 t1
       } in
       subst (λ (u : Inode). KeepsDefault t0.sectors t2.sectors v u) (sym access_saved.is) (saved_keeps_default mid access_saved.keeps)
 
-  pub access_bit : bit t2.sectors inode_bitmap n ≡ bit t0.sectors inode_bitmap n
+  access_bit : bit t2.sectors inode_bitmap n ≡ bit t0.sectors inode_bitmap n
   access_bit = access_saved.bit_same
+
+  pub access_is_saved : SameStore t0 t2 → PutsOnly (IsForAcl p y) (bitmaps p) 1 t0 t1 → (y ≡ 0 → TakesSpare p 0 t0 t1)
+      → PutsOnly (λ t. t ≡ p.table + n / 4) [] 1 t1 t2 → IsAccessSaved p n inode a t0 t2
+  access_is_saved store acl_put none inode_put = record {
+    saved = record {
+      sound = access_sound store;
+      touches = access_touches acl_put inode_put;
+      puts = access_puts acl_put inode_put;
+      none = access_none none inode_put;
+      fields = access_fields;
+      bytes = access_bytes;
+      used = access_bit;
+    };
+    access = access_has;
+    default = access_keeps_default;
+  }
 
 -- ---- the default ACL
 module _ (p : Place) (n : ℕ) (inode : Inode) (a : Option AccessList) (y : ℕ) (t0 t1 t2 : TxnState)
@@ -136,30 +172,30 @@ module _ (p : Place) (n : ℕ) (inode : Inode) (a : Option AccessList) (y : ℕ)
       access_is refl (ap (λ (u : Inode). u.direct) attributes) (ap (λ (u : Inode). u.indirect) attributes) fits saves
       (λ k e. cc) refl refl (ap (λ (u : Inode). u.size) attributes)
 
-  pub default_sound : SameStore t0 t2 → IsSound p t2
+  default_sound : SameStore t0 t2 → IsSound p t2
   default_sound = default_saved.sound
 
-  pub default_touches : PutsOnly (IsForAcl p y) (bitmaps p) 1 t0 t1 → PutsOnly (λ t. t ≡ p.table + n / 4) [] 1 t1 t2
+  default_touches : PutsOnly (IsForAcl p y) (bitmaps p) 1 t0 t1 → PutsOnly (λ t. t ≡ p.table + n / 4) [] 1 t1 t2
       → Touches p n (acl_takes inode.default_acl a) 2 t0 t2
   default_touches = default_saved.touches
 
-  pub default_puts : PutsOnly (IsForAcl p y) (bitmaps p) 1 t0 t1 → PutsOnly (λ t. t ≡ p.table + n / 4) [] 1 t1 t2
+  default_puts : PutsOnly (IsForAcl p y) (bitmaps p) 1 t0 t1 → PutsOnly (λ t. t ≡ p.table + n / 4) [] 1 t1 t2
       → PutsOnly (IsForSaving p n (inode_at p t2.sectors n).default_acl) (bitmaps p) 2 t0 t2
   default_puts acl inode =
       subst (λ (u : Inode). PutsOnly (IsForSaving p n u.default_acl) (bitmaps p) 2 t0 t2) (sym default_saved.is) (puts_saving p n y acl inode)
 
-  pub default_none : (y ≡ 0 → TakesSpare p 0 t0 t1) → PutsOnly (λ t. t ≡ p.table + n / 4) [] 1 t1 t2
+  default_none : (y ≡ 0 → TakesSpare p 0 t0 t1) → PutsOnly (λ t. t ≡ p.table + n / 4) [] 1 t1 t2
       → (inode_at p t2.sectors n).default_acl ≡ 0 → TakesSpare p 1 t0 t2
   default_none taken inode none = spare_saving p n t0 t1 t2 (taken (sym (ap (λ (u : Inode). u.default_acl) default_saved.is) ∙ none)) inode
 
-  pub default_fields : KeepsFields inode (inode_at p t2.sectors n)
+  default_fields : KeepsFields inode (inode_at p t2.sectors n)
   default_fields =
       subst (KeepsFields inode) (sym default_saved.is) (record { kind = refl; mode = refl; uid = refl; gid = refl; names = refl; parent = refl })
 
-  pub default_bytes : KeepsBytes t0.sectors t2.sectors (inode_at p t0.sectors n) (inode_at p t2.sectors n)
+  default_bytes : KeepsBytes t0.sectors t2.sectors (inode_at p t0.sectors n) (inode_at p t2.sectors n)
   default_bytes = default_saved.bytes
 
-  pub default_has : HasDefaultAcl t2.sectors (inode_at p t2.sectors n) a
+  default_has : HasDefaultAcl t2.sectors (inode_at p t2.sectors n) a
   default_has =
       let w : Inode = record inode { default_acl = y } in
       let there = holds_acl t1.sectors y a (content_there p inode.default_acl y t0.sectors t1.sectors sound.consistent.place (contents a) way) in
@@ -169,7 +205,7 @@ module _ (p : Place) (n : ℕ) (inode : Inode) (a : Option AccessList) (y : ℕ)
       } in
       subst (λ (u : Inode). HasDefaultAcl t2.sectors u a) (sym default_saved.is) has
 
-  pub default_keeps_access : KeepsAccess t0.sectors t2.sectors (inode_at p t0.sectors n) (inode_at p t2.sectors n)
+  default_keeps_access : KeepsAccess t0.sectors t2.sectors (inode_at p t0.sectors n) (inode_at p t2.sectors n)
   unfolding part
   default_keeps_access =
       let v = inode_at p t0.sectors n in
@@ -180,5 +216,21 @@ module _ (p : Place) (n : ℕ) (inode : Inode) (a : Option AccessList) (y : ℕ)
       } in
       subst (λ (u : Inode). KeepsAccess t0.sectors t2.sectors v u) (sym default_saved.is) (saved_keeps_access mid default_saved.keeps)
 
-  pub default_bit : bit t2.sectors inode_bitmap n ≡ bit t0.sectors inode_bitmap n
+  default_bit : bit t2.sectors inode_bitmap n ≡ bit t0.sectors inode_bitmap n
   default_bit = default_saved.bit_same
+
+  pub default_is_saved : SameStore t0 t2 → PutsOnly (IsForAcl p y) (bitmaps p) 1 t0 t1 → (y ≡ 0 → TakesSpare p 0 t0 t1)
+      → PutsOnly (λ t. t ≡ p.table + n / 4) [] 1 t1 t2 → IsDefaultSaved p n inode a t0 t2
+  default_is_saved store acl_put none inode_put = record {
+    saved = record {
+      sound = default_sound store;
+      touches = default_touches acl_put inode_put;
+      puts = default_puts acl_put inode_put;
+      none = default_none none inode_put;
+      fields = default_fields;
+      bytes = default_bytes;
+      used = default_bit;
+    };
+    default = default_has;
+    access = default_keeps_access;
+  }

@@ -16,6 +16,14 @@ use Rattle.inode_table.specs.Storing.{IsForAcl, IsForSaving, GivesBack}
 use Rattle.inode_table.proofs.Freed.{freed_consistent, freed_changes, freed_is, freed_bits, freed_free_sectors, freed_super}
 use Rattle.inode_table.proofs.Sound.{sound_after, puts_nothing, puts_saving, puts_saved, puts_inode_map}
 
+-- what has come of it
+pub record IsFreed (p : Place) (n : ℕ) (old new : TxnState) : Type 0 where
+  pub sound : IsSound p new
+  pub touches : Touches p n 0 1 old new
+  pub puts : PutsOnly (IsForSaving p n 0) (bitmaps p) 1 old new
+  pub free : inode_at p new.sectors n ≡ free_inode
+  pub unused : bit new.sectors inode_bitmap n ≡ false
+
 -- ---- what has been put so far
 module _ (p : Place) (n : ℕ) (t0 t1 t2 : TxnState) (sound : IsSound p t0) (number : IsNumber p Inodes n)
     (read : IsUnchanged t0 t1) (bit_put : PutsOnly (λ t. t ≡ inode_bitmap + n / 4096) (bitmaps p) 0 t1 t2) where
@@ -49,25 +57,28 @@ module _ (p : Place) (n : ℕ) (v : Inode) (t0 t1 t2 t3 t4 t5 : TxnState) (sound
   default_back : GivesBack p (inode_at p t0.sectors n).default_acl t3.sectors t4.sectors
   default_back = subst (λ (u : Inode). GivesBack p u.default_acl t3.sectors t4.sectors) is default
 
-  pub free_is : inode_at p t5.sectors n ≡ free_inode
+  free_is : inode_at p t5.sectors n ≡ free_inode
   free_is = freed_is sound.consistent number.1 empty mark access_back default_back saves
 
-  pub free_unused : bit t5.sectors inode_bitmap n ≡ false
+  free_unused : bit t5.sectors inode_bitmap n ≡ false
   free_unused =
       let few = sound.consistent.place.most_inodes in
       let lt = number.1 in
       freed_bits sound.consistent number.1 empty mark access_back default_back saves n (omega (arith, few, lt)) ∙ given.clear
 
-  pub free_sound : IsSound p t5
+  free_sound : IsSound p t5
   free_sound =
       sound_after sound puts.store (freed_consistent sound.consistent number.1 empty mark access_back default_back saves)
       (λ m few none. freed_bits sound.consistent number.1 empty mark access_back default_back saves m few
       ∙ mark.bits m few (λ e. none (subst (IsNumber p Inodes) (sym e) number)))
 
-  pub free_touches : Touches p n 0 1 t0 t5
+  free_touches : Touches p n 0 1 t0 t5
   free_touches = record {
     puts = puts_saved p n 0 puts;
     super = freed_super sound.consistent number.1 empty mark access_back default_back saves;
     inode = freed_changes sound.consistent number.1 empty mark access_back default_back saves;
     free = let f = freed_free_sectors sound.consistent number.1 empty mark access_back default_back saves in omega (arith, f);
   }
+
+  pub freed : IsFreed p n t0 t5
+  freed = record { sound = free_sound; touches = free_touches; puts = puts; free = free_is; unused = free_unused }

@@ -49,6 +49,16 @@ blank_has_no_sector v blank = record {
   indirect = blank.indirect;
 }
 
+-- what has come of it
+pub record IsMade (p : Place) (n : ℕ) (inode : Inode) (a : AccessList) (d : Option AccessList) (old new : TxnState) : Type 0 where
+  pub sound : IsSound p new
+  pub used : IsTrue (bit new.sectors inode_bitmap n)
+  pub touches : Touches p n (acls_take a d) 3 old new
+  pub fields : KeepsFields (with_acl_bits inode a) (inode_at p new.sectors n)
+  pub empty : Holds new.sectors (inode_at p new.sectors n) []
+  pub access : HasAcl new.sectors (inode_at p new.sectors n) a
+  pub default : HasDefaultAcl new.sectors (inode_at p new.sectors n) d
+
 -- ---- where too few sectors are free
 -- what leaves by a `?`
 pub through_try : {A : Type 0} (Q : TakeFault → Type 0) (r : Result A TakeFault) (x : TakeFault) → IsErr r × IsErrAnd r (λ y. y ≡ x) → Q x → IfErr r Q
@@ -143,19 +153,19 @@ module _ (p : Place) (n : ℕ) (inode : Inode) (a : AccessList) (y : ℕ) (t0 t1
         × IsSaved p n (record inode { mode = with_low_bits inode.mode (mode_bits a); acl = y; default_acl = z }) t1.sectors t3.sectors t4.sectors
     saved = saved_stays_consistent now taken.free.1 was_free fits changes saves
 
-    pub made_sound : SameStore t0 t4 → IsSound p t4
+    made_sound : SameStore t0 t4 → IsSound p t4
     made_sound store =
         let number : IsNumber p Inodes n = (taken.free.0, taken.free.1) in
         sound_after sound store saved.0
         (λ m few none. saved.1.inode_bits m few ∙ taken.mark.bits m few (λ e. none (subst (IsNumber p Inodes) (sym e) number)))
 
-    pub made_used : IsTrue (bit t4.sectors inode_bitmap n)
+    made_used : IsTrue (bit t4.sectors inode_bitmap n)
     made_used =
         let few = sound.consistent.place.most_inodes in
         let lt = taken.free.1 in
         saved.1.inode_bits n (omega (arith, few, lt)) ∙ taken.set
 
-    pub made_touches : PutsOnly (IsSectorFor p n) (bitmaps p) 3 t0 t4 → Touches p n (acls_take a d) 3 t0 t4
+    made_touches : PutsOnly (IsSectorFor p n) (bitmaps p) 3 t0 t4 → Touches p n (acls_take a d) 3 t0 t4
     made_touches puts =
         let from = after_map now.place in
         let f = left_free in
@@ -167,11 +177,11 @@ module _ (p : Place) (n : ℕ) (inode : Inode) (a : AccessList) (y : ℕ) (t0 t1
           free = omega (arith, f, g, saved.1.free);
         }
 
-    pub made_fields : KeepsFields (with_acl_bits inode a) (inode_at p t4.sectors n)
+    made_fields : KeepsFields (with_acl_bits inode a) (inode_at p t4.sectors n)
     made_fields =
         subst (KeepsFields (with_acl_bits inode a)) (sym saved.1.is) (record { kind = refl; mode = refl; uid = refl; gid = refl; names = refl; parent = refl })
 
-    pub made_empty : Holds t4.sectors (inode_at p t4.sectors n) []
+    made_empty : Holds t4.sectors (inode_at p t4.sectors n) []
     made_empty =
         let u : Inode = record inode { acl = y; default_acl = z } in
         let w : Inode = record inode { mode = with_low_bits inode.mode (mode_bits a); acl = y; default_acl = z } in
@@ -180,7 +190,7 @@ module _ (p : Place) (n : ℕ) (inode : Inode) (a : AccessList) (y : ℕ) (t0 t1
         subst (λ (v : Inode). Holds t4.sectors v []) (sym saved.1.is)
         (all.bytes [] (holds_nothing t1.sectors inode (blank_has_no_sector inode blank) blank.size))
 
-    pub made_access : HasAcl t4.sectors (inode_at p t4.sectors n) a
+    made_access : HasAcl t4.sectors (inode_at p t4.sectors n) a
     unfolding part
     made_access =
         let w : Inode = record inode { mode = with_low_bits inode.mode (mode_bits a); acl = y; default_acl = z } in
@@ -193,7 +203,7 @@ module _ (p : Place) (n : ℕ) (inode : Inode) (a : AccessList) (y : ℕ) (t0 t1
         } in
         subst (λ (u : Inode). HasAcl t4.sectors u a) (sym saved.1.is) has
 
-    pub made_default : HasDefaultAcl t4.sectors (inode_at p t4.sectors n) d
+    made_default : HasDefaultAcl t4.sectors (inode_at p t4.sectors n) d
     made_default =
         let w : Inode = record inode { mode = with_low_bits inode.mode (mode_bits a); acl = y; default_acl = z } in
         let there = holds_acl t3.sectors z d (content_there p 0 z t2.sectors t3.sectors now.place (contents d) default) in
@@ -202,3 +212,14 @@ module _ (p : Place) (n : ℕ) (inode : Inode) (a : AccessList) (y : ℕ) (t0 t1
           stored = acl_stays t3.sectors t4.sectors z d (λ some. saved.1.keeps z (owns_default_acl t3.sectors w some)) there;
         } in
         subst (λ (u : Inode). HasDefaultAcl t4.sectors u d) (sym saved.1.is) has
+
+    pub made : PutsOnly (IsSectorFor p n) (bitmaps p) 3 t0 t4 → IsMade p n inode a d t0 t4
+    made puts = record {
+      sound = made_sound puts.store;
+      used = made_used;
+      touches = made_touches puts;
+      fields = made_fields;
+      empty = made_empty;
+      access = made_access;
+      default = made_default;
+    }

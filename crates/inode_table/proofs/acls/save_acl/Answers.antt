@@ -7,7 +7,7 @@ use Rattle.sector_txn.proofs.TransactionRuns.{store_joined}
 use Rattle.inode_table.specs.Storing.{Stores}
 use Rattle.inode_table.proofs.Bits.{with_bits_fits}
 use Rattle.inode_table.proofs.StoredAcls.{acl_in_data}
-use Rattle.inode_table.proofs.AclCalls.{access_sound, access_touches, access_puts, access_none, access_fields, access_bytes, access_has, access_keeps_default, access_bit}
+use Rattle.inode_table.proofs.AclCalls.{IsAccessSaved, access_is_saved}
 use Rattle.inode_table.proofs.acls.save_acl.Goals as goal
 
 pub store-requires-clause-owned : goal.store-requires-clause-owned
@@ -20,8 +20,8 @@ write_inode-requires-clause-fits g c =
     subst (λ (m : ℕ). FitsInode (record v { mode = m; acl = c.in_ok-sector.sector })) (sym c.with_bits.ensures)
     (with_bits_fits v _ c.in_ok-sector.sector v.default_acl c.requires.fits c.requires.used c.requires.no_link (mode_small c.args.acl.now) small c.requires.fits.default_acl)
 
-pub returns-clause-sound : goal.returns-clause-sound
-returns-clause-sound g c =
+is_saved : (g : _) (c : goal.In_ok-write_inode g) → IsAccessSaved c.args.place c.args.n c.args.inode.now c.args.acl.now (g.S.Sectors.state c.args.s.now) (g.S.Sectors.state c.write_inode.new.s)
+is_saved g c =
     let p = c.args.place in
     let v = c.args.inode.now in
     let a = c.args.acl.now in
@@ -33,124 +33,32 @@ returns-clause-sound g c =
     let way = subst (λ content. Stores p v.acl y content t0.sectors t1.sectors) c.kept_content.ensures.content c.in_ok-sector.ensures.stored in
     let fits = with_bits_fits v _ y v.default_acl c.requires.fits c.requires.used c.requires.no_link (mode_small a) small c.requires.fits.default_acl in
     let saves = subst (λ (m : ℕ). Saves p c.args.n (record v { mode = m; acl = y }) t1.sectors t2.sectors) c.with_bits.ensures c.in_ok-write_inode.ensures.saved in
-    access_sound p c.args.n v a y t0 t1 t2 c.requires.sound c.requires.below c.requires.attributes c.kept_content.ensures.valid way fits saves (store_joined c.in_ok-sector.ensures.store c.in_ok-write_inode.ensures.store)
+    access_is_saved p c.args.n v a y t0 t1 t2 c.requires.sound c.requires.below c.requires.attributes c.kept_content.ensures.valid way fits saves
+    (store_joined c.in_ok-sector.ensures.store c.in_ok-write_inode.ensures.store) c.in_ok-sector.ensures.puts c.in_ok-sector.ensures.none c.in_ok-write_inode.ensures.puts
+
+pub returns-clause-sound : goal.returns-clause-sound
+returns-clause-sound g c = (is_saved g c).saved.sound
 
 pub returns-clause-touches : goal.returns-clause-touches
-returns-clause-touches g c =
-    let p = c.args.place in
-    let v = c.args.inode.now in
-    let a = c.args.acl.now in
-    let y = c.in_ok-sector.sector in
-    let t0 = g.S.Sectors.state c.args.s.now in
-    let t1 = g.S.Sectors.state c.store.new.s in
-    let t2 = g.S.Sectors.state c.write_inode.new.s in
-    let small : y < 2 ^ 32 = omega arith in
-    let way = subst (λ content. Stores p v.acl y content t0.sectors t1.sectors) c.kept_content.ensures.content c.in_ok-sector.ensures.stored in
-    let fits = with_bits_fits v _ y v.default_acl c.requires.fits c.requires.used c.requires.no_link (mode_small a) small c.requires.fits.default_acl in
-    let saves = subst (λ (m : ℕ). Saves p c.args.n (record v { mode = m; acl = y }) t1.sectors t2.sectors) c.with_bits.ensures c.in_ok-write_inode.ensures.saved in
-    access_touches p c.args.n v a y t0 t1 t2 c.requires.sound c.requires.below c.requires.attributes c.kept_content.ensures.valid way fits saves c.in_ok-sector.ensures.puts c.in_ok-write_inode.ensures.puts
+returns-clause-touches g c = (is_saved g c).saved.touches
 
 pub returns-clause-puts : goal.returns-clause-puts
-returns-clause-puts g c =
-    let p = c.args.place in
-    let v = c.args.inode.now in
-    let a = c.args.acl.now in
-    let y = c.in_ok-sector.sector in
-    let t0 = g.S.Sectors.state c.args.s.now in
-    let t1 = g.S.Sectors.state c.store.new.s in
-    let t2 = g.S.Sectors.state c.write_inode.new.s in
-    let small : y < 2 ^ 32 = omega arith in
-    let way = subst (λ content. Stores p v.acl y content t0.sectors t1.sectors) c.kept_content.ensures.content c.in_ok-sector.ensures.stored in
-    let fits = with_bits_fits v _ y v.default_acl c.requires.fits c.requires.used c.requires.no_link (mode_small a) small c.requires.fits.default_acl in
-    let saves = subst (λ (m : ℕ). Saves p c.args.n (record v { mode = m; acl = y }) t1.sectors t2.sectors) c.with_bits.ensures c.in_ok-write_inode.ensures.saved in
-    access_puts p c.args.n v a y t0 t1 t2 c.requires.sound c.requires.below c.requires.attributes c.kept_content.ensures.valid way fits saves c.in_ok-sector.ensures.puts c.in_ok-write_inode.ensures.puts
+returns-clause-puts g c = (is_saved g c).saved.puts
 
 pub returns-clause-none : goal.returns-clause-none
-returns-clause-none g c =
-    let p = c.args.place in
-    let v = c.args.inode.now in
-    let a = c.args.acl.now in
-    let y = c.in_ok-sector.sector in
-    let t0 = g.S.Sectors.state c.args.s.now in
-    let t1 = g.S.Sectors.state c.store.new.s in
-    let t2 = g.S.Sectors.state c.write_inode.new.s in
-    let small : y < 2 ^ 32 = omega arith in
-    let way = subst (λ content. Stores p v.acl y content t0.sectors t1.sectors) c.kept_content.ensures.content c.in_ok-sector.ensures.stored in
-    let fits = with_bits_fits v _ y v.default_acl c.requires.fits c.requires.used c.requires.no_link (mode_small a) small c.requires.fits.default_acl in
-    let saves = subst (λ (m : ℕ). Saves p c.args.n (record v { mode = m; acl = y }) t1.sectors t2.sectors) c.with_bits.ensures c.in_ok-write_inode.ensures.saved in
-    access_none p c.args.n v a y t0 t1 t2 c.requires.sound c.requires.below c.requires.attributes c.kept_content.ensures.valid way fits saves c.in_ok-sector.ensures.none c.in_ok-write_inode.ensures.puts
+returns-clause-none g c = (is_saved g c).saved.none
 
 pub returns-clause-fields : goal.returns-clause-fields
-returns-clause-fields g c =
-    let p = c.args.place in
-    let v = c.args.inode.now in
-    let a = c.args.acl.now in
-    let y = c.in_ok-sector.sector in
-    let t0 = g.S.Sectors.state c.args.s.now in
-    let t1 = g.S.Sectors.state c.store.new.s in
-    let t2 = g.S.Sectors.state c.write_inode.new.s in
-    let small : y < 2 ^ 32 = omega arith in
-    let way = subst (λ content. Stores p v.acl y content t0.sectors t1.sectors) c.kept_content.ensures.content c.in_ok-sector.ensures.stored in
-    let fits = with_bits_fits v _ y v.default_acl c.requires.fits c.requires.used c.requires.no_link (mode_small a) small c.requires.fits.default_acl in
-    let saves = subst (λ (m : ℕ). Saves p c.args.n (record v { mode = m; acl = y }) t1.sectors t2.sectors) c.with_bits.ensures c.in_ok-write_inode.ensures.saved in
-    access_fields p c.args.n v a y t0 t1 t2 c.requires.sound c.requires.below c.requires.attributes c.kept_content.ensures.valid way fits saves
+returns-clause-fields g c = (is_saved g c).saved.fields
 
 pub returns-clause-bytes : goal.returns-clause-bytes
-returns-clause-bytes g c =
-    let p = c.args.place in
-    let v = c.args.inode.now in
-    let a = c.args.acl.now in
-    let y = c.in_ok-sector.sector in
-    let t0 = g.S.Sectors.state c.args.s.now in
-    let t1 = g.S.Sectors.state c.store.new.s in
-    let t2 = g.S.Sectors.state c.write_inode.new.s in
-    let small : y < 2 ^ 32 = omega arith in
-    let way = subst (λ content. Stores p v.acl y content t0.sectors t1.sectors) c.kept_content.ensures.content c.in_ok-sector.ensures.stored in
-    let fits = with_bits_fits v _ y v.default_acl c.requires.fits c.requires.used c.requires.no_link (mode_small a) small c.requires.fits.default_acl in
-    let saves = subst (λ (m : ℕ). Saves p c.args.n (record v { mode = m; acl = y }) t1.sectors t2.sectors) c.with_bits.ensures c.in_ok-write_inode.ensures.saved in
-    access_bytes p c.args.n v a y t0 t1 t2 c.requires.sound c.requires.below c.requires.attributes c.kept_content.ensures.valid way fits saves
+returns-clause-bytes g c = (is_saved g c).saved.bytes
 
 pub returns-clause-access : goal.returns-clause-access
-returns-clause-access g c =
-    let p = c.args.place in
-    let v = c.args.inode.now in
-    let a = c.args.acl.now in
-    let y = c.in_ok-sector.sector in
-    let t0 = g.S.Sectors.state c.args.s.now in
-    let t1 = g.S.Sectors.state c.store.new.s in
-    let t2 = g.S.Sectors.state c.write_inode.new.s in
-    let small : y < 2 ^ 32 = omega arith in
-    let way = subst (λ content. Stores p v.acl y content t0.sectors t1.sectors) c.kept_content.ensures.content c.in_ok-sector.ensures.stored in
-    let fits = with_bits_fits v _ y v.default_acl c.requires.fits c.requires.used c.requires.no_link (mode_small a) small c.requires.fits.default_acl in
-    let saves = subst (λ (m : ℕ). Saves p c.args.n (record v { mode = m; acl = y }) t1.sectors t2.sectors) c.with_bits.ensures c.in_ok-write_inode.ensures.saved in
-    access_has p c.args.n v a y t0 t1 t2 c.requires.sound c.requires.below c.requires.attributes c.kept_content.ensures.valid way fits saves
+returns-clause-access g c = (is_saved g c).access
 
 pub returns-clause-default : goal.returns-clause-default
-returns-clause-default g c =
-    let p = c.args.place in
-    let v = c.args.inode.now in
-    let a = c.args.acl.now in
-    let y = c.in_ok-sector.sector in
-    let t0 = g.S.Sectors.state c.args.s.now in
-    let t1 = g.S.Sectors.state c.store.new.s in
-    let t2 = g.S.Sectors.state c.write_inode.new.s in
-    let small : y < 2 ^ 32 = omega arith in
-    let way = subst (λ content. Stores p v.acl y content t0.sectors t1.sectors) c.kept_content.ensures.content c.in_ok-sector.ensures.stored in
-    let fits = with_bits_fits v _ y v.default_acl c.requires.fits c.requires.used c.requires.no_link (mode_small a) small c.requires.fits.default_acl in
-    let saves = subst (λ (m : ℕ). Saves p c.args.n (record v { mode = m; acl = y }) t1.sectors t2.sectors) c.with_bits.ensures c.in_ok-write_inode.ensures.saved in
-    access_keeps_default p c.args.n v a y t0 t1 t2 c.requires.sound c.requires.below c.requires.attributes c.kept_content.ensures.valid way fits saves
+returns-clause-default g c = (is_saved g c).default
 
 pub returns-clause-used : goal.returns-clause-used
-returns-clause-used g c =
-    let p = c.args.place in
-    let v = c.args.inode.now in
-    let a = c.args.acl.now in
-    let y = c.in_ok-sector.sector in
-    let t0 = g.S.Sectors.state c.args.s.now in
-    let t1 = g.S.Sectors.state c.store.new.s in
-    let t2 = g.S.Sectors.state c.write_inode.new.s in
-    let small : y < 2 ^ 32 = omega arith in
-    let way = subst (λ content. Stores p v.acl y content t0.sectors t1.sectors) c.kept_content.ensures.content c.in_ok-sector.ensures.stored in
-    let fits = with_bits_fits v _ y v.default_acl c.requires.fits c.requires.used c.requires.no_link (mode_small a) small c.requires.fits.default_acl in
-    let saves = subst (λ (m : ℕ). Saves p c.args.n (record v { mode = m; acl = y }) t1.sectors t2.sectors) c.with_bits.ensures c.in_ok-write_inode.ensures.saved in
-    access_bit p c.args.n v a y t0 t1 t2 c.requires.sound c.requires.below c.requires.attributes c.kept_content.ensures.valid way fits saves
+returns-clause-used g c = (is_saved g c).saved.used

@@ -4,7 +4,7 @@ use Rattle.bit_alloc.proofs.Transactions.{bitmaps_unchanged}
 use Rattle.bit_alloc.proofs.Soundness.{spare_then}
 use Rattle.inode_table.proofs.Sound.{room_left}
 use Rattle.inode_table.proofs.StoredAcls.{acl_in_data, default_acl_in_data}
-use Rattle.inode_table.proofs.Freeing.{puts_2, puts_3, puts_4, puts_5, free_is, free_unused, free_sound, free_touches}
+use Rattle.inode_table.proofs.Freeing.{puts_2, puts_3, puts_4, puts_5, IsFreed, freed}
 use Rattle.inode_table.proofs.inodes.free_inode.Goals as goal
 
 pub give-requires-clause-bitmaps : goal.give-requires-clause-bitmaps
@@ -54,8 +54,9 @@ write_inode-requires-clause-room g c = λ none.
     t3 c.in_ok-give_sector.ensures.puts t4 c.in_ok-give_sector-2.ensures.puts in
     room_left p 1 t4 (spare_then p 0 1 t0 t4 (omega (arith, c.requires.spare)) puts) (omega arith)
 
-pub returns-clause-store : goal.returns-clause-store
-returns-clause-store g c =
+-- all that has come of it
+is_freed : (g : _) (c : goal.In_ok-write_inode g) → IsFreed c.args.place c.args.n (g.S.Sectors.state c.args.s.now) (g.S.Sectors.state c.write_inode.new.s)
+is_freed g c =
     let p = c.args.place in
     let n = c.args.n in
     let t0 = g.S.Sectors.state c.args.s.now in
@@ -66,77 +67,23 @@ returns-clause-store g c =
     let t5 = g.S.Sectors.state c.write_inode.new.s in
     let puts = puts_5 p n t0 t1 t2 c.requires.sound c.requires.number c.in_ok-inode.ensures.same c.in_ok-give.ensures.puts
     t3 c.in_ok-give_sector.ensures.puts t4 c.in_ok-give_sector-2.ensures.puts t5 c.in_ok-write_inode.ensures.puts in
-    puts.store
+    freed p n c.in_ok-inode.inode t0 t1 t2 t3 t4 t5 c.requires.sound c.requires.number c.requires.empty c.in_ok-inode.ensures.found c.in_ok-inode.ensures.same
+    c.in_ok-give.ensures.given c.in_ok-give_sector.ensures.given c.in_ok-give_sector-2.ensures.given c.in_ok-write_inode.ensures.saved puts
+
+pub returns-clause-store : goal.returns-clause-store
+returns-clause-store g c = (is_freed g c).puts.store
 
 pub returns-clause-puts : goal.returns-clause-puts
-returns-clause-puts g c =
-    let p = c.args.place in
-    let n = c.args.n in
-    let t0 = g.S.Sectors.state c.args.s.now in
-    let t1 = g.S.Sectors.state c.load.new.s in
-    let t2 = g.S.Sectors.state c.give.new.s in
-    let t3 = g.S.Sectors.state c.give_sector.new.s in
-    let t4 = g.S.Sectors.state c.give_sector-2.new.s in
-    let t5 = g.S.Sectors.state c.write_inode.new.s in
-    puts_5 p n t0 t1 t2 c.requires.sound c.requires.number c.in_ok-inode.ensures.same c.in_ok-give.ensures.puts
-    t3 c.in_ok-give_sector.ensures.puts t4 c.in_ok-give_sector-2.ensures.puts t5 c.in_ok-write_inode.ensures.puts
+returns-clause-puts g c = (is_freed g c).puts
 
 pub returns-clause-sound : goal.returns-clause-sound
-returns-clause-sound g c =
-    let p = c.args.place in
-    let n = c.args.n in
-    let t0 = g.S.Sectors.state c.args.s.now in
-    let t1 = g.S.Sectors.state c.load.new.s in
-    let t2 = g.S.Sectors.state c.give.new.s in
-    let t3 = g.S.Sectors.state c.give_sector.new.s in
-    let t4 = g.S.Sectors.state c.give_sector-2.new.s in
-    let t5 = g.S.Sectors.state c.write_inode.new.s in
-    let puts = puts_5 p n t0 t1 t2 c.requires.sound c.requires.number c.in_ok-inode.ensures.same c.in_ok-give.ensures.puts
-    t3 c.in_ok-give_sector.ensures.puts t4 c.in_ok-give_sector-2.ensures.puts t5 c.in_ok-write_inode.ensures.puts in
-    free_sound p n c.in_ok-inode.inode t0 t1 t2 t3 t4 t5 c.requires.sound c.requires.number c.requires.empty c.in_ok-inode.ensures.found c.in_ok-inode.ensures.same
-    c.in_ok-give.ensures.given c.in_ok-give_sector.ensures.given c.in_ok-give_sector-2.ensures.given c.in_ok-write_inode.ensures.saved puts
+returns-clause-sound g c = (is_freed g c).sound
 
 pub returns-clause-touches : goal.returns-clause-touches
-returns-clause-touches g c =
-    let p = c.args.place in
-    let n = c.args.n in
-    let t0 = g.S.Sectors.state c.args.s.now in
-    let t1 = g.S.Sectors.state c.load.new.s in
-    let t2 = g.S.Sectors.state c.give.new.s in
-    let t3 = g.S.Sectors.state c.give_sector.new.s in
-    let t4 = g.S.Sectors.state c.give_sector-2.new.s in
-    let t5 = g.S.Sectors.state c.write_inode.new.s in
-    let puts = puts_5 p n t0 t1 t2 c.requires.sound c.requires.number c.in_ok-inode.ensures.same c.in_ok-give.ensures.puts
-    t3 c.in_ok-give_sector.ensures.puts t4 c.in_ok-give_sector-2.ensures.puts t5 c.in_ok-write_inode.ensures.puts in
-    free_touches p n c.in_ok-inode.inode t0 t1 t2 t3 t4 t5 c.requires.sound c.requires.number c.requires.empty c.in_ok-inode.ensures.found c.in_ok-inode.ensures.same
-    c.in_ok-give.ensures.given c.in_ok-give_sector.ensures.given c.in_ok-give_sector-2.ensures.given c.in_ok-write_inode.ensures.saved puts
+returns-clause-touches g c = (is_freed g c).touches
 
 pub returns-clause-free : goal.returns-clause-free
-returns-clause-free g c =
-    let p = c.args.place in
-    let n = c.args.n in
-    let t0 = g.S.Sectors.state c.args.s.now in
-    let t1 = g.S.Sectors.state c.load.new.s in
-    let t2 = g.S.Sectors.state c.give.new.s in
-    let t3 = g.S.Sectors.state c.give_sector.new.s in
-    let t4 = g.S.Sectors.state c.give_sector-2.new.s in
-    let t5 = g.S.Sectors.state c.write_inode.new.s in
-    let puts = puts_5 p n t0 t1 t2 c.requires.sound c.requires.number c.in_ok-inode.ensures.same c.in_ok-give.ensures.puts
-    t3 c.in_ok-give_sector.ensures.puts t4 c.in_ok-give_sector-2.ensures.puts t5 c.in_ok-write_inode.ensures.puts in
-    free_is p n c.in_ok-inode.inode t0 t1 t2 t3 t4 t5 c.requires.sound c.requires.number c.requires.empty c.in_ok-inode.ensures.found c.in_ok-inode.ensures.same
-    c.in_ok-give.ensures.given c.in_ok-give_sector.ensures.given c.in_ok-give_sector-2.ensures.given c.in_ok-write_inode.ensures.saved puts
+returns-clause-free g c = (is_freed g c).free
 
 pub returns-clause-unused : goal.returns-clause-unused
-returns-clause-unused g c =
-    let p = c.args.place in
-    let n = c.args.n in
-    let t0 = g.S.Sectors.state c.args.s.now in
-    let t1 = g.S.Sectors.state c.load.new.s in
-    let t2 = g.S.Sectors.state c.give.new.s in
-    let t3 = g.S.Sectors.state c.give_sector.new.s in
-    let t4 = g.S.Sectors.state c.give_sector-2.new.s in
-    let t5 = g.S.Sectors.state c.write_inode.new.s in
-    let puts = puts_5 p n t0 t1 t2 c.requires.sound c.requires.number c.in_ok-inode.ensures.same c.in_ok-give.ensures.puts
-    t3 c.in_ok-give_sector.ensures.puts t4 c.in_ok-give_sector-2.ensures.puts t5 c.in_ok-write_inode.ensures.puts in
-    free_unused p n c.in_ok-inode.inode t0 t1 t2 t3 t4 t5 c.requires.sound c.requires.number c.requires.empty c.in_ok-inode.ensures.found c.in_ok-inode.ensures.same
-    c.in_ok-give.ensures.given c.in_ok-give_sector.ensures.given c.in_ok-give_sector-2.ensures.given c.in_ok-write_inode.ensures.saved puts
+returns-clause-unused g c = (is_freed g c).unused

@@ -6,7 +6,7 @@ use Rattle.fs_layout.proofs.OneAcl.{mode_small}
 use Rattle.bit_alloc.proofs.Soundness.{spare_then}
 use Rattle.inode_table.specs.Storing.{Stores}
 use Rattle.inode_table.proofs.Bits.{with_bits_fits, empty_no_link}
-use Rattle.inode_table.proofs.Made.{made_puts_1, made_puts_4, left_free, made_sound, made_used, made_touches, made_fields, made_empty, made_access, made_default, through_try, too_few_for_access, too_few_for_default}
+use Rattle.inode_table.proofs.Made.{made_puts_1, made_puts_4, left_free, IsMade, made, through_try, too_few_for_access, too_few_for_default}
 use Rattle.inode_table.proofs.inodes.new_inode.Goals as goal
 
 pub store-requires-clause-room : goal.store-requires-clause-room
@@ -50,21 +50,10 @@ write_inode-requires-clause-fits g c =
     (with_bits_fits v _ c.in_ok-acl.acl c.in_ok-default_acl.default_acl c.requires.fits c.requires.blank.used (empty_no_link v c.requires.fits c.requires.blank.size)
     (mode_small c.args.access.now) small small_default)
 
-pub returns-clause-store : goal.returns-clause-store
-returns-clause-store g c =
-    let p = c.args.place in
-    let n = c.in_ok-n.n in
-    let t0 = g.S.Sectors.state c.args.s.now in
-    let t1 = g.S.Sectors.state c.take.new.s in
-    let t2 = g.S.Sectors.state c.store.new.s in
-    let t3 = g.S.Sectors.state c.store-2.new.s in
-    let t4 = g.S.Sectors.state c.write_inode.new.s in
-    let puts = made_puts_4 p n t0 t1 c.requires.sound c.in_ok-n.ensures.taken.free.1 c.in_ok-n.ensures.puts t2 c.in_ok-acl.ensures.puts t3 c.in_ok-default_acl.ensures.puts
-    t4 c.in_ok-write_inode.ensures.puts in
-    puts.store
-
-pub returns-clause-sound : goal.returns-clause-sound
-returns-clause-sound g c =
+-- all that the number returned stands for
+is_made : (g : _) (c : goal.In_ok-write_inode g) → IsMade c.args.place c.in_ok-n.n c.args.inode.now c.args.access.now (option_copied c.args.default)
+    (g.S.Sectors.state c.args.s.now) (g.S.Sectors.state c.write_inode.new.s)
+is_made g c =
     let p = c.args.place in
     let v = c.args.inode.now in
     let a = c.args.access.now in
@@ -85,145 +74,29 @@ returns-clause-sound g c =
     let saves = subst (λ (m : ℕ). Saves p n (record v { mode = m; acl = y; default_acl = z }) t3.sectors t4.sectors) c.with_bits.ensures c.in_ok-write_inode.ensures.saved in
     let puts = made_puts_4 p n t0 t1 c.requires.sound c.in_ok-n.ensures.taken.free.1 c.in_ok-n.ensures.puts t2 c.in_ok-acl.ensures.puts t3 c.in_ok-default_acl.ensures.puts
     t4 c.in_ok-write_inode.ensures.puts in
-    made_sound p n v a y t0 t1 t2 c.requires.sound c.requires.clear c.in_ok-n.ensures.taken c.requires.blank c.kept_content.ensures.valid access
-    d z t3 t4 c.content_of.ensures.valid default fits saves puts.store
-
-pub returns-clause-used : goal.returns-clause-used
-returns-clause-used g c =
-    let p = c.args.place in
-    let v = c.args.inode.now in
-    let a = c.args.access.now in
-    let d = option_copied c.args.default in
-    let n = c.in_ok-n.n in
-    let y = c.in_ok-acl.acl in
-    let z = c.in_ok-default_acl.default_acl in
-    let t0 = g.S.Sectors.state c.args.s.now in
-    let t1 = g.S.Sectors.state c.take.new.s in
-    let t2 = g.S.Sectors.state c.store.new.s in
-    let t3 = g.S.Sectors.state c.store-2.new.s in
-    let t4 = g.S.Sectors.state c.write_inode.new.s in
-    let small : y < 2 ^ 32 = omega arith in
-    let small_default : z < 2 ^ 32 = omega arith in
-    let access = subst (λ content. Stores p 0 y content t1.sectors t2.sectors) c.kept_content.ensures.content c.in_ok-acl.ensures.stored in
-    let default = subst (λ content. Stores p 0 z content t2.sectors t3.sectors) c.content_of.ensures.content c.in_ok-default_acl.ensures.stored in
-    let fits = with_bits_fits v _ y z c.requires.fits c.requires.blank.used (empty_no_link v c.requires.fits c.requires.blank.size) (mode_small a) small small_default in
-    let saves = subst (λ (m : ℕ). Saves p n (record v { mode = m; acl = y; default_acl = z }) t3.sectors t4.sectors) c.with_bits.ensures c.in_ok-write_inode.ensures.saved in
-    made_used p n v a y t0 t1 t2 c.requires.sound c.requires.clear c.in_ok-n.ensures.taken c.requires.blank c.kept_content.ensures.valid access
-    d z t3 t4 c.content_of.ensures.valid default fits saves
-
-pub returns-clause-touches : goal.returns-clause-touches
-returns-clause-touches g c =
-    let p = c.args.place in
-    let v = c.args.inode.now in
-    let a = c.args.access.now in
-    let d = option_copied c.args.default in
-    let n = c.in_ok-n.n in
-    let y = c.in_ok-acl.acl in
-    let z = c.in_ok-default_acl.default_acl in
-    let t0 = g.S.Sectors.state c.args.s.now in
-    let t1 = g.S.Sectors.state c.take.new.s in
-    let t2 = g.S.Sectors.state c.store.new.s in
-    let t3 = g.S.Sectors.state c.store-2.new.s in
-    let t4 = g.S.Sectors.state c.write_inode.new.s in
-    let small : y < 2 ^ 32 = omega arith in
-    let small_default : z < 2 ^ 32 = omega arith in
-    let access = subst (λ content. Stores p 0 y content t1.sectors t2.sectors) c.kept_content.ensures.content c.in_ok-acl.ensures.stored in
-    let default = subst (λ content. Stores p 0 z content t2.sectors t3.sectors) c.content_of.ensures.content c.in_ok-default_acl.ensures.stored in
-    let fits = with_bits_fits v _ y z c.requires.fits c.requires.blank.used (empty_no_link v c.requires.fits c.requires.blank.size) (mode_small a) small small_default in
-    let saves = subst (λ (m : ℕ). Saves p n (record v { mode = m; acl = y; default_acl = z }) t3.sectors t4.sectors) c.with_bits.ensures c.in_ok-write_inode.ensures.saved in
-    let puts = made_puts_4 p n t0 t1 c.requires.sound c.in_ok-n.ensures.taken.free.1 c.in_ok-n.ensures.puts t2 c.in_ok-acl.ensures.puts t3 c.in_ok-default_acl.ensures.puts
-    t4 c.in_ok-write_inode.ensures.puts in
-    made_touches p n v a y t0 t1 t2 c.requires.sound c.requires.clear c.in_ok-n.ensures.taken c.requires.blank c.kept_content.ensures.valid access
+    made p n v a y t0 t1 t2 c.requires.sound c.requires.clear c.in_ok-n.ensures.taken c.requires.blank c.kept_content.ensures.valid access
     d z t3 t4 c.content_of.ensures.valid default fits saves puts
 
+pub returns-clause-store : goal.returns-clause-store
+returns-clause-store g c = (is_made g c).touches.puts.store
+
+pub returns-clause-sound : goal.returns-clause-sound
+returns-clause-sound g c = (is_made g c).sound
+
+pub returns-clause-used : goal.returns-clause-used
+returns-clause-used g c = (is_made g c).used
+
+pub returns-clause-touches : goal.returns-clause-touches
+returns-clause-touches g c = (is_made g c).touches
+
 pub returns-clause-fields : goal.returns-clause-fields
-returns-clause-fields g c =
-    let p = c.args.place in
-    let v = c.args.inode.now in
-    let a = c.args.access.now in
-    let d = option_copied c.args.default in
-    let n = c.in_ok-n.n in
-    let y = c.in_ok-acl.acl in
-    let z = c.in_ok-default_acl.default_acl in
-    let t0 = g.S.Sectors.state c.args.s.now in
-    let t1 = g.S.Sectors.state c.take.new.s in
-    let t2 = g.S.Sectors.state c.store.new.s in
-    let t3 = g.S.Sectors.state c.store-2.new.s in
-    let t4 = g.S.Sectors.state c.write_inode.new.s in
-    let small : y < 2 ^ 32 = omega arith in
-    let small_default : z < 2 ^ 32 = omega arith in
-    let access = subst (λ content. Stores p 0 y content t1.sectors t2.sectors) c.kept_content.ensures.content c.in_ok-acl.ensures.stored in
-    let default = subst (λ content. Stores p 0 z content t2.sectors t3.sectors) c.content_of.ensures.content c.in_ok-default_acl.ensures.stored in
-    let fits = with_bits_fits v _ y z c.requires.fits c.requires.blank.used (empty_no_link v c.requires.fits c.requires.blank.size) (mode_small a) small small_default in
-    let saves = subst (λ (m : ℕ). Saves p n (record v { mode = m; acl = y; default_acl = z }) t3.sectors t4.sectors) c.with_bits.ensures c.in_ok-write_inode.ensures.saved in
-    made_fields p n v a y t0 t1 t2 c.requires.sound c.requires.clear c.in_ok-n.ensures.taken c.requires.blank c.kept_content.ensures.valid access
-    d z t3 t4 c.content_of.ensures.valid default fits saves
+returns-clause-fields g c = (is_made g c).fields
 
 pub returns-clause-empty : goal.returns-clause-empty
-returns-clause-empty g c =
-    let p = c.args.place in
-    let v = c.args.inode.now in
-    let a = c.args.access.now in
-    let d = option_copied c.args.default in
-    let n = c.in_ok-n.n in
-    let y = c.in_ok-acl.acl in
-    let z = c.in_ok-default_acl.default_acl in
-    let t0 = g.S.Sectors.state c.args.s.now in
-    let t1 = g.S.Sectors.state c.take.new.s in
-    let t2 = g.S.Sectors.state c.store.new.s in
-    let t3 = g.S.Sectors.state c.store-2.new.s in
-    let t4 = g.S.Sectors.state c.write_inode.new.s in
-    let small : y < 2 ^ 32 = omega arith in
-    let small_default : z < 2 ^ 32 = omega arith in
-    let access = subst (λ content. Stores p 0 y content t1.sectors t2.sectors) c.kept_content.ensures.content c.in_ok-acl.ensures.stored in
-    let default = subst (λ content. Stores p 0 z content t2.sectors t3.sectors) c.content_of.ensures.content c.in_ok-default_acl.ensures.stored in
-    let fits = with_bits_fits v _ y z c.requires.fits c.requires.blank.used (empty_no_link v c.requires.fits c.requires.blank.size) (mode_small a) small small_default in
-    let saves = subst (λ (m : ℕ). Saves p n (record v { mode = m; acl = y; default_acl = z }) t3.sectors t4.sectors) c.with_bits.ensures c.in_ok-write_inode.ensures.saved in
-    made_empty p n v a y t0 t1 t2 c.requires.sound c.requires.clear c.in_ok-n.ensures.taken c.requires.blank c.kept_content.ensures.valid access
-    d z t3 t4 c.content_of.ensures.valid default fits saves
+returns-clause-empty g c = (is_made g c).empty
 
 pub returns-clause-access : goal.returns-clause-access
-returns-clause-access g c =
-    let p = c.args.place in
-    let v = c.args.inode.now in
-    let a = c.args.access.now in
-    let d = option_copied c.args.default in
-    let n = c.in_ok-n.n in
-    let y = c.in_ok-acl.acl in
-    let z = c.in_ok-default_acl.default_acl in
-    let t0 = g.S.Sectors.state c.args.s.now in
-    let t1 = g.S.Sectors.state c.take.new.s in
-    let t2 = g.S.Sectors.state c.store.new.s in
-    let t3 = g.S.Sectors.state c.store-2.new.s in
-    let t4 = g.S.Sectors.state c.write_inode.new.s in
-    let small : y < 2 ^ 32 = omega arith in
-    let small_default : z < 2 ^ 32 = omega arith in
-    let access = subst (λ content. Stores p 0 y content t1.sectors t2.sectors) c.kept_content.ensures.content c.in_ok-acl.ensures.stored in
-    let default = subst (λ content. Stores p 0 z content t2.sectors t3.sectors) c.content_of.ensures.content c.in_ok-default_acl.ensures.stored in
-    let fits = with_bits_fits v _ y z c.requires.fits c.requires.blank.used (empty_no_link v c.requires.fits c.requires.blank.size) (mode_small a) small small_default in
-    let saves = subst (λ (m : ℕ). Saves p n (record v { mode = m; acl = y; default_acl = z }) t3.sectors t4.sectors) c.with_bits.ensures c.in_ok-write_inode.ensures.saved in
-    made_access p n v a y t0 t1 t2 c.requires.sound c.requires.clear c.in_ok-n.ensures.taken c.requires.blank c.kept_content.ensures.valid access
-    d z t3 t4 c.content_of.ensures.valid default fits saves
+returns-clause-access g c = (is_made g c).access
 
 pub returns-clause-default : goal.returns-clause-default
-returns-clause-default g c =
-    let p = c.args.place in
-    let v = c.args.inode.now in
-    let a = c.args.access.now in
-    let d = option_copied c.args.default in
-    let n = c.in_ok-n.n in
-    let y = c.in_ok-acl.acl in
-    let z = c.in_ok-default_acl.default_acl in
-    let t0 = g.S.Sectors.state c.args.s.now in
-    let t1 = g.S.Sectors.state c.take.new.s in
-    let t2 = g.S.Sectors.state c.store.new.s in
-    let t3 = g.S.Sectors.state c.store-2.new.s in
-    let t4 = g.S.Sectors.state c.write_inode.new.s in
-    let small : y < 2 ^ 32 = omega arith in
-    let small_default : z < 2 ^ 32 = omega arith in
-    let access = subst (λ content. Stores p 0 y content t1.sectors t2.sectors) c.kept_content.ensures.content c.in_ok-acl.ensures.stored in
-    let default = subst (λ content. Stores p 0 z content t2.sectors t3.sectors) c.content_of.ensures.content c.in_ok-default_acl.ensures.stored in
-    let fits = with_bits_fits v _ y z c.requires.fits c.requires.blank.used (empty_no_link v c.requires.fits c.requires.blank.size) (mode_small a) small small_default in
-    let saves = subst (λ (m : ℕ). Saves p n (record v { mode = m; acl = y; default_acl = z }) t3.sectors t4.sectors) c.with_bits.ensures c.in_ok-write_inode.ensures.saved in
-    made_default p n v a y t0 t1 t2 c.requires.sound c.requires.clear c.in_ok-n.ensures.taken c.requires.blank c.kept_content.ensures.valid access
-    d z t3 t4 c.content_of.ensures.valid default fits saves
+returns-clause-default g c = (is_made g c).default
