@@ -5,7 +5,7 @@ use Rattle.bit_alloc.proofs.Transactions.{bitmaps_unchanged}
 use Rattle.bit_alloc.proofs.Soundness.{sound_then, spare_then}
 use Rattle.inode_table.proofs.Sound.{room_left}
 use Rattle.inode_table.proofs.StoredAcls.{acl_in_data, default_acl_in_data}
-use Rattle.block_map.proofs.Freeings.{cleared_puts, given_puts, access_puts, default_puts, may_change_then, all_freed}
+use Rattle.block_map.proofs.Freeings.{cleared_puts, given_puts, access_puts, default_puts, may_change_then, IsFreed, all_freed}
 use Rattle.block_map.proofs.free.free_all.Goals as goal
 
 pub give-requires-clause-bitmaps : goal.give-requires-clause-bitmaps
@@ -50,42 +50,27 @@ write_inode-requires-clause-room g c = λ none.
     c.in_ok-give_all.ensures.given c.in_ok-give_sector.ensures.puts c.in_ok-give_sector-2.ensures.puts in
     room_left c.args.place 1 t5 (spare_then c.args.place 0 1 (g.S.Sectors.state c.args.s.now) t5 (omega (arith, c.requires.spare)) puts) (omega arith)
 
-pub returns-clause-store : goal.returns-clause-store
-returns-clause-store g c =
+-- all that has come of it
+is_freed : (g : _) (c : goal.In_ok-write_inode g) → IsFreed c.args.place c.args.n (g.S.Sectors.state c.args.s.now) (g.S.Sectors.state c.write_inode.new.s)
+is_freed g c =
     let may = may_change_then c.requires.sound c.requires.number c.in_ok-inode.ensures.found c.in_ok-inode.ensures.same c.in_ok-give.ensures.given c.in_ok-give.ensures.puts c.requires.used c.in_ok-give.ensures.bitmaps in
-    let freed = all_freed c.requires.sound c.requires.number c.in_ok-inode.ensures.found c.in_ok-inode.ensures.same c.in_ok-give.ensures.given c.in_ok-give.ensures.puts c.in_ok-give_all.ensures.given
+    all_freed c.requires.sound c.requires.number c.in_ok-inode.ensures.found c.in_ok-inode.ensures.same c.in_ok-give.ensures.given c.in_ok-give.ensures.puts c.in_ok-give_all.ensures.given
     c.in_ok-give_sector.ensures.puts c.in_ok-give_sector-2.ensures.puts _ may c.in_ok-give_sector.ensures.given c.in_ok-give_sector-2.ensures.given
-    c.in_ok-write_inode.ensures.saved c.in_ok-write_inode.ensures.puts in
-    freed.touches.puts.store
+    c.in_ok-write_inode.ensures.saved c.in_ok-write_inode.ensures.puts
+
+pub returns-clause-store : goal.returns-clause-store
+returns-clause-store g c = (is_freed g c).touches.puts.store
 
 pub returns-clause-sound : goal.returns-clause-sound
 returns-clause-sound g c =
-    let may = may_change_then c.requires.sound c.requires.number c.in_ok-inode.ensures.found c.in_ok-inode.ensures.same c.in_ok-give.ensures.given c.in_ok-give.ensures.puts c.requires.used c.in_ok-give.ensures.bitmaps in
-    let freed = all_freed c.requires.sound c.requires.number c.in_ok-inode.ensures.found c.in_ok-inode.ensures.same c.in_ok-give.ensures.given c.in_ok-give.ensures.puts c.in_ok-give_all.ensures.given
-    c.in_ok-give_sector.ensures.puts c.in_ok-give_sector-2.ensures.puts _ may c.in_ok-give_sector.ensures.given c.in_ok-give_sector-2.ensures.given
-    c.in_ok-write_inode.ensures.saved c.in_ok-write_inode.ensures.puts in
-    sound_then c.args.place c.args.n 0 1 (g.S.Sectors.state c.args.s.now) (g.S.Sectors.state c.write_inode.new.s) c.requires.sound c.requires.number freed.touches
+    sound_then c.args.place c.args.n 0 1 (g.S.Sectors.state c.args.s.now) (g.S.Sectors.state c.write_inode.new.s) c.requires.sound c.requires.number
+    (is_freed g c).touches
 
 pub returns-clause-touches : goal.returns-clause-touches
-returns-clause-touches g c =
-    let may = may_change_then c.requires.sound c.requires.number c.in_ok-inode.ensures.found c.in_ok-inode.ensures.same c.in_ok-give.ensures.given c.in_ok-give.ensures.puts c.requires.used c.in_ok-give.ensures.bitmaps in
-    let freed = all_freed c.requires.sound c.requires.number c.in_ok-inode.ensures.found c.in_ok-inode.ensures.same c.in_ok-give.ensures.given c.in_ok-give.ensures.puts c.in_ok-give_all.ensures.given
-    c.in_ok-give_sector.ensures.puts c.in_ok-give_sector-2.ensures.puts _ may c.in_ok-give_sector.ensures.given c.in_ok-give_sector-2.ensures.given
-    c.in_ok-write_inode.ensures.saved c.in_ok-write_inode.ensures.puts in
-    freed.touches
+returns-clause-touches g c = (is_freed g c).touches
 
 pub returns-clause-free : goal.returns-clause-free
-returns-clause-free g c =
-    let may = may_change_then c.requires.sound c.requires.number c.in_ok-inode.ensures.found c.in_ok-inode.ensures.same c.in_ok-give.ensures.given c.in_ok-give.ensures.puts c.requires.used c.in_ok-give.ensures.bitmaps in
-    let freed = all_freed c.requires.sound c.requires.number c.in_ok-inode.ensures.found c.in_ok-inode.ensures.same c.in_ok-give.ensures.given c.in_ok-give.ensures.puts c.in_ok-give_all.ensures.given
-    c.in_ok-give_sector.ensures.puts c.in_ok-give_sector-2.ensures.puts _ may c.in_ok-give_sector.ensures.given c.in_ok-give_sector-2.ensures.given
-    c.in_ok-write_inode.ensures.saved c.in_ok-write_inode.ensures.puts in
-    freed.free
+returns-clause-free g c = (is_freed g c).free
 
 pub returns-clause-unused : goal.returns-clause-unused
-returns-clause-unused g c =
-    let may = may_change_then c.requires.sound c.requires.number c.in_ok-inode.ensures.found c.in_ok-inode.ensures.same c.in_ok-give.ensures.given c.in_ok-give.ensures.puts c.requires.used c.in_ok-give.ensures.bitmaps in
-    let freed = all_freed c.requires.sound c.requires.number c.in_ok-inode.ensures.found c.in_ok-inode.ensures.same c.in_ok-give.ensures.given c.in_ok-give.ensures.puts c.in_ok-give_all.ensures.given
-    c.in_ok-give_sector.ensures.puts c.in_ok-give_sector-2.ensures.puts _ may c.in_ok-give_sector.ensures.given c.in_ok-give_sector-2.ensures.given
-    c.in_ok-write_inode.ensures.saved c.in_ok-write_inode.ensures.puts in
-    freed.unused
+returns-clause-unused g c = (is_freed g c).unused

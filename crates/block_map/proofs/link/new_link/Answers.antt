@@ -1,7 +1,7 @@
 use Rattle.std.proofs.Common.{length, refl, sym, ◌∙◌, arith, inr}
 use Rattle.bit_alloc.proofs.Soundness.{free_kept, sound_then}
 use Rattle.inode_table.proofs.Made.{through_try}
-use Rattle.block_map.proofs.Linking.{link_fits, link_made}
+use Rattle.block_map.proofs.Linking.{link_fits, IsMade, link_made}
 use Rattle.block_map.proofs.Rewritten.{filled}
 use Rattle.block_map.proofs.link.new_link.Goals as goal
 
@@ -16,53 +16,34 @@ pub write_inode-requires-clause-fits : goal.write_inode-requires-clause-fits
 write_inode-requires-clause-fits g c =
     link_fits c.args.uid c.args.gid (length c.args.target.now) c.in_ok-link.field-0 (omega arith) (omega arith) c.requires.target.0 c.requires.target.1 (omega arith)
 
+-- all that the number returned stands for
+is_made : (g : _) (c : goal.In_ok-write_inode g) → IsMade c.args.place c.in_ok-n.n c.args.uid c.args.gid c.args.target.now
+    (g.S.Sectors.state c.args.s.now) (g.S.Sectors.state c.write_inode.new.s)
+is_made g c =
+    let fits = link_fits c.args.uid c.args.gid (length c.args.target.now) c.in_ok-link.field-0 (omega arith) (omega arith) c.requires.target.0 c.requires.target.1
+    (omega arith) in
+    link_made c.requires.sound c.in_ok-n.ensures.taken c.in_ok-n.ensures.puts c.in_ok-link.ensures.puts c.args.uid c.args.gid c.args.target.now _ c.requires.clear c.requires.target
+    (filled 0 c.copy_from_slice.ensures.after refl) c.in_ok-link.ensures.taken.1 fits c.in_ok-write_inode.ensures.saved c.in_ok-link.ensures.free c.in_ok-write_inode.ensures.puts
+
 pub returns-clause-sound : goal.returns-clause-sound
 returns-clause-sound g c =
-    let fits = link_fits c.args.uid c.args.gid (length c.args.target.now) c.in_ok-link.field-0 (omega arith) (omega arith) c.requires.target.0 c.requires.target.1
-    (omega arith) in
     sound_then c.args.place c.in_ok-n.n 1 2 (g.S.Sectors.state c.args.s.now) (g.S.Sectors.state c.write_inode.new.s) c.requires.sound
-    (c.in_ok-n.ensures.taken.free.0, c.in_ok-n.ensures.taken.free.1)
-    (link_made c.requires.sound c.in_ok-n.ensures.taken c.in_ok-n.ensures.puts c.in_ok-link.ensures.puts c.args.uid c.args.gid c.args.target.now _ c.requires.clear c.requires.target
-    (filled 0 c.copy_from_slice.ensures.after refl) c.in_ok-link.ensures.taken.1 fits c.in_ok-write_inode.ensures.saved c.in_ok-link.ensures.free c.in_ok-write_inode.ensures.puts).touches
+    (c.in_ok-n.ensures.taken.free.0, c.in_ok-n.ensures.taken.free.1) (is_made g c).touches
 
 pub returns-clause-touches : goal.returns-clause-touches
-returns-clause-touches g c =
-    let fits = link_fits c.args.uid c.args.gid (length c.args.target.now) c.in_ok-link.field-0 (omega arith) (omega arith) c.requires.target.0 c.requires.target.1
-    (omega arith) in
-    (link_made c.requires.sound c.in_ok-n.ensures.taken c.in_ok-n.ensures.puts c.in_ok-link.ensures.puts c.args.uid c.args.gid c.args.target.now _ c.requires.clear c.requires.target
-    (filled 0 c.copy_from_slice.ensures.after refl) c.in_ok-link.ensures.taken.1 fits c.in_ok-write_inode.ensures.saved c.in_ok-link.ensures.free c.in_ok-write_inode.ensures.puts).touches
+returns-clause-touches g c = (is_made g c).touches
 
 pub returns-clause-used : goal.returns-clause-used
-returns-clause-used g c =
-    let fits = link_fits c.args.uid c.args.gid (length c.args.target.now) c.in_ok-link.field-0 (omega arith) (omega arith) c.requires.target.0 c.requires.target.1
-    (omega arith) in
-    (link_made c.requires.sound c.in_ok-n.ensures.taken c.in_ok-n.ensures.puts c.in_ok-link.ensures.puts c.args.uid c.args.gid c.args.target.now _ c.requires.clear c.requires.target
-    (filled 0 c.copy_from_slice.ensures.after refl) c.in_ok-link.ensures.taken.1 fits c.in_ok-write_inode.ensures.saved c.in_ok-link.ensures.free c.in_ok-write_inode.ensures.puts).used
+returns-clause-used g c = (is_made g c).used
 
 pub returns-clause-fields : goal.returns-clause-fields
-returns-clause-fields g c =
-    let fits = link_fits c.args.uid c.args.gid (length c.args.target.now) c.in_ok-link.field-0 (omega arith) (omega arith) c.requires.target.0 c.requires.target.1
-    (omega arith) in
-    (link_made c.requires.sound c.in_ok-n.ensures.taken c.in_ok-n.ensures.puts c.in_ok-link.ensures.puts c.args.uid c.args.gid c.args.target.now _ c.requires.clear c.requires.target
-    (filled 0 c.copy_from_slice.ensures.after refl) c.in_ok-link.ensures.taken.1 fits c.in_ok-write_inode.ensures.saved c.in_ok-link.ensures.free c.in_ok-write_inode.ensures.puts).fields
+returns-clause-fields g c = (is_made g c).fields
 
 pub returns-clause-acls : goal.returns-clause-acls
-returns-clause-acls g c =
-    let fits = link_fits c.args.uid c.args.gid (length c.args.target.now) c.in_ok-link.field-0 (omega arith) (omega arith) c.requires.target.0 c.requires.target.1
-    (omega arith) in
-    (link_made c.requires.sound c.in_ok-n.ensures.taken c.in_ok-n.ensures.puts c.in_ok-link.ensures.puts c.args.uid c.args.gid c.args.target.now _ c.requires.clear c.requires.target
-    (filled 0 c.copy_from_slice.ensures.after refl) c.in_ok-link.ensures.taken.1 fits c.in_ok-write_inode.ensures.saved c.in_ok-link.ensures.free c.in_ok-write_inode.ensures.puts).acls
+returns-clause-acls g c = (is_made g c).acls
 
 pub returns-clause-holds : goal.returns-clause-holds
-returns-clause-holds g c =
-    let fits = link_fits c.args.uid c.args.gid (length c.args.target.now) c.in_ok-link.field-0 (omega arith) (omega arith) c.requires.target.0 c.requires.target.1
-    (omega arith) in
-    (link_made c.requires.sound c.in_ok-n.ensures.taken c.in_ok-n.ensures.puts c.in_ok-link.ensures.puts c.args.uid c.args.gid c.args.target.now _ c.requires.clear c.requires.target
-    (filled 0 c.copy_from_slice.ensures.after refl) c.in_ok-link.ensures.taken.1 fits c.in_ok-write_inode.ensures.saved c.in_ok-link.ensures.free c.in_ok-write_inode.ensures.puts).holds
+returns-clause-holds g c = (is_made g c).holds
 
 pub returns-clause-whole : goal.returns-clause-whole
-returns-clause-whole g c =
-    let fits = link_fits c.args.uid c.args.gid (length c.args.target.now) c.in_ok-link.field-0 (omega arith) (omega arith) c.requires.target.0 c.requires.target.1
-    (omega arith) in
-    (link_made c.requires.sound c.in_ok-n.ensures.taken c.in_ok-n.ensures.puts c.in_ok-link.ensures.puts c.args.uid c.args.gid c.args.target.now _ c.requires.clear c.requires.target
-    (filled 0 c.copy_from_slice.ensures.after refl) c.in_ok-link.ensures.taken.1 fits c.in_ok-write_inode.ensures.saved c.in_ok-link.ensures.free c.in_ok-write_inode.ensures.puts).whole
+returns-clause-whole g c = (is_made g c).whole
