@@ -1,28 +1,15 @@
 use Rattle.std.proofs.Common.{ap, ◌∙◌, arith, refl, subst, []}
-use Rattle.fs_layout.specs.Bytes.{SectorMap, zeros}
+use Rattle.fs_layout.specs.Bytes.{SectorMap}
 use Rattle.fs_layout.specs.Images.{Holds, inode_at}
+use Rattle.fs_layout.specs.declared.inode.Kind.TheVariants.{File}
 use Rattle.fs_layout.specs.Inode.{inode_fits}
-use Rattle.fs_layout.proofs.SplicedBytes.{get_or-zeros}
 use Rattle.bit_alloc.proofs.Transactions.{map_unchanged, unchanged_joined}
-use Rattle.inode_table.proofs.Lives.{sound_unchanged}
+use Rattle.inode_table.proofs.Lives.{new_fits, sound_unchanged}
 use Rattle.inode_table.proofs.tests.calls.made.Goals as goal
 
 pub new_inode-requires-clause-fits : goal.new_inode-requires-clause-fits
-unfolding inode_fits zeros
-new_inode-requires-clause-fits g c = record {
-  valid = record { numbers = refl; free = λ e. cc };
-  mode = omega arith;
-  uid = omega arith;
-  gid = omega arith;
-  names = omega arith;
-  size = omega arith;
-  parent = omega arith;
-  acl = omega arith;
-  default_acl = omega arith;
-  direct_len = refl;
-  direct = λ i. let e = get_or-zeros 12 i in omega (arith, e);
-  indirect = omega arith;
-}
+unfolding inode_fits
+new_inode-requires-clause-fits g c = new_fits File 0o640 0 (record { numbers = refl; free = λ e. cc }) (omega arith) (omega arith)
 
 pub load_acl-requires-clause-sound : goal.load_acl-requires-clause-sound
 load_acl-requires-clause-sound g c =
