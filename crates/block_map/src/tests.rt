@@ -10,13 +10,11 @@ ghost use Rattle.bit_alloc.specs.Room.{HasSpare};
 mod links;
 
 use crate::{overwrite, read_at, release_all, set_size, write_at};
-use blank_map::{is_blank, put_blank};
-use fs_layout::{Commit, Inode, Kind, Place, place_of};
+use blank_map::{Counted, idle_store, is_blank, put_blank};
+use fs_layout::{Inode, Kind, Place, place_of};
 use inode_table::{load, new_inode};
 use posix_acl::Acl;
-use redo_journal::Journal;
-use sector_disk::{Disk, DiskFault, MemDisk};
-use sector_txn::{Sectors, Store};
+use sector_txn::Sectors;
 use std::alloc::Global;
 use std::test::Fail;
 
@@ -24,31 +22,6 @@ use std::test::Fail;
 const SECTORS: u32 = 1024;
 
 const INODES: u32 = 16;
-
-// A transaction that counts its reads and puts.
-struct Counted<S> {
-    inner: S,
-    gets: u32,
-    puts: u32,
-}
-
-impl<S: Sectors> Sectors for Counted<S> {
-    ghost state = { λ c. S.state c.inner };
-
-    fn get(&mut self, n: u32, to: &mut [u8; 512]) -> Result<(), DiskFault> {
-        self.gets = self.gets.saturating_add(1);
-        self.inner.get(n, to)
-    }
-
-    fn put(&mut self, n: u32, from: &[u8; 512]) {
-        self.puts = self.puts.saturating_add(1);
-        self.inner.put(n, from);
-    }
-
-    fn room(&self) -> usize {
-        self.inner.room()
-    }
-}
 
 #[derive(Clone, Copy)]
 enum Call {
@@ -175,31 +148,6 @@ fn agreed_on_blank<S: Sectors>(
     agreed(s, place, n, rows)
 }
 
-// A disk of zeros, but for an idle commit sector.
-fn idle_disk(alloc: Global) -> Result<MemDisk, Fail> {
-    let mut disk = MemDisk::new(alloc, SECTORS)?;
-    let mut commit = [0; 512];
-    Commit::idle().write_to(&mut commit, 0);
-    disk.write(1, &commit)?;
-    disk.sync()?;
-    Ok(disk)
-}
-
-fn opened<D: Disk + Drop>(alloc: Global, disk: D) -> Result<Store<D>, Fail>
-    ensures { IfOk result (λ store. (D.state store.disk).size ≡ SECTORS) }
-{
-    if disk.size() != SECTORS {
-        return Err(Fail::new("another size"));
-    }
-    match Journal::open(disk) {
-        Ok(journal) => match Store::new(alloc, journal) {
-            Ok(store) => Ok(store),
-            Err(_) => Err(Fail::new("no memory")),
-        },
-        Err(_) => Err(Fail::new("not opened")),
-    }
-}
-
 // The same on a new disk.
 fn agreed_on_disk(alloc: Global, rows: &[Row]) -> Result<usize, Fail> {
     let Ok(access) = Acl::parse_text(alloc, b"user::rw-,group::r--,other::---") else {
@@ -209,19 +157,10 @@ fn agreed_on_disk(alloc: Global, rows: &[Row]) -> Result<usize, Fail> {
     if place.sectors != SECTORS {
         return Err(Fail::new("another size"));
     }
-    let store = opened(alloc, idle_disk(alloc)?)?;
-    let mut s = Counted {
-        inner: store.begin(),
-        gets: 0,
-        puts: 0,
-    };
+    let store = idle_store(alloc, SECTORS).ok_or("no store")?;
+    let mut s = Counted::new(store.begin());
     let seen = agreed_on_blank(&mut s, place, &access, rows);
-    let Counted {
-        inner,
-        gets: _,
-        puts: _,
-    } = s;
-    let _store = inner.drop_delta();
+    let _store = s.into_inner().drop_delta();
     seen
 }
 

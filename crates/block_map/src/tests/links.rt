@@ -8,10 +8,10 @@ ghost use Rattle.bit_alloc.specs.Inodes.{IsSound};
 ghost use Rattle.bit_alloc.specs.Room.{HasSpare};
 ghost use Rattle.inode_table.specs.Inodes.{ClearAreFree};
 
-use crate::tests::{Counted, INODES, SECTORS, idle_disk, opened};
+use crate::tests::{INODES, SECTORS};
 use crate::{free_all, new_link};
 use bit_alloc::{Bitmap, count_free};
-use blank_map::{is_blank, put_blank};
+use blank_map::{Counted, idle_store, is_blank, put_blank};
 use fs_layout::{Place, place_of};
 use sector_txn::Sectors;
 use std::alloc::Global;
@@ -77,19 +77,10 @@ fn life_on_disk(alloc: Global, target: &[u8]) -> Result<Life, Fail> {
     if place.sectors != SECTORS {
         return Err(Fail::new("another size"));
     }
-    let store = opened(alloc, idle_disk(alloc)?)?;
-    let mut s = Counted {
-        inner: store.begin(),
-        gets: 0,
-        puts: 0,
-    };
+    let store = idle_store(alloc, SECTORS).ok_or("no store")?;
+    let mut s = Counted::new(store.begin());
     let seen = life_on_blank(&mut s, place, target);
-    let Counted {
-        inner,
-        gets: _,
-        puts: _,
-    } = s;
-    let _store = inner.drop_delta();
+    let _store = s.into_inner().drop_delta();
     seen
 }
 

@@ -1,6 +1,7 @@
-use Rattle.std.proofs.Common.{refl, ◌≡◌, ◌+◌, length, sym, ap, subst, ◌∙◌, arith, Err}
+use Rattle.std.proofs.Common.{refl, ◌≡◌, ◌≤◌, ◌+◌, length, sym, ap, subst, ◌∙◌, arith, Err}
 use Rattle.fs_layout.specs.Bytes.{zeros}
 use Rattle.fs_layout.specs.declared.inode.Inode.{Inode}
+use Rattle.fs_layout.specs.declared.inode.TheConstants.{MAX_FILE_SIZE}
 use Rattle.sector_txn.proofs.TransactionRuns.{store_joined}
 use Rattle.bit_alloc.proofs.Transactions.{spare_unchanged}
 use Rattle.block_map.specs.declared.fault.MapFault.TheVariants.{Full}
@@ -58,13 +59,18 @@ write_inode-requires-clause-room g c = λ none.
     let spare = spare_unchanged c.args.place (put_by c.args.offset (length c.args.bytes.now)) _ _ c.requires.spare c.in_ok-load.ensures.same in
     omega (arith, spare, c.in_ok-write_blocks.ensures.written.puts.room)
 
+-- the size that the inode is to have
+allowed : (g : _) (c : goal.After-inode-1 g) → AllowsSize c.args.inode.now.kind c.max-blocks.result
+allowed g c = subst (AllowsSize c.args.inode.now.kind) (sym c.max-blocks.ensures) c.requires.size
+
+limited : (g : _) (c : goal.After-inode-1 g) → c.max-blocks.result ≤ MAX_FILE_SIZE
+limited g c =
+    limit_at c.max-blocks.result c.args.inode.now.size c.args.offset (length c.args.bytes.now) c.max_file_size.result c.max-blocks.ensures c.if-offset-max_file_size.false c.requires.few (omega (arith, c.max_file_size.ensures.least)) c.max_file_size.ensures.most (size_limit c.max-blocks.result c.requires.sound c.requires.below c.requires.inode (allowed g c))
+
 ended : (g : _) (c : goal.After-inode-1 g) → IsEnded c.args.place c.args.n (taken_by (g.S.Sectors.state c.args.s.now).sectors c.args.inode.now c.args.offset (length c.args.bytes.now)) (put_by c.args.offset (length c.args.bytes.now))
     (g.S.Sectors.state c.args.s.now) (g.S.Sectors.state c.write_blocks.new.s) (g.S.Sectors.state c.write_inode.new.s) c.args.inode.now c.write_blocks.new.blocks.inode
 ended g c =
-    let v = c.args.inode.now in
-    let is : c.max-blocks.result ≡ max v.size (c.args.offset + length c.args.bytes.now) = c.max-blocks.ensures in
-    let allowed : AllowsSize v.kind c.max-blocks.result = subst (AllowsSize v.kind) (sym is) c.requires.size in
-    wrote c.requires.sound c.requires.below c.requires.inode allowed (limit_at c.max-blocks.result v.size c.args.offset (length c.args.bytes.now) c.max_file_size.result c.max-blocks.ensures c.if-offset-max_file_size.false c.requires.few (omega (arith, c.max_file_size.ensures.least)) c.max_file_size.ensures.most (size_limit c.max-blocks.result c.requires.sound c.requires.below c.requires.inode allowed)) c.requires.few is c.in_ok-load.ensures.same c.in_ok-load.ensures.inode
+    wrote c.requires.sound c.requires.below c.requires.inode (allowed g c) (limited g c) c.requires.few c.max-blocks.ensures c.in_ok-load.ensures.same c.in_ok-load.ensures.inode
     c.in_ok-write_blocks.ensures.written c.in_ok-write_inode.ensures.saved c.in_ok-write_inode.ensures.puts
 
 pub returns-clause-change : goal.returns-clause-change
@@ -72,18 +78,12 @@ returns-clause-change g c = (ended g c).content
 
 pub returns-clause-held : goal.returns-clause-held
 returns-clause-held g c =
-    let v = c.args.inode.now in
-    let is : c.max-blocks.result ≡ max v.size (c.args.offset + length c.args.bytes.now) = c.max-blocks.ensures in
-    let allowed : AllowsSize v.kind c.max-blocks.result = subst (AllowsSize v.kind) (sym is) c.requires.size in
-    wrote_held c.requires.sound c.requires.below c.requires.inode allowed (limit_at c.max-blocks.result v.size c.args.offset (length c.args.bytes.now) c.max_file_size.result c.max-blocks.ensures c.if-offset-max_file_size.false c.requires.few (omega (arith, c.max_file_size.ensures.least)) c.max_file_size.ensures.most (size_limit c.max-blocks.result c.requires.sound c.requires.below c.requires.inode allowed)) c.requires.few is c.in_ok-load.ensures.same c.in_ok-load.ensures.inode
+    wrote_held c.requires.sound c.requires.below c.requires.inode (allowed g c) (limited g c) c.requires.few c.max-blocks.ensures c.in_ok-load.ensures.same c.in_ok-load.ensures.inode
     c.in_ok-write_blocks.ensures.written (ended g c)
 
 pub returns-clause-whole : goal.returns-clause-whole
 returns-clause-whole g c =
-    let v = c.args.inode.now in
-    let is : c.max-blocks.result ≡ max v.size (c.args.offset + length c.args.bytes.now) = c.max-blocks.ensures in
-    let allowed : AllowsSize v.kind c.max-blocks.result = subst (AllowsSize v.kind) (sym is) c.requires.size in
-    wrote_whole c.requires.sound c.requires.below c.requires.inode allowed (limit_at c.max-blocks.result v.size c.args.offset (length c.args.bytes.now) c.max_file_size.result c.max-blocks.ensures c.if-offset-max_file_size.false c.requires.few (omega (arith, c.max_file_size.ensures.least)) c.max_file_size.ensures.most (size_limit c.max-blocks.result c.requires.sound c.requires.below c.requires.inode allowed)) c.requires.few is c.in_ok-load.ensures.same c.in_ok-load.ensures.inode
+    wrote_whole c.requires.sound c.requires.below c.requires.inode (allowed g c) (limited g c) c.requires.few c.max-blocks.ensures c.in_ok-load.ensures.same c.in_ok-load.ensures.inode
     c.in_ok-write_blocks.ensures.written (ended g c)
 
 pub returns-clause-taken : goal.returns-clause-taken
