@@ -8,13 +8,11 @@ ghost use Rattle.bit_alloc.specs.Inodes.{IsSound};
 ghost use Rattle.bit_alloc.specs.Room.{HasSpare};
 
 use crate::{DirFault, insert, is_empty, list, lookup, remove, rename, replace};
-use blank_map::{is_blank, put_blank};
-use fs_layout::{Commit, Inode, Kind, Place, is_name, place_of};
+use blank_map::{Counted, idle_store, is_blank, put_blank};
+use fs_layout::{Inode, Kind, Place, is_name, place_of};
 use inode_table::{load, new_inode};
 use posix_acl::Acl;
-use redo_journal::Journal;
-use sector_disk::{Disk, DiskFault, MemDisk};
-use sector_txn::{Sectors, Store};
+use sector_txn::Sectors;
 use std::alloc::Global;
 use std::test::Fail;
 
@@ -22,31 +20,6 @@ use std::test::Fail;
 const SECTORS: u32 = 1024;
 
 const INODES: u32 = 16;
-
-// A transaction that counts its reads and puts.
-struct Counted<S> {
-    inner: S,
-    gets: u32,
-    puts: u32,
-}
-
-impl<S: Sectors> Sectors for Counted<S> {
-    ghost state = { λ c. S.state c.inner };
-
-    fn get(&mut self, n: u32, to: &mut [u8; 512]) -> Result<(), DiskFault> {
-        self.gets = self.gets.saturating_add(1);
-        self.inner.get(n, to)
-    }
-
-    fn put(&mut self, n: u32, from: &[u8; 512]) {
-        self.puts = self.puts.saturating_add(1);
-        self.inner.put(n, from);
-    }
-
-    fn room(&self) -> usize {
-        self.inner.room()
-    }
-}
 
 #[derive(Clone, Copy)]
 enum Call {
@@ -192,31 +165,6 @@ fn seen_on_blank<S: Sectors>(
     Ok((given, s.gets, s.puts))
 }
 
-// A disk of zeros, but for an idle commit sector.
-fn idle_disk(alloc: Global) -> Result<MemDisk, Fail> {
-    let mut disk = MemDisk::new(alloc, SECTORS)?;
-    let mut commit = [0; 512];
-    Commit::idle().write_to(&mut commit, 0);
-    disk.write(1, &commit)?;
-    disk.sync()?;
-    Ok(disk)
-}
-
-fn opened<D: Disk + Drop>(alloc: Global, disk: D) -> Result<Store<D>, Fail>
-    ensures { IfOk result (λ store. (D.state store.disk).size ≡ SECTORS) }
-{
-    if disk.size() != SECTORS {
-        return Err(Fail::new("another size"));
-    }
-    match Journal::open(disk) {
-        Ok(journal) => match Store::new(alloc, journal) {
-            Ok(store) => Ok(store),
-            Err(_) => Err(Fail::new("no memory")),
-        },
-        Err(_) => Err(Fail::new("not opened")),
-    }
-}
-
 // The same on a new disk.
 fn seen_on_disk(alloc: Global, row: &Row) -> Result<Seen, Fail> {
     let Ok(access) = Acl::parse_text(alloc, b"user::rwx,group::r-x,other::---") else {
@@ -226,19 +174,10 @@ fn seen_on_disk(alloc: Global, row: &Row) -> Result<Seen, Fail> {
     if place.sectors != SECTORS {
         return Err(Fail::new("another size"));
     }
-    let store = opened(alloc, idle_disk(alloc)?)?;
-    let mut s = Counted {
-        inner: store.begin(),
-        gets: 0,
-        puts: 0,
-    };
+    let store = idle_store(alloc, SECTORS).ok_or("no store")?;
+    let mut s = Counted::new(store.begin());
     let seen = seen_on_blank(alloc, &mut s, place, &access, row);
-    let Counted {
-        inner,
-        gets: _,
-        puts: _,
-    } = s;
-    let _store = inner.drop_delta();
+    let _store = s.into_inner().drop_delta();
     seen
 }
 
