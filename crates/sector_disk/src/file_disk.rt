@@ -7,7 +7,7 @@ ghost use Rattle.sector_disk.specs.Replay.{seen_is_image, counts_now, only_now};
 ghost use Rattle.sector_disk.specs.Whole.{whole_sectors};
 ghost use Rattle.sector_disk.specs.declared.file_disk.FileFault.TheVariants.{Exists, OutOfMemory};
 
-use crate::{Disk, DiskFault, MemDisk};
+use crate::{Disk, DiskFault, Lockable, MemDisk};
 use std::alloc::{AllocError, Global};
 use std::fs::{self, OpenFile, OpenOptions};
 use std::io::{self, ErrorKind, Read, Seek, SeekFrom, Write};
@@ -22,7 +22,7 @@ const MAX_SECTORS: u32 = 65_537;
 pub enum FileFault {
     /// There is a file of that name already: only where one is to be made.
     Exists,
-    /// The file can't be opened or made, measured, read or synced.
+    /// The file can't be opened or made, locked, measured, read or synced.
     Failed,
     /// Memory ran out.
     OutOfMemory,
@@ -42,8 +42,9 @@ impl From<AllocError> for FileFault {
 /// sector, or past sector 65,536, aren't touched. A seek, a write or a sync of the file that fails is a failure of the
 /// disk. What the file lacks then is written to it again before the next write or sync does anything else.
 ///
-/// As long as this lives, nobody else may write to the file, cut it or remove it, and a write of 512 bytes to it is
-/// done or not done, whenever the machine stops: no clause holds otherwise.
+/// As long as this lives, it holds the file's lock. What is read and written here is the disk's where nobody else writes to
+/// the file, cuts it or removes it meanwhile, without asking for the lock; and a write of 512 bytes to it is done or not
+/// done, whenever the machine stops: no clause holds otherwise.
 #[derive(Drop)]
 pub struct FileDisk<F> {
     // What reads give and what a stop may leave.
@@ -54,8 +55,9 @@ pub struct FileDisk<F> {
     behind_end: u32,
 }
 
-impl<F: Read + Write + Seek + OpenFile + Drop> FileDisk<F> {
-    /// The disk in a file that is there. What it has is synced first, and so is stable.
+impl<F: Read + Write + Seek + OpenFile + Lockable + Drop> FileDisk<F> {
+    /// The disk in a file that is there. What it has is synced first, and so is stable. Where another disk has the file's
+    /// lock, this fails, and the file is neither read nor written.
     ///
     /// The number of sectors is that of whole ones in the file, and at most 65,537.
     pub fn open<R: Files<File = F>, P: AsPath>(
@@ -75,7 +77,7 @@ impl<F: Read + Write + Seek + OpenFile + Drop> FileDisk<F> {
         }
     }
 
-    /// A disk of zeros in a new file of so many sectors, synced. Where that fails, the file is removed again.
+    /// A disk of zeros in a new file of so many sectors, locked and synced. Where that fails, the file is removed again.
     pub fn create<R: Files<File = F>, P: AsPath>(
         rt: &R,
         alloc: Global,
@@ -102,6 +104,10 @@ impl<F: Read + Write + Seek + OpenFile + Drop> FileDisk<F> {
         ensures fault { IfErr result (λ fault. fault ≢ Exists) }
     {
         let mut file = file;
+        // Nothing of the file is known before this.
+        if file.try_lock().is_err() {
+            return Err(FileFault::Failed);
+        }
         let memory = boxed(alloc, load(alloc, &mut file)?)?;
         Ok(FileDisk {
             memory,
@@ -134,13 +140,16 @@ impl<F: Read + Write + Seek + OpenFile + Drop> FileDisk<F> {
     }
 }
 
-// A new file of so many zeros, synced.
-fn new_file<R: Files, P: AsPath>(rt: &R, path: P, len: u64) -> Result<R::File, FileFault> {
+// A new file of so many zeros, locked and synced.
+fn new_file<R: Files, P: AsPath>(rt: &R, path: P, len: u64) -> Result<R::File, FileFault>
+where
+    R::File: Lockable,
+{
     let mut how = OpenOptions::new();
     how.read(true).write(true).create_new(true);
     match how.open(rt, path.path_text()) {
         Ok(file) => {
-            if lengthen(&file, len).is_ok() {
+            if prepare(&file, len).is_ok() {
                 return Ok(file);
             }
             let _ = fs::remove_file(rt, path.path_text());
@@ -151,7 +160,9 @@ fn new_file<R: Files, P: AsPath>(rt: &R, path: P, len: u64) -> Result<R::File, F
     }
 }
 
-fn lengthen<F: OpenFile>(file: &F, len: u64) -> io::Result<()> {
+// The lock may be taken: by a program that has opened the new file meanwhile, and finds it empty.
+fn prepare<F: OpenFile + Lockable>(file: &F, len: u64) -> io::Result<()> {
+    file.try_lock()?;
     file.set_len(len)?;
     file.sync_all()
 }
@@ -199,7 +210,7 @@ fn read_sectors<F: Read>(file: &mut F, sectors: &mut [[u8; 512]]) -> io::Result<
     Ok(())
 }
 
-impl<F: Read + Write + Seek + OpenFile + Drop> Disk for FileDisk<F> {
+impl<F: Read + Write + Seek + OpenFile + Lockable + Drop> Disk for FileDisk<F> {
     ghost state = { λ disk. recorded_state disk.memory.value.history disk.memory.value.failures };
 
     ghost size_fits = { λ disk. disk.memory.value.small };

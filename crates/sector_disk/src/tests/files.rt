@@ -1,7 +1,7 @@
 //! Disks in files of this machine, and in files that fail.
 
 use super::{Call, first_byte, four_calls};
-use crate::{Disk, FileDisk, FileFault};
+use crate::{Disk, FileDisk, FileFault, Lockable};
 use std::cell::Cell;
 use std::fs::{self, File, Metadata, OpenFile, OpenOptions};
 use std::io::{self, ErrorKind, Read, Seek, SeekFrom, Write};
@@ -9,7 +9,7 @@ use std::path::{Path, PathBuf};
 use std::test::Fail;
 use std::{env, process};
 
-// A file that fails some of its seeks, writes and syncs: so many of them, from the one of this number on.
+// A file that fails some of its locks, seeks, writes and syncs: so many of them, from the one of this number on.
 #[derive(Drop)]
 struct Flaky {
     file: File,
@@ -72,6 +72,13 @@ impl OpenFile for Flaky {
     }
 }
 
+impl Lockable for Flaky {
+    fn try_lock(&self) -> io::Result<()> {
+        self.pass()?;
+        Lockable::try_lock(&self.file)
+    }
+}
+
 // A path of this process alone.
 fn scratch(rt: &HostRuntime, what: &str) -> Result<PathBuf, Fail> {
     let process = process::id(rt.process());
@@ -101,6 +108,9 @@ enum Step {
     Zeros(u64),
     // A file of three sectors and 100 bytes, all of them 7, and the disk in it.
     Sevens,
+    // The disk in a new file, or in one that is there; and while it lives, another disk of that file.
+    CreateTwice,
+    OpenTwice,
     // Writes two sectors of the disk, with a sync between them.
     Write,
     // The file's length, and three of the bytes past its third sector.
@@ -111,6 +121,8 @@ fn take_step(rt: &HostRuntime, path: Path<'_>, step: Step) -> Result<Seen, FileF
     match step {
         Step::Create => Ok(see(&mut FileDisk::create(rt, rt.alloc(), path, 4)?)),
         Step::Open => opened(rt, path),
+        Step::CreateTwice => second(rt, path, FileDisk::create(rt, rt.alloc(), path, 4)?),
+        Step::OpenTwice => second(rt, path, FileDisk::open(rt, rt.alloc(), path)?),
         Step::Zeros(len) => zeros(rt, path, len),
         Step::Sevens => sevens(rt, path),
         Step::Write => written(rt, path),
@@ -120,6 +132,13 @@ fn take_step(rt: &HostRuntime, path: Path<'_>, step: Step) -> Result<Seen, FileF
 
 fn opened(rt: &HostRuntime, path: Path<'_>) -> Result<Seen, FileFault> {
     Ok(see(&mut FileDisk::open(rt, rt.alloc(), path)?))
+}
+
+// What a second disk of a file comes to, while the first is there.
+fn second(rt: &HostRuntime, path: Path<'_>, first: FileDisk<File>) -> Result<Seen, FileFault> {
+    let second = opened(rt, path);
+    let _ = first.size();
+    second
 }
 
 fn zeros(rt: &HostRuntime, path: Path<'_>, len: u64) -> Result<Seen, FileFault> {
@@ -182,11 +201,13 @@ fn a_file_keeps_its_sectors(rt: HostRuntime) -> Result<(), Fail> {
         path.as_path(),
         &[
             (Step::Open, Err(FileFault::Failed)),
-            (Step::Create, Ok((4, [0, 0, 0]))),
+            (Step::CreateTwice, Err(FileFault::Failed)),
             (Step::Create, Err(FileFault::Exists)),
             (Step::Open, Ok((4, [0, 0, 0]))),
             (Step::Sevens, Ok((3, [7, 7, 7]))),
+            (Step::OpenTwice, Err(FileFault::Failed)),
             (Step::Write, Ok((3, [7, 1, 3]))),
+            (Step::OpenTwice, Err(FileFault::Failed)),
             (Step::Open, Ok((3, [7, 1, 3]))),
             (Step::Tail, Ok((1636, [7, 7, 7]))),
             (Step::Zeros(511), Ok((0, [255, 255, 255]))),
@@ -214,15 +235,19 @@ fn fail(
         return Err(FileFault::Failed);
     };
     let calls = Cell::new(0);
-    let mut disk = FileDisk::over(
-        rt.alloc(),
-        Flaky {
-            file,
-            first,
-            count,
-            calls,
-        },
-    )?;
+    let flaky = Flaky {
+        file,
+        first,
+        count,
+        calls,
+    };
+    let (passed, failures, read) = fail_calls(rt, flaky)?;
+    Ok((passed, failures, read, opened(rt, path)?))
+}
+
+// The same but for the file, which is closed then.
+fn fail_calls(rt: &HostRuntime, file: Flaky) -> Result<([bool; 4], u64, Seen), FileFault> {
+    let mut disk = FileDisk::over(rt.alloc(), file)?;
     let calls = [
         Call::Write(0, 1),
         Call::Write(1, 2),
@@ -230,58 +255,59 @@ fn fail(
         Call::Write(2, 3),
     ];
     let passed = four_calls(&mut disk, calls);
-    Ok((passed, disk.failures(), see(&mut disk), opened(rt, path)?))
+    Ok((passed, disk.failures(), see(&mut disk)))
 }
 
-// Where the file isn't failing: a sync when it is opened, then a seek and a write for each write. The first call that
-// fails and how many do; the disk's failures and which calls pass; what reads give, and what the file has.
+// Where the file isn't failing: a lock and a sync when it is opened, then a seek and a write for each write. The first
+// call that fails and how many do; the disk's failures and which calls pass; what reads give, and what the file has.
 type Failing = (
     u64,
     u64,
     Result<([bool; 4], u64, [u8; 3], [u8; 3]), FileFault>,
 );
 
-const FAILING: [Failing; 9] = [
+const FAILING: [Failing; 10] = [
     (0, 1, Err(FileFault::Failed)),
+    (1, 1, Err(FileFault::Failed)),
     (
-        1,
+        2,
         1,
         Ok(([false, true, true, true], 1, [1, 2, 3], [1, 2, 3])),
     ),
     (
-        2,
+        3,
         1,
         Ok(([false, true, true, true], 1, [1, 2, 3], [1, 2, 3])),
     ),
     // What the file lacks can't be written again: the second write isn't begun.
     (
-        2,
+        3,
         2,
         Ok(([false, false, true, true], 2, [1, 0, 3], [1, 0, 3])),
     ),
     (
-        2,
+        3,
         3,
         Ok(([false, false, false, true], 3, [1, 0, 3], [1, 0, 3])),
     ),
     (
-        5,
+        6,
         1,
         Ok(([true, true, false, true], 1, [1, 2, 3], [1, 2, 3])),
     ),
     // The last call would write all three sectors again.
     (
-        5,
+        6,
         2,
         Ok(([true, true, false, false], 2, [1, 2, 0], [1, 2, 0])),
     ),
     (
-        7,
+        8,
         1,
         Ok(([true, true, true, false], 1, [1, 2, 3], [1, 2, 0])),
     ),
     (
-        8,
+        9,
         1,
         Ok(([true, true, true, true], 0, [1, 2, 3], [1, 2, 3])),
     ),
