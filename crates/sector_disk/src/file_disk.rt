@@ -42,9 +42,9 @@ impl From<AllocError> for FileFault {
 /// sector, or past sector 65,536, aren't touched. A seek, a write or a sync of the file that fails is a failure of the
 /// disk. What the file lacks then is written to it again before the next write or sync does anything else.
 ///
-/// As long as this lives, it holds the file's lock. What is read and written here is the disk's where nobody else writes to
-/// the file, cuts it or removes it meanwhile, without asking for the lock; and a write of 512 bytes to it is done or not
-/// done, whenever the machine stops: no clause holds otherwise.
+/// As long as this lives, it holds the file's lock, so that no other disk is in the file. Nor may anybody who doesn't ask for
+/// the lock write to the file, cut it or remove it, and a write of 512 bytes to it is done or not done, whenever the machine
+/// stops: no clause holds otherwise.
 #[derive(Drop)]
 pub struct FileDisk<F> {
     // What reads give and what a stop may leave.
@@ -104,7 +104,7 @@ impl<F: Read + Write + Seek + OpenFile + Lockable + Drop> FileDisk<F> {
         ensures fault { IfErr result (λ fault. fault ≢ Exists) }
     {
         let mut file = file;
-        // Nothing of the file is known before this.
+        // Before this another disk may be in the file.
         if file.try_lock().is_err() {
             return Err(FileFault::Failed);
         }
@@ -141,10 +141,11 @@ impl<F: Read + Write + Seek + OpenFile + Lockable + Drop> FileDisk<F> {
 }
 
 // A new file of so many zeros, locked and synced.
-fn new_file<R: Files, P: AsPath>(rt: &R, path: P, len: u64) -> Result<R::File, FileFault>
-where
-    R::File: Lockable,
-{
+fn new_file<R: Files<File: Lockable>, P: AsPath>(
+    rt: &R,
+    path: P,
+    len: u64,
+) -> Result<R::File, FileFault> {
     let mut how = OpenOptions::new();
     how.read(true).write(true).create_new(true);
     match how.open(rt, path.path_text()) {
