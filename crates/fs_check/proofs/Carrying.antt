@@ -115,6 +115,23 @@ pub rule_passed : {T : Type 0} (old mid new : DiskState) {p : Place} {targets : 
 rule_passed old mid new {p} r k is reads opened before q x =
     passed_on (IsLeast p r) IsFirst old mid new reads (reason_of_rule new r k is reads opened before) q x
 
+pub on_ok : {T E P Q : Type 0} (r : Result T E) → OnOk r P → (P → Q) → OnOk r Q
+on_ok (Ok x) p f = f p
+on_ok (Err e) p f = tt
+
+-- two rules, one after the other
+module _ {T : Type 0} (old mid new : DiskState) {p : Place} {targets : List ℕ} (r q : ImageRule) (k : ℕ) (is : rule_number r ≡ k) (then : rule_number q ≡ k + 1)
+    (opened : IsOpened old p targets) (before : ObeysBefore p (meaning old) k) (reads : OnlyReads old mid) (each : ObeysEach p (meaning old) r)
+    (x : Result T CheckFault) where
+  first_obeyed : ObeysBefore p (meaning old) (k + 1)
+  first_obeyed = next_before old old r k is reads_nothing before each
+
+  pub second_passed : Passed (IsLeast p q) mid new x → Passed IsFirst old new x
+  second_passed passed = rule_passed old mid new q (k + 1) then reads opened first_obeyed x passed
+
+  pub both_obeyed : OnOk x (ObeysEach p (meaning mid) q) → OnOk x (ObeysBefore p (meaning old) (k + 1 + 1))
+  both_obeyed second = on_ok x second (λ so. next_before old mid q (k + 1) then reads first_obeyed so)
+
 -- a part of several rules
 pub part_error : {T U : Type 0} (old mid new : DiskState) → OnlyReads old mid → (e y : CheckFault) (q : Result U CheckFault) → q ≡ Err y → y ≡ e
     → Passed {T = T} IsFirst mid new (Err e) → Passed IsFirst old new q
@@ -122,10 +139,6 @@ part_error old mid new reads e y q at same x = passed_err IsFirst IsFirst old mi
 
 pub part_passed : {T : Type 0} (old mid new : DiskState) → OnlyReads old mid → (q : Result T CheckFault) → Passed IsFirst mid new q → Passed IsFirst old new q
 part_passed old mid new reads q x = passed_on IsFirst IsFirst old mid new reads (reason_back reads new) q x
-
-pub on_ok : {T E P Q : Type 0} (r : Result T E) → OnOk r P → (P → Q) → OnOk r Q
-on_ok (Ok x) p f = f p
-on_ok (Err e) p f = tt
 
 pub if_ok : {T E : Type 0} {P Q : T → Type 0} (r : Result T E) → IfOk r P → ((x : T) → P x → Q x) → IfOk r Q
 if_ok (Ok x) p f = f x p

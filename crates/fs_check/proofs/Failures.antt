@@ -48,6 +48,16 @@ module _ (p : Place) (m : SectorMap) where
       → MatchResult r (λ _. ObeysBefore p m k) (IsFailureOf p m) → ObeysBefore p m k
   tree_next k u r was x = subst (λ z. MatchResult z (λ _. ObeysBefore p m k) (IsFailureOf p m)) was x
 
+-- one that holds of the image, and the next may be tried
+pub image_next : (p : Place) (r : ImageRule) (k : ℕ) → rule_number r ≡ k → (inodes : List Inode) (counts directories : List ℕ) (first : Option ℕ) (u : Unit {0})
+    (result : Result (Unit {0}) CheckFault) → IsAnswer k first result → result ≡ Ok u
+    → IfSome first (λ n. (m : SectorMap) → AreInodes p m inodes → IsNameTable p m counts directories → ObeysBefore p m k → IsLeastFailure p m r n)
+    → IfNone first ((m : SectorMap) → AreInodes p m inodes → IsNameTable p m counts directories → ObeysBefore p m k → ObeysEach p m r)
+    → (m : SectorMap) → AreInodes p m inodes → IsNameTable p m counts directories → ObeysBefore p m k → ObeysBefore p m (k + 1)
+image_next p r k is inodes counts directories first u result says was some none m table named before =
+    tree_next p m (k + 1) u result was
+    (rule_found p m r k is first result says (of_image p r k inodes counts directories first some none m table named before) before)
+
 -- ---- a rule whose least failure is known before it is tried
 
 -- what is found of it is why the check ends

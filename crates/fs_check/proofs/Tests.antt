@@ -1,5 +1,5 @@
 -- A rule, tried at one number after the other.
-use Rattle.std.specs.Prelude.{◌≡◌, ℕ, ◌+◌, ◌<◌, Bool, true, false, List, [], get_or, IsTrue, ◌↔◌, Option, Some, None, MatchOption}
+use Rattle.std.specs.Prelude.{◌≡◌, ℕ, ◌+◌, ◌<◌, Bool, true, false, List, [], get_or, IsTrue, ◌↔◌, Option, Some, None, MatchOption, Err}
 use Rattle.std.proofs.Common.{refl, sym, arith, ◌∙◌, subst}
 use Rattle.std.proofs.lemmas.List.{get_or_default}
 use Rattle.fs_layout.specs.declared.inode.Kind.TheVariants as kinds
@@ -8,9 +8,11 @@ use Rattle.fs_layout.specs.declared.place.Place.{Place}
 use Rattle.fs_layout.specs.Bytes.{SectorMap}
 use Rattle.fs_layout.specs.Inode.{free_inode}
 use Rattle.fs_layout.specs.Images.{inode_at}
-use Rattle.fs_model.specs.Rules.{ImageRule, Obeys, IsLeastFailure}
+use Rattle.fs_model.specs.Rules.{ImageRule, Obeys, rule_number}
 use Rattle.sector_disk.specs.Disk.{DiskState, OnlyReads}
-use Rattle.fs_check.specs.Checks.{meaning, AreInodes}
+use Rattle.sector_disk.proofs.Moments.{reads_joined}
+use Rattle.fs_check.specs.declared.faults.CheckFault.TheVariants.{Found}
+use Rattle.fs_check.specs.Checks.{meaning, AreInodes, Passed, IsLeast}
 use Rattle.fs_check.proofs.Carrying.{meaning_same}
 use Rattle.fs_check.proofs.Tables.{more_good}
 
@@ -30,21 +32,36 @@ known_of P old mid p inodes n d reads table lt known =
 pub refuses : (P : Type 0) (b : Bool) → b ≡ false → (IsTrue b ↔ P) → P → ⊥
 refuses P b e test x = let c : false ≡ true = sym e ∙ test.1 x in absurd cc
 
--- a test of inode n that was made later, where those before it have passed
-module _ (P : SectorMap → Inode → Type 0) (old mid : DiskState) (p : Place) (inodes : List Inode) (n : ℕ) (d : Inode) (b : Bool) (reads : OnlyReads old mid)
-    (table : AreInodes p (meaning old) inodes) (lt : n < p.inodes) (test : IsTrue b ↔ P (meaning mid) (get_or inodes n d))
-    (before : (k : ℕ) → k < n → P (meaning old) (inode_at p (meaning old) k)) where
+-- Each inode below n is as a rule asks, and the disk was only read meanwhile.
+pub record AreTried (P : SectorMap → Inode → Type 0) (p : Place) (old now : DiskState) (n : ℕ) : Type 0 where
+  pub reads : OnlyReads old now
+  pub good : (k : ℕ) → k < n → P (meaning old) (inode_at p (meaning old) k)
+
+-- a test of inode n, where those before it have passed
+module _ (P : SectorMap → Inode → Type 0) (p : Place) (old mid new : DiskState) (inodes : List Inode) (n : ℕ) (d : Inode) (b : Bool)
+    (tried : AreTried P p old mid n) (reads : OnlyReads mid new) (table : AreInodes p (meaning old) inodes) (lt : n < p.inodes)
+    (test : IsTrue b ↔ P (meaning mid) (get_or inodes n d)) where
   here : IsTrue b ↔ P (meaning old) (inode_at p (meaning old) n)
-  here = known_of (λ m v. IsTrue b ↔ P m v) old mid p inodes n d reads table lt test
+  here = known_of (λ m v. IsTrue b ↔ P m v) old mid p inodes n d tried.reads table lt test
 
-  pub next_passes : b ≡ true → (k : ℕ) → k < n + 1 → P (meaning old) (inode_at p (meaning old) k)
-  next_passes e = more_good (λ k. P (meaning old) (inode_at p (meaning old) k)) n before (here.0 e)
+  pub next_tried : b ≡ true → AreTried P p old new (n + 1)
+  next_tried e = record {
+    reads = reads_joined tried.reads reads;
+    good = more_good (λ k. P (meaning old) (inode_at p (meaning old) k)) n tried.good (here.0 e);
+  }
 
-  pub fails_first : (r : ImageRule) → ((k : ℕ) → Obeys p (meaning old) r k ↔ (k < p.inodes → P (meaning old) (inode_at p (meaning old) k))) → b ≡ false
-      → IsLeastFailure p (meaning old) r n
-  fails_first r is e = record {
-    fails = λ h. refuses (P (meaning old) (inode_at p (meaning old) n)) b e here ((is n).0 h lt);
-    least = λ k low. (is k).1 (λ below. before k low);
+  -- it is the first that fails the rule
+  pub fails_here : (r : ImageRule) → ((k : ℕ) → Obeys p (meaning old) r k ↔ (k < p.inodes → P (meaning old) (inode_at p (meaning old) k))) → b ≡ false
+      → Passed {T = Unit {0}} (IsLeast p r) old new (Err (Found (record { rule = rule_number r; at = n })))
+  fails_here r is e = record {
+    reads = reads_joined tried.reads reads;
+    reason = (
+      refl,
+      record {
+        fails = λ h. refuses (P (meaning old) (inode_at p (meaning old) n)) b e here ((is n).0 h lt);
+        least = λ k low. (is k).1 (λ below. tried.good k low);
+      },
+    );
   }
 
 -- where nothing is found

@@ -1,12 +1,6 @@
-use Rattle.std.proofs.Common.{◌<◌, ℕ}
-use Rattle.fs_layout.specs.Images.{inode_at}
 use Rattle.fs_model.specs.Rules.{HasAcls}
-use Rattle.sector_disk.specs.Disk.{OnlyReads}
-use Rattle.fs_check.specs.Checks.{meaning}
+use Rattle.fs_check.proofs.Tests.{AreTried}
 use Rattle.fs_check.proofs.acls.acls.Given as goal
 
 abbrev pub invariant-loop-n : goal.invariant-loop-n
-invariant-loop-n g l = record {
-  reads : OnlyReads (g.D.Disk.state l.initial.disk) (g.D.Disk.state l.disk);
-  good : (k : ℕ) → k < l.n → HasAcls (meaning (g.D.Disk.state l.initial.disk)) (inode_at l.place (meaning (g.D.Disk.state l.initial.disk)) k);
-}
+invariant-loop-n g l = AreTried HasAcls l.place (g.D.Disk.state l.initial.disk) (g.D.Disk.state l.disk) l.n

@@ -1,9 +1,8 @@
 use Rattle.std.proofs.Common.{refl}
 use Rattle.std.proofs.lemmas.Result.{err_from_is_err_and}
-use Rattle.sector_disk.specs.Disk.{OnlyReads}
 use Rattle.sector_disk.proofs.Moments.{reads_nothing}
 use Rattle.fs_model.specs.Rules.{InodeBits, Inodes}
-use Rattle.fs_check.proofs.Carrying.{next_before, rule_error, rule_passed, on_ok}
+use Rattle.fs_check.proofs.Carrying.{rule_error, second_passed, both_obeyed}
 use Rattle.fs_check.proofs.checking.check_tables.Goals as goal
 
 pub returns-in_err-inode_bits-clause-passed : goal.returns-in_err-inode_bits-clause-passed
@@ -15,16 +14,10 @@ returns-in_err-inode_bits-clause-passed g c =
 
 pub returns-clause-passed : goal.returns-clause-passed
 returns-clause-passed g c =
-    let s0 = g.D.Disk.state c.args.disk.now in
-    let s1 = g.D.Disk.state c.inode_bits.new.disk in
-    let r1 : OnlyReads s0 s1 = c.in_ok-inode_bits.ensures.passed.reads in
-    let b1 = next_before s0 s0 InodeBits 3 refl reads_nothing c.requires.before c.in_ok-inode_bits.ensures.each in
-    rule_passed s0 s1 (g.D.Disk.state c.read_inodes.new.disk) Inodes 4 refl r1 c.requires.opened b1 c.read_inodes.result c.read_inodes.ensures.passed
+    second_passed (g.D.Disk.state c.args.disk.now) (g.D.Disk.state c.inode_bits.new.disk) (g.D.Disk.state c.read_inodes.new.disk) InodeBits Inodes 3 refl refl c.requires.opened
+    c.requires.before c.in_ok-inode_bits.ensures.passed.reads c.in_ok-inode_bits.ensures.each c.read_inodes.result c.read_inodes.ensures.passed
 
 pub returns-clause-before : goal.returns-clause-before
 returns-clause-before g c =
-    let s0 = g.D.Disk.state c.args.disk.now in
-    let s1 = g.D.Disk.state c.inode_bits.new.disk in
-    let r1 : OnlyReads s0 s1 = c.in_ok-inode_bits.ensures.passed.reads in
-    let b1 = next_before s0 s0 InodeBits 3 refl reads_nothing c.requires.before c.in_ok-inode_bits.ensures.each in
-    on_ok c.read_inodes.result c.read_inodes.ensures.each (λ each. next_before s0 s1 Inodes 4 refl r1 b1 each)
+    both_obeyed (g.D.Disk.state c.args.disk.now) (g.D.Disk.state c.inode_bits.new.disk) (g.D.Disk.state c.read_inodes.new.disk) InodeBits Inodes 3 refl refl c.requires.opened
+    c.requires.before c.in_ok-inode_bits.ensures.passed.reads c.in_ok-inode_bits.ensures.each c.read_inodes.result c.read_inodes.ensures.each

@@ -1,7 +1,7 @@
 use Rattle.std.proofs.Common.{refl}
 use Rattle.std.proofs.lemmas.Result.{err_from_is_err_and}
 use Rattle.fs_model.specs.Rules.{Names, Parents, Ways}
-use Rattle.fs_check.proofs.Failures.{of_image, rule_found, tree_error, tree_next}
+use Rattle.fs_check.proofs.Failures.{of_image, image_next, rule_found, tree_error}
 use Rattle.fs_check.proofs.checking.check_tree.Goals as goal
 
 pub returns-in_err-found_at : goal.returns-in_err-found_at
@@ -16,10 +16,8 @@ returns-in_err-found_at c = λ m table named before.
 pub returns-in_err-found_at-2 : goal.returns-in_err-found_at-2
 returns-in_err-found_at-2 c = λ m table named before.
     let p = c.args.place in
-    let first = of_image p Names 12 c.args.inodes.now c.args.names.now.counts.items c.args.names.now.directories.items c.miscounted.result
-    c.miscounted.ensures.some c.miscounted.ensures.none m table named before in
-    let next = tree_next p m 13 c.in_ok-found_at.field-0 c.found_at.result c.in_ok-found_at.was
-    (rule_found p m Names 12 refl c.miscounted.result c.found_at.result c.found_at.ensures first before) in
+    let next = image_next p Names 12 refl c.args.inodes.now c.args.names.now.counts.items c.args.names.now.directories.items c.miscounted.result
+    c.in_ok-found_at.field-0 c.found_at.result c.found_at.ensures c.in_ok-found_at.was c.miscounted.ensures.some c.miscounted.ensures.none m table named before in
     let second = of_image p Parents 13 c.args.inodes.now c.args.names.now.counts.items c.args.names.now.directories.items c.misplaced.result
     c.misplaced.ensures.some c.misplaced.ensures.none m table named next in
     let q = err_from_is_err_and c.from_residual-in_err-found_at-2.result c.from_residual-in_err-found_at-2.ensures.1 in
@@ -29,12 +27,8 @@ returns-in_err-found_at-2 c = λ m table named before.
 pub returns : goal.returns
 returns c = λ m table named before.
     let p = c.args.place in
-    let first = of_image p Names 12 c.args.inodes.now c.args.names.now.counts.items c.args.names.now.directories.items c.miscounted.result
-    c.miscounted.ensures.some c.miscounted.ensures.none m table named before in
-    let next = tree_next p m 13 c.in_ok-found_at.field-0 c.found_at.result c.in_ok-found_at.was
-    (rule_found p m Names 12 refl c.miscounted.result c.found_at.result c.found_at.ensures first before) in
-    let second = of_image p Parents 13 c.args.inodes.now c.args.names.now.counts.items c.args.names.now.directories.items c.misplaced.result
-    c.misplaced.ensures.some c.misplaced.ensures.none m table named next in
-    let last = tree_next p m 14 c.in_ok-found_at-2.field-0 c.found_at-2.result c.in_ok-found_at-2.was
-    (rule_found p m Parents 13 refl c.misplaced.result c.found_at-2.result c.found_at-2.ensures second next) in
+    let next = image_next p Names 12 refl c.args.inodes.now c.args.names.now.counts.items c.args.names.now.directories.items c.miscounted.result
+    c.in_ok-found_at.field-0 c.found_at.result c.found_at.ensures c.in_ok-found_at.was c.miscounted.ensures.some c.miscounted.ensures.none m table named before in
+    let last = image_next p Parents 13 refl c.args.inodes.now c.args.names.now.counts.items c.args.names.now.directories.items c.misplaced.result
+    c.in_ok-found_at-2.field-0 c.found_at-2.result c.found_at-2.ensures c.in_ok-found_at-2.was c.misplaced.ensures.some c.misplaced.ensures.none m table named next in
     rule_found p m Ways 14 refl c.in_ok-unreached.field-0 c.found_at-3.result c.found_at-3.ensures (c.in_ok-unreached.ensures m table last) last

@@ -1,13 +1,12 @@
-use Rattle.std.proofs.Common.{◌≡◌, ◌≤◌, ℕ, get_or, arith, refl, sym, subst}
+use Rattle.std.proofs.Common.{◌≡◌, ◌≤◌, ℕ, get_or, arith, sym, subst}
 use Rattle.fs_layout.specs.declared.inode.Kind.TheVariants.{Link}
 use Rattle.fs_layout.specs.declared.inode.Inode.{Inode}
 use Rattle.fs_layout.specs.Bytes.{SectorMap}
 use Rattle.fs_layout.specs.Images.{IsData, Owns, inode_at}
 use Rattle.fs_model.specs.Rules.{InData, IsLaidOut, LaidOut}
-use Rattle.sector_disk.proofs.Moments.{reads_joined}
 use Rattle.fs_check.specs.Checks.{meaning}
 use Rattle.fs_check.proofs.Carrying.{meaning_same}
-use Rattle.fs_check.proofs.Tests.{inode_here, blank, next_passes, fails_first}
+use Rattle.fs_check.proofs.Tests.{inode_here, blank, next_tried, fails_here}
 use Rattle.fs_check.proofs.Trims.{short_link}
 use Rattle.fs_check.proofs.contents.laid_out.Goals as goal
 
@@ -30,23 +29,16 @@ is_laid_out-requires-clause-short g c =
     subst (λ (v : Inode). v.kind ≡ Link → v.size ≤ 512) (sym here) (short_link p (meaning s0) c.loop-n.n c.requires.before lt)
 
 pub loop-n-preserved : goal.loop-n-preserved
-loop-n-preserved g c = record {
-  reads = reads_joined c.loop-n.invariant.reads c.in_ok-is_laid_out.ensures.passed.reads;
-  good = next_passes IsLaidOut (g.D.Disk.state c.args.disk.now) (g.D.Disk.state c.loop-n.disk) c.args.place c.args.inodes.now c.loop-n.n _
-      c.in_ok-is_laid_out.field-0 c.loop-n.invariant.reads c.requires.table c.loop-n-test.true c.in_ok-is_laid_out.ensures.test
-      c.loop-n.invariant.good c.if-not-branch.false;
-}
+loop-n-preserved g c =
+    next_tried IsLaidOut c.args.place (g.D.Disk.state c.args.disk.now) (g.D.Disk.state c.loop-n.disk) (g.D.Disk.state c.is_laid_out.new.disk) c.args.inodes.now c.loop-n.n _
+    c.in_ok-is_laid_out.field-0 c.loop-n.invariant c.in_ok-is_laid_out.ensures.passed.reads c.requires.table c.loop-n-test.true c.in_ok-is_laid_out.ensures.test
+    c.if-not-branch.false
 
 pub returns-then-not-branch-clause-passed : goal.returns-then-not-branch-clause-passed
-returns-then-not-branch-clause-passed g c = record {
-  reads = reads_joined c.loop-n.invariant.reads c.in_ok-is_laid_out.ensures.passed.reads;
-  reason = (
-    refl,
-    fails_first IsLaidOut (g.D.Disk.state c.args.disk.now) (g.D.Disk.state c.loop-n.disk) c.args.place c.args.inodes.now c.loop-n.n _
-        c.in_ok-is_laid_out.field-0 c.loop-n.invariant.reads c.requires.table c.loop-n-test.true c.in_ok-is_laid_out.ensures.test
-        c.loop-n.invariant.good LaidOut (λ k. ((λ h. h), (λ h. h))) c.if-not-branch.true,
-  );
-}
+returns-then-not-branch-clause-passed g c =
+    fails_here IsLaidOut c.args.place (g.D.Disk.state c.args.disk.now) (g.D.Disk.state c.loop-n.disk) (g.D.Disk.state c.is_laid_out.new.disk) c.args.inodes.now c.loop-n.n _
+    c.in_ok-is_laid_out.field-0 c.loop-n.invariant c.in_ok-is_laid_out.ensures.passed.reads c.requires.table c.loop-n-test.true c.in_ok-is_laid_out.ensures.test
+    LaidOut (λ k. ((λ h. h), (λ h. h))) c.if-not-branch.true
 
 pub returns-clause-each : goal.returns-clause-each
 returns-clause-each g c = λ n lt. c.loop-n.invariant.good n (let past = c.loop-n-test.false in omega (arith, lt, past))
