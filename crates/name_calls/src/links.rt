@@ -1,6 +1,6 @@
 //! Symbolic links: POSIX.1-2017, symlink() and readlink().
 
-ghost use Rattle.std.specs.Prelude.{◌≡◌, not, Ok, OnOk, IfErr};
+ghost use Rattle.std.specs.Prelude.{◌≡◌, ℕ, not, Ok, OnOk, IfErr};
 ghost use Rattle.fs_layout.specs.Bytes.{IsBytes};
 ghost use Rattle.fs_layout.specs.Images.{inode_at};
 ghost use Rattle.fs_model.specs.declared.call.Call.TheVariants.{Symlink, Readlink};
