@@ -112,48 +112,32 @@ module _ (s : State) (up : IsFalse s.halted) (cred : Credential) where
 
 -- ---- sync and fsync
 
+-- what holds of both events that make all stable
+flush_case : (P : Event → Type 0) → ((pid fd : ℕ) → P (Fsync pid fd)) → P Sync → (e : Event) → IsTrue (asks_stable e) → P e
+flush_case P one all (Fsync pid fd) asks = one pid fd
+flush_case P one all Sync asks = all
+flush_case P one all (Calls pid call) asks = absurd cc
+flush_case P one all (Spawn cred) asks = absurd cc
+flush_case P one all (Exit pid) asks = absurd cc
+flush_case P one all Statfs asks = absurd cc
+flush_case P one all (Arm k) asks = absurd cc
+flush_case P one all (Restart bytes arm) asks = absurd cc
+
 pub flush_machine : (e : Event) → IsTrue (asks_stable e) → IsTrue (is_of_machine e)
-flush_machine (Fsync pid fd) asks = refl
-flush_machine Sync asks = refl
-flush_machine (Calls pid call) asks = absurd cc
-flush_machine (Spawn cred) asks = absurd cc
-flush_machine (Exit pid) asks = absurd cc
-flush_machine Statfs asks = absurd cc
-flush_machine (Arm k) asks = absurd cc
-flush_machine (Restart bytes arm) asks = absurd cc
+flush_machine = flush_case (λ e. IsTrue (is_of_machine e)) (λ pid fd. refl) refl
 
 module _ (s : State) where
   flush_other : (e : Event) → IsTrue (asks_stable e) → other_refusal s e ≡ None
   unfolding other_refusal
-  flush_other (Fsync pid fd) asks = refl
-  flush_other Sync asks = refl
-  flush_other (Calls pid call) asks = absurd cc
-  flush_other (Spawn cred) asks = absurd cc
-  flush_other (Exit pid) asks = absurd cc
-  flush_other Statfs asks = absurd cc
-  flush_other (Arm k) asks = absurd cc
-  flush_other (Restart bytes arm) asks = absurd cc
+  flush_other = flush_case (λ e. other_refusal s e ≡ None) (λ pid fd. refl) refl
 
   flush_after : (e : Event) → IsTrue (asks_stable e) → after s e (record { number = 0; pid = 0; free = s.free }) ≡ record { change = Same; desks = s.desks; reply = Done }
   unfolding after
-  flush_after (Fsync pid fd) asks = refl
-  flush_after Sync asks = refl
-  flush_after (Calls pid call) asks = absurd cc
-  flush_after (Spawn cred) asks = absurd cc
-  flush_after (Exit pid) asks = absurd cc
-  flush_after Statfs asks = absurd cc
-  flush_after (Arm k) asks = absurd cc
-  flush_after (Restart bytes arm) asks = absurd cc
+  flush_after =
+      flush_case (λ e. after s e (record { number = 0; pid = 0; free = s.free }) ≡ record { change = Same; desks = s.desks; reply = Done }) (λ pid fd. refl) refl
 
   flush_pid : (e : Event) → IsTrue (asks_stable e) → HasNewPid s e 0
-  flush_pid (Fsync pid fd) asks = tt
-  flush_pid Sync asks = tt
-  flush_pid (Calls pid call) asks = absurd cc
-  flush_pid (Spawn cred) asks = absurd cc
-  flush_pid (Exit pid) asks = absurd cc
-  flush_pid Statfs asks = absurd cc
-  flush_pid (Arm k) asks = absurd cc
-  flush_pid (Restart bytes arm) asks = absurd cc
+  flush_pid = flush_case (λ e. HasNewPid s e 0) (λ pid fd. tt) tt
 
   module _ (is : IsState s) (up : IsFalse s.halted) (e : Event) (asks : IsTrue (asks_stable e)) (firm : firm_refusal s e ≡ None) where
     pub flushes : Step s e Done s

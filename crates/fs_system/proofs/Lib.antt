@@ -7,6 +7,7 @@ pub mod EventEnds
 pub mod Forgetting
 pub mod FreedFiles
 pub mod Joining
+pub mod Kept
 pub mod MakingMoments
 pub mod MakingRefusals
 pub mod MakingTables
@@ -16,5 +17,4 @@ pub mod Places
 pub mod Played
 pub mod Runs
 pub mod Soundness
-pub mod SpaceTests
 pub mod Sweeps

@@ -61,6 +61,13 @@ module _ {D : Type 0} (state : D → DiskState) where
         go (Some (Ok store)) is on = absurd cc
         go (Some (Err broken)) is on = (s, on, does_halted (state broken) (only_now broken) s e machine on)
 
+    pub halted_replies : (fs : System D) (e : Event) → is_halted fs.base ≡ true → IsTrue (is_of_machine e) → (reply : Reply) → reply ≡ Refused (Failed EIO)
+        → Happens state fs fs e reply
+    halted_replies fs e halted machine reply told = subst (λ (q : Reply). Happens state fs fs e q) (sym told) (halted_happens fs e halted machine)
+
+    pub halted_flushes : (fs : System D) (e : Event) → is_halted fs.base ≡ true → FlushesFor state fs fs e (Refused (Failed EIO))
+    halted_flushes fs e halted asks s r firm = halted_happens fs e halted (flush_machine e asks) s r
+
     -- ---- events that change the processes alone
 
     module _ (fs : System D) (up : is_halted fs.base ≡ false) (desks : Desks) (e : Event) (reply : Reply) where
@@ -207,11 +214,6 @@ module _ {D : Type 0} (state : D → DiskState) where
         does_flush_halt (state before.disk) (state broken) place (present state before) desks s r run later e asks firm failed unwritten,
       )
 
-      pub flush_halted : (broken : D)
-          → FlushesFor state (record { base = Some (Err broken); place = place; desks = desks }) (record { base = Some (Err broken); place = place; desks = desks }) e
-          (Refused (Failed EIO))
-      flush_halted broken asks s r firm = (s, r, does_halted (state broken) (only_now broken) s e (flush_machine e asks) r)
-
     -- ---- as methods do it: of the parts of a file system, which is seen so
 
     module _ (base : Base D) (place : Place) (procs : Desks) (fs : System D) (view_is : record { base = base; place = place; desks = procs } ≡ fs) where
@@ -221,6 +223,15 @@ module _ {D : Type 0} (state : D → DiskState) where
       module _ (up : is_halted fs.base ≡ false) where
         up_inside : is_halted base ≡ false
         up_inside = ap (λ (x : System D). is_halted x.base) view_is ∙ up
+
+        -- the store is there
+        pub store_there : IsSystem state inside → (store : StoreView D) × base ≡ Some (Ok store)
+        store_there was = go base up_inside was.in_some.0 was.in_some.1
+          where
+            go : (b : Base D) → is_halted b ≡ false → (s : State) → IsOn state place procs b s → (store : StoreView D) × b ≡ Some (Ok store)
+            go None running s on = absurd on
+            go (Some (Ok store)) running s on = (store, refl)
+            go (Some (Err broken)) running s on = absurd cc
 
         -- fsync
         pub fsync_unopened : (pid fd : ℕ) (errno : Errno) → open_in procs pid fd ≡ Err errno → Happens state fs fs (Fsync pid fd) (finished (Err errno))
@@ -256,19 +267,6 @@ module _ {D : Type 0} (state : D → DiskState) where
               (spawn_happens inside up_inside cred valid desks result unused added full refused same) was was.mountable
 
       -- where a commit has failed
-      pub broken_returns : (broken : D) → base ≡ Some (Err broken) → (e : Event) → IsTrue (is_of_machine e)
-          → Happens state fs (record { base = Some (Err broken); place = place; desks = procs }) e (Refused (Failed EIO))
-      broken_returns broken is e machine =
-          subst (λ (x : System D). Happens state x (record { base = Some (Err broken); place = place; desks = procs }) e (Refused (Failed EIO)))
-          (ap (λ (b : Base D). record { base = b; place = place; desks = procs }) (sym is) ∙ view_is)
-          (halted_happens (record { base = Some (Err broken); place = place; desks = procs }) e refl machine)
-
-      pub broken_flushes : (broken : D) → base ≡ Some (Err broken) → (e : Event)
-          → FlushesFor state fs (record { base = Some (Err broken); place = place; desks = procs }) e (Refused (Failed EIO))
-      broken_flushes broken is e =
-          subst (λ (x : System D). FlushesFor state x (record { base = Some (Err broken); place = place; desks = procs }) e (Refused (Failed EIO)))
-          (ap (λ (b : Base D). record { base = b; place = place; desks = procs }) (sym is) ∙ view_is) (flush_halted place procs e broken)
-
       pub last_halted : (broken : D) → base ≡ Some (Err broken) → (disk : D) → disk ≡ broken → HappensLast state fs disk Sync (Refused (Failed EIO))
       last_halted broken is disk here =
           subst (λ (d : D). HappensLast state fs d Sync (Refused (Failed EIO))) (sym here)
@@ -276,16 +274,15 @@ module _ {D : Type 0} (state : D → DiskState) where
           (ap (λ (b : Base D). record { base = b; place = place; desks = procs }) (sym is) ∙ view_is)
           (λ s r. (s, does_halted (state broken) (only_now broken) s Sync refl r)))
 
-      pub broken_replies : (broken : D) → base ≡ Some (Err broken) → (e : Event) → IsTrue (is_of_machine e) → (reply : Reply) → reply ≡ Refused (Failed EIO)
-          → Happens state fs (record { base = Some (Err broken); place = place; desks = procs }) e reply
-      broken_replies broken is e machine reply told =
-          subst (λ (q : Reply). Happens state fs (record { base = Some (Err broken); place = place; desks = procs }) e q) (sym told)
-          (broken_returns broken is e machine)
-
       -- with a store
       module _ (before : StoreView D) (is : base ≡ Some (Ok before)) where
         seen_so : record { base = Some (Ok before); place = place; desks = procs } ≡ fs
         seen_so = ap (λ (b : Base D). record { base = b; place = place; desks = procs }) (sym is) ∙ view_is
+
+        -- it goes on in some state
+        pub store_runs : IsSystem state (record { base = base; place = place; desks = procs })
+            → (s : State) × IsRunning (state before.disk).size place (present state before) procs s
+        store_runs was = (subst (λ (b : Base D). IsSystem state (record { base = b; place = place; desks = procs })) is was).in_some
 
         -- an event that was performed
         module _ (now : Result (StoreView D) D) (desks : Desks) (e : Event) (reply : Reply)

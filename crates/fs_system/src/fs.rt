@@ -1,9 +1,9 @@
 //! A file system on a disk.
 
-ghost use Rattle.std.specs.Prelude.{◌≡◌, ◌≤◌, Some, IfOk, IfErr, IsTrue};
+ghost use Rattle.std.specs.Prelude.{◌≡◌, ◌≤◌, Some, Ok, IfOk, IfErr, IsTrue};
 ghost use Rattle.sector_disk.specs.Disk.{IsSame, ForgetsPast, Elapses, HasCause, HasFailed, LeavesOnly};
 ghost use Rattle.redo_journal.specs.Meaning.{SameMap, EachReadsAs, MeansAsBefore, data_of};
-ghost use Rattle.sector_txn.specs.Stores.{present, disk_after};
+ghost use Rattle.sector_txn.specs.Stores.{StoreView, present, disk_after};
 ghost use Rattle.fs_model.specs.Processes.{Desks};
 ghost use Rattle.fs_model.specs.States.{State};
 ghost use Rattle.fs_model.specs.declared.event.Event.{Event};
@@ -37,7 +37,7 @@ use std::marker::Model;
 /// call answers EIO, and the disk isn't called any more.
 #[derive(Drop)]
 pub struct Fs<D: Disk> {
-    // A store, or what a commit that failed has left. It is away only inside a method.
+    // A store, or what a commit that failed has left. It is away only while an event happens to the store.
     base: Option<Result<Store<D>, Broken<D>>>,
     place: Place,
     procs: Procs,
@@ -94,6 +94,17 @@ fn open_store<D: Disk + Drop>(alloc: Global, disk: D) -> Result<Store<D>, (Resta
         },
         Err((OpenFault::DiskFault, disk)) => Err((RestartFault::DiskFault, disk)),
         Err((OpenFault::BadCommitSector, _)) => unreachable!(),
+    }
+}
+
+// Takes the store out of a file system that isn't halted. What its event leaves is to be put in its place.
+fn take_store<D: Disk + Drop>(base: &mut Option<Result<Store<D>, Broken<D>>>) -> Store<D>
+    requires { (store : StoreView D) × base.old ≡ Some (Ok store) }
+    ensures { base.old ≡ Some (Ok result) }
+{
+    match base.take() {
+        Some(Ok(store)) => store,
+        Some(Err(_)) | None => unreachable!(),
     }
 }
 
@@ -225,18 +236,13 @@ impl<D: Disk + Drop> Fs<D> {
         ensures does { Happens D.state self.old self.new (Exit pid) (finished result) }
         ensures halted { LeavesHalted self.old self.new }
     {
-        match self.base.take() {
-            Some(Ok(store)) => {
-                let (done, base) = exit_kept(store, self.place, &mut self.procs, pid);
-                self.base = Some(base);
-                done
-            }
-            Some(Err(broken)) => {
-                self.base = Some(Err(broken));
-                Err(Errno::EIO)
-            }
-            None => unreachable!(),
+        if self.is_halted() {
+            return Err(Errno::EIO);
         }
+        let store = take_store(&mut self.base);
+        let (done, base) = exit_kept(store, self.place, &mut self.procs, pid);
+        self.base = Some(base);
+        done
     }
 
     /// What a process asks for.
@@ -246,25 +252,13 @@ impl<D: Disk + Drop> Fs<D> {
         ensures does { Happens D.state self.old self.new (Calls pid call.now) result }
         ensures halted { LeavesHalted self.old self.new }
     {
-        match self.base.take() {
-            Some(Ok(store)) => {
-                let (reply, base) = perform_kept(
-                    self.alloc,
-                    store,
-                    self.place,
-                    &mut self.procs,
-                    pid,
-                    call,
-                );
-                self.base = Some(base);
-                reply
-            }
-            Some(Err(broken)) => {
-                self.base = Some(Err(broken));
-                failed(Errno::EIO)
-            }
-            None => unreachable!(),
+        if self.is_halted() {
+            return failed(Errno::EIO);
         }
+        let store = take_store(&mut self.base);
+        let (reply, base) = perform_kept(self.alloc, store, self.place, &mut self.procs, pid, call);
+        self.base = Some(base);
+        reply
     }
 
     // Makes all stable that was done before. EIO where that fails, or the file system is halted.
@@ -272,22 +266,18 @@ impl<D: Disk + Drop> Fs<D> {
         ensures flushes { (e : Event) → FlushesFor D.state self.old self.new e (finished result) }
         ensures halted { LeavesHalted self.old self.new }
     {
-        match self.base.take() {
-            Some(Ok(store)) => match store.flush() {
-                Ok(store) => {
-                    self.base = Some(Ok(store));
-                    Ok(())
-                }
-                Err(broken) => {
-                    self.base = Some(Err(broken));
-                    Err(Errno::EIO)
-                }
-            },
-            Some(Err(broken)) => {
+        if self.is_halted() {
+            return Err(Errno::EIO);
+        }
+        match take_store(&mut self.base).flush() {
+            Ok(store) => {
+                self.base = Some(Ok(store));
+                Ok(())
+            }
+            Err(broken) => {
                 self.base = Some(Err(broken));
                 Err(Errno::EIO)
             }
-            None => unreachable!(),
         }
     }
 
@@ -331,18 +321,13 @@ impl<D: Disk + Drop> Fs<D> {
         ensures does { Happens D.state self.old self.new Statfs (counted result) }
         ensures halted { LeavesHalted self.old self.new }
     {
-        match self.base.take() {
-            Some(Ok(store)) => {
-                let (free, store) = count_space(store, self.place, &self.procs);
-                self.base = Some(Ok(store));
-                free
-            }
-            Some(Err(broken)) => {
-                self.base = Some(Err(broken));
-                Err(Errno::EIO)
-            }
-            None => unreachable!(),
+        if self.is_halted() {
+            return Err(Errno::EIO);
         }
+        let store = take_store(&mut self.base);
+        let (free, store) = count_space(store, self.place, &self.procs);
+        self.base = Some(Ok(store));
+        free
     }
 
     /// Lets go of what the disk keeps of its past: nothing is said any more of the moments before this one.

@@ -11,8 +11,6 @@ mod mkfs_tests;
 mod new_disk;
 mod new_tables;
 mod playing;
-#[cfg(test)]
-mod space_tests;
 mod stored;
 mod sweeping;
 #[cfg(test)]

@@ -1,5 +1,4 @@
-//! What no clause of `mkfs` says: its bytes and its texts, that it succeeds, and what is there after each stop and each
-//! fault.
+//! What no clause of `mkfs` says: its bytes, that it succeeds, and what is there after each stop and each fault.
 
 ghost use Rattle.std.specs.Prelude.{◌≡◌, ◌<◌, IfOk, OnOk};
 ghost use Rattle.sector_disk.specs.Disk.{IsStable};
@@ -45,7 +44,7 @@ fn content_of<D: Disk>(disk: &mut D, n: u32) -> Result<[u8; 512], Fail>
     Ok(content)
 }
 
-// ---- refusals and texts
+// ---- refusals
 
 fn outcome_of(alloc: Global, sectors: u32, inodes: u32) -> Result<Result<(), MkfsFault>, Fail> {
     let mut disk = MemDisk::new(alloc, sectors)?;
@@ -70,33 +69,6 @@ fn sizes_and_inodes_out_of_range_are_refused(rt: HostRuntime) -> Result<(), Fail
         let outcome = outcome_of(rt.alloc(), sectors, inodes)?;
         assert!(rt; outcome == wanted, "{sectors} {inodes}: {outcome:?}");
     }
-    Ok(())
-}
-
-// The texts of all faults.
-fn names(alloc: Global) -> Result<String, AllocError> {
-    let mut names = String::new(alloc);
-    for fault in [
-        MkfsFault::BadSize,
-        MkfsFault::BadInodes,
-        MkfsFault::TooSmall,
-        MkfsFault::DiskFault,
-    ] {
-        write!(names, "{fault} ")?;
-    }
-    for fault in [MountFault::DiskFault, MountFault::OutOfMemory] {
-        write!(names, "{fault} ")?;
-    }
-    Ok(names)
-}
-
-#[test]
-fn a_fault_is_shown_by_its_name(rt: HostRuntime) -> Result<(), Fail> {
-    let names = names(rt.alloc())?;
-    assert!(rt;
-        names.as_str() == "BadSize BadInodes TooSmall DiskFault DiskFault OutOfMemory ",
-        "{names}"
-    );
     Ok(())
 }
 

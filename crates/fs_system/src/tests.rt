@@ -137,43 +137,6 @@ fn a_halted_one_calls_its_disk_no_more(rt: HostRuntime) -> Result<(), Fail> {
     Ok(())
 }
 
-// ---- refusals
-
-// Spawns until one is refused: how many there are then, and why.
-fn filled<D: Disk + Drop>(alloc: Global, fs: &mut Fs<D>) -> Result<(usize, Told), Fail> {
-    for count in 0..100 {
-        let told = spawned(alloc, fs)?;
-        if told.is_err() {
-            return Ok((count, told));
-        }
-    }
-    Err(Fail::new("never full"))
-}
-
-// Then, of a process that isn't there, an exit and an fsync; an fsync of what isn't open; and an exit, which makes room
-// for another spawn.
-type Refusals = ((usize, Told), [Told; 5]);
-
-fn refusals<D: Disk + Drop>(alloc: Global, fs: &mut Fs<D>) -> Result<Refusals, Fail> {
-    let filled = filled(alloc, fs)?;
-    let absent = told_done(fs.exit(100));
-    let unknown = told_done(fs.fsync(100, 0));
-    let closed = told_done(fs.fsync(1, 0));
-    let gone = told_done(fs.exit(64));
-    let again = spawned(alloc, fs)?;
-    Ok((filled, [absent, unknown, closed, gone, again]))
-}
-
-#[test]
-fn what_is_not_there_is_refused(rt: HostRuntime) -> Result<(), Fail> {
-    let alloc = rt.alloc();
-    let mut fs = new_fs(alloc, MemDisk::new(alloc, 1024)?)?;
-    let found = refusals(alloc, &mut fs)?;
-    let wanted = ((64, Err(11)), [Err(3), Err(3), Err(9), Ok(0), Ok(64)]);
-    assert!(rt; found == wanted, "{found:?}");
-    Ok(())
-}
-
 // ---- laws
 
 #[test]

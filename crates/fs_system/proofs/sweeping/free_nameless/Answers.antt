@@ -1,8 +1,9 @@
-use Rattle.std.proofs.Common.{refl, sym, ap, subst, ◌∙◌}
-use Rattle.sector_disk.specs.Disk.{OnlyReads}
-use Rattle.sector_txn.specs.Images.{LeavesOneOf}
+use Rattle.std.proofs.Common.{sym, ap, subst, ◌∙◌}
+use Rattle.sector_disk.specs.Disk.{LeavesOnly}
 use Rattle.sector_txn.specs.Stores.{present, txn_state}
-use Rattle.sector_txn.proofs.Images.{maps_same}
+use Rattle.fs_model.specs.Stands.{room_of}
+use Rattle.fs_system.specs.Sweeping.{StandsPruned}
+use Rattle.fs_system.proofs.Kept.{only_read, leaves_from, reads_alone}
 use Rattle.fs_system.proofs.Sweeps.{stored_same, begins_sound, begins_spare, commit_images, commit_frees, dropped_images}
 use Rattle.fs_system.proofs.sweeping.free_nameless.Goals as goal
 
@@ -24,57 +25,35 @@ leave-requires-clause-spare g c =
 
 pub returns-in-Ok-keep-clause-frees : goal.returns-in-Ok-keep-clause-frees
 returns-in-Ok-keep-clause-frees g c = λ t h.
-    let state = g.D.Disk.state in
-    let old = state c.args.store.disk in
-    let map = present state c.args.store in
-    let began = c.begin-txn.ensures in
-    let first = txn_state state c.begin-txn.result in
-    let last = txn_state state c.leave.new.s in
-    let new = state c.in-Ok-keep.store.disk in
-    let kept = c.in-Ok-keep.ensures in
     let store = c.in-Ok.ensures.store in
-    let reads : OnlyReads old last.disk = subst (λ k. OnlyReads (state k) last.disk) began.disk store.reads in
-    let run : LeavesOneOf map last.sectors last.disk new = maps_same (λ n part. store.before n ∙ began.before n part) (λ n part. refl) kept.images in
-    commit_frees old last.disk new (g.met.D.Disk.only_now c.args.store.disk) c.args.place c.args.n c.requires.number.1 map first last began.map c.in-Ok.ensures.leaves reads run t h
-    (present state c.in-Ok-keep.store) kept.map (g.met.D.Disk.counts_now c.in-Ok-keep.store.disk)
+    commit_frees (g.D.Disk.state c.args.store.disk) (g.D.Disk.state c.leave.new.s.disk) (g.D.Disk.state c.in-Ok-keep.store.disk) (g.met.D.Disk.only_now c.args.store.disk) c.args.place c.args.n
+    c.requires.number.1 (present g.D.Disk.state c.args.store) (txn_state g.D.Disk.state c.begin-txn.result) (txn_state g.D.Disk.state c.leave.new.s)
+    c.begin-txn.ensures.map c.in-Ok.ensures.leaves (only_read g.D.Disk.state c.args.store c.begin-txn.result c.begin-txn.ensures.disk c.begin-txn.ensures.before c.leave.new.s store)
+    (leaves_from g.D.Disk.state c.args.store c.begin-txn.result c.begin-txn.ensures.disk c.begin-txn.ensures.before c.leave.new.s store _ c.in-Ok-keep.ensures.images) t h
+    (present g.D.Disk.state c.in-Ok-keep.store) c.in-Ok-keep.ensures.map (g.met.D.Disk.counts_now c.in-Ok-keep.store.disk)
 
 pub returns-in-Ok-keep-clause-any_moment : goal.returns-in-Ok-keep-clause-any_moment
 returns-in-Ok-keep-clause-any_moment g c = λ t h.
-    let state = g.D.Disk.state in
-    let old = state c.args.store.disk in
-    let map = present state c.args.store in
-    let began = c.begin-txn.ensures in
-    let first = txn_state state c.begin-txn.result in
-    let last = txn_state state c.leave.new.s in
-    let new = state c.in-Ok-keep.store.disk in
     let store = c.in-Ok.ensures.store in
-    let reads : OnlyReads old last.disk = subst (λ k. OnlyReads (state k) last.disk) began.disk store.reads in
-    let run : LeavesOneOf map last.sectors last.disk new = maps_same (λ n part. store.before n ∙ began.before n part) (λ n part. refl) c.in-Ok-keep.ensures.images in
-    commit_images old last.disk new (g.met.D.Disk.only_now c.args.store.disk) c.args.place c.args.n c.requires.number.1 map first last began.map c.in-Ok.ensures.leaves reads run t h
+    commit_images (g.D.Disk.state c.args.store.disk) (g.D.Disk.state c.leave.new.s.disk) (g.D.Disk.state c.in-Ok-keep.store.disk) (g.met.D.Disk.only_now c.args.store.disk) c.args.place c.args.n
+    c.requires.number.1 (present g.D.Disk.state c.args.store) (txn_state g.D.Disk.state c.begin-txn.result) (txn_state g.D.Disk.state c.leave.new.s)
+    c.begin-txn.ensures.map c.in-Ok.ensures.leaves (only_read g.D.Disk.state c.args.store c.begin-txn.result c.begin-txn.ensures.disk c.begin-txn.ensures.before c.leave.new.s store)
+    (leaves_from g.D.Disk.state c.args.store c.begin-txn.result c.begin-txn.ensures.disk c.begin-txn.ensures.before c.leave.new.s store _ c.in-Ok-keep.ensures.images) t h
 
 pub returns-in-Err-keep-clause-any_moment : goal.returns-in-Err-keep-clause-any_moment
 returns-in-Err-keep-clause-any_moment g c = λ t h.
     let state = g.D.Disk.state in
     let old = state c.args.store.disk in
-    let map = present state c.args.store in
-    let began = c.begin-txn.ensures in
-    let first = txn_state state c.begin-txn.result in
-    let last = txn_state state c.leave.new.s in
-    let new = state c.into_disk.result in
     let store = c.in-Ok.ensures.store in
-    let reads : OnlyReads old last.disk = subst (λ k. OnlyReads (state k) last.disk) began.disk store.reads in
-    let run : LeavesOneOf map last.sectors last.disk new =
-    subst (λ k. LeavesOneOf map last.sectors last.disk (state k)) (sym c.into_disk.ensures)
-    (maps_same (λ n part. store.before n ∙ began.before n part) (λ n part. refl) c.in-Err-keep.ensures.images) in
-    commit_images old last.disk new (g.met.D.Disk.only_now c.args.store.disk) c.args.place c.args.n c.requires.number.1 map first last began.map c.in-Ok.ensures.leaves reads run t h
+    let broken = c.in-Err-keep.broken in
+    let run = leaves_from g.D.Disk.state c.args.store c.begin-txn.result c.begin-txn.ensures.disk c.begin-txn.ensures.before c.leave.new.s store (state broken) c.in-Err-keep.ensures.images in
+    let left = commit_images old (state c.leave.new.s.disk) (state broken) (g.met.D.Disk.only_now c.args.store.disk) c.args.place c.args.n c.requires.number.1
+    (present state c.args.store) (txn_state state c.begin-txn.result) (txn_state state c.leave.new.s) c.begin-txn.ensures.map c.in-Ok.ensures.leaves
+    (only_read g.D.Disk.state c.args.store c.begin-txn.result c.begin-txn.ensures.disk c.begin-txn.ensures.before c.leave.new.s store) run t h in
+    subst (λ k. LeavesOnly old (state k) (StandsPruned (room_of c.args.place) t)) (sym c.into_disk.ensures) left
 
 pub returns-in-Err-clause-any_moment : goal.returns-in-Err-clause-any_moment
 returns-in-Err-clause-any_moment g c = λ t h.
-    let state = g.D.Disk.state in
-    let old = state c.args.store.disk in
-    let last = txn_state state c.leave.new.s in
-    let new = state c.into_disk-in-Err.result in
-    let reads : OnlyReads old new =
-    subst (λ k. OnlyReads old (state k)) (sym (c.into_disk-in-Err.ensures ∙ c.drop_delta.ensures.disk))
-    (subst (λ k. OnlyReads (state k) last.disk) c.begin-txn.ensures.disk c.in-Err.ensures.store.reads) in
-    dropped_images old new (g.met.D.Disk.only_now c.args.store.disk) reads c.args.place (present state c.args.store) t h
+    dropped_images (g.D.Disk.state c.args.store.disk) (g.D.Disk.state c.into_disk-in-Err.result) (g.met.D.Disk.only_now c.args.store.disk)
+    (reads_alone g.D.Disk.state c.args.store c.begin-txn.result c.begin-txn.ensures.disk c.begin-txn.ensures.before c.leave.new.s c.in-Err.ensures.store
+    c.into_disk-in-Err.result (c.into_disk-in-Err.ensures ∙ c.drop_delta.ensures.disk)) c.args.place (present g.D.Disk.state c.args.store) t h

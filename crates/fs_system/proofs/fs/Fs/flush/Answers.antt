@@ -1,32 +1,33 @@
-use Rattle.std.proofs.Common.{Some, sym, ap, ◌∙◌}
-use Rattle.fs_system.proofs.Methods.{flush_returns, flush_system, break_returns, break_system, broken_flushes}
+use Rattle.std.proofs.Common.{sym, ◌∙◌}
+use Rattle.fs_system.proofs.Methods.{halted_flushes, store_there, flush_returns, flush_system, break_returns, break_system}
 use Rattle.fs_system.proofs.fs.Fs.flush.Goals as goal
+
+pub returns-then-is_halted-clause-flushes : goal.returns-then-is_halted-clause-flushes
+returns-then-is_halted-clause-flushes g c = λ e.
+    halted_flushes g.D.Disk.state g.met.D.Disk.only_now c.args.self.now e (sym c.is_halted.ensures ∙ c.if-is_halted.true)
+
+pub take_store-requires : goal.take_store-requires
+take_store-requires g c =
+    store_there g.D.Disk.state g.met.D.Disk.only_now c.self.inside.base c.self.inside.place c.self.inside.procs c.args.self.now c.self.view_is
+    (sym c.is_halted.ensures ∙ c.if-is_halted.false) c.self.invariant
 
 pub invariant_of-self : goal.invariant_of-self
 invariant_of-self g c =
-    flush_system g.D.Disk.state g.met.D.Disk.only_now c.self.inside.base c.self.inside.place c.self.inside.procs c.args.self.now c.self.view_is c.in-Some-Ok.store
-    (sym c.take.ensures.value ∙ c.in-Some-Ok.is ∙ ap (λ k. Some k) c.in-Some-Ok.field-0-is) c.in-Ok.store (g.met.D.Disk.counts_now c.in-Ok.store.disk)
-    c.in-Ok.ensures.map c.in-Ok.ensures.images c.self.invariant
+    flush_system g.D.Disk.state g.met.D.Disk.only_now c.self.inside.base c.self.inside.place c.self.inside.procs c.args.self.now c.self.view_is c.take_store.result
+    c.take_store.ensures c.in-Ok.store (g.met.D.Disk.counts_now c.in-Ok.store.disk) c.in-Ok.ensures.map c.in-Ok.ensures.images c.self.invariant
 
 pub invariant_of-self-in-Err : goal.invariant_of-self-in-Err
 invariant_of-self-in-Err g c =
-    break_system g.D.Disk.state g.met.D.Disk.only_now c.self.inside.base c.self.inside.place c.self.inside.procs c.args.self.now c.self.view_is c.in-Some-Ok.store
-    (sym c.take.ensures.value ∙ c.in-Some-Ok.is ∙ ap (λ k. Some k) c.in-Some-Ok.field-0-is) c.in-Err.broken (g.met.D.Disk.counts_now c.in-Err.broken)
-    c.in-Err.ensures.images c.self.invariant
+    break_system g.D.Disk.state g.met.D.Disk.only_now c.self.inside.base c.self.inside.place c.self.inside.procs c.args.self.now c.self.view_is c.take_store.result
+    c.take_store.ensures c.in-Err.broken (g.met.D.Disk.counts_now c.in-Err.broken) c.in-Err.ensures.images c.self.invariant
 
 pub returns-in-Ok-clause-flushes : goal.returns-in-Ok-clause-flushes
 returns-in-Ok-clause-flushes g c = λ e.
-    flush_returns g.D.Disk.state g.met.D.Disk.only_now c.self.inside.base c.self.inside.place c.self.inside.procs c.args.self.now c.self.view_is c.in-Some-Ok.store
-    (sym c.take.ensures.value ∙ c.in-Some-Ok.is ∙ ap (λ k. Some k) c.in-Some-Ok.field-0-is) c.in-Ok.store
-    c.in-Ok.ensures.map c.in-Ok.ensures.images c.in-Ok.ensures.lasting c.in-Ok.ensures.cause.later c.in-Ok.ensures.told.quiet e
+    flush_returns g.D.Disk.state g.met.D.Disk.only_now c.self.inside.base c.self.inside.place c.self.inside.procs c.args.self.now c.self.view_is c.take_store.result
+    c.take_store.ensures c.in-Ok.store c.in-Ok.ensures.map c.in-Ok.ensures.images c.in-Ok.ensures.lasting c.in-Ok.ensures.cause.later
+    c.in-Ok.ensures.told.quiet e
 
 pub returns-in-Err-clause-flushes : goal.returns-in-Err-clause-flushes
 returns-in-Err-clause-flushes g c = λ e.
-    break_returns g.D.Disk.state g.met.D.Disk.only_now c.self.inside.base c.self.inside.place c.self.inside.procs c.args.self.now c.self.view_is c.in-Some-Ok.store
-    (sym c.take.ensures.value ∙ c.in-Some-Ok.is ∙ ap (λ k. Some k) c.in-Some-Ok.field-0-is) c.in-Err.broken
-    c.in-Err.ensures.images c.in-Err.ensures.cause.later c.in-Err.ensures.cause.fault c.in-Err.ensures.told.fault e
-
-pub returns-in-Some-Err-clause-flushes : goal.returns-in-Some-Err-clause-flushes
-returns-in-Some-Err-clause-flushes g c = λ e.
-    broken_flushes g.D.Disk.state g.met.D.Disk.only_now c.self.inside.base c.self.inside.place c.self.inside.procs c.args.self.now c.self.view_is c.in-Some-Err.broken
-    (sym c.take.ensures.value ∙ c.in-Some-Err.is ∙ ap (λ k. Some k) c.in-Some-Err.field-0-is) e
+    break_returns g.D.Disk.state g.met.D.Disk.only_now c.self.inside.base c.self.inside.place c.self.inside.procs c.args.self.now c.self.view_is c.take_store.result
+    c.take_store.ensures c.in-Err.broken c.in-Err.ensures.images c.in-Err.ensures.cause.later c.in-Err.ensures.cause.fault c.in-Err.ensures.told.fault e

@@ -1,21 +1,31 @@
-use Rattle.std.proofs.Common.{Some, sym, ap, refl, ◌∙◌}
+use Rattle.std.proofs.Common.{sym, refl, ◌∙◌}
 use Rattle.fs_model.specs.declared.event.Event.TheVariants.{Statfs}
 use Rattle.fs_system.specs.Replies.{counted}
-use Rattle.fs_system.proofs.Methods.{broken_returns, same_returns, same_system}
+use Rattle.fs_system.proofs.Methods.{halted_happens, store_there, store_runs, same_returns, same_system}
 use Rattle.fs_system.proofs.fs.Fs.statfs.Goals as goal
+
+pub returns-then-is_halted-clause-does : goal.returns-then-is_halted-clause-does
+returns-then-is_halted-clause-does g c =
+    halted_happens g.D.Disk.state g.met.D.Disk.only_now c.args.self.now Statfs (sym c.is_halted.ensures ∙ c.if-is_halted.true) refl
+
+pub take_store-store-requires : goal.take_store-store-requires
+take_store-store-requires g c =
+    store_there g.D.Disk.state g.met.D.Disk.only_now c.self.inside.base c.self.inside.place c.self.inside.procs c.args.self.now c.self.view_is
+    (sym c.is_halted.ensures ∙ c.if-is_halted.false) c.self.invariant
+
+pub count_space-free-requires : goal.count_space-free-requires
+count_space-free-requires g c = record {
+  running = store_runs g.D.Disk.state g.met.D.Disk.only_now c.self.inside.base c.self.inside.place c.self.inside.procs c.args.self.now c.self.view_is c.take_store-store.result
+      c.take_store-store.ensures c.self.invariant;
+}
 
 pub invariant_of-self : goal.invariant_of-self
 invariant_of-self g c =
-    same_system g.D.Disk.state g.met.D.Disk.only_now c.self.inside.base c.self.inside.place c.self.inside.procs c.args.self.now c.self.view_is c.in-Some-Ok.store
-    (sym c.take.ensures.value ∙ c.in-Some-Ok.is ∙ ap (λ k. Some k) c.in-Some-Ok.field-0-is) c.count_space-free.result.1 Statfs (counted c.count_space-free.result.0) c.count_space-free.ensures.does
+    same_system g.D.Disk.state g.met.D.Disk.only_now c.self.inside.base c.self.inside.place c.self.inside.procs c.args.self.now c.self.view_is c.take_store-store.result
+    c.take_store-store.ensures c.count_space-free.result.1 Statfs (counted c.count_space-free.result.0) c.count_space-free.ensures.does
     (g.met.D.Disk.counts_now c.count_space-free.result.1.disk) c.self.invariant
 
-pub returns-in-Some-Ok-clause-does : goal.returns-in-Some-Ok-clause-does
-returns-in-Some-Ok-clause-does g c =
-    same_returns g.D.Disk.state g.met.D.Disk.only_now c.self.inside.base c.self.inside.place c.self.inside.procs c.args.self.now c.self.view_is c.in-Some-Ok.store
-    (sym c.take.ensures.value ∙ c.in-Some-Ok.is ∙ ap (λ k. Some k) c.in-Some-Ok.field-0-is) c.count_space-free.result.1 Statfs (counted c.count_space-free.result.0) c.count_space-free.ensures.does
-
-pub returns-in-Some-Err-clause-does : goal.returns-in-Some-Err-clause-does
-returns-in-Some-Err-clause-does g c =
-    broken_returns g.D.Disk.state g.met.D.Disk.only_now c.self.inside.base c.self.inside.place c.self.inside.procs c.args.self.now c.self.view_is c.in-Some-Err.broken
-    (sym c.take.ensures.value ∙ c.in-Some-Err.is ∙ ap (λ k. Some k) c.in-Some-Err.field-0-is) Statfs refl
+pub returns-clause-does : goal.returns-clause-does
+returns-clause-does g c =
+    same_returns g.D.Disk.state g.met.D.Disk.only_now c.self.inside.base c.self.inside.place c.self.inside.procs c.args.self.now c.self.view_is c.take_store-store.result
+    c.take_store-store.ensures c.count_space-free.result.1 Statfs (counted c.count_space-free.result.0) c.count_space-free.ensures.does
