@@ -1,69 +1,74 @@
 -- The exits of a call by a descriptor.
 --     open_scene        what such a call finds
---     IsOpened, opened, opened_as, opened_ok        what a process has open
---     open_fits, open_there, open_below, open_node        in a state it is there
---     IsByDescriptor        what its row is made of
---     open_firm, open_late, open_after        what such a row asks and leaves
---     has_open, still_open, offset_stays_open        what a process that changes still has open
---     closed_firm, closed_performs        there is no such process, or it has nothing open there
---     bad_performs        it isn't open for that
+--     opened, opened_ok, open_as, reached_as        what a process has open
+--     open_fits, open_there, open_below, open_node, open_kind, open_used        in a state it is there
+--     bad_closed, bad_open        whether it is open for that
+--     open_firm, open_late, open_after        what the row of such a call asks and leaves
+--     has_open, still_open, still_now, offset_stays_open        what a process that changes still has open
+--     closed_open, unfit_open, not_open, unread_open, fit_open        its process, its descriptor or its inode refuse, or it is open
+--     closed_refused, open_refused        that is passed on
 --     asked_performs, unread_performs, interrupted_performs        it is refused after that
 --     told        it answers, and changes nothing
---     changed_one        it answers, and changes its process
-use Rattle.std.specs.Prelude.{◌≡◌, ℕ, ◌<◌, ◌==◌, Bool, true, false, cond, List, Option, None, Some, unwrap_or, ◌⊎◌, ◌||◌, IsTrue, Result, Ok, Err, IsOk, IsErr, IsErrAnd}
+--     changed_tree, changed_one        it has changed the tree, or its process alone
+use Rattle.std.specs.Prelude.{◌≡◌, ◌≢◌, ℕ, ◌<◌, ◌==◌, Bool, true, false, cond, not, is_some, List, Option, None, Some, unwrap_or, ◌⊎◌, ◌||◌, IsTrue, Result, Ok, Err, IsOk, IsErr, IsErrAnd}
 use Rattle.std.proofs.Common.{refl, sym, ap, subst, ◌∙◌, inl, inr}
 use Rattle.std.specs.List.{list_any}
 use Rattle.std.specs.Option.{ok_or}
 use Rattle.std.specs.Ordering.{nat_cmp, is_eq}
-use Rattle.sector_disk.specs.Disk.{HasFailed}
+use Rattle.sector_disk.specs.Disk.{DiskState, HasFailed}
+use Rattle.sector_disk.proofs.Moments.{failed_later}
 use Rattle.fs_cred.specs.declared.errno.Errno.{Errno}
 use Rattle.fs_cred.specs.declared.errno.Errno.TheVariants.{ESRCH, EBADF, EIO}
 use Rattle.fs_cred.specs.declared.refusal.Refusal.{Refusal}
 use Rattle.fs_cred.specs.declared.refusal.Refusal.TheVariants.{Failed}
+use Rattle.fs_layout.specs.declared.inode.Inode.{Inode}
+use Rattle.fs_layout.specs.declared.inode.Kind.TheVariants as kinds
 use Rattle.fs_layout.specs.declared.place.Place.{Place}
 use Rattle.fs_layout.specs.Bytes.{SectorMap}
+use Rattle.fs_layout.specs.Images.{inode_at}
 use Rattle.fs_layout.specs.Maps.{get, with_entry, without, IsMap}
 use Rattle.fs_layout.proofs.FirstEntries.{tied}
 use Rattle.fs_layout.proofs.MapLaws.{get-with_entry, with_entry-IsMap, same_map}
 use Rattle.sector_txn.specs.Sectors.{TxnState, SameStore, IsUnchanged}
-use Rattle.sector_txn.proofs.TransactionRuns.{store_same}
+use Rattle.sector_txn.proofs.TransactionRuns.{store_same, store_joined}
 use Rattle.fs_model.specs.declared.call.Call.{Call}
 use Rattle.fs_model.specs.declared.event.Event.TheVariants.{Call as Calls}
 use Rattle.fs_model.specs.declared.reply.Reply.{Reply}
 use Rattle.fs_model.specs.TreeChanges.{Same}
-use Rattle.fs_model.specs.Demands.{Demand, first_of}
+use Rattle.fs_model.specs.Demands.{Demand, refuse, first_of}
 use Rattle.fs_model.specs.Processes.{Descriptor, Process, Desks, descriptor, the_descriptor, no_descriptor, with_offset, is_open}
 use Rattle.fs_model.specs.Births.{the_node}
-use Rattle.fs_model.specs.Rows.{row_of}
-use Rattle.fs_model.specs.Scenes.{Scene, Effect, Row, node_open, answers, with_process, by_descriptor}
+use Rattle.fs_model.specs.Nodes.{Node, is_directory}
+use Rattle.fs_model.specs.Rules.{is_directory_kind}
+use Rattle.fs_model.specs.Scenes.{Scene, Effect, Row, node_open, answers, with_process}
 use Rattle.fs_model.specs.Stands.{HoldsAll, placed}
 use Rattle.fs_model.specs.States.{State, IsDescriptor}
 use Rattle.fs_model.specs.Steps.{after, after_call, after_effect, asks_in_call, early_refusal, late_refusal, firm_refusal, other_refusal, nothing_found}
+use Rattle.block_map.proofs.Runs.{unchanged_joined}
 use Rattle.fs_model.specs.Trees.{Tree}
 use Rattle.fs_model.proofs.Unchanged.{open_stays, same_process_stays}
 use Rattle.open_files.specs.Tables.{answer_of_found, open_at, open_in, changed_where, with_changed, IsTable}
 use Rattle.open_files.proofs.Slots.{any_with_entry}
-use Rattle.path_walk.specs.Answers.{Interrupts}
+use Rattle.path_walk.specs.Answers.{FailsToRead, Interrupts}
 use Rattle.path_walk.specs.HeldTrees.{IsThere}
 use Rattle.call_parts.specs.Paths.{scene_at}
-use Rattle.call_parts.specs.Performing.{IsStateOf, IsDone, IsRefused, Performs, chosen}
+use Rattle.call_parts.specs.Performing.{IsStateOf, IsRefused, Performs, chosen}
 use Rattle.call_parts.specs.Performing as why
-use Rattle.path_walk.proofs.HeldNodes.{is_there, number_below}
-use Rattle.path_walk.proofs.Kept.{same_map as map_kept}
-use Rattle.call_parts.proofs.Calling.{or_else-none, state_tree, state_process, same_process, early_is, late_is, after_is, interrupted_refused, told_performs}
+use Rattle.call_parts.specs.declared.reaching.OpenFor.{OpenFor}
+use Rattle.call_parts.specs.declared.reaching.OpenFor.TheVariants.{Anything, Reading, Writing}
+use Rattle.call_parts.specs.Reaching.{bad_for, opens_for, ActsOn, IsNotOpen, RefusesOpen, IsOpened, IsOpenFor, HasOpened}
+use Rattle.path_walk.proofs.HeldNodes.{is_there, number_below, held_kind}
+use Rattle.path_walk.proofs.Kept.{same_map as map_kept, interrupts_later}
+use Rattle.call_parts.proofs.Calling.{or_else-none, state_kept, state_tree, state_process, same_process, early_is, late_is, after_is, interrupted_refused, told_performs}
 use Rattle.call_parts.proofs.ByPath.{refused_performs}
-use Rattle.call_parts.proofs.Shown.{the_node_is}
+use Rattle.call_parts.proofs.Changed.{IsChange}
+use Rattle.call_parts.proofs.Shown.{the_node_is, is_used}
 
 -- it has no path, and so no find
 abbrev pub open_scene : State → Process → Scene
 open_scene s q = scene_at s q nothing_found
 
 -- ---- what is open
-
-pub record IsOpened (desks : Desks) (pid fd : ℕ) (d : Descriptor) : Type 0 where
-  pub process : Process
-  pub there : get nat_cmp desks pid ≡ Some process
-  pub at : descriptor process fd ≡ Some d
 
 some_if_ok : (o : Option Descriptor) (e : Errno) (d : Descriptor) → ok_or o e ≡ Ok d → o ≡ Some d
 some_if_ok None e d h = absurd (cc)
@@ -80,11 +85,17 @@ opened desks pid fd d e = go (get nat_cmp desks pid) refl e
     go None at e = absurd (cc)
     go (Some q) at e = record { process = q; there = at; at = some_if_ok (descriptor q fd) EBADF d e }
 
-pub opened_as : (desks : Desks) (pid fd : ℕ) {d e : Descriptor} → e ≡ d → Ok d ≡ open_in desks pid fd → IsOpened desks pid fd e
-opened_as desks pid fd {d} {e} same is = subst (IsOpened desks pid fd) (sym same) (opened desks pid fd d (sym is))
+pub opened_ok : {desks : Desks} {pid fd : ℕ} {d : Descriptor} → IsOpened desks pid fd d → IsOk (open_in desks pid fd)
+opened_ok {desks} {pid} {fd} o =
+    subst (λ (x : Option Process). IsOk (answer_of_found (open_at fd) x)) (sym o.there) (subst (λ (x : Option Descriptor). IsOk (ok_or x EBADF)) (sym o.at) refl)
 
-pub opened_ok : (desks : Desks) (pid fd : ℕ) (d : Descriptor) → Ok d ≡ open_in desks pid fd → IsOk (open_in desks pid fd)
-opened_ok desks pid fd d is = subst (λ (r : Result Descriptor Errno). IsOk r) is refl
+-- under another name
+pub open_as : {desks : Desks} {pid fd : ℕ} {purpose : OpenFor} {d e : Descriptor} → e ≡ d → IsOpenFor desks pid fd purpose d → IsOpenFor desks pid fd purpose e
+open_as {desks} {pid} {fd} {purpose} same o = subst (IsOpenFor desks pid fd purpose) (sym same) o
+
+pub reached_as : {p : Place} {txn : TxnState} {desks : Desks} {pid fd : ℕ} {purpose : OpenFor} {d e : Descriptor} {v : Inode} → e ≡ d
+    → HasOpened p txn desks pid fd purpose d v → HasOpened p txn desks pid fd purpose e v
+reached_as {p} {txn} {desks} {pid} {fd} {purpose} {v = v} same o = subst (λ (x : Descriptor). HasOpened p txn desks pid fd purpose x v) (sym same) o
 
 pub the_opened : {desks : Desks} {pid fd : ℕ} {d : Descriptor} → (o : IsOpened desks pid fd d) → the_descriptor o.process fd ≡ d
 the_opened o = ap (λ (x : Option Descriptor). unwrap_or x no_descriptor) o.at
@@ -103,25 +114,44 @@ module _ {p : Place} {map : SectorMap} {desks : Desks} {pid fd : ℕ} {d : Descr
   pub open_node : node_open (open_scene s o.process) fd ≡ open_fits.node
   open_node = ap (λ (x : Descriptor). the_node s.tree x.number) (the_opened o) ∙ the_node_is s.tree d.number open_fits.node open_fits.is_there
 
+  pub open_kind : (v : Inode) → v ≡ inode_at p map d.number → is_directory (node_open (open_scene s o.process) fd).body ≡ is_directory_kind v.kind
+  open_kind v is =
+      ap (λ (n : Node). is_directory n.body) open_node
+      ∙ sym (held_kind (state_tree at) d.number open_fits.node open_fits.is_there)
+      ∙ ap (λ (w : Inode). is_directory_kind w.kind) (sym is)
+
+-- the inode of what was reached is used
+pub open_used : {p : Place} {txn : TxnState} {desks : Desks} {pid fd : ℕ} {purpose : OpenFor} {d : Descriptor} {v : Inode}
+    → HasOpened p txn desks pid fd purpose d v → v.kind ≢ kinds.Free
+open_used {d = d} x =
+    let at = x.ready.is_state in
+    subst (λ (u : Inode). u.kind ≢ kinds.Free) (sym x.inode) (is_used (state_tree at) d.number (open_there x.is_open.opened x.ready.state at))
+
 -- ---- a row
 
 pub absent_firm : (s : State) (pid : ℕ) (call : Call) → get nat_cmp s.desks pid ≡ None → firm_refusal s (Calls pid call) ≡ Some (Failed ESRCH)
 unfolding firm_refusal
 absent_firm s pid call e = rw e refl
 
-pub record IsByDescriptor (call : Call) (fd : ℕ) (bad : Process → Demand) (demands : Scene → List Demand) (effect : Scene → Effect) : Type 0 where
-  pub row : row_of call ≡ by_descriptor bad demands effect
-  pub closed : (q : Process) → descriptor q fd ≡ None → bad q ≡ Some (Failed EBADF)
+bad_closed : (purpose : OpenFor) (fd : ℕ) (q : Process) → descriptor q fd ≡ None → bad_for purpose fd q ≡ Some (Failed EBADF)
+bad_closed Anything fd q none = ap (λ (o : Option Descriptor). refuse EBADF (not (is_some o))) none
+bad_closed Reading fd q none = ap (λ (o : Option Descriptor). refuse EBADF (not (unwrap_or o no_descriptor).read)) none
+bad_closed Writing fd q none = ap (λ (o : Option Descriptor). refuse EBADF (not (unwrap_or o no_descriptor).write)) none
 
-module _ (s : State) (pid : ℕ) (q : Process) {call : Call} {fd : ℕ} {bad : Process → Demand} {demands : Scene → List Demand} {effect : Scene → Effect}
-    (is : IsByDescriptor call fd bad demands effect) (there : get nat_cmp s.desks pid ≡ Some q) where
-  pub open_firm : firm_refusal s (Calls pid call) ≡ bad q
-  open_firm = early_is s pid q call there ∙ ap (early_refusal q) is.row ∙ or_else-none (bad q)
+bad_open : (purpose : OpenFor) (fd : ℕ) (q : Process) (d : Descriptor) → descriptor q fd ≡ Some d → bad_for purpose fd q ≡ refuse EBADF (not (opens_for purpose d))
+bad_open Anything fd q d at = ap (λ (o : Option Descriptor). refuse EBADF (not (is_some o))) at
+bad_open Reading fd q d at = ap (λ (o : Option Descriptor). refuse EBADF (not (unwrap_or o no_descriptor).read)) at
+bad_open Writing fd q d at = ap (λ (o : Option Descriptor). refuse EBADF (not (unwrap_or o no_descriptor).write)) at
 
-  pub open_late : other_refusal s (Calls pid call) ≡ first_of (demands (open_scene s q))
+module _ (s : State) (pid : ℕ) (q : Process) {call : Call} {fd : ℕ} {purpose : OpenFor} {demands : Scene → List Demand} {effect : Scene → Effect}
+    (is : ActsOn call fd purpose demands effect) (there : get nat_cmp s.desks pid ≡ Some q) where
+  open_firm : firm_refusal s (Calls pid call) ≡ bad_for purpose fd q
+  open_firm = early_is s pid q call there ∙ ap (early_refusal q) is.row ∙ or_else-none (bad_for purpose fd q)
+
+  open_late : other_refusal s (Calls pid call) ≡ first_of (demands (open_scene s q))
   open_late = late_is s pid q call there ∙ ap (late_refusal s q) is.row
 
-  pub open_after : after s (Calls pid call) (chosen 0 0) ≡ after_effect s pid (effect (open_scene s q))
+  open_after : after s (Calls pid call) (chosen 0 0) ≡ after_effect s pid (effect (open_scene s q))
   open_after = after_is s pid q call there (chosen 0 0) ∙ ap (λ (x : Row). after_call s pid x 0 (Some q)) is.row
 
 -- ---- tables
@@ -167,116 +197,153 @@ pub changed_there : (desks : Desks) (pid : ℕ) (q : Process) (f : Process → P
     → with_changed desks pid f ≡ with_entry nat_cmp desks pid (f q)
 changed_there desks pid q f there = ap (changed_where desks pid f) there
 
--- ---- exits
+-- where one process changes and keeps open what it had
+pub still_now : {p : Place} {map : SectorMap} {desks : Desks} {pid fd : ℕ} {d : Descriptor} (o : IsOpened desks pid fd d) (s : State) → IsStateOf p map desks s → (now : Desks)
+    (f : Process → Process) → now ≡ with_changed desks pid f → ((n : ℕ) → has_open n (f o.process) ≡ has_open n o.process)
+    → (n : ℕ) → IsTrue (is_open s.desks n) → IsTrue (is_open now n)
+still_now {p} {map} {desks} {pid} {fd} {d} o s at now f is_now keeps n was =
+    let here = same_process at pid o.process o.there in
+    ap (λ (x : Desks). is_open x n) (is_now ∙ changed_there desks pid o.process f o.there ∙ ap (λ (x : Desks). with_entry nat_cmp x pid (f o.process)) (sym at.same_desks))
+    ∙ still_open s.desks pid o.process (f o.process) at.is_state.pids here n (keeps n) ∙ was
 
-module _ (pid : ℕ) {call : Call} {fd : ℕ} {bad : Process → Demand} {demands : Scene → List Demand} {effect : Scene → Effect}
-    (is : IsByDescriptor call fd bad demands effect) where
+-- ---- each call that acts so is refused
+
+module _ (s : State) (pid fd : ℕ) (purpose : OpenFor) {desks : Desks} (same : s.desks ≡ desks) where
+  here_too : {o : Option Process} → get nat_cmp desks pid ≡ o → get nat_cmp s.desks pid ≡ o
+  here_too at = ap (λ (d : Desks). get nat_cmp d pid) same ∙ at
+
   -- there is no such process, or it has nothing open there
-  pub closed_firm : (desks : Desks) (errno : Errno) → open_in desks pid fd ≡ Err errno → (s : State) → s.desks ≡ desks
-      → firm_refusal s (Calls pid call) ≡ Some (Failed errno)
-  closed_firm desks errno e s same = go (get nat_cmp desks pid) refl e
+  pub closed_open : (errno : Errno) → open_in desks pid fd ≡ Err errno → IsNotOpen s pid fd purpose (Failed errno)
+  closed_open errno e = go (get nat_cmp desks pid) refl e
     where
-      here : (o : Option Process) → get nat_cmp desks pid ≡ o → get nat_cmp s.desks pid ≡ o
-      here o at = ap (λ (d : Desks). get nat_cmp d pid) same ∙ at
-
-      go : (o : Option Process) → get nat_cmp desks pid ≡ o → answer_of_found (open_at fd) o ≡ Err errno → firm_refusal s (Calls pid call) ≡ Some (Failed errno)
+      go : (o : Option Process) → get nat_cmp desks pid ≡ o → answer_of_found (open_at fd) o ≡ Err errno → IsNotOpen s pid fd purpose (Failed errno)
       go None at e =
           let no : ESRCH ≡ errno = cc in
-          absent_firm s pid call (here None at) ∙ ap (λ (x : Errno). Some (Failed x)) no
+          record { each = λ call demands effect is. absent_firm s pid call (here_too at) ∙ ap (λ (x : Errno). Some (Failed x)) no }
       go (Some q) at e =
           let none = none_if_err (descriptor q fd) EBADF errno e in
-          open_firm s pid q is (here (Some q) at) ∙ is.closed q none.0 ∙ ap (λ (x : Errno). Some (Failed x)) (sym none.1)
-
-module _ {p : Place} (pid : ℕ) {call : Call} {fd : ℕ} {bad : Process → Demand} {demands : Scene → List Demand} {effect : Scene → Effect}
-    (is : IsByDescriptor call fd bad demands effect) (old : TxnState) {desks : Desks} where
-  pub closed_performs : (errno : Errno) → open_in desks pid fd ≡ Err errno → (r : Result Reply Refusal) → IsErr r → IsErrAnd r (λ y. y ≡ Failed errno)
-      → Performs p pid call old old desks desks r
-  closed_performs errno e r err and = refused_performs r (Failed errno) err and store_same (λ s at. why.early (closed_firm pid is desks errno e s at.same_desks))
-
-  module _ {d : Descriptor} (o : IsOpened desks pid fd d) where
-    -- it wasn't opened for that
-    pub bad_performs : (e : Refusal) → bad o.process ≡ Some e → Performs p pid call old old desks desks (Err e)
-    bad_performs e is_bad = record {
-      store = store_same;
-      super = tt;
-      table = refl;
-      each = λ s at. why.early (open_firm s pid o.process is (same_process at pid o.process o.there) ∙ is_bad);
-    }
-
-    module _ (fine : bad o.process ≡ None) where
-      firm : (s : State) → IsStateOf p old.sectors desks s → firm_refusal s (Calls pid call) ≡ None
-      firm s at = open_firm s pid o.process is (same_process at pid o.process o.there) ∙ fine
-
-      -- what it asks of what is open refuses
-      asked_refused : (new : TxnState) (s : State) → IsStateOf p old.sectors desks s → (e : Refusal) → first_of (demands (open_scene s o.process)) ≡ Some e
-          → IsRefused old.disk new.disk s pid call e
-      asked_refused new s at e asked = why.late (firm s at) (open_late s pid o.process is (same_process at pid o.process o.there) ∙ asked)
-
-      pub asked_performs : (new : TxnState) (r : Result Reply Refusal) (e : Refusal) → IsErr r → IsErrAnd r (λ y. y ≡ e) → SameStore old new
-          → ((s : State) → IsStateOf p old.sectors desks s → first_of (demands (open_scene s o.process)) ≡ Some e)
-          → Performs p pid call old new desks desks r
-      asked_performs new r e err and store asked = refused_performs r e err and store (λ s at. asked_refused new s at e (asked s at))
-
-      -- that, or a read fails
-      pub unread_performs : (new : TxnState) (r : Result Reply Refusal) (e : Refusal) → IsErr r → IsErrAnd r (λ y. y ≡ e) → SameStore old new
-          → ((s : State) → IsStateOf p old.sectors desks s → (first_of (demands (open_scene s o.process)) ≡ Some e) ⊎ ((e ≡ Failed EIO) × HasFailed old.disk new.disk))
-          → Performs p pid call old new desks desks r
-      unread_performs new r e err and store asked = refused_performs r e err and store
-          (λ s at. elim (asked s at) [ inl late ↦ asked_refused new s at e late | inr read ↦ why.read_fails (firm s at) read.1 read.0 ])
-
-      -- or memory is lacking
-      pub interrupted_performs : (new : TxnState) (r : Result Reply Refusal) (e : Refusal) → IsErr r → IsErrAnd r (λ y. y ≡ e) → SameStore old new
-          → IsTrue (asks_in_call call) → Interrupts old.disk new.disk e → Performs p pid call old new desks desks r
-      interrupted_performs new r e err and store asks way = refused_performs r e err and store
-          (λ s at. interrupted_refused old.disk new.disk s pid call (firm s at) asks e way)
-
-      pub told : (new : TxnState) → IsUnchanged old new → (reply : Reply)
-          → ((s : State) → IsStateOf p old.sectors desks s → (first_of (demands (open_scene s o.process)) ≡ None)
-          × (effect (open_scene s o.process) ≡ answers (open_scene s o.process) reply))
-          → Performs p pid call old new desks desks (Ok reply)
-      told new same reply says = told_performs (Ok reply) same
-          (λ s at.
-          let here = same_process at pid o.process o.there in
-          let t = says s at in (
-            firm s at,
-            open_late s pid o.process is here ∙ t.0,
-            open_after s pid o.process is here ∙ ap (after_effect s pid) t.1
-                ∙ ap (λ (x : Desks). record { change = Same; desks = x; reply = reply }) (same_process_stays s.desks pid o.process at.is_state.pids here),
-          ))
-
-      changed_done : (new : TxnState) (now : Desks) → IsUnchanged old new → (f : Process → Process) (reply : Reply) → now ≡ with_changed desks pid f
-          → ((n : ℕ) → has_open n (f o.process) ≡ has_open n o.process)
-          → (s : State) → IsStateOf p old.sectors desks s → first_of (demands (open_scene s o.process)) ≡ None
-          → effect (open_scene s o.process) ≡ with_process (f o.process) reply
-          → IsDone p new.sectors now s pid call reply
-      changed_done new now same f reply is_now keeps s at asked is_effect =
-          let here = same_process at pid o.process o.there in
-          let entered : now ≡ with_entry nat_cmp desks pid (f o.process) = is_now ∙ changed_there desks pid o.process f o.there in
-          let of_state : with_entry nat_cmp s.desks pid (f o.process) ≡ now =
-          ap (λ (x : Desks). with_entry nat_cmp x pid (f o.process)) at.same_desks ∙ sym entered in
-          let still : (n : ℕ) → IsTrue (is_open s.desks n) → IsTrue (is_open now n) = λ n was.
-          ap (λ (x : Desks). is_open x n) (sym of_state) ∙ still_open s.desks pid o.process (f o.process) at.is_state.pids here n (keeps n) ∙ was in
           record {
-            early = firm s at;
-            late = open_late s pid o.process is here ∙ asked;
-            number = 0;
-            change = Same;
-            effect = open_after s pid o.process is here ∙ ap (after_effect s pid) is_effect
-                ∙ ap (λ (x : Desks). record { change = Same; desks = x; reply = reply }) of_state;
-            new_number = tt;
-            holds = subst (λ (t : Tree). HoldsAll p new.sectors (placed t))
-                (sym (open_stays s.room s.tree s.desks now at.is_state.tree (at.is_state.desks at.up) still))
-                (subst (λ m. HoldsAll p m (placed s.tree)) (sym (map_kept same)) at.holds);
+            each = λ call demands effect is.
+                open_firm s pid q is (here_too at) ∙ bad_closed purpose fd q none.0 ∙ ap (λ (x : Errno). Some (Failed x)) (sym none.1);
           }
 
-      pub changed_one : (new : TxnState) (now : Desks) → IsUnchanged old new → (f : Process → Process) (reply : Reply) → now ≡ with_changed desks pid f
-          → ((n : ℕ) → has_open n (f o.process) ≡ has_open n o.process)
-          → ((s : State) → IsStateOf p old.sectors desks s → (first_of (demands (open_scene s o.process)) ≡ None)
-          × (effect (open_scene s o.process) ≡ with_process (f o.process) reply))
-          → Performs p pid call old new desks now (Ok reply)
-      changed_one new now same f reply is_now keeps says = record {
-        store = same.store;
-        super = same.sectors 0;
-        table = tt;
-        each = λ s at. let t = says s at in changed_done new now same f reply is_now keeps s at t.0 t.1;
-      }
+  module _ {d : Descriptor} (o : IsOpened desks pid fd d) where
+    -- it isn't open for that
+    pub unfit_open : not (opens_for purpose d) ≡ true → IsNotOpen s pid fd purpose (Failed EBADF)
+    unfit_open unfit = record {
+      each = λ call demands effect is.
+          open_firm s pid o.process is (here_too o.there) ∙ bad_open purpose fd o.process d o.at ∙ ap (refuse EBADF) unfit;
+    }
+
+  module _ (old new : DiskState) where
+    pub not_open : {e : Refusal} → IsNotOpen s pid fd purpose e → RefusesOpen old new s pid fd purpose e
+    not_open refuses = record { each = λ call demands effect is. why.early (refuses.each call demands effect is) }
+
+    -- its inode can't be read
+    pub unread_open : {d : Descriptor} (e : Refusal) → IsOpenFor desks pid fd purpose d → FailsToRead old new e → RefusesOpen old new s pid fd purpose e
+    unread_open e w fails = record {
+      each = λ call demands effect is.
+          why.read_fails (open_firm s pid w.opened.process is (here_too w.opened.there) ∙ w.fine) fails.1 fails.0;
+    }
+
+pub fit_open : {desks : Desks} {pid fd : ℕ} {d : Descriptor} (purpose : OpenFor) → IsOpened desks pid fd d → not (opens_for purpose d) ≡ false → IsOpenFor desks pid fd purpose d
+fit_open {fd = fd} {d = d} purpose o fit = record { opened = o; fine = bad_open purpose fd o.process d o.at ∙ ap (refuse EBADF) fit }
+
+-- ---- a call that acts so
+
+module _ {pid : ℕ} {call : Call} {fd : ℕ} {purpose : OpenFor} {demands : Scene → List Demand} {effect : Scene → Effect}
+    (is : ActsOn call fd purpose demands effect) {p : Place} where
+  -- its refusal is passed on
+  pub closed_refused : {txn : TxnState} {desks : Desks} (r : Result Reply Refusal) (e : Refusal) → IsErr r → IsErrAnd r (λ y. y ≡ e)
+      → ((s : State) → s.desks ≡ desks → IsNotOpen s pid fd purpose e) → Performs p pid call txn txn desks desks r
+  closed_refused r e err and refuses = refused_performs r e err and store_same (λ s at. why.early ((refuses s at.same_desks).each call demands effect is))
+
+  pub open_refused : {old new : TxnState} {desks : Desks} (r : Result Reply Refusal) (e : Refusal) → IsErr r → IsErrAnd r (λ y. y ≡ e) → SameStore old new
+      → ((s : State) → IsStateOf p old.sectors desks s → RefusesOpen old.disk new.disk s pid fd purpose e) → Performs p pid call old new desks desks r
+  open_refused r e err and store refuses = refused_performs r e err and store (λ s at. (refuses s at).each call demands effect is)
+
+  module _ {old mid : TxnState} (same : IsUnchanged old mid) {desks : Desks} {d : Descriptor} (w : IsOpenFor desks pid fd purpose d) where
+    module _ (s : State) (at : IsStateOf p old.sectors desks s) where
+      here : get nat_cmp s.desks pid ≡ Some w.opened.process
+      here = same_process at pid w.opened.process w.opened.there
+
+      firm : firm_refusal s (Calls pid call) ≡ None
+      firm = open_firm s pid w.opened.process is here ∙ w.fine
+
+      late : other_refusal s (Calls pid call) ≡ first_of (demands (open_scene s w.opened.process))
+      late = open_late s pid w.opened.process is here
+
+    module _ (new : TxnState) (r : Result Reply Refusal) (e : Refusal) (err : IsErr r) (and : IsErrAnd r (λ y. y ≡ e)) (store : SameStore mid new) where
+      -- what it asks of what is open refuses, or a read fails
+      pub unread_performs : ((s : State) → IsStateOf p mid.sectors desks s → (first_of (demands (open_scene s w.opened.process)) ≡ Some e) ⊎ FailsToRead mid.disk new.disk e)
+          → Performs p pid call old new desks desks r
+      unread_performs asked = refused_performs r e err and (store_joined same.store store)
+          (λ s at. elim (asked s (state_kept same at)) [
+            | inl refuses ↦ why.late (firm s at) (late s at ∙ refuses)
+            | inr read ↦ why.read_fails (firm s at) (failed_later old.disk mid.disk new.disk same.store.reads.failures read.1) read.0
+          ])
+
+      pub asked_performs : ((s : State) → IsStateOf p mid.sectors desks s → first_of (demands (open_scene s w.opened.process)) ≡ Some e) → Performs p pid call old new desks desks r
+      asked_performs asked = unread_performs (λ s at. inl (asked s at))
+
+      -- or memory is lacking
+      pub interrupted_performs : IsTrue (asks_in_call call) → Interrupts mid.disk new.disk e → Performs p pid call old new desks desks r
+      interrupted_performs asks way = refused_performs r e err and (store_joined same.store store)
+          (λ s at. interrupted_refused old.disk new.disk s pid call (firm s at) asks e (interrupts_later new.disk same way))
+
+    pub told : (new : TxnState) → IsUnchanged mid new → (reply : Reply)
+        → ((s : State) → IsStateOf p mid.sectors desks s → (first_of (demands (open_scene s w.opened.process)) ≡ None) × (effect (open_scene s w.opened.process) ≡ answers (open_scene s w.opened.process) reply))
+        → Performs p pid call old new desks desks (Ok reply)
+    told new later reply says = told_performs (Ok reply) (unchanged_joined same later)
+        (λ s at.
+        let t = says s (state_kept same at) in (
+          firm s at,
+          late s at ∙ t.0,
+          open_after s pid w.opened.process is (here s at) ∙ ap (after_effect s pid) t.1
+              ∙ ap (λ (x : Desks). record { change = Same; desks = x; reply = reply }) (same_process_stays s.desks pid w.opened.process at.is_state.pids (here s at)),
+        ))
+
+    -- it has changed the tree and its process
+    pub changed_tree : (new : TxnState) (now : Desks) → SameStore mid new → new.sectors 0 ≡ mid.sectors 0 → (f : Process → Process) (reply : Reply)
+        → now ≡ with_changed desks pid f
+        → ((s : State) → IsStateOf p mid.sectors desks s
+        → IsChange p new.sectors now s (f w.opened.process) (demands (open_scene s w.opened.process)) (λ k. effect (open_scene s w.opened.process)) reply)
+        → Performs p pid call old new desks now (Ok reply)
+    changed_tree new now store super f reply is_now says = record {
+      store = store_joined same.store store;
+      super = super ∙ same.sectors 0;
+      table = tt;
+      each = λ s at.
+          let t = says s (state_kept same at) in
+          let of_state : with_entry nat_cmp s.desks pid (f w.opened.process) ≡ now =
+          ap (λ (x : Desks). with_entry nat_cmp x pid (f w.opened.process)) at.same_desks ∙ sym (is_now ∙ changed_there desks pid w.opened.process f w.opened.there) in
+          record {
+            early = firm s at;
+            late = late s at ∙ t.met;
+            number = 0;
+            change = t.change;
+            effect = open_after s pid w.opened.process is (here s at) ∙ ap (after_effect s pid) t.is
+                ∙ ap (λ (x : Desks). record { change = t.change; desks = x; reply = reply }) of_state;
+            new_number = t.new_number;
+            holds = t.holds;
+          };
+    }
+
+    -- its process alone
+    pub changed_one : (new : TxnState) (now : Desks) → IsUnchanged mid new → (f : Process → Process) (reply : Reply) → now ≡ with_changed desks pid f
+        → ((n : ℕ) → has_open n (f w.opened.process) ≡ has_open n w.opened.process)
+        → ((s : State) → IsStateOf p mid.sectors desks s → (first_of (demands (open_scene s w.opened.process)) ≡ None) × (effect (open_scene s w.opened.process) ≡ with_process (f w.opened.process) reply))
+        → Performs p pid call old new desks now (Ok reply)
+    changed_one new now later f reply is_now keeps says = changed_tree new now later.store (later.sectors 0) f reply is_now
+        (λ s at.
+        let t = says s at in
+        record {
+          met = t.0;
+          number = 0;
+          change = Same;
+          is = t.1;
+          new_number = tt;
+          holds = subst (λ (x : Tree). HoldsAll p new.sectors (placed x))
+              (sym (open_stays s.room s.tree s.desks now at.is_state.tree (at.is_state.desks at.up) (still_now w.opened s at now f is_now keeps)))
+              (subst (λ m. HoldsAll p m (placed s.tree)) (sym (map_kept later)) at.holds);
+        })

@@ -74,6 +74,10 @@ refused_err (Some q) x r e = cc
 
 -- ---- demands, one after another
 
+-- a check of the first refuses
+pub first_refuses : (d : Demand) (ds : List Demand) (e : Refusal) → refused_or {A = Unit {0}} d (Ok tt) ≡ Err e → first_of (d ∷ ds) ≡ Some e
+first_refuses d ds e is = ap (λ (o : Demand). or_else o (first_of ds)) (refused_err {A = Unit {0}} d tt e is)
+
 -- the first refuses
 pub first_asked : {A B : Type 0} (d : Demand) (ds : List Demand) (y : B) (x : A) (e : Refusal) (old new : DiskState)
     → IsAnswered old new (refused_or d (Ok y)) (Err e) → IsAnswered old new (refused_or (first_of (d ∷ ds)) (Ok x)) (Err e)

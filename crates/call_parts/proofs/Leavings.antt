@@ -37,7 +37,8 @@ use Rattle.call_parts.proofs.Calling.{state_tree, same_process}
 use Rattle.path_walk.proofs.HeldNodes.{held_node}
 use Rattle.path_walk.proofs.Kept.{kept, kept_back, sound_kept}
 use Rattle.call_parts.specs.Dropping.{Drops, LeavesInode, stays_open, has_name, was_free, goes}
-use Rattle.call_parts.proofs.ByDescriptor.{IsOpened, open_fits, open_below, entry_again, has_open, still_open, changed_there}
+use Rattle.call_parts.specs.Reaching.{IsOpened}
+use Rattle.call_parts.proofs.ByDescriptor.{open_fits, open_below, entry_again, has_open, still_open, changed_there}
 
 -- ---- of the map
 

@@ -70,6 +70,17 @@ inodes_later p {old} {mid} new e same is =
     kept_back (λ (m : SectorMap). IsAnswered old.disk new (checked (refuse ENOSPC (free_numbers p Inodes m == 0))) (Err e)) same
     (answered_later {A = Unit {0}} new same is)
 
+-- the inode that was asked for is answered
+pub answered_as : (d : Demand) {v w : Inode} → refused_or d (Ok v) ≡ Ok w → w ≡ v
+answered_as d {v} {w} is = sym (met_ok {A = Inode} d v w is).1
+
+-- it was asked for after reads
+pub directory_met : (p : Place) {old mid : TxnState} (dir : ℕ) {d : Inode} (asked : Demand) → IsUnchanged old mid
+    → refused_or asked (Ok (inode_at p mid.sectors dir)) ≡ Ok d → (asked ≡ None) × (d ≡ inode_at p old.sectors dir)
+directory_met p {old} {mid} dir {d} asked same is =
+    let x = met_ok {A = Inode} asked (inode_at p mid.sectors dir) d is in
+    (x.0, kept_back (λ (m : SectorMap). d ≡ inode_at p m dir) same (sym x.1))
+
 pub size_as : {v w : Inode} {r : Checked} → w ≡ v → checked (refuse ENOSPC (nat_le MAX_DIRECTORY_SIZE w.size)) ≡ r → checked (refuse ENOSPC (nat_le MAX_DIRECTORY_SIZE v.size)) ≡ r
 size_as {v} {w} {r} same is = subst (λ (u : Inode). checked (refuse ENOSPC (nat_le MAX_DIRECTORY_SIZE u.size)) ≡ r) same is
 
@@ -102,20 +113,12 @@ module _ {p : Place} {map : SectorMap} {t : Tree} (h : HoldsTree p map t) (dir :
   abbrev names : Demand
   names = refuse ENOSPC (nat_le entries_limit (length (names_in (the_node t dir).body)))
 
-  abbrev decision : Result Rule Refusal
-  decision = refused_or {A = Rule} (decided 1 step (Perm write_and_search) (verdict cred dir_access.access write_and_search)) (Ok (verdict cred dir_access.access write_and_search).rule)
-
-  allowed_is : allowed ≡ decided 1 step (Perm write_and_search) (verdict cred dir_access.access write_and_search)
-  allowed_is = ap (permission_of cred write_and_search 1 step) (accessed_is t dir dir_access)
-
   inodes_are : refuse ENOSPC (free_numbers p Inodes map == 0) ≡ inodes
   inodes_are = ap (λ (n : ℕ). refuse ENOSPC (n == 0)) (sym (free_are_clear p map t h.holds h.tree))
 
   module _ {A : Type 0} (x : A) (e : Refusal) (old new : DiskState) where
-    pub make_denied : IsAnswered old new decision (Err e) → IsAnswered old new (refused_or (first_of (make_asked p map cred t dir step)) (Ok x)) (Err e)
-    make_denied is =
-        first_asked {B = Rule} allowed (sectors ∷ inodes ∷ names ∷ []) (verdict cred dir_access.access write_and_search).rule x e old new
-        (subst (λ (o : Demand). IsAnswered old new (refused_or {A = Rule} o (Ok (verdict cred dir_access.access write_and_search).rule)) (Err e)) (sym allowed_is) is)
+    pub make_denied : IsAnswered old new (refused_or allowed (Ok x)) (Err e) → IsAnswered old new (refused_or (first_of (make_asked p map cred t dir step)) (Ok x)) (Err e)
+    make_denied is = first_asked {B = A} allowed (sectors ∷ inodes ∷ names ∷ []) x x e old new is
 
     module _ (granted : allowed ≡ None) where
       pub make_few : IsAnswered old new (checked sectors) (Err e) → IsAnswered old new (refused_or (first_of (make_asked p map cred t dir step)) (Ok x)) (Err e)
@@ -137,9 +140,8 @@ module _ {p : Place} {map : SectorMap} {t : Tree} (h : HoldsTree p map t) (dir :
             (next_asked inodes (names ∷ []) x e old new some
             (first_asked {B = Unit {0}} names [] tt x e old new (inl (ap checked (sym (names_are h dir d)) ∙ is)))))
 
-  pub make_granted : (rule : Rule) → decision ≡ Ok rule → allowed ≡ None
-  make_granted rule is =
-      allowed_is ∙ (met_ok {A = Rule} (decided 1 step (Perm write_and_search) (verdict cred dir_access.access write_and_search)) (verdict cred dir_access.access write_and_search).rule rule is).0
+  pub make_granted : (v w : Inode) → refused_or allowed (Ok v) ≡ Ok w → allowed ≡ None
+  make_granted v w is = (met_ok {A = Inode} allowed v w is).0
 
   pub make_met : allowed ≡ None → sectors ≡ None → inodes ≡ None → checked (refuse ENOSPC (nat_le MAX_DIRECTORY_SIZE (inode_at p map dir).size)) ≡ Ok tt
       → first_of (make_asked p map cred t dir step) ≡ None

@@ -1,10 +1,8 @@
 -- What the caller owns of what it has found, as its inode says it.
-use Rattle.std.specs.Prelude.{◌≡◌, ◌≢◌, ℕ, ◌<◌, ◌^◌, List, [], ◌∷◌, ◌++◌, Option, None, Some, is_some, not, unwrap_or, Ok, Err}
+use Rattle.std.specs.Prelude.{◌≡◌, ◌≢◌, ℕ, ◌<◌, ◌^◌, List, [], ◌∷◌, ◌++◌, Option, None, Some, unwrap_or, Ok, Err}
 use Rattle.std.proofs.Common.{refl, sym, ap, subst, ◌∙◌, inl, inr}
 use Rattle.sector_disk.specs.Disk.{DiskState}
-use Rattle.fs_cred.specs.declared.errno.Errno.TheVariants.{ENOENT}
 use Rattle.fs_cred.specs.declared.refusal.Refusal.{Refusal}
-use Rattle.fs_cred.specs.declared.refusal.Refusal.TheVariants.{Failed}
 use Rattle.fs_cred.specs.Credentials.{Credential}
 use Rattle.fs_layout.specs.declared.inode.Inode.{Inode}
 use Rattle.fs_layout.specs.declared.inode.Kind.TheVariants as kinds
@@ -16,7 +14,7 @@ use Rattle.fs_model.specs.declared.walk.Form.{Form}
 use Rattle.fs_model.specs.declared.walk.Found.{Found}
 use Rattle.fs_model.specs.AttributeCalls.{chown_demands, chown_effect, owned}
 use Rattle.fs_model.specs.Births.{the_node}
-use Rattle.fs_model.specs.Demands.{Demand, refuse, or_else, first_of}
+use Rattle.fs_model.specs.Demands.{Demand, or_else, first_of}
 use Rattle.fs_model.specs.Nodes.{Node}
 use Rattle.fs_model.specs.Processes.{Process, Desks}
 use Rattle.fs_model.specs.Scenes.{number, must_be_there, own_at_end}
@@ -28,14 +26,14 @@ use Rattle.path_walk.specs.Answers.{refused_or, IsAnswered}
 use Rattle.path_walk.specs.HeldTrees.{HoldsTree, IsThere}
 use Rattle.call_parts.specs.Paths.{scene_at, HasFound}
 use Rattle.call_parts.specs.Performing.{IsStateOf}
-use Rattle.call_parts.proofs.Calling.{state_tree, found_there, first_of-append, refused_err, met_ok, next_asked, both_met}
+use Rattle.call_parts.proofs.Calling.{state_tree, found_there, first_of-append, refused_err, met_ok, first_asked, next_asked, both_met}
 use Rattle.call_parts.proofs.HeldChanges.{owner_held}
 use Rattle.path_walk.proofs.HeldNodes.{stands, held_node}
 use Rattle.call_parts.specs.Asked.{own_asked, owner_asked}
 use Rattle.call_parts.specs.Given.{GivesOwner}
 use Rattle.call_parts.proofs.Changed.{IsChange, rewrites_found}
-use Rattle.call_parts.proofs.Shown.{is_inode, number_of, the_node_is}
-use Rattle.call_parts.specs.Reaching.{IsInodeFound}
+use Rattle.call_parts.proofs.Shown.{the_node_is}
+use Rattle.call_parts.specs.Reaching.{checked, IsInodeFound}
 
 -- ---- demands, some and then others
 
@@ -61,11 +59,6 @@ others_asked {A} ds es x e old new none h =
 pub all_met : (ds es : List Demand) → first_of ds ≡ None → first_of es ≡ None → first_of (ds ++ es) ≡ None
 all_met ds es none rest = both_are ds es none ∙ rest
 
-first_met : (d e : Demand) → first_of (d ∷ e ∷ []) ≡ None → (d ≡ None) × (e ≡ None)
-first_met None None is = (refl, refl)
-first_met None (Some r) is = absurd (cc)
-first_met (Some r) e is = absurd (cc)
-
 -- ---- the node that was found
 
 pub record IsNode (map : SectorMap) (t : Tree) (f : Found) (n : ℕ) (v : Inode) : Type 0 where
@@ -87,52 +80,24 @@ node_of {p} {map} {t} h f n v is inode there =
 
 -- ---- to own it is asked
 
-module _ {p : Place} {map : SectorMap} {desks : Desks} {s : State} {pid : ℕ} {q : Process} {form : Form} {path : List ℕ} {f : Found}
-    (at : IsStateOf p map desks s) (has : HasFound s pid q form path f) where
-  own_is : first_of (must_be_there f ∷ own_asked q.cred (inode_at p map (number f)).uid f.step ∷ []) ≡ first_of (must_be_there f ∷ own_at_end (scene_at s q f) ∷ [])
-  own_is = go f.ino refl
-    where
-      go : (o : Option ℕ) → f.ino ≡ o
-          → first_of (must_be_there f ∷ own_asked q.cred (inode_at p map (number f)).uid f.step ∷ []) ≡ first_of (must_be_there f ∷ own_at_end (scene_at s q f) ∷ [])
-      go None e =
-          let none : must_be_there f ≡ Some (Failed ENOENT) = ap (λ (o : Option ℕ). refuse ENOENT (not (is_some o))) e in
-          ap (λ (d : Demand). or_else d (first_of (own_asked q.cred (inode_at p map (number f)).uid f.step ∷ []))) none
-          ∙ sym (ap (λ (d : Demand). or_else d (first_of (own_at_end (scene_at s q f) ∷ []))) none)
-      go (Some k) e =
-          let some = number_of f (ap is_some e) in
-          let x = node_of (state_tree at) f (number f) (inode_at p map (number f)) refl refl (found_there (number f) at has some) in
-          ap (λ (k : ℕ). first_of (must_be_there f ∷ own_asked q.cred k f.step ∷ [])) (x.holds.owner ∙ sym (ap (λ (u : Node). u.owner) x.is))
+module _ {p : Place} {map : SectorMap} {desks : Desks} {s : State} {pid : ℕ} {q : Process} {form : Form} {path : List ℕ} {f : Found} {n : ℕ} {v : Inode}
+    (at : IsStateOf p map desks s) (has : HasFound s pid q form path f) (i : IsInodeFound p map f n v) where
+  pub found_node : IsNode map s.tree f n v
+  found_node = node_of (state_tree at) f n v i.number i.inode (found_there n at has i.some)
 
-  -- it isn't there, or isn't the caller's
-  pub own_refused : {A B : Type 0} (rest : List Demand) (cred : Credential) (y : B) (x : A) (e : Refusal) (old new : DiskState) → cred ≡ q.cred
-      → IsAnswered old new (refused_or (first_of (must_be_there f ∷ own_asked cred (inode_at p map (number f)).uid f.step ∷ [])) (Ok y)) (Err e)
+  own_is : own_at_end (scene_at s q f) ≡ own_asked q.cred v.uid f.step
+  own_is = ap (λ (k : ℕ). own_asked q.cred k f.step) (ap (λ (u : Node). u.owner) found_node.is ∙ sym found_node.holds.owner)
+
+  -- it isn't the caller's
+  pub own_refused : {A : Type 0} (rest : List Demand) (x : A) (e : Refusal) (old new : DiskState) → checked (own_asked q.cred v.uid f.step) ≡ Err e
       → IsAnswered old new (refused_or (first_of (must_be_there f ∷ own_at_end (scene_at s q f) ∷ rest)) (Ok x)) (Err e)
-  own_refused {A} {B} rest cred y x e old new same h =
-      some_asked (must_be_there f ∷ own_at_end (scene_at s q f) ∷ []) rest y x e old new
-      (subst (λ (d : Demand). IsAnswered old new (refused_or {A = B} d (Ok y)) (Err e))
-      (ap (λ (k : Credential). first_of (must_be_there f ∷ own_asked k (inode_at p map (number f)).uid f.step ∷ [])) same ∙ own_is) h)
+  own_refused rest x e old new is =
+      next_asked (must_be_there f) (own_at_end (scene_at s q f) ∷ rest) x e old new i.met
+      (first_asked {B = Unit {0}} (own_at_end (scene_at s q f)) rest tt x e old new (inl (ap checked own_is ∙ is)))
 
   -- it is
-  pub own_met : first_of (must_be_there f ∷ own_asked q.cred (inode_at p map (number f)).uid f.step ∷ []) ≡ None
-      → first_of (must_be_there f ∷ own_at_end (scene_at s q f) ∷ []) ≡ None
-  own_met none = sym own_is ∙ none
-
--- the number and the inode of what is the caller's
-pub record IsOwned (p : Place) (map : SectorMap) (cred : Credential) (f : Found) (n : ℕ) (v : Inode) : Type 0 where
-  pub inode : IsInodeFound p map f n v
-  pub met : first_of (must_be_there f ∷ own_asked cred (inode_at p map (number f)).uid f.step ∷ []) ≡ None
-
-pub is_owned : (p : Place) (map : SectorMap) (cred caller : Credential) (f : Found) (n : ℕ) (v : Inode) → cred ≡ caller
-    → refused_or {A = ℕ × Inode} (first_of (must_be_there f ∷ own_asked cred (inode_at p map (number f)).uid f.step ∷ [])) (Ok (number f, inode_at p map (number f))) ≡ Ok (n, v)
-    → IsOwned p map caller f n v
-is_owned p map cred caller f n v same e =
-    let is = met_ok {A = ℕ × Inode} (first_of (must_be_there f ∷ own_asked cred (inode_at p map (number f)).uid f.step ∷ [])) (number f, inode_at p map (number f)) (n, v) e in
-    let there = (first_met (must_be_there f) (own_asked cred (inode_at p map (number f)).uid f.step) is.0).0 in
-    record {
-      inode = is_inode p map f n v
-          (ap (λ (d : Demand). refused_or {A = ℕ × Inode} d (Ok (number f, inode_at p map (number f)))) there ∙ ap (λ (x : ℕ × Inode). Ok x) is.1);
-      met = ap (λ (k : Credential). first_of (must_be_there f ∷ own_asked k (inode_at p map (number f)).uid f.step ∷ [])) (sym same) ∙ is.0;
-    }
+  pub own_met : own_asked q.cred v.uid f.step ≡ None → first_of (must_be_there f ∷ own_at_end (scene_at s q f) ∷ []) ≡ None
+  own_met none = both_met (must_be_there f) (own_at_end (scene_at s q f) ∷ []) i.met (both_met (own_at_end (scene_at s q f)) [] (own_is ∙ none) refl)
 
 -- ---- another owner and group
 
@@ -161,17 +126,14 @@ owner_given v uid gid fits used u g = record {
 
 module _ {p : Place} {map : SectorMap} {desks : Desks} {s : State} {pid : ℕ} {q : Process} {form : Form} {path : List ℕ} {f : Found} {n : ℕ} {v : Inode}
     (at : IsStateOf p map desks s) (has : HasFound s pid q form path f) (i : IsInodeFound p map f n v) where
-  found_node : IsNode map s.tree f n v
-  found_node = node_of (state_tree at) f n v i.number i.inode (found_there n at has i.some)
-
   module _ (owner group : Option ℕ) (uid gid : ℕ) (uid_is : uid ≡ unwrap_or owner v.uid) (gid_is : gid ≡ unwrap_or group v.gid) where
     owner_is : chown_demands owner group (scene_at s q f) ≡ must_be_there f ∷ owner_asked q.cred v.uid v.gid uid gid f.step
     owner_is =
         ap (λ (k : ℕ). must_be_there f
         ∷ owner_asked q.cred k (the_node s.tree (number f)).group (unwrap_or owner k) (unwrap_or group (the_node s.tree (number f)).group) f.step)
-        (ap (λ (u : Node). u.owner) found_node.is ∙ sym found_node.holds.owner)
+        (ap (λ (u : Node). u.owner) (found_node at has i).is ∙ sym (found_node at has i).holds.owner)
         ∙ ap (λ (k : ℕ). must_be_there f ∷ owner_asked q.cred v.uid k (unwrap_or owner v.uid) (unwrap_or group k) f.step)
-        (ap (λ (u : Node). u.group) found_node.is ∙ sym found_node.holds.group)
+        (ap (λ (u : Node). u.group) (found_node at has i).is ∙ sym (found_node at has i).holds.group)
         ∙ ap (λ (k : ℕ). must_be_there f ∷ owner_asked q.cred v.uid v.gid k (unwrap_or group v.gid) f.step) (sym uid_is)
         ∙ ap (λ (k : ℕ). must_be_there f ∷ owner_asked q.cred v.uid v.gid uid k f.step) (sym gid_is)
 
@@ -192,7 +154,7 @@ module _ {p : Place} {map : SectorMap} {desks : Desks} {s : State} {pid : ℕ} {
         → GivesOwner p n uid gid map new
         → IsChange p new desks s q (chown_demands owner group (scene_at s q f)) (chown_effect owner group (scene_at s q f)) Done
     owner_changed {B} cred y new same given gives =
-        let x = found_node in
+        let x = found_node at has i in
         let is = (at.is_state.tree).each n x.node x.at in
         let held = subst (λ (w : Inode). HoldsNode map w (record { node = x.node; names = names_of s.tree n; parent = parent s.tree n })) i.inode x.holds in
         rewrites_found at new n x.node (record x.node { owner = uid; group = gid }) x.at

@@ -2,7 +2,7 @@
 --     absent_walk, unchecked_walk, unwalked        its process, its arguments, its path or its walk refuse
 --     walk_reaches, unreached        nothing is there
 --     walk_refused, reach_refused        that is passed on
---     walk_owned, unowned, owned_refused        it isn't the caller's
+--     reach_owns, unowned, owned_refused        it isn't the caller's
 --     asked_refused        what it asks of what was found refuses
 --     told, changed, process_changed        it answers, or has changed the tree, or its process alone
 --     ready_kept, walk_kept, inode_later, walked_below, reached_below, reached_there, reached_used, reached_access, reached_body        what is known then
@@ -15,7 +15,6 @@ use Rattle.fs_cred.specs.declared.errno.Errno.{Errno}
 use Rattle.fs_cred.specs.declared.errno.Errno.TheVariants.{ESRCH}
 use Rattle.fs_cred.specs.declared.refusal.Refusal.{Refusal}
 use Rattle.fs_cred.specs.declared.refusal.Refusal.TheVariants.{Failed}
-use Rattle.fs_cred.specs.Credentials.{Credential}
 use Rattle.fs_layout.specs.declared.inode.Inode.{Inode}
 use Rattle.fs_layout.specs.declared.inode.Kind.TheVariants as kinds
 use Rattle.fs_layout.specs.declared.place.Place.{Place}
@@ -36,7 +35,7 @@ use Rattle.fs_model.specs.TreeChanges.{Same}
 use Rattle.fs_model.specs.Demands.{Demand, or_else, first_of}
 use Rattle.fs_model.specs.Parts.{path_checks}
 use Rattle.fs_model.specs.Processes.{Process, Desks, Descriptor, is_open}
-use Rattle.fs_model.specs.Scenes.{Scene, Effect, answers, with_process, number, must_be_there, own_at_end}
+use Rattle.fs_model.specs.Scenes.{Scene, Effect, answers, with_process, must_be_there, own_at_end}
 use Rattle.fs_model.specs.Stands.{HoldsAll, placed}
 use Rattle.fs_model.specs.States.{State}
 use Rattle.fs_model.specs.Steps.{after_effect, early_refusal, firm_refusal, other_refusal}
@@ -52,7 +51,7 @@ use Rattle.call_parts.specs.Given.{HasBody}
 use Rattle.call_parts.specs.Paths.{scene_at, HasFound}
 use Rattle.call_parts.specs.Performing.{IsStateOf, IsReady, IsRefused, Performs}
 use Rattle.call_parts.specs.Performing as why
-use Rattle.call_parts.specs.Reaching.{Checked, WalksPath, RefusesWalk, RefusesReach, RefusesOwned, HasWalked, IsInodeFound, HasReached}
+use Rattle.call_parts.specs.Reaching.{Checked, checked, WalksPath, RefusesWalk, RefusesReach, RefusesOwned, HasWalked, IsInodeFound, HasReached}
 use Rattle.call_parts.proofs.ByDescriptor.{still_open}
 use Rattle.call_parts.proofs.ByPath.{refused_performs}
 use Rattle.call_parts.proofs.Calling.{absent_refused, early_is, first_of-append, or_else-none, refused_err, met_ok, resolve_refused, found_firm, found_late, found_after, found_told, found_there, answered_refused, answered_later, first_asked, state_kept, state_tree, same_process, told_performs}
@@ -271,19 +270,19 @@ module _ {pid : ℕ} {call : Call} {checks : Checked} {form : Form} {path : List
       → ((s : State) → IsStateOf p old.sectors desks s → RefusesOwned old.disk new.disk s pid checks form path e) → Performs p pid call old new desks desks r
   owned_refused r e err and same refuses = refused_performs r e err and same.store (λ s at. (refuses s at).each call rest effect is)
 
-pub walk_owned : {old new : DiskState} {s : State} {pid : ℕ} {checks : Checked} {form : Form} {path : List ℕ} {e : Refusal}
-    → RefusesWalk old new s pid checks form path e → RefusesOwned old new s pid checks form path e
-walk_owned refuses = record { each = λ call rest effect w. refuses.each call (λ x. must_be_there x.first ∷ own_at_end x ∷ rest x) effect w }
+pub reach_owns : {old new : DiskState} {s : State} {pid : ℕ} {checks : Checked} {form : Form} {path : List ℕ} {e : Refusal}
+    → RefusesReach old new s pid checks form path e → RefusesOwned old new s pid checks form path e
+reach_owns refuses = record { each = λ call rest effect w. refuses.each call (λ x. own_at_end x ∷ rest x) effect w }
 
--- it isn't there, or isn't the caller's
-pub unowned : {p : Place} {old mid : TxnState} {desks : Desks} {pid : ℕ} {checks : Checked} {form : Form} {path : List ℕ} {q : Process} {f : Found} (cred : Credential)
-    (new : DiskState) (e : Refusal) {A : Type 0} (x : A) → cred ≡ q.cred → IsUnchanged old mid → HasWalked p mid desks pid checks form path q f
-    → IsAnswered mid.disk new (refused_or (first_of (must_be_there f ∷ own_asked cred (inode_at p mid.sectors (number f)).uid f.step ∷ [])) (Ok x)) (Err e)
-    → (s : State) → IsStateOf p old.sectors desks s → RefusesOwned old.disk new s pid checks form path e
-unowned {p} {old} {mid} {desks} {pid} {checks} {form} {path} {q} {f} cred new e x who same w h s at = record {
+-- it isn't the caller's
+pub unowned : {p : Place} {old mid : TxnState} {desks : Desks} {pid : ℕ} {checks : Checked} {form : Form} {path : List ℕ} {q : Process} {f : Found} {n : ℕ} {v : Inode}
+    (e : Refusal) → IsUnchanged old mid → HasReached p mid desks pid checks form path q f n v → checked (own_asked q.cred v.uid f.step) ≡ Err e
+    → (s : State) → IsStateOf p old.sectors desks s → RefusesOwned old.disk mid.disk s pid checks form path e
+unowned {p} {old} {mid} {desks} {pid} {checks} {form} {path} {q} {f} {n} {v} e same r refuses s at = record {
   each = λ call rest effect is.
-      refused_since is same w s at new e x
-      (own_refused (state_kept same at) (w.found s (state_kept same at)) (rest (scene_at s q f)) cred x x e mid.disk new who h);
+      let later = state_kept same at in
+      refused_since is same r.walked s at mid.disk e {A = Unit {0}} tt
+      (own_refused later (r.walked.found s later) r.inode {A = Unit {0}} (rest (scene_at s q f)) tt e mid.disk mid.disk refuses);
 }
 
 -- what a link at the end was followed to, as access to it is decided

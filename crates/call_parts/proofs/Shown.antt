@@ -101,15 +101,6 @@ module _ {p : Place} {image : SectorMap} {t : Tree} (h : HoldsTree p image t) (n
 
 -- ---- the inode that a path leads to
 
--- what must be there alone is asked
-pub one_demand : {A : Type 0} (d : Demand) (right r : Result A Refusal) (old new : DiskState) → IsAnswered old new (refused_or d right) r
-    → IsAnswered old new (refused_or (first_of (d ∷ [])) right) r
-one_demand d right r old new h = subst (λ (x : Demand). IsAnswered old new (refused_or x right) r) (sym (or_else-none d)) h
-
-pub inode_told : {A : Type 0} (d : Demand) (x : A) (e : Refusal) (old new : DiskState) → IsAnswered old new (refused_or d (Ok x)) (Err e)
-    → IsAnswered old new (refused_or (first_of (d ∷ [])) (Ok x)) (Err e)
-inode_told d x e old new h = one_demand d (Ok x) (Err e) old new h
-
 -- where it was found, it is there
 pub number_of : (f : Found) → IsTrue (is_some f.ino) → f.ino ≡ Some (number f)
 number_of f some = go f.ino some

@@ -3,7 +3,7 @@
 --     MayBeNamed        a directory in which something may be named so
 --     NamesInode        a directory has been given a name for an inode
 --     TakesInode        an inode was free, and holds something now
---     MakesNode        both: something was made
+--     MakesNode, IsPlaced        both: something was made
 --     file_made, directory_made, link_made        what is made
 --     link_name_asked        asked of the name of a link that is made
 --     IsMade        it was made, or why not
@@ -72,6 +72,10 @@ pub record MakesNode (p : Place) (dir : ℕ) (name : List ℕ) (n : ℕ) (node :
   pub takes : TakesInode p n (record { node = node; names = 1; parent = dir }) old mid
   pub names : NamesInode p dir name n mid new
 
+-- of some number
+abbrev pub IsPlaced : Place → ℕ → List ℕ → Node → SectorMap → SectorMap → Type 0
+IsPlaced p dir name node old new = (n : ℕ) × MakesNode p dir name n node old new
+
 -- ---- what is made
 
 -- an empty file
@@ -105,5 +109,5 @@ link_name_asked f = must_be_new f ∷ refuse ENOENT f.slash ∷ []
 abbrev pub IsMade : Place → TxnState → TxnState → Credential → Tree → Found → Node → Result (Unit {0}) Refusal → Type 0
 IsMade p old new cred t f node result =
     MatchResult result
-    (λ done. (first_of (make_asked p old.sectors cred t f.dir (f.step - 1)) ≡ None) × ((n : ℕ) × MakesNode p f.dir f.name n node old.sectors new.sectors))
+    (λ done. (first_of (make_asked p old.sectors cred t f.dir (f.step - 1)) ≡ None) × IsPlaced p f.dir f.name node old.sectors new.sectors)
     (λ e. IsAnswered old.disk new.disk (refused_or {A = Unit {0}} (first_of (make_asked p old.sectors cred t f.dir (f.step - 1))) (Ok tt)) (Err e))

@@ -5,7 +5,9 @@
 --     HasWalked        its walk has found this
 --     IsInodeFound, HasReached, HasOwned        and this inode, which is the caller's
 --     WalksBoth, RefusesBoth, HasWalkedBoth        the same of a call by two paths
-use Rattle.std.specs.Prelude.{◌≡◌, ℕ, List, [], ◌∷◌, None, Some, IsTrue, Result, Ok}
+--     bad_for, opens_for        what a descriptor has to be open for, and what an open file is open for
+--     ActsOn, IsNotOpen, RefusesOpen, IsOpened, IsOpenFor, HasOpened        the same of a call by a descriptor
+use Rattle.std.specs.Prelude.{◌≡◌, ℕ, Bool, true, List, [], ◌∷◌, None, Some, IsTrue, Result, Ok}
 use Rattle.std.specs.Ordering.{nat_cmp}
 use Rattle.sector_disk.specs.Disk.{DiskState}
 use Rattle.fs_cred.specs.declared.refusal.Refusal.{Refusal}
@@ -16,15 +18,19 @@ use Rattle.fs_layout.specs.Images.{inode_at}
 use Rattle.fs_layout.specs.Maps.{get}
 use Rattle.sector_txn.specs.Sectors.{TxnState}
 use Rattle.fs_model.specs.declared.call.Call.{Call}
+use Rattle.fs_model.specs.declared.event.Event.TheVariants.{Call as Calls}
 use Rattle.fs_model.specs.declared.walk.Form.{Form}
 use Rattle.fs_model.specs.declared.walk.Found.{Found}
 use Rattle.fs_model.specs.Demands.{Demand, first_of}
-use Rattle.fs_model.specs.Processes.{Process, Desks}
+use Rattle.fs_model.specs.Processes.{Process, Descriptor, Desks, descriptor}
 use Rattle.fs_model.specs.Rows.{row_of}
-use Rattle.fs_model.specs.Scenes.{Scene, Effect, by_path, by_two_paths, number, must_be_there, own_at_end}
+use Rattle.fs_model.specs.Scenes.{Scene, Effect, by_path, by_two_paths, by_descriptor, number, must_be_there, own_at_end, is_bad, is_bad_to_read, is_bad_to_write}
 use Rattle.fs_model.specs.States.{State}
-use Rattle.fs_model.specs.Steps.{asks_in_call}
+use Rattle.fs_model.specs.Steps.{asks_in_call, firm_refusal}
+use Rattle.open_files.specs.Tables.{IsTable}
 use Rattle.path_walk.specs.Answers.{refused_or}
+use Rattle.call_parts.specs.declared.reaching.OpenFor.{OpenFor}
+use Rattle.call_parts.specs.declared.reaching.OpenFor.TheVariants.{Anything, Reading, Writing}
 use Rattle.call_parts.specs.Asked.{own_asked}
 use Rattle.call_parts.specs.Paths.{HasFound}
 use Rattle.call_parts.specs.TwoPaths.{HasFoundBoth}
@@ -80,7 +86,7 @@ pub record HasReached (p : Place) (txn : TxnState) (desks : Desks) (pid : ℕ) (
 
 pub record HasOwned (p : Place) (txn : TxnState) (desks : Desks) (pid : ℕ) (checks : Checked) (form : Form) (path : List ℕ) (q : Process) (f : Found) (n : ℕ) (v : Inode) : Type 0 where
   pub reached : HasReached p txn desks pid checks form path q f n v
-  pub met : first_of (must_be_there f ∷ own_asked q.cred (inode_at p txn.sectors (number f)).uid f.step ∷ []) ≡ None
+  pub met : own_asked q.cred v.uid f.step ≡ None
 
 -- It walks both paths, the first from its start to its end before the second. Then it asks these demands of what is found.
 pub record WalksBoth (call : Call) (old_path new_path : List ℕ) (demands : Scene → List Demand) (effect : Scene → Effect) : Type 0 where
@@ -99,3 +105,45 @@ pub record HasWalkedBoth (p : Place) (txn : TxnState) (desks : Desks) (pid : ℕ
   pub old_bytes : IsBytes old_path
   pub new_bytes : IsBytes new_path
   pub found : (s : State) → IsStateOf p txn.sectors desks s → HasFoundBoth s pid q old_path new_path f g
+
+-- EBADF: nothing is open there, or it isn't open for this
+abbrev pub bad_for : OpenFor → ℕ → Process → Demand
+bad_for Anything fd q = is_bad fd q
+bad_for Reading fd q = is_bad_to_read fd q
+bad_for Writing fd q = is_bad_to_write fd q
+
+abbrev pub opens_for : OpenFor → Descriptor → Bool
+opens_for Anything d = true
+opens_for Reading d = d.read
+opens_for Writing d = d.write
+
+-- It acts on what its process has open at fd, where that is open for this. Then it asks these demands.
+pub record ActsOn (call : Call) (fd : ℕ) (purpose : OpenFor) (demands : Scene → List Demand) (effect : Scene → Effect) : Type 0 where
+  pub row : row_of call ≡ by_descriptor (bad_for purpose fd) demands effect
+
+-- each call that acts so is refused, whatever the disk
+pub record IsNotOpen (s : State) (pid fd : ℕ) (purpose : OpenFor) (e : Refusal) : Type 0 where
+  pub each : (call : Call) (demands : Scene → List Demand) (effect : Scene → Effect) → ActsOn call fd purpose demands effect
+      → firm_refusal s (Calls pid call) ≡ Some e
+
+-- or since its inode can't be read
+pub record RefusesOpen (old new : DiskState) (s : State) (pid fd : ℕ) (purpose : OpenFor) (e : Refusal) : Type 0 where
+  pub each : (call : Call) (demands : Scene → List Demand) (effect : Scene → Effect) → ActsOn call fd purpose demands effect
+      → IsRefused old new s pid call e
+
+-- Process pid has d open at fd.
+pub record IsOpened (desks : Desks) (pid fd : ℕ) (d : Descriptor) : Type 0 where
+  pub process : Process
+  pub there : get nat_cmp desks pid ≡ Some process
+  pub at : descriptor process fd ≡ Some d
+
+pub record IsOpenFor (desks : Desks) (pid fd : ℕ) (purpose : OpenFor) (d : Descriptor) : Type 0 where
+  pub opened : IsOpened desks pid fd d
+  pub fine : bad_for purpose fd opened.process ≡ None
+
+-- and v is its inode
+pub record HasOpened (p : Place) (txn : TxnState) (desks : Desks) (pid fd : ℕ) (purpose : OpenFor) (d : Descriptor) (v : Inode) : Type 0 where
+  pub ready : IsReady p txn desks
+  pub table : IsTable desks
+  pub is_open : IsOpenFor desks pid fd purpose d
+  pub inode : v ≡ inode_at p txn.sectors d.number

@@ -29,14 +29,21 @@ pub const WRITE_AND_SEARCH: Perms = Perms {
     execute: true,
 };
 
+/// Refuses with this error, where that is so.
+pub fn refuse_if(errno: Errno, so: bool) -> Result<(), Refusal>
+    ensures { result ≡ refused_or (refuse errno so) (Ok tt) }
+{
+    if so {
+        return Err(Refusal::Failed(errno));
+    }
+    Ok(())
+}
+
 /// Whether these are bits of a mode. EINVAL: there are more bits than 07777.
 pub fn check_mode(mode: u16) -> Result<(), Refusal>
     ensures { result ≡ refused_or (check_of_mode mode) (Ok tt) }
 {
-    if mode > 0o7777 {
-        return Err(Refusal::Failed(Errno::EINVAL));
-    }
-    Ok(())
+    refuse_if(Errno::EINVAL, mode > 0o7777)
 }
 
 /// Asks for all of `want` on a file or a directory of the inode table, after `step` lookups of the walk with this number.
@@ -76,6 +83,26 @@ pub fn allowed_by(
     ensures { result ≡ refused_or (allowed_by walk step need answer) (Ok tt) }
 {
     answer.map_err(|rule| Refusal::Denied(Denial::new(walk, step, need, rule)))
+}
+
+/// Refuses a directory. EISDIR: it is one.
+pub fn check_no_directory(kind: Kind) -> Result<(), Refusal>
+    ensures { result ≡ refused_or (refuse Errno.EISDIR (is_directory_kind kind)) (Ok tt) }
+{
+    if kind == Kind::Directory {
+        return Err(Refusal::Failed(Errno::EISDIR));
+    }
+    Ok(())
+}
+
+/// Refuses what is no directory. ENOTDIR: it is none.
+pub fn check_is_directory(kind: Kind) -> Result<(), Refusal>
+    ensures { result ≡ refused_or (refuse Errno.ENOTDIR (not (is_directory_kind kind))) (Ok tt) }
+{
+    if kind != Kind::Directory {
+        return Err(Refusal::Failed(Errno::ENOTDIR));
+    }
+    Ok(())
 }
 
 /// Asks whether what is no directory was named with a slash.

@@ -1,6 +1,6 @@
 //! What the path of a call leads to.
 
-ghost use Rattle.std.specs.Prelude.{◌≡◌, ◌<◌, ℕ, None, Some, Ok, Err, IfOk, [], ◌∷◌};
+ghost use Rattle.std.specs.Prelude.{◌≡◌, ◌<◌, ℕ, None, Some, Ok, Err, IfOk};
 ghost use Rattle.fs_layout.specs.Images.{inode_at};
 ghost use Rattle.fs_model.specs.Demands.{first_of};
 ghost use Rattle.fs_model.specs.Parts.{path_checks};
@@ -12,10 +12,8 @@ ghost use Rattle.path_walk.specs.Answers.{refused_or, IsAnswered};
 ghost use Rattle.path_walk.specs.HeldTrees.{HoldsTree, IsThere};
 ghost use Rattle.path_walk.specs.SoundInodes.{HasSoundInodes};
 ghost use Rattle.path_walk.specs.Walked.{walk_of};
-ghost use Rattle.call_parts.specs.Asked.{own_asked};
 
-use crate::checks::allowed_by;
-use fs_cred::{Cred, Errno, Need, Refusal, may_own};
+use fs_cred::{Errno, Refusal};
 use fs_layout::{Inode, Place};
 use fs_model::{Form, Found, Path};
 use open_files::Process;
@@ -24,7 +22,7 @@ use sector_txn::Sectors;
 use std::alloc::Global;
 
 /// What a path leads to for a process.
-pub fn find<S: Sectors>(
+pub(crate) fn find<S: Sectors>(
     alloc: Global,
     s: &mut S,
     place: Place,
@@ -62,24 +60,5 @@ pub fn inode_found<S: Sectors>(
         return Err(Refusal::Failed(Errno::ENOENT));
     };
     let inode = load_inode(s, place, n)?;
-    Ok((n, inode))
-}
-
-/// The same, where the caller may change its mode and ACLs. ENOENT: nothing was found.
-pub fn owned<S: Sectors>(
-    s: &mut S,
-    place: Place,
-    cred: &Cred,
-    found: &Found,
-) -> Result<(u32, Inode), Refusal>
-    requires sound { IsSound place (S.state s.old) }
-    requires below { (n : ℕ) → found.now.ino ≡ Some n → n < place.inodes }
-    ensures each { IsAnswered (S.state s.old).disk (S.state s.new).disk (refused_or
-        (first_of (must_be_there found.now ∷ own_asked cred.now (inode_at place (S.state s.old).sectors (number found.now)).uid found.now.step ∷ []))
-        (Ok (number found.now, inode_at place (S.state s.old).sectors (number found.now)))) result }
-    ensures same { IsUnchanged (S.state s.old) (S.state s.new) }
-{
-    let (n, inode) = inode_found(s, place, found)?;
-    allowed_by(1, found.step, Need::Own, may_own(cred, inode.uid))?;
     Ok((n, inode))
 }

@@ -13,10 +13,16 @@ mod naming;
 mod reaching;
 mod space;
 
-pub use checks::{WRITE_AND_SEARCH, allowed_by, check_mode, check_slash, check_sticky, permitted};
+pub use checks::{
+    WRITE_AND_SEARCH, allowed_by, check_is_directory, check_mode, check_no_directory, check_slash,
+    check_sticky, permitted, refuse_if,
+};
 pub use dropping::{drop_node, leave, set_names};
-pub use found::{find, inode_found, owned};
-pub use making::{check_make, check_names, default_of, inherited, new_group};
-pub use naming::{ask_directory, ask_for_name, find_names, is_new, name_inode, remove_name};
-pub use reaching::{Reached, Walked, WalkedBoth, reach, reach_owned, walk_both, walk_path};
-pub use space::{ask_for_inode, ask_for_sectors};
+pub use found::inode_found;
+pub use making::{ask_directory, check_make, default_of, inherited, new_group};
+pub use naming::{ask_for_name, is_new, name_inode, remove_name};
+pub use reaching::{
+    OpenFor, Reached, Walked, WalkedBoth, find_open, reach, reach_open, reach_owned, walk_both,
+    walk_path,
+};
+pub use space::ask_for_sectors;

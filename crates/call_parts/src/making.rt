@@ -5,7 +5,7 @@ ghost use Rattle.posix_acl.specs.AccessList.{AccessList, minimal};
 ghost use Rattle.fs_layout.specs.declared.inode.TheConstants.{MAX_DIRECTORY_SIZE, S_ISGID};
 ghost use Rattle.fs_layout.specs.Images.{inode_at};
 ghost use Rattle.fs_model.specs.Births.{without_perms, masked_acl, born_acl};
-ghost use Rattle.fs_model.specs.Demands.{refuse, first_of};
+ghost use Rattle.fs_model.specs.Demands.{refuse, first_of, permission_on, write_and_search};
 ghost use Rattle.fs_model.specs.Trees.{Tree, IsDirectoryAt};
 ghost use Rattle.sector_txn.specs.Sectors.{IsUnchanged};
 ghost use Rattle.bit_alloc.specs.Inodes.{IsSound};
@@ -15,7 +15,7 @@ ghost use Rattle.path_walk.specs.Answers.{refused_or, Interrupts, IsAnswered};
 ghost use Rattle.path_walk.specs.HeldTrees.{HoldsTree};
 ghost use Rattle.call_parts.specs.Makings.{make_asked};
 
-use crate::checks::{WRITE_AND_SEARCH, permitted};
+use crate::checks::{WRITE_AND_SEARCH, permitted, refuse_if};
 use crate::space::{ask_for_inode, ask_for_sectors};
 use fs_cred::{Cred, Errno, Refusal};
 use fs_layout::{Inode, MAX_DIRECTORY_SIZE, Place, S_ISGID};
@@ -26,13 +26,41 @@ use sector_txn::Sectors;
 use std::alloc::Global;
 
 /// Asks whether a directory has place for one more slot. ENOSPC: it has none.
-pub fn check_names(directory: &Inode) -> Result<(), Refusal>
+pub(crate) fn check_names(directory: &Inode) -> Result<(), Refusal>
     ensures { result ≡ refused_or (refuse Errno.ENOSPC (nat_le MAX_DIRECTORY_SIZE directory.now.size)) (Ok tt) }
 {
-    if directory.size >= MAX_DIRECTORY_SIZE {
-        return Err(Refusal::Failed(Errno::ENOSPC));
-    }
-    Ok(())
+    refuse_if(Errno::ENOSPC, directory.size >= MAX_DIRECTORY_SIZE)
+}
+
+/// Asks for write and search on directory dir, after `step` lookups of the walk with this number, and answers its inode.
+pub fn ask_directory<S: Sectors>(
+    alloc: Global,
+    s: &mut S,
+    place: Place,
+    cred: &Cred,
+    dir: u32,
+    walk: u8,
+    step: usize,
+) -> Result<Inode, Refusal>
+    requires sound { IsSound place (S.state s.old) }
+    requires there { (t : Tree) × HoldsTree place (S.state s.old).sectors t × IsDirectoryAt t dir }
+    ensures each { (t : Tree) → HoldsTree place (S.state s.old).sectors t → IsDirectoryAt t dir
+        → IsAnswered (S.state s.old).disk (S.state s.new).disk
+        (refused_or (permission_on cred.now t dir write_and_search walk step) (Ok (inode_at place (S.state s.old).sectors dir))) result }
+    ensures same { IsUnchanged (S.state s.old) (S.state s.new) }
+{
+    let directory = load_inode(s, place, dir)?;
+    permitted(
+        alloc,
+        s,
+        place,
+        cred,
+        &directory,
+        WRITE_AND_SEARCH,
+        walk,
+        step,
+    )?;
+    Ok(directory)
 }
 
 /// Asks all that is asked of a directory before something is made in it, and answers its inode. ENOSPC: there is no room for its
@@ -52,8 +80,7 @@ pub fn check_make<S: Sectors>(
         (refused_or (first_of (make_asked place (S.state s.old).sectors cred.now t dir step)) (Ok (inode_at place (S.state s.old).sectors dir))) result }
     ensures same { IsUnchanged (S.state s.old) (S.state s.new) }
 {
-    let directory = load_inode(s, place, dir)?;
-    permitted(alloc, s, place, cred, &directory, WRITE_AND_SEARCH, 1, step)?;
+    let directory = ask_directory(alloc, s, place, cred, dir, 1, step)?;
     ask_for_sectors(s, place)?;
     ask_for_inode(s, place)?;
     check_names(&directory)?;

@@ -7,7 +7,7 @@ ghost use Rattle.sector_txn.specs.Sectors.{SameStore, IsUnchanged};
 ghost use Rattle.bit_alloc.specs.Inodes.{IsSound};
 ghost use Rattle.bit_alloc.specs.Room.{HasSpare, TakesSpare};
 ghost use Rattle.bit_alloc.specs.Bitmaps.{HasBitmaps};
-ghost use Rattle.fs_model.specs.Demands.{first_of, permission_on, write_and_search};
+ghost use Rattle.fs_model.specs.Demands.{first_of};
 ghost use Rattle.fs_model.specs.Scenes.{is_found, is_special};
 ghost use Rattle.fs_model.specs.Trees.{Tree, IsDirectoryAt};
 ghost use Rattle.path_walk.specs.Answers.{refused_or, FailsToRead, IsAnswered};
@@ -20,11 +20,10 @@ ghost use Rattle.fs_layout.specs.Directories.{HasNames};
 ghost use Rattle.fs_layout.specs.Maps.{name_cmp, get};
 ghost use Rattle.call_parts.specs.Dropping.{RemovesName};
 
-use crate::checks::{WRITE_AND_SEARCH, permitted};
 use crate::making::check_names;
 use crate::space::ask_for_sectors;
 use dir_core::{insert_new, remove};
-use fs_cred::{Cred, Errno, Refusal};
+use fs_cred::{Errno, Refusal};
 use fs_layout::{Inode, Place};
 use fs_model::{Form, Found, Last, Path};
 use open_files::Process;
@@ -33,7 +32,7 @@ use sector_txn::Sectors;
 use std::alloc::Global;
 
 /// What both paths of a call lead to, each as a walk finds it. Both are checked before the first is walked.
-pub fn find_names<S: Sectors>(
+pub(crate) fn find_names<S: Sectors>(
     alloc: Global,
     s: &mut S,
     place: Place,
@@ -73,37 +72,6 @@ pub fn is_new(found: &Found) -> bool
         Last::Name => found.ino.is_none(),
         Last::Dot | Last::DotDot | Last::Top => false,
     }
-}
-
-/// Asks for write and search on directory dir, after `step` lookups of the walk with this number, and answers its inode.
-pub fn ask_directory<S: Sectors>(
-    alloc: Global,
-    s: &mut S,
-    place: Place,
-    cred: &Cred,
-    dir: u32,
-    walk: u8,
-    step: usize,
-) -> Result<Inode, Refusal>
-    requires sound { IsSound place (S.state s.old) }
-    requires there { (t : Tree) × HoldsTree place (S.state s.old).sectors t × IsDirectoryAt t dir }
-    ensures each { (t : Tree) → HoldsTree place (S.state s.old).sectors t → IsDirectoryAt t dir
-        → IsAnswered (S.state s.old).disk (S.state s.new).disk
-        (refused_or (permission_on cred.now t dir write_and_search walk step) (Ok (inode_at place (S.state s.old).sectors dir))) result }
-    ensures same { IsUnchanged (S.state s.old) (S.state s.new) }
-{
-    let directory = load_inode(s, place, dir)?;
-    permitted(
-        alloc,
-        s,
-        place,
-        cred,
-        &directory,
-        WRITE_AND_SEARCH,
-        walk,
-        step,
-    )?;
-    Ok(directory)
 }
 
 /// Asks whether there is room for one more name in a directory. ENOSPC: fewer than 16 sectors are free, or it has no slot left.

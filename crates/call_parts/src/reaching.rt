@@ -1,17 +1,20 @@
 //! How a call reaches what it acts on.
 
-ghost use Rattle.std.specs.Prelude.{Result, IfOk, IfErr};
+ghost use Rattle.std.specs.Prelude.{◌≡◌, Result, IfOk, IfErr};
 ghost use Rattle.fs_model.specs.States.{State};
+ghost use Rattle.open_files.specs.Tables.{IsTable};
 ghost use Rattle.sector_txn.specs.Sectors.{IsUnchanged};
 ghost use Rattle.call_parts.specs.Performing.{IsReady, IsStateOf};
-ghost use Rattle.call_parts.specs.Reaching.{RefusesWalk, RefusesReach, RefusesOwned, HasWalked, HasReached, HasOwned, RefusesBoth, HasWalkedBoth};
+ghost use Rattle.call_parts.specs.Reaching.{RefusesWalk, RefusesReach, RefusesOwned, HasWalked, HasReached, HasOwned, RefusesBoth, HasWalkedBoth, IsNotOpen, RefusesOpen, IsOpenFor, HasOpened, opens_for};
 
-use crate::found::{find, inode_found, owned};
+use crate::checks::allowed_by;
+use crate::found::{find, inode_found};
 use crate::naming::find_names;
-use fs_cred::Refusal;
+use fs_cred::{Errno, Need, Refusal, may_own};
 use fs_layout::{Inode, Place};
 use fs_model::{Form, Found, Path};
-use open_files::{Process, Procs};
+use open_files::{Descriptor, Process, Procs};
+use path_walk::load_inode;
 use sector_txn::Sectors;
 use std::alloc::Global;
 
@@ -37,6 +40,14 @@ pub struct WalkedBoth<'a> {
     pub process: &'a Process,
     pub first: Found,
     pub second: Found,
+}
+
+/// What a call by a descriptor asks that it is open for.
+#[derive(Clone, Copy)]
+pub enum OpenFor {
+    Anything,
+    Reading,
+    Writing,
 }
 
 /// What the path of a call leads to, for the process of this number, once the checks of the call's arguments are passed: they
@@ -110,14 +121,10 @@ pub fn reach_owned<'a, S: Sectors>(
         r.process.now r.found r.number r.inode) }
     ensures same { IsUnchanged (S.state s.old) (S.state s.new) }
 {
-    let Walked { process, found } = walk_path(alloc, s, place, procs, pid, checks, path, form)?;
-    let (number, inode) = owned(s, place, process.cred(), &found)?;
-    Ok(Reached {
-        process,
-        found,
-        number,
-        inode,
-    })
+    let reached = reach(alloc, s, place, procs, pid, checks, path, form)?;
+    let answer = may_own(reached.process.cred(), reached.inode.uid);
+    allowed_by(1, reached.found.step, Need::Own, answer)?;
+    Ok(reached)
 }
 
 /// What both paths of a call lead to, links at their ends among that, and the directories that name it. Both are checked before
@@ -144,4 +151,54 @@ pub fn walk_both<'a, S: Sectors>(
         first,
         second,
     })
+}
+
+// Whether an open file is open for this.
+fn is_open_for(descriptor: Descriptor, purpose: OpenFor) -> bool
+    ensures { result ≡ opens_for purpose descriptor }
+{
+    match purpose {
+        OpenFor::Anything => true,
+        OpenFor::Reading => descriptor.read,
+        OpenFor::Writing => descriptor.write,
+    }
+}
+
+/// What the process of this number has open at a descriptor, where it is open for this. At `Err` it is the refusal of whichever
+/// call acts on it. EBADF: it isn't.
+pub fn find_open(
+    procs: &Procs,
+    pid: usize,
+    fd: usize,
+    purpose: OpenFor,
+) -> Result<Descriptor, Refusal>
+    ensures refused { IfErr result (λ e. (st : State) → st.desks ≡ procs.now → IsNotOpen st pid fd purpose e) }
+    ensures is_open { IfOk result (λ d. IsOpenFor procs.now pid fd purpose d) }
+    ensures table { IsTable procs.now }
+{
+    let descriptor = procs.get(pid, fd)?;
+    if !is_open_for(descriptor, purpose) {
+        return Err(Refusal::Failed(Errno::EBADF));
+    }
+    Ok(descriptor)
+}
+
+/// The same, with its inode. EIO: the disk has failed.
+pub fn reach_open<S: Sectors>(
+    s: &mut S,
+    place: Place,
+    procs: &Procs,
+    pid: usize,
+    fd: usize,
+    purpose: OpenFor,
+) -> Result<(Descriptor, Inode), Refusal>
+    requires ready { IsReady place (S.state s.old) procs.now }
+    ensures refused { IfErr result (λ e. (st : State) → IsStateOf place (S.state s.old).sectors procs.now st
+        → RefusesOpen (S.state s.old).disk (S.state s.new).disk st pid fd purpose e) }
+    ensures opened { IfOk result (λ r. HasOpened place (S.state s.new) procs.now pid fd purpose r.0 r.1) }
+    ensures same { IsUnchanged (S.state s.old) (S.state s.new) }
+{
+    let descriptor = find_open(procs, pid, fd, purpose)?;
+    let inode = load_inode(s, place, descriptor.number)?;
+    Ok((descriptor, inode))
 }

@@ -49,7 +49,7 @@ pub fn ask_for_sectors<S: Sectors>(s: &mut S, place: Place) -> Result<(), Refusa
 }
 
 /// Asks for a free inode. ENOSPC: none is free.
-pub fn ask_for_inode<S: Sectors>(s: &mut S, place: Place) -> Result<(), Refusal>
+pub(crate) fn ask_for_inode<S: Sectors>(s: &mut S, place: Place) -> Result<(), Refusal>
     requires { HasBitmaps place (S.state s.old) }
     ensures each { IsAnswered (S.state s.old).disk (S.state s.new).disk
         (refused_or (refuse ENOSPC (free_numbers place Inodes (S.state s.old).sectors == 0)) (Ok tt)) result }

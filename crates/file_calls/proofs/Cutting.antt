@@ -17,12 +17,12 @@ use Rattle.fs_model.specs.declared.call.Call.TheVariants.{Ftruncate}
 use Rattle.fs_model.specs.declared.reply.Reply.TheVariants.{Done}
 use Rattle.fs_model.specs.Births.{the_node}
 use Rattle.fs_model.specs.TreeChanges.{Rewrite}
-use Rattle.fs_model.specs.Demands.{Demand, refuse, first_of}
+use Rattle.fs_model.specs.Demands.{refuse, first_of}
 use Rattle.fs_model.specs.DescriptorCalls.{ftruncate_row, ftruncate_demands, ftruncate_effect, resized_node}
 use Rattle.fs_model.specs.Nodes.{Node, bytes_in}
 use Rattle.fs_model.specs.Processes.{Desks, Descriptor, is_open}
 use Rattle.fs_model.specs.Rows.{row_of}
-use Rattle.fs_model.specs.Scenes.{Effect, is_bad_to_write}
+use Rattle.fs_model.specs.Scenes.{Effect}
 use Rattle.fs_model.specs.States.{State}
 use Rattle.fs_model.specs.Trees.{Room}
 use Rattle.fs_model.proofs.StepsBodies.{bytes_are_bytes, length-resized, IsBytes-resized}
@@ -30,18 +30,21 @@ use Rattle.fs_model.proofs.Unchanged.{same_process_stays}
 use Rattle.open_files.specs.Tables.{with_changed, IsTable}
 use Rattle.path_walk.specs.Answers.{refused_or}
 use Rattle.call_parts.specs.Performing.{IsStateOf}
-use Rattle.call_parts.proofs.Calling.{refused_err}
+use Rattle.call_parts.specs.declared.reaching.OpenFor.TheVariants.{Writing}
+use Rattle.call_parts.specs.Reaching.{ActsOn, IsOpened}
+use Rattle.call_parts.proofs.Calling.{first_refuses}
 use Rattle.call_parts.specs.ByteChanges.{ChangesBytes}
-use Rattle.call_parts.proofs.ByDescriptor.{open_scene, IsByDescriptor, IsOpened, the_opened, open_fits, open_node, changed_there}
-use Rattle.file_calls.proofs.Rewritten.{ChangesTree, bytes_rewritten}
-use Rattle.file_calls.proofs.Writing.{bad_write_closed, file_kind}
+use Rattle.call_parts.proofs.ByDescriptor.{open_scene, the_opened, open_fits, open_node, changed_there}
+use Rattle.call_parts.proofs.Changed.{IsChange}
+use Rattle.file_calls.proofs.Rewritten.{bytes_rewritten}
+use Rattle.file_calls.proofs.Writing.{file_kind}
 
 ftruncate_is : (fd size : ℕ) → row_of (Ftruncate fd size) ≡ ftruncate_row fd size
 unfolding row_of
 ftruncate_is fd size = refl
 
-pub ftruncate_by : (fd size : ℕ) → IsByDescriptor (Ftruncate fd size) fd (is_bad_to_write fd) (ftruncate_demands size) (ftruncate_effect fd size)
-ftruncate_by fd size = record { row = ftruncate_is fd size; closed = bad_write_closed fd }
+pub ftruncate_by : (fd size : ℕ) → ActsOn (Ftruncate fd size) fd Writing (ftruncate_demands size) (ftruncate_effect fd size)
+ftruncate_by fd size = record { row = ftruncate_is fd size }
 
 -- its process is written back as it is
 pub process_stays : {desks : Desks} {pid fd : ℕ} {d : Descriptor} → IsOpened desks pid fd d → IsTable desks → desks ≡ with_changed desks pid (λ p. p)
@@ -55,25 +58,24 @@ module _ {p : Place} (old : TxnState) {desks : Desks} {pid fd : ℕ} {d : Descri
       ap (λ (r : Room). first_of (refuse EFBIG (nat_lt r.file_limit size) ∷ [])) at.same_room
       ∙ ap (λ (n : ℕ). first_of (refuse EFBIG (nat_lt n size) ∷ [])) (max_file_size_is p.version)
 
-  one_asked : (b : Bool) (e : Refusal) → refused_or {A = Unit {0}} (refuse EFBIG b) (Ok tt) ≡ Err e → first_of (refuse EFBIG b ∷ []) ≡ Some e
-  one_asked b e is = ap (λ (x : Demand). first_of (x ∷ [])) (refused_err {A = Unit {0}} (refuse EFBIG b) tt e is)
-
   pub size_asked : (e : Refusal) → refused_or {A = Unit {0}} (refuse EFBIG (nat_lt MAX_FILE_SIZE size)) (Ok tt) ≡ Err e
       → first_of (ftruncate_demands size (open_scene s o.process)) ≡ Some e
-  size_asked e is = asked_is ∙ one_asked (nat_lt MAX_FILE_SIZE size) e is
+  size_asked e is = asked_is ∙ first_refuses (refuse EFBIG (nat_lt MAX_FILE_SIZE size)) [] e is
 
-  pub size_met : size ≤ MAX_FILE_SIZE → first_of (ftruncate_demands size (open_scene s o.process)) ≡ None
+  size_met : size ≤ MAX_FILE_SIZE → first_of (ftruncate_demands size (open_scene s o.process)) ≡ None
   size_met fits = asked_is ∙ ap (λ (b : Bool). first_of (refuse EFBIG b ∷ [])) (le-ltb MAX_FILE_SIZE size fits)
 
   pub cuts : (new : TxnState) → d.write ≡ true → size ≤ MAX_FILE_SIZE → desks ≡ with_changed desks pid (λ p. p)
       → ChangesBytes p d.number old new (λ held. resized held size)
-      → ChangesTree p new.sectors s desks (ftruncate_effect fd size (open_scene s o.process)) o.process Done
+      → IsChange p new.sectors desks s o.process (ftruncate_demands size (open_scene s o.process)) (λ k. ftruncate_effect fd size (open_scene s o.process)) Done
   cuts new open_to_write fits same c =
       let x = open_fits o s at in
       let body = (at.is_state.tree.each d.number x.node x.is_there).body in
       let limit : s.room.file_limit ≡ MAX_FILE_SIZE = ap (λ (r : Room). r.file_limit) at.same_room ∙ max_file_size_is p.version in
       let len = length-resized (bytes_in x.node.body) size in
       record {
+        met = size_met fits;
+        number = 0;
         change = Rewrite d.number (resized_node size x.node);
         is = ap (λ (y : Descriptor). change_of y.number (the_node s.tree y.number)) (the_opened o)
             ∙ ap (change_of d.number) (sym (ap (λ (y : Descriptor). the_node s.tree y.number) (the_opened o)) ∙ open_node o s at);

@@ -1,10 +1,7 @@
--- What a process is asked about a descriptor, and what fstat answers.
---     bad_closed, bad_read_closed, not_bad        where nothing is open, and where something is
+-- What fstat answers.
 --     fstat_by, fstat_told        its row, and what it answers
-use Rattle.std.specs.Prelude.{◌≡◌, ℕ, Option, None, Some, is_some, unwrap_or, not}
+use Rattle.std.specs.Prelude.{◌≡◌, ℕ, None, Some}
 use Rattle.std.proofs.Common.{refl, sym, ap, ◌∙◌}
-use Rattle.fs_cred.specs.declared.errno.Errno.TheVariants.{EBADF}
-use Rattle.fs_cred.specs.declared.refusal.Refusal.TheVariants.{Failed}
 use Rattle.fs_layout.specs.declared.inode.Inode.{Inode}
 use Rattle.fs_layout.specs.declared.place.Place.{Place}
 use Rattle.fs_layout.specs.Bytes.{SectorMap}
@@ -13,37 +10,26 @@ use Rattle.fs_model.specs.declared.call.Call.TheVariants.{Fstat}
 use Rattle.fs_model.specs.declared.reply.Reply.TheVariants.{Shown}
 use Rattle.fs_model.specs.declared.reply.FileType.{FileType}
 use Rattle.fs_model.specs.declared.reply.Status.{Status}
-use Rattle.fs_model.specs.Demands.{refuse, first_of}
+use Rattle.fs_model.specs.Demands.{first_of}
 use Rattle.fs_model.specs.Kinds.{type_of_kind}
-use Rattle.fs_model.specs.Processes.{Process, Desks, Descriptor, descriptor, no_descriptor}
+use Rattle.fs_model.specs.Processes.{Desks, Descriptor}
 use Rattle.fs_model.specs.Rows.{row_of}
-use Rattle.fs_model.specs.Scenes.{answers, is_bad, is_bad_to_read, nothing_asked}
+use Rattle.fs_model.specs.Scenes.{answers, nothing_asked}
 use Rattle.fs_model.specs.States.{State}
 use Rattle.fs_model.specs.DescriptorCalls.{fstat_row, fstat_effect, shown}
 use Rattle.call_parts.specs.Performing.{IsStateOf}
 use Rattle.call_parts.proofs.Calling.{state_tree}
-use Rattle.call_parts.proofs.ByDescriptor.{open_scene, IsByDescriptor, IsOpened, the_opened, open_there}
+use Rattle.call_parts.specs.declared.reaching.OpenFor.TheVariants.{Anything}
+use Rattle.call_parts.specs.Reaching.{ActsOn, IsOpened}
+use Rattle.call_parts.proofs.ByDescriptor.{open_scene, the_opened, open_there}
 use Rattle.call_parts.proofs.Shown.{shown_is}
-
--- ---- what the process is asked
-
-pub bad_closed : (fd : ℕ) (q : Process) → descriptor q fd ≡ None → is_bad fd q ≡ Some (Failed EBADF)
-bad_closed fd q none = ap (λ (o : Option Descriptor). refuse EBADF (not (is_some o))) none
-
-pub bad_read_closed : (fd : ℕ) (q : Process) → descriptor q fd ≡ None → is_bad_to_read fd q ≡ Some (Failed EBADF)
-bad_read_closed fd q none = ap (λ (o : Option Descriptor). refuse EBADF (not (unwrap_or o no_descriptor).read)) none
-
-pub not_bad : {desks : Desks} {pid fd : ℕ} {d : Descriptor} → (o : IsOpened desks pid fd d) → is_bad fd o.process ≡ None
-not_bad o = ap (λ (x : Option Descriptor). refuse EBADF (not (is_some x))) o.at
-
--- ---- fstat
 
 fstat_is : (fd : ℕ) → row_of (Fstat fd) ≡ fstat_row fd
 unfolding row_of
 fstat_is fd = refl
 
-pub fstat_by : (fd : ℕ) → IsByDescriptor (Fstat fd) fd (is_bad fd) nothing_asked (fstat_effect fd)
-fstat_by fd = record { row = fstat_is fd; closed = bad_closed fd }
+pub fstat_by : (fd : ℕ) → ActsOn (Fstat fd) fd Anything nothing_asked (fstat_effect fd)
+fstat_by fd = record { row = fstat_is fd }
 
 pub fstat_told : {p : Place} {map : SectorMap} {desks : Desks} {pid fd : ℕ} {d : Descriptor} (o : IsOpened desks pid fd d) (v : Inode) (status : Status)
     → v ≡ inode_at p map d.number

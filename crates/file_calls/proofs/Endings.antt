@@ -51,7 +51,8 @@ use Rattle.path_walk.proofs.Kept.{kept, sound_kept, is_err}
 use Rattle.call_parts.specs.Dropping.{LeavesInode, stays_open, has_name, was_free, goes}
 use Rattle.file_calls.specs.Exiting.{IsExited, IsNotExited, Exits, LeavesAt, is_closed, was_open}
 use Rattle.file_calls.specs.Exiting as why
-use Rattle.call_parts.proofs.ByDescriptor.{IsOpened, opened, open_fits, entry_again, has_open}
+use Rattle.call_parts.specs.Reaching.{IsOpened}
+use Rattle.call_parts.proofs.ByDescriptor.{opened, open_fits, entry_again, has_open}
 use Rattle.call_parts.proofs.Leavings.{left_super, left_sound, left_node, node_stood, closed_number}
 
 -- ---- the map, while the process ends

@@ -99,7 +99,7 @@ space_later p which acl {old} {mid} new e same is =
 
 module _ {p : Place} {map : SectorMap} {desks : Desks} {s : State} {pid : ℕ} {q : Process} {path : List ℕ} {f : Found} {n : ℕ} {v : Inode}
     (at : IsStateOf p map desks s) (has : HasFound s pid q Follow path f) (i : IsInodeFound p map f n v)
-    (met : first_of (must_be_there f ∷ own_asked q.cred (inode_at p map (number f)).uid f.step ∷ []) ≡ None) (which : AclType) (acl : Option AccessList) where
+    (met : own_asked q.cred v.uid f.step ≡ None) (which : AclType) (acl : Option AccessList) where
   abbrev first_two : List Demand
   first_two = must_be_there f ∷ own_at_end (scene_at s q f) ∷ []
 
@@ -117,7 +117,7 @@ module _ {p : Place} {map : SectorMap} {desks : Desks} {s : State} {pid : ℕ} {
       → IsAnswered old new (refused_or {A = A} (first_of (set_acl_demands which acl (scene_at s q f))) (Ok x)) (Err e)
   rest_asked {A} x e old new h =
       subst (λ (ds : List Demand). IsAnswered old new (refused_or {A = A} (first_of ds) (Ok x)) (Err e)) (sym demands_are)
-      (others_asked first_two (holder_asked which v.kind ∷ space) x e old new (own_met at has met) h)
+      (others_asked first_two (holder_asked which v.kind ∷ space) x e old new (own_met at has i met) h)
 
   -- what is of this kind has no such ACL
   pub holder_refused : {A B : Type 0} (y : B) (x : A) (e : Refusal) (old new : DiskState) → refused_or {A = B} (holder_asked which v.kind) (Ok y) ≡ Err e
@@ -145,5 +145,5 @@ module _ {p : Place} {map : SectorMap} {desks : Desks} {s : State} {pid : ℕ} {
         (acl_may_replace s.room s.tree n a.node ((at.is_state.tree).each n a.node a.at) which acl g.valid) g.one g.held
         q f (set_acl_demands which acl (scene_at s q f)) (λ (u : Node). record u { body = with_set_acl which acl u.body })
         (ap first_of demands_are
-        ∙ all_met first_two (holder_asked which v.kind ∷ space) (own_met at has met) (both_met (holder_asked which v.kind) space holder enough))
+        ∙ all_met first_two (holder_asked which v.kind ∷ space) (own_met at has i met) (both_met (holder_asked which v.kind) space holder enough))
         i.number (node_is s q f n i.number a) refl

@@ -1,13 +1,17 @@
 -- What the inode of an open file says of it.
 --     IsFile, open_file        it isn't a directory, and the inode holds its bytes
 --     open_directory, open_names, has_names, open_parent        it is a directory, with its names and its parent
-use Rattle.std.specs.Prelude.{◌≡◌, ◌≢◌, ℕ, List, true, IsFalse}
+--     no_directory, a_directory        what was checked of its kind
+use Rattle.std.specs.Prelude.{◌≡◌, ◌≢◌, ℕ, List, true, not, IsFalse, Ok}
 use Rattle.std.proofs.Common.{refl, sym, ap, subst, ◌∙◌}
 use Rattle.fs_layout.specs.declared.inode.Inode.{Inode}
+use Rattle.fs_cred.specs.declared.errno.Errno.TheVariants.{EISDIR, ENOTDIR}
+use Rattle.fs_layout.specs.declared.inode.Kind.{Kind}
 use Rattle.fs_layout.specs.declared.inode.Kind.TheVariants as kinds
 use Rattle.fs_layout.specs.declared.place.Place.{Place}
 use Rattle.fs_layout.specs.Bytes.{SectorMap}
 use Rattle.fs_layout.specs.Images.{inode_at, Holds}
+use Rattle.fs_model.specs.Demands.{refuse}
 use Rattle.fs_model.specs.Nodes.{Node, Body, File, Dir, Link, is_directory, is_link, names_in, bytes_in}
 use Rattle.fs_model.specs.Processes.{Desks, Descriptor}
 use Rattle.fs_model.specs.Rules.{is_directory_kind}
@@ -19,7 +23,20 @@ use Rattle.fs_model.specs.StoredNodes.{HoldsBody}
 use Rattle.call_parts.specs.Performing.{IsStateOf}
 use Rattle.call_parts.proofs.Calling.{state_tree}
 use Rattle.path_walk.proofs.HeldNodes.{held_node, held_kind, held_names, held_parent}
-use Rattle.call_parts.proofs.ByDescriptor.{open_scene, IsOpened, open_fits, open_node}
+use Rattle.call_parts.specs.Reaching.{IsOpened, checked}
+use Rattle.call_parts.proofs.ByDescriptor.{open_scene, open_fits, open_node}
+
+pub no_directory : (k : Kind) → Ok tt ≡ checked (refuse EISDIR (is_directory_kind k)) → k ≢ kinds.Directory
+no_directory kinds.Directory e = absurd (cc)
+no_directory kinds.Free e = λ is. absurd (cc)
+no_directory kinds.File e = λ is. absurd (cc)
+no_directory kinds.Link e = λ is. absurd (cc)
+
+pub a_directory : (k : Kind) → Ok tt ≡ checked (refuse ENOTDIR (not (is_directory_kind k))) → k ≡ kinds.Directory
+a_directory kinds.Directory e = refl
+a_directory kinds.Free e = absurd (cc)
+a_directory kinds.File e = absurd (cc)
+a_directory kinds.Link e = absurd (cc)
 
 pub record IsFile (map : SectorMap) (v : Inode) (b : Body) : Type 0 where
   pub no_directory : IsFalse (is_directory b)

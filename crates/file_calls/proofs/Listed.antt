@@ -2,12 +2,11 @@
 --     listing_begun, listing_grown, listed_as        a listing that grows
 --     readdir_by        its row
 --     readdir_refused, readdir_told        what it answers
-use Rattle.std.specs.Prelude.{◌≡◌, ◌≢◌, ◌⊎◌, ℕ, ◌+◌, ◌<◌, Bool, not, List, [], ◌∷◌, ◌++◌, length, map, take, get_or, None, Some, Result, Ok, Err, IfOk}
-use Rattle.std.proofs.Common.{refl, sym, ap, ◌∙◌, inl, inr}
+use Rattle.std.specs.Prelude.{◌≡◌, ℕ, ◌+◌, ◌<◌, Bool, not, List, [], ◌∷◌, ◌++◌, length, map, take, get_or, None, Some, Result, Ok, Err, IfOk}
+use Rattle.std.proofs.Common.{refl, sym, ap, ◌∙◌}
 use Rattle.std.proofs.lemmas.List.{map-append, take_more}
 use Rattle.fs_cred.specs.declared.errno.Errno.TheVariants.{ENOTDIR}
 use Rattle.fs_cred.specs.declared.refusal.Refusal.{Refusal}
-use Rattle.fs_cred.specs.declared.refusal.Refusal.TheVariants.{Failed}
 use Rattle.fs_layout.specs.declared.inode.Inode.{Inode}
 use Rattle.fs_layout.specs.declared.inode.Kind.TheVariants as kinds
 use Rattle.fs_layout.specs.declared.place.Place.{Place}
@@ -21,14 +20,17 @@ use Rattle.fs_model.specs.Demands.{refuse, first_of}
 use Rattle.fs_model.specs.Nodes.{names_in}
 use Rattle.fs_model.specs.Processes.{Desks, Descriptor}
 use Rattle.fs_model.specs.Rows.{row_of}
-use Rattle.fs_model.specs.Scenes.{Scene, node_open, answers, is_bad_to_read}
+use Rattle.fs_model.specs.Rules.{is_directory_kind}
+use Rattle.fs_model.specs.Scenes.{Scene, node_open, answers}
 use Rattle.fs_model.specs.States.{State}
 use Rattle.fs_model.specs.Trees.{parent}
 use Rattle.fs_model.specs.DescriptorCalls.{readdir_row, readdir_demands, readdir_effect}
 use Rattle.call_parts.specs.Performing.{IsStateOf}
-use Rattle.call_parts.proofs.ByDescriptor.{open_scene, IsByDescriptor, IsOpened, the_opened}
-use Rattle.file_calls.proofs.DescriptorRows.{bad_read_closed}
-use Rattle.file_calls.proofs.HeldFiles.{open_file, open_directory, open_names, open_parent}
+use Rattle.call_parts.specs.declared.reaching.OpenFor.TheVariants.{Reading}
+use Rattle.call_parts.specs.Reaching.{ActsOn, IsOpened, checked}
+use Rattle.call_parts.proofs.Calling.{first_refuses}
+use Rattle.call_parts.proofs.ByDescriptor.{open_scene, the_opened, open_kind}
+use Rattle.file_calls.proofs.HeldFiles.{open_directory, open_names, open_parent}
 
 -- ---- a listing that grows
 
@@ -62,8 +64,8 @@ readdir_is : (fd : ℕ) → row_of (Readdir fd) ≡ readdir_row fd
 unfolding row_of
 readdir_is fd = refl
 
-pub readdir_by : (fd : ℕ) → IsByDescriptor (Readdir fd) fd (is_bad_to_read fd) (readdir_demands fd) (readdir_effect fd)
-readdir_by fd = record { row = readdir_is fd; closed = bad_read_closed fd }
+pub readdir_by : (fd : ℕ) → ActsOn (Readdir fd) fd Reading (readdir_demands fd) (readdir_effect fd)
+readdir_by fd = record { row = readdir_is fd }
 
 -- ---- what it answers
 
@@ -71,13 +73,11 @@ module _ {p : Place} {map : SectorMap} {desks : Desks} {pid fd : ℕ} {d : Descr
   abbrev scene : Scene
   scene = open_scene s o.process
 
-  pub readdir_refused : {F : Type 0} (e : Refusal) → ((e ≡ Failed ENOTDIR) × ((inode_at p map d.number).kind ≢ kinds.Directory)) ⊎ F
-      → (first_of (readdir_demands fd scene) ≡ Some e) ⊎ F
-  readdir_refused e why = elim why [
-    | inl other ↦ inl (ap (λ (b : Bool). first_of (refuse ENOTDIR (not b) ∷ [])) (open_file o s at (inode_at p map d.number) refl other.1).no_directory
-        ∙ ap (λ (r : Refusal). Some r) (sym other.0))
-    | inr read ↦ inr read
-  ]
+  pub readdir_refused : (v : Inode) → v ≡ inode_at p map d.number → (e : Refusal) → checked (refuse ENOTDIR (not (is_directory_kind v.kind))) ≡ Err e
+      → first_of (readdir_demands fd scene) ≡ Some e
+  readdir_refused v is e refuses =
+      ap (λ (b : Bool). first_of (refuse ENOTDIR (not b) ∷ [])) (open_kind o s at v is)
+      ∙ first_refuses (refuse ENOTDIR (not (is_directory_kind v.kind))) [] e refuses
 
   pub readdir_told : (v : Inode) → v ≡ inode_at p map d.number → v.kind ≡ kinds.Directory → (found : List (List ℕ × ℕ))
       → ((names : List (List ℕ × ℕ)) → HasNames map v names → found ≡ (46 ∷ [], d.number) ∷ (46 ∷ 46 ∷ [], v.parent) ∷ names)

@@ -160,7 +160,7 @@ module _ {p : Place} {map : SectorMap} {desks : Desks} {s : State} {pid : ℕ} {
     (at : IsStateOf p map desks s) (has : HasFound s pid q Follow path f) (i : IsInodeFound p map f n v) where
   -- the mode is given
   pub mode_changed : (cred : Credential) (mode : ℕ) (new : SectorMap) → cred ≡ q.cred
-      → first_of (must_be_there f ∷ own_asked q.cred (inode_at p map (number f)).uid f.step ∷ []) ≡ None
+      → own_asked q.cred v.uid f.step ≡ None
       → ((a : AccessList) → HasAcl map v a → SavesAcl p n (special_mode cred v.kind v.gid mode) (with_mode_bits a mode) map new)
       → IsChange p new desks s q (chmod_demands (scene_at s q f)) (chmod_effect mode (scene_at s q f)) Done
   mode_changed cred mode new same met gives =
@@ -177,4 +177,4 @@ module _ {p : Place} {map : SectorMap} {desks : Desks} {s : State} {pid : ℕ} {
       (mode_may_replace s.room s.tree n a.node ((at.is_state.tree).each n a.node a.at) q.cred mode) saves.one
       (moded_held map new u (inode_at p new n) _ held q.cred mode (special_mode cred v.kind v.gid mode) a.access.acl
       (acl_told a.node.owner a.node.group a.node.body a.access a.is) bits saves.fields saves.bytes saves.default saves.access)
-      q f (chmod_demands (scene_at s q f)) (moded q.cred mode) (own_met at has met) i.number (ap (the_node s.tree) i.number ∙ the_node_is s.tree n a.node a.at) refl
+      q f (chmod_demands (scene_at s q f)) (moded q.cred mode) (own_met at has i met) i.number (ap (the_node s.tree) i.number ∙ the_node_is s.tree n a.node a.at) refl

@@ -1,14 +1,12 @@
 -- What read gives.
 --     read_part, written_back        the bytes that are read
 --     read_by        its row
---     read_asked        whether something is open for reading
 --     read_refused, read_told, read_ends        what it answers, and where it ends
-use Rattle.std.specs.Prelude.{◌≡◌, ◌≢◌, ◌⊎◌, ℕ, ◌+◌, ◌-◌, ◌^◌, ◌<◌, ◌≤◌, min, Bool, not, List, [], ◌∷◌, ◌++◌, length, take, drop, None, Some}
-use Rattle.std.proofs.Common.{refl, sym, ap, subst, arith, ◌∙◌, inl, inr}
+use Rattle.std.specs.Prelude.{◌≡◌, ◌≢◌, ℕ, ◌+◌, ◌-◌, ◌^◌, ◌<◌, ◌≤◌, min, Bool, List, [], ◌∷◌, ◌++◌, length, take, drop, None, Some, Err}
+use Rattle.std.proofs.Common.{refl, sym, ap, subst, arith, ◌∙◌}
 use Rattle.std.proofs.lemmas.List.{length-take, length-drop, append-nil, take-append-le, take_all, take_min, drop_all}
-use Rattle.fs_cred.specs.declared.errno.Errno.TheVariants.{EBADF, EISDIR}
+use Rattle.fs_cred.specs.declared.errno.Errno.TheVariants.{EISDIR}
 use Rattle.fs_cred.specs.declared.refusal.Refusal.{Refusal}
-use Rattle.fs_cred.specs.declared.refusal.Refusal.TheVariants.{Failed}
 use Rattle.fs_layout.specs.declared.inode.Inode.{Inode}
 use Rattle.fs_layout.specs.declared.inode.Kind.TheVariants as kinds
 use Rattle.fs_layout.specs.declared.place.Place.{Place}
@@ -22,14 +20,17 @@ use Rattle.fs_model.specs.Limits.{move_limit}
 use Rattle.fs_model.specs.Nodes.{Node, bytes_in}
 use Rattle.fs_model.specs.Processes.{Desks, Descriptor, with_offset}
 use Rattle.fs_model.specs.Rows.{row_of}
-use Rattle.fs_model.specs.Scenes.{Scene, node_open, is_bad_to_read, with_process}
+use Rattle.fs_model.specs.Rules.{is_directory_kind}
+use Rattle.fs_model.specs.Scenes.{Scene, node_open, with_process}
 use Rattle.fs_model.specs.States.{State}
 use Rattle.fs_model.specs.DescriptorCalls.{read_row, read_demands, read_effect}
 use Rattle.fs_model.proofs.StepsBodies.{bytes_are_few}
 use Rattle.call_parts.specs.Performing.{IsStateOf}
-use Rattle.call_parts.proofs.ByDescriptor.{open_scene, IsByDescriptor, IsOpened, the_opened, open_fits, open_node}
-use Rattle.file_calls.proofs.DescriptorRows.{bad_read_closed}
-use Rattle.file_calls.proofs.HeldFiles.{open_file, open_directory}
+use Rattle.call_parts.specs.declared.reaching.OpenFor.TheVariants.{Reading}
+use Rattle.call_parts.specs.Reaching.{ActsOn, IsOpened, checked}
+use Rattle.call_parts.proofs.Calling.{first_refuses}
+use Rattle.call_parts.proofs.ByDescriptor.{open_scene, the_opened, open_fits, open_node, open_kind}
+use Rattle.file_calls.proofs.HeldFiles.{open_file}
 
 -- a buffer that is no longer than what is left is read full
 pub read_part : (bytes old new : List ℕ) (offset most size count : ℕ) → length old ≡ min most (size - offset) → size ≡ length bytes
@@ -55,25 +56,19 @@ read_is : (fd len : ℕ) → row_of (Read fd len) ≡ read_row fd len
 unfolding row_of
 read_is fd len = refl
 
-pub read_by : (fd len : ℕ) → IsByDescriptor (Read fd len) fd (is_bad_to_read fd) (read_demands fd) (read_effect fd len)
-read_by fd len = record { row = read_is fd len; closed = bad_read_closed fd }
+pub read_by : (fd len : ℕ) → ActsOn (Read fd len) fd Reading (read_demands fd) (read_effect fd len)
+read_by fd len = record { row = read_is fd len }
 
 -- ---- what it answers
-
-module _ {desks : Desks} {pid fd : ℕ} {d : Descriptor} (o : IsOpened desks pid fd d) where
-  pub read_asked : (b : Bool) → not d.read ≡ b → is_bad_to_read fd o.process ≡ refuse EBADF b
-  read_asked b e = ap (λ (x : Descriptor). refuse EBADF (not x.read)) (the_opened o) ∙ ap (refuse EBADF) e
 
 module _ {p : Place} {map : SectorMap} {desks : Desks} {pid fd : ℕ} {d : Descriptor} (o : IsOpened desks pid fd d) (s : State) (at : IsStateOf p map desks s) where
   abbrev scene : Scene
   scene = open_scene s o.process
 
-  pub read_refused : {F : Type 0} (e : Refusal) → ((e ≡ Failed EISDIR) × ((inode_at p map d.number).kind ≡ kinds.Directory)) ⊎ F
-      → (first_of (read_demands fd scene) ≡ Some e) ⊎ F
-  read_refused e why = elim why [
-    | inl dir ↦ inl (ap (λ (b : Bool). first_of (refuse EISDIR b ∷ [])) (open_directory o s at dir.1) ∙ ap (λ (r : Refusal). Some r) (sym dir.0))
-    | inr read ↦ inr read
-  ]
+  pub read_refused : (v : Inode) → v ≡ inode_at p map d.number → (e : Refusal) → checked (refuse EISDIR (is_directory_kind v.kind)) ≡ Err e
+      → first_of (read_demands fd scene) ≡ Some e
+  read_refused v is e refuses =
+      ap (λ (b : Bool). first_of (refuse EISDIR b ∷ [])) (open_kind o s at v is) ∙ first_refuses (refuse EISDIR (is_directory_kind v.kind)) [] e refuses
 
   module _ (v : Inode) (is : v ≡ inode_at p map d.number) (no_directory : v.kind ≢ kinds.Directory) (len : ℕ) (read : List ℕ)
       (found : (bytes : List ℕ) → Holds map v bytes → read ≡ take (min len move_limit) (drop d.offset bytes)) where

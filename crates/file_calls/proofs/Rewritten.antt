@@ -1,7 +1,6 @@
--- A file whose bytes a call has changed, and the exits of calls by a descriptor that change the tree.
+-- A file whose bytes a call has changed.
 --     bytes_rewritten        the map holds the tree with the file's new bytes
 --     content_changes, only_fails        from block_map's promises
---     changed_tree        a call by a descriptor has changed the tree and its process
 use Rattle.std.specs.Prelude.{◌≡◌, ℕ, ◌≤◌, ◌==◌, List, length, None, Some, IsTrue, Ok}
 use Rattle.std.proofs.Common.{refl, sym, ap, subst, ◌∙◌}
 use Rattle.std.specs.List.{list_any}
@@ -37,7 +36,6 @@ use Rattle.call_parts.proofs.Calling.{state_tree, same_process}
 use Rattle.call_parts.proofs.HeldChanges.{bytes_held}
 use Rattle.path_walk.proofs.HeldNodes.{held_node, bytes_say}
 use Rattle.call_parts.specs.ByteChanges.{ChangesBytes}
-use Rattle.call_parts.proofs.ByDescriptor.{open_scene, IsOpened, IsByDescriptor, open_firm, open_late, open_after, changed_there, still_open}
 
 pub bytes_rewritten : {p : Place} {old new : TxnState} {desks : Desks} {s : State} (at : IsStateOf p old.sectors desks s) (now : Desks)
     → ((n : ℕ) → IsTrue (is_open s.desks n) → IsTrue (is_open now n)) → (n : ℕ) (node : Node) → node_at s.tree n ≡ Some node
@@ -53,42 +51,6 @@ bytes_rewritten {p} {old} {new} {desks} {s} at now still n node there file f c f
     (bytes_may_replace s.room s.tree n node (at.is_state.tree.each n node there) bytes few are) c.inode c.used
     (bytes_held old.sectors new.sectors v w (record { node = node; names = names_of s.tree n; parent = parent s.tree n }) held bytes file c.fields c.acls
     (c.held (bytes_in node.body) (bytes_say old.sectors v node.body file held.body)))
-
--- what a call makes of a tree and of its process, with this reply
-pub record ChangesTree (p : Place) (new : SectorMap) (s : State) (now : Desks) (effect : Effect) (process : Process) (reply : Reply) : Type 0 where
-  pub change : Change
-  pub is : effect ≡ record { change = change; process = process; reply = reply }
-  pub new_number : HasNewNumber s change
-  pub holds : HoldsAll p new (placed (swept (changed s.tree change) now))
-
-module _ {p : Place} (pid : ℕ) {call : Call} {fd : ℕ} {bad : Process → Demand} {demands : Scene → List Demand} {effect : Scene → Effect}
-    (is : IsByDescriptor call fd bad demands effect) (old : TxnState) {desks : Desks} {d : Descriptor} (o : IsOpened desks pid fd d)
-    (fine : bad o.process ≡ None) where
-  pub changed_tree : (new : TxnState) (now : Desks) → SameStore old new → new.sectors 0 ≡ old.sectors 0 → (f : Process → Process) (reply : Reply)
-      → now ≡ with_changed desks pid f
-      → ((s : State) → IsStateOf p old.sectors desks s → (first_of (demands (open_scene s o.process)) ≡ None)
-      × ChangesTree p new.sectors s now (effect (open_scene s o.process)) (f o.process) reply)
-      → Performs p pid call old new desks now (Ok reply)
-  changed_tree new now store super f reply is_now says = record {
-    store = store;
-    super = super;
-    table = tt;
-    each = λ s at.
-        let here = same_process at pid o.process o.there in
-        let t = says s at in
-        let of_state : with_entry nat_cmp s.desks pid (f o.process) ≡ now =
-        ap (λ (x : Desks). with_entry nat_cmp x pid (f o.process)) at.same_desks ∙ sym (is_now ∙ changed_there desks pid o.process f o.there) in
-        record {
-          early = open_firm s pid o.process is here ∙ fine;
-          late = open_late s pid o.process is here ∙ t.0;
-          number = 0;
-          change = t.1.change;
-          effect = open_after s pid o.process is here ∙ ap (after_effect s pid) t.1.is
-              ∙ ap (λ (x : Desks). record { change = t.1.change; desks = x; reply = reply }) of_state;
-          new_number = t.1.new_number;
-          holds = t.1.holds;
-        };
-  }
 
 -- ---- from the calls on what an inode holds
 
@@ -110,14 +72,3 @@ pub only_fails : (old new : DiskState) (e : MapFault) → (e ≡ map.TooBig → 
 only_fails old new map.Full big full failed = absurd (full refl)
 only_fails old new map.TooBig big full failed = absurd (big refl)
 only_fails old new map.DiskFault big full failed = failed refl
-
--- what was open is still open where one process changes and keeps open what it had
-pub still_now : {p : Place} {map : SectorMap} {desks : Desks} {pid fd : ℕ} {d : Descriptor} (o : IsOpened desks pid fd d) (s : State) → IsStateOf p map desks s → (now : Desks)
-    (f : Process → Process) → now ≡ with_changed desks pid f
-    → ((n : ℕ) → list_any (λ x. x.1.number == n) (f o.process).descriptors ≡ list_any (λ x. x.1.number == n) o.process.descriptors)
-    → (n : ℕ) → IsTrue (is_open s.desks n) → IsTrue (is_open now n)
-still_now {p} {map} {desks} {pid} {fd} {d} o s at now f is_now keeps n was =
-    let here = same_process at pid o.process o.there in
-    let of_state : with_entry nat_cmp s.desks pid (f o.process) ≡ now =
-    ap (λ (x : Desks). with_entry nat_cmp x pid (f o.process)) at.same_desks ∙ sym (is_now ∙ changed_there desks pid o.process f o.there) in
-    ap (λ (x : Desks). is_open x n) (sym of_state) ∙ still_open s.desks pid o.process (f o.process) at.is_state.pids here n (keeps n) ∙ was

@@ -2,8 +2,8 @@
 --     moves_out, moves_to, below, not_below        one number added to another
 --     lseek_by        its row
 --     lseek_refused, lseek_lost, lseek_told        what it answers
-use Rattle.std.specs.Prelude.{◌≡◌, ◌≢◌, ◌⊎◌, ℕ, ◌^◌, ◌<◌, ◌≤◌, nat_lt, Bool, true, false, not, cond, [], ◌∷◌, Option, None, Some, is_some, unwrap_or, ℤ, pos, negsuc, ◌+ℤ◌, unsigned_abs}
-use Rattle.std.proofs.Common.{refl, sym, ap, subst, arith, ◌∙◌, inl, inr}
+use Rattle.std.specs.Prelude.{◌≡◌, ◌≢◌, ℕ, ◌^◌, ◌<◌, ◌≤◌, nat_lt, Bool, true, false, not, cond, [], ◌∷◌, Option, None, Some, is_some, unwrap_or, Err, ℤ, pos, negsuc, ◌+ℤ◌, unsigned_abs}
+use Rattle.std.proofs.Common.{refl, sym, ap, subst, arith, ◌∙◌}
 use Rattle.std.proofs.lemmas.Bool.Decides.{nat_tests}
 use Rattle.std.specs.Int.{FitsUnsigned, w64}
 use Rattle.std.specs.Int.Signed.{le_z_yes, lt_z_yes}
@@ -23,13 +23,16 @@ use Rattle.fs_model.specs.declared.reply.Reply.TheVariants.{At}
 use Rattle.fs_model.specs.Demands.{refuse, first_of}
 use Rattle.fs_model.specs.Processes.{Desks, Descriptor, with_offset}
 use Rattle.fs_model.specs.Rows.{row_of}
-use Rattle.fs_model.specs.Scenes.{Scene, is_bad, with_process}
+use Rattle.fs_model.specs.Rules.{is_directory_kind}
+use Rattle.fs_model.specs.Scenes.{Scene, with_process}
 use Rattle.fs_model.specs.States.{State}
 use Rattle.fs_model.specs.DescriptorCalls.{seekable, seek_base, sought, lseek_row, lseek_demands, lseek_effect}
 use Rattle.call_parts.specs.Performing.{IsStateOf}
-use Rattle.call_parts.proofs.ByDescriptor.{open_scene, IsByDescriptor, IsOpened, the_opened}
-use Rattle.file_calls.proofs.DescriptorRows.{bad_closed}
-use Rattle.file_calls.proofs.HeldFiles.{open_file, open_directory}
+use Rattle.call_parts.specs.declared.reaching.OpenFor.TheVariants.{Anything}
+use Rattle.call_parts.specs.Reaching.{ActsOn, IsOpened, checked}
+use Rattle.call_parts.proofs.Calling.{first_refuses}
+use Rattle.call_parts.proofs.ByDescriptor.{open_scene, the_opened, open_kind}
+use Rattle.file_calls.proofs.HeldFiles.{open_file}
 
 -- ---- one number added to another
 
@@ -72,8 +75,8 @@ lseek_is : (fd : ℕ) (whence : Whence) (by : ℤ) → row_of (Lseek fd whence b
 unfolding row_of
 lseek_is fd whence by = refl
 
-pub lseek_by : (fd : ℕ) (whence : Whence) (by : ℤ) → IsByDescriptor (Lseek fd whence by) fd (is_bad fd) (lseek_demands fd whence by) (lseek_effect fd whence by)
-lseek_by fd whence by = record { row = lseek_is fd whence by; closed = bad_closed fd }
+pub lseek_by : (fd : ℕ) (whence : Whence) (by : ℤ) → ActsOn (Lseek fd whence by) fd Anything (lseek_demands fd whence by) (lseek_effect fd whence by)
+lseek_by fd whence by = record { row = lseek_is fd whence by }
 
 -- ---- what it answers
 
@@ -81,13 +84,11 @@ module _ {p : Place} {map : SectorMap} {desks : Desks} {pid fd : ℕ} {d : Descr
   abbrev scene : Scene
   scene = open_scene s o.process
 
-  pub lseek_refused : {F : Type 0} (e : Refusal) → ((e ≡ Failed EISDIR) × ((inode_at p map d.number).kind ≡ kinds.Directory)) ⊎ F
-      → (first_of (lseek_demands fd whence by scene) ≡ Some e) ⊎ F
-  lseek_refused e why = elim why [
-    | inl dir ↦ inl (ap (λ (b : Bool). first_of (refuse EISDIR b ∷ refuse EINVAL (not (is_some (sought scene fd whence by))) ∷ [])) (open_directory o s at dir.1)
-        ∙ ap (λ (r : Refusal). Some r) (sym dir.0))
-    | inr read ↦ inr read
-  ]
+  pub lseek_refused : (v : Inode) → v ≡ inode_at p map d.number → (e : Refusal) → checked (refuse EISDIR (is_directory_kind v.kind)) ≡ Err e
+      → first_of (lseek_demands fd whence by scene) ≡ Some e
+  lseek_refused v is e refuses =
+      ap (λ (b : Bool). first_of (refuse EISDIR b ∷ refuse EINVAL (not (is_some (sought scene fd whence by))) ∷ [])) (open_kind o s at v is)
+      ∙ first_refuses (refuse EISDIR (is_directory_kind v.kind)) (refuse EINVAL (not (is_some (sought scene fd whence by))) ∷ []) e refuses
 
   module _ (v : Inode) (is : v ≡ inode_at p map d.number) (no_directory : v.kind ≢ kinds.Directory) (base : ℕ) (start : whence ≡ Set → base ≡ 0)
       (present : whence ≡ Cur → base ≡ d.offset) (end : whence ≡ End → base ≡ v.size) where

@@ -36,8 +36,9 @@ use Rattle.call_parts.specs.Performing as why
 use Rattle.call_parts.proofs.Calling.{early_is, late_is, after_is}
 use Rattle.path_walk.proofs.Kept.{is_err, same_map}
 use Rattle.file_calls.specs.Settling.{IsSettled, Settles}
-use Rattle.call_parts.proofs.ByDescriptor.{IsByDescriptor, absent_firm, changed_there, still_open}
-use Rattle.file_calls.proofs.DescriptorRows.{bad_closed}
+use Rattle.call_parts.specs.declared.reaching.OpenFor.TheVariants.{Anything}
+use Rattle.call_parts.specs.Reaching.{ActsOn}
+use Rattle.call_parts.proofs.ByDescriptor.{absent_firm, changed_there, still_open}
 
 -- a refusal, passed on
 pub settled_err : {pid : ℕ} {call : Call} {before now : Desks} (r : Result Reply Refusal) (e : Refusal) → IsErr r → IsErrAnd r (λ y. y ≡ e) → now ≡ before
@@ -106,8 +107,8 @@ close_is : (fd : ℕ) → row_of (Close fd) ≡ close_row fd
 unfolding row_of
 close_is fd = refl
 
-pub close_by : (fd : ℕ) → IsByDescriptor (Close fd) fd (is_bad fd) nothing_asked (close_effect fd)
-close_by fd = record { row = close_is fd; closed = bad_closed fd }
+pub close_by : (fd : ℕ) → ActsOn (Close fd) fd Anything nothing_asked (close_effect fd)
+close_by fd = record { row = close_is fd }
 
 -- ---- in a transaction
 

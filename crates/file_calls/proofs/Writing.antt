@@ -1,10 +1,10 @@
 -- What write asks and does.
 --     write_by        its row
---     write_asked        whether it is open for that
+--     open_to_write        what is open for that
 --     asks_nothing        to write nothing is never refused
 --     too_far, too_full, all_met        what it asks
 --     writes        the tree and the process afterwards
-use Rattle.std.specs.Prelude.{◌≡◌, ℕ, ◌+◌, ◌-◌, ◌<◌, ◌≤◌, ◌==◌, min, Bool, true, false, not, List, [], ◌∷◌, length, take, nat_lt, nat_le, if◌then◌else◌, Option, None, Some, unwrap_or, IsTrue, IsFalse, Ok}
+use Rattle.std.specs.Prelude.{◌≡◌, ℕ, ◌+◌, ◌-◌, ◌<◌, ◌≤◌, ◌==◌, min, Bool, true, false, not, List, [], ◌∷◌, length, take, nat_lt, nat_le, if◌then◌else◌, None, Some, IsTrue, IsFalse, Ok}
 use Rattle.std.proofs.Common.{refl, sym, ap, arith, ◌∙◌}
 use Rattle.std.proofs.lemmas.Bool.{eqb-true, ltb-false, lt-ltb, le-ltb, le-leb, lt-leb}
 use Rattle.std.proofs.lemmas.List.{length-take}
@@ -18,8 +18,7 @@ use Rattle.fs_layout.specs.Bytes.{SectorMap, IsBytes, overwritten}
 use Rattle.fs_layout.specs.Images.{inode_at, free_sectors}
 use Rattle.fs_layout.proofs.Versions.{max_file_size_is}
 use Rattle.fs_layout.proofs.Sectors.{IsBytes-take}
-use Rattle.sector_txn.specs.Sectors.{TxnState, IsUnchanged}
-use Rattle.sector_txn.proofs.TransactionRuns.{store_same}
+use Rattle.sector_txn.specs.Sectors.{TxnState}
 use Rattle.fs_model.specs.declared.call.Call.TheVariants.{Write}
 use Rattle.fs_model.specs.declared.reply.Reply.TheVariants.{Wrote}
 use Rattle.fs_model.specs.TreeChanges.{Rewrite}
@@ -28,9 +27,9 @@ use Rattle.fs_model.specs.DescriptorCalls.{write_row, write_demands, write_effec
 use Rattle.fs_model.specs.Limits.{move_limit, least_free}
 use Rattle.fs_model.specs.Nodes.{Node, Body, File, Dir, Link, bytes_in, is_directory, is_link}
 use Rattle.fs_model.specs.Parts.{is_empty}
-use Rattle.fs_model.specs.Processes.{Process, Desks, Descriptor, descriptor, the_descriptor, no_descriptor, with_offset, is_open}
+use Rattle.fs_model.specs.Processes.{Desks, Descriptor, the_descriptor, with_offset, is_open}
 use Rattle.fs_model.specs.Rows.{row_of}
-use Rattle.fs_model.specs.Scenes.{Scene, Effect, node_open, is_bad_to_write, answers}
+use Rattle.fs_model.specs.Scenes.{Scene, Effect, node_open, answers}
 use Rattle.fs_model.specs.States.{State}
 use Rattle.fs_model.specs.StoredNodes.{HoldsBody}
 use Rattle.fs_model.specs.Trees.{Room}
@@ -41,25 +40,26 @@ use Rattle.path_walk.specs.Answers.{refused_or}
 use Rattle.call_parts.proofs.Calling.{state_tree, met_ok}
 use Rattle.path_walk.proofs.HeldNodes.{held_node, bytes_say}
 use Rattle.call_parts.specs.ByteChanges.{ChangesBytes}
-use Rattle.call_parts.proofs.ByDescriptor.{open_scene, IsByDescriptor, IsOpened, the_opened, open_fits, open_node}
-use Rattle.file_calls.proofs.Rewritten.{ChangesTree, bytes_rewritten}
-
-pub bad_write_closed : (fd : ℕ) (q : Process) → descriptor q fd ≡ None → is_bad_to_write fd q ≡ Some (Failed EBADF)
-bad_write_closed fd q none = ap (λ (o : Option Descriptor). refuse EBADF (not (unwrap_or o no_descriptor).write)) none
+use Rattle.call_parts.specs.declared.reaching.OpenFor.TheVariants.{Writing}
+use Rattle.call_parts.specs.Reaching.{ActsOn, IsOpened, IsOpenFor}
+use Rattle.call_parts.proofs.Changed.{IsChange}
+use Rattle.call_parts.proofs.ByDescriptor.{open_scene, the_opened, open_fits, open_node}
+use Rattle.file_calls.proofs.Rewritten.{bytes_rewritten}
 
 write_is : (fd : ℕ) (bytes : List ℕ) → row_of (Write fd bytes) ≡ write_row fd bytes
 unfolding row_of
 write_is fd bytes = refl
 
-pub write_by : (fd : ℕ) (bytes : List ℕ) → IsByDescriptor (Write fd bytes) fd (is_bad_to_write fd) (write_demands fd bytes) (write_effect fd bytes)
-write_by fd bytes = record { row = write_is fd bytes; closed = bad_write_closed fd }
+pub write_by : (fd : ℕ) (bytes : List ℕ) → ActsOn (Write fd bytes) fd Writing (write_demands fd bytes) (write_effect fd bytes)
+write_by fd bytes = record { row = write_is fd bytes }
 
-pub unchanged_same : {txn : TxnState} → IsUnchanged txn txn
-unchanged_same = record { store = store_same; sectors = λ n. refl; delta = λ n. refl; room = refl }
+met_only : (b : Bool) → refuse EBADF (not b) ≡ None → b ≡ true
+met_only true e = refl
+met_only false e = absurd (cc)
 
-pub true_if : (b : Bool) → not b ≡ false → b ≡ true
-true_if true e = refl
-true_if false e = absurd (cc)
+-- what is open for writing was opened so
+pub open_to_write : {desks : Desks} {pid fd : ℕ} {d : Descriptor} → IsOpenFor desks pid fd Writing d → d.write ≡ true
+open_to_write {d = d} w = met_only d.write (ap (λ (x : Descriptor). refuse EBADF (not x.write)) (sym (the_opened w.opened)) ∙ w.fine)
 
 pub is_enough : (free least : ℕ) → refused_or {A = Unit {0}} (refuse ENOSPC (nat_lt free least)) (Ok tt) ≡ Ok tt → least ≤ free
 is_enough free least e =
@@ -88,9 +88,6 @@ no_directory_written true w never is = absurd (let e = never refl in let f : tru
 no_directory_written false w never is = refl
 
 module _ {desks : Desks} {pid fd : ℕ} {d : Descriptor} (o : IsOpened desks pid fd d) where
-  pub write_asked : (b : Bool) → not d.write ≡ b → is_bad_to_write fd o.process ≡ refuse EBADF b
-  write_asked b e = ap (λ (x : Descriptor). refuse EBADF (not x.write)) (the_opened o) ∙ ap (refuse EBADF) e
-
   pub asks_nothing : (s : State) (bytes : List ℕ) → is_empty bytes ≡ true
       → (first_of (write_demands fd bytes (open_scene s o.process)) ≡ None)
       × (write_effect fd bytes (open_scene s o.process) ≡ answers (open_scene s o.process) (Wrote 0))
@@ -98,12 +95,12 @@ module _ {desks : Desks} {pid fd : ℕ} {d : Descriptor} (o : IsOpened desks pid
   asks_nothing s (b ∷ bytes) e = absurd (cc)
 
 module _ {p : Place} {map : SectorMap} {desks : Desks} {pid fd : ℕ} {d : Descriptor} (o : IsOpened desks pid fd d) (s : State) (at : IsStateOf p map desks s)
-    (open_to_write : d.write ≡ true) where
+    (wrote : d.write ≡ true) where
   pub file_kind : (inode_at p map d.number).kind ≡ kinds.File
   file_kind =
       let x = open_fits o s at in
       written_kind map (inode_at p map d.number) x.node.body (held_node (state_tree at) d.number x.node x.is_there).body x.no_link
-      (no_directory_written (is_directory x.node.body) d.write x.no_writes open_to_write)
+      (no_directory_written (is_directory x.node.body) d.write x.no_writes wrote)
 
   file_size : (inode_at p map d.number).size ≡ length (bytes_in (open_fits o s at).node.body)
   file_size =
@@ -178,23 +175,26 @@ module _ {p : Place} {map : SectorMap} {desks : Desks} {pid fd : ℕ} {d : Descr
 -- ---- what is written
 
 module _ {p : Place} {old new : TxnState} {desks : Desks} {pid fd : ℕ} {d : Descriptor} (o : IsOpened desks pid fd d) (s : State) (at : IsStateOf p old.sectors desks s)
-    (open_to_write : d.write ≡ true) (v : Inode) (is : v ≡ inode_at p old.sectors d.number) (offset : ℕ) (offset_is : offset ≡ (if d.append then v.size else d.offset))
-    (bytes : List ℕ) (some : is_empty bytes ≡ false) (near : offset < MAX_FILE_SIZE) (fresh : IsBytes bytes) (count : ℕ)
+    (wrote : d.write ≡ true) (v : Inode) (is : v ≡ inode_at p old.sectors d.number) (offset : ℕ) (offset_is : offset ≡ (if d.append then v.size else d.offset))
+    (bytes : List ℕ) (some : is_empty bytes ≡ false) (near : offset < MAX_FILE_SIZE) (enough : least_free ≤ free_sectors p old.sectors) (fresh : IsBytes bytes) (count : ℕ)
     (counted : count ≡ min (length bytes) (min move_limit (MAX_FILE_SIZE - offset)))
     (now : Desks) (still : (n : ℕ) → IsTrue (is_open s.desks n) → IsTrue (is_open now n))
     (c : ChangesBytes p d.number old new (λ held. overwritten held offset (take count bytes))) where
-  pub writes : ChangesTree p new.sectors s now (write_effect fd bytes (open_scene s o.process)) (with_offset o.process fd (offset + count)) (Wrote count)
+  pub writes : IsChange p new.sectors now s (with_offset o.process fd (offset + count)) (write_demands fd bytes (open_scene s o.process))
+      (λ k. write_effect fd bytes (open_scene s o.process)) (Wrote count)
   writes =
       let x = open_fits o s at in
       let body = (at.is_state.tree.each d.number x.node x.is_there).body in
       let limit : s.room.file_limit ≡ MAX_FILE_SIZE = ap (λ (r : Room). r.file_limit) at.same_room ∙ max_file_size_is p.version in
       let len = length-take count bytes in
       record {
+        met = all_met o s at wrote v is offset offset_is bytes some near enough;
+        number = 0;
         change = Rewrite d.number (written x.node offset (take count bytes));
-        is = effect_is o s at open_to_write v is offset offset_is bytes some near
+        is = effect_is o s at wrote v is offset offset_is bytes some near
             ∙ ap (λ (k : ℕ). record { change = Rewrite d.number (written x.node offset (take k bytes)); process = with_offset o.process fd (offset + k); reply = Wrote k }) (sym counted);
         new_number = tt;
-        holds = bytes_rewritten at now still d.number x.node x.is_there (file_kind o s at open_to_write) (λ held. overwritten held offset (take count bytes)) c
+        holds = bytes_rewritten at now still d.number x.node x.is_there (file_kind o s at wrote) (λ held. overwritten held offset (take count bytes)) c
             (length-overwritten (bytes_in x.node.body) offset (take count bytes) s.room.file_limit (bytes_are_few s.room s.tree x.node.body body) (omega (arith, len, counted, limit, near)))
             (IsBytes-overwritten (bytes_in x.node.body) offset (take count bytes) (bytes_are_bytes s.room s.tree x.node.body body) (IsBytes-take count bytes fresh));
       }

@@ -11,7 +11,7 @@ ghost use Rattle.dir_core.specs.Slots.{name_entry};
 ghost use Rattle.path_walk.specs.Answers.{Interrupts};
 ghost use Rattle.call_parts.specs.Performing.{IsReady, Performs};
 
-use crate::opened::directory_open;
+use call_parts::{OpenFor, check_is_directory, reach_open};
 use dir_core::{DirFault, list};
 use fs_cred::{Errno, Refusal};
 use fs_layout::{Inode, Place, Slot};
@@ -89,11 +89,8 @@ pub fn readdir<S: Sectors>(
     ensures performs { Performs place pid (Readdir fd) (S.state s.old) (S.state s.new) procs.now procs.now result }
     ensures same { IsUnchanged (S.state s.old) (S.state s.new) }
 {
-    let descriptor = procs.get(pid, fd)?;
-    if !descriptor.read {
-        return Err(Refusal::Failed(Errno::EBADF));
-    }
-    let inode = directory_open(s, place, descriptor.number)?;
+    let (descriptor, inode) = reach_open(s, place, procs, pid, fd, OpenFor::Reading)?;
+    check_is_directory(inode.kind)?;
     let names = list_names(alloc, s, place, descriptor.number, &inode)?;
     Ok(Reply::Names(names))
 }

@@ -4,7 +4,7 @@ ghost use Rattle.fs_model.specs.declared.call.Call.TheVariants.{Umask, Close};
 ghost use Rattle.call_parts.specs.Performing.{IsReady, Performs};
 ghost use Rattle.file_calls.specs.Settling.{Settles};
 
-use call_parts::leave;
+use call_parts::{OpenFor, find_open, leave};
 use fs_cred::Refusal;
 use fs_layout::Place;
 use fs_model::Reply;
@@ -32,7 +32,7 @@ pub fn close<S: Sectors>(
     requires ready { IsReady place (S.state s.old) procs.old }
     ensures { Performs place pid (Close fd) (S.state s.old) (S.state s.new) procs.old procs.new result }
 {
-    let descriptor = procs.get(pid, fd)?;
+    let descriptor = find_open(procs, pid, fd, OpenFor::Anything)?;
     let n = descriptor.number;
     let stays_open = procs.is_open_besides(pid, fd, n);
     leave(s, place, n, stays_open)?;

@@ -1,12 +1,11 @@
 //! The size of a file: POSIX.1-2017, truncate() and ftruncate().
 
 ghost use Rattle.std.specs.Prelude.{◌≡◌, ◌<◌, ◌≤◌, nat_lt, Ok, OnOk, IfErr};
-ghost use Rattle.fs_cred.specs.declared.errno.Errno.TheVariants.{EISDIR, EFBIG};
+ghost use Rattle.fs_cred.specs.declared.errno.Errno.TheVariants.{EFBIG};
 ghost use Rattle.fs_layout.specs.declared.inode.TheConstants.{MAX_FILE_SIZE};
 ghost use Rattle.fs_layout.specs.Bytes.{resized};
 ghost use Rattle.fs_layout.specs.Images.{inode_at};
 ghost use Rattle.fs_model.specs.Demands.{refuse};
-ghost use Rattle.fs_model.specs.Rules.{is_directory_kind};
 ghost use Rattle.fs_model.specs.declared.call.Call.TheVariants.{Truncate, Ftruncate};
 ghost use Rattle.sector_txn.specs.Sectors.{SameStore};
 ghost use Rattle.bit_alloc.specs.Inodes.{IsSound};
@@ -16,12 +15,11 @@ ghost use Rattle.call_parts.specs.Performing.{IsReady, Performs};
 ghost use Rattle.call_parts.specs.ByteChanges.{ChangesBytes};
 
 use block_map::set_size;
-use call_parts::{permitted, reach};
+use call_parts::{OpenFor, check_no_directory, permitted, reach, reach_open, refuse_if};
 use fs_cred::{Errno, Refusal};
 use fs_layout::{Inode, Kind, MAX_FILE_SIZE, Place};
 use fs_model::{Form, Path, Reply};
 use open_files::Procs;
-use path_walk::load_inode;
 use posix_acl::Perms;
 use sector_txn::Sectors;
 use std::alloc::Global;
@@ -32,24 +30,11 @@ const WRITE: Perms = Perms {
     execute: false,
 };
 
-// Refuses a directory.
-fn check_kind(kind: Kind) -> Result<(), Refusal>
-    ensures { result ≡ refused_or (refuse EISDIR (is_directory_kind kind)) (Ok tt) }
-{
-    if kind == Kind::Directory {
-        return Err(Refusal::Failed(Errno::EISDIR));
-    }
-    Ok(())
-}
-
 // Refuses a size that no file has.
 fn check_size(size: u64) -> Result<(), Refusal>
     ensures { result ≡ refused_or (refuse EFBIG (nat_lt MAX_FILE_SIZE size)) (Ok tt) }
 {
-    if size > MAX_FILE_SIZE {
-        return Err(Refusal::Failed(Errno::EFBIG));
-    }
-    Ok(())
+    refuse_if(Errno::EFBIG, size > MAX_FILE_SIZE)
 }
 
 /// Cuts inode n, a file, to this size, or fills it up with zeros.
@@ -94,7 +79,7 @@ pub fn truncate<S: Sectors>(
 {
     let reached = reach(alloc, s, place, procs, pid, Ok(()), path, Form::Follow)?;
     let inode = reached.inode;
-    check_kind(inode.kind)?;
+    check_no_directory(inode.kind)?;
     let cred = reached.process.cred();
     permitted(alloc, s, place, cred, &inode, WRITE, 1, reached.found.step)?;
     check_size(size)?;
@@ -116,13 +101,8 @@ pub fn ftruncate<S: Sectors>(
     requires ready { IsReady place (S.state s.old) procs.now }
     ensures { Performs place pid (Ftruncate fd size) (S.state s.old) (S.state s.new) procs.now procs.now result }
 {
-    let descriptor = procs.get(pid, fd)?;
-    if !descriptor.write {
-        return Err(Refusal::Failed(Errno::EBADF));
-    }
-    let n = descriptor.number;
+    let (descriptor, inode) = reach_open(s, place, procs, pid, fd, OpenFor::Writing)?;
     check_size(size)?;
-    let inode = load_inode(s, place, n)?;
-    give_size(s, place, n, inode, size)?;
+    give_size(s, place, descriptor.number, inode, size)?;
     Ok(Reply::Done)
 }

@@ -10,8 +10,8 @@ ghost use Rattle.block_map.specs.Blocks.{IsWithin};
 ghost use Rattle.path_walk.specs.Answers.{Interrupts};
 ghost use Rattle.call_parts.specs.Performing.{IsReady, Performs};
 
-use crate::opened::file_open;
 use block_map::read_at;
+use call_parts::{OpenFor, check_no_directory, reach_open};
 use fs_cred::{Errno, Refusal};
 use fs_layout::{Inode, Place};
 use fs_model::{Bytes, Reply, Whence};
@@ -68,11 +68,8 @@ pub fn read<S: Sectors>(
     ensures performs { Performs place pid (Read fd len) (S.state s.old) (S.state s.new) procs.old procs.new result }
     ensures same { IsUnchanged (S.state s.old) (S.state s.new) }
 {
-    let descriptor = procs.get(pid, fd)?;
-    if !descriptor.read {
-        return Err(Refusal::Failed(Errno::EBADF));
-    }
-    let inode = file_open(s, place, descriptor.number)?;
+    let (descriptor, inode) = reach_open(s, place, procs, pid, fd, OpenFor::Reading)?;
+    check_no_directory(inode.kind)?;
     let bytes = read_bytes(alloc, s, &inode, descriptor.offset, len)?;
     procs.seek(pid, fd, descriptor.offset + bytes.bytes().len() as u64);
     Ok(Reply::Data(bytes))
@@ -121,8 +118,8 @@ pub fn lseek<S: Sectors>(
     ensures performs { Performs place pid (Lseek fd whence by) (S.state s.old) (S.state s.new) procs.old procs.new result }
     ensures same { IsUnchanged (S.state s.old) (S.state s.new) }
 {
-    let descriptor = procs.get(pid, fd)?;
-    let inode = file_open(s, place, descriptor.number)?;
+    let (descriptor, inode) = reach_open(s, place, procs, pid, fd, OpenFor::Anything)?;
+    check_no_directory(inode.kind)?;
     let Some(offset) = moved(base(whence, descriptor.offset, inode.size), by) else {
         return Err(Refusal::Failed(Errno::EINVAL));
     };

@@ -16,7 +16,7 @@ ghost use Rattle.call_parts.specs.ByteChanges.{ChangesBytes};
 
 use crate::transfer::MAX_MOVE;
 use block_map::write_at;
-use call_parts::ask_for_sectors;
+use call_parts::{OpenFor, ask_for_sectors, find_open};
 use fs_cred::{Errno, Refusal};
 use fs_layout::{Inode, MAX_FILE_SIZE, Place};
 use fs_model::{Bytes, Reply};
@@ -88,10 +88,7 @@ pub fn write<S: Sectors>(
     requires ready { IsReady place (S.state s.old) procs.old }
     ensures { Performs place pid (Write fd bytes.now) (S.state s.old) (S.state s.new) procs.old procs.new result }
 {
-    let descriptor = procs.get(pid, fd)?;
-    if !descriptor.write {
-        return Err(Refusal::Failed(Errno::EBADF));
-    }
+    let descriptor = find_open(procs, pid, fd, OpenFor::Writing)?;
     let bytes = bytes.bytes();
     if bytes.is_empty() {
         return Ok(Reply::Wrote(0));

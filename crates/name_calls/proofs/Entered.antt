@@ -1,11 +1,8 @@
 -- What chdir asks of what it has found, as its inode says it, and what it leaves of the process.
 --     chdir_by_path        its row
 --     other_kind_refused, search_held, search_refused, entered        what is asked
---     process_performs        a call by one path that changes its process alone
-use Rattle.std.specs.Prelude.{◌≡◌, ℕ, ◌==◌, Bool, true, false, not, if◌then◌else◌, List, [], ◌∷◌, None, Some, IsTrue, Ok, Err}
+use Rattle.std.specs.Prelude.{◌≡◌, ℕ, Bool, true, false, not, if◌then◌else◌, List, [], ◌∷◌, None, Some, Ok, Err}
 use Rattle.std.proofs.Common.{refl, sym, ap, subst, ◌∙◌, inl}
-use Rattle.std.specs.List.{list_any}
-use Rattle.std.specs.Ordering.{nat_cmp}
 use Rattle.sector_disk.specs.Disk.{DiskState}
 use Rattle.fs_cred.specs.declared.errno.Errno.TheVariants.{ENOTDIR}
 use Rattle.fs_cred.specs.declared.node.Node.{Node as AccessNode}
@@ -18,45 +15,26 @@ use Rattle.fs_cred.specs.Verdicts.{verdict}
 use Rattle.fs_layout.specs.declared.inode.Inode.{Inode}
 use Rattle.fs_layout.specs.declared.place.Place.{Place}
 use Rattle.fs_layout.specs.Bytes.{SectorMap}
-use Rattle.fs_layout.specs.Maps.{get, with_entry}
-use Rattle.sector_txn.specs.Sectors.{TxnState, IsUnchanged}
-use Rattle.block_map.proofs.Runs.{unchanged_joined}
-use Rattle.fs_model.specs.declared.call.Call.{Call}
 use Rattle.fs_model.specs.declared.call.Call.TheVariants.{Chdir}
-use Rattle.fs_model.specs.declared.reply.Reply.{Reply}
-use Rattle.fs_model.specs.declared.walk.Form.{Form}
 use Rattle.fs_model.specs.declared.walk.Form.TheVariants.{Follow}
 use Rattle.fs_model.specs.declared.walk.Found.{Found}
 use Rattle.fs_model.specs.AttributeCalls.{chdir_row, chdir_demands, chdir_effect}
 use Rattle.fs_model.specs.Births.{the_node}
-use Rattle.fs_model.specs.TreeChanges.{Same}
 use Rattle.fs_model.specs.Demands.{Demand, refuse, first_of, decided, search_of, search_on, search_only}
 use Rattle.fs_model.specs.Nodes.{Node, Body, File, Dir, Link, is_directory, accessed_body}
-use Rattle.fs_model.specs.Parts.{path_checks}
-use Rattle.fs_model.specs.Processes.{Process, Desks, Descriptor, is_open}
 use Rattle.fs_model.specs.Rows.{row_of}
 use Rattle.fs_model.specs.Rules.{is_directory_kind}
-use Rattle.fs_model.specs.Scenes.{Scene, Effect, number, must_be_there, with_process}
-use Rattle.fs_model.specs.Stands.{HoldsAll, placed}
-use Rattle.fs_model.specs.States.{State}
-use Rattle.fs_model.specs.Steps.{after_effect}
+use Rattle.fs_model.specs.Scenes.{number, must_be_there}
 use Rattle.fs_model.specs.Trees.{Tree, IsDirectoryAt}
 use Rattle.fs_model.proofs.StepsDemands.{unrefused}
-use Rattle.fs_model.proofs.Unchanged.{open_stays}
 use Rattle.path_walk.specs.Answers.{refused_or, IsAnswered}
 use Rattle.path_walk.specs.HeldTrees.{HoldsTree, IsThere, HasAccess}
-use Rattle.call_parts.specs.Paths.{scene_at, HasFound}
-use Rattle.call_parts.specs.Performing.{IsStateOf, Performs}
-use Rattle.path_walk.specs.Walked.{walk_of}
-use Rattle.call_parts.proofs.ByPath.{IsByPath, has_found}
-use Rattle.call_parts.proofs.Calling.{or_else-none, first_asked, next_asked, both_met, met_ok, same_process, state_kept, found_firm, found_late, found_after}
+use Rattle.call_parts.proofs.Calling.{or_else-none, first_asked, next_asked, both_met, met_ok}
 use Rattle.path_walk.proofs.HeldNodes.{held_kind}
-use Rattle.path_walk.proofs.Kept.{same_map}
-use Rattle.call_parts.proofs.ByDescriptor.{still_open}
 use Rattle.call_parts.proofs.Followed.{IsAccessed, accessed_is}
 use Rattle.call_parts.proofs.MakeAsked.{dir_access, dir_held}
 use Rattle.call_parts.proofs.Ownership.{IsNode, node_of}
-use Rattle.call_parts.specs.Reaching.{IsInodeFound}
+use Rattle.call_parts.specs.Reaching.{WalksPath, IsInodeFound}
 use Rattle.name_calls.specs.Entering.{enter_asked}
 
 -- ---- its row
@@ -65,8 +43,8 @@ chdir_is : (path : List ℕ) → row_of (Chdir path) ≡ chdir_row path
 unfolding row_of
 chdir_is path = refl
 
-pub chdir_by_path : (path : List ℕ) → IsByPath (Chdir path) Follow path chdir_demands chdir_effect
-chdir_by_path path = record { arguments = []; row = chdir_is path; met = refl; asks = refl }
+pub chdir_by_path : (path : List ℕ) → WalksPath (Chdir path) (Ok tt) Follow path chdir_demands chdir_effect
+chdir_by_path path = record { arguments = []; row = chdir_is path; are_checked = refl; asks = refl }
 
 -- ---- what is asked
 
@@ -169,45 +147,3 @@ module _ (t : Tree) (f : Found) {cred who : Credential} where
   entered_as n same is =
       met_ok {A = ℕ} (first_of (enter_asked who t f)) (number f) n
       (subst (λ (k : Credential). refused_or {A = ℕ} (first_of (enter_asked k t f)) (Ok (number f)) ≡ Ok n) same is)
-
--- ---- a call that changes its process alone
-
-module _ {p : Place} (pid : ℕ) {call : Call} {form : Form} {path : List ℕ} {demands : Scene → List Demand} {effect : Scene → ℕ → Effect}
-    (is : IsByPath call form path demands effect) {old mid : TxnState} {desks : Desks} (q : Process) (there : get nat_cmp desks pid ≡ Some q)
-    (same : IsUnchanged old mid) (f : Found) (checked : first_of (path_checks path) ≡ None)
-    (each : first_of (path_checks path) ≡ None → (t : Tree) → HoldsTree p old.sectors t → IsThere t q.cwd
-    → IsAnswered old.disk mid.disk (walk_of t q.cred 1 form q.cwd path) (Ok f)) where
-  -- what it has open stays
-  pub process_performs : (new : TxnState) (now : Desks) → IsUnchanged mid new → (r : Process) (reply : Reply) → now ≡ with_entry nat_cmp desks pid r
-      → r.descriptors ≡ q.descriptors
-      → ((s : State) → HasFound s pid q form path f → IsStateOf p mid.sectors desks s
-      → (first_of (demands (scene_at s q f)) ≡ None) × (effect (scene_at s q f) 0 ≡ with_process r reply))
-      → Performs p pid call old new desks now (Ok reply)
-  process_performs new now kept r reply is_now descriptors told =
-      let whole = unchanged_joined same kept in
-      record {
-        store = whole.store;
-        super = whole.sectors 0;
-        table = tt;
-        each = λ s at.
-            let found = has_found pid is q there same f checked each s at in
-            let here = same_process at pid q there in
-            let t = told s found (state_kept same at) in
-            let of_state : with_entry nat_cmp s.desks pid r ≡ now = ap (λ (d : Desks). with_entry nat_cmp d pid r) at.same_desks ∙ sym is_now in
-            let still : (n : ℕ) → IsTrue (is_open s.desks n) → IsTrue (is_open now n) = λ n was.
-            ap (λ (d : Desks). is_open d n) (sym of_state)
-            ∙ still_open s.desks pid q r at.is_state.pids here n (ap (λ (l : List (ℕ × Descriptor)). list_any (λ (d : ℕ × Descriptor). d.1.number == n) l) descriptors) ∙ was in
-            record {
-              early = found_firm s pid q call form path is.arguments demands effect is.row is.met here f found;
-              late = found_late s pid q call form path is.arguments demands effect is.row is.met here f found ∙ t.0;
-              number = 0;
-              change = Same;
-              effect = found_after s pid q call form path is.arguments demands effect is.row is.met here f found 0
-                  ∙ ap (after_effect s pid) t.1
-                  ∙ ap (λ (d : Desks). record { change = Same; desks = d; reply = reply }) of_state;
-              new_number = tt;
-              holds = subst (λ (t : Tree). HoldsAll p new.sectors (placed t))
-                  (sym (open_stays s.room s.tree s.desks now at.is_state.tree (at.is_state.desks at.up) still))
-                  (subst (λ (m : SectorMap). HoldsAll p m (placed s.tree)) (sym (same_map whole)) at.holds);
-            };
-      }

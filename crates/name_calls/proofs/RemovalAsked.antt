@@ -1,7 +1,6 @@
 -- What is asked before a name is removed, as the inodes say it.
 --     body_kind_is        an inode has the kind of a directory where its body is one
 --     yields        what S_ISVTX of a directory asks
---     dir_access        access to the directory is decided
 --     removal_absent, removal_slashed, removal_denied, removal_sticky        one of the demands refuses
 --     removal_met        all are met
 --     directory_checked        what remains to be asked of a directory
@@ -104,13 +103,6 @@ module _ {p : Place} {map : SectorMap} {t : Tree} (h : HoldsTree p map t) {f : F
   yielded =
       allowed_by 1 (f.step - 1) Remove (sticky_allows cred (the_directory (the_node t f.dir)).sticky (the_node t f.dir).owner (the_node t (number f)).owner)
 
-  -- access to the directory is decided
-  abbrev pub access : IsAccessed t f.dir
-  access = dir_access h f.dir named.directory cred (f.step - 1)
-
-  pub access_held : HasAccess map (inode_at p map f.dir) access.access
-  access_held = dir_held h f.dir named.directory cred (f.step - 1)
-
   -- nothing is there
   pub removal_absent : {A B : Type 0} (x : A) (y : B) (e : Refusal) (old new : DiskState) → IsAnswered old new (refused_or absent (Ok y)) (Err e)
       → IsAnswered old new (refused_or (first_of (removal_asked cred t f)) (Ok x)) (Err e)
@@ -137,28 +129,22 @@ module _ {p : Place} {map : SectorMap} {t : Tree} (h : HoldsTree p map t) {f : F
       slash_met : slashed ≡ None
       slash_met = slash_is ∙ (met_ok {A = Unit {0}} (refuse ENOTDIR (f.slash && not (is_directory_kind v.kind))) tt tt no_slash).0
 
-      abbrev decision : Result Rule Refusal
-      decision = refused_or {A = Rule} (decided 1 step (Perm write_and_search) (verdict cred access.access write_and_search)) (Ok (verdict cred access.access write_and_search).rule)
-
-      allowed_is : allowed ≡ decided 1 step (Perm write_and_search) (verdict cred access.access write_and_search)
-      allowed_is =
-          ap (λ (k : ℕ). permission_on cred t f.dir write_and_search 1 k) (sym step_is)
-          ∙ ap (permission_of cred write_and_search 1 step) (accessed_is t f.dir access)
+      allowed_is : allowed ≡ permission_on cred t f.dir write_and_search 1 step
+      allowed_is = ap (λ (k : ℕ). permission_on cred t f.dir write_and_search 1 k) (sym step_is)
 
       -- the directory may not be written, or not searched
-      pub removal_denied : {A : Type 0} (x : A) (e : Refusal) (old new : DiskState) → IsAnswered old new decision (Err e)
+      pub removal_denied : {A B : Type 0} (y : B) (x : A) (e : Refusal) (old new : DiskState)
+          → IsAnswered old new (refused_or (permission_on cred t f.dir write_and_search 1 step) (Ok y)) (Err e)
           → IsAnswered old new (refused_or (first_of (removal_asked cred t f)) (Ok x)) (Err e)
-      removal_denied {A} x e old new is =
+      removal_denied {A} {B} y x e old new is =
           next_asked absent (slashed ∷ allowed ∷ yielded ∷ []) x e old new i.met
           (next_asked slashed (allowed ∷ yielded ∷ []) x e old new slash_met
-          (first_asked {A = A} {B = Rule} allowed (yielded ∷ []) (verdict cred access.access write_and_search).rule x e old new
-          (subst (λ (o : Demand). IsAnswered old new (refused_or {A = Rule} o (Ok (verdict cred access.access write_and_search).rule)) (Err e)) (sym allowed_is) is)))
+          (first_asked {A = A} {B = B} allowed (yielded ∷ []) y x e old new
+          (subst (λ (o : Demand). IsAnswered old new (refused_or {A = B} o (Ok y)) (Err e)) (sym allowed_is) is)))
 
-      module _ {rule : Rule} (granted : decision ≡ Ok rule) {d : Inode} (d_is : d ≡ inode_at p map f.dir) where
+      module _ (granted : permission_on cred t f.dir write_and_search 1 step ≡ None) {d : Inode} (d_is : d ≡ inode_at p map f.dir) where
         allowed_met : allowed ≡ None
-        allowed_met =
-            allowed_is
-            ∙ (met_ok {A = Rule} (decided 1 step (Perm write_and_search) (verdict cred access.access write_and_search)) (verdict cred access.access write_and_search).rule rule granted).0
+        allowed_met = allowed_is ∙ granted
 
         yielded_is : yielded ≡ sticky_asked cred d v 1 step
         yielded_is = yields h cred named.directory node d_is 1 step step_is

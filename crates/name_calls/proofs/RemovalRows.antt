@@ -1,9 +1,9 @@
 -- unlink and rmdir, by their rows.
---     unlink_by_path, rmdir_by_path        the rows
+--     removes_by_path        the rows
 --     asked_first, asked_second, asked_third, all_asked, parts_met        demands in three parts
---     finds_name, plain_name, last_is_name, name_there        a name was found, with what it leads to
---     kind_told, directory_told        the last part, as the inode says it
---     inode_told, unlink_told, unlink_may, rmdir_told, rmdir_may        where all is met
+--     finds_name, last_is_name, name_there        a name was found, with what it leads to
+--     target_told        the last part, as the inode says it
+--     inode_told, target_found, target_met, target_may        where all is met
 --     name_gone        the name is gone
 use Rattle.std.specs.Prelude.{◌≡◌, ℕ, ◌==◌, Bool, true, false, not, ◌&&◌, ◌||◌, List, [], ◌∷◌, ◌++◌, Option, None, is_some, IsTrue, Ok, Err}
 use Rattle.std.proofs.Common.{refl, sym, ap, subst, ◌∙◌, inl}
@@ -15,23 +15,21 @@ use Rattle.fs_layout.specs.declared.inode.Inode.{Inode}
 use Rattle.fs_layout.specs.declared.place.Place.{Place}
 use Rattle.fs_layout.specs.Bytes.{SectorMap, IsBytes}
 use Rattle.fs_layout.specs.Images.{inode_at}
-use Rattle.fs_model.specs.declared.call.Call.TheVariants.{Unlink, Rmdir}
 use Rattle.fs_model.specs.declared.walk.Form.TheVariants.{Parent}
 use Rattle.fs_model.specs.declared.walk.Found.{Found}
 use Rattle.fs_model.specs.declared.reply.Reply.TheVariants.{Done}
 use Rattle.fs_model.specs.Births.{the_node}
 use Rattle.fs_model.specs.TreeChanges.{TakeName, changed, swept}
 use Rattle.fs_model.specs.Demands.{Demand, refuse, first_of}
-use Rattle.fs_model.specs.NameCalls.{unlink_row, rmdir_row, unlink_demands, rmdir_demands, takes_name}
+use Rattle.fs_model.specs.NameCalls.{takes_name}
 use Rattle.fs_model.specs.Nodes.{Node, is_directory, names_in}
 use Rattle.fs_model.specs.Parts.{is_empty}
 use Rattle.fs_model.specs.Processes.{Process, Desks, is_in_use}
 use Rattle.fs_model.specs.Rows.{row_of}
-use Rattle.fs_model.specs.Rules.{is_directory_kind}
-use Rattle.fs_model.specs.Scenes.{is_found, is_special, ends_top, ends_dot, ends_dot_dot, number, must_be_there}
+use Rattle.fs_model.specs.Scenes.{is_found, is_special, ends_top, ends_dot, ends_dot_dot, number, must_be_there, by_path}
 use Rattle.fs_model.specs.Stands.{HoldsAll, placed}
 use Rattle.fs_model.specs.States.{State}
-use Rattle.fs_model.specs.Steps.{found_by}
+use Rattle.fs_model.specs.Steps.{found_by, asks_in_call}
 use Rattle.fs_model.specs.StoredNodes.{HoldsBody}
 use Rattle.fs_model.proofs.StepsDemands.{first_met, then_met, unrefused, and_false}
 use Rattle.fs_model.proofs.StepsFound.{IsNameAt, IsWalked, is_walked}
@@ -45,25 +43,23 @@ use Rattle.call_parts.proofs.Changed.{IsChange}
 use Rattle.call_parts.proofs.Checked.{refused_as}
 use Rattle.call_parts.proofs.Ownership.{IsNode, node_of, some_asked, others_asked, all_met}
 use Rattle.call_parts.proofs.Shown.{is_inode}
-use Rattle.name_calls.specs.Removing.{FindsName, IsNamedThere, removal_asked, last_asked, directory_asked, MayGo}
-use Rattle.name_calls.proofs.RemovalAsked.{body_kind_is}
+use Rattle.name_calls.specs.declared.removal.Target.{Target}
+use Rattle.name_calls.specs.declared.removal.Target.TheVariants as targets
+use Rattle.name_calls.specs.Removing.{FindsName, IsNamedThere, removal_asked, last_asked, directory_asked, kind_asked, target_asked, removal_demands, removal_call, MayGo}
 
 -- ---- the rows
 
-module _ (path : List ℕ) where
-  unlink_is : row_of (Unlink path) ≡ unlink_row path
-  unfolding row_of
-  unlink_is = refl
+row_is : (what : Target) (path : List ℕ) → row_of (removal_call what path) ≡ by_path [] Parent path (removal_demands what) takes_name
+unfolding row_of
+row_is targets.NoDirectory path = refl
+row_is targets.Directory path = refl
 
-  pub unlink_by_path : WalksPath (Unlink path) (Ok tt) Parent path unlink_demands takes_name
-  unlink_by_path = record { arguments = []; row = unlink_is; are_checked = refl; asks = refl }
+asks : (what : Target) (path : List ℕ) → IsTrue (asks_in_call (removal_call what path))
+asks targets.NoDirectory path = refl
+asks targets.Directory path = refl
 
-  rmdir_is : row_of (Rmdir path) ≡ rmdir_row path
-  unfolding row_of
-  rmdir_is = refl
-
-  pub rmdir_by_path : WalksPath (Rmdir path) (Ok tt) Parent path rmdir_demands takes_name
-  rmdir_by_path = record { arguments = []; row = rmdir_is; are_checked = refl; asks = refl }
+pub removes_by_path : (what : Target) (path : List ℕ) → WalksPath (removal_call what path) (Ok tt) Parent path (removal_demands what) takes_name
+removes_by_path what path = record { arguments = []; row = row_is what path; are_checked = refl; asks = asks what path }
 
 -- ---- demands in three parts
 
@@ -104,14 +100,10 @@ pub finds_name : {p : Place} {map : SectorMap} {desks : Desks} {s : State} {pid 
     → IsStateOf p map desks s → HasFound s pid q Parent path f → FindsName p map desks q f s
 finds_name {p} {map} {desks} {s} {pid} {q} {path} {f} bytes at has = record { pid = pid; path = path; bytes = bytes; is_state = at; found = has }
 
--- where unlink asks nothing more of the last component, it is a name
-pub plain_name : (special : Bool) → checked (first_of (refuse EISDIR special ∷ [])) ≡ Ok tt → special ≡ false
-plain_name special is =
-    unrefused EISDIR special (first_met (refuse EISDIR special) None (met_ok {A = Unit {0}} (first_of (refuse EISDIR special ∷ [])) tt tt is).0)
-
--- where rmdir asks nothing more of the last component, it is a name
-pub last_is_name : (f : Found) → first_of (last_asked f) ≡ None → is_special f ≡ false
-last_is_name f none =
+-- where nothing more is asked of the last component, it is a name
+pub last_is_name : (what : Target) (f : Found) → first_of (last_asked what f) ≡ None → is_special f ≡ false
+last_is_name targets.NoDirectory f none = unrefused EISDIR (is_special f) (first_met (refuse EISDIR (is_special f)) None none)
+last_is_name targets.Directory f none =
     let top = unrefused EBUSY (ends_top f) (first_met (refuse EBUSY (ends_top f)) _ none) in
     let rest = then_met (refuse EBUSY (ends_top f)) _ none in
     let dot = unrefused EINVAL (ends_dot f) (first_met (refuse EINVAL (ends_dot f)) _ rest) in
@@ -143,24 +135,35 @@ module _ {p : Place} {map : SectorMap} {desks : Desks} {q : Process} {f : Found}
     pub node_held : HoldsBody map v node.node.body
     node_held = node.holds.body
 
-    -- that it is no directory
-    pub kind_told : first_of (refuse EISDIR (is_directory_kind v.kind) ∷ []) ≡ first_of (refuse EISDIR (is_found f && is_directory (the_node s.tree (number f)).body) ∷ [])
-    kind_told =
-        ap (λ (b : Bool). first_of (refuse EISDIR b ∷ [])) (body_kind_is map v node.node.body node.holds.body)
-        ∙ ap (λ (u : Node). first_of (refuse EISDIR (is_directory u.body) ∷ [])) (sym node.is)
-        ∙ ap (λ (o : Option ℕ). first_of (refuse EISDIR (is_some o && is_directory (the_node s.tree (number f)).body) ∷ [])) (sym k.some)
-
-    -- that it is an empty directory that isn't in use
-    pub directory_told : directory_asked node.node.body (is_in_use desks n)
-        ≡ (refuse ENOTDIR (is_found f && not (is_directory (the_node s.tree (number f)).body)) ∷ refuse EBUSY (is_in_use s.desks (number f))
-        ∷ refuse ENOTEMPTY (not (is_empty (names_in (the_node s.tree (number f)).body))) ∷ [])
-    directory_told =
-        let B = (the_node s.tree (number f)).body in
+    -- what is asked of it
+    pub target_told : (what : Target) → kind_asked what node.node.body (is_in_use desks n) ≡ target_asked what (scene_at s q f)
+    target_told targets.NoDirectory =
+        ap (λ (u : Node). refuse EISDIR (is_directory u.body) ∷ []) (sym node.is)
+        ∙ ap (λ (o : Option ℕ). refuse EISDIR (is_some o && is_directory (the_node s.tree (number f)).body) ∷ []) (sym k.some)
+    target_told targets.Directory =
         ap (λ (u : Node). directory_asked u.body (is_in_use desks n)) (sym node.is)
         ∙ ap (λ (m : ℕ). directory_asked (the_node s.tree (number f)).body (is_in_use desks m)) (sym k.number)
         ∙ ap (λ (d : Desks). directory_asked (the_node s.tree (number f)).body (is_in_use d (number f))) (sym i.is_state.same_desks)
         ∙ ap (λ (o : Option ℕ). refuse ENOTDIR (is_some o && not (is_directory (the_node s.tree (number f)).body)) ∷ refuse EBUSY (is_in_use s.desks (number f))
         ∷ refuse ENOTEMPTY (not (is_empty (names_in (the_node s.tree (number f)).body))) ∷ []) (sym k.some)
+
+    -- an empty directory that isn't in use, if it is one
+    free : (what : Target) → first_of (target_asked what (scene_at s q f)) ≡ None → IsTrue (is_directory node.node.body)
+        → (names_in node.node.body ≡ []) × (is_in_use s.desks n ≡ false)
+    free targets.NoDirectory none is_dir =
+        let other = unrefused EISDIR (is_found f && is_directory (the_node s.tree (number f)).body)
+        (first_met (refuse EISDIR (is_found f && is_directory (the_node s.tree (number f)).body)) None none) in
+        let no = and_false (is_found f) (is_directory (the_node s.tree (number f)).body) other (ap is_some k.some) in
+        let here : is_directory node.node.body ≡ false = ap (λ (u : Node). is_directory u.body) (sym node.is) ∙ no in
+        absurd (let both : true ≡ false = sym is_dir ∙ here in cc)
+    free targets.Directory none is_dir =
+        let rest = then_met (refuse ENOTDIR (is_found f && not (is_directory (the_node s.tree (number f)).body))) _ none in
+        let used = unrefused EBUSY (is_in_use s.desks (number f)) (first_met (refuse EBUSY (is_in_use s.desks (number f))) _ rest) in
+        let names = unrefused ENOTEMPTY (not (is_empty (names_in (the_node s.tree (number f)).body)))
+        (first_met (refuse ENOTEMPTY (not (is_empty (names_in (the_node s.tree (number f)).body)))) None (then_met (refuse EBUSY (is_in_use s.desks (number f))) _ rest)) in (
+          ap (λ (u : Node). names_in u.body) (sym node.is) ∙ empty_if (names_in (the_node s.tree (number f)).body) names,
+          ap (is_in_use s.desks) (sym k.number) ∙ used,
+        )
 
     may_go : is_special f ≡ false → (IsTrue (is_directory node.node.body) → (names_in node.node.body ≡ []) × (is_in_use s.desks n ≡ false)) → MayGo s f.dir f.name n
     may_go special free =
@@ -185,54 +188,19 @@ module _ {p : Place} {map : SectorMap} {desks : Desks} {q : Process} {f : Found}
       is_inode p map f n v
       (ap (λ (e : Demand). refused_or {A = ℕ × Inode} e (Ok (number f, inode_at p map (number f)))) there ∙ ap (λ (x : ℕ × Inode). Ok x) both.1)
 
-  module _ {n : ℕ} {v : Inode} where
-    pub unlink_told : refused_or {A = ℕ × Inode} (first_of (unlink_demands (scene_at s q f))) (Ok (number f, inode_at p map (number f))) ≡ Ok (n, v)
-        → IsInodeFound p map f n v
-    unlink_told is = inode_told (refuse EISDIR (is_special f) ∷ []) (refuse EISDIR (is_found f && is_directory (the_node s.tree (number f)).body) ∷ []) is
+  module _ (what : Target) {n : ℕ} {v : Inode}
+      (is : refused_or {A = ℕ × Inode} (first_of (removal_demands what (scene_at s q f))) (Ok (number f, inode_at p map (number f))) ≡ Ok (n, v)) where
+    pub target_found : IsInodeFound p map f n v
+    target_found = inode_told (last_asked what f) (target_asked what (scene_at s q f)) is
 
-    -- what unlink may remove
-    pub unlink_may : refused_or {A = ℕ × Inode} (first_of (unlink_demands (scene_at s q f))) (Ok (number f, inode_at p map (number f))) ≡ Ok (n, v)
-        → MayGo s f.dir f.name n
-    unlink_may is =
-        let a = refuse EISDIR (is_special f) ∷ [] in
-        let c = refuse EISDIR (is_found f && is_directory (the_node s.tree (number f)).body) ∷ [] in
-        let k = unlink_told is in
-        let none = (met_ok {A = ℕ × Inode} (first_of (unlink_demands (scene_at s q f))) (number f, inode_at p map (number f)) (n, v) is).0 in
-        let parts = parts_met a (removal_asked q.cred s.tree f) c none in
-        let special = unrefused EISDIR (is_special f) (first_met (refuse EISDIR (is_special f)) None parts.0) in
-        let other = unrefused EISDIR (is_found f && is_directory (the_node s.tree (number f)).body)
-        (first_met (refuse EISDIR (is_found f && is_directory (the_node s.tree (number f)).body)) None parts.2) in
-        let no = and_false (is_found f) (is_directory (the_node s.tree (number f)).body) other (ap is_some k.some) in
-        let here : is_directory (node k).node.body ≡ false = ap (λ (u : Node). is_directory u.body) (sym (node k).is) ∙ no in
-        may_go k special (λ yes. absurd (let both : true ≡ false = sym yes ∙ here in cc))
+    pub target_met : first_of (removal_demands what (scene_at s q f)) ≡ None
+    target_met = (met_ok {A = ℕ × Inode} (first_of (removal_demands what (scene_at s q f))) (number f, inode_at p map (number f)) (n, v) is).0
 
-    pub rmdir_told : refused_or {A = ℕ × Inode} (first_of (rmdir_demands (scene_at s q f))) (Ok (number f, inode_at p map (number f))) ≡ Ok (n, v)
-        → IsInodeFound p map f n v
-    rmdir_told is =
-        inode_told (last_asked f) (refuse ENOTDIR (is_found f && not (is_directory (the_node s.tree (number f)).body)) ∷ refuse EBUSY (is_in_use s.desks (number f))
-        ∷ refuse ENOTEMPTY (not (is_empty (names_in (the_node s.tree (number f)).body))) ∷ []) is
-
-    -- what rmdir may remove
-    pub rmdir_may : refused_or {A = ℕ × Inode} (first_of (rmdir_demands (scene_at s q f))) (Ok (number f, inode_at p map (number f))) ≡ Ok (n, v)
-        → MayGo s f.dir f.name n
-    rmdir_may is =
-        let a = last_asked f in
-        let c = refuse ENOTDIR (is_found f && not (is_directory (the_node s.tree (number f)).body)) ∷ refuse EBUSY (is_in_use s.desks (number f))
-        ∷ refuse ENOTEMPTY (not (is_empty (names_in (the_node s.tree (number f)).body))) ∷ [] in
-        let k = rmdir_told is in
-        let none = (met_ok {A = ℕ × Inode} (first_of (rmdir_demands (scene_at s q f))) (number f, inode_at p map (number f)) (n, v) is).0 in
-        let parts = parts_met a (removal_asked q.cred s.tree f) c none in
-        let used = unrefused EBUSY (is_in_use s.desks (number f)) (first_met (refuse EBUSY (is_in_use s.desks (number f))) _
-        (then_met (refuse ENOTDIR (is_found f && not (is_directory (the_node s.tree (number f)).body))) _ parts.2)) in
-        let names = unrefused ENOTEMPTY (not (is_empty (names_in (the_node s.tree (number f)).body)))
-        (first_met (refuse ENOTEMPTY (not (is_empty (names_in (the_node s.tree (number f)).body)))) None
-        (then_met (refuse EBUSY (is_in_use s.desks (number f))) _
-        (then_met (refuse ENOTDIR (is_found f && not (is_directory (the_node s.tree (number f)).body))) _ parts.2))) in
-        may_go k (last_is_name f parts.0)
-        (λ yes. (
-          ap (λ (u : Node). names_in u.body) (sym (node k).is) ∙ empty_if (names_in (the_node s.tree (number f)).body) names,
-          ap (is_in_use s.desks) (sym k.number) ∙ used,
-        ))
+    -- what may be removed
+    pub target_may : MayGo s f.dir f.name n
+    target_may =
+        let parts = parts_met (last_asked what f) (removal_asked q.cred s.tree f) (target_asked what (scene_at s q f)) target_met in
+        may_go target_found (last_is_name what f parts.0) (free target_found what parts.2)
 
 -- ---- the name is gone
 

@@ -1,16 +1,19 @@
 -- What removing a name asks.
 --     FindsName        what a process has found, for a call on a name
 --     IsNamedThere, removal_asked        what was found and its directory are there, and what is asked of both
---     last_asked, directory_asked        asked of the last component, of a directory
+--     last_asked, directory_asked, kind_asked, target_asked        asked of the last component, of a directory, of what goes
+--     removal_demands, removal_call        the demands of a call that removes a name, and that call
 --     MayGo        a name that may go
-use Rattle.std.specs.Prelude.{◌≡◌, ℕ, ◌-◌, Bool, not, ◌&&◌, List, [], ◌∷◌, Some, IsTrue, IsFalse}
-use Rattle.fs_cred.specs.declared.errno.Errno.TheVariants.{EBUSY, EINVAL, ENOTDIR, ENOTEMPTY}
+use Rattle.std.specs.Prelude.{◌≡◌, ℕ, ◌-◌, Bool, not, ◌&&◌, List, [], ◌∷◌, ◌++◌, Some, IsTrue, IsFalse}
+use Rattle.fs_cred.specs.declared.errno.Errno.TheVariants.{EBUSY, EINVAL, EISDIR, ENOTDIR, ENOTEMPTY}
 use Rattle.fs_cred.specs.declared.refusal.Need.TheVariants.{Remove}
 use Rattle.fs_cred.specs.Credentials.{Credential}
 use Rattle.fs_cred.specs.Ownership.{sticky_allows}
 use Rattle.fs_layout.specs.declared.place.Place.{Place}
 use Rattle.fs_layout.specs.Bytes.{SectorMap, IsBytes}
 use Rattle.fs_layout.specs.Maps.{name_cmp, get}
+use Rattle.fs_model.specs.declared.call.Call.{Call}
+use Rattle.fs_model.specs.declared.call.Call.TheVariants.{Unlink, Rmdir}
 use Rattle.fs_model.specs.declared.walk.Form.TheVariants.{Parent}
 use Rattle.fs_model.specs.declared.walk.Found.{Found}
 use Rattle.fs_model.specs.Births.{the_node, the_directory}
@@ -18,12 +21,14 @@ use Rattle.fs_model.specs.Demands.{Demand, refuse, permission_on, allowed_by, wr
 use Rattle.fs_model.specs.Nodes.{Node, Body, is_directory, names_in}
 use Rattle.fs_model.specs.Parts.{is_empty}
 use Rattle.fs_model.specs.Processes.{Process, Desks, is_in_use}
-use Rattle.fs_model.specs.Scenes.{is_found, number, ends_top, ends_dot, ends_dot_dot, must_be_there}
+use Rattle.fs_model.specs.Scenes.{Scene, is_found, is_special, is_directory_found, is_nondirectory_found, has_names, number, ends_top, ends_dot, ends_dot_dot, must_be_there}
 use Rattle.fs_model.specs.States.{State}
 use Rattle.fs_model.specs.Trees.{Tree, node_at, IsDirectoryAt}
 use Rattle.path_walk.specs.HeldTrees.{IsThere}
 use Rattle.call_parts.specs.Paths.{HasFound}
 use Rattle.call_parts.specs.Performing.{IsStateOf}
+use Rattle.name_calls.specs.declared.removal.Target.{Target}
+use Rattle.name_calls.specs.declared.removal.Target.TheVariants.{NoDirectory, Directory}
 
 -- in a state of this map and this table the process has found this, by a path that ends in a name
 pub record FindsName (p : Place) (map : SectorMap) (desks : Desks) (q : Process) (f : Found) (s : State) : Type 0 where
@@ -48,13 +53,35 @@ removal_asked cred t f =
     (sticky_allows cred (the_directory (the_node t f.dir)).sticky (the_node t f.dir).owner (the_node t (number f)).owner)
     ∷ []
 
--- asked of the last component, where a directory is to go
-abbrev pub last_asked : Found → List Demand
-last_asked f = refuse EBUSY (ends_top f) ∷ refuse EINVAL (ends_dot f) ∷ refuse ENOTEMPTY (ends_dot_dot f) ∷ []
+-- asked of the last component
+abbrev pub last_asked : Target → Found → List Demand
+last_asked NoDirectory f = refuse EISDIR (is_special f) ∷ []
+last_asked Directory f = refuse EBUSY (ends_top f) ∷ refuse EINVAL (ends_dot f) ∷ refuse ENOTEMPTY (ends_dot_dot f) ∷ []
 
 -- asked of the body of what is to go as a directory
 abbrev pub directory_asked : Body → Bool → List Demand
 directory_asked b used = refuse ENOTDIR (not (is_directory b)) ∷ refuse EBUSY used ∷ refuse ENOTEMPTY (not (is_empty (names_in b))) ∷ []
+
+-- asked of the body of what is to go
+abbrev pub kind_asked : Target → Body → Bool → List Demand
+kind_asked NoDirectory b used = refuse EISDIR (is_directory b) ∷ []
+kind_asked Directory b used = directory_asked b used
+
+-- the same of what was found, if something was
+abbrev pub target_asked : Target → Scene → List Demand
+target_asked NoDirectory s = refuse EISDIR (is_directory_found s s.first) ∷ []
+target_asked Directory s =
+    refuse ENOTDIR (is_nondirectory_found s s.first)
+    ∷ refuse EBUSY (is_in_use s.state.desks (number s.first))
+    ∷ refuse ENOTEMPTY (has_names s s.first)
+    ∷ []
+
+abbrev pub removal_demands : Target → Scene → List Demand
+removal_demands what s = last_asked what s.first ++ (removal_asked s.process.cred s.state.tree s.first ++ target_asked what s)
+
+abbrev pub removal_call : Target → List ℕ → Call
+removal_call NoDirectory path = Unlink path
+removal_call Directory path = Rmdir path
 
 -- the name leads from directory dir to n, which is no directory, or an empty one that isn't in use
 pub record MayGo (s : State) (dir : ℕ) (name : List ℕ) (n : ℕ) : Type 0 where

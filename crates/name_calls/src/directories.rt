@@ -1,11 +1,15 @@
 //! Directories: POSIX.1-2017, mkdir() and chdir().
 
-ghost use Rattle.std.specs.Prelude.{◌≡◌, ◌+◌, ◌/◌, ◌%◌, ◌<◌, ◌==◌, ℕ, cond, not, Some, Ok, option_copied, OnOk, IfErr};
+ghost use Rattle.std.specs.Prelude.{◌≡◌, ◌+◌, ◌/◌, ◌%◌, ◌<◌, ◌==◌, ℕ, cond, not, Some, Ok, option_copied, Err, OnOk, IfOk, IfErr, IsSome};
+ghost use Rattle.std.specs.Ordering.{nat_cmp};
+ghost use Rattle.fs_layout.specs.Maps.{get};
+ghost use Rattle.fs_model.specs.declared.reply.Reply.TheVariants.{Done};
+ghost use Rattle.fs_model.specs.Processes.{Desks};
+ghost use Rattle.open_files.specs.Tables.{with_changed};
 ghost use Rattle.fs_layout.specs.Images.{inode_at};
 ghost use Rattle.fs_model.specs.declared.call.Call.TheVariants.{Mkdir, Chdir};
 ghost use Rattle.fs_model.specs.Births.{born_directory, the_node};
 ghost use Rattle.fs_model.specs.Demands.{refuse, first_of};
-ghost use Rattle.fs_model.specs.Rules.{is_directory_kind};
 ghost use Rattle.fs_model.specs.Scenes.{number, must_be_new};
 ghost use Rattle.fs_model.specs.Trees.{Tree};
 ghost use Rattle.sector_txn.specs.Sectors.{SameStore, IsUnchanged};
@@ -16,11 +20,11 @@ ghost use Rattle.path_walk.specs.HeldTrees.{HoldsTree, IsThere};
 ghost use Rattle.call_parts.specs.Performing.{IsReady, Performs};
 ghost use Rattle.call_parts.specs.Makings.{CanMake};
 ghost use Rattle.name_calls.specs.Entering.{enter_asked};
-ghost use Rattle.call_parts.specs.NewNodes.{IsMade, IsNewIn, MakesNode, directory_made};
+ghost use Rattle.call_parts.specs.NewNodes.{IsMade, IsNewIn, IsPlaced, directory_made};
 
 use call_parts::{
-    check_make, check_mode, default_of, find, inherited, inode_found, is_new, name_inode,
-    new_group, walk_path,
+    check_is_directory, check_make, check_mode, default_of, inherited, inode_found, is_new,
+    name_inode, new_group, walk_path,
 };
 use fs_cred::{Cred, Errno, Refusal};
 use fs_layout::{Inode, Kind, Place, S_ISGID, S_ISVTX};
@@ -64,7 +68,7 @@ fn place_directory<S: Sectors>(
     requires bits { bits < 2048 }
     requires spare { HasSpare place 47 (S.state s.old) }
     ensures store { SameStore (S.state s.old) (S.state s.new) }
-    ensures made { OnOk result ((n : ℕ) × MakesNode place dir name.now n (directory_made uid gid bits access.now (option_copied default.entry))
+    ensures made { OnOk result (IsPlaced place dir name.now (directory_made uid gid bits access.now (option_copied default.entry))
         (S.state s.old).sectors (S.state s.new).sectors) }
     ensures err { IfErr result (FailsToRead (S.state s.old).disk (S.state s.new).disk) }
 {
@@ -150,16 +154,6 @@ pub fn mkdir<S: Sectors>(
     Ok(Reply::Done)
 }
 
-// Asks whether an inode is that of a directory.
-fn check_directory(inode: &Inode) -> Result<(), Refusal>
-    ensures { result ≡ refused_or (refuse Errno.ENOTDIR (not (is_directory_kind inode.now.kind))) (Ok tt) }
-{
-    if inode.kind != Kind::Directory {
-        return Err(Refusal::Failed(Errno::ENOTDIR));
-    }
-    Ok(())
-}
-
 // The directory that was found, which the caller may search. ENOENT: nothing was. ENOTDIR: it is none.
 fn directory_found<S: Sectors>(
     alloc: Global,
@@ -176,8 +170,29 @@ fn directory_found<S: Sectors>(
     ensures same { IsUnchanged (S.state s.old) (S.state s.new) }
 {
     let (n, inode) = inode_found(s, place, found)?;
-    check_directory(&inode)?;
+    check_is_directory(inode.kind)?;
     search(alloc, s, place, cred, &inode, 1, found.step)?;
+    Ok(n)
+}
+
+// The directory that the path of chdir leads to. At `Err` that is its refusal; else it is performed once the process stands there.
+fn directory_at<S: Sectors>(
+    alloc: Global,
+    s: &mut S,
+    place: Place,
+    procs: &Procs,
+    pid: usize,
+    path: &Path,
+) -> Result<u32, Refusal>
+    requires ready { IsReady place (S.state s.old) procs.now }
+    ensures refused { IfErr result (λ e. Performs place pid (Chdir path.now) (S.state s.old) (S.state s.new) procs.now procs.now (Err e)) }
+    ensures there { IfOk result (λ n. IsSome (get nat_cmp procs.now pid)) }
+    ensures entered { IfOk result (λ n. (now : Desks) → now ≡ with_changed procs.now pid (λ p. record p { cwd = n })
+        → Performs place pid (Chdir path.now) (S.state s.old) (S.state s.new) procs.now now (Ok Done)) }
+    ensures same { IsUnchanged (S.state s.old) (S.state s.new) }
+{
+    let walked = walk_path(alloc, s, place, procs, pid, Ok(()), path, Form::Follow)?;
+    let n = directory_found(alloc, s, place, walked.process.cred(), &walked.found)?;
     Ok(n)
 }
 
@@ -195,9 +210,7 @@ pub fn chdir<S: Sectors>(
     ensures performs { Performs place pid (Chdir path.now) (S.state s.old) (S.state s.new) procs.old procs.new result }
     ensures same { IsUnchanged (S.state s.old) (S.state s.new) }
 {
-    let process = procs.process(pid)?;
-    let found = find(alloc, s, place, process, path, Form::Follow)?;
-    let n = directory_found(alloc, s, place, process.cred(), &found)?;
+    let n = directory_at(alloc, s, place, procs, pid, path)?;
     procs.set_cwd(pid, n);
     Ok(Reply::Done)
 }

@@ -16,7 +16,7 @@ ghost use Rattle.path_walk.specs.Answers.{refused_or, FailsToRead};
 ghost use Rattle.path_walk.specs.HeldTrees.{HoldsTree};
 ghost use Rattle.call_parts.specs.Performing.{IsReady, Performs};
 ghost use Rattle.call_parts.specs.Makings.{CanMake};
-ghost use Rattle.call_parts.specs.NewNodes.{IsMade, IsNewIn, MakesNode, link_made, link_name_asked};
+ghost use Rattle.call_parts.specs.NewNodes.{IsMade, IsNewIn, IsPlaced, link_made, link_name_asked};
 
 use block_map::new_link;
 use call_parts::{check_make, is_new, name_inode, new_group, reach, walk_path};
@@ -75,7 +75,7 @@ fn place_link<S: Sectors>(
     requires target { IsTarget target.now }
     requires spare { HasSpare place 47 (S.state s.old) }
     ensures store { SameStore (S.state s.old) (S.state s.new) }
-    ensures made { OnOk result ((n : ℕ) × MakesNode place dir name.now n (link_made directory cred.now target.now)
+    ensures made { OnOk result (IsPlaced place dir name.now (link_made directory cred.now target.now)
         (S.state s.old).sectors (S.state s.new).sectors) }
     ensures err { IfErr result (FailsToRead (S.state s.old).disk (S.state s.new).disk) }
 {

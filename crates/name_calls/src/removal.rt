@@ -1,6 +1,6 @@
 //! Removing names: POSIX.1-2017, unlink() and rmdir().
 
-ghost use Rattle.std.specs.Prelude.{◌≡◌, ◌<◌, [], ◌∷◌, Ok, OnOk, IfErr};
+ghost use Rattle.std.specs.Prelude.{◌≡◌, ◌<◌, Ok, OnOk, IfErr};
 ghost use Rattle.fs_layout.specs.Bytes.{SectorMap};
 ghost use Rattle.fs_layout.specs.Images.{inode_at};
 ghost use Rattle.sector_txn.specs.Sectors.{SameStore, IsUnchanged};
@@ -8,12 +8,10 @@ ghost use Rattle.bit_alloc.specs.Inodes.{IsSound};
 ghost use Rattle.bit_alloc.specs.Room.{HasSpare};
 ghost use Rattle.fs_model.specs.declared.call.Call.TheVariants.{Unlink, Rmdir};
 ghost use Rattle.fs_model.specs.TreeChanges.{TakeName, changed, swept};
-ghost use Rattle.fs_model.specs.Demands.{refuse, first_of};
-ghost use Rattle.fs_model.specs.NameCalls.{unlink_demands, rmdir_demands};
+ghost use Rattle.fs_model.specs.Demands.{first_of};
 ghost use Rattle.fs_model.specs.Nodes.{Body};
-ghost use Rattle.fs_model.specs.Processes.{Desks, is_in_use};
-ghost use Rattle.fs_model.specs.Rules.{is_directory_kind};
-ghost use Rattle.fs_model.specs.Scenes.{number, is_special};
+ghost use Rattle.fs_model.specs.Processes.{is_in_use};
+ghost use Rattle.fs_model.specs.Scenes.{number};
 ghost use Rattle.fs_model.specs.Stands.{HoldsAll, placed};
 ghost use Rattle.fs_model.specs.States.{State};
 ghost use Rattle.fs_model.specs.StoredNodes.{HoldsBody};
@@ -22,24 +20,32 @@ ghost use Rattle.path_walk.specs.Answers.{refused_or, FailsToRead, IsAnswered};
 ghost use Rattle.path_walk.specs.HeldTrees.{HoldsTree};
 ghost use Rattle.call_parts.specs.Paths.{scene_at};
 ghost use Rattle.call_parts.specs.Performing.{IsReady, IsStateOf, Performs};
-ghost use Rattle.name_calls.specs.Removing.{FindsName, IsNamedThere, removal_asked, last_asked, directory_asked, MayGo};
+ghost use Rattle.name_calls.specs.declared.removal.Target.TheVariants.{NoDirectory, Directory};
+ghost use Rattle.name_calls.specs.Removing.{FindsName, IsNamedThere, removal_asked, last_asked, directory_asked, kind_asked, removal_demands, removal_call, MayGo};
 
 use crate::dropping::lose_name;
 use call_parts::{
-    WRITE_AND_SEARCH, check_slash, check_sticky, inode_found, permitted, remove_name, walk_path,
+    ask_directory, check_no_directory, check_slash, check_sticky, inode_found, remove_name,
+    walk_path,
 };
 use dir_core::is_empty;
 use fs_cred::{Cred, Errno, Refusal};
 use fs_layout::{Inode, Kind, Place};
 use fs_model::{Form, Found, Last, Path, Reply};
 use open_files::{Process, Procs};
-use path_walk::load_inode;
 use sector_txn::Sectors;
 use std::alloc::Global;
 
+/// What a call removes.
+#[derive(Clone, Copy)]
+enum Target {
+    NoDirectory,
+    Directory,
+}
+
 // Asks whether a path of unlink ends in a name.
 fn check_name(found: &Found) -> Result<(), Refusal>
-    ensures { result ≡ refused_or (first_of (refuse Errno.EISDIR (is_special found.now) ∷ [])) (Ok tt) }
+    ensures { result ≡ refused_or (first_of (last_asked NoDirectory found.now)) (Ok tt) }
 {
     match found.last {
         Last::Name => Ok(()),
@@ -48,14 +54,24 @@ fn check_name(found: &Found) -> Result<(), Refusal>
 }
 
 // Asks whether a path of rmdir ends in a name.
-fn check_last(found: &Found) -> Result<(), Refusal>
-    ensures { result ≡ refused_or (first_of (last_asked found.now)) (Ok tt) }
+fn check_directory_name(found: &Found) -> Result<(), Refusal>
+    ensures { result ≡ refused_or (first_of (last_asked Directory found.now)) (Ok tt) }
 {
     match found.last {
         Last::Name => Ok(()),
         Last::Top => Err(Refusal::Failed(Errno::EBUSY)),
         Last::Dot => Err(Refusal::Failed(Errno::EINVAL)),
         Last::DotDot => Err(Refusal::Failed(Errno::ENOTEMPTY)),
+    }
+}
+
+// Asks whether the path of what is to go ends in a name.
+fn check_last(found: &Found, what: Target) -> Result<(), Refusal>
+    ensures { result ≡ refused_or (first_of (last_asked what found.now)) (Ok tt) }
+{
+    match what {
+        Target::NoDirectory => check_name(found),
+        Target::Directory => check_directory_name(found),
     }
 }
 
@@ -77,20 +93,9 @@ fn check_removal<S: Sectors>(
     let (n, inode) = inode_found(s, place, found)?;
     check_slash(found, inode.kind)?;
     let step = found.step.saturating_sub(1);
-    let directory = load_inode(s, place, found.dir)?;
-    permitted(alloc, s, place, cred, &directory, WRITE_AND_SEARCH, 1, step)?;
+    let directory = ask_directory(alloc, s, place, cred, found.dir, 1, step)?;
     check_sticky(cred, &directory, &inode, 1, step)?;
     Ok((n, inode))
-}
-
-// Asks whether what is to go is no directory.
-fn check_no_directory(kind: Kind) -> Result<(), Refusal>
-    ensures { result ≡ refused_or (first_of (refuse Errno.EISDIR (is_directory_kind kind) ∷ [])) (Ok tt) }
-{
-    if kind == Kind::Directory {
-        return Err(Refusal::Failed(Errno::EISDIR));
-    }
-    Ok(())
 }
 
 /// Asks whether what is to go is an empty directory that isn't in use.
@@ -110,46 +115,37 @@ pub(crate) fn check_directory(procs: &Procs, n: u32, inode: &Inode) -> Result<()
     Ok(())
 }
 
-// Asks all that unlink asks of what was found, and answers its number and its inode.
-fn check_unlink<S: Sectors>(
-    alloc: Global,
-    s: &mut S,
-    place: Place,
-    process: &Process,
-    found: &Found,
-) -> Result<(u32, Inode), Refusal>
-    requires sound { IsSound place (S.state s.old) }
-    requires found { (desks : Desks) × (st : State) × FindsName place (S.state s.old).sectors desks process.now found.now st }
-    ensures each { (desks : Desks) (st : State) → FindsName place (S.state s.old).sectors desks process.now found.now st
-        → IsAnswered (S.state s.old).disk (S.state s.new).disk
-        (refused_or (first_of (unlink_demands (scene_at st process.now found.now))) (Ok (number found.now, inode_at place (S.state s.old).sectors (number found.now)))) result }
-    ensures same { IsUnchanged (S.state s.old) (S.state s.new) }
+// Asks whether what is to go is what the call removes.
+fn check_kind(procs: &Procs, n: u32, inode: &Inode, what: Target) -> Result<(), Refusal>
+    ensures { (image : SectorMap) (b : Body) → HoldsBody image inode.now b
+        → result ≡ refused_or (first_of (kind_asked what b (is_in_use procs.now n))) (Ok tt) }
 {
-    check_name(found)?;
-    let (n, inode) = check_removal(alloc, s, place, process.cred(), found)?;
-    check_no_directory(inode.kind)?;
-    Ok((n, inode))
+    match what {
+        Target::NoDirectory => check_no_directory(inode.kind),
+        Target::Directory => check_directory(procs, n, inode),
+    }
 }
 
-// Asks all that rmdir asks of what was found, and answers its number and its inode.
-fn check_rmdir<S: Sectors>(
+// Asks all that the call asks of what was found, and answers its number and its inode.
+fn check_target<S: Sectors>(
     alloc: Global,
     s: &mut S,
     place: Place,
     procs: &Procs,
     process: &Process,
     found: &Found,
+    what: Target,
 ) -> Result<(u32, Inode), Refusal>
     requires sound { IsSound place (S.state s.old) }
     requires found { (st : State) × FindsName place (S.state s.old).sectors procs.now process.now found.now st }
     ensures each { (st : State) → FindsName place (S.state s.old).sectors procs.now process.now found.now st
-        → IsAnswered (S.state s.old).disk (S.state s.new).disk
-        (refused_or (first_of (rmdir_demands (scene_at st process.now found.now))) (Ok (number found.now, inode_at place (S.state s.old).sectors (number found.now)))) result }
+        → IsAnswered (S.state s.old).disk (S.state s.new).disk (refused_or (first_of (removal_demands what (scene_at st process.now found.now)))
+        (Ok (number found.now, inode_at place (S.state s.old).sectors (number found.now)))) result }
     ensures same { IsUnchanged (S.state s.old) (S.state s.new) }
 {
-    check_last(found)?;
+    check_last(found, what)?;
     let (n, inode) = check_removal(alloc, s, place, process.cred(), found)?;
-    check_directory(procs, n, &inode)?;
+    check_kind(procs, n, &inode, what)?;
     Ok((n, inode))
 }
 
@@ -179,6 +175,27 @@ fn take_name<S: Sectors>(
     Ok(())
 }
 
+// Removes the name that a path ends in, and with its last name what it leads to.
+fn remove_target<S: Sectors>(
+    alloc: Global,
+    s: &mut S,
+    place: Place,
+    procs: &Procs,
+    pid: usize,
+    path: &Path,
+    what: Target,
+) -> Result<Reply, Refusal>
+    requires ready { IsReady place (S.state s.old) procs.now }
+    ensures { Performs place pid (removal_call what path.now) (S.state s.old) (S.state s.new) procs.now procs.now result }
+{
+    let walked = walk_path(alloc, s, place, procs, pid, Ok(()), path, Form::Parent)?;
+    let found = &walked.found;
+    let (n, inode) = check_target(alloc, s, place, procs, walked.process, found, what)?;
+    let name = found.name.bytes();
+    take_name(s, place, procs, found.dir, name, n, inode)?;
+    Ok(Reply::Done)
+}
+
 /// Removes the name that a path ends in, of a file or a symbolic link. With its last name the file goes, once nobody has it
 /// open; the link goes.
 ///
@@ -195,12 +212,7 @@ pub fn unlink<S: Sectors>(
     requires ready { IsReady place (S.state s.old) procs.now }
     ensures { Performs place pid (Unlink path.now) (S.state s.old) (S.state s.new) procs.now procs.now result }
 {
-    let walked = walk_path(alloc, s, place, procs, pid, Ok(()), path, Form::Parent)?;
-    let found = &walked.found;
-    let (n, inode) = check_unlink(alloc, s, place, walked.process, found)?;
-    let name = found.name.bytes();
-    take_name(s, place, procs, found.dir, name, n, inode)?;
-    Ok(Reply::Done)
+    remove_target(alloc, s, place, procs, pid, path, Target::NoDirectory)
 }
 
 /// Removes the directory that a path leads to, with its name.
@@ -219,10 +231,5 @@ pub fn rmdir<S: Sectors>(
     requires ready { IsReady place (S.state s.old) procs.now }
     ensures { Performs place pid (Rmdir path.now) (S.state s.old) (S.state s.new) procs.now procs.now result }
 {
-    let walked = walk_path(alloc, s, place, procs, pid, Ok(()), path, Form::Parent)?;
-    let found = &walked.found;
-    let (n, inode) = check_rmdir(alloc, s, place, procs, walked.process, found)?;
-    let name = found.name.bytes();
-    take_name(s, place, procs, found.dir, name, n, inode)?;
-    Ok(Reply::Done)
+    remove_target(alloc, s, place, procs, pid, path, Target::Directory)
 }

@@ -1,69 +1,34 @@
-use Rattle.std.proofs.Common.{◌≡◌, Ok, sym, ap, inr, ◌∙◌}
-use Rattle.fs_cred.specs.declared.rule.Rule.{Rule}
+use Rattle.std.proofs.Common.{Ok, sym, ap, ◌∙◌}
 use Rattle.fs_layout.specs.declared.inode.Inode.{Inode}
-use Rattle.fs_layout.specs.Bytes.{SectorMap}
 use Rattle.fs_layout.specs.Images.{inode_at}
-use Rattle.fs_model.specs.Demands.{first_of}
+use Rattle.fs_model.specs.Demands.{first_of, permission_on, write_and_search}
 use Rattle.block_map.proofs.Runs.{unchanged_joined}
 use Rattle.path_walk.specs.Answers.{refused_or}
-use Rattle.call_parts.proofs.Calling.{answered_later}
-use Rattle.path_walk.proofs.HeldNodes.{number_below, is_there}
-use Rattle.path_walk.proofs.Kept.{kept, sound_kept, answered_err}
+use Rattle.path_walk.proofs.Kept.{sound_kept, answered_err}
 use Rattle.call_parts.specs.Makings.{make_asked}
-use Rattle.call_parts.proofs.MakeAsked.{dir_access, make_denied, make_few, make_none, make_crowded, make_granted, make_enough, make_some, make_met, held_later, sectors_later, inodes_later, size_as}
+use Rattle.call_parts.proofs.MakeAsked.{make_denied, make_few, make_none, make_crowded, make_granted, make_enough, make_some, make_met, sectors_later, inodes_later, answered_as, size_as}
 use Rattle.call_parts.proofs.making.check_make.Goals as goal
-
-pub load_inode-requires-clause-below : goal.load_inode-requires-clause-below
-load_inode-requires-clause-below g c = let x = c.requires.there in number_below x.1 c.args.dir (is_there x.0 c.args.dir x.2.node x.2.is_there)
 
 pub returns-in_err-directory-clause-each : goal.returns-in_err-directory-clause-each
 returns-in_err-directory-clause-each g c = λ t h d.
     let r = c.from_residual.ensures in
     let old = g.S.Sectors.state c.args.s.now in
-    let new = g.S.Sectors.state c.load_inode.new.s in
-    answered_err {A = Inode} old.disk new.disk (refused_or (first_of (make_asked c.args.place old.sectors c.args.cred.now t c.args.dir c.args.step)) (Ok (inode_at c.args.place old.sectors c.args.dir)))
-    c.from_residual.result c.in_err-directory.field-0.0 r.0 r.1 (inr (inr c.in_err-directory.ensures.fault))
-
-pub permitted-requires : goal.permitted-requires
-permitted-requires g c =
-    let x = c.requires.there in
-    let same = c.in_ok-directory.ensures.same in
-    record {
-      sound = sound_kept same c.requires.sound;
-      there = (
-        c.args.dir,
-        number_below x.1 c.args.dir (is_there x.0 c.args.dir x.2.node x.2.is_there),
-        kept (λ (m : SectorMap). c.in_ok-directory.directory ≡ inode_at c.args.place m c.args.dir) same c.in_ok-directory.ensures.found,
-      );
-      has = ((dir_access x.1 c.args.dir x.2 c.args.cred.now c.args.step).access, held_later x.1 c.args.dir x.2 c.args.cred.now c.args.step same c.in_ok-directory.directory c.in_ok-directory.ensures.found);
-    }
-
-pub returns-in_err-permitted-clause-each : goal.returns-in_err-permitted-clause-each
-returns-in_err-permitted-clause-each g c = λ t h d.
-    let r = c.from_residual-in_err-permitted.ensures in
-    let old = g.S.Sectors.state c.args.s.now in
-    let new = g.S.Sectors.state c.permitted.new.s in
-    let same = c.in_ok-directory.ensures.same in
-    let e = c.in_err-permitted.field-0.0 in
+    let new = g.S.Sectors.state c.ask_directory.new.s in
+    let e = c.in_err-directory.field-0.0 in
     let v = inode_at c.args.place old.sectors c.args.dir in
-    let a = dir_access h c.args.dir d c.args.cred.now c.args.step in
     answered_err {A = Inode} old.disk new.disk (refused_or (first_of (make_asked c.args.place old.sectors c.args.cred.now t c.args.dir c.args.step)) (Ok v))
-    c.from_residual-in_err-permitted.result e r.0 r.1
-    (make_denied h c.args.dir d c.args.cred.now c.args.step v e old.disk new.disk
-    (answered_later {A = Rule} new.disk same (c.in_err-permitted.ensures.each a.access (held_later h c.args.dir d c.args.cred.now c.args.step same c.in_ok-directory.directory c.in_ok-directory.ensures.found))))
+    c.from_residual.result e r.0 r.1
+    (make_denied h c.args.dir d c.args.cred.now c.args.step v e old.disk new.disk (c.in_err-directory.ensures.each t h d))
 
 pub returns-in_err-ask_for_sectors-clause-each : goal.returns-in_err-ask_for_sectors-clause-each
 returns-in_err-ask_for_sectors-clause-each g c = λ t h d.
     let r = c.from_residual-in_err-ask_for_sectors.ensures in
     let old = g.S.Sectors.state c.args.s.now in
     let new = g.S.Sectors.state c.ask_for_sectors.new.s in
-    let same = c.in_ok-directory.ensures.same in
-    let joined = unchanged_joined same c.in_ok-permitted.ensures.same in
+    let joined = c.in_ok-directory.ensures.same in
     let e = c.in_err-ask_for_sectors.field-0.0 in
     let v = inode_at c.args.place old.sectors c.args.dir in
-    let a = dir_access h c.args.dir d c.args.cred.now c.args.step in
-    let granted = make_granted h c.args.dir d c.args.cred.now c.args.step c.in_ok-permitted.field-0
-    (c.in_ok-permitted.ensures.each a.access (held_later h c.args.dir d c.args.cred.now c.args.step same c.in_ok-directory.directory c.in_ok-directory.ensures.found)) in
+    let granted = make_granted h c.args.dir d c.args.cred.now c.args.step _ c.in_ok-directory.directory (c.in_ok-directory.ensures.each t h d) in
     answered_err {A = Inode} old.disk new.disk (refused_or (first_of (make_asked c.args.place old.sectors c.args.cred.now t c.args.dir c.args.step)) (Ok v))
     c.from_residual-in_err-ask_for_sectors.result e r.0 r.1
     (make_few h c.args.dir d c.args.cred.now c.args.step v e old.disk new.disk granted (sectors_later c.args.place new.disk e joined c.in_err-ask_for_sectors.ensures.each))
@@ -73,14 +38,11 @@ returns-in_err-ask_for_inode-clause-each g c = λ t h d.
     let r = c.from_residual-in_err-ask_for_inode.ensures in
     let old = g.S.Sectors.state c.args.s.now in
     let new = g.S.Sectors.state c.ask_for_inode.new.s in
-    let same = c.in_ok-directory.ensures.same in
-    let first = unchanged_joined same c.in_ok-permitted.ensures.same in
+    let first = c.in_ok-directory.ensures.same in
     let joined = unchanged_joined first c.in_ok-ask_for_sectors.ensures.same in
     let e = c.in_err-ask_for_inode.field-0.0 in
     let v = inode_at c.args.place old.sectors c.args.dir in
-    let a = dir_access h c.args.dir d c.args.cred.now c.args.step in
-    let granted = make_granted h c.args.dir d c.args.cred.now c.args.step c.in_ok-permitted.field-0
-    (c.in_ok-permitted.ensures.each a.access (held_later h c.args.dir d c.args.cred.now c.args.step same c.in_ok-directory.directory c.in_ok-directory.ensures.found)) in
+    let granted = make_granted h c.args.dir d c.args.cred.now c.args.step _ c.in_ok-directory.directory (c.in_ok-directory.ensures.each t h d) in
     let enough = make_enough h c.args.dir d c.args.cred.now c.args.step first c.in_ok-ask_for_sectors.ensures.each in
     answered_err {A = Inode} old.disk new.disk (refused_or (first_of (make_asked c.args.place old.sectors c.args.cred.now t c.args.dir c.args.step)) (Ok v))
     c.from_residual-in_err-ask_for_inode.result e r.0 r.1
@@ -91,38 +53,32 @@ returns-in_err-check_names-clause-each g c = λ t h d.
     let r = c.from_residual-in_err-check_names.ensures in
     let old = g.S.Sectors.state c.args.s.now in
     let new = g.S.Sectors.state c.ask_for_inode.new.s in
-    let same = c.in_ok-directory.ensures.same in
-    let first = unchanged_joined same c.in_ok-permitted.ensures.same in
+    let first = c.in_ok-directory.ensures.same in
     let second = unchanged_joined first c.in_ok-ask_for_sectors.ensures.same in
     let e = c.in_err-check_names.field-0.0 in
     let v = inode_at c.args.place old.sectors c.args.dir in
-    let a = dir_access h c.args.dir d c.args.cred.now c.args.step in
-    let granted = make_granted h c.args.dir d c.args.cred.now c.args.step c.in_ok-permitted.field-0
-    (c.in_ok-permitted.ensures.each a.access (held_later h c.args.dir d c.args.cred.now c.args.step same c.in_ok-directory.directory c.in_ok-directory.ensures.found)) in
+    let granted = make_granted h c.args.dir d c.args.cred.now c.args.step _ c.in_ok-directory.directory (c.in_ok-directory.ensures.each t h d) in
     let enough = make_enough h c.args.dir d c.args.cred.now c.args.step first c.in_ok-ask_for_sectors.ensures.each in
     let some = make_some h c.args.dir d c.args.cred.now c.args.step second c.in_ok-ask_for_inode.ensures.each in
     answered_err {A = Inode} old.disk new.disk (refused_or (first_of (make_asked c.args.place old.sectors c.args.cred.now t c.args.dir c.args.step)) (Ok v))
     c.from_residual-in_err-check_names.result e r.0 r.1
     (make_crowded h c.args.dir d c.args.cred.now c.args.step v e old.disk new.disk granted enough some
-    (size_as c.in_ok-directory.ensures.found (sym c.in_err-check_names.ensures)))
+    (size_as (answered_as (permission_on c.args.cred.now t c.args.dir write_and_search 1 c.args.step) (c.in_ok-directory.ensures.each t h d)) (sym c.in_err-check_names.ensures)))
 
 pub returns-clause-each : goal.returns-clause-each
 returns-clause-each g c = λ t h d.
     let old = g.S.Sectors.state c.args.s.now in
-    let same = c.in_ok-directory.ensures.same in
-    let first = unchanged_joined same c.in_ok-permitted.ensures.same in
+    let first = c.in_ok-directory.ensures.same in
     let second = unchanged_joined first c.in_ok-ask_for_sectors.ensures.same in
-    let a = dir_access h c.args.dir d c.args.cred.now c.args.step in
-    let granted = make_granted h c.args.dir d c.args.cred.now c.args.step c.in_ok-permitted.field-0
-    (c.in_ok-permitted.ensures.each a.access (held_later h c.args.dir d c.args.cred.now c.args.step same c.in_ok-directory.directory c.in_ok-directory.ensures.found)) in
+    let granted = make_granted h c.args.dir d c.args.cred.now c.args.step _ c.in_ok-directory.directory (c.in_ok-directory.ensures.each t h d) in
     let enough = make_enough h c.args.dir d c.args.cred.now c.args.step first c.in_ok-ask_for_sectors.ensures.each in
     let some = make_some h c.args.dir d c.args.cred.now c.args.step second c.in_ok-ask_for_inode.ensures.each in
-    let met = make_met h c.args.dir d c.args.cred.now c.args.step granted enough some (size_as c.in_ok-directory.ensures.found (sym c.in_ok-check_names.ensures)) in
-    ap (λ o. refused_or {A = Inode} o (Ok (inode_at c.args.place old.sectors c.args.dir))) met ∙ ap (λ (w : Inode). Ok w) (sym c.in_ok-directory.ensures.found)
+    let met = make_met h c.args.dir d c.args.cred.now c.args.step granted enough some (size_as (answered_as (permission_on c.args.cred.now t c.args.dir write_and_search 1 c.args.step) (c.in_ok-directory.ensures.each t h d)) (sym c.in_ok-check_names.ensures)) in
+    ap (λ o. refused_or {A = Inode} o (Ok (inode_at c.args.place old.sectors c.args.dir))) met ∙ ap (λ (w : Inode). Ok w) (sym (answered_as (permission_on c.args.cred.now t c.args.dir write_and_search 1 c.args.step) (c.in_ok-directory.ensures.each t h d)))
 
 pub ask_for_sectors-requires : goal.ask_for_sectors-requires
-ask_for_sectors-requires g c = (sound_kept (unchanged_joined c.in_ok-directory.ensures.same c.in_ok-permitted.ensures.same) c.requires.sound).bitmaps
+ask_for_sectors-requires g c = (sound_kept c.in_ok-directory.ensures.same c.requires.sound).bitmaps
 
 pub ask_for_inode-requires : goal.ask_for_inode-requires
 ask_for_inode-requires g c =
-    (sound_kept (unchanged_joined (unchanged_joined c.in_ok-directory.ensures.same c.in_ok-permitted.ensures.same) c.in_ok-ask_for_sectors.ensures.same) c.requires.sound).bitmaps
+    (sound_kept (unchanged_joined c.in_ok-directory.ensures.same c.in_ok-ask_for_sectors.ensures.same) c.requires.sound).bitmaps

@@ -1,64 +1,48 @@
-use Rattle.std.specs.Prelude.{◌≡◌, [], ◌∷◌, None}
-use Rattle.std.proofs.Common.{ℕ}
+use Rattle.std.specs.Prelude.{◌≡◌, None}
+use Rattle.std.proofs.Common.{sym, ap, ◌∙◌}
 use Rattle.fs_cred.specs.declared.refusal.Refusal.{Refusal}
-use Rattle.fs_layout.specs.declared.inode.Inode.{Inode}
-use Rattle.fs_layout.specs.Images.{inode_at}
-use Rattle.fs_model.specs.Demands.{first_of}
-use Rattle.fs_model.specs.Scenes.{number, must_be_there}
+use Rattle.fs_cred.specs.declared.refusal.Need.TheVariants.{Own}
+use Rattle.fs_cred.specs.Credentials.{Credential}
+use Rattle.fs_cred.specs.Ownership.{Answer, may_own}
+use Rattle.fs_model.specs.Demands.{allowed_by}
 use Rattle.fs_model.specs.States.{State}
-use Rattle.path_walk.proofs.Kept.{failed_with, kept}
+use Rattle.path_walk.proofs.Kept.{failed_with}
 use Rattle.call_parts.specs.Performing.{IsStateOf}
-use Rattle.fs_layout.specs.Bytes.{SectorMap}
-use Rattle.block_map.proofs.Runs.{unchanged_joined}
-use Rattle.call_parts.specs.Asked.{own_asked}
-use Rattle.call_parts.specs.Reaching.{RefusesOwned}
-use Rattle.call_parts.proofs.Ownership.{is_owned}
-use Rattle.call_parts.proofs.Reachings.{walk_owned, unowned, walk_kept, walked_below, inode_later}
+use Rattle.call_parts.specs.Reaching.{checked, RefusesOwned}
+use Rattle.call_parts.proofs.Calling.{met_ok}
+use Rattle.call_parts.proofs.Reachings.{reach_owns, unowned}
 use Rattle.call_parts.proofs.reaching.reach_owned.Goals as goal
 
-pub returns-in_err-process-clause-refused : goal.returns-in_err-process-clause-refused
-returns-in_err-process-clause-refused g c =
+pub returns-in_err-reached-clause-refused : goal.returns-in_err-reached-clause-refused
+returns-in_err-reached-clause-refused g c =
     let r = c.from_residual.ensures in
     let old = g.S.Sectors.state c.args.s.now in
-    let new = g.S.Sectors.state c.walk_path.new.s in
-    failed_with c.from_residual.result c.in_err-process.field-0.0
+    let new = g.S.Sectors.state c.reach.new.s in
+    failed_with c.from_residual.result c.in_err-reached.field-0.0
     (λ (e : Refusal). (s : State) → IsStateOf c.args.place old.sectors c.args.procs.now s
     → RefusesOwned old.disk new.disk s c.args.pid c.args.checks c.args.form c.args.path.now e) r.0 r.1
-    (λ s at. walk_owned (c.in_err-process.ensures.refused s at))
+    (λ s at. reach_owns (c.in_err-reached.ensures.refused s at))
 
-pub owned-requires : goal.owned-requires
-owned-requires g c =
-    let w = c.in_ok-process.ensures.walked in
-    record { sound = w.ready.sound; below = walked_below w }
-
-pub returns-in_err-number-clause-refused : goal.returns-in_err-number-clause-refused
-returns-in_err-number-clause-refused g c =
-    let r = c.from_residual-in_err-number.ensures in
+pub returns-in_err-allowed_by-clause-refused : goal.returns-in_err-allowed_by-clause-refused
+returns-in_err-allowed_by-clause-refused g c =
+    let r = c.from_residual-in_err-allowed_by.ensures in
     let old = g.S.Sectors.state c.args.s.now in
-    let mid = g.S.Sectors.state c.walk_path.new.s in
-    let new = g.S.Sectors.state c.owned.new.s in
-    let f = c.in_ok-process.field-0.found in
-    let e = c.in_err-number.field-0.0 in
-    failed_with c.from_residual-in_err-number.result e
+    let new = g.S.Sectors.state c.reach.new.s in
+    let x = c.in_ok-reached.reached in
+    let e = c.in_err-allowed_by.field-0.0 in
+    let answer = c.may_own-answer.ensures.computed ∙ ap (λ (k : Credential). may_own k x.inode.uid) c.cred.ensures in
+    failed_with c.from_residual-in_err-allowed_by.result e
     (λ (e : Refusal). (s : State) → IsStateOf c.args.place old.sectors c.args.procs.now s
     → RefusesOwned old.disk new.disk s c.args.pid c.args.checks c.args.form c.args.path.now e) r.0 r.1
-    (unowned c.cred.result.now new.disk e {A = ℕ × Inode} (number f, inode_at c.args.place mid.sectors (number f)) c.cred.ensures c.in_ok-process.ensures.same
-    c.in_ok-process.ensures.walked c.in_err-number.ensures.each)
+    (unowned e c.in_ok-reached.ensures.same c.in_ok-reached.ensures.reached
+    (sym (ap (λ (a : Answer). checked (allowed_by 1 x.found.step Own a)) answer) ∙ sym c.in_err-allowed_by.ensures))
 
 pub returns-clause-owned : goal.returns-clause-owned
 returns-clause-owned g c =
-    let same = c.in_ok-number.ensures.same in
-    let mid = g.S.Sectors.state c.walk_path.new.s in
-    let f = c.in_ok-process.field-0.found in
-    let q = c.in_ok-process.field-0.process.now in
-    let o = is_owned c.args.place mid.sectors c.cred.result.now q.cred f c.in_ok-number.number c.in_ok-number.inode c.cred.ensures c.in_ok-number.ensures.each in
+    let x = c.in_ok-reached.reached in
+    let answer = c.may_own-answer.ensures.computed ∙ ap (λ (k : Credential). may_own k x.inode.uid) c.cred.ensures in
     record {
-      reached = record { walked = walk_kept same c.in_ok-process.ensures.walked; inode = inode_later same o.inode };
-      met = kept (λ (m : SectorMap). first_of (must_be_there f ∷ own_asked q.cred (inode_at c.args.place m (number f)).uid f.step ∷ []) ≡ None) same o.met;
+      reached = c.in_ok-reached.ensures.reached;
+      met = sym (ap (λ (a : Answer). allowed_by 1 x.found.step Own a) answer)
+          ∙ (met_ok {A = Unit {0}} (allowed_by 1 x.found.step Own c.may_own-answer.result) tt tt (sym c.in_ok-allowed_by.ensures)).0;
     }
-
-pub returns-in_err-number-clause-same : goal.returns-in_err-number-clause-same
-returns-in_err-number-clause-same g c = unchanged_joined c.in_ok-process.ensures.same c.in_err-number.ensures.same
-
-pub returns-clause-same : goal.returns-clause-same
-returns-clause-same g c = unchanged_joined c.in_ok-process.ensures.same c.in_ok-number.ensures.same

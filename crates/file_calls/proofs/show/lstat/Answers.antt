@@ -1,23 +1,6 @@
-use Rattle.fs_model.specs.declared.reply.Reply.TheVariants.{Shown}
-use Rattle.bit_alloc.proofs.Transactions.{unchanged_nothing}
-use Rattle.call_parts.proofs.Calling.{state_tree}
-use Rattle.call_parts.proofs.Reachings.{reach_refused, told, reached_used, reached_there}
-use Rattle.call_parts.proofs.Shown.{stat_told}
+use Rattle.fs_model.specs.declared.call.Call.TheVariants.{Lstat}
 use Rattle.file_calls.proofs.Rows.{lstat_by_path}
 use Rattle.file_calls.proofs.show.lstat.Goals as goal
 
-pub returns-in_err-reached-clause-performs : goal.returns-in_err-reached-clause-performs
-returns-in_err-reached-clause-performs g c =
-    let r = c.from_residual.ensures in
-    let x = c.in_err-reached.ensures in
-    reach_refused (lstat_by_path c.args.path.now) c.from_residual.result c.in_err-reached.field-0.0 r.0 r.1 x.same x.refused
-
-pub status-requires : goal.status-requires
-status-requires g c = record { used = reached_used c.in_ok-reached.ensures.reached }
-
 pub returns-clause-performs : goal.returns-clause-performs
-returns-clause-performs g c =
-    let x = c.in_ok-reached.ensures in
-    let v = c.in_ok-reached.reached in
-    told (lstat_by_path c.args.path.now) x.same x.reached.walked (g.S.Sectors.state c.reach.new.s) unchanged_nothing (Shown c.status.result)
-    (λ s has at. stat_told s v.process.now v.found v.number v.inode c.status.result x.reached.inode (state_tree at) (reached_there x.reached s at) c.status.ensures)
+returns-clause-performs g c = c.show_path.ensures.performs (Lstat c.args.path.now) (lstat_by_path c.args.path.now)

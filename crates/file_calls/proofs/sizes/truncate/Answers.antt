@@ -23,15 +23,15 @@ returns-in_err-reached g c =
     let x = c.in_err-reached.ensures in
     reach_refused (truncate_by_path c.args.path.now c.args.size) c.from_residual.result c.in_err-reached.field-0.0 r.0 r.1 x.same x.refused
 
-pub returns-in_err-check_kind : goal.returns-in_err-check_kind
-returns-in_err-check_kind g c =
+pub returns-in_err-check_no_directory : goal.returns-in_err-check_no_directory
+returns-in_err-check_no_directory g c =
     let x = c.in_ok-reached.ensures in
     let i = x.reached.inode in
-    let r = c.from_residual-in_err-check_kind.ensures in
+    let r = c.from_residual-in_err-check_no_directory.ensures in
     let mid = g.S.Sectors.state c.reach.new.s in
-    let e = c.in_err-check_kind.field-0.0 in
-    asked_refused (truncate_by_path c.args.path.now c.args.size) x.same x.reached.walked mid c.from_residual-in_err-check_kind.result e r.0 r.1 store_same {A = ℕ} 0
-    (λ s has at. directory_refused at has i.some i.number i.inode c.args.size i.met tt 0 e mid.disk mid.disk (sym c.in_err-check_kind.ensures))
+    let e = c.in_err-check_no_directory.field-0.0 in
+    asked_refused (truncate_by_path c.args.path.now c.args.size) x.same x.reached.walked mid c.from_residual-in_err-check_no_directory.result e r.0 r.1 store_same {A = ℕ} 0
+    (λ s has at. directory_refused at has i.some i.number i.inode c.args.size i.met tt 0 e mid.disk mid.disk (sym c.in_err-check_no_directory.ensures))
 
 pub permitted-requires : goal.permitted-requires
 permitted-requires g c =
@@ -42,7 +42,7 @@ pub returns-in_err-permitted : goal.returns-in_err-permitted
 returns-in_err-permitted g c =
     let x = c.in_ok-reached.ensures in
     let i = x.reached.inode in
-    let file = (met_ok (refuse EISDIR (is_directory_kind c.in_ok-reached.reached.inode.kind)) tt tt (sym c.in_ok-check_kind.ensures)).0 in
+    let file = (met_ok (refuse EISDIR (is_directory_kind c.in_ok-reached.reached.inode.kind)) tt tt (sym c.in_ok-check_no_directory.ensures)).0 in
     let r = c.from_residual-in_err-permitted.ensures in
     let mid = g.S.Sectors.state c.reach.new.s in
     let new = g.S.Sectors.state c.permitted.new.s in
@@ -58,7 +58,7 @@ pub returns-in_err-check_size : goal.returns-in_err-check_size
 returns-in_err-check_size g c =
     let x = c.in_ok-reached.ensures in
     let i = x.reached.inode in
-    let file = (met_ok (refuse EISDIR (is_directory_kind c.in_ok-reached.reached.inode.kind)) tt tt (sym c.in_ok-check_kind.ensures)).0 in
+    let file = (met_ok (refuse EISDIR (is_directory_kind c.in_ok-reached.reached.inode.kind)) tt tt (sym c.in_ok-check_no_directory.ensures)).0 in
     let r = c.from_residual-in_err-check_size.ensures in
     let mid = g.S.Sectors.state c.reach.new.s in
     let new = g.S.Sectors.state c.permitted.new.s in
@@ -80,7 +80,7 @@ give_size-requires g c =
       sound = sound_kept same x.walked.ready.sound;
       below = reached_below x;
       inode = kept (λ m. v ≡ inode_at c.args.place m c.in_ok-reached.reached.number) same x.inode.inode;
-      file = file_kind _ v.kind (reached_access x).kind (met_ok (refuse EISDIR (is_directory_kind v.kind)) tt tt (sym c.in_ok-check_kind.ensures)).0;
+      file = file_kind _ v.kind (reached_access x).kind (met_ok (refuse EISDIR (is_directory_kind v.kind)) tt tt (sym c.in_ok-check_no_directory.ensures)).0;
       fits = few_enough c.args.size (met_ok (refuse EFBIG (nat_lt MAX_FILE_SIZE c.args.size)) tt tt (sym c.in_ok-check_size.ensures)).0;
       spare = omega (arith, spare);
     }
@@ -101,7 +101,7 @@ returns g c =
     let i = x.reached.inode in
     let v = c.in_ok-reached.reached.inode in
     let n = c.in_ok-reached.reached.number in
-    let file = (met_ok (refuse EISDIR (is_directory_kind v.kind)) tt tt (sym c.in_ok-check_kind.ensures)).0 in
+    let file = (met_ok (refuse EISDIR (is_directory_kind v.kind)) tt tt (sym c.in_ok-check_no_directory.ensures)).0 in
     let fits = (met_ok (refuse EFBIG (nat_lt MAX_FILE_SIZE c.args.size)) tt tt (sym c.in_ok-check_size.ensures)).0 in
     let same = c.in_ok-permitted.ensures.same in
     let change = c.in_ok-give_size.ensures.change in

@@ -5,49 +5,47 @@ use Rattle.fs_cred.specs.declared.errno.Errno.TheVariants.{EINVAL}
 use Rattle.fs_cred.specs.declared.refusal.Refusal.TheVariants.{Failed}
 use Rattle.fs_model.specs.declared.reply.Reply.TheVariants.{At}
 use Rattle.fs_model.specs.Processes.{with_offset}
-use Rattle.call_parts.proofs.ByDescriptor.{opened_as, opened_ok, open_below, closed_performs, unread_performs, asked_performs, changed_one, offset_stays_open}
-use Rattle.file_calls.proofs.DescriptorRows.{not_bad}
+use Rattle.sector_txn.proofs.TransactionRuns.{store_same}
+use Rattle.bit_alloc.proofs.Transactions.{unchanged_nothing}
+use Rattle.call_parts.proofs.ByDescriptor.{reached_as, opened_ok, open_refused, asked_performs, changed_one, offset_stays_open}
+use Rattle.file_calls.proofs.HeldFiles.{no_directory}
 use Rattle.file_calls.proofs.Seeking.{lseek_by, lseek_refused, lseek_lost, lseek_told}
 use Rattle.file_calls.proofs.transfer.lseek.Goals as goal
 
 pub returns-in_err-descriptor-clause-performs : goal.returns-in_err-descriptor-clause-performs
 returns-in_err-descriptor-clause-performs g c =
     let r = c.from_residual.ensures in
-    closed_performs c.args.pid (lseek_by c.args.fd c.args.whence c.args.by) (g.S.Sectors.state c.args.s.now) c.in_err-descriptor.field-0.0
-    (sym c.in_err-descriptor.ensures.answer) c.from_residual.result r.0 r.1
+    let x = c.in_err-descriptor.ensures in
+    open_refused (lseek_by c.args.fd c.args.whence c.args.by) c.from_residual.result c.in_err-descriptor.field-0.0 r.0 r.1 x.same.store x.refused
 
-pub file_open-requires-clause-below : goal.file_open-requires-clause-below
-file_open-requires-clause-below g c =
-    let o = opened_as c.args.procs.now c.args.pid c.args.fd c.descriptor.view_is c.in_ok-descriptor.ensures.answer in
-    open_below o c.requires.ready.state c.requires.ready.is_state
-
-pub returns-in_err-inode-clause-performs : goal.returns-in_err-inode-clause-performs
-returns-in_err-inode-clause-performs g c =
-    let o = opened_as c.args.procs.now c.args.pid c.args.fd c.descriptor.view_is c.in_ok-descriptor.ensures.answer in
-    let r = c.from_residual-in_err-inode.ensures in
-    let failed = c.in_err-inode.ensures in
-    unread_performs c.args.pid (lseek_by c.args.fd c.args.whence c.args.by) (g.S.Sectors.state c.args.s.now) o (not_bad o) (g.S.Sectors.state c.file_open.new.s)
-    c.from_residual-in_err-inode.result c.in_err-inode.field-0.0 r.0 r.1 failed.same.store
-    (λ s at. lseek_refused o c.args.whence c.args.by s at c.in_err-inode.field-0.0 failed.fault)
+pub returns-in_err-check_no_directory-clause-performs : goal.returns-in_err-check_no_directory-clause-performs
+returns-in_err-check_no_directory-clause-performs g c =
+    let r = c.from_residual-in_err-check_no_directory.ensures in
+    let x = c.in_ok-descriptor.ensures in
+    let e = c.in_err-check_no_directory.field-0.0 in
+    asked_performs (lseek_by c.args.fd c.args.whence c.args.by) x.same x.opened.is_open (g.S.Sectors.state c.reach_open.new.s)
+    c.from_residual-in_err-check_no_directory.result e r.0 r.1 store_same
+    (λ s at. lseek_refused x.opened.is_open.opened c.args.whence c.args.by s at c.in_ok-descriptor.inode x.opened.inode e (sym c.in_err-check_no_directory.ensures))
 
 pub returns-in_default-clause-performs : goal.returns-in_default-clause-performs
 returns-in_default-clause-performs g c =
-    let o = opened_as c.args.procs.now c.args.pid c.args.fd c.descriptor.view_is c.in_ok-descriptor.ensures.answer in
-    let file = c.in_ok-inode.ensures in
-    asked_performs c.args.pid (lseek_by c.args.fd c.args.whence c.args.by) (g.S.Sectors.state c.args.s.now) o (not_bad o) (g.S.Sectors.state c.file_open.new.s)
-    (Err (Failed EINVAL)) (Failed EINVAL) refl refl file.same.store
-    (λ s at. lseek_lost o c.args.whence c.args.by s at c.in_ok-inode.inode file.found file.file c.base.result c.base.ensures.start c.base.ensures.present c.base.ensures.end
-    _ (to_z-of_z w64 c.args.by c.ranges.by) c.in_default.ensures)
+    let x = reached_as c.descriptor.view_is c.in_ok-descriptor.ensures.opened in
+    let v = c.in_ok-descriptor.inode in
+    asked_performs (lseek_by c.args.fd c.args.whence c.args.by) c.in_ok-descriptor.ensures.same x.is_open (g.S.Sectors.state c.reach_open.new.s)
+    (Err (Failed EINVAL)) (Failed EINVAL) refl refl store_same
+    (λ s at. lseek_lost x.is_open.opened c.args.whence c.args.by s at v x.inode (no_directory v.kind c.in_ok-check_no_directory.ensures)
+    c.base.result c.base.ensures.start c.base.ensures.present c.base.ensures.end _ (to_z-of_z w64 c.args.by c.ranges.by) c.in_default.ensures)
 
 pub seek-requires : goal.seek-requires
-seek-requires g c = record { «open» = opened_ok c.args.procs.now c.args.pid c.args.fd c.in_ok-descriptor.descriptor c.in_ok-descriptor.ensures.answer }
+seek-requires g c = record { «open» = opened_ok c.in_ok-descriptor.ensures.opened.is_open.opened }
 
 pub returns-clause-performs : goal.returns-clause-performs
 returns-clause-performs g c =
-    let o = opened_as c.args.procs.now c.args.pid c.args.fd c.descriptor.view_is c.in_ok-descriptor.ensures.answer in
-    let file = c.in_ok-inode.ensures in
+    let x = reached_as c.descriptor.view_is c.in_ok-descriptor.ensures.opened in
+    let o = x.is_open.opened in
+    let v = c.in_ok-descriptor.inode in
     let to = c.in-Some.offset in
-    changed_one c.args.pid (lseek_by c.args.fd c.args.whence c.args.by) (g.S.Sectors.state c.args.s.now) o (not_bad o) (g.S.Sectors.state c.file_open.new.s)
-    c.seek.new.self file.same (λ p. with_offset p c.args.fd to) (At to) c.seek.ensures.moved (offset_stays_open o c.in_ok-descriptor.ensures.table to)
-    (λ s at. lseek_told o c.args.whence c.args.by s at c.in_ok-inode.inode file.found file.file c.base.result c.base.ensures.start c.base.ensures.present c.base.ensures.end
-    _ (to_z-of_z w64 c.args.by c.ranges.by) to c.in-Some.ensures)
+    changed_one (lseek_by c.args.fd c.args.whence c.args.by) c.in_ok-descriptor.ensures.same x.is_open (g.S.Sectors.state c.reach_open.new.s)
+    c.seek.new.self unchanged_nothing (λ p. with_offset p c.args.fd to) (At to) c.seek.ensures.moved (offset_stays_open o x.table to)
+    (λ s at. lseek_told o c.args.whence c.args.by s at v x.inode (no_directory v.kind c.in_ok-check_no_directory.ensures)
+    c.base.result c.base.ensures.start c.base.ensures.present c.base.ensures.end _ (to_z-of_z w64 c.args.by c.ranges.by) to c.in-Some.ensures)

@@ -1,95 +1,71 @@
-use Rattle.std.proofs.Common.{◌≡◌, ℕ, ◌+◌, List, length, true, false, sym, ap, refl, arith, ◌∙◌}
-use Rattle.fs_cred.specs.declared.errno.Errno.TheVariants.{EBADF}
-use Rattle.fs_cred.specs.declared.refusal.Refusal.TheVariants.{Failed}
-use Rattle.fs_layout.specs.Bytes.{SectorMap}
-use Rattle.fs_layout.specs.Images.{Holds, inode_at}
+use Rattle.std.proofs.Common.{◌≡◌, ℕ, ◌+◌, List, length, sym, ap, refl, arith, ◌∙◌}
 use Rattle.fs_model.specs.declared.reply.Reply.TheVariants.{Data}
 use Rattle.fs_model.specs.Processes.{with_offset}
 use Rattle.fs_model.specs.Scenes.{with_process}
-use Rattle.sector_txn.proofs.TransactionRuns.{store_joined}
+use Rattle.sector_txn.proofs.TransactionRuns.{store_same}
 use Rattle.block_map.proofs.Runs.{unchanged_joined}
 use Rattle.dir_core.proofs.Scans.{inode_within}
-use Rattle.path_walk.proofs.Kept.{sound_kept, kept, interrupts_later}
-use Rattle.call_parts.proofs.ByDescriptor.{opened_as, opened_ok, open_below, closed_performs, bad_performs, unread_performs, interrupted_performs, changed_one, offset_stays_open}
-use Rattle.file_calls.proofs.Reading.{read_by, read_asked, read_refused, read_told, read_ends}
+use Rattle.call_parts.proofs.ByDescriptor.{reached_as, opened_ok, open_refused, open_below, asked_performs, interrupted_performs, changed_one, offset_stays_open}
+use Rattle.file_calls.proofs.HeldFiles.{no_directory}
+use Rattle.file_calls.proofs.Reading.{read_by, read_refused, read_told, read_ends}
 use Rattle.file_calls.proofs.transfer.read.Goals as goal
 
 pub returns-in_err-descriptor-clause-performs : goal.returns-in_err-descriptor-clause-performs
 returns-in_err-descriptor-clause-performs g c =
     let r = c.from_residual.ensures in
-    closed_performs c.args.pid (read_by c.args.fd c.args.len) (g.S.Sectors.state c.args.s.now) c.in_err-descriptor.field-0.0
-    (sym c.in_err-descriptor.ensures.answer) c.from_residual.result r.0 r.1
+    let x = c.in_err-descriptor.ensures in
+    open_refused (read_by c.args.fd c.args.len) c.from_residual.result c.in_err-descriptor.field-0.0 r.0 r.1 x.same.store x.refused
 
-pub returns-then-not-descriptor-clause-performs : goal.returns-then-not-descriptor-clause-performs
-returns-then-not-descriptor-clause-performs g c =
-    let o = opened_as c.args.procs.now c.args.pid c.args.fd c.descriptor.view_is c.in_ok-descriptor.ensures.answer in
-    bad_performs c.args.pid (read_by c.args.fd c.args.len) (g.S.Sectors.state c.args.s.now) o (Failed EBADF) (read_asked o true c.if-not-descriptor.true)
-
-pub file_open-requires-clause-below : goal.file_open-requires-clause-below
-file_open-requires-clause-below g c =
-    let o = opened_as c.args.procs.now c.args.pid c.args.fd c.descriptor.view_is c.in_ok-descriptor.ensures.answer in
-    open_below o c.requires.ready.state c.requires.ready.is_state
-
-pub returns-in_err-inode-clause-performs : goal.returns-in_err-inode-clause-performs
-returns-in_err-inode-clause-performs g c =
-    let o = opened_as c.args.procs.now c.args.pid c.args.fd c.descriptor.view_is c.in_ok-descriptor.ensures.answer in
-    let r = c.from_residual-in_err-inode.ensures in
-    let failed = c.in_err-inode.ensures in
-    unread_performs c.args.pid (read_by c.args.fd c.args.len) (g.S.Sectors.state c.args.s.now) o (read_asked o false c.if-not-descriptor.false)
-    (g.S.Sectors.state c.file_open.new.s) c.from_residual-in_err-inode.result c.in_err-inode.field-0.0 r.0 r.1 failed.same.store
-    (λ s at. read_refused o s at c.in_err-inode.field-0.0 failed.fault)
+pub returns-in_err-check_no_directory-clause-performs : goal.returns-in_err-check_no_directory-clause-performs
+returns-in_err-check_no_directory-clause-performs g c =
+    let r = c.from_residual-in_err-check_no_directory.ensures in
+    let x = c.in_ok-descriptor.ensures in
+    let e = c.in_err-check_no_directory.field-0.0 in
+    asked_performs (read_by c.args.fd c.args.len) x.same x.opened.is_open (g.S.Sectors.state c.reach_open.new.s) c.from_residual-in_err-check_no_directory.result e r.0 r.1 store_same
+    (λ s at. read_refused x.opened.is_open.opened s at c.in_ok-descriptor.inode x.opened.inode e (sym c.in_err-check_no_directory.ensures))
 
 pub read_bytes-requires : goal.read_bytes-requires
 read_bytes-requires g c =
-    let o = opened_as c.args.procs.now c.args.pid c.args.fd c.descriptor.view_is c.in_ok-descriptor.ensures.answer in
-    let file = c.in_ok-inode.ensures in
-    record {
-      within = inode_within (sound_kept file.same c.requires.ready.sound) (
-        c.descriptor.inside.number,
-        open_below o c.requires.ready.state c.requires.ready.is_state,
-        kept (λ (m : SectorMap). c.in_ok-inode.inode ≡ inode_at c.args.place m c.descriptor.inside.number) file.same file.found,
-      );
-    }
+    let x = c.in_ok-descriptor.ensures.opened in
+    record { within = inode_within x.ready.sound (c.in_ok-descriptor.descriptor.number, open_below x.is_open.opened x.ready.state x.ready.is_state, x.inode) }
 
 pub returns-in_err-bytes-clause-performs : goal.returns-in_err-bytes-clause-performs
 returns-in_err-bytes-clause-performs g c =
-    let o = opened_as c.args.procs.now c.args.pid c.args.fd c.descriptor.view_is c.in_ok-descriptor.ensures.answer in
     let r = c.from_residual-in_err-bytes.ensures in
+    let x = c.in_ok-descriptor.ensures in
     let failed = c.in_err-bytes.ensures in
-    let file = c.in_ok-inode.ensures in
-    let new = g.S.Sectors.state c.read_bytes.new.s in
-    interrupted_performs c.args.pid (read_by c.args.fd c.args.len) (g.S.Sectors.state c.args.s.now) o (read_asked o false c.if-not-descriptor.false) new
-    c.from_residual-in_err-bytes.result c.in_err-bytes.field-0.0 r.0 r.1 (store_joined file.same.store failed.same.store) refl
-    (interrupts_later new.disk file.same failed.fault)
+    interrupted_performs (read_by c.args.fd c.args.len) x.same x.opened.is_open (g.S.Sectors.state c.read_bytes.new.s)
+    c.from_residual-in_err-bytes.result c.in_err-bytes.field-0.0 r.0 r.1 failed.same.store refl failed.fault
 
 pub returns-in_err-bytes-clause-same : goal.returns-in_err-bytes-clause-same
-returns-in_err-bytes-clause-same g c = unchanged_joined c.in_ok-inode.ensures.same c.in_err-bytes.ensures.same
+returns-in_err-bytes-clause-same g c = unchanged_joined c.in_ok-descriptor.ensures.same c.in_err-bytes.ensures.same
 
 pub overflow_add-descriptor-inside : goal.overflow_add-descriptor-inside
 overflow_add-descriptor-inside g c =
-    let o = opened_as c.args.procs.now c.args.pid c.args.fd c.descriptor.view_is c.in_ok-descriptor.ensures.answer in
-    let file = c.in_ok-inode.ensures in
-    let ends = read_ends o c.requires.ready.state c.requires.ready.is_state c.in_ok-inode.inode file.found file.file c.args.len c.in_ok-bytes.bytes
-    (λ bytes held. c.in_ok-bytes.ensures.found bytes (kept (λ (m : SectorMap). Holds m c.in_ok-inode.inode bytes) file.same held)) in
+    let x = reached_as c.descriptor.view_is c.in_ok-descriptor.ensures.opened in
+    let v = c.in_ok-descriptor.inode in
+    let file = no_directory v.kind c.in_ok-check_no_directory.ensures in
+    let ends = read_ends x.is_open.opened x.ready.state x.ready.is_state v x.inode file c.args.len c.in_ok-bytes.bytes c.in_ok-bytes.ensures.found in
     let len = ap length c.bytes.ensures.all in
     omega (arith, ends, len)
 
 pub seek-requires : goal.seek-requires
-seek-requires g c = record { «open» = opened_ok c.args.procs.now c.args.pid c.args.fd c.in_ok-descriptor.descriptor c.in_ok-descriptor.ensures.answer }
+seek-requires g c = record { «open» = opened_ok c.in_ok-descriptor.ensures.opened.is_open.opened }
 
 pub returns-clause-performs : goal.returns-clause-performs
 returns-clause-performs g c =
-    let o = opened_as c.args.procs.now c.args.pid c.args.fd c.descriptor.view_is c.in_ok-descriptor.ensures.answer in
-    let file = c.in_ok-inode.ensures in
+    let x = reached_as c.descriptor.view_is c.in_ok-descriptor.ensures.opened in
+    let o = x.is_open.opened in
+    let v = c.in_ok-descriptor.inode in
+    let file = no_directory v.kind c.in_ok-check_no_directory.ensures in
+    let read = c.in_ok-bytes in
     let to = c.descriptor.inside.offset + length c.bytes.result.now in
-    let len : c.descriptor.inside.offset + length c.in_ok-bytes.bytes ≡ to = ap (λ (l : List ℕ). c.descriptor.inside.offset + length l) (sym c.bytes.ensures.all) in
-    changed_one c.args.pid (read_by c.args.fd c.args.len) (g.S.Sectors.state c.args.s.now) o (read_asked o false c.if-not-descriptor.false)
-    (g.S.Sectors.state c.read_bytes.new.s) c.seek.new.self (unchanged_joined file.same c.in_ok-bytes.ensures.same) (λ p. with_offset p c.args.fd to)
-    (Data c.in_ok-bytes.bytes) c.seek.ensures.moved (offset_stays_open o c.in_ok-descriptor.ensures.table to)
+    let len : c.descriptor.inside.offset + length read.bytes ≡ to = ap (λ (l : List ℕ). c.descriptor.inside.offset + length l) (sym c.bytes.ensures.all) in
+    changed_one (read_by c.args.fd c.args.len) c.in_ok-descriptor.ensures.same x.is_open (g.S.Sectors.state c.read_bytes.new.s) c.seek.new.self read.ensures.same
+    (λ p. with_offset p c.args.fd to) (Data read.bytes) c.seek.ensures.moved (offset_stays_open o x.table to)
     (λ s at.
-    let told = read_told o s at c.in_ok-inode.inode file.found file.file c.args.len c.in_ok-bytes.bytes
-    (λ bytes held. c.in_ok-bytes.ensures.found bytes (kept (λ (m : SectorMap). Holds m c.in_ok-inode.inode bytes) file.same held)) in
-    (told.0, told.1 ∙ ap (λ (n : ℕ). with_process (with_offset o.process c.args.fd n) (Data c.in_ok-bytes.bytes)) len))
+    let t = read_told o s at v x.inode file c.args.len read.bytes read.ensures.found in
+    (t.0, t.1 ∙ ap (λ (n : ℕ). with_process (with_offset o.process c.args.fd n) (Data read.bytes)) len))
 
 pub returns-clause-same : goal.returns-clause-same
-returns-clause-same g c = unchanged_joined c.in_ok-inode.ensures.same c.in_ok-bytes.ensures.same
+returns-clause-same g c = unchanged_joined c.in_ok-descriptor.ensures.same c.in_ok-bytes.ensures.same

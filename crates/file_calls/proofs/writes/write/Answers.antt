@@ -1,7 +1,7 @@
-use Rattle.std.proofs.Common.{◌≡◌, ◌+◌, ◌-◌, ◌<◌, ◌≤◌, ℕ, List, Err, Some, true, false, refl, sym, ap, subst, arith, ◌∙◌, inl, inr, length, take}
+use Rattle.std.proofs.Common.{◌≡◌, ◌+◌, ◌-◌, ◌<◌, ◌≤◌, ℕ, List, Err, Some, refl, sym, ap, subst, arith, ◌∙◌, inl, inr, length, take}
 use Rattle.std.specs.Prelude.{min, if◌then◌else◌}
 use Rattle.std.proofs.lemmas.List.{length-take}
-use Rattle.fs_cred.specs.declared.errno.Errno.TheVariants.{EBADF, EFBIG}
+use Rattle.fs_cred.specs.declared.errno.Errno.TheVariants.{EFBIG}
 use Rattle.fs_cred.specs.declared.refusal.Refusal.{Refusal}
 use Rattle.fs_cred.specs.declared.refusal.Refusal.TheVariants.{Failed}
 use Rattle.fs_layout.specs.declared.inode.Inode.{Inode}
@@ -9,114 +9,90 @@ use Rattle.fs_layout.specs.declared.inode.TheConstants.{MAX_FILE_SIZE}
 use Rattle.fs_layout.specs.Bytes.{SectorMap, overwritten}
 use Rattle.fs_layout.specs.Images.{inode_at, free_sectors}
 use Rattle.fs_model.specs.Limits.{least_free, move_limit}
-use Rattle.bit_alloc.proofs.Transactions.{spare_unchanged}
+use Rattle.bit_alloc.proofs.Transactions.{spare_unchanged, unchanged_nothing}
 use Rattle.call_parts.specs.ByteChanges.{ChangesBytes}
 use Rattle.fs_model.specs.declared.reply.Reply.TheVariants.{Wrote}
 use Rattle.fs_model.specs.Processes.{Descriptor, with_offset}
-use Rattle.sector_disk.proofs.Moments.{failed_later}
-use Rattle.sector_txn.proofs.TransactionRuns.{store_joined}
 use Rattle.block_map.proofs.Runs.{unchanged_joined}
+use Rattle.path_walk.proofs.Kept.{sound_kept, kept, kept_back}
 use Rattle.call_parts.proofs.Calling.{state_kept}
-use Rattle.path_walk.proofs.Kept.{sound_kept, kept, kept_back, same_ok}
-use Rattle.call_parts.proofs.ByDescriptor.{opened_as, opened_ok, open_below, closed_performs, bad_performs, unread_performs, asked_performs, told, offset_stays_open}
-use Rattle.file_calls.proofs.Rewritten.{changed_tree, still_now}
-use Rattle.file_calls.proofs.Writing.{unchanged_same, true_if, is_enough, write_by, write_asked, asks_nothing, empty_if, some_if, file_kind, too_far, too_full, all_met, writes}
+use Rattle.call_parts.proofs.ByDescriptor.{open_as, opened_ok, open_below, closed_refused, unread_performs, asked_performs, told, changed_tree, still_now, offset_stays_open}
+use Rattle.file_calls.proofs.Writing.{open_to_write, is_enough, write_by, asks_nothing, empty_if, some_if, file_kind, too_far, too_full, writes}
 use Rattle.file_calls.proofs.writes.write.Goals as goal
 
 pub returns-in_err-descriptor : goal.returns-in_err-descriptor
 returns-in_err-descriptor g c =
     let r = c.from_residual.ensures in
-    closed_performs c.args.pid (write_by c.args.fd c.args.bytes.now) (g.S.Sectors.state c.args.s.now) c.in_err-descriptor.field-0.0
-    (sym c.in_err-descriptor.ensures.answer) c.from_residual.result r.0 r.1
-
-pub returns-then-not-descriptor : goal.returns-then-not-descriptor
-returns-then-not-descriptor g c =
-    let o = opened_as c.args.procs.now c.args.pid c.args.fd c.descriptor.view_is c.in_ok-descriptor.ensures.answer in
-    bad_performs c.args.pid (write_by c.args.fd c.args.bytes.now) (g.S.Sectors.state c.args.s.now) o (Failed EBADF) (write_asked o true c.if-not-descriptor.true)
+    closed_refused (write_by c.args.fd c.args.bytes.now) c.from_residual.result c.in_err-descriptor.field-0.0 r.0 r.1 c.in_err-descriptor.ensures.refused
 
 pub returns-then-is_empty : goal.returns-then-is_empty
 returns-then-is_empty g c =
-    let o = opened_as c.args.procs.now c.args.pid c.args.fd c.descriptor.view_is c.in_ok-descriptor.ensures.answer in
-    let old = g.S.Sectors.state c.args.s.now in
-    told c.args.pid (write_by c.args.fd c.args.bytes.now) old o (write_asked o false c.if-not-descriptor.false) old unchanged_same (Wrote 0)
-    (λ s at. asks_nothing o s c.args.bytes.now (empty_if c.args.bytes.now c.bytes-bytes.result.now c.bytes-bytes.ensures.all c.if-is_empty.ensures))
+    let w = c.in_ok-descriptor.ensures.is_open in
+    told (write_by c.args.fd c.args.bytes.now) unchanged_nothing w (g.S.Sectors.state c.args.s.now) unchanged_nothing (Wrote 0)
+    (λ s at. asks_nothing w.opened s c.args.bytes.now (empty_if c.args.bytes.now c.bytes-bytes.result.now c.bytes-bytes.ensures.all c.if-is_empty.ensures))
 
 pub load_inode-requires-clause-below : goal.load_inode-requires-clause-below
 load_inode-requires-clause-below g c =
-    let o = opened_as c.args.procs.now c.args.pid c.args.fd c.descriptor.view_is c.in_ok-descriptor.ensures.answer in
-    open_below o c.requires.ready.state c.requires.ready.is_state
+    let w = open_as c.descriptor.view_is c.in_ok-descriptor.ensures.is_open in
+    open_below w.opened c.requires.ready.state c.requires.ready.is_state
 
 pub returns-in_err-inode : goal.returns-in_err-inode
 returns-in_err-inode g c =
-    let o = opened_as c.args.procs.now c.args.pid c.args.fd c.descriptor.view_is c.in_ok-descriptor.ensures.answer in
     let r = c.from_residual-in_err-inode.ensures in
     let failed = c.in_err-inode.ensures in
-    unread_performs c.args.pid (write_by c.args.fd c.args.bytes.now) (g.S.Sectors.state c.args.s.now) o (write_asked o false c.if-not-descriptor.false)
-    (g.S.Sectors.state c.load_inode.new.s) c.from_residual-in_err-inode.result c.in_err-inode.field-0.0 r.0 r.1 failed.same.store
-    (λ s at. inr failed.fault)
+    unread_performs (write_by c.args.fd c.args.bytes.now) unchanged_nothing c.in_ok-descriptor.ensures.is_open (g.S.Sectors.state c.load_inode.new.s)
+    c.from_residual-in_err-inode.result c.in_err-inode.field-0.0 r.0 r.1 failed.same.store (λ s at. inr failed.fault)
 
 pub returns-then-offset-ge-MAX_FILE_SIZE : goal.returns-then-offset-ge-MAX_FILE_SIZE
 returns-then-offset-ge-MAX_FILE_SIZE g c =
-    let o = opened_as c.args.procs.now c.args.pid c.args.fd c.descriptor.view_is c.in_ok-descriptor.ensures.answer in
+    let w = open_as c.descriptor.view_is c.in_ok-descriptor.ensures.is_open in
     let some = some_if c.args.bytes.now c.bytes-bytes.result.now c.bytes-bytes.ensures.all c.if-is_empty.ensures in
-    let wrote = true_if c.descriptor.inside.write c.if-not-descriptor.false in
-    let old = g.S.Sectors.state c.args.s.now in
     let v = c.in_ok-inode.inode in
-    let is = sym (same_ok (inode_at c.args.place old.sectors c.descriptor.inside.number) v c.in_ok-inode.ensures.each) in
     let offset = c.write_offset-offset.result in
     let from = subst (λ (x : Descriptor). offset ≡ (if x.append then v.size else x.offset)) (sym c.descriptor.view_is) c.write_offset-offset.ensures in
-    asked_performs c.args.pid (write_by c.args.fd c.args.bytes.now) old o (write_asked o false c.if-not-descriptor.false)
-    (g.S.Sectors.state c.load_inode.new.s) (Err (Failed EFBIG)) (Failed EFBIG) refl refl c.in_ok-inode.ensures.same.store
-    (λ s at. too_far o s at wrote v is offset from c.args.bytes.now some c.if-offset-ge-MAX_FILE_SIZE.true)
+    asked_performs (write_by c.args.fd c.args.bytes.now) unchanged_nothing w (g.S.Sectors.state c.load_inode.new.s) (Err (Failed EFBIG)) (Failed EFBIG) refl refl
+    c.in_ok-inode.ensures.same.store
+    (λ s at. too_far w.opened s at (open_to_write w) v c.in_ok-inode.ensures.found offset from c.args.bytes.now some c.if-offset-ge-MAX_FILE_SIZE.true)
 
 pub ask_for_sectors-requires : goal.ask_for_sectors-requires
 ask_for_sectors-requires g c = (sound_kept c.in_ok-inode.ensures.same c.requires.ready.sound).bitmaps
 
 pub returns-in_err-ask_for_sectors : goal.returns-in_err-ask_for_sectors
 returns-in_err-ask_for_sectors g c =
-    let o = opened_as c.args.procs.now c.args.pid c.args.fd c.descriptor.view_is c.in_ok-descriptor.ensures.answer in
+    let w = open_as c.descriptor.view_is c.in_ok-descriptor.ensures.is_open in
     let some = some_if c.args.bytes.now c.bytes-bytes.result.now c.bytes-bytes.ensures.all c.if-is_empty.ensures in
-    let wrote = true_if c.descriptor.inside.write c.if-not-descriptor.false in
-    let old = g.S.Sectors.state c.args.s.now in
     let v = c.in_ok-inode.inode in
-    let is = sym (same_ok (inode_at c.args.place old.sectors c.descriptor.inside.number) v c.in_ok-inode.ensures.each) in
+    let first = c.in_ok-inode.ensures.same in
+    let is = kept (λ (m : SectorMap). v ≡ inode_at c.args.place m c.descriptor.inside.number) first c.in_ok-inode.ensures.found in
     let offset = c.write_offset-offset.result in
     let from = subst (λ (x : Descriptor). offset ≡ (if x.append then v.size else x.offset)) (sym c.descriptor.view_is) c.write_offset-offset.ensures in
-    let mid = g.S.Sectors.state c.load_inode.new.s in
-    let new = g.S.Sectors.state c.ask_for_sectors.new.s in
-    let first = c.in_ok-inode.ensures.same in
     let r = c.from_residual-in_err-ask_for_sectors.ensures in
     let failed = c.in_err-ask_for_sectors.ensures in
-    unread_performs c.args.pid (write_by c.args.fd c.args.bytes.now) old o (write_asked o false c.if-not-descriptor.false) new
-    c.from_residual-in_err-ask_for_sectors.result c.in_err-ask_for_sectors.field-0.0 r.0 r.1 (unchanged_joined first failed.same).store
+    unread_performs (write_by c.args.fd c.args.bytes.now) first w (g.S.Sectors.state c.ask_for_sectors.new.s)
+    c.from_residual-in_err-ask_for_sectors.result c.in_err-ask_for_sectors.field-0.0 r.0 r.1 failed.same.store
     (λ s at. elim failed.fault [
-      | inl full ↦ inl (too_full o s at wrote v is offset from c.args.bytes.now some c.if-offset-ge-MAX_FILE_SIZE.false
-          (kept_back (λ (m : SectorMap). free_sectors c.args.place m < least_free) first full.1) ∙ ap (λ (x : Refusal). Some x) (sym full.0))
-      | inr read ↦ inr (read.0, failed_later old.disk mid.disk new.disk first.store.reads.failures read.1)
+      | inl full ↦ inl (too_full w.opened s at (open_to_write w) v is offset from c.args.bytes.now some c.if-offset-ge-MAX_FILE_SIZE.false full.1
+          ∙ ap (λ (x : Refusal). Some x) (sym full.0))
+      | inr read ↦ inr read
     ])
 
 pub write_bytes-requires : goal.write_bytes-requires
 write_bytes-requires g c =
-    let o = opened_as c.args.procs.now c.args.pid c.args.fd c.descriptor.view_is c.in_ok-descriptor.ensures.answer in
-    let some = some_if c.args.bytes.now c.bytes-bytes.result.now c.bytes-bytes.ensures.all c.if-is_empty.ensures in
-    let wrote = true_if c.descriptor.inside.write c.if-not-descriptor.false in
-    let old = g.S.Sectors.state c.args.s.now in
+    let w = open_as c.descriptor.view_is c.in_ok-descriptor.ensures.is_open in
     let v = c.in_ok-inode.inode in
-    let is = sym (same_ok (inode_at c.args.place old.sectors c.descriptor.inside.number) v c.in_ok-inode.ensures.each) in
-    let offset = c.write_offset-offset.result in
-    let from = subst (λ (x : Descriptor). offset ≡ (if x.append then v.size else x.offset)) (sym c.descriptor.view_is) c.write_offset-offset.ensures in
+    let is = c.in_ok-inode.ensures.found in
+    let old = g.S.Sectors.state c.args.s.now in
     let mid = g.S.Sectors.state c.load_inode.new.s in
     let new = g.S.Sectors.state c.ask_for_sectors.new.s in
-    let first = c.in_ok-inode.ensures.same in
-    let same = unchanged_joined first c.in_ok-ask_for_sectors.ensures.same in
+    let same = unchanged_joined c.in_ok-inode.ensures.same c.in_ok-ask_for_sectors.ensures.same in
     let counted = c.write_count-count.ensures in
     let near = c.if-offset-ge-MAX_FILE_SIZE.false in
     let len = length-take c.write_count-count.result c.bytes-bytes.result.now in
     record {
       sound = sound_kept same c.requires.ready.sound;
-      below = open_below o c.requires.ready.state c.requires.ready.is_state;
+      below = open_below w.opened c.requires.ready.state c.requires.ready.is_state;
       inode = kept (λ (m : SectorMap). v ≡ inode_at c.args.place m c.descriptor.inside.number) same is;
-      file = ap (λ (i : Inode). i.kind) is ∙ file_kind o c.requires.ready.state c.requires.ready.is_state wrote;
+      file = ap (λ (i : Inode). i.kind) is ∙ file_kind w.opened c.requires.ready.state c.requires.ready.is_state (open_to_write w);
       few = omega (arith, len, counted);
       fits = omega (arith, len, counted, near);
       space = kept (λ (m : SectorMap). least_free ≤ free_sectors c.args.place m) c.in_ok-ask_for_sectors.ensures.same
@@ -126,50 +102,37 @@ write_bytes-requires g c =
 
 pub returns-in_err-write_bytes : goal.returns-in_err-write_bytes
 returns-in_err-write_bytes g c =
-    let o = opened_as c.args.procs.now c.args.pid c.args.fd c.descriptor.view_is c.in_ok-descriptor.ensures.answer in
     let r = c.from_residual-in_err-write_bytes.ensures in
     let same = unchanged_joined c.in_ok-inode.ensures.same c.in_ok-ask_for_sectors.ensures.same in
     let failed = c.in_err-write_bytes.ensures in
-    let old = g.S.Sectors.state c.args.s.now in
-    let mid = g.S.Sectors.state c.ask_for_sectors.new.s in
-    let new = g.S.Sectors.state c.write_bytes.new.s in
-    unread_performs c.args.pid (write_by c.args.fd c.args.bytes.now) old o (write_asked o false c.if-not-descriptor.false) new
-    c.from_residual-in_err-write_bytes.result c.in_err-write_bytes.field-0.0 r.0 r.1 (store_joined same.store failed.store)
-    (λ s at. inr (failed.err.0, failed_later old.disk mid.disk new.disk same.store.reads.failures failed.err.1))
+    unread_performs (write_by c.args.fd c.args.bytes.now) same c.in_ok-descriptor.ensures.is_open (g.S.Sectors.state c.write_bytes.new.s)
+    c.from_residual-in_err-write_bytes.result c.in_err-write_bytes.field-0.0 r.0 r.1 failed.store (λ s at. inr failed.err)
 
 pub seek-requires : goal.seek-requires
-seek-requires g c = record { «open» = opened_ok c.args.procs.now c.args.pid c.args.fd c.in_ok-descriptor.descriptor c.in_ok-descriptor.ensures.answer }
+seek-requires g c = record { «open» = opened_ok c.in_ok-descriptor.ensures.is_open.opened }
 
 pub returns : goal.returns
 returns g c =
-    let o = opened_as c.args.procs.now c.args.pid c.args.fd c.descriptor.view_is c.in_ok-descriptor.ensures.answer in
-    let some = some_if c.args.bytes.now c.bytes-bytes.result.now c.bytes-bytes.ensures.all c.if-is_empty.ensures in
-    let wrote = true_if c.descriptor.inside.write c.if-not-descriptor.false in
-    let old = g.S.Sectors.state c.args.s.now in
+    let w = open_as c.descriptor.view_is c.in_ok-descriptor.ensures.is_open in
+    let bytes = c.args.bytes.now in
+    let all = c.bytes-bytes.ensures.all in
+    let some = some_if bytes c.bytes-bytes.result.now all c.if-is_empty.ensures in
     let v = c.in_ok-inode.inode in
-    let is = sym (same_ok (inode_at c.args.place old.sectors c.descriptor.inside.number) v c.in_ok-inode.ensures.each) in
     let offset = c.write_offset-offset.result in
     let from = subst (λ (x : Descriptor). offset ≡ (if x.append then v.size else x.offset)) (sym c.descriptor.view_is) c.write_offset-offset.ensures in
     let mid = g.S.Sectors.state c.load_inode.new.s in
     let asked = g.S.Sectors.state c.ask_for_sectors.new.s in
     let new = g.S.Sectors.state c.write_bytes.new.s in
-    let first = c.in_ok-inode.ensures.same in
-    let same = unchanged_joined first c.in_ok-ask_for_sectors.ensures.same in
-    let near = c.if-offset-ge-MAX_FILE_SIZE.false in
+    let same = unchanged_joined c.in_ok-inode.ensures.same c.in_ok-ask_for_sectors.ensures.same in
+    let is = kept (λ (m : SectorMap). v ≡ inode_at c.args.place m c.descriptor.inside.number) same c.in_ok-inode.ensures.found in
     let count = c.write_count-count.result in
-    let bytes = c.args.bytes.now in
-    let all = c.bytes-bytes.ensures.all in
     let to = offset + count in
     let change = subst (λ (l : List ℕ). ChangesBytes c.args.place c.descriptor.inside.number asked new (λ held. overwritten held offset (take count l))) all
     c.in_ok-write_bytes.ensures.change in
-    let enough = kept_back (λ (m : SectorMap). least_free ≤ free_sectors c.args.place m) first
+    let enough = kept (λ (m : SectorMap). least_free ≤ free_sectors c.args.place m) c.in_ok-ask_for_sectors.ensures.same
     (is_enough (free_sectors c.args.place mid.sectors) least_free c.in_ok-ask_for_sectors.ensures.each) in
     let counted = c.write_count-count.ensures ∙ ap (λ (l : List ℕ). min (length l) (min move_limit (MAX_FILE_SIZE - offset))) all in
-    changed_tree c.args.pid (write_by c.args.fd bytes) old o (write_asked o false c.if-not-descriptor.false) new c.seek.new.self
-    (store_joined same.store c.in_ok-write_bytes.ensures.store) (change.super ∙ same.sectors 0) (λ p. with_offset p c.args.fd to) (Wrote count) c.seek.ensures.moved
-    (λ s at. (
-      all_met o s at wrote v is offset from bytes some near enough,
-      writes o s (state_kept same at) wrote v (kept (λ (m : SectorMap). v ≡ inode_at c.args.place m c.descriptor.inside.number) same is) offset
-          from bytes some near c.bytes-bytes.ensures.valid count counted c.seek.new.self
-          (still_now o s at c.seek.new.self (λ p. with_offset p c.args.fd to) c.seek.ensures.moved (offset_stays_open o c.in_ok-descriptor.ensures.table to)) change,
-    ))
+    changed_tree (write_by c.args.fd bytes) same w new c.seek.new.self c.in_ok-write_bytes.ensures.store change.super (λ p. with_offset p c.args.fd to) (Wrote count) c.seek.ensures.moved
+    (λ s at. writes w.opened s at (open_to_write w) v is offset from bytes some c.if-offset-ge-MAX_FILE_SIZE.false enough c.bytes-bytes.ensures.valid count counted
+    c.seek.new.self (still_now w.opened s at c.seek.new.self (λ p. with_offset p c.args.fd to) c.seek.ensures.moved
+    (offset_stays_open w.opened c.in_ok-descriptor.ensures.table to)) change)

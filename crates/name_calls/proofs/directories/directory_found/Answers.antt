@@ -29,18 +29,18 @@ returns-in_err-n-clause-each g c = λ t h there.
     answered_err old.disk new.disk (refused_or (first_of (enter_asked c.args.cred.now t f)) (Ok (number f))) c.from_residual.result e r.0 r.1
     (first_asked (must_be_there f) (entering_rest c.args.cred.now t f) (number f, inode_at c.args.place old.sectors (number f)) (number f) e old.disk new.disk c.in_err-n.ensures.each)
 
-pub returns-in_err-check_directory-clause-each : goal.returns-in_err-check_directory-clause-each
-returns-in_err-check_directory-clause-each g c = λ t h there.
-    let r = c.from_residual-in_err-check_directory.ensures in
+pub returns-in_err-check_is_directory-clause-each : goal.returns-in_err-check_is_directory-clause-each
+returns-in_err-check_is_directory-clause-each g c = λ t h there.
+    let r = c.from_residual-in_err-check_is_directory.ensures in
     let old = g.S.Sectors.state c.args.s.now in
     let new = g.S.Sectors.state c.inode_found.new.s in
     let f = c.args.found.now in
     let n = c.in_ok-n.n in
     let v = c.in_ok-n.inode in
-    let e = c.in_err-check_directory.field-0.0 in
+    let e = c.in_err-check_is_directory.field-0.0 in
     let i = is_inode c.args.place old.sectors f n v c.in_ok-n.ensures.each in
-    answered_err old.disk new.disk (refused_or (first_of (enter_asked c.args.cred.now t f)) (Ok (number f))) c.from_residual-in_err-check_directory.result e r.0 r.1
-    (other_kind_refused h f n v i (there n i.some) c.args.cred.now (number f) e old.disk new.disk (sym c.in_err-check_directory.ensures))
+    answered_err old.disk new.disk (refused_or (first_of (enter_asked c.args.cred.now t f)) (Ok (number f))) c.from_residual-in_err-check_is_directory.result e r.0 r.1
+    (other_kind_refused h f n v i (there n i.some) c.args.cred.now (number f) e old.disk new.disk (sym c.in_err-check_is_directory.ensures))
 
 pub search-requires-clause-sound : goal.search-requires-clause-sound
 search-requires-clause-sound g c = sound_kept c.in_ok-n.ensures.same c.requires.sound
@@ -62,7 +62,7 @@ search-requires-clause-has g c =
     let n = c.in_ok-n.n in
     let v = c.in_ok-n.inode in
     let i = is_inode c.args.place old.sectors f n v c.in_ok-n.ensures.each in
-    let is = sym c.in_ok-check_directory.ensures in
+    let is = sym c.in_ok-check_is_directory.ensures in
     let a = access x.1 f n v i (x.2 n i.some) c.args.cred.now is in
     (a, kept (λ m. HasAccess m v a) c.in_ok-n.ensures.same (search_held x.1 f n v i (x.2 n i.some) c.args.cred.now is))
 
@@ -76,7 +76,7 @@ returns-in_err-search-clause-each g c = λ t h there.
     let v = c.in_ok-n.inode in
     let e = c.in_err-search.field-0.0 in
     let i = is_inode c.args.place old.sectors f n v c.in_ok-n.ensures.each in
-    let is = sym c.in_ok-check_directory.ensures in
+    let is = sym c.in_ok-check_is_directory.ensures in
     let held = kept (λ m. HasAccess m v (access h f n v i (there n i.some) c.args.cred.now is)) c.in_ok-n.ensures.same (search_held h f n v i (there n i.some) c.args.cred.now is) in
     answered_err old.disk last.disk (refused_or (first_of (enter_asked c.args.cred.now t f)) (Ok (number f))) c.from_residual-in_err-search.result e r.0 r.1
     (search_refused h f n v i (there n i.some) c.args.cred.now is (number f) e old.disk last.disk
@@ -92,7 +92,7 @@ returns-clause-each g c = λ t h there.
     let n = c.in_ok-n.n in
     let v = c.in_ok-n.inode in
     let i = is_inode c.args.place old.sectors f n v c.in_ok-n.ensures.each in
-    let is = sym c.in_ok-check_directory.ensures in
+    let is = sym c.in_ok-check_is_directory.ensures in
     let held = kept (λ m. HasAccess m v (access h f n v i (there n i.some) c.args.cred.now is)) c.in_ok-n.ensures.same (search_held h f n v i (there n i.some) c.args.cred.now is) in
     let met = entered h f n v i (there n i.some) c.args.cred.now is (c.in_ok-search.ensures.each (access h f n v i (there n i.some) c.args.cred.now is) held) in
     ap (λ d. refused_or {A = ℕ} d (Ok (number f))) met ∙ ap (λ (k : ℕ). Ok k) i.number

@@ -4,28 +4,26 @@ use Rattle.fs_layout.specs.Bytes.{SectorMap}
 use Rattle.fs_layout.specs.Images.{inode_at}
 use Rattle.fs_model.specs.declared.reply.Reply.TheVariants.{Done}
 use Rattle.fs_model.specs.TreeChanges.{TakeName, changed, swept}
-use Rattle.fs_model.specs.Demands.{first_of}
-use Rattle.fs_model.specs.NameCalls.{rmdir_demands}
 use Rattle.fs_model.specs.Scenes.{number}
 use Rattle.fs_model.specs.Stands.{HoldsAll, placed}
 use Rattle.bit_alloc.proofs.Transactions.{spare_unchanged}
 use Rattle.sector_txn.proofs.TransactionRuns.{store_joined}
 use Rattle.path_walk.proofs.Kept.{kept, sound_kept, interrupts_later}
 use Rattle.call_parts.specs.Paths.{scene_at}
-use Rattle.call_parts.proofs.Calling.{met_ok, state_kept}
+use Rattle.call_parts.proofs.Calling.{state_kept}
 use Rattle.call_parts.proofs.Reachings.{walk_refused, asked_refused, changed as has_changed}
-use Rattle.name_calls.specs.Removing.{MayGo}
-use Rattle.name_calls.proofs.RemovalRows.{rmdir_by_path, finds_name, rmdir_told, rmdir_may, name_gone}
-use Rattle.name_calls.proofs.removal.rmdir.Goals as goal
+use Rattle.name_calls.specs.Removing.{MayGo, removal_demands}
+use Rattle.name_calls.proofs.RemovalRows.{removes_by_path, finds_name, target_found, target_met, target_may, name_gone}
+use Rattle.name_calls.proofs.removal.remove_target.Goals as goal
 
 pub returns-in_err-walked : goal.returns-in_err-walked
 returns-in_err-walked g c =
     let r = c.from_residual.ensures in
     let x = c.in_err-walked.ensures in
-    walk_refused (rmdir_by_path c.args.path.now) c.from_residual.result c.in_err-walked.field-0.0 r.0 r.1 x.same x.refused
+    walk_refused (removes_by_path c.args.what c.args.path.now) c.from_residual.result c.in_err-walked.field-0.0 r.0 r.1 x.same x.refused
 
-pub check_rmdir-requires : goal.check_rmdir-requires
-check_rmdir-requires g c =
+pub check_target-requires : goal.check_target-requires
+check_target-requires g c =
     let w = c.in_ok-walked.ensures.walked in
     let ready = w.ready in
     record { sound = ready.sound; found = (ready.state, finds_name w.bytes ready.is_state (w.found ready.state ready.is_state)) }
@@ -36,7 +34,7 @@ returns-in_err-n g c =
     let x = c.in_ok-walked.ensures in
     let f = c.in_ok-walked.walked.found in
     let y : ℕ × Inode = (number f, inode_at c.args.place (g.S.Sectors.state c.walk_path.new.s).sectors (number f)) in
-    asked_refused (rmdir_by_path c.args.path.now) x.same x.walked (g.S.Sectors.state c.check_rmdir.new.s) c.from_residual-in_err-n.result c.in_err-n.field-0.0 r.0 r.1
+    asked_refused (removes_by_path c.args.what c.args.path.now) x.same x.walked (g.S.Sectors.state c.check_target.new.s) c.from_residual-in_err-n.result c.in_err-n.field-0.0 r.0 r.1
     c.in_err-n.ensures.same.store {A = ℕ × Inode} y (λ s has at. c.in_err-n.ensures.each s (finds_name x.walked.bytes at has))
 
 pub take_name-requires : goal.take_name-requires
@@ -49,13 +47,13 @@ take_name-requires g c =
     let asked = c.in_ok-n.ensures.each ready.state finds in
     record {
       sound = sound_kept same ready.sound;
-      inode = kept (λ (m : SectorMap). c.in_ok-n.inode ≡ inode_at c.args.place m c.in_ok-n.n) same (rmdir_told finds asked).inode;
+      inode = kept (λ (m : SectorMap). c.in_ok-n.inode ≡ inode_at c.args.place m c.in_ok-n.n) same (target_found finds c.args.what asked).inode;
       may = (
         ready.state,
         state_kept same ready.is_state,
-        subst (λ (name : List ℕ). MayGo ready.state f.dir name c.in_ok-n.n) (sym c.bytes-name.ensures.all) (rmdir_may finds asked),
+        subst (λ (name : List ℕ). MayGo ready.state f.dir name c.in_ok-n.n) (sym c.bytes-name.ensures.all) (target_may finds c.args.what asked),
       );
-      spare = spare_unchanged c.args.place 47 (g.S.Sectors.state c.walk_path.new.s) (g.S.Sectors.state c.check_rmdir.new.s) ready.spare same;
+      spare = spare_unchanged c.args.place 47 (g.S.Sectors.state c.walk_path.new.s) (g.S.Sectors.state c.check_target.new.s) ready.spare same;
     }
 
 pub returns-in_err-take_name : goal.returns-in_err-take_name
@@ -64,7 +62,7 @@ returns-in_err-take_name g c =
     let x = c.in_ok-walked.ensures in
     let new = g.S.Sectors.state c.take_name.new.s in
     let same = c.in_ok-n.ensures.same in
-    asked_refused (rmdir_by_path c.args.path.now) x.same x.walked new c.from_residual-in_err-take_name.result c.in_err-take_name.field-0.0 r.0 r.1
+    asked_refused (removes_by_path c.args.what c.args.path.now) x.same x.walked new c.from_residual-in_err-take_name.result c.in_err-take_name.field-0.0 r.0 r.1
     (store_joined same.store c.in_err-take_name.ensures.store) {A = ℕ} 0 (λ s has at. inr (interrupts_later new.disk same (inr c.in_err-take_name.ensures.fault)))
 
 pub returns : goal.returns
@@ -72,18 +70,14 @@ returns g c =
     let x = c.in_ok-walked.ensures in
     let f = c.in_ok-walked.walked.found in
     let q = c.in_ok-walked.walked.process.now in
-    let mid = g.S.Sectors.state c.walk_path.new.s in
     let new = g.S.Sectors.state c.take_name.new.s in
     let same = c.in_ok-n.ensures.same in
     let taken = c.in_ok-take_name.ensures in
-    has_changed (rmdir_by_path c.args.path.now) x.same x.walked new (store_joined same.store taken.store) (taken.superblock ∙ same.sectors 0) Done
+    has_changed (removes_by_path c.args.what c.args.path.now) x.same x.walked new (store_joined same.store taken.store) (taken.superblock ∙ same.sectors 0) Done
     (λ s has at.
     let finds = finds_name x.walked.bytes at has in
     let asked = c.in_ok-n.ensures.each s finds in
-    let y : ℕ × Inode = (number f, inode_at c.args.place mid.sectors (number f)) in
-    let z : ℕ × Inode = (c.in_ok-n.n, c.in_ok-n.inode) in
-    let met = (met_ok {A = ℕ × Inode} (first_of (rmdir_demands (scene_at s q f))) y z asked).0 in
-    name_gone s q f (rmdir_demands (scene_at s q f)) met
+    name_gone s q f (removal_demands c.args.what (scene_at s q f)) (target_met finds c.args.what asked)
     (subst (λ (name : List ℕ). HoldsAll c.args.place new.sectors (placed (swept (changed s.tree (TakeName f.dir name)) c.args.procs.now))) c.bytes-name.ensures.all
     (taken.taken s (state_kept same at)
-    (subst (λ (name : List ℕ). MayGo s f.dir name c.in_ok-n.n) (sym c.bytes-name.ensures.all) (rmdir_may finds asked)))))
+    (subst (λ (name : List ℕ). MayGo s f.dir name c.in_ok-n.n) (sym c.bytes-name.ensures.all) (target_may finds c.args.what asked)))))

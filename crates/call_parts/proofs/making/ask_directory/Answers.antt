@@ -10,7 +10,7 @@ use Rattle.path_walk.proofs.HeldNodes.{number_below, is_there}
 use Rattle.path_walk.proofs.Kept.{kept, sound_kept, answered_err}
 use Rattle.call_parts.proofs.MakeAsked.{dir_access, held_later}
 use Rattle.call_parts.proofs.NameAsked.{dir_denied, dir_granted}
-use Rattle.call_parts.proofs.naming.ask_directory.Goals as goal
+use Rattle.call_parts.proofs.making.ask_directory.Goals as goal
 
 pub load_inode-requires-clause-below : goal.load_inode-requires-clause-below
 load_inode-requires-clause-below g c = let x = c.requires.there in number_below x.1 c.args.dir (is_there x.0 c.args.dir x.2.node x.2.is_there)
