@@ -21,5 +21,15 @@ mod sizes;
 mod transfer;
 mod writes;
 
+pub use acls::{get_acl, set_acl};
+pub use attributes::{chmod, chown};
 pub use exiting::exit;
+pub use listing::readdir;
+pub use opening::open;
 pub use performing::perform;
+pub use process::{close, umask};
+pub use rights::access;
+pub use show::{fstat, lstat, stat};
+pub use sizes::{ftruncate, truncate};
+pub use transfer::{MAX_MOVE, lseek, read};
+pub use writes::write;

@@ -17,4 +17,9 @@ mod renaming;
 mod replacing;
 mod ways;
 
+pub use directories::{chdir, mkdir};
+pub use linking::link;
+pub use links::{readlink, symlink};
 pub use performing::perform;
+pub use removal::{rmdir, unlink};
+pub use renaming::rename;
