@@ -5,7 +5,7 @@ use std::alloc::AllocError;
 /// What names in braces stand for.
 #[derive(Clone, Copy)]
 pub struct Fill<'a> {
-    /// A name and its number.
+    /// A name and its number. With a `+` behind it the name stands for the next one.
     pub outer: (&'a str, u64),
     /// Another one.
     pub inner: (&'a str, u64),
@@ -72,6 +72,10 @@ fn push_inside(text: &mut String, fill: &Fill<'_>, inside: &str) -> Result<(), A
     for (name, number) in [fill.outer, fill.inner] {
         if inside == name {
             return write!(text, "{number}");
+        }
+        if inside.strip_suffix('+') == Some(name) {
+            let next = number.saturating_add(1);
+            return write!(text, "{next}");
         }
     }
     match times(inside) {

@@ -5,17 +5,18 @@
 //!
 //! - `9* ` before a row makes nine of it, with the numbers from 1 in place of `#`, and the next ones in place of `+`.
 //! - `{a*9}` stands for nine times `a`.
-//! - A line `for NAME FIRST LAST` runs the script for each of these numbers, which stands in place of `{NAME}`. Of two such
-//!   lines the second is the inner one.
+//! - A line `for NAME FIRST LAST` runs the script for each of these numbers, which stands in place of `{NAME}`, and the next one
+//!   in place of `{NAME+}`. Of two such lines the second is the inner one.
+//! - Of replies with ` or ` between them any is right. `_` is any reply.
 //! - Replies with ` | ` between them are wanted in this order as the inner number rises: first the first of each row, then the
-//!   second, and so on, each for at least one number; the last of fewer stays. `_` is any reply. Where LAST is `up`, the run
-//!   ends once the last replies are seen.
+//!   second, and so on, each for at least one number; the last of fewer stays. Where LAST is `up`, the run ends once the last
+//!   replies are seen.
 //! - A line `disk fails at N` makes call N of the disk fail, counted from 0 before the file system is made. On a `disk
 //!   without a file system` none is made.
 //! - `mount` unmounts and mounts again, and is answered `mounted`, or by why not. `mount N` lets N calls of the disk pass from
 //!   then on.
-//! - `put SECTOR PLACE BYTE ..` unmounts, and puts these bytes on the disk; it has no reply. `check` checks the disk, and is
-//!   answered `clean`, or `finding RULE AT`.
+//! - `put SECTOR PLACE BYTE ..` unmounts, and puts these bytes on the disk; it has no reply. `check` unmounts, and checks the disk;
+//!   it is answered what a clean disk has, `finding RULE AT`, or by why it wasn't checked.
 //! - `arm PASSES`, `restart CHOICE` and `restart CHOICE PASSES` are the events of a disk that stops, and how they are answered
 //!   are its replies: a restart picks in each sector what has the number CHOICE of what may stand there.
 
@@ -227,5 +228,7 @@ fn is_wanted(reply: &str, wanted: &str, phase: usize) -> bool {
         .take(phase.saturating_add(1))
         .last()
         .unwrap_or("");
-    wanted == "_" || reply == wanted
+    wanted
+        .split(" or ")
+        .any(|wanted| wanted == "_" || reply == wanted)
 }

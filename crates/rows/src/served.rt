@@ -1,11 +1,11 @@
 //! Runs scripts on disks of which calls may fail, which may be changed, checked, and mounted again.
 
 use anyhow::{anyhow, bail};
-use fs_check::{CheckFault, check};
+use fs_check::{CheckFault, Summary, check};
 use fs_shell::{Watched, run};
 use fs_system::{Fs, mkfs};
 use sector_disk::{Disk, FailOnce, FuseDisk, MemDisk};
-use std::alloc::Global;
+use std::alloc::{AllocError, Global};
 
 /// The sectors of a disk.
 pub const SECTORS: u32 = 1024;
@@ -72,7 +72,7 @@ fn answered(
     served: Served,
     request: &Request<'_>,
 ) -> anyhow::Result<Served> {
-    let mut disk = unmounted(served)?;
+    let mut disk = unmounted(served);
     match request {
         Request::Mount(calls) => mounted(alloc, seen, FuseDisk::new(disk.into_inner(), *calls)),
         Request::Put(words) => {
@@ -81,9 +81,9 @@ fn answered(
         }
         Request::Check => {
             match check(alloc, &mut disk) {
-                Ok(_) => seen.push_str("clean\n")?,
+                Ok(summary) => push_summary(seen, &summary)?,
                 Err(CheckFault::Found(finding)) => writeln!(seen, "finding {finding}")?,
-                Err(fault) => Err(fault)?,
+                Err(fault) => writeln!(seen, "{fault}")?,
             }
             Ok(Served::Down(disk))
         }
@@ -104,15 +104,33 @@ fn mounted(alloc: Global, seen: &mut String, disk: FailingDisk) -> anyhow::Resul
     }
 }
 
-// The disk after an unmount, which has to be in order.
-fn unmounted(served: Served) -> anyhow::Result<FailingDisk> {
-    match served {
-        Served::Down(disk) => Ok(disk),
-        Served::Mounted(fs) => match fs.unmount() {
-            (disk, None) => Ok(disk),
-            (_, Some(_)) => bail!("the unmount failed"),
-        },
-    }
+// The disk after an unmount. From then on no call fails for want of calls that pass.
+fn unmounted(served: Served) -> FailingDisk {
+    let disk = match served {
+        Served::Down(disk) => disk,
+        Served::Mounted(fs) => {
+            let (disk, _) = fs.unmount();
+            disk
+        }
+    };
+    FuseDisk::new(disk.into_inner(), u64::MAX)
+}
+
+// Adds what a clean disk has.
+fn push_summary(seen: &mut String, summary: &Summary) -> Result<(), AllocError> {
+    let Summary {
+        files,
+        dirs,
+        links,
+        nameless,
+        blocks,
+        inodes,
+        pending,
+    } = summary;
+    write!(seen, "clean files {files} dirs {dirs} links {links} ")?;
+    write!(seen, "nameless {nameless} blocks {blocks} inodes {inodes} ")?;
+    let pending = if *pending { "yes" } else { "no" };
+    writeln!(seen, "pending {pending}")
 }
 
 // Puts bytes on a disk: the words are the sector, the place in it, and the bytes.
