@@ -1,8 +1,6 @@
 //! The program `inofs`: makes, runs and checks file systems in images. `docs/inofs.1` says how it is called and what it prints.
 #![tactic(auto)]
 
-#[cfg(test)]
-mod check_tests;
 mod disks;
 mod failure;
 mod jobs;

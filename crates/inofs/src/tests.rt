@@ -240,21 +240,26 @@ const ROWS: [(Change, &str, &str, &str); 23] = [
     (Change::Nothing, "fsck @d", "", "2"),
 ];
 
-#[test]
-fn the_program_does_what_its_words_say(rt: HostRuntime) -> Result<(), Fail> {
-    let path = folder(&rt)?;
-    let folder = path.as_str();
-    fs::create_dir(&rt, folder)?;
-    let mut report = String::new(rt.alloc());
+// Adds where the rows come to something other than they say.
+fn push_others(rt: &HostRuntime, folder: &str, report: &mut String) -> Result<(), Fail> {
     for (before, line, input, wanted) in &ROWS {
-        prepare(&rt, folder, before)?;
-        let seen = seen(&rt, folder, line, &mut input.as_bytes())?;
+        prepare(rt, folder, before)?;
+        let seen = seen(rt, folder, line, &mut input.as_bytes())?;
         if seen.as_str() != *wanted {
             writeln!(report, "{line}: {seen}")?;
         }
     }
-    fs::remove_dir_all(&rt, folder)?;
-    assert!(rt; report.as_str() == "", "{report}");
+    Ok(())
+}
+
+#[test]
+fn the_program_does_what_its_words_say(rt: HostRuntime) -> Result<(), Fail> {
+    let folder = folder(&rt)?;
+    fs::create_dir(&rt, folder.as_str())?;
+    let mut report = String::new(rt.alloc());
+    push_others(&rt, folder.as_str(), &mut report)?;
+    fs::remove_dir_all(&rt, folder.as_str())?;
+    assert!(rt; report.is_empty(), "{report}");
     Ok(())
 }
 

@@ -49,86 +49,85 @@ fn told(alloc: Global, outcome: &Result<Job, WordsFault>) -> Result<String, Allo
     }
 }
 
-#[test]
-fn words_ask_for_jobs(rt: HostRuntime) -> Result<(), Fail> {
-    for (line, wanted) in [
-        ("inofs", "memory"),
-        (
-            "inofs mkfs a.img --sectors 1024 --inodes 16",
-            "mkfs a.img 1024 16",
-        ),
-        (
-            "inofs mkfs --inodes 4096 --sectors 65536 a.img",
-            "mkfs a.img 65536 4096",
-        ),
-        (
-            "inofs mkfs --sectors=+02048 a.img --inodes=64",
-            "mkfs a.img 2048 64",
-        ),
-        ("inofs run a.img", "run a.img"),
-        ("inofs run a.img s", "run a.img s"),
-        ("inofs run -- --help s", "run --help s"),
-        ("inofs check a.img", "check a.img"),
-        ("/usr/bin/inofs check check", "check check"),
-    ] {
-        let got = asked(rt.alloc(), line)?;
-        assert!(rt; got.as_str() == wanted, "{line}: {got}");
-    }
-    Ok(())
+// ---- what is asked for
+
+// Lines, and what they ask for.
+const JOBS: [(&str, &str); 9] = [
+    ("inofs", "memory"),
+    (
+        "inofs mkfs a.img --sectors 1024 --inodes 16",
+        "mkfs a.img 1024 16",
+    ),
+    (
+        "inofs mkfs --inodes 4096 --sectors 65536 a.img",
+        "mkfs a.img 65536 4096",
+    ),
+    (
+        "inofs mkfs --sectors=+02048 a.img --inodes=64",
+        "mkfs a.img 2048 64",
+    ),
+    ("inofs run a.img", "run a.img"),
+    ("inofs run a.img s", "run a.img s"),
+    ("inofs run -- --help s", "run --help s"),
+    ("inofs check a.img", "check a.img"),
+    ("/usr/bin/inofs check check", "check check"),
+];
+
+// Lines that ask for no job.
+const BAD: [&str; 26] = [
+    "inofs mkfs",
+    "inofs mkfs a.img",
+    "inofs mkfs a.img --sectors 1024",
+    "inofs mkfs a.img --inodes 16",
+    "inofs mkfs --sectors 1024 --inodes 16",
+    "inofs mkfs a.img --sectors 1023 --inodes 16",
+    "inofs mkfs a.img --sectors 65537 --inodes 16",
+    "inofs mkfs a.img --sectors 1024 --inodes 15",
+    "inofs mkfs a.img --sectors 1024 --inodes 4097",
+    "inofs mkfs a.img --sectors x --inodes 16",
+    "inofs mkfs a.img --sectors -1024 --inodes 16",
+    "inofs mkfs a.img --sectors 99999999999999999999 --inodes 16",
+    "inofs mkfs a.img --sectors 1024 --sectors 1024 --inodes 16",
+    "inofs mkfs a.img b.img --sectors 1024 --inodes 16",
+    "inofs mkfs a.img --sectors 1024 --inodes",
+    "inofs run",
+    "inofs run a.img s t",
+    "inofs run a.img --sectors 1024",
+    "inofs check",
+    "inofs check a.img b.img",
+    "inofs fsck a.img",
+    "inofs help",
+    "inofs a.img",
+    "inofs -- check a.img",
+    "inofs --sectors 1024",
+    "inofs run --version",
+];
+
+// Lines that ask for help or the version.
+const SHOWN: [&str; 7] = [
+    "inofs --help",
+    "inofs -h",
+    "inofs --version",
+    "inofs -V",
+    "inofs mkfs --help",
+    "inofs run a.img -h",
+    "inofs check --help",
+];
+
+// Adds to the report where a line asks for something other than is wanted.
+fn expect(alloc: Global, report: &mut String, line: &str, wanted: &str) -> Result<(), AllocError> {
+    let asked = asked(alloc, line)?;
+    push_other(report, line, asked.as_str(), wanted)
 }
 
-#[test]
-fn bad_words_are_refused(rt: HostRuntime) -> Result<(), Fail> {
-    for line in [
-        "inofs mkfs",
-        "inofs mkfs a.img",
-        "inofs mkfs a.img --sectors 1024",
-        "inofs mkfs a.img --inodes 16",
-        "inofs mkfs --sectors 1024 --inodes 16",
-        "inofs mkfs a.img --sectors 1023 --inodes 16",
-        "inofs mkfs a.img --sectors 65537 --inodes 16",
-        "inofs mkfs a.img --sectors 1024 --inodes 15",
-        "inofs mkfs a.img --sectors 1024 --inodes 4097",
-        "inofs mkfs a.img --sectors x --inodes 16",
-        "inofs mkfs a.img --sectors -1024 --inodes 16",
-        "inofs mkfs a.img --sectors 99999999999999999999 --inodes 16",
-        "inofs mkfs a.img --sectors 1024 --sectors 1024 --inodes 16",
-        "inofs mkfs a.img b.img --sectors 1024 --inodes 16",
-        "inofs mkfs a.img --sectors 1024 --inodes",
-        "inofs run",
-        "inofs run a.img s t",
-        "inofs run a.img --sectors 1024",
-        "inofs check",
-        "inofs check a.img b.img",
-        "inofs fsck a.img",
-        "inofs help",
-        "inofs a.img",
-        "inofs -- check a.img",
-        "inofs --sectors 1024",
-        "inofs run --version",
-    ] {
-        let got = asked(rt.alloc(), line)?;
-        assert!(rt; got.as_str() == "bad 2", "{line}: {got}");
+fn push_other(report: &mut String, line: &str, seen: &str, wanted: &str) -> Result<(), AllocError> {
+    if seen == wanted {
+        return Ok(());
     }
-    Ok(())
+    writeln!(report, "{line}: {seen}")
 }
 
-#[test]
-fn help_and_the_version_are_shown(rt: HostRuntime) -> Result<(), Fail> {
-    for line in [
-        "inofs --help",
-        "inofs -h",
-        "inofs --version",
-        "inofs -V",
-        "inofs mkfs --help",
-        "inofs run a.img -h",
-        "inofs check --help",
-    ] {
-        let got = asked(rt.alloc(), line)?;
-        assert!(rt; got.as_str() == "help 0", "{line}: {got}");
-    }
-    Ok(())
-}
+// ---- what is printed
 
 // What is printed at the words of a line, which ask for no job.
 fn text(alloc: Global, line: &str) -> Result<String, AllocError> {
@@ -172,25 +171,54 @@ Options:
   -h, --help         Print help
 ";
 
-#[test]
-fn texts_say_what_there_is(rt: HostRuntime) -> Result<(), Fail> {
-    for (line, wanted) in [
-        ("inofs --help", HELP),
-        ("inofs mkfs --help", MKFS_HELP),
-        ("inofs --version", "inofs 0.1.0\n"),
-        (
-            "inofs mkfs a.img --sectors 1023 --inodes 16",
-            "error: invalid value '1023' for '--sectors <N>': 1023 is not in 1024..=65536\n\n\
-             For more information, try '--help'.\n",
-        ),
-        (
-            "inofs run",
-            "error: the following required arguments were not provided:\n  <IMAGE>\n\n\
-             Usage: inofs run <IMAGE> [SCRIPT]\n\nFor more information, try '--help'.\n",
-        ),
-    ] {
-        let got = text(rt.alloc(), line)?;
-        assert!(rt; got.as_str() == wanted, "{line}: {got}");
+// Lines that ask for no job, and what is printed.
+const TEXTS: [(&str, &str); 5] = [
+    ("inofs --help", HELP),
+    ("inofs mkfs --help", MKFS_HELP),
+    ("inofs --version", "inofs 0.1.0\n"),
+    (
+        "inofs mkfs a.img --sectors 1023 --inodes 16",
+        "error: invalid value '1023' for '--sectors <N>': 1023 is not in 1024..=65536\n\n\
+         For more information, try '--help'.\n",
+    ),
+    (
+        "inofs run",
+        "error: the following required arguments were not provided:\n  <IMAGE>\n\n\
+         Usage: inofs run <IMAGE> [SCRIPT]\n\nFor more information, try '--help'.\n",
+    ),
+];
+
+// Adds to the report where something other is printed than is wanted.
+fn expect_text(
+    alloc: Global,
+    report: &mut String,
+    line: &str,
+    wanted: &str,
+) -> Result<(), AllocError> {
+    let text = text(alloc, line)?;
+    push_other(report, line, text.as_str(), wanted)
+}
+
+fn expect_all(alloc: Global, report: &mut String) -> Result<(), AllocError> {
+    for (line, wanted) in JOBS {
+        expect(alloc, report, line, wanted)?;
     }
+    for line in BAD {
+        expect(alloc, report, line, "bad 2")?;
+    }
+    for line in SHOWN {
+        expect(alloc, report, line, "help 0")?;
+    }
+    for (line, wanted) in TEXTS {
+        expect_text(alloc, report, line, wanted)?;
+    }
+    Ok(())
+}
+
+#[test]
+fn words_ask_for_jobs_or_are_answered_by_a_text(rt: HostRuntime) -> Result<(), Fail> {
+    let mut report = String::new(rt.alloc());
+    expect_all(rt.alloc(), &mut report)?;
+    assert!(rt; report.is_empty(), "{report}");
     Ok(())
 }
