@@ -9,16 +9,16 @@ use std::path::{Path, PathBuf};
 use std::test::Fail;
 use std::{env, process};
 
-// A file that fails some of its locks, seeks, writes and syncs: so many of them, from the one of this number on.
+// A file that counts its locks, reads, seeks, writes and syncs, and fails so many of them from the one of this number on.
 #[derive(Drop)]
-struct Flaky {
+struct Flaky<'a> {
     file: File,
     first: u64,
     count: u64,
-    calls: Cell<u64>,
+    calls: &'a Cell<u64>,
 }
 
-impl Flaky {
+impl Flaky<'_> {
     fn pass(&self) -> io::Result<()> {
         let call = self.calls.get();
         self.calls.set(call.saturating_add(1));
@@ -29,13 +29,14 @@ impl Flaky {
     }
 }
 
-impl Read for Flaky {
+impl Read for Flaky<'_> {
     fn read(&mut self, to: &mut [u8]) -> io::Result<usize> {
+        self.pass()?;
         self.file.read(to)
     }
 }
 
-impl Write for Flaky {
+impl Write for Flaky<'_> {
     fn write(&mut self, from: &[u8]) -> io::Result<usize> {
         self.pass()?;
         self.file.write(from)
@@ -46,14 +47,14 @@ impl Write for Flaky {
     }
 }
 
-impl Seek for Flaky {
+impl Seek for Flaky<'_> {
     fn seek(&mut self, to: SeekFrom) -> io::Result<u64> {
         self.pass()?;
         self.file.seek(to)
     }
 }
 
-impl OpenFile for Flaky {
+impl OpenFile for Flaky<'_> {
     fn metadata(&self) -> io::Result<Metadata> {
         self.file.metadata()
     }
@@ -72,7 +73,7 @@ impl OpenFile for Flaky {
     }
 }
 
-impl Lockable for Flaky {
+impl Lockable for Flaky<'_> {
     fn try_lock(&self) -> io::Result<()> {
         self.pass()?;
         Lockable::try_lock(&self.file)
@@ -221,7 +222,45 @@ fn a_file_keeps_its_sectors(rt: HostRuntime) -> Result<(), Fail> {
     Ok(())
 }
 
-// Which calls of a disk in a failing file pass, how often it has failed, what it has, and what the file has.
+// Which calls of the disk in a failing file pass, how often it has failed, and what it has; and how many calls the file has
+// counted.
+type Told = (Result<([bool; 4], u64, Seen), FileFault>, u64);
+
+fn fail_calls(rt: &HostRuntime, path: Path<'_>, first: u64, count: u64) -> Told {
+    let calls = Cell::new(0);
+    let mut how = OpenOptions::new();
+    how.read(true).write(true);
+    let Ok(file) = how.open(rt, path) else {
+        return (Err(FileFault::Failed), 0);
+    };
+    let flaky = Flaky {
+        file,
+        first,
+        count,
+        calls: &calls,
+    };
+    let told = match FileDisk::over(rt.alloc(), flaky) {
+        Ok(disk) => Ok(call_disk(disk)),
+        Err(fault) => Err(fault),
+    };
+    (told, calls.get())
+}
+
+fn call_disk<D: Disk + Drop>(disk: D) -> ([bool; 4], u64, Seen) {
+    let mut disk = disk;
+    let passed = four_calls(
+        &mut disk,
+        [
+            Call::Write(0, 1),
+            Call::Write(1, 2),
+            Call::Sync,
+            Call::Write(2, 3),
+        ],
+    );
+    (passed, disk.failures(), see(&mut disk))
+}
+
+// The same of a file of three sectors, and what it has then.
 fn fail(
     rt: &HostRuntime,
     path: Path<'_>,
@@ -229,85 +268,70 @@ fn fail(
     count: u64,
 ) -> Result<([bool; 4], u64, Seen, Seen), FileFault> {
     let _ = zeros(rt, path, 3 * 512)?;
-    let mut how = OpenOptions::new();
-    how.read(true).write(true);
-    let Ok(file) = how.open(rt, path) else {
-        return Err(FileFault::Failed);
-    };
-    let calls = Cell::new(0);
-    let flaky = Flaky {
-        file,
-        first,
-        count,
-        calls,
-    };
-    let (passed, failures, read) = fail_calls(rt, flaky)?;
+    let (told, _) = fail_calls(rt, path, first, count);
+    let (passed, failures, read) = told?;
     Ok((passed, failures, read, opened(rt, path)?))
 }
 
-// The same but for the file, which is closed then.
-fn fail_calls(rt: &HostRuntime, file: Flaky) -> Result<([bool; 4], u64, Seen), FileFault> {
-    let mut disk = FileDisk::over(rt.alloc(), file)?;
-    let calls = [
-        Call::Write(0, 1),
-        Call::Write(1, 2),
-        Call::Sync,
-        Call::Write(2, 3),
-    ];
-    let passed = four_calls(&mut disk, calls);
-    Ok((passed, disk.failures(), see(&mut disk)))
+// The same of a file in which another disk is.
+fn refused(rt: &HostRuntime, path: Path<'_>) -> Result<Told, FileFault> {
+    let first = FileDisk::create(rt, rt.alloc(), path, 3)?;
+    let told = fail_calls(rt, path, u64::MAX, 0);
+    let _ = first.size();
+    Ok(told)
 }
 
-// Where the file isn't failing: a lock and a sync when it is opened, then a seek and a write for each write. The first
-// call that fails and how many do; the disk's failures and which calls pass; what reads give, and what the file has.
+// Where the file isn't failing: a lock, a sync and three reads when it is opened, then a seek and a write for each write. The
+// first call that fails and how many do; the disk's failures and which calls pass; what reads give, and what the file has.
 type Failing = (
     u64,
     u64,
     Result<([bool; 4], u64, [u8; 3], [u8; 3]), FileFault>,
 );
 
-const FAILING: [Failing; 10] = [
+const FAILING: [Failing; 11] = [
     (0, 1, Err(FileFault::Failed)),
     (1, 1, Err(FileFault::Failed)),
+    (2, 1, Err(FileFault::Failed)),
     (
-        2,
+        5,
         1,
         Ok(([false, true, true, true], 1, [1, 2, 3], [1, 2, 3])),
     ),
     (
-        3,
+        6,
         1,
         Ok(([false, true, true, true], 1, [1, 2, 3], [1, 2, 3])),
     ),
     // What the file lacks can't be written again: the second write isn't begun.
     (
-        3,
+        6,
         2,
         Ok(([false, false, true, true], 2, [1, 0, 3], [1, 0, 3])),
     ),
     (
-        3,
+        6,
         3,
         Ok(([false, false, false, true], 3, [1, 0, 3], [1, 0, 3])),
     ),
     (
-        6,
+        9,
         1,
         Ok(([true, true, false, true], 1, [1, 2, 3], [1, 2, 3])),
     ),
     // The last call would write all three sectors again.
     (
-        6,
+        9,
         2,
         Ok(([true, true, false, false], 2, [1, 2, 0], [1, 2, 0])),
     ),
     (
-        8,
+        11,
         1,
         Ok(([true, true, true, false], 1, [1, 2, 3], [1, 2, 0])),
     ),
     (
-        9,
+        12,
         1,
         Ok(([true, true, true, true], 0, [1, 2, 3], [1, 2, 3])),
     ),
@@ -316,6 +340,10 @@ const FAILING: [Failing; 10] = [
 #[test]
 fn a_failing_file_is_a_failing_disk(rt: HostRuntime) -> Result<(), Fail> {
     let path = scratch(&rt, "flaky")?;
+    // Of a file whose lock is taken nothing but that is asked.
+    let seen = refused(&rt, path.as_path());
+    let _ = fs::remove_file(&rt, path.as_path());
+    assert!(rt; seen == Ok((Err(FileFault::Failed), 1)), "{seen:?}");
     for (first, count, wanted) in FAILING {
         let seen = fail(&rt, path.as_path(), first, count);
         let _ = fs::remove_file(&rt, path.as_path());
