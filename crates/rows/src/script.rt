@@ -13,8 +13,9 @@
 //!   replies are seen.
 //! - A line `disk fails at N` makes call N of the disk fail, counted from 0 before the file system is made. On a `disk
 //!   without a file system` none is made.
-//! - `mount` unmounts and mounts again, and is answered `mounted`, or by why not. `mount N` lets N calls of the disk pass from
-//!   then on.
+//! - `unmount` is answered `unmounted`, or `unmount: ERROR`. `mount` unmounts, where that wasn't done, and mounts again, and is
+//!   answered `mounted`, or by why not. `mount N` lets N calls of the disk pass from then on. A line while nothing is mounted
+//!   is answered `down`.
 //! - `put SECTOR PLACE BYTE ..` unmounts, and puts these bytes on the disk; it has no reply. `check` unmounts, and checks the disk;
 //!   it is answered what a clean disk has, `finding RULE AT`, or by why it wasn't checked.
 //! - `arm PASSES`, `restart CHOICE` and `restart CHOICE PASSES` are the events of a disk that stops, and how they are answered

@@ -28,6 +28,7 @@ enum Served {
 enum Request<'a> {
     // A mount, which lets so many calls of the disk pass from then on.
     Mount(u64),
+    Unmount,
     // Other bytes on the disk: the sector, the place, and the bytes.
     Put(&'a str),
     Check,
@@ -60,33 +61,40 @@ fn requested(line: &str) -> anyhow::Result<Option<Request<'_>>> {
         Some(("mount", calls)) => Some(Request::Mount(calls.parse::<u64>()?)),
         Some(("put", words)) => Some(Request::Put(words)),
         None if line == "mount" => Some(Request::Mount(u64::MAX)),
+        None if line == "unmount" => Some(Request::Unmount),
         None if line == "check" => Some(Request::Check),
         _ => None,
     })
 }
 
-// Does what is requested of the disk, after an unmount, and adds what is answered.
+// Does what is requested, of the disk after an unmount, and adds what is answered.
 fn answered(
     alloc: Global,
     seen: &mut String,
     served: Served,
     request: &Request<'_>,
 ) -> anyhow::Result<Served> {
-    let mut disk = unmounted(served);
+    let (mut disk, errno) = unmounted(served);
     match request {
-        Request::Mount(calls) => mounted(alloc, seen, FuseDisk::new(disk.into_inner(), *calls)),
-        Request::Put(words) => {
-            put(&mut disk, words)?;
-            Ok(Served::Down(disk))
+        Request::Mount(calls) => {
+            return mounted(alloc, seen, FuseDisk::new(disk.into_inner(), *calls));
         }
-        Request::Check => {
-            match check(alloc, &mut disk) {
-                Ok(summary) => push_summary(seen, &summary)?,
-                Err(CheckFault::Found(finding)) => writeln!(seen, "finding {finding}")?,
-                Err(fault) => writeln!(seen, "{fault}")?,
-            }
-            Ok(Served::Down(disk))
-        }
+        Request::Unmount => match errno {
+            None => seen.push_str("unmounted\n")?,
+            Some(errno) => writeln!(seen, "unmount: {errno}")?,
+        },
+        Request::Put(words) => put(&mut disk, words)?,
+        Request::Check => push_check(alloc, seen, &mut disk)?,
+    }
+    Ok(Served::Down(disk))
+}
+
+// Adds what a check finds.
+fn push_check<D: Disk>(alloc: Global, seen: &mut String, disk: &mut D) -> Result<(), AllocError> {
+    match check(alloc, disk) {
+        Ok(summary) => push_summary(seen, &summary),
+        Err(CheckFault::Found(finding)) => writeln!(seen, "finding {finding}"),
+        Err(fault) => writeln!(seen, "{fault}"),
     }
 }
 
@@ -104,16 +112,16 @@ fn mounted(alloc: Global, seen: &mut String, disk: FailingDisk) -> anyhow::Resul
     }
 }
 
-// The disk after an unmount. From then on no call fails for want of calls that pass.
-fn unmounted(served: Served) -> FailingDisk {
-    let disk = match served {
-        Served::Down(disk) => disk,
+// The disk after an unmount, and the error that this tells. From then on no call fails for want of calls that pass.
+fn unmounted(served: Served) -> (FailingDisk, Option<&'static str>) {
+    let (disk, errno) = match served {
+        Served::Down(disk) => (disk, None),
         Served::Mounted(fs) => {
-            let (disk, _) = fs.unmount();
-            disk
+            let (disk, errno) = fs.unmount();
+            (disk, errno.map(|errno| errno.name()))
         }
     };
-    FuseDisk::new(disk.into_inner(), u64::MAX)
+    (FuseDisk::new(disk.into_inner(), u64::MAX), errno)
 }
 
 // Adds what a clean disk has.
@@ -170,9 +178,7 @@ fn push_replies(
     let mut fs = match served {
         Served::Mounted(fs) => fs,
         Served::Down(disk) => {
-            if !script.is_empty() {
-                seen.push_str("down\n")?;
-            }
+            push_down(seen, script)?;
             return Ok(Served::Down(disk));
         }
     };
@@ -185,4 +191,14 @@ fn push_replies(
     )?;
     seen.push_str(String::from_utf8_lossy(alloc, &written)?.as_str())?;
     Ok(Served::Mounted(fs))
+}
+
+// Each line that would have a reply finds nothing mounted.
+fn push_down(seen: &mut String, script: &str) -> Result<(), AllocError> {
+    for line in script.split_terminator('\n') {
+        if !line.is_empty() && !line.starts_with('#') {
+            seen.push_str("down\n")?;
+        }
+    }
+    Ok(())
 }
