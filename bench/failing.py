@@ -13,11 +13,13 @@ MOST_FAULTS = 100_000  # of one sweep
 # Counts what the program asks for, and lets the call FAULT_AT of the kind FAULT_KIND fail: an allocation (memory); one that is
 # as large as a sector of the cache, and all of these after it (cache); a call on the image (call), and all after it (lasting);
 # a read or write of the image, which moves one byte (short); a read of the standard input (input); a write of the standard
-# output, which takes nothing (output). With FAULT_BYTES each of the last two moves one byte. FAULT_REPORT gets the counts.
+# output, which takes nothing (output). With FAULT_BYTES each of the last two moves one byte. Before the call FAULT_AT on the
+# image the program stands still where the kind is pause: then none fails. FAULT_REPORT gets the counts.
 LIBRARY = r'''
 #define _GNU_SOURCE
 #include <errno.h>
 #include <fcntl.h>
+#include <signal.h>
 #include <stdio.h>
 #include <stdlib.h>
 #include <string.h>
@@ -25,9 +27,9 @@ LIBRARY = r'''
 #include <sys/syscall.h>
 #include <unistd.h>
 
-enum { MEMORY, CACHE, CALL, LASTING, SHORT, INPUT, OUTPUT, KINDS };
+enum { MEMORY, CACHE, CALL, LASTING, SHORT, INPUT, OUTPUT, PAUSE, KINDS };
 enum { CACHED_SIZE = 512 + 24 };
-static const char *const names[KINDS] = { "memory", "cache", "call", "lasting", "short", "input", "output" };
+static const char *const names[KINDS] = { "memory", "cache", "call", "lasting", "short", "input", "output", "pause" };
 static long counts[KINDS], wanted[KINDS];
 static int bytewise;
 void *__libc_malloc(size_t);
@@ -61,6 +63,7 @@ static int fails(int kind) {
 /* The image is all that has another descriptor than the three standard ones. */
 static int image_fails(int file) {
     if (file < 3) return 0;
+    if (fails(PAUSE)) raise(SIGSTOP);
     int once = fails(CALL), lasting = fails(LASTING);
     if (!once && !lasting) return 0;
     errno = EIO;
@@ -108,7 +111,7 @@ int statx(int file, const char *restrict path, int flags, unsigned mask, struct 
     return image_fails(file) ? -1 : syscall(SYS_statx, file, path, flags, mask, to);
 }
 '''
-KINDS = ['memory', 'cache', 'call', 'lasting', 'short', 'input', 'output']
+KINDS = ['memory', 'cache', 'call', 'lasting', 'short', 'input', 'output', 'pause']
 
 Outcome = collections.namedtuple('Outcome', 'replies status error')
 
@@ -176,13 +179,16 @@ def run_program(program, words, script='', fault=None, bytewise=False, **streams
     return Outcome(replies.split('\n')[:-1], ended.returncode, ended.stderr.decode('latin-1').rstrip('\n'))
 
 
+def counted(kind):
+    """How many calls of this kind the last run made: none is known of a run that crashed."""
+    report = pathlib.Path('report')
+    return int(report.read_text().split()[KINDS.index(kind)]) if report.exists() else None
+
+
 def happened(fault):
     """Whether the last run came as far as the fault. A run that crashed has told nothing."""
-    report = pathlib.Path('report')
-    if not report.exists():
-        return True
-    counts = dict(zip(KINDS, map(int, report.read_text().split())))
-    return counts[fault[0]] >= fault[1]
+    count = counted(fault[0])
+    return count is None or count >= fault[1]
 
 
 def faults(kind):
