@@ -105,10 +105,16 @@ reason_of_rule {mid = mid} {p} new r k is reads opened before x h =
 -- a rule's part, and the error of one
 pub rule_error : {T U : Type 0} (old mid new : DiskState) {p : Place} {targets : List ℕ} (r : ImageRule) (k : ℕ) → rule_number r ≡ k → OnlyReads old mid
     → IsOpened old p targets
-    → ObeysBefore p (meaning old) k → (e y : CheckFault) (q : Result U CheckFault) → q ≡ Err y → y ≡ e → Passed {T = T} (IsLeast p r) mid new (Err e)
-    → Passed IsFirst old new q
-rule_error old mid new {p} r k is reads opened before e y q at same x =
-    passed_err (IsLeast p r) IsFirst old mid new reads (reason_of_rule new r k is reads opened before) e y q at same x
+    → ObeysBefore p (meaning old) k → (e : CheckFault) (q : Result U CheckFault) → (y : CheckFault) × (q ≡ Err y) × (y ≡ e)
+    → Passed {T = T} (IsLeast p r) mid new (Err e) → Passed IsFirst old new q
+rule_error old mid new {p} r k is reads opened before e q at x =
+    passed_err (IsLeast p r) IsFirst old mid new reads (reason_of_rule new r k is reads opened before) e at.0 q at.1 at.2 x
+
+-- the same of the first part
+pub first_error : {T U : Type 0} (old new : DiskState) {p : Place} {targets : List ℕ} (r : ImageRule) (k : ℕ) → rule_number r ≡ k → IsOpened old p targets
+    → ObeysBefore p (meaning old) k → (e : CheckFault) (q : Result U CheckFault) → (y : CheckFault) × (q ≡ Err y) × (y ≡ e)
+    → Passed {T = T} (IsLeast p r) old new (Err e) → Passed IsFirst old new q
+first_error old new r k is opened before e q at x = rule_error old old new r k is reads_nothing opened before e q at x
 
 pub rule_passed : {T : Type 0} (old mid new : DiskState) {p : Place} {targets : List ℕ} (r : ImageRule) (k : ℕ) → rule_number r ≡ k → OnlyReads old mid
     → IsOpened old p targets → ObeysBefore p (meaning old) k → (q : Result T CheckFault) → Passed (IsLeast p r) mid new q → Passed IsFirst old new q

@@ -8,8 +8,10 @@ use Rattle.fs_model.specs.Rules.{ImageRule, rule_number, ObeysEach, ObeysBefore,
 use Rattle.fs_model.proofs.Findings.{next_obeyed}
 use Rattle.fs_check.specs.declared.faults.CheckFault.{CheckFault}
 use Rattle.fs_check.specs.declared.faults.CheckFault.TheVariants.{Found}
-use Rattle.sector_disk.specs.Disk.{DiskState}
-use Rattle.fs_check.specs.Checks.{meaning, AreInodes, IsNameTable, IsReason, IsLeast, IsFailureOf}
+use Rattle.sector_disk.specs.Disk.{DiskState, OnlyReads}
+use Rattle.sector_disk.proofs.Moments.{reads_nothing}
+use Rattle.fs_check.specs.Checks.{meaning, IsOpened, AreInodes, IsNameTable, IsReason, Passed, IsLeast, IsFirst, IsFailureOf}
+use Rattle.fs_check.proofs.Carrying.{next_before, rule_error}
 
 -- what a rule's test says of one image
 pub of_image : (p : Place) (r : ImageRule) (k : ℕ) (inodes : List Inode) (counts directories : List ℕ) (first : Option ℕ)
@@ -74,3 +76,20 @@ pub found_none : (p : Place) (m : SectorMap) (r : ImageRule) (k : ℕ) (first : 
     → MatchOption first (ObeysEach p m r) (λ n. IsLeastFailure p m r n) → ObeysEach p m r
 found_none p m r k (Some n) says least = absurd cc
 found_none p m r k None says each = each
+
+-- two rules of one part, of which the second was tried along with the first
+module _ (old new : DiskState) {p : Place} {targets : List ℕ} (r q : ImageRule) (k : ℕ) (is : rule_number r ≡ k) (then : rule_number q ≡ k + 1)
+    (opened : IsOpened old p targets) (before : ObeysBefore p (meaning old) k) (reads : OnlyReads old new) (each : ObeysEach p (meaning old) r) (first : Option ℕ)
+    (found : MatchOption first (ObeysEach p (meaning old) q) (λ n. IsLeastFailure p (meaning old) q n)) where
+  before_second : ObeysBefore p (meaning old) (k + 1)
+  before_second = next_before old old r k is reads_nothing before each
+
+  pub found_error : {U : Type 0} (e : CheckFault) (x : Result U CheckFault) → (y : CheckFault) × (x ≡ Err y) × (y ≡ e) → IsAnswer (k + 1) first (Err e)
+      → Passed IsFirst old new x
+  found_error e x at says = rule_error {T = Unit {0}} old old new q (k + 1) then reads_nothing opened before_second e x at (record {
+    reads = reads;
+    reason = found_reason p q (k + 1) then old new first e says found;
+  })
+
+  pub both_before : IsAnswer (k + 1) first (Ok tt) → ObeysBefore p (meaning old) (k + 1 + 1)
+  both_before says = next_before old old q (k + 1) then reads_nothing before_second (found_none p (meaning old) q (k + 1) first says found)

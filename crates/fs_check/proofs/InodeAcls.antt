@@ -1,5 +1,5 @@
 -- The ACL that a sector has, and the ACLs of an inode.
-use Rattle.std.specs.Prelude.{◌≡◌, ◌≢◌, ℕ, zero, suc, ◌%◌, ◌<◌, ◌≤◌, nat_eq, Bool, true, false, List, get_or, Option, Some, IsTrue, ◌↔◌}
+use Rattle.std.specs.Prelude.{◌≡◌, ◌≢◌, ℕ, zero, suc, ◌%◌, ◌<◌, nat_eq, Bool, true, false, List, get_or, Option, Some, IsTrue, ◌↔◌}
 use Rattle.std.proofs.Common.{sym, ap, arith, ◌∙◌, subst}
 use Rattle.std.proofs.lemmas.Bool.{eqb-true, eq-eqb}
 use Rattle.posix_acl.specs.AccessList.{AccessList, list_numbers, is_extended, mode_bits}
@@ -16,7 +16,7 @@ use Rattle.fs_model.specs.Rules.{IsStoredAcl, HasSomeAccessAcl, HasSomeDefaultAc
 use Rattle.fs_check.specs.Checks.{meaning, IsOpened, AreInodes}
 use Rattle.fs_check.specs.StoredAcls.{IsAclIn, IsInPlace}
 use Rattle.fs_check.proofs.Carrying.{meaning_same}
-use Rattle.fs_check.proofs.Openings.{many_sectors, place_size}
+use Rattle.fs_check.proofs.Openings.{room, place_size}
 use Rattle.fs_check.proofs.Tests.{inode_here}
 
 -- ---- the ACL that a sector has
@@ -75,9 +75,6 @@ good_by_default old mid v reads a b r is good placed access later =
     )
 
 -- ---- their sectors
-
-pub room : (disk : DiskState) (p : Place) (targets : List ℕ) → IsOpened disk p targets → 128 ≤ disk.size
-room disk p targets opened = let many = many_sectors _ _ (record { place = p; is = opened.place }) in omega (arith, many)
 
 module _ (old mid : DiskState) (p : Place) (targets : List ℕ) (inodes : List Inode) (n : ℕ) (d : Inode)
     (reads : OnlyReads old mid) (opened : IsOpened old p targets)

@@ -15,4 +15,5 @@ pub mod Tallies
 pub mod Tests
 pub mod SectorAcls
 pub mod InodeAcls
+pub mod TriedBits
 pub mod Trims

@@ -197,27 +197,18 @@ module _ (f : ℕ → ℕ → ℕ) (n i : ℕ) (none : (k : ℕ) → i ≤ k →
 -- ---- all parts
 
 module _ (p : Place) (m : SectorMap) where
+  twice_here : {n i s : ℕ} → n < p.inodes → owned_part p m n i ≡ s → IsOnce (owned_part p m) n i s → IsTwice (owned_part p m) p.inodes 0 s
+  twice_here {n} {i} lt is other = record { inode = n; at = i; before = inl lt; is = is; other = other }
+
   -- where none stands twice
   pub once_if : (s : ℕ) → (IsTwice (owned_part p m) p.inodes 0 s → ⊥) → IsOwnedOnce p m s
   once_if s none j k jl kl a b =
       let x = counted_part m (inode_at p m j) s a in
       let y = counted_part m (inode_at p m k) s b in
       elim (either_before j x.0 k y.0) [
-        | inl first ↦ absurd (none (record {
-          inode = k;
-          at = y.0;
-          before = inl kl;
-          is = y.2;
-          other = record { inode = j; at = x.0; before = first; is = x.2; some = a.some };
-        }))
+        | inl first ↦ absurd (none (twice_here kl y.2 (record { inode = j; at = x.0; before = first; is = x.2; some = a.some })))
         | inr o ↦ elim o [
-          | inl second ↦ absurd (none (record {
-            inode = j;
-            at = x.0;
-            before = inl jl;
-            is = x.2;
-            other = record { inode = k; at = y.0; before = second; is = y.2; some = a.some };
-          }))
+          | inl second ↦ absurd (none (twice_here jl x.2 (record { inode = k; at = y.0; before = second; is = y.2; some = a.some })))
           | inr same ↦ (same.0, x.3 ∙ ap part_at same.1 ∙ sym y.3)
         ]
       ]

@@ -1,15 +1,15 @@
 -- The parts of an inode, counted.
-use Rattle.std.specs.Prelude.{◌≡◌, ◌≢◌, ℕ, zero, suc, ◌+◌, ◌-◌, ◌<◌, ◌≤◌, Bool, true, false, IsTrue, ◌↔◌}
+use Rattle.std.specs.Prelude.{◌≡◌, ◌≢◌, ℕ, zero, suc, ◌+◌, ◌-◌, ◌<◌, ◌≤◌, Bool, true, false, List, IsTrue, ◌↔◌}
 use Rattle.std.proofs.Common.{refl, sym, ap, arith, ◌∙◌, subst, inl, inr}
 use Rattle.std.proofs.lemmas.Bool.{cases_lt, ne_eqb}
 use Rattle.fs_layout.specs.declared.inode.TheConstants.{MAX_BLOCKS}
 use Rattle.fs_layout.specs.declared.inode.Inode.{Inode}
 use Rattle.fs_layout.specs.declared.place.Place.{Place}
 use Rattle.fs_layout.specs.Bytes.{SectorMap}
-use Rattle.fs_layout.specs.Images.{Part, AccessAcl, DefaultAcl, Indirect, DoubleIndirect, Block, part, pointer, Owns, IsData}
+use Rattle.fs_layout.specs.Images.{Part, AccessAcl, DefaultAcl, Indirect, DoubleIndirect, Block, part, pointer, Owns, IsData, HasPointers}
 use Rattle.fs_layout.proofs.Pointers.{pointer_past}
 use Rattle.fs_check.specs.declared.owning.TheConstants.{PARTS}
-use Rattle.fs_check.specs.Owning.{part_at}
+use Rattle.fs_check.specs.Owning.{part_at, OwnsData}
 
 pub at_block : (i : ℕ) → i ≢ 0 → i ≢ 1 → i ≢ 2 → part_at i ≡ Block (i - 3)
 at_block i a b c = rw (ne_eqb i 0 a, ne_eqb i 1 b, ne_eqb i 2 c) refl
@@ -97,3 +97,8 @@ all_of p m v each = (
       subst (IsData p) x.2 (each x.0 x.1 (λ z. o.some (sym x.2 ∙ z)))),
   (λ all. refl),
 )
+
+-- a part of an inode whose parts are in the data area
+pub part_below : (p : Place) (v : Inode) (content : List ℕ) (i s : ℕ) → ((m : SectorMap) × HasPointers m v content × OwnsData p m v)
+    → ((m : SectorMap) → HasPointers m v content → s ≡ part m v (part_at i)) → s ≢ 0 → s < p.sectors
+part_below p v content i s d is some = (d.2 s (record { at = part_at i; is = sym (is d.0 d.1); some = some })).1

@@ -8,9 +8,10 @@ ghost use Rattle.fs_check.specs.StoredAcls.{AreNoEntries, IsListed, IsAclIn, IsI
 ghost use Rattle.fs_check.specs.Checks.{meaning, IsOpened, AreInodes, Passed, IsNone, IsLeast};
 ghost use Rattle.fs_check.specs.declared.faults.CheckFault.TheVariants.{OutOfMemory};
 
-use crate::faults::{CheckFault, Finding};
+use crate::faults::{CheckFault, Checked, Finding};
+use crate::opening::Opened;
 use crate::reading::read_recovered;
-use fs_layout::{AclSector, Commit, Inode, Kind, Place};
+use fs_layout::{AclSector, Inode, Kind};
 use posix_acl::{Acl, AclFault, Entry, EntryNumbers};
 use sector_disk::Disk;
 use std::alloc::Global;
@@ -18,7 +19,7 @@ use std::alloc::Global;
 const ACLS: u8 = 9;
 
 // The entries with these numbers, where there are such.
-fn entries_with(alloc: Global, numbers: &[EntryNumbers]) -> Result<Option<Vec<Entry>>, CheckFault>
+fn entries_with(alloc: Global, numbers: &[EntryNumbers]) -> Checked<Option<Vec<Entry>>>
     ensures found { IfOk result (λ o. MatchOption o (AreNoEntries numbers.now) (λ v. map numbers_of v.items ≡ numbers.now)) }
     ensures memory { IfErr result (λ e. e ≡ OutOfMemory) }
 {
@@ -48,7 +49,7 @@ fn have_numbers(entries: &[Entry], numbers: &[EntryNumbers]) -> bool
 }
 
 // The ACL with these entries, where they are one's, in canonical order.
-fn acl_with(alloc: Global, numbers: &[EntryNumbers]) -> Result<Option<Acl>, CheckFault>
+fn acl_with(alloc: Global, numbers: &[EntryNumbers]) -> Checked<Option<Acl>>
     ensures found { IfOk result (IsListed numbers.now) }
     ensures memory { IfErr result (λ e. e ≡ OutOfMemory) }
 {
@@ -69,7 +70,7 @@ fn acl_with(alloc: Global, numbers: &[EntryNumbers]) -> Result<Option<Acl>, Chec
 }
 
 // The ACL that a sector has, where it has a valid one.
-fn acl_in(alloc: Global, content: &[u8; 512]) -> Result<Option<Acl>, CheckFault>
+fn acl_in(alloc: Global, content: &[u8; 512]) -> Checked<Option<Acl>>
     ensures found { IfOk result (IsAclIn content.now) }
     ensures memory { IfErr result (λ e. e ≡ OutOfMemory) }
 {
@@ -80,7 +81,7 @@ fn acl_in(alloc: Global, content: &[u8; 512]) -> Result<Option<Acl>, CheckFault>
 }
 
 // Whether the content of the sector for the inode's access ACL is one that goes with the mode.
-fn is_access_acl(alloc: Global, inode: &Inode, content: &[u8; 512]) -> Result<bool, CheckFault>
+fn is_access_acl(alloc: Global, inode: &Inode, content: &[u8; 512]) -> Checked<bool>
     ensures test { IfOk result (λ b. (m : SectorMap) → m inode.now.acl ≡ content.now → IsTrue b ↔ HasSomeAccessAcl m inode.now) }
     ensures memory { IfErr result (λ e. e ≡ OutOfMemory) }
 {
@@ -91,7 +92,7 @@ fn is_access_acl(alloc: Global, inode: &Inode, content: &[u8; 512]) -> Result<bo
 }
 
 // Whether the content of the sector for the inode's default ACL is one.
-fn is_default_acl(alloc: Global, inode: &Inode, content: &[u8; 512]) -> Result<bool, CheckFault>
+fn is_default_acl(alloc: Global, inode: &Inode, content: &[u8; 512]) -> Checked<bool>
     ensures test { IfOk result (λ b. (m : SectorMap) → m inode.now.default_acl ≡ content.now → IsTrue b ↔ HasSomeDefaultAcl m inode.now) }
     ensures memory { IfErr result (λ e. e ≡ OutOfMemory) }
 {
@@ -109,14 +110,8 @@ fn is_in_place(inode: &Inode) -> bool
 }
 
 // Whether the inode's access ACL is good, if it has one.
-fn has_access_acl<D: Disk>(
-    alloc: Global,
-    disk: &mut D,
-    place: Place,
-    commit: &Commit,
-    inode: &Inode,
-) -> Result<bool, CheckFault>
-    requires opened { IsOpened (D.state disk.old) place commit.now }
+fn has_access_acl<D: Disk>(disk: &mut D, opened: &Opened, inode: &Inode) -> Checked<bool>
+    requires opened { IsOpened (D.state disk.old) opened.now.place opened.now.commit }
     requires on_disk { inode.now.acl < (D.state disk.old).size }
     ensures test { IfOk result (λ b. IsTrue b ↔ (inode.now.acl ≢ 0 → HasSomeAccessAcl (meaning (D.state disk.old)) inode.now)) }
     ensures passed { Passed IsNone (D.state disk.old) (D.state disk.new) result }
@@ -125,19 +120,13 @@ fn has_access_acl<D: Disk>(
         return Ok(true);
     }
     let mut content = [0; 512];
-    read_recovered(disk, commit, inode.acl, &mut content)?;
-    is_access_acl(alloc, inode, &content)
+    read_recovered(disk, opened, inode.acl, &mut content)?;
+    is_access_acl(opened.alloc, inode, &content)
 }
 
 // Whether the inode's default ACL is good, if it has one.
-fn has_default_acl<D: Disk>(
-    alloc: Global,
-    disk: &mut D,
-    place: Place,
-    commit: &Commit,
-    inode: &Inode,
-) -> Result<bool, CheckFault>
-    requires opened { IsOpened (D.state disk.old) place commit.now }
+fn has_default_acl<D: Disk>(disk: &mut D, opened: &Opened, inode: &Inode) -> Checked<bool>
+    requires opened { IsOpened (D.state disk.old) opened.now.place opened.now.commit }
     requires on_disk { inode.now.default_acl < (D.state disk.old).size }
     ensures test { IfOk result (λ b. IsTrue b ↔ (inode.now.default_acl ≢ 0 → HasSomeDefaultAcl (meaning (D.state disk.old)) inode.now)) }
     ensures passed { Passed IsNone (D.state disk.old) (D.state disk.new) result }
@@ -146,19 +135,13 @@ fn has_default_acl<D: Disk>(
         return Ok(true);
     }
     let mut content = [0; 512];
-    read_recovered(disk, commit, inode.default_acl, &mut content)?;
-    is_default_acl(alloc, inode, &content)
+    read_recovered(disk, opened, inode.default_acl, &mut content)?;
+    is_default_acl(opened.alloc, inode, &content)
 }
 
 // Whether the inode's ACLs are good, and none is where it mustn't be.
-fn has_good_acls<D: Disk>(
-    alloc: Global,
-    disk: &mut D,
-    place: Place,
-    commit: &Commit,
-    inode: &Inode,
-) -> Result<bool, CheckFault>
-    requires opened { IsOpened (D.state disk.old) place commit.now }
+fn has_good_acls<D: Disk>(disk: &mut D, opened: &Opened, inode: &Inode) -> Checked<bool>
+    requires opened { IsOpened (D.state disk.old) opened.now.place opened.now.commit }
     requires access { inode.now.acl < (D.state disk.old).size }
     requires default { inode.now.default_acl < (D.state disk.old).size }
     ensures test { IfOk result (λ b. IsTrue b ↔ HasAcls (meaning (D.state disk.old)) inode.now) }
@@ -167,28 +150,22 @@ fn has_good_acls<D: Disk>(
     if !is_in_place(inode) {
         return Ok(false);
     }
-    if !has_access_acl(alloc, disk, place, commit, inode)? {
+    if !has_access_acl(disk, opened, inode)? {
         return Ok(false);
     }
-    has_default_acl(alloc, disk, place, commit, inode)
+    has_default_acl(disk, opened, inode)
 }
 
 /// Each sector of an ACL has a valid one, with the mode's bits, and none is where it mustn't be.
-pub(crate) fn acls<D: Disk>(
-    alloc: Global,
-    disk: &mut D,
-    place: Place,
-    commit: &Commit,
-    inodes: &[Inode],
-) -> Result<(), CheckFault>
-    requires opened { IsOpened (D.state disk.old) place commit.now }
-    requires table { AreInodes place (meaning (D.state disk.old)) inodes.now }
-    requires before { ObeysBefore place (meaning (D.state disk.old)) 9 }
-    ensures each { OnOk result (ObeysEach place (meaning (D.state disk.old)) Acls) }
-    ensures passed { Passed (IsLeast place Acls) (D.state disk.old) (D.state disk.new) result }
+pub(crate) fn acls<D: Disk>(disk: &mut D, opened: &Opened, inodes: &[Inode]) -> Checked<()>
+    requires opened { IsOpened (D.state disk.old) opened.now.place opened.now.commit }
+    requires table { AreInodes opened.now.place (meaning (D.state disk.old)) inodes.now }
+    requires before { ObeysBefore opened.now.place (meaning (D.state disk.old)) 9 }
+    ensures each { OnOk result (ObeysEach opened.now.place (meaning (D.state disk.old)) Acls) }
+    ensures passed { Passed (IsLeast opened.now.place Acls) (D.state disk.old) (D.state disk.new) result }
 {
-    for n in 0..place.inodes {
-        if !has_good_acls(alloc, disk, place, commit, &inodes[n as usize])? {
+    for n in 0..opened.place.inodes {
+        if !has_good_acls(disk, opened, &inodes[n as usize])? {
             return Err(CheckFault::Found(Finding { rule: ACLS, at: n }));
         }
     }

@@ -8,11 +8,12 @@ ghost use Rattle.fs_model.specs.Rules.{ObeysEach, InodeBits, BlockBits, IsBlockB
 ghost use Rattle.fs_check.specs.Checks.{meaning, IsOpened, IsOwnerMap, Passed, IsLeast};
 ghost use Rattle.fs_check.specs.TableSectors.{IsTableSector};
 
-use crate::faults::{CheckFault, Finding};
+use crate::faults::{CheckFault, Checked, Finding};
 use crate::inodes::read_table;
+use crate::opening::Opened;
 use crate::reading::read_recovered;
 use byteorder::{ByteOrder, LittleEndian};
-use fs_layout::{BLOCK_BITMAP, Commit, INODE_BITMAP, INODE_SIZE, Place, SECTOR_BITS};
+use fs_layout::{BLOCK_BITMAP, INODE_BITMAP, INODE_SIZE, Place, SECTOR_BITS};
 use sector_disk::Disk;
 
 const INODE_BITS: u8 = 3;
@@ -44,21 +45,17 @@ fn is_taken(place: Place, table: &[u8; 512], n: u32) -> bool
 }
 
 /// Each bit of the inode bitmap is set exactly where it has to be.
-pub(crate) fn inode_bits<D: Disk>(
-    disk: &mut D,
-    place: Place,
-    commit: &Commit,
-) -> Result<(), CheckFault>
-    requires opened { IsOpened (D.state disk.old) place commit.now }
-    ensures each { OnOk result (ObeysEach place (meaning (D.state disk.old)) InodeBits) }
-    ensures passed { Passed (IsLeast place InodeBits) (D.state disk.old) (D.state disk.new) result }
+pub(crate) fn inode_bits<D: Disk>(disk: &mut D, opened: &Opened) -> Checked<()>
+    requires opened { IsOpened (D.state disk.old) opened.now.place opened.now.commit }
+    ensures each { OnOk result (ObeysEach opened.now.place (meaning (D.state disk.old)) InodeBits) }
+    ensures passed { Passed (IsLeast opened.now.place InodeBits) (D.state disk.old) (D.state disk.new) result }
 {
     let mut map = [0; 512];
-    read_recovered(disk, commit, INODE_BITMAP, &mut map)?;
+    read_recovered(disk, opened, INODE_BITMAP, &mut map)?;
     let mut table = [0; 512];
     for n in 0..SECTOR_BITS {
-        read_table(disk, place, commit, n, &mut table)?;
-        if has_bit(&map, n) != is_taken(place, &table, n) {
+        read_table(disk, opened, n, &mut table)?;
+        if has_bit(&map, n) != is_taken(opened.place, &table, n) {
             return Err(CheckFault::Found(Finding {
                 rule: INODE_BITS,
                 at: n,
@@ -95,21 +92,16 @@ fn first_wrong(place: Place, map: &[u8; 512], owned: &[bool], k: u32) -> Option<
 }
 
 /// Each bit of the block bitmap is set exactly where it has to be.
-pub(crate) fn block_bits<D: Disk>(
-    disk: &mut D,
-    place: Place,
-    commit: &Commit,
-    owned: &[bool],
-) -> Result<(), CheckFault>
-    requires opened { IsOpened (D.state disk.old) place commit.now }
-    requires owners { IsOwnerMap place (meaning (D.state disk.old)) owned.now }
-    ensures each { OnOk result (ObeysEach place (meaning (D.state disk.old)) BlockBits) }
-    ensures passed { Passed (IsLeast place BlockBits) (D.state disk.old) (D.state disk.new) result }
+pub(crate) fn block_bits<D: Disk>(disk: &mut D, opened: &Opened, owned: &[bool]) -> Checked<()>
+    requires opened { IsOpened (D.state disk.old) opened.now.place opened.now.commit }
+    requires owners { IsOwnerMap opened.now.place (meaning (D.state disk.old)) owned.now }
+    ensures each { OnOk result (ObeysEach opened.now.place (meaning (D.state disk.old)) BlockBits) }
+    ensures passed { Passed (IsLeast opened.now.place BlockBits) (D.state disk.old) (D.state disk.new) result }
 {
     let mut map = [0; 512];
-    for k in 0..place.table - BLOCK_BITMAP {
-        read_recovered(disk, commit, BLOCK_BITMAP + k, &mut map)?;
-        if let Some(s) = first_wrong(place, &map, owned, k) {
+    for k in 0..opened.place.table - BLOCK_BITMAP {
+        read_recovered(disk, opened, BLOCK_BITMAP + k, &mut map)?;
+        if let Some(s) = first_wrong(opened.place, &map, owned, k) {
             return Err(CheckFault::Found(Finding {
                 rule: BLOCK_BITS,
                 at: s,

@@ -10,14 +10,14 @@ use crate::acls::acls;
 use crate::bitmaps::{block_bits, inode_bits};
 use crate::contents::laid_out;
 use crate::directories::{Names, read_names};
-use crate::faults::{CheckFault, Finding, Summary};
+use crate::faults::{CheckFault, Checked, Finding, Summary};
 use crate::inodes::read_inodes;
 use crate::marking::read_owners;
 use crate::names::{miscounted, misplaced};
-use crate::opening::{open_commit, open_place};
+use crate::opening::{Opened, open_commit, open_place};
 use crate::summary::summary;
 use crate::ways::unreached;
-use fs_layout::{Commit, Inode, Place};
+use fs_layout::{Inode, Place};
 use sector_disk::Disk;
 use std::alloc::Global;
 
@@ -32,83 +32,60 @@ const PARENTS: u8 = 13;
 const WAYS: u8 = 14;
 
 // The inode bitmap and the inode table.
-fn check_tables<D: Disk>(
-    alloc: Global,
-    disk: &mut D,
-    place: Place,
-    commit: &Commit,
-) -> Result<Vec<Inode>, CheckFault>
-    requires opened { IsOpened (D.state disk.old) place commit.now }
-    requires before { ObeysBefore place (meaning (D.state disk.old)) 3 }
-    ensures table { IfOk result (λ inodes. AreInodes place (meaning (D.state disk.old)) inodes.items) }
-    ensures before { OnOk result (ObeysBefore place (meaning (D.state disk.old)) 5) }
+fn check_tables<D: Disk>(disk: &mut D, opened: &Opened) -> Checked<Vec<Inode>>
+    requires opened { IsOpened (D.state disk.old) opened.now.place opened.now.commit }
+    requires before { ObeysBefore opened.now.place (meaning (D.state disk.old)) 3 }
+    ensures table { IfOk result (λ inodes. AreInodes opened.now.place (meaning (D.state disk.old)) inodes.items) }
+    ensures before { OnOk result (ObeysBefore opened.now.place (meaning (D.state disk.old)) 5) }
     ensures passed { Passed IsFirst (D.state disk.old) (D.state disk.new) result }
 {
-    inode_bits(disk, place, commit)?;
-    read_inodes(alloc, disk, place, commit)
+    inode_bits(disk, opened)?;
+    read_inodes(disk, opened)
 }
 
 // What inodes own, and the block bitmap.
-fn check_owners<D: Disk>(
-    alloc: Global,
-    disk: &mut D,
-    place: Place,
-    commit: &Commit,
-    inodes: &[Inode],
-) -> Result<Vec<bool>, CheckFault>
-    requires opened { IsOpened (D.state disk.old) place commit.now }
-    requires table { AreInodes place (meaning (D.state disk.old)) inodes.now }
-    requires before { ObeysBefore place (meaning (D.state disk.old)) 5 }
-    ensures owners { IfOk result (λ owned. IsOwnerMap place (meaning (D.state disk.old)) owned.items) }
-    ensures before { OnOk result (ObeysBefore place (meaning (D.state disk.old)) 8) }
+fn check_owners<D: Disk>(disk: &mut D, opened: &Opened, inodes: &[Inode]) -> Checked<Vec<bool>>
+    requires opened { IsOpened (D.state disk.old) opened.now.place opened.now.commit }
+    requires table { AreInodes opened.now.place (meaning (D.state disk.old)) inodes.now }
+    requires before { ObeysBefore opened.now.place (meaning (D.state disk.old)) 5 }
+    ensures owners { IfOk result (λ owned. IsOwnerMap opened.now.place (meaning (D.state disk.old)) owned.items) }
+    ensures before { OnOk result (ObeysBefore opened.now.place (meaning (D.state disk.old)) 8) }
     ensures passed { Passed IsFirst (D.state disk.old) (D.state disk.new) result }
 {
-    let owners = read_owners(alloc, disk, place, commit, inodes)?;
+    let owners = read_owners(disk, opened, inodes)?;
     found_at(OWNED_ONCE, owners.twice)?;
-    block_bits(disk, place, commit, &owners.owned)?;
+    block_bits(disk, opened, &owners.owned)?;
     Ok(owners.owned)
 }
 
 // What stands in blocks and ACL sectors.
-fn check_contents<D: Disk>(
-    alloc: Global,
-    disk: &mut D,
-    place: Place,
-    commit: &Commit,
-    inodes: &[Inode],
-) -> Result<(), CheckFault>
-    requires opened { IsOpened (D.state disk.old) place commit.now }
-    requires table { AreInodes place (meaning (D.state disk.old)) inodes.now }
-    requires before { ObeysBefore place (meaning (D.state disk.old)) 8 }
-    ensures before { OnOk result (ObeysBefore place (meaning (D.state disk.old)) 10) }
+fn check_contents<D: Disk>(disk: &mut D, opened: &Opened, inodes: &[Inode]) -> Checked<()>
+    requires opened { IsOpened (D.state disk.old) opened.now.place opened.now.commit }
+    requires table { AreInodes opened.now.place (meaning (D.state disk.old)) inodes.now }
+    requires before { ObeysBefore opened.now.place (meaning (D.state disk.old)) 8 }
+    ensures before { OnOk result (ObeysBefore opened.now.place (meaning (D.state disk.old)) 10) }
     ensures passed { Passed IsFirst (D.state disk.old) (D.state disk.new) result }
 {
-    laid_out(disk, place, commit, inodes)?;
-    acls(alloc, disk, place, commit, inodes)
+    laid_out(disk, opened, inodes)?;
+    acls(disk, opened, inodes)
 }
 
 // The names in directories.
-fn check_names<D: Disk>(
-    alloc: Global,
-    disk: &mut D,
-    place: Place,
-    commit: &Commit,
-    inodes: &[Inode],
-) -> Result<Names, CheckFault>
-    requires opened { IsOpened (D.state disk.old) place commit.now }
-    requires table { AreInodes place (meaning (D.state disk.old)) inodes.now }
-    requires before { ObeysBefore place (meaning (D.state disk.old)) 10 }
-    ensures names { IfOk result (λ names. IsNameTable place (meaning (D.state disk.old)) names.counts.items names.directories.items) }
-    ensures before { OnOk result (ObeysBefore place (meaning (D.state disk.old)) 12) }
+fn check_names<D: Disk>(disk: &mut D, opened: &Opened, inodes: &[Inode]) -> Checked<Names>
+    requires opened { IsOpened (D.state disk.old) opened.now.place opened.now.commit }
+    requires table { AreInodes opened.now.place (meaning (D.state disk.old)) inodes.now }
+    requires before { ObeysBefore opened.now.place (meaning (D.state disk.old)) 10 }
+    ensures names { IfOk result (λ names. IsNameTable opened.now.place (meaning (D.state disk.old)) names.counts.items names.directories.items) }
+    ensures before { OnOk result (ObeysBefore opened.now.place (meaning (D.state disk.old)) 12) }
     ensures passed { Passed IsFirst (D.state disk.old) (D.state disk.new) result }
 {
-    let names = read_names(alloc, disk, place, commit, inodes)?;
+    let names = read_names(disk, opened, inodes)?;
     found_at(NAMES_APART, names.repeated)?;
     Ok(names)
 }
 
 // Nothing where no number fails a rule, else the finding.
-fn found_at(rule: u8, first: Option<u32>) -> Result<(), CheckFault>
+fn found_at(rule: u8, first: Option<u32>) -> Checked<()>
     ensures { MatchOption first (result ≡ Ok tt) (λ n. result ≡ Err (Found (record { rule = rule; at = n }))) }
 {
     match first {
@@ -118,12 +95,7 @@ fn found_at(rule: u8, first: Option<u32>) -> Result<(), CheckFault>
 }
 
 // What the tables say: how often each inode is named, parents, and the ways up to the root.
-fn check_tree(
-    alloc: Global,
-    place: Place,
-    inodes: &[Inode],
-    names: &Names,
-) -> Result<(), CheckFault>
+fn check_tree(alloc: Global, place: Place, inodes: &[Inode], names: &Names) -> Checked<()>
     requires inodes { length inodes.now ≡ place.inodes }
     requires counts { length names.now.counts.items ≡ place.inodes }
     requires directories { length names.now.directories.items ≡ place.inodes }
@@ -136,24 +108,18 @@ fn check_tree(
 }
 
 // All that inodes hold.
-fn check_inodes<D: Disk>(
-    alloc: Global,
-    disk: &mut D,
-    place: Place,
-    commit: &Commit,
-    inodes: &[Inode],
-) -> Result<Vec<bool>, CheckFault>
-    requires opened { IsOpened (D.state disk.old) place commit.now }
-    requires table { AreInodes place (meaning (D.state disk.old)) inodes.now }
-    requires before { ObeysBefore place (meaning (D.state disk.old)) 5 }
-    ensures owners { IfOk result (λ owned. IsOwnerMap place (meaning (D.state disk.old)) owned.items) }
-    ensures before { OnOk result (ObeysBefore place (meaning (D.state disk.old)) 15) }
+fn check_inodes<D: Disk>(disk: &mut D, opened: &Opened, inodes: &[Inode]) -> Checked<Vec<bool>>
+    requires opened { IsOpened (D.state disk.old) opened.now.place opened.now.commit }
+    requires table { AreInodes opened.now.place (meaning (D.state disk.old)) inodes.now }
+    requires before { ObeysBefore opened.now.place (meaning (D.state disk.old)) 5 }
+    ensures owners { IfOk result (λ owned. IsOwnerMap opened.now.place (meaning (D.state disk.old)) owned.items) }
+    ensures before { OnOk result (ObeysBefore opened.now.place (meaning (D.state disk.old)) 15) }
     ensures passed { Passed IsFirst (D.state disk.old) (D.state disk.new) result }
 {
-    let owned = check_owners(alloc, disk, place, commit, inodes)?;
-    check_contents(alloc, disk, place, commit, inodes)?;
-    let names = check_names(alloc, disk, place, commit, inodes)?;
-    check_tree(alloc, place, inodes, &names)?;
+    let owned = check_owners(disk, opened, inodes)?;
+    check_contents(disk, opened, inodes)?;
+    let names = check_names(disk, opened, inodes)?;
+    check_tree(opened.alloc, opened.place, inodes, &names)?;
     Ok(owned)
 }
 
@@ -165,7 +131,12 @@ pub fn check<D: Disk>(alloc: Global, disk: &mut D) -> Result<Summary, CheckFault
 {
     let place = open_place(disk)?;
     let commit = open_commit(disk)?;
-    let inodes = check_tables(alloc, disk, place, &commit)?;
-    let owned = check_inodes(alloc, disk, place, &commit, &inodes)?;
-    Ok(summary(place, &commit, &inodes, &owned))
+    let opened = Opened {
+        alloc,
+        place,
+        commit,
+    };
+    let inodes = check_tables(disk, &opened)?;
+    let owned = check_inodes(disk, &opened, &inodes)?;
+    Ok(summary(&opened, &inodes, &owned))
 }

@@ -9,10 +9,11 @@ ghost use Rattle.fs_model.specs.Rules.{ObeysEach, ObeysBefore, LaidOut, IsLaidOu
 ghost use Rattle.fs_check.specs.LastBlocks.{last_block, FitsPointer, FitPointers, FitsLast};
 ghost use Rattle.fs_check.specs.Checks.{meaning, IsOpened, AreInodes, Passed, IsNone, IsLeast};
 
-use crate::faults::{CheckFault, Finding};
+use crate::faults::{CheckFault, Checked, Finding};
+use crate::opening::Opened;
 use crate::owning::read_pointers;
 use crate::reading::read_recovered;
-use fs_layout::{Commit, DIRECT_SIZE, Inode, Kind, Place};
+use fs_layout::{DIRECT_SIZE, Inode, Kind};
 use sector_disk::Disk;
 
 const LAID_OUT: u8 = 8;
@@ -78,19 +79,14 @@ fn fits_last(inode: &Inode, content: &[u8; 512]) -> bool
 }
 
 // What the inode holds goes with its size.
-fn is_laid_out<D: Disk>(
-    disk: &mut D,
-    place: Place,
-    commit: &Commit,
-    inode: &Inode,
-) -> Result<bool, CheckFault>
-    requires opened { IsOpened (D.state disk.old) place commit.now }
-    requires in_data { (s : ℕ) → Owns (meaning (D.state disk.old)) inode.now s → IsData place s }
+fn is_laid_out<D: Disk>(disk: &mut D, opened: &Opened, inode: &Inode) -> Checked<bool>
+    requires opened { IsOpened (D.state disk.old) opened.now.place opened.now.commit }
+    requires in_data { (s : ℕ) → Owns (meaning (D.state disk.old)) inode.now s → IsData opened.now.place s }
     requires short { inode.now.kind ≡ ALink → inode.now.size ≤ MAX_LINK_SIZE }
     ensures test { IfOk result (λ b. IsTrue b ↔ IsLaidOut (meaning (D.state disk.old)) inode.now) }
     ensures passed { Passed IsNone (D.state disk.old) (D.state disk.new) result }
 {
-    let pointers = read_pointers(disk, place, commit, inode)?;
+    let pointers = read_pointers(disk, opened, inode)?;
     if !fit_pointers(inode, &pointers) {
         return Ok(false);
     }
@@ -99,25 +95,20 @@ fn is_laid_out<D: Disk>(
         return Ok(true);
     }
     let mut content = [0; 512];
-    read_recovered(disk, commit, last, &mut content)?;
+    read_recovered(disk, opened, last, &mut content)?;
     Ok(fits_last(inode, &content))
 }
 
 /// Past the size of each inode there is nothing, only files have holes, and no link's target has a zero byte.
-pub(crate) fn laid_out<D: Disk>(
-    disk: &mut D,
-    place: Place,
-    commit: &Commit,
-    inodes: &[Inode],
-) -> Result<(), CheckFault>
-    requires opened { IsOpened (D.state disk.old) place commit.now }
-    requires table { AreInodes place (meaning (D.state disk.old)) inodes.now }
-    requires before { ObeysBefore place (meaning (D.state disk.old)) 8 }
-    ensures each { OnOk result (ObeysEach place (meaning (D.state disk.old)) LaidOut) }
-    ensures passed { Passed (IsLeast place LaidOut) (D.state disk.old) (D.state disk.new) result }
+pub(crate) fn laid_out<D: Disk>(disk: &mut D, opened: &Opened, inodes: &[Inode]) -> Checked<()>
+    requires opened { IsOpened (D.state disk.old) opened.now.place opened.now.commit }
+    requires table { AreInodes opened.now.place (meaning (D.state disk.old)) inodes.now }
+    requires before { ObeysBefore opened.now.place (meaning (D.state disk.old)) 8 }
+    ensures each { OnOk result (ObeysEach opened.now.place (meaning (D.state disk.old)) LaidOut) }
+    ensures passed { Passed (IsLeast opened.now.place LaidOut) (D.state disk.old) (D.state disk.new) result }
 {
-    for n in 0..place.inodes {
-        if !is_laid_out(disk, place, commit, &inodes[n as usize])? {
+    for n in 0..opened.place.inodes {
+        if !is_laid_out(disk, opened, &inodes[n as usize])? {
             return Err(CheckFault::Found(Finding {
                 rule: LAID_OUT,
                 at: n,

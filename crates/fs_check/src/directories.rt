@@ -7,11 +7,11 @@ ghost use Rattle.fs_model.specs.Rules.{Obeys, ObeysEach, ObeysBefore, IsLeastFai
 ghost use Rattle.fs_check.specs.Naming.{AddsSlots, IsRepeated, IsNaming};
 ghost use Rattle.fs_check.specs.Checks.{meaning, IsOpened, AreInodes, IsNameTable, Passed, IsNone, IsLeast};
 
-use crate::faults::{CheckFault, Finding};
+use crate::faults::{CheckFault, Checked, Finding};
+use crate::opening::Opened;
 use crate::slots::{are_names_apart, read_good_slots};
-use fs_layout::{Commit, Inode, Kind, Place, Slot};
+use fs_layout::{Inode, Kind, Place, Slot};
 use sector_disk::Disk;
-use std::alloc::Global;
 
 const SLOTS: u8 = 10;
 
@@ -66,29 +66,27 @@ fn first_repeated(first: Option<u32>, d: u32, slots: &mut [Slot]) -> Option<u32>
 
 // Adds inode d, where it is a directory; not where one of its slots names no inode that it may.
 fn add_directory<D: Disk>(
-    alloc: Global,
     disk: &mut D,
-    place: Place,
-    commit: &Commit,
+    opened: &Opened,
     inodes: &[Inode],
     d: u32,
     names: &mut Names,
-) -> Result<bool, CheckFault>
-    requires opened { IsOpened (D.state disk.old) place commit.now }
-    requires table { AreInodes place (meaning (D.state disk.old)) inodes.now }
-    requires before { ObeysBefore place (meaning (D.state disk.old)) 10 }
-    requires below { d < place.inodes }
-    requires names { IsNaming place (meaning (D.state disk.old)) d names.old.counts.items names.old.directories.items names.old.repeated }
-    ensures test { IfOk result (λ b. IsTrue b ↔ Obeys place (meaning (D.state disk.old)) Slots d) }
+) -> Checked<bool>
+    requires opened { IsOpened (D.state disk.old) opened.now.place opened.now.commit }
+    requires table { AreInodes opened.now.place (meaning (D.state disk.old)) inodes.now }
+    requires before { ObeysBefore opened.now.place (meaning (D.state disk.old)) 10 }
+    requires below { d < opened.now.place.inodes }
+    requires names { IsNaming opened.now.place (meaning (D.state disk.old)) d names.old.counts.items names.old.directories.items names.old.repeated }
+    ensures test { IfOk result (λ b. IsTrue b ↔ Obeys opened.now.place (meaning (D.state disk.old)) Slots d) }
     ensures names { IfOk result (λ b. IsTrue b
-        → IsNaming place (meaning (D.state disk.old)) (d + 1) names.new.counts.items names.new.directories.items names.new.repeated) }
+        → IsNaming opened.now.place (meaning (D.state disk.old)) (d + 1) names.new.counts.items names.new.directories.items names.new.repeated) }
     ensures passed { Passed IsNone (D.state disk.old) (D.state disk.new) result }
 {
     let inode = inodes[d as usize];
     if inode.kind != Kind::Directory {
         return Ok(true);
     }
-    let Some(mut slots) = read_good_slots(alloc, disk, place, commit, inodes, &inode)? else {
+    let Some(mut slots) = read_good_slots(disk, opened, inodes, &inode)? else {
         return Ok(false);
     };
     add_slots(&slots, d, &mut names.counts, &mut names.directories);
@@ -98,29 +96,23 @@ fn add_directory<D: Disk>(
 
 /// What the slots of all directories name, where each is valid and its inode is in use and isn't the root. Each sector of a
 /// directory is read once.
-pub(crate) fn read_names<D: Disk>(
-    alloc: Global,
-    disk: &mut D,
-    place: Place,
-    commit: &Commit,
-    inodes: &[Inode],
-) -> Result<Names, CheckFault>
-    requires opened { IsOpened (D.state disk.old) place commit.now }
-    requires table { AreInodes place (meaning (D.state disk.old)) inodes.now }
-    requires before { ObeysBefore place (meaning (D.state disk.old)) 10 }
-    ensures each { OnOk result (ObeysEach place (meaning (D.state disk.old)) Slots) }
-    ensures names { IfOk result (λ names. IsNameTable place (meaning (D.state disk.old)) names.counts.items names.directories.items) }
-    ensures repeated { IfOk result (λ names. MatchOption names.repeated (ObeysEach place (meaning (D.state disk.old)) NamesApart)
-        (λ d. IsLeastFailure place (meaning (D.state disk.old)) NamesApart d)) }
-    ensures passed { Passed (IsLeast place Slots) (D.state disk.old) (D.state disk.new) result }
+pub(crate) fn read_names<D: Disk>(disk: &mut D, opened: &Opened, inodes: &[Inode]) -> Checked<Names>
+    requires opened { IsOpened (D.state disk.old) opened.now.place opened.now.commit }
+    requires table { AreInodes opened.now.place (meaning (D.state disk.old)) inodes.now }
+    requires before { ObeysBefore opened.now.place (meaning (D.state disk.old)) 10 }
+    ensures each { OnOk result (ObeysEach opened.now.place (meaning (D.state disk.old)) Slots) }
+    ensures names { IfOk result (λ names. IsNameTable opened.now.place (meaning (D.state disk.old)) names.counts.items names.directories.items) }
+    ensures repeated { IfOk result (λ names. MatchOption names.repeated (ObeysEach opened.now.place (meaning (D.state disk.old)) NamesApart)
+        (λ d. IsLeastFailure opened.now.place (meaning (D.state disk.old)) NamesApart d)) }
+    ensures passed { Passed (IsLeast opened.now.place Slots) (D.state disk.old) (D.state disk.new) result }
 {
     let mut names = Names {
-        counts: vec![in alloc; 0; place.inodes as usize]?,
-        directories: vec![in alloc; 0; place.inodes as usize]?,
+        counts: vec![in opened.alloc; 0; opened.place.inodes as usize]?,
+        directories: vec![in opened.alloc; 0; opened.place.inodes as usize]?,
         repeated: None,
     };
-    for d in 0..place.inodes {
-        if !add_directory(alloc, disk, place, commit, inodes, d, &mut names)? {
+    for d in 0..opened.place.inodes {
+        if !add_directory(disk, opened, inodes, d, &mut names)? {
             return Err(CheckFault::Found(Finding { rule: SLOTS, at: d }));
         }
     }

@@ -50,6 +50,9 @@ pub struct Summary {
     pub pending: bool,
 }
 
+/// What a part of a check answers.
+pub(crate) type Checked<T> = Result<T, CheckFault>;
+
 impl From<DiskFault> for CheckFault {
     ghost from_gives = { λ _ e. e ≡ Device };
 

@@ -9,11 +9,11 @@ ghost use Rattle.fs_model.specs.Rules.{ObeysEach, Inodes};
 ghost use Rattle.fs_check.specs.Checks.{meaning, IsOpened, AreInodes, Passed, IsNone, IsLeast};
 ghost use Rattle.fs_check.specs.TableSectors.{IsTableSector};
 
-use crate::faults::{CheckFault, Finding};
+use crate::faults::{CheckFault, Checked, Finding};
+use crate::opening::Opened;
 use crate::reading::read_recovered;
-use fs_layout::{Commit, INODE_SIZE, Inode, Kind, Place};
+use fs_layout::{INODE_SIZE, Inode, Kind};
 use sector_disk::Disk;
-use std::alloc::Global;
 
 const INODES: u8 = 4;
 
@@ -41,42 +41,37 @@ fn good_inode(content: &[u8; 512], n: u32) -> Option<Inode>
 // only where n is the sector's first.
 pub(crate) fn read_table<D: Disk>(
     disk: &mut D,
-    place: Place,
-    commit: &Commit,
+    opened: &Opened,
     n: u32,
     table: &mut [u8; 512],
-) -> Result<(), CheckFault>
-    requires opened { IsOpened (D.state disk.old) place commit.now }
-    requires kept { n % 4 ≢ 0 → IsTableSector place (meaning (D.state disk.old)) n table.old }
-    ensures table { OnOk result (IsTableSector place (meaning (D.state disk.old)) n table.new) }
+) -> Checked<()>
+    requires opened { IsOpened (D.state disk.old) opened.now.place opened.now.commit }
+    requires kept { n % 4 ≢ 0 → IsTableSector opened.now.place (meaning (D.state disk.old)) n table.old }
+    ensures table { OnOk result (IsTableSector opened.now.place (meaning (D.state disk.old)) n table.new) }
     ensures passed { Passed IsNone (D.state disk.old) (D.state disk.new) result }
 {
     if n % 4 != 0 {
         return Ok(());
     }
+    let place = opened.place;
     if place.inodes <= n {
         return Ok(());
     }
-    read_recovered(disk, commit, place.inode_sector(n), table)?;
+    read_recovered(disk, opened, place.inode_sector(n), table)?;
     Ok(())
 }
 
 /// The inodes, all of them.
-pub(crate) fn read_inodes<D: Disk>(
-    alloc: Global,
-    disk: &mut D,
-    place: Place,
-    commit: &Commit,
-) -> Result<Vec<Inode>, CheckFault>
-    requires opened { IsOpened (D.state disk.old) place commit.now }
-    ensures each { OnOk result (ObeysEach place (meaning (D.state disk.old)) Inodes) }
-    ensures table { IfOk result (λ inodes. AreInodes place (meaning (D.state disk.old)) inodes.items) }
-    ensures passed { Passed (IsLeast place Inodes) (D.state disk.old) (D.state disk.new) result }
+pub(crate) fn read_inodes<D: Disk>(disk: &mut D, opened: &Opened) -> Checked<Vec<Inode>>
+    requires opened { IsOpened (D.state disk.old) opened.now.place opened.now.commit }
+    ensures each { OnOk result (ObeysEach opened.now.place (meaning (D.state disk.old)) Inodes) }
+    ensures table { IfOk result (λ inodes. AreInodes opened.now.place (meaning (D.state disk.old)) inodes.items) }
+    ensures passed { Passed (IsLeast opened.now.place Inodes) (D.state disk.old) (D.state disk.new) result }
 {
-    let mut inodes = Vec::with_capacity(alloc, place.inodes as usize)?;
+    let mut inodes = Vec::with_capacity(opened.alloc, opened.place.inodes as usize)?;
     let mut table = [0; 512];
-    for n in 0..place.inodes {
-        read_table(disk, place, commit, n, &mut table)?;
+    for n in 0..opened.place.inodes {
+        read_table(disk, opened, n, &mut table)?;
         match good_inode(&table, n) {
             Some(inode) => inodes.push(inode)?,
             None => {

@@ -7,11 +7,11 @@ ghost use Rattle.fs_model.specs.Rules.{ObeysEach, IsLeastFailure, InData, OwnedO
 ghost use Rattle.fs_check.specs.Owning.{part_at, owned_part, OwnsData, IsMarked};
 ghost use Rattle.fs_check.specs.Checks.{meaning, IsOpened, AreInodes, IsOwnerMap, Passed, IsLeast};
 
-use crate::faults::{CheckFault, Finding};
+use crate::faults::{CheckFault, Checked, Finding};
+use crate::opening::Opened;
 use crate::owning::{PARTS, part_number, pointers_in_data};
-use fs_layout::{Commit, Inode, Place};
+use fs_layout::{Inode, Place};
 use sector_disk::Disk;
-use std::alloc::Global;
 
 const IN_DATA: u8 = 5;
 
@@ -83,29 +83,28 @@ fn first_twice(twice: &[bool]) -> Option<u32>
 // Both maps of all inodes, where each sector that one owns is in the data area.
 fn mark_all<D: Disk>(
     disk: &mut D,
-    place: Place,
-    commit: &Commit,
+    opened: &Opened,
     inodes: &[Inode],
     owned: &mut [bool],
     twice: &mut [bool],
-) -> Result<(), CheckFault>
-    requires opened { IsOpened (D.state disk.old) place commit.now }
-    requires table { AreInodes place (meaning (D.state disk.old)) inodes.now }
-    requires none { IsMarked (owned_part place (meaning (D.state disk.old))) 0 0 place.sectors owned.old twice.old }
-    ensures each { OnOk result (ObeysEach place (meaning (D.state disk.old)) InData) }
+) -> Checked<()>
+    requires opened { IsOpened (D.state disk.old) opened.now.place opened.now.commit }
+    requires table { AreInodes opened.now.place (meaning (D.state disk.old)) inodes.now }
+    requires none { IsMarked (owned_part opened.now.place (meaning (D.state disk.old))) 0 0 opened.now.place.sectors owned.old twice.old }
+    ensures each { OnOk result (ObeysEach opened.now.place (meaning (D.state disk.old)) InData) }
     ensures marked { OnOk result
-        (IsMarked (owned_part place (meaning (D.state disk.old))) place.inodes 0 place.sectors owned.new twice.new) }
-    ensures passed { Passed (IsLeast place InData) (D.state disk.old) (D.state disk.new) result }
+        (IsMarked (owned_part opened.now.place (meaning (D.state disk.old))) opened.now.place.inodes 0 opened.now.place.sectors owned.new twice.new) }
+    ensures passed { Passed (IsLeast opened.now.place InData) (D.state disk.old) (D.state disk.new) result }
 {
-    for n in 0..place.inodes {
+    for n in 0..opened.place.inodes {
         let inode = inodes[n as usize];
-        let Some(content) = pointers_in_data(disk, place, commit, &inode)? else {
+        let Some(content) = pointers_in_data(disk, opened, &inode)? else {
             return Err(CheckFault::Found(Finding {
                 rule: IN_DATA,
                 at: n,
             }));
         };
-        mark_inode(place, &inode, &content, owned, twice);
+        mark_inode(opened.place, &inode, &content, owned, twice);
     }
     Ok(())
 }
@@ -113,23 +112,21 @@ fn mark_all<D: Disk>(
 /// The owners of sectors, where the numbers of blocks and ACL sectors are in the data area. Each sector of pointers is read
 /// once.
 pub(crate) fn read_owners<D: Disk>(
-    alloc: Global,
     disk: &mut D,
-    place: Place,
-    commit: &Commit,
+    opened: &Opened,
     inodes: &[Inode],
-) -> Result<Owners, CheckFault>
-    requires opened { IsOpened (D.state disk.old) place commit.now }
-    requires table { AreInodes place (meaning (D.state disk.old)) inodes.now }
-    ensures each { OnOk result (ObeysEach place (meaning (D.state disk.old)) InData) }
-    ensures owners { IfOk result (λ owners. IsOwnerMap place (meaning (D.state disk.old)) owners.owned.items) }
-    ensures twice { IfOk result (λ owners. MatchOption owners.twice (ObeysEach place (meaning (D.state disk.old)) OwnedOnce)
-        (λ s. IsLeastFailure place (meaning (D.state disk.old)) OwnedOnce s)) }
-    ensures passed { Passed (IsLeast place InData) (D.state disk.old) (D.state disk.new) result }
+) -> Checked<Owners>
+    requires opened { IsOpened (D.state disk.old) opened.now.place opened.now.commit }
+    requires table { AreInodes opened.now.place (meaning (D.state disk.old)) inodes.now }
+    ensures each { OnOk result (ObeysEach opened.now.place (meaning (D.state disk.old)) InData) }
+    ensures owners { IfOk result (λ owners. IsOwnerMap opened.now.place (meaning (D.state disk.old)) owners.owned.items) }
+    ensures twice { IfOk result (λ owners. MatchOption owners.twice (ObeysEach opened.now.place (meaning (D.state disk.old)) OwnedOnce)
+        (λ s. IsLeastFailure opened.now.place (meaning (D.state disk.old)) OwnedOnce s)) }
+    ensures passed { Passed (IsLeast opened.now.place InData) (D.state disk.old) (D.state disk.new) result }
 {
-    let mut owned = vec![in alloc; false; place.sectors as usize]?;
-    let mut twice = vec![in alloc; false; place.sectors as usize]?;
-    mark_all(disk, place, commit, inodes, &mut owned, &mut twice)?;
+    let mut owned = vec![in opened.alloc; false; opened.place.sectors as usize]?;
+    let mut twice = vec![in opened.alloc; false; opened.place.sectors as usize]?;
+    mark_all(disk, opened, inodes, &mut owned, &mut twice)?;
     let twice = first_twice(&twice);
     Ok(Owners { owned, twice })
 }

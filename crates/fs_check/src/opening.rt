@@ -7,9 +7,19 @@ ghost use Rattle.fs_model.specs.Rules.{IsPlaceOf, HasPlace, HasCommit};
 ghost use Rattle.sector_disk.specs.Disk.{sector};
 ghost use Rattle.fs_check.specs.Checks.{Passed, IsFirst};
 
-use crate::faults::{CheckFault, Finding};
+use crate::faults::{CheckFault, Checked, Finding};
 use fs_layout::{Commit, Place, Super};
 use sector_disk::Disk;
+use std::alloc::Global;
+
+/// A disk whose first two sectors were read: where its parts lie, and the targets of a sealed commit.
+#[derive(Drop)]
+pub(crate) struct Opened {
+    /// Where the memory for a check's tables is taken from.
+    pub alloc: Global,
+    pub place: Place,
+    pub commit: Commit,
+}
 
 const NO_PLACE: CheckFault = CheckFault::Found(Finding { rule: 1, at: 0 });
 
@@ -30,7 +40,7 @@ fn place_in(content: &[u8; 512], size: u32) -> Option<Place>
 }
 
 /// Reads where the parts of the disk lie: the first rule.
-pub(crate) fn open_place<D: Disk>(disk: &mut D) -> Result<Place, CheckFault>
+pub(crate) fn open_place<D: Disk>(disk: &mut D) -> Checked<Place>
     ensures place { IfOk result (λ p. IsPlaceOf (D.state disk.old).size (sector (D.state disk.old).seen) p) }
     ensures passed { Passed IsFirst (D.state disk.old) (D.state disk.new) result }
 {
@@ -65,7 +75,7 @@ fn commit_in(content: &[u8; 512], size: u32) -> Option<Commit>
 }
 
 /// Reads the commit sector: the second rule.
-pub(crate) fn open_commit<D: Disk>(disk: &mut D) -> Result<Commit, CheckFault>
+pub(crate) fn open_commit<D: Disk>(disk: &mut D) -> Checked<Commit>
     requires { HasPlace (D.state disk.old).size (sector (D.state disk.old).seen) }
     ensures targets { IfOk result (λ targets. IsCommit (D.state disk.old).size (sector (D.state disk.old).seen 1) targets) }
     ensures commit { IfOk result (λ _. HasCommit (D.state disk.old).size (sector (D.state disk.old).seen)) }

@@ -6,9 +6,10 @@ ghost use Rattle.fs_layout.specs.Images.{IsData, HasPointers, part};
 ghost use Rattle.fs_check.specs.Owning.{part_at, OwnsData};
 ghost use Rattle.fs_check.specs.Checks.{meaning, IsOpened, Passed, IsNone};
 
-use crate::faults::CheckFault;
+use crate::faults::Checked;
+use crate::opening::Opened;
 use crate::reading::read_recovered;
-use fs_layout::{Commit, Inode, MAX_BLOCKS, Place};
+use fs_layout::{Inode, MAX_BLOCKS, Place};
 use sector_disk::Disk;
 
 // The part that block 0 is: before it stand two ACLs and the sector of pointers.
@@ -42,11 +43,10 @@ pub(crate) fn part_number(inode: &Inode, pointers: &[u8; 512], i: usize) -> u32
 // The content of the inode's sector of pointers; zeros, if it has none.
 pub(crate) fn read_pointers<D: Disk>(
     disk: &mut D,
-    place: Place,
-    commit: &Commit,
+    opened: &Opened,
     inode: &Inode,
-) -> Result<[u8; 512], CheckFault>
-    requires opened { IsOpened (D.state disk.old) place commit.now }
+) -> Checked<[u8; 512]>
+    requires opened { IsOpened (D.state disk.old) opened.now.place opened.now.commit }
     requires on_disk { inode.now.indirect < (D.state disk.old).size }
     ensures content { IfOk result (HasPointers (meaning (D.state disk.old)) inode.now) }
     ensures passed { Passed IsNone (D.state disk.old) (D.state disk.new) result }
@@ -55,7 +55,7 @@ pub(crate) fn read_pointers<D: Disk>(
     if inode.indirect == 0 {
         return Ok(content);
     }
-    read_recovered(disk, commit, inode.indirect, &mut content)?;
+    read_recovered(disk, opened, inode.indirect, &mut content)?;
     Ok(content)
 }
 
@@ -75,20 +75,19 @@ fn all_in_data(place: Place, inode: &Inode, content: &[u8; 512]) -> bool
 // The content of the inode's sector of pointers, where each sector that the inode owns is in the data area.
 pub(crate) fn pointers_in_data<D: Disk>(
     disk: &mut D,
-    place: Place,
-    commit: &Commit,
+    opened: &Opened,
     inode: &Inode,
-) -> Result<Option<[u8; 512]>, CheckFault>
-    requires opened { IsOpened (D.state disk.old) place commit.now }
-    ensures found { IfOk result (λ found. MatchOption found (OwnsData place (meaning (D.state disk.old)) inode.now → ⊥)
-        (λ content. HasPointers (meaning (D.state disk.old)) inode.now content × OwnsData place (meaning (D.state disk.old)) inode.now)) }
+) -> Checked<Option<[u8; 512]>>
+    requires opened { IsOpened (D.state disk.old) opened.now.place opened.now.commit }
+    ensures found { IfOk result (λ found. MatchOption found (OwnsData opened.now.place (meaning (D.state disk.old)) inode.now → ⊥)
+        (λ content. HasPointers (meaning (D.state disk.old)) inode.now content × OwnsData opened.now.place (meaning (D.state disk.old)) inode.now)) }
     ensures passed { Passed IsNone (D.state disk.old) (D.state disk.new) result }
 {
-    if inode.indirect != 0 && !is_data(place, inode.indirect) {
+    if inode.indirect != 0 && !is_data(opened.place, inode.indirect) {
         return Ok(None);
     }
-    let content = read_pointers(disk, place, commit, inode)?;
-    if all_in_data(place, inode, &content) {
+    let content = read_pointers(disk, opened, inode)?;
+    if all_in_data(opened.place, inode, &content) {
         return Ok(Some(content));
     }
     Ok(None)

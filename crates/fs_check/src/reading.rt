@@ -4,11 +4,12 @@ ghost use Rattle.std.specs.Prelude.{◌≡◌, ◌≢◌, ◌≤◌, ◌<◌, �
 ghost use Rattle.fs_layout.specs.Bytes.{SectorMap};
 ghost use Rattle.fs_layout.specs.Commit.{IsCommit};
 ghost use Rattle.fs_layout.specs.Recovered.{recovered};
-ghost use Rattle.sector_disk.specs.Disk.{IsSame, Elapses, HasCause, sector};
-ghost use Rattle.fs_check.specs.Checks.{meaning};
+ghost use Rattle.fs_check.specs.Checks.{meaning, IsOpened, Passed, IsNone};
 
+use crate::faults::Checked;
+use crate::opening::Opened;
 use fs_layout::Commit;
-use sector_disk::{Disk, DiskFault};
+use sector_disk::Disk;
 
 // Where the sector stands among the targets.
 fn target_index(targets: &[u32], n: u32) -> Option<usize>
@@ -39,18 +40,15 @@ fn content_of(commit: &Commit, n: u32) -> u32
 /// Reads a sector as recovery would leave it.
 pub(crate) fn read_recovered<D: Disk>(
     disk: &mut D,
-    commit: &Commit,
+    opened: &Opened,
     n: u32,
     to: &mut [u8; 512],
-) -> Result<(), DiskFault>
+) -> Checked<()>
+    requires opened { IsOpened (D.state disk.old) opened.now.place opened.now.commit }
     requires on_disk { n < (D.state disk.old).size }
-    requires room { 128 ≤ (D.state disk.old).size }
-    requires commit { IsCommit (D.state disk.old).size (sector (D.state disk.old).seen 1) commit.now }
     ensures content { OnOk result (to.new ≡ meaning (D.state disk.old) n) }
-    ensures same { IsSame (D.state disk.old) (D.state disk.new) }
-    ensures time { Elapses (D.state disk.old) (D.state disk.new) }
-    ensures cause { HasCause (D.state disk.old) (D.state disk.new) result }
-    ensures quiet { (D.state disk.new).failed_writes ≡ (D.state disk.old).failed_writes }
+    ensures passed { Passed IsNone (D.state disk.old) (D.state disk.new) result }
 {
-    disk.read(content_of(commit, n), to)
+    disk.read(content_of(&opened.commit, n), to)?;
+    Ok(())
 }

@@ -8,12 +8,12 @@ ghost use Rattle.fs_layout.specs.Directories.{NamedInode, HaveDistinctNames};
 ghost use Rattle.fs_check.specs.Naming.{AreValid, AreSlots, IsUsable, HasGoodSlots, is_below};
 ghost use Rattle.fs_check.specs.Checks.{meaning, IsOpened, AreInodes, Passed, IsNone};
 
-use crate::faults::CheckFault;
+use crate::faults::Checked;
+use crate::opening::Opened;
 use crate::owning::read_pointers;
 use crate::reading::read_recovered;
-use fs_layout::{Commit, Inode, Kind, Place, ROOT, SLOT_SIZE, Slot};
+use fs_layout::{Inode, Kind, ROOT, SLOT_SIZE, Slot};
 use sector_disk::Disk;
-use std::alloc::Global;
 
 // The slots of a block.
 const SLOTS: usize = 4;
@@ -21,48 +21,41 @@ const SLOTS: usize = 4;
 // Reads the block of slot k, unless the slot before it stands there too; `pointers` is the content of the sector of pointers.
 fn read_block_of<D: Disk>(
     disk: &mut D,
-    place: Place,
-    commit: &Commit,
+    opened: &Opened,
     inode: &Inode,
     pointers: &[u8; 512],
     k: usize,
     block: &mut [u8; 512],
-) -> Result<(), CheckFault>
-    requires opened { IsOpened (D.state disk.old) place commit.now }
+) -> Checked<()>
+    requires opened { IsOpened (D.state disk.old) opened.now.place opened.now.commit }
     requires pointers { HasPointers (meaning (D.state disk.old)) inode.now pointers.now }
-    requires in_data { (s : ℕ) → Owns (meaning (D.state disk.old)) inode.now s → IsData place s }
+    requires in_data { (s : ℕ) → Owns (meaning (D.state disk.old)) inode.now s → IsData opened.now.place s }
     requires before { k % 4 ≢ 0 → block.old ≡ meaning (D.state disk.old) (pointer (meaning (D.state disk.old)) inode.now (k / 4)) }
     ensures content { OnOk result (block.new ≡ meaning (D.state disk.old) (pointer (meaning (D.state disk.old)) inode.now (k / 4))) }
     ensures passed { Passed IsNone (D.state disk.old) (D.state disk.new) result }
 {
     if k % SLOTS == 0 {
         let s = inode.block_number(pointers, (k / SLOTS) as u64);
-        read_recovered(disk, commit, s, block)?;
+        read_recovered(disk, opened, s, block)?;
     }
     Ok(())
 }
 
 // The slots of a directory, where each is valid.
-fn read_slots<D: Disk>(
-    alloc: Global,
-    disk: &mut D,
-    place: Place,
-    commit: &Commit,
-    inode: &Inode,
-) -> Result<Option<Vec<Slot>>, CheckFault>
-    requires opened { IsOpened (D.state disk.old) place commit.now }
-    requires in_data { (s : ℕ) → Owns (meaning (D.state disk.old)) inode.now s → IsData place s }
+fn read_slots<D: Disk>(disk: &mut D, opened: &Opened, inode: &Inode) -> Checked<Option<Vec<Slot>>>
+    requires opened { IsOpened (D.state disk.old) opened.now.place opened.now.commit }
+    requires in_data { (s : ℕ) → Owns (meaning (D.state disk.old)) inode.now s → IsData opened.now.place s }
     requires size { inode.now.size ≤ MAX_DIRECTORY_SIZE }
     ensures slots { IfOk result (λ o. MatchOption o (AreValid (meaning (D.state disk.old)) inode.now → ⊥)
         (λ slots. AreSlots (meaning (D.state disk.old)) inode.now slots.items)) }
     ensures passed { Passed IsNone (D.state disk.old) (D.state disk.new) result }
 {
     let count = inode.size as usize / SLOT_SIZE;
-    let pointers = read_pointers(disk, place, commit, inode)?;
-    let mut slots = Vec::with_capacity(alloc, count)?;
+    let pointers = read_pointers(disk, opened, inode)?;
+    let mut slots = Vec::with_capacity(opened.alloc, count)?;
     let mut block = [0; 512];
     for k in 0..count {
-        read_block_of(disk, place, commit, inode, &pointers, k, &mut block)?;
+        read_block_of(disk, opened, inode, &pointers, k, &mut block)?;
         let Ok(slot) = Slot::read_from(&block, SLOT_SIZE * (k % SLOTS)) else {
             return Ok(None);
         };
@@ -95,22 +88,20 @@ fn are_usable(inodes: &[Inode], slots: &[Slot]) -> bool
 
 /// The slots of a directory, where each is valid and names an inode that is in use and isn't the root.
 pub(crate) fn read_good_slots<D: Disk>(
-    alloc: Global,
     disk: &mut D,
-    place: Place,
-    commit: &Commit,
+    opened: &Opened,
     inodes: &[Inode],
     inode: &Inode,
-) -> Result<Option<Vec<Slot>>, CheckFault>
-    requires opened { IsOpened (D.state disk.old) place commit.now }
-    requires table { AreInodes place (meaning (D.state disk.old)) inodes.now }
-    requires in_data { (s : ℕ) → Owns (meaning (D.state disk.old)) inode.now s → IsData place s }
+) -> Checked<Option<Vec<Slot>>>
+    requires opened { IsOpened (D.state disk.old) opened.now.place opened.now.commit }
+    requires table { AreInodes opened.now.place (meaning (D.state disk.old)) inodes.now }
+    requires in_data { (s : ℕ) → Owns (meaning (D.state disk.old)) inode.now s → IsData opened.now.place s }
     requires size { inode.now.size ≤ MAX_DIRECTORY_SIZE }
-    ensures slots { IfOk result (λ o. MatchOption o (HasGoodSlots place (meaning (D.state disk.old)) inode.now → ⊥)
-        (λ slots. HasGoodSlots place (meaning (D.state disk.old)) inode.now × AreSlots (meaning (D.state disk.old)) inode.now slots.items)) }
+    ensures slots { IfOk result (λ o. MatchOption o (HasGoodSlots opened.now.place (meaning (D.state disk.old)) inode.now → ⊥)
+        (λ slots. HasGoodSlots opened.now.place (meaning (D.state disk.old)) inode.now × AreSlots (meaning (D.state disk.old)) inode.now slots.items)) }
     ensures passed { Passed IsNone (D.state disk.old) (D.state disk.new) result }
 {
-    let Some(slots) = read_slots(alloc, disk, place, commit, inode)? else {
+    let Some(slots) = read_slots(disk, opened, inode)? else {
         return Ok(None);
     };
     if !are_usable(inodes, &slots) {

@@ -5,30 +5,27 @@ use Rattle.fs_layout.specs.Bytes.{SectorMap}
 use Rattle.sector_disk.proofs.Moments.{reads_joined}
 use Rattle.fs_check.specs.Checks.{meaning}
 use Rattle.fs_check.proofs.BitTests.{map_place}
-use Rattle.fs_check.proofs.Carrying.{meaning_same, reads_once}
+use Rattle.fs_check.proofs.Carrying.{meaning_same, opened_still}
 use Rattle.fs_check.proofs.bitmaps.block_bits.Goals as goal
 
 pub overflow_sub-k-end : goal.overflow_sub-k-end
 overflow_sub-k-end g c =
-    let from = (map_place _ _ c.args.place c.requires.opened.place).from in
+    let from = (map_place _ _ c.args.opened.now.place c.requires.opened.place).from in
     omega (arith, from)
 
 pub read_recovered-requires-clause-on_disk : goal.read_recovered-requires-clause-on_disk
 read_recovered-requires-clause-on_disk g c =
-    let on_disk = (map_place _ _ c.args.place c.requires.opened.place).on_disk in
+    let on_disk = (map_place _ _ c.args.opened.now.place c.requires.opened.place).on_disk in
     let below = c.loop-k-test.true in
     let size = c.loop-k.invariant.reads.narrowed.size in
     omega (arith, on_disk, below, size)
 
-pub read_recovered-requires-clause-room : goal.read_recovered-requires-clause-room
-read_recovered-requires-clause-room g c =
-    let room = (map_place _ _ c.args.place c.requires.opened.place).room in
-    let size = c.loop-k.invariant.reads.narrowed.size in
-    omega (arith, room, size)
+pub read_recovered-requires-clause-opened : goal.read_recovered-requires-clause-opened
+read_recovered-requires-clause-opened g c = opened_still c.loop-k.invariant.reads c.requires.opened
 
 pub first_wrong-requires-clause-low : goal.first_wrong-requires-clause-low
 first_wrong-requires-clause-low g c =
-    let upto = (map_place _ _ c.args.place c.requires.opened.place).upto in
+    let upto = (map_place _ _ c.args.opened.now.place c.requires.opened.place).upto in
     let below = c.loop-k-test.true in
     omega (arith, upto, below)
 
@@ -41,7 +38,7 @@ loop-k-preserved g c =
     let there = read.content ∙ ap (λ (m : SectorMap). m (block_bitmap + k)) (meaning_same so_far.reads) in
     let right = c.in_default.ensures.none (meaning s0) c.requires.owners there in
     record {
-      reads = reads_joined so_far.reads (reads_once read.same read.time read.cause.later read.quiet (g.met.D.Disk.counts_now c.loop-k.disk));
+      reads = reads_joined so_far.reads read.passed.reads;
       good = λ s lt. elim (cases_lt s (4096 * k)) [ inl before ↦ so_far.good s before | inr here ↦ right s here lt ];
     }
 
@@ -60,7 +57,7 @@ returns-in-Some-clause-passed g c =
     let low = found.0 in
     let below = c.loop-k-test.true in
     record {
-      reads = reads_joined so_far.reads (reads_once read.same read.time read.cause.later read.quiet (g.met.D.Disk.counts_now c.loop-k.disk));
+      reads = reads_joined so_far.reads read.passed.reads;
       reason = (
         refl,
         record {

@@ -1,23 +1,22 @@
 use Rattle.std.proofs.Common.{refl}
 use Rattle.std.proofs.lemmas.Result.{err_from_is_err_and}
-use Rattle.sector_disk.proofs.Moments.{reads_nothing}
 use Rattle.fs_model.specs.Rules.{LaidOut, Acls}
-use Rattle.fs_check.proofs.Carrying.{rule_error, second_passed, both_obeyed}
+use Rattle.fs_check.proofs.Carrying.{first_error, second_passed, both_obeyed}
 use Rattle.fs_check.proofs.checking.check_contents.Goals as goal
 
 pub returns-in_err-laid_out-clause-passed : goal.returns-in_err-laid_out-clause-passed
 returns-in_err-laid_out-clause-passed g c =
-    let s0 = g.D.Disk.state c.args.disk.now in
-    let q = err_from_is_err_and c.from_residual.result c.from_residual.ensures.1 in
-    rule_error s0 s0 (g.D.Disk.state c.laid_out.new.disk) LaidOut 8 refl reads_nothing c.requires.opened c.requires.before _ q.0 c.from_residual.result q.1 q.2
-    c.in_err-laid_out.ensures.passed
+    first_error (g.D.Disk.state c.args.disk.now) (g.D.Disk.state c.laid_out.new.disk) LaidOut 8 refl c.requires.opened c.requires.before _
+    c.from_residual.result (err_from_is_err_and c.from_residual.result c.from_residual.ensures.1) c.in_err-laid_out.ensures.passed
 
-pub returns-clause-passed : goal.returns-clause-passed
-returns-clause-passed g c =
-    second_passed (g.D.Disk.state c.args.disk.now) (g.D.Disk.state c.laid_out.new.disk) (g.D.Disk.state c.acls.new.disk) LaidOut Acls 8 refl refl c.requires.opened
-    c.requires.before c.in_ok-laid_out.ensures.passed.reads c.in_ok-laid_out.ensures.each c.acls.result c.acls.ensures.passed
-
-pub returns-clause-before : goal.returns-clause-before
-returns-clause-before g c =
-    both_obeyed (g.D.Disk.state c.args.disk.now) (g.D.Disk.state c.laid_out.new.disk) (g.D.Disk.state c.acls.new.disk) LaidOut Acls 8 refl refl c.requires.opened
-    c.requires.before c.in_ok-laid_out.ensures.passed.reads c.in_ok-laid_out.ensures.each c.acls.result c.acls.ensures.each
+pub returns : goal.returns
+returns g c =
+    let laid = c.in_ok-laid_out.ensures in
+    record {
+      before =
+          both_obeyed (g.D.Disk.state c.args.disk.now) (g.D.Disk.state c.laid_out.new.disk) (g.D.Disk.state c.acls.new.disk) LaidOut Acls 8 refl refl
+          c.requires.opened c.requires.before laid.passed.reads laid.each c.acls.result c.acls.ensures.each;
+      passed =
+          second_passed (g.D.Disk.state c.args.disk.now) (g.D.Disk.state c.laid_out.new.disk) (g.D.Disk.state c.acls.new.disk) LaidOut Acls 8 refl refl
+          c.requires.opened c.requires.before laid.passed.reads laid.each c.acls.result c.acls.ensures.passed;
+    }

@@ -1,16 +1,13 @@
 use Rattle.std.proofs.Common.{refl}
 use Rattle.std.proofs.lemmas.Result.{err_from_is_err_and}
-use Rattle.sector_disk.proofs.Moments.{reads_nothing}
 use Rattle.fs_model.specs.Rules.{InodeBits, Inodes}
-use Rattle.fs_check.proofs.Carrying.{rule_error, second_passed, both_obeyed}
+use Rattle.fs_check.proofs.Carrying.{first_error, second_passed, both_obeyed}
 use Rattle.fs_check.proofs.checking.check_tables.Goals as goal
 
 pub returns-in_err-inode_bits-clause-passed : goal.returns-in_err-inode_bits-clause-passed
 returns-in_err-inode_bits-clause-passed g c =
-    let s0 = g.D.Disk.state c.args.disk.now in
-    let q = err_from_is_err_and c.from_residual.result c.from_residual.ensures.1 in
-    rule_error s0 s0 (g.D.Disk.state c.inode_bits.new.disk) InodeBits 3 refl reads_nothing c.requires.opened c.requires.before _ q.0 c.from_residual.result q.1
-    q.2 c.in_err-inode_bits.ensures.passed
+    first_error (g.D.Disk.state c.args.disk.now) (g.D.Disk.state c.inode_bits.new.disk) InodeBits 3 refl c.requires.opened c.requires.before _
+    c.from_residual.result (err_from_is_err_and c.from_residual.result c.from_residual.ensures.1) c.in_err-inode_bits.ensures.passed
 
 pub returns-clause-passed : goal.returns-clause-passed
 returns-clause-passed g c =

@@ -3,8 +3,7 @@ use Rattle.fs_layout.specs.Bytes.{SectorMap}
 use Rattle.sector_disk.specs.Disk.{sector}
 use Rattle.fs_check.specs.Checks.{meaning}
 use Rattle.fs_check.specs.LastBlocks.{last_block}
-use Rattle.fs_check.proofs.Carrying.{meaning_same}
-use Rattle.fs_check.proofs.Openings.{many_sectors}
+use Rattle.fs_check.proofs.Carrying.{meaning_same, opened_still}
 use Rattle.fs_check.proofs.Marks.{indirect_on_disk}
 use Rattle.fs_check.proofs.Trims.{block_on_disk, not_fit, laid_out_hole, laid_out_last}
 use Rattle.fs_check.proofs.contents.is_laid_out.Goals as goal
@@ -12,7 +11,7 @@ use Rattle.fs_check.proofs.contents.is_laid_out.Goals as goal
 pub read_pointers-requires-clause-on_disk : goal.read_pointers-requires-clause-on_disk
 read_pointers-requires-clause-on_disk g c =
     let s0 = g.D.Disk.state c.args.disk.now in
-    indirect_on_disk s0.size (sector s0.seen) c.args.place (meaning s0) c.args.inode.now c.requires.opened.place c.requires.in_data
+    indirect_on_disk s0.size (sector s0.seen) c.args.opened.now.place (meaning s0) c.args.inode.now c.requires.opened.place c.requires.in_data
 
 pub returns-then-not-fit_pointers-clause-test : goal.returns-then-not-fit_pointers-clause-test
 returns-then-not-fit_pointers-clause-test g c =
@@ -29,17 +28,13 @@ pub read_recovered-requires-clause-on_disk : goal.read_recovered-requires-clause
 read_recovered-requires-clause-on_disk g c =
     let s0 = g.D.Disk.state c.args.disk.now in
     let is = c.last_sector-last.ensures (meaning s0) c.in_ok-pointers.ensures.content in
-    let below = block_on_disk s0.size (sector s0.seen) c.args.place (meaning s0) c.args.inode.now (last_block c.args.inode.now) c.last_sector-last.result
+    let below = block_on_disk s0.size (sector s0.seen) c.args.opened.now.place (meaning s0) c.args.inode.now (last_block c.args.inode.now) c.last_sector-last.result
     c.requires.opened.place c.requires.in_data is c.if-last-eq0.false in
     let size = c.in_ok-pointers.ensures.passed.reads.narrowed.size in
     omega (arith, below, size)
 
-pub read_recovered-requires-clause-room : goal.read_recovered-requires-clause-room
-read_recovered-requires-clause-room g c =
-    let s0 = g.D.Disk.state c.args.disk.now in
-    let many = many_sectors s0.size (sector s0.seen) (record { place = c.args.place; is = c.requires.opened.place }) in
-    let size = c.in_ok-pointers.ensures.passed.reads.narrowed.size in
-    omega (arith, many, size)
+pub read_recovered-requires-clause-opened : goal.read_recovered-requires-clause-opened
+read_recovered-requires-clause-opened g c = opened_still c.in_ok-pointers.ensures.passed.reads c.requires.opened
 
 pub returns-clause-test : goal.returns-clause-test
 returns-clause-test g c =

@@ -13,7 +13,7 @@ use Rattle.fs_check.proofs.contents.laid_out.Goals as goal
 pub is_laid_out-requires-clause-in_data : goal.is_laid_out-requires-clause-in_data
 is_laid_out-requires-clause-in_data g c =
     let s0 = g.D.Disk.state c.args.disk.now in
-    let p = c.args.place in
+    let p = c.args.opened.now.place in
     let lt = c.loop-n-test.true in
     let here = inode_here p (meaning s0) c.args.inodes.now c.loop-n.n blank c.requires.table lt in
     let now : (s : ℕ) → Owns (meaning s0) (inode_at p (meaning s0) c.loop-n.n) s → IsData p s = c.requires.before InData (omega arith) c.loop-n.n lt in
@@ -22,21 +22,20 @@ is_laid_out-requires-clause-in_data g c =
 
 pub is_laid_out-requires-clause-short : goal.is_laid_out-requires-clause-short
 is_laid_out-requires-clause-short g c =
-    let s0 = g.D.Disk.state c.args.disk.now in
-    let p = c.args.place in
-    let lt = c.loop-n-test.true in
-    let here = inode_here p (meaning s0) c.args.inodes.now c.loop-n.n blank c.requires.table lt in
-    subst (λ (v : Inode). v.kind ≡ Link → v.size ≤ 512) (sym here) (short_link p (meaning s0) c.loop-n.n c.requires.before lt)
+    let m = meaning (g.D.Disk.state c.args.disk.now) in
+    subst (λ (v : Inode). v.kind ≡ Link → v.size ≤ 512)
+    (sym (inode_here c.args.opened.now.place m c.args.inodes.now c.loop-n.n blank c.requires.table c.loop-n-test.true))
+    (short_link c.args.opened.now.place m c.loop-n.n c.requires.before c.loop-n-test.true)
 
 pub loop-n-preserved : goal.loop-n-preserved
 loop-n-preserved g c =
-    next_tried IsLaidOut c.args.place (g.D.Disk.state c.args.disk.now) (g.D.Disk.state c.loop-n.disk) (g.D.Disk.state c.is_laid_out.new.disk) c.args.inodes.now c.loop-n.n _
+    next_tried IsLaidOut c.args.opened.now.place (g.D.Disk.state c.args.disk.now) (g.D.Disk.state c.loop-n.disk) (g.D.Disk.state c.is_laid_out.new.disk) c.args.inodes.now c.loop-n.n _
     c.in_ok-is_laid_out.field-0 c.loop-n.invariant c.in_ok-is_laid_out.ensures.passed.reads c.requires.table c.loop-n-test.true c.in_ok-is_laid_out.ensures.test
     c.if-not-branch.false
 
 pub returns-then-not-branch-clause-passed : goal.returns-then-not-branch-clause-passed
 returns-then-not-branch-clause-passed g c =
-    fails_here IsLaidOut c.args.place (g.D.Disk.state c.args.disk.now) (g.D.Disk.state c.loop-n.disk) (g.D.Disk.state c.is_laid_out.new.disk) c.args.inodes.now c.loop-n.n _
+    fails_here IsLaidOut c.args.opened.now.place (g.D.Disk.state c.args.disk.now) (g.D.Disk.state c.loop-n.disk) (g.D.Disk.state c.is_laid_out.new.disk) c.args.inodes.now c.loop-n.n _
     c.in_ok-is_laid_out.field-0 c.loop-n.invariant c.in_ok-is_laid_out.ensures.passed.reads c.requires.table c.loop-n-test.true c.in_ok-is_laid_out.ensures.test
     LaidOut (λ k. ((λ h. h), (λ h. h))) c.if-not-branch.true
 

@@ -11,13 +11,13 @@ use Rattle.fs_check.proofs.directories.read_names.Goals as goal
 
 pub add_directory-requires-clause-names : goal.add_directory-requires-clause-names
 add_directory-requires-clause-names g c =
-    subst (λ m. IsNaming c.args.place m c.loop-d.d c.loop-d.names.counts.items c.loop-d.names.directories.items c.loop-d.names.repeated)
+    subst (λ m. IsNaming c.args.opened.now.place m c.loop-d.d c.loop-d.names.counts.items c.loop-d.names.directories.items c.loop-d.names.repeated)
     (sym (meaning_same c.loop-d.invariant.reads)) c.loop-d.invariant.naming
 
 pub loop-d-preserved : goal.loop-d-preserved
 loop-d-preserved g c =
     let s0 = g.D.Disk.state c.args.disk.now in
-    let p = c.args.place in
+    let p = c.args.opened.now.place in
     let d = c.loop-d.d in
     let new = c.add_directory.new.names in
     let same = meaning_same c.loop-d.invariant.reads in
@@ -30,18 +30,15 @@ loop-d-preserved g c =
 
 pub returns-then-not-branch-clause-passed : goal.returns-then-not-branch-clause-passed
 returns-then-not-branch-clause-passed g c =
-    let s0 = g.D.Disk.state c.args.disk.now in
-    let s1 = g.D.Disk.state c.loop-d.disk in
-    let p = c.args.place in
-    let d = c.loop-d.d in
+    let added = c.in_ok-add_directory.ensures in
     record {
-      reads = reads_joined c.loop-d.invariant.reads c.in_ok-add_directory.ensures.passed.reads;
+      reads = reads_joined c.loop-d.invariant.reads added.passed.reads;
       reason = (
         refl,
         record {
           fails = λ h.
-              refuses (Obeys p (meaning s1) Slots d) c.in_ok-add_directory.field-0 c.if-not-branch.true c.in_ok-add_directory.ensures.test
-              (subst (λ m. Obeys p m Slots d) (sym (meaning_same c.loop-d.invariant.reads)) h);
+              refuses (Obeys c.args.opened.now.place (meaning (g.D.Disk.state c.loop-d.disk)) Slots c.loop-d.d) c.in_ok-add_directory.field-0 c.if-not-branch.true added.test
+              (subst (λ m. Obeys c.args.opened.now.place m Slots c.loop-d.d) (sym (meaning_same c.loop-d.invariant.reads)) h);
           least = c.loop-d.invariant.good;
         },
       );
@@ -54,11 +51,11 @@ pub returns-clause-names : goal.returns-clause-names
 returns-clause-names g c =
     let past = c.loop-d-test.false in
     let end = c.loop-d.auto.d-end in
-    all_named c.args.place (meaning (g.D.Disk.state c.args.disk.now)) c.loop-d.d c.loop-d.names.counts.items c.loop-d.names.directories.items
+    all_named c.args.opened.now.place (meaning (g.D.Disk.state c.args.disk.now)) c.loop-d.d c.loop-d.names.counts.items c.loop-d.names.directories.items
     (omega (arith, past, end)) c.loop-d.invariant.naming.tally
 
 pub returns-clause-repeated : goal.returns-clause-repeated
 returns-clause-repeated g c =
     let past = c.loop-d-test.false in
-    all_repeated c.args.place (meaning (g.D.Disk.state c.args.disk.now)) c.loop-d.d c.loop-d.names.repeated (omega (arith, past))
+    all_repeated c.args.opened.now.place (meaning (g.D.Disk.state c.args.disk.now)) c.loop-d.d c.loop-d.names.repeated (omega (arith, past))
     c.loop-d.invariant.naming.repeated

@@ -10,13 +10,13 @@ use Rattle.fs_check.proofs.inodes.read_inodes.Goals as goal
 
 pub read_table-requires-clause-kept : goal.read_table-requires-clause-kept
 read_table-requires-clause-kept g c = λ inside.
-    sector_still _ _ c.args.place c.loop-n.n c.loop-n.table c.loop-n.invariant.reads (c.loop-n.invariant.kept inside)
+    sector_still _ _ c.args.opened.now.place c.loop-n.n c.loop-n.table c.loop-n.invariant.reads (c.loop-n.invariant.kept inside)
 
 pub loop-n-preserved : goal.loop-n-preserved
 loop-n-preserved g c =
     let s0 = g.D.Disk.state c.args.disk.now in
     let s1 = g.D.Disk.state c.loop-n.disk in
-    let p = c.args.place in
+    let p = c.args.opened.now.place in
     let n = c.loop-n.n in
     let so_far = c.loop-n.invariant in
     let here = sector_back s0 s1 p n c.read_table.new.table so_far.reads c.in_ok-read_table.ensures.table in
@@ -34,15 +34,14 @@ loop-n-preserved g c =
 
 pub returns-in-None-clause-passed : goal.returns-in-None-clause-passed
 returns-in-None-clause-passed g c =
-    let s0 = g.D.Disk.state c.args.disk.now in
-    let s1 = g.D.Disk.state c.loop-n.disk in
-    let p = c.args.place in
-    let n = c.loop-n.n in
+    let p = c.args.opened.now.place in
     let so_far = c.loop-n.invariant in
-    let here = sector_back s0 s1 p n c.read_table.new.table so_far.reads c.in_ok-read_table.ensures.table in
+    let lt = c.loop-n-test.true in
+    let here = sector_back (g.D.Disk.state c.args.disk.now) (g.D.Disk.state c.loop-n.disk) p c.loop-n.n c.read_table.new.table so_far.reads
+    c.in_ok-read_table.ensures.table in
     let told = c.in-None.ensures in
-    let bad = good_is p (meaning s0) n c.read_table.new.table None (here c.loop-n-test.true) told.is told.free told.top told.none in
+    let bad = good_is p (meaning (g.D.Disk.state c.args.disk.now)) c.loop-n.n c.read_table.new.table None (here lt) told.is told.free told.top told.none in
     record {
       reads = reads_joined so_far.reads c.in_ok-read_table.ensures.passed.reads;
-      reason = (refl, record { fails = λ h. bad (h c.loop-n-test.true); least = λ k low below. so_far.good k low });
+      reason = (refl, record { fails = λ h. bad (h lt); least = λ k low below. so_far.good k low });
     }

@@ -5,19 +5,16 @@ use Rattle.fs_check.proofs.inodes.read_table.Goals as goal
 
 pub inode_sector-requires : goal.inode_sector-requires
 inode_sector-requires g c =
-    let at = table_place _ _ c.args.place c.args.n c.requires.opened.place c.if-place-n.false in
+    let at = table_place _ _ c.args.opened.now.place c.args.n c.requires.opened.place c.if-place-n.false in
     let below = at.on_disk in
     let small = at.small in
     omega (arith, below, small)
 
 pub read_recovered-requires-clause-on_disk : goal.read_recovered-requires-clause-on_disk
 read_recovered-requires-clause-on_disk g c =
-    let below = (table_place _ _ c.args.place c.args.n c.requires.opened.place c.if-place-n.false).on_disk in
+    let below = (table_place _ _ c.args.opened.now.place c.args.n c.requires.opened.place c.if-place-n.false).on_disk in
     let there = c.inode_sector.ensures in
     omega (arith, below, there)
-
-pub read_recovered-requires-clause-room : goal.read_recovered-requires-clause-room
-read_recovered-requires-clause-room g c = (table_place _ _ c.args.place c.args.n c.requires.opened.place c.if-place-n.false).room
 
 pub returns-clause-table : goal.returns-clause-table
 returns-clause-table g c = λ lt. c.in_ok-read_recovered.ensures.content ∙ ap (meaning (g.D.Disk.state c.args.disk.now)) c.inode_sector.ensures

@@ -14,7 +14,7 @@ pub returns-in_default-clause-passed : goal.returns-in_default-clause-passed
 returns-in_default-clause-passed g c =
     let s0 = g.D.Disk.state c.args.disk.now in
     let s1 = g.D.Disk.state c.loop-n.disk in
-    let p = c.args.place in
+    let p = c.args.opened.now.place in
     record {
       reads = reads_joined c.loop-n.invariant.reads c.in_ok-content.ensures.passed.reads;
       reason = (
@@ -38,7 +38,7 @@ loop-n-preserved g c =
     let s0 = g.D.Disk.state c.args.disk.now in
     let s1 = g.D.Disk.state c.loop-n.disk in
     let lt = c.loop-n-test.true in
-    let p = c.args.place in
+    let p = c.args.opened.now.place in
     let n = c.loop-n.n in
     let reads = c.loop-n.invariant.reads in
     let found = MatchOption-at_some _ _ c.in-Some.content c.in-Some.is c.in_ok-content.ensures.found in

@@ -8,6 +8,6 @@ use Rattle.fs_check.proofs.marking.mark_all.Given as goal
 abbrev pub invariant-loop-n : goal.invariant-loop-n
 invariant-loop-n g l = record {
   reads : OnlyReads (g.D.Disk.state l.initial.disk) (g.D.Disk.state l.disk);
-  good : (k : ℕ) → k < l.n → IsInData l.place (meaning (g.D.Disk.state l.initial.disk)) k;
-  marked : IsMarked (owned_part l.place (meaning (g.D.Disk.state l.initial.disk))) l.n 0 l.place.sectors l.owned l.twice;
+  good : (k : ℕ) → k < l.n → IsInData l.opened.place (meaning (g.D.Disk.state l.initial.disk)) k;
+  marked : IsMarked (owned_part l.opened.place (meaning (g.D.Disk.state l.initial.disk))) l.n 0 l.opened.place.sectors l.owned l.twice;
 }

@@ -1,6 +1,5 @@
 use Rattle.std.proofs.Common.{arith, sym, ◌∙◌}
-use Rattle.fs_check.specs.Owning.{part_at}
-use Rattle.fs_check.proofs.OwnedParts.{part_past}
+use Rattle.fs_check.proofs.OwnedParts.{part_past, part_below}
 use Rattle.fs_check.proofs.Marks.{mark_next}
 use Rattle.fs_check.proofs.marking.mark_inode.Goals as goal
 
@@ -13,19 +12,13 @@ loop-i-init c = record {
 
 pub mark-requires-clause-owned : goal.mark-requires-clause-owned
 mark-requires-clause-owned c = λ some.
-    let d = c.requires.in_data in
-    let is = c.part_number.ensures d.0 d.1 in
-    let at = d.2 c.part_number.result (record { at = part_at c.loop-i.i; is = sym is; some = some }) in
-    let below = at.1 in
+    let below = part_below c.args.place c.args.inode.now c.args.content.now c.loop-i.i c.part_number.result c.requires.in_data c.part_number.ensures some in
     let len = c.loop-i.invariant.owned_len in
     omega (arith, below, len)
 
 pub mark-requires-clause-twice : goal.mark-requires-clause-twice
 mark-requires-clause-twice c = λ some.
-    let d = c.requires.in_data in
-    let is = c.part_number.ensures d.0 d.1 in
-    let at = d.2 c.part_number.result (record { at = part_at c.loop-i.i; is = sym is; some = some }) in
-    let below = at.1 in
+    let below = part_below c.args.place c.args.inode.now c.args.content.now c.loop-i.i c.part_number.result c.requires.in_data c.part_number.ensures some in
     let len = c.loop-i.invariant.twice_len in
     omega (arith, below, len)
 

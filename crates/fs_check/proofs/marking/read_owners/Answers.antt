@@ -9,11 +9,11 @@ returns-clause-twice g c =
     let a = c.in_ok-mark_all.ensures.marked in
     let same = c.deref.ensures.value ∙ take_at c.mark_all.new.twice _ c.in_ok-twice.twice.len (a.twice_len ∙ sym c.in_ok-twice.ensures.len) in
     let first = c.first_twice-twice.ensures in
-    twice_found c.args.place (meaning (g.D.Disk.state c.args.disk.now)) c.mark_all.new.owned c.mark_all.new.twice a c.deref.result.now
+    twice_found c.args.opened.now.place (meaning (g.D.Disk.state c.args.disk.now)) c.mark_all.new.owned c.mark_all.new.twice a c.deref.result.now
     c.first_twice-twice.result same c.in_ok-mark_all.ensures.each first.below first.is first.least first.none
 
 pub returns-clause-owners : goal.returns-clause-owners
 returns-clause-owners g c =
     let a = c.in_ok-mark_all.ensures.marked in
-    owner_map c.args.place (meaning (g.D.Disk.state c.args.disk.now)) c.mark_all.new.owned c.mark_all.new.twice a _
+    owner_map c.args.opened.now.place (meaning (g.D.Disk.state c.args.disk.now)) c.mark_all.new.owned c.mark_all.new.twice a _
     (take_at c.mark_all.new.owned _ c.in_ok-owned.owned.len (a.owned_len ∙ sym c.in_ok-owned.ensures.len))

@@ -1,7 +1,6 @@
 use Rattle.std.proofs.Common.{◌/◌, arith, ap, ◌∙◌}
 use Rattle.fs_layout.specs.Images.{Block, part}
 use Rattle.fs_check.specs.Checks.{meaning}
-use Rattle.fs_check.proofs.Openings.{many_sectors}
 use Rattle.fs_check.proofs.DirectorySlots.{part_on_disk}
 use Rattle.fs_check.proofs.slots.read_block_of.Goals as goal
 
@@ -10,13 +9,8 @@ unfolding part
 read_recovered-requires-clause-on_disk g c =
     let m = meaning (g.D.Disk.state c.args.disk.now) in
     let is = c.block_number-s.ensures.is m c.requires.pointers in
-    let at = part_on_disk _ _ c.args.place m c.args.inode.now (Block (c.args.k / 4)) c.requires.opened.place c.requires.in_data in
+    let at = part_on_disk _ _ c.args.opened.now.place m c.args.inode.now (Block (c.args.k / 4)) c.requires.opened.place c.requires.in_data in
     omega (arith, is, at)
-
-pub read_recovered-requires-clause-room : goal.read_recovered-requires-clause-room
-read_recovered-requires-clause-room g c =
-    let many = many_sectors _ _ (record { place = c.args.place; is = c.requires.opened.place }) in
-    omega (arith, many)
 
 pub returns-in_ok-read_recovered-clause-content : goal.returns-in_ok-read_recovered-clause-content
 returns-in_ok-read_recovered-clause-content g c =

@@ -8,7 +8,7 @@ pub returns-clause-slots : goal.returns-clause-slots
 returns-clause-slots g c =
     let m = meaning (g.D.Disk.state c.args.disk.now) in
     let are : AreSlots m c.args.inode.now c.in-Some.slots.items = search rules in (
-      are_good c.args.place m c.args.inode.now c.args.inodes.now c.in-Some.slots.items c.requires.table are c.are_usable.result c.deref.result.now
+      are_good c.args.opened.now.place m c.args.inode.now c.args.inodes.now c.in-Some.slots.items c.requires.table are c.are_usable.result c.deref.result.now
           c.deref.ensures.value c.if-not-are_usable.false c.are_usable.ensures,
       are,
     )
@@ -17,5 +17,5 @@ pub returns-then-not-are_usable-clause-slots : goal.returns-then-not-are_usable-
 returns-then-not-are_usable-clause-slots g c =
     let m = meaning (g.D.Disk.state c.args.disk.now) in
     let are : AreSlots m c.args.inode.now c.in-Some.slots.items = search rules in
-    not_good c.args.place m c.args.inode.now c.args.inodes.now c.in-Some.slots.items c.requires.table are c.are_usable.result c.deref.result.now
+    not_good c.args.opened.now.place m c.args.inode.now c.args.inodes.now c.in-Some.slots.items c.requires.table are c.are_usable.result c.deref.result.now
     c.deref.ensures.value c.if-not-are_usable.true c.are_usable.ensures

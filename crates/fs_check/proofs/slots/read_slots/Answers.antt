@@ -12,11 +12,11 @@ use Rattle.fs_check.proofs.slots.read_slots.Goals as goal
 
 pub read_pointers-requires-clause-on_disk : goal.read_pointers-requires-clause-on_disk
 read_pointers-requires-clause-on_disk g c =
-    indirect_on_disk _ _ c.args.place (meaning (g.D.Disk.state c.args.disk.now)) c.args.inode.now c.requires.opened.place c.requires.in_data
+    indirect_on_disk _ _ c.args.opened.now.place (meaning (g.D.Disk.state c.args.disk.now)) c.args.inode.now c.requires.opened.place c.requires.in_data
 
 pub read_block_of-requires-clause-in_data : goal.read_block_of-requires-clause-in_data
 read_block_of-requires-clause-in_data g c =
-    in_data_still (g.D.Disk.state c.args.disk.now) (g.D.Disk.state c.loop-k.disk) c.loop-k.invariant.reads c.args.inode.now c.args.place c.requires.in_data
+    in_data_still (g.D.Disk.state c.args.disk.now) (g.D.Disk.state c.loop-k.disk) c.loop-k.invariant.reads c.args.inode.now c.args.opened.now.place c.requires.in_data
 
 pub returns-in_default-clause-slots : goal.returns-in_default-clause-slots
 returns-in_default-clause-slots g c =

@@ -1,0 +1,54 @@
+-- The bits of the inode bitmap, tried one after the other.
+use Rattle.std.specs.Prelude.{◌≡◌, ◌≢◌, ℕ, ◌+◌, ◌/◌, ◌%◌, ◌<◌, nat_eq, nat_lt, nat_le, not, ◌||◌, Bool, true, false, List, ◌↔◌, Err}
+use Rattle.std.proofs.Common.{refl, sym, subst}
+use Rattle.std.proofs.Math.Bool.{beq}
+use Rattle.fs_layout.specs.declared.place.Place.{Place}
+use Rattle.fs_layout.specs.Bytes.{SectorMap, u16_of}
+use Rattle.fs_layout.specs.Images.{bit, inode_bitmap, stored}
+use Rattle.fs_model.specs.Rules.{IsBit, InodeBits}
+use Rattle.sector_disk.specs.Disk.{DiskState, OnlyReads}
+use Rattle.sector_disk.proofs.Moments.{reads_joined}
+use Rattle.fs_check.specs.declared.faults.CheckFault.TheVariants.{Found}
+use Rattle.fs_check.specs.Checks.{meaning, Passed, IsLeast}
+use Rattle.fs_check.specs.TableSectors.{IsTableSector}
+use Rattle.fs_check.proofs.BitTests.{same_bits, other_bits, is_bit}
+use Rattle.fs_check.proofs.Carrying.{meaning_same}
+use Rattle.fs_check.proofs.Tables.{more_good}
+use Rattle.fs_check.proofs.TableSectors.{same_sector, sector_back}
+
+-- The bits below n are as they have to be; the table's sector that was read last is that of n, unless n is the first of its own.
+pub record AreBits (p : Place) (old now : DiskState) (n : ℕ) (table : List ℕ) : Type 0 where
+  pub reads : OnlyReads old now
+  pub kept : n % 4 ≢ 0 → IsTableSector p (meaning old) n table
+  pub good : (k : ℕ) → k < n → IsBit p (meaning old) k
+
+-- a test of bit n, where those before it have passed
+module _ (s0 s1 s2 s3 : DiskState) (p : Place) (n : ℕ) (map table new : List ℕ) (b t : Bool) (first : OnlyReads s0 s1) (so_far : AreBits p s1 s2 n table)
+    (reads : OnlyReads s2 s3) (lt : n < 4096) (read : map ≡ meaning s0 inode_bitmap) (there : IsTableSector p (meaning s2) n new)
+    (set : (m : SectorMap) (start : ℕ) → map ≡ m (start + n / 4096) → b ≡ bit m start n)
+    (taken : (m : SectorMap) → IsTableSector p m n new → t ≡ (nat_lt n 2 || nat_le p.inodes n || not (nat_eq (u16_of (stored p m n) 0) 0))) where
+  here : IsTableSector p (meaning s1) n new
+  here = sector_back s1 s2 p n new so_far.reads there
+
+  test : (b ≡ t) ↔ IsBit p (meaning s1) n
+  test = is_bit s0 s1 p n map new b t first lt read here set taken
+
+  pub next_bits : not (beq b t) ≡ false → AreBits p s1 s3 (n + 1) new
+  next_bits e = record {
+    reads = reads_joined so_far.reads reads;
+    kept = same_sector p (meaning s1) n new here;
+    good = more_good (IsBit p (meaning s1)) n so_far.good (test.0 (same_bits b t e));
+  }
+
+  -- it is the first that is wrong
+  pub wrong_bit : not (beq b t) ≡ true → Passed {T = Unit {0}} (IsLeast p InodeBits) s0 s3 (Err (Found (record { rule = 3; at = n })))
+  wrong_bit e = record {
+    reads = reads_joined first (reads_joined so_far.reads reads);
+    reason = (
+      refl,
+      record {
+        fails = λ h. other_bits b t e (test.1 (subst (λ m. IsBit p m n) (sym (meaning_same first)) (h lt)));
+        least = λ k low below. subst (λ m. IsBit p m k) (meaning_same first) (so_far.good k low);
+      },
+    );
+  }
