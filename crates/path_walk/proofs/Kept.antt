@@ -14,7 +14,7 @@ use Rattle.sector_txn.specs.Sectors.{TxnState, IsUnchanged}
 use Rattle.bit_alloc.specs.Faults.{HasCauseOf}
 use Rattle.bit_alloc.specs.Bitmaps.{HasRestSet}
 use Rattle.bit_alloc.specs.Inodes.{IsSound}
-use Rattle.path_walk.specs.Answers.{Interrupts, IsCaused, IsAnswered}
+use Rattle.path_walk.specs.Answers.{FailsToRead, Interrupts, IsCaused, IsAnswered}
 
 -- the map is the same
 pub same_map : {old new : TxnState} → IsUnchanged old new → new.sectors ≡ old.sectors
@@ -74,6 +74,12 @@ on_err P (Err e) err = tt
 
 pub failed_with : {A : Type 0} (r : Result A Refusal) (e : Refusal) (P : Refusal → Type 0) → IsErr r → IsErrAnd r (λ y. y ≡ e) → P e → IfErr r P
 failed_with r e P err and h = subst (λ (s : Result _ Refusal). IfErr s P) (sym (is_err r e err and)) h
+
+-- a fault behind what was done before
+pub failed_behind : {A : Type 0} (old mid new : DiskState) (r : Result A Refusal) (e : Refusal) → old.failures ≤ mid.failures → IsErr r → IsErrAnd r (λ y. y ≡ e)
+    → FailsToRead mid new e → IfErr r (FailsToRead old new)
+failed_behind old mid new r e grows err and failed =
+    failed_with r e (FailsToRead old new) err and (failed.0, failed_later old mid new grows failed.1)
 
 -- ---- causes
 pub interrupt_caused : (old new : DiskState) (e : Refusal) → Interrupts old new e → IsCaused old new e

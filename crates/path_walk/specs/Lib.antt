@@ -1,4 +1,5 @@
 pub mod Answers
+pub mod Words
 pub mod HeldTrees
 pub mod SoundInodes
 pub mod Walked

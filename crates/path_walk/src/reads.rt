@@ -1,13 +1,10 @@
 //! Inodes and names, as a walk reads them.
 
 ghost use Rattle.std.specs.Prelude.{◌≡◌, ◌<◌, ℕ, Some, Ok, IfOk, IfErr};
-ghost use Rattle.fs_layout.specs.Images.{inode_at};
 ghost use Rattle.fs_model.specs.Nodes.{names_in};
 ghost use Rattle.fs_model.specs.Trails.{named_inode};
 ghost use Rattle.fs_model.specs.Trees.{Tree, IsDirectoryAt};
-ghost use Rattle.sector_txn.specs.Sectors.{IsUnchanged};
-ghost use Rattle.bit_alloc.specs.Inodes.{IsSound};
-ghost use Rattle.path_walk.specs.Answers.{FailsToRead, Interrupts, IsAnswered};
+ghost use Rattle.path_walk.specs.Words.{inode_at, IsUnchanged, IsSound, FailsToRead, Interrupts, IsAnswered};
 ghost use Rattle.path_walk.specs.HeldTrees.{HoldsTree};
 ghost use Rattle.path_walk.specs.SoundInodes.{LeadsOn};
 
