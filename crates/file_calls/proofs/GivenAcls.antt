@@ -23,7 +23,7 @@ use Rattle.fs_model.specs.Demands.{Demand, refuse, first_of}
 use Rattle.fs_model.specs.Nodes.{Node, is_directory, is_link}
 use Rattle.fs_model.specs.Processes.{Process, Desks}
 use Rattle.fs_model.specs.Rules.{is_directory_kind}
-use Rattle.fs_model.specs.Scenes.{number, body_found, must_be_there, own_at_end}
+use Rattle.fs_model.specs.Scenes.{body_found, must_be_there, own_at_end}
 use Rattle.fs_model.specs.States.{State}
 use Rattle.fs_model.specs.StoredNodes.{Placed, HoldsNode}
 use Rattle.fs_model.specs.Trees.{names_of, parent}

@@ -1,5 +1,5 @@
 -- Another mode of what was found.
-use Rattle.std.specs.Prelude.{◌≡◌, ◌≢◌, ℕ, ◌+◌, ◌/◌, ◌%◌, ◌==◌, ◌<◌, ◌≤◌, nat_le, nat_eq, zero, suc, Bool, true, false, not, ◌&&◌, ◌||◌, cond, if◌then◌else◌, List, [], ◌∷◌, length, Option, None, Some, is_some}
+use Rattle.std.specs.Prelude.{◌≡◌, ◌≢◌, ℕ, ◌+◌, ◌/◌, ◌%◌, ◌==◌, ◌<◌, ◌≤◌, nat_le, nat_eq, zero, suc, Bool, true, false, not, ◌&&◌, ◌||◌, cond, if◌then◌else◌, List, length, Option, None, Some, is_some}
 use Rattle.std.proofs.Common.{refl, sym, ap, subst, arith, ◌∙◌}
 use Rattle.posix_acl.specs.declared.entry.Perms.{Perms}
 use Rattle.posix_acl.specs.AccessList.{AccessList, with_mode_bits, is_extended}
@@ -25,11 +25,9 @@ use Rattle.fs_model.specs.declared.walk.Form.TheVariants.{Follow}
 use Rattle.fs_model.specs.declared.walk.Found.{Found}
 use Rattle.fs_model.specs.AttributeCalls.{chmod_demands, chmod_effect, with_mode, moded}
 use Rattle.fs_model.specs.Births.{the_node}
-use Rattle.fs_model.specs.Demands.{first_of}
 use Rattle.fs_model.specs.Kinds.{kind_of_type}
 use Rattle.fs_model.specs.Nodes.{Body, File, Dir, Link, acl_in, accessed_body, type_of}
 use Rattle.fs_model.specs.Processes.{Process, Desks}
-use Rattle.fs_model.specs.Scenes.{number, must_be_there}
 use Rattle.fs_model.specs.States.{State}
 use Rattle.fs_model.proofs.StepsBodies.{mode_may_replace}
 use Rattle.bit_alloc.specs.declared.bitmap.TakeFault.{TakeFault}

@@ -43,7 +43,7 @@ use Rattle.call_parts.proofs.Calling.{state_tree, found_there, met_ok, or_else-n
 use Rattle.path_walk.proofs.HeldNodes.{stands, held_node, held_kind, held_access}
 use Rattle.path_walk.proofs.Kept.{is_err}
 use Rattle.call_parts.specs.ByteChanges.{ChangesBytes}
-use Rattle.file_calls.specs.Openings.{kind_asked, found_asked, FindsIn, IsRefusedOpen, Reaches}
+use Rattle.file_calls.specs.Openings.{open_kind_asked, found_asked, FindsIn, IsRefusedOpen, Reaches}
 use Rattle.call_parts.proofs.Followed.{IsAccessed, accessed_is, accessible}
 use Rattle.call_parts.proofs.Ownership.{some_asked, others_asked, all_met}
 use Rattle.file_calls.proofs.Rewritten.{bytes_rewritten}
@@ -54,8 +54,8 @@ use Rattle.call_parts.specs.Reaching.{Checked, checked}
 -- ---- what is there
 
 -- the kind of an inode that was read
-pub kind_met : (f : Flags) {v w : Inode} {r : Checked} → w ≡ v → checked (first_of (kind_asked f w.kind)) ≡ r → checked (first_of (kind_asked f v.kind)) ≡ r
-kind_met f {v} {w} {r} same is = subst (λ (u : Inode). checked (first_of (kind_asked f u.kind)) ≡ r) same is
+pub kind_met : (f : Flags) {v w : Inode} {r : Checked} → w ≡ v → checked (first_of (open_kind_asked f w.kind)) ≡ r → checked (first_of (open_kind_asked f v.kind)) ≡ r
+kind_met f {v} {w} {r} same is = subst (λ (u : Inode). checked (first_of (open_kind_asked f u.kind)) ≡ r) same is
 
 no_link_of : (a b c d : Demand) → first_of (a ∷ b ∷ c ∷ d ∷ []) ≡ None → b ≡ None
 no_link_of None None c d e = refl
@@ -64,7 +64,7 @@ no_link_of (Some r) b c d e = absurd (cc)
 
 module _ {p : Place} {map : SectorMap} {t : Tree} (h : HoldsTree p map t) (n : ℕ) (there : IsThere t n) (f : Flags) (cred : Credential) (step : ℕ) where
   -- what is asked of its kind, and permission
-  pub found_is : kind_asked f (inode_at p map n).kind ++ (permission_on cred t n (perms f.read f.write false) 1 step ∷ []) ≡ found_asked f cred t n step
+  pub found_is : open_kind_asked f (inode_at p map n).kind ++ (permission_on cred t n (perms f.read f.write false) 1 step ∷ []) ≡ found_asked f cred t n step
   found_is =
       let x = stands t n there in
       let v = inode_at p map n in
@@ -77,15 +77,15 @@ module _ {p : Place} {map : SectorMap} {t : Tree} (h : HoldsTree p map t) (n : �
       ∷ refuse EISDIR (b && (f.write || f.create)) ∷ permission_on cred t n (perms f.read f.write false) 1 step ∷ []) directory
 
   -- its kind refuses
-  pub kind_refuses : {A : Type 0} (x : A) (e : Refusal) (old new : DiskState) → checked (first_of (kind_asked f (inode_at p map n).kind)) ≡ Err e
+  pub kind_refuses : {A : Type 0} (x : A) (e : Refusal) (old new : DiskState) → checked (first_of (open_kind_asked f (inode_at p map n).kind)) ≡ Err e
       → IsAnswered old new (refused_or (first_of (found_asked f cred t n step)) (Ok x)) (Err e)
   kind_refuses {A} x e old new is =
       subst (λ (ds : List Demand). IsAnswered old new (refused_or {A = A} (first_of ds) (Ok x)) (Err e)) found_is
-      (some_asked {A = A} {B = Unit {0}} (kind_asked f (inode_at p map n).kind) (permission_on cred t n (perms f.read f.write false) 1 step ∷ []) tt x e old new (inl is))
+      (some_asked {A = A} {B = Unit {0}} (open_kind_asked f (inode_at p map n).kind) (permission_on cred t n (perms f.read f.write false) 1 step ∷ []) tt x e old new (inl is))
 
-  module _ (met : checked (first_of (kind_asked f (inode_at p map n).kind)) ≡ Ok tt) where
-    none : first_of (kind_asked f (inode_at p map n).kind) ≡ None
-    none = (met_ok {A = Unit {0}} (first_of (kind_asked f (inode_at p map n).kind)) tt tt met).0
+  module _ (met : checked (first_of (open_kind_asked f (inode_at p map n).kind)) ≡ Ok tt) where
+    none : first_of (open_kind_asked f (inode_at p map n).kind) ≡ None
+    none = (met_ok {A = Unit {0}} (first_of (open_kind_asked f (inode_at p map n).kind)) tt tt met).0
 
     -- access to it is decided
     pub kind_access : IsAccessed t n
@@ -106,7 +106,7 @@ module _ {p : Place} {map : SectorMap} {t : Tree} (h : HoldsTree p map t) (n : �
         → IsAnswered old new (refused_or (first_of (found_asked f cred t n step)) (Ok x)) (Err e)
     found_refuses {A} x want e old new is_want is =
         subst (λ (ds : List Demand). IsAnswered old new (refused_or {A = A} (first_of ds) (Ok x)) (Err e)) found_is
-        (others_asked (kind_asked f (inode_at p map n).kind) (permission_on cred t n (perms f.read f.write false) 1 step ∷ []) x e old new none
+        (others_asked (open_kind_asked f (inode_at p map n).kind) (permission_on cred t n (perms f.read f.write false) 1 step ∷ []) x e old new none
         (first_asked {B = Rule} (permission_on cred t n (perms f.read f.write false) 1 step) [] (verdict cred kind_access.access want).rule x e old new
         (subst (λ (d : Demand). IsAnswered old new (refused_or {A = Rule} d (Ok (verdict cred kind_access.access want).rule)) (Err e))
         (ap (λ (w : Perms). decided 1 step (Perm w) (verdict cred kind_access.access w)) is_want
@@ -118,7 +118,7 @@ module _ {p : Place} {map : SectorMap} {t : Tree} (h : HoldsTree p map t) (n : �
         → first_of (found_asked f cred t n step) ≡ None
     found_met want rule is_want is =
         ap first_of (sym found_is)
-        ∙ all_met (kind_asked f (inode_at p map n).kind) (permission_on cred t n (perms f.read f.write false) 1 step ∷ []) none
+        ∙ all_met (open_kind_asked f (inode_at p map n).kind) (permission_on cred t n (perms f.read f.write false) 1 step ∷ []) none
         (or_else-none (permission_on cred t n (perms f.read f.write false) 1 step)
         ∙ ap (permission_of cred (perms f.read f.write false) 1 step) (accessed_is t n kind_access)
         ∙ sym (ap (λ (w : Perms). decided 1 step (Perm w) (verdict cred kind_access.access w)) is_want)

@@ -12,7 +12,7 @@ use Rattle.fs_cred.specs.Credentials.{Credential}
 use Rattle.posix_acl.specs.AccessList.{AccessList}
 use Rattle.sector_disk.specs.Disk.{DiskState}
 use Rattle.sector_txn.specs.Sectors.{TxnState, IsUnchanged}
-use Rattle.fs_layout.specs.declared.inode.TheConstants.{S_ISGID, S_ISVTX}
+use Rattle.fs_layout.specs.declared.inode.TheConstants.{S_ISGID}
 use Rattle.fs_layout.specs.declared.inode.Inode.{Inode}
 use Rattle.fs_layout.specs.declared.place.Place.{Place}
 use Rattle.fs_layout.specs.Bytes.{SectorMap}

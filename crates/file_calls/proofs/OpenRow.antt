@@ -46,13 +46,13 @@ use Rattle.fs_model.proofs.Swept.{kept as kept_entry, get-filter}
 use Rattle.open_files.specs.Tables.{answer_of_found, slot_in, lowest_slot, with_changed, IsTable, IsUnused}
 use Rattle.open_files.proofs.Slots.{any_with_entry}
 use Rattle.path_walk.specs.Answers.{refused_or, IsAnswered}
-use Rattle.path_walk.specs.HeldTrees.{IsThere}
+use Rattle.path_walk.specs.HeldTrees.{HoldsTree, IsThere}
 use Rattle.call_parts.specs.Paths.{scene_at, HasFound}
 use Rattle.call_parts.specs.Performing.{IsStateOf, IsRefused, Performs, chosen}
 use Rattle.call_parts.specs.Performing as why
 use Rattle.path_walk.specs.Walked.{walk_of}
 use Rattle.call_parts.proofs.ByPath.{refused_performs}
-use Rattle.call_parts.proofs.Calling.{first_of-append, refused_err, met_ok, resolved, state_kept, same_process, early_is, late_is, after_is, answered_refused, answered_later, interrupted_refused}
+use Rattle.call_parts.proofs.Calling.{state_tree, cwd_there, first_of-append, refused_err, met_ok, resolved, state_kept, same_process, early_is, late_is, after_is, answered_refused, answered_later, interrupted_refused}
 use Rattle.file_calls.specs.Openings.{open_asked, FindsIn, IsRefusedOpen, Reaches}
 use Rattle.call_parts.proofs.ByDescriptor.{changed_there, entry_again}
 
@@ -291,10 +291,18 @@ short_path path f mode asked =
     grind (arith, nat_tests)
 
 -- the walk, as this caller
-pub walked_as : (old mid : DiskState) (t : Tree) (q : Process) (f : Flags) (path : List ℕ) (r : Result Found Refusal) (cred : Credential) (form : Form) (cwd : ℕ)
+walked_as : (old mid : DiskState) (t : Tree) (q : Process) (f : Flags) (path : List ℕ) (r : Result Found Refusal) (cred : Credential) (form : Form) (cwd : ℕ)
     → cred ≡ q.cred → form ≡ open_form f → cwd ≡ q.cwd → (IsThere t cwd → IsAnswered old mid (walk_of t cred 1 form cwd path) r) → IsThere t q.cwd
     → IsAnswered old mid (walk_of t q.cred 1 (open_form f) q.cwd path) r
 walked_as old mid t q f path r cred form cwd same_cred same_form same_cwd walks there =
     subst (λ (k : Credential). IsAnswered old mid (walk_of t k 1 (open_form f) q.cwd path) r) same_cred
     (subst (λ (k : Form). IsAnswered old mid (walk_of t cred 1 k q.cwd path) r) same_form
     (subst (λ (k : ℕ). IsAnswered old mid (walk_of t cred 1 form k path) r) same_cwd (walks (subst (IsThere t) (sym same_cwd) there))))
+
+-- the same of each state that the map may hold
+pub walks_as : (p : Place) (old mid : TxnState) (desks : Desks) (pid : ℕ) (q : Process) → get nat_cmp desks pid ≡ Some q → (f : Flags) (path : List ℕ)
+    (r : Result Found Refusal) (cred : Credential) (form : Form) (cwd : ℕ) → cred ≡ q.cred → form ≡ open_form f → cwd ≡ q.cwd
+    → ((t : Tree) → HoldsTree p old.sectors t → IsThere t cwd → IsAnswered old.disk mid.disk (walk_of t cred 1 form cwd path) r)
+    → (s : State) → IsStateOf p old.sectors desks s → IsAnswered old.disk mid.disk (walk_of s.tree q.cred 1 (open_form f) q.cwd path) r
+walks_as p old mid desks pid q there f path r cred form cwd same_cred same_form same_cwd walks s at =
+    walked_as old.disk mid.disk s.tree q f path r cred form cwd same_cred same_form same_cwd (walks s.tree (state_tree at)) (cwd_there at pid q there)

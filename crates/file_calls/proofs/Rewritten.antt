@@ -1,39 +1,33 @@
 -- A file whose bytes a call has changed.
 --     bytes_rewritten        the map holds the tree with the file's new bytes
---     content_changes, only_fails        from block_map's promises
-use Rattle.std.specs.Prelude.{◌≡◌, ℕ, ◌≤◌, ◌==◌, List, length, None, Some, IsTrue, Ok}
-use Rattle.std.proofs.Common.{refl, sym, ap, subst, ◌∙◌}
-use Rattle.std.specs.List.{list_any}
-use Rattle.std.specs.Ordering.{nat_cmp}
+--     content_changes, fails_alone        from block_map's promises
+use Rattle.std.specs.Prelude.{◌≡◌, ℕ, ◌≤◌, List, length, Some, IsTrue}
+use Rattle.std.proofs.Common.{refl, sym, subst}
 use Rattle.fs_layout.specs.declared.inode.Inode.{Inode}
 use Rattle.fs_layout.specs.declared.inode.Kind.TheVariants as kinds
 use Rattle.fs_layout.specs.declared.place.Place.{Place}
-use Rattle.fs_layout.specs.Bytes.{SectorMap, IsBytes}
+use Rattle.fs_layout.specs.Bytes.{IsBytes}
 use Rattle.fs_layout.specs.Images.{Holds, inode_at}
 use Rattle.sector_disk.specs.Disk.{DiskState, HasFailed}
-use Rattle.sector_txn.specs.Sectors.{TxnState, SameStore}
+use Rattle.fs_cred.specs.declared.errno.Errno.TheVariants.{EIO}
+use Rattle.fs_cred.specs.declared.refusal.Refusal.TheVariants.{Failed}
+use Rattle.sector_txn.specs.Sectors.{TxnState}
 use Rattle.bit_alloc.specs.Inodes.{KeepsFields, KeepsAcls}
 use Rattle.block_map.specs.Contents.{ChangesContent}
 use Rattle.block_map.specs.declared.fault.MapFault.{MapFault}
 use Rattle.block_map.specs.declared.fault.MapFault.TheVariants as map
-use Rattle.fs_model.specs.declared.call.Call.{Call}
-use Rattle.fs_model.specs.declared.reply.Reply.{Reply}
-use Rattle.fs_model.specs.TreeChanges.{Change, Rewrite, changed, swept}
-use Rattle.fs_model.specs.Demands.{Demand, first_of}
+use Rattle.fs_model.specs.TreeChanges.{Rewrite, changed, swept}
 use Rattle.fs_model.specs.Nodes.{Node, bytes_in, with_bytes}
-use Rattle.fs_model.specs.Processes.{Descriptor, Process, Desks, is_open}
-use Rattle.fs_layout.specs.Maps.{with_entry}
-use Rattle.fs_model.specs.Scenes.{Scene, Effect}
+use Rattle.fs_model.specs.Processes.{Desks, is_open}
 use Rattle.fs_model.specs.Stands.{HoldsAll, placed}
 use Rattle.fs_model.specs.States.{State}
-use Rattle.fs_model.specs.Steps.{HasNewNumber, after_effect}
 use Rattle.fs_model.specs.Trees.{node_at, names_of, parent}
 use Rattle.fs_model.proofs.PlacedChanges.{rewrite_held}
 use Rattle.fs_model.proofs.StepsBodies.{bytes_may_replace}
-use Rattle.open_files.specs.Tables.{with_changed}
-use Rattle.call_parts.specs.Performing.{IsStateOf, Performs}
-use Rattle.call_parts.proofs.Calling.{state_tree, same_process}
+use Rattle.call_parts.specs.Performing.{IsStateOf}
+use Rattle.call_parts.proofs.Calling.{state_tree}
 use Rattle.call_parts.proofs.HeldChanges.{bytes_held}
+use Rattle.path_walk.specs.Answers.{FailsToRead}
 use Rattle.path_walk.proofs.HeldNodes.{held_node, bytes_say}
 use Rattle.call_parts.specs.ByteChanges.{ChangesBytes}
 
@@ -68,7 +62,11 @@ content_changes {p} {n} {taken} {more} {old} {new} {v} {w} f is c held = record 
 }
 
 -- it fails only where the disk does
-pub only_fails : (old new : DiskState) (e : MapFault) → (e ≡ map.TooBig → ⊥) → (e ≡ map.Full → ⊥) → (e ≡ map.DiskFault → HasFailed old new) → HasFailed old new
+only_fails : (old new : DiskState) (e : MapFault) → (e ≡ map.TooBig → ⊥) → (e ≡ map.Full → ⊥) → (e ≡ map.DiskFault → HasFailed old new) → HasFailed old new
 only_fails old new map.Full big full failed = absurd (full refl)
 only_fails old new map.TooBig big full failed = absurd (big refl)
 only_fails old new map.DiskFault big full failed = failed refl
+
+pub fails_alone : (old new : DiskState) (e : MapFault) → (e ≡ map.TooBig → ⊥) → (e ≡ map.Full → ⊥) → (e ≡ map.DiskFault → HasFailed old new)
+    → FailsToRead old new (Failed EIO)
+fails_alone old new e big full failed = (refl, only_fails old new e big full failed)

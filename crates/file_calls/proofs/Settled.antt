@@ -24,7 +24,7 @@ use Rattle.fs_model.specs.TreeChanges.{Same, swept}
 use Rattle.fs_model.specs.DescriptorCalls.{close_row, close_effect}
 use Rattle.fs_model.specs.Processes.{Process, Desks, is_open}
 use Rattle.fs_model.specs.Rows.{row_of}
-use Rattle.fs_model.specs.Scenes.{Row, is_bad, nothing_asked}
+use Rattle.fs_model.specs.Scenes.{Row, nothing_asked}
 use Rattle.fs_model.specs.Stands.{HoldsAll, placed}
 use Rattle.fs_model.specs.States.{State}
 use Rattle.fs_model.specs.Steps.{After, after, after_call, early_refusal, late_refusal, firm_refusal}

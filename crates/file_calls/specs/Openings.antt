@@ -1,6 +1,6 @@
 -- What an open asks, and what it leaves of the tree.
 --     open_asked        asked of the call and of its path
---     kind_asked        asked of the kind of an inode
+--     open_kind_asked        asked of the kind of an inode
 --     found_asked        asked of what stands at a number
 --     FindsIn        a state in which a process has found this
 --     IsRefusedOpen        what it asks of that refuses it
@@ -36,8 +36,8 @@ use Rattle.call_parts.specs.Performing.{IsStateOf}
 abbrev pub open_asked : Flags → ℕ → List ℕ → List Demand
 open_asked f mode path = (open_arguments f mode ++ path_checks path) ++ (refuse EISDIR (f.create && ends_with_slash path) ∷ [])
 
-abbrev pub kind_asked : Flags → Kind → List Demand
-kind_asked f kind =
+abbrev pub open_kind_asked : Flags → Kind → List Demand
+open_kind_asked f kind =
     refuse EEXIST (f.create && f.excl)
     ∷ refuse ELOOP (is_link_kind kind)
     ∷ refuse ENOTDIR (f.directory && not (is_directory_kind kind))

@@ -1,15 +1,10 @@
 //! Mode, owner and group of what a path leads to: POSIX.1-2017, chmod() and chown().
 
 ghost use Rattle.std.specs.Prelude.{◌≡◌, ◌≢◌, ◌<◌, Ok, OnOk, IfErr};
-ghost use Rattle.fs_layout.specs.Images.{inode_at};
 ghost use Rattle.fs_model.specs.Demands.{first_of};
 ghost use Rattle.posix_acl.specs.AccessList.{AccessList, with_mode_bits};
-ghost use Rattle.inode_table.specs.Acls.{HasAcl};
 ghost use Rattle.fs_model.specs.declared.call.Call.TheVariants.{Chmod, Chown};
-ghost use Rattle.sector_txn.specs.Sectors.{SameStore};
-ghost use Rattle.bit_alloc.specs.Inodes.{IsSound};
-ghost use Rattle.bit_alloc.specs.Room.{HasSpare};
-ghost use Rattle.path_walk.specs.Answers.{refused_or, Interrupts};
+ghost use Rattle.path_walk.specs.Words.{inode_at, SameStore, IsSound, HasSpare, HasAcl, refused_or, Interrupts};
 ghost use Rattle.call_parts.specs.Performing.{IsReady, Performs};
 ghost use Rattle.call_parts.specs.Asked.{owner_asked};
 ghost use Rattle.call_parts.specs.Given.{GivesOwner, SavesAcl, special_mode};

@@ -3,17 +3,13 @@
 ghost use Rattle.std.specs.Prelude.{◌≡◌, Ok, IsSome, OnOk, IfErr};
 ghost use Rattle.std.specs.Ordering.{nat_cmp};
 ghost use Rattle.fs_layout.specs.Maps.{get, without};
-ghost use Rattle.sector_txn.specs.Sectors.{SameStore};
 ghost use Rattle.bit_alloc.specs.declared.bitmap.Bitmap.TheVariants.{Inodes};
-ghost use Rattle.bit_alloc.specs.Bitmaps.{IsNumber};
-ghost use Rattle.bit_alloc.specs.Inodes.{IsSound};
-ghost use Rattle.bit_alloc.specs.Room.{HasSpare};
 ghost use Rattle.fs_model.specs.TreeChanges.{swept};
 ghost use Rattle.fs_model.specs.Processes.{Descriptor as OpenFile};
 ghost use Rattle.fs_model.specs.Stands.{HoldsAll, placed};
 ghost use Rattle.fs_model.specs.States.{State};
 ghost use Rattle.open_files.specs.Tables.{open_in};
-ghost use Rattle.path_walk.specs.Answers.{FailsToRead};
+ghost use Rattle.path_walk.specs.Words.{SameStore, IsNumber, IsSound, HasSpare, FailsToRead};
 ghost use Rattle.call_parts.specs.Performing.{IsReady, IsStateOf};
 ghost use Rattle.file_calls.specs.Exiting.{Exits, LeavesAt};
 

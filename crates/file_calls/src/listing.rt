@@ -4,11 +4,8 @@ ghost use Rattle.std.specs.Prelude.{◌≡◌, ℕ, List, [], ◌∷◌, ◌++�
 ghost use Rattle.fs_layout.specs.Directories.{HasNames};
 ghost use Rattle.fs_model.specs.declared.call.Call.TheVariants.{Readdir};
 ghost use Rattle.fs_model.specs.Listings.{pairs};
-ghost use Rattle.sector_txn.specs.Sectors.{IsUnchanged};
-ghost use Rattle.bit_alloc.specs.Inodes.{IsSound};
-ghost use Rattle.inode_table.specs.Inodes.{IsInodeOf};
 ghost use Rattle.dir_core.specs.Slots.{name_entry};
-ghost use Rattle.path_walk.specs.Answers.{Interrupts};
+ghost use Rattle.path_walk.specs.Words.{IsUnchanged, IsSound, IsInodeOf, Interrupts};
 ghost use Rattle.call_parts.specs.Performing.{IsReady, Performs};
 
 use call_parts::{OpenFor, check_is_directory, reach_open};

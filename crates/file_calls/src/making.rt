@@ -2,17 +2,11 @@
 
 ghost use Rattle.std.specs.Prelude.{◌≡◌, not, ◌||◌, Option, None, Ok, OnOk, IfOk, IfErr, MatchResult};
 ghost use Rattle.posix_acl.specs.AccessList.{AccessList};
-ghost use Rattle.fs_layout.specs.Images.{inode_at};
 ghost use Rattle.fs_model.specs.Births.{born_acl};
 ghost use Rattle.fs_model.specs.Demands.{refuse};
 ghost use Rattle.fs_model.specs.States.{State};
 ghost use Rattle.fs_model.specs.Trees.{Tree};
-ghost use Rattle.sector_txn.specs.Sectors.{SameStore, IsUnchanged};
-ghost use Rattle.bit_alloc.specs.Inodes.{IsSound};
-ghost use Rattle.bit_alloc.specs.Room.{HasSpare};
-ghost use Rattle.inode_table.specs.Acls.{HasDefaultAcl};
-ghost use Rattle.inode_table.specs.Inodes.{IsInodeOf};
-ghost use Rattle.path_walk.specs.Answers.{refused_or, FailsToRead, Interrupts};
+ghost use Rattle.path_walk.specs.Words.{inode_at, SameStore, IsUnchanged, IsSound, HasSpare, HasDefaultAcl, IsInodeOf, refused_or, FailsToRead, Interrupts};
 ghost use Rattle.call_parts.specs.Makings.{CanMake};
 ghost use Rattle.call_parts.specs.NewNodes.{MakesNode, file_made};
 ghost use Rattle.file_calls.specs.Openings.{FindsIn, IsRefusedOpen, Reaches};

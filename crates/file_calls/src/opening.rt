@@ -1,7 +1,6 @@
 //! open: POSIX.1-2017, open(), with the flags of open(2).
 
 ghost use Rattle.std.specs.Prelude.{◌≡◌, ◌<◌, ◌&&◌, ℕ, false, None, Some, Ok, OnOk, MatchResult};
-ghost use Rattle.fs_layout.specs.Images.{inode_at};
 ghost use Rattle.fs_layout.specs.Bytes.{IsBytes};
 ghost use Rattle.fs_model.specs.Demands.{refuse, first_of};
 ghost use Rattle.fs_model.specs.Parts.{ends_with_slash};
@@ -9,13 +8,10 @@ ghost use Rattle.fs_model.specs.OpenCall.{open_arguments, open_form};
 ghost use Rattle.fs_model.specs.States.{State};
 ghost use Rattle.fs_model.specs.Trees.{Tree};
 ghost use Rattle.fs_model.specs.declared.call.Call.TheVariants.{Open};
-ghost use Rattle.sector_txn.specs.Sectors.{SameStore, IsUnchanged};
-ghost use Rattle.bit_alloc.specs.Inodes.{IsSound};
-ghost use Rattle.bit_alloc.specs.Room.{HasSpare};
-ghost use Rattle.path_walk.specs.Answers.{refused_or, IsAnswered};
+ghost use Rattle.path_walk.specs.Words.{inode_at, SameStore, IsUnchanged, IsSound, HasSpare, refused_or, IsAnswered};
 ghost use Rattle.path_walk.specs.HeldTrees.{HoldsTree, IsThere};
 ghost use Rattle.call_parts.specs.Performing.{IsReady, Performs};
-ghost use Rattle.file_calls.specs.Openings.{open_asked, kind_asked, found_asked, FindsIn, IsRefusedOpen, Reaches};
+ghost use Rattle.file_calls.specs.Openings.{open_asked, open_kind_asked, found_asked, FindsIn, IsRefusedOpen, Reaches};
 
 use crate::making::open_new;
 use crate::sizes::give_size;
@@ -78,7 +74,7 @@ fn form_of(flags: Flags) -> Form
 
 // Asks whether what is there may be opened so, by its kind.
 fn check_kind(flags: Flags, kind: Kind) -> Result<(), Refusal>
-    ensures { result ≡ refused_or (first_of (kind_asked flags kind)) (Ok tt) }
+    ensures { result ≡ refused_or (first_of (open_kind_asked flags kind)) (Ok tt) }
 {
     let is_directory = kind == Kind::Directory;
     if flags.create && flags.excl {

@@ -4,13 +4,9 @@ ghost use Rattle.std.specs.Prelude.{◌≡◌, ◌<◌, ◌≤◌, nat_lt, Ok, O
 ghost use Rattle.fs_cred.specs.declared.errno.Errno.TheVariants.{EFBIG};
 ghost use Rattle.fs_layout.specs.declared.inode.TheConstants.{MAX_FILE_SIZE};
 ghost use Rattle.fs_layout.specs.Bytes.{resized};
-ghost use Rattle.fs_layout.specs.Images.{inode_at};
 ghost use Rattle.fs_model.specs.Demands.{refuse};
 ghost use Rattle.fs_model.specs.declared.call.Call.TheVariants.{Truncate, Ftruncate};
-ghost use Rattle.sector_txn.specs.Sectors.{SameStore};
-ghost use Rattle.bit_alloc.specs.Inodes.{IsSound};
-ghost use Rattle.bit_alloc.specs.Room.{HasSpare};
-ghost use Rattle.path_walk.specs.Answers.{refused_or, FailsToRead};
+ghost use Rattle.path_walk.specs.Words.{inode_at, SameStore, IsSound, HasSpare, refused_or, FailsToRead};
 ghost use Rattle.call_parts.specs.Performing.{IsReady, Performs};
 ghost use Rattle.call_parts.specs.ByteChanges.{ChangesBytes};
 

@@ -1,13 +1,11 @@
 //! Bytes through a descriptor: POSIX.1-2017, read() and lseek().
 
 ghost use Rattle.std.specs.Prelude.{◌≡◌, ℕ, List, min, take, drop, pos, ◌+ℤ◌, IfOk, IfErr};
-ghost use Rattle.fs_layout.specs.Images.{Holds};
 ghost use Rattle.fs_model.specs.declared.call.Call.TheVariants.{Read, Lseek};
 ghost use Rattle.fs_model.specs.DescriptorCalls.{seekable};
 ghost use Rattle.fs_model.specs.Limits.{move_limit};
-ghost use Rattle.sector_txn.specs.Sectors.{IsUnchanged};
 ghost use Rattle.block_map.specs.Blocks.{IsWithin};
-ghost use Rattle.path_walk.specs.Answers.{Interrupts};
+ghost use Rattle.path_walk.specs.Words.{Holds, IsUnchanged, Interrupts};
 ghost use Rattle.call_parts.specs.Performing.{IsReady, Performs};
 
 use block_map::read_at;

@@ -4,13 +4,9 @@ ghost use Rattle.std.specs.Prelude.{◌≡◌, ◌+◌, ◌-◌, ◌<◌, ◌≤
 ghost use Rattle.fs_layout.specs.declared.inode.Kind.TheVariants.{File};
 ghost use Rattle.fs_layout.specs.declared.inode.TheConstants.{MAX_FILE_SIZE};
 ghost use Rattle.fs_layout.specs.Bytes.{overwritten};
-ghost use Rattle.fs_layout.specs.Images.{inode_at, free_sectors};
 ghost use Rattle.fs_model.specs.Limits.{least_free, move_limit};
 ghost use Rattle.fs_model.specs.declared.call.Call.TheVariants.{Write};
-ghost use Rattle.sector_txn.specs.Sectors.{SameStore};
-ghost use Rattle.bit_alloc.specs.Inodes.{IsSound};
-ghost use Rattle.bit_alloc.specs.Room.{HasSpare};
-ghost use Rattle.path_walk.specs.Answers.{FailsToRead};
+ghost use Rattle.path_walk.specs.Words.{inode_at, free_sectors, SameStore, IsSound, HasSpare, FailsToRead};
 ghost use Rattle.call_parts.specs.Performing.{IsReady, Performs};
 ghost use Rattle.call_parts.specs.ByteChanges.{ChangesBytes};
 

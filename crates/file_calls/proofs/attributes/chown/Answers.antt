@@ -17,11 +17,10 @@ returns-in_err-check_owner g c =
     let r = c.from_residual-in_err-check_owner.ensures in
     let x = c.in_ok-reached.ensures in
     let mid = g.S.Sectors.state c.reach.new.s in
-    let e = c.in_err-check_owner.field-0.0 in
-    asked_refused (chown_by_path c.args.path.now c.args.owner c.args.group) x.same x.reached.walked mid c.from_residual-in_err-check_owner.result e r.0 r.1
+    asked_refused (chown_by_path c.args.path.now c.args.owner c.args.group) x.same x.reached.walked mid c.from_residual-in_err-check_owner.result c.in_err-check_owner.field-0.0 r.0 r.1
     store_same {A = ℕ} 0
     (λ s has at. owner_refused at has x.reached.inode c.args.owner c.args.group c.unwrap_or-uid.result c.unwrap_or-gid.result c.unwrap_or-uid.ensures c.unwrap_or-gid.ensures
-    c.cred-cred.result.now tt 0 e mid.disk mid.disk c.cred-cred.ensures (sym c.in_err-check_owner.ensures))
+    c.cred-cred.result.now tt 0 c.in_err-check_owner.field-0.0 mid.disk mid.disk c.cred-cred.ensures (sym c.in_err-check_owner.ensures))
 
 pub give_owner-requires : goal.give_owner-requires
 give_owner-requires g c =

@@ -32,16 +32,16 @@ list_names-requires g c =
       directory = has_names o x.ready.state at c.in_ok-descriptor.inode x.inode (a_directory c.in_ok-descriptor.inode.kind c.in_ok-check_is_directory.ensures);
     }
 
+pub returns-in_err-names-clause-same : goal.returns-in_err-names-clause-same
+returns-in_err-names-clause-same g c = unchanged_joined c.in_ok-descriptor.ensures.same c.in_err-names.ensures.same
+
 pub returns-in_err-names-clause-performs : goal.returns-in_err-names-clause-performs
 returns-in_err-names-clause-performs g c =
     let r = c.from_residual-in_err-names.ensures in
     let x = c.in_ok-descriptor.ensures in
-    let failed = c.in_err-names.ensures in
     interrupted_performs (readdir_by c.args.fd) x.same x.opened.is_open (g.S.Sectors.state c.list_names.new.s)
-    c.from_residual-in_err-names.result c.in_err-names.field-0.0 r.0 r.1 failed.same.store refl failed.fault
-
-pub returns-in_err-names-clause-same : goal.returns-in_err-names-clause-same
-returns-in_err-names-clause-same g c = unchanged_joined c.in_ok-descriptor.ensures.same c.in_err-names.ensures.same
+    c.from_residual-in_err-names.result c.in_err-names.field-0.0 r.0 r.1 c.in_err-names.ensures.same.store refl
+    c.in_err-names.ensures.fault
 
 pub returns-clause-performs : goal.returns-clause-performs
 returns-clause-performs g c =

@@ -1,10 +1,8 @@
 use Rattle.std.specs.Prelude.{None}
 use Rattle.std.proofs.Common.{refl, sym, arith, ◌∙◌}
-use Rattle.sector_disk.proofs.Moments.{failed_later}
 use Rattle.sector_txn.proofs.TransactionRuns.{store_joined}
 use Rattle.inode_table.specs.Acls.{acls_take}
-use Rattle.path_walk.specs.Answers.{FailsToRead}
-use Rattle.path_walk.proofs.Kept.{failed_with}
+use Rattle.path_walk.proofs.Kept.{failed_behind}
 use Rattle.call_parts.specs.NewNodes.{file_made}
 use Rattle.call_parts.proofs.NewFile.{dir_kept, file_fits, file_taken, takes_few}
 use Rattle.call_parts.proofs.NewNames.{room_then, was_taken}
@@ -28,17 +26,15 @@ returns-in_default-clause-err g c =
 
 pub name_inode-requires-clause-inode : goal.name_inode-requires-clause-inode
 name_inode-requires-clause-inode g c =
-    let can = c.requires.may.1 in
     let e = c.in-Ok.ensures in
-    c.requires.directory ∙ sym (dir_kept can.holds can.directory c.in-Ok.n e.free e.touches.inode)
+    c.requires.directory ∙ sym (dir_kept c.requires.may.1.holds c.requires.may.1.directory c.in-Ok.n e.free e.touches.inode)
 
 pub name_inode-requires-clause-room : goal.name_inode-requires-clause-room
 name_inode-requires-clause-room g c =
-    let mid = g.S.Sectors.state c.new_inode.new.s in
     let e = c.in-Ok.ensures in
     let few = takes_few c.args.acl.now in
     let left = e.touches.free in
-    room_then c.requires.may.1 mid.sectors c.in-Ok.n (record { node = file_made c.args.uid c.args.gid c.args.acl.now; names = 1; parent = c.args.dir })
+    room_then c.requires.may.1 (g.S.Sectors.state c.new_inode.new.s).sectors c.in-Ok.n (record { node = file_made c.args.uid c.args.gid c.args.acl.now; names = 1; parent = c.args.dir })
     (file_taken e.free e.touches e.used c.args.dir c.args.uid c.args.gid c.args.acl.now e.fields e.empty e.access e.default) (omega (arith, few, left))
 
 pub returns-in_err-name_inode-clause-store : goal.returns-in_err-name_inode-clause-store
@@ -47,12 +43,8 @@ returns-in_err-name_inode-clause-store g c = store_joined c.in-Ok.ensures.store 
 pub returns-in_err-name_inode-clause-err : goal.returns-in_err-name_inode-clause-err
 returns-in_err-name_inode-clause-err g c =
     let r = c.from_residual.ensures in
-    let old = g.S.Sectors.state c.args.s.now in
-    let mid = g.S.Sectors.state c.new_inode.new.s in
-    let new = g.S.Sectors.state c.name_inode.new.s in
-    let failed = c.in_err-name_inode.ensures.err in
-    failed_with c.from_residual.result c.in_err-name_inode.field-0.0 (FailsToRead old.disk new.disk) r.0 r.1
-    (failed.0, failed_later old.disk mid.disk new.disk c.in-Ok.ensures.cause.later failed.1)
+    failed_behind (g.S.Sectors.state c.args.s.now).disk (g.S.Sectors.state c.new_inode.new.s).disk (g.S.Sectors.state c.name_inode.new.s).disk
+    c.from_residual.result c.in_err-name_inode.field-0.0 c.in-Ok.ensures.cause.later r.0 r.1 c.in_err-name_inode.ensures.err
 
 pub returns-clause-store : goal.returns-clause-store
 returns-clause-store g c = store_joined c.in-Ok.ensures.store c.in_ok-name_inode.ensures.store

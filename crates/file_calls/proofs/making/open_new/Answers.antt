@@ -65,9 +65,8 @@ returns-in_err-acl-clause-store g c = store_joined c.in_ok-directory.ensures.sam
 pub returns-in_err-acl-clause-each : goal.returns-in_err-acl-clause-each
 returns-in_err-acl-clause-each g c = λ st i.
     let r = c.from_residual-in_err-acl.ensures in
-    let old = g.S.Sectors.state c.args.s.now in
     let new = g.S.Sectors.state c.new_acl.new.s in
-    refusing i new.sectors c.args.mode old.disk new.disk c.from_residual-in_err-acl.result c.in_err-acl.field-0.0 r.0 r.1
+    refusing i new.sectors c.args.mode (g.S.Sectors.state c.args.s.now).disk new.disk c.from_residual-in_err-acl.result c.in_err-acl.field-0.0 r.0 r.1
     (inr (interrupts_later new.disk c.in_ok-directory.ensures.same c.in_err-acl.ensures.err))
 
 pub make_file-requires : goal.make_file-requires
@@ -118,13 +117,12 @@ returns-clause-superblock g c =
 pub returns-clause-each : goal.returns-clause-each
 returns-clause-each g c = λ st i.
     let p = c.args.place in
+    let f = c.args.found.now in
     let mid = g.S.Sectors.state c.new_acl.new.s in
     let new = g.S.Sectors.state c.make_file.new.s in
     let joined = unchanged_joined c.in_ok-directory.ensures.same c.in_ok-acl.ensures.same in
     let v = c.in_ok-directory.directory in
     let a = c.in_ok-acl.acl in
-    let f = c.args.found.now in
-    let q = c.args.process.now in
     let gid = c.new_group-gid.result in
     let n = c.in_ok-n.n in
     let later = finds_kept joined i in

@@ -30,10 +30,9 @@ returns-in_err-check_kind-clause-each g c = λ t h there.
     let r = c.from_residual-in_err-check_kind.ensures in
     let old = g.S.Sectors.state c.args.s.now in
     let new = g.S.Sectors.state c.load_inode.new.s in
-    let v = inode_at c.args.place old.sectors c.args.n in
-    answered_err {A = Inode} old.disk new.disk (refused_or (first_of (found_asked c.args.flags c.args.cred.now t c.args.n c.args.step)) (Ok v))
+    answered_err {A = Inode} old.disk new.disk (refused_or (first_of (found_asked c.args.flags c.args.cred.now t c.args.n c.args.step)) (Ok (inode_at c.args.place old.sectors c.args.n)))
     c.from_residual-in_err-check_kind.result c.in_err-check_kind.field-0.0 r.0 r.1
-    (kind_refuses h c.args.n there c.args.flags c.args.cred.now c.args.step v c.in_err-check_kind.field-0.0 old.disk new.disk
+    (kind_refuses h c.args.n there c.args.flags c.args.cred.now c.args.step (inode_at c.args.place old.sectors c.args.n) c.in_err-check_kind.field-0.0 old.disk new.disk
     (kind_met c.args.flags c.in_ok-inode.ensures.found (sym c.in_err-check_kind.ensures)))
 
 pub permitted-requires-clause-sound : goal.permitted-requires-clause-sound

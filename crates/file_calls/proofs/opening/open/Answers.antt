@@ -1,10 +1,10 @@
 use Rattle.std.proofs.Common.{Ok, Err, refl, sym, subst, ◌<◌}
 use Rattle.bit_alloc.proofs.Transactions.{spare_unchanged}
 use Rattle.call_parts.proofs.ByPath.{absent_performs}
-use Rattle.call_parts.proofs.Calling.{state_tree, cwd_below, cwd_there}
+use Rattle.call_parts.proofs.Calling.{state_tree, cwd_below}
 use Rattle.path_walk.proofs.HeldInodes.{held_inodes}
 use Rattle.path_walk.proofs.Kept.{sound_kept}
-use Rattle.file_calls.proofs.OpenRow.{asked_refuses, slot_refuses, walk_refuses, demands_refuse, found_in, opens, asked_met, asked_some, short_path, walked_as}
+use Rattle.file_calls.proofs.OpenRow.{asked_refuses, slot_refuses, walk_refuses, demands_refuse, found_in, opens, asked_met, asked_some, short_path, walks_as}
 use Rattle.file_calls.proofs.opening.open.Goals as goal
 
 pub returns-in_err-process : goal.returns-in_err-process
@@ -49,8 +49,8 @@ returns-in_err-found g c =
     let e = c.in_err-found.field-0.0 in
     walk_refuses c.args.pid c.args.path.now c.args.flags c.args.mode old q there asked c.in_ok-fd.fd c.in_ok-fd.ensures.answer mid c.in_err-found.ensures.same
     c.from_residual-in_err-found.result e r.0 r.1
-    (λ s at. walked_as old.disk mid.disk s.tree q c.args.flags c.args.path.now (Err e) c.cred.result.now c.form_of-form.result c.cwd.result c.cred.ensures
-    c.form_of-form.ensures c.cwd.ensures (c.in_err-found.ensures.each s.tree (state_tree at)) (cwd_there at c.args.pid q there))
+    (walks_as c.args.place old mid c.args.procs.now c.args.pid q there c.args.flags c.args.path.now (Err e) c.cred.result.now c.form_of-form.result c.cwd.result
+    c.cred.ensures c.form_of-form.ensures c.cwd.ensures c.in_err-found.ensures.each)
 
 pub open_inode-requires : goal.open_inode-requires
 open_inode-requires g c =
@@ -67,8 +67,8 @@ open_inode-requires g c =
       found = (
         c.requires.ready.state,
         found_in c.args.pid c.args.path.now c.args.flags c.args.mode old q there asked c.in_ok-fd.fd c.in_ok-fd.ensures.answer mid same f
-            (λ s at. walked_as old.disk mid.disk s.tree q c.args.flags c.args.path.now (Ok f) c.cred.result.now c.form_of-form.result c.cwd.result c.cred.ensures
-            c.form_of-form.ensures c.cwd.ensures (c.in_ok-found.ensures.each s.tree (state_tree at)) (cwd_there at c.args.pid q there))
+            (walks_as c.args.place old mid c.args.procs.now c.args.pid q there c.args.flags c.args.path.now (Ok f) c.cred.result.now c.form_of-form.result c.cwd.result
+            c.cred.ensures c.form_of-form.ensures c.cwd.ensures c.in_ok-found.ensures.each)
             c.in_ok-check_open.ensures.bytes c.requires.ready.state c.requires.ready.is_state,
       );
     }
@@ -78,15 +78,13 @@ returns-in_err-n g c =
     let r = c.from_residual-in_err-n.ensures in
     let old = g.S.Sectors.state c.args.s.now in
     let mid = g.S.Sectors.state c.walk.new.s in
-    let new = g.S.Sectors.state c.open_inode.new.s in
-    let q = c.in_ok-process.process.now in
-    let there = c.in_ok-process.ensures.found in
     let asked = asked_met c.args.path.now c.args.flags c.args.mode (sym c.in_ok-check_open.ensures.answer) in
     let f = c.in_ok-found.found in
-    demands_refuse c.args.pid c.args.path.now c.args.flags c.args.mode old q there asked c.in_ok-fd.fd c.in_ok-fd.ensures.answer mid c.in_ok-found.ensures.same f
-    (λ s at. walked_as old.disk mid.disk s.tree q c.args.flags c.args.path.now (Ok f) c.cred.result.now c.form_of-form.result c.cwd.result c.cred.ensures
-    c.form_of-form.ensures c.cwd.ensures (c.in_ok-found.ensures.each s.tree (state_tree at)) (cwd_there at c.args.pid q there))
-    c.in_ok-check_open.ensures.bytes new c.from_residual-in_err-n.result c.in_err-n.field-0.0 r.0 r.1 c.in_err-n.ensures.store c.in_err-n.ensures.each
+    let there = c.in_ok-process.ensures.found in
+    demands_refuse c.args.pid c.args.path.now c.args.flags c.args.mode old c.in_ok-process.process.now there asked c.in_ok-fd.fd c.in_ok-fd.ensures.answer mid c.in_ok-found.ensures.same f
+    (walks_as c.args.place old mid c.args.procs.now c.args.pid c.in_ok-process.process.now there c.args.flags c.args.path.now (Ok f) c.cred.result.now c.form_of-form.result c.cwd.result
+    c.cred.ensures c.form_of-form.ensures c.cwd.ensures c.in_ok-found.ensures.each)
+    c.in_ok-check_open.ensures.bytes (g.S.Sectors.state c.open_inode.new.s) c.from_residual-in_err-n.result c.in_err-n.field-0.0 r.0 r.1 c.in_err-n.ensures.store c.in_err-n.ensures.each
 
 pub open-requires : goal.open-requires
 open-requires g c = record { unused = c.in_ok-fd.ensures.unused }
@@ -96,14 +94,13 @@ returns g c =
     let old = g.S.Sectors.state c.args.s.now in
     let mid = g.S.Sectors.state c.walk.new.s in
     let new = g.S.Sectors.state c.open_inode.new.s in
-    let q = c.in_ok-process.process.now in
     let there = c.in_ok-process.ensures.found in
     let asked = asked_met c.args.path.now c.args.flags c.args.mode (sym c.in_ok-check_open.ensures.answer) in
     let f = c.in_ok-found.found in
     let flags = c.args.flags in
     let n = c.in_ok-n.n in
-    opens c.args.pid c.args.path.now c.args.flags c.args.mode old q there asked c.in_ok-fd.fd c.in_ok-fd.ensures.answer mid c.in_ok-found.ensures.same f
-    (λ s at. walked_as old.disk mid.disk s.tree q c.args.flags c.args.path.now (Ok f) c.cred.result.now c.form_of-form.result c.cwd.result c.cred.ensures
-    c.form_of-form.ensures c.cwd.ensures (c.in_ok-found.ensures.each s.tree (state_tree at)) (cwd_there at c.args.pid q there))
+    opens c.args.pid c.args.path.now c.args.flags c.args.mode old c.in_ok-process.process.now there asked c.in_ok-fd.fd c.in_ok-fd.ensures.answer mid c.in_ok-found.ensures.same f
+    (walks_as c.args.place old mid c.args.procs.now c.args.pid c.in_ok-process.process.now there c.args.flags c.args.path.now (Ok f) c.cred.result.now c.form_of-form.result c.cwd.result
+    c.cred.ensures c.form_of-form.ensures c.cwd.ensures c.in_ok-found.ensures.each)
     c.in_ok-check_open.ensures.bytes c.in_ok-process.ensures.table new c.open.new.self c.in_ok-n.ensures.store c.in_ok-n.ensures.superblock n
     (record { number = n; offset = 0; read = flags.read; write = flags.write; append = flags.append }) c.in_ok-fd.ensures.unused refl c.open.ensures.opened c.in_ok-n.ensures.each

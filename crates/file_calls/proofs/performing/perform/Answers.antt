@@ -57,73 +57,57 @@ pub set_acl-requires : goal.set_acl-requires
 set_acl-requires g c = record { ready = c.requires.ready }
 
 pub returns-in-Open : goal.returns-in-Open
-returns-in-Open g c =
-    performed c.args.place c.args.pid c.args.call.now _ (g.S.Sectors.state c.args.s.now) (g.S.Sectors.state c.open.new.s) c.args.procs.now c.open.new.procs c.open.result c.in-Open.is c.open.ensures
+returns-in-Open g c = performed _ _ _ _ _ _ _ _ _ c.in-Open.is c.open.ensures
 
 pub returns-in-Read : goal.returns-in-Read
-returns-in-Read g c =
-    performed c.args.place c.args.pid c.args.call.now _ (g.S.Sectors.state c.args.s.now) (g.S.Sectors.state c.read.new.s) c.args.procs.now c.read.new.procs c.read.result c.in-Read.is c.read.ensures.performs
+returns-in-Read g c = performed _ _ _ _ _ _ _ _ _ c.in-Read.is c.read.ensures.performs
 
 pub returns-in-Write : goal.returns-in-Write
-returns-in-Write g c =
-    performed c.args.place c.args.pid c.args.call.now _ (g.S.Sectors.state c.args.s.now) (g.S.Sectors.state c.write.new.s) c.args.procs.now c.write.new.procs c.write.result c.in-Write.is c.write.ensures
+returns-in-Write g c = performed _ _ _ _ _ _ _ _ _ c.in-Write.is c.write.ensures
 
 pub returns-in-Close : goal.returns-in-Close
-returns-in-Close g c =
-    performed c.args.place c.args.pid c.args.call.now _ (g.S.Sectors.state c.args.s.now) (g.S.Sectors.state c.close.new.s) c.args.procs.now c.close.new.procs c.close.result c.in-Close.is c.close.ensures
+returns-in-Close g c = performed _ _ _ _ _ _ _ _ _ c.in-Close.is c.close.ensures
 
 pub returns-in-Fstat : goal.returns-in-Fstat
-returns-in-Fstat g c =
-    performed c.args.place c.args.pid c.args.call.now _ (g.S.Sectors.state c.args.s.now) (g.S.Sectors.state c.fstat.new.s) c.args.procs.now c.args.procs.now c.fstat.result c.in-Fstat.is c.fstat.ensures.performs
+returns-in-Fstat g c = performed _ _ _ _ _ _ _ _ _ c.in-Fstat.is c.fstat.ensures.performs
 
 pub returns-in-Ftruncate : goal.returns-in-Ftruncate
-returns-in-Ftruncate g c =
-    performed c.args.place c.args.pid c.args.call.now _ (g.S.Sectors.state c.args.s.now) (g.S.Sectors.state c.ftruncate.new.s) c.args.procs.now c.args.procs.now c.ftruncate.result c.in-Ftruncate.is c.ftruncate.ensures
+returns-in-Ftruncate g c = performed _ _ _ _ _ _ _ _ _ c.in-Ftruncate.is c.ftruncate.ensures
 
 pub returns-in-Readdir : goal.returns-in-Readdir
-returns-in-Readdir g c =
-    performed c.args.place c.args.pid c.args.call.now _ (g.S.Sectors.state c.args.s.now) (g.S.Sectors.state c.readdir.new.s) c.args.procs.now c.args.procs.now c.readdir.result c.in-Readdir.is c.readdir.ensures.performs
+returns-in-Readdir g c = performed _ _ _ _ _ _ _ _ _ c.in-Readdir.is c.readdir.ensures.performs
 
 pub returns-in-Stat : goal.returns-in-Stat
-returns-in-Stat g c =
-    performed c.args.place c.args.pid c.args.call.now _ (g.S.Sectors.state c.args.s.now) (g.S.Sectors.state c.stat.new.s) c.args.procs.now c.args.procs.now c.stat.result c.in-Stat.is c.stat.ensures.performs
+returns-in-Stat g c = performed _ _ _ _ _ _ _ _ _ c.in-Stat.is c.stat.ensures.performs
 
 pub returns-in-Lstat : goal.returns-in-Lstat
-returns-in-Lstat g c =
-    performed c.args.place c.args.pid c.args.call.now _ (g.S.Sectors.state c.args.s.now) (g.S.Sectors.state c.lstat.new.s) c.args.procs.now c.args.procs.now c.lstat.result c.in-Lstat.is c.lstat.ensures.performs
+returns-in-Lstat g c = performed _ _ _ _ _ _ _ _ _ c.in-Lstat.is c.lstat.ensures.performs
 
 pub returns-in-Access : goal.returns-in-Access
-returns-in-Access g c =
-    performed c.args.place c.args.pid c.args.call.now _ (g.S.Sectors.state c.args.s.now) (g.S.Sectors.state c.access.new.s) c.args.procs.now c.args.procs.now c.access.result c.in-Access.is c.access.ensures.performs
+returns-in-Access g c = performed _ _ _ _ _ _ _ _ _ c.in-Access.is c.access.ensures.performs
 
 pub returns-in-Truncate : goal.returns-in-Truncate
-returns-in-Truncate g c =
-    performed c.args.place c.args.pid c.args.call.now _ (g.S.Sectors.state c.args.s.now) (g.S.Sectors.state c.truncate.new.s) c.args.procs.now c.args.procs.now c.truncate.result c.in-Truncate.is c.truncate.ensures
+returns-in-Truncate g c = performed _ _ _ _ _ _ _ _ _ c.in-Truncate.is c.truncate.ensures
 
 pub returns-in-Chmod : goal.returns-in-Chmod
-returns-in-Chmod g c =
-    performed c.args.place c.args.pid c.args.call.now _ (g.S.Sectors.state c.args.s.now) (g.S.Sectors.state c.chmod.new.s) c.args.procs.now c.args.procs.now c.chmod.result c.in-Chmod.is c.chmod.ensures
+returns-in-Chmod g c = performed _ _ _ _ _ _ _ _ _ c.in-Chmod.is c.chmod.ensures
 
 pub returns-in-Chown : goal.returns-in-Chown
-returns-in-Chown g c =
-    performed c.args.place c.args.pid c.args.call.now _ (g.S.Sectors.state c.args.s.now) (g.S.Sectors.state c.chown.new.s) c.args.procs.now c.args.procs.now c.chown.result c.in-Chown.is c.chown.ensures
+returns-in-Chown g c = performed _ _ _ _ _ _ _ _ _ c.in-Chown.is c.chown.ensures
 
 pub returns-in-GetAcl : goal.returns-in-GetAcl
-returns-in-GetAcl g c =
-    performed c.args.place c.args.pid c.args.call.now _ (g.S.Sectors.state c.args.s.now) (g.S.Sectors.state c.get_acl.new.s) c.args.procs.now c.args.procs.now c.get_acl.result c.in-GetAcl.is c.get_acl.ensures.performs
+returns-in-GetAcl g c = performed _ _ _ _ _ _ _ _ _ c.in-GetAcl.is c.get_acl.ensures.performs
 
 pub returns-in-Lseek : goal.returns-in-Lseek
 returns-in-Lseek g c =
     let fits : SFits w64 c.in-Lseek.by = search rules in
-    performed c.args.place c.args.pid c.args.call.now _ (g.S.Sectors.state c.args.s.now) (g.S.Sectors.state c.lseek.new.s) c.args.procs.now c.lseek.new.procs c.lseek.result
-    (c.in-Lseek.is ∙ ap (λ (by : ℤ). Lseek c.in-Lseek.fd c.in-Lseek.whence by) (sym (to_z-of_z w64 c.in-Lseek.by fits))) c.lseek.ensures.performs
+    performed _ _ _ _ _ _ _ _ _ (c.in-Lseek.is ∙ ap (λ (by : ℤ). Lseek c.in-Lseek.fd c.in-Lseek.whence by) (sym (to_z-of_z w64 c.in-Lseek.by fits))) c.lseek.ensures.performs
 
 pub returns-in-SetAcl : goal.returns-in-SetAcl
 returns-in-SetAcl g c =
-    performed c.args.place c.args.pid c.args.call.now _ (g.S.Sectors.state c.args.s.now) (g.S.Sectors.state c.set_acl.new.s) c.args.procs.now c.args.procs.now c.set_acl.result
-    (c.in-SetAcl.is ∙ ap (λ (acl : Option AccessList). SetAcl c.in-SetAcl.path c.in-SetAcl.which acl) (sym c.as_ref.ensures.value)) c.set_acl.ensures
+    performed _ _ _ _ _ _ _ _ _ (c.in-SetAcl.is ∙ ap (λ (acl : Option AccessList). SetAcl c.in-SetAcl.path c.in-SetAcl.which acl) (sym c.as_ref.ensures.value)) c.set_acl.ensures
 
 pub returns-in-Umask : goal.returns-in-Umask
 returns-in-Umask g c =
-    performed c.args.place c.args.pid c.args.call.now _ (g.S.Sectors.state c.args.s.now) (g.S.Sectors.state c.args.s.now) c.args.procs.now c.umask.new.procs c.umask.result c.in-Umask.is
+    performed c.args.place c.args.pid c.args.call.now _ _ _ c.args.procs.now c.umask.new.procs c.umask.result c.in-Umask.is
     (umask_performs c.umask.result unchanged_nothing c.umask.ensures)

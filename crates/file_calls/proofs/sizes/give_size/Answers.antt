@@ -1,8 +1,8 @@
-use Rattle.std.proofs.Common.{Err, refl, ap, sym, subst, arith}
+use Rattle.std.proofs.Common.{Err, ap, sym, subst, arith}
 use Rattle.fs_layout.specs.Bytes.{resized}
 use Rattle.fs_layout.proofs.Versions.{max_file_size_is}
 use Rattle.block_map.specs.Contents.{AllowsSize}
-use Rattle.file_calls.proofs.Rewritten.{content_changes, only_fails}
+use Rattle.file_calls.proofs.Rewritten.{content_changes, fails_alone}
 use Rattle.file_calls.proofs.sizes.give_size.Goals as goal
 
 pub set_size-requires-clause-kind : goal.set_size-requires-clause-kind
@@ -14,10 +14,8 @@ returns-in-Ok-clause-change g c =
 
 pub returns-in-Err-clause-fault : goal.returns-in-Err-clause-fault
 returns-in-Err-clause-fault g c =
-    let e = c.in-Err.ensures in (
-      refl,
-      only_fails (g.S.Sectors.state c.args.s.now).disk (g.S.Sectors.state c.set_size.new.s).disk c.in-Err.field-0
-          (λ big. let far = e.too_big.0 (ap (λ x. Err x) big) in let fits = c.requires.fits in let limit = max_file_size_is c.args.place.version in omega (arith, far, fits, limit))
-          (λ full. e.never_full (ap (λ x. Err x) full))
-          e.cause.failed,
-    )
+    let e = c.in-Err.ensures in
+    fails_alone (g.S.Sectors.state c.args.s.now).disk (g.S.Sectors.state c.set_size.new.s).disk c.in-Err.field-0
+    (λ big. let far = e.too_big.0 (ap (λ x. Err x) big) in let fits = c.requires.fits in let limit = max_file_size_is c.args.place.version in omega (arith, far, fits, limit))
+    (λ full. e.never_full (ap (λ x. Err x) full))
+    e.cause.failed

@@ -59,16 +59,15 @@ returns-in_err-check_size g c =
     let x = c.in_ok-reached.ensures in
     let i = x.reached.inode in
     let file = (met_ok (refuse EISDIR (is_directory_kind c.in_ok-reached.reached.inode.kind)) tt tt (sym c.in_ok-check_no_directory.ensures)).0 in
-    let r = c.from_residual-in_err-check_size.ensures in
     let mid = g.S.Sectors.state c.reach.new.s in
     let new = g.S.Sectors.state c.permitted.new.s in
-    let e = c.in_err-check_size.field-0.0 in
-    asked_refused (truncate_by_path c.args.path.now c.args.size) x.same x.reached.walked new c.from_residual-in_err-check_size.result e r.0 r.1 c.in_ok-permitted.ensures.same.store {A = ℕ} 0
+    asked_refused (truncate_by_path c.args.path.now c.args.size) x.same x.reached.walked new c.from_residual-in_err-check_size.result
+    c.in_err-check_size.field-0.0 c.from_residual-in_err-check_size.ensures.0 c.from_residual-in_err-check_size.ensures.1 c.in_ok-permitted.ensures.same.store {A = ℕ} 0
     (λ s has at.
     let a = followed_access c.in_ok-reached.reached.number at has i.some in
     let granted = permission_granted {mid = mid} {new = mid} at has i unchanged_nothing c.cred-cred.result.now c.cred-cred.ensures (perms false true false) c.in_ok-permitted.field-0
     (c.in_ok-permitted.ensures.each a.access (access_held {mid = mid} {new = mid} at has i unchanged_nothing)) in
-    size_refused at has i.some i.number i.inode c.args.size i.met file granted.0 tt 0 e mid.disk new.disk (sym c.in_err-check_size.ensures))
+    size_refused at has i.some i.number i.inode c.args.size i.met file granted.0 tt 0 c.in_err-check_size.field-0.0 mid.disk new.disk (sym c.in_err-check_size.ensures))
 
 pub give_size-requires : goal.give_size-requires
 give_size-requires g c =

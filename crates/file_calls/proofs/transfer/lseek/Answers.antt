@@ -42,10 +42,9 @@ seek-requires g c = record { «open» = opened_ok c.in_ok-descriptor.ensures.ope
 pub returns-clause-performs : goal.returns-clause-performs
 returns-clause-performs g c =
     let x = reached_as c.descriptor.view_is c.in_ok-descriptor.ensures.opened in
-    let o = x.is_open.opened in
     let v = c.in_ok-descriptor.inode in
     let to = c.in-Some.offset in
     changed_one (lseek_by c.args.fd c.args.whence c.args.by) c.in_ok-descriptor.ensures.same x.is_open (g.S.Sectors.state c.reach_open.new.s)
-    c.seek.new.self unchanged_nothing (λ p. with_offset p c.args.fd to) (At to) c.seek.ensures.moved (offset_stays_open o x.table to)
-    (λ s at. lseek_told o c.args.whence c.args.by s at v x.inode (no_directory v.kind c.in_ok-check_no_directory.ensures)
+    c.seek.new.self unchanged_nothing (λ p. with_offset p c.args.fd to) (At to) c.seek.ensures.moved (offset_stays_open x.is_open.opened x.table to)
+    (λ s at. lseek_told x.is_open.opened c.args.whence c.args.by s at v x.inode (no_directory v.kind c.in_ok-check_no_directory.ensures)
     c.base.result c.base.ensures.start c.base.ensures.present c.base.ensures.end _ (to_z-of_z w64 c.args.by c.ranges.by) to c.in-Some.ensures)

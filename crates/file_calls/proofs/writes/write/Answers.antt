@@ -1,4 +1,4 @@
-use Rattle.std.proofs.Common.{◌≡◌, ◌+◌, ◌-◌, ◌<◌, ◌≤◌, ℕ, List, Err, Some, refl, sym, ap, subst, arith, ◌∙◌, inl, inr, length, take}
+use Rattle.std.proofs.Common.{◌≡◌, ◌+◌, ◌-◌, ◌≤◌, ℕ, List, Err, Some, refl, sym, ap, subst, arith, ◌∙◌, inl, inr, length, take}
 use Rattle.std.specs.Prelude.{min, if◌then◌else◌}
 use Rattle.std.proofs.lemmas.List.{length-take}
 use Rattle.fs_cred.specs.declared.errno.Errno.TheVariants.{EFBIG}
@@ -14,8 +14,7 @@ use Rattle.call_parts.specs.ByteChanges.{ChangesBytes}
 use Rattle.fs_model.specs.declared.reply.Reply.TheVariants.{Wrote}
 use Rattle.fs_model.specs.Processes.{Descriptor, with_offset}
 use Rattle.block_map.proofs.Runs.{unchanged_joined}
-use Rattle.path_walk.proofs.Kept.{sound_kept, kept, kept_back}
-use Rattle.call_parts.proofs.Calling.{state_kept}
+use Rattle.path_walk.proofs.Kept.{sound_kept, kept}
 use Rattle.call_parts.proofs.ByDescriptor.{open_as, opened_ok, open_below, closed_refused, unread_performs, asked_performs, told, changed_tree, still_now, offset_stays_open}
 use Rattle.file_calls.proofs.Writing.{open_to_write, is_enough, write_by, asks_nothing, empty_if, some_if, file_kind, too_far, too_full, writes}
 use Rattle.file_calls.proofs.writes.write.Goals as goal

@@ -1,9 +1,9 @@
-use Rattle.std.proofs.Common.{◌+◌, Err, refl, ap, sym, subst, arith, length, max}
+use Rattle.std.proofs.Common.{◌+◌, Err, ap, sym, subst, arith, length, max}
 use Rattle.fs_layout.specs.Bytes.{overwritten}
 use Rattle.fs_layout.proofs.Versions.{max_file_size_is}
 use Rattle.block_map.specs.Contents.{AllowsSize}
 use Rattle.block_map.proofs.Wrote.{put_few}
-use Rattle.file_calls.proofs.Rewritten.{content_changes, only_fails}
+use Rattle.file_calls.proofs.Rewritten.{content_changes, fails_alone}
 use Rattle.file_calls.proofs.writes.write_bytes.Goals as goal
 
 pub write_at-requires-clause-size : goal.write_at-requires-clause-size
@@ -22,10 +22,8 @@ returns-in-Ok-clause-change g c =
 
 pub returns-in-Err-clause-err : goal.returns-in-Err-clause-err
 returns-in-Err-clause-err g c =
-    let e = c.in-Err.ensures in (
-      refl,
-      only_fails (g.S.Sectors.state c.args.s.now).disk (g.S.Sectors.state c.write_at.new.s).disk c.in-Err.field-0
-          (λ big. let far = e.too_big.0 (ap (λ x. Err x) big) in let fits = c.requires.fits in let limit = max_file_size_is c.args.place.version in omega (arith, far, fits, limit))
-          (λ full. let few = e.full (ap (λ x. Err x) full) in let less = few.0 in let ten = few.1 in let space = c.requires.space in omega (arith, less, ten, space))
-          e.cause.failed,
-    )
+    let e = c.in-Err.ensures in
+    fails_alone (g.S.Sectors.state c.args.s.now).disk (g.S.Sectors.state c.write_at.new.s).disk c.in-Err.field-0
+    (λ big. let far = e.too_big.0 (ap (λ x. Err x) big) in let fits = c.requires.fits in let limit = max_file_size_is c.args.place.version in omega (arith, far, fits, limit))
+    (λ full. let few = e.full (ap (λ x. Err x) full) in let less = few.0 in let ten = few.1 in let space = c.requires.space in omega (arith, less, ten, space))
+    e.cause.failed
