@@ -27,6 +27,7 @@ use Rattle.fs_layout.proofs.Versions.{max_file_size_is}
 use Rattle.fs_layout.proofs.SlotNames.{names-IsMap, length-names, named_by}
 use Rattle.fs_model.specs.Summaries.{is_used}
 use Rattle.fs_model.proofs.KindFields.{kind_field, inode_fits_at}
+use Rattle.fs_model.proofs.Marks.{marks}
 use Rattle.fs_layout.proofs.ImageSlots.{length-slots_of, slot_there, HasWholeBlocks}
 use Rattle.fs_model.proofs.StoredTrees.{StoresAt, Stores, unnamed, names_there, names_are_slots, used_is, directory_there, directory_stored, below_if, stored_at, directory_slots, no_namings, is_directory_kind-true}
 use Rattle.fs_model.proofs.BuiltNodes.{file_node, link_node, directory_node, whole_blocks, file_fits, directory_fits, link_fits}
@@ -297,15 +298,6 @@ module _ (p : Place) (m : SectorMap) (place : IsPlace p) (sectors : (s : ℕ) �
     block_bits = λ s lt. rules BlockBits s lt;
   }
 
-  marks : (n : ℕ) (b c : Bool) → nat_le p.inodes n ≡ b → (n ≡ 1 → c ≡ true) → (nat_lt n 2 || b || c) ≡ (nat_eq n 0 || b || c)
-  marks zero b c e top = refl
-  marks (suc zero) true c e top = refl
-  marks (suc zero) false c e top = sym (top refl)
-  marks (suc (suc n)) b c e top =
-      let not_low : nat_lt (suc (suc n)) 2 ≡ false = grind (arith, nat_tests) in
-      let not_none : nat_eq (suc (suc n)) 0 ≡ false = grind (arith, nat_tests) in
-      ap (λ a. a || b || c) not_low ∙ sym (ap (λ a. a || b || c) not_none)
-
   placed_some : (n : ℕ) → is_some (placed tree n) ≡ is_some (node_at tree n)
   placed_some n = go (node_at tree n)
     where
@@ -322,7 +314,7 @@ module _ (p : Place) (m : SectorMap) (place : IsPlace p) (sectors : (s : ℕ) �
         let used : is_some (placed tree n) ≡ not (nat_eq (u16_of (stored p m n) 0) 0) =
         placed_some n ∙ used_is p m tree stores n lt ∙ sym (kind_field (stored p m n) (inode_at p m n) (good n lt).is) in
         rules InodeBits n small
-        ∙ marks n (nat_le p.inodes n) (not (nat_eq (u16_of (stored p m n) 0) 0)) refl
+        ∙ marks n (nat_le p.inodes n) (not (nat_eq (u16_of (stored p m n) 0) 0))
         (λ e. kind_field (stored p m n) (inode_at p m n) (good n lt).is ∙ ap is_used ((good n lt).top e))
         ∙ ap (λ c. nat_eq n 0 || nat_le p.inodes n || c) (sym used)
     | inr ge ↦

@@ -1,17 +1,17 @@
 -- What a trail finds is in the tree.
-use Rattle.std.specs.Prelude.{◌≡◌, ◌≢◌, ℕ, zero, suc, nat_lt, Bool, true, false, not, ◌&&◌, ◌||◌, cond, List, [], ◌∷◌, ◌++◌, length, Option, None, Some, is_some, IsTrue}
+use Rattle.std.specs.Prelude.{◌≡◌, ◌≢◌, ℕ, zero, suc, nat_lt, Bool, true, false, not, ◌&&◌, ◌||◌, cond, List, [], ◌∷◌, ◌++◌, Option, None, Some, is_some, IsTrue}
 use Rattle.std.proofs.Common.{refl, ap, ◌∙◌, subst, inl, inr}
 use Rattle.std.proofs.lemmas.Bool.{cases_eq}
 use Rattle.std.specs.Ordering.{nat_cmp}
-use Rattle.fs_cred.specs.declared.errno.Errno.TheVariants.{ENOTDIR, ENAMETOOLONG}
-use Rattle.fs_model.specs.Limits.{root, links_limit, name_limit}
+use Rattle.fs_model.specs.Limits.{root, links_limit}
 use Rattle.fs_layout.specs.Maps.{get, name_cmp, IsMap}
-use Rattle.fs_model.specs.Nodes.{Node, Body, File, Dir, Link, is_directory, names_in}
+use Rattle.fs_model.specs.Nodes.{Node, Body, File, Dir, Link, names_in}
 use Rattle.fs_model.specs.Trees.{Tree, Room, node_at, names_for, parent, IsTree, IsBody}
 use Rattle.fs_model.specs.Parts.{Parts, parts_of, start_of, is_empty}
 use Rattle.fs_model.specs.declared.walk.Form.{Form}
 use Rattle.fs_model.specs.Trails.{Trail, Outcome, Faulty, Absent, Reaches, Through, GoesOn, reached, reached_body, named_inode, arrival, looked_up, is_dot, is_dot_dot, onward, through_if, lookups_from, trail_with, trail_of, follows_last}
 use Rattle.fs_layout.proofs.FirstEntries.{at_same, at_other, right}
+use Rattle.fs_model.proofs.LookedUp.{looked_up_is}
 
 abbrev pub IsThere : Tree → ℕ → Type 0
 IsThere t n = IsTrue (is_some (node_at t n))
@@ -85,13 +85,8 @@ module _ (room : Room) (t : Tree) (is : IsTree room t) where
   arrival_reached is_last follow (Some n) h = node_reached (follow || not is_last) n (node_at t n) (h n refl)
 
   pub lookup_reached : (is_last follow : Bool) (dir : ℕ) (name : List ℕ) (o : Option Node) → node_at t dir ≡ o → Reached (looked_up t is_last follow dir name o)
-  lookup_reached is_last follow dir name None at = tt
-  lookup_reached is_last follow dir name (Some node) at = go (is_directory node.body) (nat_lt name_limit (length name))
-    where
-      go : (directory long : Bool) → Reached (cond (not directory) (Faulty ENOTDIR) (cond long (Faulty ENAMETOOLONG) (arrival t is_last follow (named_inode t dir (names_in node.body) name))))
-      go false long = tt
-      go true true = tt
-      go true false = arrival_reached is_last follow (named_inode t dir (names_in node.body) name) (λ n e. number_there dir node name n at e)
+  lookup_reached is_last follow dir name o at = looked_up_is Reached t is_last follow dir name o tt tt (λ node e.
+      arrival_reached is_last follow (named_inode t dir (names_in node.body) name) (λ n f. number_there dir node name n (at ∙ e) f))
 
   -- what the trail found is there
   abbrev pub FindsThere : Trail → Type 0

@@ -1,13 +1,13 @@
 -- What a trail finds that follows a link at its end is no link.
-use Rattle.std.specs.Prelude.{◌≡◌, ℕ, zero, suc, nat_lt, Bool, true, false, not, ◌&&◌, ◌||◌, cond, List, [], ◌∷◌, ◌++◌, length, Option, None, Some}
+use Rattle.std.specs.Prelude.{◌≡◌, ℕ, zero, suc, Bool, true, false, ◌&&◌, ◌||◌, cond, List, [], ◌∷◌, ◌++◌, Option, None, Some}
 use Rattle.std.proofs.Common.{refl, sym, ap, ◌∙◌, subst}
-use Rattle.fs_cred.specs.declared.errno.Errno.TheVariants.{ENOTDIR, ENAMETOOLONG}
-use Rattle.fs_model.specs.Limits.{root, links_limit, name_limit}
+use Rattle.fs_model.specs.Limits.{root, links_limit}
 use Rattle.fs_model.specs.Nodes.{Node, Body, File, Dir, Link, is_directory, is_link, names_in}
 use Rattle.fs_model.specs.Trees.{Tree, Room, node_at, IsTree, IsDirectoryAt}
 use Rattle.fs_model.specs.Parts.{Parts, parts_of, start_of, is_empty}
 use Rattle.fs_model.specs.declared.walk.Form.TheVariants.{Follow}
 use Rattle.fs_model.specs.Trails.{Trail, Outcome, Faulty, Absent, Reaches, Through, GoesOn, reached, reached_body, named_inode, arrival, looked_up, onward, through_if, lookups_from, trail_with, trail_of}
+use Rattle.fs_model.proofs.LookedUp.{looked_up_is}
 
 -- no link stands at n
 abbrev pub NoLink : Tree → ℕ → Type 0
@@ -55,13 +55,8 @@ module _ (room : Room) (t : Tree) (is : IsTree room t) where
   arrival_reached is_last (Some n) = node_reached n (node_at t n) refl
 
   lookup_reached : (is_last : Bool) (dir : ℕ) (name : List ℕ) (o : Option Node) → Reached (looked_up t is_last true dir name o)
-  lookup_reached is_last dir name None = tt
-  lookup_reached is_last dir name (Some node) = go (is_directory node.body) (nat_lt name_limit (length name))
-    where
-      go : (directory long : Bool) → Reached (cond (not directory) (Faulty ENOTDIR) (cond long (Faulty ENAMETOOLONG) (arrival t is_last true (named_inode t dir (names_in node.body) name))))
-      go false long = tt
-      go true true = tt
-      go true false = arrival_reached is_last (named_inode t dir (names_in node.body) name)
+  lookup_reached is_last dir name o =
+      looked_up_is Reached t is_last true dir name o tt tt (λ node e. arrival_reached is_last (named_inode t dir (names_in node.body) name))
 
   abbrev FindsNone : Trail → Type 0
   FindsNone trail = (n : ℕ) → trail.found ≡ Some n → NoLink t n

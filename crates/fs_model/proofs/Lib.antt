@@ -11,10 +11,13 @@ pub mod KindFields
 pub mod KindWords
 pub mod Least
 pub mod ListedMaps
+pub mod Marks
+pub mod LookedUp
 pub mod Machine
 pub mod Moves
 pub mod NewDiskStands
 pub mod NewImages
+pub mod NodesHeld
 pub mod NoIoErrors
 pub mod NoIoReplies
 pub mod OneNode

@@ -29,6 +29,7 @@ use Rattle.fs_layout.specs.Directories.{names_of_slots, FitsSlot}
 use Rattle.fs_model.specs.StoredNodes.{Placed, HoldsNode}
 use Rattle.fs_model.specs.Stands.{HoldsPlaced, HoldsAll, placed, room_of, Stands}
 use Rattle.fs_model.specs.NewDisk.{empty_tree, root_inode, IsNewImage}
+use Rattle.fs_model.proofs.NodesHeld.{node_held}
 use Rattle.fs_layout.proofs.FirstEntries.{apart, tied}
 
 -- ---- the root's inode
@@ -130,28 +131,21 @@ module _ (p : Place) (image : SectorMap) (h : IsNewImage p image) where
 
   root_held : HoldsNode image root_inode (record { node = root_node; names = 0; parent = root })
   unfolding names_of_slots
-  root_held = record {
-    owner = refl;
-    group = refl;
-    mode = refl;
-    names = refl;
-    parent = refl;
-    body = record {
-      names = record {
-        kind = refl;
-        slots = [];
-        are = refl;
-        apart = λ i j d lt within. absurd (omega (arith, within));
-        each = All-nil FitsSlot;
-        holds = holds_nothing image root_inode root_has_no_sector refl;
-        whole = λ k lt none. absurd (omega (arith, lt));
-      };
-      acl = minimal_is_acl;
-      default = tt;
-      has_acl = refl;
-      has_default = refl;
+  root_held = node_held image root_inode _ refl refl refl refl refl (record {
+    names = record {
+      kind = refl;
+      slots = [];
+      are = refl;
+      apart = λ i j d lt within. absurd (omega (arith, within));
+      each = All-nil FitsSlot;
+      holds = holds_nothing image root_inode root_has_no_sector refl;
+      whole = λ k lt none. absurd (omega (arith, lt));
     };
-  }
+    acl = minimal_is_acl;
+    default = tt;
+    has_acl = refl;
+    has_default = refl;
+  })
 
   marked : (n : ℕ) → nat_eq n root ≡ is_some (placed empty_tree n)
   marked n = elim (cases_eq n root) [

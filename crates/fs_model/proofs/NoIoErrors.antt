@@ -1,5 +1,5 @@
 -- No demand refuses with EIO: of a walk, of a call, or of another event.
-use Rattle.std.specs.Prelude.{◌≡◌, ◌≢◌, ℕ, ◌+◌, zero, suc, ◌-◌, nat_lt, nat_le, Bool, true, false, not, ◌&&◌, ◌||◌, cond, List, [], ◌∷◌, ◌++◌, length, Option, None, Some, Ok, Err}
+use Rattle.std.specs.Prelude.{◌≡◌, ◌≢◌, ℕ, ◌+◌, zero, suc, ◌-◌, nat_le, Bool, true, false, not, ◌&&◌, ◌||◌, cond, List, [], ◌∷◌, ◌++◌, Option, None, Some, Ok, Err}
 use Rattle.std.proofs.Common.{refl, ap}
 use Rattle.std.specs.List.{flat_map}
 use Rattle.std.specs.Ordering.{nat_cmp}
@@ -23,9 +23,9 @@ use Rattle.fs_model.specs.declared.call.Call.{Call}
 use Rattle.fs_model.specs.declared.call.Call.TheVariants.{Open, Read, Write, Lseek, Close, Fstat, Stat, Lstat, Access, Truncate, Ftruncate, Chmod, Chown, GetAcl, SetAcl, Readdir, Mkdir, Rmdir, Link as LinkCall, Symlink, Readlink, Unlink, Rename, Chdir, Umask}
 use Rattle.fs_model.specs.declared.event.Event.{Event}
 use Rattle.fs_model.specs.declared.event.Event.TheVariants.{Spawn, Exit, Call as Calls, Fsync, Sync, Statfs, Arm, Restart}
-use Rattle.fs_model.specs.Limits.{name_limit, links_limit}
+use Rattle.fs_model.specs.Limits.{links_limit}
 use Rattle.fs_layout.specs.Maps.{get}
-use Rattle.fs_model.specs.Nodes.{Node, Body, File, Dir, Link, is_directory, names_in}
+use Rattle.fs_model.specs.Nodes.{Node, Body, File, Dir, Link, names_in}
 use Rattle.fs_model.specs.Trees.{Tree, node_at}
 use Rattle.fs_model.specs.Processes.{Process}
 use Rattle.fs_model.specs.States.{State}
@@ -41,6 +41,7 @@ use Rattle.fs_model.specs.NameCalls.{mkdir_demands, mkdir_effect, rmdir_demands,
 use Rattle.fs_model.specs.RenameCall.{is_same, rename_name_demands, rename_permissions, rename_kinds, rename_directories, rename_moved, rename_space, rename_demands, rename_effect}
 use Rattle.fs_model.specs.Rows.{row_of}
 use Rattle.fs_model.specs.Steps.{scene_of, walk_refusals, early_refusal, late_refusal, demand_of, firm_refusal, other_refusal}
+use Rattle.fs_model.proofs.LookedUp.{looked_up_is}
 
 -- ---- one demand, and several
 
@@ -143,13 +144,8 @@ module _ (t : Tree) (follow : Bool) where
   arrival_spares is_last (Some n) = node_spares (follow || not is_last) n (node_at t n)
 
   lookup_spares : (is_last : Bool) (dir : ℕ) (name : List ℕ) (o : Option Node) → OutcomeSpares (looked_up t is_last follow dir name o)
-  lookup_spares is_last dir name None = refl
-  lookup_spares is_last dir name (Some node) = go (is_directory node.body) (nat_lt name_limit (length name))
-    where
-      go : (directory long : Bool) → OutcomeSpares (cond (not directory) (Faulty ENOTDIR) (cond long (Faulty ENAMETOOLONG) (arrival t is_last follow (named_inode t dir (names_in node.body) name))))
-      go false long = refl
-      go true true = refl
-      go true false = arrival_spares is_last (named_inode t dir (names_in node.body) name)
+  lookup_spares is_last dir name o =
+      looked_up_is OutcomeSpares t is_last follow dir name o refl refl (λ node e. arrival_spares is_last (named_inode t dir (names_in node.body) name))
 
   abbrev GoesSpared : Option GoesOn → Type 0
   GoesSpared None = Unit {0}

@@ -16,25 +16,24 @@ directory_same : (x y : Directory) → x.names ≡ y.names → x.default ≡ y.d
 directory_same x y e f g h =
     let whole : record x { sticky = x.sticky } ≡ record y { sticky = y.sticky } = rw (e, f, g, h) refl in whole
 
+-- a bit above a number is told apart from it
+one_bit : (m n k : ℕ) (s t : Bool) → m < k → n < k → m + cond s k 0 ≡ n + cond t k 0 → (m ≡ n) × (s ≡ t)
+one_bit m n k true true a b e = (omega (arith, e), refl)
+one_bit m n k false false a b e = (omega (arith, e), refl)
+one_bit m n k true false a b e = absurd (omega (arith, a, b, e))
+one_bit m n k false true a b e = absurd (omega (arith, a, b, e))
+
+below_bit : (m : ℕ) (s : Bool) → m < S_ISVTX → m + cond s S_ISVTX 0 < S_ISGID
+below_bit m true a = omega (arith, a)
+below_bit m false a = omega (arith, a)
+
 -- the bits of a mode are told apart
-bits_same : (m n : ℕ) (s g t h : Bool) → m < 512 → n < 512 → m + cond s S_ISVTX 0 + cond g S_ISGID 0 ≡ n + cond t S_ISVTX 0 + cond h S_ISGID 0
+bits_same : (m n : ℕ) (s g t h : Bool) → m < S_ISVTX → n < S_ISVTX → m + cond s S_ISVTX 0 + cond g S_ISGID 0 ≡ n + cond t S_ISVTX 0 + cond h S_ISGID 0
     → (m ≡ n) × (s ≡ t) × (g ≡ h)
-bits_same m n true true true true a b e = (omega (arith, e), refl, refl)
-bits_same m n true false true false a b e = (omega (arith, e), refl, refl)
-bits_same m n false true false true a b e = (omega (arith, e), refl, refl)
-bits_same m n false false false false a b e = (omega (arith, e), refl, refl)
-bits_same m n true true true false a b e = absurd (omega (arith, a, b, e))
-bits_same m n true true false true a b e = absurd (omega (arith, a, b, e))
-bits_same m n true true false false a b e = absurd (omega (arith, a, b, e))
-bits_same m n true false true true a b e = absurd (omega (arith, a, b, e))
-bits_same m n true false false true a b e = absurd (omega (arith, a, b, e))
-bits_same m n true false false false a b e = absurd (omega (arith, a, b, e))
-bits_same m n false true true true a b e = absurd (omega (arith, a, b, e))
-bits_same m n false true true false a b e = absurd (omega (arith, a, b, e))
-bits_same m n false true false false a b e = absurd (omega (arith, a, b, e))
-bits_same m n false false true true a b e = absurd (omega (arith, a, b, e))
-bits_same m n false false true false a b e = absurd (omega (arith, a, b, e))
-bits_same m n false false false true a b e = absurd (omega (arith, a, b, e))
+bits_same m n s g t h a b e =
+    let high = one_bit (m + cond s S_ISVTX 0) (n + cond t S_ISVTX 0) S_ISGID g h (below_bit m s a) (below_bit n t b) e in
+    let low = one_bit m n S_ISVTX s t a b high.0 in
+    (low.0, low.1, high.1)
 
 body_same : (image : SectorMap) (v : Inode) (x y : Body) → shown_mode x ≡ shown_mode y → HoldsBody image v x → HoldsBody image v y → x ≡ y
 body_same image v (File a s) (File b t) m h k =

@@ -18,6 +18,7 @@ use Rattle.fs_layout.proofs.SplicedBytes.{get_or-zeros}
 use Rattle.fs_model.specs.Nodes.{File, Dir, Link, Directory}
 use Rattle.fs_layout.specs.Directories.{HaveDistinctNames, slots_bytes, names_of_slots, NamedInode, FitsSlot}
 use Rattle.fs_model.specs.StoredNodes.{HoldsNode}
+use Rattle.fs_model.proofs.NodesHeld.{node_held}
 
 -- the inode has one block, with these bytes and zeros behind them
 record HasOneBlock (image : SectorMap) (v : Inode) (s : ℕ) (bytes : List ℕ) : Type 0 where
@@ -143,21 +144,14 @@ link_inode = with_block 150 (record free_inode { kind = kinds.Link; mode = 0o777
 
 a_file_with_an_acl : HoldsNode image file_inode (record { node = record { owner = 1000; group = 100; body = File acl (codes "hello") }; names = 1; parent = 1 })
 unfolding file_inode with_block acl image acl_sector file_block acl_content entries_bytes le16 le32 zeros
-a_file_with_an_acl = record {
-  owner = refl;
-  group = refl;
-  mode = refl;
-  names = refl;
-  parent = refl;
-  body = record {
-    kind = refl;
-    holds = one_block_holds image file_inode 147 (codes "hello")
-        (one_block image file_inode 147 (codes "hello") refl refl (λ e. omega (arith, e)) refl refl (omega arith) (omega arith));
-    acl = acl_is_valid;
-    has_acl = (λ e. omega (arith, e), refl);
-    no_default = refl;
-  };
-}
+a_file_with_an_acl = node_held image file_inode _ refl refl refl refl refl (record {
+  kind = refl;
+  holds = one_block_holds image file_inode 147 (codes "hello")
+      (one_block image file_inode 147 (codes "hello") refl refl (λ e. omega (arith, e)) refl refl (omega arith) (omega arith));
+  acl = acl_is_valid;
+  has_acl = (λ e. omega (arith, e), refl);
+  no_default = refl;
+})
 
 -- ---- a directory: the slots stand in any order, and the names in theirs
 
@@ -218,28 +212,21 @@ minimal_is_valid = record { users = tt; user_ids = tt; groups = tt; group_ids = 
 
 a_directory_with_two_names : HoldsNode image directory_inode (record { node = record { owner = 0; group = 0; body = Dir (minimal 0o755) two_names }; names = 1; parent = 1 })
 unfolding directory_inode with_block names_of_slots zeros
-a_directory_with_two_names = record {
-  owner = refl;
-  group = refl;
-  mode = refl;
-  names = refl;
-  parent = refl;
-  body = record {
-    names = record {
-      kind = refl;
-      slots = slots;
-      are = refl;
-      apart = slots_are_apart;
-      each = slots_fit;
-      holds = one_block_holds image directory_inode 149 (slots_bytes slots) directory_has_a_block;
-      whole = one_block_is_whole image directory_inode 149 (slots_bytes slots) directory_has_a_block;
-    };
-    acl = minimal_is_valid;
-    default = tt;
-    has_acl = refl;
-    has_default = refl;
+a_directory_with_two_names = node_held image directory_inode _ refl refl refl refl refl (record {
+  names = record {
+    kind = refl;
+    slots = slots;
+    are = refl;
+    apart = slots_are_apart;
+    each = slots_fit;
+    holds = one_block_holds image directory_inode 149 (slots_bytes slots) directory_has_a_block;
+    whole = one_block_is_whole image directory_inode 149 (slots_bytes slots) directory_has_a_block;
   };
-}
+  acl = minimal_is_valid;
+  default = tt;
+  has_acl = refl;
+  has_default = refl;
+})
 
 -- ---- a link
 
@@ -249,17 +236,10 @@ link_has_a_block = one_block image link_inode 150 (codes "a") refl refl (λ e. o
 
 a_link_with_two_names : HoldsNode image link_inode (record { node = record { owner = 0; group = 0; body = Link (codes "a") }; names = 2; parent = 1 })
 unfolding link_inode with_block zeros
-a_link_with_two_names = record {
-  owner = refl;
-  group = refl;
-  mode = refl;
-  names = refl;
-  parent = refl;
-  body = record {
-    kind = refl;
-    holds = one_block_holds image link_inode 150 (codes "a") link_has_a_block;
-    whole = one_block_is_whole image link_inode 150 (codes "a") link_has_a_block;
-    no_acl = refl;
-    no_default = refl;
-  };
-}
+a_link_with_two_names = node_held image link_inode _ refl refl refl refl refl (record {
+  kind = refl;
+  holds = one_block_holds image link_inode 150 (codes "a") link_has_a_block;
+  whole = one_block_is_whole image link_inode 150 (codes "a") link_has_a_block;
+  no_acl = refl;
+  no_default = refl;
+})

@@ -1,5 +1,5 @@
 -- An image that holds a tree obeys the rules.
-use Rattle.std.specs.Prelude.{◌≡◌, ◌≢◌, ℕ, zero, suc, ◌+◌, ◌%◌, ◌<◌, ◌≤◌, ◌==◌, ◌||◌, nat_lt, nat_le, nat_eq, not, Bool, true, false, cond, List, length, get_or, Option, Some, None, is_some, IsTrue, Ok}
+use Rattle.std.specs.Prelude.{◌≡◌, ◌≢◌, ℕ, ◌+◌, ◌%◌, ◌<◌, ◌≤◌, ◌==◌, ◌||◌, nat_lt, nat_le, nat_eq, not, Bool, true, false, cond, List, length, get_or, Option, Some, None, is_some, IsTrue, Ok}
 use Rattle.std.proofs.Common.{refl, sym, ap, arith, ◌∙◌, subst, inl, inr}
 use Rattle.std.specs.Option.{option_map}
 use Rattle.std.proofs.lemmas.Bool.{cases_eq, cases_lt}
@@ -30,6 +30,7 @@ use Rattle.fs_model.specs.Rules.{ImageRule, InodeBits, Inodes, InData, OwnedOnce
 use Rattle.fs_layout.proofs.SlotNames.{slot_leads}
 use Rattle.fs_model.specs.Summaries.{is_used}
 use Rattle.fs_model.proofs.KindFields.{kind_field}
+use Rattle.fs_model.proofs.Marks.{marks}
 use Rattle.fs_layout.proofs.ImageSlots.{slot_is, count_is}
 use Rattle.fs_model.proofs.StoredTrees.{StoresAt, Stores, unnamed, names_there, names_are_slots, used_is, directory_there, directory_stored, below_if}
 
@@ -176,15 +177,6 @@ module _ (p : Place) (m : SectorMap) (t : Tree) (held : HoldsAll p m (placed t))
         (λ node at h. absurd (let positive = (is.each n node at).positive in omega (arith, positive, e)));
     top = λ e. subst (λ q. (inode_at p m q).kind ≡ kinds.Directory) (sym e) (directory_stored p m t stores root is.root_is_there).1;
   }
-
-  marks : (n : ℕ) (b c : Bool) → (n ≡ 1 → c ≡ true) → (nat_lt n 2 || b || c) ≡ (nat_eq n 0 || b || c)
-  marks zero b c top = refl
-  marks (suc zero) true c top = refl
-  marks (suc zero) false c top = sym (top refl)
-  marks (suc (suc n)) b c top =
-      let not_low : nat_lt (suc (suc n)) 2 ≡ false = grind (arith, nat_tests) in
-      let not_none : nat_eq (suc (suc n)) 0 ≡ false = grind (arith, nat_tests) in
-      ap (λ a. a || b || c) not_low ∙ sym (ap (λ a. a || b || c) not_none)
 
   placed_some : (n : ℕ) → is_some (placed t n) ≡ is_some (node_at t n)
   placed_some n = go (node_at t n)

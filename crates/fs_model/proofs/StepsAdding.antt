@@ -14,8 +14,8 @@ use Rattle.fs_layout.proofs.MapLaws.{with_entry-IsMap}
 use Rattle.fs_layout.proofs.NameMaps.{Names, leading, once_if, once_same, once_other, get-with_name, with_name-IsMap, length-with_name, leading-with_name, tied_names}
 use Rattle.fs_model.proofs.StepsKinds.{KeepsTypes, types_stay, directory_moves, same_fit}
 use Rattle.fs_model.proofs.Moves.{entry_moves, body_moves}
-use Rattle.fs_model.proofs.StepsNaming.{renamed_node, renamed, at_it, at_others, still_there, names_there, names_elsewhere, names_of-renamed, renamed_keeps_types, types_compose, type_with_names, IsShape, node_from_shape, AreNames, body_renamed, are_names}
-use Rattle.fs_model.proofs.StepsParents.{names_or, names_at, parent_is, parent_kept, under_all, directory_named, parent_at, under_root}
+use Rattle.fs_model.proofs.StepsNaming.{leading_stays, renamed_node, renamed, at_it, at_others, still_there, names_there, names_elsewhere, names_of-renamed, renamed_keeps_types, types_compose, type_with_names, IsShape, node_from_shape, AreNames, body_renamed, are_names}
+use Rattle.fs_model.proofs.StepsParents.{names_at, parent_is, parent_kept, under_all, directory_named, parent_at, under_root}
 
 -- From t, or from t with a new node in it, which is w: a name is added in a directory.
 pub record AddsName (room : Room) (t w : Tree) (dir : ℕ) (directory : Node) (name : List ℕ) (n : ℕ) (target : Node) : Type 0 where
@@ -73,13 +73,7 @@ module _ (room : Room) (t w : Tree) (dir : ℕ) (directory : Node) (name : List 
 
   names_kept : (x k : ℕ) → 1 ≤ leading x (names_at t k) → 1 ≤ leading x (names_at u k)
   names_kept x k some = elim (cases_eq k dir) [
-    | inl e ↦
-        let was : names_at t k ≡ names_in directory.body = ap (names_at t) e ∙ ap names_or adds.stands in
-        let now : names_at u k ≡ new = ap (names_at u) e ∙ names_there w dir directory new adds.is_dir in
-        let before : leading x (names_at t k) ≡ leading x (names_in directory.body) = ap (leading x) was in
-        let after : leading x (names_at u k) ≡ leading x new = ap (leading x) now in
-        let one = more x in
-        omega (arith, before, after, one, some)
+    | inl e ↦ leading_stays w dir directory new adds.is_dir t x k e adds.stands (λ some. let one = more x in omega (arith, one, some)) some
     | inr ne ↦
         let same : names_at u k ≡ names_at t k = names_elsewhere w dir directory new adds.is_dir k ne ∙ adds.names k in
         subst (λ q. 1 ≤ leading x q) (sym same) some

@@ -106,23 +106,15 @@ body_with_mode room t cred group mode (File a s) is = (IsAcl-with_mode_bits a mo
 body_with_mode room t cred group mode (Dir a d) is = (IsAcl-with_mode_bits a mode is.0, is.1, same_names t d _ refl is.2)
 body_with_mode room t cred group mode (Link target) is = is
 
-type_with_acl : (which : AclType) (acl : Option AccessList) (b : Body) → type_of (with_set_acl which acl b) ≡ type_of b
-type_with_acl Default acl (File a s) = refl
-type_with_acl Default acl (Dir a d) = refl
-type_with_acl Default acl (Link target) = refl
-type_with_acl Access None b = refl
-type_with_acl Access (Some acl) (File a s) = refl
-type_with_acl Access (Some acl) (Dir a d) = refl
-type_with_acl Access (Some acl) (Link target) = refl
-
-names_with_acl : (which : AclType) (acl : Option AccessList) (b : Body) → names_in (with_set_acl which acl b) ≡ names_in b
-names_with_acl Default acl (File a s) = refl
-names_with_acl Default acl (Dir a d) = refl
-names_with_acl Default acl (Link target) = refl
-names_with_acl Access None b = refl
-names_with_acl Access (Some acl) (File a s) = refl
-names_with_acl Access (Some acl) (Dir a d) = refl
-names_with_acl Access (Some acl) (Link target) = refl
+acl_keeps : (which : AclType) (acl : Option AccessList) (b : Body)
+    → (type_of (with_set_acl which acl b) ≡ type_of b) × (names_in (with_set_acl which acl b) ≡ names_in b)
+acl_keeps Default acl (File a s) = (refl, refl)
+acl_keeps Default acl (Dir a d) = (refl, refl)
+acl_keeps Default acl (Link target) = (refl, refl)
+acl_keeps Access None b = (refl, refl)
+acl_keeps Access (Some acl) (File a s) = (refl, refl)
+acl_keeps Access (Some acl) (Dir a d) = (refl, refl)
+acl_keeps Access (Some acl) (Link target) = (refl, refl)
 
 body_with_acl : (room : Room) (t : Tree) (which : AclType) (acl : Option AccessList) (b : Body) → IsSomeAcl acl → IsBody room t b
     → IsBody room t (with_set_acl which acl b)
@@ -163,8 +155,8 @@ module _ (room : Room) (t : Tree) (n : ℕ) (node : Node) (is : IsNode room t n 
   pub acl_may_replace : (which : AclType) (acl : Option AccessList) → IsSomeAcl acl
       → MayReplace room t node (record node { body = with_set_acl which acl node.body })
   acl_may_replace which acl valid = record {
-    same = type_with_acl which acl node.body;
-    names = names_with_acl which acl node.body;
+    same = (acl_keeps which acl node.body).0;
+    names = (acl_keeps which acl node.body).1;
     owner = is.owner;
     group = is.group;
     body = body_with_acl room t which acl node.body valid is.body;

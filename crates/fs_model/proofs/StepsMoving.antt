@@ -17,7 +17,7 @@ use Rattle.fs_layout.proofs.NameMaps.{Names, leading, once_if, once_same, once_o
 use Rattle.fs_model.proofs.StepsKinds.{same_directory}
 use Rattle.fs_model.proofs.StepsLosing.{Stood, LosesNames}
 use Rattle.fs_model.proofs.Moves.{entry_moves, body_moves}
-use Rattle.fs_model.proofs.StepsNaming.{renamed_node, renamed, at_it, at_others, still_there, names_there, names_elsewhere, names_of-renamed, renamed_keeps_types, types_compose, type_with_names, AreNames, body_renamed, are_names}
+use Rattle.fs_model.proofs.StepsNaming.{leading_stays, renamed_node, renamed, at_it, at_others, still_there, names_there, names_elsewhere, names_of-renamed, renamed_keeps_types, types_compose, type_with_names, AreNames, body_renamed, are_names}
 use Rattle.fs_model.proofs.StepsParents.{names_or, names_at, parent_is, parent_kept, parent_names, under_all, directory_named, parent_at, under_root}
 use Rattle.fs_model.proofs.StepsTaking.{once_is, are_names_without}
 use Rattle.fs_model.proofs.StepsUp.{IsOutside, outside_differs, outside_above}
@@ -224,14 +224,7 @@ module _ (room : Room) (t : Tree) (desks : Desks) (dir : ℕ) (directory : Node)
 
   kept_less : (x k : ℕ) → x ≢ n → 1 ≤ leading x (names_at t k) → 1 ≤ leading x (names_at v k)
   kept_less x k other some = elim (cases_eq k dir) [
-    | inl e ↦
-        let was : names_at t k ≡ names_in directory.body = ap (names_at t) e ∙ ap names_or moves.stands in
-        let now : names_at v k ≡ less = ap (names_at v) e ∙ names_there t dir directory less moves.is_dir in
-        let before : leading x (names_at t k) ≡ leading x (names_in directory.body) = ap (leading x) was in
-        let after : leading x (names_at v k) ≡ leading x less = ap (leading x) now in
-        let one = fewer x in
-        let none = once_other n x (λ e. other (sym e)) in
-        omega (arith, before, after, one, none, some)
+    | inl e ↦ leading_stays t dir directory less moves.is_dir t x k e moves.stands (λ some. let one = fewer x in let none = once_other n x (λ e. other (sym e)) in omega (arith, one, none, some)) some
     | inr ne ↦ subst (λ q. 1 ≤ leading x q) (sym (names_elsewhere t dir directory less moves.is_dir k ne)) some
   ]
 
@@ -241,13 +234,8 @@ module _ (room : Room) (t : Tree) (desks : Desks) (dir : ℕ) (directory : Node)
   kept : (x k : ℕ) → x ≢ n → lost_of o x ≡ 0 → 1 ≤ leading x (names_at t k) → 1 ≤ leading x (names_at moved k)
   kept x k other none some = elim (cases_eq k to_dir) [
     | inl e ↦
-        let was : names_at v k ≡ names_in between.node.body = ap (names_at v) e ∙ ap names_or between.here in
-        let now : names_at moved k ≡ new = ap (names_at moved) e ∙ names_to in
-        let before : leading x (names_at v k) ≡ leading x (names_in between.node.body) = ap (leading x) was in
-        let after : leading x (names_at moved k) ≡ leading x new = ap (leading x) now in
-        let had = kept_less x k other some in
-        let one = set x in
-        omega (arith, before, after, had, one, none)
+        leading_stays v to_dir between.node new between.directory v x k e between.here (λ some. let one = set x in omega (arith, one, some, none))
+        (kept_less x k other some)
     | inr ne ↦ subst (λ q. 1 ≤ leading x q) (sym (names_elsewhere v to_dir between.node new between.directory k ne)) (kept_less x k other some)
   ]
 

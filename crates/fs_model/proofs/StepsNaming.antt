@@ -1,6 +1,6 @@
 -- A directory with other names in it.
 use Rattle.std.specs.Prelude.{◌≡◌, ◌≢◌, ℕ, ◌+◌, ◌^◌, ◌<◌, ◌≤◌, cond, List, length, Some, is_some, IsTrue}
-use Rattle.std.proofs.Common.{refl, ap, arith, ◌∙◌, inl, inr}
+use Rattle.std.proofs.Common.{refl, sym, ap, subst, arith, ◌∙◌, inl, inr}
 use Rattle.std.proofs.lemmas.Bool.{cases_eq}
 use Rattle.std.specs.Ordering.{nat_cmp}
 use Rattle.fs_model.specs.Limits.{entries_limit}
@@ -51,6 +51,14 @@ module _ (t : Tree) (dir : ℕ) (node : Node) (names : Names) (directory : IsTru
 
   pub names_elsewhere : (k : ℕ) → k ≢ dir → names_at (renamed t dir node names) k ≡ names_at t k
   names_elsewhere k ne = ap names_or (at_others t dir (renamed_node node names) k ne)
+
+  -- a node that those of a directory led to, which has other names now
+  pub leading_stays : (was : Tree) (x k : ℕ) → k ≡ dir → node_at was dir ≡ Some node → (1 ≤ leading x (names_in node.body) → 1 ≤ leading x names)
+      → 1 ≤ leading x (names_at was k) → 1 ≤ leading x (names_at (renamed t dir node names) k)
+  leading_stays was x k e stands more some =
+      let before : leading x (names_at was k) ≡ leading x (names_in node.body) = ap (leading x) (ap (names_at was) e ∙ ap names_or stands) in
+      let after : leading x (names_at (renamed t dir node names) k) ≡ leading x names = ap (leading x) (ap (names_at (renamed t dir node names)) e ∙ names_there) in
+      subst (λ q. 1 ≤ q) (sym after) (more (subst (λ q. 1 ≤ q) before some))
 
   -- how many names lead to a node
   pub names_of-renamed : IsMap nat_cmp t → node_at t dir ≡ Some node → (x : ℕ)

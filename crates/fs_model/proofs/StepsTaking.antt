@@ -13,7 +13,7 @@ use Rattle.fs_layout.proofs.MapLaws.{with_entry-IsMap}
 use Rattle.fs_layout.proofs.NameMaps.{Names, leading, once_if, once_other, get-without_name, without_name-IsMap, length-without_name, leading-without_name}
 use Rattle.fs_model.proofs.StepsLosing.{Stood, LosesNames}
 use Rattle.fs_model.proofs.Moves.{entry_moves, body_moves}
-use Rattle.fs_model.proofs.StepsNaming.{renamed_node, renamed, at_it, at_others, still_there, names_there, names_elsewhere, names_of-renamed, renamed_keeps_types, type_with_names, AreNames, body_renamed, are_names}
+use Rattle.fs_model.proofs.StepsNaming.{leading_stays, renamed_node, renamed, at_it, at_others, still_there, names_elsewhere, names_of-renamed, renamed_keeps_types, type_with_names, AreNames, body_renamed, are_names}
 use Rattle.fs_model.proofs.StepsParents.{names_or, names_at, parent_kept, parent_names, under_all, directory_named, parent_at, under_root}
 
 -- the one that counts
@@ -116,13 +116,7 @@ module _ (room : Room) (t : Tree) (desks : Desks) (dir : ℕ) (directory : Node)
 
   names_kept : (x k : ℕ) → once_if m x ≡ 0 → 1 ≤ leading x (names_at t k) → 1 ≤ leading x (names_at u k)
   names_kept x k none some = elim (cases_eq k dir) [
-    | inl e ↦
-        let was : names_at t k ≡ names_in directory.body = ap (names_at t) e ∙ ap names_or takes.stands in
-        let now : names_at u k ≡ new = ap (names_at u) e ∙ names_there t dir directory new takes.is_dir in
-        let before : leading x (names_at t k) ≡ leading x (names_in directory.body) = ap (leading x) was in
-        let after : leading x (names_at u k) ≡ leading x new = ap (leading x) now in
-        let one = fewer x in
-        omega (arith, before, after, one, some, none)
+    | inl e ↦ leading_stays t dir directory new takes.is_dir t x k e takes.stands (λ some. let one = fewer x in omega (arith, one, some, none)) some
     | inr ne ↦ subst (λ q. 1 ≤ leading x q) (sym (names_elsewhere t dir directory new takes.is_dir k ne)) some
   ]
 
