@@ -10,7 +10,7 @@ use Rattle.fs_layout.specs.Commit.{IsCommit}
 use Rattle.fs_model.specs.Rules.{IsPlaceOf, HasCommit, ImageRule, rule_number, ObeysEach, ObeysBefore, IsFinding, fails}
 use Rattle.fs_check.specs.declared.faults.CheckFault.{CheckFault}
 use Rattle.fs_check.specs.declared.faults.CheckFault.TheVariants.{Found, DiskFault, OutOfMemory}
-use Rattle.fs_check.specs.Checks.{meaning, IsOpened, AreInodes, IsReason, Passed, IsLeast, IsFirst, IsFailureOf}
+use Rattle.fs_check.specs.Checks.{meaning, BeginsWith, AreInodes, IsReason, Passed, IsLeast, IsFirst, IsFailureOf}
 use Rattle.fs_model.proofs.Findings.{next_obeyed}
 
 -- the same facts of two states
@@ -24,7 +24,7 @@ module _ {old mid : DiskState} (reads : OnlyReads old mid) where
   pub meaning_same : meaning mid ≡ meaning old
   meaning_same = ap (λ n. recovered n (sector mid.seen)) reads.narrowed.size ∙ ap (λ (i : Image). recovered old.size (sector i)) reads.narrowed.seen
 
-  pub opened_still : {p : Place} {targets : List ℕ} → IsOpened old p targets → IsOpened mid p targets
+  pub opened_still : {p : Place} {targets : List ℕ} → BeginsWith old p targets → BeginsWith mid p targets
   opened_still {p} {targets} x = record {
     place = same_of (λ n i. IsPlaceOf n (sector i) p) reads x.place;
     commit = same_of (λ n i. HasCommit n (sector i)) reads x.commit;
@@ -48,7 +48,7 @@ module _ {old mid : DiskState} (reads : OnlyReads old mid) where
   reason_back new OutOfMemory x = tt
 
 -- a rule whose predecessors hold: its finding is the first
-pub first_if : {old : DiskState} {p : Place} {targets : List ℕ} (new : DiskState) (r : ImageRule) (e : CheckFault) → IsOpened old p targets
+pub first_if : {old : DiskState} {p : Place} {targets : List ℕ} (new : DiskState) (r : ImageRule) (e : CheckFault) → BeginsWith old p targets
     → ObeysBefore p (meaning old) (rule_number r) → IsReason (IsLeast p r) old new e → IsReason IsFirst old new e
 first_if {old} {p} new r (Found f) opened before x =
     subst (λ k. IsFinding old.size (sector old.seen) k f.at) (sym x.0) (fails p r f.at opened.place opened.commit before x.1)
@@ -56,7 +56,7 @@ first_if new r DiskFault opened before x = x
 first_if new r OutOfMemory opened before x = tt
 
 -- the failure of a rule that was found in tables
-pub failed_of : {T : Type 0} (old mid new : DiskState) {p : Place} {targets : List ℕ} → OnlyReads old mid → OnlyReads mid new → IsOpened old p targets
+pub failed_of : {T : Type 0} (old mid new : DiskState) {p : Place} {targets : List ℕ} → OnlyReads old mid → OnlyReads mid new → BeginsWith old p targets
     → (e y : CheckFault) (q : Result T CheckFault) → q ≡ Err y → y ≡ e → IsFailureOf p (meaning mid) e → Passed IsFirst old new q
 failed_of {T} old mid new {p} reads then opened e y q at same x =
     subst (λ z. Passed {T = T} IsFirst old new z) (sym (at ∙ ap (λ z. Err z) same)) (record { reads = reads_joined reads then; reason = go e x })
@@ -98,26 +98,26 @@ passed_on I J old mid new reads back (Ok v) x = record { reads = reads_joined re
 passed_on I J old mid new reads back (Err e) x = record { reads = reads_joined reads x.reads; reason = back e x.reason }
 
 reason_of_rule : {old mid : DiskState} {p : Place} {targets : List ℕ} (new : DiskState) (r : ImageRule) (k : ℕ) → rule_number r ≡ k → OnlyReads old mid
-    → IsOpened old p targets → ObeysBefore p (meaning old) k → (x : CheckFault) → IsReason (IsLeast p r) mid new x → IsReason IsFirst old new x
+    → BeginsWith old p targets → ObeysBefore p (meaning old) k → (x : CheckFault) → IsReason (IsLeast p r) mid new x → IsReason IsFirst old new x
 reason_of_rule {mid = mid} {p} new r k is reads opened before x h =
     reason_back reads new x (first_if new r x (opened_still reads opened) (subst (λ q. ObeysBefore p (meaning mid) q) (sym is) (before_still reads before)) h)
 
 -- a rule's part, and the error of one
 pub rule_error : {T U : Type 0} (old mid new : DiskState) {p : Place} {targets : List ℕ} (r : ImageRule) (k : ℕ) → rule_number r ≡ k → OnlyReads old mid
-    → IsOpened old p targets
+    → BeginsWith old p targets
     → ObeysBefore p (meaning old) k → (e : CheckFault) (q : Result U CheckFault) → (y : CheckFault) × (q ≡ Err y) × (y ≡ e)
     → Passed {T = T} (IsLeast p r) mid new (Err e) → Passed IsFirst old new q
 rule_error old mid new {p} r k is reads opened before e q at x =
     passed_err (IsLeast p r) IsFirst old mid new reads (reason_of_rule new r k is reads opened before) e at.0 q at.1 at.2 x
 
 -- the same of the first part
-pub first_error : {T U : Type 0} (old new : DiskState) {p : Place} {targets : List ℕ} (r : ImageRule) (k : ℕ) → rule_number r ≡ k → IsOpened old p targets
+pub first_error : {T U : Type 0} (old new : DiskState) {p : Place} {targets : List ℕ} (r : ImageRule) (k : ℕ) → rule_number r ≡ k → BeginsWith old p targets
     → ObeysBefore p (meaning old) k → (e : CheckFault) (q : Result U CheckFault) → (y : CheckFault) × (q ≡ Err y) × (y ≡ e)
     → Passed {T = T} (IsLeast p r) old new (Err e) → Passed IsFirst old new q
 first_error old new r k is opened before e q at x = rule_error old old new r k is reads_nothing opened before e q at x
 
 pub rule_passed : {T : Type 0} (old mid new : DiskState) {p : Place} {targets : List ℕ} (r : ImageRule) (k : ℕ) → rule_number r ≡ k → OnlyReads old mid
-    → IsOpened old p targets → ObeysBefore p (meaning old) k → (q : Result T CheckFault) → Passed (IsLeast p r) mid new q → Passed IsFirst old new q
+    → BeginsWith old p targets → ObeysBefore p (meaning old) k → (q : Result T CheckFault) → Passed (IsLeast p r) mid new q → Passed IsFirst old new q
 rule_passed old mid new {p} r k is reads opened before q x =
     passed_on (IsLeast p r) IsFirst old mid new reads (reason_of_rule new r k is reads opened before) q x
 
@@ -127,7 +127,7 @@ on_ok (Err e) p f = tt
 
 -- two rules, one after the other
 module _ {T : Type 0} (old mid new : DiskState) {p : Place} {targets : List ℕ} (r q : ImageRule) (k : ℕ) (is : rule_number r ≡ k) (then : rule_number q ≡ k + 1)
-    (opened : IsOpened old p targets) (before : ObeysBefore p (meaning old) k) (reads : OnlyReads old mid) (each : ObeysEach p (meaning old) r)
+    (opened : BeginsWith old p targets) (before : ObeysBefore p (meaning old) k) (reads : OnlyReads old mid) (each : ObeysEach p (meaning old) r)
     (x : Result T CheckFault) where
   first_obeyed : ObeysBefore p (meaning old) (k + 1)
   first_obeyed = next_before old old r k is reads_nothing before each

@@ -26,7 +26,7 @@ use Rattle.fs_model.proofs.RulesLaw.{place, now_whole, the_tree, stands}
 use Rattle.fs_model.proofs.Findings.{each_obeyed}
 use Rattle.fs_model.proofs.Summaries.{files_counted, nameless_counted, directories_counted, links_counted, nodes_counted}
 use Rattle.fs_check.specs.declared.faults.Summary.{Summary}
-use Rattle.fs_check.specs.Checks.{meaning, IsOpened, AreInodes, IsOwnerMap, IsCounted, IsClean}
+use Rattle.fs_check.specs.Checks.{meaning, BeginsWith, AreInodes, IsOwnerMap, IsCounted, IsClean}
 use Rattle.fs_check.proofs.Carrying.{back_of, meaning_same, before_back}
 
 -- ---- counts over lists and over ranges
@@ -61,7 +61,7 @@ pub whole_seen : (d : DiskState) → IsImage d d.seen → ((n : ℕ) (content : 
 whole_seen d is each s lt = let here = each s (sector d.seen s) lt (is.each s lt) in record { len = here.len; bytes = here.bytes }
 
 module _ (d : DiskState) (p : Place) (targets : List ℕ) (inodes : List Inode) (owned : List Bool) (s : Summary) (small : d.size < 2 ^ 32)
-    (whole : HasWholeSectors d.size (sector d.seen)) (opened : IsOpened d p targets) (table : AreInodes p (meaning d) inodes)
+    (whole : HasWholeSectors d.size (sector d.seen)) (opened : BeginsWith d p targets) (table : AreInodes p (meaning d) inodes)
     (owners : IsOwnerMap p (meaning d) owned)
     (before : ObeysBefore p (meaning d) 15) (counts : IsCounted p targets inodes owned s) where
   abbrev pub all : ObeysAll d.size (sector d.seen)
@@ -134,7 +134,7 @@ pub clean_after : (s0 s1 s2 s3 : DiskState) (p : Place) (targets : List ℕ) (it
     → OnlyReads s0 s2 → AreInodes p (meaning s2) items → inodes ≡ items
     → OnlyReads s0 s3 → IsOwnerMap p (meaning s3) bits → owned ≡ bits → ObeysBefore p (meaning s3) 15 → IsCounted p targets inodes owned s → IsClean s0 s
 clean_after s0 s1 s2 s3 p targets items inodes bits owned s small whole at r1 commit are r2 table same r3 owners also before counts =
-    let opened : IsOpened s0 p targets = record {
+    let opened : BeginsWith s0 p targets = record {
       place = at;
       commit = back_of (λ n i. HasCommit n (sector i)) r1 commit;
       targets_are = back_of (λ n i. IsCommit n (sector i 1) targets) r1 are;

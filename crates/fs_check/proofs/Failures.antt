@@ -10,7 +10,7 @@ use Rattle.fs_check.specs.declared.faults.CheckFault.{CheckFault}
 use Rattle.fs_check.specs.declared.faults.CheckFault.TheVariants.{Found}
 use Rattle.sector_disk.specs.Disk.{DiskState, OnlyReads}
 use Rattle.sector_disk.proofs.Moments.{reads_nothing}
-use Rattle.fs_check.specs.Checks.{meaning, IsOpened, AreInodes, IsNameTable, IsReason, Passed, IsLeast, IsFirst, IsFailureOf}
+use Rattle.fs_check.specs.Checks.{meaning, BeginsWith, AreInodes, IsNameTable, IsReason, Passed, IsLeast, IsFirst, IsFailureOf}
 use Rattle.fs_check.proofs.Carrying.{next_before, rule_error}
 
 -- what a rule's test says of one image
@@ -79,7 +79,7 @@ found_none p m r k None says each = each
 
 -- two rules of one part, of which the second was tried along with the first
 module _ (old new : DiskState) {p : Place} {targets : List ℕ} (r q : ImageRule) (k : ℕ) (is : rule_number r ≡ k) (then : rule_number q ≡ k + 1)
-    (opened : IsOpened old p targets) (before : ObeysBefore p (meaning old) k) (reads : OnlyReads old new) (each : ObeysEach p (meaning old) r) (first : Option ℕ)
+    (opened : BeginsWith old p targets) (before : ObeysBefore p (meaning old) k) (reads : OnlyReads old new) (each : ObeysEach p (meaning old) r) (first : Option ℕ)
     (found : MatchOption first (ObeysEach p (meaning old) q) (λ n. IsLeastFailure p (meaning old) q n)) where
   before_second : ObeysBefore p (meaning old) (k + 1)
   before_second = next_before old old r k is reads_nothing before each

@@ -13,7 +13,7 @@ use Rattle.fs_layout.proofs.Codecs.{same_ok}
 use Rattle.fs_layout.proofs.Parts.{owns_acl, owns_default_acl}
 use Rattle.sector_disk.specs.Disk.{DiskState, OnlyReads}
 use Rattle.fs_model.specs.Rules.{IsStoredAcl, HasSomeAccessAcl, HasSomeDefaultAcl, HasAcls, InData, ObeysBefore}
-use Rattle.fs_check.specs.Checks.{meaning, IsOpened, AreInodes}
+use Rattle.fs_check.specs.Checks.{meaning, BeginsWith, AreInodes}
 use Rattle.fs_check.specs.StoredAcls.{IsAclIn, IsInPlace}
 use Rattle.fs_check.proofs.Carrying.{meaning_same}
 use Rattle.fs_check.proofs.Openings.{room, place_size}
@@ -77,7 +77,7 @@ good_by_default old mid v reads a b r is good placed access later =
 -- ---- their sectors
 
 module _ (old mid : DiskState) (p : Place) (targets : List ℕ) (inodes : List Inode) (n : ℕ) (d : Inode)
-    (reads : OnlyReads old mid) (opened : IsOpened old p targets)
+    (reads : OnlyReads old mid) (opened : BeginsWith old p targets)
     (table : AreInodes p (meaning old) inodes) (before : ObeysBefore p (meaning old) 9) (lt : n < p.inodes) where
   on_disk : (s : ℕ) → (s ≢ 0 → s < p.sectors) → s < mid.size
   on_disk zero below = let some = room old p targets opened in let kept = reads.narrowed.size in omega (arith, some, kept)

@@ -1,6 +1,6 @@
 -- What a check says of a disk, which it only reads.
 --     meaning        what a disk means: its recovered image
---     IsOpened        the superblock gives the place, and the commit sector these targets
+--     BeginsWith        the superblock gives the place, and the commit sector these targets
 --     AreInodes, IsOwnerMap, IsNameCount, IsNamedBy, IsNameTable        the tables of a check
 --     IsReason, Passed        why a check gives no summary; it only reads, and has a reason
 --     IsLeast, IsFirst        a finding of one rule; a finding
@@ -31,7 +31,7 @@ abbrev pub meaning : DiskState → SectorMap
 meaning disk = recovered disk.size (sector disk.seen)
 
 -- the superblock gives this place, and the commit sector is valid and has these targets
-pub record IsOpened (disk : DiskState) (p : Place) (targets : List ℕ) : Type 0 where
+pub record BeginsWith (disk : DiskState) (p : Place) (targets : List ℕ) : Type 0 where
   pub place : IsPlaceOf disk.size (sector disk.seen) p
   pub commit : HasCommit disk.size (sector disk.seen)
   pub targets_are : IsCommit disk.size (sector disk.seen 1) targets

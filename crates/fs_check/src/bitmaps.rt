@@ -5,7 +5,7 @@ ghost use Rattle.fs_layout.specs.Bytes.{SectorMap, u16_of};
 ghost use Rattle.fs_layout.specs.Images.{bit, block_bitmap, stored};
 ghost use Rattle.fs_layout.specs.Ownership.{IsOwned};
 ghost use Rattle.fs_model.specs.Rules.{ObeysEach, InodeBits, BlockBits, IsBlockBit};
-ghost use Rattle.fs_check.specs.Checks.{meaning, IsOpened, IsOwnerMap, Passed, IsLeast};
+ghost use Rattle.fs_check.specs.Checks.{meaning, BeginsWith, IsOwnerMap, Passed, IsLeast};
 ghost use Rattle.fs_check.specs.TableSectors.{IsTableSector};
 
 use crate::faults::{CheckFault, Checked, Finding};
@@ -46,7 +46,7 @@ fn is_taken(place: Place, table: &[u8; 512], n: u32) -> bool
 
 /// Each bit of the inode bitmap is set exactly where it has to be.
 pub(crate) fn inode_bits<D: Disk>(disk: &mut D, opened: &Opened) -> Checked<()>
-    requires opened { IsOpened (D.state disk.old) opened.now.place opened.now.commit }
+    requires opened { BeginsWith (D.state disk.old) opened.now.place opened.now.commit }
     ensures each { OnOk result (ObeysEach opened.now.place (meaning (D.state disk.old)) InodeBits) }
     ensures passed { Passed (IsLeast opened.now.place InodeBits) (D.state disk.old) (D.state disk.new) result }
 {
@@ -93,7 +93,7 @@ fn first_wrong(place: Place, map: &[u8; 512], owned: &[bool], k: u32) -> Option<
 
 /// Each bit of the block bitmap is set exactly where it has to be.
 pub(crate) fn block_bits<D: Disk>(disk: &mut D, opened: &Opened, owned: &[bool]) -> Checked<()>
-    requires opened { IsOpened (D.state disk.old) opened.now.place opened.now.commit }
+    requires opened { BeginsWith (D.state disk.old) opened.now.place opened.now.commit }
     requires owners { IsOwnerMap opened.now.place (meaning (D.state disk.old)) owned.now }
     ensures each { OnOk result (ObeysEach opened.now.place (meaning (D.state disk.old)) BlockBits) }
     ensures passed { Passed (IsLeast opened.now.place BlockBits) (D.state disk.old) (D.state disk.new) result }

@@ -7,7 +7,7 @@ ghost use Rattle.fs_layout.specs.declared.inode.TheConstants.{MAX_BLOCKS, MAX_LI
 ghost use Rattle.fs_layout.specs.Images.{pointer, HasPointers, Owns, IsData};
 ghost use Rattle.fs_model.specs.Rules.{ObeysEach, ObeysBefore, LaidOut, IsLaidOut};
 ghost use Rattle.fs_check.specs.LastBlocks.{last_block, FitsPointer, FitPointers, FitsLast};
-ghost use Rattle.fs_check.specs.Checks.{meaning, IsOpened, AreInodes, Passed, IsNone, IsLeast};
+ghost use Rattle.fs_check.specs.Checks.{meaning, BeginsWith, AreInodes, Passed, IsNone, IsLeast};
 
 use crate::faults::{CheckFault, Checked, Finding};
 use crate::opening::Opened;
@@ -80,7 +80,7 @@ fn fits_last(inode: &Inode, content: &[u8; 512]) -> bool
 
 // What the inode holds goes with its size.
 fn is_laid_out<D: Disk>(disk: &mut D, opened: &Opened, inode: &Inode) -> Checked<bool>
-    requires opened { IsOpened (D.state disk.old) opened.now.place opened.now.commit }
+    requires opened { BeginsWith (D.state disk.old) opened.now.place opened.now.commit }
     requires in_data { (s : ℕ) → Owns (meaning (D.state disk.old)) inode.now s → IsData opened.now.place s }
     requires short { inode.now.kind ≡ ALink → inode.now.size ≤ MAX_LINK_SIZE }
     ensures test { IfOk result (λ b. IsTrue b ↔ IsLaidOut (meaning (D.state disk.old)) inode.now) }
@@ -101,7 +101,7 @@ fn is_laid_out<D: Disk>(disk: &mut D, opened: &Opened, inode: &Inode) -> Checked
 
 /// Past the size of each inode there is nothing, only files have holes, and no link's target has a zero byte.
 pub(crate) fn laid_out<D: Disk>(disk: &mut D, opened: &Opened, inodes: &[Inode]) -> Checked<()>
-    requires opened { IsOpened (D.state disk.old) opened.now.place opened.now.commit }
+    requires opened { BeginsWith (D.state disk.old) opened.now.place opened.now.commit }
     requires table { AreInodes opened.now.place (meaning (D.state disk.old)) inodes.now }
     requires before { ObeysBefore opened.now.place (meaning (D.state disk.old)) 8 }
     ensures each { OnOk result (ObeysEach opened.now.place (meaning (D.state disk.old)) LaidOut) }

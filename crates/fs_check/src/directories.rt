@@ -5,7 +5,7 @@ ghost use Rattle.fs_layout.specs.Bytes.{SectorMap};
 ghost use Rattle.fs_layout.specs.Directories.{HaveDistinctNames};
 ghost use Rattle.fs_model.specs.Rules.{Obeys, ObeysEach, ObeysBefore, IsLeastFailure, Slots, NamesApart};
 ghost use Rattle.fs_check.specs.Naming.{AddsSlots, IsRepeated, IsNaming};
-ghost use Rattle.fs_check.specs.Checks.{meaning, IsOpened, AreInodes, IsNameTable, Passed, IsNone, IsLeast};
+ghost use Rattle.fs_check.specs.Checks.{meaning, BeginsWith, AreInodes, IsNameTable, Passed, IsNone, IsLeast};
 
 use crate::faults::{CheckFault, Checked, Finding};
 use crate::opening::Opened;
@@ -72,11 +72,12 @@ fn add_directory<D: Disk>(
     d: u32,
     names: &mut Names,
 ) -> Checked<bool>
-    requires opened { IsOpened (D.state disk.old) opened.now.place opened.now.commit }
+    requires opened { BeginsWith (D.state disk.old) opened.now.place opened.now.commit }
     requires table { AreInodes opened.now.place (meaning (D.state disk.old)) inodes.now }
     requires before { ObeysBefore opened.now.place (meaning (D.state disk.old)) 10 }
     requires below { d < opened.now.place.inodes }
-    requires names { IsNaming opened.now.place (meaning (D.state disk.old)) d names.old.counts.items names.old.directories.items names.old.repeated }
+    requires names { IsNaming opened.now.place (meaning (D.state disk.old)) d
+        names.old.counts.items names.old.directories.items names.old.repeated }
     ensures test { IfOk result (λ b. IsTrue b ↔ Obeys opened.now.place (meaning (D.state disk.old)) Slots d) }
     ensures names { IfOk result (λ b. IsTrue b
         → IsNaming opened.now.place (meaning (D.state disk.old)) (d + 1) names.new.counts.items names.new.directories.items names.new.repeated) }
@@ -97,11 +98,12 @@ fn add_directory<D: Disk>(
 /// What the slots of all directories name, where each is valid and its inode is in use and isn't the root. Each sector of a
 /// directory is read once.
 pub(crate) fn read_names<D: Disk>(disk: &mut D, opened: &Opened, inodes: &[Inode]) -> Checked<Names>
-    requires opened { IsOpened (D.state disk.old) opened.now.place opened.now.commit }
+    requires opened { BeginsWith (D.state disk.old) opened.now.place opened.now.commit }
     requires table { AreInodes opened.now.place (meaning (D.state disk.old)) inodes.now }
     requires before { ObeysBefore opened.now.place (meaning (D.state disk.old)) 10 }
     ensures each { OnOk result (ObeysEach opened.now.place (meaning (D.state disk.old)) Slots) }
-    ensures names { IfOk result (λ names. IsNameTable opened.now.place (meaning (D.state disk.old)) names.counts.items names.directories.items) }
+    ensures names { IfOk result (λ names.
+        IsNameTable opened.now.place (meaning (D.state disk.old)) names.counts.items names.directories.items) }
     ensures repeated { IfOk result (λ names. MatchOption names.repeated (ObeysEach opened.now.place (meaning (D.state disk.old)) NamesApart)
         (λ d. IsLeastFailure opened.now.place (meaning (D.state disk.old)) NamesApart d)) }
     ensures passed { Passed (IsLeast opened.now.place Slots) (D.state disk.old) (D.state disk.new) result }

@@ -6,7 +6,7 @@ ghost use Rattle.fs_layout.specs.declared.inode.Kind.TheVariants.{Free, Director
 ghost use Rattle.fs_layout.specs.Bytes.{window};
 ghost use Rattle.fs_layout.specs.Inode.{inode_of};
 ghost use Rattle.fs_model.specs.Rules.{ObeysEach, Inodes};
-ghost use Rattle.fs_check.specs.Checks.{meaning, IsOpened, AreInodes, Passed, IsNone, IsLeast};
+ghost use Rattle.fs_check.specs.Checks.{meaning, BeginsWith, AreInodes, Passed, IsNone, IsLeast};
 ghost use Rattle.fs_check.specs.TableSectors.{IsTableSector};
 
 use crate::faults::{CheckFault, Checked, Finding};
@@ -45,7 +45,7 @@ pub(crate) fn read_table<D: Disk>(
     n: u32,
     table: &mut [u8; 512],
 ) -> Checked<()>
-    requires opened { IsOpened (D.state disk.old) opened.now.place opened.now.commit }
+    requires opened { BeginsWith (D.state disk.old) opened.now.place opened.now.commit }
     requires kept { n % 4 ≢ 0 → IsTableSector opened.now.place (meaning (D.state disk.old)) n table.old }
     ensures table { OnOk result (IsTableSector opened.now.place (meaning (D.state disk.old)) n table.new) }
     ensures passed { Passed IsNone (D.state disk.old) (D.state disk.new) result }
@@ -63,7 +63,7 @@ pub(crate) fn read_table<D: Disk>(
 
 /// The inodes, all of them.
 pub(crate) fn read_inodes<D: Disk>(disk: &mut D, opened: &Opened) -> Checked<Vec<Inode>>
-    requires opened { IsOpened (D.state disk.old) opened.now.place opened.now.commit }
+    requires opened { BeginsWith (D.state disk.old) opened.now.place opened.now.commit }
     ensures each { OnOk result (ObeysEach opened.now.place (meaning (D.state disk.old)) Inodes) }
     ensures table { IfOk result (λ inodes. AreInodes opened.now.place (meaning (D.state disk.old)) inodes.items) }
     ensures passed { Passed (IsLeast opened.now.place Inodes) (D.state disk.old) (D.state disk.new) result }

@@ -5,7 +5,7 @@ ghost use Rattle.fs_layout.specs.Bytes.{SectorMap};
 ghost use Rattle.fs_layout.specs.Images.{HasPointers, part};
 ghost use Rattle.fs_model.specs.Rules.{ObeysEach, IsLeastFailure, InData, OwnedOnce};
 ghost use Rattle.fs_check.specs.Owning.{part_at, owned_part, OwnsData, IsMarked};
-ghost use Rattle.fs_check.specs.Checks.{meaning, IsOpened, AreInodes, IsOwnerMap, Passed, IsLeast};
+ghost use Rattle.fs_check.specs.Checks.{meaning, BeginsWith, AreInodes, IsOwnerMap, Passed, IsLeast};
 
 use crate::faults::{CheckFault, Checked, Finding};
 use crate::opening::Opened;
@@ -88,7 +88,7 @@ fn mark_all<D: Disk>(
     owned: &mut [bool],
     twice: &mut [bool],
 ) -> Checked<()>
-    requires opened { IsOpened (D.state disk.old) opened.now.place opened.now.commit }
+    requires opened { BeginsWith (D.state disk.old) opened.now.place opened.now.commit }
     requires table { AreInodes opened.now.place (meaning (D.state disk.old)) inodes.now }
     requires none { IsMarked (owned_part opened.now.place (meaning (D.state disk.old))) 0 0 opened.now.place.sectors owned.old twice.old }
     ensures each { OnOk result (ObeysEach opened.now.place (meaning (D.state disk.old)) InData) }
@@ -116,7 +116,7 @@ pub(crate) fn read_owners<D: Disk>(
     opened: &Opened,
     inodes: &[Inode],
 ) -> Checked<Owners>
-    requires opened { IsOpened (D.state disk.old) opened.now.place opened.now.commit }
+    requires opened { BeginsWith (D.state disk.old) opened.now.place opened.now.commit }
     requires table { AreInodes opened.now.place (meaning (D.state disk.old)) inodes.now }
     ensures each { OnOk result (ObeysEach opened.now.place (meaning (D.state disk.old)) InData) }
     ensures owners { IfOk result (λ owners. IsOwnerMap opened.now.place (meaning (D.state disk.old)) owners.owned.items) }

@@ -4,7 +4,7 @@ ghost use Rattle.std.specs.Prelude.{◌≡◌, ◌<◌, IfOk, IsTrue, ◌↔◌,
 ghost use Rattle.fs_layout.specs.Bytes.{SectorMap};
 ghost use Rattle.fs_layout.specs.Images.{IsData, HasPointers, part};
 ghost use Rattle.fs_check.specs.Owning.{part_at, OwnsData};
-ghost use Rattle.fs_check.specs.Checks.{meaning, IsOpened, Passed, IsNone};
+ghost use Rattle.fs_check.specs.Checks.{meaning, BeginsWith, Passed, IsNone};
 
 use crate::faults::Checked;
 use crate::opening::Opened;
@@ -46,7 +46,7 @@ pub(crate) fn read_pointers<D: Disk>(
     opened: &Opened,
     inode: &Inode,
 ) -> Checked<[u8; 512]>
-    requires opened { IsOpened (D.state disk.old) opened.now.place opened.now.commit }
+    requires opened { BeginsWith (D.state disk.old) opened.now.place opened.now.commit }
     requires on_disk { inode.now.indirect < (D.state disk.old).size }
     ensures content { IfOk result (HasPointers (meaning (D.state disk.old)) inode.now) }
     ensures passed { Passed IsNone (D.state disk.old) (D.state disk.new) result }
@@ -78,7 +78,7 @@ pub(crate) fn pointers_in_data<D: Disk>(
     opened: &Opened,
     inode: &Inode,
 ) -> Checked<Option<[u8; 512]>>
-    requires opened { IsOpened (D.state disk.old) opened.now.place opened.now.commit }
+    requires opened { BeginsWith (D.state disk.old) opened.now.place opened.now.commit }
     ensures found { IfOk result (λ found. MatchOption found (OwnsData opened.now.place (meaning (D.state disk.old)) inode.now → ⊥)
         (λ content. HasPointers (meaning (D.state disk.old)) inode.now content × OwnsData opened.now.place (meaning (D.state disk.old)) inode.now)) }
     ensures passed { Passed IsNone (D.state disk.old) (D.state disk.new) result }

@@ -4,7 +4,7 @@ ghost use Rattle.std.specs.Prelude.{◌≡◌, ◌≢◌, ◌≤◌, ◌<◌, �
 ghost use Rattle.fs_layout.specs.Bytes.{SectorMap};
 ghost use Rattle.fs_layout.specs.Commit.{IsCommit};
 ghost use Rattle.fs_layout.specs.Recovered.{recovered};
-ghost use Rattle.fs_check.specs.Checks.{meaning, IsOpened, Passed, IsNone};
+ghost use Rattle.fs_check.specs.Checks.{meaning, BeginsWith, Passed, IsNone};
 
 use crate::faults::Checked;
 use crate::opening::Opened;
@@ -44,7 +44,7 @@ pub(crate) fn read_recovered<D: Disk>(
     n: u32,
     to: &mut [u8; 512],
 ) -> Checked<()>
-    requires opened { IsOpened (D.state disk.old) opened.now.place opened.now.commit }
+    requires opened { BeginsWith (D.state disk.old) opened.now.place opened.now.commit }
     requires on_disk { n < (D.state disk.old).size }
     ensures content { OnOk result (to.new ≡ meaning (D.state disk.old) n) }
     ensures passed { Passed IsNone (D.state disk.old) (D.state disk.new) result }

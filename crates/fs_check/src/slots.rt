@@ -6,7 +6,7 @@ ghost use Rattle.fs_layout.specs.declared.inode.TheConstants.{MAX_DIRECTORY_SIZE
 ghost use Rattle.fs_layout.specs.Images.{IsData, HasPointers, Owns, pointer};
 ghost use Rattle.fs_layout.specs.Directories.{NamedInode, HaveDistinctNames};
 ghost use Rattle.fs_check.specs.Naming.{AreValid, AreSlots, IsUsable, HasGoodSlots, is_below};
-ghost use Rattle.fs_check.specs.Checks.{meaning, IsOpened, AreInodes, Passed, IsNone};
+ghost use Rattle.fs_check.specs.Checks.{meaning, BeginsWith, AreInodes, Passed, IsNone};
 
 use crate::faults::Checked;
 use crate::opening::Opened;
@@ -27,7 +27,7 @@ fn read_block_of<D: Disk>(
     k: usize,
     block: &mut [u8; 512],
 ) -> Checked<()>
-    requires opened { IsOpened (D.state disk.old) opened.now.place opened.now.commit }
+    requires opened { BeginsWith (D.state disk.old) opened.now.place opened.now.commit }
     requires pointers { HasPointers (meaning (D.state disk.old)) inode.now pointers.now }
     requires in_data { (s : ℕ) → Owns (meaning (D.state disk.old)) inode.now s → IsData opened.now.place s }
     requires before { k % 4 ≢ 0 → block.old ≡ meaning (D.state disk.old) (pointer (meaning (D.state disk.old)) inode.now (k / 4)) }
@@ -43,7 +43,7 @@ fn read_block_of<D: Disk>(
 
 // The slots of a directory, where each is valid.
 fn read_slots<D: Disk>(disk: &mut D, opened: &Opened, inode: &Inode) -> Checked<Option<Vec<Slot>>>
-    requires opened { IsOpened (D.state disk.old) opened.now.place opened.now.commit }
+    requires opened { BeginsWith (D.state disk.old) opened.now.place opened.now.commit }
     requires in_data { (s : ℕ) → Owns (meaning (D.state disk.old)) inode.now s → IsData opened.now.place s }
     requires size { inode.now.size ≤ MAX_DIRECTORY_SIZE }
     ensures slots { IfOk result (λ o. MatchOption o (AreValid (meaning (D.state disk.old)) inode.now → ⊥)
@@ -93,7 +93,7 @@ pub(crate) fn read_good_slots<D: Disk>(
     inodes: &[Inode],
     inode: &Inode,
 ) -> Checked<Option<Vec<Slot>>>
-    requires opened { IsOpened (D.state disk.old) opened.now.place opened.now.commit }
+    requires opened { BeginsWith (D.state disk.old) opened.now.place opened.now.commit }
     requires table { AreInodes opened.now.place (meaning (D.state disk.old)) inodes.now }
     requires in_data { (s : ℕ) → Owns (meaning (D.state disk.old)) inode.now s → IsData opened.now.place s }
     requires size { inode.now.size ≤ MAX_DIRECTORY_SIZE }
