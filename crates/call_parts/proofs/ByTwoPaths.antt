@@ -32,14 +32,14 @@ use Rattle.fs_model.specs.Steps.{after, after_call, after_effect, early_refusal,
 use Rattle.fs_model.specs.Trees.{Tree}
 use Rattle.fs_model.proofs.StepsDemands.{first_met, then_met}
 use Rattle.fs_model.proofs.Unchanged.{same_process_stays}
-use Rattle.path_walk.specs.Answers.{refused_or, IsAnswered}
+use Rattle.path_walk.specs.Answers.{refused_or, FailsToRead, IsAnswered}
 use Rattle.path_walk.specs.HeldTrees.{IsThere}
 use Rattle.call_parts.specs.Performing.{IsStateOf, IsRefused, Performs, chosen}
 use Rattle.call_parts.specs.Performing as why
 use Rattle.path_walk.specs.Walked.{walk_of}
 use Rattle.call_parts.proofs.ByPath.{refusing, refused_performs}
 use Rattle.call_parts.proofs.Calling.{absent_refused, early_is, late_is, after_is, state_kept, same_process, first_of-append, met_ok, refused_err, answered_later, answered_refused, interrupted_refused}
-use Rattle.path_walk.proofs.Kept.{is_err}
+use Rattle.path_walk.proofs.Kept.{is_err, interrupts_later}
 use Rattle.call_parts.proofs.Changed.{IsChange}
 use Rattle.call_parts.specs.Reaching.{checked, WalksBoth, RefusesBoth, HasWalkedBoth}
 use Rattle.call_parts.specs.TwoPaths.{both_checks, walk_refusal, walks_of, scene_with, HasFoundBoth}
@@ -237,6 +237,12 @@ module _ {pid : ℕ} {call : Call} {old_path new_path : List ℕ} {demands : Sce
         answered_refused old.disk new.disk s pid call (both_found_firm s pid q is (here s at) (has s at)) is.asks e
         (first_of (demands (scene_with s q f g))) x (both_found_late s pid q is (here s at) (has s at))
         (answered_later new.disk same (refused s (has s at) (state_kept same at))))
+
+    -- or a fault, in what it does after that
+    pub both_broken : {last : TxnState} (new : TxnState) (r : Result Reply Refusal) (e : Refusal) → IsErr r × IsErrAnd r (λ y. y ≡ e) → IsUnchanged mid last → SameStore last new
+        → FailsToRead last.disk new.disk e → Performs p pid call old new desks desks r
+    both_broken {last} new r e err later store fault =
+        both_refused new r e err.0 err.1 (store_joined later.store store) {A = ℕ} 0 (λ s has at. inr (interrupts_later new.disk later (inr fault)))
 
     -- it has changed the tree
     pub both_performs : (new : TxnState) → SameStore mid new → new.sectors 0 ≡ mid.sectors 0 → (reply : Reply)

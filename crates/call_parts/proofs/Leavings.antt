@@ -4,21 +4,19 @@
 --     node_stood, left_node        what stands stays in the tree, or goes
 --     open_besides        what a process has open without the descriptor
 --     closed_holds        the map holds the tree after a close
-use Rattle.std.specs.Prelude.{◌≡◌, ◌≢◌, ℕ, ◌+◌, ◌≤◌, ◌==◌, Bool, true, false, not, ◌||◌, List, Some, IsTrue, IsFalse, ◌⊎◌}
+use Rattle.std.specs.Prelude.{◌≡◌, ◌≢◌, ℕ, ◌==◌, Bool, true, false, not, ◌||◌, List, Some, IsTrue, IsFalse, ◌⊎◌}
 use Rattle.std.proofs.Common.{refl, sym, ap, subst, ◌∙◌, inl, inr}
 use Rattle.std.proofs.lemmas.Bool.{ne_eqb, eq-eqb}
 use Rattle.std.specs.List.{list_any}
 use Rattle.std.specs.Ordering.{nat_cmp}
 use Rattle.fs_layout.specs.declared.place.Place.{Place}
 use Rattle.fs_layout.specs.Bytes.{SectorMap}
-use Rattle.fs_layout.specs.InodeChanges.{ChangesInode}
-use Rattle.fs_layout.specs.Images.{inode_at, free_sectors}
+use Rattle.fs_layout.specs.Images.{inode_at}
 use Rattle.fs_layout.specs.Maps.{get, IsMap}
 use Rattle.sector_txn.specs.Sectors.{TxnState, IsUnchanged}
 use Rattle.bit_alloc.specs.declared.bitmap.Bitmap.TheVariants.{Inodes}
 use Rattle.bit_alloc.specs.Bitmaps.{IsNumber}
 use Rattle.bit_alloc.specs.Inodes.{IsSound}
-use Rattle.bit_alloc.proofs.Transactions.{puts_after}
 use Rattle.fs_model.specs.TreeChanges.{swept, lives_nameless}
 use Rattle.fs_model.specs.Nodes.{Node, Body, File, Dir, Link, is_link}
 use Rattle.fs_model.specs.Processes.{Descriptor, Process, Desks, is_open}
@@ -35,22 +33,18 @@ use Rattle.open_files.proofs.Slots.{any_with_entry}
 use Rattle.call_parts.specs.Performing.{IsStateOf}
 use Rattle.call_parts.proofs.Calling.{state_tree, same_process}
 use Rattle.path_walk.proofs.HeldNodes.{held_node}
-use Rattle.path_walk.proofs.Kept.{kept, kept_back, sound_kept}
+use Rattle.path_walk.proofs.Kept.{kept, sound_kept}
 use Rattle.call_parts.specs.Dropping.{Drops, LeavesInode, stays_open, has_name, was_free, goes}
 use Rattle.call_parts.specs.Reaching.{IsOpened}
 use Rattle.call_parts.proofs.ByDescriptor.{open_fits, open_below, entry_again, has_open, still_open, changed_there}
+use Rattle.call_parts.proofs.Removed.{touches_after}
 
 -- ---- of the map
 
 pub dropped_after : {p : Place} {n : ℕ} {old mid new : TxnState} → IsUnchanged old mid → Drops p n mid new → Drops p n old new
 dropped_after {p} {n} {old} {mid} {new} same drops = record {
   sound = drops.sound;
-  touches = record {
-    puts = puts_after same drops.touches.puts;
-    super = drops.touches.super ∙ same.sectors 0;
-    inode = kept_back (λ (m : SectorMap). ChangesInode p n m new.sectors) same drops.touches.inode;
-    free = kept_back (λ (m : SectorMap). free_sectors p m ≤ free_sectors p new.sectors + 0) same drops.touches.free;
-  };
+  touches = touches_after same drops.touches;
   free = drops.free;
   clear = drops.clear;
 }

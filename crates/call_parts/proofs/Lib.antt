@@ -19,3 +19,4 @@ pub mod Removed
 pub mod Reachings
 pub mod Performed
 pub mod NewNames
+pub mod Refuses

@@ -1,4 +1,5 @@
 -- What is asked of a directory that gets a name.
+--     asked_as        of the same caller, after as many lookups
 --     dir_denied, dir_granted        write and search
 --     room_few, room_crowded, room_met        room for a name
 use Rattle.std.specs.Prelude.{◌≡◌, ℕ, ◌-◌, nat_lt, nat_le, [], ◌∷◌, length, None, Result, Ok, Err}
@@ -30,6 +31,14 @@ use Rattle.call_parts.specs.Makings.{room_asked}
 use Rattle.call_parts.specs.Reaching.{checked}
 
 -- ---- write and search on a directory
+
+-- permission on a directory, of the same caller after as many lookups
+pub asked_as : {cred who : Credential} {step steps : ℕ} (t : Tree) (dir walk : ℕ) (y : Inode) (r : Result Inode Refusal) (old new : DiskState) → cred ≡ who → step ≡ steps
+    → IsAnswered old new (refused_or {A = Inode} (permission_on cred t dir write_and_search walk step) (Ok y)) r
+    → IsAnswered old new (refused_or {A = Inode} (permission_on who t dir write_and_search walk steps) (Ok y)) r
+asked_as {cred} {who} {step} {steps} t dir walk y r old new same is h =
+    subst (λ (k : ℕ). IsAnswered old new (refused_or {A = Inode} (permission_on who t dir write_and_search walk k) (Ok y)) r) is
+    (subst (λ (k : Credential). IsAnswered old new (refused_or {A = Inode} (permission_on k t dir write_and_search walk step) (Ok y)) r) same h)
 
 module _ {p : Place} {map : SectorMap} {t : Tree} (h : HoldsTree p map t) (dir : ℕ) (d : IsDirectoryAt t dir) (cred : Credential) (walk step : ℕ) where
   abbrev pub decision : Result Rule Refusal

@@ -5,6 +5,7 @@
 --     space_at, space_refused, space_met        and of a call that makes something
 --     caller_fits, new_in, ParentFits, parent_fits        the caller and the directory, in a state
 --     node_made        something was made
+--     name_refused, name_found, made_refused, made_done        a call that makes something
 use Rattle.std.specs.Prelude.{◌≡◌, ◌⊎◌, ℕ, ◌+◌, ◌-◌, ◌^◌, ◌<◌, ◌≤◌, ◌==◌, nat_lt, nat_le, List, [], ◌∷◌, ◌++◌, length, None, IsTrue, Result, Ok, Err, IsErr, IsErrAnd}
 use Rattle.std.proofs.Common.{refl, sym, ap, subst, arith, ◌∙◌, inl, inr}
 use Rattle.sector_disk.specs.Disk.{DiskState, HasFailed}
@@ -15,11 +16,14 @@ use Rattle.fs_layout.specs.declared.place.Place.{Place}
 use Rattle.fs_layout.specs.Bytes.{SectorMap, IsBytes}
 use Rattle.fs_layout.specs.Images.{inode_at, free_sectors}
 use Rattle.fs_layout.specs.Maps.{name_cmp, with_entry}
-use Rattle.sector_txn.specs.Sectors.{TxnState}
+use Rattle.sector_txn.specs.Sectors.{TxnState, IsUnchanged, SameStore}
+use Rattle.sector_txn.proofs.TransactionRuns.{store_same}
 use Rattle.bit_alloc.specs.declared.bitmap.Bitmap.TheVariants.{Inodes}
 use Rattle.bit_alloc.specs.declared.bitmap.TakeFault.{TakeFault}
 use Rattle.bit_alloc.specs.declared.bitmap.TakeFault.TheVariants as taking
 use Rattle.bit_alloc.specs.Bitmaps.{free_numbers}
+use Rattle.fs_model.specs.declared.call.Call.{Call}
+use Rattle.fs_model.specs.declared.reply.Reply.{Reply}
 use Rattle.fs_model.specs.declared.reply.Reply.TheVariants.{Done}
 use Rattle.fs_model.specs.declared.walk.Form.{Form}
 use Rattle.fs_model.specs.declared.walk.Form.TheVariants.{Parent}
@@ -30,7 +34,7 @@ use Rattle.fs_model.specs.Demands.{Demand, refuse, first_of}
 use Rattle.fs_model.specs.Limits.{entries_limit, least_free}
 use Rattle.fs_model.specs.Nodes.{Node, names_in, with_names}
 use Rattle.fs_model.specs.Processes.{Process, Desks, is_open}
-use Rattle.fs_model.specs.Scenes.{Scene, permission_at_dir, space_to_make, changes}
+use Rattle.fs_model.specs.Scenes.{Scene, Effect, permission_at_dir, space_to_make, changes}
 use Rattle.fs_model.specs.States.{State, IsProcess}
 use Rattle.fs_model.specs.Steps.{HasNewNumber}
 use Rattle.fs_model.specs.StoredNodes.{Placed, HoldsNode}
@@ -40,9 +44,11 @@ use Rattle.fs_model.proofs.StepsFound.{IsNameAt}
 use Rattle.fs_model.proofs.StepsMaking.{IsNewborn}
 use Rattle.fs_model.proofs.StepsOfMaking.{dir_is_there}
 use Rattle.path_walk.specs.Answers.{refused_or, IsAnswered}
+use Rattle.path_walk.specs.HeldTrees.{HoldsTree}
 use Rattle.call_parts.specs.Paths.{scene_at, HasFound}
-use Rattle.call_parts.specs.Performing.{IsStateOf}
-use Rattle.call_parts.proofs.Calling.{state_tree, met_ok}
+use Rattle.call_parts.specs.Performing.{IsStateOf, Performs}
+use Rattle.call_parts.specs.Reaching.{Checked, checked, WalksPath, HasWalked}
+use Rattle.call_parts.proofs.Calling.{state_tree, met_ok, refused_err}
 use Rattle.call_parts.proofs.HeldChanges.{names_held}
 use Rattle.path_walk.proofs.HeldNodes.{names_say}
 use Rattle.path_walk.proofs.Kept.{is_err}
@@ -52,8 +58,10 @@ use Rattle.call_parts.proofs.Makeable.{found_new, has_few}
 use Rattle.call_parts.proofs.NewFile.{dir_below, dir_still_held, nothing_stands}
 use Rattle.call_parts.proofs.Checked.{refused_as}
 use Rattle.call_parts.proofs.Ownership.{others_asked, all_met}
+use Rattle.call_parts.proofs.Reachings.{asked_refused, changed}
+use Rattle.call_parts.proofs.Refuses.{Refuses, refuses_some}
 use Rattle.call_parts.proofs.Shown.{the_node_is}
-use Rattle.call_parts.specs.NewNodes.{MayBeNamed, IsMade, IsNewIn, MakesNode, TakesInode}
+use Rattle.call_parts.specs.NewNodes.{MayBeNamed, IsMade, IsNewIn, IsPlaced, MakesNode, TakesInode}
 
 module _ {p : Place} {map : SectorMap} {t : Tree} {dir : ℕ} {name : List ℕ} (can : CanMake p map t dir name) where
   pub room_then : (mid : SectorMap) (n : ℕ) (x : Placed) → TakesInode p n x map mid → free_sectors p map ≤ free_sectors p mid + 2 → MayBeNamed p mid dir name
@@ -89,16 +97,16 @@ asked_as p map t dir {cred} {who} {step} {steps} same count =
 
 module _ (p : Place) (old new : TxnState) (who : Credential) (t : Tree) (f : Found) (node : Node) where
   -- it isn't made
-  pub not_made : (r : Result (Unit {0}) Refusal) (e : Refusal) → IsErr r → IsErrAnd r (λ y. y ≡ e)
+  pub not_made : (r : Result (Unit {0}) Refusal) (e : Refusal) → IsErr r × IsErrAnd r (λ y. y ≡ e)
       → IsAnswered old.disk new.disk (refused_or {A = Unit {0}} (first_of (make_asked p old.sectors who t f.dir (f.step - 1))) (Ok tt)) (Err e)
       → IsMade p old new who t f node r
-  not_made r e err and h = subst (λ (x : Result (Unit {0}) Refusal). IsMade p old new who t f node x) (sym (is_err r e err and)) h
+  not_made r e err h = subst (λ (x : Result (Unit {0}) Refusal). IsMade p old new who t f node x) (sym (is_err r e err.0 err.1)) h
 
   -- what is asked refuses
-  pub not_allowed : {cred : Credential} {step : ℕ} → cred ≡ who → step ≡ f.step - 1 → (r : Result (Unit {0}) Refusal) (e : Refusal) → IsErr r → IsErrAnd r (λ y. y ≡ e)
+  pub not_allowed : {cred : Credential} {step : ℕ} → cred ≡ who → step ≡ f.step - 1 → (r : Result (Unit {0}) Refusal) (e : Refusal) → IsErr r × IsErrAnd r (λ y. y ≡ e)
       → {B : Type 0} (x : B) → IsAnswered old.disk new.disk (refused_or {A = B} (first_of (make_asked p old.sectors cred t f.dir step)) (Ok x)) (Err e)
       → IsMade p old new who t f node r
-  not_allowed {cred} {step} same count r e err and {B} x h = not_made r e err and
+  not_allowed {cred} {step} same count r e err {B} x h = not_made r e err
       (refused_as {A = Unit {0}} {B = B} (first_of (make_asked p old.sectors who t f.dir (f.step - 1))) x tt e old.disk new.disk
       (subst (λ (ds : List Demand). IsAnswered old.disk new.disk (refused_or {A = B} (first_of ds) (Ok x)) (Err e)) (asked_as p old.sectors t f.dir same count) h))
 
@@ -217,3 +225,45 @@ module _ {p : Place} {map : SectorMap} {desks : Desks} {s : State} (at : IsState
               body = newborn.body;
             }) made.takes.change made.takes.taken made.takes.holds made.names.change made.names.used renamed_held;
       }
+
+-- ---- a call that makes something, by its row
+
+module _ {pid : ℕ} {call : Call} {checks : Checked} {path : List ℕ} (asked : Found → List Demand) {effect : Scene → ℕ → Effect}
+    (is : WalksPath call checks Parent path (λ x. asked x.first ++ space_at x) effect) {p : Place} {old mid : TxnState} {desks : Desks} {q : Process} {f : Found}
+    (same : IsUnchanged old mid) (w : HasWalked p mid desks pid checks Parent path q f) where
+  -- the name isn't new
+  pub name_refused : (r : Result Reply Refusal) (e : Refusal) → IsErr r × IsErrAnd r (λ y. y ≡ e) → {d : Demand} → Refuses d (first_of (asked f)) → checked d ≡ Err e
+      → Performs p pid call old mid desks desks r
+  name_refused r e err {d} refuses is_refused = asked_refused is same w mid r e err.0 err.1 store_same {A = Unit {0}} tt
+      (λ s has at.
+      inl (ap checked
+      (refuses_some (asked f) (space_at (scene_at s q f)) e (refuses e (refused_err {A = Unit {0}} d tt e is_refused)))))
+
+  -- the name is new in a directory
+  pub name_found : f.ino ≡ None → (t : Tree) × HoldsTree p mid.sectors t × IsNewIn t f.dir f.name
+  name_found none =
+      let at = w.ready.is_state in
+      (w.ready.state.tree, state_tree at, new_in at q f (w.found w.ready.state at) w.bytes none)
+
+  module _ (none : f.ino ≡ None) (new : TxnState) where
+    -- it isn't made
+    pub made_refused : (r : Result Reply Refusal) (e : Refusal) → IsErr r × IsErrAnd r (λ y. y ≡ e) → SameStore mid new → first_of (asked f) ≡ None
+        → ((t : Tree) → HoldsTree p mid.sectors t → IsNewIn t f.dir f.name
+        → IsAnswered mid.disk new.disk (refused_or {A = Unit {0}} (first_of (make_asked p mid.sectors q.cred t f.dir (f.step - 1))) (Ok tt)) (Err e))
+        → Performs p pid call old new desks desks r
+    made_refused r e err store met each = asked_refused is same w new r e err.0 err.1 store {A = Unit {0}} tt
+        (λ s has at. space_refused at q f (asked f) met e mid.disk new.disk (each s.tree (state_tree at) (new_in at q f has w.bytes none)))
+
+    -- it is
+    pub made_done : SameStore mid new → (node : Tree → Node)
+        → ((t : Tree) → HoldsTree p mid.sectors t → IsNewIn t f.dir f.name → IsMade p mid new q.cred t f (node t) (Ok tt))
+        → ((s : State) → HasFound s pid q Parent path f → IsStateOf p mid.sectors desks s → first_of (make_asked p mid.sectors q.cred s.tree f.dir (f.step - 1)) ≡ None
+        → IsPlaced p f.dir f.name (node s.tree) mid.sectors new.sectors → IsChange p new.sectors desks s q (asked f ++ space_at (scene_at s q f)) (effect (scene_at s q f)) Done)
+        → Performs p pid call old new desks desks (Ok Done)
+    made_done store node each says =
+        let ready = w.ready in
+        let done = (each ready.state.tree (state_tree ready.is_state) (new_in ready.is_state q f (w.found ready.state ready.is_state) w.bytes none)).1 in
+        changed is same w new store (done.1.names.super ∙ done.1.takes.super) Done
+        (λ s has at.
+        let m = each s.tree (state_tree at) (new_in at q f has w.bytes none) in
+        says s has at m.0 m.1)

@@ -9,7 +9,7 @@ use Rattle.fs_layout.specs.declared.inode.Kind.TheVariants as kinds
 use Rattle.fs_layout.specs.declared.place.Place.{Place}
 use Rattle.fs_layout.specs.Bytes.{SectorMap}
 use Rattle.fs_layout.specs.Images.{inode_at}
-use Rattle.fs_layout.specs.Inode.{FitsInode, inode_fits}
+use Rattle.fs_layout.specs.Inode.{FitsInode}
 use Rattle.fs_model.specs.declared.walk.Form.{Form}
 use Rattle.fs_model.specs.declared.walk.Found.{Found}
 use Rattle.fs_model.specs.AttributeCalls.{chown_demands, chown_effect, owned}
@@ -32,6 +32,7 @@ use Rattle.path_walk.proofs.HeldNodes.{stands, held_node}
 use Rattle.call_parts.specs.Asked.{own_asked, owner_asked}
 use Rattle.call_parts.specs.Given.{GivesOwner}
 use Rattle.call_parts.proofs.Changed.{IsChange, rewrites_found}
+use Rattle.call_parts.proofs.Removed.{attributes_fit}
 use Rattle.call_parts.proofs.Shown.{the_node_is}
 use Rattle.call_parts.specs.Reaching.{checked, IsInodeFound}
 
@@ -108,21 +109,7 @@ owner_rest owner group s q f =
     owner_asked q.cred node.owner node.group (unwrap_or owner node.owner) (unwrap_or group node.group) f.step
 
 pub owner_given : (v : Inode) (uid gid : ℕ) → FitsInode v → v.kind ≢ kinds.Free → uid < 2 ^ 32 → gid < 2 ^ 32 → FitsInode (record v { uid = uid; gid = gid })
-unfolding inode_fits
-owner_given v uid gid fits used u g = record {
-  valid = record { numbers = fits.valid.numbers; free = λ free. absurd (used free) };
-  mode = fits.mode;
-  uid = u;
-  gid = g;
-  names = fits.names;
-  size = fits.size;
-  parent = fits.parent;
-  acl = fits.acl;
-  default_acl = fits.default_acl;
-  direct_len = fits.direct_len;
-  direct = fits.direct;
-  indirect = fits.indirect;
-}
+owner_given v uid gid fits used u g = attributes_fit v uid gid v.names v.parent fits used u g fits.names fits.parent
 
 module _ {p : Place} {map : SectorMap} {desks : Desks} {s : State} {pid : ℕ} {q : Process} {form : Form} {path : List ℕ} {f : Found} {n : ℕ} {v : Inode}
     (at : IsStateOf p map desks s) (has : HasFound s pid q form path f) (i : IsInodeFound p map f n v) where

@@ -9,7 +9,7 @@
 use Rattle.std.specs.Prelude.{◌≡◌, ◌≢◌, ℕ, ◌<◌, ◌==◌, List, [], ◌∷◌, ◌++◌, None, Some, IsTrue, Result, Ok, Err, IsErr, IsErrAnd}
 use Rattle.std.specs.List.{list_any}
 use Rattle.std.specs.Ordering.{nat_cmp}
-use Rattle.std.proofs.Common.{sym, ap, subst, ◌∙◌}
+use Rattle.std.proofs.Common.{sym, ap, subst, ◌∙◌, inr}
 use Rattle.sector_disk.specs.Disk.{DiskState}
 use Rattle.fs_cred.specs.declared.errno.Errno.{Errno}
 use Rattle.fs_cred.specs.declared.errno.Errno.TheVariants.{ESRCH}
@@ -41,11 +41,11 @@ use Rattle.fs_model.specs.States.{State}
 use Rattle.fs_model.specs.Steps.{after_effect, early_refusal, firm_refusal, other_refusal}
 use Rattle.fs_model.specs.Trees.{Tree}
 use Rattle.fs_model.proofs.Unchanged.{same_process_stays, open_stays}
-use Rattle.path_walk.specs.Answers.{refused_or, IsAnswered}
+use Rattle.path_walk.specs.Answers.{refused_or, FailsToRead, IsAnswered}
 use Rattle.path_walk.specs.HeldTrees.{IsThere, HasAccess}
 use Rattle.path_walk.specs.Walked.{walk_of}
 use Rattle.path_walk.proofs.HeldNodes.{number_below}
-use Rattle.path_walk.proofs.Kept.{kept, kept_back, sound_kept, same_map}
+use Rattle.path_walk.proofs.Kept.{kept, kept_back, sound_kept, same_map, interrupts_later}
 use Rattle.call_parts.specs.Asked.{own_asked}
 use Rattle.call_parts.specs.Given.{HasBody}
 use Rattle.call_parts.specs.Paths.{scene_at, HasFound}
@@ -145,6 +145,12 @@ module _ {pid : ℕ} {call : Call} {checks : Checked} {form : Form} {path : List
         → Performs p pid call old new desks desks r
     asked_refused new r e err and store x asked = refused_performs r e err and (store_joined same.store store)
         (λ s at. refused_since s at new.disk e x (asked s (has s at) (state_kept same at)))
+
+    -- or a fault, in what it does after that
+    pub asked_broken : {last : TxnState} (new : TxnState) (r : Result Reply Refusal) (e : Refusal) → IsErr r × IsErrAnd r (λ y. y ≡ e) → IsUnchanged mid last → SameStore last new
+        → FailsToRead last.disk new.disk e → Performs p pid call old new desks desks r
+    asked_broken {last} new r e err later store fault =
+        asked_refused new r e err.0 err.1 (store_joined later.store store) {A = ℕ} 0 (λ s has at. inr (interrupts_later new.disk later (inr fault)))
 
     -- it answers
     pub told : (new : TxnState) → IsUnchanged mid new → (reply : Reply)

@@ -9,9 +9,9 @@ use Rattle.fs_layout.specs.declared.place.Place.{Place}
 use Rattle.fs_layout.specs.Inode.{free_inode}
 use Rattle.fs_layout.specs.Images.{bit, inode_at, inode_bitmap}
 use Rattle.sector_txn.specs.Sectors.{TxnState, IsUnchanged}
-use Rattle.bit_alloc.specs.Inodes.{IsSound, Touches, KeepsFields, KeepsAcls, KeepsBytes}
-use Rattle.fs_layout.specs.Directories.{HasNames}
+use Rattle.bit_alloc.specs.Inodes.{IsSound, Touches, KeepsAcls, KeepsBytes}
 use Rattle.fs_layout.specs.Maps.{name_cmp, without}
+use Rattle.call_parts.specs.Given.{ChangesNames}
 
 -- inode n is free, and so are the sectors that it owned
 pub record Drops (p : Place) (n : ℕ) (old new : TxnState) : Type 0 where
@@ -41,8 +41,4 @@ pub record Counts (p : Place) (n names : ℕ) (old new : TxnState) : Type 0 wher
 pub record RemovesName (p : Place) (dir : ℕ) (name : List ℕ) (old new : TxnState) : Type 0 where
   pub sound : IsSound p new
   pub touches : Touches p dir 0 4 old new
-  pub used : bit new.sectors inode_bitmap dir ≡ bit old.sectors inode_bitmap dir
-  pub fields : KeepsFields (inode_at p old.sectors dir) (inode_at p new.sectors dir)
-  pub acls : KeepsAcls old.sectors new.sectors (inode_at p old.sectors dir) (inode_at p new.sectors dir)
-  pub names : (names : List (List ℕ × ℕ)) → HasNames old.sectors (inode_at p old.sectors dir) names
-      → HasNames new.sectors (inode_at p new.sectors dir) (without name_cmp names name)
+  pub names : ChangesNames p dir (λ names. without name_cmp names name) old.sectors new.sectors

@@ -1,10 +1,11 @@
 -- What a call leaves of the inode that it changes.
 --     ChangesOne        one inode
+--     ChangesNames        the names of a directory
 --     GivesOwner        another owner and group
 --     special_mode, SavesAcl        another mode or access ACL
 --     SavesDefaultAcl        another default ACL
 --     HasBody        what a call shows of an inode
-use Rattle.std.specs.Prelude.{◌≡◌, ℕ, ◌+◌, ◌/◌, ◌%◌, ◌==◌, ◌<◌, ◌^◌, ◌&&◌, cond, Option, IsFalse}
+use Rattle.std.specs.Prelude.{◌≡◌, ℕ, ◌+◌, ◌/◌, ◌%◌, ◌==◌, ◌<◌, ◌^◌, ◌&&◌, cond, List, Option, IsFalse}
 use Rattle.posix_acl.specs.AccessList.{AccessList}
 use Rattle.fs_cred.specs.Credentials.{Credential}
 use Rattle.fs_cred.specs.Ownership.{keeps_set_group_id}
@@ -14,6 +15,7 @@ use Rattle.fs_layout.specs.declared.inode.Kind.TheVariants.{Directory}
 use Rattle.fs_layout.specs.declared.place.Place.{Place}
 use Rattle.fs_layout.specs.Bytes.{SectorMap}
 use Rattle.fs_layout.specs.InodeChanges.{ChangesInode}
+use Rattle.fs_layout.specs.Directories.{HasNames}
 use Rattle.fs_layout.specs.Images.{bit, inode_bitmap, inode_at}
 use Rattle.fs_layout.specs.declared.inode.Inode.{Inode}
 use Rattle.fs_model.specs.Nodes.{Body, is_link, shown_mode}
@@ -26,6 +28,15 @@ pub record ChangesOne (p : Place) (n : ℕ) (old new : SectorMap) : Type 0 where
   pub super : new 0 ≡ old 0
   pub inode : ChangesInode p n old new
   pub used : bit new inode_bitmap n ≡ bit old inode_bitmap n
+
+-- directory dir has other names, which f makes of those that it had, and is else as it was
+pub record ChangesNames (p : Place) (dir : ℕ) (f : List (List ℕ × ℕ) → List (List ℕ × ℕ)) (old new : SectorMap) : Type 0 where
+  pub super : new 0 ≡ old 0
+  pub change : ChangesInode p dir old new
+  pub used : bit new inode_bitmap dir ≡ bit old inode_bitmap dir
+  pub kept : KeepsFields (inode_at p old dir) (inode_at p new dir)
+  pub acls : KeepsAcls old new (inode_at p old dir) (inode_at p new dir)
+  pub named : (names : List (List ℕ × ℕ)) → HasNames old (inode_at p old dir) names → HasNames new (inode_at p new dir) (f names)
 
 -- inode n has another owner and group, and all else that it had
 pub record GivesOwner (p : Place) (n uid gid : ℕ) (old new : SectorMap) : Type 0 where

@@ -1,3 +1,5 @@
+pub mod DiskWords
+pub mod ModelWords
 pub mod Performing
 pub mod Paths
 pub mod Asked

@@ -1,5 +1,6 @@
 -- What making something in a directory asks and leaves.
 --     IsNewIn        a directory in which a name is new
+--     HasName        a directory that has this name
 --     MayBeNamed        a directory in which something may be named so
 --     NamesInode        a directory has been given a name for an inode
 --     TakesInode        an inode was free, and holds something now
@@ -7,7 +8,7 @@
 --     file_made, directory_made, link_made        what is made
 --     link_name_asked        asked of the name of a link that is made
 --     IsMade        it was made, or why not
-use Rattle.std.specs.Prelude.{◌≡◌, ℕ, ◌-◌, ◌/◌, ◌%◌, ◌<◌, ◌≤◌, ◌==◌, if◌then◌else◌, List, [], ◌∷◌, length, Option, None, IsTrue, Result, MatchResult, Ok, Err}
+use Rattle.std.specs.Prelude.{◌≡◌, ◌≢◌, ℕ, ◌-◌, ◌/◌, ◌%◌, ◌<◌, ◌≤◌, ◌==◌, if◌then◌else◌, List, [], ◌∷◌, length, Option, None, IsTrue, Result, MatchResult, Ok, Err}
 use Rattle.posix_acl.specs.AccessList.{AccessList}
 use Rattle.fs_cred.specs.Credentials.{Credential}
 use Rattle.fs_cred.specs.declared.errno.Errno.TheVariants.{ENOENT}
@@ -23,7 +24,6 @@ use Rattle.fs_layout.specs.Maps.{name_cmp, get, with_entry}
 use Rattle.sector_txn.specs.Sectors.{TxnState}
 use Rattle.bit_alloc.specs.declared.bitmap.Bitmap.TheVariants.{Inodes}
 use Rattle.bit_alloc.specs.Bitmaps.{IsFreeNumber}
-use Rattle.bit_alloc.specs.Inodes.{KeepsFields, KeepsAcls}
 use Rattle.fs_model.specs.declared.walk.Found.{Found}
 use Rattle.fs_model.specs.Demands.{Demand, refuse, first_of}
 use Rattle.fs_model.specs.Limits.{entries_limit}
@@ -32,12 +32,17 @@ use Rattle.fs_model.specs.Scenes.{must_be_new}
 use Rattle.fs_model.specs.StoredNodes.{Placed, HoldsNode}
 use Rattle.fs_model.specs.Trees.{Tree, IsDirectoryAt}
 use Rattle.path_walk.specs.Answers.{refused_or, IsAnswered}
+use Rattle.call_parts.specs.Given.{ChangesNames}
 use Rattle.call_parts.specs.Makings.{make_asked}
 
 pub record IsNewIn (t : Tree) (dir : ℕ) (name : List ℕ) : Type 0 where
   pub directory : IsDirectoryAt t dir
   pub is_name : IsName name
   pub is_new : get name_cmp (names_in directory.node.body) name ≡ None
+
+-- directory dir has this name
+abbrev pub HasName : Place → SectorMap → ℕ → List ℕ → Type 0
+HasName p map dir name = (names : List (List ℕ × ℕ)) × HasNames map (inode_at p map dir) names × (get name_cmp names name ≢ None)
 
 -- Of the names of directory dir this is none, and it has room for one more, as the disk has for that.
 pub record MayBeNamed (p : Place) (map : SectorMap) (dir : ℕ) (name : List ℕ) : Type 0 where
@@ -50,13 +55,8 @@ pub record MayBeNamed (p : Place) (map : SectorMap) (dir : ℕ) (name : List ℕ
   pub enough : 2 ≤ free_sectors p map
 
 -- directory dir names inode n, and is else as it was
-pub record NamesInode (p : Place) (dir : ℕ) (name : List ℕ) (n : ℕ) (old new : SectorMap) : Type 0 where
-  pub super : new 0 ≡ old 0
-  pub change : ChangesInode p dir old new
-  pub used : bit new inode_bitmap dir ≡ bit old inode_bitmap dir
-  pub kept : KeepsFields (inode_at p old dir) (inode_at p new dir)
-  pub acls : KeepsAcls old new (inode_at p old dir) (inode_at p new dir)
-  pub named : (names : List (List ℕ × ℕ)) → HasNames old (inode_at p old dir) names → HasNames new (inode_at p new dir) (with_entry name_cmp names name n)
+abbrev pub NamesInode : Place → ℕ → List ℕ → ℕ → SectorMap → SectorMap → Type 0
+NamesInode p dir name n old new = ChangesNames p dir (λ names. with_entry name_cmp names name n) old new
 
 -- inode n was free, and holds this
 pub record TakesInode (p : Place) (n : ℕ) (x : Placed) (old new : SectorMap) : Type 0 where

@@ -1,22 +1,15 @@
 //! What calls ask, one check for each.
 
-ghost use Rattle.std.specs.Prelude.{◌≡◌, Ok, ◌<◌, ◌&&◌, not};
+ghost use Rattle.std.specs.Prelude.{◌≡◌, ◌-◌, Ok, ◌<◌, ◌&&◌, not};
+ghost use Rattle.call_parts.specs.DiskWords.{IsUnchanged, IsSound, IsInodeOf};
+ghost use Rattle.call_parts.specs.ModelWords.{Perm, verdict, allowed_by, decided, refuse, refused_or, IsAnswered, HasAccess, check_of_mode, is_directory_kind};
 ghost use Rattle.fs_cred.specs.declared.node.Node.{Node as AccessNode};
-ghost use Rattle.fs_cred.specs.declared.refusal.Need.TheVariants.{Perm};
-ghost use Rattle.fs_cred.specs.Verdicts.{verdict};
-ghost use Rattle.fs_model.specs.Demands.{allowed_by, decided, refuse};
-ghost use Rattle.sector_txn.specs.Sectors.{IsUnchanged};
-ghost use Rattle.bit_alloc.specs.Inodes.{IsSound};
-ghost use Rattle.inode_table.specs.Inodes.{IsInodeOf};
-ghost use Rattle.path_walk.specs.Answers.{refused_or, IsAnswered};
-ghost use Rattle.path_walk.specs.HeldTrees.{HasAccess};
-ghost use Rattle.fs_model.specs.Scenes.{check_of_mode};
 ghost use Rattle.call_parts.specs.Asked.{sticky_asked};
-ghost use Rattle.fs_model.specs.Rules.{is_directory_kind};
 
 use fs_cred::{Cred, Denial, Errno, Need, Refusal, Rule, sticky_allows};
 use fs_layout::{Inode, Kind, Place, S_ISVTX};
 use fs_model::Found;
+use open_files::Process;
 use path_walk::permission;
 use posix_acl::Perms;
 use sector_txn::Sectors;
@@ -63,7 +56,8 @@ pub fn permitted<S: Sectors>(
     requires has { (node : AccessNode) × HasAccess (S.state s.old).sectors inode.now node }
     ensures each { (node : AccessNode) → HasAccess (S.state s.old).sectors inode.now node
         → IsAnswered (S.state s.old).disk (S.state s.new).disk
-        (refused_or (decided walk step (Perm want) (verdict cred.now node want)) (Ok (verdict cred.now node want).rule)) result }
+        (refused_or (decided walk step (Perm want) (verdict cred.now node want))
+        (Ok (verdict cred.now node want).rule)) result }
     ensures same { IsUnchanged (S.state s.old) (S.state s.new) }
 {
     let verdict = permission(alloc, s, place, cred, inode, want)?;
@@ -115,17 +109,19 @@ pub fn check_slash(found: &Found, kind: Kind) -> Result<(), Refusal>
     Ok(())
 }
 
-/// Asks whether a directory, where it has S_ISVTX, lets the caller take what has this inode from it, after `step` lookups of
-/// the walk with this number.
+/// Asks whether the directory of the last lookup of the walk with this number, where it has S_ISVTX, lets the caller take what
+/// has this inode from it.
 pub fn check_sticky(
-    cred: &Cred,
+    process: &Process,
+    found: &Found,
     directory: &Inode,
     inode: &Inode,
     walk: u8,
-    step: usize,
 ) -> Result<(), Refusal>
-    ensures { result ≡ refused_or (sticky_asked cred.now directory.now inode.now walk step) (Ok tt) }
+    ensures { result ≡ refused_or (sticky_asked process.now.cred directory.now inode.now walk (found.now.step - 1)) (Ok tt) }
 {
+    let cred = process.cred();
+    let step = found.step.saturating_sub(1);
     let sticky = directory.mode / S_ISVTX % 2 == 1;
     let answer = sticky_allows(cred, sticky, directory.uid, inode.uid);
     allowed_by(walk, step, Need::Remove, answer)?;

@@ -2,13 +2,8 @@
 //! close().
 
 ghost use Rattle.std.specs.Prelude.{◌≡◌, ◌≢◌, OnOk, IfErr, ◌<◌};
-ghost use Rattle.fs_layout.specs.Images.{inode_at};
-ghost use Rattle.sector_txn.specs.Sectors.{SameStore};
-ghost use Rattle.bit_alloc.specs.declared.bitmap.Bitmap.TheVariants.{Inodes};
-ghost use Rattle.bit_alloc.specs.Bitmaps.{IsNumber};
-ghost use Rattle.bit_alloc.specs.Inodes.{IsSound};
-ghost use Rattle.bit_alloc.specs.Room.{HasSpare};
-ghost use Rattle.path_walk.specs.Answers.{FailsToRead};
+ghost use Rattle.call_parts.specs.DiskWords.{inode_at, SameStore, Inodes, IsNumber, IsSound, HasSpare};
+ghost use Rattle.call_parts.specs.ModelWords.{FailsToRead};
 ghost use Rattle.call_parts.specs.Dropping.{Drops, LeavesInode, Counts};
 
 use block_map::free_all;

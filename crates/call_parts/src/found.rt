@@ -1,17 +1,8 @@
 //! What the path of a call leads to.
 
 ghost use Rattle.std.specs.Prelude.{◌≡◌, ◌<◌, ℕ, None, Some, Ok, Err, IfOk};
-ghost use Rattle.fs_layout.specs.Images.{inode_at};
-ghost use Rattle.fs_model.specs.Demands.{first_of};
-ghost use Rattle.fs_model.specs.Parts.{path_checks};
-ghost use Rattle.fs_model.specs.Scenes.{number, must_be_there};
-ghost use Rattle.fs_model.specs.Trees.{Tree};
-ghost use Rattle.sector_txn.specs.Sectors.{IsUnchanged};
-ghost use Rattle.bit_alloc.specs.Inodes.{IsSound};
-ghost use Rattle.path_walk.specs.Answers.{refused_or, IsAnswered};
-ghost use Rattle.path_walk.specs.HeldTrees.{HoldsTree, IsThere};
-ghost use Rattle.path_walk.specs.SoundInodes.{HasSoundInodes};
-ghost use Rattle.path_walk.specs.Walked.{walk_of};
+ghost use Rattle.call_parts.specs.DiskWords.{inode_at, IsUnchanged, IsSound};
+ghost use Rattle.call_parts.specs.ModelWords.{first_of, path_checks, number, must_be_there, Tree, refused_or, IsAnswered, HoldsTree, IsThere, HasSoundInodes, walk_of};
 
 use fs_cred::{Errno, Refusal};
 use fs_layout::{Inode, Place};

@@ -1,4 +1,5 @@
-//! What calls stand on: reaching what a path leads to, asking what is asked of it, and the smallest changes of a tree on a disk.
+//! What calls stand on: reaching what a path leads to, asking what is asked of it, and the smallest changes of a tree on a
+//! disk.
 //!
 //! A call is one step of the abstract machine, made in a transaction by the process of a number. Its parts stand here, each
 //! with its own promise: the walk of its paths and the inode that is found, one check for each demand, space, and what is

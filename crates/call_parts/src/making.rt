@@ -1,25 +1,17 @@
 //! What is asked of a directory before something is made in it, and what that gets of it.
 
-ghost use Rattle.std.specs.Prelude.{◌≡◌, ◌/◌, ◌%◌, ◌==◌, nat_le, if◌then◌else◌, Option, None, Ok, option_copied, IfOk, IfErr};
-ghost use Rattle.posix_acl.specs.AccessList.{AccessList, minimal};
-ghost use Rattle.fs_layout.specs.declared.inode.TheConstants.{MAX_DIRECTORY_SIZE, S_ISGID};
-ghost use Rattle.fs_layout.specs.Images.{inode_at};
-ghost use Rattle.fs_model.specs.Births.{without_perms, masked_acl, born_acl};
-ghost use Rattle.fs_model.specs.Demands.{refuse, first_of, permission_on, write_and_search};
-ghost use Rattle.fs_model.specs.Trees.{Tree, IsDirectoryAt};
-ghost use Rattle.sector_txn.specs.Sectors.{IsUnchanged};
-ghost use Rattle.bit_alloc.specs.Inodes.{IsSound};
-ghost use Rattle.inode_table.specs.Acls.{HasDefaultAcl};
-ghost use Rattle.inode_table.specs.Inodes.{IsInodeOf};
-ghost use Rattle.path_walk.specs.Answers.{refused_or, Interrupts, IsAnswered};
-ghost use Rattle.path_walk.specs.HeldTrees.{HoldsTree};
+ghost use Rattle.std.specs.Prelude.{◌≡◌, ◌-◌, ◌/◌, ◌%◌, ◌==◌, nat_le, if◌then◌else◌, Option, None, Ok, option_copied, IfOk, IfErr};
+ghost use Rattle.call_parts.specs.DiskWords.{AccessList, minimal, MAX_DIRECTORY_SIZE, S_ISGID, inode_at, IsUnchanged, IsSound, HasDefaultAcl, IsInodeOf};
+ghost use Rattle.call_parts.specs.ModelWords.{without_perms, masked_acl, born_acl, refuse, first_of, permission_on, write_and_search, Tree, IsDirectoryAt, refused_or, Interrupts, IsAnswered, HoldsTree};
 ghost use Rattle.call_parts.specs.Makings.{make_asked};
 
 use crate::checks::{WRITE_AND_SEARCH, permitted, refuse_if};
 use crate::space::{ask_for_inode, ask_for_sectors};
 use fs_cred::{Cred, Errno, Refusal};
 use fs_layout::{Inode, MAX_DIRECTORY_SIZE, Place, S_ISGID};
+use fs_model::Found;
 use inode_table::{LoadAclFault, load_default_acl};
+use open_files::Process;
 use path_walk::load_inode;
 use posix_acl::{Acl, Perms};
 use sector_txn::Sectors;
@@ -32,8 +24,8 @@ pub(crate) fn check_names(directory: &Inode) -> Result<(), Refusal>
     refuse_if(Errno::ENOSPC, directory.size >= MAX_DIRECTORY_SIZE)
 }
 
-/// Asks for write and search on directory dir, after `step` lookups of the walk with this number, and answers its inode.
-pub fn ask_directory<S: Sectors>(
+// Asks for write and search on directory dir, after `step` lookups of the walk with this number, and answers its inode.
+fn ask_in_directory<S: Sectors>(
     alloc: Global,
     s: &mut S,
     place: Place,
@@ -46,7 +38,8 @@ pub fn ask_directory<S: Sectors>(
     requires there { (t : Tree) × HoldsTree place (S.state s.old).sectors t × IsDirectoryAt t dir }
     ensures each { (t : Tree) → HoldsTree place (S.state s.old).sectors t → IsDirectoryAt t dir
         → IsAnswered (S.state s.old).disk (S.state s.new).disk
-        (refused_or (permission_on cred.now t dir write_and_search walk step) (Ok (inode_at place (S.state s.old).sectors dir))) result }
+        (refused_or (permission_on cred.now t dir write_and_search walk step)
+        (Ok (inode_at place (S.state s.old).sectors dir))) result }
     ensures same { IsUnchanged (S.state s.old) (S.state s.new) }
 {
     let directory = load_inode(s, place, dir)?;
@@ -63,8 +56,30 @@ pub fn ask_directory<S: Sectors>(
     Ok(directory)
 }
 
-/// Asks all that is asked of a directory before something is made in it, and answers its inode. ENOSPC: there is no room for its
-/// sectors, its inode or its name.
+/// Asks for write and search on the directory of the last lookup of the walk with this number, and answers its inode.
+pub fn ask_directory<S: Sectors>(
+    alloc: Global,
+    s: &mut S,
+    place: Place,
+    process: &Process,
+    found: &Found,
+    walk: u8,
+) -> Result<Inode, Refusal>
+    requires sound { IsSound place (S.state s.old) }
+    requires there { (t : Tree) × HoldsTree place (S.state s.old).sectors t × IsDirectoryAt t found.now.dir }
+    ensures each { (t : Tree) → HoldsTree place (S.state s.old).sectors t → IsDirectoryAt t found.now.dir
+        → IsAnswered (S.state s.old).disk (S.state s.new).disk
+        (refused_or (permission_on process.now.cred t found.now.dir write_and_search walk (found.now.step - 1))
+        (Ok (inode_at place (S.state s.old).sectors found.now.dir))) result }
+    ensures same { IsUnchanged (S.state s.old) (S.state s.new) }
+{
+    let cred = process.cred();
+    let step = found.step.saturating_sub(1);
+    ask_in_directory(alloc, s, place, cred, found.dir, walk, step)
+}
+
+/// Asks all that is asked of a directory before something is made in it, and answers its inode. ENOSPC: there is no room for
+/// its sectors, its inode or its name.
 pub fn check_make<S: Sectors>(
     alloc: Global,
     s: &mut S,
@@ -77,10 +92,11 @@ pub fn check_make<S: Sectors>(
     requires there { (t : Tree) × HoldsTree place (S.state s.old).sectors t × IsDirectoryAt t dir }
     ensures each { (t : Tree) → HoldsTree place (S.state s.old).sectors t → IsDirectoryAt t dir
         → IsAnswered (S.state s.old).disk (S.state s.new).disk
-        (refused_or (first_of (make_asked place (S.state s.old).sectors cred.now t dir step)) (Ok (inode_at place (S.state s.old).sectors dir))) result }
+        (refused_or (first_of (make_asked place (S.state s.old).sectors cred.now t dir step))
+        (Ok (inode_at place (S.state s.old).sectors dir))) result }
     ensures same { IsUnchanged (S.state s.old) (S.state s.new) }
 {
-    let directory = ask_directory(alloc, s, place, cred, dir, 1, step)?;
+    let directory = ask_in_directory(alloc, s, place, cred, dir, 1, step)?;
     ask_for_sectors(s, place)?;
     ask_for_inode(s, place)?;
     check_names(&directory)?;
@@ -138,7 +154,8 @@ pub fn default_of<S: Sectors>(
     requires sound { IsSound place (S.state s.old) }
     requires there { IsInodeOf place (S.state s.old).sectors directory.now }
     requires has { (a : Option AccessList) × HasDefaultAcl (S.state s.old).sectors directory.now a }
-    ensures found { IfOk result (λ acl. (a : Option AccessList) → HasDefaultAcl (S.state s.old).sectors directory.now a → acl ≡ a) }
+    ensures found { IfOk result (λ acl. (a : Option AccessList) → HasDefaultAcl (S.state s.old).sectors directory.now a
+        → acl ≡ a) }
     ensures err { IfErr result (Interrupts (S.state s.old).disk (S.state s.new).disk) }
     ensures same { IsUnchanged (S.state s.old) (S.state s.new) }
 {

@@ -1,23 +1,11 @@
 //! Names in directories: what they lead to, new ones, and those that go.
 
-ghost use Rattle.std.specs.Prelude.{ℕ, ◌≡◌, ◌<◌, ◌||◌, not, None, Some, Ok, Err, OnOk, IfOk, IfErr, ◌≢◌, List};
-ghost use Rattle.fs_layout.specs.Bytes.{IsBytes};
-ghost use Rattle.fs_layout.specs.Images.{inode_at};
-ghost use Rattle.sector_txn.specs.Sectors.{SameStore, IsUnchanged};
-ghost use Rattle.bit_alloc.specs.Inodes.{IsSound};
-ghost use Rattle.bit_alloc.specs.Room.{HasSpare, TakesSpare};
-ghost use Rattle.bit_alloc.specs.Bitmaps.{HasBitmaps};
-ghost use Rattle.fs_model.specs.Demands.{first_of};
-ghost use Rattle.fs_model.specs.Scenes.{is_found, is_special};
-ghost use Rattle.fs_model.specs.Trees.{Tree, IsDirectoryAt};
-ghost use Rattle.path_walk.specs.Answers.{refused_or, FailsToRead, IsAnswered};
-ghost use Rattle.path_walk.specs.HeldTrees.{HoldsTree, IsThere};
-ghost use Rattle.path_walk.specs.SoundInodes.{HasSoundInodes};
+ghost use Rattle.std.specs.Prelude.{ℕ, ◌≡◌, ◌<◌, ◌||◌, not, None, Some, Ok, Err, OnOk, IfOk, IfErr};
+ghost use Rattle.call_parts.specs.DiskWords.{IsBytes, inode_at, SameStore, IsUnchanged, IsSound, HasSpare, TakesSpare, HasBitmaps};
+ghost use Rattle.call_parts.specs.ModelWords.{first_of, is_found, is_special, Tree, IsDirectoryAt, refused_or, FailsToRead, IsAnswered, HoldsTree, IsThere, HasSoundInodes};
 ghost use Rattle.call_parts.specs.Makings.{room_asked};
-ghost use Rattle.call_parts.specs.NewNodes.{MayBeNamed, NamesInode};
+ghost use Rattle.call_parts.specs.NewNodes.{HasName, MayBeNamed, NamesInode};
 ghost use Rattle.call_parts.specs.TwoPaths.{both_checks, walks_of};
-ghost use Rattle.fs_layout.specs.Directories.{HasNames};
-ghost use Rattle.fs_layout.specs.Maps.{name_cmp, get};
 ghost use Rattle.call_parts.specs.Dropping.{RemovesName};
 
 use crate::making::check_names;
@@ -123,8 +111,7 @@ pub fn remove_name<S: Sectors>(
 ) -> Result<(), Refusal>
     requires sound { IsSound place (S.state s.old) }
     requires below { dir < place.inodes }
-    requires named { (names : List (List ℕ × ℕ)) × HasNames (S.state s.old).sectors (inode_at place (S.state s.old).sectors dir) names
-        × (get name_cmp names name.now ≢ None) }
+    requires named { HasName place (S.state s.old).sectors dir name.now }
     requires spare { HasSpare place 4 (S.state s.old) }
     ensures store { SameStore (S.state s.old) (S.state s.new) }
     ensures removes { OnOk result (RemovesName place dir name.now (S.state s.old) (S.state s.new)) }

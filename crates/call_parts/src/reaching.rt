@@ -1,9 +1,8 @@
 //! How a call reaches what it acts on.
 
 ghost use Rattle.std.specs.Prelude.{◌≡◌, Result, IfOk, IfErr};
-ghost use Rattle.fs_model.specs.States.{State};
-ghost use Rattle.open_files.specs.Tables.{IsTable};
-ghost use Rattle.sector_txn.specs.Sectors.{IsUnchanged};
+ghost use Rattle.call_parts.specs.DiskWords.{IsUnchanged};
+ghost use Rattle.call_parts.specs.ModelWords.{State, IsTable};
 ghost use Rattle.call_parts.specs.Performing.{IsReady, IsStateOf};
 ghost use Rattle.call_parts.specs.Reaching.{RefusesWalk, RefusesReach, RefusesOwned, HasWalked, HasReached, HasOwned, RefusesBoth, HasWalkedBoth, IsNotOpen, RefusesOpen, IsOpenFor, HasOpened, opens_for};
 
@@ -65,7 +64,8 @@ pub fn walk_path<'a, S: Sectors>(
     requires ready { IsReady place (S.state s.old) procs.now }
     ensures refused { IfErr result (λ e. (st : State) → IsStateOf place (S.state s.old).sectors procs.now st
         → RefusesWalk (S.state s.old).disk (S.state s.new).disk st pid checks form path.now e) }
-    ensures walked { IfOk result (λ w. HasWalked place (S.state s.new) procs.now pid checks form path.now w.process.now w.found) }
+    ensures walked { IfOk result (λ w. HasWalked place (S.state s.new) procs.now pid checks form path.now
+        w.process.now w.found) }
     ensures same { IsUnchanged (S.state s.old) (S.state s.new) }
 {
     let _bytes = path.bytes();
@@ -141,7 +141,8 @@ pub fn walk_both<'a, S: Sectors>(
     requires ready { IsReady place (S.state s.old) procs.now }
     ensures refused { IfErr result (λ e. (st : State) → IsStateOf place (S.state s.old).sectors procs.now st
         → RefusesBoth (S.state s.old).disk (S.state s.new).disk st pid old.now new.now e) }
-    ensures walked { IfOk result (λ w. HasWalkedBoth place (S.state s.new) procs.now pid old.now new.now w.process.now w.first w.second) }
+    ensures walked { IfOk result (λ w. HasWalkedBoth place (S.state s.new) procs.now pid old.now new.now
+        w.process.now w.first w.second) }
     ensures same { IsUnchanged (S.state s.old) (S.state s.new) }
 {
     let process = procs.process(pid)?;

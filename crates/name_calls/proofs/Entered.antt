@@ -1,8 +1,8 @@
 -- What chdir asks of what it has found, as its inode says it, and what it leaves of the process.
 --     chdir_by_path        its row
---     other_kind_refused, search_held, search_refused, entered        what is asked
+--     absent_refuses, other_kind_refuses, search_held, search_refuses, searchable, entered        what is asked
 use Rattle.std.specs.Prelude.{◌≡◌, ℕ, Bool, true, false, not, if◌then◌else◌, List, [], ◌∷◌, None, Some, Ok, Err}
-use Rattle.std.proofs.Common.{refl, sym, ap, subst, ◌∙◌, inl}
+use Rattle.std.proofs.Common.{refl, sym, ap, subst, ◌∙◌}
 use Rattle.sector_disk.specs.Disk.{DiskState}
 use Rattle.fs_cred.specs.declared.errno.Errno.TheVariants.{ENOTDIR}
 use Rattle.fs_cred.specs.declared.node.Node.{Node as AccessNode}
@@ -29,12 +29,15 @@ use Rattle.fs_model.specs.Trees.{Tree, IsDirectoryAt}
 use Rattle.fs_model.proofs.StepsDemands.{unrefused}
 use Rattle.path_walk.specs.Answers.{refused_or, IsAnswered}
 use Rattle.path_walk.specs.HeldTrees.{HoldsTree, IsThere, HasAccess}
-use Rattle.call_parts.proofs.Calling.{or_else-none, first_asked, next_asked, both_met, met_ok}
+use Rattle.call_parts.proofs.Calling.{or_else-none, both_met, met_ok}
+use Rattle.call_parts.proofs.Refuses.{Refuses, refuses_first, refuses_next}
 use Rattle.path_walk.proofs.HeldNodes.{held_kind}
+use Rattle.path_walk.proofs.Kept.{kept}
+use Rattle.sector_txn.specs.Sectors.{TxnState, IsUnchanged}
 use Rattle.call_parts.proofs.Followed.{IsAccessed, accessed_is}
 use Rattle.call_parts.proofs.MakeAsked.{dir_access, dir_held}
 use Rattle.call_parts.proofs.Ownership.{IsNode, node_of}
-use Rattle.call_parts.specs.Reaching.{WalksPath, IsInodeFound}
+use Rattle.call_parts.specs.Reaching.{WalksPath, IsInodeFound, checked}
 use Rattle.name_calls.specs.Entering.{enter_asked}
 
 -- ---- its row
@@ -60,9 +63,10 @@ no_file owner group (Dir a d) x is e =
     ap (λ (y : AccessNode). is_file y.kind) (sym same)
 no_file owner group (Link target) x is e = absurd (cc)
 
--- what is asked after it is there
-abbrev pub entering_rest : Credential → Tree → Found → List Demand
-entering_rest cred t f = refuse ENOTDIR (not (is_directory (the_node t (number f)).body)) ∷ search_on cred t (number f) 1 f.step ∷ []
+-- nothing is there
+pub absent_refuses : (cred : Credential) (t : Tree) (f : Found) → Refuses (must_be_there f) (first_of (enter_asked cred t f))
+absent_refuses cred t f =
+    refuses_first (must_be_there f) (refuse ENOTDIR (not (is_directory (the_node t (number f)).body)) ∷ search_on cred t (number f) 1 f.step ∷ [])
 
 directory_access : (t : Tree) (n : ℕ) (a : IsAccessed t n) → IsDirectoryAt t n → is_file a.access.kind ≡ false
 directory_access t n a d =
@@ -84,12 +88,9 @@ module _ {p : Place} {map : SectorMap} {t : Tree} (h : HoldsTree p map t) (f : F
       (ap (λ (w : Inode). is_directory_kind w.kind) i.inode ∙ held_kind h n node.node node.at ∙ sym (ap (λ (u : Node). is_directory u.body) node.is))
 
   -- it is no directory
-  pub other_kind_refused : {A : Type 0} (x : A) (e : Refusal) (old new : DiskState) → refused_or {A = Unit {0}} (refuse ENOTDIR (not (is_directory_kind v.kind))) (Ok tt) ≡ Err e
-      → IsAnswered old new (refused_or {A = A} (first_of (enter_asked cred t f)) (Ok x)) (Err e)
-  other_kind_refused {A} x e old new is =
-      next_asked (must_be_there f) (other_kind ∷ searched ∷ []) x e old new i.met
-      (first_asked {B = Unit {0}} other_kind (searched ∷ []) tt x e old new
-      (inl (ap (λ (d : Demand). refused_or {A = Unit {0}} d (Ok tt)) (sym kind_is) ∙ is)))
+  pub other_kind_refuses : Refuses (refuse ENOTDIR (not (is_directory_kind v.kind))) (first_of (enter_asked cred t f))
+  other_kind_refuses =
+      refuses_next (must_be_there f) (other_kind ∷ searched ∷ []) i.met (λ (e : Refusal) is. refuses_first other_kind (searched ∷ []) e (sym kind_is ∙ is))
 
   module _ (is : refused_or {A = Unit {0}} (refuse ENOTDIR (not (is_directory_kind v.kind))) (Ok tt) ≡ Ok tt) where
     kind_met : other_kind ≡ None
@@ -118,14 +119,10 @@ module _ {p : Place} {map : SectorMap} {t : Tree} (h : HoldsTree p map t) (f : F
         (directory_access t n a directory)
 
     -- it may not be searched
-    pub search_refused : {A : Type 0} (x : A) (e : Refusal) (old new : DiskState)
-        → IsAnswered old new (refused_or {A = Unit {0}} (decided 1 f.step Search (verdict cred access search_only)) (Ok tt)) (Err e)
-        → IsAnswered old new (refused_or {A = A} (first_of (enter_asked cred t f)) (Ok x)) (Err e)
-    search_refused {A} x e old new asked =
-        next_asked (must_be_there f) (other_kind ∷ searched ∷ []) x e old new i.met
-        (next_asked other_kind (searched ∷ []) x e old new kind_met
-        (first_asked {B = Unit {0}} searched [] tt x e old new
-        (subst (λ (d : Demand). IsAnswered old new (refused_or {A = Unit {0}} d (Ok tt)) (Err e)) (sym search_is) asked)))
+    pub search_refuses : Refuses (decided 1 f.step Search (verdict cred access search_only)) (first_of (enter_asked cred t f))
+    search_refuses =
+        refuses_next (must_be_there f) (other_kind ∷ searched ∷ []) i.met
+        (refuses_next other_kind (searched ∷ []) kind_met (λ (e : Refusal) is. refuses_first searched [] e (search_is ∙ is)))
 
     -- it may
     pub entered : refused_or {A = Unit {0}} (decided 1 f.step Search (verdict cred access search_only)) (Ok tt) ≡ Ok tt → first_of (enter_asked cred t f) ≡ None
@@ -133,6 +130,13 @@ module _ {p : Place} {map : SectorMap} {t : Tree} (h : HoldsTree p map t) (f : F
         both_met (must_be_there f) (other_kind ∷ searched ∷ []) i.met
         (both_met other_kind (searched ∷ []) kind_met
         (or_else-none searched ∙ search_is ∙ (met_ok {A = Unit {0}} (decided 1 f.step Search (verdict cred access search_only)) tt tt asked).0))
+
+-- access to it, after reads
+pub searchable : {p : Place} {t : Tree} {old mid : TxnState} {f : Found} {n : ℕ} {v : Inode} → IsUnchanged old mid → (h : HoldsTree p old.sectors t)
+    (i : IsInodeFound p old.sectors f n v) (there : IsThere t n) (cred : Credential) (is : checked (refuse ENOTDIR (not (is_directory_kind v.kind))) ≡ Ok tt)
+    → HasAccess mid.sectors v (access h f n v i there cred is)
+searchable {p} {t} {old} {mid} {f} {n} {v} same h i there cred is =
+    kept (λ (m : SectorMap). HasAccess m v (access h f n v i there cred is)) same (search_held h f n v i there cred is)
 
 -- as the process' credential
 module _ (t : Tree) (f : Found) {cred who : Credential} where

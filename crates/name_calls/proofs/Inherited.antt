@@ -2,7 +2,8 @@
 --     set_group_is, group_is        its group, where it has S_ISGID
 --     default_held        its default ACL
 --     bits_below, directory_is, link_is        what is made
-use Rattle.std.specs.Prelude.{◌≡◌, ℕ, ◌+◌, ◌/◌, ◌%◌, ◌<◌, ◌==◌, cond, if◌then◌else◌, Bool, true, false, List, [], Option}
+--     may_then, link_placed        that, since before reads
+use Rattle.std.specs.Prelude.{◌≡◌, ℕ, ◌+◌, ◌-◌, ◌/◌, ◌%◌, ◌<◌, ◌==◌, cond, if◌then◌else◌, Bool, true, false, List, [], Option, None}
 use Rattle.std.proofs.Common.{refl, sym, ap, subst, arith, ◌∙◌}
 use Rattle.posix_acl.specs.AccessList.{AccessList}
 use Rattle.fs_cred.specs.Credentials.{Credential}
@@ -11,16 +12,22 @@ use Rattle.fs_layout.specs.declared.inode.Inode.{Inode}
 use Rattle.fs_layout.specs.declared.place.Place.{Place}
 use Rattle.fs_layout.specs.Bytes.{SectorMap}
 use Rattle.fs_layout.specs.Images.{inode_at}
+use Rattle.sector_txn.specs.Sectors.{TxnState, IsUnchanged}
 use Rattle.inode_table.specs.Acls.{HasDefaultAcl}
+use Rattle.fs_model.specs.declared.walk.Found.{Found}
+use Rattle.fs_model.specs.Demands.{first_of}
 use Rattle.fs_model.specs.Births.{the_node, the_directory, born_acl, born_directory, born_link}
 use Rattle.fs_model.specs.Nodes.{Node, Dir, Link, default_in}
 use Rattle.fs_model.specs.StoredNodes.{HoldsNode}
 use Rattle.fs_model.specs.Trees.{Tree, names_of, parent}
 use Rattle.path_walk.specs.HeldTrees.{HoldsTree}
 use Rattle.path_walk.proofs.HeldNodes.{held_node, default_says}
+use Rattle.path_walk.proofs.Kept.{kept, kept_back}
+use Rattle.call_parts.specs.Makings.{CanMake, make_asked}
+use Rattle.call_parts.proofs.Makeable.{may_make}
 use Rattle.call_parts.proofs.NewFile.{set_group_says, default_is}
 use Rattle.call_parts.proofs.Shown.{the_node_is}
-use Rattle.call_parts.specs.NewNodes.{IsNewIn, directory_made, link_made}
+use Rattle.call_parts.specs.NewNodes.{IsNewIn, IsPlaced, directory_made, link_made}
 
 sticky_says : (s g : Bool) → ((cond s S_ISVTX 0 + cond g S_ISGID 0) / S_ISVTX % 2 == 1) ≡ s
 sticky_says true true = refl
@@ -101,3 +108,23 @@ module _ {p : Place} {map : SectorMap} {t : Tree} (h : HoldsTree p map t) {dir :
 
   pub link_is : (cred : Credential) (target : List ℕ) → link_made v cred target ≡ born_link cred target (the_node t dir)
   link_is cred target = ap (λ (k : ℕ). link_of cred.uid k target) (group_is cred)
+
+-- ---- since before reads
+
+module _ (p : Place) {old mid : TxnState} {t : Tree} (h : HoldsTree p old.sectors t) (f : Found) (i : IsNewIn t f.dir f.name) (same : IsUnchanged old mid)
+    (name : List ℕ) (named : name ≡ f.name) where
+  pub may_then : (cred : Credential) → first_of (make_asked p old.sectors cred t f.dir (f.step - 1)) ≡ None → (u : Tree) × CanMake p mid.sectors u f.dir name
+  may_then cred met = (
+    t,
+    subst (CanMake p mid.sectors t f.dir) (sym named)
+        (kept (λ (m : SectorMap). CanMake p m t f.dir f.name) same (may_make cred (f.step - 1) met h i.directory f.name i.is_name i.is_new)),
+  )
+
+  pub link_placed : (v : Inode) → v ≡ inode_at p old.sectors f.dir → (cred who : Credential) (target bytes : List ℕ) → who ≡ cred → bytes ≡ target → (new : SectorMap)
+      → IsPlaced p f.dir name (link_made v who bytes) mid.sectors new → IsPlaced p f.dir f.name (born_link cred target (the_node t f.dir)) old.sectors new
+  link_placed v is cred who target bytes caller told new placed =
+      kept_back (λ (m : SectorMap). IsPlaced p f.dir f.name (born_link cred target (the_node t f.dir)) m new) same
+      (subst (λ (x : Node). IsPlaced p f.dir f.name x mid.sectors new) (link_is h i v is cred target)
+      (subst (λ (k : Credential). IsPlaced p f.dir f.name (link_made v k target) mid.sectors new) caller
+      (subst (λ (b : List ℕ). IsPlaced p f.dir f.name (link_made v who b) mid.sectors new) told
+      (subst (λ (n : List ℕ). IsPlaced p f.dir n (link_made v who bytes) mid.sectors new) named placed))))

@@ -1,10 +1,9 @@
 -- What link asks.
 --     place_denied, place_many, place_full, place_met        all of the directory
---     kind_says, source_special, source_absent, source_other, source_all_met, source_inode        what is to get the name
+--     node_found, kind_says, source_special, source_absent, source_other, source_all_met, source_inode        what is to get the name
 --     source_refuses, name_refuses, place_refuses, link_asked_met        the whole
-use Rattle.std.specs.Prelude.{◌≡◌, ℕ, ◌-◌, nat_lt, nat_le, Bool, not, ◌&&◌, List, [], ◌∷◌, ◌++◌, length, Option, None, is_some, IsFalse, Ok, Err}
-use Rattle.std.proofs.Common.{sym, ap, subst, ◌∙◌, inl}
-use Rattle.sector_disk.specs.Disk.{DiskState}
+use Rattle.std.specs.Prelude.{◌≡◌, ℕ, ◌-◌, nat_lt, nat_le, Bool, not, ◌&&◌, List, [], ◌∷◌, ◌++◌, length, Option, None, Some, is_some, IsFalse, Ok}
+use Rattle.std.proofs.Common.{sym, ap, ◌∙◌}
 use Rattle.fs_cred.specs.declared.errno.Errno.TheVariants.{EPERM, ENOTDIR, EMLINK, ENOSPC}
 use Rattle.fs_cred.specs.declared.refusal.Refusal.{Refusal}
 use Rattle.fs_cred.specs.Credentials.{Credential}
@@ -24,10 +23,11 @@ use Rattle.fs_model.specs.Scenes.{is_found, is_special, number, must_be_there}
 use Rattle.fs_model.specs.States.{State}
 use Rattle.fs_model.specs.Trees.{Tree, names_of}
 use Rattle.fs_model.proofs.StepsDemands.{first_met, then_met, unrefused, and_false}
-use Rattle.path_walk.specs.Answers.{refused_or, IsAnswered}
-use Rattle.call_parts.proofs.Calling.{state_tree, met_ok, first_asked, next_asked, both_met}
-use Rattle.call_parts.proofs.Checked.{refused_as}
-use Rattle.call_parts.proofs.Ownership.{IsNode, node_of, some_asked, others_asked, all_met}
+use Rattle.path_walk.specs.Answers.{refused_or}
+use Rattle.path_walk.specs.HeldTrees.{HoldsTree, IsThere}
+use Rattle.call_parts.proofs.Calling.{state_tree, met_ok, both_met}
+use Rattle.call_parts.proofs.Ownership.{IsNode, node_of, all_met}
+use Rattle.call_parts.proofs.Refuses.{Refuses, refuses_first, refuses_next, refuses_some, refuses_others, demand_met}
 use Rattle.call_parts.proofs.Shown.{is_inode}
 use Rattle.name_calls.specs.Linking.{source_asked, place_asked}
 use Rattle.call_parts.specs.Makings.{room_asked}
@@ -47,32 +47,30 @@ module _ (p : Place) (map : SectorMap) (cred : Credential) (t : Tree) (dir step 
   abbrev many : Demand
   many = refuse EMLINK (nat_le names_limit names)
 
-  module _ {A : Type 0} (x : A) (e : Refusal) (old new : DiskState) where
-    pub place_denied : {B : Type 0} (y : B) → IsAnswered old new (refused_or (permission_on cred t dir write_and_search 2 step) (Ok y)) (Err e)
-        → IsAnswered old new (refused_or (first_of (place_asked p map cred t dir step names)) (Ok x)) (Err e)
-    place_denied {B} y is = first_asked {A = A} {B = B} allowed (many ∷ room_asked p map t dir) y x e old new is
+  pub place_denied : Refuses (permission_on cred t dir write_and_search 2 step) (first_of (place_asked p map cred t dir step names))
+  place_denied = refuses_first allowed (many ∷ room_asked p map t dir)
 
-    module _ (granted : permission_on cred t dir write_and_search 2 step ≡ None) where
-      pub place_many : checked (refuse EMLINK (nat_le names_limit names)) ≡ Err e
-          → IsAnswered old new (refused_or (first_of (place_asked p map cred t dir step names)) (Ok x)) (Err e)
-      place_many is =
-          next_asked {A = A} allowed (many ∷ room_asked p map t dir) x e old new granted
-          (first_asked {A = A} {B = Unit {0}} many (room_asked p map t dir) tt x e old new (inl is))
+  module _ (granted : permission_on cred t dir write_and_search 2 step ≡ None) where
+    pub place_many : Refuses (refuse EMLINK (nat_le names_limit names)) (first_of (place_asked p map cred t dir step names))
+    place_many = refuses_next allowed (many ∷ room_asked p map t dir) granted (refuses_first many (room_asked p map t dir))
 
-      pub place_full : checked (refuse EMLINK (nat_le names_limit names)) ≡ Ok tt → IsAnswered old new (checked (first_of (room_asked p map t dir))) (Err e)
-          → IsAnswered old new (refused_or (first_of (place_asked p map cred t dir step names)) (Ok x)) (Err e)
-      place_full few is =
-          next_asked {A = A} allowed (many ∷ room_asked p map t dir) x e old new granted
-          (next_asked {A = A} many (room_asked p map t dir) x e old new (met_ok {A = Unit {0}} many tt tt few).0
-          (refused_as {A = A} {B = Unit {0}} (first_of (room_asked p map t dir)) tt x e old new is))
+    pub place_full : checked (refuse EMLINK (nat_le names_limit names)) ≡ Ok tt
+        → Refuses (first_of (room_asked p map t dir)) (first_of (place_asked p map cred t dir step names))
+    place_full few =
+        refuses_next allowed (many ∷ room_asked p map t dir) granted
+        (refuses_next many (room_asked p map t dir) (demand_met many few) (λ (e : Refusal) is. is))
 
   pub place_met : permission_on cred t dir write_and_search 2 step ≡ None → checked (refuse EMLINK (nat_le names_limit names)) ≡ Ok tt
       → checked (first_of (room_asked p map t dir)) ≡ Ok tt → first_of (place_asked p map cred t dir step names) ≡ None
   place_met granted few free =
       both_met allowed (many ∷ room_asked p map t dir) granted
-      (both_met many (room_asked p map t dir) (met_ok {A = Unit {0}} many tt tt few).0 (met_ok {A = Unit {0}} (first_of (room_asked p map t dir)) tt tt free).0)
+      (both_met many (room_asked p map t dir) (demand_met many few) (demand_met (first_of (room_asked p map t dir)) free))
 
 -- ---- what is to get the name
+
+pub node_found : {p : Place} {map : SectorMap} {t : Tree} {f : Found} {n : ℕ} {v : Inode} → HoldsTree p map t → IsInodeFound p map f n v
+    → ((m : ℕ) → f.ino ≡ Some m → IsThere t m) → IsNode map t f n v
+node_found {p} {map} {t} {f} {n} {v} h i there = node_of h f n v i.number i.inode (there n i.some)
 
 module _ {p : Place} {map : SectorMap} {t : Tree} {f : Found} {n : ℕ} {v : Inode} (k : IsInodeFound p map f n v) (node : IsNode map t f n v) where
   abbrev kinds_asked : Bool → List Demand
@@ -96,27 +94,18 @@ module _ (t : Tree) (f : Found) where
       refuse ENOTDIR (f.slash && (is_found f && not (is_directory (the_node t (number f)).body)))
       ∷ refuse EPERM (is_found f && is_directory (the_node t (number f)).body) ∷ []
 
-  module _ {A : Type 0} (x : A) (e : Refusal) (old new : DiskState) where
-    pub source_special : checked (first_of (refuse EPERM (is_special f) ∷ [])) ≡ Err e → IsAnswered old new (refused_or (first_of (source_asked t f)) (Ok x)) (Err e)
-    source_special is = some_asked {A = A} {B = Unit {0}} special (must_be_there f ∷ others) tt x e old new (inl is)
+  pub source_special : Refuses (first_of (refuse EPERM (is_special f) ∷ [])) (first_of (source_asked t f))
+  source_special = refuses_some special (must_be_there f ∷ others)
 
-    module _ (plain : checked (first_of (refuse EPERM (is_special f) ∷ [])) ≡ Ok tt) where
-      plain_met : first_of special ≡ None
-      plain_met = (met_ok {A = Unit {0}} (first_of special) tt tt plain).0
+  module _ (plain : checked (first_of (refuse EPERM (is_special f) ∷ [])) ≡ Ok tt) where
+    pub source_absent : Refuses (must_be_there f) (first_of (source_asked t f))
+    source_absent = refuses_others special (must_be_there f ∷ others) (demand_met (first_of special) plain) (refuses_first (must_be_there f) others)
 
-      pub source_absent : {B : Type 0} (y : B) → IsAnswered old new (refused_or (must_be_there f) (Ok y)) (Err e)
-          → IsAnswered old new (refused_or (first_of (source_asked t f)) (Ok x)) (Err e)
-      source_absent {B} y is =
-          others_asked {A = A} special (must_be_there f ∷ others) x e old new plain_met (first_asked {A = A} {B = B} (must_be_there f) others y x e old new is)
-
-      pub source_other : {p : Place} {map : SectorMap} {n : ℕ} {v : Inode} → IsInodeFound p map f n v → IsNode map t f n v
-          → checked (first_of (refuse ENOTDIR (f.slash && not (is_directory_kind v.kind)) ∷ refuse EPERM (is_directory_kind v.kind) ∷ [])) ≡ Err e
-          → IsAnswered old new (refused_or (first_of (source_asked t f)) (Ok x)) (Err e)
-      source_other {p} {map} {n} {v} k node is =
-          others_asked {A = A} special (must_be_there f ∷ others) x e old new plain_met
-          (next_asked {A = A} (must_be_there f) others x e old new k.met
-          (refused_as {A = A} {B = Unit {0}} (first_of others) tt x e old new
-          (inl (ap (λ (ds : List Demand). checked (first_of ds)) (sym (kind_says k node)) ∙ is))))
+    pub source_other : {p : Place} {map : SectorMap} {n : ℕ} {v : Inode} → IsInodeFound p map f n v → IsNode map t f n v
+        → Refuses (first_of (refuse ENOTDIR (f.slash && not (is_directory_kind v.kind)) ∷ refuse EPERM (is_directory_kind v.kind) ∷ [])) (first_of (source_asked t f))
+    source_other k node =
+        refuses_others special (must_be_there f ∷ others) (demand_met (first_of special) plain)
+        (refuses_next (must_be_there f) others k.met (λ (e : Refusal) is. ap first_of (sym (kind_says k node)) ∙ is))
 
   pub source_all_met : checked (first_of (refuse EPERM (is_special f) ∷ [])) ≡ Ok tt → {p : Place} {map : SectorMap} {n : ℕ} {v : Inode} → IsInodeFound p map f n v → IsNode map t f n v
       → checked (first_of (refuse ENOTDIR (f.slash && not (is_directory_kind v.kind)) ∷ refuse EPERM (is_directory_kind v.kind) ∷ [])) ≡ Ok tt
@@ -154,15 +143,11 @@ module _ {p : Place} {map : SectorMap} {desks : Desks} {q : Process} {f g : Foun
       ∷ refuse ENOSPC (nat_le entries_limit (length (names_in (the_node s.tree g.dir).body)))
       ∷ []
 
-  module _ {A : Type 0} (x : A) (e : Refusal) (old new : DiskState) where
-    pub source_refuses : {B : Type 0} (y : B) → IsAnswered old new (refused_or (first_of (source_asked s.tree f)) (Ok y)) (Err e)
-        → IsAnswered old new (refused_or (first_of (link_demands (scene_with s q f g))) (Ok x)) (Err e)
-    source_refuses {B} y is = some_asked {A = A} {B = B} source (name ++ last) y x e old new is
+  pub source_refuses : Refuses (first_of (source_asked s.tree f)) (first_of (link_demands (scene_with s q f g)))
+  source_refuses = refuses_some source (name ++ last)
 
-    pub name_refuses : first_of (source_asked s.tree f) ≡ None → checked (first_of (link_name_asked g)) ≡ Err e
-        → IsAnswered old new (refused_or (first_of (link_demands (scene_with s q f g))) (Ok x)) (Err e)
-    name_refuses met is =
-        others_asked {A = A} source (name ++ last) x e old new met (some_asked {A = A} {B = Unit {0}} name last tt x e old new (inl is))
+  pub name_refuses : first_of (source_asked s.tree f) ≡ None → Refuses (first_of (link_name_asked g)) (first_of (link_demands (scene_with s q f g)))
+  name_refuses met = refuses_others source (name ++ last) met (refuses_some name last)
 
   module _ (source_met : first_of (source_asked s.tree f) ≡ None) (name_met : first_of (link_name_asked g) ≡ None) {n : ℕ} {v : Inode} (k : IsInodeFound p map f n v) where
     pub source_node : IsNode map s.tree f n v
@@ -190,14 +175,10 @@ module _ {p : Place} {map : SectorMap} {desks : Desks} {q : Process} {f g : Foun
         ∷ refuse ENOSPC (nat_le entries_limit (length (names_in (the_node s.tree g.dir).body)))
         ∷ []) (sym i.is_state.free_is)
 
-    pub place_refuses : {A B : Type 0} (x : A) (e : Refusal) (old new : DiskState) (y : B)
-        → IsAnswered old new (refused_or (first_of (place_asked p map q.cred s.tree g.dir (g.step - 1) v.names)) (Ok y)) (Err e)
-        → IsAnswered old new (refused_or (first_of (link_demands (scene_with s q f g))) (Ok x)) (Err e)
-    place_refuses {A} {B} x e old new y is =
-        others_asked {A = A} source (name ++ last) x e old new source_met
-        (others_asked {A = A} name last x e old new name_met
-        (refused_as {A = A} {B = B} (first_of last) y x e old new
-        (subst (λ (ds : List Demand). IsAnswered old new (refused_or {A = B} (first_of ds) (Ok y)) (Err e)) last_is is)))
+    pub place_refuses : Refuses (first_of (place_asked p map q.cred s.tree g.dir (g.step - 1) v.names)) (first_of (link_demands (scene_with s q f g)))
+    place_refuses =
+        refuses_others source (name ++ last) source_met
+        (refuses_others name last name_met (λ (e : Refusal) is. ap first_of (sym last_is) ∙ is))
 
     pub link_asked_met : first_of (place_asked p map q.cred s.tree g.dir (g.step - 1) v.names) ≡ None → first_of (link_demands (scene_with s q f g)) ≡ None
     link_asked_met met = all_met source (name ++ last) source_met (all_met name last name_met (ap first_of (sym last_is) ∙ met))

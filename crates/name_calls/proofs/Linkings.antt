@@ -25,7 +25,7 @@ use Rattle.fs_model.specs.Births.{the_node}
 use Rattle.fs_model.specs.TreeChanges.{AddName, changed, swept}
 use Rattle.fs_model.specs.Demands.{Demand, refuse, first_of, permission_on, write_and_search}
 use Rattle.fs_model.specs.Limits.{names_limit, entries_limit, least_free}
-use Rattle.fs_model.specs.NameCalls.{link_row, link_demands, link_effect}
+use Rattle.fs_model.specs.NameCalls.{link_demands, link_effect}
 use Rattle.fs_model.specs.Nodes.{Node, is_directory, names_in}
 use Rattle.fs_model.specs.Processes.{Process, Desks, is_open}
 use Rattle.fs_model.specs.Rows.{row_of}
@@ -60,13 +60,9 @@ use Rattle.call_parts.specs.Reaching.{IsInodeFound}
 
 -- ---- the row
 
-module _ (old new : List ℕ) where
-  link_is : row_of (Link old new) ≡ link_row old new
-  unfolding row_of
-  link_is = refl
-
-  pub link_by_two : WalksBoth (Link old new) old new link_demands link_effect
-  link_by_two = record { row = link_is; asks = refl }
+pub link_by_two : (old new : List ℕ) → WalksBoth (Link old new) old new link_demands link_effect
+unfolding row_of
+link_by_two old new = record { row = refl; asks = refl }
 
 -- ---- all is met
 
@@ -201,8 +197,8 @@ module _ {p : Place} (old : TxnState) {desks : Desks} {s : State} (at : IsStateO
   gives : GivesName s.tree dir directory name n may.target
   gives = record {
     stands = may.directory.is_there;
-    is_dir = may.directory.directory;
     is_new = may.is_new;
+    is_dir = may.directory.directory;
     has_room = may.has_room;
     is_name = may.is_name;
     bytes = may.bytes;

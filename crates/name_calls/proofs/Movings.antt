@@ -1,5 +1,4 @@
 -- A name that goes to another place, and what that leaves.
---     names_changed, removed_names, named_names        what dir_core promises of it
 --     taken_after, taken_joined        how many sectors were put
 --     parented_fits        another parent fits an inode
 --     there_is, nothing_there, is_nothing, is_something        what is replaced
@@ -15,10 +14,9 @@ use Rattle.fs_layout.specs.declared.inode.Kind.{Kind}
 use Rattle.fs_layout.specs.declared.inode.Kind.TheVariants as kinds
 use Rattle.fs_layout.specs.declared.place.Place.{Place}
 use Rattle.fs_layout.specs.Bytes.{SectorMap}
-use Rattle.fs_layout.specs.InodeChanges.{ChangesInode}
 use Rattle.fs_layout.specs.Directories.{HasNames}
-use Rattle.fs_layout.specs.Images.{bit, free_sectors, inode_at, inode_bitmap}
-use Rattle.fs_layout.specs.Inode.{FitsInode, inode_fits}
+use Rattle.fs_layout.specs.Images.{free_sectors, inode_at}
+use Rattle.fs_layout.specs.Inode.{FitsInode}
 use Rattle.fs_layout.specs.Maps.{name_cmp, get, with_entry, without}
 use Rattle.fs_layout.proofs.NameMaps.{once_same, lost_of}
 use Rattle.fs_layout.proofs.Saves.{inode_kept}
@@ -26,9 +24,7 @@ use Rattle.sector_txn.specs.Sectors.{TxnState, IsUnchanged}
 use Rattle.sector_txn.proofs.TransactionRuns.{lacking_less}
 use Rattle.bit_alloc.specs.declared.bitmap.Bitmap.TheVariants.{Inodes}
 use Rattle.bit_alloc.specs.Bitmaps.{IsNumber}
-use Rattle.bit_alloc.specs.Inodes.{KeepsFields, KeepsAcls}
 use Rattle.bit_alloc.specs.Room.{bitmaps, TakesSpare}
-use Rattle.block_map.specs.Contents.{ChangesContent}
 use Rattle.fs_model.specs.TreeChanges.{MoveName, changed, swept, lives_nameless}
 use Rattle.fs_model.specs.Limits.{root}
 use Rattle.fs_model.specs.Nodes.{Node, is_directory, names_in}
@@ -49,53 +45,15 @@ use Rattle.call_parts.specs.Performing.{IsStateOf}
 use Rattle.call_parts.proofs.Calling.{state_tree}
 use Rattle.call_parts.proofs.HeldChanges.{names_held, moved_held}
 use Rattle.path_walk.proofs.HeldNodes.{Stands, stands, held_node, held_names, held_kind, names_say}
-use Rattle.path_walk.proofs.Kept.{kept, kept_back}
 use Rattle.name_calls.specs.Dropping.{LosesName}
-use Rattle.call_parts.specs.Dropping.{RemovesName}
-use Rattle.name_calls.specs.Moving.{MayMove, MayLead, ChangesNames, MovesEntry, within, across, ParentFollows, goes, stays}
-use Rattle.call_parts.specs.NewNodes.{NamesInode}
+use Rattle.call_parts.proofs.Removed.{attributes_fit}
+use Rattle.call_parts.specs.Given.{ChangesNames}
+use Rattle.name_calls.specs.Moving.{MayMove, MayLead, MovesEntry, within, across, ParentFollows, goes, stays}
+use Rattle.call_parts.specs.NewNodes.{HasName}
 use Rattle.name_calls.specs.Renaming.{inode_there}
 use Rattle.name_calls.proofs.Takings.{field_named, left_counts, left_held, left_drops}
 
--- ---- what dir_core promises
-
-pub names_changed : {p : Place} {dir taken puts : ℕ} {f : List (List ℕ × ℕ) → List (List ℕ × ℕ)} {old mid new : TxnState} {v w : Inode} → IsUnchanged old mid
-    → v ≡ inode_at p old.sectors dir → ChangesContent p dir taken puts mid new v w
-    → ((names : List (List ℕ × ℕ)) → HasNames mid.sectors v names → HasNames new.sectors w (f names))
-    → ChangesNames p dir f old.sectors new.sectors
-names_changed {p} {dir} {taken} {puts} {f} {old} {mid} {new} {v} {w} same is c says = record {
-  super = c.touches.super ∙ same.sectors 0;
-  change = kept_back (λ (m : SectorMap). ChangesInode p dir m new.sectors) same c.touches.inode;
-  used = kept_back (λ (m : SectorMap). bit new.sectors inode_bitmap dir ≡ bit m inode_bitmap dir) same c.used;
-  fields = subst (λ (u : Inode). KeepsFields u (inode_at p new.sectors dir)) is (subst (KeepsFields v) (sym c.now) c.fields);
-  acls = kept_back (λ (m : SectorMap). KeepsAcls m new.sectors (inode_at p old.sectors dir) (inode_at p new.sectors dir)) same
-      (subst (λ (u : Inode). KeepsAcls mid.sectors new.sectors u (inode_at p new.sectors dir)) is (subst (KeepsAcls mid.sectors new.sectors v) (sym c.now) c.acls));
-  names = λ names has.
-      subst (λ (u : Inode). HasNames new.sectors u (f names)) (sym c.now)
-      (says names (kept (λ (m : SectorMap). HasNames m v names) same (subst (λ (u : Inode). HasNames old.sectors u names) (sym is) has)));
-}
-
-pub removed_names : {p : Place} {dir : ℕ} {name : List ℕ} {old new : TxnState} → RemovesName p dir name old new
-    → ChangesNames p dir (λ names. without name_cmp names name) old.sectors new.sectors
-removed_names r = record {
-  super = r.touches.super;
-  change = r.touches.inode;
-  used = r.used;
-  fields = r.fields;
-  acls = r.acls;
-  names = r.names;
-}
-
-pub named_names : {p : Place} {dir : ℕ} {name : List ℕ} {n : ℕ} {old new : SectorMap} → NamesInode p dir name n old new
-    → ChangesNames p dir (λ names. with_entry name_cmp names name n) old new
-named_names r = record {
-  super = r.super;
-  change = r.change;
-  used = r.used;
-  fields = r.kept;
-  acls = r.acls;
-  names = r.named;
-}
+-- ---- what is put
 
 -- what was put, since before a read
 pub taken_after : (p : Place) (more : ℕ) {old mid : TxnState} (new : TxnState) → IsUnchanged old mid → TakesSpare p more mid new → TakesSpare p more old new
@@ -112,21 +70,7 @@ taken_joined p first then more old mid new fits one two = omega (arith, fits, on
 -- ---- another parent
 
 pub parented_fits : (v : Inode) (parent : ℕ) → FitsInode v → v.kind ≢ kinds.Free → parent < 2 ^ 32 → FitsInode (record v { parent = parent })
-unfolding inode_fits
-parented_fits v parent fits used few = record {
-  valid = record { numbers = fits.valid.numbers; free = λ free. absurd (used free) };
-  mode = fits.mode;
-  uid = fits.uid;
-  gid = fits.gid;
-  names = fits.names;
-  size = fits.size;
-  parent = few;
-  acl = fits.acl;
-  default_acl = fits.default_acl;
-  direct_len = fits.direct_len;
-  direct = fits.direct;
-  indirect = fits.indirect;
-}
+parented_fits v parent fits used few = attributes_fit v v.uid v.gid v.names parent fits used fits.uid fits.gid fits.names few
 
 other_kind_is : (k : Kind) → k ≢ kinds.Directory → is_directory_kind k ≡ false
 other_kind_is kinds.Free ne = refl
@@ -236,7 +180,7 @@ module _ {p : Place} (old : TxnState) {desks : Desks} {s : State} (at : IsStateO
   has_first none = let both : None ≡ Some n = sym none ∙ may.leads in cc
 
   -- the directory has the name
-  pub named_first : (names : List (List ℕ × ℕ)) × HasNames old.sectors (inode_at p old.sectors dir) names × (get name_cmp names name ≢ None)
+  pub named_first : HasName p old.sectors dir name
   named_first = (names_in directory.body, dir_names, has_first)
 
   -- and not the other one, where nothing is to be replaced in it
@@ -261,7 +205,7 @@ module _ {p : Place} (old : TxnState) {desks : Desks} {s : State} (at : IsStateO
     here : HoldsNode mid (inode_at p mid dir) (record is_dir { node = renamed_node directory fewer })
     here =
         names_held old.sectors mid (inode_at p old.sectors dir) (inode_at p mid dir) is_dir dir_held fewer may.directory.directory
-        removes.fields removes.acls (removes.names (names_in directory.body) dir_names)
+        removes.kept removes.acls (removes.named (names_in directory.body) dir_names)
 
     to_held : HoldsNode mid (inode_at p mid to_dir) (record { node = between.node; names = names_of s.tree to_dir; parent = parent s.tree to_dir })
     to_held =
@@ -299,12 +243,12 @@ module _ {p : Place} (old : TxnState) {desks : Desks} {s : State} (at : IsStateO
       begun_here s at.is_state at.up desks still dir directory name n to_dir to_directory to_name o moves target.node target.at p at.same_room
       old.sectors new at.holds one c.change c.used
       (names_held old.sectors new (inode_at p old.sectors dir) (inode_at p new dir) is_dir dir_held (with_entry name_cmp fewer to_name n) may.directory.directory
-      c.fields c.acls (c.names (names_in directory.body) dir_names))
+      c.kept c.acls (c.named (names_in directory.body) dir_names))
   entry_held new (across mid removes leads) =
       begun_held s at.is_state at.up desks still dir directory name n to_dir to_directory to_name o moves target.node target.at p at.same_room
       old.sectors mid at.holds removes.change removes.used (here removes) new leads.change leads.used
       (names_held mid new (inode_at p mid to_dir) (inode_at p new to_dir) _ (to_held removes) (with_entry name_cmp (names_in between.node.body) to_name n)
-      between.directory leads.fields leads.acls (leads.names (names_in between.node.body) (to_names removes)))
+      between.directory leads.kept leads.acls (leads.named (names_in between.node.body) (to_names removes)))
 
   pub entry_super : {new : SectorMap} → MovesEntry p dir name n to_dir to_name o old.sectors new → new 0 ≡ old.sectors 0
   entry_super (within one none c) = c.super

@@ -14,7 +14,6 @@ use Rattle.fs_cred.specs.Credentials.{Credential}
 use Rattle.fs_cred.specs.Ownership.{sticky_allows}
 use Rattle.fs_cred.specs.Verdicts.{verdict}
 use Rattle.posix_acl.specs.AccessList.{mode_bits}
-use Rattle.sector_disk.specs.Disk.{DiskState}
 use Rattle.fs_layout.specs.declared.inode.TheConstants.{S_ISGID, S_ISVTX}
 use Rattle.fs_layout.specs.declared.inode.Inode.{Inode}
 use Rattle.fs_layout.specs.declared.inode.Kind.TheVariants as kinds
@@ -33,9 +32,10 @@ use Rattle.fs_model.specs.Rules.{is_directory_kind}
 use Rattle.fs_model.specs.Scenes.{is_found, number, must_be_there}
 use Rattle.fs_model.specs.StoredNodes.{HoldsBody}
 use Rattle.fs_model.specs.Trees.{Tree, IsDirectoryAt}
-use Rattle.path_walk.specs.Answers.{refused_or, IsAnswered}
+use Rattle.path_walk.specs.Answers.{refused_or}
 use Rattle.path_walk.specs.HeldTrees.{HoldsTree, HasAccess}
-use Rattle.call_parts.proofs.Calling.{met_ok, or_else-none, first_asked, next_asked, both_met}
+use Rattle.call_parts.proofs.Calling.{or_else-none, both_met}
+use Rattle.call_parts.proofs.Refuses.{Refuses, refuses_first, refuses_next, demand_met}
 use Rattle.path_walk.proofs.HeldNodes.{held_node}
 use Rattle.call_parts.proofs.Followed.{IsAccessed, accessed_is}
 use Rattle.call_parts.specs.Reaching.{checked, IsInodeFound}
@@ -70,16 +70,16 @@ sticky_says owner group (Link target) m is e = absurd (cc)
 
 -- what S_ISVTX of a directory asks
 pub yields : {p : Place} {map : SectorMap} {t : Tree} (h : HoldsTree p map t) (cred : Credential) {f : Found} (directory : IsDirectoryAt t f.dir)
-    {n : ℕ} {v : Inode} (node : IsNode map t f n v) {d : Inode} → d ≡ inode_at p map f.dir → (walk step : ℕ) → step ≡ f.step - 1
+    {n : ℕ} {v : Inode} (node : IsNode map t f n v) {d : Inode} → d ≡ inode_at p map f.dir → (walk : ℕ)
     → allowed_by walk (f.step - 1) Remove (sticky_allows cred (the_directory (the_node t f.dir)).sticky (the_node t f.dir).owner (the_node t (number f)).owner)
-    ≡ sticky_asked cred d v walk step
-yields {p} {map} {t} h cred {f} directory {n} {v} node {d} d_is walk step step_is =
+    ≡ sticky_asked cred d v walk (f.step - 1)
+yields {p} {map} {t} h cred {f} directory {n} {v} node {d} d_is walk =
+    let step = f.step - 1 in
     let dir = directory.node in
     let held = held_node h f.dir dir directory.is_there in
     let w = inode_at p map f.dir in
     let here = the_node_is t f.dir dir directory.is_there in
-    ap (λ (k : ℕ). allowed_by walk k Remove (sticky_allows cred (the_directory (the_node t f.dir)).sticky (the_node t f.dir).owner (the_node t (number f)).owner)) (sym step_is)
-    ∙ ap (λ (u : Node). allowed_by walk step Remove (sticky_allows cred (the_directory u).sticky u.owner (the_node t (number f)).owner)) here
+    ap (λ (u : Node). allowed_by walk step Remove (sticky_allows cred (the_directory u).sticky u.owner (the_node t (number f)).owner)) here
     ∙ ap (λ (u : Node). allowed_by walk step Remove (sticky_allows cred (the_directory dir).sticky dir.owner u.owner)) node.is
     ∙ ap (λ (k : ℕ). allowed_by walk step Remove (sticky_allows cred (the_directory dir).sticky dir.owner k)) (sym node.holds.owner)
     ∙ ap (λ (k : ℕ). allowed_by walk step Remove (sticky_allows cred (the_directory dir).sticky k v.uid)) (sym held.owner)
@@ -104,9 +104,8 @@ module _ {p : Place} {map : SectorMap} {t : Tree} (h : HoldsTree p map t) {f : F
       allowed_by 1 (f.step - 1) Remove (sticky_allows cred (the_directory (the_node t f.dir)).sticky (the_node t f.dir).owner (the_node t (number f)).owner)
 
   -- nothing is there
-  pub removal_absent : {A B : Type 0} (x : A) (y : B) (e : Refusal) (old new : DiskState) → IsAnswered old new (refused_or absent (Ok y)) (Err e)
-      → IsAnswered old new (refused_or (first_of (removal_asked cred t f)) (Ok x)) (Err e)
-  removal_absent {A} {B} x y e old new is = first_asked {A = A} {B = B} absent (slashed ∷ allowed ∷ yielded ∷ []) y x e old new is
+  pub removal_absent : Refuses absent (first_of (removal_asked cred t f))
+  removal_absent = refuses_first absent (slashed ∷ allowed ∷ yielded ∷ [])
 
   module _ {n : ℕ} {v : Inode} (i : IsInodeFound p map f n v) where
     node : IsNode map t f n v
@@ -119,52 +118,39 @@ module _ {p : Place} {map : SectorMap} {t : Tree} (h : HoldsTree p map t) {f : F
         ∙ ap (λ (b : Bool). refuse ENOTDIR (f.slash && not b)) (sym (body_kind_is map v node.node.body node.holds.body))
 
     -- it is no directory, and named as one
-    pub removal_slashed : {A : Type 0} (x : A) (e : Refusal) (old new : DiskState) → checked (refuse ENOTDIR (f.slash && not (is_directory_kind v.kind))) ≡ Err e
-        → IsAnswered old new (refused_or (first_of (removal_asked cred t f)) (Ok x)) (Err e)
-    removal_slashed {A} x e old new is =
-        next_asked absent (slashed ∷ allowed ∷ yielded ∷ []) x e old new i.met
-        (first_asked {A = A} {B = Unit {0}} slashed (allowed ∷ yielded ∷ []) tt x e old new (inl (ap checked slash_is ∙ is)))
+    pub removal_slashed : Refuses (refuse ENOTDIR (f.slash && not (is_directory_kind v.kind))) (first_of (removal_asked cred t f))
+    removal_slashed =
+        refuses_next absent (slashed ∷ allowed ∷ yielded ∷ []) i.met
+        (λ (e : Refusal) is. refuses_first slashed (allowed ∷ yielded ∷ []) e (slash_is ∙ is))
 
-    module _ (no_slash : checked (refuse ENOTDIR (f.slash && not (is_directory_kind v.kind))) ≡ Ok tt) (step : ℕ) (step_is : step ≡ f.step - 1) where
+    module _ (no_slash : checked (refuse ENOTDIR (f.slash && not (is_directory_kind v.kind))) ≡ Ok tt) where
       slash_met : slashed ≡ None
-      slash_met = slash_is ∙ (met_ok {A = Unit {0}} (refuse ENOTDIR (f.slash && not (is_directory_kind v.kind))) tt tt no_slash).0
-
-      allowed_is : allowed ≡ permission_on cred t f.dir write_and_search 1 step
-      allowed_is = ap (λ (k : ℕ). permission_on cred t f.dir write_and_search 1 k) (sym step_is)
+      slash_met = slash_is ∙ demand_met (refuse ENOTDIR (f.slash && not (is_directory_kind v.kind))) no_slash
 
       -- the directory may not be written, or not searched
-      pub removal_denied : {A B : Type 0} (y : B) (x : A) (e : Refusal) (old new : DiskState)
-          → IsAnswered old new (refused_or (permission_on cred t f.dir write_and_search 1 step) (Ok y)) (Err e)
-          → IsAnswered old new (refused_or (first_of (removal_asked cred t f)) (Ok x)) (Err e)
-      removal_denied {A} {B} y x e old new is =
-          next_asked absent (slashed ∷ allowed ∷ yielded ∷ []) x e old new i.met
-          (next_asked slashed (allowed ∷ yielded ∷ []) x e old new slash_met
-          (first_asked {A = A} {B = B} allowed (yielded ∷ []) y x e old new
-          (subst (λ (o : Demand). IsAnswered old new (refused_or {A = B} o (Ok y)) (Err e)) (sym allowed_is) is)))
+      pub removal_denied : Refuses (permission_on cred t f.dir write_and_search 1 (f.step - 1)) (first_of (removal_asked cred t f))
+      removal_denied =
+          refuses_next absent (slashed ∷ allowed ∷ yielded ∷ []) i.met
+          (refuses_next slashed (allowed ∷ yielded ∷ []) slash_met (refuses_first allowed (yielded ∷ [])))
 
-      module _ (granted : permission_on cred t f.dir write_and_search 1 step ≡ None) {d : Inode} (d_is : d ≡ inode_at p map f.dir) where
-        allowed_met : allowed ≡ None
-        allowed_met = allowed_is ∙ granted
-
-        yielded_is : yielded ≡ sticky_asked cred d v 1 step
-        yielded_is = yields h cred named.directory node d_is 1 step step_is
+      module _ (granted : permission_on cred t f.dir write_and_search 1 (f.step - 1) ≡ None) {d : Inode} (d_is : d ≡ inode_at p map f.dir) where
+        yielded_is : yielded ≡ sticky_asked cred d v 1 (f.step - 1)
+        yielded_is = yields h cred named.directory node d_is 1
 
         -- the directory keeps it from the caller
-        pub removal_sticky : {A : Type 0} (x : A) (e : Refusal) (old new : DiskState) → checked (sticky_asked cred d v 1 step) ≡ Err e
-            → IsAnswered old new (refused_or (first_of (removal_asked cred t f)) (Ok x)) (Err e)
-        removal_sticky {A} x e old new is =
-            next_asked absent (slashed ∷ allowed ∷ yielded ∷ []) x e old new i.met
-            (next_asked slashed (allowed ∷ yielded ∷ []) x e old new slash_met
-            (next_asked allowed (yielded ∷ []) x e old new allowed_met
-            (first_asked {A = A} {B = Unit {0}} yielded [] tt x e old new (inl (ap checked yielded_is ∙ is)))))
+        pub removal_sticky : Refuses (sticky_asked cred d v 1 (f.step - 1)) (first_of (removal_asked cred t f))
+        removal_sticky =
+            refuses_next absent (slashed ∷ allowed ∷ yielded ∷ []) i.met
+            (refuses_next slashed (allowed ∷ yielded ∷ []) slash_met
+            (refuses_next allowed (yielded ∷ []) granted (λ (e : Refusal) is. refuses_first yielded [] e (yielded_is ∙ is))))
 
         -- nothing refuses
-        pub removal_met : checked (sticky_asked cred d v 1 step) ≡ Ok tt → first_of (removal_asked cred t f) ≡ None
+        pub removal_met : checked (sticky_asked cred d v 1 (f.step - 1)) ≡ Ok tt → first_of (removal_asked cred t f) ≡ None
         removal_met is =
             both_met absent (slashed ∷ allowed ∷ yielded ∷ []) i.met
             (both_met slashed (allowed ∷ yielded ∷ []) slash_met
-            (both_met allowed (yielded ∷ []) allowed_met
-            (or_else-none yielded ∙ yielded_is ∙ (met_ok {A = Unit {0}} (sticky_asked cred d v 1 step) tt tt is).0)))
+            (both_met allowed (yielded ∷ []) granted
+            (or_else-none yielded ∙ yielded_is ∙ demand_met (sticky_asked cred d v 1 (f.step - 1)) is)))
 
 -- ---- a directory that is to go
 

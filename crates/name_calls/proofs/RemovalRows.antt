@@ -1,16 +1,15 @@
 -- unlink and rmdir, by their rows.
 --     removes_by_path        the rows
---     asked_first, asked_second, asked_third, all_asked, parts_met        demands in three parts
---     finds_name, last_is_name, name_there        a name was found, with what it leads to
+--     finds_name, last_is_name, name_there, name_told        a name was found, with what it leads to
+--     last_refuses, removal_refuses, target_refuses, all_told        demands in three parts
 --     target_told        the last part, as the inode says it
 --     inode_told, target_found, target_met, target_may        where all is met
 --     name_gone        the name is gone
-use Rattle.std.specs.Prelude.{◌≡◌, ℕ, ◌==◌, Bool, true, false, not, ◌&&◌, ◌||◌, List, [], ◌∷◌, ◌++◌, Option, None, is_some, IsTrue, Ok, Err}
-use Rattle.std.proofs.Common.{refl, sym, ap, subst, ◌∙◌, inl}
+use Rattle.std.specs.Prelude.{◌≡◌, ℕ, ◌==◌, Bool, true, false, not, ◌&&◌, ◌||◌, List, [], ◌∷◌, ◌++◌, Option, None, is_some, IsTrue, Ok}
+use Rattle.std.proofs.Common.{refl, sym, ap, subst, ◌∙◌}
 use Rattle.std.specs.List.{list_any}
 use Rattle.fs_cred.specs.declared.errno.Errno.TheVariants.{EBUSY, EINVAL, EISDIR, ENOENT, ENOTDIR, ENOTEMPTY}
 use Rattle.fs_cred.specs.declared.refusal.Refusal.{Refusal}
-use Rattle.sector_disk.specs.Disk.{DiskState}
 use Rattle.fs_layout.specs.declared.inode.Inode.{Inode}
 use Rattle.fs_layout.specs.declared.place.Place.{Place}
 use Rattle.fs_layout.specs.Bytes.{SectorMap, IsBytes}
@@ -34,14 +33,14 @@ use Rattle.fs_model.specs.StoredNodes.{HoldsBody}
 use Rattle.fs_model.proofs.StepsDemands.{first_met, then_met, unrefused, and_false}
 use Rattle.fs_model.proofs.StepsFound.{IsNameAt, IsWalked, is_walked}
 use Rattle.fs_model.proofs.StepsOfRemoving.{empty_if}
-use Rattle.path_walk.specs.Answers.{refused_or, IsAnswered}
+use Rattle.path_walk.specs.Answers.{refused_or}
 use Rattle.call_parts.specs.Paths.{scene_at, HasFound}
 use Rattle.call_parts.specs.Performing.{IsStateOf}
 use Rattle.call_parts.specs.Reaching.{WalksPath, checked, IsInodeFound}
 use Rattle.call_parts.proofs.Calling.{state_tree, found_there, first_of-append, met_ok}
 use Rattle.call_parts.proofs.Changed.{IsChange}
-use Rattle.call_parts.proofs.Checked.{refused_as}
-use Rattle.call_parts.proofs.Ownership.{IsNode, node_of, some_asked, others_asked, all_met}
+use Rattle.call_parts.proofs.Ownership.{IsNode, node_of, all_met}
+use Rattle.call_parts.proofs.Refuses.{Refuses, refuses_some, refuses_others, demand_met}
 use Rattle.call_parts.proofs.Shown.{is_inode}
 use Rattle.name_calls.specs.declared.removal.Target.{Target}
 use Rattle.name_calls.specs.declared.removal.Target.TheVariants as targets
@@ -63,36 +62,11 @@ removes_by_path what path = record { arguments = []; row = row_is what path; are
 
 -- ---- demands in three parts
 
-module _ (a b c : List Demand) where
-  module _ {A : Type 0} (x : A) (e : Refusal) (old new : DiskState) where
-    pub asked_first : checked (first_of a) ≡ Err e → IsAnswered old new (refused_or (first_of (a ++ (b ++ c))) (Ok x)) (Err e)
-    asked_first is = some_asked {A = A} {B = Unit {0}} a (b ++ c) tt x e old new (inl is)
-
-    module _ (first : checked (first_of a) ≡ Ok tt) where
-      a_met : first_of a ≡ None
-      a_met = (met_ok {A = Unit {0}} (first_of a) tt tt first).0
-
-      pub asked_second : {B : Type 0} (y : B) → IsAnswered old new (refused_or (first_of b) (Ok y)) (Err e) → IsAnswered old new (refused_or (first_of (a ++ (b ++ c))) (Ok x)) (Err e)
-      asked_second {B} y is = others_asked a (b ++ c) x e old new a_met (some_asked {A = A} {B = B} b c y x e old new is)
-
-      pub asked_third : {B : Type 0} (y z : B) → refused_or (first_of b) (Ok y) ≡ Ok z → checked (first_of c) ≡ Err e
-          → IsAnswered old new (refused_or (first_of (a ++ (b ++ c))) (Ok x)) (Err e)
-      asked_third {B} y z second is =
-          others_asked a (b ++ c) x e old new a_met
-          (others_asked b c x e old new (met_ok {A = B} (first_of b) y z second).0 (refused_as {A = A} {B = Unit {0}} (first_of c) tt x e old new (inl is)))
-
-  pub all_asked : {B : Type 0} (y z : B) → checked (first_of a) ≡ Ok tt → refused_or (first_of b) (Ok y) ≡ Ok z → checked (first_of c) ≡ Ok tt
-      → refused_or (first_of (a ++ (b ++ c))) (Ok y) ≡ Ok z
-  all_asked {B} y z first second third =
-      let none = all_met a (b ++ c) (met_ok {A = Unit {0}} (first_of a) tt tt first).0
-      (all_met b c (met_ok {A = B} (first_of b) y z second).0 (met_ok {A = Unit {0}} (first_of c) tt tt third).0) in
-      ap (λ (d : Demand). refused_or {A = B} d (Ok y)) none ∙ ap (λ (k : B). Ok k) (met_ok {A = B} (first_of b) y z second).1
-
-  pub parts_met : first_of (a ++ (b ++ c)) ≡ None → (first_of a ≡ None) × (first_of b ≡ None) × (first_of c ≡ None)
-  parts_met none =
-      let one = sym (first_of-append a (b ++ c)) ∙ none in
-      let two = sym (first_of-append b c) ∙ then_met (first_of a) (first_of (b ++ c)) one in
-      (first_met (first_of a) (first_of (b ++ c)) one, first_met (first_of b) (first_of c) two, then_met (first_of b) (first_of c) two)
+parts_met : (a b c : List Demand) → first_of (a ++ (b ++ c)) ≡ None → (first_of a ≡ None) × (first_of b ≡ None) × (first_of c ≡ None)
+parts_met a b c none =
+    let one = sym (first_of-append a (b ++ c)) ∙ none in
+    let two = sym (first_of-append b c) ∙ then_met (first_of a) (first_of (b ++ c)) one in
+    (first_met (first_of a) (first_of (b ++ c)) one, first_met (first_of b) (first_of c) two, then_met (first_of b) (first_of c) two)
 
 -- ---- what was found
 
@@ -127,6 +101,28 @@ module _ {p : Place} {map : SectorMap} {desks : Desks} {q : Process} {f : Found}
         found = λ n some. found_there n i.is_state i.found some;
       }
 
+  -- ---- one of them refuses
+
+  module _ (what : Target) where
+    abbrev last : List Demand
+    last = last_asked what f
+
+    abbrev removal : List Demand
+    removal = removal_asked q.cred s.tree f
+
+    abbrev target : List Demand
+    target = target_asked what (scene_at s q f)
+
+    pub last_refuses : Refuses (first_of (last_asked what f)) (first_of (removal_demands what (scene_at s q f)))
+    last_refuses = refuses_some last (removal ++ target)
+
+    module _ (is : checked (first_of (last_asked what f)) ≡ Ok tt) where
+      pub name_told : IsNamedThere s.tree f
+      name_told = name_there (last_is_name what f (demand_met (first_of last) is))
+
+      pub removal_refuses : Refuses (first_of (removal_asked q.cred s.tree f)) (first_of (removal_demands what (scene_at s q f)))
+      removal_refuses = refuses_others last (removal ++ target) (demand_met (first_of last) is) (refuses_some removal target)
+
   module _ {n : ℕ} {v : Inode} (k : IsInodeFound p map f n v) where
     pub node : IsNode map s.tree f n v
     node = node_of (state_tree i.is_state) f n v k.number k.inode (found_there n i.is_state i.found k.some)
@@ -146,6 +142,18 @@ module _ {p : Place} {map : SectorMap} {desks : Desks} {q : Process} {f : Found}
         ∙ ap (λ (d : Desks). directory_asked (the_node s.tree (number f)).body (is_in_use d (number f))) (sym i.is_state.same_desks)
         ∙ ap (λ (o : Option ℕ). refuse ENOTDIR (is_some o && not (is_directory (the_node s.tree (number f)).body)) ∷ refuse EBUSY (is_in_use s.desks (number f))
         ∷ refuse ENOTEMPTY (not (is_empty (names_in (the_node s.tree (number f)).body))) ∷ []) (sym k.some)
+
+    module _ (what : Target) (first : checked (first_of (last_asked what f)) ≡ Ok tt) (met : first_of (removal_asked q.cred s.tree f) ≡ None) where
+      pub target_refuses : Refuses (first_of (kind_asked what node.node.body (is_in_use desks n))) (first_of (removal_demands what (scene_at s q f)))
+      target_refuses =
+          refuses_others (last what) (removal what ++ target what) (demand_met (first_of (last what)) first)
+          (refuses_others (removal what) (target what) met (λ (e : Refusal) is. ap first_of (sym (target_told what)) ∙ is))
+
+      pub all_told : checked (first_of (kind_asked what node.node.body (is_in_use desks n))) ≡ Ok tt → first_of (removal_demands what (scene_at s q f)) ≡ None
+      all_told is =
+          all_met (last what) (removal what ++ target what) (demand_met (first_of (last what)) first)
+          (all_met (removal what) (target what) met
+          (ap first_of (sym (target_told what)) ∙ demand_met (first_of (kind_asked what node.node.body (is_in_use desks n))) is))
 
     -- an empty directory that isn't in use, if it is one
     free : (what : Target) → first_of (target_asked what (scene_at s q f)) ≡ None → IsTrue (is_directory node.node.body)

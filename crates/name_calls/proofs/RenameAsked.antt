@@ -1,12 +1,11 @@
 -- What rename asks, as the inodes say it.
 --     kind_at, first_kind, first_other, second_other, second_directory        whether what was found is a directory
 --     slashes_are, kinds_are        the demands on that
+--     replaced_told        what is replaced
 --     ends_refuse, first_absent, slashes_refuse, names_met        all that is asked of both names
-use Rattle.std.specs.Prelude.{◌≡◌, ℕ, Bool, not, ◌&&◌, ◌||◌, [], ◌∷◌, Option, None, Some, is_some, unwrap_or, Ok, Err}
-use Rattle.std.proofs.Common.{refl, sym, ap, ◌∙◌, inl}
-use Rattle.sector_disk.specs.Disk.{DiskState}
+use Rattle.std.specs.Prelude.{◌≡◌, ℕ, Bool, not, ◌&&◌, ◌||◌, [], ◌∷◌, Option, None, Some, is_some, unwrap_or, Ok}
+use Rattle.std.proofs.Common.{refl, sym, ap, ◌∙◌}
 use Rattle.fs_cred.specs.declared.errno.Errno.TheVariants.{ENOTDIR, EISDIR}
-use Rattle.fs_cred.specs.declared.refusal.Refusal.{Refusal}
 use Rattle.fs_layout.specs.declared.inode.Inode.{Inode}
 use Rattle.fs_layout.specs.declared.place.Place.{Place}
 use Rattle.fs_layout.specs.Bytes.{SectorMap}
@@ -18,12 +17,14 @@ use Rattle.fs_model.specs.Nodes.{Node, is_directory}
 use Rattle.fs_model.specs.Rules.{is_directory_kind}
 use Rattle.fs_model.specs.Scenes.{is_found, number, must_be_there}
 use Rattle.fs_model.specs.Trees.{Tree}
-use Rattle.path_walk.specs.Answers.{refused_or, IsAnswered}
 use Rattle.path_walk.specs.HeldTrees.{HoldsTree, IsThere}
-use Rattle.call_parts.proofs.Calling.{met_ok, or_else-none, first_asked, next_asked, both_met}
+use Rattle.call_parts.proofs.Calling.{or_else-none, both_met}
+use Rattle.call_parts.proofs.Refuses.{Refuses, refuses_first, refuses_next, refuses_some, refuses_others, demand_met}
 use Rattle.path_walk.proofs.HeldNodes.{stands, held_kind}
+use Rattle.path_walk.proofs.Kept.{answer, kept_back, same_ok}
+use Rattle.sector_txn.specs.Sectors.{TxnState, IsUnchanged}
 use Rattle.call_parts.specs.Reaching.{checked, IsInodeFound}
-use Rattle.call_parts.proofs.Ownership.{some_asked, others_asked, all_met}
+use Rattle.call_parts.proofs.Ownership.{all_met}
 use Rattle.call_parts.proofs.Shown.{the_node_is}
 use Rattle.name_calls.specs.Renaming.{ends_asked, is_other, slash_asked, names_asked, kinds_asked, inode_there, other_kind, directory_kind, slash_told, replacing_asked}
 
@@ -87,29 +88,31 @@ module _ {p : Place} {map : SectorMap} {t : Tree} (h : HoldsTree p map t) where
           ∙ ap (λ (b : Bool). refuse EISDIR (not (is_directory_kind v.kind) && directory_kind replaced) ∷ refuse ENOTDIR (is_directory_kind v.kind && b) ∷ [])
           (second_other g second ∙ ap other_kind (sym is))
 
+-- what is replaced, as it was before a read
+pub replaced_told : (p : Place) {old mid : TxnState} (o : Option ℕ) (there : Option (ℕ × Inode)) → IsUnchanged old mid
+    → answer (inode_there p mid.sectors o) ≡ answer there → there ≡ inode_there p old.sectors o
+replaced_told p {old} {mid} o there same is =
+    kept_back (λ (m : SectorMap). there ≡ inode_there p m o) same (sym (same_ok (inode_there p mid.sectors o) there is))
+
 -- ---- all that is asked of both names
 
 module _ (t : Tree) (f g : Found) where
-  module _ {A : Type 0} (x : A) (e : Refusal) (old new : DiskState) where
-    pub ends_refuse : checked (first_of (ends_asked f g)) ≡ Err e → IsAnswered old new (refused_or (first_of (names_asked t f g)) (Ok x)) (Err e)
-    ends_refuse is = some_asked {A = A} {B = Unit {0}} (ends_asked f g) (must_be_there f ∷ slash_asked t f g ∷ []) tt x e old new (inl is)
+  pub ends_refuse : Refuses (first_of (ends_asked f g)) (first_of (names_asked t f g))
+  ends_refuse = refuses_some (ends_asked f g) (must_be_there f ∷ slash_asked t f g ∷ [])
 
-    module _ (ends : checked (first_of (ends_asked f g)) ≡ Ok tt) where
-      pub first_absent : {B : Type 0} (y : B) → IsAnswered old new (refused_or (must_be_there f) (Ok y)) (Err e)
-          → IsAnswered old new (refused_or (first_of (names_asked t f g)) (Ok x)) (Err e)
-      first_absent {B} y is =
-          others_asked {A = A} (ends_asked f g) (must_be_there f ∷ slash_asked t f g ∷ []) x e old new (met_ok {A = Unit {0}} (first_of (ends_asked f g)) tt tt ends).0
-          (first_asked {A = A} {B = B} (must_be_there f) (slash_asked t f g ∷ []) y x e old new is)
+  module _ (ends : checked (first_of (ends_asked f g)) ≡ Ok tt) where
+    pub first_absent : Refuses (must_be_there f) (first_of (names_asked t f g))
+    first_absent =
+        refuses_others (ends_asked f g) (must_be_there f ∷ slash_asked t f g ∷ []) (demand_met (first_of (ends_asked f g)) ends)
+        (refuses_first (must_be_there f) (slash_asked t f g ∷ []))
 
-      pub slashes_refuse : must_be_there f ≡ None → checked (slash_asked t f g) ≡ Err e
-          → IsAnswered old new (refused_or (first_of (names_asked t f g)) (Ok x)) (Err e)
-      slashes_refuse there is =
-          others_asked {A = A} (ends_asked f g) (must_be_there f ∷ slash_asked t f g ∷ []) x e old new (met_ok {A = Unit {0}} (first_of (ends_asked f g)) tt tt ends).0
-          (next_asked {A = A} (must_be_there f) (slash_asked t f g ∷ []) x e old new there
-          (first_asked {A = A} {B = Unit {0}} (slash_asked t f g) [] tt x e old new (inl is)))
+    pub slashes_refuse : must_be_there f ≡ None → Refuses (slash_asked t f g) (first_of (names_asked t f g))
+    slashes_refuse there =
+        refuses_others (ends_asked f g) (must_be_there f ∷ slash_asked t f g ∷ []) (demand_met (first_of (ends_asked f g)) ends)
+        (refuses_next (must_be_there f) (slash_asked t f g ∷ []) there (refuses_first (slash_asked t f g) []))
 
   pub names_met : checked (first_of (ends_asked f g)) ≡ Ok tt → must_be_there f ≡ None → checked (slash_asked t f g) ≡ Ok tt → first_of (names_asked t f g) ≡ None
   names_met ends there slash =
-      all_met (ends_asked f g) (must_be_there f ∷ slash_asked t f g ∷ []) (met_ok {A = Unit {0}} (first_of (ends_asked f g)) tt tt ends).0
+      all_met (ends_asked f g) (must_be_there f ∷ slash_asked t f g ∷ []) (demand_met (first_of (ends_asked f g)) ends)
       (both_met (must_be_there f) (slash_asked t f g ∷ []) there
-      (or_else-none (slash_asked t f g) ∙ (met_ok {A = Unit {0}} (slash_asked t f g) tt tt slash).0))
+      (or_else-none (slash_asked t f g) ∙ demand_met (slash_asked t f g) slash))

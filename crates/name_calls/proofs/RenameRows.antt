@@ -5,10 +5,9 @@
 --     names_refuse, move_refuses, same_met, move_met        the whole
 --     IsRenamable, rename_told        where all that is asked is met
 --     may_move, rename_changes, rename_stays        the name may go, it has gone, and nothing changed
-use Rattle.std.specs.Prelude.{◌≡◌, ◌≢◌, ℕ, ◌<◌, ◌≤◌, ◌==◌, nat_lt, Bool, true, false, not, ◌&&◌, List, length, Option, None, Some, is_some, unwrap_or, if◌then◌else◌, IsTrue, Ok, Err}
+use Rattle.std.specs.Prelude.{◌≡◌, ◌≢◌, ℕ, ◌<◌, ◌≤◌, ◌==◌, nat_lt, Bool, true, false, not, ◌&&◌, List, length, Option, None, Some, is_some, unwrap_or, if◌then◌else◌, IsTrue, Ok}
 use Rattle.std.proofs.Common.{refl, sym, ap, subst, arith, ◌∙◌}
 use Rattle.std.proofs.lemmas.Bool.Decides.{nat_tests}
-use Rattle.sector_disk.specs.Disk.{DiskState}
 use Rattle.fs_cred.specs.declared.errno.Errno.TheVariants.{ENOSPC}
 use Rattle.fs_cred.specs.declared.refusal.Refusal.{Refusal}
 use Rattle.fs_layout.specs.declared.inode.Inode.{Inode}
@@ -23,7 +22,7 @@ use Rattle.fs_model.specs.Demands.{Demand, first_of, only_if}
 use Rattle.fs_model.specs.Limits.{entries_limit, least_free}
 use Rattle.fs_model.specs.Nodes.{Node, names_in}
 use Rattle.fs_model.specs.Processes.{Process, Desks, is_open}
-use Rattle.fs_model.specs.RenameCall.{is_same, rename_demands, rename_effect, rename_row}
+use Rattle.fs_model.specs.RenameCall.{is_same, rename_demands, rename_effect}
 use Rattle.fs_model.specs.Rows.{row_of}
 use Rattle.fs_model.specs.Scenes.{Scene, is_found, number, changes}
 use Rattle.fs_model.specs.Stands.{HoldsAll, placed}
@@ -35,13 +34,13 @@ use Rattle.fs_model.proofs.StepsDemands as demands
 use Rattle.fs_model.proofs.StepsFound.{IsNameAt}
 use Rattle.fs_model.proofs.StepsOfRename.{IsRenamed, names_say, rename_asks, others, space_met, has_room, replaced_empty, replaced_unused, outside}
 use Rattle.fs_model.proofs.StepsParents.{names_or}
-use Rattle.path_walk.specs.Answers.{refused_or, IsAnswered}
+use Rattle.path_walk.specs.Answers.{refused_or}
 use Rattle.call_parts.specs.Performing.{IsStateOf}
 use Rattle.call_parts.proofs.Calling.{first_of-append, met_ok}
 use Rattle.path_walk.specs.HeldTrees.{IsThere}
 use Rattle.call_parts.proofs.Changed.{IsChange}
-use Rattle.call_parts.proofs.Checked.{refused_as}
-use Rattle.call_parts.proofs.Ownership.{some_asked, others_asked, all_met}
+use Rattle.call_parts.proofs.Ownership.{all_met}
+use Rattle.call_parts.proofs.Refuses.{Refuses, refuses_some, refuses_others}
 use Rattle.call_parts.proofs.Shown.{number_of, the_node_is}
 use Rattle.name_calls.specs.Moving.{MayMove}
 use Rattle.name_calls.specs.Removing.{IsNamedThere}
@@ -53,13 +52,9 @@ use Rattle.call_parts.proofs.FoundBoth.{first_there, second_there, first_walked,
 
 -- ---- the row
 
-module _ (old new : List ℕ) where
-  rename_is : row_of (Rename old new) ≡ rename_row old new
-  unfolding row_of
-  rename_is = refl
-
-  pub rename_by_two : WalksBoth (Rename old new) old new rename_demands rename_effect
-  rename_by_two = record { row = rename_is; asks = refl }
+pub rename_by_two : (old new : List ℕ) → WalksBoth (Rename old new) old new rename_demands rename_effect
+unfolding row_of
+rename_by_two old new = record { row = refl; asks = refl }
 
 -- ---- the demands in two parts
 
@@ -70,18 +65,13 @@ module _ (s : State) (q : Process) (f g : Found) where
   abbrev rest : List Demand
   rest = only_if (not (is_same (scene_with s q f g))) (move_asked (scene_with s q f g))
 
-  module _ {A : Type 0} (x : A) (e : Refusal) (old new : DiskState) where
-    pub names_refuse : {B : Type 0} (y : B) → IsAnswered old new (refused_or (first_of (names_asked s.tree f g)) (Ok y)) (Err e)
-        → IsAnswered old new (refused_or (first_of (rename_demands (scene_with s q f g))) (Ok x)) (Err e)
-    names_refuse {B} y is = some_asked {A = A} {B = B} names rest y x e old new is
+  pub names_refuse : Refuses (first_of (names_asked s.tree f g)) (first_of (rename_demands (scene_with s q f g)))
+  names_refuse = refuses_some names rest
 
-    pub move_refuses : first_of (names_asked s.tree f g) ≡ None → is_same (scene_with s q f g) ≡ false → {B : Type 0} (y : B)
-        → IsAnswered old new (refused_or (first_of (move_asked (scene_with s q f g))) (Ok y)) (Err e)
-        → IsAnswered old new (refused_or (first_of (rename_demands (scene_with s q f g))) (Ok x)) (Err e)
-    move_refuses met apart {B} y is =
-        others_asked {A = A} names rest x e old new met
-        (subst (λ (b : Bool). IsAnswered old new (refused_or {A = A} (first_of (only_if (not b) (move_asked (scene_with s q f g)))) (Ok x)) (Err e)) (sym apart)
-        (refused_as {A = A} {B = B} (first_of (move_asked (scene_with s q f g))) y x e old new is))
+  pub move_refuses : first_of (names_asked s.tree f g) ≡ None → is_same (scene_with s q f g) ≡ false
+      → Refuses (first_of (move_asked (scene_with s q f g))) (first_of (rename_demands (scene_with s q f g)))
+  move_refuses met apart =
+      refuses_others names rest met (λ (e : Refusal) is. ap (λ (b : Bool). first_of (only_if (not b) (move_asked (scene_with s q f g)))) apart ∙ is)
 
   pub same_met : first_of (names_asked s.tree f g) ≡ None → is_same (scene_with s q f g) ≡ true → first_of (rename_demands (scene_with s q f g)) ≡ None
   same_met met same = all_met names rest met (ap (λ (b : Bool). first_of (only_if (not b) (move_asked (scene_with s q f g)))) same)

@@ -1,18 +1,19 @@
 -- What rename asks of directories and of what it replaces, as the inodes say it.
---     asked_as        permission on a directory
+--     IsGranted, both_grant        what both directories grant
+--     MeetsThree        the first three of five parts
+--     first_part, second_part, third_part, fourth_part, fifth_part, five_met        five parts
+--     moved_refuses, space_refuses, all_five        the last two
 --     inode_of, node_first, directory_of        what is renamed
---     first_denied, second_denied, first_keeps, second_keeps, first_yields, permissions_met        both directories
---     below_is, directories_are, below_refuses, replaced_refuses, directories_met, below_told        the demands on directories
---     kinds_refuse, kinds_met        those on the kinds of both
---     granted, to_rename_kept        what is known then
---     there_some, other_replaced, there_body, directory_replaced        what is replaced
+--     first_denied, second_denied, first_keeps, second_keeps, permissions_met        both directories
+--     below_is, directories_are, below_told        the demands on directories
+--     permissions_refuse, directory_told, kinds_refuse, below_refuses, replaced_refuses, three_parts        the first three, one after another
 --     other_moved, same_moved, moved_access, moved_held, moved_denied, moved_met        a directory that goes to another
 --     room_is        room for a new name
---     first_part, second_part, third_part, fourth_part, fifth_part, five_met        all of it
+--     to_rename_kept        the same after reads
+--     there_some, other_replaced, there_body, directory_replaced        what is replaced
 use Rattle.std.specs.Prelude.{◌≡◌, ◌≢◌, ℕ, ◌-◌, ◌==◌, nat_lt, nat_le, Bool, true, false, not, ◌&&◌, List, [], ◌∷◌, ◌++◌, length, Option, None, Some, is_some, unwrap_or, Result, Ok, Err}
-use Rattle.std.proofs.Common.{refl, sym, ap, subst, arith, ◌∙◌, inl}
+use Rattle.std.proofs.Common.{refl, sym, ap, subst, arith, ◌∙◌}
 use Rattle.std.proofs.lemmas.Bool.Decides.{nat_tests}
-use Rattle.sector_disk.specs.Disk.{DiskState}
 use Rattle.fs_cred.specs.declared.errno.Errno.TheVariants.{EBUSY, EINVAL, ENOENT, ENOSPC, ENOTDIR, ENOTEMPTY}
 use Rattle.fs_cred.specs.declared.node.Node.{Node as AccessNode}
 use Rattle.fs_cred.specs.declared.refusal.Need.TheVariants.{Perm, Remove}
@@ -38,34 +39,103 @@ use Rattle.fs_model.specs.Parts.{is_empty}
 use Rattle.fs_model.specs.Processes.{Process, Desks, is_in_use}
 use Rattle.fs_model.specs.RenameCall.{rename_permissions, rename_kinds, rename_directories, rename_moved, rename_space}
 use Rattle.fs_model.specs.Rules.{is_directory_kind}
-use Rattle.fs_model.specs.Scenes.{is_found, number}
+use Rattle.fs_model.specs.Scenes.{Scene, is_found, number}
 use Rattle.fs_model.specs.States.{State}
 use Rattle.fs_model.specs.Trees.{Tree, is_within, IsDirectoryAt}
-use Rattle.path_walk.specs.Answers.{refused_or, IsAnswered}
+use Rattle.path_walk.specs.Answers.{refused_or}
 use Rattle.path_walk.specs.HeldTrees.{HoldsTree, IsThere, HasAccess}
-use Rattle.call_parts.proofs.Calling.{state_tree, met_ok, or_else-none, first_asked, next_asked, both_met}
+use Rattle.call_parts.proofs.Calling.{state_tree, met_ok, or_else-none, both_met}
 use Rattle.path_walk.proofs.Kept.{kept}
 use Rattle.call_parts.proofs.Followed.{accessed_is}
-use Rattle.call_parts.proofs.Checked.{refused_as}
-use Rattle.call_parts.proofs.MakeAsked.{dir_access, dir_held}
-use Rattle.call_parts.proofs.Ownership.{IsNode, node_of, some_asked, others_asked, all_met}
+use Rattle.call_parts.proofs.MakeAsked.{dir_access, dir_held, directory_met}
+use Rattle.call_parts.proofs.Ownership.{IsNode, node_of, all_met}
+use Rattle.call_parts.proofs.Refuses.{Refuses, refuses_first, refuses_next, refuses_some, refuses_others, demand_met}
 use Rattle.call_parts.specs.Reaching.{checked, IsInodeFound}
 use Rattle.call_parts.specs.Makings.{room_asked}
 use Rattle.call_parts.specs.Asked.{sticky_asked}
 use Rattle.name_calls.specs.Removing.{directory_asked}
 use Rattle.name_calls.specs.Renaming.{inode_there, replacing_asked}
-use Rattle.name_calls.specs.Replacing.{IsToRename, sticky_there, below_asked, replaced_asked}
+use Rattle.name_calls.specs.Replacing.{IsToRename, sticky_there, below_asked, replaced_asked, move_asked}
 use Rattle.call_parts.specs.TwoPaths.{scene_with}
 use Rattle.name_calls.proofs.RemovalAsked.{body_kind_is, yields}
 use Rattle.name_calls.proofs.RenameAsked.{kind_at, first_kind, kinds_are}
 
--- permission on a directory, of the same caller after as many lookups
-pub asked_as : {cred who : Credential} {step steps : ℕ} (t : Tree) (dir walk : ℕ) (y : Inode) (r : Result Inode Refusal) (old new : DiskState) → cred ≡ who → step ≡ steps
-    → IsAnswered old new (refused_or {A = Inode} (permission_on cred t dir write_and_search walk step) (Ok y)) r
-    → IsAnswered old new (refused_or {A = Inode} (permission_on who t dir write_and_search walk steps) (Ok y)) r
-asked_as {cred} {who} {step} {steps} t dir walk y r old new same is h =
-    subst (λ (k : ℕ). IsAnswered old new (refused_or {A = Inode} (permission_on who t dir write_and_search walk k) (Ok y)) r) is
-    (subst (λ (k : Credential). IsAnswered old new (refused_or {A = Inode} (permission_on k t dir write_and_search walk step) (Ok y)) r) same h)
+-- both directories grant it, and these are their inodes
+pub record IsGranted (p : Place) (map : SectorMap) (t : Tree) (q : Process) (f g : Found) (d to : Inode) : Type 0 where
+  pub first : permission_on q.cred t f.dir write_and_search 1 (f.step - 1) ≡ None
+  pub second : permission_on q.cred t g.dir write_and_search 2 (g.step - 1) ≡ None
+  pub from_is : d ≡ inode_at p map f.dir
+  pub to_is : to ≡ inode_at p map g.dir
+
+pub both_grant : (p : Place) {old mid : TxnState} (t : Tree) (q : Process) (f g : Found) (d to : Inode) → IsUnchanged old mid
+    → refused_or {A = Inode} (permission_on q.cred t f.dir write_and_search 1 (f.step - 1)) (Ok (inode_at p old.sectors f.dir)) ≡ Ok d
+    → refused_or {A = Inode} (permission_on q.cred t g.dir write_and_search 2 (g.step - 1)) (Ok (inode_at p mid.sectors g.dir)) ≡ Ok to
+    → IsGranted p old.sectors t q f g d to
+both_grant p {old} {mid} t q f g d to same told then_told =
+    let one = met_ok {A = Inode} (permission_on q.cred t f.dir write_and_search 1 (f.step - 1)) (inode_at p old.sectors f.dir) d told in
+    let two = directory_met p g.dir (permission_on q.cred t g.dir write_and_search 2 (g.step - 1)) same then_told in
+    record { first = one.0; second = two.0; from_is = sym one.1; to_is = two.1 }
+
+-- nothing is refused by the first three parts
+pub record MeetsThree (s : State) (q : Process) (f g : Found) : Type 0 where
+  pub permissions : first_of (rename_permissions (scene_with s q f g)) ≡ None
+  pub kinds : first_of (rename_kinds (scene_with s q f g)) ≡ None
+  pub directories : first_of (rename_directories (scene_with s q f g)) ≡ None
+
+-- ---- five parts
+
+module _ (a b c d e : List Demand) where
+  pub first_part : Refuses (first_of a) (first_of (a ++ b ++ c ++ d ++ e))
+  first_part r is = refuses_some (a ++ b ++ c ++ d) e r (refuses_some (a ++ b ++ c) d r (refuses_some (a ++ b) c r (refuses_some a b r is)))
+
+  module _ (one : first_of a ≡ None) where
+    pub second_part : Refuses (first_of b) (first_of (a ++ b ++ c ++ d ++ e))
+    second_part r is =
+        refuses_some (a ++ b ++ c ++ d) e r (refuses_some (a ++ b ++ c) d r (refuses_some (a ++ b) c r (refuses_others a b one (λ (k : Refusal) h. h) r is)))
+
+    module _ (two : first_of b ≡ None) where
+      pub third_part : Refuses (first_of c) (first_of (a ++ b ++ c ++ d ++ e))
+      third_part r is =
+          refuses_some (a ++ b ++ c ++ d) e r (refuses_some (a ++ b ++ c) d r (refuses_others (a ++ b) c (all_met a b one two) (λ (k : Refusal) h. h) r is))
+
+      module _ (three : first_of c ≡ None) where
+        abc_met : first_of (a ++ b ++ c) ≡ None
+        abc_met = all_met (a ++ b) c (all_met a b one two) three
+
+        pub fourth_part : Refuses (first_of d) (first_of (a ++ b ++ c ++ d ++ e))
+        fourth_part r is = refuses_some (a ++ b ++ c ++ d) e r (refuses_others (a ++ b ++ c) d abc_met (λ (k : Refusal) h. h) r is)
+
+        module _ (four : first_of d ≡ None) where
+          pub fifth_part : Refuses (first_of e) (first_of (a ++ b ++ c ++ d ++ e))
+          fifth_part = refuses_others (a ++ b ++ c ++ d) e (all_met (a ++ b ++ c) d abc_met four) (λ (k : Refusal) h. h)
+
+          pub five_met : first_of e ≡ None → first_of (a ++ b ++ c ++ d ++ e) ≡ None
+          five_met five = all_met (a ++ b ++ c ++ d) e (all_met (a ++ b ++ c) d abc_met four) five
+
+-- ---- what is known before the last two
+
+module _ {s : State} {q : Process} {f g : Found} (x : MeetsThree s q f g) where
+  abbrev scene : Scene
+  scene = scene_with s q f g
+
+  pub moved_refuses : Refuses (first_of (rename_moved (scene_with s q f g))) (first_of (move_asked (scene_with s q f g)))
+  moved_refuses =
+      fourth_part (rename_permissions scene) (rename_kinds scene) (rename_directories scene) (rename_moved scene) (rename_space scene) x.permissions x.kinds x.directories
+
+  module _ (moved : checked (first_of (rename_moved (scene_with s q f g))) ≡ Ok tt) where
+    moved_none : first_of (rename_moved scene) ≡ None
+    moved_none = demand_met (first_of (rename_moved scene)) moved
+
+    pub space_refuses : Refuses (first_of (rename_space (scene_with s q f g))) (first_of (move_asked (scene_with s q f g)))
+    space_refuses =
+        fifth_part (rename_permissions scene) (rename_kinds scene) (rename_directories scene) (rename_moved scene) (rename_space scene)
+        x.permissions x.kinds x.directories moved_none
+
+    pub all_five : checked (first_of (rename_space (scene_with s q f g))) ≡ Ok tt → checked (first_of (move_asked (scene_with s q f g))) ≡ Ok tt
+    all_five space =
+        ap checked
+        (five_met (rename_permissions scene) (rename_kinds scene) (rename_directories scene) (rename_moved scene) (rename_space scene)
+        x.permissions x.kinds x.directories moved_none (demand_met (first_of (rename_space scene)) space))
 
 same_number_is : (x y : ℕ) → x ≡ y → (x == y) ≡ true
 same_number_is x y same = grind (arith, nat_tests)
@@ -110,64 +180,53 @@ module _ {p : Place} {map : SectorMap} {desks : Desks} {f g : Found} {n : ℕ} {
     abbrev four : List Demand
     four = only_if (is_found g) (last ∷ [])
 
-    three_is : {d : Inode} → d ≡ inode_at p map f.dir → (step : ℕ) → step ≡ f.step - 1 → three ≡ sticky_asked q.cred d v 1 step
-    three_is d_is step step_is = yields (state_tree r.is_state) q.cred r.first.directory node_first d_is 1 step step_is
+    three_is : {d : Inode} → d ≡ inode_at p map f.dir → three ≡ sticky_asked q.cred d v 1 (f.step - 1)
+    three_is d_is = yields (state_tree r.is_state) q.cred r.first.directory node_first d_is 1
 
-    four_is : {d : Inode} → d ≡ inode_at p map g.dir → (step : ℕ) → step ≡ g.step - 1 → four ≡ sticky_there q.cred d there step
-    four_is {d} d_is step step_is = go g.ino refl
+    four_is : {d : Inode} → d ≡ inode_at p map g.dir → four ≡ sticky_there q.cred d there (g.step - 1)
+    four_is {d} d_is = go g.ino refl
       where
-        go : (o : Option ℕ) → g.ino ≡ o → four ≡ sticky_there q.cred d there step
+        go : (o : Option ℕ) → g.ino ≡ o → four ≡ sticky_there q.cred d there (g.step - 1)
         go None e =
             ap (λ (o : Option ℕ). only_if (is_some o) (last ∷ [])) e
-            ∙ sym (ap (λ (o : Option (ℕ × Inode)). sticky_there q.cred d o step) (r.replaced_is ∙ ap (inode_there p map) e))
+            ∙ sym (ap (λ (o : Option (ℕ × Inode)). sticky_there q.cred d o (g.step - 1)) (r.replaced_is ∙ ap (inode_there p map) e))
         go (Some m) e =
             let node = node_of (state_tree r.is_state) g m (inode_at p map m) (ap (λ (o : Option ℕ). unwrap_or o 0) e) refl (r.second.found m e) in
             ap (λ (o : Option ℕ). only_if (is_some o) (last ∷ [])) e
-            ∙ ap (λ (x : Demand). x ∷ []) (yields (state_tree r.is_state) q.cred r.second.directory node d_is 2 step step_is)
-            ∙ sym (ap (λ (o : Option (ℕ × Inode)). sticky_there q.cred d o step) (r.replaced_is ∙ ap (inode_there p map) e))
+            ∙ ap (λ (x : Demand). x ∷ []) (yields (state_tree r.is_state) q.cred r.second.directory node d_is 2)
+            ∙ sym (ap (λ (o : Option (ℕ × Inode)). sticky_there q.cred d o (g.step - 1)) (r.replaced_is ∙ ap (inode_there p map) e))
 
-    module _ {A : Type 0} (x : A) (e : Refusal) (old new : DiskState) where
-      pub first_denied : {B : Type 0} (y : B) → IsAnswered old new (refused_or (permission_on q.cred s.tree f.dir write_and_search 1 (f.step - 1)) (Ok y)) (Err e)
-          → IsAnswered old new (refused_or (first_of (rename_permissions (scene_with s q f g))) (Ok x)) (Err e)
-      first_denied {B} y is = first_asked {A = A} {B = B} one (two ∷ three ∷ four) y x e old new is
+    pub first_denied : Refuses (permission_on q.cred s.tree f.dir write_and_search 1 (f.step - 1)) (first_of (rename_permissions (scene_with s q f g)))
+    first_denied = refuses_first one (two ∷ three ∷ four)
 
-      module _ (first : permission_on q.cred s.tree f.dir write_and_search 1 (f.step - 1) ≡ None) where
-        pub second_denied : {B : Type 0} (y : B) → IsAnswered old new (refused_or (permission_on q.cred s.tree g.dir write_and_search 2 (g.step - 1)) (Ok y)) (Err e)
-            → IsAnswered old new (refused_or (first_of (rename_permissions (scene_with s q f g))) (Ok x)) (Err e)
-        second_denied {B} y is =
-            next_asked {A = A} one (two ∷ three ∷ four) x e old new first (first_asked {A = A} {B = B} two (three ∷ four) y x e old new is)
+    pub second_denied : permission_on q.cred s.tree f.dir write_and_search 1 (f.step - 1) ≡ None
+        → Refuses (permission_on q.cred s.tree g.dir write_and_search 2 (g.step - 1)) (first_of (rename_permissions (scene_with s q f g)))
+    second_denied first = refuses_next one (two ∷ three ∷ four) first (refuses_first two (three ∷ four))
 
-        module _ (second : permission_on q.cred s.tree g.dir write_and_search 2 (g.step - 1) ≡ None) where
-          -- the first directory keeps what is renamed from the caller
-          pub first_keeps : {d : Inode} → d ≡ inode_at p map f.dir → (step : ℕ) → step ≡ f.step - 1 → checked (sticky_asked q.cred d v 1 step) ≡ Err e
-              → IsAnswered old new (refused_or (first_of (rename_permissions (scene_with s q f g))) (Ok x)) (Err e)
-          first_keeps d_is step step_is is =
-              next_asked {A = A} one (two ∷ three ∷ four) x e old new first
-              (next_asked {A = A} two (three ∷ four) x e old new second
-              (first_asked {A = A} {B = Unit {0}} three four tt x e old new (inl (ap checked (three_is d_is step step_is) ∙ is))))
+    module _ {d to : Inode} (x : IsGranted p map s.tree q f g d to) where
+      -- the first directory keeps what is renamed from the caller
+      pub first_keeps : Refuses (sticky_asked q.cred d v 1 (f.step - 1)) (first_of (rename_permissions (scene_with s q f g)))
+      first_keeps =
+          refuses_next one (two ∷ three ∷ four) x.first
+          (refuses_next two (three ∷ four) x.second (λ (e : Refusal) is. refuses_first three four e (three_is x.from_is ∙ is)))
 
-          -- the second keeps what is replaced
-          pub second_keeps : three ≡ None → {d : Inode} → d ≡ inode_at p map g.dir → (step : ℕ) → step ≡ g.step - 1
-              → checked (first_of (sticky_there q.cred d there step)) ≡ Err e
-              → IsAnswered old new (refused_or (first_of (rename_permissions (scene_with s q f g))) (Ok x)) (Err e)
-          second_keeps third d_is step step_is is =
-              next_asked {A = A} one (two ∷ three ∷ four) x e old new first
-              (next_asked {A = A} two (three ∷ four) x e old new second
-              (next_asked {A = A} three four x e old new third
-              (refused_as {A = A} {B = Unit {0}} (first_of four) tt x e old new
-              (inl (ap (λ (ds : List Demand). checked (first_of ds)) (four_is d_is step step_is) ∙ is)))))
+      module _ (yields_it : checked (sticky_asked q.cred d v 1 (f.step - 1)) ≡ Ok tt) where
+        three_met : three ≡ None
+        three_met = three_is x.from_is ∙ demand_met (sticky_asked q.cred d v 1 (f.step - 1)) yields_it
 
-    pub first_yields : {d : Inode} → d ≡ inode_at p map f.dir → (step : ℕ) → step ≡ f.step - 1 → checked (sticky_asked q.cred d v 1 step) ≡ Ok tt → three ≡ None
-    first_yields {d} d_is step step_is is = three_is d_is step step_is ∙ (met_ok {A = Unit {0}} (sticky_asked q.cred d v 1 step) tt tt is).0
+        -- the second keeps what is replaced
+        pub second_keeps : Refuses (first_of (sticky_there q.cred to there (g.step - 1))) (first_of (rename_permissions (scene_with s q f g)))
+        second_keeps =
+            refuses_next one (two ∷ three ∷ four) x.first
+            (refuses_next two (three ∷ four) x.second
+            (refuses_next three four three_met (λ (e : Refusal) is. ap first_of (four_is x.to_is) ∙ is)))
 
-    pub permissions_met : permission_on q.cred s.tree f.dir write_and_search 1 (f.step - 1) ≡ None → permission_on q.cred s.tree g.dir write_and_search 2 (g.step - 1) ≡ None
-        → three ≡ None → {d : Inode} → d ≡ inode_at p map g.dir → (step : ℕ) → step ≡ g.step - 1 → checked (first_of (sticky_there q.cred d there step)) ≡ Ok tt
-        → first_of (rename_permissions (scene_with s q f g)) ≡ None
-    permissions_met first second third {d} d_is step step_is is =
-        both_met one (two ∷ three ∷ four) first
-        (both_met two (three ∷ four) second
-        (both_met three four third
-        (ap first_of (four_is d_is step step_is) ∙ (met_ok {A = Unit {0}} (first_of (sticky_there q.cred d there step)) tt tt is).0)))
+        pub permissions_met : checked (first_of (sticky_there q.cred to there (g.step - 1))) ≡ Ok tt → first_of (rename_permissions (scene_with s q f g)) ≡ None
+        permissions_met is =
+            both_met one (two ∷ three ∷ four) x.first
+            (both_met two (three ∷ four) x.second
+            (both_met three four three_met
+            (ap first_of (four_is x.to_is) ∙ demand_met (first_of (sticky_there q.cred to there (g.step - 1))) is)))
 
     -- ---- a directory below itself
 
@@ -182,41 +241,55 @@ module _ {p : Place} {map : SectorMap} {desks : Desks} {f g : Found} {n : ℕ} {
         ap (λ (d : Demand). d ∷ replaced_asked s.tree s.desks g) below_is
         ∙ ap (λ (d : Desks). below_asked s.tree v.kind n g.dir ∷ replaced_asked s.tree d g) r.is_state.same_desks
 
-    below_met : refused_or {A = Unit {0}} (below_asked s.tree v.kind n g.dir) (Ok tt) ≡ Ok tt → below_asked s.tree v.kind n g.dir ≡ None
-    below_met is = (met_ok {A = Unit {0}} (below_asked s.tree v.kind n g.dir) tt tt is).0
-
-    pub below_refuses : (e : Refusal) (old new : DiskState) → IsAnswered old new (refused_or {A = Unit {0}} (below_asked s.tree v.kind n g.dir) (Ok tt)) (Err e)
-        → IsAnswered old new (checked (first_of (rename_directories (scene_with s q f g)))) (Err e)
-    below_refuses e old new is =
-        subst (λ (ds : List Demand). IsAnswered old new (checked (first_of ds)) (Err e)) (sym directories_are)
-        (first_asked {A = Unit {0}} {B = Unit {0}} (below_asked s.tree v.kind n g.dir) (replaced_asked s.tree desks g) tt tt e old new is)
-
-    module _ (apart : refused_or {A = Unit {0}} (below_asked s.tree v.kind n g.dir) (Ok tt) ≡ Ok tt) where
-      pub replaced_refuses : {e : Refusal} → checked (first_of (replaced_asked s.tree desks g)) ≡ Err e → checked (first_of (rename_directories (scene_with s q f g))) ≡ Err e
-      replaced_refuses is =
-          ap (λ (ds : List Demand). checked (first_of ds)) directories_are
-          ∙ ap (λ (o : Demand). checked (or_else o (first_of (replaced_asked s.tree desks g)))) (below_met apart) ∙ is
-
-      pub directories_met : checked (first_of (replaced_asked s.tree desks g)) ≡ Ok tt → first_of (rename_directories (scene_with s q f g)) ≡ None
-      directories_met is =
-          ap first_of directories_are
-          ∙ both_met (below_asked s.tree v.kind n g.dir) (replaced_asked s.tree desks g) (below_met apart) (met_ok {A = Unit {0}} (first_of (replaced_asked s.tree desks g)) tt tt is).0
-
     -- ---- the kinds of both
 
     told_kinds : rename_kinds (scene_with s q f g) ≡ replacing_asked v.kind there
     told_kinds = kinds_are (state_tree r.is_state) inode_of r.first.found g r.second.found r.replaced_is
 
-    pub kinds_refuse : {e : Refusal} → checked (first_of (replacing_asked v.kind there)) ≡ Err e → checked (first_of (rename_kinds (scene_with s q f g))) ≡ Err e
-    kinds_refuse is = ap (λ (ds : List Demand). checked (first_of ds)) told_kinds ∙ is
+    -- ---- all of it
 
-    pub kinds_met : checked (first_of (replacing_asked v.kind there)) ≡ Ok tt → first_of (rename_kinds (scene_with s q f g)) ≡ None
-    kinds_met is = ap first_of told_kinds ∙ (met_ok {A = Unit {0}} (first_of (replacing_asked v.kind there)) tt tt is).0
+    abbrev sc : Scene
+    sc = scene_with s q f g
 
-    -- what both directories grant, with the inode of the second
-    pub granted : {d : Inode} → refused_or {A = Inode} (first_of (rename_permissions (scene_with s q f g))) (Ok (inode_at p map g.dir)) ≡ Ok d
-        → (first_of (rename_permissions (scene_with s q f g)) ≡ None) × (inode_at p map g.dir ≡ d)
-    granted {d} is = met_ok {A = Inode} (first_of (rename_permissions (scene_with s q f g))) (inode_at p map g.dir) d is
+    pub permissions_refuse : Refuses (first_of (rename_permissions (scene_with s q f g))) (first_of (move_asked (scene_with s q f g)))
+    permissions_refuse = first_part (rename_permissions sc) (rename_kinds sc) (rename_directories sc) (rename_moved sc) (rename_space sc)
+
+    module _ {d : Inode} (permitted : refused_or {A = Inode} (first_of (rename_permissions (scene_with s q f g))) (Ok (inode_at p map g.dir)) ≡ Ok d) where
+      one_met : first_of (rename_permissions sc) ≡ None
+      one_met = (met_ok {A = Inode} (first_of (rename_permissions sc)) (inode_at p map g.dir) d permitted).0
+
+      -- the inode of the second directory
+      pub directory_told : d ≡ inode_at p map g.dir
+      directory_told = sym (met_ok {A = Inode} (first_of (rename_permissions sc)) (inode_at p map g.dir) d permitted).1
+
+      pub kinds_refuse : Refuses (first_of (replacing_asked v.kind there)) (first_of (move_asked (scene_with s q f g)))
+      kinds_refuse e is =
+          second_part (rename_permissions sc) (rename_kinds sc) (rename_directories sc) (rename_moved sc) (rename_space sc) one_met e (ap first_of told_kinds ∙ is)
+
+      module _ (kinds : checked (first_of (replacing_asked v.kind there)) ≡ Ok tt) where
+        two_met : first_of (rename_kinds sc) ≡ None
+        two_met = ap first_of told_kinds ∙ demand_met (first_of (replacing_asked v.kind there)) kinds
+
+        pub below_refuses : Refuses (below_asked s.tree v.kind n g.dir) (first_of (move_asked (scene_with s q f g)))
+        below_refuses e is =
+            third_part (rename_permissions sc) (rename_kinds sc) (rename_directories sc) (rename_moved sc) (rename_space sc) one_met two_met e
+            (ap first_of directories_are ∙ refuses_first (below_asked s.tree v.kind n g.dir) (replaced_asked s.tree desks g) e is)
+
+        module _ (apart : checked (below_asked s.tree v.kind n g.dir) ≡ Ok tt) where
+          pub replaced_refuses : Refuses (first_of (replaced_asked s.tree desks g)) (first_of (move_asked (scene_with s q f g)))
+          replaced_refuses e is =
+              third_part (rename_permissions sc) (rename_kinds sc) (rename_directories sc) (rename_moved sc) (rename_space sc) one_met two_met e
+              (ap first_of directories_are
+              ∙ refuses_next (below_asked s.tree v.kind n g.dir) (replaced_asked s.tree desks g) (demand_met (below_asked s.tree v.kind n g.dir) apart) (λ (k : Refusal) h. h) e is)
+
+          pub three_parts : checked (first_of (replaced_asked s.tree desks g)) ≡ Ok tt → MeetsThree s q f g
+          three_parts is = record {
+            permissions = one_met;
+            kinds = two_met;
+            directories = ap first_of directories_are
+                ∙ both_met (below_asked s.tree v.kind n g.dir) (replaced_asked s.tree desks g) (demand_met (below_asked s.tree v.kind n g.dir) apart)
+                (demand_met (first_of (replaced_asked s.tree desks g)) is);
+          }
 
     -- ---- a directory that goes to another
 
@@ -257,15 +330,9 @@ module _ {p : Place} {map : SectorMap} {desks : Desks} {f g : Found} {n : ℕ} {
             ∙ ap (λ (k : ℕ). permission_on q.cred s.tree k want 1 f.step) inode_of.number
             ∙ ap (permission_of q.cred want 1 f.step) (accessed_is s.tree n (dir_access h n (directory_of is) q.cred f.step))
 
-        pub moved_denied : {A : Type 0} (x : A) (e : Refusal) (old new : DiskState) {cred : Credential} → cred ≡ q.cred
-            → IsAnswered old new (refused_or {A = Rule} (decided 1 f.step (Perm want) (verdict cred moved_access want)) (Ok (verdict cred moved_access want).rule)) (Err e)
-            → IsAnswered old new (refused_or (first_of (rename_moved (scene_with s q f g))) (Ok x)) (Err e)
-        moved_denied {A} x e old new {cred} same h =
-            let rule = (verdict q.cred moved_access want).rule in
-            refused_as {A = A} {B = Rule} (first_of (rename_moved (scene_with s q f g))) rule x e old new
-            (subst (λ (o : Demand). IsAnswered old new (refused_or {A = Rule} o (Ok rule)) (Err e)) (sym moved_is)
-            (subst (λ (k : Credential). IsAnswered old new
-            (refused_or {A = Rule} (decided 1 f.step (Perm want) (verdict k moved_access want)) (Ok (verdict k moved_access want).rule)) (Err e)) same h))
+        pub moved_denied : {cred : Credential} → cred ≡ q.cred
+            → Refuses (decided 1 f.step (Perm want) (verdict cred moved_access want)) (first_of (rename_moved (scene_with s q f g)))
+        moved_denied {cred} same e is = moved_is ∙ ap (λ (k : Credential). decided 1 f.step (Perm want) (verdict k moved_access want)) (sym same) ∙ is
 
         pub moved_met : (rule : Rule) {cred : Credential} → cred ≡ q.cred
             → refused_or {A = Rule} (decided 1 f.step (Perm want) (verdict cred moved_access want)) (Ok (verdict cred moved_access want).rule) ≡ Ok rule
@@ -346,41 +413,3 @@ module _ {p : Place} {map : SectorMap} {t : Tree} (h : HoldsTree p map t) (g : F
         ap (λ (u : Node). first_of (directory_asked u.body (is_in_use desks m))) (sym x.is)
         ∙ ap (λ (b : Bool). first_of (refuse ENOTDIR (not b) ∷ refuse EBUSY (is_in_use desks m) ∷ refuse ENOTEMPTY (not (is_empty (names_in body))) ∷ [])) dir
         ∙ sym (ap first_of (here true dir))
-
--- ---- five parts
-
-module _ (a b c d e : List Demand) where
-  module _ {A : Type 0} (x : A) (r : Refusal) (old new : DiskState) {B : Type 0} (y : B) where
-    pub first_part : IsAnswered old new (refused_or (first_of a) (Ok y)) (Err r) → IsAnswered old new (refused_or (first_of (a ++ b ++ c ++ d ++ e)) (Ok x)) (Err r)
-    first_part is =
-        some_asked {A = A} {B = B} (a ++ b ++ c ++ d) e y x r old new
-        (some_asked {A = B} {B = B} (a ++ b ++ c) d y y r old new
-        (some_asked {A = B} {B = B} (a ++ b) c y y r old new (some_asked {A = B} {B = B} a b y y r old new is)))
-
-    module _ (one : first_of a ≡ None) where
-      pub second_part : IsAnswered old new (refused_or (first_of b) (Ok y)) (Err r) → IsAnswered old new (refused_or (first_of (a ++ b ++ c ++ d ++ e)) (Ok x)) (Err r)
-      second_part is =
-          some_asked {A = A} {B = B} (a ++ b ++ c ++ d) e y x r old new
-          (some_asked {A = B} {B = B} (a ++ b ++ c) d y y r old new
-          (some_asked {A = B} {B = B} (a ++ b) c y y r old new (others_asked {A = B} a b y r old new one is)))
-
-      module _ (two : first_of b ≡ None) where
-        pub third_part : IsAnswered old new (refused_or (first_of c) (Ok y)) (Err r) → IsAnswered old new (refused_or (first_of (a ++ b ++ c ++ d ++ e)) (Ok x)) (Err r)
-        third_part is =
-            some_asked {A = A} {B = B} (a ++ b ++ c ++ d) e y x r old new
-            (some_asked {A = B} {B = B} (a ++ b ++ c) d y y r old new (others_asked {A = B} (a ++ b) c y r old new (all_met a b one two) is))
-
-        module _ (three : first_of c ≡ None) where
-          pub fourth_part : IsAnswered old new (refused_or (first_of d) (Ok y)) (Err r) → IsAnswered old new (refused_or (first_of (a ++ b ++ c ++ d ++ e)) (Ok x)) (Err r)
-          fourth_part is =
-              some_asked {A = A} {B = B} (a ++ b ++ c ++ d) e y x r old new
-              (others_asked {A = B} (a ++ b ++ c) d y r old new (all_met (a ++ b) c (all_met a b one two) three) is)
-
-          pub fifth_part : first_of d ≡ None → IsAnswered old new (refused_or (first_of e) (Ok y)) (Err r) → IsAnswered old new (refused_or (first_of (a ++ b ++ c ++ d ++ e)) (Ok x)) (Err r)
-          fifth_part four is =
-              others_asked {A = A} (a ++ b ++ c ++ d) e x r old new (all_met (a ++ b ++ c) d (all_met (a ++ b) c (all_met a b one two) three) four)
-              (refused_as {A = A} {B = B} (first_of e) y x r old new is)
-
-  pub five_met : first_of a ≡ None → first_of b ≡ None → first_of c ≡ None → first_of d ≡ None → first_of e ≡ None → first_of (a ++ b ++ c ++ d ++ e) ≡ None
-  five_met one two three four five =
-      all_met (a ++ b ++ c ++ d) e (all_met (a ++ b ++ c) d (all_met (a ++ b) c (all_met a b one two) three) four) five

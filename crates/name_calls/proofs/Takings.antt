@@ -40,6 +40,7 @@ use Rattle.call_parts.proofs.Calling.{state_tree}
 use Rattle.call_parts.proofs.HeldChanges.{names_held, counted_held}
 use Rattle.path_walk.proofs.HeldNodes.{held_node, held_names}
 use Rattle.call_parts.specs.Dropping.{Drops, Counts, RemovesName}
+use Rattle.call_parts.specs.NewNodes.{HasName}
 use Rattle.name_calls.specs.Dropping.{LosesName, stays_with}
 use Rattle.name_calls.specs.Removing.{MayGo}
 
@@ -147,7 +148,7 @@ module _ {p : Place} (old : TxnState) {desks : Desks} {s : State} (at : IsStateO
   dir_names = held_names (state_tree at) dir may.directory
 
   -- the directory has the name
-  pub named_there : (names : List (List ℕ × ℕ)) × HasNames old.sectors (inode_at p old.sectors dir) names × (get name_cmp names name ≢ None)
+  pub named_there : HasName p old.sectors dir name
   named_there = (names_in directory.body, dir_names, λ none. let both : None ≡ Some n = sym none ∙ may.leads in cc)
 
   not_root : n ≢ root
@@ -175,7 +176,7 @@ module _ {p : Place} (old : TxnState) {desks : Desks} {s : State} (at : IsStateO
     here =
         names_held old.sectors mid.sectors (inode_at p old.sectors dir) (inode_at p mid.sectors dir)
         (record { node = directory; names = names_of s.tree dir; parent = parent s.tree dir }) dir_held (without name_cmp (names_in directory.body) name)
-        may.directory.directory removes.fields removes.acls (removes.names (names_in directory.body) dir_names)
+        may.directory.directory removes.names.kept removes.names.acls (removes.names.named (names_in directory.body) dir_names)
 
     -- what it led to stands as before
     pub target_same : inode_at p mid.sectors n ≡ inode_at p old.sectors n
@@ -185,7 +186,7 @@ module _ {p : Place} (old : TxnState) {desks : Desks} {s : State} (at : IsStateO
     target_held =
         held_at p mid.sectors (placing dir (Some fewer) (placed s.tree))
         (one_replaced p dir old.sectors mid.sectors (placed s.tree) at.holds dir_below removes.touches.inode _ _
-        (placed_from s.tree dir (Some directory) _ _ may.directory.is_there refl refl) here removes.used)
+        (placed_from s.tree dir (Some directory) _ _ may.directory.is_there refl refl) here removes.names.used)
         n is_number.1 (record { node = may.target; names = names_of s.tree n; parent = parent s.tree n })
         (placing_other dir (Some fewer) (placed s.tree) n apart ∙ placed_from s.tree n (Some may.target) _ _ may.there refl refl)
 
@@ -203,9 +204,9 @@ module _ {p : Place} (old : TxnState) {desks : Desks} {s : State} (at : IsStateO
           go true stay =
               let counts = left_counts desks target_held one_name other opened is loses stay in
               take_held s at.is_state at.up desks still p old.sectors at.holds at.same_room mid.sectors new.sectors dir directory name n may.target takes may.there
-              removes.touches.inode removes.used here counts.touches.inode stay counts.used
+              removes.touches.inode removes.names.used here counts.touches.inode stay counts.used
               (left_held desks target_held one_name other opened is loses stay (parent (changed s.tree (TakeName dir name)) n))
           go false goes =
               let drops = left_drops desks target_held one_name other opened is loses goes in
               drop_held s at.is_state at.up desks still p old.sectors at.holds at.same_room mid.sectors new.sectors dir directory name n may.target takes may.there
-              removes.touches.inode removes.used here drops.touches.inode goes drops.clear drops.free
+              removes.touches.inode removes.names.used here drops.touches.inode goes drops.clear drops.free

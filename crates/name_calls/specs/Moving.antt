@@ -1,7 +1,6 @@
 -- What a name that goes to another place asks, and what it leaves.
 --     MayMove        a name that may go to another place
 --     MayLead        a name that may lead to another inode
---     ChangesNames        of a directory the names change
 --     MovesEntry        the names of one directory, or of two, are changed
 --     GetsParent, ParentFollows        what was moved gets its parent
 use Rattle.std.specs.Prelude.{◌≡◌, ◌≢◌, ◌⊎◌, ℕ, ◌<◌, ◌≤◌, false, List, [], length, Option, None, Some, IsFalse}
@@ -12,13 +11,14 @@ use Rattle.fs_layout.specs.InodeChanges.{ChangesInode}
 use Rattle.fs_layout.specs.Directories.{IsName, HasNames}
 use Rattle.fs_layout.specs.Images.{bit, free_sectors, inode_at, inode_bitmap}
 use Rattle.fs_layout.specs.Maps.{name_cmp, get, with_entry, without}
-use Rattle.bit_alloc.specs.Inodes.{KeepsFields, KeepsBytes, KeepsAcls}
+use Rattle.bit_alloc.specs.Inodes.{KeepsBytes, KeepsAcls}
 use Rattle.fs_model.specs.Limits.{entries_limit, least_free}
 use Rattle.fs_model.specs.Nodes.{names_in}
 use Rattle.fs_model.specs.Processes.{is_in_use}
 use Rattle.fs_model.specs.States.{State}
 use Rattle.fs_model.specs.Trees.{is_within, IsDirectoryAt}
-use Rattle.call_parts.specs.NewNodes.{MayBeNamed}
+use Rattle.call_parts.specs.Given.{ChangesNames}
+use Rattle.call_parts.specs.NewNodes.{HasName, MayBeNamed}
 
 -- The name leads from directory dir to n, and n may get to_name in directory to_dir, which leads to what is replaced, or to
 -- nothing.
@@ -38,17 +38,7 @@ pub record MayMove (p : Place) (map : SectorMap) (s : State) (dir : ℕ) (name :
 -- In directory dir the name may lead to another inode: it leads to one, or there is room for it.
 abbrev pub MayLead : Place → SectorMap → ℕ → List ℕ → Option ℕ → Type 0
 MayLead p map dir name None = MayBeNamed p map dir name
-MayLead p map dir name (Some m) =
-    (dir < p.inodes) × ((names : List (List ℕ × ℕ)) × HasNames map (inode_at p map dir) names × (get name_cmp names name ≢ None))
-
--- directory dir has other names, which f makes of those that it had, and is else as it was
-pub record ChangesNames (p : Place) (dir : ℕ) (f : List (List ℕ × ℕ) → List (List ℕ × ℕ)) (old new : SectorMap) : Type 0 where
-  pub super : new 0 ≡ old 0
-  pub change : ChangesInode p dir old new
-  pub used : bit new inode_bitmap dir ≡ bit old inode_bitmap dir
-  pub fields : KeepsFields (inode_at p old dir) (inode_at p new dir)
-  pub acls : KeepsAcls old new (inode_at p old dir) (inode_at p new dir)
-  pub names : (names : List (List ℕ × ℕ)) → HasNames old (inode_at p old dir) names → HasNames new (inode_at p new dir) (f names)
+MayLead p map dir name (Some m) = (dir < p.inodes) × HasName p map dir name
 
 -- A directory leads to_name to n, and the name no longer; or it has lost the name, and then another one, or itself, leads
 -- to_name to n.

@@ -2,21 +2,9 @@
 
 ghost use Rattle.std.specs.Prelude.{◌≡◌, ◌+◌, ◌/◌, ◌%◌, ◌<◌, ◌==◌, ℕ, cond, not, Some, Ok, option_copied, Err, OnOk, IfOk, IfErr, IsSome};
 ghost use Rattle.std.specs.Ordering.{nat_cmp};
-ghost use Rattle.fs_layout.specs.Maps.{get};
-ghost use Rattle.fs_model.specs.declared.reply.Reply.TheVariants.{Done};
-ghost use Rattle.fs_model.specs.Processes.{Desks};
-ghost use Rattle.open_files.specs.Tables.{with_changed};
-ghost use Rattle.fs_layout.specs.Images.{inode_at};
+ghost use Rattle.call_parts.specs.DiskWords.{get, inode_at, SameStore, IsUnchanged, IsSound, HasSpare};
+ghost use Rattle.call_parts.specs.ModelWords.{Done, Desks, with_changed, born_directory, the_node, refuse, first_of, number, must_be_new, Tree, refused_or, FailsToRead, IsAnswered, HoldsTree, IsThere};
 ghost use Rattle.fs_model.specs.declared.call.Call.TheVariants.{Mkdir, Chdir};
-ghost use Rattle.fs_model.specs.Births.{born_directory, the_node};
-ghost use Rattle.fs_model.specs.Demands.{refuse, first_of};
-ghost use Rattle.fs_model.specs.Scenes.{number, must_be_new};
-ghost use Rattle.fs_model.specs.Trees.{Tree};
-ghost use Rattle.sector_txn.specs.Sectors.{SameStore, IsUnchanged};
-ghost use Rattle.bit_alloc.specs.Inodes.{IsSound};
-ghost use Rattle.bit_alloc.specs.Room.{HasSpare};
-ghost use Rattle.path_walk.specs.Answers.{refused_or, FailsToRead, IsAnswered};
-ghost use Rattle.path_walk.specs.HeldTrees.{HoldsTree, IsThere};
 ghost use Rattle.call_parts.specs.Performing.{IsReady, Performs};
 ghost use Rattle.call_parts.specs.Makings.{CanMake};
 ghost use Rattle.name_calls.specs.Entering.{enter_asked};
@@ -68,7 +56,8 @@ fn place_directory<S: Sectors>(
     requires bits { bits < 2048 }
     requires spare { HasSpare place 47 (S.state s.old) }
     ensures store { SameStore (S.state s.old) (S.state s.new) }
-    ensures made { OnOk result (IsPlaced place dir name.now (directory_made uid gid bits access.now (option_copied default.entry))
+    ensures made { OnOk result (IsPlaced place dir name.now
+        (directory_made uid gid bits access.now (option_copied default.entry))
         (S.state s.old).sectors (S.state s.new).sectors) }
     ensures err { IfErr result (FailsToRead (S.state s.old).disk (S.state s.new).disk) }
 {
@@ -175,7 +164,8 @@ fn directory_found<S: Sectors>(
     Ok(n)
 }
 
-// The directory that the path of chdir leads to. At `Err` that is its refusal; else it is performed once the process stands there.
+// The directory that the path of chdir leads to. At `Err` that is its refusal; else it is performed once the process stands
+// there.
 fn directory_at<S: Sectors>(
     alloc: Global,
     s: &mut S,
@@ -185,7 +175,8 @@ fn directory_at<S: Sectors>(
     path: &Path,
 ) -> Result<u32, Refusal>
     requires ready { IsReady place (S.state s.old) procs.now }
-    ensures refused { IfErr result (λ e. Performs place pid (Chdir path.now) (S.state s.old) (S.state s.new) procs.now procs.now (Err e)) }
+    ensures refused { IfErr result (λ e. Performs place pid (Chdir path.now) (S.state s.old) (S.state s.new)
+        procs.now procs.now (Err e)) }
     ensures there { IfOk result (λ n. IsSome (get nat_cmp procs.now pid)) }
     ensures entered { IfOk result (λ n. (now : Desks) → now ≡ with_changed procs.now pid (λ p. record p { cwd = n })
         → Performs place pid (Chdir path.now) (S.state s.old) (S.state s.new) procs.now now (Ok Done)) }

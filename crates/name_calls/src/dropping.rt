@@ -1,14 +1,8 @@
 //! What becomes of a node that loses a name: POSIX.1-2017, unlink().
 
 ghost use Rattle.std.specs.Prelude.{◌≡◌, ◌≢◌, ◌≤◌, ◌<◌, OnOk, IfErr};
-ghost use Rattle.fs_layout.specs.Images.{inode_at};
-ghost use Rattle.sector_txn.specs.Sectors.{SameStore};
-ghost use Rattle.bit_alloc.specs.declared.bitmap.Bitmap.TheVariants.{Inodes};
-ghost use Rattle.bit_alloc.specs.Bitmaps.{IsNumber};
-ghost use Rattle.bit_alloc.specs.Inodes.{IsSound};
-ghost use Rattle.bit_alloc.specs.Room.{HasSpare};
-ghost use Rattle.fs_model.specs.Processes.{is_open};
-ghost use Rattle.path_walk.specs.Answers.{FailsToRead};
+ghost use Rattle.call_parts.specs.DiskWords.{inode_at, SameStore, Inodes, IsNumber, IsSound, HasSpare};
+ghost use Rattle.call_parts.specs.ModelWords.{is_open, FailsToRead};
 ghost use Rattle.name_calls.specs.Dropping.{LosesName, stays_with};
 
 use call_parts::{drop_node, set_names};

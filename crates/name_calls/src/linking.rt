@@ -1,23 +1,9 @@
 //! More names for what is there: POSIX.1-2017, link().
 
 ghost use Rattle.std.specs.Prelude.{◌≡◌, ◌-◌, ◌<◌, nat_le, ℕ, [], ◌∷◌, not, ◌&&◌, Some, Ok, OnOk, IfErr};
-ghost use Rattle.fs_layout.specs.Images.{inode_at};
-ghost use Rattle.sector_txn.specs.Sectors.{SameStore, IsUnchanged};
-ghost use Rattle.bit_alloc.specs.Inodes.{IsSound};
-ghost use Rattle.bit_alloc.specs.Room.{HasSpare};
+ghost use Rattle.call_parts.specs.DiskWords.{inode_at, SameStore, IsUnchanged, IsSound, HasSpare};
+ghost use Rattle.call_parts.specs.ModelWords.{AddName, changed, swept, refuse, first_of, names_limit, link_demands, Desks, is_directory_kind, number, is_special, HoldsAll, placed, State, Tree, IsDirectoryAt, refused_or, FailsToRead, IsAnswered, HoldsTree, IsThere};
 ghost use Rattle.fs_model.specs.declared.call.Call.TheVariants.{Link};
-ghost use Rattle.fs_model.specs.TreeChanges.{AddName, changed, swept};
-ghost use Rattle.fs_model.specs.Demands.{refuse, first_of};
-ghost use Rattle.fs_model.specs.Limits.{names_limit};
-ghost use Rattle.fs_model.specs.NameCalls.{link_demands};
-ghost use Rattle.fs_model.specs.Processes.{Desks};
-ghost use Rattle.fs_model.specs.Rules.{is_directory_kind};
-ghost use Rattle.fs_model.specs.Scenes.{number, is_special};
-ghost use Rattle.fs_model.specs.Stands.{HoldsAll, placed};
-ghost use Rattle.fs_model.specs.States.{State};
-ghost use Rattle.fs_model.specs.Trees.{Tree, IsDirectoryAt};
-ghost use Rattle.path_walk.specs.Answers.{refused_or, FailsToRead, IsAnswered};
-ghost use Rattle.path_walk.specs.HeldTrees.{HoldsTree, IsThere};
 ghost use Rattle.call_parts.specs.Performing.{IsReady, IsStateOf, Performs};
 ghost use Rattle.name_calls.specs.Linking.{source_asked, place_asked, MayLink};
 ghost use Rattle.call_parts.specs.TwoPaths.{scene_with, FindsBoth};
@@ -26,7 +12,7 @@ use crate::links::check_link_name;
 use call_parts::{
     ask_directory, ask_for_name, check_slash, inode_found, name_inode, set_names, walk_both,
 };
-use fs_cred::{Cred, Errno, Refusal};
+use fs_cred::{Errno, Refusal};
 use fs_layout::{Inode, Kind, MAX_INODE_NAMES, Place};
 use fs_model::{Found, Last, Path, Reply};
 use open_files::{Process, Procs};
@@ -46,7 +32,8 @@ fn check_last(found: &Found) -> Result<(), Refusal>
 // Asks whether what was found is no directory, and wasn't named as one.
 fn check_kind(found: &Found, kind: Kind) -> Result<(), Refusal>
     ensures { result ≡ refused_or (first_of
-        (refuse Errno.ENOTDIR (found.now.slash && not (is_directory_kind kind)) ∷ refuse Errno.EPERM (is_directory_kind kind) ∷ [])) (Ok tt) }
+        (refuse Errno.ENOTDIR (found.now.slash && not (is_directory_kind kind))
+        ∷ refuse Errno.EPERM (is_directory_kind kind) ∷ [])) (Ok tt) }
 {
     check_slash(found, kind)?;
     if kind == Kind::Directory {
@@ -61,7 +48,8 @@ fn check_source<S: Sectors>(s: &mut S, place: Place, found: &Found) -> Result<(u
     requires there { (t : Tree) × HoldsTree place (S.state s.old).sectors t × ((n : ℕ) → found.now.ino ≡ Some n → IsThere t n) }
     ensures each { (t : Tree) → HoldsTree place (S.state s.old).sectors t → ((n : ℕ) → found.now.ino ≡ Some n → IsThere t n)
         → IsAnswered (S.state s.old).disk (S.state s.new).disk
-        (refused_or (first_of (source_asked t found.now)) (Ok (number found.now, inode_at place (S.state s.old).sectors (number found.now)))) result }
+        (refused_or (first_of (source_asked t found.now))
+        (Ok (number found.now, inode_at place (S.state s.old).sectors (number found.now)))) result }
     ensures same { IsUnchanged (S.state s.old) (S.state s.new) }
 {
     check_last(found)?;
@@ -85,7 +73,7 @@ fn check_place<S: Sectors>(
     alloc: Global,
     s: &mut S,
     place: Place,
-    cred: &Cred,
+    process: &Process,
     found: &Found,
     names: u32,
 ) -> Result<Inode, Refusal>
@@ -93,18 +81,19 @@ fn check_place<S: Sectors>(
     requires there { (t : Tree) × HoldsTree place (S.state s.old).sectors t × IsDirectoryAt t found.now.dir }
     ensures each { (t : Tree) → HoldsTree place (S.state s.old).sectors t → IsDirectoryAt t found.now.dir
         → IsAnswered (S.state s.old).disk (S.state s.new).disk
-        (refused_or (first_of (place_asked place (S.state s.old).sectors cred.now t found.now.dir (found.now.step - 1) names))
+        (refused_or
+        (first_of (place_asked place (S.state s.old).sectors process.now.cred t found.now.dir (found.now.step - 1) names))
         (Ok (inode_at place (S.state s.old).sectors found.now.dir))) result }
     ensures same { IsUnchanged (S.state s.old) (S.state s.new) }
 {
-    let step = found.step.saturating_sub(1);
-    let directory = ask_directory(alloc, s, place, cred, found.dir, 2, step)?;
+    let directory = ask_directory(alloc, s, place, process, found, 2)?;
     check_count(names)?;
     ask_for_name(s, place, &directory)?;
     Ok(directory)
 }
 
-// Asks all that link asks of what was found, and answers number and inode of what is to get the name, and the directory's inode.
+// Asks all that link asks of what was found, and answers number and inode of what is to get the name, and the directory's
+// inode.
 fn check_link<S: Sectors>(
     alloc: Global,
     s: &mut S,
@@ -114,16 +103,22 @@ fn check_link<S: Sectors>(
     second: &Found,
 ) -> Result<(u32, Inode, Inode), Refusal>
     requires sound { IsSound place (S.state s.old) }
-    requires found { (desks : Desks) × (st : State) × FindsBoth place (S.state s.old).sectors desks process.now first.now second.now st }
-    ensures each { (desks : Desks) (st : State) → FindsBoth place (S.state s.old).sectors desks process.now first.now second.now st
+    requires found { (desks : Desks) × (st : State)
+        × FindsBoth place (S.state s.old).sectors desks process.now first.now second.now st }
+    ensures each { (desks : Desks) (st : State)
+        → FindsBoth place (S.state s.old).sectors desks process.now first.now second.now st
         → IsAnswered (S.state s.old).disk (S.state s.new).disk
         (refused_or (first_of (link_demands (scene_with st process.now first.now second.now)))
-        (Ok (number first.now, inode_at place (S.state s.old).sectors (number first.now), inode_at place (S.state s.old).sectors second.now.dir))) result }
+        (Ok (
+          number first.now,
+          inode_at place (S.state s.old).sectors (number first.now),
+          inode_at place (S.state s.old).sectors second.now.dir,
+        ))) result }
     ensures same { IsUnchanged (S.state s.old) (S.state s.new) }
 {
     let (n, inode) = check_source(s, place, first)?;
     check_link_name(second)?;
-    let directory = check_place(alloc, s, place, process.cred(), second, inode.names)?;
+    let directory = check_place(alloc, s, place, process, second, inode.names)?;
     Ok((n, inode, directory))
 }
 
@@ -159,7 +154,8 @@ fn add_name<S: Sectors>(
 /// Gives what the path `old` leads to the name that the path `new` ends in, too: a file, or a symbolic link itself.
 ///
 /// EPERM: `old` leads to a directory, or ends in no name. ENOENT: it leads to nothing, or `new` ends in a slash. ENOTDIR: `old`
-/// ends in a slash. EEXIST: there is something of the new name, or `new` ends in no name. EMLINK: there are [`MAX_INODE_NAMES`] names already.
+/// ends in a slash. EEXIST: there is something of the new name, or `new` ends in no name. EMLINK: there are
+/// [`MAX_INODE_NAMES`] names already.
 pub fn link<S: Sectors>(
     alloc: Global,
     s: &mut S,

@@ -1,19 +1,9 @@
 //! Symbolic links: POSIX.1-2017, symlink() and readlink().
 
 ghost use Rattle.std.specs.Prelude.{◌≡◌, ℕ, not, Ok, OnOk, IfErr};
-ghost use Rattle.fs_layout.specs.Bytes.{IsBytes};
-ghost use Rattle.fs_layout.specs.Images.{inode_at};
+ghost use Rattle.call_parts.specs.DiskWords.{IsBytes, inode_at, SameStore, IsUnchanged, IsSound, HasSpare};
+ghost use Rattle.call_parts.specs.ModelWords.{born_link, the_node, refuse, first_of, symlink_arguments, is_link_kind, Tree, IsTarget, refused_or, FailsToRead, HoldsTree};
 ghost use Rattle.fs_model.specs.declared.call.Call.TheVariants.{Symlink, Readlink};
-ghost use Rattle.fs_model.specs.Births.{born_link, the_node};
-ghost use Rattle.fs_model.specs.Demands.{refuse, first_of};
-ghost use Rattle.fs_model.specs.NameCalls.{symlink_arguments};
-ghost use Rattle.fs_model.specs.Summaries.{is_link_kind};
-ghost use Rattle.fs_model.specs.Trees.{Tree, IsTarget};
-ghost use Rattle.sector_txn.specs.Sectors.{SameStore, IsUnchanged};
-ghost use Rattle.bit_alloc.specs.Inodes.{IsSound};
-ghost use Rattle.bit_alloc.specs.Room.{HasSpare};
-ghost use Rattle.path_walk.specs.Answers.{refused_or, FailsToRead};
-ghost use Rattle.path_walk.specs.HeldTrees.{HoldsTree};
 ghost use Rattle.call_parts.specs.Performing.{IsReady, Performs};
 ghost use Rattle.call_parts.specs.Makings.{CanMake};
 ghost use Rattle.call_parts.specs.NewNodes.{IsMade, IsNewIn, IsPlaced, link_made, link_name_asked};
@@ -103,7 +93,8 @@ fn make_link<S: Sectors>(
     requires target { IsTarget target.now }
     ensures store { SameStore (S.state s.old) (S.state s.new) }
     ensures each { (t : Tree) → HoldsTree place (S.state s.old).sectors t → IsNewIn t found.now.dir found.now.name
-        → IsMade place (S.state s.old) (S.state s.new) process.now.cred t found.now (born_link process.now.cred target.now (the_node t found.now.dir)) result }
+        → IsMade place (S.state s.old) (S.state s.new) process.now.cred t found.now
+        (born_link process.now.cred target.now (the_node t found.now.dir)) result }
 {
     let cred = process.cred();
     let step = found.step.saturating_sub(1);

@@ -1,20 +1,12 @@
 //! Moving names: what rename() changes.
 
 ghost use Rattle.std.specs.Prelude.{◌≡◌, ◌≢◌, ◌<◌, ℕ, List, None, Some, OnOk, IfErr};
-ghost use Rattle.fs_layout.specs.Directories.{IsName, HasNames};
-ghost use Rattle.fs_layout.specs.Images.{inode_at};
-ghost use Rattle.fs_layout.specs.Maps.{name_cmp, get, with_entry, without};
-ghost use Rattle.sector_txn.specs.Sectors.{SameStore};
-ghost use Rattle.bit_alloc.specs.Inodes.{IsSound};
-ghost use Rattle.bit_alloc.specs.Room.{HasSpare, TakesSpare};
-ghost use Rattle.fs_model.specs.TreeChanges.{MoveName, changed, swept};
-ghost use Rattle.fs_model.specs.Processes.{Desks};
-ghost use Rattle.fs_model.specs.Stands.{HoldsAll, placed};
-ghost use Rattle.fs_model.specs.States.{State};
-ghost use Rattle.path_walk.specs.Answers.{FailsToRead};
+ghost use Rattle.call_parts.specs.DiskWords.{IsName, HasNames, inode_at, name_cmp, get, with_entry, without, SameStore, IsSound, HasSpare, TakesSpare};
+ghost use Rattle.call_parts.specs.ModelWords.{MoveName, changed, swept, Desks, HoldsAll, placed, State, FailsToRead};
 ghost use Rattle.call_parts.specs.Performing.{IsStateOf};
-ghost use Rattle.name_calls.specs.Moving.{MayMove, MayLead, ChangesNames, MovesEntry, ParentFollows};
-ghost use Rattle.call_parts.specs.NewNodes.{MayBeNamed};
+ghost use Rattle.call_parts.specs.Given.{ChangesNames};
+ghost use Rattle.call_parts.specs.NewNodes.{HasName, MayBeNamed};
+ghost use Rattle.name_calls.specs.Moving.{MayMove, MayLead, MovesEntry, ParentFollows};
 ghost use Rattle.name_calls.specs.Renaming.{inode_there};
 
 use crate::dropping::lose_name;
@@ -38,7 +30,8 @@ fn rename_here<S: Sectors>(
 ) -> Result<(), Refusal>
     requires sound { IsSound place (S.state s.old) }
     requires below { dir < place.inodes }
-    requires named { (names : List (List ℕ × ℕ)) × HasNames (S.state s.old).sectors (inode_at place (S.state s.old).sectors dir) names
+    requires named { (names : List (List ℕ × ℕ))
+        × HasNames (S.state s.old).sectors (inode_at place (S.state s.old).sectors dir) names
         × (get name_cmp names name.now ≢ None) × (get name_cmp names to_name.now ≡ None) }
     requires is_name { IsName to_name.now }
     requires spare { HasSpare place 1 (S.state s.old) }
@@ -48,7 +41,8 @@ fn rename_here<S: Sectors>(
     ensures renames { OnOk result ((names : List (List ℕ × ℕ)) (n : ℕ)
         → HasNames (S.state s.old).sectors (inode_at place (S.state s.old).sectors dir) names
         → get name_cmp names name.now ≡ Some n
-        → ChangesNames place dir (λ all. with_entry name_cmp (without name_cmp all name.now) to_name.now n) (S.state s.old).sectors (S.state s.new).sectors) }
+        → ChangesNames place dir (λ all. with_entry name_cmp (without name_cmp all name.now) to_name.now n)
+        (S.state s.old).sectors (S.state s.new).sectors) }
     ensures fault { IfErr result (FailsToRead (S.state s.old).disk (S.state s.new).disk) }
 {
     let directory = load_inode(s, place, dir)?;
@@ -68,8 +62,7 @@ fn lead_name<S: Sectors>(
 ) -> Result<(), Refusal>
     requires sound { IsSound place (S.state s.old) }
     requires below { dir < place.inodes }
-    requires named { (names : List (List ℕ × ℕ)) × HasNames (S.state s.old).sectors (inode_at place (S.state s.old).sectors dir) names
-        × (get name_cmp names name.now ≢ None) }
+    requires named { HasName place (S.state s.old).sectors dir name.now }
     requires spare { HasSpare place 1 (S.state s.old) }
     ensures store { SameStore (S.state s.old) (S.state s.new) }
     ensures sound { OnOk result (IsSound place (S.state s.new)) }
@@ -138,7 +131,8 @@ fn move_entry<S: Sectors>(
 ) -> Result<(), Refusal>
     requires sound { IsSound place (S.state s.old) }
     requires may { (desks : Desks) × (st : State) × IsStateOf place (S.state s.old).sectors desks st
-        × MayMove place (S.state s.old).sectors st first.now.dir first.now.name n second.now.dir second.now.name second.now.ino }
+        × MayMove place (S.state s.old).sectors st first.now.dir first.now.name n
+        second.now.dir second.now.name second.now.ino }
     requires spare { HasSpare place 7 (S.state s.old) }
     ensures store { SameStore (S.state s.old) (S.state s.new) }
     ensures sound { OnOk result (IsSound place (S.state s.new)) }
@@ -207,7 +201,8 @@ pub(crate) fn move_name<S: Sectors>(
     requires inode { inode.now ≡ inode_at place (S.state s.old).sectors n }
     requires replaced { replaced.now ≡ inode_there place (S.state s.old).sectors second.now.ino }
     requires may { (st : State) × IsStateOf place (S.state s.old).sectors procs.now st
-        × MayMove place (S.state s.old).sectors st first.now.dir first.now.name n second.now.dir second.now.name second.now.ino }
+        × MayMove place (S.state s.old).sectors st first.now.dir first.now.name n
+        second.now.dir second.now.name second.now.ino }
     requires spare { HasSpare place 47 (S.state s.old) }
     ensures store { SameStore (S.state s.old) (S.state s.new) }
     ensures superblock { OnOk result ((S.state s.new).sectors 0 ≡ (S.state s.old).sectors 0) }

@@ -1,23 +1,9 @@
 //! Removing names: POSIX.1-2017, unlink() and rmdir().
 
 ghost use Rattle.std.specs.Prelude.{◌≡◌, ◌<◌, Ok, OnOk, IfErr};
-ghost use Rattle.fs_layout.specs.Bytes.{SectorMap};
-ghost use Rattle.fs_layout.specs.Images.{inode_at};
-ghost use Rattle.sector_txn.specs.Sectors.{SameStore, IsUnchanged};
-ghost use Rattle.bit_alloc.specs.Inodes.{IsSound};
-ghost use Rattle.bit_alloc.specs.Room.{HasSpare};
+ghost use Rattle.call_parts.specs.DiskWords.{SectorMap, inode_at, SameStore, IsUnchanged, IsSound, HasSpare};
+ghost use Rattle.call_parts.specs.ModelWords.{TakeName, changed, swept, first_of, Body, is_in_use, number, HoldsAll, placed, State, HoldsBody, Tree, refused_or, FailsToRead, IsAnswered, HoldsTree};
 ghost use Rattle.fs_model.specs.declared.call.Call.TheVariants.{Unlink, Rmdir};
-ghost use Rattle.fs_model.specs.TreeChanges.{TakeName, changed, swept};
-ghost use Rattle.fs_model.specs.Demands.{first_of};
-ghost use Rattle.fs_model.specs.Nodes.{Body};
-ghost use Rattle.fs_model.specs.Processes.{is_in_use};
-ghost use Rattle.fs_model.specs.Scenes.{number};
-ghost use Rattle.fs_model.specs.Stands.{HoldsAll, placed};
-ghost use Rattle.fs_model.specs.States.{State};
-ghost use Rattle.fs_model.specs.StoredNodes.{HoldsBody};
-ghost use Rattle.fs_model.specs.Trees.{Tree};
-ghost use Rattle.path_walk.specs.Answers.{refused_or, FailsToRead, IsAnswered};
-ghost use Rattle.path_walk.specs.HeldTrees.{HoldsTree};
 ghost use Rattle.call_parts.specs.Paths.{scene_at};
 ghost use Rattle.call_parts.specs.Performing.{IsReady, IsStateOf, Performs};
 ghost use Rattle.name_calls.specs.declared.removal.Target.TheVariants.{NoDirectory, Directory};
@@ -29,7 +15,7 @@ use call_parts::{
     walk_path,
 };
 use dir_core::is_empty;
-use fs_cred::{Cred, Errno, Refusal};
+use fs_cred::{Errno, Refusal};
 use fs_layout::{Inode, Kind, Place};
 use fs_model::{Form, Found, Last, Path, Reply};
 use open_files::{Process, Procs};
@@ -80,21 +66,21 @@ fn check_removal<S: Sectors>(
     alloc: Global,
     s: &mut S,
     place: Place,
-    cred: &Cred,
+    process: &Process,
     found: &Found,
 ) -> Result<(u32, Inode), Refusal>
     requires sound { IsSound place (S.state s.old) }
     requires there { (t : Tree) × HoldsTree place (S.state s.old).sectors t × IsNamedThere t found.now }
     ensures each { (t : Tree) → HoldsTree place (S.state s.old).sectors t → IsNamedThere t found.now
         → IsAnswered (S.state s.old).disk (S.state s.new).disk
-        (refused_or (first_of (removal_asked cred.now t found.now)) (Ok (number found.now, inode_at place (S.state s.old).sectors (number found.now)))) result }
+        (refused_or (first_of (removal_asked process.now.cred t found.now))
+        (Ok (number found.now, inode_at place (S.state s.old).sectors (number found.now)))) result }
     ensures same { IsUnchanged (S.state s.old) (S.state s.new) }
 {
     let (n, inode) = inode_found(s, place, found)?;
     check_slash(found, inode.kind)?;
-    let step = found.step.saturating_sub(1);
-    let directory = ask_directory(alloc, s, place, cred, found.dir, 1, step)?;
-    check_sticky(cred, &directory, &inode, 1, step)?;
+    let directory = ask_directory(alloc, s, place, process, found, 1)?;
+    check_sticky(process, found, &directory, &inode, 1)?;
     Ok((n, inode))
 }
 
@@ -139,12 +125,13 @@ fn check_target<S: Sectors>(
     requires sound { IsSound place (S.state s.old) }
     requires found { (st : State) × FindsName place (S.state s.old).sectors procs.now process.now found.now st }
     ensures each { (st : State) → FindsName place (S.state s.old).sectors procs.now process.now found.now st
-        → IsAnswered (S.state s.old).disk (S.state s.new).disk (refused_or (first_of (removal_demands what (scene_at st process.now found.now)))
+        → IsAnswered (S.state s.old).disk (S.state s.new).disk
+        (refused_or (first_of (removal_demands what (scene_at st process.now found.now)))
         (Ok (number found.now, inode_at place (S.state s.old).sectors (number found.now)))) result }
     ensures same { IsUnchanged (S.state s.old) (S.state s.new) }
 {
     check_last(found, what)?;
-    let (n, inode) = check_removal(alloc, s, place, process.cred(), found)?;
+    let (n, inode) = check_removal(alloc, s, place, process, found)?;
     check_kind(procs, n, &inode, what)?;
     Ok((n, inode))
 }

@@ -1,17 +1,9 @@
 //! Names that change: POSIX.1-2017, rename().
 
 ghost use Rattle.std.specs.Prelude.{◌≡◌, ◌<◌, ◌||◌, ℕ, Some, Ok};
-ghost use Rattle.fs_layout.specs.Images.{inode_at};
-ghost use Rattle.sector_txn.specs.Sectors.{IsUnchanged};
-ghost use Rattle.bit_alloc.specs.Inodes.{IsSound};
+ghost use Rattle.call_parts.specs.DiskWords.{inode_at, IsUnchanged, IsSound};
+ghost use Rattle.call_parts.specs.ModelWords.{first_of, rename_demands, number, ends_top, ends_dot, ends_dot_dot, State, Tree, refused_or, IsAnswered, HoldsTree, IsThere};
 ghost use Rattle.fs_model.specs.declared.call.Call.TheVariants.{Rename};
-ghost use Rattle.fs_model.specs.Demands.{first_of};
-ghost use Rattle.fs_model.specs.RenameCall.{rename_demands};
-ghost use Rattle.fs_model.specs.Scenes.{number, ends_top, ends_dot, ends_dot_dot};
-ghost use Rattle.fs_model.specs.States.{State};
-ghost use Rattle.fs_model.specs.Trees.{Tree};
-ghost use Rattle.path_walk.specs.Answers.{refused_or, IsAnswered};
-ghost use Rattle.path_walk.specs.HeldTrees.{HoldsTree, IsThere};
 ghost use Rattle.call_parts.specs.Performing.{IsReady, Performs};
 ghost use Rattle.name_calls.specs.Renaming.{ends_asked, names_asked, inode_there, other_kind, directory_kind, slash_told, replacing_asked};
 ghost use Rattle.name_calls.specs.Replacing.{same_number};
@@ -152,7 +144,11 @@ fn check_renamed<S: Sectors>(
         → ((n : ℕ) → first.now.ino ≡ Some n → IsThere t n) → ((n : ℕ) → second.now.ino ≡ Some n → IsThere t n)
         → IsAnswered (S.state s.old).disk (S.state s.new).disk
         (refused_or (first_of (names_asked t first.now second.now))
-        (Ok (number first.now, inode_at place (S.state s.old).sectors (number first.now), inode_there place (S.state s.old).sectors second.now.ino))) result }
+        (Ok (
+          number first.now,
+          inode_at place (S.state s.old).sectors (number first.now),
+          inode_there place (S.state s.old).sectors second.now.ino,
+        ))) result }
     ensures same { IsUnchanged (S.state s.old) (S.state s.new) }
 {
     check_ends(first, second)?;
@@ -188,7 +184,11 @@ fn check_rename<S: Sectors>(
     ensures each { (st : State) → FindsBoth place (S.state s.old).sectors procs.now process.now first.now second.now st
         → IsAnswered (S.state s.old).disk (S.state s.new).disk
         (refused_or (first_of (rename_demands (scene_with st process.now first.now second.now)))
-        (Ok (number first.now, inode_at place (S.state s.old).sectors (number first.now), inode_there place (S.state s.old).sectors second.now.ino))) result }
+        (Ok (
+          number first.now,
+          inode_at place (S.state s.old).sectors (number first.now),
+          inode_there place (S.state s.old).sectors second.now.ino,
+        ))) result }
     ensures same { IsUnchanged (S.state s.old) (S.state s.new) }
 {
     let (n, inode, replaced) = check_renamed(s, place, first, second)?;
@@ -196,7 +196,7 @@ fn check_rename<S: Sectors>(
         return Ok((n, inode, replaced));
     }
     check_move(
-        alloc, s, place, procs, process, first, second, n, &inode, &replaced,
+        alloc, s, place, process, procs, n, &inode, &replaced, first, second,
     )?;
     Ok((n, inode, replaced))
 }

@@ -1,17 +1,9 @@
 //! What rename asks of both directories, and of what it replaces.
 
-ghost use Rattle.std.specs.Prelude.{◌≡◌, ℕ, Option, Some, Ok};
-ghost use Rattle.fs_layout.specs.Bytes.{SectorMap};
-ghost use Rattle.fs_layout.specs.Images.{inode_at};
-ghost use Rattle.sector_txn.specs.Sectors.{IsUnchanged};
-ghost use Rattle.bit_alloc.specs.Inodes.{IsSound};
-ghost use Rattle.fs_model.specs.Demands.{first_of};
-ghost use Rattle.fs_model.specs.Processes.{Desks, Process as Caller};
-ghost use Rattle.fs_model.specs.RenameCall.{rename_permissions, rename_moved, rename_space};
-ghost use Rattle.fs_model.specs.States.{State};
-ghost use Rattle.fs_model.specs.Trees.{Tree, IsDirectoryAt};
-ghost use Rattle.path_walk.specs.Answers.{refused_or, IsAnswered};
-ghost use Rattle.path_walk.specs.HeldTrees.{HoldsTree, IsThere};
+ghost use Rattle.std.specs.Prelude.{◌≡◌, ◌-◌, ℕ, Option, Some, Ok};
+ghost use Rattle.call_parts.specs.DiskWords.{SectorMap, inode_at, IsUnchanged, IsSound};
+ghost use Rattle.call_parts.specs.ModelWords.{first_of, Desks, rename_permissions, rename_moved, rename_space, State, Tree, IsDirectoryAt, refused_or, IsAnswered, HoldsTree, IsThere};
+ghost use Rattle.fs_model.specs.Processes.{Process as Caller};
 ghost use Rattle.name_calls.specs.Renaming.{inode_there};
 ghost use Rattle.name_calls.specs.Replacing.{IsToRename, sticky_there, below_asked, replaced_asked, move_asked};
 ghost use Rattle.call_parts.specs.TwoPaths.{scene_with};
@@ -20,7 +12,7 @@ use crate::removal::check_directory;
 use crate::renaming::check_kinds;
 use crate::ways::is_below;
 use call_parts::{ask_directory, ask_for_name, check_sticky, permitted};
-use fs_cred::{Cred, Errno, Refusal};
+use fs_cred::{Errno, Refusal};
 use fs_layout::{Inode, Kind, Place};
 use fs_model::Found;
 use open_files::{Process, Procs};
@@ -37,17 +29,18 @@ const WRITE: Perms = Perms {
 
 // Asks whether a directory with S_ISVTX lets the caller take what is replaced, where something is.
 fn check_sticky_there(
-    cred: &Cred,
+    process: &Process,
+    found: &Found,
     directory: &Inode,
     replaced: &Option<(u32, Inode)>,
-    step: usize,
 ) -> Result<(), Refusal>
-    ensures { result ≡ refused_or (first_of (sticky_there cred.now directory.now replaced.now step)) (Ok tt) }
+    ensures { result ≡ refused_or
+        (first_of (sticky_there process.now.cred directory.now replaced.now (found.now.step - 1))) (Ok tt) }
 {
     let Some((_, inode)) = replaced else {
         return Ok(());
     };
-    check_sticky(cred, directory, inode, 2, step)?;
+    check_sticky(process, found, directory, inode, 2)?;
     Ok(())
 }
 
@@ -57,10 +50,10 @@ fn check_permissions<S: Sectors>(
     s: &mut S,
     place: Place,
     process: &Process,
-    first: &Found,
-    second: &Found,
     inode: &Inode,
     replaced: &Option<(u32, Inode)>,
+    first: &Found,
+    second: &Found,
 ) -> Result<Inode, Refusal>
     requires sound { IsSound place (S.state s.old) }
     requires names { (desks : Desks) × (n : ℕ) × (st : State)
@@ -72,13 +65,10 @@ fn check_permissions<S: Sectors>(
         (Ok (inode_at place (S.state s.old).sectors second.now.dir))) result }
     ensures same { IsUnchanged (S.state s.old) (S.state s.new) }
 {
-    let cred = process.cred();
-    let step = first.step.saturating_sub(1);
-    let directory = ask_directory(alloc, s, place, cred, first.dir, 1, step)?;
-    let to_step = second.step.saturating_sub(1);
-    let to_directory = ask_directory(alloc, s, place, cred, second.dir, 2, to_step)?;
-    check_sticky(cred, &directory, inode, 1, step)?;
-    check_sticky_there(cred, &to_directory, replaced, to_step)?;
+    let directory = ask_directory(alloc, s, place, process, first, 1)?;
+    let to_directory = ask_directory(alloc, s, place, process, second, 2)?;
+    check_sticky(process, first, &directory, inode, 1)?;
+    check_sticky_there(process, second, &to_directory, replaced)?;
     Ok(to_directory)
 }
 
@@ -108,7 +98,8 @@ fn check_below<S: Sectors>(
 
 // Asks whether what is replaced may go: a directory is empty and not in use.
 fn check_replaced(procs: &Procs, replaced: &Option<(u32, Inode)>) -> Result<(), Refusal>
-    ensures { (p : Place) (map : SectorMap) (t : Tree) (g : Found) → HoldsTree p map t → ((m : ℕ) → g.ino ≡ Some m → IsThere t m)
+    ensures { (p : Place) (map : SectorMap) (t : Tree) (g : Found) → HoldsTree p map t
+        → ((m : ℕ) → g.ino ≡ Some m → IsThere t m)
         → replaced.now ≡ inode_there p map g.ino
         → result ≡ refused_or (first_of (replaced_asked t procs.now g)) (Ok tt) }
 {
@@ -127,9 +118,9 @@ fn check_moved<S: Sectors>(
     alloc: Global,
     s: &mut S,
     place: Place,
-    process: &Process,
     first: &Found,
     second: &Found,
+    process: &Process,
     inode: &Inode,
 ) -> Result<(), Refusal>
     requires sound { IsSound place (S.state s.old) }
@@ -183,26 +174,28 @@ pub(crate) fn check_move<S: Sectors>(
     alloc: Global,
     s: &mut S,
     place: Place,
-    procs: &Procs,
     process: &Process,
-    first: &Found,
-    second: &Found,
+    procs: &Procs,
     n: u32,
     inode: &Inode,
     replaced: &Option<(u32, Inode)>,
+    first: &Found,
+    second: &Found,
 ) -> Result<(), Refusal>
     requires sound { IsSound place (S.state s.old) }
-    requires names { (st : State) × IsToRename place (S.state s.old).sectors procs.now first.now second.now n inode.now replaced.now st }
-    ensures each { (st : State) → IsToRename place (S.state s.old).sectors procs.now first.now second.now n inode.now replaced.now st
+    requires names { (st : State)
+        × IsToRename place (S.state s.old).sectors procs.now first.now second.now n inode.now replaced.now st }
+    ensures each { (st : State)
+        → IsToRename place (S.state s.old).sectors procs.now first.now second.now n inode.now replaced.now st
         → IsAnswered (S.state s.old).disk (S.state s.new).disk
         (refused_or (first_of (move_asked (scene_with st process.now first.now second.now))) (Ok tt)) result }
     ensures same { IsUnchanged (S.state s.old) (S.state s.new) }
 {
-    let to_directory = check_permissions(alloc, s, place, process, first, second, inode, replaced)?;
+    let to_directory = check_permissions(alloc, s, place, process, inode, replaced, first, second)?;
     check_kinds(inode.kind, replaced)?;
     check_below(s, place, n, inode.kind, second.dir)?;
     check_replaced(procs, replaced)?;
-    check_moved(alloc, s, place, process, first, second, inode)?;
+    check_moved(alloc, s, place, first, second, process, inode)?;
     check_space(s, place, first, second, &to_directory)?;
     Ok(())
 }

@@ -1,11 +1,8 @@
 //! The way up from a directory to the root.
 
 ghost use Rattle.std.specs.Prelude.{length, Ok, IfErr};
-ghost use Rattle.sector_txn.specs.Sectors.{IsUnchanged};
-ghost use Rattle.bit_alloc.specs.Inodes.{IsSound};
-ghost use Rattle.fs_model.specs.Trees.{Tree, is_within, IsDirectoryAt};
-ghost use Rattle.path_walk.specs.Answers.{FailsToRead, IsAnswered};
-ghost use Rattle.path_walk.specs.HeldTrees.{HoldsTree};
+ghost use Rattle.call_parts.specs.DiskWords.{IsUnchanged, IsSound};
+ghost use Rattle.call_parts.specs.ModelWords.{Tree, is_within, IsDirectoryAt, FailsToRead, IsAnswered, HoldsTree};
 
 use fs_cred::Refusal;
 use fs_layout::{Place, ROOT};

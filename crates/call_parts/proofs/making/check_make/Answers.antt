@@ -13,7 +13,7 @@ pub returns-in_err-directory-clause-each : goal.returns-in_err-directory-clause-
 returns-in_err-directory-clause-each g c = λ t h d.
     let r = c.from_residual.ensures in
     let old = g.S.Sectors.state c.args.s.now in
-    let new = g.S.Sectors.state c.ask_directory.new.s in
+    let new = g.S.Sectors.state c.ask_in_directory.new.s in
     let e = c.in_err-directory.field-0.0 in
     let v = inode_at c.args.place old.sectors c.args.dir in
     answered_err {A = Inode} old.disk new.disk (refused_or (first_of (make_asked c.args.place old.sectors c.args.cred.now t c.args.dir c.args.step)) (Ok v))

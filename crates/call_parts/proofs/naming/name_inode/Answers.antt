@@ -1,10 +1,9 @@
 use Rattle.std.proofs.Common.{sym, subst, refl}
 use Rattle.fs_layout.specs.declared.inode.Inode.{Inode}
 use Rattle.fs_layout.specs.Directories.{HasNames}
-use Rattle.fs_layout.specs.Images.{inode_at}
-use Rattle.fs_layout.specs.Maps.{name_cmp, with_entry}
-use Rattle.bit_alloc.specs.Inodes.{KeepsFields, KeepsAcls}
+use Rattle.bit_alloc.proofs.Transactions.{unchanged_nothing}
 use Rattle.call_parts.proofs.NewFile.{room_suffices}
+use Rattle.call_parts.proofs.Removed.{names_changed}
 use Rattle.call_parts.proofs.naming.name_inode.Goals as goal
 
 pub insert_new-requires-clause-below : goal.insert_new-requires-clause-below
@@ -27,22 +26,7 @@ returns-in-Ok-clause-taken g c = c.in-Ok.ensures.change.touches.puts.room
 
 pub returns-in-Ok-clause-named : goal.returns-in-Ok-clause-named
 returns-in-Ok-clause-named g c =
-    let p = c.args.place in
-    let dir = c.args.dir in
-    let old = (g.S.Sectors.state c.args.s.now).sectors in
-    let new = (g.S.Sectors.state c.insert_new.new.s).sectors in
-    let change = c.in-Ok.ensures.change in
-    let same = c.requires.inode in
-    record {
-      super = change.touches.super;
-      change = change.touches.inode;
-      used = change.used;
-      kept = subst (λ (u : Inode). KeepsFields u (inode_at p new dir)) same (subst (KeepsFields c.args.directory) (sym change.now) change.fields);
-      acls = subst (λ (u : Inode). KeepsAcls old new u (inode_at p new dir)) same (subst (KeepsAcls old new c.args.directory) (sym change.now) change.acls);
-      named = λ names has.
-          subst (λ (u : Inode). HasNames new u (with_entry name_cmp names c.args.name.now c.args.n)) (sym change.now)
-          (c.in-Ok.ensures.names names (subst (λ (u : Inode). HasNames old u names) (sym same) has)).1;
-    }
+    names_changed unchanged_nothing c.requires.inode c.in-Ok.ensures.change (λ names has. (c.in-Ok.ensures.names names has).1)
 
 pub returns-in-Err-clause-err : goal.returns-in-Err-clause-err
 returns-in-Err-clause-err g c =

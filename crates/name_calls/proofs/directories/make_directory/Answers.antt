@@ -12,10 +12,8 @@ use Rattle.fs_model.specs.Births.{the_node, born_acl, born_directory}
 use Rattle.fs_model.specs.Nodes.{Node, default_in}
 use Rattle.path_walk.proofs.HeldNodes.{number_below, is_there}
 use Rattle.path_walk.proofs.Kept.{kept, kept_back, sound_kept, interrupts_later}
-use Rattle.call_parts.specs.Makings.{CanMake}
-use Rattle.call_parts.proofs.Makeable.{may_make}
 use Rattle.call_parts.specs.NewNodes.{MakesNode, directory_made}
-use Rattle.name_calls.proofs.Inherited.{bits_below, default_held, directory_is}
+use Rattle.name_calls.proofs.Inherited.{bits_below, default_held, directory_is, may_then}
 use Rattle.call_parts.proofs.NewNames.{allowed, not_allowed, not_made}
 use Rattle.name_calls.proofs.directories.make_directory.Goals as goal
 
@@ -24,13 +22,8 @@ check_make-requires-clause-there g c = let x = c.requires.name in (x.0, x.1, x.2
 
 pub returns-in_err-directory-clause-each : goal.returns-in_err-directory-clause-each
 returns-in_err-directory-clause-each g c = λ t h i.
-    let r = c.from_residual.ensures in
-    let old = g.S.Sectors.state c.args.s.now in
-    let new = g.S.Sectors.state c.check_make.new.s in
-    let q = c.args.process.now in
-    let f = c.args.found.now in
-    not_allowed c.args.place old new q.cred t f (born_directory q.cred q.umask c.args.mode (the_node t f.dir)) c.cred-cred.ensures c.saturating_sub-step.ensures
-    c.from_residual.result c.in_err-directory.field-0.0 r.0 r.1 (inode_at c.args.place old.sectors f.dir) (c.in_err-directory.ensures.each t h i.directory)
+    not_allowed c.args.place (g.S.Sectors.state c.args.s.now) (g.S.Sectors.state c.check_make.new.s) _ t c.args.found.now _ c.cred-cred.ensures c.saturating_sub-step.ensures
+    _ _ c.from_residual.ensures _ (c.in_err-directory.ensures.each t h i.directory)
 
 pub default_of-requires : goal.default_of-requires
 default_of-requires g c =
@@ -52,12 +45,8 @@ returns-in_err-inherits-clause-store g c = store_joined c.in_ok-directory.ensure
 
 pub returns-in_err-inherits-clause-each : goal.returns-in_err-inherits-clause-each
 returns-in_err-inherits-clause-each g c = λ t h i.
-    let r = c.from_residual-in_err-inherits.ensures in
-    let old = g.S.Sectors.state c.args.s.now in
     let new = g.S.Sectors.state c.default_of.new.s in
-    let q = c.args.process.now in
-    let f = c.args.found.now in
-    not_made c.args.place old new q.cred t f (born_directory q.cred q.umask c.args.mode (the_node t f.dir)) c.from_residual-in_err-inherits.result c.in_err-inherits.field-0.0 r.0 r.1
+    not_made c.args.place (g.S.Sectors.state c.args.s.now) new c.args.process.now.cred t c.args.found.now _ _ _ c.from_residual-in_err-inherits.ensures
     (inr (interrupts_later new.disk c.in_ok-directory.ensures.same c.in_err-inherits.ensures.err))
 
 pub returns-in_err-access-clause-store : goal.returns-in_err-access-clause-store
@@ -65,35 +54,21 @@ returns-in_err-access-clause-store g c = store_joined c.in_ok-directory.ensures.
 
 pub returns-in_err-access-clause-each : goal.returns-in_err-access-clause-each
 returns-in_err-access-clause-each g c = λ t h i.
-    let r = c.from_residual-in_err-access.ensures in
-    let old = g.S.Sectors.state c.args.s.now in
-    let new = g.S.Sectors.state c.default_of.new.s in
-    let q = c.args.process.now in
-    let f = c.args.found.now in
-    not_made c.args.place old new q.cred t f (born_directory q.cred q.umask c.args.mode (the_node t f.dir)) c.from_residual-in_err-access.result c.in_err-access.field-0.0 r.0 r.1
-    (inr (inl c.in_err-access.ensures.memory))
+    not_made c.args.place (g.S.Sectors.state c.args.s.now) (g.S.Sectors.state c.default_of.new.s) c.args.process.now.cred t c.args.found.now _ _ _
+    c.from_residual-in_err-access.ensures (inr (inl c.in_err-access.ensures.memory))
 
 pub place_directory-requires : goal.place_directory-requires
 place_directory-requires g c =
-    let p = c.args.place in
-    let old = g.S.Sectors.state c.args.s.now in
-    let mid = g.S.Sectors.state c.default_of.new.s in
-    let joined = unchanged_joined c.in_ok-directory.ensures.same c.in_ok-inherits.ensures.same in
-    let v = c.in_ok-directory.directory in
-    let f = c.args.found.now in
-    let q = c.args.process.now in
     let x = c.requires.name in
-    let met = allowed p old.sectors x.0 f c.cred-cred.ensures c.saturating_sub-step.ensures (inode_at p old.sectors f.dir) v (c.in_ok-directory.ensures.each x.0 x.1 x.2.directory) in
+    let v = c.in_ok-directory.directory in
+    let joined = unchanged_joined c.in_ok-directory.ensures.same c.in_ok-inherits.ensures.same in
+    let met = allowed c.args.place (g.S.Sectors.state c.args.s.now).sectors x.0 c.args.found.now c.cred-cred.ensures c.saturating_sub-step.ensures _ _ (c.in_ok-directory.ensures.each x.0 x.1 x.2.directory) in
     record {
       sound = sound_kept joined c.requires.sound;
-      directory = kept (λ (m : SectorMap). v ≡ inode_at p m f.dir) joined met.1;
-      may = (
-        x.0,
-        subst (CanMake p mid.sectors x.0 f.dir) (sym c.bytes-name.ensures.all)
-            (kept (λ (m : SectorMap). CanMake p m x.0 f.dir f.name) joined (may_make q.cred (f.step - 1) met.0 x.1 x.2.directory f.name x.2.is_name x.2.is_new)),
-      );
+      directory = kept (λ (m : SectorMap). v ≡ inode_at c.args.place m c.args.found.now.dir) joined met.1;
+      may = may_then c.args.place x.1 c.args.found.now x.2 joined c.bytes-name.result.now c.bytes-name.ensures.all c.args.process.now.cred met.0;
       bits = subst (λ (k : ℕ). k < 2048) (sym c.special_bits-bits.ensures) (bits_below (c.args.mode / S_ISVTX % 2 == 1) (v.mode / S_ISGID % 2 == 1));
-      spare = spare_unchanged p 47 old mid c.requires.spare joined;
+      spare = spare_unchanged c.args.place 47 (g.S.Sectors.state c.args.s.now) (g.S.Sectors.state c.default_of.new.s) c.requires.spare joined;
     }
 
 pub returns-in_err-place_directory-clause-store : goal.returns-in_err-place_directory-clause-store
@@ -102,13 +77,10 @@ returns-in_err-place_directory-clause-store g c =
 
 pub returns-in_err-place_directory-clause-each : goal.returns-in_err-place_directory-clause-each
 returns-in_err-place_directory-clause-each g c = λ t h i.
-    let r = c.from_residual-in_err-place_directory.ensures in
-    let old = g.S.Sectors.state c.args.s.now in
     let new = g.S.Sectors.state c.place_directory.new.s in
-    let q = c.args.process.now in
-    let f = c.args.found.now in
-    not_made c.args.place old new q.cred t f (born_directory q.cred q.umask c.args.mode (the_node t f.dir)) c.from_residual-in_err-place_directory.result c.in_err-place_directory.field-0.0 r.0 r.1
-    (inr (interrupts_later new.disk (unchanged_joined c.in_ok-directory.ensures.same c.in_ok-inherits.ensures.same) (inr c.in_err-place_directory.ensures.err)))
+    let joined = unchanged_joined c.in_ok-directory.ensures.same c.in_ok-inherits.ensures.same in
+    not_made c.args.place (g.S.Sectors.state c.args.s.now) new c.args.process.now.cred t c.args.found.now _ _ _ c.from_residual-in_err-place_directory.ensures
+    (inr (interrupts_later new.disk joined (inr c.in_err-place_directory.ensures.err)))
 
 pub returns-clause-store : goal.returns-clause-store
 returns-clause-store g c =

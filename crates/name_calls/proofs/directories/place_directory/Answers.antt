@@ -1,10 +1,8 @@
 use Rattle.std.proofs.Common.{refl, sym, arith, ◌∙◌}
 use Rattle.std.specs.Option.{option_copied}
-use Rattle.sector_disk.proofs.Moments.{failed_later}
 use Rattle.sector_txn.proofs.TransactionRuns.{store_joined}
 use Rattle.inode_table.specs.Acls.{acls_take}
-use Rattle.path_walk.specs.Answers.{FailsToRead}
-use Rattle.path_walk.proofs.Kept.{failed_with}
+use Rattle.call_parts.proofs.Refuses.{fails_later}
 use Rattle.call_parts.proofs.NewFile.{dir_kept}
 use Rattle.call_parts.specs.NewNodes.{directory_made}
 use Rattle.name_calls.proofs.BornDirectories.{directory_fits, acls_few, directory_taken}
@@ -50,13 +48,7 @@ returns-in_err-name_inode-clause-store g c = store_joined c.in-Ok.ensures.store 
 
 pub returns-in_err-name_inode-clause-err : goal.returns-in_err-name_inode-clause-err
 returns-in_err-name_inode-clause-err g c =
-    let r = c.from_residual.ensures in
-    let old = g.S.Sectors.state c.args.s.now in
-    let mid = g.S.Sectors.state c.new_inode.new.s in
-    let new = g.S.Sectors.state c.name_inode.new.s in
-    let failed = c.in_err-name_inode.ensures.err in
-    failed_with c.from_residual.result c.in_err-name_inode.field-0.0 (FailsToRead old.disk new.disk) r.0 r.1
-    (failed.0, failed_later old.disk mid.disk new.disk c.in-Ok.ensures.cause.later failed.1)
+    fails_later (g.S.Sectors.state c.name_inode.new.s).disk _ _ c.from_residual.ensures c.in-Ok.ensures.store c.in_err-name_inode.ensures.err
 
 pub returns-clause-store : goal.returns-clause-store
 returns-clause-store g c = store_joined c.in-Ok.ensures.store c.in_ok-name_inode.ensures.store

@@ -1,26 +1,18 @@
-use Rattle.std.proofs.Common.{◌≡◌, ℕ, List, inr, sym, subst, ◌∙◌}
-use Rattle.fs_layout.specs.declared.inode.Inode.{Inode}
+use Rattle.std.proofs.Common.{◌≡◌, ℕ, List, sym, subst, ◌∙◌}
 use Rattle.fs_layout.specs.Bytes.{SectorMap}
 use Rattle.fs_layout.specs.Images.{inode_at}
 use Rattle.fs_model.specs.declared.reply.Reply.TheVariants.{Done}
 use Rattle.fs_model.specs.TreeChanges.{AddName, changed, swept}
-use Rattle.fs_model.specs.Scenes.{number}
 use Rattle.fs_model.specs.Stands.{HoldsAll, placed}
 use Rattle.bit_alloc.proofs.Transactions.{spare_unchanged}
 use Rattle.sector_txn.proofs.TransactionRuns.{store_joined}
-use Rattle.path_walk.proofs.Kept.{kept, sound_kept, interrupts_later}
-use Rattle.call_parts.proofs.ByTwoPaths.{walks_refused, both_refused, both_performs}
+use Rattle.path_walk.proofs.Kept.{kept, sound_kept}
+use Rattle.call_parts.proofs.ByTwoPaths.{walks_refused, both_refused, both_broken, both_performs}
 use Rattle.call_parts.proofs.Calling.{state_kept}
 use Rattle.call_parts.proofs.FoundBoth.{finds_each}
 use Rattle.name_calls.specs.Linking.{MayLink}
 use Rattle.name_calls.proofs.Linkings.{link_by_two, link_told, link_may, few_names, link_changes}
 use Rattle.name_calls.proofs.linking.link.Goals as goal
-
-pub returns-in_err-walked : goal.returns-in_err-walked
-returns-in_err-walked g c =
-    let r = c.from_residual.ensures in
-    let x = c.in_err-walked.ensures in
-    walks_refused (link_by_two c.args.old.now c.args.new.now) c.from_residual.result c.in_err-walked.field-0.0 r.0 r.1 x.same x.refused
 
 pub check_link-requires : goal.check_link-requires
 check_link-requires g c =
@@ -28,23 +20,25 @@ check_link-requires g c =
     let ready = w.ready in
     record { sound = ready.sound; found = (c.args.procs.now, ready.state, finds_each w ready.state ready.is_state) }
 
-pub returns-in_err-n : goal.returns-in_err-n
-returns-in_err-n g c =
-    let r = c.from_residual-in_err-n.ensures in
+pub returns-in_err-walked : goal.returns-in_err-walked
+returns-in_err-walked g c =
+    let r = c.from_residual.ensures in
+    let x = c.in_err-walked.ensures in
+    walks_refused (link_by_two c.args.old.now c.args.new.now) c.from_residual.result c.in_err-walked.field-0.0 r.0 r.1 x.same x.refused
+
+pub returns-in_err-add_name : goal.returns-in_err-add_name
+returns-in_err-add_name g c =
     let x = c.in_ok-walked.ensures in
-    let f = c.in_ok-walked.walked.first in
-    let mid = (g.S.Sectors.state c.walk_both.new.s).sectors in
-    let y : ℕ × Inode × Inode = (number f, inode_at c.args.place mid (number f), inode_at c.args.place mid c.in_ok-walked.walked.second.dir) in
-    both_refused (link_by_two c.args.old.now c.args.new.now) x.same x.walked (g.S.Sectors.state c.check_link.new.s) c.from_residual-in_err-n.result c.in_err-n.field-0.0 r.0 r.1
-    c.in_err-n.ensures.same.store {A = ℕ × Inode × Inode} y (λ s has at. c.in_err-n.ensures.each c.args.procs.now s (finds_each x.walked s at))
+    both_broken (link_by_two c.args.old.now c.args.new.now) x.same x.walked (g.S.Sectors.state c.add_name.new.s) _ _ c.from_residual-in_err-add_name.ensures
+    c.in_ok-n.ensures.same c.in_err-add_name.ensures.store c.in_err-add_name.ensures.fault
 
 pub add_name-requires : goal.add_name-requires
 add_name-requires g c =
-    let p = c.args.place in
+    let same = c.in_ok-n.ensures.same in
     let w = c.in_ok-walked.ensures.walked in
     let ready = w.ready in
     let h = c.in_ok-walked.walked.second in
-    let same = c.in_ok-n.ensures.same in
+    let p = c.args.place in
     let mid = g.S.Sectors.state c.walk_both.new.s in
     let finds = finds_each w ready.state ready.is_state in
     let told = link_told ready.state (c.in_ok-n.ensures.each c.args.procs.now ready.state finds) in
@@ -63,14 +57,12 @@ add_name-requires g c =
       spare = spare_unchanged p 47 mid (g.S.Sectors.state c.check_link.new.s) ready.spare same;
     }
 
-pub returns-in_err-add_name : goal.returns-in_err-add_name
-returns-in_err-add_name g c =
-    let r = c.from_residual-in_err-add_name.ensures in
+pub returns-in_err-n : goal.returns-in_err-n
+returns-in_err-n g c =
+    let r = c.from_residual-in_err-n.ensures in
     let x = c.in_ok-walked.ensures in
-    let new = g.S.Sectors.state c.add_name.new.s in
-    let same = c.in_ok-n.ensures.same in
-    both_refused (link_by_two c.args.old.now c.args.new.now) x.same x.walked new c.from_residual-in_err-add_name.result c.in_err-add_name.field-0.0 r.0 r.1
-    (store_joined same.store c.in_err-add_name.ensures.store) {A = ℕ} 0 (λ s has at. inr (interrupts_later new.disk same (inr c.in_err-add_name.ensures.fault)))
+    both_refused (link_by_two c.args.old.now c.args.new.now) x.same x.walked (g.S.Sectors.state c.check_link.new.s) _ _ r.0 r.1 c.in_err-n.ensures.same.store _
+    (λ s has at. c.in_err-n.ensures.each c.args.procs.now s (finds_each x.walked s at))
 
 pub returns : goal.returns
 returns g c =

@@ -1,13 +1,14 @@
 use Rattle.std.proofs.Common.{refl, sym, arith, ◌∙◌}
-use Rattle.sector_disk.proofs.Moments.{failed_later}
 use Rattle.sector_txn.proofs.TransactionRuns.{store_joined}
-use Rattle.path_walk.specs.Answers.{FailsToRead}
-use Rattle.path_walk.proofs.Kept.{failed_with}
+use Rattle.call_parts.proofs.Refuses.{fails_later}
 use Rattle.call_parts.proofs.NewFile.{dir_kept}
 use Rattle.call_parts.specs.NewNodes.{link_made}
 use Rattle.name_calls.proofs.BornLinks.{link_taken, none_free, target_size}
 use Rattle.call_parts.proofs.NewNames.{room_then, was_taken}
 use Rattle.name_calls.proofs.links.place_link.Goals as goal
+
+pub returns-in_err-name_inode-clause-store : goal.returns-in_err-name_inode-clause-store
+returns-in_err-name_inode-clause-store g c = store_joined c.in-Ok.ensures.store c.in_err-name_inode.ensures.store
 
 pub new_link-requires-clause-target : goal.new_link-requires-clause-target
 new_link-requires-clause-target g c = target_size c.args.target.now c.requires.target
@@ -18,12 +19,6 @@ returns-in_default-clause-err g c =
     let new = g.S.Sectors.state c.new_link.new.s in
     (refl, was_taken c.requires.may.1 1 (omega arith) old.disk new.disk c.in_default.field-0 (λ e. none_free (c.in_default.ensures.full e)) c.in_default.ensures.cause.failed)
 
-pub name_inode-requires-clause-inode : goal.name_inode-requires-clause-inode
-name_inode-requires-clause-inode g c =
-    let can = c.requires.may.1 in
-    let e = c.in-Ok.ensures in
-    c.requires.directory ∙ sym (dir_kept can.holds can.directory c.in-Ok.n e.free e.touches.inode)
-
 pub name_inode-requires-clause-room : goal.name_inode-requires-clause-room
 name_inode-requires-clause-room g c =
     let mid = g.S.Sectors.state c.new_link.new.s in
@@ -33,21 +28,18 @@ name_inode-requires-clause-room g c =
     (link_taken e.free e.touches e.used c.args.dir c.uid-uid.result c.new_group-gid.result c.args.directory c.args.cred.now c.args.target.now c.uid-uid.ensures c.new_group-gid.ensures
     e.fields e.acls e.holds e.whole) (omega (arith, left))
 
-pub returns-in_err-name_inode-clause-store : goal.returns-in_err-name_inode-clause-store
-returns-in_err-name_inode-clause-store g c = store_joined c.in-Ok.ensures.store c.in_err-name_inode.ensures.store
+pub returns-clause-store : goal.returns-clause-store
+returns-clause-store g c = store_joined c.in-Ok.ensures.store c.in_ok-name_inode.ensures.store
+
+pub name_inode-requires-clause-inode : goal.name_inode-requires-clause-inode
+name_inode-requires-clause-inode g c =
+    let can = c.requires.may.1 in
+    let e = c.in-Ok.ensures in
+    c.requires.directory ∙ sym (dir_kept can.holds can.directory c.in-Ok.n e.free e.touches.inode)
 
 pub returns-in_err-name_inode-clause-err : goal.returns-in_err-name_inode-clause-err
 returns-in_err-name_inode-clause-err g c =
-    let r = c.from_residual.ensures in
-    let old = g.S.Sectors.state c.args.s.now in
-    let mid = g.S.Sectors.state c.new_link.new.s in
-    let new = g.S.Sectors.state c.name_inode.new.s in
-    let failed = c.in_err-name_inode.ensures.err in
-    failed_with c.from_residual.result c.in_err-name_inode.field-0.0 (FailsToRead old.disk new.disk) r.0 r.1
-    (failed.0, failed_later old.disk mid.disk new.disk c.in-Ok.ensures.cause.later failed.1)
-
-pub returns-clause-store : goal.returns-clause-store
-returns-clause-store g c = store_joined c.in-Ok.ensures.store c.in_ok-name_inode.ensures.store
+    fails_later (g.S.Sectors.state c.name_inode.new.s).disk _ _ c.from_residual.ensures c.in-Ok.ensures.store c.in_err-name_inode.ensures.err
 
 pub returns-clause-made : goal.returns-clause-made
 returns-clause-made g c =

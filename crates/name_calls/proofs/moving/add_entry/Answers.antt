@@ -5,9 +5,9 @@ use Rattle.fs_layout.specs.Maps.{name_cmp, with_entry}
 use Rattle.bit_alloc.proofs.Transactions.{spare_unchanged}
 use Rattle.path_walk.proofs.Kept.{kept, kept_back, sound_kept}
 use Rattle.sector_txn.proofs.TransactionRuns.{store_joined}
-use Rattle.name_calls.specs.Moving.{ChangesNames}
+use Rattle.call_parts.specs.Given.{ChangesNames}
 use Rattle.call_parts.specs.NewNodes.{MayBeNamed}
-use Rattle.name_calls.proofs.Movings.{named_names, taken_after}
+use Rattle.name_calls.proofs.Movings.{taken_after}
 use Rattle.name_calls.proofs.moving.add_entry.Goals as goal
 
 pub name_inode-requires-clause-sound : goal.name_inode-requires-clause-sound
@@ -40,4 +40,4 @@ returns-clause-taken g c = taken_after c.args.place 3 (g.S.Sectors.state c.name_
 pub returns-clause-leads : goal.returns-clause-leads
 returns-clause-leads g c =
     kept_back (λ (m : SectorMap). ChangesNames c.args.place c.args.dir (λ names. with_entry name_cmp names c.args.name.now c.args.n) m (g.S.Sectors.state c.name_inode.new.s).sectors)
-    c.in_ok-directory.ensures.same (named_names c.in_ok-name_inode.ensures.named)
+    c.in_ok-directory.ensures.same c.in_ok-name_inode.ensures.named

@@ -1,14 +1,13 @@
 use Rattle.std.proofs.Common.{◌≡◌, ◌≢◌, ℕ, List, None, subst, sym, ap, ◌∙◌}
-use Rattle.sector_disk.proofs.Moments.{failed_later}
 use Rattle.fs_layout.specs.Directories.{HasNames}
 use Rattle.fs_layout.specs.Images.{inode_at}
 use Rattle.fs_layout.specs.Maps.{name_cmp, get, with_entry, without}
 use Rattle.sector_txn.proofs.TransactionRuns.{store_joined}
-use Rattle.path_walk.specs.Answers.{FailsToRead}
-use Rattle.path_walk.proofs.Kept.{failed_with}
-use Rattle.name_calls.specs.Moving.{ChangesNames, within, across}
+use Rattle.call_parts.proofs.Refuses.{fails_later}
+use Rattle.call_parts.specs.Given.{ChangesNames}
+use Rattle.name_calls.specs.Moving.{within, across}
 use Rattle.call_parts.specs.Dropping.{RemovesName}
-use Rattle.name_calls.proofs.Movings.{removed_names, is_nothing, is_something, dir_below, named_first, named_here, leads_first, may_lead}
+use Rattle.name_calls.proofs.Movings.{is_nothing, is_something, dir_below, named_first, named_here, leads_first, may_lead}
 use Rattle.name_calls.proofs.moving.move_entry.Goals.{else-first-second-via-then-first-second+else-is_none, else-first-second-via-else-first-second}
 use Rattle.name_calls.proofs.moving.move_entry.Goals as goal
 
@@ -60,7 +59,7 @@ give_name-requires-clause-may g c =
     let old = g.S.Sectors.state c.args.s.now in
     let mid = g.S.Sectors.state c.remove_name.new.s in
     let removes = subst (λ (q : List ℕ). RemovesName c.args.place c.args.first.now.dir q old mid) c.bytes-name.ensures.all c.in_ok-remove_name.ensures.removes in
-    may_lead old x.2 x.3 (removed_names removes) removes.touches.free
+    may_lead old x.2 x.3 removes.names removes.touches.free
     (λ none. elim c.else-first-second.branch [
       | else-first-second-via-then-first-second+else-is_none w ↦
           absurd (is_something c.args.second.now.ino w.is_none.result w.is_none.ensures w.if-is_none.false none)
@@ -72,13 +71,7 @@ returns-in_err-give_name-clause-store g c = store_joined c.in_ok-remove_name.ens
 
 pub returns-in_err-give_name-clause-fault : goal.returns-in_err-give_name-clause-fault
 returns-in_err-give_name-clause-fault g c =
-    let r = c.from_residual-in_err-give_name.ensures in
-    let old = g.S.Sectors.state c.args.s.now in
-    let mid = g.S.Sectors.state c.remove_name.new.s in
-    let new = g.S.Sectors.state c.give_name.new.s in
-    let fault = c.in_err-give_name.ensures.fault in
-    failed_with c.from_residual-in_err-give_name.result c.in_err-give_name.field-0.0 (FailsToRead old.disk new.disk) r.0 r.1
-    (fault.0, failed_later old.disk mid.disk new.disk c.in_ok-remove_name.ensures.store.reads.failures fault.1)
+    fails_later (g.S.Sectors.state c.give_name.new.s).disk _ _ c.from_residual-in_err-give_name.ensures c.in_ok-remove_name.ensures.store c.in_err-give_name.ensures.fault
 
 pub returns-clause-store : goal.returns-clause-store
 returns-clause-store g c = store_joined c.in_ok-remove_name.ensures.store c.in_ok-give_name.ensures.store
@@ -88,5 +81,5 @@ returns-clause-moves g c =
     let old = g.S.Sectors.state c.args.s.now in
     let mid = g.S.Sectors.state c.remove_name.new.s in
     across mid.sectors
-    (removed_names (subst (λ (q : List ℕ). RemovesName c.args.place c.args.first.now.dir q old mid) c.bytes-name.ensures.all c.in_ok-remove_name.ensures.removes))
+    (subst (λ (q : List ℕ). RemovesName c.args.place c.args.first.now.dir q old mid) c.bytes-name.ensures.all c.in_ok-remove_name.ensures.removes).names
     c.in_ok-give_name.ensures.leads

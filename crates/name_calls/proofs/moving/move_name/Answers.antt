@@ -1,10 +1,8 @@
 use Rattle.std.proofs.Common.{◌≢◌, ◌≤◌, refl, subst, sym, ◌∙◌}
-use Rattle.sector_disk.proofs.Moments.{failed_later}
 use Rattle.fs_layout.specs.declared.inode.Inode.{Inode}
 use Rattle.fs_layout.specs.declared.inode.Kind.TheVariants as kinds
 use Rattle.sector_txn.proofs.TransactionRuns.{store_joined}
-use Rattle.path_walk.specs.Answers.{FailsToRead}
-use Rattle.path_walk.proofs.Kept.{failed_with}
+use Rattle.call_parts.proofs.Refuses.{fails_later}
 use Rattle.fs_model.specs.Processes.{is_open}
 use Rattle.name_calls.proofs.Droppings.{lost_super}
 use Rattle.name_calls.proofs.Movings.{follow_super, there_is, nothing_there, moved_below, moved_used, entry_super, moved_same, moved_none, replaced_number, replaced_same, replaced_used, replaced_named, replaced_holds}
@@ -28,13 +26,7 @@ returns-in_err-follow-clause-store g c = store_joined c.in_ok-move_entry.ensures
 
 pub returns-in_err-follow-clause-fault : goal.returns-in_err-follow-clause-fault
 returns-in_err-follow-clause-fault g c =
-    let r = c.from_residual-in_err-follow.ensures in
-    let old = g.S.Sectors.state c.args.s.now in
-    let mid = g.S.Sectors.state c.move_entry.new.s in
-    let new = g.S.Sectors.state c.follow.new.s in
-    let fault = c.in_err-follow.ensures.fault in
-    failed_with c.from_residual-in_err-follow.result c.in_err-follow.field-0.0 (FailsToRead old.disk new.disk) r.0 r.1
-    (fault.0, failed_later old.disk mid.disk new.disk c.in_ok-move_entry.ensures.store.reads.failures fault.1)
+    fails_later (g.S.Sectors.state c.follow.new.s).disk _ _ c.from_residual-in_err-follow.ensures c.in_ok-move_entry.ensures.store c.in_err-follow.ensures.fault
 
 pub lose_name-requires-clause-number : goal.lose_name-requires-clause-number
 lose_name-requires-clause-number g c =
@@ -72,14 +64,8 @@ returns-in_err-lose_name-clause-store g c =
 
 pub returns-in_err-lose_name-clause-fault : goal.returns-in_err-lose_name-clause-fault
 returns-in_err-lose_name-clause-fault g c =
-    let r = c.from_residual-in_err-lose_name.ensures in
-    let old = g.S.Sectors.state c.args.s.now in
-    let mid = g.S.Sectors.state c.follow.new.s in
-    let new = g.S.Sectors.state c.lose_name.new.s in
-    let fault = c.in_err-lose_name.ensures.fault in
-    let before = store_joined c.in_ok-move_entry.ensures.store c.in_ok-follow.ensures.store in
-    failed_with c.from_residual-in_err-lose_name.result c.in_err-lose_name.field-0.0 (FailsToRead old.disk new.disk) r.0 r.1
-    (fault.0, failed_later old.disk mid.disk new.disk before.reads.failures fault.1)
+    fails_later (g.S.Sectors.state c.lose_name.new.s).disk _ _ c.from_residual-in_err-lose_name.ensures
+    (store_joined c.in_ok-move_entry.ensures.store c.in_ok-follow.ensures.store) c.in_err-lose_name.ensures.fault
 
 pub returns-in_ok-lose_name-clause-store : goal.returns-in_ok-lose_name-clause-store
 returns-in_ok-lose_name-clause-store g c =

@@ -1,17 +1,15 @@
-use Rattle.std.proofs.Common.{◌≡◌, ℕ, List, inr, sym, subst, ◌∙◌}
-use Rattle.fs_layout.specs.declared.inode.Inode.{Inode}
+use Rattle.std.proofs.Common.{◌≡◌, ℕ, List, sym, subst, ◌∙◌}
 use Rattle.fs_layout.specs.Bytes.{SectorMap}
 use Rattle.fs_layout.specs.Images.{inode_at}
 use Rattle.fs_model.specs.declared.reply.Reply.TheVariants.{Done}
 use Rattle.fs_model.specs.TreeChanges.{TakeName, changed, swept}
-use Rattle.fs_model.specs.Scenes.{number}
 use Rattle.fs_model.specs.Stands.{HoldsAll, placed}
 use Rattle.bit_alloc.proofs.Transactions.{spare_unchanged}
 use Rattle.sector_txn.proofs.TransactionRuns.{store_joined}
-use Rattle.path_walk.proofs.Kept.{kept, sound_kept, interrupts_later}
+use Rattle.path_walk.proofs.Kept.{kept, sound_kept}
 use Rattle.call_parts.specs.Paths.{scene_at}
 use Rattle.call_parts.proofs.Calling.{state_kept}
-use Rattle.call_parts.proofs.Reachings.{walk_refused, asked_refused, changed as has_changed}
+use Rattle.call_parts.proofs.Reachings.{walk_refused, asked_refused, asked_broken, changed as has_changed}
 use Rattle.name_calls.specs.Removing.{MayGo, removal_demands}
 use Rattle.name_calls.proofs.RemovalRows.{removes_by_path, finds_name, target_found, target_met, target_may, name_gone}
 use Rattle.name_calls.proofs.removal.remove_target.Goals as goal
@@ -32,10 +30,8 @@ pub returns-in_err-n : goal.returns-in_err-n
 returns-in_err-n g c =
     let r = c.from_residual-in_err-n.ensures in
     let x = c.in_ok-walked.ensures in
-    let f = c.in_ok-walked.walked.found in
-    let y : ℕ × Inode = (number f, inode_at c.args.place (g.S.Sectors.state c.walk_path.new.s).sectors (number f)) in
-    asked_refused (removes_by_path c.args.what c.args.path.now) x.same x.walked (g.S.Sectors.state c.check_target.new.s) c.from_residual-in_err-n.result c.in_err-n.field-0.0 r.0 r.1
-    c.in_err-n.ensures.same.store {A = ℕ × Inode} y (λ s has at. c.in_err-n.ensures.each s (finds_name x.walked.bytes at has))
+    asked_refused (removes_by_path c.args.what c.args.path.now) x.same x.walked (g.S.Sectors.state c.check_target.new.s) _ _ r.0 r.1 c.in_err-n.ensures.same.store _
+    (λ s has at. c.in_err-n.ensures.each s (finds_name x.walked.bytes at has))
 
 pub take_name-requires : goal.take_name-requires
 take_name-requires g c =
@@ -58,12 +54,9 @@ take_name-requires g c =
 
 pub returns-in_err-take_name : goal.returns-in_err-take_name
 returns-in_err-take_name g c =
-    let r = c.from_residual-in_err-take_name.ensures in
     let x = c.in_ok-walked.ensures in
-    let new = g.S.Sectors.state c.take_name.new.s in
-    let same = c.in_ok-n.ensures.same in
-    asked_refused (removes_by_path c.args.what c.args.path.now) x.same x.walked new c.from_residual-in_err-take_name.result c.in_err-take_name.field-0.0 r.0 r.1
-    (store_joined same.store c.in_err-take_name.ensures.store) {A = ℕ} 0 (λ s has at. inr (interrupts_later new.disk same (inr c.in_err-take_name.ensures.fault)))
+    asked_broken (removes_by_path c.args.what c.args.path.now) x.same x.walked (g.S.Sectors.state c.take_name.new.s) _ _ c.from_residual-in_err-take_name.ensures
+    c.in_ok-n.ensures.same c.in_err-take_name.ensures.store c.in_err-take_name.ensures.fault
 
 pub returns : goal.returns
 returns g c =

@@ -12,16 +12,13 @@ use Rattle.name_calls.proofs.removal.take_name.Goals as goal
 pub remove_name-requires-clause-below : goal.remove_name-requires-clause-below
 remove_name-requires-clause-below g c = let x = c.requires.may in dir_below (g.S.Sectors.state c.args.s.now) x.1 x.2
 
-pub remove_name-requires-clause-named : goal.remove_name-requires-clause-named
-remove_name-requires-clause-named g c = let x = c.requires.may in named_there (g.S.Sectors.state c.args.s.now) x.1 x.2
-
-pub lose_name-requires-clause-number : goal.lose_name-requires-clause-number
-lose_name-requires-clause-number g c = let x = c.requires.may in is_number (g.S.Sectors.state c.args.s.now) x.1 x.2
-
 pub lose_name-requires-clause-inode : goal.lose_name-requires-clause-inode
 lose_name-requires-clause-inode g c =
     let x = c.requires.may in
     c.requires.inode ∙ sym (target_same (g.S.Sectors.state c.args.s.now) x.1 x.2 c.in_ok-remove_name.ensures.removes)
+
+pub remove_name-requires-clause-named : goal.remove_name-requires-clause-named
+remove_name-requires-clause-named g c = let x = c.requires.may in named_there (g.S.Sectors.state c.args.s.now) x.1 x.2
 
 pub lose_name-requires-clause-used : goal.lose_name-requires-clause-used
 lose_name-requires-clause-used g c =
@@ -31,6 +28,9 @@ lose_name-requires-clause-used g c =
     let removes = c.in_ok-remove_name.ensures.removes in
     subst (λ (v : Inode). v.kind ≢ kinds.Free) (sym (c.requires.inode ∙ sym (target_same old x.1 x.2 removes)))
     (λ e. body_not_free mid.sectors (inode_at c.args.place mid.sectors c.args.n) x.2.target.body (target_held old x.1 x.2 removes).body e)
+
+pub lose_name-requires-clause-number : goal.lose_name-requires-clause-number
+lose_name-requires-clause-number g c = let x = c.requires.may in is_number (g.S.Sectors.state c.args.s.now) x.1 x.2
 
 pub lose_name-requires-clause-named : goal.lose_name-requires-clause-named
 lose_name-requires-clause-named g c =

@@ -1,19 +1,17 @@
-use Rattle.std.proofs.Common.{◌≡◌, ℕ, Option, false, inr, sym, ◌∙◌}
-use Rattle.fs_layout.specs.declared.inode.Inode.{Inode}
+use Rattle.std.proofs.Common.{◌≡◌, false, sym, ◌∙◌}
 use Rattle.fs_layout.specs.Bytes.{SectorMap}
 use Rattle.fs_layout.specs.Images.{inode_at}
 use Rattle.fs_model.specs.declared.reply.Reply.TheVariants.{Done}
-use Rattle.fs_model.specs.Scenes.{number}
 use Rattle.bit_alloc.proofs.Transactions.{spare_unchanged}
 use Rattle.sector_txn.proofs.TransactionRuns.{store_joined}
-use Rattle.path_walk.proofs.Kept.{kept, sound_kept, interrupts_later}
-use Rattle.call_parts.proofs.ByTwoPaths.{walks_refused, both_refused, both_performs}
+use Rattle.path_walk.proofs.Kept.{kept, sound_kept}
+use Rattle.call_parts.proofs.ByTwoPaths.{walks_refused, both_refused, both_broken, both_performs}
 use Rattle.call_parts.proofs.Calling.{state_kept}
 use Rattle.call_parts.proofs.FoundBoth.{finds_each}
 use Rattle.name_calls.specs.Moving.{MayMove}
 use Rattle.name_calls.specs.Renaming.{inode_there}
 use Rattle.name_calls.specs.Replacing.{same_number}
-use Rattle.name_calls.proofs.RenameRows.{Renamed, rename_by_two, rename_told, same_is, may_move, rename_changes, rename_stays}
+use Rattle.name_calls.proofs.RenameRows.{rename_by_two, rename_told, same_is, may_move, rename_changes, rename_stays}
 use Rattle.name_calls.proofs.renaming.rename.Goals as goal
 
 pub returns-in_err-walked : goal.returns-in_err-walked
@@ -32,11 +30,8 @@ pub returns-in_err-n : goal.returns-in_err-n
 returns-in_err-n g c =
     let r = c.from_residual-in_err-n.ensures in
     let x = c.in_ok-walked.ensures in
-    let a = c.in_ok-walked.walked.first in
-    let mid = (g.S.Sectors.state c.walk_both.new.s).sectors in
-    let y : ℕ × Inode × Option (ℕ × Inode) = (number a, inode_at c.args.place mid (number a), inode_there c.args.place mid c.in_ok-walked.walked.second.ino) in
-    both_refused (rename_by_two c.args.old.now c.args.new.now) x.same x.walked (g.S.Sectors.state c.check_rename.new.s) c.from_residual-in_err-n.result c.in_err-n.field-0.0 r.0 r.1
-    c.in_err-n.ensures.same.store {A = Renamed} y (λ s has at. c.in_err-n.ensures.each s (finds_each x.walked s at))
+    both_refused (rename_by_two c.args.old.now c.args.new.now) x.same x.walked (g.S.Sectors.state c.check_rename.new.s) _ _ r.0 r.1 c.in_err-n.ensures.same.store _
+    (λ s has at. c.in_err-n.ensures.each s (finds_each x.walked s at))
 
 pub returns-then-is_same : goal.returns-then-is_same
 returns-then-is_same g c =
@@ -73,12 +68,9 @@ move_name-requires g c =
 
 pub returns-in_err-move_name : goal.returns-in_err-move_name
 returns-in_err-move_name g c =
-    let r = c.from_residual-in_err-move_name.ensures in
     let x = c.in_ok-walked.ensures in
-    let new = g.S.Sectors.state c.move_name.new.s in
-    let same = c.in_ok-n.ensures.same in
-    both_refused (rename_by_two c.args.old.now c.args.new.now) x.same x.walked new c.from_residual-in_err-move_name.result c.in_err-move_name.field-0.0 r.0 r.1
-    (store_joined same.store c.in_err-move_name.ensures.store) {A = ℕ} 0 (λ s has at. inr (interrupts_later new.disk same (inr c.in_err-move_name.ensures.fault)))
+    both_broken (rename_by_two c.args.old.now c.args.new.now) x.same x.walked (g.S.Sectors.state c.move_name.new.s) _ _ c.from_residual-in_err-move_name.ensures
+    c.in_ok-n.ensures.same c.in_err-move_name.ensures.store c.in_err-move_name.ensures.fault
 
 pub returns : goal.returns
 returns g c =

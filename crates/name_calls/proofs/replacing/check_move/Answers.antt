@@ -1,47 +1,41 @@
-use Rattle.std.proofs.Common.{◌≡◌, Ok, inl, sym, ap}
-use Rattle.fs_layout.specs.declared.inode.Inode.{Inode}
+use Rattle.std.proofs.Common.{◌≡◌, sym}
 use Rattle.fs_layout.specs.Bytes.{SectorMap}
 use Rattle.fs_layout.specs.Images.{inode_at}
-use Rattle.fs_model.specs.Demands.{first_of}
-use Rattle.fs_model.specs.RenameCall.{rename_permissions, rename_kinds, rename_directories, rename_moved, rename_space}
+use Rattle.fs_model.specs.States.{State}
 use Rattle.block_map.proofs.Runs.{unchanged_joined}
-use Rattle.path_walk.specs.Answers.{refused_or}
-use Rattle.path_walk.specs.HeldTrees.{HoldsTree}
-use Rattle.call_parts.proofs.Calling.{state_tree, met_ok, answered_later}
-use Rattle.path_walk.proofs.Kept.{kept, sound_kept, answered_err}
-use Rattle.call_parts.specs.Reaching.{checked}
-use Rattle.name_calls.specs.Replacing.{move_asked}
-use Rattle.call_parts.specs.TwoPaths.{scene_with}
-use Rattle.name_calls.proofs.ReplaceAsked.{to_rename_kept, granted, kinds_met, kinds_refuse, below_refuses, replaced_refuses, directories_met, first_part, second_part, third_part, fourth_part, fifth_part, five_met}
+use Rattle.call_parts.proofs.Calling.{state_tree}
+use Rattle.path_walk.proofs.Kept.{kept, sound_kept}
+use Rattle.call_parts.proofs.Refuses.{passed, passed_later, refused_by, tree_kept}
+use Rattle.name_calls.specs.Replacing.{IsToRename}
+use Rattle.name_calls.proofs.ReplaceAsked.{MeetsThree, to_rename_kept, permissions_refuse, directory_told, kinds_refuse, below_refuses, replaced_refuses, three_parts, moved_refuses, space_refuses, all_five}
+use Rattle.name_calls.proofs.replacing.check_move.Given as given
 use Rattle.name_calls.proofs.replacing.check_move.Goals as goal
+use Rattle.name_calls.proofs.replacing.check_move.Goals.{After-check_moved}
+
+-- both names, before anything is asked
+abbrev Names : (g : given.Over) → goal.After-check_moved g → State → Type 0
+Names g c st =
+    IsToRename c.args.place (g.S.Sectors.state c.args.s.now).sectors c.args.procs.now c.args.first.now c.args.second.now c.args.n c.args.inode.now c.args.replaced.now st
+
+-- what is met before the last two parts
+met : (g : given.Over) (c : goal.After-check_moved g) (st : State) → Names g c st → MeetsThree st c.args.process.now c.args.first.now c.args.second.now
+met g c st r =
+    three_parts r c.args.process.now (c.in_ok-to_directory.ensures.each c.args.procs.now c.args.n st r) (sym c.in_ok-check_kinds.ensures)
+    (c.in_ok-check_below.ensures.each st.tree (tree_kept c.in_ok-to_directory.ensures.same (state_tree r.is_state)) r.second.directory)
+    (sym (c.in_ok-check_replaced.ensures c.args.place (g.S.Sectors.state c.args.s.now).sectors st.tree c.args.second.now (state_tree r.is_state) r.second.found r.replaced_is))
 
 pub check_permissions-requires-clause-names : goal.check_permissions-requires-clause-names
 check_permissions-requires-clause-names g c = let x = c.requires.names in (c.args.procs.now, c.args.n, x.0, x.1)
 
 pub returns-in_err-to_directory-clause-each : goal.returns-in_err-to_directory-clause-each
 returns-in_err-to_directory-clause-each g c = λ st r.
-    let k = c.from_residual.ensures in
-    let old = g.S.Sectors.state c.args.s.now in
-    let new = g.S.Sectors.state c.check_permissions.new.s in
-    let b = c.args.second.now in
-    let sc = scene_with st c.args.process.now c.args.first.now b in
-    let e = c.in_err-to_directory.field-0.0 in
-    answered_err {A = Unit {0}} old.disk new.disk (refused_or (first_of (move_asked sc)) (Ok tt)) c.from_residual.result e k.0 k.1
-    (first_part (rename_permissions sc) (rename_kinds sc) (rename_directories sc) (rename_moved sc) (rename_space sc) {A = Unit {0}} tt e old.disk new.disk
-    {B = Inode} (inode_at c.args.place old.sectors b.dir) (c.in_err-to_directory.ensures.each c.args.procs.now c.args.n st r))
+    passed (g.S.Sectors.state c.args.s.now).disk (g.S.Sectors.state c.check_permissions.new.s).disk _ _ _ c.from_residual.ensures
+    (permissions_refuse r c.args.process.now) _ (c.in_err-to_directory.ensures.each c.args.procs.now c.args.n st r)
 
 pub returns-in_err-check_kinds-clause-each : goal.returns-in_err-check_kinds-clause-each
 returns-in_err-check_kinds-clause-each g c = λ st r.
-    let k = c.from_residual-in_err-check_kinds.ensures in
-    let old = g.S.Sectors.state c.args.s.now in
-    let new = g.S.Sectors.state c.check_permissions.new.s in
-    let q = c.args.process.now in
-    let sc = scene_with st q c.args.first.now c.args.second.now in
-    let e = c.in_err-check_kinds.field-0.0 in
-    let one = granted r q (c.in_ok-to_directory.ensures.each c.args.procs.now c.args.n st r) in
-    answered_err {A = Unit {0}} old.disk new.disk (refused_or (first_of (move_asked sc)) (Ok tt)) c.from_residual-in_err-check_kinds.result e k.0 k.1
-    (second_part (rename_permissions sc) (rename_kinds sc) (rename_directories sc) (rename_moved sc) (rename_space sc) {A = Unit {0}} tt e old.disk new.disk
-    {B = Unit {0}} tt one.0 (inl (kinds_refuse r q (sym c.in_err-check_kinds.ensures))))
+    refused_by (g.S.Sectors.state c.args.s.now).disk (g.S.Sectors.state c.check_permissions.new.s).disk _ _ _ c.from_residual-in_err-check_kinds.ensures
+    (kinds_refuse r c.args.process.now (c.in_ok-to_directory.ensures.each c.args.procs.now c.args.n st r)) (sym c.in_err-check_kinds.ensures)
 
 pub check_below-requires-clause-sound : goal.check_below-requires-clause-sound
 check_below-requires-clause-sound g c = sound_kept c.in_ok-to_directory.ensures.same c.requires.sound
@@ -49,49 +43,26 @@ check_below-requires-clause-sound g c = sound_kept c.in_ok-to_directory.ensures.
 pub check_below-requires-clause-there : goal.check_below-requires-clause-there
 check_below-requires-clause-there g c =
     let x = c.requires.names in
-    (x.0.tree, kept (λ (m : SectorMap). HoldsTree c.args.place m x.0.tree) c.in_ok-to_directory.ensures.same (state_tree x.1.is_state), x.1.second.directory)
+    (x.0.tree, tree_kept c.in_ok-to_directory.ensures.same (state_tree x.1.is_state), x.1.second.directory)
 
 pub returns-in_err-check_below-clause-each : goal.returns-in_err-check_below-clause-each
 returns-in_err-check_below-clause-each g c = λ st r.
-    let k = c.from_residual-in_err-check_below.ensures in
-    let p = c.args.place in
-    let old = g.S.Sectors.state c.args.s.now in
-    let mid = g.S.Sectors.state c.check_permissions.new.s in
-    let new = g.S.Sectors.state c.check_below.new.s in
-    let q = c.args.process.now in
-    let sc = scene_with st q c.args.first.now c.args.second.now in
-    let e = c.in_err-check_below.field-0.0 in
     let same = c.in_ok-to_directory.ensures.same in
-    let one = granted r q (c.in_ok-to_directory.ensures.each c.args.procs.now c.args.n st r) in
-    let two = kinds_met r q (sym c.in_ok-check_kinds.ensures) in
-    answered_err {A = Unit {0}} old.disk new.disk (refused_or (first_of (move_asked sc)) (Ok tt)) c.from_residual-in_err-check_below.result e k.0 k.1
-    (third_part (rename_permissions sc) (rename_kinds sc) (rename_directories sc) (rename_moved sc) (rename_space sc) {A = Unit {0}} tt e old.disk new.disk
-    {B = Unit {0}} tt one.0 two
-    (answered_later {A = Unit {0}} {right = checked (first_of (rename_directories sc))} new.disk same
-    (below_refuses r q e mid.disk new.disk
-    (c.in_err-check_below.ensures.each st.tree (kept (λ (m : SectorMap). HoldsTree p m st.tree) same (state_tree r.is_state)) r.second.directory))))
+    passed_later (g.S.Sectors.state c.check_below.new.s).disk _ _ _ c.from_residual-in_err-check_below.ensures same
+    (below_refuses r c.args.process.now (c.in_ok-to_directory.ensures.each c.args.procs.now c.args.n st r) (sym c.in_ok-check_kinds.ensures)) tt
+    (c.in_err-check_below.ensures.each st.tree (tree_kept same (state_tree r.is_state)) r.second.directory)
 
 pub returns-in_err-check_below-clause-same : goal.returns-in_err-check_below-clause-same
 returns-in_err-check_below-clause-same g c = unchanged_joined c.in_ok-to_directory.ensures.same c.in_err-check_below.ensures.same
 
 pub returns-in_err-check_replaced-clause-each : goal.returns-in_err-check_replaced-clause-each
 returns-in_err-check_replaced-clause-each g c = λ st r.
-    let k = c.from_residual-in_err-check_replaced.ensures in
-    let p = c.args.place in
     let old = g.S.Sectors.state c.args.s.now in
-    let new = g.S.Sectors.state c.check_below.new.s in
-    let b = c.args.second.now in
-    let q = c.args.process.now in
-    let sc = scene_with st q c.args.first.now b in
-    let e = c.in_err-check_replaced.field-0.0 in
-    let same = c.in_ok-to_directory.ensures.same in
-    let one = granted r q (c.in_ok-to_directory.ensures.each c.args.procs.now c.args.n st r) in
-    let two = kinds_met r q (sym c.in_ok-check_kinds.ensures) in
-    let below = c.in_ok-check_below.ensures.each st.tree (kept (λ (m : SectorMap). HoldsTree p m st.tree) same (state_tree r.is_state)) r.second.directory in
-    answered_err {A = Unit {0}} old.disk new.disk (refused_or (first_of (move_asked sc)) (Ok tt)) c.from_residual-in_err-check_replaced.result e k.0 k.1
-    (third_part (rename_permissions sc) (rename_kinds sc) (rename_directories sc) (rename_moved sc) (rename_space sc) {A = Unit {0}} tt e old.disk new.disk
-    {B = Unit {0}} tt one.0 two
-    (inl (replaced_refuses r q below (sym (c.in_err-check_replaced.ensures p old.sectors st.tree b (state_tree r.is_state) r.second.found r.replaced_is)))))
+    let h = state_tree r.is_state in
+    refused_by old.disk (g.S.Sectors.state c.check_below.new.s).disk _ _ _ c.from_residual-in_err-check_replaced.ensures
+    (replaced_refuses r c.args.process.now (c.in_ok-to_directory.ensures.each c.args.procs.now c.args.n st r) (sym c.in_ok-check_kinds.ensures)
+    (c.in_ok-check_below.ensures.each st.tree (tree_kept c.in_ok-to_directory.ensures.same h) r.second.directory))
+    (sym (c.in_err-check_replaced.ensures c.args.place old.sectors st.tree c.args.second.now h r.second.found r.replaced_is))
 
 pub returns-in_err-check_replaced-clause-same : goal.returns-in_err-check_replaced-clause-same
 returns-in_err-check_replaced-clause-same g c = unchanged_joined c.in_ok-to_directory.ensures.same c.in_ok-check_below.ensures.same
@@ -106,26 +77,10 @@ check_moved-requires-clause-names g c =
 
 pub returns-in_err-check_moved-clause-each : goal.returns-in_err-check_moved-clause-each
 returns-in_err-check_moved-clause-each g c = λ st r.
-    let k = c.from_residual-in_err-check_moved.ensures in
-    let p = c.args.place in
-    let old = g.S.Sectors.state c.args.s.now in
-    let mid = g.S.Sectors.state c.check_below.new.s in
-    let new = g.S.Sectors.state c.check_moved.new.s in
-    let b = c.args.second.now in
-    let q = c.args.process.now in
-    let sc = scene_with st q c.args.first.now b in
-    let e = c.in_err-check_moved.field-0.0 in
-    let same = c.in_ok-to_directory.ensures.same in
-    let joined = unchanged_joined same c.in_ok-check_below.ensures.same in
-    let one = granted r q (c.in_ok-to_directory.ensures.each c.args.procs.now c.args.n st r) in
-    let two = kinds_met r q (sym c.in_ok-check_kinds.ensures) in
-    let below = c.in_ok-check_below.ensures.each st.tree (kept (λ (m : SectorMap). HoldsTree p m st.tree) same (state_tree r.is_state)) r.second.directory in
-    let three = directories_met r q below (sym (c.in_ok-check_replaced.ensures p old.sectors st.tree b (state_tree r.is_state) r.second.found r.replaced_is)) in
-    answered_err {A = Unit {0}} old.disk new.disk (refused_or (first_of (move_asked sc)) (Ok tt)) c.from_residual-in_err-check_moved.result e k.0 k.1
-    (fourth_part (rename_permissions sc) (rename_kinds sc) (rename_directories sc) (rename_moved sc) (rename_space sc) {A = Unit {0}} tt e old.disk new.disk
-    {B = Unit {0}} tt one.0 two three
-    (answered_later {A = Unit {0}} {right = checked (first_of (rename_moved sc))} new.disk joined
-    (c.in_err-check_moved.ensures.each c.args.procs.now c.args.n c.args.replaced.now st (to_rename_kept joined r))))
+    let joined = unchanged_joined c.in_ok-to_directory.ensures.same c.in_ok-check_below.ensures.same in
+    passed_later (g.S.Sectors.state c.check_moved.new.s).disk _ _ _ c.from_residual-in_err-check_moved.ensures joined
+    (moved_refuses (met g (goal.at.returns-in_err-check_moved-clause-each g c).After-check_moved st r)) tt
+    (c.in_err-check_moved.ensures.each c.args.procs.now c.args.n c.args.replaced.now st (to_rename_kept joined r))
 
 pub returns-in_err-check_moved-clause-same : goal.returns-in_err-check_moved-clause-same
 returns-in_err-check_moved-clause-same g c =
@@ -138,30 +93,15 @@ check_space-requires g c = record {
 
 pub returns-in_err-check_space-clause-each : goal.returns-in_err-check_space-clause-each
 returns-in_err-check_space-clause-each g c = λ st r.
-    let k = c.from_residual-in_err-check_space.ensures in
-    let p = c.args.place in
-    let old = g.S.Sectors.state c.args.s.now in
-    let mid = g.S.Sectors.state c.check_moved.new.s in
-    let new = g.S.Sectors.state c.check_space.new.s in
-    let b = c.args.second.now in
     let q = c.args.process.now in
-    let sc = scene_with st q c.args.first.now b in
-    let e = c.in_err-check_space.field-0.0 in
-    let same = c.in_ok-to_directory.ensures.same in
-    let joined = unchanged_joined same c.in_ok-check_below.ensures.same in
+    let joined = unchanged_joined c.in_ok-to_directory.ensures.same c.in_ok-check_below.ensures.same in
     let all = unchanged_joined joined c.in_ok-check_moved.ensures.same in
-    let one = granted r q (c.in_ok-to_directory.ensures.each c.args.procs.now c.args.n st r) in
-    let two = kinds_met r q (sym c.in_ok-check_kinds.ensures) in
-    let below = c.in_ok-check_below.ensures.each st.tree (kept (λ (m : SectorMap). HoldsTree p m st.tree) same (state_tree r.is_state)) r.second.directory in
-    let three = directories_met r q below (sym (c.in_ok-check_replaced.ensures p old.sectors st.tree b (state_tree r.is_state) r.second.found r.replaced_is)) in
-    let four = (met_ok {A = Unit {0}} (first_of (rename_moved sc)) tt tt
-    (c.in_ok-check_moved.ensures.each c.args.procs.now c.args.n c.args.replaced.now st (to_rename_kept joined r))).0 in
-    answered_err {A = Unit {0}} old.disk new.disk (refused_or (first_of (move_asked sc)) (Ok tt)) c.from_residual-in_err-check_space.result e k.0 k.1
-    (fifth_part (rename_permissions sc) (rename_kinds sc) (rename_directories sc) (rename_moved sc) (rename_space sc) {A = Unit {0}} tt e old.disk new.disk
-    {B = Unit {0}} tt one.0 two three four
-    (answered_later {A = Unit {0}} {right = checked (first_of (rename_space sc))} new.disk all
+    passed_later (g.S.Sectors.state c.check_space.new.s).disk _ _ _ c.from_residual-in_err-check_space.ensures all
+    (space_refuses (met g (goal.at.returns-in_err-check_space-clause-each g c).After-check_moved st r)
+    (c.in_ok-check_moved.ensures.each c.args.procs.now c.args.n c.args.replaced.now st (to_rename_kept joined r))) tt
     (c.in_err-check_space.ensures.each c.args.procs.now q c.args.n c.args.inode.now c.args.replaced.now st (to_rename_kept all r)
-    (kept (λ (m : SectorMap). c.in_ok-to_directory.to_directory ≡ inode_at p m b.dir) all (sym one.1)))))
+    (kept (λ (m : SectorMap). c.in_ok-to_directory.to_directory ≡ inode_at c.args.place m c.args.second.now.dir) all
+    (directory_told r q (c.in_ok-to_directory.ensures.each c.args.procs.now c.args.n st r))))
 
 pub returns-in_err-check_space-clause-same : goal.returns-in_err-check_space-clause-same
 returns-in_err-check_space-clause-same g c =
@@ -170,24 +110,13 @@ returns-in_err-check_space-clause-same g c =
 
 pub returns-clause-each : goal.returns-clause-each
 returns-clause-each g c = λ st r.
-    let p = c.args.place in
-    let old = g.S.Sectors.state c.args.s.now in
-    let b = c.args.second.now in
-    let q = c.args.process.now in
-    let sc = scene_with st q c.args.first.now b in
-    let same = c.in_ok-to_directory.ensures.same in
-    let joined = unchanged_joined same c.in_ok-check_below.ensures.same in
+    let joined = unchanged_joined c.in_ok-to_directory.ensures.same c.in_ok-check_below.ensures.same in
     let all = unchanged_joined joined c.in_ok-check_moved.ensures.same in
-    let one = granted r q (c.in_ok-to_directory.ensures.each c.args.procs.now c.args.n st r) in
-    let two = kinds_met r q (sym c.in_ok-check_kinds.ensures) in
-    let below = c.in_ok-check_below.ensures.each st.tree (kept (λ (m : SectorMap). HoldsTree p m st.tree) same (state_tree r.is_state)) r.second.directory in
-    let three = directories_met r q below (sym (c.in_ok-check_replaced.ensures p old.sectors st.tree b (state_tree r.is_state) r.second.found r.replaced_is)) in
-    let four = (met_ok {A = Unit {0}} (first_of (rename_moved sc)) tt tt
-    (c.in_ok-check_moved.ensures.each c.args.procs.now c.args.n c.args.replaced.now st (to_rename_kept joined r))).0 in
-    let five = (met_ok {A = Unit {0}} (first_of (rename_space sc)) tt tt
-    (c.in_ok-check_space.ensures.each c.args.procs.now q c.args.n c.args.inode.now c.args.replaced.now st (to_rename_kept all r)
-    (kept (λ (m : SectorMap). c.in_ok-to_directory.to_directory ≡ inode_at p m b.dir) all (sym one.1)))).0 in
-    ap checked (five_met (rename_permissions sc) (rename_kinds sc) (rename_directories sc) (rename_moved sc) (rename_space sc) one.0 two three four five)
+    all_five (met g (goal.at.returns-clause-each g c).After-check_moved st r)
+    (c.in_ok-check_moved.ensures.each c.args.procs.now c.args.n c.args.replaced.now st (to_rename_kept joined r))
+    (c.in_ok-check_space.ensures.each c.args.procs.now c.args.process.now c.args.n c.args.inode.now c.args.replaced.now st (to_rename_kept all r)
+    (kept (λ (m : SectorMap). c.in_ok-to_directory.to_directory ≡ inode_at c.args.place m c.args.second.now.dir) all
+    (directory_told r c.args.process.now (c.in_ok-to_directory.ensures.each c.args.procs.now c.args.n st r))))
 
 pub returns-clause-same : goal.returns-clause-same
 returns-clause-same g c =

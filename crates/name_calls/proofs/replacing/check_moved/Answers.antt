@@ -1,13 +1,10 @@
 use Rattle.std.proofs.Common.{rules, ◌≡◌, false, ap}
 use Rattle.fs_layout.specs.declared.inode.Kind.TheVariants as kinds
-use Rattle.fs_model.specs.Demands.{first_of}
-use Rattle.fs_model.specs.RenameCall.{rename_moved}
 use Rattle.fs_model.specs.Rules.{is_directory_kind}
 use Rattle.call_parts.proofs.Calling.{state_tree}
 use Rattle.path_walk.proofs.HeldNodes.{number_below}
-use Rattle.path_walk.proofs.Kept.{answered_err}
+use Rattle.call_parts.proofs.Refuses.{passed}
 use Rattle.call_parts.specs.Reaching.{checked}
-use Rattle.call_parts.specs.TwoPaths.{scene_with}
 use Rattle.name_calls.proofs.ReplaceAsked.{other_moved, same_moved, moved_access, moved_held, moved_denied, moved_met}
 use Rattle.name_calls.proofs.replacing.check_moved.Goals as goal
 
@@ -34,15 +31,10 @@ permitted-requires-clause-has g c =
 
 pub returns-in_err-permitted-clause-each : goal.returns-in_err-permitted-clause-each
 returns-in_err-permitted-clause-each g c = λ desks n there st r.
-    let k = c.from_residual.ensures in
-    let old = g.S.Sectors.state c.args.s.now in
-    let new = g.S.Sectors.state c.permitted.new.s in
     let q = c.args.process.now in
-    let sc = scene_with st q c.args.first.now c.args.second.now in
-    let e = c.in_err-permitted.field-0.0 in
     let kind : c.args.inode.now.kind ≡ kinds.Directory = search rules in
-    answered_err {A = Unit {0}} old.disk new.disk (checked (first_of (rename_moved sc))) c.from_residual.result e k.0 k.1
-    (moved_denied r q kind c.if-first-second.false {A = Unit {0}} tt e old.disk new.disk c.cred-cred.ensures (c.in_err-permitted.ensures.each (moved_access r q kind) (moved_held r q kind)))
+    passed (g.S.Sectors.state c.args.s.now).disk (g.S.Sectors.state c.permitted.new.s).disk _ _ _ c.from_residual.ensures
+    (moved_denied r q kind c.if-first-second.false c.cred-cred.ensures) _ (c.in_err-permitted.ensures.each (moved_access r q kind) (moved_held r q kind))
 
 pub returns-clause-each : goal.returns-clause-each
 returns-clause-each g c = λ desks n there st r.
