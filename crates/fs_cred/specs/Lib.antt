@@ -1,6 +1,7 @@
 pub mod Errnos
 pub mod Refusals
 pub mod Permissions
+pub mod Capabilities
 pub mod Credentials
 pub mod Decisions
 pub mod Verdicts

@@ -5,11 +5,12 @@ use Rattle.posix_acl.specs.declared.entry.Perms.{Perms}
 use Rattle.posix_acl.specs.AccessList.{AccessList}
 use Rattle.fs_cred.specs.declared.node.Node.{Node}
 use Rattle.fs_cred.specs.declared.rule.Rule.{Rule}
-use Rattle.fs_cred.specs.declared.rule.Rule.TheVariants.{Owner, NamedUser, OwningGroup, NamedGroup, Mask, Other, Superuser, NoExecuteBit}
+use Rattle.fs_cred.specs.declared.rule.Rule.TheVariants.{Owner, NamedUser, OwningGroup, NamedGroup, Mask, Other, Capability, NoExecuteBit}
 use Rattle.fs_cred.specs.declared.rule.Verdict.{Verdict}
 use Rattle.fs_cred.specs.Permissions.{holds, nothing}
-use Rattle.fs_cred.specs.Credentials.{Credential, is_superuser, is_member}
-use Rattle.fs_cred.specs.Decisions.{lacks_execute_bit, passes_mask}
+use Rattle.fs_cred.specs.Capabilities.{cap_dac_override, cap_dac_read_search}
+use Rattle.fs_cred.specs.Credentials.{Credential, is_capable, is_member}
+use Rattle.fs_cred.specs.Decisions.{lacks_execute_bit, may_read_search, passes_mask}
 
 abbrev pub verdict_of : Bool → Rule → Verdict
 verdict_of granted rule = record { yes = granted; rule = rule }
@@ -34,8 +35,9 @@ first_of_groups cred node want =
 abbrev pub past_mask : AccessList → Perms → Rule → Verdict
 past_mask acl want rule = if passes_mask acl.mask want then verdict_of true rule else verdict_of false Mask
 
-abbrev pub by_superuser : Node → Perms → Verdict
-by_superuser node want = if lacks_execute_bit node want then verdict_of false NoExecuteBit else verdict_of true Superuser
+abbrev pub by_override : Node → Perms → Verdict
+by_override node want =
+    if lacks_execute_bit node want then verdict_of false NoExecuteBit else verdict_of true (Capability cap_dac_override)
 
 -- an entry that the mask has no say in
 abbrev pub by_entry : Perms → Perms → Rule → Verdict
@@ -58,8 +60,14 @@ abbrev pub by_user_found : Credential → Node → Perms → Option Perms → Ve
 by_user_found cred node want (Some perms) = by_named_user node want cred.uid perms
 by_user_found cred node want None = by_groups cred node want
 
+-- the cases of acl(5)
+abbrev pub by_entries : Credential → Node → Perms → Verdict
+by_entries cred node want =
+    if cred.uid == node.owner then by_entry node.acl.owner want Owner
+    else by_user_found cred node want (perms_named cred.uid node.acl.users)
+
 unfoldable pub verdict : Credential → Node → Perms → Verdict
 verdict cred node want =
-    if is_superuser cred then by_superuser node want
-    else (if cred.uid == node.owner then by_entry node.acl.owner want Owner
-    else by_user_found cred node want (perms_named cred.uid node.acl.users))
+    if is_capable cred cap_dac_override then by_override node want
+    else (if may_read_search cred node.kind want then verdict_of true (Capability cap_dac_read_search)
+    else by_entries cred node want)

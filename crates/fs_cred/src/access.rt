@@ -1,10 +1,11 @@
 //! The access check, after acl(5), "ACCESS CHECK ALGORITHM".
 ghost use Rattle.std.specs.Prelude.{◌≡◌, true, false};
 ghost use Rattle.posix_acl.specs.AccessList.{IsAcl};
-ghost use Rattle.fs_cred.specs.Decisions.{Decides, has_execute_bit};
+ghost use Rattle.fs_cred.specs.Decisions.{Decides, has_execute_bit, may_read_search, read_search};
 ghost use Rattle.fs_cred.specs.Scans.{group_rule};
-ghost use Rattle.fs_cred.specs.Verdicts.{by_entry, by_groups, by_named_user, by_superuser, first_of_groups, past_mask, perms_named, verdict, verdict_of};
+ghost use Rattle.fs_cred.specs.Verdicts.{by_entry, by_groups, by_named_user, by_override, first_of_groups, past_mask, perms_named, verdict, verdict_of};
 
+use crate::caps::Caps;
 use crate::cred::Cred;
 use crate::node::{Node, NodeKind};
 use crate::permissions::{NOTHING, holds};
@@ -12,14 +13,17 @@ use crate::rule::{Rule, Verdict};
 use posix_acl::{Acl, Entry, Perms, Tag};
 
 /// Whether this caller may do all of `want` to this node, and which rule says so. The first case that applies
-/// decides: the superuser, the owner, a named user, the groups that the caller is in, and everyone else.
+/// decides: `DAC_OVERRIDE`; `DAC_READ_SEARCH`, if it is good for all of `want`; the owner, a named user, the groups that the
+/// caller is in, and everyone else.
 #[tactic(auto, unfolding(crate::specs::Verdicts::verdict))]
 pub fn decide(cred: &Cred, node: &Node, want: Perms) -> Verdict
     ensures decides { Decides cred.now node.now want result.yes result.rule }
     ensures computed { result ≡ verdict cred.now node.now want }
 {
-    if cred.is_superuser() {
-        by_superuser(node, want)
+    if cred.is_capable(Caps::DAC_OVERRIDE) {
+        by_override(node, want)
+    } else if may_read_search(cred, node.kind, want) {
+        granted(Rule::Capability(Caps::DAC_READ_SEARCH))
     } else if cred.uid() == node.owner {
         by_entry(node.acl.owner(), want, Rule::Owner)
     } else if let Some(perms) = named_user(&node.acl, cred.uid()) {
@@ -29,14 +33,31 @@ pub fn decide(cred: &Cred, node: &Node, want: Perms) -> Verdict
     }
 }
 
-// The superuser may do everything, but not execute a regular file that has no execute bit.
-fn by_superuser(node: &Node, want: Perms) -> Verdict
-    ensures { result ≡ by_superuser node.now want }
+// Who has DAC_OVERRIDE may do everything, but not execute a regular file that has no execute bit.
+fn by_override(node: &Node, want: Perms) -> Verdict
+    ensures { result ≡ by_override node.now want }
 {
     if want.execute && matches!(node.kind, NodeKind::File) && !has_execute_bit(&node.acl) {
         refused(Rule::NoExecuteBit)
     } else {
-        granted(Rule::Superuser)
+        granted(Rule::Capability(Caps::DAC_OVERRIDE))
+    }
+}
+
+// Who has DAC_READ_SEARCH may read a file, and read and search a directory. It is not asked for a part of what is wanted.
+fn may_read_search(cred: &Cred, kind: NodeKind, want: Perms) -> bool
+    ensures { result ≡ may_read_search cred.now kind want }
+{
+    cred.is_capable(Caps::DAC_READ_SEARCH) && holds(read_search(kind), want)
+}
+
+fn read_search(kind: NodeKind) -> Perms
+    ensures { result ≡ read_search kind }
+{
+    Perms {
+        read: true,
+        write: false,
+        execute: matches!(kind, NodeKind::Directory),
     }
 }
 

@@ -2,6 +2,8 @@
 ghost use Rattle.std.specs.Prelude.{◌≡◌, ◌<◌, ◌↔◌, Err, length, IfOk};
 ghost use Rattle.fs_cred.specs.declared.cred.CredFault.TheVariants.{OutOfMemory, TooManyGroups};
 
+use crate::caps::Caps;
+use bitflags::Flags;
 use std::alloc::{AllocError, Global};
 use std::marker::Model;
 
@@ -25,30 +27,49 @@ impl From<AllocError> for CredFault {
     }
 }
 
-/// Who asks: a user, a group, and up to 16 supplementary groups.
+/// Who asks: a user, a group, up to 16 supplementary groups, and capabilities.
 #[derive(Drop)]
 pub struct Cred {
     uid: u32,
     gid: u32,
     groups: Vec<u32>,
+    caps: Caps,
 }
 
 impl Model for Cred {
-    ghost use Rattle.fs_cred.specs.Credentials.{Credential, IsCredential};
+    ghost use Rattle.fs_cred.specs.Credentials.{Credential, IsCredential, credential};
 
     ghost Value = { Credential };
 
-    ghost view = { λ c. record { uid = c.uid; gid = c.gid; groups = c.groups.items } };
+    ghost view = { λ c. credential c.uid c.gid c.groups.items c.caps };
 
-    ghost invariant = { λ c. IsCredential (record { uid = c.uid; gid = c.gid; groups = c.groups.items }) };
+    ghost invariant = { λ c. IsCredential (credential c.uid c.gid c.groups.items c.caps) };
 }
 
 impl Cred {
-    ghost use Rattle.fs_cred.specs.Credentials.{IsCredential, is_member, is_superuser};
+    ghost use Rattle.fs_cred.specs.Credentials.{IsCredential, credential, is_capable, is_member, usual_credential};
 
-    /// The credential of a user with these groups, which may hold `gid` and repeat one another.
+    /// The credential of a user with these groups, which may hold `gid` and repeat one another. User 0 has all capabilities,
+    /// and others have none.
     pub fn new(alloc: Global, uid: u32, gid: u32, groups: &[u32]) -> Result<Cred, CredFault>
-        ensures ok { IfOk result (λ cred. cred ≡ record { uid = uid; gid = gid; groups = groups.now }) }
+        ensures ok { IfOk result (λ cred. cred ≡ usual_credential uid gid groups.now) }
+        ensures many { (result ≡ Err TooManyGroups) ↔ (16 < length groups.now) }
+    {
+        if uid == 0 {
+            return Cred::with_caps(alloc, uid, gid, groups, Caps::all());
+        }
+        Cred::with_caps(alloc, uid, gid, groups, Caps::empty())
+    }
+
+    /// The same with these capabilities and no others.
+    pub fn with_caps(
+        alloc: Global,
+        uid: u32,
+        gid: u32,
+        groups: &[u32],
+        caps: Caps,
+    ) -> Result<Cred, CredFault>
+        ensures ok { IfOk result (λ cred. cred ≡ credential uid gid groups.now caps) }
         ensures many { (result ≡ Err TooManyGroups) ↔ (16 < length groups.now) }
     {
         if groups.len() > MAX_GROUPS {
@@ -58,6 +79,7 @@ impl Cred {
             uid,
             gid,
             groups: Vec::from_slice(alloc, groups)?,
+            caps,
         })
     }
 
@@ -83,6 +105,13 @@ impl Cred {
         &self.groups
     }
 
+    /// The capabilities.
+    pub fn caps(&self) -> Caps
+        ensures { result ≡ self.now.caps }
+    {
+        self.caps
+    }
+
     /// The same credential once more.
     pub fn try_clone(&self, alloc: Global) -> Result<Cred, AllocError>
         ensures same { IfOk result (λ copy. copy ≡ self.now) }
@@ -92,14 +121,15 @@ impl Cred {
             uid: self.uid,
             gid: self.gid,
             groups: Vec::from_slice(alloc, &self.groups)?,
+            caps: self.caps,
         })
     }
 
-    /// Whether the user is the superuser, who has the id 0.
-    pub fn is_superuser(&self) -> bool
-        ensures { result ≡ is_superuser self.now }
+    /// Whether all of these are among the capabilities.
+    pub fn is_capable(&self, caps: Caps) -> bool
+        ensures { result ≡ is_capable self.now caps }
     {
-        self.uid == 0
+        self.caps.contains(caps)
     }
 
     /// Whether this is the user's own group or a supplementary one.

@@ -3,6 +3,7 @@
 #![tactic(auto)]
 
 mod access;
+mod caps;
 mod cred;
 mod errno;
 mod laws;
@@ -15,6 +16,7 @@ mod rule;
 mod tests;
 
 pub use access::decide;
+pub use caps::Caps;
 pub use cred::{Cred, CredFault, MAX_GROUPS};
 pub use errno::Errno;
 pub use laws::one_answer;

@@ -1,4 +1,5 @@
 //! Rules and verdicts.
+use crate::caps::Caps;
 
 /// What a decision rests on: the entry or the case that grants or refuses.
 #[derive(Clone, Copy, PartialEq, Eq)]
@@ -15,17 +16,17 @@ pub enum Rule {
     Mask,
     /// The entry of others.
     Other,
-    /// The superuser may do it.
-    Superuser,
-    /// Not even the superuser executes a regular file that has no execute bit.
+    /// The caller has this capability.
+    Capability(Caps),
+    /// Not even with `DAC_OVERRIDE` does one execute a regular file that has no execute bit.
     NoExecuteBit,
-    /// The caller is neither the owner nor the superuser.
+    /// The caller isn't the owner, and has no capability that stands for it.
     NotOwner,
-    /// Only the superuser gives a file to another owner.
-    NotSuperuser,
+    /// It takes a capability to give an object to another owner.
+    NoCapability,
     /// The caller is not in the group that the file is to have.
     NotMember,
-    /// The directory has its sticky bit set, and the caller owns neither it nor the object.
+    /// The directory has its sticky bit set, and the caller counts as the owner of neither it nor the object.
     Sticky,
 }
 

@@ -9,6 +9,8 @@ use Rattle.fs_cred.specs.declared.errno.Errno.{Errno}
 use Rattle.fs_cred.specs.declared.refusal.Need.{Need}
 use Rattle.fs_cred.specs.declared.refusal.Refusal.TheVariants.{Denied, Failed}
 use Rattle.fs_cred.specs.declared.rule.Rule.{Rule}
+use Rattle.fs_cred.specs.declared.caps.Caps.{Caps}
+use Rattle.fs_cred.specs.Credentials.{credential, usual_credential}
 use Rattle.fs_cred.specs.Refusals.{need_errno}
 use Rattle.fs_cred.specs.Verdicts.{verdict}
 use Rattle.fs_model.specs.declared.call.Flags.{Flags}
@@ -63,7 +65,10 @@ state_of s (e ∷ es) = let r = went s e (firm_refusal s e) (other_refusal s e) 
 -- ---- words for events and replies
 
 abbrev pub user : ℕ → ℕ → List ℕ → Event
-user uid gid groups = Spawn (record { uid = uid; gid = gid; groups = groups })
+user uid gid groups = Spawn (usual_credential uid gid groups)
+
+abbrev pub capable : ℕ → ℕ → Caps → Event
+capable uid gid caps = Spawn (credential uid gid [] caps)
 
 abbrev pub to_read : Flags
 to_read = record { read = true; write = false; create = false; excl = false; trunc = false; append = false; nofollow = false; directory = false; opens = refl }

@@ -3,24 +3,25 @@ use Rattle.std.specs.Prelude.{◌≡◌, ℕ, [], ◌∷◌, codes, None, Some}
 use Rattle.std.proofs.Common.{refl}
 use Rattle.posix_acl.specs.Entries.{perms_of}
 use Rattle.posix_acl.specs.AccessList.{AccessList}
-use Rattle.fs_cred.specs.declared.refusal.Need.TheVariants.{Perm, Chown, Chgrp, Remove}
-use Rattle.fs_cred.specs.declared.rule.Rule.TheVariants.{Owner, NamedUser, NamedGroup, Mask as MaskRule, Other, Superuser, NoExecuteBit, NotSuperuser, NotMember, Sticky}
+use Rattle.fs_cred.specs.declared.refusal.Need.TheVariants.{Perm, Own, Chown, Chgrp, Remove}
+use Rattle.fs_cred.specs.declared.rule.Rule.TheVariants.{Owner, NamedUser, NamedGroup, Mask as MaskRule, Other, Capability, NoExecuteBit, NotOwner, NoCapability, NotMember, Sticky}
+use Rattle.fs_cred.specs.Capabilities.{cap_chown, cap_dac_override, cap_dac_read_search, cap_fowner, cap_fsetid, no_caps}
 use Rattle.fs_cred.specs.Verdicts.{verdict}
 use Rattle.fs_model.specs.declared.call.AclType.TheVariants.{Access as AccessAcl, Default as DefaultAcl}
-use Rattle.fs_model.specs.declared.call.Call.TheVariants.{Open, Stat, Access, Chmod, Chown as ChownCall, GetAcl, SetAcl, Mkdir, Unlink, Umask}
-use Rattle.fs_model.specs.declared.reply.Reply.TheVariants.{Done, Pid, Fd, Mask, Granted, Acl}
+use Rattle.fs_model.specs.declared.call.Call.TheVariants.{Open, Write, Stat, Access, Chmod, Chown as ChownCall, GetAcl, SetAcl, Mkdir, Unlink, Umask}
+use Rattle.fs_model.specs.declared.reply.Reply.TheVariants.{Done, Pid, Fd, Wrote, Mask, Granted, Acl}
 use Rattle.fs_model.specs.declared.event.Event.TheVariants.{Call as Calls}
 use Rattle.fs_model.specs.Trails.{trail_of}
 use Rattle.fs_model.specs.Walks.{first_refusal, found_of}
 use Rattle.fs_model.specs.Rows.{row_of}
 use Rattle.fs_model.specs.Steps.{firm_refusal, other_refusal, after}
-use Rattle.fs_model.proofs.Machine.{fresh, replies, then_replies, user, to_write, denied, shows_file, shows_directory}
+use Rattle.fs_model.proofs.Machine.{fresh, replies, then_replies, user, capable, to_write, to_read_write, denied, shows_file, shows_directory}
 
 -- the empty root is user 0's, and others may read and search it
 pub the_empty_root : replies fresh (
     user 0 0 [] ∷ Calls 1 (Stat (codes "/")) ∷ Calls 1 (Access (codes "/") (perms_of 7)) ∷ user 1000 100 []
     ∷ Calls 2 (Access (codes "/") (perms_of 7)) ∷ Calls 2 (Access (codes "/") (perms_of 5)) ∷ []) ≡
-    Pid 1 ∷ shows_directory 1 0o755 0 0 0 ∷ Granted Superuser ∷ Pid 2
+    Pid 1 ∷ shows_directory 1 0o755 0 0 0 ∷ Granted (Capability cap_dac_override) ∷ Pid 2
     ∷ denied 1 0 (Perm (perms_of 7)) Other ∷ Granted Other ∷ []
 unfolding verdict trail_of first_refusal found_of row_of firm_refusal other_refusal after
 the_empty_root = refl
@@ -87,11 +88,11 @@ pub default_acls : then_replies (
 unfolding verdict trail_of first_refusal found_of row_of firm_refusal other_refusal after
 default_acls = refl
 
--- user 0 executes what somebody may execute
+-- by CAP_DAC_OVERRIDE user 0 executes what somebody may execute
 pub execute_bits : then_replies (
     Calls 1 (Open (codes "/x") to_write 0o644) ∷ Calls 1 (Access (codes "/x") (perms_of 1)) ∷ Calls 1 (Chmod (codes "/x") 0o1)
     ∷ Calls 1 (Access (codes "/x") (perms_of 1)) ∷ []) ≡
-    Fd 0 ∷ denied 1 1 (Perm (perms_of 1)) NoExecuteBit ∷ Done ∷ Granted Superuser ∷ []
+    Fd 0 ∷ denied 1 1 (Perm (perms_of 1)) NoExecuteBit ∷ Done ∷ Granted (Capability cap_dac_override) ∷ []
 unfolding verdict trail_of first_refusal found_of row_of firm_refusal other_refusal after
 execute_bits = refl
 
@@ -110,6 +111,24 @@ pub set_group_id : then_replies (
     ∷ Calls 2 (Chmod (codes "/g") 0o2770) ∷ Calls 2 (Stat (codes "/g")) ∷ Calls 2 (ChownCall (codes "/g") None (Some 7))
     ∷ Calls 2 (ChownCall (codes "/g") (Some 0) None) ∷ []) ≡
     Done ∷ Done ∷ Done ∷ Done ∷ shows_directory 4 0o2755 1000 500 0 ∷ Fd 0 ∷ shows_file 5 0o644 1 1000 500 0 ∷ Done
-    ∷ shows_directory 3 0o770 1000 500 256 ∷ denied 1 1 Chgrp NotMember ∷ denied 1 1 Chown NotSuperuser ∷ []
+    ∷ shows_directory 3 0o770 1000 500 256 ∷ denied 1 1 Chgrp NotMember ∷ denied 1 1 Chown NoCapability ∷ []
 unfolding verdict trail_of first_refusal found_of row_of firm_refusal other_refusal after
 set_group_id = refl
+
+-- a capability passes what it is named for, and user 0 without any has the rights of its ids alone
+pub capabilities : replies fresh (
+    user 0 0 [] ∷ Calls 1 (Umask 0) ∷ Calls 1 (Open (codes "/f") to_read_write 0o600) ∷ Calls 1 (Write 0 (codes "hi"))
+    ∷ capable 1000 100 cap_dac_read_search ∷ Calls 2 (Access (codes "/f") (perms_of 4)) ∷ Calls 2 (Access (codes "/f") (perms_of 6))
+    ∷ capable 0 0 no_caps ∷ Calls 3 (Access (codes "/f") (perms_of 6)) ∷ Calls 3 (ChownCall (codes "/f") (Some 5) None)
+    ∷ capable 1001 101 cap_fowner ∷ Calls 4 (Chmod (codes "/f") 0o644) ∷ Calls 4 (ChownCall (codes "/f") None (Some 101))
+    ∷ capable 1002 102 cap_chown ∷ Calls 5 (ChownCall (codes "/f") (Some 1002) (Some 102)) ∷ Calls 5 (Stat (codes "/f"))
+    ∷ Calls 1 (Mkdir (codes "/g") 0o777) ∷ Calls 1 (ChownCall (codes "/g") (Some 1003) (Some 500))
+    ∷ capable 1003 103 cap_fsetid ∷ Calls 6 (Chmod (codes "/g") 0o2770) ∷ Calls 6 (Stat (codes "/g")) ∷ []) ≡
+    Pid 1 ∷ Mask 18 ∷ Fd 0 ∷ Wrote 2
+    ∷ Pid 2 ∷ Granted (Capability cap_dac_read_search) ∷ denied 1 1 (Perm (perms_of 6)) Other
+    ∷ Pid 3 ∷ Granted Owner ∷ denied 1 1 Chown NoCapability
+    ∷ Pid 4 ∷ Done ∷ denied 1 1 Own NotOwner
+    ∷ Pid 5 ∷ Done ∷ shows_file 2 0o644 1 1002 102 2
+    ∷ Done ∷ Done ∷ Pid 6 ∷ Done ∷ shows_directory 3 0o2770 1003 500 0 ∷ []
+unfolding verdict trail_of first_refusal found_of row_of firm_refusal other_refusal after
+capabilities = refl

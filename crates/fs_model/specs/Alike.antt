@@ -18,7 +18,7 @@ abbrev pub may_read : Process → Option AccessNode → Bool
 may_read p None = true
 may_read p (Some node) = (verdict p.cred node (perms true false false)).yes
 
--- the process owns the node, or may read it, or has opened it for reading
+-- the process owns the node, by its user alone, or may read it, also by a capability, or has opened it for reading
 abbrev pub sees_into : Process → ℕ → Node → Bool
 sees_into p n node =
     node.owner == p.cred.uid

@@ -4,6 +4,7 @@ pub mod Cutting
 pub mod Each
 pub mod Letters
 pub mod Names
+pub mod Capabilities
 pub mod Faulty
 pub mod Numbers
 pub mod OneMeaning

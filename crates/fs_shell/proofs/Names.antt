@@ -8,7 +8,7 @@ use Rattle.std.proofs.lemmas.Slice.Eq.{bytes_eq-Decides}
 use Rattle.std.proofs.lemmas.Str.{IsUtf8-from_ascii}
 use Rattle.fs_shell.specs.Commands.{CommandRow, name_of, row_named}
 
-abbrev is_plain_name : List ℕ → Bool
+abbrev pub is_plain_name : List ℕ → Bool
 is_plain_name name = list_all (λ b. nat_lt b 128) name
 
 -- all names are of ASCII
@@ -20,10 +20,13 @@ plain_at [] plain i = omega arith
 plain_at (b ∷ name) plain zero = ltb-true b 128 (and_parts (nat_lt b 128) (is_plain_name name) plain).0
 plain_at (b ∷ name) plain (suc i) = plain_at name (and_parts (nat_lt b 128) (is_plain_name name) plain).1 i
 
+pub is_text : (name : List ℕ) → is_plain_name name ≡ true → IsUtf8 name
+is_text name plain = IsUtf8-from_ascii name (plain_at name plain)
+
 other_name : (name other : List ℕ) → is_plain_name other ≡ true → (IsUtf8 name → ⊥) → bytes_eq name other ≡ false
 other_name name other plain no_text =
     false_from_ne_true (bytes_eq name other)
-    (λ same. no_text (subst IsUtf8 (sym ((bytes_eq-Decides name other).0 same)) (IsUtf8-from_ascii other (plain_at other plain))))
+    (λ same. no_text (subst IsUtf8 (sym ((bytes_eq-Decides name other).0 same)) (is_text other plain)))
 
 pub no_row : (rows : List CommandRow) (name : List ℕ) → are_plain rows ≡ true → (IsUtf8 name → ⊥) → row_named rows name ≡ None
 no_row [] name plain no_text = refl

@@ -4,8 +4,10 @@ use Rattle.std.specs.Fmt.{digits}
 use Rattle.posix_acl.specs.declared.entry.Perms.{Perms}
 use Rattle.posix_acl.specs.declared.fault.AclFault.TheVariants.{BadText}
 use Rattle.posix_acl.specs.Text.{IsNoText}
+use Rattle.bitflags.specs.Sets.{find_row}
 use Rattle.fs_cred.specs.declared.errno.Errno.TheVariants.{EACCES}
-use Rattle.fs_cred.specs.declared.rule.Rule.TheVariants.{Superuser, Other}
+use Rattle.fs_cred.specs.declared.rule.Rule.TheVariants.{Capability, Other}
+use Rattle.fs_cred.specs.Capabilities.{cap_dac_override, cap_dac_read_search, no_caps}
 use Rattle.fs_cred.specs.declared.refusal.Need.TheVariants.{Perm}
 use Rattle.fs_cred.specs.declared.refusal.Refusal.TheVariants.{Denied}
 use Rattle.fs_model.specs.declared.call.AclType.TheVariants.{Access, Default}
@@ -18,9 +20,9 @@ use Rattle.fs_model.specs.declared.reply.Reply.TheVariants.{Pid, Shown, Granted,
 use Rattle.fs_shell.specs.declared.line.Line.TheVariants.{Blank, Event as Asks}
 use Rattle.fs_shell.specs.declared.line.LineFault.TheVariants.{BadByte, BadEscape, UnknownCommand, WordCount, BadNumber, BadAcl}
 use Rattle.fs_shell.specs.Lines.{lines_of, word_bytes}
-use Rattle.fs_shell.specs.Words.{number_of, kept_id_of, offset_of, groups_of, perms_in, mode_of, flags_of, whence_of, acl_type_of}
+use Rattle.fs_shell.specs.Words.{number_of, kept_id_of, offset_of, groups_of, caps_of, perms_in, mode_of, flags_of, whence_of, acl_type_of}
 use Rattle.fs_shell.specs.Commands.{plain, with_acl, asked, line_value, words_value, credential_event, LineSays}
-use Rattle.fs_shell.specs.Texts.{reply_text, fault_text}
+use Rattle.fs_shell.specs.Texts.{reply_text, fault_text, caps_text}
 
 -- r, w and x, or `-` instead of each
 abbrev rwx : Perms
@@ -60,13 +62,29 @@ cut_at_the_end = refl
 
 -- ---- what lines say
 
-superuser : line_value (codes "spawn 0 0") ≡ Ok (asked (credential_event 0 0 []))
+a_login : line_value (codes "spawn 0 0") ≡ Ok (asked (credential_event 0 0 [] None))
 unfolding line_value words_value word_bytes number_of digits
-superuser = refl
+a_login = refl
 
-supplementary : line_value (codes " spawn  1000 100 5,6 ") ≡ Ok (asked (credential_event 1000 100 (5 ∷ 6 ∷ [])))
+supplementary : line_value (codes " spawn  1000 100 5,6 ") ≡ Ok (asked (credential_event 1000 100 (5 ∷ 6 ∷ []) None))
 unfolding line_value words_value word_bytes number_of groups_of digits
 supplementary = refl
+
+without_any : line_value (codes "spawn 0 0 cap=none") ≡ Ok (asked (credential_event 0 0 [] (Some no_caps)))
+unfolding line_value words_value word_bytes number_of caps_of digits
+without_any = refl
+
+some_caps : line_value (codes "spawn 1000 100 7 cap=chown,dac-read-search") ≡ Ok (asked (credential_event 1000 100 (7 ∷ []) (Some (record { 0 = 5 }))))
+unfolding line_value words_value word_bytes number_of groups_of caps_of digits find_row
+some_caps = refl
+
+no_cap : line_value (codes "spawn 1 1 cap=root") ≡ Err BadNumber
+unfolding line_value words_value word_bytes number_of caps_of digits find_row
+no_cap = refl
+
+caps_fall : line_value (codes "spawn 1 1 cap=fowner,chown") ≡ Err BadNumber
+unfolding line_value words_value word_bytes number_of caps_of digits find_row
+caps_fall = refl
 
 synced : line_value (codes "sync") ≡ Ok (asked Sync)
 unfolding line_value words_value word_bytes number_of digits
@@ -174,9 +192,13 @@ root_text : reply_text (Shown (record { inode = 1; kind = Directory; mode = 493;
 unfolding reply_text digits
 root_text = refl
 
-granted_text : reply_text (Granted Superuser) ≡ codes "granted superuser"
-unfolding reply_text digits
+granted_text : reply_text (Granted (Capability cap_dac_override)) ≡ codes "granted cap:dac-override"
+unfolding reply_text digits caps_text
 granted_text = refl
+
+searched_text : reply_text (Granted (Capability cap_dac_read_search)) ≡ codes "granted cap:dac-read-search"
+unfolding reply_text digits caps_text
+searched_text = refl
 
 denied_text : reply_text (Refused (Denied (record { errno = EACCES; walk = 1; step = 0; need = Perm rwx; rule = Other })))
     ≡ codes "denied EACCES 13 walk 1 step 0 need perm rwx rule other"

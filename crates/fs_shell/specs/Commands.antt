@@ -7,7 +7,7 @@
 --     has_words        whether a line is read word by word
 --     line_value        what a line says, or the first thing that is wrong with it
 --     IsSaid, LineSays        the same with its ACL
-use Rattle.std.specs.Prelude.{◌≡◌, ℕ, ℤ, ◌+◌, ◌==◌, nat_le, nat_lt, Bool, true, false, not, ◌&&◌, List, [], ◌∷◌, ◌++◌, length, codes, ok_or, Option, None, Some, Result, Ok, Err, if◌then◌else◌}
+use Rattle.std.specs.Prelude.{◌≡◌, ℕ, ℤ, ◌+◌, ◌==◌, nat_le, nat_lt, Bool, true, false, not, ◌&&◌, List, [], ◌∷◌, ◌++◌, length, codes, ok_or, unwrap_or, Option, None, Some, Result, Ok, Err, if◌then◌else◌}
 use Rattle.std.specs.List.{find, list_all, slice_get}
 use Rattle.std.specs.Str.{bytes_eq}
 use Rattle.posix_acl.specs.AccessList.{AccessList}
@@ -25,7 +25,10 @@ use Rattle.fs_shell.specs.declared.line.Line.TheVariants.{Blank, Event as Asks}
 use Rattle.fs_shell.specs.declared.line.LineFault.{LineFault}
 use Rattle.fs_shell.specs.declared.line.LineFault.TheVariants.{TooLong, BadByte, UnknownCommand, WordCount, BadAcl}
 use Rattle.fs_shell.specs.Lines.{◌>>=◌, is_silent, is_printable, words_of, word_bytes, each}
-use Rattle.fs_shell.specs.Words.{number_of, id_of, kept_id_of, offset_of, groups_of, perms_in, mode_of, flags_of, whence_of, acl_type_of}
+use Rattle.fs_cred.specs.declared.caps.Caps.{Caps}
+use Rattle.fs_cred.specs.Capabilities.{usual_caps}
+use Rattle.fs_cred.specs.Credentials.{credential}
+use Rattle.fs_shell.specs.Words.{number_of, id_of, kept_id_of, offset_of, groups_of, some_caps_of, begins_with_cap, perms_in, mode_of, flags_of, whence_of, acl_type_of}
 
 -- ---- words
 
@@ -79,6 +82,8 @@ pub data Words : Type 0 where
   three : Kind → Kind → Kind → Words
   two_or : Kind → Kind → (kind : Kind) → value_of kind → Words
   two_and_acl : Kind → Kind → Words
+  -- two ids, supplementary groups and capabilities, either of which may be left out
+  a_credential : Words
 
 -- what they say together
 abbrev pub Says : Words → Type 0
@@ -88,6 +93,7 @@ Says (two a b) = value_of a → value_of b → Event
 Says (three a b c) = value_of a → value_of b → value_of c → Event
 Says (two_or a b c missing) = value_of a → value_of b → value_of c → Event
 Says (two_and_acl a b) = value_of a → value_of b → Option AccessList → Event
+Says a_credential = ℕ → ℕ → List ℕ → Option Caps → Event
 
 -- ---- the table
 
@@ -96,13 +102,14 @@ pub data CommandRow : Type 0 where
   alone : List ℕ → (words : Words) → Says words → CommandRow
   behind_pid : List ℕ → (words : Words) → (ℕ → Says words) → CommandRow
 
-abbrev pub credential_event : ℕ → ℕ → List ℕ → Event
-credential_event uid gid supplementary = events.Spawn (record { uid = uid; gid = gid; groups = supplementary })
+-- where no capabilities are named they are the user's usual ones
+abbrev pub credential_event : ℕ → ℕ → List ℕ → Option Caps → Event
+credential_event uid gid supplementary caps = events.Spawn (credential uid gid supplementary (unwrap_or caps (usual_caps uid)))
 
 -- Those that stand alone.
 abbrev pub lone_commands : List CommandRow
 lone_commands =
-    alone (codes "spawn") (two_or id id groups []) credential_event
+    alone (codes "spawn") a_credential credential_event
     ∷ alone (codes "sync") no_words events.Sync
     ∷ alone (codes "statfs") no_words events.Statfs
     ∷ []
@@ -222,6 +229,18 @@ two_or_said a b c missing pid words =
       z ← said_of_or c missing (slice_get words 2)
       Ok (pid, x, y, z)) else Err WordCount
 
+-- The word of capabilities is a fourth one, or a third that begins as such a word.
+abbrev pub caps_apart : List (List ℕ) → List (List ℕ) × Option (List ℕ)
+caps_apart (uid ∷ gid ∷ supplementary ∷ caps ∷ []) = (uid ∷ gid ∷ supplementary ∷ [], Some caps)
+caps_apart (uid ∷ gid ∷ third ∷ []) = if begins_with_cap third then (uid ∷ gid ∷ [], Some third) else (uid ∷ gid ∷ third ∷ [], None)
+caps_apart words = (words, None)
+
+abbrev pub credential_said : Result ℕ LineFault → List (List ℕ) × Option (List ℕ) → Result (ℕ × ℕ × List ℕ × Option Caps) LineFault
+credential_said pid apart = do
+  v ← two_or_said id_of id_of groups_of [] pid apart.0
+  caps ← said_of_or some_caps_of None apart.1
+  Ok (v.1, v.2, v.3, caps)
+
 -- `none`, or the text of an ACL
 abbrev pub acl_said_by : (Option AccessList → Event) → List ℕ → Result Said LineFault
 acl_said_by says word = Ok (if bytes_eq word (codes "none") then asked (says None) else with_acl word (λ acl. Asks (says (Some acl))))
@@ -246,6 +265,9 @@ reads (two_or a b c missing) says pid words = do
 reads (two_and_acl a b) says pid words = do
   v ← three_said (said_by a) (said_by b) (said_by bytes) pid words
   acl_said_by (says v.0 v.1 v.2) v.3
+reads a_credential says pid words = do
+  v ← credential_said pid (caps_apart words)
+  Ok (asked (says 0 v.0 v.1 v.2 v.3))
 
 abbrev pub row_says : CommandRow → List ℕ → List (List ℕ) → Result Said LineFault
 row_says (alone _ kinds says) pid words = reads kinds (λ _. says) (Ok 0) words

@@ -3,16 +3,18 @@
 --     mode_text        four octal digits
 --     rule_text, need_text        rules of decisions, and what is asked for
 --     reply_text, fault_text        what is answered to a line
-use Rattle.std.specs.Prelude.{ℕ, ◌+◌, ◌/◌, ◌%◌, nat_le, Bool, false, ◌&&◌, List, [], ◌∷◌, ◌++◌, codes, Option, None, Some, if◌then◌else◌}
+use Rattle.std.specs.Prelude.{ℕ, ◌+◌, ◌/◌, ◌%◌, ◌==◌, nat_le, Bool, false, ◌&&◌, List, [], ◌∷◌, ◌++◌, codes, Option, None, Some, if◌then◌else◌}
 use Rattle.std.specs.List.{flat_map}
 use Rattle.std.specs.Fmt.{decimal, digit_glyph}
 use Rattle.posix_acl.specs.AccessList.{AccessList}
 use Rattle.posix_acl.specs.Text.{written_text, perms_text}
 use Rattle.posix_acl.specs.declared.text.TextForm.TheVariants.{Short}
+use Rattle.std.specs.Int.RustNames.{bit_and}
+use Rattle.fs_cred.specs.Capabilities.{named_caps}
 use Rattle.fs_cred.specs.Errnos.{errno_name, errno_number}
 use Rattle.fs_cred.specs.declared.errno.Errno.{Errno}
 use Rattle.fs_cred.specs.declared.rule.Rule.{Rule}
-use Rattle.fs_cred.specs.declared.rule.Rule.TheVariants.{Owner, NamedUser, OwningGroup, NamedGroup, Mask as MaskRule, Other, Superuser, NoExecuteBit, NotOwner, NotSuperuser, NotMember, Sticky}
+use Rattle.fs_cred.specs.declared.rule.Rule.TheVariants.{Owner, NamedUser, OwningGroup, NamedGroup, Mask as MaskRule, Other, Capability, NoExecuteBit, NotOwner, NoCapability, NotMember, Sticky}
 use Rattle.fs_cred.specs.declared.refusal.Need.{Need}
 use Rattle.fs_cred.specs.declared.refusal.Need.TheVariants.{Search, Perm, Own, Chown, Chgrp, Remove}
 use Rattle.fs_cred.specs.declared.refusal.Denial.{Denial}
@@ -54,6 +56,12 @@ mode_text mode = octal_digit (mode / 512) ∷ octal_digit (mode / 64) ∷ octal_
 
 -- ---- refusals
 
+-- the names of those of a set, behind this and with commas between them
+unfoldable pub caps_text : List ℕ → ℕ → List (List ℕ × ℕ) → List ℕ
+caps_text before bits [] = []
+caps_text before bits (cap ∷ caps) =
+    if bit_and bits cap.1 == cap.1 then before ++ (cap.0 ++ caps_text (codes ",") bits caps) else caps_text before bits caps
+
 abbrev pub rule_text : Rule → List ℕ
 rule_text Owner = codes "owner"
 rule_text (NamedUser id) = codes "user:" ++ decimal id
@@ -61,10 +69,10 @@ rule_text OwningGroup = codes "group"
 rule_text (NamedGroup id) = codes "group:" ++ decimal id
 rule_text MaskRule = codes "mask"
 rule_text Other = codes "other"
-rule_text Superuser = codes "superuser"
+rule_text (Capability caps) = codes "cap" ++ caps_text (codes ":") caps.0 named_caps
 rule_text NoExecuteBit = codes "no-execute-bit"
 rule_text NotOwner = codes "not-owner"
-rule_text NotSuperuser = codes "not-superuser"
+rule_text NoCapability = codes "no-capability"
 rule_text NotMember = codes "not-member"
 rule_text Sticky = codes "sticky"
 

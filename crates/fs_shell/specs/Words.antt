@@ -1,10 +1,11 @@
 -- The forms of words in commands. A word that isn't of its form is BadNumber.
 --     number_of, id_of, kept_id_of        decimal numbers of so many bits; an id, or none where `-` keeps the old one
 --     offset_of        numbers that may have a `-`
---     groups_of, perms_in, mode_of        supplementary groups, permissions, modes
+--     groups_of, caps_of        supplementary groups, capabilities
+--     perms_in, mode_of        permissions, modes
 --     flags_of        how a file is opened
 --     whence_of, acl_type_of        from where an offset counts, and which ACL is meant
-use Rattle.std.specs.Prelude.{ℕ, ◌+◌, ◌-◌, ◌*◌, ◌^◌, ◌==◌, nat_le, nat_lt, ℤ, pos, neg_ℤ, Bool, true, false, IsTrue, ◌&&◌, ◌||◌, List, [], ◌∷◌, length, drop, map, codes, ok_or, Option, None, Some, Result, Ok, Err, if◌then◌else◌, refl}
+use Rattle.std.specs.Prelude.{ℕ, ◌+◌, ◌-◌, ◌*◌, ◌^◌, ◌==◌, nat_le, nat_lt, ℤ, pos, neg_ℤ, Bool, true, false, IsTrue, ◌&&◌, ◌||◌, List, [], ◌∷◌, length, take, drop, map, codes, ok_or, option_map, Option, None, Some, Result, Ok, Err, if◌then◌else◌, refl}
 use Rattle.std.specs.List.{find, list_any, range_with_len, slice_split}
 use Rattle.std.specs.Fmt.{decimal}
 use Rattle.std.specs.Str.{byte, bytes_eq}
@@ -12,6 +13,10 @@ use Rattle.std.specs.Str.Parse.{digits_value, starts_with_minus}
 use Rattle.posix_acl.specs.declared.entry.Perms.{Perms}
 use Rattle.posix_acl.specs.Entries.{perms_of}
 use Rattle.posix_acl.specs.Text.{is_comma, perms_text}
+use Rattle.bitflags.specs.Sets.{find_name}
+use Rattle.std.specs.Int.RustNames.{bit_or}
+use Rattle.fs_cred.specs.declared.caps.Caps.{Caps}
+use Rattle.fs_cred.specs.Capabilities.{named_caps, no_caps}
 use Rattle.fs_model.specs.declared.call.AclType.{AclType}
 use Rattle.fs_model.specs.declared.call.AclType.TheVariants.{Access, Default}
 use Rattle.fs_model.specs.declared.call.Flags.{Flags}
@@ -66,11 +71,38 @@ positive_of digits = do
 unfoldable pub offset_of : List ℕ → Result ℤ LineFault
 offset_of word = if starts_with_minus word then negative_of (drop 1 word) else positive_of word
 
--- ---- groups, permissions, modes
+-- ---- groups, capabilities, permissions, modes
 
 -- One to sixteen ids with commas between them.
 unfoldable pub groups_of : List ℕ → Result (List ℕ) LineFault
 groups_of word = if nat_le (length (slice_split is_comma word)) 16 then each id_of (slice_split is_comma word) else Err BadNumber
+
+-- Capabilities stand behind `cap=`: `none`, or their names by rising bits with commas between them.
+abbrev pub begins_with_cap : List ℕ → Bool
+begins_with_cap word = bytes_eq (take 4 word) (codes "cap=")
+
+abbrev pub of_bits : ℕ → Caps
+of_bits bits = record { 0 = bits }
+
+abbrev pub cap_named : List ℕ → Result Caps LineFault
+cap_named name = ok_or (option_map of_bits (find_name named_caps name)) BadNumber
+
+-- these and those that are named, each above all before it
+abbrev pub caps_with : Caps → List (List ℕ) → Result Caps LineFault
+caps_with caps [] = Ok caps
+caps_with caps (name ∷ names) = do
+  cap ← cap_named name
+  if nat_lt caps.0 cap.0 then caps_with (of_bits (bit_or caps.0 cap.0)) names else Err BadNumber
+
+unfoldable pub caps_of : List ℕ → Result Caps LineFault
+caps_of word =
+    if bytes_eq word (codes "cap=none") then Ok no_caps
+    else (if begins_with_cap word then caps_with no_caps (slice_split is_comma (drop 4 word)) else Err BadNumber)
+
+abbrev pub some_caps_of : List ℕ → Result (Option Caps) LineFault
+some_caps_of word = do
+  caps ← caps_of word
+  Ok (Some caps)
 
 -- those of the digits 0 to 7
 abbrev pub all_perms : List Perms

@@ -1,12 +1,12 @@
 //! The table of commands: each by its name, the words behind it, and what they ask for.
-ghost use Rattle.std.specs.Prelude.{◌≡◌, ◌++◌, [], ℕ, List, Ok, IfOk, IsTrue, codes};
+ghost use Rattle.std.specs.Prelude.{◌≡◌, ◌++◌, [], ℕ, List, Ok, IfOk, IsTrue, codes, option_map};
 ghost use Rattle.fs_model.specs.Steps.{is_of_machine};
 ghost use Rattle.fs_shell.specs.declared.line.Line.TheVariants.{Event as Asks};
-ghost use Rattle.fs_shell.specs.Commands.{begins_with_digit, lone_commands, commands, path_commands, descriptor_commands, name_commands, process_commands, row_named, command_says, words_value};
+ghost use Rattle.fs_shell.specs.Commands.{begins_with_digit, caps_apart, lone_commands, commands, path_commands, descriptor_commands, name_commands, process_commands, row_named, command_says, words_value};
 ghost use Rattle.fs_shell.specs.Words.{number_of};
 ghost use Rattle.fs_shell.specs.Runs.{GivesSaid};
 
-use crate::forms::{read_acl, read_groups, read_number};
+use crate::forms::{begins_with_cap, read_acl, read_caps, read_groups, read_number};
 use crate::line::LineFault;
 use crate::operand::{Groups, Operands};
 use crate::words::Word;
@@ -251,11 +251,30 @@ fn read_spawn(operands: Operands<'_>) -> Result<Event, LineFault>
         → GivesSaid Asks result (command_says (row_named lone_commands (codes "spawn")) [] operands.entry.words.now) }
     ensures offered { IfOk result (λ e. IsTrue (is_of_machine e)) }
 {
-    let (_, uid, gid, groups): (usize, u32, u32, Groups) = operands.two_or(Groups::new(
-        operands.alloc,
-    ))?;
-    match Cred::new(operands.alloc, uid, gid, groups.ids()) {
+    let (words, caps) = caps_apart(operands.words);
+    let (_, uid, gid, groups): (usize, u32, u32, Groups) = Operands { words, ..operands }.two_or(
+        Groups::new(operands.alloc),
+    )?;
+    let made = match caps {
+        Some(word) => {
+            let caps = read_caps(word.bytes())?;
+            Cred::with_caps(operands.alloc, uid, gid, groups.ids(), caps)
+        }
+        None => Cred::new(operands.alloc, uid, gid, groups.ids()),
+    };
+    match made {
         Ok(cred) => Ok(Event::Spawn(cred)),
         Err(_) => Err(LineFault::OutOfMemory),
+    }
+}
+
+// The words, and apart from them that of capabilities: a fourth one, or a third that begins as such a word.
+fn caps_apart<'a>(words: &'a [Word<'a>]) -> (&'a [Word<'a>], Option<&'a Word<'a>>)
+    ensures { (result.0.now, option_map (λ word. word.now) result.1) ≡ caps_apart words.now }
+{
+    match words {
+        [rest @ .., caps] if rest.len() == 3 || rest.len() == 2 && begins_with_cap(caps.bytes()) =>
+            (rest, Some(caps)),
+        _ => (words, None),
     }
 }

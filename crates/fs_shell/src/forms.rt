@@ -1,15 +1,17 @@
-//! The forms of words: numbers, groups, permissions, flags, ACLs.
+//! The forms of words: numbers, groups, capabilities, permissions, flags, ACLs.
 ghost use Rattle.std.specs.Prelude.{◌≡◌, ◌≢◌, ◌↔◌, ◌<◌, ◌^◌, ℕ, IsTrue, IfSome, IfNone, OnSome, length};
 ghost use Rattle.std.specs.Fmt.{decimal};
 ghost use Rattle.std.specs.List.{slice_split};
+ghost use Rattle.fs_cred.specs.Capabilities.{no_caps};
 ghost use Rattle.posix_acl.specs.Numbers.{StartsPlainly};
 ghost use Rattle.posix_acl.specs.Text.{is_comma};
-ghost use Rattle.fs_shell.specs.Words.{number_of, id_of, kept_id_of, offset_of, negated, positive, groups_of, perms_in, mode_of, octal_digits, is_octal_digit, flags_of, left_over, flag_letters, without_letter, whence_of, acl_type_of};
+ghost use Rattle.fs_shell.specs.Words.{number_of, id_of, kept_id_of, offset_of, negated, positive, groups_of, caps_of, caps_with, cap_named, begins_with_cap, perms_in, mode_of, octal_digits, is_octal_digit, flags_of, left_over, flag_letters, without_letter, whence_of, acl_type_of};
 ghost use Rattle.fs_shell.specs.Lines.{each};
 ghost use Rattle.fs_shell.specs.Runs.{Gives, GivesAcl};
 
 use crate::line::LineFault;
-use fs_cred::MAX_GROUPS;
+use bitflags::Flags as FlagSet;
+use fs_cred::{Caps, MAX_GROUPS};
 use fs_model::{AclType, Flags, Whence};
 use posix_acl::{Acl, AclFault, Perms, starts_plainly};
 use std::alloc::Global;
@@ -132,6 +134,50 @@ fn read_ids(alloc: Global, word: &[u8]) -> Result<Vec<u32>, LineFault>
         ids.push(read_id(id)?)?;
     }
     Ok(ids)
+}
+
+/// Whether a word is of capabilities, if it is right.
+pub fn begins_with_cap(word: &[u8]) -> bool
+    ensures { result ≡ begins_with_cap word.now }
+{
+    word.starts_with(b"cap=")
+}
+
+/// Capabilities: `cap=none`, or `cap=` and their names by rising bits with commas between them.
+#[tactic(auto, unfolding(crate::specs::Words::caps_of))]
+pub fn read_caps(word: &[u8]) -> Result<Caps, LineFault>
+    ensures { result ≡ caps_of word.now }
+{
+    if word == b"cap=none".as_slice() {
+        return Ok(Caps::empty());
+    }
+    match word.strip_prefix(b"cap=") {
+        Some(names) => caps_named(names),
+        None => Err(LineFault::BadNumber),
+    }
+}
+
+fn caps_named(names: &[u8]) -> Result<Caps, LineFault>
+    ensures { result ≡ caps_with no_caps (slice_split is_comma names.now) }
+{
+    let mut caps = Caps::empty();
+    for name in names.split(|byte| *byte == b',') {
+        let cap = cap_named(name)?;
+        if cap.bits() <= caps.bits() {
+            return Err(LineFault::BadNumber);
+        }
+        caps.insert(cap);
+    }
+    Ok(caps)
+}
+
+fn cap_named(name: &[u8]) -> Result<Caps, LineFault>
+    ensures { result ≡ cap_named name.now }
+{
+    match std::str::from_utf8(name) {
+        Ok(name) => Caps::from_name(name).ok_or(LineFault::BadNumber),
+        Err(_) => Err(LineFault::BadNumber),
+    }
 }
 
 /// Permissions: `r`, `w` and `x`, or `-` instead of each.

@@ -184,7 +184,7 @@ const SOURCES: [(Source<'static>, &str); 7] = [
         "pid 1\n\
          ino 1 dir 0755 links 1 uid 0 gid 0 size 0\n\
          fault 6 BadNumber\n\
-         granted superuser\n\
+         granted cap:dac-override\n\
          6 lines, 1 faults\n",
     ),
     // A reader that fails or is interrupted ends the run.

@@ -3,10 +3,12 @@ ghost use Rattle.std.specs.Prelude.{◌≡◌, ◌++◌, ◌<◌, false, IfOk, O
 ghost use Rattle.std.specs.Fmt.{digit_glyph};
 ghost use Rattle.posix_acl.specs.Text.{perms_text, written_text};
 ghost use Rattle.posix_acl.specs.declared.text.TextForm.TheVariants.{Short};
-ghost use Rattle.fs_shell.specs.Texts.{stands_for_itself, octal_digit, byte_text, bytes_text, word_text, mode_text, rule_text, need_text, errno_text, denial_text, refusal_text, kind_text, counts_text, status_text, acl_text, names_text, reply_text, fault_text};
+ghost use Rattle.fs_cred.specs.Capabilities.{named_caps};
+ghost use Rattle.fs_shell.specs.Texts.{stands_for_itself, octal_digit, byte_text, bytes_text, word_text, mode_text, caps_text, rule_text, need_text, errno_text, denial_text, refusal_text, kind_text, counts_text, status_text, acl_text, names_text, reply_text, fault_text};
 
 use crate::line::LineFault;
-use fs_cred::{Denial, Errno, Need, Refusal, Rule};
+use bitflags::Flags;
+use fs_cred::{Caps, Denial, Errno, Need, Refusal, Rule};
 use fs_model::{FileType, Listing, Reply, Status};
 use posix_acl::{Acl, Perms, TextForm};
 use std::alloc::{AllocError, Global};
@@ -187,13 +189,29 @@ fn push_rule(text: &mut String, rule: Rule) -> Result<(), AllocError>
         Rule::NamedGroup(id) => write!(text, "group:{id}"),
         Rule::Mask => text.push_str("mask"),
         Rule::Other => text.push_str("other"),
-        Rule::Superuser => text.push_str("superuser"),
+        Rule::Capability(caps) => push_caps(text, caps),
         Rule::NoExecuteBit => text.push_str("no-execute-bit"),
         Rule::NotOwner => text.push_str("not-owner"),
-        Rule::NotSuperuser => text.push_str("not-superuser"),
+        Rule::NoCapability => text.push_str("no-capability"),
         Rule::NotMember => text.push_str("not-member"),
         Rule::Sticky => text.push_str("sticky"),
     }
+}
+
+// The names of capabilities, behind a colon and with commas between.
+fn push_caps(text: &mut String, caps: Caps) -> Result<(), AllocError>
+    ensures { OnOk result (string_bytes text.new ≡ string_bytes text.old ++ (codes "cap" ++ caps_text (codes ":") caps.0 named_caps)) }
+{
+    text.push_str("cap")?;
+    let mut before = ":";
+    for flag in Caps::flags() {
+        if caps.contains(flag.value) {
+            text.push_str(before)?;
+            text.push_str(flag.name())?;
+            before = ",";
+        }
+    }
+    Ok(())
 }
 
 fn push_acl(text: &mut String, acl: &Option<Acl>) -> Result<(), AllocError>

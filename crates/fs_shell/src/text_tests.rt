@@ -1,7 +1,7 @@
 //! What a line says, and the text of each reply and each fault.
 
 use crate::{Line, LineFault, a_line_says_one_thing, fault_text, parse_line, reply_text};
-use fs_cred::{Denial, Errno, Need, Refusal, Rule};
+use fs_cred::{Caps, Denial, Errno, Need, Refusal, Rule};
 use fs_model::{Bytes, Call, Event, FileType, Listing, Name, Named, Path, Reply, Status};
 use posix_acl::{Acl, Perms};
 use std::alloc::{AllocError, Global};
@@ -156,17 +156,24 @@ const ERRORS: [(Errno, &str); 20] = [
     (Errno::ELOOP, "error ELOOP 40"),
 ];
 
-const RULES: [(Rule, &str); 12] = [
+const RULES: [(Rule, &str); 13] = [
     (Rule::Owner, "granted owner"),
     (Rule::NamedUser(1001), "granted user:1001"),
     (Rule::OwningGroup, "granted group"),
     (Rule::NamedGroup(6), "granted group:6"),
     (Rule::Mask, "granted mask"),
     (Rule::Other, "granted other"),
-    (Rule::Superuser, "granted superuser"),
+    (
+        Rule::Capability(Caps::DAC_OVERRIDE),
+        "granted cap:dac-override",
+    ),
+    (
+        Rule::Capability(Caps::DAC_READ_SEARCH),
+        "granted cap:dac-read-search",
+    ),
     (Rule::NoExecuteBit, "granted no-execute-bit"),
     (Rule::NotOwner, "granted not-owner"),
-    (Rule::NotSuperuser, "granted not-superuser"),
+    (Rule::NoCapability, "granted no-capability"),
     (Rule::NotMember, "granted not-member"),
     (Rule::Sticky, "granted sticky"),
 ];

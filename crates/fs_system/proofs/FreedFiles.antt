@@ -13,6 +13,7 @@ use Rattle.fs_layout.specs.Bytes.{SectorMap}
 use Rattle.fs_layout.specs.Images.{inode_at}
 use Rattle.fs_layout.specs.Inode.{free_inode}
 use Rattle.sector_txn.specs.Sectors.{TxnState, IsUnchanged}
+use Rattle.fs_cred.specs.Credentials.{usual_credential}
 use Rattle.fs_model.specs.TreeChanges.{pruned, swept, lives_nameless}
 use Rattle.fs_model.specs.Limits.{root}
 use Rattle.fs_model.specs.Nodes.{Node, Body, File, Dir, Link}
@@ -112,7 +113,7 @@ has_not (suc k) n = go (k == n) refl (has_not k n)
 
 -- one process has them open
 abbrev table_of : List (ℕ × Descriptor) → Desks
-table_of ds = (1, record (new_process (record { uid = 0; gid = 0; groups = [] })) { descriptors = ds }) ∷ []
+table_of ds = (1, record (new_process (usual_credential 0 0 [])) { descriptors = ds }) ∷ []
 
 -- the numbers below k without n, and with it
 abbrev all_but : ℕ → ℕ → Desks

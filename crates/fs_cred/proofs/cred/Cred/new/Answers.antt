@@ -1,8 +1,19 @@
-use Rattle.std.proofs.Common.{rules}
+use Rattle.std.proofs.Common.{◌≡◌, ◌∙◌, ℕ, refl, ap, subst, IfOk}
+use Rattle.bitflags.specs.Sets.{known_bits, known_from}
+use Rattle.fs_cred.specs.declared.caps.Caps.{Caps}
+use Rattle.fs_cred.specs.Capabilities.{named_caps, all_caps, usual_caps}
+use Rattle.fs_cred.specs.Credentials.{credential}
 use Rattle.fs_cred.proofs.cred.Cred.new.Goals as goal
 
-pub returns-in_err-from_slice-clause-many : goal.returns-in_err-from_slice-clause-many
-returns-in_err-from_slice-clause-many c = search rules
+known : known_bits named_caps ≡ 31
+unfolding known_from
+known = refl
 
-pub returns-clause-many : goal.returns-clause-many
-returns-clause-many c = search rules
+abbrev of_bits : ℕ → Caps
+of_bits bits = record { 0 = bits }
+
+pub returns-then-uid-eq0-clause-ok : goal.returns-then-uid-eq0-clause-ok
+returns-then-uid-eq0-clause-ok c =
+    let all : c.all.result ≡ all_caps = ap of_bits (c.all.ensures tt ∙ known) in
+    let usual : all_caps ≡ usual_caps c.args.uid = rw (c.if-uid-eq0.true) refl in
+    subst (λ caps. IfOk c.with_caps.result (λ cred. cred ≡ credential c.args.uid c.args.gid c.args.groups.now caps)) (all ∙ usual) c.with_caps.ensures.ok
