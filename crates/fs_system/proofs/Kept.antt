@@ -1,5 +1,5 @@
 -- One event in a transaction that is begun on a store: its changes are kept, or dropped.
-use Rattle.std.proofs.Common.{◌≡◌, ◌≤◌, ℕ, true, Some, Ok, Err, refl, sym, ap, subst, ◌∙◌}
+use Rattle.std.proofs.Common.{◌≡◌, ◌≤◌, true, Some, Ok, Err, refl, sym, ap, subst, ◌∙◌}
 use Rattle.sector_disk.specs.Disk.{DiskState, Image, IsImage, OnlyReads, HasFailed, HasFailedToWrite}
 use Rattle.fs_layout.specs.declared.place.Place.{Place}
 use Rattle.fs_cred.specs.declared.errno.Errno.TheVariants.{EIO}
