@@ -14,8 +14,8 @@ refused : (pid : Result ℕ LineFault) (missing : List ℕ) (words rest : List (
     → credential_said (Ok 0) (caps_apart words) ≡ Err fault
 refused pid missing words rest word fault this none nothing apart same wrong other =
     let read : two_or_said id_of id_of groups_of [] (Ok 0) rest ≡ Err fault =
-        ap (λ m. two_or_said id_of id_of groups_of m (Ok 0) rest) (sym nothing) ∙ ap (λ n. two_or_said id_of id_of groups_of missing n rest) (sym none)
-        ∙ wrong (λ e. other (same ∙ e)) ∙ ap Err (sym same) in
+    ap (λ m. two_or_said id_of id_of groups_of m (Ok 0) rest) (sym nothing) ∙ ap (λ n. two_or_said id_of id_of groups_of missing n rest) (sym none)
+    ∙ wrong (λ e. other (same ∙ e)) ∙ ap Err (sym same) in
     rw (← apart, read) refl
 
 said_by_fault : {A : Type 0} (r : Result A LineFault) (f : A → Result Said LineFault) (fault : LineFault) → r ≡ Err fault → IsSaid (r >>= f) (Err fault)
