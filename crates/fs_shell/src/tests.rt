@@ -293,7 +293,7 @@ fn a_run_flushes_its_writer(rt: HostRuntime) -> Result<(), Fail> {
             == "52 Some(52) false 2 lines, 0 faults\n\
                 0 Some(0) false 1 lines, 0 faults\n\
                 0 None true WriteFault\n\
-                82 Some(82) false 1 lines, 0 faults\n\
+                75 Some(75) false 1 lines, 0 faults\n\
                 85 None true WriteFault\n",
         "{seen}"
     );
