@@ -1,5 +1,15 @@
 pub mod BuiltNodes
 pub mod BuiltTrees
+pub mod Confined
+pub mod ConfinedEvents
+pub mod ConfinedLooks
+pub mod ConfinedNames
+pub mod ConfinedOpens
+pub mod ConfinedReads
+pub mod ConfinedRewrites
+pub mod ConfinedRuns
+pub mod ConfinedSteps
+pub mod ConfinedStepsOf
 pub mod Counting
 pub mod Findings
 pub mod Finds
@@ -27,6 +37,7 @@ pub mod PlacedClosings
 pub mod PlacedMoves
 pub mod PlacedNames
 pub mod PlacedNodes
+pub mod ReadsLess
 pub mod Rests
 pub mod Rewrites
 pub mod RowsOfFiles
@@ -38,6 +49,7 @@ pub mod RowsOfRights
 pub mod RowsOfStops
 pub mod RulesFromTree
 pub mod RulesLaw
+pub mod SeenTrees
 pub mod Stable
 pub mod StepsAdding
 pub mod StepsBodies
@@ -69,3 +81,6 @@ pub mod Summaries
 pub mod Swept
 pub mod Taken
 pub mod Unchanged
+pub mod VeiledDemands
+pub mod VeiledScenes
+pub mod Veils

@@ -1,6 +1,7 @@
 //! The laws of the definitions: each is the contract of a function that changes nothing.
 ghost use Rattle.fs_cred.specs.Laws.{HasAnAnswer, HasOneAnswer, VerdictDecides};
 ghost use Rattle.fs_model.specs.Laws.{AccessKindsAgree, CountsFit, EffectsAnswerOtherwise, FindingRefuses, FindsAreThere, FirmRefusesOtherwise, FollowedAreNoLinks, FreeAreClear, NewDiskStands, NewImagesExist, NoneRefuses, NothingToDrop, NumbersAreCounts, ObeyingStands, OneFinding, OneNodeChanges, OpenStays, OtherRefusesOtherwise, PruningKeeps, RefusesLeast, RewritingKeeps, SameProcessStays, SomeImageStands, StandingObeys, StandingRests, StandingRestsOnReading, StandsForOne, StepsKeep, StoredKindsAgree, SyncingKeeps, TypesComeBack, WalksRefuseOtherwise};
+ghost use Rattle.fs_model.specs.Confinement.{Confinement, GoneIsRefused, StepsAreBy, StepsBy};
 ghost use Rattle.fs_model.specs.Ranges.{IsSomeId, IsCall};
 ghost use Rattle.posix_acl.specs.AccessList.{IsSomeAcl};
 
@@ -180,4 +181,15 @@ pub fn a_finding_is_the_first()
 pub fn numbers_are_counts()
     ensures numbers { NumbersAreCounts }
     ensures free { FreeAreClear }
+{}
+
+/// What a process can't see into has no part in what it is answered, now or later. In two states that differ only in bytes of
+/// files that it doesn't own, is not granted to read, and hasn't opened for reading, its calls, fsyncs and its exit get equal
+/// replies, and the states stay alike to it while it is there. It lacks CAP_FOWNER and CAP_CHOWN, by which it could make files
+/// its own; the free choices are equal, and neither memory nor the disk fails: of steps these leave out ENOMEM and EIO alone.
+pub fn unreadable_bytes_do_not_show()
+    ensures alike { Confinement }
+    ensures gone { GoneIsRefused }
+    ensures choices { StepsAreBy }
+    ensures steps { StepsBy }
 {}

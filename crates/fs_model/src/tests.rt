@@ -8,6 +8,7 @@ use crate::laws::{
     kinds_agree, no_demand_is_an_io_error, numbers_are_counts, one_node_changes,
     pruning_keeps_trees, rewriting_keeps_names, rules_say_what_stands, same_process_stays,
     some_image_stands_for_a_tree, standing_rests_on_what_is_used, steps_keep_states,
+    unreadable_bytes_do_not_show,
 };
 use crate::listing::{Listing, Named};
 use crate::reply::FileType;
@@ -118,4 +119,5 @@ fn laws_do_nothing(rt: HostRuntime) {
     finds_are_there();
     standing_rests_on_what_is_used();
     steps_keep_states();
+    unreadable_bytes_do_not_show();
 }

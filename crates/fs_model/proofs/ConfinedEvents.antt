@@ -1,0 +1,132 @@
+-- The law of confinement for a call, an fsync and an exit.
+use Rattle.std.specs.Prelude.{◌≡◌, ℕ, true, not, cond, Option, None, Some, is_some, IsFalse}
+use Rattle.std.proofs.Common.{refl, sym, ap, ◌∙◌, subst}
+use Rattle.std.specs.Ordering.{nat_cmp, eq_by_cmp}
+use Rattle.fs_model.specs.declared.call.Call.{Call}
+use Rattle.fs_model.specs.declared.event.Event.{Event}
+use Rattle.fs_model.specs.declared.event.Event.TheVariants.{Spawn, Exit, Call as Calls, Fsync, Sync, Statfs, Arm, Restart}
+use Rattle.fs_model.specs.declared.reply.Reply.TheVariants.{Done}
+use Rattle.fs_layout.specs.Maps.{get, without, IsMap}
+use Rattle.fs_model.specs.Processes.{Process, Desks}
+use Rattle.fs_model.specs.TreeChanges.{swept}
+use Rattle.fs_model.specs.States.{State, IsState}
+use Rattle.fs_model.specs.Alike.{seen_by, AreAlike}
+use Rattle.fs_model.specs.Ranges.{IsCall}
+use Rattle.fs_model.specs.Rows.{row_of}
+use Rattle.fs_model.specs.Steps.{Choice, Acts, after, after_call, after_effect, unchanged, state_after, firm_refusal, other_refusal, early_refusal, late_refusal, demand_of, HasNewNumber}
+use Rattle.fs_model.specs.Confinement.{IsConfined, AnswerAlike}
+use Rattle.fs_layout.proofs.FirstEntries.{ties}
+use Rattle.fs_model.proofs.Swept.{kept, get-filter}
+use Rattle.fs_model.proofs.SeenTrees.{swept-seen}
+use Rattle.fs_model.proofs.ConfinedSteps.{effect_in, left_by, same_reply, same_process, left_alike, Confines, ConfinesEvent, confines_event, same_desks, here_alike, same_seen}
+
+-- ---- a call
+
+firm_is : (s : State) (pid : ℕ) (p : Process) (call : Call) → get nat_cmp s.desks pid ≡ Some p → firm_refusal s (Calls pid call) ≡ None → early_refusal p (row_of call) ≡ None
+unfolding firm_refusal
+firm_is s pid p call here e = ap (demand_of (λ p. early_refusal p (row_of call))) (sym here) ∙ e
+
+other_is : (s : State) (pid : ℕ) (p : Process) (call : Call) → get nat_cmp s.desks pid ≡ Some p → other_refusal s (Calls pid call) ≡ None → late_refusal s p (row_of call) ≡ None
+unfolding other_refusal
+other_is s pid p call here e = ap (demand_of (λ p. late_refusal s p (row_of call))) (sym here) ∙ e
+
+after_is : (s : State) (pid : ℕ) (p : Process) (call : Call) (choice : Choice) → get nat_cmp s.desks pid ≡ Some p
+    → after s (Calls pid call) choice ≡ after_effect s pid (effect_in pid p (row_of call) choice.number choice.free s)
+unfolding after
+after_is s pid p call choice here = ap (after_call s pid (row_of call) choice.number) here
+
+call_acts : (pid : ℕ) (call : Call) → Confines call → (p : Process) (s t : State) (choice : Choice)
+    → IsState s → IsState t → IsConfined p.cred → IsCall call → Acts s (Calls pid call) choice → Acts t (Calls pid call) choice
+    → get nat_cmp s.desks pid ≡ Some p → AreAlike pid s t
+    → AnswerAlike pid (after s (Calls pid call) choice).reply (after t (Calls pid call) choice).reply
+    (state_after s (after s (Calls pid call) choice) choice.free) (state_after t (after t (Calls pid call) choice) choice.free)
+call_acts pid call conf p s t choice is js confined fits act act' here alike =
+    let there : get nat_cmp t.desks pid ≡ Some p = ap (λ desks. get nat_cmp desks pid) (sym (same_desks pid s t alike)) ∙ here in
+    let a = after_is s pid p call choice here in
+    let b = after_is t pid p call choice there in
+    let row = row_of call in
+    let x = conf s pid p choice.number choice.free is act.running here confined fits (firm_is s pid p call here act.early) (other_is s pid p call here act.late)
+    (subst (λ a. HasNewNumber s a.change) a act.allowed.number) in
+    let y = conf t pid p choice.number choice.free js act'.running there confined fits (firm_is t pid p call there act'.early) (other_is t pid p call there act'.late)
+    (subst (λ a. HasNewNumber t a.change) b act'.allowed.number) in
+    let same = same_seen pid p s t alike here in
+    subst (λ m. AnswerAlike pid m.reply (after t (Calls pid call) choice).reply (state_after s m choice.free) (state_after t (after t (Calls pid call) choice) choice.free)) (sym a)
+    (subst (λ m. AnswerAlike pid (effect_in pid p row choice.number choice.free s).reply m.reply (left_by pid p row choice.number choice.free s) (state_after t m choice.free)) (sym b)
+    (record {
+      replies = same_reply pid p row choice.number choice.free s t same x y;
+      process = same_process pid p row choice.number choice.free s t same x y;
+      alike = λ _. left_alike pid p row choice.number choice.free s t act.running act'.running same x y;
+    }))
+
+pub confines_call : (by : ℕ) (call : Call) → Confines call → ConfinesEvent (Calls by call)
+confines_call by call conf = confines_event (Calls by call) (λ pid p s t choice is js here confined fits of alike act act'.
+    subst (λ q. get nat_cmp s.desks q ≡ Some p → AreAlike q s t
+    → AnswerAlike q (after s (Calls by call) choice).reply (after t (Calls by call) choice).reply
+    (state_after s (after s (Calls by call) choice) choice.free) (state_after t (after t (Calls by call) choice) choice.free)) of
+    (call_acts by call conf p s t choice is js confined fits.1 act act') here alike)
+
+-- ---- fsync
+
+swept_state : (p : Process) (u : State) (free : ℕ)
+    → seen_by (Some p) (state_after u (unchanged u Done) free)
+    ≡ record (seen_by (Some p) u) { tree = swept (seen_by (Some p) u).tree u.desks; free = free }
+swept_state p u free = ap (λ t. record u { tree = t; free = free }) (sym (swept-seen p u.tree u.desks))
+
+swept_alike : (pid : ℕ) (p : Process) (s t : State) (free : ℕ) → IsFalse s.halted → IsFalse t.halted → get nat_cmp s.desks pid ≡ Some p → AreAlike pid s t
+    → AreAlike pid (state_after s (unchanged s Done) free) (state_after t (unchanged t Done) free)
+swept_alike pid p s t free first second here alike =
+    let there : get nat_cmp t.desks pid ≡ Some p = ap (λ desks. get nat_cmp desks pid) (sym (same_desks pid s t alike)) ∙ here in
+    record {
+      first_runs = first;
+      second_runs = second;
+      same =
+          ap (λ o. seen_by o (state_after s (unchanged s Done) free)) here
+          ∙ swept_state p s free
+          ∙ ap {A = State} {B = State} (λ u. record u { tree = swept u.tree u.desks; free = free }) (same_seen pid p s t alike here)
+          ∙ sym (swept_state p t free)
+          ∙ ap (λ o. seen_by o (state_after t (unchanged t Done) free)) (sym there);
+    }
+
+pub confines_fsync : (by fd : ℕ) → ConfinesEvent (Fsync by fd)
+unfolding after
+confines_fsync by fd = confines_event (Fsync by fd) (λ pid p s t choice is js here confined fits of alike act act'. record {
+  replies = refl;
+  process = here_alike pid s t alike;
+  alike = λ _. swept_alike pid p s t choice.free act.running act'.running here alike;
+})
+
+-- ---- exit
+
+gone : (desks : Desks) (pid : ℕ) → IsMap nat_cmp desks → get nat_cmp (without nat_cmp desks pid) pid ≡ None
+gone desks pid m = get-filter (λ e. not (eq_by_cmp nat_cmp pid e.0)) desks m pid ∙ go (get nat_cmp desks pid)
+  where
+    go : (o : Option Process) → kept (λ e. not (eq_by_cmp nat_cmp pid e.0)) pid o ≡ None
+    go None = refl
+    go (Some p) = ap (λ b. cond (not b) (Some p) None) (ties pid pid refl)
+
+pub gone_by : (desks : Desks) (by pid : ℕ) → IsMap nat_cmp desks → by ≡ pid → get nat_cmp (without nat_cmp desks by) pid ≡ None
+gone_by desks by pid m of = subst (λ q. get nat_cmp (without nat_cmp desks by) q ≡ None) of (gone desks by m)
+
+pub confines_exit : (by : ℕ) → ConfinesEvent (Exit by)
+unfolding after
+confines_exit by = confines_event (Exit by) (λ pid p s t choice is js here confined fits of alike act act'. record {
+  replies = refl;
+  process = gone_by s.desks by pid is.pids of ∙ sym (gone_by t.desks by pid js.pids of);
+  alike = λ there. absurd (
+      let none : get nat_cmp (without nat_cmp s.desks by) pid ≡ None = gone_by s.desks by pid is.pids of in
+      let x : is_some (get nat_cmp (without nat_cmp s.desks by) pid) ≡ true = there in
+      cc
+      );
+})
+
+-- ---- each event, if each call is confined
+
+pub event_confined : ((call : Call) → Confines call) → (e : Event) → ConfinesEvent e
+event_confined each (Calls by call) = confines_call by call (each call)
+event_confined each (Fsync by fd) = confines_fsync by fd
+event_confined each (Exit by) = confines_exit by
+event_confined each (Spawn cred) = λ _ _ _ _ _ _ _ _ _ _ _ _ _ _ of. absurd of
+event_confined each Sync = λ _ _ _ _ _ _ _ _ _ _ _ _ _ _ of. absurd of
+event_confined each Statfs = λ _ _ _ _ _ _ _ _ _ _ _ _ _ _ of. absurd of
+event_confined each (Arm k) = λ _ _ _ _ _ _ _ _ _ _ _ _ _ _ of. absurd of
+event_confined each (Restart c arm) = λ _ _ _ _ _ _ _ _ _ _ _ _ _ _ of. absurd of

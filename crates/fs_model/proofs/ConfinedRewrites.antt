@@ -1,0 +1,232 @@
+-- Calls that rewrite one node are confined.
+use Rattle.std.specs.Prelude.{◌≡◌, ℕ, ◌+◌, ◌==◌, min, Bool, true, false, ◌||◌, ◌&&◌, cond, List, [], ◌∷◌, length, take, drop, replicate, Option, None, Some, IsFalse}
+use Rattle.std.proofs.Common.{refl, sym, ap, ◌∙◌, arith}
+use Rattle.std.proofs.lemmas.List.{length-replicate, length-drop, length-append}
+use Rattle.fs_model.specs.declared.call.Call.TheVariants.{Truncate, Ftruncate, Write, Chmod, Chown, SetAcl}
+use Rattle.fs_model.specs.declared.reply.Reply.TheVariants.{Wrote}
+use Rattle.std.proofs.lemmas.Bool.Decides.{nat_tests}
+use Rattle.std.specs.List.{list_any}
+use Rattle.std.specs.Prelude.{◌-◌, ◌++◌}
+use Rattle.posix_acl.specs.AccessList.{AccessList}
+use Rattle.fs_cred.specs.declared.refusal.Need.{Need}
+use Rattle.fs_cred.specs.declared.refusal.Need.TheVariants.{Own}
+use Rattle.fs_cred.specs.declared.rule.Rule.{Rule}
+use Rattle.fs_cred.specs.declared.rule.Rule.TheVariants.{NotOwner}
+use Rattle.fs_cred.specs.Capabilities.{cap_chown, cap_fowner}
+use Rattle.fs_cred.specs.Credentials.{is_capable}
+use Rattle.fs_cred.specs.Ownership.{allowed_if, may_own, owns_or_may_chown}
+use Rattle.fs_model.specs.declared.call.AclType.{AclType}
+use Rattle.fs_model.specs.Limits.{move_limit}
+use Rattle.fs_model.specs.Demands.{allowed_by}
+use Rattle.fs_model.specs.AttributeCalls.{chmod_row, chown_row, set_acl_row, moded, owned, with_set_acl}
+use Rattle.fs_model.proofs.StepsDemands.{demands_met}
+use Rattle.fs_model.proofs.VeiledDemands.{write_offset-veil}
+use Rattle.fs_model.proofs.ConfinedReads.{offset_less}
+use Rattle.fs_model.specs.Nodes.{accessed, Node, Body, File, Dir, Link, bytes_in, with_bytes}
+use Rattle.fs_model.specs.Trees.{Tree, with_node}
+use Rattle.fs_model.specs.Processes.{Process, the_descriptor, with_offset}
+use Rattle.fs_model.specs.Births.{the_node}
+use Rattle.fs_model.specs.States.{State}
+use Rattle.fs_model.specs.Alike.{may_read, sees_into, node_seen, tree_seen, seen_by, blotted}
+use Rattle.fs_model.specs.Confinement.{IsConfined}
+use Rattle.fs_model.specs.Rows.{row_of}
+use Rattle.fs_layout.specs.Bytes.{resized, overwritten}
+use Rattle.fs_model.specs.DescriptorCalls.{resized_node, written, write_offset}
+use Rattle.fs_model.specs.Scenes.{Row, number}
+use Rattle.fs_model.specs.Steps.{scene_of}
+use Rattle.fs_model.proofs.StepsBodies.{length-resized}
+use Rattle.fs_model.proofs.Veils.{veiled}
+use Rattle.fs_model.proofs.SeenTrees.{sees-veiled, the_node-seen, with_node-seen, tree_seen-less, SeesNoMore, sees_no_more}
+use Rattle.fs_model.proofs.ConfinedSteps.{Confines}
+use Rattle.fs_model.proofs.ConfinedLooks.{by_veil}
+
+-- a node set in what the process sees, and in the tree
+pub rewritten_seen : (p q : Process) (t : Tree) (n : ℕ) (x y : Node) → SeesNoMore p q t → node_seen q n x ≡ node_seen q n y
+    → tree_seen q (with_node (tree_seen p t) n x) ≡ tree_seen q (with_node t n y)
+rewritten_seen p q t n x y less same =
+    with_node-seen q (tree_seen p t) n x
+    ∙ ap (λ u. with_node u n (node_seen q n x)) (tree_seen-less p q t less)
+    ∙ ap (with_node (tree_seen q t) n) same
+    ∙ sym (with_node-seen q t n y)
+
+-- bytes that are changed in a way that fixes their number
+module _ (g : List ℕ → List ℕ) (even : (bytes : List ℕ) → length (g (replicate (length bytes) 0)) ≡ length (g bytes)) where
+  abbrev pub byted : Node → Node
+  byted node = record node { body = with_bytes (g (bytes_in node.body)) node.body }
+
+  sees-byted : (p : Process) (n owner group : ℕ) (body : Body)
+      → sees_into p n (byted (record { owner = owner; group = group; body = body })) ≡ sees_into p n (record { owner = owner; group = group; body = body })
+  sees-byted p n owner group (File a bytes) = refl
+  sees-byted p n owner group (Dir a d) = refl
+  sees-byted p n owner group (Link target) = refl
+
+  veiled-byted : (owner group : ℕ) (body : Body)
+      → veiled (byted (veiled (record { owner = owner; group = group; body = body }))) ≡ veiled (byted (record { owner = owner; group = group; body = body }))
+  veiled-byted owner group (File a bytes) = ap (λ k. record { owner = owner; group = group; body = File a (replicate k 0) }) (even bytes)
+  veiled-byted owner group (Dir a d) = refl
+  veiled-byted owner group (Link target) = refl
+
+  pub byted_seen : (p q : Process) (n : ℕ) (x : Node) → (sees_into q n x ≡ true → sees_into p n x ≡ true)
+      → node_seen q n (byted (node_seen p n x)) ≡ node_seen q n (byted x)
+  byted_seen p q n x less = go (sees_into p n x) refl
+    where
+      blind : (b : Bool) → sees_into q n x ≡ b → sees_into p n x ≡ false → b ≡ false
+      blind true e f = absurd (let h = less e in cc)
+      blind false e f = refl
+
+      go : (b : Bool) → sees_into p n x ≡ b → node_seen q n (byted (cond b x (veiled x))) ≡ node_seen q n (byted x)
+      go true e = refl
+      go false e =
+          let no : sees_into q n x ≡ false = blind (sees_into q n x) refl e in
+          let a : sees_into q n (byted (veiled x)) ≡ false = sees-byted q n x.owner x.group (blotted x.body) ∙ sees-veiled q n x ∙ no in
+          let b : sees_into q n (byted x) ≡ false = sees-byted q n x.owner x.group x.body ∙ no in
+          ap (λ b. cond b (byted (veiled x)) (veiled (byted (veiled x)))) a
+          ∙ veiled-byted x.owner x.group x.body
+          ∙ ap (λ b. cond b (byted x) (veiled (byted x))) (sym b)
+
+even_resized : (size : ℕ) (bytes : List ℕ) → length (resized (replicate (length bytes) 0) size) ≡ length (resized bytes size)
+even_resized size bytes = length-resized (replicate (length bytes) 0) size ∙ sym (length-resized bytes size)
+
+pub ftruncate_confined : (fd size : ℕ) → Confines (Ftruncate fd size)
+unfolding row_of
+ftruncate_confined fd size u pid p new free is runs here confined fits asked met fresh =
+    let n = (the_descriptor p fd).number in
+    let x = the_node u.tree n in
+    record {
+      process = refl;
+      reply = refl;
+      tree =
+          ap (λ y. tree_seen p (with_node (tree_seen p u.tree) n (resized_node size y))) (the_node-seen p u.tree n)
+          ∙ rewritten_seen p p u.tree n (resized_node size (node_seen p n x)) (resized_node size x) (sees_no_more p p (λ n node e. e) u.tree)
+          (byted_seen (λ bytes. resized bytes size) (even_resized size) p p n x (λ e. e));
+    }
+
+pub truncate_confined : (path : List ℕ) (size : ℕ) → Confines (Truncate path size)
+unfolding row_of
+truncate_confined path size u pid p new free is runs here confined fits asked met fresh =
+    let row = row_of (Truncate path size) in
+    let n = number (scene_of u p row).first in
+    let x = the_node u.tree n in
+    record {
+      process = refl;
+      reply = refl;
+      tree =
+          ap (λ m. tree_seen p (with_node (tree_seen p u.tree) m (resized_node size (the_node (tree_seen p u.tree) m)))) (by_veil (λ c. number c.first) (λ c. refl) u p row)
+          ∙ ap (λ y. tree_seen p (with_node (tree_seen p u.tree) n (resized_node size y))) (the_node-seen p u.tree n)
+          ∙ rewritten_seen p p u.tree n (resized_node size (node_seen p n x)) (resized_node size x) (sees_no_more p p (λ n node e. e) u.tree)
+          (byted_seen (λ bytes. resized bytes size) (even_resized size) p p n x (λ e. e));
+    }
+
+-- ---- write
+
+even_overwritten : (offset : ℕ) (new bytes : List ℕ) → length (overwritten (replicate (length bytes) 0) offset new) ≡ length (overwritten bytes offset new)
+even_overwritten offset new bytes =
+    let zeros : List ℕ = replicate {A = ℕ} (length bytes) 0 in
+    omega (
+      arith,
+      length-append (resized bytes offset ++ new) (drop (offset + length new) bytes),
+      length-append (resized bytes offset) new,
+      length-resized bytes offset,
+      length-drop (offset + length new) bytes,
+      length-append (resized zeros offset ++ new) (drop (offset + length new) zeros),
+      length-append (resized zeros offset) new,
+      length-resized zeros offset,
+      length-drop (offset + length new) zeros,
+      length-replicate {A = ℕ} (length bytes) 0,
+    )
+
+pub write_confined : (fd : ℕ) (bytes : List ℕ) → Confines (Write fd bytes)
+unfolding row_of
+write_confined fd [] u pid p new free is runs here confined fits asked met fresh = record {
+  process = refl;
+  reply = refl;
+  tree = tree_seen-less p p u.tree (sees_no_more p p (λ n node e. e) u.tree);
+}
+write_confined fd (b ∷ bs) u pid p new free is runs here confined fits asked met fresh =
+    let bytes = b ∷ bs in
+    let row = row_of (Write fd bytes) in
+    let n = (the_descriptor p fd).number in
+    let x = the_node u.tree n in
+    let offset = write_offset (scene_of u p row) fd in
+    let same : write_offset (scene_of (seen_by (Some p) u) p row) fd ≡ offset = by_veil (λ c. write_offset c fd) (λ c. write_offset-veil c fd) u p row in
+    let limit = u.room.file_limit in
+    let text = take (min (length bytes) (min move_limit (limit - offset))) bytes in
+    let q = with_offset p fd (offset + min (length bytes) (min move_limit (limit - offset))) in
+    record {
+      process = ap (λ k. with_offset p fd (k + min (length bytes) (min move_limit (limit - k)))) same;
+      reply = ap (λ k. Wrote (min (length bytes) (min move_limit (limit - k)))) same;
+      tree =
+          ap (λ k. tree_seen q (with_node (tree_seen p u.tree) n (written (the_node (tree_seen p u.tree) n) k (take (min (length bytes) (min move_limit (limit - k))) bytes)))) same
+          ∙ ap (λ y. tree_seen q (with_node (tree_seen p u.tree) n (written y offset text))) (the_node-seen p u.tree n)
+          ∙ rewritten_seen p q u.tree n (written (node_seen p n x) offset text) (written x offset text) (sees_no_more p q (λ n node. offset_less p fd _ n node) u.tree)
+          (byted_seen (λ old. overwritten old offset text) (even_overwritten offset text) p q n x (offset_less p fd _ n x));
+    }
+
+-- ---- what only the owner may do
+
+allowed_yes : (b : Bool) (walk step : ℕ) (need : Need) (rule : Rule) → allowed_by walk step need (allowed_if b rule) ≡ None → b ≡ true
+allowed_yes true walk step need rule h = refl
+allowed_yes false walk step need rule h = absurd cc
+
+-- the owner, by its user
+pub owner_sees : (p : Process) (n : ℕ) (x : Node) → (p.cred.uid == x.owner) ≡ true → sees_into p n x ≡ true
+owner_sees p n x own =
+    let back : (x.owner == p.cred.uid) ≡ true = grind (arith, nat_tests) in
+    ap (λ b. b || may_read p (accessed x) || list_any (λ d. d.1.number == n && d.1.read) p.descriptors) back
+
+-- who counts as the owner, without CAP_FOWNER
+may_own_sees : (p : Process) (n : ℕ) (x : Node) (walk step : ℕ) → IsConfined p.cred → allowed_by walk step Own (may_own p.cred x.owner) ≡ None
+    → sees_into p n x ≡ true
+may_own_sees p n x walk step confined met =
+    let may : (is_capable p.cred cap_fowner || p.cred.uid == x.owner) ≡ true = allowed_yes _ walk step Own NotOwner met in
+    owner_sees p n x (or_second (is_capable p.cred cap_fowner) (p.cred.uid == x.owner) confined.no_fowner may)
+  where
+    or_second : (a b : Bool) → IsFalse a → (a || b) ≡ true → b ≡ true
+    or_second true b lacks h = absurd cc
+    or_second false b lacks h = h
+
+-- who may ask for another owner, without CAP_CHOWN
+may_chown_sees : (p : Process) (n : ℕ) (x : Node) (walk step : ℕ) → IsConfined p.cred → allowed_by walk step Own (owns_or_may_chown p.cred x.owner) ≡ None
+    → sees_into p n x ≡ true
+may_chown_sees p n x walk step confined met =
+    let may : (p.cred.uid == x.owner || is_capable p.cred cap_chown) ≡ true = allowed_yes _ walk step Own NotOwner met in
+    owner_sees p n x (or_first (p.cred.uid == x.owner) (is_capable p.cred cap_chown) confined.no_chown may)
+  where
+    or_first : (a b : Bool) → IsFalse b → (a || b) ≡ true → a ≡ true
+    or_first true b lacks h = refl
+    or_first false true lacks h = absurd cc
+    or_first false false lacks h = h
+
+owned_tree : (u : State) (p : Process) (row : Row) (f : Node → Node)
+    → sees_into p (number (scene_of u p row).first) (the_node u.tree (number (scene_of u p row).first)) ≡ true
+    → tree_seen p (with_node (tree_seen p u.tree) (number (scene_of (seen_by (Some p) u) p row).first)
+    (f (the_node (tree_seen p u.tree) (number (scene_of (seen_by (Some p) u) p row).first))))
+    ≡ tree_seen p (with_node u.tree (number (scene_of u p row).first) (f (the_node u.tree (number (scene_of u p row).first))))
+owned_tree u p row f sees =
+    let n = number (scene_of u p row).first in
+    let x = the_node u.tree n in
+    let same : the_node (tree_seen p u.tree) n ≡ x = the_node-seen p u.tree n ∙ ap (λ b. cond b x (veiled x)) sees in
+    ap (λ m. tree_seen p (with_node (tree_seen p u.tree) m (f (the_node (tree_seen p u.tree) m)))) (by_veil (λ c. number c.first) (λ c. refl) u p row)
+    ∙ ap (λ y. tree_seen p (with_node (tree_seen p u.tree) n (f y))) same
+    ∙ rewritten_seen p p u.tree n (f x) (f x) (sees_no_more p p (λ n node e. e) u.tree) refl
+
+pub chmod_confined : (path : List ℕ) (mode : ℕ) → Confines (Chmod path mode)
+unfolding row_of
+chmod_confined path mode u pid p new free is runs here confined fits asked met fresh =
+    let row = chmod_row path mode in
+    let asks = demands_met u p row met in
+    record { process = refl; reply = refl; tree = owned_tree u p row (moded p.cred mode) (may_own_sees p _ _ 1 (scene_of u p row).first.step confined asks.1.0) }
+
+pub chown_confined : (path : List ℕ) (owner group : Option ℕ) → Confines (Chown path owner group)
+unfolding row_of
+chown_confined path owner group u pid p new free is runs here confined fits asked met fresh =
+    let row = chown_row path owner group in
+    let asks = demands_met u p row met in
+    record { process = refl; reply = refl; tree = owned_tree u p row (owned owner group) (may_chown_sees p _ _ 1 (scene_of u p row).first.step confined asks.1.0) }
+
+pub set_acl_confined : (path : List ℕ) (which : AclType) (acl : Option AccessList) → Confines (SetAcl path which acl)
+unfolding row_of
+set_acl_confined path which acl u pid p new free is runs here confined fits asked met fresh =
+    let row = set_acl_row path which acl in
+    let asks = demands_met u p row met in
+    record { process = refl; reply = refl; tree = owned_tree u p row (λ node. record node { body = with_set_acl which acl node.body }) (may_own_sees p _ _ 1 (scene_of u p row).first.step confined asks.1.0) }

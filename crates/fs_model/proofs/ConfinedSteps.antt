@@ -1,0 +1,149 @@
+-- The law of confinement, from what each call does in a state and in what the process sees of it.
+use Rattle.std.specs.Prelude.{◌≡◌, ℕ, cond, Option, None, Some, IsFalse}
+use Rattle.std.proofs.Common.{refl, sym, ap, ◌∙◌, subst}
+use Rattle.std.specs.Ordering.{nat_cmp}
+use Rattle.fs_model.specs.declared.call.Call.{Call}
+use Rattle.fs_model.specs.declared.event.Event.{Event}
+use Rattle.fs_model.specs.declared.reply.Reply.{Reply}
+use Rattle.fs_model.specs.declared.reply.Reply.TheVariants.{Refused}
+use Rattle.fs_layout.specs.Maps.{get, with_entry}
+use Rattle.fs_model.specs.Processes.{Process, Desks}
+use Rattle.fs_model.specs.TreeChanges.{changed, swept}
+use Rattle.fs_model.specs.States.{State, IsState}
+use Rattle.fs_model.specs.Alike.{tree_seen, seen_by, AreAlike}
+use Rattle.fs_model.specs.Ranges.{IsCall, IsEvent}
+use Rattle.fs_model.specs.Rows.{row_of}
+use Rattle.fs_model.specs.Scenes.{Row, Effect}
+use Rattle.fs_model.specs.Steps.{Choice, Acts, after, after_effect, state_after, early_refusal, late_refusal, scene_of, HasNewNumber}
+use Rattle.fs_model.specs.Confinement.{IsConfined, StepBy, early, late, done, IsOf, AnswerAlike}
+use Rattle.fs_layout.proofs.FirstEntries.{ties}
+use Rattle.fs_layout.proofs.MapLaws.{get-with_entry}
+use Rattle.fs_model.proofs.SeenTrees.{swept-seen}
+use Rattle.fs_model.proofs.VeiledDemands.{same_firm, same_other}
+
+-- ---- one call
+
+module _ (pid : ℕ) (p : Process) (row : Row) (number free : ℕ) where
+  abbrev pub effect_in : State → Effect
+  effect_in u = row.effect (scene_of u p row) number
+
+  abbrev pub left_by : State → State
+  left_by u = state_after u (after_effect u pid (effect_in u)) free
+
+  -- the process, the reply and the new tree, as the process sees it, come from what it sees
+  pub record IsConfinedAt (u : State) : Type 0 where
+    pub process : (effect_in (seen_by (Some p) u)).process ≡ (effect_in u).process
+    pub reply : (effect_in (seen_by (Some p) u)).reply ≡ (effect_in u).reply
+    pub tree : tree_seen (effect_in u).process (changed (tree_seen p u.tree) (effect_in (seen_by (Some p) u)).change)
+        ≡ tree_seen (effect_in u).process (changed u.tree (effect_in u).change)
+
+  left_seen : (u : State) → IsConfinedAt u → seen_by (Some (effect_in u).process) (left_by (seen_by (Some p) u)) ≡ seen_by (Some (effect_in u).process) (left_by u)
+  left_seen u is =
+      let q = (effect_in u).process in
+      let desks = with_entry nat_cmp u.desks pid q in
+      let e = effect_in (seen_by (Some p) u) in
+      ap (λ r. record u { tree = tree_seen q (swept (changed (tree_seen p u.tree) e.change) (with_entry nat_cmp u.desks pid r)); desks = with_entry nat_cmp u.desks pid r; free = free }) is.process
+      ∙ ap (λ t. record u { tree = t; desks = desks; free = free })
+      (sym (swept-seen q (changed (tree_seen p u.tree) e.change) desks) ∙ ap (λ t. swept t desks) is.tree ∙ swept-seen q (changed u.tree (effect_in u).change) desks)
+
+  pub same_left : (s t : State) → seen_by (Some p) s ≡ seen_by (Some p) t → IsConfinedAt s → IsConfinedAt t
+      → seen_by (Some (effect_in s).process) (left_by s) ≡ seen_by (Some (effect_in t).process) (left_by t)
+  same_left s t same is js =
+      let processes : (effect_in s).process ≡ (effect_in t).process = sym is.process ∙ ap (λ u. (effect_in u).process) same ∙ js.process in
+      sym (left_seen s is)
+      ∙ ap (λ q. seen_by (Some q) (left_by (seen_by (Some p) s))) processes
+      ∙ ap (λ u. seen_by (Some (effect_in t).process) (left_by u)) same
+      ∙ left_seen t js
+
+  pub same_reply : (s t : State) → seen_by (Some p) s ≡ seen_by (Some p) t → IsConfinedAt s → IsConfinedAt t → (effect_in s).reply ≡ (effect_in t).reply
+  same_reply s t same is js = sym is.reply ∙ ap (λ u. (effect_in u).reply) same ∙ js.reply
+
+  pub here_after : (desks : Desks) (q : Process) → get nat_cmp (with_entry nat_cmp desks pid q) pid ≡ Some q
+  here_after desks q = get-with_entry desks pid q pid ∙ ap (λ b. cond b (Some q) (get nat_cmp desks pid)) (ties pid pid refl)
+
+  pub same_process : (s t : State) → seen_by (Some p) s ≡ seen_by (Some p) t → IsConfinedAt s → IsConfinedAt t
+      → get nat_cmp (left_by s).desks pid ≡ get nat_cmp (left_by t).desks pid
+  same_process s t same is js =
+      here_after s.desks (effect_in s).process
+      ∙ ap Some (sym is.process ∙ ap (λ u. (effect_in u).process) same ∙ js.process)
+      ∙ sym (here_after t.desks (effect_in t).process)
+
+  pub left_alike : (s t : State) → IsFalse s.halted → IsFalse t.halted → seen_by (Some p) s ≡ seen_by (Some p) t → IsConfinedAt s → IsConfinedAt t
+      → AreAlike pid (left_by s) (left_by t)
+  left_alike s t first second same is js = record {
+    first_runs = first;
+    second_runs = second;
+    same =
+        ap (λ o. seen_by o (left_by s)) (here_after s.desks (effect_in s).process)
+        ∙ same_left s t same is js
+        ∙ ap (λ o. seen_by o (left_by t)) (sym (here_after t.desks (effect_in t).process));
+  }
+
+-- a call is confined in each state in which it isn't refused
+abbrev pub Confines : Call → Type 0
+Confines call =
+    (u : State) (pid : ℕ) (p : Process) (number free : ℕ) → IsState u → IsFalse u.halted → get nat_cmp u.desks pid ≡ Some p
+    → IsConfined p.cred → IsCall call → early_refusal p (row_of call) ≡ None → late_refusal u p (row_of call) ≡ None
+    → HasNewNumber u (effect_in pid p (row_of call) number free u).change → IsConfinedAt pid p (row_of call) number free u
+
+-- ---- one event
+
+desks_seen : (o : Option Process) (s : State) → (seen_by o s).desks ≡ s.desks
+desks_seen None s = refl
+desks_seen (Some p) s = refl
+
+pub same_desks : (pid : ℕ) (s t : State) → AreAlike pid s t → s.desks ≡ t.desks
+same_desks pid s t is = sym (desks_seen (get nat_cmp s.desks pid) s) ∙ ap (λ u. u.desks) is.same ∙ desks_seen (get nat_cmp t.desks pid) t
+
+pub here_alike : (pid : ℕ) (s t : State) → AreAlike pid s t → get nat_cmp s.desks pid ≡ get nat_cmp t.desks pid
+here_alike pid s t is = ap (λ desks. get nat_cmp desks pid) (same_desks pid s t is)
+
+pub same_seen : (pid : ℕ) (p : Process) (s t : State) → AreAlike pid s t → get nat_cmp s.desks pid ≡ Some p → seen_by (Some p) s ≡ seen_by (Some p) t
+same_seen pid p s t is here =
+    ap (λ o. seen_by o s) (sym here) ∙ is.same
+    ∙ ap (λ desks. seen_by (get nat_cmp desks pid) t) (sym (same_desks pid s t is)) ∙ ap (λ o. seen_by o t) here
+
+-- the law, for one event that acts
+abbrev pub ActsAlike : Event → Type 0
+ActsAlike e =
+    (pid : ℕ) (p : Process) (s t : State) (choice : Choice)
+    → IsState s → IsState t → get nat_cmp s.desks pid ≡ Some p → IsConfined p.cred → IsEvent e → IsOf pid e
+    → AreAlike pid s t → Acts s e choice → Acts t e choice
+    → AnswerAlike pid (after s e choice).reply (after t e choice).reply (state_after s (after s e choice) choice.free) (state_after t (after t e choice) choice.free)
+
+abbrev pub ConfinesEvent : Event → Type 0
+ConfinesEvent e =
+    (pid : ℕ) (p : Process) (s t s' t' : State) (choice : Choice) (reply reply' : Reply)
+    → IsState s → IsState t → get nat_cmp s.desks pid ≡ Some p → IsConfined p.cred → IsEvent e → IsOf pid e
+    → AreAlike pid s t → StepBy choice s e reply s' → StepBy choice t e reply' t'
+    → AnswerAlike pid reply reply' s' t'
+
+module _ (pid : ℕ) (s t : State) where
+  moved : (s' t' : State) (reply reply' a b : Reply) (u v : State) → reply ≡ a → reply' ≡ b → s' ≡ u → t' ≡ v → AnswerAlike pid a b u v → AnswerAlike pid reply reply' s' t'
+  moved s' t' reply reply' a b u v e f g h is =
+      subst (λ x. AnswerAlike pid x reply' s' t') (sym e)
+      (subst (λ x. AnswerAlike pid a x s' t') (sym f)
+      (subst (λ x. AnswerAlike pid a b x t') (sym g)
+      (subst (λ x. AnswerAlike pid a b u x) (sym h) is)))
+
+pub confines_event : (e : Event) → ActsAlike e → ConfinesEvent e
+confines_event e acts pid p s t s' t' choice reply reply' is js here confined fits of alike (early on r a b c) (early on' r' a' b' c') =
+    moved pid s t s' t' reply reply' (Refused r) (Refused r') s t b b' c c'
+    (record { replies = (let k = same_firm pid s t e alike in cc); process = here_alike pid s t alike; alike = λ _. alike })
+confines_event e acts pid p s t s' t' choice reply reply' is js here confined fits of alike (early on r a b c) (late on' r' d a' b' c') =
+    absurd (let k = same_firm pid s t e alike in cc)
+confines_event e acts pid p s t s' t' choice reply reply' is js here confined fits of alike (early on r a b c) (done act b' c') =
+    absurd (let k = same_firm pid s t e alike in let d = act.early in cc)
+confines_event e acts pid p s t s' t' choice reply reply' is js here confined fits of alike (late on r d a b c) (early on' r' a' b' c') =
+    absurd (let k = same_firm pid s t e alike in cc)
+confines_event e acts pid p s t s' t' choice reply reply' is js here confined fits of alike (late on r d a b c) (late on' r' d' a' b' c') =
+    moved pid s t s' t' reply reply' (Refused r) (Refused r') s t b b' c c'
+    (record { replies = (let k = same_other pid s t e alike in cc); process = here_alike pid s t alike; alike = λ _. alike })
+confines_event e acts pid p s t s' t' choice reply reply' is js here confined fits of alike (late on r d a b c) (done act b' c') =
+    absurd (let k = same_other pid s t e alike in let f = act.late in cc)
+confines_event e acts pid p s t s' t' choice reply reply' is js here confined fits of alike (done act b c) (early on' r' a' b' c') =
+    absurd (let k = same_firm pid s t e alike in let f = act.early in cc)
+confines_event e acts pid p s t s' t' choice reply reply' is js here confined fits of alike (done act b c) (late on' r' d' a' b' c') =
+    absurd (let k = same_other pid s t e alike in let f = act.late in cc)
+confines_event e acts pid p s t s' t' choice reply reply' is js here confined fits of alike (done act b c) (done act' b' c') =
+    moved pid s t s' t' reply reply' _ _ _ _ b b' c c' (acts pid p s t choice is js here confined fits of alike act act')
