@@ -17,8 +17,6 @@ mod script;
 #[cfg(test)]
 mod tests;
 mod text;
-#[cfg(test)]
-mod text_tests;
 mod watched;
 mod words;
 
