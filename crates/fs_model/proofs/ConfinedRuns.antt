@@ -83,7 +83,7 @@ module _ (pid : ℕ) (p q : Process) (s : State) (here : get nat_cmp s.desks pid
   acted_cred is (Arm k) choice of there = absurd of
   acted_cred is (Restart bytes arm) choice of there = absurd of
 
-  stepped_cred : IsState s → (e : Event) (choice : Choice) (reply : Reply) (s' : State) → IsOf pid e → StepBy choice s e reply s'
+  pub stepped_cred : IsState s → (e : Event) (choice : Choice) (reply : Reply) (s' : State) → IsOf pid e → StepBy choice s e reply s'
       → get nat_cmp s'.desks pid ≡ Some q → q.cred ≡ p.cred
   stepped_cred is e choice reply s' of (early on r a b c) there = same_cred (ap (λ u. get nat_cmp u.desks pid) (sym c) ∙ there)
   stepped_cred is e choice reply s' of (late on r d a b c) there = same_cred (ap (λ u. get nat_cmp u.desks pid) (sym c) ∙ there)

@@ -1,6 +1,7 @@
 pub mod BuiltNodes
 pub mod BuiltTrees
 pub mod Confined
+pub mod ConfinedChoices
 pub mod ConfinedEvents
 pub mod ConfinedLooks
 pub mod ConfinedNames

@@ -134,7 +134,7 @@ module _ (room : Room) (t : Tree) (desks : Desks) (h : MayBeSwept room t desks) 
   pub at-swept : (n : ℕ) (node : Node) → node_at t n ≡ Some node → stays t desks (n, node) ≡ true → node_at (swept t desks) n ≡ Some node
   at-swept n node e k = get-filter (stays t desks) t h.numbers n ∙ ap (kept (stays t desks) n) e ∙ ap (λ b. cond b (Some node) None) k
 
-  named_stays : (n : ℕ) (node : Node) → 1 ≤ names_of t n → stays t desks (n, node) ≡ true
+  pub named_stays : (n : ℕ) (node : Node) → 1 ≤ names_of t n → stays t desks (n, node) ≡ true
   named_stays n node some = let b : (names_of t n == 0) ≡ false = grind (arith, nat_tests) in ap (λ b. not b || lives_nameless desks n node.body) b
 
   there : (o : Option Node) → is_some o ≡ true → (node : Node) × (o ≡ Some node)

@@ -1,6 +1,7 @@
 pub mod Acting
 pub mod Both
 pub mod Checked
+pub mod Confined
 pub mod Endings
 pub mod Ends
 pub mod EventEnds

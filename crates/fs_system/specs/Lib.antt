@@ -13,3 +13,4 @@ pub mod Sound
 pub mod Layouts
 pub mod Sweeping
 pub mod Played
+pub mod Confinement

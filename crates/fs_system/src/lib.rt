@@ -18,6 +18,9 @@ mod tests;
 
 pub use faults::{MkfsFault, MountFault, PlayFault};
 pub use fs::Fs;
-pub use laws::{histories_are_runs, trees_are_sound};
+pub use laws::{
+    a_running_system_is_in_one_state, histories_are_runs, trees_are_sound,
+    unreadable_bytes_do_not_show,
+};
 pub use new_disk::mkfs;
 pub use playing::play;

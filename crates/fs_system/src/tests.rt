@@ -2,7 +2,10 @@
 //! and their replies are shown by the scripts of the shell.
 
 use crate::fs::Fs;
-use crate::laws::{histories_are_runs, trees_are_sound};
+use crate::laws::{
+    a_running_system_is_in_one_state, histories_are_runs, trees_are_sound,
+    unreadable_bytes_do_not_show,
+};
 use crate::new_disk::mkfs;
 use fs_cred::{Cred, Errno, Refusal};
 use fs_model::{Bytes, Call, Flags, Path, Reply};
@@ -143,4 +146,6 @@ fn a_halted_one_calls_its_disk_no_more(rt: HostRuntime) -> Result<(), Fail> {
 fn laws_do_nothing(_rt: HostRuntime) {
     histories_are_runs::<MemDisk>();
     trees_are_sound::<MemDisk>();
+    a_running_system_is_in_one_state::<MemDisk>();
+    unreadable_bytes_do_not_show::<MemDisk, FuseDisk<MemDisk>>();
 }

@@ -1,0 +1,71 @@
+-- A file system that runs is in one state, and two that are alike to a process answer it alike.
+use Rattle.std.specs.Prelude.{◌≡◌, ℕ, Bool, None, Some, Ok, Err, IsFalse}
+use Rattle.std.proofs.Common.{sym, ap, ◌∙◌, subst}
+use Rattle.sector_disk.specs.Disk.{DiskState}
+use Rattle.fs_layout.specs.declared.place.Place.{Place}
+use Rattle.fs_layout.specs.Bytes.{SectorMap}
+use Rattle.sector_txn.specs.Stores.{present}
+use Rattle.fs_model.specs.Trees.{Tree, Room, IsTree}
+use Rattle.fs_model.specs.Processes.{Desks}
+use Rattle.fs_model.specs.States.{State, IsState}
+use Rattle.fs_model.specs.Stands.{room_of}
+use Rattle.fs_model.proofs.OneTree.{held_once}
+use Rattle.fs_model.proofs.ConfinedChoices.{steps_alike}
+use Rattle.fs_model.proofs.ConfinedRuns.{stepped_cred}
+use Rattle.fs_model.proofs.ConfinedStepsOf.{steps_are_by}
+use Rattle.fs_model.specs.Confinement.{IsConfined}
+use Rattle.call_parts.specs.Performing.{IsStateOf}
+use Rattle.fs_system.specs.Seen.{Base, IsOn}
+use Rattle.fs_system.specs.Confinement.{UnreadableBytesDoNotShow, IsInOneState}
+
+-- ---- one state
+
+same_state : (s t : State) → t.room ≡ s.room → t.tree ≡ s.tree → t.desks ≡ s.desks → t.free ≡ s.free → t.halted ≡ s.halted → t ≡ s
+same_state s t room tree desks free halted =
+    ap (λ (x : Room). record t { room = x }) room
+    ∙ ap (λ (x : Tree). record t { room = s.room; tree = x }) tree
+    ∙ ap (λ (x : Desks). record t { room = s.room; tree = s.tree; desks = x }) desks
+    ∙ ap (λ (x : ℕ). record t { room = s.room; tree = s.tree; desks = s.desks; free = x }) free
+    ∙ ap (λ (x : Bool). record s { halted = x }) halted
+
+-- a map and a table are those of one state
+state_of_once : (p : Place) (map : SectorMap) (desks : Desks) (s t : State) → IsStateOf p map desks s → IsStateOf p map desks t → t ≡ s
+state_of_once p map desks s t is js =
+    let first : IsTree (room_of p) t.tree = subst (λ r. IsTree r t.tree) js.same_room js.is_state.tree in
+    let second : IsTree (room_of p) s.tree = subst (λ r. IsTree r s.tree) is.same_room is.is_state.tree in
+    same_state s t (js.same_room ∙ sym is.same_room) (held_once p map t.tree s.tree js.holds is.holds first second)
+    (js.same_desks ∙ sym is.same_desks) (js.free_is ∙ sym is.free_is) (js.up ∙ sym is.up)
+
+module _ {D : Type 0} (state : D → DiskState) (p : Place) (desks : Desks) where
+  on_once : (b : Base D) (s t : State) → IsFalse s.halted → IsOn state p desks b s → IsOn state p desks b t → t ≡ s
+  on_once None s t up is js = absurd is
+  on_once (Some (Ok store)) s t up is js = state_of_once p (present state store) desks s t is.state_of js.state_of
+  on_once (Some (Err broken)) s t up is js = absurd cc
+
+  on_is_state : (b : Base D) (s : State) → IsFalse s.halted → IsOn state p desks b s → IsState s
+  on_is_state None s up is = absurd is
+  on_is_state (Some (Ok store)) s up is = is.state_of.is_state
+  on_is_state (Some (Err broken)) s up is = absurd cc
+
+pub one_state : {D : Type 0} (state : D → DiskState) → IsInOneState state
+one_state state fs s t up is js = on_once state fs.place fs.desks fs.base s t up is js
+
+-- ---- two file systems
+
+pub not_shown : {D E : Type 0} (state : D → DiskState) (other : E → DiskState) → UnreadableBytesDoNotShow state other
+not_shown state other pid p s t old new old' new' e reply reply' on on' here plain of fits alike happens happens' served served' =
+    let is = on_is_state state old.place old.desks old.base s alike.first_runs on in
+    let js = on_is_state other old'.place old'.desks old'.base t alike.second_runs on' in
+    let next = happens s on in
+    let next' = happens' t on' in
+    let x = steps_are_by s next.0 e reply next.2.serves served.memory served.disk in
+    let y = steps_are_by t next'.0 e reply' next'.2.serves served'.memory served'.disk in
+    record {
+      first = next.0;
+      second = next'.0;
+      is_first = next.1;
+      is_second = next'.1;
+      alike = λ same.
+          steps_alike pid p s t next.0 next'.0 x.0 y.0 reply reply' is js here plain alike same.numbers same.free e fits of x.1 y.1;
+      confined = λ q there. subst IsConfined (sym (stepped_cred pid p q s here is e x.0 reply next.0 of x.1 there)) plain;
+    }
