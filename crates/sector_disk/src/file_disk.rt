@@ -201,14 +201,11 @@ fn synced_sectors<F: OpenFile>(file: &F) -> io::Result<u32>
     Ok(whole.min(u64::from(MAX_SECTORS)) as u32)
 }
 
-// The sectors of the file from here on.
+// The sectors of the file from here on, in as few reads as the file allows.
 fn read_sectors<F: Read>(file: &mut F, sectors: &mut [[u8; 512]]) -> io::Result<()>
     ensures { length sectors.new ≡ length sectors.old }
 {
-    for sector in sectors {
-        file.read_exact(sector)?;
-    }
-    Ok(())
+    file.read_exact(sectors.as_flattened_mut())
 }
 
 impl<F: Read + Write + Seek + OpenFile + Lockable + Drop> Disk for FileDisk<F> {

@@ -281,7 +281,7 @@ fn refused(rt: &HostRuntime, path: Path<'_>) -> Result<Told, FileFault> {
     Ok(told)
 }
 
-// Where the file isn't failing: a lock, a sync and three reads when it is opened, then a seek and a write for each write. The
+// Where the file isn't failing: a lock, a sync and one read when it is opened, then a seek and a write for each write. The
 // first call that fails and how many do; the disk's failures and which calls pass; what reads give, and what the file has.
 type Failing = (
     u64,
@@ -294,44 +294,44 @@ const FAILING: [Failing; 11] = [
     (1, 1, Err(FileFault::Failed)),
     (2, 1, Err(FileFault::Failed)),
     (
-        5,
+        3,
         1,
         Ok(([false, true, true, true], 1, [1, 2, 3], [1, 2, 3])),
     ),
     (
-        6,
+        4,
         1,
         Ok(([false, true, true, true], 1, [1, 2, 3], [1, 2, 3])),
     ),
     // What the file lacks can't be written again: the second write isn't begun.
     (
-        6,
+        4,
         2,
         Ok(([false, false, true, true], 2, [1, 0, 3], [1, 0, 3])),
     ),
     (
-        6,
+        4,
         3,
         Ok(([false, false, false, true], 3, [1, 0, 3], [1, 0, 3])),
     ),
     (
-        9,
+        7,
         1,
         Ok(([true, true, false, true], 1, [1, 2, 3], [1, 2, 3])),
     ),
     // The last call would write all three sectors again.
     (
-        9,
+        7,
         2,
         Ok(([true, true, false, false], 2, [1, 2, 0], [1, 2, 0])),
     ),
     (
-        11,
+        9,
         1,
         Ok(([true, true, true, false], 1, [1, 2, 3], [1, 2, 0])),
     ),
     (
-        12,
+        10,
         1,
         Ok(([true, true, true, true], 0, [1, 2, 3], [1, 2, 3])),
     ),
