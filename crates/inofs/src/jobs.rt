@@ -15,7 +15,7 @@ use crate::words::{Job, Text, WordsFault, parse_words};
 use fs_layout::place_of;
 use fs_shell::Watched;
 use fs_system::MkfsFault;
-use sector_disk::{Disk, FileDisk, FileFault, Lockable, MemDisk};
+use sector_disk::{Disk, DiskFile, FileDisk, FileFault, MemDisk};
 use std::fs;
 use std::io::{Read, Write};
 use std::rt::Files;
@@ -24,7 +24,7 @@ use std::rt::Files;
 ///
 /// A script on the standard input is read from `input`, and replies are written to `out`: whether a call of them fails is
 /// remembered. A text that can't be written is passed over, with status 3.
-pub fn perform<R: Files<File: Lockable> + AllocGlobal, I: Read, O: Write, E: Write>(
+pub fn perform<R: Files<File: DiskFile> + AllocGlobal, I: Read, O: Write, E: Write>(
     rt: &R,
     words: &[String],
     input: &mut Watched<I>,
@@ -55,7 +55,7 @@ fn refuse<O: Write, E: Write>(fault: &WordsFault, out: &mut Watched<O>, err: &mu
     }
 }
 
-fn perform_job<R: Files<File: Lockable> + AllocGlobal, I: Read, O: Write, E: Write>(
+fn perform_job<R: Files<File: DiskFile> + AllocGlobal, I: Read, O: Write, E: Write>(
     rt: &R,
     job: &Job,
     input: &mut Watched<I>,
@@ -81,7 +81,7 @@ fn perform_job<R: Files<File: Lockable> + AllocGlobal, I: Read, O: Write, E: Wri
 }
 
 // Where so many inodes leave too few sectors for data, no file is made.
-fn make_image<R: Files<File: Lockable> + AllocGlobal, O: Write>(
+fn make_image<R: Files<File: DiskFile> + AllocGlobal, O: Write>(
     rt: &R,
     image: &Text,
     sectors: u32,
@@ -101,7 +101,7 @@ fn make_image<R: Files<File: Lockable> + AllocGlobal, O: Write>(
     make_on_disk(&mut disk, place, out)
 }
 
-fn open_image<R: Files<File: Lockable> + AllocGlobal>(
+fn open_image<R: Files<File: DiskFile> + AllocGlobal>(
     rt: &R,
     image: &Text,
 ) -> Result<FileDisk<R::File>, Failure>
@@ -115,7 +115,7 @@ fn open_image<R: Files<File: Lockable> + AllocGlobal>(
     }
 }
 
-fn run_image<R: Files<File: Lockable> + AllocGlobal, I: Read, O: Write, E: Write>(
+fn run_image<R: Files<File: DiskFile> + AllocGlobal, I: Read, O: Write, E: Write>(
     rt: &R,
     image: &Text,
     script: Option<&Text>,
@@ -136,7 +136,7 @@ fn run_image<R: Files<File: Lockable> + AllocGlobal, I: Read, O: Write, E: Write
     }
 }
 
-fn check_image<R: Files<File: Lockable> + AllocGlobal, O: Write>(
+fn check_image<R: Files<File: DiskFile> + AllocGlobal, O: Write>(
     rt: &R,
     image: &Text,
     out: &mut Watched<O>,

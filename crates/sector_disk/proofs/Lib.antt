@@ -1,5 +1,5 @@
-mod Counted
 mod Done
+mod Following
 mod Forgets
 pub mod Moments
 mod Passing

@@ -1,5 +1,6 @@
 pub mod Disk
 pub mod Faults
+pub mod Files
 pub mod Forgotten
 pub mod History
 pub mod Record

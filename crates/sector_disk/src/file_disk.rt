@@ -1,21 +1,26 @@
 //! A disk kept in a file.
 
-ghost use Rattle.std.specs.Prelude.{◌≡◌, ◌≢◌, ◌<◌, ◌≤◌, length, replicate, IfOk, IfErr};
+ghost use Rattle.std.specs.Prelude.{◌≡◌, ◌≢◌, ◌<◌, ◌≤◌, ◌+◌, ◌-◌, ◌^◌, [], All, Contains, IsErr, min, false, length, replicate, IfOk, IfErr, IfSome, OnOk};
 ghost use Rattle.sector_disk.specs.Disk.{IsFresh};
 ghost use Rattle.sector_disk.specs.Record.{recorded_state};
 ghost use Rattle.sector_disk.specs.Replay.{seen_is_image, counts_now, only_now};
 ghost use Rattle.sector_disk.specs.Whole.{whole_sectors};
+ghost use Rattle.sector_disk.specs.Files.{Follows, HasStable, IsHeldStable};
 ghost use Rattle.sector_disk.specs.declared.file_disk.FileFault.TheVariants.{Exists, OutOfMemory};
 
-use crate::{Disk, DiskFault, Lockable, MemDisk};
+use crate::waiting::write_out;
+use crate::{Disk, DiskFault, DiskFile, MemDisk};
 use std::alloc::{AllocError, Global};
-use std::fs::{self, OpenFile, OpenOptions};
-use std::io::{self, ErrorKind, Read, Seek, SeekFrom, Write};
+use std::fs::{self, OpenOptions};
+use std::io::{self, ErrorKind};
 use std::path::AsPath;
 use std::rt::Files;
 
 // What of a longer file lies behind them is no part of the disk.
 const MAX_SECTORS: u32 = 65_537;
+
+// So many written sectors may wait before a write has to pass them to the file.
+const MAX_WAITING: usize = 1024;
 
 /// Why a disk in a file can't be had.
 #[derive(Clone, Copy, Debug, PartialEq, Eq)]
@@ -38,24 +43,28 @@ impl From<AllocError> for FileFault {
 
 /// A disk whose sectors are those of a file, for a file system that is to last.
 ///
-/// All sectors are in memory, where reads find them; writes and syncs go to the file too. Bytes past the last whole
-/// sector, or past sector 65,536, aren't touched. A seek, a write or a sync of the file that fails is a failure of the
-/// disk. What the file lacks then is written to it again before the next write or sync does anything else.
+/// All sectors are in memory, where reads find them. What is written waits for the next sync, and goes to the file in rising
+/// order then, neighbours in one call; a write to which too much waits passes that on first. Bytes past the last whole
+/// sector, or past sector 65,536, aren't touched. A write or a sync of the file that fails is a failure of the disk, at that
+/// sync or that write. What the file lacks then waits for the next one.
 ///
 /// As long as this lives, it holds the file's lock, so that no other disk is in the file. Nor may anybody who doesn't ask for
-/// the lock write to the file, cut it or remove it, and a write of 512 bytes to it is done or not done, whenever the machine
-/// stops: no clause holds otherwise.
+/// the lock write to the file, cut it or remove it: no clause holds otherwise. Where this is dropped, what still waits is lost, as at a stop.
 #[derive(Drop)]
-pub struct FileDisk<F> {
+pub struct FileDisk<F: DiskFile> {
     // What reads give and what a stop may leave.
     memory: Box<MemDisk>,
     file: F,
-    // From the first of these sectors up to the second the file may lack what reads give.
-    behind: u32,
-    behind_end: u32,
+    // The sectors that the file may lack as reads give them. Its room is there from the start.
+    waiting: Vec<u32>,
+    // Whether it may lack all of them.
+    all_wait: bool,
+    ghost in_disk: { All (λ n. n < length memory.value.history.start) waiting.items },
+    // A stop leaves in the file nothing but what the disk says.
+    ghost follows: { Follows (recorded_state memory.value.history memory.value.failures) waiting.items all_wait (F.held file) },
 }
 
-impl<F: Read + Write + Seek + OpenFile + Lockable + Drop> FileDisk<F> {
+impl<F: DiskFile + Drop> FileDisk<F> {
     /// The disk in a file that is there. What it has is synced first, and so is stable. Where another disk has the file's
     /// lock, this fails, and the file is neither read nor written.
     ///
@@ -88,16 +97,17 @@ impl<F: Read + Write + Seek + OpenFile + Lockable + Drop> FileDisk<F> {
         ensures { IfOk result (λ disk. IsFresh (⟦<FileDisk<F> as Disk>⟧.state disk) (replicate sectors (replicate 512 0))) }
     {
         let memory = boxed(alloc, MemDisk::new(alloc, sectors)?)?;
-        let file = new_file(rt, path, u64::from(sectors) * 512)?;
+        let waiting = Vec::with_capacity(alloc, MAX_WAITING)?;
+        let file = new_file(rt, path, sectors)?;
         Ok(FileDisk {
             memory,
             file,
-            behind: 0,
-            behind_end: 0,
+            waiting,
+            all_wait: false,
         })
     }
 
-    // The disk in an open file, which is at its start.
+    // The disk in an open file.
     pub(crate) fn over(alloc: Global, file: F) -> Result<Self, FileFault>
         ensures fresh { IfOk result (λ disk. IsFresh (⟦<FileDisk<F> as Disk>⟧.state disk) (⟦<FileDisk<F> as Disk>⟧.state disk).seen) }
         ensures small { IfOk result (λ disk. (⟦<FileDisk<F> as Disk>⟧.state disk).size ≤ 65537) }
@@ -109,48 +119,71 @@ impl<F: Read + Write + Seek + OpenFile + Lockable + Drop> FileDisk<F> {
             return Err(FileFault::Failed);
         }
         let memory = boxed(alloc, load(alloc, &mut file)?)?;
+        let waiting = Vec::with_capacity(alloc, MAX_WAITING)?;
         Ok(FileDisk {
             memory,
             file,
-            behind: 0,
-            behind_end: 0,
+            waiting,
+            all_wait: false,
         })
     }
 
-    // Writes a sector to the file.
-    fn store(&mut self, n: u32, content: &[u8; 512]) -> io::Result<()>
-        ensures { self.new.memory.value ≡ self.old.memory.value }
+    // Writes to the file what it may lack.
+    fn flush(&mut self) -> io::Result<()>
+        ensures memory { self.new.memory.value ≡ self.old.memory.value }
+        ensures none { OnOk result (self.new.waiting.items ≡ []) }
+        ensures all { OnOk result (self.new.all_wait ≡ false) }
     {
-        self.file.seek(SeekFrom::Start(u64::from(n) * 512))?;
-        self.file.write_all(content)
+        self.waiting.sort_unstable();
+        write_out(&mut self.file, &self.memory, &self.waiting, self.all_wait)?;
+        self.waiting.clear();
+        self.all_wait = false;
+        Ok(())
     }
 
-    // Writes to the file what it may lack.
-    fn catch_up(&mut self) -> io::Result<()>
+    // Lets a sector wait. Where too many wait already, these are written first.
+    fn wait_for(&mut self, n: u32) -> io::Result<()>
+        requires { n < length self.old.memory.value.history.start }
+        ensures memory { self.new.memory.value ≡ self.old.memory.value }
+        ensures waits { OnOk result (Contains self.new.waiting.items n) }
+    {
+        self.make_room()?;
+        self.waiting.push(n)?;
+        Ok(())
+    }
+
+    fn make_room(&mut self) -> io::Result<()>
         ensures { self.new.memory.value ≡ self.old.memory.value }
     {
-        for n in self.behind..self.behind_end {
-            self.behind = n;
-            if let Some(content) = self.memory.content(n) {
-                self.store(n, &content)?;
-            }
+        if self.waiting.len() < MAX_WAITING {
+            return Ok(());
         }
-        self.behind = self.behind_end;
-        Ok(())
+        self.flush()
+    }
+
+    // Counts a fault.
+    fn fail(&mut self) -> Result<(), DiskFault>
+        ensures history { self.new.memory.value.history ≡ self.old.memory.value.history }
+        ensures counted { self.new.memory.value.failures ≡ min (self.old.memory.value.failures + 1) (2 ^ 64 - 1) }
+        ensures result { IsErr result }
+    {
+        self.memory.fail()
     }
 }
 
 // A new file of so many zeros, locked and synced.
-fn new_file<R: Files<File: Lockable>, P: AsPath>(
+fn new_file<R: Files<File: DiskFile>, P: AsPath>(
     rt: &R,
     path: P,
-    len: u64,
-) -> Result<R::File, FileFault> {
+    sectors: u32,
+) -> Result<R::File, FileFault>
+    ensures { IfOk result (λ file. IfSome (R.File.held file) (HasStable (replicate sectors (replicate 512 0)))) }
+{
     let mut how = OpenOptions::new();
     how.read(true).write(true).create_new(true);
     match how.open(rt, path.path_text()) {
-        Ok(file) => {
-            if prepare(&file, len).is_ok() {
+        Ok(mut file) => {
+            if prepare(&mut file, sectors).is_ok() {
                 return Ok(file);
             }
             let _ = fs::remove_file(rt, path.path_text());
@@ -162,16 +195,18 @@ fn new_file<R: Files<File: Lockable>, P: AsPath>(
 }
 
 // The lock may be taken: by a program that has opened the new file meanwhile, and finds it empty.
-fn prepare<F: OpenFile + Lockable>(file: &F, len: u64) -> io::Result<()> {
+fn prepare<F: DiskFile>(file: &mut F, sectors: u32) -> io::Result<()>
+    ensures { OnOk result (IfSome (F.held file.new) (HasStable (replicate sectors (replicate 512 0)))) }
+{
     file.try_lock()?;
-    file.set_len(len)?;
-    file.sync_all()
+    file.fill(sectors)
 }
 
-// The sectors of a file that is at its start, and is synced first.
-fn load<F: Read + OpenFile>(alloc: Global, file: &mut F) -> Result<MemDisk, FileFault>
+// The sectors of a file, which is synced first.
+fn load<F: DiskFile>(alloc: Global, file: &mut F) -> Result<MemDisk, FileFault>
     ensures fresh { IfOk result (λ disk. IsFresh (⟦<MemDisk as Disk>⟧.state disk) (⟦<MemDisk as Disk>⟧.state disk).seen) }
     ensures small { IfOk result (λ disk. (⟦<MemDisk as Disk>⟧.state disk).size ≤ 65537) }
+    ensures follows { IfOk result (λ disk. Follows (⟦<MemDisk as Disk>⟧.state disk) [] false (F.held file.new)) }
     ensures fault { IfErr result (λ fault. fault ≢ Exists) }
 {
     let Ok(count) = synced_sectors(file) else {
@@ -179,7 +214,7 @@ fn load<F: Read + OpenFile>(alloc: Global, file: &mut F) -> Result<MemDisk, File
     };
     let mut sectors = Vec::new(alloc);
     sectors.resize(count as usize, [0; 512])?;
-    if read_sectors(file, &mut sectors).is_err() {
+    if file.read_all(&mut sectors).is_err() {
         return Err(FileFault::Failed);
     }
     Ok(MemDisk::from_sectors(alloc, sectors)?)
@@ -193,22 +228,16 @@ fn boxed(alloc: Global, disk: MemDisk) -> Result<Box<MemDisk>, AllocError>
 }
 
 // How many sectors of the file a disk has, once it is synced.
-fn synced_sectors<F: OpenFile>(file: &F) -> io::Result<u32>
-    ensures { IfOk result (λ count. count ≤ 65537) }
+fn synced_sectors<F: DiskFile>(file: &mut F) -> io::Result<u32>
+    ensures count { IfOk result (λ count. count ≤ 65537) }
+    ensures stable { OnOk result (IfSome (F.held file.new) IsHeldStable) }
 {
-    file.sync_all()?;
-    let whole = file.metadata()?.len() / 512;
+    file.sync()?;
+    let whole = file.count()?;
     Ok(whole.min(u64::from(MAX_SECTORS)) as u32)
 }
 
-// The sectors of the file from here on, in as few reads as the file allows.
-fn read_sectors<F: Read>(file: &mut F, sectors: &mut [[u8; 512]]) -> io::Result<()>
-    ensures { length sectors.new ≡ length sectors.old }
-{
-    file.read_exact(sectors.as_flattened_mut())
-}
-
-impl<F: Read + Write + Seek + OpenFile + Lockable + Drop> Disk for FileDisk<F> {
+impl<F: DiskFile + Drop> Disk for FileDisk<F> {
     ghost state = { λ disk. recorded_state disk.memory.value.history disk.memory.value.failures };
 
     ghost size_fits = { λ disk. disk.memory.value.small };
@@ -236,28 +265,20 @@ impl<F: Read + Write + Seek + OpenFile + Lockable + Drop> Disk for FileDisk<F> {
     }
 
     fn write(&mut self, n: u32, from: &[u8; 512]) -> Result<(), DiskFault> {
-        if self.catch_up().is_err() {
-            return self.memory.fail();
+        if self.wait_for(n).is_err() {
+            return self.fail();
         }
-        // First to the record: where the file's write fails, a stop may leave the content.
-        self.memory.write(n, from)?;
-        if self.store(n, from).is_ok() {
-            return Ok(());
-        }
-        self.behind = n;
-        self.behind_end = n + 1;
-        self.memory.fail()
+        self.memory.write(n, from)
     }
 
     fn sync(&mut self) -> Result<(), DiskFault> {
-        if self.catch_up().is_err() {
-            return self.memory.fail();
+        if self.flush().is_err() {
+            return self.fail();
         }
-        if self.file.sync_all().is_err() {
+        if self.file.sync().is_err() {
             // A later sync may pass although what this one was to make stable is lost.
-            self.behind = 0;
-            self.behind_end = self.memory.size();
-            return self.memory.fail();
+            self.all_wait = true;
+            return self.fail();
         }
         self.memory.sync()
     }

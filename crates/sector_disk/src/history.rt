@@ -1,6 +1,6 @@
 //! What was done to a disk in memory since it was last stopped.
 
-ghost use Rattle.std.specs.Prelude.{◌≡◌, ◌^◌, ◌<◌, ◌++◌, [], ◌∷◌, length, vec_len, ℕ, ◌≤◌, Contains, IfSome, MatchOption, OnOk, OnErr, IfOk};
+ghost use Rattle.std.specs.Prelude.{◌≡◌, ◌^◌, ◌<◌, ◌++◌, [], ◌∷◌, length, vec_len, ℕ, ◌≤◌, Contains, IfSome, slice_range, OnOk, OnErr, IfOk};
 ghost use Rattle.sector_disk.specs.Disk.{sector};
 ghost use Rattle.sector_disk.specs.Record.{after_events, replay, since_sync, Leaves, MayHold};
 
@@ -81,12 +81,13 @@ impl History {
         *to = self.seen[n as usize];
     }
 
-    /// The same, where there is a sector of that number.
-    pub fn content(&self, n: u32) -> Option<[u8; 512]>
-        ensures { MatchOption result (length self.now.start ≤ n)
-            (λ content. content ≡ sector (after_events self.now.start self.now.events) n) }
+    /// What reads of these sectors give.
+    pub fn run(&self, first: u32, end: u32) -> &[[u8; 512]]
+        requires order { first ≤ end }
+        requires fits { end ≤ length self.now.start }
+        ensures { result.now ≡ slice_range (after_events self.now.start self.now.events) first end }
     {
-        self.seen.get(n as usize).copied()
+        &self.seen[first as usize..end as usize]
     }
 
     /// Records a write; at `Err` nothing has changed.

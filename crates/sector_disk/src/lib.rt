@@ -2,16 +2,17 @@
 #![tactic(auto)]
 
 mod disk;
+mod disk_file;
 mod faulty;
 mod file_disk;
 mod history;
-mod lockable;
 mod memory;
+mod waiting;
 
 pub use disk::{CrashDisk, Disk, DiskFault, write_synced};
+pub use disk_file::DiskFile;
 pub use faulty::{FailOnce, FaultyDisk, FuseDisk};
 pub use file_disk::{FileDisk, FileFault};
-pub use lockable::Lockable;
 pub use memory::MemDisk;
 
 #[cfg(test)]

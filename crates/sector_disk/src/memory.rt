@@ -1,7 +1,7 @@
 //! A disk in memory, which can be stopped. A record of its writes and syncs answers for the moments since the last
 //! stop.
 
-ghost use Rattle.std.specs.Prelude.{◌≡◌, ◌^◌, ◌<◌, ◌-◌, length, vec_len, replicate, IfOk, IsErr, ◌+◌, ℕ, get_or, min, ◌≤◌, MatchOption};
+ghost use Rattle.std.specs.Prelude.{◌≡◌, ◌^◌, ◌<◌, ◌-◌, length, vec_len, replicate, IfOk, IsErr, ◌+◌, ℕ, get_or, min, ◌≤◌, slice_range};
 ghost use Rattle.sector_disk.specs.Disk.{IsFresh, IsWholeSector, sector};
 ghost use Rattle.sector_disk.specs.Record.{recorded_state};
 ghost use Rattle.sector_disk.specs.Replay.{seen_is_image, counts_now, only_now};
@@ -75,12 +75,13 @@ impl MemDisk {
         Err(DiskFault)
     }
 
-    /// What a read of the sector gives, where there is one of that number.
-    pub(crate) fn content(&self, n: u32) -> Option<[u8; 512]>
-        ensures { MatchOption result ((⟦<MemDisk as Disk>⟧.state self.now).size ≤ n)
-            (λ content. content ≡ sector (⟦<MemDisk as Disk>⟧.state self.now).seen n) }
+    /// What reads of these sectors give.
+    pub(crate) fn run(&self, first: u32, end: u32) -> &[[u8; 512]]
+        requires order { first ≤ end }
+        requires fits { end ≤ (⟦<MemDisk as Disk>⟧.state self.now).size }
+        ensures { result.now ≡ slice_range (⟦<MemDisk as Disk>⟧.state self.now).seen first end }
     {
-        self.history.content(n)
+        self.history.run(first, end)
     }
 }
 

@@ -1,15 +1,15 @@
 //! Disks in files of this machine, and in files that fail.
 
 use super::{Call, first_byte, four_calls};
-use crate::{Disk, FileDisk, FileFault, Lockable};
+use crate::{Disk, DiskFile, FileDisk, FileFault};
 use std::cell::Cell;
-use std::fs::{self, File, Metadata, OpenFile, OpenOptions};
-use std::io::{self, ErrorKind, Read, Seek, SeekFrom, Write};
+use std::fs::{self, File, OpenOptions};
+use std::io::{self, ErrorKind};
 use std::path::{Path, PathBuf};
 use std::test::Fail;
 use std::{env, process};
 
-// A file that counts its locks, reads, seeks, writes and syncs, and fails so many of them from the one of this number on.
+// A file that counts its locks, reads, writes and syncs, and fails so many of them from the one of this number on.
 #[derive(Drop)]
 struct Flaky<'a> {
     file: File,
@@ -29,54 +29,34 @@ impl Flaky<'_> {
     }
 }
 
-impl Read for Flaky<'_> {
-    fn read(&mut self, to: &mut [u8]) -> io::Result<usize> {
-        self.pass()?;
-        self.file.read(to)
-    }
-}
-
-impl Write for Flaky<'_> {
-    fn write(&mut self, from: &[u8]) -> io::Result<usize> {
-        self.pass()?;
-        self.file.write(from)
-    }
-
-    fn flush(&mut self) -> io::Result<()> {
-        self.file.flush()
-    }
-}
-
-impl Seek for Flaky<'_> {
-    fn seek(&mut self, to: SeekFrom) -> io::Result<u64> {
-        self.pass()?;
-        self.file.seek(to)
-    }
-}
-
-impl OpenFile for Flaky<'_> {
-    fn metadata(&self) -> io::Result<Metadata> {
-        self.file.metadata()
-    }
-
-    fn set_len(&self, size: u64) -> io::Result<()> {
-        self.file.set_len(size)
-    }
-
-    fn sync_all(&self) -> io::Result<()> {
-        self.pass()?;
-        self.file.sync_all()
-    }
-
-    fn sync_data(&self) -> io::Result<()> {
-        self.file.sync_data()
-    }
-}
-
-impl Lockable for Flaky<'_> {
+impl DiskFile for Flaky<'_> {
     fn try_lock(&self) -> io::Result<()> {
         self.pass()?;
-        Lockable::try_lock(&self.file)
+        DiskFile::try_lock(&self.file)
+    }
+
+    fn count(&self) -> io::Result<u64> {
+        self.file.count()
+    }
+
+    fn fill(&mut self, sectors: u32) -> io::Result<()> {
+        self.pass()?;
+        self.file.fill(sectors)
+    }
+
+    fn read_all(&mut self, to: &mut [[u8; 512]]) -> io::Result<()> {
+        self.pass()?;
+        self.file.read_all(to)
+    }
+
+    fn write_run(&mut self, first: u32, run: &[[u8; 512]]) -> io::Result<()> {
+        self.pass()?;
+        self.file.write_run(first, run)
+    }
+
+    fn sync(&mut self) -> io::Result<()> {
+        self.pass()?;
+        self.file.sync()
     }
 }
 
@@ -112,7 +92,7 @@ enum Step {
     // The disk in a new file, or in one that is there; and while it lives, another disk of that file.
     CreateTwice,
     OpenTwice,
-    // Writes two sectors of the disk, with a sync between them.
+    // Writes two sectors of the disk, and syncs after each.
     Write,
     // The file's length, and three of the bytes past its third sector.
     Tail,
@@ -158,12 +138,7 @@ fn sevens(rt: &HostRuntime, path: Path<'_>) -> Result<Seen, FileFault> {
 
 fn written(rt: &HostRuntime, path: Path<'_>) -> Result<Seen, FileFault> {
     let mut disk = FileDisk::open(rt, rt.alloc(), path)?;
-    let calls = [
-        Call::Write(1, 1),
-        Call::Sync,
-        Call::Write(2, 3),
-        Call::Read(2),
-    ];
+    let calls = [Call::Write(1, 1), Call::Sync, Call::Write(2, 3), Call::Sync];
     if four_calls(&mut disk, calls) != [true; 4] {
         return Err(FileFault::Failed);
     }
@@ -226,7 +201,7 @@ fn a_file_keeps_its_sectors(rt: HostRuntime) -> Result<(), Fail> {
 // counted.
 type Told = (Result<([bool; 4], u64, Seen), FileFault>, u64);
 
-fn fail_calls(rt: &HostRuntime, path: Path<'_>, first: u64, count: u64) -> Told {
+fn fail_calls(rt: &HostRuntime, path: Path<'_>, done: [Call; 4], first: u64, count: u64) -> Told {
     let calls = Cell::new(0);
     let mut how = OpenOptions::new();
     how.read(true).write(true);
@@ -240,23 +215,15 @@ fn fail_calls(rt: &HostRuntime, path: Path<'_>, first: u64, count: u64) -> Told 
         calls: &calls,
     };
     let told = match FileDisk::over(rt.alloc(), flaky) {
-        Ok(disk) => Ok(call_disk(disk)),
+        Ok(disk) => Ok(call_disk(disk, done)),
         Err(fault) => Err(fault),
     };
     (told, calls.get())
 }
 
-fn call_disk<D: Disk + Drop>(disk: D) -> ([bool; 4], u64, Seen) {
+fn call_disk<D: Disk + Drop>(disk: D, calls: [Call; 4]) -> ([bool; 4], u64, Seen) {
     let mut disk = disk;
-    let passed = four_calls(
-        &mut disk,
-        [
-            Call::Write(0, 1),
-            Call::Write(1, 2),
-            Call::Sync,
-            Call::Write(2, 3),
-        ],
-    );
+    let passed = four_calls(&mut disk, calls);
     (passed, disk.failures(), see(&mut disk))
 }
 
@@ -268,7 +235,7 @@ fn fail(
     count: u64,
 ) -> Result<([bool; 4], u64, Seen, Seen), FileFault> {
     let _ = zeros(rt, path, 3 * 512)?;
-    let (told, _) = fail_calls(rt, path, first, count);
+    let (told, _) = fail_calls(rt, path, TWO_RUNS, first, count);
     let (passed, failures, read) = told?;
     Ok((passed, failures, read, opened(rt, path)?))
 }
@@ -276,13 +243,16 @@ fn fail(
 // The same of a file in which another disk is.
 fn refused(rt: &HostRuntime, path: Path<'_>) -> Result<Told, FileFault> {
     let first = FileDisk::create(rt, rt.alloc(), path, 3)?;
-    let told = fail_calls(rt, path, u64::MAX, 0);
+    let told = fail_calls(rt, path, TWO_RUNS, u64::MAX, 0);
     let _ = first.size();
     Ok(told)
 }
 
-// Where the file isn't failing: a lock, a sync and one read when it is opened, then a seek and a write for each write. The
-// first call that fails and how many do; the disk's failures and which calls pass; what reads give, and what the file has.
+const TWO_RUNS: [Call; 4] = [Call::Write(2, 3), Call::Write(0, 1), Call::Sync, Call::Sync];
+
+// Where the file isn't failing: a lock, a sync and a read when it is opened, two writes and a sync at the first sync, and at the
+// second a sync. The first call that fails and how many do; the disk's failures and which calls pass; what reads give, and
+// what the file has.
 type Failing = (
     u64,
     u64,
@@ -296,44 +266,44 @@ const FAILING: [Failing; 11] = [
     (
         3,
         1,
-        Ok(([false, true, true, true], 1, [1, 2, 3], [1, 2, 3])),
+        Ok(([true, true, false, true], 1, [1, 0, 3], [1, 0, 3])),
     ),
+    // The next sync begins with the first run again.
     (
-        4,
-        1,
-        Ok(([false, true, true, true], 1, [1, 2, 3], [1, 2, 3])),
-    ),
-    // What the file lacks can't be written again: the second write isn't begun.
-    (
-        4,
-        2,
-        Ok(([false, false, true, true], 2, [1, 0, 3], [1, 0, 3])),
-    ),
-    (
-        4,
         3,
-        Ok(([false, false, false, true], 3, [1, 0, 3], [1, 0, 3])),
-    ),
-    (
-        7,
-        1,
-        Ok(([true, true, false, true], 1, [1, 2, 3], [1, 2, 3])),
-    ),
-    // The last call would write all three sectors again.
-    (
-        7,
         2,
-        Ok(([true, true, false, false], 2, [1, 2, 0], [1, 2, 0])),
+        Ok(([true, true, false, false], 2, [1, 0, 3], [0, 0, 0])),
     ),
     (
-        9,
+        4,
         1,
-        Ok(([true, true, true, false], 1, [1, 2, 3], [1, 2, 0])),
+        Ok(([true, true, false, true], 1, [1, 0, 3], [1, 0, 3])),
     ),
     (
-        10,
+        4,
+        2,
+        Ok(([true, true, false, false], 2, [1, 0, 3], [1, 0, 0])),
+    ),
+    (
+        5,
         1,
-        Ok(([true, true, true, true], 0, [1, 2, 3], [1, 2, 3])),
+        Ok(([true, true, false, true], 1, [1, 0, 3], [1, 0, 3])),
+    ),
+    // The next one would write all three sectors again.
+    (
+        5,
+        2,
+        Ok(([true, true, false, false], 2, [1, 0, 3], [1, 0, 3])),
+    ),
+    (
+        6,
+        1,
+        Ok(([true, true, true, false], 1, [1, 0, 3], [1, 0, 3])),
+    ),
+    (
+        7,
+        1,
+        Ok(([true, true, true, true], 0, [1, 0, 3], [1, 0, 3])),
     ),
 ];
 
@@ -354,6 +324,38 @@ fn a_failing_file_is_a_failing_disk(rt: HostRuntime) -> Result<(), Fail> {
             (3, file),
         ));
         assert!(rt; seen == wanted, "{first} {count} {seen:?}");
+    }
+    Ok(())
+}
+
+// How many calls of the file of three sectors the calls of its disk take, its opening and a last sync included.
+fn count_calls(rt: &HostRuntime, path: Path<'_>, writes: [u32; 3]) -> Result<u64, FileFault> {
+    let _ = zeros(rt, path, 3 * 512)?;
+    let calls = [
+        Call::Write(writes[0], 1),
+        Call::Write(writes[1], 2),
+        Call::Write(writes[2], 3),
+        Call::Sync,
+    ];
+    let (told, count) = fail_calls(rt, path, calls, u64::MAX, 0);
+    let _ = told?;
+    Ok(count)
+}
+
+#[test]
+fn neighbours_are_written_in_one_call(rt: HostRuntime) -> Result<(), Fail> {
+    let path = scratch(&rt, "runs")?;
+    // A lock, a sync and a read, the writes, and a sync.
+    for (writes, wanted) in [
+        ([0, 1, 2], 5),
+        ([2, 0, 1], 5),
+        ([1, 1, 1], 5),
+        ([0, 1, 0], 5),
+        ([2, 0, 2], 6),
+    ] {
+        let seen = count_calls(&rt, path.as_path(), writes);
+        let _ = fs::remove_file(&rt, path.as_path());
+        assert!(rt; seen == Ok(wanted), "{writes:?} {seen:?}");
     }
     Ok(())
 }
