@@ -1,0 +1,10 @@
+-- The names of flags, by rising bits.
+use Rattle.std.specs.Prelude.{ℕ, List, [], ◌∷◌, codes}
+
+abbrev pub open_flags : List (List ℕ × ℕ)
+open_flags = (codes "write-only", 1) ∷ (codes "read-write", 2) ∷ (codes "exec", 32) ∷ (codes "excl", 128) ∷ (codes "trunc", 512) ∷ []
+
+abbrev pub init_flags : List (List ℕ × ℕ)
+init_flags =
+    (codes "atomic-o-trunc", 8) ∷ (codes "big-writes", 32) ∷ (codes "dont-mask", 64) ∷ (codes "handle-killpriv", 524288)
+    ∷ (codes "posix-acl", 1048576) ∷ (codes "max-pages", 4194304) ∷ []

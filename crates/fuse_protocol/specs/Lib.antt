@@ -1,0 +1,5 @@
+pub mod Bytes
+pub mod Flags
+pub mod Names
+pub mod Operations
+pub mod Requests

@@ -1,0 +1,30 @@
+//! Numbers in the protocol's bytes, the lowest byte first.
+
+ghost use Rattle.std.specs.Prelude.{◌≡◌, ◌≤◌, ◌+◌, length};
+ghost use Rattle.fuse_protocol.specs.Bytes.{u16_of, u32_of, u64_of};
+
+use byteorder::{ByteOrder, LittleEndian};
+
+#[tactic(auto, unfolding(crate::specs::Bytes::u16_of))]
+pub(crate) fn u16_at(from: &[u8], at: usize) -> u16
+    requires { at + 2 ≤ length from.now }
+    ensures { result ≡ u16_of from.now at }
+{
+    LittleEndian::read_u16(&from[at..])
+}
+
+#[tactic(auto, unfolding(crate::specs::Bytes::u32_of))]
+pub(crate) fn u32_at(from: &[u8], at: usize) -> u32
+    requires { at + 4 ≤ length from.now }
+    ensures { result ≡ u32_of from.now at }
+{
+    LittleEndian::read_u32(&from[at..])
+}
+
+#[tactic(auto, unfolding(crate::specs::Bytes::u64_of))]
+pub(crate) fn u64_at(from: &[u8], at: usize) -> u64
+    requires { at + 8 ≤ length from.now }
+    ensures { result ≡ u64_of from.now at }
+{
+    LittleEndian::read_u64(&from[at..])
+}

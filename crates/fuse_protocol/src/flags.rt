@@ -1,0 +1,147 @@
+//! Sets of flags that requests carry.
+ghost use Rattle.std.specs.Prelude.{⊤};
+
+use bitflags::{Flag, Flags};
+
+/// How a file is opened: the flags of open(2) on x86-64, and whether it is to be executed. Others may be set too.
+#[derive(Clone, Copy, PartialEq, Eq)]
+pub struct OpenFlags(pub(crate) u32);
+
+impl OpenFlags {
+    /// For writing. With neither this nor [`OpenFlags::READ_WRITE`] for reading; both together are no way to open a file.
+    pub const WRITE_ONLY: OpenFlags = OpenFlags(1);
+
+    /// For reading and writing.
+    pub const READ_WRITE: OpenFlags = OpenFlags(2);
+
+    /// To be executed.
+    pub const EXEC: OpenFlags = OpenFlags(0x20);
+
+    /// Only if this makes the file.
+    pub const EXCL: OpenFlags = OpenFlags(0o200);
+
+    /// The file loses its bytes.
+    pub const TRUNC: OpenFlags = OpenFlags(0o1000);
+
+    const FLAGS: &'static [Flag<OpenFlags>] = &[
+        Flag {
+            name: "write-only",
+            value: OpenFlags::WRITE_ONLY,
+        },
+        Flag {
+            name: "read-write",
+            value: OpenFlags::READ_WRITE,
+        },
+        Flag {
+            name: "exec",
+            value: OpenFlags::EXEC,
+        },
+        Flag {
+            name: "excl",
+            value: OpenFlags::EXCL,
+        },
+        Flag {
+            name: "trunc",
+            value: OpenFlags::TRUNC,
+        },
+    ];
+}
+
+impl Flags for OpenFlags {
+    ghost use Rattle.fuse_protocol.specs.Flags.{open_flags};
+
+    type Bits = u32;
+
+    ghost exact = { ⊤ };
+
+    ghost table = { open_flags };
+
+    ghost set_of = { λ flags. flags.0 };
+
+    fn flags<'a>() -> &'a [Flag<OpenFlags>] {
+        OpenFlags::FLAGS
+    }
+
+    fn bits(&self) -> u32 {
+        self.0
+    }
+
+    fn from_bits_retain(bits: u32) -> OpenFlags {
+        OpenFlags(bits)
+    }
+}
+
+/// What the kernel offers when a file system is mounted, and what is taken of it. Others may be set too.
+#[derive(Clone, Copy, PartialEq, Eq)]
+pub struct InitFlags(pub(crate) u32);
+
+impl InitFlags {
+    /// Opening a file takes its bytes away, where that is asked.
+    pub const ATOMIC_O_TRUNC: InitFlags = InitFlags(1 << 3);
+
+    /// Writes may have more than 4,096 bytes.
+    pub const BIG_WRITES: InitFlags = InitFlags(1 << 5);
+
+    /// The umask isn't applied by the kernel.
+    pub const DONT_MASK: InitFlags = InitFlags(1 << 6);
+
+    /// Set-id bits are taken away by the file system.
+    pub const HANDLE_KILLPRIV: InitFlags = InitFlags(1 << 19);
+
+    /// The kernel asks for modes and ACLs, and refuses by them first.
+    pub const POSIX_ACL: InitFlags = InitFlags(1 << 20);
+
+    /// The answer says how many pages a request may have.
+    pub const MAX_PAGES: InitFlags = InitFlags(1 << 22);
+
+    const FLAGS: &'static [Flag<InitFlags>] = &[
+        Flag {
+            name: "atomic-o-trunc",
+            value: InitFlags::ATOMIC_O_TRUNC,
+        },
+        Flag {
+            name: "big-writes",
+            value: InitFlags::BIG_WRITES,
+        },
+        Flag {
+            name: "dont-mask",
+            value: InitFlags::DONT_MASK,
+        },
+        Flag {
+            name: "handle-killpriv",
+            value: InitFlags::HANDLE_KILLPRIV,
+        },
+        Flag {
+            name: "posix-acl",
+            value: InitFlags::POSIX_ACL,
+        },
+        Flag {
+            name: "max-pages",
+            value: InitFlags::MAX_PAGES,
+        },
+    ];
+}
+
+impl Flags for InitFlags {
+    ghost use Rattle.fuse_protocol.specs.Flags.{init_flags};
+
+    type Bits = u32;
+
+    ghost exact = { ⊤ };
+
+    ghost table = { init_flags };
+
+    ghost set_of = { λ flags. flags.0 };
+
+    fn flags<'a>() -> &'a [Flag<InitFlags>] {
+        InitFlags::FLAGS
+    }
+
+    fn bits(&self) -> u32 {
+        self.0
+    }
+
+    fn from_bits_retain(bits: u32) -> InitFlags {
+        InitFlags(bits)
+    }
+}
