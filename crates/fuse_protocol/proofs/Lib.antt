@@ -1,1 +1,3 @@
+pub mod AclEntries
+pub mod Runs
 pub mod Texts

@@ -1,9 +1,10 @@
 //! Numbers in the protocol's bytes, the lowest byte first.
 
-ghost use Rattle.std.specs.Prelude.{◌≡◌, ◌≤◌, ◌+◌, length};
-ghost use Rattle.fuse_protocol.specs.Bytes.{u16_of, u32_of, u64_of};
+ghost use Rattle.std.specs.Prelude.{◌≡◌, ◌≤◌, ◌+◌, ◌++◌, length, OnOk};
+ghost use Rattle.fuse_protocol.specs.Bytes.{u16_of, u32_of, u64_of, le16s, le32s, le64s};
 
 use byteorder::{ByteOrder, LittleEndian};
+use std::alloc::AllocError;
 
 #[tactic(auto, unfolding(crate::specs::Bytes::u16_of))]
 pub(crate) fn u16_at(from: &[u8], at: usize) -> u16
@@ -27,4 +28,31 @@ pub(crate) fn u64_at(from: &[u8], at: usize) -> u64
     ensures { result ≡ u64_of from.now at }
 {
     LittleEndian::read_u64(&from[at..])
+}
+
+pub(crate) fn push_u16s(to: &mut Vec<u8>, xs: &[u16]) -> Result<(), AllocError>
+    ensures { OnOk result (to.new.items ≡ to.old.items ++ le16s xs.now) }
+{
+    for x in xs {
+        to.extend_from_slice(&x.to_le_bytes())?;
+    }
+    Ok(())
+}
+
+pub(crate) fn push_u32s(to: &mut Vec<u8>, xs: &[u32]) -> Result<(), AllocError>
+    ensures { OnOk result (to.new.items ≡ to.old.items ++ le32s xs.now) }
+{
+    for x in xs {
+        to.extend_from_slice(&x.to_le_bytes())?;
+    }
+    Ok(())
+}
+
+pub(crate) fn push_u64s(to: &mut Vec<u8>, xs: &[u64]) -> Result<(), AllocError>
+    ensures { OnOk result (to.new.items ≡ to.old.items ++ le64s xs.now) }
+{
+    for x in xs {
+        to.extend_from_slice(&x.to_le_bytes())?;
+    }
+    Ok(())
 }

@@ -1,14 +1,20 @@
 //! The kernel's FUSE protocol, version 7.31, as values: what the bytes of a request say, and which bytes a reply is.
 #![tactic(auto)]
 
+mod acl_value;
 mod bytes;
+mod entry;
 mod flags;
 mod opcode;
 mod operation;
 mod piece;
+mod reply;
 mod request;
 
+pub use acl_value::{AclValueFault, read_acl_value, write_acl_value};
+pub use entry::{DirectoryEntry, EntryKind, push_entry};
 pub use flags::{InitFlags, OpenFlags};
 pub use operation::{AttrChanges, Extent, NewTime, Offer, Operation};
 pub use piece::{Name, Piece};
+pub use reply::{Attr, Reply, Room, Terms, Time, write_reply};
 pub use request::{HEADER_SIZE, Request, RequestFault, parse_request};

@@ -1,0 +1,24 @@
+-- The bytes of a directory's entry.
+use Rattle.std.specs.Prelude.{ℕ, ◌+◌, ◌-◌, ◌%◌, List, [], ◌∷◌, ◌++◌, length}
+use Rattle.fuse_protocol.specs.declared.entry.DirectoryEntry.{DirectoryEntry}
+use Rattle.fuse_protocol.specs.declared.entry.EntryKind.{EntryKind}
+use Rattle.fuse_protocol.specs.declared.entry.EntryKind.TheVariants as kinds
+use Rattle.fuse_protocol.specs.Bytes.{le32s, le64s, zeros}
+
+-- as readdir(3) numbers kinds
+abbrev pub kind_number : EntryKind → ℕ
+kind_number kinds.Unknown = 0
+kind_number kinds.Directory = 4
+
+-- so many bytes are missing to a multiple of 8
+abbrev pub padding : ℕ → ℕ
+padding name = (8 - name % 8) % 8
+
+abbrev pub entry_size : ℕ → ℕ
+entry_size name = 24 + name + padding name
+
+-- inode, offset of the next, length of the name, kind, name, zeros
+unfoldable pub directory_entry_bytes : DirectoryEntry → List ℕ
+directory_entry_bytes e =
+    le64s (e.inode ∷ e.next ∷ [])
+    ++ (le32s (length e.name ∷ kind_number e.kind ∷ []) ++ (e.name ++ zeros (padding (length e.name))))

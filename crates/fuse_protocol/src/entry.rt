@@ -1,0 +1,66 @@
+//! The entries of a directory, as READDIR tells them.
+
+ghost use Rattle.std.specs.Prelude.{◌≡◌, ◌<◌, ◌+◌, ◌^◌, ◌++◌, ◌≤◌, length, vec_len, nat_le, [], if◌then◌else◌, IfOk, OnOk};
+ghost use Rattle.fuse_protocol.specs.Bytes.{zeros};
+ghost use Rattle.fuse_protocol.specs.Entries.{directory_entry_bytes, entry_size, kind_number};
+
+use crate::bytes::{push_u32s, push_u64s};
+use crate::piece::Piece;
+use std::alloc::AllocError;
+
+/// What is said of an entry's kind.
+#[derive(Clone, Copy)]
+pub enum EntryKind {
+    /// Nothing: who wants to know it asks for the attributes.
+    Unknown = 0,
+    /// A directory.
+    Directory = 4,
+}
+
+/// An entry of a directory: its inode, the offset of the entry behind it, and its name.
+#[derive(Drop)]
+pub struct DirectoryEntry<'a> {
+    pub inode: u64,
+    pub next: u64,
+    pub kind: EntryKind,
+    pub name: Piece<'a>,
+}
+
+// The bytes of an entry whose name has so many; each entry begins at a multiple of 8.
+fn entry_size(name: usize) -> usize
+    requires { name < 2 ^ 32 }
+    ensures { result ≡ entry_size name }
+{
+    24 + name + (8 - name % 8) % 8
+}
+
+fn push_zeros(to: &mut Vec<u8>, count: usize) -> Result<(), AllocError>
+    requires { count ≤ 8 }
+    ensures { OnOk result (to.new.items ≡ to.old.items ++ zeros count) }
+{
+    to.extend_from_slice(&[0; 8][..count])?;
+    Ok(())
+}
+
+/// Adds the entry, and tells so, where all has then at most so many bytes; else nothing is added.
+#[tactic(auto, using(std::proofs::Common::append_assoc), unfolding(crate::specs::Entries::directory_entry_bytes))]
+pub fn push_entry(
+    to: &mut Vec<u8>,
+    most: usize,
+    entry: &DirectoryEntry<'_>,
+) -> Result<bool, AllocError>
+    requires { length entry.now.name < 2 ^ 32 }
+    ensures fits { IfOk result (λ added. added ≡ nat_le (vec_len to.old + entry_size (length entry.now.name)) most) }
+    ensures bytes { IfOk result (λ added. to.new.items ≡ to.old.items ++ (if added then directory_entry_bytes entry.now else [])) }
+{
+    let name = entry.name.bytes();
+    let size = entry_size(name.len());
+    if most < size || most - size < to.len() {
+        return Ok(false);
+    }
+    push_u64s(to, &[entry.inode, entry.next])?;
+    push_u32s(to, &[name.len() as u32, entry.kind as u32])?;
+    to.extend_from_slice(name)?;
+    push_zeros(to, size - 24 - name.len())?;
+    Ok(true)
+}
