@@ -101,6 +101,16 @@ ssize_t write(int file, const void *from, size_t length) {
     return syscall(SYS_write, file, from, image_length(file, length));
 }
 ssize_t __write(int file, const void *from, size_t length) { return write(file, from, length); }
+
+ssize_t pread64(int file, void *to, size_t length, off_t at) {
+    return image_fails(file) ? -1 : syscall(SYS_pread64, file, to, image_length(file, length), at);
+}
+ssize_t pread(int file, void *to, size_t length, off_t at) { return pread64(file, to, length, at); }
+
+ssize_t pwrite64(int file, const void *from, size_t length, off_t at) {
+    return image_fails(file) ? -1 : syscall(SYS_pwrite64, file, from, image_length(file, length), at);
+}
+ssize_t pwrite(int file, const void *from, size_t length, off_t at) { return pwrite64(file, from, length, at); }
 int fsync(int file) { return image_fails(file) ? -1 : syscall(SYS_fsync, file); }
 int fdatasync(int file) { return image_fails(file) ? -1 : syscall(SYS_fdatasync, file); }
 int ftruncate(int file, off_t length) { return image_fails(file) ? -1 : syscall(SYS_ftruncate, file, length); }
