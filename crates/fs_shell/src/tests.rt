@@ -1,9 +1,7 @@
 //! What a line says, and runs over readers and writers of several kinds. What file systems answer to lines, and the texts of
 //! it, is tried by the program `rows`.
 
-use crate::{
-    Count, Line, LineFault, RunFault, Watched, a_line_says_one_thing, parse_line, run,
-};
+use crate::{Count, Line, LineFault, RunFault, Watched, a_line_says_one_thing, parse_line, run};
 use fs_model::{Call, Event};
 use fs_system::{Fs, mkfs};
 use posix_acl::Perms;
