@@ -1,3 +1,4 @@
 pub mod AclEntries
 pub mod Runs
+pub mod SpelledRequests
 pub mod Texts

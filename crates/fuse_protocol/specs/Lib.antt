@@ -6,3 +6,4 @@ pub mod Names
 pub mod Operations
 pub mod Replies
 pub mod Requests
+pub mod Spellings

@@ -12,7 +12,7 @@ use posix_acl::{Acl, Entry, EntryNumbers};
 use std::alloc::{AllocError, AllocFailed, Global};
 
 /// Why a value says no entries.
-#[derive(Clone, Copy, PartialEq, Eq)]
+#[derive(Clone, Copy, Debug)]
 pub enum AclValueFault {
     /// It isn't of the form.
     Malformed,

@@ -4,7 +4,7 @@ ghost use Rattle.std.specs.Prelude.{⊤};
 use bitflags::{Flag, Flags};
 
 /// How a file is opened: the flags of open(2) on x86-64, and whether it is to be executed. Others may be set too.
-#[derive(Clone, Copy, PartialEq, Eq)]
+#[derive(Clone, Copy)]
 pub struct OpenFlags(pub(crate) u32);
 
 impl OpenFlags {
@@ -72,7 +72,7 @@ impl Flags for OpenFlags {
 }
 
 /// What the kernel offers when a file system is mounted, and what is taken of it. Others may be set too.
-#[derive(Clone, Copy, PartialEq, Eq)]
+#[derive(Clone, Copy)]
 pub struct InitFlags(pub(crate) u32);
 
 impl InitFlags {

@@ -5,15 +5,19 @@ mod acl_value;
 mod bytes;
 mod entry;
 mod flags;
+mod laws;
 mod opcode;
 mod operation;
 mod piece;
 mod reply;
 mod request;
+#[cfg(test)]
+mod tests;
 
 pub use acl_value::{AclValueFault, read_acl_value, write_acl_value};
 pub use entry::{DirectoryEntry, EntryKind, push_entry};
 pub use flags::{InitFlags, OpenFlags};
+pub use laws::spellings_are_read;
 pub use operation::{AttrChanges, Extent, NewTime, Offer, Operation};
 pub use piece::{Name, Piece};
 pub use reply::{Attr, Reply, Room, Terms, Time, write_reply};

@@ -22,7 +22,7 @@ pub struct Request<'a> {
 }
 
 /// Why bytes are no request.
-#[derive(Clone, Copy, PartialEq, Eq)]
+#[derive(Clone, Copy)]
 pub enum RequestFault {
     /// They are fewer than a header has, or than the header says, or more. There is no reply to this.
     NotWhole,
