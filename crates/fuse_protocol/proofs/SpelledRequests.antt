@@ -12,20 +12,20 @@ use Rattle.fuse_protocol.specs.Bytes.{le16s, le32s, le64s, u16_of, u32_of, u64_o
 use Rattle.fuse_protocol.specs.Names.{is_nul, text_of}
 use Rattle.fuse_protocol.specs.Operations.{operation_of}
 use Rattle.fuse_protocol.specs.Requests.{request_of, request_with, operation_in}
-use Rattle.fuse_protocol.specs.Spellings.{AreRead, NamesAreRead, RequestsAreRead, Header, header_bytes, request_bytes, request_of_parts}
+use Rattle.fuse_protocol.specs.Spellings.{AreReadBack, NamesAreReadBack, RequestsAreRead, Header, header_bytes, request_bytes, request_of_parts}
 use Rattle.fuse_protocol.proofs.Texts.{text_by_place, without_slash}
 
-pub read_16 : AreRead 16 le16s u16_of
+pub read_16 : AreReadBack 16 le16s u16_of
 unfolding le16s u16_of
 read_16 front rest x fits =
     ap (little_number 2) (drop_at front (le16s (x ∷ []) ++ rest) (length front) refl) ∙ little_number-reads_back 2 x rest fits
 
-pub read_32 : AreRead 32 le32s u32_of
+pub read_32 : AreReadBack 32 le32s u32_of
 unfolding le32s u32_of
 read_32 front rest x fits =
     ap (little_number 4) (drop_at front (le32s (x ∷ []) ++ rest) (length front) refl) ∙ little_number-reads_back 4 x rest fits
 
-pub read_64 : AreRead 64 le64s u64_of
+pub read_64 : AreReadBack 64 le64s u64_of
 unfolding le64s u64_of
 read_64 front rest x fits =
     ap (little_number 8) (drop_at front (le64s (x ∷ []) ++ rest) (length front) refl) ∙ little_number-reads_back 8 x rest fits
@@ -41,7 +41,7 @@ ends_from i (b ∷ text) rest none =
       | false ↦ λ _ no. ends_from (i + 1) text rest no ∙ ap Some (omega arith)
     ] refl none
 
-pub read_name : NamesAreRead
+pub read_name : NamesAreReadBack
 read_name front name rest is =
     let s = front ++ (name ++ 0 ∷ rest) in
     let from : drop (length front) s ≡ name ++ 0 ∷ rest = drop_at front (name ++ 0 ∷ rest) (length front) refl in

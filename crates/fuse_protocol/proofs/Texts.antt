@@ -3,7 +3,7 @@ use Rattle.std.proofs.Common.{◌≡◌, ℕ, suc, ◌+◌, ◌<◌, Bool, true,
 use Rattle.std.specs.List.{list_any, position, position_from}
 use Rattle.std.proofs.lemmas.Iterator.Adapters.{position_from-zero}
 use Rattle.std.proofs.lemmas.List.{drop_all}
-use Rattle.fuse_protocol.specs.Names.{is_nul, is_slash, as_name, text_of, name_of}
+use Rattle.fuse_protocol.specs.Names.{is_nul, is_slash, as_name, text_of, name_from}
 
 -- no item of a list passes before an index in it
 pub record IsFirstPlace (p : ℕ → Bool) (xs : List ℕ) (k : ℕ) : Type 0 where
@@ -37,15 +37,15 @@ pub no_text_past : (s : List ℕ) (at : ℕ) → length s ≤ at → None ≡ te
 no_text_past s at past = text_by_place s at None (ap (position is_nul) (sym (drop_all at s past)))
 
 -- the name, by the text
-pub name_by_text : (s : List ℕ) (at : ℕ) (text : Option (List ℕ)) → text ≡ text_of s at → option_and_then as_name text ≡ name_of s at
-unfolding name_of
+pub name_by_text : (s : List ℕ) (at : ℕ) (text : Option (List ℕ)) → text ≡ text_of s at → option_and_then as_name text ≡ name_from s at
+unfolding name_from
 name_by_text s at text e = ap (option_and_then as_name) e
 
-pub no_name_of : (s : List ℕ) (at : ℕ) → None ≡ text_of s at → None ≡ name_of s at
+pub no_name_of : (s : List ℕ) (at : ℕ) → None ≡ text_of s at → None ≡ name_from s at
 no_name_of s at e = name_by_text s at None e
 
-pub with_slash : (s text : List ℕ) (at : ℕ) → Some text ≡ text_of s at → list_any is_slash text ≡ true → None ≡ name_of s at
+pub with_slash : (s text : List ℕ) (at : ℕ) → Some text ≡ text_of s at → list_any is_slash text ≡ true → None ≡ name_from s at
 with_slash s text at e slash = (let none : None ≡ as_name text = rw slash refl in none) ∙ name_by_text s at (Some text) e
 
-pub without_slash : (s text : List ℕ) (at : ℕ) → Some text ≡ text_of s at → list_any is_slash text ≡ false → Some text ≡ name_of s at
+pub without_slash : (s text : List ℕ) (at : ℕ) → Some text ≡ text_of s at → list_any is_slash text ≡ false → Some text ≡ name_from s at
 without_slash s text at e plain = (let some : Some text ≡ as_name text = rw plain refl in some) ∙ name_by_text s at (Some text) e

@@ -6,9 +6,9 @@ use Rattle.fuse_protocol.specs.declared.entry.EntryKind.TheVariants as kinds
 use Rattle.fuse_protocol.specs.Bytes.{le32s, le64s, zeros}
 
 -- as readdir(3) numbers kinds
-abbrev pub kind_number : EntryKind → ℕ
-kind_number kinds.Unknown = 0
-kind_number kinds.Directory = 4
+abbrev pub entry_kind_number : EntryKind → ℕ
+entry_kind_number kinds.Unknown = 0
+entry_kind_number kinds.Directory = 4
 
 -- so many bytes are missing to a multiple of 8
 abbrev pub padding : ℕ → ℕ
@@ -21,4 +21,4 @@ entry_size name = 24 + name + padding name
 unfoldable pub directory_entry_bytes : DirectoryEntry → List ℕ
 directory_entry_bytes e =
     le64s (e.inode ∷ e.next ∷ [])
-    ++ (le32s (length e.name ∷ kind_number e.kind ∷ []) ++ (e.name ++ zeros (padding (length e.name))))
+    ++ (le32s (length e.name ∷ entry_kind_number e.kind ∷ []) ++ (e.name ++ zeros (padding (length e.name))))

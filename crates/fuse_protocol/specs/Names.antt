@@ -1,6 +1,6 @@
 -- Texts in a request, which end in NUL.
---     IsName        what a name in a directory may be
---     text_of, name_of        the text that begins at an offset; the same where it is a name
+--     IsFileName        what a name in a directory may be
+--     text_of, name_from        the text that begins at an offset; the same where it is a name
 use Rattle.std.specs.Prelude.{◌≡◌, ℕ, ◌==◌, Bool, false, List, take, drop, position, Option, Some, None, option_map, option_and_then, if◌then◌else◌}
 use Rattle.std.specs.List.{list_any}
 
@@ -11,7 +11,7 @@ abbrev pub is_slash : ℕ → Bool
 is_slash byte = byte == 47
 
 -- no byte of it is NUL or /
-pub record IsName (name : List ℕ) : Type 0 where
+pub record IsFileName (name : List ℕ) : Type 0 where
   pub no_nul : list_any is_nul name ≡ false
   pub no_slash : list_any is_slash name ≡ false
 
@@ -23,5 +23,5 @@ text_of s at = option_map (λ end. take end (drop at s)) (position is_nul (drop 
 abbrev pub as_name : List ℕ → Option (List ℕ)
 as_name text = if list_any is_slash text then None else Some text
 
-unfoldable pub name_of : List ℕ → ℕ → Option (List ℕ)
-name_of s at = option_and_then as_name (text_of s at)
+unfoldable pub name_from : List ℕ → ℕ → Option (List ℕ)
+name_from s at = option_and_then as_name (text_of s at)

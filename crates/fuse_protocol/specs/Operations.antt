@@ -14,7 +14,7 @@ use Rattle.fuse_protocol.specs.declared.operation.NewTime.TheVariants.{Now, At}
 use Rattle.fuse_protocol.specs.declared.operation.Operation.{Operation}
 use Rattle.fuse_protocol.specs.declared.operation.Operation.TheVariants.{Lookup, Forget, GetAttr, SetAttr, ReadLink, SymLink, MkNod, MkDir, Unlink, RmDir, Rename, Link, Open, Read, Write, StatFs, Release, FSync, SetXAttr, GetXAttr, ListXAttr, RemoveXAttr, Init, OpenDir, ReadDir, ReleaseDir, FSyncDir, Access, Create, Interrupt, Destroy, BatchForget, SyncFs, Unknown}
 use Rattle.fuse_protocol.specs.Bytes.{u32_of, u64_of}
-use Rattle.fuse_protocol.specs.Names.{text_of, name_of}
+use Rattle.fuse_protocol.specs.Names.{text_of, name_from}
 
 -- a value, where the body has at least so many bytes
 abbrev pub where_long : {X : Type 0} → List ℕ → ℕ → X → Option X
@@ -30,14 +30,14 @@ first_handle s size = where_long s size (u64_of s 0)
 
 -- what is said with the name at an offset; and with the two names from there on
 abbrev pub with_name : List ℕ → ℕ → (List ℕ → Operation) → Option Operation
-with_name s at f = option_map f (name_of s at)
+with_name s at f = option_map f (name_from s at)
 
-abbrev pub with_names : List ℕ → ℕ → (List ℕ → List ℕ → Operation) → Option Operation
-with_names s at f = option_and_then (λ name. with_name s (at + length name + 1) (f name)) (name_of s at)
+abbrev pub with_two_names : List ℕ → ℕ → (List ℕ → List ℕ → Operation) → Option Operation
+with_two_names s at f = option_and_then (λ name. with_name s (at + length name + 1) (f name)) (name_from s at)
 
 -- the name of the link, then its target
 abbrev pub symlink_of : List ℕ → Option Operation
-symlink_of s = option_and_then (λ name. option_map (SymLink name) (text_of s (length name + 1))) (name_of s 0)
+symlink_of s = option_and_then (λ name. option_map (SymLink name) (text_of s (length name + 1))) (name_from s 0)
 
 -- mode, device, umask
 abbrev pub make_node_of : List ℕ → Option Operation
@@ -49,11 +49,11 @@ make_directory_of s = with_name s 8 (λ name. MkDir name (u32_of s 0) (u32_of s 
 
 -- the new directory
 abbrev pub rename_of : List ℕ → Option Operation
-rename_of s = with_names s 8 (λ name new_name. Rename name (u64_of s 0) new_name 0)
+rename_of s = with_two_names s 8 (λ name new_name. Rename name (u64_of s 0) new_name 0)
 
 -- the new directory, flags
 abbrev pub rename2_of : List ℕ → Option Operation
-rename2_of s = with_names s 16 (λ name new_name. Rename name (u64_of s 0) new_name (u32_of s 8))
+rename2_of s = with_two_names s 16 (λ name new_name. Rename name (u64_of s 0) new_name (u32_of s 8))
 
 -- the node that gets the name
 abbrev pub link_of : List ℕ → Option Operation
@@ -103,11 +103,11 @@ abbrev pub extent_of : List ℕ → Option Extent
 extent_of s = where_long s 40 (record { handle = u64_of s 0; offset = u64_of s 8; size = u32_of s 16 })
 
 -- what is written is the rest, and has the size
-abbrev pub with_bytes : Extent → List ℕ → Option Operation
-with_bytes x bytes = if length bytes == x.size then Some (Write x.handle x.offset bytes) else None
+abbrev pub write_with : Extent → List ℕ → Option Operation
+write_with x bytes = if length bytes == x.size then Some (Write x.handle x.offset bytes) else None
 
 abbrev pub write_of : List ℕ → Option Operation
-write_of s = option_and_then (λ x. with_bytes x (drop 40 s)) (extent_of s)
+write_of s = option_and_then (λ x. write_with x (drop 40 s)) (extent_of s)
 
 -- ---- the rest
 

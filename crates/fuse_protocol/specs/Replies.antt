@@ -18,8 +18,8 @@ attr_bytes a =
     ++ le32s (a.atime.nanoseconds ∷ a.mtime.nanoseconds ∷ a.ctime.nanoseconds ∷ a.mode ∷ a.links ∷ a.uid ∷ a.gid ∷ 0 ∷ a.block_size ∷ 0 ∷ [])
 
 -- 128 bytes: the node, its generation, how long name and attributes are valid, and the attributes
-abbrev pub entry_bytes : ℕ → Attr → List ℕ
-entry_bytes node a = le64s (node ∷ 0 ∷ 0 ∷ 0 ∷ 0 ∷ []) ++ attr_bytes a
+abbrev pub entry_reply_bytes : ℕ → Attr → List ℕ
+entry_reply_bytes node a = le64s (node ∷ 0 ∷ 0 ∷ 0 ∷ 0 ∷ []) ++ attr_bytes a
 
 -- 16 bytes: no flag is set
 abbrev pub open_bytes : ℕ → List ℕ
@@ -43,8 +43,8 @@ abbrev pub body_bytes : Reply → List ℕ
 body_bytes (replies.Error number) = []
 body_bytes replies.Done = []
 body_bytes (replies.Attr a) = le64s (0 ∷ 0 ∷ []) ++ attr_bytes a
-body_bytes (replies.Entry node a) = entry_bytes node a
-body_bytes (replies.Created node a handle) = entry_bytes node a ++ open_bytes handle
+body_bytes (replies.Entry node a) = entry_reply_bytes node a
+body_bytes (replies.Created node a handle) = entry_reply_bytes node a ++ open_bytes handle
 body_bytes (replies.Open handle) = open_bytes handle
 body_bytes (replies.Init terms) = terms_bytes terms
 body_bytes (replies.Count count) = le32s (count ∷ 0 ∷ [])

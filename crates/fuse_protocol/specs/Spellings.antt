@@ -1,5 +1,5 @@
 -- What is spelled is what is read: numbers and names wherever they stand, and headers.
---     AreRead        a number that stands behind a front as its bytes is the one that is read there
+--     AreReadBack        a number that stands behind a front as its bytes is the one that is read there
 --     Header, request_bytes        a header's numbers, and a request of them, a body and extensions
 --     request_of_parts        what such a request says
 use Rattle.std.specs.Prelude.{◌≡◌, ℕ, ◌+◌, ◌*◌, ◌<◌, ◌^◌, List, [], ◌∷◌, ◌++◌, length, Option, Some, None, Result, Ok, Err}
@@ -9,16 +9,16 @@ use Rattle.fuse_protocol.specs.declared.request.RequestFault.{RequestFault}
 use Rattle.fuse_protocol.specs.declared.request.RequestFault.TheVariants.{Malformed}
 use Rattle.fuse_protocol.specs.declared.request.TheConstants.{HEADER_SIZE}
 use Rattle.fuse_protocol.specs.Bytes.{le16s, le32s, le64s}
-use Rattle.fuse_protocol.specs.Names.{IsName, name_of}
+use Rattle.fuse_protocol.specs.Names.{IsFileName, name_from}
 use Rattle.fuse_protocol.specs.Operations.{operation_of}
 use Rattle.fuse_protocol.specs.Requests.{request_of}
 
-abbrev pub AreRead : ℕ → (List ℕ → List ℕ) → (List ℕ → ℕ → ℕ) → Type 0
-AreRead bits bytes number =
+abbrev pub AreReadBack : ℕ → (List ℕ → List ℕ) → (List ℕ → ℕ → ℕ) → Type 0
+AreReadBack bits bytes number =
     (front rest : List ℕ) (x : ℕ) → x < 2 ^ bits → number (front ++ (bytes (x ∷ []) ++ rest)) (length front) ≡ x
 
-abbrev pub NamesAreRead : Type 0
-NamesAreRead = (front name rest : List ℕ) → IsName name → name_of (front ++ (name ++ 0 ∷ rest)) (length front) ≡ Some name
+abbrev pub NamesAreReadBack : Type 0
+NamesAreReadBack = (front name rest : List ℕ) → IsFileName name → name_from (front ++ (name ++ 0 ∷ rest)) (length front) ≡ Some name
 
 -- the extensions are counted in units of 8 bytes
 pub record Header : Type 0 where

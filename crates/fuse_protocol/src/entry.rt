@@ -2,7 +2,7 @@
 
 ghost use Rattle.std.specs.Prelude.{◌≡◌, ◌<◌, ◌+◌, ◌^◌, ◌++◌, ◌≤◌, length, vec_len, nat_le, [], if◌then◌else◌, IfOk, OnOk};
 ghost use Rattle.fuse_protocol.specs.Bytes.{zeros};
-ghost use Rattle.fuse_protocol.specs.Entries.{directory_entry_bytes, entry_size, kind_number};
+ghost use Rattle.fuse_protocol.specs.Entries.{directory_entry_bytes, entry_size, entry_kind_number};
 
 use crate::bytes::{push_u32s, push_u64s};
 use crate::piece::Piece;

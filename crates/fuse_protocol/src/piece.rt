@@ -3,7 +3,7 @@
 ghost use Rattle.std.specs.Prelude.{◌≡◌, ◌<◌, ◌+◌, length, position, false, IfSome};
 ghost use Rattle.std.specs.List.{list_any};
 ghost use Rattle.std.specs.Option.{option_copied};
-ghost use Rattle.fuse_protocol.specs.Names.{IsName, is_nul, text_of, name_of};
+ghost use Rattle.fuse_protocol.specs.Names.{IsFileName, is_nul, text_of, name_from};
 
 use std::marker::Model;
 
@@ -45,20 +45,20 @@ pub struct Name<'a> {
 
 impl<'a> Model for Name<'a> {
     ghost use Rattle.std.specs.Prelude.{ℕ, List};
-    ghost use Rattle.fuse_protocol.specs.Names.{IsName};
+    ghost use Rattle.fuse_protocol.specs.Names.{IsFileName};
 
     ghost Value = { List ℕ };
 
     ghost view = { λ name. name.bytes.now };
 
-    ghost invariant = { λ name. IsName name.bytes.now };
+    ghost invariant = { λ name. IsFileName name.bytes.now };
 }
 
 impl<'a> Name<'a> {
     /// The bytes.
     pub fn bytes(&self) -> &'a [u8]
         ensures value { result.now ≡ self.now }
-        ensures is_name { IsName self.now }
+        ensures is_name { IsFileName self.now }
     {
         self.bytes
     }
@@ -96,7 +96,7 @@ pub(crate) fn piece_at(from: &[u8], at: usize) -> Option<Piece<'_>>
 
 /// The name from `at` on that ends in NUL.
 pub(crate) fn name_at(from: &[u8], at: usize) -> Option<Name<'_>>
-    ensures name { result ≡ name_of from.now at }
+    ensures name { result ≡ name_from from.now at }
     ensures within { IfSome result (λ name. at + length name < length from.now) }
 {
     let bytes = text_at(from, at)?;

@@ -1,7 +1,7 @@
 //! The reply to a request.
 
 ghost use Rattle.std.specs.Prelude.{◌≡◌, ◌<◌, ◌+◌, ◌^◌, ◌++◌, length, IfOk, OnOk};
-ghost use Rattle.fuse_protocol.specs.Replies.{IsReply, attr_bytes, entry_bytes, open_bytes, terms_bytes, room_bytes, body_bytes, error_field, reply_bytes};
+ghost use Rattle.fuse_protocol.specs.Replies.{IsReply, attr_bytes, entry_reply_bytes, open_bytes, terms_bytes, room_bytes, body_bytes, error_field, reply_bytes};
 
 use crate::bytes::{push_u16s, push_u32s, push_u64s};
 use crate::flags::InitFlags;
@@ -130,7 +130,7 @@ fn push_attr(to: &mut Vec<u8>, attr: Attr) -> Result<(), AllocError>
 }
 
 fn push_node(to: &mut Vec<u8>, node: u64, attr: Attr) -> Result<(), AllocError>
-    ensures { OnOk result (to.new.items ≡ to.old.items ++ entry_bytes node attr) }
+    ensures { OnOk result (to.new.items ≡ to.old.items ++ entry_reply_bytes node attr) }
 {
     push_u64s(to, &[node, 0, 0, 0, 0])?;
     push_attr(to, attr)?;
