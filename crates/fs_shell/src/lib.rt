@@ -17,6 +17,8 @@ mod script;
 #[cfg(test)]
 mod tests;
 mod text;
+#[cfg(test)]
+mod text_tests;
 mod watched;
 mod words;
 

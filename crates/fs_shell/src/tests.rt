@@ -1,38 +1,12 @@
-//! What a line says, and runs over readers and writers of several kinds. What file systems answer to lines, and the texts of
-//! it, is tried by the program `rows`.
+//! Runs over readers and writers of several kinds. What file systems answer to lines is tried by the program `rows`.
 
-use crate::{Count, Line, LineFault, RunFault, Watched, a_line_says_one_thing, parse_line, run};
-use fs_model::{Call, Event};
+use crate::text_tests::push_other;
+use crate::{Count, RunFault, Watched, run};
 use fs_system::{Fs, mkfs};
-use posix_acl::Perms;
 use sector_disk::MemDisk;
 use std::alloc::{AllocError, Global};
 use std::io::{self, ErrorKind, Read, Write};
 use std::test::Fail;
-
-// ---- lines
-
-const READ: Perms = Perms {
-    read: true,
-    write: false,
-    execute: false,
-};
-
-fn asks_access(line: &Result<Line, LineFault>, pid: usize, path: &[u8], want: Perms) -> bool {
-    match line {
-        Ok(Line::Event(Event::Call(caller, Call::Access(asked, perms)))) => {
-            *caller == pid && asked.bytes() == path && *perms == want
-        }
-        _ => false,
-    }
-}
-
-#[test]
-fn a_line_says_a_call(rt: HostRuntime) {
-    a_line_says_one_thing();
-    let line = parse_line(rt.alloc(), b"\\31 access /a\\20b r--");
-    assert!(rt; asks_access(&line, 1, b"/a b", READ));
-}
 
 // ---- file systems
 
@@ -160,9 +134,7 @@ fn expect_run(
     );
     let mut seen = String::from_utf8_lossy(alloc, &written)?;
     push_outcome(&mut seen, outcome)?;
-    if seen.as_str() != wanted {
-        writeln!(report, "{wanted}\nwas\n{seen}")?;
-    }
+    push_other(report, seen.as_str(), wanted)?;
     Ok(())
 }
 
