@@ -1,6 +1,6 @@
 mod Done
 mod Following
-mod Forgets
+mod Undone
 pub mod Moments
 mod Passing
 mod Recorded

@@ -6,7 +6,7 @@ use Rattle.std.proofs.lemmas.Bool.{true≢false}
 use Rattle.sector_disk.specs.Disk.{IsWholeSector}
 use Rattle.sector_disk.specs.Record.{Past}
 use Rattle.sector_disk.specs.Whole.{AreWhole, whole_written, whole_synced}
-use Rattle.sector_disk.specs.declared.history.Event.TheVariants.{Written, Synced}
+use Rattle.sector_disk.specs.Record.{Written, Synced}
 use Rattle.sector_disk.proofs.Done.{more}
 
 -- where recording is no error, what it says at Ok is true

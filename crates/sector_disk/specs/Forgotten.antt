@@ -9,8 +9,8 @@ use Rattle.sector_disk.specs.Disk.{Image, sector, IsImage, IsSame, ForgetsPast}
 use Rattle.sector_disk.specs.Record.{Past, Held, after_events, held_after, replay, since_sync, MayHold, LeftSince, recorded_state}
 use Rattle.sector_disk.specs.Replay.{length-after, seen_replayed}
 use Rattle.sector_disk.specs.Whole.{AreWhole, held_whole}
-use Rattle.sector_disk.specs.declared.history.Event.{Event}
-use Rattle.sector_disk.specs.declared.history.Event.TheVariants.{Written, Synced}
+use Rattle.sector_disk.specs.Record.{Event}
+use Rattle.sector_disk.specs.Record.{Written, Synced}
 
 -- none of the pending events is a sync: so many of them leave what is stable, and are pending
 abbrev IsSettled : Held → Type 0

@@ -2,8 +2,8 @@ pub mod Disk
 pub mod Faults
 pub mod Files
 pub mod Forgotten
-pub mod History
 pub mod Record
 pub mod Replay
+pub mod Steps
 pub mod Whole
 pub mod Writes

@@ -9,8 +9,8 @@ use Rattle.std.proofs.lemmas.List.Elements.{Contains-append_left, Contains-appen
 use Rattle.sector_disk.specs.Disk.{Image, sector, IsWholeSector}
 use Rattle.sector_disk.specs.Record.{Past, Held, after_events, held_after, replay, MayHold, Leaves}
 use Rattle.sector_disk.specs.Replay.{after_cases, length-after}
-use Rattle.sector_disk.specs.declared.history.Event.{Event}
-use Rattle.sector_disk.specs.declared.history.Event.TheVariants.{Written, Synced}
+use Rattle.sector_disk.specs.Record.{Event}
+use Rattle.sector_disk.specs.Record.{Written, Synced}
 
 -- each is a whole sector
 abbrev pub AreSectors : Image → Type 0

@@ -1,41 +1,40 @@
 //! What was done to a disk in memory since it was last stopped.
 
-ghost use Rattle.std.specs.Prelude.{◌≡◌, ◌^◌, ◌<◌, ◌++◌, [], ◌∷◌, length, vec_len, ℕ, ◌≤◌, Contains, IfSome, slice_range, OnOk, OnErr, IfOk};
+ghost use Rattle.std.specs.Prelude.{◌≡◌, ◌⊎◌, ◌^◌, ◌<◌, ◌++◌, [], ◌∷◌, length, vec_len, ℕ, ◌≤◌, Contains, slice_range, OnOk, OnErr};
 ghost use Rattle.sector_disk.specs.Disk.{sector};
-ghost use Rattle.sector_disk.specs.Record.{after_events, replay, since_sync, Leaves, MayHold};
+ghost use Rattle.sector_disk.specs.Record.{Written, Synced, after_events, replay, since_sync, Leaves, MayHold};
+ghost use Rattle.sector_disk.specs.Steps.{held_before};
 
 use std::alloc::{AllocError, Global};
 use std::marker::Model;
 
-/// What was done to a disk.
+// What was done to a disk, so that it can be undone.
 #[derive(Clone, Copy)]
-pub enum Event {
-    /// A content was written to a sector, or may have been.
-    Written(u32, [u8; 512]),
-    Synced,
+enum Step {
+    // A sector got another content in place of this one, or may have got it.
+    Replaced(u32, [u8; 512]),
+    // What was done before it became stable.
+    Settled,
 }
 
-impl Event {
+impl Step {
     // Whether it is a write of this sector.
     fn writes(&self, n: usize) -> bool {
         match self {
-            Event::Written(k, _) => *k as usize == n,
-            Event::Synced => false,
+            Step::Replaced(k, _) => *k as usize == n,
+            Step::Settled => false,
         }
     }
 }
 
-/// What was there at first, and what was done since. A contract sees just these two, as a `Past`.
+/// What was there at first, and what was done since. A contract sees just these two, as a `Past`: what was there at first, and
+/// at the last sync, is what reads give but for what was replaced since.
 #[derive(Drop)]
 pub struct History {
     // What reads give.
     seen: Vec<[u8; 512]>,
-    // What was there at the last sync.
-    stable: Vec<[u8; 512]>,
-    // What was there before the events.
-    first: Vec<[u8; 512]>,
-    done: Vec<Event>,
-    // How many events there are up to the last sync.
+    done: Vec<Step>,
+    // How many steps there are up to the last sync.
     synced: usize,
 }
 
@@ -44,26 +43,24 @@ impl Model for History {
 
     ghost Value = { Past };
 
-    ghost use Rattle.sector_disk.specs.History.{past, IsReplayed};
+    ghost use Rattle.sector_disk.specs.Steps.{past_of, IsLog};
 
-    ghost view = { past };
+    ghost view = { λ history. past_of history.seen.items history.done.items };
 
-    ghost invariant = { IsReplayed };
+    ghost invariant = { λ history. IsLog history.seen.items history.done.items history.synced };
 }
 
 impl History {
     /// Nothing was done yet to these sectors.
-    pub fn new(alloc: Global, sectors: Vec<[u8; 512]>) -> Result<Self, AllocError>
+    pub fn new(alloc: Global, sectors: Vec<[u8; 512]>) -> Self
         requires { vec_len sectors < 2 ^ 32 }
-        ensures { IfOk result (λ history. history ≡ record { start = sectors.items; events = [] }) }
+        ensures { result ≡ record { start = sectors.items; events = [] } }
     {
-        Ok(History {
-            stable: Vec::from_slice(alloc, &sectors)?,
-            first: Vec::from_slice(alloc, &sectors)?,
+        History {
             seen: sectors,
             done: Vec::new(alloc),
             synced: 0,
-        })
+        }
     }
 
     /// The number of sectors.
@@ -93,21 +90,21 @@ impl History {
     /// Records a write; at `Err` nothing has changed.
     pub fn write(&mut self, n: u32, content: &[u8; 512]) -> Result<(), AllocError>
         requires { n < length self.old.start }
-        ensures ok { OnOk result (self.new ≡ record self.old { events = self.old.events ++ Event.Written n content.now ∷ [] }) }
+        ensures ok { OnOk result (self.new ≡ record self.old { events = self.old.events ++ Written n content.now ∷ [] }) }
         ensures err { OnErr result (self.new ≡ self.old) }
     {
-        self.done.push(Event::Written(n, *content))?;
-        self.seen[n as usize] = *content;
+        let at = n as usize;
+        self.done.push(Step::Replaced(n, self.seen[at]))?;
+        self.seen[at] = *content;
         Ok(())
     }
 
     /// Records a sync; at `Err` nothing has changed.
     pub fn sync(&mut self) -> Result<(), AllocError>
-        ensures ok { OnOk result (self.new ≡ record self.old { events = self.old.events ++ Event.Synced ∷ [] }) }
+        ensures ok { OnOk result (self.new ≡ record self.old { events = self.old.events ++ Synced ∷ [] }) }
         ensures err { OnErr result (self.new ≡ self.old) }
     {
-        self.done.push(Event::Synced)?;
-        settle(&mut self.stable, &self.done[self.synced..]);
+        self.done.push(Step::Settled)?;
         self.synced = self.done.len();
         Ok(())
     }
@@ -117,7 +114,6 @@ impl History {
         ensures { self.new ≡ since_sync self.old }
     {
         let pending = self.done.len() - self.synced;
-        settle(&mut self.first, &self.done[..self.synced]);
         self.done.rotate_left(self.synced);
         self.done.truncate(pending);
         self.synced = 0;
@@ -129,78 +125,53 @@ impl History {
         ensures image { Leaves (length self.old.start) (replay self.old.start self.old.events) self.new.start }
         ensures events { self.new.events ≡ [] }
     {
-        pick(
-            &mut self.seen,
-            &self.stable,
-            &self.done[self.synced..],
-            choice,
-        );
-        self.stable.copy_from_slice(&self.seen);
-        self.first.copy_from_slice(&self.seen);
+        pick(&mut self.seen, &self.done[self.synced..], choice);
         self.done.clear();
         self.synced = 0;
     }
 }
 
-// Does the writes in an image.
-fn settle(image: &mut [[u8; 512]], pending: &[Event])
-    ensures { image.new ≡ after_events image.old pending.now }
-{
-    for event in pending {
-        if let Event::Written(n, content) = event {
-            let n = *n as usize;
-            if n < image.len() {
-                image[n] = *content;
-            }
-        }
-    }
-}
-
-// Picks one of the contents of each sector: the stable one, or one that is pending.
-fn pick(to: &mut [[u8; 512]], stable: &[[u8; 512]], pending: &[Event], choice: &[u8])
-    requires { length to.old ≡ length stable.now }
-    ensures { (n : ℕ) → n < length stable.now → MayHold (record { stable = stable.now; pending = pending.now }) n (sector to.new n) }
+// Picks one of the contents of each sector: that before the steps, or one that it got in them.
+fn pick(image: &mut [[u8; 512]], pending: &[Step], choice: &[u8])
+    ensures { (n : ℕ) → n < length image.old → MayHold (held_before image.old pending.now) n (sector image.new n) }
 {
     let mut choice = choice.iter();
-    for n in 0..stable.len() {
-        to[n] = stable[n];
+    for n in 0..image.len() {
         let count = count_writes(pending, n);
         if count > 0 {
             let byte = choice.next().copied().unwrap_or(0);
-            if let Some(content) = pending_content(pending, n, byte as usize % (count + 1)) {
-                to[n] = content;
-            }
+            image[n] = replaced_content(pending, n, byte as usize % (count + 1), &image[n]);
         }
     }
 }
 
-// How many of the events write a sector.
-fn count_writes(pending: &[Event], n: usize) -> usize
+// How many of the steps write a sector.
+fn count_writes(pending: &[Step], n: usize) -> usize
     ensures { result ≤ length pending.now }
 {
     let mut count = 0;
-    for event in pending {
-        if event.writes(n) {
+    for step in pending {
+        if step.writes(n) {
             count += 1;
         }
     }
     count
 }
 
-// The content that the write of this number, counted from 1, gives a sector.
-fn pending_content(pending: &[Event], n: usize, number: usize) -> Option<[u8; 512]>
-    ensures { IfSome result (λ content. Contains pending.now (Event.Written n content)) }
+// The content that the write of this number, counted from 0, replaced in a sector; where there are no more, the one that it has.
+fn replaced_content(pending: &[Step], n: usize, number: usize, last: &[u8; 512]) -> [u8; 512]
+    ensures { (result ≡ last.now) ⊎ Contains pending.now (Step.Replaced n result) }
 {
     let mut before = number;
-    for event in pending {
-        if let Event::Written(k, content) = event {
+    for step in pending {
+        if let Step::Replaced(k, content) = step {
             if *k as usize == n {
-                if before == 1 {
-                    return Some(*content);
+                if before == 0 {
+                    return *content;
                 }
-                before = before.saturating_sub(1);
+                before -= 1;
             }
         }
     }
-    None
+    *last
 }

@@ -44,7 +44,7 @@ impl MemDisk {
     {
         tell_all_whole(&sectors);
         Ok(MemDisk {
-            history: History::new(alloc, sectors)?,
+            history: History::new(alloc, sectors),
             armed: None,
             failures: 0,
         })

@@ -2,7 +2,7 @@ use Rattle.std.proofs.Common.{arith, false, subst, drop, ◌≤◌, ◌<◌, ℕ
 use Rattle.std.proofs.lemmas.List.{take_rest}
 use Rattle.sector_disk.specs.Record.{recorded_state}
 use Rattle.sector_disk.specs.Replay.{seen_is_image}
-use Rattle.sector_disk.proofs.Following.{run_failed, run_done, follows_more, later}
+use Rattle.sector_disk.proofs.Following.{run_failed, run_done, follows_more, follows_all, later}
 use Rattle.sector_disk.proofs.waiting.write_waiting.Goals as goal
 
 pub returns-in_err-write_run-clause-follows : goal.returns-in_err-write_run-clause-follows
@@ -26,3 +26,8 @@ pub returns-clause-follows : goal.returns-clause-follows
 returns-clause-follows g c =
     let memory = c.args.memory.now in
     follows_more (recorded_state memory.history memory.failures) (drop c.loop-at.at c.args.waiting.now) c.args.waiting.now false (g.F.DiskFile.held c.loop-at.file) (later c.args.waiting.now c.loop-at.at) c.loop-at.invariant.follows
+
+pub returns-clause-done : goal.returns-clause-done
+returns-clause-done g c =
+    let memory = c.args.memory.now in
+    follows_all (recorded_state memory.history memory.failures) c.args.waiting.now c.loop-at.at (g.F.DiskFile.held c.loop-at.file) c.loop-at-test.false c.loop-at.invariant.follows

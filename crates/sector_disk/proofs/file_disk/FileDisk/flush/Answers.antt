@@ -43,6 +43,6 @@ invariant_of-self-2 g c =
     record {
       in_disk = subst (λ (l : List ℕ). All (λ n. n < length memory.history.start) l) (sym c.clear.ensures.items) (All-nil (λ n. n < length memory.history.start));
       follows =
-          subst (λ (l : List ℕ). Follows (recorded_state memory.history memory.failures) l false file) (sym c.clear.ensures.items)
+          subst (λ (l : List ℕ). Follows (recorded_state memory.history memory.failures) l false file) (sym {A = List ℕ} c.clear.ensures.items)
           (subst (λ (m : MemDisk). Follows (recorded_state m.history m.failures) [] false file) c.deref.ensures c.in_ok-write_out.ensures.done);
     }

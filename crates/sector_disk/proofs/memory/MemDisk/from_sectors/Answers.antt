@@ -5,7 +5,7 @@ use Rattle.sector_disk.proofs.memory.MemDisk.from_sectors.Goals as goal
 
 pub invariant_of-result : goal.invariant_of-result
 invariant_of-result c =
-    let is = c.in_ok-new.ensures in
+    let is = c.new.ensures in
     let size = ap (λ (p : Past). length p.start) is in
     record {
       small = let few = c.requires in omega (arith, size, few);

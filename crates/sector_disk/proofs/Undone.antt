@@ -1,0 +1,225 @@
+-- A record that is kept backwards says what was done.
+use Rattle.std.proofs.Common.{◌≡◌, ◌≢◌, ◌⊎◌, inl, inr, ⊎_elim, ℕ, zero, suc, ◌+◌, ◌-◌, ◌<◌, ◌≤◌, ◌^◌, List, [], ◌∷◌, ◌++◌, length, take, drop, refl, sym, ◌∙◌, ap, subst, arith, slice_set, get_or, length-set, get_or-set_other, length-append, length-drop}
+use Rattle.std.specs.Prelude.{Contains}
+use Rattle.std.proofs.lemmas.Bool.{cases_eq, cases_lt}
+use Rattle.std.proofs.lemmas.List.{set-set, get_or_read, set-get_or, get_or-set_same, drop-append-le, drop_all, take-append-le, take_rest}
+use Rattle.std.proofs.lemmas.List.Sums.{fold_push}
+use Rattle.std.proofs.lemmas.List.Elements.{Contains-append_right}
+use Rattle.std.proofs.lemmas.Grind.{get_or-set_at}
+use Rattle.sector_disk.specs.Disk.{Image, sector}
+use Rattle.sector_disk.specs.Record.{Past, Event, Written, Synced, Held, after_events, held_after, replay, since_sync, Leaves, MayHold}
+use Rattle.sector_disk.specs.Replay.{after_cases}
+use Rattle.sector_disk.specs.Forgotten.{settled}
+use Rattle.sector_disk.specs.Steps.{before, events_of, past_of, IsLog, held_before}
+use Rattle.sector_disk.specs.declared.history.Step.{Step}
+use Rattle.sector_disk.specs.declared.history.Step.TheVariants.{Replaced, Settled}
+
+pub length-before : (seen : Image) (steps : List Step) → length (before seen steps) ≡ length seen
+length-before seen [] = refl
+length-before seen (Settled ∷ steps) = length-before seen steps
+length-before seen (Replaced n content ∷ steps) = length-set (before seen steps) n content ∙ length-before seen steps
+
+before-append : (seen : Image) (steps more : List Step) → before seen (steps ++ more) ≡ before (before seen more) steps
+before-append seen [] more = refl
+before-append seen (Settled ∷ steps) more = before-append seen steps more
+before-append seen (Replaced n content ∷ steps) more = ap (λ (i : Image). slice_set i n content) (before-append seen steps more)
+
+events-append : (seen : Image) (steps more : List Step) → events_of seen (steps ++ more) ≡ events_of (before seen more) steps ++ events_of seen more
+events-append seen [] more = refl
+events-append seen (Settled ∷ steps) more = ap (λ (l : List Event). Synced ∷ l) (events-append seen steps more)
+events-append seen (Replaced n content ∷ steps) more =
+    ap (λ (i : Image). Written n (sector i n) ∷ events_of seen (steps ++ more)) (before-append seen steps more)
+    ∙ ap (λ (l : List Event). Written n (sector (before (before seen more) steps) n) ∷ l) (events-append seen steps more)
+
+-- what is replaced and put back
+put_back : (image : Image) (n : ℕ) (content : List ℕ) → slice_set (slice_set image n content) n (sector image n) ≡ image
+put_back image n content = set-set image n content (sector image n) ∙ set-get_or image n []
+
+-- the events lead to what reads give
+pub after-before : (seen : Image) (steps : List Step) → after_events (before seen steps) (events_of seen steps) ≡ seen
+after-before seen [] = refl
+after-before seen (Settled ∷ steps) = after-before seen steps
+after-before seen (Replaced n content ∷ steps) =
+    ap (λ (i : Image). after_events i (events_of seen steps)) (put_back (before seen steps) n content) ∙ after-before seen steps
+
+-- ---- one step more
+abbrev pub written : Image → ℕ → List ℕ → List Step → List Step
+written seen n content steps = steps ++ Replaced n (sector seen n) ∷ []
+
+before-write : (seen : Image) (n : ℕ) (content : List ℕ) (steps : List Step) → before (slice_set seen n content) (written seen n content steps) ≡ before seen steps
+before-write seen n content steps =
+    before-append (slice_set seen n content) steps (Replaced n (sector seen n) ∷ []) ∙ ap (λ (i : Image). before i steps) (put_back seen n content)
+
+events-write : (seen : Image) (n : ℕ) (content : List ℕ) (steps : List Step) → n < length seen
+    → events_of (slice_set seen n content) (written seen n content steps) ≡ events_of seen steps ++ Written n content ∷ []
+events-write seen n content steps below =
+    events-append (slice_set seen n content) steps (Replaced n (sector seen n) ∷ [])
+    ∙ ap (λ (i : Image). events_of i steps ++ Written n (sector (slice_set seen n content) n) ∷ []) (put_back seen n content)
+    ∙ ap (λ (c : List ℕ). events_of seen steps ++ Written n c ∷ []) (get_or-set_same seen n content [] below)
+
+pub past-write : (seen : Image) (n : ℕ) (content : List ℕ) (steps : List Step) → n < length seen
+    → past_of (slice_set seen n content) (written seen n content steps) ≡ record (past_of seen steps) { events = (past_of seen steps).events ++ Written n content ∷ [] }
+past-write seen n content steps below =
+    ap (λ (i : Image). record { start = i; events = events_of (slice_set seen n content) (written seen n content steps) }) (before-write seen n content steps)
+    ∙ ap (λ (l : List Event). record { start = before seen steps; events = l }) (events-write seen n content steps below)
+
+pub past-sync : (seen : Image) (steps : List Step) → past_of seen (steps ++ Settled ∷ []) ≡ record (past_of seen steps) { events = (past_of seen steps).events ++ Synced ∷ [] }
+past-sync seen steps =
+    ap (λ (i : Image). record { start = i; events = events_of seen (steps ++ Settled ∷ []) }) (before-append seen steps (Settled ∷ []))
+    ∙ ap (λ (l : List Event). record { start = before seen steps; events = l }) (events-append seen steps (Settled ∷ []))
+
+replay-past : (p q : Past) → p ≡ q → replay p.start p.events ≡ replay q.start q.events
+replay-past p q same = ap (λ (r : Past). replay r.start r.events) same
+
+replay-one : (start : Image) (events : List Event) (event : Event) → replay start (events ++ event ∷ []) ≡ held_after (replay start events) event
+replay-one start events event = fold_push held_after (record { stable = start; pending = [] }) events event
+
+pub log-write : (seen : Image) (n : ℕ) (content : List ℕ) (done : List Step) (synced : ℕ) → n < length seen → IsLog seen done synced → IsLog (slice_set seen n content) (written seen n content done) synced
+log-write seen n content done synced below log =
+    let p = past_of seen done in
+    let held : replay (before (slice_set seen n content) (written seen n content done)) (events_of (slice_set seen n content) (written seen n content done)) ≡ held_after (replay p.start p.events) (Written n content) =
+    replay-past (past_of (slice_set seen n content) (written seen n content done)) (record p { events = p.events ++ Written n content ∷ [] }) (past-write seen n content done below) ∙ replay-one p.start p.events (Written n content) in
+    let rest : drop synced (written seen n content done) ≡ written seen n content (drop synced done) = drop-append-le synced done (Replaced n (sector seen n) ∷ []) log.synced_fits in
+    record {
+      small = let small = log.small in omega (arith, small, length-set seen n content);
+      synced_fits = let fits = log.synced_fits in omega (arith, fits, length-append done (Replaced n (sector seen n) ∷ []));
+      len = length-before (slice_set seen n content) (written seen n content done);
+      seen_is = sym (after-before (slice_set seen n content) (written seen n content done));
+      stable =
+          ap (λ (h : Held). h.stable) held ∙ log.stable ∙ sym (before-write seen n content (drop synced done))
+          ∙ ap (λ (l : List Step). before (slice_set seen n content) l) (sym rest);
+      pending =
+          ap (λ (h : Held). h.pending) held ∙ ap (λ (l : List Event). l ++ Written n content ∷ []) log.pending ∙ sym (events-write seen n content (drop synced done) below)
+          ∙ ap (λ (l : List Step). events_of (slice_set seen n content) l) (sym rest);
+    }
+
+pub log-sync : (seen : Image) (done : List Step) (synced now : ℕ) → now ≡ length (done ++ Settled ∷ []) → IsLog seen done synced → IsLog seen (done ++ Settled ∷ []) now
+log-sync seen done synced now all log =
+    let p = past_of seen done in
+    let held : replay (before seen (done ++ Settled ∷ [])) (events_of seen (done ++ Settled ∷ [])) ≡ held_after (replay p.start p.events) Synced =
+    replay-past (past_of seen (done ++ Settled ∷ [])) (record p { events = p.events ++ Synced ∷ [] }) (past-sync seen done) ∙ replay-one p.start p.events Synced in
+    let none : drop now (done ++ Settled ∷ []) ≡ [] = drop_all now (done ++ Settled ∷ []) (omega (arith, all)) in
+    record {
+      small = log.small;
+      synced_fits = omega (arith, all);
+      len = length-before seen (done ++ Settled ∷ []);
+      seen_is = sym (after-before seen (done ++ Settled ∷ []));
+      stable =
+          ap (λ (h : Held). h.stable) held ∙ ap (λ (i : Image). after_events i (replay p.start p.events).pending) log.stable
+          ∙ ap (λ (l : List Event). after_events (before seen (drop synced done)) l) log.pending ∙ after-before seen (drop synced done)
+          ∙ ap (λ (l : List Step). before seen l) (sym none);
+      pending = ap (λ (h : Held). h.pending) held ∙ ap (λ (l : List Step). events_of seen l) (sym none);
+    }
+
+-- ---- what came before the last sync is forgotten
+pub past-forget : (seen : Image) (done : List Step) (synced : ℕ) → IsLog seen done synced → past_of seen (drop synced done) ≡ since_sync (past_of seen done)
+past-forget seen done synced log =
+    ap (λ (i : Image). record { start = i; events = events_of seen (drop synced done) }) (sym log.stable)
+    ∙ ap (λ (l : List Event). record { start = (replay (before seen done) (events_of seen done)).stable; events = l }) (sym log.pending)
+
+pub log-forget : (seen : Image) (done rest : List Step) (synced : ℕ) → rest ≡ drop synced done → IsLog seen done synced → IsLog seen rest 0
+log-forget seen done rest synced is log =
+    subst (λ (l : List Step). IsLog seen l 0) (sym is) (
+    let held = replay-past (past_of seen (drop synced done)) (since_sync (past_of seen done)) (past-forget seen done synced log) ∙ settled (past_of seen done) in
+    record {
+      small = log.small;
+      synced_fits = omega arith;
+      len = length-before seen (drop synced done);
+      seen_is = sym (after-before seen (drop synced done));
+      stable = ap (λ (h : Held). h.stable) held ∙ log.stable;
+      pending = ap (λ (h : Held). h.pending) held ∙ log.pending;
+    })
+
+-- the last steps, where they have been turned to the front
+pub kept_end : (steps : List Step) (s n : ℕ) → n ≡ length steps - s → take n (drop s steps ++ take s steps) ≡ drop s steps
+kept_end steps s n is =
+    take-append-le n (drop s steps) (take s steps) (omega (arith, is, length-drop s steps))
+    ∙ ap (λ (k : ℕ). take k (drop s steps)) is ∙ take_rest steps s
+
+-- ---- a stop
+
+-- a content that a step replaced was there before the steps, or one of them wrote it
+pub may_replaced : (seen : Image) (steps : List Step) (n : ℕ) (content : List ℕ) → n < length seen → Contains steps (Replaced n content) → MayHold (held_before seen steps) n content
+may_replaced seen [] n content below (k, few, is) = absurd (omega (arith, few))
+may_replaced seen (Settled ∷ steps) n content below (zero, few, is) = absurd cc
+may_replaced seen (Settled ∷ steps) n content below (suc k, few, is) =
+    ⊎_elim (λ was. inl was) (λ (new : Contains (events_of seen steps) (Written n content)). inr (Contains-append_right (Synced ∷ []) (events_of seen steps) (Written n content) new))
+    (may_replaced seen steps n content below (k, omega (arith, few), is))
+may_replaced seen (Replaced m was ∷ steps) n content below (zero, few, is) =
+    let number : m ≡ n = cc in
+    let same : was ≡ content = cc in
+    inl (sym (get_or-set_at (before seen steps) m n was [] (sym number) (omega (arith, below, length-before seen steps, number)) ∙ same))
+may_replaced seen (Replaced m was ∷ steps) n content below (suc k, few, is) =
+    let write : Event = Written m (sector (before seen steps) m) in
+    ⊎_elim
+    (λ (old : content ≡ sector (before seen steps) n). elim (cases_eq n m) [
+      | inl here ↦ inr (zero, omega arith, ap (λ (j : ℕ). Written j (sector (before seen steps) j)) (sym here) ∙ ap (λ (c : List ℕ). Written n c) (sym old))
+      | inr other ↦ inl (old ∙ sym (get_or-set_other (before seen steps) m n was [] other))
+    ])
+    (λ (new : Contains (events_of seen steps) (Written n content)). inr (Contains-append_right (write ∷ []) (events_of seen steps) (Written n content) new))
+    (may_replaced seen steps n content below (k, omega (arith, few), is))
+
+-- and what reads give may be left
+pub may_seen : (seen : Image) (steps : List Step) (n : ℕ) → MayHold (held_before seen steps) n (sector seen n)
+may_seen seen steps n =
+    subst (λ (i : Image). MayHold (held_before seen steps) n (sector i n)) (after-before seen steps) (after_cases (before seen steps) (events_of seen steps) n)
+
+-- the first n sectors are picked, and the others are as before
+pub record Picked (seen image : Image) (steps : List Step) (n : ℕ) : Type 0 where
+  pub done : (k : ℕ) → k < n → MayHold (held_before seen steps) k (sector image k)
+  pub rest : (k : ℕ) → n ≤ k → sector image k ≡ sector seen k
+
+pub picked_none : (seen : Image) (steps : List Step) → Picked seen seen steps 0
+picked_none seen steps = record { done = λ k below. absurd (omega (arith, below)); rest = λ k past. refl }
+
+pub picked_same : (seen image : Image) (steps : List Step) (n : ℕ) → Picked seen image steps n → Picked seen image steps (n + 1)
+picked_same seen image steps n picked = record {
+  done = λ k below. elim (cases_lt k n) [
+    | inl early ↦ picked.done k early
+    | inr late ↦ subst (λ (c : List ℕ). MayHold (held_before seen steps) k c) (sym (picked.rest k late)) (may_seen seen steps k)
+  ];
+  rest = λ k past. picked.rest k (omega (arith, past));
+}
+
+pub picked_one : (seen image : Image) (steps : List Step) (n : ℕ) (content : List ℕ) → length image ≡ length seen → n < length image → (content ≡ sector image n) ⊎ Contains steps (Replaced n content)
+    → Picked seen image steps n → Picked seen (slice_set image n content) steps (n + 1)
+picked_one seen image steps n content size fits is picked = record {
+  done = λ k below. elim (cases_eq k n) [
+    | inl here ↦
+        subst (λ (c : List ℕ). MayHold (held_before seen steps) k c) (sym (get_or-set_at image n k content [] here (omega (arith, fits, here)))) (
+        ⊎_elim
+        (λ same. subst (λ (c : List ℕ). MayHold (held_before seen steps) k c) (sym (same ∙ picked.rest n (omega arith))) (subst (λ j. MayHold (held_before seen steps) k (sector seen j)) here (may_seen seen steps k)))
+        (λ has. may_replaced seen steps k content (omega (arith, fits, here, size)) (subst (λ j. Contains steps (Replaced j content)) (sym here) has))
+        is)
+    | inr other ↦
+        let early : k < n = omega (arith, below, other) in
+        subst (λ (c : List ℕ). MayHold (held_before seen steps) k c) (sym (get_or-set_other image n k content [] other)) (picked.done k early)
+  ];
+  rest = λ k past. let other : k ≢ n = omega (arith, past) in get_or-set_other image n k content [] other ∙ picked.rest k (omega (arith, past));
+}
+
+pub log-start : (image : Image) → length image < 2 ^ 32 → IsLog image [] 0
+log-start image small = record {
+  small = small;
+  synced_fits = omega arith;
+  len = refl;
+  seen_is = refl;
+  stable = refl;
+  pending = refl;
+}
+
+-- the image that is picked is one that a stop may leave
+pub stopped : (seen read image : Image) (done pending : List Step) (synced : ℕ) (p : Past) → IsLog seen done synced → past_of seen done ≡ p → read ≡ seen → pending ≡ drop synced done
+    → length image ≡ length seen → ((n : ℕ) → n < length read → MayHold (held_before read pending) n (sector image n)) → Leaves (length p.start) (replay p.start p.events) image
+stopped seen read image done pending synced p log is same tail size each =
+    subst (λ (q : Past). Leaves (length q.start) (replay q.start q.events) image) is (record {
+      size = size ∙ sym log.len;
+      each = λ n below.
+          let here = subst (λ (l : List Step). MayHold (held_before seen l) n (sector image n)) tail
+          (subst (λ (i : Image). MayHold (held_before i pending) n (sector image n)) same (each n (let len = log.len in let read_len = ap length same in omega (arith, below, len, read_len)))) in
+          ⊎_elim (λ was. inl (was ∙ ap (λ (i : Image). sector i n) (sym log.stable))) (λ new. inr (subst (λ (l : List Event). Contains l (Written n (sector image n))) (sym log.pending) new)) here;
+    })
+
+-- the step that a write leaves
+pub replaces : (seen : Image) (n : ℕ) (content was : List ℕ) (steps more : List Step) → n < length seen → was ≡ get_or seen n was → more ≡ steps ++ Replaced n was ∷ [] → more ≡ written seen n content steps
+replaces seen n content was steps more below is same = same ∙ ap (λ (c : List ℕ). steps ++ Replaced n c ∷ []) (get_or_read seen n was below is [])
