@@ -11,7 +11,7 @@ use Rattle.fs_layout.specs.Images.{Indirect, Block, part, free_sectors}
 use Rattle.fs_layout.specs.InodeChanges.{Allocates, Gains}
 use Rattle.fs_layout.specs.Place.{IsPlace}
 use Rattle.fs_layout.proofs.Blocks.{nothing_changes}
-use Rattle.fs_layout.proofs.Parts.{indirect_is_no_block}
+use Rattle.fs_layout.proofs.Parts.{indirect_is_no_block, pointers_kept}
 use Rattle.fs_layout.proofs.Pointers.{gains_indirect}
 use Rattle.fs_layout.proofs.Steps.{allocates_keeps, allocated_some, pointers_gained, pointers_gained_holds}
 use Rattle.sector_txn.specs.Sectors.{TxnState, PutsOnly, lacking}
@@ -79,7 +79,7 @@ gets_pointers {p} {end} {s} {old} {new} {x = x} {b} may far none large clear a f
     let place : IsPlace p = may.bitmaps.place in
     let some : s ≢ 0 = allocated_some place may.apart a in
     let gained : Gains old.sectors new.sectors b.inode (record b.inode { indirect = s }) Indirect s =
-    gains_indirect old.sectors new.sectors b.inode s none some (a.put.here ∙ clear) in
+    gains_indirect old.sectors new.sectors b.inode s (pointers_kept (allocates_keeps place may.apart a)) none some (a.put.here ∙ clear) in
     let lacks : lacking new (s ∷ bitmaps p) ≡ lacking new (bitmaps p) = cond-true (new.has_put s) (lacking new (bitmaps p)) (lacking new (bitmaps p) + 1) put in
     record {
       alters = record {

@@ -1,5 +1,5 @@
 -- Blocks are given back and dropped.
-use Rattle.std.proofs.Common.{◌≡◌, ◌≢◌, ℕ, ◌-◌, ◌*◌, ◌<◌, ◌≤◌, List, length, get_or, false, refl, sym, ap, subst, ◌∙◌, arith, inl, inr, ◌⊎◌, IsTrue}
+use Rattle.std.proofs.Common.{◌≡◌, ◌≢◌, ℕ, zero, suc, ◌-◌, ◌*◌, ◌<◌, ◌≤◌, List, length, get_or, false, refl, sym, ap, subst, ◌∙◌, arith, inl, inr, ◌⊎◌, IsTrue}
 use Rattle.std.specs.Prelude.{min}
 use Rattle.std.proofs.lemmas.Bool.{cases_eq, cases_lt}
 use Rattle.fs_layout.specs.declared.inode.TheConstants.{DIRECT_BLOCKS, INDIRECT_END, MAX_BLOCKS}
@@ -9,21 +9,22 @@ use Rattle.fs_layout.specs.declared.place.Place.{Place}
 use Rattle.fs_layout.specs.Bytes.{SectorMap, IsSector, u32_of}
 use Rattle.fs_layout.specs.Inode.{FitsInode, inode_fits}
 use Rattle.fs_layout.specs.Place.{IsPlace}
-use Rattle.fs_layout.specs.Images.{pointer, Part, AccessAcl, DefaultAcl, Indirect, DoubleIndirect, Block, part, Owns, bit, block_bitmap, map_bits, free_sectors}
+use Rattle.fs_layout.specs.Images.{number_on, pointer, first_block, Part, AccessAcl, DefaultAcl, OnLevel, Indirect, Block, part, Owns, bit, block_bitmap, map_bits, free_sectors}
 use Rattle.fs_layout.specs.InodeChanges.{IsOwnedApart, IsBlockMap}
 use Rattle.fs_layout.proofs.Bits.{not_both, has_bit, block_bit_kept}
 use Rattle.fs_layout.proofs.Blocks.{map_is_low}
 use Rattle.fs_layout.proofs.Marks.{no_map}
 use Rattle.fs_layout.proofs.Held.{no_block_has_pointers}
-use Rattle.fs_layout.proofs.Parts.{owns_block, owns_indirect, owns_acl, owns_default_acl}
-use Rattle.fs_layout.proofs.Pointers.{pointer_direct, pointer_indirect, entry_there, pointer_past, pointer_without}
+use Rattle.fs_layout.proofs.Parts.{number_on_indirect, owns_block, owns_indirect, owns_acl, owns_default_acl}
+use Rattle.fs_layout.proofs.Levels.{entry_there}
+use Rattle.fs_layout.proofs.Pointers.{number_on_past, no_number_on, pointer_direct, pointer_indirect, pointer_past, pointer_without}
 use Rattle.sector_txn.specs.Sectors.{TxnState, IsPut, PutsOnly}
 use Rattle.sector_txn.proofs.TransactionRuns.{changes_joined, changes_weaker, changes_put}
 use Rattle.bit_alloc.specs.declared.bitmap.Bitmap.TheVariants.{Blocks as BlockMap}
 use Rattle.bit_alloc.specs.Bitmaps.{HasBitmaps, GivesNumber, sector_of}
 use Rattle.bit_alloc.specs.Room.{bitmaps}
 use Rattle.block_map.specs.Steps.{MayChange, IsStepSector}
-use Rattle.block_map.specs.Drops.{GivesBlocks, DropsBlocks}
+use Rattle.block_map.specs.Drops.{GivesNumbers, DropsBlocks}
 use Rattle.block_map.proofs.Alterings.{acls_kept, put_keeps_bitmaps}
 use Rattle.block_map.proofs.Givings.{free_after_give, give_puts, keeps_or_gives, past_is_hole}
 use Rattle.block_map.proofs.Writings.{acl_apart, default_apart, free_after_put}
@@ -41,6 +42,7 @@ pub record Dropped (p : Place) (v : Inode) (first u : ℕ) (d : List ℕ) (old n
   pub cleared : (k : ℕ) → first ≤ k → pointer old.sectors v k ≢ 0 → bit new.sectors block_bitmap (pointer old.sectors v k) ≡ false
   pub indirect : (u ≡ v.indirect) ⊎ ((u ≡ 0) × (v.indirect ≢ 0 → bit new.sectors block_bitmap v.indirect ≡ false))
   pub few : first ≤ DIRECT_BLOCKS → u ≡ 0
+  pub more : DIRECT_BLOCKS < first → u ≡ v.indirect
   pub released : (s : ℕ) → s < map_bits p → IsTrue (bit old.sectors block_bitmap s) → bit new.sectors block_bitmap s ≡ false
       → (s ≢ 0) × (((k : ℕ) × (first ≤ k) × (pointer old.sectors v k ≡ s)) ⊎ ((v.indirect ≡ s) × (u ≡ 0)))
   pub set : (s : ℕ) → s < map_bits p → IsTrue (bit new.sectors block_bitmap s) → IsTrue (bit old.sectors block_bitmap s)
@@ -65,9 +67,20 @@ dropped_parts : {p : Place} {v : Inode} {first u : ℕ} {d : List ℕ} {old new 
 unfolding part
 dropped_parts g AccessAcl = inl refl
 dropped_parts g DefaultAcl = inl refl
-dropped_parts g Indirect = g.indirect
-dropped_parts g DoubleIndirect = inl refl
-dropped_parts {first = first} g (Block k) = elim (cases_lt k first) [ inl lt ↦ inl (g.kept k lt) | inr ge ↦ inr (g.dropped k ge, g.cleared k ge) ]
+dropped_parts {first = first} g (OnLevel zero k) = elim (cases_lt k first) [ inl lt ↦ inl (g.kept k lt) | inr ge ↦ inr (g.dropped k ge, g.cleared k ge) ]
+dropped_parts {v = v} {u = u} {d} {old} {new} g (OnLevel (suc zero) i) = elim (cases_eq i 0) [
+  | inl e ↦
+      let w = with_pointers v d u in
+      let now : number_on new.sectors w 1 i ≡ u = ap (number_on new.sectors w 1) e ∙ number_on_indirect new.sectors w in
+      let was : number_on old.sectors v 1 i ≡ v.indirect = ap (number_on old.sectors v 1) e ∙ number_on_indirect old.sectors v in
+      elim g.indirect [
+        | inl same ↦ inl (now ∙ same ∙ sym was)
+        | inr gone ↦ inr (now ∙ gone.0, λ some. ap (bit new.sectors block_bitmap) was ∙ gone.1 (λ z. some (was ∙ z)))
+      ]
+  | inr ne ↦ inl (number_on_past new.sectors (with_pointers v d u) i (omega (arith, ne)) ∙ sym (number_on_past old.sectors v i (omega (arith, ne))))
+]
+dropped_parts {v = v} {u = u} {d} {old} {new} g (OnLevel (suc (suc level)) i) =
+    inl (no_number_on new.sectors (with_pointers v d u) level i ∙ sym (no_number_on old.sectors v level i))
 
 below_min : (k first : ℕ) → k < first → k < DIRECT_BLOCKS → k < min first DIRECT_BLOCKS
 below_min k first a b = omega (arith, a, b)
@@ -111,7 +124,7 @@ drops {p} {v} {first} {u} {d} {old} {new} may direct g =
               let r = g.released s few set clear in
               elim r.1 [
                 | inl w ↦ (Block w.0, w.2, g.dropped w.0 w.1, r.0)
-                | inr is ↦ (Indirect, is.0, is.1, r.0)
+                | inr is ↦ (Indirect, number_on_indirect old.sectors v ∙ is.0, number_on_indirect new.sectors (with_pointers v d u) ∙ is.1, r.0)
               ];
           set = g.set;
           whole = λ s o. elim (cases_eq s v.indirect) [
@@ -129,12 +142,29 @@ drops {p} {v} {first} {u} {d} {old} {new} may direct g =
       };
       puts = g.puts;
       size = refl;
-      indirect = g.few;
-      dropped = g.dropped;
-      kept = g.kept;
+      dropped = gone;
+      kept = stays;
       content = λ k lt some. g.others (pointer old.sectors v k) (no_map place apart (pointer old.sectors v k) (owns_block old.sectors v k some)) (λ has. no_block_has_pointers apart k some);
       free = g.free;
     }
+  where
+    gone : (level i : ℕ) → first ≤ first_block level i → number_on new.sectors (with_pointers v d u) level i ≡ 0
+    gone zero k le = g.dropped k le
+    gone (suc zero) i le = elim (cases_eq i 0) [
+      | inl e ↦ ap (number_on new.sectors (with_pointers v d u) 1) e ∙ number_on_indirect new.sectors (with_pointers v d u) ∙ g.few (let z = le in omega (arith, z, e))
+      | inr ne ↦ number_on_past new.sectors (with_pointers v d u) i (omega (arith, ne))
+    ]
+    gone (suc (suc level)) i le = no_number_on new.sectors (with_pointers v d u) level i
+
+    stays : (level i : ℕ) → first_block level i < first → number_on new.sectors (with_pointers v d u) level i ≡ number_on old.sectors v level i
+    stays zero k lt = g.kept k lt
+    stays (suc zero) i lt = elim (cases_eq i 0) [
+      | inl e ↦
+          ap (number_on new.sectors (with_pointers v d u) 1) e ∙ number_on_indirect new.sectors (with_pointers v d u)
+          ∙ g.more (let z = lt in omega (arith, z, e)) ∙ sym (ap (number_on old.sectors v 1) e ∙ number_on_indirect old.sectors v)
+      | inr ne ↦ number_on_past new.sectors (with_pointers v d u) i (omega (arith, ne)) ∙ sym (number_on_past old.sectors v i (omega (arith, ne)))
+    ]
+    stays (suc (suc level)) i lt = no_number_on new.sectors (with_pointers v d u) level i ∙ sym (no_number_on old.sectors v level i)
 
 -- ---- a direct block of the inode that has other pointers
 direct_kept : (v : Inode) {first : ℕ} (u : ℕ) {d : List ℕ} → DropsDirect first v.direct d → (old new : SectorMap) → (k : ℕ) → k < first → k < DIRECT_BLOCKS
@@ -150,7 +180,7 @@ same_puts : (p : Place) {old new : TxnState} → PutsOnly (IsStepSector p) (bitm
 same_puts p puts = changes_weaker {Q = IsStepSector p} (λ t r. r) (omega arith) puts
 
 -- the inode has no sector of pointers
-pub dropped_direct : {p : Place} {v : Inode} {first : ℕ} {d : List ℕ} {old new : TxnState} → GivesBlocks p v first MAX_BLOCKS old new → DropsDirect first v.direct d → v.indirect ≡ 0
+pub dropped_direct : {p : Place} {v : Inode} {first : ℕ} {d : List ℕ} {old new : TxnState} → GivesNumbers p v 0 first MAX_BLOCKS old new → DropsDirect first v.direct d → v.indirect ≡ 0
     → Dropped p v first v.indirect d old new
 dropped_direct {p} {v} {first} {d} {old} {new} g direct none = record {
   tables = g.tables;
@@ -159,6 +189,7 @@ dropped_direct {p} {v} {first} {d} {old} {new} g direct none = record {
   cleared = λ k low some. g.cleared k low (past_is_hole old.sectors v k some) some;
   indirect = inl refl;
   few = λ le. none;
+  more = λ far. refl;
   released = λ s few set clear. let w = g.released s few set clear in (w.4, inl (w.0, w.1, w.3));
   set = g.set;
   kept = λ k lt. elim (cases_lt k DIRECT_BLOCKS) [
@@ -174,7 +205,7 @@ dropped_direct {p} {v} {first} {d} {old} {new} g direct none = record {
 }
 
 -- it has one, which is given back too
-pub dropped_pointers : {p : Place} {v : Inode} {first : ℕ} {d : List ℕ} {old mid new : TxnState} → IsOwnedApart p old.sectors v → GivesBlocks p v first MAX_BLOCKS old mid
+pub dropped_pointers : {p : Place} {v : Inode} {first : ℕ} {d : List ℕ} {old mid new : TxnState} → IsOwnedApart p old.sectors v → GivesNumbers p v 0 first MAX_BLOCKS old mid
     → DropsDirect first v.direct d → v.indirect ≢ 0 → first ≤ DIRECT_BLOCKS
     → GivesNumber p BlockMap v.indirect mid.sectors new.sectors → HasBitmaps p new → PutsOnly (λ t. t ≡ sector_of BlockMap v.indirect) (bitmaps p) 0 mid new
     → Dropped p v first 0 d old new
@@ -192,6 +223,7 @@ dropped_pointers {p} {v} {first} {d} {old} {mid} {new} apart g direct has less g
           (no_block_has_pointers apart k some) ∙ g.cleared k low (past_is_hole old.sectors v k some) some;
       indirect = inr (refl, λ some. given.clear);
       few = λ le. refl;
+      more = λ far. absurd (omega (arith, far, less));
       released = λ s small set clear. elim (cases_eq s v.indirect) [
         | inl e ↦ (λ z. has (sym e ∙ z), inr (sym e, refl))
         | inr ne ↦ let w = g.released s small set (sym (given.mark.bits s small ne) ∙ clear) in (w.4, inl (w.0, w.1, w.3))
@@ -210,7 +242,7 @@ dropped_pointers {p} {v} {first} {d} {old} {mid} {new} apart g direct has less g
     }
 
 -- it has one, which other blocks still need
-pub dropped_entries : {p : Place} {v : Inode} {first : ℕ} {d x y : List ℕ} {old mid new : TxnState} → IsOwnedApart p old.sectors v → GivesBlocks p v first MAX_BLOCKS old mid
+pub dropped_entries : {p : Place} {v : Inode} {first : ℕ} {d x y : List ℕ} {old mid new : TxnState} → IsOwnedApart p old.sectors v → GivesNumbers p v 0 first MAX_BLOCKS old mid
     → DropsDirect first v.direct d → v.indirect ≢ 0 → DIRECT_BLOCKS < first → x ≡ old.sectors v.indirect
     → ((i : ℕ) → i < first - DIRECT_BLOCKS → u32_of y (4 * i) ≡ u32_of x (4 * i)) → ((i : ℕ) → first - DIRECT_BLOCKS ≤ i → u32_of y (4 * i) ≡ 0) → IsSector y
     → IsPut v.indirect y mid new → Dropped p v first v.indirect d old new
@@ -233,6 +265,7 @@ dropped_entries {p} {v} {first} {d} {x} {y} {old} {mid} {new} apart g direct has
       cleared = λ k low some. bits (pointer old.sectors v k) (few_of k some) ∙ g.cleared k low (past_is_hole old.sectors v k some) some;
       indirect = inl refl;
       few = λ le. absurd (omega (arith, le, more));
+      more = λ far. refl;
       released = λ s small set clear. let w = g.released s small set (sym (bits s small) ∙ clear) in (w.4, inl (w.0, w.1, w.3));
       set = λ s small set. g.set s small (sym (bits s small) ∙ set);
       kept = λ k lt. elim (cases_lt k DIRECT_BLOCKS) [

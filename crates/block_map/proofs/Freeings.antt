@@ -84,7 +84,7 @@ module _ {p : Place} {n : ℕ} {v : Inode} {t0 t1 t2 : TxnState} (sound : IsSoun
           second : HasStored p (emptied v) (record (emptied v) { acl = 0 }) AccessAcl 0 t3.sectors t4.sectors
           unfolding part
           second =
-              stored {x = v.acl} then.place all.tables.tables (apart_after then.place may.apart blocks.owned) refl {y = 0} None (λ e. cc) (λ c e. cc)
+              stored {x = v.acl} then.place all.tables.tables (apart_after then.place may.apart blocks.owned) refl {y = 0} None (λ m i e. cc) (λ c e. cc)
               (refl, access) (λ keeps. turns_acl t3.sectors t4.sectors (emptied v) v.acl 0 refl keeps)
 
           both : ChangesBlocks p v (record (emptied v) { acl = 0 }) t2.sectors t4.sectors
@@ -94,7 +94,7 @@ module _ {p : Place} {n : ℕ} {v : Inode} {t0 t1 t2 : TxnState} (sound : IsSoun
           unfolding part
           third =
               let between : Inode = record (emptied v) { acl = 0 } in
-              stored {x = v.default_acl} then.place second.changes.owned.sectors (apart_after then.place may.apart both.owned) refl {y = 0} None (λ e. cc) (λ c e. cc)
+              stored {x = v.default_acl} then.place second.changes.owned.sectors (apart_after then.place may.apart both.owned) refl {y = 0} None (λ m i e. cc) (λ c e. cc)
               (refl, default) (λ keeps. turns_default_acl t4.sectors t5.sectors between v.default_acl 0 refl keeps)
 
           none : HasNoSector (record (emptied v) { acl = 0; default_acl = 0 })

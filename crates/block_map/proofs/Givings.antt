@@ -1,5 +1,5 @@
--- Blocks are given back, one after the other.
-use Rattle.std.proofs.Common.{◌≡◌, ◌≢◌, ℕ, ◌+◌, ◌/◌, ◌%◌, [], ◌≤◌, ◌<◌, false, refl, sym, ap, subst, ◌∙◌, arith, inl, inr, ◌⊎◌, IsTrue}
+-- Sectors of blocks and of pointers are given back, one after the other.
+use Rattle.std.proofs.Common.{◌≡◌, ◌≢◌, ℕ, zero, suc, ◌+◌, ◌/◌, ◌%◌, [], ◌≤◌, ◌<◌, false, refl, sym, ap, subst, ◌∙◌, arith, inl, inr, ◌⊎◌, IsTrue}
 use Rattle.std.proofs.lemmas.Bool.{cases_eq, cases_lt}
 use Rattle.fs_layout.specs.declared.inode.TheConstants.{DIRECT_BLOCKS, MAX_BLOCKS}
 use Rattle.fs_layout.specs.declared.inode.Inode.{Inode}
@@ -7,12 +7,12 @@ use Rattle.fs_layout.specs.declared.place.Place.{Place}
 use Rattle.fs_layout.specs.Bytes.{SectorMap, IsSector, zeros}
 use Rattle.fs_layout.specs.Inode.{FitsInode, inode_fits}
 use Rattle.fs_layout.specs.Place.{IsPlace}
-use Rattle.fs_layout.specs.Images.{HasWholeTables, pointer, Part, AccessAcl, DefaultAcl, Indirect, DoubleIndirect, Block, part, Owns, Holds, byte_in, byte_at, bit, block_bitmap, map_bits, free_sectors}
+use Rattle.fs_layout.specs.Images.{HasWholeTables, number_on, pointer, Part, AccessAcl, DefaultAcl, OnLevel, Indirect, Block, part, Owns, Holds, byte_in, byte_at, bit, block_bitmap, map_bits, free_sectors}
 use Rattle.fs_layout.specs.InodeChanges.{IsOwnedApart, IsBlockMap, ChangesBlocks}
 use Rattle.fs_layout.proofs.Bits.{set_or_clear, not_both, has_bit, free_sectors_kept}
-use Rattle.fs_layout.proofs.Parts.{owns_block, owns_indirect}
+use Rattle.fs_layout.proofs.Parts.{number_on_indirect, owns_block, owns_on_level, owns_indirect}
 use Rattle.fs_layout.proofs.Held.{no_block_has_pointers}
-use Rattle.fs_layout.proofs.Pointers.{pointer_direct, pointer_past, pointer_without}
+use Rattle.fs_layout.proofs.Pointers.{number_on_past, no_number_on, pointer_direct, pointer_past, pointer_without}
 use Rattle.fs_layout.proofs.SplicedBytes.{get_or-zeros}
 use Rattle.fs_layout.proofs.Writes.{length-zeros}
 use Rattle.block_map.proofs.Alterings.{acls_where_kept}
@@ -28,7 +28,7 @@ use Rattle.bit_alloc.specs.Bitmaps.{HasBitmaps, GivesNumber, sector_of}
 use Rattle.bit_alloc.specs.Room.{bitmaps}
 use Rattle.block_map.specs.Steps.{MayChange, IsStepSector, Alters}
 use Rattle.block_map.specs.Contents.{AllowsSize}
-use Rattle.block_map.specs.Drops.{GivesBlocks, GivesAll, emptied}
+use Rattle.block_map.specs.Drops.{GivesNumbers, GivesAll, emptied}
 
 -- ---- one sector is given back
 -- at least as many are free then
@@ -47,8 +47,8 @@ pub give_puts : (p : Place) {n : ℕ} {old new : TxnState} → n < map_bits p �
     → PutsOnly (IsStepSector p) (bitmaps p) 0 old new
 give_puts p few puts = changes_weaker {Q = IsStepSector p} (λ t e. inl (omega (arith, e), omega (arith, e, few))) (omega arith) puts
 
--- ---- several blocks
-pub none_given : {p : Place} {v : Inode} {first : ℕ} {txn : TxnState} → HasBitmaps p txn → GivesBlocks p v first first txn txn
+-- ---- several numbers of a level
+pub none_given : {p : Place} {v : Inode} {level first : ℕ} {txn : TxnState} → HasBitmaps p txn → GivesNumbers p v level first first txn txn
 none_given {p} h = record {
   tables = h;
   others = λ s ban. refl;
@@ -60,12 +60,12 @@ none_given {p} h = record {
 }
 
 -- a hole has nothing to give back
-pub hole_given : {p : Place} {v : Inode} {first k : ℕ} {old new : TxnState} → GivesBlocks p v first k old new → pointer old.sectors v k ≡ 0 → GivesBlocks p v first (k + 1) old new
-hole_given {p} {v} {first} {k} {old} {new} g none = record {
+pub hole_given : {p : Place} {v : Inode} {level first k : ℕ} {old new : TxnState} → GivesNumbers p v level first k old new → number_on old.sectors v level k ≡ 0 → GivesNumbers p v level first (k + 1) old new
+hole_given {p} {v} {level} {first} {k} {old} {new} g none = record {
   tables = g.tables;
   others = g.others;
   cleared = λ j low high some. elim (cases_eq j k) [
-    | inl e ↦ absurd (some (ap (pointer old.sectors v) e ∙ none))
+    | inl e ↦ absurd (some (ap (number_on old.sectors v level) e ∙ none))
     | inr ne ↦ g.cleared j low (omega (arith, high, ne)) some
   ];
   released = λ s few set clear. let w = g.released s few set clear in (w.0, w.1, omega (arith, w.2), w.3, w.4);
@@ -74,10 +74,10 @@ hole_given {p} {v} {first} {k} {old} {new} g none = record {
   free = g.free;
 }
 
--- nor have blocks past the last that the inode can have
-pub rest_given : {p : Place} {v : Inode} {first k : ℕ} {old new : TxnState} → GivesBlocks p v first k old new → (end : ℕ) → k ≤ end
-    → ((j : ℕ) → k ≤ j → pointer old.sectors v j ≡ 0) → GivesBlocks p v first end old new
-rest_given {p} {v} {first} {k} {old} {new} g end le none = record {
+-- nor have numbers past the last that the inode can have
+pub rest_given : {p : Place} {v : Inode} {level first k : ℕ} {old new : TxnState} → GivesNumbers p v level first k old new → (end : ℕ) → k ≤ end
+    → ((j : ℕ) → k ≤ j → number_on old.sectors v level j ≡ 0) → GivesNumbers p v level first end old new
+rest_given {p} {v} {level} {first} {k} {old} {new} g end le none = record {
   tables = g.tables;
   others = g.others;
   cleared = λ j low high some. elim (cases_lt j k) [ inl lt ↦ g.cleared j low lt some | inr ge ↦ absurd (some (none j ge)) ];
@@ -87,19 +87,19 @@ rest_given {p} {v} {first} {k} {old} {new} g end le none = record {
   free = g.free;
 }
 
--- a block more
-pub block_given : {p : Place} {v : Inode} {first k n : ℕ} {old mid new : TxnState} → IsOwnedApart p old.sectors v → GivesBlocks p v first k old mid → first ≤ k
-    → pointer old.sectors v k ≡ n → n ≢ 0 → n < map_bits p → GivesNumber p BlockMap n mid.sectors new.sectors → HasBitmaps p new → PutsOnly (λ t. t ≡ sector_of BlockMap n) (bitmaps p) 0 mid new
-    → GivesBlocks p v first (k + 1) old new
-block_given {p} {v} {first} {k} {n} {old} {mid} {new} apart g from is some_n few given bits puts = record {
+-- a number more
+pub number_given : {p : Place} {v : Inode} {level first k n : ℕ} {old mid new : TxnState} → IsOwnedApart p old.sectors v → GivesNumbers p v level first k old mid → first ≤ k
+    → number_on old.sectors v level k ≡ n → n ≢ 0 → n < map_bits p → GivesNumber p BlockMap n mid.sectors new.sectors → HasBitmaps p new → PutsOnly (λ t. t ≡ sector_of BlockMap n) (bitmaps p) 0 mid new
+    → GivesNumbers p v level first (k + 1) old new
+number_given {p} {v} {level} {first} {k} {n} {old} {mid} {new} apart g from is some_n few given bits puts = record {
   tables = bits;
   others = λ s ban. given.mark.others s ban ∙ g.others s ban;
-  cleared = λ j low high some. elim (cases_eq (pointer old.sectors v j) n) [
+  cleared = λ j low high some. elim (cases_eq (number_on old.sectors v level j) n) [
     | inl e ↦ ap (bit new.sectors block_bitmap) e ∙ given.clear
     | inr ne ↦ elim (cases_eq j k) [
-      | inl same ↦ absurd (ne (ap (pointer old.sectors v) same ∙ is))
+      | inl same ↦ absurd (ne (ap (number_on old.sectors v level) same ∙ is))
       | inr other ↦
-          given.mark.bits (pointer old.sectors v j) (has_bit g.tables.place (pointer old.sectors v j) (apart.each (pointer old.sectors v j) (owns_block old.sectors v j some)).1) ne
+          given.mark.bits (number_on old.sectors v level j) (has_bit g.tables.place (number_on old.sectors v level j) (apart.each (number_on old.sectors v level j) (owns_on_level old.sectors v level j some)).1) ne
           ∙ g.cleared j low (omega (arith, high, other)) some
     ]
   ];
@@ -159,21 +159,32 @@ keeps_or_gives {p} {v} {w} {old} {new} place apart g = record {
 pub past_is_hole : (image : SectorMap) (v : Inode) (k : ℕ) → pointer image v k ≢ 0 → k < MAX_BLOCKS
 past_is_hole image v k some = elim (cases_lt k MAX_BLOCKS) [ inl lt ↦ lt | inr past ↦ absurd (some (pointer_past image v k past)) ]
 
--- the inode has no sector of pointers
-pub blocks_are_all : {p : Place} {v : Inode} {old new : TxnState} → GivesBlocks p v 0 MAX_BLOCKS old new → v.indirect ≡ 0 → GivesAll p v old new
+-- an inode that names no sector of pointers has none
+pub no_pointers : (image : SectorMap) (v : Inode) (level i : ℕ) → v.indirect ≡ 0 → number_on image v (suc level) i ≡ 0
+no_pointers image v zero i none = elim (cases_eq i 0) [
+  | inl e ↦ ap (number_on image v 1) e ∙ number_on_indirect image v ∙ none
+  | inr ne ↦ number_on_past image v i (omega (arith, ne))
+]
+no_pointers image v (suc level) i none = no_number_on image v level i
+
+-- then its blocks are all
+pub blocks_are_all : {p : Place} {v : Inode} {old new : TxnState} → GivesNumbers p v 0 0 MAX_BLOCKS old new → v.indirect ≡ 0 → GivesAll p v old new
 blocks_are_all {p} {v} {old} {new} g none = record {
   tables = g.tables;
   others = g.others;
-  cleared = λ k some. g.cleared k (omega arith) (past_is_hole old.sectors v k some) some;
-  pointers = λ some. absurd (some none);
-  released = λ s few set clear. let w = g.released s few set clear in (w.4, inl (w.0, w.3));
+  cleared = cleared;
+  released = λ s few set clear. let w = g.released s few set clear in (0, w.0, w.3, w.4);
   set = g.set;
   puts = g.puts;
   free = g.free;
 }
+  where
+    cleared : (level i : ℕ) → number_on old.sectors v level i ≢ 0 → bit new.sectors block_bitmap (number_on old.sectors v level i) ≡ false
+    cleared zero k some = g.cleared k (omega arith) (past_is_hole old.sectors v k some) some
+    cleared (suc level) i some = absurd (some (no_pointers old.sectors v level i none))
 
 -- it has one, which is given back too
-pub pointers_given : {p : Place} {v : Inode} {old mid new : TxnState} → IsOwnedApart p old.sectors v → GivesBlocks p v 0 MAX_BLOCKS old mid → v.indirect ≢ 0
+pub pointers_given : {p : Place} {v : Inode} {old mid new : TxnState} → IsOwnedApart p old.sectors v → GivesNumbers p v 0 0 MAX_BLOCKS old mid → v.indirect ≢ 0
     → GivesNumber p BlockMap v.indirect mid.sectors new.sectors → HasBitmaps p new → PutsOnly (λ t. t ≡ sector_of BlockMap v.indirect) (bitmaps p) 0 mid new
     → GivesAll p v old new
 pointers_given {p} {v} {old} {mid} {new} apart g has given bits puts =
@@ -182,13 +193,10 @@ pointers_given {p} {v} {old} {mid} {new} apart g has given bits puts =
     record {
       tables = bits;
       others = λ s ban. given.mark.others s ban ∙ g.others s ban;
-      cleared = λ k some.
-          given.mark.bits (pointer old.sectors v k) (has_bit place (pointer old.sectors v k) (apart.each (pointer old.sectors v k) (owns_block old.sectors v k some)).1)
-          (no_block_has_pointers apart k some) ∙ g.cleared k (omega arith) (past_is_hole old.sectors v k some) some;
-      pointers = λ some. given.clear;
+      cleared = cleared;
       released = λ s small set clear. elim (cases_eq s v.indirect) [
-        | inl e ↦ (λ z. has (sym e ∙ z), inr (sym e))
-        | inr ne ↦ let w = g.released s small set (sym (given.mark.bits s small ne) ∙ clear) in (w.4, inl (w.0, w.3))
+        | inl e ↦ (1, 0, number_on_indirect old.sectors v ∙ sym e, λ z. has (sym e ∙ z))
+        | inr ne ↦ let w = g.released s small set (sym (given.mark.bits s small ne) ∙ clear) in (0, w.0, w.3, w.4)
       ];
       set = λ s small set. elim (cases_eq s v.indirect) [
         | inl e ↦ absurd (not_both set (ap (bit new.sectors block_bitmap) e ∙ given.clear))
@@ -197,6 +205,16 @@ pointers_given {p} {v} {old} {mid} {new} apart g has given bits puts =
       puts = changes_joined g.puts (give_puts p few puts);
       free = let a = g.free in let b = free_after_give given place in omega (arith, a, b);
     }
+  where
+    cleared : (level i : ℕ) → number_on old.sectors v level i ≢ 0 → bit new.sectors block_bitmap (number_on old.sectors v level i) ≡ false
+    cleared zero k some =
+        given.mark.bits (pointer old.sectors v k) (has_bit g.tables.place (pointer old.sectors v k) (apart.each (pointer old.sectors v k) (owns_block old.sectors v k some)).1)
+        (no_block_has_pointers apart k some) ∙ g.cleared k (omega arith) (past_is_hole old.sectors v k some) some
+    cleared (suc zero) i some = elim (cases_eq i 0) [
+      | inl e ↦ ap (bit new.sectors block_bitmap) (ap (number_on old.sectors v 1) e ∙ number_on_indirect old.sectors v) ∙ given.clear
+      | inr ne ↦ absurd (some (number_on_past old.sectors v i (omega (arith, ne))))
+    ]
+    cleared (suc (suc level)) i some = absurd (some (no_number_on old.sectors v level i))
 
 -- the inode without it has no block
 pub emptied_pointer : (image : SectorMap) (v : Inode) (k : ℕ) → pointer image (emptied v) k ≡ 0
@@ -206,14 +224,18 @@ emptied_pointer image v k = elim (cases_lt k DIRECT_BLOCKS) [
   | inr ge ↦ pointer_without image (emptied v) k ge refl
 ]
 
+-- nor a sector of pointers
+emptied_number : (image : SectorMap) (v : Inode) (level i : ℕ) → number_on image (emptied v) level i ≡ 0
+emptied_number image v zero k = emptied_pointer image v k
+emptied_number image v (suc level) i = no_pointers image (emptied v) level i refl
+
 -- and holds nothing
 pub emptied_holds : (image : SectorMap) (v : Inode) → Holds image (emptied v) []
 unfolding byte_at
 emptied_holds image v = record {
   size = refl;
   byte = λ i. ap (λ (s : ℕ). byte_in image s (i % 512)) (emptied_pointer image v (i / 512));
-  trim = λ k le. emptied_pointer image v k;
-  trim_pointers = λ le. refl;
+  trim = λ level i le. emptied_number image v level i;
 }
 
 emptied_parts : {p : Place} {v : Inode} {old new : TxnState} → GivesAll p v old new → (at : Part)
@@ -222,9 +244,7 @@ emptied_parts : {p : Place} {v : Inode} {old new : TxnState} → GivesAll p v ol
 unfolding part
 emptied_parts g AccessAcl = inl refl
 emptied_parts g DefaultAcl = inl refl
-emptied_parts g Indirect = inr (refl, g.pointers)
-emptied_parts g DoubleIndirect = inl refl
-emptied_parts {v = v} {new = new} g (Block k) = inr (emptied_pointer new.sectors v k, g.cleared k)
+emptied_parts {v = v} {new = new} g (OnLevel level i) = inr (emptied_number new.sectors v level i, g.cleared level i)
 
 -- it fits its fields
 emptied_fits : (v : Inode) → FitsInode v → AllowsSize v.kind 0 → FitsInode (emptied v)
@@ -255,10 +275,7 @@ emptied_blocks {p} {v} {old} {new} place apart g = keeps_or_gives place apart (r
   parts = emptied_parts g;
   released = λ s few set clear.
       let r = g.released s few set clear in
-      elim r.1 [
-        | inl w ↦ (Block w.0, w.1, emptied_pointer new.sectors v w.0, r.0)
-        | inr is ↦ (Indirect, is, refl, r.0)
-      ];
+      (OnLevel r.0 r.1, r.2, emptied_number new.sectors v r.0 r.1, r.3);
   set = g.set;
   whole = λ s o. subst IsSector (sym (g.others s (no_map place apart s o))) (apart.whole s o);
   others = λ s ban map. g.others s map;
@@ -294,10 +311,9 @@ given_after {p} {v} {old} {mid} {new} same g =
     record {
       tables = g.tables;
       others = λ s ban. g.others s ban ∙ same.sectors s;
-      cleared = subst (λ (image : SectorMap). (k : ℕ) → pointer image v k ≢ 0 → bit new.sectors block_bitmap (pointer image v k) ≡ false) e g.cleared;
-      pointers = g.pointers;
+      cleared = subst (λ (image : SectorMap). (level i : ℕ) → number_on image v level i ≢ 0 → bit new.sectors block_bitmap (number_on image v level i) ≡ false) e g.cleared;
       released = subst (λ (image : SectorMap). (s : ℕ) → s < map_bits p → IsTrue (bit image block_bitmap s) → bit new.sectors block_bitmap s ≡ false
-          → (s ≢ 0) × (((k : ℕ) × (pointer image v k ≡ s)) ⊎ (v.indirect ≡ s))) e g.released;
+          → (level : ℕ) × (i : ℕ) × (number_on image v level i ≡ s) × (s ≢ 0)) e g.released;
       set = subst (λ (image : SectorMap). (s : ℕ) → s < map_bits p → IsTrue (bit new.sectors block_bitmap s) → IsTrue (bit image block_bitmap s)) e g.set;
       puts = puts_after same g.puts;
       free = let f = g.free in let b = ap (free_sectors p) e in omega (arith, f, b);

@@ -10,7 +10,7 @@ use Rattle.fs_layout.specs.Bytes.{SectorMap, splice, zeros, resized}
 use Rattle.fs_layout.specs.Images.{pointer, part, Block, Owns, Holds, byte_in, byte_at, free_sectors}
 use Rattle.fs_layout.specs.InodeChanges.{Puts, ChangesBlocks}
 use Rattle.fs_layout.proofs.Blocks.{fields_change, pointers_apart}
-use Rattle.fs_layout.proofs.Parts.{KeepsPointers, pointer_same, byte_in_kept, indirect_is_no_block, owns_block}
+use Rattle.fs_layout.proofs.Parts.{KeepsPointers, block_has_no_pointers, indirect_kept, pointer_same, byte_in_kept, owns_block}
 use Rattle.fs_layout.proofs.Held.{held_hole}
 use Rattle.fs_layout.proofs.Sectors.{IsBytes-zeros}
 use Rattle.fs_layout.proofs.Writes.{length-zeros}
@@ -26,7 +26,7 @@ use Rattle.block_map.specs.Drops.{DropsBlocks}
 use Rattle.block_map.specs.Sizes.{HasZeroTail, ClearsTail, Resizes}
 use Rattle.block_map.specs.Steps.{MayChange, IsStepSector, Alters, WritesBlock}
 use Rattle.block_map.proofs.Alterings.{alters_joined, may_after, fields_same, acls_kept}
-use Rattle.block_map.proofs.Sizing.{sized, sized_holds, sized_pointer}
+use Rattle.block_map.proofs.Sizing.{sized, sized_holds, sized_number, sized_pointer}
 use Rattle.block_map.proofs.Runs.{same_map}
 use Rattle.block_map.proofs.Rooms.{puts_beside}
 use Rattle.block_map.proofs.Writings.{free_after_put, writes_block_there}
@@ -52,7 +52,7 @@ grows {p} {old} {v} m may allowed few le = record {
 pub tail_kept : {p : Place} {m : ℕ} {old : TxnState} {v : Inode} → MayChange p old v
     → ((bytes : List ℕ) → Holds old.sectors v bytes → (i : ℕ) → m ≤ i → i < 512 * ((m + 511) / 512) → get_or bytes i 0 ≡ 0) → ClearsTail p m old old v
 tail_kept {p} {m} {old} {v} may none = record {
-  alters = record { blocks = fields_change may.bitmaps.place may.bitmaps.tables may.apart refl refl refl refl; fields = fields_same; acls = acls_kept refl refl (λ some. refl) (λ some. refl); bitmaps = may.bitmaps; fits = may.fits };
+  alters = record { blocks = fields_change may.bitmaps.place may.bitmaps.tables may.apart refl refl refl; fields = fields_same; acls = acls_kept refl refl (λ some. refl) (λ some. refl); bitmaps = may.bitmaps; fits = may.fits };
   loaded = λ b is end l. l;
   puts = changes_weaker {Q = IsStepSector p} (λ t r. r) (omega arith) (changes_nothing {R = IsStepSector p} (bitmaps p));
   pointers = λ k. refl;
@@ -106,13 +106,14 @@ tail_written {p} {m} {len} {s} {x} {old} {new} b may is some written e puts fits
     let at : 512 * (m / 512) + m % 512 ≡ m = omega arith in
     let block : WritesBlock p (m / 512) (m % 512) (zeros len) old new b b =
     writes_block_there may is some (omega (arith, z, room)) (IsBytes-zeros len) put (puts_beside puts b.inode.indirect) (omega (arith, z, fits)) in
-    let kept : KeepsPointers old.sectors new.sectors b.inode = pointers_apart may.apart (Block (m / 512)) (λ f. indirect_is_no_block (m / 512) (sym f)) is some put in
+    let kept : KeepsPointers old.sectors new.sectors b.inode = pointers_apart may.apart (Block (m / 512)) (block_has_no_pointers (m / 512)) is some put in
     let free : free_sectors p new.sectors ≡ free_sectors p old.sectors =
     free_after_put may.bitmaps.place (may.apart.each s (subst (Owns old.sectors b.inode) is (owns_block old.sectors b.inode (m / 512) (λ f. some (sym is ∙ f))))).0 put in
     record {
       alters = block.alters;
       loaded = λ c same end l. record {
-        is = λ has far. l.is has far ∙ sym (subst (λ (i : Inode). KeepsPointers old.sectors new.sectors i) (sym same) kept has);
+        is = λ has far.
+            l.is has far ∙ sym (indirect_kept old.sectors new.sectors c.inode (subst (λ (i : Inode). KeepsPointers old.sectors new.sectors i) (sym same) kept) has);
         none = l.none;
       };
       puts = puts;
@@ -135,14 +136,14 @@ cut_byte : {p : Place} {m : ℕ} {mid new : TxnState} {v w : Inode} {bytes then 
 unfolding byte_at
 cut_byte {p} {m} {mid} {new} {v} {w} {bytes} {then} d h c i = elim (cases_lt (i / 512) ((m + 511) / 512)) [
   | inl lt ↦
-      ap (λ (s : ℕ). byte_in new.sectors s (i % 512)) (d.kept (i / 512) lt)
+      ap (λ (s : ℕ). byte_in new.sectors s (i % 512)) (d.kept 0 (i / 512) lt)
       ∙ byte_in_kept mid.sectors new.sectors (pointer mid.sectors v (i / 512)) (i % 512) (d.content (i / 512) lt)
       ∙ h.byte i
       ∙ elim (cases_lt i m) [
         | inl before ↦ c.before i before ∙ sym (get_or-take m bytes i 0 before)
         | inr ge ↦ c.after i ge (omega (arith, lt)) ∙ sym (past_cut bytes m i ge)
       ]
-  | inr ge ↦ ap (λ (s : ℕ). byte_in new.sectors s (i % 512)) (d.dropped (i / 512) ge) ∙ sym (past_cut bytes m i (omega (arith, ge)))
+  | inr ge ↦ ap (λ (s : ℕ). byte_in new.sectors s (i % 512)) (d.dropped 0 (i / 512) ge) ∙ sym (past_cut bytes m i (omega (arith, ge)))
 ]
 
 sized_byte : (image : SectorMap) (w : Inode) (m i : ℕ) → byte_at image (record w { size = m }) i ≡ byte_at image w i
@@ -154,8 +155,7 @@ pub cuts_held : {p : Place} {m : ℕ} {mid new : TxnState} {v w : Inode} {bytes 
 cuts_held {p} {m} {mid} {new} {v} {w} {bytes} {then} d h c le = record {
   size = sym (length-take-le m bytes le);
   byte = λ i. sized_byte new.sectors w m i ∙ cut_byte d h c i;
-  trim = λ k past. sized_pointer new.sectors w m k ∙ d.dropped k (omega (arith, past));
-  trim_pointers = λ small. d.indirect (omega (arith, small));
+  trim = λ level i past. sized_number new.sectors w m level i ∙ d.dropped level i (omega (arith, past));
 }
 
 cut_is_resized : (bytes : List ℕ) (m : ℕ) → m ≤ length bytes → take m bytes ≡ resized bytes m
@@ -191,6 +191,6 @@ resizes {p} {m} {old} {start} {mid} {new} {u} {v} {w} may allowed le small same 
           (cuts_held d there.1 there.2 (omega (arith, z, le)));
       whole = λ none less k lt f.
           none k (omega (arith, lt, less))
-          (ap (λ (image : SectorMap). pointer image v k) (sym map) ∙ sym (t.pointers k) ∙ sym (d.kept k (omega (arith, lt))) ∙ sym (sized_pointer new.sectors w m k) ∙ f);
+          (ap (λ (image : SectorMap). pointer image v k) (sym map) ∙ sym (t.pointers k) ∙ sym (d.kept 0 k (omega (arith, lt))) ∙ sym (sized_pointer new.sectors w m k) ∙ f);
       free = let a = t.free in let b = d.free in let c = free_same p old start same in omega (arith, a, b, c);
     }

@@ -11,7 +11,7 @@ use Rattle.fs_layout.specs.declared.inode.Kind.TheVariants.{Free, File, Director
 use Rattle.fs_layout.specs.declared.place.Place.{Place}
 use Rattle.fs_layout.specs.Bytes.{SectorMap, splice, zeros, resized, overwritten}
 use Rattle.fs_layout.specs.Inode.{FitsInode, inode_fits, numbers_fit}
-use Rattle.fs_layout.specs.Images.{pointer, Holds, inode_at}
+use Rattle.fs_layout.specs.Images.{number_on, pointer, Holds, inode_at}
 use Rattle.fs_layout.specs.InodeChanges.{ChangesBlocks, IsOwnedApart}
 use Rattle.fs_layout.proofs.Writes.{length-zeros}
 use Rattle.fs_layout.proofs.SplicedBytes.{get_or-zeros}
@@ -97,7 +97,7 @@ sized {p} {old} {mid} {v} m may same allowed few =
     let e : old.sectors ≡ mid.sectors = sym (same_map old.sectors mid.sectors same.sectors) in
     record {
       blocks = subst (λ (image : SectorMap). ChangesBlocks p v (record v { size = m }) old.sectors image) e
-          (fields_change may.bitmaps.place may.bitmaps.tables may.apart refl refl refl refl);
+          (fields_change may.bitmaps.place may.bitmaps.tables may.apart refl refl refl);
       fields = record { kind = refl; mode = refl; uid = refl; gid = refl; names = refl; parent = refl };
       acls = acls_kept refl refl (λ some. same.sectors v.acl) (λ some. same.sectors v.default_acl);
       bitmaps = bitmaps_unchanged p old mid may.bitmaps same;
@@ -114,10 +114,13 @@ sized_holds {old} {mid} {v} m same le bytes h =
     subst (λ (k : ℕ). Holds mid.sectors (record v { size = k }) (bytes ++ zeros (m - length bytes))) size
     (extends mid.sectors v bytes (m - length bytes) (subst (λ (image : SectorMap). Holds image v bytes) e h))
 
--- the size says nothing of the blocks
+-- the size says nothing of the numbers
+pub sized_number : (image : SectorMap) (v : Inode) (m level i : ℕ) → number_on image (record v { size = m }) level i ≡ number_on image v level i
+unfolding number_on
+sized_number image v m level i = refl
+
 pub sized_pointer : (image : SectorMap) (v : Inode) (m k : ℕ) → pointer image (record v { size = m }) k ≡ pointer image v k
-unfolding pointer
-sized_pointer image v m k = refl
+sized_pointer image v m k = sized_number image v m 0 k
 
 -- ---- the bytes
 padded : (bytes : List ℕ) (n i : ℕ) → get_or (bytes ++ zeros n) i 0 ≡ get_or bytes i 0

@@ -8,16 +8,16 @@ use Rattle.fs_layout.specs.Bytes.{SectorMap, IsBytes, IsSector, splice, le32, ze
 use Rattle.fs_layout.specs.Place.{IsPlace}
 use Rattle.fs_layout.specs.Images.{pointer, AccessAcl, DefaultAcl, Indirect, Block, part, Owns, free_sectors}
 use Rattle.fs_layout.specs.InodeChanges.{Puts, PutsEntry, Allocates, Turns, ReplacesBlock, IsOwnedApart, with_direct}
-use Rattle.fs_layout.proofs.Parts.{KeepsPointers, indirect_is_no_block, pointer_same, pointers_kept, owns_acl, owns_default_acl, owns_indirect}
+use Rattle.fs_layout.proofs.Parts.{KeepsPointers, block_has_no_pointers, indirect_kept, number_on_indirect, pointer_same, pointers_kept, owns_acl, owns_default_acl, owns_indirect}
 use Rattle.fs_layout.proofs.Sectors.{IsSector-splice}
 use Rattle.fs_layout.proofs.SplicedBytes.{IsSector-zeros}
 use Rattle.fs_layout.proofs.Bits.{has_bit, block_bit_kept, free_sectors_kept}
 use Rattle.fs_layout.proofs.Blocks.{map_is_low, pointers_apart, others_kept, block_changes}
 use Rattle.fs_layout.proofs.Free.{with_direct_fits}
 use Rattle.fs_layout.proofs.Held.{held_block, held_hole, splice_replaces, write_block}
-use Rattle.fs_layout.proofs.Pointers.{HasEntry, turns_direct, turns_entry}
+use Rattle.fs_layout.proofs.Pointers.{turns_direct, turns_entry}
 use Rattle.fs_layout.proofs.Sizes.{other_blocks, now_block}
-use Rattle.fs_layout.proofs.Steps.{allocates_keeps, allocated_some, direct_block_gained, direct_block_filled, entry_block_gained, entry_block_filled}
+use Rattle.fs_layout.proofs.Steps.{allocates_keeps, allocated_some, direct_block_gained, direct_block_filled, puts_entry, entry_there_since, entry_block_gained, entry_block_filled}
 use Rattle.sector_txn.specs.Sectors.{TxnState, SameStore, PutsOnly}
 use Rattle.bit_alloc.specs.Bitmaps.{HasBitmaps}
 use Rattle.bit_alloc.specs.Room.{bitmaps}
@@ -49,7 +49,7 @@ writes_block_there {p} {old} {new} {b} {k} {at} {s} {x} may is some room fine pu
     let owned : Owns old.sectors b.inode s = record { at = Block k; is = is; some = some } in
     let whole : IsSector (old.sectors s) = may.apart.whole s owned in
     let in_data : p.first_data ≤ s = (may.apart.each s owned).0 in
-    let kept : KeepsPointers old.sectors new.sectors b.inode = pointers_apart may.apart (Block k) (λ e. indirect_is_no_block k (sym e)) is some put in
+    let kept : KeepsPointers old.sectors new.sectors b.inode = pointers_apart may.apart (Block k) (block_has_no_pointers k) is some put in
     let same : (j : ℕ) → pointer new.sectors b.inode j ≡ pointer old.sectors b.inode j = λ j. pointer_same old.sectors new.sectors b.inode kept j in
     record {
       alters = record {
@@ -61,7 +61,7 @@ writes_block_there {p} {old} {new} {b} {k} {at} {s} {x} may is some room fine pu
         bitmaps = put_keeps_bitmaps may.bitmaps puts.store in_data put;
         fits = may.fits;
       };
-      loaded = λ end l. record { is = λ has far. l.is has far ∙ sym (kept has); none = l.none };
+      loaded = λ end l. record { is = λ has far. l.is has far ∙ sym (indirect_kept old.sectors new.sectors b.inode kept has); none = l.none };
       puts = puts;
       size = refl;
       indirect = refl;
@@ -113,13 +113,13 @@ module _ {p : Place} {old new : TxnState} {bits : SectorMap} {b : Blocks} {k at 
 -- through the sector of pointers, which is no ACL's
 pub acl_apart : {p : Place} {image : SectorMap} {v : Inode} → IsOwnedApart p image v → v.indirect ≢ 0 → v.acl ≢ v.indirect
 unfolding part
-acl_apart {v = v} apart has f =
-    let same : AccessAcl ≡ Indirect = apart.once v.indirect (record { at = AccessAcl; is = f; some = has }) (record { at = Indirect; is = refl; some = has }) in cc
+acl_apart {image = image} {v} apart has f =
+    let same : AccessAcl ≡ Indirect = apart.once v.indirect (record { at = AccessAcl; is = f; some = has }) (record { at = Indirect; is = number_on_indirect image v; some = has }) in cc
 
 pub default_apart : {p : Place} {image : SectorMap} {v : Inode} → IsOwnedApart p image v → v.indirect ≢ 0 → v.default_acl ≢ v.indirect
 unfolding part
-default_apart {v = v} apart has f =
-    let same : DefaultAcl ≡ Indirect = apart.once v.indirect (record { at = DefaultAcl; is = f; some = has }) (record { at = Indirect; is = refl; some = has }) in cc
+default_apart {image = image} {v} apart has f =
+    let same : DefaultAcl ≡ Indirect = apart.once v.indirect (record { at = DefaultAcl; is = f; some = has }) (record { at = Indirect; is = number_on_indirect image v; some = has }) in cc
 
 module _ {p : Place} {old mid new : TxnState} {bits : SectorMap} {b : Blocks} {k at s : ℕ} {x y pointers : List ℕ}
     (may : MayChange p old b.inode) (none : pointer old.sectors b.inode k ≡ 0) (room : at + length x ≤ 512)
@@ -136,18 +136,9 @@ module _ {p : Place} {old mid new : TxnState} {bits : SectorMap} {b : Blocks} {k
       let small : s < 2 ^ 32 = let l = a.free.1 in let most = place.most_sectors in omega (arith, l, most) in
       let written : pointers ≡ splice (mid.sectors b.inode.indirect) (4 * (k - DIRECT_BLOCKS)) (le32 s) =
       entry ∙ ap (λ (r : List ℕ). splice r (4 * (k - DIRECT_BLOCKS)) (le32 s)) (loaded ∙ sym before) in
-      let e : PutsEntry b.inode k s mid.sectors new.sectors =
-      record { from = from; to = to; some = has; fits = small; put = record { here = put.here ∙ written; others = put.others } } in
-      let there : HasEntry b.inode k s old.sectors new.sectors =
-      record {
-        from = from;
-        to = to;
-        some = has;
-        len = (may.apart.whole b.inode.indirect own).len;
-        fits = small;
-        is = put.here ∙ entry ∙ ap (λ (r : List ℕ). splice r (4 * (k - DIRECT_BLOCKS)) (le32 s)) loaded;
-      } in
-      let turned : Turns old.sectors new.sectors b.inode b.inode (Block k) 0 s = turns_entry none there in
+      let e : PutsEntry b.inode 0 k s mid.sectors new.sectors =
+      puts_entry b.inode k s mid.sectors new.sectors from to has small (record { here = put.here ∙ written; others = put.others }) in
+      let turned : Turns old.sectors new.sectors b.inode b.inode (Block k) 0 s = turns_entry none (entry_there_since place may.apart a e) in
       record {
         alters = record {
           blocks = entry_block_gained place may.apart a e none;

@@ -9,7 +9,7 @@ ghost use Rattle.bit_alloc.specs.Room.{HasSpare};
 ghost use Rattle.block_map.specs.Blocks.{IsLoaded};
 ghost use Rattle.bit_alloc.specs.Inodes.{IsSound};
 ghost use Rattle.block_map.specs.Contents.{AllowsSize, ChangesContent};
-ghost use Rattle.block_map.specs.Drops.{GivesBlocks, GivesAll};
+ghost use Rattle.block_map.specs.Drops.{GivesNumbers, GivesAll};
 ghost use Rattle.block_map.specs.Steps.{MayChange};
 
 use crate::blocks::{BLOCK, Blocks};
@@ -30,7 +30,7 @@ pub(crate) fn give_blocks<S: Sectors>(
     requires loaded { IsLoaded (S.state s.old).sectors blocks.now MAX_BLOCKS }
     requires few { first ≤ MAX_BLOCKS }
     requires room { HasSpare place 0 (S.state s.old) }
-    ensures given { OnOk result (GivesBlocks place blocks.now.inode first MAX_BLOCKS (S.state s.old) (S.state s.new)) }
+    ensures given { OnOk result (GivesNumbers place blocks.now.inode 0 first MAX_BLOCKS (S.state s.old) (S.state s.new)) }
     ensures store { SameStore (S.state s.old) (S.state s.new) }
     ensures cause { HasCause (S.state s.old).disk (S.state s.new).disk result }
 {

@@ -8,7 +8,7 @@ use Rattle.fs_layout.specs.Bytes.{SectorMap}
 use Rattle.fs_layout.specs.Images.{pointer}
 use Rattle.fs_layout.specs.Directories.{NamedInode}
 use Rattle.fs_layout.proofs.ImageSlots.{length-slots}
-use Rattle.fs_layout.proofs.Pointers.{pointer_without}
+use Rattle.fs_layout.proofs.Pointers.{pointer_without, trimmed_indirect}
 use Rattle.block_map.specs.Steps.{hole, holes, lacks_pointers, blocks_to, taken_by}
 use Rattle.block_map.proofs.AddedPointers.{one_lacks}
 use Rattle.block_map.proofs.Counts.{holes_more}
@@ -53,10 +53,10 @@ module _ {image : SectorMap} {v : Inode} {slots : List NamedInode} (h : HasSlots
             let is : taken_for v ≡ 0 = rw (ne_eqb (v.size % 512) 0 within) refl in
             omega (arith, one, full, lacks, is)
         | inl whole ↦
-            let none : hole image v (v.size / 512) ≡ 1 = hole_is_one image v (v.size / 512) (h.holds.trim (v.size / 512) (omega (arith, whole))) in
+            let none : hole image v (v.size / 512) ≡ 1 = hole_is_one image v (v.size / 512) (h.holds.trim 0 (v.size / 512) (omega (arith, whole))) in
             elim (cases_eq v.size DIRECT_SIZE) [
               | inl twelve ↦
-                  let lacks : lacks_pointers v (blocks_to (v.size + SLOT_SIZE)) ≡ 1 = one_lacks v (blocks_to (v.size + SLOT_SIZE)) (omega (arith, twelve)) (h.holds.trim_pointers (omega (arith, twelve))) in
+                  let lacks : lacks_pointers v (blocks_to (v.size + SLOT_SIZE)) ≡ 1 = one_lacks v (blocks_to (v.size + SLOT_SIZE)) (omega (arith, twelve)) (trimmed_indirect image v h.holds.trim (omega (arith, twelve))) in
                   let is : taken_for v ≡ 2 = rw (eq-eqb (v.size % 512) 0 whole, eq-eqb v.size DIRECT_SIZE twelve) refl in
                   omega (arith, one, none, lacks, is)
               | inr other ↦

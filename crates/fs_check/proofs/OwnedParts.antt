@@ -1,13 +1,14 @@
 -- The parts of an inode, counted.
 use Rattle.std.specs.Prelude.{◌≡◌, ◌≢◌, ℕ, zero, suc, ◌+◌, ◌-◌, ◌<◌, ◌≤◌, Bool, true, false, List, IsTrue, ◌↔◌}
 use Rattle.std.proofs.Common.{refl, sym, ap, arith, ◌∙◌, subst, inl, inr}
-use Rattle.std.proofs.lemmas.Bool.{cases_lt, ne_eqb}
+use Rattle.std.proofs.lemmas.Bool.{cases_eq, cases_lt, ne_eqb}
 use Rattle.fs_layout.specs.declared.inode.TheConstants.{MAX_BLOCKS}
 use Rattle.fs_layout.specs.declared.inode.Inode.{Inode}
 use Rattle.fs_layout.specs.declared.place.Place.{Place}
 use Rattle.fs_layout.specs.Bytes.{SectorMap}
-use Rattle.fs_layout.specs.Images.{Part, AccessAcl, DefaultAcl, Indirect, DoubleIndirect, Block, part, pointer, Owns, IsData, HasPointers}
-use Rattle.fs_layout.proofs.Pointers.{pointer_past}
+use Rattle.fs_layout.specs.Images.{number_on, Part, AccessAcl, DefaultAcl, OnLevel, Block, part, pointer, Owns, IsData, HasPointers}
+use Rattle.fs_layout.proofs.Parts.{number_on_indirect}
+use Rattle.fs_layout.proofs.Pointers.{number_on_past, no_number_on, pointer_past}
 use Rattle.fs_check.specs.declared.owning.TheConstants.{PARTS}
 use Rattle.fs_check.specs.Owning.{part_at, OwnsData}
 
@@ -25,7 +26,7 @@ module _ (m : SectorMap) (v : Inode) where
 
   pub part_2 : (i : ℕ) → i ≡ 2 → v.indirect ≡ part m v (part_at i)
   unfolding part
-  part_2 i e = sym (ap (λ k. part m v (part_at k)) e)
+  part_2 i e = sym (number_on_indirect m v) ∙ sym (ap (λ k. part m v (part_at k)) e)
 
   pub block_pointer : (i : ℕ) → i ≢ 0 → i ≢ 1 → i ≢ 2 → part m v (part_at i) ≡ pointer m v (i - 3)
   unfolding part
@@ -45,9 +46,12 @@ module _ (m : SectorMap) (v : Inode) where
       go : (a : Part) → part m v a ≡ s → s ≢ 0 → (i : ℕ) × (i < PARTS) × (part m v (part_at i) ≡ s) × (a ≡ part_at i)
       go AccessAcl e some = (0, omega arith, e, refl)
       go DefaultAcl e some = (1, omega arith, e, refl)
-      go Indirect e some = (2, omega arith, e, refl)
-      go DoubleIndirect e some = absurd (some (sym e))
-      go (Block k) e some = elim (cases_lt k MAX_BLOCKS) [
+      go (OnLevel (suc zero) i) e some = elim (cases_eq i 0) [
+        | inl first ↦ (2, omega arith, ap (number_on m v 1) (sym first) ∙ e, ap (OnLevel 1) first)
+        | inr ne ↦ absurd (some (sym e ∙ number_on_past m v i (omega (arith, ne))))
+      ]
+      go (OnLevel (suc (suc level)) i) e some = absurd (some (sym e ∙ no_number_on m v level i))
+      go (OnLevel zero k) e some = elim (cases_lt k MAX_BLOCKS) [
         | inl lt ↦
             let same : k + 3 - 3 ≡ k = omega arith in (
               k + 3,
@@ -62,9 +66,8 @@ module _ (m : SectorMap) (v : Inode) where
 index : Part → ℕ
 index AccessAcl = 0
 index DefaultAcl = 1
-index Indirect = 2
-index DoubleIndirect = 0
-index (Block k) = k + 3
+index (OnLevel zero k) = k + 3
+index (OnLevel (suc level) i) = 2
 
 index_of : (i : ℕ) → index (part_at i) ≡ i
 unfolding index

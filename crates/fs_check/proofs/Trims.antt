@@ -14,6 +14,7 @@ use Rattle.fs_layout.specs.Inode.{inode_of, inode_if, inode_fits, kind_of, field
 use Rattle.fs_layout.specs.Images.{stored, inode_at, pointer, byte_in, byte_at, Owns, IsData}
 use Rattle.fs_layout.proofs.Codecs.{held, same_ok}
 use Rattle.fs_layout.proofs.Parts.{byte_in_is, owns_block}
+use Rattle.fs_layout.proofs.Pointers.{trims, trimmed_indirect}
 use Rattle.fs_model.specs.Rules.{Inodes, ObeysBefore, IsPlaceOf, IsLaidOut}
 use Rattle.fs_model.proofs.BuiltNodes.{link_fits}
 use Rattle.fs_check.specs.LastBlocks.{last_block, last_bytes, FitPointers, FitsLast}
@@ -68,8 +69,7 @@ module _ (m : SectorMap) (v : Inode) (fit : FitPointers m v) where
   unfolding byte_at
   laid_out_hole s is none = (
     (λ t. record {
-      trim = fit.trim;
-      trim_pointers = fit.trim_pointers;
+      trim = trims m v fit.trim fit.trim_pointers;
       rest = λ i ge. elim (cases_lt (512 * (i / 512)) v.size) [
         | inl lt ↦
             let here : i / 512 ≡ last_block v = omega (arith, ge, lt) in
@@ -104,8 +104,7 @@ module _ (m : SectorMap) (v : Inode) (fit : FitPointers m v) where
           (λ t.
               let f = test.0 t in
               record {
-                trim = fit.trim;
-                trim_pointers = fit.trim_pointers;
+                trim = trims m v fit.trim fit.trim_pointers;
                 rest = λ i ge. elim (cases_lt (512 * (i / 512)) v.size) [
                   | inl lt ↦
                       let here : i / 512 ≡ last_block v = omega (arith, ge, lt) in
@@ -138,7 +137,7 @@ module _ (m : SectorMap) (v : Inode) (fit : FitPointers m v) where
 pub not_fit : (m : SectorMap) (v : Inode) (r : Bool) → r ≡ false → (IsTrue r ↔ FitPointers m v) → IsTrue false ↔ IsLaidOut m v
 not_fit m v r bad test = (
   (λ f. absurd (let c : false ≡ true = f in cc)),
-  (λ out. sym bad ∙ test.1 (record { trim = out.trim; trim_pointers = out.trim_pointers; whole = out.whole })),
+  (λ out. sym bad ∙ test.1 (record { trim = λ k le. out.trim 0 k le; trim_pointers = trimmed_indirect m v out.trim; whole = out.whole })),
 )
 
 -- a block's sector is one of the disk

@@ -1,14 +1,14 @@
 -- Sectors that an inode owns are written: what changes by that.
-use Rattle.std.proofs.Common.{◌≡◌, ◌≢◌, ℕ, ◌<◌, List, refl, sym, ap, subst, ◌∙◌, arith, inl, inr}
+use Rattle.std.proofs.Common.{◌≡◌, ◌≢◌, ℕ, suc, ◌<◌, List, refl, sym, ap, subst, ◌∙◌, arith, inl, inr}
 use Rattle.std.proofs.lemmas.Bool.{cases_eq}
 use Rattle.fs_layout.specs.declared.inode.Inode.{Inode}
 use Rattle.fs_layout.specs.declared.place.Place.{Place}
 use Rattle.fs_layout.specs.Bytes.{SectorMap, IsSector}
 use Rattle.fs_layout.specs.Place.{IsPlace}
-use Rattle.fs_layout.specs.Images.{HasWholeTables, map_bits, bit, block_bitmap, free_sectors, pointer, Part, Indirect, Block, part, Owns}
+use Rattle.fs_layout.specs.Images.{HasWholeTables, map_bits, bit, block_bitmap, free_sectors, levels, pointer, Part, OnLevel, Block, part, Owns}
 use Rattle.fs_layout.specs.InodeChanges.{Puts, Rewrites, IsBlockMap, IsOwnedApart, ChangesBlocks}
 use Rattle.fs_layout.proofs.Places.{before_data}
-use Rattle.fs_layout.proofs.Parts.{KeepsPointers, part_same, indirect_is_no_block}
+use Rattle.fs_layout.proofs.Parts.{KeepsPointers, HasNoPointers, part_same, block_has_no_pointers}
 use Rattle.fs_layout.proofs.Pointers.{part_alike}
 use Rattle.fs_layout.proofs.Bits.{has_bit, not_both, block_bit_kept, free_sectors_kept}
 
@@ -61,12 +61,12 @@ put_rewrites {v} {old} {new} {s} {x} here whole fine put = record {
   others = λ t ban. put.others t (λ e. ban (subst (λ (u : ℕ). Owns old v u) (sym e) here));
 }
 
--- the sector of pointers is not one that the inode has for something else
-pub pointers_apart : {p : Place} {v : Inode} {old new : SectorMap} {s : ℕ} {x : List ℕ} → IsOwnedApart p old v → (at : Part) → at ≢ Indirect
+-- the sectors of pointers are none that the inode has for something else
+pub pointers_apart : {p : Place} {v : Inode} {old new : SectorMap} {s : ℕ} {x : List ℕ} → IsOwnedApart p old v → (at : Part) → HasNoPointers at
     → part old v at ≡ s → s ≢ 0 → Puts s x old new → KeepsPointers old new v
 unfolding part
-pointers_apart {v = v} {s = s} apart at ne is some put has =
-    put.others v.indirect (λ e. ne (apart.once s (record { at = at; is = is; some = some }) (record { at = Indirect; is = e; some = some })))
+pointers_apart {v = v} {s = s} apart at ne is some put level i has =
+    put.others _ (λ e. ne level i (apart.once s (record { at = at; is = is; some = some }) (record { at = OnLevel (suc level) i; is = e; some = some })))
 
 -- what the inode has for something else is the same
 pub others_kept : {p : Place} {v : Inode} {old new : SectorMap} {s t : ℕ} {x : List ℕ} → IsOwnedApart p old v → (at : Part)
@@ -77,7 +77,7 @@ others_kept {s = s} {t} apart at is some put o ne =
 
 -- One sector that the inode has, and not for its pointers, is written: a block, or an ACL.
 pub part_changes : {p : Place} {v : Inode} {old new : SectorMap} {s : ℕ} {x : List ℕ} → IsPlace p → HasWholeTables p old → IsOwnedApart p old v
-    → (at : Part) → at ≢ Indirect → part old v at ≡ s → s ≢ 0 → IsSector x → Puts s x old new → ChangesBlocks p v v old new
+    → (at : Part) → HasNoPointers at → part old v at ≡ s → s ≢ 0 → IsSector x → Puts s x old new → ChangesBlocks p v v old new
 part_changes {v = v} {old} {new} place tables apart at ne is some fine put =
     rewrites place tables apart (part_same old new v (pointers_apart apart at ne is some put)) (put_rewrites (record { at = at; is = is; some = some }) apart.whole fine put)
 
@@ -85,16 +85,16 @@ part_changes {v = v} {old} {new} place tables apart at ne is some fine put =
 pub block_changes : {p : Place} {v : Inode} {old new : SectorMap} {s : ℕ} {x : List ℕ} → IsPlace p → HasWholeTables p old → IsOwnedApart p old v
     → (k : ℕ) → pointer old v k ≡ s → s ≢ 0 → IsSector x → Puts s x old new → ChangesBlocks p v v old new
 unfolding part
-block_changes place tables apart k is some fine put = part_changes place tables apart (Block k) (λ e. indirect_is_no_block k (sym e)) is some fine put
+block_changes place tables apart k is some fine put = part_changes place tables apart (Block k) (block_has_no_pointers k) is some fine put
 
 -- ---- no sector
 -- the inode differs, and what it owns does not
 pub fields_change : {p : Place} {v w : Inode} {image : SectorMap} → IsPlace p → HasWholeTables p image → IsOwnedApart p image v
-    → w.acl ≡ v.acl → w.default_acl ≡ v.default_acl → w.direct ≡ v.direct → w.indirect ≡ v.indirect → ChangesBlocks p v w image image
-fields_change {v = v} {w} {image} place tables apart acl default_acl direct indirect =
-    rewrites place tables apart (part_alike image v w acl default_acl direct indirect) (record { whole = apart.whole; others = λ s ban. refl })
+    → w.acl ≡ v.acl → w.default_acl ≡ v.default_acl → levels w ≡ levels v → ChangesBlocks p v w image image
+fields_change {v = v} {w} {image} place tables apart acl default_acl same =
+    rewrites place tables apart (part_alike image v w acl default_acl same) (record { whole = apart.whole; others = λ s ban. refl })
 
 -- nothing changes
 pub nothing_changes : {p : Place} {v : Inode} {image : SectorMap} → IsPlace p → HasWholeTables p image → IsOwnedApart p image v
     → ChangesBlocks p v v image image
-nothing_changes place tables apart = fields_change place tables apart refl refl refl refl
+nothing_changes place tables apart = fields_change place tables apart refl refl refl

@@ -6,7 +6,7 @@ use Rattle.fs_layout.specs.declared.place.Place.{Place}
 use Rattle.fs_layout.specs.Bytes.{SectorMap, IsSector}
 use Rattle.fs_layout.specs.Inode.{inode_of, FitsInode}
 use Rattle.fs_layout.specs.Place.{IsPlace}
-use Rattle.fs_layout.specs.Images.{IsData, map_bits, bit, block_bitmap, stored, inode_at, part, Owns}
+use Rattle.fs_layout.specs.Images.{IsData, map_bits, bit, block_bitmap, stored, inode_at, levels, part, Owns}
 use Rattle.fs_layout.specs.Ownership.{IsOwned, IsConsistent}
 use Rattle.fs_layout.specs.InodeChanges.{Keeps, IsOwnedApart, ChangesOwned, ChangesBlocks, Saves, ChangesInode}
 use Rattle.fs_layout.proofs.Parts.{owns_still, owned_before}
@@ -175,8 +175,8 @@ saved_stays_consistent {p} {n} {v} {w} {old} {mid} {new} h lt at fits x y =
 -- An inode is saved with the sectors that it had: the image is consistent again.
 pub fields_saved_stay_consistent : {p : Place} {n : ℕ} {v w : Inode} {old new : SectorMap} → IsConsistent p old → n < p.inodes
     → inode_at p old n ≡ v → FitsInode w
-    → w.acl ≡ v.acl → w.default_acl ≡ v.default_acl → w.direct ≡ v.direct → w.indirect ≡ v.indirect → Saves p n w old new
+    → w.acl ≡ v.acl → w.default_acl ≡ v.default_acl → levels w ≡ levels v → Saves p n w old new
     → IsConsistent p new × IsSaved p n w old old new
-fields_saved_stay_consistent {p} {n} {v} {w} {old} {new} h lt at fits acl default_acl direct indirect y =
+fields_saved_stay_consistent {p} {n} {v} {w} {old} {new} h lt at fits acl default_acl same y =
     let apart : IsOwnedApart p old v = subst (λ (u : Inode). IsOwnedApart p old u) at (owned_is_apart h n lt) in
-    saved_stays_consistent h lt at fits (fields_change h.place h.sectors apart acl default_acl direct indirect) y
+    saved_stays_consistent h lt at fits (fields_change h.place h.sectors apart acl default_acl same) y

@@ -1,5 +1,5 @@
 -- An inode without sectors; an image in which no inode owns anything; and what an inode of an image fits.
-use Rattle.std.proofs.Common.{◌≡◌, ◌≢◌, ℕ, ◌+◌, ◌-◌, ◌*◌, ◌/◌, ◌%◌, ◌^◌, ◌<◌, ◌≤◌, List, [], length, take, get_or, set, refl, sym, ap, ◌∙◌, arith, inl, inr, ◌⊎◌, ◌↔◌, IsTrue, Ok}
+use Rattle.std.proofs.Common.{◌≡◌, ◌≢◌, ℕ, zero, suc, ◌+◌, ◌-◌, ◌*◌, ◌/◌, ◌%◌, ◌^◌, ◌<◌, ◌≤◌, List, [], length, take, get_or, set, refl, sym, ap, ◌∙◌, arith, inl, inr, ◌⊎◌, ◌↔◌, IsTrue, Ok}
 use Rattle.std.proofs.lemmas.List.{drop-replicate, take-replicate, get_or-set_same, get_or-set_other, length-set, get_or_past}
 use Rattle.std.proofs.lemmas.Bool.{cases_eq, cases_lt}
 use Rattle.fs_layout.specs.declared.inode.TheConstants.{DIRECT_BLOCKS, INODE_SIZE}
@@ -10,13 +10,14 @@ use Rattle.fs_layout.specs.Bytes.{SectorMap, IsSector, window, zeros, le16, le32
 use Rattle.fs_layout.specs.Inode.{inode_bytes, inode_of, inode_fits, free_inode, FitsInode}
 use Rattle.fs_layout.specs.Place.{IsPlace}
 use Rattle.fs_layout.specs.Images.{HasWholeTables, map_bits, bit, block_bitmap, stored, inode_at}
-use Rattle.fs_layout.specs.Images.{pointer, byte_in, byte_at, Part, AccessAcl, DefaultAcl, Indirect, DoubleIndirect, Block, part, Owns, Holds}
+use Rattle.fs_layout.specs.Images.{number_on, byte_in, byte_at, Part, AccessAcl, DefaultAcl, OnLevel, part, Owns, Holds}
 use Rattle.fs_layout.specs.Ownership.{IsOwned, IsConsistent}
 use Rattle.fs_layout.specs.InodeChanges.{with_direct, IsOwnedApart, ChangesBlocks}
 use Rattle.fs_layout.proofs.Places.{after_map}
 use Rattle.fs_layout.proofs.Fields.{part_len, IsBytes-part}
 use Rattle.fs_layout.proofs.InodeLaw.{read_fits}
-use Rattle.fs_layout.proofs.Pointers.{pointer_direct, pointer_without}
+use Rattle.fs_layout.proofs.Pointers.{pointer_direct, pointer_without, number_on_past, no_number_on}
+use Rattle.fs_layout.proofs.Parts.{number_on_indirect}
 use Rattle.fs_layout.proofs.Saves.{in_table, inode_there, valid_there}
 use Rattle.fs_layout.proofs.Blocks.{rewrites}
 use Rattle.fs_layout.proofs.SplicedBytes.{get_or-zeros}
@@ -28,20 +29,23 @@ pub record HasNoSector (v : Inode) : Type 0 where
   pub direct : (k : ℕ) → get_or v.direct k 0 ≡ 0
   pub indirect : v.indirect ≡ 0
 
-no_sector_pointer : (image : SectorMap) (v : Inode) (k : ℕ) → HasNoSector v → pointer image v k ≡ 0
-no_sector_pointer image v k none =
+no_sector_on_level : (image : SectorMap) (v : Inode) (level i : ℕ) → HasNoSector v → number_on image v level i ≡ 0
+no_sector_on_level image v zero k none =
     elim (cases_lt k DIRECT_BLOCKS) [
       | inl lt ↦ pointer_direct image v k lt ∙ none.direct k
       | inr ge ↦ pointer_without image v k ge none.indirect
     ]
+no_sector_on_level image v (suc zero) i none = elim (cases_eq i 0) [
+  | inl e ↦ ap (number_on image v 1) e ∙ number_on_indirect image v ∙ none.indirect
+  | inr ne ↦ number_on_past image v i (omega (arith, ne))
+]
+no_sector_on_level image v (suc (suc level)) i none = no_number_on image v level i
 
 no_sector_part : (image : SectorMap) (v : Inode) (a : Part) → HasNoSector v → part image v a ≡ 0
 unfolding part
 no_sector_part image v AccessAcl none = none.acl
 no_sector_part image v DefaultAcl none = none.default_acl
-no_sector_part image v Indirect none = none.indirect
-no_sector_part image v DoubleIndirect none = refl
-no_sector_part image v (Block k) none = no_sector_pointer image v k none
+no_sector_part image v (OnLevel level i) none = no_sector_on_level image v level i none
 
 -- it owns nothing
 pub owns_nothing : (image : SectorMap) (v : Inode) (s : ℕ) → HasNoSector v → Owns image v s → ⊥
@@ -52,9 +56,8 @@ pub holds_nothing : (image : SectorMap) (v : Inode) → HasNoSector v → v.size
 unfolding byte_at
 holds_nothing image v none empty = record {
   size = empty;
-  byte = λ i. ap (λ (s : ℕ). byte_in image s (i % 512)) (no_sector_pointer image v (i / 512) none);
-  trim = λ k le. no_sector_pointer image v k none;
-  trim_pointers = λ le. none.indirect;
+  byte = λ i. ap (λ (s : ℕ). byte_in image s (i % 512)) (no_sector_on_level image v 0 (i / 512) none);
+  trim = λ level i le. no_sector_on_level image v level i none;
 }
 
 -- a free inode has no sector

@@ -1,16 +1,14 @@
 -- The bytes that an inode holds, after one of its blocks is written, and where its blocks stay.
-use Rattle.std.proofs.Common.{◌≡◌, ◌≢◌, ℕ, ◌+◌, ◌-◌, ◌*◌, ◌/◌, ◌%◌, ◌<◌, ◌≤◌, List, length, drop, get_or, refl, sym, ap, ◌∙◌, arith, inl, inr}
+use Rattle.std.proofs.Common.{◌≡◌, ◌≢◌, ℕ, zero, suc, ◌+◌, ◌-◌, ◌*◌, ◌/◌, ◌%◌, ◌<◌, ◌≤◌, List, length, drop, get_or, refl, sym, ap, subst, ◌∙◌, arith, inl, inr}
 use Rattle.std.proofs.lemmas.Bool.{cases_eq, cases_lt}
 use Rattle.std.proofs.lemmas.List.{ext_get_or, get_or-take, get_or-drop}
-use Rattle.fs_layout.specs.declared.inode.TheConstants.{DIRECT_SIZE}
 use Rattle.fs_layout.specs.declared.inode.Inode.{Inode}
 use Rattle.fs_layout.specs.declared.place.Place.{Place}
 use Rattle.fs_layout.specs.Bytes.{SectorMap, splice, window, zeros}
-use Rattle.fs_layout.specs.Images.{pointer, Part, Indirect, Block, part, Owns, byte_in, byte_at, Holds, HasNoHole}
+use Rattle.fs_layout.specs.Images.{levels, number_on, pointer, first_block, Part, Indirect, Block, part, Owns, byte_in, byte_at, IsTrimmed, Holds, HasNoHole}
 use Rattle.fs_layout.specs.InodeChanges.{Keeps, Puts, IsBlockOf, ReplacesBlock, IsOwnedApart}
-use Rattle.fs_layout.proofs.Parts.{pointer_same, byte_in_kept, byte_in_is, block_is_one, indirect_is_no_block, owns_block}
+use Rattle.fs_layout.proofs.Parts.{KeepsPointers, HasNoPointers, number_on_indirect, number_on_same, number_on_alike, pointer_same, byte_in_kept, byte_in_is, block_is_one, block_has_no_pointers, indirect_is_no_block, owns_block}
 use Rattle.fs_layout.proofs.Blocks.{pointers_apart, others_kept}
-use Rattle.fs_layout.proofs.Pointers.{pointer_alike}
 use Rattle.fs_layout.proofs.Fields.{part_len}
 use Rattle.fs_layout.proofs.SplicedBytes.{get_or-zeros, length-splice, get_or-splice_before, get_or-splice_inside, get_or-splice_after}
 
@@ -27,7 +25,7 @@ pub no_block_has_pointers : {p : Place} {image : SectorMap} {v : Inode} → IsOw
     → pointer image v k ≢ v.indirect
 unfolding part
 no_block_has_pointers {image = image} {v} apart k some e =
-    indirect_is_no_block k (apart.once (pointer image v k) (record { at = Indirect; is = sym e; some = some }) (record { at = Block k; is = refl; some = some }))
+    indirect_is_no_block k (apart.once (pointer image v k) (record { at = Indirect; is = number_on_indirect image v ∙ sym e; some = some }) (record { at = Block k; is = refl; some = some }))
 
 -- each block but k has the same sector's content in new as in old
 abbrev pub KeepsBlocks : SectorMap → SectorMap → Inode → ℕ → Type 0
@@ -97,6 +95,10 @@ splice_replaces bytes block x k at is len room fits = record {
     past i k at n ne ge room = omega arith
 
 -- ---- blocks and what the inode holds
+-- from v to w no sector of pointers comes without need
+abbrev pub NeedsPointers : SectorMap → SectorMap → Inode → Inode → Type 0
+NeedsPointers old new v w = (level i : ℕ) → v.size ≤ 512 * first_block (suc level) i → number_on old v (suc level) i ≡ 0 → number_on new w (suc level) i ≡ 0
+
 -- Block k of w is sector s (none if 0), which reads as x. Its other blocks are those of v.
 pub record HasBlock (old new : SectorMap) (v w : Inode) (k s : ℕ) (x : List ℕ) : Type 0 where
   pub now : pointer new w k ≡ s
@@ -105,7 +107,7 @@ pub record HasBlock (old new : SectorMap) (v w : Inode) (k s : ℕ) (x : List �
   pub same : KeepsBlocks old new v k
   pub size : w.size ≡ v.size
   pub past : v.size ≤ 512 * k → s ≡ 0
-  pub pointers : v.size ≤ DIRECT_SIZE → w.indirect ≡ 0
+  pub pointers : NeedsPointers old new v w
 
 -- then it holds the bytes with x for block k
 pub has_block : {old new : SectorMap} {v w : Inode} {k s : ℕ} {x bytes then : List ℕ} → HasBlock old new v w k s x → Holds old v bytes
@@ -118,12 +120,17 @@ has_block {old} {new} {v} {w} {k} {s} {x} b h r = record {
     | inr ne ↦ ap (λ (t : ℕ). byte_in new t (i % 512)) (b.others (i / 512) ne)
         ∙ byte_in_kept old new (pointer old v (i / 512)) (i % 512) (b.same (i / 512) ne) ∙ h.byte i ∙ sym (r.outside i ne)
   ];
-  trim = λ j le. elim (cases_eq j k) [
-    | inl e ↦ ap (pointer new w) e ∙ b.now ∙ b.past (let z = b.size in omega (arith, z, le, e))
-    | inr ne ↦ b.others j ne ∙ h.trim j (let z = b.size in omega (arith, z, le))
-  ];
-  trim_pointers = λ le. b.pointers (let z = b.size in omega (arith, z, le));
+  trim = trim;
 }
+  where
+    trim : IsTrimmed new w
+    trim zero j le = elim (cases_eq j k) [
+      | inl e ↦ ap (pointer new w) e ∙ b.now ∙ b.past (let z = b.size in omega (arith, z, le, e))
+      | inr ne ↦ b.others j ne ∙ h.trim 0 j (let z = b.size in omega (arith, z, le))
+    ]
+    trim (suc level) i le =
+        let same : v.size ≤ 512 * first_block (suc level) i = subst (λ (n : ℕ). n ≤ 512 * first_block (suc level) i) b.size le in
+        b.pointers level i same (h.trim (suc level) i same)
 
 -- One block is written: what the inode holds has x there.
 pub write_block : {p : Place} {old new : SectorMap} {v : Inode} {k s : ℕ} {x bytes then : List ℕ} → IsOwnedApart p old v
@@ -131,15 +138,16 @@ pub write_block : {p : Place} {old new : SectorMap} {v : Inode} {k s : ℕ} {x b
     → Holds old v bytes → ReplacesBlock k x bytes then → Holds new v then
 unfolding part
 write_block {old = old} {new} {v} {k} {s} {x} apart is some put h r =
-    let same : (j : ℕ) → pointer new v j ≡ pointer old v j = pointer_same old new v (pointers_apart apart (Block k) (λ e. indirect_is_no_block k (sym e)) is some put) in
+    let kept : KeepsPointers old new v = pointers_apart apart (Block k) (block_has_no_pointers k) is some put in
+    let same : (j : ℕ) → pointer new v j ≡ pointer old v j = pointer_same old new v kept in
     let b : HasBlock old new v v k s x = record {
       now = same k ∙ is;
       here = λ i. byte_in_is new s i x put.here some;
       others = λ j ne. same j;
       same = λ j ne has. put.others (pointer old v j) (λ e. ne (one_block apart j k has (e ∙ sym is)));
       size = refl;
-      past = λ le. sym is ∙ h.trim k le;
-      pointers = h.trim_pointers;
+      past = λ le. sym is ∙ h.trim 0 k le;
+      pointers = λ level i le none. number_on_same old new v kept (suc level) i ∙ none;
     } in
     has_block b h r
 
@@ -150,41 +158,47 @@ pub record HasSameBlocks (old new : SectorMap) (v w : Inode) : Type 0 where
   pub size : w.size ≡ v.size
 
 -- then the inode holds what it held, if it has no sector of pointers without need
-pub Holds-again : {old new : SectorMap} {v w : Inode} {bytes : List ℕ} → HasSameBlocks old new v w → (v.size ≤ DIRECT_SIZE → w.indirect ≡ 0)
+pub Holds-again : {old new : SectorMap} {v w : Inode} {bytes : List ℕ} → HasSameBlocks old new v w → NeedsPointers old new v w
     → Holds old v bytes
     → Holds new w bytes
 unfolding byte_at
 Holds-again {old} {new} {v} {w} b pointers h = record {
   size = b.size ∙ h.size;
   byte = λ i. ap (λ (t : ℕ). byte_in new t (i % 512)) (b.pointers (i / 512)) ∙ byte_in_kept old new (pointer old v (i / 512)) (i % 512) (b.same (i / 512)) ∙ h.byte i;
-  trim = λ k le. b.pointers k ∙ h.trim k (let z = b.size in omega (arith, z, le));
-  trim_pointers = λ le. pointers (let z = b.size in omega (arith, z, le));
+  trim = trim;
 }
+  where
+    trim : IsTrimmed new w
+    trim zero k le = b.pointers k ∙ h.trim 0 k (let z = b.size in omega (arith, z, le))
+    trim (suc level) i le =
+        let same : v.size ≤ 512 * first_block (suc level) i = subst (λ (n : ℕ). n ≤ 512 * first_block (suc level) i) b.size le in
+        pointers level i same (h.trim (suc level) i same)
 
 -- and has no hole if it had none
 pub HasNoHole-again : {old new : SectorMap} {v w : Inode} → HasSameBlocks old new v w → HasNoHole old v → HasNoHole new w
 HasNoHole-again b whole k lt none = whole k (let z = b.size in omega (arith, z, lt)) (sym (b.pointers k) ∙ none)
 
 -- a sector that the inode has for an ACL is written: it holds what it held
-pub write_acl : {p : Place} {old new : SectorMap} {v : Inode} {s : ℕ} {x bytes : List ℕ} → IsOwnedApart p old v → (at : Part) → at ≢ Indirect
+pub write_acl : {p : Place} {old new : SectorMap} {v : Inode} {s : ℕ} {x bytes : List ℕ} → IsOwnedApart p old v → (at : Part) → HasNoPointers at
     → ((k : ℕ) → Block k ≢ at) → part old v at ≡ s → s ≢ 0 → Puts s x old new
     → Holds old v bytes → Holds new v bytes
 unfolding part
 write_acl {old = old} {new} {v} apart at ne none is some put h =
+    let kept : KeepsPointers old new v = pointers_apart apart at ne is some put in
     let b : HasSameBlocks old new v v = record {
-      pointers = pointer_same old new v (pointers_apart apart at ne is some put);
+      pointers = pointer_same old new v kept;
       same = λ k has. others_kept apart at is some put (record { at = Block k; is = refl; some = has }) (none k);
       size = refl;
     } in
-    Holds-again b h.trim_pointers h
+    Holds-again b (λ level i le gone. number_on_same old new v kept (suc level) i ∙ gone) h
 
 -- the inode differs, and not in its size and blocks: it holds what it held
-pub fields_hold : (image : SectorMap) (v w : Inode) (bytes : List ℕ) → w.size ≡ v.size → w.direct ≡ v.direct → w.indirect ≡ v.indirect
+pub fields_hold : (image : SectorMap) (v w : Inode) (bytes : List ℕ) → w.size ≡ v.size → levels w ≡ levels v
     → Holds image v bytes
     → Holds image w bytes
-fields_hold image v w bytes size direct indirect h =
-    let b : HasSameBlocks image image v w = record { pointers = pointer_alike image image v w direct indirect (λ some. refl); same = λ k has. refl; size = size } in
-    Holds-again b (λ le. indirect ∙ h.trim_pointers le) h
+fields_hold image v w bytes size same h =
+    let b : HasSameBlocks image image v w = record { pointers = number_on_alike image image v w same (λ n j some. refl) 0; same = λ k has. refl; size = size } in
+    Holds-again b (λ level i le none. number_on_alike image image v w same (λ n j some. refl) (suc level) i ∙ none) h
 
 -- ---- a part of a block
 -- a read inside of one block

@@ -4,10 +4,9 @@ use Rattle.std.proofs.lemmas.Bool.{cases_eq}
 use Rattle.fs_layout.specs.declared.inode.Inode.{Inode}
 use Rattle.fs_layout.specs.declared.place.Place.{Place}
 use Rattle.fs_layout.specs.Bytes.{SectorMap}
-use Rattle.fs_layout.specs.Images.{pointer, Block, part, HasNoHole}
+use Rattle.fs_layout.specs.Images.{levels, number_on, pointer, Block, part, HasNoHole}
 use Rattle.fs_layout.specs.InodeChanges.{Puts, Gains, IsOwnedApart}
-use Rattle.fs_layout.proofs.Parts.{pointer_same, indirect_is_no_block}
-use Rattle.fs_layout.proofs.Pointers.{pointer_alike}
+use Rattle.fs_layout.proofs.Parts.{number_on_alike, pointer_same, block_has_no_pointers}
 use Rattle.fs_layout.proofs.Blocks.{pointers_apart}
 use Rattle.fs_layout.proofs.Held.{HasSameBlocks}
 use Rattle.fs_layout.proofs.Sizes.{now_block, other_blocks}
@@ -27,18 +26,18 @@ fills_last_hole {new = new} {w = w} {k = k} g some size whole j lt none = elim (
 -- a larger size adds one hole at most, if it adds one block at most
 pub extends_by_hole : (image : SectorMap) (v : Inode) (n k : ℕ) → HasNoHole image v → 512 * k < v.size + 512 → v.size + n ≤ 512 * k + 512
     → HasNoHoleBut image (record v { size = v.size + n }) k
-unfolding pointer
+unfolding number_on
 extends_by_hole image v n k whole from to j ne lt = whole j (omega (arith, lt, ne, from, to))
 
 -- and none, if it adds no block
 pub extends_no_hole : (image : SectorMap) (v : Inode) (n k : ℕ) → HasNoHole image v → 512 * k < v.size → v.size + n ≤ 512 * k + 512
     → HasNoHole image (record v { size = v.size + n })
-unfolding pointer
+unfolding number_on
 extends_no_hole image v n k whole from to j lt = whole j (omega (arith, lt, from, to))
 
 -- a smaller size adds no hole
 pub cuts_no_hole : (image : SectorMap) (v : Inode) (n : ℕ) → n ≤ v.size → HasNoHole image v → HasNoHole image (record v { size = n })
-unfolding pointer
+unfolding number_on
 cuts_no_hole image v n le whole j lt = whole j (omega (arith, lt))
 
 -- one block is written
@@ -46,14 +45,14 @@ pub put_no_hole : {p : Place} {old new : SectorMap} {v : Inode} {s : ℕ} {x : L
     → Puts s x old new → HasNoHole old v → HasNoHole new v
 unfolding part
 put_no_hole {old = old} {new} {v} apart k is some put whole j lt none =
-    whole j lt (sym (pointer_same old new v (pointers_apart apart (Block k) (λ e. indirect_is_no_block k (sym e)) is some put) j) ∙ none)
+    whole j lt (sym (pointer_same old new v (pointers_apart apart (Block k) (block_has_no_pointers k) is some put) j) ∙ none)
 
 -- the blocks are the same
 pub HasNoHoleBut-again : {old new : SectorMap} {v w : Inode} {k : ℕ} → HasSameBlocks old new v w → HasNoHoleBut old v k → HasNoHoleBut new w k
 HasNoHoleBut-again b whole j ne lt none = whole j ne (let z = b.size in omega (arith, z, lt)) (sym (b.pointers j) ∙ none)
 
 -- the inode differs, and not in its size and blocks
-pub fields_no_hole : (image : SectorMap) (v w : Inode) → w.size ≡ v.size → w.direct ≡ v.direct → w.indirect ≡ v.indirect
+pub fields_no_hole : (image : SectorMap) (v w : Inode) → w.size ≡ v.size → levels w ≡ levels v
     → HasNoHole image v → HasNoHole image w
-fields_no_hole image v w size direct indirect whole j lt none =
-    whole j (omega (arith, lt, size)) (sym (pointer_alike image image v w direct indirect (λ some. refl) j) ∙ none)
+fields_no_hole image v w size same whole j lt none =
+    whole j (omega (arith, lt, size)) (sym (number_on_alike image image v w same (λ n i some. refl) 0 j) ∙ none)

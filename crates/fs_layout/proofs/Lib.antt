@@ -17,6 +17,7 @@ pub mod Holes
 pub mod ImageSlots
 pub mod InodeLaw
 pub mod KeptParts
+pub mod Levels
 pub mod MapEntries
 pub mod MapLaws
 pub mod Marks

@@ -1,11 +1,11 @@
 -- What an inode's parts and bytes depend on: its own sectors alone.
-use Rattle.std.proofs.Common.{◌≡◌, ◌≢◌, ℕ, zero, suc, ◌-◌, ◌*◌, ◌/◌, ◌%◌, List, get_or, refl, sym, ap, ◌∙◌, arith, inl, inr, ◌⊎◌}
-use Rattle.fs_layout.specs.declared.inode.TheConstants.{DIRECT_BLOCKS}
+use Rattle.std.proofs.Common.{◌≡◌, ◌≢◌, ℕ, zero, suc, ◌/◌, ◌%◌, List, drop, get_or, refl, sym, ap, subst, ◌∙◌, arith, inl, inr, ◌⊎◌}
 use Rattle.fs_layout.specs.declared.inode.Inode.{Inode}
-use Rattle.fs_layout.specs.Bytes.{SectorMap, u32_of}
-use Rattle.fs_layout.specs.Images.{pointer_in, pointer, part, Owns, byte_in, byte_at, Holds, HasNoHole}
-use Rattle.fs_layout.specs.Images.{Part, AccessAcl, DefaultAcl, Indirect, DoubleIndirect, Block, Part-discrete}
+use Rattle.fs_layout.specs.Bytes.{SectorMap}
+use Rattle.fs_layout.specs.Images.{levels, number_at, number_on, pointer, part, Owns, byte_in, byte_at, Holds, HasNoHole}
+use Rattle.fs_layout.specs.Images.{Part, AccessAcl, DefaultAcl, OnLevel, Indirect, Block, Part-discrete}
 use Rattle.fs_layout.specs.InodeChanges.{Keeps}
+use Rattle.fs_layout.proofs.Levels.{KeepsEntries, Alike, Alike-refl, numbers_alike_above, entry_kept}
 use native.Mathlib.Decide.{ℕ_discrete}
 
 -- ---- parts are told apart
@@ -17,20 +17,50 @@ either (no n) = inr n
 pub same_part_or_not : (a b : Part) → (a ≡ b) ⊎ (a ≢ b)
 same_part_or_not a b = either (Part-discrete ℕ_discrete a b)
 
--- a block is one part
+-- the level of a part, and its number there; an ACL is on none
+level_of : Part → ℕ
+level_of AccessAcl = 0
+level_of DefaultAcl = 0
+level_of (OnLevel level i) = level
+
+index_of : Part → ℕ
+index_of AccessAcl = 0
+index_of DefaultAcl = 0
+index_of (OnLevel level i) = i
+
+-- a number of a level is one part
+pub level_is_one : (n t i j : ℕ) → OnLevel n i ≡ OnLevel t j → n ≡ t
+unfolding level_of
+level_is_one n t i j e = ap level_of e
+
+pub index_is_one : (n t i j : ℕ) → OnLevel n i ≡ OnLevel t j → i ≡ j
+unfolding index_of
+index_is_one n t i j e = ap index_of e
+
+-- so is a block
 pub block_is_one : (j k : ℕ) → Block j ≡ Block k → j ≡ k
-block_is_one j k e = cc
+block_is_one j k e = index_is_one 0 0 j k e
+
+-- what is no number of a sector of pointers
+abbrev pub HasNoPointers : Part → Type 0
+HasNoPointers at = (level i : ℕ) → at ≢ OnLevel (suc level) i
+
+-- blocks
+pub block_has_no_pointers : (k : ℕ) → HasNoPointers (Block k)
+block_has_no_pointers k level i e = let z : 0 ≡ suc level = level_is_one 0 (suc level) k i e in omega (arith, z)
+
+-- and ACLs
+pub access_acl_has_no_pointers : HasNoPointers AccessAcl
+access_acl_has_no_pointers level i e = cc
+
+pub default_acl_has_no_pointers : HasNoPointers DefaultAcl
+default_acl_has_no_pointers level i e = cc
 
 -- the sector of pointers is no block's
 pub indirect_is_no_block : (k : ℕ) → Indirect ≢ Block k
-indirect_is_no_block k e = cc
+indirect_is_no_block k e = block_has_no_pointers k 0 0 (sym e)
 
 -- ---- what is read of a sector depends on it alone
--- a number of a sector of numbers
-pub entry_kept : (old new : SectorMap) (s k : ℕ) → (s ≢ 0 → new s ≡ old s) → pointer_in new s k ≡ pointer_in old s k
-entry_kept old new zero k h = refl
-entry_kept old new (suc s) k h = ap (λ (r : List ℕ). u32_of r (4 * k)) (h (λ e. absurd (omega arith)))
-
 -- a byte of a sector
 pub byte_in_kept : (old new : SectorMap) (s i : ℕ) → (s ≢ 0 → new s ≡ old s) → byte_in new s i ≡ byte_in old s i
 byte_in_kept old new zero i h = refl
@@ -41,24 +71,47 @@ pub byte_in_is : (image : SectorMap) (s i : ℕ) (x : List ℕ) → image s ≡ 
 byte_in_is image zero i x e some = absurd (some refl)
 byte_in_is image (suc s) i x e some = ap (λ (r : List ℕ). get_or r i 0) e
 
--- ---- parts depend on the sector of pointers alone
--- the sector of pointers, if there is one, is the same
+-- ---- parts depend on the sectors of pointers alone
+-- the sectors of pointers are the same
 abbrev pub KeepsPointers : SectorMap → SectorMap → Inode → Type 0
-KeepsPointers old new v = v.indirect ≢ 0 → new v.indirect ≡ old v.indirect
+KeepsPointers old new v = (level i : ℕ) → number_on old v (suc level) i ≢ 0 → new (number_on old v (suc level) i) ≡ old (number_on old v (suc level) i)
 
--- each pointer is the same then
+-- so are the numbers in them
+pub entries_kept : (old new : SectorMap) (v : Inode) → KeepsPointers old new v → KeepsEntries old new (levels v)
+unfolding number_on
+entries_kept old new v h n p q lt = entry_kept old new (number_at old (drop (suc n) (levels v)) p) q (h n p)
+
+-- two inodes in which the same numbers stand have the same on each level
+pub number_on_alike : (old new : SectorMap) (v w : Inode) → levels w ≡ levels v → KeepsPointers old new v → (level i : ℕ)
+    → number_on new w level i ≡ number_on old v level i
+unfolding number_on
+number_on_alike old new v w same kept level i =
+    numbers_alike_above old new (levels v) (levels w) (subst (Alike (levels v)) (sym same) (Alike-refl (levels v))) (entries_kept old new v kept) level i
+
+-- and one inode
+pub number_on_same : (old new : SectorMap) (v : Inode) → KeepsPointers old new v → (level i : ℕ) → number_on new v level i ≡ number_on old v level i
+number_on_same old new v h level i = number_on_alike old new v v refl h level i
+
 pub pointer_same : (old new : SectorMap) (v : Inode) → KeepsPointers old new v → (k : ℕ) → pointer new v k ≡ pointer old v k
-unfolding pointer
-pointer_same old new v h k = let e : pointer_in new v.indirect (k - DIRECT_BLOCKS) ≡ pointer_in old v.indirect (k - DIRECT_BLOCKS) = entry_kept old new v.indirect (k - DIRECT_BLOCKS) h in rw e refl
+pointer_same old new v h k = number_on_same old new v h 0 k
 
--- and each part
+-- each part is the same then
 pub part_same : (old new : SectorMap) (v : Inode) → KeepsPointers old new v → (a : Part) → part new v a ≡ part old v a
 unfolding part
 part_same old new v h AccessAcl = refl
 part_same old new v h DefaultAcl = refl
-part_same old new v h Indirect = refl
-part_same old new v h DoubleIndirect = refl
-part_same old new v h (Block k) = pointer_same old new v h k
+part_same old new v h (OnLevel level i) = number_on_same old new v h level i
+
+-- the sector of pointers that the inode names
+pub number_on_indirect : (image : SectorMap) (v : Inode) → number_on image v 1 0 ≡ v.indirect
+unfolding number_on
+number_on_indirect image v = refl
+
+-- is the same
+pub indirect_kept : (old new : SectorMap) (v : Inode) → KeepsPointers old new v → v.indirect ≢ 0 → new v.indirect ≡ old v.indirect
+indirect_kept old new v h some =
+    let e = number_on_indirect old v in
+    ap new (sym e) ∙ h 0 0 (λ z. some (sym e ∙ z)) ∙ ap old e
 
 -- ---- what is owned
 -- a sector that the inode has for something
@@ -79,15 +132,23 @@ pub owns_default_acl : (image : SectorMap) (v : Inode) → v.default_acl ≢ 0 �
 unfolding part
 owns_default_acl image v some = record { at = DefaultAcl; is = refl; some = some }
 
--- and for the sector of pointers
+-- and for the sectors of pointers
+pub owns_on_level : (image : SectorMap) (v : Inode) (level i : ℕ) → number_on image v level i ≢ 0 → Owns image v (number_on image v level i)
+unfolding part
+owns_on_level image v level i some = record { at = OnLevel level i; is = refl; some = some }
+
 pub owns_indirect : (image : SectorMap) (v : Inode) → v.indirect ≢ 0 → Owns image v v.indirect
 unfolding part
-owns_indirect image v some = record { at = Indirect; is = refl; some = some }
+owns_indirect image v some = record { at = Indirect; is = number_on_indirect image v; some = some }
 
 module _ {old new : SectorMap} {v : Inode} (keeps : Keeps old new v) where
-  -- the sector of pointers is the same
+  -- the sectors of pointers are the same
   pub pointers_kept : KeepsPointers old new v
-  pointers_kept some = keeps v.indirect (owns_indirect old v some)
+  pointers_kept level i some = keeps (number_on old v (suc level) i) (owns_on_level old v (suc level) i some)
+
+  -- each number is the same
+  pub number_on_kept : (level i : ℕ) → number_on new v level i ≡ number_on old v level i
+  number_on_kept level i = number_on_same old new v pointers_kept level i
 
   -- each pointer is the same
   pub pointer_kept : (k : ℕ) → pointer new v k ≡ pointer old v k
@@ -117,8 +178,7 @@ module _ {old new : SectorMap} {v : Inode} (keeps : Keeps old new v) where
   Holds-kept h = record {
     size = h.size;
     byte = λ i. byte_at_kept i ∙ h.byte i;
-    trim = λ k le. pointer_kept k ∙ h.trim k le;
-    trim_pointers = h.trim_pointers;
+    trim = λ level i le. number_on_kept level i ∙ h.trim level i le;
   }
 
   -- and has no hole if it had none

@@ -1,36 +1,56 @@
--- One pointer of an inode changes: a direct one, one in the sector of pointers, that sector itself, or an ACL's.
-use Rattle.std.proofs.Common.{◌≡◌, ◌≢◌, ℕ, zero, suc, ◌+◌, ◌-◌, ◌*◌, ◌^◌, ◌<◌, ◌≤◌, List, length, get_or, refl, sym, ap, ◌∙◌, arith, inl, inr, ◌⊎◌}
-use Rattle.std.proofs.lemmas.List.{get_or-set_same, get_or-set_other}
+-- One number of an inode's sectors changes: one that stands in the inode, one in a sector of pointers, or an ACL's.
+use Rattle.std.proofs.Common.{◌≡◌, ◌≢◌, ℕ, zero, suc, ◌+◌, ◌-◌, ◌*◌, ◌^◌, ◌<◌, ◌≤◌, List, length, drop, get_or, refl, sym, ap, ◌∙◌, arith, inl, inr, ◌⊎◌}
+use Rattle.std.proofs.lemmas.List.{get_or-set_same, get_or-set_other, drop-drop}
 use Rattle.std.proofs.lemmas.Bool.{cases_eq, cases_lt, lt-ltb, le-ltb}
-use Rattle.fs_layout.specs.declared.inode.TheConstants.{DIRECT_BLOCKS, INDIRECT_END, MAX_BLOCKS}
+use Rattle.fs_layout.specs.declared.inode.TheConstants.{DIRECT_BLOCKS, INDIRECT_END, MAX_BLOCKS, SECTOR_POINTERS}
 use Rattle.fs_layout.specs.declared.inode.Inode.{Inode}
 use Rattle.fs_layout.specs.Bytes.{SectorMap, splice, le32, zeros, u32_of}
-use Rattle.fs_layout.specs.Images.{pointer_in, pointer, HasPointers, block_number, Part, AccessAcl, DefaultAcl, Indirect, DoubleIndirect, Block, part}
+use Rattle.fs_layout.specs.Images.{pointer_in, own_count, Level, levels, holder, place_in_holder, number_at, number_on, pointer, IsTrimmed}
+use Rattle.fs_layout.specs.Images.{HasPointers, block_number, Part, AccessAcl, DefaultAcl, OnLevel, Indirect, Block, part}
 use Rattle.fs_layout.specs.InodeChanges.{Turns, Gains, Loses, with_direct}
-use Rattle.fs_layout.proofs.Parts.{KeepsPointers, entry_kept}
+use Rattle.fs_layout.proofs.Levels.{entry_kept, entry_there, Alike-refl, AlikeBut, KeepsEntries, KeepsOtherEntries, numbers_alike, numbers_turned}
+use Rattle.fs_layout.proofs.Parts.{KeepsPointers, entries_kept, number_on_alike, number_on_indirect}
 use Rattle.fs_layout.proofs.Numbers.{are_numbers_32}
 use Rattle.fs_layout.proofs.SplicedBytes.{u32_of-splice_other, u32_of-zeros}
 
--- ---- where a pointer stands
--- the first stand in the inode
+-- ---- where a number stands
+-- the first of a level stand in the inode: so those of the first blocks
 pub pointer_direct : (image : SectorMap) (v : Inode) (k : ℕ) → k < DIRECT_BLOCKS → pointer image v k ≡ get_or v.direct k 0
-unfolding pointer
+unfolding number_on
 pointer_direct image v k lt = rw (lt-ltb k DIRECT_BLOCKS lt) refl
 
--- the next in the sector of pointers
+-- the others in a sector of pointers
+pub pointer_held : (image : SectorMap) (v : Inode) (k : ℕ) → DIRECT_BLOCKS ≤ k
+    → pointer image v k ≡ pointer_in image (number_on image v 1 (holder DIRECT_BLOCKS k)) (place_in_holder DIRECT_BLOCKS k)
+unfolding number_on
+pointer_held image v k ge = rw (le-ltb k DIRECT_BLOCKS ge) refl
+
+-- of which the inode has one
+pub number_on_past : (image : SectorMap) (v : Inode) (i : ℕ) → 1 ≤ i → number_on image v 1 i ≡ 0
+unfolding number_on
+number_on_past image v i ge = rw (le-ltb i 1 ge) refl
+
+-- and no level above
+pub no_number_on : (image : SectorMap) (v : Inode) (level i : ℕ) → number_on image v (suc (suc level)) i ≡ 0
+unfolding number_on
+no_number_on image v zero i = refl
+no_number_on image v (suc level) i = refl
+
+-- the numbers of the next blocks
 pub pointer_indirect : (image : SectorMap) (v : Inode) (k : ℕ) → DIRECT_BLOCKS ≤ k → k < INDIRECT_END → pointer image v k ≡ pointer_in image v.indirect (k - DIRECT_BLOCKS)
-unfolding pointer
-pointer_indirect image v k ge lt = rw (le-ltb k DIRECT_BLOCKS ge, lt-ltb k INDIRECT_END lt) refl
+pointer_indirect image v k ge lt =
+    let first : holder DIRECT_BLOCKS k ≡ 0 = omega (arith, ge, lt) in
+    let at : place_in_holder DIRECT_BLOCKS k ≡ k - DIRECT_BLOCKS = omega (arith, ge, lt) in
+    pointer_held image v k ge
+    ∙ ap (λ (i : ℕ). pointer_in image (number_on image v 1 i) (place_in_holder DIRECT_BLOCKS k)) first
+    ∙ ap (λ (s : ℕ). pointer_in image s (place_in_holder DIRECT_BLOCKS k)) (number_on_indirect image v)
+    ∙ ap (pointer_in image v.indirect) at
 
 -- and there are no more
 pub pointer_past : (image : SectorMap) (v : Inode) (k : ℕ) → MAX_BLOCKS ≤ k → pointer image v k ≡ 0
-unfolding pointer
-pointer_past image v k ge = let low : DIRECT_BLOCKS ≤ k = omega arith in rw (le-ltb k DIRECT_BLOCKS low, le-ltb k INDIRECT_END ge) refl
-
--- a number of a sector that there is
-pub entry_there : (image : SectorMap) (s k : ℕ) → s ≢ 0 → pointer_in image s k ≡ u32_of (image s) (4 * k)
-entry_there image zero k some = absurd (some refl)
-entry_there image (suc s) k some = refl
+pointer_past image v k ge =
+    pointer_held image v k (omega arith)
+    ∙ ap (λ (s : ℕ). pointer_in image s (place_in_holder DIRECT_BLOCKS k)) (number_on_past image v (holder DIRECT_BLOCKS k) (omega arith))
 
 -- where no pointer stands in a sector
 pub pointer_without : (image : SectorMap) (v : Inode) (k : ℕ) → DIRECT_BLOCKS ≤ k → v.indirect ≡ 0 → pointer image v k ≡ 0
@@ -39,6 +59,20 @@ pointer_without image v k ge none =
       | inl lt ↦ pointer_indirect image v k ge lt ∙ ap (λ (s : ℕ). pointer_in image s (k - DIRECT_BLOCKS)) none
       | inr past ↦ pointer_past image v k past
     ]
+
+-- no number past the size, where there is no such block, and no sector of pointers without need
+pub trims : (image : SectorMap) (v : Inode) → ((k : ℕ) → v.size ≤ 512 * k → pointer image v k ≡ 0) → (v.size ≤ 512 * DIRECT_BLOCKS → v.indirect ≡ 0)
+    → IsTrimmed image v
+trims image v blocks indirect zero i le = blocks i le
+trims image v blocks indirect (suc zero) i le = elim (cases_eq i 0) [
+  | inl e ↦ ap (number_on image v 1) e ∙ number_on_indirect image v ∙ indirect (let z = le in omega (arith, z, e))
+  | inr ne ↦ number_on_past image v i (omega (arith, ne))
+]
+trims image v blocks indirect (suc (suc level)) i le = no_number_on image v level i
+
+-- so the sector of pointers that the inode names
+pub trimmed_indirect : (image : SectorMap) (v : Inode) → IsTrimmed image v → v.size ≤ 512 * DIRECT_BLOCKS → v.indirect ≡ 0
+trimmed_indirect image v trim le = sym (number_on_indirect image v) ∙ trim 1 0 le
 
 -- ---- by the content of the sector of pointers
 pub number_direct : (v : Inode) (pointers : List ℕ) (k : ℕ) → k < DIRECT_BLOCKS → block_number v pointers k ≡ get_or v.direct k 0
@@ -81,159 +115,216 @@ pub number_is : (image : SectorMap) (v : Inode) (pointers : List ℕ) (k : ℕ) 
     → block_number v pointers k ≡ pointer image v k
 number_is image v pointers k h = block_number-pointer image v pointers k (λ some ge. h.is some) h.none
 
--- two inodes with one list of direct pointers and one sector of pointers
-pub pointer_alike : (old new : SectorMap) (v w : Inode) → w.direct ≡ v.direct → w.indirect ≡ v.indirect → KeepsPointers old new v → (k : ℕ)
-    → pointer new w k ≡ pointer old v k
-unfolding pointer
-pointer_alike old new v w direct indirect kept k =
-    let e : pointer_in new v.indirect (k - DIRECT_BLOCKS) ≡ pointer_in old v.indirect (k - DIRECT_BLOCKS) = entry_kept old new v.indirect (k - DIRECT_BLOCKS) kept in
-    rw (direct, indirect, e) refl
-
 -- two inodes with the same sectors
-pub part_alike : (image : SectorMap) (v w : Inode) → w.acl ≡ v.acl → w.default_acl ≡ v.default_acl → w.direct ≡ v.direct
-    → w.indirect ≡ v.indirect → (a : Part)
+pub part_alike : (image : SectorMap) (v w : Inode) → w.acl ≡ v.acl → w.default_acl ≡ v.default_acl → levels w ≡ levels v → (a : Part)
     → part image w a ≡ part image v a
 unfolding part
-part_alike image v w acl default_acl direct indirect AccessAcl = acl
-part_alike image v w acl default_acl direct indirect DefaultAcl = default_acl
-part_alike image v w acl default_acl direct indirect Indirect = indirect
-part_alike image v w acl default_acl direct indirect DoubleIndirect = refl
-part_alike image v w acl default_acl direct indirect (Block k) = pointer_alike image image v w direct indirect (λ some. refl) k
+part_alike image v w acl default_acl same AccessAcl = acl
+part_alike image v w acl default_acl same DefaultAcl = default_acl
+part_alike image v w acl default_acl same (OnLevel level i) = number_on_alike image image v w same (λ n j some. refl) level i
+
+-- ---- one number of a level
+-- another level, or another number
+apart_from : (n t i j : ℕ) → OnLevel n i ≢ OnLevel t j → (n ≢ t) ⊎ (i ≢ j)
+apart_from n t i j ne = elim (cases_eq n t) [
+  | inr away ↦ inl away
+  | inl e ↦ elim (cases_eq i j) [
+    | inr away ↦ inr away
+    | inl f ↦ absurd (ne (ap (λ (x : ℕ). OnLevel x i) e ∙ ap (OnLevel t) f))
+  ]
+]
+
+-- Number j of level t becomes y: the inodes are alike but for that number, which may stand in one of them; and the other sectors of
+-- pointers keep their numbers, but for it.
+pub record TurnsOnLevel (old new : SectorMap) (v w : Inode) (t j y : ℕ) : Type 0 where
+  pub acl : w.acl ≡ v.acl
+  pub default_acl : w.default_acl ≡ v.default_acl
+  pub alike : AlikeBut t j (own_count t) (levels v) (levels w)
+  pub kept : KeepsOtherEntries t j (own_count t) old new (levels v) (levels w)
+  pub now : number_on new w t j ≡ y
+
+other_on_level : {old new : SectorMap} {v w : Inode} {t j y : ℕ} → TurnsOnLevel old new v w t j y → (a : Part) → a ≢ OnLevel t j → part new w a ≡ part old v a
+unfolding part number_on
+other_on_level x AccessAcl ne = x.acl
+other_on_level x DefaultAcl ne = x.default_acl
+other_on_level {old} {new} {v} {w} {t} {j} x (OnLevel n i) ne = numbers_turned old new t j (own_count t) (levels v) (levels w) x.alike x.kept n i (apart_from n t i j ne)
+
+pub turns_on_level : {old new : SectorMap} {v w : Inode} {t j x y : ℕ} → number_on old v t j ≡ x → TurnsOnLevel old new v w t j y → Turns old new v w (OnLevel t j) x y
+unfolding part
+turns_on_level was x = record { was = was; now = x.now; others = λ a ne. other_on_level x a ne }
 
 -- ---- a direct pointer
-other_pointer : (old new : SectorMap) (v : Inode) (k y m : ℕ) → m ≢ k → KeepsPointers old new v → pointer new (with_direct v k y) m ≡ pointer old v m
-other_pointer old new v k y m ne kept =
-    elim (cases_lt m DIRECT_BLOCKS) [
-      | inl lt ↦ pointer_direct new (with_direct v k y) m lt ∙ get_or-set_other v.direct k m y 0 ne ∙ sym (pointer_direct old v m lt)
-      | inr ge ↦ elim (cases_lt m INDIRECT_END) [
-        | inl lt ↦ pointer_indirect new (with_direct v k y) m ge lt ∙ entry_kept old new v.indirect (m - DIRECT_BLOCKS) kept ∙ sym (pointer_indirect old v m ge lt)
-        | inr past ↦ pointer_past new (with_direct v k y) m past ∙ sym (pointer_past old v m past)
-      ]
-    ]
-
-other_than_direct : (old new : SectorMap) (v : Inode) (k y : ℕ) (a : Part) → a ≢ Block k → KeepsPointers old new v
-    → part new (with_direct v k y) a ≡ part old v a
-unfolding part
-other_than_direct old new v k y AccessAcl ne kept = refl
-other_than_direct old new v k y DefaultAcl ne kept = refl
-other_than_direct old new v k y Indirect ne kept = refl
-other_than_direct old new v k y DoubleIndirect ne kept = refl
-other_than_direct old new v k y (Block m) ne kept = other_pointer old new v k y m (λ e. ne (ap Block e)) kept
-
 -- a direct block becomes y
 pub turns_direct : (old new : SectorMap) (v : Inode) (k x y : ℕ) → k < DIRECT_BLOCKS → length v.direct ≡ DIRECT_BLOCKS → pointer old v k ≡ x → KeepsPointers old new v
     → Turns old new v (with_direct v k y) (Block k) x y
-unfolding part
-turns_direct old new v k x y lt len was kept = record {
-  was = was;
+turns_direct old new v k x y lt len was kept = turns_on_level was (record {
+  acl = refl;
+  default_acl = refl;
+  alike = (refl, refl, λ i below ne. get_or-set_other v.direct k i y 0 ne, (refl, λ i below. refl, tt));
+  kept = record {
+    below = λ n q e small. absurd (let z = e in omega (arith, z));
+    same = λ n p q small f g. entries_kept old new v kept n p q small;
+  };
   now = pointer_direct new (with_direct v k y) k lt ∙ get_or-set_same v.direct k y 0 (omega (arith, len));
-  others = λ a ne. other_than_direct old new v k y a ne kept;
-}
+})
 
--- ---- a pointer in the sector of pointers
--- the sector of pointers has y for block k, and is the same otherwise
-pub record HasEntry (v : Inode) (k y : ℕ) (old new : SectorMap) : Type 0 where
-  pub from : DIRECT_BLOCKS ≤ k
-  pub to : k < INDIRECT_END
-  pub some : v.indirect ≢ 0
-  pub len : length (old v.indirect) ≡ 512
+-- ---- a number in a sector of pointers
+-- Number i of a level is y in the sector of pointers that has it, which is the same otherwise, and so are the other sectors of
+-- pointers.
+pub record HasEntry (v : Inode) (level i y : ℕ) (old new : SectorMap) : Type 0 where
+  pub from : own_count level ≤ i
+  pub some : number_on old v (suc level) (holder (own_count level) i) ≢ 0
+  pub len : length (old (number_on old v (suc level) (holder (own_count level) i))) ≡ 512
   pub fits : y < 2 ^ 32
-  pub is : new v.indirect ≡ splice (old v.indirect) (4 * (k - DIRECT_BLOCKS)) (le32 y)
+  pub is : let s = number_on old v (suc level) (holder (own_count level) i) in
+      new s ≡ splice (old s) (4 * place_in_holder (own_count level) i) (le32 y)
+  pub others : (n p : ℕ) → (n ≢ level) ⊎ (p ≢ holder (own_count level) i) → number_on old v (suc n) p ≢ 0 → new (number_on old v (suc n) p) ≡ old (number_on old v (suc n) p)
 
-put_entry : {v : Inode} {k y : ℕ} {old new : SectorMap} → HasEntry v k y old new → pointer new v k ≡ y
-put_entry {v} {k} {y} {old} {new} p =
-    let room : 4 * (k - DIRECT_BLOCKS) + 4 ≤ length (old v.indirect) = let a = p.from in let b = p.to in omega (arith, a, b, p.len) in
-    pointer_indirect new v k p.from p.to
-    ∙ entry_there new v.indirect (k - DIRECT_BLOCKS) p.some
-    ∙ ap (λ (s : List ℕ). u32_of s (4 * (k - DIRECT_BLOCKS))) p.is
-    ∙ are_numbers_32.read (old v.indirect) (4 * (k - DIRECT_BLOCKS)) y room p.fits
-
-other_entry : {v : Inode} {k y : ℕ} {old new : SectorMap} → HasEntry v k y old new → (m : ℕ) → m ≢ k → pointer new v m ≡ pointer old v m
-other_entry {v} {k} {y} {old} {new} p m ne =
-    elim (cases_lt m DIRECT_BLOCKS) [
-      | inl lt ↦ pointer_direct new v m lt ∙ sym (pointer_direct old v m lt)
-      | inr ge ↦ elim (cases_lt m INDIRECT_END) [
-        | inl lt ↦
-            let room : 4 * (k - DIRECT_BLOCKS) + 4 ≤ length (old v.indirect) = let a = p.from in let b = p.to in omega (arith, a, b, p.len) in
-            let fits : 4 * (m - DIRECT_BLOCKS) + 4 ≤ length (old v.indirect) = omega (arith, p.len) in
-            pointer_indirect new v m ge lt
-            ∙ entry_there new v.indirect (m - DIRECT_BLOCKS) p.some
-            ∙ ap (λ (s : List ℕ). u32_of s (4 * (m - DIRECT_BLOCKS))) p.is
-            ∙ u32_of-splice_other (old v.indirect) (4 * (k - DIRECT_BLOCKS)) (4 * (m - DIRECT_BLOCKS)) y room fits (beside p.from ge ne)
-            ∙ sym (entry_there old v.indirect (m - DIRECT_BLOCKS) p.some)
-            ∙ sym (pointer_indirect old v m ge lt)
-        | inr past ↦ pointer_past new v m past ∙ sym (pointer_past old v m past)
-      ]
-    ]
+-- another number of that sector
+other_entry : {v : Inode} {level i y : ℕ} {old new : SectorMap} → HasEntry v level i y old new → (q : ℕ) → q < SECTOR_POINTERS
+    → q ≢ place_in_holder (own_count level) i
+    → let s = number_on old v (suc level) (holder (own_count level) i) in pointer_in new s q ≡ pointer_in old s q
+other_entry {v} {level} {i} {y} {old} {new} h q small ne =
+    let s = number_on old v (suc level) (holder (own_count level) i) in
+    let at = place_in_holder (own_count level) i in
+    let low : at < SECTOR_POINTERS = omega arith in
+    entry_there new s q h.some
+    ∙ ap (λ (r : List ℕ). u32_of r (4 * q)) h.is
+    ∙ u32_of-splice_other (old s) (4 * at) (4 * q) y (omega (arith, h.len, low)) (omega (arith, h.len, small)) (beside at q ne)
+    ∙ sym (entry_there old s q h.some)
   where
-    beside : DIRECT_BLOCKS ≤ k → DIRECT_BLOCKS ≤ m → m ≢ k → (4 * (m - DIRECT_BLOCKS) + 4 ≤ 4 * (k - DIRECT_BLOCKS)) ⊎ (4 * (k - DIRECT_BLOCKS) + 4 ≤ 4 * (m - DIRECT_BLOCKS))
-    beside a b ne = elim (cases_lt m k) [ inl lt ↦ inl (omega arith) | inr ge ↦ inr (omega arith) ]
+    beside : (at q : ℕ) → q ≢ at → (4 * q + 4 ≤ 4 * at) ⊎ (4 * at + 4 ≤ 4 * q)
+    beside at q ne = elim (cases_lt q at) [ inl lt ↦ inl (omega arith) | inr ge ↦ inr (omega (arith, ge, ne)) ]
 
-other_than_entry : {v : Inode} {k y : ℕ} {old new : SectorMap} → HasEntry v k y old new → (a : Part) → a ≢ Block k → part new v a ≡ part old v a
-unfolding part
-other_than_entry p AccessAcl ne = refl
-other_than_entry p DefaultAcl ne = refl
-other_than_entry p Indirect ne = refl
-other_than_entry p DoubleIndirect ne = refl
-other_than_entry p (Block m) ne = other_entry p m (λ e. ne (ap Block e))
+-- the number itself
+put_entry : {v : Inode} {level i y : ℕ} {old new : SectorMap} → HasEntry v level i y old new
+    → pointer_in new (number_on old v (suc level) (holder (own_count level) i)) (place_in_holder (own_count level) i) ≡ y
+put_entry {v} {level} {i} {y} {old} {new} h =
+    let s = number_on old v (suc level) (holder (own_count level) i) in
+    let at = place_in_holder (own_count level) i in
+    let low : at < SECTOR_POINTERS = omega arith in
+    entry_there new s at h.some
+    ∙ ap (λ (r : List ℕ). u32_of r (4 * at)) h.is
+    ∙ are_numbers_32.read (old s) (4 * at) y (omega (arith, h.len, low)) h.fits
 
--- a block of the sector of pointers becomes y
-pub turns_entry : {v : Inode} {k x y : ℕ} {old new : SectorMap} → pointer old v k ≡ x → HasEntry v k y old new → Turns old new v v (Block k) x y
-unfolding part
-turns_entry was p = record { was = was; now = put_entry p; others = λ a ne. other_than_entry p a ne }
+-- a number that doesn't stand in the inode
+pub number_on_held : (image : SectorMap) (v : Inode) (level i : ℕ) → own_count level ≤ i
+    → number_on image v level i ≡ pointer_in image (number_on image v (suc level) (holder (own_count level) i)) (place_in_holder (own_count level) i)
+number_on_held image v zero i ge = pointer_held image v i ge
+number_on_held image v (suc zero) i ge = number_on_past image v i ge ∙ sym (ap (λ (s : ℕ). pointer_in image s (place_in_holder 1 i)) (no_number_on image v 0 (holder 1 i)))
+number_on_held image v (suc (suc level)) i ge =
+    no_number_on image v level i ∙ sym (ap (λ (s : ℕ). pointer_in image s (place_in_holder 1 i)) (no_number_on image v (suc level) (holder 1 i)))
 
--- ---- the sector of pointers itself
-other_than_indirect : (old new : SectorMap) (v : Inode) (y : ℕ) → ((k : ℕ) → pointer new (record v { indirect = y }) k ≡ pointer old v k) → (a : Part) → a ≢ Indirect
-    → part new (record v { indirect = y }) a ≡ part old v a
-unfolding part
-other_than_indirect old new v y same AccessAcl ne = refl
-other_than_indirect old new v y same DefaultAcl ne = refl
-other_than_indirect old new v y same Indirect ne = absurd (ne refl)
-other_than_indirect old new v y same DoubleIndirect ne = refl
-other_than_indirect old new v y same (Block k) ne = same k
+-- the other numbers in sectors of pointers
+entry_same : {v : Inode} {level i y : ℕ} {old new : SectorMap} → HasEntry v level i y old new → (n p q : ℕ) → q < SECTOR_POINTERS
+    → (n ≡ level → own_count level + SECTOR_POINTERS * p + q ≢ i)
+    → pointer_in new (number_on old v (suc n) p) q ≡ pointer_in old (number_on old v (suc n) p) q
+entry_same {v} {level} {i} {y} {old} {new} h n p q small ne = elim (cases_eq n level) [
+  | inr away ↦ entry_kept old new (number_on old v (suc n) p) q (h.others n p (inl away))
+  | inl e ↦ elim (cases_eq p (holder (own_count level) i)) [
+    | inr away ↦ entry_kept old new (number_on old v (suc n) p) q (h.others n p (inr away))
+    | inl f ↦
+        let same : number_on old v (suc n) p ≡ number_on old v (suc level) (holder (own_count level) i) =
+        ap (λ (m : ℕ). number_on old v (suc m) p) e ∙ ap (number_on old v (suc level)) f in
+        let from = h.from in
+        ap (λ (s : ℕ). pointer_in new s q) same
+        ∙ other_entry h q small (λ g. ne e (omega (arith, from, f, g)))
+        ∙ sym (ap (λ (s : ℕ). pointer_in old s q) same)
+  ]
+]
 
--- a sector of zeros for a sector of pointers has none of them
-zero_pointer : (old new : SectorMap) (v : Inode) (s : ℕ) → v.indirect ≡ 0 → s ≢ 0 → new s ≡ zeros 512 → (k : ℕ) → pointer new (record v { indirect = s }) k ≡ pointer old v k
-zero_pointer old new v s none some clear k =
-    elim (cases_lt k DIRECT_BLOCKS) [
-      | inl lt ↦ pointer_direct new (record v { indirect = s }) k lt ∙ sym (pointer_direct old v k lt)
-      | inr ge ↦ elim (cases_lt k INDIRECT_END) [
-        | inl lt ↦
-            pointer_indirect new (record v { indirect = s }) k ge lt
-            ∙ entry_there new s (k - DIRECT_BLOCKS) some
-            ∙ ap (λ (r : List ℕ). u32_of r (4 * (k - DIRECT_BLOCKS))) clear
-            ∙ u32_of-zeros 512 (4 * (k - DIRECT_BLOCKS))
-            ∙ sym (pointer_without old v k ge none)
-        | inr past ↦ pointer_past new (record v { indirect = s }) k past ∙ sym (pointer_past old v k past)
-      ]
-    ]
+-- a number in a sector of pointers is one of a level that there is
+alike_but : (image : SectorMap) (v : Inode) (t j : ℕ) → number_on image v (suc t) (holder (own_count t) j) ≢ 0 → AlikeBut t j (own_count t) (levels v) (levels v)
+alike_but image v zero j some = (refl, refl, λ k lt ne. refl, (refl, λ k lt. refl, tt))
+alike_but image v (suc zero) j some = (refl, λ k lt. refl, (refl, refl, λ k lt ne. refl, tt))
+alike_but image v (suc (suc t)) j some = absurd (some (no_number_on image v (suc t) (holder 1 j)))
 
--- the inode gets a sector of pointers, of zeros
-pub gains_indirect : (old new : SectorMap) (v : Inode) (s : ℕ) → v.indirect ≡ 0 → s ≢ 0 → new s ≡ zeros 512 → Gains old new v (record v { indirect = s }) Indirect s
-unfolding part
-gains_indirect old new v s none some clear = record { was = none; now = refl; others = other_than_indirect old new v s (zero_pointer old new v s none some clear) }
+-- the numbers of the levels above are the same
+above_same : {v : Inode} {level i y : ℕ} {old new : SectorMap} → HasEntry v level i y old new → (m p : ℕ) → level < m → number_on new v m p ≡ number_on old v m p
+unfolding number_on
+above_same {v} {level} {i} {y} {old} {new} h m p gt =
+    numbers_alike old new (drop m (levels v)) (drop m (levels v)) (Alike-refl (drop m (levels v))) kept p
+  where
+    kept : KeepsEntries old new (drop m (levels v))
+    kept n r q small =
+        let next : m + suc n ≡ suc (n + m) = omega arith in
+        let e : drop (suc n) (drop m (levels v)) ≡ drop (suc (n + m)) (levels v) = drop-drop (suc n) m (levels v) ∙ ap (λ (k : ℕ). drop k (levels v)) next in
+        ap (λ (l : List Level). pointer_in new (number_at old l r) q) e
+        ∙ entry_same h (n + m) r q small (λ z. absurd (omega (arith, z, gt)))
+        ∙ sym (ap (λ (l : List Level). pointer_in old (number_at old l r) q) e)
 
-no_pointer : (old new : SectorMap) (v : Inode) → ((k : ℕ) → DIRECT_BLOCKS ≤ k → pointer old v k ≡ 0) → (k : ℕ) → pointer new (record v { indirect = 0 }) k ≡ pointer old v k
-no_pointer old new v unused k =
-    elim (cases_lt k DIRECT_BLOCKS) [
-      | inl lt ↦ pointer_direct new (record v { indirect = 0 }) k lt ∙ sym (pointer_direct old v k lt)
-      | inr ge ↦ pointer_without new (record v { indirect = 0 }) k ge refl ∙ sym (unused k ge)
-    ]
+-- so the number is y
+pub entry_now : {v : Inode} {level i y : ℕ} {old new : SectorMap} → HasEntry v level i y old new → number_on new v level i ≡ y
+entry_now {v} {level} {i} {y} {old} {new} h =
+    number_on_held new v level i h.from
+    ∙ ap (λ (s : ℕ). pointer_in new s (place_in_holder (own_count level) i)) (above_same h (suc level) (holder (own_count level) i) (omega arith))
+    ∙ put_entry h
 
--- the inode gives up its sector of pointers, which are all 0
-pub loses_indirect : (old new : SectorMap) (v : Inode) (s : ℕ) → v.indirect ≡ s → ((k : ℕ) → DIRECT_BLOCKS ≤ k → pointer old v k ≡ 0)
+-- a number in a sector of pointers becomes y, where its sectors, old and new, have the same numbers, if it is one of pointers
+pub turns_number : {v : Inode} {level i x y : ℕ} {old new : SectorMap} → HasEntry v level i y old new
+    → (0 < level → (q : ℕ) → q < SECTOR_POINTERS → pointer_in new y q ≡ pointer_in old (number_on old v level i) q) → number_on old v level i ≡ x
+    → Turns old new v v (OnLevel level i) x y
+unfolding number_on
+turns_number {v} {level} {i} {x} {y} {old} {new} h below was =
+    turns_on_level was (record { acl = refl; default_acl = refl; alike = alike_but old v level i h.some; kept = kept; now = entry_now h })
+  where
+    kept : KeepsOtherEntries level i (own_count level) old new (levels v) (levels v)
+    kept = record {
+      below = λ n q e small.
+          ap (λ (m : ℕ). pointer_in new (number_at new (drop m (levels v)) i) q) e
+          ∙ ap (λ (s : ℕ). pointer_in new s q) (entry_now h)
+          ∙ below (let z = e in omega (arith, z)) q small
+          ∙ sym (ap (λ (m : ℕ). pointer_in old (number_at old (drop m (levels v)) i) q) e);
+      same = λ n p q small f g. entry_same h n p q small g;
+    }
+
+-- so does a block
+pub turns_entry : {v : Inode} {k x y : ℕ} {old new : SectorMap} → pointer old v k ≡ x → HasEntry v 0 k y old new → Turns old new v v (Block k) x y
+turns_entry was h = turns_number h (λ lt. absurd (let z = lt in omega (arith, z))) was
+
+-- ---- the sector of pointers that the inode names
+module _ (old new : SectorMap) (v : Inode) (y : ℕ) where
+  abbrev with_indirect : Inode
+  with_indirect = record v { indirect = y }
+
+  -- it becomes y, where both have the same numbers
+  turns_indirect : {x : ℕ} → v.indirect ≡ x → KeepsPointers old new v
+      → ((q : ℕ) → q < SECTOR_POINTERS → pointer_in new y q ≡ pointer_in old v.indirect q) → Turns old new v with_indirect Indirect x y
+  turns_indirect was kept same = turns_on_level (number_on_indirect old v ∙ was) (record {
+    acl = refl;
+    default_acl = refl;
+    alike = (refl, λ k lt. refl, (refl, refl, λ k lt ne. absurd (omega (arith, lt, ne)), tt));
+    kept = record { below = below; same = λ n p q small f g. entries_kept old new v kept n p q small };
+    now = number_on_indirect new with_indirect;
+  })
+    where
+      below : (n q : ℕ) → suc n ≡ 1 → q < SECTOR_POINTERS
+          → pointer_in new (number_at new (drop (suc n) (levels with_indirect)) 0) q ≡ pointer_in old (number_at old (drop (suc n) (levels v)) 0) q
+      below zero q e small = same q small
+      below (suc n) q e small = absurd (let z = e in omega (arith, z))
+
+-- the inode gets one, of zeros
+pub gains_indirect : (old new : SectorMap) (v : Inode) (s : ℕ) → KeepsPointers old new v → v.indirect ≡ 0 → s ≢ 0 → new s ≡ zeros 512
+    → Gains old new v (record v { indirect = s }) Indirect s
+gains_indirect old new v s kept none some clear = turns_indirect old new v s none kept (λ q small.
+    entry_there new s q some ∙ ap (λ (r : List ℕ). u32_of r (4 * q)) clear ∙ u32_of-zeros 512 (4 * q) ∙ sym (ap (λ (t : ℕ). pointer_in old t q) none))
+
+-- the inode gives it up; its numbers are all 0
+pub loses_indirect : (old new : SectorMap) (v : Inode) (s : ℕ) → KeepsPointers old new v → v.indirect ≡ s
+    → ((k : ℕ) → DIRECT_BLOCKS ≤ k → pointer old v k ≡ 0)
     → Loses old new v (record v { indirect = 0 }) Indirect s
-unfolding part
-loses_indirect old new v s was unused = record { was = was; now = refl; others = other_than_indirect old new v 0 (no_pointer old new v unused) }
+loses_indirect old new v s kept was unused = turns_indirect old new v 0 was kept (λ q small.
+    let from : DIRECT_BLOCKS ≤ DIRECT_BLOCKS + q = omega arith in
+    let to : DIRECT_BLOCKS + q < INDIRECT_END = omega (arith, small) in
+    let at : DIRECT_BLOCKS + q - DIRECT_BLOCKS ≡ q = omega arith in
+    sym (sym (ap (pointer_in old v.indirect) at) ∙ sym (pointer_indirect old v (DIRECT_BLOCKS + q) from to) ∙ unused (DIRECT_BLOCKS + q) from))
 
 -- ---- the sectors of the ACLs
 other_than_acl : (old new : SectorMap) (v : Inode) (y : ℕ) → KeepsPointers old new v → (a : Part) → a ≢ AccessAcl → part new (record v { acl = y }) a ≡ part old v a
 unfolding part
 other_than_acl old new v y kept AccessAcl ne = absurd (ne refl)
 other_than_acl old new v y kept DefaultAcl ne = refl
-other_than_acl old new v y kept Indirect ne = refl
-other_than_acl old new v y kept DoubleIndirect ne = refl
-other_than_acl old new v y kept (Block k) ne = pointer_alike old new v (record v { acl = y }) refl refl kept k
+other_than_acl old new v y kept (OnLevel level i) ne = number_on_alike old new v (record v { acl = y }) refl kept level i
 
 -- the sector of the access ACL becomes y
 pub turns_acl : (old new : SectorMap) (v : Inode) (x y : ℕ) → v.acl ≡ x → KeepsPointers old new v → Turns old new v (record v { acl = y }) AccessAcl x y
@@ -245,9 +336,7 @@ other_than_default_acl : (old new : SectorMap) (v : Inode) (y : ℕ) → KeepsPo
 unfolding part
 other_than_default_acl old new v y kept AccessAcl ne = refl
 other_than_default_acl old new v y kept DefaultAcl ne = absurd (ne refl)
-other_than_default_acl old new v y kept Indirect ne = refl
-other_than_default_acl old new v y kept DoubleIndirect ne = refl
-other_than_default_acl old new v y kept (Block k) ne = pointer_alike old new v (record v { default_acl = y }) refl refl kept k
+other_than_default_acl old new v y kept (OnLevel level i) ne = number_on_alike old new v (record v { default_acl = y }) refl kept level i
 
 -- the sector of the default ACL becomes y
 pub turns_default_acl : (old new : SectorMap) (v : Inode) (x y : ℕ) → v.default_acl ≡ x → KeepsPointers old new v → Turns old new v (record v { default_acl = y }) DefaultAcl x y

@@ -6,7 +6,7 @@ use Rattle.fs_layout.specs.Bytes.{SectorMap, u32_of, zeros}
 use Rattle.fs_layout.specs.Inode.{free_inode}
 use Rattle.fs_layout.specs.Version.{newest}
 use Rattle.fs_layout.specs.Place.{laid_out}
-use Rattle.fs_layout.specs.Images.{bit, inode_bitmap, block_bitmap, pointer, part, Block, byte_at, stored}
+use Rattle.fs_layout.specs.Images.{bit, inode_bitmap, block_bitmap, number_on, pointer, first_block, part, Block, byte_at, stored}
 
 -- 1024 sectors and 64 inodes: the table begins at 130, the data at 146
 place_of_1024 : laid_out 1024 64 ≡ record { version = newest; sectors = 1024; inodes = 64; table = 130; first_data = 146 }
@@ -37,32 +37,40 @@ pointers s = cond (nat_eq s 200) (7 ∷ 0 ∷ 0 ∷ 0 ∷ 2 ∷ 1 ∷ 0 ∷ 0 �
 file : Inode
 file = record free_inode { direct = 150 ∷ replicate 11 0; indirect = 200 }
 
-first_block : pointer pointers file 0 ≡ 150
-unfolding pointer pointers file
-first_block = refl
+block_0 : pointer pointers file 0 ≡ 150
+unfolding number_on pointers file
+block_0 = refl
 
 -- block 12 is the first of the sector of pointers, block 13 the second
 indirect_block : part pointers file (Block 12) ≡ 7
-unfolding part pointer pointers file u32_of
+unfolding part number_on pointers file u32_of
 indirect_block = refl
 
 next_block : part pointers file (Block 13) ≡ 258
-unfolding part pointer pointers file u32_of
+unfolding part number_on pointers file u32_of
 next_block = refl
 
 -- there is no block past the last
 no_block : part pointers file (Block MAX_BLOCKS) ≡ 0
-unfolding part pointer pointers file
+unfolding part number_on pointers file
 no_block = refl
+
+-- the sector of pointers is number 0 of the level above the blocks; the first block that is found by it is 12
+sector_of_pointers : number_on pointers file 1 0 ≡ 200
+unfolding number_on pointers file
+sector_of_pointers = refl
+
+first_by_it : first_block 1 0 ≡ 12
+first_by_it = refl
 
 -- byte 1 of block 13
 byte_of_block : byte_at pointers file (512 * 13 + 1) ≡ 66
-unfolding byte_at pointer pointers file u32_of
+unfolding byte_at number_on pointers file u32_of
 byte_of_block = refl
 
 -- a byte of a hole
 byte_of_hole : byte_at pointers file 512 ≡ 0
-unfolding byte_at pointer pointers file
+unfolding byte_at number_on pointers file
 byte_of_hole = refl
 
 -- inode 5 stands in the second sector of the table, from byte 128 on

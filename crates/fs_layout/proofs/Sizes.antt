@@ -1,16 +1,17 @@
 -- What an inode holds where its size or its blocks change: a larger size, a hole filled, a block dropped, a smaller size.
-use Rattle.std.proofs.Common.{◌≡◌, ◌≢◌, ℕ, ◌+◌, ◌-◌, ◌*◌, ◌/◌, ◌%◌, ◌<◌, ◌≤◌, List, ◌++◌, length, take, get_or, refl, sym, ap, subst, ◌∙◌, arith, inl, inr}
+use Rattle.std.proofs.Common.{◌≡◌, ◌≢◌, ℕ, suc, ◌+◌, ◌-◌, ◌*◌, ◌/◌, ◌%◌, ◌<◌, ◌≤◌, List, ◌++◌, length, take, get_or, refl, sym, ap, subst, ◌∙◌, arith, inl, inr}
 use Rattle.std.proofs.lemmas.List.{length-append, length-take-le, get_or_append_left, get_or-append_right, get_or_past, get_or-take, take_at, take_all, append-nil}
 use Rattle.std.proofs.lemmas.Bool.{cases_eq, cases_lt}
 use Rattle.fs_layout.specs.declared.inode.TheConstants.{DIRECT_SIZE}
 use Rattle.fs_layout.specs.declared.inode.Inode.{Inode}
 use Rattle.fs_layout.specs.Bytes.{SectorMap, zeros}
-use Rattle.fs_layout.specs.Images.{pointer, Part, AccessAcl, DefaultAcl, Indirect, Block, part, byte_in, byte_at, Holds}
+use Rattle.fs_layout.specs.Images.{number_on, pointer, first_block, Part, AccessAcl, DefaultAcl, OnLevel, Indirect, Block, part, byte_in, byte_at, Holds}
 use Rattle.fs_layout.specs.InodeChanges.{ReplacesBlock, Turns, Gains, Loses}
 use Rattle.fs_layout.proofs.Writes.{length-zeros}
 use Rattle.fs_layout.proofs.SplicedBytes.{get_or-zeros}
-use Rattle.fs_layout.proofs.Parts.{byte_in_is, block_is_one}
-use Rattle.fs_layout.proofs.Held.{KeepsBlocks, KeepsAllBlocks, HasBlock, has_block, HasSameBlocks, Holds-again}
+use Rattle.fs_layout.proofs.Parts.{HasNoPointers, byte_in_is, block_is_one, level_is_one, index_is_one, same_part_or_not, block_has_no_pointers, access_acl_has_no_pointers, default_acl_has_no_pointers}
+use Rattle.fs_layout.proofs.Pointers.{trims}
+use Rattle.fs_layout.proofs.Held.{KeepsBlocks, KeepsAllBlocks, NeedsPointers, HasBlock, has_block, HasSameBlocks, Holds-again}
 
 -- ---- a larger size
 -- bytes and zeros
@@ -23,12 +24,11 @@ get_or-padded bytes n i =
 
 -- a larger size: the new bytes are zeros
 pub extends : (image : SectorMap) (v : Inode) (bytes : List ℕ) (n : ℕ) → Holds image v bytes → Holds image (record v { size = v.size + n }) (bytes ++ zeros n)
-unfolding byte_at pointer
+unfolding byte_at number_on
 extends image v bytes n h = record {
   size = ap (λ (k : ℕ). k + n) h.size ∙ sym (length-append bytes (zeros n) ∙ ap (λ (k : ℕ). length bytes + k) (length-zeros n));
   byte = λ i. h.byte i ∙ sym (get_or-padded bytes n i);
-  trim = λ k le. h.trim k (omega arith);
-  trim_pointers = λ le. h.trim_pointers (omega arith);
+  trim = λ level i le. h.trim level i (omega (arith, le));
 }
 
 -- ---- one block comes or goes
@@ -43,12 +43,17 @@ pub now_block : {old new : SectorMap} {v w : Inode} {k x y : ℕ} → Turns old 
 unfolding part
 now_block t = t.now
 
+-- the sectors of pointers stay
+same_needs : {old new : SectorMap} {v w : Inode} {at : Part} {x y : ℕ} → Turns old new v w at x y → HasNoPointers at → NeedsPointers old new v w
+unfolding part
+same_needs t ne level i le none = t.others (OnLevel (suc level) i) (λ e. ne level i (sym e)) ∙ none
+
 -- A hole within the size is filled, directly or through the sector of pointers: what the inode holds has the
 -- sector's content there.
 pub fills : {old new : SectorMap} {v w : Inode} {k s : ℕ} {x bytes then : List ℕ} → Gains old new v w (Block k) s → s ≢ 0 → new s ≡ x
     → KeepsBlocks old new v k
-    → w.size ≡ v.size → w.indirect ≡ v.indirect → 512 * k < v.size → Holds old v bytes → ReplacesBlock k x bytes then → Holds new w then
-fills {old} {new} {v} {w} {k} {s} {x} g some is keeps size indirect inside h r =
+    → w.size ≡ v.size → 512 * k < v.size → Holds old v bytes → ReplacesBlock k x bytes then → Holds new w then
+fills {old} {new} {v} {w} {k} {s} {x} g some is keeps size inside h r =
     let b : HasBlock old new v w k s x = record {
       now = now_block g;
       here = λ i. byte_in_is new s i x is some;
@@ -56,14 +61,14 @@ fills {old} {new} {v} {w} {k} {s} {x} g some is keeps size indirect inside h r =
       same = keeps;
       size = size;
       past = λ le. absurd (omega (arith, le, inside));
-      pointers = λ le. indirect ∙ h.trim_pointers le;
+      pointers = same_needs g (block_has_no_pointers k);
     } in
     has_block b h r
 
 -- a block becomes a hole: what the inode holds has zeros there
 pub drops : {old new : SectorMap} {v w : Inode} {k s : ℕ} {bytes then : List ℕ} → Loses old new v w (Block k) s → KeepsBlocks old new v k
-    → w.size ≡ v.size → w.indirect ≡ v.indirect → Holds old v bytes → ReplacesBlock k (zeros 512) bytes then → Holds new w then
-drops {old} {new} {v} {w} {k} {s} l keeps size indirect h r =
+    → w.size ≡ v.size → Holds old v bytes → ReplacesBlock k (zeros 512) bytes then → Holds new w then
+drops {old} {new} {v} {w} {k} {s} l keeps size h r =
     let b : HasBlock old new v w k 0 (zeros 512) = record {
       now = now_block l;
       here = λ i. sym (get_or-zeros 512 i);
@@ -71,7 +76,7 @@ drops {old} {new} {v} {w} {k} {s} l keeps size indirect h r =
       same = keeps;
       size = size;
       past = λ le. refl;
-      pointers = λ le. indirect ∙ h.trim_pointers le;
+      pointers = same_needs l (block_has_no_pointers k);
     } in
     has_block b h r
 
@@ -83,29 +88,43 @@ same_blocks : {old new : SectorMap} {v w : Inode} {at : Part} {x y : ℕ} → Tu
 unfolding part
 same_blocks t none same size = record { pointers = λ k. t.others (Block k) (none k); same = same; size = size }
 
+-- a sector of pointers comes, goes or is another one, where the size allows it, and the inode holds what it held
+pub turns_pointers : {old new : SectorMap} {v w : Inode} {level i x y : ℕ} {bytes : List ℕ} → Turns old new v w (OnLevel (suc level) i) x y
+    → KeepsAllBlocks old new v → w.size ≡ v.size → (v.size ≤ 512 * first_block (suc level) i → y ≡ 0) → Holds old v bytes → Holds new w bytes
+unfolding part
+turns_pointers {old} {new} {v} {w} {level} {i} t same size past h = Holds-again (same_blocks t (λ k. block_has_no_pointers k level i) same size) needs h
+  where
+    needs : NeedsPointers old new v w
+    needs n j le none = elim (same_part_or_not (OnLevel (suc n) j) (OnLevel (suc level) i)) [
+      | inr away ↦ t.others (OnLevel (suc n) j) away ∙ none
+      | inl e ↦
+          let a : suc n ≡ suc level = level_is_one (suc n) (suc level) j i e in
+          let b : j ≡ i = index_is_one (suc n) (suc level) j i e in
+          let le' : v.size ≤ 512 * first_block (suc level) i =
+          subst (λ (x : ℕ). v.size ≤ 512 * first_block x i) a (subst (λ (x : ℕ). v.size ≤ 512 * first_block (suc n) x) b le) in
+          ap (part new w) e ∙ t.now ∙ past le'
+    ]
+
 -- the inode gets a sector of pointers that it needs, and holds what it held
 pub gains_pointers : {old new : SectorMap} {v w : Inode} {s : ℕ} {bytes : List ℕ} → Gains old new v w Indirect s → KeepsAllBlocks old new v
     → w.size ≡ v.size → DIRECT_SIZE < v.size → Holds old v bytes → Holds new w bytes
-gains_pointers g same size large h = Holds-again (same_blocks g (λ k e. cc) same size) (λ le. absurd (omega (arith, le, large))) h
+gains_pointers g same size large h = turns_pointers g same size (λ le. absurd (omega (arith, le, large))) h
 
 -- the inode gives up its sector of pointers, and holds what it held
 pub loses_pointers : {old new : SectorMap} {v w : Inode} {s : ℕ} {bytes : List ℕ} → Loses old new v w Indirect s → KeepsAllBlocks old new v
     → w.size ≡ v.size → Holds old v bytes → Holds new w bytes
-unfolding part
-loses_pointers l same size h = Holds-again (same_blocks l (λ k e. cc) same size) (λ le. l.now) h
+loses_pointers l same size h = turns_pointers l same size (λ le. refl) h
 
 -- the sector of an ACL comes, goes or is another one, and the inode holds what it held
 pub turns_acl_holds : {old new : SectorMap} {v w : Inode} {x y : ℕ} {bytes : List ℕ} → Turns old new v w AccessAcl x y → KeepsAllBlocks old new v
     → w.size ≡ v.size → Holds old v bytes → Holds new w bytes
-unfolding part
-turns_acl_holds t same size h = Holds-again (same_blocks t (λ k e. cc) same size) (λ le. t.others Indirect (λ e. cc) ∙ h.trim_pointers le) h
+turns_acl_holds t same size h = Holds-again (same_blocks t (λ k e. cc) same size) (same_needs t access_acl_has_no_pointers) h
 
 -- and so for a default ACL
 pub turns_default_acl_holds : {old new : SectorMap} {v w : Inode} {x y : ℕ} {bytes : List ℕ} → Turns old new v w DefaultAcl x y
     → KeepsAllBlocks old new v
     → w.size ≡ v.size → Holds old v bytes → Holds new w bytes
-unfolding part
-turns_default_acl_holds t same size h = Holds-again (same_blocks t (λ k e. cc) same size) (λ le. t.others Indirect (λ e. cc) ∙ h.trim_pointers le) h
+turns_default_acl_holds t same size h = Holds-again (same_blocks t (λ k e. cc) same size) (same_needs t default_acl_has_no_pointers) h
 
 -- ---- a smaller size
 -- what bytes are up to an offset, and zeros from there on
@@ -174,15 +193,14 @@ pub cuts : (image : SectorMap) (v : Inode) (bytes : List ℕ) (n : ℕ) → Hold
     → ((k : ℕ) → n ≤ 512 * k → pointer image v k ≡ 0)
     → (n ≤ DIRECT_SIZE → v.indirect ≡ 0)
     → ((i : ℕ) → n ≤ i → i / 512 ≡ n / 512 → get_or bytes i 0 ≡ 0) → Holds image (record v { size = n }) (take n bytes)
-unfolding byte_at pointer
+unfolding byte_at number_on
 cuts image v bytes n h le none pointers rest = record {
   size = sym (length-take-le n bytes (let z = h.size in omega (arith, z, le)));
   byte = λ i. elim (cases_lt i n) [
     | inl lt ↦ h.byte i ∙ sym (get_or-take n bytes i 0 lt)
     | inr ge ↦ past i ge ∙ sym (get_or_past (take n bytes) i 0 (omega (arith, length-take-le n bytes (let z = h.size in omega (arith, z, le)))))
   ];
-  trim = none;
-  trim_pointers = pointers;
+  trim = trims image (record v { size = n }) none pointers;
 }
   where
     past : (i : ℕ) → n ≤ i → byte_at image v i ≡ 0

@@ -1,14 +1,14 @@
 -- Single writes put together: a sector is taken or released for one thing, and what changes and is held by it.
-use Rattle.std.proofs.Common.{◌≡◌, ◌≢◌, ℕ, ◌-◌, ◌*◌, ◌<◌, ◌≤◌, List, length, refl, sym, ap, subst, ◌∙◌, arith}
-use Rattle.fs_layout.specs.declared.inode.TheConstants.{DIRECT_BLOCKS, DIRECT_SIZE}
+use Rattle.std.proofs.Common.{◌≡◌, ◌≢◌, ℕ, suc, ◌-◌, ◌*◌, ◌^◌, ◌<◌, ◌≤◌, List, length, refl, sym, ap, subst, ◌∙◌, arith, inl, inr, ◌⊎◌}
+use Rattle.fs_layout.specs.declared.inode.TheConstants.{DIRECT_BLOCKS, DIRECT_SIZE, INDIRECT_END, SECTOR_POINTERS}
 use Rattle.fs_layout.specs.declared.inode.Inode.{Inode}
 use Rattle.fs_layout.specs.declared.place.Place.{Place}
 use Rattle.fs_layout.specs.Bytes.{SectorMap, IsSector, splice, le32, zeros}
 use Rattle.fs_layout.specs.Place.{IsPlace}
-use Rattle.fs_layout.specs.Images.{pointer, Block, Owns, Holds}
-use Rattle.fs_layout.specs.InodeChanges.{Keeps, Gains, with_direct, IsOwnedApart, Takes, Rewrites, Allocates, Frees, PutsEntry, ReplacesBlock, ChangesBlocks}
+use Rattle.fs_layout.specs.Images.{own_count, holder, place_in_holder, number_on, pointer, OnLevel, Block, part, Owns, Holds}
+use Rattle.fs_layout.specs.InodeChanges.{Keeps, Puts, Gains, with_direct, IsOwnedApart, Takes, Rewrites, Allocates, Frees, PutsEntry, ReplacesBlock, ChangesBlocks}
 use Rattle.fs_layout.proofs.Places.{after_map, before_data}
-use Rattle.fs_layout.proofs.Parts.{KeepsPointers, pointers_kept, owns_indirect}
+use Rattle.fs_layout.proofs.Parts.{KeepsPointers, pointers_kept, number_on_indirect, number_on_kept, owns_block, owns_on_level, level_is_one, index_is_one, block_has_no_pointers}
 use Rattle.fs_layout.proofs.Sectors.{IsSector-splice, IsBytes-le32}
 use Rattle.fs_layout.proofs.SplicedBytes.{length-le32}
 use Rattle.fs_layout.proofs.Blocks.{put_rewrites}
@@ -16,7 +16,7 @@ use Rattle.fs_layout.proofs.Pointers.{HasEntry, turns_direct, turns_entry, turns
 use Rattle.fs_layout.proofs.Gains.{gains}
 use Rattle.fs_layout.proofs.Releases.{loses}
 use Rattle.fs_layout.proofs.Marks.{no_map, free_not_owned, takes, takes_keeps, takes_and_puts, releases, releases_alone, marks_keeps}
-use Rattle.fs_layout.proofs.Held.{KeepsAllBlocks, keeps_blocks, keeps_all_blocks, keeps_other_blocks}
+use Rattle.fs_layout.proofs.Held.{KeepsBlocks, KeepsAllBlocks, keeps_all_blocks, keeps_other_blocks}
 use Rattle.fs_layout.proofs.Sizes.{fills, drops, gains_pointers, loses_pointers, turns_acl_holds, turns_default_acl_holds}
 
 -- ---- a sector is taken
@@ -46,7 +46,7 @@ module _ {p : Place} {v : Inode} {s : ℕ} {x : List ℕ} {old mid new : SectorM
   pub direct_block_filled : (k : ℕ) (bytes then : List ℕ) → k < DIRECT_BLOCKS → length v.direct ≡ DIRECT_BLOCKS → pointer old v k ≡ 0 → 512 * k < v.size → Holds old v bytes
       → ReplacesBlock k x bytes then → Holds new (with_direct v k s) then
   direct_block_filled k bytes then lt len none inside h r =
-      fills (turns_direct old new v k 0 s lt len none kept) allocated_some a.put.here (keeps_other_blocks allocates_keeps k) refl refl inside h r
+      fills (turns_direct old new v k 0 s lt len none kept) allocated_some a.put.here (keeps_other_blocks allocates_keeps k) refl inside h r
 
   -- for the access ACL
   pub acl_gained : v.acl ≡ 0 → ChangesBlocks p v (record v { acl = s }) old new
@@ -66,57 +66,111 @@ module _ {p : Place} {v : Inode} {s : ℕ} {x : List ℕ} {old mid new : SectorM
 
   -- for the sector of pointers, which is zeros
   pub pointers_gained : v.indirect ≡ 0 → x ≡ zeros 512 → ChangesBlocks p v (record v { indirect = s }) old new
-  pointers_gained none clear = gains place apart (gains_indirect old new v s none allocated_some (a.put.here ∙ clear)) allocated
+  pointers_gained none clear = gains place apart (gains_indirect old new v s kept none allocated_some (a.put.here ∙ clear)) allocated
 
   -- it holds what it held
   pub pointers_gained_holds : (bytes : List ℕ) → v.indirect ≡ 0 → x ≡ zeros 512 → DIRECT_SIZE < v.size → Holds old v bytes → Holds new (record v { indirect = s }) bytes
-  pointers_gained_holds bytes none clear large h = gains_pointers (gains_indirect old new v s none allocated_some (a.put.here ∙ clear)) same_content refl large h
+  pointers_gained_holds bytes none clear large h = gains_pointers (gains_indirect old new v s kept none allocated_some (a.put.here ∙ clear)) same_content refl large h
 
--- ---- a sector is taken for a block of the sector of pointers
--- the sector of pointers is whole again
-entry_whole : {v : Inode} {k y : ℕ} {old new : SectorMap} → PutsEntry v k y old new → IsSector (old v.indirect)
-    → IsSector (splice (old v.indirect) (4 * (k - DIRECT_BLOCKS)) (le32 y))
-entry_whole {v} {k} {y} {old} e whole =
-    IsSector-splice (old v.indirect) (le32 y) (4 * (k - DIRECT_BLOCKS)) whole (IsBytes-le32 y) (let a = e.from in let b = e.to in omega (arith, a, b, length-le32 y))
+-- ---- a sector is taken whose number stands in a sector of pointers
+-- that sector
+abbrev at_holder : SectorMap → Inode → ℕ → ℕ → ℕ
+at_holder image v level i = number_on image v (suc level) (holder (own_count level) i)
 
--- the pointer is put into what stood there before other sectors were written
-entry_since : {v : Inode} {k y : ℕ} {old mid new : SectorMap} → mid v.indirect ≡ old v.indirect → IsSector (old v.indirect) → PutsEntry v k y mid new
-    → HasEntry v k y old new
-entry_since {v} {k} {y} same whole e = record {
-  from = e.from;
-  to = e.to;
-  some = e.some;
-  len = whole.len;
-  fits = e.fits;
-  is = e.put.here ∙ ap (λ (r : List ℕ). splice r (4 * (k - DIRECT_BLOCKS)) (le32 y)) same;
-}
+-- it is whole again
+entry_whole : {v : Inode} {level i y : ℕ} {old new : SectorMap} → PutsEntry v level i y old new → IsSector (old (at_holder old v level i))
+    → IsSector (splice (old (at_holder old v level i)) (4 * place_in_holder (own_count level) i) (le32 y))
+entry_whole {v} {level} {i} {y} {old} e whole =
+    let low : place_in_holder (own_count level) i < SECTOR_POINTERS = omega arith in
+    IsSector-splice (old (at_holder old v level i)) (le32 y) (4 * place_in_holder (own_count level) i) whole (IsBytes-le32 y) (omega (arith, low, length-le32 y))
+
+-- two sectors of pointers are two
+numbers_apart : {p : Place} {image : SectorMap} {v : Inode} → IsOwnedApart p image v → (n m i j : ℕ) → (n ≢ m) ⊎ (i ≢ j) → number_on image v (suc n) i ≢ 0
+    → number_on image v (suc n) i ≢ number_on image v (suc m) j
+unfolding part
+numbers_apart {image = image} {v} apart n m i j ne some e =
+    let same = apart.once (number_on image v (suc n) i) (record { at = OnLevel (suc n) i; is = refl; some = some }) (record { at = OnLevel (suc m) j; is = sym e; some = some }) in
+    elim ne [
+      | inl away ↦ away (let z = level_is_one (suc n) (suc m) i j same in omega (arith, z))
+      | inr away ↦ away (index_is_one (suc n) (suc m) i j same)
+    ]
+
+-- the number is put into what stood there before other sectors were written, and no other sector of pointers was
+entry_since : {p : Place} {v : Inode} {level i y : ℕ} {old mid new : SectorMap} → IsOwnedApart p old v → Keeps old mid v → PutsEntry v level i y mid new
+    → HasEntry v level i y old new
+entry_since {v = v} {level} {i} {y} {old} {mid} {new} apart keeps e =
+    let holder_same : at_holder mid v level i ≡ at_holder old v level i = number_on_kept keeps (suc level) (holder (own_count level) i) in
+    let some : at_holder old v level i ≢ 0 = λ z. e.some (holder_same ∙ z) in
+    let own : Owns old v (at_holder old v level i) = owns_on_level old v (suc level) (holder (own_count level) i) some in
+    let here : (s : ℕ) → at_holder mid v level i ≡ s → new s ≡ splice (mid s) (4 * place_in_holder (own_count level) i) (le32 y) =
+    λ s is. subst (λ (t : ℕ). new t ≡ splice (mid t) (4 * place_in_holder (own_count level) i) (le32 y)) is e.put.here in
+    record {
+      from = e.from;
+      some = some;
+      len = (apart.whole (at_holder old v level i) own).len;
+      fits = e.fits;
+      is = here (at_holder old v level i) holder_same
+          ∙ ap (λ (r : List ℕ). splice r (4 * place_in_holder (own_count level) i) (le32 y)) (keeps (at_holder old v level i) own);
+      others = λ n p ne has.
+          let s = number_on old v (suc n) p in
+          e.put.others s (λ z. numbers_apart apart n level p (holder (own_count level) i) ne has (z ∙ holder_same))
+          ∙ keeps s (owns_on_level old v (suc n) p has);
+    }
+
+-- the number of one of the next blocks is put into the sector that the inode names
+pub puts_entry : (v : Inode) (k y : ℕ) (old new : SectorMap) → DIRECT_BLOCKS ≤ k → k < INDIRECT_END → v.indirect ≢ 0 → y < 2 ^ 32
+    → Puts v.indirect (splice (old v.indirect) (4 * (k - DIRECT_BLOCKS)) (le32 y)) old new → PutsEntry v 0 k y old new
+puts_entry v k y old new from to some fits put =
+    let first : holder DIRECT_BLOCKS k ≡ 0 = omega (arith, from, to) in
+    let at : place_in_holder DIRECT_BLOCKS k ≡ k - DIRECT_BLOCKS = omega (arith, from, to) in
+    let s : at_holder old v 0 k ≡ v.indirect = ap (number_on old v 1) first ∙ number_on_indirect old v in
+    record {
+      from = from;
+      some = λ z. some (sym s ∙ z);
+      fits = fits;
+      put = subst (λ (t : ℕ). Puts t (splice (old t) (4 * place_in_holder DIRECT_BLOCKS k) (le32 y)) old new) (sym s)
+          (subst (λ (q : ℕ). Puts v.indirect (splice (old v.indirect) (4 * q) (le32 y)) old new) (sym at) put);
+    }
+
+-- of what the inode owns only that sector differs: so each other block keeps its content
+others_than_holder : {p : Place} {v : Inode} {old new : SectorMap} → IsOwnedApart p old v → (k : ℕ)
+    → ((t : ℕ) → Owns old v t → t ≢ at_holder old v 0 k → new t ≡ old t) → KeepsBlocks old new v k
+unfolding part
+others_than_holder {v = v} {old} apart k same j ne some =
+    let s = pointer old v j in
+    same s (owns_block old v j some) (λ z. block_has_no_pointers j 0 (holder DIRECT_BLOCKS k)
+    (apart.once s (record { at = Block j; is = refl; some = some }) (record { at = OnLevel 1 (holder DIRECT_BLOCKS k); is = sym z; some = some })))
 
 module _ {p : Place} {v : Inode} {k s : ℕ} {x : List ℕ} {old mid put new : SectorMap}
-    (place : IsPlace p) (apart : IsOwnedApart p old v) (a : Allocates p s x old mid put) (e : PutsEntry v k s put new) where
-  owned : Owns old v v.indirect
-  owned = owns_indirect old v e.some
+    (place : IsPlace p) (apart : IsOwnedApart p old v) (a : Allocates p s x old mid put) (e : PutsEntry v 0 k s put new) where
+  pub entry_there_since : HasEntry v 0 k s old new
+  entry_there_since = entry_since apart (allocates_keeps place apart a) e
 
-  not_pointers : s ≢ v.indirect
+  owned : Owns old v (at_holder old v 0 k)
+  owned = owns_on_level old v 1 (holder DIRECT_BLOCKS k) entry_there_since.some
+
+  holder_same : at_holder put v 0 k ≡ at_holder old v 0 k
+  holder_same = number_on_kept (allocates_keeps place apart a) 1 (holder DIRECT_BLOCKS k)
+
+  not_pointers : s ≢ at_holder old v 0 k
   not_pointers f = free_not_owned apart s a.free (subst (λ (u : ℕ). Owns old v u) (sym f) owned)
 
-  before : put v.indirect ≡ old v.indirect
-  before = allocates_keeps place apart a v.indirect owned
-
   entry_gained : pointer old v k ≡ 0 → Gains old new v v (Block k) s
-  entry_gained none = turns_entry none (entry_since before (apart.whole v.indirect owned) e)
+  entry_gained none = turns_entry none entry_there_since
 
   -- the inode has one block more
   pub entry_block_gained : pointer old v k ≡ 0 → ChangesBlocks p v v old new
   entry_block_gained none =
-      let whole : IsSector (put v.indirect) = (allocated place apart a).whole v.indirect owned in
-      gains place apart (entry_gained none) (takes_and_puts place apart (allocated place apart a) owned e.put (entry_whole e whole))
+      let own : Owns old v (at_holder put v 0 k) = subst (λ (u : ℕ). Owns old v u) (sym holder_same) owned in
+      let whole : IsSector (put (at_holder put v 0 k)) = (allocated place apart a).whole (at_holder put v 0 k) own in
+      gains place apart (entry_gained none) (takes_and_puts place apart (allocated place apart a) own e.put (entry_whole e whole))
 
   -- and what it holds has x there
   pub entry_block_filled : (bytes then : List ℕ) → pointer old v k ≡ 0 → 512 * k < v.size → Holds old v bytes
       → ReplacesBlock k x bytes then → Holds new v then
   entry_block_filled bytes then none inside h r =
-      fills (entry_gained none) (allocated_some place apart a) (e.put.others s not_pointers ∙ a.put.here)
-      (keeps_blocks apart k (λ t o ne at. e.put.others t ne ∙ allocates_keeps place apart a t o)) refl refl inside h r
+      fills (entry_gained none) (allocated_some place apart a) (e.put.others s (λ z. not_pointers (z ∙ holder_same)) ∙ a.put.here)
+      (others_than_holder apart k (λ t o ne. e.put.others t (λ z. ne (z ∙ holder_same)) ∙ allocates_keeps place apart a t o)) refl inside h r
 
 -- ---- a sector is released
 module _ {p : Place} {v : Inode} {s : ℕ} {old new : SectorMap} (place : IsPlace p) (apart : IsOwnedApart p old v) (some : s ≢ 0) (f : Frees p s old new) where
@@ -137,7 +191,7 @@ module _ {p : Place} {v : Inode} {s : ℕ} {old new : SectorMap} (place : IsPlac
   -- then what the inode holds has zeros there
   pub direct_block_dropped : (k : ℕ) (bytes then : List ℕ) → k < DIRECT_BLOCKS → length v.direct ≡ DIRECT_BLOCKS → pointer old v k ≡ s → Holds old v bytes
       → ReplacesBlock k (zeros 512) bytes then → Holds new (with_direct v k 0) then
-  direct_block_dropped k bytes then lt len was h r = drops (turns_direct old new v k s 0 lt len was kept_then) (keeps_other_blocks frees_keeps k) refl refl h r
+  direct_block_dropped k bytes then lt len was h r = drops (turns_direct old new v k s 0 lt len was kept_then) (keeps_other_blocks frees_keeps k) refl h r
 
   -- the access ACL
   pub acl_lost : v.acl ≡ s → ChangesBlocks p v (record v { acl = 0 }) old new
@@ -157,33 +211,34 @@ module _ {p : Place} {v : Inode} {s : ℕ} {old new : SectorMap} (place : IsPlac
 
   -- the sector of pointers, which are all 0
   pub pointers_lost : v.indirect ≡ s → ((k : ℕ) → DIRECT_BLOCKS ≤ k → pointer old v k ≡ 0) → ChangesBlocks p v (record v { indirect = 0 }) old new
-  pointers_lost was unused = loses place apart some (loses_indirect old new v s was unused) (releases_alone place apart f.mark f.clear)
+  pointers_lost was unused = loses place apart some (loses_indirect old new v s kept_then was unused) (releases_alone place apart f.mark f.clear)
 
   -- it holds what it held
   pub pointers_lost_holds : (bytes : List ℕ) → v.indirect ≡ s → ((k : ℕ) → DIRECT_BLOCKS ≤ k → pointer old v k ≡ 0) → Holds old v bytes → Holds new (record v { indirect = 0 }) bytes
-  pointers_lost_holds bytes was unused h = loses_pointers (loses_indirect old new v s was unused) same_then refl h
+  pointers_lost_holds bytes was unused h = loses_pointers (loses_indirect old new v s kept_then was unused) same_then refl h
 
--- a block of the sector of pointers is released: its pointer is written, and then its bit is cleared
+-- a block of a sector of pointers is released: its number is written as 0, and then its bit is cleared
 module _ {p : Place} {v : Inode} {k s : ℕ} {old put new : SectorMap}
-    (place : IsPlace p) (apart : IsOwnedApart p old v) (e : PutsEntry v k 0 old put) (f : Frees p s put new) where
-  owned_before : Owns old v v.indirect
-  owned_before = owns_indirect old v e.some
+    (place : IsPlace p) (apart : IsOwnedApart p old v) (e : PutsEntry v 0 k 0 old put) (f : Frees p s put new) where
+  owned_before : Owns old v (at_holder old v 0 k)
+  owned_before = owns_on_level old v 1 (holder DIRECT_BLOCKS k) e.some
 
   written : Rewrites v old put
-  written = put_rewrites owned_before apart.whole (entry_whole e (apart.whole v.indirect owned_before)) e.put
+  written = put_rewrites owned_before apart.whole (entry_whole e (apart.whole (at_holder old v 0 k) owned_before)) e.put
 
-  -- what the inode owns is the same but for the sector of pointers
-  unwritten : (t : ℕ) → Owns old v t → t ≢ v.indirect → new t ≡ old t
+  -- what the inode owns is the same but for that sector
+  unwritten : (t : ℕ) → Owns old v t → t ≢ at_holder old v 0 k → new t ≡ old t
   unwritten t o ne = f.mark.others t (no_map place apart t o) ∙ e.put.others t ne
 
-  entry_put : HasEntry v k 0 old new
+  entry_put : HasEntry v 0 k 0 old new
   entry_put = record {
     from = e.from;
-    to = e.to;
     some = e.some;
-    len = (apart.whole v.indirect owned_before).len;
+    len = (apart.whole (at_holder old v 0 k) owned_before).len;
     fits = e.fits;
-    is = f.mark.others v.indirect (no_map place apart v.indirect owned_before) ∙ e.put.here;
+    is = f.mark.others (at_holder old v 0 k) (no_map place apart (at_holder old v 0 k) owned_before) ∙ e.put.here;
+    others = λ n p ne has.
+        unwritten (number_on old v (suc n) p) (owns_on_level old v (suc n) p has) (numbers_apart apart n 0 p (holder DIRECT_BLOCKS k) ne has);
   }
 
   -- the inode has one block less
@@ -193,4 +248,4 @@ module _ {p : Place} {v : Inode} {k s : ℕ} {old put new : SectorMap}
   -- and what it holds has zeros there
   pub entry_block_dropped : (bytes then : List ℕ) → pointer old v k ≡ s → Holds old v bytes → ReplacesBlock k (zeros 512) bytes then
       → Holds new v then
-  entry_block_dropped bytes then was h r = drops (turns_entry was entry_put) (keeps_blocks apart k (λ t o ne at. unwritten t o ne)) refl refl h r
+  entry_block_dropped bytes then was h r = drops (turns_entry was entry_put) (others_than_holder apart k unwritten) refl h r

@@ -4,14 +4,15 @@
 --     HasWholeTables        the bitmaps and the inode table are whole sectors
 --     bit, free_sectors        a bit of a bitmap; how many data sectors are free
 --     stored, inode_at        an inode's bytes, and the inode
---     pointer, Part, part, Owns        the sectors that an inode owns, each by its role
+--     levels, number_on, pointer        the numbers of an inode's sectors, level by level, and those of its blocks
+--     Part, part, Owns        the sectors that an inode owns, each by its role
 --     HasPointers, block_number        the indirect sector at hand, and the sector of a block by it
---     byte_at, Holds, HasNoHole        the bytes that an inode holds
-use Rattle.std.specs.Prelude.{◌≡◌, ◌≢◌, ℕ, zero, suc, ◌+◌, ◌-◌, ◌*◌, ◌/◌, ◌%◌, ◌<◌, ◌≤◌, Bool, not, nat_eq, nat_lt, List, get_or, length, count_by, if◌then◌else◌, Result, Ok, Err}
+--     byte_at, IsTrimmed, Holds, HasNoHole        the bytes that an inode holds
+use Rattle.std.specs.Prelude.{◌≡◌, ◌≢◌, ℕ, zero, suc, ◌+◌, ◌-◌, ◌*◌, ◌/◌, ◌%◌, ◌<◌, ◌≤◌, Bool, not, nat_eq, nat_lt, List, [], ◌∷◌, get_or, drop, length, count_by, if◌then◌else◌, Result, Ok, Err}
 use Rattle.std.specs.Int.{bit_at}
 use Rattle.std.specs.List.{range_with_len}
 use Rattle.fs_layout.specs.declared.inode.Inode.{Inode}
-use Rattle.fs_layout.specs.declared.inode.TheConstants.{INODE_SIZE, DIRECT_BLOCKS, INDIRECT_END, DIRECT_SIZE}
+use Rattle.fs_layout.specs.declared.inode.TheConstants.{INODE_SIZE, DIRECT_BLOCKS, INDIRECT_END, SECTOR_POINTERS}
 use Rattle.fs_layout.specs.declared.fault.LayoutFault.{LayoutFault}
 use Rattle.fs_layout.specs.declared.place.Place.{Place}
 use Rattle.fs_layout.specs.declared.place.TheConstants.{INODE_BITMAP, BLOCK_BITMAP, SECTOR_BITS}
@@ -58,16 +59,58 @@ inode_or_free (Err e) = free_inode
 unfoldable pub inode_at : Place → SectorMap → ℕ → Inode
 inode_at p image n = inode_or_free (inode_of (stored p image n))
 
--- number k of a sector of numbers; 0 where there is no such sector
+-- ---- the numbers of an inode's sectors, level by level
+-- Level 0 are the sectors of its blocks. Each level above are the sectors of pointers that have the numbers of the level
+-- below, SECTOR_POINTERS in each. The first numbers of a level stand in the inode itself.
+
+-- number i of a sector of numbers; 0 where there is no such sector
 abbrev pub pointer_in : SectorMap → ℕ → ℕ → ℕ
-pointer_in image zero k = 0
-pointer_in image (suc s) k = u32_of (image (suc s)) (4 * k)
+pointer_in image zero i = 0
+pointer_in image (suc s) i = u32_of (image (suc s)) (4 * i)
+
+-- how many numbers of a level stand in the inode
+abbrev pub own_count : ℕ → ℕ
+own_count zero = DIRECT_BLOCKS
+own_count (suc level) = 1
+
+-- so many they are on this level, and these
+pub record Level : Type 0 where
+  pub count : ℕ
+  pub number : ℕ → ℕ
+
+-- the levels of an inode
+abbrev pub levels : Inode → List Level
+levels v =
+    record { count = own_count 0; number = λ k. get_or v.direct k 0 }
+    ∷ record { count = own_count 1; number = λ i. v.indirect }
+    ∷ []
+
+-- where the other numbers stand, by how many stand in the inode: number i in this sector of the level above, at this place
+abbrev pub holder : ℕ → ℕ → ℕ
+holder count i = (i - count) / SECTOR_POINTERS
+
+abbrev pub place_in_holder : ℕ → ℕ → ℕ
+place_in_holder count i = (i - count) % SECTOR_POINTERS
+
+-- number i of the lowest of these levels; 0 where there is none
+abbrev pub number_at : SectorMap → List Level → ℕ → ℕ
+number_at image [] i = 0
+number_at image (l ∷ above) i =
+    if nat_lt i l.count then l.number i else
+    pointer_in image (number_at image above (holder l.count i)) (place_in_holder l.count i)
+
+-- number i of a level of an inode; 0 where there is none
+unfoldable pub number_on : SectorMap → Inode → ℕ → ℕ → ℕ
+number_on image v level i = number_at image (drop level (levels v)) i
 
 -- the sector of block k of an inode; 0 for a hole
-unfoldable pub pointer : SectorMap → Inode → ℕ → ℕ
-pointer image v k =
-    if nat_lt k DIRECT_BLOCKS then get_or v.direct k 0 else
-    (if nat_lt k INDIRECT_END then pointer_in image v.indirect (k - DIRECT_BLOCKS) else 0)
+abbrev pub pointer : SectorMap → Inode → ℕ → ℕ
+pointer image v k = number_on image v 0 k
+
+-- the first block whose number is found by number i of a level
+abbrev pub first_block : ℕ → ℕ → ℕ
+first_block zero i = i
+first_block (suc level) i = first_block level (own_count level + SECTOR_POINTERS * i)
 
 -- the content of an inode's indirect sector; zeros where it has none
 pub record HasPointers (image : SectorMap) (v : Inode) (pointers : List ℕ) : Type 0 where
@@ -83,20 +126,23 @@ block_number v pointers k =
 -- what an inode may own a sector for
 pub data Part : Type 0 where
   AccessAcl DefaultAcl : Part
-  -- the sector of the pointers to the blocks from `DIRECT_BLOCKS` on
-  Indirect : Part
-  -- kept for larger files
-  DoubleIndirect : Part
-  Block : ℕ → Part
+  -- number i of a level
+  OnLevel : ℕ → ℕ → Part
   deriving Discrete as Part-discrete
+
+-- block k
+abbrev pub Block : ℕ → Part
+Block k = OnLevel 0 k
+
+-- the sector of the pointers to the blocks from `DIRECT_BLOCKS` on
+abbrev pub Indirect : Part
+Indirect = OnLevel 1 0
 
 -- the sector that an inode has for this; 0 where it has none
 unfoldable pub part : SectorMap → Inode → Part → ℕ
 part image v AccessAcl = v.acl
 part image v DefaultAcl = v.default_acl
-part image v Indirect = v.indirect
-part image v DoubleIndirect = 0
-part image v (Block k) = pointer image v k
+part image v (OnLevel level i) = number_on image v level i
 
 -- the inode owns sector s
 pub record Owns (image : SectorMap) (v : Inode) (s : ℕ) : Type 0 where
@@ -113,13 +159,16 @@ byte_in image (suc s) i = get_or (image (suc s)) i 0
 unfoldable pub byte_at : SectorMap → Inode → ℕ → ℕ
 byte_at image v i = byte_in image (pointer image v (i / 512)) (i % 512)
 
--- These bytes are what a file, a directory or a link holds. Past its size it has no blocks, and the rest of its last
+-- past its size an inode has no block, and no sector of pointers by which only such blocks are found
+abbrev pub IsTrimmed : SectorMap → Inode → Type 0
+IsTrimmed image v = (level i : ℕ) → v.size ≤ 512 * first_block level i → number_on image v level i ≡ 0
+
+-- These bytes are what a file, a directory or a link holds. The inode has no sector past them, and the rest of its last
 -- block is zero.
 pub record Holds (image : SectorMap) (v : Inode) (bytes : List ℕ) : Type 0 where
   pub size : v.size ≡ length bytes
   pub byte : (i : ℕ) → byte_at image v i ≡ get_or bytes i 0
-  pub trim : (k : ℕ) → v.size ≤ 512 * k → pointer image v k ≡ 0
-  pub trim_pointers : v.size ≤ DIRECT_SIZE → v.indirect ≡ 0
+  pub trim : IsTrimmed image v
 
 -- each block within the size has a sector
 abbrev pub HasNoHole : SectorMap → Inode → Type 0

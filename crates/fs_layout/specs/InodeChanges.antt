@@ -1,6 +1,6 @@
 -- What changing one inode may touch.
 --     Keeps, Puts        sectors that are the same, and one that is written
---     PutsEntry, ReplacesBlock        a pointer is written into the sector of pointers; bytes with another block
+--     PutsEntry, ReplacesBlock        a number is written into the sector of pointers that has it; bytes with another block
 --     Turns, Gains, Loses        what an inode has for one thing changes
 --     MarksSector, MarksInode, Allocates, Frees        one bit of a bitmap is written; a sector is taken by it, or released
 --     IsOwnedApart        what an inode owns is in the data, has its bit set, and serves one thing
@@ -8,14 +8,14 @@
 --     ChangesOwned, ChangesBlocks        what one inode owns changes, and the block bitmap with it
 --     Saves        an inode is written into the table
 --     ChangesInode        both: one inode changes, with what it owns
-use Rattle.std.specs.Prelude.{◌≡◌, ◌≢◌, ℕ, ◌+◌, ◌-◌, ◌*◌, ◌/◌, ◌%◌, ◌^◌, ◌<◌, ◌≤◌, false, Ok, IsTrue, List, length, get_or, set, ◌⊎◌}
+use Rattle.std.specs.Prelude.{◌≡◌, ◌≢◌, ℕ, suc, ◌+◌, ◌*◌, ◌/◌, ◌%◌, ◌^◌, ◌<◌, ◌≤◌, false, Ok, IsTrue, List, length, get_or, set, ◌⊎◌}
 use Rattle.fs_layout.specs.declared.inode.Inode.{Inode}
-use Rattle.fs_layout.specs.declared.inode.TheConstants.{INODE_SIZE, DIRECT_BLOCKS, INDIRECT_END}
+use Rattle.fs_layout.specs.declared.inode.TheConstants.{INODE_SIZE}
 use Rattle.fs_layout.specs.declared.place.Place.{Place}
 use Rattle.fs_layout.specs.declared.place.TheConstants.{SECTOR_BITS}
 use Rattle.fs_layout.specs.Bytes.{SectorMap, IsSector, splice, le32}
 use Rattle.fs_layout.specs.Inode.{inode_bytes, inode_of}
-use Rattle.fs_layout.specs.Images.{HasWholeTables, Part, part, map_bits, bit, inode_bitmap, block_bitmap, stored, inode_at, Owns}
+use Rattle.fs_layout.specs.Images.{HasWholeTables, own_count, holder, place_in_holder, number_on, Part, part, map_bits, bit, inode_bitmap, block_bitmap, stored, inode_at, Owns}
 
 -- the sectors that the inode owns in old are the same in new
 abbrev pub Keeps : SectorMap → SectorMap → Inode → Type 0
@@ -26,13 +26,13 @@ pub record Puts (s : ℕ) (x : List ℕ) (old new : SectorMap) : Type 0 where
   pub here : new s ≡ x
   pub others : (t : ℕ) → t ≢ s → new t ≡ old t
 
--- in the sector of pointers y is written for block k, and nothing else differs
-pub record PutsEntry (v : Inode) (k y : ℕ) (old new : SectorMap) : Type 0 where
-  pub from : DIRECT_BLOCKS ≤ k
-  pub to : k < INDIRECT_END
-  pub some : v.indirect ≢ 0
+-- in the sector of pointers that has it, number i of a level is written as y, and nothing else differs
+pub record PutsEntry (v : Inode) (level i y : ℕ) (old new : SectorMap) : Type 0 where
+  pub from : own_count level ≤ i
+  pub some : number_on old v (suc level) (holder (own_count level) i) ≢ 0
   pub fits : y < 2 ^ 32
-  pub put : Puts v.indirect (splice (old v.indirect) (4 * (k - DIRECT_BLOCKS)) (le32 y)) old new
+  pub put : let s = number_on old v (suc level) (holder (own_count level) i) in
+      Puts s (splice (old s) (4 * place_in_holder (own_count level) i) (le32 y)) old new
 
 -- block k of bytes is x, which is zero where there are no bytes
 abbrev pub IsBlockOf : List ℕ → ℕ → List ℕ → Type 0

@@ -13,7 +13,7 @@ use Rattle.fs_layout.specs.Bytes.{IsBytes, SectorMap, le16, le32, zeros}
 use Rattle.fs_layout.specs.Inode.{free_inode}
 use Rattle.fs_layout.specs.AclSector.{entries_bytes, acl_content}
 use Rattle.fs_layout.specs.Images.{pointer, byte_in, byte_at, Holds, HasNoHole}
-use Rattle.fs_layout.proofs.Pointers.{pointer_direct, pointer_without}
+use Rattle.fs_layout.proofs.Pointers.{pointer_direct, pointer_without, trims}
 use Rattle.fs_layout.proofs.SplicedBytes.{get_or-zeros}
 use Rattle.fs_model.specs.Nodes.{File, Dir, Link, Directory}
 use Rattle.fs_layout.specs.Directories.{HaveDistinctNames, slots_bytes, names_of_slots, NamedInode, FitsSlot}
@@ -75,8 +75,7 @@ module _ (image : SectorMap) (v : Inode) (s : ℕ) (bytes : List ℕ) (h : HasOn
   one_block_holds = record {
     size = h.size;
     byte = byte;
-    trim = trim;
-    trim_pointers = λ le. h.indirect;
+    trim = trims image v trim (λ le. h.indirect);
   }
     where
       trim : (k : ℕ) → v.size ≤ 512 * k → pointer image v k ≡ 0

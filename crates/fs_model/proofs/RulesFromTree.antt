@@ -41,7 +41,6 @@ free_laid_out m =
     let h = holds_nothing m free_inode free_has_no_sector refl in
     record {
       trim = h.trim;
-      trim_pointers = h.trim_pointers;
       rest = λ i le. h.byte i;
       whole = λ ne k lt. absurd (omega (arith, lt));
       target = λ e. absurd (let c : kinds.Free ≡ kinds.Link = e in cc);
@@ -51,7 +50,6 @@ laid_out_if : (m : SectorMap) (v : Inode) (bytes : List ℕ) → Holds m v bytes
     → (v.kind ≡ kinds.Link → IsTarget bytes) → IsLaidOut m v
 laid_out_if m v bytes h whole target = record {
   trim = h.trim;
-  trim_pointers = h.trim_pointers;
   rest = λ i le. let size = h.size in h.byte i ∙ get_or_past bytes i 0 (omega (arith, le, size));
   whole = whole;
   target = λ e i lt zero.

@@ -15,11 +15,13 @@ use Rattle.fs_layout.specs.declared.place.Place.{Place}
 use Rattle.fs_layout.specs.Bytes.{SectorMap}
 use Rattle.fs_layout.specs.Inode.{free_inode}
 use Rattle.fs_layout.specs.Ownership.{IsOwned}
-use Rattle.fs_layout.specs.Images.{IsData, bit, block_bitmap, pointer, Part, AccessAcl, DefaultAcl, Indirect, DoubleIndirect, Block, part, Owns, Holds, inode_at, free_sectors}
+use Rattle.fs_layout.specs.Images.{IsData, bit, block_bitmap, number_on, pointer, Part, AccessAcl, DefaultAcl, OnLevel, part, Owns, Holds, inode_at, free_sectors}
 use Rattle.fs_layout.specs.Recovered.{recovered}
 use Rattle.fs_layout.proofs.Bits.{has_bit, set_or_clear}
 use Rattle.fs_layout.proofs.Free.{HasNoSector, owns_nothing, free_has_no_sector}
 use Rattle.fs_layout.proofs.ImageSlots.{length-slots}
+use Rattle.fs_layout.proofs.Parts.{number_on_indirect}
+use Rattle.fs_layout.proofs.Pointers.{number_on_past, no_number_on, trimmed_indirect}
 use Rattle.fs_layout.proofs.SlotNames.{length-names}
 use Rattle.fs_model.specs.Limits.{target_limit}
 use Rattle.fs_model.specs.Nodes.{Node, Body, File, Dir, Link, target_in, sectors_for, sectors_of}
@@ -131,26 +133,35 @@ default_is_there image s (Some a) h some = refl
 
 module _ (image : SectorMap) (v : Inode) where
   -- of a file or a directory of so many bytes: a block, or the sector of pointers
-  in_bytes : (size : ℕ) (bytes : List ℕ) → Holds image v bytes → length bytes ≡ size → (at : Part) → (at ≡ Indirect) ⊎ ((k : ℕ) × (at ≡ Block k))
-      → part image v at ≢ 0 → Names (content image v size) (part image v at)
-  unfolding part
-  in_bytes size bytes h len at (inl e) some =
-      subst (λ a. Names (content image v size) (part image v a)) (sym e)
-      (pointers_in_content image v size (λ le. h.trim_pointers (omega (arith, h.size, len, le))) (λ none. some (ap (part image v) e ∙ none)))
-  in_bytes size bytes h len at (inr (k, e)) some =
-      subst (λ a. Names (content image v size) (part image v a)) (sym e)
-      (in_content image v size k (λ le. h.trim k (omega (arith, h.size, len, le))) (λ none. some (ap (part image v) e ∙ none)))
+  in_bytes : (size : ℕ) (bytes : List ℕ) → Holds image v bytes → length bytes ≡ size → (level i : ℕ) → number_on image v level i ≢ 0
+      → Names (content image v size) (number_on image v level i)
+  in_bytes size bytes h len zero k some = in_content image v size k (λ le. h.trim 0 k (omega (arith, h.size, len, le))) some
+  in_bytes size bytes h len (suc zero) i some = elim (cases_eq i 0) [
+    | inl e ↦
+        let is : number_on image v 1 i ≡ v.indirect = ap (number_on image v 1) e ∙ number_on_indirect image v in
+        subst (Names (content image v size)) (sym is)
+        (pointers_in_content image v size (λ le. trimmed_indirect image v h.trim (omega (arith, h.size, len, le))) (λ none. some (is ∙ none)))
+    | inr ne ↦ absurd (some (number_on_past image v i (omega (arith, ne))))
+  ]
+  in_bytes size bytes h len (suc (suc level)) i some = absurd (some (no_number_on image v level i))
+
+  -- of a link block 0
+  in_link : (bytes : List ℕ) → Holds image v bytes → length bytes ≤ 512 → (level i : ℕ) → number_on image v level i ≢ 0
+      → Names (pointer image v 0 ∷ []) (number_on image v level i)
+  in_link bytes h short zero k some = elim (cases_eq k 0) [
+    | inl e ↦ inl (ap (pointer image v) e)
+    | inr ne ↦ absurd (some (h.trim 0 k (let size = h.size in omega (arith, size, short, ne))))
+  ]
+  in_link bytes h short (suc zero) i some = absurd (some (h.trim 1 i (let size = h.size in omega (arith, size, short))))
+  in_link bytes h short (suc (suc level)) i some = absurd (some (no_number_on image v level i))
 
   part_taken : (b : Body) → HoldsBody image v b → length (target_in b) ≤ target_limit → (at : Part) → part image v at ≢ 0 → Names (taken image v b) (part image v at)
   unfolding part
   part_taken (File a bytes) h short AccessAcl some =
       in_second (content image v (length bytes)) (only (is_extended a) v.acl) v.acl (in_only (is_extended a) v.acl (acl_is_extended image v.acl a h.has_acl some))
   part_taken (File a bytes) h short DefaultAcl some = absurd (some h.no_default)
-  part_taken (File a bytes) h short Indirect some =
-      in_first (content image v (length bytes)) (only (is_extended a) v.acl) v.indirect (in_bytes (length bytes) bytes h.holds refl Indirect (inl refl) some)
-  part_taken (File a bytes) h short DoubleIndirect some = absurd (some refl)
-  part_taken (File a bytes) h short (Block k) some =
-      in_first (content image v (length bytes)) (only (is_extended a) v.acl) (pointer image v k) (in_bytes (length bytes) bytes h.holds refl (Block k) (inr (k, refl)) some)
+  part_taken (File a bytes) h short (OnLevel level i) some =
+      in_first (content image v (length bytes)) (only (is_extended a) v.acl) (number_on image v level i) (in_bytes (length bytes) bytes h.holds refl level i some)
   part_taken (Dir a d) h short at some = in_directory at some
     where
       len : length (slots_bytes h.names.slots) ≡ SLOT_SIZE * length d.names
@@ -166,21 +177,13 @@ module _ (image : SectorMap) (v : Inode) where
       in_directory DefaultAcl some =
           in_second (bytes ++ only (is_extended a) v.acl) (only (is_some d.default) v.default_acl) v.default_acl
           (in_only (is_some d.default) v.default_acl (default_is_there image v.default_acl d.default h.has_default some))
-      in_directory Indirect some =
-          in_first (bytes ++ only (is_extended a) v.acl) (only (is_some d.default) v.default_acl) v.indirect
-          (in_first bytes (only (is_extended a) v.acl) v.indirect (in_bytes (SLOT_SIZE * length d.names) (slots_bytes h.names.slots) h.names.holds len Indirect (inl refl) some))
-      in_directory DoubleIndirect some = absurd (some refl)
-      in_directory (Block k) some =
-          in_first (bytes ++ only (is_extended a) v.acl) (only (is_some d.default) v.default_acl) (pointer image v k)
-          (in_first bytes (only (is_extended a) v.acl) (pointer image v k) (in_bytes (SLOT_SIZE * length d.names) (slots_bytes h.names.slots) h.names.holds len (Block k) (inr (k, refl)) some))
+      in_directory (OnLevel level i) some =
+          in_first (bytes ++ only (is_extended a) v.acl) (only (is_some d.default) v.default_acl) (number_on image v level i)
+          (in_first bytes (only (is_extended a) v.acl) (number_on image v level i)
+          (in_bytes (SLOT_SIZE * length d.names) (slots_bytes h.names.slots) h.names.holds len level i some))
   part_taken (Link target) h short AccessAcl some = absurd (some h.no_acl)
   part_taken (Link target) h short DefaultAcl some = absurd (some h.no_default)
-  part_taken (Link target) h short Indirect some = absurd (some (h.holds.trim_pointers (let size = h.holds.size in omega (arith, size, short))))
-  part_taken (Link target) h short DoubleIndirect some = absurd (some refl)
-  part_taken (Link target) h short (Block k) some = elim (cases_eq k 0) [
-    | inl e ↦ inl (ap (pointer image v) e)
-    | inr ne ↦ absurd (some (h.holds.trim k (let size = h.holds.size in omega (arith, size, short, ne))))
-  ]
+  part_taken (Link target) h short (OnLevel level i) some = in_link target h.holds short level i some
 
   owned_is_taken : (b : Body) (s : ℕ) → HoldsBody image v b → length (target_in b) ≤ target_limit → Owns image v s → Names (taken image v b) s
   owned_is_taken b s h short o = subst (Names (taken image v b)) o.is (part_taken b h short o.at (λ none. o.some (sym o.is ∙ none)))

@@ -9,7 +9,6 @@
 use Rattle.std.specs.Prelude.{◌≡◌, ◌≢◌, ℕ, ◌*◌, ◌%◌, ◌<◌, ◌≤◌, ◌==◌, nat_eq, nat_lt, nat_le, Bool, true, false, not, ◌||◌, List, if◌then◌else◌, Some, Ok, IsTrue, count_by, sum_by, ◌⊎◌, ◌↔◌}
 use Rattle.std.specs.List.{range_with_len}
 use Rattle.posix_acl.specs.AccessList.{AccessList, IsAcl, is_extended, list_numbers, mode_bits}
-use Rattle.fs_layout.specs.declared.inode.TheConstants.{DIRECT_SIZE}
 use Rattle.fs_layout.specs.declared.superblock.Super.{Super}
 use Rattle.fs_layout.specs.declared.inode.Kind.{Kind}
 use Rattle.fs_layout.specs.declared.inode.Kind.TheVariants as kinds
@@ -23,7 +22,7 @@ use Rattle.fs_layout.specs.Inode.{inode_of}
 use Rattle.fs_layout.specs.AclSector.{acl_sector_of}
 use Rattle.fs_layout.specs.Directories.{slot_count, stored_slot, slot_at, slot_of}
 use Rattle.fs_layout.specs.Place.{place_in}
-use Rattle.fs_layout.specs.Images.{bit, inode_bitmap, block_bitmap, map_bits, IsData, stored, inode_at, pointer, Owns, byte_at, HasNoHole}
+use Rattle.fs_layout.specs.Images.{bit, inode_bitmap, block_bitmap, map_bits, IsData, stored, inode_at, Owns, byte_at, IsTrimmed, HasNoHole}
 use Rattle.fs_layout.specs.Ownership.{IsOwned}
 use Rattle.fs_layout.specs.Recovered.{recovered}
 use Rattle.fs_model.specs.Limits.{root, names_limit}
@@ -89,11 +88,10 @@ IsOwnedOnce p m s =
 abbrev pub IsBlockBit : Place → SectorMap → ℕ → Type 0
 IsBlockBit p m s = IsTrue (bit m block_bitmap s) ↔ ((s < p.first_data) ⊎ ((p.sectors ≤ s) ⊎ IsOwned p m s))
 
--- Rule 8. Past the size there is no block, no sector of pointers that serves none but such blocks, and no byte but zeros;
+-- Rule 8. Past the size there is no block, no sector of pointers by which only such blocks are found, and no byte but zeros;
 -- only files have holes; no byte of a link's target is zero.
 pub record IsLaidOut (m : SectorMap) (v : Inode) : Type 0 where
-  pub trim : (k : ℕ) → v.size ≤ 512 * k → pointer m v k ≡ 0
-  pub trim_pointers : v.size ≤ DIRECT_SIZE → v.indirect ≡ 0
+  pub trim : IsTrimmed m v
   pub rest : (i : ℕ) → v.size ≤ i → byte_at m v i ≡ 0
   pub whole : v.kind ≢ kinds.File → HasNoHole m v
   pub target : v.kind ≡ kinds.Link → (i : ℕ) → i < v.size → byte_at m v i ≢ 0

@@ -5,7 +5,7 @@ use Rattle.fs_layout.specs.declared.inode.Inode.{Inode}
 use Rattle.fs_layout.specs.declared.place.Place.{Place}
 use Rattle.fs_layout.specs.Inode.{FitsInode}
 use Rattle.fs_layout.specs.AclSector.{kept_acl}
-use Rattle.fs_layout.specs.Images.{AccessAcl, DefaultAcl, part, bit, inode_at, inode_bitmap}
+use Rattle.fs_layout.specs.Images.{levels, AccessAcl, DefaultAcl, part, bit, inode_at, inode_bitmap}
 use Rattle.fs_layout.specs.InodeChanges.{Saves}
 use Rattle.fs_layout.proofs.Consistent.{owned_is_apart}
 use Rattle.fs_layout.proofs.OneAcl.{mode_small}
@@ -62,24 +62,21 @@ module _ (p : Place) (n : ℕ) (inode : Inode) (a : AccessList) (y : ℕ) (t0 t1
   access_turned =
       let v = inode_at p t0.sectors n in
       subst (λ (k : ℕ). HasStored p v (record v { acl = y }) AccessAcl k t0.sectors t1.sectors) (takes_same inode.acl (kept_acl a))
-      (stored {x = inode.acl} sound.consistent.place sound.consistent.sectors (owned_is_apart sound.consistent n lt) (sym was) {y = y} (contents (kept_acl a)) (λ e. cc)
+      (stored {x = inode.acl} sound.consistent.place sound.consistent.sectors (owned_is_apart sound.consistent n lt) (sym was) {y = y} (contents (kept_acl a)) (λ n i e. cc)
       (contents_whole (kept_acl a) (kept_valid a valid)) way (λ keeps. turns_acl t0.sectors t1.sectors v inode.acl y (sym was) keeps))
 
   default_is : inode.default_acl ≡ (inode_at p t0.sectors n).default_acl
   default_is = ap (λ (u : Inode). u.default_acl) attributes
 
-  direct_is : inode.direct ≡ (inode_at p t0.sectors n).direct
-  direct_is = ap (λ (u : Inode). u.direct) attributes
-
-  indirect_is : inode.indirect ≡ (inode_at p t0.sectors n).indirect
-  indirect_is = ap (λ (u : Inode). u.indirect) attributes
+  numbers_are : levels inode ≡ levels (inode_at p t0.sectors n)
+  numbers_are = ap levels attributes
 
   access_saved : IsAclSaved p n (inode_at p t0.sectors n) (record inode { mode = with_low_bits inode.mode (mode_bits a); acl = y })
       (acl_takes inode.acl (kept_acl a)) t0 t1 t2
   access_saved =
       let v = inode_at p t0.sectors n in
       acl_saved p n (record v { acl = y }) (record inode { mode = with_low_bits inode.mode (mode_bits a); acl = y }) AccessAcl (acl_takes inode.acl (kept_acl a)) t0 t1 t2
-      sound lt access_turned refl default_is direct_is indirect_is fits saves (λ k e. cc) refl refl (ap (λ (u : Inode). u.size) attributes)
+      sound lt access_turned refl default_is numbers_are fits saves (λ m i e. cc) (λ k e. cc) refl (ap (λ (u : Inode). u.size) attributes)
 
   access_sound : SameStore t0 t2 → IsSound p t2
   access_sound = access_saved.sound
@@ -160,7 +157,7 @@ module _ (p : Place) (n : ℕ) (inode : Inode) (a : Option AccessList) (y : ℕ)
       let v = inode_at p t0.sectors n in
       subst (λ (k : ℕ). HasStored p v (record v { default_acl = y }) DefaultAcl k t0.sectors t1.sectors) (takes_same inode.default_acl a)
       (stored {x = inode.default_acl} sound.consistent.place sound.consistent.sectors (owned_is_apart sound.consistent n lt) (sym was_default) {y = y} (contents a)
-      (λ e. cc) (contents_whole a valid) way (λ keeps. turns_default_acl t0.sectors t1.sectors v inode.default_acl y (sym was_default) keeps))
+      (λ n i e. cc) (contents_whole a valid) way (λ keeps. turns_default_acl t0.sectors t1.sectors v inode.default_acl y (sym was_default) keeps))
 
   access_is : inode.acl ≡ (inode_at p t0.sectors n).acl
   access_is = ap (λ (u : Inode). u.acl) attributes
@@ -169,8 +166,8 @@ module _ (p : Place) (n : ℕ) (inode : Inode) (a : Option AccessList) (y : ℕ)
   default_saved =
       let v = inode_at p t0.sectors n in
       acl_saved p n (record v { default_acl = y }) (record inode { default_acl = y }) DefaultAcl (acl_takes inode.default_acl a) t0 t1 t2 sound lt default_turned
-      access_is refl (ap (λ (u : Inode). u.direct) attributes) (ap (λ (u : Inode). u.indirect) attributes) fits saves
-      (λ k e. cc) refl refl (ap (λ (u : Inode). u.size) attributes)
+      access_is refl (ap levels attributes) fits saves
+      (λ m i e. cc) (λ k e. cc) refl (ap (λ (u : Inode). u.size) attributes)
 
   default_sound : SameStore t0 t2 → IsSound p t2
   default_sound = default_saved.sound

@@ -4,12 +4,13 @@ use Rattle.fs_layout.specs.declared.inode.Inode.{Inode}
 use Rattle.fs_layout.specs.declared.place.Place.{Place}
 use Rattle.fs_layout.specs.Bytes.{SectorMap}
 use Rattle.fs_layout.specs.Inode.{FitsInode}
-use Rattle.fs_layout.specs.Images.{Part, Block, bit, inode_at, inode_bitmap}
+use Rattle.fs_layout.specs.Images.{levels, Part, Block, bit, inode_at, inode_bitmap}
 use Rattle.fs_layout.specs.Ownership.{IsConsistent}
 use Rattle.fs_layout.specs.InodeChanges.{Keeps, ChangesBlocks, Saves}
 use Rattle.fs_layout.proofs.Blocks.{fields_change}
 use Rattle.fs_layout.proofs.Composes.{apart_after, both_changes}
 use Rattle.fs_layout.proofs.Consistent.{owned_is_apart, saved_stays_consistent}
+use Rattle.fs_layout.proofs.Parts.{HasNoPointers}
 use Rattle.fs_layout.proofs.Places.{after_map}
 use Rattle.fs_layout.proofs.Saves.{IsSaved}
 use Rattle.sector_txn.specs.Sectors.{TxnState, SameStore, PutsOnly}
@@ -37,23 +38,23 @@ pub record IsAclSaved (p : Place) (n : ℕ) (v w : Inode) (taken : ℕ) (t0 t1 t
 -- The sector is stored, which leaves u, and w is saved, which has the same sectors.
 module _ (p : Place) (n : ℕ) (u w : Inode) (at : Part) (taken : ℕ) (t0 t1 t2 : TxnState)
     (sound : IsSound p t0) (lt : n < p.inodes) (st : HasStored p (inode_at p t0.sectors n) u at taken t0.sectors t1.sectors)
-    (acl : w.acl ≡ u.acl) (default_acl : w.default_acl ≡ u.default_acl) (direct : w.direct ≡ u.direct) (indirect : w.indirect ≡ u.indirect)
+    (acl : w.acl ≡ u.acl) (default_acl : w.default_acl ≡ u.default_acl) (numbers : levels w ≡ levels u)
     (fits : FitsInode w) (saves : Saves p n w t1.sectors t2.sectors) where
   changes : ChangesBlocks p (inode_at p t0.sectors n) w t0.sectors t1.sectors
   changes =
       let h : IsConsistent p t0.sectors = sound.consistent in
       both_changes h.place st.changes (fields_change h.place st.changes.owned.sectors (apart_after h.place (owned_is_apart h n lt) st.changes.owned)
-      acl default_acl direct indirect)
+      acl default_acl numbers)
 
   saved : IsConsistent p t2.sectors × IsSaved p n w t0.sectors t1.sectors t2.sectors
   saved = saved_stays_consistent sound.consistent lt refl fits changes saves
 
-  pub acl_saved : ((k : ℕ) → Block k ≢ at) → u.size ≡ (inode_at p t0.sectors n).size → u.indirect ≡ (inode_at p t0.sectors n).indirect → w.size ≡ u.size
+  pub acl_saved : HasNoPointers at → ((k : ℕ) → Block k ≢ at) → u.size ≡ (inode_at p t0.sectors n).size → w.size ≡ u.size
       → IsAclSaved p n (inode_at p t0.sectors n) w taken t0 t1 t2
-  acl_saved none size pointers same =
+  acl_saved ne none size same =
       let few = sound.consistent.place.most_inodes in
       let from = after_map sound.consistent.place in
-      let mid = bytes_joined (stored_keeps_bytes st none size pointers) (fields_keep_bytes t1.sectors u w same direct indirect) in
+      let mid = bytes_joined (stored_keeps_bytes st ne none size) (fields_keep_bytes t1.sectors u w same numbers) in
       record {
         is = saved.1.is;
         keeps = saved.1.keeps;

@@ -15,7 +15,7 @@ use Rattle.fs_layout.proofs.Consistent.{owned_is_apart, stays_consistent, saved_
 use Rattle.fs_layout.proofs.Free.{HasNoSector, free_fits, free_has_no_sector, inode_fits_there, no_sector_changes}
 use Rattle.fs_layout.proofs.Marks.{marks_change}
 use Rattle.fs_layout.proofs.Places.{after_map}
-use Rattle.fs_layout.proofs.Pointers.{pointer_direct, turns_acl, turns_default_acl}
+use Rattle.fs_layout.proofs.Pointers.{pointer_direct, trimmed_indirect, turns_acl, turns_default_acl}
 use Rattle.fs_layout.proofs.Saves.{IsSaved}
 use Rattle.bit_alloc.proofs.Soundness.{free_kept}
 use Rattle.inode_table.specs.Storing.{GivesBack}
@@ -27,10 +27,10 @@ without_acls image v len h = record {
   acl = refl;
   default_acl = refl;
   direct = λ k. elim (cases_lt k DIRECT_BLOCKS) [
-    | inl lt ↦ sym (pointer_direct image v k lt) ∙ h.trim k (let z = h.size in omega (arith, z))
+    | inl lt ↦ sym (pointer_direct image v k lt) ∙ h.trim 0 k (let z = h.size in omega (arith, z))
     | inr ge ↦ get_or_past v.direct k 0 (omega (arith, len, ge))
   ];
-  indirect = h.trim_pointers (let z = h.size in omega (arith, z));
+  indirect = trimmed_indirect image v h.trim (let z = h.size in omega (arith, z));
 }
 
 module _ {p : Place} {n : ℕ} {m0 m1 m2 m3 m4 : SectorMap}
@@ -50,14 +50,14 @@ module _ {p : Place} {n : ℕ} {m0 m1 m2 m3 m4 : SectorMap}
   unfolding part
   second =
       let v = inode_at p m0 n in
-      stored {x = v.acl} h.place now.sectors apart refl {y = 0} None (λ e. cc) (λ c e. cc) (refl, access) (λ keeps. turns_acl m1 m2 v v.acl 0 refl keeps)
+      stored {x = v.acl} h.place now.sectors apart refl {y = 0} None (λ n i e. cc) (λ c e. cc) (refl, access) (λ keeps. turns_acl m1 m2 v v.acl 0 refl keeps)
 
   third : HasStored p (record (inode_at p m0 n) { acl = 0 }) (record (inode_at p m0 n) { acl = 0; default_acl = 0 }) DefaultAcl 0 m2 m3
   unfolding part
   third =
       let v = inode_at p m0 n in
       let between : Inode = record v { acl = 0 } in
-      stored {x = v.default_acl} h.place second.changes.owned.sectors (apart_after h.place apart second.changes.owned) refl {y = 0} None (λ e. cc) (λ c e. cc)
+      stored {x = v.default_acl} h.place second.changes.owned.sectors (apart_after h.place apart second.changes.owned) refl {y = 0} None (λ n i e. cc) (λ c e. cc)
       (refl, default) (λ keeps. turns_default_acl m2 m3 between v.default_acl 0 refl keeps)
 
   -- then it owns nothing, and neither does a free inode

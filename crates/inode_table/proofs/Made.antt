@@ -125,7 +125,7 @@ module _ (p : Place) (n : ℕ) (inode : Inode) (a : AccessList) (y : ℕ) (t0 t1
   unfolding part
   second =
       subst (λ (k : ℕ). HasStored p inode (record inode { acl = y }) AccessAcl k t1.sectors t2.sectors) (takes_same 0 (kept_acl a))
-      (stored {x = 0} now.place now.sectors apart blank.acl {y = y} (contents (kept_acl a)) (λ e. cc) (contents_whole (kept_acl a) (kept_valid a valid)) access
+      (stored {x = 0} now.place now.sectors apart blank.acl {y = y} (contents (kept_acl a)) (λ n i e. cc) (contents_whole (kept_acl a) (kept_valid a valid)) access
       (λ keeps. turns_acl t1.sectors t2.sectors inode 0 y blank.acl keeps))
 
   -- as many sectors are free as before, less that of the access ACL
@@ -140,14 +140,14 @@ module _ (p : Place) (n : ℕ) (inode : Inode) (a : AccessList) (y : ℕ) (t0 t1
     third =
         let u : Inode = record inode { acl = y } in
         subst (λ (k : ℕ). HasStored p u (record u { default_acl = z }) DefaultAcl k t2.sectors t3.sectors) (takes_same 0 d)
-        (stored {x = 0} now.place second.changes.owned.sectors (apart_after now.place apart second.changes.owned) blank.default {y = z} (contents d) (λ e. cc)
+        (stored {x = 0} now.place second.changes.owned.sectors (apart_after now.place apart second.changes.owned) blank.default {y = z} (contents d) (λ n i e. cc)
         (contents_whole d valid_default) default (λ keeps. turns_default_acl t2.sectors t3.sectors u 0 z blank.default keeps))
 
     changes : ChangesBlocks p free_inode (record inode { mode = with_low_bits inode.mode (mode_bits a); acl = y; default_acl = z }) t1.sectors t3.sectors
     changes =
         let both = both_changes now.place second.changes third.changes in
         both_changes now.place (both_changes now.place begun both)
-        (fields_change now.place third.changes.owned.sectors (apart_after now.place apart both.owned) refl refl refl refl)
+        (fields_change now.place third.changes.owned.sectors (apart_after now.place apart both.owned) refl refl refl)
 
     saved : IsConsistent p t4.sectors
         × IsSaved p n (record inode { mode = with_low_bits inode.mode (mode_bits a); acl = y; default_acl = z }) t1.sectors t3.sectors t4.sectors
@@ -185,8 +185,8 @@ module _ (p : Place) (n : ℕ) (inode : Inode) (a : AccessList) (y : ℕ) (t0 t1
     made_empty =
         let u : Inode = record inode { acl = y; default_acl = z } in
         let w : Inode = record inode { mode = with_low_bits inode.mode (mode_bits a); acl = y; default_acl = z } in
-        let acls : KeepsBytes t1.sectors t3.sectors inode u = bytes_joined (stored_keeps_bytes second (λ k e. cc) refl refl) (stored_keeps_bytes third (λ k e. cc) refl refl) in
-        let all = saved_keeps_bytes (bytes_joined acls (fields_keep_bytes t3.sectors u w refl refl refl)) saved.1.keeps in
+        let acls : KeepsBytes t1.sectors t3.sectors inode u = bytes_joined (stored_keeps_bytes second (λ n i e. cc) (λ k e. cc) refl) (stored_keeps_bytes third (λ n i e. cc) (λ k e. cc) refl) in
+        let all = saved_keeps_bytes (bytes_joined acls (fields_keep_bytes t3.sectors u w refl refl)) saved.1.keeps in
         subst (λ (v : Inode). Holds t4.sectors v []) (sym saved.1.is)
         (all.bytes [] (holds_nothing t1.sectors inode (blank_has_no_sector inode blank) blank.size))
 

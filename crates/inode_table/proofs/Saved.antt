@@ -1,18 +1,17 @@
 -- What an inode has once it is saved, after what it owns has changed or not.
-use Rattle.std.proofs.Common.{◌≡◌, ℕ, ◌+◌, ◌/◌, ◌<◌, [], refl, sym, ap, subst, ◌∙◌, arith}
+use Rattle.std.proofs.Common.{◌≡◌, ℕ, suc, ◌+◌, ◌/◌, ◌<◌, [], refl, sym, ap, subst, ◌∙◌, arith}
 use Rattle.fs_layout.specs.declared.inode.Inode.{Inode}
 use Rattle.fs_layout.specs.declared.place.Place.{Place}
 use Rattle.fs_layout.specs.Bytes.{SectorMap}
 use Rattle.fs_layout.specs.Inode.{FitsInode}
-use Rattle.fs_layout.specs.Images.{bit, inode_at, inode_bitmap}
+use Rattle.fs_layout.specs.Images.{bit, inode_at, inode_bitmap, levels}
 use Rattle.fs_layout.specs.Ownership.{IsConsistent}
 use Rattle.fs_layout.specs.InodeChanges.{Keeps, ChangesBlocks, Saves}
 use Rattle.fs_layout.proofs.Blocks.{fields_change}
 use Rattle.fs_layout.proofs.Consistent.{owned_is_apart, saved_stays_consistent}
-use Rattle.fs_layout.proofs.Held.{HasSameBlocks, Holds-again, HasNoHole-again}
-use Rattle.fs_layout.proofs.Parts.{owns_acl, owns_default_acl, Holds-kept, HasNoHole-kept}
+use Rattle.fs_layout.proofs.Held.{NeedsPointers, HasSameBlocks, Holds-again, HasNoHole-again}
+use Rattle.fs_layout.proofs.Parts.{number_on_alike, owns_acl, owns_default_acl, Holds-kept, HasNoHole-kept}
 use Rattle.fs_layout.proofs.Places.{after_map}
-use Rattle.fs_layout.proofs.Pointers.{pointer_alike}
 use Rattle.fs_layout.proofs.Saves.{IsSaved}
 use Rattle.sector_txn.specs.Sectors.{TxnState, SameStore, PutsOnly}
 use Rattle.bit_alloc.specs.Inodes.{IsSound, Touches, KeepsBytes, KeepsAccess, KeepsDefault, KeepsAcls}
@@ -21,17 +20,17 @@ use Rattle.inode_table.proofs.Sound.{sound_after, puts_inode}
 
 -- ---- before the save
 -- an inode with the same blocks holds the same
-pub same_blocks_keep_bytes : {old new : SectorMap} {v w : Inode} → HasSameBlocks old new v w → w.indirect ≡ v.indirect → KeepsBytes old new v w
+pub same_blocks_keep_bytes : {old new : SectorMap} {v w : Inode} → HasSameBlocks old new v w → NeedsPointers old new v w → KeepsBytes old new v w
 same_blocks_keep_bytes b pointers = record {
-  bytes = λ held h. Holds-again b (λ le. pointers ∙ h.trim_pointers le) h;
+  bytes = λ held h. Holds-again b pointers h;
   whole = HasNoHole-again b;
 }
 
 -- so does one with other fields
-pub fields_keep_bytes : (image : SectorMap) (v w : Inode) → w.size ≡ v.size → w.direct ≡ v.direct → w.indirect ≡ v.indirect → KeepsBytes image image v w
-fields_keep_bytes image v w size direct indirect =
-    let b : HasSameBlocks image image v w = record { pointers = pointer_alike image image v w direct indirect (λ some. refl); same = λ k has. refl; size = size } in
-    same_blocks_keep_bytes b indirect
+pub fields_keep_bytes : (image : SectorMap) (v w : Inode) → w.size ≡ v.size → levels w ≡ levels v → KeepsBytes image image v w
+fields_keep_bytes image v w size same =
+    let b : HasSameBlocks image image v w = record { pointers = number_on_alike image image v w same (λ n i some. refl) 0; same = λ k has. refl; size = size } in
+    same_blocks_keep_bytes b (λ level i le none. number_on_alike image image v w same (λ n j some. refl) (suc level) i ∙ none)
 
 -- ---- after it
 -- what the inode holds is not touched by it
@@ -63,7 +62,7 @@ module _ (p : Place) (n : ℕ) (w : Inode) (old new : TxnState)
       let h : IsConsistent p old.sectors = sound.consistent in
       fields_change h.place h.sectors (owned_is_apart h n lt)
       (ap (λ (u : Inode). u.acl) attributes) (ap (λ (u : Inode). u.default_acl) attributes)
-      (ap (λ (u : Inode). u.direct) attributes) (ap (λ (u : Inode). u.indirect) attributes)
+      (ap levels attributes)
 
   saved : IsConsistent p new.sectors × IsSaved p n w old.sectors old.sectors new.sectors
   saved = saved_stays_consistent sound.consistent lt refl fits owns_same saves
@@ -85,7 +84,7 @@ module _ (p : Place) (n : ℕ) (w : Inode) (old new : TxnState)
   pub attributes_keep_bytes : KeepsBytes old.sectors new.sectors (inode_at p old.sectors n) (inode_at p new.sectors n)
   attributes_keep_bytes =
       let same = fields_keep_bytes old.sectors (inode_at p old.sectors n) w (ap (λ (u : Inode). u.size) attributes)
-      (ap (λ (u : Inode). u.direct) attributes) (ap (λ (u : Inode). u.indirect) attributes) in
+      (ap levels attributes) in
       subst (λ (u : Inode). KeepsBytes old.sectors new.sectors (inode_at p old.sectors n) u) (sym saved.1.is) (saved_keeps_bytes same saved.1.keeps)
 
   pub attributes_keep_acls : KeepsAcls old.sectors new.sectors (inode_at p old.sectors n) (inode_at p new.sectors n)

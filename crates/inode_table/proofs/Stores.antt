@@ -1,12 +1,12 @@
 -- The sector that an inode has for an ACL comes, goes, is rewritten or stays: what the inode owns and holds then.
-use Rattle.std.proofs.Common.{◌≡◌, ◌≢◌, ℕ, ◌+◌, ◌<◌, ◌≤◌, List, Option, Some, None, refl, sym, ap, subst, ◌∙◌, arith, inl, inr}
+use Rattle.std.proofs.Common.{◌≡◌, ◌≢◌, ℕ, suc, ◌+◌, ◌<◌, ◌≤◌, List, Option, Some, None, refl, sym, ap, subst, ◌∙◌, arith, inl, inr}
 use Rattle.fs_layout.specs.declared.inode.Inode.{Inode}
 use Rattle.fs_layout.specs.declared.place.Place.{Place}
 use Rattle.fs_layout.specs.Bytes.{SectorMap, IsSector}
 use Rattle.fs_layout.specs.Place.{IsPlace}
-use Rattle.fs_layout.specs.Images.{HasWholeTables, Part, Indirect, Block, part, Owns, free_sectors}
+use Rattle.fs_layout.specs.Images.{HasWholeTables, number_on, Part, OnLevel, Block, part, Owns, free_sectors}
 use Rattle.fs_layout.specs.InodeChanges.{Puts, Turns, IsOwnedApart, Takes, ChangesBlocks}
-use Rattle.fs_layout.proofs.Parts.{KeepsPointers, pointers_kept, same_part_or_not}
+use Rattle.fs_layout.proofs.Parts.{KeepsPointers, HasNoPointers, pointers_kept, same_part_or_not}
 use Rattle.fs_layout.proofs.Places.{after_map, before_data}
 use Rattle.fs_layout.proofs.Blocks.{rewrites, rewrites_free_sectors, put_rewrites, pointers_apart, others_kept}
 use Rattle.fs_layout.proofs.Gains.{gains, gains_free_sectors}
@@ -50,7 +50,7 @@ module _ {p : Place} {v w : Inode} {at : Part} {x : ℕ} {old new : SectorMap}
       }
 
   -- the sector is written
-  rewritten : {content : List ℕ} → at ≢ Indirect → x ≢ 0 → IsSector content → Puts x content old new → Turns old new v w at x x → HasStored p v w at 0 old new
+  rewritten : {content : List ℕ} → HasNoPointers at → x ≢ 0 → IsSector content → Puts x content old new → Turns old new v w at x x → HasStored p v w at 0 old new
   rewritten ne some whole put t =
       let r = put_rewrites (record { at = at; is = was; some = some }) apart.whole whole put in
       record {
@@ -94,10 +94,10 @@ module _ {p : Place} {v w : Inode} {at : Part} {x : ℕ} {old new : SectorMap}
   more le h = record { changes = h.changes; others = h.others; turns = h.turns; low = h.low; free = let f = h.free in omega (arith, f, le) }
 
   -- in each of these ways the inode changes with what it owns
-  pub stored : {y : ℕ} (content : Option (List ℕ)) → at ≢ Indirect → ((c : List ℕ) → content ≡ Some c → IsSector c) → Stores p x y content old new
+  pub stored : {y : ℕ} (content : Option (List ℕ)) → HasNoPointers at → ((c : List ℕ) → content ≡ Some c → IsSector c) → Stores p x y content old new
       → (KeepsPointers old new v → Turns old new v w at x y) → HasStored p v w at (takes_for x content) old new
   stored {y} None ne whole (gone, inl (none, same)) turns =
-      stays same (subst (λ (k : ℕ). Turns old new v w at x k) (gone ∙ sym none) (turns (λ some. same v.indirect)))
+      stays same (subst (λ (k : ℕ). Turns old new v w at x k) (gone ∙ sym none) (turns (λ n i some. same (number_on old v (suc n) i))))
   stored {y} None ne whole (gone, inr (some, g)) turns =
       given some g (subst (λ (k : ℕ). Turns old new v w at x k) gone (turns (pointers_kept (marks_keeps place apart g.mark))))
   stored {y} (Some content) ne whole (inl (some, is, put)) turns =
@@ -120,11 +120,11 @@ content_there p x y old new place (Some content) (inr (none, (mid, k, put))) =
 
 -- the inode holds what it held
 pub stored_keeps_bytes : {p : Place} {v w : Inode} {at : Part} {taken : ℕ} {old new : SectorMap} → HasStored p v w at taken old new
-    → ((k : ℕ) → Block k ≢ at) → w.size ≡ v.size → w.indirect ≡ v.indirect → KeepsBytes old new v w
+    → HasNoPointers at → ((k : ℕ) → Block k ≢ at) → w.size ≡ v.size → KeepsBytes old new v w
 unfolding part
-stored_keeps_bytes {v = v} {old = old} h none size pointers =
+stored_keeps_bytes {v = v} {old = old} h ne none size =
     same_blocks_keep_bytes (record {
       pointers = λ k. h.turns (Block k) (none k);
       same = λ k some. h.others (part old v (Block k)) (record { at = Block k; is = refl; some = some }) (none k);
       size = size;
-    }) pointers
+    }) (λ level i le gone. h.turns (OnLevel (suc level) i) (λ e. ne level i (sym e)) ∙ gone)

@@ -3,7 +3,7 @@ use Rattle.fs_layout.specs.declared.inode.TheConstants.{MAX_BLOCKS}
 use Rattle.fs_layout.specs.Bytes.{zeros}
 use Rattle.fs_layout.proofs.Parts.{owns_indirect}
 use Rattle.bit_alloc.proofs.Transactions.{spare_unchanged}
-use Rattle.block_map.specs.Drops.{GivesBlocks}
+use Rattle.block_map.specs.Drops.{GivesNumbers}
 use Rattle.block_map.specs.Steps.{MayChange}
 use Rattle.block_map.proofs.Givings.{blocks_are_all, pointers_given, may_unchanged, given_after}
 use Rattle.block_map.proofs.Wrote.{may_within}
@@ -33,12 +33,12 @@ pub returns-in_ok-give-clause-given : goal.returns-in_ok-give-clause-given
 returns-in_ok-give-clause-given g c =
     given_after c.in_ok-load.ensures.same
     (pointers_given (may_unchanged c.requires.may c.in_ok-load.ensures.same).apart
-    (subst (λ v. GivesBlocks c.args.place v 0 MAX_BLOCKS (g.S.Sectors.state c.load.new.s) (g.S.Sectors.state c.give_blocks.new.s)) c.in_ok-load.ensures.inode c.in_ok-give_blocks.ensures.given)
+    (subst (λ v. GivesNumbers c.args.place v 0 0 MAX_BLOCKS (g.S.Sectors.state c.load.new.s) (g.S.Sectors.state c.give_blocks.new.s)) c.in_ok-load.ensures.inode c.in_ok-give_blocks.ensures.given)
     c.if-inode-ne0.true c.in_ok-give.ensures.given c.in_ok-give.ensures.bitmaps c.in_ok-give.ensures.puts)
 
 pub returns-else-inode-ne0-clause-given : goal.returns-else-inode-ne0-clause-given
 returns-else-inode-ne0-clause-given g c =
     given_after c.in_ok-load.ensures.same
     (blocks_are_all
-    (subst (λ v. GivesBlocks c.args.place v 0 MAX_BLOCKS (g.S.Sectors.state c.load.new.s) (g.S.Sectors.state c.give_blocks.new.s)) c.in_ok-load.ensures.inode c.in_ok-give_blocks.ensures.given)
+    (subst (λ v. GivesNumbers c.args.place v 0 0 MAX_BLOCKS (g.S.Sectors.state c.load.new.s) (g.S.Sectors.state c.give_blocks.new.s)) c.in_ok-load.ensures.inode c.in_ok-give_blocks.ensures.given)
     c.if-inode-ne0.false)

@@ -3,9 +3,9 @@ use Rattle.fs_layout.specs.declared.inode.TheConstants.{MAX_BLOCKS}
 use Rattle.fs_layout.specs.Images.{pointer}
 use Rattle.fs_layout.proofs.Bits.{has_bit}
 use Rattle.fs_layout.proofs.Parts.{owns_block}
-use Rattle.block_map.specs.Drops.{GivesBlocks}
+use Rattle.block_map.specs.Drops.{GivesNumbers}
 use Rattle.block_map.proofs.Numbers.{number_is}
-use Rattle.block_map.proofs.Givings.{none_given, hole_given, block_given, rest_given}
+use Rattle.block_map.proofs.Givings.{none_given, hole_given, number_given, rest_given}
 use Rattle.block_map.proofs.release.give_blocks.Goals as goal
 use Rattle.block_map.proofs.release.give_blocks.Goals.{then-number-ne0+in_ok-give, else-number-ne0}
 
@@ -25,11 +25,11 @@ loop-k-preserved g c =
         | then-number-ne0+in_ok-give w ↦
             let some : pointer old.sectors v k ≢ 0 = λ e. w.if-number-ne0.true (is ∙ e) in
             let few = has_bit c.requires.may.bitmaps.place (pointer old.sectors v k) (c.requires.may.apart.each (pointer old.sectors v k) (owns_block old.sectors v k some)).1 in
-            subst (λ s. GivesBlocks c.args.place v c.args.first (k + 1) old (g.S.Sectors.state s)) (sym w.s-is)
-            (block_given c.requires.may.apart c.loop-k.invariant.given c.loop-k.invariant.from (sym is) w.if-number-ne0.true (omega (arith, few, is)) w.in_ok-give.ensures.given
+            subst (λ s. GivesNumbers c.args.place v 0 c.args.first (k + 1) old (g.S.Sectors.state s)) (sym w.s-is)
+            (number_given c.requires.may.apart c.loop-k.invariant.given c.loop-k.invariant.from (sym is) w.if-number-ne0.true (omega (arith, few, is)) w.in_ok-give.ensures.given
             w.in_ok-give.ensures.bitmaps w.in_ok-give.ensures.puts)
         | else-number-ne0 w ↦
-            subst (λ s. GivesBlocks c.args.place v c.args.first (k + 1) old (g.S.Sectors.state s)) (sym w.s-is)
+            subst (λ s. GivesNumbers c.args.place v 0 c.args.first (k + 1) old (g.S.Sectors.state s)) (sym w.s-is)
             (hole_given c.loop-k.invariant.given (sym is ∙ w.if-number-ne0.false))
       ];
     }
