@@ -57,6 +57,13 @@ module _ {p : Place} {map : SectorMap} {desks : Desks} {s : State} (at : IsState
   pub cwd_below : (pid : ℕ) (q : Process) → get nat_cmp desks pid ≡ Some q → q.cwd < p.inodes
   cwd_below pid q there = number_below state_tree q.cwd (cwd_there pid q there)
 
+  -- the directory in which its second paths start
+  pub second_cwd_there : (pid : ℕ) (q : Process) → get nat_cmp desks pid ≡ Some q → IsThere s.tree q.second_cwd
+  second_cwd_there pid q there = let d = (state_process pid q there).second_cwd in is_there s.tree q.second_cwd d.node d.is_there
+
+  pub second_cwd_below : (pid : ℕ) (q : Process) → get nat_cmp desks pid ≡ Some q → q.second_cwd < p.inodes
+  second_cwd_below pid q there = number_below state_tree q.second_cwd (second_cwd_there pid q there)
+
 -- it is the state of the map after reads, too
 pub state_kept : {p : Place} {old new : TxnState} {desks : Desks} {s : State} → IsUnchanged old new → IsStateOf p old.sectors desks s
     → IsStateOf p new.sectors desks s

@@ -6,17 +6,16 @@
 use Rattle.std.specs.Prelude.{◌≡◌, ℕ, ◌==◌, List, None, Some}
 use Rattle.std.proofs.Common.{sym, ap, subst, ◌∙◌}
 use Rattle.std.specs.List.{list_any}
-use Rattle.std.specs.Ordering.{nat_cmp}
 use Rattle.fs_cred.specs.declared.errno.Errno.TheVariants.{ENOENT, EINVAL}
 use Rattle.fs_layout.specs.declared.place.Place.{Place}
 use Rattle.fs_layout.specs.Bytes.{SectorMap, IsBytes}
-use Rattle.fs_layout.specs.Maps.{get}
 use Rattle.fs_model.specs.declared.walk.Form.TheVariants.{Parent}
 use Rattle.fs_model.specs.declared.walk.Found.{Found}
 use Rattle.fs_model.specs.Demands.{refuse, first_of}
 use Rattle.fs_model.specs.Parts.{is_empty, path_checks}
 use Rattle.fs_model.specs.Processes.{Process, Desks}
-use Rattle.fs_model.specs.States.{State}
+use Rattle.fs_model.specs.States.{State, IsProcess}
+use Rattle.fs_model.specs.Trees.{IsDirectoryAt}
 use Rattle.fs_model.specs.Steps.{found_by}
 use Rattle.fs_model.proofs.Finds.{finds_are_there}
 use Rattle.fs_model.proofs.StepsDemands.{first_met, then_met, unrefused}
@@ -42,28 +41,30 @@ finds_each w s at = finds_both w.old_bytes w.new_bytes at (w.found s at)
 
 -- ---- one of both
 
-module _ {p : Place} {map : SectorMap} {desks : Desks} {s : State} (at : IsStateOf p map desks s) (pid : ℕ) (q : Process) (there : get nat_cmp s.desks pid ≡ Some q)
-    (path : List ℕ) (x : Found) (is : x ≡ found_by s.tree q.cwd (Parent, path)) where
+module _ {p : Place} {map : SectorMap} {desks : Desks} {s : State} (at : IsStateOf p map desks s) (q : Process)
+    (cwd : ℕ) (from : IsDirectoryAt s.tree cwd) (path : List ℕ) (x : Found) (is : x ≡ found_by s.tree cwd (Parent, path)) where
   path_there : (n : ℕ) → x.ino ≡ Some n → IsThere s.tree n
   path_there n some =
-      let here = (at.is_state.desks at.up).processes pid q there in
-      finds_are_there s.room s.tree at.is_state.tree q.cwd Parent path (is_there s.tree q.cwd here.cwd.node here.cwd.is_there) n
-      (sym (found_ino s.tree q.cwd Parent path) ∙ ap (λ (g : Found). g.ino) (sym is) ∙ some)
+      finds_are_there s.room s.tree at.is_state.tree cwd Parent path (is_there s.tree cwd from.node from.is_there) n
+      (sym (found_ino s.tree cwd Parent path) ∙ ap (λ (g : Found). g.ino) (sym is) ∙ some)
 
-  path_walked : (walk : ℕ) → IsBytes path → first_of (path_checks path) ≡ None → walk_refusal s.tree q.cred walk q.cwd path ≡ None → IsWalked s.tree Parent x
+  path_walked : (walk : ℕ) → IsBytes path → first_of (path_checks path) ≡ None → walk_refusal s.tree q.cred walk cwd path ≡ None → IsWalked s.tree Parent x
   path_walked walk bytes fit met =
       let later = then_met (refuse ENOENT (is_empty path)) _ fit in
       let no_zero = unrefused EINVAL (list_any (λ b. b == 0) path) (first_met (refuse EINVAL (list_any (λ b. b == 0) path)) _ later) in
-      subst (IsWalked s.tree Parent) (sym is) (is_walked s.room s.tree at.is_state.tree q.cred q.cwd walk (Parent, path) bytes no_zero met)
+      subst (IsWalked s.tree Parent) (sym is) (is_walked s.room s.tree at.is_state.tree q.cred cwd walk (Parent, path) bytes no_zero met)
 
 -- ---- both
 
 module _ {p : Place} {map : SectorMap} {desks : Desks} {q : Process} {f g : Found} {s : State} (i : FindsBoth p map desks q f g s) where
+  fits : IsProcess s.tree q
+  fits = (i.is_state.is_state.desks i.is_state.up).processes i.pid q i.found.there
+
   pub first_there : (n : ℕ) → f.ino ≡ Some n → IsThere s.tree n
-  first_there = path_there i.is_state i.pid q i.found.there i.old f i.found.first_is
+  first_there = path_there i.is_state q q.cwd fits.cwd i.old f i.found.first_is
 
   pub second_there : (n : ℕ) → g.ino ≡ Some n → IsThere s.tree n
-  second_there = path_there i.is_state i.pid q i.found.there i.new g i.found.second_is
+  second_there = path_there i.is_state q q.second_cwd fits.second_cwd i.new g i.found.second_is
 
   fit : (first_of (path_checks i.old) ≡ None) × (first_of (path_checks i.new) ≡ None)
   fit =
@@ -71,16 +72,16 @@ module _ {p : Place} {map : SectorMap} {desks : Desks} {q : Process} {f g : Foun
       (first_met (first_of (path_checks i.old)) _ both, then_met (first_of (path_checks i.old)) _ both)
 
   pub first_walked : IsWalked s.tree Parent f
-  first_walked = path_walked i.is_state i.pid q i.found.there i.old f i.found.first_is 1 i.old_bytes fit.0 i.found.first_unrefused
+  first_walked = path_walked i.is_state q q.cwd fits.cwd i.old f i.found.first_is 1 i.old_bytes fit.0 i.found.first_unrefused
 
   pub second_walked : IsWalked s.tree Parent g
-  second_walked = path_walked i.is_state i.pid q i.found.there i.new g i.found.second_is 2 i.new_bytes fit.1 i.found.second_unrefused
+  second_walked = path_walked i.is_state q q.second_cwd fits.second_cwd i.new g i.found.second_is 2 i.new_bytes fit.1 i.found.second_unrefused
 
   pub is_scene : IsScene (scene_with s q f g)
   is_scene = record {
     state = i.is_state.is_state;
     running = i.is_state.up;
-    process = (i.is_state.is_state.desks i.is_state.up).processes i.pid q i.found.there;
+    process = fits;
     first = first_there;
     second = second_there;
   }

@@ -31,10 +31,11 @@ both_checks old new = path_checks old ++ path_checks new
 abbrev pub walk_refusal : Tree → Credential → ℕ → ℕ → List ℕ → Demand
 walk_refusal t cred walk cwd path = first_refusal t cred walk Parent (trail_in t cwd (Parent, path))
 
--- both walks from a current directory: the first refusal of the first, then of the second, or what both find
-abbrev pub walks_of : Tree → Credential → ℕ → List ℕ → List ℕ → Result (Found × Found) Refusal
-walks_of t cred cwd old new =
-    refused_or (or_else (walk_refusal t cred 1 cwd old) (walk_refusal t cred 2 cwd new)) (Ok (found_by t cwd (Parent, old), found_by t cwd (Parent, new)))
+-- both walks, each from its directory: the first refusal of the first, then of the second, or what both find
+abbrev pub walks_of : Tree → Credential → ℕ → ℕ → List ℕ → List ℕ → Result (Found × Found) Refusal
+walks_of t cred cwd second_cwd old new =
+    refused_or (or_else (walk_refusal t cred 1 cwd old) (walk_refusal t cred 2 second_cwd new))
+    (Ok (found_by t cwd (Parent, old), found_by t second_cwd (Parent, new)))
 
 abbrev pub scene_with : State → Process → Found → Found → Scene
 scene_with s p first second = record { state = s; process = p; first = first; second = second }
@@ -44,9 +45,9 @@ pub record HasFoundBoth (s : State) (pid : ℕ) (p : Process) (old new : List �
   pub there : get nat_cmp s.desks pid ≡ Some p
   pub checked : first_of (both_checks old new) ≡ None
   pub first_unrefused : walk_refusal s.tree p.cred 1 p.cwd old ≡ None
-  pub second_unrefused : walk_refusal s.tree p.cred 2 p.cwd new ≡ None
+  pub second_unrefused : walk_refusal s.tree p.cred 2 p.second_cwd new ≡ None
   pub first_is : f ≡ found_by s.tree p.cwd (Parent, old)
-  pub second_is : g ≡ found_by s.tree p.cwd (Parent, new)
+  pub second_is : g ≡ found_by s.tree p.second_cwd (Parent, new)
 
 -- in a state of this map and this table the process has found these
 pub record FindsBoth (p : Place) (map : SectorMap) (desks : Desks) (q : Process) (f g : Found) (s : State) : Type 0 where

@@ -19,7 +19,7 @@ use path_walk::{check_path, load_inode, walk};
 use sector_txn::Sectors;
 use std::alloc::Global;
 
-/// What both paths of a call lead to, each as a walk finds it. Both are checked before the first is walked.
+/// What both paths of a call lead to, each as a walk finds it from its directory. Both are checked before the first is walked.
 pub(crate) fn find_names<S: Sectors>(
     alloc: Global,
     s: &mut S,
@@ -31,11 +31,12 @@ pub(crate) fn find_names<S: Sectors>(
     requires sound { IsSound place (S.state s.old) }
     requires inodes { HasSoundInodes place (S.state s.old).sectors }
     requires start { process.now.cwd < place.inodes }
+    requires second_start { process.now.second_cwd < place.inodes }
     ensures checked { (refusal : Refusal) → first_of (both_checks old.now new.now) ≡ Some refusal → result ≡ Err refusal }
     ensures each { first_of (both_checks old.now new.now) ≡ None
-        → (t : Tree) → HoldsTree place (S.state s.old).sectors t → IsThere t process.now.cwd
+        → (t : Tree) → HoldsTree place (S.state s.old).sectors t → IsThere t process.now.cwd → IsThere t process.now.second_cwd
         → IsAnswered (S.state s.old).disk (S.state s.new).disk
-        (walks_of t process.now.cred process.now.cwd old.now new.now) result }
+        (walks_of t process.now.cred process.now.cwd process.now.second_cwd old.now new.now) result }
     ensures valid { IfOk result (λ found. first_of (both_checks old.now new.now) ≡ None) }
     ensures old_bytes { IsBytes old.now }
     ensures new_bytes { IsBytes new.now }
@@ -47,8 +48,9 @@ pub(crate) fn find_names<S: Sectors>(
     check_path(new)?;
     let cred = process.cred();
     let cwd = process.cwd();
+    let second_cwd = process.second_cwd();
     let first = walk(alloc, s, place, cred, cwd, old, Form::Parent, 1)?;
-    let second = walk(alloc, s, place, cred, cwd, new, Form::Parent, 2)?;
+    let second = walk(alloc, s, place, cred, second_cwd, new, Form::Parent, 2)?;
     Ok((first, second))
 }
 

@@ -11,7 +11,7 @@ use Rattle.fs_model.specs.declared.call.Call.{Call}
 use Rattle.fs_model.specs.declared.call.Call.TheVariants.{Open, Read, Write, Lseek, Close, Fstat, Stat, Lstat, Access, Truncate, Ftruncate, Chmod, Chown, GetAcl, SetAcl, Readdir, Mkdir, Rmdir, Link, Symlink, Readlink, Unlink, Rename, Chdir, Umask}
 use Rattle.fs_model.specs.declared.call.Flags.{Flags}
 use Rattle.fs_model.specs.declared.event.Event.{Event}
-use Rattle.fs_model.specs.declared.event.Event.TheVariants.{Spawn, Exit, Call as Calls, Fsync, Sync, Statfs, Arm, Restart}
+use Rattle.fs_model.specs.declared.event.Event.TheVariants.{Spawn, Exit, Call as Calls, Enter, Fsync, Sync, Statfs, Arm, Restart}
 use Rattle.fs_model.specs.declared.reply.Reply.{Reply}
 use Rattle.fs_model.specs.declared.reply.Reply.TheVariants.{Fd}
 use Rattle.fs_model.specs.Nodes.{Node, names_in, with_bytes}
@@ -263,6 +263,7 @@ no_pid pid s (Calls by call) of k = tt
 no_pid pid s (Fsync by fd) of k = tt
 no_pid pid s (Exit by) of k = tt
 no_pid pid s (Spawn cred) of k = absurd of
+no_pid pid s (Enter by directory second) of k = absurd of
 no_pid pid s Sync of k = absurd of
 no_pid pid s Statfs of k = absurd of
 no_pid pid s (Arm a) of k = absurd of
@@ -318,6 +319,7 @@ module _ (pid : ℕ) (p : Process) (s t s' t' : State) (c d : Choice) (reply rep
   acts_alike (Fsync by fd) fits of free act now x act' now' y = by_second (Fsync by fd) fits of free x y refl
   acts_alike (Exit by) fits of free act now x act' now' y = by_second (Exit by) fits of free x y refl
   acts_alike (Spawn cred) fits of free act now x act' now' y = absurd of
+  acts_alike (Enter by directory second) fits of free act now x act' now' y = absurd of
   acts_alike Sync fits of free act now x act' now' y = absurd of
   acts_alike Statfs fits of free act now x act' now' y = absurd of
   acts_alike (Arm k) fits of free act now x act' now' y = absurd of

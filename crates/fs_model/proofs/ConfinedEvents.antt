@@ -4,7 +4,7 @@ use Rattle.std.proofs.Common.{refl, sym, ap, ◌∙◌, subst}
 use Rattle.std.specs.Ordering.{nat_cmp, eq_by_cmp}
 use Rattle.fs_model.specs.declared.call.Call.{Call}
 use Rattle.fs_model.specs.declared.event.Event.{Event}
-use Rattle.fs_model.specs.declared.event.Event.TheVariants.{Spawn, Exit, Call as Calls, Fsync, Sync, Statfs, Arm, Restart}
+use Rattle.fs_model.specs.declared.event.Event.TheVariants.{Spawn, Exit, Call as Calls, Enter, Fsync, Sync, Statfs, Arm, Restart}
 use Rattle.fs_model.specs.declared.reply.Reply.TheVariants.{Done}
 use Rattle.fs_layout.specs.Maps.{get, without, IsMap}
 use Rattle.fs_model.specs.Processes.{Process, Desks}
@@ -126,6 +126,7 @@ event_confined each (Calls by call) = confines_call by call (each call)
 event_confined each (Fsync by fd) = confines_fsync by fd
 event_confined each (Exit by) = confines_exit by
 event_confined each (Spawn cred) = λ _ _ _ _ _ _ _ _ _ _ _ _ _ _ of. absurd of
+event_confined each (Enter by directory second) = λ _ _ _ _ _ _ _ _ _ _ _ _ _ _ of. absurd of
 event_confined each Sync = λ _ _ _ _ _ _ _ _ _ _ _ _ _ _ of. absurd of
 event_confined each Statfs = λ _ _ _ _ _ _ _ _ _ _ _ _ _ _ of. absurd of
 event_confined each (Arm k) = λ _ _ _ _ _ _ _ _ _ _ _ _ _ _ of. absurd of

@@ -9,7 +9,7 @@ use Rattle.fs_layout.specs.Maps.{get}
 use Rattle.fs_model.specs.declared.call.Call.{Call}
 use Rattle.fs_model.specs.declared.call.Call.TheVariants.{Open, Read, Write, Lseek, Close, Fstat, Stat, Lstat, Access, Truncate, Ftruncate, Chmod, Chown, GetAcl, SetAcl, Readdir, Mkdir, Rmdir, Link, Symlink, Readlink, Unlink, Rename, Chdir, Umask}
 use Rattle.fs_model.specs.declared.event.Event.{Event}
-use Rattle.fs_model.specs.declared.event.Event.TheVariants.{Spawn, Exit, Call as Calls, Fsync, Sync, Statfs, Arm, Restart}
+use Rattle.fs_model.specs.declared.event.Event.TheVariants.{Spawn, Exit, Call as Calls, Enter, Fsync, Sync, Statfs, Arm, Restart}
 use Rattle.fs_model.specs.declared.reply.Reply.{Reply}
 use Rattle.fs_model.specs.declared.reply.Reply.TheVariants.{Refused}
 use Rattle.fs_model.specs.Processes.{Process}
@@ -78,6 +78,7 @@ module _ (pid : ℕ) (p q : Process) (s : State) (here : get nat_cmp s.desks pid
   acted_cred is (Fsync by fd) choice of there = same_cred there
   acted_cred is (Exit by) choice of there = absurd (let none = gone_by s.desks by pid is.pids of in let both : None ≡ Some q = sym none ∙ there in cc)
   acted_cred is (Spawn cred) choice of there = absurd of
+  acted_cred is (Enter by directory second) choice of there = absurd of
   acted_cred is Sync choice of there = absurd of
   acted_cred is Statfs choice of there = absurd of
   acted_cred is (Arm k) choice of there = absurd of
@@ -105,6 +106,7 @@ gone_firm pid s (Calls by call) of none = ap (demand_of _) (subst (λ q. get nat
 gone_firm pid s (Fsync by fd) of none = ap (demand_of _) (subst (λ q. get nat_cmp s.desks q ≡ None) (sym of) none)
 gone_firm pid s (Exit by) of none = ap (demand_of _) (subst (λ q. get nat_cmp s.desks q ≡ None) (sym of) none)
 gone_firm pid s (Spawn cred) of none = absurd of
+gone_firm pid s (Enter by directory second) of none = absurd of
 gone_firm pid s Sync of none = absurd of
 gone_firm pid s Statfs of none = absurd of
 gone_firm pid s (Arm k) of none = absurd of
@@ -135,6 +137,7 @@ machine_of pid (Calls by call) of = refl
 machine_of pid (Fsync by fd) of = refl
 machine_of pid (Exit by) of = refl
 machine_of pid (Spawn cred) of = absurd of
+machine_of pid (Enter by directory second) of = absurd of
 machine_of pid Sync of = absurd of
 machine_of pid Statfs of = absurd of
 machine_of pid (Arm k) of = absurd of

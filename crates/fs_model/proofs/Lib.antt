@@ -41,6 +41,7 @@ pub mod PlacedNodes
 pub mod ReadsLess
 pub mod Rests
 pub mod Rewrites
+pub mod RowsOfEntering
 pub mod RowsOfFiles
 pub mod RowsOfImages
 pub mod RowsOfLimits

@@ -22,12 +22,12 @@ use Rattle.fs_model.specs.declared.call.Flags.{Flags}
 use Rattle.fs_model.specs.declared.call.Call.{Call}
 use Rattle.fs_model.specs.declared.call.Call.TheVariants.{Open, Read, Write, Lseek, Close, Fstat, Stat, Lstat, Access, Truncate, Ftruncate, Chmod, Chown, GetAcl, SetAcl, Readdir, Mkdir, Rmdir, Link as LinkCall, Symlink, Readlink, Unlink, Rename, Chdir, Umask}
 use Rattle.fs_model.specs.declared.event.Event.{Event}
-use Rattle.fs_model.specs.declared.event.Event.TheVariants.{Spawn, Exit, Call as Calls, Fsync, Sync, Statfs, Arm, Restart}
+use Rattle.fs_model.specs.declared.event.Event.TheVariants.{Spawn, Exit, Call as Calls, Enter, Fsync, Sync, Statfs, Arm, Restart}
 use Rattle.fs_model.specs.Limits.{links_limit}
 use Rattle.fs_layout.specs.Maps.{get}
 use Rattle.fs_model.specs.Nodes.{Node, Body, File, Dir, Link, names_in}
 use Rattle.fs_model.specs.Trees.{Tree, node_at}
-use Rattle.fs_model.specs.Processes.{Process}
+use Rattle.fs_model.specs.Processes.{Process, cwd_of}
 use Rattle.fs_model.specs.States.{State}
 use Rattle.fs_model.specs.Demands.{Demand, refuse, or_else, first_of, only_if, decided, allowed_by, search_only, write_and_search, perms, failed_with, accessed_at, permission_of, permission_on, search_of, search_on}
 use Rattle.fs_model.specs.Parts.{is_empty, parts_of, start_of, path_checks}
@@ -40,7 +40,7 @@ use Rattle.fs_model.specs.AttributeCalls.{stat_demands, stat_effect, access_dema
 use Rattle.fs_model.specs.NameCalls.{mkdir_demands, mkdir_effect, rmdir_demands, takes_name, link_demands, link_effect, symlink_arguments, symlink_demands, symlink_effect, readlink_demands, readlink_effect, unlink_demands}
 use Rattle.fs_model.specs.RenameCall.{is_same, rename_name_demands, rename_permissions, rename_kinds, rename_directories, rename_moved, rename_space, rename_demands, rename_effect}
 use Rattle.fs_model.specs.Rows.{row_of}
-use Rattle.fs_model.specs.Steps.{scene_of, walk_refusals, early_refusal, late_refusal, demand_of, firm_refusal, other_refusal}
+use Rattle.fs_model.specs.Steps.{scene_of, walk_refusals, early_refusal, late_refusal, demand_of, enter_demands, firm_refusal, other_refusal}
 use Rattle.fs_model.proofs.LookedUp.{looked_up_is}
 
 -- ---- one demand, and several
@@ -200,7 +200,7 @@ walk_spares t cred walk cwd form path =
 
 walks_spare : (t : Tree) (p : Process) (k : ℕ) (walks : List (Form × List ℕ)) → AllSpare (walk_refusals t p k walks)
 walks_spare t p k [] = tt
-walks_spare t p k (walk ∷ walks) = (walk_spares t p.cred k p.cwd walk.0 walk.1, walks_spare t p (k + 1) walks)
+walks_spare t p k (walk ∷ walks) = (walk_spares t p.cred k (cwd_of p k) walk.0 walk.1, walks_spare t p (k + 1) walks)
 
 paths_spare : (walks : List (Form × List ℕ)) → AllSpare (flat_map (λ walk. path_checks walk.1) walks)
 paths_spare [] = tt
@@ -383,6 +383,7 @@ firm_spares s (Calls pid call) =
     process_spares (λ p. early_refusal p (row_of call)) (get nat_cmp s.desks pid) (λ p. early_spares p (row_of call) (row_spares call))
 firm_spares s (Fsync pid fd) = process_spares (λ p. is_bad fd p) (get nat_cmp s.desks pid) (λ p. refused EBADF _ refl)
 firm_spares s (Exit pid) = process_spares (λ p. None) (get nat_cmp s.desks pid) (λ p. refl)
+firm_spares s (Enter pid directory second) = process_spares (λ p. None) (get nat_cmp s.desks pid) (λ p. refl)
 firm_spares s (Spawn cred) = refused EAGAIN _ refl
 firm_spares s Sync = refl
 firm_spares s Statfs = refl
@@ -393,6 +394,9 @@ pub other_spares : (s : State) (e : Event) → Spares (other_refusal s e)
 unfolding other_refusal
 other_spares s (Calls pid call) =
     process_spares (λ p. late_refusal s p (row_of call)) (get nat_cmp s.desks pid) (λ p. late_spares s p (row_of call) (row_spares call))
+other_spares s (Enter pid directory second) =
+    first_spares (enter_demands s.tree directory second)
+    (refused ENOENT _ refl, (refused ENOENT _ refl, (refused ENOTDIR _ refl, (refused ENOTDIR _ refl, tt))))
 other_spares s (Fsync pid fd) = refl
 other_spares s (Exit pid) = refl
 other_spares s (Spawn cred) = refl

@@ -12,7 +12,7 @@ use Rattle.fs_layout.specs.Maps.{get}
 use Rattle.fs_model.specs.declared.call.Call.{Call}
 use Rattle.fs_model.specs.declared.call.Call.TheVariants.{Open, Read, Write, Lseek, Close, Fstat, Stat, Lstat, Access, Truncate, Ftruncate, Chmod, Chown, GetAcl, SetAcl, Readdir, Mkdir, Rmdir, Link, Symlink, Readlink, Unlink, Rename, Chdir, Umask}
 use Rattle.fs_model.specs.declared.event.Event.{Event}
-use Rattle.fs_model.specs.declared.event.Event.TheVariants.{Spawn, Exit, Call as Calls, Fsync, Sync, Statfs, Arm, Restart}
+use Rattle.fs_model.specs.declared.event.Event.TheVariants.{Spawn, Exit, Call as Calls, Enter, Fsync, Sync, Statfs, Arm, Restart}
 use Rattle.fs_model.specs.declared.reply.Reply.TheVariants.{Wrote, Refused}
 use Rattle.fs_model.specs.AttributeCalls.{granted_by}
 use Rattle.fs_model.specs.TreeChanges.{Rewrite}
@@ -23,7 +23,7 @@ use Rattle.fs_model.specs.Processes.{Process, the_descriptor, with_offset}
 use Rattle.fs_model.specs.Rows.{row_of}
 use Rattle.fs_model.specs.Scenes.{Scene, answers, node_open}
 use Rattle.fs_model.specs.States.{State}
-use Rattle.fs_model.specs.Steps.{Choice, firm_refusal, other_refusal, after, after_call}
+use Rattle.fs_model.specs.Steps.{Choice, firm_refusal, other_refusal, after, after_call, after_enter}
 use Rattle.fs_model.specs.Stops.{is_io_error}
 use Rattle.fs_model.proofs.NoIoErrors.{asks_eio, firm_spares, other_spares}
 
@@ -74,12 +74,17 @@ process_answers : (s : State) (pid : ℕ) (call : Call) (number : ℕ) (o : Opti
 process_answers s pid call number None = refl
 process_answers s pid call number (Some p) = row_answers call _ number
 
+entering_answers : (s : State) (pid directory second : ℕ) (o : Option Process) → is_io_error (after_enter s pid directory second o).reply ≡ false
+entering_answers s pid directory second None = refl
+entering_answers s pid directory second (Some p) = refl
+
 pub event_answers : (s : State) (e : Event) (choice : Choice) → is_io_error (after s e choice).reply ≡ false
 unfolding after
 event_answers s (Calls pid call) choice = process_answers s pid call choice.number (get nat_cmp s.desks pid)
 event_answers s (Fsync pid fd) choice = refl
 event_answers s (Exit pid) choice = refl
 event_answers s (Spawn cred) choice = refl
+event_answers s (Enter pid directory second) choice = entering_answers s pid directory second (get nat_cmp s.desks pid)
 event_answers s Sync choice = refl
 event_answers s Statfs choice = refl
 event_answers s (Arm k) choice = refl

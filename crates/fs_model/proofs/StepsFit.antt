@@ -56,12 +56,13 @@ pub scene_is : (s : State) (pid : ℕ) (p : Process) (row : Row) → IsState s �
 scene_is s pid p row is runs here =
     let fits = (is.desks runs).processes pid p here in
     let there : IsThere s.tree p.cwd = ap is_some fits.cwd.is_there in
+    let second : IsThere s.tree p.second_cwd = ap is_some fits.second_cwd.is_there in
     record {
       state = is;
       running = runs;
       process = fits;
       first = λ n e. first_is_there s.room s.tree is.tree p.cwd there row.walks n e;
-      second = λ n e. second_is_there s.room s.tree is.tree p.cwd there row.walks n e;
+      second = λ n e. second_is_there s.room s.tree is.tree p.second_cwd second row.walks n e;
     }
 
 -- ---- effects

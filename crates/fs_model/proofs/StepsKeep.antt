@@ -1,28 +1,33 @@
 -- A step leads from states to states.
-use Rattle.std.specs.Prelude.{◌≡◌, ℕ, ◌+◌, ◌≤◌, nat_le, Bool, true, false, cond, length, Option, None, Some, is_some, IsFalse}
+use Rattle.std.specs.Prelude.{◌≡◌, ℕ, ◌+◌, ◌≤◌, nat_le, Bool, true, false, not, cond, length, Option, None, Some, is_some, IsFalse}
 use Rattle.std.proofs.Common.{refl, sym, arith, subst, inl, inr}
+use Rattle.std.proofs.lemmas.Bool.{not-false}
 use Rattle.std.proofs.lemmas.Bool.Decides.{nat_tests}
 use Rattle.std.specs.Ordering.{nat_cmp}
-use Rattle.fs_cred.specs.declared.errno.Errno.TheVariants.{EAGAIN}
+use Rattle.fs_cred.specs.declared.errno.Errno.TheVariants.{ENOENT, ENOTDIR, EAGAIN}
 use Rattle.fs_model.specs.declared.call.Call.{Call}
 use Rattle.fs_model.specs.declared.event.Event.{Event}
-use Rattle.fs_model.specs.declared.event.Event.TheVariants.{Spawn, Exit, Call as Calls, Fsync, Sync, Statfs, Arm, Restart}
+use Rattle.fs_model.specs.declared.event.Event.TheVariants.{Spawn, Exit, Call as Calls, Enter, Fsync, Sync, Statfs, Arm, Restart}
 use Rattle.fs_model.specs.declared.reply.Reply.{Reply}
 use Rattle.fs_model.specs.Limits.{processes_limit}
 use Rattle.fs_layout.specs.Maps.{get, with_entry, without, IsMap}
-use Rattle.fs_model.specs.Processes.{Process, Desks, new_process}
+use Rattle.fs_model.specs.Processes.{Process, Desks, new_process, standing_at}
+use Rattle.fs_model.specs.Nodes.{Node}
+use Rattle.fs_model.specs.Trees.{Tree, node_at, IsDirectoryAt}
 use Rattle.fs_model.specs.TreeChanges.{changed}
+use Rattle.fs_model.specs.Walks.{is_nondirectory, is_nondirectory_node}
+use Rattle.fs_model.specs.declared.reply.Reply.TheVariants.{Done}
 use Rattle.fs_model.specs.States.{State, IsProcess, IsState}
-use Rattle.fs_model.specs.Demands.{refuse}
-use Rattle.fs_model.specs.Scenes.{Row}
+use Rattle.fs_model.specs.Demands.{refuse, first_of}
+use Rattle.fs_model.specs.Scenes.{Row, with_process}
 use Rattle.fs_model.specs.Rows.{row_of}
-use Rattle.fs_model.specs.Steps.{Choice, After, after, after_call, demand_of, early_refusal, late_refusal, firm_refusal, other_refusal, scene_of, Acts, HasNewNumber, HaltedDesks, Answers, is_halted, refuses_early, refuses_late, acts, lacks_memory, read_fails, write_fails, Step}
+use Rattle.fs_model.specs.Steps.{Choice, After, after, after_call, after_enter, enter_demands, demand_of, early_refusal, late_refusal, firm_refusal, other_refusal, scene_of, Acts, HasNewNumber, HaltedDesks, Answers, is_halted, refuses_early, refuses_late, acts, lacks_memory, read_fails, write_fails, Step}
 use Rattle.fs_model.specs.Ranges.{IsEvent, IsCall}
 use Rattle.fs_layout.proofs.MapLaws.{with_entry-IsMap, length-with_entry}
-use Rattle.fs_model.proofs.StepsDemands.{unrefused}
-use Rattle.fs_model.proofs.StepsFit.{length-replaced}
+use Rattle.fs_model.proofs.StepsDemands.{unrefused, all_met}
+use Rattle.fs_model.proofs.StepsFit.{length-replaced, no_change_fits, effect_leaves}
 use Rattle.fs_model.proofs.StepsOfCalls.{process_leaves}
-use Rattle.fs_model.proofs.StepsProcesses.{without-IsMap, in_without, length-without, in_with_entry, new_process_fits}
+use Rattle.fs_model.proofs.StepsProcesses.{without-IsMap, in_without, length-without, in_with_entry, standing_at_fits, new_process_fits}
 use Rattle.fs_model.proofs.StepsSwept.{MayBeLeft, left_is_state, tree_may_be_left}
 
 -- ---- the desks after an event
@@ -49,6 +54,15 @@ desks_after_call s pid number row (Some p) here are =
       (let same = length-replaced s.desks pid p q are.0 here in let few = are.1 in omega (arith, same, few)),
     )
 
+desks_after_enter : (s : State) (pid directory second : ℕ) (o : Option Process) → get nat_cmp s.desks pid ≡ o → AreDesks s.desks
+    → AreDesks (after_enter s pid directory second o).desks
+desks_after_enter s pid directory second None here are = are
+desks_after_enter s pid directory second (Some p) here are =
+    let q = standing_at directory second p in (
+      with_entry-IsMap s.desks pid q are.0,
+      (let same = length-replaced s.desks pid p q are.0 here in let few = are.1 in omega (arith, same, few)),
+    )
+
 desks_after : (s : State) (e : Event) (choice : Choice) → AreDesks s.desks → firm_refusal s e ≡ None → AreDesks (after s e choice).desks
 unfolding after firm_refusal
 desks_after s (Calls pid call) choice are firm = desks_after_call s pid choice.number (row_of call) (get nat_cmp s.desks pid) refl are
@@ -58,11 +72,22 @@ desks_after s (Spawn cred) choice are firm = (
 )
 desks_after s (Exit pid) choice are firm =
     (without-IsMap s.desks pid are.0, (let less = length-without s.desks pid in let few = are.1 in omega (arith, less, few)))
+desks_after s (Enter pid directory second) choice are firm = desks_after_enter s pid directory second (get nat_cmp s.desks pid) refl are
 desks_after s (Fsync pid fd) choice are firm = are
 desks_after s Sync choice are firm = are
 desks_after s Statfs choice are firm = are
 desks_after s (Arm k) choice are firm = are
 desks_after s (Restart bytes arm) choice are firm = are
+
+-- what entering asks of a number
+directory_met : (t : Tree) (n : ℕ) → refuse ENOENT (not (is_some (node_at t n))) ≡ None → refuse ENOTDIR (is_nondirectory t (Some n)) ≡ None
+    → IsDirectoryAt t n
+directory_met t n there directory =
+    go (node_at t n) refl (not-false _ (unrefused ENOENT (not (is_some (node_at t n))) there)) (unrefused ENOTDIR (is_nondirectory t (Some n)) directory)
+  where
+    go : (o : Option Node) → node_at t n ≡ o → is_some o ≡ true → is_nondirectory_node o ≡ false → IsDirectoryAt t n
+    go None at is kind = absurd cc
+    go (Some node) at is kind = record { node = node; is_there = at; directory = not-false _ kind }
 
 -- ---- what an event leaves
 
@@ -79,6 +104,16 @@ module _ (s : State) (is : IsState s) (runs : IsFalse s.halted) where
   call_leaves pid number call None here in_range early late fresh = absurd cc
   call_leaves pid number call (Some p) here in_range early late fresh = process_leaves s pid p call number is runs here in_range early late fresh
 
+  enter_leaves : (pid directory second : ℕ) (o : Option Process) → get nat_cmp s.desks pid ≡ o
+      → first_of (enter_demands s.tree directory second) ≡ None → Leaves (after_enter s pid directory second o)
+  enter_leaves pid directory second None here met = same_left
+  enter_leaves pid directory second (Some p) here met =
+      let are = all_met (enter_demands s.tree directory second) met in
+      effect_leaves s pid p (with_process (standing_at directory second p) Done) is runs here
+      (no_change_fits s (standing_at directory second p) Done is
+      (standing_at_fits s.tree p ((is.desks runs).processes pid p here) directory second
+      (directory_met s.tree directory are.0 are.1.1.0) (directory_met s.tree second are.1.0 are.1.1.1.0)))
+
   event_leaves : (e : Event) (choice : Choice) → IsEvent e → firm_refusal s e ≡ None → other_refusal s e ≡ None
       → HasNewNumber s (after s e choice).change → Leaves (after s e choice)
   unfolding after firm_refusal other_refusal
@@ -94,6 +129,8 @@ module _ (s : State) (is : IsState s) (runs : IsFalse s.halted) where
       tree_may_be_left s.room s.tree (without nat_cmp s.desks pid) is.tree (without-IsMap s.desks pid is.pids)
       (let less = length-without s.desks pid in let few = is.few in omega (arith, less, few))
       (λ q p at. (is.desks runs).processes q p (in_without s.desks pid q p is.pids at))
+  event_leaves (Enter pid directory second) choice in_range firm other fresh =
+      enter_leaves pid directory second (get nat_cmp s.desks pid) refl other
   event_leaves (Fsync pid fd) choice in_range firm other fresh = same_left
   event_leaves Sync choice in_range firm other fresh = same_left
   event_leaves Statfs choice in_range firm other fresh = same_left

@@ -86,6 +86,7 @@ module _ (t u : Tree) (keeps : KeepsTypes t u) where
     cred = x.cred;
     umask = x.umask;
     cwd = directory_moves p.cwd x.cwd;
+    second_cwd = directory_moves p.second_cwd x.second_cwd;
     descriptors = x.descriptors;
     each = λ fd d there. descriptor_moves fd d (x.each fd d there);
   }

@@ -94,8 +94,8 @@ second_walked : (s : State) (p : Process) (row : Row) (walks : Walks) → IsTree
 second_walked s p row [] is e bytes asked met = tt
 second_walked s p row (_ ∷ []) is e bytes asked met = tt
 second_walked s p row (_ ∷ walk ∷ walks) is e bytes asked met =
-    let found = is_walked s.room s.tree is p.cred p.cwd 2 walk bytes.1.0 (unrefused EINVAL (list_any (λ b. b == 0) walk.1) asked.1.1.1.1.0) met.1.0 in
-    subst (λ ws. IsWalked s.tree walk.0 (second_found s.tree p.cwd ws)) (sym e) found
+    let found = is_walked s.room s.tree is p.cred p.second_cwd 2 walk bytes.1.0 (unrefused EINVAL (list_any (λ b. b == 0) walk.1) asked.1.1.1.1.0) met.1.0 in
+    subst (λ ws. IsWalked s.tree walk.0 (second_found s.tree p.second_cwd ws)) (sym e) found
 
 -- ---- each call, in its scene
 

@@ -9,7 +9,8 @@ use Rattle.fs_cred.specs.declared.errno.Errno.TheVariants.{ENOENT, ENOTDIR, EFBI
 use Rattle.fs_model.specs.declared.call.AclType.{AclType}
 use Rattle.fs_model.specs.declared.reply.Reply.TheVariants.{Done, Mask}
 use Rattle.fs_model.specs.Nodes.{is_directory, bytes_in}
-use Rattle.fs_model.specs.Trees.{node_at, IsNode}
+use Rattle.fs_model.specs.Trees.{node_at, IsNode, IsDirectoryAt}
+use Rattle.fs_model.specs.Processes.{standing_at}
 use Rattle.fs_model.specs.declared.walk.Found.{Found}
 use Rattle.fs_model.specs.Scenes.{Scene, is_found, number, node_found, body_found, must_be_there}
 use Rattle.fs_model.specs.DescriptorCalls.{resized_node}
@@ -18,7 +19,7 @@ use Rattle.fs_model.specs.Ranges.{IsSomeId}
 use Rattle.fs_model.proofs.StepsBodies.{bytes_are_bytes, length-resized, IsBytes-resized, bytes_may_replace, mode_may_replace, acl_may_replace, owner_may_replace}
 use Rattle.fs_model.proofs.StepsDemands.{AreMet, unrefused}
 use Rattle.fs_model.proofs.StepsFit.{IsScene, EffectFits, node_is_there, no_change_fits, rewrite_fits}
-use Rattle.fs_model.proofs.StepsProcesses.{with_cwd_fits, with_umask_fits}
+use Rattle.fs_model.proofs.StepsProcesses.{standing_at_fits, with_umask_fits}
 
 pub found_number : (o : Option ℕ) → is_some o ≡ true → o ≡ Some (unwrap_or o 0)
 found_number None h = absurd cc
@@ -74,9 +75,9 @@ module _ (c : Scene) (is : IsScene c) where
   chdir_fits new met =
       let found = is_found_if c.first met.0 in
       let directory : is_directory (body_found c c.first) ≡ true = not-false _ (unrefused ENOTDIR (not (is_directory (body_found c c.first))) met.1.0) in
-      no_change_fits c.state (record c.process { cwd = number c.first }) Done is.state
-      (with_cwd_fits c.state.tree c.process is.process (number c.first)
-      (record { node = node_found c c.first; is_there = first_at found; directory = directory }))
+      let d : IsDirectoryAt c.state.tree (number c.first) = record { node = node_found c c.first; is_there = first_at found; directory = directory } in
+      no_change_fits c.state (standing_at (number c.first) (number c.first) c.process) Done is.state
+      (standing_at_fits c.state.tree c.process is.process (number c.first) (number c.first) d d)
 
   pub umask_fits : (mask new : ℕ) → EffectFits c.state (umask_effect mask c new)
   umask_fits mask new =

@@ -9,7 +9,7 @@ use Rattle.fs_model.specs.Limits.{root, processes_limit}
 use Rattle.fs_layout.specs.Maps.{get, IsMap}
 use Rattle.fs_model.specs.Nodes.{Node, Body, File, Dir, Link, is_directory, is_link, names_in}
 use Rattle.fs_model.specs.Trees.{Tree, Room, node_at, names_of, NamesFit, IsTree, IsDirectoryAt}
-use Rattle.fs_model.specs.Processes.{Desks, Process, Descriptor, is_open, is_in_use}
+use Rattle.fs_model.specs.Processes.{Desks, Process, Descriptor, is_open, starts_at, is_in_use}
 use Rattle.fs_model.specs.TreeChanges.{swept, lives_nameless}
 use Rattle.fs_model.specs.States.{State, IsRoom, MayBeFree, IsDescriptor, IsProcess, FitsTree, IsState}
 use Rattle.fs_layout.proofs.FirstEntries.{in_rest}
@@ -49,13 +49,21 @@ open_by desks pid p fd d here there =
     (any_entry (λ e. e.1.number == d.number) p.descriptors fd d there (same_is d.number))
 
 used_if_open : (desks : Desks) (n : ℕ) → is_open desks n ≡ true → is_in_use desks n ≡ true
-used_if_open desks n h = or_right (n == root || list_any (λ p. p.1.cwd == n) desks) (is_open desks n) h
+used_if_open desks n h = or_right (n == root || list_any (λ q. starts_at n q.1) desks) (is_open desks n) h
+
+used_if_started : (desks : Desks) (pid n : ℕ) (p : Process) → get nat_cmp desks pid ≡ Some p → starts_at n p ≡ true
+    → is_in_use desks n ≡ true
+used_if_started desks pid n p here starts =
+    or_left (n == root || list_any (λ q. starts_at n q.1) desks) (is_open desks n)
+    (or_right (n == root) (list_any (λ q. starts_at n q.1) desks) (any_entry (λ q. starts_at n q.1) desks pid p here starts))
 
 used_by : (desks : Desks) (pid : ℕ) (p : Process) → get nat_cmp desks pid ≡ Some p → is_in_use desks p.cwd ≡ true
 used_by desks pid p here =
-    or_left (p.cwd == root || list_any (λ q. q.1.cwd == p.cwd) desks) (is_open desks p.cwd)
-    (or_right (p.cwd == root) (list_any (λ q. q.1.cwd == p.cwd) desks)
-    (any_entry (λ q. q.1.cwd == p.cwd) desks pid p here (same_is p.cwd)))
+    used_if_started desks pid p.cwd p here (or_left (p.cwd == p.cwd) (p.second_cwd == p.cwd) (same_is p.cwd))
+
+used_by_second : (desks : Desks) (pid : ℕ) (p : Process) → get nat_cmp desks pid ≡ Some p → is_in_use desks p.second_cwd ≡ true
+used_by_second desks pid p here =
+    used_if_started desks pid p.second_cwd p here (or_right (p.cwd == p.second_cwd) (p.second_cwd == p.second_cwd) (same_is p.second_cwd))
 
 -- ---- the swept tree
 
@@ -99,6 +107,7 @@ module _ (room : Room) (u : Tree) (desks : Desks) (h : MayBeLeft room u desks) w
         cred = x.cred;
         umask = x.umask;
         cwd = directory_stays p.cwd x.cwd (used_by desks pid p here);
+        second_cwd = directory_stays p.second_cwd x.second_cwd (used_by_second desks pid p here);
         descriptors = x.descriptors;
         each = λ fd d there. descriptor_stays fd d (x.each fd d there) (open_by desks pid p fd d here there);
       }

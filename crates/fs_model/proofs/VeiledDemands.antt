@@ -1,6 +1,7 @@
 -- What each call asks depends on no byte of a file.
 use Rattle.std.specs.Prelude.{◌≡◌, ℕ, ◌-◌, ◌==◌, nat_le, true, false, not, List, ◌++◌, length, Option, None, Some, is_some, ℤ}
 use Rattle.std.proofs.Common.{refl, sym, ap, ◌∙◌}
+use Rattle.std.specs.Option.{option_map}
 use Rattle.posix_acl.specs.declared.entry.Perms.{Perms}
 use Rattle.posix_acl.specs.AccessList.{AccessList}
 use Rattle.fs_cred.specs.declared.errno.Errno.TheVariants.{ENOSPC}
@@ -11,8 +12,8 @@ use Rattle.fs_model.specs.declared.call.AclType.{AclType}
 use Rattle.fs_model.specs.declared.call.Flags.{Flags}
 use Rattle.fs_model.specs.declared.call.Call.TheVariants.{Open, Read, Write, Lseek, Close, Fstat, Stat, Lstat, Access, Truncate, Ftruncate, Chmod, Chown, GetAcl, SetAcl, Readdir, Mkdir, Rmdir, Link, Symlink, Readlink, Unlink, Rename, Chdir, Umask}
 use Rattle.fs_model.specs.Limits.{entries_limit}
-use Rattle.fs_model.specs.Nodes.{directory_in, is_directory, is_link, names_in, bytes_in}
-use Rattle.fs_model.specs.Trees.{is_within}
+use Rattle.fs_model.specs.Nodes.{Node, directory_in, is_directory, is_link, names_in, bytes_in}
+use Rattle.fs_model.specs.Trees.{Tree, node_at, is_within}
 use Rattle.fs_model.specs.Processes.{the_descriptor}
 use Rattle.fs_model.specs.Births.{the_node}
 use Rattle.fs_model.specs.Demands.{refuse, perms, only_if}
@@ -26,15 +27,16 @@ use Rattle.fs_model.specs.RenameCall.{rename_demands, rename_name_demands, renam
 use Rattle.fs_model.specs.Rows.{row_of}
 use Rattle.std.specs.Ordering.{nat_cmp}
 use Rattle.fs_model.specs.declared.event.Event.{Event}
-use Rattle.fs_model.specs.declared.event.Event.TheVariants.{Spawn, Exit, Call as Calls, Fsync, Sync, Statfs, Arm, Restart}
+use Rattle.fs_model.specs.declared.event.Event.TheVariants.{Spawn, Exit, Call as Calls, Enter, Fsync, Sync, Statfs, Arm, Restart}
 use Rattle.fs_layout.specs.Maps.{get}
 use Rattle.fs_model.specs.Processes.{Process}
 use Rattle.fs_model.specs.States.{State}
 use Rattle.fs_model.specs.Demands.{first_of}
+use Rattle.fs_model.specs.Walks.{is_nondirectory}
 use Rattle.fs_model.specs.Alike.{AreAlike}
-use Rattle.fs_model.specs.Steps.{late_refusal, demand_of, firm_refusal, other_refusal, walk_refusals, scene_of}
+use Rattle.fs_model.specs.Steps.{late_refusal, demand_of, enter_demands, firm_refusal, other_refusal, walk_refusals, scene_of}
 use Rattle.fs_model.proofs.VeiledScenes.{veiled_state, scene_of-veil, walk_refusals-veil, same_veil}
-use Rattle.fs_model.proofs.Veils.{veil, names_in-blotted, directory_in-blotted, is_link-blotted, permission_on-veil, search_on-veil}
+use Rattle.fs_model.proofs.Veils.{veil, veiled, node_at-veil, is_nondirectory-veil, names_in-blotted, directory_in-blotted, is_link-blotted, permission_on-veil, search_on-veil}
 use Rattle.fs_model.proofs.VeiledScenes.{veiled_scene, the_node-veil, names_of-veil, size-blotted, is_within-veil, length-veil}
 
 module _ (c : Scene) where
@@ -284,12 +286,28 @@ late-veil s p call =
     ∙ ap (λ ds. first_of (walk_refusals (veil s.tree) p 1 row.walks ++ ds)) (asks-veil (scene_of s p row) call)
     ∙ ap (λ ds. first_of (ds ++ row.demands (scene_of s p row))) (walk_refusals-veil s.tree p 1 row.walks)
 
+is_there-veil : (t : Tree) (n : ℕ) → is_some (node_at (veil t) n) ≡ is_some (node_at t n)
+is_there-veil t n = ap is_some (node_at-veil t n) ∙ go (node_at t n)
+  where
+    go : (o : Option Node) → is_some (option_map veiled o) ≡ is_some o
+    go None = refl
+    go (Some node) = refl
+
+enter-veil : (t : Tree) (directory second : ℕ) → first_of (enter_demands (veil t) directory second) ≡ first_of (enter_demands t directory second)
+enter-veil t directory second =
+    let first_there : is_some (node_at (veil t) directory) ≡ is_some (node_at t directory) = is_there-veil t directory in
+    let second_there : is_some (node_at (veil t) second) ≡ is_some (node_at t second) = is_there-veil t second in
+    let first_kind : is_nondirectory (veil t) (Some directory) ≡ is_nondirectory t (Some directory) = is_nondirectory-veil t (Some directory) in
+    let second_kind : is_nondirectory (veil t) (Some second) ≡ is_nondirectory t (Some second) = is_nondirectory-veil t (Some second) in
+    cc
+
 pub firm_refusal-veil : (s : State) (e : Event) → firm_refusal (veiled_state s) e ≡ firm_refusal s e
 unfolding firm_refusal
 firm_refusal-veil s (Spawn cred) = refl
 firm_refusal-veil s (Exit pid) = refl
 firm_refusal-veil s (Calls pid call) = refl
 firm_refusal-veil s (Fsync pid fd) = refl
+firm_refusal-veil s (Enter pid directory second) = refl
 firm_refusal-veil s Sync = refl
 firm_refusal-veil s Statfs = refl
 firm_refusal-veil s (Arm k) = refl
@@ -302,6 +320,7 @@ other_refusal-veil s (Calls pid call) = go (get nat_cmp s.desks pid)
     go : (o : Option Process) → demand_of (λ p. late_refusal (veiled_state s) p (row_of call)) o ≡ demand_of (λ p. late_refusal s p (row_of call)) o
     go None = refl
     go (Some p) = late-veil s p call
+other_refusal-veil s (Enter pid directory second) = enter-veil s.tree directory second
 other_refusal-veil s (Spawn cred) = refl
 other_refusal-veil s (Exit pid) = refl
 other_refusal-veil s (Fsync pid fd) = refl

@@ -6,7 +6,7 @@ use Rattle.std.proofs.lemmas.List.{length-replicate}
 use Rattle.std.proofs.lemmas.List.Sums.{sum_by-cons}
 use Rattle.fs_model.specs.Nodes.{Node, Body, File, Dir, Link, bytes_in, shown_mode, shown_size, type_of, acl_in, default_in}
 use Rattle.fs_model.specs.Trees.{Tree, node_at, names_of, names_for, parent, is_within}
-use Rattle.fs_model.specs.Processes.{Process}
+use Rattle.fs_model.specs.Processes.{Process, cwd_of}
 use Rattle.fs_model.specs.Limits.{root}
 use Rattle.fs_model.specs.Births.{the_node, no_node}
 use Rattle.fs_model.specs.States.{State}
@@ -66,15 +66,15 @@ second_found-veil t cwd (walk ∷ walks) = first_found-veil t cwd walks
 pub walk_refusals-veil : (t : Tree) (p : Process) (k : ℕ) (walks : List (Form × List ℕ)) → walk_refusals (veil t) p k walks ≡ walk_refusals t p k walks
 walk_refusals-veil t p k [] = refl
 walk_refusals-veil t p k (walk ∷ walks) =
-    ap (λ trail. first_refusal (veil t) p.cred k walk.0 trail ∷ walk_refusals (veil t) p (k + 1) walks) (trail_of-veil t p.cwd walk.0 walk.1)
-    ∙ ap (λ d. d ∷ walk_refusals (veil t) p (k + 1) walks) (first_refusal-veil t p.cred k walk.0 (trail_in t p.cwd walk))
-    ∙ ap (λ ds. first_refusal t p.cred k walk.0 (trail_in t p.cwd walk) ∷ ds) (walk_refusals-veil t p (k + 1) walks)
+    ap (λ trail. first_refusal (veil t) p.cred k walk.0 trail ∷ walk_refusals (veil t) p (k + 1) walks) (trail_of-veil t (cwd_of p k) walk.0 walk.1)
+    ∙ ap (λ d. d ∷ walk_refusals (veil t) p (k + 1) walks) (first_refusal-veil t p.cred k walk.0 (trail_in t (cwd_of p k) walk))
+    ∙ ap (λ ds. first_refusal t p.cred k walk.0 (trail_in t (cwd_of p k) walk) ∷ ds) (walk_refusals-veil t p (k + 1) walks)
 
 -- the scene of a call
 pub scene_of-veil : (s : State) (p : Process) (row : Row) → scene_of (veiled_state s) p row ≡ veiled_scene (scene_of s p row)
 scene_of-veil s p row =
-    ap (λ f. record { state = veiled_state s; process = p; first = f; second = second_found (veil s.tree) p.cwd row.walks }) (first_found-veil s.tree p.cwd row.walks)
-    ∙ ap (λ f. record { state = veiled_state s; process = p; first = first_found s.tree p.cwd row.walks; second = f }) (second_found-veil s.tree p.cwd row.walks)
+    ap (λ f. record { state = veiled_state s; process = p; first = f; second = second_found (veil s.tree) p.second_cwd row.walks }) (first_found-veil s.tree p.cwd row.walks)
+    ∙ ap (λ f. record { state = veiled_state s; process = p; first = first_found s.tree p.cwd row.walks; second = f }) (second_found-veil s.tree p.second_cwd row.walks)
 
 -- ---- what is shown of a node
 

@@ -180,7 +180,7 @@ least_refusal-veil cred t walk k (l ∷ lookups) =
     ap (λ d. or_else (or_else d (failed_with l.fault)) (least_refusal cred (veil t) walk (k + 1) lookups)) (search_on-veil cred t l.dir walk k)
     ∙ ap (or_else (lookup_refusal cred t walk k l)) (least_refusal-veil cred t walk (k + 1) lookups)
 
-is_nondirectory-veil : (t : Tree) (o : Option ℕ) → is_nondirectory (veil t) o ≡ is_nondirectory t o
+pub is_nondirectory-veil : (t : Tree) (o : Option ℕ) → is_nondirectory (veil t) o ≡ is_nondirectory t o
 is_nondirectory-veil t None = refl
 is_nondirectory-veil t (Some n) = ap is_nondirectory_node (node_at-veil t n) ∙ go (node_at t n)
   where

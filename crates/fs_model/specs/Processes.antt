@@ -2,8 +2,9 @@
 -- Description).
 --     Descriptor, Process, Desks        an open file; a process; all processes
 --     new_process        a process as it begins
+--     cwd_of, standing_at        where its walks start
 --     descriptor, the_descriptor, with_descriptor, with_offset, least_unused        one descriptor of a process
---     is_open, is_in_use        who uses a node
+--     is_open, starts_at, is_in_use        who uses a node
 use Rattle.std.specs.Prelude.{ℕ, ◌+◌, ◌==◌, Bool, false, ◌||◌, List, [], ◌∷◌, if◌then◌else◌, Option, unwrap_or}
 use Rattle.std.specs.List.{list_any}
 use Rattle.std.specs.Ordering.{nat_cmp}
@@ -23,6 +24,8 @@ pub record Process : Type 0 where
   pub cred : Credential
   pub umask : ℕ
   pub cwd : ℕ
+  -- where the second path of rename and link starts
+  pub second_cwd : ℕ
   pub descriptors : List (ℕ × Descriptor)
 
 -- the processes by their numbers
@@ -31,7 +34,15 @@ Desks = List (ℕ × Process)
 
 -- our own rule: at the root, with umask 022 and nothing open
 abbrev pub new_process : Credential → Process
-new_process cred = record { cred = cred; umask = 18; cwd = root; descriptors = [] }
+new_process cred = record { cred = cred; umask = 18; cwd = root; second_cwd = root; descriptors = [] }
+
+-- the directory in which walk k starts, where its path isn't absolute
+abbrev pub cwd_of : Process → ℕ → ℕ
+cwd_of p k = if k == 1 then p.cwd else p.second_cwd
+
+-- it stands in a directory, and its second walks start at another
+abbrev pub standing_at : ℕ → ℕ → Process → Process
+standing_at directory second p = record p { cwd = directory; second_cwd = second }
 
 abbrev pub descriptor : Process → ℕ → Option Descriptor
 descriptor p fd = get nat_cmp p.descriptors fd
@@ -58,6 +69,10 @@ least_unused k (e ∷ es) = if e.0 == k then least_unused (k + 1) es else k
 abbrev pub is_open : Desks → ℕ → Bool
 is_open desks n = list_any (λ p. list_any (λ d. d.1.number == n) p.1.descriptors) desks
 
--- our own rule: the directory n is the root, a current directory or open
+-- one of its walks starts at n
+abbrev pub starts_at : ℕ → Process → Bool
+starts_at n p = p.cwd == n || p.second_cwd == n
+
+-- our own rule: the directory n is the root, where walks of a process start, or open
 abbrev pub is_in_use : Desks → ℕ → Bool
-is_in_use desks n = n == root || list_any (λ p. p.1.cwd == n) desks || is_open desks n
+is_in_use desks n = n == root || list_any (λ p. starts_at n p.1) desks || is_open desks n

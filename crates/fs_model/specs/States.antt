@@ -44,6 +44,7 @@ pub record IsProcess (t : Tree) (p : Process) : Type 0 where
   pub cred : IsCredential p.cred
   pub umask : p.umask < 512
   pub cwd : IsDirectoryAt t p.cwd
+  pub second_cwd : IsDirectoryAt t p.second_cwd
   pub descriptors : IsMap nat_cmp p.descriptors
   pub each : (fd : ℕ) (d : Descriptor) → get nat_cmp p.descriptors fd ≡ Some d → IsDescriptor t fd d
 

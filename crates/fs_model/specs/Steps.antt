@@ -1,12 +1,13 @@
 -- The abstract machine, one event after another. What may stand in for an answer is our own rule.
 --     scene_of        what a call finds
+--     enter_demands        what entering a directory asks
 --     firm_refusal, other_refusal        the first refusal of an event, in order
 --     Choice, After, after, state_after        what an event answers and leaves where nothing refuses
 --     Step, Run        one step, and several
-use Rattle.std.specs.Prelude.{◌≡◌, ℕ, ◌+◌, ◌<◌, ◌≤◌, nat_le, Bool, true, false, List, [], ◌∷◌, ◌++◌, length, Option, None, Some, IsTrue, IsFalse, ◌⊎◌}
+use Rattle.std.specs.Prelude.{◌≡◌, ℕ, ◌+◌, ◌<◌, ◌≤◌, nat_le, Bool, true, false, not, List, [], ◌∷◌, ◌++◌, length, Option, None, Some, is_some, IsTrue, IsFalse, ◌⊎◌}
 use Rattle.std.specs.List.{flat_map}
 use Rattle.std.specs.Ordering.{nat_cmp}
-use Rattle.fs_cred.specs.declared.errno.Errno.TheVariants.{ESRCH, EIO, EAGAIN, ENOMEM}
+use Rattle.fs_cred.specs.declared.errno.Errno.TheVariants.{ENOENT, ENOTDIR, ESRCH, EIO, EAGAIN, ENOMEM}
 use Rattle.fs_cred.specs.declared.refusal.Refusal.{Refusal}
 use Rattle.fs_cred.specs.declared.refusal.Refusal.TheVariants.{Failed}
 use Rattle.fs_model.specs.declared.call.Call.{Call}
@@ -14,11 +15,11 @@ use Rattle.fs_model.specs.declared.call.Call.TheVariants.{Write, Lseek, Close, F
 use Rattle.fs_model.specs.declared.reply.Reply.{Reply}
 use Rattle.fs_model.specs.declared.reply.Reply.TheVariants.{Done, Pid, Space, Refused}
 use Rattle.fs_model.specs.declared.event.Event.{Event}
-use Rattle.fs_model.specs.declared.event.Event.TheVariants.{Spawn, Exit, Call as Calls, Fsync, Statfs, Arm, Restart}
+use Rattle.fs_model.specs.declared.event.Event.TheVariants.{Spawn, Exit, Call as Calls, Enter, Fsync, Statfs, Arm, Restart}
 use Rattle.fs_model.specs.Limits.{processes_limit}
 use Rattle.fs_layout.specs.Maps.{get, with_entry, without}
 use Rattle.fs_model.specs.Trees.{Tree, node_at, free_inodes}
-use Rattle.fs_model.specs.Processes.{Process, Desks, new_process}
+use Rattle.fs_model.specs.Processes.{Process, Desks, new_process, cwd_of, standing_at}
 use Rattle.fs_model.specs.TreeChanges.{Change, Same, Make, changed, swept}
 use Rattle.fs_model.specs.States.{State, MayBeFree}
 use Rattle.fs_model.specs.Demands.{Demand, refuse, first_of}
@@ -27,7 +28,7 @@ use Rattle.fs_model.specs.declared.walk.Form.{Form}
 use Rattle.fs_model.specs.Trails.{Trail, trail_of}
 use Rattle.fs_model.specs.declared.walk.Found.{Found}
 use Rattle.fs_model.specs.declared.walk.Last.TheVariants.{Top}
-use Rattle.fs_model.specs.Walks.{found_of, first_refusal}
+use Rattle.fs_model.specs.Walks.{found_of, first_refusal, is_nondirectory}
 use Rattle.fs_model.specs.Scenes.{Scene, Effect, Row, is_bad}
 use Rattle.fs_model.specs.Rows.{row_of}
 
@@ -39,7 +40,7 @@ trail_in t cwd walk = trail_of t cwd walk.0 walk.1
 -- the refusals of the walks, the first of them with number k
 abbrev pub walk_refusals : Tree → Process → ℕ → List (Form × List ℕ) → List Demand
 walk_refusals t p k [] = []
-walk_refusals t p k (walk ∷ walks) = first_refusal t p.cred k walk.0 (trail_in t p.cwd walk) ∷ walk_refusals t p (k + 1) walks
+walk_refusals t p k (walk ∷ walks) = first_refusal t p.cred k walk.0 (trail_in t (cwd_of p k) walk) ∷ walk_refusals t p (k + 1) walks
 
 abbrev pub nothing_found : Found
 nothing_found = record { dir = 0; name = []; last = Top; ino = None; slash = false; step = 0 }
@@ -60,7 +61,7 @@ scene_of s p row = record {
   state = s;
   process = p;
   first = first_found s.tree p.cwd row.walks;
-  second = second_found s.tree p.cwd row.walks;
+  second = second_found s.tree p.second_cwd row.walks;
 }
 
 -- ---- refusals
@@ -86,12 +87,23 @@ unfoldable pub firm_refusal : State → Event → Demand
 firm_refusal s (Calls pid call) = of_process s pid (λ p. early_refusal p (row_of call))
 firm_refusal s (Fsync pid fd) = of_process s pid (λ p. is_bad fd p)
 firm_refusal s (Exit pid) = of_process s pid (λ p. None)
+firm_refusal s (Enter pid directory second) = of_process s pid (λ p. None)
 firm_refusal s (Spawn cred) = refuse EAGAIN (nat_le processes_limit (length s.desks))
 firm_refusal s _ = None
+
+-- ENOENT where either node isn't there, ENOTDIR where either is no directory: our own rule. No permission is asked.
+abbrev pub enter_demands : Tree → ℕ → ℕ → List Demand
+enter_demands t directory second =
+    refuse ENOENT (not (is_some (node_at t directory)))
+    ∷ refuse ENOENT (not (is_some (node_at t second)))
+    ∷ refuse ENOTDIR (is_nondirectory t (Some directory))
+    ∷ refuse ENOTDIR (is_nondirectory t (Some second))
+    ∷ []
 
 -- the first of the others
 unfoldable pub other_refusal : State → Event → Demand
 other_refusal s (Calls pid call) = of_process s pid (λ p. late_refusal s p (row_of call))
+other_refusal s (Enter pid directory second) = first_of (enter_demands s.tree directory second)
 other_refusal s _ = None
 
 -- ---- what an event leaves
@@ -119,11 +131,17 @@ abbrev pub after_call : State → ℕ → Row → ℕ → Option Process → Aft
 after_call s pid row number None = unchanged s Done
 after_call s pid row number (Some p) = after_effect s pid (row.effect (scene_of s p row) number)
 
+abbrev pub after_enter : State → ℕ → ℕ → ℕ → Option Process → After
+after_enter s pid directory second None = unchanged s Done
+after_enter s pid directory second (Some p) =
+    record { change = Same; desks = with_entry nat_cmp s.desks pid (standing_at directory second p); reply = Done }
+
 unfoldable pub after : State → Event → Choice → After
 after s (Calls pid call) choice = after_call s pid (row_of call) choice.number (get nat_cmp s.desks pid)
 after s (Exit pid) choice = record { change = Same; desks = without nat_cmp s.desks pid; reply = Done }
 after s (Spawn cred) choice =
     record { change = Same; desks = with_entry nat_cmp s.desks choice.pid (new_process cred); reply = Pid choice.pid }
+after s (Enter pid directory second) choice = after_enter s pid directory second (get nat_cmp s.desks pid)
 after s Statfs choice = unchanged s (Space s.free (free_inodes s.room s.tree))
 after s _ choice = unchanged s Done
 

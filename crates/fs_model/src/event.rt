@@ -13,8 +13,18 @@ pub enum Event {
     Exit(usize),
     /// The process with this number makes a call.
     Call(usize, Call),
+    /// The process with this number stands in a directory from now on, and the second path of its rename and link starts at
+    /// another. Nothing is asked of its permissions.
+    Enter {
+        pid: usize,
+        directory: u32,
+        second: u32,
+    },
     /// fsync, by the process with this number, of one of its descriptors.
-    Fsync { pid: usize, fd: usize },
+    Fsync {
+        pid: usize,
+        fd: usize,
+    },
     /// All that was done becomes stable.
     Sync,
     /// Asks for the space that is free.
@@ -23,7 +33,10 @@ pub enum Event {
     Arm(u64),
     /// The disk stops, with these choices of what it keeps, may be told to fail again after so many writes and syncs,
     /// and is mounted.
-    Restart { choice: Bytes, arm: Option<u64> },
+    Restart {
+        choice: Bytes,
+        arm: Option<u64>,
+    },
 }
 
 /// Why a file system isn't mounted again.

@@ -1,5 +1,5 @@
 -- What the machine's replies are in the results of the calls.
---     spawned, finished, unmounted, counted        of spawn, of exit, fsync and sync, of unmount, of statfs
+--     spawned, finished, unmounted, counted        of spawn, of exit, enter, fsync and sync, of unmount, of statfs
 use Rattle.std.specs.Prelude.{ℕ, Result, Ok, Err, Option, Some, None}
 use Rattle.fs_cred.specs.declared.errno.Errno.{Errno}
 use Rattle.fs_cred.specs.declared.refusal.Refusal.TheVariants.{Failed}

@@ -23,7 +23,7 @@ fn spawned(outcome: Result<usize, Errno>) -> Reply
     }
 }
 
-// The reply to exit, fsync and sync.
+// The reply to exit, enter, fsync and sync.
 fn finished(outcome: Result<(), Errno>) -> Reply
     ensures { result ≡ finished outcome }
 {
@@ -56,6 +56,11 @@ impl<D: Disk + Drop> Fs<D> {
             Event::Spawn(cred) => spawned(self.spawn_copy(cred)),
             Event::Exit(pid) => finished(self.exit(*pid)),
             Event::Call(pid, call) => self.call(*pid, call),
+            Event::Enter {
+                pid,
+                directory,
+                second,
+            } => finished(self.enter(*pid, *directory, *second)),
             Event::Fsync { pid, fd } => finished(self.fsync(*pid, *fd)),
             Event::Sync => finished(self.sync()),
             Event::Statfs => counted(self.statfs()),

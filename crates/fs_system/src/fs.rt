@@ -7,7 +7,7 @@ ghost use Rattle.sector_txn.specs.Stores.{StoreView, present, disk_after};
 ghost use Rattle.fs_model.specs.Processes.{Desks};
 ghost use Rattle.fs_model.specs.States.{State};
 ghost use Rattle.fs_model.specs.declared.event.Event.{Event};
-ghost use Rattle.fs_model.specs.declared.event.Event.TheVariants.{Spawn, Exit, Call as Calls, Fsync, Sync, Statfs};
+ghost use Rattle.fs_model.specs.declared.event.Event.TheVariants.{Spawn, Exit, Call as Calls, Enter, Fsync, Sync, Statfs};
 ghost use Rattle.fs_system.specs.Playing.{HasDisk};
 ghost use Rattle.fs_system.specs.Mounts.{Mounts, FailsToMount, IsNotMounted};
 ghost use Rattle.fs_system.specs.Mounting.{StandsAsBefore, disk_mounted, disk_of_store, is_halted, LeavesHalted};
@@ -18,7 +18,7 @@ ghost use Rattle.fs_system.specs.Replies.{spawned, finished, unmounted, counted}
 ghost use Rattle.fs_model.specs.declared.event.RestartFault.TheVariants.{DiskFault as Device};
 
 use crate::faults::MountFault;
-use crate::stored::{count_space, exit_kept, failed, perform_kept};
+use crate::stored::{count_space, enter_kept, exit_kept, failed, perform_kept};
 use crate::sweeping::sweep;
 use fs_check::check;
 use fs_cred::{Cred, Errno};
@@ -242,6 +242,28 @@ impl<D: Disk + Drop> Fs<D> {
         let store = take_store(&mut self.base);
         let (done, base) = exit_kept(store, self.place, &mut self.procs, pid);
         self.base = Some(base);
+        done
+    }
+
+    /// Puts a process into a directory, and lets the second path of its rename and link start at another: inodes by their
+    /// numbers. Both stay in use until it leaves them.
+    ///
+    /// Who calls this is trusted, as with `spawn`: no permission is asked.
+    ///
+    /// # Errors
+    ///
+    /// EIO where a read failed or the file system is halted, ESRCH where there is no such process, ENOENT where one of both
+    /// isn't there, and ENOTDIR where one is no directory.
+    pub fn enter(&mut self, pid: usize, directory: u32, second: u32) -> Result<(), Errno>
+        ensures does { Happens D.state self.old self.new (Enter pid directory second) (finished result) }
+        ensures halted { LeavesHalted self.old self.new }
+    {
+        if self.is_halted() {
+            return Err(Errno::EIO);
+        }
+        let store = take_store(&mut self.base);
+        let (done, store) = enter_kept(store, self.place, &mut self.procs, pid, directory, second);
+        self.base = Some(Ok(store));
         done
     }
 

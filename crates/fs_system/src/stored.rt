@@ -7,7 +7,7 @@ ghost use Rattle.sector_txn.specs.Stores.{present, disk_after};
 ghost use Rattle.bit_alloc.specs.declared.bitmap.Bitmap.TheVariants.{Blocks, Inodes};
 ghost use Rattle.bit_alloc.specs.Bitmaps.{HasBitmaps, free_numbers};
 ghost use Rattle.fs_model.specs.States.{State};
-ghost use Rattle.fs_model.specs.declared.event.Event.TheVariants.{Call as Calls, Exit, Statfs};
+ghost use Rattle.fs_model.specs.declared.event.Event.TheVariants.{Call as Calls, Enter, Exit, Statfs};
 ghost use Rattle.fs_system.specs.Seen.{IsRunning, IsOn};
 ghost use Rattle.fs_system.specs.Doing.{Does};
 ghost use Rattle.fs_system.specs.Replies.{finished, counted};
@@ -20,6 +20,7 @@ use file_calls::exit;
 use fs_cred::{Errno, Refusal};
 use fs_layout::Place;
 use fs_model::{Call, Reply, call_is_in_range};
+use name_calls::enter;
 use open_files::Procs;
 use redo_journal::Broken;
 use sector_disk::{Disk, DiskFault};
@@ -80,6 +81,25 @@ pub(crate) fn exit_kept<D: Disk>(
         Err(Refusal::Failed(errno)) => (Err(errno), Ok(txn.drop_delta())),
         Err(Refusal::Denied(_)) => unreachable!(),
     }
+}
+
+/// Puts a process into a directory, and lets its second paths start at another.
+pub(crate) fn enter_kept<D: Disk>(
+    store: Store<D>,
+    place: Place,
+    procs: &mut Procs,
+    pid: usize,
+    directory: u32,
+    second: u32,
+) -> (Result<(), Errno>, Store<D>)
+    requires running { (s : State) × IsRunning (D.state store.disk).size place (present D.state store) procs.old s }
+    ensures does { (s : State) → IsRunning (D.state store.disk).size place (present D.state store) procs.old s
+        → (t : State) × IsRunning (D.state result.1.disk).size place (present D.state result.1) procs.new t
+        × Does (D.state store.disk) (D.state result.1.disk) s (Enter pid directory second) (finished result.0) t }
+{
+    let mut txn = store.begin();
+    let done = enter(&mut txn, place, procs, pid, directory, second);
+    (done, txn.drop_delta())
 }
 
 // How many data sectors and inodes are free.

@@ -140,6 +140,32 @@ fn a_halted_one_calls_its_disk_no_more(rt: HostRuntime) -> Result<(), Fail> {
     Ok(())
 }
 
+// What process 1 or another is answered that is put into these directories. The root is inode 1, and a file 2.
+fn entered(alloc: Global, row: (usize, u32, u32)) -> Result<Told, Fail> {
+    let mut fs = new_fs(alloc, MemDisk::new(alloc, 1024)?)?;
+    let _pid = spawned(alloc, &mut fs)?;
+    let _fd = opened(alloc, &mut fs)?;
+    let told = told_done(fs.enter(row.0, row.1, row.2));
+    let (_disk, _errno) = fs.unmount();
+    Ok(told)
+}
+
+#[test]
+fn a_process_is_put_into_directories(rt: HostRuntime) -> Result<(), Fail> {
+    for (row, wanted) in [
+        ((1, 1, 1), Ok(0)),
+        ((2, 64, 2), Err(3)),
+        ((1, 2, 64), Err(2)),
+        ((1, 0, 2), Err(2)),
+        ((1, 2, 1), Err(20)),
+        ((1, 1, 2), Err(20)),
+    ] {
+        let found = entered(rt.alloc(), row)?;
+        assert!(rt; found == wanted, "{row:?}: {found:?}");
+    }
+    Ok(())
+}
+
 // ---- laws
 
 #[test]

@@ -2,6 +2,7 @@ pub mod BornDirectories
 pub mod BornLinks
 pub mod Droppings
 pub mod Entered
+pub mod Enterings
 pub mod Inherited
 pub mod LinkAsked
 pub mod Linkings

@@ -1,5 +1,6 @@
 pub mod Dropping
 pub mod Entering
+pub mod Enters
 pub mod Linking
 pub mod Moving
 pub mod Removing

@@ -3,7 +3,7 @@
 ghost use Rattle.std.specs.Prelude.{◌≡◌, ◌+◌, ◌/◌, ◌%◌, ◌<◌, ◌==◌, ℕ, cond, not, Some, Ok, option_copied, Err, OnOk, IfOk, IfErr, IsSome};
 ghost use Rattle.std.specs.Ordering.{nat_cmp};
 ghost use Rattle.call_parts.specs.DiskWords.{get, inode_at, SameStore, IsUnchanged, IsSound, HasSpare};
-ghost use Rattle.call_parts.specs.ModelWords.{Done, Desks, with_changed, born_directory, the_node, refuse, first_of, number, must_be_new, Tree, refused_or, FailsToRead, IsAnswered, HoldsTree, IsThere};
+ghost use Rattle.call_parts.specs.ModelWords.{Done, Desks, with_changed, standing_at, born_directory, the_node, refuse, first_of, number, must_be_new, Tree, refused_or, FailsToRead, IsAnswered, HoldsTree, IsThere};
 ghost use Rattle.fs_model.specs.declared.call.Call.TheVariants.{Mkdir, Chdir};
 ghost use Rattle.call_parts.specs.Performing.{IsReady, Performs};
 ghost use Rattle.call_parts.specs.Makings.{CanMake};
@@ -178,7 +178,7 @@ fn directory_at<S: Sectors>(
     ensures refused { IfErr result (λ e. Performs place pid (Chdir path.now) (S.state s.old) (S.state s.new)
         procs.now procs.now (Err e)) }
     ensures there { IfOk result (λ n. IsSome (get nat_cmp procs.now pid)) }
-    ensures entered { IfOk result (λ n. (now : Desks) → now ≡ with_changed procs.now pid (λ p. record p { cwd = n })
+    ensures entered { IfOk result (λ n. (now : Desks) → now ≡ with_changed procs.now pid (standing_at n n)
         → Performs place pid (Chdir path.now) (S.state s.old) (S.state s.new) procs.now now (Ok Done)) }
     ensures same { IsUnchanged (S.state s.old) (S.state s.new) }
 {
@@ -187,8 +187,8 @@ fn directory_at<S: Sectors>(
     Ok(n)
 }
 
-/// Makes what a path leads to the current directory of the process. ENOENT: the path leads to nothing. ENOTDIR: it leads to
-/// what is no directory.
+/// Makes what a path leads to the current directory of the process, in which all its paths start. ENOENT: the path leads to
+/// nothing. ENOTDIR: it leads to what is no directory.
 pub fn chdir<S: Sectors>(
     alloc: Global,
     s: &mut S,
@@ -202,6 +202,6 @@ pub fn chdir<S: Sectors>(
     ensures same { IsUnchanged (S.state s.old) (S.state s.new) }
 {
     let n = directory_at(alloc, s, place, procs, pid, path)?;
-    procs.set_cwd(pid, n);
+    procs.stand_at(pid, n, n);
     Ok(Reply::Done)
 }

@@ -3,11 +3,12 @@
 //! Each call is made in a transaction, by the process of a number, and is one step of the abstract machine: it answers the
 //! first refusal of its demands, or has its effect on tree and process. At `Err` the caller drops the transaction's changes;
 //! the processes are as they were. ENOMEM and EIO may stand in place of any answer that comes after the checks of the arguments
-//! and of the path.
+//! and of the path. So it is with [`enter`], which is no call, and never answers ENOMEM.
 #![tactic(auto)]
 
 mod directories;
 mod dropping;
+mod entering;
 mod linking;
 mod links;
 mod moving;
@@ -18,6 +19,7 @@ mod replacing;
 mod ways;
 
 pub use directories::{chdir, mkdir};
+pub use entering::enter;
 pub use linking::link;
 pub use links::{readlink, symlink};
 pub use performing::perform;

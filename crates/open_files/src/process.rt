@@ -4,7 +4,7 @@ ghost use Rattle.std.specs.List.{list_any};
 ghost use Rattle.std.specs.Ordering.{nat_cmp};
 ghost use Rattle.fs_layout.specs.Maps.{without};
 ghost use Rattle.fs_model.specs.Limits.{descriptors_limit};
-ghost use Rattle.fs_model.specs.Processes.{new_process, descriptor, with_descriptor, with_offset};
+ghost use Rattle.fs_model.specs.Processes.{new_process, standing_at, starts_at, descriptor, with_descriptor, with_offset};
 
 use crate::descriptor::Descriptor;
 use crate::descriptors::Descriptors;
@@ -24,6 +24,7 @@ pub struct Process {
     cred: Cred,
     umask: u16,
     cwd: u32,
+    second_cwd: u32,
     descriptors: Descriptors,
 }
 
@@ -34,9 +35,9 @@ impl Model for Process {
 
     ghost use Rattle.open_files.specs.Tables.{IsKeptProcess};
 
-    ghost view = { λ p. record { cred = p.cred; umask = p.umask; cwd = p.cwd; descriptors = p.descriptors } };
+    ghost view = { λ p. record { cred = p.cred; umask = p.umask; cwd = p.cwd; second_cwd = p.second_cwd; descriptors = p.descriptors } };
 
-    ghost invariant = { λ p. IsKeptProcess (record { cred = p.cred; umask = p.umask; cwd = p.cwd; descriptors = p.descriptors }) };
+    ghost invariant = { λ p. IsKeptProcess (record { cred = p.cred; umask = p.umask; cwd = p.cwd; second_cwd = p.second_cwd; descriptors = p.descriptors }) };
 }
 
 impl Process {
@@ -51,6 +52,7 @@ impl Process {
             cred,
             umask: NEW_UMASK,
             cwd: ROOT,
+            second_cwd: ROOT,
             descriptors: Descriptors::new(),
         }
     }
@@ -76,6 +78,13 @@ impl Process {
         self.cwd
     }
 
+    /// The inode of the directory in which the second path of rename and link starts.
+    pub fn second_cwd(&self) -> u32
+        ensures { result ≡ self.now.second_cwd }
+    {
+        self.second_cwd
+    }
+
     // Sets the umask, and answers the old one.
     pub(crate) fn set_umask(&mut self, mask: u16) -> u16
         ensures old { result ≡ self.old.umask }
@@ -87,11 +96,12 @@ impl Process {
         old
     }
 
-    pub(crate) fn set_cwd(&mut self, ino: u32)
-        ensures set { self.new ≡ record self.old { cwd = ino } }
+    pub(crate) fn stand_at(&mut self, directory: u32, second: u32)
+        ensures set { self.new ≡ standing_at directory second self.old }
         ensures kept { IsKeptProcess self.new }
     {
-        self.cwd = ino;
+        self.cwd = directory;
+        self.second_cwd = second;
     }
 
     // The lowest unused descriptor; `None` where all are used.
@@ -138,6 +148,13 @@ impl Process {
         ensures kept { IsKeptProcess self.new }
     {
         self.descriptors.remove(fd);
+    }
+
+    // Whether a walk of the process starts at an inode.
+    pub(crate) fn starts_at(&self, ino: u32) -> bool
+        ensures { result ≡ starts_at ino self.now }
+    {
+        self.cwd == ino || self.second_cwd == ino
     }
 
     // Whether the process has an inode open.

@@ -5,7 +5,7 @@ ghost use Rattle.std.specs.Ordering.{nat_cmp};
 ghost use Rattle.fs_cred.specs.declared.errno.Errno.TheVariants.{ESRCH, EAGAIN, ENOMEM};
 ghost use Rattle.fs_layout.specs.Maps.{get, with_entry, without};
 ghost use Rattle.fs_model.specs.Limits.{processes_limit};
-ghost use Rattle.fs_model.specs.Processes.{new_process, with_descriptor, with_offset, is_open, is_in_use};
+ghost use Rattle.fs_model.specs.Processes.{new_process, standing_at, starts_at, with_descriptor, with_offset, is_open, is_in_use};
 ghost use Rattle.open_files.specs.Tables.{answer_of, open_in, slot_in, IsUnused, with_changed, without_descriptor, IsTable};
 
 use crate::descriptor::Descriptor;
@@ -125,15 +125,15 @@ impl Procs {
         Ok(process.set_umask(mask))
     }
 
-    /// Sets the current directory of a process that is there.
-    pub fn set_cwd(&mut self, pid: usize, ino: u32)
+    /// A process that is there stands in a directory from now on, and the second path of its rename and link starts at another.
+    pub fn stand_at(&mut self, pid: usize, directory: u32, second: u32)
         requires found { IsSome (get nat_cmp self.old pid) }
-        ensures set { self.new ≡ with_changed self.old pid (λ p. record p { cwd = ino }) }
+        ensures set { self.new ≡ with_changed self.old pid (standing_at directory second) }
     {
         let Some(process) = self.slab.get_mut(pid - 1) else {
             return;
         };
-        process.set_cwd(ino);
+        process.stand_at(directory, second);
     }
 
     /// The lowest unused descriptor of a process, which its next open gets. `ESRCH`: there is no such process. `EMFILE`: all
@@ -227,19 +227,19 @@ impl Procs {
         process.has_open_besides(fd, ino) || self.is_open_by_others(pid, ino)
     }
 
-    // Whether an inode is the current directory of a process.
+    // Whether a walk of a process starts at an inode.
     fn is_current(&self, ino: u32) -> bool
-        ensures { result ≡ list_any (λ p. p.1.cwd == ino) self.now }
+        ensures { result ≡ list_any (λ p. starts_at ino p.1) self.now }
     {
         for (_, process) in self.slab.iter() {
-            if process.cwd() == ino {
+            if process.starts_at(ino) {
                 return true;
             }
         }
         false
     }
 
-    /// Whether a directory is in use: it is the root, a current directory or open.
+    /// Whether a directory is in use: it is the root, where walks of a process start, or open.
     pub fn in_use(&self, ino: u32) -> bool
         ensures { result ≡ is_in_use self.now ino }
     {

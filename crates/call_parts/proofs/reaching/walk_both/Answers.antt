@@ -11,7 +11,7 @@ use Rattle.path_walk.proofs.Kept.{failed_with, kept_back}
 use Rattle.call_parts.specs.Performing.{IsStateOf}
 use Rattle.call_parts.specs.Reaching.{RefusesBoth}
 use Rattle.call_parts.proofs.ByTwoPaths.{absent_both, unwalked_both, both_found, same_err}
-use Rattle.call_parts.proofs.Calling.{state_tree, same_process, cwd_there, cwd_below}
+use Rattle.call_parts.proofs.Calling.{state_tree, same_process, cwd_there, cwd_below, second_cwd_there, second_cwd_below}
 use Rattle.call_parts.proofs.Reachings.{ready_kept}
 use Rattle.call_parts.proofs.reaching.walk_both.Goals as goal
 
@@ -32,6 +32,10 @@ find_names-requires-clause-inodes g c = held_inodes (state_tree c.requires.ready
 pub find_names-requires-clause-start : goal.find_names-requires-clause-start
 find_names-requires-clause-start g c = cwd_below c.requires.ready.is_state c.args.pid c.in_ok-process.process.now c.in_ok-process.ensures.found
 
+pub find_names-requires-clause-second_start : goal.find_names-requires-clause-second_start
+find_names-requires-clause-second_start g c =
+    second_cwd_below c.requires.ready.is_state c.args.pid c.in_ok-process.process.now c.in_ok-process.ensures.found
+
 pub returns-in_err-first-clause-refused : goal.returns-in_err-first-clause-refused
 returns-in_err-first-clause-refused g c =
     let r = c.from_residual-in_err-first.ensures in
@@ -45,7 +49,7 @@ returns-in_err-first-clause-refused g c =
     (λ (e : Refusal). (s : State) → IsStateOf c.args.place old.sectors c.args.procs.now s
     → RefusesBoth old.disk new.disk s c.args.pid c.args.old.now c.args.new.now e) r.0 r.1
     (λ s at. unwalked_both old.disk new.disk s c.args.pid q (same_process at c.args.pid q there) c.args.old.now c.args.new.now e
-    (λ x h. same_err e x (found.checked x h)) (λ none. found.each none s.tree (state_tree at) (cwd_there at c.args.pid q there)))
+    (λ x h. same_err e x (found.checked x h)) (λ none. found.each none s.tree (state_tree at) (cwd_there at c.args.pid q there) (second_cwd_there at c.args.pid q there)))
 
 pub returns-clause-walked : goal.returns-clause-walked
 returns-clause-walked g c =
@@ -62,5 +66,5 @@ returns-clause-walked g c =
       found = λ s at.
           let before = kept_back (λ (m : SectorMap). IsStateOf c.args.place m c.args.procs.now s) found.same at in
           both_found old.disk new.disk s c.args.pid q (same_process before c.args.pid q there) c.args.old.now c.args.new.now c.in_ok-first.first c.in_ok-first.second found.valid
-          (found.each found.valid s.tree (state_tree before) (cwd_there before c.args.pid q there));
+          (found.each found.valid s.tree (state_tree before) (cwd_there before c.args.pid q there) (second_cwd_there before c.args.pid q there));
     }

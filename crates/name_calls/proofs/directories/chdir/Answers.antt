@@ -16,4 +16,4 @@ returns-in_err-n-clause-performs g c =
     (sym (is_err c.from_residual.result c.in_err-n.field-0.0 r.0 r.1)) c.in_err-n.ensures.refused
 
 pub returns-clause-performs : goal.returns-clause-performs
-returns-clause-performs g c = c.in_ok-n.ensures.entered c.set_cwd.new.self c.set_cwd.ensures.set
+returns-clause-performs g c = c.in_ok-n.ensures.entered c.stand_at.new.self c.stand_at.ensures.set

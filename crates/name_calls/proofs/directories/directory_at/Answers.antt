@@ -3,7 +3,7 @@ use Rattle.std.proofs.Common.{ℕ, sym, ap, subst, ◌∙◌, refl}
 use Rattle.fs_cred.specs.declared.refusal.Refusal.{Refusal}
 use Rattle.fs_model.specs.declared.call.Call.TheVariants.{Chdir}
 use Rattle.fs_model.specs.declared.reply.Reply.TheVariants.{Done}
-use Rattle.fs_model.specs.Processes.{Process}
+use Rattle.fs_model.specs.Processes.{Process, standing_at}
 use Rattle.fs_model.specs.Scenes.{number, with_process}
 use Rattle.block_map.proofs.Runs.{unchanged_joined}
 use Rattle.path_walk.proofs.Kept.{failed_with}
@@ -58,10 +58,10 @@ returns-clause-entered g c = λ now is_now.
     let q = c.in_ok-walked.walked.process.now in
     let n = c.in_ok-n.n in
     process_changed (chdir_by_path c.args.path.now) x.same x.walked (g.S.Sectors.state c.directory_found.new.s) now c.in_ok-n.ensures.same
-    (record q { cwd = n }) Done (is_now ∙ changed_there _ c.args.pid q (λ p. record p { cwd = n }) x.walked.there) refl
+    (standing_at n n q) Done (is_now ∙ changed_there _ c.args.pid q (standing_at n n) x.walked.there) refl
     (λ s has at.
     let met = entered_as s.tree f n c.cred.ensures (c.in_ok-n.ensures.each s.tree (state_tree at) (λ k some. found_there k at has some)) in
-    (met.0, ap (λ (k : ℕ). with_process (record q { cwd = k }) Done) met.1))
+    (met.0, ap (λ (k : ℕ). with_process (standing_at k k q) Done) met.1))
 
 pub returns-clause-same : goal.returns-clause-same
 returns-clause-same g c = unchanged_joined c.in_ok-walked.ensures.same c.in_ok-n.ensures.same

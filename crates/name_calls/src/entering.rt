@@ -1,0 +1,81 @@
+//! Where a process stands, and where its second paths start, as someone says who is trusted: no call of the process.
+
+ghost use Rattle.std.specs.Prelude.{◌≡◌, IfOk, IfErr};
+ghost use Rattle.sector_disk.specs.Disk.{HasFailed};
+ghost use Rattle.fs_cred.specs.declared.errno.Errno.TheVariants.{EIO};
+ghost use Rattle.fs_model.specs.Steps.{enter_demands};
+ghost use Rattle.call_parts.specs.DiskWords.{IsUnchanged, IsSound};
+ghost use Rattle.call_parts.specs.ModelWords.{first_of, Tree, HoldsTree};
+ghost use Rattle.call_parts.specs.Performing.{IsReady};
+ghost use Rattle.name_calls.specs.Enters.{type_in, both_directories, IsAskedOfBoth, Enters};
+
+use fs_cred::Errno;
+use fs_layout::Place;
+use fs_model::FileType;
+use inode_table::load;
+use open_files::Procs;
+use sector_txn::Sectors;
+
+// The type of what stands at a number; `None` where nothing does. EIO: the disk has failed.
+fn type_at<S: Sectors>(s: &mut S, place: Place, n: u32) -> Result<Option<FileType>, Errno>
+    requires { IsSound place (S.state s.old) }
+    ensures found { IfOk result (λ found. (t : Tree) → HoldsTree place (S.state s.old).sectors t → found ≡ type_in t n) }
+    ensures fault { IfErr result (λ errno. (errno ≡ EIO) × HasFailed (S.state s.old).disk (S.state s.new).disk) }
+    ensures same { IsUnchanged (S.state s.old) (S.state s.new) }
+{
+    if n >= place.inodes {
+        return Ok(None);
+    }
+    match load(s, place, n) {
+        Ok(inode) => Ok(FileType::of_kind(inode.kind)),
+        Err(_) => Err(Errno::EIO),
+    }
+}
+
+// Whether both are directories. ENOENT: one isn't there. ENOTDIR: one is none.
+fn both_directories(first: Option<FileType>, second: Option<FileType>) -> Result<(), Errno>
+    ensures { result ≡ both_directories first second }
+{
+    match (first, second) {
+        (None, _) | (Some(_), None) => Err(Errno::ENOENT),
+        (Some(FileType::Directory), Some(FileType::Directory)) => Ok(()),
+        (Some(_), Some(_)) => Err(Errno::ENOTDIR),
+    }
+}
+
+// Asks whether directories stand at both numbers. EIO: the disk has failed.
+fn ask_of_both<S: Sectors>(
+    s: &mut S,
+    place: Place,
+    directory: u32,
+    second: u32,
+) -> Result<(), Errno>
+    requires { IsSound place (S.state s.old) }
+    ensures each { (t : Tree) → HoldsTree place (S.state s.old).sectors t
+        → IsAskedOfBoth (S.state s.old).disk (S.state s.new).disk (first_of (enter_demands t directory second)) result }
+    ensures same { IsUnchanged (S.state s.old) (S.state s.new) }
+{
+    let first = type_at(s, place, directory)?;
+    let other = type_at(s, place, second)?;
+    both_directories(first, other)
+}
+
+/// Puts a process into a directory, and lets the second path of its rename and link start at another. Who asks for that is
+/// trusted: no permission is asked. ESRCH: there is no such process. ENOENT: one of both isn't there. ENOTDIR: one is no
+/// directory. EIO: the disk has failed.
+pub fn enter<S: Sectors>(
+    s: &mut S,
+    place: Place,
+    procs: &mut Procs,
+    pid: usize,
+    directory: u32,
+    second: u32,
+) -> Result<(), Errno>
+    requires ready { IsReady place (S.state s.old) procs.old }
+    ensures { Enters place pid directory second (S.state s.old) (S.state s.new) procs.old procs.new result }
+{
+    procs.process(pid)?;
+    ask_of_both(s, place, directory, second)?;
+    procs.stand_at(pid, directory, second);
+    Ok(())
+}
