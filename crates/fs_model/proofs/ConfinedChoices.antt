@@ -1,5 +1,5 @@
 -- Two steps of a process after which the same inodes are in use come from the same free choices.
-use Rattle.std.specs.Prelude.{◌≡◌, ◌≢◌, ℕ, ◌≤◌, ◌⊎◌, Bool, true, false, not, ◌&&◌, cond, List, [], ◌∷◌, Option, None, Some, is_some, unwrap_or}
+use Rattle.std.specs.Prelude.{◌≡◌, ◌≢◌, ℕ, ◌≤◌, ◌⊎◌, Bool, true, false, List, Option, None, Some, is_some}
 use Rattle.std.proofs.Common.{refl, sym, ap, arith, ◌∙◌, subst, inl, inr}
 use Rattle.std.proofs.lemmas.Bool.{cases_eq}
 use Rattle.std.specs.Option.{option_map}
@@ -8,34 +8,29 @@ use Rattle.fs_layout.specs.Maps.{get, name_cmp, with_entry, IsMap}
 use Rattle.fs_layout.proofs.MapLaws.{with_entry-IsMap}
 use Rattle.fs_layout.proofs.NameMaps.{leading-with_name, once_same}
 use Rattle.fs_model.specs.declared.call.Call.{Call}
-use Rattle.fs_model.specs.declared.call.Call.TheVariants.{Open, Read, Write, Lseek, Close, Fstat, Stat, Lstat, Access, Truncate, Ftruncate, Chmod, Chown, GetAcl, SetAcl, Readdir, Mkdir, Rmdir, Link, Symlink, Readlink, Unlink, Rename, Chdir, Umask}
-use Rattle.fs_model.specs.declared.call.Flags.{Flags}
 use Rattle.fs_model.specs.declared.event.Event.{Event}
 use Rattle.fs_model.specs.declared.event.Event.TheVariants.{Spawn, Exit, Call as Calls, Enter, Fsync, Sync, Statfs, Arm, Restart}
 use Rattle.fs_model.specs.declared.reply.Reply.{Reply}
-use Rattle.fs_model.specs.declared.reply.Reply.TheVariants.{Fd}
-use Rattle.fs_model.specs.Nodes.{Node, names_in, with_bytes}
+use Rattle.fs_model.specs.Nodes.{Node, names_in}
 use Rattle.fs_model.specs.Trees.{Tree, node_at, with_node, names_of}
-use Rattle.fs_model.specs.Births.{born_file, born_directory, born_link}
-use Rattle.fs_model.specs.Processes.{Process, Desks, least_unused}
-use Rattle.fs_model.specs.TreeChanges.{Same, Rewrite, Make, changed, swept}
+use Rattle.fs_model.specs.Processes.{Process, Desks}
+use Rattle.fs_model.specs.TreeChanges.{Make, changed, swept}
 use Rattle.fs_model.specs.States.{State, IsState, MayBeFree}
 use Rattle.fs_model.specs.Alike.{AreAlike, node_seen}
 use Rattle.fs_model.specs.Ranges.{IsCall, IsEvent}
-use Rattle.fs_model.specs.declared.walk.Form.{Form}
-use Rattle.fs_model.specs.Scenes.{Scene, Effect, number, node_found, body_found, dir_node}
-use Rattle.fs_model.specs.OpenCall.{open_form, open_process}
+use Rattle.fs_model.specs.Scenes.{Effect}
 use Rattle.fs_model.specs.Rows.{row_of}
 use Rattle.fs_model.specs.Steps.{Choice, Acts, after, after_call, after_effect, tree_after, state_after, scene_of, firm_refusal, other_refusal, early_refusal, late_refusal, demand_of, HasNewNumber, HasNewPid}
 use Rattle.fs_model.specs.Confinement.{IsConfined, StepBy, early, late, done, IsOf, AnswerAlike}
-use Rattle.fs_model.proofs.Confined.{confined}
+use Rattle.fs_model.proofs.ConfinedEvents.{confined}
 use Rattle.fs_model.proofs.ConfinedSteps.{same_desks, same_seen}
 use Rattle.fs_model.proofs.SeenTrees.{node_at-seen}
-use Rattle.fs_model.proofs.StepsDemands.{AreMet, demands_met, paths_met, walks_met}
-use Rattle.fs_model.proofs.StepsFound.{IsNameAt, IsWalked}
+use Rattle.fs_model.proofs.StepsFound.{IsNameAt}
 use Rattle.fs_model.proofs.StepsNaming.{renamed, renamed_node, at_it, at_others, names_of-renamed}
-use Rattle.fs_model.proofs.StepsOfCalls.{FirstWalked, first_walked, call_paths, process_leaves}
-use Rattle.fs_model.proofs.StepsOfMaking.{is_new_if, named_is}
+use Rattle.fs_model.proofs.StepsLeaves.{unrefused_call}
+use Rattle.fs_model.proofs.EachCall.{each_call}
+use Rattle.fs_model.proofs.StepsOfCalls.{process_leaves}
+use Rattle.fs_model.proofs.StepsOfMaking.{named_is}
 use Rattle.fs_model.proofs.StepsSwept.{MayBeLeft}
 use Rattle.fs_model.proofs.Swept.{stays, kept, get-filter, at-swept, named_stays}
 
@@ -111,61 +106,6 @@ made_stays s desks dir name n node is at new left =
           (some_kept (stays made desks) m (node_at made m) (sym (ap is_some (get-filter (stays made desks) made left.tree.numbers m)) ∙ there));
     }
 
--- ---- what a call does with the number
-
--- it doesn't take it, or it makes a node there, under a name that is new
-abbrev UsesNumber : Scene → (ℕ → Effect) → Type 0
-UsesNumber c effect =
-    ((n m : ℕ) → effect n ≡ effect m)
-    ⊎ (IsNameAt c.state.tree c.first.dir c.first.name None × ((node : Node) × ((n : ℕ) → (effect n).change ≡ Make c.first.dir c.first.name n node)))
-
-module _ (c : Scene) where
-  abbrev open_as : Flags → ℕ → Option ℕ → ℕ → Effect
-  open_as flags mode o n = record {
-    change =
-        cond (not (is_some o)) (Make c.first.dir c.first.name n (born_file c.process.cred c.process.umask mode (dir_node c c.first)))
-        (cond (flags.trunc && flags.write) (Rewrite (number c.first) (record (node_found c c.first) { body = with_bytes [] (body_found c c.first) })) Same);
-    process = open_process c.process flags (unwrap_or o n);
-    reply = Fd (least_unused 0 c.process.descriptors);
-  }
-
-  open_uses : (flags : Flags) (mode : ℕ) (form : Form) → IsWalked c.state.tree form c.first → (o : Option ℕ) → c.first.ino ≡ o
-      → UsesNumber c (open_as flags mode c.first.ino)
-  open_uses flags mode form walked None e =
-      inr (walked.new e, (born_file c.process.cred c.process.umask mode (dir_node c c.first), λ n. ap (λ o. (open_as flags mode o n).change) e))
-  open_uses flags mode form walked (Some k) e = inl (λ n m. ap (λ o. open_as flags mode o n) e ∙ sym (ap (λ o. open_as flags mode o m) e))
-
-  uses_number : (call : Call) → AreMet ((row_of call).demands c) → FirstWalked c (row_of call).walks → UsesNumber c ((row_of call).effect c)
-  unfolding row_of
-  uses_number (Open path flags mode) met walked = open_uses flags mode (open_form flags) walked c.first.ino refl
-  uses_number (Read fd len) met walked = inl (λ n m. refl)
-  uses_number (Write fd []) met walked = inl (λ n m. refl)
-  uses_number (Write fd (b ∷ bytes)) met walked = inl (λ n m. refl)
-  uses_number (Lseek fd whence by) met walked = inl (λ n m. refl)
-  uses_number (Close fd) met walked = inl (λ n m. refl)
-  uses_number (Fstat fd) met walked = inl (λ n m. refl)
-  uses_number (Stat path) met walked = inl (λ n m. refl)
-  uses_number (Lstat path) met walked = inl (λ n m. refl)
-  uses_number (Access path want) met walked = inl (λ n m. refl)
-  uses_number (Truncate path size) met walked = inl (λ n m. refl)
-  uses_number (Ftruncate fd size) met walked = inl (λ n m. refl)
-  uses_number (Chmod path mode) met walked = inl (λ n m. refl)
-  uses_number (Chown path owner group) met walked = inl (λ n m. refl)
-  uses_number (GetAcl path which) met walked = inl (λ n m. refl)
-  uses_number (SetAcl path which acl) met walked = inl (λ n m. refl)
-  uses_number (Readdir fd) met walked = inl (λ n m. refl)
-  uses_number (Mkdir path mode) met walked =
-      inr (walked.new (is_new_if c.first met.0), (born_directory c.process.cred c.process.umask mode (dir_node c c.first), λ n. refl))
-  uses_number (Rmdir path) met walked = inl (λ n m. refl)
-  uses_number (Link old to) met walked = inl (λ n m. refl)
-  uses_number (Symlink target path) met walked =
-      inr (walked.new (is_new_if c.first met.0), (born_link c.process.cred target (dir_node c c.first), λ n. refl))
-  uses_number (Readlink path) met walked = inl (λ n m. refl)
-  uses_number (Unlink path) met walked = inl (λ n m. refl)
-  uses_number (Rename old to) met walked = inl (λ n m. refl)
-  uses_number (Chdir path) met walked = inl (λ n m. refl)
-  uses_number (Umask mask) met walked = inl (λ n m. refl)
-
 -- ---- one call that acts
 
 module _ (s : State) (is : IsState s) (pid : ℕ) (p : Process) (here : get nat_cmp s.desks pid ≡ Some p) (call : Call) (fits : IsCall call) where
@@ -191,8 +131,8 @@ module _ (s : State) (is : IsState s) (pid : ℕ) (p : Process) (here : get nat_
       let row = row_of call in
       let early = firm_is acts.early in
       let late = other_is acts.late in
-      let walked = first_walked s p row row.walks is.tree refl (call_paths call fits) (paths_met p row early) (walks_met s p row late) in
-      elim (uses_number (scene_of s p row) call (demands_met s p row late) walked) [
+      let of = each_call call in
+      elim (of.uses (scene_of s p row) (unrefused_call s p call is fits (of.paths fits) early late)) [
         | inl same ↦ inl (λ m. same choice.number m)
         | inr makes ↦ inr (
             let c = scene_of s p row in

@@ -1,24 +1,79 @@
--- The law of confinement for a call, an fsync and an exit.
-use Rattle.std.specs.Prelude.{◌≡◌, ℕ, true, not, cond, Option, None, Some, is_some, IsFalse}
+-- Each event is confined: a call, an fsync and an exit, which are those of a process.
+use Rattle.std.specs.Prelude.{◌≡◌, ℕ, cond, Option, None, Some, IsFalse}
 use Rattle.std.proofs.Common.{refl, sym, ap, ◌∙◌, subst}
-use Rattle.std.specs.Ordering.{nat_cmp, eq_by_cmp}
+use Rattle.std.specs.Ordering.{nat_cmp}
 use Rattle.fs_model.specs.declared.call.Call.{Call}
 use Rattle.fs_model.specs.declared.event.Event.{Event}
-use Rattle.fs_model.specs.declared.event.Event.TheVariants.{Spawn, Exit, Call as Calls, Enter, Fsync, Sync, Statfs, Arm, Restart}
-use Rattle.fs_model.specs.declared.reply.Reply.TheVariants.{Done}
-use Rattle.fs_layout.specs.Maps.{get, without, IsMap}
+use Rattle.fs_model.specs.declared.reply.Reply.{Reply}
+use Rattle.fs_model.specs.declared.reply.Reply.TheVariants.{Refused}
+use Rattle.fs_layout.specs.Maps.{get}
 use Rattle.fs_model.specs.Processes.{Process, Desks}
 use Rattle.fs_model.specs.TreeChanges.{swept}
 use Rattle.fs_model.specs.States.{State, IsState}
 use Rattle.fs_model.specs.Alike.{seen_by, AreAlike}
-use Rattle.fs_model.specs.Ranges.{IsCall}
+use Rattle.fs_model.specs.Ranges.{IsCall, IsEvent}
 use Rattle.fs_model.specs.Rows.{row_of}
-use Rattle.fs_model.specs.Steps.{Choice, Acts, after, after_call, after_effect, unchanged, state_after, firm_refusal, other_refusal, early_refusal, late_refusal, demand_of, HasNewNumber}
-use Rattle.fs_model.specs.Confinement.{IsConfined, AnswerAlike}
+use Rattle.fs_model.specs.Steps.{Choice, Acts, after, after_effect, state_after, early_refusal, late_refusal, HasNewNumber}
+use Rattle.fs_model.specs.Confinement.{IsConfined, StepBy, early, late, done, IsOf, AnswerAlike}
 use Rattle.fs_layout.proofs.FirstEntries.{ties}
-use Rattle.fs_model.proofs.Swept.{kept, get-filter}
 use Rattle.fs_model.proofs.SeenTrees.{swept-seen}
-use Rattle.fs_model.proofs.ConfinedSteps.{effect_in, left_by, same_reply, same_process, left_alike, Confines, ConfinesEvent, confines_event, same_desks, here_alike, same_seen}
+use Rattle.std.specs.Prelude.{true, not, is_some}
+use Rattle.std.specs.Ordering.{eq_by_cmp}
+use Rattle.fs_model.specs.declared.event.Event.TheVariants.{Spawn, Exit, Call as Calls, Enter, Fsync, Sync, Statfs, Arm, Restart}
+use Rattle.fs_model.specs.declared.reply.Reply.TheVariants.{Done}
+use Rattle.fs_layout.specs.Maps.{without, IsMap}
+use Rattle.fs_model.specs.Steps.{after_call, unchanged, firm_refusal, other_refusal, demand_of}
+use Rattle.fs_model.proofs.Swept.{kept, get-filter}
+use Rattle.fs_model.proofs.ConfinedSteps.{effect_in, left_by, same_reply, same_process, left_alike, Confines, same_desks, here_alike, same_seen}
+use Rattle.fs_model.proofs.VeiledRefusals.{same_firm, same_other}
+use Rattle.fs_model.proofs.EachCall.{each_call}
+
+-- ---- one event
+
+-- the law, for one event that acts
+abbrev pub ActsAlike : Event → Type 0
+ActsAlike e =
+    (pid : ℕ) (p : Process) (s t : State) (choice : Choice)
+    → IsState s → IsState t → get nat_cmp s.desks pid ≡ Some p → IsConfined p.cred → IsEvent e → IsOf pid e
+    → AreAlike pid s t → Acts s e choice → Acts t e choice
+    → AnswerAlike pid (after s e choice).reply (after t e choice).reply (state_after s (after s e choice) choice.free) (state_after t (after t e choice) choice.free)
+
+abbrev pub ConfinesEvent : Event → Type 0
+ConfinesEvent e =
+    (pid : ℕ) (p : Process) (s t s' t' : State) (choice : Choice) (reply reply' : Reply)
+    → IsState s → IsState t → get nat_cmp s.desks pid ≡ Some p → IsConfined p.cred → IsEvent e → IsOf pid e
+    → AreAlike pid s t → StepBy choice s e reply s' → StepBy choice t e reply' t'
+    → AnswerAlike pid reply reply' s' t'
+
+module _ (pid : ℕ) (s t : State) where
+  moved : (s' t' : State) (reply reply' a b : Reply) (u v : State) → reply ≡ a → reply' ≡ b → s' ≡ u → t' ≡ v → AnswerAlike pid a b u v → AnswerAlike pid reply reply' s' t'
+  moved s' t' reply reply' a b u v e f g h is =
+      subst (λ x. AnswerAlike pid x reply' s' t') (sym e)
+      (subst (λ x. AnswerAlike pid a x s' t') (sym f)
+      (subst (λ x. AnswerAlike pid a b x t') (sym g)
+      (subst (λ x. AnswerAlike pid a b u x) (sym h) is)))
+
+pub confines_event : (e : Event) → ActsAlike e → ConfinesEvent e
+confines_event e acts pid p s t s' t' choice reply reply' is js here confined fits of alike (early on r a b c) (early on' r' a' b' c') =
+    moved pid s t s' t' reply reply' (Refused r) (Refused r') s t b b' c c'
+    (record { replies = (let k = same_firm pid s t e alike in cc); process = here_alike pid s t alike; alike = λ _. alike })
+confines_event e acts pid p s t s' t' choice reply reply' is js here confined fits of alike (early on r a b c) (late on' r' d a' b' c') =
+    absurd (let k = same_firm pid s t e alike in cc)
+confines_event e acts pid p s t s' t' choice reply reply' is js here confined fits of alike (early on r a b c) (done act b' c') =
+    absurd (let k = same_firm pid s t e alike in let d = act.early in cc)
+confines_event e acts pid p s t s' t' choice reply reply' is js here confined fits of alike (late on r d a b c) (early on' r' a' b' c') =
+    absurd (let k = same_firm pid s t e alike in cc)
+confines_event e acts pid p s t s' t' choice reply reply' is js here confined fits of alike (late on r d a b c) (late on' r' d' a' b' c') =
+    moved pid s t s' t' reply reply' (Refused r) (Refused r') s t b b' c c'
+    (record { replies = (let k = same_other pid s t e alike in cc); process = here_alike pid s t alike; alike = λ _. alike })
+confines_event e acts pid p s t s' t' choice reply reply' is js here confined fits of alike (late on r d a b c) (done act b' c') =
+    absurd (let k = same_other pid s t e alike in let f = act.late in cc)
+confines_event e acts pid p s t s' t' choice reply reply' is js here confined fits of alike (done act b c) (early on' r' a' b' c') =
+    absurd (let k = same_firm pid s t e alike in let f = act.early in cc)
+confines_event e acts pid p s t s' t' choice reply reply' is js here confined fits of alike (done act b c) (late on' r' d' a' b' c') =
+    absurd (let k = same_other pid s t e alike in let f = act.late in cc)
+confines_event e acts pid p s t s' t' choice reply reply' is js here confined fits of alike (done act b c) (done act' b' c') =
+    moved pid s t s' t' reply reply' _ _ _ _ b b' c c' (acts pid p s t choice is js here confined fits of alike act act')
 
 -- ---- a call
 
@@ -119,15 +174,15 @@ confines_exit by = confines_event (Exit by) (λ pid p s t choice is js here conf
       );
 })
 
--- ---- each event, if each call is confined
+-- ---- each event
 
-pub event_confined : ((call : Call) → Confines call) → (e : Event) → ConfinesEvent e
-event_confined each (Calls by call) = confines_call by call (each call)
-event_confined each (Fsync by fd) = confines_fsync by fd
-event_confined each (Exit by) = confines_exit by
-event_confined each (Spawn cred) = λ _ _ _ _ _ _ _ _ _ _ _ _ _ _ of. absurd of
-event_confined each (Enter by directory second) = λ _ _ _ _ _ _ _ _ _ _ _ _ _ _ of. absurd of
-event_confined each Sync = λ _ _ _ _ _ _ _ _ _ _ _ _ _ _ of. absurd of
-event_confined each Statfs = λ _ _ _ _ _ _ _ _ _ _ _ _ _ _ of. absurd of
-event_confined each (Arm k) = λ _ _ _ _ _ _ _ _ _ _ _ _ _ _ of. absurd of
-event_confined each (Restart c arm) = λ _ _ _ _ _ _ _ _ _ _ _ _ _ _ of. absurd of
+pub confined : (e : Event) → ConfinesEvent e
+confined (Calls by call) = confines_call by call (each_call call).confines
+confined (Fsync by fd) = confines_fsync by fd
+confined (Exit by) = confines_exit by
+confined (Spawn cred) = λ _ _ _ _ _ _ _ _ _ _ _ _ _ _ of. absurd of
+confined (Enter by directory second) = λ _ _ _ _ _ _ _ _ _ _ _ _ _ _ of. absurd of
+confined Sync = λ _ _ _ _ _ _ _ _ _ _ _ _ _ _ of. absurd of
+confined Statfs = λ _ _ _ _ _ _ _ _ _ _ _ _ _ _ of. absurd of
+confined (Arm k) = λ _ _ _ _ _ _ _ _ _ _ _ _ _ _ of. absurd of
+confined (Restart c arm) = λ _ _ _ _ _ _ _ _ _ _ _ _ _ _ of. absurd of

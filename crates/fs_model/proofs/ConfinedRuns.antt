@@ -7,7 +7,6 @@ use Rattle.fs_cred.specs.declared.errno.Errno.TheVariants.{ESRCH}
 use Rattle.fs_cred.specs.declared.refusal.Refusal.TheVariants.{Failed}
 use Rattle.fs_layout.specs.Maps.{get}
 use Rattle.fs_model.specs.declared.call.Call.{Call}
-use Rattle.fs_model.specs.declared.call.Call.TheVariants.{Open, Read, Write, Lseek, Close, Fstat, Stat, Lstat, Access, Truncate, Ftruncate, Chmod, Chown, GetAcl, SetAcl, Readdir, Mkdir, Rmdir, Link, Symlink, Readlink, Unlink, Rename, Chdir, Umask}
 use Rattle.fs_model.specs.declared.event.Event.{Event}
 use Rattle.fs_model.specs.declared.event.Event.TheVariants.{Spawn, Exit, Call as Calls, Enter, Fsync, Sync, Statfs, Arm, Restart}
 use Rattle.fs_model.specs.declared.reply.Reply.{Reply}
@@ -17,45 +16,15 @@ use Rattle.fs_model.specs.States.{State, IsState}
 use Rattle.fs_model.specs.Alike.{AreAlike}
 use Rattle.fs_model.specs.Ranges.{IsEvent}
 use Rattle.fs_model.specs.Rows.{row_of}
-use Rattle.fs_model.specs.Scenes.{Scene}
 use Rattle.fs_model.specs.Steps.{Choice, after, after_call, firm_refusal, demand_of, scene_of, is_of_machine}
 use Rattle.fs_model.specs.Confinement.{IsConfined, StepBy, early, late, done, RunBy, IsOf, AreOf, AnswerAlike, Confinement, GoneIsRefused}
 use Rattle.fs_model.proofs.StepsKeep.{steps_keep}
 use Rattle.fs_model.proofs.ConfinedSteps.{effect_in, here_after, here_alike}
-use Rattle.fs_model.proofs.ConfinedEvents.{gone_by}
+use Rattle.fs_model.proofs.EachCall.{each_call}
+use Rattle.fs_model.proofs.ConfinedEvents.{gone_by, confined}
 use Rattle.fs_model.proofs.ConfinedStepsOf.{steps_by}
-use Rattle.fs_model.proofs.Confined.{confined}
 
 -- ---- a process keeps its credential
-
-call_keeps_cred : (call : Call) (c : Scene) (new : ℕ) → ((row_of call).effect c new).process.cred ≡ c.process.cred
-unfolding row_of
-call_keeps_cred (Open path flags mode) c new = refl
-call_keeps_cred (Read fd len) c new = refl
-call_keeps_cred (Write fd []) c new = refl
-call_keeps_cred (Write fd (b ∷ bytes)) c new = refl
-call_keeps_cred (Lseek fd whence by) c new = refl
-call_keeps_cred (Close fd) c new = refl
-call_keeps_cred (Fstat fd) c new = refl
-call_keeps_cred (Stat path) c new = refl
-call_keeps_cred (Lstat path) c new = refl
-call_keeps_cred (Access path want) c new = refl
-call_keeps_cred (Truncate path size) c new = refl
-call_keeps_cred (Ftruncate fd size) c new = refl
-call_keeps_cred (Chmod path mode) c new = refl
-call_keeps_cred (Chown path owner group) c new = refl
-call_keeps_cred (GetAcl path which) c new = refl
-call_keeps_cred (SetAcl path which acl) c new = refl
-call_keeps_cred (Readdir fd) c new = refl
-call_keeps_cred (Mkdir path mode) c new = refl
-call_keeps_cred (Rmdir path) c new = refl
-call_keeps_cred (Link old to) c new = refl
-call_keeps_cred (Symlink target path) c new = refl
-call_keeps_cred (Readlink path) c new = refl
-call_keeps_cred (Unlink path) c new = refl
-call_keeps_cred (Rename old to) c new = refl
-call_keeps_cred (Chdir path) c new = refl
-call_keeps_cred (Umask mask) c new = refl
 
 module _ (pid : ℕ) (p q : Process) (s : State) (here : get nat_cmp s.desks pid ≡ Some p) where
   called_cred : (call : Call) (choice : Choice)
@@ -66,7 +35,7 @@ module _ (pid : ℕ) (p q : Process) (s : State) (here : get nat_cmp s.desks pid
       ap (λ o. get nat_cmp (after_call s pid (row_of call) choice.number o).desks pid) (sym here) ∙ there in
       let same : Some effect.process ≡ Some q = sym (here_after pid p (row_of call) choice.number choice.free s.desks effect.process) ∙ now in
       let is : effect.process ≡ q = cc in
-      ap (λ x. x.cred) (sym is) ∙ call_keeps_cred call (scene_of s p (row_of call)) choice.number
+      ap (λ x. x.cred) (sym is) ∙ (each_call call).keeps (scene_of s p (row_of call)) choice.number
 
   same_cred : get nat_cmp s.desks pid ≡ Some q → q.cred ≡ p.cred
   same_cred there = let is : Some p ≡ Some q = sym here ∙ there in let same : p ≡ q = cc in ap (λ x. x.cred) (sym same)

@@ -1,25 +1,21 @@
--- The law of confinement, from what each call does in a state and in what the process sees of it.
+-- What a call does in a state and in what the process sees of it.
 use Rattle.std.specs.Prelude.{◌≡◌, ℕ, cond, Option, None, Some, IsFalse}
-use Rattle.std.proofs.Common.{refl, sym, ap, ◌∙◌, subst}
+use Rattle.std.proofs.Common.{refl, sym, ap, ◌∙◌}
 use Rattle.std.specs.Ordering.{nat_cmp}
 use Rattle.fs_model.specs.declared.call.Call.{Call}
-use Rattle.fs_model.specs.declared.event.Event.{Event}
-use Rattle.fs_model.specs.declared.reply.Reply.{Reply}
-use Rattle.fs_model.specs.declared.reply.Reply.TheVariants.{Refused}
 use Rattle.fs_layout.specs.Maps.{get, with_entry}
 use Rattle.fs_model.specs.Processes.{Process, Desks}
 use Rattle.fs_model.specs.TreeChanges.{changed, swept}
 use Rattle.fs_model.specs.States.{State, IsState}
 use Rattle.fs_model.specs.Alike.{tree_seen, seen_by, AreAlike}
-use Rattle.fs_model.specs.Ranges.{IsCall, IsEvent}
+use Rattle.fs_model.specs.Ranges.{IsCall}
 use Rattle.fs_model.specs.Rows.{row_of}
 use Rattle.fs_model.specs.Scenes.{Row, Effect}
-use Rattle.fs_model.specs.Steps.{Choice, Acts, after, after_effect, state_after, early_refusal, late_refusal, scene_of, HasNewNumber}
-use Rattle.fs_model.specs.Confinement.{IsConfined, StepBy, early, late, done, IsOf, AnswerAlike}
+use Rattle.fs_model.specs.Steps.{after_effect, state_after, early_refusal, late_refusal, scene_of, HasNewNumber}
+use Rattle.fs_model.specs.Confinement.{IsConfined}
 use Rattle.fs_layout.proofs.FirstEntries.{ties}
 use Rattle.fs_layout.proofs.MapLaws.{get-with_entry}
 use Rattle.fs_model.proofs.SeenTrees.{swept-seen}
-use Rattle.fs_model.proofs.VeiledDemands.{same_firm, same_other}
 
 -- ---- one call
 
@@ -86,7 +82,7 @@ Confines call =
     → IsConfined p.cred → IsCall call → early_refusal p (row_of call) ≡ None → late_refusal u p (row_of call) ≡ None
     → HasNewNumber u (effect_in pid p (row_of call) number free u).change → IsConfinedAt pid p (row_of call) number free u
 
--- ---- one event
+-- ---- states that are alike
 
 desks_seen : (o : Option Process) (s : State) → (seen_by o s).desks ≡ s.desks
 desks_seen None s = refl
@@ -102,48 +98,3 @@ pub same_seen : (pid : ℕ) (p : Process) (s t : State) → AreAlike pid s t →
 same_seen pid p s t is here =
     ap (λ o. seen_by o s) (sym here) ∙ is.same
     ∙ ap (λ desks. seen_by (get nat_cmp desks pid) t) (sym (same_desks pid s t is)) ∙ ap (λ o. seen_by o t) here
-
--- the law, for one event that acts
-abbrev pub ActsAlike : Event → Type 0
-ActsAlike e =
-    (pid : ℕ) (p : Process) (s t : State) (choice : Choice)
-    → IsState s → IsState t → get nat_cmp s.desks pid ≡ Some p → IsConfined p.cred → IsEvent e → IsOf pid e
-    → AreAlike pid s t → Acts s e choice → Acts t e choice
-    → AnswerAlike pid (after s e choice).reply (after t e choice).reply (state_after s (after s e choice) choice.free) (state_after t (after t e choice) choice.free)
-
-abbrev pub ConfinesEvent : Event → Type 0
-ConfinesEvent e =
-    (pid : ℕ) (p : Process) (s t s' t' : State) (choice : Choice) (reply reply' : Reply)
-    → IsState s → IsState t → get nat_cmp s.desks pid ≡ Some p → IsConfined p.cred → IsEvent e → IsOf pid e
-    → AreAlike pid s t → StepBy choice s e reply s' → StepBy choice t e reply' t'
-    → AnswerAlike pid reply reply' s' t'
-
-module _ (pid : ℕ) (s t : State) where
-  moved : (s' t' : State) (reply reply' a b : Reply) (u v : State) → reply ≡ a → reply' ≡ b → s' ≡ u → t' ≡ v → AnswerAlike pid a b u v → AnswerAlike pid reply reply' s' t'
-  moved s' t' reply reply' a b u v e f g h is =
-      subst (λ x. AnswerAlike pid x reply' s' t') (sym e)
-      (subst (λ x. AnswerAlike pid a x s' t') (sym f)
-      (subst (λ x. AnswerAlike pid a b x t') (sym g)
-      (subst (λ x. AnswerAlike pid a b u x) (sym h) is)))
-
-pub confines_event : (e : Event) → ActsAlike e → ConfinesEvent e
-confines_event e acts pid p s t s' t' choice reply reply' is js here confined fits of alike (early on r a b c) (early on' r' a' b' c') =
-    moved pid s t s' t' reply reply' (Refused r) (Refused r') s t b b' c c'
-    (record { replies = (let k = same_firm pid s t e alike in cc); process = here_alike pid s t alike; alike = λ _. alike })
-confines_event e acts pid p s t s' t' choice reply reply' is js here confined fits of alike (early on r a b c) (late on' r' d a' b' c') =
-    absurd (let k = same_firm pid s t e alike in cc)
-confines_event e acts pid p s t s' t' choice reply reply' is js here confined fits of alike (early on r a b c) (done act b' c') =
-    absurd (let k = same_firm pid s t e alike in let d = act.early in cc)
-confines_event e acts pid p s t s' t' choice reply reply' is js here confined fits of alike (late on r d a b c) (early on' r' a' b' c') =
-    absurd (let k = same_firm pid s t e alike in cc)
-confines_event e acts pid p s t s' t' choice reply reply' is js here confined fits of alike (late on r d a b c) (late on' r' d' a' b' c') =
-    moved pid s t s' t' reply reply' (Refused r) (Refused r') s t b b' c c'
-    (record { replies = (let k = same_other pid s t e alike in cc); process = here_alike pid s t alike; alike = λ _. alike })
-confines_event e acts pid p s t s' t' choice reply reply' is js here confined fits of alike (late on r d a b c) (done act b' c') =
-    absurd (let k = same_other pid s t e alike in let f = act.late in cc)
-confines_event e acts pid p s t s' t' choice reply reply' is js here confined fits of alike (done act b c) (early on' r' a' b' c') =
-    absurd (let k = same_firm pid s t e alike in let f = act.early in cc)
-confines_event e acts pid p s t s' t' choice reply reply' is js here confined fits of alike (done act b c) (late on' r' d' a' b' c') =
-    absurd (let k = same_other pid s t e alike in let f = act.late in cc)
-confines_event e acts pid p s t s' t' choice reply reply' is js here confined fits of alike (done act b c) (done act' b' c') =
-    moved pid s t s' t' reply reply' _ _ _ _ b b' c c' (acts pid p s t choice is js here confined fits of alike act act')

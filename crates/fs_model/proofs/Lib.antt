@@ -1,6 +1,5 @@
 pub mod BuiltNodes
 pub mod BuiltTrees
-pub mod Confined
 pub mod ConfinedChoices
 pub mod ConfinedEvents
 pub mod ConfinedLooks
@@ -12,6 +11,7 @@ pub mod ConfinedRuns
 pub mod ConfinedSteps
 pub mod ConfinedStepsOf
 pub mod Counting
+pub mod EachCall
 pub mod Findings
 pub mod Finds
 pub mod Followed
@@ -29,6 +29,7 @@ pub mod Moves
 pub mod NewDiskStands
 pub mod NewImages
 pub mod NodesHeld
+pub mod NoIoDemands
 pub mod NoIoErrors
 pub mod NoIoReplies
 pub mod OneNode
@@ -61,6 +62,7 @@ pub mod StepsFit
 pub mod StepsFound
 pub mod StepsKeep
 pub mod StepsKinds
+pub mod StepsLeaves
 pub mod StepsLosing
 pub mod StepsMaking
 pub mod StepsMoving
@@ -84,5 +86,6 @@ pub mod Swept
 pub mod Taken
 pub mod Unchanged
 pub mod VeiledDemands
+pub mod VeiledRefusals
 pub mod VeiledScenes
 pub mod Veils

@@ -1,19 +1,16 @@
 -- What each call asks depends on no byte of a file.
-use Rattle.std.specs.Prelude.{◌≡◌, ℕ, ◌-◌, ◌==◌, nat_le, true, false, not, List, ◌++◌, length, Option, None, Some, is_some, ℤ}
-use Rattle.std.proofs.Common.{refl, sym, ap, ◌∙◌}
-use Rattle.std.specs.Option.{option_map}
+use Rattle.std.specs.Prelude.{◌≡◌, ℕ, ◌-◌, ◌==◌, nat_le, true, false, not, List, ◌++◌, length, Option, is_some, ℤ}
+use Rattle.std.proofs.Common.{refl, ap, ◌∙◌}
 use Rattle.posix_acl.specs.declared.entry.Perms.{Perms}
 use Rattle.posix_acl.specs.AccessList.{AccessList}
 use Rattle.fs_cred.specs.declared.errno.Errno.TheVariants.{ENOSPC}
-use Rattle.fs_model.specs.declared.call.Call.{Call}
 use Rattle.fs_model.specs.declared.call.Whence.{Whence}
 use Rattle.fs_model.specs.declared.call.Whence.TheVariants.{Set, Cur, End}
 use Rattle.fs_model.specs.declared.call.AclType.{AclType}
 use Rattle.fs_model.specs.declared.call.Flags.{Flags}
-use Rattle.fs_model.specs.declared.call.Call.TheVariants.{Open, Read, Write, Lseek, Close, Fstat, Stat, Lstat, Access, Truncate, Ftruncate, Chmod, Chown, GetAcl, SetAcl, Readdir, Mkdir, Rmdir, Link, Symlink, Readlink, Unlink, Rename, Chdir, Umask}
 use Rattle.fs_model.specs.Limits.{entries_limit}
-use Rattle.fs_model.specs.Nodes.{Node, directory_in, is_directory, is_link, names_in, bytes_in}
-use Rattle.fs_model.specs.Trees.{Tree, node_at, is_within}
+use Rattle.fs_model.specs.Nodes.{directory_in, is_directory, is_link, names_in, bytes_in}
+use Rattle.fs_model.specs.Trees.{is_within}
 use Rattle.fs_model.specs.Processes.{the_descriptor}
 use Rattle.fs_model.specs.Births.{the_node}
 use Rattle.fs_model.specs.Demands.{refuse, perms, only_if}
@@ -24,19 +21,7 @@ use Rattle.fs_model.specs.DescriptorCalls.{read_demands, write_demands, write_of
 use Rattle.fs_model.specs.AttributeCalls.{access_demands, truncate_demands, chmod_demands, chown_demands, set_acl_demands, chdir_demands}
 use Rattle.fs_model.specs.NameCalls.{mkdir_demands, rmdir_demands, unlink_demands, link_demands, symlink_demands, readlink_demands}
 use Rattle.fs_model.specs.RenameCall.{rename_demands, rename_name_demands, rename_permissions, rename_kinds, rename_directories, rename_moved, rename_space, is_same}
-use Rattle.fs_model.specs.Rows.{row_of}
-use Rattle.std.specs.Ordering.{nat_cmp}
-use Rattle.fs_model.specs.declared.event.Event.{Event}
-use Rattle.fs_model.specs.declared.event.Event.TheVariants.{Spawn, Exit, Call as Calls, Enter, Fsync, Sync, Statfs, Arm, Restart}
-use Rattle.fs_layout.specs.Maps.{get}
-use Rattle.fs_model.specs.Processes.{Process}
-use Rattle.fs_model.specs.States.{State}
-use Rattle.fs_model.specs.Demands.{first_of}
-use Rattle.fs_model.specs.Walks.{is_nondirectory}
-use Rattle.fs_model.specs.Alike.{AreAlike}
-use Rattle.fs_model.specs.Steps.{late_refusal, demand_of, enter_demands, firm_refusal, other_refusal, walk_refusals, scene_of}
-use Rattle.fs_model.proofs.VeiledScenes.{veiled_state, scene_of-veil, walk_refusals-veil, same_veil}
-use Rattle.fs_model.proofs.Veils.{veil, veiled, node_at-veil, is_nondirectory-veil, names_in-blotted, directory_in-blotted, is_link-blotted, permission_on-veil, search_on-veil}
+use Rattle.fs_model.proofs.Veils.{names_in-blotted, directory_in-blotted, is_link-blotted, permission_on-veil, search_on-veil}
 use Rattle.fs_model.proofs.VeiledScenes.{veiled_scene, the_node-veil, names_of-veil, size-blotted, is_within-veil, length-veil}
 
 module _ (c : Scene) where
@@ -81,7 +66,7 @@ module _ (c : Scene) where
   no_room : no_inodes v ≡ no_inodes c
   no_room = ap (λ k. refuse ENOSPC (c.state.room.inodes - 1 - k == 0)) (length-veil c.state.tree)
 
-  truncate_asks : (size : ℕ) → truncate_demands size v ≡ truncate_demands size c
+  pub truncate_asks : (size : ℕ) → truncate_demands size v ≡ truncate_demands size c
   truncate_asks size =
       let a = is_directory_at (number c.first) in
       let b = end c.first 1 (perms false true false) in
@@ -90,7 +75,7 @@ module _ (c : Scene) where
   space : space_to_make v ≡ space_to_make c
   space = let a = full c.first in let b = no_room in cc
 
-  mkdir_asks : mkdir_demands v ≡ mkdir_demands c
+  pub mkdir_asks : mkdir_demands v ≡ mkdir_demands c
   mkdir_asks = let a = dir c.first 1 in let b = space in cc
 
   sticky : (f : Found) (walk : ℕ) → sticky_at_dir v f walk ≡ sticky_at_dir c f walk
@@ -103,14 +88,14 @@ module _ (c : Scene) where
   own : own_at_end v ≡ own_at_end c
   own = let a = owner_at (number c.first) in cc
 
-  unlink_asks : unlink_demands v ≡ unlink_demands c
+  pub unlink_asks : unlink_demands v ≡ unlink_demands c
   unlink_asks =
       let a = is_directory_at (number c.first) in
       let b = dir c.first 1 in
       let d = sticky c.first 1 in
       cc
 
-  link_asks : link_demands v ≡ link_demands c
+  pub link_asks : link_demands v ≡ link_demands c
   link_asks =
       let a = is_directory_at (number c.first) in
       let b = dir c.second 2 in
@@ -118,13 +103,13 @@ module _ (c : Scene) where
       let e = full c.second in
       cc
 
-  symlink_asks : symlink_demands v ≡ symlink_demands c
+  pub symlink_asks : symlink_demands v ≡ symlink_demands c
   symlink_asks = let a = dir c.first 1 in let b = space in cc
 
-  readlink_asks : readlink_demands v ≡ readlink_demands c
+  pub readlink_asks : readlink_demands v ≡ readlink_demands c
   readlink_asks = let a = link_at (number c.first) in cc
 
-  rmdir_asks : rmdir_demands v ≡ rmdir_demands c
+  pub rmdir_asks : rmdir_demands v ≡ rmdir_demands c
   rmdir_asks =
       let a = is_directory_at (number c.first) in
       let b = dir c.first 1 in
@@ -132,40 +117,40 @@ module _ (c : Scene) where
       let e = names_at (number c.first) in
       cc
 
-  access_asks : (want : Perms) → access_demands want v ≡ access_demands want c
+  pub access_asks : (want : Perms) → access_demands want v ≡ access_demands want c
   access_asks want = let a = end c.first 1 want in cc
 
-  chmod_asks : chmod_demands v ≡ chmod_demands c
+  pub chmod_asks : chmod_demands v ≡ chmod_demands c
   chmod_asks = let a = own in cc
 
-  chown_asks : (owner group : Option ℕ) → chown_demands owner group v ≡ chown_demands owner group c
+  pub chown_asks : (owner group : Option ℕ) → chown_demands owner group v ≡ chown_demands owner group c
   chown_asks owner group =
       let a = owner_at (number c.first) in
       let b = group_at (number c.first) in
       cc
 
-  set_acl_asks : (which : AclType) (acl : Option AccessList) → set_acl_demands which acl v ≡ set_acl_demands which acl c
+  pub set_acl_asks : (which : AclType) (acl : Option AccessList) → set_acl_demands which acl v ≡ set_acl_demands which acl c
   set_acl_asks which acl =
       let a = is_directory_at (number c.first) in
       let b = own in
       cc
 
-  chdir_asks : chdir_demands v ≡ chdir_demands c
+  pub chdir_asks : chdir_demands v ≡ chdir_demands c
   chdir_asks =
       let a = is_directory_at (number c.first) in
       let b = search_on-veil c.process.cred c.state.tree (number c.first) 1 c.first.step in
       cc
 
-  read_asks : (fd : ℕ) → read_demands fd v ≡ read_demands fd c
+  pub read_asks : (fd : ℕ) → read_demands fd v ≡ read_demands fd c
   read_asks fd = let a = is_directory_at (the_descriptor c.process fd).number in cc
 
-  readdir_asks : (fd : ℕ) → readdir_demands fd v ≡ readdir_demands fd c
+  pub readdir_asks : (fd : ℕ) → readdir_demands fd v ≡ readdir_demands fd c
   readdir_asks fd = let a = is_directory_at (the_descriptor c.process fd).number in cc
 
   pub write_offset-veil : (fd : ℕ) → write_offset v fd ≡ write_offset c fd
   write_offset-veil fd = let a = size_at (the_descriptor c.process fd).number in cc
 
-  write_asks : (fd : ℕ) (bytes : List ℕ) → write_demands fd bytes v ≡ write_demands fd bytes c
+  pub write_asks : (fd : ℕ) (bytes : List ℕ) → write_demands fd bytes v ≡ write_demands fd bytes c
   write_asks fd bytes = let a = write_offset-veil fd in cc
 
   pub sought-veil : (fd : ℕ) (whence : Whence) (by : ℤ) → sought v fd whence by ≡ sought c fd whence by
@@ -173,7 +158,7 @@ module _ (c : Scene) where
   sought-veil fd Cur by = refl
   sought-veil fd End by = let a = size_at (the_descriptor c.process fd).number in cc
 
-  lseek_asks : (fd : ℕ) (whence : Whence) (by : ℤ) → lseek_demands fd whence by v ≡ lseek_demands fd whence by c
+  pub lseek_asks : (fd : ℕ) (whence : Whence) (by : ℤ) → lseek_demands fd whence by v ≡ lseek_demands fd whence by c
   lseek_asks fd whence by =
       let a = is_directory_at (the_descriptor c.process fd).number in
       let b = sought-veil fd whence by in
@@ -189,7 +174,7 @@ module _ (c : Scene) where
   open_new_asks : (flags : Flags) → open_new_demands flags v ≡ open_new_demands flags c
   open_new_asks flags = let a = dir c.first 1 in let b = space in cc
 
-  open_asks : (flags : Flags) → open_demands flags v ≡ open_demands flags c
+  pub open_asks : (flags : Flags) → open_demands flags v ≡ open_demands flags c
   open_asks flags = let a = open_found_asks flags in let b = open_new_asks flags in cc
 
   rename_names_ask : rename_name_demands v ≡ rename_name_demands c
@@ -234,7 +219,7 @@ module _ (c : Scene) where
   rename_space_ask : rename_space v ≡ rename_space c
   rename_space_ask = let a = full c.second in cc
 
-  rename_asks : rename_demands v ≡ rename_demands c
+  pub rename_asks : rename_demands v ≡ rename_demands c
   rename_asks =
       let a = rename_names_ask in
       let b = rename_permissions_ask in
@@ -248,92 +233,3 @@ module _ (c : Scene) where
       ∙ ap (λ ds. rename_name_demands c ++ only_if (not (is_same c)) (rename_permissions c ++ rename_kinds c ++ ds ++ rename_moved v ++ rename_space v)) e
       ∙ ap (λ ds. rename_name_demands c ++ only_if (not (is_same c)) (rename_permissions c ++ rename_kinds c ++ rename_directories c ++ ds ++ rename_space v)) f
       ∙ ap (λ ds. rename_name_demands c ++ only_if (not (is_same c)) (rename_permissions c ++ rename_kinds c ++ rename_directories c ++ rename_moved c ++ ds)) g
-
-  pub asks-veil : (call : Call) → (row_of call).demands v ≡ (row_of call).demands c
-  unfolding row_of
-  asks-veil (Open path flags mode) = open_asks flags
-  asks-veil (Read fd len) = read_asks fd
-  asks-veil (Write fd bytes) = write_asks fd bytes
-  asks-veil (Lseek fd whence by) = lseek_asks fd whence by
-  asks-veil (Close fd) = refl
-  asks-veil (Fstat fd) = refl
-  asks-veil (Stat path) = refl
-  asks-veil (Lstat path) = refl
-  asks-veil (Access path want) = access_asks want
-  asks-veil (Truncate path size) = truncate_asks size
-  asks-veil (Ftruncate fd size) = refl
-  asks-veil (Chmod path mode) = chmod_asks
-  asks-veil (Chown path owner group) = chown_asks owner group
-  asks-veil (GetAcl path which) = refl
-  asks-veil (SetAcl path which acl) = set_acl_asks which acl
-  asks-veil (Readdir fd) = readdir_asks fd
-  asks-veil (Mkdir path mode) = mkdir_asks
-  asks-veil (Rmdir path) = rmdir_asks
-  asks-veil (Link old to) = link_asks
-  asks-veil (Symlink target path) = symlink_asks
-  asks-veil (Readlink path) = readlink_asks
-  asks-veil (Unlink path) = unlink_asks
-  asks-veil (Rename old to) = rename_asks
-  asks-veil (Chdir path) = chdir_asks
-  asks-veil (Umask mask) = refl
-
--- ---- a state's refusals
-
-late-veil : (s : State) (p : Process) (call : Call) → late_refusal (veiled_state s) p (row_of call) ≡ late_refusal s p (row_of call)
-late-veil s p call =
-    let row = row_of call in
-    ap (λ c. first_of (walk_refusals (veil s.tree) p 1 row.walks ++ row.demands c)) (scene_of-veil s p row)
-    ∙ ap (λ ds. first_of (walk_refusals (veil s.tree) p 1 row.walks ++ ds)) (asks-veil (scene_of s p row) call)
-    ∙ ap (λ ds. first_of (ds ++ row.demands (scene_of s p row))) (walk_refusals-veil s.tree p 1 row.walks)
-
-is_there-veil : (t : Tree) (n : ℕ) → is_some (node_at (veil t) n) ≡ is_some (node_at t n)
-is_there-veil t n = ap is_some (node_at-veil t n) ∙ go (node_at t n)
-  where
-    go : (o : Option Node) → is_some (option_map veiled o) ≡ is_some o
-    go None = refl
-    go (Some node) = refl
-
-enter-veil : (t : Tree) (directory second : ℕ) → first_of (enter_demands (veil t) directory second) ≡ first_of (enter_demands t directory second)
-enter-veil t directory second =
-    let first_there : is_some (node_at (veil t) directory) ≡ is_some (node_at t directory) = is_there-veil t directory in
-    let second_there : is_some (node_at (veil t) second) ≡ is_some (node_at t second) = is_there-veil t second in
-    let first_kind : is_nondirectory (veil t) (Some directory) ≡ is_nondirectory t (Some directory) = is_nondirectory-veil t (Some directory) in
-    let second_kind : is_nondirectory (veil t) (Some second) ≡ is_nondirectory t (Some second) = is_nondirectory-veil t (Some second) in
-    cc
-
-pub firm_refusal-veil : (s : State) (e : Event) → firm_refusal (veiled_state s) e ≡ firm_refusal s e
-unfolding firm_refusal
-firm_refusal-veil s (Spawn cred) = refl
-firm_refusal-veil s (Exit pid) = refl
-firm_refusal-veil s (Calls pid call) = refl
-firm_refusal-veil s (Fsync pid fd) = refl
-firm_refusal-veil s (Enter pid directory second) = refl
-firm_refusal-veil s Sync = refl
-firm_refusal-veil s Statfs = refl
-firm_refusal-veil s (Arm k) = refl
-firm_refusal-veil s (Restart choice arm) = refl
-
-pub other_refusal-veil : (s : State) (e : Event) → other_refusal (veiled_state s) e ≡ other_refusal s e
-unfolding other_refusal
-other_refusal-veil s (Calls pid call) = go (get nat_cmp s.desks pid)
-  where
-    go : (o : Option Process) → demand_of (λ p. late_refusal (veiled_state s) p (row_of call)) o ≡ demand_of (λ p. late_refusal s p (row_of call)) o
-    go None = refl
-    go (Some p) = late-veil s p call
-other_refusal-veil s (Enter pid directory second) = enter-veil s.tree directory second
-other_refusal-veil s (Spawn cred) = refl
-other_refusal-veil s (Exit pid) = refl
-other_refusal-veil s (Fsync pid fd) = refl
-other_refusal-veil s Sync = refl
-other_refusal-veil s Statfs = refl
-other_refusal-veil s (Arm k) = refl
-other_refusal-veil s (Restart choice arm) = refl
-
--- States that are alike to a process refuse each event alike.
-pub same_firm : (pid : ℕ) (s t : State) (e : Event) → AreAlike pid s t → firm_refusal s e ≡ firm_refusal t e
-same_firm pid s t e is =
-    sym (firm_refusal-veil s e) ∙ ap (λ u. firm_refusal u e) (same_veil pid s t is) ∙ firm_refusal-veil t e
-
-pub same_other : (pid : ℕ) (s t : State) (e : Event) → AreAlike pid s t → other_refusal s e ≡ other_refusal t e
-same_other pid s t e is =
-    sym (other_refusal-veil s e) ∙ ap (λ u. other_refusal u e) (same_veil pid s t is) ∙ other_refusal-veil t e

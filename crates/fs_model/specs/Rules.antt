@@ -6,7 +6,7 @@
 --     Obeys        an image obeys a rule at a number
 --     ObeysAll, ObeysBefore        all rules at each number; those with a lower number than k
 --     IsFinding        the first rule that fails, at its least number
-use Rattle.std.specs.Prelude.{◌≡◌, ◌≢◌, ℕ, ◌*◌, ◌%◌, ◌<◌, ◌≤◌, ◌==◌, nat_eq, nat_lt, nat_le, Bool, true, false, not, ◌||◌, List, if◌then◌else◌, Some, Ok, IsTrue, count_by, sum_by, ◌⊎◌, ◌↔◌}
+use Rattle.std.specs.Prelude.{◌≡◌, ◌≢◌, ℕ, ◌%◌, ◌<◌, ◌≤◌, ◌==◌, nat_eq, nat_lt, nat_le, Bool, true, false, not, ◌||◌, List, if◌then◌else◌, Some, Ok, IsTrue, count_by, sum_by, ◌⊎◌, ◌↔◌}
 use Rattle.std.specs.List.{range_with_len}
 use Rattle.posix_acl.specs.AccessList.{AccessList, IsAcl, is_extended, list_numbers, mode_bits}
 use Rattle.fs_layout.specs.declared.superblock.Super.{Super}
