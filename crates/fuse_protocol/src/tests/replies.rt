@@ -1,0 +1,254 @@
+//! Replies that a kernel took, entries of directories and values of ACLs.
+
+ghost use Rattle.std.specs.Prelude.{◌<◌, length};
+ghost use Rattle.fuse_protocol.specs.Replies.{IsReply};
+
+use super::{Bytes, bytes_of};
+use crate::{
+    AclValueFault, Attr, DirectoryEntry, EntryKind, InitFlags, Piece, Reply, Room, Terms, Time,
+    push_entry, read_acl_value, write_acl_value, write_reply,
+};
+use posix_acl::{Acl, Entry};
+use std::alloc::{AllocError, Global};
+use std::test::Fail;
+
+fn bytes_from(from: &[u8]) -> Bytes {
+    let mut bytes = [0; 160];
+    for (to, byte) in bytes.iter_mut().zip(from) {
+        *to = *byte;
+    }
+    (bytes, from.len())
+}
+
+fn at(seconds: u64) -> Time {
+    Time {
+        seconds,
+        nanoseconds: 0,
+    }
+}
+
+fn file(inode: u64, size: u64, mode: u32, links: u32, times: [u64; 3]) -> Attr {
+    let [atime, mtime, ctime] = times;
+    Attr {
+        inode,
+        size,
+        blocks: size.div_ceil(512),
+        atime: at(atime),
+        mtime: at(mtime),
+        ctime: at(ctime),
+        mode,
+        links,
+        uid: 0,
+        gid: 0,
+        block_size: 4096,
+    }
+}
+
+// When the file system was made whose replies these are.
+const START: u64 = 1_000_000_000;
+
+const NODE: u64 = 1 << 32 | 2;
+
+const TERMS: Terms = Terms {
+    max_readahead: 0x20000,
+    flags: InitFlags(0x480068),
+    max_background: 16,
+    congestion_threshold: 12,
+    max_write: 0x20000,
+    max_pages: 32,
+};
+
+const ROOM: Room = Room {
+    blocks: 878,
+    free_blocks: 854,
+    inodes: 63,
+    free_inodes: 60,
+    block_size: 512,
+    max_name: 120,
+};
+
+// What is told to the request of this number.
+fn reply_to(unique: u64) -> Reply<'static>
+    ensures { IsReply result }
+{
+    match unique {
+        2 => Reply::Init(TERMS),
+        4 => Reply::Attr(file(1, 0, 0o40755, 1, [START + 1; 3])),
+        26 => Reply::Created {
+            node: NODE,
+            attr: file(2, 0, 0o100755, 1, [START + 14; 3]),
+            handle: 64,
+        },
+        30 => Reply::Count(100000),
+        66 => Reply::Bytes(Piece::new(b"l")),
+        116 => Reply::Open(65),
+        126 => Reply::StatFs(ROOM),
+        130 => Reply::Entry {
+            node: NODE,
+            attr: file(2, 1, 0o100644, 2, [START + 14, START + 18, START + 66]),
+        },
+        _ => error_to(unique),
+    }
+}
+
+// EPERM, ENOENT, EACCES, ENOSPC, ENAMETOOLONG, ENOSYS, EOPNOTSUPP or ESTALE, or that it is done.
+fn error_to(unique: u64) -> Reply<'static>
+    ensures { IsReply result }
+{
+    match unique {
+        56 => Reply::Error(1),
+        24 => Reply::Error(2),
+        100 => Reply::Error(13),
+        72 => Reply::Error(28),
+        412 => Reply::Error(36),
+        32 => Reply::Error(38),
+        28 => Reply::Error(95),
+        70 => Reply::Error(116),
+        _ => Reply::Done,
+    }
+}
+
+const REPLIES: [(u64, &str); 17] = [
+    (
+        2,
+        "50000000000000000200000000000000070000001f000000000002006800480010000c000000020001000000200000000000000000000000000000000000000000000000000000000000000000000000",
+    ),
+    (
+        4,
+        "780000000000000004000000000000000000000000000000000000000000000001000000000000000000000000000000000000000000000001ca9a3b0000000001ca9a3b0000000001ca9a3b00000000000000000000000000000000ed410000010000000000000000000000000000000010000000000000",
+    ),
+    (6, "10000000000000000600000000000000"),
+    (
+        26,
+        "a0000000000000001a00000000000000020000000100000000000000000000000000000000000000000000000000000000000000000000000200000000000000000000000000000000000000000000000eca9a3b000000000eca9a3b000000000eca9a3b00000000000000000000000000000000ed81000001000000000000000000000000000000001000000000000040000000000000000000000000000000",
+    ),
+    (30, "18000000000000001e00000000000000a086010000000000"),
+    (66, "110000000000000042000000000000006c"),
+    (
+        116,
+        "2000000000000000740000000000000041000000000000000000000000000000",
+    ),
+    (
+        126,
+        "60000000000000007e000000000000006e03000000000000560300000000000056030000000000003f000000000000003c0000000000000000020000780000000002000000000000000000000000000000000000000000000000000000000000",
+    ),
+    (
+        130,
+        "90000000000000008200000000000000020000000100000000000000000000000000000000000000000000000000000000000000000000000200000000000000010000000000000001000000000000000eca9a3b0000000012ca9a3b0000000042ca9a3b00000000000000000000000000000000a4810000020000000000000000000000000000000010000000000000",
+    ),
+    (56, "10000000ffffffff3800000000000000"),
+    (24, "10000000feffffff1800000000000000"),
+    (100, "10000000f3ffffff6400000000000000"),
+    (72, "10000000e4ffffff4800000000000000"),
+    (412, "10000000dcffffff9c01000000000000"),
+    (32, "10000000daffffff2000000000000000"),
+    (28, "10000000a1ffffff1c00000000000000"),
+    (70, "100000008cffffff4600000000000000"),
+];
+
+fn written(alloc: Global, unique: u64) -> Result<Bytes, AllocError> {
+    let bytes = write_reply(alloc, unique, &reply_to(unique))?;
+    Ok(bytes_from(&bytes))
+}
+
+#[test]
+fn replies_to_a_kernel(rt: HostRuntime) -> Result<(), Fail> {
+    for (unique, text) in REPLIES {
+        let seen = written(rt.alloc(), unique)?;
+        assert!(rt; seen == bytes_of(text), "{unique}");
+    }
+    Ok(())
+}
+
+// `.` and `..` of the root.
+const DOTS: &str =
+    "0100000000000000010000000000000001000000040000002e000000000000000100000000000000020000000000000002000000040000002e2e000000000000";
+
+// Whether the entry has room in a list of 64 bytes.
+fn add(
+    to: &mut Vec<u8>,
+    inode: u64,
+    next: u64,
+    kind: EntryKind,
+    name: &[u8],
+) -> Result<bool, AllocError>
+    requires { length name.now < 256 }
+{
+    let entry = DirectoryEntry {
+        inode,
+        next,
+        kind,
+        name: Piece::new(name),
+    };
+    push_entry(to, 64, &entry)
+}
+
+// Which of three entries have room, and the list of them.
+fn listed(alloc: Global) -> Result<([bool; 3], Bytes), AllocError> {
+    let mut bytes = Vec::new(alloc);
+    let added = [
+        add(&mut bytes, 1, 1, EntryKind::Directory, b".")?,
+        add(&mut bytes, 1, 2, EntryKind::Directory, b"..")?,
+        add(&mut bytes, 2, 3, EntryKind::Unknown, b"f")?,
+    ];
+    Ok((added, bytes_from(&bytes)))
+}
+
+// user::rwx,user:1001:rwx,group::r-x,mask::rwx,other::---
+const ACL: &str =
+    "0200000001000700ffffffff02000700e903000004000500ffffffff10000700ffffffff20000000ffffffff";
+
+// The permission bits of the list, and its value.
+fn rewritten(alloc: Global, entries: &[Entry]) -> Result<(u16, Bytes), Fail> {
+    let acl = Acl::from_entries(alloc, entries)?;
+    let value = write_acl_value(alloc, &acl)?;
+    Ok((acl.mode_bits(), bytes_from(&value)))
+}
+
+// The same of the list that a value says, and the id and the permissions of its second entry.
+fn reread(alloc: Global, value: &[u8]) -> Result<(u16, Bytes, Option<(u32, u16)>), Fail> {
+    let entries = read_acl_value(alloc, value)?;
+    let second = entries.get(1).map(|entry| (entry.id, entry.perms.digit()));
+    let (mode, bytes) = rewritten(alloc, &entries)?;
+    Ok((mode, bytes, second))
+}
+
+#[test]
+fn entries_and_acls(rt: HostRuntime) -> Result<(), Fail> {
+    let seen = listed(rt.alloc())?;
+    assert!(rt; seen == ([true, true, false], bytes_of(DOTS)));
+    let (value, count) = bytes_of(ACL);
+    let seen = reread(rt.alloc(), &value[..count])?;
+    assert!(rt; seen == (0o770, (value, count), Some((1001, 7))));
+    Ok(())
+}
+
+// How many entries a value has, if it is one.
+fn count_of(alloc: Global, value: &[u8]) -> Result<Option<usize>, Fail> {
+    match read_acl_value(alloc, value) {
+        Ok(entries) => Ok(Some(entries.len())),
+        Err(AclValueFault::Malformed) => Ok(None),
+        Err(fault) => Err(fault.into()),
+    }
+}
+
+const VALUES: [(&str, Option<usize>); 7] = [
+    (ACL, Some(5)),
+    ("02000000", Some(0)),
+    // A part of an entry, another version, a tag and permissions that there aren't, and no whole version.
+    ("0200000001000700ffffff", None),
+    ("0100000001000700ffffffff", None),
+    ("0200000003000700ffffffff", None),
+    ("0200000001000800ffffffff", None),
+    ("020000", None),
+];
+
+#[test]
+fn values_of_acls(rt: HostRuntime) -> Result<(), Fail> {
+    for (text, wanted) in VALUES {
+        let (value, count) = bytes_of(text);
+        let seen = count_of(rt.alloc(), &value[..count])?;
+        assert!(rt; seen == wanted, "{text}");
+    }
+    Ok(())
+}
