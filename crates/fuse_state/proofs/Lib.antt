@@ -1,0 +1,4 @@
+pub mod Searched
+pub mod Edited
+pub mod Chosen
+pub mod LastFound

@@ -1,0 +1,39 @@
+-- What requests for names change of what a server keeps.
+--     removed, moved, linked, told        where a name goes, leads elsewhere, is added, or is found or made by its opening
+use Rattle.std.specs.Prelude.{ℕ, Bool, true, false, Option, None, Some}
+use Rattle.fs_model.specs.declared.reply.FileType.{FileType}
+use Rattle.fuse_protocol.specs.declared.reply.Time.{Time}
+use Rattle.fuse_state.specs.declared.place.Place.{Place}
+use Rattle.fuse_state.specs.Servers.{Server, kind_of, named, with_name, without_name, touched, changed, born}
+
+abbrev pub changed_if : Time → Option ℕ → Server → Server
+changed_if now None s = s
+changed_if now (Some n) s = changed now n s
+
+abbrev pub removed : Time → Place → Server → Server
+removed now p s = touched now p.directory (changed_if now (named s p) (without_name p s))
+
+-- of a kind that is known
+abbrev pub named_if : Place → ℕ → Option FileType → Server → Server
+named_if p n None s = s
+named_if p n (Some kind) s = with_name p n kind s
+
+-- the object that had the old name has the new one
+abbrev pub moved_to : Time → Place → Option ℕ → Server → Server
+moved_to now new None s = s
+moved_to now new (Some n) s = changed now n (named_if new n (kind_of s n) s)
+
+abbrev pub moved : Time → Place → Place → Server → Server
+moved now old new s =
+    let replaced = changed_if now (named s new) (without_name new s) in
+    let placed = moved_to now new (named replaced old) (without_name old replaced) in
+    touched now new.directory (touched now old.directory placed)
+
+abbrev pub linked : Time → Place → ℕ → Option FileType → Server → Server
+linked now p n kind s = touched now p.directory (changed now n (named_if p n kind s))
+
+-- what was opened by a name is new, or lost its bytes, or is as it was
+abbrev pub told : Time → Place → ℕ → FileType → Bool → Bool → Server → Server
+told now p n kind true trunc s = born now p n kind s
+told now p n kind false true s = touched now n (with_name p n kind s)
+told now p n kind false false s = with_name p n kind s

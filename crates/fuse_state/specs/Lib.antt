@@ -1,0 +1,4 @@
+pub mod Servers
+pub mod Changes
+pub mod Tables
+pub mod Rooms

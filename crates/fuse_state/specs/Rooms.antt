@@ -1,0 +1,26 @@
+-- Room that is reserved for what a server keeps.
+--     Kept        what it keeps, and for how many more things it has memory
+--     HasRoom        what it takes that there is so much room
+--     given_back        a name that was lent stands in its place again
+use Rattle.std.specs.Prelude.{ℕ, ◌+◌, ◌<◌, ◌≤◌, ◌^◌, slice_set}
+use Rattle.fuse_state.specs.declared.place.Lent.{Lent}
+use Rattle.fuse_state.specs.Servers.{Server}
+
+pub record Kept : Type 0 where
+  pub server : Server
+  -- so many things may be added without asking for memory
+  pub room : ℕ
+
+-- each table has the room, and the handles of so many directories are numbers of 64 bits
+pub record HasRoom (room generations kinds names times processes handles directories next_directory : ℕ) : Type 0 where
+  pub for_generations : room ≤ generations
+  pub for_kinds : room ≤ kinds
+  pub for_names : room ≤ names
+  pub for_times : room ≤ times
+  pub for_processes : room ≤ processes
+  pub for_handles : room ≤ handles
+  pub for_directories : room ≤ directories
+  pub for_numbers : next_directory + room < 2 ^ 64
+
+abbrev pub given_back : Lent → Kept → Kept
+given_back lent k = record k { server = record k.server { names = slice_set k.server.names lent.at lent.found } }

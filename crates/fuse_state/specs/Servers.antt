@@ -1,0 +1,254 @@
+-- What a server keeps between requests. Its maps are lists of entries with rising keys.
+--     Server, new_server        the whole
+--     node_of, number_of        nodes, by which the kernel names objects, and the numbers of their inodes
+--     named, place_of, with_name, without_name, born        names, all that were found and still stand
+--     times_of, touched, changed        times of objects
+--     processes_of, held_by, ..        processes, and the descriptors that they hold
+--     owner_of, descriptor_of, handle_of        a handle is a process and one of its descriptors
+--     opened, with_directory, without_directory        open directories
+use Rattle.std.specs.Prelude.{ℕ, ◌+◌, ◌*◌, ◌/◌, ◌%◌, ◌^◌, ◌==◌, nat_eq, nat_lt, nat_le, Bool, true, false, not, ◌&&◌, ◌||◌, List, [], ◌∷◌, ◌++◌, length, map, reverse, bytes_eq, Option, None, Some, is_some, unwrap_or, option_map, if◌then◌else◌}
+use Rattle.std.specs.Ordering.{nat_cmp}
+use Rattle.std.specs.List.{filter, find}
+use Rattle.std.specs.Cmp.Lexicographic.{pointwise}
+use Rattle.fs_cred.specs.Credentials.{Credential}
+use Rattle.fs_layout.specs.Maps.{get, with_entry, without}
+use Rattle.fs_model.specs.Limits.{root, descriptors_limit}
+use Rattle.fs_model.specs.declared.reply.FileType.{FileType}
+use Rattle.fs_model.specs.declared.reply.FileType.TheVariants.{Directory}
+use Rattle.fuse_protocol.specs.declared.reply.Time.{Time}
+use Rattle.fuse_state.specs.declared.directory.OpenDirectory.{OpenDirectory}
+use Rattle.fuse_state.specs.declared.place.Place.{Place}
+use Rattle.fuse_state.specs.declared.place.Found.{Found}
+use Rattle.fuse_state.specs.declared.settings.Settings.{Settings}
+use Rattle.fuse_state.specs.declared.times.Times.{Times}
+
+pub record Server : Type 0 where
+  pub settings : Settings
+  -- how often each number was given to a new object, modulo 2 ^ 32
+  pub generations : List (ℕ × ℕ)
+  -- of the objects that the kernel was told of
+  pub kinds : List (ℕ × FileType)
+  -- the names that were found and still stand, the latest last
+  pub names : List Found
+  pub times : List (ℕ × Times)
+  -- the processes of callers, and the server's own
+  pub processes : List (ℕ × Credential)
+  pub looker : Option ℕ
+  -- open files, and open directories
+  pub handles : List (ℕ × ℕ)
+  pub directories : List (ℕ × OpenDirectory)
+  pub next_directory : ℕ
+  pub ended : Bool
+
+-- handles of directories begin behind those of files
+abbrev pub first_directory : ℕ
+first_directory = 2 ^ 32
+
+-- the root is known
+abbrev pub new_server : Settings → Server
+new_server settings = record {
+  settings = settings;
+  generations = [];
+  kinds = (root, Directory) ∷ [];
+  names = [];
+  times = [];
+  processes = [];
+  looker = None;
+  handles = [];
+  directories = [];
+  next_directory = first_directory;
+  ended = false;
+}
+
+-- ---- nodes
+
+abbrev pub generation_of : Server → ℕ → ℕ
+generation_of s n = unwrap_or (get nat_cmp s.generations n) 0
+
+-- a number and its generation
+abbrev pub node_of : Server → ℕ → ℕ
+node_of s n = 2 ^ 32 * generation_of s n + n
+
+-- a number is given to one more new object
+abbrev pub with_generation : ℕ → Server → Server
+with_generation n s = record s { generations = with_entry nat_cmp s.generations n ((generation_of s n + 1) % 2 ^ 32) }
+
+abbrev pub kind_of : Server → ℕ → Option FileType
+kind_of s n = get nat_cmp s.kinds n
+
+-- the number of a node, unless that is stale
+abbrev pub number_of : Server → ℕ → Option ℕ
+number_of s node =
+    let n = node % 2 ^ 32 in
+    if is_some (kind_of s n) && generation_of s n == node / 2 ^ 32 then Some n else None
+
+-- ---- names
+
+abbrev pub is_place : Place → Place → Bool
+is_place p q = p.directory == q.directory && bytes_eq p.name q.name
+
+-- the number that a name leads to
+abbrev pub named : Server → Place → Option ℕ
+named s p = option_map (λ found. found.inode) (find (λ found. is_place p found.place) s.names)
+
+-- the latest
+abbrev pub place_of : Server → ℕ → Option Place
+place_of s n = option_map (λ found. found.place) (find (λ found. found.inode == n) (reverse s.names))
+
+abbrev pub without_name : Place → Server → Server
+without_name p s = record s { names = filter (λ found. not (is_place p found.place)) s.names }
+
+-- the name leads to the object, and to no other
+abbrev pub with_name : Place → ℕ → FileType → Server → Server
+with_name p n kind s = record s {
+  kinds = with_entry nat_cmp s.kinds n kind;
+  names = (without_name p s).names ++ record { place = p; inode = n } ∷ [];
+}
+
+-- ---- times
+
+abbrev pub times_of : Server → ℕ → Times
+times_of s n =
+    let start = s.settings.start in
+    unwrap_or (get nat_cmp s.times n) (record { atime = start; mtime = start; ctime = start })
+
+abbrev pub with_times : ℕ → Times → Server → Server
+with_times n times s = record s { times = with_entry nat_cmp s.times n times }
+
+-- its contents have changed
+abbrev pub touched : Time → ℕ → Server → Server
+touched now n s = with_times n (record (times_of s n) { mtime = now; ctime = now }) s
+
+-- something else of it has
+abbrev pub changed : Time → ℕ → Server → Server
+changed now n s = with_times n (record (times_of s n) { ctime = now }) s
+
+-- a new object has the number
+abbrev pub born : Time → Place → ℕ → FileType → Server → Server
+born now p n kind s =
+    let u = with_times n (record { atime = now; mtime = now; ctime = now }) (with_generation n s) in
+    touched now p.directory (with_name p n kind u)
+
+-- ---- processes and descriptors
+
+abbrev pub is_same_credential : Credential → Credential → Bool
+is_same_credential a b = a.uid == b.uid && (a.gid == b.gid && (pointwise nat_eq a.groups b.groups && a.caps.0 == b.caps.0))
+
+abbrev pub has_credential : Credential → Option Credential → Bool
+has_credential cred None = false
+has_credential cred (Some other) = is_same_credential cred other
+
+-- the process has this credential
+abbrev pub is_process_of : List (ℕ × Credential) → Credential → ℕ → Bool
+is_process_of processes cred pid = has_credential cred (get nat_cmp processes pid)
+
+abbrev pub all_processes : Server → List ℕ
+all_processes s = map (λ e. e.0) s.processes
+
+abbrev pub processes_of : Server → Credential → List ℕ
+processes_of s cred = filter (is_process_of s.processes cred) (all_processes s)
+
+abbrev pub with_process : ℕ → Credential → Server → Server
+with_process pid cred s = record s { processes = with_entry nat_cmp s.processes pid cred }
+
+abbrev pub without_process : ℕ → Server → Server
+without_process pid s = record s { processes = without nat_cmp s.processes pid }
+
+abbrev pub with_the_looker : ℕ → Server → Server
+with_the_looker pid s = record s { looker = Some pid }
+
+abbrev pub handle_of : ℕ → ℕ → ℕ
+handle_of pid fd = descriptors_limit * pid + fd
+
+abbrev pub owner_of : ℕ → ℕ
+owner_of handle = handle / descriptors_limit
+
+abbrev pub descriptor_of : ℕ → ℕ
+descriptor_of handle = handle % descriptors_limit
+
+-- how many descriptors a process holds
+abbrev pub held_by : Server → ℕ → ℕ
+held_by s pid = length (filter (λ e. owner_of e.0 == pid) s.handles)
+
+abbrev pub holds_some : Server → ℕ → Bool
+holds_some s pid = nat_lt 0 (held_by s pid)
+
+abbrev pub has_room : Server → ℕ → Bool
+has_room s pid = holds_some s pid && nat_lt (held_by s pid) descriptors_limit
+
+-- those that hold none
+abbrev pub idle : Server → List ℕ → List ℕ
+idle s pids = filter (λ pid. not (holds_some s pid)) pids
+
+abbrev pub busy : Server → List ℕ → List ℕ
+busy s pids = filter (holds_some s) pids
+
+abbrev pub first_of : {X : Type 0} → List X → Option X
+first_of [] = None
+first_of (x ∷ xs) = Some x
+
+abbrev pub first_process : Server → Credential → Option ℕ
+first_process s cred = first_of (processes_of s cred)
+
+-- one that holds some descriptors already and has room for more
+abbrev pub partly_used : Server → Credential → Option ℕ
+partly_used s cred = first_of (filter (has_room s) (processes_of s cred))
+
+abbrev pub idle_process : Server → Credential → Option ℕ
+idle_process s cred = first_of (idle s (processes_of s cred))
+
+-- the first idle one from a number on
+abbrev pub next_idle : Server → ℕ → Option ℕ
+next_idle s least = first_of (idle s (filter (nat_le least) (all_processes s)))
+
+-- of all, and of one credential: our own rule, so that others always find a process
+abbrev pub busy_limit : ℕ
+busy_limit = 48
+
+abbrev pub busy_limit_of_one : ℕ
+busy_limit_of_one = 32
+
+abbrev pub are_many : Server → Credential → Bool
+are_many s cred =
+    nat_le busy_limit (length (busy s (all_processes s))) || nat_le busy_limit_of_one (length (busy s (processes_of s cred)))
+
+-- the object of a handle
+abbrev pub object_of : Server → ℕ → Option ℕ
+object_of s handle = get nat_cmp s.handles handle
+
+-- a handle of the object
+abbrev pub handle_for : Server → ℕ → Option ℕ
+handle_for s n = first_of (map (λ e. e.0) (filter (λ e. e.1 == n) s.handles))
+
+abbrev pub with_handle : ℕ → ℕ → Server → Server
+with_handle handle n s = record s { handles = with_entry nat_cmp s.handles handle n }
+
+abbrev pub without_handle : ℕ → Server → Server
+without_handle handle s = record s { handles = without nat_cmp s.handles handle }
+
+-- ---- open directories
+
+-- our own limit on them
+abbrev pub directories_limit : ℕ
+directories_limit = 256
+
+abbrev pub are_directories_full : Server → Bool
+are_directories_full s = nat_le directories_limit (length s.directories)
+
+abbrev pub directory_of : Server → ℕ → Option OpenDirectory
+directory_of s handle = get nat_cmp s.directories handle
+
+abbrev pub with_directory : ℕ → OpenDirectory → Server → Server
+with_directory handle d s = record s { directories = with_entry nat_cmp s.directories handle d }
+
+abbrev pub opened : ℕ → Server → Server
+opened n s =
+    record (with_directory s.next_directory (record { number = n; listing = None }) s) { next_directory = s.next_directory + 1 }
+
+abbrev pub without_directory : ℕ → Server → Server
+without_directory handle s = record s { directories = without nat_cmp s.directories handle }
+
+-- ---- the end
+
+abbrev pub with_end : Server → Server
+with_end s = record s { ended = true }

@@ -1,0 +1,12 @@
+//! Open directories.
+
+use fs_model::Listing;
+
+/// An open directory.
+#[derive(Drop)]
+pub struct OpenDirectory {
+    /// The number of its inode.
+    pub number: u32,
+    /// The listing that was made of it last.
+    pub listing: Option<Listing>,
+}

@@ -1,0 +1,21 @@
+//! What a server of the kernel's FUSE requests keeps between them: which objects, names and times the kernel was told of, and
+//! which processes, handles and open directories there are.
+//!
+//! A [`Server`] asks for memory in two calls alone, [`Server::new`] and [`Server::prepare`]. What is added takes some of the
+//! room that `prepare` reserved.
+#![tactic(auto)]
+
+mod directory;
+mod handle;
+mod place;
+mod server;
+mod settings;
+mod table;
+mod times;
+
+pub use directory::OpenDirectory;
+pub use handle::{descriptor_of, handle_of, owner_of};
+pub use place::{Found, Lent, Place};
+pub use server::{MAX_DIRECTORIES, REQUEST_ROOM, Server};
+pub use settings::Settings;
+pub use times::Times;

@@ -1,0 +1,56 @@
+//! Nodes, by which the kernel names objects: an inode's number, and how often it was given to a new object.
+ghost use Rattle.std.specs.Prelude.{◌≡◌, ◌+◌, ◌≤◌};
+ghost use Rattle.fuse_state.specs.Servers.{generation_of, with_generation, kind_of, node_of, number_of};
+
+use super::Server;
+use fs_model::FileType;
+
+// So many numbers of inodes there are.
+const NUMBERS: u64 = 4_294_967_296;
+
+impl Server {
+    // How often the number was given to a new object, modulo 2^32.
+    pub(super) fn generation_of(&self, inode: u32) -> u32
+        ensures { result ≡ generation_of self.now.server inode }
+    {
+        self.generations.get(u64::from(inode)).copied().unwrap_or(0)
+    }
+
+    // A number is given to one more new object.
+    pub(super) fn add_generation(&mut self, inode: u32)
+        requires { 1 ≤ self.old.room }
+        ensures kept { self.new.server ≡ with_generation inode self.old.server }
+        ensures room { self.old.room ≤ self.new.room + 1 }
+    {
+        let generation = self.generation_of(inode).wrapping_add(1);
+        self.generations.put(u64::from(inode), generation);
+        self.room -= 1;
+    }
+
+    /// The node of an inode.
+    pub fn node_of(&self, inode: u32) -> u64
+        ensures { result ≡ node_of self.now.server inode }
+    {
+        NUMBERS * u64::from(self.generation_of(inode)) + u64::from(inode)
+    }
+
+    /// What the inode holds, if the kernel was told of it.
+    pub fn kind_of(&self, inode: u32) -> Option<FileType>
+        ensures { result ≡ kind_of self.now.server inode }
+    {
+        self.kinds.get(u64::from(inode)).copied()
+    }
+
+    /// The inode of a node, unless that is stale.
+    pub fn number_of(&self, node: u64) -> Option<u32>
+        ensures { result ≡ number_of self.now.server node }
+    {
+        let inode = (node % NUMBERS) as u32;
+        let is_known = self.kind_of(inode).is_some();
+        if is_known && u64::from(self.generation_of(inode)) == node / NUMBERS {
+            Some(inode)
+        } else {
+            None
+        }
+    }
+}

@@ -1,0 +1,64 @@
+//! Times of objects.
+ghost use Rattle.std.specs.Prelude.{◌≡◌, ◌+◌, ◌≤◌};
+ghost use Rattle.fuse_state.specs.Servers.{times_of, with_times, touched, changed};
+
+use super::Server;
+use crate::times::Times;
+use fuse_protocol::Time;
+
+impl Server {
+    /// The times of an object: when the server began, where no others are known.
+    pub fn times_of(&self, inode: u32) -> Times
+        ensures { result ≡ times_of self.now.server inode }
+    {
+        let start = self.settings.start;
+        self.times.get(u64::from(inode)).copied().unwrap_or(Times {
+            atime: start,
+            mtime: start,
+            ctime: start,
+        })
+    }
+
+    /// An object has these times.
+    pub fn set_times(&mut self, inode: u32, times: Times)
+        requires { 1 ≤ self.old.room }
+        ensures kept { self.new.server ≡ with_times inode times self.old.server }
+        ensures room { self.old.room ≤ self.new.room + 1 }
+    {
+        self.times.put(u64::from(inode), times);
+        self.room -= 1;
+    }
+
+    /// The contents of an object have changed.
+    pub fn touch(&mut self, now: Time, inode: u32)
+        requires { 1 ≤ self.old.room }
+        ensures kept { self.new.server ≡ touched now inode self.old.server }
+        ensures room { self.old.room ≤ self.new.room + 1 }
+    {
+        let times = self.times_of(inode);
+        self.set_times(
+            inode,
+            Times {
+                mtime: now,
+                ctime: now,
+                ..times
+            },
+        );
+    }
+
+    /// Something else of an object has changed.
+    pub fn change(&mut self, now: Time, inode: u32)
+        requires { 1 ≤ self.old.room }
+        ensures kept { self.new.server ≡ changed now inode self.old.server }
+        ensures room { self.old.room ≤ self.new.room + 1 }
+    {
+        let times = self.times_of(inode);
+        self.set_times(
+            inode,
+            Times {
+                ctime: now,
+                ..times
+            },
+        );
+    }
+}

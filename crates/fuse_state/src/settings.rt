@@ -1,0 +1,18 @@
+//! What is agreed on before a server serves.
+
+use fuse_protocol::Time;
+
+/// What a server tells the kernel, and what it shows of the whole file system.
+#[derive(Clone, Copy)]
+pub struct Settings {
+    /// The most bytes of one write.
+    pub max_write: u32,
+    /// The kernel judges ACLs too: `FUSE_POSIX_ACL`.
+    pub posix_acl: bool,
+    /// All data sectors.
+    pub sectors: u32,
+    /// All inodes.
+    pub inodes: u32,
+    /// When the server began: the times of each object that it knows no others of.
+    pub start: Time,
+}
