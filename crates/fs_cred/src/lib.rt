@@ -12,8 +12,6 @@ mod ownership;
 mod permissions;
 mod refusal;
 mod rule;
-#[cfg(test)]
-mod tests;
 
 pub use access::decide;
 pub use caps::Caps;

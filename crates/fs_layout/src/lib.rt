@@ -10,8 +10,6 @@ mod laws;
 mod place;
 mod slot;
 mod superblock;
-#[cfg(test)]
-mod tests;
 mod version;
 
 pub use acl_sector::AclSector;

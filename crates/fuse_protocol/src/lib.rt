@@ -11,8 +11,6 @@ mod operation;
 mod piece;
 mod reply;
 mod request;
-#[cfg(test)]
-mod tests;
 
 pub use acl_value::{AclValueFault, read_acl_value, write_acl_value};
 pub use entry::{DirectoryEntry, EntryKind, push_entry};

@@ -5,8 +5,6 @@ mod acl;
 mod entry;
 mod fault;
 mod reading;
-#[cfg(test)]
-mod tests;
 mod text;
 mod validity;
 

@@ -1,7 +1,7 @@
 //! What the documents say of an image's bytes, and that each call succeeds.
 
-use crate::LayoutFault::{self, BadKind, BadMagic, BadNumber, BadVersion, NotZero};
-use crate::{AclSector, Commit, Inode, Kind, Slot, Super, Version, is_name, place_of};
+use fs_layout::LayoutFault::{self, BadKind, BadMagic, BadNumber, BadVersion, NotZero};
+use fs_layout::{AclSector, Commit, Inode, Kind, Slot, Super, Version, is_name, place_of};
 use posix_acl::EntryNumbers;
 
 // A structure. The tests have each at an offset of its own in a sector.
@@ -110,7 +110,7 @@ fn written_commit(commit: &Commit) -> [u8; 512] {
     sector
 }
 
-#[tactic(auto, unfolding(crate::specs::Inode::inode_fits))]
+#[tactic(auto, unfolding(fs_layout::specs::Inode::inode_fits))]
 fn written_file() -> [u8; 512] {
     let mut sector = [0xff; 512];
     FILE.write_to(&mut sector, 128);

@@ -1,8 +1,5 @@
 //! Worked rows of texts, permission bits and limits.
-use crate::acl::Acl;
-use crate::entry::{Entry, Perms, Tag};
-use crate::fault::AclFault;
-use crate::text::TextForm;
+use posix_acl::{Acl, AclFault, Entry, Perms, Tag, TextForm};
 use std::alloc::Global;
 use std::test::Fail;
 

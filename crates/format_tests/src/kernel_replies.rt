@@ -3,8 +3,9 @@
 ghost use Rattle.std.specs.Prelude.{◌<◌, length};
 ghost use Rattle.fuse_protocol.specs.Replies.{IsReply};
 
-use super::{Bytes, bytes_of};
-use crate::{
+use crate::hex::{Bytes, bytes_of};
+use bitflags::Flags;
+use fuse_protocol::{
     AclValueFault, Attr, DirectoryEntry, EntryKind, InitFlags, Piece, Reply, Room, Terms, Time,
     push_entry, read_acl_value, write_acl_value, write_reply,
 };
@@ -49,15 +50,6 @@ const START: u64 = 1_000_000_000;
 
 const NODE: u64 = 1 << 32 | 2;
 
-const TERMS: Terms = Terms {
-    max_readahead: 0x20000,
-    flags: InitFlags(0x480068),
-    max_background: 16,
-    congestion_threshold: 12,
-    max_write: 0x20000,
-    max_pages: 32,
-};
-
 const ROOM: Room = Room {
     blocks: 878,
     free_blocks: 854,
@@ -67,12 +59,23 @@ const ROOM: Room = Room {
     max_name: 120,
 };
 
+fn terms() -> Terms {
+    Terms {
+        max_readahead: 0x20000,
+        flags: InitFlags::from_bits_retain(0x480068),
+        max_background: 16,
+        congestion_threshold: 12,
+        max_write: 0x20000,
+        max_pages: 32,
+    }
+}
+
 // What is told to the request of this number.
 fn reply_to(unique: u64) -> Reply<'static>
     ensures { IsReply result }
 {
     match unique {
-        2 => Reply::Init(TERMS),
+        2 => Reply::Init(terms()),
         4 => Reply::Attr(file(1, 0, 0o40755, 1, [START + 1; 3])),
         26 => Reply::Created {
             node: NODE,

@@ -1,0 +1,82 @@
+//! Credentials, and worked rows of the rules of ownership.
+use bitflags::Flags;
+use fs_cred::{
+    Caps, Cred, CredFault, keeps_set_group_id, may_chgrp, may_chown, may_own, one_answer,
+    owns_or_may_chown, sticky_allows,
+};
+use std::alloc::Global;
+use std::test::Fail;
+
+// The parts of a copy of a credential with 16 more groups, whether it is in three groups and has three sets of capabilities,
+// and what 17 groups are.
+fn with_groups(
+    alloc: Global,
+) -> Result<((u32, u32, usize, u32), [bool; 6], Option<CredFault>), CredFault> {
+    let both = Caps::CHOWN.union(Caps::FSETID);
+    let cred = Cred::with_caps(alloc, 7, u32::MAX, &[9; 16], both)?.try_clone(alloc)?;
+    let parts = (
+        cred.uid(),
+        cred.gid(),
+        cred.groups().len(),
+        cred.caps().bits(),
+    );
+    let tests = [
+        cred.is_member(u32::MAX),
+        cred.is_member(9),
+        cred.is_member(7),
+        cred.is_capable(both),
+        cred.is_capable(Caps::FSETID),
+        cred.is_capable(Caps::FSETID.union(Caps::FOWNER)),
+    ];
+    let fault = Cred::with_caps(alloc, 7, 8, &[9; 17], both).err();
+    Ok((parts, tests, fault))
+}
+
+#[test]
+fn credentials_have_groups_and_capabilities(rt: HostRuntime) -> Result<(), Fail> {
+    let seen = with_groups(rt.alloc())?;
+    let wanted = (
+        (7, u32::MAX, 16, 17),
+        [true, true, false, true, true, false],
+        Some(CredFault::TooManyGroups),
+    );
+    assert!(rt; seen == wanted, "{seen:?}");
+    Ok(())
+}
+
+// Whether a caller may own what is user 1000's and group 100's, ask for another owner, give it to user 0 and to group 0, remove
+// it from user 0's sticky directory, and set S_ISGID.
+fn rights(cred: &Cred) -> [bool; 6] {
+    [
+        may_own(cred, 1000).is_ok(),
+        owns_or_may_chown(cred, 1000).is_ok(),
+        may_chown(cred, 1000, 0).is_ok(),
+        may_chgrp(cred, 100, 0).is_ok(),
+        sticky_allows(cred, true, 0, 1000).is_ok(),
+        keeps_set_group_id(cred, 100),
+    ]
+}
+
+// A user in these groups, who has these capabilities, and what the user may of that.
+const RIGHTS: [(u32, &[u32], u32, [bool; 6]); 10] = [
+    (1001, &[], 0, [false, false, false, false, false, false]),
+    (0, &[], 0, [false, false, false, false, true, false]),
+    (0, &[], 31, [true, true, true, true, true, true]),
+    (1000, &[], 0, [true, true, false, false, true, false]),
+    (1000, &[0, 100], 0, [true, true, false, true, true, true]),
+    (1001, &[], 1, [false, true, true, true, false, false]),
+    (1001, &[], 2, [false, false, false, false, false, false]),
+    (1001, &[], 4, [false, false, false, false, false, false]),
+    (1001, &[], 8, [true, false, false, false, true, false]),
+    (1001, &[], 16, [false, false, false, false, false, true]),
+];
+
+#[test]
+fn a_capability_passes_its_questions(rt: HostRuntime) -> Result<(), Fail> {
+    for (uid, groups, caps, wanted) in RIGHTS {
+        let cred = Cred::with_caps(rt.alloc(), uid, 101, groups, Caps::from_bits_retain(caps))?;
+        assert!(rt; rights(&cred) == wanted, "{uid} {caps}");
+    }
+    one_answer();
+    Ok(())
+}
