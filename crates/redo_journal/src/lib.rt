@@ -10,8 +10,6 @@ mod commit;
 mod journal;
 mod open;
 mod steps;
-#[cfg(test)]
-mod tests;
 
 pub use batch::Batch;
 pub use journal::{Broken, Journal, Logged, Sealed};

@@ -6,4 +6,3 @@ pub mod Record
 pub mod Replay
 pub mod Steps
 pub mod Whole
-pub mod Writes

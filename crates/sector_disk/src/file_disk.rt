@@ -107,8 +107,8 @@ impl<F: DiskFile + Drop> FileDisk<F> {
         })
     }
 
-    // The disk in an open file.
-    pub(crate) fn over(alloc: Global, file: F) -> Result<Self, FileFault>
+    /// The disk in a file that is open, for a file of one's own kind: as [`FileDisk::open`] makes it.
+    pub fn over(alloc: Global, file: F) -> Result<Self, FileFault>
         ensures fresh { IfOk result (λ disk. IsFresh (⟦<FileDisk<F> as Disk>⟧.state disk) (⟦<FileDisk<F> as Disk>⟧.state disk).seen) }
         ensures small { IfOk result (λ disk. (⟦<FileDisk<F> as Disk>⟧.state disk).size ≤ 65537) }
         ensures fault { IfErr result (λ fault. fault ≢ Exists) }

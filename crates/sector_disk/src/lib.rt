@@ -14,6 +14,3 @@ pub use disk_file::DiskFile;
 pub use faulty::{FailOnce, FaultyDisk, FuseDisk};
 pub use file_disk::{FileDisk, FileFault};
 pub use memory::MemDisk;
-
-#[cfg(test)]
-mod tests;

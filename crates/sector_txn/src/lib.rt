@@ -13,8 +13,6 @@ mod clean;
 mod commit;
 mod sectors;
 mod store;
-#[cfg(test)]
-mod tests;
 
 pub use sectors::Sectors;
 pub use store::{Store, Txn};

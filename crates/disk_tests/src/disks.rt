@@ -1,0 +1,268 @@
+//! Clients over any disk, which show that the clauses can be met and used; and what no clause says: which call fails,
+//! and which content a stop leaves.
+
+ghost use Rattle.std.specs.Prelude.{◌≡◌, ◌≢◌, ◌<◌, ◌⊎◌, OnOk, All};
+ghost use Rattle.sector_disk.specs.Disk.{Image, sector, IsStable, HasCause, LeavesOnly, AddsOnly, IsImageOr};
+ghost use Rattle.disk_tests.specs.Writes.{IsAmong, after_writes};
+
+use sector_disk::{CrashDisk, Disk, DiskFault, FailOnce, FaultyDisk, FuseDisk, MemDisk};
+use std::test::Fail;
+
+const OLD: [u8; 512] = [1; 512];
+
+const MIDDLE: [u8; 512] = [2; 512];
+
+const NEW: [u8; 512] = [3; 512];
+
+// Writes the content, syncs, and then writes the mark that says that it is there, and syncs.
+fn write_and_mark<D: Disk>(
+    disk: &mut D,
+    n: u32,
+    content: &[u8; 512],
+    at: u32,
+    mark: &[u8; 512],
+) -> Result<(), DiskFault>
+    requires n_fits { n < (D.state disk.old).size }
+    requires at_fits { at < (D.state disk.old).size }
+    requires apart { n ≢ at }
+    requires stable { IsStable (D.state disk.old) }
+    ensures any_moment { LeavesOnly (D.state disk.old) (D.state disk.new) (λ image.
+        (sector image at ≡ sector (D.state disk.old).seen at) ⊎ ((sector image at ≡ mark.now) × (sector image n ≡ content.now))) }
+    ensures size { (D.state disk.new).size ≡ (D.state disk.old).size }
+    ensures cause { HasCause (D.state disk.old) (D.state disk.new) result }
+{
+    disk.write(n, content)?;
+    disk.sync()?;
+    disk.write(at, mark)?;
+    disk.sync()
+}
+
+// Writes each content in its sector, wherever that is.
+fn scatter<D: Disk>(disk: &mut D, contents: &[(u32, [u8; 512])]) -> Result<(), DiskFault>
+    requires { All (λ content. content.0 < (D.state disk.old).size) contents.now }
+    ensures seen { OnOk result ((D.state disk.new).seen ≡ after_writes (D.state disk.old).seen contents.now) }
+    ensures adds { AddsOnly (IsAmong contents.now) (D.state disk.old) (D.state disk.new) }
+    ensures any_moment { LeavesOnly (D.state disk.old) (D.state disk.new) (IsImageOr (IsAmong contents.now) (D.state disk.old)) }
+    ensures cause { HasCause (D.state disk.old) (D.state disk.new) result }
+{
+    for content in contents {
+        disk.write(content.0, &content.1)?;
+    }
+    Ok(())
+}
+
+// A sync, and then both clients: whether each of them passes.
+fn run_clients<D: Disk>(
+    disk: &mut D,
+    n: u32,
+    content: &[u8; 512],
+    at: u32,
+    mark: &[u8; 512],
+    contents: &[(u32, [u8; 512])],
+) -> Result<(bool, bool), DiskFault>
+    requires n_fits { n < 4 }
+    requires at_fits { at < 4 }
+    requires apart { n ≢ at }
+    requires contents_fit { All (λ content. content.0 < 4) contents.now }
+{
+    if disk.size() < 4 {
+        return Err(DiskFault);
+    }
+    disk.sync()?;
+    let marked = write_and_mark(disk, n, content, at, mark).is_ok();
+    Ok((marked, scatter(disk, contents).is_ok()))
+}
+
+#[derive(Clone, Copy)]
+pub(super) enum Call {
+    Read(u32),
+    // Fills the sector with the byte.
+    Write(u32, u8),
+    Sync,
+}
+
+fn passes<D: Disk>(disk: &mut D, call: Call) -> bool {
+    match call {
+        Call::Read(n) => first_byte(disk, n).is_ok(),
+        Call::Write(n, byte) => n < disk.size() && disk.write(n, &[byte; 512]).is_ok(),
+        Call::Sync => disk.sync().is_ok(),
+    }
+}
+
+// Which of the calls pass.
+pub(super) fn four_calls<D: Disk>(disk: &mut D, calls: [Call; 4]) -> [bool; 4] {
+    [
+        passes(disk, calls[0]),
+        passes(disk, calls[1]),
+        passes(disk, calls[2]),
+        passes(disk, calls[3]),
+    ]
+}
+
+// A sector past the end gives a fault.
+pub(super) fn first_byte<D: Disk>(disk: &mut D, n: u32) -> Result<u8, DiskFault> {
+    if n >= disk.size() {
+        return Err(DiskFault);
+    }
+    let mut content = [0; 512];
+    disk.read(n, &mut content)?;
+    Ok(content[0])
+}
+
+fn first_bytes<D: Disk>(disk: &mut D) -> Result<[u8; 4], DiskFault> {
+    Ok([
+        first_byte(disk, 0)?,
+        first_byte(disk, 1)?,
+        first_byte(disk, 2)?,
+        first_byte(disk, 3)?,
+    ])
+}
+
+// Which calls of an armed disk pass; and, once it has been stopped and a sync has passed, how often it has failed and
+// what reads give.
+fn stopped<D: CrashDisk>(
+    disk: &mut D,
+    armed: u64,
+    calls: [Call; 4],
+    choice: &[u8],
+) -> Result<([bool; 4], u64, [u8; 4]), DiskFault> {
+    disk.arm(armed);
+    let passed = four_calls(disk, calls);
+    disk.crash(choice);
+    disk.sync()?;
+    Ok((passed, disk.failures(), first_bytes(disk)?))
+}
+
+const ONE_SECTOR: [Call; 4] = [
+    Call::Write(2, 1),
+    Call::Sync,
+    Call::Write(2, 2),
+    Call::Write(2, 3),
+];
+
+const TWO_SECTORS: [Call; 4] = [
+    Call::Sync,
+    Call::Write(3, 2),
+    Call::Write(1, 1),
+    Call::Write(3, 3),
+];
+
+const SYNCED_BETWEEN: [Call; 4] = [
+    Call::Write(0, 1),
+    Call::Write(1, 1),
+    Call::Sync,
+    Call::Write(0, 3),
+];
+
+#[test]
+fn a_stop_leaves_what_its_choice_picks(rt: HostRuntime) -> Result<(), Fail> {
+    // How many writes and syncs pass, the calls, the choice, how often the disk has failed, and the first bytes.
+    for (armed, calls, choice, failures, found) in [
+        (9, ONE_SECTOR, [].as_slice(), 0, [0, 0, 1, 0]),
+        (9, ONE_SECTOR, [0].as_slice(), 0, [0, 0, 1, 0]),
+        (9, ONE_SECTOR, [1].as_slice(), 0, [0, 0, 2, 0]),
+        (9, ONE_SECTOR, [2].as_slice(), 0, [0, 0, 3, 0]),
+        (9, ONE_SECTOR, [3].as_slice(), 0, [0, 0, 1, 0]),
+        (9, ONE_SECTOR, [254].as_slice(), 0, [0, 0, 3, 0]),
+        (9, ONE_SECTOR, [255].as_slice(), 0, [0, 0, 1, 0]),
+        // The sectors' bytes are picked in rising order.
+        (9, TWO_SECTORS, [].as_slice(), 0, [0, 0, 0, 0]),
+        (9, TWO_SECTORS, [1].as_slice(), 0, [0, 1, 0, 0]),
+        (9, TWO_SECTORS, [0, 1].as_slice(), 0, [0, 0, 0, 2]),
+        (9, TWO_SECTORS, [1, 1].as_slice(), 0, [0, 1, 0, 2]),
+        (9, TWO_SECTORS, [2, 2].as_slice(), 0, [0, 0, 0, 3]),
+        (9, TWO_SECTORS, [1, 2, 9].as_slice(), 0, [0, 1, 0, 3]),
+        // What a fault kept from passing may be left too.
+        (0, SYNCED_BETWEEN, [0, 0].as_slice(), 4, [0, 0, 0, 0]),
+        (0, SYNCED_BETWEEN, [1, 1].as_slice(), 4, [1, 1, 0, 0]),
+        (1, SYNCED_BETWEEN, [0, 0].as_slice(), 3, [0, 0, 0, 0]),
+        (1, SYNCED_BETWEEN, [1, 1].as_slice(), 3, [1, 1, 0, 0]),
+        (2, SYNCED_BETWEEN, [0, 0].as_slice(), 2, [0, 0, 0, 0]),
+        (2, SYNCED_BETWEEN, [1, 1].as_slice(), 2, [1, 1, 0, 0]),
+        (3, SYNCED_BETWEEN, [0, 0].as_slice(), 1, [1, 1, 0, 0]),
+        (3, SYNCED_BETWEEN, [1, 1].as_slice(), 1, [3, 1, 0, 0]),
+    ] {
+        let seen = stopped(&mut MemDisk::new(rt.alloc(), 4)?, armed, calls, choice)?;
+        let wanted = (
+            [armed > 0, armed > 1, armed > 2, armed > 3],
+            failures,
+            found,
+        );
+        assert!(rt; seen == wanted, "{armed} {choice:?} {found:?}");
+    }
+    Ok(())
+}
+
+// Which calls of a disk pass that fails by itself, how often it has failed, and what is in sector 0 of the disk below.
+fn through<D: Disk + Drop, const FAULTS: u64>(
+    faulty: FaultyDisk<D, FAULTS>,
+) -> Result<([bool; 4], u64, u8), DiskFault> {
+    let mut faulty = faulty;
+    let passed = four_calls(
+        &mut faulty,
+        [
+            Call::Write(0, 1),
+            Call::Read(0),
+            Call::Sync,
+            Call::Write(0, 3),
+        ],
+    );
+    let failures = faulty.failures();
+    let mut disk = faulty.into_inner();
+    Ok((passed, failures, first_byte(&mut disk, 0)?))
+}
+
+#[test]
+fn faults_come_at_their_calls(rt: HostRuntime) -> Result<(), Fail> {
+    // The first call that fails, how often a fuse has failed then, and what it and a disk of one fault leave.
+    for (call, failures, burnt, once) in [(0, 4, 0, 3), (1, 3, 1, 3), (2, 2, 1, 3), (3, 1, 1, 1)] {
+        let seen = (
+            through(FuseDisk::new(MemDisk::new(rt.alloc(), 4)?, call))?,
+            through(FailOnce::new(MemDisk::new(rt.alloc(), 4)?, call))?,
+        );
+        let wanted = (
+            ([call > 0, call > 1, call > 2, call > 3], failures, burnt),
+            ([call != 0, call != 1, call != 2, call != 3], 1, once),
+        );
+        assert!(rt; seen == wanted, "{call}");
+    }
+    Ok(())
+}
+
+#[test]
+fn clients_run_over_each_disk(rt: HostRuntime) -> Result<(), Fail> {
+    let mut disk = MemDisk::new(rt.alloc(), 4)?;
+    let passed = run_clients(
+        &mut disk,
+        2,
+        &NEW,
+        0,
+        &OLD,
+        &[(3, MIDDLE), (1, NEW), (3, OLD)],
+    )?;
+    let plain = (passed, first_bytes(&mut disk)?);
+
+    let mut fuse = FuseDisk::new(MemDisk::new(rt.alloc(), 4)?, 4);
+    let passed = run_clients(&mut fuse, 1, &OLD, 3, &NEW, &[(2, MIDDLE)])?;
+    let burnt = (passed, first_bytes(&mut fuse.into_inner())?);
+
+    let mut once = FailOnce::new(MemDisk::new(rt.alloc(), 4)?, 6);
+    let passed = run_clients(
+        &mut once,
+        1,
+        &OLD,
+        3,
+        &NEW,
+        &[(2, MIDDLE), (0, OLD), (1, NEW)],
+    )?;
+    let failed = (passed, first_bytes(&mut once)?);
+
+    let wanted = (
+        ((true, true), [1, 3, 3, 1]),
+        ((false, false), [0, 1, 0, 3]),
+        ((true, false), [0, 1, 2, 3]),
+    );
+    let seen = (plain, burnt, failed);
+    assert!(rt; seen == wanted, "{seen:?}");
+    Ok(())
+}

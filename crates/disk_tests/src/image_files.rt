@@ -1,0 +1,361 @@
+//! Disks in files of this machine, and in files that fail.
+
+use crate::disks::{Call, first_byte, four_calls};
+use sector_disk::{Disk, DiskFile, FileDisk, FileFault};
+use std::cell::Cell;
+use std::fs::{self, File, OpenOptions};
+use std::io::{self, ErrorKind};
+use std::path::{Path, PathBuf};
+use std::test::Fail;
+use std::{env, process};
+
+// A file that counts its locks, reads, writes and syncs, and fails so many of them from the one of this number on.
+#[derive(Drop)]
+struct Flaky<'a> {
+    file: File,
+    first: u64,
+    count: u64,
+    calls: &'a Cell<u64>,
+}
+
+impl Flaky<'_> {
+    fn pass(&self) -> io::Result<()> {
+        let call = self.calls.get();
+        self.calls.set(call.saturating_add(1));
+        if call >= self.first && call - self.first < self.count {
+            return Err(io::Error::from(ErrorKind::StorageFull));
+        }
+        Ok(())
+    }
+}
+
+impl DiskFile for Flaky<'_> {
+    fn try_lock(&self) -> io::Result<()> {
+        self.pass()?;
+        DiskFile::try_lock(&self.file)
+    }
+
+    fn count(&self) -> io::Result<u64> {
+        self.file.count()
+    }
+
+    fn fill(&mut self, sectors: u32) -> io::Result<()> {
+        self.pass()?;
+        self.file.fill(sectors)
+    }
+
+    fn read_all(&mut self, to: &mut [[u8; 512]]) -> io::Result<()> {
+        self.pass()?;
+        self.file.read_all(to)
+    }
+
+    fn write_run(&mut self, first: u32, run: &[[u8; 512]]) -> io::Result<()> {
+        self.pass()?;
+        self.file.write_run(first, run)
+    }
+
+    fn sync(&mut self) -> io::Result<()> {
+        self.pass()?;
+        self.file.sync()
+    }
+}
+
+// A path of this process alone.
+fn scratch(rt: &HostRuntime, what: &str) -> Result<PathBuf, Fail> {
+    let process = process::id(rt.process());
+    let name = format!(in rt.alloc(); "sector_disk-{process}-{what}")?;
+    Ok(env::temp_dir(rt)?.join(rt.alloc(), name.as_str())?)
+}
+
+// How many sectors a disk has, and the first byte of each of the first three.
+type Seen = (u32, [u8; 3]);
+
+// A sector that can't be read counts as 255.
+fn see<D: Disk>(disk: &mut D) -> Seen {
+    let bytes = [
+        first_byte(disk, 0).unwrap_or(255),
+        first_byte(disk, 1).unwrap_or(255),
+        first_byte(disk, 2).unwrap_or(255),
+    ];
+    (disk.size(), bytes)
+}
+
+// What is done to a file, or to the disk in it.
+#[derive(Clone, Copy)]
+enum Step {
+    Create,
+    Open,
+    // A file of so many zeros, and the disk in it.
+    Zeros(u64),
+    // A file of three sectors and 100 bytes, all of them 7, and the disk in it.
+    Sevens,
+    // The disk in a new file, or in one that is there; and while it lives, another disk of that file.
+    CreateTwice,
+    OpenTwice,
+    // Writes two sectors of the disk, and syncs after each.
+    Write,
+    // The file's length, and three of the bytes past its third sector.
+    Tail,
+}
+
+fn take_step(rt: &HostRuntime, path: Path<'_>, step: Step) -> Result<Seen, FileFault> {
+    match step {
+        Step::Create => Ok(see(&mut FileDisk::create(rt, rt.alloc(), path, 4)?)),
+        Step::Open => opened(rt, path),
+        Step::CreateTwice => second(rt, path, FileDisk::create(rt, rt.alloc(), path, 4)?),
+        Step::OpenTwice => second(rt, path, FileDisk::open(rt, rt.alloc(), path)?),
+        Step::Zeros(len) => zeros(rt, path, len),
+        Step::Sevens => sevens(rt, path),
+        Step::Write => written(rt, path),
+        Step::Tail => tail(rt, path),
+    }
+}
+
+fn opened(rt: &HostRuntime, path: Path<'_>) -> Result<Seen, FileFault> {
+    Ok(see(&mut FileDisk::open(rt, rt.alloc(), path)?))
+}
+
+// What a second disk of a file comes to, while the first is there.
+fn second(rt: &HostRuntime, path: Path<'_>, first: FileDisk<File>) -> Result<Seen, FileFault> {
+    let second = opened(rt, path);
+    let _ = first.size();
+    second
+}
+
+fn zeros(rt: &HostRuntime, path: Path<'_>, len: u64) -> Result<Seen, FileFault> {
+    match File::create(rt, path) {
+        Ok(file) if file.set_len(len).is_ok() => opened(rt, path),
+        _ => Err(FileFault::Failed),
+    }
+}
+
+fn sevens(rt: &HostRuntime, path: Path<'_>) -> Result<Seen, FileFault> {
+    if fs::write(rt, path, [7; 1636].as_slice()).is_err() {
+        return Err(FileFault::Failed);
+    }
+    opened(rt, path)
+}
+
+fn written(rt: &HostRuntime, path: Path<'_>) -> Result<Seen, FileFault> {
+    let mut disk = FileDisk::open(rt, rt.alloc(), path)?;
+    let calls = [Call::Write(1, 1), Call::Sync, Call::Write(2, 3), Call::Sync];
+    if four_calls(&mut disk, calls) != [true; 4] {
+        return Err(FileFault::Failed);
+    }
+    Ok(see(&mut disk))
+}
+
+fn tail(rt: &HostRuntime, path: Path<'_>) -> Result<Seen, FileFault> {
+    let Ok(bytes) = fs::read(rt, path) else {
+        return Err(FileFault::Failed);
+    };
+    let byte = |at: usize| bytes.get(at).copied().unwrap_or(255);
+    let len = u32::try_from(bytes.len()).unwrap_or(u32::MAX);
+    Ok((len, [byte(1536), byte(1600), byte(1635)]))
+}
+
+// The number of the first row that isn't so, and what there is instead.
+fn first_wrong(
+    rt: &HostRuntime,
+    path: Path<'_>,
+    rows: &[(Step, Result<Seen, FileFault>)],
+) -> Option<(usize, Result<Seen, FileFault>)> {
+    for (i, row) in rows.iter().enumerate() {
+        let seen = take_step(rt, path, row.0);
+        if seen != row.1 {
+            return Some((i, seen));
+        }
+    }
+    None
+}
+
+#[test]
+fn a_file_keeps_its_sectors(rt: HostRuntime) -> Result<(), Fail> {
+    let path = scratch(&rt, "kept")?;
+    let wrong = first_wrong(
+        &rt,
+        path.as_path(),
+        &[
+            (Step::Open, Err(FileFault::Failed)),
+            (Step::CreateTwice, Err(FileFault::Failed)),
+            (Step::Create, Err(FileFault::Exists)),
+            (Step::Open, Ok((4, [0, 0, 0]))),
+            (Step::Sevens, Ok((3, [7, 7, 7]))),
+            (Step::OpenTwice, Err(FileFault::Failed)),
+            (Step::Write, Ok((3, [7, 1, 3]))),
+            (Step::OpenTwice, Err(FileFault::Failed)),
+            (Step::Open, Ok((3, [7, 1, 3]))),
+            (Step::Tail, Ok((1636, [7, 7, 7]))),
+            (Step::Zeros(511), Ok((0, [255, 255, 255]))),
+            (Step::Zeros(1023), Ok((1, [0, 255, 255]))),
+            (Step::Zeros(65_537 * 512), Ok((65_537, [0, 0, 0]))),
+            (Step::Zeros(65_538 * 512), Ok((65_537, [0, 0, 0]))),
+        ],
+    );
+    let _ = fs::remove_file(&rt, path.as_path());
+    assert!(rt; wrong == None, "{wrong:?}");
+    Ok(())
+}
+
+// Which calls of the disk in a failing file pass, how often it has failed, and what it has; and how many calls the file has
+// counted.
+type Told = (Result<([bool; 4], u64, Seen), FileFault>, u64);
+
+fn fail_calls(rt: &HostRuntime, path: Path<'_>, done: [Call; 4], first: u64, count: u64) -> Told {
+    let calls = Cell::new(0);
+    let mut how = OpenOptions::new();
+    how.read(true).write(true);
+    let Ok(file) = how.open(rt, path) else {
+        return (Err(FileFault::Failed), 0);
+    };
+    let flaky = Flaky {
+        file,
+        first,
+        count,
+        calls: &calls,
+    };
+    let told = match FileDisk::over(rt.alloc(), flaky) {
+        Ok(disk) => Ok(call_disk(disk, done)),
+        Err(fault) => Err(fault),
+    };
+    (told, calls.get())
+}
+
+fn call_disk<D: Disk + Drop>(disk: D, calls: [Call; 4]) -> ([bool; 4], u64, Seen) {
+    let mut disk = disk;
+    let passed = four_calls(&mut disk, calls);
+    (passed, disk.failures(), see(&mut disk))
+}
+
+// The same of a file of three sectors, and what it has then.
+fn fail(
+    rt: &HostRuntime,
+    path: Path<'_>,
+    first: u64,
+    count: u64,
+) -> Result<([bool; 4], u64, Seen, Seen), FileFault> {
+    let _ = zeros(rt, path, 3 * 512)?;
+    let (told, _) = fail_calls(rt, path, TWO_RUNS, first, count);
+    let (passed, failures, read) = told?;
+    Ok((passed, failures, read, opened(rt, path)?))
+}
+
+// The same of a file in which another disk is.
+fn refused(rt: &HostRuntime, path: Path<'_>) -> Result<Told, FileFault> {
+    let first = FileDisk::create(rt, rt.alloc(), path, 3)?;
+    let told = fail_calls(rt, path, TWO_RUNS, u64::MAX, 0);
+    let _ = first.size();
+    Ok(told)
+}
+
+const TWO_RUNS: [Call; 4] = [Call::Write(2, 3), Call::Write(0, 1), Call::Sync, Call::Sync];
+
+// Where the file isn't failing: a lock, a sync and a read when it is opened, two writes and a sync at the first sync, and at the
+// second a sync. The first call that fails and how many do; the disk's failures and which calls pass; what reads give, and
+// what the file has.
+type Failing = (
+    u64,
+    u64,
+    Result<([bool; 4], u64, [u8; 3], [u8; 3]), FileFault>,
+);
+
+const FAILING: [Failing; 11] = [
+    (0, 1, Err(FileFault::Failed)),
+    (1, 1, Err(FileFault::Failed)),
+    (2, 1, Err(FileFault::Failed)),
+    (
+        3,
+        1,
+        Ok(([true, true, false, true], 1, [1, 0, 3], [1, 0, 3])),
+    ),
+    // The next sync begins with the first run again.
+    (
+        3,
+        2,
+        Ok(([true, true, false, false], 2, [1, 0, 3], [0, 0, 0])),
+    ),
+    (
+        4,
+        1,
+        Ok(([true, true, false, true], 1, [1, 0, 3], [1, 0, 3])),
+    ),
+    (
+        4,
+        2,
+        Ok(([true, true, false, false], 2, [1, 0, 3], [1, 0, 0])),
+    ),
+    (
+        5,
+        1,
+        Ok(([true, true, false, true], 1, [1, 0, 3], [1, 0, 3])),
+    ),
+    // The next one would write all three sectors again.
+    (
+        5,
+        2,
+        Ok(([true, true, false, false], 2, [1, 0, 3], [1, 0, 3])),
+    ),
+    (
+        6,
+        1,
+        Ok(([true, true, true, false], 1, [1, 0, 3], [1, 0, 3])),
+    ),
+    (
+        7,
+        1,
+        Ok(([true, true, true, true], 0, [1, 0, 3], [1, 0, 3])),
+    ),
+];
+
+#[test]
+fn a_failing_file_is_a_failing_disk(rt: HostRuntime) -> Result<(), Fail> {
+    let path = scratch(&rt, "flaky")?;
+    // Of a file whose lock is taken nothing but that is asked.
+    let seen = refused(&rt, path.as_path());
+    let _ = fs::remove_file(&rt, path.as_path());
+    assert!(rt; seen == Ok((Err(FileFault::Failed), 1)), "{seen:?}");
+    for (first, count, wanted) in FAILING {
+        let seen = fail(&rt, path.as_path(), first, count);
+        let _ = fs::remove_file(&rt, path.as_path());
+        let wanted = wanted.map(|(passed, failures, read, file)| (
+            passed,
+            failures,
+            (3, read),
+            (3, file),
+        ));
+        assert!(rt; seen == wanted, "{first} {count} {seen:?}");
+    }
+    Ok(())
+}
+
+// How many calls of the file of three sectors the calls of its disk take, its opening and a last sync included.
+fn count_calls(rt: &HostRuntime, path: Path<'_>, writes: [u32; 3]) -> Result<u64, FileFault> {
+    let _ = zeros(rt, path, 3 * 512)?;
+    let calls = [
+        Call::Write(writes[0], 1),
+        Call::Write(writes[1], 2),
+        Call::Write(writes[2], 3),
+        Call::Sync,
+    ];
+    let (told, count) = fail_calls(rt, path, calls, u64::MAX, 0);
+    let _ = told?;
+    Ok(count)
+}
+
+#[test]
+fn neighbours_are_written_in_one_call(rt: HostRuntime) -> Result<(), Fail> {
+    let path = scratch(&rt, "runs")?;
+    // A lock, a sync and a read, the writes, and a sync.
+    for (writes, wanted) in [
+        ([0, 1, 2], 5),
+        ([2, 0, 1], 5),
+        ([1, 1, 1], 5),
+        ([0, 1, 0], 5),
+        ([2, 0, 2], 6),
+    ] {
+        let seen = count_calls(&rt, path.as_path(), writes);
+        let _ = fs::remove_file(&rt, path.as_path());
+        assert!(rt; seen == Ok(wanted), "{writes:?} {seen:?}");
+    }
+    Ok(())
+}

@@ -1,0 +1,451 @@
+//! What a stop leaves at each write and sync, how many of them there are, and what keeps a disk from being opened.
+
+ghost use Rattle.std.specs.Prelude.{◌≡◌, ◌≤◌, ◌<◌, ◌+◌, ℕ, IfOk, IfSome};
+ghost use Rattle.redo_journal.specs.Batch.{IsOnDisk};
+ghost use Rattle.redo_journal.specs.States.{IsLogged, IsSealed};
+
+use fs_layout::Commit;
+use redo_journal::{Batch, Journal, Logged, OpenFault, Sealed};
+use sector_disk::{CrashDisk, Disk, FailOnce, MemDisk};
+use std::alloc::{AllocError, Global};
+use std::test::Fail;
+
+// A disk of 512 zero sectors, but for a commit sector without targets that counts so many.
+fn disk_with(alloc: Global, count: u8) -> Result<MemDisk, AllocError>
+    ensures { IfOk result (λ disk. (⟦<MemDisk as Disk>⟧.state disk).size ≡ 512) }
+{
+    let mut commit = [0; 512];
+    Commit::idle().write_to(&mut commit, 0);
+    commit[4] = count;
+    let mut sectors = Vec::from_slice(alloc, [[0; 512], commit].as_slice())?;
+    sectors.resize(512, [0; 512])?;
+    MemDisk::from_sectors(alloc, sectors)
+}
+
+// So many sectors from 200 on, whose bytes are 7, 8 and so on.
+fn batch_of(alloc: Global, count: u8) -> Result<Batch, AllocError>
+    ensures { IfOk result (λ batch. (size : ℕ) → 200 + count ≤ size → IsOnDisk size batch) }
+{
+    let mut batch = Batch::new(alloc)?;
+    for k in 0..count {
+        if batch.len() < 126 {
+            batch.put(200 + u32::from(k), &[k.wrapping_add(7); 512]);
+        }
+    }
+    Ok(batch)
+}
+
+// The disk after a commit, from its last step on.
+fn disk_after_sealed<D: Disk>(sealed: Sealed<D>, batch: &Batch) -> D
+    requires { IsSealed batch.now (D.state sealed) }
+    ensures { (D.state result).size ≡ (D.state sealed).size }
+{
+    match sealed.install(batch) {
+        Ok(journal) => journal.into_disk(),
+        Err(broken) => broken.into_disk(),
+    }
+}
+
+fn disk_after_logged<D: Disk>(logged: Logged<D>, batch: &Batch) -> D
+    requires { IsLogged batch.now (D.state logged) }
+    ensures { (D.state result).size ≡ (D.state logged).size }
+{
+    match logged.seal(batch) {
+        Ok(sealed) => disk_after_sealed(sealed, batch),
+        Err(broken) => broken.into_disk(),
+    }
+}
+
+// The disk after a commit.
+fn disk_after<D: Disk>(journal: Journal<D>, batch: &Batch) -> D
+    requires { IsOnDisk (D.state journal).size batch.now }
+    ensures { (D.state result).size ≡ (D.state journal).size }
+{
+    match journal.log(batch) {
+        Ok(logged) => disk_after_logged(logged, batch),
+        Err(broken) => broken.into_disk(),
+    }
+}
+
+// The disk after a commit of which so many writes and syncs pass.
+fn committed<D: CrashDisk + Drop>(disk: D, batch: &Batch, passes: u64) -> Option<D>
+    requires room { 128 ≤ (D.state disk).size }
+    requires on_disk { IsOnDisk (D.state disk).size batch.now }
+    ensures { IfSome result (λ after. (D.state after).size ≡ (D.state disk).size) }
+{
+    match Journal::open(disk) {
+        Ok(mut journal) => {
+            journal.arm(passes);
+            Some(disk_after(journal, batch))
+        }
+        Err(_) => None,
+    }
+}
+
+// The same, and a stop.
+fn stopped<D: CrashDisk + Drop>(disk: D, batch: &Batch, passes: u64, choice: &[u8]) -> Option<D>
+    requires room { 128 ≤ (D.state disk).size }
+    requires on_disk { IsOnDisk (D.state disk).size batch.now }
+    ensures { IfSome result (λ after. (D.state after).size ≡ (D.state disk).size) }
+{
+    let mut disk = committed(disk, batch, passes)?;
+    disk.crash(choice);
+    Some(disk)
+}
+
+// The disk after an opening of which so many writes and syncs pass.
+fn disk_after_opening<D: CrashDisk>(disk: D, passes: u64) -> D
+    requires { 128 ≤ (D.state disk).size }
+    ensures { (D.state result).size ≡ (D.state disk).size }
+{
+    let mut disk = disk;
+    disk.arm(passes);
+    match Journal::open(disk) {
+        Ok(journal) => journal.into_disk(),
+        Err((_, disk)) => disk,
+    }
+}
+
+// The same, and a stop.
+fn stopped_within_opening<D: CrashDisk>(disk: D, passes: u64, choice: &[u8]) -> D
+    requires { 128 ≤ (D.state disk).size }
+    ensures { (D.state result).size ≡ (D.state disk).size }
+{
+    let mut disk = disk_after_opening(disk, passes);
+    disk.crash(choice);
+    disk
+}
+
+// The first bytes of sectors 200 and 201, if they are read.
+fn bytes_in<D: Disk>(journal: &mut Journal<D>) -> Option<(u8, u8)>
+    requires { 202 ≤ (D.state journal.old).size }
+{
+    let mut first = [0; 512];
+    let mut second = [0; 512];
+    if journal.read(200, &mut first).is_ok() && journal.read(201, &mut second).is_ok() {
+        Some((first[0], second[0]))
+    } else {
+        None
+    }
+}
+
+// The same on a disk, which is opened.
+fn bytes_of<D: Disk + Drop>(disk: D) -> Option<(u8, u8)>
+    requires { 202 ≤ (D.state disk).size }
+{
+    match Journal::open(disk) {
+        Ok(mut journal) => bytes_in(&mut journal),
+        Err(_) => None,
+    }
+}
+
+// What is read after a stop within a commit of which so many writes and syncs pass.
+fn bytes_after_stop<D: CrashDisk + Drop>(
+    disk: D,
+    batch: &Batch,
+    passes: u64,
+    choice: &[u8],
+) -> Option<(u8, u8)>
+    requires room { 202 ≤ (D.state disk).size }
+    requires on_disk { IsOnDisk (D.state disk).size batch.now }
+{
+    let disk = stopped(disk, batch, passes, choice)?;
+    bytes_of(disk)
+}
+
+#[test]
+fn a_stop_leaves_the_batch_whole_or_not_at_all(rt: HostRuntime) -> Result<(), Fail> {
+    let batch = batch_of(rt.alloc(), 2)?;
+    // How many writes and syncs pass, and what is read for choices 0 and for choices 1.
+    for (passes, zeros, ones) in [
+        (0, (0, 0), (0, 0)),
+        (1, (0, 0), (0, 0)),
+        (2, (0, 0), (0, 0)),
+        (3, (0, 0), (7, 8)),
+        (4, (0, 0), (7, 8)),
+        (5, (7, 8), (7, 8)),
+        (6, (7, 8), (7, 8)),
+        (7, (7, 8), (7, 8)),
+        (8, (7, 8), (7, 8)),
+        (9, (7, 8), (7, 8)),
+        (10, (7, 8), (7, 8)),
+    ] {
+        for (choice, want) in [
+            ([].as_slice(), zeros),
+            ([1, 1, 1].as_slice(), ones),
+            ([0, 1].as_slice(), zeros),
+            ([1, 0].as_slice(), ones),
+        ] {
+            let found = bytes_after_stop(disk_with(rt.alloc(), 0)?, &batch, passes, choice);
+            assert!(rt; found == Some(want), "{passes} {choice:?}");
+        }
+    }
+    Ok(())
+}
+
+// What is read after a stop within a commit, and two openings that are stopped too.
+fn bytes_after_stops<D: CrashDisk + Drop>(
+    disk: D,
+    batch: &Batch,
+    passes: u64,
+    choice: &[u8],
+    openings: (u64, u64),
+    later: &[u8],
+) -> Option<(u8, u8)>
+    requires room { 202 ≤ (D.state disk).size }
+    requires on_disk { IsOnDisk (D.state disk).size batch.now }
+{
+    let disk = stopped(disk, batch, passes, choice)?;
+    let disk = stopped_within_opening(disk, openings.0, later);
+    let disk = stopped_within_opening(disk, openings.1, later);
+    bytes_of(disk)
+}
+
+#[test]
+fn a_stop_within_recovery_leaves_the_same(rt: HostRuntime) -> Result<(), Fail> {
+    let batch = batch_of(rt.alloc(), 2)?;
+    // How many writes and syncs of the commit pass, the choice at its stop, and what is read then.
+    for (passes, choice, want) in [
+        (3, [0].as_slice(), (0, 0)),
+        (4, [1].as_slice(), (7, 8)),
+        (5, [0].as_slice(), (7, 8)),
+        (7, [1].as_slice(), (7, 8)),
+        (9, [0].as_slice(), (7, 8)),
+        (9, [1].as_slice(), (7, 8)),
+    ] {
+        for stops in 0..64 {
+            let openings = (stops / 8, stops % 8);
+            for later in [
+                [].as_slice(),
+                [1, 1].as_slice(),
+                [0, 1].as_slice(),
+                [1, 0].as_slice(),
+            ] {
+                let disk = disk_with(rt.alloc(), 0)?;
+                let found = bytes_after_stops(disk, &batch, passes, choice, openings, later);
+                assert!(rt; found == Some(want), "{passes} {openings:?} {later:?}");
+            }
+        }
+    }
+    Ok(())
+}
+
+// What is read once the disk is opened again, after a fault that kept it from that.
+fn bytes_after_fault<D: Disk + Drop>(disk: D) -> Option<(u8, u8)>
+    requires { 202 ≤ (D.state disk).size }
+{
+    match Journal::open(disk) {
+        Ok(_) => None,
+        Err((OpenFault::DiskFault, disk)) => bytes_of(disk),
+        Err((OpenFault::BadCommitSector, _)) => None,
+    }
+}
+
+// A disk whose batch is sealed: of its commit log and commit sector are written, and nothing more.
+fn sealed_disk(alloc: Global, batch: &Batch) -> Option<MemDisk>
+    requires { IsOnDisk 512 batch.now }
+    ensures { IfSome result (λ disk. (⟦<MemDisk as Disk>⟧.state disk).size ≡ 512) }
+{
+    let passes = batch.len() as u64 + 3;
+    match disk_with(alloc, 0) {
+        Ok(disk) => stopped(disk, batch, passes, &[]),
+        Err(_) => None,
+    }
+}
+
+#[test]
+fn a_fault_within_recovery_loses_nothing(rt: HostRuntime) -> Result<(), Fail> {
+    let batch = batch_of(rt.alloc(), 2)?;
+    // Recovery of two sectors makes a sync and a read, two reads and writes, a sync, a write and a sync.
+    for call in 0..9 {
+        let found = match sealed_disk(rt.alloc(), &batch) {
+            Some(disk) => bytes_after_fault(FailOnce::new(disk, call)),
+            None => None,
+        };
+        assert!(rt; found == Some((7, 8)), "{call}");
+    }
+    Ok(())
+}
+
+// Why a disk isn't opened of which so many writes and syncs pass, how often it has failed then, and byte 4 of its
+// commit sector.
+fn refusal<D: CrashDisk + Drop>(disk: D, passes: u64) -> Option<(OpenFault, u64, u8)>
+    requires { 128 ≤ (D.state disk).size }
+{
+    let mut disk = disk;
+    disk.arm(passes);
+    match Journal::open(disk) {
+        Ok(_) => None,
+        Err((fault, mut disk)) => {
+            let mut content = [0xff; 512];
+            let is_read = disk.read(1, &mut content).is_ok();
+            if is_read {
+                Some((fault, disk.failures(), content[4]))
+            } else {
+                None
+            }
+        }
+    }
+}
+
+#[test]
+fn a_disk_that_is_not_opened_is_given_back(rt: HostRuntime) -> Result<(), Fail> {
+    // What the commit sector counts, and how many writes and syncs pass.
+    for (count, passes, want) in [
+        (127, 100, (OpenFault::BadCommitSector, 0, 127)),
+        (0, 0, (OpenFault::DiskFault, 1, 0)),
+    ] {
+        let found = refusal(disk_with(rt.alloc(), count)?, passes);
+        assert!(rt; found == Some(want), "{count} {passes}");
+    }
+    Ok(())
+}
+
+// None of the writes and syncs of a commit fails where so many pass.
+fn is_committed<D: CrashDisk + Drop>(disk: D, batch: &Batch, passes: u64) -> bool
+    requires room { 128 ≤ (D.state disk).size }
+    requires on_disk { IsOnDisk (D.state disk).size batch.now }
+{
+    match committed(disk, batch, passes) {
+        Some(disk) => disk.failures() == 0,
+        None => false,
+    }
+}
+
+// The same of an opening.
+fn is_opened<D: CrashDisk + Drop>(disk: D, passes: u64) -> bool
+    requires { 128 ≤ (D.state disk).size }
+{
+    let before = disk.failures();
+    disk_after_opening(disk, passes).failures() == before
+}
+
+// How many writes and syncs a commit makes: that many have to pass.
+fn commit_calls(alloc: Global, batch: &Batch) -> Option<u64>
+    requires { IsOnDisk 512 batch.now }
+{
+    for passes in 0..300 {
+        if is_committed(disk_with(alloc, 0).ok()?, batch, passes) {
+            return Some(passes);
+        }
+    }
+    None
+}
+
+// How many an opening makes once the batch is sealed.
+fn recovery_calls(alloc: Global, batch: &Batch) -> Option<u64>
+    requires { IsOnDisk 512 batch.now }
+{
+    for passes in 0..300 {
+        if is_opened(sealed_disk(alloc, batch)?, passes) {
+            return Some(passes);
+        }
+    }
+    None
+}
+
+#[test]
+fn writes_and_syncs_are_counted(rt: HostRuntime) -> Result<(), Fail> {
+    // The batch's length; the writes and syncs of its commit, and of opening where it is sealed.
+    for (length, commit, recovery) in [(0, 0, 1), (1, 8, 5), (2, 10, 6), (126, 258, 130)] {
+        let batch = batch_of(rt.alloc(), length)?;
+        let found = (
+            batch.len(),
+            commit_calls(rt.alloc(), &batch),
+            recovery_calls(rt.alloc(), &batch),
+        );
+        assert!(rt;
+            found == (usize::from(length), Some(commit), Some(recovery)),
+            "{found:?}"
+        );
+    }
+    Ok(())
+}
+
+// What is read after a fault within a seal, once the disk is armed again.
+fn bytes_after_arming<D: CrashDisk + Drop>(disk: D, batch: &Batch) -> Option<(u8, u8)>
+    requires room { 202 ≤ (D.state disk).size }
+    requires on_disk { IsOnDisk (D.state disk).size batch.now }
+{
+    match Journal::open(disk) {
+        Ok(mut journal) => {
+            journal.arm(4);
+            match journal.log(batch) {
+                Ok(logged) => match logged.seal(batch) {
+                    Ok(_) => None,
+                    Err(mut broken) => {
+                        broken.arm(100);
+                        bytes_of(broken.into_disk())
+                    }
+                },
+                Err(_) => None,
+            }
+        }
+        Err(_) => None,
+    }
+}
+
+#[test]
+fn a_broken_journal_can_be_armed(rt: HostRuntime) -> Result<(), Fail> {
+    let batch = batch_of(rt.alloc(), 2)?;
+    let found = bytes_after_arming(disk_with(rt.alloc(), 0)?, &batch);
+    assert!(rt; found == Some((7, 8)), "{found:?}");
+    Ok(())
+}
+
+// The first and the last byte of what the batch has for a sector.
+fn ends_of(batch: &Batch, n: u32) -> Option<(u8, u8)> {
+    batch.get(n).map(|content| (content[0], content[511]))
+}
+
+type Ends = Option<(u8, u8)>;
+
+// What a batch has for sectors 200 to 202.
+fn contents_of(batch: &Batch) -> [Ends; 3] {
+    [
+        ends_of(batch, 200),
+        ends_of(batch, 201),
+        ends_of(batch, 202),
+    ]
+}
+
+// That it is empty, how many sectors it has, the last of them, and its contents.
+type Seen = (bool, usize, Option<u32>, [Ends; 3]);
+
+fn seen_of(batch: &Batch) -> Seen {
+    let last = batch.sectors().last().copied();
+    (batch.is_empty(), batch.len(), last, contents_of(batch))
+}
+
+// A batch of two sectors of which the first is put again; the same once it has taken those of another of three, and once
+// it is cleared; and how many sectors the other one added.
+fn batch_seen(alloc: Global) -> Result<([Seen; 3], usize), Fail> {
+    let mut batch = batch_of(alloc, 2)?;
+    if batch.len() < 126 {
+        batch.put(200, &[9; 512]);
+    }
+    let first = seen_of(&batch);
+    let other = batch_of(alloc, 3)?;
+    let added = batch.added_by(&other);
+    if batch.len() + added <= 126 {
+        batch.absorb(&other);
+    }
+    let taken = seen_of(&batch);
+    batch.clear();
+    Ok(([first, taken, seen_of(&batch)], added))
+}
+
+#[test]
+fn a_batch_is_a_map(rt: HostRuntime) -> Result<(), Fail> {
+    let found = batch_seen(rt.alloc())?;
+    let first = (false, 2, Some(201), [Some((9, 9)), Some((8, 8)), None]);
+    let taken = (
+        false,
+        3,
+        Some(202),
+        [Some((7, 7)), Some((8, 8)), Some((9, 9))],
+    );
+    let cleared = (true, 0, None, [None, None, None]);
+    assert!(rt; found == ([first, taken, cleared], 1), "{found:?}");
+    Ok(())
+}

@@ -1,0 +1,377 @@
+//! Transactions over disks that fail and stop, and callers as the layers above write them.
+
+ghost use Rattle.std.specs.Prelude.{◌≡◌, ◌≤◌, ◌<◌, ◌+◌, IfOk};
+ghost use Rattle.sector_txn.specs.Sectors.{SameStore};
+
+mod clients;
+
+use clients::{clear_all, mix_whole};
+use fs_layout::Commit;
+use redo_journal::Journal;
+use sector_disk::{CrashDisk, Disk, DiskFault, FailOnce, FuseDisk, MemDisk};
+use sector_txn::{Sectors, Store, Txn};
+use std::alloc::Global;
+use std::test::Fail;
+
+// A disk of 1,024 zero sectors, but for an idle commit sector.
+fn idle_disk(alloc: Global) -> Result<MemDisk, Fail> {
+    let mut disk = MemDisk::new(alloc, 1024)?;
+    let mut commit = [0; 512];
+    Commit::idle().write_to(&mut commit, 0);
+    disk.write(1, &commit)?;
+    disk.sync()?;
+    Ok(disk)
+}
+
+// A journal on a disk of that size.
+fn opened_journal<D: Disk + Drop>(disk: D) -> Result<Journal<D>, Fail>
+    ensures { IfOk result (λ journal. (D.state journal).size ≡ 1024) }
+{
+    if disk.size() != 1024 {
+        return Err(Fail::new("another size"));
+    }
+    match Journal::open(disk) {
+        Ok(journal) => Ok(journal),
+        Err(_) => Err(Fail::new("not opened")),
+    }
+}
+
+fn opened<D: Disk + Drop>(alloc: Global, disk: D) -> Result<Store<D>, Fail>
+    ensures { IfOk result (λ store. (D.state store.disk).size ≡ 1024) }
+{
+    match Store::new(alloc, opened_journal(disk)?) {
+        Ok(store) => Ok(store),
+        Err(_) => Err(Fail::new("no memory")),
+    }
+}
+
+// Puts the sectors 200 + k for these k, each with the byte k + 7.
+fn put_some<S: Sectors>(s: &mut S, from: u8, to: u8)
+    requires { (S.state s.old).disk.size ≡ 1024 }
+    ensures { SameStore (S.state s.old) (S.state s.new) }
+{
+    for k in from..to {
+        if s.room() == 0 {
+            return;
+        }
+        s.put(200 + u32::from(k), &[k.wrapping_add(7); 512]);
+    }
+}
+
+// The first byte of a sector from 128 on.
+fn byte_at<S: Sectors>(s: &mut S, n: u32) -> Result<u8, DiskFault>
+    requires part { 128 ≤ n }
+    requires on_disk { n < (S.state s.old).disk.size }
+    ensures { SameStore (S.state s.old) (S.state s.new) }
+{
+    let mut content = [0; 512];
+    s.get(n, &mut content)?;
+    Ok(content[0])
+}
+
+// How many of so many sectors from 200 on are as `put_some` leaves them.
+fn count_put<S: Sectors>(s: &mut S, count: u8) -> Result<u8, DiskFault>
+    requires { (S.state s.old).disk.size ≡ 1024 }
+    ensures { SameStore (S.state s.old) (S.state s.new) }
+{
+    let mut found = 0u8;
+    for k in 0..count {
+        if byte_at(s, 200 + u32::from(k))? == k.wrapping_add(7) {
+            found = found.saturating_add(1);
+        }
+    }
+    Ok(found)
+}
+
+// The same of a store.
+fn count_kept<D: Disk>(store: Store<D>, count: u8) -> (Result<u8, DiskFault>, Store<D>)
+    requires { (D.state store.disk).size ≡ 1024 }
+{
+    let mut txn = store.begin();
+    let found = count_put(&mut txn, count);
+    (found, txn.drop_delta())
+}
+
+// The same once the disk has been stopped.
+fn count_lasting<D: CrashDisk + Drop>(
+    alloc: Global,
+    disk: D,
+    choice: &[u8],
+    count: u8,
+) -> Result<u8, Fail> {
+    let mut disk = disk;
+    disk.crash(choice);
+    let (found, _) = count_kept(opened(alloc, disk)?, count);
+    Ok(found?)
+}
+
+// A transaction that has put these sectors.
+fn with_some<D: Disk>(store: Store<D>, from: u8, to: u8) -> Txn<D>
+    requires { (D.state store.disk).size ≡ 1024 }
+    ensures { (D.state result.disk).size ≡ 1024 }
+{
+    let mut txn = store.begin();
+    put_some(&mut txn, from, to);
+    txn
+}
+
+// A store that has kept so many sectors.
+fn with_kept<D: Disk + Drop>(alloc: Global, disk: D, count: u8) -> Result<Store<D>, Fail>
+    ensures { IfOk result (λ store. (D.state store.disk).size ≡ 1024) }
+{
+    match with_some(opened(alloc, disk)?, 0, count).keep() {
+        Ok(store) => Ok(store),
+        Err(_) => Err(Fail::new("broken")),
+    }
+}
+
+// The room once sectors are put; how many of them are there once they are kept; and after a flush and a stop.
+fn after_keep<D: CrashDisk + Drop>(
+    alloc: Global,
+    disk: D,
+    count: u8,
+) -> Result<(usize, u8, u8), Fail> {
+    let txn = with_some(opened(alloc, disk)?, 0, count);
+    let room = txn.room();
+    match txn.keep() {
+        Err(_) => Err(Fail::new("broken")),
+        Ok(store) => {
+            let (kept, store) = count_kept(store, count);
+            match store.flush() {
+                Err(_) => Err(Fail::new("broken")),
+                Ok(store) => {
+                    let lasting = count_lasting(alloc, store.into_disk(), &[], count)?;
+                    Ok((room, kept?, lasting))
+                }
+            }
+        }
+    }
+}
+
+// How many sectors are there once they are put, once they are dropped, and after a stop.
+fn after_drop<D: CrashDisk + Drop>(
+    alloc: Global,
+    disk: D,
+    count: u8,
+) -> Result<(u8, u8, u8), Fail> {
+    let mut txn = with_some(opened(alloc, disk)?, 0, count);
+    let put = count_put(&mut txn, count);
+    let (found, store) = count_kept(txn.drop_delta(), count);
+    let lasting = count_lasting(alloc, store.into_disk(), &[], count)?;
+    Ok((put?, found?, lasting))
+}
+
+// The first byte of sector 210 after a call that mixes sectors 200 and 201 there.
+fn mixed<D: Disk + Drop>(alloc: Global, disk: D) -> Result<u8, Fail> {
+    match mix_whole(with_kept(alloc, disk, 2)?, 200, 201, 210) {
+        Err(_) => Err(Fail::new("broken")),
+        Ok(store) => {
+            let mut txn = store.begin();
+            let byte = byte_at(&mut txn, 210);
+            let _ = txn.drop_delta();
+            Ok(byte?)
+        }
+    }
+}
+
+// The room left once two sectors of three are cleared, one of them twice, and how many of the three are still there.
+fn cleared<D: Disk + Drop>(alloc: Global, disk: D) -> Result<(usize, u8), Fail> {
+    let mut txn = with_kept(alloc, disk, 3)?.begin();
+    clear_all(&mut txn, &[200, 202, 200]);
+    let room = txn.room();
+    let found = count_put(&mut txn, 3);
+    let _ = txn.drop_delta();
+    Ok((room, found?))
+}
+
+#[test]
+fn a_call_is_kept_or_dropped(rt: HostRuntime) -> Result<(), Fail> {
+    let seen = (
+        after_keep(rt.alloc(), idle_disk(rt.alloc())?, 64)?,
+        after_drop(rt.alloc(), idle_disk(rt.alloc())?, 64)?,
+        mixed(rt.alloc(), idle_disk(rt.alloc())?)?,
+        cleared(rt.alloc(), idle_disk(rt.alloc())?)?,
+    );
+    assert!(rt; seen == ((0, 64, 64), (64, 0, 0), 8, (62, 1)), "{seen:?}");
+    Ok(())
+}
+
+// Whether sector 201 is read after a put of sector 200, what that gives, and whether sector 201 is read then; the room,
+// and whether the change is kept and flushed.
+fn around_a_fault<D: Disk + Drop>(
+    alloc: Global,
+    disk: D,
+) -> Result<(bool, u8, bool, usize, (bool, bool)), Fail> {
+    let mut txn = with_some(opened(alloc, disk)?, 0, 1);
+    let read = byte_at(&mut txn, 201).is_ok();
+    let put = byte_at(&mut txn, 200);
+    let read_again = byte_at(&mut txn, 201).is_ok();
+    let room = txn.room();
+    let (kept, flushed, _) = kept_and_flushed(txn);
+    Ok((read, put?, read_again, room, (kept, flushed)))
+}
+
+// Whether a transaction is kept, and whether it is flushed.
+fn kept_and_flushed<D: Disk>(txn: Txn<D>) -> (bool, bool, D) {
+    match txn.keep() {
+        Err(broken) => (false, false, broken.into_disk()),
+        Ok(store) => match store.flush() {
+            Err(broken) => (true, false, broken.into_disk()),
+            Ok(store) => (true, true, store.into_disk()),
+        },
+    }
+}
+
+#[test]
+fn a_failed_get_leaves_map_and_delta(rt: HostRuntime) -> Result<(), Fail> {
+    // Opening an idle journal makes a sync and a read; keeping one change makes no call, and flushing nothing none.
+    let idle = FuseDisk::new(idle_disk(rt.alloc())?, 2);
+    let (kept, flushed, _) = kept_and_flushed(opened(rt.alloc(), idle)?.begin());
+    let seen = (
+        around_a_fault(rt.alloc(), FailOnce::new(idle_disk(rt.alloc())?, 2))?,
+        around_a_fault(rt.alloc(), FuseDisk::new(idle_disk(rt.alloc())?, 2))?,
+        (kept, flushed),
+    );
+    let wanted = (
+        (false, 7, true, 63, (true, true)),
+        (false, 7, false, 63, (true, false)),
+        (true, true),
+    );
+    assert!(rt; seen == wanted, "{seen:?}");
+    Ok(())
+}
+
+// Whether a store that was armed so has kept and flushed so many sectors, and how many are there after a stop.
+fn kept_while_armed<D: CrashDisk + Drop>(
+    alloc: Global,
+    disk: D,
+    passes: u64,
+    count: u8,
+    choice: &[u8],
+) -> Result<(bool, bool, u8), Fail> {
+    let mut store = opened(alloc, disk)?;
+    store.arm(passes);
+    let (kept, flushed, disk) = kept_and_flushed(with_some(store, 0, count));
+    Ok((kept, flushed, count_lasting(alloc, disk, choice, count)?))
+}
+
+#[test]
+fn a_stop_within_a_flush_leaves_all_or_nothing(rt: HostRuntime) -> Result<(), Fail> {
+    // How many writes and syncs pass, of how many sectors, and how many are there for choices 0 and for choices 1: a
+    // commit of n sectors makes 2n + 6.
+    for (passes, count, zeros, ones) in [
+        (0, 2, 0, 0),
+        (1, 2, 0, 0),
+        (2, 2, 0, 0),
+        (3, 2, 0, 2),
+        (4, 2, 0, 2),
+        (5, 2, 2, 2),
+        (6, 2, 2, 2),
+        (7, 2, 2, 2),
+        (8, 2, 2, 2),
+        (9, 2, 2, 2),
+        (10, 2, 2, 2),
+        (7, 1, 1, 1),
+        (8, 1, 1, 1),
+        (133, 64, 64, 64),
+        (134, 64, 64, 64),
+    ] {
+        let flushed = passes == 2 * u64::from(count) + 6;
+        for (choice, want) in [
+            ([].as_slice(), zeros),
+            ([1, 1, 1].as_slice(), ones),
+            ([0, 1].as_slice(), zeros),
+            ([1, 0].as_slice(), ones),
+        ] {
+            let found = kept_while_armed(
+                rt.alloc(),
+                idle_disk(rt.alloc())?,
+                passes,
+                count,
+                choice,
+            )?;
+            assert!(rt;
+                found == (true, flushed, want),
+                "{passes} {count} {choice:?}"
+            );
+        }
+    }
+    Ok(())
+}
+
+// Whether the sectors below a number and then others are kept by two transactions of an armed store, and flushed; and
+// how many of all are there after a stop.
+fn kept_twice<D: CrashDisk + Drop>(
+    alloc: Global,
+    disk: D,
+    passes: u64,
+    first: u8,
+    (from, to): (u8, u8),
+) -> Result<(bool, bool, u8), Fail> {
+    let mut store = opened(alloc, disk)?;
+    store.arm(passes);
+    let (kept, flushed, disk) = match with_some(store, 0, first).keep() {
+        Err(broken) => (false, false, broken.into_disk()),
+        Ok(store) => kept_and_flushed(with_some(store, from, to)),
+    };
+    Ok((kept, flushed, count_lasting(alloc, disk, &[], 128)?))
+}
+
+#[test]
+fn calls_share_a_commit_while_they_fit(rt: HostRuntime) -> Result<(), Fail> {
+    // How many writes and syncs pass, the sectors of the two transactions, and what comes of them. A sector that waits
+    // already takes no new place, and all that waits is committed before what doesn't fit beside it is kept.
+    for (passes, first, second, want) in [
+        (0, 62, (62, 126), (true, false, 0)),
+        (257, 62, (62, 126), (true, false, 126)),
+        (258, 62, (62, 126), (true, true, 126)),
+        (0, 64, (1, 65), (true, false, 0)),
+        (136, 64, (1, 65), (true, true, 65)),
+        (0, 64, (64, 127), (false, false, 0)),
+        (134, 64, (64, 127), (true, false, 64)),
+        (266, 64, (64, 127), (true, true, 127)),
+    ] {
+        let found = kept_twice(rt.alloc(), idle_disk(rt.alloc())?, passes, first, second)?;
+        assert!(rt; found == want, "{passes} {first} {second:?}");
+    }
+    Ok(())
+}
+
+// Which of these reads are answered by a disk that fails after so many calls: two of sector 200, and one of sector 201;
+// and then, once sector 200 was put, kept and flushed, one of each.
+fn read_twice<D: Disk + Drop>(alloc: Global, disk: D) -> Result<[bool; 5], Fail> {
+    let mut txn = opened(alloc, disk)?.begin();
+    let first = byte_at(&mut txn, 200).is_ok();
+    let again = byte_at(&mut txn, 200).is_ok();
+    let other = byte_at(&mut txn, 201).is_ok();
+    put_some(&mut txn, 0, 1);
+    match txn.keep() {
+        Err(_) => Err(Fail::new("not kept")),
+        Ok(store) => match store.flush() {
+            Err(_) => Ok([first, again, other, false, false]),
+            Ok(store) => {
+                let mut txn = store.begin();
+                let changed = byte_at(&mut txn, 200).is_ok();
+                let same = byte_at(&mut txn, 201).is_ok();
+                let _ = txn.drop_delta();
+                Ok([first, again, other, changed, same])
+            }
+        },
+    }
+}
+
+#[test]
+fn a_sector_is_read_once_until_it_changes(rt: HostRuntime) -> Result<(), Fail> {
+    // How many calls the disk answers; two of them open the journal, and a commit of one sector makes 8.
+    for (calls, want) in [
+        (2, [false, false, false, false, false]),
+        (3, [true, true, false, false, false]),
+        (4, [true, true, true, false, false]),
+        (12, [true, true, true, false, true]),
+        (13, [true, true, true, true, true]),
+    ] {
+        let found = read_twice(rt.alloc(), FuseDisk::new(idle_disk(rt.alloc())?, calls))?;
+        assert!(rt; found == want, "{calls}");
+    }
+    Ok(())
+}

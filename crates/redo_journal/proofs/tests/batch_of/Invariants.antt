@@ -1,6 +1,0 @@
-use Rattle.std.proofs.Common.{ℕ, ◌+◌, ◌≤◌}
-use Rattle.redo_journal.specs.Batch.{IsOnDisk}
-use Rattle.redo_journal.proofs.tests.batch_of.Given as goal
-
-abbrev pub invariant-loop-k : goal.invariant-loop-k
-invariant-loop-k l = (size : ℕ) → 200 + l.count ≤ size → IsOnDisk size l.batch

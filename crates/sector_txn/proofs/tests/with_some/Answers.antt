@@ -1,8 +1,0 @@
-use Rattle.std.proofs.Common.{◌∙◌, ap}
-use Rattle.sector_txn.proofs.tests.with_some.Goals as goal
-
-pub put_some-requires : goal.put_some-requires
-put_some-requires g c = ap (λ disk. (g.D.Disk.state disk).size) c.begin-txn.ensures.disk ∙ c.requires
-
-pub returns : goal.returns
-returns g c = c.put_some.ensures.reads.narrowed.size ∙ ap (λ disk. (g.D.Disk.state disk).size) c.begin-txn.ensures.disk ∙ c.requires
