@@ -1,19 +1,7 @@
 //! The program `inofs`: makes, runs and checks file systems in images. `docs/inofs.1` says how it is called and what it prints.
 #![tactic(auto)]
 
-mod disks;
-mod failure;
-mod jobs;
-mod memory;
-mod status;
-#[cfg(test)]
-mod tests;
-mod words;
-#[cfg(test)]
-mod words_tests;
-
-use crate::jobs::perform;
-use crate::status::Status;
+use fs_command::{Status, perform};
 use fs_shell::Watched;
 use std::process::ExitCode;
 use std::{env, io};

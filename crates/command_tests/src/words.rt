@@ -1,0 +1,224 @@
+//! Which job the words ask for, and what is printed where they ask for none.
+
+use fs_command::{Job, WordsFault, parse_words};
+use std::alloc::{AllocError, Global};
+use std::test::Fail;
+
+// What the words of a line ask for.
+fn parsed(alloc: Global, line: &str) -> Result<Result<Job, WordsFault>, AllocError> {
+    let mut words = Vec::new(alloc);
+    for word in line.split(' ') {
+        words.push(String::from_str(alloc, word)?)?;
+    }
+    Ok(parse_words(alloc, words.as_slice()))
+}
+
+// The same as a text.
+fn asked(alloc: Global, line: &str) -> Result<String, AllocError> {
+    told(alloc, &parsed(alloc, line)?)
+}
+
+fn told(alloc: Global, outcome: &Result<Job, WordsFault>) -> Result<String, AllocError> {
+    match outcome {
+        Ok(Job::Memory) => String::from_str(alloc, "memory"),
+        Ok(
+            Job::Mkfs {
+                image,
+                sectors,
+                inodes,
+            },
+        ) => format!(in alloc; "mkfs {} {sectors} {inodes}", image.as_str()),
+        Ok(
+            Job::Run {
+                image,
+                script: Some(script),
+            },
+        ) => format!(in alloc; "run {} {}", image.as_str(), script.as_str()),
+        Ok(
+            Job::Run {
+                image,
+                script: None,
+            },
+        ) => format!(in alloc; "run {}", image.as_str()),
+        Ok(Job::Check { image }) => format!(in alloc; "check {}", image.as_str()),
+        Err(fault) => match fault {
+            WordsFault::Help(_) => format!(in alloc; "help {}", fault.status().code()),
+            WordsFault::BadWords(_) => format!(in alloc; "bad {}", fault.status().code()),
+            WordsFault::OutOfMemory => format!(in alloc; "memory {}", fault.status().code()),
+        },
+    }
+}
+
+// ---- what is asked for
+
+// Lines, and what they ask for.
+const JOBS: [(&str, &str); 9] = [
+    ("inofs", "memory"),
+    (
+        "inofs mkfs a.img --sectors 1024 --inodes 16",
+        "mkfs a.img 1024 16",
+    ),
+    (
+        "inofs mkfs --inodes 4096 --sectors 65536 a.img",
+        "mkfs a.img 65536 4096",
+    ),
+    (
+        "inofs mkfs --sectors=+02048 a.img --inodes=64",
+        "mkfs a.img 2048 64",
+    ),
+    ("inofs run a.img", "run a.img"),
+    ("inofs run a.img s", "run a.img s"),
+    ("inofs run -- --help s", "run --help s"),
+    ("inofs check a.img", "check a.img"),
+    ("/usr/bin/inofs check check", "check check"),
+];
+
+// Lines that ask for no job.
+const BAD: [&str; 26] = [
+    "inofs mkfs",
+    "inofs mkfs a.img",
+    "inofs mkfs a.img --sectors 1024",
+    "inofs mkfs a.img --inodes 16",
+    "inofs mkfs --sectors 1024 --inodes 16",
+    "inofs mkfs a.img --sectors 1023 --inodes 16",
+    "inofs mkfs a.img --sectors 65537 --inodes 16",
+    "inofs mkfs a.img --sectors 1024 --inodes 15",
+    "inofs mkfs a.img --sectors 1024 --inodes 4097",
+    "inofs mkfs a.img --sectors x --inodes 16",
+    "inofs mkfs a.img --sectors -1024 --inodes 16",
+    "inofs mkfs a.img --sectors 99999999999999999999 --inodes 16",
+    "inofs mkfs a.img --sectors 1024 --sectors 1024 --inodes 16",
+    "inofs mkfs a.img b.img --sectors 1024 --inodes 16",
+    "inofs mkfs a.img --sectors 1024 --inodes",
+    "inofs run",
+    "inofs run a.img s t",
+    "inofs run a.img --sectors 1024",
+    "inofs check",
+    "inofs check a.img b.img",
+    "inofs fsck a.img",
+    "inofs help",
+    "inofs a.img",
+    "inofs -- check a.img",
+    "inofs --sectors 1024",
+    "inofs run --version",
+];
+
+// Lines that ask for help or the version.
+const SHOWN: [&str; 7] = [
+    "inofs --help",
+    "inofs -h",
+    "inofs --version",
+    "inofs -V",
+    "inofs mkfs --help",
+    "inofs run a.img -h",
+    "inofs check --help",
+];
+
+// Adds to the report where a line asks for something other than is wanted.
+fn expect(alloc: Global, report: &mut String, line: &str, wanted: &str) -> Result<(), AllocError> {
+    let asked = asked(alloc, line)?;
+    push_other(report, line, asked.as_str(), wanted)
+}
+
+fn push_other(report: &mut String, line: &str, seen: &str, wanted: &str) -> Result<(), AllocError> {
+    if seen == wanted {
+        return Ok(());
+    }
+    writeln!(report, "{line}: {seen}")
+}
+
+// ---- what is printed
+
+// What is printed at the words of a line, which ask for no job.
+fn text(alloc: Global, line: &str) -> Result<String, AllocError> {
+    match parsed(alloc, line)? {
+        Ok(_) => Ok(String::new(alloc)),
+        Err(fault) => format!(in alloc; "{fault}"),
+    }
+}
+
+const HELP: &str = "A file system in an image, with a journal and access control lists
+
+Usage: inofs
+       inofs mkfs IMAGE --sectors N --inodes N
+       inofs run IMAGE [SCRIPT]
+       inofs check IMAGE
+
+Commands:
+  mkfs   Make an image with an empty file system
+  run    Run a script on an image
+  check  Check an image
+
+Options:
+  -h, --help     Print help
+  -V, --version  Print version
+
+With no command, runs the script on the standard input on a new disk in memory.
+
+Status: 0 done, 1 a line's fault or a finding, 2 bad words, 3 every other fault.
+";
+
+const MKFS_HELP: &str = "Make an image with an empty file system
+
+Usage: inofs mkfs --sectors <N> --inodes <N> <IMAGE>
+
+Arguments:
+  <IMAGE>  The image, which must not exist
+
+Options:
+      --sectors <N>  Sectors of 512 bytes, 1024 to 65536
+      --inodes <N>   Inodes, 16 to 4096
+  -h, --help         Print help
+";
+
+// Lines that ask for no job, and what is printed.
+const TEXTS: [(&str, &str); 5] = [
+    ("inofs --help", HELP),
+    ("inofs mkfs --help", MKFS_HELP),
+    ("inofs --version", "inofs 0.1.0\n"),
+    (
+        "inofs mkfs a.img --sectors 1023 --inodes 16",
+        "error: invalid value '1023' for '--sectors <N>': 1023 is not in 1024..=65536\n\n\
+         For more information, try '--help'.\n",
+    ),
+    (
+        "inofs run",
+        "error: the following required arguments were not provided:\n  <IMAGE>\n\n\
+         Usage: inofs run <IMAGE> [SCRIPT]\n\nFor more information, try '--help'.\n",
+    ),
+];
+
+// Adds to the report where something other is printed than is wanted.
+fn expect_text(
+    alloc: Global,
+    report: &mut String,
+    line: &str,
+    wanted: &str,
+) -> Result<(), AllocError> {
+    let text = text(alloc, line)?;
+    push_other(report, line, text.as_str(), wanted)
+}
+
+fn expect_all(alloc: Global, report: &mut String) -> Result<(), AllocError> {
+    for (line, wanted) in JOBS {
+        expect(alloc, report, line, wanted)?;
+    }
+    for line in BAD {
+        expect(alloc, report, line, "bad 2")?;
+    }
+    for line in SHOWN {
+        expect(alloc, report, line, "help 0")?;
+    }
+    for (line, wanted) in TEXTS {
+        expect_text(alloc, report, line, wanted)?;
+    }
+    Ok(())
+}
+
+#[test]
+fn words_ask_for_jobs_or_are_answered_by_a_text(rt: HostRuntime) -> Result<(), Fail> {
+    let mut report = String::new(rt.alloc());
+    expect_all(rt.alloc(), &mut report)?;
+    assert!(rt; report.is_empty(), "{report}");
+    Ok(())
+}

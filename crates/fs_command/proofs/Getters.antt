@@ -1,0 +1,48 @@
+-- What the getters of matches give, by the rows.
+use Rattle.std.specs.Prelude.{◌≡◌, ◌^◌, ◌<◌, ℕ, List, Option, Some, None, Result, Ok, Err, IsSome, option_map, unwrap_or}
+use Rattle.std.proofs.Common.{◌∙◌, sym, refl, ap, subst, arith}
+use Rattle.std.specs.Borrow.{Bor}
+use Rattle.std.specs.Str.Parse.{ParsesUnsigned, digits_value, without_leading_plus}
+use Rattle.clap.specs.Words.{ReadsOne, Text, first_of, first_value, one_of, one_text, rows_of}
+use Rattle.clap.specs.declared.parser.matches.Found.{Found}
+use Rattle.clap.proofs.WalkLemmas.{first_value-rows, one_text-rows}
+use Rattle.fs_command.specs.Words.{IsGiven, IsNumberGiven, IsNumberFor}
+
+is_some_of : {X : Type 0} (r : Option X) (x : X) → r ≡ Some x → IsSome r
+is_some_of r x h = rw h refl
+
+text_some : (r : Option (Bor Text)) (text : Text) → option_map (λ s. s.now) r ≡ Some text → IsSome r
+text_some (Some x) text h = refl
+text_some None text h = cc
+
+-- `get_str`
+pub text_is_some : (f : Found) (id : Text) (r : Option (Bor Text)) → option_map (λ s. s.now) r ≡ first_value f id → IsGiven id (rows_of f) → IsSome r
+text_is_some f id r got given = text_some r given.0 (got ∙ first_value-rows f id ∙ given.1)
+
+pub text_is : (f : Found) (id : Text) (r : Option (Bor Text)) → option_map (λ s. s.now) r ≡ first_value f id
+    → first_of id (rows_of f) ≡ option_map (λ s. s.now) r
+text_is f id r got = sym (got ∙ first_value-rows f id)
+
+-- `get_one` of a number that fits
+module _ {E : Type 0} (G : List ℕ → Result ℕ E → Type 0) (only : (u : List ℕ) (x : Result ℕ E) → G u x → ParsesUnsigned 32 10 u x) where
+  one_number : (least most : ℕ) (o : Option Text) (r : Option ℕ) → ((t : Text) → o ≡ Some t → ReadsOne G t r) → most < 2 ^ 32
+      → (n : ℕ) → IsNumberFor least most o n → r ≡ Some n
+  one_number least most None r reads fits n is = absurd is
+  one_number least most (Some t) (Some v) reads fits n is =
+      let parsed = only t (Ok v) (reads t refl) in
+      ap Some (parsed.1 ∙ sym is.1)
+  one_number least most (Some t) None reads fits n is =
+      let read = reads t refl in
+      let small : digits_value 10 (without_leading_plus t) < 2 ^ 32 = omega (arith, is.1, is.3, fits) in
+      absurd (only t (Err read.0) read.1 (is.0, small))
+
+  pub number_is_some : (least most : ℕ) (f : Found) (id : Text) (r : Option ℕ) → ((t : Text) → one_text f id ≡ Some t → ReadsOne G t r)
+      → most < 2 ^ 32 → IsNumberGiven least most id (rows_of f) → IsSome r
+  number_is_some least most f id r reads fits is =
+      is_some_of r is.0 (one_number least most (one_of id (rows_of f)) r (λ t e. reads t (one_text-rows f id ∙ e)) fits is.0 is.1)
+
+  pub number_is : (least most : ℕ) (f : Found) (id : Text) (r : Option ℕ) (v : ℕ) → ((t : Text) → one_text f id ≡ Some t → ReadsOne G t r)
+      → most < 2 ^ 32 → IsNumberGiven least most id (rows_of f) → r ≡ Some v → IsNumberFor least most (one_of id (rows_of f)) v
+  number_is least most f id r v reads fits is got =
+      let n_is = one_number least most (one_of id (rows_of f)) r (λ t e. reads t (one_text-rows f id ∙ e)) fits is.0 is.1 in
+      subst (λ (m : ℕ). IsNumberFor least most (one_of id (rows_of f)) m) (ap (λ (o : Option ℕ). unwrap_or o 0) (sym n_is ∙ got)) is.1

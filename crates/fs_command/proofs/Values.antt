@@ -1,0 +1,76 @@
+-- Where the program's definition finds no fault in the words, the command has its values.
+use Rattle.std.specs.Prelude.{◌≡◌, ℕ, true, false, List, [], Option, Some, None, find, option_map}
+use Rattle.std.proofs.Common.{sym, refl, subst, inl, inr}
+use Rattle.std.specs.Option.{option_map_or}
+use Rattle.std.specs.Str.Parse.{digits_value, without_leading_plus}
+use Rattle.std.specs.List.{slice_index_or}
+use Rattle.clap.specs.Walk.{Text, answers_to, nothing_held, walk}
+use Rattle.clap.specs.Simple.{Shape, argument_words, built, entered, label_of, names_of, rows_at}
+use Rattle.clap.specs.Faults.{entered_fault, fault_of, level_fault}
+use Rattle.clap.specs.ValueTests.{accepts}
+use Rattle.clap.specs.declared.builder.value_parser.ValueParser.TheVariants as vp
+use Rattle.clap.specs.Words.{subcommand_of}
+use Rattle.clap.proofs.ValueTestLemmas.{accepts-Accepts}
+use Rattle.fs_command.specs.Words.{HasValues, IsNumberFor, IsWhole, command_line}
+use Rattle.fs_command.proofs.Taken.{Each, Sound, found_holds, leaf_values, no_kinds}
+
+counted : (least most : ℕ) (o : Option Text) (v : Text) → o ≡ Some v → accepts false (vp.Unsigned least most) v ≡ true → (n : ℕ) × IsNumberFor least most o n
+counted least most o v e passes =
+    let taken = accepts-Accepts false (vp.Unsigned least most) v passes in (
+      digits_value 10 (without_leading_plus v),
+      subst (λ (w : Option Text). IsNumberFor least most w (digits_value 10 (without_leading_plus v))) (sym e) (taken.0, refl, taken.2, taken.3),
+    )
+
+-- the words of a command that have no fault give its values
+abbrev HasAll : Shape → Type 0
+HasAll s = (words : List Text) → level_fault s [] nothing_held words false [] ≡ [] → IsWhole (rows_at s words)
+
+-- a command as the program's definition has it
+abbrev leaf : ℕ → Shape
+leaf i = slice_index_or (built command_line).subs i (built command_line).top
+
+mkfs_sound : Each (Sound (leaf 0).rules) (leaf 0).rules
+mkfs_sound = ((refl, refl, inl (refl, refl)), ((refl, refl, inl (refl, refl)), ((refl, refl, inl (refl, refl)), ((refl, refl, inr refl), tt))))
+
+run_sound : Each (Sound (leaf 1).rules) (leaf 1).rules
+run_sound = ((refl, refl, inl (refl, refl)), ((refl, refl, inl (refl, refl)), ((refl, refl, inr refl), tt)))
+
+check_sound : Each (Sound (leaf 2).rules) (leaf 2).rules
+check_sound = ((refl, refl, inl (refl, refl)), ((refl, refl, inr refl), tt))
+
+mkfs_has : HasAll (leaf 0)
+mkfs_has words fault =
+    let values = leaf_values (leaf 0) words mkfs_sound refl fault in
+    let image = values.0 refl in
+    let sectors = values.1.0 refl in
+    let inodes = values.1.1.0 refl in
+    inl (refl, (image.0, image.1), counted 1024 65536 _ sectors.0 sectors.2 sectors.3, counted 16 4096 _ inodes.0 inodes.2 inodes.3)
+
+run_has : HasAll (leaf 1)
+run_has words fault =
+    let image = (leaf_values (leaf 1) words run_sound refl fault).0 refl in
+    inr (inl (refl, (image.0, image.1)))
+
+check_has : HasAll (leaf 2)
+check_has words fault =
+    let image = (leaf_values (leaf 2) words check_sound refl fault).0 refl in
+    inr (inr (refl, (image.0, image.1)))
+
+each_has : Each HasAll (built command_line).subs
+each_has = (mkfs_has, (run_has, (check_has, tt)))
+
+entered_has : (stop : Option (Text × List Text)) → entered_fault (built command_line) stop ≡ [] → HasValues (entered (built command_line) stop)
+entered_has None fault = tt
+entered_has (Some p) fault = go (find (λ s. answers_to p.0 (label_of s)) (built command_line).subs) refl fault
+  where
+    go : (o : Option Shape) → find (λ s. answers_to p.0 (label_of s)) (built command_line).subs ≡ o
+        → option_map_or (λ s. level_fault s [] nothing_held p.1 false []) o [] ≡ []
+        → HasValues (option_map (λ s. rows_at s p.1) o)
+    go None e fault = tt
+    go (Some s) e fault = found_holds HasAll (λ s. answers_to p.0 (label_of s)) (built command_line).subs s each_has e p.1 fault
+
+pub has_values : (words : List Text) → fault_of command_line words ≡ [] → HasValues (subcommand_of command_line words)
+has_values words fault =
+    let stop = (walk (built command_line).top.rules (names_of (built command_line)) nothing_held (argument_words command_line words)).stopped in
+    let after = no_kinds _ _ fault in
+    entered_has stop (no_kinds (entered_fault (built command_line) stop) _ after.1).0

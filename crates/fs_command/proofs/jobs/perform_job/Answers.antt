@@ -1,0 +1,10 @@
+use Rattle.fs_command.proofs.jobs.perform_job.Goals as goal
+
+pub returns-in-Mkfs : goal.returns-in-Mkfs
+returns-in-Mkfs g c = rw c.in-Mkfs.is c.make_image.ensures
+
+pub returns-in-Run : goal.returns-in-Run
+returns-in-Run g c = rw c.in-Run.is (rw c.as_ref.ensures.value at c.run_image.ensures)
+
+pub returns-in-Check : goal.returns-in-Check
+returns-in-Check g c = rw c.in-Check.is c.check_image.ensures

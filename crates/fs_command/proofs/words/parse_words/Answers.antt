@@ -1,0 +1,47 @@
+use Rattle.std.proofs.Common.{◌≡◌, ◌∙◌, ap, sym, refl, subst, [], map, string_bytes, true}
+use Rattle.clap.specs.Words.{App, HasKind, fault_of, is_simple, is_simple_and_free, subcommand_rows_of, subcommand_of}
+use Rattle.clap.proofs.OnLiterals.{clap_on_literals}
+use Rattle.fs_command.specs.Words.{command_line, HasValues, SaysJob}
+use Rattle.fs_command.proofs.Refusals.{refused}
+use Rattle.fs_command.proofs.Values.{has_values}
+use Rattle.fs_command.proofs.words.parse_words.Goals as goal
+
+inofs_is_simple : is_simple command_line ≡ true
+unfolding clap_on_literals
+inofs_is_simple = refl
+
+inofs_is_free : is_simple_and_free command_line ≡ true
+unfolding clap_on_literals
+inofs_is_free = refl
+
+pub returns-in_err-matches-clause-said : goal.returns-in_err-matches-clause-said
+returns-in_err-matches-clause-said c =
+    let is = c.in_ok-program.ensures in
+    let words = map string_bytes c.args.words.now in
+    let error = c.in_err-matches.field-0.0 in
+    refused words error c.from_residual-in_err-matches.result c.from_residual-in_err-matches.ensures.1
+    (subst (λ (a : App). HasKind (fault_of a words) error) is (c.in_err-matches.ensures.kinds (ap is_simple_and_free is ∙ inofs_is_free)))
+
+pub named_job-requires : goal.named_job-requires
+named_job-requires c =
+    let is = c.in_ok-program.ensures in
+    let words = map string_bytes c.args.words.now in
+    let none : fault_of command_line words ≡ [] = ap (λ a. fault_of a words) (sym is)
+    ∙ c.in_ok-matches.ensures.kinds (ap is_simple_and_free is ∙ inofs_is_free) in
+    let named : subcommand_rows_of c.in_ok-matches.matches ≡ subcommand_of command_line words =
+    (c.in_ok-matches.ensures.matches (ap is_simple is ∙ inofs_is_simple)).1 ∙ ap (λ a. subcommand_of a words) is in
+    subst HasValues (sym named) (has_values words none)
+
+pub returns-clause-said : goal.returns-clause-said
+returns-clause-said c =
+    let is = c.in_ok-program.ensures in
+    let words = map string_bytes c.args.words.now in
+    let named : subcommand_rows_of c.in_ok-matches.matches ≡ subcommand_of command_line words =
+    (c.in_ok-matches.ensures.matches (ap is_simple is ∙ inofs_is_simple)).1 ∙ ap (λ a. subcommand_of a words) is in
+    subst (λ n. SaysJob n c.in_ok-named_job.field-0) named c.in_ok-named_job.ensures
+
+pub returns-clause-taken : goal.returns-clause-taken
+returns-clause-taken c =
+    let is = c.in_ok-program.ensures in
+    let words = map string_bytes c.args.words.now in
+    ap (λ a. fault_of a words) (sym is) ∙ c.in_ok-matches.ensures.kinds (ap is_simple_and_free is ∙ inofs_is_free)

@@ -1,0 +1,21 @@
+use Rattle.std.proofs.Common.{rules, ◌≡◌, ◌∙◌, ap, ap₂}
+use Rattle.std.proofs.lemmas.Result.{IfOk-weaker}
+use Rattle.clap.specs.Words.{App, app_of, with_subcommand}
+use Rattle.clap.proofs.SimpleLemmas.{plain_fields}
+use Rattle.fs_command.specs.Words.{alone, mkfs, run, check}
+use Rattle.fs_command.proofs.words.program.Goals as goal
+
+pub returns : goal.returns
+returns c =
+    let alone_is : app_of c.disable_help_subcommand.result ≡ alone = search rules in
+    let mkfs_is : app_of c.in_ok-mkfs_command.field-0 ≡ mkfs = c.in_ok-mkfs_command.ensures in
+    let run_is : app_of c.in_ok-run_command.field-0 ≡ run = c.in_ok-run_command.ensures in
+    let check_is : app_of c.in_ok-check_command.field-0 ≡ check = c.in_ok-check_command.ensures in
+    let one_is : app_of c.in_ok-subcommand.field-0 ≡ with_subcommand alone mkfs.top =
+    c.in_ok-subcommand.ensures.shape (plain_fields _ (ap (λ (a : App). a.top.is_plain) mkfs_is)).globals
+    ∙ ap₂ with_subcommand alone_is (ap (λ (a : App). a.top) mkfs_is) in
+    let two_is : app_of c.in_ok-subcommand-2.field-0 ≡ with_subcommand (with_subcommand alone mkfs.top) run.top =
+    c.in_ok-subcommand-2.ensures.shape (plain_fields _ (ap (λ (a : App). a.top.is_plain) run_is)).globals
+    ∙ ap₂ with_subcommand one_is (ap (λ (a : App). a.top) run_is) in
+    IfOk-weaker c.subcommand-3.result _ _ (λ command adds. adds.shape (plain_fields _ (ap (λ (a : App). a.top.is_plain) check_is)).globals
+    ∙ ap₂ with_subcommand two_is (ap (λ (a : App). a.top) check_is)) c.subcommand-3.ensures

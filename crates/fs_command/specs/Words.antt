@@ -1,0 +1,130 @@
+-- What the words of the command line ask for.
+--     command_line     `clap`'s definition of the command line
+--     AsksFor             a job is what that definition reads from the words
+--     Refuses          a fault is one that it gives them
+--     words_status     the status of a fault
+use Rattle.std.specs.Prelude.{◌≡◌, ◌≢◌, ◌≤◌, ◌⊎◌, ℕ, List, Option, Some, None, codes, true}
+use Rattle.std.specs.Str.Parse.{IsNumeral, digits_value, without_leading_plus}
+use Rattle.clap.specs.Words.{App, Row, Rule, Text, IsAmong, fault_of, first_of, kind_of, new_app, new_rule, one_of, subcommand_of, with_rule, with_subcommand}
+use Rattle.clap.specs.declared.builder.value_parser.ValueParser.TheVariants as vp
+use Rattle.clap.specs.declared.error.Error.{Error}
+use Rattle.clap.specs.declared.error.kind.ErrorKind.{ErrorKind}
+use Rattle.clap.specs.declared.error.kind.ErrorKind.TheVariants as kind
+use Rattle.fs_command.specs.declared.words.Job.{Job}
+use Rattle.fs_command.specs.declared.words.Job.TheVariants.{Memory, Mkfs, Run, Check}
+use Rattle.fs_command.specs.declared.words.WordsFault.{WordsFault}
+use Rattle.fs_command.specs.declared.words.WordsFault.TheVariants.{Help, BadWords, OutOfMemory}
+use Rattle.fs_command.specs.declared.status.Status.{Status}
+use Rattle.fs_command.specs.declared.status.Status.TheVariants as statuses
+
+-- ---- the command line
+
+-- the path of the image has to be given
+abbrev pub image : Rule
+image = record (new_rule (codes "IMAGE")) { required = true }
+
+-- `--name N`, which has to be given, with a number in its range
+abbrev pub number_option : Text → ℕ → ℕ → Rule
+number_option name least most = record (new_rule name) {
+  long = Some name;
+  value_names = 1;
+  required = true;
+  parser = Some (vp.Unsigned least most);
+}
+
+abbrev pub mkfs : App
+mkfs = with_rule (with_rule (with_rule (new_app (codes "mkfs")) image) (number_option (codes "sectors") 1024 65536)) (number_option (codes "inodes") 16 4096)
+
+abbrev pub run : App
+run = with_rule (with_rule (new_app (codes "run")) image) (new_rule (codes "SCRIPT"))
+
+abbrev pub check : App
+check = with_rule (new_app (codes "check")) image
+
+-- the program alone, with `--version` and no command `help`
+abbrev pub alone : App
+alone = record (new_app (codes "inofs")) {
+  top = record (new_app (codes "inofs")).top { disable_help_subcommand = true; has_version = true };
+}
+
+abbrev pub command_line : App
+command_line = with_subcommand (with_subcommand (with_subcommand alone mkfs.top) run.top) check.top
+
+-- ---- what it reads
+
+-- the text says n in decimal digits, perhaps behind a plus, and n is in the range
+abbrev pub IsNumberFor : ℕ → ℕ → Option Text → ℕ → Type 0
+IsNumberFor least most None n = ⊥
+IsNumberFor least most (Some text) n =
+    IsNumeral 10 (without_leading_plus text) × (n ≡ digits_value 10 (without_leading_plus text)) × (least ≤ n) × (n ≤ most)
+
+-- the job of each command, by the values of its arguments
+abbrev pub SaysMkfs : List Row → Job → Type 0
+SaysMkfs rows (Mkfs image sectors inodes) = (first_of (codes "IMAGE") rows ≡ Some image)
+    × IsNumberFor 1024 65536 (one_of (codes "sectors") rows) sectors
+    × IsNumberFor 16 4096 (one_of (codes "inodes") rows) inodes
+SaysMkfs rows job = ⊥
+
+abbrev pub SaysRun : List Row → Job → Type 0
+SaysRun rows (Run image script) = (first_of (codes "IMAGE") rows ≡ Some image) × (first_of (codes "SCRIPT") rows ≡ script)
+SaysRun rows job = ⊥
+
+abbrev pub SaysCheck : List Row → Job → Type 0
+SaysCheck rows (Check image) = first_of (codes "IMAGE") rows ≡ Some image
+SaysCheck rows job = ⊥
+
+-- the job of a command and its values, or of none
+abbrev pub SaysJob : Option (Text × List Row) → Job → Type 0
+SaysJob named Memory = named ≡ None
+SaysJob named (Mkfs image sectors inodes) = (rows : List Row) × (named ≡ Some (codes "mkfs", rows)) × SaysMkfs rows (Mkfs image sectors inodes)
+SaysJob named (Run image script) = (rows : List Row) × (named ≡ Some (codes "run", rows)) × SaysRun rows (Run image script)
+SaysJob named (Check image) = (rows : List Row) × (named ≡ Some (codes "check", rows)) × SaysCheck rows (Check image)
+
+-- the job is that of the command that the words name, with its values. The first word is the program's name.
+abbrev pub AsksFor : List Text → Job → Type 0
+AsksFor words = SaysJob (subcommand_of command_line words)
+
+-- ---- what it refuses
+
+-- the error is a text that was asked for
+abbrev pub IsShown : ErrorKind → Type 0
+IsShown k = (k ≡ kind.DisplayHelp) ⊎ (k ≡ kind.DisplayVersion)
+
+-- the fault that an error of the parser is
+abbrev pub IsSortOf : Error → WordsFault → Type 0
+IsSortOf error (Help e) = (e ≡ error) × IsShown (kind_of e)
+IsSortOf error (BadWords e) = (e ≡ error) × (IsShown (kind_of e) → ⊥) × (kind_of e ≢ kind.OutOfMemory)
+IsSortOf error OutOfMemory = kind_of error ≡ kind.OutOfMemory
+
+-- the definition gives the words an error of this kind; memory may run out at any words
+abbrev pub Refuses : List Text → WordsFault → Type 0
+Refuses words (Help e) = IsAmong (kind_of e) (fault_of command_line words) × IsShown (kind_of e)
+Refuses words (BadWords e) = IsAmong (kind_of e) (fault_of command_line words) × (IsShown (kind_of e) → ⊥)
+Refuses words OutOfMemory = Unit {0}
+
+-- done where a text was asked for, else bad words
+abbrev pub words_status : WordsFault → Status
+words_status (Help e) = statuses.Done
+words_status (BadWords e) = statuses.BadWords
+words_status OutOfMemory = statuses.BadWords
+
+-- ---- what is met where words are taken
+
+-- the argument has a value
+abbrev pub IsGiven : Text → List Row → Type 0
+IsGiven id rows = (text : Text) × (first_of id rows ≡ Some text)
+
+-- the argument has a value that is a number in the range
+abbrev pub IsNumberGiven : ℕ → ℕ → Text → List Row → Type 0
+IsNumberGiven least most id rows = (n : ℕ) × IsNumberFor least most (one_of id rows) n
+
+-- the command is one of the three, and has the values that have to be given
+abbrev pub IsWhole : Text × List Row → Type 0
+IsWhole named = ((named.0 ≡ codes "mkfs") × IsGiven (codes "IMAGE") named.1
+    × IsNumberGiven 1024 65536 (codes "sectors") named.1 × IsNumberGiven 16 4096 (codes "inodes") named.1)
+    ⊎ (((named.0 ≡ codes "run") × IsGiven (codes "IMAGE") named.1)
+    ⊎ ((named.0 ≡ codes "check") × IsGiven (codes "IMAGE") named.1))
+
+abbrev pub HasValues : Option (Text × List Row) → Type 0
+HasValues None = Unit {0}
+HasValues (Some named) = IsWhole named

@@ -1,0 +1,267 @@
+//! What the words of the command line ask for.
+ghost use Rattle.std.specs.Prelude.{◌≡◌, MatchResult, IfOk, [], codes, map, string_bytes, false};
+ghost use Rattle.clap.specs.Words.{app_of, found_of, rows_of, rule_of, fault_of, subcommand_rows_of};
+ghost use Rattle.fs_command.specs.Words.{command_line, mkfs, run, check, image, number_option, IsGiven, IsNumberGiven};
+ghost use Rattle.fs_command.specs.Words.{HasValues, AsksFor, SaysJob, SaysMkfs, SaysRun, SaysCheck, Refuses, words_status};
+
+use crate::status::Status;
+use clap::builder::ValueParser;
+use clap::error::ErrorKind;
+use clap::{Arg, ArgMatches, Command, Error};
+use std::alloc::{AllocError, Global};
+use std::marker::Model;
+use thiserror::Error as ThisError;
+
+const VERSION: &str = "0.1.0";
+
+const USAGE: &str = "inofs
+       inofs mkfs IMAGE --sectors N --inodes N
+       inofs run IMAGE [SCRIPT]
+       inofs check IMAGE";
+
+const STATUSES: &str =
+    "With no command, runs the script on the standard input on a new disk in memory.
+
+Status: 0 done, 1 a line's fault or a finding, 2 bad words, 3 every other fault.";
+
+/// A text of the command line.
+#[derive(Debug, Drop)]
+pub struct Text {
+    text: String,
+}
+
+impl Model for Text {
+    ghost use Rattle.std.specs.Prelude.{List, ℕ, string_bytes};
+
+    ghost Value = { List ℕ };
+
+    ghost view = { λ t. string_bytes t.text };
+}
+
+impl Text {
+    // A copy of the text.
+    fn new(alloc: Global, text: &str) -> Result<Text, AllocError>
+        ensures { IfOk result (λ copy. copy ≡ text.now) }
+    {
+        Ok(Text {
+            text: String::from_str(alloc, text)?,
+        })
+    }
+
+    /// The text, as a path for one.
+    pub fn as_str(&self) -> &str
+        ensures { result.now ≡ self.now }
+    {
+        self.text.as_str()
+    }
+}
+
+/// What the program is asked to do.
+#[derive(Debug, Drop)]
+pub enum Job {
+    /// To run the script on the standard input, on a new disk in memory.
+    Memory,
+    /// To make an image.
+    Mkfs {
+        /// The image's path.
+        image: Text,
+        /// How many sectors of 512 bytes it has.
+        sectors: u32,
+        /// How many inodes, 0 too.
+        inodes: u32,
+    },
+    /// To run a script on an image.
+    Run {
+        /// The image's path.
+        image: Text,
+        /// The script's path. Without one the script is on the standard input.
+        script: Option<Text>,
+    },
+    /// To check an image.
+    Check {
+        /// The image's path.
+        image: Text,
+    },
+}
+
+/// Why the words ask for nothing that can be done.
+#[derive(Debug, Drop, ThisError)]
+pub enum WordsFault {
+    /// They ask for the help or the version, which is the error's text.
+    #[error("{0}")]
+    Help(Error),
+    /// They aren't those of any job. The error's text says what is wrong.
+    #[error("{0}")]
+    BadWords(Error),
+    /// Memory ran out.
+    #[error("error: out of memory\n")]
+    OutOfMemory,
+}
+
+impl From<AllocError> for WordsFault {
+    ghost use Rattle.fs_command.specs.declared.words.WordsFault.TheVariants.{OutOfMemory};
+
+    ghost from_gives = { λ _ fault. fault ≡ OutOfMemory };
+
+    fn from(_error: AllocError) -> WordsFault {
+        WordsFault::OutOfMemory
+    }
+}
+
+impl From<Error> for WordsFault {
+    ghost use Rattle.fs_command.specs.Words.{IsSortOf};
+
+    ghost from_gives = { IsSortOf };
+
+    fn from(error: Error) -> WordsFault {
+        match error.kind() {
+            ErrorKind::DisplayHelp | ErrorKind::DisplayVersion => WordsFault::Help(error),
+            ErrorKind::OutOfMemory => WordsFault::OutOfMemory,
+            _ => WordsFault::BadWords(error),
+        }
+    }
+}
+
+impl WordsFault {
+    /// How the program ends then.
+    pub fn status(&self) -> Status
+        ensures { result ≡ words_status self.now }
+    {
+        match self {
+            WordsFault::Help(_) => Status::Done,
+            WordsFault::BadWords(_) | WordsFault::OutOfMemory => Status::BadWords,
+        }
+    }
+}
+
+/// What the words of a command line ask for. The first is the program's name, as `env::args` has it.
+pub fn parse_words(alloc: Global, words: &[String]) -> Result<Job, WordsFault>
+    // The job is what `clap`'s definition of the command line reads from the words. It refuses words by a kind of error
+    // that the definition gives them, or for want of memory.
+    ensures said { MatchResult result (AsksFor (map string_bytes words.now)) (Refuses (map string_bytes words.now)) }
+    ensures taken { IfOk result (λ _. fault_of command_line (map string_bytes words.now) ≡ []) }
+{
+    let matches = program(alloc)?.try_get_matches_from(words)?;
+    Ok(named_job(alloc, &matches)?)
+}
+
+// The job of the command that the words name.
+fn named_job(alloc: Global, matches: &ArgMatches<'_>) -> Result<Job, AllocError>
+    requires { HasValues (subcommand_rows_of matches.now) }
+    ensures { IfOk result (SaysJob (subcommand_rows_of matches.now)) }
+{
+    if let Some(matches) = matches.subcommand_matches("mkfs") {
+        return mkfs_job(alloc, matches);
+    }
+    if let Some(matches) = matches.subcommand_matches("run") {
+        return run_job(alloc, matches);
+    }
+    if let Some(matches) = matches.subcommand_matches("check") {
+        return check_job(alloc, matches);
+    }
+    Ok(Job::Memory)
+}
+
+// The job of `mkfs`.
+fn mkfs_job(alloc: Global, matches: &ArgMatches<'_>) -> Result<Job, AllocError>
+    requires image { IsGiven (codes "IMAGE") (rows_of (found_of matches.now)) }
+    requires sectors { IsNumberGiven 1024 65536 (codes "sectors") (rows_of (found_of matches.now)) }
+    requires inodes { IsNumberGiven 16 4096 (codes "inodes") (rows_of (found_of matches.now)) }
+    ensures { IfOk result (SaysMkfs (rows_of (found_of matches.now))) }
+{
+    Ok(Job::Mkfs {
+        image: Text::new(alloc, matches.get_str("IMAGE").unwrap())?,
+        sectors: matches.get_one::<u32>("sectors").unwrap(),
+        inodes: matches.get_one::<u32>("inodes").unwrap(),
+    })
+}
+
+// The job of `run`.
+fn run_job(alloc: Global, matches: &ArgMatches<'_>) -> Result<Job, AllocError>
+    requires image { IsGiven (codes "IMAGE") (rows_of (found_of matches.now)) }
+    ensures { IfOk result (SaysRun (rows_of (found_of matches.now))) }
+{
+    let image = Text::new(alloc, matches.get_str("IMAGE").unwrap())?;
+    let script = match matches.get_str("SCRIPT") {
+        Some(path) => Some(Text::new(alloc, path)?),
+        None => None,
+    };
+    Ok(Job::Run { image, script })
+}
+
+// The job of `check`.
+fn check_job(alloc: Global, matches: &ArgMatches<'_>) -> Result<Job, AllocError>
+    requires image { IsGiven (codes "IMAGE") (rows_of (found_of matches.now)) }
+    ensures { IfOk result (SaysCheck (rows_of (found_of matches.now))) }
+{
+    let image = Text::new(alloc, matches.get_str("IMAGE").unwrap())?;
+    Ok(Job::Check { image })
+}
+
+// The command line.
+fn program<'a>(alloc: Global) -> Result<Command<'a>, AllocError>
+    ensures { IfOk result (λ command. app_of command ≡ command_line) }
+{
+    Command::new(alloc, "inofs")
+        .version(VERSION)
+        .about("A file system in an image, with a journal and access control lists")
+        .override_usage(USAGE)
+        .after_help(STATUSES)
+        .disable_help_subcommand(true)
+        .subcommand(mkfs_command(alloc)?)?
+        .subcommand(run_command(alloc)?)?
+        .subcommand(check_command(alloc)?)
+}
+
+// The words of `mkfs`.
+fn mkfs_command<'a>(alloc: Global) -> Result<Command<'a>, AllocError>
+    ensures { IfOk result (λ command. app_of command ≡ mkfs) }
+{
+    let sectors = number(alloc, "sectors", 1024, 65536).help("Sectors of 512 bytes, 1024 to 65536");
+    let inodes = number(alloc, "inodes", 16, 4096).help("Inodes, 16 to 4096");
+    Command::new(alloc, "mkfs")
+        .about("Make an image with an empty file system")
+        .arg(image(alloc).help("The image, which must not exist"))?
+        .arg(sectors)?
+        .arg(inodes)
+}
+
+// The words of `run`.
+fn run_command<'a>(alloc: Global) -> Result<Command<'a>, AllocError>
+    ensures { IfOk result (λ command. app_of command ≡ run) }
+{
+    let script = Arg::new(alloc, "SCRIPT").help("The script; without it, the standard input");
+    Command::new(alloc, "run")
+        .about("Run a script on an image")
+        .arg(image(alloc).help("The image"))?
+        .arg(script)
+}
+
+// The words of `check`.
+fn check_command<'a>(alloc: Global) -> Result<Command<'a>, AllocError>
+    ensures { IfOk result (λ command. app_of command ≡ check) }
+{
+    Command::new(alloc, "check")
+        .about("Check an image")
+        .arg(image(alloc).help("The image"))
+}
+
+// The path of the image.
+fn image<'a>(alloc: Global) -> Arg<'a>
+    ensures rule { rule_of result ≡ image }
+    ensures local { result.global ≡ false }
+{
+    Arg::new(alloc, "IMAGE").required(true)
+}
+
+// A number that has to be given, within its bounds.
+fn number<'a>(alloc: Global, name: &'a str, least: u64, most: u64) -> Arg<'a>
+    ensures rule { rule_of result ≡ number_option name.entry.now least most }
+    ensures local { result.global ≡ false }
+{
+    Arg::new(alloc, name)
+        .long(name)
+        .value_name("N")
+        .required(true)
+        .value_parser(ValueParser::unsigned(least, most))
+}
