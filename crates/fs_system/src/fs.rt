@@ -210,8 +210,12 @@ impl<D: Disk + Drop> Fs<D> {
         self.procs.spawn(cred)
     }
 
-    // A new process with a copy of this credential.
-    pub(crate) fn spawn_copy(&mut self, cred: &Cred) -> Result<usize, Errno>
+    /// A new process with a copy of this credential, its capabilities among it.
+    ///
+    /// # Errors
+    ///
+    /// EIO where the file system is halted, EAGAIN where there are 64 processes, and ENOMEM.
+    pub fn spawn_copy(&mut self, cred: &Cred) -> Result<usize, Errno>
         ensures does { Happens D.state self.old self.new (Spawn cred.now) (spawned result) }
         ensures halted { LeavesHalted self.old self.new }
     {
