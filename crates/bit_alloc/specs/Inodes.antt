@@ -76,3 +76,4 @@ pub record IsBlank (v : Inode) : Type 0 where
   pub default : v.default_acl ≡ 0
   pub direct : v.direct ≡ replicate DIRECT_BLOCKS 0
   pub indirect : v.indirect ≡ 0
+  pub double_indirect : v.double_indirect ≡ 0

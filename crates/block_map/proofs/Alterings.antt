@@ -4,18 +4,19 @@ use Rattle.fs_layout.specs.declared.inode.Inode.{Inode}
 use Rattle.fs_layout.specs.declared.place.Place.{Place}
 use Rattle.fs_layout.specs.Bytes.{SectorMap, IsSector}
 use Rattle.fs_layout.specs.Images.{bit, inode_bitmap}
-use Rattle.fs_layout.specs.InodeChanges.{Keeps, Puts}
+use Rattle.fs_layout.specs.InodeChanges.{Keeps, Puts, ChangesBlocks}
 use Rattle.fs_layout.proofs.Places.{after_map, before_data}
 use Rattle.fs_layout.proofs.Parts.{owns_acl, owns_default_acl}
 use Rattle.fs_layout.proofs.Bits.{inode_bit_kept, block_bit_kept}
 use Rattle.fs_layout.proofs.Blocks.{map_is_low}
 use Rattle.fs_layout.proofs.Composes.{apart_after, both_changes}
-use Rattle.sector_txn.specs.Sectors.{TxnState, SameStore}
+use Rattle.sector_txn.specs.Sectors.{TxnState, SameStore, IsUnchanged}
 use Rattle.bit_alloc.specs.declared.bitmap.Bitmap.{Bitmap}
 use Rattle.bit_alloc.specs.declared.bitmap.Bitmap.TheVariants.{Inodes, Blocks}
 use Rattle.bit_alloc.specs.Bitmaps.{HasBitmaps, IsNumber, bit_count, first_sector}
 use Rattle.bit_alloc.specs.Inodes.{KeepsFields, KeepsAcls}
 use Rattle.block_map.specs.Steps.{MayChange, Alters}
+use Rattle.block_map.proofs.Runs.{same_map}
 
 -- what is asked of one bitmap
 abbrev pub RestOf : Place → SectorMap → Bitmap → Type 0
@@ -91,3 +92,15 @@ may_after may a = record {
   fits = a.fits;
   used = λ e. may.used (sym a.fields.kind ∙ e);
 }
+
+-- after reads
+pub altered_after : {p : Place} {old start mid : TxnState} {v w : Inode} → IsUnchanged old start → Alters p start mid v w → Alters p old mid v w
+altered_after {p} {old} {start} {mid} {v} {w} same a =
+    let e : start.sectors ≡ old.sectors = same_map old.sectors start.sectors same.sectors in
+    record {
+      blocks = subst (λ (image : SectorMap). ChangesBlocks p v w image mid.sectors) e a.blocks;
+      fields = a.fields;
+      acls = subst (λ (image : SectorMap). KeepsAcls image mid.sectors v w) e a.acls;
+      bitmaps = a.bitmaps;
+      fits = a.fits;
+    }

@@ -1,93 +1,131 @@
--- Blocks are given back and dropped.
-use Rattle.std.proofs.Common.{◌≡◌, ◌≢◌, ℕ, zero, suc, ◌-◌, ◌*◌, ◌<◌, ◌≤◌, List, length, get_or, false, refl, sym, ap, subst, ◌∙◌, arith, inl, inr, ◌⊎◌, IsTrue}
+-- Blocks are dropped, with the sectors of pointers by which no other is found.
+use Rattle.std.proofs.Common.{◌≡◌, ◌≢◌, ℕ, zero, suc, ◌+◌, ◌-◌, ◌*◌, ◌/◌, ◌%◌, ◌<◌, ◌≤◌, List, false, refl, sym, ap, subst, ◌∙◌, arith, inl, inr, ◌⊎◌}
 use Rattle.std.specs.Prelude.{min}
 use Rattle.std.proofs.lemmas.Bool.{cases_eq, cases_lt}
-use Rattle.fs_layout.specs.declared.inode.TheConstants.{DIRECT_BLOCKS, INDIRECT_END, MAX_BLOCKS}
+use Rattle.fs_layout.specs.declared.inode.TheConstants.{DIRECT_BLOCKS, INDIRECT_END, MAX_BLOCKS, SECTOR_POINTERS}
 use Rattle.fs_layout.specs.declared.inode.Inode.{Inode}
 use Rattle.fs_layout.specs.declared.inode.Kind.TheVariants.{Free}
 use Rattle.fs_layout.specs.declared.place.Place.{Place}
 use Rattle.fs_layout.specs.Bytes.{SectorMap, IsSector, u32_of}
 use Rattle.fs_layout.specs.Inode.{FitsInode, inode_fits}
 use Rattle.fs_layout.specs.Place.{IsPlace}
-use Rattle.fs_layout.specs.Images.{number_on, pointer, first_block, Part, AccessAcl, DefaultAcl, OnLevel, Indirect, Block, part, Owns, bit, block_bitmap, map_bits, free_sectors}
-use Rattle.fs_layout.specs.InodeChanges.{IsOwnedApart, IsBlockMap}
-use Rattle.fs_layout.proofs.Bits.{not_both, has_bit, block_bit_kept}
+use Rattle.fs_layout.specs.Images.{pointer_in, own_count, holder, place_in_holder, number_on, pointer, first_block, HasPointers, Part, AccessAcl, DefaultAcl, OnLevel, part, Owns, bit, block_bitmap, map_bits, free_sectors}
+use Rattle.fs_layout.specs.InodeChanges.{IsOwnedApart}
+use Rattle.fs_layout.proofs.Bits.{has_bit, block_bit_kept, free_sectors_kept}
 use Rattle.fs_layout.proofs.Blocks.{map_is_low}
+use Rattle.fs_layout.proofs.Levels.{entry_kept, entry_there}
 use Rattle.fs_layout.proofs.Marks.{no_map}
-use Rattle.fs_layout.proofs.Held.{no_block_has_pointers}
-use Rattle.fs_layout.proofs.Parts.{number_on_indirect, owns_block, owns_indirect, owns_acl, owns_default_acl}
-use Rattle.fs_layout.proofs.Levels.{entry_there}
-use Rattle.fs_layout.proofs.Pointers.{number_on_past, no_number_on, pointer_direct, pointer_indirect, pointer_past, pointer_without}
-use Rattle.sector_txn.specs.Sectors.{TxnState, IsPut, PutsOnly}
-use Rattle.sector_txn.proofs.TransactionRuns.{changes_joined, changes_weaker, changes_put}
-use Rattle.bit_alloc.specs.declared.bitmap.Bitmap.TheVariants.{Blocks as BlockMap}
-use Rattle.bit_alloc.specs.Bitmaps.{HasBitmaps, GivesNumber, sector_of}
+use Rattle.fs_layout.proofs.Parts.{level_is_one, index_is_one, number_on_indirect, owns_on_level, owns_acl, owns_default_acl}
+use Rattle.fs_layout.proofs.Places.{after_map, before_data}
+use Rattle.fs_layout.proofs.Pointers.{number_on_double, number_on_held, number_on_past, no_number_on, pointer_direct}
+use Rattle.sector_txn.specs.Sectors.{TxnState, PutsOnly}
+use Rattle.sector_txn.proofs.TransactionRuns.{changes_beside, changes_joined, changes_weaker, store_joined}
+use Rattle.bit_alloc.specs.Bitmaps.{HasBitmaps}
 use Rattle.bit_alloc.specs.Room.{bitmaps}
+use Rattle.bit_alloc.proofs.Soundness.{bitmaps_kept}
 use Rattle.block_map.specs.Steps.{MayChange, IsStepSector}
-use Rattle.block_map.specs.Drops.{GivesNumbers, DropsBlocks}
-use Rattle.block_map.proofs.Alterings.{acls_kept, put_keeps_bitmaps}
-use Rattle.block_map.proofs.Givings.{free_after_give, give_puts, keeps_or_gives, past_is_hole}
-use Rattle.block_map.proofs.Writings.{acl_apart, default_apart, free_after_put}
+use Rattle.block_map.specs.Drops.{GivesParts, IsFor, CutsSector, ClearsNumbers, DropsBlocks, first_on}
+use Rattle.block_map.proofs.Alterings.{acls_kept}
+use Rattle.block_map.proofs.Givings.{first_serves, keeps_or_gives}
+use Rattle.block_map.proofs.Writings.{acl_apart, default_apart}
 
--- the inode with other pointers
-abbrev pub with_pointers : Inode → List ℕ → ℕ → Inode
-with_pointers v d u = record v { direct = d; indirect = u }
+-- ---- one level
+-- a level's numbers are those before f
+pub record HasFirst (old new : SectorMap) (v w : Inode) (level f : ℕ) : Type 0 where
+  pub kept : (i : ℕ) → i < f → number_on new w level i ≡ number_on old v level i
+  pub gone : (i : ℕ) → f ≤ i → number_on new w level i ≡ 0
 
--- Of v's pointers those before `first` are kept, and the others are 0, with the sectors' bits; the sector of pointers, u
--- then, stays or is given back.
-pub record Dropped (p : Place) (v : Inode) (first u : ℕ) (d : List ℕ) (old new : TxnState) : Type 0 where
-  pub tables : HasBitmaps p new
-  pub others : (s : ℕ) → (IsBlockMap p s → ⊥) → (v.indirect ≢ 0 → s ≢ v.indirect) → new.sectors s ≡ old.sectors s
-  pub whole : v.indirect ≢ 0 → IsSector (new.sectors v.indirect)
-  pub cleared : (k : ℕ) → first ≤ k → pointer old.sectors v k ≢ 0 → bit new.sectors block_bitmap (pointer old.sectors v k) ≡ false
-  pub indirect : (u ≡ v.indirect) ⊎ ((u ≡ 0) × (v.indirect ≢ 0 → bit new.sectors block_bitmap v.indirect ≡ false))
-  pub few : first ≤ DIRECT_BLOCKS → u ≡ 0
-  pub more : DIRECT_BLOCKS < first → u ≡ v.indirect
-  pub released : (s : ℕ) → s < map_bits p → IsTrue (bit old.sectors block_bitmap s) → bit new.sectors block_bitmap s ≡ false
-      → (s ≢ 0) × (((k : ℕ) × (first ≤ k) × (pointer old.sectors v k ≡ s)) ⊎ ((v.indirect ≡ s) × (u ≡ 0)))
-  pub set : (s : ℕ) → s < map_bits p → IsTrue (bit new.sectors block_bitmap s) → IsTrue (bit old.sectors block_bitmap s)
-  pub kept : (k : ℕ) → k < first → pointer new.sectors (with_pointers v d u) k ≡ pointer old.sectors v k
-  pub dropped : (k : ℕ) → first ≤ k → pointer new.sectors (with_pointers v d u) k ≡ 0
-  pub puts : PutsOnly (IsStepSector p) (bitmaps p) 1 old new
-  pub free : free_sectors p old.sectors ≤ free_sectors p new.sectors
+-- so it is in the inode and in the first g sectors of the level above
+pub record CutsLevel (old new : SectorMap) (v w : Inode) (level f g : ℕ) : Type 0 where
+  pub own_kept : (i : ℕ) → i < own_count level → i < f → number_on new w level i ≡ number_on old v level i
+  pub own_gone : (i : ℕ) → i < own_count level → f ≤ i → number_on new w level i ≡ 0
+  pub entry_kept : (i q : ℕ) → q < SECTOR_POINTERS → i < g → own_count level + SECTOR_POINTERS * i + q < f
+      → pointer_in new (number_on old v (suc level) i) q ≡ pointer_in old (number_on old v (suc level) i) q
+  pub entry_gone : (i q : ℕ) → q < SECTOR_POINTERS → i < g → f ≤ own_count level + SECTOR_POINTERS * i + q
+      → pointer_in new (number_on old v (suc level) i) q ≡ 0
 
--- the list of direct pointers, with zeros from `first` on
-pub record DropsDirect (first : ℕ) (old new : List ℕ) : Type 0 where
-  pub len : length new ≡ DIRECT_BLOCKS
-  pub before : (i : ℕ) → i < min first DIRECT_BLOCKS → get_or new i 0 ≡ get_or old i 0
-  pub after : (i : ℕ) → min first DIRECT_BLOCKS ≤ i → get_or new i 0 ≡ 0
+-- if these are all that are left of it
+pub cut_level : {old new : SectorMap} {v w : Inode} {f g : ℕ} (level : ℕ) → CutsLevel old new v w level f g → ((i : ℕ) → own_count level ≤ i → i < f → holder (own_count level) i < g)
+    → HasFirst old new v w (suc level) g → HasFirst old new v w level f
+cut_level {old} {new} {v} {w} {f} {g} level c reached above = record {
+  kept = λ i lt. elim (cases_lt i (own_count level)) [
+    | inl own ↦ c.own_kept i own lt
+    | inr ge ↦
+        let h : ℕ = holder (own_count level) i in
+        let q : ℕ = place_in_holder (own_count level) i in
+        number_on_held new w level i ge
+        ∙ ap (λ (s : ℕ). pointer_in new s q) (above.kept h (reached i ge lt))
+        ∙ c.entry_kept h q (omega arith) (reached i ge lt) (omega (arith, ge, lt))
+        ∙ sym (number_on_held old v level i ge)
+  ];
+  gone = λ i le. elim (cases_lt i (own_count level)) [
+    | inl own ↦ c.own_gone i own le
+    | inr ge ↦
+        let h : ℕ = holder (own_count level) i in
+        let q : ℕ = place_in_holder (own_count level) i in
+        number_on_held new w level i ge
+        ∙ elim (cases_lt h g) [
+          | inl lt ↦ ap (λ (s : ℕ). pointer_in new s q) (above.kept h lt) ∙ c.entry_gone h q (omega arith) lt (omega (arith, ge, le))
+          | inr past ↦ ap (λ (s : ℕ). pointer_in new s q) (above.gone h past)
+        ]
+  ];
+}
 
-pub drops_direct : {first m : ℕ} {old new : List ℕ} → m ≡ min first DIRECT_BLOCKS → length new ≡ DIRECT_BLOCKS → ((i : ℕ) → i < m → get_or new i 0 ≡ get_or old i 0)
-    → ((i : ℕ) → m ≤ i → get_or new i 0 ≡ 0) → DropsDirect first old new
-drops_direct is len before after = record { len = len; before = λ i lt. before i (omega (arith, is, lt)); after = λ i ge. after i (omega (arith, is, ge)) }
-
-dropped_parts : {p : Place} {v : Inode} {first u : ℕ} {d : List ℕ} {old new : TxnState} → Dropped p v first u d old new → (at : Part)
-    → (part new.sectors (with_pointers v d u) at ≡ part old.sectors v at)
-    ⊎ ((part new.sectors (with_pointers v d u) at ≡ 0) × (part old.sectors v at ≢ 0 → bit new.sectors block_bitmap (part old.sectors v at) ≡ false))
+-- ---- sectors are told apart
+pub numbers_apart : {p : Place} {image : SectorMap} {v : Inode} → IsOwnedApart p image v → (n m i j : ℕ) → (n ≢ m) ⊎ (i ≢ j) → number_on image v n i ≢ 0
+    → number_on image v n i ≢ number_on image v m j
 unfolding part
-dropped_parts g AccessAcl = inl refl
-dropped_parts g DefaultAcl = inl refl
-dropped_parts {first = first} g (OnLevel zero k) = elim (cases_lt k first) [ inl lt ↦ inl (g.kept k lt) | inr ge ↦ inr (g.dropped k ge, g.cleared k ge) ]
-dropped_parts {v = v} {u = u} {d} {old} {new} g (OnLevel (suc zero) i) = elim (cases_eq i 0) [
-  | inl e ↦
-      let w = with_pointers v d u in
-      let now : number_on new.sectors w 1 i ≡ u = ap (number_on new.sectors w 1) e ∙ number_on_indirect new.sectors w in
-      let was : number_on old.sectors v 1 i ≡ v.indirect = ap (number_on old.sectors v 1) e ∙ number_on_indirect old.sectors v in
-      elim g.indirect [
-        | inl same ↦ inl (now ∙ same ∙ sym was)
-        | inr gone ↦ inr (now ∙ gone.0, λ some. ap (bit new.sectors block_bitmap) was ∙ gone.1 (λ z. some (was ∙ z)))
+numbers_apart {image = image} {v} apart n m i j ne some e =
+    let same = apart.once (number_on image v n i) (record { at = OnLevel n i; is = refl; some = some }) (record { at = OnLevel m j; is = sym e; some = some }) in
+    elim ne [
+      | inl away ↦ away (level_is_one n m i j same)
+      | inr away ↦ away (index_is_one n m i j same)
+    ]
+
+-- ---- a sector of pointers is cut
+module _ {u from : ℕ} {x : List ℕ} {old new : TxnState} (c : CutsSector u from x old new) where
+  pub cut_others : (t : ℕ) → (u ≢ 0 → t ≢ u) → new.sectors t ≡ old.sectors t
+  cut_others t ne = c.puts.others t (λ w. ne w.1 w.0)
+
+  pub cut_whole : (t : ℕ) → IsSector (old.sectors t) → IsSector (new.sectors t)
+  cut_whole t whole = elim (cases_eq t u) [
+    | inr ne ↦ subst IsSector (sym (cut_others t (λ some. ne))) whole
+    | inl e ↦ elim (cases_eq u 0) [
+      | inl empty ↦ subst IsSector (sym (cut_others t (λ some. absurd (some empty)))) whole
+      | inr some ↦ elim (cases_eq from 0) [
+        | inl all ↦ subst IsSector (sym (c.kept all t)) whole
+        | inr few ↦ subst (λ (s : ℕ). IsSector (new.sectors s)) (sym e) (c.cut some few).whole
       ]
-  | inr ne ↦ inl (number_on_past new.sectors (with_pointers v d u) i (omega (arith, ne)) ∙ sym (number_on_past old.sectors v i (omega (arith, ne))))
-]
-dropped_parts {v = v} {u = u} {d} {old} {new} g (OnLevel (suc (suc level)) i) =
-    inl (no_number_on new.sectors (with_pointers v d u) level i ∙ sym (no_number_on old.sectors v level i))
+    ]
+  ]
 
-below_min : (k first : ℕ) → k < first → k < DIRECT_BLOCKS → k < min first DIRECT_BLOCKS
-below_min k first a b = omega (arith, a, b)
+  -- its first numbers stay
+  pub cut_before : (q : ℕ) → (u ≢ 0 → x ≡ old.sectors u) → (from ≢ 0 → q < from) → pointer_in new.sectors u q ≡ pointer_in old.sectors u q
+  cut_before q is low = elim (cases_eq u 0) [
+    | inl empty ↦ ap (λ (s : ℕ). pointer_in new.sectors s q) empty ∙ sym (ap (λ (s : ℕ). pointer_in old.sectors s q) empty)
+    | inr some ↦ elim (cases_eq from 0) [
+      | inl all ↦ entry_kept old.sectors new.sectors u q (λ has. c.kept all u)
+      | inr few ↦
+          entry_there new.sectors u q some ∙ (c.cut some few).before q (low few) ∙ ap (λ (r : List ℕ). u32_of r (4 * q)) (is some)
+          ∙ sym (entry_there old.sectors u q some)
+    ]
+  ]
 
-dropped_fits : {v : Inode} {first u : ℕ} {d : List ℕ} → FitsInode v → v.kind ≢ Free → DropsDirect first v.direct d → (u ≡ v.indirect) ⊎ (u ≡ 0) → FitsInode (with_pointers v d u)
+  -- and the others are 0
+  pub cut_after : (q : ℕ) → from ≢ 0 → from ≤ q → pointer_in new.sectors u q ≡ 0
+  cut_after q few high = elim (cases_eq u 0) [
+    | inl empty ↦ ap (λ (s : ℕ). pointer_in new.sectors s q) empty
+    | inr some ↦ entry_there new.sectors u q some ∙ (c.cut some few).after q high
+  ]
+
+-- ---- the inode
+-- the inode with other numbers
+abbrev pub with_numbers : Inode → List ℕ → ℕ → ℕ → Inode
+with_numbers v d a b = record v { direct = d; indirect = a; double_indirect = b }
+
+cleared_fits : {v : Inode} {first a b : ℕ} {d : List ℕ} → FitsInode v → v.kind ≢ Free → ClearsNumbers first v (with_numbers v d a b) → FitsInode (with_numbers v d a b)
 unfolding inode_fits
-dropped_fits {v} {first} {u} {d} fits used direct is = record {
+cleared_fits {v} {first} {a} {b} {d} fits used c = record {
   valid = record { numbers = fits.valid.numbers; free = λ e. absurd (used e) };
   mode = fits.mode;
   uid = fits.uid;
@@ -97,191 +135,213 @@ dropped_fits {v} {first} {u} {d} fits used direct is = record {
   parent = fits.parent;
   acl = fits.acl;
   default_acl = fits.default_acl;
-  direct_len = direct.len;
-  direct = λ i. elim (cases_lt i (min first DIRECT_BLOCKS)) [
-    | inl lt ↦ let e = direct.before i lt in let f = fits.direct i in omega (arith, e, f)
-    | inr ge ↦ let e = direct.after i ge in omega (arith, e)
+  direct_len = c.direct_len;
+  direct = λ i. elim (cases_lt i first) [
+    | inl lt ↦ let e = c.direct_kept i lt in let f = fits.direct i in omega (arith, e, f)
+    | inr ge ↦ let e = c.direct_gone i ge in omega (arith, e)
   ];
-  indirect = elim is [
-    | inl e ↦ let f = fits.indirect in omega (arith, e, f)
-    | inr e ↦ omega (arith, e)
+  indirect = elim (cases_lt DIRECT_BLOCKS first) [
+    | inl lt ↦ let e = c.indirect_kept lt in let f = fits.indirect in omega (arith, e, f)
+    | inr ge ↦ let e = c.indirect_gone ge in omega (arith, e)
+  ];
+  double_indirect = elim (cases_lt INDIRECT_END first) [
+    | inl lt ↦ let e = c.double_kept lt in let f = fits.double_indirect in omega (arith, e, f)
+    | inr ge ↦ let e = c.double_gone ge in omega (arith, e)
   ];
 }
 
--- so the blocks are dropped
-pub drops : {p : Place} {v : Inode} {first u : ℕ} {d : List ℕ} {old new : TxnState} → MayChange p old v → DropsDirect first v.direct d → Dropped p v first u d old new
-    → DropsBlocks p first old new v (with_pointers v d u)
-unfolding part
-drops {p} {v} {first} {u} {d} {old} {new} may direct g =
-    let place : IsPlace p = g.tables.place in
-    let apart : IsOwnedApart p old.sectors v = may.apart in
-    record {
-      alters = record {
-        blocks = keeps_or_gives place apart (record {
-          tables = g.tables.tables;
-          parts = dropped_parts g;
-          released = λ s few set clear.
-              let r = g.released s few set clear in
-              elim r.1 [
-                | inl w ↦ (Block w.0, w.2, g.dropped w.0 w.1, r.0)
-                | inr is ↦ (Indirect, number_on_indirect old.sectors v ∙ is.0, number_on_indirect new.sectors (with_pointers v d u) ∙ is.1, r.0)
-              ];
-          set = g.set;
-          whole = λ s o. elim (cases_eq s v.indirect) [
-            | inl e ↦ subst (λ (t : ℕ). IsSector (new.sectors t)) (sym e) (g.whole (λ z. o.some (e ∙ z)))
-            | inr ne ↦ subst IsSector (sym (g.others s (no_map place apart s o) (λ some. ne))) (apart.whole s o)
-          ];
-          others = λ s ban map. g.others s map (λ some e. ban (subst (Owns old.sectors v) (sym e) (owns_indirect old.sectors v some)));
-        });
-        fields = record { kind = refl; mode = refl; uid = refl; gid = refl; names = refl; parent = refl };
-        acls = acls_kept refl refl
-            (λ some. g.others v.acl (no_map place apart v.acl (owns_acl old.sectors v some)) (λ has. acl_apart apart has))
-            (λ some. g.others v.default_acl (no_map place apart v.default_acl (owns_default_acl old.sectors v some)) (λ has. default_apart apart has));
-        bitmaps = g.tables;
-        fits = dropped_fits may.fits may.used direct (elim g.indirect [ inl e ↦ inl e | inr w ↦ inr w.0 ]);
-      };
-      puts = g.puts;
-      size = refl;
-      dropped = gone;
-      kept = stays;
-      content = λ k lt some. g.others (pointer old.sectors v k) (no_map place apart (pointer old.sectors v k) (owns_block old.sectors v k some)) (λ has. no_block_has_pointers apart k some);
-      free = g.free;
-    }
-  where
-    gone : (level i : ℕ) → first ≤ first_block level i → number_on new.sectors (with_pointers v d u) level i ≡ 0
-    gone zero k le = g.dropped k le
-    gone (suc zero) i le = elim (cases_eq i 0) [
-      | inl e ↦ ap (number_on new.sectors (with_pointers v d u) 1) e ∙ number_on_indirect new.sectors (with_pointers v d u) ∙ g.few (let z = le in omega (arith, z, e))
-      | inr ne ↦ number_on_past new.sectors (with_pointers v d u) i (omega (arith, ne))
-    ]
-    gone (suc (suc level)) i le = no_number_on new.sectors (with_pointers v d u) level i
+-- ---- all of it
+module _ {p : Place} {v : Inode} {first a b u0 u1 from0 from1 : ℕ} {d x0 x1 : List ℕ} {old given cut new : TxnState} (may : MayChange p old v) (few : first ≤ MAX_BLOCKS)
+    (is0 : u0 ≡ number_on old.sectors v 1 ((first - DIRECT_BLOCKS) / SECTOR_POINTERS)) (has0 : HasPointers old.sectors v 1 ((first - DIRECT_BLOCKS) / SECTOR_POINTERS) x0)
+    (is1 : u1 ≡ number_on old.sectors v 2 0) (has1 : HasPointers old.sectors v 2 0 x1)
+    (g : GivesParts p v (IsFor first) old given) (at0 : from0 ≡ (first - DIRECT_BLOCKS) % SECTOR_POINTERS) (c0 : CutsSector u0 from0 x0 given cut)
+    (at1 : from1 ≡ (first_on 1 first - 1) % SECTOR_POINTERS) (c1 : CutsSector u1 from1 x1 cut new) (c : ClearsNumbers first v (with_numbers v d a b)) where
+  abbrev w : Inode
+  w = with_numbers v d a b
 
-    stays : (level i : ℕ) → first_block level i < first → number_on new.sectors (with_pointers v d u) level i ≡ number_on old.sectors v level i
-    stays zero k lt = g.kept k lt
-    stays (suc zero) i lt = elim (cases_eq i 0) [
+  place : IsPlace p
+  place = g.tables.place
+
+  apart : IsOwnedApart p old.sectors v
+  apart = may.apart
+
+  -- what is the same
+  given_same : (s : ℕ) → Owns old.sectors v s → given.sectors s ≡ old.sectors s
+  given_same s o = g.others s (no_map place apart s o)
+
+  own0 : u0 ≢ 0 → Owns old.sectors v u0
+  own0 some = subst (λ (s : ℕ). Owns old.sectors v s) (sym is0) (owns_on_level old.sectors v 1 ((first - DIRECT_BLOCKS) / SECTOR_POINTERS) (λ e. some (is0 ∙ e)))
+
+  own1 : u1 ≢ 0 → Owns old.sectors v u1
+  own1 some = subst (λ (s : ℕ). Owns old.sectors v s) (sym is1) (owns_on_level old.sectors v 2 0 (λ e. some (is1 ∙ e)))
+
+  others : (s : ℕ) → (u0 ≢ 0 → s ≢ u0) → (u1 ≢ 0 → s ≢ u1) → new.sectors s ≡ given.sectors s
+  others s ne0 ne1 = cut_others c1 s ne1 ∙ cut_others c0 s ne0
+
+  owned_same : (s : ℕ) → Owns old.sectors v s → s ≢ u0 → s ≢ u1 → new.sectors s ≡ old.sectors s
+  owned_same s o ne0 ne1 = others s (λ some. ne0) (λ some. ne1) ∙ given_same s o
+
+  low : (s : ℕ) → s < p.first_data → new.sectors s ≡ given.sectors s
+  low s lt =
+      others s (λ some e. let ge = (apart.each u0 (own0 some)).0 in omega (arith, lt, ge, e)) (λ some e. let ge = (apart.each u1 (own1 some)).0 in omega (arith, lt, ge, e))
+
+  bits : (s : ℕ) → s < map_bits p → bit new.sectors block_bitmap s ≡ bit given.sectors block_bitmap s
+  bits s small = block_bit_kept p given.sectors new.sectors s small (λ t m. low t (map_is_low place t m))
+
+  -- the content of the sectors of pointers that are cut
+  content0 : u0 ≢ 0 → x0 ≡ given.sectors u0
+  content0 some = has0.is (λ e. some (is0 ∙ e)) ∙ ap old.sectors (sym is0) ∙ sym (given_same u0 (own0 some))
+
+  differ : u1 ≢ 0 → u1 ≢ u0
+  differ some e = numbers_apart apart 2 1 0 ((first - DIRECT_BLOCKS) / SECTOR_POINTERS) (inl (λ z. absurd (let y = z in omega (arith, y)))) (λ z. some (is1 ∙ z)) (sym is1 ∙ e ∙ is0)
+
+  cut_same1 : u1 ≢ 0 → cut.sectors u1 ≡ old.sectors u1
+  cut_same1 some = cut_others c0 u1 (λ has. differ some) ∙ given_same u1 (own1 some)
+
+  content1 : u1 ≢ 0 → x1 ≡ cut.sectors u1
+  content1 some = has1.is (λ e. some (is1 ∙ e)) ∙ ap old.sectors (sym is1) ∙ sym (cut_same1 some)
+
+  -- the entries of the lower one
+  then0 : (q : ℕ) → pointer_in new.sectors u0 q ≡ pointer_in cut.sectors u0 q
+  then0 q = entry_kept cut.sectors new.sectors u0 q (λ some. cut_others c1 u0 (λ has e. differ has (sym e)))
+
+  before0 : (q : ℕ) → pointer_in given.sectors u0 q ≡ pointer_in old.sectors u0 q
+  before0 q = entry_kept old.sectors given.sectors u0 q (λ some. given_same u0 (own0 some))
+
+  before1 : (q : ℕ) → pointer_in cut.sectors u1 q ≡ pointer_in old.sectors u1 q
+  before1 q = entry_kept old.sectors cut.sectors u1 q cut_same1
+
+  -- level by level
+  top : HasFirst old.sectors new.sectors v w 2 (first_on 2 first)
+  top = record {
+    kept = λ i lt. elim (cases_eq i 0) [
+      | inl e ↦ ap (number_on new.sectors w 2) e ∙ number_on_double new.sectors w ∙ c.double_kept (omega (arith, lt)) ∙ sym (ap (number_on old.sectors v 2) e ∙ number_on_double old.sectors v)
+      | inr ne ↦ number_on_past new.sectors w i (omega (arith, ne)) ∙ sym (number_on_past old.sectors v i (omega (arith, ne)))
+    ];
+    gone = λ i le. elim (cases_eq i 0) [
+      | inl e ↦ ap (number_on new.sectors w 2) e ∙ number_on_double new.sectors w ∙ c.double_gone (let z = le in omega (arith, z, e, few))
+      | inr ne ↦ number_on_past new.sectors w i (omega (arith, ne))
+    ];
+  }
+
+  sector1 : (i : ℕ) → i < first_on 2 first → number_on old.sectors v 2 i ≡ u1
+  sector1 i lt = let z : i ≡ 0 = omega (arith, lt, few) in ap (number_on old.sectors v 2) z ∙ sym is1
+
+  middle : HasFirst old.sectors new.sectors v w 1 (first_on 1 first)
+  middle = cut_level 1 (record {
+    own_kept = λ i own lt.
+        let e : i ≡ 0 = omega (arith, own) in
+        ap (number_on new.sectors w 1) e ∙ number_on_indirect new.sectors w ∙ c.indirect_kept (omega (arith, lt)) ∙ sym (ap (number_on old.sectors v 1) e ∙ number_on_indirect old.sectors v);
+    own_gone = λ i own le.
+        let e : i ≡ 0 = omega (arith, own) in
+        ap (number_on new.sectors w 1) e ∙ number_on_indirect new.sectors w ∙ c.indirect_gone (let z = le in omega (arith, z, e));
+    entry_kept = λ i q small lt far.
+        ap (λ (s : ℕ). pointer_in new.sectors s q) (sector1 i lt)
+        ∙ cut_before c1 q content1 (λ some. omega (arith, at1, some, far, small, few, lt))
+        ∙ before1 q
+        ∙ sym (ap (λ (s : ℕ). pointer_in old.sectors s q) (sector1 i lt));
+    entry_gone = λ i q small lt le.
+        ap (λ (s : ℕ). pointer_in new.sectors s q) (sector1 i lt)
+        ∙ cut_after c1 q (λ e. absurd (omega (arith, at1, e, le, small, few, lt))) (omega (arith, at1, le, small, few, lt));
+  }) (λ i ge lt. omega (arith, ge, lt)) top
+
+  bottom : HasFirst old.sectors new.sectors v w 0 first
+  bottom = cut_level 0 (record {
+    own_kept = λ i own lt. pointer_direct new.sectors w i own ∙ c.direct_kept i lt ∙ sym (pointer_direct old.sectors v i own);
+    own_gone = λ i own le. pointer_direct new.sectors w i own ∙ c.direct_gone i le;
+    entry_kept = λ i q small lt far. elim (cases_eq i ((first - DIRECT_BLOCKS) / SECTOR_POINTERS)) [
       | inl e ↦
-          ap (number_on new.sectors (with_pointers v d u) 1) e ∙ number_on_indirect new.sectors (with_pointers v d u)
-          ∙ g.more (let z = lt in omega (arith, z, e)) ∙ sym (ap (number_on old.sectors v 1) e ∙ number_on_indirect old.sectors v)
-      | inr ne ↦ number_on_past new.sectors (with_pointers v d u) i (omega (arith, ne)) ∙ sym (number_on_past old.sectors v i (omega (arith, ne)))
-    ]
-    stays (suc (suc level)) i lt = no_number_on new.sectors (with_pointers v d u) level i ∙ sym (no_number_on old.sectors v level i)
+          let s : number_on old.sectors v 1 i ≡ u0 = ap (number_on old.sectors v 1) e ∙ sym is0 in
+          ap (λ (s : ℕ). pointer_in new.sectors s q) s ∙ then0 q ∙ cut_before c0 q content0 (λ some. omega (arith, at0, far, e)) ∙ before0 q
+          ∙ sym (ap (λ (s : ℕ). pointer_in old.sectors s q) s)
+      | inr ne ↦
+          entry_kept old.sectors new.sectors (number_on old.sectors v 1 i) q (λ some.
+          owned_same (number_on old.sectors v 1 i) (owns_on_level old.sectors v 1 i some)
+          (λ e. numbers_apart apart 1 1 i ((first - DIRECT_BLOCKS) / SECTOR_POINTERS) (inr ne) some (e ∙ is0))
+          (λ e. numbers_apart apart 1 2 i 0 (inl (λ z. absurd (let y = z in omega (arith, y)))) some (e ∙ is1)))
+    ];
+    entry_gone = λ i q small lt le.
+        let e : i ≡ (first - DIRECT_BLOCKS) / SECTOR_POINTERS = omega (arith, lt, le, small) in
+        ap (λ (s : ℕ). pointer_in new.sectors s q) (ap (number_on old.sectors v 1) e ∙ sym is0) ∙ then0 q
+        ∙ cut_after c0 q (λ z. absurd (omega (arith, at0, z, lt, le, small))) (omega (arith, at0, lt, le, small));
+  }) (λ i ge lt. omega (arith, ge, lt)) middle
 
--- ---- a direct block of the inode that has other pointers
-direct_kept : (v : Inode) {first : ℕ} (u : ℕ) {d : List ℕ} → DropsDirect first v.direct d → (old new : SectorMap) → (k : ℕ) → k < first → k < DIRECT_BLOCKS
-    → pointer new (with_pointers v d u) k ≡ pointer old v k
-direct_kept v {first} u {d} direct old new k lt low =
-    pointer_direct new (with_pointers v d u) k low ∙ direct.before k (below_min k first lt low) ∙ sym (pointer_direct old v k low)
+  pub stays : (level i : ℕ) → first_block level i < first → number_on new.sectors w level i ≡ number_on old.sectors v level i
+  stays zero i lt = bottom.kept i lt
+  stays (suc zero) i lt = middle.kept i (omega (arith, lt))
+  stays (suc (suc zero)) i lt = top.kept i (omega (arith, lt))
+  stays (suc (suc (suc level))) i lt = no_number_on new.sectors w level i ∙ sym (no_number_on old.sectors v level i)
 
-direct_dropped : (v : Inode) {first : ℕ} (u : ℕ) {d : List ℕ} → DropsDirect first v.direct d → (new : SectorMap) → (k : ℕ) → first ≤ k → k < DIRECT_BLOCKS
-    → pointer new (with_pointers v d u) k ≡ 0
-direct_dropped v {first} u {d} direct new k ge low = pointer_direct new (with_pointers v d u) k low ∙ direct.after k (omega (arith, ge, low))
+  pub gone : (level i : ℕ) → first ≤ first_block level i → number_on new.sectors w level i ≡ 0
+  gone zero i le = bottom.gone i le
+  gone (suc zero) i le = middle.gone i ((first_serves 1 i first few (omega arith)).0 le)
+  gone (suc (suc zero)) i le = top.gone i ((first_serves 2 i first few (omega arith)).0 le)
+  gone (suc (suc (suc level))) i le = no_number_on new.sectors w level i
 
-same_puts : (p : Place) {old new : TxnState} → PutsOnly (IsStepSector p) (bitmaps p) 0 old new → PutsOnly (IsStepSector p) (bitmaps p) 1 old new
-same_puts p puts = changes_weaker {Q = IsStepSector p} (λ t r. r) (omega arith) puts
+  parts : (at : Part) → (part new.sectors w at ≡ part old.sectors v at) ⊎ ((part new.sectors w at ≡ 0) × (part old.sectors v at ≢ 0 → bit new.sectors block_bitmap (part old.sectors v at) ≡ false))
+  unfolding part
+  parts AccessAcl = inl refl
+  parts DefaultAcl = inl refl
+  parts (OnLevel level i) = elim (cases_lt (first_block level i) first) [
+    | inl lt ↦ inl (stays level i lt)
+    | inr le ↦ inr (
+      gone level i le,
+      λ some.
+          let s = number_on old.sectors v level i in
+          bits s (has_bit place s (apart.each s (owns_on_level old.sectors v level i some)).1) ∙ g.cleared (OnLevel level i) le some,
+    )
+  ]
 
--- the inode has no sector of pointers
-pub dropped_direct : {p : Place} {v : Inode} {first : ℕ} {d : List ℕ} {old new : TxnState} → GivesNumbers p v 0 first MAX_BLOCKS old new → DropsDirect first v.direct d → v.indirect ≡ 0
-    → Dropped p v first v.indirect d old new
-dropped_direct {p} {v} {first} {d} {old} {new} g direct none = record {
-  tables = g.tables;
-  others = λ s ban ne. g.others s ban;
-  whole = λ some. absurd (some none);
-  cleared = λ k low some. g.cleared k low (past_is_hole old.sectors v k some) some;
-  indirect = inl refl;
-  few = λ le. none;
-  more = λ far. refl;
-  released = λ s few set clear. let w = g.released s few set clear in (w.4, inl (w.0, w.1, w.3));
-  set = g.set;
-  kept = λ k lt. elim (cases_lt k DIRECT_BLOCKS) [
-    | inl low ↦ direct_kept v v.indirect direct old.sectors new.sectors k lt low
-    | inr high ↦ pointer_without new.sectors (with_pointers v d v.indirect) k high none ∙ sym (pointer_without old.sectors v k high none)
-  ];
-  dropped = λ k ge. elim (cases_lt k DIRECT_BLOCKS) [
-    | inl low ↦ direct_dropped v v.indirect direct new.sectors k ge low
-    | inr high ↦ pointer_without new.sectors (with_pointers v d v.indirect) k high none
-  ];
-  puts = same_puts p g.puts;
-  free = g.free;
-}
+  gone_part : (at : Part) → IsFor first at → part new.sectors w at ≡ 0
+  unfolding part
+  gone_part AccessAcl here = absurd here
+  gone_part DefaultAcl here = absurd here
+  gone_part (OnLevel level i) here = gone level i here
 
--- it has one, which is given back too
-pub dropped_pointers : {p : Place} {v : Inode} {first : ℕ} {d : List ℕ} {old mid new : TxnState} → IsOwnedApart p old.sectors v → GivesNumbers p v 0 first MAX_BLOCKS old mid
-    → DropsDirect first v.direct d → v.indirect ≢ 0 → first ≤ DIRECT_BLOCKS
-    → GivesNumber p BlockMap v.indirect mid.sectors new.sectors → HasBitmaps p new → PutsOnly (λ t. t ≡ sector_of BlockMap v.indirect) (bitmaps p) 0 mid new
-    → Dropped p v first 0 d old new
-dropped_pointers {p} {v} {first} {d} {old} {mid} {new} apart g direct has less given bits puts =
-    let place : IsPlace p = g.tables.place in
-    let few : v.indirect < map_bits p = has_bit place v.indirect (apart.each v.indirect (owns_indirect old.sectors v has)).1 in
-    let same : (s : ℕ) → (IsBlockMap p s → ⊥) → new.sectors s ≡ old.sectors s = λ s ban. given.mark.others s ban ∙ g.others s ban in
-    record {
-      tables = bits;
-      others = λ s ban ne. same s ban;
-      whole = λ some.
-          subst IsSector (sym (same v.indirect (no_map place apart v.indirect (owns_indirect old.sectors v some)))) (apart.whole v.indirect (owns_indirect old.sectors v some));
-      cleared = λ k low some.
-          given.mark.bits (pointer old.sectors v k) (has_bit place (pointer old.sectors v k) (apart.each (pointer old.sectors v k) (owns_block old.sectors v k some)).1)
-          (no_block_has_pointers apart k some) ∙ g.cleared k low (past_is_hole old.sectors v k some) some;
-      indirect = inr (refl, λ some. given.clear);
-      few = λ le. refl;
-      more = λ far. absurd (omega (arith, far, less));
-      released = λ s small set clear. elim (cases_eq s v.indirect) [
-        | inl e ↦ (λ z. has (sym e ∙ z), inr (sym e, refl))
-        | inr ne ↦ let w = g.released s small set (sym (given.mark.bits s small ne) ∙ clear) in (w.4, inl (w.0, w.1, w.3))
-      ];
-      set = λ s small set. elim (cases_eq s v.indirect) [
-        | inl e ↦ absurd (not_both set (ap (bit new.sectors block_bitmap) e ∙ given.clear))
-        | inr ne ↦ g.set s small (sym (given.mark.bits s small ne) ∙ set)
-      ];
-      kept = λ k lt. direct_kept v 0 direct old.sectors new.sectors k lt (omega (arith, lt, less));
-      dropped = λ k ge. elim (cases_lt k DIRECT_BLOCKS) [
-        | inl low ↦ direct_dropped v 0 direct new.sectors k ge low
-        | inr high ↦ pointer_without new.sectors (with_pointers v d 0) k high refl
-      ];
-      puts = same_puts p (changes_joined g.puts (give_puts p few puts));
-      free = let a = g.free in let b = free_after_give given place in omega (arith, a, b);
-    }
+  data_puts : {u from more : ℕ} {x : List ℕ} {s t : TxnState} → CutsSector u from x s t → (u ≢ 0 → Owns old.sectors v u) → min from 1 ≤ more
+      → PutsOnly (IsStepSector p) (bitmaps p) more s t
+  data_puts {u} k own few =
+      changes_weaker {Q = IsStepSector p} (λ n r. let d = apart.each u (own r.1) in let e = r.0 in inr (omega (arith, d.0, e), omega (arith, d.1, e))) few (changes_beside k.puts (bitmaps p))
 
--- it has one, which other blocks still need
-pub dropped_entries : {p : Place} {v : Inode} {first : ℕ} {d x y : List ℕ} {old mid new : TxnState} → IsOwnedApart p old.sectors v → GivesNumbers p v 0 first MAX_BLOCKS old mid
-    → DropsDirect first v.direct d → v.indirect ≢ 0 → DIRECT_BLOCKS < first → x ≡ old.sectors v.indirect
-    → ((i : ℕ) → i < first - DIRECT_BLOCKS → u32_of y (4 * i) ≡ u32_of x (4 * i)) → ((i : ℕ) → first - DIRECT_BLOCKS ≤ i → u32_of y (4 * i) ≡ 0) → IsSector y
-    → IsPut v.indirect y mid new → Dropped p v first v.indirect d old new
-dropped_entries {p} {v} {first} {d} {x} {y} {old} {mid} {new} apart g direct has more loaded before after whole put =
-    let place : IsPlace p = g.tables.place in
-    let o : Owns old.sectors v v.indirect = owns_indirect old.sectors v has in
-    let ge : p.first_data ≤ v.indirect = (apart.each v.indirect o).0 in
-    let bits : (s : ℕ) → s < map_bits p → bit new.sectors block_bitmap s ≡ bit mid.sectors block_bitmap s =
-    λ s few. block_bit_kept p mid.sectors new.sectors s few (λ t m. put.sectors.others t (λ e. let low = map_is_low place t m in omega (arith, low, ge, e))) in
-    let few_of : (k : ℕ) → pointer old.sectors v k ≢ 0 → pointer old.sectors v k < map_bits p =
-    λ k some. has_bit place (pointer old.sectors v k) (apart.each (pointer old.sectors v k) (owns_block old.sectors v k some)).1 in
-    let now : (k : ℕ) → DIRECT_BLOCKS ≤ k → k < INDIRECT_END → pointer new.sectors (with_pointers v d v.indirect) k ≡ u32_of y (4 * (k - DIRECT_BLOCKS)) =
-    λ k high low. pointer_indirect new.sectors (with_pointers v d v.indirect) k high low ∙ entry_there new.sectors v.indirect (k - DIRECT_BLOCKS) has ∙ ap (λ (s : List ℕ). u32_of s (4 * (k - DIRECT_BLOCKS))) put.sectors.here in
-    let was : (k : ℕ) → DIRECT_BLOCKS ≤ k → k < INDIRECT_END → pointer old.sectors v k ≡ u32_of x (4 * (k - DIRECT_BLOCKS)) =
-    λ k high low. pointer_indirect old.sectors v k high low ∙ entry_there old.sectors v.indirect (k - DIRECT_BLOCKS) has ∙ ap (λ (s : List ℕ). u32_of s (4 * (k - DIRECT_BLOCKS))) (sym loaded) in
-    record {
-      tables = put_keeps_bitmaps g.tables put.store ge put.sectors;
-      others = λ s ban ne. put.sectors.others s (ne has) ∙ g.others s ban;
-      whole = λ some. subst IsSector (sym put.sectors.here) whole;
-      cleared = λ k low some. bits (pointer old.sectors v k) (few_of k some) ∙ g.cleared k low (past_is_hole old.sectors v k some) some;
-      indirect = inl refl;
-      few = λ le. absurd (omega (arith, le, more));
-      more = λ far. refl;
-      released = λ s small set clear. let w = g.released s small set (sym (bits s small) ∙ clear) in (w.4, inl (w.0, w.1, w.3));
-      set = λ s small set. g.set s small (sym (bits s small) ∙ set);
-      kept = λ k lt. elim (cases_lt k DIRECT_BLOCKS) [
-        | inl low ↦ direct_kept v v.indirect direct old.sectors new.sectors k lt low
-        | inr high ↦ elim (cases_lt k INDIRECT_END) [
-          | inl most ↦ now k high most ∙ before (k - DIRECT_BLOCKS) (omega (arith, lt, high)) ∙ sym (was k high most)
-          | inr past ↦ pointer_past new.sectors (with_pointers v d v.indirect) k past ∙ sym (pointer_past old.sectors v k past)
-        ]
-      ];
-      dropped = λ k from. elim (cases_lt k DIRECT_BLOCKS) [
-        | inl low ↦ direct_dropped v v.indirect direct new.sectors k from low
-        | inr high ↦ elim (cases_lt k INDIRECT_END) [
-          | inl most ↦ now k high most ∙ after (k - DIRECT_BLOCKS) (omega (arith, from, high))
-          | inr past ↦ pointer_past new.sectors (with_pointers v d v.indirect) k past
-        ]
-      ];
-      puts = changes_put {R = IsStepSector p} {more = 0} g.puts put (inr (ge, (apart.each v.indirect o).1));
-      free = let a = g.free in let b = free_after_put place ge put.sectors in omega (arith, a, b);
-    }
+  pub drops : DropsBlocks p first old new v (with_numbers v d a b)
+  drops = record {
+    alters = record {
+      blocks = keeps_or_gives place apart (record {
+        tables = tables_now.tables;
+        parts = parts;
+        released = λ s small set clear. let r = g.released s small set (sym (bits s small) ∙ clear) in (r.0, r.2, gone_part r.0 r.1, r.3);
+        set = λ s small set. g.set s small (sym (bits s small) ∙ set);
+        whole = λ s o. cut_whole c1 s (cut_whole c0 s (subst IsSector (sym (given_same s o)) (apart.whole s o)));
+        others = λ s ban map.
+            others s (λ some e. ban (subst (λ (t : ℕ). Owns old.sectors v t) (sym e) (own0 some))) (λ some e. ban (subst (λ (t : ℕ). Owns old.sectors v t) (sym e) (own1 some)))
+            ∙ g.others s map;
+      });
+      fields = record { kind = refl; mode = refl; uid = refl; gid = refl; names = refl; parent = refl };
+      acls = acls_kept refl refl
+          (λ some. owned_same v.acl (owns_acl old.sectors v some)
+          (λ e. acl_apart apart 0 ((first - DIRECT_BLOCKS) / SECTOR_POINTERS) (λ z. some (e ∙ is0 ∙ z)) (e ∙ is0)) (λ e. acl_apart apart 1 0 (λ z. some (e ∙ is1 ∙ z)) (e ∙ is1)))
+          (λ some. owned_same v.default_acl (owns_default_acl old.sectors v some)
+          (λ e. default_apart apart 0 ((first - DIRECT_BLOCKS) / SECTOR_POINTERS) (λ z. some (e ∙ is0 ∙ z)) (e ∙ is0)) (λ e. default_apart apart 1 0 (λ z. some (e ∙ is1 ∙ z)) (e ∙ is1)));
+      bitmaps = tables_now;
+      fits = cleared_fits may.fits may.used c;
+    };
+    puts =
+        let cuts : PutsOnly (IsStepSector p) (bitmaps p) (1 + min (first_on 1 first - 1) 1) given new =
+        changes_joined (data_puts c0 own0 (omega arith)) (data_puts c1 own1 (omega (arith, at1))) in
+        changes_weaker {Q = IsStepSector p} (λ n r. r) (omega arith) (changes_joined g.puts cuts);
+    size = refl;
+    dropped = gone;
+    kept = stays;
+    content = λ k lt some. owned_same (pointer old.sectors v k) (owns_on_level old.sectors v 0 k some)
+        (λ e. numbers_apart apart 0 1 k ((first - DIRECT_BLOCKS) / SECTOR_POINTERS) (inl (λ z. absurd (let y = z in omega (arith, y)))) some (e ∙ is0))
+        (λ e. numbers_apart apart 0 2 k 0 (inl (λ z. absurd (let y = z in omega (arith, y)))) some (e ∙ is1));
+    free =
+        let f = g.free in
+        let e : free_sectors p new.sectors ≡ free_sectors p given.sectors = free_sectors_kept p given.sectors new.sectors (λ s at. bits s (has_bit place s at.1)) in
+        omega (arith, f, e);
+  }
+    where
+      tables_now : HasBitmaps p new
+      tables_now =
+          bitmaps_kept p given new g.tables (store_joined c0.puts.store c1.puts.store) (λ s from to. low s (let d = before_data place in omega (arith, to, d)))
+          (λ s from to. subst IsSector (sym (low s to)) (g.tables.tables s (let m = after_map place in omega (arith, from, m)) to))

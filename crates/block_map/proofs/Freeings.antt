@@ -31,7 +31,7 @@ use Rattle.bit_alloc.proofs.Transactions.{map_unchanged}
 use Rattle.inode_table.specs.Storing.{IsForAcl, GivesBack}
 use Rattle.inode_table.proofs.Sound.{puts_nothing, puts_acl, puts_inode_bit, puts_inode}
 use Rattle.inode_table.proofs.Stores.{HasStored, stored}
-use Rattle.block_map.specs.Drops.{GivesAll, emptied}
+use Rattle.block_map.specs.Drops.{GivesParts, IsFor, emptied}
 use Rattle.block_map.specs.Steps.{MayChange}
 use Rattle.block_map.proofs.Givings.{emptied_blocks}
 use Rattle.block_map.proofs.Saving.{puts_steps}
@@ -64,7 +64,7 @@ module _ {p : Place} {n : ℕ} {v : Inode} {t0 t1 t2 : TxnState} (sound : IsSoun
     used = λ e. used (ap (λ (u : Inode). u.kind) (sym is) ∙ e);
   }
 
-  module _ {t3 : TxnState} (all : GivesAll p v t2 t3) where
+  module _ {t3 : TxnState} (all : GivesParts p v (IsFor 0) t2 t3) where
     pub given_puts : PutsOnly (IsSectorFor p n) (bitmaps p) 0 t0 t3
     given_puts = changes_joined cleared_puts (puts_steps p n all.puts)
 
@@ -99,7 +99,7 @@ module _ {p : Place} {n : ℕ} {v : Inode} {t0 t1 t2 : TxnState} (sound : IsSoun
 
           none : HasNoSector (record (emptied v) { acl = 0; default_acl = 0 })
           unfolding zeros
-          none = record { acl = refl; default_acl = refl; direct = get_or-zeros DIRECT_BLOCKS; indirect = refl }
+          none = record { acl = refl; default_acl = refl; direct = get_or-zeros DIRECT_BLOCKS; indirect = refl; double_indirect = refl }
 
           frees : ChangesBlocks p v free_inode t2.sectors t5.sectors
           frees =

@@ -1,18 +1,17 @@
 -- Sectors of blocks and of pointers are given back, one after the other.
 use Rattle.std.proofs.Common.{◌≡◌, ◌≢◌, ℕ, zero, suc, ◌+◌, ◌/◌, ◌%◌, [], ◌≤◌, ◌<◌, false, refl, sym, ap, subst, ◌∙◌, arith, inl, inr, ◌⊎◌, IsTrue}
 use Rattle.std.proofs.lemmas.Bool.{cases_eq, cases_lt}
-use Rattle.fs_layout.specs.declared.inode.TheConstants.{DIRECT_BLOCKS, MAX_BLOCKS}
+use Rattle.fs_layout.specs.declared.inode.TheConstants.{DIRECT_BLOCKS, MAX_BLOCKS, SECTOR_POINTERS}
 use Rattle.fs_layout.specs.declared.inode.Inode.{Inode}
 use Rattle.fs_layout.specs.declared.place.Place.{Place}
 use Rattle.fs_layout.specs.Bytes.{SectorMap, IsSector, zeros}
 use Rattle.fs_layout.specs.Inode.{FitsInode, inode_fits}
 use Rattle.fs_layout.specs.Place.{IsPlace}
-use Rattle.fs_layout.specs.Images.{HasWholeTables, number_on, pointer, Part, AccessAcl, DefaultAcl, OnLevel, Indirect, Block, part, Owns, Holds, byte_in, byte_at, bit, block_bitmap, map_bits, free_sectors}
-use Rattle.fs_layout.specs.InodeChanges.{IsOwnedApart, IsBlockMap, ChangesBlocks}
+use Rattle.fs_layout.specs.Images.{HasWholeTables, pointer_in, holder, place_in_holder, number_on, first_block, Part, AccessAcl, DefaultAcl, OnLevel, part, Owns, Holds, byte_in, byte_at, bit, block_bitmap, map_bits, free_sectors}
+use Rattle.fs_layout.specs.InodeChanges.{Keeps, IsOwnedApart, IsBlockMap, ChangesBlocks}
 use Rattle.fs_layout.proofs.Bits.{set_or_clear, not_both, has_bit, free_sectors_kept}
-use Rattle.fs_layout.proofs.Parts.{number_on_indirect, owns_block, owns_on_level, owns_indirect}
-use Rattle.fs_layout.proofs.Held.{no_block_has_pointers}
-use Rattle.fs_layout.proofs.Pointers.{number_on_past, no_number_on, pointer_direct, pointer_past, pointer_without}
+use Rattle.fs_layout.proofs.Parts.{number_on_indirect, number_on_kept, owned_before, owns_part, part_kept}
+use Rattle.fs_layout.proofs.Pointers.{number_on_held_above, number_on_double, number_on_past, number_on_without, no_number_on, pointer_direct, pointer_past, pointer_without}
 use Rattle.fs_layout.proofs.SplicedBytes.{get_or-zeros}
 use Rattle.fs_layout.proofs.Writes.{length-zeros}
 use Rattle.block_map.proofs.Alterings.{acls_where_kept}
@@ -22,13 +21,13 @@ use Rattle.fs_layout.proofs.Marks.{no_map}
 use Rattle.sector_txn.specs.Sectors.{TxnState, IsUnchanged, PutsOnly}
 use Rattle.bit_alloc.proofs.Transactions.{bitmaps_unchanged, puts_after}
 use Rattle.block_map.proofs.Runs.{same_map}
-use Rattle.sector_txn.proofs.TransactionRuns.{changes_nothing, changes_joined, changes_weaker}
+use Rattle.sector_txn.proofs.TransactionRuns.{changes_nothing, changes_joined, changes_read, changes_weaker}
 use Rattle.bit_alloc.specs.declared.bitmap.Bitmap.TheVariants.{Blocks as BlockMap}
 use Rattle.bit_alloc.specs.Bitmaps.{HasBitmaps, GivesNumber, sector_of}
 use Rattle.bit_alloc.specs.Room.{bitmaps}
 use Rattle.block_map.specs.Steps.{MayChange, IsStepSector, Alters}
 use Rattle.block_map.specs.Contents.{AllowsSize}
-use Rattle.block_map.specs.Drops.{GivesNumbers, GivesAll, emptied}
+use Rattle.block_map.specs.Drops.{GivesParts, IsInData, IsFor, IsAmong, first_on, emptied}
 
 -- ---- one sector is given back
 -- at least as many are free then
@@ -47,73 +46,131 @@ pub give_puts : (p : Place) {n : ℕ} {old new : TxnState} → n < map_bits p �
     → PutsOnly (IsStepSector p) (bitmaps p) 0 old new
 give_puts p few puts = changes_weaker {Q = IsStepSector p} (λ t e. inl (omega (arith, e), omega (arith, e, few))) (omega arith) puts
 
--- ---- several numbers of a level
-pub none_given : {p : Place} {v : Inode} {level first : ℕ} {txn : TxnState} → HasBitmaps p txn → GivesNumbers p v level first first txn txn
-none_given {p} h = record {
+-- ---- several parts
+pub none_given : {p : Place} {v : Inode} {P : Part → Type 0} {txn : TxnState} → HasBitmaps p txn → ((at : Part) → P at → ⊥) → GivesParts p v P txn txn
+none_given {p} h none = record {
   tables = h;
   others = λ s ban. refl;
-  cleared = λ k low high some. absurd (omega (arith, low, high));
+  cleared = λ at here some. absurd (none at here);
   released = λ s few set clear. absurd (not_both set clear);
   set = λ s few set. set;
   puts = changes_nothing (bitmaps p);
   free = omega arith;
 }
 
--- a hole has nothing to give back
-pub hole_given : {p : Place} {v : Inode} {level first k : ℕ} {old new : TxnState} → GivesNumbers p v level first k old new → number_on old.sectors v level k ≡ 0 → GivesNumbers p v level first (k + 1) old new
-hole_given {p} {v} {level} {first} {k} {old} {new} g none = record {
+-- a part without a sector has nothing to give back
+pub given_weaker : {p : Place} {v : Inode} {P Q : Part → Type 0} {old new : TxnState} → GivesParts p v P old new → ((at : Part) → P at → Q at)
+    → ((at : Part) → Q at → P at ⊎ (part old.sectors v at ≡ 0)) → GivesParts p v Q old new
+given_weaker {p} {v} {P} {Q} {old} {new} g wider none = record {
   tables = g.tables;
   others = g.others;
-  cleared = λ j low high some. elim (cases_eq j k) [
-    | inl e ↦ absurd (some (ap (number_on old.sectors v level) e ∙ none))
-    | inr ne ↦ g.cleared j low (omega (arith, high, ne)) some
-  ];
-  released = λ s few set clear. let w = g.released s few set clear in (w.0, w.1, omega (arith, w.2), w.3, w.4);
+  cleared = λ at here some. elim (none at here) [ inl was ↦ g.cleared at was some | inr hole ↦ absurd (some hole) ];
+  released = λ s few set clear. let w = g.released s few set clear in (w.0, wider w.0 w.1, w.2, w.3);
   set = g.set;
   puts = g.puts;
   free = g.free;
 }
 
--- nor have numbers past the last that the inode can have
-pub rest_given : {p : Place} {v : Inode} {level first k : ℕ} {old new : TxnState} → GivesNumbers p v level first k old new → (end : ℕ) → k ≤ end
-    → ((j : ℕ) → k ≤ j → number_on old.sectors v level j ≡ 0) → GivesNumbers p v level first end old new
-rest_given {p} {v} {level} {first} {k} {old} {new} g end le none = record {
-  tables = g.tables;
-  others = g.others;
-  cleared = λ j low high some. elim (cases_lt j k) [ inl lt ↦ g.cleared j low lt some | inr ge ↦ absurd (some (none j ge)) ];
-  released = λ s few set clear. let w = g.released s few set clear in (w.0, w.1, omega (arith, w.2, le), w.3, w.4);
-  set = g.set;
-  puts = g.puts;
-  free = g.free;
-}
+-- the sectors that the inode owns are the same meanwhile
+pub given_keeps : {p : Place} {v : Inode} {P : Part → Type 0} {old new : TxnState} → IsInData p old.sectors v → GivesParts p v P old new → Keeps old.sectors new.sectors v
+given_keeps inside g s o = g.others s (λ m. let low = map_is_low g.tables.place s m in let d = (inside s o).0 in omega (arith, low, d))
 
--- a number more
-pub number_given : {p : Place} {v : Inode} {level first k n : ℕ} {old mid new : TxnState} → IsOwnedApart p old.sectors v → GivesNumbers p v level first k old mid → first ≤ k
-    → number_on old.sectors v level k ≡ n → n ≢ 0 → n < map_bits p → GivesNumber p BlockMap n mid.sectors new.sectors → HasBitmaps p new → PutsOnly (λ t. t ≡ sector_of BlockMap n) (bitmaps p) 0 mid new
-    → GivesNumbers p v level first (k + 1) old new
-number_given {p} {v} {level} {first} {k} {n} {old} {mid} {new} apart g from is some_n few given bits puts = record {
+-- those of some, and then those of others
+pub given_joined : {p : Place} {v : Inode} {P Q : Part → Type 0} {old mid new : TxnState} → IsInData p old.sectors v → GivesParts p v P old mid → GivesParts p v Q mid new
+    → GivesParts p v (λ at. P at ⊎ Q at) old new
+given_joined {p} {v} {P} {Q} {old} {mid} {new} inside a b =
+    let same : (at : Part) → part mid.sectors v at ≡ part old.sectors v at = λ at. part_kept (given_keeps inside a) at in
+    let few : (at : Part) → part old.sectors v at ≢ 0 → part old.sectors v at < map_bits p =
+    λ at some. has_bit a.tables.place (part old.sectors v at) (inside (part old.sectors v at) (owns_part old.sectors v at some)).1 in
+    record {
+      tables = b.tables;
+      others = λ s ban. b.others s ban ∙ a.others s ban;
+      cleared = λ at here some. elim here [
+        | inl was ↦ elim (set_or_clear (bit new.sectors block_bitmap (part old.sectors v at))) [
+          | inl set ↦ absurd (not_both (b.set (part old.sectors v at) (few at some) set) (a.cleared at was some))
+          | inr clear ↦ clear
+        ]
+        | inr then ↦
+            ap (bit new.sectors block_bitmap) (sym (same at)) ∙ b.cleared at then (λ e. some (sym (same at) ∙ e))
+      ];
+      released = λ s small set clear. elim (set_or_clear (bit mid.sectors block_bitmap s)) [
+        | inl still ↦ let w = b.released s small still clear in (w.0, inr w.1, sym (same w.0) ∙ w.2, w.3)
+        | inr gone ↦ let w = a.released s small set gone in (w.0, inl w.1, w.2, w.3)
+      ];
+      set = λ s small set. a.set s small (b.set s small set);
+      puts = changes_joined a.puts b.puts;
+      free = let x = a.free in let y = b.free in omega (arith, x, y);
+    }
+
+-- one sector
+pub part_given : {p : Place} {v : Inode} {n : ℕ} {old new : TxnState} (at : Part) → HasBitmaps p old → part old.sectors v at ≡ n → n ≢ 0 → n < map_bits p
+    → GivesNumber p BlockMap n old.sectors new.sectors → HasBitmaps p new → PutsOnly (λ t. t ≡ sector_of BlockMap n) (bitmaps p) 0 old new
+    → GivesParts p v (λ other. other ≡ at) old new
+part_given {p} {v} {n} {old} {new} at h is some few given bits puts = record {
   tables = bits;
-  others = λ s ban. given.mark.others s ban ∙ g.others s ban;
-  cleared = λ j low high some. elim (cases_eq (number_on old.sectors v level j) n) [
-    | inl e ↦ ap (bit new.sectors block_bitmap) e ∙ given.clear
-    | inr ne ↦ elim (cases_eq j k) [
-      | inl same ↦ absurd (ne (ap (number_on old.sectors v level) same ∙ is))
-      | inr other ↦
-          given.mark.bits (number_on old.sectors v level j) (has_bit g.tables.place (number_on old.sectors v level j) (apart.each (number_on old.sectors v level j) (owns_on_level old.sectors v level j some)).1) ne
-          ∙ g.cleared j low (omega (arith, high, other)) some
-    ]
-  ];
+  others = given.mark.others;
+  cleared = λ other e has. ap (bit new.sectors block_bitmap) (ap (part old.sectors v) e ∙ is) ∙ given.clear;
   released = λ s small set clear. elim (cases_eq s n) [
-    | inl e ↦ (k, from, omega arith, is ∙ sym e, λ z. some_n (sym e ∙ z))
-    | inr ne ↦ let w = g.released s small set (sym (given.mark.bits s small ne) ∙ clear) in (w.0, w.1, omega (arith, w.2), w.3, w.4)
+    | inl e ↦ (at, refl, is ∙ sym e, λ z. some (sym e ∙ z))
+    | inr ne ↦ absurd (not_both set (sym (given.mark.bits s small ne) ∙ clear))
   ];
   set = λ s small set. elim (cases_eq s n) [
     | inl e ↦ absurd (not_both set (ap (bit new.sectors block_bitmap) e ∙ given.clear))
-    | inr ne ↦ g.set s small (sym (given.mark.bits s small ne) ∙ set)
+    | inr ne ↦ sym (given.mark.bits s small ne) ∙ set
   ];
-  puts = changes_joined g.puts (give_puts p few puts);
-  free = let a = g.free in let b = free_after_give given g.tables.place in omega (arith, a, b);
+  puts = give_puts p few puts;
+  free = free_after_give given h.place;
 }
+
+-- ---- several numbers of a level
+no_number_between : (level first : ℕ) (at : Part) → IsAmong level first first at → ⊥
+no_number_between level first at w = let a = w.2 in let b = w.3 in omega (arith, a, b)
+
+pub none_among : {p : Place} {v : Inode} {level first : ℕ} {txn : TxnState} → HasBitmaps p txn → GivesParts p v (IsAmong level first first) txn txn
+none_among {level = level} {first} h = none_given h (no_number_between level first)
+
+among_more : (level first k : ℕ) (at : Part) → IsAmong level first (k + 1) at → (IsAmong level first k at) ⊎ (at ≡ OnLevel level k)
+among_more level first k at w = elim (cases_eq w.0 k) [
+  | inl e ↦ inr (w.1 ∙ ap (OnLevel level) e)
+  | inr ne ↦ inl (w.0, w.1, w.2, (let a = w.3 in omega (arith, a, ne)))
+]
+
+among_on : (level first k : ℕ) (at : Part) → first ≤ k → (IsAmong level first k at) ⊎ (at ≡ OnLevel level k) → IsAmong level first (k + 1) at
+among_on level first k at from way = elim way [
+  | inl w ↦ (w.0, w.1, w.2, (let a = w.3 in omega (arith, a)))
+  | inr e ↦ (k, e, from, omega arith)
+]
+
+-- a hole
+pub hole_given : {p : Place} {v : Inode} {level first k : ℕ} {old new : TxnState} → GivesParts p v (IsAmong level first k) old new → number_on old.sectors v level k ≡ 0 → first ≤ k
+    → GivesParts p v (IsAmong level first (k + 1)) old new
+unfolding part
+hole_given {p} {v} {level} {first} {k} {old} {new} g none from =
+    given_weaker g (λ at w. among_on level first k at from (inl w))
+    (λ at w. elim (among_more level first k at w) [ inl was ↦ inl was | inr e ↦ inr (ap (part old.sectors v) e ∙ none) ])
+
+-- nor have numbers past the last that the inode can have
+pub rest_given : {p : Place} {v : Inode} {level first k : ℕ} {old new : TxnState} → GivesParts p v (IsAmong level first k) old new → (end : ℕ) → k ≤ end
+    → ((j : ℕ) → k ≤ j → number_on old.sectors v level j ≡ 0) → GivesParts p v (IsAmong level first end) old new
+unfolding part
+rest_given {p} {v} {level} {first} {k} {old} {new} g end le none =
+    given_weaker g (λ at w. (w.0, w.1, w.2, (let a = w.3 in omega (arith, a, le))))
+    (λ at w. elim (cases_lt w.0 k) [
+      | inl lt ↦ inl (w.0, w.1, w.2, lt)
+      | inr ge ↦ inr (ap (part old.sectors v) w.1 ∙ none w.0 ge)
+    ])
+
+-- a number more
+pub number_given : {p : Place} {v : Inode} {level first k n : ℕ} {old mid new : TxnState} → IsInData p old.sectors v → GivesParts p v (IsAmong level first k) old mid → first ≤ k
+    → number_on old.sectors v level k ≡ n → n ≢ 0 → GivesNumber p BlockMap n mid.sectors new.sectors → HasBitmaps p new → PutsOnly (λ t. t ≡ sector_of BlockMap n) (bitmaps p) 0 mid new
+    → GivesParts p v (IsAmong level first (k + 1)) old new
+unfolding part
+number_given {p} {v} {level} {first} {k} {n} {old} {mid} {new} inside g from is some given bits puts =
+    let own : Owns old.sectors v n = record { at = OnLevel level k; is = is; some = some } in
+    let few : n < map_bits p = has_bit g.tables.place n (inside n own).1 in
+    let now : number_on mid.sectors v level k ≡ n = number_on_kept (given_keeps inside g) level k ∙ is in
+    given_weaker (given_joined inside g (part_given (OnLevel level k) g.tables now some few given bits puts)) (λ at way. among_on level first k at from way)
+    (λ at w. inl (among_more level first k at w))
 
 -- ---- what is owned
 -- Each part of v stays or is given back, with its bit: then w has what v had and kept.
@@ -156,95 +213,92 @@ keeps_or_gives {p} {v} {w} {old} {new} place apart g = record {
 }
 
 -- ---- all of it
-pub past_is_hole : (image : SectorMap) (v : Inode) (k : ℕ) → pointer image v k ≢ 0 → k < MAX_BLOCKS
-past_is_hole image v k some = elim (cases_lt k MAX_BLOCKS) [ inl lt ↦ lt | inr past ↦ absurd (some (pointer_past image v k past)) ]
+-- the numbers on each level from the first on that serve only blocks from `first` on are all those
+pub first_serves : (level i first : ℕ) → first ≤ MAX_BLOCKS → level ≤ 2 → (first ≤ first_block level i → first_on level first ≤ i) × (first_on level first ≤ i → first ≤ first_block level i)
+first_serves zero i first few low = (λ le. le, λ le. le)
+first_serves (suc zero) i first few low = (λ le. let z = le in omega (arith, z), λ le. let z = le in omega (arith, z))
+first_serves (suc (suc zero)) i first few low = (λ le. let z = le in omega (arith, z), λ le. let z = le in omega (arith, z))
+first_serves (suc (suc (suc level))) i first few low = absurd (omega (arith, low))
 
--- an inode that names no sector of pointers has none
-pub no_pointers : (image : SectorMap) (v : Inode) (level i : ℕ) → v.indirect ≡ 0 → number_on image v (suc level) i ≡ 0
-no_pointers image v zero i none = elim (cases_eq i 0) [
-  | inl e ↦ ap (number_on image v 1) e ∙ number_on_indirect image v ∙ none
-  | inr ne ↦ number_on_past image v i (omega (arith, ne))
+-- past these a level has no number
+pub no_number_past : (image : SectorMap) (v : Inode) (i : ℕ) → 1 + SECTOR_POINTERS ≤ i → number_on image v 1 i ≡ 0
+no_number_past image v i ge =
+    number_on_held_above image v i (omega (arith, ge))
+    ∙ ap (λ (s : ℕ). pointer_in image s (place_in_holder 1 i)) (number_on_past image v (holder 1 i) (omega (arith, ge)))
+
+for_from : (first : ℕ) (at : Part) → first ≤ MAX_BLOCKS → ((IsAmong 0 first MAX_BLOCKS at) ⊎ (IsAmong 1 (first_on 1 first) (1 + SECTOR_POINTERS) at)) ⊎ (IsAmong 2 (first_on 2 first) 1 at) → IsFor first at
+for_from first at few way = elim way [
+  | inl one ↦ elim one [
+    | inl w ↦ subst (IsFor first) (sym w.1) w.2
+    | inr w ↦ subst (IsFor first) (sym w.1) ((first_serves 1 w.0 first few (omega arith)).1 w.2)
+  ]
+  | inr w ↦ subst (IsFor first) (sym w.1) ((first_serves 2 w.0 first few (omega arith)).1 w.2)
 ]
-no_pointers image v (suc level) i none = no_number_on image v level i
 
--- then its blocks are all
-pub blocks_are_all : {p : Place} {v : Inode} {old new : TxnState} → GivesNumbers p v 0 0 MAX_BLOCKS old new → v.indirect ≡ 0 → GivesAll p v old new
-blocks_are_all {p} {v} {old} {new} g none = record {
-  tables = g.tables;
-  others = g.others;
-  cleared = cleared;
-  released = λ s few set clear. let w = g.released s few set clear in (0, w.0, w.3, w.4);
-  set = g.set;
-  puts = g.puts;
-  free = g.free;
-}
-  where
-    cleared : (level i : ℕ) → number_on old.sectors v level i ≢ 0 → bit new.sectors block_bitmap (number_on old.sectors v level i) ≡ false
-    cleared zero k some = g.cleared k (omega arith) (past_is_hole old.sectors v k some) some
-    cleared (suc level) i some = absurd (some (no_pointers old.sectors v level i none))
+from_for : (image : SectorMap) (v : Inode) (first : ℕ) (at : Part) → first ≤ MAX_BLOCKS → IsFor first at
+    → (((IsAmong 0 first MAX_BLOCKS at) ⊎ (IsAmong 1 (first_on 1 first) (1 + SECTOR_POINTERS) at)) ⊎ (IsAmong 2 (first_on 2 first) 1 at)) ⊎ (part image v at ≡ 0)
+unfolding part
+from_for image v first AccessAcl few here = absurd here
+from_for image v first DefaultAcl few here = absurd here
+from_for image v first (OnLevel zero k) few here = elim (cases_lt k MAX_BLOCKS) [
+  | inl lt ↦ inl (inl (inl (k, refl, here, lt)))
+  | inr past ↦ inr (pointer_past image v k past)
+]
+from_for image v first (OnLevel (suc zero) i) few here = elim (cases_lt i (1 + SECTOR_POINTERS)) [
+  | inl lt ↦ inl (inl (inr (i, refl, (first_serves 1 i first few (omega arith)).0 here, lt)))
+  | inr past ↦ inr (no_number_past image v i past)
+]
+from_for image v first (OnLevel (suc (suc zero)) i) few here = elim (cases_lt i 1) [
+  | inl lt ↦ inl (inr (i, refl, (first_serves 2 i first few (omega arith)).0 here, lt))
+  | inr past ↦ inr (number_on_past image v i past)
+]
+from_for image v first (OnLevel (suc (suc (suc level))) i) few here = inr (no_number_on image v level i)
 
--- it has one, which is given back too
-pub pointers_given : {p : Place} {v : Inode} {old mid new : TxnState} → IsOwnedApart p old.sectors v → GivesNumbers p v 0 0 MAX_BLOCKS old mid → v.indirect ≢ 0
-    → GivesNumber p BlockMap v.indirect mid.sectors new.sectors → HasBitmaps p new → PutsOnly (λ t. t ≡ sector_of BlockMap v.indirect) (bitmaps p) 0 mid new
-    → GivesAll p v old new
-pointers_given {p} {v} {old} {mid} {new} apart g has given bits puts =
-    let place : IsPlace p = g.tables.place in
-    let few : v.indirect < map_bits p = has_bit place v.indirect (apart.each v.indirect (owns_indirect old.sectors v has)).1 in
-    record {
-      tables = bits;
-      others = λ s ban. given.mark.others s ban ∙ g.others s ban;
-      cleared = cleared;
-      released = λ s small set clear. elim (cases_eq s v.indirect) [
-        | inl e ↦ (1, 0, number_on_indirect old.sectors v ∙ sym e, λ z. has (sym e ∙ z))
-        | inr ne ↦ let w = g.released s small set (sym (given.mark.bits s small ne) ∙ clear) in (0, w.0, w.3, w.4)
-      ];
-      set = λ s small set. elim (cases_eq s v.indirect) [
-        | inl e ↦ absurd (not_both set (ap (bit new.sectors block_bitmap) e ∙ given.clear))
-        | inr ne ↦ g.set s small (sym (given.mark.bits s small ne) ∙ set)
-      ];
-      puts = changes_joined g.puts (give_puts p few puts);
-      free = let a = g.free in let b = free_after_give given place in omega (arith, a, b);
-    }
-  where
-    cleared : (level i : ℕ) → number_on old.sectors v level i ≢ 0 → bit new.sectors block_bitmap (number_on old.sectors v level i) ≡ false
-    cleared zero k some =
-        given.mark.bits (pointer old.sectors v k) (has_bit g.tables.place (pointer old.sectors v k) (apart.each (pointer old.sectors v k) (owns_block old.sectors v k some)).1)
-        (no_block_has_pointers apart k some) ∙ g.cleared k (omega arith) (past_is_hole old.sectors v k some) some
-    cleared (suc zero) i some = elim (cases_eq i 0) [
-      | inl e ↦ ap (bit new.sectors block_bitmap) (ap (number_on old.sectors v 1) e ∙ number_on_indirect old.sectors v) ∙ given.clear
-      | inr ne ↦ absurd (some (number_on_past old.sectors v i (omega (arith, ne))))
-    ]
-    cleared (suc (suc level)) i some = absurd (some (no_number_on old.sectors v level i))
+-- level by level
+pub all_given : {p : Place} {v : Inode} {first : ℕ} {old a b new : TxnState} → IsInData p old.sectors v → first ≤ MAX_BLOCKS → GivesParts p v (IsAmong 0 first MAX_BLOCKS) old a
+    → GivesParts p v (IsAmong 1 (first_on 1 first) (1 + SECTOR_POINTERS)) a b → GivesParts p v (IsAmong 2 (first_on 2 first) 1) b new → GivesParts p v (IsFor first) old new
+all_given {v = v} {first} {old} inside few x y z =
+    given_weaker (given_joined inside (given_joined inside x y) z) (λ at way. for_from first at few way) (λ at here. from_for old.sectors v first at few here)
 
--- the inode without it has no block
-pub emptied_pointer : (image : SectorMap) (v : Inode) (k : ℕ) → pointer image (emptied v) k ≡ 0
+-- the inode without it has no block, nor a sector of pointers
+pub emptied_number : (image : SectorMap) (v : Inode) (level i : ℕ) → number_on image (emptied v) level i ≡ 0
 unfolding zeros
-emptied_pointer image v k = elim (cases_lt k DIRECT_BLOCKS) [
+emptied_number image v zero k = elim (cases_lt k DIRECT_BLOCKS) [
   | inl lt ↦ pointer_direct image (emptied v) k lt ∙ get_or-zeros DIRECT_BLOCKS k
-  | inr ge ↦ pointer_without image (emptied v) k ge refl
+  | inr ge ↦ pointer_without image (emptied v) k ge refl refl
 ]
-
--- nor a sector of pointers
-emptied_number : (image : SectorMap) (v : Inode) (level i : ℕ) → number_on image (emptied v) level i ≡ 0
-emptied_number image v zero k = emptied_pointer image v k
-emptied_number image v (suc level) i = no_pointers image (emptied v) level i refl
+emptied_number image v (suc zero) i = elim (cases_eq i 0) [
+  | inl e ↦ ap (number_on image (emptied v) 1) e ∙ number_on_indirect image (emptied v)
+  | inr ne ↦ number_on_without image (emptied v) i (omega (arith, ne)) refl
+]
+emptied_number image v (suc (suc zero)) i = elim (cases_eq i 0) [
+  | inl e ↦ ap (number_on image (emptied v) 2) e ∙ number_on_double image (emptied v)
+  | inr ne ↦ number_on_past image (emptied v) i (omega (arith, ne))
+]
+emptied_number image v (suc (suc (suc level))) i = no_number_on image (emptied v) level i
 
 -- and holds nothing
 pub emptied_holds : (image : SectorMap) (v : Inode) → Holds image (emptied v) []
 unfolding byte_at
 emptied_holds image v = record {
   size = refl;
-  byte = λ i. ap (λ (s : ℕ). byte_in image s (i % 512)) (emptied_pointer image v (i / 512));
+  byte = λ i. ap (λ (s : ℕ). byte_in image s (i % 512)) (emptied_number image v 0 (i / 512));
   trim = λ level i le. emptied_number image v level i;
 }
 
-emptied_parts : {p : Place} {v : Inode} {old new : TxnState} → GivesAll p v old new → (at : Part)
+emptied_parts : {p : Place} {v : Inode} {old new : TxnState} → GivesParts p v (IsFor 0) old new → (at : Part)
     → (part new.sectors (emptied v) at ≡ part old.sectors v at)
     ⊎ ((part new.sectors (emptied v) at ≡ 0) × (part old.sectors v at ≢ 0 → bit new.sectors block_bitmap (part old.sectors v at) ≡ false))
 unfolding part
 emptied_parts g AccessAcl = inl refl
 emptied_parts g DefaultAcl = inl refl
-emptied_parts {v = v} {new = new} g (OnLevel level i) = inr (emptied_number new.sectors v level i, g.cleared level i)
+emptied_parts {v = v} {new = new} g (OnLevel level i) = inr (emptied_number new.sectors v level i, g.cleared (OnLevel level i) (omega arith))
+
+gone_part : (image : SectorMap) (v : Inode) (at : Part) → IsFor 0 at → part image (emptied v) at ≡ 0
+unfolding part
+gone_part image v AccessAcl here = absurd here
+gone_part image v DefaultAcl here = absurd here
+gone_part image v (OnLevel level i) here = emptied_number image v level i
 
 -- it fits its fields
 emptied_fits : (v : Inode) → FitsInode v → AllowsSize v.kind 0 → FitsInode (emptied v)
@@ -264,25 +318,25 @@ emptied_fits v fits allowed =
       direct_len = length-zeros DIRECT_BLOCKS;
       direct = λ i. let z = get_or-zeros DIRECT_BLOCKS i in omega (arith, z);
       indirect = omega arith;
+      double_indirect = omega arith;
     }
 
 -- what it owned besides its ACLs is given back
-pub emptied_blocks : {p : Place} {v : Inode} {old new : TxnState} → IsPlace p → IsOwnedApart p old.sectors v → GivesAll p v old new
+pub emptied_blocks : {p : Place} {v : Inode} {old new : TxnState} → IsPlace p → IsOwnedApart p old.sectors v → GivesParts p v (IsFor 0) old new
     → ChangesBlocks p v (emptied v) old.sectors new.sectors
-unfolding part zeros
 emptied_blocks {p} {v} {old} {new} place apart g = keeps_or_gives place apart (record {
   tables = g.tables.tables;
   parts = emptied_parts g;
   released = λ s few set clear.
       let r = g.released s few set clear in
-      (OnLevel r.0 r.1, r.2, emptied_number new.sectors v r.0 r.1, r.3);
+      (r.0, r.2, gone_part new.sectors v r.0 r.1, r.3);
   set = g.set;
   whole = λ s o. subst IsSector (sym (g.others s (no_map place apart s o))) (apart.whole s o);
   others = λ s ban map. g.others s map;
 })
 
 -- the inode is emptied
-pub empties : {p : Place} {v : Inode} {old new : TxnState} → MayChange p old v → AllowsSize v.kind 0 → GivesAll p v old new → Alters p old new v (emptied v)
+pub empties : {p : Place} {v : Inode} {old new : TxnState} → MayChange p old v → AllowsSize v.kind 0 → GivesParts p v (IsFor 0) old new → Alters p old new v (emptied v)
 empties {p} {v} {old} {new} may allowed g =
     let place : IsPlace p = g.tables.place in
     let same : (s : ℕ) → Owns old.sectors v s → new.sectors s ≡ old.sectors s = λ s o. g.others s (no_map place may.apart s o) in
@@ -304,17 +358,40 @@ may_unchanged {p} {old} {mid} {v} may same = record {
   used = may.used;
 }
 
--- all is given back, after reads
-pub given_after : {p : Place} {v : Inode} {old mid new : TxnState} → IsUnchanged old mid → GivesAll p v mid new → GivesAll p v old new
-given_after {p} {v} {old} {mid} {new} same g =
+-- parts are given back, after reads
+pub given_after : {p : Place} {v : Inode} {P : Part → Type 0} {old mid new : TxnState} → IsUnchanged old mid → GivesParts p v P mid new → GivesParts p v P old new
+given_after {p} {v} {P} {old} {mid} {new} same g =
     let e : mid.sectors ≡ old.sectors = same_map old.sectors mid.sectors same.sectors in
     record {
       tables = g.tables;
       others = λ s ban. g.others s ban ∙ same.sectors s;
-      cleared = subst (λ (image : SectorMap). (level i : ℕ) → number_on image v level i ≢ 0 → bit new.sectors block_bitmap (number_on image v level i) ≡ false) e g.cleared;
+      cleared = subst (λ (image : SectorMap). (at : Part) → P at → part image v at ≢ 0 → bit new.sectors block_bitmap (part image v at) ≡ false) e g.cleared;
       released = subst (λ (image : SectorMap). (s : ℕ) → s < map_bits p → IsTrue (bit image block_bitmap s) → bit new.sectors block_bitmap s ≡ false
-          → (level : ℕ) × (i : ℕ) × (number_on image v level i ≡ s) × (s ≢ 0)) e g.released;
+          → (at : Part) × P at × (part image v at ≡ s) × (s ≢ 0)) e g.released;
       set = subst (λ (image : SectorMap). (s : ℕ) → s < map_bits p → IsTrue (bit new.sectors block_bitmap s) → IsTrue (bit image block_bitmap s)) e g.set;
       puts = puts_after same g.puts;
       free = let f = g.free in let b = ap (free_sectors p) e in omega (arith, f, b);
     }
+
+-- and given on
+pub given_unchanged : {p : Place} {v : Inode} {P : Part → Type 0} {old mid new : TxnState} → GivesParts p v P old mid → IsUnchanged mid new → GivesParts p v P old new
+given_unchanged {p} {v} {P} {old} {mid} {new} g same =
+    let e : mid.sectors ≡ new.sectors = sym (same_map mid.sectors new.sectors same.sectors) in
+    record {
+      tables = bitmaps_unchanged p mid new g.tables same;
+      others = λ s ban. same.sectors s ∙ g.others s ban;
+      cleared = subst (λ (image : SectorMap). (at : Part) → P at → part old.sectors v at ≢ 0 → bit image block_bitmap (part old.sectors v at) ≡ false) e g.cleared;
+      released = subst (λ (image : SectorMap). (s : ℕ) → s < map_bits p → IsTrue (bit old.sectors block_bitmap s) → bit image block_bitmap s ≡ false
+          → (at : Part) × P at × (part old.sectors v at ≡ s) × (s ≢ 0)) e g.released;
+      set = subst (λ (image : SectorMap). (s : ℕ) → s < map_bits p → IsTrue (bit image block_bitmap s) → IsTrue (bit old.sectors block_bitmap s)) e g.set;
+      puts = changes_read g.puts same;
+      free = let f = g.free in let b = ap (free_sectors p) e in omega (arith, f, b);
+    }
+
+-- what may be changed owns data sectors
+pub in_data : {p : Place} {txn : TxnState} {v : Inode} → MayChange p txn v → IsInData p txn.sectors v
+in_data may s o = let d = may.apart.each s o in (d.0, d.1)
+
+-- so it is where they are the same
+pub in_data_kept : (p : Place) {old new : SectorMap} {v : Inode} → IsInData p old v → Keeps old new v → IsInData p new v
+in_data_kept p inside keeps s o = inside s (owned_before keeps o)

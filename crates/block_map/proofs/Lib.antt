@@ -1,4 +1,5 @@
 pub mod AddedPointers
+pub mod Adding
 pub mod Alterings
 pub mod Clearings
 pub mod Counts

@@ -51,11 +51,12 @@ link_of owner group size = record {
   default_acl = 0;
   direct = replicate DIRECT_BLOCKS 0;
   indirect = 0;
+  double_indirect = 0;
 }
 
 link_has_no_sector : (owner group size : ℕ) → HasNoSector (link_of owner group size)
 unfolding zeros
-link_has_no_sector owner group size = record { acl = refl; default_acl = refl; direct = get_or-zeros DIRECT_BLOCKS; indirect = refl }
+link_has_no_sector owner group size = record { acl = refl; default_acl = refl; direct = get_or-zeros DIRECT_BLOCKS; indirect = refl; double_indirect = refl }
 
 -- it holds zeros
 link_holds_zeros : (image : SectorMap) (owner group size : ℕ) → Holds image (link_of owner group size) (zeros size)
@@ -83,6 +84,7 @@ link_fits owner group size y small_owner small_group some few small =
       direct_len = refl;
       direct = λ i. let z = get_or-zeros DIRECT_BLOCKS i in omega (arith, z);
       indirect = omega arith;
+      double_indirect = omega arith;
     } in
     with_direct_fits v 0 y fits (λ e. cc) small
 

@@ -1,55 +1,52 @@
 -- Bytes are written, one block after the other.
-use Rattle.std.proofs.Common.{◌≡◌, ◌≢◌, ℕ, ◌+◌, ◌-◌, ◌*◌, ◌/◌, ◌≤◌, ◌<◌, ◌⊎◌, List, ◌∷◌, ◌++◌, length, take, drop, refl, sym, ap, subst, ◌∙◌, arith, inl, inr}
+use Rattle.std.proofs.Common.{◌≡◌, ◌≢◌, ℕ, ◌+◌, ◌-◌, ◌*◌, ◌/◌, ◌≤◌, ◌<◌, ◌⊎◌, List, [], ◌∷◌, ◌++◌, length, take, drop, refl, sym, ap, subst, ◌∙◌, arith, inl, inr}
 use Rattle.std.specs.Prelude.{nat_eq, if◌then◌else◌}
-use Rattle.std.proofs.lemmas.Bool.{cases_lt, cases_eq}
+use Rattle.std.proofs.lemmas.Bool.{cases_lt, cases_eq, lt-ltb}
 use Rattle.std.proofs.lemmas.List.{length-take-le, take_all}
 use Rattle.std.proofs.Math.Seq.{take-add}
 use Rattle.fs_layout.specs.declared.inode.TheConstants.{DIRECT_BLOCKS}
 use Rattle.fs_layout.specs.declared.inode.Inode.{Inode}
 use Rattle.fs_layout.specs.declared.place.Place.{Place}
 use Rattle.fs_layout.specs.Bytes.{SectorMap, splice}
-use Rattle.fs_layout.specs.Images.{pointer, Holds, free_sectors}
+use Rattle.fs_layout.specs.Images.{holder, number_on, pointer, Holds, free_sectors}
 use Rattle.fs_layout.proofs.Writes.{splice_next, nothing_put}
 use Rattle.sector_txn.specs.Sectors.{TxnState, PutsOnly, lacking}
 use Rattle.sector_txn.proofs.TransactionRuns.{changes_nothing, changes_joined, store_joined}
 use Rattle.bit_alloc.specs.Room.{bitmaps, HasSpare}
-use Rattle.block_map.specs.declared.blocks.Blocks.{Blocks}
-use Rattle.block_map.specs.Blocks.{IsLoaded}
-use Rattle.block_map.specs.Steps.{MayChange, IsStepSector, HasRoomFor, Alters, hole, holes, lacks_pointers, AddsPointers, WritesBlock, WritesBlocks, blocks_to, taken_by}
+use Rattle.block_map.specs.Steps.{MayChange, IsStepSector, HasRoomFor, Alters, hole, holes, lacks_pointers, pointers_of, pointers_to, pointer_sectors, AddsPointers, WritesBlock, WritesBlocks, blocks_to, taken_by}
+use Rattle.block_map.proofs.Adding.{pointers_are_numbers}
 use Rattle.block_map.proofs.Alterings.{alters_joined, may_after}
-use Rattle.block_map.proofs.AddedPointers.{alters_nothing, one_lacks}
-use Rattle.block_map.proofs.Counts.{holes_more, holes_on, holes_same}
-use Rattle.block_map.proofs.Writings.{hole_is_one}
-use Rattle.block_map.proofs.Rooms.{lacking_beside}
+use Rattle.block_map.proofs.AddedPointers.{alters_nothing}
+use Rattle.block_map.proofs.Counts.{lacks_more, lacks_further, lacks_same, taken_is}
+use Rattle.block_map.proofs.Rooms.{lacking-append, lacks_among, puts_among, puts_before}
+use Rattle.block_map.proofs.Writings.{hole_is_one, pointers_are}
 
--- the blocks from `first` up to k are written
-pub record IsWritten (p : Place) (offset first k end : ℕ) (x : List ℕ) (old new : TxnState) (b c : Blocks) : Type 0 where
-  pub may : MayChange p new c.inode
-  pub alters : Alters p old new b.inode c.inode
-  pub loaded : IsLoaded new.sectors c end
-  pub size : c.inode.size ≡ b.inode.size
-  pub indirect : c.inode.indirect ≡ b.inode.indirect
-  pub puts : PutsOnly (IsStepSector p) (b.inode.indirect ∷ bitmaps p) (k - first) old new
-  pub held : (bytes : List ℕ) → Holds old.sectors b.inode bytes → Holds new.sectors c.inode (splice bytes offset (take (512 * k - offset) x))
-  pub here : (j : ℕ) → first ≤ j → j < k → pointer new.sectors c.inode j ≢ 0
-  pub others : (j : ℕ) → (j < first) ⊎ (k ≤ j) → pointer new.sectors c.inode j ≡ pointer old.sectors b.inode j
-  pub free : free_sectors p old.sectors ≤ free_sectors p new.sectors + holes old.sectors b.inode first (k - first)
+-- the blocks from `first` up to k are written; `ns` are their sectors of pointers
+pub record IsWritten (p : Place) (ns : List ℕ) (offset first k : ℕ) (x : List ℕ) (old new : TxnState) (v w : Inode) : Type 0 where
+  pub may : MayChange p new w
+  pub alters : Alters p old new v w
+  pub size : w.size ≡ v.size
+  pub pointers : (i : ℕ) → number_on new.sectors w 1 i ≡ number_on old.sectors v 1 i
+  pub puts : PutsOnly (IsStepSector p) (ns ++ bitmaps p) (k - first) old new
+  pub held : (bytes : List ℕ) → Holds old.sectors v bytes → Holds new.sectors w (splice bytes offset (take (512 * k - offset) x))
+  pub here : (j : ℕ) → first ≤ j → j < k → pointer new.sectors w j ≢ 0
+  pub others : (j : ℕ) → (j < first) ⊎ (k ≤ j) → pointer new.sectors w j ≡ pointer old.sectors v j
+  pub free : free_sectors p old.sectors ≤ free_sectors p new.sectors + holes old.sectors v first (k - first)
 
 -- none of them is
-pub none_written : {p : Place} {offset first end : ℕ} {x : List ℕ} {txn : TxnState} {b : Blocks} → MayChange p txn b.inode → IsLoaded txn.sectors b end → 512 * first ≤ offset
-    → IsWritten p offset first first end x txn txn b b
-none_written {p} {offset} {first} {end} {x} {txn} {b} may loaded before =
+pub none_written : {p : Place} {offset first : ℕ} {x : List ℕ} {txn : TxnState} {v : Inode} (ns : List ℕ) → MayChange p txn v → 512 * first ≤ offset
+    → IsWritten p ns offset first first x txn txn v v
+none_written {p} {offset} {first} {x} {txn} {v} ns may before =
     let none : first - first ≡ 0 = omega arith in
     record {
       may = may;
       alters = alters_nothing may;
-      loaded = loaded;
       size = refl;
-      indirect = refl;
-      puts = subst (λ (m : ℕ). PutsOnly (IsStepSector p) (b.inode.indirect ∷ bitmaps p) m txn txn) (sym none) (changes_nothing (b.inode.indirect ∷ bitmaps p));
+      pointers = λ i. refl;
+      puts = subst (λ (m : ℕ). PutsOnly (IsStepSector p) (ns ++ bitmaps p) m txn txn) (sym none) (changes_nothing (ns ++ bitmaps p));
       held = λ bytes h.
           let zero : 512 * first - offset ≡ 0 = omega (arith, before) in
-          subst (λ (r : List ℕ). Holds txn.sectors b.inode r) (nothing_put bytes offset ∙ ap (λ (n : ℕ). splice bytes offset (take n x)) (sym zero)) h;
+          subst (λ (r : List ℕ). Holds txn.sectors v r) (nothing_put bytes offset ∙ ap (λ (n : ℕ). splice bytes offset (take n x)) (sym zero)) h;
       here = λ j low high. absurd (omega (arith, low, high));
       others = λ j out. refl;
       free = omega arith;
@@ -72,40 +69,75 @@ joined_piece bytes x piece offset k at done len next is few e ends room =
       | inr same ↦ ap (λ (n : ℕ). take n x) same
     ]
 
+-- ---- the sector of pointers of a block is one of those of the blocks that are written
+near_pointers : (image : SectorMap) (v : Inode) (k : ℕ) → k < DIRECT_BLOCKS → pointers_to image v k ≡ []
+near_pointers image v k lt = rw (lt-ltb k DIRECT_BLOCKS lt) refl
+
+module _ (image now : SectorMap) (v w : Inode) (first end k : ℕ) (low : first ≤ k) (high : k < end)
+    (same : (i : ℕ) → number_on now w 1 i ≡ number_on image v 1 i) where
+  far_pointers : DIRECT_BLOCKS ≤ k → pointers_to now w k ≡ number_on image v 1 (holder DIRECT_BLOCKS k) ∷ []
+  far_pointers ge = pointers_are now w k ge ∙ ap (λ (s : ℕ). s ∷ []) (same (holder DIRECT_BLOCKS k))
+
+  pub puts_shared : {R : ℕ → Type 0} (bits : List ℕ) {more : ℕ} {old new : TxnState} → PutsOnly R (pointers_to now w k ++ bits) more old new
+      → PutsOnly R (pointers_of image v first end ++ bits) more old new
+  puts_shared {R} bits {more} {old} {new} puts = elim (cases_lt k DIRECT_BLOCKS) [
+    | inl lt ↦
+        puts_before (subst (λ (ns : List ℕ). PutsOnly R (ns ++ bits) more old new) (near_pointers now w k lt) puts) (pointers_of image v first end)
+    | inr ge ↦
+        subst (λ (ns : List ℕ). PutsOnly R (ns ++ bits) more old new) (sym (pointers_are_numbers image v first end (omega (arith, ge, high))))
+        (puts_among image v 1 (holder DIRECT_BLOCKS first) (holder DIRECT_BLOCKS (end - 1) + 1 - holder DIRECT_BLOCKS first) (holder DIRECT_BLOCKS k) (omega (arith, low)) (omega (arith, low, high))
+        (subst (λ (ns : List ℕ). PutsOnly R (ns ++ bits) more old new) (far_pointers ge) puts))
+  ]
+
+  -- and needs no more room
+  pub lacks_shared : (txn : TxnState) (bits : List ℕ) → lacking txn (pointers_to now w k ++ bits) ≤ lacking txn (pointers_of image v first end ++ bits)
+  lacks_shared txn bits = elim (cases_lt k DIRECT_BLOCKS) [
+    | inl lt ↦
+        let e = ap (λ (ns : List ℕ). lacking txn (ns ++ bits)) (near_pointers now w k lt) in
+        let a = lacking-append txn (pointers_of image v first end) bits in
+        omega (arith, e, a)
+    | inr ge ↦
+        let e = ap (λ (ns : List ℕ). lacking txn (ns ++ bits)) (far_pointers ge) in
+        let f = ap (λ (ns : List ℕ). lacking txn (ns ++ bits)) (pointers_are_numbers image v first end (omega (arith, ge, high))) in
+        let a = lacks_among txn image v 1 (holder DIRECT_BLOCKS first) (holder DIRECT_BLOCKS (end - 1) + 1 - holder DIRECT_BLOCKS first) (holder DIRECT_BLOCKS k)
+        (omega (arith, low)) (omega (arith, low, high)) bits in
+        omega (arith, e, f, a)
+  ]
+
 -- one block more is written
-pub more_written : {p : Place} {offset first k end at : ℕ} {x piece : List ℕ} {old mid new : TxnState} {b c d : Blocks} → (done len : ℕ)
-    → IsWritten p offset first k end x old mid b c → WritesBlock p k at piece mid new c d
-    → first ≤ k → 512 * k + at ≡ offset + done → done ≡ 512 * k - offset → piece ≡ take len (drop done x)
+pub more_written : {p : Place} {offset first k at end : ℕ} {x piece : List ℕ} {old mid new : TxnState} {u v w : Inode} → (done len : ℕ)
+    → IsWritten p (pointers_of old.sectors u first end) offset first k x old mid u v → WritesBlock p k at piece mid new v w
+    → first ≤ k → k < end → 512 * k + at ≡ offset + done → done ≡ 512 * k - offset → piece ≡ take len (drop done x)
     → done + len ≤ length x → ((length x ≤ 512 * (k + 1) - offset) × (done + len ≡ length x)) ⊎ (done + len ≡ 512 * (k + 1) - offset)
-    → offset + length x ≤ b.inode.size
-    → IsWritten p offset first (k + 1) end x old new b d
-more_written {p} {offset} {first} {k} {end} {at} {x} {piece} {old} {mid} {new} {b} {c} {d} done len so_far step from next is piece_is few ends room =
+    → offset + length x ≤ u.size
+    → IsWritten p (pointers_of old.sectors u first end) offset first (k + 1) x old new u w
+more_written {p} {offset} {first} {k} {at} {end} {x} {piece} {old} {mid} {new} {u} {v} {w} done len so_far step from below next is piece_is few ends room =
     let one : k + 1 - first ≡ k - first + 1 = omega (arith, from) in
-    let untouched : pointer mid.sectors c.inode k ≡ pointer old.sectors b.inode k = so_far.others k (inr (omega arith)) in
+    let ns : List ℕ = pointers_of old.sectors u first end in
+    let untouched : pointer mid.sectors v k ≡ pointer old.sectors u k = so_far.others k (inr (omega arith)) in
     record {
       may = may_after so_far.may step.alters;
       alters = alters_joined so_far.alters step.alters;
-      loaded = step.loaded end so_far.loaded;
       size = step.size ∙ so_far.size;
-      indirect = step.indirect ∙ so_far.indirect;
-      puts = subst (λ (m : ℕ). PutsOnly (IsStepSector p) (b.inode.indirect ∷ bitmaps p) m old new) (sym one)
-          (changes_joined so_far.puts (subst (λ (u : ℕ). PutsOnly (IsStepSector p) (u ∷ bitmaps p) 1 mid new) so_far.indirect step.puts));
+      pointers = λ i. step.pointers i ∙ so_far.pointers i;
+      puts = subst (λ (m : ℕ). PutsOnly (IsStepSector p) (ns ++ bitmaps p) m old new) (sym one)
+          (changes_joined so_far.puts (puts_shared old.sectors mid.sectors u v first end k from below so_far.pointers (bitmaps p) step.puts));
       held = λ bytes h.
-          subst (λ (r : List ℕ). Holds new.sectors d.inode r) (joined_piece bytes x piece offset k at done len next is (omega (arith, few)) piece_is ends (let z = h.size in omega (arith, z, room)))
+          subst (λ (r : List ℕ). Holds new.sectors w r) (joined_piece bytes x piece offset k at done len next is (omega (arith, few)) piece_is ends (let z = h.size in omega (arith, z, room)))
           (step.held (splice bytes offset (take (512 * k - offset) x)) (so_far.held bytes h));
       here = λ j low high. elim (cases_eq j k) [
-        | inl e ↦ subst (λ (i : ℕ). pointer new.sectors d.inode i ≢ 0) (sym e) step.here
+        | inl e ↦ subst (λ (i : ℕ). pointer new.sectors w i ≢ 0) (sym e) step.here
         | inr ne ↦ λ e. so_far.here j low (omega (arith, high, ne)) (sym (step.others j ne) ∙ e)
       ];
       others = λ j out. step.others j (apart j out) ∙ so_far.others j (wider j out);
       free =
           let f = step.free in
           let g = so_far.free in
-          let same : hole mid.sectors c.inode k ≡ hole old.sectors b.inode k = ap (λ (s : ℕ). if nat_eq s 0 then 1 else 0) untouched in
-          let more = holes_more old.sectors b.inode first (k - first) in
+          let same : hole mid.sectors v k ≡ hole old.sectors u k = ap (λ (s : ℕ). if nat_eq s 0 then 1 else 0) untouched in
+          let more = lacks_more old.sectors u 0 first (k - first) in
           let there : first + (k - first) ≡ k = omega (arith, from) in
-          let last : hole old.sectors b.inode (first + (k - first)) ≡ hole old.sectors b.inode k = ap (hole old.sectors b.inode) there in
-          let count : holes old.sectors b.inode first (k + 1 - first) ≡ holes old.sectors b.inode first (k - first + 1) = ap (holes old.sectors b.inode first) one in
+          let last : hole old.sectors u (first + (k - first)) ≡ hole old.sectors u k = ap (hole old.sectors u) there in
+          let count : holes old.sectors u first (k + 1 - first) ≡ holes old.sectors u first (k - first + 1) = ap (holes old.sectors u first) one in
           omega (arith, f, g, same, more, last, count);
     }
   where
@@ -115,77 +147,82 @@ more_written {p} {offset} {first} {k} {end} {at} {x} {piece} {old} {mid} {new} {
     wider : (j : ℕ) → (j < first) ⊎ (k + 1 ≤ j) → (j < first) ⊎ (k ≤ j)
     wider j out = elim out [ inl low ↦ inl low | inr high ↦ inr (omega (arith, high)) ]
 
--- what is loaded up to a block is so up to an earlier one
-pub loaded_less : {image : SectorMap} {b : Blocks} {end : ℕ} (k : ℕ) → IsLoaded image b end → k ≤ end → IsLoaded image b k
-loaded_less k l le = record { is = λ some far. l.is some (omega (arith, far, le)); none = l.none }
+-- ---- all blocks
+module _ {p : Place} (offset : ℕ) {end : ℕ} (x : List ℕ) {old mid : TxnState} {u v : Inode} (added : AddsPointers p (offset / 512) end old mid u v)
+    (is : end ≡ blocks_to (offset + length x)) where
+  abbrev first : ℕ
+  first = offset / 512
 
--- all blocks are written
-pub all_written : {p : Place} {offset end : ℕ} {x : List ℕ} {old mid new : TxnState} {a b c : Blocks} → AddsPointers p end old mid a b
-    → IsWritten p offset (offset / 512) end end x mid new b c → end ≡ blocks_to (offset + length x) → offset / 512 ≤ end → WritesBlocks p offset x old new a.inode c.inode
-all_written {p} {offset} {end} {x} {old} {mid} {new} {a} {b} {c} added done is from =
-    let all : take (512 * end - offset) x ≡ x = take_all (512 * end - offset) x (omega (arith, is)) in
-    let same_holes : holes mid.sectors b.inode (offset / 512) (end - offset / 512) ≡ holes old.sectors a.inode (offset / 512) (end - offset / 512) =
-    holes_same old.sectors mid.sectors a.inode b.inode added.same (offset / 512) (end - offset / 512) in
-    let count : taken_by old.sectors a.inode offset (length x) ≡ holes old.sectors a.inode (offset / 512) (end - offset / 512) + lacks_pointers a.inode end =
-    ap (λ (e : ℕ). holes old.sectors a.inode (offset / 512) (e - offset / 512) + lacks_pointers a.inode e) (sym is) in
-    let most : blocks_to (offset + length x) - offset / 512 + 1 ≡ end - offset / 512 + 1 = ap (λ (e : ℕ). e - offset / 512 + 1) (sym is) in
-    record {
-      alters = alters_joined added.alters done.alters;
-      puts = record {
-        store = store_joined added.puts.store done.puts.store;
-        others = λ n out. done.puts.others n out ∙ added.puts.others n out;
-        delta = λ n has. elim (done.puts.delta n has) [ inl was ↦ added.puts.delta n was | inr r ↦ inr r ];
-        kept = λ n has. done.puts.kept n (added.puts.kept n has);
-        room =
-            let one = added.room in
-            let two = done.puts.room in
-            let shared : lacking new (c.inode.indirect ∷ bitmaps p) ≡ lacking new (b.inode.indirect ∷ bitmaps p) = ap (λ (u : ℕ). lacking new (u ∷ bitmaps p)) done.indirect in
-            let less = (lacking_beside new b.inode.indirect (bitmaps p)).0 in
-            omega (arith, one, two, less, most);
-      };
-      size = done.size ∙ added.size;
-      held = λ bytes h. subst (λ (r : List ℕ). Holds new.sectors c.inode (splice bytes offset r)) all (done.held bytes (added.held bytes h));
-      hole = λ k none. elim (cases_lt k (offset / 512)) [
-        | inl low ↦ (sym (done.others k (inl low) ∙ added.same k) ∙ none, inl (omega (arith, low)))
-        | inr ge ↦ elim (cases_lt k end) [
-          | inl high ↦ absurd (done.here k ge high none)
-          | inr past ↦ (sym (done.others k (inr past) ∙ added.same k) ∙ none, inr (omega (arith, is, past)))
-        ]
-      ];
-      free = let one = added.free in let two = done.free in omega (arith, one, two, same_holes, count);
-    }
+  same_holes : (n : ℕ) → holes mid.sectors v first n ≡ holes old.sectors u first n
+  same_holes n = lacks_same old.sectors mid.sectors u v 0 added.same first n
 
--- where no sector is left for a block, fewer were free than the bytes take
-pub block_lacks : {p : Place} {offset end k : ℕ} {x : List ℕ} {old mid now : TxnState} {a b c : Blocks} → AddsPointers p end old mid a b
-    → IsWritten p offset (offset / 512) k end x mid now b c → end ≡ blocks_to (offset + length x) → offset / 512 ≤ k → k < end
-    → pointer now.sectors c.inode k ≡ 0 → free_sectors p now.sectors ≡ 0 → free_sectors p old.sectors < taken_by old.sectors a.inode offset (length x)
-block_lacks {p} {offset} {end} {k} {x} {old} {mid} {now} {a} {b} {c} added so_far is from below none full =
-    let first : ℕ = offset / 512 in
-    let same_holes : (n : ℕ) → holes mid.sectors b.inode first n ≡ holes old.sectors a.inode first n = holes_same old.sectors mid.sectors a.inode b.inode added.same first in
-    let count : taken_by old.sectors a.inode offset (length x) ≡ holes old.sectors a.inode first (end - first) + lacks_pointers a.inode end =
-    ap (λ (e : ℕ). holes old.sectors a.inode first (e - first) + lacks_pointers a.inode e) (sym is) in
-    let untouched : pointer old.sectors a.inode k ≡ 0 = sym (so_far.others k (inr (omega arith)) ∙ added.same k) ∙ none in
-    let more = holes_more old.sectors a.inode first (k - first) in
-    let there : first + (k - first) ≡ k = omega (arith, from) in
-    let one : hole old.sectors a.inode (first + (k - first)) ≡ 1 = ap (hole old.sectors a.inode) there ∙ hole_is_one old.sectors a.inode k untouched in
-    let rest = holes_on old.sectors a.inode first (k - first + 1) (end - first) (omega (arith, from, below)) in
-    let f = added.free in
-    let g = so_far.free in
-    omega (arith, f, g, full, same_holes (k - first), count, more, one, rest)
+  count : taken_by old.sectors u offset (length x) ≡ holes old.sectors u first (end - first) + lacks_pointers old.sectors u first end
+  count =
+      taken_is old.sectors u offset (length x)
+      ∙ ap (λ (e : ℕ). holes old.sectors u (offset / 512) (e - offset / 512) + lacks_pointers old.sectors u (offset / 512) e) (sym is)
+
+  -- all are written
+  pub all_written : {new : TxnState} {w : Inode} → IsWritten p (pointers_of mid.sectors v (offset / 512) end) offset (offset / 512) end x mid new v w → offset / 512 ≤ end
+      → WritesBlocks p offset x old new u w
+  all_written {new} {w} done from =
+      let all : take (512 * end - offset) x ≡ x = take_all (512 * end - offset) x (omega (arith, is)) in
+      let most : blocks_to (offset + length x) - offset / 512 + pointer_sectors (offset / 512) (blocks_to (offset + length x)) ≡ end - first + pointer_sectors first end =
+      ap (λ (e : ℕ). e - offset / 512 + pointer_sectors (offset / 512) e) (sym is) in
+      record {
+        alters = alters_joined added.alters done.alters;
+        puts = record {
+          store = store_joined added.puts.store done.puts.store;
+          others = λ n out. done.puts.others n out ∙ added.puts.others n out;
+          delta = λ n has. elim (done.puts.delta n has) [ inl was ↦ added.puts.delta n was | inr r ↦ inr r ];
+          kept = λ n has. done.puts.kept n (added.puts.kept n has);
+          room =
+              let one = added.room in
+              let two = done.puts.room in
+              let less = lacking-append new (pointers_of mid.sectors v first end) (bitmaps p) in
+              omega (arith, one, two, less, most);
+        };
+        size = done.size ∙ added.size;
+        held = λ bytes h. subst (λ (r : List ℕ). Holds new.sectors w (splice bytes offset r)) all (done.held bytes (added.held bytes h));
+        hole = λ k none. elim (cases_lt k first) [
+          | inl low ↦ (sym (done.others k (inl low) ∙ added.same k) ∙ none, inl (omega (arith, low)))
+          | inr ge ↦ elim (cases_lt k end) [
+            | inl high ↦ absurd (done.here k ge high none)
+            | inr past ↦ (sym (done.others k (inr past) ∙ added.same k) ∙ none, inr (omega (arith, is, past)))
+          ]
+        ];
+        free = let one = added.free in let two = done.free in let same = same_holes (end - first) in omega (arith, one, two, same, count);
+      }
+
+  module _ {k : ℕ} {now : TxnState} {w : Inode} (so_far : IsWritten p (pointers_of mid.sectors v (offset / 512) end) offset (offset / 512) k x mid now v w)
+      (from : offset / 512 ≤ k) (below : k < end) where
+    -- where no sector is left for a block, fewer were free than the bytes take
+    pub block_lacks : pointer now.sectors w k ≡ 0 → free_sectors p now.sectors ≡ 0 → free_sectors p old.sectors < taken_by old.sectors u offset (length x)
+    block_lacks none full =
+        let untouched : pointer old.sectors u k ≡ 0 = sym (so_far.others k (inr (omega arith)) ∙ added.same k) ∙ none in
+        let more = lacks_more old.sectors u 0 first (k - first) in
+        let there : first + (k - first) ≡ k = omega (arith, from) in
+        let one : hole old.sectors u (first + (k - first)) ≡ 1 = ap (hole old.sectors u) there ∙ hole_is_one old.sectors u k untouched in
+        let rest = lacks_further old.sectors u 0 first (k - first + 1) (end - first) (omega (arith, from, below)) in
+        let f = added.free in
+        let g = so_far.free in
+        let same = same_holes (k - first) in
+        omega (arith, f, g, full, same, count, more, one, rest)
+
+    -- there is room for one block more
+    pub room_for_block : HasSpare p (blocks_to (offset + length x) - offset / 512 + pointer_sectors (offset / 512) (blocks_to (offset + length x))) old
+        → HasRoomFor p (pointers_to now.sectors w k) 1 now
+    room_for_block spare =
+        let one = added.room in
+        let two = so_far.puts.room in
+        let shared = lacks_shared mid.sectors now.sectors v w first end k from below so_far.pointers now (bitmaps p) in
+        let most : blocks_to (offset + length x) - offset / 512 + pointer_sectors (offset / 512) (blocks_to (offset + length x)) ≡ end - first + pointer_sectors first end =
+        ap (λ (e : ℕ). e - offset / 512 + pointer_sectors (offset / 512) e) (sym is) in
+        omega (arith, one, two, shared, most, from, below, spare)
 
 -- and so where none is left for the pointers
-pub pointers_lack : (p : Place) (offset end : ℕ) (x : List ℕ) (old : TxnState) (v : Inode) → end ≡ blocks_to (offset + length x) → DIRECT_BLOCKS < end → v.indirect ≡ 0
-    → free_sectors p old.sectors ≡ 0 → free_sectors p old.sectors < taken_by old.sectors v offset (length x)
-pointers_lack p offset end x old v is far none full =
-    let one : lacks_pointers v (blocks_to (offset + length x)) ≡ 1 = one_lacks v (blocks_to (offset + length x)) (omega (arith, is, far)) none in
-    omega (arith, full, one)
-
--- there is room for one block more
-pub room_for_block : {p : Place} {offset k end : ℕ} {x : List ℕ} {old mid now : TxnState} {a b c : Blocks} → AddsPointers p end old mid a b
-    → IsWritten p offset (offset / 512) k end x mid now b c → end ≡ blocks_to (offset + length x) → offset / 512 ≤ k → k < end
-    → HasSpare p (blocks_to (offset + length x) - offset / 512 + 1) old → HasRoomFor p c.inode 1 now
-room_for_block {p} {offset} {k} {end} {x} {old} {mid} {now} {a} {b} {c} added so_far is from below spare =
-    let shared : lacking now (c.inode.indirect ∷ bitmaps p) ≡ lacking now (b.inode.indirect ∷ bitmaps p) = ap (λ (u : ℕ). lacking now (u ∷ bitmaps p)) so_far.indirect in
-    let one = added.room in
-    let two = so_far.puts.room in
-    omega (arith, shared, one, two, is, from, below, spare)
+pub pointers_lack : (p : Place) (offset end : ℕ) (x : List ℕ) (old : TxnState) (v : Inode) → end ≡ blocks_to (offset + length x)
+    → free_sectors p old.sectors < lacks_pointers old.sectors v (offset / 512) end → free_sectors p old.sectors < taken_by old.sectors v offset (length x)
+pointers_lack p offset end x old v is few =
+    let count = taken_is old.sectors v offset (length x)
+    ∙ ap (λ (e : ℕ). holes old.sectors v (offset / 512) (e - offset / 512) + lacks_pointers old.sectors v (offset / 512) e) (sym is) in
+    omega (arith, count, few)

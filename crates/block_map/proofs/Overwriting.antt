@@ -4,7 +4,7 @@ use Rattle.std.proofs.lemmas.Bool.{cases_eq}
 use Rattle.fs_layout.specs.declared.inode.Inode.{Inode}
 use Rattle.fs_layout.specs.declared.inode.Kind.TheVariants as kinds
 use Rattle.fs_layout.specs.declared.place.Place.{Place}
-use Rattle.fs_layout.specs.Bytes.{SectorMap, IsBytes, splice, zeros}
+use Rattle.fs_layout.specs.Bytes.{SectorMap, IsBytes, splice}
 use Rattle.fs_layout.specs.Inode.{FitsInode}
 use Rattle.fs_layout.specs.Images.{pointer, stored, inode_bitmap, inode_at, Holds, HasNoHole, Owns, free_sectors}
 use Rattle.fs_layout.specs.Ownership.{IsConsistent}
@@ -20,14 +20,10 @@ use Rattle.sector_txn.proofs.TransactionRuns.{changes_beside, changes_weaker}
 use Rattle.bit_alloc.specs.Room.{bitmaps}
 use Rattle.bit_alloc.specs.Inodes.{IsSound, IsSectorFor}
 use Rattle.bit_alloc.proofs.Transactions.{puts_after}
-use Rattle.block_map.specs.declared.blocks.Blocks.{Blocks}
-use Rattle.block_map.specs.Blocks.{IsLoaded, number_in}
 use Rattle.block_map.specs.Contents.{ChangesContent}
 use Rattle.block_map.specs.Steps.{MayChange, IsStepSector, Alters, WritesBlock}
 use Rattle.block_map.proofs.Givings.{may_unchanged}
-use Rattle.block_map.proofs.Numbers.{number_is}
-use Rattle.block_map.proofs.Resizing.{altered_after}
-use Rattle.block_map.proofs.Rooms.{puts_beside}
+use Rattle.block_map.proofs.Alterings.{altered_after}
 use Rattle.block_map.proofs.Runs.{same_map}
 use Rattle.block_map.proofs.Saving.{sound_after}
 use Rattle.block_map.proofs.Writings.{free_after_put, writes_block_there}
@@ -81,8 +77,8 @@ changed_unsaved {p} {n} {taken} {more} {old} {new} {v} sound lt at alters puts f
 
 -- ---- one block is rewritten, after reads
 -- the sector of a block, by the blocks that were loaded for it
-pub loaded_number : {image : SectorMap} {b : Blocks} {v : Inode} {number : ℕ} (k : ℕ) → number ≡ number_in b k → IsLoaded image b (k + 1) → b.inode ≡ v → number ≡ pointer image v k
-loaded_number {image} k is loaded e = is ∙ number_is loaded k (omega arith) ∙ ap (λ (u : Inode). pointer image u k) e
+pub loaded_number : (image : SectorMap) {u v : Inode} {number : ℕ} (k : ℕ) → number ≡ pointer image u k → u ≡ v → number ≡ pointer image v k
+loaded_number image k is e = is ∙ ap (λ (u : Inode). pointer image u k) e
 
 module _ {p : Place} {n s : ℕ} {old mid new : TxnState} {v : Inode} (k at : ℕ) (x : List ℕ)
     (sound : IsSound p old) (lt : n < p.inodes) (is : v ≡ inode_at p old.sectors n) (used : v.kind ≢ kinds.Free) (same : IsUnchanged old mid)
@@ -100,13 +96,9 @@ module _ {p : Place} {n s : ℕ} {old mid new : TxnState} {v : Inode} (k at : �
   step_puts : PutsOnly (IsStepSector p) (bitmaps p) 1 mid new
   step_puts = changes_weaker {Q = IsStepSector p} (λ t e. let d = in_data in inr (omega (arith, e, d.0), omega (arith, e, d.1))) (omega arith) (changes_beside puts (bitmaps p))
 
-  abbrev shell : Blocks
-  shell = record { inode = v; pointers = zeros 512 }
-
-  step : WritesBlock p k at x mid new shell shell
+  step : WritesBlock p k at x mid new v v
   step =
-      writes_block_there (may_unchanged may_before same) (ap (λ (image : SectorMap). pointer image v k) map_before ∙ here) some room fine put
-      (puts_beside step_puts v.indirect) inside
+      writes_block_there new k at x (may_unchanged may_before same) (ap (λ (image : SectorMap). pointer image v k) map_before ∙ here) some put room fine step_puts inside
 
   pub over_changes : ChangesContent p n 0 1 old new v v
   over_changes =

@@ -7,29 +7,26 @@ use Rattle.fs_layout.specs.declared.inode.Inode.{Inode}
 use Rattle.fs_layout.specs.declared.inode.Kind.{Kind}
 use Rattle.fs_layout.specs.declared.place.Place.{Place}
 use Rattle.fs_layout.specs.Bytes.{SectorMap, splice, zeros, resized}
-use Rattle.fs_layout.specs.Images.{pointer, part, Block, Owns, Holds, byte_in, byte_at, free_sectors}
-use Rattle.fs_layout.specs.InodeChanges.{Puts, ChangesBlocks}
-use Rattle.fs_layout.proofs.Blocks.{fields_change, pointers_apart}
-use Rattle.fs_layout.proofs.Parts.{KeepsPointers, block_has_no_pointers, indirect_kept, pointer_same, byte_in_kept, owns_block}
+use Rattle.fs_layout.specs.Images.{pointer, Owns, Holds, byte_in, byte_at, free_sectors}
+use Rattle.fs_layout.specs.InodeChanges.{Puts}
+use Rattle.fs_layout.proofs.Blocks.{fields_change}
+use Rattle.fs_layout.proofs.Parts.{KeepsPointers, pointer_same, byte_in_kept, owns_block}
 use Rattle.fs_layout.proofs.Held.{held_hole}
 use Rattle.fs_layout.proofs.Sectors.{IsBytes-zeros}
 use Rattle.fs_layout.proofs.Writes.{length-zeros}
 use Rattle.fs_layout.proofs.SplicedBytes.{get_or-zeros, length-splice, get_or-splice_before, get_or-splice_inside}
 use Rattle.sector_txn.specs.Sectors.{TxnState, IsUnchanged, PutsOnly}
 use Rattle.sector_txn.proofs.TransactionRuns.{changes_joined, changes_nothing, changes_weaker}
-use Rattle.bit_alloc.specs.Inodes.{KeepsAcls}
 use Rattle.bit_alloc.specs.Room.{bitmaps}
 use Rattle.bit_alloc.proofs.Transactions.{unchanged_nothing, puts_after}
-use Rattle.block_map.specs.declared.blocks.Blocks.{Blocks}
 use Rattle.block_map.specs.Contents.{AllowsSize}
 use Rattle.block_map.specs.Drops.{DropsBlocks}
 use Rattle.block_map.specs.Sizes.{HasZeroTail, ClearsTail, Resizes}
 use Rattle.block_map.specs.Steps.{MayChange, IsStepSector, Alters, WritesBlock}
-use Rattle.block_map.proofs.Alterings.{alters_joined, may_after, fields_same, acls_kept}
+use Rattle.block_map.proofs.Alterings.{alters_joined, may_after, fields_same, acls_kept, altered_after}
 use Rattle.block_map.proofs.Sizing.{sized, sized_holds, sized_number, sized_pointer}
 use Rattle.block_map.proofs.Runs.{same_map}
-use Rattle.block_map.proofs.Rooms.{puts_beside}
-use Rattle.block_map.proofs.Writings.{free_after_put, writes_block_there}
+use Rattle.block_map.proofs.Writings.{free_after_put, there_kept, writes_block_there}
 use Rattle.block_map.proofs.Wrote.{free_same}
 
 -- ---- a longer one
@@ -53,7 +50,6 @@ pub tail_kept : {p : Place} {m : ℕ} {old : TxnState} {v : Inode} → MayChange
     → ((bytes : List ℕ) → Holds old.sectors v bytes → (i : ℕ) → m ≤ i → i < 512 * ((m + 511) / 512) → get_or bytes i 0 ≡ 0) → ClearsTail p m old old v
 tail_kept {p} {m} {old} {v} may none = record {
   alters = record { blocks = fields_change may.bitmaps.place may.bitmaps.tables may.apart refl refl refl; fields = fields_same; acls = acls_kept refl refl (λ some. refl) (λ some. refl); bitmaps = may.bitmaps; fits = may.fits };
-  loaded = λ b is end l. l;
   puts = changes_weaker {Q = IsStepSector p} (λ t r. r) (omega arith) (changes_nothing {R = IsStepSector p} (bitmaps p));
   pointers = λ k. refl;
   held = λ bytes h. (bytes, h, record { before = λ i lt. refl; after = none bytes h; len = refl });
@@ -95,33 +91,27 @@ some_zeros n len le =
     ext_get_or 0 (take len (zeros n)) (zeros len) (a ∙ sym (length-zeros len)) (λ i lt.
     get_or-take len (zeros n) i 0 (omega (arith, a, lt)) ∙ get_or-zeros n i ∙ sym (get_or-zeros len i))
 
-pub tail_written : {p : Place} {m len s : ℕ} {x : List ℕ} {old new : TxnState} (b : Blocks) → MayChange p old b.inode → pointer old.sectors b.inode (m / 512) ≡ s → s ≢ 0
+pub tail_written : {p : Place} {m len s : ℕ} {x : List ℕ} {old new : TxnState} {v : Inode} → MayChange p old v → pointer old.sectors v (m / 512) ≡ s → s ≢ 0
     → Puts s (splice (old.sectors s) (m % 512) x) old.sectors new.sectors → x ≡ zeros len → PutsOnly (IsStepSector p) (bitmaps p) 1 old new
-    → m + len ≤ b.inode.size → m % 512 + len ≤ 512 → (len ≡ 512 - m % 512) ⊎ (m + len ≡ b.inode.size) → ClearsTail p m old new b.inode
-unfolding part
-tail_written {p} {m} {len} {s} {x} {old} {new} b may is some written e puts fits room way =
+    → m + len ≤ v.size → m % 512 + len ≤ 512 → (len ≡ 512 - m % 512) ⊎ (m + len ≡ v.size) → ClearsTail p m old new v
+tail_written {p} {m} {len} {s} {x} {old} {new} {v} may is some written e puts fits room way =
     let put : Puts s (splice (old.sectors s) (m % 512) (zeros len)) old.sectors new.sectors =
     subst (λ (y : List ℕ). Puts s (splice (old.sectors s) (m % 512) y) old.sectors new.sectors) e written in
     let z : length (zeros len) ≡ len = length-zeros len in
     let at : 512 * (m / 512) + m % 512 ≡ m = omega arith in
-    let block : WritesBlock p (m / 512) (m % 512) (zeros len) old new b b =
-    writes_block_there may is some (omega (arith, z, room)) (IsBytes-zeros len) put (puts_beside puts b.inode.indirect) (omega (arith, z, fits)) in
-    let kept : KeepsPointers old.sectors new.sectors b.inode = pointers_apart may.apart (Block (m / 512)) (block_has_no_pointers (m / 512)) is some put in
+    let block : WritesBlock p (m / 512) (m % 512) (zeros len) old new v v =
+    writes_block_there new (m / 512) (m % 512) (zeros len) may is some put (omega (arith, z, room)) (IsBytes-zeros len) puts (omega (arith, z, fits)) in
+    let kept : KeepsPointers old.sectors new.sectors v = there_kept new (m / 512) (m % 512) (zeros len) may is some put in
     let free : free_sectors p new.sectors ≡ free_sectors p old.sectors =
-    free_after_put may.bitmaps.place (may.apart.each s (subst (Owns old.sectors b.inode) is (owns_block old.sectors b.inode (m / 512) (λ f. some (sym is ∙ f))))).0 put in
+    free_after_put may.bitmaps.place (may.apart.each s (subst (Owns old.sectors v) is (owns_block old.sectors v (m / 512) (λ f. some (sym is ∙ f))))).0 put in
     record {
       alters = block.alters;
-      loaded = λ c same end l. record {
-        is = λ has far.
-            l.is has far ∙ sym (indirect_kept old.sectors new.sectors c.inode (subst (λ (i : Inode). KeepsPointers old.sectors new.sectors i) (sym same) kept) has);
-        none = l.none;
-      };
       puts = puts;
-      pointers = pointer_same old.sectors new.sectors b.inode kept;
+      pointers = pointer_same old.sectors new.sectors v kept;
       held = λ bytes h.
           let y = h.size in (
             splice bytes m (zeros len),
-            subst (λ (k : ℕ). Holds new.sectors b.inode (splice bytes k (zeros len))) at (block.held bytes h),
+            subst (λ (k : ℕ). Holds new.sectors v (splice bytes k (zeros len))) at (block.held bytes h),
             spliced_is_cleared bytes m len (omega (arith, fits, y)) (elim way [ inl f ↦ inl f | inr f ↦ inr (omega (arith, f, y)) ]),
           );
       free = omega (arith, free);
@@ -162,17 +152,6 @@ cut_is_resized : (bytes : List ℕ) (m : ℕ) → m ≤ length bytes → take m 
 cut_is_resized bytes m le =
     let none : m - length bytes ≡ 0 = omega (arith, le) in
     sym (ap (λ (k : ℕ). take m bytes ++ replicate k 0) none ∙ append-nil (take m bytes))
-
-pub altered_after : {p : Place} {old start mid : TxnState} {v w : Inode} → IsUnchanged old start → Alters p start mid v w → Alters p old mid v w
-altered_after {p} {old} {start} {mid} {v} {w} same a =
-    let e : start.sectors ≡ old.sectors = same_map old.sectors start.sectors same.sectors in
-    record {
-      blocks = subst (λ (image : SectorMap). ChangesBlocks p v w image mid.sectors) e a.blocks;
-      fields = a.fields;
-      acls = subst (λ (image : SectorMap). KeepsAcls image mid.sectors v w) e a.acls;
-      bitmaps = a.bitmaps;
-      fits = a.fits;
-    }
 
 pub resizes : {p : Place} {m : ℕ} {old start mid new : TxnState} {u v w : Inode} → MayChange p old v → AllowsSize v.kind m → m ≤ v.size → v.size ≤ MAX_FILE_SIZE
     → IsUnchanged old start → u ≡ v → ClearsTail p m start mid u → DropsBlocks p ((m + 511) / 512) mid new u w → Resizes p m old new v (record w { size = m })

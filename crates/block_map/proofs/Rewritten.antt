@@ -44,3 +44,8 @@ pub was_full : (r : Result (Unit {0}) MapFault) (f : TakeFault) → IsErr r → 
 was_full (Ok u) f err and is = cc
 was_full (Err e) take.Full err and is = refl
 was_full (Err e) take.DiskFault err and is = cc
+
+-- a sector is filled with zeros
+pub all_zeros : {m : ℕ} {x : List ℕ} → x ≡ replicate m 0 → m ≡ 512 → x ≡ zeros 512
+unfolding zeros
+all_zeros is whole = is ∙ ap (λ (n : ℕ). replicate n 0) whole

@@ -1,32 +1,182 @@
--- Room, shared by one sector more.
-use Rattle.std.proofs.Common.{◌≡◌, ℕ, ◌+◌, ◌≤◌, Bool, true, false, cond, List, ◌∷◌, refl, sym, arith}
-use Rattle.std.proofs.lemmas.Bool.{true≢false}
+-- Room, shared by sectors more.
+use Rattle.std.proofs.Common.{◌≡◌, ℕ, zero, suc, ◌+◌, ◌≤◌, ◌<◌, Bool, true, false, cond, List, [], ◌∷◌, ◌++◌, refl, sym, ap, arith, inl, inr}
+use Rattle.std.proofs.lemmas.Bool.{true≢false, cases_eq}
+use Rattle.fs_layout.specs.declared.inode.Inode.{Inode}
+use Rattle.fs_layout.specs.Bytes.{SectorMap}
+use Rattle.fs_layout.specs.Images.{number_on}
 use Rattle.sector_txn.specs.Sectors.{TxnState, PutsOnly, lacking}
+use Rattle.sector_txn.proofs.TransactionRuns.{lacking_less}
+use Rattle.block_map.specs.Steps.{numbers_on}
 
-lacks : (b : Bool) (x y k : ℕ) → x ≤ y → x ≤ cond b y (y + 1)
-lacks true x y k le = le
-lacks false x y k le = omega (arith, le)
+-- the room that one sector needs
+abbrev unless : Bool → ℕ
+unless true = 0
+unless false = 1
 
-one_more : (b : Bool) (x : ℕ) → cond b x (x + 1) ≤ x + 1
-one_more true x = omega arith
-one_more false x = omega arith
+unput : TxnState → ℕ → ℕ
+unput txn u = unless (txn.has_put u)
+
+cons : (b : Bool) (x : ℕ) → cond b x (x + 1) ≡ unless b + x
+cons true x = omega arith
+cons false x = omega arith
+
+lacking-cons : (txn : TxnState) (u : ℕ) (ns : List ℕ) → lacking txn (u ∷ ns) ≡ unput txn u + lacking txn ns
+unfolding unput
+lacking-cons txn u ns = cons (txn.has_put u) (lacking txn ns)
+
+one_at_most : (b : Bool) → unless b ≤ 1
+one_at_most true = omega arith
+one_at_most false = omega arith
+
+unput_few : (txn : TxnState) (u : ℕ) → unput txn u ≤ 1
+unfolding unput
+unput_few txn u = one_at_most (txn.has_put u)
+
+none_unput : (b : Bool) → b ≡ true → unless b ≡ 0
+none_unput true e = refl
+none_unput false e = absurd (true≢false (sym e))
+
+put_needs_none : (txn : TxnState) (u : ℕ) → txn.has_put u ≡ true → unput txn u ≡ 0
+unfolding unput
+put_needs_none txn u has = none_unput (txn.has_put u) has
+
+some_unput : (b : Bool) → b ≡ false → unless b ≡ 1
+some_unput true e = absurd (true≢false e)
+some_unput false e = refl
+
+needs_one : (txn : TxnState) (u : ℕ) → txn.has_put u ≡ false → unput txn u ≡ 1
+unfolding unput
+needs_one txn u none = some_unput (txn.has_put u) none
+
+-- one that wasn't put needs room
+pub lacking_unput : (txn : TxnState) (u : ℕ) (ns : List ℕ) → txn.has_put u ≡ false → 1 ≤ lacking txn (u ∷ ns)
+lacking_unput txn u ns none = let e = lacking-cons txn u ns in let z = needs_one txn u none in omega (arith, e, z)
+
+-- one that was put needs none
+pub lacking_put : (txn : TxnState) (u : ℕ) (ns : List ℕ) → txn.has_put u ≡ true → lacking txn (u ∷ ns) ≡ lacking txn ns
+lacking_put txn u ns has = let e = lacking-cons txn u ns in let z = put_needs_none txn u has in omega (arith, e, z)
+
+falls : (b c : Bool) → (b ≡ true → c ≡ true) → unless c ≤ unless b
+falls true true kept = omega arith
+falls true false kept = absurd (true≢false (sym (kept refl)))
+falls false c kept = one_at_most c
+
+pub lacking-append : (txn : TxnState) (xs ns : List ℕ) → lacking txn (xs ++ ns) ≡ lacking txn xs + lacking txn ns
+lacking-append txn [] ns = omega arith
+lacking-append txn (x ∷ xs) ns =
+    let rest = lacking-append txn xs ns in
+    let a = lacking-cons txn x (xs ++ ns) in
+    let b = lacking-cons txn x xs in
+    omega (arith, rest, a, b)
 
 -- a sector more lacks no fewer, and one more at most
 pub lacking_beside : (txn : TxnState) (u : ℕ) (ns : List ℕ) → (lacking txn ns ≤ lacking txn (u ∷ ns)) × (lacking txn (u ∷ ns) ≤ lacking txn ns + 1)
-lacking_beside txn u ns = (lacks (txn.has_put u) (lacking txn ns) (lacking txn ns) 0 (omega arith), one_more (txn.has_put u) (lacking txn ns))
+lacking_beside txn u ns = let e = lacking-cons txn u ns in let few = unput_few txn u in (omega (arith, e), omega (arith, e, few))
 
-shared : (b c : Bool) (x y old new k : ℕ) → (c ≡ true → b ≡ true) → old + x ≤ new + y + k → old + cond b x (x + 1) ≤ new + cond c y (y + 1) + k
-shared true true x y old new k still le = le
-shared true false x y old new k still le = omega (arith, le)
-shared false true x y old new k still le = absurd (true≢false (sym (still refl)))
-shared false false x y old new k still le = omega (arith, le)
+-- so many sectors lack so many at most
+pub lacking_few : (txn : TxnState) (image : SectorMap) (v : Inode) (level first count : ℕ) → lacking txn (numbers_on image v level first count) ≤ count
+lacking_few txn image v level first zero = omega arith
+lacking_few txn image v level first (suc count) =
+    let rest = lacking_few txn image v level (first + 1) count in
+    let one = (lacking_beside txn (number_on image v level first) (numbers_on image v level (first + 1) count)).1 in
+    omega (arith, rest, one)
 
--- a run that may share a sector more
-pub puts_beside : {R : ℕ → Type 0} {ns : List ℕ} {more : ℕ} {old new : TxnState} → PutsOnly R ns more old new → (u : ℕ) → PutsOnly R (u ∷ ns) more old new
-puts_beside {R} {ns} {more} {old} {new} puts u = record {
+-- a number more
+pub lacking_more : (txn : TxnState) (image : SectorMap) (v : Inode) (level first count : ℕ)
+    → lacking txn (numbers_on image v level first (count + 1)) ≡ lacking txn (numbers_on image v level first count) + lacking txn (number_on image v level (first + count) ∷ [])
+lacking_more txn image v level first zero =
+    let e : first + 0 ≡ first = omega arith in
+    let one : lacking txn (numbers_on image v level first (0 + 1)) ≡ lacking txn (number_on image v level first ∷ []) = refl in
+    let none : lacking txn (numbers_on image v level first 0) ≡ 0 = refl in
+    let here : lacking txn (number_on image v level (first + 0) ∷ []) ≡ lacking txn (number_on image v level first ∷ []) =
+    ap (λ (i : ℕ). lacking txn (number_on image v level i ∷ [])) e in
+    omega (arith, one, none, here)
+lacking_more txn image v level first (suc count) =
+    let rest = lacking_more txn image v level (first + 1) count in
+    let e : first + 1 + count ≡ first + suc count = omega arith in
+    let last : lacking txn (number_on image v level (first + 1 + count) ∷ []) ≡ lacking txn (number_on image v level (first + suc count) ∷ []) =
+    ap (λ (i : ℕ). lacking txn (number_on image v level i ∷ [])) e in
+    let next : suc count + 1 ≡ suc (count + 1) = omega arith in
+    let all : lacking txn (numbers_on image v level first (suc count + 1)) ≡ lacking txn (numbers_on image v level first (suc (count + 1))) =
+    ap (λ (n : ℕ). lacking txn (numbers_on image v level first n)) next in
+    let a = lacking-cons txn (number_on image v level first) (numbers_on image v level (first + 1) (count + 1)) in
+    let b = lacking-cons txn (number_on image v level first) (numbers_on image v level (first + 1) count) in
+    omega (arith, rest, last, all, a, b)
+
+module _ (old new : TxnState) (kept : (n : ℕ) → old.has_put n ≡ true → new.has_put n ≡ true) where
+  unput_falls : (u : ℕ) → unput new u ≤ unput old u
+  unfolding unput
+  unput_falls u = falls (old.has_put u) (new.has_put u) (kept u)
+
+  -- numbers lack as many less as one of them does
+  falls_with : (image : SectorMap) (v : Inode) (level first count i : ℕ) → first ≤ i → i < first + count
+      → lacking new (numbers_on image v level first count) + unput old (number_on image v level i)
+      ≤ lacking old (numbers_on image v level first count) + unput new (number_on image v level i)
+  falls_with image v level first zero i from to = absurd (omega (arith, from, to))
+  falls_with image v level first (suc count) i from to =
+      let a = lacking-cons new (number_on image v level first) (numbers_on image v level (first + 1) count) in
+      let b = lacking-cons old (number_on image v level first) (numbers_on image v level (first + 1) count) in
+      elim (cases_eq i first) [
+        | inl e ↦
+            let rest = lacking_less old new kept (numbers_on image v level (first + 1) count) in
+            let c = ap (λ (j : ℕ). unput old (number_on image v level j)) e in
+            let d = ap (λ (j : ℕ). unput new (number_on image v level j)) e in
+            omega (arith, rest, a, b, c, d)
+        | inr ne ↦
+            let rest = falls_with image v level (first + 1) count i (omega (arith, from, ne)) (omega (arith, to)) in
+            let one = unput_falls (number_on image v level first) in
+            omega (arith, rest, a, b, one)
+      ]
+
+-- a run that may share sectors more
+pub puts_before : {R : ℕ → Type 0} {ns : List ℕ} {more : ℕ} {old new : TxnState} → PutsOnly R ns more old new → (xs : List ℕ) → PutsOnly R (xs ++ ns) more old new
+puts_before {R} {ns} {more} {old} {new} puts xs = record {
   store = puts.store;
   others = puts.others;
   delta = puts.delta;
   kept = puts.kept;
-  room = shared (new.has_put u) (old.has_put u) (lacking new ns) (lacking old ns) old.room new.room more (puts.kept u) puts.room;
+  room =
+      let r = puts.room in
+      let f = lacking_less old new puts.kept xs in
+      let a = lacking-append new xs ns in
+      let b = lacking-append old xs ns in
+      omega (arith, r, f, a, b);
 }
+
+pub puts_beside : {R : ℕ → Type 0} {ns : List ℕ} {more : ℕ} {old new : TxnState} → PutsOnly R ns more old new → (u : ℕ) → PutsOnly R (u ∷ ns) more old new
+puts_beside puts u = puts_before puts (u ∷ [])
+
+-- a run that shares one of several numbers
+pub puts_among : {R : ℕ → Type 0} {ns : List ℕ} {more : ℕ} {old new : TxnState} (image : SectorMap) (v : Inode) (level first count i : ℕ) → first ≤ i → i < first + count
+    → PutsOnly R (number_on image v level i ∷ ns) more old new → PutsOnly R (numbers_on image v level first count ++ ns) more old new
+puts_among {R} {ns} {more} {old} {new} image v level first count i from to puts = record {
+  store = puts.store;
+  others = puts.others;
+  delta = puts.delta;
+  kept = puts.kept;
+  room =
+      let r = puts.room in
+      let f = falls_with old new puts.kept image v level first count i from to in
+      let a = lacking-append new (numbers_on image v level first count) ns in
+      let b = lacking-append old (numbers_on image v level first count) ns in
+      let c = lacking-cons new (number_on image v level i) ns in
+      let d = lacking-cons old (number_on image v level i) ns in
+      omega (arith, r, f, a, b, c, d);
+}
+
+-- one of several numbers needs no more room than they
+pub lacks_among : (txn : TxnState) (image : SectorMap) (v : Inode) (level first count i : ℕ) → first ≤ i → i < first + count
+    → (ns : List ℕ) → lacking txn (number_on image v level i ∷ ns) ≤ lacking txn (numbers_on image v level first count ++ ns)
+lacks_among txn image v level first zero i from to ns = absurd (omega (arith, from, to))
+lacks_among txn image v level first (suc count) i from to ns =
+    let a = lacking-cons txn (number_on image v level first) (numbers_on image v level (first + 1) count ++ ns) in
+    let u = lacking-cons txn (number_on image v level i) ns in
+    elim (cases_eq i first) [
+      | inl e ↦
+          let c = ap (λ (j : ℕ). unput txn (number_on image v level j)) e in
+          let b = lacking-append txn (numbers_on image v level (first + 1) count) ns in
+          omega (arith, a, u, b, c)
+      | inr ne ↦
+          let rest = lacks_among txn image v level (first + 1) count i (omega (arith, from, ne)) (omega (arith, to)) ns in
+          omega (arith, rest, a)
+    ]

@@ -57,6 +57,7 @@ sized_fits v m fits allowed few = record {
   direct_len = fits.direct_len;
   direct = fits.direct;
   indirect = fits.indirect;
+  double_indirect = fits.double_indirect;
 }
 
 -- an inode of the table may be changed

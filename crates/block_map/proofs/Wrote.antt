@@ -1,12 +1,13 @@
 -- Bytes are written and the inode is saved.
-use Rattle.std.proofs.Common.{◌≡◌, ℕ, ◌+◌, ◌-◌, ◌/◌, ◌%◌, ◌≤◌, ◌<◌, Bool, true, false, cond, List, [], ◌++◌, length, sym, ap, subst, ◌∙◌, arith, inl, inr}
-use Rattle.std.specs.Prelude.{max, nat_eq, nat_lt}
-use Rattle.fs_layout.specs.declared.inode.TheConstants.{DIRECT_BLOCKS, MAX_FILE_SIZE}
+use Rattle.std.proofs.Common.{◌≡◌, ℕ, ◌+◌, ◌-◌, ◌/◌, ◌%◌, ◌≤◌, ◌<◌, ◌*◌, zero, suc, List, [], ◌++◌, length, sym, ap, subst, ◌∙◌, arith, inl, inr}
+use Rattle.std.specs.Prelude.{max}
+use Rattle.std.proofs.lemmas.Bool.{cases_lt}
+use Rattle.fs_layout.specs.declared.inode.TheConstants.{DIRECT_BLOCKS, MAX_BLOCKS, MAX_DIRECTORY_SIZE, MAX_FILE_SIZE}
 use Rattle.fs_layout.specs.declared.slot.TheConstants.{SLOT_SIZE}
 use Rattle.fs_layout.specs.declared.inode.Inode.{Inode}
 use Rattle.fs_layout.specs.declared.place.Place.{Place}
 use Rattle.fs_layout.specs.Bytes.{SectorMap, zeros, overwritten}
-use Rattle.fs_layout.specs.Images.{pointer, Holds, HasNoHole, inode_at, free_sectors}
+use Rattle.fs_layout.specs.Images.{holder, number_on, pointer, Holds, HasNoHole, inode_at, free_sectors}
 use Rattle.fs_layout.specs.InodeChanges.{Saves}
 use Rattle.fs_layout.proofs.Parts.{Holds-kept, HasNoHole-kept}
 use Rattle.fs_layout.proofs.Places.{after_map, before_data}
@@ -16,9 +17,10 @@ use Rattle.bit_alloc.specs.Inodes.{IsSound}
 use Rattle.bit_alloc.proofs.Transactions.{puts_after}
 use Rattle.block_map.specs.Blocks.{IsWithin}
 use Rattle.block_map.specs.Contents.{AllowsSize}
-use Rattle.block_map.specs.Steps.{MayChange, IsStepSector, lacks_pointers, WritesBlocks, blocks_to, taken_by, put_by}
+use Rattle.block_map.specs.Sizes.{put_to}
+use Rattle.block_map.specs.Steps.{MayChange, IsStepSector, lacks_above, lacks_pointers, pointer_sectors, sectors_above, WritesBlocks, blocks_to, taken_by, put_by}
 use Rattle.block_map.proofs.Alterings.{alters_joined}
-use Rattle.block_map.proofs.Counts.{holes_few, holes_same}
+use Rattle.block_map.proofs.Counts.{empty_few, lack_few, lacks_few, lacks_pointers_is, no_lacks, taken_is}
 use Rattle.block_map.proofs.Runs.{same_map}
 use Rattle.block_map.proofs.Saving.{IsEnded, saved_after}
 use Rattle.block_map.proofs.Sizing.{may_change, sized, sized_holds, sized_pointer, spliced_is_overwritten}
@@ -38,38 +40,67 @@ pub limit_at : (m size offset len limit : ℕ) → m ≡ max size (offset + len)
 limit_at m size offset len limit is within few least most small = omega (arith, is, within, few, least, most, small)
 
 -- ---- how many sectors are taken
-one_at_most : (b c : Bool) → cond b (cond c 1 0) 0 ≤ 1
-one_at_most true true = omega arith
-one_at_most true false = omega arith
-one_at_most false c = omega arith
+few_above : (image : SectorMap) (v : Inode) (last : ℕ) → lacks_above image v last ≤ 1
+few_above image v zero = omega arith
+few_above image v (suc last) = lack_few image v 2 0
 
-pub taken_few : (image : SectorMap) (v : Inode) (offset len : ℕ) → len ≤ 4096 → taken_by image v offset len ≤ 10
-taken_few image v offset len few =
+-- those of pointers are no more than three
+pointers_few : (image : SectorMap) (v : Inode) (first end : ℕ) → end ≤ first + 9 → first ≤ end → end ≤ MAX_BLOCKS → lacks_pointers image v first end ≤ 3
+pointers_few image v first end near le few = elim (cases_lt DIRECT_BLOCKS end) [
+  | inr low ↦ let none = no_lacks image v first end low in omega (arith, none)
+  | inl far ↦ elim (cases_lt first end) [
+    | inl lt ↦
+        let last : ℕ = holder DIRECT_BLOCKS (end - 1) in
+        let from : ℕ = holder DIRECT_BLOCKS first in
+        let count = lacks_pointers_is image v first end far lt few in
+        let one = few_above image v last in
+        let some = lacks_few image v 1 from (last + 1 - from) in
+        omega (arith, count, one, some, near)
+    | inr past ↦ empty_few image v first end (omega (arith, past, le))
+  ]
+]
+
+pub taken_few : (image : SectorMap) (v : Inode) (offset len : ℕ) → len ≤ 4096 → offset + len ≤ 512 * MAX_BLOCKS → taken_by image v offset len ≤ 12
+taken_few image v offset len few limit =
     let end : ℕ = blocks_to (offset + len) in
-    let some = holes_few image v (offset / 512) (end - offset / 512) in
-    let one : lacks_pointers v end ≤ 1 = one_at_most (nat_lt DIRECT_BLOCKS end) (nat_eq v.indirect 0) in
-    let most : end - offset / 512 ≤ 9 = omega (arith, few) in
-    omega (arith, some, one, most)
+    let some = lacks_few image v 0 (offset / 512) (end - offset / 512) in
+    let more = pointers_few image v (offset / 512) end (omega (arith, few)) (omega arith) (omega (arith, limit)) in
+    let is = taken_is image v offset len in
+    omega (arith, is, some, more, few)
 
 -- the size says nothing of it, nor do reads
 pub taken_same : (old mid : TxnState) (v : Inode) (m offset len : ℕ) → IsUnchanged old mid → taken_by mid.sectors (record v { size = m }) offset len ≡ taken_by old.sectors v offset len
+unfolding number_on
 taken_same old mid v m offset len same =
     let e : mid.sectors ≡ old.sectors = same_map old.sectors mid.sectors same.sectors in
     ap (λ (image : SectorMap). taken_by image (record v { size = m }) offset len) e
-    ∙ ap (λ (h : ℕ). h + lacks_pointers v (blocks_to (offset + len)))
-    (holes_same old.sectors old.sectors v (record v { size = m }) (λ k. sized_pointer old.sectors v m k) (offset / 512) (blocks_to (offset + len) - offset / 512))
 
 pub free_same : (p : Place) (old mid : TxnState) → IsUnchanged old mid → free_sectors p mid.sectors ≡ free_sectors p old.sectors
 free_same p old mid same = ap (free_sectors p) (same_map old.sectors mid.sectors same.sectors)
 
 -- ---- how many sectors are put
--- 11 at most
-pub put_few : (offset len : ℕ) → len ≤ 4096 → put_by offset len ≤ 11
-put_few offset len few = omega (arith, few)
+one_above : (last : ℕ) → sectors_above last ≤ 1
+one_above zero = omega arith
+one_above (suc last) = omega arith
+
+-- 13 at most
+pub put_few : (offset len : ℕ) → len ≤ 4096 → put_by offset len ≤ 13
+put_few offset len few = let one = one_above (holder DIRECT_BLOCKS (blocks_to (offset + len) - 1)) in omega (arith, few, one)
+
+-- 4 at most for another size
+pub put_to_few : (size : ℕ) → put_to size ≤ 4
+put_to_few size = omega arith
+
+-- 3 for one of a directory
+pub put_to_directory : (size : ℕ) → size ≤ MAX_DIRECTORY_SIZE → put_to size ≡ 3
+put_to_directory size few = omega (arith, few)
 
 -- 3 where the bytes are one slot of a directory
-pub put_for_slot : (offset : ℕ) → offset % SLOT_SIZE ≡ 0 → put_by offset SLOT_SIZE ≡ 3
-put_for_slot offset at = omega (arith, at)
+pub put_for_slot : (offset : ℕ) → offset % SLOT_SIZE ≡ 0 → offset + SLOT_SIZE ≤ MAX_DIRECTORY_SIZE → put_by offset SLOT_SIZE ≡ 3
+put_for_slot offset at few =
+    let none : holder DIRECT_BLOCKS (blocks_to (offset + SLOT_SIZE) - 1) ≡ 0 = omega (arith, at, few) in
+    let above = ap sectors_above none in
+    omega (arith, at, few, above)
 
 -- ---- the whole call
 module _ {p : Place} {n m offset : ℕ} {x : List ℕ} {old mid done new : TxnState} {u v w : Inode}
@@ -79,13 +110,10 @@ module _ {p : Place} {n m offset : ℕ} {x : List ℕ} {old mid done new : TxnSt
       → IsEnded p n (taken_by old.sectors v offset (length x)) (put_by offset (length x)) old done new v w
   wrote saves put =
       let written : WritesBlocks p offset x mid done (record v { size = m }) w = subst (λ (i : Inode). WritesBlocks p offset x mid done (record i { size = m }) w) e step in
-      let reached : ℕ = blocks_to (offset + length x) - offset / 512 in
-      let puts : PutsOnly (IsStepSector p) (bitmaps p) (reached + 1) old done = puts_after same written.puts in
+      let puts : PutsOnly (IsStepSector p) (bitmaps p) (blocks_to (offset + length x) - offset / 512 + pointer_sectors (offset / 512) (blocks_to (offset + length x))) old done = puts_after same written.puts in
       let count = taken_same old mid v m offset (length x) same in
       let free = written.free in
       let before = free_same p old mid same in
-      let more : reached + 1 + 1 ≡ put_by offset (length x) = omega arith in
-      subst (λ (k : ℕ). IsEnded p n (taken_by old.sectors v offset (length x)) k old done new v w) more
       (saved_after sound lt (sym at) (alters_joined (sized m (may_change m sound lt at allowed) same allowed limit) written.alters) puts (omega (arith, count, free, before)) saves put)
 
   pub wrote_held : (ended : IsEnded p n (taken_by old.sectors v offset (length x)) (put_by offset (length x)) old done new v w) → (held : List ℕ) → Holds old.sectors v held

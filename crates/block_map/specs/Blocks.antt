@@ -1,26 +1,28 @@
 -- The blocks of an inode, and what is read of it.
 --     IsWithin        an inode's sectors can be read
---     number_in, IsLoaded        a block's sector, by an inode and its sector of pointers at hand
+--     IsAtHand, IsLoaded        the sector of pointers at hand; it is the one that has a block's number
 --     IsReadOf        what a read gives
 use Rattle.std.specs.Prelude.{◌≡◌, ◌≢◌, ℕ, ◌-◌, ◌<◌, ◌≤◌, List, ◌++◌, length, drop, min}
 use Rattle.fs_layout.specs.declared.inode.TheConstants.{DIRECT_BLOCKS}
 use Rattle.fs_layout.specs.declared.inode.Inode.{Inode}
 use Rattle.fs_layout.specs.Bytes.{SectorMap, window, zeros}
-use Rattle.fs_layout.specs.Images.{Owns, block_number}
+use Rattle.fs_layout.specs.Images.{Owns, holder, number_on}
 use Rattle.block_map.specs.declared.blocks.Blocks.{Blocks}
 
 -- each sector that the inode owns lies behind the log, on a disk of so many sectors
 abbrev pub IsWithin : ℕ → SectorMap → Inode → Type 0
 IsWithin size image v = (s : ℕ) → Owns image v s → (128 ≤ s) × (s < size)
 
--- the sector of block k; 0 for a hole
-abbrev pub number_in : Blocks → ℕ → ℕ
-number_in b k = block_number b.inode b.pointers k
+-- what is at hand is the sector of pointers to blocks with this index: its number, and its content, zeros where there is none
+pub record IsAtHand (image : SectorMap) (b : Blocks) : Type 0 where
+  pub number : number_on image b.inode 1 b.index ≡ b.sector
+  pub is : b.sector ≢ 0 → b.pointers ≡ image b.sector
+  pub none : b.sector ≡ 0 → b.pointers ≡ zeros 512
 
--- the sector of pointers is at hand, where a block below `end` needs it; zeros where there is none
-pub record IsLoaded (image : SectorMap) (b : Blocks) (end : ℕ) : Type 0 where
-  pub is : b.inode.indirect ≢ 0 → DIRECT_BLOCKS < end → b.pointers ≡ image b.inode.indirect
-  pub none : b.inode.indirect ≡ 0 → b.pointers ≡ zeros 512
+-- and it has the number of block k, if that doesn't stand in the inode
+pub record IsLoaded (image : SectorMap) (b : Blocks) (k : ℕ) : Type 0 where
+  pub at_hand : IsAtHand image b
+  pub index : DIRECT_BLOCKS ≤ k → b.index ≡ holder DIRECT_BLOCKS k
 
 -- of a list of bytes `count` were read from an offset on into a buffer: as many as it has and as are left
 pub record IsReadOf (bytes : List ℕ) (offset : ℕ) (old new : List ℕ) (count : ℕ) : Type 0 where

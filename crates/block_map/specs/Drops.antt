@@ -1,51 +1,94 @@
--- Blocks are given back.
---     GivesNumbers        the sectors of a level's numbers are given back
+-- Sectors are given back.
+--     GivesParts        the sectors that the inode has for these parts are given back
+--     IsInData        what the inode owns is in the data
+--     IsFor, IsAmong        a part that serves only blocks from one on; one of several numbers of a level
+--     first_on        the first number of a level that serves only such blocks
+--     IsCutFrom, CutsSector        the numbers of a sector of pointers from one on become 0
+--     ClearsNumbers        the inode itself has them no more
+--     cut_by        how many sectors of pointers are written for that
 --     DropsBlocks        blocks are given back, and the inode has them no more
---     GivesAll, emptied        all that an inode has for its bytes; the inode without it
-use Rattle.std.specs.Prelude.{◌≡◌, ◌≢◌, ℕ, ◌<◌, ◌≤◌, false, IsTrue, replicate}
-use Rattle.fs_layout.specs.declared.inode.TheConstants.{DIRECT_BLOCKS}
+--     emptied        the inode without all that it has for its bytes
+use Rattle.std.specs.Prelude.{◌≡◌, ◌≢◌, ℕ, zero, suc, min, ◌+◌, ◌-◌, ◌*◌, ◌<◌, ◌≤◌, false, IsTrue, List, [], length, get_or, replicate}
+use Rattle.std.specs.Int.{div_ceil}
+use Rattle.fs_layout.specs.declared.inode.TheConstants.{DIRECT_BLOCKS, INDIRECT_END, SECTOR_POINTERS}
 use Rattle.fs_layout.specs.declared.inode.Inode.{Inode}
 use Rattle.fs_layout.specs.declared.place.Place.{Place}
-use Rattle.fs_layout.specs.Images.{number_on, pointer, first_block, bit, block_bitmap, map_bits, free_sectors}
+use Rattle.fs_layout.specs.Bytes.{SectorMap, IsSector, u32_of}
+use Rattle.fs_layout.specs.Images.{IsData, own_count, number_on, pointer, first_block, Part, AccessAcl, DefaultAcl, OnLevel, part, Owns, bit, block_bitmap, map_bits, free_sectors}
 use Rattle.fs_layout.specs.InodeChanges.{IsBlockMap}
 use Rattle.sector_txn.specs.Sectors.{TxnState, PutsOnly}
 use Rattle.bit_alloc.specs.Bitmaps.{HasBitmaps}
 use Rattle.bit_alloc.specs.Room.{bitmaps}
 use Rattle.block_map.specs.Steps.{IsStepSector, Alters}
 
--- from `first` up to `end` the sectors of a level's numbers are given back: their bits are clear, and nothing else differs
-pub record GivesNumbers (p : Place) (v : Inode) (level first end : ℕ) (old new : TxnState) : Type 0 where
+-- the sectors that the inode has for parts with P are given back: their bits are clear, and nothing else differs
+pub record GivesParts (p : Place) (v : Inode) (P : Part → Type 0) (old new : TxnState) : Type 0 where
   pub tables : HasBitmaps p new
   pub others : (s : ℕ) → (IsBlockMap p s → ⊥) → new.sectors s ≡ old.sectors s
-  pub cleared : (i : ℕ) → first ≤ i → i < end → number_on old.sectors v level i ≢ 0 → bit new.sectors block_bitmap (number_on old.sectors v level i) ≡ false
+  pub cleared : (at : Part) → P at → part old.sectors v at ≢ 0 → bit new.sectors block_bitmap (part old.sectors v at) ≡ false
   pub released : (s : ℕ) → s < map_bits p → IsTrue (bit old.sectors block_bitmap s) → bit new.sectors block_bitmap s ≡ false
-      → (i : ℕ) × (first ≤ i) × (i < end) × (number_on old.sectors v level i ≡ s) × (s ≢ 0)
+      → (at : Part) × P at × (part old.sectors v at ≡ s) × (s ≢ 0)
   pub set : (s : ℕ) → s < map_bits p → IsTrue (bit new.sectors block_bitmap s) → IsTrue (bit old.sectors block_bitmap s)
   pub puts : PutsOnly (IsStepSector p) (bitmaps p) 0 old new
   pub free : free_sectors p old.sectors ≤ free_sectors p new.sectors
+
+-- each sector that the inode owns is a data sector
+abbrev pub IsInData : Place → SectorMap → Inode → Type 0
+IsInData p image v = (s : ℕ) → Owns image v s → IsData p s
+
+-- by this part only blocks from `first` on are found
+abbrev pub IsFor : ℕ → Part → Type 0
+IsFor first AccessAcl = ⊥
+IsFor first DefaultAcl = ⊥
+IsFor first (OnLevel level i) = first ≤ first_block level i
+
+-- a number of a level from `first` up to `end`
+abbrev pub IsAmong : ℕ → ℕ → ℕ → Part → Type 0
+IsAmong level first end at = (i : ℕ) × (at ≡ OnLevel level i) × (first ≤ i) × (i < end)
+
+-- the first number of a level by which only blocks from `first` on are found
+abbrev pub first_on : ℕ → ℕ → ℕ
+first_on zero first = first
+first_on (suc level) first = div_ceil (first_on level first - own_count level) SECTOR_POINTERS
+
+-- of the numbers of a sector of pointers, x, those before `from` are the same, and the others are 0
+pub record IsCutFrom (from : ℕ) (x y : List ℕ) : Type 0 where
+  pub whole : IsSector y
+  pub before : (i : ℕ) → i < from → u32_of y (4 * i) ≡ u32_of x (4 * i)
+  pub after : (i : ℕ) → from ≤ i → u32_of y (4 * i) ≡ 0
+
+-- so is it written at s, where there is such a sector, if it keeps some
+pub record CutsSector (s from : ℕ) (x : List ℕ) (old new : TxnState) : Type 0 where
+  pub puts : PutsOnly (λ t. (t ≡ s) × (s ≢ 0)) [] (min from 1) old new
+  pub kept : from ≡ 0 → (t : ℕ) → new.sectors t ≡ old.sectors t
+  pub cut : s ≢ 0 → from ≢ 0 → IsCutFrom from x (new.sectors s)
+
+-- of the numbers that stand in the inode those by which only blocks from `first` on are found become 0, and the others stay
+pub record ClearsNumbers (first : ℕ) (v w : Inode) : Type 0 where
+  pub direct_len : length w.direct ≡ DIRECT_BLOCKS
+  pub direct_kept : (i : ℕ) → i < first → get_or w.direct i 0 ≡ get_or v.direct i 0
+  pub direct_gone : (i : ℕ) → first ≤ i → get_or w.direct i 0 ≡ 0
+  pub indirect_kept : DIRECT_BLOCKS < first → w.indirect ≡ v.indirect
+  pub indirect_gone : first ≤ DIRECT_BLOCKS → w.indirect ≡ 0
+  pub double_kept : INDIRECT_END < first → w.double_indirect ≡ v.double_indirect
+  pub double_gone : first ≤ INDIRECT_END → w.double_indirect ≡ 0
+  pub others : w ≡ record v { direct = w.direct; indirect = w.indirect; double_indirect = w.double_indirect }
+
+-- how many sectors of pointers are written at most, if these are dropped: on each level the one that keeps some of its numbers
+abbrev pub cut_by : ℕ → ℕ
+cut_by first = 1 + min (first_on 1 first - 1) 1
 
 -- The blocks from `first` on are dropped, from v to w, and the sectors of pointers by which only such blocks are found. The
 -- other numbers stay, and the other blocks with what is in them.
 pub record DropsBlocks (p : Place) (first : ℕ) (old new : TxnState) (v w : Inode) : Type 0 where
   pub alters : Alters p old new v w
-  pub puts : PutsOnly (IsStepSector p) (bitmaps p) 1 old new
+  pub puts : PutsOnly (IsStepSector p) (bitmaps p) (cut_by first) old new
   pub size : w.size ≡ v.size
   pub dropped : (level i : ℕ) → first ≤ first_block level i → number_on new.sectors w level i ≡ 0
   pub kept : (level i : ℕ) → first_block level i < first → number_on new.sectors w level i ≡ number_on old.sectors v level i
   pub content : (k : ℕ) → k < first → pointer old.sectors v k ≢ 0 → new.sectors (pointer old.sectors v k) ≡ old.sectors (pointer old.sectors v k)
   pub free : free_sectors p old.sectors ≤ free_sectors p new.sectors
 
--- the sectors of all numbers of all levels are given back
-pub record GivesAll (p : Place) (v : Inode) (old new : TxnState) : Type 0 where
-  pub tables : HasBitmaps p new
-  pub others : (s : ℕ) → (IsBlockMap p s → ⊥) → new.sectors s ≡ old.sectors s
-  pub cleared : (level i : ℕ) → number_on old.sectors v level i ≢ 0 → bit new.sectors block_bitmap (number_on old.sectors v level i) ≡ false
-  pub released : (s : ℕ) → s < map_bits p → IsTrue (bit old.sectors block_bitmap s) → bit new.sectors block_bitmap s ≡ false
-      → (level : ℕ) × (i : ℕ) × (number_on old.sectors v level i ≡ s) × (s ≢ 0)
-  pub set : (s : ℕ) → s < map_bits p → IsTrue (bit new.sectors block_bitmap s) → IsTrue (bit old.sectors block_bitmap s)
-  pub puts : PutsOnly (IsStepSector p) (bitmaps p) 0 old new
-  pub free : free_sectors p old.sectors ≤ free_sectors p new.sectors
-
 -- the inode with nothing in it
 abbrev pub emptied : Inode → Inode
-emptied v = record v { size = 0; direct = replicate DIRECT_BLOCKS 0; indirect = 0 }
+emptied v = record v { size = 0; direct = replicate DIRECT_BLOCKS 0; indirect = 0; double_indirect = 0 }

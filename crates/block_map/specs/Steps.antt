@@ -2,10 +2,13 @@
 --     MayChange        an inode that may be changed
 --     IsStepSector, HasRoomFor        the sectors that a step puts, and the room for them
 --     Alters        what a step leaves alone
---     hole, holes, lacks_pointers        how many sectors a block lacks, blocks lack, and pointers
---     AddsPointers, WritesBlock, WritesBlocks        the inode gets a sector of pointers; bytes of one block are written, and of several
+--     hole, holes, lacks_pointers        how many sectors a block lacks, blocks lack, and their pointers
+--     numbers_on, pointers_to        numbers of a level, one after the other; the sector of pointers that has a block's number
+--     IsAbove        the sector in which a sector of pointers is listed
+--     AddsSector, AddsAbove, AddsPointers        the inode gets a sector of pointers, the one above, or all that blocks need
+--     WritesBlock, WritesBlocks        bytes of one block are written, and of several
 --     blocks_to, taken_by, put_by        the blocks that bytes reach, and the sectors that they take and put
-use Rattle.std.specs.Prelude.{◌≡◌, ◌≢◌, ◌⊎◌, ℕ, ◌+◌, ◌*◌, ◌<◌, ◌≤◌, ◌-◌, ◌/◌, nat_eq, nat_lt, if◌then◌else◌, count_by, List, ◌∷◌, length}
+use Rattle.std.specs.Prelude.{◌≡◌, ◌≢◌, ◌⊎◌, ℕ, zero, suc, ◌+◌, ◌*◌, ◌<◌, ◌≤◌, ◌-◌, ◌/◌, nat_eq, nat_lt, if◌then◌else◌, count_by, List, [], ◌∷◌, ◌++◌, length}
 use Rattle.std.specs.List.{range_with_len}
 use Rattle.fs_layout.specs.declared.inode.TheConstants.{DIRECT_BLOCKS}
 use Rattle.fs_layout.specs.declared.inode.Inode.{Inode}
@@ -13,14 +16,13 @@ use Rattle.fs_layout.specs.declared.inode.Kind.TheVariants as kinds
 use Rattle.fs_layout.specs.declared.place.Place.{Place}
 use Rattle.fs_layout.specs.Bytes.{SectorMap, splice}
 use Rattle.fs_layout.specs.Inode.{FitsInode}
-use Rattle.fs_layout.specs.Images.{IsData, pointer, Holds, free_sectors}
+use Rattle.fs_layout.specs.Images.{IsData, holder, number_on, pointer, Holds, free_sectors}
 use Rattle.fs_layout.specs.InodeChanges.{IsOwnedApart, ChangesBlocks}
+use Rattle.fs_layout.specs.Lacking.{lacks_from, lacks}
 use Rattle.sector_txn.specs.Sectors.{TxnState, PutsOnly, lacking}
 use Rattle.bit_alloc.specs.Bitmaps.{HasBitmaps}
 use Rattle.bit_alloc.specs.Room.{bitmaps}
 use Rattle.bit_alloc.specs.Inodes.{KeepsFields, KeepsAcls}
-use Rattle.block_map.specs.declared.blocks.Blocks.{Blocks}
-use Rattle.block_map.specs.Blocks.{IsLoaded}
 
 -- a used inode, and what it owns; it need not stand so in the table
 pub record MayChange (p : Place) (txn : TxnState) (v : Inode) : Type 0 where
@@ -33,9 +35,9 @@ pub record MayChange (p : Place) (txn : TxnState) (v : Inode) : Type 0 where
 abbrev pub IsStepSector : Place → ℕ → Type 0
 IsStepSector p s = ((128 ≤ s) × (s < p.table)) ⊎ IsData p s
 
--- room for the bitmaps, for the sector of pointers, and for so many sectors more
-abbrev pub HasRoomFor : Place → Inode → ℕ → TxnState → Type 0
-HasRoomFor p v more txn = lacking txn (v.indirect ∷ bitmaps p) + more ≤ txn.room
+-- room for these sectors, for the bitmaps, and for so many sectors more
+abbrev pub HasRoomFor : Place → List ℕ → ℕ → TxnState → Type 0
+HasRoomFor p ns more txn = lacking txn (ns ++ bitmaps p) + more ≤ txn.room
 
 -- from old, where the inode is v, to new, where it is w: it has its attributes and ACLs
 pub record Alters (p : Place) (old new : TxnState) (v w : Inode) : Type 0 where
@@ -45,61 +47,123 @@ pub record Alters (p : Place) (old new : TxnState) (v w : Inode) : Type 0 where
   pub bitmaps : HasBitmaps p new
   pub fits : FitsInode w
 
+-- how many sectors number i of a level lacks
+abbrev pub lack : SectorMap → Inode → ℕ → ℕ → ℕ
+lack image v level i = if nat_eq (number_on image v level i) 0 then 1 else 0
+
+-- and so many numbers from `first` on
+abbrev pub lacks_on : SectorMap → Inode → ℕ → ℕ → ℕ → ℕ
+lacks_on image v level first count = count_by (λ i. nat_eq (number_on image v level i) 0) (range_with_len first count)
+
 -- how many sectors block k lacks
 abbrev pub hole : SectorMap → Inode → ℕ → ℕ
-hole image v k = if nat_eq (pointer image v k) 0 then 1 else 0
+hole image v k = lack image v 0 k
 
 -- how many sectors the blocks from `first` on lack, so many of them
 abbrev pub holes : SectorMap → Inode → ℕ → ℕ → ℕ
-holes image v first count = count_by (λ k. nat_eq (pointer image v k) 0) (range_with_len first count)
+holes image v first count = lacks_on image v 0 first count
 
--- 1 where blocks up to `end` need a sector of pointers and there is none
-abbrev pub lacks_pointers : Inode → ℕ → ℕ
-lacks_pointers v end = if nat_lt DIRECT_BLOCKS end then (if nat_eq v.indirect 0 then 1 else 0) else 0
+-- how many sectors of pointers the blocks from `first` up to `end` lack
+abbrev pub lacks_pointers : SectorMap → Inode → ℕ → ℕ → ℕ
+lacks_pointers image v first end =
+    if nat_lt DIRECT_BLOCKS end then lacks_from image v 2 1 (holder DIRECT_BLOCKS first) (holder DIRECT_BLOCKS (end - 1) + 1) else 0
 
--- the inode has a sector of pointers, if blocks up to `end` need it
-pub record AddsPointers (p : Place) (end : ℕ) (old new : TxnState) (b c : Blocks) : Type 0 where
-  pub alters : Alters p old new b.inode c.inode
-  pub loaded : IsLoaded old.sectors b end → IsLoaded new.sectors c end
-  pub puts : PutsOnly (IsStepSector p) (bitmaps p) 1 old new
-  -- the room that is left, where the sector of pointers is shared by what comes then
-  pub room : old.room + lacking new (c.inode.indirect ∷ bitmaps p) ≤ new.room + lacking old (bitmaps p) + 1
-  pub size : c.inode.size ≡ b.inode.size
-  pub has : DIRECT_BLOCKS < end → c.inode.indirect ≢ 0
-  pub same : (k : ℕ) → pointer new.sectors c.inode k ≡ pointer old.sectors b.inode k
-  pub held : (bytes : List ℕ) → Holds old.sectors b.inode bytes → Holds new.sectors c.inode bytes
-  pub free : free_sectors p old.sectors ≤ free_sectors p new.sectors + lacks_pointers b.inode end
+-- how many sectors are above those with the indices up to `last`
+abbrev pub sectors_above : ℕ → ℕ
+sectors_above zero = 0
+sectors_above (suc last) = 1
+
+-- how many they lack
+abbrev pub lacks_above : SectorMap → Inode → ℕ → ℕ
+lacks_above image v zero = 0
+lacks_above image v (suc last) = lack image v 2 0
+
+-- how many sectors of pointers these blocks have, at most
+abbrev pub pointer_sectors : ℕ → ℕ → ℕ
+pointer_sectors first end = holder DIRECT_BLOCKS (end - 1) + 1 - holder DIRECT_BLOCKS first + sectors_above (holder DIRECT_BLOCKS (end - 1))
+
+-- so many numbers of a level, from `first` on
+abbrev pub numbers_on : SectorMap → Inode → ℕ → ℕ → ℕ → List ℕ
+numbers_on image v level first zero = []
+numbers_on image v level first (suc count) = number_on image v level first ∷ numbers_on image v level (first + 1) count
+
+-- the sector of pointers that has the number of block k, if that doesn't stand in the inode
+abbrev pub pointers_to : SectorMap → Inode → ℕ → List ℕ
+pointers_to image v k = if nat_lt k DIRECT_BLOCKS then [] else number_on image v 1 (holder DIRECT_BLOCKS k) ∷ []
+
+-- those that blocks from `first` up to `end` have
+abbrev pub pointers_of : SectorMap → Inode → ℕ → ℕ → List ℕ
+pointers_of image v first end =
+    if nat_lt DIRECT_BLOCKS end then numbers_on image v 1 (holder DIRECT_BLOCKS first) (holder DIRECT_BLOCKS (end - 1) + 1 - holder DIRECT_BLOCKS first) else []
+
+-- the sector in which the number of a sector of pointers with this index stands, if it doesn't stand in the inode
+abbrev pub IsAbove : SectorMap → Inode → ℕ → List ℕ → Type 0
+IsAbove image v index ns = (index ≡ 0) ⊎ (ns ≡ number_on image v 2 0 ∷ [])
+
+-- Number i of a level of pointers is there. If it wasn't, it is a new sector, of zeros; besides it at most `ns` were put.
+pub record AddsSector (p : Place) (ns : List ℕ) (level i : ℕ) (old new : TxnState) (v w : Inode) : Type 0 where
+  pub alters : Alters p old new v w
+  pub puts : PutsOnly (IsStepSector p) (ns ++ bitmaps p) 1 old new
+  -- the room that is left, where the sector may be put again
+  pub room : old.room + lacking new (number_on new.sectors w level i ∷ (ns ++ bitmaps p)) ≤ new.room + lacking old (ns ++ bitmaps p) + 1
+  pub size : w.size ≡ v.size
+  pub there : number_on new.sectors w level i ≢ 0
+  pub others : (n j : ℕ) → (n ≢ level) ⊎ (j ≢ i) → number_on new.sectors w n j ≡ number_on old.sectors v n j
+  pub held : (bytes : List ℕ) → Holds old.sectors v bytes → Holds new.sectors w bytes
+  pub free : free_sectors p old.sectors ≤ free_sectors p new.sectors + lack old.sectors v level i
+
+-- the double indirect sector is there, if the sectors of pointers with the indices up to `last` need it
+pub record AddsAbove (p : Place) (last : ℕ) (old new : TxnState) (v w : Inode) : Type 0 where
+  pub alters : Alters p old new v w
+  pub puts : PutsOnly (IsStepSector p) (bitmaps p) (sectors_above last) old new
+  pub room : old.room + lacking new (numbers_on new.sectors w 2 0 (sectors_above last) ++ bitmaps p) ≤ new.room + lacking old (bitmaps p) + sectors_above last
+  pub size : w.size ≡ v.size
+  pub there : last ≢ 0 → number_on new.sectors w 2 0 ≢ 0
+  pub others : (n j : ℕ) → n ≢ 2 → number_on new.sectors w n j ≡ number_on old.sectors v n j
+  pub held : (bytes : List ℕ) → Holds old.sectors v bytes → Holds new.sectors w bytes
+  pub free : free_sectors p old.sectors ≤ free_sectors p new.sectors + lacks_above old.sectors v last
+
+-- the inode has the sectors of pointers that the blocks from `first` up to `end` need
+pub record AddsPointers (p : Place) (first end : ℕ) (old new : TxnState) (v w : Inode) : Type 0 where
+  pub alters : Alters p old new v w
+  pub puts : PutsOnly (IsStepSector p) (bitmaps p) (pointer_sectors first end) old new
+  -- the room that is left, where they may be put again
+  pub room : old.room + lacking new (pointers_of new.sectors w first end ++ bitmaps p) ≤ new.room + lacking old (bitmaps p) + pointer_sectors first end
+  pub size : w.size ≡ v.size
+  pub has : (k : ℕ) → first ≤ k → k < end → DIRECT_BLOCKS ≤ k → number_on new.sectors w 1 (holder DIRECT_BLOCKS k) ≢ 0
+  pub same : (k : ℕ) → pointer new.sectors w k ≡ pointer old.sectors v k
+  pub held : (bytes : List ℕ) → Holds old.sectors v bytes → Holds new.sectors w bytes
+  pub free : free_sectors p old.sectors ≤ free_sectors p new.sectors + lacks_pointers old.sectors v first end
 
 -- the bytes are written into block k, at `at`
-pub record WritesBlock (p : Place) (k at : ℕ) (x : List ℕ) (old new : TxnState) (b c : Blocks) : Type 0 where
-  pub alters : Alters p old new b.inode c.inode
-  pub loaded : (end : ℕ) → IsLoaded old.sectors b end → IsLoaded new.sectors c end
-  pub puts : PutsOnly (IsStepSector p) (b.inode.indirect ∷ bitmaps p) 1 old new
-  pub size : c.inode.size ≡ b.inode.size
-  pub indirect : c.inode.indirect ≡ b.inode.indirect
-  pub here : pointer new.sectors c.inode k ≢ 0
-  pub others : (j : ℕ) → j ≢ k → pointer new.sectors c.inode j ≡ pointer old.sectors b.inode j
-  pub held : (bytes : List ℕ) → Holds old.sectors b.inode bytes → Holds new.sectors c.inode (splice bytes (512 * k + at) x)
-  pub free : free_sectors p old.sectors ≤ free_sectors p new.sectors + hole old.sectors b.inode k
+pub record WritesBlock (p : Place) (k at : ℕ) (x : List ℕ) (old new : TxnState) (v w : Inode) : Type 0 where
+  pub alters : Alters p old new v w
+  pub puts : PutsOnly (IsStepSector p) (pointers_to old.sectors v k ++ bitmaps p) 1 old new
+  pub size : w.size ≡ v.size
+  pub pointers : (i : ℕ) → number_on new.sectors w 1 i ≡ number_on old.sectors v 1 i
+  pub here : pointer new.sectors w k ≢ 0
+  pub others : (j : ℕ) → j ≢ k → pointer new.sectors w j ≡ pointer old.sectors v j
+  pub held : (bytes : List ℕ) → Holds old.sectors v bytes → Holds new.sectors w (splice bytes (512 * k + at) x)
+  pub free : free_sectors p old.sectors ≤ free_sectors p new.sectors + hole old.sectors v k
 
 -- how many blocks bytes reach that end at `end`, the hole ones too
 abbrev pub blocks_to : ℕ → ℕ
 blocks_to end = (end + 511) / 512
 
--- how many sectors bytes take that are written at an offset: one for each hole that they reach, and one for pointers
+-- how many sectors bytes take that are written at an offset: one for each hole that they reach, and those for pointers
 abbrev pub taken_by : SectorMap → Inode → ℕ → ℕ → ℕ
-taken_by image v offset len =
-    holes image v (offset / 512) (blocks_to (offset + len) - offset / 512) + lacks_pointers v (blocks_to (offset + len))
+taken_by image v offset len = lacks image v (offset / 512) (blocks_to (offset + len))
 
 -- how many sectors are put at most, besides bitmaps, where bytes are written at an offset: those of the blocks that they
--- reach, that of the pointers, and the inode's
+-- reach, those of the pointers, and the inode's
 abbrev pub put_by : ℕ → ℕ → ℕ
-put_by offset len = blocks_to (offset + len) - offset / 512 + 2
+put_by offset len =
+    blocks_to (offset + len) - offset / 512 + pointer_sectors (offset / 512) (blocks_to (offset + len)) + 1
 
 -- the bytes are written within the size
 pub record WritesBlocks (p : Place) (offset : ℕ) (x : List ℕ) (old new : TxnState) (v w : Inode) : Type 0 where
   pub alters : Alters p old new v w
-  pub puts : PutsOnly (IsStepSector p) (bitmaps p) (blocks_to (offset + length x) - offset / 512 + 1) old new
+  pub puts : PutsOnly (IsStepSector p) (bitmaps p) (blocks_to (offset + length x) - offset / 512 + pointer_sectors (offset / 512) (blocks_to (offset + length x))) old new
   pub size : w.size ≡ v.size
   pub held : (bytes : List ℕ) → Holds old.sectors v bytes → Holds new.sectors w (splice bytes offset x)
   -- where there is no sector there was none, and none of the bytes

@@ -1,73 +1,161 @@
 //! The blocks of an inode.
 
-ghost use Rattle.std.specs.Prelude.{◌≡◌, ◌≢◌, ◌≤◌, ◌<◌, ◌+◌, ◌-◌, ◌*◌, ℕ, length, get_or, false, OnOk};
+ghost use Rattle.std.specs.Prelude.{◌≡◌, ◌≢◌, ◌≤◌, ◌<◌, ◌+◌, ◌*◌, ◌^◌, ℕ, suc, length, get_or, false, IfOk, OnOk};
 ghost use Rattle.sector_disk.specs.Disk.{HasCause};
-ghost use Rattle.fs_layout.specs.declared.inode.TheConstants.{DIRECT_BLOCKS, INDIRECT_END, SECTOR_POINTERS};
-ghost use Rattle.fs_layout.specs.Bytes.{splice, le32, zeros};
-ghost use Rattle.fs_layout.specs.Images.{byte_in, byte_at};
+ghost use Rattle.fs_layout.specs.declared.inode.TheConstants.{DIRECT_BLOCKS, SECTOR_POINTERS};
+ghost use Rattle.fs_layout.specs.Bytes.{SectorMap, splice, le32};
+ghost use Rattle.fs_layout.specs.Images.{HasPointers, byte_in, byte_at, holder, number_on, own_count, place_in_holder, pointer};
 ghost use Rattle.sector_txn.specs.Sectors.{IsUnchanged, IsPut};
+ghost use Rattle.block_map.specs.Blocks.{IsWithin};
 
 use byteorder::{ByteOrder, LittleEndian};
-use fs_layout::{DIRECT_BLOCKS, Inode};
+use fs_layout::{DIRECT_BLOCKS, Inode, MAX_BLOCKS, SECTOR_POINTERS};
 use sector_disk::DiskFault;
 use sector_txn::Sectors;
 
 /// The bytes of a block.
 pub(crate) const BLOCK: usize = 512;
 
-/// An inode and its sector of pointers, so that blocks can be read one by one.
+/// An inode and one of its sectors of pointers, so that blocks can be read one by one.
 #[derive(Drop)]
 pub struct Blocks {
     /// The inode.
     pub inode: Inode,
-    /// Its sector of pointers; zeros before [`Blocks::load`], where it has none, or where no block that is asked for needs it.
-    pub pointers: [u8; 512],
+    // Which sector of pointers to blocks is at hand, counted from the one that the inode names.
+    pub(crate) index: u64,
+    // Its number, or 0: there is none.
+    pub(crate) sector: u32,
+    // Its content; zeros where there is none.
+    pub(crate) pointers: [u8; 512],
 }
 
-fn write_pointer(pointers: &mut [u8; 512], i: usize, number: u32)
+/// Writes number `i` of a sector of pointers.
+pub(crate) fn write_pointer(pointers: &mut [u8; 512], i: usize, number: u32)
     requires { i < SECTOR_POINTERS }
     ensures { pointers.new ≡ splice pointers.old (4 * i) (le32 number) }
 {
     LittleEndian::write_u32(&mut pointers[4 * i..], number);
 }
 
-impl Blocks {
-    ghost use Rattle.block_map.specs.Blocks.{IsWithin, IsLoaded, number_in};
+/// Reads the sector of pointers that is number `i` of a level, zeros where there is none, and answers its number. `content` is
+/// that of the sector in which the number stands, if it doesn't stand in the inode.
+///
+/// At `Err` nothing is said of `content`.
+pub(crate) fn read_listed<S: Sectors>(
+    s: &mut S,
+    inode: &Inode,
+    level: usize,
+    i: u64,
+    content: &mut [u8; 512],
+) -> Result<u32, DiskFault>
+    requires within { IsWithin (S.state s.old).disk.size (S.state s.old).sectors inode.now }
+    requires listed { own_count level ≤ i → HasPointers (S.state s.old).sectors inode.now (suc level) (holder (own_count level) i) content.old }
+    ensures number { IfOk result (λ n. n ≡ number_on (S.state s.old).sectors inode.now level i) }
+    ensures content { OnOk result (HasPointers (S.state s.old).sectors inode.now level i content.new) }
+    ensures same { IsUnchanged (S.state s.old) (S.state s.new) }
+    ensures cause { HasCause (S.state s.old).disk (S.state s.new).disk result }
+{
+    let number = inode.number(level, content, i);
+    if number == 0 {
+        content.fill(0);
+        return Ok(0);
+    }
+    s.get(number, content)?;
+    Ok(number)
+}
 
-    /// Reads the sector of pointers if a block below `end` may need it. They are zeros before.
+/// Reads the sector of pointers to blocks with this index, counted from the one that the inode names, and answers its number: 0 where
+/// there is none, and zeros are read.
+///
+/// At `Err` nothing is said of `content`.
+pub(crate) fn read_pointers<S: Sectors>(
+    s: &mut S,
+    inode: &Inode,
+    index: u64,
+    content: &mut [u8; 512],
+) -> Result<u32, DiskFault>
+    requires within { IsWithin (S.state s.old).disk.size (S.state s.old).sectors inode.now }
+    ensures number { IfOk result (λ n. n ≡ number_on (S.state s.old).sectors inode.now 1 index) }
+    ensures content { OnOk result (HasPointers (S.state s.old).sectors inode.now 1 index content.new) }
+    ensures same { IsUnchanged (S.state s.old) (S.state s.new) }
+    ensures cause { HasCause (S.state s.old).disk (S.state s.new).disk result }
+{
+    if index == 0 {
+        let number = read_listed(s, inode, 1, index, content)?;
+        return Ok(number);
+    }
+    // Above the double indirect sector there is none.
+    content.fill(0);
+    read_listed(s, inode, 2, (index - 1) / SECTOR_POINTERS, content)?;
+    let number = read_listed(s, inode, 1, index, content)?;
+    Ok(number)
+}
+
+impl Blocks {
+    ghost use Rattle.block_map.specs.Blocks.{IsAtHand, IsLoaded};
+
+    /// The blocks of an inode.
+    pub fn new(inode: &Inode) -> Blocks
+        ensures inode { result.inode ≡ inode.now }
+        ensures at_hand { (image : SectorMap) → IsAtHand image result }
+    {
+        // No sector of pointers has this index.
+        Blocks {
+            inode: *inode,
+            index: MAX_BLOCKS,
+            sector: 0,
+            pointers: [0; BLOCK],
+        }
+    }
+
+    /// Reads the sector of pointers that has the number of block `k`, unless it is at hand, or the number stands in the inode.
     ///
-    /// At `Err` nothing is said of the pointers.
-    pub fn load<S: Sectors>(&mut self, s: &mut S, end: u64) -> Result<(), DiskFault>
+    /// At `Err` nothing is said of what is at hand.
+    pub(crate) fn load<S: Sectors>(&mut self, s: &mut S, k: u64) -> Result<(), DiskFault>
         requires within { IsWithin (S.state s.old).disk.size (S.state s.old).sectors self.old.inode }
-        requires unread { self.old.pointers ≡ zeros 512 }
+        requires at_hand { IsAtHand (S.state s.old).sectors self.old }
         ensures inode { self.new.inode ≡ self.old.inode }
-        ensures pointers { OnOk result (IsLoaded (S.state s.old).sectors self.new end) }
+        ensures loaded { OnOk result (IsLoaded (S.state s.old).sectors self.new k) }
         ensures same { IsUnchanged (S.state s.old) (S.state s.new) }
         ensures cause { HasCause (S.state s.old).disk (S.state s.new).disk result }
     {
-        if self.inode.indirect != 0 && DIRECT_BLOCKS < end {
-            s.get(self.inode.indirect, &mut self.pointers)?;
+        if k < DIRECT_BLOCKS {
+            return Ok(());
         }
+        let index = (k - DIRECT_BLOCKS) / SECTOR_POINTERS;
+        if index == self.index {
+            return Ok(());
+        }
+        self.sector = read_pointers(s, &self.inode, index, &mut self.pointers)?;
+        self.index = index;
         Ok(())
     }
 
-    /// The sector of a block; 0 for a hole.
+    /// The sector of a block for which [`Blocks::load`] was called; 0 for a hole.
     pub(crate) fn number(&self, k: u64) -> u32
-        ensures { result ≡ number_in self.now k }
+        ensures { (image : SectorMap) → IsLoaded image self.now k → result ≡ pointer image self.now.inode k }
     {
-        self.inode.block_number(&self.pointers, k)
+        self.inode.number(0, &self.pointers, k)
     }
 
-    /// Reads block `k`, one below the end that was named to [`Blocks::load`]; a hole reads as zeros.
+    /// Reads block `k`; a hole reads as zeros.
     ///
-    /// At `Err` nothing is said of `to`.
-    pub fn read<S: Sectors>(&self, s: &mut S, k: u64, to: &mut [u8; 512]) -> Result<(), DiskFault>
-        requires within { IsWithin (S.state s.old).disk.size (S.state s.old).sectors self.now.inode }
-        requires loaded { (end : ℕ) × (k < end) × IsLoaded (S.state s.old).sectors self.now end }
-        ensures bytes { OnOk result ((i : ℕ) → i < 512 → get_or to.new i 0 ≡ byte_at (S.state s.old).sectors self.now.inode (512 * k + i)) }
+    /// At `Err` nothing is said of `to`, nor of what is at hand.
+    pub fn read<S: Sectors>(
+        &mut self,
+        s: &mut S,
+        k: u64,
+        to: &mut [u8; 512],
+    ) -> Result<(), DiskFault>
+        requires within { IsWithin (S.state s.old).disk.size (S.state s.old).sectors self.old.inode }
+        requires at_hand { IsAtHand (S.state s.old).sectors self.old }
+        ensures inode { self.new.inode ≡ self.old.inode }
+        ensures at_hand { OnOk result (IsAtHand (S.state s.old).sectors self.new) }
+        ensures bytes { OnOk result ((i : ℕ) → i < 512 → get_or to.new i 0 ≡ byte_at (S.state s.old).sectors self.old.inode (512 * k + i)) }
         ensures same { IsUnchanged (S.state s.old) (S.state s.new) }
         ensures cause { HasCause (S.state s.old).disk (S.state s.new).disk result }
     {
+        self.load(s, k)?;
         let number = self.number(k);
         if number == 0 {
             to.fill(0);
@@ -77,17 +165,19 @@ impl Blocks {
         Ok(())
     }
 
-    /// Writes the sector of a block into the sector of pointers.
+    /// Writes the sector of a block into the sector of pointers at hand.
     pub(crate) fn put_pointer<S: Sectors>(&mut self, s: &mut S, k: u64, number: u32)
-        requires pointer { (DIRECT_BLOCKS ≤ k) × (k < INDIRECT_END) }
-        requires within { (128 ≤ self.old.inode.indirect) × (self.old.inode.indirect < (S.state s.old).disk.size) }
-        requires room { (S.state s.old).has_put self.old.inode.indirect ≡ false → 0 < (S.state s.old).room }
-        ensures pointers { self.new.pointers ≡ splice self.old.pointers (4 * (k - DIRECT_BLOCKS)) (le32 number) }
+        requires listed { DIRECT_BLOCKS ≤ k }
+        requires within { (128 ≤ self.old.sector) × (self.old.sector < (S.state s.old).disk.size) }
+        requires room { (S.state s.old).has_put self.old.sector ≡ false → 0 < (S.state s.old).room }
+        ensures pointers { self.new.pointers ≡ splice self.old.pointers (4 * place_in_holder DIRECT_BLOCKS k) (le32 number) }
         ensures inode { self.new.inode ≡ self.old.inode }
-        ensures put { IsPut self.old.inode.indirect self.new.pointers (S.state s.old) (S.state s.new) }
+        ensures here { (self.new.index ≡ self.old.index) × (self.new.sector ≡ self.old.sector) }
+        ensures put { IsPut self.old.sector self.new.pointers (S.state s.old) (S.state s.new) }
     {
-        write_pointer(&mut self.pointers, (k - DIRECT_BLOCKS) as usize, number);
-        s.put(self.inode.indirect, &self.pointers);
+        let at = (k - DIRECT_BLOCKS) % SECTOR_POINTERS;
+        write_pointer(&mut self.pointers, at as usize, number);
+        s.put(self.sector, &self.pointers);
     }
 }
 

@@ -12,7 +12,7 @@ use sector_disk::DiskFault;
 pub enum MapFault {
     /// Fewer sectors are free than the call takes.
     Full = 1,
-    /// The inode would hold more than 71,680 bytes.
+    /// The inode would hold more bytes than a file may on this disk.
     TooBig = 2,
     /// The disk has failed.
     DiskFault = 3,

@@ -10,7 +10,7 @@ ghost use Rattle.bit_alloc.specs.Bitmaps.{IsNumber};
 ghost use Rattle.bit_alloc.specs.Inodes.{IsSound, Touches};
 ghost use Rattle.bit_alloc.specs.Room.{HasSpare};
 
-use crate::release::give_all;
+use crate::release::give_from;
 use bit_alloc::{Bitmap, give};
 use fs_layout::{Inode, Kind, Place};
 use inode_table::{give_sector, load, write_inode};
@@ -33,7 +33,7 @@ pub fn free_all<S: Sectors>(s: &mut S, place: Place, n: u32) -> Result<(), DiskF
 {
     let inode = load(s, place, n)?;
     give(s, place, Bitmap::Inodes, n)?;
-    give_all(s, place, &inode)?;
+    give_from(s, place, &inode, 0)?;
     give_sector(s, place, inode.acl)?;
     give_sector(s, place, inode.default_acl)?;
     write_inode(s, place, n, &Inode::FREE)?;

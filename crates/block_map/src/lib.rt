@@ -1,29 +1,31 @@
 //! The bytes of files, directories and links: an inode holds a list of bytes, with zeros in holes.
 //!
-//! An inode has 12 direct blocks of 512 bytes, and then a sector of pointers to 128 more. [`read_at`], [`write_at`],
+//! An inode has 12 direct blocks of 512 bytes, then a sector of pointers to 128 more, and then a double indirect sector of 128 numbers
+//! of such sectors. The layout's version says how far a file may reach. [`read_at`], [`write_at`],
 //! [`overwrite`] and [`set_size`] serve files, directories and links alike, [`release_all`] files and directories. A link is
 //! never empty: [`new_link`] makes it with its target. [`free_all`] frees each of them with all that it owns. [`Blocks`] reads one
 //! block after another, as a search does. No call takes memory.
 //!
-//! What each call reads and puts, where it reaches `k` blocks, `h` of which are holes:
+//! What each call reads and puts, where it reaches `k` blocks, `h` of which are holes. A sector of pointers past the first is read with the
+//! double indirect one:
 //!
 //! | Call | `get` | `put` |
 //! |---|---|---|
-//! | [`read_at`] | the sector of pointers if a block past the first 12 is reached, and each block but the holes | 0 |
-//! | [`Blocks::load`] | the sector of pointers if a block past the first 12 may be reached | 0 |
-//! | [`Blocks::read`] | the block but a hole | 0 |
-//! | [`write_at`] | the sector of pointers as above, `k - h`, the inode's sector, and what `h` sectors taken read in the bitmap | `k`, the inode's sector, the bitmap's for each sector taken, the sector of pointers for each taken past block 11, and once more where it is new |
+//! | [`read_at`] | each sector of pointers that blocks reached have, and each block but the holes | 0 |
+//! | [`Blocks::read`] | the block but a hole, and its sector of pointers unless it is at hand | 0 |
+//! | [`write_at`] | the sectors of pointers as above, once more the double indirect one for each past the first, `k - h`, the inode's sector, and what sectors taken read in the bitmap | `k`, the inode's sector, the bitmap's for each sector taken, the sector of pointers for each taken past block 11, and once more where it is new |
 //! | [`overwrite`] | the sector of pointers if the block is past the first 12, and the block | 1 |
-//! | [`set_size`] | the inode's sector; and where it cuts, the sector of pointers if there is one, the block that the cut goes through but a hole, and the bitmap's for each sector given back | the inode's sector; and where it cuts, the block that it goes through but a hole, the sector of pointers if one stays, and the bitmap's for each sector given back |
-//! | [`release_all`] | the sector of pointers if there is one, the inode's sector, and the bitmap's for each sector given back | the inode's sector, and the bitmap's for each sector given back |
+//! | [`set_size`] | the inode's sector; and where it cuts, each sector of pointers from the cut on, that of the cut twice more, the block that the cut goes through but a hole, and the bitmap's for each sector given back | the inode's sector; and where it cuts, the block that it goes through but a hole, each sector of pointers that it goes through, and the bitmap's for each sector given back |
+//! | [`release_all`] | the sectors of pointers, the inode's sector, and the bitmap's for each sector given back | the inode's sector, and the bitmap's for each sector given back |
 //! | [`new_link`] | the inode bitmap, the inode's sector, and what a sector taken reads in the bitmap | the inode bitmap, the inode's sector, the target's, and the bitmap's |
-//! | [`free_all`] | the inode's sector twice, the inode bitmap, the sector of pointers if there is one, and the bitmap's for each sector given back | the inode bitmap, the inode's sector, and the bitmap's for each sector given back |
+//! | [`free_all`] | the inode's sector twice, the inode bitmap, the sectors of pointers, and the bitmap's for each sector given back | the inode bitmap, the inode's sector, and the bitmap's for each sector given back |
 #![tactic(auto)]
 
 mod blocks;
 mod fault;
 mod free;
 mod link;
+mod pointers;
 mod read;
 mod release;
 mod size;

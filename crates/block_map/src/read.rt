@@ -28,23 +28,15 @@ pub fn read_at<S: Sectors>(
     ensures cause { HasCause (S.state s.old).disk (S.state s.new).disk result }
 {
     let count = to.len().min(inode.size.saturating_sub(offset) as usize);
-    let end = offset + count as u64;
-    let mut blocks = Blocks {
-        inode: *inode,
-        pointers: [0; BLOCK],
-    };
-    blocks.load(s, end.div_ceil(BLOCK as u64))?;
+    let mut blocks = Blocks::new(inode);
     let mut done = 0;
     while done < count {
         let next = offset + done as u64;
         let at = (next % BLOCK as u64) as usize;
         let len = (BLOCK - at).min(count - done);
-        read_block(
-            s,
-            blocks.number(next / BLOCK as u64),
-            at,
-            &mut to[done..done + len],
-        )?;
+        blocks.load(s, next / BLOCK as u64)?;
+        let number = blocks.number(next / BLOCK as u64);
+        read_block(s, number, at, &mut to[done..done + len])?;
         done += len;
     }
     Ok(count)

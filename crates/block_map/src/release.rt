@@ -1,41 +1,43 @@
 //! Giving back what an inode has for its bytes.
 
-ghost use Rattle.std.specs.Prelude.{◌≡◌, ◌≤◌, ◌<◌, [], OnOk};
+ghost use Rattle.std.specs.Prelude.{◌≡◌, ◌≤◌, ◌<◌, ℕ, suc, [], OnOk};
 ghost use Rattle.fs_layout.specs.declared.inode.TheConstants.{MAX_BLOCKS};
-ghost use Rattle.fs_layout.specs.Images.{Holds, inode_at};
+ghost use Rattle.fs_layout.specs.Images.{HasPointers, Holds, holder, inode_at, own_count};
 ghost use Rattle.sector_disk.specs.Disk.{HasCause};
 ghost use Rattle.sector_txn.specs.Sectors.{SameStore};
+ghost use Rattle.bit_alloc.specs.Bitmaps.{HasBitmaps};
 ghost use Rattle.bit_alloc.specs.Room.{HasSpare};
-ghost use Rattle.block_map.specs.Blocks.{IsLoaded};
 ghost use Rattle.bit_alloc.specs.Inodes.{IsSound};
 ghost use Rattle.block_map.specs.Contents.{AllowsSize, ChangesContent};
-ghost use Rattle.block_map.specs.Drops.{GivesNumbers, GivesAll};
+ghost use Rattle.block_map.specs.Drops.{GivesParts, IsAmong, IsFor, IsInData, first_on};
 ghost use Rattle.block_map.specs.Steps.{MayChange};
 
-use crate::blocks::{BLOCK, Blocks};
+use crate::blocks::{BLOCK, Blocks, read_listed};
 use bit_alloc::{Bitmap, give};
-use fs_layout::{DIRECT_BLOCKS, Inode, MAX_BLOCKS, Place};
+use fs_layout::{DIRECT_BLOCKS, Inode, MAX_BLOCKS, Place, SECTOR_POINTERS};
 use inode_table::write_inode;
 use sector_disk::DiskFault;
 use sector_txn::Sectors;
 
-/// Gives back the sectors of the blocks from `first` on, which the inode still points to.
-pub(crate) fn give_blocks<S: Sectors>(
+// Gives back the sectors of the blocks from `first` on.
+fn give_blocks<S: Sectors>(
     s: &mut S,
     place: Place,
-    blocks: &Blocks,
+    inode: &Inode,
     first: u64,
 ) -> Result<(), DiskFault>
-    requires may { MayChange place (S.state s.old) blocks.now.inode }
-    requires loaded { IsLoaded (S.state s.old).sectors blocks.now MAX_BLOCKS }
+    requires bitmaps { HasBitmaps place (S.state s.old) }
+    requires inside { IsInData place (S.state s.old).sectors inode.now }
     requires few { first ≤ MAX_BLOCKS }
     requires room { HasSpare place 0 (S.state s.old) }
-    ensures given { OnOk result (GivesNumbers place blocks.now.inode 0 first MAX_BLOCKS (S.state s.old) (S.state s.new)) }
+    ensures given { OnOk result (GivesParts place inode.now (IsAmong 0 first MAX_BLOCKS) (S.state s.old) (S.state s.new)) }
     ensures store { SameStore (S.state s.old) (S.state s.new) }
     ensures cause { HasCause (S.state s.old).disk (S.state s.new).disk result }
 {
-    let end = blocks.inode.block_end();
+    let mut blocks = Blocks::new(inode);
+    let end = inode.block_end();
     for k in first..end {
+        blocks.load(s, k)?;
         let number = blocks.number(k);
         if number != 0 {
             give(s, place, Bitmap::Blocks, number)?;
@@ -44,23 +46,60 @@ pub(crate) fn give_blocks<S: Sectors>(
     Ok(())
 }
 
-/// Gives back all blocks and the sector of pointers, to which the inode still points.
-pub(crate) fn give_all<S: Sectors>(s: &mut S, place: Place, inode: &Inode) -> Result<(), DiskFault>
-    requires may { MayChange place (S.state s.old) inode.now }
+// Gives back the sectors that are a level's numbers from `first` up to `end`. `content` is that of the sector of pointers in which
+// those stand that don't stand in the inode.
+fn give_listed<S: Sectors>(
+    s: &mut S,
+    place: Place,
+    inode: &Inode,
+    level: usize,
+    content: &[u8; 512],
+    first: u64,
+    end: u64,
+) -> Result<(), DiskFault>
+    requires bitmaps { HasBitmaps place (S.state s.old) }
+    requires inside { IsInData place (S.state s.old).sectors inode.now }
+    requires listed { (i : ℕ) → first ≤ i → i < end → own_count level ≤ i
+        → HasPointers (S.state s.old).sectors inode.now (suc level) (holder (own_count level) i) content.now }
+    requires few { first ≤ end }
     requires room { HasSpare place 0 (S.state s.old) }
-    ensures given { OnOk result (GivesAll place inode.now (S.state s.old) (S.state s.new)) }
+    ensures given { OnOk result (GivesParts place inode.now (IsAmong level first end) (S.state s.old) (S.state s.new)) }
     ensures store { SameStore (S.state s.old) (S.state s.new) }
     ensures cause { HasCause (S.state s.old).disk (S.state s.new).disk result }
 {
-    let mut blocks = Blocks {
-        inode: *inode,
-        pointers: [0; BLOCK],
-    };
-    blocks.load(s, MAX_BLOCKS)?;
-    give_blocks(s, place, &blocks, 0)?;
-    if inode.indirect != 0 {
-        give(s, place, Bitmap::Blocks, inode.indirect)?;
+    for i in first..end {
+        let number = inode.number(level, content, i);
+        if number != 0 {
+            give(s, place, Bitmap::Blocks, number)?;
+        }
     }
+    Ok(())
+}
+
+/// Gives back the sectors of the blocks from `first` on, and the sectors of pointers by which only such blocks are found. The inode
+/// still points to them.
+pub(crate) fn give_from<S: Sectors>(
+    s: &mut S,
+    place: Place,
+    inode: &Inode,
+    first: u64,
+) -> Result<(), DiskFault>
+    requires may { MayChange place (S.state s.old) inode.now }
+    requires few { first ≤ MAX_BLOCKS }
+    requires room { HasSpare place 0 (S.state s.old) }
+    ensures given { OnOk result (GivesParts place inode.now (IsFor first) (S.state s.old) (S.state s.new)) }
+    ensures store { SameStore (S.state s.old) (S.state s.new) }
+    ensures cause { HasCause (S.state s.old).disk (S.state s.new).disk result }
+{
+    give_blocks(s, place, inode, first)?;
+    let mut content = [0; BLOCK];
+    read_listed(s, inode, 2, 0, &mut content)?;
+    let index = first
+        .saturating_sub(DIRECT_BLOCKS)
+        .div_ceil(SECTOR_POINTERS);
+    give_listed(s, place, inode, 1, &content, index, 1 + SECTOR_POINTERS)?;
+    let above = index.saturating_sub(1).div_ceil(SECTOR_POINTERS);
+    give_listed(s, place, inode, 2, &content, above, 1)?;
     Ok(())
 }
 
@@ -83,10 +122,11 @@ pub fn release_all<S: Sectors>(
     ensures store { SameStore (S.state s.old) (S.state s.new) }
     ensures cause { HasCause (S.state s.old).disk (S.state s.new).disk result }
 {
-    give_all(s, place, inode)?;
+    give_from(s, place, inode, 0)?;
     inode.size = 0;
     inode.direct = [0; DIRECT_BLOCKS as usize];
     inode.indirect = 0;
+    inode.double_indirect = 0;
     write_inode(s, place, n, inode)?;
     Ok(())
 }

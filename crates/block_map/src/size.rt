@@ -1,6 +1,6 @@
 //! Another size.
 
-ghost use Rattle.std.specs.Prelude.{◌≡◌, ◌≢◌, ◌≤◌, ◌<◌, ◌*◌, ◌↔◌, ℕ, List, length, get_or, Err, OnOk};
+ghost use Rattle.std.specs.Prelude.{◌≡◌, ◌≢◌, ◌≤◌, ◌<◌, ◌+◌, ◌*◌, ◌/◌, ◌↔◌, ℕ, List, length, get_or, Err, OnOk};
 ghost use Rattle.fs_layout.specs.declared.inode.TheConstants.{DIRECT_BLOCKS, MAX_BLOCKS, MAX_FILE_SIZE, SECTOR_POINTERS};
 ghost use Rattle.fs_layout.specs.Version.{max_file_size};
 ghost use Rattle.fs_layout.specs.Bytes.{IsBytes, resized, u32_of};
@@ -12,16 +12,15 @@ ghost use Rattle.bit_alloc.specs.Inodes.{IsSound};
 ghost use Rattle.bit_alloc.specs.Room.{HasSpare};
 ghost use Rattle.block_map.specs.Blocks.{IsLoaded};
 ghost use Rattle.block_map.specs.Contents.{AllowsSize, ChangesContent};
-ghost use Rattle.block_map.specs.Drops.{DropsBlocks};
-ghost use Rattle.block_map.specs.Sizes.{ClearsTail, Resizes};
-ghost use Rattle.block_map.specs.Steps.{MayChange};
+ghost use Rattle.block_map.specs.Drops.{ClearsNumbers, CutsSector, DropsBlocks, cut_by};
+ghost use Rattle.block_map.specs.Sizes.{ClearsTail, Resizes, put_to};
+ghost use Rattle.block_map.specs.Steps.{MayChange, blocks_to};
 
 use crate::MapFault;
-use crate::blocks::{BLOCK, Blocks};
-use crate::release::give_blocks;
+use crate::blocks::{BLOCK, Blocks, read_listed, read_pointers};
+use crate::release::give_from;
 use crate::steps::rewrite;
-use bit_alloc::{Bitmap, give};
-use fs_layout::{DIRECT_BLOCKS, Inode, MAX_BLOCKS, Place};
+use fs_layout::{DIRECT_BLOCKS, INDIRECT_END, Inode, Place, SECTOR_POINTERS};
 use inode_table::write_inode;
 use sector_disk::DiskFault;
 use sector_txn::Sectors;
@@ -35,6 +34,20 @@ fn clear_direct(direct: &mut [u32; DIRECT_BLOCKS as usize], first: usize)
     (&mut direct[first..]).fill(0);
 }
 
+// Takes from an inode the numbers by which only blocks from `first` on are found.
+fn clear_inode(inode: &mut Inode, first: u64)
+    requires { length inode.old.direct ≡ DIRECT_BLOCKS }
+    ensures { ClearsNumbers first inode.old inode.new }
+{
+    clear_direct(&mut inode.direct, first.min(DIRECT_BLOCKS) as usize);
+    if first <= DIRECT_BLOCKS {
+        inode.indirect = 0;
+    }
+    if first <= INDIRECT_END {
+        inode.double_indirect = 0;
+    }
+}
+
 fn clear_pointers(pointers: &mut [u8; 512], first: usize)
     requires { first ≤ SECTOR_POINTERS }
     ensures bytes { IsBytes pointers.new }
@@ -44,33 +57,50 @@ fn clear_pointers(pointers: &mut [u8; 512], first: usize)
     (&mut pointers[4 * first..]).fill(0);
 }
 
-// Drops the blocks from `first` on, and the sector of pointers if no other block needs it.
+// Writes zeros over the numbers of a sector of pointers from number `from` on, if there is the sector and it keeps some. `content` is
+// what it holds.
+fn cut_sector<S: Sectors>(s: &mut S, sector: u32, content: &mut [u8; 512], from: usize)
+    requires within { sector ≢ 0 → (128 ≤ sector) × (sector < (S.state s.old).disk.size) }
+    requires few { from ≤ SECTOR_POINTERS }
+    requires room { from ≢ 0 → 0 < (S.state s.old).room }
+    ensures { CutsSector sector from content.old (S.state s.old) (S.state s.new) }
+{
+    if sector == 0 || from == 0 {
+        return;
+    }
+    clear_pointers(content, from);
+    s.put(sector, content);
+}
+
+// Drops the blocks from `first` on, and the sectors of pointers by which no other is found.
 fn drop_blocks<S: Sectors>(
     s: &mut S,
     place: Place,
-    blocks: &mut Blocks,
+    inode: &mut Inode,
     first: u64,
 ) -> Result<(), DiskFault>
-    requires may { MayChange place (S.state s.old) blocks.old.inode }
-    requires loaded { IsLoaded (S.state s.old).sectors blocks.old MAX_BLOCKS }
+    requires may { MayChange place (S.state s.old) inode.old }
     requires few { first ≤ MAX_BLOCKS }
-    requires room { HasSpare place 1 (S.state s.old) }
-    ensures dropped { OnOk result (DropsBlocks place first (S.state s.old) (S.state s.new) blocks.old.inode blocks.new.inode) }
+    requires room { HasSpare place (cut_by first) (S.state s.old) }
+    ensures dropped { OnOk result (DropsBlocks place first (S.state s.old) (S.state s.new) inode.old inode.new) }
     ensures store { SameStore (S.state s.old) (S.state s.new) }
     ensures cause { HasCause (S.state s.old).disk (S.state s.new).disk result }
 {
-    give_blocks(s, place, blocks, first)?;
-    clear_direct(&mut blocks.inode.direct, first.min(DIRECT_BLOCKS) as usize);
-    if blocks.inode.indirect == 0 {
-        return Ok(());
-    }
-    if first <= DIRECT_BLOCKS {
-        give(s, place, Bitmap::Blocks, blocks.inode.indirect)?;
-        blocks.inode.indirect = 0;
-        return Ok(());
-    }
-    clear_pointers(&mut blocks.pointers, (first - DIRECT_BLOCKS) as usize);
-    s.put(blocks.inode.indirect, &blocks.pointers);
+    let past = first.saturating_sub(DIRECT_BLOCKS);
+    let index = past.div_ceil(SECTOR_POINTERS);
+    let mut pointers = [0; BLOCK];
+    let sector = read_pointers(s, inode, past / SECTOR_POINTERS, &mut pointers)?;
+    let mut double = [0; BLOCK];
+    let above = read_listed(s, inode, 2, 0, &mut double)?;
+    give_from(s, place, inode, first)?;
+    cut_sector(s, sector, &mut pointers, (past % SECTOR_POINTERS) as usize);
+    cut_sector(
+        s,
+        above,
+        &mut double,
+        (index.saturating_sub(1) % SECTOR_POINTERS) as usize,
+    );
+    clear_inode(inode, first);
     Ok(())
 }
 
@@ -82,7 +112,7 @@ fn clear_tail<S: Sectors>(
     size: u64,
 ) -> Result<(), DiskFault>
     requires may { MayChange place (S.state s.old) blocks.now.inode }
-    requires loaded { IsLoaded (S.state s.old).sectors blocks.now MAX_BLOCKS }
+    requires loaded { IsLoaded (S.state s.old).sectors blocks.now (size / 512) }
     requires less { size < blocks.now.inode.size }
     requires limit { blocks.now.inode.size ≤ MAX_FILE_SIZE }
     requires room { HasSpare place 1 (S.state s.old) }
@@ -113,7 +143,7 @@ fn resize<S: Sectors>(
     requires may { MayChange place (S.state s.old) inode.old }
     requires kind { AllowsSize inode.old.kind size }
     requires limit { (size ≤ MAX_FILE_SIZE) × (inode.old.size ≤ MAX_FILE_SIZE) }
-    requires room { HasSpare place 2 (S.state s.old) }
+    requires room { HasSpare place (1 + cut_by (blocks_to size)) (S.state s.old) }
     ensures resized { OnOk result (Resizes place size (S.state s.old) (S.state s.new) inode.old inode.new) }
     ensures store { SameStore (S.state s.old) (S.state s.new) }
     ensures cause { HasCause (S.state s.old).disk (S.state s.new).disk result }
@@ -122,13 +152,10 @@ fn resize<S: Sectors>(
         inode.size = size;
         return Ok(());
     }
-    let mut blocks = Blocks {
-        inode: *inode,
-        pointers: [0; BLOCK],
-    };
-    blocks.load(s, MAX_BLOCKS)?;
+    let mut blocks = Blocks::new(inode);
+    blocks.load(s, size / BLOCK as u64)?;
     clear_tail(s, place, &blocks, size)?;
-    drop_blocks(s, place, &mut blocks, size.div_ceil(BLOCK as u64))?;
+    drop_blocks(s, place, &mut blocks.inode, size.div_ceil(BLOCK as u64))?;
     blocks.inode.size = size;
     *inode = blocks.inode;
     Ok(())
@@ -149,8 +176,8 @@ pub fn set_size<S: Sectors>(
     requires below { n < place.inodes }
     requires inode { inode.old ≡ inode_at place (S.state s.old).sectors n }
     requires kind { AllowsSize inode.old.kind size }
-    requires spare { HasSpare place 3 (S.state s.old) }
-    ensures change { OnOk result (ChangesContent place n 0 3 (S.state s.old) (S.state s.new) inode.old inode.new) }
+    requires spare { HasSpare place (put_to size) (S.state s.old) }
+    ensures change { OnOk result (ChangesContent place n 0 (put_to size) (S.state s.old) (S.state s.new) inode.old inode.new) }
     ensures held { OnOk result ((held : List ℕ) → Holds (S.state s.old).sectors inode.old held
         → Holds (S.state s.new).sectors inode.new (resized held size)) }
     // A cut makes no hole.

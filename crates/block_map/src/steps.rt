@@ -1,17 +1,17 @@
 //! Steps of a change: what an inode owns changes, and the inode isn't saved yet.
 
 ghost use Rattle.std.specs.Prelude.{◌≡◌, ◌≢◌, ◌≤◌, ◌<◌, ◌+◌, ◌*◌, ℕ, [], length, false, true, Err, IfOk, IfErr, OnOk, OnErr};
-ghost use Rattle.fs_layout.specs.declared.inode.TheConstants.{DIRECT_BLOCKS, DIRECT_SIZE, MAX_BLOCKS};
+ghost use Rattle.fs_layout.specs.declared.inode.TheConstants.{DIRECT_BLOCKS};
 ghost use Rattle.fs_layout.specs.Bytes.{SectorMap, IsSector, splice, zeros};
-ghost use Rattle.fs_layout.specs.Images.{pointer, free_sectors};
+ghost use Rattle.fs_layout.specs.Images.{holder, number_on, pointer, free_sectors};
 ghost use Rattle.fs_layout.specs.InodeChanges.{Puts, Allocates};
 ghost use Rattle.sector_disk.specs.Disk.{HasCause};
 ghost use Rattle.sector_txn.specs.Sectors.{SameStore, PutsOnly};
 ghost use Rattle.bit_alloc.specs.Bitmaps.{HasBitmaps};
 ghost use Rattle.bit_alloc.specs.Faults.{HasCauseOf};
 ghost use Rattle.bit_alloc.specs.Room.{bitmaps, HasSpare};
-ghost use Rattle.block_map.specs.Blocks.{IsLoaded};
-ghost use Rattle.block_map.specs.Steps.{MayChange, IsStepSector, HasRoomFor, AddsPointers, WritesBlock};
+ghost use Rattle.block_map.specs.Blocks.{IsAtHand, IsLoaded};
+ghost use Rattle.block_map.specs.Steps.{MayChange, IsStepSector, HasRoomFor, WritesBlock, pointers_to};
 
 use crate::MapFault;
 use crate::blocks::{BLOCK, Blocks};
@@ -98,8 +98,8 @@ fn take_block<S: Sectors>(
     Ok(number)
 }
 
-/// Writes bytes into block k, from `at` on. A hole takes a sector.
-pub(crate) fn write_block<S: Sectors>(
+// Writes bytes into block k, from `at` on, where its sector of pointers is at hand. A hole takes a sector.
+fn write_loaded<S: Sectors>(
     s: &mut S,
     place: Place,
     blocks: &mut Blocks,
@@ -108,12 +108,13 @@ pub(crate) fn write_block<S: Sectors>(
     bytes: &[u8],
 ) -> Result<(), MapFault>
     requires may { MayChange place (S.state s.old) blocks.old.inode }
-    requires loaded { IsLoaded (S.state s.old).sectors blocks.old (k + 1) }
-    requires pointers { (k < MAX_BLOCKS) × (DIRECT_BLOCKS ≤ k → blocks.old.inode.indirect ≢ 0) }
+    requires loaded { IsLoaded (S.state s.old).sectors blocks.old k }
+    requires pointers { DIRECT_BLOCKS ≤ k → number_on (S.state s.old).sectors blocks.old.inode 1 (holder DIRECT_BLOCKS k) ≢ 0 }
     requires fits { (at + length bytes.now ≤ 512) × (512 * k + at + length bytes.now ≤ blocks.old.inode.size) }
     requires inside { 512 * k < blocks.old.inode.size }
-    requires room { HasRoomFor place blocks.old.inode 1 (S.state s.old) }
-    ensures written { OnOk result (WritesBlock place k at bytes.now (S.state s.old) (S.state s.new) blocks.old blocks.new) }
+    requires room { HasRoomFor place (pointers_to (S.state s.old).sectors blocks.old.inode k) 1 (S.state s.old) }
+    ensures written { OnOk result (WritesBlock place k at bytes.now (S.state s.old) (S.state s.new) blocks.old.inode blocks.new.inode) }
+    ensures at_hand { OnOk result (IsAtHand (S.state s.new).sectors blocks.new) }
     ensures full { result ≡ Err MapFault.Full
         → (pointer (S.state s.old).sectors blocks.old.inode k ≡ 0) × (free_sectors place (S.state s.old).sectors ≡ 0) }
     ensures small { result ≢ Err MapFault.TooBig }
@@ -134,27 +135,30 @@ pub(crate) fn write_block<S: Sectors>(
     Ok(())
 }
 
-/// Takes a sector for pointers if the blocks below `end` need it.
-pub(crate) fn add_pointers<S: Sectors>(
+/// Writes bytes into block k, from `at` on. A hole takes a sector.
+pub(crate) fn write_block<S: Sectors>(
     s: &mut S,
     place: Place,
     blocks: &mut Blocks,
-    end: u64,
+    k: u64,
+    at: usize,
+    bytes: &[u8],
 ) -> Result<(), MapFault>
     requires may { MayChange place (S.state s.old) blocks.old.inode }
-    requires loaded { IsLoaded (S.state s.old).sectors blocks.old end }
-    requires inside { DIRECT_BLOCKS < end → DIRECT_SIZE < blocks.old.inode.size }
-    requires room { HasSpare place 1 (S.state s.old) }
-    ensures added { OnOk result (AddsPointers place end (S.state s.old) (S.state s.new) blocks.old blocks.new) }
+    requires at_hand { IsAtHand (S.state s.old).sectors blocks.old }
+    requires pointers { DIRECT_BLOCKS ≤ k → number_on (S.state s.old).sectors blocks.old.inode 1 (holder DIRECT_BLOCKS k) ≢ 0 }
+    requires fits { (at + length bytes.now ≤ 512) × (512 * k + at + length bytes.now ≤ blocks.old.inode.size) }
+    requires inside { 512 * k < blocks.old.inode.size }
+    requires room { HasRoomFor place (pointers_to (S.state s.old).sectors blocks.old.inode k) 1 (S.state s.old) }
+    ensures written { OnOk result (WritesBlock place k at bytes.now (S.state s.old) (S.state s.new) blocks.old.inode blocks.new.inode) }
+    ensures at_hand { OnOk result (IsAtHand (S.state s.new).sectors blocks.new) }
     ensures full { result ≡ Err MapFault.Full
-        → (DIRECT_BLOCKS < end) × (blocks.old.inode.indirect ≡ 0) × (free_sectors place (S.state s.old).sectors ≡ 0) }
+        → (pointer (S.state s.old).sectors blocks.old.inode k ≡ 0) × (free_sectors place (S.state s.old).sectors ≡ 0) }
     ensures small { result ≢ Err MapFault.TooBig }
     ensures store { SameStore (S.state s.old) (S.state s.new) }
     ensures cause { HasCauseOf MapFault.DiskFault (S.state s.old).disk (S.state s.new).disk result }
 {
-    if end <= DIRECT_BLOCKS || blocks.inode.indirect != 0 {
-        return Ok(());
-    }
-    blocks.inode.indirect = take_sector(s, place, &[0; BLOCK])?;
+    blocks.load(s, k)?;
+    write_loaded(s, place, blocks, k, at, bytes)?;
     Ok(())
 }

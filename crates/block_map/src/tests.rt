@@ -69,7 +69,7 @@ fn perform<S: Sectors>(s: &mut S, place: Place, n: u32, call: Call) -> Result<[u
     ensures sound { OnOk result (IsSound place (S.state s.new)) }
 {
     let mut inode = load(s, place, n)?;
-    if s.room() < (place.table - 128) as usize + 11 {
+    if s.room() < (place.table - 128) as usize + 13 {
         return Err(Fail::new("no room"));
     }
     let Kind::File = inode.kind else {
@@ -189,8 +189,8 @@ fn calls(rt: HostRuntime) -> Result<(), Fail> {
             (Call::Write(6144, 1), done, 3, 6),
             (Call::Read(6143), [0, 7, 0, 0], 2, 0),
             (Call::Write(6656, 1), done, 3, 4),
-            (Call::SetSize(6200), done, 4, 4),
-            (Call::SetSize(6144), done, 4, 3),
+            (Call::SetSize(6200), done, 6, 4),
+            (Call::SetSize(6144), done, 6, 3),
             (Call::Release, done, 1, 1),
         ],
         &[

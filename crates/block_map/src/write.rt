@@ -12,12 +12,13 @@ ghost use Rattle.bit_alloc.specs.Faults.{HasCauseOf};
 ghost use Rattle.bit_alloc.specs.Inodes.{IsSound};
 ghost use Rattle.bit_alloc.specs.Room.{HasSpare};
 ghost use Rattle.block_map.specs.Contents.{AllowsSize, ChangesContent};
-ghost use Rattle.block_map.specs.Blocks.{IsLoaded};
-ghost use Rattle.block_map.specs.Steps.{MayChange, WritesBlocks, blocks_to, taken_by, put_by};
+ghost use Rattle.block_map.specs.Blocks.{IsAtHand};
+ghost use Rattle.block_map.specs.Steps.{MayChange, WritesBlocks, blocks_to, pointer_sectors, taken_by, put_by};
 
 use crate::MapFault;
 use crate::blocks::{BLOCK, Blocks};
-use crate::steps::{add_pointers, rewrite, write_block};
+use crate::pointers::add_pointers;
+use crate::steps::{rewrite, write_block};
 use fs_layout::{Inode, Place};
 use inode_table::write_inode;
 use sector_disk::DiskFault;
@@ -32,9 +33,10 @@ pub(crate) fn write_blocks<S: Sectors>(
     bytes: &[u8],
 ) -> Result<(), MapFault>
     requires may { MayChange place (S.state s.old) blocks.old.inode }
-    requires loaded { IsLoaded (S.state s.old).sectors blocks.old (blocks_to (offset + length bytes.now)) }
+    requires at_hand { IsAtHand (S.state s.old).sectors blocks.old }
     requires inside { (offset + length bytes.now ≤ blocks.old.inode.size) × (blocks.old.inode.size ≤ MAX_FILE_SIZE) }
-    requires room { HasSpare place (blocks_to (offset + length bytes.now) - offset / 512 + 1) (S.state s.old) }
+    requires room { HasSpare place (blocks_to (offset + length bytes.now) - offset / 512
+        + pointer_sectors (offset / 512) (blocks_to (offset + length bytes.now))) (S.state s.old) }
     ensures written { OnOk result (WritesBlocks place offset bytes.now (S.state s.old) (S.state s.new) blocks.old.inode blocks.new.inode) }
     ensures full { result ≡ Err MapFault.Full
         → free_sectors place (S.state s.old).sectors < taken_by (S.state s.old).sectors blocks.old.inode offset (length bytes.now) }
@@ -43,7 +45,7 @@ pub(crate) fn write_blocks<S: Sectors>(
     ensures cause { HasCauseOf MapFault.DiskFault (S.state s.old).disk (S.state s.new).disk result }
 {
     let end = (offset + bytes.len() as u64).div_ceil(BLOCK as u64);
-    add_pointers(s, place, blocks, end)?;
+    add_pointers(s, place, blocks, offset / BLOCK as u64, end)?;
     for k in offset / BLOCK as u64..end {
         let begin = k * BLOCK as u64;
         let at = offset.saturating_sub(begin) as usize;
@@ -83,8 +85,8 @@ pub fn write_at<S: Sectors>(
     ensures untouched { max_file_size place.version < offset + length bytes.now → IsUnchanged (S.state s.old) (S.state s.new) }
     ensures full { result ≡ Err MapFault.Full
         → (free_sectors place (S.state s.old).sectors < taken_by (S.state s.old).sectors inode.old offset (length bytes.now))
-        × (taken_by (S.state s.old).sectors inode.old offset (length bytes.now) ≤ 10) }
-    ensures taken { OnOk result (taken_by (S.state s.old).sectors inode.old offset (length bytes.now) ≤ 10) }
+        × (taken_by (S.state s.old).sectors inode.old offset (length bytes.now) ≤ 12) }
+    ensures taken { OnOk result (taken_by (S.state s.old).sectors inode.old offset (length bytes.now) ≤ 12) }
     ensures store { SameStore (S.state s.old) (S.state s.new) }
     ensures cause { HasCauseOf MapFault.DiskFault (S.state s.old).disk (S.state s.new).disk result }
 {
@@ -92,11 +94,7 @@ pub fn write_at<S: Sectors>(
         return Err(MapFault::TooBig);
     }
     let end = offset + bytes.len() as u64;
-    let mut blocks = Blocks {
-        inode: *inode,
-        pointers: [0; BLOCK],
-    };
-    blocks.load(s, end.div_ceil(BLOCK as u64))?;
+    let mut blocks = Blocks::new(inode);
     blocks.inode.size = inode.size.max(end);
     write_blocks(s, place, &mut blocks, offset, bytes)?;
     write_inode(s, place, n, &blocks.inode)?;
@@ -131,11 +129,8 @@ pub fn overwrite<S: Sectors>(
     ensures cause { HasCause (S.state s.old).disk (S.state s.new).disk result }
 {
     let block = offset / BLOCK as u64;
-    let mut blocks = Blocks {
-        inode: *inode,
-        pointers: [0; BLOCK],
-    };
-    blocks.load(s, block + 1)?;
+    let mut blocks = Blocks::new(inode);
+    blocks.load(s, block)?;
     let at = (offset % BLOCK as u64) as usize;
     rewrite(s, blocks.number(block), at, bytes)?;
     Ok(())

@@ -9,8 +9,7 @@ use Rattle.sector_txn.specs.Sectors.{TxnState, IsUnchanged}
 use Rattle.bit_alloc.specs.Inodes.{IsSound}
 use Rattle.inode_table.specs.Inodes.{IsInodeOf}
 use Rattle.inode_table.proofs.StoredAcls.{data_mapped}
-use Rattle.block_map.specs.declared.blocks.Blocks.{Blocks}
-use Rattle.block_map.specs.Blocks.{IsWithin, IsLoaded}
+use Rattle.block_map.specs.Blocks.{IsWithin}
 use Rattle.block_map.proofs.Runs.{same_map}
 use Rattle.dir_core.specs.Slots.{HasSlots, IsBlock}
 
@@ -30,9 +29,6 @@ module _ {old mid : TxnState} (same : IsUnchanged old mid) where
       let image : mid.sectors ≡ old.sectors = same_map old.sectors mid.sectors same.sectors in
       let r = within s (subst (λ m. Owns m v s) image (subst (λ u. Owns mid.sectors u s) is o)) in
       (r.0, omega (arith, r.1, same.store.reads.narrowed.size))
-
-  pub loaded_later : (b : Blocks) (end : ℕ) → IsLoaded old.sectors b end → IsLoaded mid.sectors b end
-  loaded_later b end h = subst (λ m. IsLoaded m b end) (sym (same_map old.sectors mid.sectors same.sectors)) h
 
   pub block_later : (v w : Inode) (k : ℕ) (block : List ℕ) → w ≡ v → IsBlock old.sectors v k block → IsBlock mid.sectors w k block
   block_later v w k block is h =

@@ -4,7 +4,7 @@ ghost use Rattle.std.specs.Prelude.{◌≡◌, ◌≢◌, ◌↔◌, ◌≤◌, 
 ghost use Rattle.sector_disk.specs.Disk.{HasCause};
 ghost use Rattle.fs_layout.specs.Directories.{NamedInode};
 ghost use Rattle.sector_txn.specs.Sectors.{IsUnchanged};
-ghost use Rattle.block_map.specs.Blocks.{IsWithin, IsLoaded};
+ghost use Rattle.block_map.specs.Blocks.{IsWithin, IsAtHand};
 ghost use Rattle.dir_core.specs.Slots.{HasSlots, IsBlock, IsSlotAt, IsFoundIn};
 
 use block_map::Blocks;
@@ -53,14 +53,16 @@ fn slot_inode(block: &[u8; 512], at: usize) -> u32
 /// Reads the block of a slot, where the slot is the block's first; else the block is at hand.
 pub(crate) fn read_block_of<S: Sectors>(
     s: &mut S,
-    blocks: &Blocks,
+    blocks: &mut Blocks,
     slot: u64,
     block: &mut [u8; 512],
 ) -> Result<(), DiskFault>
-    requires within { IsWithin (S.state s.old).disk.size (S.state s.old).sectors blocks.now.inode }
-    requires loaded { (end : ℕ) × (slot / 4 < end) × IsLoaded (S.state s.old).sectors blocks.now end }
-    requires at_hand { slot % 4 ≢ 0 → IsBlock (S.state s.old).sectors blocks.now.inode (slot / 4) block.old }
-    ensures block { OnOk result (IsBlock (S.state s.old).sectors blocks.now.inode (slot / 4) block.new) }
+    requires within { IsWithin (S.state s.old).disk.size (S.state s.old).sectors blocks.old.inode }
+    requires pointers { IsAtHand (S.state s.old).sectors blocks.old }
+    requires at_hand { slot % 4 ≢ 0 → IsBlock (S.state s.old).sectors blocks.old.inode (slot / 4) block.old }
+    ensures inode { blocks.new.inode ≡ blocks.old.inode }
+    ensures pointers { OnOk result (IsAtHand (S.state s.old).sectors blocks.new) }
+    ensures block { OnOk result (IsBlock (S.state s.old).sectors blocks.old.inode (slot / 4) block.new) }
     ensures same { IsUnchanged (S.state s.old) (S.state s.new) }
     ensures cause { HasCause (S.state s.old).disk (S.state s.new).disk result }
 {
@@ -90,14 +92,10 @@ pub(crate) fn find_slot<S: Sectors>(
         return Ok(None);
     }
     let slots = inode.size / SLOT_SIZE as u64;
-    let mut blocks = Blocks {
-        inode: *inode,
-        pointers: [0; 512],
-    };
-    blocks.load(s, slots.div_ceil(SLOTS))?;
+    let mut blocks = Blocks::new(inode);
     let mut block = [0; 512];
     for slot in 0..slots {
-        read_block_of(s, &blocks, slot, &mut block)?;
+        read_block_of(s, &mut blocks, slot, &mut block)?;
         let at = SLOT_SIZE * (slot % SLOTS) as usize;
         if is_named(&block, at, name) {
             let inode = slot_inode(&block, at);

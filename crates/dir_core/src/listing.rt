@@ -29,14 +29,10 @@ fn read_slots<S: Sectors>(alloc: Global, s: &mut S, inode: &Inode) -> Result<Vec
 {
     let count = inode.size / SLOT_SIZE as u64;
     let mut slots = Vec::with_capacity(alloc, count as usize)?;
-    let mut blocks = Blocks {
-        inode: *inode,
-        pointers: [0; 512],
-    };
-    blocks.load(s, count.div_ceil(SLOTS))?;
+    let mut blocks = Blocks::new(inode);
     let mut block = [0; 512];
     for k in 0..count {
-        read_block_of(s, &blocks, k, &mut block)?;
+        read_block_of(s, &mut blocks, k, &mut block)?;
         let Ok(slot) = Slot::read_from(&block, SLOT_SIZE * (k % SLOTS) as usize) else {
             unreachable!()
         };

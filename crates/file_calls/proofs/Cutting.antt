@@ -8,10 +8,9 @@ use Rattle.std.proofs.Common.{refl, sym, ap, subst, arith, ◌∙◌}
 use Rattle.std.proofs.lemmas.Bool.{le-ltb}
 use Rattle.fs_cred.specs.declared.errno.Errno.TheVariants.{EFBIG}
 use Rattle.fs_cred.specs.declared.refusal.Refusal.{Refusal}
-use Rattle.fs_layout.specs.declared.inode.TheConstants.{MAX_FILE_SIZE}
 use Rattle.fs_layout.specs.declared.place.Place.{Place}
 use Rattle.fs_layout.specs.Bytes.{resized}
-use Rattle.fs_layout.proofs.Versions.{max_file_size_is}
+use Rattle.fs_layout.specs.Version.{max_file_size}
 use Rattle.sector_txn.specs.Sectors.{TxnState}
 use Rattle.fs_model.specs.declared.call.Call.TheVariants.{Ftruncate}
 use Rattle.fs_model.specs.declared.reply.Reply.TheVariants.{Done}
@@ -53,25 +52,24 @@ process_stays {desks} {pid} o table =
 
 module _ {p : Place} (old : TxnState) {desks : Desks} {pid fd : ℕ} {d : Descriptor} (o : IsOpened desks pid fd d) (size : ℕ) (s : State)
     (at : IsStateOf p old.sectors desks s) where
-  asked_is : first_of (ftruncate_demands size (open_scene s o.process)) ≡ first_of (refuse EFBIG (nat_lt MAX_FILE_SIZE size) ∷ [])
+  asked_is : first_of (ftruncate_demands size (open_scene s o.process)) ≡ first_of (refuse EFBIG (nat_lt (max_file_size p.version) size) ∷ [])
   asked_is =
       ap (λ (r : Room). first_of (refuse EFBIG (nat_lt r.file_limit size) ∷ [])) at.same_room
-      ∙ ap (λ (n : ℕ). first_of (refuse EFBIG (nat_lt n size) ∷ [])) (max_file_size_is p.version)
 
-  pub size_asked : (e : Refusal) → refused_or {A = Unit {0}} (refuse EFBIG (nat_lt MAX_FILE_SIZE size)) (Ok tt) ≡ Err e
+  pub size_asked : (e : Refusal) → refused_or {A = Unit {0}} (refuse EFBIG (nat_lt (max_file_size p.version) size)) (Ok tt) ≡ Err e
       → first_of (ftruncate_demands size (open_scene s o.process)) ≡ Some e
-  size_asked e is = asked_is ∙ first_refuses (refuse EFBIG (nat_lt MAX_FILE_SIZE size)) [] e is
+  size_asked e is = asked_is ∙ first_refuses (refuse EFBIG (nat_lt (max_file_size p.version) size)) [] e is
 
-  size_met : size ≤ MAX_FILE_SIZE → first_of (ftruncate_demands size (open_scene s o.process)) ≡ None
-  size_met fits = asked_is ∙ ap (λ (b : Bool). first_of (refuse EFBIG b ∷ [])) (le-ltb MAX_FILE_SIZE size fits)
+  size_met : size ≤ max_file_size p.version → first_of (ftruncate_demands size (open_scene s o.process)) ≡ None
+  size_met fits = asked_is ∙ ap (λ (b : Bool). first_of (refuse EFBIG b ∷ [])) (le-ltb (max_file_size p.version) size fits)
 
-  pub cuts : (new : TxnState) → d.write ≡ true → size ≤ MAX_FILE_SIZE → desks ≡ with_changed desks pid (λ p. p)
+  pub cuts : (new : TxnState) → d.write ≡ true → size ≤ max_file_size p.version → desks ≡ with_changed desks pid (λ p. p)
       → ChangesBytes p d.number old new (λ held. resized held size)
       → IsChange p new.sectors desks s o.process (ftruncate_demands size (open_scene s o.process)) (λ k. ftruncate_effect fd size (open_scene s o.process)) Done
   cuts new open_to_write fits same c =
       let x = open_fits o s at in
       let body = (at.is_state.tree.each d.number x.node x.is_there).body in
-      let limit : s.room.file_limit ≡ MAX_FILE_SIZE = ap (λ (r : Room). r.file_limit) at.same_room ∙ max_file_size_is p.version in
+      let limit : s.room.file_limit ≡ max_file_size p.version = ap (λ (r : Room). r.file_limit) at.same_room in
       let len = length-resized (bytes_in x.node.body) size in
       record {
         met = size_met fits;

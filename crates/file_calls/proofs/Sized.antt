@@ -10,11 +10,10 @@ use Rattle.fs_cred.specs.declared.refusal.Refusal.{Refusal}
 use Rattle.fs_layout.specs.declared.inode.Inode.{Inode}
 use Rattle.fs_layout.specs.declared.inode.Kind.{Kind}
 use Rattle.fs_layout.specs.declared.inode.Kind.TheVariants as kinds
-use Rattle.fs_layout.specs.declared.inode.TheConstants.{MAX_FILE_SIZE}
 use Rattle.fs_layout.specs.declared.place.Place.{Place}
 use Rattle.fs_layout.specs.Bytes.{SectorMap, resized}
 use Rattle.fs_layout.specs.Images.{inode_at}
-use Rattle.fs_layout.proofs.Versions.{max_file_size_is}
+use Rattle.fs_layout.specs.Version.{max_file_size}
 use Rattle.sector_txn.specs.Sectors.{TxnState}
 use Rattle.fs_model.specs.declared.reply.Reply.TheVariants.{Done}
 use Rattle.fs_model.specs.declared.walk.Form.TheVariants.{Follow}
@@ -45,9 +44,9 @@ pub file_kind : (k : NodeKind) (v : Kind) → v ≡ stored_kind k → refuse EIS
 file_kind nodes.File v is none = is
 file_kind nodes.Directory v is none = absurd (let c : refuse EISDIR true ≡ None = ap (λ (k : Kind). refuse EISDIR (is_directory_kind k)) (sym is) ∙ none in cc)
 
-pub few_enough : (size : ℕ) → refuse EFBIG (nat_lt MAX_FILE_SIZE size) ≡ None → size ≤ MAX_FILE_SIZE
-few_enough size none = elim (cases_lt MAX_FILE_SIZE size) [
-  | inl lt ↦ absurd (let c : refuse EFBIG true ≡ None = ap (refuse EFBIG) (sym (lt-ltb MAX_FILE_SIZE size lt)) ∙ none in cc)
+pub few_enough : (limit size : ℕ) → refuse EFBIG (nat_lt limit size) ≡ None → size ≤ limit
+few_enough limit size none = elim (cases_lt limit size) [
+  | inl lt ↦ absurd (let c : refuse EFBIG true ≡ None = ap (refuse EFBIG) (sym (lt-ltb limit size lt)) ∙ none in cc)
   | inr le ↦ le
 ]
 
@@ -63,7 +62,7 @@ module _ {p : Place} {map : SectorMap} {desks : Desks} {s : State} {pid : ℕ} {
     (at : IsStateOf p map desks s) (has : HasFound s pid q Follow path f) (some : f.ino ≡ Some n) (number_is : number f ≡ n) (inode : v ≡ inode_at p map n)
     (size : ℕ) where
   abbrev last_asked : List Demand
-  last_asked = refuse EFBIG (nat_lt MAX_FILE_SIZE size) ∷ []
+  last_asked = refuse EFBIG (nat_lt (max_file_size p.version) size) ∷ []
 
   abbrev third_asked : List Demand
   third_asked = permission_at_end (scene_at s q f) f 1 (perms false true false) ∷ last_asked
@@ -80,8 +79,6 @@ module _ {p : Place} {map : SectorMap} {desks : Desks} {s : State} {pid : ℕ} {
       ∷ refuse EFBIG (nat_lt s.room.file_limit size) ∷ []) (directory_is at has some number_is inode)
       ∙ ap (λ (r : Room). must_be_there f ∷ refuse EISDIR (is_directory_kind v.kind) ∷ permission_at_end (scene_at s q f) f 1 (perms false true false)
       ∷ refuse EFBIG (nat_lt r.file_limit size) ∷ []) at.same_room
-      ∙ ap (λ (k : ℕ). must_be_there f ∷ refuse EISDIR (is_directory_kind v.kind) ∷ permission_at_end (scene_at s q f) f 1 (perms false true false)
-      ∷ refuse EFBIG (nat_lt k size) ∷ []) (max_file_size_is p.version)
 
   asked_again : {A : Type 0} (x : A) (e : Refusal) (old new : DiskState) → IsAnswered old new (refused_or {A = A} (first_of asked) (Ok x)) (Err e)
       → IsAnswered old new (refused_or {A = A} (first_of (truncate_demands size (scene_at s q f))) (Ok x)) (Err e)
@@ -109,34 +106,34 @@ module _ {p : Place} {map : SectorMap} {desks : Desks} {s : State} {pid : ℕ} {
       module _ (granted : permission_at_end (scene_at s q f) f 1 (perms false true false) ≡ None) where
         -- it would be too big
         pub size_refused : {A B : Type 0} (y : B) (x : A) (e : Refusal) (old new : DiskState)
-            → refused_or {A = B} (refuse EFBIG (nat_lt MAX_FILE_SIZE size)) (Ok y) ≡ Err e
+            → refused_or {A = B} (refuse EFBIG (nat_lt (max_file_size p.version) size)) (Ok y) ≡ Err e
             → IsAnswered old new (refused_or {A = A} (first_of (truncate_demands size (scene_at s q f))) (Ok x)) (Err e)
         size_refused {A} {B} y x e old new is =
             asked_again x e old new (next_asked (must_be_there f) second_asked x e old new there
             (next_asked (refuse EISDIR (is_directory_kind v.kind)) third_asked x e old new file
             (next_asked (permission_at_end (scene_at s q f) f 1 (perms false true false)) last_asked x e old new granted
-            (first_asked {B = B} (refuse EFBIG (nat_lt MAX_FILE_SIZE size)) [] y x e old new (inl is)))))
+            (first_asked {B = B} (refuse EFBIG (nat_lt (max_file_size p.version) size)) [] y x e old new (inl is)))))
 
-        all_granted : refuse EFBIG (nat_lt MAX_FILE_SIZE size) ≡ None → first_of (truncate_demands size (scene_at s q f)) ≡ None
+        all_granted : refuse EFBIG (nat_lt (max_file_size p.version) size) ≡ None → first_of (truncate_demands size (scene_at s q f)) ≡ None
         all_granted fits =
             ap first_of demands_are ∙ both_met (must_be_there f) second_asked there (both_met (refuse EISDIR (is_directory_kind v.kind)) third_asked file
             (both_met (permission_at_end (scene_at s q f) f 1 (perms false true false)) last_asked granted
-            (or_else-none (refuse EFBIG (nat_lt MAX_FILE_SIZE size)) ∙ fits)))
+            (or_else-none (refuse EFBIG (nat_lt (max_file_size p.version) size)) ∙ fits)))
 
 module _ {p : Place} {old : TxnState} {desks : Desks} {s : State} {pid : ℕ} {q : Process} {path : List ℕ} {f : Found} {n : ℕ} {v : Inode}
     (at : IsStateOf p old.sectors desks s) (has : HasFound s pid q Follow path f) (some : f.ino ≡ Some n) (number_is : number f ≡ n) (inode : v ≡ inode_at p old.sectors n)
     (size : ℕ) where
   -- it has that size
   pub size_changed : (new : TxnState) → must_be_there f ≡ None → refuse EISDIR (is_directory_kind v.kind) ≡ None
-      → permission_at_end (scene_at s q f) f 1 (perms false true false) ≡ None → refuse EFBIG (nat_lt MAX_FILE_SIZE size) ≡ None
-      → size ≤ MAX_FILE_SIZE → v.kind ≡ kinds.File → ChangesBytes p n old new (λ held. resized held size)
+      → permission_at_end (scene_at s q f) f 1 (perms false true false) ≡ None → refuse EFBIG (nat_lt (max_file_size p.version) size) ≡ None
+      → size ≤ max_file_size p.version → v.kind ≡ kinds.File → ChangesBytes p n old new (λ held. resized held size)
       → IsChange p new.sectors desks s q (truncate_demands size (scene_at s q f)) (truncate_effect size (scene_at s q f)) Done
   size_changed new there file granted fits few kind c =
       let a = followed_access n at has some in
       let is_file = sym (ap (λ (w : Inode). w.kind) inode) ∙ kind in
       let held = held_node (state_tree at) n a.node a.at in
       let is = (at.is_state.tree).each n a.node a.at in
-      let limit = ap (λ (r : Room). r.file_limit) at.same_room ∙ max_file_size_is p.version in
+      let limit = ap (λ (r : Room). r.file_limit) at.same_room in
       rewrites_found at new.sectors n a.node (resized_node size a.node) a.at
       (bytes_may_replace s.room s.tree n a.node is (resized (bytes_in a.node.body) size)
       (let len = length-resized (bytes_in a.node.body) size in omega (arith, len, few, limit))

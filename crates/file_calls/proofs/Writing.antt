@@ -12,11 +12,10 @@ use Rattle.fs_cred.specs.declared.errno.Errno.TheVariants.{EBADF, EFBIG, ENOSPC}
 use Rattle.fs_cred.specs.declared.refusal.Refusal.TheVariants.{Failed}
 use Rattle.fs_layout.specs.declared.inode.Inode.{Inode}
 use Rattle.fs_layout.specs.declared.inode.Kind.TheVariants as kinds
-use Rattle.fs_layout.specs.declared.inode.TheConstants.{MAX_FILE_SIZE}
 use Rattle.fs_layout.specs.declared.place.Place.{Place}
 use Rattle.fs_layout.specs.Bytes.{SectorMap, IsBytes, overwritten}
 use Rattle.fs_layout.specs.Images.{inode_at, free_sectors}
-use Rattle.fs_layout.proofs.Versions.{max_file_size_is}
+use Rattle.fs_layout.specs.Version.{max_file_size}
 use Rattle.fs_layout.proofs.Sectors.{IsBytes-take}
 use Rattle.sector_txn.specs.Sectors.{TxnState}
 use Rattle.fs_model.specs.declared.call.Call.TheVariants.{Write}
@@ -124,25 +123,25 @@ module _ {p : Place} {map : SectorMap} {desks : Desks} {pid fd : ℕ} {d : Descr
         ∙ ap (place_of d) (open_node o s at)
         ∙ starts_at
 
-    limit_is : s.room.file_limit ≡ MAX_FILE_SIZE
-    limit_is = ap (λ (r : Room). r.file_limit) at.same_room ∙ max_file_size_is p.version
+    limit_is : s.room.file_limit ≡ max_file_size p.version
+    limit_is = ap (λ (r : Room). r.file_limit) at.same_room
 
     module _ (bytes : List ℕ) (some : is_empty bytes ≡ false) where
       demands_are : first_of (write_demands fd bytes (open_scene s o.process))
-          ≡ first_of (refuse EFBIG (nat_le MAX_FILE_SIZE offset) ∷ refuse ENOSPC (nat_lt s.free least_free) ∷ [])
+          ≡ first_of (refuse EFBIG (nat_le (max_file_size p.version) offset) ∷ refuse ENOSPC (nat_lt s.free least_free) ∷ [])
       demands_are =
           ap (λ (b : Bool). first_of (if not b then (refuse EFBIG (nat_le s.room.file_limit (write_offset (open_scene s o.process) fd)) ∷ refuse ENOSPC (nat_lt s.free least_free) ∷ []) else [])) some
           ∙ ap (λ (n : ℕ). first_of (refuse EFBIG (nat_le n (write_offset (open_scene s o.process) fd)) ∷ refuse ENOSPC (nat_lt s.free least_free) ∷ [])) limit_is
-          ∙ ap (λ (n : ℕ). first_of (refuse EFBIG (nat_le MAX_FILE_SIZE n) ∷ refuse ENOSPC (nat_lt s.free least_free) ∷ [])) offset_same
+          ∙ ap (λ (n : ℕ). first_of (refuse EFBIG (nat_le (max_file_size p.version) n) ∷ refuse ENOSPC (nat_lt s.free least_free) ∷ [])) offset_same
 
-      pub too_far : MAX_FILE_SIZE ≤ offset → first_of (write_demands fd bytes (open_scene s o.process)) ≡ Some (Failed EFBIG)
+      pub too_far : max_file_size p.version ≤ offset → first_of (write_demands fd bytes (open_scene s o.process)) ≡ Some (Failed EFBIG)
       too_far far =
-          demands_are ∙ ap (λ (b : Bool). first_of (refuse EFBIG b ∷ refuse ENOSPC (nat_lt s.free least_free) ∷ [])) (le-leb MAX_FILE_SIZE offset far)
+          demands_are ∙ ap (λ (b : Bool). first_of (refuse EFBIG b ∷ refuse ENOSPC (nat_lt s.free least_free) ∷ [])) (le-leb (max_file_size p.version) offset far)
 
-      module _ (near : offset < MAX_FILE_SIZE) where
+      module _ (near : offset < max_file_size p.version) where
         near_is : first_of (write_demands fd bytes (open_scene s o.process)) ≡ first_of (refuse ENOSPC (nat_lt s.free least_free) ∷ [])
         near_is =
-            demands_are ∙ ap (λ (b : Bool). first_of (refuse EFBIG b ∷ refuse ENOSPC (nat_lt s.free least_free) ∷ [])) (lt-leb MAX_FILE_SIZE offset near)
+            demands_are ∙ ap (λ (b : Bool). first_of (refuse EFBIG b ∷ refuse ENOSPC (nat_lt s.free least_free) ∷ [])) (lt-leb (max_file_size p.version) offset near)
 
         pub too_full : free_sectors p map < least_free → first_of (write_demands fd bytes (open_scene s o.process)) ≡ Some (Failed ENOSPC)
         too_full few =
@@ -163,7 +162,7 @@ module _ {p : Place} {map : SectorMap} {desks : Desks} {pid fd : ℕ} {d : Descr
               reply = Wrote count;
             }
 
-        pub effect_is : write_effect fd bytes (open_scene s o.process) ≡ effect_at d.number (open_fits o s at).node offset MAX_FILE_SIZE
+        pub effect_is : write_effect fd bytes (open_scene s o.process) ≡ effect_at d.number (open_fits o s at).node offset (max_file_size p.version)
         effect_is =
             ap (λ (b : Bool). if b then answers (open_scene s o.process) (Wrote 0) else effect_at (the_descriptor o.process fd).number
             (node_open (open_scene s o.process) fd) (write_offset (open_scene s o.process) fd) s.room.file_limit) some
@@ -176,8 +175,8 @@ module _ {p : Place} {map : SectorMap} {desks : Desks} {pid fd : ℕ} {d : Descr
 
 module _ {p : Place} {old new : TxnState} {desks : Desks} {pid fd : ℕ} {d : Descriptor} (o : IsOpened desks pid fd d) (s : State) (at : IsStateOf p old.sectors desks s)
     (wrote : d.write ≡ true) (v : Inode) (is : v ≡ inode_at p old.sectors d.number) (offset : ℕ) (offset_is : offset ≡ (if d.append then v.size else d.offset))
-    (bytes : List ℕ) (some : is_empty bytes ≡ false) (near : offset < MAX_FILE_SIZE) (enough : least_free ≤ free_sectors p old.sectors) (fresh : IsBytes bytes) (count : ℕ)
-    (counted : count ≡ min (length bytes) (min move_limit (MAX_FILE_SIZE - offset)))
+    (bytes : List ℕ) (some : is_empty bytes ≡ false) (near : offset < max_file_size p.version) (enough : least_free ≤ free_sectors p old.sectors) (fresh : IsBytes bytes) (count : ℕ)
+    (counted : count ≡ min (length bytes) (min move_limit (max_file_size p.version - offset)))
     (now : Desks) (still : (n : ℕ) → IsTrue (is_open s.desks n) → IsTrue (is_open now n))
     (c : ChangesBytes p d.number old new (λ held. overwritten held offset (take count bytes))) where
   pub writes : IsChange p new.sectors now s (with_offset o.process fd (offset + count)) (write_demands fd bytes (open_scene s o.process))
@@ -185,7 +184,7 @@ module _ {p : Place} {old new : TxnState} {desks : Desks} {pid fd : ℕ} {d : De
   writes =
       let x = open_fits o s at in
       let body = (at.is_state.tree.each d.number x.node x.is_there).body in
-      let limit : s.room.file_limit ≡ MAX_FILE_SIZE = ap (λ (r : Room). r.file_limit) at.same_room ∙ max_file_size_is p.version in
+      let limit : s.room.file_limit ≡ max_file_size p.version = ap (λ (r : Room). r.file_limit) at.same_room in
       let len = length-take count bytes in
       record {
         met = all_met o s at wrote v is offset offset_is bytes some near enough;

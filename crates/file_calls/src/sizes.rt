@@ -2,7 +2,7 @@
 
 ghost use Rattle.std.specs.Prelude.{◌≡◌, ◌<◌, ◌≤◌, nat_lt, Ok, OnOk, IfErr};
 ghost use Rattle.fs_cred.specs.declared.errno.Errno.TheVariants.{EFBIG};
-ghost use Rattle.fs_layout.specs.declared.inode.TheConstants.{MAX_FILE_SIZE};
+ghost use Rattle.fs_layout.specs.Version.{max_file_size};
 ghost use Rattle.fs_layout.specs.Bytes.{resized};
 ghost use Rattle.fs_model.specs.Demands.{refuse};
 ghost use Rattle.fs_model.specs.declared.call.Call.TheVariants.{Truncate, Ftruncate};
@@ -13,7 +13,7 @@ ghost use Rattle.call_parts.specs.ByteChanges.{ChangesBytes};
 use block_map::set_size;
 use call_parts::{OpenFor, check_no_directory, permitted, reach, reach_open, refuse_if};
 use fs_cred::{Errno, Refusal};
-use fs_layout::{Inode, Kind, MAX_FILE_SIZE, Place};
+use fs_layout::{Inode, Kind, Place};
 use fs_model::{Form, Path, Reply};
 use open_files::Procs;
 use posix_acl::Perms;
@@ -26,11 +26,11 @@ const WRITE: Perms = Perms {
     execute: false,
 };
 
-// Refuses a size that no file has.
-fn check_size(size: u64) -> Result<(), Refusal>
-    ensures { result ≡ refused_or (refuse EFBIG (nat_lt MAX_FILE_SIZE size)) (Ok tt) }
+// Refuses a size that no file on this disk has.
+fn check_size(place: Place, size: u64) -> Result<(), Refusal>
+    ensures { result ≡ refused_or (refuse EFBIG (nat_lt (max_file_size place.version) size)) (Ok tt) }
 {
-    refuse_if(Errno::EFBIG, size > MAX_FILE_SIZE)
+    refuse_if(Errno::EFBIG, size > place.max_file_size())
 }
 
 /// Cuts inode n, a file, to this size, or fills it up with zeros.
@@ -45,8 +45,8 @@ pub(crate) fn give_size<S: Sectors>(
     requires below { n < place.inodes }
     requires inode { inode ≡ inode_at place (S.state s.old).sectors n }
     requires file { inode.kind ≡ Kind.File }
-    requires fits { size ≤ MAX_FILE_SIZE }
-    requires spare { HasSpare place 3 (S.state s.old) }
+    requires fits { size ≤ max_file_size place.version }
+    requires spare { HasSpare place 4 (S.state s.old) }
     ensures change { OnOk result (ChangesBytes place n (S.state s.old) (S.state s.new) (λ held. resized held size)) }
     ensures store { SameStore (S.state s.old) (S.state s.new) }
     ensures fault { IfErr result (FailsToRead (S.state s.old).disk (S.state s.new).disk) }
@@ -60,7 +60,7 @@ pub(crate) fn give_size<S: Sectors>(
 
 /// Cuts the file that a path leads to, or fills it up with zeros.
 ///
-/// ENOENT: the path leads to nothing. EISDIR: it leads to a directory. EFBIG: the size is more than [`MAX_FILE_SIZE`].
+/// ENOENT: the path leads to nothing. EISDIR: it leads to a directory. EFBIG: the size is more than a file may have on this disk.
 pub fn truncate<S: Sectors>(
     alloc: Global,
     s: &mut S,
@@ -78,14 +78,14 @@ pub fn truncate<S: Sectors>(
     check_no_directory(inode.kind)?;
     let cred = reached.process.cred();
     permitted(alloc, s, place, cred, &inode, WRITE, 1, reached.found.step)?;
-    check_size(size)?;
+    check_size(place, size)?;
     give_size(s, place, reached.number, inode, size)?;
     Ok(Reply::Done)
 }
 
 /// Cuts the file of a descriptor, or fills it up with zeros.
 ///
-/// EBADF: it isn't open for writing. EFBIG: the size is more than [`MAX_FILE_SIZE`].
+/// EBADF: it isn't open for writing. EFBIG: the size is more than a file may have on this disk.
 pub fn ftruncate<S: Sectors>(
     s: &mut S,
     place: Place,
@@ -98,7 +98,7 @@ pub fn ftruncate<S: Sectors>(
     ensures { Performs place pid (Ftruncate fd size) (S.state s.old) (S.state s.new) procs.now procs.now result }
 {
     let (descriptor, inode) = reach_open(s, place, procs, pid, fd, OpenFor::Writing)?;
-    check_size(size)?;
+    check_size(place, size)?;
     give_size(s, place, descriptor.number, inode, size)?;
     Ok(Reply::Done)
 }

@@ -2,7 +2,7 @@
 
 ghost use Rattle.std.specs.Prelude.{◌≡◌, ◌+◌, ◌-◌, ◌<◌, ◌≤◌, length, min, if◌then◌else◌, OnOk, IfErr};
 ghost use Rattle.fs_layout.specs.declared.inode.Kind.TheVariants.{File};
-ghost use Rattle.fs_layout.specs.declared.inode.TheConstants.{MAX_FILE_SIZE};
+ghost use Rattle.fs_layout.specs.Version.{max_file_size};
 ghost use Rattle.fs_layout.specs.Bytes.{overwritten};
 ghost use Rattle.fs_model.specs.Limits.{least_free, move_limit};
 ghost use Rattle.fs_model.specs.declared.call.Call.TheVariants.{Write};
@@ -14,18 +14,18 @@ use crate::transfer::MAX_MOVE;
 use block_map::write_at;
 use call_parts::{OpenFor, ask_for_sectors, find_open};
 use fs_cred::{Errno, Refusal};
-use fs_layout::{Inode, MAX_FILE_SIZE, Place};
+use fs_layout::{Inode, Place};
 use fs_model::{Bytes, Reply};
 use open_files::{Descriptor, Procs};
 use path_walk::load_inode;
 use sector_txn::Sectors;
 
 // How many of so many bytes are written at an offset within the limit of a file.
-fn write_count(len: usize, offset: u64) -> usize
-    requires { offset ≤ MAX_FILE_SIZE }
-    ensures { result ≡ min len (min move_limit (MAX_FILE_SIZE - offset)) }
+fn write_count(place: Place, len: usize, offset: u64) -> usize
+    requires { offset ≤ max_file_size place.version }
+    ensures { result ≡ min len (min move_limit (max_file_size place.version - offset)) }
 {
-    let left = (MAX_FILE_SIZE - offset) as usize;
+    let left = (place.max_file_size() - offset) as usize;
     len.min(MAX_MOVE.min(left))
 }
 
@@ -43,7 +43,7 @@ fn write_bytes<S: Sectors>(
     requires inode { inode ≡ inode_at place (S.state s.old).sectors n }
     requires file { inode.kind ≡ File }
     requires few { length bytes.now ≤ move_limit }
-    requires fits { offset + length bytes.now ≤ MAX_FILE_SIZE }
+    requires fits { offset + length bytes.now ≤ max_file_size place.version }
     requires space { least_free ≤ free_sectors place (S.state s.old).sectors }
     requires spare { HasSpare place 47 (S.state s.old) }
     ensures store { SameStore (S.state s.old) (S.state s.new) }
@@ -92,11 +92,11 @@ pub fn write<S: Sectors>(
     let n = descriptor.number;
     let inode = load_inode(s, place, n)?;
     let offset = write_offset(descriptor, &inode);
-    if offset >= MAX_FILE_SIZE {
+    if offset >= place.max_file_size() {
         return Err(Refusal::Failed(Errno::EFBIG));
     }
     ask_for_sectors(s, place)?;
-    let count = write_count(bytes.len(), offset);
+    let count = write_count(place, bytes.len(), offset);
     write_bytes(s, place, n, inode, offset, &bytes[..count])?;
     procs.seek(pid, fd, offset + count as u64);
     Ok(Reply::Wrote(count))

@@ -43,6 +43,7 @@ const FILE: Inode = Inode {
     default_acl: 0,
     direct: [146, 0, 0, 0, 0, 0, 0, 0, 0, 0, 0, 147],
     indirect: 300,
+    double_indirect: 0,
 };
 
 const TARGETS: [u32; 2] = [128, 1000];

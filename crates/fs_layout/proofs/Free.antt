@@ -10,13 +10,13 @@ use Rattle.fs_layout.specs.Bytes.{SectorMap, IsSector, window, zeros, le16, le32
 use Rattle.fs_layout.specs.Inode.{inode_bytes, inode_of, inode_fits, free_inode, FitsInode}
 use Rattle.fs_layout.specs.Place.{IsPlace}
 use Rattle.fs_layout.specs.Images.{HasWholeTables, map_bits, bit, block_bitmap, stored, inode_at}
-use Rattle.fs_layout.specs.Images.{number_on, byte_in, byte_at, Part, AccessAcl, DefaultAcl, OnLevel, part, Owns, Holds}
+use Rattle.fs_layout.specs.Images.{number_on, pointer, byte_in, byte_at, Part, AccessAcl, DefaultAcl, OnLevel, part, Owns, Holds}
 use Rattle.fs_layout.specs.Ownership.{IsOwned, IsConsistent}
 use Rattle.fs_layout.specs.InodeChanges.{with_direct, IsOwnedApart, ChangesBlocks}
 use Rattle.fs_layout.proofs.Places.{after_map}
 use Rattle.fs_layout.proofs.Fields.{part_len, IsBytes-part}
 use Rattle.fs_layout.proofs.InodeLaw.{read_fits}
-use Rattle.fs_layout.proofs.Pointers.{pointer_direct, pointer_without, number_on_past, no_number_on}
+use Rattle.fs_layout.proofs.Pointers.{pointer_direct, pointer_without, number_on_double, number_on_without, number_on_past, no_number_on}
 use Rattle.fs_layout.proofs.Parts.{number_on_indirect}
 use Rattle.fs_layout.proofs.Saves.{in_table, inode_there, valid_there}
 use Rattle.fs_layout.proofs.Blocks.{rewrites}
@@ -28,18 +28,23 @@ pub record HasNoSector (v : Inode) : Type 0 where
   pub default_acl : v.default_acl ≡ 0
   pub direct : (k : ℕ) → get_or v.direct k 0 ≡ 0
   pub indirect : v.indirect ≡ 0
+  pub double_indirect : v.double_indirect ≡ 0
 
 no_sector_on_level : (image : SectorMap) (v : Inode) (level i : ℕ) → HasNoSector v → number_on image v level i ≡ 0
 no_sector_on_level image v zero k none =
     elim (cases_lt k DIRECT_BLOCKS) [
       | inl lt ↦ pointer_direct image v k lt ∙ none.direct k
-      | inr ge ↦ pointer_without image v k ge none.indirect
+      | inr ge ↦ pointer_without image v k ge none.indirect none.double_indirect
     ]
 no_sector_on_level image v (suc zero) i none = elim (cases_eq i 0) [
   | inl e ↦ ap (number_on image v 1) e ∙ number_on_indirect image v ∙ none.indirect
+  | inr ne ↦ number_on_without image v i (omega (arith, ne)) none.double_indirect
+]
+no_sector_on_level image v (suc (suc zero)) i none = elim (cases_eq i 0) [
+  | inl e ↦ ap (number_on image v 2) e ∙ number_on_double image v ∙ none.double_indirect
   | inr ne ↦ number_on_past image v i (omega (arith, ne))
 ]
-no_sector_on_level image v (suc (suc level)) i none = no_number_on image v level i
+no_sector_on_level image v (suc (suc (suc level))) i none = no_number_on image v level i
 
 no_sector_part : (image : SectorMap) (v : Inode) (a : Part) → HasNoSector v → part image v a ≡ 0
 unfolding part
@@ -63,7 +68,7 @@ holds_nothing image v none empty = record {
 -- a free inode has no sector
 pub free_has_no_sector : HasNoSector free_inode
 unfolding zeros
-free_has_no_sector = record { acl = refl; default_acl = refl; direct = get_or-zeros DIRECT_BLOCKS; indirect = refl }
+free_has_no_sector = record { acl = refl; default_acl = refl; direct = get_or-zeros DIRECT_BLOCKS; indirect = refl; double_indirect = refl }
 
 -- it fits its fields
 pub free_fits : FitsInode free_inode
@@ -81,6 +86,7 @@ free_fits = record {
   direct_len = refl;
   direct = λ i. let e : get_or (zeros DIRECT_BLOCKS) i 0 ≡ 0 = get_or-zeros DIRECT_BLOCKS i in omega (arith, e);
   indirect = omega arith;
+  double_indirect = omega arith;
 }
 
 -- A used inode without sectors becomes free, or a free one used: what is owned does not change.
@@ -139,6 +145,7 @@ with_direct_fits v k s fits used small = record {
     ]
   ];
   indirect = fits.indirect;
+  double_indirect = fits.double_indirect;
 }
 
 -- ---- an image in which nothing is owned

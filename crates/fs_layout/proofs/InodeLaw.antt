@@ -22,7 +22,7 @@ number_of_kind (suc (suc (suc zero))) k e = let f : Link ≡ k = cc in ap kind_n
 number_of_kind (suc (suc (suc (suc n)))) k e = absurd cc
 
 -- the bytes of the fields that stand in s, and of the zeros after them
-spelled : (s : List ℕ) (kind : Kind) → length s ≡ INODE_SIZE → IsBytes s → u16_of s 0 ≡ kind_number kind → are_zero (drop 88 s) ≡ true
+spelled : (s : List ℕ) (kind : Kind) → length s ≡ INODE_SIZE → IsBytes s → u16_of s 0 ≡ kind_number kind → are_zero (drop 92 s) ≡ true
     → s ≡ inode_bytes (fields_of kind s)
 spelled s kind len fits k z =
     let e0 : s ≡ le16 (u16_of s 0) ++ drop 2 s = back16 s 0 fits (omega arith) in
@@ -36,13 +36,15 @@ spelled s kind len fits k z =
     let e8 : drop 32 s ≡ le32 (u32_of s 32) ++ drop 36 s = back32 s 32 fits (omega arith) in
     let e9 : drop 36 s ≡ le32s (u32s_of s 36 DIRECT_BLOCKS) ++ drop 84 s = back32s DIRECT_BLOCKS s 36 fits (omega arith) in
     let e10 : drop 84 s ≡ le32 (u32_of s 84) ++ drop 88 s = back32 s 84 fits (omega arith) in
-    let e11 : drop 88 s ≡ zeros 40 = zeros_back s 88 40 (omega arith) z in
-    let f10 : drop 84 s ≡ le32 (u32_of s 84) ++ zeros 40 = e10 ∙ ap (λ (r : List ℕ). le32 (u32_of s 84) ++ r) e11 in
-    let f9 : drop 36 s ≡ le32s (u32s_of s 36 DIRECT_BLOCKS) ++ (le32 (u32_of s 84) ++ zeros 40) =
+    let e11 : drop 88 s ≡ le32 (u32_of s 88) ++ drop 92 s = back32 s 88 fits (omega arith) in
+    let e12 : drop 92 s ≡ zeros 36 = zeros_back s 92 36 (omega arith) z in
+    let f11 : drop 88 s ≡ le32 (u32_of s 88) ++ zeros 36 = e11 ∙ ap (λ (r : List ℕ). le32 (u32_of s 88) ++ r) e12 in
+    let f10 : drop 84 s ≡ le32 (u32_of s 84) ++ (le32 (u32_of s 88) ++ zeros 36) = e10 ∙ ap (λ (r : List ℕ). le32 (u32_of s 84) ++ r) f11 in
+    let f9 : drop 36 s ≡ le32s (u32s_of s 36 DIRECT_BLOCKS) ++ (le32 (u32_of s 84) ++ (le32 (u32_of s 88) ++ zeros 36)) =
     e9 ∙ ap (λ (r : List ℕ). le32s (u32s_of s 36 DIRECT_BLOCKS) ++ r) f10 in
-    let f8 : drop 32 s ≡ le32 (u32_of s 32) ++ (le32s (u32s_of s 36 DIRECT_BLOCKS) ++ (le32 (u32_of s 84) ++ zeros 40)) =
+    let f8 : drop 32 s ≡ le32 (u32_of s 32) ++ (le32s (u32s_of s 36 DIRECT_BLOCKS) ++ (le32 (u32_of s 84) ++ (le32 (u32_of s 88) ++ zeros 36))) =
     e8 ∙ ap (λ (r : List ℕ). le32 (u32_of s 32) ++ r) f9 in
-    let f6 : drop 24 s ≡ le32 (u32_of s 24) ++ (le32 (u32_of s 28) ++ (le32 (u32_of s 32) ++ (le32s (u32s_of s 36 DIRECT_BLOCKS) ++ (le32 (u32_of s 84) ++ zeros 40)))) =
+    let f6 : drop 24 s ≡ le32 (u32_of s 24) ++ (le32 (u32_of s 28) ++ (le32 (u32_of s 32) ++ (le32s (u32s_of s 36 DIRECT_BLOCKS) ++ (le32 (u32_of s 84) ++ (le32 (u32_of s 88) ++ zeros 36))))) =
     e6 ∙ ap (λ (r : List ℕ). le32 (u32_of s 24) ++ r) (e7 ∙ ap (λ (r : List ℕ). le32 (u32_of s 28) ++ r) f8) in
     e0 ∙ ap (λ (n : ℕ). le16 n ++ drop 2 s) k
     ∙ ap (λ (r : List ℕ). le16 (kind_number kind) ++ r) (e1 ∙ ap (λ (r : List ℕ). le16 (u16_of s 2) ++ r) (e2
@@ -50,9 +52,9 @@ spelled s kind len fits k z =
     ∙ ap (λ (r : List ℕ). le32 (u32_of s 12) ++ r) (e5 ∙ ap (λ (r : List ℕ). le64 (u64_of s 16) ++ r) f6)))))
 
 -- zeros throughout are zeros past the fields
-zero_tail : (kind : Kind) (s : List ℕ) → length s ≡ INODE_SIZE → are_zero (drop (fields_end kind) s) ≡ true → are_zero (drop 88 s) ≡ true
+zero_tail : (kind : Kind) (s : List ℕ) → length s ≡ INODE_SIZE → are_zero (drop (fields_end kind) s) ≡ true → are_zero (drop 92 s) ≡ true
 unfolding are_zero zeros
-zero_tail Free s len e = ap (λ (r : List ℕ). are_zero (drop 88 r)) (are_zero-zeros s e ∙ ap zeros len) ∙ refl
+zero_tail Free s len e = ap (λ (r : List ℕ). are_zero (drop 92 r)) (are_zero-zeros s e ∙ ap zeros len) ∙ refl
 zero_tail File s len e = e
 zero_tail Directory s len e = e
 zero_tail Link s len e = e
@@ -71,10 +73,10 @@ pub inode_takes : (s : List ℕ) (v : Inode) → length s ≡ INODE_SIZE → IsB
 unfolding inode_of
 inode_takes s v len fits e = takes_if (kind_of (u16_of s 0)) s v refl len fits e
 
-same_fields : (v : Inode) (k : Kind) (a b c d e f g h : ℕ) (i : List ℕ) (j : ℕ) → a ≡ v.mode → b ≡ v.uid → c ≡ v.gid → d ≡ v.names
-    → e ≡ v.size → f ≡ v.parent → g ≡ v.acl → h ≡ v.default_acl → i ≡ v.direct → j ≡ v.indirect
-    → record { kind = v.kind; mode = a; uid = b; gid = c; names = d; size = e; parent = f; acl = g; default_acl = h; direct = i; indirect = j } ≡ v
-same_fields v k a b c d e f g h i j e0 e1 e2 e3 e4 e5 e6 e7 e8 e9 = rw (e0, e1, e2, e3, e4, e5, e6, e7, e8, e9) refl
+same_fields : (v : Inode) (k : Kind) (a b c d e f g h : ℕ) (i : List ℕ) (j l : ℕ) → a ≡ v.mode → b ≡ v.uid → c ≡ v.gid → d ≡ v.names
+    → e ≡ v.size → f ≡ v.parent → g ≡ v.acl → h ≡ v.default_acl → i ≡ v.direct → j ≡ v.indirect → l ≡ v.double_indirect
+    → record { kind = v.kind; mode = a; uid = b; gid = c; names = d; size = e; parent = f; acl = g; default_acl = h; direct = i; indirect = j; double_indirect = l } ≡ v
+same_fields v k a b c d e f g h i j l e0 e1 e2 e3 e4 e5 e6 e7 e8 e9 e10 = rw (e0, e1, e2, e3, e4, e5, e6, e7, e8, e9, e10) refl
 
 drop_le32 : (x : ℕ) (r : List ℕ) → drop 4 (le32 x ++ r) ≡ r
 unfolding le32
@@ -87,11 +89,14 @@ small Directory = omega arith
 small Link = omega arith
 
 -- ---- what is spelled is read
-tail_of : (v : Inode) → length v.direct ≡ DIRECT_BLOCKS → drop 84 (inode_bytes v) ≡ le32 v.indirect ++ zeros 40
+tail_of : (v : Inode) → length v.direct ≡ DIRECT_BLOCKS → drop 84 (inode_bytes v) ≡ le32 v.indirect ++ (le32 v.double_indirect ++ zeros 36)
 unfolding le16 le32 le64
 tail_of v len =
     let k : length (le32s v.direct) ≡ 48 = omega (arith, length-le32s v.direct) in
-    sym (drop-drop 48 36 (inode_bytes v)) ∙ drop_at (le32s v.direct) (le32 v.indirect ++ zeros 40) 48 k
+    sym (drop-drop 48 36 (inode_bytes v)) ∙ drop_at (le32s v.direct) (le32 v.indirect ++ (le32 v.double_indirect ++ zeros 36)) 48 k
+
+last_of : (v : Inode) → length v.direct ≡ DIRECT_BLOCKS → drop 88 (inode_bytes v) ≡ le32 v.double_indirect ++ zeros 36
+last_of v len = sym (drop-drop 4 84 (inode_bytes v)) ∙ ap (drop 4) (tail_of v len) ∙ drop_le32 v.indirect (le32 v.double_indirect ++ zeros 36)
 
 kind_again : (k : Kind) → kind_of (kind_number k) ≡ Some k
 kind_again Free = refl
@@ -112,15 +117,16 @@ reads_fields v f =
     let acl : u32_of s 28 ≡ v.acl = read32 s 28 v.acl (drop 32 s) refl f.acl in
     let default_acl : u32_of s 32 ≡ v.default_acl = read32 s 32 v.default_acl (drop 36 s) refl f.default_acl in
     let direct : u32s_of s 36 DIRECT_BLOCKS ≡ v.direct =
-    ap (u32s_of s 36) (sym f.direct_len) ∙ read32s v.direct s 36 (le32 v.indirect ++ zeros 40) refl f.direct in
-    let indirect : u32_of s 84 ≡ v.indirect = read32 s 84 v.indirect (zeros 40) (tail_of v f.direct_len) f.indirect in
-    same_fields v v.kind _ _ _ _ _ _ _ _ _ _ mode uid gid names size parent acl default_acl direct indirect
+    ap (u32s_of s 36) (sym f.direct_len) ∙ read32s v.direct s 36 (le32 v.indirect ++ (le32 v.double_indirect ++ zeros 36)) refl f.direct in
+    let indirect : u32_of s 84 ≡ v.indirect = read32 s 84 v.indirect (le32 v.double_indirect ++ zeros 36) (tail_of v f.direct_len) f.indirect in
+    let double_indirect : u32_of s 88 ≡ v.double_indirect = read32 s 88 v.double_indirect (zeros 36) (last_of v f.direct_len) f.double_indirect in
+    same_fields v v.kind _ _ _ _ _ _ _ _ _ _ _ mode uid gid names size parent acl default_acl direct indirect double_indirect
 
-zeros_end : (v : Inode) → FitsInode v → are_zero (drop 88 (inode_bytes v)) ≡ true
+zeros_end : (v : Inode) → FitsInode v → are_zero (drop 92 (inode_bytes v)) ≡ true
 zeros_end v f =
-    let e : drop 88 (inode_bytes v) ≡ zeros 40 =
-    sym (drop-drop 4 84 (inode_bytes v)) ∙ ap (drop 4) (tail_of v f.direct_len) ∙ drop_le32 v.indirect (zeros 40) in
-    ap are_zero e ∙ zeros-are_zero 40
+    let e : drop 92 (inode_bytes v) ≡ zeros 36 =
+    sym (drop-drop 4 88 (inode_bytes v)) ∙ ap (drop 4) (last_of v f.direct_len) ∙ drop_le32 v.double_indirect (zeros 36) in
+    ap are_zero e ∙ zeros-are_zero 36
 
 free_is_zero : are_zero (inode_bytes free_inode) ≡ true
 unfolding are_zero le16 le32 le64 le32s zeros
@@ -169,6 +175,7 @@ fields_fit k s len h fits end spelled = record {
   direct_len = u32s_len s 36 DIRECT_BLOCKS;
   direct = λ i. u32s_small s 36 DIRECT_BLOCKS i h;
   indirect = u32_small s 84 h;
+  double_indirect = u32_small s 88 h;
 }
 
 fits_if : (o : Option Kind) (s : List ℕ) (v : Inode) → kind_of (u16_of s 0) ≡ o → length s ≡ INODE_SIZE → IsBytes s → inode_if o s ≡ Ok v

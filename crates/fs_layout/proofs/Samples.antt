@@ -4,6 +4,7 @@ use Rattle.fs_layout.specs.declared.inode.Inode.{Inode}
 use Rattle.fs_layout.specs.declared.inode.TheConstants.{MAX_BLOCKS}
 use Rattle.fs_layout.specs.Bytes.{SectorMap, u32_of, zeros}
 use Rattle.fs_layout.specs.Inode.{free_inode}
+use Rattle.fs_layout.specs.Lacking.{lacks}
 use Rattle.fs_layout.specs.Version.{newest}
 use Rattle.fs_layout.specs.Place.{laid_out}
 use Rattle.fs_layout.specs.Images.{bit, inode_bitmap, block_bitmap, number_on, pointer, first_block, part, Block, byte_at, stored}
@@ -31,11 +32,12 @@ bit_elsewhere = refl
 
 -- sector 200 has the pointers 7 and 258, and sector 258 has bytes
 pointers : SectorMap
-pointers s = cond (nat_eq s 200) (7 ∷ 0 ∷ 0 ∷ 0 ∷ 2 ∷ 1 ∷ 0 ∷ 0 ∷ []) (cond (nat_eq s 258) (65 ∷ 66 ∷ []) [])
+pointers s = cond (nat_eq s 200) (7 ∷ 0 ∷ 0 ∷ 0 ∷ 2 ∷ 1 ∷ 0 ∷ 0 ∷ []) (cond (nat_eq s 258) (65 ∷ 66 ∷ []) (cond (nat_eq s 300) (zeros 508 ++ (45 ∷ 1 ∷ 0 ∷ 0 ∷ []))
+    (cond (nat_eq s 301) (zeros 508 ++ (9 ∷ 0 ∷ 0 ∷ 0 ∷ [])) [])))
 
 -- block 0 is sector 150, and the sector of pointers is 200
 file : Inode
-file = record free_inode { direct = 150 ∷ replicate 11 0; indirect = 200 }
+file = record free_inode { direct = 150 ∷ replicate 11 0; indirect = 200; double_indirect = 300 }
 
 block_0 : pointer pointers file 0 ≡ 150
 unfolding number_on pointers file
@@ -63,6 +65,33 @@ sector_of_pointers = refl
 first_by_it : first_block 1 0 ≡ 12
 first_by_it = refl
 
+-- the double indirect sector names 301 as the last of the level above the blocks, by which the last 128 blocks are found
+last_pointers : number_on pointers file 1 128 ≡ 301
+unfolding number_on pointers file u32_of zeros
+last_pointers = refl
+
+last_block : pointer pointers file 16523 ≡ 9
+unfolding number_on pointers file u32_of zeros
+last_block = refl
+
+hole_before : pointer pointers file 16522 ≡ 0
+unfolding number_on pointers file u32_of zeros
+hole_before = refl
+
+-- where the double indirect number is 0, or one that it lists, all blocks by it are holes
+hole_above : pointer pointers file 140 ≡ 0
+unfolding number_on pointers file u32_of zeros
+hole_above = refl
+
+first_by_double : first_block 2 0 ≡ 140
+first_by_double = refl
+
+first_by_next : first_block 1 1 ≡ 140
+first_by_next = refl
+
+first_by_last : first_block 1 128 ≡ 16396
+first_by_last = refl
+
 -- byte 1 of block 13
 byte_of_block : byte_at pointers file (512 * 13 + 1) ≡ 66
 unfolding byte_at number_on pointers file u32_of
@@ -80,3 +109,35 @@ second_inode s = cond (nat_eq s 131) (zeros 128 ++ (1 ∷ zeros 383)) []
 inode_5 : stored (laid_out 1024 64) second_inode 5 ≡ 1 ∷ zeros 127
 unfolding stored second_inode zeros
 inode_5 = refl
+
+-- ---- how many sectors bytes take in an empty file
+empty : Inode
+empty = free_inode
+
+-- one byte at 0, at 6,144 and at 71,680
+takes_one : lacks pointers empty 0 1 ≡ 1
+unfolding number_on pointers empty u32_of zeros
+takes_one = refl
+
+takes_two : lacks pointers empty 12 13 ≡ 2
+unfolding number_on pointers empty u32_of zeros
+takes_two = refl
+
+takes_three : lacks pointers empty 140 141 ≡ 3
+unfolding number_on pointers empty u32_of zeros
+takes_three = refl
+
+-- 4,096 bytes across the last block of the indirect sector
+takes_twelve : lacks pointers empty 132 141 ≡ 12
+unfolding number_on pointers empty u32_of zeros
+takes_twelve = refl
+
+-- and across two that the double indirect sector lists
+takes_so_many : lacks pointers empty 264 273 ≡ 12
+unfolding number_on pointers empty u32_of zeros
+takes_so_many = refl
+
+-- one byte at 8,460,287, where the double indirect sector is there
+takes_last : lacks pointers (record empty { double_indirect = 300 }) 16395 16396 ≡ 2
+unfolding number_on pointers empty u32_of zeros
+takes_last = refl

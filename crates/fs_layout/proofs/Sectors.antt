@@ -138,7 +138,8 @@ IsBytes-slot_bytes v f =
 
 pub IsBytes-inode_bytes : (v : Inode) → IsBytes (inode_bytes v)
 IsBytes-inode_bytes v =
-    let front = IsBytes-append (le32 v.indirect) (zeros 40) (IsBytes-le32 v.indirect) (IsBytes-zeros 40) in
+    let last = IsBytes-append (le32 v.double_indirect) (zeros 36) (IsBytes-le32 v.double_indirect) (IsBytes-zeros 36) in
+    let front = IsBytes-append (le32 v.indirect) _ (IsBytes-le32 v.indirect) last in
     let e9 = IsBytes-append (le32s v.direct) _ (IsBytes-le32s v.direct) front in
     let e8 = IsBytes-append (le32 v.default_acl) _ (IsBytes-le32 v.default_acl) e9 in
     let e7 = IsBytes-append (le32 v.acl) _ (IsBytes-le32 v.acl) e8 in

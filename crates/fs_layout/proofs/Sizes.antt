@@ -5,12 +5,11 @@ use Rattle.std.proofs.lemmas.Bool.{cases_eq, cases_lt}
 use Rattle.fs_layout.specs.declared.inode.TheConstants.{DIRECT_SIZE}
 use Rattle.fs_layout.specs.declared.inode.Inode.{Inode}
 use Rattle.fs_layout.specs.Bytes.{SectorMap, zeros}
-use Rattle.fs_layout.specs.Images.{number_on, pointer, first_block, Part, AccessAcl, DefaultAcl, OnLevel, Indirect, Block, part, byte_in, byte_at, Holds}
+use Rattle.fs_layout.specs.Images.{number_on, pointer, first_block, Part, AccessAcl, DefaultAcl, OnLevel, Indirect, Block, part, byte_in, byte_at, IsTrimmed, Holds}
 use Rattle.fs_layout.specs.InodeChanges.{ReplacesBlock, Turns, Gains, Loses}
 use Rattle.fs_layout.proofs.Writes.{length-zeros}
 use Rattle.fs_layout.proofs.SplicedBytes.{get_or-zeros}
 use Rattle.fs_layout.proofs.Parts.{HasNoPointers, byte_in_is, block_is_one, level_is_one, index_is_one, same_part_or_not, block_has_no_pointers, access_acl_has_no_pointers, default_acl_has_no_pointers}
-use Rattle.fs_layout.proofs.Pointers.{trims}
 use Rattle.fs_layout.proofs.Held.{KeepsBlocks, KeepsAllBlocks, NeedsPointers, HasBlock, has_block, HasSameBlocks, Holds-again}
 
 -- ---- a larger size
@@ -190,30 +189,28 @@ clears_rest bytes block k n m from low high le kept clear = record {
 
 -- a smaller size, past which there is no block, and no byte but zero
 pub cuts : (image : SectorMap) (v : Inode) (bytes : List ℕ) (n : ℕ) → Holds image v bytes → n ≤ v.size
-    → ((k : ℕ) → n ≤ 512 * k → pointer image v k ≡ 0)
-    → (n ≤ DIRECT_SIZE → v.indirect ≡ 0)
+    → IsTrimmed image (record v { size = n })
     → ((i : ℕ) → n ≤ i → i / 512 ≡ n / 512 → get_or bytes i 0 ≡ 0) → Holds image (record v { size = n }) (take n bytes)
 unfolding byte_at number_on
-cuts image v bytes n h le none pointers rest = record {
+cuts image v bytes n h le trim rest = record {
   size = sym (length-take-le n bytes (let z = h.size in omega (arith, z, le)));
   byte = λ i. elim (cases_lt i n) [
     | inl lt ↦ h.byte i ∙ sym (get_or-take n bytes i 0 lt)
     | inr ge ↦ past i ge ∙ sym (get_or_past (take n bytes) i 0 (omega (arith, length-take-le n bytes (let z = h.size in omega (arith, z, le)))))
   ];
-  trim = trims image (record v { size = n }) none pointers;
+  trim = trim;
 }
   where
     past : (i : ℕ) → n ≤ i → byte_at image v i ≡ 0
     past i ge = elim (cases_eq (i / 512) (n / 512)) [
       | inl e ↦ h.byte i ∙ rest i ge e
-      | inr ne ↦ ap (λ (s : ℕ). byte_in image s (i % 512)) (none (i / 512) (omega arith))
+      | inr ne ↦ ap (λ (s : ℕ). byte_in image s (i % 512)) (trim 0 (i / 512) (omega arith))
     ]
 
 -- A smaller size, past which there is no block, where all bytes past it are cleared already: what is held is cut.
 pub cuts_cleared : (image : SectorMap) (v : Inode) (bytes : List ℕ) (n : ℕ) → Holds image v (cleared_from n bytes) → n ≤ length bytes
-    → ((k : ℕ) → n ≤ 512 * k → pointer image v k ≡ 0) → (n ≤ DIRECT_SIZE → v.indirect ≡ 0)
-    → Holds image (record v { size = n }) (take n bytes)
-cuts_cleared image v bytes n h le none pointers =
+    → IsTrimmed image (record v { size = n }) → Holds image (record v { size = n }) (take n bytes)
+cuts_cleared image v bytes n h le trim =
     let room : n ≤ v.size = omega (arith, h.size, length-cleared_from n bytes le) in
     subst (λ (b : List ℕ). Holds image (record v { size = n }) b) (take-cleared_from n bytes le)
-    (cuts image v (cleared_from n bytes) n h room none pointers (λ i ge e. get_or-cleared_after n bytes i le ge))
+    (cuts image v (cleared_from n bytes) n h room trim (λ i ge e. get_or-cleared_after n bytes i le ge))

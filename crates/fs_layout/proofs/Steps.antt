@@ -5,19 +5,19 @@ use Rattle.fs_layout.specs.declared.inode.Inode.{Inode}
 use Rattle.fs_layout.specs.declared.place.Place.{Place}
 use Rattle.fs_layout.specs.Bytes.{SectorMap, IsSector, splice, le32, zeros}
 use Rattle.fs_layout.specs.Place.{IsPlace}
-use Rattle.fs_layout.specs.Images.{own_count, holder, place_in_holder, number_on, pointer, OnLevel, Block, part, Owns, Holds}
+use Rattle.fs_layout.specs.Images.{own_count, holder, place_in_holder, number_on, pointer, first_block, OnLevel, Block, part, Owns, Holds}
 use Rattle.fs_layout.specs.InodeChanges.{Keeps, Puts, Gains, with_direct, IsOwnedApart, Takes, Rewrites, Allocates, Frees, PutsEntry, ReplacesBlock, ChangesBlocks}
 use Rattle.fs_layout.proofs.Places.{after_map, before_data}
 use Rattle.fs_layout.proofs.Parts.{KeepsPointers, pointers_kept, number_on_indirect, number_on_kept, owns_block, owns_on_level, level_is_one, index_is_one, block_has_no_pointers}
 use Rattle.fs_layout.proofs.Sectors.{IsSector-splice, IsBytes-le32}
 use Rattle.fs_layout.proofs.SplicedBytes.{length-le32}
 use Rattle.fs_layout.proofs.Blocks.{put_rewrites}
-use Rattle.fs_layout.proofs.Pointers.{HasEntry, turns_direct, turns_entry, turns_acl, turns_default_acl, gains_indirect, loses_indirect}
+use Rattle.fs_layout.proofs.Pointers.{HasEntry, turns_direct, turns_entry, turns_acl, turns_default_acl, gains_indirect, loses_indirect, gains_double, gains_on_level}
 use Rattle.fs_layout.proofs.Gains.{gains}
 use Rattle.fs_layout.proofs.Releases.{loses}
 use Rattle.fs_layout.proofs.Marks.{no_map, free_not_owned, takes, takes_keeps, takes_and_puts, releases, releases_alone, marks_keeps}
 use Rattle.fs_layout.proofs.Held.{KeepsBlocks, KeepsAllBlocks, keeps_all_blocks, keeps_other_blocks}
-use Rattle.fs_layout.proofs.Sizes.{fills, drops, gains_pointers, loses_pointers, turns_acl_holds, turns_default_acl_holds}
+use Rattle.fs_layout.proofs.Sizes.{fills, drops, gains_pointers, loses_pointers, turns_acl_holds, turns_default_acl_holds, turns_pointers}
 
 -- ---- a sector is taken
 module _ {p : Place} {v : Inode} {s : ℕ} {x : List ℕ} {old mid new : SectorMap} (place : IsPlace p) (apart : IsOwnedApart p old v) (a : Allocates p s x old mid new) where
@@ -63,6 +63,16 @@ module _ {p : Place} {v : Inode} {s : ℕ} {x : List ℕ} {old mid new : SectorM
   -- it holds what it held
   pub default_acl_gained_holds : (bytes : List ℕ) → v.default_acl ≡ 0 → Holds old v bytes → Holds new (record v { default_acl = s }) bytes
   default_acl_gained_holds bytes none h = turns_default_acl_holds (turns_default_acl old new v 0 s none kept) same_content refl h
+
+  -- for the double indirect sector, which is zeros
+  pub double_gained : v.double_indirect ≡ 0 → x ≡ zeros 512 → ChangesBlocks p v (record v { double_indirect = s }) old new
+  double_gained none clear = gains place apart (gains_double old new v s kept none allocated_some (a.put.here ∙ clear)) allocated
+
+  -- it holds what it held
+  pub double_gained_holds : (bytes : List ℕ) → v.double_indirect ≡ 0 → x ≡ zeros 512 → 512 * first_block 2 0 < v.size → Holds old v bytes
+      → Holds new (record v { double_indirect = s }) bytes
+  double_gained_holds bytes none clear large h =
+      turns_pointers (gains_double old new v s kept none allocated_some (a.put.here ∙ clear)) same_content refl (λ le. absurd (omega (arith, le, large))) h
 
   -- for the sector of pointers, which is zeros
   pub pointers_gained : v.indirect ≡ 0 → x ≡ zeros 512 → ChangesBlocks p v (record v { indirect = s }) old new
@@ -132,45 +142,84 @@ puts_entry v k y old new from to some fits put =
           (subst (λ (q : ℕ). Puts v.indirect (splice (old v.indirect) (4 * q) (le32 y)) old new) (sym at) put);
     }
 
--- of what the inode owns only that sector differs: so each other block keeps its content
-others_than_holder : {p : Place} {v : Inode} {old new : SectorMap} → IsOwnedApart p old v → (k : ℕ)
-    → ((t : ℕ) → Owns old v t → t ≢ at_holder old v 0 k → new t ≡ old t) → KeepsBlocks old new v k
+-- no block is such a sector
+block_no_holder : {p : Place} {v : Inode} {old : SectorMap} → IsOwnedApart p old v → (level i k : ℕ) → pointer old v k ≢ 0
+    → pointer old v k ≢ at_holder old v level i
 unfolding part
-others_than_holder {v = v} {old} apart k same j ne some =
-    let s = pointer old v j in
-    same s (owns_block old v j some) (λ z. block_has_no_pointers j 0 (holder DIRECT_BLOCKS k)
-    (apart.once s (record { at = Block j; is = refl; some = some }) (record { at = OnLevel 1 (holder DIRECT_BLOCKS k); is = sym z; some = some })))
+block_no_holder {v = v} {old} apart level i k some z =
+    block_has_no_pointers k level (holder (own_count level) i)
+    (apart.once (pointer old v k) (record { at = Block k; is = refl; some = some })
+    (record { at = OnLevel (suc level) (holder (own_count level) i); is = sym z; some = some }))
 
-module _ {p : Place} {v : Inode} {k s : ℕ} {x : List ℕ} {old mid put new : SectorMap}
-    (place : IsPlace p) (apart : IsOwnedApart p old v) (a : Allocates p s x old mid put) (e : PutsEntry v 0 k s put new) where
-  pub entry_there_since : HasEntry v 0 k s old new
+-- of what the inode owns only that sector differs: so each other block keeps its content
+others_than_holder : {p : Place} {v : Inode} {old new : SectorMap} → IsOwnedApart p old v → (level k : ℕ)
+    → ((t : ℕ) → Owns old v t → t ≢ at_holder old v level k → new t ≡ old t) → KeepsBlocks old new v k
+others_than_holder {v = v} {old} apart level k same j ne some = same (pointer old v j) (owns_block old v j some) (block_no_holder apart level k j some)
+
+module _ {p : Place} {v : Inode} {level i s : ℕ} {x : List ℕ} {old mid put new : SectorMap}
+    (place : IsPlace p) (apart : IsOwnedApart p old v) (a : Allocates p s x old mid put) (e : PutsEntry v level i s put new) where
+  pub entry_there_since : HasEntry v level i s old new
   entry_there_since = entry_since apart (allocates_keeps place apart a) e
 
-  owned : Owns old v (at_holder old v 0 k)
-  owned = owns_on_level old v 1 (holder DIRECT_BLOCKS k) entry_there_since.some
+  owned : Owns old v (at_holder old v level i)
+  owned = owns_on_level old v (suc level) (holder (own_count level) i) entry_there_since.some
 
-  holder_same : at_holder put v 0 k ≡ at_holder old v 0 k
-  holder_same = number_on_kept (allocates_keeps place apart a) 1 (holder DIRECT_BLOCKS k)
+  holder_same : at_holder put v level i ≡ at_holder old v level i
+  holder_same = number_on_kept (allocates_keeps place apart a) (suc level) (holder (own_count level) i)
 
-  not_pointers : s ≢ at_holder old v 0 k
-  not_pointers f = free_not_owned apart s a.free (subst (λ (u : ℕ). Owns old v u) (sym f) owned)
+  not_holder : s ≢ at_holder old v level i
+  not_holder f = free_not_owned apart s a.free (subst (λ (u : ℕ). Owns old v u) (sym f) owned)
 
+  -- what stands in the sector that was taken
+  pub entry_content : new s ≡ x
+  entry_content = e.put.others s (λ z. not_holder (z ∙ holder_same)) ∙ a.put.here
+
+  -- what the inode owns is the same but for the sector of pointers that has the number
+  pub entry_keeps : (t : ℕ) → Owns old v t → t ≢ at_holder old v level i → new t ≡ old t
+  entry_keeps t o ne = e.put.others t (λ z. ne (z ∙ holder_same)) ∙ allocates_keeps place apart a t o
+
+  -- the inode has one sector more
+  pub entry_gained_changes : Gains old new v v (OnLevel level i) s → ChangesBlocks p v v old new
+  entry_gained_changes g =
+      let own : Owns old v (at_holder put v level i) = subst (λ (u : ℕ). Owns old v u) (sym holder_same) owned in
+      let whole : IsSector (put (at_holder put v level i)) = (allocated place apart a).whole (at_holder put v level i) own in
+      gains place apart g (takes_and_puts place apart (allocated place apart a) own e.put (entry_whole e whole))
+
+-- for a block
+module _ {p : Place} {v : Inode} {k s : ℕ} {x : List ℕ} {old mid put new : SectorMap}
+    (place : IsPlace p) (apart : IsOwnedApart p old v) (a : Allocates p s x old mid put) (e : PutsEntry v 0 k s put new) where
   entry_gained : pointer old v k ≡ 0 → Gains old new v v (Block k) s
-  entry_gained none = turns_entry none entry_there_since
+  entry_gained none = turns_entry none (entry_there_since place apart a e)
 
   -- the inode has one block more
   pub entry_block_gained : pointer old v k ≡ 0 → ChangesBlocks p v v old new
-  entry_block_gained none =
-      let own : Owns old v (at_holder put v 0 k) = subst (λ (u : ℕ). Owns old v u) (sym holder_same) owned in
-      let whole : IsSector (put (at_holder put v 0 k)) = (allocated place apart a).whole (at_holder put v 0 k) own in
-      gains place apart (entry_gained none) (takes_and_puts place apart (allocated place apart a) own e.put (entry_whole e whole))
+  entry_block_gained none = entry_gained_changes place apart a e (entry_gained none)
 
   -- and what it holds has x there
   pub entry_block_filled : (bytes then : List ℕ) → pointer old v k ≡ 0 → 512 * k < v.size → Holds old v bytes
       → ReplacesBlock k x bytes then → Holds new v then
   entry_block_filled bytes then none inside h r =
-      fills (entry_gained none) (allocated_some place apart a) (e.put.others s (λ z. not_pointers (z ∙ holder_same)) ∙ a.put.here)
-      (others_than_holder apart k (λ t o ne. e.put.others t (λ z. ne (z ∙ holder_same)) ∙ allocates_keeps place apart a t o)) refl inside h r
+      fills (entry_gained none) (allocated_some place apart a) (entry_content place apart a e)
+      (others_than_holder apart 0 k (entry_keeps place apart a e)) refl inside h r
+
+-- for a sector of pointers, which is zeros
+module _ {p : Place} {v : Inode} {level i s : ℕ} {x : List ℕ} {old mid put new : SectorMap}
+    (place : IsPlace p) (apart : IsOwnedApart p old v) (a : Allocates p s x old mid put) (e : PutsEntry v (suc level) i s put new) (clear : x ≡ zeros 512) where
+  pub entry_pointers : number_on old v (suc level) i ≡ 0 → Gains old new v v (OnLevel (suc level) i) s
+  entry_pointers none = gains_on_level (entry_there_since place apart a e) none (allocated_some place apart a) (entry_content place apart a e ∙ clear)
+
+  -- the inode has one sector of pointers more
+  pub entry_pointers_gained : number_on old v (suc level) i ≡ 0 → ChangesBlocks p v v old new
+  entry_pointers_gained none = entry_gained_changes place apart a e (entry_pointers none)
+
+  -- and holds what it held
+  pub entry_pointers_hold : (bytes : List ℕ) → number_on old v (suc level) i ≡ 0 → 512 * first_block (suc level) i < v.size → Holds old v bytes → Holds new v bytes
+  entry_pointers_hold bytes none inside h =
+      turns_pointers (entry_pointers none) same refl (λ le. absurd (omega (arith, le, inside))) h
+    where
+      same : KeepsAllBlocks old new v
+      same k some =
+          entry_keeps place apart a e (pointer old v k) (owns_block old v k some) (block_no_holder apart (suc level) i k some)
 
 -- ---- a sector is released
 module _ {p : Place} {v : Inode} {s : ℕ} {old new : SectorMap} (place : IsPlace p) (apart : IsOwnedApart p old v) (some : s ≢ 0) (f : Frees p s old new) where
@@ -210,11 +259,11 @@ module _ {p : Place} {v : Inode} {s : ℕ} {old new : SectorMap} (place : IsPlac
   default_acl_lost_holds bytes was h = turns_default_acl_holds (turns_default_acl old new v s 0 was kept_then) same_then refl h
 
   -- the sector of pointers, which are all 0
-  pub pointers_lost : v.indirect ≡ s → ((k : ℕ) → DIRECT_BLOCKS ≤ k → pointer old v k ≡ 0) → ChangesBlocks p v (record v { indirect = 0 }) old new
+  pub pointers_lost : v.indirect ≡ s → ((k : ℕ) → DIRECT_BLOCKS ≤ k → k < INDIRECT_END → pointer old v k ≡ 0) → ChangesBlocks p v (record v { indirect = 0 }) old new
   pointers_lost was unused = loses place apart some (loses_indirect old new v s kept_then was unused) (releases_alone place apart f.mark f.clear)
 
   -- it holds what it held
-  pub pointers_lost_holds : (bytes : List ℕ) → v.indirect ≡ s → ((k : ℕ) → DIRECT_BLOCKS ≤ k → pointer old v k ≡ 0) → Holds old v bytes → Holds new (record v { indirect = 0 }) bytes
+  pub pointers_lost_holds : (bytes : List ℕ) → v.indirect ≡ s → ((k : ℕ) → DIRECT_BLOCKS ≤ k → k < INDIRECT_END → pointer old v k ≡ 0) → Holds old v bytes → Holds new (record v { indirect = 0 }) bytes
   pointers_lost_holds bytes was unused h = loses_pointers (loses_indirect old new v s kept_then was unused) same_then refl h
 
 -- a block of a sector of pointers is released: its number is written as 0, and then its bit is cleared
@@ -248,4 +297,4 @@ module _ {p : Place} {v : Inode} {k s : ℕ} {old put new : SectorMap}
   -- and what it holds has zeros there
   pub entry_block_dropped : (bytes then : List ℕ) → pointer old v k ≡ s → Holds old v bytes → ReplacesBlock k (zeros 512) bytes then
       → Holds new v then
-  entry_block_dropped bytes then was h r = drops (turns_entry was entry_put) (others_than_holder apart k unwritten) refl h r
+  entry_block_dropped bytes then was h r = drops (turns_entry was entry_put) (others_than_holder apart 0 k unwritten) refl h r

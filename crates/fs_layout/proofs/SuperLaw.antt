@@ -6,7 +6,7 @@ use Rattle.fs_layout.specs.declared.fault.LayoutFault.{LayoutFault}
 use Rattle.fs_layout.specs.declared.fault.LayoutFault.TheVariants.{BadMagic, NotZero}
 use Rattle.fs_layout.specs.Bytes.{IsBytes, le32, zeros, u32_of, are_zero}
 use Rattle.fs_layout.specs.declared.version.Version.{Version}
-use Rattle.fs_layout.specs.declared.version.Version.TheVariants.{One}
+use Rattle.fs_layout.specs.declared.version.Version.TheVariants.{One, Two}
 use Rattle.fs_layout.specs.Version.{version_number, version_of}
 use Rattle.fs_layout.specs.Superblock.{FitsSuper, super_bytes, super_magic, super_if, super_of}
 use Rattle.fs_layout.proofs.Codecs.{IsCodec, held, same_ok}
@@ -33,13 +33,16 @@ spelled v s len small magic version rest =
 number_of_version : (n : ℕ) (v : Version) → version_of n ≡ Some v → n ≡ version_number v
 number_of_version zero v e = absurd cc
 number_of_version (suc zero) v e = let f : One ≡ v = cc in ap version_number f
-number_of_version (suc (suc n)) v e = absurd cc
+number_of_version (suc (suc zero)) v e = let f : Two ≡ v = cc in ap version_number f
+number_of_version (suc (suc (suc n))) v e = absurd cc
 
 version_again : (v : Version) → version_of (version_number v) ≡ Some v
 version_again One = refl
+version_again Two = refl
 
 number_small : (v : Version) → version_number v < 2 ^ 32
 number_small One = omega arith
+number_small Two = omega arith
 
 back_if : (o : Option Version) (s : List ℕ) (v : Super) → version_of (u32_of s 4) ≡ o → length s ≡ 512 → IsBytes s → u32_of s 0 ≡ super_magic
     → super_if o s ≡ Ok v → (s ≡ super_bytes v) × FitsSuper v

@@ -125,7 +125,7 @@ length-zeros n = length-replicate n 0
 
 pub length-inode_bytes : (v : Inode) → length v.direct ≡ DIRECT_BLOCKS → length (inode_bytes v) ≡ INODE_SIZE
 unfolding le16 le32 le64
-length-inode_bytes v d = omega (arith, length-le32s v.direct, length-append (le32s v.direct) (le32 v.indirect ++ zeros 40), length-zeros 40)
+length-inode_bytes v d = omega (arith, length-le32s v.direct, length-append (le32s v.direct) (le32 v.indirect ++ (le32 v.double_indirect ++ zeros 36)), length-zeros 36)
 
 pub put_step : (s t u a x : List ℕ) (at next : ℕ) → at + length a ≤ length s → next ≡ at + length a → t ≡ splice s at a
     → u ≡ splice t next x → u ≡ splice s at (a ++ x)

@@ -4,15 +4,15 @@
 --     HasWholeTables        the bitmaps and the inode table are whole sectors
 --     bit, free_sectors        a bit of a bitmap; how many data sectors are free
 --     stored, inode_at        an inode's bytes, and the inode
---     levels, number_on, pointer        the numbers of an inode's sectors, level by level, and those of its blocks
+--     levels, node, pointer        the numbers of an inode's sectors, level by level, and those of its blocks
 --     Part, part, Owns        the sectors that an inode owns, each by its role
---     HasPointers, block_number        the indirect sector at hand, and the sector of a block by it
+--     HasPointers, number_in        a sector of pointers at hand, and a number by it
 --     byte_at, IsTrimmed, Holds, HasNoHole        the bytes that an inode holds
 use Rattle.std.specs.Prelude.{◌≡◌, ◌≢◌, ℕ, zero, suc, ◌+◌, ◌-◌, ◌*◌, ◌/◌, ◌%◌, ◌<◌, ◌≤◌, Bool, not, nat_eq, nat_lt, List, [], ◌∷◌, get_or, drop, length, count_by, if◌then◌else◌, Result, Ok, Err}
 use Rattle.std.specs.Int.{bit_at}
 use Rattle.std.specs.List.{range_with_len}
 use Rattle.fs_layout.specs.declared.inode.Inode.{Inode}
-use Rattle.fs_layout.specs.declared.inode.TheConstants.{INODE_SIZE, DIRECT_BLOCKS, INDIRECT_END, SECTOR_POINTERS}
+use Rattle.fs_layout.specs.declared.inode.TheConstants.{INODE_SIZE, DIRECT_BLOCKS, SECTOR_POINTERS}
 use Rattle.fs_layout.specs.declared.fault.LayoutFault.{LayoutFault}
 use Rattle.fs_layout.specs.declared.place.Place.{Place}
 use Rattle.fs_layout.specs.declared.place.TheConstants.{INODE_BITMAP, BLOCK_BITMAP, SECTOR_BITS}
@@ -83,6 +83,7 @@ abbrev pub levels : Inode → List Level
 levels v =
     record { count = own_count 0; number = λ k. get_or v.direct k 0 }
     ∷ record { count = own_count 1; number = λ i. v.indirect }
+    ∷ record { count = own_count 2; number = λ i. v.double_indirect }
     ∷ []
 
 -- where the other numbers stand, by how many stand in the inode: number i in this sector of the level above, at this place
@@ -112,16 +113,19 @@ abbrev pub first_block : ℕ → ℕ → ℕ
 first_block zero i = i
 first_block (suc level) i = first_block level (own_count level + SECTOR_POINTERS * i)
 
--- the content of an inode's indirect sector; zeros where it has none
-pub record HasPointers (image : SectorMap) (v : Inode) (pointers : List ℕ) : Type 0 where
-  pub is : v.indirect ≢ 0 → pointers ≡ image v.indirect
-  pub none : v.indirect ≡ 0 → pointers ≡ zeros 512
+-- the content of such a sector of pointers; zeros where there is none
+pub record HasPointers (image : SectorMap) (v : Inode) (level i : ℕ) (content : List ℕ) : Type 0 where
+  pub is : number_on image v level i ≢ 0 → content ≡ image (number_on image v level i)
+  pub none : number_on image v level i ≡ 0 → content ≡ zeros 512
 
--- the sector of block k by that content; 0 for a hole
-unfoldable pub block_number : Inode → List ℕ → ℕ → ℕ
-block_number v pointers k =
-    if nat_lt k DIRECT_BLOCKS then get_or v.direct k 0 else
-    (if nat_lt k INDIRECT_END then u32_of pointers (4 * (k - DIRECT_BLOCKS)) else 0)
+-- number i of a level, by the content of the sector of pointers in which it stands, if it doesn't stand in the inode
+abbrev own_number : List Level → ℕ → ℕ
+own_number [] i = 0
+own_number (l ∷ above) i = l.number i
+
+unfoldable pub number_in : Inode → ℕ → List ℕ → ℕ → ℕ
+number_in v level content i =
+    if nat_lt i (own_count level) then own_number (drop level (levels v)) i else u32_of content (4 * place_in_holder (own_count level) i)
 
 -- what an inode may own a sector for
 pub data Part : Type 0 where

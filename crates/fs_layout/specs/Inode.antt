@@ -27,7 +27,7 @@ kind_of (suc (suc (suc (suc n)))) = None
 abbrev pub inode_bytes : Inode → List ℕ
 inode_bytes v =
     le16 (kind_number v.kind) ++ (le16 v.mode ++ (le32 v.uid ++ (le32 v.gid ++ (le32 v.names ++ (le64 v.size
-    ++ (le32 v.parent ++ (le32 v.acl ++ (le32 v.default_acl ++ (le32s v.direct ++ (le32 v.indirect ++ zeros 40))))))))))
+    ++ (le32 v.parent ++ (le32 v.acl ++ (le32 v.default_acl ++ (le32s v.direct ++ (le32 v.indirect ++ (le32 v.double_indirect ++ zeros 36)))))))))))
 
 -- mode and size are in the range of the kind
 abbrev pub numbers_fit : Kind → ℕ → ℕ → Bool
@@ -62,6 +62,7 @@ pub record FitsInode (v : Inode) : Type 0 where
   pub direct_len : length v.direct ≡ DIRECT_BLOCKS
   pub direct : (i : ℕ) → get_or v.direct i 0 < 2 ^ 32
   pub indirect : v.indirect < 2 ^ 32
+  pub double_indirect : v.double_indirect < 2 ^ 32
 
 abbrev pub fields_of : Kind → List ℕ → Inode
 fields_of kind s = record {
@@ -76,14 +77,15 @@ fields_of kind s = record {
   default_acl = u32_of s 32;
   direct = u32s_of s 36 DIRECT_BLOCKS;
   indirect = u32_of s 84;
+  double_indirect = u32_of s 88;
 }
 
 -- from here on the bytes are zero: of a free inode all of them, of another one those past its fields
 abbrev pub fields_end : Kind → ℕ
 fields_end Free = 0
-fields_end File = 88
-fields_end Directory = 88
-fields_end Link = 88
+fields_end File = 92
+fields_end Directory = 92
+fields_end Link = 92
 
 abbrev pub inode_if : Option Kind → List ℕ → Result Inode LayoutFault
 inode_if None s = Err BadKind

@@ -5,6 +5,7 @@ pub mod Directories
 pub mod Images
 pub mod Inode
 pub mod InodeChanges
+pub mod Lacking
 pub mod Laws
 pub mod Maps
 pub mod Ownership

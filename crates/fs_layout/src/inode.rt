@@ -1,8 +1,8 @@
 //! An inode of the inode table, 128 bytes.
 
-ghost use Rattle.std.specs.Prelude.{◌≡◌, ◌≤◌, ◌+◌, ℕ, length, IfOk, Ok};
+ghost use Rattle.std.specs.Prelude.{◌≡◌, ◌≤◌, ◌+◌, ℕ, suc, length, IfOk, Ok};
 ghost use Rattle.fs_layout.specs.Bytes.{SectorMap, splice, window};
-ghost use Rattle.fs_layout.specs.Images.{pointer, HasPointers, block_number};
+ghost use Rattle.fs_layout.specs.Images.{pointer, own_count, holder, number_on, HasPointers, number_in};
 ghost use Rattle.fs_layout.specs.Inode.{inode_bytes, inode_of, inode_fits, kind_number, kind_of, fields_end, IsInode, FitsInode};
 
 use crate::bytes::{
@@ -23,13 +23,16 @@ pub const SECTOR_POINTERS: u64 = 128;
 /// Where the blocks end whose numbers stand in the indirect sector.
 pub const INDIRECT_END: u64 = DIRECT_BLOCKS + SECTOR_POINTERS;
 
-/// The most blocks of an inode.
-pub const MAX_BLOCKS: u64 = INDIRECT_END;
+/// Where the blocks end whose numbers stand in the indirect sectors that the double indirect sector lists.
+pub const DOUBLE_INDIRECT_END: u64 = INDIRECT_END + SECTOR_POINTERS * SECTOR_POINTERS;
+
+/// The most blocks of an inode, in the version that allows most.
+pub const MAX_BLOCKS: u64 = DOUBLE_INDIRECT_END;
 
 /// The bytes of the direct blocks. An inode of at most so many has no indirect sector.
 pub const DIRECT_SIZE: u64 = 512 * DIRECT_BLOCKS;
 
-/// The most bytes of a file.
+/// The most bytes of a file, in the version that allows most.
 pub const MAX_FILE_SIZE: u64 = 512 * MAX_BLOCKS;
 
 /// The most bytes of a directory: those of [`crate::MAX_NAMES`] slots.
@@ -74,7 +77,7 @@ impl Kind {
     {
         match self {
             Kind::Free => 0,
-            Kind::File | Kind::Directory | Kind::Link => 88,
+            Kind::File | Kind::Directory | Kind::Link => 92,
         }
     }
 
@@ -118,6 +121,8 @@ pub struct Inode {
     pub direct: [u32; DIRECT_BLOCKS as usize],
     /// The sector that lists the sectors of the next [`SECTOR_POINTERS`] blocks, or 0: none of them is there.
     pub indirect: u32,
+    /// The sector that lists [`SECTOR_POINTERS`] such sectors, for the blocks from [`INDIRECT_END`] on, or 0.
+    pub double_indirect: u32,
 }
 
 impl Inode {
@@ -134,6 +139,7 @@ impl Inode {
         default_acl: 0,
         direct: [0; DIRECT_BLOCKS as usize],
         indirect: 0,
+        double_indirect: 0,
     };
 
     #[tactic(auto, unfolding(crate::specs::Inode::inode_fits))]
@@ -165,7 +171,8 @@ impl Inode {
         put_u32(to, 32, self.default_acl);
         put_u32s(to, 36, &self.direct);
         put_u32(to, 84, self.indirect);
-        put_zeros(to, 88, 40);
+        put_u32(to, 88, self.double_indirect);
+        put_zeros(to, 92, 36);
     }
 
     #[tactic(auto, unfolding(crate::specs::Inode::inode_of))]
@@ -190,6 +197,7 @@ impl Inode {
             default_acl: u32_at(from, 32),
             direct,
             indirect: u32_at(from, 84),
+            double_indirect: u32_at(from, 88),
         };
         if !inode.fits() {
             return Err(LayoutFault::BadNumber);
@@ -200,32 +208,50 @@ impl Inode {
         Ok(inode)
     }
 
-    /// Where the blocks end that the inode can have, by whether it has an indirect sector.
+    /// Where the blocks end that the inode can have, by which sectors of pointers it has.
     pub fn block_end(&self) -> u64
         ensures most { result ≤ MAX_BLOCKS }
         ensures past { (image : SectorMap) (k : ℕ) → result ≤ k → pointer image self.now k ≡ 0 }
     {
-        if self.indirect == 0 {
-            DIRECT_BLOCKS
-        } else {
+        if self.double_indirect != 0 {
+            DOUBLE_INDIRECT_END
+        } else if self.indirect != 0 {
             INDIRECT_END
+        } else {
+            DIRECT_BLOCKS
         }
     }
 
-    /// The sector of block `k`; 0 for a hole. `pointers` is the content of the inode's indirect sector, zeros where it
-    /// has none.
-    #[tactic(auto, unfolding(crate::specs::Images::block_number))]
-    pub fn block_number(&self, pointers: &[u8; 512], k: u64) -> u32
-        ensures value { result ≡ block_number self.now pointers.now k }
-        ensures is { (image : SectorMap) → HasPointers image self.now pointers.now → result ≡ pointer image self.now k }
+    #[tactic(auto, unfolding(crate::specs::Images::number_in))]
+    fn number_in(&self, level: usize, content: &[u8; 512], i: u64) -> u32
+        ensures { result ≡ number_in self.now level content.now i }
     {
-        if k < DIRECT_BLOCKS {
-            self.direct[k as usize]
-        } else if k < INDIRECT_END {
-            u32_at(pointers, 4 * (k - DIRECT_BLOCKS) as usize)
-        } else {
-            0
+        if level == 0 {
+            if i < DIRECT_BLOCKS {
+                return self.direct[i as usize];
+            }
+            return u32_at(
+                content,
+                4 * ((i - DIRECT_BLOCKS) % SECTOR_POINTERS) as usize,
+            );
         }
+        if i == 0 {
+            return match level {
+                1 => self.indirect,
+                2 => self.double_indirect,
+                _ => 0,
+            };
+        }
+        u32_at(content, 4 * ((i - 1) % SECTOR_POINTERS) as usize)
+    }
+
+    /// Number `i` of a level; 0 where there is none. `content` is that of the sector of pointers in which it stands, zeros
+    /// where there is no such sector; for a number that stands in the inode it may be any.
+    pub fn number(&self, level: usize, content: &[u8; 512], i: u64) -> u32
+        ensures { (image : SectorMap) → (own_count level ≤ i → HasPointers image self.now (suc level) (holder (own_count level) i) content.now)
+            → result ≡ number_on image self.now level i }
+    {
+        self.number_in(level, content, i)
     }
 
     /// Writes the [`INODE_SIZE`] bytes from `at` on.

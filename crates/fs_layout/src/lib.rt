@@ -16,9 +16,9 @@ pub use acl_sector::AclSector;
 pub use commit::{Commit, MAX_TARGETS};
 pub use fault::LayoutFault;
 pub use inode::{
-    DIRECT_BLOCKS, DIRECT_SIZE, INDIRECT_END, INODE_SIZE, Inode, Kind, MAX_BLOCKS,
-    MAX_DIRECTORY_SIZE, MAX_FILE_SIZE, MAX_INODE_NAMES, MAX_LINK_SIZE, S_ISGID, S_ISVTX,
-    SECTOR_POINTERS,
+    DIRECT_BLOCKS, DIRECT_SIZE, DOUBLE_INDIRECT_END, INDIRECT_END, INODE_SIZE, Inode, Kind,
+    MAX_BLOCKS, MAX_DIRECTORY_SIZE, MAX_FILE_SIZE, MAX_INODE_NAMES, MAX_LINK_SIZE, S_ISGID,
+    S_ISVTX, SECTOR_POINTERS,
 };
 pub use laws::{
     consistency_rests_on_used_sectors, maps_have_entries, names_fit_their_slots,

@@ -3,13 +3,15 @@
 ghost use Rattle.std.specs.Prelude.{◌≡◌};
 ghost use Rattle.fs_layout.specs.Version.{version_number, version_of, max_file_size};
 
-use crate::inode::INDIRECT_END;
+use crate::inode::{DOUBLE_INDIRECT_END, INDIRECT_END};
 
 /// A version of the layout. It says how many blocks a file may have.
 #[derive(Clone, Copy, PartialEq, Eq)]
 pub enum Version {
     /// Direct blocks, and those of one indirect sector.
     One,
+    /// Those, and those of one double indirect sector.
+    Two,
 }
 
 impl Version {
@@ -22,6 +24,7 @@ impl Version {
     {
         match self {
             Version::One => 1,
+            Version::Two => 2,
         }
     }
 
@@ -31,6 +34,7 @@ impl Version {
     {
         match number {
             1 => Some(Version::One),
+            2 => Some(Version::Two),
             _ => None,
         }
     }
@@ -41,6 +45,7 @@ impl Version {
     {
         match self {
             Version::One => 512 * INDIRECT_END,
+            Version::Two => 512 * DOUBLE_INDIRECT_END,
         }
     }
 }

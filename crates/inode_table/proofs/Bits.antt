@@ -54,6 +54,7 @@ with_acls_fits v mode access default fits used numbers small a d = record {
   direct_len = fits.direct_len;
   direct = fits.direct;
   indirect = fits.indirect;
+  double_indirect = fits.double_indirect;
 }
 
 -- so with the permission bits of an ACL

@@ -15,7 +15,7 @@ use Rattle.fs_layout.proofs.Consistent.{owned_is_apart, stays_consistent, saved_
 use Rattle.fs_layout.proofs.Free.{HasNoSector, free_fits, free_has_no_sector, inode_fits_there, no_sector_changes}
 use Rattle.fs_layout.proofs.Marks.{marks_change}
 use Rattle.fs_layout.proofs.Places.{after_map}
-use Rattle.fs_layout.proofs.Pointers.{pointer_direct, trimmed_indirect, turns_acl, turns_default_acl}
+use Rattle.fs_layout.proofs.Pointers.{pointer_direct, trimmed_double, trimmed_indirect, turns_acl, turns_default_acl}
 use Rattle.fs_layout.proofs.Saves.{IsSaved}
 use Rattle.bit_alloc.proofs.Soundness.{free_kept}
 use Rattle.inode_table.specs.Storing.{GivesBack}
@@ -31,6 +31,7 @@ without_acls image v len h = record {
     | inr ge ↦ get_or_past v.direct k 0 (omega (arith, len, ge))
   ];
   indirect = trimmed_indirect image v h.trim (let z = h.size in omega (arith, z));
+  double_indirect = trimmed_double image v h.trim (let z = h.size in omega (arith, z));
 }
 
 module _ {p : Place} {n : ℕ} {m0 m1 m2 m3 m4 : SectorMap}

@@ -32,6 +32,7 @@ new_fits kind mode parent valid small few = record {
   direct_len = free_fits.direct_len;
   direct = free_fits.direct;
   indirect = free_fits.indirect;
+  double_indirect = free_fits.double_indirect;
 }
 
 -- a map that was only read is sound

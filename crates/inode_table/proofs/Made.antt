@@ -47,6 +47,7 @@ blank_has_no_sector v blank = record {
   default_acl = blank.default;
   direct = λ k. ap (λ (l : List ℕ). get_or l k 0) blank.direct ∙ get_or-zeros DIRECT_BLOCKS k;
   indirect = blank.indirect;
+  double_indirect = blank.double_indirect;
 }
 
 -- what has come of it

@@ -7,15 +7,15 @@ use Rattle.block_map.proofs.release.release_all.Goals as goal
 pub returns-clause-change : goal.returns-clause-change
 returns-clause-change g c =
     (saved_after c.requires.sound c.requires.below (sym c.requires.inode)
-    (empties (may_change 0 c.requires.sound c.requires.below c.requires.inode c.requires.kind) c.requires.kind c.in_ok-give_all.ensures.given) c.in_ok-give_all.ensures.given.puts
-    (let f = c.in_ok-give_all.ensures.given.free in omega (arith, f)) c.in_ok-write_inode.ensures.saved c.in_ok-write_inode.ensures.puts).content
+    (empties (may_change 0 c.requires.sound c.requires.below c.requires.inode c.requires.kind) c.requires.kind c.in_ok-give_from.ensures.given) c.in_ok-give_from.ensures.given.puts
+    (let f = c.in_ok-give_from.ensures.given.free in omega (arith, f)) c.in_ok-write_inode.ensures.saved c.in_ok-write_inode.ensures.puts).content
 
 pub returns-clause-held : goal.returns-clause-held
 returns-clause-held g c = emptied_holds (g.S.Sectors.state c.write_inode.new.s).sectors c.args.inode.now
 
-pub give_all-requires-clause-may : goal.give_all-requires-clause-may
-give_all-requires-clause-may g c = may_change 0 c.requires.sound c.requires.below c.requires.inode c.requires.kind
+pub give_from-requires-clause-may : goal.give_from-requires-clause-may
+give_from-requires-clause-may g c = may_change 0 c.requires.sound c.requires.below c.requires.inode c.requires.kind
 
 pub write_inode-requires-clause-fits : goal.write_inode-requires-clause-fits
 write_inode-requires-clause-fits g c =
-    (empties (may_change 0 c.requires.sound c.requires.below c.requires.inode c.requires.kind) c.requires.kind c.in_ok-give_all.ensures.given).fits
+    (empties (may_change 0 c.requires.sound c.requires.below c.requires.inode c.requires.kind) c.requires.kind c.in_ok-give_from.ensures.given).fits

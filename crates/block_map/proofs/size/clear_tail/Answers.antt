@@ -6,7 +6,6 @@ use Rattle.fs_layout.proofs.Places.{after_map, before_data}
 use Rattle.sector_txn.proofs.TransactionRuns.{changes_beside, changes_weaker}
 use Rattle.bit_alloc.specs.Room.{bitmaps}
 use Rattle.block_map.specs.Steps.{IsStepSector}
-use Rattle.block_map.proofs.Numbers.{number_is}
 use Rattle.block_map.proofs.Resizing.{tail_kept, at_a_block, hole_is_clear, some_zeros, tail_written}
 use Rattle.block_map.proofs.size.clear_tail.Goals as goal
 
@@ -18,7 +17,7 @@ returns-then-number-eq0-clause-cleared g c =
     let old = g.S.Sectors.state c.args.s.now in
     let v = c.args.blocks.now.inode in
     let none : pointer old.sectors v (c.args.size / 512) ≡ 0 =
-    sym (number_is c.requires.loaded (c.args.size / 512) (omega (arith, c.requires.less, c.requires.limit))) ∙ sym c.number-number.ensures ∙ c.if-number-eq0.true in
+    sym (c.number-number.ensures old.sectors c.requires.loaded) ∙ c.if-number-eq0.true in
     tail_kept c.requires.may (λ bytes h i ge lt. hole_is_clear c.args.size h none i ge lt)
 
 pub rewrite-requires-clause-part : goal.rewrite-requires-clause-part
@@ -26,7 +25,7 @@ rewrite-requires-clause-part g c =
     let old = g.S.Sectors.state c.args.s.now in
     let v = c.args.blocks.now.inode in
     let k = c.args.size / 512 in
-    let is : c.number-number.result ≡ pointer old.sectors v k = c.number-number.ensures ∙ number_is c.requires.loaded k (omega (arith, c.requires.less, c.requires.limit)) in
+    let is : c.number-number.result ≡ pointer old.sectors v k = c.number-number.ensures old.sectors c.requires.loaded in
     let d = c.requires.may.apart.each (pointer old.sectors v k) (owns_block old.sectors v k (λ e. c.if-number-eq0.false (is ∙ e))) in
     let m = after_map c.requires.may.bitmaps.place in
     let b = before_data c.requires.may.bitmaps.place in
@@ -37,7 +36,7 @@ rewrite-requires-clause-on_disk g c =
     let old = g.S.Sectors.state c.args.s.now in
     let v = c.args.blocks.now.inode in
     let k = c.args.size / 512 in
-    let is : c.number-number.result ≡ pointer old.sectors v k = c.number-number.ensures ∙ number_is c.requires.loaded k (omega (arith, c.requires.less, c.requires.limit)) in
+    let is : c.number-number.result ≡ pointer old.sectors v k = c.number-number.ensures old.sectors c.requires.loaded in
     let d = c.requires.may.apart.each (pointer old.sectors v k) (owns_block old.sectors v k (λ e. c.if-number-eq0.false (is ∙ e))) in
     omega (arith, is, d.1, c.requires.may.bitmaps.disk)
 
@@ -48,12 +47,12 @@ returns-clause-cleared g c =
     let v = c.args.blocks.now.inode in
     let k = c.args.size / 512 in
     let len = c.min-len.result in
-    let is : c.number-number.result ≡ pointer old.sectors v k = c.number-number.ensures ∙ number_is c.requires.loaded k (omega (arith, c.requires.less, c.requires.limit)) in
+    let is : c.number-number.result ≡ pointer old.sectors v k = c.number-number.ensures old.sectors c.requires.loaded in
     let d = c.requires.may.apart.each (pointer old.sectors v k) (owns_block old.sectors v k (λ e. c.if-number-eq0.false (is ∙ e))) in
     let way : (len ≡ 512 - c.args.size % 512) ⊎ (c.args.size + len ≡ v.size) = elim (cases_lt (v.size - c.args.size) (512 - c.args.size % 512)) [
       | inl lt ↦ inr (omega (arith, lt, c.min-len.ensures, c.requires.less))
       | inr ge ↦ inl (omega (arith, ge, c.min-len.ensures))
     ] in
-    tail_written {len = len} c.args.blocks.now c.requires.may (sym is) c.if-number-eq0.false c.in_ok-rewrite.ensures.written (some_zeros 512 len (omega (arith, c.min-len.ensures)))
+    tail_written {len = len} c.requires.may (sym is) c.if-number-eq0.false c.in_ok-rewrite.ensures.written (some_zeros 512 len (omega (arith, c.min-len.ensures)))
     (changes_weaker {Q = IsStepSector p} (λ t e. inr (omega (arith, e, is, d.0), omega (arith, e, is, d.1))) (omega arith) (changes_beside c.in_ok-rewrite.ensures.puts (bitmaps p)))
     (omega (arith, c.min-len.ensures, c.requires.less)) (omega (arith, c.min-len.ensures)) way

@@ -2,6 +2,7 @@ use Rattle.std.proofs.Common.{sym, arith}
 use Rattle.fs_layout.proofs.Parts.{Holds-kept, HasNoHole-kept}
 use Rattle.block_map.proofs.Saving.{IsEnded, saved_after}
 use Rattle.block_map.proofs.Sizing.{may_change, size_limit}
+use Rattle.block_map.specs.Sizes.{put_to}
 use Rattle.block_map.proofs.size.set_size.Goals as goal
 
 pub resize-requires-clause-may : goal.resize-requires-clause-may
@@ -11,11 +12,11 @@ pub resize-requires-clause-limit : goal.resize-requires-clause-limit
 resize-requires-clause-limit g c = (omega (arith, c.if-size-max_file_size.false, c.max_file_size.ensures.most), size_limit c.args.size c.requires.sound c.requires.below c.requires.inode c.requires.kind)
 
 -- the steps and the save
-ended : (g : _) (c : goal.In_ok-write_inode g) → IsEnded c.args.place c.args.n 0 3 (g.S.Sectors.state c.args.s.now) (g.S.Sectors.state c.resize.new.s)
+ended : (g : _) (c : goal.In_ok-write_inode g) → IsEnded c.args.place c.args.n 0 (put_to c.args.size) (g.S.Sectors.state c.args.s.now) (g.S.Sectors.state c.resize.new.s)
     (g.S.Sectors.state c.write_inode.new.s) c.args.inode.now c.resize.new.inode
 ended g c =
     let r = c.in_ok-resize.ensures.resized in
-    saved_after {taken = 0} {more = 2} c.requires.sound c.requires.below (sym c.requires.inode) r.alters r.puts (let f = r.free in omega (arith, f)) c.in_ok-write_inode.ensures.saved
+    saved_after {taken = 0} c.requires.sound c.requires.below (sym c.requires.inode) r.alters r.puts (let f = r.free in omega (arith, f)) c.in_ok-write_inode.ensures.saved
     c.in_ok-write_inode.ensures.puts
 
 pub returns-clause-change : goal.returns-clause-change

@@ -1,88 +1,55 @@
-use Rattle.std.proofs.Common.{◌≡◌, ◌≢◌, ◌∷◌, refl, sym, ap, subst, ◌∙◌, arith, rules, inr}
-use Rattle.std.specs.Prelude.{Contains}
+use Rattle.std.proofs.Common.{◌≡◌, ◌++◌, sym, ap, subst, ◌∙◌, arith, Err}
 use Rattle.fs_layout.specs.declared.inode.Inode.{Inode}
-use Rattle.fs_layout.specs.Images.{pointer}
-use Rattle.fs_layout.proofs.Parts.{owns_block, owns_indirect}
-use Rattle.fs_layout.proofs.Places.{after_map, before_data}
-use Rattle.sector_txn.proofs.TransactionRuns.{changes_beside, changes_weaker, changes_put_shared}
+use Rattle.fs_layout.specs.Bytes.{SectorMap}
+use Rattle.sector_txn.specs.Sectors.{lacking}
+use Rattle.sector_txn.proofs.TransactionRuns.{lacking_less, store_joined}
 use Rattle.bit_alloc.specs.Room.{bitmaps}
-use Rattle.block_map.specs.declared.blocks.Blocks.{Blocks}
-use Rattle.block_map.specs.Steps.{IsStepSector, WritesBlock}
-use Rattle.block_map.proofs.Numbers.{number_is}
-use Rattle.block_map.proofs.Rewritten.{was_full}
-use Rattle.block_map.proofs.Rooms.{puts_beside}
-use Rattle.block_map.proofs.Writings.{writes_block_there, writes_direct_block, writes_entry_block}
+use Rattle.block_map.specs.declared.fault.MapFault.TheVariants.{Full}
+use Rattle.block_map.specs.Steps.{MayChange, WritesBlock, pointers_to}
+use Rattle.block_map.proofs.Givings.{may_unchanged}
+use Rattle.block_map.proofs.Numbers.{loaded_unchanged, pointer_before}
+use Rattle.block_map.proofs.Runs.{same_fault, same_map}
+use Rattle.block_map.proofs.Writings.{writes_after}
+use Rattle.block_map.proofs.Wrote.{free_same, may_within}
 use Rattle.block_map.proofs.steps.write_block.Goals as goal
 
-pub rewrite-requires-clause-part : goal.rewrite-requires-clause-part
-rewrite-requires-clause-part g c =
-    let old = g.S.Sectors.state c.args.s.now in
-    let v = c.args.blocks.now.inode in
-    let is : c.number-number.result ≡ pointer old.sectors v c.args.k = c.number-number.ensures ∙ number_is c.requires.loaded c.args.k (omega arith) in
-    let d = c.requires.may.apart.each (pointer old.sectors v c.args.k) (owns_block old.sectors v c.args.k (λ e. c.if-number-ne0.true (is ∙ e))) in
-    let m = after_map c.requires.may.bitmaps.place in
-    let b = before_data c.requires.may.bitmaps.place in
-    omega (arith, is, d.0, m, b)
+pub load-requires-clause-within : goal.load-requires-clause-within
+load-requires-clause-within g c = may_within c.requires.may
 
-pub rewrite-requires-clause-on_disk : goal.rewrite-requires-clause-on_disk
-rewrite-requires-clause-on_disk g c =
-    let old = g.S.Sectors.state c.args.s.now in
-    let v = c.args.blocks.now.inode in
-    let is : c.number-number.result ≡ pointer old.sectors v c.args.k = c.number-number.ensures ∙ number_is c.requires.loaded c.args.k (omega arith) in
-    let d = c.requires.may.apart.each (pointer old.sectors v c.args.k) (owns_block old.sectors v c.args.k (λ e. c.if-number-ne0.true (is ∙ e))) in
-    omega (arith, is, d.1, c.requires.may.bitmaps.disk)
+pub write_loaded-requires-clause-may : goal.write_loaded-requires-clause-may
+write_loaded-requires-clause-may g c =
+    subst (λ (v : Inode). MayChange c.args.place (g.S.Sectors.state c.load.new.s) v) (sym c.in_ok-load.ensures.inode) (may_unchanged c.requires.may c.in_ok-load.ensures.same)
 
-pub returns-then-number-ne0-clause-written : goal.returns-then-number-ne0-clause-written
-returns-then-number-ne0-clause-written g c =
-    let old = g.S.Sectors.state c.args.s.now in
-    let p = c.args.place in
-    let v = c.args.blocks.now.inode in
-    let is : c.number-number.result ≡ pointer old.sectors v c.args.k = c.number-number.ensures ∙ number_is c.requires.loaded c.args.k (omega arith) in
-    let d = c.requires.may.apart.each (pointer old.sectors v c.args.k) (owns_block old.sectors v c.args.k (λ e. c.if-number-ne0.true (is ∙ e))) in
-    writes_block_there c.requires.may (sym is) c.if-number-ne0.true c.requires.fits.0 (λ i. let f = c.type_inv.bytes i in search rules) c.in_ok-rewrite.ensures.written
-    (puts_beside (changes_weaker {Q = IsStepSector p} (λ t e. inr (omega (arith, e, is, d.0), omega (arith, e, is, d.1))) (omega arith)
-    (changes_beside c.in_ok-rewrite.ensures.puts (bitmaps p))) v.indirect) c.requires.fits.1
+pub write_loaded-requires-clause-loaded : goal.write_loaded-requires-clause-loaded
+write_loaded-requires-clause-loaded g c = loaded_unchanged c.in_ok-load.ensures.same c.in_ok-load.ensures.loaded
 
-pub returns-in_err-number-clause-full : goal.returns-in_err-number-clause-full
-returns-in_err-number-clause-full g c = λ is.
+pub write_loaded-requires-clause-room : goal.write_loaded-requires-clause-room
+write_loaded-requires-clause-room g c =
     let old = g.S.Sectors.state c.args.s.now in
+    let mid = g.S.Sectors.state c.load.new.s in
     let v = c.args.blocks.now.inode in
-    let none : pointer old.sectors v c.args.k ≡ 0 = sym (number_is c.requires.loaded c.args.k (omega arith)) ∙ sym c.number-number.ensures ∙ c.if-number-ne0.false in
-    let e = c.from_residual-in_err-number.ensures in
-    (none, c.in_err-number.ensures.full (was_full c.from_residual-in_err-number.result c.in_err-number.field-0.0 e.0 e.1 is))
+    let k = c.args.k in
+    let same = c.in_ok-load.ensures.same in
+    let less = lacking_less old mid (λ m has. same.delta m ∙ has) (pointers_to old.sectors v k ++ bitmaps c.args.place) in
+    let e : lacking mid (pointers_to mid.sectors c.load.new.self.inode k ++ bitmaps c.args.place) ≡ lacking mid (pointers_to old.sectors v k ++ bitmaps c.args.place) =
+    ap (λ (u : Inode). lacking mid (pointers_to mid.sectors u k ++ bitmaps c.args.place)) c.in_ok-load.ensures.inode
+    ∙ ap (λ (image : SectorMap). lacking mid (pointers_to image v k ++ bitmaps c.args.place)) (same_map old.sectors mid.sectors same.sectors) in
+    omega (arith, c.requires.room, less, e, same.room)
 
-pub put_pointer-requires-clause-within : goal.put_pointer-requires-clause-within
-put_pointer-requires-clause-within g c =
-    let old = g.S.Sectors.state c.args.s.now in
-    let v = c.args.blocks.now.inode in
-    let d = c.requires.may.apart.each v.indirect (owns_indirect old.sectors v (c.requires.pointers.1 (omega arith))) in
-    let m = after_map c.requires.may.bitmaps.place in
-    let b = before_data c.requires.may.bitmaps.place in
-    (omega (arith, d.0, m, b), omega (arith, d.1, c.requires.may.bitmaps.disk, c.in_ok-number.ensures.store.reads.narrowed.size))
+pub returns-in_err-write_loaded-clause-full : goal.returns-in_err-write_loaded-clause-full
+returns-in_err-write_loaded-clause-full g c = λ is.
+    let same = c.in_ok-load.ensures.same in
+    let e = c.from_residual-in_err-write_loaded.ensures in
+    let f = c.in_err-write_loaded.ensures.full (ap Err (same_fault c.from_residual-in_err-write_loaded.result c.in_err-write_loaded.field-0.0 Full e.0 e.1 is)) in (
+      sym (pointer_before same c.args.k (sym f.0) c.in_ok-load.ensures.inode),
+      sym (free_same c.args.place (g.S.Sectors.state c.args.s.now) (g.S.Sectors.state c.load.new.s) same) ∙ f.1,
+    )
 
-pub returns-then-k-lt-DIRECT_BLOCKS-clause-written : goal.returns-then-k-lt-DIRECT_BLOCKS-clause-written
-returns-then-k-lt-DIRECT_BLOCKS-clause-written g c =
-    let old = g.S.Sectors.state c.args.s.now in
-    let v = c.args.blocks.now.inode in
-    let none : pointer old.sectors v c.args.k ≡ 0 = sym (number_is c.requires.loaded c.args.k (omega arith)) ∙ sym c.number-number.ensures ∙ c.if-number-ne0.false in
-    writes_direct_block c.requires.may none c.requires.fits.0 refl c.requires.fits.1 c.requires.inside
-    c.in_ok-number.ensures.taken.1 c.in_ok-number.ensures.free c.in_ok-number.ensures.bitmaps (puts_beside c.in_ok-number.ensures.puts v.indirect) c.if-k-lt-DIRECT_BLOCKS.true
+pub returns-clause-written : goal.returns-clause-written
+returns-clause-written g c =
+    writes_after c.in_ok-load.ensures.same
+    (subst (λ (v : Inode). WritesBlock c.args.place c.args.k c.args.at c.args.bytes.now (g.S.Sectors.state c.load.new.s) (g.S.Sectors.state c.write_loaded.new.s) v c.write_loaded.new.blocks.inode)
+    c.in_ok-load.ensures.inode c.in_ok-write_loaded.ensures.written)
 
-pub returns-else-k-lt-DIRECT_BLOCKS-clause-written : goal.returns-else-k-lt-DIRECT_BLOCKS-clause-written
-returns-else-k-lt-DIRECT_BLOCKS-clause-written g c =
-    let old = g.S.Sectors.state c.args.s.now in
-    let new = g.S.Sectors.state c.put_pointer.new.s in
-    let p = c.args.place in
-    let b = c.args.blocks.now in
-    let u = b.inode.indirect in
-    let after = c.put_pointer.new.self in
-    let has : u ≢ 0 = c.requires.pointers.1 c.if-k-lt-DIRECT_BLOCKS.false in
-    let none : pointer old.sectors b.inode c.args.k ≡ 0 = sym (number_is c.requires.loaded c.args.k (omega arith)) ∙ sym c.number-number.ensures ∙ c.if-number-ne0.false in
-    let d = c.requires.may.apart.each u (owns_indirect old.sectors b.inode has) in
-    let is : after ≡ record { inode = b.inode; pointers = after.pointers } = ap (λ (v : Inode). let r : Blocks = record { inode = v; pointers = after.pointers } in r) c.put_pointer.ensures.inode in
-    let first : Contains (u ∷ bitmaps p) u = (0, omega arith, refl) in
-    let puts = changes_put_shared {R = IsStepSector p} (puts_beside c.in_ok-number.ensures.puts u) c.put_pointer.ensures.put (inr (d.0, d.1)) first in
-    subst (λ (r : Blocks). WritesBlock p c.args.k c.args.at c.args.bytes.now old new b r) (sym is)
-    (writes_entry_block c.requires.may none c.requires.fits.0 refl c.requires.fits.1 c.requires.inside
-    c.in_ok-number.ensures.taken.1 c.in_ok-number.ensures.free c.in_ok-number.ensures.bitmaps c.if-k-lt-DIRECT_BLOCKS.false c.requires.pointers.0 has
-    (c.requires.loaded.is has (omega arith)) c.put_pointer.ensures.pointers c.put_pointer.ensures.put.sectors c.put_pointer.ensures.put.store puts)
+pub returns-clause-store : goal.returns-clause-store
+returns-clause-store g c = store_joined c.in_ok-load.ensures.same.store c.in_ok-write_loaded.ensures.store

@@ -1,5 +1,7 @@
-use Rattle.std.proofs.Common.{refl, ◌≡◌, ◌+◌, ◌*◌, ◌/◌, ◌%◌, ℕ, sym, subst, ◌∙◌, arith, rules}
-use Rattle.fs_layout.specs.Bytes.{zeros, splice}
+use Rattle.std.proofs.Common.{◌≡◌, ◌+◌, ◌*◌, ◌/◌, ◌%◌, ℕ, sym, subst, ◌∙◌, arith, rules}
+use Rattle.fs_layout.specs.Bytes.{splice}
+use Rattle.fs_layout.specs.declared.inode.Inode.{Inode}
+use Rattle.block_map.specs.Blocks.{IsWithin}
 use Rattle.fs_layout.specs.Images.{pointer, Holds}
 use Rattle.fs_layout.proofs.Parts.{owns_block}
 use Rattle.block_map.specs.Steps.{MayChange}
@@ -7,19 +9,20 @@ use Rattle.block_map.proofs.Overwriting.{used_may_change, loaded_number, over_ch
 use Rattle.block_map.proofs.Wrote.{may_within}
 use Rattle.block_map.proofs.write.overwrite.Goals as goal
 
-pub load-requires-clause-unread : goal.load-requires-clause-unread
-unfolding zeros
-load-requires-clause-unread g c = refl
-
 pub load-requires-clause-within : goal.load-requires-clause-within
-load-requires-clause-within g c = (may_within (used_may_change c.requires.sound c.requires.below c.requires.inode c.requires.used))
+load-requires-clause-within g c =
+    let old = g.S.Sectors.state c.args.s.now in
+    subst (λ (v : Inode). IsWithin old.disk.size old.sectors v) (sym c.new-blocks.ensures.inode) (may_within (used_may_change c.requires.sound c.requires.below c.requires.inode c.requires.used))
+
+pub load-requires-clause-at_hand : goal.load-requires-clause-at_hand
+load-requires-clause-at_hand g c = c.new-blocks.ensures.at_hand _
 
 pub rewrite-requires-clause-part : goal.rewrite-requires-clause-part
 rewrite-requires-clause-part g c =
     let old = g.S.Sectors.state c.args.s.now in
     let v = c.args.inode.now in
     let may : MayChange c.args.place old v = used_may_change c.requires.sound c.requires.below c.requires.inode c.requires.used in
-    let is = loaded_number (c.args.offset / 512) c.number.ensures c.in_ok-load.ensures.pointers c.in_ok-load.ensures.inode in
+    let is = loaded_number (g.S.Sectors.state c.args.s.now).sectors (c.args.offset / 512) (c.number.ensures (g.S.Sectors.state c.args.s.now).sectors c.in_ok-load.ensures.loaded) (c.in_ok-load.ensures.inode ∙ c.new-blocks.ensures.inode) in
     let w = may_within may (pointer old.sectors v (c.args.offset / 512)) (owns_block old.sectors v (c.args.offset / 512) c.requires.no_hole) in
     omega (arith, is, w.0)
 
@@ -28,13 +31,13 @@ rewrite-requires-clause-on_disk g c =
     let old = g.S.Sectors.state c.args.s.now in
     let v = c.args.inode.now in
     let may : MayChange c.args.place old v = used_may_change c.requires.sound c.requires.below c.requires.inode c.requires.used in
-    let is = loaded_number (c.args.offset / 512) c.number.ensures c.in_ok-load.ensures.pointers c.in_ok-load.ensures.inode in
+    let is = loaded_number (g.S.Sectors.state c.args.s.now).sectors (c.args.offset / 512) (c.number.ensures (g.S.Sectors.state c.args.s.now).sectors c.in_ok-load.ensures.loaded) (c.in_ok-load.ensures.inode ∙ c.new-blocks.ensures.inode) in
     let w = may_within may (pointer old.sectors v (c.args.offset / 512)) (owns_block old.sectors v (c.args.offset / 512) c.requires.no_hole) in
     omega (arith, is, w.1, c.in_ok-load.ensures.same.store.reads.narrowed.size)
 
 pub returns-clause-change : goal.returns-clause-change
 returns-clause-change g c =
-    let is = loaded_number (c.args.offset / 512) c.number.ensures c.in_ok-load.ensures.pointers c.in_ok-load.ensures.inode in
+    let is = loaded_number (g.S.Sectors.state c.args.s.now).sectors (c.args.offset / 512) (c.number.ensures (g.S.Sectors.state c.args.s.now).sectors c.in_ok-load.ensures.loaded) (c.in_ok-load.ensures.inode ∙ c.new-blocks.ensures.inode) in
     over_changes (c.args.offset / 512) (c.args.offset % 512) c.args.bytes.now c.requires.sound c.requires.below c.requires.inode c.requires.used c.in_ok-load.ensures.same (sym is)
     (λ e. c.requires.no_hole (sym is ∙ e)) c.requires.one_block (λ i. let f = c.type_inv.bytes i in search rules)
     (let e : 512 * (c.args.offset / 512) + c.args.offset % 512 ≡ c.args.offset = omega arith in omega (arith, e, c.requires.inside))
@@ -42,7 +45,7 @@ returns-clause-change g c =
 
 pub returns-clause-held : goal.returns-clause-held
 returns-clause-held g c = λ held h.
-    let is = loaded_number (c.args.offset / 512) c.number.ensures c.in_ok-load.ensures.pointers c.in_ok-load.ensures.inode in
+    let is = loaded_number (g.S.Sectors.state c.args.s.now).sectors (c.args.offset / 512) (c.number.ensures (g.S.Sectors.state c.args.s.now).sectors c.in_ok-load.ensures.loaded) (c.in_ok-load.ensures.inode ∙ c.new-blocks.ensures.inode) in
     let at : 512 * (c.args.offset / 512) + c.args.offset % 512 ≡ c.args.offset = omega arith in
     subst (λ (k : ℕ). Holds (g.S.Sectors.state c.rewrite.new.s).sectors c.args.inode.now (splice held k c.args.bytes.now)) at
     (over_holds (c.args.offset / 512) (c.args.offset % 512) c.args.bytes.now c.requires.sound c.requires.below c.requires.inode c.requires.used c.in_ok-load.ensures.same (sym is)
@@ -51,7 +54,7 @@ returns-clause-held g c = λ held h.
 
 pub returns-clause-whole : goal.returns-clause-whole
 returns-clause-whole g c =
-    let is = loaded_number (c.args.offset / 512) c.number.ensures c.in_ok-load.ensures.pointers c.in_ok-load.ensures.inode in
+    let is = loaded_number (g.S.Sectors.state c.args.s.now).sectors (c.args.offset / 512) (c.number.ensures (g.S.Sectors.state c.args.s.now).sectors c.in_ok-load.ensures.loaded) (c.in_ok-load.ensures.inode ∙ c.new-blocks.ensures.inode) in
     over_whole (c.args.offset / 512) (c.args.offset % 512) c.args.bytes.now c.requires.sound c.requires.below c.requires.inode c.requires.used c.in_ok-load.ensures.same (sym is)
     (λ e. c.requires.no_hole (sym is ∙ e)) c.requires.one_block (λ i. let f = c.type_inv.bytes i in search rules)
     (let e : 512 * (c.args.offset / 512) + c.args.offset % 512 ≡ c.args.offset = omega arith in omega (arith, e, c.requires.inside))

@@ -1,19 +1,27 @@
 use Rattle.std.proofs.Common.{◌≡◌, ℕ, ◌+◌, ◌-◌, ◌*◌, ◌/◌, ◌≤◌, ◌⊎◌, length, take, drop, sym, ap, subst, ◌∙◌, arith, inl, inr, Err}
 use Rattle.std.proofs.lemmas.Bool.{cases_lt}
 use Rattle.std.proofs.lemmas.List.{length-take-le, length-drop}
-use Rattle.block_map.specs.Blocks.{IsLoaded}
+use Rattle.block_map.specs.Steps.{pointers_of}
 use Rattle.block_map.proofs.Alterings.{may_after}
-use Rattle.block_map.proofs.Loops.{IsWritten, none_written, more_written, loaded_less, all_written, block_lacks, room_for_block}
+use Rattle.block_map.proofs.Loops.{IsWritten, none_written, more_written, all_written, block_lacks, room_for_block, pointers_lack}
 use Rattle.sector_txn.proofs.TransactionRuns.{store_joined}
 use Rattle.block_map.specs.declared.fault.MapFault.TheVariants.{Full}
 use Rattle.block_map.proofs.Runs.{same_fault, cause_on}
 use Rattle.block_map.proofs.write.write_blocks.Goals as goal
 
+pub add_pointers-requires-clause-inside : goal.add_pointers-requires-clause-inside
+add_pointers-requires-clause-inside g c = (
+  λ far. omega (arith, far, c.div_ceil-end.ensures, c.requires.inside.0),
+  omega (arith, c.div_ceil-end.ensures),
+  omega (arith, c.div_ceil-end.ensures, c.requires.inside.0, c.requires.inside.1),
+)
+
 pub loop-k-init : goal.loop-k-init
-loop-k-init g c =
-    let added = c.in_ok-add_pointers.ensures.added in
-    let loaded : IsLoaded (g.S.Sectors.state c.args.s.now).sectors c.args.blocks.now c.div_ceil-end.result = loaded_less c.div_ceil-end.result c.requires.loaded (omega arith) in
-    record { from = omega arith; written = none_written (may_after c.requires.may added.alters) (added.loaded loaded) (omega arith) }
+loop-k-init g c = record {
+  from = omega arith;
+  at_hand = c.in_ok-add_pointers.ensures.at_hand;
+  written = none_written _ (may_after c.requires.may c.in_ok-add_pointers.ensures.added.alters) (omega arith);
+}
 
 pub loop-k-preserved : goal.loop-k-preserved
 loop-k-preserved g c =
@@ -34,7 +42,8 @@ loop-k-preserved g c =
     ] in
     record {
       from = omega (arith, c.loop-k.invariant.from);
-      written = more_written done len c.loop-k.invariant.written c.in_ok-write_block.ensures.written c.loop-k.invariant.from
+      at_hand = c.in_ok-write_block.ensures.at_hand;
+      written = more_written done len c.loop-k.invariant.written c.in_ok-write_block.ensures.written c.loop-k.invariant.from c.loop-k-test.true
           (omega (arith, c.saturating_sub-done.ensures, c.saturating_sub-at.ensures)) (omega (arith, c.saturating_sub-done.ensures)) piece few ends
           (let z = c.in_ok-add_pointers.ensures.added.size in omega (arith, z, c.requires.inside.0));
     }
@@ -42,14 +51,12 @@ loop-k-preserved g c =
 pub write_block-requires-clause-may : goal.write_block-requires-clause-may
 write_block-requires-clause-may g c = c.loop-k.invariant.written.may
 
-pub write_block-requires-clause-loaded : goal.write_block-requires-clause-loaded
-write_block-requires-clause-loaded g c = loaded_less (c.loop-k.k + 1) c.loop-k.invariant.written.loaded (omega arith)
+pub write_block-requires-clause-at_hand : goal.write_block-requires-clause-at_hand
+write_block-requires-clause-at_hand g c = c.loop-k.invariant.at_hand
 
 pub write_block-requires-clause-pointers : goal.write_block-requires-clause-pointers
-write_block-requires-clause-pointers g c = (
-  omega (arith, c.div_ceil-end.ensures, c.loop-k-test.true, c.requires.inside.0, c.requires.inside.1),
-  λ far e. c.in_ok-add_pointers.ensures.added.has (omega (arith, far, c.loop-k-test.true)) (sym c.loop-k.invariant.written.indirect ∙ e),
-)
+write_block-requires-clause-pointers g c = λ far e.
+    c.in_ok-add_pointers.ensures.added.has c.loop-k.k c.loop-k.invariant.from c.loop-k-test.true far (sym (c.loop-k.invariant.written.pointers _) ∙ e)
 
 pub write_block-requires-clause-fits : goal.write_block-requires-clause-fits
 write_block-requires-clause-fits g c =
@@ -70,13 +77,13 @@ write_block-requires-clause-inside g c =
 
 pub write_block-requires-clause-room : goal.write_block-requires-clause-room
 write_block-requires-clause-room g c =
-    room_for_block c.in_ok-add_pointers.ensures.added c.loop-k.invariant.written (omega (arith, c.div_ceil-end.ensures)) c.loop-k.invariant.from c.loop-k-test.true c.requires.room
+    room_for_block c.args.offset c.args.bytes.now c.in_ok-add_pointers.ensures.added (omega (arith, c.div_ceil-end.ensures)) c.loop-k.invariant.written c.loop-k.invariant.from c.loop-k-test.true c.requires.room
 
 pub returns-in_err-write_block-clause-full : goal.returns-in_err-write_block-clause-full
 returns-in_err-write_block-clause-full g c = λ is.
     let e = c.from_residual-in_err-write_block.ensures in
     let f = c.in_err-write_block.ensures.full (ap Err (same_fault c.from_residual-in_err-write_block.result c.in_err-write_block.field-0.0 Full e.0 e.1 is)) in
-    block_lacks c.in_ok-add_pointers.ensures.added c.loop-k.invariant.written (omega (arith, c.div_ceil-end.ensures)) c.loop-k.invariant.from c.loop-k-test.true f.0 f.1
+    block_lacks c.args.offset c.args.bytes.now c.in_ok-add_pointers.ensures.added (omega (arith, c.div_ceil-end.ensures)) c.loop-k.invariant.written c.loop-k.invariant.from c.loop-k-test.true f.0 f.1
 
 pub returns-in_err-write_block-clause-store : goal.returns-in_err-write_block-clause-store
 returns-in_err-write_block-clause-store g c =
@@ -92,7 +99,18 @@ pub returns-clause-written : goal.returns-clause-written
 returns-clause-written g c =
     let k = c.loop-k.k in
     let end = c.div_ceil-end.result in
+    let mid = g.S.Sectors.state c.add_pointers.new.s in
+    let v = c.add_pointers.new.blocks.inode in
     let done : k ≡ end = omega (arith, c.loop-k-test.false, c.div_ceil-end.ensures) in
-    all_written c.in_ok-add_pointers.ensures.added
-    (subst (λ (m : ℕ). IsWritten c.args.place c.args.offset (c.args.offset / 512) m end c.args.bytes.now (g.S.Sectors.state c.add_pointers.new.s) (g.S.Sectors.state c.loop-k.s) c.add_pointers.new.blocks c.loop-k.blocks)
-    done c.loop-k.invariant.written) (omega (arith, c.div_ceil-end.ensures)) (omega (arith, c.loop-k.invariant.from, done))
+    all_written c.args.offset c.args.bytes.now c.in_ok-add_pointers.ensures.added (omega (arith, c.div_ceil-end.ensures))
+    (subst (λ (m : ℕ). IsWritten c.args.place (pointers_of mid.sectors v (c.args.offset / 512) end) c.args.offset (c.args.offset / 512) m c.args.bytes.now mid (g.S.Sectors.state c.loop-k.s) v c.loop-k.blocks.inode)
+    done c.loop-k.invariant.written) (omega (arith, c.loop-k.invariant.from, done))
+
+pub returns-in_err-add_pointers-clause-full : goal.returns-in_err-add_pointers-clause-full
+returns-in_err-add_pointers-clause-full g c = λ is.
+    let e = c.from_residual.ensures in
+    let f = c.in_err-add_pointers.ensures.full (ap Err (same_fault c.from_residual.result c.in_err-add_pointers.field-0.0 Full e.0 e.1 is)) in
+    pointers_lack c.args.place c.args.offset c.div_ceil-end.result c.args.bytes.now (g.S.Sectors.state c.args.s.now) c.args.blocks.now.inode (omega (arith, c.div_ceil-end.ensures)) f
+
+pub returns-clause-store : goal.returns-clause-store
+returns-clause-store g c = store_joined c.in_ok-add_pointers.ensures.store c.loop-k.invariant.written.puts.store

@@ -63,7 +63,7 @@ returns-in_err-write_at-clause-why g c =
     c.from_residual.result c.in_err-write_at.field-0.0 e.0 e.1
     (λ full names h.
     let few = (r.full (ap Err full)).0 in
-    let takes : taken_by old.sectors v v.size (length (take SLOT_SIZE c.block_with.result)) ≡ taken_for v = ap (taken_by old.sectors v v.size) len ∙ taken_is (slots_there h) in
+    let takes : taken_by old.sectors v v.size (length (take SLOT_SIZE c.block_with.result)) ≡ taken_for v = ap (taken_by old.sectors v v.size) len ∙ taken_is (slots_there h) (omega (arith, c.if-end-ge-MAX_DIRECTORY_SIZE.false, size_of_slots (slots_there h))) in
     (none names h, inr (omega (arith, few, takes))))
     (λ big names h.
     let past = r.too_big.0 (ap Err big) in
@@ -82,8 +82,8 @@ returns-clause-change g c =
     let h = c.requires.directory.1 in
     let size = size_of_slots (slots_there h) in
     let len : length (take SLOT_SIZE c.block_with.result) ≡ SLOT_SIZE = ap length c.block_with.ensures ∙ length-slot_bytes _ c.requires.name.short in
-    let takes : taken_by old.sectors v v.size (length (take SLOT_SIZE c.block_with.result)) ≡ taken_for v = ap (taken_by old.sectors v v.size) len ∙ taken_is (slots_there h) in
-    let puts : put_by v.size (length (take SLOT_SIZE c.block_with.result)) ≡ 3 = ap (put_by v.size) len ∙ put_for_slot v.size (omega (arith, size)) in
+    let takes : taken_by old.sectors v v.size (length (take SLOT_SIZE c.block_with.result)) ≡ taken_for v = ap (taken_by old.sectors v v.size) len ∙ taken_is (slots_there h) (omega (arith, c.if-end-ge-MAX_DIRECTORY_SIZE.false, size_of_slots (slots_there h))) in
+    let puts : put_by v.size (length (take SLOT_SIZE c.block_with.result)) ≡ 3 = ap (put_by v.size) len ∙ put_for_slot v.size (omega (arith, size)) (omega (arith, c.if-end-ge-MAX_DIRECTORY_SIZE.false, size)) in
     subst (λ (k : ℕ). ChangesContent p c.args.n (taken_for v) k old new v c.write_at.new.inode) puts
     (subst (λ (k : ℕ). ChangesContent p c.args.n k (put_by v.size (length (take SLOT_SIZE c.block_with.result))) old new v c.write_at.new.inode) takes
     c.in_ok-write_at.ensures.change)

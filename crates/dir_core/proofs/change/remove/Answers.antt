@@ -1,10 +1,13 @@
-use Rattle.std.proofs.Common.{◌-◌, ℕ, List, length, get_or, set, Err, ap, arith}
+use Rattle.std.proofs.Common.{◌-◌, ℕ, List, length, get_or, set, Err, sym, ap, subst, arith}
 use Rattle.std.specs.Prelude.{is_some}
 use Rattle.fs_layout.specs.declared.slot.TheConstants.{SLOT_SIZE}
 use Rattle.fs_layout.specs.Directories.{NamedInode, HasNames, slots_bytes}
 use Rattle.sector_txn.proofs.TransactionRuns.{store_joined}
+use Rattle.bit_alloc.specs.Room.{HasSpare}
 use Rattle.bit_alloc.proofs.Soundness.{spare_then}
 use Rattle.bit_alloc.proofs.Transactions.{spare_unchanged}
+use Rattle.block_map.specs.Contents.{ChangesContent}
+use Rattle.block_map.proofs.Wrote.{put_to_directory}
 use Rattle.block_map.proofs.Joins.{sound_after_reads, content_after_reads, content_joined}
 use Rattle.dir_core.specs.Faults.{WhyNotChanged}
 use Rattle.dir_core.proofs.Changing.{allows, slots_there, slots_after_reads, directory_within, directory_limit, found_there, not_there, found_slot, said_by_names, said_by_slots, passed_on, added, names_without}
@@ -47,8 +50,10 @@ set_size-requires-clause-kind g c =
 
 pub set_size-requires-clause-spare : goal.set_size-requires-clause-spare
 set_size-requires-clause-spare g c =
-    spare_then c.args.place 1 3 (g.S.Sectors.state c.find_slot.new.s) (g.S.Sectors.state c.move_last.new.s)
-    (spare_unchanged c.args.place 4 _ _ c.requires.spare c.in_ok-found.ensures.same) c.in_ok-move_last.ensures.change.touches.puts
+    let few = put_to_directory (c.args.inode.now.size - SLOT_SIZE) (let limit = directory_limit c.requires.sound c.requires.below c.requires.inode c.requires.directory.1.kind in omega (arith, limit)) in
+    subst (λ (k : ℕ). HasSpare c.args.place k (g.S.Sectors.state c.move_last.new.s)) (sym few)
+    (spare_then c.args.place 1 3 (g.S.Sectors.state c.find_slot.new.s) (g.S.Sectors.state c.move_last.new.s)
+    (spare_unchanged c.args.place 4 _ _ c.requires.spare c.in_ok-found.ensures.same) c.in_ok-move_last.ensures.change.touches.puts)
 
 pub returns-in_err-set_size-clause-why : goal.returns-in_err-set_size-clause-why
 returns-in_err-set_size-clause-why g c =
@@ -65,7 +70,10 @@ pub returns-in_err-set_size-clause-store : goal.returns-in_err-set_size-clause-s
 returns-in_err-set_size-clause-store g c = store_joined (store_joined c.in_ok-found.ensures.same.store c.in_ok-move_last.ensures.store) c.in_err-set_size.ensures.store
 
 pub returns-clause-change : goal.returns-clause-change
-returns-clause-change g c = content_joined (content_after_reads c.in_ok-found.ensures.same c.in_ok-move_last.ensures.change) c.in_ok-set_size.ensures.change
+returns-clause-change g c =
+    let few = put_to_directory (c.args.inode.now.size - SLOT_SIZE) (let limit = directory_limit c.requires.sound c.requires.below c.requires.inode c.requires.directory.1.kind in omega (arith, limit)) in
+    content_joined (content_after_reads c.in_ok-found.ensures.same c.in_ok-move_last.ensures.change)
+    (subst (λ (k : ℕ). ChangesContent c.args.place c.args.n 0 k (g.S.Sectors.state c.move_last.new.s) (g.S.Sectors.state c.set_size.new.s) c.args.inode.now c.set_size.new.inode) few c.in_ok-set_size.ensures.change)
 
 pub returns-clause-names : goal.returns-clause-names
 returns-clause-names g c = λ names h.

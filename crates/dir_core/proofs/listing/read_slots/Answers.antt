@@ -1,23 +1,16 @@
 use Rattle.std.proofs.Common.{refl, ◌≡◌, ℕ, List, ◌+◌, ◌/◌, ◌<◌, [], ◌∷◌, ◌++◌, length, get_or, take, ap, sym, ◌∙◌, arith}
-use Rattle.fs_layout.specs.Bytes.{zeros}
 use Rattle.std.proofs.lemmas.List.{take_all, take_more}
 use Rattle.fs_layout.specs.Directories.{NamedInode}
 use Rattle.fs_layout.proofs.Codecs.{same_ok}
+use Rattle.block_map.proofs.Numbers.{at_hand_unchanged}
 use Rattle.block_map.proofs.Runs.{unchanged_joined}
 use Rattle.dir_core.proofs.Pieces.{slot_there, slots_are}
 use Rattle.dir_core.proofs.Scans.{within_later, block_before, block_stays}
 use Rattle.dir_core.proofs.listing.read_slots.Goals as goal
 
-pub load-requires-clause-unread : goal.load-requires-clause-unread
-unfolding zeros
-load-requires-clause-unread g c = refl
-
-pub load-requires-clause-within : goal.load-requires-clause-within
-load-requires-clause-within g c = c.requires.within
-
 pub read_block_of-requires-clause-within : goal.read_block_of-requires-clause-within
 read_block_of-requires-clause-within g c =
-    within_later c.loop-k.invariant.same c.args.inode.now c.load.new.self.inode c.in_ok-load.ensures.inode c.requires.within
+    within_later c.loop-k.invariant.same c.args.inode.now c.loop-k.blocks.inode c.loop-k.invariant.inode c.requires.within
 
 pub unreachable-requires : goal.unreachable-requires
 unreachable-requires g c =
@@ -26,8 +19,8 @@ unreachable-requires g c =
     let k = c.loop-k.k in
     let block = c.read_block_of.new.block in
     let none : NamedInode = record { inode = 0; name = [] } in
-    let here = block_before c.loop-k.invariant.same c.args.inode.now c.load.new.self.inode (k / 4) block
-    c.in_ok-load.ensures.inode c.in_ok-read_block_of.ensures.block in
+    let here = block_before c.loop-k.invariant.same c.args.inode.now c.loop-k.blocks.inode (k / 4) block
+    c.loop-k.invariant.inode c.in_ok-read_block_of.ensures.block in
     let there = slot_there h block k none (omega arith) here (omega (arith, c.loop-k-test.true, slots_are h)) in
     c.in_default.not-Ok (get_or slots k none) (c.read_from.ensures.only (get_or slots k none) there.0 there.1)
 
@@ -42,10 +35,12 @@ loop-k-preserved g c =
     let k = c.loop-k.k in
     let block = c.read_block_of.new.block in
     let slot : NamedInode = c.in-Ok.slot in
-    let here = block_before c.loop-k.invariant.same c.args.inode.now c.load.new.self.inode (k / 4) block
-    c.in_ok-load.ensures.inode c.in_ok-read_block_of.ensures.block in
+    let here = block_before c.loop-k.invariant.same c.args.inode.now c.loop-k.blocks.inode (k / 4) block
+    c.loop-k.invariant.inode c.in_ok-read_block_of.ensures.block in
     record {
       same = unchanged_joined c.loop-k.invariant.same c.in_ok-read_block_of.ensures.same;
+      inode = c.in_ok-read_block_of.ensures.inode ∙ c.loop-k.invariant.inode;
+      pointers = at_hand_unchanged c.in_ok-read_block_of.ensures.same c.in_ok-read_block_of.ensures.pointers;
       block = block_stays old.sectors c.args.inode.now k block here;
       read = λ slots h.
           let lt : k < length slots = omega (arith, c.loop-k-test.true, slots_are h) in

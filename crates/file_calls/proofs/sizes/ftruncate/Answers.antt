@@ -2,7 +2,7 @@ use Rattle.std.proofs.Common.{sym, ap, arith, ◌∙◌, inr}
 use Rattle.std.specs.Prelude.{nat_lt}
 use Rattle.fs_cred.specs.declared.errno.Errno.TheVariants.{EFBIG}
 use Rattle.fs_layout.specs.declared.inode.Inode.{Inode}
-use Rattle.fs_layout.specs.declared.inode.TheConstants.{MAX_FILE_SIZE}
+use Rattle.fs_layout.specs.Version.{max_file_size}
 use Rattle.fs_model.specs.Demands.{refuse}
 use Rattle.fs_model.specs.declared.reply.Reply.TheVariants.{Done}
 use Rattle.sector_txn.proofs.TransactionRuns.{store_same}
@@ -32,7 +32,7 @@ pub give_size-requires : goal.give_size-requires
 give_size-requires g c =
     let x = reached_as c.descriptor.view_is c.in_ok-descriptor.ensures.opened in
     let o = x.is_open.opened in
-    let met = few_enough c.args.size (met_ok {A = Unit {0}} (refuse EFBIG (nat_lt MAX_FILE_SIZE c.args.size)) tt tt (sym c.in_ok-check_size.ensures)).0 in
+    let met = few_enough (max_file_size c.args.place.version) c.args.size (met_ok {A = Unit {0}} (refuse EFBIG (nat_lt (max_file_size c.args.place.version) c.args.size)) tt tt (sym c.in_ok-check_size.ensures)).0 in
     let room = x.ready.spare in
     record {
       sound = x.ready.sound;
@@ -54,7 +54,7 @@ returns-in_err-give_size g c =
 pub returns : goal.returns
 returns g c =
     let x = reached_as c.descriptor.view_is c.in_ok-descriptor.ensures.opened in
-    let fits = few_enough c.args.size (met_ok {A = Unit {0}} (refuse EFBIG (nat_lt MAX_FILE_SIZE c.args.size)) tt tt (sym c.in_ok-check_size.ensures)).0 in
+    let fits = few_enough (max_file_size c.args.place.version) c.args.size (met_ok {A = Unit {0}} (refuse EFBIG (nat_lt (max_file_size c.args.place.version) c.args.size)) tt tt (sym c.in_ok-check_size.ensures)).0 in
     let mid = g.S.Sectors.state c.reach_open.new.s in
     let new = g.S.Sectors.state c.give_size.new.s in
     let done = c.in_ok-give_size.ensures in

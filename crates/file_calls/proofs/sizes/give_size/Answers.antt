@@ -1,12 +1,15 @@
 use Rattle.std.proofs.Common.{Err, ap, sym, subst, arith}
 use Rattle.fs_layout.specs.Bytes.{resized}
-use Rattle.fs_layout.proofs.Versions.{max_file_size_is}
 use Rattle.block_map.specs.Contents.{AllowsSize}
+use Rattle.block_map.proofs.Wrote.{put_to_few}
 use Rattle.file_calls.proofs.Rewritten.{content_changes, fails_alone}
 use Rattle.file_calls.proofs.sizes.give_size.Goals as goal
 
 pub set_size-requires-clause-kind : goal.set_size-requires-clause-kind
 set_size-requires-clause-kind g c = subst (λ k. AllowsSize k c.args.size) (sym c.requires.file) tt
+
+pub set_size-requires-clause-spare : goal.set_size-requires-clause-spare
+set_size-requires-clause-spare g c = let few = put_to_few c.args.size in let room = c.requires.spare in omega (arith, few, room)
 
 pub returns-in-Ok-clause-change : goal.returns-in-Ok-clause-change
 returns-in-Ok-clause-change g c =
@@ -16,6 +19,6 @@ pub returns-in-Err-clause-fault : goal.returns-in-Err-clause-fault
 returns-in-Err-clause-fault g c =
     let e = c.in-Err.ensures in
     fails_alone (g.S.Sectors.state c.args.s.now).disk (g.S.Sectors.state c.set_size.new.s).disk c.in-Err.field-0
-    (λ big. let far = e.too_big.0 (ap (λ x. Err x) big) in let fits = c.requires.fits in let limit = max_file_size_is c.args.place.version in omega (arith, far, fits, limit))
+    (λ big. let far = e.too_big.0 (ap (λ x. Err x) big) in let fits = c.requires.fits in omega (arith, far, fits))
     (λ full. e.never_full (ap (λ x. Err x) full))
     e.cause.failed

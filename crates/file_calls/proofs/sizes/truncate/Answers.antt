@@ -2,7 +2,7 @@ use Rattle.std.specs.Prelude.{false, true, nat_lt}
 use Rattle.std.proofs.Common.{◌≡◌, arith, ℕ, sym, inr, ◌∙◌}
 use Rattle.fs_cred.specs.declared.errno.Errno.TheVariants.{EISDIR, EFBIG}
 use Rattle.fs_cred.specs.Verdicts.{verdict}
-use Rattle.fs_layout.specs.declared.inode.TheConstants.{MAX_FILE_SIZE}
+use Rattle.fs_layout.specs.Version.{max_file_size}
 use Rattle.fs_layout.specs.Images.{inode_at}
 use Rattle.fs_model.specs.declared.reply.Reply.TheVariants.{Done}
 use Rattle.fs_model.specs.Demands.{refuse, perms}
@@ -80,7 +80,7 @@ give_size-requires g c =
       below = reached_below x;
       inode = kept (λ m. v ≡ inode_at c.args.place m c.in_ok-reached.reached.number) same x.inode.inode;
       file = file_kind _ v.kind (reached_access x).kind (met_ok (refuse EISDIR (is_directory_kind v.kind)) tt tt (sym c.in_ok-check_no_directory.ensures)).0;
-      fits = few_enough c.args.size (met_ok (refuse EFBIG (nat_lt MAX_FILE_SIZE c.args.size)) tt tt (sym c.in_ok-check_size.ensures)).0;
+      fits = few_enough (max_file_size c.args.place.version) c.args.size (met_ok (refuse EFBIG (nat_lt (max_file_size c.args.place.version) c.args.size)) tt tt (sym c.in_ok-check_size.ensures)).0;
       spare = omega (arith, spare);
     }
 
@@ -101,7 +101,7 @@ returns g c =
     let v = c.in_ok-reached.reached.inode in
     let n = c.in_ok-reached.reached.number in
     let file = (met_ok (refuse EISDIR (is_directory_kind v.kind)) tt tt (sym c.in_ok-check_no_directory.ensures)).0 in
-    let fits = (met_ok (refuse EFBIG (nat_lt MAX_FILE_SIZE c.args.size)) tt tt (sym c.in_ok-check_size.ensures)).0 in
+    let fits = (met_ok (refuse EFBIG (nat_lt (max_file_size c.args.place.version) c.args.size)) tt tt (sym c.in_ok-check_size.ensures)).0 in
     let same = c.in_ok-permitted.ensures.same in
     let change = c.in_ok-give_size.ensures.change in
     changed (truncate_by_path c.args.path.now c.args.size) x.same x.reached.walked (g.S.Sectors.state c.give_size.new.s)
@@ -111,4 +111,4 @@ returns g c =
     let granted = permission_granted {mid = mid} {new = mid} at has i unchanged_nothing c.cred-cred.result.now c.cred-cred.ensures (perms false true false) c.in_ok-permitted.field-0
     (c.in_ok-permitted.ensures.each a.access (access_held {mid = mid} {new = mid} at has i unchanged_nothing)) in
     size_changed (state_kept same at) has i.some i.number (kept (λ m. v ≡ inode_at c.args.place m n) same i.inode) c.args.size _ i.met file granted.0 fits
-    (few_enough c.args.size fits) (file_kind _ v.kind (access_held {mid = mid} {new = mid} at has i unchanged_nothing).kind file) change)
+    (few_enough (max_file_size c.args.place.version) c.args.size fits) (file_kind _ v.kind (access_held {mid = mid} {new = mid} at has i unchanged_nothing).kind file) change)

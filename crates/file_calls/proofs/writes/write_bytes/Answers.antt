@@ -1,6 +1,5 @@
 use Rattle.std.proofs.Common.{◌+◌, Err, ap, sym, subst, arith, length, max}
 use Rattle.fs_layout.specs.Bytes.{overwritten}
-use Rattle.fs_layout.proofs.Versions.{max_file_size_is}
 use Rattle.block_map.specs.Contents.{AllowsSize}
 use Rattle.block_map.proofs.Wrote.{put_few}
 use Rattle.file_calls.proofs.Rewritten.{content_changes, fails_alone}
@@ -24,6 +23,6 @@ pub returns-in-Err-clause-err : goal.returns-in-Err-clause-err
 returns-in-Err-clause-err g c =
     let e = c.in-Err.ensures in
     fails_alone (g.S.Sectors.state c.args.s.now).disk (g.S.Sectors.state c.write_at.new.s).disk c.in-Err.field-0
-    (λ big. let far = e.too_big.0 (ap (λ x. Err x) big) in let fits = c.requires.fits in let limit = max_file_size_is c.args.place.version in omega (arith, far, fits, limit))
-    (λ full. let few = e.full (ap (λ x. Err x) full) in let less = few.0 in let ten = few.1 in let space = c.requires.space in omega (arith, less, ten, space))
+    (λ big. let far = e.too_big.0 (ap (λ x. Err x) big) in let fits = c.requires.fits in omega (arith, far, fits))
+    (λ full. let few = e.full (ap (λ x. Err x) full) in let less = few.0 in let most = few.1 in let space = c.requires.space in omega (arith, less, most, space))
     e.cause.failed

@@ -1,9 +1,9 @@
-use Rattle.std.proofs.Common.{inr}
-use Rattle.fs_layout.proofs.Parts.{owns_indirect}
+use Rattle.std.proofs.Common.{refl, arith}
+use Rattle.block_map.proofs.Numbers.{at_hand_of}
 use Rattle.block_map.proofs.blocks.Blocks.load.Goals as goal
 
-pub get-requires-clause-part : goal.get-requires-clause-part
-get-requires-clause-part g c = inr (c.requires.within c.args.self.now.inode.indirect (owns_indirect _ c.args.self.now.inode c.if-self-ne0.true)).0
+pub returns-then-k-lt-DIRECT_BLOCKS-clause-loaded : goal.returns-then-k-lt-DIRECT_BLOCKS-clause-loaded
+returns-then-k-lt-DIRECT_BLOCKS-clause-loaded g c = record { at_hand = c.requires.at_hand; index = λ ge. absurd (omega (arith, ge, c.if-k-lt-DIRECT_BLOCKS.true)) }
 
-pub get-requires-clause-on_disk : goal.get-requires-clause-on_disk
-get-requires-clause-on_disk g c = (c.requires.within c.args.self.now.inode.indirect (owns_indirect _ c.args.self.now.inode c.if-self-ne0.true)).1
+pub returns-clause-loaded : goal.returns-clause-loaded
+returns-clause-loaded g c = record { at_hand = at_hand_of _ c.in_ok-self.ensures.number c.in_ok-self.ensures.content; index = λ ge. refl }

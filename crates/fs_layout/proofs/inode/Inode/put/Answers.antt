@@ -21,7 +21,11 @@ returns c =
     let b8 = next_write old _ _ _ (le32 s.default_acl) 32 b7 refl c.put_u32-6.ensures in
     let b9 = next_write old _ _ _ (le32s s.direct) 36 b8 refl c.put_u32s.ensures in
     let b10 = next_write old _ _ _ (le32 s.indirect) 84 b9 (omega (arith, len)) c.put_u32-7.ensures in
-    let b11 = next_write old _ _ _ (zeros 40) 88 b10 (omega (arith, len, length-append (le32s s.direct) (le32 s.indirect))) c.put_zeros.ensures in
     let pointers : length (le32s s.direct ++ le32 s.indirect) ≡ 52 = omega (arith, len, length-append (le32s s.direct) (le32 s.indirect)) in
-    all_written old _ _ b11 (omega (arith, c.requires, pointers, length-append (le32s s.direct ++ le32 s.indirect) (zeros 40), length-zeros 40))
+    let b11 = next_write old _ _ _ (le32 s.double_indirect) 88 b10 (omega (arith, pointers)) c.put_u32-8.ensures in
+    let all : length ((le32s s.direct ++ le32 s.indirect) ++ le32 s.double_indirect) ≡ 56 =
+    omega (arith, pointers, length-append (le32s s.direct ++ le32 s.indirect) (le32 s.double_indirect)) in
+    let b12 = next_write old _ _ _ (zeros 36) 92 b11 (omega (arith, all)) c.put_zeros.ensures in
+    all_written old _ _ b12
+    (omega (arith, c.requires, all, length-append ((le32s s.direct ++ le32 s.indirect) ++ le32 s.double_indirect) (zeros 36), length-zeros 36))
     ∙ simp append_assoc

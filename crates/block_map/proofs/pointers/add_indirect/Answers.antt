@@ -1,0 +1,27 @@
+use Rattle.std.proofs.Common.{refl, sym, ◌∙◌}
+use Rattle.fs_layout.specs.Bytes.{zeros}
+use Rattle.fs_layout.proofs.Parts.{number_on_indirect}
+use Rattle.block_map.proofs.AddedPointers.{sector_there, gets_indirect, indirect_at_hand}
+use Rattle.block_map.proofs.Rewritten.{was_full}
+use Rattle.block_map.proofs.pointers.add_indirect.Goals as goal
+
+pub returns-then-blocks-ne0-clause-added : goal.returns-then-blocks-ne0-clause-added
+returns-then-blocks-ne0-clause-added g c =
+    sector_there c.requires.may (λ e. c.if-blocks-ne0.true (sym (number_on_indirect (g.S.Sectors.state c.args.s.now).sectors c.args.blocks.now.inode) ∙ e))
+
+pub returns-in_err-number-clause-full : goal.returns-in_err-number-clause-full
+returns-in_err-number-clause-full g c = λ is.
+    let e = c.from_residual.ensures in
+    (number_on_indirect _ c.args.blocks.now.inode ∙ c.if-blocks-ne0.false, c.in_err-number.ensures.full (was_full c.from_residual.result c.in_err-number.field-0.0 e.0 e.1 is))
+
+pub returns-clause-added : goal.returns-clause-added
+unfolding zeros
+returns-clause-added g c =
+    gets_indirect c.requires.may refl c.in_ok-number.ensures.taken.1 c.in_ok-number.ensures.free c.in_ok-number.ensures.bitmaps c.in_ok-number.ensures.puts c.in_ok-number.ensures.has
+    c.if-blocks-ne0.false c.requires.inside
+
+pub returns-clause-at_hand : goal.returns-clause-at_hand
+unfolding zeros
+returns-clause-at_hand g c =
+    indirect_at_hand c.requires.may refl c.in_ok-number.ensures.taken.1 c.in_ok-number.ensures.free c.in_ok-number.ensures.bitmaps c.in_ok-number.ensures.puts c.in_ok-number.ensures.has
+    refl refl refl refl

@@ -1,0 +1,66 @@
+use Rattle.std.proofs.Common.{◌∷◌, refl, ◌∙◌, arith, inr}
+use Rattle.std.specs.Prelude.{Contains}
+use Rattle.fs_layout.specs.Bytes.{zeros}
+use Rattle.fs_layout.specs.Images.{holder, number_on}
+use Rattle.fs_layout.proofs.Parts.{owns_on_level}
+use Rattle.sector_txn.proofs.TransactionRuns.{changes_put_shared, still_put, store_joined}
+use Rattle.bit_alloc.specs.Room.{bitmaps}
+use Rattle.block_map.specs.Steps.{IsStepSector}
+use Rattle.block_map.proofs.AddedPointers.{gets_listed, listed_at_hand}
+use Rattle.block_map.proofs.Numbers.{listed_within}
+use Rattle.block_map.proofs.Rewritten.{was_full}
+use Rattle.block_map.proofs.Rooms.{lacking_beside, lacking_unput, puts_beside}
+use Rattle.block_map.proofs.Wrote.{may_within}
+use Rattle.block_map.proofs.pointers.list_sector.Goals as goal
+
+pub take_sector-requires-clause-room : goal.take_sector-requires-clause-room
+take_sector-requires-clause-room g c =
+    let l = lacking_beside (g.S.Sectors.state c.args.s.now) c.args.above (bitmaps c.args.place) in
+    omega (arith, l.0, c.requires.room)
+
+pub returns-in_err-number-clause-full : goal.returns-in_err-number-clause-full
+returns-in_err-number-clause-full g c = λ is.
+    let e = c.from_residual.ensures in
+    c.in_err-number.ensures.full (was_full c.from_residual.result c.in_err-number.field-0.0 e.0 e.1 is)
+
+pub put-requires-clause-part : goal.put-requires-clause-part
+put-requires-clause-part g c = (listed_within c.args.blocks.now.inode 2 (holder 1 c.args.index) (may_within c.requires.may) c.requires.index.1 c.requires.index.2).0
+
+pub put-requires-clause-on_disk : goal.put-requires-clause-on_disk
+put-requires-clause-on_disk g c =
+    omega (arith, (listed_within c.args.blocks.now.inode 2 (holder 1 c.args.index) (may_within c.requires.may) c.requires.index.1 c.requires.index.2).1, c.in_ok-number.ensures.store.reads.narrowed.size)
+
+pub put-requires-clause-room : goal.put-requires-clause-room
+put-requires-clause-room g c = λ none.
+    let r = (puts_beside c.in_ok-number.ensures.puts c.args.above).room in
+    let z = lacking_unput (g.S.Sectors.state c.take_sector.new.s) c.args.above (bitmaps c.args.place) none in
+    omega (arith, r, z, c.requires.room)
+
+pub returns-clause-added : goal.returns-clause-added
+unfolding zeros
+returns-clause-added g c =
+    let old = g.S.Sectors.state c.args.s.now in
+    let p = c.args.place in
+    let v = c.args.blocks.now.inode in
+    let u = c.args.above in
+    let d = c.requires.may.apart.each (number_on old.sectors v 2 (holder 1 c.args.index)) (owns_on_level old.sectors v 2 (holder 1 c.args.index) (λ e. c.requires.index.2 (c.requires.index.1 ∙ e))) in
+    let first : Contains (u ∷ bitmaps p) u = (0, omega arith, refl) in
+    let puts = changes_put_shared {R = IsStepSector p} (puts_beside c.in_ok-number.ensures.puts u) c.put.ensures (inr (omega (arith, d.0, c.requires.index.1), omega (arith, d.1, c.requires.index.1))) first in
+    gets_listed c.requires.may refl c.in_ok-number.ensures.taken.1 c.in_ok-number.ensures.free c.in_ok-number.ensures.bitmaps c.requires.index.0 c.requires.index.1 c.requires.index.2
+    c.requires.content c.write_pointer.ensures c.put.ensures.sectors c.put.ensures.store puts (still_put c.put.ensures _ c.in_ok-number.ensures.has) c.requires.none c.requires.inside
+
+pub returns-clause-at_hand : goal.returns-clause-at_hand
+unfolding zeros
+returns-clause-at_hand g c =
+    let old = g.S.Sectors.state c.args.s.now in
+    let p = c.args.place in
+    let v = c.args.blocks.now.inode in
+    let u = c.args.above in
+    let d = c.requires.may.apart.each (number_on old.sectors v 2 (holder 1 c.args.index)) (owns_on_level old.sectors v 2 (holder 1 c.args.index) (λ e. c.requires.index.2 (c.requires.index.1 ∙ e))) in
+    let first : Contains (u ∷ bitmaps p) u = (0, omega arith, refl) in
+    let puts = changes_put_shared {R = IsStepSector p} (puts_beside c.in_ok-number.ensures.puts u) c.put.ensures (inr (omega (arith, d.0, c.requires.index.1), omega (arith, d.1, c.requires.index.1))) first in
+    listed_at_hand c.requires.may refl c.in_ok-number.ensures.taken.1 c.in_ok-number.ensures.free c.in_ok-number.ensures.bitmaps c.requires.index.0 c.requires.index.1 c.requires.index.2
+    c.requires.content c.write_pointer.ensures c.put.ensures.sectors c.put.ensures.store puts (still_put c.put.ensures _ c.in_ok-number.ensures.has) c.requires.none refl refl refl refl
+
+pub returns-clause-store : goal.returns-clause-store
+returns-clause-store g c = store_joined c.in_ok-number.ensures.store c.put.ensures.store
