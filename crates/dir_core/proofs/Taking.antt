@@ -5,7 +5,7 @@ use Rattle.fs_layout.specs.declared.inode.TheConstants.{DIRECT_BLOCKS, DIRECT_SI
 use Rattle.fs_layout.specs.declared.slot.TheConstants.{SLOT_SIZE}
 use Rattle.fs_layout.specs.declared.inode.Inode.{Inode}
 use Rattle.fs_layout.specs.Bytes.{SectorMap}
-use Rattle.fs_layout.specs.Images.{holder, pointer_in, number_on, pointer}
+use Rattle.fs_layout.specs.Images.{holder, pointer_in, number_on}
 use Rattle.fs_layout.specs.Directories.{NamedInode}
 use Rattle.fs_layout.proofs.ImageSlots.{length-slots}
 use Rattle.fs_layout.proofs.Parts.{number_on_indirect}
@@ -41,7 +41,7 @@ indirect_lacks image v first end far lt few =
     let count = lacks_pointers_is image v first end far lt (omega (arith, few)) in
     let above : lacks_above image v (holder DIRECT_BLOCKS (end - 1)) ≡ 0 = ap (lacks_above image v) last in
     let one : lacks_on image v 1 (holder DIRECT_BLOCKS first) (holder DIRECT_BLOCKS (end - 1) + 1 - holder DIRECT_BLOCKS first) ≡ lack image v 1 0 =
-    one_lack image v 1 (holder DIRECT_BLOCKS first) _ (omega (arith, last, from)) ∙ ap (lack image v 1) from in
+    one_lack image v 1 (holder DIRECT_BLOCKS first) (holder DIRECT_BLOCKS (end - 1) + 1 - holder DIRECT_BLOCKS first) (omega (arith, last, from)) ∙ ap (lack image v 1) from in
     omega (arith, count, above, one)
 
 module _ {image : SectorMap} {v : Inode} {slots : List NamedInode} (h : HasSlots image v slots) (few : v.size + SLOT_SIZE ≤ MAX_DIRECTORY_SIZE) where
@@ -64,7 +64,7 @@ module _ {image : SectorMap} {v : Inode} {slots : List NamedInode} (h : HasSlots
   taken_is =
       let size : v.size ≡ SLOT_SIZE * length slots = size_of_slots h in
       let all : taken_by image v v.size SLOT_SIZE ≡ holes image v (v.size / 512) (end - v.size / 512) + lacks_pointers image v (v.size / 512) end = counted image v v.size SLOT_SIZE in
-      let one : holes image v (v.size / 512) (end - v.size / 512) ≡ hole image v (v.size / 512) = one_lack image v 0 (v.size / 512) _ (omega (arith, size)) in
+      let one : holes image v (v.size / 512) (end - v.size / 512) ≡ hole image v (v.size / 512) = one_lack image v 0 (v.size / 512) (end - v.size / 512) (omega (arith, size)) in
       elim (cases_eq (v.size % 512) 0) [
         | inr within ↦
             let full : hole image v (v.size / 512) ≡ 0 = none_lacks image v 0 (v.size / 512) (h.whole (v.size / 512) (omega (arith, within))) in

@@ -8,6 +8,7 @@ use Rattle.fs_layout.specs.Directories.{HasNames, slots_bytes, slot_bytes}
 use Rattle.fs_layout.proofs.Versions.{file_bounds}
 use Rattle.fs_layout.proofs.OneSlots.{names_same}
 use Rattle.fs_layout.proofs.SlotLaw.{length-slot_bytes}
+use Rattle.bit_alloc.specs.Room.{HasSpare}
 use Rattle.block_map.specs.Contents.{ChangesContent}
 use Rattle.block_map.specs.Steps.{taken_by, put_by}
 use Rattle.block_map.proofs.Wrote.{put_for_slot}
@@ -34,9 +35,12 @@ write_at-requires-clause-few g c =
 
 pub write_at-requires-clause-spare : goal.write_at-requires-clause-spare
 write_at-requires-clause-spare g c =
+    let v = c.args.inode.now in
     let size = size_of_slots (slots_there c.requires.directory.1) in
-    let len = ap length c.block_with.ensures ∙ length-slot_bytes _ c.requires.name.short in
-    omega (arith, c.requires.spare, size, len)
+    let len : length (take SLOT_SIZE c.block_with.result) ≡ SLOT_SIZE = ap length c.block_with.ensures ∙ length-slot_bytes _ c.requires.name.short in
+    let puts : put_by v.size (length (take SLOT_SIZE c.block_with.result)) ≡ 3 =
+    ap (put_by v.size) len ∙ put_for_slot v.size (omega (arith, size)) (omega (arith, c.if-end-ge-MAX_DIRECTORY_SIZE.false, size)) in
+    subst (λ (k : ℕ). HasSpare c.args.place k (g.S.Sectors.state c.args.s.now)) (sym puts) c.requires.spare
 
 pub returns-then-end-ge-MAX_DIRECTORY_SIZE-clause-why : goal.returns-then-end-ge-MAX_DIRECTORY_SIZE-clause-why
 returns-then-end-ge-MAX_DIRECTORY_SIZE-clause-why g c = λ names h.

@@ -1,4 +1,4 @@
-use Rattle.std.proofs.Common.{refl, ◌/◌, ◌<◌, length, get_or, sym, ◌∙◌, arith}
+use Rattle.std.proofs.Common.{◌/◌, ◌<◌, length, get_or, sym, ◌∙◌, arith}
 use Rattle.block_map.proofs.Numbers.{at_hand_unchanged}
 use Rattle.block_map.proofs.Runs.{unchanged_joined}
 use Rattle.dir_core.proofs.Found.{absent_further, slot_parts}
