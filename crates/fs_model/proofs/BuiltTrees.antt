@@ -23,14 +23,13 @@ use Rattle.fs_model.specs.Stands.{HoldsPlaced, HoldsAll, placed, room_of}
 use Rattle.fs_model.proofs.StepsParents.{parent_is}
 use Rattle.fs_model.specs.Rules.{ImageRule, InodeBits, Inodes, InData, OwnedOnce, BlockBits, LaidOut, Acls, Slots, NamesApart, Names, Parents, Ways, ObeysEach, IsLaidOut, HasAcls, IsGoodInode, HasNameCount, GoesUp, at_root, above, namings, namings_in, is_directory_kind}
 use Rattle.fs_model.proofs.ListedMaps.{listed, listed-IsMap, get-listed, get-past}
-use Rattle.fs_layout.proofs.Versions.{max_file_size_is}
 use Rattle.fs_layout.proofs.SlotNames.{names-IsMap, length-names, named_by}
 use Rattle.fs_model.specs.Summaries.{is_used}
 use Rattle.fs_model.proofs.KindFields.{kind_field, inode_fits_at}
 use Rattle.fs_model.proofs.Marks.{marks}
 use Rattle.fs_layout.proofs.ImageSlots.{length-slots_of, slot_there, HasWholeBlocks}
 use Rattle.fs_model.proofs.StoredTrees.{StoresAt, Stores, unnamed, names_there, names_are_slots, used_is, directory_there, directory_stored, below_if, stored_at, directory_slots, no_namings, is_directory_kind-true}
-use Rattle.fs_model.proofs.BuiltNodes.{file_node, link_node, directory_node, whole_blocks, file_fits, directory_fits, link_fits}
+use Rattle.fs_model.proofs.BuiltNodes.{file_node, link_node, directory_node, whole_blocks, directory_fits, link_fits}
 
 -- what is owned by an inode of kind k, if it is free
 module _ (p : Place) (m : SectorMap) (place : IsPlace p) (sectors : (s : ℕ) → s < p.sectors → IsSector (m s)) (rules : (r : ImageRule) → ObeysEach p m r) where
@@ -217,9 +216,8 @@ module _ (p : Place) (m : SectorMap) (place : IsPlace p) (sectors : (s : ℕ) �
   body_is : (n : ℕ) → n < p.inodes → (b : Body) → HoldsBody m (inode_at p m n) b → IsBody (room_of p) tree b
   body_is n lt (File a bytes) h =
       let size = h.holds.size in
-      let numbers = file_fits (inode_at p m n) h.kind (fits n lt).valid.numbers in
-      let limit = max_file_size_is p.version in
-      (h.acl, omega (arith, size, numbers.1, limit), held_bytes n lt bytes h.holds)
+      let few = (good n lt).allowed.size h.kind in
+      (h.acl, omega (arith, size, few), held_bytes n lt bytes h.holds)
   body_is n lt (Dir a d) h = (h.acl, h.default, directory_is n lt h)
   body_is n lt (Link target) h = target_is n lt target h
 

@@ -49,10 +49,11 @@ root_fits = record {
   direct_len = refl;
   direct = free_fits.direct;
   indirect = omega arith;
+  double_indirect = omega arith;
 }
 
 root_has_no_sector : HasNoSector root_inode
-root_has_no_sector = record { acl = refl; default_acl = refl; direct = free_has_no_sector.direct; indirect = refl }
+root_has_no_sector = record { acl = refl; default_acl = refl; direct = free_has_no_sector.direct; indirect = refl; double_indirect = refl }
 
 minimal_is_acl : IsAcl (minimal 0o755)
 minimal_is_acl = record { users = tt; user_ids = tt; groups = tt; group_ids = tt; masked = λ lt. absurd (omega (arith, lt)); few = omega arith }

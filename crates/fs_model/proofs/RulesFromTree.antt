@@ -11,12 +11,14 @@ use Rattle.fs_layout.specs.declared.inode.Kind.TheVariants as kinds
 use Rattle.fs_layout.specs.declared.inode.Inode.{Inode}
 use Rattle.fs_layout.specs.declared.place.Place.{Place}
 use Rattle.fs_layout.specs.Bytes.{SectorMap, u16_of}
-use Rattle.fs_layout.specs.Inode.{free_inode}
+use Rattle.fs_layout.specs.Inode.{free_inode, inode_fits}
 use Rattle.fs_layout.specs.AclSector.{acl_sector_of, acl_content, HoldsAcl}
 use Rattle.fs_layout.specs.Images.{stored, inode_at, pointer, Holds, HasNoHole}
 use Rattle.fs_layout.proofs.AclSectorLaw.{acl_sector_codec}
-use Rattle.fs_layout.proofs.Free.{free_has_no_sector, holds_nothing}
+use Rattle.fs_layout.proofs.Free.{free_has_no_sector, holds_nothing, inode_fits_there}
 use Rattle.fs_layout.proofs.Parts.{owns_block}
+use Rattle.fs_layout.proofs.Pointers.{trimmed_double}
+use Rattle.fs_layout.specs.Version.{max_file_size}
 use Rattle.fs_model.specs.Limits.{root}
 use Rattle.fs_layout.specs.Maps.{name_cmp, get}
 use Rattle.fs_model.specs.Nodes.{Node, Body, File, Dir, Link, Directory, shown_mode}
@@ -26,9 +28,10 @@ use Rattle.fs_model.specs.Stands.{HoldsPlaced, HoldsAll, placed, room_of}
 use Rattle.fs_layout.proofs.OneAcl.{sector_fits, mode_small}
 use Rattle.fs_model.proofs.StepsParents.{parent_names, parent_at, under_root}
 use Rattle.fs_layout.specs.Directories.{HasNames, stored_slot, slot_at, slot_count, NamedInode, slot_of}
-use Rattle.fs_model.specs.Rules.{ImageRule, InodeBits, Inodes, InData, OwnedOnce, BlockBits, LaidOut, Acls, Slots, NamesApart, Names, Parents, Ways, ObeysEach, IsBit, IsLaidOut, IsStoredAcl, HasSomeAccessAcl, HasSomeDefaultAcl, HasAcls, IsGoodInode, IsGoodSlot, HasNameCount, HasParent, AreNamesApart, GoesUp, at_root, above, namings, namings_in}
+use Rattle.fs_model.specs.Rules.{ImageRule, InodeBits, Inodes, InData, OwnedOnce, BlockBits, LaidOut, Acls, Slots, NamesApart, Names, Parents, Ways, ObeysEach, IsBit, IsLaidOut, IsStoredAcl, HasSomeAccessAcl, HasSomeDefaultAcl, HasAcls, IsAllowed, IsGoodInode, IsGoodSlot, HasNameCount, HasParent, AreNamesApart, GoesUp, at_root, above, namings, namings_in}
 use Rattle.fs_layout.proofs.SlotNames.{slot_leads}
 use Rattle.fs_model.specs.Summaries.{is_used}
+use Rattle.fs_model.proofs.BuiltNodes.{directory_fits, link_fits}
 use Rattle.fs_model.proofs.KindFields.{kind_field}
 use Rattle.fs_model.proofs.Marks.{marks}
 use Rattle.fs_layout.proofs.ImageSlots.{slot_is, count_is}
@@ -131,6 +134,32 @@ its_parent m v (File a bytes) parent h e k = absurd (let c : kinds.File ≡ kind
 its_parent m v (Dir a d) parent h e k = e
 its_parent m v (Link target) parent h e k = absurd (let c : kinds.Link ≡ kinds.Directory = sym h.kind ∙ k in cc)
 
+-- what a version allows
+body_allowed : (room : Room) (t : Tree) (m : SectorMap) (v : Inode) (b : Body) → HoldsBody m v b → IsBody room t b → IsTrue (inode_fits v)
+    → IsAllowed room.file_limit v
+body_allowed room t m v (File a bytes) h is fits =
+    let size = h.holds.size in
+    let few = is.1 in
+    record {
+      size = λ e. omega (arith, size, few);
+      double_indirect = λ low. trimmed_double m v h.holds.trim (omega (arith, size, few, low));
+    }
+body_allowed room t m v (Dir a d) h is fits =
+    let few = (directory_fits v h.names.kind fits).1 in
+    record {
+      size = λ e. absurd (let c : kinds.Directory ≡ kinds.File = sym h.names.kind ∙ e in cc);
+      double_indirect = λ low. trimmed_double m v h.names.holds.trim (omega (arith, few));
+    }
+body_allowed room t m v (Link target) h is fits =
+    let few = (link_fits v h.kind fits).2 in
+    record {
+      size = λ e. absurd (let c : kinds.Link ≡ kinds.File = sym h.kind ∙ e in cc);
+      double_indirect = λ low. trimmed_double m v h.holds.trim (omega (arith, few));
+    }
+
+free_allowed : (limit : ℕ) → IsAllowed limit free_inode
+free_allowed limit = record { size = λ e. absurd (let c : kinds.Free ≡ kinds.File = e in cc); double_indirect = λ low. refl }
+
 -- ---- the whole tree
 
 module _ (p : Place) (m : SectorMap) (t : Tree) (held : HoldsAll p m (placed t)) (is : IsTree (room_of p) t) where
@@ -171,6 +200,9 @@ module _ (p : Place) (m : SectorMap) (t : Tree) (held : HoldsAll p m (placed t))
   good : (n : ℕ) → n < p.inodes → IsGoodInode p m n
   good n lt = record {
     is = held.consistent.valid n lt;
+    allowed = by_node (λ q. IsAllowed (max_file_size p.version) (inode_at p m q)) n lt
+        (λ free. subst (IsAllowed (max_file_size p.version)) (sym free) (free_allowed (max_file_size p.version)))
+        (λ node at h. body_allowed (room_of p) t m (inode_at p m n) node.body h.body (is.each n node at).body (inode_fits_there held.consistent n lt).valid.numbers);
     none = λ e. by_node (λ q. (inode_at p m q).kind ≡ kinds.Free) n lt (λ free. ap (λ (v : Inode). v.kind) free)
         (λ node at h. absurd (let positive = (is.each n node at).positive in omega (arith, positive, e)));
     top = λ e. subst (λ q. (inode_at p m q).kind ≡ kinds.Directory) (sym e) (directory_stored p m t stores root is.root_is_there).1;

@@ -8,23 +8,21 @@ use Rattle.std.proofs.lemmas.List.{length-append}
 use Rattle.std.proofs.lemmas.List.Sums.{sum_by-cons, count_by-le-length}
 use Rattle.std.proofs.lemmas.List.FromFn.{length-range_with_len}
 use Rattle.posix_acl.specs.AccessList.{AccessList, is_extended}
-use Rattle.fs_layout.specs.declared.inode.TheConstants.{DIRECT_BLOCKS, DIRECT_SIZE}
 use Rattle.fs_layout.specs.declared.slot.TheConstants.{SLOT_SIZE}
 use Rattle.fs_layout.specs.declared.inode.Inode.{Inode}
 use Rattle.fs_layout.specs.declared.place.Place.{Place}
 use Rattle.fs_layout.specs.Bytes.{SectorMap}
 use Rattle.fs_layout.specs.Inode.{free_inode}
 use Rattle.fs_layout.specs.Ownership.{IsOwned}
-use Rattle.fs_layout.specs.Images.{IsData, bit, block_bitmap, number_on, pointer, Part, AccessAcl, DefaultAcl, OnLevel, part, Owns, Holds, inode_at, free_sectors}
+use Rattle.fs_layout.specs.Images.{IsData, bit, block_bitmap, number_on, first_block, pointer, Part, AccessAcl, DefaultAcl, OnLevel, part, Owns, Holds, inode_at, free_sectors}
 use Rattle.fs_layout.specs.Recovered.{recovered}
 use Rattle.fs_layout.proofs.Bits.{has_bit, set_or_clear}
 use Rattle.fs_layout.proofs.Free.{HasNoSector, owns_nothing, free_has_no_sector}
 use Rattle.fs_layout.proofs.ImageSlots.{length-slots}
-use Rattle.fs_layout.proofs.Parts.{number_on_indirect}
-use Rattle.fs_layout.proofs.Pointers.{number_on_past, no_number_on, trimmed_indirect}
+use Rattle.fs_layout.proofs.Pointers.{no_number_on}
 use Rattle.fs_layout.proofs.SlotNames.{length-names}
 use Rattle.fs_model.specs.Limits.{target_limit}
-use Rattle.fs_model.specs.Nodes.{Node, Body, File, Dir, Link, target_in, sectors_for, sectors_of}
+use Rattle.fs_model.specs.Nodes.{Node, Body, File, Dir, Link, target_in, sectors_above, sectors_for, sectors_of}
 use Rattle.fs_model.specs.Trees.{Tree, Room, node_at, names_of, parent, sectors_needed, IsBody, IsTree}
 use Rattle.fs_model.specs.States.{MayBeFree}
 use Rattle.fs_layout.specs.Directories.{slots_bytes}
@@ -49,35 +47,40 @@ unfolding only
 in_only true s e = inl refl
 in_only false s e = absurd cc
 
-abbrev blocks : SectorMap → Inode → ℕ → List ℕ
-blocks image v zero = []
-blocks image v (suc n) = pointer image v n ∷ blocks image v n
+abbrev numbers : SectorMap → Inode → ℕ → ℕ → List ℕ
+numbers image v level zero = []
+numbers image v level (suc n) = number_on image v level n ∷ numbers image v level n
 
-length-blocks : (image : SectorMap) (v : Inode) (n : ℕ) → length (blocks image v n) ≡ n
-length-blocks image v zero = refl
-length-blocks image v (suc n) = ap (λ k. suc k) (length-blocks image v n)
+length-numbers : (image : SectorMap) (v : Inode) (level n : ℕ) → length (numbers image v level n) ≡ n
+length-numbers image v level zero = refl
+length-numbers image v level (suc n) = ap (λ k. suc k) (length-numbers image v level n)
 
-in_blocks : (image : SectorMap) (v : Inode) (n k : ℕ) → k < n → Names (blocks image v n) (pointer image v k)
-in_blocks image v zero k lt = absurd (omega arith)
-in_blocks image v (suc n) k lt = elim (cases_eq k n) [
-  | inl e ↦ inl (ap (pointer image v) e)
-  | inr ne ↦ inr (in_blocks image v n k (omega arith))
+in_numbers : (image : SectorMap) (v : Inode) (level n i : ℕ) → i < n → Names (numbers image v level n) (number_on image v level i)
+in_numbers image v level zero i lt = absurd (omega arith)
+in_numbers image v level (suc n) i lt = elim (cases_eq i n) [
+  | inl e ↦ inl (ap (number_on image v level) e)
+  | inr ne ↦ inr (in_numbers image v level n i (omega arith))
 ]
 
-abbrev blocks_for : ℕ → ℕ
-blocks_for size = (size + 511) / 512
+-- how many numbers of a level so many bytes need
+abbrev count_on : ℕ → ℕ → ℕ
+count_on zero size = (size + 511) / 512
+count_on (suc level) size = sectors_above level (count_on level size)
 
--- of so many bytes: the blocks, and the sector of pointers
+-- of so many bytes: the blocks, the sectors of pointers to them, and those to these
 content : SectorMap → Inode → ℕ → List ℕ
-content image v size = blocks image v (blocks_for size) ++ only (nat_lt DIRECT_BLOCKS (blocks_for size)) v.indirect
+content image v size =
+    numbers image v 0 (count_on 0 size) ++ (numbers image v 1 (count_on 1 size) ++ numbers image v 2 (count_on 2 size))
 
 length-content : (image : SectorMap) (v : Inode) (size : ℕ) → length (content image v size) ≡ sectors_for size
 unfolding content
 length-content image v size =
-    let a = length-append (blocks image v (blocks_for size)) (only (nat_lt DIRECT_BLOCKS (blocks_for size)) v.indirect) in
-    let b = length-blocks image v (blocks_for size) in
-    let c = length-only (nat_lt DIRECT_BLOCKS (blocks_for size)) v.indirect in
-    omega (arith, a, b, c)
+    let a = length-append (numbers image v 0 (count_on 0 size)) (numbers image v 1 (count_on 1 size) ++ numbers image v 2 (count_on 2 size)) in
+    let b = length-append (numbers image v 1 (count_on 1 size)) (numbers image v 2 (count_on 2 size)) in
+    let c = length-numbers image v 0 (count_on 0 size) in
+    let d = length-numbers image v 1 (count_on 1 size) in
+    let e = length-numbers image v 2 (count_on 2 size) in
+    omega (arith, a, b, c, d, e)
 
 abbrev taken : SectorMap → Inode → Body → List ℕ
 taken image v (File a bytes) = content image v (length bytes) ++ only (is_extended a) v.acl
@@ -101,22 +104,22 @@ length-taken image v (Link target) = refl
 
 -- ---- each sector that an inode owns is one of these
 
-in_content : (image : SectorMap) (v : Inode) (size k : ℕ) → (size ≤ 512 * k → pointer image v k ≡ 0) → pointer image v k ≢ 0
-    → Names (content image v size) (pointer image v k)
+-- a number by which a block below the size is found
+in_content : (image : SectorMap) (v : Inode) (size level i : ℕ) → 512 * first_block level i < size → number_on image v level i ≢ 0
+    → Names (content image v size) (number_on image v level i)
 unfolding content
-in_content image v size k trim some = elim (cases_lt (512 * k) size) [
-  | inl lt ↦ in_first (blocks image v (blocks_for size)) _ (pointer image v k) (in_blocks image v (blocks_for size) k (omega (arith, lt)))
-  | inr ge ↦ absurd (some (trim ge))
-]
-
-pointers_in_content : (image : SectorMap) (v : Inode) (size : ℕ) → (size ≤ DIRECT_SIZE → v.indirect ≡ 0) → v.indirect ≢ 0 → Names (content image v size) v.indirect
-unfolding content
-pointers_in_content image v size trim some = elim (cases_lt DIRECT_SIZE size) [
-  | inl lt ↦
-      in_second (blocks image v (blocks_for size)) (only (nat_lt DIRECT_BLOCKS (blocks_for size)) v.indirect) v.indirect
-      (in_only (nat_lt DIRECT_BLOCKS (blocks_for size)) v.indirect (lt-ltb DIRECT_BLOCKS (blocks_for size) (omega (arith, lt))))
-  | inr ge ↦ absurd (some (trim ge))
-]
+in_content image v size zero i lt some =
+    in_first (numbers image v 0 (count_on 0 size)) (numbers image v 1 (count_on 1 size) ++ numbers image v 2 (count_on 2 size)) (number_on image v 0 i)
+    (in_numbers image v 0 (count_on 0 size) i (omega (arith, lt)))
+in_content image v size (suc zero) i lt some =
+    in_second (numbers image v 0 (count_on 0 size)) (numbers image v 1 (count_on 1 size) ++ numbers image v 2 (count_on 2 size)) (number_on image v 1 i)
+    (in_first (numbers image v 1 (count_on 1 size)) (numbers image v 2 (count_on 2 size)) (number_on image v 1 i)
+    (in_numbers image v 1 (count_on 1 size) i (omega (arith, lt))))
+in_content image v size (suc (suc zero)) i lt some =
+    in_second (numbers image v 0 (count_on 0 size)) (numbers image v 1 (count_on 1 size) ++ numbers image v 2 (count_on 2 size)) (number_on image v 2 i)
+    (in_second (numbers image v 1 (count_on 1 size)) (numbers image v 2 (count_on 2 size)) (number_on image v 2 i)
+    (in_numbers image v 2 (count_on 2 size) i (omega (arith, lt))))
+in_content image v size (suc (suc (suc level))) i lt some = absurd (some (no_number_on image v level i))
 
 acl_is_extended : (image : SectorMap) (s : ℕ) (a : AccessList) → HoldsAcl image s (kept_acl a) → s ≢ 0 → is_extended a ≡ true
 acl_is_extended image s a h some = go (is_extended a) refl h
@@ -132,18 +135,13 @@ default_is_there image s (Some a) h some = refl
 -- ---- what an inode owns
 
 module _ (image : SectorMap) (v : Inode) where
-  -- of a file or a directory of so many bytes: a block, or the sector of pointers
+  -- of a file or a directory of so many bytes
   in_bytes : (size : ℕ) (bytes : List ℕ) → Holds image v bytes → length bytes ≡ size → (level i : ℕ) → number_on image v level i ≢ 0
       → Names (content image v size) (number_on image v level i)
-  in_bytes size bytes h len zero k some = in_content image v size k (λ le. h.trim 0 k (omega (arith, h.size, len, le))) some
-  in_bytes size bytes h len (suc zero) i some = elim (cases_eq i 0) [
-    | inl e ↦
-        let is : number_on image v 1 i ≡ v.indirect = ap (number_on image v 1) e ∙ number_on_indirect image v in
-        subst (Names (content image v size)) (sym is)
-        (pointers_in_content image v size (λ le. trimmed_indirect image v h.trim (omega (arith, h.size, len, le))) (λ none. some (is ∙ none)))
-    | inr ne ↦ absurd (some (number_on_past image v i (omega (arith, ne))))
+  in_bytes size bytes h len level i some = elim (cases_lt (512 * first_block level i) size) [
+    | inl lt ↦ in_content image v size level i lt some
+    | inr ge ↦ absurd (some (h.trim level i (let same = h.size in omega (arith, same, len, ge))))
   ]
-  in_bytes size bytes h len (suc (suc level)) i some = absurd (some (no_number_on image v level i))
 
   -- of a link block 0
   in_link : (bytes : List ℕ) → Holds image v bytes → length bytes ≤ 512 → (level i : ℕ) → number_on image v level i ≢ 0
@@ -153,7 +151,8 @@ module _ (image : SectorMap) (v : Inode) where
     | inr ne ↦ absurd (some (h.trim 0 k (let size = h.size in omega (arith, size, short, ne))))
   ]
   in_link bytes h short (suc zero) i some = absurd (some (h.trim 1 i (let size = h.size in omega (arith, size, short))))
-  in_link bytes h short (suc (suc level)) i some = absurd (some (no_number_on image v level i))
+  in_link bytes h short (suc (suc zero)) i some = absurd (some (h.trim 2 i (let size = h.size in omega (arith, size, short))))
+  in_link bytes h short (suc (suc (suc level))) i some = absurd (some (no_number_on image v level i))
 
   part_taken : (b : Body) → HoldsBody image v b → length (target_in b) ≤ target_limit → (at : Part) → part image v at ≢ 0 → Names (taken image v b) (part image v at)
   unfolding part

@@ -6,14 +6,15 @@
 --     accessed        what an access decision reads of it
 --     type_of, shown_mode, shown_size        what stat(2) shows of it
 --     sectors_of        the sectors that it takes, without holes
-use Rattle.std.specs.Prelude.{ℕ, ◌+◌, ◌*◌, ◌/◌, nat_lt, Bool, true, false, List, [], length, if◌then◌else◌, Option, None, Some, is_some}
+use Rattle.std.specs.Prelude.{ℕ, ◌+◌, ◌-◌, ◌*◌, ◌/◌, Bool, true, false, List, [], length, if◌then◌else◌, Option, None, Some, is_some}
 use Rattle.posix_acl.specs.AccessList.{AccessList, is_extended, mode_bits}
 use Rattle.fs_cred.specs.declared.node.Node.{Node as AccessNode}
 use Rattle.fs_cred.specs.declared.node.NodeKind.TheVariants.{File as FileKind, Directory as DirectoryKind}
 use Rattle.fs_model.specs.declared.reply.FileType.{FileType}
 use Rattle.fs_model.specs.declared.reply.FileType.TheVariants.{File as FileT, Directory as DirectoryT, Link as LinkT}
-use Rattle.fs_layout.specs.declared.inode.TheConstants.{DIRECT_BLOCKS, S_ISGID, S_ISVTX}
+use Rattle.fs_layout.specs.declared.inode.TheConstants.{SECTOR_POINTERS, S_ISGID, S_ISVTX}
 use Rattle.fs_layout.specs.declared.slot.TheConstants.{SLOT_SIZE}
+use Rattle.fs_layout.specs.Images.{own_count}
 
 -- a directory's names with their inode numbers, its default ACL, S_ISGID and S_ISVTX
 pub record Directory : Type 0 where
@@ -108,9 +109,16 @@ shown_size (File _ bytes) = length bytes
 shown_size (Dir _ d) = SLOT_SIZE * length d.names
 shown_size (Link target) = length target
 
--- sectors of so many bytes without holes; past the direct blocks there is a sector of pointers
+-- the sectors of pointers that so many numbers of a level take, without holes: the first stand in the inode
+abbrev pub sectors_above : ℕ → ℕ → ℕ
+sectors_above level count = (count - own_count level + (SECTOR_POINTERS - 1)) / SECTOR_POINTERS
+
+-- sectors of so many bytes without holes: the blocks, the sectors of pointers to them, and those to these
 abbrev pub sectors_for : ℕ → ℕ
-sectors_for bytes = let blocks = (bytes + 511) / 512 in blocks + (if nat_lt DIRECT_BLOCKS blocks then 1 else 0)
+sectors_for bytes =
+    let blocks = (bytes + 511) / 512 in
+    let pointers = sectors_above 0 blocks in
+    blocks + (pointers + sectors_above 1 pointers)
 
 -- an ACL that is more than mode bits takes a sector
 abbrev pub acl_sectors : AccessList → ℕ

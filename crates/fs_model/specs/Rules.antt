@@ -2,16 +2,17 @@
 --     IsPlaceOf, HasCommit        the first two: the superblock gives the disk this place; the commit sector is valid
 --     ImageRule, rule_number        the others, and their numbers; they speak of the recovered image
 --     namings_in, namings        how many slots of one directory, and of all, name an inode
---     IsBit, IsGoodInode, IsLaidOut, HasAcls, IsGoodSlot, HasNameCount, HasParent, GoesUp        what single rules ask
+--     IsBit, IsAllowed, IsGoodInode, IsLaidOut, HasAcls, IsGoodSlot, HasNameCount, HasParent, GoesUp        what single rules ask
 --     Obeys        an image obeys a rule at a number
 --     ObeysAll, ObeysBefore        all rules at each number; those with a lower number than k
 --     IsFinding        the first rule that fails, at its least number
-use Rattle.std.specs.Prelude.{◌≡◌, ◌≢◌, ℕ, ◌%◌, ◌<◌, ◌≤◌, ◌==◌, nat_eq, nat_lt, nat_le, Bool, true, false, not, ◌||◌, List, if◌then◌else◌, Some, Ok, IsTrue, count_by, sum_by, ◌⊎◌, ◌↔◌}
+use Rattle.std.specs.Prelude.{◌≡◌, ◌≢◌, ℕ, ◌*◌, ◌%◌, ◌<◌, ◌≤◌, ◌==◌, nat_eq, nat_lt, nat_le, Bool, true, false, not, ◌||◌, List, if◌then◌else◌, Some, Ok, IsTrue, count_by, sum_by, ◌⊎◌, ◌↔◌}
 use Rattle.std.specs.List.{range_with_len}
 use Rattle.posix_acl.specs.AccessList.{AccessList, IsAcl, is_extended, list_numbers, mode_bits}
 use Rattle.fs_layout.specs.declared.superblock.Super.{Super}
 use Rattle.fs_layout.specs.declared.inode.Kind.{Kind}
 use Rattle.fs_layout.specs.declared.inode.Kind.TheVariants as kinds
+use Rattle.fs_layout.specs.declared.inode.TheConstants.{INDIRECT_END}
 use Rattle.fs_layout.specs.declared.inode.Inode.{Inode}
 use Rattle.fs_layout.specs.declared.place.Place.{Place}
 use Rattle.fs_layout.specs.declared.place.TheConstants.{SECTOR_BITS}
@@ -22,6 +23,7 @@ use Rattle.fs_layout.specs.Inode.{inode_of}
 use Rattle.fs_layout.specs.AclSector.{acl_sector_of}
 use Rattle.fs_layout.specs.Directories.{slot_count, stored_slot, slot_at, slot_of}
 use Rattle.fs_layout.specs.Place.{place_in}
+use Rattle.fs_layout.specs.Version.{max_file_size}
 use Rattle.fs_layout.specs.Images.{bit, inode_bitmap, block_bitmap, map_bits, IsData, stored, inode_at, Owns, byte_at, IsTrimmed, HasNoHole}
 use Rattle.fs_layout.specs.Ownership.{IsOwned}
 use Rattle.fs_layout.specs.Recovered.{recovered}
@@ -68,10 +70,17 @@ namings p m n = sum_by (λ d. namings_in m (inode_at p m d) n) (range_with_len 0
 abbrev pub IsBit : Place → SectorMap → ℕ → Type 0
 IsBit p m n = bit m inode_bitmap n ≡ (nat_lt n 2 || nat_le p.inodes n || not (nat_eq (u16_of (stored p m n) 0) 0))
 
--- Rule 4. The bytes are an inode: a free one, all zero, or one with a valid kind, mode and size and zeros where nothing
--- is kept; 0 is free, and 1 a directory.
+-- a file has at most so many bytes, and no inode a double indirect sector where no file reaches past the blocks of the
+-- indirect one
+pub record IsAllowed (limit : ℕ) (v : Inode) : Type 0 where
+  pub size : v.kind ≡ kinds.File → v.size ≤ limit
+  pub double_indirect : limit ≤ 512 * INDIRECT_END → v.double_indirect ≡ 0
+
+-- Rule 4. The bytes are an inode: a free one, all zero, or one with a valid kind, mode and size, as the version allows it, and
+-- zeros where nothing is kept; 0 is free, and 1 a directory.
 pub record IsGoodInode (p : Place) (m : SectorMap) (n : ℕ) : Type 0 where
   pub is : inode_of (stored p m n) ≡ Ok (inode_at p m n)
+  pub allowed : IsAllowed (max_file_size p.version) (inode_at p m n)
   pub none : n ≡ 0 → (inode_at p m n).kind ≡ kinds.Free
   pub top : n ≡ root → (inode_at p m n).kind ≡ kinds.Directory
 
