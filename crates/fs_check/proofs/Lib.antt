@@ -2,13 +2,17 @@ pub mod BitTests
 pub mod Carrying
 pub mod Clean
 pub mod Climbing
+pub mod DataNumbers
 pub mod Failures
 pub mod DirectorySlots
 pub mod DistinctNames
+pub mod FitNumbers
+pub mod MarkedParts
 pub mod Marks
 pub mod Namings
 pub mod Openings
 pub mod OwnedParts
+pub mod Sizes
 pub mod TableSectors
 pub mod Tables
 pub mod Tallies

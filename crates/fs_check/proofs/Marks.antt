@@ -1,16 +1,13 @@
 -- One more part of an inode is marked.
-use Rattle.std.specs.Prelude.{◌≡◌, ◌≢◌, ℕ, ◌+◌, ◌<◌, ◌≤◌, Bool, true, false, List, length, get_or, set, IsTrue, ◌↔◌, ◌⊎◌}
+use Rattle.std.specs.Prelude.{◌≡◌, ◌≢◌, ℕ, zero, suc, ◌+◌, ◌<◌, ◌≤◌, Bool, true, false, List, length, get_or, set, IsTrue, ◌↔◌, ◌⊎◌}
 use Rattle.std.specs.Prelude.{Option, Some, None, IfSome, IfNone, MatchOption}
 use Rattle.std.proofs.Common.{refl, sym, ap, subst, arith, ◌∙◌, inl, inr, get_or-set_other, get_or-set_same, length-set}
 use Rattle.std.proofs.lemmas.Bool.{cases_eq, cases_lt}
 use Rattle.fs_layout.specs.declared.place.Place.{Place}
 use Rattle.fs_layout.specs.Bytes.{SectorMap}
-use Rattle.fs_layout.specs.Images.{inode_at, Owns, IsData}
-use Rattle.fs_layout.specs.declared.inode.Inode.{Inode}
-use Rattle.fs_layout.proofs.Parts.{owns_indirect}
-use Rattle.fs_model.specs.Rules.{OwnedOnce, IsPlaceOf, IsInData, IsOwnedOnce, ObeysEach, IsLeastFailure}
+use Rattle.fs_layout.specs.Images.{inode_at, Owns}
+use Rattle.fs_model.specs.Rules.{OwnedOnce, IsInData, IsOwnedOnce, ObeysEach, IsLeastFailure}
 use Rattle.fs_check.specs.Checks.{IsOwnerMap}
-use Rattle.fs_check.proofs.Openings.{many_sectors, place_size}
 use Rattle.fs_check.specs.Owning.{part_at, owned_part, IsEarlierPart, IsOnce, IsTwice, IsMarked}
 use Rattle.fs_check.proofs.OwnedParts.{counted_part, part_at-injective}
 
@@ -159,6 +156,16 @@ module _ (f : ℕ → ℕ → ℕ) (n i : ℕ) where
         ];
       }
 
+-- ---- parts that are none
+
+pub mark_skip : (f : ℕ → ℕ → ℕ) (n i more size : ℕ) (owned twice : List Bool) → ((k : ℕ) → i ≤ k → k < i + more → f n k ≡ 0)
+    → IsMarked f n i size owned twice → IsMarked f n (i + more) size owned twice
+mark_skip f n i zero size owned twice none x = subst (λ k. IsMarked f n k size owned twice) (let e : i ≡ i + 0 = omega arith in e) x
+mark_skip f n i (suc more) size owned twice none x =
+    subst (λ k. IsMarked f n k size owned twice) (let e : i + more + 1 ≡ i + suc more = omega arith in e)
+    (mark_none f n (i + more) size owned twice (none (i + more) (omega arith) (omega arith))
+    (mark_skip f n i more size owned twice (λ k ge lt. none k ge (omega (arith, lt))) x))
+
 -- ---- the next inode
 
 module _ (f : ℕ → ℕ → ℕ) (n i : ℕ) (none : (k : ℕ) → i ≤ k → f n k ≡ 0) where
@@ -206,10 +213,10 @@ module _ (p : Place) (m : SectorMap) where
       let x = counted_part m (inode_at p m j) s a in
       let y = counted_part m (inode_at p m k) s b in
       elim (either_before j x.0 k y.0) [
-        | inl first ↦ absurd (none (twice_here kl y.2 (record { inode = j; at = x.0; before = first; is = x.2; some = a.some })))
+        | inl first ↦ absurd (none (twice_here kl y.1 (record { inode = j; at = x.0; before = first; is = x.1; some = a.some })))
         | inr o ↦ elim o [
-          | inl second ↦ absurd (none (twice_here jl x.2 (record { inode = k; at = y.0; before = second; is = y.2; some = a.some })))
-          | inr same ↦ (same.0, x.3 ∙ ap part_at same.1 ∙ sym y.3)
+          | inl second ↦ absurd (none (twice_here jl x.1 (record { inode = k; at = y.0; before = second; is = y.1; some = a.some })))
+          | inr same ↦ (same.0, x.2 ∙ ap part_at same.1 ∙ sym y.2)
         ]
       ]
 
@@ -222,14 +229,6 @@ module _ (p : Place) (m : SectorMap) where
       let both = once y.inode x.inode lower below
       (record { at = part_at y.at; is = y.is; some = y.some }) (record { at = part_at x.at; is = x.is; some = y.some }) in
       not_itself y.inode x.inode y.at x.at both.0 (part_at-injective y.at x.at both.1) y.before
-
--- the sector of pointers is one of the disk, or there is none
-pub indirect_on_disk : (size : ℕ) (image : SectorMap) (p : Place) (m : SectorMap) (v : Inode) → IsPlaceOf size image p → ((s : ℕ) → Owns m v s → IsData p s)
-    → v.indirect < size
-indirect_on_disk size image p m v at in_data = elim (cases_eq v.indirect 0) [
-  | inl none ↦ (let many = many_sectors size image (record { place = p; is = at }) in omega (arith, none, many))
-  | inr some ↦ (let below = (in_data v.indirect (owns_indirect m v some)).1 in let same = place_size size image p at in omega (arith, below, same))
-]
 
 -- maps that say nothing yet
 pub none_marked : (f : ℕ → ℕ → ℕ) (size : ℕ) (owned twice : List Bool) → length owned ≡ size → length twice ≡ size
@@ -286,6 +285,6 @@ module _ (p : Place) (m : SectorMap) (owned twice : List Bool) (x : IsMarked (ow
       (λ o.
           let y = counted_part m (inode_at p m o.by) s o.is in
           ap (λ l. get_or l s false) same
-          ∙ (x.once s lt).1 (record { inode = o.by; at = y.0; before = inl o.below; is = y.2; some = o.is.some })),
+          ∙ (x.once s lt).1 (record { inode = o.by; at = y.0; before = inl o.below; is = y.1; some = o.is.some })),
     );
   }

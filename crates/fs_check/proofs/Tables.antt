@@ -10,9 +10,10 @@ use Rattle.fs_layout.specs.declared.inode.Kind.TheVariants.{Free, Directory}
 use Rattle.fs_layout.specs.declared.place.Place.{Place}
 use Rattle.fs_layout.specs.Bytes.{SectorMap, window}
 use Rattle.fs_layout.specs.Inode.{inode_of}
+use Rattle.fs_layout.specs.Version.{max_file_size}
 use Rattle.fs_layout.specs.Images.{stored, inode_at, inode_or_free}
 use Rattle.fs_layout.proofs.Places.{place_is_place}
-use Rattle.fs_model.specs.Rules.{IsPlaceOf, IsGoodInode}
+use Rattle.fs_model.specs.Rules.{IsPlaceOf, IsAllowed, IsGoodInode}
 use Rattle.fs_check.proofs.Openings.{place_size}
 
 -- where inode n stands
@@ -39,21 +40,22 @@ there : (p : Place) (m : SectorMap) (n : ℕ) (content : List ℕ) → content �
 unfolding stored
 there p m n content e = ap (λ (s : List ℕ). window s (INODE_SIZE * (n % 4)) INODE_SIZE) e
 
-pub good_is : (p : Place) (m : SectorMap) (n : ℕ) (content : List ℕ) (o : Option Inode) → content ≡ m (p.table + n / 4)
-    → IfSome o (λ v. inode_of (window content (INODE_SIZE * (n % 4)) INODE_SIZE) ≡ Ok v) → IfSome o (λ v. n ≡ 0 → v.kind ≡ Free) → IfSome o (λ v. n ≡ 1 → v.kind ≡ Directory)
-    → IfNone o ((v : Inode) → inode_of (window content (INODE_SIZE * (n % 4)) INODE_SIZE) ≡ Ok v → (n ≡ 0 → v.kind ≡ Free) → (n ≡ 1 → v.kind ≡ Directory) → ⊥)
+pub good_is : (p : Place) (m : SectorMap) (n limit : ℕ) (content : List ℕ) (o : Option Inode) → limit ≡ max_file_size p.version → content ≡ m (p.table + n / 4)
+    → IfSome o (λ v. inode_of (window content (INODE_SIZE * (n % 4)) INODE_SIZE) ≡ Ok v) → IfSome o (λ v. IsAllowed limit v) → IfSome o (λ v. n ≡ 0 → v.kind ≡ Free) → IfSome o (λ v. n ≡ 1 → v.kind ≡ Directory)
+    → IfNone o ((v : Inode) → inode_of (window content (INODE_SIZE * (n % 4)) INODE_SIZE) ≡ Ok v → IsAllowed limit v → (n ≡ 0 → v.kind ≡ Free) → (n ≡ 1 → v.kind ≡ Directory) → ⊥)
     → MatchOption o (IsGoodInode p m n → ⊥) (λ v. IsGoodInode p m n × (v ≡ inode_at p m n))
-good_is p m n content (Some v) e is free top none =
+good_is p m n limit content (Some v) most e is allowed free top none =
     let read : inode_of (stored p m n) ≡ Ok v = ap inode_of (sym (there p m n content e)) ∙ is in
     let same : inode_at p m n ≡ v = at_is p m n v read in (
       record {
         is = read ∙ ap (λ u. Ok u) (sym same);
+        allowed = subst (IsAllowed (max_file_size p.version)) (sym same) (subst (λ k. IsAllowed k v) most allowed);
         none = λ z. ap (λ (u : Inode). u.kind) same ∙ free z;
         top = λ z. ap (λ (u : Inode). u.kind) same ∙ top z;
       },
       sym same,
     )
-good_is p m n content None e is free top none = λ good. none (inode_at p m n) (ap inode_of (there p m n content e) ∙ good.is) good.none good.top
+good_is p m n limit content None most e is allowed free top none = λ good. none (inode_at p m n) (ap inode_of (there p m n content e) ∙ good.is) (subst (λ k. IsAllowed k (inode_at p m n)) (sym most) good.allowed) good.none good.top
 
 -- one more in a vector
 pub more_there : {A : Type 0} (xs ys : List A) (x d : A) (what : ℕ → A) (n : ℕ) → ys ≡ xs ++ x ∷ [] → length xs ≡ n

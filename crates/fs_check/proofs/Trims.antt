@@ -6,17 +6,11 @@ use Rattle.std.proofs.lemmas.Bool.{cases_eq, cases_lt}
 use Rattle.std.proofs.lemmas.List.{get_or-drop, get_or-take, length-drop, length-take-le}
 use Rattle.fs_layout.specs.declared.inode.Kind.TheVariants as kinds
 use Rattle.fs_layout.specs.declared.inode.Inode.{Inode}
-use Rattle.fs_layout.specs.declared.inode.Kind.{Kind}
 use Rattle.fs_layout.specs.declared.place.Place.{Place}
-use Rattle.fs_layout.specs.declared.fault.LayoutFault.TheVariants.{BadNumber, NotZero}
-use Rattle.fs_layout.specs.Bytes.{SectorMap, u16_of, are_zero}
-use Rattle.fs_layout.specs.Inode.{inode_of, inode_if, inode_fits, kind_of, fields_of, fields_end}
-use Rattle.fs_layout.specs.Images.{stored, inode_at, pointer, byte_in, byte_at, Owns, IsData}
-use Rattle.fs_layout.proofs.Codecs.{held, same_ok}
+use Rattle.fs_layout.specs.Bytes.{SectorMap}
+use Rattle.fs_layout.specs.Images.{pointer, byte_in, byte_at, Owns, IsData}
 use Rattle.fs_layout.proofs.Parts.{byte_in_is, owns_block}
-use Rattle.fs_layout.proofs.Pointers.{trims, trimmed_indirect}
-use Rattle.fs_model.specs.Rules.{Inodes, ObeysBefore, IsPlaceOf, IsLaidOut}
-use Rattle.fs_model.proofs.BuiltNodes.{link_fits}
+use Rattle.fs_model.specs.Rules.{IsPlaceOf, IsLaidOut}
 use Rattle.fs_check.specs.LastBlocks.{last_block, last_bytes, FitPointers, FitsLast}
 use Rattle.fs_check.proofs.Openings.{place_size}
 
@@ -62,14 +56,14 @@ module _ (m : SectorMap) (v : Inode) (fit : FitPointers m v) where
   -- a block past the size has no byte but zeros
   past_byte : (i : ℕ) → v.size ≤ 512 * (i / 512) → byte_at m v i ≡ 0
   unfolding byte_at
-  past_byte i ge = ap (λ s. byte_in m s (i % 512)) (fit.trim (i / 512) ge)
+  past_byte i ge = ap (λ s. byte_in m s (i % 512)) (fit.trim 0 (i / 512) ge)
 
   -- the last block has no sector
   pub laid_out_hole : (s : ℕ) → s ≡ pointer m v (last_block v) → s ≡ 0 → IsTrue true ↔ IsLaidOut m v
   unfolding byte_at
   laid_out_hole s is none = (
     (λ t. record {
-      trim = trims m v fit.trim fit.trim_pointers;
+      trim = fit.trim;
       rest = λ i ge. elim (cases_lt (512 * (i / 512)) v.size) [
         | inl lt ↦
             let here : i / 512 ≡ last_block v = omega (arith, ge, lt) in
@@ -88,7 +82,7 @@ module _ (m : SectorMap) (v : Inode) (fit : FitPointers m v) where
   module _ (s : ℕ) (content : List ℕ) (is : s ≡ pointer m v (last_block v)) (some : s ≢ 0) (read : m s ≡ content) where
     some_size : 0 < v.size
     some_size = elim (cases_eq v.size 0) [
-      | inl none ↦ absurd (some (is ∙ fit.trim (last_block v) (omega (arith, none))))
+      | inl none ↦ absurd (some (is ∙ fit.trim 0 (last_block v) (omega (arith, none))))
       | inr ne ↦ omega (arith, ne)
     ]
 
@@ -104,7 +98,7 @@ module _ (m : SectorMap) (v : Inode) (fit : FitPointers m v) where
           (λ t.
               let f = test.0 t in
               record {
-                trim = trims m v fit.trim fit.trim_pointers;
+                trim = fit.trim;
                 rest = λ i ge. elim (cases_lt (512 * (i / 512)) v.size) [
                   | inl lt ↦
                       let here : i / 512 ≡ last_block v = omega (arith, ge, lt) in
@@ -137,7 +131,7 @@ module _ (m : SectorMap) (v : Inode) (fit : FitPointers m v) where
 pub not_fit : (m : SectorMap) (v : Inode) (r : Bool) → r ≡ false → (IsTrue r ↔ FitPointers m v) → IsTrue false ↔ IsLaidOut m v
 not_fit m v r bad test = (
   (λ f. absurd (let c : false ≡ true = f in cc)),
-  (λ out. sym bad ∙ test.1 (record { trim = λ k le. out.trim 0 k le; trim_pointers = trimmed_indirect m v out.trim; whole = out.whole })),
+  (λ out. sym bad ∙ test.1 (record { trim = out.trim; whole = out.whole })),
 )
 
 -- a block's sector is one of the disk
@@ -147,22 +141,3 @@ block_on_disk size image p m v k s at in_data is some =
     let below = (in_data (pointer m v k) (owns_block m v k (λ z. some (is ∙ z)))).1 in
     let same = place_size size image p at in
     omega (arith, below, same, is)
-
--- ---- a link's size
-
-fits_if : (o : Option Kind) (s : List ℕ) (v : Inode) → inode_if o s ≡ Ok v → inode_fits v ≡ true
-fits_if None s v e = absurd cc
-fits_if (Some kind) s v e =
-    let a = held (inode_fits (fields_of kind s)) (cond (are_zero (drop (fields_end kind) s)) (Ok (fields_of kind s)) (Err NotZero)) BadNumber v e in
-    let b = held (are_zero (drop (fields_end kind) s)) (Ok (fields_of kind s)) NotZero v a.1 in
-    let same : fields_of kind s ≡ v = same_ok (fields_of kind s) v (Ok (fields_of kind s)) refl b.1 in
-    sym (ap inode_fits same) ∙ a.0
-
-fits_of : (s : List ℕ) (v : Inode) → inode_of s ≡ Ok v → inode_fits v ≡ true
-unfolding inode_of
-fits_of s v e = fits_if (kind_of (u16_of s 0)) s v e
-
-pub short_link : (p : Place) (m : SectorMap) (n : ℕ) → ObeysBefore p m 8 → n < p.inodes
-    → (inode_at p m n).kind ≡ kinds.Link → (inode_at p m n).size ≤ 512
-short_link p m n before lt link =
-    (link_fits (inode_at p m n) link (fits_of (stored p m n) (inode_at p m n) (before Inodes (omega arith) n lt).is)).2

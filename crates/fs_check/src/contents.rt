@@ -1,58 +1,59 @@
 //! What stands in blocks.
 
 ghost use Rattle.std.specs.Prelude.{◌≡◌, ◌≢◌, ◌≤◌, ◌<◌, ◌+◌, ◌*◌, ℕ, length, get_or, OnOk, IfOk, IsTrue, ◌↔◌};
-ghost use Rattle.fs_layout.specs.declared.inode.Kind.TheVariants.{Link as ALink};
 ghost use Rattle.fs_layout.specs.Bytes.{SectorMap};
-ghost use Rattle.fs_layout.specs.declared.inode.TheConstants.{MAX_BLOCKS, MAX_LINK_SIZE};
-ghost use Rattle.fs_layout.specs.Images.{pointer, HasPointers, Owns, IsData};
+ghost use Rattle.fs_layout.specs.Images.{HasPointers, Owns, IsData};
 ghost use Rattle.fs_model.specs.Rules.{ObeysEach, ObeysBefore, LaidOut, IsLaidOut};
-ghost use Rattle.fs_check.specs.LastBlocks.{last_block, FitsPointer, FitPointers, FitsLast};
+ghost use Rattle.fs_check.specs.LastBlocks.{last_block, HasSize, FitsPointer, FitBlocks, FitSectors, FitPointers, FitsLast};
+ghost use Rattle.fs_check.specs.Owning.{AreListed};
 ghost use Rattle.fs_check.specs.Checks.{meaning, BeginsWith, AreInodes, Passed, IsNone, IsLeast};
 
 use crate::faults::{CheckFault, Checked, Finding};
 use crate::opening::Opened;
-use crate::owning::read_pointers;
+use crate::owning::{pointers_end, read_listed};
 use crate::reading::read_recovered;
-use fs_layout::{DIRECT_SIZE, Inode, Kind};
+use fs_layout::{DIRECT_BLOCKS, INDIRECT_END, Inode, Kind, SECTOR_POINTERS};
 use sector_disk::Disk;
 
 const LAID_OUT: u8 = 8;
 
 // The number s of block k goes with the size.
 fn fits_pointer(inode: &Inode, k: u64, s: u32) -> bool
-    requires { k < MAX_BLOCKS }
     ensures { IsTrue result ↔ FitsPointer inode.now k s }
 {
-    if inode.size <= 512 * k {
+    if inode.size.div_ceil(512) <= k {
         return s == 0;
     }
     s != 0 || inode.kind == Kind::File
 }
 
-// The pointers go with the size; `content` is that of the inode's sector of pointers, zeros if it has none.
-fn fit_pointers(inode: &Inode, content: &[u8; 512]) -> bool
-    ensures { (m : SectorMap) → HasPointers m inode.now content.now → IsTrue result ↔ FitPointers m inode.now }
+// The numbers of the blocks from `first` up to `end` go with the size; `content` is that of the sector of pointers in which they
+// stand, if they don't stand in the inode.
+fn fit_blocks(inode: &Inode, content: &[u8; 512], first: u64, end: u64) -> bool
+    ensures { (m : SectorMap) → AreListed m inode.now content.now 0 first end → IsTrue result ↔ FitBlocks m inode.now first end }
 {
-    let end = inode.block_end();
-    if inode.indirect != 0 && inode.size <= DIRECT_SIZE {
-        return false;
-    }
-    if inode.kind != Kind::File && 512 * end < inode.size {
-        return false;
-    }
-    for k in 0..end {
-        if !fits_pointer(inode, k, inode.block_number(content, k)) {
+    for k in first..end {
+        if !fits_pointer(inode, k, inode.number(0, content, k)) {
             return false;
         }
     }
     true
 }
 
-// The sector of the last block, or 0; `content` is that of the inode's sector of pointers, zeros if it has none.
-fn last_sector(inode: &Inode, content: &[u8; 512]) -> u32
-    ensures { (m : SectorMap) → HasPointers m inode.now content.now → result ≡ pointer m inode.now (last_block inode.now) }
+// No sector of pointers is past the size; `listed` is the content of the double indirect sector, zeros where there is none.
+fn fit_sectors(inode: &Inode, listed: &[u8; 512]) -> bool
+    ensures { (m : SectorMap) → HasPointers m inode.now 2 0 listed.now → IsTrue result ↔ FitSectors m inode.now }
 {
-    inode.block_number(content, inode.size.saturating_sub(1) / 512)
+    if inode.double_indirect != 0 && inode.size <= 512 * INDIRECT_END {
+        return false;
+    }
+    for i in 0..pointers_end(inode) {
+        let first = DIRECT_BLOCKS + SECTOR_POINTERS * i;
+        if inode.size <= 512 * first && inode.number(1, listed, i) != 0 {
+            return false;
+        }
+    }
+    true
 }
 
 fn are_zero(bytes: &[u8]) -> bool
@@ -78,23 +79,56 @@ fn fits_last(inode: &Inode, content: &[u8; 512]) -> bool
     inode.kind != Kind::Link || has_no_zero(&content[..end])
 }
 
+// The numbers of the inode go with its size; `content` is then that of the sector of pointers in which the number of its last
+// block stands, if that doesn't stand in the inode.
+fn fit_pointers<D: Disk>(
+    disk: &mut D,
+    opened: &Opened,
+    inode: &Inode,
+    content: &mut [u8; 512],
+) -> Checked<bool>
+    requires opened { BeginsWith (D.state disk.old) opened.now.place opened.now.commit }
+    requires in_data { (s : ℕ) → Owns (meaning (D.state disk.old)) inode.now s → IsData opened.now.place s }
+    requires size { HasSize inode.now }
+    ensures test { IfOk result (λ b. IsTrue b ↔ FitPointers (meaning (D.state disk.old)) inode.now) }
+    ensures content { IfOk result (λ b. IsTrue b
+        → AreListed (meaning (D.state disk.old)) inode.now content.new 0 (last_block inode.now) (last_block inode.now + 1)) }
+    ensures passed { Passed IsNone (D.state disk.old) (D.state disk.new) result }
+{
+    read_listed(disk, opened, inode, 2, 0, content)?;
+    if !fit_sectors(inode, content) {
+        return Ok(false);
+    }
+    if !fit_blocks(inode, content, 0, DIRECT_BLOCKS) {
+        return Ok(false);
+    }
+    let k = inode.size.saturating_sub(1) / 512;
+    if k < DIRECT_BLOCKS {
+        return Ok(true);
+    }
+    let i = (k - DIRECT_BLOCKS) / SECTOR_POINTERS;
+    read_listed(disk, opened, inode, 1, i, content)?;
+    let first = DIRECT_BLOCKS + SECTOR_POINTERS * i;
+    let end = DIRECT_BLOCKS + SECTOR_POINTERS * (i + 1);
+    Ok(fit_blocks(inode, content, first, end))
+}
+
 // What the inode holds goes with its size.
 fn is_laid_out<D: Disk>(disk: &mut D, opened: &Opened, inode: &Inode) -> Checked<bool>
     requires opened { BeginsWith (D.state disk.old) opened.now.place opened.now.commit }
     requires in_data { (s : ℕ) → Owns (meaning (D.state disk.old)) inode.now s → IsData opened.now.place s }
-    requires short { inode.now.kind ≡ ALink → inode.now.size ≤ MAX_LINK_SIZE }
+    requires size { HasSize inode.now }
     ensures test { IfOk result (λ b. IsTrue b ↔ IsLaidOut (meaning (D.state disk.old)) inode.now) }
     ensures passed { Passed IsNone (D.state disk.old) (D.state disk.new) result }
 {
-    let pointers = read_pointers(disk, opened, inode)?;
-    if !fit_pointers(inode, &pointers) {
+    let mut content = [0; 512];
+    if !fit_pointers(disk, opened, inode, &mut content)? {
         return Ok(false);
     }
-    let last = last_sector(inode, &pointers);
+    let last = inode.number(0, &content, inode.size.saturating_sub(1) / 512);
     if last == 0 {
         return Ok(true);
     }
-    let mut content = [0; 512];
     read_recovered(disk, opened, last, &mut content)?;
     Ok(fits_last(inode, &content))
 }

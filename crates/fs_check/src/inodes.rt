@@ -1,33 +1,47 @@
 //! The inode table.
 
-ghost use Rattle.std.specs.Prelude.{◌≡◌, ◌≢◌, ◌*◌, ◌%◌, OnOk, IfOk, IfSome, IfNone, Ok};
+ghost use Rattle.std.specs.Prelude.{◌≡◌, ◌≢◌, ◌*◌, ◌%◌, IsTrue, ◌↔◌, OnOk, IfOk, IfSome, IfNone, Ok};
 ghost use Rattle.fs_layout.specs.declared.inode.Inode.{Inode as AnInode};
 ghost use Rattle.fs_layout.specs.declared.inode.Kind.TheVariants.{Free, Directory};
 ghost use Rattle.fs_layout.specs.Bytes.{window};
 ghost use Rattle.fs_layout.specs.Inode.{inode_of};
-ghost use Rattle.fs_model.specs.Rules.{ObeysEach, Inodes};
+ghost use Rattle.fs_model.specs.Rules.{IsAllowed, ObeysEach, Inodes};
 ghost use Rattle.fs_check.specs.Checks.{meaning, BeginsWith, AreInodes, Passed, IsNone, IsLeast};
 ghost use Rattle.fs_check.specs.TableSectors.{IsTableSector};
 
 use crate::faults::{CheckFault, Checked, Finding};
 use crate::opening::Opened;
 use crate::reading::read_recovered;
-use fs_layout::{INODE_SIZE, Inode, Kind};
+use fs_layout::{INDIRECT_END, INODE_SIZE, Inode, Kind};
 use sector_disk::Disk;
 
 const INODES: u8 = 4;
 
-// Inode n of its table sector, where it is a good one.
-fn good_inode(content: &[u8; 512], n: u32) -> Option<Inode>
+// The inode is one of a disk on which files have at most so many bytes.
+fn is_allowed(inode: &Inode, limit: u64) -> bool
+    ensures { IsTrue result ↔ IsAllowed limit inode.now }
+{
+    if inode.kind == Kind::File && limit < inode.size {
+        return false;
+    }
+    inode.double_indirect == 0 || 512 * INDIRECT_END < limit
+}
+
+// Inode n of its table sector, where it is a good one of a disk on which files have at most so many bytes.
+fn good_inode(content: &[u8; 512], n: u32, limit: u64) -> Option<Inode>
     ensures is { IfSome result (λ v. inode_of (window content.now (INODE_SIZE * (n % 4)) INODE_SIZE) ≡ Ok v) }
+    ensures allowed { IfSome result (λ v. IsAllowed limit v) }
     ensures free { IfSome result (λ v. n ≡ 0 → v.kind ≡ Free) }
     ensures top { IfSome result (λ v. n ≡ 1 → v.kind ≡ Directory) }
     ensures none { IfNone result ((v : AnInode) → inode_of (window content.now (INODE_SIZE * (n % 4)) INODE_SIZE) ≡ Ok v
-        → (n ≡ 0 → v.kind ≡ Free) → (n ≡ 1 → v.kind ≡ Directory) → ⊥) }
+        → IsAllowed limit v → (n ≡ 0 → v.kind ≡ Free) → (n ≡ 1 → v.kind ≡ Directory) → ⊥) }
 {
     let Ok(inode) = Inode::read_from(content, INODE_SIZE * (n as usize % 4)) else {
         return None;
     };
+    if !is_allowed(&inode, limit) {
+        return None;
+    }
     if n == 0 && inode.kind != Kind::Free {
         return None;
     }
@@ -72,7 +86,7 @@ pub(crate) fn read_inodes<D: Disk>(disk: &mut D, opened: &Opened) -> Checked<Vec
     let mut table = [0; 512];
     for n in 0..opened.place.inodes {
         read_table(disk, opened, n, &mut table)?;
-        match good_inode(&table, n) {
+        match good_inode(&table, n, opened.place.max_file_size()) {
             Some(inode) => inodes.push(inode)?,
             None => {
                 return Err(CheckFault::Found(Finding {

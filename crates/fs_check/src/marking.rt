@@ -1,16 +1,17 @@
 //! Who owns which sector.
 
-ghost use Rattle.std.specs.Prelude.{◌≡◌, ◌≢◌, ◌<◌, ◌+◌, ◌^◌, ℕ, true, false, length, get_or, OnOk, IfOk, IfSome, IfNone, MatchOption};
+ghost use Rattle.std.specs.Prelude.{◌≡◌, ◌≢◌, ◌≤◌, ◌<◌, ◌+◌, ◌*◌, ◌^◌, ℕ, true, false, length, get_or, OnOk, IfOk, IfSome, IfNone, IsTrue, ◌↔◌, MatchOption};
+ghost use Rattle.fs_layout.specs.declared.inode.TheConstants.{DIRECT_BLOCKS, SECTOR_POINTERS, MAX_BLOCKS};
 ghost use Rattle.fs_layout.specs.Bytes.{SectorMap};
-ghost use Rattle.fs_layout.specs.Images.{HasPointers, part};
+ghost use Rattle.fs_layout.specs.Images.{HasPointers, IsData, inode_at, number_on};
 ghost use Rattle.fs_model.specs.Rules.{ObeysEach, IsLeastFailure, InData, OwnedOnce};
-ghost use Rattle.fs_check.specs.Owning.{part_at, owned_part, OwnsData, IsMarked};
-ghost use Rattle.fs_check.specs.Checks.{meaning, BeginsWith, AreInodes, IsOwnerMap, Passed, IsLeast};
+ghost use Rattle.fs_check.specs.Owning.{AreListed, AreInData, HasTopInData, OwnsData, level_end, first_part, owned_part, IsMarked};
+ghost use Rattle.fs_check.specs.Checks.{meaning, BeginsWith, AreInodes, IsOwnerMap, Passed, IsNone, IsLeast};
 
 use crate::faults::{CheckFault, Checked, Finding};
 use crate::opening::Opened;
-use crate::owning::{PARTS, part_number, pointers_in_data};
-use fs_layout::{Inode, Place};
+use crate::owning::{is_data, pointers_end, read_listed};
+use fs_layout::{DIRECT_BLOCKS, Inode, Place, SECTOR_POINTERS};
 use sector_disk::Disk;
 
 const IN_DATA: u8 = 5;
@@ -24,44 +25,228 @@ pub(crate) struct Owners {
     pub twice: Option<u32>,
 }
 
-// One more owner of a sector; 0 is none.
+// The numbers of a level from `first` up to `end`.
+#[derive(Clone, Copy)]
+struct Numbers {
+    level: usize,
+    first: u64,
+    end: u64,
+}
+
+// One more owner of a sector.
 fn mark(owned: &mut [bool], twice: &mut [bool], s: u32)
-    requires owned { s ≢ 0 → s < length owned.old }
-    requires twice { s ≢ 0 → s < length twice.old }
+    requires some { s ≢ 0 }
+    requires owned { s < length owned.old }
+    requires twice { s < length twice.old }
     ensures marked { (f : ℕ → ℕ → ℕ) (n i size : ℕ) → f n i ≡ s → IsMarked f n i size owned.old twice.old
         → IsMarked f n (i + 1) size owned.new twice.new }
     ensures owned_len { length owned.new ≡ length owned.old }
     ensures twice_len { length twice.new ≡ length twice.old }
 {
-    if s == 0 {
-        return;
-    }
     if owned[s as usize] {
         twice[s as usize] = true;
     }
     owned[s as usize] = true;
 }
 
-// Marks what an inode owns; `content` is that of its sector of pointers.
-fn mark_inode(
-    place: Place,
-    inode: &Inode,
-    content: &[u8; 512],
-    owned: &mut [bool],
-    twice: &mut [bool],
-)
+// Marks a sector that an inode has for something; 0 is none. Not one outside the data area.
+fn mark_number(place: Place, s: u32, owned: &mut [bool], twice: &mut [bool]) -> bool
     requires owned { length owned.old ≡ place.sectors }
     requires twice { length twice.old ≡ place.sectors }
-    requires in_data { (m : SectorMap) × HasPointers m inode.now content.now × OwnsData place m inode.now }
-    ensures marked { (m : SectorMap) (f : ℕ → ℕ → ℕ) (n : ℕ) → HasPointers m inode.now content.now
-        → ((i : ℕ) → f n i ≡ part m inode.now (part_at i))
-        → IsMarked f n 0 place.sectors owned.old twice.old → IsMarked f (n + 1) 0 place.sectors owned.new twice.new }
+    ensures test { IsTrue result ↔ (s ≢ 0 → IsData place s) }
+    ensures marked { IsTrue result → (f : ℕ → ℕ → ℕ) (n i : ℕ) → f n i ≡ s → IsMarked f n i place.sectors owned.old twice.old
+        → IsMarked f n (i + 1) place.sectors owned.new twice.new }
     ensures owned_len { length owned.new ≡ place.sectors }
     ensures twice_len { length twice.new ≡ place.sectors }
 {
-    for i in 0..PARTS {
-        mark(owned, twice, part_number(inode, content, i));
+    if s == 0 {
+        return true;
     }
+    if !is_data(place, s) {
+        return false;
+    }
+    mark(owned, twice, s);
+    true
+}
+
+// Marks sectors whose numbers stand in the inode, or in the sector of pointers with this content. Not where one is outside the
+// data area.
+fn mark_listed(
+    place: Place,
+    inode: &Inode,
+    content: &[u8; 512],
+    numbers: Numbers,
+    owned: &mut [bool],
+    twice: &mut [bool],
+) -> bool
+    requires level { numbers.level ≤ 2 }
+    requires order { numbers.first ≤ numbers.end }
+    requires few { numbers.end ≤ level_end numbers.level }
+    requires owned { length owned.old ≡ place.sectors }
+    requires twice { length twice.old ≡ place.sectors }
+    ensures test { (m : SectorMap) → AreListed m inode.now content.now numbers.level numbers.first numbers.end
+        → IsTrue result ↔ AreInData place m inode.now numbers.level numbers.first numbers.end }
+    ensures marked { IsTrue result → (m : SectorMap) (n : ℕ) → inode.now ≡ inode_at place m n
+        → AreListed m inode.now content.now numbers.level numbers.first numbers.end
+        → IsMarked (owned_part place m) n (first_part numbers.level + numbers.first) place.sectors owned.old twice.old
+        → IsMarked (owned_part place m) n (first_part numbers.level + numbers.end) place.sectors owned.new twice.new }
+    ensures owned_len { length owned.new ≡ place.sectors }
+    ensures twice_len { length twice.new ≡ place.sectors }
+{
+    for i in numbers.first..numbers.end {
+        if !mark_number(
+            place,
+            inode.number(numbers.level, content, i),
+            owned,
+            twice,
+        ) {
+            return false;
+        }
+    }
+    true
+}
+
+// Marks the blocks whose numbers stand in number j of the sectors of pointers to blocks. Not where one is outside the data area.
+// `listed` is the content of the double indirect sector, zeros where there is none.
+fn mark_sector<D: Disk>(
+    disk: &mut D,
+    opened: &Opened,
+    inode: &Inode,
+    listed: &[u8; 512],
+    j: u64,
+    owned: &mut [bool],
+    twice: &mut [bool],
+) -> Checked<bool>
+    requires opened { BeginsWith (D.state disk.old) opened.now.place opened.now.commit }
+    requires listed { HasPointers (meaning (D.state disk.old)) inode.now 2 0 listed.now }
+    requires in_data { AreInData opened.now.place (meaning (D.state disk.old)) inode.now 1 0 (1 + SECTOR_POINTERS) }
+    requires few { j ≤ SECTOR_POINTERS }
+    requires owned { length owned.old ≡ opened.now.place.sectors }
+    requires twice { length twice.old ≡ opened.now.place.sectors }
+    ensures test { IfOk result (λ b. IsTrue b ↔ AreInData opened.now.place (meaning (D.state disk.old)) inode.now 0
+        (DIRECT_BLOCKS + SECTOR_POINTERS * j) (DIRECT_BLOCKS + SECTOR_POINTERS * (j + 1))) }
+    ensures marked { IfOk result (λ b. IsTrue b → (n : ℕ) → inode.now ≡ inode_at opened.now.place (meaning (D.state disk.old)) n
+        → IsMarked (owned_part opened.now.place (meaning (D.state disk.old))) n (first_part 0 + (DIRECT_BLOCKS + SECTOR_POINTERS * j))
+            opened.now.place.sectors owned.old twice.old
+        → IsMarked (owned_part opened.now.place (meaning (D.state disk.old))) n (first_part 0 + (DIRECT_BLOCKS + SECTOR_POINTERS * (j + 1)))
+            opened.now.place.sectors owned.new twice.new) }
+    ensures owned_len { length owned.new ≡ opened.now.place.sectors }
+    ensures twice_len { length twice.new ≡ opened.now.place.sectors }
+    ensures passed { Passed IsNone (D.state disk.old) (D.state disk.new) result }
+{
+    if inode.number(1, listed, j) == 0 {
+        return Ok(true);
+    }
+    let mut content = *listed;
+    read_listed(disk, opened, inode, 1, j, &mut content)?;
+    let numbers = Numbers {
+        level: 0,
+        first: DIRECT_BLOCKS + SECTOR_POINTERS * j,
+        end: DIRECT_BLOCKS + SECTOR_POINTERS * (j + 1),
+    };
+    Ok(mark_listed(
+        opened.place,
+        inode,
+        &content,
+        numbers,
+        owned,
+        twice,
+    ))
+}
+
+// Marks the blocks of an inode whose sectors of pointers are in the data area. Not where a block is outside of it. `listed` is the
+// content of the double indirect sector, zeros where there is none.
+fn mark_blocks<D: Disk>(
+    disk: &mut D,
+    opened: &Opened,
+    inode: &Inode,
+    listed: &[u8; 512],
+    owned: &mut [bool],
+    twice: &mut [bool],
+) -> Checked<bool>
+    requires opened { BeginsWith (D.state disk.old) opened.now.place opened.now.commit }
+    requires listed { HasPointers (meaning (D.state disk.old)) inode.now 2 0 listed.now }
+    requires in_data { AreInData opened.now.place (meaning (D.state disk.old)) inode.now 1 0 (1 + SECTOR_POINTERS) }
+    requires owned { length owned.old ≡ opened.now.place.sectors }
+    requires twice { length twice.old ≡ opened.now.place.sectors }
+    ensures test { IfOk result (λ b. IsTrue b ↔ AreInData opened.now.place (meaning (D.state disk.old)) inode.now 0 0 MAX_BLOCKS) }
+    ensures marked { IfOk result (λ b. IsTrue b → (n : ℕ) → inode.now ≡ inode_at opened.now.place (meaning (D.state disk.old)) n
+        → IsMarked (owned_part opened.now.place (meaning (D.state disk.old))) n (first_part 0) opened.now.place.sectors owned.old twice.old
+        → IsMarked (owned_part opened.now.place (meaning (D.state disk.old))) (n + 1) 0 opened.now.place.sectors owned.new twice.new) }
+    ensures owned_len { length owned.new ≡ opened.now.place.sectors }
+    ensures twice_len { length twice.new ≡ opened.now.place.sectors }
+    ensures passed { Passed IsNone (D.state disk.old) (D.state disk.new) result }
+{
+    let direct = Numbers {
+        level: 0,
+        first: 0,
+        end: DIRECT_BLOCKS,
+    };
+    if !mark_listed(opened.place, inode, listed, direct, owned, twice) {
+        return Ok(false);
+    }
+    for j in 0..pointers_end(inode) {
+        if !mark_sector(disk, opened, inode, listed, j, owned, twice)? {
+            return Ok(false);
+        }
+    }
+    Ok(true)
+}
+
+// Marks the ACLs and the double indirect sector of an inode. Not where one is outside the data area.
+fn mark_top(place: Place, inode: &Inode, owned: &mut [bool], twice: &mut [bool]) -> bool
+    requires owned { length owned.old ≡ place.sectors }
+    requires twice { length twice.old ≡ place.sectors }
+    ensures test { IsTrue result ↔ HasTopInData place inode.now }
+    ensures marked { IsTrue result → (m : SectorMap) (n : ℕ) → inode.now ≡ inode_at place m n
+        → IsMarked (owned_part place m) n 0 place.sectors owned.old twice.old
+        → IsMarked (owned_part place m) n (first_part 1) place.sectors owned.new twice.new }
+    ensures owned_len { length owned.new ≡ place.sectors }
+    ensures twice_len { length twice.new ≡ place.sectors }
+{
+    if !mark_number(place, inode.acl, owned, twice) {
+        return false;
+    }
+    if !mark_number(place, inode.default_acl, owned, twice) {
+        return false;
+    }
+    mark_number(place, inode.double_indirect, owned, twice)
+}
+
+// Marks what an inode owns, from the top: each sector of pointers is read once, and only where it is in the data area. Not where
+// a sector that the inode owns is outside of it.
+fn mark_inode<D: Disk>(
+    disk: &mut D,
+    opened: &Opened,
+    inode: &Inode,
+    owned: &mut [bool],
+    twice: &mut [bool],
+) -> Checked<bool>
+    requires opened { BeginsWith (D.state disk.old) opened.now.place opened.now.commit }
+    requires owned { length owned.old ≡ opened.now.place.sectors }
+    requires twice { length twice.old ≡ opened.now.place.sectors }
+    ensures test { IfOk result (λ b. IsTrue b ↔ OwnsData opened.now.place (meaning (D.state disk.old)) inode.now) }
+    ensures marked { IfOk result (λ b. IsTrue b → (n : ℕ) → inode.now ≡ inode_at opened.now.place (meaning (D.state disk.old)) n
+        → IsMarked (owned_part opened.now.place (meaning (D.state disk.old))) n 0 opened.now.place.sectors owned.old twice.old
+        → IsMarked (owned_part opened.now.place (meaning (D.state disk.old))) (n + 1) 0 opened.now.place.sectors owned.new twice.new) }
+    ensures owned_len { length owned.new ≡ opened.now.place.sectors }
+    ensures twice_len { length twice.new ≡ opened.now.place.sectors }
+    ensures passed { Passed IsNone (D.state disk.old) (D.state disk.new) result }
+{
+    if !mark_top(opened.place, inode, owned, twice) {
+        return Ok(false);
+    }
+    let mut listed = [0; 512];
+    read_listed(disk, opened, inode, 2, 0, &mut listed)?;
+    let sectors = Numbers {
+        level: 1,
+        first: 0,
+        end: pointers_end(inode),
+    };
+    if !mark_listed(opened.place, inode, &listed, sectors, owned, twice) {
+        return Ok(false);
+    }
+    mark_blocks(disk, opened, inode, &listed, owned, twice)
 }
 
 // The sector that stands twice, and the least.
@@ -98,13 +283,12 @@ fn mark_all<D: Disk>(
 {
     for n in 0..opened.place.inodes {
         let inode = inodes[n as usize];
-        let Some(content) = pointers_in_data(disk, opened, &inode)? else {
+        if !mark_inode(disk, opened, &inode, owned, twice)? {
             return Err(CheckFault::Found(Finding {
                 rule: IN_DATA,
                 at: n,
             }));
-        };
-        mark_inode(opened.place, &inode, &content, owned, twice);
+        }
     }
     Ok(())
 }

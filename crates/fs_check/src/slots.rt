@@ -2,7 +2,7 @@
 
 ghost use Rattle.std.specs.Prelude.{◌≡◌, ◌≢◌, ◌≤◌, ◌<◌, ◌+◌, ◌/◌, ◌%◌, ℕ, length, get_or, OnOk, IfOk, IsTrue, ◌↔◌, MatchOption, All};
 ghost use Rattle.std.specs.List.Sorted.{IsPermutation, IsSortedBy};
-ghost use Rattle.fs_layout.specs.declared.inode.TheConstants.{MAX_DIRECTORY_SIZE};
+ghost use Rattle.fs_layout.specs.declared.inode.TheConstants.{INDIRECT_END, MAX_DIRECTORY_SIZE};
 ghost use Rattle.fs_layout.specs.Images.{IsData, HasPointers, Owns, pointer};
 ghost use Rattle.fs_layout.specs.Directories.{NamedInode, HaveDistinctNames};
 ghost use Rattle.fs_check.specs.Naming.{AreValid, AreSlots, IsUsable, HasGoodSlots, is_below};
@@ -10,7 +10,7 @@ ghost use Rattle.fs_check.specs.Checks.{meaning, BeginsWith, AreInodes, Passed, 
 
 use crate::faults::Checked;
 use crate::opening::Opened;
-use crate::owning::read_pointers;
+use crate::owning::read_listed;
 use crate::reading::read_recovered;
 use fs_layout::{Inode, Kind, ROOT, SLOT_SIZE, Slot};
 use sector_disk::Disk;
@@ -18,7 +18,8 @@ use sector_disk::Disk;
 // The slots of a block.
 const SLOTS: usize = 4;
 
-// Reads the block of slot k, unless the slot before it stands there too; `pointers` is the content of the sector of pointers.
+// Reads the block of slot k, unless the slot before it stands there too; `pointers` is the content of the
+// indirect sector, zeros where there is none.
 fn read_block_of<D: Disk>(
     disk: &mut D,
     opened: &Opened,
@@ -28,14 +29,15 @@ fn read_block_of<D: Disk>(
     block: &mut [u8; 512],
 ) -> Checked<()>
     requires opened { BeginsWith (D.state disk.old) opened.now.place opened.now.commit }
-    requires pointers { HasPointers (meaning (D.state disk.old)) inode.now pointers.now }
+    requires pointers { HasPointers (meaning (D.state disk.old)) inode.now 1 0 pointers.now }
+    requires few { k / 4 < INDIRECT_END }
     requires in_data { (s : ℕ) → Owns (meaning (D.state disk.old)) inode.now s → IsData opened.now.place s }
     requires before { k % 4 ≢ 0 → block.old ≡ meaning (D.state disk.old) (pointer (meaning (D.state disk.old)) inode.now (k / 4)) }
     ensures content { OnOk result (block.new ≡ meaning (D.state disk.old) (pointer (meaning (D.state disk.old)) inode.now (k / 4))) }
     ensures passed { Passed IsNone (D.state disk.old) (D.state disk.new) result }
 {
     if k % SLOTS == 0 {
-        let s = inode.block_number(pointers, (k / SLOTS) as u64);
+        let s = inode.number(0, pointers, (k / SLOTS) as u64);
         read_recovered(disk, opened, s, block)?;
     }
     Ok(())
@@ -51,7 +53,8 @@ fn read_slots<D: Disk>(disk: &mut D, opened: &Opened, inode: &Inode) -> Checked<
     ensures passed { Passed IsNone (D.state disk.old) (D.state disk.new) result }
 {
     let count = inode.size as usize / SLOT_SIZE;
-    let pointers = read_pointers(disk, opened, inode)?;
+    let mut pointers = [0; 512];
+    read_listed(disk, opened, inode, 1, 0, &mut pointers)?;
     let mut slots = Vec::with_capacity(opened.alloc, count)?;
     let mut block = [0; 512];
     for k in 0..count {

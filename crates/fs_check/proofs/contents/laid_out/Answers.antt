@@ -1,13 +1,13 @@
-use Rattle.std.proofs.Common.{◌≡◌, ◌≤◌, ℕ, get_or, arith, sym, subst}
-use Rattle.fs_layout.specs.declared.inode.Kind.TheVariants.{Link}
+use Rattle.std.proofs.Common.{ℕ, get_or, arith, sym, subst}
 use Rattle.fs_layout.specs.declared.inode.Inode.{Inode}
 use Rattle.fs_layout.specs.Bytes.{SectorMap}
 use Rattle.fs_layout.specs.Images.{IsData, Owns, inode_at}
-use Rattle.fs_model.specs.Rules.{InData, IsLaidOut, LaidOut}
+use Rattle.fs_model.specs.Rules.{Inodes, InData, IsLaidOut, LaidOut}
 use Rattle.fs_check.specs.Checks.{meaning}
+use Rattle.fs_check.specs.LastBlocks.{HasSize}
 use Rattle.fs_check.proofs.Carrying.{meaning_same}
 use Rattle.fs_check.proofs.Tests.{inode_here, blank, next_tried, fails_here}
-use Rattle.fs_check.proofs.Trims.{short_link}
+use Rattle.fs_check.proofs.Sizes.{good_size}
 use Rattle.fs_check.proofs.contents.laid_out.Goals as goal
 
 pub is_laid_out-requires-clause-in_data : goal.is_laid_out-requires-clause-in_data
@@ -20,12 +20,13 @@ is_laid_out-requires-clause-in_data g c =
     subst (λ (m : SectorMap). (s : ℕ) → Owns m (get_or c.args.inodes.now c.loop-n.n blank) s → IsData p s) (sym (meaning_same c.loop-n.invariant.reads))
     (subst (λ (v : Inode). (s : ℕ) → Owns (meaning s0) v s → IsData p s) (sym here) now)
 
-pub is_laid_out-requires-clause-short : goal.is_laid_out-requires-clause-short
-is_laid_out-requires-clause-short g c =
+pub is_laid_out-requires-clause-size : goal.is_laid_out-requires-clause-size
+is_laid_out-requires-clause-size g c =
     let m = meaning (g.D.Disk.state c.args.disk.now) in
-    subst (λ (v : Inode). v.kind ≡ Link → v.size ≤ 512)
-    (sym (inode_here c.args.opened.now.place m c.args.inodes.now c.loop-n.n blank c.requires.table c.loop-n-test.true))
-    (short_link c.args.opened.now.place m c.loop-n.n c.requires.before c.loop-n-test.true)
+    let p = c.args.opened.now.place in
+    let lt = c.loop-n-test.true in
+    subst HasSize (sym (inode_here p m c.args.inodes.now c.loop-n.n blank c.requires.table lt))
+    (good_size p m c.loop-n.n (c.requires.before Inodes (omega arith) c.loop-n.n lt))
 
 pub loop-n-preserved : goal.loop-n-preserved
 loop-n-preserved g c =

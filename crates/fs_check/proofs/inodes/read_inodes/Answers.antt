@@ -23,7 +23,8 @@ loop-n-preserved g c =
     let v = c.in-Some.inode in
     let told = c.in-Some.ensures in
     let pushed = c.in_ok-push-in-Some.ensures.items in
-    let good = good_is p (meaning s0) n c.read_table.new.table (Some v) (here c.loop-n-test.true) told.is told.free told.top told.none in
+    let good = good_is p (meaning s0) n c.max_file_size.result c.read_table.new.table (Some v) c.max_file_size.ensures.value (here c.loop-n-test.true)
+    told.is told.allowed told.free told.top told.none in
     record {
       reads = reads_joined so_far.reads c.in_ok-read_table.ensures.passed.reads;
       kept = same_sector p (meaning s0) n c.read_table.new.table here;
@@ -40,7 +41,8 @@ returns-in-None-clause-passed g c =
     let here = sector_back (g.D.Disk.state c.args.disk.now) (g.D.Disk.state c.loop-n.disk) p c.loop-n.n c.read_table.new.table so_far.reads
     c.in_ok-read_table.ensures.table in
     let told = c.in-None.ensures in
-    let bad = good_is p (meaning (g.D.Disk.state c.args.disk.now)) c.loop-n.n c.read_table.new.table None (here lt) told.is told.free told.top told.none in
+    let bad = good_is p (meaning (g.D.Disk.state c.args.disk.now)) c.loop-n.n c.max_file_size.result c.read_table.new.table None c.max_file_size.ensures.value (here lt)
+    told.is told.allowed told.free told.top told.none in
     record {
       reads = reads_joined so_far.reads c.in_ok-read_table.ensures.passed.reads;
       reason = (refl, record { fails = λ h. bad (h lt); least = λ k low below. so_far.good k low });

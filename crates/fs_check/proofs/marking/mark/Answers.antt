@@ -7,8 +7,8 @@ use Rattle.fs_check.proofs.marking.mark.Goals.{then-owned-s, else-owned-s}
 pub returns-clause-marked : goal.returns-clause-marked
 returns-clause-marked c = λ f n i size is x.
     let s = c.args.s in
-    let some = c.if-s-eq0.false in
-    let below : s < size = let room = c.requires.owned some in let len = x.owned_len in omega (arith, room, len) in
+    let some = c.requires.some in
+    let below : s < size = let room = c.requires.owned in let len = x.owned_len in omega (arith, room, len) in
     elim c.if-owned-s.branch [
       | then-owned-s w ↦
           subst (λ (t : List Bool). IsMarked f n (i + 1) size (set c.args.owned.now s true) t) (sym w.twice-is)

@@ -1,37 +1,87 @@
-use Rattle.std.proofs.Common.{arith, sym, ◌∙◌}
-use Rattle.fs_check.proofs.OwnedParts.{part_past, part_below}
-use Rattle.fs_check.proofs.Marks.{mark_next}
+use Rattle.std.proofs.Common.{◌≡◌, ◌≢◌, ◌+◌, IsTrue, ◌↔◌, arith, ap, sym, subst, ◌∙◌}
+use Rattle.fs_layout.specs.declared.inode.TheConstants.{SECTOR_POINTERS, MAX_BLOCKS}
+use Rattle.fs_layout.specs.Bytes.{SectorMap}
+use Rattle.fs_layout.specs.Images.{IsData, HasPointers, number_on}
+use Rattle.fs_layout.proofs.Pointers.{number_on_double}
+use Rattle.fs_check.specs.Checks.{meaning}
+use Rattle.fs_check.specs.Owning.{AreInData, HasTopInData, OwnsData}
+use Rattle.fs_check.proofs.Carrying.{meaning_same, opened_still, if_ok}
+use Rattle.fs_check.proofs.DataNumbers.{number_below, listed_sectors, in_data_joined, none_in_data, level_owned, top_owned, all_owned, not_owned}
+use Rattle.fs_check.proofs.MarkedParts.{sectors_skipped, inode_marked}
 use Rattle.fs_check.proofs.marking.mark_inode.Goals as goal
 
-pub loop-i-init : goal.loop-i-init
-loop-i-init c = record {
-  owned_len = c.requires.owned;
-  twice_len = c.requires.twice;
-  marked = λ m f n is at x. x;
-}
+pub returns-then-not-mark_top-clause-test : goal.returns-then-not-mark_top-clause-test
+returns-then-not-mark_top-clause-test g c =
+    let m = meaning (g.D.Disk.state c.args.disk.now) in
+    let p = c.args.opened.now.place in
+    let v = c.args.inode.now in
+    not_owned p m v (HasTopInData p v) c.mark_top.result (top_owned p m v) c.mark_top.ensures.test c.if-not-mark_top.true
 
-pub mark-requires-clause-owned : goal.mark-requires-clause-owned
-mark-requires-clause-owned c = λ some.
-    let below = part_below c.args.place c.args.inode.now c.args.content.now c.loop-i.i c.part_number.result c.requires.in_data c.part_number.ensures some in
-    let len = c.loop-i.invariant.owned_len in
-    omega (arith, below, len)
+pub read_listed-requires-clause-on_disk : goal.read_listed-requires-clause-on_disk
+read_listed-requires-clause-on_disk g c =
+    let m = meaning (g.D.Disk.state c.args.disk.now) in
+    let v = c.args.inode.now in
+    let is = number_on_double m v in
+    let top = c.mark_top.ensures.test.0 c.if-not-mark_top.false in
+    number_below _ _ c.args.opened.now.place c.requires.opened.place (number_on m v 2 0)
+    (λ some. subst (IsData c.args.opened.now.place) (sym is) (top.double_indirect (λ none. some (is ∙ none))))
 
-pub mark-requires-clause-twice : goal.mark-requires-clause-twice
-mark-requires-clause-twice c = λ some.
-    let below = part_below c.args.place c.args.inode.now c.args.content.now c.loop-i.i c.part_number.result c.requires.in_data c.part_number.ensures some in
-    let len = c.loop-i.invariant.twice_len in
-    omega (arith, below, len)
+pub returns-then-not-mark_listed-clause-test : goal.returns-then-not-mark_listed-clause-test
+returns-then-not-mark_listed-clause-test g c =
+    let m = meaning (g.D.Disk.state c.args.disk.now) in
+    let p = c.args.opened.now.place in
+    let v = c.args.inode.now in
+    let e = c.pointers_end.result in
+    not_owned p m v (AreInData p m v 1 0 e) c.mark_listed.result (λ all. level_owned p m v all 1 0 e)
+    (c.mark_listed.ensures.test m (listed_sectors m v e c.read_listed.new.content c.in_ok-read_listed.ensures.content c.pointers_end.ensures.most))
+    c.if-not-mark_listed.true
 
-pub loop-i-preserved : goal.loop-i-preserved
-loop-i-preserved c = record {
-  owned_len = c.mark.ensures.owned_len ∙ c.loop-i.invariant.owned_len;
-  twice_len = c.mark.ensures.twice_len ∙ c.loop-i.invariant.twice_len;
-  marked = λ m f n is at x.
-      c.mark.ensures.marked f n c.loop-i.i c.args.place.sectors (at c.loop-i.i ∙ sym (c.part_number.ensures m is)) (c.loop-i.invariant.marked m f n is at x);
-}
+pub mark_blocks-requires-clause-opened : goal.mark_blocks-requires-clause-opened
+mark_blocks-requires-clause-opened g c = opened_still c.in_ok-read_listed.ensures.passed.reads c.requires.opened
+
+pub mark_blocks-requires-clause-listed : goal.mark_blocks-requires-clause-listed
+mark_blocks-requires-clause-listed g c =
+    subst (λ (m : SectorMap). HasPointers m c.args.inode.now 2 0 c.read_listed.new.content) (sym (meaning_same c.in_ok-read_listed.ensures.passed.reads))
+    c.in_ok-read_listed.ensures.content
+
+pub mark_blocks-requires-clause-in_data : goal.mark_blocks-requires-clause-in_data
+mark_blocks-requires-clause-in_data g c =
+    let m = meaning (g.D.Disk.state c.args.disk.now) in
+    let p = c.args.opened.now.place in
+    let v = c.args.inode.now in
+    let e = c.pointers_end.result in
+    let at = listed_sectors m v e c.read_listed.new.content c.in_ok-read_listed.ensures.content c.pointers_end.ensures.most in
+    let sectors : AreInData p m v 1 0 (1 + SECTOR_POINTERS) =
+    in_data_joined p m v 1 0 e (1 + SECTOR_POINTERS) ((c.mark_listed.ensures.test m at).0 c.if-not-mark_listed.false)
+    (none_in_data p m v 1 e (1 + SECTOR_POINTERS) (λ i ge lt. c.pointers_end.ensures.past m i ge)) in
+    subst (λ (q : SectorMap). AreInData p q v 1 0 (1 + SECTOR_POINTERS)) (sym (meaning_same c.in_ok-read_listed.ensures.passed.reads)) sectors
+
+pub returns-clause-test : goal.returns-clause-test
+returns-clause-test g c =
+    let m = meaning (g.D.Disk.state c.args.disk.now) in
+    let p = c.args.opened.now.place in
+    let v = c.args.inode.now in
+    let e = c.pointers_end.result in
+    let at = listed_sectors m v e c.read_listed.new.content c.in_ok-read_listed.ensures.content c.pointers_end.ensures.most in
+    let sectors : AreInData p m v 1 0 (1 + SECTOR_POINTERS) =
+    in_data_joined p m v 1 0 e (1 + SECTOR_POINTERS) ((c.mark_listed.ensures.test m at).0 c.if-not-mark_listed.false)
+    (none_in_data p m v 1 e (1 + SECTOR_POINTERS) (λ i ge lt. c.pointers_end.ensures.past m i ge)) in
+    let top = c.mark_top.ensures.test.0 c.if-not-mark_top.false in
+    if_ok c.mark_blocks.result c.mark_blocks.ensures.test (λ b told.
+        let test = subst (λ (q : SectorMap). IsTrue b ↔ AreInData p q v 0 0 MAX_BLOCKS) (meaning_same c.in_ok-read_listed.ensures.passed.reads) told in
+        ((λ t. all_owned p m v top sectors (test.0 t)), (λ all. test.1 (level_owned p m v all 0 0 MAX_BLOCKS))))
 
 pub returns-clause-marked : goal.returns-clause-marked
-returns-clause-marked c = λ m f n is at x.
-    let past = c.loop-i-test.false in
-    mark_next f n c.loop-i.i (λ k ge. at k ∙ part_past m c.args.inode.now k (omega (arith, past, ge))) c.args.place.sectors c.loop-i.owned c.loop-i.twice
-    (c.loop-i.invariant.marked m f n is at x)
+returns-clause-marked g c =
+    let s0 = g.D.Disk.state c.args.disk.now in
+    let m = meaning s0 in
+    let p = c.args.opened.now.place in
+    let v = c.args.inode.now in
+    let e = c.pointers_end.result in
+    let at = listed_sectors m v e c.read_listed.new.content c.in_ok-read_listed.ensures.content c.pointers_end.ensures.most in
+    if_ok c.mark_blocks.result c.mark_blocks.ensures.marked (λ b blocks t n is x.
+        let top = c.mark_top.ensures.marked c.if-not-mark_top.false m n is x in
+        let named = c.mark_listed.ensures.marked c.if-not-mark_listed.false m n is at top in
+        let all = sectors_skipped p m n v is c.mark_listed.new.owned c.mark_listed.new.twice e c.pointers_end.ensures.most (c.pointers_end.ensures.past m) named in
+        inode_marked p s0 (g.D.Disk.state c.read_listed.new.disk) v n 132 c.mark_listed.new.owned c.mark_listed.new.twice c.mark_blocks.new.owned c.mark_blocks.new.twice
+        c.in_ok-read_listed.ensures.passed.reads is (blocks t n) all)

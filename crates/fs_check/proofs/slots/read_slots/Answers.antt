@@ -1,18 +1,22 @@
 use Rattle.std.proofs.Common.{◌≡◌, ◌/◌, arith, sym, subst}
 use Rattle.std.specs.Prelude.{Ok}
-use Rattle.fs_layout.specs.Images.{pointer, HasPointers}
+use Rattle.fs_layout.specs.Images.{number_on, pointer, HasPointers}
+use Rattle.fs_layout.proofs.Parts.{owns_on_level}
 use Rattle.fs_check.proofs.Carrying.{opened_still, meaning_same}
 use Rattle.fs_layout.specs.Directories.{slot_at, slot_of, stored_slot}
 use Rattle.sector_disk.proofs.Moments.{reads_joined}
 use Rattle.fs_check.specs.Checks.{meaning}
 use Rattle.fs_check.proofs.Tables.{more_there, more_good}
-use Rattle.fs_check.proofs.Marks.{indirect_on_disk}
+use Rattle.fs_check.proofs.DataNumbers.{number_below}
 use Rattle.fs_check.proofs.DirectorySlots.{in_data_still, block_back, valid_here, not_valid, same_block}
 use Rattle.fs_check.proofs.slots.read_slots.Goals as goal
 
-pub read_pointers-requires-clause-on_disk : goal.read_pointers-requires-clause-on_disk
-read_pointers-requires-clause-on_disk g c =
-    indirect_on_disk _ _ c.args.opened.now.place (meaning (g.D.Disk.state c.args.disk.now)) c.args.inode.now c.requires.opened.place c.requires.in_data
+pub read_listed-requires-clause-on_disk : goal.read_listed-requires-clause-on_disk
+read_listed-requires-clause-on_disk g c =
+    let m = meaning (g.D.Disk.state c.args.disk.now) in
+    let v = c.args.inode.now in
+    number_below _ _ c.args.opened.now.place c.requires.opened.place (number_on m v 1 0)
+    (λ some. c.requires.in_data (number_on m v 1 0) (owns_on_level m v 1 0 some))
 
 pub read_block_of-requires-clause-in_data : goal.read_block_of-requires-clause-in_data
 read_block_of-requires-clause-in_data g c =
@@ -51,7 +55,7 @@ read_block_of-requires-clause-opened g c = opened_still c.loop-k.invariant.reads
 
 pub read_block_of-requires-clause-pointers : goal.read_block_of-requires-clause-pointers
 read_block_of-requires-clause-pointers g c =
-    subst (λ m. HasPointers m c.args.inode.now c.in_ok-pointers.pointers) (sym (meaning_same c.loop-k.invariant.reads)) c.in_ok-pointers.ensures.content
+    subst (λ m. HasPointers m c.args.inode.now 1 0 c.read_listed.new.content) (sym (meaning_same c.loop-k.invariant.reads)) c.in_ok-read_listed.ensures.content
 
 pub read_block_of-requires-clause-before : goal.read_block_of-requires-clause-before
 read_block_of-requires-clause-before g c = λ ne.
