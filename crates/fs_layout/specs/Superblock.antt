@@ -38,3 +38,7 @@ super_for p = record { version = p.version; sectors = p.sectors; inodes = p.inod
 -- the layout of a disk with this superblock; None where a disk may not have these numbers
 abbrev pub place_for : Super → Option Place
 place_for v = place_in v.version v.sectors v.inodes
+
+-- the superblock of the same disk in another version
+abbrev pub with_version : Version → Super → Super
+with_version version v = record { version = version; sectors = v.sectors; inodes = v.inodes }

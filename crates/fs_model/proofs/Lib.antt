@@ -85,6 +85,7 @@ pub mod Summaries
 pub mod Swept
 pub mod Taken
 pub mod Unchanged
+pub mod Upgraded
 pub mod VeiledDemands
 pub mod VeiledRefusals
 pub mod VeiledScenes

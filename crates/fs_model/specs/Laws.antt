@@ -9,9 +9,13 @@ use Rattle.fs_cred.specs.Credentials.{Credential}
 use Rattle.fs_layout.specs.declared.inode.Inode.{Inode}
 use Rattle.fs_layout.specs.declared.place.Place.{Place}
 use Rattle.fs_layout.specs.declared.place.TheConstants.{COMMIT_SECTOR, FIRST_LOG_SECTOR, INODE_BITMAP}
+use Rattle.fs_layout.specs.declared.superblock.Super.{Super}
+use Rattle.fs_layout.specs.declared.version.Version.{Version}
 use Rattle.fs_layout.specs.Bytes.{SectorMap}
 use Rattle.fs_layout.specs.Commit.{IsValidCommit, targets_in}
 use Rattle.fs_layout.specs.Place.{the_place}
+use Rattle.fs_layout.specs.Superblock.{super_bytes, FitsSuper, with_version}
+use Rattle.fs_layout.specs.Version.{max_file_size}
 use Rattle.fs_layout.specs.Images.{bit, inode_bitmap, inode_at}
 use Rattle.fs_layout.specs.InodeChanges.{ChangesInode}
 use Rattle.fs_layout.specs.Ownership.{Agrees}
@@ -36,7 +40,7 @@ use Rattle.fs_model.specs.Steps.{Step, Choice, firm_refusal, other_refusal, afte
 use Rattle.fs_model.specs.Stops.{Machine, MachineStep, Stops, asks_stable}
 use Rattle.fs_model.specs.Ranges.{IsEvent}
 use Rattle.fs_model.specs.StoredNodes.{Placed, HoldsNode}
-use Rattle.fs_model.specs.Stands.{HoldsPlaced, HoldsAll, placed, room_of, Stands}
+use Rattle.fs_model.specs.Stands.{HoldsPlaced, HoldsAll, placed, room_of, room_in, Stands}
 use Rattle.fs_model.specs.NewDisk.{empty_tree, IsNewImage}
 use Rattle.fs_model.specs.Rules.{HasWholeSectors, ObeysAll, IsFinding, is_directory_kind}
 use Rattle.fs_model.specs.Summaries.{named_files, nameless_files, directories, links, is_file_kind, is_link_kind, is_used}
@@ -169,6 +173,20 @@ abbrev pub StandingRestsOnReading : Type 0
 StandingRestsOnReading =
     (sectors : ℕ) (old new : SectorMap) (room : Room) (t : Tree) (free : ℕ) → (stands : Stands sectors old room t free)
     → ReadsAlike sectors stands.place old new → Stands sectors new room t free
+
+-- The superblock of the new image says another version, whose files may be as large; else the two are alike.
+pub record IsInVersion (version : Version) (sectors : ℕ) (old new : SectorMap) (super : Super) : Type 0 where
+  pub was : old 0 ≡ super_bytes super
+  pub fits : FitsSuper super
+  pub says : new 0 ≡ super_bytes (with_version version super)
+  pub larger : max_file_size super.version ≤ max_file_size version
+  pub others : (s : ℕ) → 1 ≤ s → s < sectors → new s ≡ old s
+
+-- Then the new one stands for the same tree, in a room of larger files.
+abbrev pub StandsInVersion : Type 0
+StandsInVersion =
+    (version : Version) (sectors : ℕ) (old new : SectorMap) (super : Super) (room : Room) (t : Tree) (free : ℕ)
+    → Stands sectors old room t free → IsInVersion version sectors old new super → Stands sectors new (room_in version room) t free
 
 -- What a path leads to is in the tree.
 abbrev pub FindsAreThere : Type 0

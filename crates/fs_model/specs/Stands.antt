@@ -1,13 +1,14 @@
 -- An image stands for a tree: our own layout.
 --     HoldsAll        each inode holds what is placed at its number
 --     placed        what a tree places at each number
---     room_of        the room of a disk
+--     room_of, room_in        the room of a disk, and in another version
 --     Stands        the whole: of a disk of so many sectors the image stands for a tree, with so many free sectors
 use Rattle.std.specs.Prelude.{◌≡◌, ℕ, ◌-◌, ◌<◌, nat_eq, nat_le, ◌||◌, Option, Some, is_some, MatchOption}
 use Rattle.std.specs.Option.{option_map}
 use Rattle.fs_layout.specs.declared.superblock.Super.{Super}
 use Rattle.fs_layout.specs.declared.place.Place.{Place}
 use Rattle.fs_layout.specs.declared.place.TheConstants.{COMMIT_SECTOR, SECTOR_BITS}
+use Rattle.fs_layout.specs.declared.version.Version.{Version}
 use Rattle.fs_layout.specs.Bytes.{SectorMap}
 use Rattle.fs_layout.specs.Superblock.{super_bytes, FitsSuper}
 use Rattle.fs_layout.specs.Inode.{free_inode}
@@ -38,6 +39,10 @@ placed t n = option_map (λ node. record { node = node; names = names_of t n; pa
 -- so many inodes and data sectors, and files of at most so many bytes
 abbrev pub room_of : Place → Room
 room_of p = record { inodes = p.inodes; sectors = p.sectors - p.first_data; file_limit = max_file_size p.version }
+
+-- the same disk in another version
+abbrev pub room_in : Version → Room → Room
+room_in version room = record { inodes = room.inodes; sectors = room.sectors; file_limit = max_file_size version }
 
 -- A sealed commit counts as if its targets were written. Log and free sectors may hold anything.
 pub record Stands (sectors : ℕ) (image : SectorMap) (room : Room) (tree : Tree) (free : ℕ) : Type 0 where

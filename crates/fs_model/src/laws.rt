@@ -1,6 +1,6 @@
 //! The laws of the definitions: each is the contract of a function that changes nothing.
 ghost use Rattle.fs_cred.specs.Laws.{HasAnAnswer, HasOneAnswer, VerdictDecides};
-ghost use Rattle.fs_model.specs.Laws.{AccessKindsAgree, CountsFit, EffectsAnswerOtherwise, FindingRefuses, FindsAreThere, FirmRefusesOtherwise, FollowedAreNoLinks, FreeAreClear, NewDiskStands, NewImagesExist, NoneRefuses, NothingToDrop, NumbersAreCounts, ObeyingStands, OneFinding, OneNodeChanges, OpenStays, OtherRefusesOtherwise, PruningKeeps, RefusesLeast, RewritingKeeps, SameProcessStays, SomeImageStands, StandingObeys, StandingRests, StandingRestsOnReading, StandsForOne, StepsKeep, StoredKindsAgree, SyncingKeeps, TypesComeBack, WalksRefuseOtherwise};
+ghost use Rattle.fs_model.specs.Laws.{AccessKindsAgree, CountsFit, EffectsAnswerOtherwise, FindingRefuses, FindsAreThere, FirmRefusesOtherwise, FollowedAreNoLinks, FreeAreClear, NewDiskStands, NewImagesExist, NoneRefuses, NothingToDrop, NumbersAreCounts, ObeyingStands, OneFinding, OneNodeChanges, OpenStays, OtherRefusesOtherwise, PruningKeeps, RefusesLeast, RewritingKeeps, SameProcessStays, SomeImageStands, StandingObeys, StandingRests, StandingRestsOnReading, StandsForOne, StandsInVersion, StepsKeep, StoredKindsAgree, SyncingKeeps, TypesComeBack, WalksRefuseOtherwise};
 ghost use Rattle.fs_model.specs.Confinement.{Confinement, GoneIsRefused, StepsAreBy, StepsBy};
 ghost use Rattle.fs_model.specs.Ranges.{IsSomeId, IsCall};
 ghost use Rattle.posix_acl.specs.AccessList.{IsSomeAcl};
@@ -146,6 +146,12 @@ pub fn free_sectors_are_within_bounds()
 pub fn standing_rests_on_what_is_used()
     ensures reading { StandingRestsOnReading }
     ensures sectors { StandingRests }
+{}
+
+/// An image of which the superblock alone says another version, whose files may be as large, stands for the same tree, in a
+/// room of that version.
+pub fn an_image_stands_in_another_version()
+    ensures { StandsInVersion }
 {}
 
 /// Where one inode changes with what it owns, and holds what it is to hold then, all others hold what they held.
