@@ -92,7 +92,8 @@ pub fn write<S: Sectors>(
     let n = descriptor.number;
     let inode = load_inode(s, place, n)?;
     let offset = write_offset(descriptor, &inode);
-    if offset >= place.max_file_size() {
+    let limit = place.max_file_size();
+    if offset >= limit {
         return Err(Refusal::Failed(Errno::EFBIG));
     }
     ask_for_sectors(s, place)?;

@@ -26,7 +26,7 @@ impl Part {
 }
 
 const SUPERBLOCK: Super = Super {
-    version: Version::One,
+    version: Version::Two,
     sectors: 1024,
     inodes: 64,
 };
@@ -43,7 +43,7 @@ const FILE: Inode = Inode {
     default_acl: 0,
     direct: [146, 0, 0, 0, 0, 0, 0, 0, 0, 0, 0, 147],
     indirect: 300,
-    double_indirect: 0,
+    double_indirect: 301,
 };
 
 const TARGETS: [u32; 2] = [128, 1000];
@@ -61,7 +61,7 @@ const USER: EntryNumbers = EntryNumbers {
 };
 
 // The bytes of these, and of others, up to the last that is not zero.
-const SUPER_BYTES: &[u8] = &[0x49, 0x4e, 0x4f, 0x53, 1, 0, 0, 0, 0, 4, 0, 0, 0x40];
+const SUPER_BYTES: &[u8] = &[0x49, 0x4e, 0x4f, 0x53, 2, 0, 0, 0, 0, 4, 0, 0, 0x40];
 
 const IDLE_BYTES: &[u8] = &[0x49, 0x4e, 0x4f, 0x4a];
 
@@ -70,11 +70,12 @@ const COMMIT_BYTES: &[u8] = &[0x49, 0x4e, 0x4f, 0x4a, 2, 0, 0, 0, 0x80, 0, 0, 0,
 const FILE_BYTES: &[u8] = &[
     1, 0, 0xa4, 1, 0xe8, 3, 0, 0, 4, 3, 2, 1, 2, 0, 0, 0, 1, 2, 0, 0, 0, 0, 0, 0, 0, 0, 0, 0, 0xc8,
     0, 0, 0, 0, 0, 0, 0, 0x92, 0, 0, 0, 0, 0, 0, 0, 0, 0, 0, 0, 0, 0, 0, 0, 0, 0, 0, 0, 0, 0, 0, 0,
-    0, 0, 0, 0, 0, 0, 0, 0, 0, 0, 0, 0, 0, 0, 0, 0, 0, 0, 0, 0, 0x93, 0, 0, 0, 0x2c, 1,
+    0, 0, 0, 0, 0, 0, 0, 0, 0, 0, 0, 0, 0, 0, 0, 0, 0, 0, 0, 0, 0x93, 0, 0, 0, 0x2c, 1, 0, 0, 0x2d,
+    1,
 ];
 
 const LARGEST_FILE: &[u8] = &[
-    1, 0, 0xff, 1, 0, 0, 0, 0, 0, 0, 0, 0, 0, 0, 0, 0, 0, 0x18, 1,
+    1, 0, 0xff, 1, 0, 0, 0, 0, 0, 0, 0, 0, 0, 0, 0, 0, 0, 0x18, 0x81,
 ];
 
 const DIRECTORY: &[u8] = &[2, 0, 0xff, 7, 0, 0, 0, 0, 0, 0, 0, 0, 0, 0, 0, 0, 0x80];
@@ -176,11 +177,13 @@ fn structures_are_as_the_format_says(rt: HostRuntime) {
 
 // What is read of a part's bytes where some of them are changed: the first that is, the one past the last, and their
 // new value.
-const READS: [(Part, &[u8], usize, usize, u8, Option<LayoutFault>); 61] = [
+const READS: [(Part, &[u8], usize, usize, u8, Option<LayoutFault>); 64] = [
     (Part::Super, SUPER_BYTES, 0, 0, 0, None),
     (Part::Super, SUPER_BYTES, 0, 1, 0x48, Some(BadMagic)),
     (Part::Super, SUPER_BYTES, 3, 4, 0, Some(BadMagic)),
-    (Part::Super, SUPER_BYTES, 4, 5, 2, Some(BadVersion)),
+    (Part::Super, SUPER_BYTES, 4, 5, 1, None),
+    (Part::Super, SUPER_BYTES, 4, 5, 0, Some(BadVersion)),
+    (Part::Super, SUPER_BYTES, 4, 5, 3, Some(BadVersion)),
     (Part::Super, SUPER_BYTES, 7, 8, 1, Some(BadVersion)),
     (Part::Super, SUPER_BYTES, 16, 17, 1, Some(NotZero)),
     (Part::Super, SUPER_BYTES, 511, 512, 1, Some(NotZero)),
@@ -201,7 +204,8 @@ const READS: [(Part, &[u8], usize, usize, u8, Option<LayoutFault>); 61] = [
     (Part::Inode, LARGEST_FILE, 3, 4, 2, Some(BadNumber)),
     (Part::Inode, LARGEST_FILE, 16, 17, 1, Some(BadNumber)),
     (Part::Inode, LARGEST_FILE, 23, 24, 1, Some(BadNumber)),
-    (Part::Inode, LARGEST_FILE, 88, 89, 1, Some(NotZero)),
+    (Part::Inode, LARGEST_FILE, 88, 89, 1, None),
+    (Part::Inode, LARGEST_FILE, 91, 92, 1, None),
     (Part::Inode, LARGEST_FILE, 92, 93, 1, Some(NotZero)),
     (Part::Inode, LARGEST_FILE, 127, 128, 1, Some(NotZero)),
     (Part::Inode, LARGEST_FILE, 0, 128, 5, Some(BadKind)),

@@ -16,7 +16,7 @@ pub enum Version {
 
 impl Version {
     /// The version of a new disk.
-    pub const NEWEST: Version = Version::One;
+    pub const NEWEST: Version = Version::Two;
 
     /// The number of the version, as the superblock has it.
     pub fn number(self) -> u32

@@ -5,9 +5,9 @@ use Rattle.fs_cred.specs.declared.errno.Errno.TheVariants.{EFBIG}
 use Rattle.fs_cred.specs.declared.refusal.Refusal.{Refusal}
 use Rattle.fs_cred.specs.declared.refusal.Refusal.TheVariants.{Failed}
 use Rattle.fs_layout.specs.declared.inode.Inode.{Inode}
-use Rattle.fs_layout.specs.Version.{max_file_size}
 use Rattle.fs_layout.specs.Bytes.{SectorMap, overwritten}
 use Rattle.fs_layout.specs.Images.{inode_at, free_sectors}
+use Rattle.fs_layout.specs.Version.{max_file_size}
 use Rattle.fs_model.specs.Limits.{least_free, move_limit}
 use Rattle.bit_alloc.proofs.Transactions.{spare_unchanged, unchanged_nothing}
 use Rattle.call_parts.specs.ByteChanges.{ChangesBytes}
@@ -42,8 +42,9 @@ returns-in_err-inode g c =
     unread_performs (write_by c.args.fd c.args.bytes.now) unchanged_nothing c.in_ok-descriptor.ensures.is_open (g.S.Sectors.state c.load_inode.new.s)
     c.from_residual-in_err-inode.result c.in_err-inode.field-0.0 r.0 r.1 failed.same.store (λ s at. inr failed.fault)
 
-pub returns-then-offset-max_file_size : goal.returns-then-offset-max_file_size
-returns-then-offset-max_file_size g c =
+pub returns-then-offset-limit : goal.returns-then-offset-limit
+returns-then-offset-limit g c =
+    let far = subst (λ (x : ℕ). x ≤ c.write_offset-offset.result) c.max_file_size-limit.ensures.value c.if-offset-limit.true in
     let w = open_as c.descriptor.view_is c.in_ok-descriptor.ensures.is_open in
     let some = some_if c.args.bytes.now c.bytes-bytes.result.now c.bytes-bytes.ensures.all c.if-is_empty.ensures in
     let v = c.in_ok-inode.inode in
@@ -51,13 +52,14 @@ returns-then-offset-max_file_size g c =
     let from = subst (λ (x : Descriptor). offset ≡ (if x.append then v.size else x.offset)) (sym c.descriptor.view_is) c.write_offset-offset.ensures in
     asked_performs (write_by c.args.fd c.args.bytes.now) unchanged_nothing w (g.S.Sectors.state c.load_inode.new.s) (Err (Failed EFBIG)) (Failed EFBIG) refl refl
     c.in_ok-inode.ensures.same.store
-    (λ s at. too_far w.opened s at (open_to_write w) v c.in_ok-inode.ensures.found offset from c.args.bytes.now some (omega (arith, c.if-offset-max_file_size.true, c.max_file_size.ensures.value)))
+    (λ s at. too_far w.opened s at (open_to_write w) v c.in_ok-inode.ensures.found offset from c.args.bytes.now some far)
 
 pub ask_for_sectors-requires : goal.ask_for_sectors-requires
 ask_for_sectors-requires g c = (sound_kept c.in_ok-inode.ensures.same c.requires.ready.sound).bitmaps
 
 pub returns-in_err-ask_for_sectors : goal.returns-in_err-ask_for_sectors
 returns-in_err-ask_for_sectors g c =
+    let near = subst (λ (x : ℕ). c.write_offset-offset.result < x) c.max_file_size-limit.ensures.value c.if-offset-limit.false in
     let w = open_as c.descriptor.view_is c.in_ok-descriptor.ensures.is_open in
     let some = some_if c.args.bytes.now c.bytes-bytes.result.now c.bytes-bytes.ensures.all c.if-is_empty.ensures in
     let v = c.in_ok-inode.inode in
@@ -70,7 +72,7 @@ returns-in_err-ask_for_sectors g c =
     unread_performs (write_by c.args.fd c.args.bytes.now) first w (g.S.Sectors.state c.ask_for_sectors.new.s)
     c.from_residual-in_err-ask_for_sectors.result c.in_err-ask_for_sectors.field-0.0 r.0 r.1 failed.same.store
     (λ s at. elim failed.fault [
-      | inl full ↦ inl (too_full w.opened s at (open_to_write w) v is offset from c.args.bytes.now some (omega (arith, c.if-offset-max_file_size.false, c.max_file_size.ensures.value)) full.1
+      | inl full ↦ inl (too_full w.opened s at (open_to_write w) v is offset from c.args.bytes.now some near full.1
           ∙ ap (λ (x : Refusal). Some x) (sym full.0))
       | inr read ↦ inr read
     ])
@@ -85,7 +87,7 @@ write_bytes-requires g c =
     let new = g.S.Sectors.state c.ask_for_sectors.new.s in
     let same = unchanged_joined c.in_ok-inode.ensures.same c.in_ok-ask_for_sectors.ensures.same in
     let counted = c.write_count-count.ensures in
-    let near : c.write_offset-offset.result < max_file_size c.args.place.version = omega (arith, c.if-offset-max_file_size.false, c.max_file_size.ensures.value) in
+    let near = subst (λ (x : ℕ). c.write_offset-offset.result < x) c.max_file_size-limit.ensures.value c.if-offset-limit.false in
     let len = length-take c.write_count-count.result c.bytes-bytes.result.now in
     record {
       sound = sound_kept same c.requires.ready.sound;
@@ -112,6 +114,7 @@ seek-requires g c = record { «open» = opened_ok c.in_ok-descriptor.ensures.is_
 
 pub returns : goal.returns
 returns g c =
+    let near = subst (λ (x : ℕ). c.write_offset-offset.result < x) c.max_file_size-limit.ensures.value c.if-offset-limit.false in
     let w = open_as c.descriptor.view_is c.in_ok-descriptor.ensures.is_open in
     let bytes = c.args.bytes.now in
     let all = c.bytes-bytes.ensures.all in
@@ -130,8 +133,8 @@ returns g c =
     c.in_ok-write_bytes.ensures.change in
     let enough = kept (λ (m : SectorMap). least_free ≤ free_sectors c.args.place m) c.in_ok-ask_for_sectors.ensures.same
     (is_enough (free_sectors c.args.place mid.sectors) least_free c.in_ok-ask_for_sectors.ensures.each) in
-    let counted = c.write_count-count.ensures ∙ ap (λ (l : List ℕ). min (length l) (min move_limit (max_file_size c.args.place.version - offset))) all in
+    let counted = c.write_count-count.ensures ∙ ap (λ (l : List ℕ). min (length l) (min move_limit ((max_file_size c.args.place.version) - offset))) all in
     changed_tree (write_by c.args.fd bytes) same w new c.seek.new.self c.in_ok-write_bytes.ensures.store change.super (λ p. with_offset p c.args.fd to) (Wrote count) c.seek.ensures.moved
-    (λ s at. writes w.opened s at (open_to_write w) v is offset from bytes some (omega (arith, c.if-offset-max_file_size.false, c.max_file_size.ensures.value)) enough c.bytes-bytes.ensures.valid count counted
+    (λ s at. writes w.opened s at (open_to_write w) v is offset from bytes some near enough c.bytes-bytes.ensures.valid count counted
     c.seek.new.self (still_now w.opened s at c.seek.new.self (λ p. with_offset p c.args.fd to) c.seek.ensures.moved
     (offset_stays_open w.opened c.in_ok-descriptor.ensures.table to)) change)
