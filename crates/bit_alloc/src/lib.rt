@@ -20,8 +20,6 @@ mod bits;
 mod counts;
 mod laws;
 mod marks;
-#[cfg(test)]
-mod tests;
 
 pub use bitmap::{Bitmap, TakeFault};
 pub use bits::first_clear;

@@ -30,8 +30,6 @@ mod read;
 mod release;
 mod size;
 mod steps;
-#[cfg(test)]
-mod tests;
 mod write;
 
 pub use blocks::Blocks;

@@ -19,8 +19,6 @@ mod fault;
 mod find;
 mod listing;
 mod names;
-#[cfg(test)]
-mod tests;
 
 pub use change::{insert, insert_new, remove, rename, replace};
 pub use fault::DirFault;

@@ -10,4 +10,3 @@ pub mod AclSaved
 pub mod Numbers
 pub mod AclCalls
 pub mod Made
-pub mod Lives

@@ -25,8 +25,6 @@ mod faults;
 mod inodes;
 mod sectors;
 mod stored;
-#[cfg(test)]
-mod tests;
 
 pub use acls::{load_acl, load_default_acl, save_acl, save_default_acl};
 pub use faults::LoadAclFault;

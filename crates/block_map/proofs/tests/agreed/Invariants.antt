@@ -1,5 +1,0 @@
-use Rattle.bit_alloc.specs.Inodes.{IsSound}
-use Rattle.block_map.proofs.tests.agreed.Given as goal
-
-abbrev pub invariant-loop-i : goal.invariant-loop-i
-invariant-loop-i g l = IsSound l.place (g.S.Sectors.state l.s.inner)

@@ -1,0 +1,36 @@
+use Rattle.std.proofs.Common.{◌≡◌, ◌<◌, ◌-◌, ℕ, subst, arith, IsTrue}
+use Rattle.std.proofs.lemmas.Bool.{leb-true}
+use Rattle.std.proofs.lemmas.List.FromFn.{length-range_with_len}
+use Rattle.fs_layout.specs.declared.place.Place.{Place}
+use Rattle.fs_layout.specs.Bytes.{SectorMap}
+use Rattle.fs_layout.specs.Images.{HasWholeTables, inode_bitmap, block_bitmap, map_bits, bit}
+use Rattle.sector_txn.proofs.TransactionRuns.{lacking_at_most}
+use Rattle.bit_alloc.specs.declared.bitmap.Bitmap.TheVariants.{Inodes, Blocks}
+use Rattle.bit_alloc.specs.Bitmaps.{IsNumber, HasRestSet}
+use Rattle.bit_alloc.specs.Room.{bitmaps}
+use Rattle.bit_alloc.proofs.Transactions.{unchanged_joined, map_unchanged}
+use Rattle.storage_tests.proofs.bitmaps.tables.is_ready.Goals as goal
+
+-- what each check says of the map that it has left is so at the end
+rest_of : (p : Place) (a b : SectorMap) → a ≡ b
+    → ((n : ℕ) → n < 4096 → (IsNumber p Inodes n → ⊥) → IsTrue (bit a inode_bitmap n))
+    → ((n : ℕ) → n < map_bits p → (IsNumber p Blocks n → ⊥) → IsTrue (bit b block_bitmap n)) → HasRestSet p b
+rest_of p a b same inodes blocks Inodes n low ban = subst (λ (image : SectorMap). IsTrue (bit image inode_bitmap n)) same (inodes n low ban)
+rest_of p a b same inodes blocks Blocks n low ban = blocks n low ban
+
+pub returns-clause-bitmaps : goal.returns-clause-bitmaps
+returns-clause-bitmaps g c = λ yes.
+    let read = c.in_ok-read_tables.ensures in
+    let first = c.in_ok-inodes.ensures in
+    let second = c.in_ok-blocks.ensures in
+    let whole = unchanged_joined (unchanged_joined read.same first.same) second.same in
+    record {
+      place = c.requires.place;
+      disk = omega (arith, c.requires.disk, whole.store.reads.narrowed.size);
+      tables = subst (HasWholeTables c.args.place) (map_unchanged (unchanged_joined first.same second.same)) read.tables;
+      rest = rest_of c.args.place (g.S.Sectors.state c.has_rest_set.new.s).sectors (g.S.Sectors.state c.has_rest_set-2.new.s).sectors (map_unchanged second.same)
+          (first.set c.if-not-inodes.false) (second.set c.if-not-blocks.false);
+    }
+
+pub returns-clause-room : goal.returns-clause-room
+returns-clause-room g c = λ yes. omega (arith, leb-true _ _ yes, lacking_at_most (g.S.Sectors.state c.has_rest_set-2.new.s) (bitmaps c.args.place), length-range_with_len 128 (c.args.place.table - 128), c.room.ensures)

@@ -1,0 +1,10 @@
+use Rattle.std.proofs.Common.{ℕ, ◌<◌, ◌≤◌}
+use Rattle.fs_layout.specs.Bytes.{IsSector}
+use Rattle.sector_txn.specs.Sectors.{IsUnchanged}
+use Rattle.storage_tests.proofs.bitmaps.tables.read_tables.Given as goal
+
+abbrev pub invariant-loop-n : goal.invariant-loop-n
+invariant-loop-n g l = record {
+  same : IsUnchanged (g.S.Sectors.state l.initial.s) (g.S.Sectors.state l.s);
+  whole : (t : ℕ) → 128 ≤ t → t < l.n → IsSector ((g.S.Sectors.state l.initial.s).sectors t);
+}

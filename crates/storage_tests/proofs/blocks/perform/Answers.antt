@@ -1,0 +1,63 @@
+use Rattle.std.proofs.Common.{◌-◌, ap, subst, ◌∙◌, arith}
+use Rattle.std.proofs.lemmas.List.FromFn.{length-range_with_len}
+use Rattle.fs_layout.specs.declared.inode.Inode.{Inode}
+use Rattle.fs_layout.specs.Images.{inode_at, Owns}
+use Rattle.fs_layout.proofs.Consistent.{owned_is_apart}
+use Rattle.fs_layout.proofs.Places.{after_map, before_data}
+use Rattle.sector_txn.proofs.TransactionRuns.{lacking_at_most}
+use Rattle.bit_alloc.specs.Room.{bitmaps}
+use Rattle.bit_alloc.proofs.Transactions.{map_unchanged, unchanged_joined}
+use Rattle.block_map.proofs.Joins.{sound_after_reads}
+use Rattle.storage_tests.proofs.blocks.perform.Goals as goal
+
+pub read_at-requires : goal.read_at-requires
+read_at-requires g c =
+    let sound = (sound_after_reads c.requires.sound c.in_ok-inode.ensures.same) in
+    let mid = g.S.Sectors.state c.load.new.s in
+    record {
+      within = λ s o.
+          let d = (owned_is_apart sound.consistent c.args.n c.requires.below).each s (subst (λ (u : Inode). Owns mid.sectors u s) (c.in_ok-inode.ensures.found ∙ ap (λ image. inode_at c.args.place image c.args.n) (map_unchanged c.in_ok-inode.ensures.same)) o) in
+          let m = after_map sound.bitmaps.place in
+          let b = before_data sound.bitmaps.place in
+          let k = sound.bitmaps.disk in
+          (omega (arith, d.0, m, b), omega (arith, d.1, k));
+    }
+
+pub returns-in_ok-read_at-in-Read : goal.returns-in_ok-read_at-in-Read
+returns-in_ok-read_at-in-Read g c = record {
+  sound = sound_after_reads c.requires.sound
+      (unchanged_joined c.in_ok-inode.ensures.same c.in_ok-read_at-in-Read.ensures.same);
+}
+
+pub write_at-requires-clause-sound : goal.write_at-requires-clause-sound
+write_at-requires-clause-sound g c = sound_after_reads c.requires.sound c.in_ok-inode.ensures.same
+
+pub write_at-requires-clause-inode : goal.write_at-requires-clause-inode
+write_at-requires-clause-inode g c = c.in_ok-inode.ensures.found ∙ ap (λ image. inode_at c.args.place image c.args.n) (map_unchanged c.in_ok-inode.ensures.same)
+
+pub write_at-requires-clause-spare : goal.write_at-requires-clause-spare
+write_at-requires-clause-spare g c = omega (arith, lacking_at_most (g.S.Sectors.state c.load.new.s) (bitmaps c.args.place), length-range_with_len 128 (c.args.place.table - 128), c.room.ensures, c.if-room-place.false)
+
+pub overwrite_direct-requires-clause-sound : goal.overwrite_direct-requires-clause-sound
+overwrite_direct-requires-clause-sound g c = sound_after_reads c.requires.sound c.in_ok-inode.ensures.same
+
+pub overwrite_direct-requires-clause-spare : goal.overwrite_direct-requires-clause-spare
+overwrite_direct-requires-clause-spare g c = omega (arith, lacking_at_most (g.S.Sectors.state c.load.new.s) (bitmaps c.args.place), length-range_with_len 128 (c.args.place.table - 128), c.room.ensures, c.if-room-place.false)
+
+pub set_size-requires-clause-sound : goal.set_size-requires-clause-sound
+set_size-requires-clause-sound g c = sound_after_reads c.requires.sound c.in_ok-inode.ensures.same
+
+pub set_size-requires-clause-inode : goal.set_size-requires-clause-inode
+set_size-requires-clause-inode g c = c.in_ok-inode.ensures.found ∙ ap (λ image. inode_at c.args.place image c.args.n) (map_unchanged c.in_ok-inode.ensures.same)
+
+pub set_size-requires-clause-spare : goal.set_size-requires-clause-spare
+set_size-requires-clause-spare g c = omega (arith, lacking_at_most (g.S.Sectors.state c.load.new.s) (bitmaps c.args.place), length-range_with_len 128 (c.args.place.table - 128), c.room.ensures, c.if-room-place.false)
+
+pub release_all-requires-clause-sound : goal.release_all-requires-clause-sound
+release_all-requires-clause-sound g c = sound_after_reads c.requires.sound c.in_ok-inode.ensures.same
+
+pub release_all-requires-clause-inode : goal.release_all-requires-clause-inode
+release_all-requires-clause-inode g c = c.in_ok-inode.ensures.found ∙ ap (λ image. inode_at c.args.place image c.args.n) (map_unchanged c.in_ok-inode.ensures.same)
+
+pub release_all-requires-clause-spare : goal.release_all-requires-clause-spare
+release_all-requires-clause-spare g c = omega (arith, lacking_at_most (g.S.Sectors.state c.load.new.s) (bitmaps c.args.place), length-range_with_len 128 (c.args.place.table - 128), c.room.ensures, c.if-room-place.false)

@@ -1,0 +1,269 @@
+//! Calls on bitmaps of a transaction, with what each reads and puts.
+
+ghost use Rattle.std.specs.Prelude.{◌≡◌, ◌≤◌, IfOk, OnOk};
+ghost use Rattle.fs_layout.specs.Place.{IsPlace};
+ghost use Rattle.bit_alloc.specs.Bitmaps.{HasBitmaps};
+ghost use Rattle.bit_alloc.specs.Room.{HasSpare};
+
+mod searches;
+mod tables;
+
+use bit_alloc::{Bitmap, TakeFault, count_free, give, has_free, is_taken, take};
+use fs_layout::{Commit, Place, place_of};
+use redo_journal::Journal;
+use sector_disk::{Disk, DiskFault, MemDisk};
+use sector_txn::{Sectors, Store};
+use std::alloc::Global;
+use std::test::Fail;
+use tables::{is_number, is_ready, put_all_but};
+
+// Sectors and inodes of the disk: its block bitmap has three sectors, and its data begin at sector 148.
+const SECTORS: u32 = 9000;
+
+const INODES: u32 = 64;
+
+// A transaction that counts its reads and puts.
+struct Counted<S> {
+    inner: S,
+    gets: u32,
+    puts: u32,
+}
+
+impl<S: Sectors> Sectors for Counted<S> {
+    ghost state = { λ c. S.state c.inner };
+
+    fn get(&mut self, n: u32, to: &mut [u8; 512]) -> Result<(), DiskFault> {
+        self.gets = self.gets.saturating_add(1);
+        self.inner.get(n, to)
+    }
+
+    fn put(&mut self, n: u32, from: &[u8; 512]) {
+        self.puts = self.puts.saturating_add(1);
+        self.inner.put(n, from);
+    }
+
+    fn room(&self) -> usize {
+        self.inner.room()
+    }
+}
+
+#[derive(Clone, Copy)]
+enum Call {
+    Take,
+    Give(u32),
+    IsTaken(u32),
+    Count,
+    HasFree(u32),
+}
+
+// A call, its answer (none where the bitmap is full), and how many sectors it reads and puts.
+type Row = (Call, Option<u32>, u32, u32);
+
+fn perform<S: Sectors>(
+    s: &mut S,
+    place: Place,
+    map: Bitmap,
+    call: Call,
+) -> Result<Option<u32>, Fail>
+    requires bitmaps { HasBitmaps place (S.state s.old) }
+    requires room { HasSpare place 0 (S.state s.old) }
+    ensures bitmaps { OnOk result (HasBitmaps place (S.state s.new)) }
+    ensures room { OnOk result (HasSpare place 0 (S.state s.new)) }
+{
+    match call {
+        Call::Take => match take(s, place, map) {
+            Ok(n) => Ok(Some(n)),
+            Err(TakeFault::Full) => Ok(None),
+            Err(TakeFault::DiskFault) => Err(Fail::new("not read")),
+        },
+        Call::Give(n) => {
+            if !is_number(place, map, n) {
+                return Err(Fail::new("no number"));
+            }
+            give(s, place, map, n)?;
+            Ok(Some(n))
+        }
+        Call::IsTaken(n) => {
+            if !is_number(place, map, n) {
+                return Err(Fail::new("no number"));
+            }
+            let taken = is_taken(s, place, map, n)?;
+            Ok(Some(u32::from(taken)))
+        }
+        Call::Count => {
+            let free = count_free(s, place, map)?;
+            Ok(Some(free))
+        }
+        Call::HasFree(k) => {
+            let some = has_free(s, place, map, k)?;
+            Ok(Some(u32::from(some)))
+        }
+    }
+}
+
+// How many calls are as their rows say, up to the first that isn't.
+fn agreed<S: Sectors>(
+    s: &mut Counted<S>,
+    place: Place,
+    map: Bitmap,
+    rows: &[Row],
+) -> Result<usize, Fail>
+    requires bitmaps { HasBitmaps place (S.state s.old.inner) }
+    requires room { HasSpare place 0 (S.state s.old.inner) }
+{
+    for (i, (call, answer, gets, puts)) in rows.iter().enumerate() {
+        s.gets = 0;
+        s.puts = 0;
+        let seen = perform(s, place, map, *call)?;
+        if seen != *answer || s.gets != *gets || s.puts != *puts {
+            return Ok(i);
+        }
+    }
+    Ok(rows.len())
+}
+
+// The same of a bitmap that lacks these numbers, while the other one is full.
+fn agreed_without<S: Sectors>(
+    s: &mut Counted<S>,
+    place: Place,
+    map: Bitmap,
+    clear: &[u32],
+    rows: &[Row],
+) -> Result<usize, Fail>
+    requires place { IsPlace place }
+    requires disk { place.sectors ≤ (S.state s.old.inner).disk.size }
+{
+    put_all_but(s, place, Bitmap::Inodes, &[]);
+    put_all_but(s, place, Bitmap::Blocks, &[]);
+    put_all_but(s, place, map, clear);
+    if !is_ready(s, place)? {
+        return Err(Fail::new("other tables"));
+    }
+    agreed(s, place, map, rows)
+}
+
+// A disk of zeros, but for an idle commit sector.
+fn idle_disk(alloc: Global) -> Result<MemDisk, Fail> {
+    let mut disk = MemDisk::new(alloc, SECTORS)?;
+    let mut commit = [0; 512];
+    Commit::idle().write_to(&mut commit, 0);
+    disk.write(1, &commit)?;
+    disk.sync()?;
+    Ok(disk)
+}
+
+fn opened<D: Disk + Drop>(alloc: Global, disk: D) -> Result<Store<D>, Fail>
+    ensures { IfOk result (λ store. (D.state store.disk).size ≡ SECTORS) }
+{
+    if disk.size() != SECTORS {
+        return Err(Fail::new("another size"));
+    }
+    match Journal::open(disk) {
+        Ok(journal) => match Store::new(alloc, journal) {
+            Ok(store) => Ok(store),
+            Err(_) => Err(Fail::new("no memory")),
+        },
+        Err(_) => Err(Fail::new("not opened")),
+    }
+}
+
+// The same on a new disk.
+fn agreed_on_disk(alloc: Global, map: Bitmap, clear: &[u32], rows: &[Row]) -> Result<usize, Fail> {
+    let place = place_of(SECTORS, INODES).ok_or("no place")?;
+    if place.sectors != SECTORS {
+        return Err(Fail::new("another size"));
+    }
+    let store = opened(alloc, idle_disk(alloc)?)?;
+    let mut s = Counted {
+        inner: store.begin(),
+        gets: 0,
+        puts: 0,
+    };
+    let seen = agreed_without(&mut s, place, map, clear, rows);
+    let Counted {
+        inner,
+        gets: _,
+        puts: _,
+    } = s;
+    let _store = inner.drop_delta();
+    seen
+}
+
+// Two inodes are free.
+const FEW_INODES: [Row; 12] = [
+    (Call::Count, Some(2), 1, 0),
+    (Call::HasFree(2), Some(1), 1, 0),
+    (Call::HasFree(3), Some(0), 1, 0),
+    (Call::Take, Some(1), 1, 1),
+    (Call::IsTaken(1), Some(1), 1, 0),
+    (Call::Take, Some(63), 1, 1),
+    (Call::Take, None, 1, 0),
+    (Call::Count, Some(0), 1, 0),
+    (Call::Give(1), Some(1), 1, 1),
+    (Call::IsTaken(1), Some(0), 1, 0),
+    (Call::IsTaken(63), Some(1), 1, 0),
+    (Call::Count, Some(1), 1, 0),
+];
+
+// No inode is free at first.
+const NO_INODES: [Row; 7] = [
+    (Call::Take, None, 1, 0),
+    (Call::HasFree(0), Some(1), 0, 0),
+    (Call::HasFree(1), Some(0), 1, 0),
+    (Call::Give(17), Some(17), 1, 1),
+    (Call::Give(17), Some(17), 1, 1),
+    (Call::Count, Some(1), 1, 0),
+    (Call::Take, Some(17), 1, 1),
+];
+
+// Data sectors are free in each sector of the bitmap.
+const SOME_BLOCKS: [Row; 14] = [
+    (Call::Count, Some(8), 3, 0),
+    (Call::HasFree(4), Some(1), 1, 0),
+    (Call::HasFree(5), Some(1), 2, 0),
+    (Call::HasFree(8), Some(1), 3, 0),
+    (Call::HasFree(9), Some(0), 3, 0),
+    (Call::Take, Some(148), 1, 1),
+    (Call::Take, Some(191), 1, 1),
+    (Call::Take, Some(192), 1, 1),
+    (Call::Take, Some(4095), 1, 1),
+    (Call::Take, Some(4096), 2, 1),
+    (Call::Take, Some(8191), 2, 1),
+    (Call::Take, Some(8192), 3, 1),
+    (Call::Take, Some(8999), 3, 1),
+    (Call::Take, None, 3, 0),
+];
+
+// No data sector is free at first.
+const NO_BLOCKS: [Row; 9] = [
+    (Call::Count, Some(0), 3, 0),
+    (Call::Give(8999), Some(8999), 1, 1),
+    (Call::Give(5000), Some(5000), 1, 1),
+    (Call::IsTaken(4999), Some(1), 1, 0),
+    (Call::IsTaken(5000), Some(0), 1, 0),
+    (Call::IsTaken(5001), Some(1), 1, 0),
+    (Call::Count, Some(2), 3, 0),
+    (Call::Take, Some(5000), 2, 1),
+    (Call::Take, Some(8999), 3, 1),
+];
+
+// The lowest number is taken, in whatever word and sector it stands, and given back; a full bitmap says so.
+#[test]
+fn calls(rt: HostRuntime) -> Result<(), Fail> {
+    let alloc = rt.alloc();
+    let rows: [(Bitmap, &[u32], &[Row]); 4] = [
+        (Bitmap::Inodes, &[1, 63], &FEW_INODES),
+        (Bitmap::Inodes, &[], &NO_INODES),
+        (
+            Bitmap::Blocks,
+            &[148, 191, 192, 4095, 4096, 8191, 8192, 8999],
+            &SOME_BLOCKS,
+        ),
+        (Bitmap::Blocks, &[], &NO_BLOCKS),
+    ];
+    for (map, clear, calls) in rows {
+        let seen = agreed_on_disk(alloc, map, clear, calls)?;
+        assert!(rt; seen == calls.len(), "{seen}");
+    }
+    Ok(())
+}

@@ -1,0 +1,209 @@
+//! Calls on the bytes of one file, with what each reads and puts.
+
+ghost use Rattle.std.specs.Prelude.{◌≡◌, ◌≢◌, ◌≤◌, ◌<◌, IfOk, OnOk};
+ghost use Rattle.fs_layout.specs.declared.inode.Kind.TheVariants.{Free};
+ghost use Rattle.fs_layout.specs.Images.{inode_at};
+ghost use Rattle.fs_layout.specs.Place.{IsPlace};
+ghost use Rattle.bit_alloc.specs.Inodes.{IsSound};
+ghost use Rattle.bit_alloc.specs.Room.{HasSpare};
+
+mod links;
+
+use blank_map::{Counted, idle_store, is_blank, put_blank};
+use block_map::{overwrite, read_at, release_all, set_size, write_at};
+use fs_layout::{Inode, Kind, Place, place_of};
+use inode_table::{load, new_inode};
+use posix_acl::Acl;
+use sector_txn::Sectors;
+use std::alloc::Global;
+use std::test::Fail;
+
+// Sectors and inodes of the disk: its block bitmap has one sector.
+const SECTORS: u32 = 1024;
+
+const INODES: u32 = 16;
+
+#[derive(Clone, Copy)]
+enum Call {
+    // Four bytes from an offset.
+    Read(u64),
+    // So many bytes of 7, at an offset.
+    Write(u64, usize),
+    // Four bytes of 5, at an offset.
+    Overwrite(u64),
+    SetSize(u64),
+    Release,
+}
+
+// A call, the bytes that it reads, 9 where there are none, and how many sectors it reads and puts.
+type Row = (Call, [u8; 4], u32, u32);
+
+// Writes four bytes over those of one of the first 12 blocks.
+fn overwrite_direct<S: Sectors>(
+    s: &mut S,
+    place: Place,
+    n: u32,
+    inode: &Inode,
+    offset: u64,
+) -> Result<(), Fail>
+    requires sound { IsSound place (S.state s.old) }
+    requires below { n < place.inodes }
+    requires inode { inode.now ≡ inode_at place (S.state s.old).sectors n }
+    requires used { inode.now.kind ≢ Free }
+    requires spare { HasSpare place 1 (S.state s.old) }
+    ensures sound { OnOk result (IsSound place (S.state s.new)) }
+{
+    if 6144 <= offset || inode.size < offset + 4 || 508 < offset % 512 {
+        return Err(Fail::new("not within a block"));
+    }
+    if inode.direct[(offset / 512) as usize] == 0 {
+        return Err(Fail::new("a hole"));
+    }
+    overwrite(s, place, n, inode, offset, &[5; 4])?;
+    Ok(())
+}
+
+fn perform<S: Sectors>(s: &mut S, place: Place, n: u32, call: Call) -> Result<[u8; 4], Fail>
+    requires sound { IsSound place (S.state s.old) }
+    requires below { n < place.inodes }
+    ensures sound { OnOk result (IsSound place (S.state s.new)) }
+{
+    let mut inode = load(s, place, n)?;
+    if s.room() < (place.table - 128) as usize + 13 {
+        return Err(Fail::new("no room"));
+    }
+    let Kind::File = inode.kind else {
+        return Err(Fail::new("no file"));
+    };
+    let mut bytes = [9; 4];
+    match call {
+        Call::Read(offset) => {
+            read_at(s, &inode, offset, &mut bytes)?;
+            Ok(bytes)
+        }
+        Call::Write(offset, len) => {
+            if len > 4096 {
+                return Err(Fail::new("too many bytes"));
+            }
+            match write_at(s, place, n, &mut inode, offset, &[7; 4096][..len]) {
+                Ok(()) => Ok(bytes),
+                Err(_) => Err(Fail::new("not written")),
+            }
+        }
+        Call::Overwrite(offset) => {
+            overwrite_direct(s, place, n, &inode, offset)?;
+            Ok(bytes)
+        }
+        Call::SetSize(size) => match set_size(s, place, n, &mut inode, size) {
+            Ok(()) => Ok(bytes),
+            Err(_) => Err(Fail::new("no other size")),
+        },
+        Call::Release => {
+            release_all(s, place, n, &mut inode)?;
+            Ok(bytes)
+        }
+    }
+}
+
+// How many calls are as their rows say, up to the first that isn't.
+fn agreed<S: Sectors>(s: &mut Counted<S>, place: Place, n: u32, rows: &[Row]) -> Result<usize, Fail>
+    requires sound { IsSound place (S.state s.old.inner) }
+    requires below { n < place.inodes }
+{
+    for (i, (call, bytes, gets, puts)) in rows.iter().enumerate() {
+        s.gets = 0;
+        s.puts = 0;
+        let seen = perform(s, place, n, *call)?;
+        // The inode is read before each.
+        if seen != *bytes || s.gets.saturating_sub(1) != *gets || s.puts != *puts {
+            return Ok(i);
+        }
+    }
+    Ok(rows.len())
+}
+
+// The same of a new file, on a map without inodes.
+fn agreed_on_blank<S: Sectors>(
+    s: &mut Counted<S>,
+    place: Place,
+    access: &Acl,
+    rows: &[Row],
+) -> Result<usize, Fail>
+    requires place { IsPlace place }
+    requires disk { place.sectors ≤ (S.state s.old.inner).disk.size }
+{
+    put_blank(s, place);
+    if !is_blank(s, place)? {
+        return Err(Fail::new("not blank"));
+    }
+    let inode = Inode {
+        kind: Kind::File,
+        mode: 0o640,
+        names: 1,
+        ..Inode::FREE
+    };
+    let Ok(n) = new_inode(s, place, &inode, access, None) else {
+        return Err(Fail::new("not made"));
+    };
+    agreed(s, place, n, rows)
+}
+
+// The same on a new disk.
+fn agreed_on_disk(alloc: Global, rows: &[Row]) -> Result<usize, Fail> {
+    let Ok(access) = Acl::parse_text(alloc, b"user::rw-,group::r--,other::---") else {
+        return Err(Fail::new("no ACL"));
+    };
+    let place = place_of(SECTORS, INODES).ok_or("no place")?;
+    if place.sectors != SECTORS {
+        return Err(Fail::new("another size"));
+    }
+    let store = idle_store(alloc, SECTORS).ok_or("no store")?;
+    let mut s = Counted::new(store.begin());
+    let seen = agreed_on_blank(&mut s, place, &access, rows);
+    let _store = s.into_inner().drop_delta();
+    seen
+}
+
+#[test]
+fn calls(rt: HostRuntime) -> Result<(), Fail> {
+    let done = [9; 4];
+    let rows: [&[Row]; 3] = [
+        &[
+            (Call::Read(0), done, 0, 0),
+            (Call::Write(510, 4), done, 3, 5),
+            (Call::Read(508), [0, 0, 7, 7], 1, 0),
+            (Call::Read(510), [7, 7, 7, 7], 2, 0),
+            (Call::Read(512), [7, 7, 9, 9], 1, 0),
+            (Call::Write(0, 1024), done, 3, 3),
+            (Call::Overwrite(508), done, 1, 1),
+            (Call::Read(510), [5, 5, 7, 7], 2, 0),
+            (Call::SetSize(513), done, 2, 2),
+            (Call::Write(516, 1), done, 2, 2),
+            (Call::Read(512), [7, 0, 0, 0], 1, 0),
+            (Call::SetSize(512), done, 2, 2),
+            (Call::Release, done, 2, 2),
+        ],
+        &[
+            (Call::SetSize(71_680), done, 1, 1),
+            (Call::Read(71_676), [0; 4], 0, 0),
+            (Call::Write(6144, 1), done, 3, 6),
+            (Call::Read(6143), [0, 7, 0, 0], 2, 0),
+            (Call::Write(6656, 1), done, 3, 4),
+            (Call::SetSize(6200), done, 6, 4),
+            (Call::SetSize(6144), done, 6, 3),
+            (Call::Release, done, 1, 1),
+        ],
+        &[
+            (Call::Write(0, 4096), done, 9, 17),
+            (Call::Read(4094), [7, 7, 9, 9], 1, 0),
+            (Call::SetSize(9000), done, 1, 1),
+            (Call::Write(8998, 2), done, 3, 6),
+            (Call::Release, done, 12, 11),
+        ],
+    ];
+    for calls in rows {
+        let seen = agreed_on_disk(rt.alloc(), calls)?;
+        assert!(rt; seen == calls.len(), "{seen}");
+    }
+    Ok(())
+}

@@ -1,0 +1,95 @@
+//! The life of a link, with what each call reads and puts, and what is free.
+
+ghost use Rattle.std.specs.Prelude.{◌≤◌, OnOk};
+ghost use Rattle.fs_layout.specs.Place.{IsPlace};
+ghost use Rattle.sector_txn.specs.Sectors.{IsUnchanged};
+ghost use Rattle.bit_alloc.specs.Bitmaps.{HasBitmaps};
+ghost use Rattle.bit_alloc.specs.Inodes.{IsSound};
+ghost use Rattle.bit_alloc.specs.Room.{HasSpare};
+ghost use Rattle.inode_table.specs.Inodes.{ClearAreFree};
+
+use super::{INODES, SECTORS};
+use bit_alloc::{Bitmap, count_free};
+use blank_map::{Counted, idle_store, is_blank, put_blank};
+use block_map::{free_all, new_link};
+use fs_layout::{Place, place_of};
+use sector_txn::Sectors;
+use std::alloc::Global;
+use std::test::Fail;
+
+// How many inodes are free, and how many data sectors.
+type Free = (u32, u32);
+
+// The `get`s and `put`s of one call.
+type Counts = (u32, u32);
+
+// What is free before a link is made, then, and after it is freed; and what the two calls cost.
+type Life = ([Free; 3], [Counts; 2]);
+
+fn free<S: Sectors>(s: &mut S, place: Place) -> Result<Free, Fail>
+    requires { HasBitmaps place (S.state s.old) }
+    ensures { OnOk result (IsUnchanged (S.state s.old) (S.state s.new)) }
+{
+    let inodes = count_free(s, place, Bitmap::Inodes)?;
+    let blocks = count_free(s, place, Bitmap::Blocks)?;
+    Ok((inodes, blocks))
+}
+
+fn life<S: Sectors>(s: &mut Counted<S>, place: Place, target: &[u8]) -> Result<Life, Fail>
+    requires sound { IsSound place (S.state s.old.inner) }
+    requires clear { ClearAreFree place (S.state s.old.inner).sectors }
+    requires spare { HasSpare place 12 (S.state s.old.inner) }
+{
+    if target.is_empty() || target.len() > 512 {
+        return Err(Fail::new("no target"));
+    }
+    let before = free(s, place)?;
+    s.gets = 0;
+    s.puts = 0;
+    let Ok(n) = new_link(s, place, 1000, 100, target) else {
+        return Err(Fail::new("not made"));
+    };
+    let made = (s.gets, s.puts);
+    let between = free(s, place)?;
+    s.gets = 0;
+    s.puts = 0;
+    free_all(s, place, n)?;
+    let freed = (s.gets, s.puts);
+    let after = free(s, place)?;
+    Ok(([before, between, after], [made, freed]))
+}
+
+// The same on a map without inodes.
+fn life_on_blank<S: Sectors>(s: &mut Counted<S>, place: Place, target: &[u8]) -> Result<Life, Fail>
+    requires place { IsPlace place }
+    requires disk { place.sectors ≤ (S.state s.old.inner).disk.size }
+{
+    put_blank(s, place);
+    if !is_blank(s, place)? {
+        return Err(Fail::new("not blank"));
+    }
+    life(s, place, target)
+}
+
+// The same on a new disk.
+fn life_on_disk(alloc: Global, target: &[u8]) -> Result<Life, Fail> {
+    let place = place_of(SECTORS, INODES).ok_or("no place")?;
+    if place.sectors != SECTORS {
+        return Err(Fail::new("another size"));
+    }
+    let store = idle_store(alloc, SECTORS).ok_or("no store")?;
+    let mut s = Counted::new(store.begin());
+    let seen = life_on_blank(&mut s, place, target);
+    let _store = s.into_inner().drop_delta();
+    seen
+}
+
+#[test]
+fn a_link_takes_an_inode_and_a_sector(rt: HostRuntime) -> Result<(), Fail> {
+    let wanted = ([(15, 890), (14, 889), (15, 890)], [(3, 4), (4, 3)]);
+    for target in [b"t".as_slice(), &[97; 512]] {
+        let seen = life_on_disk(rt.alloc(), target)?;
+        assert!(rt; seen == wanted, "{seen:?}");
+    }
+    Ok(())
+}

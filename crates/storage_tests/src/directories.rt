@@ -1,0 +1,250 @@
+//! Calls on directories of a few names and of many, with what each reads and puts.
+
+ghost use Rattle.std.specs.Prelude.{◌≡◌, ◌≤◌, ◌<◌, ℕ, List, IfOk, OnOk};
+ghost use Rattle.fs_layout.specs.Place.{IsPlace};
+ghost use Rattle.fs_layout.specs.Images.{inode_at};
+ghost use Rattle.fs_layout.specs.Directories.{IsName, HasNames};
+ghost use Rattle.bit_alloc.specs.Inodes.{IsSound};
+ghost use Rattle.bit_alloc.specs.Room.{HasSpare};
+
+use blank_map::{Counted, idle_store, is_blank, put_blank};
+use dir_core::{DirFault, insert, is_empty, list, lookup, remove, rename, replace};
+use fs_layout::{Inode, Kind, Place, is_name, place_of};
+use inode_table::{load, new_inode};
+use posix_acl::Acl;
+use sector_txn::Sectors;
+use std::alloc::Global;
+use std::test::Fail;
+
+// Sectors and inodes of the disk: its block bitmap has one sector.
+const SECTORS: u32 = 1024;
+
+const INODES: u32 = 16;
+
+#[derive(Clone, Copy)]
+enum Call {
+    Lookup,
+    List,
+    Insert,
+    Remove,
+    Replace,
+    Rename,
+}
+
+// What a call gives, and how many sectors it reads and puts. A lookup gives the inode, 0 for none, and each other call the
+// number of names then.
+type Seen = (Result<usize, DirFault>, u32, u32);
+
+// Name number i, one of two bytes.
+fn name_of(i: u32) -> [u8; 2] {
+    [64 + (i / 64 % 64) as u8, 64 + (i % 64) as u8]
+}
+
+// Adds so many names, the i-th of which leads to inode i + 2.
+fn fill<S: Sectors>(
+    s: &mut S,
+    place: Place,
+    n: u32,
+    inode: &mut Inode,
+    count: u32,
+) -> Result<(), Fail>
+    requires sound { IsSound place (S.state s.old) }
+    requires below { n < place.inodes }
+    requires there { inode.old ≡ inode_at place (S.state s.old).sectors n }
+    requires directory { (names : List (List ℕ × ℕ)) × HasNames (S.state s.old).sectors inode.old names }
+    requires few { count ≤ 560 }
+    ensures sound { OnOk result (IsSound place (S.state s.new)) }
+    ensures there { OnOk result (inode.new ≡ inode_at place (S.state s.new).sectors n) }
+    ensures directory { OnOk result ((names : List (List ℕ × ℕ)) × HasNames (S.state s.new).sectors inode.new names) }
+{
+    for i in 0..count {
+        if s.room() < (place.table - 128) as usize + 3 {
+            return Err(Fail::new("no room"));
+        }
+        let name = name_of(i);
+        if !is_name(&name) {
+            return Err(Fail::new("no name"));
+        }
+        let Ok(()) = insert(s, place, n, inode, &name, i + 2) else {
+            return Err(Fail::new("not added"));
+        };
+    }
+    Ok(())
+}
+
+// Gives what has a name a new one, which is looked up before.
+fn renamed<S: Sectors>(
+    s: &mut S,
+    place: Place,
+    n: u32,
+    inode: &Inode,
+    name: &[u8],
+) -> Result<(), DirFault>
+    requires sound { IsSound place (S.state s.old) }
+    requires below { n < place.inodes }
+    requires there { inode.now ≡ inode_at place (S.state s.old).sectors n }
+    requires directory { (names : List (List ℕ × ℕ)) × HasNames (S.state s.old).sectors inode.now names }
+    requires spare { HasSpare place 1 (S.state s.old) }
+{
+    let new_name = b"new";
+    if !is_name(new_name) {
+        return Err(DirFault::Absent);
+    }
+    if lookup(s, place, inode, new_name)?.is_some() {
+        return Err(DirFault::Exists);
+    }
+    rename(s, place, n, inode, name, new_name)?;
+    Ok(())
+}
+
+fn perform<S: Sectors>(
+    alloc: Global,
+    s: &mut S,
+    place: Place,
+    n: u32,
+    inode: &mut Inode,
+    call: Call,
+    name: &[u8],
+) -> Result<usize, DirFault>
+    requires sound { IsSound place (S.state s.old) }
+    requires below { n < place.inodes }
+    requires there { inode.old ≡ inode_at place (S.state s.old).sectors n }
+    requires directory { (names : List (List ℕ × ℕ)) × HasNames (S.state s.old).sectors inode.old names }
+    requires name { IsName name.now }
+    requires spare { HasSpare place 4 (S.state s.old) }
+{
+    match call {
+        Call::Lookup => return Ok(lookup(s, place, inode, name)?.unwrap_or(0) as usize),
+        Call::List => return Ok(list(alloc, s, place, inode)?.len()),
+        Call::Insert => insert(s, place, n, inode, name, 9)?,
+        Call::Remove => remove(s, place, n, inode, name)?,
+        Call::Replace => replace(s, place, n, inode, name, 9)?,
+        Call::Rename => renamed(s, place, n, inode, name)?,
+    }
+    Ok((inode.size / 128) as usize)
+}
+
+// What a call on a name sees in a new directory of so many names, on a map without inodes.
+fn seen_on_blank<S: Sectors>(
+    alloc: Global,
+    s: &mut Counted<S>,
+    place: Place,
+    access: &Acl,
+    row: &Row,
+) -> Result<Seen, Fail>
+    requires place { IsPlace place }
+    requires disk { place.sectors ≤ (S.state s.old.inner).disk.size }
+{
+    let (count, call, i, _) = *row;
+    put_blank(s, place);
+    if !is_blank(s, place)? {
+        return Err(Fail::new("not blank"));
+    }
+    let inode = Inode {
+        kind: Kind::Directory,
+        mode: 0o750,
+        names: 1,
+        parent: 1,
+        ..Inode::FREE
+    };
+    let Ok(n) = new_inode(s, place, &inode, access, None) else {
+        return Err(Fail::new("not made"));
+    };
+    let mut inode = load(s, place, n)?;
+    if !is_empty(&inode) || count > 560 {
+        return Err(Fail::new("not empty"));
+    }
+    fill(s, place, n, &mut inode, count)?;
+    let name = name_of(i);
+    if !is_name(&name) || s.room() < (place.table - 128) as usize + 4 {
+        return Err(Fail::new("no room"));
+    }
+    s.gets = 0;
+    s.puts = 0;
+    let given = perform(alloc, s, place, n, &mut inode, call, &name);
+    Ok((given, s.gets, s.puts))
+}
+
+// The same on a new disk.
+fn seen_on_disk(alloc: Global, row: &Row) -> Result<Seen, Fail> {
+    let Ok(access) = Acl::parse_text(alloc, b"user::rwx,group::r-x,other::---") else {
+        return Err(Fail::new("no ACL"));
+    };
+    let place = place_of(SECTORS, INODES).ok_or("no place")?;
+    if place.sectors != SECTORS {
+        return Err(Fail::new("another size"));
+    }
+    let store = idle_store(alloc, SECTORS).ok_or("no store")?;
+    let mut s = Counted::new(store.begin());
+    let seen = seen_on_blank(alloc, &mut s, place, &access, row);
+    let _store = s.into_inner().drop_delta();
+    seen
+}
+
+// A number of names, a call with the number of its name, and what is seen.
+type Row = (u32, Call, u32, Seen);
+
+// How many rows are as they say, up to the first that isn't.
+fn agreed(alloc: Global, rows: &[Row]) -> Result<usize, Fail> {
+    for (i, row) in rows.iter().enumerate() {
+        if seen_on_disk(alloc, row)? != row.3 {
+            return Ok(i);
+        }
+    }
+    Ok(rows.len())
+}
+
+// Of the names no sector is read twice, and none behind that of the name; from 49 names on there is a sector of pointers.
+#[test]
+fn reads(rt: HostRuntime) -> Result<(), Fail> {
+    let rows: [Row; 15] = [
+        (0, Call::Lookup, 0, (Ok(0), 0, 0)),
+        (0, Call::List, 0, (Ok(0), 0, 0)),
+        (1, Call::Lookup, 0, (Ok(2), 1, 0)),
+        (1, Call::Lookup, 1, (Ok(0), 1, 0)),
+        (1, Call::List, 0, (Ok(1), 1, 0)),
+        (48, Call::Lookup, 3, (Ok(5), 1, 0)),
+        (48, Call::Lookup, 4, (Ok(6), 2, 0)),
+        (48, Call::Lookup, 47, (Ok(49), 12, 0)),
+        (48, Call::Lookup, 48, (Ok(0), 12, 0)),
+        (48, Call::List, 0, (Ok(48), 12, 0)),
+        (49, Call::Lookup, 0, (Ok(2), 2, 0)),
+        (49, Call::Lookup, 48, (Ok(50), 14, 0)),
+        (49, Call::Lookup, 49, (Ok(0), 14, 0)),
+        (49, Call::List, 0, (Ok(49), 14, 0)),
+        (160, Call::Lookup, 160, (Ok(0), 41, 0)),
+    ];
+    let seen = agreed(rt.alloc(), &rows)?;
+    assert!(rt; seen == rows.len(), "{seen}");
+    Ok(())
+}
+
+// A name takes a block where the last one is full, and with name 48 the sector of pointers too. The last slot moves into
+// the place of the one that is removed. Before a name becomes another one, that is looked up.
+#[test]
+fn changes(rt: HostRuntime) -> Result<(), Fail> {
+    let rows: [Row; 19] = [
+        (0, Call::Insert, 0, (Ok(1), 2, 3)),
+        (1, Call::Insert, 0, (Err(DirFault::Exists), 1, 0)),
+        (1, Call::Insert, 1, (Ok(2), 3, 2)),
+        (4, Call::Insert, 4, (Ok(5), 3, 3)),
+        (48, Call::Insert, 48, (Ok(49), 15, 6)),
+        (49, Call::Insert, 49, (Ok(50), 17, 2)),
+        (0, Call::Remove, 0, (Err(DirFault::Absent), 0, 0)),
+        (1, Call::Remove, 0, (Ok(0), 3, 2)),
+        (2, Call::Remove, 0, (Ok(1), 5, 3)),
+        (2, Call::Remove, 1, (Ok(1), 3, 2)),
+        (2, Call::Remove, 2, (Err(DirFault::Absent), 1, 0)),
+        (50, Call::Remove, 0, (Ok(49), 8, 4)),
+        (49, Call::Remove, 48, (Ok(48), 18, 3)),
+        (2, Call::Replace, 0, (Ok(2), 2, 1)),
+        (2, Call::Replace, 2, (Err(DirFault::Absent), 1, 0)),
+        (50, Call::Replace, 49, (Ok(50), 16, 1)),
+        (2, Call::Rename, 0, (Ok(2), 3, 1)),
+        (2, Call::Rename, 2, (Err(DirFault::Absent), 2, 0)),
+        (50, Call::Rename, 49, (Ok(50), 30, 1)),
+    ];
+    let seen = agreed(rt.alloc(), &rows)?;
+    assert!(rt; seen == rows.len(), "{seen}");
+    Ok(())
+}

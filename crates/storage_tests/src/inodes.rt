@@ -1,0 +1,143 @@
+//! The ACLs of inodes, and the sectors that they have.
+
+ghost use Rattle.std.specs.Prelude.{◌≤◌};
+ghost use Rattle.fs_layout.specs.Place.{IsPlace};
+ghost use Rattle.bit_alloc.specs.Inodes.{IsSound};
+ghost use Rattle.bit_alloc.specs.Room.{HasSpare};
+ghost use Rattle.inode_table.specs.Inodes.{ClearAreFree};
+
+mod calls;
+
+use blank_map::{Counted, idle_store, is_blank, put_blank};
+use calls::made;
+use fs_layout::{Inode, Kind, Place, place_of};
+use inode_table::load;
+use posix_acl::{Acl, AclFault, TextForm};
+use sector_txn::Sectors;
+use std::alloc::Global;
+use std::test::Fail;
+
+// Sectors and inodes of the disk: its block bitmap has one sector, and its inode table four.
+const SECTORS: u32 = 1024;
+
+const INODES: u32 = 16;
+
+fn parsed(alloc: Global, text: &[u8]) -> Result<Acl, Fail> {
+    match Acl::parse_text(alloc, text) {
+        Ok(acl) => Ok(acl),
+        Err(AclFault::OutOfMemory) => Err(Fail::new("no memory")),
+        Err(_) => Err(Fail::new("no ACL")),
+    }
+}
+
+fn is_written_as(acl: &Acl, text: &[u8]) -> Result<bool, Fail> {
+    match acl.write_text(TextForm::Short) {
+        Ok(written) => Ok(written.as_bytes() == text),
+        Err(_) => Err(Fail::new("no memory")),
+    }
+}
+
+// The first bytes of a sector of the map.
+fn first_bytes<S: Sectors>(s: &mut S, place: Place, n: u32) -> Result<[u8; 24], Fail>
+    requires { place.sectors ≤ (S.state s.old).disk.size }
+{
+    if n < 128 || place.sectors <= n {
+        return Err(Fail::new("no sector"));
+    }
+    let mut content = [0; 512];
+    s.get(n, &mut content)?;
+    let mut first = [0; 24];
+    (&mut first[..]).copy_from_slice(&content[..24]);
+    Ok(first)
+}
+
+// The first bytes of an ACL's sector, whether it is read again as it was, whether it is kept where it is the access ACL, and
+// a mode with its bits.
+type Stored = ([u8; 24], bool, bool, u16);
+
+// Makes a directory that has the ACL twice. Where it isn't kept as the access ACL, the bytes are those of the default ACL.
+fn stored<S: Sectors>(
+    alloc: Global,
+    s: &mut Counted<S>,
+    place: Place,
+    acl: &Acl,
+) -> Result<Stored, Fail>
+    requires sound { IsSound place (S.state s.old.inner) }
+    requires clear { ClearAreFree place (S.state s.old.inner).sectors }
+    requires spare { HasSpare place 12 (S.state s.old.inner) }
+{
+    let inode = Inode {
+        kind: Kind::Directory,
+        mode: 0o1000,
+        names: 1,
+        parent: 1,
+        ..Inode::FREE
+    };
+    let (n, _, same) = made(alloc, s, place, &inode, acl, Some(acl))?;
+    let inode = load(s, place, n)?;
+    let kept = inode.acl != 0;
+    let at = if kept { inode.acl } else { inode.default_acl };
+    let first = first_bytes(s, place, at)?;
+    Ok((first, same, kept, inode.mode))
+}
+
+// The same on a map without inodes.
+fn stored_on_blank<S: Sectors>(
+    alloc: Global,
+    s: &mut Counted<S>,
+    place: Place,
+    acl: &Acl,
+) -> Result<Stored, Fail>
+    requires place { IsPlace place }
+    requires disk { place.sectors ≤ (S.state s.old.inner).disk.size }
+{
+    put_blank(s, place);
+    if !is_blank(s, place)? {
+        return Err(Fail::new("not blank"));
+    }
+    stored(alloc, s, place, acl)
+}
+
+// The same on a new disk, of the ACL that this text is of.
+fn stored_on_disk(alloc: Global, text: &[u8]) -> Result<Stored, Fail> {
+    let acl = parsed(alloc, text)?;
+    if !is_written_as(&acl, text)? {
+        return Err(Fail::new("another text"));
+    }
+    let place = place_of(SECTORS, INODES).ok_or("no place")?;
+    if place.sectors != SECTORS {
+        return Err(Fail::new("another size"));
+    }
+    let store = idle_store(alloc, SECTORS).ok_or("no store")?;
+    let mut s = Counted::new(store.begin());
+    let seen = stored_on_blank(alloc, &mut s, place, &acl);
+    let _store = s.into_inner().drop_delta();
+    seen
+}
+
+#[test]
+fn acls_have_the_bytes_of_the_format(rt: HostRuntime) -> Result<(), Fail> {
+    // Count, zeros, and tag, permissions and id of the first two entries.
+    for (text, first, kept, mode) in [
+        (
+            b"user::rw-,group::r--,other::---".as_slice(),
+            [
+                3, 0, 0, 0, 0, 0, 0, 0, 1, 0, 6, 0, 0, 0, 0, 0, 4, 0, 4, 0, 0, 0, 0, 0,
+            ],
+            false,
+            0o1640,
+        ),
+        (
+            b"user::rwx,user:1001:rw-,group::r--,mask::r-x,other::--x".as_slice(),
+            [
+                5, 0, 0, 0, 0, 0, 0, 0, 1, 0, 7, 0, 0, 0, 0, 0, 2, 0, 6, 0, 233, 3, 0, 0,
+            ],
+            true,
+            0o1751,
+        ),
+    ] {
+        let seen = stored_on_disk(rt.alloc(), text)?;
+        assert!(rt; seen == (first, true, kept, mode), "{text:?}");
+    }
+    Ok(())
+}

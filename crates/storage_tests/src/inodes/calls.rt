@@ -1,0 +1,290 @@
+//! The life of an inode, with what each call reads and puts.
+
+ghost use Rattle.std.specs.Prelude.{◌≡◌, ◌≤◌, ◌<◌, [], IfOk, OnOk};
+ghost use Rattle.fs_layout.specs.Place.{IsPlace};
+ghost use Rattle.fs_layout.specs.Images.{Holds, inode_at};
+ghost use Rattle.fs_layout.specs.Inode.{FitsInode};
+ghost use Rattle.bit_alloc.specs.declared.bitmap.Bitmap.TheVariants.{Inodes};
+ghost use Rattle.bit_alloc.specs.Bitmaps.{IsNumber};
+ghost use Rattle.bit_alloc.specs.Room.{HasSpare};
+ghost use Rattle.bit_alloc.specs.Inodes.{IsBlank, IsSound};
+ghost use Rattle.inode_table.specs.Inodes.{ClearAreFree};
+
+use super::{INODES, SECTORS, parsed};
+use blank_map::{Counted, idle_store, is_blank, put_blank};
+use fs_layout::{Inode, Kind, Place, place_of};
+use inode_table::{
+    free_inode, load, load_acl, load_default_acl, new_inode, save, save_acl, save_default_acl,
+    write_inode,
+};
+use posix_acl::Acl;
+use sector_txn::Sectors;
+use std::alloc::Global;
+use std::test::Fail;
+
+// The `get`s and `put`s of one call.
+type Counts = (u32, u32);
+
+// Whether two ACLs have the same entries.
+fn are_alike(one: &Acl, other: &Acl) -> bool {
+    let one = one.entries();
+    let other = other.entries();
+    if one.len() != other.len() {
+        return false;
+    }
+    for i in 0..one.len() {
+        if one[i].numbers() != other[i].numbers() {
+            return false;
+        }
+    }
+    true
+}
+
+// The same, where there are ACLs.
+fn are_alike_if_any(one: Option<&Acl>, other: Option<&Acl>) -> bool {
+    match one {
+        None => other.is_none(),
+        Some(one) => match other {
+            None => false,
+            Some(other) => are_alike(one, other),
+        },
+    }
+}
+
+// Makes an inode with these ACLs: its number, what that, its load and the loads of its ACLs cost, and whether its fields
+// and ACLs were read.
+pub(super) fn made<S: Sectors>(
+    alloc: Global,
+    s: &mut Counted<S>,
+    place: Place,
+    inode: &Inode,
+    access: &Acl,
+    default: Option<&Acl>,
+) -> Result<(u32, [Counts; 4], bool), Fail>
+    requires sound { IsSound place (S.state s.old.inner) }
+    requires clear { ClearAreFree place (S.state s.old.inner).sectors }
+    requires blank { IsBlank inode.now }
+    requires fits { FitsInode inode.now }
+    requires spare { HasSpare place 12 (S.state s.old.inner) }
+    ensures sound { OnOk result (IsSound place (S.state s.new.inner)) }
+    ensures number { IfOk result (λ r. IsNumber place Inodes r.0) }
+    ensures empty { IfOk result (λ r. Holds (S.state s.new.inner).sectors (inode_at place (S.state s.new.inner).sectors r.0) []) }
+{
+    let mut counts = [(0, 0); 4];
+    s.gets = 0;
+    s.puts = 0;
+    let Ok(n) = new_inode(s, place, inode, access, default) else {
+        return Err(Fail::new("not made"));
+    };
+    counts[0] = (s.gets, s.puts);
+    s.gets = 0;
+    s.puts = 0;
+    let made = load(s, place, n)?;
+    counts[1] = (s.gets, s.puts);
+    s.gets = 0;
+    s.puts = 0;
+    let Ok(read) = load_acl(alloc, s, place, &made) else {
+        return Err(Fail::new("no access ACL"));
+    };
+    counts[2] = (s.gets, s.puts);
+    s.gets = 0;
+    s.puts = 0;
+    let Ok(read_default) = load_default_acl(alloc, s, place, &made) else {
+        return Err(Fail::new("no default ACL"));
+    };
+    counts[3] = (s.gets, s.puts);
+    let same = are_alike(&read, access)
+        && are_alike_if_any(read_default.as_ref(), default)
+        && made.names == 1
+        && n == 1;
+    Ok((n, counts, same))
+}
+
+#[derive(Clone, Copy)]
+enum Save {
+    Inode,
+    Attributes,
+    Access,
+    Default,
+}
+
+// What a save of file n costs, as it is or with one of these ACLs.
+fn saved<S: Sectors>(
+    s: &mut Counted<S>,
+    place: Place,
+    n: u32,
+    save_as: Save,
+    access: &Acl,
+    default: Option<&Acl>,
+) -> Result<Counts, Fail>
+    requires sound { IsSound place (S.state s.old.inner) }
+    requires below { n < place.inodes }
+    ensures sound { OnOk result (IsSound place (S.state s.new.inner)) }
+    ensures empty { OnOk result (Holds (S.state s.old.inner).sectors (inode_at place (S.state s.old.inner).sectors n) []
+        → Holds (S.state s.new.inner).sectors (inode_at place (S.state s.new.inner).sectors n) []) }
+{
+    let inode = load(s, place, n)?;
+    if s.room() < (place.table - 128) as usize + 2 {
+        return Err(Fail::new("no room"));
+    }
+    let Kind::File = inode.kind else {
+        return Err(Fail::new("no file"));
+    };
+    s.gets = 0;
+    s.puts = 0;
+    match save_as {
+        Save::Inode => {
+            write_inode(s, place, n, &inode)?;
+            Ok((s.gets, s.puts))
+        }
+        Save::Attributes => {
+            save(s, place, n, &inode)?;
+            Ok((s.gets, s.puts))
+        }
+        Save::Access => {
+            save_acl(s, place, n, &inode, access)?;
+            Ok((s.gets, s.puts))
+        }
+        Save::Default => {
+            save_default_acl(s, place, n, &inode, default)?;
+            Ok((s.gets, s.puts))
+        }
+    }
+}
+
+// The same of all saves, one after the other.
+fn saves<S: Sectors>(
+    s: &mut Counted<S>,
+    place: Place,
+    n: u32,
+    access: &Acl,
+    default: Option<&Acl>,
+) -> Result<[Counts; 4], Fail>
+    requires sound { IsSound place (S.state s.old.inner) }
+    requires below { n < place.inodes }
+    ensures sound { OnOk result (IsSound place (S.state s.new.inner)) }
+    ensures empty { OnOk result (Holds (S.state s.old.inner).sectors (inode_at place (S.state s.old.inner).sectors n) []
+        → Holds (S.state s.new.inner).sectors (inode_at place (S.state s.new.inner).sectors n) []) }
+{
+    Ok([
+        saved(s, place, n, Save::Inode, access, default)?,
+        saved(s, place, n, Save::Attributes, access, default)?,
+        saved(s, place, n, Save::Access, access, default)?,
+        saved(s, place, n, Save::Default, access, default)?,
+    ])
+}
+
+// An access ACL, and a default ACL if there is one.
+type Acls<'a> = (&'a Acl, Option<&'a Acl>);
+
+// What a file costs: made and loaded, saved, and freed; and whether its fields and ACLs were read.
+type Life = ([Counts; 4], [Counts; 4], Counts, bool);
+
+// A file is made with ACLs, gets others and is freed.
+fn life<S: Sectors>(
+    alloc: Global,
+    s: &mut Counted<S>,
+    place: Place,
+    first: Acls,
+    then: Acls,
+) -> Result<Life, Fail>
+    requires sound { IsSound place (S.state s.old.inner) }
+    requires clear { ClearAreFree place (S.state s.old.inner).sectors }
+    requires spare { HasSpare place 12 (S.state s.old.inner) }
+{
+    let inode = Inode {
+        kind: Kind::File,
+        mode: 0o640,
+        names: 1,
+        ..Inode::FREE
+    };
+    let (n, made, same) = made(alloc, s, place, &inode, first.0, first.1)?;
+    let saved = saves(s, place, n, then.0, then.1)?;
+    if s.room() <= (place.table - 128) as usize {
+        return Err(Fail::new("no room"));
+    }
+    s.gets = 0;
+    s.puts = 0;
+    free_inode(s, place, n)?;
+    Ok((made, saved, (s.gets, s.puts), same))
+}
+
+// The same on a map without inodes.
+fn life_on_blank<S: Sectors>(
+    alloc: Global,
+    s: &mut Counted<S>,
+    place: Place,
+    first: Acls,
+    then: Acls,
+) -> Result<Life, Fail>
+    requires place { IsPlace place }
+    requires disk { place.sectors ≤ (S.state s.old.inner).disk.size }
+{
+    put_blank(s, place);
+    if !is_blank(s, place)? {
+        return Err(Fail::new("not blank"));
+    }
+    life(alloc, s, place, first, then)
+}
+
+// The same on a new disk.
+fn life_on_disk(alloc: Global, first: Acls, then: Acls) -> Result<Life, Fail> {
+    let place = place_of(SECTORS, INODES).ok_or("no place")?;
+    if place.sectors != SECTORS {
+        return Err(Fail::new("another size"));
+    }
+    let store = idle_store(alloc, SECTORS).ok_or("no store")?;
+    let mut s = Counted::new(store.begin());
+    let seen = life_on_blank(alloc, &mut s, place, first, then);
+    let _store = s.into_inner().drop_delta();
+    seen
+}
+
+// The lives of files whose ACLs take a sector, rewrite one or give one back.
+fn lives(alloc: Global) -> Result<[Life; 4], Fail> {
+    let short = parsed(alloc, b"user::rw-,group::r--,other::---")?;
+    let long = parsed(
+        alloc,
+        b"user::rw-,user:1001:rw-,group::r--,mask::rw-,other::---",
+    )?;
+    Ok([
+        life_on_disk(alloc, (&short, None), (&long, Some(&long)))?,
+        life_on_disk(alloc, (&long, None), (&long, None))?,
+        life_on_disk(alloc, (&short, Some(&short)), (&short, None))?,
+        life_on_disk(alloc, (&long, Some(&long)), (&short, Some(&short)))?,
+    ])
+}
+
+#[test]
+fn calls(rt: HostRuntime) -> Result<(), Fail> {
+    let seen = lives(rt.alloc())?;
+    // new_inode, load, load_acl, load_default_acl; write_inode, save, save_acl, save_default_acl; free_inode
+    let wanted = [
+        (
+            [(2, 2), (1, 0), (0, 0), (0, 0)],
+            [(1, 1), (1, 1), (2, 3), (2, 3)],
+            (5, 4),
+            true,
+        ),
+        (
+            [(3, 4), (1, 0), (1, 0), (0, 0)],
+            [(1, 1), (1, 1), (1, 2), (1, 1)],
+            (4, 3),
+            true,
+        ),
+        (
+            [(3, 4), (1, 0), (0, 0), (1, 0)],
+            [(1, 1), (1, 1), (1, 1), (2, 2)],
+            (3, 2),
+            true,
+        ),
+        (
+            [(4, 6), (1, 0), (1, 0), (1, 0)],
+            [(1, 1), (1, 1), (2, 2), (1, 2)],
+            (4, 3),
+            true,
+        ),
+    ];
+    assert!(rt; seen == wanted, "{seen:?}");
+    Ok(())
+}
