@@ -1,12 +1,12 @@
 -- The numbers of a level: by which content they are known, and whether they are in the data area.
 use Rattle.std.specs.Prelude.{◌≡◌, ◌≢◌, ℕ, zero, suc, ◌+◌, ◌*◌, ◌<◌, ◌≤◌, List, Bool, true, false, IsTrue, ◌↔◌}
-use Rattle.std.proofs.Common.{refl, sym, ap, arith, ◌∙◌, subst, inl, inr}
+use Rattle.std.proofs.Common.{sym, ap, arith, ◌∙◌, subst, inl, inr}
 use Rattle.std.proofs.lemmas.Bool.{cases_eq, cases_lt}
 use Rattle.fs_layout.specs.declared.inode.Inode.{Inode}
 use Rattle.fs_layout.specs.declared.inode.TheConstants.{DIRECT_BLOCKS, SECTOR_POINTERS, MAX_BLOCKS}
 use Rattle.fs_layout.specs.declared.place.Place.{Place}
 use Rattle.fs_layout.specs.Bytes.{SectorMap}
-use Rattle.fs_layout.specs.Images.{pointer_in, own_count, holder, place_in_holder, number_on, HasPointers, Part, AccessAcl, DefaultAcl, OnLevel, part, Owns, IsData}
+use Rattle.fs_layout.specs.Images.{pointer_in, own_count, holder, place_in_holder, number_on, HasPointers, Part, AccessAcl, DefaultAcl, OnLevel, part, IsData}
 use Rattle.fs_layout.proofs.Parts.{owns_acl, owns_default_acl, owns_on_level}
 use Rattle.fs_layout.proofs.Pointers.{pointer_held, number_on_double, no_number_on}
 use Rattle.fs_model.specs.Rules.{IsPlaceOf}

@@ -25,8 +25,8 @@ module _ (p : Place) (m : SectorMap) (n : ℕ) (v : Inode) (is : v ≡ inode_at 
       subst (λ k. IsMarked (owned_part p m) n k p.sectors owned twice) to
       (mark_skip (owned_part p m) n from SECTOR_POINTERS p.sectors owned twice
       (λ k ge lt.
-          owned_block p m n v is k (omega (arith, ge))
-          ∙ none_found m v j (k - first_part 0) none (omega (arith, ge)) (omega (arith, ge, lt)))
+      owned_block p m n v is k (omega (arith, ge))
+      ∙ none_found m v j (k - first_part 0) none (omega (arith, ge)) (omega (arith, ge, lt)))
       x)
 
   -- sectors of pointers from one on
@@ -39,10 +39,10 @@ module _ (p : Place) (m : SectorMap) (n : ℕ) (v : Inode) (is : v ≡ inode_at 
       subst (λ k. IsMarked (owned_part p m) n k p.sectors owned twice) to
       (mark_skip (owned_part p m) n from more p.sectors owned twice
       (λ k ge lt.
-          let i = k - first_part 1 in
-          let back : first_part 1 + i ≡ k = omega (arith, ge) in
-          subst (λ q. owned_part p m n q ≡ 0) back
-          (owned_number p m n v is 1 i (omega arith) (omega (arith, few, ge, lt)) ∙ none i (omega (arith, ge))))
+      let i = k - first_part 1 in
+      let back : first_part 1 + i ≡ k = omega (arith, ge) in
+      subst (λ q. owned_part p m n q ≡ 0) back
+      (owned_number p m n v is 1 i (omega arith) (omega (arith, few, ge, lt)) ∙ none i (omega (arith, ge))))
       x)
 
   -- all blocks that are found by those
@@ -58,26 +58,26 @@ module _ (p : Place) (m : SectorMap) (n : ℕ) (v : Inode) (is : v ≡ inode_at 
 pub next_marked : (p : Place) (old mid : DiskState) (v : Inode) (n j : ℕ) (owned twice owned' twice' : List Bool) → OnlyReads old mid
     → v ≡ inode_at p (meaning old) n
     → (v ≡ inode_at p (meaning mid) n
-        → IsMarked (owned_part p (meaning mid)) n (first_part 0 + (DIRECT_BLOCKS + SECTOR_POINTERS * j)) p.sectors owned twice
-        → IsMarked (owned_part p (meaning mid)) n (first_part 0 + (DIRECT_BLOCKS + SECTOR_POINTERS * (j + 1))) p.sectors owned' twice')
+    → IsMarked (owned_part p (meaning mid)) n (first_part 0 + (DIRECT_BLOCKS + SECTOR_POINTERS * j)) p.sectors owned twice
+    → IsMarked (owned_part p (meaning mid)) n (first_part 0 + (DIRECT_BLOCKS + SECTOR_POINTERS * (j + 1))) p.sectors owned' twice')
     → IsMarked (owned_part p (meaning old)) n (first_part 0 + (DIRECT_BLOCKS + SECTOR_POINTERS * j)) p.sectors owned twice
     → IsMarked (owned_part p (meaning old)) n (first_part 0 + (DIRECT_BLOCKS + SECTOR_POINTERS * (j + 1))) p.sectors owned' twice'
 next_marked p old mid v n j owned twice owned' twice' reads is step x =
     subst
     (λ (m : SectorMap). v ≡ inode_at p m n
-        → IsMarked (owned_part p m) n (first_part 0 + (DIRECT_BLOCKS + SECTOR_POINTERS * j)) p.sectors owned twice
-        → IsMarked (owned_part p m) n (first_part 0 + (DIRECT_BLOCKS + SECTOR_POINTERS * (j + 1))) p.sectors owned' twice')
+    → IsMarked (owned_part p m) n (first_part 0 + (DIRECT_BLOCKS + SECTOR_POINTERS * j)) p.sectors owned twice
+    → IsMarked (owned_part p m) n (first_part 0 + (DIRECT_BLOCKS + SECTOR_POINTERS * (j + 1))) p.sectors owned' twice')
     (meaning_same reads) step is x
 
 -- and all that is marked of one inode
 pub inode_marked : (p : Place) (old mid : DiskState) (v : Inode) (n i : ℕ) (owned twice owned' twice' : List Bool) → OnlyReads old mid
     → v ≡ inode_at p (meaning old) n
     → (v ≡ inode_at p (meaning mid) n → IsMarked (owned_part p (meaning mid)) n i p.sectors owned twice
-        → IsMarked (owned_part p (meaning mid)) (n + 1) 0 p.sectors owned' twice')
+    → IsMarked (owned_part p (meaning mid)) (n + 1) 0 p.sectors owned' twice')
     → IsMarked (owned_part p (meaning old)) n i p.sectors owned twice
     → IsMarked (owned_part p (meaning old)) (n + 1) 0 p.sectors owned' twice'
 inode_marked p old mid v n i owned twice owned' twice' reads is step x =
     subst
     (λ (m : SectorMap). v ≡ inode_at p m n → IsMarked (owned_part p m) n i p.sectors owned twice
-        → IsMarked (owned_part p m) (n + 1) 0 p.sectors owned' twice')
+    → IsMarked (owned_part p m) (n + 1) 0 p.sectors owned' twice')
     (meaning_same reads) step is x

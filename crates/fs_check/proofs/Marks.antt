@@ -5,7 +5,7 @@ use Rattle.std.proofs.Common.{refl, sym, ap, subst, arith, ◌∙◌, inl, inr, 
 use Rattle.std.proofs.lemmas.Bool.{cases_eq, cases_lt}
 use Rattle.fs_layout.specs.declared.place.Place.{Place}
 use Rattle.fs_layout.specs.Bytes.{SectorMap}
-use Rattle.fs_layout.specs.Images.{inode_at, Owns}
+use Rattle.fs_layout.specs.Images.{inode_at}
 use Rattle.fs_model.specs.Rules.{OwnedOnce, IsInData, IsOwnedOnce, ObeysEach, IsLeastFailure}
 use Rattle.fs_check.specs.Checks.{IsOwnerMap}
 use Rattle.fs_check.specs.Owning.{part_at, owned_part, IsEarlierPart, IsOnce, IsTwice, IsMarked}

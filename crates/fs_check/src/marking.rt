@@ -94,12 +94,7 @@ fn mark_listed(
     ensures twice_len { length twice.new ≡ place.sectors }
 {
     for i in numbers.first..numbers.end {
-        if !mark_number(
-            place,
-            inode.number(numbers.level, content, i),
-            owned,
-            twice,
-        ) {
+        if !mark_number(place, inode.number(numbers.level, content, i), owned, twice) {
             return false;
         }
     }
@@ -127,9 +122,9 @@ fn mark_sector<D: Disk>(
         (DIRECT_BLOCKS + SECTOR_POINTERS * j) (DIRECT_BLOCKS + SECTOR_POINTERS * (j + 1))) }
     ensures marked { IfOk result (λ b. IsTrue b → (n : ℕ) → inode.now ≡ inode_at opened.now.place (meaning (D.state disk.old)) n
         → IsMarked (owned_part opened.now.place (meaning (D.state disk.old))) n (first_part 0 + (DIRECT_BLOCKS + SECTOR_POINTERS * j))
-            opened.now.place.sectors owned.old twice.old
+        opened.now.place.sectors owned.old twice.old
         → IsMarked (owned_part opened.now.place (meaning (D.state disk.old))) n (first_part 0 + (DIRECT_BLOCKS + SECTOR_POINTERS * (j + 1)))
-            opened.now.place.sectors owned.new twice.new) }
+        opened.now.place.sectors owned.new twice.new) }
     ensures owned_len { length owned.new ≡ opened.now.place.sectors }
     ensures twice_len { length twice.new ≡ opened.now.place.sectors }
     ensures passed { Passed IsNone (D.state disk.old) (D.state disk.new) result }
@@ -144,14 +139,7 @@ fn mark_sector<D: Disk>(
         first: DIRECT_BLOCKS + SECTOR_POINTERS * j,
         end: DIRECT_BLOCKS + SECTOR_POINTERS * (j + 1),
     };
-    Ok(mark_listed(
-        opened.place,
-        inode,
-        &content,
-        numbers,
-        owned,
-        twice,
-    ))
+    Ok(mark_listed(opened.place, inode, &content, numbers, owned, twice))
 }
 
 // Marks the blocks of an inode whose sectors of pointers are in the data area. Not where a block is outside of it. `listed` is the

@@ -15,5 +15,5 @@ invariant-loop-j g l = record {
   marked : (n : ℕ) → l.inode ≡ inode_at l.opened.place (meaning (g.D.Disk.state l.fn.disk)) n
       → IsMarked (owned_part l.opened.place (meaning (g.D.Disk.state l.fn.disk))) n (first_part 0) l.opened.place.sectors l.fn.owned l.fn.twice
       → IsMarked (owned_part l.opened.place (meaning (g.D.Disk.state l.fn.disk))) n (first_part 0 + (DIRECT_BLOCKS + SECTOR_POINTERS * l.j))
-        l.opened.place.sectors l.owned l.twice;
+      l.opened.place.sectors l.owned l.twice;
 }

@@ -1,10 +1,10 @@
-use Rattle.std.proofs.Common.{◌≡◌, ◌≢◌, ◌+◌, IsTrue, ◌↔◌, arith, ap, sym, subst, ◌∙◌}
+use Rattle.std.proofs.Common.{◌+◌, IsTrue, ◌↔◌, sym, subst, ◌∙◌}
 use Rattle.fs_layout.specs.declared.inode.TheConstants.{SECTOR_POINTERS, MAX_BLOCKS}
 use Rattle.fs_layout.specs.Bytes.{SectorMap}
 use Rattle.fs_layout.specs.Images.{IsData, HasPointers, number_on}
 use Rattle.fs_layout.proofs.Pointers.{number_on_double}
 use Rattle.fs_check.specs.Checks.{meaning}
-use Rattle.fs_check.specs.Owning.{AreInData, HasTopInData, OwnsData}
+use Rattle.fs_check.specs.Owning.{AreInData, HasTopInData}
 use Rattle.fs_check.proofs.Carrying.{meaning_same, opened_still, if_ok}
 use Rattle.fs_check.proofs.DataNumbers.{number_below, listed_sectors, in_data_joined, none_in_data, level_owned, top_owned, all_owned, not_owned}
 use Rattle.fs_check.proofs.MarkedParts.{sectors_skipped, inode_marked}
@@ -68,8 +68,8 @@ returns-clause-test g c =
     (none_in_data p m v 1 e (1 + SECTOR_POINTERS) (λ i ge lt. c.pointers_end.ensures.past m i ge)) in
     let top = c.mark_top.ensures.test.0 c.if-not-mark_top.false in
     if_ok c.mark_blocks.result c.mark_blocks.ensures.test (λ b told.
-        let test = subst (λ (q : SectorMap). IsTrue b ↔ AreInData p q v 0 0 MAX_BLOCKS) (meaning_same c.in_ok-read_listed.ensures.passed.reads) told in
-        ((λ t. all_owned p m v top sectors (test.0 t)), (λ all. test.1 (level_owned p m v all 0 0 MAX_BLOCKS))))
+    let test = subst (λ (q : SectorMap). IsTrue b ↔ AreInData p q v 0 0 MAX_BLOCKS) (meaning_same c.in_ok-read_listed.ensures.passed.reads) told in
+    ((λ t. all_owned p m v top sectors (test.0 t)), (λ all. test.1 (level_owned p m v all 0 0 MAX_BLOCKS))))
 
 pub returns-clause-marked : goal.returns-clause-marked
 returns-clause-marked g c =
@@ -80,8 +80,8 @@ returns-clause-marked g c =
     let e = c.pointers_end.result in
     let at = listed_sectors m v e c.read_listed.new.content c.in_ok-read_listed.ensures.content c.pointers_end.ensures.most in
     if_ok c.mark_blocks.result c.mark_blocks.ensures.marked (λ b blocks t n is x.
-        let top = c.mark_top.ensures.marked c.if-not-mark_top.false m n is x in
-        let named = c.mark_listed.ensures.marked c.if-not-mark_listed.false m n is at top in
-        let all = sectors_skipped p m n v is c.mark_listed.new.owned c.mark_listed.new.twice e c.pointers_end.ensures.most (c.pointers_end.ensures.past m) named in
-        inode_marked p s0 (g.D.Disk.state c.read_listed.new.disk) v n 132 c.mark_listed.new.owned c.mark_listed.new.twice c.mark_blocks.new.owned c.mark_blocks.new.twice
-        c.in_ok-read_listed.ensures.passed.reads is (blocks t n) all)
+    let top = c.mark_top.ensures.marked c.if-not-mark_top.false m n is x in
+    let named = c.mark_listed.ensures.marked c.if-not-mark_listed.false m n is at top in
+    let all = sectors_skipped p m n v is c.mark_listed.new.owned c.mark_listed.new.twice e c.pointers_end.ensures.most (c.pointers_end.ensures.past m) named in
+    inode_marked p s0 (g.D.Disk.state c.read_listed.new.disk) v n 132 c.mark_listed.new.owned c.mark_listed.new.twice c.mark_blocks.new.owned c.mark_blocks.new.twice
+    c.in_ok-read_listed.ensures.passed.reads is (blocks t n) all)

@@ -1,4 +1,3 @@
-use Rattle.std.proofs.Common.{◌≡◌, sym}
 use Rattle.fs_check.proofs.marking.mark_number.Goals as goal
 
 pub returns-clause-marked : goal.returns-clause-marked

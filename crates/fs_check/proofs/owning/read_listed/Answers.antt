@@ -1,4 +1,4 @@
-use Rattle.std.proofs.Common.{arith, refl, sym, ap, ◌∙◌}
+use Rattle.std.proofs.Common.{arith, refl, sym, ◌∙◌}
 use Rattle.fs_layout.specs.Bytes.{zeros}
 use Rattle.fs_check.specs.Checks.{meaning}
 use Rattle.fs_check.proofs.owning.read_listed.Goals as goal
