@@ -81,6 +81,7 @@ file_fits uid gid small_uid small_gid = record {
   direct_len = refl;
   direct = λ i. let z : get_or free_inode.direct i 0 ≡ 0 = get_or-zeros 12 i in omega (arith, z);
   indirect = omega arith;
+  double_indirect = omega arith;
 }
 
 -- an ACL takes a sector at most

@@ -106,6 +106,7 @@ attributes_fit v uid gid names parent fits used owner group count up = record {
   direct_len = fits.direct_len;
   direct = fits.direct;
   indirect = fits.indirect;
+  double_indirect = fits.double_indirect;
 }
 
 pub counted_fits : (v : Inode) (names : ℕ) → FitsInode v → v.kind ≢ kinds.Free → names < 2 ^ 32 → FitsInode (record v { names = names })

@@ -75,6 +75,7 @@ fn root_sector() -> [u8; 512]
         default_acl: 0,
         direct: [0; 12],
         indirect: 0,
+        double_indirect: 0,
     };
     let mut content = [0; 512];
     root.write_to(&mut content, 128);

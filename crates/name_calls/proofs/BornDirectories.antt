@@ -67,6 +67,7 @@ directory_fits dir uid gid bits small_dir small_uid small_gid few =
       direct_len = refl;
       direct = λ i. let z : get_or free_inode.direct i 0 ≡ 0 = get_or-zeros 12 i in omega (arith, z);
       indirect = omega arith;
+      double_indirect = omega arith;
     }
 
 pub acls_few : (a : AccessList) (default : Option AccessList) → acls_take a default ≤ 2
