@@ -9,8 +9,6 @@ mod event;
 mod laws;
 mod listing;
 mod reply;
-#[cfg(test)]
-mod tests;
 mod walk;
 
 pub use bytes::{ByteString, Bytes, ContentRole, Name, NameRole, Path, PathRole};

@@ -8,8 +8,6 @@ mod descriptor;
 mod descriptors;
 mod process;
 mod procs;
-#[cfg(test)]
-mod tests;
 
 pub use descriptor::Descriptor;
 pub use descriptors::MAX_DESCRIPTORS;

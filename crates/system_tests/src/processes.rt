@@ -1,6 +1,6 @@
 //! What no clause says of the table: that it serves 64 processes of 32 descriptors, and what follows from what.
-use crate::{Descriptor, Procs};
 use fs_cred::{Cred, Errno};
+use open_files::{Descriptor, Procs};
 use std::alloc::Global;
 use std::test::Fail;
 

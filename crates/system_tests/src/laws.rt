@@ -1,0 +1,57 @@
+//! Each law can be called.
+use fs_model::{
+    Call, Flags, Path, a_finding_is_the_first, a_new_disk_stands_for_an_empty_root,
+    a_sync_leaves_one_tree, an_image_stands_for_one_tree, call_is_in_range, decision_is_unique,
+    finds_are_there, first_refusal_is_least, fitting_states_drop_nothing,
+    free_sectors_are_within_bounds, kinds_agree, no_demand_is_an_io_error, numbers_are_counts,
+    one_node_changes, pruning_keeps_trees, rewriting_keeps_names, rules_say_what_stands,
+    same_process_stays, some_image_stands_for_a_tree, standing_rests_on_what_is_used,
+    steps_keep_states, unreadable_bytes_do_not_show,
+};
+use std::alloc::{AllocError, Global};
+
+// The law on calls, of one that opens the root to read it, and of one that renames.
+fn calls_are_in_range(alloc: Global) -> Result<(), AllocError> {
+    let flags = Flags {
+        read: true,
+        write: false,
+        create: false,
+        excl: false,
+        trunc: false,
+        append: false,
+        nofollow: false,
+        directory: true,
+    };
+    let root = Path::from_slice(alloc, b"/")?;
+    let old = Path::from_slice(alloc, b"/a")?;
+    let new = Path::from_slice(alloc, b"/b")?;
+    call_is_in_range(&Call::Open(root, flags, 0));
+    call_is_in_range(&Call::Rename { old, new });
+    Ok(())
+}
+
+#[test]
+fn laws_of_the_model_do_nothing(rt: HostRuntime) {
+    assert!(rt; calls_are_in_range(rt.alloc()).is_ok());
+    a_finding_is_the_first();
+    kinds_agree();
+    no_demand_is_an_io_error();
+    numbers_are_counts();
+    rules_say_what_stands();
+    decision_is_unique();
+    first_refusal_is_least();
+    pruning_keeps_trees();
+    a_sync_leaves_one_tree();
+    an_image_stands_for_one_tree();
+    free_sectors_are_within_bounds();
+    one_node_changes();
+    a_new_disk_stands_for_an_empty_root();
+    some_image_stands_for_a_tree();
+    fitting_states_drop_nothing();
+    same_process_stays();
+    rewriting_keeps_names();
+    finds_are_there();
+    standing_rests_on_what_is_used();
+    steps_keep_states();
+    unreadable_bytes_do_not_show();
+}
