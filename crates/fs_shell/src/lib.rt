@@ -14,11 +14,7 @@ mod parse;
 mod places;
 mod runner;
 mod script;
-#[cfg(test)]
-mod tests;
 mod text;
-#[cfg(test)]
-mod text_tests;
 mod watched;
 mod words;
 

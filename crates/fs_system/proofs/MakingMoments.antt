@@ -3,7 +3,7 @@ use Rattle.std.proofs.Common.{◌≡◌, ◌≢◌, ℕ, ◌+◌, ◌-◌, ◌<�
 use Rattle.std.proofs.lemmas.Bool.{cases_eq}
 use Rattle.std.proofs.lemmas.List.{length-set}
 use Rattle.sector_disk.specs.Disk.{DiskState, Image, sector, AddsOnly, IsImage, IsImageOr, IsStable, IsWrite}
-use Rattle.sector_disk.proofs.Moments.{image_or, stable_image, stays, stays_or}
+use Rattle.sector_disk.proofs.Moments.{image_or, stays, stays_or}
 use Rattle.fs_layout.specs.declared.place.Place.{Place}
 use Rattle.fs_layout.specs.Bytes.{zeros}
 use Rattle.fs_layout.specs.Commit.{commit_bytes}
@@ -146,8 +146,3 @@ prepared p old new has_place at_rest adds seen commit tables stable = record {
   commit = commit;
   tables = tables;
 }
-
--- a stop leaves the new disk once it is stable
-pub each_is_new : {inodes : ℕ} {disk : DiskState} → IsNewDisk inodes disk.seen → IsStable disk → IsImage disk disk.seen → (image : Image) → IsImage disk image
-    → IsNewDisk inodes image
-each_is_new {inodes} made stable seen image is = subst (IsNewDisk inodes) (sym (stable_image stable seen.size is)) made

@@ -6,15 +6,11 @@ mod calls;
 mod faults;
 mod fs;
 mod laws;
-#[cfg(test)]
-mod mkfs_tests;
 mod new_disk;
 mod new_tables;
 mod playing;
 mod stored;
 mod sweeping;
-#[cfg(test)]
-mod tests;
 
 pub use faults::{MkfsFault, MountFault, PlayFault};
 pub use fs::Fs;

@@ -8,6 +8,8 @@ use fs_model::{
     same_process_stays, some_image_stands_for_a_tree, standing_rests_on_what_is_used,
     steps_keep_states, unreadable_bytes_do_not_show,
 };
+use fs_system::{a_running_system_is_in_one_state, histories_are_runs, trees_are_sound};
+use sector_disk::{FuseDisk, MemDisk};
 use std::alloc::{AllocError, Global};
 
 // The law on calls, of one that opens the root to read it, and of one that renames.
@@ -54,4 +56,12 @@ fn laws_of_the_model_do_nothing(rt: HostRuntime) {
     standing_rests_on_what_is_used();
     steps_keep_states();
     unreadable_bytes_do_not_show();
+}
+
+#[test]
+fn laws_of_file_systems_do_nothing(_rt: HostRuntime) {
+    histories_are_runs::<MemDisk>();
+    trees_are_sound::<MemDisk>();
+    a_running_system_is_in_one_state::<MemDisk>();
+    fs_system::unreadable_bytes_do_not_show::<MemDisk, FuseDisk<MemDisk>>();
 }

@@ -1,9 +1,25 @@
-//! Tests of the model's values and laws, and of the table of processes.
+//! Tests of what stands above the disk: the model's values and laws, the table of processes, new disks and the methods of
+//! file systems, the texts of the shell and its runs, the program's words and what it prints. What file systems answer to lines
+//! is tried by the program `rows`.
 #![tactic(auto)]
 
 #[cfg(test)]
 mod laws;
 #[cfg(test)]
+mod methods;
+#[cfg(test)]
 mod model_values;
 #[cfg(test)]
+mod new_disks;
+#[cfg(test)]
 mod processes;
+#[cfg(test)]
+mod program_lines;
+#[cfg(test)]
+mod program_words;
+#[cfg(test)]
+mod report;
+#[cfg(test)]
+mod script_runs;
+#[cfg(test)]
+mod texts;

@@ -4,7 +4,7 @@ ghost use Rattle.std.specs.Prelude.{◌≡◌, ◌<◌, IfOk, OnOk};
 ghost use Rattle.sector_disk.specs.Disk.{IsStable};
 ghost use Rattle.fs_system.specs.Making.{IsHalfMade, IsNewDisk};
 
-use crate::{Fs, MkfsFault, MountFault, mkfs};
+use fs_system::{Fs, MkfsFault, MountFault, mkfs};
 use sector_disk::{CrashDisk, Disk, FailOnce, FuseDisk, MemDisk};
 use std::alloc::{AllocError, Global};
 use std::test::Fail;
@@ -103,8 +103,8 @@ fn a_new_disk_has_these_bytes(rt: HostRuntime) -> Result<(), Fail> {
     let other = first_other(
         &mut disk,
         &[
-            // Magic, version 1, 1,024 sectors, 64 inodes.
-            (0, 0, b"INOS\x01\0\0\0\0\x04\0\0\x40\0\0\0\0".as_slice()),
+            // Magic, version 2, 1,024 sectors, 64 inodes.
+            (0, 0, b"INOS\x02\0\0\0\0\x04\0\0\x40\0\0\0\0".as_slice()),
             // No targets.
             (1, 0, b"INOJ\0\0\0\0\0".as_slice()),
             // Inodes 0 and 1, and those from 64 on.

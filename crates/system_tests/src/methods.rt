@@ -1,14 +1,9 @@
 //! What no clause says of a file system's methods: that they succeed, and that a halted one leaves its disk alone. Calls
 //! and their replies are shown by the scripts of the shell.
 
-use crate::fs::Fs;
-use crate::laws::{
-    a_running_system_is_in_one_state, histories_are_runs, trees_are_sound,
-    unreadable_bytes_do_not_show,
-};
-use crate::new_disk::mkfs;
 use fs_cred::{Cred, Errno, Refusal};
 use fs_model::{Bytes, Call, Flags, Path, Reply};
+use fs_system::{Fs, mkfs};
 use sector_disk::{Disk, FuseDisk, MemDisk};
 use std::alloc::Global;
 use std::test::Fail;
@@ -164,14 +159,4 @@ fn a_process_is_put_into_directories(rt: HostRuntime) -> Result<(), Fail> {
         assert!(rt; found == wanted, "{row:?}: {found:?}");
     }
     Ok(())
-}
-
-// ---- laws
-
-#[test]
-fn laws_do_nothing(_rt: HostRuntime) {
-    histories_are_runs::<MemDisk>();
-    trees_are_sound::<MemDisk>();
-    a_running_system_is_in_one_state::<MemDisk>();
-    unreadable_bytes_do_not_show::<MemDisk, FuseDisk<MemDisk>>();
 }

@@ -1,7 +1,7 @@
 //! Runs over readers and writers of several kinds. What file systems answer to lines is tried by the program `rows`.
 
-use crate::text_tests::push_other;
-use crate::{Count, RunFault, Watched, run};
+use crate::report::push_other;
+use fs_shell::{Count, RunFault, Watched, run};
 use fs_system::{Fs, mkfs};
 use sector_disk::MemDisk;
 use std::alloc::{AllocError, Global};

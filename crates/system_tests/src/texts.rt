@@ -1,19 +1,12 @@
 //! What a line says, and the text of each reply and each fault.
 
-use crate::{Line, LineFault, a_line_says_one_thing, fault_text, parse_line, reply_text};
+use crate::report::push_other;
 use fs_cred::{Caps, Denial, Errno, Need, Refusal, Rule};
 use fs_model::{Bytes, Call, Event, FileType, Listing, Name, Named, Path, Reply, Status};
+use fs_shell::{Line, LineFault, a_line_says_one_thing, fault_text, parse_line, reply_text};
 use posix_acl::{Acl, Perms};
 use std::alloc::{AllocError, Global};
 use std::test::Fail;
-
-// Adds to the report where something other was seen than is wanted.
-pub(crate) fn push_other(report: &mut String, seen: &str, wanted: &str) -> Result<(), AllocError> {
-    if seen == wanted {
-        return Ok(());
-    }
-    writeln!(report, "{wanted}\nwas\n{seen}")
-}
 
 // ---- lines
 

@@ -1,7 +1,7 @@
 use Rattle.sector_disk.proofs.Moments.{holds_now}
 use Rattle.fs_system.proofs.Both.{on_ok_both}
-use Rattle.fs_system.proofs.MakingMoments.{each_is_new}
-use Rattle.fs_system.proofs.mkfs_tests.make_and_stop.Goals as goal
+use Rattle.system_tests.proofs.Stopped.{each_is_new}
+use Rattle.system_tests.proofs.new_disks.make_and_stop.Goals as goal
 
 pub returns-clause-made : goal.returns-clause-made
 returns-clause-made g c =

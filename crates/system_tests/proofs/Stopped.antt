@@ -1,0 +1,10 @@
+-- What a stop of a new disk leaves.
+use Rattle.std.proofs.Common.{ℕ, length, sym, subst}
+use Rattle.sector_disk.specs.Disk.{DiskState, Image, IsImage, IsStable}
+use Rattle.sector_disk.proofs.Moments.{stable_image}
+use Rattle.fs_system.specs.Making.{IsNewDisk}
+
+-- a stop leaves the new disk once it is stable
+pub each_is_new : {inodes : ℕ} {disk : DiskState} → IsNewDisk inodes disk.seen → IsStable disk → IsImage disk disk.seen → (image : Image) → IsImage disk image
+    → IsNewDisk inodes image
+each_is_new {inodes} made stable seen image is = subst (IsNewDisk inodes) (sym (stable_image stable seen.size is)) made
