@@ -2,3 +2,4 @@ pub mod Searched
 pub mod Edited
 pub mod Chosen
 pub mod LastFound
+pub mod StateLaws

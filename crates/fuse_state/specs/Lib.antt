@@ -2,3 +2,4 @@ pub mod Servers
 pub mod Changes
 pub mod Tables
 pub mod Rooms
+pub mod Laws

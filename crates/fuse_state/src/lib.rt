@@ -7,6 +7,7 @@
 
 mod directory;
 mod handle;
+mod laws;
 mod place;
 mod server;
 mod settings;
@@ -15,6 +16,7 @@ mod times;
 
 pub use directory::OpenDirectory;
 pub use handle::{descriptor_of, handle_of, owner_of};
+pub use laws::{handles_tell_descriptors, names_are_kept, nodes_lead_to_objects};
 pub use place::{Found, Lent, Place};
 pub use server::{MAX_DIRECTORIES, REQUEST_ROOM, Server};
 pub use settings::Settings;

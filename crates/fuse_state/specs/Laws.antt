@@ -1,0 +1,40 @@
+-- Laws of what a server keeps.
+--     HandlesTellDescriptors        a handle tells its process and its descriptor, so no two of these have the same
+--     NodesLeadBack, StaleNodesLeadNowhere, OtherNodesStay        nodes
+--     NamesAreKept, LatestNameIsThePlace        names
+use Rattle.std.specs.Prelude.{◌≡◌, ◌≢◌, ℕ, ◌<◌, ◌^◌, None, Some, IsSome}
+use Rattle.fs_model.specs.Limits.{descriptors_limit}
+use Rattle.fs_model.specs.declared.reply.FileType.{FileType}
+use Rattle.fuse_protocol.specs.declared.reply.Time.{Time}
+use Rattle.fuse_state.specs.declared.place.Place.{Place}
+use Rattle.fuse_state.specs.Servers.{Server, generation_of, kind_of, node_of, number_of, named, place_of, with_name, without_name, born, handle_of, owner_of, descriptor_of}
+
+abbrev pub HandlesTellDescriptors : Type 0
+HandlesTellDescriptors = (pid fd : ℕ) → fd < descriptors_limit → (owner_of (handle_of pid fd) ≡ pid) × (descriptor_of (handle_of pid fd) ≡ fd)
+
+-- the node of an object that the kernel was told of leads to its number
+abbrev pub NodesLeadBack : Type 0
+NodesLeadBack = (s : Server) (n : ℕ) → n < 2 ^ 32 → IsSome (kind_of s n) → number_of s (node_of s n) ≡ Some n
+
+-- once a new object has the number, the node of the one before is stale
+abbrev pub StaleNodesLeadNowhere : Type 0
+StaleNodesLeadNowhere =
+    (s : Server) (now : Time) (p : Place) (n : ℕ) (kind : FileType) → n < 2 ^ 32 → generation_of s n < 2 ^ 32
+    → number_of (born now p n kind s) (node_of s n) ≡ None
+
+-- and each other number has the node that it had
+abbrev pub OtherNodesStay : Type 0
+OtherNodesStay = (s : Server) (now : Time) (p : Place) (n m : ℕ) (kind : FileType) → m ≢ n → node_of (born now p n kind s) m ≡ node_of s m
+
+-- A name that is added leads to its object, one that is removed leads nowhere, and each other leads where it did.
+pub record KeepsNames (s : Server) (p : Place) (n : ℕ) (kind : FileType) : Type 0 where
+  pub added : named (with_name p n kind s) p ≡ Some n
+  pub removed : named (without_name p s) p ≡ None
+  pub besides_added : (q : Place) → q ≢ p → named (with_name p n kind s) q ≡ named s q
+  pub besides_removed : (q : Place) → q ≢ p → named (without_name p s) q ≡ named s q
+
+abbrev pub NamesAreKept : Type 0
+NamesAreKept = (s : Server) (p : Place) (n : ℕ) (kind : FileType) → KeepsNames s p n kind
+
+abbrev pub LatestNameIsThePlace : Type 0
+LatestNameIsThePlace = (s : Server) (p : Place) (n : ℕ) (kind : FileType) → place_of (with_name p n kind s) n ≡ Some p

@@ -1,0 +1,581 @@
+//! What no clause says: which answers follow which changes, and where the limits are.
+use fs_cred::{Cred, CredFault};
+use fs_model::{FileType, Name};
+use fuse_protocol::Time;
+use fuse_state::{
+    OpenDirectory, Place, Server, Settings, Times, descriptor_of, handle_of, owner_of,
+};
+use std::alloc::{AllocError, Global};
+use std::test::Fail;
+
+// A directory, and a name in it.
+type Entry = (u32, &'static str);
+
+// What happens, at a time where there is one, or what is asked. Objects and directories go by the numbers of their inodes.
+#[derive(Clone, Copy)]
+enum Step {
+    Made(u64, Entry, u32),
+    Found(Entry, u32),
+    Gone(Entry),
+    Removed(u64, Entry),
+    Moved(u64, Entry, Entry),
+    Linked(u64, Entry, u32),
+    // An object; whether it is new, and whether it has lost its bytes.
+    Opened(u64, Entry, u32, bool, bool),
+    Lent(u32),
+    Written(u64, u32),
+    Changed(u64, u32),
+    TimesSet(u64, u32),
+    Named(Entry),
+    // The directory and the letter of the latest name.
+    Directory(u32),
+    Letter(u32),
+    Node(u32),
+    Number(u64),
+    Mtime(u32),
+    Ctime(u32),
+}
+
+fn place(alloc: Global, entry: Entry) -> Result<Place, AllocError> {
+    let name = Name::from_slice(alloc, entry.1.as_bytes())?;
+    Ok(Place {
+        directory: entry.0,
+        name,
+    })
+}
+
+fn at(seconds: u64) -> Time {
+    Time {
+        seconds,
+        nanoseconds: 0,
+    }
+}
+
+fn number(found: Option<u32>) -> u64 {
+    match found {
+        Some(number) => u64::from(number),
+        None => 0,
+    }
+}
+
+fn started(alloc: Global) -> Result<Server, AllocError> {
+    let settings = Settings {
+        max_write: 4096,
+        posix_acl: true,
+        sectors: 878,
+        inodes: 64,
+        start: at(3),
+    };
+    Server::new(alloc, settings)
+}
+
+fn made(
+    server: &mut Server,
+    alloc: Global,
+    now: u64,
+    name: Entry,
+    inode: u32,
+) -> Result<u64, AllocError> {
+    server.prepare()?;
+    server.add_object(at(now), place(alloc, name)?, inode, FileType::File);
+    Ok(0)
+}
+
+fn found(server: &mut Server, alloc: Global, name: Entry, inode: u32) -> Result<u64, AllocError> {
+    server.prepare()?;
+    server.add_name(place(alloc, name)?, inode, FileType::Directory);
+    Ok(0)
+}
+
+fn gone(server: &mut Server, alloc: Global, name: Entry) -> Result<u64, AllocError> {
+    server.remove_name(&place(alloc, name)?);
+    Ok(0)
+}
+
+fn removed(server: &mut Server, alloc: Global, now: u64, name: Entry) -> Result<u64, AllocError> {
+    server.prepare()?;
+    server.note_removed(at(now), &place(alloc, name)?);
+    Ok(0)
+}
+
+fn moved(
+    server: &mut Server,
+    alloc: Global,
+    now: u64,
+    old: Entry,
+    new: Entry,
+) -> Result<u64, AllocError> {
+    server.prepare()?;
+    let old = place(alloc, old)?;
+    server.note_moved(at(now), &old, place(alloc, new)?);
+    Ok(0)
+}
+
+fn linked(
+    server: &mut Server,
+    alloc: Global,
+    now: u64,
+    name: Entry,
+    inode: u32,
+) -> Result<u64, AllocError> {
+    server.prepare()?;
+    let kind = server.kind_of(inode);
+    server.note_linked(at(now), place(alloc, name)?, inode, kind);
+    Ok(0)
+}
+
+fn opened(
+    server: &mut Server,
+    alloc: Global,
+    now: u64,
+    name: Entry,
+    inode: u32,
+    is: (bool, bool),
+) -> Result<u64, AllocError> {
+    server.prepare()?;
+    server.note_opened(
+        at(now),
+        place(alloc, name)?,
+        inode,
+        FileType::File,
+        is.0,
+        is.1,
+    );
+    Ok(0)
+}
+
+// The letter that is lent and given back.
+fn lent(server: &mut Server, alloc: Global, inode: u32) -> Result<u64, AllocError> {
+    let blank = Name::from_slice(alloc, b"")?;
+    let Some(lent) = server.lend_place(inode, blank) else {
+        return Ok(0);
+    };
+    let letter = letter_of(&lent.found.place);
+    server.give_back(lent);
+    Ok(letter)
+}
+
+fn letter_of(place: &Place) -> u64 {
+    match place.name.bytes().first() {
+        Some(letter) => u64::from(*letter),
+        None => 0,
+    }
+}
+
+fn written(server: &mut Server, now: u64, inode: u32) -> Result<u64, AllocError> {
+    server.prepare()?;
+    server.touch(at(now), inode);
+    Ok(0)
+}
+
+fn changed(server: &mut Server, now: u64, inode: u32) -> Result<u64, AllocError> {
+    server.prepare()?;
+    server.change(at(now), inode);
+    Ok(0)
+}
+
+fn times_set(server: &mut Server, time: u64, inode: u32) -> Result<u64, AllocError> {
+    server.prepare()?;
+    let times = server.times_of(inode);
+    let mtime = at(time);
+    server.set_times(inode, Times { mtime, ..times });
+    Ok(0)
+}
+
+fn named(server: &Server, alloc: Global, name: Entry) -> Result<u64, AllocError> {
+    Ok(number(server.named(&place(alloc, name)?)))
+}
+
+fn directory(server: &Server, inode: u32) -> u64 {
+    match server.place_of(inode) {
+        Some(place) => u64::from(place.directory),
+        None => 0,
+    }
+}
+
+fn letter(server: &Server, inode: u32) -> u64 {
+    match server.place_of(inode) {
+        Some(place) => letter_of(place),
+        None => 0,
+    }
+}
+
+// The answer: 0 for nothing, and where something happens.
+fn answered(server: &mut Server, alloc: Global, step: Step) -> Result<u64, AllocError> {
+    match step {
+        Step::Made(now, name, inode) => made(server, alloc, now, name, inode),
+        Step::Found(name, inode) => found(server, alloc, name, inode),
+        Step::Gone(name) => gone(server, alloc, name),
+        Step::Removed(now, name) => removed(server, alloc, now, name),
+        Step::Moved(now, old, new) => moved(server, alloc, now, old, new),
+        Step::Linked(now, name, inode) => linked(server, alloc, now, name, inode),
+        Step::Opened(now, name, inode, new, cut) => opened(
+            server,
+            alloc,
+            now,
+            name,
+            inode,
+            (new, cut),
+        ),
+        Step::Lent(inode) => lent(server, alloc, inode),
+        Step::Written(now, inode) => written(server, now, inode),
+        Step::Changed(now, inode) => changed(server, now, inode),
+        Step::TimesSet(time, inode) => times_set(server, time, inode),
+        Step::Named(name) => named(server, alloc, name),
+        Step::Directory(inode) => Ok(directory(server, inode)),
+        Step::Letter(inode) => Ok(letter(server, inode)),
+        Step::Node(inode) => Ok(server.node_of(inode)),
+        Step::Number(node) => Ok(number(server.number_of(node))),
+        Step::Mtime(inode) => Ok(server.times_of(inode).mtime.seconds),
+        Step::Ctime(inode) => Ok(server.times_of(inode).ctime.seconds),
+    }
+}
+
+const ROWS: [(Step, u64); 75] = [
+    // The root is node 1. What the kernel was never told of is stale.
+    (Step::Node(1), 1),
+    (Step::Number(1), 1),
+    (Step::Number(5), 0),
+    // A new object: the node of before it is stale.
+    (Step::Made(10, (1, "a"), 5), 0),
+    (Step::Node(5), 4_294_967_301),
+    (Step::Number(4_294_967_301), 5),
+    (Step::Number(5), 0),
+    (Step::Number(8_589_934_597), 0),
+    (Step::Named((1, "a")), 5),
+    (Step::Named((1, "b")), 0),
+    (Step::Named((5, "a")), 0),
+    (Step::Mtime(5), 10),
+    (Step::Mtime(1), 10),
+    // One more name: the latest is the place, and all are kept.
+    (Step::Linked(20, (1, "b"), 5), 0),
+    (Step::Letter(5), 98),
+    (Step::Lent(5), 98),
+    (Step::Letter(5), 98),
+    (Step::Named((1, "a")), 5),
+    (Step::Mtime(5), 10),
+    (Step::Ctime(5), 20),
+    (Step::Mtime(1), 20),
+    // A name that is removed is gone, and the other is the place.
+    (Step::Removed(30, (1, "b")), 0),
+    (Step::Named((1, "b")), 0),
+    (Step::Letter(5), 97),
+    (Step::Directory(5), 1),
+    (Step::Mtime(5), 10),
+    (Step::Ctime(5), 30),
+    (Step::Mtime(1), 30),
+    (Step::Removed(35, (1, "z")), 0),
+    (Step::Mtime(1), 35),
+    // What is moved to another directory takes the place of another object.
+    (Step::Found((1, "s"), 7), 0),
+    (Step::Made(40, (7, "c"), 6), 0),
+    (Step::Moved(50, (1, "a"), (7, "c")), 0),
+    (Step::Named((1, "a")), 0),
+    (Step::Named((7, "c")), 5),
+    (Step::Directory(5), 7),
+    (Step::Directory(6), 0),
+    (Step::Letter(6), 0),
+    (Step::Lent(6), 0),
+    (Step::Ctime(6), 50),
+    (Step::Ctime(5), 50),
+    (Step::Mtime(5), 10),
+    (Step::Mtime(1), 50),
+    (Step::Mtime(7), 50),
+    // The number of an object that has no name is given again.
+    (Step::Number(4_294_967_302), 6),
+    (Step::Made(60, (1, "a"), 6), 0),
+    (Step::Number(4_294_967_302), 0),
+    (Step::Number(8_589_934_598), 6),
+    // What is found is no new object: its times are those of the server's start.
+    (Step::Found((1, "f"), 8), 0),
+    (Step::Node(8), 8),
+    (Step::Number(8), 8),
+    (Step::Mtime(8), 3),
+    (Step::Ctime(8), 3),
+    // The same name leads elsewhere.
+    (Step::Found((1, "f"), 9), 0),
+    (Step::Named((1, "f")), 9),
+    (Step::Directory(8), 0),
+    (Step::Gone((1, "f")), 0),
+    (Step::Named((1, "f")), 0),
+    (Step::Number(9), 9),
+    // Times.
+    (Step::Written(70, 8), 0),
+    (Step::Changed(80, 8), 0),
+    (Step::Mtime(8), 70),
+    (Step::Ctime(8), 80),
+    (Step::TimesSet(5, 8), 0),
+    (Step::Mtime(8), 5),
+    (Step::Ctime(8), 80),
+    // What is opened is new, has lost its bytes, or is as it was.
+    (Step::Opened(90, (7, "g"), 10, true, false), 0),
+    (Step::Node(10), 4_294_967_306),
+    (Step::Mtime(7), 90),
+    (Step::Opened(100, (7, "g"), 10, false, true), 0),
+    (Step::Mtime(10), 100),
+    (Step::Opened(110, (7, "g"), 10, false, false), 0),
+    (Step::Node(10), 4_294_967_306),
+    (Step::Mtime(10), 100),
+    (Step::Mtime(7), 90),
+];
+
+#[test]
+fn answers_follow_changes(rt: HostRuntime) -> Result<(), Fail> {
+    let mut server = started(rt.alloc())?;
+    for (i, (step, wanted)) in ROWS.iter().enumerate() {
+        let answer = answered(&mut server, rt.alloc(), *step)?;
+        assert!(rt; answer == *wanted, "row {i}: {answer}");
+    }
+    Ok(())
+}
+
+// What happens to processes and handles, or what is asked. Processes go by their numbers, and callers by their users.
+#[derive(Clone, Copy)]
+enum Use {
+    Begun(u32, u32),
+    Ended(u32),
+    // A process opens an inode at so many descriptors, from the first on.
+    Opens(u32, u32, u32),
+    Closes(u32, u32),
+    // So many processes of a user begin, from a number on, and each opens inode 9.
+    Crowd(u32, u32, u32),
+    First(u32),
+    PartlyUsed(u32),
+    Idle(u32),
+    NextIdle(u32),
+    AreMany(u32),
+    Object(u32, u32),
+    HandleFor(u32),
+    // So many times a directory is opened: the last handle.
+    OpensDirectory(u32, u32),
+    SetsDirectory(u64, u32),
+    ClosesDirectory(u64),
+    DirectoryAt(u64),
+    AreFull,
+    Looks(u32),
+    Looker,
+    Ends,
+    IsEnded,
+}
+
+fn begun(server: &mut Server, alloc: Global, pid: u32, uid: u32) -> Result<u64, CredFault> {
+    server.prepare()?;
+    server.add_process(pid as usize, Cred::new(alloc, uid, 100, &[200, 300])?);
+    Ok(0)
+}
+
+fn opens(server: &mut Server, pid: u32, count: u32, inode: u32) -> Result<u64, CredFault> {
+    for fd in 0..count {
+        server.prepare()?;
+        server.add_handle(handle_of(pid as usize, fd as usize), inode);
+    }
+    Ok(0)
+}
+
+fn closes(server: &mut Server, pid: u32, fd: u32) -> Result<u64, CredFault> {
+    server.remove_handle(handle_of(pid as usize, fd as usize));
+    Ok(0)
+}
+
+fn crowd(
+    server: &mut Server,
+    alloc: Global,
+    uid: u32,
+    first: u32,
+    count: u32,
+) -> Result<u64, CredFault> {
+    for i in 0..count {
+        let pid = first.wrapping_add(i);
+        let _begun = begun(server, alloc, pid, uid)?;
+        let _opened = opens(server, pid, 1, 9)?;
+    }
+    Ok(0)
+}
+
+fn process(pid: Option<usize>) -> u64 {
+    match pid {
+        Some(pid) => pid as u64,
+        None => 0,
+    }
+}
+
+fn asked(server: &Server, alloc: Global, step: Use, uid: u32) -> Result<u64, CredFault> {
+    let cred = Cred::new(alloc, uid, 100, &[200, 300])?;
+    Ok(match step {
+        Use::First(_) => process(server.first_process(&cred)),
+        Use::PartlyUsed(_) => process(server.partly_used(&cred)),
+        Use::Idle(_) => process(server.idle_process(&cred)),
+        _ => u64::from(server.are_many(&cred)),
+    })
+}
+
+fn opens_directory(server: &mut Server, count: u32, inode: u32) -> Result<u64, CredFault> {
+    let mut handle = 0;
+    for _ in 0..count {
+        server.prepare()?;
+        handle = server.next_directory();
+        server.add_directory(inode);
+    }
+    Ok(handle)
+}
+
+fn sets_directory(server: &mut Server, handle: u64, number: u32) -> Result<u64, CredFault> {
+    server.prepare()?;
+    server.set_directory(
+        handle,
+        OpenDirectory {
+            number,
+            listing: None,
+        },
+    );
+    Ok(0)
+}
+
+fn closes_directory(server: &mut Server, handle: u64) -> Result<u64, CredFault> {
+    server.remove_directory(handle);
+    Ok(0)
+}
+
+fn directory_at(server: &Server, handle: u64) -> u64 {
+    match server.directory_of(handle) {
+        Some(directory) => u64::from(directory.number),
+        None => 0,
+    }
+}
+
+fn ended(server: &mut Server, pid: u32) -> Result<u64, CredFault> {
+    server.remove_process(pid as usize);
+    Ok(0)
+}
+
+fn looks(server: &mut Server, pid: u32) -> Result<u64, CredFault> {
+    server.set_looker(pid as usize);
+    Ok(0)
+}
+
+fn ends(server: &mut Server) -> Result<u64, CredFault> {
+    server.end();
+    Ok(0)
+}
+
+fn used(server: &mut Server, alloc: Global, step: Use) -> Result<u64, CredFault> {
+    match step {
+        Use::Begun(pid, uid) => begun(server, alloc, pid, uid),
+        Use::Ended(pid) => ended(server, pid),
+        Use::Opens(pid, count, inode) => opens(server, pid, count, inode),
+        Use::Closes(pid, fd) => closes(server, pid, fd),
+        Use::Crowd(uid, first, count) => crowd(server, alloc, uid, first, count),
+        Use::First(uid) => asked(server, alloc, step, uid),
+        Use::PartlyUsed(uid) => asked(server, alloc, step, uid),
+        Use::Idle(uid) => asked(server, alloc, step, uid),
+        Use::AreMany(uid) => asked(server, alloc, step, uid),
+        Use::NextIdle(least) => Ok(process(server.next_idle(least as usize))),
+        Use::Object(pid, fd) => Ok(number(server.object_of(handle_of(pid as usize, fd as usize)))),
+        Use::HandleFor(inode) => Ok(server.handle_for(inode).unwrap_or(0)),
+        Use::OpensDirectory(count, inode) => opens_directory(server, count, inode),
+        Use::SetsDirectory(handle, inode) => sets_directory(server, handle, inode),
+        Use::ClosesDirectory(handle) => closes_directory(server, handle),
+        Use::DirectoryAt(handle) => Ok(directory_at(server, handle)),
+        Use::AreFull => Ok(u64::from(server.are_directories_full())),
+        Use::Looks(pid) => looks(server, pid),
+        Use::Looker => Ok(process(server.looker())),
+        Use::Ends => ends(server),
+        Use::IsEnded => Ok(u64::from(server.is_ended())),
+    }
+}
+
+const USES: [(Use, u64); 62] = [
+    (Use::Looker, 0),
+    (Use::Looks(1), 0),
+    (Use::Looker, 1),
+    (Use::First(1000), 0),
+    (Use::Begun(2, 1000), 0),
+    (Use::Begun(4, 1000), 0),
+    (Use::Begun(3, 1001), 0),
+    (Use::First(1000), 2),
+    (Use::First(1001), 3),
+    (Use::First(1002), 0),
+    (Use::Idle(1000), 2),
+    (Use::PartlyUsed(1000), 0),
+    // A process with 1 to 31 descriptors has room.
+    (Use::Opens(2, 1, 5), 0),
+    (Use::PartlyUsed(1000), 2),
+    (Use::Idle(1000), 4),
+    (Use::Opens(2, 31, 5), 0),
+    (Use::PartlyUsed(1000), 2),
+    (Use::Opens(2, 32, 5), 0),
+    (Use::PartlyUsed(1000), 0),
+    (Use::First(1000), 2),
+    // Two processes have descriptors of one number.
+    (Use::Opens(3, 1, 6), 0),
+    (Use::Object(2, 0), 5),
+    (Use::Object(3, 0), 6),
+    (Use::HandleFor(5), 64),
+    (Use::HandleFor(6), 96),
+    (Use::HandleFor(7), 0),
+    (Use::Closes(3, 0), 0),
+    (Use::Object(3, 0), 0),
+    (Use::Object(2, 0), 5),
+    // Those that hold nothing may go.
+    (Use::NextIdle(0), 3),
+    (Use::NextIdle(4), 4),
+    (Use::NextIdle(5), 0),
+    (Use::Ended(3), 0),
+    (Use::NextIdle(0), 4),
+    (Use::First(1001), 0),
+    // 32 processes of one user may hold descriptors, and 48 of all.
+    (Use::Crowd(1000, 5, 30), 0),
+    (Use::AreMany(1000), 0),
+    (Use::Crowd(1000, 35, 1), 0),
+    (Use::AreMany(1000), 1),
+    (Use::AreMany(1001), 0),
+    (Use::Crowd(1001, 36, 15), 0),
+    (Use::AreMany(1001), 0),
+    (Use::AreMany(1002), 0),
+    (Use::Crowd(1001, 51, 1), 0),
+    (Use::AreMany(1002), 1),
+    (Use::Closes(51, 0), 0),
+    (Use::AreMany(1002), 0),
+    // Handles of directories lie behind those of files; 256 may be open.
+    (Use::OpensDirectory(1, 5), 4_294_967_296),
+    (Use::OpensDirectory(1, 6), 4_294_967_297),
+    (Use::DirectoryAt(4_294_967_296), 5),
+    (Use::DirectoryAt(4_294_967_297), 6),
+    (Use::SetsDirectory(4_294_967_297, 7), 0),
+    (Use::DirectoryAt(4_294_967_297), 7),
+    (Use::ClosesDirectory(4_294_967_296), 0),
+    (Use::DirectoryAt(4_294_967_296), 0),
+    (Use::OpensDirectory(254, 8), 4_294_967_551),
+    (Use::AreFull, 0),
+    (Use::OpensDirectory(1, 8), 4_294_967_552),
+    (Use::AreFull, 1),
+    (Use::IsEnded, 0),
+    (Use::Ends, 0),
+    (Use::IsEnded, 1),
+];
+
+// Whether handles are numbered one by one, and lead back to their processes and descriptors.
+fn handles_are_apart() -> bool {
+    let mut same = true;
+    let mut count: u64 = 0;
+    for pid in 0..64 {
+        for fd in 0..32 {
+            let handle = handle_of(pid, fd);
+            let seen = (handle, owner_of(handle), descriptor_of(handle));
+            same = seen == (count, pid, fd) && same;
+            count = count.wrapping_add(1);
+        }
+    }
+    same
+}
+
+#[test]
+fn processes_and_handles(rt: HostRuntime) -> Result<(), Fail> {
+    let mut server = started(rt.alloc())?;
+    for (i, (step, wanted)) in USES.iter().enumerate() {
+        let answer = used(&mut server, rt.alloc(), *step)?;
+        assert!(rt; answer == *wanted, "row {i}: {answer}");
+    }
+    assert!(rt; handles_are_apart() && server.settings().max_write == 4096);
+    Ok(())
+}
