@@ -1,4 +1,6 @@
-use Rattle.std.proofs.Common.{◌-◌, ap, subst, ◌∙◌, arith}
+use Rattle.std.proofs.Common.{◌-◌, ◌≤◌, ℕ, List, length, take, ap, subst, ◌∙◌, arith}
+use Rattle.std.specs.Prelude.{replicate}
+use Rattle.std.proofs.lemmas.List.{length-take, length-replicate}
 use Rattle.std.proofs.lemmas.List.FromFn.{length-range_with_len}
 use Rattle.fs_layout.specs.declared.inode.Inode.{Inode}
 use Rattle.fs_layout.specs.Images.{inode_at, Owns}
@@ -8,6 +10,7 @@ use Rattle.sector_txn.proofs.TransactionRuns.{lacking_at_most}
 use Rattle.bit_alloc.specs.Room.{bitmaps}
 use Rattle.bit_alloc.proofs.Transactions.{map_unchanged, unchanged_joined}
 use Rattle.block_map.proofs.Joins.{sound_after_reads}
+use Rattle.block_map.proofs.Wrote.{put_few}
 use Rattle.storage_tests.proofs.blocks.perform.Goals as goal
 
 pub read_at-requires : goal.read_at-requires
@@ -36,7 +39,17 @@ pub write_at-requires-clause-inode : goal.write_at-requires-clause-inode
 write_at-requires-clause-inode g c = c.in_ok-inode.ensures.found ∙ ap (λ image. inode_at c.args.place image c.args.n) (map_unchanged c.in_ok-inode.ensures.same)
 
 pub write_at-requires-clause-spare : goal.write_at-requires-clause-spare
-write_at-requires-clause-spare g c = omega (arith, lacking_at_most (g.S.Sectors.state c.load.new.s) (bitmaps c.args.place), length-range_with_len 128 (c.args.place.table - 128), c.room.ensures, c.if-room-place.false)
+write_at-requires-clause-spare g c =
+    let bytes : List ℕ = take c.in-Write.len (replicate 4096 7) in
+    let few : length bytes ≤ 4096 = omega (arith, length-take {A = ℕ} c.in-Write.len (replicate 4096 7), length-replicate {A = ℕ} 4096 7) in
+    omega (
+      arith,
+      put_few c.in-Write.offset (length bytes) few,
+      lacking_at_most (g.S.Sectors.state c.load.new.s) (bitmaps c.args.place),
+      length-range_with_len 128 (c.args.place.table - 128),
+      c.room.ensures,
+      c.if-room-place.false,
+    )
 
 pub overwrite_direct-requires-clause-sound : goal.overwrite_direct-requires-clause-sound
 overwrite_direct-requires-clause-sound g c = sound_after_reads c.requires.sound c.in_ok-inode.ensures.same
