@@ -38,6 +38,9 @@ run_sound = ((refl, refl, inl (refl, refl)), ((refl, refl, inl (refl, refl)), ((
 check_sound : Each (Sound (leaf 2).rules) (leaf 2).rules
 check_sound = ((refl, refl, inl (refl, refl)), ((refl, refl, inr refl), tt))
 
+upgrade_sound : Each (Sound (leaf 3).rules) (leaf 3).rules
+upgrade_sound = ((refl, refl, inl (refl, refl)), ((refl, refl, inr refl), tt))
+
 mkfs_has : HasAll (leaf 0)
 mkfs_has words fault =
     let values = leaf_values (leaf 0) words mkfs_sound refl fault in
@@ -54,10 +57,15 @@ run_has words fault =
 check_has : HasAll (leaf 2)
 check_has words fault =
     let image = (leaf_values (leaf 2) words check_sound refl fault).0 refl in
-    inr (inr (refl, (image.0, image.1)))
+    inr (inr (inl (refl, (image.0, image.1))))
+
+upgrade_has : HasAll (leaf 3)
+upgrade_has words fault =
+    let image = (leaf_values (leaf 3) words upgrade_sound refl fault).0 refl in
+    inr (inr (inr (refl, (image.0, image.1))))
 
 each_has : Each HasAll (built command_line).subs
-each_has = (mkfs_has, (run_has, (check_has, tt)))
+each_has = (mkfs_has, (run_has, (check_has, (upgrade_has, tt))))
 
 entered_has : (stop : Option (Text × List Text)) → entered_fault (built command_line) stop ≡ [] → HasValues (entered (built command_line) stop)
 entered_has None fault = tt

@@ -2,13 +2,13 @@
 --     ended        the status of a job
 --     IsUndone        a job isn't done, and nothing is printed
 --     Tells        a line is printed, and the status is this one; or it can't be printed
---     MkfsEnds, CheckEnds        a disk is made a file system, and a disk is checked
+--     MkfsEnds, CheckEnds, UpgradeEnds        a disk is made a file system, a disk is checked, and a disk is upgraded
 --     RunsOn, RunEnds        a script is run on a disk that is mounted for it
---     MemoryEnds, ImageMkfsEnds, ImageRunEnds, ImageCheckEnds        the four jobs
+--     MemoryEnds, ImageMkfsEnds, ImageRunEnds, ImageCheckEnds, ImageUpgradeEnds        the five jobs
 --     JobEnds, ProgramEnds        a job, and what the program does for its words
 use Rattle.std.specs.Prelude.{◌≡◌, ◌⊎◌, ℕ, List, Option, None, IsSome, IsTrue, Result, Ok, Err, OnOk}
 use Rattle.std.specs.Io.KnownBytes.{Appends}
-use Rattle.sector_disk.specs.Disk.{DiskState, IsFresh, IsStable, OnlyReads}
+use Rattle.sector_disk.specs.Disk.{DiskState, IsFresh, IsStable, LeavesOnly, OnlyReads}
 use Rattle.fs_layout.specs.Place.{laid_out, the_place}
 use Rattle.fs_model.specs.States.{State}
 use Rattle.fs_model.specs.declared.event.Event.TheVariants.{Sync}
@@ -26,6 +26,8 @@ use Rattle.fs_system.specs.Mounts.{Mounts}
 use Rattle.fs_system.specs.declared.faults.MkfsFault.{MkfsFault}
 use Rattle.fs_system.specs.declared.faults.MkfsFault.TheVariants.{TooSmall}
 use Rattle.fs_system.specs.declared.faults.MountFault.{MountFault}
+use Rattle.fs_system.specs.declared.faults.UpgradeFault.{UpgradeFault}
+use Rattle.fs_system.specs.Upgrading.{IsHalfUpgraded, IsNotUpgraded, IsUpgraded}
 use Rattle.fs_shell.specs.Runs.{Ran}
 use Rattle.fs_shell.specs.declared.answer.Count.{Count}
 use Rattle.fs_shell.specs.Watching.{FailsWhere}
@@ -33,7 +35,7 @@ use Rattle.fs_shell.specs.declared.fault.RunFault.{RunFault}
 use Rattle.fs_shell.specs.declared.fault.RunFault.TheVariants.{ReadFault, WriteFault}
 use Rattle.fs_command.specs.Programs.{RunsInMemory, code_of, status_of}
 use Rattle.fs_command.specs.Streams.{Reading, Writing}
-use Rattle.fs_command.specs.Texts.{made_text, clean_text, finding_text}
+use Rattle.fs_command.specs.Texts.{made_text, clean_text, finding_text, version_text}
 use Rattle.fs_command.specs.Words.{AsksFor, Refuses, words_status}
 use Rattle.fs_command.specs.declared.failure.Failure.{Failure}
 use Rattle.fs_command.specs.declared.failure.Failure.TheVariants as failures
@@ -41,7 +43,7 @@ use Rattle.fs_command.specs.declared.memory.TheConstants.{SECTORS, INODES}
 use Rattle.fs_command.specs.declared.status.Status.{Status}
 use Rattle.fs_command.specs.declared.status.Status.TheVariants.{Done, Faulty, Failed}
 use Rattle.fs_command.specs.declared.words.Job.{Job}
-use Rattle.fs_command.specs.declared.words.Job.TheVariants.{Memory, Mkfs, Run, Check}
+use Rattle.fs_command.specs.declared.words.Job.TheVariants.{Memory, Mkfs, Run, Check, Upgrade}
 use Rattle.fs_command.specs.declared.words.WordsFault.{WordsFault}
 
 -- ---- statuses
@@ -92,6 +94,12 @@ pub data CheckEnds (old now : DiskState) (w : Writing) (result : Result Status F
   -- the device failed, or memory ran out
   is_unchecked : (fault : CheckFault) → IsReason IsNone old now fault → IsUndone w (failures.Check fault) result
       → CheckEnds old now w result
+
+-- A disk is to be upgraded.
+pub data UpgradeEnds (old now : DiskState) (w : Writing) (result : Result Status Failure) : Type 0 where
+  cannot_upgrade : (fault : UpgradeFault) → IsNotUpgraded old now fault → IsUndone w (failures.Upgrade fault) result
+      → UpgradeEnds old now w result
+  is_upgraded : IsUpgraded old now → Tells w version_text Done result → UpgradeEnds old now w result
 
 -- A disk was mounted, a script was run on its file system, and then that was unmounted, however the run had ended. The
 -- unmount makes all stable, as sync does.
@@ -147,12 +155,18 @@ pub data ImageCheckEnds {D : Type 0} (state : D → DiskState) (w : Writing) (re
   checks : (old now : D) → IsFresh (state old) (state old).seen → OnlyReads (state old) (state now)
       → CheckEnds (state old) (state now) w result → ImageCheckEnds state w result
 
+pub data ImageUpgradeEnds {D : Type 0} (state : D → DiskState) (w : Writing) (result : Result Status Failure) : Type 0 where
+  has_no_image : IsUndone w failures.NotOpened result → ImageUpgradeEnds state w result
+  upgrades : (old now : D) → IsFresh (state old) (state old).seen → LeavesOnly (state old) (state now) (IsHalfUpgraded (state old))
+      → UpgradeEnds (state old) (state now) w result → ImageUpgradeEnds state w result
+
 -- A job ends so, on disks in memory and in files.
 abbrev pub JobEnds : {M F : Type 0} → (M → DiskState) → (F → DiskState) → Reading → Writing → Job → Result Status Failure → Type 0
 JobEnds memory file r w Memory result = MemoryEnds memory r w result
 JobEnds memory file r w (Mkfs image sectors inodes) result = ImageMkfsEnds file sectors inodes w result
 JobEnds memory file r w (Run image script) result = ImageRunEnds file script r w result
 JobEnds memory file r w (Check image) result = ImageCheckEnds file w result
+JobEnds memory file r w (Upgrade image) result = ImageUpgradeEnds file w result
 
 -- ---- the program
 

@@ -11,7 +11,7 @@ use Rattle.clap.specs.declared.error.Error.{Error}
 use Rattle.clap.specs.declared.error.kind.ErrorKind.{ErrorKind}
 use Rattle.clap.specs.declared.error.kind.ErrorKind.TheVariants as kind
 use Rattle.fs_command.specs.declared.words.Job.{Job}
-use Rattle.fs_command.specs.declared.words.Job.TheVariants.{Memory, Mkfs, Run, Check}
+use Rattle.fs_command.specs.declared.words.Job.TheVariants.{Memory, Mkfs, Run, Check, Upgrade}
 use Rattle.fs_command.specs.declared.words.WordsFault.{WordsFault}
 use Rattle.fs_command.specs.declared.words.WordsFault.TheVariants.{Help, BadWords, OutOfMemory}
 use Rattle.fs_command.specs.declared.status.Status.{Status}
@@ -41,6 +41,9 @@ run = with_rule (with_rule (new_app (codes "run")) image) (new_rule (codes "SCRI
 abbrev pub check : App
 check = with_rule (new_app (codes "check")) image
 
+abbrev pub upgrade : App
+upgrade = with_rule (new_app (codes "upgrade")) image
+
 -- the program alone, with `--version` and no command `help`
 abbrev pub alone : App
 alone = record (new_app (codes "inofs")) {
@@ -48,7 +51,7 @@ alone = record (new_app (codes "inofs")) {
 }
 
 abbrev pub command_line : App
-command_line = with_subcommand (with_subcommand (with_subcommand alone mkfs.top) run.top) check.top
+command_line = with_subcommand (with_subcommand (with_subcommand (with_subcommand alone mkfs.top) run.top) check.top) upgrade.top
 
 -- ---- what it reads
 
@@ -73,12 +76,17 @@ abbrev pub SaysCheck : List Row → Job → Type 0
 SaysCheck rows (Check image) = first_of (codes "IMAGE") rows ≡ Some image
 SaysCheck rows job = ⊥
 
+abbrev pub SaysUpgrade : List Row → Job → Type 0
+SaysUpgrade rows (Upgrade image) = first_of (codes "IMAGE") rows ≡ Some image
+SaysUpgrade rows job = ⊥
+
 -- the job of a command and its values, or of none
 abbrev pub SaysJob : Option (Text × List Row) → Job → Type 0
 SaysJob named Memory = named ≡ None
 SaysJob named (Mkfs image sectors inodes) = (rows : List Row) × (named ≡ Some (codes "mkfs", rows)) × SaysMkfs rows (Mkfs image sectors inodes)
 SaysJob named (Run image script) = (rows : List Row) × (named ≡ Some (codes "run", rows)) × SaysRun rows (Run image script)
 SaysJob named (Check image) = (rows : List Row) × (named ≡ Some (codes "check", rows)) × SaysCheck rows (Check image)
+SaysJob named (Upgrade image) = (rows : List Row) × (named ≡ Some (codes "upgrade", rows)) × SaysUpgrade rows (Upgrade image)
 
 -- the job is that of the command that the words name, with its values. The first word is the program's name.
 abbrev pub AsksFor : List Text → Job → Type 0
@@ -118,12 +126,13 @@ IsGiven id rows = (text : Text) × (first_of id rows ≡ Some text)
 abbrev pub IsNumberGiven : ℕ → ℕ → Text → List Row → Type 0
 IsNumberGiven least most id rows = (n : ℕ) × IsNumberFor least most (one_of id rows) n
 
--- the command is one of the three, and has the values that have to be given
+-- the command is one of the four, and has the values that have to be given
 abbrev pub IsWhole : Text × List Row → Type 0
 IsWhole named = ((named.0 ≡ codes "mkfs") × IsGiven (codes "IMAGE") named.1
     × IsNumberGiven 1024 65536 (codes "sectors") named.1 × IsNumberGiven 16 4096 (codes "inodes") named.1)
     ⊎ (((named.0 ≡ codes "run") × IsGiven (codes "IMAGE") named.1)
-    ⊎ ((named.0 ≡ codes "check") × IsGiven (codes "IMAGE") named.1))
+    ⊎ (((named.0 ≡ codes "check") × IsGiven (codes "IMAGE") named.1)
+    ⊎ ((named.0 ≡ codes "upgrade") × IsGiven (codes "IMAGE") named.1)))
 
 abbrev pub HasValues : Option (Text × List Row) → Type 0
 HasValues None = Unit {0}

@@ -2,18 +2,19 @@
 
 ghost use Rattle.std.specs.Prelude.{◌≡◌, OnOk, is_ok, if◌then◌else◌, Some, Ok};
 ghost use Rattle.std.specs.Io.KnownBytes.{Appends};
-ghost use Rattle.sector_disk.specs.Disk.{OnlyReads};
+ghost use Rattle.sector_disk.specs.Disk.{LeavesOnly, OnlyReads};
 ghost use Rattle.fs_layout.specs.Place.{IsPlace, the_place};
-ghost use Rattle.fs_command.specs.Jobs.{MkfsEnds, RunEnds, CheckEnds, ended, run_status};
+ghost use Rattle.fs_system.specs.Upgrading.{IsHalfUpgraded};
+ghost use Rattle.fs_command.specs.Jobs.{MkfsEnds, RunEnds, CheckEnds, UpgradeEnds, ended, run_status};
 ghost use Rattle.fs_command.specs.Streams.{reading, writing};
-ghost use Rattle.fs_command.specs.Texts.{made_text, kinds_text, room_text, yes_text, clean_text, finding_text};
+ghost use Rattle.fs_command.specs.Texts.{made_text, kinds_text, room_text, yes_text, clean_text, finding_text, version_text};
 
 use crate::failure::Failure;
 use crate::status::Status;
 use fs_check::{CheckFault, Finding, Summary, check};
-use fs_layout::Place;
+use fs_layout::{Place, Version};
 use fs_shell::{Count, RunFault, Watched, run};
-use fs_system::{Fs, mkfs};
+use fs_system::{Fs, mkfs, upgrade};
 use sector_disk::Disk;
 use std::alloc::Global;
 use std::io::{self, Read, Write};
@@ -178,4 +179,28 @@ fn yes_or_no(yes: bool) -> &'static str
     ensures { result.now ≡ yes_text yes }
 {
     if yes { "yes" } else { "no" }
+}
+
+// ---- upgrading
+
+/// Upgrades the file system on a disk, and prints the version that it has then.
+pub fn upgrade_disk<D: Disk, O: Write>(
+    alloc: Global,
+    disk: &mut D,
+    out: &mut Watched<O>,
+) -> Result<Status, Failure>
+    ensures any_moment { LeavesOnly (D.state disk.old) (D.state disk.new) (IsHalfUpgraded (D.state disk.old)) }
+    ensures ends { UpgradeEnds (D.state disk.old) (D.state disk.new) (writing O.contents out.old out.new) result }
+{
+    if let Err(fault) = upgrade(alloc, disk) {
+        return Err(Failure::Upgrade(fault));
+    }
+    Ok(written(print_version(out), Status::Done))
+}
+
+fn print_version<O: Write>(out: &mut O) -> io::Result<()>
+    ensures { OnOk result (Appends (O.contents out.old) (O.contents out.new) version_text) }
+{
+    let version = Version::Two.number();
+    writeln!(out, "version {version}")
 }

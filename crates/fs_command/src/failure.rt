@@ -2,7 +2,7 @@
 
 use fs_check::CheckFault;
 use fs_shell::RunFault;
-use fs_system::{MkfsFault, MountFault};
+use fs_system::{MkfsFault, MountFault, UpgradeFault};
 use thiserror::Error;
 
 /// Why a job wasn't done.
@@ -29,6 +29,9 @@ pub enum Failure {
     /// The image was not checked to the end.
     #[error("check: {0}")]
     Check(CheckFault),
+    /// The file system was not upgraded.
+    #[error("upgrade: {0}")]
+    Upgrade(UpgradeFault),
     /// The run ended early.
     #[error("run: {0}")]
     Run(RunFault),

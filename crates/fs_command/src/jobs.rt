@@ -3,11 +3,11 @@
 ghost use Rattle.std.specs.Prelude.{◌≡◌, ◌⊎◌, ◌≤◌, map, string_bytes, MatchResult, Err};
 ghost use Rattle.std.specs.Option.{option_copied};
 ghost use Rattle.sector_disk.specs.Disk.{IsFresh};
-ghost use Rattle.fs_command.specs.Jobs.{ImageMkfsEnds, ImageRunEnds, ImageCheckEnds, JobEnds, ProgramEnds};
+ghost use Rattle.fs_command.specs.Jobs.{ImageMkfsEnds, ImageRunEnds, ImageCheckEnds, ImageUpgradeEnds, JobEnds, ProgramEnds};
 ghost use Rattle.fs_command.specs.Streams.{reading, writing};
 ghost use Rattle.fs_command.specs.Words.{words_status};
 
-use crate::disks::{check_disk, finish, make_on_disk, run_on_disk, written};
+use crate::disks::{check_disk, finish, make_on_disk, run_on_disk, upgrade_disk, written};
 use crate::failure::Failure;
 use crate::memory::run_in_memory;
 use crate::status::Status;
@@ -77,6 +77,7 @@ fn perform_job<R: Files<File: DiskFile> + AllocGlobal, I: Read, O: Write, E: Wri
         } => make_image(rt, image, *sectors, *inodes, out),
         Job::Run { image, script } => run_image(rt, image, script.as_ref(), input, out, err),
         Job::Check { image } => check_image(rt, image, out),
+        Job::Upgrade { image } => upgrade_image(rt, image, out),
     }
 }
 
@@ -145,4 +146,15 @@ fn check_image<R: Files<File: DiskFile> + AllocGlobal, O: Write>(
 {
     let mut disk = open_image(rt, image)?;
     check_disk(rt.alloc(), &mut disk, out)
+}
+
+fn upgrade_image<R: Files<File: DiskFile> + AllocGlobal, O: Write>(
+    rt: &R,
+    image: &Text,
+    out: &mut Watched<O>,
+) -> Result<Status, Failure>
+    ensures { ImageUpgradeEnds ⟦<FileDisk<R::File> as Disk>⟧.state (writing O.contents out.old out.new) result }
+{
+    let mut disk = open_image(rt, image)?;
+    upgrade_disk(rt.alloc(), &mut disk, out)
 }

@@ -1,8 +1,8 @@
 //! What the words of the command line ask for.
 ghost use Rattle.std.specs.Prelude.{◌≡◌, MatchResult, IfOk, [], codes, map, string_bytes, false};
 ghost use Rattle.clap.specs.Words.{app_of, found_of, rows_of, rule_of, fault_of, subcommand_rows_of};
-ghost use Rattle.fs_command.specs.Words.{command_line, mkfs, run, check, image, number_option, IsGiven, IsNumberGiven};
-ghost use Rattle.fs_command.specs.Words.{HasValues, AsksFor, SaysJob, SaysMkfs, SaysRun, SaysCheck, Refuses, words_status};
+ghost use Rattle.fs_command.specs.Words.{command_line, mkfs, run, check, upgrade, image, number_option, IsGiven, IsNumberGiven};
+ghost use Rattle.fs_command.specs.Words.{HasValues, AsksFor, SaysJob, SaysMkfs, SaysRun, SaysCheck, SaysUpgrade, Refuses, words_status};
 
 use crate::status::Status;
 use clap::builder::ValueParser;
@@ -17,7 +17,8 @@ const VERSION: &str = "0.1.0";
 const USAGE: &str = "inofs
        inofs mkfs IMAGE --sectors N --inodes N
        inofs run IMAGE [SCRIPT]
-       inofs check IMAGE";
+       inofs check IMAGE
+       inofs upgrade IMAGE";
 
 const STATUSES: &str =
     "With no command, runs the script on the standard input on a new disk in memory.
@@ -79,6 +80,11 @@ pub enum Job {
     },
     /// To check an image.
     Check {
+        /// The image's path.
+        image: Text,
+    },
+    /// To upgrade an image.
+    Upgrade {
         /// The image's path.
         image: Text,
     },
@@ -159,6 +165,9 @@ fn named_job(alloc: Global, matches: &ArgMatches<'_>) -> Result<Job, AllocError>
     if let Some(matches) = matches.subcommand_matches("check") {
         return check_job(alloc, matches);
     }
+    if let Some(matches) = matches.subcommand_matches("upgrade") {
+        return upgrade_job(alloc, matches);
+    }
     Ok(Job::Memory)
 }
 
@@ -198,6 +207,15 @@ fn check_job(alloc: Global, matches: &ArgMatches<'_>) -> Result<Job, AllocError>
     Ok(Job::Check { image })
 }
 
+// The job of `upgrade`.
+fn upgrade_job(alloc: Global, matches: &ArgMatches<'_>) -> Result<Job, AllocError>
+    requires image { IsGiven (codes "IMAGE") (rows_of (found_of matches.now)) }
+    ensures { IfOk result (SaysUpgrade (rows_of (found_of matches.now))) }
+{
+    let image = Text::new(alloc, matches.get_str("IMAGE").unwrap())?;
+    Ok(Job::Upgrade { image })
+}
+
 // The command line.
 fn program<'a>(alloc: Global) -> Result<Command<'a>, AllocError>
     ensures { IfOk result (λ command. app_of command ≡ command_line) }
@@ -210,7 +228,8 @@ fn program<'a>(alloc: Global) -> Result<Command<'a>, AllocError>
         .disable_help_subcommand(true)
         .subcommand(mkfs_command(alloc)?)?
         .subcommand(run_command(alloc)?)?
-        .subcommand(check_command(alloc)?)
+        .subcommand(check_command(alloc)?)?
+        .subcommand(upgrade_command(alloc)?)
 }
 
 // The words of `mkfs`.
@@ -243,6 +262,15 @@ fn check_command<'a>(alloc: Global) -> Result<Command<'a>, AllocError>
 {
     Command::new(alloc, "check")
         .about("Check an image")
+        .arg(image(alloc).help("The image"))
+}
+
+// The words of `upgrade`.
+fn upgrade_command<'a>(alloc: Global) -> Result<Command<'a>, AllocError>
+    ensures { IfOk result (λ command. app_of command ≡ upgrade) }
+{
+    Command::new(alloc, "upgrade")
+        .about("Upgrade an image to the newest version of the layout")
         .arg(image(alloc).help("The image"))
 }
 

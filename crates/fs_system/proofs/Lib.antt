@@ -17,6 +17,7 @@ pub mod Methods
 pub mod Mounts
 pub mod Places
 pub mod Played
+pub mod Raising
 pub mod Runs
 pub mod Soundness
 pub mod Sweeps

@@ -9,6 +9,7 @@ pub mod Histories
 pub mod Laws
 pub mod NewTables
 pub mod Making
+pub mod Upgrading
 pub mod Sound
 pub mod Layouts
 pub mod Sweeping

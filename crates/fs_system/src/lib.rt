@@ -11,8 +11,9 @@ mod new_tables;
 mod playing;
 mod stored;
 mod sweeping;
+mod upgrading;
 
-pub use faults::{MkfsFault, MountFault, PlayFault};
+pub use faults::{MkfsFault, MountFault, PlayFault, UpgradeFault};
 pub use fs::Fs;
 pub use laws::{
     a_running_system_is_in_one_state, histories_are_runs, trees_are_sound,
@@ -20,3 +21,4 @@ pub use laws::{
 };
 pub use new_disk::mkfs;
 pub use playing::play;
+pub use upgrading::upgrade;

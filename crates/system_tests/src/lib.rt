@@ -23,3 +23,5 @@ mod report;
 mod script_runs;
 #[cfg(test)]
 mod texts;
+#[cfg(test)]
+mod upgrades;

@@ -3,7 +3,7 @@
 use fs_check::{CheckFault, Finding};
 use fs_command::{Failure, perform, run_on_disk};
 use fs_shell::{RunFault, Watched};
-use fs_system::{MkfsFault, MountFault, mkfs};
+use fs_system::{MkfsFault, MountFault, UpgradeFault, mkfs};
 use sector_disk::{CrashDisk, Disk, MemDisk};
 use std::alloc::Global;
 use std::io::{self, ErrorKind, Read, Write};
@@ -43,6 +43,22 @@ fn each_failure_has_its_line(rt: HostRuntime) -> Result<(), Fail> {
         (
             Failure::Check(CheckFault::OutOfMemory),
             "check: OutOfMemory",
+        ),
+        (
+            Failure::Upgrade(UpgradeFault::NotAFileSystem),
+            "upgrade: NotAFileSystem",
+        ),
+        (
+            Failure::Upgrade(UpgradeFault::Damaged(finding)),
+            "upgrade: Damaged 6 147",
+        ),
+        (
+            Failure::Upgrade(UpgradeFault::DiskFault),
+            "upgrade: DiskFault",
+        ),
+        (
+            Failure::Upgrade(UpgradeFault::OutOfMemory),
+            "upgrade: OutOfMemory",
         ),
         (Failure::Run(RunFault::ReadFault), "run: ReadFault"),
         (Failure::Run(RunFault::WriteFault), "run: WriteFault"),
@@ -155,7 +171,7 @@ const THEN: &str = "spawn 0 0\n1 open /d/f r\n1 read 0 100\n";
 const READ: &str = "0\npid 1\nfd 0\ndata hello\n";
 
 // What becomes of a file, the words, the standard input, and what is seen.
-const ROWS: [(Change, &str, &str, &str); 23] = [
+const ROWS: [(Change, &str, &str, &str); 29] = [
     (
         Change::Nothing,
         "mkfs @d --sectors 1024 --inodes 64",
@@ -211,6 +227,16 @@ const ROWS: [(Change, &str, &str, &str); 23] = [
         "",
         "0\nclean files 1 dirs 2 links 0 nameless 0 blocks 875 inodes 60 pending no\n",
     ),
+    // The version. What is in the files stays.
+    (Change::Byte(4, 1), "upgrade @d", "", "0\nversion 2\n"),
+    (Change::Nothing, "upgrade @d", "", "0\nversion 2\n"),
+    (Change::Nothing, "run @d", THEN, READ),
+    (
+        Change::Nothing,
+        "upgrade @e",
+        "",
+        "3\nimage: cannot open\n",
+    ),
     // Bit 150 of the block bitmap.
     (
         Change::Byte(129 * 512 + 18, 0x7f),
@@ -219,8 +245,20 @@ const ROWS: [(Change, &str, &str, &str); 23] = [
         "1\nfinding 7 149\n",
     ),
     (Change::Nothing, "run @d", "", "3\nmount: Damaged 7 149\n"),
+    (
+        Change::Nothing,
+        "upgrade @d",
+        "",
+        "3\nupgrade: Damaged 7 149\n",
+    ),
     (Change::Byte(0, 0), "check @d", "", "1\nfinding 1 0\n"),
     (Change::Nothing, "run @d", "", "3\nmount: NotAFileSystem\n"),
+    (
+        Change::Nothing,
+        "upgrade @d",
+        "",
+        "3\nupgrade: NotAFileSystem\n",
+    ),
     (
         Change::Nothing,
         "",

@@ -41,6 +41,7 @@ fn told(alloc: Global, outcome: &Result<Job, WordsFault>) -> Result<String, Allo
             },
         ) => format!(in alloc; "run {}", image.as_str()),
         Ok(Job::Check { image }) => format!(in alloc; "check {}", image.as_str()),
+        Ok(Job::Upgrade { image }) => format!(in alloc; "upgrade {}", image.as_str()),
         Err(fault) => match fault {
             WordsFault::Help(_) => format!(in alloc; "help {}", fault.status().code()),
             WordsFault::BadWords(_) => format!(in alloc; "bad {}", fault.status().code()),
@@ -52,7 +53,7 @@ fn told(alloc: Global, outcome: &Result<Job, WordsFault>) -> Result<String, Allo
 // ---- what is asked for
 
 // Lines, and what they ask for.
-const JOBS: [(&str, &str); 9] = [
+const JOBS: [(&str, &str); 10] = [
     ("inofs", "memory"),
     (
         "inofs mkfs a.img --sectors 1024 --inodes 16",
@@ -71,10 +72,11 @@ const JOBS: [(&str, &str); 9] = [
     ("inofs run -- --help s", "run --help s"),
     ("inofs check a.img", "check a.img"),
     ("/usr/bin/inofs check check", "check check"),
+    ("inofs upgrade a.img", "upgrade a.img"),
 ];
 
 // Lines that ask for no job.
-const BAD: [&str; 26] = [
+const BAD: [&str; 28] = [
     "inofs mkfs",
     "inofs mkfs a.img",
     "inofs mkfs a.img --sectors 1024",
@@ -95,6 +97,8 @@ const BAD: [&str; 26] = [
     "inofs run a.img --sectors 1024",
     "inofs check",
     "inofs check a.img b.img",
+    "inofs upgrade",
+    "inofs upgrade a.img b.img",
     "inofs fsck a.img",
     "inofs help",
     "inofs a.img",
@@ -104,7 +108,7 @@ const BAD: [&str; 26] = [
 ];
 
 // Lines that ask for help or the version.
-const SHOWN: [&str; 7] = [
+const SHOWN: [&str; 8] = [
     "inofs --help",
     "inofs -h",
     "inofs --version",
@@ -112,6 +116,7 @@ const SHOWN: [&str; 7] = [
     "inofs mkfs --help",
     "inofs run a.img -h",
     "inofs check --help",
+    "inofs upgrade --help",
 ];
 
 // Adds to the report where a line asks for something other than is wanted.
@@ -143,11 +148,13 @@ Usage: inofs
        inofs mkfs IMAGE --sectors N --inodes N
        inofs run IMAGE [SCRIPT]
        inofs check IMAGE
+       inofs upgrade IMAGE
 
 Commands:
-  mkfs   Make an image with an empty file system
-  run    Run a script on an image
-  check  Check an image
+  mkfs     Make an image with an empty file system
+  run      Run a script on an image
+  check    Check an image
+  upgrade  Upgrade an image to the newest version of the layout
 
 Options:
   -h, --help     Print help

@@ -8,3 +8,6 @@ returns-in-Run g c = rw c.in-Run.is (rw c.as_ref.ensures.value at c.run_image.en
 
 pub returns-in-Check : goal.returns-in-Check
 returns-in-Check g c = rw c.in-Check.is c.check_image.ensures
+
+pub returns-in-Upgrade : goal.returns-in-Upgrade
+returns-in-Upgrade g c = rw c.in-Upgrade.is c.upgrade_image.ensures

@@ -2,7 +2,7 @@ use Rattle.std.proofs.Common.{rules, ◌≡◌, ◌∙◌, ap, ap₂}
 use Rattle.std.proofs.lemmas.Result.{IfOk-weaker}
 use Rattle.clap.specs.Words.{App, app_of, with_subcommand}
 use Rattle.clap.proofs.SimpleLemmas.{plain_fields}
-use Rattle.fs_command.specs.Words.{alone, mkfs, run, check}
+use Rattle.fs_command.specs.Words.{alone, mkfs, run, check, upgrade}
 use Rattle.fs_command.proofs.words.program.Goals as goal
 
 pub returns : goal.returns
@@ -17,5 +17,9 @@ returns c =
     let two_is : app_of c.in_ok-subcommand-2.field-0 ≡ with_subcommand (with_subcommand alone mkfs.top) run.top =
     c.in_ok-subcommand-2.ensures.shape (plain_fields _ (ap (λ (a : App). a.top.is_plain) run_is)).globals
     ∙ ap₂ with_subcommand one_is (ap (λ (a : App). a.top) run_is) in
-    IfOk-weaker c.subcommand-3.result _ _ (λ command adds. adds.shape (plain_fields _ (ap (λ (a : App). a.top.is_plain) check_is)).globals
-    ∙ ap₂ with_subcommand two_is (ap (λ (a : App). a.top) check_is)) c.subcommand-3.ensures
+    let upgrade_is : app_of c.in_ok-upgrade_command.field-0 ≡ upgrade = c.in_ok-upgrade_command.ensures in
+    let three_is : app_of c.in_ok-subcommand-3.field-0 ≡ with_subcommand (with_subcommand (with_subcommand alone mkfs.top) run.top) check.top =
+    c.in_ok-subcommand-3.ensures.shape (plain_fields _ (ap (λ (a : App). a.top.is_plain) check_is)).globals
+    ∙ ap₂ with_subcommand two_is (ap (λ (a : App). a.top) check_is) in
+    IfOk-weaker c.subcommand-4.result _ _ (λ command adds. adds.shape (plain_fields _ (ap (λ (a : App). a.top.is_plain) upgrade_is)).globals
+    ∙ ap₂ with_subcommand three_is (ap (λ (a : App). a.top) upgrade_is)) c.subcommand-4.ensures

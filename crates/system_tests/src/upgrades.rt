@@ -1,0 +1,73 @@
+//! What no clause of `upgrade` says: that it succeeds, and which version is there after each stop.
+
+ghost use Rattle.std.specs.Prelude.{◌≡◌, ◌<◌, IfOk};
+
+use fs_system::{UpgradeFault, mkfs, upgrade};
+use sector_disk::{CrashDisk, Disk, MemDisk, write_synced};
+use std::alloc::Global;
+use std::test::Fail;
+
+// Where the superblock has its version.
+const VERSION: usize = 4;
+
+// The superblock of 1,024 sectors and 64 inodes in a version.
+fn superblock(version: u8) -> [u8; 512] {
+    let mut content = [0; 512];
+    content[..16].copy_from_slice(b"INOS\0\0\0\0\0\x04\0\0\x40\0\0\0");
+    content[VERSION] = version;
+    content
+}
+
+// A new file system whose superblock says this version, all of it stable.
+fn disk_of_version(alloc: Global, version: u8) -> Result<MemDisk, Fail>
+    ensures { IfOk result (λ disk. (⟦<MemDisk as Disk>⟧.state disk).size ≡ 1024) }
+{
+    let mut disk = MemDisk::new(alloc, 1024)?;
+    mkfs(&mut disk, 64)?;
+    write_synced(&mut disk, 0, &superblock(version))?;
+    Ok(disk)
+}
+
+// What an upgrade comes to with so many writes and syncs left, and the version after a stop.
+fn upgraded_and_stopped<D: CrashDisk + Drop>(
+    alloc: Global,
+    mut disk: D,
+    passes: u64,
+    choice: &[u8],
+) -> Result<(Result<(), UpgradeFault>, u8), Fail>
+    requires { 0 < (D.state disk).size }
+{
+    disk.arm(passes);
+    let upgraded = upgrade(alloc, &mut disk);
+    disk.crash(choice);
+    let mut content = [0; 512];
+    disk.read(0, &mut content)?;
+    Ok((upgraded, content[VERSION]))
+}
+
+#[test]
+fn a_stop_leaves_the_old_version_or_the_new_one(rt: HostRuntime) -> Result<(), Fail> {
+    let alloc = rt.alloc();
+    let failed = Err(UpgradeFault::DiskFault);
+    // The version before, what passes of a sync, the write of sector 0 and a sync, what the upgrade comes to, and the version
+    // after a stop that leaves the old contents, and the new ones.
+    for (version, passes, wanted, zeros_chosen, ones_chosen) in [
+        (1, 0, failed, 1, 1),
+        (1, 1, failed, 1, 2),
+        (1, 2, failed, 1, 2),
+        (1, 3, Ok(()), 2, 2),
+        // A sync alone.
+        (2, 0, failed, 2, 2),
+        (2, 1, Ok(()), 2, 2),
+    ] {
+        let disk = disk_of_version(alloc, version)?;
+        let zeros = upgraded_and_stopped(alloc, disk, passes, &[])?;
+        let disk = disk_of_version(alloc, version)?;
+        let ones = upgraded_and_stopped(alloc, disk, passes, &[1])?;
+        assert!(rt;
+            zeros == (wanted, zeros_chosen) && ones == (wanted, ones_chosen),
+            "{version} {passes}: {zeros:?} {ones:?}"
+        );
+    }
+    Ok(())
+}
