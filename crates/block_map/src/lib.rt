@@ -6,8 +6,8 @@
 //! never empty: [`new_link`] makes it with its target. [`free_all`] frees each of them with all that it owns. [`Blocks`] reads one
 //! block after another, as a search does. No call takes memory.
 //!
-//! What each call reads and puts, where it reaches `k` blocks, `h` of which are holes. A sector of pointers past the first is read with the
-//! double indirect one:
+//! What each call reads and puts, where it reaches `k` blocks, `h` of which are holes. To a sector of pointers past the first the double
+//! indirect one is read too, also where it then says that there is none:
 //!
 //! | Call | `get` | `put` |
 //! |---|---|---|

@@ -231,12 +231,7 @@ const ROWS: [(Change, &str, &str, &str); 29] = [
     (Change::Byte(4, 1), "upgrade @d", "", "0\nversion 2\n"),
     (Change::Nothing, "upgrade @d", "", "0\nversion 2\n"),
     (Change::Nothing, "run @d", THEN, READ),
-    (
-        Change::Nothing,
-        "upgrade @e",
-        "",
-        "3\nimage: cannot open\n",
-    ),
+    (Change::Nothing, "upgrade @e", "", "3\nimage: cannot open\n"),
     // Bit 150 of the block bitmap.
     (
         Change::Byte(129 * 512 + 18, 0x7f),
