@@ -135,7 +135,7 @@ fn a_new_disk_has_these_bytes(rt: HostRuntime) -> Result<(), Fail> {
 // The superblock of 1,024 sectors and 64 inodes.
 fn new_superblock() -> [u8; 512] {
     let mut content = NONE;
-    content[..16].copy_from_slice(b"INOS\x01\0\0\0\0\x04\0\0\x40\0\0\0");
+    content[..16].copy_from_slice(b"INOS\x02\0\0\0\0\x04\0\0\x40\0\0\0");
     content
 }
 
