@@ -194,7 +194,8 @@ fn agreed(alloc: Global, rows: &[Row]) -> Result<usize, Fail> {
     Ok(rows.len())
 }
 
-// Of the names no sector is read twice, and none behind that of the name; from 49 names on there is a sector of pointers.
+// Of the names no sector is read twice, and none behind that of the name; from 49 names on there is a sector of pointers, which
+// is read for name 48 and those behind it.
 #[test]
 fn reads(rt: HostRuntime) -> Result<(), Fail> {
     let rows: [Row; 15] = [
@@ -208,7 +209,7 @@ fn reads(rt: HostRuntime) -> Result<(), Fail> {
         (48, Call::Lookup, 47, (Ok(49), 12, 0)),
         (48, Call::Lookup, 48, (Ok(0), 12, 0)),
         (48, Call::List, 0, (Ok(48), 12, 0)),
-        (49, Call::Lookup, 0, (Ok(2), 2, 0)),
+        (49, Call::Lookup, 0, (Ok(2), 1, 0)),
         (49, Call::Lookup, 48, (Ok(50), 14, 0)),
         (49, Call::Lookup, 49, (Ok(0), 14, 0)),
         (49, Call::List, 0, (Ok(49), 14, 0)),
@@ -235,8 +236,8 @@ fn changes(rt: HostRuntime) -> Result<(), Fail> {
         (2, Call::Remove, 0, (Ok(1), 5, 3)),
         (2, Call::Remove, 1, (Ok(1), 3, 2)),
         (2, Call::Remove, 2, (Err(DirFault::Absent), 1, 0)),
-        (50, Call::Remove, 0, (Ok(49), 8, 4)),
-        (49, Call::Remove, 48, (Ok(48), 18, 3)),
+        (50, Call::Remove, 0, (Ok(49), 9, 4)),
+        (49, Call::Remove, 48, (Ok(48), 20, 3)),
         (2, Call::Replace, 0, (Ok(2), 2, 1)),
         (2, Call::Replace, 2, (Err(DirFault::Absent), 1, 0)),
         (50, Call::Replace, 49, (Ok(50), 16, 1)),
