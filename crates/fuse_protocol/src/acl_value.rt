@@ -66,16 +66,24 @@ fn push_acl_entry(to: &mut Vec<u8>, entry: Entry) -> Result<(), AllocError>
     Ok(())
 }
 
+/// Adds the value that says the list. No memory is asked for where there is room for it.
+pub fn push_acl_value(to: &mut Vec<u8>, acl: &Acl) -> Result<(), AllocError>
+    ensures { OnOk result (to.new.items ≡ to.old.items ++ acl_value_bytes (entries_of acl.now)) }
+{
+    let entries = acl.entries();
+    push_u32s(to, &[ACL_VERSION])?;
+    for entry in entries {
+        push_acl_entry(to, *entry)?;
+    }
+    Ok(())
+}
+
 /// The value that says the list.
 pub fn write_acl_value(alloc: Global, acl: &Acl) -> Result<Vec<u8>, AllocError>
     ensures { IfOk result (λ value. value.items ≡ acl_value_bytes (entries_of acl.now)) }
 {
-    let entries = acl.entries();
     let mut value = Vec::new(alloc);
-    push_u32s(&mut value, &[ACL_VERSION])?;
-    for entry in entries {
-        push_acl_entry(&mut value, *entry)?;
-    }
+    push_acl_value(&mut value, acl)?;
     Ok(value)
 }
 

@@ -1,6 +1,6 @@
 //! Numbers in the protocol's bytes, the lowest byte first.
 
-ghost use Rattle.std.specs.Prelude.{◌≡◌, ◌≤◌, ◌+◌, ◌++◌, length, OnOk};
+ghost use Rattle.std.specs.Prelude.{◌≡◌, ◌≤◌, ◌+◌, ◌*◌, ◌++◌, length, vec_len, vec_capacity, IsOk, OnOk};
 ghost use Rattle.fuse_protocol.specs.Bytes.{u16_of, u32_of, u64_of, le16s, le32s, le64s};
 
 use byteorder::{ByteOrder, LittleEndian};
@@ -40,7 +40,10 @@ pub(crate) fn push_u16s(to: &mut Vec<u8>, xs: &[u16]) -> Result<(), AllocError>
 }
 
 pub(crate) fn push_u32s(to: &mut Vec<u8>, xs: &[u32]) -> Result<(), AllocError>
-    ensures { OnOk result (to.new.items ≡ to.old.items ++ le32s xs.now) }
+    ensures items { OnOk result (to.new.items ≡ to.old.items ++ le32s xs.now) }
+    ensures len { OnOk result (vec_len to.new ≡ vec_len to.old + 4 * length xs.now) }
+    ensures capacity { vec_capacity to.old ≤ vec_capacity to.new }
+    ensures succeeds { vec_len to.old + 4 * length xs.now ≤ vec_capacity to.old → IsOk result }
 {
     for x in xs {
         to.extend_from_slice(&x.to_le_bytes())?;
@@ -49,7 +52,10 @@ pub(crate) fn push_u32s(to: &mut Vec<u8>, xs: &[u32]) -> Result<(), AllocError>
 }
 
 pub(crate) fn push_u64s(to: &mut Vec<u8>, xs: &[u64]) -> Result<(), AllocError>
-    ensures { OnOk result (to.new.items ≡ to.old.items ++ le64s xs.now) }
+    ensures items { OnOk result (to.new.items ≡ to.old.items ++ le64s xs.now) }
+    ensures len { OnOk result (vec_len to.new ≡ vec_len to.old + 8 * length xs.now) }
+    ensures capacity { vec_capacity to.old ≤ vec_capacity to.new }
+    ensures succeeds { vec_len to.old + 8 * length xs.now ≤ vec_capacity to.old → IsOk result }
 {
     for x in xs {
         to.extend_from_slice(&x.to_le_bytes())?;

@@ -1,6 +1,6 @@
 //! The entries of a directory, as READDIR tells them.
 
-ghost use Rattle.std.specs.Prelude.{◌≡◌, ◌<◌, ◌+◌, ◌^◌, ◌++◌, ◌≤◌, length, vec_len, nat_le, [], if◌then◌else◌, IfOk, OnOk};
+ghost use Rattle.std.specs.Prelude.{◌≡◌, ◌<◌, ◌+◌, ◌^◌, ◌++◌, ◌≤◌, length, vec_len, vec_capacity, nat_le, [], if◌then◌else◌, IsOk, IfOk, OnOk};
 ghost use Rattle.fuse_protocol.specs.Bytes.{zeros};
 ghost use Rattle.fuse_protocol.specs.Entries.{directory_entry_bytes, entry_size, entry_kind_number};
 
@@ -36,7 +36,9 @@ fn entry_size(name: usize) -> usize
 
 fn push_zeros(to: &mut Vec<u8>, count: usize) -> Result<(), AllocError>
     requires { count ≤ 8 }
-    ensures { OnOk result (to.new.items ≡ to.old.items ++ zeros count) }
+    ensures items { OnOk result (to.new.items ≡ to.old.items ++ zeros count) }
+    ensures capacity { vec_capacity to.old ≤ vec_capacity to.new }
+    ensures succeeds { vec_len to.old + count ≤ vec_capacity to.old → IsOk result }
 {
     to.extend_from_slice(&[0; 8][..count])?;
     Ok(())
@@ -52,6 +54,8 @@ pub fn push_entry(
     requires { length entry.now.name < 2 ^ 32 }
     ensures fits { IfOk result (λ added. added ≡ nat_le (vec_len to.old + entry_size (length entry.now.name)) most) }
     ensures bytes { IfOk result (λ added. to.new.items ≡ to.old.items ++ (if added then directory_entry_bytes entry.now else [])) }
+    ensures capacity { vec_capacity to.old ≤ vec_capacity to.new }
+    ensures succeeds { vec_len to.old + entry_size (length entry.now.name) ≤ vec_capacity to.old → IsOk result }
 {
     let name = entry.name.bytes();
     let size = entry_size(name.len());

@@ -227,16 +227,25 @@ fn error_field(reply: &Reply<'_>) -> u32
     }
 }
 
-/// The bytes of the reply to the request with this number.
+/// Adds the bytes of the reply to the request with this number. No memory is asked for where there is room for them.
 #[tactic(auto, using(std::proofs::Common::append_assoc), unfolding(crate::specs::Replies::reply_bytes))]
+pub fn push_reply(to: &mut Vec<u8>, unique: u64, reply: &Reply<'_>) -> Result<(), AllocError>
+    requires { IsReply reply.now }
+    ensures { OnOk result (to.new.items ≡ to.old.items ++ reply_bytes unique reply.now) }
+{
+    let size = REPLY_HEADER_SIZE + body_size(reply);
+    push_u32s(to, &[size as u32, error_field(reply)])?;
+    push_u64s(to, &[unique])?;
+    push_body(to, reply)?;
+    Ok(())
+}
+
+/// The bytes of the reply to the request with this number.
 pub fn write_reply(alloc: Global, unique: u64, reply: &Reply<'_>) -> Result<Vec<u8>, AllocError>
     requires { IsReply reply.now }
     ensures { IfOk result (λ bytes. bytes.items ≡ reply_bytes unique reply.now) }
 {
-    let size = REPLY_HEADER_SIZE + body_size(reply);
-    let mut bytes = Vec::with_capacity(alloc, size)?;
-    push_u32s(&mut bytes, &[size as u32, error_field(reply)])?;
-    push_u64s(&mut bytes, &[unique])?;
-    push_body(&mut bytes, reply)?;
+    let mut bytes = Vec::with_capacity(alloc, REPLY_HEADER_SIZE + body_size(reply))?;
+    push_reply(&mut bytes, unique, reply)?;
     Ok(bytes)
 }

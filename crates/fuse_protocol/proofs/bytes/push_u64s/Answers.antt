@@ -1,4 +1,4 @@
-use Rattle.std.proofs.Common.{arith, sym, ap, ◌∙◌, ◌++◌, List, ℕ}
+use Rattle.std.proofs.Common.{arith, sym, ap, ◌∙◌, ◌≡◌, ◌++◌, List, ℕ, length}
 use Rattle.std.proofs.lemmas.List.{append-nil}
 use Rattle.byteorder.specs.Endian.{little_bytes}
 use Rattle.fuse_protocol.specs.Bytes.{le64s}
@@ -7,10 +7,17 @@ use Rattle.fuse_protocol.proofs.bytes.push_u64s.Goals as goal
 
 pub loop-x-init : goal.loop-x-init
 unfolding le64s
-loop-x-init c = sym (append-nil c.args.to.now.items)
+loop-x-init c = record { items = sym (append-nil c.args.to.now.items); len = omega arith; capacity = omega arith }
 
 pub loop-x-preserved : goal.loop-x-preserved
 unfolding le64s
 loop-x-preserved c =
-    one_more (little_bytes 8) c.args.to.now.items c.args.xs.now c.loop-x.to.items _ c.loop-x.x-index 0 (omega arith) c.loop-x.invariant
-    (c.in_ok-extend_from_slice.ensures.items ∙ ap (λ (r : List ℕ). c.loop-x.to.items ++ r) c.to_le_bytes.ensures)
+    let before = c.loop-x.invariant in
+    let added = c.in_ok-extend_from_slice.ensures in
+    let bytes : length c.to_le_bytes.result ≡ 8 = ap length c.to_le_bytes.ensures in
+    record {
+      items = one_more (little_bytes 8) c.args.to.now.items c.args.xs.now c.loop-x.to.items _ c.loop-x.x-index 0 (omega arith) before.items
+          (added.items ∙ ap (λ (r : List ℕ). c.loop-x.to.items ++ r) c.to_le_bytes.ensures);
+      len = omega (arith, added.len, before.len, bytes);
+      capacity = omega (arith, added.capacity, before.capacity);
+    }
