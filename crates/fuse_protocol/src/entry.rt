@@ -56,6 +56,7 @@ pub fn push_entry(
     ensures bytes { IfOk result (λ added. to.new.items ≡ to.old.items ++ (if added then directory_entry_bytes entry.now else [])) }
     ensures capacity { vec_capacity to.old ≤ vec_capacity to.new }
     ensures succeeds { vec_len to.old + entry_size (length entry.now.name) ≤ vec_capacity to.old → IsOk result }
+    ensures too_long { most < vec_len to.old + entry_size (length entry.now.name) → IsOk result }
 {
     let name = entry.name.bytes();
     let size = entry_size(name.len());
