@@ -8,7 +8,7 @@
 //!
 //! | Call | `get` | `put` |
 //! |---|---|---|
-//! | [`take`] | those up to the first that isn't full, or all | 1; none where no number is taken |
+//! | [`take`] | those from that of `near` on, round to the first that isn't full, or all | 1; none where no number is taken |
 //! | [`give`] | 1 | 1; none where the read fails |
 //! | [`is_taken`] | 1 | 0 |
 //! | [`count_free`] | all | 0 |

@@ -14,8 +14,9 @@ use fs_layout::Place;
 use sector_disk::DiskFault;
 use sector_txn::Sectors;
 
-/// Takes a number that is free: the lowest one, which no clause says.
-pub fn take<S: Sectors>(s: &mut S, place: Place, map: Bitmap) -> Result<u32, TakeFault>
+/// Takes a number that is free. The sectors of the bitmap are looked at in turn, from that of `near` on, round to the one
+/// before it, and the number is the lowest one in the first of them that isn't full; no clause says so. `near` may be any number.
+pub fn take<S: Sectors>(s: &mut S, place: Place, map: Bitmap, near: u32) -> Result<u32, TakeFault>
     requires bitmaps { HasBitmaps place (S.state s.old) }
     requires room { HasSpare place 0 (S.state s.old) }
     ensures taken { IfOk result (λ n. TakesNumber place map n (S.state s.old).sectors (S.state s.new).sectors) }
@@ -26,7 +27,9 @@ pub fn take<S: Sectors>(s: &mut S, place: Place, map: Bitmap) -> Result<u32, Tak
     ensures cause { HasCauseOf TakeFault.DiskFault (S.state s.old).disk (S.state s.new).disk result }
 {
     let mut sector = [0; 512];
-    for k in 0..map.sectors(place) {
+    let sectors = map.sectors(place);
+    for turn in 0..sectors {
+        let k = (near / 4096 + turn) % sectors;
         s.get(map.first() + k, &mut sector)?;
         if let Some(i) = first_clear(&sector) {
             let n = 4096 * k + i;

@@ -27,6 +27,10 @@ no_sector_at image v =
 pub none_above : (image : SectorMap) (v : Inode) (i : ℕ) (content : List ℕ) → content ≡ zeros 512 → HasPointers image v 3 i content
 none_above image v i content clear = record { is = λ some. absurd (some (no_number_on image v 0 i)); none = λ none. clear }
 
+-- near which number a sector is sought is no part of what is at hand
+pub at_hand_near : {image : SectorMap} {b : Blocks} (near : ℕ) → IsAtHand image b → IsAtHand image (record b { near = near })
+at_hand_near near h = record { number = h.number; is = h.is; none = h.none }
+
 -- what is at hand, as the layout says it
 pub at_hand_has : {image : SectorMap} {b : Blocks} → IsAtHand image b → HasPointers image b.inode 1 b.index b.pointers
 at_hand_has {image} {b} h = record {

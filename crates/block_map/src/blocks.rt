@@ -27,6 +27,8 @@ pub struct Blocks {
     pub(crate) sector: u32,
     // Its content; zeros where there is none.
     pub(crate) pointers: [u8; 512],
+    // Near this number a sector is sought: that of the first block, and then the one that was taken last.
+    pub(crate) near: u32,
 }
 
 /// Writes number `i` of a sector of pointers.
@@ -105,6 +107,7 @@ impl Blocks {
             index: MAX_BLOCKS,
             sector: 0,
             pointers: [0; BLOCK],
+            near: inode.direct[0],
         }
     }
 

@@ -4,7 +4,8 @@
 //! of such sectors. The layout's version says how far a file may reach. [`read_at`], [`write_at`],
 //! [`overwrite`] and [`set_size`] serve files, directories and links alike, [`release_all`] files and directories. A link is
 //! never empty: [`new_link`] makes it with its target. [`free_all`] frees each of them with all that it owns. [`Blocks`] reads one
-//! block after another, as a search does. No call takes memory.
+//! block after another, as a search does. [`write_at`] seeks a free sector near the one that it took last, the first near the file's first
+//! block. No call takes memory.
 //!
 //! What each call reads and puts, where it reaches `k` blocks, `h` of which are holes. To a sector of pointers past the first the double
 //! indirect one is read too, also where it then says that there is none:

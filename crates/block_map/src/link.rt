@@ -45,7 +45,7 @@ pub fn new_link<S: Sectors>(
         ⊎ (free_sectors place (S.state s.old).sectors ≡ 0)) }
     ensures cause { HasCauseOf TakeFault.DiskFault (S.state s.old).disk (S.state s.new).disk result }
 {
-    let n = take(s, place, Bitmap::Inodes)?;
+    let n = take(s, place, Bitmap::Inodes, 0)?;
     let mut content = [0; BLOCK];
     (&mut content[..target.len()]).copy_from_slice(target);
     let mut link = Inode {
@@ -57,7 +57,7 @@ pub fn new_link<S: Sectors>(
         size: target.len() as u64,
         ..Inode::FREE
     };
-    link.direct[0] = take_sector(s, place, &content)?;
+    link.direct[0] = take_sector(s, place, 0, &content)?;
     write_inode(s, place, n, &link)?;
     Ok(n)
 }

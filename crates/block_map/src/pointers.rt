@@ -32,7 +32,8 @@ fn add_indirect<S: Sectors>(s: &mut S, place: Place, blocks: &mut Blocks) -> Res
     if blocks.inode.indirect != 0 {
         return Ok(());
     }
-    let number = take_sector(s, place, &[0; BLOCK])?;
+    let number = take_sector(s, place, blocks.near, &[0; BLOCK])?;
+    blocks.near = number;
     blocks.inode.indirect = number;
     blocks.index = 0;
     blocks.sector = number;
@@ -57,7 +58,9 @@ fn add_double<S: Sectors>(s: &mut S, place: Place, blocks: &mut Blocks) -> Resul
     if blocks.inode.double_indirect != 0 {
         return Ok(());
     }
-    blocks.inode.double_indirect = take_sector(s, place, &[0; BLOCK])?;
+    let number = take_sector(s, place, blocks.near, &[0; BLOCK])?;
+    blocks.near = number;
+    blocks.inode.double_indirect = number;
     Ok(())
 }
 
@@ -110,7 +113,8 @@ fn list_sector<S: Sectors>(
     ensures store { SameStore (S.state s.old) (S.state s.new) }
     ensures cause { HasCauseOf MapFault.DiskFault (S.state s.old).disk (S.state s.new).disk result }
 {
-    let number = take_sector(s, place, &[0; BLOCK])?;
+    let number = take_sector(s, place, blocks.near, &[0; BLOCK])?;
+    blocks.near = number;
     let at = (index - 1) % SECTOR_POINTERS;
     write_pointer(content, at as usize, number);
     s.put(above, content);

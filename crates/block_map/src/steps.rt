@@ -44,10 +44,11 @@ pub(crate) fn rewrite<S: Sectors>(
     Ok(())
 }
 
-/// Takes a sector, and writes this into it.
+/// Takes a sector, sought near this number, and writes this into it.
 pub(crate) fn take_sector<S: Sectors>(
     s: &mut S,
     place: Place,
+    near: u32,
     content: &[u8; 512],
 ) -> Result<u32, TakeFault>
     requires bitmaps { HasBitmaps place (S.state s.old) }
@@ -62,15 +63,16 @@ pub(crate) fn take_sector<S: Sectors>(
     ensures store { SameStore (S.state s.old) (S.state s.new) }
     ensures cause { HasCauseOf TakeFault.DiskFault (S.state s.old).disk (S.state s.new).disk result }
 {
-    let number = take(s, place, Bitmap::Blocks)?;
+    let number = take(s, place, Bitmap::Blocks, near)?;
     s.put(number, content);
     Ok(number)
 }
 
-// Takes a sector, and writes bytes into it, from `at` on, with zeros before and after them.
+// Takes a sector, sought near this number, and writes bytes into it, from `at` on, with zeros before and after them.
 fn take_block<S: Sectors>(
     s: &mut S,
     place: Place,
+    near: u32,
     at: usize,
     bytes: &[u8],
 ) -> Result<u32, TakeFault>
@@ -89,12 +91,12 @@ fn take_block<S: Sectors>(
 {
     // A whole block is written from its place.
     if let Some(whole) = bytes.as_array() {
-        let number = take_sector(s, place, whole)?;
+        let number = take_sector(s, place, near, whole)?;
         return Ok(number);
     }
     let mut content = [0; BLOCK];
     (&mut content[at..at + bytes.len()]).copy_from_slice(bytes);
-    let number = take_sector(s, place, &content)?;
+    let number = take_sector(s, place, near, &content)?;
     Ok(number)
 }
 
@@ -126,7 +128,8 @@ fn write_loaded<S: Sectors>(
         rewrite(s, number, at, bytes)?;
         return Ok(());
     }
-    let number = take_block(s, place, at, bytes)?;
+    let number = take_block(s, place, blocks.near, at, bytes)?;
+    blocks.near = number;
     if k < DIRECT_BLOCKS {
         blocks.inode.direct[k as usize] = number;
     } else {

@@ -121,7 +121,7 @@ pub fn new_inode<S: Sectors>(
         ⊎ (free_sectors place (S.state s.old).sectors < acls_take access.now (option_copied default.entry))) }
     ensures cause { HasCauseOf TakeFault.DiskFault (S.state s.old).disk (S.state s.new).disk result }
 {
-    let n = take(s, place, Bitmap::Inodes)?;
+    let n = take(s, place, Bitmap::Inodes, 0)?;
     let acl = store(s, place, 0, kept_content(access))?;
     let default_acl = store(s, place, 0, content_of(default))?;
     let made = Inode {

@@ -59,7 +59,7 @@ pub(crate) fn store<S: Sectors>(
         s.put(sector, &content);
         return Ok(sector);
     }
-    let to = take(s, place, Bitmap::Blocks)?;
+    let to = take(s, place, Bitmap::Blocks, 0)?;
     s.put(to, &content);
     Ok(to)
 }

@@ -49,7 +49,8 @@ impl<S: Sectors> Sectors for Counted<S> {
 
 #[derive(Clone, Copy)]
 enum Call {
-    Take,
+    // Near this number.
+    Take(u32),
     Give(u32),
     IsTaken(u32),
     Count,
@@ -71,7 +72,7 @@ fn perform<S: Sectors>(
     ensures room { OnOk result (HasSpare place 0 (S.state s.new)) }
 {
     match call {
-        Call::Take => match take(s, place, map) {
+        Call::Take(near) => match take(s, place, map, near) {
             Ok(n) => Ok(Some(n)),
             Err(TakeFault::Full) => Ok(None),
             Err(TakeFault::DiskFault) => Err(Fail::new("not read")),
@@ -194,10 +195,10 @@ const FEW_INODES: [Row; 12] = [
     (Call::Count, Some(2), 1, 0),
     (Call::HasFree(2), Some(1), 1, 0),
     (Call::HasFree(3), Some(0), 1, 0),
-    (Call::Take, Some(1), 1, 1),
+    (Call::Take(0), Some(1), 1, 1),
     (Call::IsTaken(1), Some(1), 1, 0),
-    (Call::Take, Some(63), 1, 1),
-    (Call::Take, None, 1, 0),
+    (Call::Take(0), Some(63), 1, 1),
+    (Call::Take(0), None, 1, 0),
     (Call::Count, Some(0), 1, 0),
     (Call::Give(1), Some(1), 1, 1),
     (Call::IsTaken(1), Some(0), 1, 0),
@@ -207,13 +208,13 @@ const FEW_INODES: [Row; 12] = [
 
 // No inode is free at first.
 const NO_INODES: [Row; 7] = [
-    (Call::Take, None, 1, 0),
+    (Call::Take(0), None, 1, 0),
     (Call::HasFree(0), Some(1), 0, 0),
     (Call::HasFree(1), Some(0), 1, 0),
     (Call::Give(17), Some(17), 1, 1),
     (Call::Give(17), Some(17), 1, 1),
     (Call::Count, Some(1), 1, 0),
-    (Call::Take, Some(17), 1, 1),
+    (Call::Take(0), Some(17), 1, 1),
 ];
 
 // Data sectors are free in each sector of the bitmap.
@@ -223,15 +224,15 @@ const SOME_BLOCKS: [Row; 14] = [
     (Call::HasFree(5), Some(1), 2, 0),
     (Call::HasFree(8), Some(1), 3, 0),
     (Call::HasFree(9), Some(0), 3, 0),
-    (Call::Take, Some(148), 1, 1),
-    (Call::Take, Some(191), 1, 1),
-    (Call::Take, Some(192), 1, 1),
-    (Call::Take, Some(4095), 1, 1),
-    (Call::Take, Some(4096), 2, 1),
-    (Call::Take, Some(8191), 2, 1),
-    (Call::Take, Some(8192), 3, 1),
-    (Call::Take, Some(8999), 3, 1),
-    (Call::Take, None, 3, 0),
+    (Call::Take(0), Some(148), 1, 1),
+    (Call::Take(0), Some(191), 1, 1),
+    (Call::Take(0), Some(192), 1, 1),
+    (Call::Take(0), Some(4095), 1, 1),
+    (Call::Take(0), Some(4096), 2, 1),
+    (Call::Take(0), Some(8191), 2, 1),
+    (Call::Take(0), Some(8192), 3, 1),
+    (Call::Take(0), Some(8999), 3, 1),
+    (Call::Take(0), None, 3, 0),
 ];
 
 // No data sector is free at first.
@@ -243,15 +244,25 @@ const NO_BLOCKS: [Row; 9] = [
     (Call::IsTaken(5000), Some(0), 1, 0),
     (Call::IsTaken(5001), Some(1), 1, 0),
     (Call::Count, Some(2), 3, 0),
-    (Call::Take, Some(5000), 2, 1),
-    (Call::Take, Some(8999), 3, 1),
+    (Call::Take(0), Some(5000), 2, 1),
+    (Call::Take(0), Some(8999), 3, 1),
 ];
 
-// The lowest number is taken, in whatever word and sector it stands, and given back; a full bitmap says so.
+// A search begins in the sector of a number, and goes round; that number's bit is no bound within it.
+const NEAR_BLOCKS: [Row; 6] = [
+    (Call::Take(8191), Some(5000), 1, 1),
+    (Call::Take(8191), Some(8999), 2, 1),
+    (Call::Take(8192), Some(148), 2, 1),
+    (Call::Take(4096), Some(191), 3, 1),
+    (Call::Take(u32::MAX), Some(192), 1, 1),
+    (Call::Take(5000), None, 3, 0),
+];
+
+// The lowest number of a sector is taken, in whatever word it stands, and given back; a full bitmap says so.
 #[test]
 fn calls(rt: HostRuntime) -> Result<(), Fail> {
     let alloc = rt.alloc();
-    let rows: [(Bitmap, &[u32], &[Row]); 4] = [
+    let rows: [(Bitmap, &[u32], &[Row]); 5] = [
         (Bitmap::Inodes, &[1, 63], &FEW_INODES),
         (Bitmap::Inodes, &[], &NO_INODES),
         (
@@ -260,6 +271,7 @@ fn calls(rt: HostRuntime) -> Result<(), Fail> {
             &SOME_BLOCKS,
         ),
         (Bitmap::Blocks, &[], &NO_BLOCKS),
+        (Bitmap::Blocks, &[148, 191, 192, 5000, 8999], &NEAR_BLOCKS),
     ];
     for (map, clear, calls) in rows {
         let seen = agreed_on_disk(alloc, map, clear, calls)?;

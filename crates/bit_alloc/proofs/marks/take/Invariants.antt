@@ -1,11 +1,11 @@
-use Rattle.std.proofs.Common.{ℕ, ◌*◌, ◌<◌, IsTrue}
-use Rattle.fs_layout.specs.Images.{bit}
+use Rattle.std.proofs.Common.{ℕ, ◌+◌, ◌/◌, ◌%◌, ◌<◌}
 use Rattle.sector_txn.specs.Sectors.{IsUnchanged}
+use Rattle.bit_alloc.specs.Bits.{AreSet}
 use Rattle.bit_alloc.specs.Bitmaps.{first_sector}
 use Rattle.bit_alloc.proofs.marks.take.Given as goal
 
-abbrev pub invariant-loop-k : goal.invariant-loop-k
-invariant-loop-k g l = record {
+abbrev pub invariant-loop-turn : goal.invariant-loop-turn
+invariant-loop-turn g l = record {
   same : IsUnchanged (g.S.Sectors.state l.initial.s) (g.S.Sectors.state l.s);
-  full : (i : ℕ) → i < 4096 * l.k → IsTrue (bit (g.S.Sectors.state l.initial.s).sectors (first_sector l.map) i);
+  full : (j : ℕ) → j < l.turn → AreSet ((g.S.Sectors.state l.initial.s).sectors (first_sector l.map + (l.near / 4096 + j) % l.sectors)) 4096;
 }

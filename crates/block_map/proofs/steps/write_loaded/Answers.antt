@@ -9,7 +9,7 @@ use Rattle.sector_txn.specs.Sectors.{lacking}
 use Rattle.sector_txn.proofs.TransactionRuns.{changes_beside, changes_weaker, changes_put_shared}
 use Rattle.bit_alloc.specs.Room.{bitmaps}
 use Rattle.block_map.specs.Steps.{IsStepSector, WritesBlock}
-use Rattle.block_map.proofs.Numbers.{listed_within, loaded_sector}
+use Rattle.block_map.proofs.Numbers.{at_hand_near, listed_within, loaded_sector}
 use Rattle.block_map.proofs.Rewritten.{was_full}
 use Rattle.block_map.proofs.Rooms.{lacking_unput, puts_beside}
 use Rattle.block_map.proofs.Writings.{there_at_hand, writes_block_there, direct_at_hand, writes_direct_block, entry_at_hand, pointers_are, writes_entry_block}
@@ -89,8 +89,8 @@ pub returns-then-k-lt-DIRECT_BLOCKS-clause-at_hand : goal.returns-then-k-lt-DIRE
 returns-then-k-lt-DIRECT_BLOCKS-clause-at_hand g c =
     let old = g.S.Sectors.state c.args.s.now in
     let none : pointer old.sectors c.args.blocks.now.inode c.args.k ≡ 0 = sym (c.number-number.ensures old.sectors c.requires.loaded) ∙ c.if-number-ne0.false in
-    direct_at_hand c.args.at c.args.bytes.now c.requires.may none c.requires.fits.0 refl c.requires.fits.1 c.requires.inside
-    c.in_ok-number.ensures.taken.1 c.in_ok-number.ensures.free c.in_ok-number.ensures.bitmaps c.in_ok-number.ensures.puts c.if-k-lt-DIRECT_BLOCKS.true c.requires.loaded.at_hand refl
+    at_hand_near c.in_ok-number.number (direct_at_hand c.args.at c.args.bytes.now c.requires.may none c.requires.fits.0 refl c.requires.fits.1 c.requires.inside
+    c.in_ok-number.ensures.taken.1 c.in_ok-number.ensures.free c.in_ok-number.ensures.bitmaps c.in_ok-number.ensures.puts c.if-k-lt-DIRECT_BLOCKS.true c.requires.loaded.at_hand refl)
 
 pub returns-else-k-lt-DIRECT_BLOCKS-clause-written : goal.returns-else-k-lt-DIRECT_BLOCKS-clause-written
 returns-else-k-lt-DIRECT_BLOCKS-clause-written g c =
