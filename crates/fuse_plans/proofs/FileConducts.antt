@@ -1,0 +1,167 @@
+-- How requests for files behave.
+use Rattle.std.specs.Prelude.{◌≡◌, ℕ, ◌+◌, ◌-◌, ◌==◌, suc, zero, Bool, true, false, List, [], ◌∷◌, map, Some, Result, Ok, Err, IsTrue}
+use Rattle.std.proofs.Common.{refl, sym, subst}
+use Rattle.std.specs.Cmp.{nat_eq_equiv}
+use Rattle.fs_cred.specs.Credentials.{Credential}
+use Rattle.fs_model.specs.declared.call.Call.{Call}
+use Rattle.fs_model.specs.declared.call.Call.TheVariants.{Read as ReadCall, Write as WriteCall}
+use Rattle.fs_model.specs.declared.reply.FileType.{FileType}
+use Rattle.fs_model.specs.declared.reply.Reply.{Reply}
+use Rattle.fs_model.specs.declared.reply.Status.{Status}
+use Rattle.fs_model.specs.Limits.{move_limit}
+use Rattle.fuse_plans.specs.declared.flags.Mode.{Mode}
+use Rattle.fuse_plans.specs.declared.stop.Stop.{Stop}
+use Rattle.fuse_plans.specs.declared.request.Asked.{Asked}
+use Rattle.fuse_protocol.specs.declared.operation.Extent.{Extent}
+use Rattle.fuse_protocol.specs.declared.reply.Time.{Time}
+use Rattle.fuse_state.specs.Changes.{told}
+use Rattle.fuse_state.specs.Servers.{owner_of, descriptor_of}
+use Rattle.fuse_state.specs.declared.place.Place.{Place}
+use Rattle.fuse_plans.specs.Conduct.{Rights, stays, by_handle, is_on, IsByHandle}
+use Rattle.fuse_plans.specs.FilePlans.{touched_if, ask_first, open_object, open_file, or_opened, open_or_make, show_open, look_open, tell_created, create_file, the_open, seek, read_piece, read_pieces, read_file, or_done, write_piece, write_pieces, pieces_in, write_by, write_file, close_file}
+use Rattle.fuse_plans.specs.Flags.{is_trunc}
+use Rattle.fuse_plans.proofs.Conducts.{Does, does-give, does-stop, does-kept, does-keep, does->>=, does-attempt, does-needed}
+use Rattle.fuse_plans.proofs.Calls.{CanCall, does-obtain, does-or_closed, does-between, does-on, does-replied_status, does-the_number, does-directory_number}
+use Rattle.fuse_plans.proofs.Chosen.{Anyone, OfCaller, then-does, does-caller_with_room}
+use Rattle.fuse_plans.proofs.Forms.{SameOwn, caller-can, does-if, does-when, does-done, does-replied_handle, does-replied_data, does-replied_count}
+use Rattle.fuse_plans.proofs.NameConducts.{does-plain_name}
+
+told-same : (now : Time) (p : Place) (n : ℕ) (kind : FileType) (is_new is_cut : Bool) → SameOwn (told now p n kind is_new is_cut)
+told-same now p n kind true is_cut s = (refl, refl)
+told-same now p n kind false true s = (refl, refl)
+told-same now p n kind false false s = (refl, refl)
+
+touched_if-same : (is_cut : Bool) (now : Time) (n : ℕ) → SameOwn (touched_if is_cut now n)
+touched_if-same true now n s = (refl, refl)
+touched_if-same false now n s = (refl, refl)
+
+module _ {rights : Rights} (r : Asked) (is : rights.cred ≡ r.cred) where
+  does-ask_first : (pid n flags : ℕ) (mode : Mode) → Does rights (OfCaller rights pid) (ask_first pid n flags mode)
+  unfolding ask_first
+  does-ask_first pid n flags mode =
+      does->>= (does-when _ _ (does-done (does-on pid n _ (λ path. caller-can pid _ refl)))) (λ may.
+      does-when _ _ (does-done (does-on pid n _ (λ path. caller-can pid _ refl))))
+
+  does-open_object : (now : Time) (pid n flags : ℕ) (mode : Mode) → Does rights (OfCaller rights pid) (open_object now pid n flags mode)
+  unfolding open_object
+  does-open_object now pid n flags mode =
+      does->>= (does-on pid n _ (λ path. caller-can pid _ refl)) (λ reply.
+      does->>= (does-replied_handle pid reply) (λ handle.
+      does->>= (does-keep _ (touched_if-same (is_trunc flags) now n)) (λ touched.
+      does->>= (does-keep _ (λ s. (refl, refl))) (λ done. does-give _))))
+
+  pub does-open_file : (flags : ℕ) → Does rights Anyone (open_file r flags)
+  unfolding open_file
+  does-open_file flags =
+      does->>= (does-the_number _) (λ n.
+      does->>= (does-needed _ _) (λ mode.
+      then-does (does-caller_with_room _ is) (λ pid.
+      does->>= (does-ask_first pid n flags mode) (λ asked.
+      does->>= (does-open_object _ pid n flags mode) (λ handle. does-give _)))))
+
+  does-or_opened : {P : List (ℕ × Credential) → Type 0} (pid d : ℕ) (name : List ℕ) (mode : Mode) (flags : ℕ) (first : Result Reply Stop)
+      → ((call : Call) → IsTrue (stays call) → CanCall rights P pid call) → Does rights P (or_opened pid d name mode flags first)
+  does-or_opened pid d name mode flags (Ok reply) can = does-give _
+  does-or_opened pid d name mode flags (Err e) can =
+      does-if _ _ _ (does->>= (does-between pid d d _ (can _ refl)) (λ reply. does-give _)) (does-stop e)
+
+  does-open_or_make : (pid d : ℕ) (name : List ℕ) (mode : Mode) (flags file_mode : ℕ) → Does rights (OfCaller rights pid) (open_or_make pid d name mode flags file_mode)
+  unfolding open_or_make
+  does-open_or_make pid d name mode flags file_mode =
+      does->>= (does-attempt (does-between pid d d _ (caller-can pid _ refl))) (λ first. does-or_opened pid d name mode flags first (caller-can pid))
+
+  does-look_open : (pid fd : ℕ) → Does rights (OfCaller rights pid) (look_open pid fd)
+  unfolding show_open look_open
+  does-look_open pid fd =
+      does->>= (does-attempt (does->>= (does-obtain pid _ (caller-can pid _ refl)) does-replied_status)) (λ seen. does-or_closed pid fd seen (caller-can pid _ refl))
+
+  does-tell_created : {P : List (ℕ × Credential) → Type 0} (now : Time) (p : Place) (is_new is_cut : Bool) (handle : ℕ) (status : Status)
+      → Does rights P (tell_created now p is_new is_cut handle status)
+  unfolding tell_created
+  does-tell_created now p is_new is_cut handle status =
+      does->>= (does-keep _ (told-same now p _ _ is_new is_cut)) (λ told. does->>= (does-keep _ (λ s. (refl, refl))) (λ done. does-kept _))
+
+  pub does-create_file : (name : List ℕ) (flags mode umask : ℕ) → Does rights Anyone (create_file r name flags mode umask)
+  unfolding create_file
+  does-create_file name flags file_mode umask =
+      does->>= (does-plain_name name) (λ plain.
+      does->>= (does-needed _ _) (λ mode.
+      does->>= (does-directory_number _) (λ d.
+      then-does (does-caller_with_room _ is) (λ pid.
+      does->>= (does-obtain pid _ (caller-can pid _ refl)) (λ old.
+      does->>= (does-open_or_make pid d name mode flags file_mode) (λ opened.
+      does->>= (does-replied_handle pid opened.0) (λ handle.
+      does->>= (does-look_open pid _) (λ status. does-tell_created _ _ opened.1 _ handle status))))))))
+
+-- ---- by a handle
+
+-- what is asked by the handle that is given
+pub handle-can : {rights : Rights} {P : List (ℕ × Credential) → Type 0} (handle : ℕ) → rights.handle ≡ Some handle → (call : Call) → IsTrue (is_on (descriptor_of handle) call)
+    → CanCall rights P (owner_of handle) call
+handle-can handle given call on known s fits = by_handle (subst (λ o. IsByHandle o (owner_of handle) call) (sym given) (refl, on))
+
+pub itself : (n : ℕ) → (n == n) ≡ true
+itself n = nat_eq_equiv.refl n
+
+module _ {rights : Rights} {P : List (ℕ × Credential) → Type 0} where
+  pub does-the_open : (handle : ℕ) → Does rights P (the_open handle)
+  unfolding the_open
+  does-the_open handle = does->>= (does-kept _) (λ n. does-needed _ n)
+
+  does-seek : (handle : ℕ) → rights.handle ≡ Some handle → (offset : ℕ) → Does rights P (seek (owner_of handle) (descriptor_of handle) offset)
+  unfolding seek
+  does-seek handle given offset = does-if _ _ _ (does-obtain _ _ (handle-can handle given _ (itself _))) (does-stop _)
+
+  does-read_piece : (pid fd most : ℕ) → CanCall rights P pid (ReadCall fd most) → Does rights P (read_piece pid fd most)
+  unfolding read_piece
+  does-read_piece pid fd most can = does->>= (does-obtain pid _ can) (λ reply. does-replied_data most reply)
+
+  does-read_pieces : (handle : ℕ) → rights.handle ≡ Some handle → (k size : ℕ) (bytes : List ℕ)
+      → Does rights P (read_pieces k (owner_of handle) (descriptor_of handle) size bytes)
+  unfolding read_pieces
+  does-read_pieces handle given zero size bytes = does-give bytes
+  does-read_pieces handle given (suc k) size bytes =
+      let later = λ (more : List ℕ). does-read_pieces handle given k (size - move_limit) more in
+      does-if _ _ _ (does-give bytes)
+      (does->>= (does-read_piece _ _ _ (handle-can handle given _ (itself _))) (λ piece. does-if _ _ _ (does-give _) (later _)))
+
+  pub does-read_file : (extent : Extent) → rights.handle ≡ Some extent.handle → Does rights P (read_file extent)
+  unfolding read_file
+  does-read_file extent given =
+      does->>= (does-the_open _) (λ n.
+      does->>= (does-seek extent.handle given _) (λ at.
+      does->>= (does-read_pieces extent.handle given _ _ _) (λ bytes. does-give _)))
+
+  does-or_done : (done : ℕ) (wrote : Result ℕ Stop) → Does rights P (or_done done wrote)
+  does-or_done done (Ok count) = does-give count
+  does-or_done zero (Err e) = does-stop e
+  does-or_done (suc done) (Err e) = does-give 0
+
+  does-write_piece : (pid : ℕ) (call : Call) → CanCall rights P pid call → Does rights P (write_piece pid call)
+  unfolding write_piece
+  does-write_piece pid call can = does->>= (does-obtain pid call can) (λ reply. does-replied_count _ reply)
+
+  does-write_pieces : (handle : ℕ) → rights.handle ≡ Some handle → (done : ℕ) (pieces : List (List ℕ))
+      → Does rights P (write_pieces (owner_of handle) done (map (WriteCall (descriptor_of handle)) pieces))
+  unfolding write_pieces
+  does-write_pieces handle given done [] = does-give done
+  does-write_pieces handle given done (piece ∷ pieces) =
+      let later = λ (count : ℕ). does-write_pieces handle given (done + count) pieces in
+      does->>= (does-attempt (does-write_piece _ (WriteCall (descriptor_of handle) piece) (handle-can handle given _ (itself _)))) (λ wrote.
+      does->>= (does-or_done done wrote) (λ count.
+      does-if _ _ _ (does-give _) (later count)))
+
+  pub does-write_file : (r : Asked) (handle offset : ℕ) (bytes : List ℕ) → rights.handle ≡ Some handle → Does rights P (write_file r handle offset bytes)
+  unfolding write_by
+  does-write_file r handle offset bytes given =
+      does->>= (does-the_open _) (λ n.
+      does->>= (does-seek handle given offset) (λ at.
+      does->>= (does-write_pieces handle given _ (pieces_in _ bytes)) (λ count.
+      does->>= (does-keep _ (λ s. (refl, refl))) (λ done. does-give _))))
+
+  pub does-close_file : (handle : ℕ) → rights.handle ≡ Some handle → Does rights P (close_file handle)
+  unfolding close_file
+  does-close_file handle given =
+      does->>= (does-the_open _) (λ n.
+      does->>= (does-obtain _ _ (handle-can handle given _ (itself _))) (λ closed.
+      does->>= (does-keep _ (λ s. (refl, refl))) (λ done. does-give _)))

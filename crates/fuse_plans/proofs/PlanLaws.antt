@@ -1,0 +1,106 @@
+-- Laws of plans: to follow one after another is to follow the one and then the other; and what is asked keeps to what the plan
+-- keeps to.
+--     followed_by-finish, followed_by-followed_by        plans one after another
+--     run-followed_by, Parted, run-parts        what is asked, and what is asked of each
+--     run-one        the replies decide the rest
+--     keeps-follows        what is asked is what may be asked
+use Rattle.std.specs.Prelude.{◌≡◌, List, [], ◌∷◌, ◌++◌}
+use Rattle.std.proofs.Common.{refl, sym, ap, subst, ◌∙◌}
+use Rattle.fs_model.specs.declared.event.Event.{Event}
+use Rattle.fs_model.specs.declared.reply.Reply.{Reply}
+use Rattle.fuse_plans.specs.Plans.{Plan, Finish, Ask, followed_by, IsRunOf, Restraint, KeepsTo, after_all, MayAskAll}
+
+-- a plan that goes on by being done with what it has is itself
+pub followed_by-finish : {X : Type 0} (p : Plan X) → followed_by p Finish ≡ p
+followed_by-finish (Finish x) = refl
+followed_by-finish (Ask e next) = ap (Ask e) (λ i reply. followed_by-finish (next reply) i)
+
+pub followed_by-followed_by : {X Y Z : Type 0} (p : Plan X) (f : X → Plan Y) (g : Y → Plan Z)
+    → followed_by (followed_by p f) g ≡ followed_by p (λ x. followed_by (f x) g)
+followed_by-followed_by (Finish x) f g = refl
+followed_by-followed_by (Ask e next) f g = ap (Ask e) (λ i reply. followed_by-followed_by (next reply) f g i)
+
+-- ---- what is asked
+
+pub run-followed_by : {X Y : Type 0} (p : Plan X) (f : X → Plan Y) (es fs : List Event) (replies more : List Reply) (x : X) (y : Y)
+    → IsRunOf p es replies x → IsRunOf (f x) fs more y → IsRunOf (followed_by p f) (es ++ fs) (replies ++ more) y
+run-followed_by (Finish z) f [] fs [] more x y first rest = subst (λ w. IsRunOf (f w) fs more y) first rest
+run-followed_by (Finish z) f [] fs (reply ∷ replies) more x y first rest = elim first [ ]
+run-followed_by (Finish z) f (e ∷ es) fs replies more x y first rest = elim first [ ]
+run-followed_by (Ask e next) f [] fs replies more x y first rest = elim first [ ]
+run-followed_by (Ask e next) f (g ∷ es) fs [] more x y first rest = elim first [ ]
+run-followed_by (Ask e next) f (g ∷ es) fs (reply ∷ replies) more x y first rest =
+    (first.0, run-followed_by (next reply) f es fs replies more x y first.1 rest)
+
+-- what the one asks, and then the other
+pub record Parted {X Y : Type 0} (p : Plan X) (f : X → Plan Y) (es : List Event) (replies : List Reply) (y : Y) : Type 0 where
+  pub middle : X
+  pub first_events : List Event
+  pub later_events : List Event
+  pub all_events : es ≡ first_events ++ later_events
+  pub first_replies : List Reply
+  pub later_replies : List Reply
+  pub all_replies : replies ≡ first_replies ++ later_replies
+  pub first : IsRunOf p first_events first_replies middle
+  pub later : IsRunOf (f middle) later_events later_replies y
+
+pub run-parts : {X Y : Type 0} (p : Plan X) (f : X → Plan Y) (es : List Event) (replies : List Reply) (y : Y)
+    → IsRunOf (followed_by p f) es replies y → Parted p f es replies y
+run-parts (Finish x) f es replies y follows = record {
+  middle = x;
+  first_events = [];
+  later_events = es;
+  all_events = refl;
+  first_replies = [];
+  later_replies = replies;
+  all_replies = refl;
+  first = refl;
+  later = follows;
+}
+run-parts (Ask e next) f [] replies y follows = elim follows [ ]
+run-parts (Ask e next) f (g ∷ es) [] y follows = elim follows [ ]
+run-parts (Ask e next) f (g ∷ es) (reply ∷ replies) y follows =
+    let rest = run-parts (next reply) f es replies y follows.1 in
+    record {
+      middle = rest.middle;
+      first_events = g ∷ rest.first_events;
+      later_events = rest.later_events;
+      all_events = ap (λ l. g ∷ l) rest.all_events;
+      first_replies = reply ∷ rest.first_replies;
+      later_replies = rest.later_replies;
+      all_replies = ap (λ l. reply ∷ l) rest.all_replies;
+      first = (follows.0, rest.first);
+      later = rest.later;
+    }
+
+-- the same replies lead to the same result
+pub run-one : {X : Type 0} (p : Plan X) (es fs : List Event) (replies : List Reply) (x y : X) → IsRunOf p es replies x → IsRunOf p fs replies y
+    → (es ≡ fs) × (x ≡ y)
+run-one (Finish z) [] [] [] x y first other = (refl, first ∙ sym other)
+run-one (Finish z) [] [] (reply ∷ replies) x y first other = elim first [ ]
+run-one (Finish z) (e ∷ es) fs replies x y first other = elim first [ ]
+run-one (Finish z) [] (e ∷ fs) replies x y first other = elim other [ ]
+run-one (Ask e next) [] fs replies x y first other = elim first [ ]
+run-one (Ask e next) (g ∷ es) [] replies x y first other = elim other [ ]
+run-one (Ask e next) (g ∷ es) (h ∷ fs) [] x y first other = elim first [ ]
+run-one (Ask e next) (g ∷ es) (h ∷ fs) (reply ∷ replies) x y first other =
+    let rest = run-one (next reply) es fs replies x y first.1 other.1 in
+    let same : g ≡ h = first.0 ∙ sym other.0 in
+    (ap (λ k. k ∷ es) same ∙ ap (λ l. h ∷ l) rest.0, rest.1)
+
+-- ---- what a plan keeps to, of the events that were asked
+
+-- Whatever was replied, each event was one that may be asked, and the end is as it is to be.
+pub keeps-follows : {M X : Type 0} (rule : Restraint M) (E : M → X → Type 0) (p : Plan X) (es : List Event) (replies : List Reply) (x : X) (m : M)
+    → KeepsTo rule E m p → IsRunOf p es replies x → MayAskAll rule m es replies × E (after_all rule m es replies) x
+keeps-follows rule E (Finish y) [] [] x m keeps follows = (tt, subst (λ z. E m z) (sym follows) keeps)
+keeps-follows rule E (Finish y) [] (reply ∷ replies) x m keeps follows = elim follows [ ]
+keeps-follows rule E (Finish y) (e ∷ es) replies x m keeps follows = elim follows [ ]
+keeps-follows rule E (Ask e next) [] replies x m keeps follows = elim follows [ ]
+keeps-follows rule E (Ask e next) (g ∷ es) [] x m keeps follows = elim follows [ ]
+keeps-follows rule E (Ask e next) (g ∷ es) (reply ∷ replies) x m keeps follows =
+    let rest = keeps-follows rule E (next reply) es replies x (rule.after m e reply) (keeps.1 reply) follows.1 in
+    let as_asked = sym follows.0 in (
+      (subst (λ h. rule.may_ask m h) as_asked keeps.0, subst (λ h. MayAskAll rule (rule.after m h reply) es replies) as_asked rest.0),
+      subst (λ h. E (after_all rule (rule.after m h reply) es replies) x) as_asked rest.1,
+    )

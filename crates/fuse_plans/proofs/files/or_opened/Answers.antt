@@ -1,0 +1,15 @@
+use Rattle.std.proofs.Common.{sym, ◌∙◌}
+use Rattle.fuse_plans.proofs.Doings.{machine-ok, machine-err, machine-true, machine-false, machine-gives, machine-stops}
+use Rattle.fuse_plans.proofs.files.or_opened.Goals as goal
+
+pub returns-then-not-may_be_found-clause-did : goal.returns-then-not-may_be_found-clause-did
+returns-then-not-may_be_found-clause-did g c = machine-false _ _ (sym c.may_be_found.ensures ∙ c.if-not-may_be_found.true) (machine-stops _ _)
+
+pub returns-in-Ok-clause-did : goal.returns-in-Ok-clause-did
+returns-in-Ok-clause-did g c =
+    machine-true _ _ (sym c.may_be_found.ensures ∙ c.if-not-may_be_found.false)
+    (machine-ok _ (rw (c.opening.ensures, c.is_trunc.ensures) at c.in-Ok.ensures) (machine-gives _ _))
+
+pub returns-in-Err-clause-did : goal.returns-in-Err-clause-did
+returns-in-Err-clause-did g c =
+    machine-true _ _ (sym c.may_be_found.ensures ∙ c.if-not-may_be_found.false) (machine-err _ (rw (c.opening.ensures, c.is_trunc.ensures) at c.in-Err.ensures))

@@ -1,0 +1,16 @@
+use Rattle.std.proofs.Common.{sym}
+use Rattle.fuse_plans.specs.FilePlans.{write_piece}
+use Rattle.fuse_plans.proofs.Doings.{machine-ok, machine-fails, machine-needs-last, machine-lacks-last}
+use Rattle.fuse_plans.proofs.handles.write_piece.Goals as goal
+
+pub returns-in_err-reply-clause-did : goal.returns-in_err-reply-clause-did
+unfolding write_piece
+returns-in_err-reply-clause-did g c = let r = c.from_residual.ensures in machine-fails _ r.0 r.1 c.in_err-reply.ensures
+
+pub returns-in-Some-clause-did : goal.returns-in-Some-clause-did
+unfolding write_piece
+returns-in-Some-clause-did g c = machine-ok _ c.in_ok-reply.ensures (machine-needs-last _ (sym (rw (c.count_of_reply.ensures, c.length_written.ensures) at c.in-Some.ensures)))
+
+pub returns-clause-did : goal.returns-clause-did
+unfolding write_piece
+returns-clause-did g c = machine-ok _ c.in_ok-reply.ensures (machine-lacks-last _ (sym (rw (c.count_of_reply.ensures, c.length_written.ensures) at c.in-None.ensures)))

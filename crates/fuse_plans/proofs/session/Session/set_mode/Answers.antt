@@ -1,0 +1,18 @@
+use Rattle.std.proofs.Common.{refl, ap}
+use Rattle.fuse_plans.specs.AttributePlans.{set_mode}
+use Rattle.fuse_plans.proofs.Doings.{gives, keeps-last, same-work, then-fails, then-ok}
+use Rattle.fuse_plans.proofs.session.Session.set_mode.Goals as goal
+
+pub returns-in_default-clause-did : goal.returns-in_default-clause-did
+returns-in_default-clause-did g c =
+    same-work (ap (set_mode c.args.now c.args.pid c.args.inode) c.in_default.is) (gives _ _)
+
+pub returns-in_err-on-clause-did : goal.returns-in_err-on-clause-did
+returns-in_err-on-clause-did g c =
+    let r = c.from_residual.ensures in
+    same-work (ap (set_mode c.args.now c.args.pid c.args.inode) c.in-Some.is) (then-fails _ r.0 r.1 c.in_err-on.ensures.did)
+
+pub returns-clause-did : goal.returns-clause-did
+returns-clause-did g c =
+    same-work (ap (set_mode c.args.now c.args.pid c.args.inode) c.in-Some.is)
+    (then-ok _ c.in_ok-on.ensures.did (keeps-last _ refl c.change.ensures.kept))

@@ -1,0 +1,133 @@
+-- Plans of requests for the two ACLs of acl(5), which are attributes to the kernel: xattr(7).
+--     get_xattr, list_xattrs, set_xattr, remove_xattr
+use Rattle.std.specs.Prelude.{ℕ, ◌+◌, ◌*◌, ◌==◌, nat_lt, Bool, true, false, not, ◌&&◌, List, [], ◌∷◌, ◌++◌, length, codes, Option, None, Some, is_some, if◌then◌else◌}
+use Rattle.std.specs.Str.{bytes_eq}
+use Rattle.posix_acl.specs.AccessList.{AccessList, entry_count, is_extended, minimal}
+use Rattle.fs_cred.specs.declared.errno.Errno.TheVariants.{EACCES, EINVAL}
+use Rattle.fs_model.specs.declared.call.AclType.{AclType}
+use Rattle.fs_model.specs.declared.call.AclType.TheVariants.{Access, Default}
+use Rattle.fs_model.specs.declared.call.Call.TheVariants.{GetAcl, SetAcl}
+use Rattle.fuse_plans.specs.declared.stop.Stop.TheVariants.{Lacks}
+use Rattle.fuse_plans.specs.Stops.{failed}
+use Rattle.fuse_plans.specs.declared.stop.OtherErrno.TheVariants.{EOPNOTSUPP, ENODATA, ERANGE}
+use Rattle.fuse_plans.specs.declared.request.Asked.{Asked}
+use Rattle.fuse_plans.specs.declared.reply.ReplyBody.{ReplyBody}
+use Rattle.fuse_plans.specs.declared.reply.ReplyBody.TheVariants.{Nothing, Bytes, Acl, Size}
+use Rattle.fuse_state.specs.Servers.{Server, kind_of, changed}
+use Rattle.fuse_plans.specs.Works.{Work, give, stop, kept, keep, ◌>>=◌, ◌>>◌, needed, replied_acl}
+use Rattle.fuse_plans.specs.Callers.{caller, the_looker, is_known_directory, has_place, on, look, the_number}
+use Rattle.fuse_plans.specs.AttributePlans.{is_known_link}
+use Rattle.fuse_plans.specs.FilePlans.{when}
+
+abbrev pub access_name : List ℕ
+access_name = codes "system.posix_acl_access"
+
+abbrev pub default_name : List ℕ
+default_name = codes "system.posix_acl_default"
+
+abbrev pub acl_named : List ℕ → Option AclType
+acl_named name = if bytes_eq name access_name then Some Access else if bytes_eq name default_name then Some Default else None
+
+-- there are no others
+abbrev pub the_acl : List ℕ → Work AclType
+the_acl name = needed (Lacks EOPNOTSUPP) (acl_named name)
+
+-- it is no link, and has a name
+abbrev pub has_acls : Server → ℕ → Bool
+has_acls s n = not (is_known_link (kind_of s n)) && has_place s n
+
+abbrev pub an_object : Asked → Work ℕ
+an_object r = do
+  n ← the_number r.node
+  has ← kept (λ s. has_acls s n)
+  if has then give n else stop (Lacks EOPNOTSUPP)
+
+-- ---- what is there
+
+-- an access ACL with three entries says no more than the mode
+abbrev pub told_acl : AclType → Option AccessList → Option AccessList
+told_acl Access (Some a) = if is_extended a then Some a else None
+told_acl Default acl = acl
+told_acl Access None = None
+
+abbrev pub acl_of : ℕ → AclType → Work (Option AccessList)
+acl_of n which = do
+  pid ← the_looker
+  reply ← on pid n (λ path. GetAcl path which)
+  acl ← replied_acl reply
+  give (told_acl which acl)
+
+abbrev pub acl_size : AccessList → ℕ
+acl_size a = 4 + 8 * entry_count a
+
+-- for a size of 0 how many bytes it has
+abbrev pub sized : ℕ → ℕ → ReplyBody → Work ReplyBody
+sized size has body = if size == 0 then give (Size has) else if nat_lt size has then stop (Lacks ERANGE) else give body
+
+unfoldable pub get_xattr : Asked → List ℕ → ℕ → Work ReplyBody
+get_xattr r name size = do
+  which ← the_acl name
+  n ← an_object r
+  found ← acl_of n which
+  acl ← needed (Lacks ENODATA) found
+  sized size (acl_size acl) (Acl acl)
+
+abbrev pub name_if : List ℕ → Bool → List ℕ
+name_if name false = []
+name_if name true = name ++ 0 ∷ []
+
+-- the names of those that are there, each with NUL
+abbrev pub acl_names : Bool → Bool → List ℕ
+acl_names access default = name_if access_name access ++ name_if default_name default
+
+abbrev pub attribute_names : ℕ → Bool → Work (List ℕ)
+attribute_names n false = give []
+attribute_names n true = do
+  access ← acl_of n Access
+  default ← acl_of n Default
+  give (acl_names (is_some access) (is_some default))
+
+unfoldable pub list_xattrs : Asked → ℕ → Work ReplyBody
+list_xattrs r size = do
+  n ← the_number r.node
+  has ← kept (λ s. has_acls s n)
+  names ← attribute_names n has
+  sized size (length names) (Bytes names)
+
+-- ---- changes
+
+abbrev pub is_of_default : AclType → Bool
+is_of_default Default = true
+is_of_default Access = false
+
+-- no access ACL: the three entries of the present mode
+abbrev pub is_plain : AclType → Option AccessList → Bool
+is_plain Access None = true
+is_plain _ _ = false
+
+abbrev pub acl_set : ℕ → AclType → Option AccessList → Work (Option AccessList)
+acl_set n which acl = if is_plain which acl then (do
+  status ← look n
+  give (Some (minimal status.mode))) else give acl
+
+abbrev pub set_acl : Asked → AclType → Option AccessList → Work ReplyBody
+set_acl r which wanted = do
+  n ← an_object r
+  kind ← kept (λ s. kind_of s n)
+  when (is_of_default which && not (is_known_directory kind)) (stop (failed EACCES))
+  pid ← caller r.cred
+  acl ← acl_set n which wanted
+  on pid n (λ path. SetAcl path which acl)
+  keep (changed r.now n)
+  give Nothing
+
+unfoldable pub set_xattr : Asked → List ℕ → Option (Option AccessList) → Work ReplyBody
+set_xattr r name value = do
+  which ← the_acl name
+  acl ← needed (failed EINVAL) value
+  set_acl r which acl
+
+unfoldable pub remove_xattr : Asked → List ℕ → Work ReplyBody
+remove_xattr r name = do
+  which ← the_acl name
+  set_acl r which None

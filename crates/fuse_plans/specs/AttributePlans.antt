@@ -1,0 +1,157 @@
+-- Plans of requests for attributes.
+--     get_attributes, set_attributes        stat(2); and what changes it, in one order
+--     read_link, ask_access
+use Rattle.std.specs.Prelude.{ℕ, ◌==◌, Bool, true, false, ◌&&◌, ◌||◌, not, Option, None, Some, is_some, if◌then◌else◌, bit_and}
+use Rattle.posix_acl.specs.Entries.{perms_of}
+use Rattle.posix_acl.specs.declared.entry.Perms.{Perms}
+use Rattle.fs_cred.specs.Credentials.{Credential}
+use Rattle.fs_cred.specs.declared.errno.Errno.TheVariants.{EPERM, EACCES}
+use Rattle.fs_cred.specs.Ownership.{counts_as_owner}
+use Rattle.fs_model.specs.declared.call.Call.TheVariants.{Access, Truncate, Ftruncate, Chmod, Chown, Readlink}
+use Rattle.fs_model.specs.declared.event.Event.TheVariants.{Call as Calls}
+use Rattle.fs_model.specs.declared.reply.FileType.{FileType}
+use Rattle.fs_model.specs.declared.reply.FileType.TheVariants.{Link}
+use Rattle.fs_model.specs.declared.reply.Reply.{Reply}
+use Rattle.fs_model.specs.declared.reply.Status.{Status}
+use Rattle.fuse_plans.specs.declared.stop.Stop.TheVariants.{Lacks}
+use Rattle.fuse_plans.specs.Stops.{failed}
+use Rattle.fuse_plans.specs.declared.stop.OtherErrno.TheVariants.{EOPNOTSUPP}
+use Rattle.fuse_plans.specs.declared.request.Asked.{Asked}
+use Rattle.fuse_protocol.specs.declared.reply.Time.{Time}
+use Rattle.fuse_protocol.specs.declared.operation.NewTime.{NewTime}
+use Rattle.fuse_protocol.specs.declared.operation.NewTime.TheVariants.{Now, At}
+use Rattle.fuse_protocol.specs.declared.operation.AttrChanges.{AttrChanges}
+use Rattle.fuse_plans.specs.declared.reply.ReplyBody.{ReplyBody}
+use Rattle.fuse_plans.specs.declared.reply.ReplyBody.TheVariants.{Nothing, Shown, Bytes}
+use Rattle.fuse_state.specs.Servers.{Server, kind_of, times_of, with_times, touched, changed, owner_of, descriptor_of}
+use Rattle.fuse_plans.specs.Works.{Work, give, stop, kept, keep, ◌>>=◌, ◌>>◌, needed, obtain, replied_target}
+use Rattle.fuse_plans.specs.Callers.{caller, the_looker, on, look, the_number}
+use Rattle.fuse_plans.specs.NamePlans.{attributes}
+use Rattle.fuse_plans.specs.FilePlans.{when, done, the_open}
+
+abbrev pub tell_attributes : Status → Work ReplyBody
+tell_attributes status = kept (λ s. Shown (attributes s status))
+
+unfoldable pub get_attributes : Asked → Work ReplyBody
+get_attributes r = do
+  n ← the_number r.node
+  status ← look n
+  tell_attributes status
+
+-- ---- changes
+
+abbrev pub is_known_link : Option FileType → Bool
+is_known_link (Some Link) = true
+is_known_link _ = false
+
+abbrev pub differs : Option ℕ → ℕ → Bool
+differs None k = false
+differs (Some j) k = not (j == k)
+
+-- the owner and the group that are to be set
+abbrev pub no_owners : Option ℕ × Option ℕ
+no_owners = (None, None)
+
+abbrev pub owners_stay : AttrChanges → Status → Work (Option ℕ × Option ℕ)
+owners_stay c status =
+    if differs c.uid status.owner || differs c.gid status.group then stop (Lacks EOPNOTSUPP) else give no_owners
+
+-- of a link nothing changes but its times
+abbrev pub new_owners : AttrChanges → ℕ → Bool → Work (Option ℕ × Option ℕ)
+new_owners c n false = give (c.uid, c.gid)
+new_owners c n true = if is_some c.mode || is_some c.size then stop (Lacks EOPNOTSUPP) else do
+  status ← look n
+  owners_stay c status
+
+-- by the handle, where there is one
+abbrev pub resize_object : ℕ → ℕ → ℕ → Option ℕ → Work Reply
+resize_object pid n size None = on pid n (λ path. Truncate path size)
+resize_object pid n size (Some handle) = do
+  opened ← the_open handle
+  obtain (Calls (owner_of handle) (Ftruncate (descriptor_of handle) size))
+
+abbrev pub set_size : Time → ℕ → ℕ → Option ℕ → Option ℕ → Work (Unit {0})
+set_size now pid n handle None = give tt
+set_size now pid n handle (Some size) = do
+  resize_object pid n size handle
+  keep (touched now n)
+
+abbrev pub set_owners : Time → ℕ → ℕ → Option ℕ × Option ℕ → Work (Unit {0})
+set_owners now pid n owners = when (is_some owners.0 || is_some owners.1) (do
+  on pid n (λ path. Chown path owners.0 owners.1)
+  keep (changed now n))
+
+abbrev pub set_mode : Time → ℕ → ℕ → Option ℕ → Work (Unit {0})
+set_mode now pid n None = give tt
+set_mode now pid n (Some mode) = do
+  on pid n (λ path. Chmod path (bit_and mode 0o7777))
+  keep (changed now n)
+
+abbrev pub is_now : Option NewTime → Bool
+is_now (Some (At seconds nanoseconds)) = false
+is_now _ = true
+
+-- The owner may, and who counts as owner; and who may write may set both to the present time.
+abbrev pub may_set_times : ℕ → ℕ → Bool → Bool → AttrChanges → Work (Unit {0})
+may_set_times pid n link true c = give tt
+may_set_times pid n link false c =
+    if link || not (is_now c.atime && is_now c.mtime) then stop (failed EPERM) else done (on pid n (λ path. Access path (perms_of 2)))
+
+abbrev pub time_after : Time → Time → Option NewTime → Time
+time_after now old None = old
+time_after now old (Some Now) = now
+time_after now old (Some (At seconds nanoseconds)) = record { seconds = seconds; nanoseconds = nanoseconds }
+
+abbrev pub timed : Time → ℕ → AttrChanges → Server → Server
+timed now n c s =
+    let old = times_of s n in
+    with_times n (record { atime = time_after now old.atime c.atime; mtime = time_after now old.mtime c.mtime; ctime = now }) s
+
+abbrev pub set_times : Asked → ℕ → ℕ → Bool → Status → AttrChanges → Work (Unit {0})
+set_times r pid n link status c = when (is_some c.atime || is_some c.mtime) (do
+  cred ← needed (failed EACCES) r.cred
+  may_set_times pid n link (counts_as_owner cred status.owner) c
+  keep (timed r.now n c))
+
+-- Size, then owner and group, then mode; what was done before a refusal stays.
+unfoldable pub change_attributes : Time → ℕ → ℕ → Bool → AttrChanges → Work (Unit {0})
+change_attributes now pid n link c = do
+  owners ← new_owners c n link
+  set_size now pid n c.handle c.size
+  set_owners now pid n owners
+  set_mode now pid n c.mode
+
+-- and then times
+unfoldable pub set_attributes : Asked → AttrChanges → Work ReplyBody
+set_attributes r c = do
+  n ← the_number r.node
+  pid ← caller r.cred
+  kind ← kept (λ s. kind_of s n)
+  change_attributes r.now pid n (is_known_link kind) c
+  status ← look n
+  set_times r pid n (is_known_link kind) status c
+  tell_attributes status
+
+-- ---- links and access
+
+unfoldable pub read_link : Asked → Work ReplyBody
+read_link r = do
+  n ← the_number r.node
+  pid ← the_looker
+  reply ← on pid n Readlink
+  target ← replied_target reply
+  give (Bytes target)
+
+-- a process of who asks may do so much
+unfoldable pub access_as : Option Credential → ℕ → Perms → Work (Unit {0})
+access_as who n perms = do
+  pid ← caller who
+  done (on pid n (λ path. Access path perms))
+
+-- on a link it is never refused
+unfoldable pub ask_access : Asked → ℕ → Work ReplyBody
+ask_access r mask = do
+  n ← the_number r.node
+  kind ← kept (λ s. kind_of s n)
+  when (not (is_known_link kind)) (access_as r.cred n (perms_of (bit_and mask 7)))
+  give Nothing

@@ -1,0 +1,184 @@
+-- For whom a request is performed, and by which process.
+--     caller, caller_with_room        a process of it; one that can hold one more descriptor
+--     inside, between, done_between        a call in a directory, and in two
+--     on, look        a call on an object, by its latest place; what stat(2) shows of it
+use Rattle.std.specs.Prelude.{ℕ, zero, suc, ◌==◌, Bool, true, false, ◌&&◌, ◌||◌, List, codes, Option, None, Some, is_some, Result, Ok, Err, if◌then◌else◌}
+use Rattle.fs_cred.specs.declared.errno.Errno.TheVariants.{EACCES, EAGAIN, ENOTDIR}
+use Rattle.fs_cred.specs.Credentials.{Credential}
+use Rattle.fs_model.specs.declared.call.Call.{Call}
+use Rattle.fs_model.specs.declared.call.Call.TheVariants.{Lstat, Fstat}
+use Rattle.fs_model.specs.declared.event.Event.TheVariants.{Spawn, Exit, Call as Calls, Enter}
+use Rattle.fs_model.specs.declared.reply.FileType.{FileType}
+use Rattle.fs_model.specs.declared.reply.FileType.TheVariants.{Directory}
+use Rattle.fs_model.specs.declared.reply.Reply.{Reply}
+use Rattle.fs_model.specs.declared.reply.Status.{Status}
+use Rattle.fs_model.specs.Limits.{root, processes_limit}
+use Rattle.fuse_plans.specs.declared.stop.Stop.{Stop}
+use Rattle.fuse_plans.specs.declared.stop.Stop.TheVariants.{Lacks}
+use Rattle.fuse_plans.specs.Stops.{failed, is_for}
+use Rattle.fuse_plans.specs.declared.stop.OtherErrno.TheVariants.{ENFILE, ESTALE}
+use Rattle.fuse_state.specs.Servers.{Server, number_of, kind_of, place_of, first_process, partly_used, idle_process, are_many, next_idle, with_process, without_process, owner_of, descriptor_of, handle_for}
+use Rattle.fuse_state.specs.declared.place.Place.{Place}
+use Rattle.fuse_plans.specs.Works.{Work, give, stop, kept, keep, ◌>>=◌, ◌>>◌, attempt, needed, ask, is_refused_for, unless_refused, obtain, unexpected, replied_pid, replied_status}
+
+-- ---- a process of it
+
+abbrev pub settled : Credential → Reply → Work ℕ
+settled cred reply = do
+  done ← unless_refused reply
+  pid ← replied_pid done
+  keep (with_process pid cred)
+  give pid
+
+abbrev pub settle : Credential → Reply → Work ℕ
+settle cred reply = if is_refused_for EAGAIN reply then stop (Lacks ENFILE) else settled cred reply
+
+-- A process ends, and then the rest. Whatever is replied, it is no more one of those that are known.
+abbrev pub retire_next : Work (Unit {0}) → Option ℕ → Work (Unit {0})
+retire_next rest None = give tt
+retire_next rest (Some pid) = do
+  ask (Exit pid)
+  keep (without_process pid)
+  rest
+
+-- Processes end that hold no descriptor: at most so many.
+unfoldable pub retire : ℕ → Work (Unit {0})
+retire zero = give tt
+retire (suc k) = kept (λ s. next_idle s 0) >>= retire_next (retire k)
+
+-- there are no more of them
+abbrev pub spawn_again : Credential → Work ℕ
+spawn_again cred = do
+  retire processes_limit
+  reply ← ask (Spawn cred)
+  settle cred reply
+
+abbrev pub settle_first : Credential → Reply → Work ℕ
+settle_first cred reply = if is_refused_for EAGAIN reply then spawn_again cred else settle cred reply
+
+-- A new one. Where there are too many, those that hold nothing end first.
+unfoldable pub begin_process : Credential → Work ℕ
+begin_process cred = do
+  reply ← ask (Spawn cred)
+  settle_first cred reply
+
+abbrev pub or_spawned : Credential → Option ℕ → Work ℕ
+or_spawned cred None = begin_process cred
+or_spawned cred (Some pid) = give pid
+
+unfoldable pub caller : Option Credential → Work ℕ
+caller who = do
+  cred ← needed (failed EACCES) who
+  pid ← kept (λ s. first_process s cred)
+  or_spawned cred pid
+
+abbrev pub unused_of : Credential → Bool → Work ℕ
+unused_of cred true = stop (Lacks ENFILE)
+unused_of cred false = do
+  pid ← kept (λ s. idle_process s cred)
+  or_spawned cred pid
+
+abbrev pub or_unused : Credential → Option ℕ → Work ℕ
+or_unused cred (Some pid) = give pid
+or_unused cred None = do
+  many ← kept (λ s. are_many s cred)
+  unused_of cred many
+
+unfoldable pub caller_with_room : Option Credential → Work ℕ
+caller_with_room who = do
+  cred ← needed (failed EACCES) who
+  pid ← kept (λ s. partly_used s cred)
+  or_unused cred pid
+
+unfoldable pub the_looker : Work ℕ
+the_looker = do
+  pid ← kept (λ s. s.looker)
+  needed unexpected pid
+
+-- ---- calls
+
+-- A call with names of one directory, or of two; afterwards the process stands at the root again.
+unfoldable pub between : ℕ → ℕ → ℕ → Call → Work Reply
+between pid directory second call = do
+  obtain (Enter pid directory second)
+  reply ← ask (Calls pid call)
+  ask (Enter pid root root)
+  unless_refused reply
+
+-- the same, where the reply says no more
+abbrev pub done_between : ℕ → ℕ → ℕ → Call → Work (Unit {0})
+done_between pid directory second call = do
+  between pid directory second call
+  give tt
+
+abbrev pub inside : ℕ → ℕ → Call → Work Reply
+inside pid directory call = between pid directory directory call
+
+-- what stat(2) shows of a name in a directory
+unfoldable pub look_inside : ℕ → ℕ → List ℕ → Work Status
+look_inside pid directory name = do
+  reply ← inside pid directory (Lstat name)
+  replied_status reply
+
+abbrev pub is_known_directory : Option FileType → Bool
+is_known_directory (Some Directory) = true
+is_known_directory _ = false
+
+-- In a directory that the caller may not search it may stand all the same.
+abbrev pub or_inside : ℕ → ℕ → (List ℕ → Call) → Option FileType → Result Reply Stop → Work Reply
+or_inside pid n call kind (Ok reply) = give reply
+or_inside pid n call kind (Err e) = if is_for EACCES e && is_known_directory kind then inside pid n (call (codes ".")) else stop e
+
+abbrev pub at_place : ℕ → ℕ → (List ℕ → Call) → Place → Work Reply
+at_place pid n call p = do
+  kind ← kept (λ s. kind_of s n)
+  reply ← attempt (inside pid p.directory (call p.name))
+  or_inside pid n call kind reply
+
+abbrev pub by_place : ℕ → ℕ → (List ℕ → Call) → Work Reply
+by_place pid n call = do
+  place ← kept (λ s. place_of s n)
+  p ← needed (Lacks ESTALE) place
+  at_place pid n call p
+
+unfoldable pub on : ℕ → ℕ → (List ℕ → Call) → Work Reply
+on pid n call = if n == root then obtain (Calls pid (call (codes "/"))) else by_place pid n call
+
+-- it has a name that is known, or needs none
+abbrev pub has_place : Server → ℕ → Bool
+has_place s n = n == root || is_some (place_of s n)
+
+abbrev pub by_handle : ℕ → Work Reply
+by_handle n = do
+  found ← kept (λ s. handle_for s n)
+  handle ← needed (Lacks ESTALE) found
+  obtain (Calls (owner_of handle) (Fstat (descriptor_of handle)))
+
+abbrev pub look_at : ℕ → Bool → Work Reply
+look_at n true = do
+  pid ← the_looker
+  on pid n Lstat
+look_at n false = by_handle n
+
+-- No permission is asked: the kernel holds the object.
+unfoldable pub look : ℕ → Work Status
+look n = do
+  placed ← kept (λ s. has_place s n)
+  reply ← look_at n placed
+  replied_status reply
+
+-- ---- nodes and handles
+
+unfoldable pub the_number : ℕ → Work ℕ
+the_number node = do
+  n ← kept (λ s. number_of s node)
+  needed (Lacks ESTALE) n
+
+abbrev pub only_directory : ℕ → Option FileType → Work ℕ
+only_directory n kind = if is_known_directory kind then give n else stop (failed ENOTDIR)
+
+unfoldable pub directory_number : ℕ → Work ℕ
+directory_number node = do
+  n ← the_number node
+  kind ← kept (λ s. kind_of s n)
+  only_directory n kind

@@ -1,0 +1,143 @@
+-- How plans behave, whatever is replied: who makes each call, and where processes stand.
+--     Known        what is known while a plan goes on
+--     Rights        for whom it is done
+--     MayCall, MayAsk, conduct        what may be asked
+--     IsDone        how it ends
+use Rattle.std.specs.Prelude.{◌≡◌, ℕ, ◌==◌, Bool, true, false, not, ◌&&◌, List, Option, None, Some, IsTrue}
+use Rattle.std.specs.Ordering.{nat_cmp}
+use Rattle.fs_cred.specs.Credentials.{Credential}
+use Rattle.fs_layout.specs.Maps.{with_entry, without}
+use Rattle.fs_model.specs.Limits.{root}
+use Rattle.fs_model.specs.declared.call.Call.{Call}
+use Rattle.fs_model.specs.declared.call.Call.TheVariants.{Open, Read, Write, Lseek, Close, Fstat, Lstat, Ftruncate, GetAcl, Readdir, Readlink, Chdir}
+use Rattle.fs_model.specs.declared.event.Event.{Event}
+use Rattle.fs_model.specs.declared.event.Event.TheVariants.{Spawn, Exit, Call as Calls, Enter, Fsync, Sync, Statfs}
+use Rattle.fs_model.specs.declared.reply.Reply.{Reply}
+use Rattle.fs_model.specs.declared.reply.Reply.TheVariants.{Pid, Refused}
+use Rattle.fuse_plans.specs.Plans.{Restraint}
+use Rattle.fuse_state.specs.Servers.{Server, is_process_of, owner_of, descriptor_of}
+
+-- The process that has entered a directory and wasn't told to come back yet, if there is one; and the processes of callers.
+pub record Known : Type 0 where
+  pub away : Option ℕ
+  pub processes : List (ℕ × Credential)
+
+-- the credential of who asks, where it is known; the server's own process; and the handle that is given
+pub record Rights : Type 0 where
+  pub cred : Option Credential
+  pub looker : Option ℕ
+  pub handle : Option ℕ
+
+-- ---- who calls
+
+-- it shows what is there, and changes nothing
+abbrev pub only_looks : Call → Bool
+only_looks (Lstat path) = true
+only_looks (Fstat fd) = true
+only_looks (Readlink path) = true
+only_looks (GetAcl path which) = true
+only_looks (Open path flags mode) = not flags.write && (not flags.create && not flags.trunc) && flags.directory
+only_looks (Readdir fd) = true
+only_looks (Close fd) = true
+only_looks _ = false
+
+abbrev pub shows_open : Call → Bool
+shows_open (Fstat fd) = true
+shows_open _ = false
+
+-- it is about this descriptor
+abbrev pub is_on : ℕ → Call → Bool
+is_on fd (Read at len) = at == fd
+is_on fd (Write at bytes) = at == fd
+is_on fd (Lseek at whence by) = at == fd
+is_on fd (Ftruncate at size) = at == fd
+is_on fd (Close at) = at == fd
+is_on fd _ = false
+
+-- a process of who asks
+abbrev pub IsCaller : Option Credential → List (ℕ × Credential) → ℕ → Type 0
+IsCaller None processes pid = ⊥
+IsCaller (Some cred) processes pid = IsTrue (is_process_of processes cred pid)
+
+-- the process that holds the handle, and a call on its descriptor
+abbrev pub IsByHandle : Option ℕ → ℕ → Call → Type 0
+IsByHandle None pid call = ⊥
+IsByHandle (Some handle) pid call = (pid ≡ owner_of handle) × IsTrue (is_on (descriptor_of handle) call)
+
+-- it leaves the process where it stands
+abbrev pub stays : Call → Bool
+stays (Chdir path) = false
+stays _ = true
+
+-- A process of who asks may make each call but chdir, and the one of the handle those on it; the server's own process may look.
+pub data MayCall (rights : Rights) (known : Known) (pid : ℕ) (call : Call) : Type 0 where
+  as_caller : IsCaller rights.cred known.processes pid → IsTrue (stays call) → MayCall rights known pid call
+  by_handle : IsByHandle rights.handle pid call → MayCall rights known pid call
+  as_looker : rights.looker ≡ Some pid → IsTrue (only_looks call) → MayCall rights known pid call
+  -- what is open is shown to all: the kernel holds it
+  shows : IsTrue (shows_open call) → MayCall rights known pid call
+
+-- ---- what may be asked
+
+-- nobody else is away
+abbrev pub IsNobodyElse : Option ℕ → ℕ → Type 0
+IsNobodyElse None pid = Unit {0}
+IsNobodyElse (Some p) pid = p ≡ pid
+
+abbrev pub IsHome : Option ℕ → Type 0
+IsHome None = Unit {0}
+IsHome (Some p) = ⊥
+
+abbrev pub IsRoot : ℕ → ℕ → Type 0
+IsRoot directory second = (directory ≡ root) × (second ≡ root)
+
+-- from the root anywhere, and from elsewhere to the root
+abbrev pub MayEnter : Option ℕ → ℕ → ℕ → ℕ → Type 0
+MayEnter None pid directory second = Unit {0}
+MayEnter (Some p) pid directory second = (p ≡ pid) × IsRoot directory second
+
+abbrev pub IsSyncOf : Option ℕ → ℕ → ℕ → Type 0
+IsSyncOf None pid fd = ⊥
+IsSyncOf (Some handle) pid fd = (pid ≡ owner_of handle) × (fd ≡ descriptor_of handle)
+
+-- Nothing is asked of the disk, and processes begin for who asks alone.
+abbrev pub MayAsk : Rights → Known → Event → Type 0
+MayAsk rights known (Spawn cred) = IsHome known.away × (rights.cred ≡ Some cred)
+MayAsk rights known (Exit pid) = IsHome known.away
+MayAsk rights known (Calls pid call) = IsNobodyElse known.away pid × MayCall rights known pid call
+MayAsk rights known (Enter pid directory second) = MayEnter known.away pid directory second
+MayAsk rights known (Fsync pid fd) = IsHome known.away × IsSyncOf rights.handle pid fd
+MayAsk rights known Sync = IsHome known.away
+MayAsk rights known Statfs = IsHome known.away
+MayAsk rights known _ = ⊥
+
+-- who is away then; a process that is told to come back is taken to be there
+abbrev pub away_after : Option ℕ → ℕ → Bool → Reply → Option ℕ
+away_after away pid true reply = None
+away_after away pid false (Refused r) = away
+away_after away pid false _ = Some pid
+
+abbrev pub after_spawn : Known → Credential → Reply → Known
+after_spawn known cred (Pid pid) = record known { processes = with_entry nat_cmp known.processes pid cred }
+after_spawn known cred _ = known
+
+-- whatever is replied
+abbrev pub after_exit : Known → ℕ → Known
+after_exit known pid = record known { processes = without nat_cmp known.processes pid }
+
+abbrev pub known_after : Known → Event → Reply → Known
+known_after known (Spawn cred) reply = after_spawn known cred reply
+known_after known (Exit pid) reply = after_exit known pid
+known_after known (Enter pid directory second) reply =
+    record known { away = away_after known.away pid (directory == root && second == root) reply }
+known_after known _ reply = known
+
+abbrev pub conduct : Rights → Restraint Known
+conduct rights = record { after = known_after; may_ask = MayAsk rights }
+
+-- Nobody is away, and the server knows the processes.
+pub record Fits (rights : Rights) (P : List (ℕ × Credential) → Type 0) (known : Known) (s : Server) : Type 0 where
+  pub home : known.away ≡ None
+  pub processes : known.processes ≡ s.processes
+  pub looker : s.looker ≡ rights.looker
+  pub holds : P s.processes

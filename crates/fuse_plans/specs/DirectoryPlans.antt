@@ -1,0 +1,106 @@
+-- Plans of requests for directories. An open directory holds no descriptor of the machine.
+--     open_directory, read_directory, close_directory
+use Rattle.std.specs.Prelude.{ℕ, ◌+◌, ◌-◌, ◌==◌, nat_le, Bool, true, false, ◌||◌, List, [], ◌∷◌, drop, length, codes, bytes_eq, Option, Some, if◌then◌else◌}
+use Rattle.std.specs.List.{flat_map}
+use Rattle.posix_acl.specs.Entries.{perms_of}
+use Rattle.fs_cred.specs.declared.errno.Errno.TheVariants.{EBADF}
+use Rattle.fs_model.specs.declared.call.Call.TheVariants.{Open as OpenCall, Close, Readdir}
+use Rattle.fs_model.specs.declared.event.Event.TheVariants.{Call as Calls, Sync}
+use Rattle.fuse_plans.specs.declared.stop.Stop.TheVariants.{Lacks}
+use Rattle.fuse_plans.specs.Stops.{failed}
+use Rattle.fuse_plans.specs.declared.stop.OtherErrno.TheVariants.{ENFILE}
+use Rattle.fuse_plans.specs.declared.request.Asked.{Asked}
+use Rattle.fuse_protocol.specs.declared.entry.DirectoryEntry.{DirectoryEntry}
+use Rattle.fuse_protocol.specs.declared.entry.EntryKind.{EntryKind}
+use Rattle.fuse_protocol.specs.declared.entry.EntryKind.TheVariants.{Unknown, Directory}
+use Rattle.fuse_protocol.specs.declared.operation.Extent.{Extent}
+use Rattle.fuse_protocol.specs.Entries.{directory_entry_bytes, entry_size}
+use Rattle.fuse_plans.specs.declared.reply.ReplyBody.{ReplyBody}
+use Rattle.fuse_plans.specs.declared.reply.ReplyBody.TheVariants.{Nothing, Opened, Bytes}
+use Rattle.fuse_state.specs.Servers.{are_directories_full, directory_of, with_directory, opened, without_directory}
+use Rattle.fuse_state.specs.declared.directory.OpenDirectory.{OpenDirectory}
+use Rattle.fuse_plans.specs.Works.{Work, give, stop, kept, keep, ◌>>=◌, ◌>>◌, attempt, needed, obtain, or_closed, replied_fd, replied_names}
+use Rattle.fuse_plans.specs.Callers.{the_looker, has_place, on, directory_number}
+use Rattle.fuse_plans.specs.Flags.{listing}
+use Rattle.fuse_plans.specs.FilePlans.{when}
+use Rattle.fuse_plans.specs.AttributePlans.{access_as}
+
+-- Asks for reading, as who asks; of a directory that was removed nothing is asked.
+unfoldable pub open_directory : Asked → Work ReplyBody
+open_directory r = do
+  n ← directory_number r.node
+  full ← kept (λ s. are_directories_full s)
+  when full (stop (Lacks ENFILE))
+  placed ← kept (λ s. has_place s n)
+  when placed (access_as r.cred n (perms_of 4))
+  handle ← kept (λ s. s.next_directory)
+  keep (opened n)
+  give (Opened handle)
+
+-- ---- listings
+
+-- the kind is told of the directory itself and its parent alone
+abbrev pub entry_kind : List ℕ → EntryKind
+entry_kind name = if bytes_eq name (codes ".") || bytes_eq name (codes "..") then Directory else Unknown
+
+-- a name, its inode, and the offset behind it
+abbrev pub listed_entry : ℕ → List ℕ × ℕ → DirectoryEntry
+listed_entry offset e = record { inode = e.1; next = offset + 1; kind = entry_kind e.0; name = e.0 }
+
+-- the entries that fit, the first of them with this offset
+abbrev pub fitting : ℕ → ℕ → List (List ℕ × ℕ) → List DirectoryEntry
+fitting offset size [] = []
+fitting offset size (e ∷ es) =
+    let needs = entry_size (length e.0) in
+    if nat_le needs size then listed_entry offset e ∷ fitting (offset + 1) (size - needs) es else []
+
+-- as many entries as fit, byte for byte
+abbrev pub listing_bytes : ℕ → ℕ → List (List ℕ × ℕ) → List ℕ
+listing_bytes offset size names = flat_map directory_entry_bytes (fitting offset size names)
+
+unfoldable pub tell_names : ℕ → ℕ → Work (List (List ℕ × ℕ))
+tell_names pid fd = do
+  reply ← obtain (Calls pid (Readdir fd))
+  replied_names reply
+
+-- the names in what is open; where it tells none that is closed
+unfoldable pub list_open : ℕ → ℕ → Work (List (List ℕ × ℕ))
+list_open pid fd = do
+  seen ← attempt (tell_names pid fd)
+  or_closed pid fd seen
+
+abbrev pub list_all : ℕ → Bool → Work (List (List ℕ × ℕ))
+list_all n false = give []
+list_all n true = do
+  pid ← the_looker
+  opened ← on pid n (λ path. OpenCall path listing 0)
+  fd ← replied_fd opened
+  names ← list_open pid fd
+  obtain (Calls pid (Close fd))
+  give names
+
+-- at the beginning it is listed anew
+abbrev pub listed : ℕ → OpenDirectory → Bool → Option (List (List ℕ × ℕ)) → Work (List (List ℕ × ℕ))
+listed handle d false (Some names) = give names
+listed handle d _ _ = do
+  placed ← kept (λ s. has_place s d.number)
+  names ← list_all d.number placed
+  keep (with_directory handle (record { number = d.number; listing = Some names }))
+  give names
+
+unfoldable pub read_directory : Extent → Work ReplyBody
+read_directory extent = do
+  known ← kept (λ s. directory_of s extent.handle)
+  d ← needed (failed EBADF) known
+  names ← listed extent.handle d (extent.offset == 0) d.listing
+  give (Bytes (listing_bytes extent.offset extent.size (drop extent.offset names)))
+
+unfoldable pub close_directory : ℕ → Work ReplyBody
+close_directory handle = do
+  keep (without_directory handle)
+  give Nothing
+
+unfoldable pub sync_all : Work ReplyBody
+sync_all = do
+  obtain Sync
+  give Nothing

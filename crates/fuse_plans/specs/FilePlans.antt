@@ -1,0 +1,214 @@
+-- Plans of requests for files: to open and create them, and what is done by a handle.
+--     open_file, create_file, read_file, write_file, close_file, sync_file
+--     pieces_in        bytes, by as many as are moved at once
+use Rattle.std.specs.Prelude.{ℕ, ◌+◌, ◌-◌, ◌/◌, ◌^◌, ◌==◌, nat_lt, min, suc, zero, Bool, true, false, ◌&&◌, not, List, [], ◌∷◌, ◌++◌, map, sum_by, take, drop, length, Result, Ok, Err, if◌then◌else◌, bit_and, pos}
+use Rattle.posix_acl.specs.Entries.{perms_of}
+use Rattle.fs_cred.specs.declared.errno.Errno.TheVariants.{EEXIST, EINVAL, EBADF}
+use Rattle.fs_model.specs.declared.call.Call.{Call}
+use Rattle.fs_model.specs.declared.call.Call.TheVariants.{Open as OpenCall, Close, Fstat, Lseek, Read as ReadCall, Write as WriteCall, Access, Truncate}
+use Rattle.fs_model.specs.declared.call.Whence.TheVariants.{Set}
+use Rattle.fs_model.specs.declared.event.Event.TheVariants.{Call as Calls, Fsync}
+use Rattle.fs_model.specs.declared.reply.Reply.{Reply}
+use Rattle.fs_model.specs.declared.reply.Status.{Status}
+use Rattle.fuse_protocol.specs.declared.reply.Time.{Time}
+use Rattle.fs_model.specs.Limits.{move_limit}
+use Rattle.fuse_plans.specs.declared.stop.Stop.{Stop}
+use Rattle.fuse_plans.specs.Stops.{failed, is_for}
+use Rattle.fuse_plans.specs.declared.request.Asked.{Asked}
+use Rattle.fuse_protocol.specs.declared.operation.Extent.{Extent}
+use Rattle.fuse_plans.specs.declared.reply.ReplyBody.{ReplyBody}
+use Rattle.fuse_plans.specs.declared.reply.ReplyBody.TheVariants.{Nothing, Created, Opened, Bytes, Wrote}
+use Rattle.fuse_state.specs.Servers.{Server, node_of, touched, owner_of, descriptor_of, object_of, with_handle, without_handle}
+use Rattle.fuse_state.specs.Changes.{told}
+use Rattle.fuse_state.specs.declared.place.Place.{Place}
+use Rattle.fuse_plans.specs.Works.{Work, give, stop, kept, keep, ◌>>=◌, ◌>>◌, attempt, needed, obtain, or_closed, replied_status, replied_handle, replied_data, replied_count}
+use Rattle.fuse_plans.specs.Callers.{caller_with_room, inside, on, the_number, directory_number}
+use Rattle.fuse_plans.specs.declared.flags.Mode.{Mode}
+use Rattle.fuse_plans.specs.declared.flags.Mode.TheVariants.{Reads}
+use Rattle.fuse_plans.specs.Flags.{mode_in, is_exec, is_excl, is_trunc, opening, creating}
+use Rattle.fuse_plans.specs.NamePlans.{place, plain_name, attributes, set_umask}
+
+-- where it is so
+abbrev pub when : Bool → Work (Unit {0}) → Work (Unit {0})
+when true w = w
+when false w = give tt
+
+-- work of which only the stop counts
+abbrev pub done : {X : Type 0} → Work X → Work (Unit {0})
+done w = w >> give tt
+
+abbrev pub reads_alone : Mode → Bool
+reads_alone Reads = true
+reads_alone _ = false
+
+-- ---- to open and create
+
+-- To run it is asked for as access(2) does; where a file that is opened for reading alone is to lose its bytes, that is asked
+-- for as truncate(2) does.
+unfoldable pub ask_first : ℕ → ℕ → ℕ → Mode → Work (Unit {0})
+ask_first pid n flags mode = do
+  when (is_exec flags) (done (on pid n (λ path. Access path (perms_of 1))))
+  when (is_trunc flags && reads_alone mode) (done (on pid n (λ path. Truncate path 0)))
+
+abbrev pub touched_if : Bool → Time → ℕ → Server → Server
+touched_if true now n s = touched now n s
+touched_if false now n s = s
+
+-- what is open has a handle
+unfoldable pub open_object : Time → ℕ → ℕ → ℕ → Mode → Work ℕ
+open_object now pid n flags mode = do
+  reply ← on pid n (λ path. OpenCall path (opening mode (is_trunc flags)) 0)
+  handle ← replied_handle pid reply
+  keep (touched_if (is_trunc flags) now n)
+  keep (with_handle handle n)
+  give handle
+
+unfoldable pub open_file : Asked → ℕ → Work ReplyBody
+open_file r flags = do
+  n ← the_number r.node
+  mode ← needed (failed EINVAL) (mode_in flags)
+  pid ← caller_with_room r.cred
+  ask_first pid n flags mode
+  handle ← open_object r.now pid n flags mode
+  give (Opened handle)
+
+-- what was opened, and whether it is new
+abbrev pub or_opened : ℕ → ℕ → List ℕ → Mode → ℕ → Result Reply Stop → Work (Reply × Bool)
+or_opened pid d name mode flags (Ok reply) = give (reply, true)
+or_opened pid d name mode flags (Err e) = if is_for EEXIST e && not (is_excl flags) then (do
+  reply ← inside pid d (OpenCall name (opening mode (is_trunc flags)) 0)
+  give (reply, false)) else stop e
+
+-- makes a file, or opens what has the name
+unfoldable pub open_or_make : ℕ → ℕ → List ℕ → Mode → ℕ → ℕ → Work (Reply × Bool)
+open_or_make pid d name mode flags file_mode = do
+  first ← attempt (inside pid d (OpenCall name (creating mode) (bit_and file_mode 0o777)))
+  or_opened pid d name mode flags first
+
+unfoldable pub show_open : ℕ → ℕ → Work Status
+show_open pid fd = do
+  reply ← obtain (Calls pid (Fstat fd))
+  replied_status reply
+
+-- what stat(2) shows of what is open; where it shows nothing that is closed
+unfoldable pub look_open : ℕ → ℕ → Work Status
+look_open pid fd = do
+  seen ← attempt (show_open pid fd)
+  or_closed pid fd seen
+
+abbrev pub created_body : ℕ → Status → Server → ReplyBody
+created_body handle status s = Created (node_of s status.inode) (attributes s status) handle
+
+-- it is new, or it was found, with its bytes or without them
+unfoldable pub tell_created : Time → Place → Bool → Bool → ℕ → Status → Work ReplyBody
+tell_created now p is_new is_cut handle status = do
+  keep (told now p status.inode status.kind is_new is_cut)
+  keep (with_handle handle status.inode)
+  kept (created_body handle status)
+
+unfoldable pub create_file : Asked → List ℕ → ℕ → ℕ → ℕ → Work ReplyBody
+create_file r name flags file_mode umask = do
+  plain_name name
+  mode ← needed (failed EINVAL) (mode_in flags)
+  d ← directory_number r.node
+  pid ← caller_with_room r.cred
+  set_umask pid umask
+  opened ← open_or_make pid d name mode flags file_mode
+  handle ← replied_handle pid opened.0
+  status ← look_open pid (descriptor_of handle)
+  tell_created r.now (place d name) opened.1 (is_trunc flags) handle status
+
+-- ---- by a handle
+
+-- the object that is open there
+unfoldable pub the_open : ℕ → Work ℕ
+the_open handle = do
+  n ← kept (λ s. object_of s handle)
+  needed (failed EBADF) n
+
+-- offsets are numbers of 63 bits
+unfoldable pub seek : ℕ → ℕ → ℕ → Work Reply
+seek pid fd offset = if nat_lt offset (2 ^ 63) then obtain (Calls pid (Lseek fd Set (pos offset))) else stop (failed EINVAL)
+
+unfoldable pub read_piece : ℕ → ℕ → ℕ → Work (List ℕ)
+read_piece pid fd most = do
+  reply ← obtain (Calls pid (ReadCall fd most))
+  replied_data most reply
+
+-- Pieces of as many bytes as are moved at once, until one is short: so many pieces at most, behind what was read.
+unfoldable pub read_pieces : ℕ → ℕ → ℕ → ℕ → List ℕ → Work (List ℕ)
+read_pieces zero pid fd size bytes = give bytes
+read_pieces (suc k) pid fd size bytes = if size == 0 then give bytes else do
+  piece ← read_piece pid fd (min move_limit size)
+  if nat_lt (length piece) (min move_limit size) then give (bytes ++ piece) else read_pieces k pid fd (size - move_limit) (bytes ++ piece)
+
+abbrev pub pieces_of : ℕ → ℕ
+pieces_of size = size / move_limit + 1
+
+unfoldable pub read_file : Extent → Work ReplyBody
+read_file extent = do
+  n ← the_open extent.handle
+  seek (owner_of extent.handle) (descriptor_of extent.handle) extent.offset
+  bytes ← read_pieces (pieces_of extent.size) (owner_of extent.handle) (descriptor_of extent.handle) extent.size []
+  give (Bytes bytes)
+
+-- so many bytes a call writes
+abbrev pub length_written : Call → ℕ
+length_written (WriteCall fd bytes) = length bytes
+length_written _ = 0
+
+-- so many bytes calls write
+abbrev pub total_written : List Call → ℕ
+total_written calls = sum_by length_written calls
+
+unfoldable pub write_piece : ℕ → Call → Work ℕ
+write_piece pid call = do
+  reply ← obtain (Calls pid call)
+  replied_count (length_written call) reply
+
+-- what was written before a refusal counts
+abbrev pub or_done : ℕ → Result ℕ Stop → Work ℕ
+or_done done (Ok count) = give count
+or_done zero (Err e) = stop e
+or_done (suc done) (Err e) = give 0
+
+-- One call after another, until one is short or refused.
+unfoldable pub write_pieces : ℕ → ℕ → List Call → Work ℕ
+write_pieces pid done [] = give done
+write_pieces pid done (call ∷ calls) = do
+  wrote ← attempt (write_piece pid call)
+  count ← or_done done wrote
+  if nat_lt count (length_written call) then give (done + count) else write_pieces pid (done + count) calls
+
+-- at most so many pieces
+abbrev pub pieces_in : ℕ → List ℕ → List (List ℕ)
+pieces_in zero bytes = []
+pieces_in (suc k) [] = []
+pieces_in (suc k) (b ∷ bs) = take move_limit (b ∷ bs) ∷ pieces_in k (drop move_limit (b ∷ bs))
+
+abbrev pub writes_of : ℕ → List ℕ → List Call
+writes_of fd bytes = map (WriteCall fd) (pieces_in (pieces_of (length bytes)) bytes)
+
+unfoldable pub write_by : Time → ℕ → ℕ → List Call → Work ReplyBody
+write_by now handle offset calls = do
+  n ← the_open handle
+  seek (owner_of handle) (descriptor_of handle) offset
+  count ← write_pieces (owner_of handle) 0 calls
+  keep (touched now n)
+  give (Wrote count)
+
+abbrev pub write_file : Asked → ℕ → ℕ → List ℕ → Work ReplyBody
+write_file r handle offset bytes = write_by r.now handle offset (writes_of (descriptor_of handle) bytes)
+
+unfoldable pub close_file : ℕ → Work ReplyBody
+close_file handle = do
+  n ← the_open handle
+  obtain (Calls (owner_of handle) (Close (descriptor_of handle)))
+  keep (without_handle handle)
+  give Nothing
+
+unfoldable pub sync_file : ℕ → Work ReplyBody
+sync_file handle = do
+  n ← the_open handle
+  obtain (Fsync (owner_of handle) (descriptor_of handle))
+  give Nothing

@@ -1,0 +1,80 @@
+-- The laws of the plans, whatever is replied.
+--     handle_in, rights_of        for whom a request is performed
+--     RequestsBehave        no request is performed with more than the rights of who asks, and nobody is left away from the
+--             root
+--     BeginningBehaves        the first request begins the server's own process, and asks no more
+--     RunsBehave        the same of what was asked
+use Rattle.std.specs.Prelude.{◌≡◌, ℕ, Bool, true, false, List, [], Option, None, Some, IsFalse}
+use Rattle.fs_cred.specs.Credentials.{usual_credential}
+use Rattle.fs_model.specs.declared.event.Event.{Event}
+use Rattle.fs_model.specs.declared.reply.Reply.{Reply}
+use Rattle.fuse_plans.specs.Plans.{IsRunOf, KeepsTo, MayAskAll, after_all}
+use Rattle.fuse_plans.specs.Requests.{Request}
+use Rattle.fuse_protocol.specs.declared.operation.Offer.{Offer}
+use Rattle.fuse_protocol.specs.declared.operation.Operation.{Operation}
+use Rattle.fuse_protocol.specs.declared.operation.Operation.TheVariants.{SetAttr, Read, Write, Release, FSync, Init}
+use Rattle.fuse_plans.specs.declared.reply.Response.{Response}
+use Rattle.fuse_state.specs.Servers.{Server}
+use Rattle.fuse_plans.specs.Conduct.{Known, Rights, conduct}
+use Rattle.fuse_plans.specs.Serving.{request_plan}
+
+-- the handle of an open file by which something is asked
+abbrev pub handle_of_operation : Operation → Option ℕ
+handle_of_operation (SetAttr changes) = changes.handle
+handle_of_operation (Read extent) = Some extent.handle
+handle_of_operation (Write handle offset bytes) = Some handle
+handle_of_operation (Release handle) = Some handle
+handle_of_operation (FSync handle) = Some handle
+handle_of_operation _ = None
+
+abbrev pub handle_in : Option Operation → Option ℕ
+handle_in None = None
+handle_in (Some operation) = handle_of_operation operation
+
+abbrev pub is_beginning : Operation → Bool
+is_beginning (Init offer) = true
+is_beginning _ = false
+
+abbrev pub is_init : Option Operation → Bool
+is_init None = false
+is_init (Some operation) = is_beginning operation
+
+abbrev pub rights_of : Request → Server → Rights
+rights_of r s = record { cred = r.asked.cred; looker = s.looker; handle = handle_in r.operation }
+
+-- nobody is away
+abbrev pub known_in : Server → Known
+known_in s = record { away = None; processes = s.processes }
+
+-- Nobody is away, and the server knows which processes there are.
+pub record Ends (s : Server) (known : Known) (r : Response × Server) : Type 0 where
+  pub home : known.away ≡ None
+  pub processes : known.processes ≡ r.1.processes
+  pub looker : r.1.looker ≡ s.looker
+
+-- Each request but the first: who calls, and in the end all stand at the root.
+abbrev pub RequestsBehave : Type 0
+RequestsBehave =
+    (r : Request) (s : Server) → IsFalse (is_init r.operation)
+    → KeepsTo (conduct (rights_of r s)) (Ends s) (known_in s) (request_plan r s)
+
+-- the server's own process has all rights
+abbrev pub server_rights : Rights
+server_rights = record { cred = Some (usual_credential 0 0 []); looker = None; handle = None }
+
+pub record Begun (s : Server) (known : Known) (r : Response × Server) : Type 0 where
+  pub home : known.away ≡ None
+  pub processes : r.1.processes ≡ s.processes
+
+-- The first request.
+abbrev pub BeginningBehaves : Type 0
+BeginningBehaves =
+    (r : Request) (s : Server) (offer : Offer) → r.operation ≡ Some (Init offer)
+    → KeepsTo (conduct server_rights) (Begun s) (known_in s) (request_plan r s)
+
+-- The same of what was asked of a machine, with its replies.
+abbrev pub RunsBehave : Type 0
+RunsBehave =
+    (r : Request) (s : Server) (es : List Event) (replies : List Reply) (result : Response × Server) → IsFalse (is_init r.operation)
+    → IsRunOf (request_plan r s) es replies result
+    → MayAskAll (conduct (rights_of r s)) (known_in s) es replies × Ends s (after_all (conduct (rights_of r s)) (known_in s) es replies) result

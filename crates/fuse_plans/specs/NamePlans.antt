@@ -1,0 +1,206 @@
+-- Plans of requests for names: each is asked of a directory, and performed by a process of who asks.
+--     find_name, make_link, make_file, make_directory, remove, move_name, add_link
+use Rattle.std.specs.Prelude.{ℕ, ◌==◌, nat_lt, Bool, true, false, ◌||◌, List, codes, bytes_eq, Result, Ok, Err, if◌then◌else◌, bit_and}
+use Rattle.fs_cred.specs.declared.errno.Errno.TheVariants.{EPERM, ENOENT, EEXIST, EINVAL}
+use Rattle.fs_model.specs.declared.call.Call.{Call}
+use Rattle.fs_model.specs.declared.call.Call.TheVariants.{Open as OpenCall, Close, Lstat, Mkdir, Rmdir, Link as LinkCall, Symlink, Rename as RenameCall, Umask, Unlink}
+use Rattle.fs_model.specs.declared.event.Event.TheVariants.{Call as Calls}
+use Rattle.fs_model.specs.declared.reply.Reply.{Reply}
+use Rattle.fs_model.specs.declared.reply.Status.{Status}
+use Rattle.fuse_plans.specs.declared.stop.Stop.{Stop}
+use Rattle.fuse_plans.specs.declared.stop.Stop.TheVariants.{Lacks}
+use Rattle.fuse_plans.specs.Stops.{failed, is_for}
+use Rattle.fuse_plans.specs.declared.stop.OtherErrno.TheVariants.{ESTALE}
+use Rattle.fuse_plans.specs.declared.request.Asked.{Asked}
+use Rattle.fuse_protocol.specs.declared.reply.Time.{Time}
+use Rattle.fuse_plans.specs.declared.reply.ReplyBody.{ReplyBody}
+use Rattle.fuse_plans.specs.declared.reply.ReplyBody.TheVariants.{Nothing, Found}
+use Rattle.fuse_plans.specs.declared.reply.Attributes.{Attributes}
+use Rattle.fuse_state.specs.Servers.{Server, node_of, kind_of, place_of, with_name, times_of, born}
+use Rattle.fuse_state.specs.Changes.{removed, moved, linked}
+use Rattle.fuse_state.specs.declared.place.Place.{Place}
+use Rattle.fuse_plans.specs.Works.{Work, give, stop, kept, keep, ◌>>=◌, ◌>>◌, attempt, needed, obtain, replied_fd}
+use Rattle.fuse_plans.specs.Callers.{caller, caller_with_room, the_looker, inside, done_between, look_inside, look, the_number, directory_number}
+use Rattle.fuse_plans.specs.Flags.{making}
+
+-- the directory and a name in it
+abbrev pub place : ℕ → List ℕ → Place
+place directory name = record { directory = directory; name = name }
+
+-- Nobody asks for `.` or `..` by name.
+abbrev pub plain_name : List ℕ → Work (Unit {0})
+plain_name name = if bytes_eq name (codes ".") || bytes_eq name (codes "..") then stop (failed EINVAL) else give tt
+
+-- the directory of a name that is asked for
+abbrev pub directory_for : ℕ → List ℕ → Work ℕ
+directory_for node name = do
+  plain_name name
+  directory_number node
+
+abbrev pub attributes : Server → Status → Attributes
+attributes s status = record { status = status; times = times_of s status.inode }
+
+abbrev pub found_body : Status → Server → ReplyBody
+found_body status s = Found (node_of s status.inode) (attributes s status)
+
+abbrev pub tell_entry : Status → Work ReplyBody
+tell_entry status = kept (found_body status)
+
+-- ---- look-ups
+
+-- a directory that was removed has no names
+abbrev pub or_absent : Result ℕ Stop → Work ℕ
+or_absent (Ok n) = give n
+or_absent (Err (Lacks ESTALE)) = stop (failed ENOENT)
+or_absent (Err e) = stop e
+
+unfoldable pub find_name : Asked → List ℕ → Work ReplyBody
+find_name r name = do
+  plain_name name
+  known ← attempt (directory_number r.node)
+  d ← or_absent known
+  pid ← caller r.cred
+  status ← look_inside pid d name
+  keep (with_name (place d name) status.inode status.kind)
+  tell_entry status
+
+-- ---- new objects
+
+-- what has just been made, as the server's own process sees it
+unfoldable pub made : Time → ℕ → List ℕ → Work ReplyBody
+made now d name = do
+  pid ← the_looker
+  status ← look_inside pid d name
+  keep (born now (place d name) status.inode status.kind)
+  tell_entry status
+
+-- a call makes what has the name then
+abbrev pub make_by : Time → ℕ → ℕ → Call → List ℕ → Work ReplyBody
+make_by now pid d call name = do
+  done_between pid d d call
+  made now d name
+
+unfoldable pub make_link : Asked → List ℕ → List ℕ → Work ReplyBody
+make_link r name target = do
+  d ← directory_for r.node name
+  pid ← caller r.cred
+  make_by r.now pid d (Symlink target name) name
+
+-- new objects of the process are made with this mask from now on
+abbrev pub set_umask : ℕ → ℕ → Work Reply
+set_umask pid umask = obtain (Calls pid (Umask (bit_and umask 0o777)))
+
+unfoldable pub make_directory : Asked → List ℕ → ℕ → ℕ → Work ReplyBody
+make_directory r name mode umask = do
+  d ← directory_for r.node name
+  pid ← caller r.cred
+  set_umask pid umask
+  make_by r.now pid d (Mkdir name (bit_and mode 0o7777)) name
+
+-- the type in a mode is that of a file, or none
+abbrev pub is_of_file : ℕ → Bool
+is_of_file mode = bit_and mode 0o170000 == 0 || bit_and mode 0o170000 == 0o100000
+
+abbrev pub only_file : ℕ → Work (Unit {0})
+only_file mode = if is_of_file mode then give tt else stop (failed EPERM)
+
+abbrev pub close : ℕ → ℕ → Work (Unit {0})
+close pid fd = do
+  obtain (Calls pid (Close fd))
+  give tt
+
+-- what the call opens is closed
+abbrev pub open_and_close : ℕ → ℕ → Call → Work (Unit {0})
+open_and_close pid d call = do
+  reply ← inside pid d call
+  fd ← replied_fd reply
+  close pid fd
+
+-- a new file
+abbrev pub make_closed : Time → ℕ → ℕ → Call → List ℕ → Work ReplyBody
+make_closed now pid d call name = do
+  open_and_close pid d call
+  made now d name
+
+unfoldable pub make_file : Asked → List ℕ → ℕ → ℕ → Work ReplyBody
+make_file r name mode umask = do
+  only_file mode
+  d ← directory_for r.node name
+  pid ← caller_with_room r.cred
+  set_umask pid umask
+  make_closed r.now pid d (OpenCall name making (bit_and mode 0o777)) name
+
+-- ---- names that go
+
+-- of a directory, or of something else
+abbrev pub removal : Bool → List ℕ → Call
+removal true name = Rmdir name
+removal false name = Unlink name
+
+-- with unlink or rmdir
+unfoldable pub remove : Asked → (List ℕ → Call) → List ℕ → Work ReplyBody
+remove r call name = do
+  d ← directory_for r.node name
+  pid ← caller r.cred
+  done_between pid d d (call name)
+  keep (removed r.now (place d name))
+  give Nothing
+
+-- the one flag is that nothing may be replaced
+abbrev pub only_no_replace : ℕ → Work (Unit {0})
+only_no_replace flags = if nat_lt 1 flags then stop (failed EINVAL) else give tt
+
+abbrev pub none_there : Result Reply Stop → Work (Unit {0})
+none_there (Ok reply) = stop (failed EEXIST)
+none_there (Err e) = if is_for ENOENT e then give tt else stop e
+
+abbrev pub nothing_to_replace : ℕ → ℕ → ℕ → List ℕ → Work (Unit {0})
+nothing_to_replace flags pid d name = if flags == 0 then give tt else do
+  there ← attempt (inside pid d (Lstat name))
+  none_there there
+
+-- names that may be asked for, and flags
+abbrev pub may_move : List ℕ → List ℕ → ℕ → Work (Unit {0})
+may_move name new_name flags = do
+  only_no_replace flags
+  plain_name name
+  plain_name new_name
+
+-- what has the one place gets the other
+abbrev pub rename : Time → ℕ → Place → Place → Work ReplyBody
+rename now pid old new = do
+  done_between pid old.directory new.directory (RenameCall old.name new.name)
+  keep (moved now old new)
+  give Nothing
+
+unfoldable pub move_name : Asked → List ℕ → ℕ → List ℕ → ℕ → Work ReplyBody
+move_name r name new_node new_name flags = do
+  may_move name new_name flags
+  d ← directory_number r.node
+  new ← directory_number new_node
+  pid ← caller r.cred
+  nothing_to_replace flags pid new new_name
+  rename r.now pid (place d name) (place new new_name)
+
+-- an object gets one more name, by its latest
+unfoldable pub link_by_place : ℕ → ℕ → ℕ → List ℕ → Work (Unit {0})
+link_by_place pid n d name = do
+  known ← kept (λ s. place_of s n)
+  p ← needed (failed ENOENT) known
+  done_between pid p.directory d (LinkCall p.name name)
+
+-- once the object has the name too
+abbrev pub tell_linked : Time → Place → ℕ → Work ReplyBody
+tell_linked now p n = do
+  kind ← kept (λ s. kind_of s n)
+  keep (linked now p n kind)
+  status ← look n
+  tell_entry status
+
+unfoldable pub add_link : Asked → ℕ → List ℕ → Work ReplyBody
+add_link r old_node name = do
+  d ← directory_for r.node name
+  n ← the_number old_node
+  pid ← caller r.cred
+  link_by_place pid n d name
+  tell_linked r.now (place d name) n

@@ -1,0 +1,150 @@
+-- The plan of each request, and of requests one after another.
+--     plan_of        of an operation
+--     request_plan        of a request, with its answer
+--     requests_plan        of several, one after another
+use Rattle.std.specs.Prelude.{ℕ, ◌+◌, ◌/◌, nat_lt, min, Bool, true, false, List, [], ◌∷◌, Option, None, Some, Result, Ok, Err, if◌then◌else◌, bit_and}
+use Rattle.posix_acl.specs.AccessList.{AccessList}
+use Rattle.fs_cred.specs.Credentials.{usual_credential}
+use Rattle.fs_cred.specs.declared.errno.Errno.TheVariants.{EINVAL, ENOMEM}
+use Rattle.fs_model.specs.declared.event.Event.TheVariants.{Spawn, Statfs}
+use Rattle.fuse_plans.specs.Plans.{Plan, Finish, followed_by}
+use Rattle.fuse_plans.specs.declared.stop.Stop.{Stop}
+use Rattle.fuse_plans.specs.declared.stop.Stop.TheVariants.{Lacks}
+use Rattle.fuse_plans.specs.Stops.{failed}
+use Rattle.fuse_plans.specs.declared.stop.OtherErrno.TheVariants.{ENOSYS, EPROTO}
+use Rattle.fuse_plans.specs.declared.request.Asked.{Asked}
+use Rattle.fuse_plans.specs.Requests.{Request}
+use Rattle.fuse_protocol.specs.declared.operation.Offer.{Offer}
+use Rattle.fuse_protocol.specs.declared.operation.Operation.{Operation}
+use Rattle.fuse_protocol.specs.declared.operation.Operation.TheVariants.{Lookup, Forget, GetAttr, SetAttr, ReadLink, SymLink, MkNod, MkDir, Unlink, RmDir, Rename, Link, Open, Read, Write, StatFs, Release, FSync, SetXAttr, GetXAttr, ListXAttr, RemoveXAttr, Init, OpenDir, ReadDir, ReleaseDir, FSyncDir, Access, Create, Interrupt, Destroy, BatchForget, SyncFs, Unknown}
+use Rattle.fuse_plans.specs.declared.reply.ReplyBody.{ReplyBody}
+use Rattle.fuse_plans.specs.declared.reply.ReplyBody.TheVariants.{Space, Agreed}
+use Rattle.fuse_plans.specs.declared.reply.Response.{Response}
+use Rattle.fuse_plans.specs.declared.reply.Response.TheVariants.{Silence, Says, Fails}
+use Rattle.fuse_state.specs.Servers.{Server, with_the_looker, with_end}
+use Rattle.fuse_state.specs.declared.settings.Settings.{Settings}
+use Rattle.fuse_plans.specs.Works.{Work, give, stop, kept, keep, ◌>>=◌, ◌>>◌, obtain, replied_pid, replied_space}
+use Rattle.fuse_plans.specs.NamePlans.{find_name, make_link, make_file, make_directory, remove, removal, move_name, add_link}
+use Rattle.fuse_plans.specs.FilePlans.{open_file, create_file, read_file, write_file, close_file, sync_file}
+use Rattle.fuse_plans.specs.AttributePlans.{get_attributes, set_attributes, read_link, ask_access}
+use Rattle.fuse_plans.specs.DirectoryPlans.{open_directory, read_directory, close_directory, sync_all}
+use Rattle.fuse_plans.specs.AclPlans.{get_xattr, list_xattrs, set_xattr, remove_xattr}
+
+-- ---- the whole file system
+
+-- ATOMIC_O_TRUNC, DONT_MASK and HANDLE_KILLPRIV; with larger writes BIG_WRITES and MAX_PAGES; POSIX_ACL
+abbrev pub wanted_flags : Settings → ℕ
+wanted_flags settings =
+    0x80048 + (if nat_lt 4096 settings.max_write then 0x400020 else 0) + (if settings.posix_acl then 0x100000 else 0)
+
+-- as many as the field holds
+abbrev pub pages : Settings → ℕ
+pages settings = if nat_lt 4096 settings.max_write then min 65535 ((settings.max_write + 4095) / 4096) else 0
+
+-- what is agreed on; so many requests may wait
+abbrev pub terms : ℕ → ℕ → ℕ → ℕ → ReplyBody
+terms max_readahead flags max_write max_pages = Agreed (record {
+  max_readahead = max_readahead;
+  flags = record { 0 = flags };
+  max_background = 16;
+  congestion_threshold = 12;
+  max_write = max_write;
+  max_pages = max_pages;
+})
+
+abbrev pub agreed : Offer → Settings → ReplyBody
+agreed offer settings = terms offer.max_readahead (bit_and offer.flags.0 (wanted_flags settings)) settings.max_write (pages settings)
+
+-- of a later version the number alone is answered, and the kernel asks again
+abbrev pub later_version : ReplyBody
+later_version = terms 0 0 0 0
+
+abbrev pub or_looker : Option ℕ → Work (Unit {0})
+or_looker (Some pid) = give tt
+or_looker None = do
+  reply ← obtain (Spawn (usual_credential 0 0 []))
+  pid ← replied_pid reply
+  keep (with_the_looker pid)
+
+unfoldable pub begin : Offer → Work ReplyBody
+begin offer = if nat_lt offer.major 7 then stop (Lacks EPROTO) else if nat_lt 7 offer.major then give later_version else do
+  looker ← kept (λ s. s.looker)
+  or_looker looker
+  kept (λ s. agreed offer s.settings)
+
+unfoldable pub count_space : Work ReplyBody
+count_space = do
+  reply ← obtain Statfs
+  free ← replied_space reply
+  kept (λ s. Space s.settings.sectors free.0 s.settings.inodes free.1)
+
+unfoldable pub end : Work ReplyBody
+end = do
+  keep with_end
+  sync_all
+
+-- ---- each operation
+
+-- None: there is no reply. The value of an attribute is that of the request.
+abbrev pub plan_of : Asked → Option (Option AccessList) → Operation → Option (Work ReplyBody)
+plan_of r value (Lookup name) = Some (find_name r name)
+plan_of r value Forget = None
+plan_of r value GetAttr = Some (get_attributes r)
+plan_of r value (SetAttr changes) = Some (set_attributes r changes)
+plan_of r value ReadLink = Some (read_link r)
+plan_of r value (SymLink name target) = Some (make_link r name target)
+plan_of r value (MkNod name mode umask) = Some (make_file r name mode umask)
+plan_of r value (MkDir name mode umask) = Some (make_directory r name mode umask)
+plan_of r value (Unlink name) = Some (remove r (removal false) name)
+plan_of r value (RmDir name) = Some (remove r (removal true) name)
+plan_of r value (Rename name new_directory new_name flags) = Some (move_name r name new_directory new_name flags)
+plan_of r value (Link node name) = Some (add_link r node name)
+plan_of r value (Open flags) = Some (open_file r flags.0)
+plan_of r value (Read extent) = Some (read_file extent)
+plan_of r value (Write handle offset bytes) = Some (write_file r handle offset bytes)
+plan_of r value StatFs = Some count_space
+plan_of r value (Release handle) = Some (close_file handle)
+plan_of r value (FSync handle) = Some (sync_file handle)
+plan_of r value (SetXAttr name bytes) = Some (set_xattr r name value)
+plan_of r value (GetXAttr name size) = Some (get_xattr r name size)
+plan_of r value (ListXAttr size) = Some (list_xattrs r size)
+plan_of r value (RemoveXAttr name) = Some (remove_xattr r name)
+plan_of r value (Init offer) = Some (begin offer)
+plan_of r value OpenDir = Some (open_directory r)
+plan_of r value (ReadDir extent) = Some (read_directory extent)
+plan_of r value (ReleaseDir handle) = Some (close_directory handle)
+plan_of r value FSyncDir = Some sync_all
+plan_of r value (Access mask) = Some (ask_access r mask)
+plan_of r value (Create name flags mode umask) = Some (create_file r name flags.0 mode umask)
+plan_of r value Interrupt = None
+plan_of r value Destroy = Some end
+plan_of r value BatchForget = None
+plan_of r value SyncFs = Some sync_all
+plan_of r value Unknown = Some (stop (Lacks ENOSYS))
+
+-- of a request whose body may not be of its form
+abbrev pub asked_for : Asked → Option (Option AccessList) → Option Operation → Option (Work ReplyBody)
+asked_for r value None = Some (stop (failed EINVAL))
+asked_for r value (Some operation) = plan_of r value operation
+
+-- ---- requests
+
+abbrev pub response_of : Result ReplyBody Stop → Response
+response_of (Ok body) = Says body
+response_of (Err e) = Fails e
+
+-- Where memory is lacking for what is added, nothing is asked.
+abbrev pub answered : Bool → Option (Work ReplyBody) → Server → Plan (Response × Server)
+answered memory None s = Finish (Silence, s)
+answered true (Some w) s = followed_by (w s) (λ r. Finish (response_of r.0, r.1))
+answered false (Some w) s = Finish (Fails (failed ENOMEM), s)
+
+unfoldable pub request_plan : Request → Server → Plan (Response × Server)
+request_plan r s = answered r.memory (asked_for r.asked r.value r.operation) s
+
+-- One after another: what each is answered, and what the server keeps then.
+unfoldable pub requests_plan : List Request → Server → Plan (List Response × Server)
+requests_plan [] s = Finish ([], s)
+requests_plan (r ∷ rs) s =
+    followed_by (request_plan r s)
+    (λ first. followed_by (requests_plan rs first.1) (λ rest. Finish (first.0 ∷ rest.0, rest.1)))

@@ -1,0 +1,181 @@
+-- Pieces of plans, which read and change what a server keeps.
+--     Work        what is asked of the machine, and then a value, or why there is none, and what the server keeps
+--     give, stop, kept, keep, ◌>>=◌, ◌>>◌, attempt        those that ask nothing, one after another, and without a stop
+--     ask, obtain, or_closed        one event; a refusal stops; and what is open is closed first
+--     refusal_in, is_refused_for        whether a reply refuses
+--     status_of_reply, replied_status, ..        what a reply holds
+use Rattle.std.specs.Prelude.{ℕ, nat_le, nat_lt, Bool, false, ◌&&◌, List, length, Option, None, Some, Result, Ok, Err, if◌then◌else◌}
+use Rattle.posix_acl.specs.AccessList.{AccessList}
+use Rattle.fs_cred.specs.declared.errno.Errno.{Errno}
+use Rattle.fs_cred.specs.declared.errno.Errno.TheVariants.{EIO}
+use Rattle.fs_cred.specs.declared.refusal.Refusal.{Refusal}
+use Rattle.fs_model.specs.declared.call.Call.TheVariants.{Close}
+use Rattle.fs_model.specs.declared.event.Event.{Event}
+use Rattle.fs_model.specs.declared.event.Event.TheVariants.{Call as Calls}
+use Rattle.fs_model.specs.declared.reply.Reply.{Reply}
+use Rattle.fs_model.specs.declared.reply.Reply.TheVariants.{Pid, Fd, Data, Wrote, Target, Shown, Acl, Names, Space, Refused}
+use Rattle.fs_model.specs.declared.reply.Status.{Status}
+use Rattle.fs_model.specs.Limits.{descriptors_limit, processes_limit}
+use Rattle.fuse_plans.specs.Plans.{Plan, Finish, Ask, followed_by}
+use Rattle.fuse_plans.specs.declared.stop.Stop.{Stop}
+use Rattle.fuse_plans.specs.declared.stop.Stop.TheVariants.{Refuses}
+use Rattle.fuse_plans.specs.Stops.{failed, is_for}
+use Rattle.fuse_state.specs.Servers.{Server, handle_of}
+
+-- What was done before a stop stays.
+abbrev pub Work : Type 0 → Type 0
+Work X = Server → Plan (Result X Stop × Server)
+
+unfoldable pub give : {X : Type 0} → X → Work X
+give x s = Finish (Ok x, s)
+
+unfoldable pub stop : {X : Type 0} → Stop → Work X
+stop e s = Finish (Err e, s)
+
+-- what is read of what the server keeps
+unfoldable pub kept : {X : Type 0} → (Server → X) → Work X
+kept f s = Finish (Ok (f s), s)
+
+-- a change of what it keeps
+unfoldable pub keep : (Server → Server) → Work (Unit {0})
+keep f s = Finish (Ok tt, f s)
+
+abbrev pub goes_on : {X Y : Type 0} → (X → Work Y) → Result X Stop × Server → Plan (Result Y Stop × Server)
+goes_on f (Ok x, s) = f x s
+goes_on f (Err e, s) = Finish (Err e, s)
+
+infixl 10 ◌>>=◌
+unfoldable pub ◌>>=◌ : {X Y : Type 0} → Work X → (X → Work Y) → Work Y
+(w >>= f) s = followed_by (w s) (goes_on f)
+
+infixl 10 ◌>>◌
+abbrev pub ◌>>◌ : {X Y : Type 0} → Work X → Work Y → Work Y
+v >> w = v >>= (λ _. w)
+
+-- the work, and whether it stopped
+unfoldable pub attempt : {X : Type 0} → Work X → Work (Result X Stop)
+attempt w s = followed_by (w s) (λ r. Finish (Ok r.0, r.1))
+
+abbrev pub of_result : {X : Type 0} → Result X Stop → Work X
+of_result (Ok x) = give x
+of_result (Err e) = stop e
+
+-- a value that must be there
+abbrev pub needed : {X : Type 0} → Stop → Option X → Work X
+needed e None = stop e
+needed e (Some x) = give x
+
+-- ---- events
+
+unfoldable pub ask : Event → Work Reply
+ask e s = Ask e (λ reply. Finish (Ok reply, s))
+
+abbrev pub refusal_in : Reply → Option Refusal
+refusal_in (Refused r) = Some r
+refusal_in _ = None
+
+-- the machine refuses with this error
+abbrev pub is_refused_for : Errno → Reply → Bool
+is_refused_for e (Refused r) = is_for e (Refuses r)
+is_refused_for e _ = false
+
+abbrev pub give_unless : Reply → Option Refusal → Work Reply
+give_unless reply None = give reply
+give_unless reply (Some r) = stop (Refuses r)
+
+abbrev pub unless_refused : Reply → Work Reply
+unless_refused reply = give_unless reply (refusal_in reply)
+
+abbrev pub obtain : Event → Work Reply
+obtain e = ask e >>= unless_refused
+
+-- Where the work stopped the process closes what it has opened.
+abbrev pub or_closed : {X : Type 0} → ℕ → ℕ → Result X Stop → Work X
+or_closed pid fd (Ok x) = give x
+or_closed pid fd (Err e) = ask (Calls pid (Close fd)) >> stop e
+
+-- Replies of another form never come.
+abbrev pub unexpected : Stop
+unexpected = failed EIO
+
+abbrev pub pid_of_reply : Reply → Option ℕ
+pid_of_reply (Pid pid) = Some pid
+pid_of_reply _ = None
+
+abbrev pub replied_pid : Reply → Work ℕ
+replied_pid reply = needed unexpected (pid_of_reply reply)
+
+abbrev pub status_of_reply : Reply → Option Status
+status_of_reply (Shown status) = Some status
+status_of_reply _ = None
+
+abbrev pub replied_status : Reply → Work Status
+replied_status reply = needed unexpected (status_of_reply reply)
+
+abbrev pub fd_of_reply : Reply → Option ℕ
+fd_of_reply (Fd fd) = Some fd
+fd_of_reply _ = None
+
+abbrev pub replied_fd : Reply → Work ℕ
+replied_fd reply = needed unexpected (fd_of_reply reply)
+
+-- the handle of a process's descriptor
+abbrev pub handle_within : ℕ → Option ℕ → Option ℕ
+handle_within pid None = None
+handle_within pid (Some fd) = if nat_lt pid processes_limit && nat_lt fd descriptors_limit then Some (handle_of pid fd) else None
+
+abbrev pub replied_handle : ℕ → Reply → Work ℕ
+replied_handle pid reply = needed unexpected (handle_within pid (fd_of_reply reply))
+
+-- so many bytes at most
+abbrev pub within : ℕ → Option (List ℕ) → Option (List ℕ)
+within most None = None
+within most (Some bytes) = if nat_le (length bytes) most then Some bytes else None
+
+abbrev pub count_within : ℕ → Option ℕ → Option ℕ
+count_within most None = None
+count_within most (Some count) = if nat_le count most then Some count else None
+
+abbrev pub data_of_reply : Reply → Option (List ℕ)
+data_of_reply (Data bytes) = Some bytes
+data_of_reply _ = None
+
+-- at most as many as were asked for
+abbrev pub replied_data : ℕ → Reply → Work (List ℕ)
+replied_data most reply = needed unexpected (within most (data_of_reply reply))
+
+abbrev pub count_of_reply : Reply → Option ℕ
+count_of_reply (Wrote count) = Some count
+count_of_reply _ = None
+
+-- at most as many as were given
+abbrev pub replied_count : ℕ → Reply → Work ℕ
+replied_count most reply = needed unexpected (count_within most (count_of_reply reply))
+
+abbrev pub target_of_reply : Reply → Option (List ℕ)
+target_of_reply (Target target) = Some target
+target_of_reply _ = None
+
+abbrev pub replied_target : Reply → Work (List ℕ)
+replied_target reply = needed unexpected (target_of_reply reply)
+
+abbrev pub acl_of_reply : Reply → Option (Option AccessList)
+acl_of_reply (Acl acl) = Some acl
+acl_of_reply _ = None
+
+abbrev pub replied_acl : Reply → Work (Option AccessList)
+replied_acl reply = needed unexpected (acl_of_reply reply)
+
+abbrev pub names_of_reply : Reply → Option (List (List ℕ × ℕ))
+names_of_reply (Names names) = Some names
+names_of_reply _ = None
+
+abbrev pub replied_names : Reply → Work (List (List ℕ × ℕ))
+replied_names reply = needed unexpected (names_of_reply reply)
+
+abbrev pub space_of_reply : Reply → Option (ℕ × ℕ)
+space_of_reply (Space sectors inodes) = Some (sectors, inodes)
+space_of_reply _ = None
+
+abbrev pub replied_space : Reply → Work (ℕ × ℕ)
+replied_space reply = needed unexpected (space_of_reply reply)

@@ -1,0 +1,135 @@
+//! Requests for directories. An open one holds no descriptor of the machine.
+ghost use Rattle.std.specs.Prelude.{◌≡◌, ◌≤◌, [], vec_capacity, true};
+ghost use Rattle.fuse_plans.specs.Callers.{has_place};
+ghost use Rattle.fuse_plans.specs.DirectoryPlans.{open_directory, tell_names, list_open, list_all, read_directory, close_directory};
+ghost use Rattle.fuse_plans.specs.Performing.{Did, DidByMachine};
+
+use crate::asker::{ask_call, obtain_call};
+use crate::flags::listing;
+use crate::listing::listing_bytes;
+use crate::machine::Machine;
+use crate::object::has_place;
+use crate::replies::{fd_of_reply, names_of_reply};
+use crate::reply::ReplyBody;
+use crate::request::Asked;
+use crate::session::Session;
+use crate::stop::Stop;
+use fs_cred::Cred;
+use fs_model::{Call, Listing};
+use fuse_protocol::Extent;
+use fuse_state::OpenDirectory;
+use posix_acl::Perms;
+
+// The names in what is open.
+fn tell_names<M: Machine>(machine: &mut M, pid: usize, fd: usize) -> Result<Listing, Stop>
+    ensures { DidByMachine M.Serves (tell_names pid fd) machine.old machine.new result }
+{
+    let reply = obtain_call(machine, pid, &Call::Readdir(fd))?;
+    match names_of_reply(reply) {
+        Some(names) => Ok(names),
+        None => Err(Stop::EIO),
+    }
+}
+
+// The names in what was opened; where it tells none that is closed.
+fn list_open<M: Machine>(machine: &mut M, pid: usize, fd: usize) -> Result<Listing, Stop>
+    ensures { DidByMachine M.Serves (list_open pid fd) machine.old machine.new result }
+{
+    match tell_names(machine, pid, fd) {
+        Ok(names) => Ok(names),
+        Err(stop) => {
+            let _closed = ask_call(machine, pid, &Call::Close(fd));
+            Err(stop)
+        }
+    }
+}
+
+impl<M: Machine> Session<M> {
+    /// Opens a directory, for reading by who asks; of one that was removed nothing is asked.
+    pub(crate) fn open_directory(
+        &mut self,
+        asked: &Asked,
+        copy: Option<Cred>,
+    ) -> Result<ReplyBody, Stop>
+        requires copy { copy ≡ asked.now.cred }
+        requires room { 2 ≤ self.old.server.room }
+        ensures { Did M.Serves (open_directory asked.entry.now) self.old self.new result }
+    {
+        let inode = self.directory_number(asked.node)?;
+        if self.server.are_directories_full() {
+            return Err(Stop::ENFILE);
+        }
+        let is_placed = has_place(&self.server, inode);
+        self.access_if(is_placed, copy, inode, Perms::from_digit(4))?;
+        let handle = self.server.next_directory();
+        self.server.add_directory(inode);
+        Ok(ReplyBody::Opened(handle))
+    }
+
+    // The names in a directory, as the server's own process sees them.
+    fn list_all(&mut self, inode: u32) -> Result<Listing, Stop>
+        ensures did { Did M.Serves (list_all inode true) self.old self.new result }
+        ensures kept { self.new.server ≡ self.old.server }
+    {
+        let pid = self.the_looker()?;
+        let mut call = Call::Open(self.blank_path(), listing(), 0);
+        let opened = self.on(pid, inode, &mut call)?;
+        let Some(fd) = fd_of_reply(&opened) else {
+            return Err(Stop::EIO);
+        };
+        let names = list_open(&mut self.machine, pid, fd)?;
+        obtain_call(&mut self.machine, pid, &Call::Close(fd))?;
+        Ok(names)
+    }
+
+    // A directory that was removed has no names.
+    fn list_placed(&mut self, inode: u32) -> Result<Listing, Stop>
+        ensures did { Did M.Serves (list_all inode (has_place self.old.server.server inode)) self.old self.new result }
+        ensures kept { self.new.server ≡ self.old.server }
+    {
+        if has_place(&self.server, inode) {
+            self.list_all(inode)
+        } else {
+            Ok(Listing::new(Vec::new(self.alloc)))
+        }
+    }
+
+    /// The entries of a directory, with room for so many bytes. At the beginning it is listed anew.
+    pub(crate) fn read_directory(
+        &mut self,
+        extent: Extent,
+        room: Vec<u8>,
+    ) -> Result<ReplyBody, Stop>
+        requires empty { room.items ≡ [] }
+        requires capacity { extent.size ≤ vec_capacity room }
+        requires room { 1 ≤ self.old.server.room }
+        ensures { Did M.Serves (read_directory extent) self.old self.new result }
+    {
+        let Some(open) = self.server.directory_of(extent.handle) else {
+            return Err(Stop::EBADF);
+        };
+        if extent.offset != 0 {
+            if let Some(names) = &open.listing {
+                let bytes = listing_bytes(extent, names, room);
+                return Ok(ReplyBody::Bytes(bytes));
+            }
+        }
+        let number = open.number;
+        let names = self.list_placed(number)?;
+        let bytes = listing_bytes(extent, &names, room);
+        let listed = OpenDirectory {
+            number,
+            listing: Some(names),
+        };
+        self.server.set_directory(extent.handle, listed);
+        Ok(ReplyBody::Bytes(bytes))
+    }
+
+    /// A directory is closed.
+    pub(crate) fn close_directory(&mut self, handle: u64) -> Result<ReplyBody, Stop>
+        ensures { Did M.Serves (close_directory handle) self.old self.new result }
+    {
+        self.server.remove_directory(handle);
+        Ok(ReplyBody::Nothing)
+    }
+}

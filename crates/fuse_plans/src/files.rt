@@ -1,0 +1,251 @@
+//! Requests that open files.
+ghost use Rattle.std.specs.Prelude.{◌≡◌, ◌+◌, ◌≤◌, ◌&&◌, not, Err};
+ghost use Rattle.fuse_plans.specs.FilePlans.{reads_alone, ask_first, touched_if, open_object, open_file, or_opened, open_or_make, show_open, look_open, created_body, tell_created, create_file};
+ghost use Rattle.fs_cred.specs.declared.errno.Errno.TheVariants.{EEXIST};
+ghost use Rattle.fuse_plans.specs.Flags.{is_trunc, is_excl};
+ghost use Rattle.fuse_plans.specs.Stops.{is_for};
+ghost use Rattle.fuse_plans.specs.Performing.{Did, DidByMachine};
+
+use crate::asker::{ask_call, between, obtain_call};
+use crate::flags::{Mode, creating, is_excl, is_exec, is_trunc, opening};
+use crate::machine::Machine;
+use crate::name::{attributes, place, plain_name};
+use crate::names::set_umask;
+use crate::path::name_in;
+use crate::replies::{fd_of_reply, handle_within, status_of_reply};
+use crate::reply::ReplyBody;
+use crate::request::Asked;
+use crate::session::Session;
+use crate::stop::Stop;
+use fs_cred::{Cred, Errno};
+use fs_model::{Call, Path, Reply, Status};
+use fuse_protocol::{OpenFlags, Time};
+use fuse_state::{Place, Server, descriptor_of};
+use posix_acl::Perms;
+
+// Whether a file that is opened for reading alone is to lose its bytes.
+fn cuts_first(flags: OpenFlags, mode: Mode) -> bool
+    ensures { result ≡ (is_trunc flags.0 && reads_alone mode) }
+{
+    match mode {
+        Mode::Reads => is_trunc(flags),
+        _ => false,
+    }
+}
+
+// The contents of an object have changed, if they have.
+fn touch_if(server: &mut Server, is_cut: bool, now: Time, inode: u32)
+    requires { 1 ≤ server.old.room }
+    ensures kept { server.new.server ≡ touched_if is_cut now inode server.old.server }
+    ensures room { server.old.room ≤ server.new.room + 1 }
+{
+    if is_cut {
+        server.touch(now, inode);
+    }
+}
+
+// What is told of a file that was opened by its making.
+fn created_body(server: &Server, handle: u64, status: Status) -> ReplyBody
+    ensures { result ≡ created_body handle status server.now.server }
+{
+    ReplyBody::Created(
+        server.node_of(status.inode),
+        attributes(server, status),
+        handle,
+    )
+}
+
+// Whether what has the name is opened where no file was made.
+fn may_be_found(stop: Stop, flags: OpenFlags) -> bool
+    ensures { result ≡ (is_for EEXIST stop && not (is_excl flags.0)) }
+{
+    stop.is_for(Errno::EEXIST) && !is_excl(flags)
+}
+
+// Where a file wasn't made, what has the name is opened. The name comes back.
+fn or_opened<M: Machine>(
+    machine: &mut M,
+    pid: usize,
+    directory: u32,
+    name: Path,
+    mode: Mode,
+    flags: OpenFlags,
+    stop: Stop,
+) -> (Result<(Reply, bool), Stop>, Path)
+    ensures did { DidByMachine M.Serves (or_opened pid directory name mode flags.0 (Err stop)) machine.old machine.new result.0 }
+    ensures name { result.1 ≡ name }
+{
+    if !may_be_found(stop, flags) {
+        return (Err(stop), name);
+    }
+    let call = Call::Open(name, opening(mode, is_trunc(flags)), 0);
+    let opened = between(machine, pid, directory, directory, &call);
+    let Some(name) = name_in(call) else {
+        unreachable!()
+    };
+    match opened {
+        Ok(reply) => (Ok((reply, false)), name),
+        Err(stop) => (Err(stop), name),
+    }
+}
+
+// Makes a file, or opens what has the name, and tells whether it is new. The name comes back.
+fn open_or_make<M: Machine>(
+    machine: &mut M,
+    pid: usize,
+    directory: u32,
+    name: Path,
+    mode: Mode,
+    flags: OpenFlags,
+    file_mode: u32,
+) -> (Result<(Reply, bool), Stop>, Path)
+    ensures did { DidByMachine M.Serves (open_or_make pid directory name mode flags.0 file_mode) machine.old machine.new result.0 }
+    ensures name { result.1 ≡ name }
+{
+    let call = Call::Open(name, creating(mode), (file_mode & 0o777) as u16);
+    let first = between(machine, pid, directory, directory, &call);
+    let Some(name) = name_in(call) else {
+        unreachable!()
+    };
+    match first {
+        Ok(reply) => (Ok((reply, true)), name),
+        Err(stop) => or_opened(machine, pid, directory, name, mode, flags, stop),
+    }
+}
+
+// What stat(2) shows of what is open.
+fn show_open<M: Machine>(machine: &mut M, pid: usize, fd: usize) -> Result<Status, Stop>
+    ensures { DidByMachine M.Serves (show_open pid fd) machine.old machine.new result }
+{
+    let reply = obtain_call(machine, pid, &Call::Fstat(fd))?;
+    match status_of_reply(&reply) {
+        Some(status) => Ok(status),
+        None => Err(Stop::EIO),
+    }
+}
+
+// What stat(2) shows of what was opened; where it shows nothing that is closed.
+fn look_open<M: Machine>(machine: &mut M, pid: usize, fd: usize) -> Result<Status, Stop>
+    ensures { DidByMachine M.Serves (look_open pid fd) machine.old machine.new result }
+{
+    match show_open(machine, pid, fd) {
+        Ok(status) => Ok(status),
+        Err(stop) => {
+            let _closed = ask_call(machine, pid, &Call::Close(fd));
+            Err(stop)
+        }
+    }
+}
+
+impl<M: Machine> Session<M> {
+    // What open(2) doesn't ask is asked first.
+    fn ask_first(
+        &mut self,
+        pid: usize,
+        inode: u32,
+        flags: OpenFlags,
+        mode: Mode,
+    ) -> Result<(), Stop>
+        ensures did { Did M.Serves (ask_first pid inode flags.0 mode) self.old self.new result }
+        ensures kept { self.new.server ≡ self.old.server }
+    {
+        let mut run = Call::Access(self.blank_path(), Perms::from_digit(1));
+        self.on_if(is_exec(flags), pid, inode, &mut run)?;
+        let mut cut = Call::Truncate(self.blank_path(), 0);
+        self.on_if(cuts_first(flags, mode), pid, inode, &mut cut)
+    }
+
+    // Opens an object: its handle.
+    fn open_object(
+        &mut self,
+        now: Time,
+        pid: usize,
+        inode: u32,
+        flags: OpenFlags,
+        mode: Mode,
+    ) -> Result<u64, Stop>
+        requires { 2 ≤ self.old.server.room }
+        ensures { Did M.Serves (open_object now pid inode flags.0 mode) self.old self.new result }
+    {
+        let mut call = Call::Open(self.blank_path(), opening(mode, is_trunc(flags)), 0);
+        let reply = self.on(pid, inode, &mut call)?;
+        let Some(handle) = handle_within(pid, fd_of_reply(&reply)) else {
+            return Err(Stop::EIO);
+        };
+        touch_if(&mut self.server, is_trunc(flags), now, inode);
+        self.server.add_handle(handle, inode);
+        Ok(handle)
+    }
+
+    /// Opens a file.
+    pub(crate) fn open_file(
+        &mut self,
+        asked: &Asked,
+        copy: Option<Cred>,
+        flags: OpenFlags,
+    ) -> Result<ReplyBody, Stop>
+        requires copy { copy ≡ asked.now.cred }
+        requires room { 3 ≤ self.old.server.room }
+        ensures { Did M.Serves (open_file asked.entry.now flags.0) self.old self.new result }
+    {
+        let inode = self.the_number(asked.node)?;
+        let Some(mode) = Mode::of_flags(flags) else {
+            return Err(Stop::EINVAL);
+        };
+        let pid = self.caller_with_room(copy)?;
+        self.ask_first(pid, inode, flags, mode)?;
+        let handle = self.open_object(asked.now, pid, inode, flags, mode)?;
+        Ok(ReplyBody::Opened(handle))
+    }
+
+    // What was opened by a name is told, and whether it is new.
+    fn tell_created(
+        &mut self,
+        now: Time,
+        place: Place,
+        is_new: bool,
+        is_cut: bool,
+        handle: u64,
+        status: Status,
+    ) -> Result<ReplyBody, Stop>
+        requires { 5 ≤ self.old.server.room }
+        ensures { Did M.Serves (tell_created now place is_new is_cut handle status) self.old self.new result }
+    {
+        self.server
+            .note_opened(now, place, status.inode, status.kind, is_new, is_cut);
+        self.server.add_handle(handle, status.inode);
+        Ok(created_body(&self.server, handle, status))
+    }
+
+    /// Opens a file by a name, and makes it where there is none.
+    pub(crate) fn create_file(
+        &mut self,
+        asked: &Asked,
+        copy: Option<Cred>,
+        name: Path,
+        flags: OpenFlags,
+        file_mode: u32,
+        umask: u32,
+    ) -> Result<ReplyBody, Stop>
+        requires copy { copy ≡ asked.now.cred }
+        requires room { 6 ≤ self.old.server.room }
+        ensures { Did M.Serves (create_file asked.entry.now name flags.0 file_mode umask) self.old self.new result }
+    {
+        plain_name(&name)?;
+        let Some(mode) = Mode::of_flags(flags) else {
+            return Err(Stop::EINVAL);
+        };
+        let directory = self.directory_number(asked.node)?;
+        let pid = self.caller_with_room(copy)?;
+        let machine = &mut self.machine;
+        set_umask(machine, pid, umask)?;
+        let (opened, name) = open_or_make(machine, pid, directory, name, mode, flags, file_mode);
+        let (reply, is_new) = opened?;
+        let Some(handle) = handle_within(pid, fd_of_reply(&reply)) else {
+            return Err(Stop::EIO);
+        };
+        let status = look_open(machine, pid, descriptor_of(handle))?;
+        let place = place(directory, name);
+        self.tell_created(asked.now, place, is_new, is_trunc(flags), handle, status)
+    }
+}

@@ -1,0 +1,119 @@
+//! How a request opens a file, and how the machine does.
+ghost use Rattle.std.specs.Prelude.{◌≡◌};
+ghost use Rattle.fuse_plans.specs.Flags.{mode_in, is_exec, is_excl, is_trunc, flags_with, opening, creating, making, listing};
+
+use bitflags::Flags as _;
+use fs_model::Flags;
+use fuse_protocol::OpenFlags;
+
+/// For what a file is opened.
+#[derive(Clone, Copy)]
+pub enum Mode {
+    Reads,
+    Writes,
+    Both,
+}
+
+// Of the bits that tell the mode: with neither, a file is opened for reading.
+const MODE_BITS: u32 = 3;
+
+impl Mode {
+    /// The mode that the flags tell; 3 is no mode.
+    pub fn of_flags(flags: OpenFlags) -> Option<Mode>
+        ensures { result ≡ mode_in flags.0 }
+    {
+        match flags.bits() & MODE_BITS {
+            0 => Some(Mode::Reads),
+            1 => Some(Mode::Writes),
+            2 => Some(Mode::Both),
+            _ => None,
+        }
+    }
+}
+
+/// Whether the file is to be executed.
+pub(crate) fn is_exec(flags: OpenFlags) -> bool
+    ensures { result ≡ is_exec flags.0 }
+{
+    flags.bits() & OpenFlags::EXEC.bits() != 0
+}
+
+/// Whether the file is to be a new one.
+pub(crate) fn is_excl(flags: OpenFlags) -> bool
+    ensures { result ≡ is_excl flags.0 }
+{
+    flags.bits() & OpenFlags::EXCL.bits() != 0
+}
+
+/// Whether the file is to lose its bytes.
+pub(crate) fn is_trunc(flags: OpenFlags) -> bool
+    ensures { result ≡ is_trunc flags.0 }
+{
+    flags.bits() & OpenFlags::TRUNC.bits() != 0
+}
+
+// For what a file is opened, and how.
+fn flags_with(mode: Mode, is_new: bool, trunc: bool, nofollow: bool, directory: bool) -> Flags
+    ensures { result ≡ flags_with mode is_new trunc nofollow directory }
+{
+    match mode {
+        Mode::Reads => Flags {
+            read: true,
+            write: false,
+            create: is_new,
+            excl: is_new,
+            trunc,
+            append: false,
+            nofollow,
+            directory,
+        },
+        Mode::Writes => Flags {
+            read: false,
+            write: true,
+            create: is_new,
+            excl: is_new,
+            trunc,
+            append: false,
+            nofollow,
+            directory,
+        },
+        Mode::Both => Flags {
+            read: true,
+            write: true,
+            create: is_new,
+            excl: is_new,
+            trunc,
+            append: false,
+            nofollow,
+            directory,
+        },
+    }
+}
+
+/// What is there is opened, and no link.
+pub(crate) fn opening(mode: Mode, trunc: bool) -> Flags
+    ensures { result ≡ opening mode trunc }
+{
+    flags_with(mode, false, trunc, true, false)
+}
+
+/// A file is made that isn't there yet.
+pub(crate) fn creating(mode: Mode) -> Flags
+    ensures { result ≡ creating mode }
+{
+    flags_with(mode, true, false, false, false)
+}
+
+/// A file is made.
+pub(crate) fn making() -> Flags
+    ensures { result ≡ making }
+{
+    creating(Mode::Writes)
+}
+
+/// A directory is opened.
+pub(crate) fn listing() -> Flags
+    ensures { result ≡ listing }
+{
+    flags_with(Mode::Reads, false, false, false, true)
+}

@@ -1,0 +1,21 @@
+//! The laws of the plans: each is the contract of a function that does nothing.
+ghost use Rattle.fuse_plans.specs.Laws.{BeginningBehaves, RequestsBehave, RunsBehave};
+
+/// Whatever the machine replies, no request but the first is performed with more than the rights of who asks.
+///
+/// Each call is made by a process whose credential is that of who asks, through the handle that the request gives, or by the
+/// server's own process, which only looks. A process that has entered a directory makes one call there, and is told to come
+/// back before anything else. Nothing is asked of the disk, and no process changes its directory by a call.
+pub fn requests_behave()
+    ensures { RequestsBehave }
+{}
+
+/// The first request begins the server's own process, and asks no more.
+pub fn beginning_behaves()
+    ensures { BeginningBehaves }
+{}
+
+/// The same of what was asked, with the replies that were given.
+pub fn what_is_asked_may_be()
+    ensures { RunsBehave }
+{}

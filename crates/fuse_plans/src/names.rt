@@ -1,0 +1,204 @@
+//! Requests for names that are found or made: each is asked of a directory, and performed by a process of who asks.
+ghost use Rattle.std.specs.Prelude.{◌≡◌, ◌≤◌, ℕ, List, Some, IsSome};
+ghost use Rattle.fuse_plans.specs.NamePlans.{directory_for, find_name, made, make_by, make_link, set_umask, make_directory, close, open_and_close, make_closed, make_file};
+ghost use Rattle.fuse_plans.specs.Paths.{name_in};
+ghost use Rattle.fuse_plans.specs.Performing.{Did, DidByMachine};
+
+use crate::asker::{between, done, done_between, obtain_call};
+use crate::flags::making;
+use crate::machine::Machine;
+use crate::name::{found_body, only_file, or_absent, place, plain_name};
+use crate::object::look_inside;
+use crate::path::name_in;
+use crate::replies::fd_of_reply;
+use crate::reply::ReplyBody;
+use crate::request::Asked;
+use crate::session::Session;
+use crate::stop::Stop;
+use fs_cred::Cred;
+use fs_model::{Call, Path, Reply};
+use fuse_protocol::Time;
+use std::mem;
+
+/// New objects of the process are made with this mask from now on.
+pub(crate) fn set_umask<M: Machine>(machine: &mut M, pid: usize, umask: u32) -> Result<Reply, Stop>
+    ensures { DidByMachine M.Serves (set_umask pid umask) machine.old machine.new result }
+{
+    let call = Call::Umask((umask & 0o777) as u16);
+    let reply = obtain_call(machine, pid, &call);
+    mem::drop(call);
+    reply
+}
+
+// Closes a descriptor.
+fn close<M: Machine>(machine: &mut M, pid: usize, fd: usize) -> Result<(), Stop>
+    ensures { DidByMachine M.Serves (close pid fd) machine.old machine.new result }
+{
+    let call = Call::Close(fd);
+    let reply = obtain_call(machine, pid, &call);
+    mem::drop(call);
+    done(reply)
+}
+
+// What a call opens in a directory is closed.
+fn open_and_close<M: Machine>(
+    machine: &mut M,
+    pid: usize,
+    directory: u32,
+    call: &Call,
+) -> Result<(), Stop>
+    ensures { DidByMachine M.Serves (open_and_close pid directory call.now) machine.old machine.new result }
+{
+    let reply = between(machine, pid, directory, directory, call)?;
+    let fd = fd_of_reply(&reply);
+    mem::drop(reply);
+    let Some(fd) = fd else {
+        return Err(Stop::EIO);
+    };
+    close(machine, pid, fd)
+}
+
+impl<M: Machine> Session<M> {
+    /// What has a name in a directory. The credential is a copy of that of who asks.
+    pub(crate) fn find_name(
+        &mut self,
+        asked: &Asked,
+        copy: Option<Cred>,
+        name: Path,
+    ) -> Result<ReplyBody, Stop>
+        requires copy { copy ≡ asked.now.cred }
+        requires room { 2 ≤ self.old.server.room }
+        ensures { Did M.Serves (find_name asked.entry.now name) self.old self.new result }
+    {
+        plain_name(&name)?;
+        let directory = or_absent(self.directory_number(asked.node))?;
+        let pid = self.caller(copy)?;
+        let (shown, name) = look_inside(&mut self.machine, pid, directory, name);
+        let status = shown?;
+        self.server
+            .add_name(place(directory, name), status.inode, status.kind);
+        Ok(found_body(&self.server, status))
+    }
+
+    /// The directory of a name that is asked for.
+    pub(crate) fn directory_for(&self, node: u64, name: &Path) -> Result<u32, Stop>
+        ensures { Did M.Serves (directory_for node name.now) self.now self.now result }
+    {
+        plain_name(name)?;
+        self.directory_number(node)
+    }
+
+    // What has just been made, as the server's own process sees it.
+    fn made(&mut self, now: Time, directory: u32, name: Path) -> Result<ReplyBody, Stop>
+        requires { 4 ≤ self.old.server.room }
+        ensures { Did M.Serves (made now directory name) self.old self.new result }
+    {
+        let pid = self.the_looker()?;
+        let (shown, name) = look_inside(&mut self.machine, pid, directory, name);
+        let status = shown?;
+        self.server
+            .add_object(now, place(directory, name), status.inode, status.kind);
+        Ok(found_body(&self.server, status))
+    }
+
+    // A call makes what has the name in it.
+    fn make_by(
+        &mut self,
+        now: Time,
+        pid: usize,
+        directory: u32,
+        call: Call,
+    ) -> Result<ReplyBody, Stop>
+        requires name { IsSome (name_in call) }
+        requires room { 4 ≤ self.old.server.room }
+        ensures { (name : List ℕ) → name_in call ≡ Some name →
+            Did M.Serves (make_by now pid directory call name) self.old self.new result }
+    {
+        let tried = done_between(&mut self.machine, pid, directory, directory, &call);
+        let Some(name) = name_in(call) else {
+            unreachable!()
+        };
+        tried?;
+        self.made(now, directory, name)
+    }
+
+    // The same of a call that opens a new file.
+    fn make_closed(
+        &mut self,
+        now: Time,
+        pid: usize,
+        directory: u32,
+        call: Call,
+    ) -> Result<ReplyBody, Stop>
+        requires name { IsSome (name_in call) }
+        requires room { 4 ≤ self.old.server.room }
+        ensures { (name : List ℕ) → name_in call ≡ Some name →
+            Did M.Serves (make_closed now pid directory call name) self.old self.new result }
+    {
+        let tried = open_and_close(&mut self.machine, pid, directory, &call);
+        let Some(name) = name_in(call) else {
+            unreachable!()
+        };
+        tried?;
+        self.made(now, directory, name)
+    }
+
+    /// Makes a symbolic link.
+    pub(crate) fn make_link(
+        &mut self,
+        asked: &Asked,
+        copy: Option<Cred>,
+        name: Path,
+        target: Path,
+    ) -> Result<ReplyBody, Stop>
+        requires copy { copy ≡ asked.now.cred }
+        requires room { 5 ≤ self.old.server.room }
+        ensures { Did M.Serves (make_link asked.entry.now name target) self.old self.new result }
+    {
+        let directory = self.directory_for(asked.node, &name)?;
+        let pid = self.caller(copy)?;
+        let call = Call::Symlink { target, path: name };
+        self.make_by(asked.now, pid, directory, call)
+    }
+
+    /// Makes a directory.
+    pub(crate) fn make_directory(
+        &mut self,
+        asked: &Asked,
+        copy: Option<Cred>,
+        name: Path,
+        mode: u32,
+        umask: u32,
+    ) -> Result<ReplyBody, Stop>
+        requires copy { copy ≡ asked.now.cred }
+        requires room { 5 ≤ self.old.server.room }
+        ensures { Did M.Serves (make_directory asked.entry.now name mode umask) self.old self.new result }
+    {
+        let directory = self.directory_for(asked.node, &name)?;
+        let pid = self.caller(copy)?;
+        set_umask(&mut self.machine, pid, umask)?;
+        let call = Call::Mkdir(name, (mode & 0o7777) as u16);
+        self.make_by(asked.now, pid, directory, call)
+    }
+
+    /// Makes a file.
+    pub(crate) fn make_file(
+        &mut self,
+        asked: &Asked,
+        copy: Option<Cred>,
+        name: Path,
+        mode: u32,
+        umask: u32,
+    ) -> Result<ReplyBody, Stop>
+        requires copy { copy ≡ asked.now.cred }
+        requires room { 5 ≤ self.old.server.room }
+        ensures { Did M.Serves (make_file asked.entry.now name mode umask) self.old self.new result }
+    {
+        only_file(mode)?;
+        let directory = self.directory_for(asked.node, &name)?;
+        let pid = self.caller_with_room(copy)?;
+        set_umask(&mut self.machine, pid, umask)?;
+        let call = Call::Open(name, making(), (mode & 0o777) as u16);
+        self.make_closed(asked.now, pid, directory, call)
+    }
+}
