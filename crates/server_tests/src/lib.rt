@@ -1,5 +1,9 @@
-//! Tests of a server of the kernel's requests: what it keeps between them.
+//! Tests of a server of the kernel's requests: what it keeps between them, and what passes between the kernel and it.
 #![tactic(auto)]
 
 #[cfg(test)]
+mod serving;
+#[cfg(test)]
 mod state;
+#[cfg(test)]
+mod streams;

@@ -1,0 +1,15 @@
+use Rattle.std.proofs.Common.{◌≡◌, ◌∙◌, ℕ, Option, take, sym, subst, false}
+use Rattle.fuse_serving.specs.Exchanges.{Reads, read_of}
+use Rattle.fuse_serving.specs.Pieces.{scene}
+use Rattle.fuse_serving.proofs.ReadRounds.{from_read}
+use Rattle.fuse_serving.proofs.serving.serve_next.Goals as goal
+
+pub returns : goal.returns
+returns g c =
+    let p = g.P.Performer in
+    let old = c.args.performer.now in
+    let on : (p.server old).ended ≡ false = sym c.is_ended.ensures ∙ c.if-is_ended.false in
+    let does : g.K.Kernel.Does c.args.kernel.now (Reads (take c.in-Ok-Some.size c.read.new.buffer)) c.read.new.self =
+    subst (λ (o : Option ℕ). g.K.Kernel.Does c.args.kernel.now (read_of o c.read.new.buffer) c.read.new.self) c.in-Ok-Some.field-0-is c.in-Ok-Some.ensures.does in
+    from_read p.Serves g.K.Kernel.Does (p.machine old) (p.server old) c.args.kernel.now c.read.new.self (take c.in-Ok-Some.size c.read.new.buffer)
+    (scene p.machine p.server c.serve_read.new.performer c.serve_read.new.kernel) c.in_ok-goes_on.goes_on on does c.in_ok-goes_on.ensures

@@ -1,0 +1,24 @@
+use Rattle.std.proofs.Common.{◌≡◌, [], List, ℕ, arith, rules, tests, subst}
+use Rattle.std.proofs.lemmas.Iterator.Consumers.{YieldsList-end}
+use Rattle.std.proofs.lemmas.Iterator.Splits.{YieldsList-from_slice_split}
+use Rattle.fuse_serving.specs.Status.{is_space, SaysIds, no_word}
+use Rattle.fuse_serving.proofs.Lines.{no_bytes, one_empty_more, one_id_more}
+use Rattle.fuse_serving.proofs.status.ids_of.Goals as goal
+
+pub loop-word-init : goal.loop-word-init
+loop-word-init c = rw (c.new-groups.ensures) no_word
+
+pub loop-word-preserved-then-is_empty : goal.loop-word-preserved-then-is_empty
+loop-word-preserved-then-is_empty c =
+    let none : c.in-Some.word.now ≡ [] = no_bytes c.in-Some.word.now (search (rules, tests, arith)) in
+    one_empty_more (λ x. x.now) c.loop-word.yielded c.in-Some.word c.loop-word.groups c.loop-word.invariant none
+
+pub loop-word-preserved : goal.loop-word-preserved
+loop-word-preserved c =
+    one_id_more (λ x. x.now) c.loop-word.yielded c.in-Some.word c.loop-word.groups c.push.new.self c.in_ok-id.id c.loop-word.invariant c.in_ok-id.ensures c.in-Ok.ensures
+
+pub returns : goal.returns
+returns c =
+    let end = YieldsList-end (YieldsList-from_slice_split _ is_space c.args.text.now (cc) (cc) (cc) (λ x r q k. search (rules, tests)))
+    c.loop-word.yielded _ c.loop-word.yielded_by _ _ c.in-None.is c.next.ensures.steps in
+    subst (λ (words : List (List ℕ)). SaysIds words c.loop-word.groups) end.0 c.loop-word.invariant

@@ -1,0 +1,6 @@
+use Rattle.std.proofs.Common.{map}
+use Rattle.fuse_serving.specs.Status.{SaysIds}
+use Rattle.fuse_serving.proofs.status.ids_of.Given as goal
+
+abbrev pub invariant-loop-word : goal.invariant-loop-word
+invariant-loop-word l = SaysIds (map (λ x. x.now) l.yielded) l.groups

@@ -1,0 +1,5 @@
+pub mod Exchanges
+pub mod Rounds
+pub mod Pieces
+pub mod Status
+pub mod Alike

@@ -1,0 +1,82 @@
+-- What the pieces of a round come to.
+--     Answers, AnswersWithMemory        a request that was spoken is answered
+--     scene        of a performer and the kernel
+--     SpokenServed        the same, and its answer is told
+--     ReadComesTo        a read, by whether the server goes on
+--     ComesTo        the next round, or none
+use Rattle.std.specs.Prelude.{◌≡◌, ℕ, Bool, true, false, List, ◌++◌, Option, Ok, Err}
+use Rattle.posix_acl.specs.AccessList.{AccessList}
+use Rattle.fs_model.specs.declared.event.Event.{Event}
+use Rattle.fs_model.specs.declared.reply.Reply.{Reply}
+use Rattle.fuse_protocol.specs.declared.reply.Time.{Time}
+use Rattle.fuse_protocol.specs.declared.request.Request.{Request as WireRequest}
+use Rattle.fuse_protocol.specs.declared.request.RequestFault.TheVariants.{NotWhole}
+use Rattle.fuse_protocol.specs.Requests.{request_of}
+use Rattle.fuse_state.specs.Servers.{Server}
+use Rattle.fuse_plans.specs.declared.reply.Response.{Response}
+use Rattle.fuse_plans.specs.Plans.{CarriesOut}
+use Rattle.fuse_plans.specs.Requests.{Outside}
+use Rattle.fuse_plans.specs.Protocol.{HasValue, Hears, request_from}
+use Rattle.fuse_plans.specs.Serving.{request_plan}
+use Rattle.fuse_serving.specs.declared.caller.Caller.{Caller}
+use Rattle.fuse_serving.specs.Exchanges.{Exchange, Passes}
+use Rattle.fuse_serving.specs.Rounds.{Round, Scene, IsRound, Ends, learns, tells, later_exchanges}
+
+-- with memory for what is added, or without
+abbrev pub known : Caller → Time → Bool → Outside
+known caller now memory = record { groups = caller.groups; caps = caller.caps; now = now; memory = memory }
+
+pub record Answers {M : Type 0} (Serves : M → Event → Reply → M → Type 0) (spoken : WireRequest) (caller : Caller) (now : Time)
+    (old new : M) (before after : Server) (response : Response) : Type 0 where
+  pub memory : Bool
+  pub acl : Option (Option AccessList)
+  pub has_value : memory ≡ true → HasValue spoken.operation acl
+  pub performs : CarriesOut Serves (request_plan (request_from (known caller now memory) acl spoken) before) old new (response, after)
+
+-- the same where there was memory
+pub record AnswersWithMemory {M : Type 0} (Serves : M → Event → Reply → M → Type 0) (spoken : WireRequest) (caller : Caller) (now : Time)
+    (old new : M) (before after : Server) (response : Response) : Type 0 where
+  pub acl : Option (Option AccessList)
+  pub has_value : HasValue spoken.operation acl
+  pub performs : CarriesOut Serves (request_plan (request_from (known caller now true) acl spoken) before) old new (response, after)
+
+-- a performer and the kernel
+abbrev pub scene : {P M K : Type 0} → (P → M) → (P → Server) → P → K → Scene M K
+scene machine server p kernel = record { machine = machine p; server = server p; kernel = kernel }
+
+-- A request that was spoken is served: its plan is performed, and the answer is told.
+pub record SpokenServed {M K : Type 0} (Serves : M → Event → Reply → M → Type 0) (Does : K → Exchange → K → Type 0)
+    (spoken : WireRequest) (old new : Scene M K) : Type 0 where
+  pub outside : Outside
+  pub acl : Option (Option AccessList)
+  pub has_value : outside.memory ≡ true → HasValue spoken.operation acl
+  pub response : Response
+  pub taken : Bool
+  pub performs : CarriesOut Serves (request_plan (request_from outside acl spoken) old.server) old.machine new.machine (response, new.server)
+  pub passes : Passes Does old.kernel (learns (Ok spoken) outside ++ tells spoken.unique response taken) new.kernel
+
+-- The request that was read is served.
+pub record ReadServed {M K : Type 0} (Serves : M → Event → Reply → M → Type 0) (Does : K → Exchange → K → Type 0)
+    (bytes : List ℕ) (old new : Scene M K) : Type 0 where
+  pub round : Round
+  pub is_read : round.bytes ≡ bytes
+  pub hears : Hears bytes round.outside round.request
+  pub passes : Passes Does old.kernel (later_exchanges round) new.kernel
+  pub performs : CarriesOut Serves (request_plan round.request old.server) old.machine new.machine (round.response, new.server)
+
+-- A read that isn't whole changes nothing.
+pub record IsNotWhole {M K : Type 0} (bytes : List ℕ) (old new : Scene M K) : Type 0 where
+  pub not_whole : request_of bytes ≡ Err NotWhole
+  pub machine : new.machine ≡ old.machine
+  pub server : new.server ≡ old.server
+  pub kernel : new.kernel ≡ old.kernel
+
+abbrev pub ReadComesTo : {M K : Type 0} → (M → Event → Reply → M → Type 0) → (K → Exchange → K → Type 0)
+    → List ℕ → Scene M K → Scene M K → Bool → Type 0
+ReadComesTo Serves Does bytes old new true = ReadServed Serves Does bytes old new
+ReadComesTo Serves Does bytes old new false = IsNotWhole bytes old new
+
+abbrev pub ComesTo : {M K : Type 0} → (M → Event → Reply → M → Type 0) → (K → Exchange → K → Type 0)
+    → Scene M K → Scene M K → Bool → Type 0
+ComesTo Serves Does old new true = (round : Round) × IsRound Serves Does old round new
+ComesTo Serves Does old new false = Ends Does old new

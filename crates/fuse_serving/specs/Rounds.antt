@@ -1,0 +1,150 @@
+-- Requests that are served, one after another.
+--     Round        a request with its answer
+--     IsRound        how one is served
+--     Rounds        several
+--     IsEnd        why no more are
+--     ServedAll        all of a session, and what its requests come to
+use Rattle.std.specs.Prelude.{◌≡◌, ℕ, ◌-◌, ◌^◌, Bool, true, false, List, [], ◌∷◌, ◌++◌, map, length, ◌⊎◌, Result, Ok, Err, if◌then◌else◌}
+use Rattle.std.specs.List.{flat_map}
+use Rattle.fs_model.specs.declared.event.Event.{Event}
+use Rattle.fs_model.specs.declared.reply.Reply.{Reply}
+use Rattle.fuse_protocol.specs.declared.operation.Operation.{Operation}
+use Rattle.fuse_protocol.specs.declared.operation.Operation.TheVariants.{Lookup, SetAttr, SymLink, MkNod, MkDir, Unlink, RmDir, Rename, Link, Open, SetXAttr, RemoveXAttr, OpenDir, Access, Create}
+use Rattle.fuse_protocol.specs.declared.request.Request.{Request as WireRequest}
+use Rattle.fuse_protocol.specs.declared.request.RequestFault.{RequestFault}
+use Rattle.fuse_protocol.specs.declared.request.RequestFault.TheVariants.{NotWhole}
+use Rattle.fuse_protocol.specs.Requests.{request_of}
+use Rattle.fuse_state.specs.Servers.{Server}
+use Rattle.fuse_plans.specs.declared.reply.Response.{Response}
+use Rattle.fuse_plans.specs.declared.reply.Response.TheVariants.{Silence, Says, Fails}
+use Rattle.fuse_plans.specs.Plans.{CarriesOut}
+use Rattle.fuse_plans.specs.Requests.{Outside, Request}
+use Rattle.fuse_plans.specs.Protocol.{Hears, HearsAll, response_bytes}
+use Rattle.fuse_plans.specs.Serving.{request_plan, requests_plan}
+use Rattle.fuse_serving.specs.declared.caller.Caller.{Caller}
+use Rattle.fuse_serving.specs.Exchanges.{Exchange, Reads, ReadsEnd, Writes, Learns, SeesTime, Passes}
+
+-- what was read, and what was known beside it; the request that it says, and its answer; and whether the reply was taken
+pub record Round : Type 0 where
+  pub bytes : List ℕ
+  pub outside : Outside
+  pub request : Request
+  pub response : Response
+  pub taken : Bool
+
+-- the machine that is asked, what the server keeps, and the kernel
+pub record Scene (M K : Type 0) : Type 0 where
+  pub machine : M
+  pub server : Server
+  pub kernel : K
+
+-- ---- one request
+
+abbrev pub caller_in : Outside → Caller
+caller_in outside = record { groups = outside.groups; caps = outside.caps }
+
+-- what is done by a process of who asks, and what may fail for its credential
+abbrev pub needs_caller : Operation → Bool
+needs_caller (Lookup name) = true
+needs_caller (SetAttr changes) = true
+needs_caller (SymLink name target) = true
+needs_caller (MkNod name mode umask) = true
+needs_caller (MkDir name mode umask) = true
+needs_caller (Unlink name) = true
+needs_caller (RmDir name) = true
+needs_caller (Rename name new_directory new_name flags) = true
+needs_caller (Link node name) = true
+needs_caller (Open flags) = true
+needs_caller (SetXAttr name value) = true
+needs_caller (RemoveXAttr name) = true
+needs_caller OpenDir = true
+needs_caller (Access mask) = true
+needs_caller (Create name flags mode umask) = true
+needs_caller _ = false
+
+-- Of the others nothing is asked about who asks.
+abbrev pub asks_for : WireRequest → Caller → List Exchange
+asks_for spoken caller = if needs_caller spoken.operation then Learns spoken.pid caller ∷ [] else []
+
+-- Where the body is of its form.
+abbrev pub learns : Result WireRequest RequestFault → Outside → List Exchange
+learns (Ok spoken) outside = SeesTime outside.now ∷ asks_for spoken (caller_in outside)
+learns (Err e) outside = []
+
+abbrev pub has_reply : Response → Bool
+has_reply Silence = false
+has_reply (Says body) = true
+has_reply (Fails e) = true
+
+abbrev pub tells : ℕ → Response → Bool → List Exchange
+tells unique Silence taken = []
+tells unique (Says body) taken = Writes (response_bytes unique (Says body)) taken ∷ []
+tells unique (Fails e) taken = Writes (response_bytes unique (Fails e)) taken ∷ []
+
+-- behind the read
+abbrev pub later_exchanges : Round → List Exchange
+later_exchanges r = learns (request_of r.bytes) r.outside ++ tells r.request.unique r.response r.taken
+
+abbrev pub exchanges : Round → List Exchange
+exchanges r = Reads r.bytes ∷ later_exchanges r
+
+-- The request is read, its plan is performed, and the answer is told.
+pub record IsRound {M K : Type 0} (Serves : M → Event → Reply → M → Type 0) (Does : K → Exchange → K → Type 0)
+    (old : Scene M K) (round : Round) (new : Scene M K) : Type 0 where
+  pub goes_on : old.server.ended ≡ false
+  pub hears : Hears round.bytes round.outside round.request
+  pub passes : Passes Does old.kernel (exchanges round) new.kernel
+  pub performs : CarriesOut Serves (request_plan round.request old.server) old.machine new.machine (round.response, new.server)
+
+-- ---- several
+
+pub data Rounds {M K : Type 0} (Serves : M → Event → Reply → M → Type 0) (Does : K → Exchange → K → Type 0)
+    : Scene M K → List Round → Scene M K → Type 0 where
+  no_round : (s : Scene M K) → Rounds Serves Does s [] s
+  one_round : (round : Round) (rounds : List Round) (old mid new : Scene M K)
+      → IsRound Serves Does old round mid → Rounds Serves Does mid rounds new → Rounds Serves Does old (round ∷ rounds) new
+
+-- It was told to end, or no more requests come, or a read isn't whole.
+pub data IsEnd {K : Type 0} (Does : K → Exchange → K → Type 0) (server : Server) (old new : K) : Type 0 where
+  was_told : server.ended ≡ true → new ≡ old → IsEnd Does server old new
+  no_more : Does old ReadsEnd new → IsEnd Does server old new
+  not_whole : (bytes : List ℕ) → request_of bytes ≡ Err NotWhole → Does old (Reads bytes) new → IsEnd Does server old new
+
+-- Nothing is asked any more.
+pub record Ends {M K : Type 0} (Does : K → Exchange → K → Type 0) (old new : Scene M K) : Type 0 where
+  pub machine : new.machine ≡ old.machine
+  pub server : new.server ≡ old.server
+  pub is_end : IsEnd Does old.server old.kernel new.kernel
+
+-- our own limit
+abbrev pub rounds_limit : ℕ
+rounds_limit = 2 ^ 64 - 1
+
+abbrev pub heard_in : Round → List ℕ × Outside
+heard_in r = (r.bytes, r.outside)
+
+-- what was taken of the answer
+abbrev pub taken_bytes : Round → List ℕ
+taken_bytes r = if r.taken then response_bytes r.request.unique r.response else []
+
+abbrev pub written : Exchange → List ℕ
+written (Writes bytes true) = bytes
+written _ = []
+
+-- The requests of the rounds are those that the reads say. Their plans, run one after another, give the answers; and what was
+-- written and taken is these answers.
+pub record AreServed {M K : Type 0} (Serves : M → Event → Reply → M → Type 0) (Does : K → Exchange → K → Type 0)
+    (old : Scene M K) (rounds : List Round) (new : Scene M K) : Type 0 where
+  pub hears : HearsAll (map heard_in rounds) (map (λ r. r.request) rounds)
+  pub performs : CarriesOut Serves (requests_plan (map (λ r. r.request) rounds) old.server) old.machine new.machine (map (λ r. r.response) rounds, new.server)
+  pub passes : Passes Does old.kernel (flat_map exchanges rounds) new.kernel
+  pub is_written : flat_map written (flat_map exchanges rounds) ≡ flat_map taken_bytes rounds
+
+-- Requests were served until the end.
+pub record ServedAll {M K : Type 0} (Serves : M → Event → Reply → M → Type 0) (Does : K → Exchange → K → Type 0)
+    (old new : Scene M K) : Type 0 where
+  pub rounds : List Round
+  pub last : Scene M K
+  pub in_order : Rounds Serves Does old rounds last
+  pub served : AreServed Serves Does old rounds last
+  pub end : Ends Does last new ⊎ ((length rounds ≡ rounds_limit) × (new ≡ last))

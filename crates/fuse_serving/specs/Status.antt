@@ -1,0 +1,51 @@
+-- What /proc/PID/status says of a process: proc(5).
+--     HasLine        a line of the text begins so
+--     SaysNumber, SaysIds        digits, and numbers with spaces between them
+--     SaysGroups, SaysCaps        the supplementary groups; which capabilities are in effect
+use Rattle.std.specs.Prelude.{◌≡◌, ℕ, ◌^◌, ◌<◌, ◌==◌, Bool, List, [], ◌∷◌, ◌++◌, codes, bit_and, Contains}
+use Rattle.std.specs.List.{slice_split}
+use Rattle.std.specs.Str.Parse.{IsNumeral, digits_value, without_leading_plus}
+use Rattle.fs_cred.specs.declared.caps.Caps.{Caps}
+use Rattle.fs_cred.specs.Capabilities.{all_caps}
+
+abbrev pub is_newline : ℕ → Bool
+is_newline byte = byte == 10
+
+abbrev pub is_space : ℕ → Bool
+is_space byte = byte == 32
+
+-- the name of the line, and what follows it
+abbrev pub HasLine : List ℕ → List ℕ → List ℕ → Type 0
+HasLine text name rest = Contains (slice_split is_newline text) (name ++ rest)
+
+-- A plus may stand first.
+pub record SaysNumber (bits radix : ℕ) (word : List ℕ) (n : ℕ) : Type 0 where
+  pub numeral : IsNumeral radix (without_leading_plus word)
+  pub value : n ≡ digits_value radix (without_leading_plus word)
+  pub fits : n < 2 ^ bits
+
+-- an empty word says nothing
+pub data SaysIds : List (List ℕ) → List ℕ → Type 0 where
+  no_word : SaysIds [] []
+  empty_word : (words : List (List ℕ)) (ids : List ℕ) → SaysIds words ids → SaysIds ([] ∷ words) ids
+  one_id : (word : List ℕ) (id : ℕ) (words : List (List ℕ)) (ids : List ℕ) → SaysNumber 32 10 word id → SaysIds words ids
+      → SaysIds (word ∷ words) (id ∷ ids)
+
+abbrev pub groups_name : List ℕ
+groups_name = codes "Groups:\t"
+
+pub record SaysGroups (text groups : List ℕ) : Type 0 where
+  pub rest : List ℕ
+  pub line : HasLine text groups_name rest
+  pub ids : SaysIds (slice_split is_space rest) groups
+
+abbrev pub caps_name : List ℕ
+caps_name = codes "CapEff:\t"
+
+-- Those that are asked are the lowest bits, in the same order.
+pub record SaysCaps (text : List ℕ) (caps : Caps) : Type 0 where
+  pub rest : List ℕ
+  pub line : HasLine text caps_name rest
+  pub bits : ℕ
+  pub number : SaysNumber 64 16 rest bits
+  pub those : caps.0 ≡ bit_and bits all_caps.0

@@ -1,0 +1,79 @@
+//! Answers to requests, by their plans.
+ghost use Rattle.std.specs.Prelude.{◌≡◌, false, Option, IfOk, OnErr};
+ghost use Rattle.posix_acl.specs.AccessList.{AccessList};
+ghost use Rattle.fuse_state.specs.Servers.{Server};
+ghost use Rattle.fuse_plans.specs.declared.request.Asked.{Asked as AskedBy};
+ghost use Rattle.fuse_plans.specs.Plans.{Finish, CarriesOut};
+ghost use Rattle.fuse_plans.specs.Serving.{answered, plan_of};
+ghost use Rattle.fuse_serving.specs.Pieces.{Answers, AnswersWithMemory};
+
+use crate::caller::Caller;
+use crate::performer::Performer;
+use crate::question::{credential_of, value_in};
+use crate::room::MAX_READ;
+use fuse_plans::{Asked, Response, Stop};
+use fuse_protocol::{Operation, Request, Time};
+use std::alloc::{AllocError, Global};
+
+// The answer where memory is lacking.
+fn refused(operation: &Operation<'_>) -> Response
+    ensures { (asked : AskedBy) (value : Option (Option AccessList)) (s : Server)
+        → answered false (plan_of asked value operation.now) s ≡ Finish (result, s) }
+{
+    match operation {
+        Operation::Forget | Operation::Interrupt | Operation::BatchForget => Response::Silence,
+        _ => Response::Fails(Stop::ENOMEM),
+    }
+}
+
+// There is no room for the reply.
+fn reads_too_much(operation: &Operation<'_>) -> bool {
+    match operation {
+        Operation::Read(extent) | Operation::ReadDir(extent) => extent.size > MAX_READ,
+        _ => false,
+    }
+}
+
+// The answer, where there is memory for what is asked and added.
+fn ask<P: Performer>(
+    alloc: Global,
+    performer: &mut P,
+    spoken: &Request<'_>,
+    caller: &Caller,
+    now: Time,
+) -> Result<Response, AllocError>
+    ensures answered { IfOk result (AnswersWithMemory P.Serves spoken.now caller.now now
+        (P.machine performer.old) (P.machine performer.new) (P.server performer.old) (P.server performer.new)) }
+    ensures machine { OnErr result (P.machine performer.new ≡ P.machine performer.old) }
+    ensures kept { OnErr result (P.server performer.new ≡ P.server performer.old) }
+{
+    if reads_too_much(&spoken.operation) {
+        return Err(AllocError);
+    }
+    let cred = credential_of(alloc, spoken.uid, spoken.gid, caller)?;
+    let value = value_in(alloc, &spoken.operation)?;
+    let asked = Asked {
+        node: spoken.node,
+        cred,
+        now,
+    };
+    let response = performer.perform(asked, value, &spoken.operation)?;
+    Ok(response)
+}
+
+/// The answer to a request, whose plan is performed.
+pub(crate) fn answer<P: Performer>(
+    alloc: Global,
+    performer: &mut P,
+    spoken: &Request<'_>,
+    caller: &Caller,
+    now: Time,
+) -> Response
+    ensures { Answers P.Serves spoken.now caller.now now
+        (P.machine performer.old) (P.machine performer.new) (P.server performer.old) (P.server performer.new) result }
+{
+    match ask(alloc, performer, spoken, caller, now) {
+        Ok(response) => response,
+        Err(AllocError) => refused(&spoken.operation),
+    }
+}

@@ -1,0 +1,32 @@
+//! Serves the kernel's requests of FUSE, one after another: reads each, has its plan performed, and writes the reply.
+//!
+//! What is outside passes through two traits. A [`Kernel`] gives requests, takes replies and tells what is known of who asks; a
+//! [`Performer`] performs the plan of a request.
+#![tactic(auto)]
+
+mod answer;
+mod caller;
+mod fault;
+mod kernel;
+mod laws;
+mod performer;
+mod question;
+mod reply;
+mod room;
+mod serving;
+mod session;
+mod standard;
+mod status;
+mod witness;
+
+pub use caller::{Caller, Groups, MAX_GROUPS, TooManyGroups};
+pub use fault::ServeFault;
+pub use kernel::Kernel;
+pub use laws::who_asks_counts_only_where_learnt;
+pub use performer::Performer;
+pub use reply::ReplyFault;
+pub use room::{MAX_READ, ReplyRoom};
+pub use serving::serve;
+pub use standard::Standard;
+pub use status::caller_of_status;
+pub use witness::{Nobody, Witness};

@@ -1,0 +1,45 @@
+//! What performs the plans of requests.
+ghost use Rattle.std.specs.Prelude.{◌≡◌, true, IfOk, OnErr};
+ghost use Rattle.fuse_plans.specs.Plans.{CarriesOut};
+ghost use Rattle.fuse_plans.specs.Serving.{answered, plan_of};
+
+use fuse_plans::{Asked, Response};
+use fuse_protocol::Operation;
+use posix_acl::Acl;
+use std::alloc::AllocError;
+
+/// Performs the plans of requests on a machine, and keeps what a server does.
+pub trait Performer {
+    ghost use Rattle.fs_model.specs.declared.event.Event.{Event};
+    ghost use Rattle.fs_model.specs.declared.reply.Reply.{Reply};
+    ghost use Rattle.fuse_state.specs.Servers.{Server};
+
+    /// What is asked.
+    type Machine;
+
+    ghost machine: { Self → Self.Machine };
+
+    /// From one state of it to another by an event with its reply.
+    ghost Serves: { Self.Machine → Event → Reply → Self.Machine → Type 0 };
+
+    /// What is kept.
+    ghost server: { Self → Server };
+
+    /// Whether it was told to end.
+    fn is_ended(&self) -> bool
+        ensures { result ≡ (server self.now).ended };
+
+    /// Performs the plan of an operation, with the ACL that the value of an attribute says. Where memory is lacking for what the
+    /// plan adds, nothing is asked and nothing changes.
+    fn perform(
+        &mut self,
+        asked: Asked,
+        value: Option<Option<Acl>>,
+        operation: &Operation<'_>,
+    ) -> Result<Response, AllocError>
+        ensures performed { IfOk result (λ response.
+            CarriesOut Serves (answered true (plan_of asked value operation.now) (server self.old))
+            (machine self.old) (machine self.new) (response, server self.new)) }
+        ensures machine { OnErr result (machine self.new ≡ machine self.old) }
+        ensures kept { OnErr result (server self.new ≡ server self.old) };
+}

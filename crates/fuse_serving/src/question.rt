@@ -1,0 +1,102 @@
+//! Who asks, and with what: from the bytes of a request and what is known beside them.
+ghost use Rattle.std.specs.Prelude.{◌≡◌, IfOk};
+ghost use Rattle.fs_cred.specs.Capabilities.{usual_caps};
+ghost use Rattle.fuse_plans.specs.Protocol.{IsValueOf, HasValue};
+ghost use Rattle.fuse_plans.specs.Requests.{caps_left, credential_with};
+ghost use Rattle.fuse_serving.specs.Rounds.{needs_caller};
+
+use crate::caller::Caller;
+use bitflags::Flags;
+use fs_cred::{Caps, Cred, CredFault};
+use fuse_protocol::{AclValueFault, Operation, read_acl_value};
+use posix_acl::{Acl, AclFault};
+use std::alloc::{AllocError, Global};
+
+fn usual_caps(uid: u32) -> Caps
+    ensures { result ≡ usual_caps uid }
+{
+    if uid == 0 { Caps::all() } else { Caps::empty() }
+}
+
+// Those of the user, less those that the process lacks.
+fn caps_left(uid: u32, held: Caps) -> Caps
+    ensures { result ≡ caps_left uid held }
+{
+    Caps::from_bits_retain(usual_caps(uid).bits() & held.bits())
+}
+
+/// The credential of who asks, unless not all groups are known.
+pub(crate) fn credential_of(
+    alloc: Global,
+    uid: u32,
+    gid: u32,
+    caller: &Caller,
+) -> Result<Option<Cred>, AllocError>
+    ensures { IfOk result (λ cred. cred ≡ credential_with uid gid caller.now.caps caller.now.groups) }
+{
+    let Some(groups) = &caller.groups else {
+        return Ok(None);
+    };
+    let caps = caps_left(uid, caller.caps);
+    match Cred::with_caps(alloc, uid, gid, groups.ids(), caps) {
+        Ok(cred) => Ok(Some(cred)),
+        Err(CredFault::TooManyGroups) => Ok(None),
+        Err(CredFault::OutOfMemory) => Err(AllocError),
+    }
+}
+
+/// The ACL that the value of an attribute says, or that there be none; nothing where it says neither.
+pub(crate) fn acl_of_value(alloc: Global, value: &[u8]) -> Result<Option<Option<Acl>>, AllocError>
+    ensures { IfOk result (IsValueOf value.now) }
+{
+    let entries = match read_acl_value(alloc, value) {
+        Ok(entries) => entries,
+        Err(AclValueFault::Malformed) => return Ok(None),
+        Err(AclValueFault::OutOfMemory) => return Err(AllocError),
+    };
+    if entries.is_empty() {
+        return Ok(Some(None));
+    }
+    match Acl::from_entries(alloc, &entries) {
+        Ok(acl) => Ok(Some(Some(acl))),
+        Err(AclFault::OutOfMemory) => Err(AllocError),
+        Err(_) => Ok(None),
+    }
+}
+
+/// The same of the value in an operation, if there is one.
+pub(crate) fn value_in(
+    alloc: Global,
+    operation: &Operation<'_>,
+) -> Result<Option<Option<Acl>>, AllocError>
+    ensures { IfOk result (HasValue operation.now) }
+{
+    match operation {
+        Operation::SetXAttr { value, .. } => acl_of_value(alloc, value.bytes()),
+        _ => Ok(None),
+    }
+}
+
+/// Whether the plan of an operation asks who asks.
+pub(crate) fn needs_caller(operation: &Operation<'_>) -> bool
+    ensures { result ≡ needs_caller operation.now }
+{
+    match operation {
+        Operation::Lookup(_)
+        | Operation::SetAttr(_)
+        | Operation::SymLink { .. }
+        | Operation::MkNod { .. }
+        | Operation::MkDir { .. }
+        | Operation::Unlink(_)
+        | Operation::RmDir(_)
+        | Operation::Rename { .. }
+        | Operation::Link { .. }
+        | Operation::Open(_)
+        | Operation::SetXAttr { .. }
+        | Operation::RemoveXAttr(_)
+        | Operation::OpenDir
+        | Operation::Access(_)
+        | Operation::Create { .. } => true,
+        _ => false,
+    }
+}

@@ -1,0 +1,198 @@
+//! The bytes of replies.
+ghost use Rattle.std.specs.Prelude.{◌≡◌, ◌+◌, IfOk, OnOk, IsTrue};
+ghost use Rattle.posix_acl.specs.AccessList.{entries_of};
+ghost use Rattle.fuse_protocol.specs.AclValues.{acl_value_bytes};
+ghost use Rattle.fuse_protocol.specs.Replies.{IsReply, reply_bytes};
+ghost use Rattle.fuse_protocol.specs.declared.reply.Reply.TheVariants.{Bytes as BytesReply, Count as CountReply, Error as ErrorReply};
+ghost use Rattle.fuse_plans.specs.Protocol.{type_bits, attr_of, reply_of_body, response_bytes};
+ghost use Rattle.fuse_plans.specs.Stops.{stop_number};
+ghost use Rattle.fuse_serving.specs.Rounds.{has_reply};
+
+use crate::room::ReplyRoom;
+use fs_model::FileType;
+use fuse_plans::{Attributes, ReplyBody, Response, Stop};
+use fuse_protocol::{Attr, Piece, Reply, Room, push_acl_value, push_reply};
+use posix_acl::Acl;
+use std::alloc::AllocError;
+
+/// Why there are no bytes of a reply.
+#[derive(Clone, Copy, Debug)]
+pub enum ReplyFault {
+    /// A number doesn't fit into its field.
+    TooLarge,
+    /// Memory ran out.
+    OutOfMemory,
+}
+
+impl From<AllocError> for ReplyFault {
+    ghost use Rattle.std.specs.Prelude.{◌≡◌};
+    ghost use Rattle.fuse_serving.specs.declared.reply.ReplyFault.TheVariants.{OutOfMemory};
+
+    ghost from_gives = { λ _ e. e ≡ OutOfMemory };
+
+    fn from(_error: AllocError) -> ReplyFault {
+        ReplyFault::OutOfMemory
+    }
+}
+
+// The most bytes of a body: with its header a reply has fewer than 2^32.
+const MAX_BODY: usize = 4_294_967_279;
+
+fn type_bits(kind: FileType) -> u32
+    ensures { result ≡ type_bits kind }
+{
+    match kind {
+        FileType::File => 0o100000,
+        FileType::Directory => 0o040000,
+        FileType::Link => 0o120000,
+    }
+}
+
+// The type and the mode of an object.
+fn type_and_mode(kind: FileType, mode: u16) -> u32
+    ensures { result ≡ type_bits kind + mode }
+{
+    type_bits(kind) + u32::from(mode)
+}
+
+fn attr_of(attributes: &Attributes) -> Attr
+    ensures { result ≡ attr_of attributes.now }
+{
+    let Attributes { status, times } = *attributes;
+    Attr {
+        inode: u64::from(status.inode),
+        size: status.size,
+        blocks: status.size.div_ceil(512),
+        atime: times.atime,
+        mtime: times.mtime,
+        ctime: times.ctime,
+        mode: type_and_mode(status.kind, status.mode),
+        links: status.links,
+        uid: status.owner,
+        gid: status.group,
+        block_size: 4096,
+    }
+}
+
+// The reply, and nothing else.
+fn write_one(to: &mut Vec<u8>, unique: u64, reply: &Reply<'_>) -> Result<(), AllocError>
+    requires { IsReply reply.now }
+    ensures { OnOk result (to.new.items ≡ reply_bytes unique reply.now) }
+{
+    to.clear();
+    push_reply(to, unique, reply)?;
+    Ok(())
+}
+
+fn write_bytes(to: &mut Vec<u8>, unique: u64, bytes: &[u8]) -> Result<(), ReplyFault>
+    ensures { OnOk result (to.new.items ≡ reply_bytes unique (BytesReply bytes.now)) }
+{
+    if bytes.len() > MAX_BODY {
+        return Err(ReplyFault::TooLarge);
+    }
+    write_one(to, unique, &Reply::Bytes(Piece::new(bytes)))?;
+    Ok(())
+}
+
+fn write_count(to: &mut Vec<u8>, unique: u64, count: usize) -> Result<(), ReplyFault>
+    ensures { OnOk result (to.new.items ≡ reply_bytes unique (CountReply count)) }
+{
+    let Ok(count) = u32::try_from(count) else {
+        return Err(ReplyFault::TooLarge);
+    };
+    write_one(to, unique, &Reply::Count(count))?;
+    Ok(())
+}
+
+fn write_acl(room: &mut ReplyRoom, unique: u64, acl: &Acl) -> Result<(), ReplyFault>
+    ensures { OnOk result (room.new.reply.items ≡ reply_bytes unique (BytesReply (acl_value_bytes (entries_of acl.now)))) }
+{
+    room.value.clear();
+    push_acl_value(&mut room.value, acl)?;
+    write_bytes(&mut room.reply, unique, &room.value)?;
+    Ok(())
+}
+
+fn room_of(sectors: u32, free_sectors: u32, inodes: u32, free_inodes: u32) -> Room
+    ensures { result ≡ record {
+      blocks = sectors;
+      free_blocks = free_sectors;
+      inodes = inodes;
+      free_inodes = free_inodes;
+      block_size = 512;
+      max_name = 120;
+    } }
+{
+    Room {
+        blocks: u64::from(sectors),
+        free_blocks: u64::from(free_sectors),
+        inodes: u64::from(inodes),
+        free_inodes: u64::from(free_inodes),
+        block_size: 512,
+        max_name: 120,
+    }
+}
+
+// The reply to a request that didn't fail.
+fn write_body(room: &mut ReplyRoom, unique: u64, body: &ReplyBody) -> Result<(), ReplyFault>
+    ensures { OnOk result (room.new.reply.items ≡ reply_bytes unique (reply_of_body body.now)) }
+{
+    let reply = match body {
+        ReplyBody::Bytes(bytes) => return write_bytes(&mut room.reply, unique, bytes.bytes()),
+        ReplyBody::Acl(acl) => return write_acl(room, unique, acl),
+        ReplyBody::Wrote(count) | ReplyBody::Size(count) => {
+            return write_count(&mut room.reply, unique, *count);
+        }
+        ReplyBody::Nothing => Reply::Done,
+        ReplyBody::Found(node, attributes) => Reply::Entry {
+            node: *node,
+            attr: attr_of(attributes),
+        },
+        ReplyBody::Shown(attributes) => Reply::Attr(attr_of(attributes)),
+        ReplyBody::Opened(handle) => Reply::Open(*handle),
+        ReplyBody::Created(node, attributes, handle) => Reply::Created {
+            node: *node,
+            attr: attr_of(attributes),
+            handle: *handle,
+        },
+        ReplyBody::Space {
+            sectors,
+            free_sectors,
+            inodes,
+            free_inodes,
+        } => Reply::StatFs(room_of(*sectors, *free_sectors, *inodes, *free_inodes)),
+        ReplyBody::Agreed(terms) => Reply::Init(*terms),
+    };
+    write_one(&mut room.reply, unique, &reply)?;
+    Ok(())
+}
+
+// The reply to a request that failed.
+fn write_failure(to: &mut Vec<u8>, unique: u64, stop: Stop) -> Result<(), AllocError>
+    ensures { OnOk result (to.new.items ≡ reply_bytes unique (ErrorReply (stop_number stop))) }
+{
+    write_one(to, unique, &Reply::Error(u16::from(stop.number())))?;
+    Ok(())
+}
+
+/// Writes the reply to the request with this number, if there is one, and tells so.
+pub(crate) fn write_response(
+    room: &mut ReplyRoom,
+    unique: u64,
+    response: &Response,
+) -> Result<bool, ReplyFault>
+    ensures is { IfOk result (λ is. is ≡ has_reply response.now) }
+    ensures bytes { IfOk result (λ is. IsTrue is → room.new.reply.items ≡ response_bytes unique response.now) }
+{
+    match response {
+        Response::Silence => Ok(false),
+        Response::Says(body) => {
+            write_body(room, unique, body)?;
+            Ok(true)
+        }
+        Response::Fails(stop) => {
+            write_failure(&mut room.reply, unique, *stop)?;
+            Ok(true)
+        }
+    }
+}

@@ -1,0 +1,145 @@
+//! The loop of a server.
+ghost use Rattle.std.specs.Prelude.{◌≡◌, IfOk, OnOk};
+ghost use Rattle.fuse_serving.specs.Exchanges.{Passes};
+ghost use Rattle.fuse_serving.specs.Rounds.{tells, asks_for, ServedAll};
+ghost use Rattle.fuse_serving.specs.Pieces.{ReadComesTo, ComesTo, SpokenServed, scene};
+
+use crate::answer::answer;
+use crate::caller::Caller;
+use crate::fault::ServeFault;
+use crate::kernel::Kernel;
+use crate::performer::Performer;
+use crate::question::needs_caller;
+use crate::reply::write_response;
+use crate::room::ReplyRoom;
+use crate::witness::Witness;
+use fuse_plans::{Response, Stop};
+use fuse_protocol::{Request, RequestFault, parse_request};
+use std::alloc::Global;
+
+// Tells the answer, and whether it is taken; where there is no reply nothing is told.
+fn tell<K: Kernel>(
+    kernel: &mut K,
+    room: &mut ReplyRoom,
+    unique: u64,
+    response: &Response,
+) -> Result<bool, ServeFault>
+    ensures { IfOk result (λ taken. Passes K.Does kernel.old (tells unique response.now taken) kernel.new) }
+{
+    if !write_response(room, unique, response)? {
+        return Ok(true);
+    }
+    match kernel.write(&room.reply) {
+        Ok(taken) => Ok(taken),
+        Err(fault) => Err(ServeFault::Write(fault)),
+    }
+}
+
+// What is known of who asks, where that counts.
+#[tactic(auto, using(crate::proofs::Passing::learns_nothing, crate::proofs::Passing::learns_one))]
+fn learn<K: Kernel>(kernel: &mut K, spoken: &Request<'_>) -> Caller
+    ensures { Passes K.Does kernel.old (asks_for spoken.now result) kernel.new }
+{
+    if !needs_caller(&spoken.operation) {
+        return Caller::unknown();
+    }
+    kernel.caller(spoken.pid)
+}
+
+// Serves a request whose body is of its form.
+fn serve_spoken<P: Performer, K: Kernel, W: Witness>(
+    alloc: Global,
+    performer: &mut P,
+    kernel: &mut K,
+    witness: &mut W,
+    room: &mut ReplyRoom,
+    spoken: &Request<'_>,
+) -> Result<(), ServeFault>
+    ensures { OnOk result (SpokenServed P.Serves K.Does spoken.now
+        (scene P.machine P.server performer.old kernel.old) (scene P.machine P.server performer.new kernel.new)) }
+{
+    let now = match kernel.now() {
+        Ok(now) => now,
+        Err(fault) => return Err(ServeFault::Clock(fault)),
+    };
+    let caller = learn(kernel, spoken);
+    let response = answer(alloc, performer, spoken, &caller, now);
+    witness.see(spoken, &response, now);
+    let _taken = tell(kernel, room, spoken.unique, &response)?;
+    Ok(())
+}
+
+// Serves the request that was read; false where it isn't whole.
+fn serve_read<P: Performer, K: Kernel, W: Witness>(
+    alloc: Global,
+    performer: &mut P,
+    kernel: &mut K,
+    witness: &mut W,
+    room: &mut ReplyRoom,
+    bytes: &[u8],
+) -> Result<bool, ServeFault>
+    ensures { IfOk result (ReadComesTo P.Serves K.Does bytes.now
+        (scene P.machine P.server performer.old kernel.old) (scene P.machine P.server performer.new kernel.new)) }
+{
+    match parse_request(bytes) {
+        Ok(spoken) => {
+            serve_spoken(alloc, performer, kernel, witness, room, &spoken)?;
+            Ok(true)
+        }
+        Err(RequestFault::Malformed(unique)) => {
+            let _taken = tell(kernel, room, unique, &Response::Fails(Stop::EINVAL))?;
+            Ok(true)
+        }
+        Err(RequestFault::NotWhole) => Ok(false),
+    }
+}
+
+// Serves the next request; false where no more are served.
+fn serve_next<P: Performer, K: Kernel, W: Witness>(
+    alloc: Global,
+    performer: &mut P,
+    kernel: &mut K,
+    witness: &mut W,
+    buffer: &mut [u8],
+    room: &mut ReplyRoom,
+) -> Result<bool, ServeFault>
+    ensures { IfOk result (ComesTo P.Serves K.Does
+        (scene P.machine P.server performer.old kernel.old) (scene P.machine P.server performer.new kernel.new)) }
+{
+    if performer.is_ended() {
+        return Ok(false);
+    }
+    let size = match kernel.read(buffer) {
+        Ok(Some(size)) => size,
+        Ok(None) => return Ok(false),
+        Err(fault) => return Err(ServeFault::Read(fault)),
+    };
+    let goes_on = serve_read(alloc, performer, kernel, witness, room, &buffer[..size])?;
+    Ok(goes_on)
+}
+
+/// Serves the kernel's requests, one after another, until it is told to end, no more come, or one isn't whole.
+///
+/// The buffer has to be as large as the kernel asks: at least 8,192 bytes, and 80 more than the largest write.
+///
+/// # Errors
+///
+/// See [`ServeFault`].
+pub fn serve<P: Performer, K: Kernel, W: Witness>(
+    alloc: Global,
+    performer: &mut P,
+    kernel: &mut K,
+    witness: &mut W,
+    buffer: &mut [u8],
+    room: &mut ReplyRoom,
+) -> Result<(), ServeFault>
+    ensures { OnOk result (ServedAll P.Serves K.Does
+        (scene P.machine P.server performer.old kernel.old) (scene P.machine P.server performer.new kernel.new)) }
+{
+    for _ in 0..u64::MAX {
+        if !serve_next(alloc, performer, kernel, witness, buffer, room)? {
+            return Ok(());
+        }
+    }
+    Ok(())
+}

@@ -1,0 +1,30 @@
+//! A session performs the plans of requests.
+
+use crate::performer::Performer;
+use fuse_plans::{Asked, Machine, Response, Session};
+use fuse_protocol::Operation;
+use posix_acl::Acl;
+use std::alloc::AllocError;
+
+impl<M: Machine> Performer for Session<M> {
+    type Machine = M;
+
+    ghost machine = { λ session. session.machine };
+
+    ghost Serves = { M.Serves };
+
+    ghost server = { λ session. session.server.server };
+
+    fn is_ended(&self) -> bool {
+        self.is_ended()
+    }
+
+    fn perform(
+        &mut self,
+        asked: Asked,
+        value: Option<Option<Acl>>,
+        operation: &Operation<'_>,
+    ) -> Result<Response, AllocError> {
+        self.perform(asked, value, operation)
+    }
+}

@@ -1,0 +1,99 @@
+//! The kernel at the standard input and output of a process.
+
+use crate::caller::Caller;
+use crate::kernel::Kernel;
+use crate::status::caller_of_status;
+use fuse_protocol::Time;
+use std::alloc::Global;
+use std::fs;
+use std::io::{self, ErrorKind, Read, Write};
+use std::rt::{Clock, Files};
+use std::time::{SystemTime, UNIX_EPOCH};
+
+// The errors of errno(3) that tell more than a failure.
+const ENOENT: i32 = 2;
+
+const EINTR: i32 = 4;
+
+const ENODEV: i32 = 19;
+
+/// Reads requests from a stream and writes replies to another: who mounts opens /dev/fuse and gives it as both. Of callers
+/// /proc tells, and of the time the system's clock.
+///
+/// std tells nothing of what is read from a device or written to it, so nothing is claimed of it here.
+#[derive(Drop)]
+pub struct Standard<R, I, O> {
+    rt: R,
+    input: I,
+    output: O,
+}
+
+impl<R, I, O> Standard<R, I, O> {
+    /// The kernel at these streams.
+    pub fn new(rt: R, input: I, output: O) -> Standard<R, I, O> {
+        Standard { rt, input, output }
+    }
+}
+
+fn is_errno(fault: &io::Error, errno: i32) -> bool {
+    fault.raw_os_error() == Some(errno)
+}
+
+// What /proc shows of a process.
+fn look_up<R: Files + AllocGlobal>(rt: &R, pid: u32) -> io::Result<Caller> {
+    let alloc: Global = rt.alloc();
+    let path = format!(in alloc; "/proc/{pid}/status")?;
+    let text = fs::read(rt, path.as_str())?;
+    Ok(caller_of_status(&text))
+}
+
+fn time_of<R: Clock>(rt: &R) -> io::Result<Time> {
+    match SystemTime::now(rt)?.duration_since(UNIX_EPOCH) {
+        Ok(since) => Ok(Time {
+            seconds: since.as_secs(),
+            nanoseconds: since.subsec_nanos(),
+        }),
+        Err(_) => Err(io::Error::from(ErrorKind::InvalidData)),
+    }
+}
+
+impl<R: Files + AllocGlobal + Clock, I: Read, O: Write> Kernel for Standard<R, I, O> {
+    ghost use Rattle.std.specs.Prelude.{⊤};
+
+    ghost Does = { λ old exchange new. ⊤ };
+
+    fn read(&mut self, buffer: &mut [u8]) -> io::Result<Option<usize>> {
+        for _ in 0..u64::MAX {
+            match self.input.read(buffer) {
+                Ok(0) => return Ok(None),
+                Ok(size) => return Ok(Some(size)),
+                Err(fault) if is_errno(&fault, EINTR) => {}
+                // The request was given up while it was read.
+                Err(fault) if is_errno(&fault, ENOENT) => {}
+                Err(fault) if is_errno(&fault, ENODEV) => return Ok(None),
+                Err(fault) => return Err(fault),
+            }
+        }
+        Ok(None)
+    }
+
+    fn write(&mut self, reply: &[u8]) -> io::Result<bool> {
+        match self.output.write(reply) {
+            Ok(size) if size == reply.len() => Ok(true),
+            Ok(_) => Err(io::Error::from(ErrorKind::WriteZero)),
+            Err(fault) if is_errno(&fault, ENOENT) => Ok(false),
+            Err(fault) => Err(fault),
+        }
+    }
+
+    fn caller(&mut self, pid: u32) -> Caller {
+        match look_up(&self.rt, pid) {
+            Ok(caller) => caller,
+            Err(_) => Caller::unknown(),
+        }
+    }
+
+    fn now(&mut self) -> io::Result<Time> {
+        time_of(&self.rt)
+    }
+}

@@ -1,0 +1,215 @@
+//! What the streams of a process and /proc tell a server: no clause says any of it.
+use bitflags::Flags;
+use fuse_serving::{Caller, Kernel, Standard, caller_of_status};
+use std::alloc::Global;
+use std::io::{self, ErrorKind, Read, Write};
+use std::test::Fail;
+use std::{fs, str};
+
+// What a read comes to.
+#[derive(Clone, Copy)]
+enum Turn {
+    Gives(&'static [u8]),
+    Fails(i32),
+}
+
+// One after another, and then the end.
+#[derive(Drop)]
+struct Input {
+    turns: &'static [Turn],
+    next: usize,
+}
+
+impl Read for Input {
+    fn read(&mut self, buffer: &mut [u8]) -> io::Result<usize> {
+        let Some(turn) = self.turns.get(self.next) else {
+            return Ok(0);
+        };
+        self.next = self.next.saturating_add(1);
+        match *turn {
+            Turn::Gives(bytes) => {
+                let Some(front) = buffer.get_mut(..bytes.len()) else {
+                    return Err(io::Error::from(ErrorKind::InvalidInput));
+                };
+                front.copy_from_slice(bytes);
+                Ok(bytes.len())
+            }
+            Turn::Fails(errno) => Err(io::Error::from_raw_os_error(errno)),
+        }
+    }
+}
+
+// What each write comes to.
+#[derive(Clone, Copy)]
+enum Output {
+    Takes,
+    TakesLess,
+    Fails(i32),
+}
+
+impl Write for Output {
+    fn write(&mut self, bytes: &[u8]) -> io::Result<usize> {
+        match *self {
+            Output::Takes => Ok(bytes.len()),
+            Output::TakesLess => Ok(bytes.len().saturating_sub(1)),
+            Output::Fails(errno) => Err(io::Error::from_raw_os_error(errno)),
+        }
+    }
+
+    fn flush(&mut self) -> io::Result<()> {
+        Ok(())
+    }
+}
+
+fn kernel_at(
+    rt: HostRuntime,
+    turns: &'static [Turn],
+    output: Output,
+) -> Standard<HostRuntime, Input, Output> {
+    Standard::new(rt, Input { turns, next: 0 }, output)
+}
+
+// How many bytes each of three reads had: nothing at the end, and nothing at all where it failed.
+type Sizes = [Option<Option<usize>>; 3];
+
+fn size_of<K: Kernel>(kernel: &mut K) -> Option<Option<usize>> {
+    let mut buffer = [0; 8];
+    match kernel.read(&mut buffer) {
+        Ok(size) => Some(size),
+        Err(_) => None,
+    }
+}
+
+fn sizes_of<K: Kernel + Drop>(kernel: K) -> Sizes {
+    let mut kernel = kernel;
+    [
+        size_of(&mut kernel),
+        size_of(&mut kernel),
+        size_of(&mut kernel),
+    ]
+}
+
+const END: Option<Option<usize>> = Some(None);
+
+// A read that was interrupted is done again, also where its request was given up, and one of a device that is gone is the end.
+const READS: [(&[Turn], Sizes); 5] = [
+    (&[], [END, END, END]),
+    (
+        &[Turn::Gives(b"abc"), Turn::Gives(b"de")],
+        [Some(Some(3)), Some(Some(2)), END],
+    ),
+    (
+        &[Turn::Fails(4), Turn::Fails(2), Turn::Gives(b"a")],
+        [Some(Some(1)), END, END],
+    ),
+    (
+        &[Turn::Fails(19), Turn::Gives(b"a")],
+        [END, Some(Some(1)), END],
+    ),
+    (
+        &[Turn::Fails(5), Turn::Gives(b"a")],
+        [None, Some(Some(1)), END],
+    ),
+];
+
+fn taken_by<K: Kernel + Drop>(kernel: K) -> Option<bool> {
+    let mut kernel = kernel;
+    match kernel.write(b"reply") {
+        Ok(taken) => Some(taken),
+        Err(_) => None,
+    }
+}
+
+// A reply that nobody waits for is left out.
+const WRITES: [(Output, Option<bool>); 4] = [
+    (Output::Takes, Some(true)),
+    (Output::TakesLess, None),
+    (Output::Fails(2), Some(false)),
+    (Output::Fails(22), None),
+];
+
+const STATUS: &[u8] =
+    b"Name:\tcat\nUmask:\t0022\nUid:\t1000\t1000\t1000\t1000\nGroups:\t4 24 4294967295 \nCapEff:\t000001ffffffffff\nSeccomp:\t0\n";
+
+const NO_GROUPS: &[u8] = b"Name:\tGroups:\t7\nGroups:\t \nCapEff:\t0000000000000009\n";
+
+const MOST_GROUPS: &[u8] =
+    b"Groups:\t1 2 3 4 5 6 7 8 9 10 11 12 13 14 15 16 \nCapEff:\t0000000000000020\n";
+
+const MANY_GROUPS: &[u8] =
+    b"Groups:\t1 2 3 4 5 6 7 8 9 10 11 12 13 14 15 16 17 \nCapEff:\t0000000000000000\n";
+
+const BAD_GROUPS: &[u8] = b"Groups:\t1 4294967296 \n";
+
+// How many groups, the last of them, and the bits of the capabilities.
+type Known = (Option<(usize, Option<u32>)>, u32);
+
+fn known_of(caller: &Caller) -> Known {
+    let groups = match &caller.groups {
+        Some(groups) => Some((groups.ids().len(), groups.ids().last().copied())),
+        None => None,
+    };
+    (groups, caller.caps.bits())
+}
+
+fn known_in(status: &[u8]) -> Known {
+    known_of(&caller_of_status(status))
+}
+
+const TEXTS: [(&[u8], Known); 6] = [
+    (STATUS, (Some((3, Some(u32::MAX))), 31)),
+    (NO_GROUPS, (Some((0, None)), 9)),
+    (MOST_GROUPS, (Some((16, Some(16))), 0)),
+    (MANY_GROUPS, (None, 0)),
+    (BAD_GROUPS, (None, 0)),
+    (b"", (None, 0)),
+];
+
+#[test]
+fn what_proc_tells(rt: HostRuntime) {
+    for (status, wanted) in TEXTS {
+        let seen = known_in(status);
+        assert!(rt; seen == wanted, "{seen:?}");
+    }
+}
+
+fn pid_in(status: &[u8]) -> Option<u32> {
+    for line in status.split(|byte| *byte == b'\n') {
+        if let Some(pid) = line.strip_prefix(b"Pid:\t") {
+            return str::from_utf8(pid).ok()?.parse::<u32>().ok();
+        }
+    }
+    None
+}
+
+// Its process, and what it says of that.
+fn told_by(status: Vec<u8>) -> (u32, Known) {
+    (pid_in(&status).unwrap_or(0), known_in(&status))
+}
+
+// What is known of a process and of none, and whether the time is.
+fn learnt_from<K: Kernel + Drop>(kernel: K, pid: u32) -> (Known, Known, bool) {
+    let mut kernel = kernel;
+    let own = known_of(&kernel.caller(pid));
+    let none = known_of(&kernel.caller(0));
+    (own, none, kernel.now().is_ok())
+}
+
+#[test]
+fn what_passes_at_streams(rt: HostRuntime) -> Result<(), Fail> {
+    let (pid, own) = told_by(fs::read(&rt, "/proc/self/status")?);
+    for (turns, wanted) in READS {
+        let seen = sizes_of(kernel_at(rt, turns, Output::Takes));
+        assert!(rt; seen == wanted, "{seen:?}");
+    }
+    for (output, wanted) in WRITES {
+        let seen = taken_by(kernel_at(rt, &[], output));
+        assert!(rt; seen == wanted, "{seen:?}");
+    }
+    let seen = learnt_from(kernel_at(rt, &[], Output::Takes), pid);
+    assert!(rt;
+        own.0.is_some() && seen == (own, (None, 0), true),
+        "{seen:?}"
+    );
+    Ok(())
+}
