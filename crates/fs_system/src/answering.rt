@@ -2,6 +2,7 @@
 
 ghost use Rattle.std.specs.Prelude.{◌≡◌, ◌∷◌, [], Ok, IsTrue};
 ghost use Rattle.fs_model.specs.Steps.{is_of_machine};
+ghost use Rattle.fs_model.specs.declared.event.Event.TheVariants.{Call as Calls, Spawn};
 ghost use Rattle.fs_model.specs.declared.event.EventReply.TheVariants.{Reply as Replies};
 ghost use Rattle.fs_system.specs.Doing.{Happens};
 ghost use Rattle.fs_system.specs.Playing.{Plays};
@@ -9,8 +10,8 @@ ghost use Rattle.fs_system.specs.Mounting.{LeavesHalted};
 ghost use Rattle.fs_system.specs.Replies.{spawned, finished, counted};
 
 use crate::fs::Fs;
-use fs_cred::{Errno, Refusal};
-use fs_model::{Event, Reply};
+use fs_cred::{Cred, Errno, Refusal};
+use fs_model::{Call, Event, Reply};
 use sector_disk::Disk;
 
 // The reply to spawn.
@@ -75,5 +76,21 @@ impl<D: Disk + Drop> Fs<D> {
     {
         self.forget();
         self.answer(event)
+    }
+
+    /// The same of a call of a process.
+    pub fn serve_call(&mut self, pid: usize, call: &Call) -> Reply
+        ensures { Plays D.state (Ok self.old) (Calls pid call.now ∷ []) (Replies result ∷ []) (Ok self.new) }
+    {
+        self.forget();
+        self.call(pid, call)
+    }
+
+    /// The same of a new process, which gets a copy of this credential.
+    pub fn serve_spawn(&mut self, cred: &Cred) -> Reply
+        ensures { Plays D.state (Ok self.old) (Spawn cred.now ∷ []) (Replies result ∷ []) (Ok self.new) }
+    {
+        self.forget();
+        spawned(self.spawn_copy(cred))
     }
 }

@@ -188,6 +188,13 @@ impl<D: Disk + Drop> Fs<D> {
         let _base = &self.base;
     }
 
+    /// Where the parts of its disk lie.
+    pub fn place(&self) -> Place
+        ensures { result ≡ self.now.place }
+    {
+        self.place
+    }
+
     // Whether a commit has failed.
     fn is_halted(&self) -> bool
         ensures { result ≡ is_halted self.now.base }

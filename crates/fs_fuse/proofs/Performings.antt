@@ -1,0 +1,69 @@
+-- What a session does on a file system is a history of what its plans ask.
+use Rattle.std.specs.Prelude.{◌≡◌, ◌⊎◌, List, [], ◌∷◌, map, length, Result, Ok, Err, OnOk}
+use Rattle.std.proofs.Common.{refl, inl, inr, subst, sym, ap}
+use Rattle.sector_disk.specs.Disk.{DiskState}
+use Rattle.fs_model.specs.declared.event.EventReply.TheVariants.{Reply as Replies}
+use Rattle.fs_system.specs.Seen.{System}
+use Rattle.fs_system.proofs.Played.{plays_nothing, plays_joined}
+use Rattle.fuse_state.specs.Servers.{new_server}
+use Rattle.fuse_state.specs.declared.settings.Settings.{Settings}
+use Rattle.fuse_plans.specs.Plans.{Plan, CarriesOut, finishes, asks}
+use Rattle.fuse_plans.specs.Serving.{requests_plan}
+use Rattle.fuse_serving.specs.Exchanges.{Exchange}
+use Rattle.fuse_serving.specs.Rounds.{Scene, Round, AreServed, IsEnd, Ends, ServedAll, rounds_limit}
+use Rattle.fs_fuse.specs.Performing.{ServesOne, Performed, Served, ServedFrom}
+
+module _ {D X : Type 0} (state : D → DiskState) where
+  pub performed : (plan : Plan X) (old new : System D) (x : X) → CarriesOut (ServesOne state) plan old new x → Performed state plan old new x
+  performed plan old new x (finishes _ _) = record { events = []; replies = []; asked = refl; plays = plays_nothing state (Ok old) }
+  performed plan old new x (asks e next reply _ mid _ _ serves rest) =
+      let more : Performed state (next reply) mid new x = performed (next reply) mid new x rest in
+      record {
+        events = e ∷ more.events;
+        replies = reply ∷ more.replies;
+        asked = (refl, more.asked);
+        plays = plays_joined state (Ok old) (Ok mid) (Ok new) (e ∷ []) more.events (Replies reply ∷ []) (map Replies more.replies) serves more.plays;
+      }
+
+module _ {D K : Type 0} (state : D → DiskState) (Does : K → Exchange → K → Type 0) (settings : Settings) where
+  -- a session that was served, until its last request
+  pub served_until : (old last : Scene (System D) K) (new : System D) (after : K) (rounds : List Round)
+      → old.server ≡ new_server settings
+      → AreServed (ServesOne state) Does old rounds last → new ≡ last.machine
+      → IsEnd Does last.server last.kernel after ⊎ ((length rounds ≡ rounds_limit) × (after ≡ last.kernel))
+      → ServedFrom state Does settings old.machine new old.kernel after
+  served_until old last new after rounds begun are is end =
+      let done : Served state (map (λ r. r.request) rounds) old.machine last.machine old.server last.server (map (λ r. r.response) rounds) =
+      performed state (requests_plan (map (λ r. r.request) rounds) old.server) old.machine last.machine (map (λ r. r.response) rounds, last.server) are.performs in
+      record {
+        rounds = rounds;
+        server = last.server;
+        last = last.kernel;
+        hears = are.hears;
+        served = subst (λ n. Served state (map (λ r. r.request) rounds) old.machine n (new_server settings) last.server (map (λ r. r.response) rounds)) (sym is)
+            (subst (λ s. Served state (map (λ r. r.request) rounds) old.machine last.machine s last.server (map (λ r. r.response) rounds)) begun done);
+        passes = are.passes;
+        is_written = are.is_written;
+        end = end;
+      }
+
+  -- a session that was served
+  pub served_from : (old new : Scene (System D) K) → old.server ≡ new_server settings → ServedAll (ServesOne state) Does old new
+      → ServedFrom state Does settings old.machine new.machine old.kernel new.kernel
+  served_from old new begun all = ends all.end
+    where
+      ends : Ends Does all.last new ⊎ ((length all.rounds ≡ rounds_limit) × (new ≡ all.last))
+          → ServedFrom state Does settings old.machine new.machine old.kernel new.kernel
+      ends (inl e) = served_until old all.last new.machine new.kernel all.rounds begun all.served e.machine (inl e.is_end)
+      ends (inr many) =
+          served_until old all.last new.machine new.kernel all.rounds begun all.served (ap (λ (s : Scene (System D) K). s.machine) many.1)
+          (inr (many.0, ap (λ (s : Scene (System D) K). s.kernel) many.1))
+
+  -- the same of what may have ended early, between a file system that was given and one that comes back
+  pub served_between : {E : Type 0} (old new : Scene (System D) K) (first last : System D) (served : Result (Unit {0}) E)
+      → old.machine ≡ first → old.server ≡ new_server settings → new.machine ≡ last
+      → OnOk served (ServedAll (ServesOne state) Does old new) → OnOk served (ServedFrom state Does settings first last old.kernel new.kernel)
+  served_between old new first last (Err e) is begun end all = all
+  served_between old new first last (Ok done) is begun end all =
+      subst (λ f. ServedFrom state Does settings f last old.kernel new.kernel) is
+      (subst (λ l. ServedFrom state Does settings old.machine l old.kernel new.kernel) end (served_from old new begun all))

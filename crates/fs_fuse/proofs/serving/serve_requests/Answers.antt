@@ -1,0 +1,19 @@
+use Rattle.std.proofs.Common.{rules, ◌≡◌}
+use Rattle.fs_system.specs.Seen.{System}
+use Rattle.fuse_state.specs.Servers.{new_server}
+use Rattle.fuse_serving.specs.Rounds.{Scene}
+use Rattle.fs_fuse.proofs.Performings.{served_between}
+use Rattle.fs_fuse.proofs.serving.serve_requests.Goals as goal
+
+pub returns : goal.returns
+returns g c =
+    let session = c.in-Ok.session in
+    let after = c.serve-served.new.performer in
+    let old : Scene (System g.row.D.Denot) g.row.K.Denot =
+    record { machine = session.machine; server = session.server.server; kernel = c.args.kernel.now } in
+    let new : Scene (System g.row.D.Denot) g.row.K.Denot =
+    record { machine = after.machine; server = after.server.server; kernel = c.serve-served.new.kernel } in
+    let is : session.machine ≡ c.args.fs = search rules in
+    let begun : session.server.server ≡ new_server c.args.settings = search rules in
+    let end : after.machine ≡ c.into_fs-2.result = search rules in
+    served_between g.D.Disk.state g.K.Kernel.Does c.args.settings old new c.args.fs c.into_fs-2.result c.serve-served.result is begun end c.serve-served.ensures
