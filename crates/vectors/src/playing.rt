@@ -1,0 +1,73 @@
+//! A server on a new file system in memory.
+ghost use Rattle.std.specs.Prelude.{◌≤◌, length, IfSome};
+
+use anyhow::bail;
+use fs_fuse::serve_requests;
+use fs_system::{Fs, mkfs};
+use fuse_protocol::Time;
+use fuse_serving::{Kernel, Nobody, ReplyRoom, ServeFault};
+use fuse_state::Settings;
+use sector_disk::MemDisk;
+use std::alloc::Global;
+
+// The sectors of a disk.
+const SECTORS: u32 = 1024;
+
+// Its inodes, 0 too.
+const INODES: u32 = 64;
+
+// The largest request: one that writes 131,072 bytes.
+const REQUEST_ROOM: usize = 131_152;
+
+/// Serves a kernel from a new file system, and gives that back. What is shown as the whole of it is what was free, and the root.
+pub fn serve_new<K: Kernel>(
+    alloc: Global,
+    start: u64,
+    max_write: u32,
+    kernel: &mut K,
+) -> anyhow::Result<(Result<(), ServeFault>, Fs<MemDisk>)> {
+    let mut fs = new_file_system(alloc)?;
+    let Ok((sectors, free_inodes)) = fs.statfs() else {
+        bail!("statfs failed");
+    };
+    let settings = Settings {
+        max_write,
+        posix_acl: false,
+        sectors,
+        inodes: free_inodes.saturating_add(1),
+        start: Time {
+            seconds: start,
+            nanoseconds: 0,
+        },
+    };
+    let mut buffer = Vec::new(alloc);
+    buffer.resize(REQUEST_ROOM, 0)?;
+    let mut room = ReplyRoom::new(alloc)?;
+    Ok(serve_requests(
+        alloc,
+        fs,
+        settings,
+        kernel,
+        &mut Nobody,
+        &mut buffer,
+        &mut room,
+    ))
+}
+
+fn new_file_system(alloc: Global) -> anyhow::Result<Fs<MemDisk>> {
+    let mut disk = MemDisk::new(alloc, SECTORS)?;
+    mkfs(&mut disk, INODES)?;
+    match Fs::mount(alloc, disk) {
+        Ok(fs) => Ok(fs),
+        Err((fault, _)) => bail!("{fault}"),
+    }
+}
+
+/// Puts a request at the front of a buffer, and tells its length; nothing where it doesn't fit.
+pub fn put_request(buffer: &mut [u8], request: &[u8]) -> Option<usize>
+    ensures { IfSome result (λ size. size ≤ length buffer.new) }
+{
+    let front = buffer.get_mut(..request.len())?;
+    front.copy_from_slice(request);
+    Some(request.len())
+}
