@@ -4,8 +4,9 @@ ghost use Rattle.fuse_plans.specs.Laws.{BeginningBehaves, RequestsBehave, RunsBe
 /// Whatever the machine replies, no request but the first is performed with more than the rights of who asks.
 ///
 /// Each call is made by a process whose credential is that of who asks, through the handle that the request gives, or by the
-/// server's own process, which only looks. A process that has entered a directory makes one call there, and is told to come
-/// back before anything else. Nothing is asked of the disk, and no process changes its directory by a call.
+/// server's own process, which only looks; or it is fstat(2) of something open, which is shown to all. A process that has
+/// entered a directory makes one call there, and is told to come back before anything else. Nothing is asked of the disk, and
+/// no process changes its directory by a call.
 pub fn requests_behave()
     ensures { RequestsBehave }
 {}
