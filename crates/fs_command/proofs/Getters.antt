@@ -1,12 +1,14 @@
 -- What the getters of matches give, by the rows.
-use Rattle.std.specs.Prelude.{◌≡◌, ◌^◌, ◌<◌, ℕ, List, Option, Some, None, Result, Ok, Err, IsSome, option_map, unwrap_or}
-use Rattle.std.proofs.Common.{◌∙◌, sym, refl, ap, subst, arith}
+use Rattle.std.specs.Prelude.{◌≡◌, ◌⊎◌, ◌^◌, ◌<◌, ℕ, Bool, true, false, codes, List, Option, Some, None, Result, Ok, Err, IsSome, option_map, unwrap_or}
+use Rattle.std.proofs.Common.{◌∙◌, sym, refl, ap, subst, arith, inl, inr}
 use Rattle.std.specs.Borrow.{Bor}
 use Rattle.std.specs.Str.Parse.{ParsesUnsigned, digits_value, without_leading_plus}
 use Rattle.clap.specs.Words.{ReadsOne, Text, first_of, first_value, one_of, one_text, rows_of}
+use Rattle.clap.specs.Takes.{is_given}
+use Rattle.clap.specs.Values.{bool_text}
 use Rattle.clap.specs.declared.parser.matches.Found.{Found}
 use Rattle.clap.proofs.WalkLemmas.{first_value-rows, one_text-rows}
-use Rattle.fs_command.specs.Words.{IsGiven, IsNumberGiven, IsNumberFor}
+use Rattle.fs_command.specs.Words.{IsFlag, IsGiven, IsNumberGiven, IsNumberFor}
 
 is_some_of : {X : Type 0} (r : Option X) (x : X) → r ≡ Some x → IsSome r
 is_some_of r x h = rw h refl
@@ -46,3 +48,13 @@ module _ {E : Type 0} (G : List ℕ → Result ℕ E → Type 0) (only : (u : Li
   number_is least most f id r v reads fits is got =
       let n_is = one_number least most (one_of id (rows_of f)) r (λ t e. reads t (one_text-rows f id ∙ e)) fits is.0 is.1 in
       subst (λ (m : ℕ). IsNumberFor least most (one_of id (rows_of f)) m) (ap (λ (o : Option ℕ). unwrap_or o 0) (sym n_is ∙ got)) is.1
+
+-- `get_flag`
+pub flag_is : (f : Found) (id : Text) (r : Bool) → (one_text f id ≡ None → r ≡ false) → (one_text f id ≡ Some (codes "true") → r ≡ true)
+    → (one_text f id ≡ Some (codes "false") → r ≡ false) → IsFlag id (rows_of f) → is_given id (rows_of f) ≡ r
+flag_is f id r none used unused flag = go (is_given id (rows_of f)) flag
+  where
+    go : (b : Bool) → (one_of id (rows_of f) ≡ Some (bool_text b)) ⊎ ((one_of id (rows_of f) ≡ None) × (b ≡ false)) → b ≡ r
+    go true (inl e) = sym (used (one_text-rows f id ∙ e))
+    go false (inl e) = sym (unused (one_text-rows f id ∙ e))
+    go b (inr e) = e.1 ∙ sym (none (one_text-rows f id ∙ e.0))

@@ -1,4 +1,5 @@
 pub mod Ends
+pub mod Sessions
 mod News
 pub mod Getters
 pub mod Refusals

@@ -1,18 +1,19 @@
 -- Where `clap`'s definition finds no fault in the words, each argument that is given has a value that its parser takes.
-use Rattle.std.specs.Prelude.{◌≡◌, ◌⊎◌, ◌&&◌, ◌||◌, ℕ, Bool, true, false, not, zero, suc, List, [], ◌∷◌, ◌++◌, Option, Some, None, is_some, find}
-use Rattle.std.specs.Prelude.{fold, length, drop, encode_utf8, slice_get, if◌then◌else◌, option_map, option_and_then}
+use Rattle.std.specs.Prelude.{◌≡◌, ◌==◌, ◌⊎◌, ◌&&◌, ◌||◌, ℕ, Bool, true, false, not, zero, suc, List, [], ◌∷◌, ◌++◌, Option, Some, None, is_some, find}
+use Rattle.std.specs.Prelude.{fold, length, drop, encode_utf8, slice_get, if◌then◌else◌, option_map, option_and_then, codes}
 use Rattle.std.proofs.Common.{◌∙◌, sym, refl, ap, subst, inl, inr}
+use Rattle.std.proofs.Math.Dec.{eqb-zero-suc}
 use Rattle.std.specs.List.{list_any}
 use Rattle.std.specs.Option.{option_map_or}
 use Rattle.std.specs.Str.{bytes_eq, chars}
 use Rattle.std.proofs.lemmas.Slice.Eq.{bytes_eq-Decides}
 use Rattle.clap.specs.Lexer.{long_of, short_of}
-use Rattle.clap.specs.Values.{read_as}
+use Rattle.clap.specs.Values.{bool_text, read_as}
 use Rattle.clap.specs.Facts.{explicit_source, parser_of_value, unwrap_or_range}
 use Rattle.clap.specs.Kinds.{Kinds, check_kinds, or_else, range_kinds, value_kinds}
 use Rattle.clap.specs.Takes.{is_given, value_passes}
 use Rattle.clap.specs.Walk.{Held, Outcome, Row, Rule, Step, Text, Waiting, Walk, action_of, after_flag, after_step, arg_by_id, arg_by_index}
-use Rattle.clap.specs.Walk.{arg_by_long, arg_by_short, at_row, attached_value, bundle, bundle_met, bundle_step, done, finished, first_of, flag_met}
+use Rattle.clap.specs.Walk.{arg_by_long, arg_by_short, at_row, attached_value, bundle, bundle_met, bundle_step, default_rows, done, finished, first_of, flag_met}
 use Rattle.clap.specs.Walk.{has_row, idle, is_pending, long_met, long_or_other, more_values, most_values, next, nothing_held, one_of, option}
 use Rattle.clap.specs.Walk.{option_met, option_word, plain, plain_word, positional, positional_held, reacted, reading_by, refused, row_text}
 use Rattle.clap.specs.Walk.{rows_after, settled, settled_rows, short_met, short_or_plain, subcommand, subcommand_or_other, takes_several}
@@ -22,9 +23,13 @@ use Rattle.clap.specs.Simple.{Shape}
 use Rattle.clap.specs.Faults.{action_fault, bundle_fault, bundle_step_fault, check_fault, defaults_fault, flag_word_fault, flags_fault, level_fault}
 use Rattle.clap.specs.Faults.{long_fault, option_fault, positional_fault, react_fault, repeat_fault, set_fault, settle_fault, short_fault, step_fault}
 use Rattle.clap.specs.Faults.{stray_fault, turn_fault, use_fault, values_fault, walk_fault, word_fault}
-use Rattle.clap.specs.declared.builder.action.ArgAction.TheVariants.{Set, Help}
+use Rattle.clap.specs.declared.builder.action.ArgAction.TheVariants.{Set, SetTrue, Help}
 use Rattle.clap.specs.declared.error.kind.ErrorKind.TheVariants as kind
-use Rattle.clap.specs.declared.parser.matches.ValueSource.TheVariants.{CommandLine}
+use Rattle.clap.specs.declared.builder.range.ValueRange.{ValueRange}
+use Rattle.clap.specs.declared.builder.value_parser.Reading.TheVariants.{AsWritten}
+use Rattle.clap.specs.declared.parser.matches.ValueSource.{ValueSource}
+use Rattle.clap.specs.declared.parser.matches.ValueSource.TheVariants.{CommandLine, DefaultValue}
+use Rattle.fs_command.specs.Words.{IsFlag}
 
 -- ---- lists
 
@@ -50,20 +55,46 @@ no_kinds (k ∷ ks) b e = cc
 
 -- ---- one use of an argument
 
--- the argument is the one of its name. It takes a value, or asks for the help.
+-- it takes a value, and has none by itself
+abbrev TakesOne : Rule → Type 0
+TakesOne a = (action_of a ≡ Set) × (a.defaults ≡ []) × ((unwrap_or_range a.range).start_inclusive ≡ 1)
+
+-- it takes none, and stands for true where it is used and else for false
+abbrev IsSwitch : Rule → Type 0
+IsSwitch a = (action_of a ≡ SetTrue) × (a.defaults ≡ codes "false" ∷ []) × (a.missing ≡ codes "true" ∷ [])
+    × (unwrap_or_range a.range ≡ record { start_inclusive = 0; end_inclusive = 0 })
+    × (reading_by a ≡ AsWritten) × (value_passes a (codes "false") ≡ true)
+
+-- the argument is the one of its name. It takes a value, is a flag, or asks for the help.
 abbrev pub Sound : List Rule → Rule → Type 0
-Sound c a = (arg_by_id c a.id ≡ Some a) × (a.defaults ≡ [])
-    × (((action_of a ≡ Set) × ((unwrap_or_range a.range).start_inclusive ≡ 1)) ⊎ (action_of a ≡ Help))
+Sound c a = (arg_by_id c a.id ≡ Some a) × (TakesOne a ⊎ (IsSwitch a ⊎ ((action_of a ≡ Help) × (a.defaults ≡ []))))
 
--- the row has a value that the argument takes
-abbrev pub IsTaken : Rule → Row → Type 0
-IsTaken a r = (v : Text) × (slice_get r.values 0 ≡ Some v) × (value_passes a v ≡ true) × (r.reading ≡ reading_by a)
+-- the row has a value that the argument takes, and what is said of it holds
+abbrev Holds : (Rule → Option ValueSource → Text → Type 0) → Rule → Row → Type 0
+Holds Says a r = (v : Text) × (slice_get r.values 0 ≡ Some v) × (value_passes a v ≡ true) × (r.reading ≡ reading_by a) × Says a r.source v
 
-abbrev pub RowOk : List Rule → Row → Type 0
-RowOk c r = (a : Rule) → arg_by_id c r.id ≡ Some a → IsTaken a r
+abbrev RowHolds : (Rule → Option ValueSource → Text → Type 0) → List Rule → Row → Type 0
+RowHolds Says c r = (a : Rule) → arg_by_id c r.id ≡ Some a → Holds Says a r
 
-abbrev pub RowsOk : List Rule → List Row → Type 0
+-- the words gave it
+abbrev IsWorded : Rule → Option ValueSource → Text → Type 0
+IsWorded a source v = (source ≡ Some CommandLine) × (action_of a ≡ SetTrue → v ≡ codes "true")
+
+abbrev IsTaken : Rule → Row → Type 0
+IsTaken = Holds IsWorded
+
+abbrev RowOk : List Rule → Row → Type 0
+RowOk = RowHolds IsWorded
+
+abbrev RowsOk : List Rule → List Row → Type 0
 RowsOk c = Each (RowOk c)
+
+-- the words or a default gave it, and a flag's says which
+abbrev IsTold : Rule → Option ValueSource → Text → Type 0
+IsTold a source v = action_of a ≡ SetTrue → v ≡ bool_text (explicit_source source)
+
+abbrev RowsTold : List Rule → List Row → Type 0
+RowsTold c = Each (RowHolds IsTold c)
 
 at_row_keeps : (P : Row → Type 0) (id : Text) (change : Row → List Row) (missing : List Row) (rows : List Row)
     → ((r : Row) → P r → Each P (change r)) → Each P missing → Each P rows → Each P (at_row id change missing rows)
@@ -85,6 +116,14 @@ value_taken a v e = go (value_passes a v) e
     go true e = refl
     go false e = cc
 
+-- a flag takes no value
+too_many : (v : Text) (vs : List Text) → range_kinds 0 0 (length (v ∷ vs)) ≡ [] → ⊥
+too_many v vs e = go (0 == length (v ∷ vs)) (eqb-zero-suc (length vs)) e
+  where
+    go : (b : Bool) → b ≡ false → (if b then [] else kind.WrongNumberOfValues ∷ []) ≡ [] → ⊥
+    go true is e = cc
+    go false is e = cc
+
 module _ (c : List Rule) (again : Bool) where
   more_keeps : (v : Text) (vs : List Text) (r : Row) → RowOk c r → RowsOk c (more_values CommandLine (v ∷ vs) r)
   more_keeps v vs r h = (more, tt)
@@ -92,23 +131,25 @@ module _ (c : List Rule) (again : Bool) where
       more : (b : Rule) → arg_by_id c r.id ≡ Some b → IsTaken b (record r { values = r.values ++ v ∷ vs; source = Some (stronger r.source CommandLine) })
       more b found =
           let was = h b found in
-          (was.0, first_stays r.values (v ∷ vs) was.0 was.1, was.2, was.3)
+          let given : Some (stronger r.source CommandLine) ≡ Some CommandLine = ap (λ o. Some (stronger o CommandLine)) was.4.0 in
+          (was.0, first_stays r.values (v ∷ vs) was.0 was.1, was.2, was.3, (given, was.4.1))
 
   abbrev new_row : Rule → Text → List Text → Row
   new_row a v vs = record { id = a.id; values = v ∷ vs; count = None; source = Some CommandLine; reading = reading_by a }
 
-  new_keeps : (a : Rule) (v : Text) (vs : List Text) → arg_by_id c a.id ≡ Some a → value_passes a v ≡ true → RowOk c (new_row a v vs)
-  new_keeps a v vs own passes b found = subst (λ (x : Rule). IsTaken x (new_row a v vs)) (ap (λ o. option_map_or (λ z. z) o a) (sym own ∙ found)) taken
+  new_keeps : (a : Rule) (v : Text) (vs : List Text) → arg_by_id c a.id ≡ Some a → value_passes a v ≡ true
+      → (action_of a ≡ SetTrue → v ≡ codes "true") → RowOk c (new_row a v vs)
+  new_keeps a v vs own passes says b found = subst (λ (x : Rule). IsTaken x (new_row a v vs)) (ap (λ o. option_map_or (λ z. z) o a) (sym own ∙ found)) taken
     where
       taken : IsTaken a (new_row a v vs)
-      taken = (v, refl, passes, refl)
+      taken = (v, refl, passes, refl, (refl, says))
 
-  set_keeps : (a : Rule) (v : Text) (vs : List Text) (rows : List Row) → arg_by_id c a.id ≡ Some a → set_fault again a (v ∷ vs) rows ≡ []
-      → RowsOk c rows → RowsOk c (used_as Set a.id (reading_by a) (v ∷ vs) rows)
-  set_keeps a v vs rows own fault ok =
+  set_keeps : (a : Rule) (v : Text) (vs : List Text) (rows : List Row) → arg_by_id c a.id ≡ Some a → (action_of a ≡ SetTrue → v ≡ codes "true")
+      → set_fault again a (v ∷ vs) rows ≡ [] → RowsOk c rows → RowsOk c (used_as Set a.id (reading_by a) (v ∷ vs) rows)
+  set_keeps a v vs rows own says fault ok =
       let passes = value_taken a v (no_kinds _ _ (no_kinds (repeat_fault again a.id rows) (values_fault a (v ∷ vs)) fault).1).0 in
       at_row_keeps (RowOk c) a.id (more_values CommandLine (v ∷ vs)) (new_row a v vs ∷ []) (without a.id rows)
-      (more_keeps v vs) (new_keeps a v vs own passes, tt)
+      (more_keeps v vs) (new_keeps a v vs own passes says, tt)
       (at_row_keeps (RowOk c) a.id (λ _. []) [] rows (λ r h. tt) tt ok)
 
   -- a use with no fault has values in number, and the action takes them
@@ -120,21 +161,32 @@ module _ (c : List Rule) (again : Bool) where
 
   used_keeps : (a : Rule) (values : List Text) (rows : List Row) → Sound c a → use_fault again a values rows ≡ [] → RowsOk c rows
       → RowsOk c (used a values rows)
-  used_keeps a values rows sound fault ok = elim sound.2 [
+  used_keeps a values rows sound fault ok = elim sound.1 [
     | inl set ↦ one values fault set
-    | inr help ↦
-        let asked = rw help at (use_parts a values rows fault).1 in
+    | inr (inl switch) ↦ none values fault switch
+    | inr (inr help) ↦
+        let asked = rw help.0 at (use_parts a values rows fault).1 in
         cc
   ]
     where
-      one : (vs : List Text) → use_fault again a vs rows ≡ [] → (action_of a ≡ Set) × ((unwrap_or_range a.range).start_inclusive ≡ 1)
-          → RowsOk c (used a vs rows)
+      no_switch : (v : Text) → Set ≡ SetTrue → v ≡ codes "true"
+      no_switch v e = cc
+
+      one : (vs : List Text) → use_fault again a vs rows ≡ [] → TakesOne a → RowsOk c (used a vs rows)
       one [] fault set =
-          let bad = rw set.1 at (use_parts a [] rows fault).0 in
+          let bad = rw set.2 at (use_parts a [] rows fault).0 in
           cc
       one (v ∷ vs) fault set =
           let asked = rw set.0 at (use_parts a (v ∷ vs) rows fault).1 in
-          rw set.0 (set_keeps a v vs rows sound.0 asked ok)
+          rw set.0 (set_keeps a v vs rows sound.0 (λ e. no_switch v (sym set.0 ∙ e)) asked ok)
+
+      none : (vs : List Text) → use_fault again a vs rows ≡ [] → IsSwitch a → RowsOk c (used a vs rows)
+      none [] fault switch =
+          let asked = rw (switch.0, switch.2) at (use_parts a [] rows fault).1 in
+          rw (switch.0, switch.2) (set_keeps a (codes "true") [] rows sound.0 (λ e. refl) asked ok)
+      none (v ∷ vs) fault switch =
+          absurd (too_many v vs (subst (λ (r : ValueRange). range_kinds r.start_inclusive r.end_inclusive (length (v ∷ vs)) ≡ []) switch.3
+          (use_parts a (v ∷ vs) rows fault).0))
 
   -- ---- what is held between two words
 
@@ -304,27 +356,69 @@ module _ (s : Shape) (each : Each (Sound s.rules) s.rules) where
       let parts = no_kinds (turn_fault s [] w word) (walk_fault s [] (walked s.rules [] w word) rest) fault in
       walk_keeps rest (walked s.rules [] w word) parts.1 (turn_keeps w word parts.0 ok)
 
-no_default : (c : List Rule) (a : Rule) (rows : List Row) → Sound c a → with_default rows a ≡ rows
-no_default c a rows sound = rw sound.1 (go (has_row a.id rows))
-  where
-    go : (b : Bool) → (if b then rows else rows) ≡ rows
-    go true = refl
-    go false = refl
+-- ---- defaults
 
-no_defaults : (c rules : List Rule) (rows : List Row) → Each (Sound c) rules → fold with_default rows rules ≡ rows
-no_defaults c [] rows each = refl
-no_defaults c (a ∷ rest) rows each = ap (λ r. fold with_default r rest) (no_default c a rows each.0) ∙ no_defaults c rest rows each.1
+at_row_new : (P : Row → Type 0) (id : Text) (change : Row → List Row) (missing : List Row) (rows : List Row)
+    → has_row id rows ≡ false → Each P missing → Each P rows → Each P (at_row id change missing rows)
+at_row_new P id change missing [] none new h = new
+at_row_new P id change missing (r ∷ rs) none new h = go (bytes_eq r.id id) none (at_row_new P id change missing rs)
+  where
+    go : (b : Bool) → (b || has_row id rs) ≡ false
+        → (has_row id rs ≡ false → Each P missing → Each P rs → Each P (at_row id change missing rs))
+        → Each P (if b then change r ++ rs else r ∷ at_row id change missing rs)
+    go true none rest = cc
+    go false none rest = (h.0, rest none new h.1)
+
+-- what the words gave is told
+all_told : (c : List Rule) (rows : List Row) → RowsOk c rows → RowsTold c rows
+all_told c [] ok = tt
+all_told c (r ∷ rs) ok = (told, all_told c rs ok.1)
+  where
+    told : RowHolds IsTold c r
+    told a found =
+        let was = ok.0 a found in
+        (was.0, was.1, was.2, was.3, λ e. was.4.1 e ∙ ap (λ o. bool_text (explicit_source o)) (sym was.4.0))
+
+module _ (c : List Rule) where
+  abbrev default_row : Rule → Row
+  default_row a = record { id = a.id; values = codes "false" ∷ []; count = None; source = Some DefaultValue; reading = reading_by a }
+
+  default_told : (a : Rule) → arg_by_id c a.id ≡ Some a → value_passes a (codes "false") ≡ true → RowHolds IsTold c (default_row a)
+  default_told a own passes b found = subst (λ (x : Rule). Holds IsTold x (default_row a)) (ap (λ o. option_map_or (λ z. z) o a) (sym own ∙ found)) held
+    where
+      held : Holds IsTold a (default_row a)
+      held = (codes "false", refl, passes, refl, λ e. refl)
+
+  -- an argument has no default, or is a flag
+  default_of : (a : Rule) → Sound c a → (a.defaults ≡ []) ⊎ ((a.defaults ≡ codes "false" ∷ []) × (value_passes a (codes "false") ≡ true))
+  default_of a (own, inl set) = inl set.1
+  default_of a (own, inr (inl switch)) = inr (switch.1, switch.5)
+  default_of a (own, inr (inr help)) = inl help.1
+
+  default_keeps : (a : Rule) (rows : List Row) → Sound c a → RowsTold c rows → RowsTold c (with_default rows a)
+  default_keeps a rows sound told = go (has_row a.id rows) refl
+    where
+      go : (b : Bool) → has_row a.id rows ≡ b → RowsTold c (if b then rows else default_rows a.id (reading_by a) a.defaults rows)
+      go true e = told
+      go false e = elim (default_of a sound) [
+        | inl empty ↦ rw empty told
+        | inr has ↦ rw has.0 (at_row_new (RowHolds IsTold c) a.id (more_values DefaultValue (codes "false" ∷ [])) (default_row a ∷ []) rows e (default_told a sound.0 has.1, tt) told)
+      ]
+
+  defaults_keep : (rules : List Rule) (rows : List Row) → Each (Sound c) rules → RowsTold c rows → RowsTold c (fold with_default rows rules)
+  defaults_keep [] rows each told = told
+  defaults_keep (a ∷ rest) rows each told = defaults_keep rest (with_default rows a) each.1 (default_keeps a rows each.0 told)
 
 -- the rows of a command whose words have no fault
 leaf_rows : (s : Shape) (words : List Text) → Each (Sound s.rules) s.rules → level_fault s [] nothing_held words false [] ≡ []
-    → RowsOk s.rules (rows_after s.rules [] words) × (check_fault s (rows_after s.rules [] words) false ≡ [])
+    → RowsTold s.rules (rows_after s.rules [] words) × (check_fault s (rows_after s.rules [] words) false ≡ [])
 leaf_rows s words each fault =
     let end = (walk s.rules [] nothing_held words).held in
     let one = no_kinds (walk_fault s [] (walk_from nothing_held) words) _ fault in
     let two = no_kinds (settle_fault s.rules s.args_override_self end) _ one.1 in
     let three = no_kinds (defaults_fault (settled s.rules end).rows s.rules) (check_fault s (finished s.rules end) false) two.1 in
     let ok = settled_keeps s.rules s.args_override_self each end two.0 (walk_keeps s each words (walk_from nothing_held) one.0 tt) in
-    (subst (RowsOk s.rules) (sym (no_defaults s.rules s.rules (settled s.rules end).rows each)) ok, three.1)
+    (defaults_keep s.rules s.rules (settled s.rules end).rows each (all_told s.rules (settled s.rules end).rows ok), three.1)
 
 -- ---- values
 
@@ -332,24 +426,30 @@ leaf_rows s words each fault =
 abbrev pub HasValue : List Row → Rule → Type 0
 HasValue rows a = (v : Text) × (first_of a.id rows ≡ Some v) × (one_of a.id rows ≡ Some (read_as (reading_by a) v)) × (value_passes a v ≡ true)
 
+is_named : (id : Text) (rows : List Row) (r : Row) → find (λ r. bytes_eq r.id id) rows ≡ Some r → bytes_eq r.id id ≡ true
+is_named id [] r e = cc
+is_named id (x ∷ xs) r e = pick (bytes_eq x.id id) refl e (is_named id xs r)
+  where
+    pick : (b : Bool) → bytes_eq x.id id ≡ b → (if b then Some x else find (λ r. bytes_eq r.id id) xs) ≡ Some r
+        → (find (λ r. bytes_eq r.id id) xs ≡ Some r → bytes_eq r.id id ≡ true) → bytes_eq r.id id ≡ true
+    pick true t e rest = subst (λ (z : Row). bytes_eq z.id id ≡ true) (ap (λ o. option_map_or (λ z. z) o x) e) t
+    pick false t e rest = rest e
+
+-- what holds of the row of an argument
+row_at : (c : List Rule) (rows : List Row) (a : Rule) (r : Row) → RowsTold c rows → Sound c a → find (λ r. bytes_eq r.id a.id) rows ≡ Some r
+    → Holds IsTold a r
+row_at c rows a r ok sound e =
+    let same : r.id ≡ a.id = (bytes_eq-Decides r.id a.id).0 (is_named a.id rows r e) in
+    found_holds (RowHolds IsTold c) (λ r. bytes_eq r.id a.id) rows r ok e a (ap (arg_by_id c) same ∙ sound.0)
+
 -- a value that is given is one that its argument takes
-value_at : (c : List Rule) (rows : List Row) (a : Rule) → RowsOk c rows → Sound c a → is_given a.id rows ≡ true → HasValue rows a
+value_at : (c : List Rule) (rows : List Row) (a : Rule) → RowsTold c rows → Sound c a → is_given a.id rows ≡ true → HasValue rows a
 value_at c rows a ok sound given = go (find (λ r. bytes_eq r.id a.id) rows) refl given
   where
-    is_named : (rs : List Row) (r : Row) → find (λ r. bytes_eq r.id a.id) rs ≡ Some r → bytes_eq r.id a.id ≡ true
-    is_named [] r e = cc
-    is_named (x ∷ xs) r e = pick (bytes_eq x.id a.id) refl e (is_named xs r)
-      where
-        pick : (b : Bool) → bytes_eq x.id a.id ≡ b → (if b then Some x else find (λ r. bytes_eq r.id a.id) xs) ≡ Some r
-            → (find (λ r. bytes_eq r.id a.id) xs ≡ Some r → bytes_eq r.id a.id ≡ true) → bytes_eq r.id a.id ≡ true
-        pick true t e rest = subst (λ (z : Row). bytes_eq z.id a.id ≡ true) (ap (λ o. option_map_or (λ z. z) o x) e) t
-        pick false t e rest = rest e
-
     go : (o : Option Row) → find (λ r. bytes_eq r.id a.id) rows ≡ o → option_map_or (λ r. explicit_source r.source) o false ≡ true → HasValue rows a
     go None e given = cc
     go (Some r) e given =
-        let same : r.id ≡ a.id = (bytes_eq-Decides r.id a.id).0 (is_named rows r e) in
-        let t = found_holds (RowOk c) (λ r. bytes_eq r.id a.id) rows r ok e a (ap (arg_by_id c) same ∙ sound.0) in (
+        let t = row_at c rows a r ok sound e in (
           t.0,
           ap (option_and_then (λ (x : Row). slice_get x.values 0)) e ∙ t.1,
           ap (option_and_then row_text) e ∙ ap (option_map (read_as r.reading)) t.1 ∙ ap (λ how. Some (read_as how t.0)) t.3,
@@ -363,7 +463,7 @@ wants_none false false true e = cc
 wants_none false false false e = refl
 
 -- each argument that has to be given has a value
-given_values : (c xs : List Rule) (rows : List Row) → RowsOk c rows → Each (Sound c) xs → list_any (λ a. a.required && not (is_given a.id rows)) xs ≡ false
+given_values : (c xs : List Rule) (rows : List Row) → RowsTold c rows → Each (Sound c) xs → list_any (λ a. a.required && not (is_given a.id rows)) xs ≡ false
     → Each (λ a. a.required ≡ true → HasValue rows a) xs
 given_values c [] rows ok each none = tt
 given_values c (a ∷ rest) rows ok each none = go a.required (is_given a.id rows) refl refl none (given_values c rest rows ok each.1)
@@ -384,3 +484,26 @@ leaf_values s words each negates fault =
     let r = leaf_rows s words each fault in
     let none : (not (s.subcommand_negates_reqs && false) && list_any (λ a. a.required && not (is_given a.id rows)) s.rules) ≡ false = wants_none _ _ _ r.1 in
     given_values s.rules s.rules rows r.0 each (rw negates at none)
+
+-- ---- flags
+
+-- a flag's value says whether the words have it
+flag_at : (c : List Rule) (rows : List Row) (a : Rule) → RowsTold c rows → Sound c a → IsSwitch a → IsFlag a.id rows
+flag_at c rows a ok sound switch = go (find (λ r. bytes_eq r.id a.id) rows) refl
+  where
+    go : (o : Option Row) → find (λ r. bytes_eq r.id a.id) rows ≡ o
+        → (option_and_then row_text o ≡ Some (bool_text (option_map_or (λ r. explicit_source r.source) o false)))
+        ⊎ ((option_and_then row_text o ≡ None) × (option_map_or (λ r. explicit_source r.source) o false ≡ false))
+    go None e = inr (refl, refl)
+    go (Some r) e =
+        let t = row_at c rows a r ok sound e in
+        inl (ap (option_map (read_as r.reading)) t.1 ∙ ap (λ how. Some (read_as how t.0)) (t.3 ∙ switch.4) ∙ ap Some (t.4 switch.0))
+
+flags_at : (c xs : List Rule) (rows : List Row) → RowsTold c rows → Each (Sound c) xs → Each (λ a. IsSwitch a → IsFlag a.id rows) xs
+flags_at c [] rows ok each = tt
+flags_at c (a ∷ rest) rows ok each = (flag_at c rows a ok each.0, flags_at c rest rows ok each.1)
+
+-- the flags of a command whose words have no fault
+pub leaf_flags : (s : Shape) (words : List Text) → Each (Sound s.rules) s.rules → level_fault s [] nothing_held words false [] ≡ []
+    → Each (λ a. IsSwitch a → IsFlag a.id (rows_after s.rules [] words)) s.rules
+leaf_flags s words each fault = flags_at s.rules s.rules (rows_after s.rules [] words) (leaf_rows s words each fault).0 each

@@ -12,7 +12,7 @@ use Rattle.clap.specs.declared.builder.value_parser.ValueParser.TheVariants as v
 use Rattle.clap.specs.Words.{subcommand_of}
 use Rattle.clap.proofs.ValueTestLemmas.{accepts-Accepts}
 use Rattle.fs_command.specs.Words.{HasValues, IsNumberFor, IsWhole, command_line}
-use Rattle.fs_command.proofs.Taken.{Each, Sound, found_holds, leaf_values, no_kinds}
+use Rattle.fs_command.proofs.Taken.{Each, Sound, found_holds, leaf_flags, leaf_values, no_kinds}
 
 counted : (least most : ℕ) (o : Option Text) (v : Text) → o ≡ Some v → accepts false (vp.Unsigned least most) v ≡ true → (n : ℕ) × IsNumberFor least most o n
 counted least most o v e passes =
@@ -30,16 +30,19 @@ abbrev leaf : ℕ → Shape
 leaf i = slice_index_or (built command_line).subs i (built command_line).top
 
 mkfs_sound : Each (Sound (leaf 0).rules) (leaf 0).rules
-mkfs_sound = ((refl, refl, inl (refl, refl)), ((refl, refl, inl (refl, refl)), ((refl, refl, inl (refl, refl)), ((refl, refl, inr refl), tt))))
+mkfs_sound = ((refl, inl (refl, refl, refl)), ((refl, inl (refl, refl, refl)), ((refl, inl (refl, refl, refl)), ((refl, inr (inr (refl, refl))), tt))))
 
 run_sound : Each (Sound (leaf 1).rules) (leaf 1).rules
-run_sound = ((refl, refl, inl (refl, refl)), ((refl, refl, inl (refl, refl)), ((refl, refl, inr refl), tt)))
+run_sound = ((refl, inl (refl, refl, refl)), ((refl, inl (refl, refl, refl)), ((refl, inr (inr (refl, refl))), tt)))
 
 check_sound : Each (Sound (leaf 2).rules) (leaf 2).rules
-check_sound = ((refl, refl, inl (refl, refl)), ((refl, refl, inr refl), tt))
+check_sound = ((refl, inl (refl, refl, refl)), ((refl, inr (inr (refl, refl))), tt))
 
 upgrade_sound : Each (Sound (leaf 3).rules) (leaf 3).rules
-upgrade_sound = ((refl, refl, inl (refl, refl)), ((refl, refl, inr refl), tt))
+upgrade_sound = ((refl, inl (refl, refl, refl)), ((refl, inr (inr (refl, refl))), tt))
+
+fuse_sound : Each (Sound (leaf 4).rules) (leaf 4).rules
+fuse_sound = ((refl, inl (refl, refl, refl)), ((refl, inl (refl, refl, refl)), ((refl, inr (inl (refl, refl, refl, refl, refl, refl))), ((refl, inr (inr (refl, refl))), tt))))
 
 mkfs_has : HasAll (leaf 0)
 mkfs_has words fault =
@@ -62,10 +65,16 @@ check_has words fault =
 upgrade_has : HasAll (leaf 3)
 upgrade_has words fault =
     let image = (leaf_values (leaf 3) words upgrade_sound refl fault).0 refl in
-    inr (inr (inr (refl, (image.0, image.1))))
+    inr (inr (inr (inl (refl, (image.0, image.1)))))
+
+fuse_has : HasAll (leaf 4)
+fuse_has words fault =
+    let image = (leaf_values (leaf 4) words fuse_sound refl fault).0 refl in
+    let own_rules = (leaf_flags (leaf 4) words fuse_sound fault).1.1.0 (refl, refl, refl, refl, refl, refl) in
+    inr (inr (inr (inr (refl, (image.0, image.1), own_rules))))
 
 each_has : Each HasAll (built command_line).subs
-each_has = (mkfs_has, (run_has, (check_has, (upgrade_has, tt))))
+each_has = (mkfs_has, (run_has, (check_has, (upgrade_has, (fuse_has, tt)))))
 
 entered_has : (stop : Option (Text × List Text)) → entered_fault (built command_line) stop ≡ [] → HasValues (entered (built command_line) stop)
 entered_has None fault = tt

@@ -4,7 +4,7 @@
 --     Tells        a line is printed, and the status is this one; or it can't be printed
 --     MkfsEnds, CheckEnds, UpgradeEnds        a disk is made a file system, a disk is checked, and a disk is upgraded
 --     RunsOn, RunEnds        a script is run on a disk that is mounted for it
---     MemoryEnds, ImageMkfsEnds, ImageRunEnds, ImageCheckEnds, ImageUpgradeEnds        the five jobs
+--     MemoryEnds, ImageMkfsEnds, ImageRunEnds, ImageCheckEnds, ImageUpgradeEnds        the jobs but that of serving
 --     JobEnds, ProgramEnds        a job, and what the program does for its words
 use Rattle.std.specs.Prelude.{◌≡◌, ◌⊎◌, ℕ, List, Option, None, IsSome, IsTrue, Result, Ok, Err, OnOk}
 use Rattle.std.specs.Io.KnownBytes.{Appends}
@@ -33,6 +33,7 @@ use Rattle.fs_shell.specs.declared.answer.Count.{Count}
 use Rattle.fs_shell.specs.Watching.{FailsWhere}
 use Rattle.fs_shell.specs.declared.fault.RunFault.{RunFault}
 use Rattle.fs_shell.specs.declared.fault.RunFault.TheVariants.{ReadFault, WriteFault}
+use Rattle.fs_command.specs.Serving.{ImageFuseEnds}
 use Rattle.fs_command.specs.Programs.{RunsInMemory, code_of, status_of}
 use Rattle.fs_command.specs.Streams.{Reading, Writing}
 use Rattle.fs_command.specs.Texts.{made_text, clean_text, finding_text, version_text}
@@ -43,7 +44,7 @@ use Rattle.fs_command.specs.declared.memory.TheConstants.{SECTORS, INODES}
 use Rattle.fs_command.specs.declared.status.Status.{Status}
 use Rattle.fs_command.specs.declared.status.Status.TheVariants.{Done, Faulty, Failed}
 use Rattle.fs_command.specs.declared.words.Job.{Job}
-use Rattle.fs_command.specs.declared.words.Job.TheVariants.{Memory, Mkfs, Run, Check, Upgrade}
+use Rattle.fs_command.specs.declared.words.Job.TheVariants.{Memory, Mkfs, Run, Check, Upgrade, Fuse}
 use Rattle.fs_command.specs.declared.words.WordsFault.{WordsFault}
 
 -- ---- statuses
@@ -167,6 +168,7 @@ JobEnds memory file r w (Mkfs image sectors inodes) result = ImageMkfsEnds file 
 JobEnds memory file r w (Run image script) result = ImageRunEnds file script r w result
 JobEnds memory file r w (Check image) result = ImageCheckEnds file w result
 JobEnds memory file r w (Upgrade image) result = ImageUpgradeEnds file w result
+JobEnds memory file r w (Fuse image denials own_rules) result = ImageFuseEnds file denials own_rules result
 
 -- ---- the program
 

@@ -19,7 +19,7 @@ use Rattle.fs_system.specs.Mounts.{Mounts}
 use Rattle.fs_system.specs.declared.faults.MkfsFault.TheVariants.{DiskFault}
 use Rattle.fs_command.specs.Streams.{Reading, Writing}
 use Rattle.fs_command.specs.declared.failure.Failure.{Failure}
-use Rattle.fs_command.specs.declared.failure.Failure.TheVariants.{Exists, NotCreated, NotOpened, NoScript, Mkfs, Mount, Check, Upgrade, Run, Unmount}
+use Rattle.fs_command.specs.declared.failure.Failure.TheVariants.{Exists, NotCreated, NotOpened, NoScript, NoDenials, Mkfs, Mount, Check, Upgrade, Run, Serve, Unmount}
 use Rattle.fs_command.specs.declared.status.Status.{Status}
 use Rattle.fs_command.specs.declared.status.Status.TheVariants.{Done, Faulty, BadWords, Failed}
 
@@ -53,12 +53,14 @@ Fails ran untouched NotCreated = untouched
 Fails ran untouched (Mkfs fault) = (fault ≡ DiskFault) × untouched
 Fails ran untouched (Mount fault) = IsOfRestart fault × untouched
 Fails ran untouched (Run fault) = ran fault
--- those of files
+-- those of files, and of the kernel
 Fails ran untouched Exists = ⊥
 Fails ran untouched NotOpened = ⊥
 Fails ran untouched NoScript = ⊥
+Fails ran untouched NoDenials = ⊥
 Fails ran untouched (Check fault) = ⊥
 Fails ran untouched (Upgrade fault) = ⊥
+Fails ran untouched (Serve fault) = ⊥
 Fails ran untouched Unmount = ⊥
 
 -- A script is to be run on a new disk of so many sectors, with so many inodes.

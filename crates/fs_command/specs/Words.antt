@@ -3,15 +3,18 @@
 --     AsksFor             a job is what that definition reads from the words
 --     Refuses          a fault is one that it gives them
 --     words_status     the status of a fault
-use Rattle.std.specs.Prelude.{◌≡◌, ◌≢◌, ◌≤◌, ◌⊎◌, ℕ, List, Option, Some, None, codes, true}
+use Rattle.std.specs.Prelude.{◌≡◌, ◌≢◌, ◌≤◌, ◌⊎◌, ℕ, List, Option, Some, None, codes, true, false}
 use Rattle.std.specs.Str.Parse.{IsNumeral, digits_value, without_leading_plus}
 use Rattle.clap.specs.Words.{App, Row, Rule, Text, IsAmong, fault_of, first_of, kind_of, new_app, new_rule, one_of, subcommand_of, with_rule, with_subcommand}
+use Rattle.clap.specs.Takes.{is_given}
+use Rattle.clap.specs.Values.{bool_text}
+use Rattle.clap.specs.declared.builder.action.ArgAction.TheVariants.{SetTrue}
 use Rattle.clap.specs.declared.builder.value_parser.ValueParser.TheVariants as vp
 use Rattle.clap.specs.declared.error.Error.{Error}
 use Rattle.clap.specs.declared.error.kind.ErrorKind.{ErrorKind}
 use Rattle.clap.specs.declared.error.kind.ErrorKind.TheVariants as kind
 use Rattle.fs_command.specs.declared.words.Job.{Job}
-use Rattle.fs_command.specs.declared.words.Job.TheVariants.{Memory, Mkfs, Run, Check, Upgrade}
+use Rattle.fs_command.specs.declared.words.Job.TheVariants.{Memory, Mkfs, Run, Check, Upgrade, Fuse}
 use Rattle.fs_command.specs.declared.words.WordsFault.{WordsFault}
 use Rattle.fs_command.specs.declared.words.WordsFault.TheVariants.{Help, BadWords, OutOfMemory}
 use Rattle.fs_command.specs.declared.status.Status.{Status}
@@ -32,6 +35,14 @@ number_option name least most = record (new_rule name) {
   parser = Some (vp.Unsigned least most);
 }
 
+-- `--name TEXT`, which may be given
+abbrev pub text_option : Text → Rule
+text_option name = record (new_rule name) { long = Some name; value_names = 1 }
+
+-- `--name`, which may be given
+abbrev pub flag : Text → Rule
+flag name = record (new_rule name) { long = Some name; action = Some SetTrue }
+
 abbrev pub mkfs : App
 mkfs = with_rule (with_rule (with_rule (new_app (codes "mkfs")) image) (number_option (codes "sectors") 1024 65536)) (number_option (codes "inodes") 16 4096)
 
@@ -44,6 +55,9 @@ check = with_rule (new_app (codes "check")) image
 abbrev pub upgrade : App
 upgrade = with_rule (new_app (codes "upgrade")) image
 
+abbrev pub fuse : App
+fuse = with_rule (with_rule (with_rule (new_app (codes "fuse")) image) (text_option (codes "denials"))) (flag (codes "own-rules"))
+
 -- the program alone, with `--version` and no command `help`
 abbrev pub alone : App
 alone = record (new_app (codes "inofs")) {
@@ -51,7 +65,8 @@ alone = record (new_app (codes "inofs")) {
 }
 
 abbrev pub command_line : App
-command_line = with_subcommand (with_subcommand (with_subcommand (with_subcommand alone mkfs.top) run.top) check.top) upgrade.top
+command_line = with_subcommand (with_subcommand (with_subcommand (with_subcommand (with_subcommand alone
+    mkfs.top) run.top) check.top) upgrade.top) fuse.top
 
 -- ---- what it reads
 
@@ -80,6 +95,11 @@ abbrev pub SaysUpgrade : List Row → Job → Type 0
 SaysUpgrade rows (Upgrade image) = first_of (codes "IMAGE") rows ≡ Some image
 SaysUpgrade rows job = ⊥
 
+abbrev pub SaysFuse : List Row → Job → Type 0
+SaysFuse rows (Fuse image denials own_rules) = (first_of (codes "IMAGE") rows ≡ Some image)
+    × (first_of (codes "denials") rows ≡ denials) × (is_given (codes "own-rules") rows ≡ own_rules)
+SaysFuse rows job = ⊥
+
 -- the job of a command and its values, or of none
 abbrev pub SaysJob : Option (Text × List Row) → Job → Type 0
 SaysJob named Memory = named ≡ None
@@ -87,6 +107,8 @@ SaysJob named (Mkfs image sectors inodes) = (rows : List Row) × (named ≡ Some
 SaysJob named (Run image script) = (rows : List Row) × (named ≡ Some (codes "run", rows)) × SaysRun rows (Run image script)
 SaysJob named (Check image) = (rows : List Row) × (named ≡ Some (codes "check", rows)) × SaysCheck rows (Check image)
 SaysJob named (Upgrade image) = (rows : List Row) × (named ≡ Some (codes "upgrade", rows)) × SaysUpgrade rows (Upgrade image)
+SaysJob named (Fuse image denials own_rules) =
+    (rows : List Row) × (named ≡ Some (codes "fuse", rows)) × SaysFuse rows (Fuse image denials own_rules)
 
 -- the job is that of the command that the words name, with its values. The first word is the program's name.
 abbrev pub AsksFor : List Text → Job → Type 0
@@ -126,13 +148,18 @@ IsGiven id rows = (text : Text) × (first_of id rows ≡ Some text)
 abbrev pub IsNumberGiven : ℕ → ℕ → Text → List Row → Type 0
 IsNumberGiven least most id rows = (n : ℕ) × IsNumberFor least most (one_of id rows) n
 
--- the command is one of the four, and has the values that have to be given
+-- the flag's value is true where the words have it, and else false or none
+abbrev pub IsFlag : Text → List Row → Type 0
+IsFlag id rows = (one_of id rows ≡ Some (bool_text (is_given id rows))) ⊎ ((one_of id rows ≡ None) × (is_given id rows ≡ false))
+
+-- the command is one of the five, and has the values that have to be given
 abbrev pub IsWhole : Text × List Row → Type 0
 IsWhole named = ((named.0 ≡ codes "mkfs") × IsGiven (codes "IMAGE") named.1
     × IsNumberGiven 1024 65536 (codes "sectors") named.1 × IsNumberGiven 16 4096 (codes "inodes") named.1)
     ⊎ (((named.0 ≡ codes "run") × IsGiven (codes "IMAGE") named.1)
     ⊎ (((named.0 ≡ codes "check") × IsGiven (codes "IMAGE") named.1)
-    ⊎ ((named.0 ≡ codes "upgrade") × IsGiven (codes "IMAGE") named.1)))
+    ⊎ (((named.0 ≡ codes "upgrade") × IsGiven (codes "IMAGE") named.1)
+    ⊎ ((named.0 ≡ codes "fuse") × IsGiven (codes "IMAGE") named.1 × IsFlag (codes "own-rules") named.1))))
 
 abbrev pub HasValues : Option (Text × List Row) → Type 0
 HasValues None = Unit {0}

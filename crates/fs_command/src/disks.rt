@@ -19,8 +19,8 @@ use sector_disk::Disk;
 use std::alloc::Global;
 use std::io::{self, Read, Write};
 
-// Prints why a job wasn't done.
-fn tell<E: Write>(err: &mut E, failure: &Failure) -> Status
+/// Prints why a job wasn't done.
+pub(crate) fn tell<E: Write>(err: &mut E, failure: &Failure) -> Status
     ensures { result ≡ Status.Failed }
 {
     let _ = writeln!(err, "{failure}");

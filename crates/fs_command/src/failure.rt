@@ -3,6 +3,7 @@
 use fs_check::CheckFault;
 use fs_shell::RunFault;
 use fs_system::{MkfsFault, MountFault, UpgradeFault};
+use fuse_serving::ServeFault;
 use thiserror::Error;
 
 /// Why a job wasn't done.
@@ -20,6 +21,9 @@ pub enum Failure {
     /// The script can't be opened.
     #[error("script: cannot open")]
     NoScript,
+    /// The file for denials can neither be made nor opened.
+    #[error("denials: cannot open")]
+    NoDenials,
     /// No file system was made.
     #[error("mkfs: {0}")]
     Mkfs(MkfsFault),
@@ -35,7 +39,10 @@ pub enum Failure {
     /// The run ended early.
     #[error("run: {0}")]
     Run(RunFault),
-    /// What the script did may not last.
+    /// The serving ended early, or didn't begin.
+    #[error("fuse: {0}")]
+    Serve(ServeFault),
+    /// What the script did, or what was served, may not last.
     #[error("unmount: EIO")]
     Unmount,
 }

@@ -1,30 +1,34 @@
 //! What the program does for its words.
 
-ghost use Rattle.std.specs.Prelude.{◌≡◌, ◌⊎◌, ◌≤◌, map, string_bytes, MatchResult, Err};
+ghost use Rattle.std.specs.Prelude.{◌≡◌, ◌⊎◌, ◌≤◌, map, string_bytes, MatchResult, Err, IfErr, IsSome};
 ghost use Rattle.std.specs.Option.{option_copied};
 ghost use Rattle.sector_disk.specs.Disk.{IsFresh};
 ghost use Rattle.fs_command.specs.Jobs.{ImageMkfsEnds, ImageRunEnds, ImageCheckEnds, ImageUpgradeEnds, JobEnds, ProgramEnds};
+ghost use Rattle.fs_command.specs.Serving.{ImageFuseEnds};
 ghost use Rattle.fs_command.specs.Streams.{reading, writing};
 ghost use Rattle.fs_command.specs.Words.{words_status};
 
+use crate::denials::DenialList;
 use crate::disks::{check_disk, finish, make_on_disk, run_on_disk, upgrade_disk, written};
 use crate::failure::Failure;
 use crate::memory::run_in_memory;
+use crate::served::serve_on_disk;
 use crate::status::Status;
 use crate::words::{Job, Text, WordsFault, parse_words};
 use fs_layout::place_of;
 use fs_shell::Watched;
 use fs_system::MkfsFault;
+use fuse_serving::Standard;
 use sector_disk::{Disk, DiskFile, FileDisk, FileFault, MemDisk};
-use std::fs;
+use std::fs::{self, OpenOptions};
 use std::io::{Read, Write};
-use std::rt::Files;
+use std::rt::{Clock, Files};
 
 /// Does what the words ask for, the program's name being the first of them, and answers the status.
 ///
 /// A script on the standard input is read from `input`, and replies are written to `out`: whether a call of them fails is
 /// remembered. A text that can't be written is passed over, with status 3.
-pub fn perform<R: Files<File: DiskFile> + AllocGlobal, I: Read, O: Write, E: Write>(
+pub fn perform<R: Files<File: DiskFile> + AllocGlobal + Clock, I: Read, O: Write, E: Write>(
     rt: &R,
     words: &[String],
     input: &mut Watched<I>,
@@ -55,7 +59,7 @@ fn refuse<O: Write, E: Write>(fault: &WordsFault, out: &mut Watched<O>, err: &mu
     }
 }
 
-fn perform_job<R: Files<File: DiskFile> + AllocGlobal, I: Read, O: Write, E: Write>(
+fn perform_job<R: Files<File: DiskFile> + AllocGlobal + Clock, I: Read, O: Write, E: Write>(
     rt: &R,
     job: &Job,
     input: &mut Watched<I>,
@@ -78,6 +82,11 @@ fn perform_job<R: Files<File: DiskFile> + AllocGlobal, I: Read, O: Write, E: Wri
         Job::Run { image, script } => run_image(rt, image, script.as_ref(), input, out, err),
         Job::Check { image } => check_image(rt, image, out),
         Job::Upgrade { image } => upgrade_image(rt, image, out),
+        Job::Fuse {
+            image,
+            denials,
+            own_rules,
+        } => serve_image(rt, image, denials.as_ref(), *own_rules, input, out, err),
     }
 }
 
@@ -157,4 +166,39 @@ fn upgrade_image<R: Files<File: DiskFile> + AllocGlobal, O: Write>(
 {
     let mut disk = open_image(rt, image)?;
     upgrade_disk(rt.alloc(), &mut disk, out)
+}
+
+// Requests are read from the one stream, and replies are written to the other.
+fn serve_image<R: Files<File: DiskFile> + AllocGlobal + Clock, I: Read, O: Write, E: Write>(
+    rt: &R,
+    image: &Text,
+    denials: Option<&Text>,
+    own_rules: bool,
+    input: &mut Watched<I>,
+    out: &mut Watched<O>,
+    err: &mut E,
+) -> Result<Status, Failure>
+    ensures { ImageFuseEnds ⟦<FileDisk<R::File> as Disk>⟧.state (option_copied denials.entry) own_rules result }
+{
+    let disk = open_image(rt, image)?;
+    let mut witness = DenialList::new(rt.alloc(), open_denials(rt, denials)?);
+    let mut kernel = Standard::new(rt, input, out);
+    serve_on_disk(rt.alloc(), disk, own_rules, &mut kernel, &mut witness, err)
+}
+
+// The file for denials, if one is named. What it has stays, and lines are added.
+fn open_denials<R: Files>(rt: &R, path: Option<&Text>) -> Result<Option<R::File>, Failure>
+    ensures { IfErr result (λ failure. (failure ≡ Failure.NoDenials) × IsSome (option_copied path.entry)) }
+{
+    let Some(path) = path else {
+        return Ok(None);
+    };
+    match OpenOptions::new()
+        .append(true)
+        .create(true)
+        .open(rt, path.as_str())
+    {
+        Ok(file) => Ok(Some(file)),
+        Err(_) => Err(Failure::NoDenials),
+    }
 }

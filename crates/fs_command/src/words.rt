@@ -1,13 +1,14 @@
 //! What the words of the command line ask for.
 ghost use Rattle.std.specs.Prelude.{◌≡◌, MatchResult, IfOk, [], codes, map, string_bytes, false};
 ghost use Rattle.clap.specs.Words.{app_of, found_of, rows_of, rule_of, fault_of, subcommand_rows_of};
-ghost use Rattle.fs_command.specs.Words.{command_line, mkfs, run, check, upgrade, image, number_option, IsGiven, IsNumberGiven};
-ghost use Rattle.fs_command.specs.Words.{HasValues, AsksFor, SaysJob, SaysMkfs, SaysRun, SaysCheck, SaysUpgrade, Refuses, words_status};
+ghost use Rattle.fs_command.specs.Words.{command_line, alone, mkfs, run, check, upgrade, fuse};
+ghost use Rattle.fs_command.specs.Words.{image, number_option, text_option, flag, IsGiven, IsNumberGiven, IsFlag, words_status};
+ghost use Rattle.fs_command.specs.Words.{HasValues, AsksFor, SaysJob, SaysMkfs, SaysRun, SaysCheck, SaysUpgrade, SaysFuse, Refuses};
 
 use crate::status::Status;
 use clap::builder::ValueParser;
 use clap::error::ErrorKind;
-use clap::{Arg, ArgMatches, Command, Error};
+use clap::{Arg, ArgAction, ArgMatches, Command, Error};
 use std::alloc::{AllocError, Global};
 use std::marker::Model;
 use thiserror::Error as ThisError;
@@ -18,7 +19,8 @@ const USAGE: &str = "inofs
        inofs mkfs IMAGE --sectors N --inodes N
        inofs run IMAGE [SCRIPT]
        inofs check IMAGE
-       inofs upgrade IMAGE";
+       inofs upgrade IMAGE
+       inofs fuse IMAGE [--denials FILE] [--own-rules]";
 
 const STATUSES: &str =
     "With no command, runs the script on the standard input on a new disk in memory.
@@ -87,6 +89,15 @@ pub enum Job {
     Upgrade {
         /// The image's path.
         image: Text,
+    },
+    /// To serve the kernel's FUSE requests from an image.
+    Fuse {
+        /// The image's path.
+        image: Text,
+        /// The path of the file to which denials are written, if there is one.
+        denials: Option<Text>,
+        /// The kernel judges no ACLs: every denial is ours.
+        own_rules: bool,
     },
 }
 
@@ -168,6 +179,9 @@ fn named_job(alloc: Global, matches: &ArgMatches<'_>) -> Result<Job, AllocError>
     if let Some(matches) = matches.subcommand_matches("upgrade") {
         return upgrade_job(alloc, matches);
     }
+    if let Some(matches) = matches.subcommand_matches("fuse") {
+        return fuse_job(alloc, matches);
+    }
     Ok(Job::Memory)
 }
 
@@ -216,9 +230,40 @@ fn upgrade_job(alloc: Global, matches: &ArgMatches<'_>) -> Result<Job, AllocErro
     Ok(Job::Upgrade { image })
 }
 
+// The job of `fuse`.
+fn fuse_job(alloc: Global, matches: &ArgMatches<'_>) -> Result<Job, AllocError>
+    requires image { IsGiven (codes "IMAGE") (rows_of (found_of matches.now)) }
+    requires own_rules { IsFlag (codes "own-rules") (rows_of (found_of matches.now)) }
+    ensures { IfOk result (SaysFuse (rows_of (found_of matches.now))) }
+{
+    let image = Text::new(alloc, matches.get_str("IMAGE").unwrap())?;
+    let denials = match matches.get_str("denials") {
+        Some(path) => Some(Text::new(alloc, path)?),
+        None => None,
+    };
+    let own_rules = matches.get_flag("own-rules");
+    Ok(Job::Fuse {
+        image,
+        denials,
+        own_rules,
+    })
+}
+
 // The command line.
 fn program<'a>(alloc: Global) -> Result<Command<'a>, AllocError>
     ensures { IfOk result (λ command. app_of command ≡ command_line) }
+{
+    program_alone(alloc)
+        .subcommand(mkfs_command(alloc)?)?
+        .subcommand(run_command(alloc)?)?
+        .subcommand(check_command(alloc)?)?
+        .subcommand(upgrade_command(alloc)?)?
+        .subcommand(fuse_command(alloc)?)
+}
+
+// The program alone, with no command.
+fn program_alone<'a>(alloc: Global) -> Command<'a>
+    ensures { app_of result ≡ alone }
 {
     Command::new(alloc, "inofs")
         .version(VERSION)
@@ -226,10 +271,6 @@ fn program<'a>(alloc: Global) -> Result<Command<'a>, AllocError>
         .override_usage(USAGE)
         .after_help(STATUSES)
         .disable_help_subcommand(true)
-        .subcommand(mkfs_command(alloc)?)?
-        .subcommand(run_command(alloc)?)?
-        .subcommand(check_command(alloc)?)?
-        .subcommand(upgrade_command(alloc)?)
 }
 
 // The words of `mkfs`.
@@ -274,6 +315,21 @@ fn upgrade_command<'a>(alloc: Global) -> Result<Command<'a>, AllocError>
         .arg(image(alloc).help("The image"))
 }
 
+// The words of `fuse`.
+fn fuse_command<'a>(alloc: Global) -> Result<Command<'a>, AllocError>
+    ensures { IfOk result (λ command. app_of command ≡ fuse) }
+{
+    let denials = text_option(alloc, "denials", "FILE").help(
+        "The file to which denials are written, a line each",
+    );
+    let own_rules = flag(alloc, "own-rules").help("Let the kernel judge no ACLs");
+    Command::new(alloc, "fuse")
+        .about("Serve an image to the kernel's FUSE, on the standard input and output")
+        .arg(image(alloc).help("The image"))?
+        .arg(denials)?
+        .arg(own_rules)
+}
+
 // The path of the image.
 fn image<'a>(alloc: Global) -> Arg<'a>
     ensures rule { rule_of result ≡ image }
@@ -292,4 +348,20 @@ fn number<'a>(alloc: Global, name: &'a str, least: u64, most: u64) -> Arg<'a>
         .value_name("N")
         .required(true)
         .value_parser(ValueParser::unsigned(least, most))
+}
+
+// A text that may be given.
+fn text_option<'a>(alloc: Global, name: &'a str, value_name: &'a str) -> Arg<'a>
+    ensures rule { rule_of result ≡ text_option name.entry.now }
+    ensures local { result.global ≡ false }
+{
+    Arg::new(alloc, name).long(name).value_name(value_name)
+}
+
+// A flag that may be given.
+fn flag<'a>(alloc: Global, name: &'a str) -> Arg<'a>
+    ensures rule { rule_of result ≡ flag name.entry.now }
+    ensures local { result.global ≡ false }
+{
+    Arg::new(alloc, name).long(name).action(ArgAction::SetTrue)
 }

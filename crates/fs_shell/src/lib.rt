@@ -25,5 +25,5 @@ pub use line::{Line, LineFault, MAX_LINE};
 pub use parse::parse_line;
 pub use runner::run;
 pub use script::MAX_SCRIPT;
-pub use text::{fault_text, reply_text};
+pub use text::{fault_text, reply_text, word_text};
 pub use watched::Watched;

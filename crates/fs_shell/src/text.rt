@@ -36,6 +36,15 @@ pub fn fault_text(alloc: Global, fault: LineFault) -> Result<String, AllocError>
     Ok(text)
 }
 
+/// The text of bytes as one word of a line.
+pub fn word_text(alloc: Global, bytes: &[u8]) -> Result<String, AllocError>
+    ensures { IfOk result (λ text. string_bytes text ≡ word_text bytes.now) }
+{
+    let mut text = String::new(alloc);
+    push_word(&mut text, bytes)?;
+    Ok(text)
+}
+
 #[tactic(auto, unfolding(crate::specs::Texts::reply_text))]
 fn push_reply(text: &mut String, reply: &Reply) -> Result<(), AllocError>
     ensures { OnOk result (string_bytes text.new ≡ string_bytes text.old ++ reply_text reply.now) }

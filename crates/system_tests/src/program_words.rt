@@ -42,6 +42,20 @@ fn told(alloc: Global, outcome: &Result<Job, WordsFault>) -> Result<String, Allo
         ) => format!(in alloc; "run {}", image.as_str()),
         Ok(Job::Check { image }) => format!(in alloc; "check {}", image.as_str()),
         Ok(Job::Upgrade { image }) => format!(in alloc; "upgrade {}", image.as_str()),
+        Ok(
+            Job::Fuse {
+                image,
+                denials: Some(denials),
+                own_rules,
+            },
+        ) => format!(in alloc; "fuse {} {} {own_rules}", image.as_str(), denials.as_str()),
+        Ok(
+            Job::Fuse {
+                image,
+                denials: None,
+                own_rules,
+            },
+        ) => format!(in alloc; "fuse {} {own_rules}", image.as_str()),
         Err(fault) => match fault {
             WordsFault::Help(_) => format!(in alloc; "help {}", fault.status().code()),
             WordsFault::BadWords(_) => format!(in alloc; "bad {}", fault.status().code()),
@@ -53,7 +67,7 @@ fn told(alloc: Global, outcome: &Result<Job, WordsFault>) -> Result<String, Allo
 // ---- what is asked for
 
 // Lines, and what they ask for.
-const JOBS: [(&str, &str); 10] = [
+const JOBS: [(&str, &str); 14] = [
     ("inofs", "memory"),
     (
         "inofs mkfs a.img --sectors 1024 --inodes 16",
@@ -73,10 +87,14 @@ const JOBS: [(&str, &str); 10] = [
     ("inofs check a.img", "check a.img"),
     ("/usr/bin/inofs check check", "check check"),
     ("inofs upgrade a.img", "upgrade a.img"),
+    ("inofs fuse a.img", "fuse a.img false"),
+    ("inofs fuse a.img --own-rules", "fuse a.img true"),
+    ("inofs fuse --denials d a.img", "fuse a.img d false"),
+    ("inofs fuse a.img --denials=d --own-rules", "fuse a.img d true"),
 ];
 
 // Lines that ask for no job.
-const BAD: [&str; 28] = [
+const BAD: [&str; 36] = [
     "inofs mkfs",
     "inofs mkfs a.img",
     "inofs mkfs a.img --sectors 1024",
@@ -99,6 +117,14 @@ const BAD: [&str; 28] = [
     "inofs check a.img b.img",
     "inofs upgrade",
     "inofs upgrade a.img b.img",
+    "inofs fuse",
+    "inofs fuse a.img b.img",
+    "inofs fuse a.img --denials",
+    "inofs fuse a.img --denials --own-rules",
+    "inofs fuse a.img --denials c --denials d",
+    "inofs fuse a.img --own-rules --own-rules",
+    "inofs fuse a.img --own-rules=true",
+    "inofs fuse a.img --own_rules",
     "inofs fsck a.img",
     "inofs help",
     "inofs a.img",
@@ -108,7 +134,7 @@ const BAD: [&str; 28] = [
 ];
 
 // Lines that ask for help or the version.
-const SHOWN: [&str; 8] = [
+const SHOWN: [&str; 9] = [
     "inofs --help",
     "inofs -h",
     "inofs --version",
@@ -117,6 +143,7 @@ const SHOWN: [&str; 8] = [
     "inofs run a.img -h",
     "inofs check --help",
     "inofs upgrade --help",
+    "inofs fuse --help",
 ];
 
 // Adds to the report where a line asks for something other than is wanted.
@@ -149,12 +176,14 @@ Usage: inofs
        inofs run IMAGE [SCRIPT]
        inofs check IMAGE
        inofs upgrade IMAGE
+       inofs fuse IMAGE [--denials FILE] [--own-rules]
 
 Commands:
   mkfs     Make an image with an empty file system
   run      Run a script on an image
   check    Check an image
   upgrade  Upgrade an image to the newest version of the layout
+  fuse     Serve an image to the kernel's FUSE, on the standard input and output
 
 Options:
   -h, --help     Print help
@@ -163,6 +192,19 @@ Options:
 With no command, runs the script on the standard input on a new disk in memory.
 
 Status: 0 done, 1 a line's fault or a finding, 2 bad words, 3 every other fault.
+";
+
+const FUSE_HELP: &str = "Serve an image to the kernel's FUSE, on the standard input and output
+
+Usage: inofs fuse [OPTIONS] <IMAGE>
+
+Arguments:
+  <IMAGE>  The image
+
+Options:
+      --denials <FILE>  The file to which denials are written, a line each
+      --own-rules       Let the kernel judge no ACLs
+  -h, --help            Print help
 ";
 
 const MKFS_HELP: &str = "Make an image with an empty file system
@@ -179,9 +221,10 @@ Options:
 ";
 
 // Lines that ask for no job, and what is printed.
-const TEXTS: [(&str, &str); 5] = [
+const TEXTS: [(&str, &str); 6] = [
     ("inofs --help", HELP),
     ("inofs mkfs --help", MKFS_HELP),
+    ("inofs fuse --help", FUSE_HELP),
     ("inofs --version", "inofs 0.1.0\n"),
     (
         "inofs mkfs a.img --sectors 1023 --inodes 16",

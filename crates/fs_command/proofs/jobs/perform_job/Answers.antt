@@ -11,3 +11,6 @@ returns-in-Check g c = rw c.in-Check.is c.check_image.ensures
 
 pub returns-in-Upgrade : goal.returns-in-Upgrade
 returns-in-Upgrade g c = rw c.in-Upgrade.is c.upgrade_image.ensures
+
+pub returns-in-Fuse : goal.returns-in-Fuse
+returns-in-Fuse g c = rw c.in-Fuse.is (rw c.as_ref-in-Fuse.ensures.value at c.serve_image.ensures)

@@ -1,13 +1,13 @@
-use Rattle.std.proofs.Common.{rules, ◌≡◌, ◌∙◌, ap, ap₂}
+use Rattle.std.proofs.Common.{◌≡◌, ◌∙◌, ap, ap₂}
 use Rattle.std.proofs.lemmas.Result.{IfOk-weaker}
 use Rattle.clap.specs.Words.{App, app_of, with_subcommand}
 use Rattle.clap.proofs.SimpleLemmas.{plain_fields}
-use Rattle.fs_command.specs.Words.{alone, mkfs, run, check, upgrade}
+use Rattle.fs_command.specs.Words.{alone, mkfs, run, check, upgrade, fuse}
 use Rattle.fs_command.proofs.words.program.Goals as goal
 
 pub returns : goal.returns
 returns c =
-    let alone_is : app_of c.disable_help_subcommand.result ≡ alone = search rules in
+    let alone_is : app_of c.program_alone.result ≡ alone = c.program_alone.ensures in
     let mkfs_is : app_of c.in_ok-mkfs_command.field-0 ≡ mkfs = c.in_ok-mkfs_command.ensures in
     let run_is : app_of c.in_ok-run_command.field-0 ≡ run = c.in_ok-run_command.ensures in
     let check_is : app_of c.in_ok-check_command.field-0 ≡ check = c.in_ok-check_command.ensures in
@@ -21,5 +21,10 @@ returns c =
     let three_is : app_of c.in_ok-subcommand-3.field-0 ≡ with_subcommand (with_subcommand (with_subcommand alone mkfs.top) run.top) check.top =
     c.in_ok-subcommand-3.ensures.shape (plain_fields _ (ap (λ (a : App). a.top.is_plain) check_is)).globals
     ∙ ap₂ with_subcommand two_is (ap (λ (a : App). a.top) check_is) in
-    IfOk-weaker c.subcommand-4.result _ _ (λ command adds. adds.shape (plain_fields _ (ap (λ (a : App). a.top.is_plain) upgrade_is)).globals
-    ∙ ap₂ with_subcommand three_is (ap (λ (a : App). a.top) upgrade_is)) c.subcommand-4.ensures
+    let four_is : app_of c.in_ok-subcommand-4.field-0
+    ≡ with_subcommand (with_subcommand (with_subcommand (with_subcommand alone mkfs.top) run.top) check.top) upgrade.top =
+    c.in_ok-subcommand-4.ensures.shape (plain_fields _ (ap (λ (a : App). a.top.is_plain) upgrade_is)).globals
+    ∙ ap₂ with_subcommand three_is (ap (λ (a : App). a.top) upgrade_is) in
+    let fuse_is : app_of c.in_ok-fuse_command.field-0 ≡ fuse = c.in_ok-fuse_command.ensures in
+    IfOk-weaker c.subcommand-5.result _ _ (λ command adds. adds.shape (plain_fields _ (ap (λ (a : App). a.top.is_plain) fuse_is)).globals
+    ∙ ap₂ with_subcommand four_is (ap (λ (a : App). a.top) fuse_is)) c.subcommand-5.ensures

@@ -1,0 +1,82 @@
+-- How a disk is served to the kernel.
+--     settings_of        what is agreed on with it
+--     served_status, fuse_end        how that ends
+--     ServesOn, FuseEnds        a disk is mounted, served and unmounted
+--     ImageFuseEnds        the job
+use Rattle.std.specs.Prelude.{◌≡◌, ◌-◌, Bool, not, List, ℕ, Option, IsSome, Result, Ok, Err, OnOk}
+use Rattle.sector_disk.specs.Disk.{DiskState, IsFresh}
+use Rattle.fs_layout.specs.declared.place.Place.{Place}
+use Rattle.fs_model.specs.States.{State}
+use Rattle.fs_model.specs.declared.event.Event.TheVariants.{Sync}
+use Rattle.fs_model.specs.declared.reply.Reply.{Reply}
+use Rattle.fs_model.specs.declared.reply.Reply.TheVariants as replies
+use Rattle.fs_system.specs.Doing.{HappensLast}
+use Rattle.fs_system.specs.Mounts.{IsNotMounted, Mounts}
+use Rattle.fs_system.specs.Seen.{System, disk_in, IsIn}
+use Rattle.fs_system.specs.declared.faults.MountFault.{MountFault}
+use Rattle.fuse_protocol.specs.declared.reply.Time.{Time}
+use Rattle.fuse_state.specs.declared.settings.Settings.{Settings}
+use Rattle.fuse_serving.specs.Exchanges.{Exchange, SeesTime}
+use Rattle.fuse_serving.specs.declared.fault.ServeFault.{ServeFault}
+use Rattle.fs_fuse.specs.Performing.{ServedFrom}
+use Rattle.fs_command.specs.declared.failure.Failure.{Failure}
+use Rattle.fs_command.specs.declared.failure.Failure.TheVariants as failures
+use Rattle.fs_command.specs.declared.status.Status.{Status}
+use Rattle.fs_command.specs.declared.status.Status.TheVariants.{Done, Failed}
+
+-- Writes have up to 128 KiB. With its own rules the kernel judges no ACLs. All data sectors and all inodes are shown.
+abbrev pub settings_of : Place → Bool → Time → Settings
+settings_of place own_rules start = record {
+  max_write = 131072;
+  posix_acl = not own_rules;
+  sectors = place.sectors - place.first_data;
+  inodes = place.inodes;
+  start = start;
+}
+
+abbrev pub served_status : Result (Unit {0}) ServeFault → Status
+served_status (Ok done) = Done
+served_status (Err fault) = Failed
+
+-- what was served, and what the unmount after it is answered
+abbrev pub fuse_end : Result (Unit {0}) ServeFault → Reply → Result Status Failure
+fuse_end served replies.Done = Ok (served_status served)
+fuse_end served reply = Err failures.Unmount
+
+-- A disk was mounted; the kernel's requests were served from its file system, until the end or a fault; and then that was
+-- unmounted. The unmount makes all stable, as sync does.
+pub record ServesOn {D K : Type 0} (state : D → DiskState) (Does : K → Exchange → K → Type 0) (disk : D) (own_rules : Bool)
+    (before after : K) (served : Result (Unit {0}) ServeFault) (reply : Reply) : Type 0 where
+  pub start : Time
+  pub begun : K
+  pub sees : Does before (SeesTime start) begun
+  pub first : System D
+  pub s : State
+  pub is_first : IsIn state first s
+  pub mounts : Mounts (state disk) (disk_in state first.base) s
+  pub last : System D
+  pub serves : OnOk served (ServedFrom state Does (settings_of first.place own_rules start) first last begun after)
+  pub left : D
+  pub unmounts : HappensLast state last left Sync reply
+
+-- A disk is to be served.
+pub data FuseEnds {D K : Type 0} (state : D → DiskState) (Does : K → Exchange → K → Type 0) (disk : D) (own_rules : Bool)
+    (before after : K) (result : Result Status Failure) : Type 0 where
+  -- memory is lacking, or the time isn't known
+  cannot_begin : (fault : ServeFault) → result ≡ Err (failures.Serve fault) → FuseEnds state Does disk own_rules before after result
+  cannot_mount : (now : D) (fault : MountFault) → IsNotMounted (state disk) (state now) fault → result ≡ Err (failures.Mount fault)
+      → FuseEnds state Does disk own_rules before after result
+  has_served : (served : Result (Unit {0}) ServeFault) (reply : Reply) → ServesOn state Does disk own_rules before after served reply
+      → result ≡ fuse_end served reply → FuseEnds state Does disk own_rules before after result
+
+-- ---- of the kernel at the streams of a process nothing is known
+
+abbrev pub anything_passes : Unit {0} → Exchange → Unit {0} → Type 0
+anything_passes old exchange new = Unit {0}
+
+-- The image is to be served; denials are written to a file, if one is named.
+pub data ImageFuseEnds {D : Type 0} (state : D → DiskState) (denials : Option (List ℕ)) (own_rules : Bool) (result : Result Status Failure) : Type 0 where
+  has_nothing_to_serve : result ≡ Err failures.NotOpened → ImageFuseEnds state denials own_rules result
+  has_no_list : IsSome denials → result ≡ Err failures.NoDenials → ImageFuseEnds state denials own_rules result
+  serves : (disk : D) → IsFresh (state disk) (state disk).seen → FuseEnds state anything_passes disk own_rules tt tt result
+      → ImageFuseEnds state denials own_rules result
