@@ -1,0 +1,118 @@
+"""Kills of the server at random moments of some work: what the image then holds."""
+import os
+import random
+import signal
+import time
+
+from mounts import Worker, attempt, tree_of
+
+NAMES = [f'{folder}{name}' for folder in ('', 'd/', 'e/') for name in 'abcdef']
+
+
+def perform(root, name, *words):
+    """One change, which the server makes as one."""
+    place = [f'{root}/{word}' if type(word) is str else word for word in words]
+    return attempt(CALLS[name], *place)
+
+
+def write(path, size, place, sync):
+    file = os.open(path, os.O_WRONLY)
+    try:
+        os.pwrite(file, bytes([size % 251]) * size, place)
+        if sync:
+            os.fsync(file)
+    finally:
+        os.close(file)
+
+
+CALLS = {
+    'create': lambda path, mode: os.close(os.open(path, os.O_WRONLY | os.O_CREAT | os.O_EXCL, mode)),
+    'write': write, 'mkdir': os.mkdir, 'unlink': os.unlink, 'rename': os.rename, 'link': os.link, 'truncate': os.truncate,
+    'chmod': os.chmod, 'rmdir': os.rmdir,
+}
+
+
+def work_of(dice):
+    """Random changes that mostly succeed."""
+    yield 'mkdir', 'd', 0o755
+    yield 'mkdir', 'e', 0o755
+    while True:
+        path, other = dice.choice(NAMES), dice.choice(NAMES)
+        yield dice.choice([
+            ('create', path, 0o644), ('create', other, 0o600), ('write', path, dice.randrange(1, 4097), 4096 * dice.randrange(8), False),
+            ('write', path, dice.randrange(1, 4097), 4096 * dice.randrange(40), dice.random() < 0.3), ('rename', path, other),
+            ('unlink', path), ('link', path, other), ('truncate', path, dice.randrange(20_000)),
+            ('chmod', path, dice.choice([0o644, 0o600, 0o755]))])
+
+
+def states_of(root, work):
+    """The trees that the changes leave one after the other, and what each answers."""
+    states, answers = [tree_of(root)], []
+    for change in work:
+        answers.append(perform(root, *change))
+        states.append(tree_of(root))
+    return states, answers
+
+
+def killed(mounted, worker, work, seconds):
+    """Sends the changes until the server is killed: the answers until then, and how many changes the last sync covers."""
+    started, answers, synced, server = time.monotonic(), [], 0, mounted.server()
+    for number, change in enumerate(work):
+        worker.send(mounted.mount, *change)
+        rest = seconds - (time.monotonic() - started)
+        if rest < 0.05:
+            time.sleep(max(rest, 0))
+            os.kill(server, signal.SIGKILL)
+            server = None
+        answer = worker.answer()
+        if answer in ('ENOTCONN', 'ECONNABORTED', 'EIO') or server is None:
+            break
+        answers.append(answer)
+        if change[0] == 'write' and change[-1] and answer is None:
+            synced = number + 1
+    if server:
+        os.kill(server, signal.SIGKILL)
+    return answers, synced
+
+
+def kills(mounted, told, seed, count):
+    """Kills so many servers, each over work of its own."""
+    lost, done = [], []
+    for number in range(count):
+        dice = random.Random(f'{seed} {number}')
+        changes = work_of(dice)
+        work = [next(changes) for _ in range(250)]
+        mounted.fresh()
+        states, wanted = states_of(mounted.local, work)
+        mounted.begin()
+        worker = Worker('root', perform)
+        answers, synced = killed(mounted, worker, work, dice.random() * 1.0)
+        worker.end()
+        at = judge(mounted, told, f'kill {number} of seed {seed} behind {len(answers)} changes', states, wanted, answers, synced)
+        told.compared += 1
+        if at is not None:
+            lost.append(max(len(answers) - at, 0))
+            done.append(len(answers))
+    if done:
+        print(f'{count} kills, behind {min(done)} to {max(done)} changes, of which up to {max(lost)} were lost that nobody had synced')
+
+
+def judge(mounted, told, text, states, wanted, answers, synced):
+    """Finds out whether the image is clean, and holds a tree that the work left behind the last sync: after how many changes."""
+    if answers != wanted[:len(answers)]:
+        told.fault(f'{text}: other answers than in the directory')
+    if not mounted.gone():
+        told.fault(f'{text}: the mount stays')
+        return None
+    if not mounted.check().startswith('clean '):
+        told.fault(f'{text}: {mounted.check()}')
+        return None
+    mounted.begin()
+    found = tree_of(mounted.mount)
+    mounted.end()
+    at = [number for number, state in enumerate(states) if state == found]
+    right = [number for number in at if synced <= number <= len(answers) + 1]
+    if not right:
+        told.fault(f'{text}: the tree is that behind {at}, synced was {synced}')
+        return None
+    return right[-1]

@@ -1,0 +1,244 @@
+"""Steps that several users take, each on the mount and in a directory, one after the other.
+
+A line is `USER: COMMAND`, which a shell of the user's performs in the root of either side, or `USER: !CALL WORD..`, one of the
+functions below. What stands in brackets before the user is the number in docs/MOUNT.md under which a difference of that step is
+known. Lines `== TITLE: TOOL..` begin a group, which needs these tools; groups build on none but themselves.
+"""
+import mmap
+import os
+import pathlib
+import re
+import shutil
+import time
+
+from mounts import ACLS, SECONDS, acl_bytes, acls_of, attempt, become
+
+STEPS = (pathlib.Path(__file__).resolve().parent / 'mounted.steps').read_text()
+LINE = re.compile(r'(?:\[(\d+)\] )?(\w+): (.*)')
+
+
+# ---- calls that no tool makes
+
+def set_acl(path, name, text):
+    os.setxattr(path, ACLS[name], acl_bytes(text))
+
+
+def remove_acl(path, name):
+    os.removexattr(path, ACLS[name])
+
+
+def list_attributes(path):
+    return sorted(os.listxattr(path))
+
+
+def unlinked_open_file(path):
+    """Bytes that are written to a file without a name, and read again; and what it is."""
+    file = os.open(path, os.O_RDWR | os.O_CREAT | os.O_EXCL, 0o600)
+    os.write(file, b'first ')
+    os.unlink(path)
+    os.write(file, b'second')
+    os.ftruncate(file, 9)
+    seen = os.fstat(file)
+    return os.pread(file, 100, 0), seen.st_size, seen.st_nlink, attempt(os.stat, path)
+
+
+def rename_over_open_file(one, other):
+    """An open file that loses its name to another keeps its bytes."""
+    pathlib.Path(one).write_bytes(b'new')
+    pathlib.Path(other).write_bytes(b'old')
+    with open(other, 'rb') as file:
+        os.rename(one, other)
+        return file.read(), pathlib.Path(other).read_bytes(), os.fstat(file.fileno()).st_nlink
+
+
+def shared_map(path):
+    """Bytes written by a shared map are read by the file, and the other way round."""
+    pathlib.Path(path).write_bytes(bytes(10_000))
+    with open(path, 'r+b') as file, mmap.mmap(file.fileno(), 0) as pages:
+        pages[4090:4100] = b'0123456789'
+        pages.flush()
+        before = os.pread(file.fileno(), 10, 4090)
+        os.pwrite(file.fileno(), b'abc', 9_000)
+        return before, pages[9_000:9_003], os.fstat(file.fileno()).st_size
+
+
+def private_map(path):
+    with open(path, 'r+b') as file, mmap.mmap(file.fileno(), 0, access=mmap.ACCESS_COPY) as pages:
+        pages[0:3] = b'xyz'
+        return pages[0:3], os.pread(file.fileno(), 3, 0)
+
+
+def map_of_unlinked(path):
+    file = os.open(path, os.O_RDWR | os.O_CREAT, 0o600)
+    os.ftruncate(file, 5_000)
+    os.unlink(path)
+    with mmap.mmap(file, 5_000) as pages:
+        pages[4_998:5_000] = b'ok'
+        pages.flush()
+    return os.pread(file, 10, 4_996)
+
+
+def appends(path):
+    """Two descriptors that append."""
+    files = [os.open(path, os.O_WRONLY | os.O_CREAT | os.O_APPEND, 0o644) for _ in range(2)]
+    for number in range(6):
+        os.write(files[number % 2], str(number).encode())
+    return pathlib.Path(path).read_bytes()
+
+
+def removed_directory(path):
+    """What is left of a directory that is open while it is removed."""
+    os.mkdir(path)
+    folder = os.open(path, os.O_RDONLY)
+    os.rmdir(path)
+    return attempt(os.listdir, folder), attempt(lambda: os.open('x', os.O_CREAT | os.O_WRONLY, dir_fd=folder))
+
+
+def stat_of_removed_directory(path):
+    os.mkdir(path)
+    folder = os.open(path, os.O_RDONLY)
+    os.rmdir(path)
+    return attempt(lambda: os.fstat(folder).st_nlink)
+
+
+def descriptor_calls(path):
+    """chmod, chown and times by a descriptor, with a name and without one."""
+    file = os.open(path, os.O_RDWR | os.O_CREAT, 0o644)
+    named = attempt(os.fchmod, file, 0o640), attempt(os.utime, file, (5, 6)), os.fstat(file).st_mtime
+    os.unlink(path)
+    return named, attempt(os.fchmod, file, 0o600), attempt(os.fchown, file, 0, 0)
+
+
+def times(path):
+    """Times that are set are told."""
+    os.utime(path, ns=(1_000_000_001, 2_000_000_002))
+    seen = os.stat(path)
+    return seen.st_atime_ns, seen.st_mtime_ns
+
+
+def times_move(path):
+    """Which times move by which call, seen from one that lies behind."""
+    moved = []
+    for call in (lambda: os.chmod(path, 0o600), lambda: os.truncate(path, 1), lambda: pathlib.Path(path).write_bytes(b'new'),
+                 lambda: os.link(path, f'{path}.link'), lambda: os.rename(f'{path}.link', f'{path}.name')):
+        os.utime(path, (100, 100))
+        before = os.stat(path)
+        call()
+        after = os.stat(path)
+        moved.append((after.st_mtime != before.st_mtime, after.st_ctime >= before.st_ctime))
+    return moved
+
+
+def times_of_directories(path):
+    """Which times of a directory move by a name that comes, changes or goes, and not by a file's bytes."""
+    os.mkdir(path)
+    moved = []
+    for call in (lambda: pathlib.Path(path, 'f').write_bytes(b''), lambda: pathlib.Path(path, 'f').write_bytes(b'x'),
+                 lambda: os.rename(f'{path}/f', f'{path}/g'), lambda: os.chmod(f'{path}/g', 0o600),
+                 lambda: os.unlink(f'{path}/g')):
+        os.utime(path, (100, 100))
+        call()
+        moved.append(os.stat(path).st_mtime != 100)
+    return moved
+
+
+def holes(path):
+    """A file with a hole, and reads within and behind it."""
+    with open(path, 'wb') as file:
+        file.seek(100_000)
+        file.write(b'end')
+    with open(path, 'rb') as file:
+        return os.pread(file.fileno(), 4, 50_000), os.pread(file.fileno(), 10, 99_998), os.pread(file.fileno(), 1, 200_000)
+
+
+def limits(folder):
+    """The longest name and target that are taken."""
+    return [attempt(os.mkdir, f'{folder}/{"n" * length}') for length in (120, 121)]
+
+
+def opens(path, words):
+    """An open with these flags, such as `RDONLY|TRUNC`."""
+    flags = sum(getattr(os, f'O_{word}') for word in words.split('|'))
+    file = attempt(os.open, path, flags, 0o640)
+    if isinstance(file, int):
+        os.close(file)
+        return 'opened'
+    return file
+
+
+def listing_while_removed(path):
+    """All names are told once while names that were told are removed."""
+    os.mkdir(path)
+    for number in range(200):
+        pathlib.Path(path, f'n{number}').touch()
+    told = []
+    for entry in os.scandir(path):
+        told.append(entry.name)
+        os.unlink(entry.path)
+    return len(told), len(set(told)), os.listdir(path)
+
+
+CALLS = {call.__name__: call for call in (
+    set_acl, remove_acl, list_attributes, acls_of, unlinked_open_file, rename_over_open_file, shared_map, private_map,
+    map_of_unlinked, appends, removed_directory, stat_of_removed_directory, descriptor_calls, times, times_move,
+    times_of_directories, holes, limits, opens, listing_while_removed)}
+for name in ('chmod', 'chown', 'link', 'symlink', 'rename', 'unlink', 'rmdir', 'mkdir', 'mkfifo', 'truncate', 'access', 'lchown'):
+    CALLS[name] = getattr(os, name)
+
+
+# ---- performing them
+
+def called(words):
+    name, *words = words.split()
+    numbers = [int(word[1:], 8) if re.fullmatch('=[0-7]+', word) else int(word) if re.fullmatch('-?[0-9]+', word) else word
+               for word in words]
+    return repr(attempt(CALLS[name], *numbers))
+
+
+def performed(user, command, side):
+    """What a command of a user answers in the root of a side: its text and its status."""
+    reading, writing = os.pipe()
+    child = os.fork()
+    if child == 0:
+        try:
+            os.chdir(side)
+            become(user)
+            os.umask(0o022)
+            os.dup2(writing, 1)
+            os.dup2(writing, 2)
+            if command.startswith('!'):
+                os.write(1, called(command[1:]).encode())
+                os._exit(0)
+            home = {'HOME': str(side), 'LC_ALL': 'C', 'PATH': '/usr/local/bin:/usr/bin:/bin', 'GIT_CONFIG_NOSYSTEM': '1'}
+            os.execvpe('timeout', ['timeout', str(SECONDS), 'sh', '-c', command], home)
+        except BaseException as error:
+            os.write(1, repr(error).encode())
+            os._exit(1)
+    os.close(writing)
+    with os.fdopen(reading, 'rb') as text:
+        said = text.read().decode('utf-8', 'replace')
+    status = os.waitstatus_to_exitcode(os.waitpid(child, 0)[1])
+    return said.replace(str(side), '.').strip(), status
+
+
+def groups():
+    """Titles, the tools that a group needs, and its lines."""
+    for group in STEPS.split('\n== ')[1:]:
+        head, *lines = group.strip().split('\n')
+        title, tools = head.split(':')
+        yield title, tools.split(), [line for line in lines if line and line[0] != '#']
+
+
+def take_steps(mounted, compare):
+    """Takes the steps of each group on both sides; `compare` is told of each."""
+    for title, tools, lines in groups():
+        began = time.monotonic()
+        missing = [tool for tool in tools if not shutil.which(tool)]
+        if missing:
+            print(f'{title}: not tried, {" and ".join(missing)} not here', flush=True)
+            continue
+        for line in lines:
+            number, user, command = LINE.fullmatch(line).groups()
+            answers = [performed(user, command, side) for side in mounted.sides()]
+            compare(title, line, number, *answers)
+        print(f'{title}: {len(lines)} steps, {time.monotonic() - began:.0f} seconds', flush=True)
