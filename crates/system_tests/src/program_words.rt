@@ -90,7 +90,10 @@ const JOBS: [(&str, &str); 14] = [
     ("inofs fuse a.img", "fuse a.img false"),
     ("inofs fuse a.img --own-rules", "fuse a.img true"),
     ("inofs fuse --denials d a.img", "fuse a.img d false"),
-    ("inofs fuse a.img --denials=d --own-rules", "fuse a.img d true"),
+    (
+        "inofs fuse a.img --denials=d --own-rules",
+        "fuse a.img d true",
+    ),
 ];
 
 // Lines that ask for no job.
