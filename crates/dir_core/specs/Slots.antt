@@ -2,6 +2,7 @@
 --     HasSlots        an inode is a directory with these slots
 --     IsBlock        what a block of the inode holds
 --     IsSlotAt        a slot's bytes stand at an offset
+--     IsFoundInBlock        what a search of one block for a name finds
 --     IsFoundIn        what a search for a name finds
 --     name_entry        a slot as an entry of the map of names
 use Rattle.std.specs.Prelude.{◌≡◌, ◌≢◌, ℕ, ◌+◌, ◌*◌, ◌<◌, List, length, slice_index, slice_index_or, All, Option, None, Some}
@@ -28,6 +29,15 @@ IsBlock image v k block = (i : ℕ) → i < 512 → slice_index block i ≡ byte
 -- the bytes from an offset on are those of this slot
 abbrev pub IsSlotAt : List ℕ → ℕ → NamedInode → Type 0
 IsSlotAt block at x = FitsSlot x × (window block at SLOT_SIZE ≡ slot_bytes x)
+
+-- the slot of a block that has the name, with its inode; the name's length stands there, as in no slot that isn't in use. None where
+-- no slot has it
+abbrev pub IsFoundInBlock : List ℕ → List ℕ → Option FoundSlot → Type 0
+IsFoundInBlock block name None = (i : ℕ) (x : NamedInode) → i < 4 → IsSlotAt block (SLOT_SIZE * i) x → x.name ≢ name
+IsFoundInBlock block name (Some found) =
+    (found.slot < 4)
+    × (slice_index block (SLOT_SIZE * found.slot + 4) ≡ length name)
+    × ((x : NamedInode) → IsSlotAt block (SLOT_SIZE * found.slot) x → x ≡ record { inode = found.inode; name = name })
 
 -- the slot that has the name, with its inode; None where no slot has it
 abbrev pub IsFoundIn : List NamedInode → List ℕ → Option FoundSlot → Type 0

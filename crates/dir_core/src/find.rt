@@ -1,11 +1,11 @@
 //! The slot of a name.
 
-ghost use Rattle.std.specs.Prelude.{◌≡◌, ◌≢◌, ◌↔◌, ◌≤◌, ◌<◌, ◌+◌, ◌/◌, ◌%◌, ℕ, List, length, IsTrue, IfOk, OnOk};
+ghost use Rattle.std.specs.Prelude.{◌≡◌, ◌↔◌, ◌≤◌, ◌<◌, ◌+◌, List, length, slice_index, IsTrue, IfOk};
 ghost use Rattle.sector_disk.specs.Disk.{HasCause};
 ghost use Rattle.fs_layout.specs.Directories.{NamedInode};
 ghost use Rattle.sector_txn.specs.Sectors.{IsUnchanged};
-ghost use Rattle.block_map.specs.Blocks.{IsWithin, IsAtHand};
-ghost use Rattle.dir_core.specs.Slots.{HasSlots, IsBlock, IsSlotAt, IsFoundIn};
+ghost use Rattle.block_map.specs.Blocks.{IsWithin};
+ghost use Rattle.dir_core.specs.Slots.{HasSlots, IsSlotAt, IsFoundInBlock, IsFoundIn};
 
 use block_map::Blocks;
 use byteorder::{ByteOrder, LittleEndian};
@@ -30,7 +30,8 @@ pub(crate) struct FoundSlot {
 fn is_named(block: &[u8; 512], at: usize, name: &[u8]) -> bool
     requires within { at + SLOT_SIZE ≤ 512 }
     requires len { (0 < length name.now) × (length name.now ≤ MAX_NAME) }
-    ensures { (x : NamedInode) → IsSlotAt block.now at x → (IsTrue result ↔ (x.name ≡ name.now)) }
+    ensures named { (x : NamedInode) → IsSlotAt block.now at x → (IsTrue result ↔ (x.name ≡ name.now)) }
+    ensures len { IsTrue result → slice_index block.now (at + 4) ≡ length name.now }
 {
     let len = name.len();
     if block[at + 4] as usize != len {
@@ -50,26 +51,19 @@ fn slot_inode(block: &[u8; 512], at: usize) -> u32
     LittleEndian::read_u32(&block[at..])
 }
 
-/// Reads the block of a slot, where the slot is the block's first; else the block is at hand.
-pub(crate) fn read_block_of<S: Sectors>(
-    s: &mut S,
-    blocks: &mut Blocks,
-    slot: u64,
-    block: &mut [u8; 512],
-) -> Result<(), DiskFault>
-    requires within { IsWithin (S.state s.old).disk.size (S.state s.old).sectors blocks.old.inode }
-    requires pointers { IsAtHand (S.state s.old).sectors blocks.old }
-    requires at_hand { slot % 4 ≢ 0 → IsBlock (S.state s.old).sectors blocks.old.inode (slot / 4) block.old }
-    ensures inode { blocks.new.inode ≡ blocks.old.inode }
-    ensures pointers { OnOk result (IsAtHand (S.state s.old).sectors blocks.new) }
-    ensures block { OnOk result (IsBlock (S.state s.old).sectors blocks.old.inode (slot / 4) block.new) }
-    ensures same { IsUnchanged (S.state s.old) (S.state s.new) }
-    ensures cause { HasCause (S.state s.old).disk (S.state s.new).disk result }
+// The first slot of a block that has the name, as it is counted there. A slot that isn't in use has none: its bytes are zeros.
+fn find_in_block(block: &[u8; 512], name: &[u8]) -> Option<FoundSlot>
+    requires { (0 < length name.now) × (length name.now ≤ MAX_NAME) }
+    ensures { IsFoundInBlock block.now name.now result }
 {
-    if slot % SLOTS == 0 {
-        blocks.read(s, slot / SLOTS, block)?;
+    for slot in 0..SLOTS {
+        let at = SLOT_SIZE * slot as usize;
+        if is_named(block, at, name) {
+            let inode = slot_inode(block, at);
+            return Some(FoundSlot { slot, inode });
+        }
     }
-    Ok(())
+    None
 }
 
 /// Finds the slot of a name, block by block. What can't be a name is not found.
@@ -94,12 +88,13 @@ pub(crate) fn find_slot<S: Sectors>(
     let slots = inode.size / SLOT_SIZE as u64;
     let mut blocks = Blocks::new(inode);
     let mut block = [0; 512];
-    for slot in 0..slots {
-        read_block_of(s, &mut blocks, slot, &mut block)?;
-        let at = SLOT_SIZE * (slot % SLOTS) as usize;
-        if is_named(&block, at, name) {
-            let inode = slot_inode(&block, at);
-            return Ok(Some(FoundSlot { slot, inode }));
+    for k in 0..slots.div_ceil(SLOTS) {
+        blocks.read(s, k, &mut block)?;
+        if let Some(found) = find_in_block(&block, name) {
+            return Ok(Some(FoundSlot {
+                slot: SLOTS * k + found.slot,
+                inode: found.inode,
+            }));
         }
     }
     Ok(None)

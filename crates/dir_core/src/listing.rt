@@ -1,21 +1,45 @@
 //! All names of a directory.
 
-ghost use Rattle.std.specs.Prelude.{◌≡◌, ◌⊎◌, ℕ, List, map, IfOk, IfErr};
+ghost use Rattle.std.specs.Prelude.{◌≡◌, ◌≢◌, ◌⊎◌, ◌/◌, ◌%◌, ℕ, List, map, IfOk, IfErr, OnOk};
+ghost use Rattle.sector_disk.specs.Disk.{HasCause};
 ghost use Rattle.fs_layout.specs.Directories.{NamedInode, HasNames, HaveDistinctNames, names_of_slots};
 ghost use Rattle.sector_txn.specs.Sectors.{IsUnchanged};
 ghost use Rattle.bit_alloc.specs.Faults.{HasCauseOf};
 ghost use Rattle.bit_alloc.specs.Inodes.{IsSound};
 ghost use Rattle.inode_table.specs.Inodes.{IsInodeOf};
-ghost use Rattle.block_map.specs.Blocks.{IsWithin};
-ghost use Rattle.dir_core.specs.Slots.{HasSlots, name_entry};
+ghost use Rattle.block_map.specs.Blocks.{IsWithin, IsAtHand};
+ghost use Rattle.dir_core.specs.Slots.{HasSlots, IsBlock, name_entry};
 ghost use Rattle.dir_core.specs.declared.fault.DirFault.TheVariants.{DiskFault as Device, OutOfMemory};
 
 use crate::DirFault;
-use crate::find::{SLOTS, read_block_of};
+use crate::find::SLOTS;
 use block_map::Blocks;
 use fs_layout::{Inode, Place, SLOT_SIZE, Slot};
+use sector_disk::DiskFault;
 use sector_txn::Sectors;
 use std::alloc::Global;
+
+// Reads the block of a slot, where the slot is the block's first; else the block is at hand.
+fn read_block_of<S: Sectors>(
+    s: &mut S,
+    blocks: &mut Blocks,
+    slot: u64,
+    block: &mut [u8; 512],
+) -> Result<(), DiskFault>
+    requires within { IsWithin (S.state s.old).disk.size (S.state s.old).sectors blocks.old.inode }
+    requires pointers { IsAtHand (S.state s.old).sectors blocks.old }
+    requires at_hand { slot % 4 ≢ 0 → IsBlock (S.state s.old).sectors blocks.old.inode (slot / 4) block.old }
+    ensures inode { blocks.new.inode ≡ blocks.old.inode }
+    ensures pointers { OnOk result (IsAtHand (S.state s.old).sectors blocks.new) }
+    ensures block { OnOk result (IsBlock (S.state s.old).sectors blocks.old.inode (slot / 4) block.new) }
+    ensures same { IsUnchanged (S.state s.old) (S.state s.new) }
+    ensures cause { HasCause (S.state s.old).disk (S.state s.new).disk result }
+{
+    if slot % SLOTS == 0 {
+        blocks.read(s, slot / SLOTS, block)?;
+    }
+    Ok(())
+}
 
 // The slots of a directory, in their order.
 fn read_slots<S: Sectors>(alloc: Global, s: &mut S, inode: &Inode) -> Result<Vec<Slot>, DirFault>

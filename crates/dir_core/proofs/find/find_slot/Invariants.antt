@@ -1,16 +1,15 @@
-use Rattle.std.proofs.Common.{◌≡◌, ◌≢◌, ◌/◌, ◌%◌, List}
+use Rattle.std.proofs.Common.{◌≡◌, ◌*◌, List}
 use Rattle.fs_layout.specs.Directories.{NamedInode}
 use Rattle.sector_txn.specs.Sectors.{IsUnchanged}
 use Rattle.block_map.specs.Blocks.{IsAtHand}
-use Rattle.dir_core.specs.Slots.{HasSlots, IsBlock}
+use Rattle.dir_core.specs.Slots.{HasSlots}
 use Rattle.dir_core.proofs.Found.{IsAbsentBelow}
 use Rattle.dir_core.proofs.find.find_slot.Given as goal
 
-abbrev pub invariant-loop-slot : goal.invariant-loop-slot
-invariant-loop-slot g l = record {
+abbrev pub invariant-loop-k : goal.invariant-loop-k
+invariant-loop-k g l = record {
   same : IsUnchanged (g.S.Sectors.state l.fn.s) (g.S.Sectors.state l.s);
   inode : l.blocks.inode ≡ l.inode;
   pointers : IsAtHand (g.S.Sectors.state l.s).sectors l.blocks;
-  block : l.slot % 4 ≢ 0 → IsBlock (g.S.Sectors.state l.fn.s).sectors l.inode (l.slot / 4) l.block;
-  absent : (slots : List NamedInode) → HasSlots (g.S.Sectors.state l.fn.s).sectors l.inode slots → IsAbsentBelow slots l.name l.slot;
+  absent : (slots : List NamedInode) → HasSlots (g.S.Sectors.state l.fn.s).sectors l.inode slots → IsAbsentBelow slots l.name (4 * l.k);
 }

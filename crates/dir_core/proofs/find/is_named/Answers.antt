@@ -3,16 +3,16 @@ use Rattle.std.proofs.lemmas.Slice.Eq.{bytes_eq-Decides}
 use Rattle.dir_core.proofs.Pieces.{length_there, last_byte, name_there}
 use Rattle.dir_core.proofs.find.is_named.Goals as goal
 
-pub returns-then-block-at : goal.returns-then-block-at
-returns-then-block-at c = λ x is.
+pub returns-then-block-at-clause-named : goal.returns-then-block-at-clause-named
+returns-then-block-at-clause-named c = λ x is.
     ((λ f. absurd cc), λ same. absurd (c.if-block-at.true (length_there c.args.block.now c.args.at x is ∙ ap length same)))
 
-pub returns-then-block-at-2 : goal.returns-then-block-at-2
-returns-then-block-at-2 c = λ x is.
+pub returns-then-block-at-2-clause-named : goal.returns-then-block-at-2-clause-named
+returns-then-block-at-2-clause-named c = λ x is.
     ((λ f. absurd cc), λ same. absurd (c.if-block-at-2.true (last_byte c.args.block.now c.args.at x is c.args.name.now same)))
 
-pub returns : goal.returns
-returns c = λ x is.
+pub returns-clause-named : goal.returns-clause-named
+returns-clause-named c = λ x is.
     let block = c.args.block.now in
     let name = c.args.name.now in
     let at = c.args.at in
