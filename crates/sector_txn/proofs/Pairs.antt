@@ -1,12 +1,12 @@
 -- A cache without one of its sectors, and with one more.
-use Rattle.std.proofs.Common.{◌≡◌, ℕ, false, List, [], ◌∷◌, eqb, refl, sym, ◌∙◌, ap, subst, Contains, ◌⊎◌, inl, inr}
+use Rattle.std.proofs.Common.{◌≡◌, ℕ, false, List, [], ◌∷◌, eqb, refl, sym, ◌∙◌, ap, subst, Contains, ◌⊎◌, inl, inr, Bor}
 use Rattle.std.proofs.lemmas.Bool.{cases_Bool, cond-true, cond-false, eq-eqb, ne_eqb, eqb-true, true≢false}
 use Rattle.std.proofs.lemmas.Map.Keys.{IsDistinct-head, IsDistinct-tail}
 use Rattle.std.specs.List.{IsDistinct, AllByRecursion}
-use Rattle.std.specs.Map.{keys_of, remove_entry}
-use Rattle.std.specs.Prelude.{Result, Ok, Err, OnOk, OnErr}
+use Rattle.std.specs.Map.{keys_of, lookup, remove_entry}
+use Rattle.std.specs.Prelude.{Result, Ok, Err, OnOk, OnErr, Option, Some, None, IfSome, option_copied}
 use Rattle.lru.specs.LruCache.{LruCache, lru_cache, put_entries}
-use Rattle.lru.proofs.CallerLemmas.{Contains-put_entries, IsPut}
+use Rattle.lru.proofs.CallerLemmas.{Contains-lookup, Contains-put_entries, IsPut}
 use Rattle.lru.proofs.Splits.{Contains-cons, Contains-head, Contains-nil, Contains-tail}
 use Rattle.fs_layout.specs.Bytes.{SectorMap}
 use Rattle.redo_journal.specs.Batch.{Entry, targets, with_batch}
@@ -31,6 +31,13 @@ removed_gone n (e ∷ es) apart content has = elim (cases_Bool (eqb n e.0)) [
     | inr later ↦ removed_gone n es (IsDistinct-tail eqb e.0 (keys_of es) apart) content later
   ]
 ]
+
+-- a sector that is found is there
+pub looked_up : (n : ℕ) (es : List (ℕ × List ℕ)) (found : Option (Bor (List ℕ))) → option_copied found ≡ lookup (eqb n) es → IfSome found (λ content. Contains es (n, content.now))
+looked_up n es None e = tt
+looked_up n es (Some content) e =
+    let there = Contains-lookup (eqb n) es content.now (sym e) in
+    subst (λ (k : ℕ). Contains es (k, content.now)) (sym (eqb-true n there.0 there.2)) there.1
 
 put_is : (cache : LruCache ℕ (List ℕ)) (n : ℕ) (content : List ℕ) (pair : ℕ × List ℕ) → IsPut eqb cache n content pair → pair ≡ (n, content)
 put_is cache n content pair (same, inl key) = λ i. (key i, same i)

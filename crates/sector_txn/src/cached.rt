@@ -1,6 +1,7 @@
 //! A journal whose sectors are kept in memory once they are read.
 
 ghost use Rattle.std.specs.Prelude.{◌≡◌, ◌<◌, ℕ, length, Some, Ok, IfOk, OnOk};
+ghost use Rattle.std.specs.Fn.{FnOnceReturnsAt};
 ghost use Rattle.redo_journal.specs.Batch.{IsOnDisk, with_batch};
 ghost use Rattle.redo_journal.specs.Meaning.{IsMapped, SameMap, data_of, disk_of};
 ghost use Rattle.redo_journal.specs.States.{IsIdle};
@@ -64,6 +65,43 @@ impl<D: Disk> CachedJournal<D> {
         if self.clean.get(n, to) {
             return Ok(());
         }
+        self.read_new(n, to)?;
+        Ok(())
+    }
+
+    /// Reads a sector where it stands, if it was read lately: what `read` makes of its content.
+    pub(crate) fn read_with<T, F: FnOnce(&[u8; 512]) -> T + Drop>(
+        &mut self,
+        n: u32,
+        read: F,
+    ) -> Result<T, DiskFault>
+        requires part { IsMapped n }
+        requires on_disk { n < (D.state self.old).size }
+        requires callable { F.IsAlwaysCallable read }
+        ensures content { IfOk result (λ x. FnOnceReturnsAt F.FnOnce read (data_of (D.state self.old) n) x) }
+        ensures same { (m : ℕ) → data_of (D.state self.new) m ≡ data_of (D.state self.old) m }
+        ensures unchanged { IsSame (D.state self.old) (D.state self.new) }
+        ensures reads { OnlyReads (D.state self.old) (D.state self.new) }
+        ensures cause { HasCause (D.state self.old) (D.state self.new) result }
+    {
+        if let Some(content) = self.clean.find(n) {
+            return Ok(read(content));
+        }
+        let mut content = [0; 512];
+        self.read_new(n, &mut content)?;
+        Ok(read(&content))
+    }
+
+    // Reads a sector from the device, and keeps it.
+    fn read_new(&mut self, n: u32, to: &mut [u8; 512]) -> Result<(), DiskFault>
+        requires part { IsMapped n }
+        requires on_disk { n < (D.state self.old).size }
+        ensures content { OnOk result (to.new ≡ data_of (D.state self.old) n) }
+        ensures same { (m : ℕ) → data_of (D.state self.new) m ≡ data_of (D.state self.old) m }
+        ensures unchanged { IsSame (D.state self.old) (D.state self.new) }
+        ensures reads { OnlyReads (D.state self.old) (D.state self.new) }
+        ensures cause { HasCause (D.state self.old) (D.state self.new) result }
+    {
         self.journal.read(n, to)?;
         self.clean.put(n, to);
         Ok(())

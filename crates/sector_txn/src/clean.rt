@@ -1,6 +1,6 @@
 //! Sectors as the device reads them, kept in memory.
 
-ghost use Rattle.std.specs.Prelude.{◌≡◌, ◌≢◌, ◌⊎◌, [], ℕ, List, Contains, IsTrue, IfOk};
+ghost use Rattle.std.specs.Prelude.{◌≡◌, ◌≢◌, ◌⊎◌, [], ℕ, List, Contains, IsTrue, IfOk, IfSome};
 
 use lru::LruCache;
 use std::alloc::{AllocError, Global};
@@ -47,6 +47,16 @@ impl CleanSectors {
             return true;
         }
         false
+    }
+
+    /// A sector's content where it stands, if it is there. How lately others were read stays: a search goes over many sectors.
+    pub(crate) fn find(&self, n: u32) -> Option<&[u8; 512]>
+        ensures { IfSome result (λ content. Contains self.now (n, content.now)) }
+    {
+        if let Some(cache) = &self.cache {
+            return cache.peek(&n);
+        }
+        None
     }
 
     /// Keeps a sector's content, memory aside.

@@ -1,6 +1,7 @@
 //! The sectors that a call reads and changes.
 
-ghost use Rattle.std.specs.Prelude.{◌≡◌, ◌≤◌, ◌<◌, ℕ, false, OnOk};
+ghost use Rattle.std.specs.Prelude.{◌≡◌, ◌≤◌, ◌<◌, ℕ, false, IfOk, OnOk};
+ghost use Rattle.std.specs.Fn.{FnOnceReturnsAt};
 ghost use Rattle.redo_journal.specs.Meaning.{IsMapped};
 ghost use Rattle.sector_disk.specs.Disk.{HasCause};
 ghost use Rattle.sector_txn.specs.Sectors.{TxnState, IsUnchanged, IsPut};
@@ -22,6 +23,24 @@ pub trait Sectors {
         ensures content { OnOk result (to.new ≡ (state self.old).sectors n) }
         ensures same { IsUnchanged (state self.old) (state self.new) }
         ensures cause { HasCause (state self.old).disk (state self.new).disk result };
+
+    /// Reads a sector where it stands: what `read` makes of its content, as the last `put` left it.
+    fn read_with<T, F: FnOnce(&[u8; 512]) -> T + Drop>(
+        &mut self,
+        n: u32,
+        read: F,
+    ) -> Result<T, DiskFault>
+        requires part { IsMapped n }
+        requires on_disk { n < (state self.old).disk.size }
+        requires callable { F.IsAlwaysCallable read }
+        ensures content { IfOk result (λ x. FnOnceReturnsAt F.FnOnce read ((state self.old).sectors n) x) }
+        ensures same { IsUnchanged (state self.old) (state self.new) }
+        ensures cause { HasCause (state self.old).disk (state self.new).disk result }
+    {
+        let mut content = [0; 512];
+        self.get(n, &mut content)?;
+        Ok(read(&content))
+    }
 
     /// Changes a sector. A sector that wasn't put yet takes room.
     fn put(&mut self, n: u32, from: &[u8; 512])

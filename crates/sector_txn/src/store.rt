@@ -242,6 +242,20 @@ impl<D: Disk> Sectors for Txn<D> {
         }
     }
 
+    fn read_with<T, F: FnOnce(&[u8; 512]) -> T + Drop>(
+        &mut self,
+        n: u32,
+        read: F,
+    ) -> Result<T, DiskFault> {
+        if let Some(content) = self.delta.get(n) {
+            return Ok(read(content));
+        }
+        if let Some(content) = self.waiting.get(n) {
+            return Ok(read(content));
+        }
+        self.journal.read_with(n, read)
+    }
+
     fn put(&mut self, n: u32, from: &[u8; 512]) {
         self.delta.put(n, from);
     }
