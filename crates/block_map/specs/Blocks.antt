@@ -1,12 +1,13 @@
 -- The blocks of an inode, and what is read of it.
 --     IsWithin        an inode's sectors can be read
 --     IsAtHand, IsLoaded        the sector of pointers at hand; it is the one that has a block's number
+--     IsMadeOfBlock        what was made of a block where it stands
 --     IsReadOf        what a read gives
-use Rattle.std.specs.Prelude.{◌≡◌, ◌≢◌, ℕ, ◌-◌, ◌<◌, ◌≤◌, List, ◌++◌, length, drop, min}
+use Rattle.std.specs.Prelude.{◌≡◌, ◌≢◌, ℕ, ◌+◌, ◌-◌, ◌*◌, ◌<◌, ◌≤◌, List, ◌++◌, length, get_or, drop, min}
 use Rattle.fs_layout.specs.declared.inode.TheConstants.{DIRECT_BLOCKS}
 use Rattle.fs_layout.specs.declared.inode.Inode.{Inode}
 use Rattle.fs_layout.specs.Bytes.{SectorMap, window, zeros}
-use Rattle.fs_layout.specs.Images.{Owns, holder, number_on}
+use Rattle.fs_layout.specs.Images.{Owns, byte_at, holder, number_on}
 use Rattle.block_map.specs.declared.blocks.Blocks.{Blocks}
 
 -- each sector that the inode owns lies behind the log, on a disk of so many sectors
@@ -23,6 +24,12 @@ pub record IsAtHand (image : SectorMap) (b : Blocks) : Type 0 where
 pub record IsLoaded (image : SectorMap) (b : Blocks) (k : ℕ) : Type 0 where
   pub at_hand : IsAtHand image b
   pub index : DIRECT_BLOCKS ≤ k → b.index ≡ holder DIRECT_BLOCKS k
+
+-- it was made of the bytes of block k
+pub record IsMadeOfBlock {T : Type 0} (image : SectorMap) (v : Inode) (k : ℕ) (IsMadeOf : List ℕ → T → Type 0) (x : T) : Type 0 where
+  pub block : List ℕ
+  pub bytes : (i : ℕ) → i < 512 → get_or block i 0 ≡ byte_at image v (512 * k + i)
+  pub made : IsMadeOf block x
 
 -- of a list of bytes `count` were read from an offset on into a buffer: as many as it has and as are left
 pub record IsReadOf (bytes : List ℕ) (offset : ℕ) (old new : List ℕ) (count : ℕ) : Type 0 where

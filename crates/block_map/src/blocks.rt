@@ -1,6 +1,7 @@
 //! The blocks of an inode.
 
 ghost use Rattle.std.specs.Prelude.{◌≡◌, ◌≢◌, ◌≤◌, ◌<◌, ◌+◌, ◌*◌, ◌^◌, ℕ, suc, length, get_or, false, IfOk, OnOk};
+ghost use Rattle.std.specs.Fn.{FnOnceReturnsAt};
 ghost use Rattle.sector_disk.specs.Disk.{HasCause};
 ghost use Rattle.fs_layout.specs.declared.inode.TheConstants.{DIRECT_BLOCKS, SECTOR_POINTERS};
 ghost use Rattle.fs_layout.specs.Bytes.{SectorMap, splice, le32};
@@ -94,7 +95,7 @@ pub(crate) fn read_pointers<S: Sectors>(
 }
 
 impl Blocks {
-    ghost use Rattle.block_map.specs.Blocks.{IsAtHand, IsLoaded};
+    ghost use Rattle.block_map.specs.Blocks.{IsAtHand, IsLoaded, IsMadeOfBlock};
 
     /// The blocks of an inode.
     pub fn new(inode: &Inode) -> Blocks
@@ -166,6 +167,33 @@ impl Blocks {
         }
         s.get(number, to)?;
         Ok(())
+    }
+
+    /// Reads block `k` where it stands: what `read` makes of its bytes. A hole reads as zeros.
+    ///
+    /// At `Err` nothing is said of what is at hand.
+    pub fn read_with<S: Sectors, T, F: FnOnce(&[u8; 512]) -> T + Drop>(
+        &mut self,
+        s: &mut S,
+        k: u64,
+        read: F,
+    ) -> Result<T, DiskFault>
+        requires within { IsWithin (S.state s.old).disk.size (S.state s.old).sectors self.old.inode }
+        requires at_hand { IsAtHand (S.state s.old).sectors self.old }
+        requires callable { F.IsAlwaysCallable read }
+        ensures inode { self.new.inode ≡ self.old.inode }
+        ensures at_hand { OnOk result (IsAtHand (S.state s.old).sectors self.new) }
+        ensures made { IfOk result (IsMadeOfBlock (S.state s.old).sectors self.old.inode k (FnOnceReturnsAt F.FnOnce read)) }
+        ensures same { IsUnchanged (S.state s.old) (S.state s.new) }
+        ensures cause { HasCause (S.state s.old).disk (S.state s.new).disk result }
+    {
+        self.load(s, k)?;
+        let number = self.number(k);
+        if number == 0 {
+            return Ok(read(&[0; BLOCK]));
+        }
+        let made = s.read_with(number, read)?;
+        Ok(made)
     }
 
     /// Writes the sector of a block into the sector of pointers at hand.

@@ -13,7 +13,7 @@
 //! | Call | `get` | `put` |
 //! |---|---|---|
 //! | [`read_at`] | each sector of pointers that blocks reached have, and each block but the holes | 0 |
-//! | [`Blocks::read`] | the block but a hole, and its sector of pointers unless it is at hand | 0 |
+//! | [`Blocks::read`], [`Blocks::read_with`] | the block but a hole, and its sector of pointers unless it is at hand | 0 |
 //! | [`write_at`] | the sectors of pointers as above, once more the double indirect one for each past the first, `k - h`, the inode's sector, and what sectors taken read in the bitmap | `k`, the inode's sector, the bitmap's for each sector taken, the sector of pointers for each taken past block 11, and once more where it is new |
 //! | [`overwrite`] | the sector of pointers if the block is past the first 12, and the block | 1 |
 //! | [`set_size`] | the inode's sector; and where it cuts, each sector of pointers from the cut on, that of the cut twice more, the block that the cut goes through but a hole, and the bitmap's for each sector given back | the inode's sector; and where it cuts, the block that it goes through but a hole, each sector of pointers that it goes through, and the bitmap's for each sector given back |
