@@ -54,7 +54,8 @@ fn slot_inode(block: &[u8; 512], at: usize) -> u32
 // The first slot of a block that has the name, as it is counted there. A slot that isn't in use has none: its bytes are zeros.
 fn find_in_block(block: &[u8; 512], name: &[u8]) -> Option<FoundSlot>
     requires { (0 < length name.now) × (length name.now ≤ MAX_NAME) }
-    ensures { IsFoundInBlock block.now name.now result }
+    ensures len { length block.now ≡ 512 }
+    ensures found { IsFoundInBlock block.now name.now result }
 {
     for slot in 0..SLOTS {
         let at = SLOT_SIZE * slot as usize;
@@ -87,10 +88,9 @@ pub(crate) fn find_slot<S: Sectors>(
     }
     let slots = inode.size / SLOT_SIZE as u64;
     let mut blocks = Blocks::new(inode);
-    let mut block = [0; 512];
     for k in 0..slots.div_ceil(SLOTS) {
-        blocks.read(s, k, &mut block)?;
-        if let Some(found) = find_in_block(&block, name) {
+        let found = blocks.read_with(s, k, |block| find_in_block(block, name))?;
+        if let Some(found) = found {
             return Ok(Some(FoundSlot {
                 slot: SLOTS * k + found.slot,
                 inode: found.inode,

@@ -14,12 +14,12 @@ loop-slot-preserved c = λ i x lt there. elim (cases_lt i c.loop-slot.slot) [
       λ named. let yes_named = tested.1 named in let not_named = c.if-is_named.false in absurd cc
 ]
 
-pub returns-then-is_named : goal.returns-then-is_named
-returns-then-is_named c = (
+pub returns-then-is_named-clause-found : goal.returns-then-is_named-clause-found
+returns-then-is_named-clause-found c = (
   c.loop-slot-test.true,
   c.is_named.ensures.len c.if-is_named.true,
   λ x there. slot_parts x c.args.name.now c.slot_inode-inode.result ((c.is_named.ensures.named x there).0 c.if-is_named.true) (sym (c.slot_inode-inode.ensures x there)),
 )
 
-pub returns : goal.returns
-returns c = λ i x lt there. c.loop-slot.invariant i x (omega (arith, lt, c.loop-slot-test.false, c.loop-slot.auto.slot-end)) there
+pub returns-clause-found : goal.returns-clause-found
+returns-clause-found c = λ i x lt there. c.loop-slot.invariant i x (omega (arith, lt, c.loop-slot-test.false, c.loop-slot.auto.slot-end)) there
