@@ -3,5 +3,6 @@ pub mod Entries
 pub mod Puts
 mod Places
 mod Absorbing
+mod Marks
 pub mod Meaning
 mod Writing

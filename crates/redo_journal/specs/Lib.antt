@@ -1,3 +1,4 @@
 pub mod Batch
+pub mod Marks
 pub mod Meaning
 pub mod States

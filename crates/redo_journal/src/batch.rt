@@ -13,6 +13,9 @@ use indexmap::IndexSet;
 use std::alloc::{AllocError, Global};
 use std::marker::Model;
 
+// How many marks a batch has.
+const MARKS: usize = 1024;
+
 /// A map from sectors behind the log to contents, for one commit.
 ///
 /// It finds a sector by hash, and keeps the sectors in the order of the log. It holds [`MAX_TARGETS`] sectors, and its memory is
@@ -25,6 +28,9 @@ pub struct Batch {
     // What they are to have, in that order; behind them stands what is no part of the batch. It always has `MAX_TARGETS` of
     // these, so that a put copies its content once.
     contents: Vec<[u8; 512]>,
+
+    // A mark for each sector, which others may share: most that aren't there are told without a hash.
+    marks: [bool; MARKS],
 }
 
 impl Model for Batch {
@@ -32,12 +38,13 @@ impl Model for Batch {
     ghost use Rattle.std.specs.List.{zip};
     ghost use Rattle.indexmap.specs.IndexSet.{spare};
     ghost use Rattle.redo_journal.specs.Batch.{HasPlaces};
+    ghost use Rattle.redo_journal.specs.Marks.{AreMarked};
 
     ghost Value = { List (ℕ × List ℕ) };
 
     ghost view = { λ b. zip b.sectors.keys b.contents.items };
 
-    ghost invariant = { λ b. HasPlaces b.sectors.keys b.contents.items (spare b.sectors) };
+    ghost invariant = { λ b. HasPlaces b.sectors.keys b.contents.items (spare b.sectors) × AreMarked b.sectors.keys b.marks };
 }
 
 // The sector's place: the one that it has, or else the next one, which it then has. A sector that is there is not inserted
@@ -67,7 +74,11 @@ impl Batch {
         let sectors = IndexSet::with_capacity(alloc, MAX_TARGETS)?;
         let mut contents = Vec::with_capacity(alloc, MAX_TARGETS)?;
         contents.resize(MAX_TARGETS, [0; 512])?;
-        Ok(Batch { sectors, contents })
+        Ok(Batch {
+            sectors,
+            contents,
+            marks: [false; MARKS],
+        })
     }
 
     /// Sets the content for a sector. A new sector goes last.
@@ -81,6 +92,7 @@ impl Batch {
     {
         let at = index_for(&mut self.sectors, n);
         self.contents[at] = *from;
+        self.marks[n as usize % MARKS] = true;
     }
 
     /// The content for a sector, if the batch has one.
@@ -90,8 +102,7 @@ impl Batch {
         ensures none { IfNone result (has_entry self.now n ≡ false) }
         ensures other { IfNone result ((sectors : SectorMap) → with_batch self.now sectors n ≡ sectors n) }
     {
-        // No hash is needed where nothing was put.
-        if self.is_empty() {
+        if !self.marks[n as usize % MARKS] {
             return None;
         }
         let at = self.sectors.get_index_of(&n)?;
@@ -125,7 +136,11 @@ impl Batch {
         ensures empty { self.new ≡ [] }
         ensures on_disk { (size : ℕ) → IsOnDisk size self.new }
     {
+        if self.is_empty() {
+            return;
+        }
         self.sectors.clear();
+        self.marks.fill(false);
     }
 
     /// The sectors, in the order of the log.

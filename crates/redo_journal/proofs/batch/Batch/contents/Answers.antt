@@ -8,4 +8,4 @@ returns-clause-contents c =
     let ns = c.self.inside.sectors.keys in
     let bytes = c.self.inside.contents.items in
     (λ j. take (c.len.ensures.len j) (c.deref.ensures.value j))
-    ∙ sym (contents_entries ns bytes (fits_places ns bytes _ c.self.invariant)) ∙ ap (λ (es : List Entry). contents es) c.self.view_is
+    ∙ sym (contents_entries ns bytes (fits_places ns bytes _ c.self.invariant.0)) ∙ ap (λ (es : List Entry). contents es) c.self.view_is

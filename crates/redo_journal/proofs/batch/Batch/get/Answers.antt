@@ -4,6 +4,7 @@ use Rattle.std.specs.Prelude.{IfNone}
 use Rattle.std.specs.List.{list_any}
 use Rattle.fs_layout.specs.Bytes.{SectorMap}
 use Rattle.redo_journal.specs.Batch.{Entry, has_entry, with_batch}
+use Rattle.redo_journal.proofs.Marks.{unmarked_absent}
 use Rattle.redo_journal.proofs.Places.{fits_places, has_is, with_batch_at, with_batch_none}
 use Rattle.redo_journal.proofs.batch.Batch.get.Goals as goal
 
@@ -12,7 +13,20 @@ no_entry c =
     let ns = c.self.inside.sectors.keys in
     let bytes = c.self.inside.contents.items in
     let none : list_any (eqb c.args.n) ns ≡ false = sym c.in_err-at.ensures.found in
-    sym (ap (λ (es : List Entry). has_entry es c.args.n) c.self.view_is) ∙ sym (has_is ns bytes c.args.n (fits_places ns bytes _ c.self.invariant)) ∙ none
+    sym (ap (λ (es : List Entry). has_entry es c.args.n) c.self.view_is) ∙ sym (has_is ns bytes c.args.n (fits_places ns bytes _ c.self.invariant.0)) ∙ none
+
+no_mark : (c : goal.Then-not-self-n) → has_entry c.args.self.now c.args.n ≡ false
+no_mark c =
+    let ns = c.self.inside.sectors.keys in
+    let bytes = c.self.inside.contents.items in
+    let none = unmarked_absent ns c.self.inside.marks c.args.n c.self.invariant.1 c.if-not-self-n.true in
+    sym (ap (λ (es : List Entry). has_entry es c.args.n) c.self.view_is) ∙ sym (has_is ns bytes c.args.n (fits_places ns bytes _ c.self.invariant.0)) ∙ none
+
+pub returns-then-not-self-n-clause-none : goal.returns-then-not-self-n-clause-none
+returns-then-not-self-n-clause-none c = no_mark c
+
+pub returns-then-not-self-n-clause-other : goal.returns-then-not-self-n-clause-other
+returns-then-not-self-n-clause-other c = λ f. with_batch_none c.args.self.now c.args.n f (no_mark c)
 
 pub returns-in_err-at-clause-none : goal.returns-in_err-at-clause-none
 returns-in_err-at-clause-none c = subst (λ r. IfNone r (has_entry c.args.self.now c.args.n ≡ false)) (sym c.from_residual.ensures) (no_entry c)
@@ -27,7 +41,7 @@ returns-clause-found c =
     let ns = c.self.inside.sectors.keys in
     let bytes = c.self.inside.contents.items in
     let has : list_any (eqb c.args.n) ns ≡ true = sym c.in_ok-at.ensures.found in
-    sym (ap (λ (es : List Entry). has_entry es c.args.n) c.self.view_is) ∙ sym (has_is ns bytes c.args.n (fits_places ns bytes _ c.self.invariant)) ∙ has
+    sym (ap (λ (es : List Entry). has_entry es c.args.n) c.self.view_is) ∙ sym (has_is ns bytes c.args.n (fits_places ns bytes _ c.self.invariant.0)) ∙ has
 
 pub returns-clause-content : goal.returns-clause-content
 returns-clause-content c = λ f.
@@ -35,4 +49,4 @@ returns-clause-content c = λ f.
     let bytes = c.self.inside.contents.items in
     let place = position-Some (eqb c.args.n) ns c.in_ok-at.at 0 (sym c.in_ok-at.ensures.index) in
     sym (ap (λ (es : List Entry). with_batch es f c.args.n) c.self.view_is)
-    ∙ with_batch_at ns bytes c.args.n c.in_ok-at.at c.index.result.now f (fits_places ns bytes _ c.self.invariant) place ∙ sym c.index.ensures
+    ∙ with_batch_at ns bytes c.args.n c.in_ok-at.at c.index.result.now f (fits_places ns bytes _ c.self.invariant.0) place ∙ sym c.index.ensures

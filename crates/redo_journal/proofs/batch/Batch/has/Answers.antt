@@ -7,4 +7,4 @@ pub returns : goal.returns
 returns c =
     let ns = c.self.inside.sectors.keys in
     let bytes = c.self.inside.contents.items in
-    c.contains.ensures ∙ has_is ns bytes c.args.n (fits_places ns bytes _ c.self.invariant) ∙ ap (λ (es : List Entry). has_entry es c.args.n) c.self.view_is
+    c.contains.ensures ∙ has_is ns bytes c.args.n (fits_places ns bytes _ c.self.invariant.0) ∙ ap (λ (es : List Entry). has_entry es c.args.n) c.self.view_is

@@ -7,4 +7,4 @@ pub returns-clause-sectors : goal.returns-clause-sectors
 returns-clause-sectors c =
     let ns = c.self.inside.sectors.keys in
     let bytes = c.self.inside.contents.items in
-    c.as_slice.ensures.keys ∙ sym (targets_entries ns bytes (fits_places ns bytes _ c.self.invariant)) ∙ ap (λ (es : List Entry). targets es) c.self.view_is
+    c.as_slice.ensures.keys ∙ sym (targets_entries ns bytes (fits_places ns bytes _ c.self.invariant.0)) ∙ ap (λ (es : List Entry). targets es) c.self.view_is
