@@ -1,9 +1,9 @@
 -- Who may do what to a file or a directory, and which rule says so: the access check of acl(5), with those of two
 -- capabilities before it. The first case that applies decides.
 --     Decides        the answer and its rule, a case for each rule
-use Rattle.std.specs.Prelude.{◌≡◌, ◌≢◌, ◌<◌, Bool, true, false, not, ◌&&◌, ◌||◌, Option, None, Some, IsTrue, IsFalse, Contains, ◌⊎◌}
+use Rattle.std.specs.Prelude.{◌≡◌, ◌≢◌, ℕ, ◌<◌, Bool, true, false, not, ◌&&◌, ◌||◌, Option, None, Some, IsTrue, IsFalse, Contains, ◌⊎◌}
 use Rattle.posix_acl.specs.declared.entry.Perms.{Perms}
-use Rattle.posix_acl.specs.AccessList.{AccessList, group_class}
+use Rattle.posix_acl.specs.AccessList.{AccessList, group_class, minimal}
 use Rattle.fs_cred.specs.declared.node.Node.{Node}
 use Rattle.fs_cred.specs.declared.node.NodeKind.{NodeKind}
 use Rattle.fs_cred.specs.declared.node.NodeKind.TheVariants.{File, Directory}
@@ -13,6 +13,10 @@ use Rattle.fs_cred.specs.declared.caps.Caps.{Caps}
 use Rattle.fs_cred.specs.Permissions.{holds, nothing}
 use Rattle.fs_cred.specs.Capabilities.{cap_dac_override, cap_dac_read_search}
 use Rattle.fs_cred.specs.Credentials.{Credential, is_capable, is_member}
+
+-- a node whose ACL is no more than the bits of a mode
+abbrev pub node_of_mode : NodeKind → ℕ → ℕ → ℕ → Node
+node_of_mode kind owner group mode = record { kind = kind; owner = owner; group = group; acl = minimal mode }
 
 abbrev pub is_file : NodeKind → Bool
 is_file File = true

@@ -1,16 +1,17 @@
 -- The access decision, computed.
 --     verdict        the one answer that Decides allows, and its rule
-use Rattle.std.specs.Prelude.{ℕ, ◌==◌, Bool, true, false, ◌&&◌, List, [], ◌∷◌, Option, None, Some, if◌then◌else◌}
+use Rattle.std.specs.Prelude.{ℕ, ◌==◌, Bool, true, false, not, ◌&&◌, List, [], ◌∷◌, Option, None, Some, if◌then◌else◌}
 use Rattle.posix_acl.specs.declared.entry.Perms.{Perms}
 use Rattle.posix_acl.specs.AccessList.{AccessList}
 use Rattle.fs_cred.specs.declared.node.Node.{Node}
+use Rattle.fs_cred.specs.declared.node.NodeKind.{NodeKind}
 use Rattle.fs_cred.specs.declared.rule.Rule.{Rule}
 use Rattle.fs_cred.specs.declared.rule.Rule.TheVariants.{Owner, NamedUser, OwningGroup, NamedGroup, Mask, Other, Capability, NoExecuteBit}
 use Rattle.fs_cred.specs.declared.rule.Verdict.{Verdict}
 use Rattle.fs_cred.specs.Permissions.{holds, nothing}
 use Rattle.fs_cred.specs.Capabilities.{cap_dac_override, cap_dac_read_search}
 use Rattle.fs_cred.specs.Credentials.{Credential, is_capable, is_member}
-use Rattle.fs_cred.specs.Decisions.{lacks_execute_bit, may_read_search, passes_mask}
+use Rattle.fs_cred.specs.Decisions.{is_file, lacks_execute_bit, may_read_search, passes_mask}
 
 abbrev pub verdict_of : Bool → Rule → Verdict
 verdict_of granted rule = record { yes = granted; rule = rule }
@@ -71,3 +72,10 @@ verdict cred node want =
     if is_capable cred cap_dac_override then by_override node want
     else (if may_read_search cred node.kind want then verdict_of true (Capability cap_dac_read_search)
     else by_entries cred node want)
+
+-- what a capability decides, if one does, of a node of this kind that has an execute bit, or none
+abbrev pub by_capability : Credential → NodeKind → Bool → Perms → Option Verdict
+by_capability cred kind executable want =
+    if is_capable cred cap_dac_override
+    then Some (if want.execute && is_file kind && not executable then verdict_of false NoExecuteBit else verdict_of true (Capability cap_dac_override))
+    else (if may_read_search cred kind want then Some (verdict_of true (Capability cap_dac_read_search)) else None)

@@ -1,9 +1,9 @@
 //! The access check, after acl(5), "ACCESS CHECK ALGORITHM".
-ghost use Rattle.std.specs.Prelude.{◌≡◌, true, false};
+ghost use Rattle.std.specs.Prelude.{◌≡◌, ◌||◌, true, false};
 ghost use Rattle.posix_acl.specs.AccessList.{IsAcl};
-ghost use Rattle.fs_cred.specs.Decisions.{Decides, has_execute_bit, may_read_search, read_search};
+ghost use Rattle.fs_cred.specs.Decisions.{Decides, has_execute_bit, may_read_search, node_of_mode, read_search};
 ghost use Rattle.fs_cred.specs.Scans.{group_rule};
-ghost use Rattle.fs_cred.specs.Verdicts.{by_entry, by_groups, by_named_user, by_override, first_of_groups, past_mask, perms_named, verdict, verdict_of};
+ghost use Rattle.fs_cred.specs.Verdicts.{by_capability, by_entry, by_groups, by_named_user, first_of_groups, past_mask, perms_named, verdict, verdict_of};
 
 use crate::caps::Caps;
 use crate::cred::Cred;
@@ -20,10 +20,8 @@ pub fn decide(cred: &Cred, node: &Node, want: Perms) -> Verdict
     ensures decides { Decides cred.now node.now want result.yes result.rule }
     ensures computed { result ≡ verdict cred.now node.now want }
 {
-    if cred.is_capable(Caps::DAC_OVERRIDE) {
-        by_override(node, want)
-    } else if may_read_search(cred, node.kind, want) {
-        granted(Rule::Capability(Caps::DAC_READ_SEARCH))
+    if let Some(verdict) = by_capability(cred, node.kind, has_execute_bit(&node.acl), want) {
+        verdict
     } else if cred.uid() == node.owner {
         by_entry(node.acl.owner(), want, Rule::Owner)
     } else if let Some(perms) = named_user(&node.acl, cred.uid()) {
@@ -33,14 +31,50 @@ pub fn decide(cred: &Cred, node: &Node, want: Perms) -> Verdict
     }
 }
 
-// Who has DAC_OVERRIDE may do everything, but not execute a regular file that has no execute bit.
-fn by_override(node: &Node, want: Perms) -> Verdict
-    ensures { result ≡ by_override node.now want }
+/// The same of a node whose ACL is no more than the bits of a mode. Such an ACL is its three base entries, and has neither
+/// names nor a mask: nothing of it has to be in memory.
+#[tactic(auto, unfolding(crate::specs::Verdicts::verdict))]
+pub fn decide_by_mode(
+    cred: &Cred,
+    kind: NodeKind,
+    owner: u32,
+    group: u32,
+    mode: u16,
+    want: Perms,
+) -> Verdict
+    ensures decides { Decides cred.now (node_of_mode kind owner group mode) want result.yes result.rule }
+    ensures computed { result ≡ verdict cred.now (node_of_mode kind owner group mode) want }
 {
-    if want.execute && matches!(node.kind, NodeKind::File) && !has_execute_bit(&node.acl) {
-        refused(Rule::NoExecuteBit)
+    let of_owner = Perms::from_digit(mode / 64);
+    let of_group = Perms::from_digit(mode / 8);
+    let of_others = Perms::from_digit(mode);
+    let executable = any_executes(of_owner, of_group, of_others);
+    if let Some(verdict) = by_capability(cred, kind, executable, want) {
+        verdict
+    } else if cred.uid() == owner {
+        by_entry(of_owner, want, Rule::Owner)
+    } else if cred.is_member(group) {
+        by_entry(of_group, want, Rule::OwningGroup)
     } else {
-        granted(Rule::Capability(Caps::DAC_OVERRIDE))
+        by_entry(of_others, want, Rule::Other)
+    }
+}
+
+// What a capability decides of a node that has an execute bit, or none. Who has DAC_OVERRIDE may do everything, but not
+// execute a regular file that has no execute bit.
+fn by_capability(cred: &Cred, kind: NodeKind, executable: bool, want: Perms) -> Option<Verdict>
+    ensures { result ≡ by_capability cred.now kind executable want }
+{
+    if cred.is_capable(Caps::DAC_OVERRIDE) {
+        if want.execute && matches!(kind, NodeKind::File) && !executable {
+            Some(refused(Rule::NoExecuteBit))
+        } else {
+            Some(granted(Rule::Capability(Caps::DAC_OVERRIDE)))
+        }
+    } else if may_read_search(cred, kind, want) {
+        Some(granted(Rule::Capability(Caps::DAC_READ_SEARCH)))
+    } else {
+        None
     }
 }
 
@@ -123,7 +157,13 @@ fn refused(rule: Rule) -> Verdict
 fn has_execute_bit(acl: &Acl) -> bool
     ensures { result ≡ has_execute_bit acl.now }
 {
-    acl.owner().execute || acl.group_class().execute || acl.other().execute
+    any_executes(acl.owner(), acl.group_class(), acl.other())
+}
+
+fn any_executes(owner: Perms, group: Perms, other: Perms) -> bool
+    ensures { result ≡ (owner.execute || group.execute || other.execute) }
+{
+    owner.execute || group.execute || other.execute
 }
 
 // What the entry of this user gives, if there is one.

@@ -13,7 +13,7 @@ mod permissions;
 mod refusal;
 mod rule;
 
-pub use access::decide;
+pub use access::{decide, decide_by_mode};
 pub use caps::Caps;
 pub use cred::{Cred, CredFault, MAX_GROUPS};
 pub use errno::Errno;
