@@ -9,7 +9,9 @@ ghost use Rattle.fs_model.specs.Demands.{decided, search_only};
 ghost use Rattle.path_walk.specs.Words.{IsUnchanged, HasCauseOf, IsSound, IsInodeOf, refused_or, IsCaused, IsAnswered};
 ghost use Rattle.path_walk.specs.HeldTrees.{HasAccess, stored_kind};
 
-use fs_cred::{Cred, Denial, Errno, Need, Node, NodeKind, Refusal, Verdict, decide};
+use fs_cred::{
+    Cred, Denial, Errno, Need, Node, NodeKind, Refusal, Verdict, decide, decide_by_mode,
+};
 use fs_layout::{Inode, Kind, Place};
 use inode_table::{LoadAclFault, load_acl};
 use posix_acl::Perms;
@@ -23,7 +25,7 @@ const SEARCH: Perms = Perms {
 };
 
 /// Whether this caller may do all of `want` to a file or a directory of the inode table, by its ACL on the disk, and which
-/// rule says so. ENOMEM where the ACL finds no memory.
+/// rule says so. ENOMEM where an ACL that is more than mode bits finds no memory; mode bits take none.
 pub fn permission<S: Sectors>(
     alloc: Global,
     s: &mut S,
@@ -40,13 +42,18 @@ pub fn permission<S: Sectors>(
     ensures same { IsUnchanged (S.state s.old) (S.state s.new) }
     ensures cause { HasCauseOf (Refusal.Failed Errno.EIO) (S.state s.old).disk (S.state s.new).disk result }
 {
+    let kind = node_kind(inode.kind);
+    if inode.acl == 0 {
+        let verdict = decide_by_mode(cred, kind, inode.uid, inode.gid, inode.mode, want);
+        return Ok(verdict);
+    }
     let acl = match load_acl(alloc, s, place, inode) {
         Ok(acl) => acl,
         Err(LoadAclFault::OutOfMemory) => return Err(Refusal::Failed(Errno::ENOMEM)),
         Err(LoadAclFault::DiskFault) => return Err(Refusal::Failed(Errno::EIO)),
     };
     let node = Node {
-        kind: node_kind(inode.kind),
+        kind,
         owner: inode.uid,
         group: inode.gid,
         acl,
@@ -64,8 +71,8 @@ fn node_kind(kind: Kind) -> NodeKind
     }
 }
 
-/// Asks for search on a directory of the inode table, after `step` lookups of the walk with this number. ENOMEM where the ACL
-/// finds no memory.
+/// Asks for search on a directory of the inode table, after `step` lookups of the walk with this number. ENOMEM as
+/// [`permission`] answers it.
 pub fn search<S: Sectors>(
     alloc: Global,
     s: &mut S,
