@@ -194,14 +194,11 @@ module _ (old new : DiskState) (p : Place) (map : SectorMap) (desks : Desks) (s 
 
 module _ (old new : DiskState) (only_now : (image : Image) → old.left_since old.moment image → IsImage old image) (reads : OnlyReads old new)
     (size : ℕ) (p : Place) (map : SectorMap) (desks : Desks) (s : State) (r : IsRunning size p map desks s) where
-  pub does_count : (sectors inodes : ℕ) → sectors ≡ free_sectors p map
-      → inodes ≡ count_by (λ n. not (bit map inode_bitmap n)) (range_with_len 0 p.inodes) → Does old new s Statfs (Space sectors inodes) s
-  does_count sectors inodes all clear =
-      let held = tree_held p map desks s r.state_of in
-      let numbers : free_inodes s.room s.tree ≡ inodes =
-      ap (λ (q : Room). free_inodes q s.tree) r.state_of.same_room ∙ free_are_clear p map s.tree held.holds held.tree_is ∙ sym clear in
+  -- where these are the numbers
+  pub does_told : (sectors inodes : ℕ) → s.free ≡ sectors → free_inodes s.room s.tree ≡ inodes → Does old new s Statfs (Space sectors inodes) s
+  does_told sectors inodes all numbers =
       let told : Space s.free (free_inodes s.room s.tree) ≡ Space sectors inodes =
-      ap (λ n. Space n (free_inodes s.room s.tree)) (r.state_of.free_is ∙ sym all) ∙ ap (λ n. Space sectors n) numbers in
+      ap (λ n. Space n (free_inodes s.room s.tree)) all ∙ ap (λ n. Space sectors n) numbers in
       does_reading old new only_now reads s s Statfs (Space sectors inodes) r.state_of.up r.state_of.up
       (subst (λ (q : Reply). Step s Statfs q s) told (tells_space s r.state_of.up r.state_of.is_state)) refl (λ io. absurd cc)
 

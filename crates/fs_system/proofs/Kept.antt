@@ -103,3 +103,7 @@ module _ {D : Type 0} (state : D → DiskState) (p : Place) (store : StoreView D
     runs_on after dropped back s r now tabled =
         running_same (state store.disk).size (state after.disk).size p (present state store) (present state after) desks now s
         (reads_alone state store begun disk before last same after.disk dropped).narrowed.size (λ n part. back n part ∙ same.before n ∙ before n part) tabled r
+
+    -- and its map is that with which the transaction began
+    pub begun_again : (after : StoreView D) → SameMap (present state after) (map_before state last) → SameMap (present state after) (map_now state begun)
+    begun_again after back n part = back n part ∙ same.before n ∙ before n part ∙ sym (map n part)

@@ -18,6 +18,7 @@ pub mod Mounts
 pub mod Places
 pub mod Played
 pub mod Raising
+pub mod Remembered
 pub mod Runs
 pub mod Soundness
 pub mod Sweeps

@@ -15,3 +15,4 @@ pub mod Layouts
 pub mod Sweeping
 pub mod Played
 pub mod Confinement
+pub mod Counting

@@ -17,6 +17,7 @@ ghost use Rattle.fs_system.specs.Doing.{Happens, HappensLast, FlushesFor};
 ghost use Rattle.fs_system.specs.Replies.{spawned, finished, unmounted, counted};
 ghost use Rattle.fs_model.specs.declared.event.RestartFault.TheVariants.{DiskFault as Device};
 
+use crate::counted::CountedStore;
 use crate::faults::MountFault;
 use crate::stored::{count_space, enter_kept, exit_kept, failed, perform_kept};
 use crate::sweeping::sweep;
@@ -38,7 +39,7 @@ use std::marker::Model;
 #[derive(Drop)]
 pub struct Fs<D: Disk> {
     // A store, or what a commit that failed has left. It is away only while an event happens to the store.
-    base: Option<Result<Store<D>, Broken<D>>>,
+    base: Option<Result<CountedStore<D>, Broken<D>>>,
     place: Place,
     procs: Procs,
     alloc: Global,
@@ -98,7 +99,9 @@ fn open_store<D: Disk + Drop>(alloc: Global, disk: D) -> Result<Store<D>, (Resta
 }
 
 // Takes the store out of a file system that isn't halted. What its event leaves is to be put in its place.
-fn take_store<D: Disk + Drop>(base: &mut Option<Result<Store<D>, Broken<D>>>) -> Store<D>
+fn take_store<D: Disk + Drop>(
+    base: &mut Option<Result<CountedStore<D>, Broken<D>>>,
+) -> CountedStore<D>
     requires { (store : StoreView D) × base.old ≡ Some (Ok store) }
     ensures { base.old ≡ Some (Ok result) }
 {
@@ -109,7 +112,7 @@ fn take_store<D: Disk + Drop>(base: &mut Option<Result<Store<D>, Broken<D>>>) ->
 }
 
 // Lets this many writes and syncs of the disk pass, and fails all later ones.
-fn arm_disk<D: CrashDisk>(base: &mut Result<Store<D>, Broken<D>>, passes: u64)
+fn arm_disk<D: CrashDisk>(base: &mut Result<CountedStore<D>, Broken<D>>, passes: u64)
     ensures stays { (p : Place) (desks : Desks) (s : State)
         → IsOn D.state p desks (Some base.old) s → IsOn D.state p desks (Some base.new) s }
     ensures same { IsSame (D.state (disk_after base.old)) (D.state (disk_after base.new)) }
@@ -123,7 +126,7 @@ fn arm_disk<D: CrashDisk>(base: &mut Result<Store<D>, Broken<D>>, passes: u64)
 }
 
 // The disk of a store, or of what a commit that failed has left, lets go of its past.
-fn forget_past<D: Disk>(base: &mut Result<Store<D>, Broken<D>>)
+fn forget_past<D: Disk>(base: &mut Result<CountedStore<D>, Broken<D>>)
     ensures stays { (p : Place) (desks : Desks) (s : State)
         → IsOn D.state p desks (Some base.old) s → IsOn D.state p desks (Some base.new) s }
     ensures past { ForgetsPast (D.state (disk_after base.old)) (D.state (disk_after base.new)) }
@@ -149,7 +152,7 @@ impl<D: Disk + Drop> Fs<D> {
         match open_store(alloc, disk) {
             Ok(store) => match sweep(store, place) {
                 Ok(store) => Ok(Fs {
-                    base: Some(Ok(store)),
+                    base: Some(Ok(CountedStore::uncounted(store))),
                     place,
                     procs: Procs::new(alloc),
                     alloc,

@@ -3,6 +3,7 @@
 
 mod answering;
 mod calls;
+mod counted;
 mod faults;
 mod fs;
 mod laws;

@@ -15,6 +15,7 @@ ghost use Rattle.fs_model.specs.declared.reply.Reply.TheVariants.{Refused};
 ghost use Rattle.fs_cred.specs.declared.refusal.Refusal.TheVariants.{Failed};
 
 use crate::calls::perform;
+use crate::counted::{CountedStore, FreeSpace};
 use bit_alloc::{Bitmap, count_free};
 use file_calls::exit;
 use fs_cred::{Errno, Refusal};
@@ -24,7 +25,7 @@ use name_calls::enter;
 use open_files::Procs;
 use redo_journal::Broken;
 use sector_disk::{Disk, DiskFault};
-use sector_txn::{Sectors, Store};
+use sector_txn::Sectors;
 use std::alloc::Global;
 
 /// The reply to a call that fails.
@@ -37,12 +38,12 @@ pub(crate) fn failed(errno: Errno) -> Reply
 /// Performs a call. Its changes are kept whole, or where it is refused, not at all. At `Err` a commit has failed.
 pub(crate) fn perform_kept<D: Disk>(
     alloc: Global,
-    store: Store<D>,
+    store: CountedStore<D>,
     place: Place,
     procs: &mut Procs,
     pid: usize,
     call: &Call,
-) -> (Reply, Result<Store<D>, Broken<D>>)
+) -> (Reply, Result<CountedStore<D>, Broken<D>>)
     requires running { (s : State) × IsRunning (D.state store.disk).size place (present D.state store) procs.old s }
     ensures does { (s : State) → IsRunning (D.state store.disk).size place (present D.state store) procs.old s
         → (t : State) × IsOn D.state place procs.new (Some result.1) t
@@ -62,11 +63,11 @@ pub(crate) fn perform_kept<D: Disk>(
 /// Ends a process. What it alone had open, and nothing names, is freed with it, or where that is refused, nothing. At `Err` a
 /// commit has failed.
 pub(crate) fn exit_kept<D: Disk>(
-    store: Store<D>,
+    store: CountedStore<D>,
     place: Place,
     procs: &mut Procs,
     pid: usize,
-) -> (Result<(), Errno>, Result<Store<D>, Broken<D>>)
+) -> (Result<(), Errno>, Result<CountedStore<D>, Broken<D>>)
     requires running { (s : State) × IsRunning (D.state store.disk).size place (present D.state store) procs.old s }
     ensures does { (s : State) → IsRunning (D.state store.disk).size place (present D.state store) procs.old s
         → (t : State) × IsOn D.state place procs.new (Some result.1) t
@@ -85,13 +86,13 @@ pub(crate) fn exit_kept<D: Disk>(
 
 /// Puts a process into a directory, and lets its second paths start at another.
 pub(crate) fn enter_kept<D: Disk>(
-    store: Store<D>,
+    store: CountedStore<D>,
     place: Place,
     procs: &mut Procs,
     pid: usize,
     directory: u32,
     second: u32,
-) -> (Result<(), Errno>, Store<D>)
+) -> (Result<(), Errno>, CountedStore<D>)
     requires running { (s : State) × IsRunning (D.state store.disk).size place (present D.state store) procs.old s }
     ensures does { (s : State) → IsRunning (D.state store.disk).size place (present D.state store) procs.old s
         → (t : State) × IsRunning (D.state result.1.disk).size place (present D.state result.1) procs.new t
@@ -103,24 +104,24 @@ pub(crate) fn enter_kept<D: Disk>(
 }
 
 // How many data sectors and inodes are free.
-fn count_both<S: Sectors>(s: &mut S, place: Place) -> Result<(u32, u32), DiskFault>
+fn count_both<S: Sectors>(s: &mut S, place: Place) -> Result<FreeSpace, DiskFault>
     requires { HasBitmaps place (S.state s.old) }
-    ensures sectors { IfOk result (λ free. free.0 ≡ free_numbers place Blocks (S.state s.old).sectors) }
-    ensures inodes { IfOk result (λ free. free.1 ≡ free_numbers place Inodes (S.state s.old).sectors) }
+    ensures sectors { IfOk result (λ free. free.sectors ≡ free_numbers place Blocks (S.state s.old).sectors) }
+    ensures inodes { IfOk result (λ free. free.inodes ≡ free_numbers place Inodes (S.state s.old).sectors) }
     ensures same { IsUnchanged (S.state s.old) (S.state s.new) }
     ensures cause { HasCause (S.state s.old).disk (S.state s.new).disk result }
 {
     let sectors = count_free(s, place, Bitmap::Blocks)?;
     let inodes = count_free(s, place, Bitmap::Inodes)?;
-    Ok((sectors, inodes))
+    Ok(FreeSpace { sectors, inodes })
 }
 
-/// How many data sectors and inodes are free.
-pub(crate) fn count_space<D: Disk>(
-    store: Store<D>,
+// Counts how much is free. The store remembers it.
+fn count_anew<D: Disk>(
+    store: CountedStore<D>,
     place: Place,
     procs: &Procs,
-) -> (Result<(u32, u32), Errno>, Store<D>)
+) -> (Result<(u32, u32), Errno>, CountedStore<D>)
     requires running { (s : State) × IsRunning (D.state store.disk).size place (present D.state store) procs.now s }
     ensures does { (s : State) → IsRunning (D.state store.disk).size place (present D.state store) procs.now s
         → IsRunning (D.state result.1.disk).size place (present D.state result.1) procs.now s
@@ -129,7 +130,28 @@ pub(crate) fn count_space<D: Disk>(
     let _processes = procs;
     let mut txn = store.begin();
     match count_both(&mut txn, place) {
-        Ok(free) => (Ok(free), txn.drop_delta()),
+        Ok(free) => {
+            let mut store = txn.drop_delta();
+            store.remember(free);
+            (Ok((free.sectors, free.inodes)), store)
+        }
         Err(DiskFault) => (Err(Errno::EIO), txn.drop_delta()),
     }
+}
+
+/// How many data sectors and inodes are free, as the store remembers it, or counted anew.
+pub(crate) fn count_space<D: Disk>(
+    store: CountedStore<D>,
+    place: Place,
+    procs: &Procs,
+) -> (Result<(u32, u32), Errno>, CountedStore<D>)
+    requires running { (s : State) × IsRunning (D.state store.disk).size place (present D.state store) procs.now s }
+    ensures does { (s : State) → IsRunning (D.state store.disk).size place (present D.state store) procs.now s
+        → IsRunning (D.state result.1.disk).size place (present D.state result.1) procs.now s
+        × Does (D.state store.disk) (D.state result.1.disk) s Statfs (counted result.0) s }
+{
+    if let Some(free) = store.free() {
+        return (Ok((free.sectors, free.inodes)), store);
+    }
+    count_anew(store, place, procs)
 }
