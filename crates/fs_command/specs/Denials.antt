@@ -1,6 +1,6 @@
 -- The lines of denials.
 --     request_name, name_asked, name_text        what was asked for, and for which name
---     asked_text, words_of, denial_line        the line
+--     asked_text, denial_words, denial_line        the line
 use Rattle.std.specs.Prelude.{ℕ, List, ◌++◌, Option, None, Some, codes}
 use Rattle.std.specs.Fmt.{decimal}
 use Rattle.fs_cred.specs.declared.refusal.Denial.{Denial}
@@ -58,10 +58,10 @@ abbrev pub asked_text : Time → Request → List ℕ
 asked_text now request = decimal now.seconds ++ codes " " ++ decimal request.uid ++ codes " " ++ request_name request.operation ++ codes " "
 
 -- the shell's words of it
-abbrev pub words_of : Denial → List ℕ
-words_of denial = reply_text (Refused (Denied denial))
+abbrev pub denial_words : Denial → List ℕ
+denial_words denial = reply_text (Refused (Denied denial))
 
 -- and for which name; and the shell's words of it
 abbrev pub denial_line : Time → Request → Denial → List ℕ
 denial_line now request denial =
-    asked_text now request ++ (name_text request.operation ++ (codes " " ++ (words_of denial ++ codes "\n")))
+    asked_text now request ++ (name_text request.operation ++ (codes " " ++ (denial_words denial ++ codes "\n")))

@@ -3,7 +3,7 @@
 ghost use Rattle.std.specs.Prelude.{◌≡◌, ◌++◌, IfOk, OnOk, string_bytes};
 ghost use Rattle.std.specs.Option.{option_copied};
 ghost use Rattle.std.specs.Io.KnownBytes.{Appends};
-ghost use Rattle.fs_command.specs.Denials.{request_name, name_asked, name_text, asked_text, words_of, denial_line};
+ghost use Rattle.fs_command.specs.Denials.{request_name, name_asked, name_text, asked_text, denial_words, denial_line};
 
 use fs_cred::{Denial, Refusal};
 use fs_model::Reply;
@@ -73,7 +73,7 @@ fn push_name(line: &mut String, alloc: Global, operation: &Operation<'_>) -> Res
 
 // Adds the shell's words of the denial.
 fn push_words(line: &mut String, alloc: Global, denial: Denial) -> Result<(), AllocError>
-    ensures { OnOk result (string_bytes line.new ≡ string_bytes line.old ++ words_of denial) }
+    ensures { OnOk result (string_bytes line.new ≡ string_bytes line.old ++ denial_words denial) }
 {
     let words = reply_text(alloc, &Reply::Refused(Refusal::Denied(denial)))?;
     line.push_str(words.as_str())

@@ -195,6 +195,14 @@ impl<D: Disk> Sectors for CountedTxn<D> {
         self.txn.get(n, to)
     }
 
+    fn read_with<T, F: FnOnce(&[u8; 512]) -> T + Drop>(
+        &mut self,
+        n: u32,
+        read: F,
+    ) -> Result<T, DiskFault> {
+        self.txn.read_with(n, read)
+    }
+
     fn put(&mut self, n: u32, from: &[u8; 512]) {
         self.is_changed = true;
         self.txn.put(n, from);

@@ -50,36 +50,52 @@ fn refusal_errno(refusal: Refusal) -> Errno
 }
 
 impl Stop {
+    /// Operation not permitted.
     pub const EPERM: Stop = Stop::Refuses(Refusal::Failed(Errno::EPERM));
 
+    /// No such file or directory.
     pub const ENOENT: Stop = Stop::Refuses(Refusal::Failed(Errno::ENOENT));
 
+    /// The device has failed.
     pub const EIO: Stop = Stop::Refuses(Refusal::Failed(Errno::EIO));
 
+    /// No descriptor that is open so.
     pub const EBADF: Stop = Stop::Refuses(Refusal::Failed(Errno::EBADF));
 
+    /// Memory is lacking.
     pub const ENOMEM: Stop = Stop::Refuses(Refusal::Failed(Errno::ENOMEM));
 
+    /// Permission denied; also of a caller whose groups are unknown.
     pub const EACCES: Stop = Stop::Refuses(Refusal::Failed(Errno::EACCES));
 
+    /// The name is there.
     pub const EEXIST: Stop = Stop::Refuses(Refusal::Failed(Errno::EEXIST));
 
+    /// Not a directory.
     pub const ENOTDIR: Stop = Stop::Refuses(Refusal::Failed(Errno::ENOTDIR));
 
+    /// A body that is not of its form, or a value that is none.
     pub const EINVAL: Stop = Stop::Refuses(Refusal::Failed(Errno::EINVAL));
 
+    /// Too much is open in the whole system.
     pub const ENFILE: Stop = Stop::Lacks(OtherErrno::ENFILE);
 
+    /// The value of an attribute is longer than there is room for.
     pub const ERANGE: Stop = Stop::Lacks(OtherErrno::ERANGE);
 
+    /// A request that is unknown.
     pub const ENOSYS: Stop = Stop::Lacks(OtherErrno::ENOSYS);
 
+    /// There is no such attribute.
     pub const ENODATA: Stop = Stop::Lacks(OtherErrno::ENODATA);
 
+    /// A version of the protocol that is not spoken.
     pub const EPROTO: Stop = Stop::Lacks(OtherErrno::EPROTO);
 
+    /// What is not supported: attributes of other names, the owner of a link.
     pub const EOPNOTSUPP: Stop = Stop::Lacks(OtherErrno::EOPNOTSUPP);
 
+    /// A node whose inode is gone, or is another one by now.
     pub const ESTALE: Stop = Stop::Lacks(OtherErrno::ESTALE);
 
     /// The number of the error on Linux.
