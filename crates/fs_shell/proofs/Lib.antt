@@ -12,3 +12,4 @@ pub mod Pieces
 pub mod Reading
 pub mod Rows
 pub mod Sessions
+pub mod Spelling

@@ -1,9 +1,11 @@
 //! The text of replies.
-ghost use Rattle.std.specs.Prelude.{◌≡◌, ◌++◌, ◌<◌, false, IfOk, OnOk, codes, string_bytes};
+ghost use Rattle.std.specs.Prelude.{◌≡◌, ◌+◌, ◌*◌, ◌++◌, ◌<◌, ◌≤◌, false, length, take, IfOk, OnOk, IsUtf8, codes, string_bytes};
 ghost use Rattle.std.specs.Fmt.{digit_glyph};
+ghost use Rattle.std.specs.List.{list_all};
 ghost use Rattle.posix_acl.specs.Text.{perms_text, written_text};
 ghost use Rattle.posix_acl.specs.declared.text.TextForm.TheVariants.{Short};
 ghost use Rattle.fs_cred.specs.Capabilities.{named_caps};
+ghost use Rattle.fs_shell.specs.declared.text.TheConstants.{RUN, MOST_OF_BYTE, USUAL_TEXT};
 ghost use Rattle.fs_shell.specs.Texts.{stands_for_itself, octal_digit, byte_text, bytes_text, word_text, mode_text, caps_text, rule_text, need_text, errno_text, denial_text, refusal_text, kind_text, counts_text, status_text, acl_text, names_text, reply_text, fault_text};
 
 use crate::line::LineFault;
@@ -12,15 +14,24 @@ use fs_cred::{Caps, Denial, Errno, Need, Refusal, Rule};
 use fs_model::{FileType, Listing, Reply, Status};
 use posix_acl::{Acl, Perms, TextForm};
 use std::alloc::{AllocError, Global};
+use std::str;
 
-// Most replies have no more bytes, and so take memory once.
+// Most replies have no more bytes, those of a file or a path aside.
 const USUAL_TEXT: usize = 96;
+
+// So many bytes are written at once.
+const RUN: usize = 256;
+
+// The text of one byte has at most so many.
+const MOST_OF_BYTE: usize = 3;
+
+const HEX_DIGITS: &[u8; 16] = b"0123456789abcdef";
 
 /// The text of a reply, without a newline.
 pub fn reply_text(alloc: Global, reply: &Reply) -> Result<String, AllocError>
     ensures { IfOk result (λ text. string_bytes text ≡ reply_text reply.now) }
 {
-    let mut text = String::with_capacity(alloc, USUAL_TEXT)?;
+    let mut text = String::with_capacity(alloc, room_for(reply))?;
     push_reply(&mut text, reply)?;
     Ok(text)
 }
@@ -40,9 +51,20 @@ pub fn fault_text(alloc: Global, fault: LineFault) -> Result<String, AllocError>
 pub fn word_text(alloc: Global, bytes: &[u8]) -> Result<String, AllocError>
     ensures { IfOk result (λ text. string_bytes text ≡ word_text bytes.now) }
 {
-    let mut text = String::new(alloc);
+    let mut text = String::with_capacity(alloc, bytes.len())?;
     push_word(&mut text, bytes)?;
     Ok(text)
+}
+
+// How many bytes a reply's text gets room for at first, so that most take memory once.
+fn room_for(reply: &Reply) -> usize
+    ensures { USUAL_TEXT ≤ result }
+{
+    match reply {
+        Reply::Data(bytes) => USUAL_TEXT + bytes.bytes().len(),
+        Reply::Target(target) => USUAL_TEXT + target.bytes().len(),
+        _ => USUAL_TEXT,
+    }
 }
 
 #[tactic(auto, unfolding(crate::specs::Texts::reply_text))]
@@ -87,35 +109,81 @@ fn push_word(text: &mut String, bytes: &[u8]) -> Result<(), AllocError>
 fn push_bytes(text: &mut String, bytes: &[u8]) -> Result<(), AllocError>
     ensures { OnOk result (string_bytes text.new ≡ string_bytes text.old ++ bytes_text bytes.now) }
 {
-    for byte in bytes {
-        push_byte(text, *byte)?;
+    let mut rest = bytes;
+    while !rest.is_empty() {
+        let (run, after) = rest.split_at(rest.len().min(RUN));
+        push_run(text, run)?;
+        rest = after;
     }
     Ok(())
 }
 
-fn push_byte(text: &mut String, byte: u8) -> Result<(), AllocError>
-    ensures { OnOk result (string_bytes text.new ≡ string_bytes text.old ++ byte_text byte) }
+#[tactic(auto, using(crate::proofs::Spelling::text_as_it_stands))]
+fn push_run(text: &mut String, run: &[u8]) -> Result<(), AllocError>
+    requires { length run.now ≤ RUN }
+    ensures { OnOk result (string_bytes text.new ≡ string_bytes text.old ++ bytes_text run.now) }
+{
+    if stand_for_themselves(run) {
+        return text.push_str(utf8_text(run));
+    }
+    let mut spelled = [0; MOST_OF_BYTE * RUN];
+    let len = spell(run, &mut spelled);
+    text.push_str(utf8_text(&spelled[..len]))
+}
+
+// Whether each byte stands for itself. Not stopping at the first other one, it tests many at once.
+fn stand_for_themselves(bytes: &[u8]) -> bool
+    ensures { result ≡ list_all stands_for_itself bytes.now }
+{
+    let mut all = true;
+    for byte in bytes {
+        all &= stands_for_itself(*byte);
+    }
+    all
+}
+
+fn utf8_text(bytes: &[u8]) -> &str
+    requires { IsUtf8 bytes.now }
+    ensures { result.now ≡ bytes.now }
+{
+    str::from_utf8(bytes).unwrap()
+}
+
+// Writes the text of bytes at the front of `text`, and says how long it is.
+fn spell(bytes: &[u8], text: &mut [u8]) -> usize
+    requires { MOST_OF_BYTE * length bytes.now ≤ length text.old }
+    ensures text { take result text.new ≡ bytes_text bytes.now }
+    ensures within { result ≤ length text.new }
+{
+    let mut len = 0;
+    for byte in bytes {
+        len = spell_behind(*byte, text, len);
+    }
+    len
+}
+
+// Writes the text of a byte behind the first `len` of `text`, and says how many there are then.
+fn spell_behind(byte: u8, text: &mut [u8], len: usize) -> usize
+    requires { len + MOST_OF_BYTE ≤ length text.old }
+    ensures text { take result text.new ≡ take len text.old ++ byte_text byte }
+    ensures within { result ≤ len + MOST_OF_BYTE }
+    ensures size { length text.new ≡ length text.old }
 {
     if stands_for_itself(byte) {
-        text.push(char::from(byte))?;
-    } else {
-        text.push('\\')?;
-        text.push(hex_digit(byte / 16))?;
-        text.push(hex_digit(byte % 16))?;
+        text[len] = byte;
+        return len + 1;
     }
-    Ok(())
+    text[len] = b'\\';
+    text[len + 1] = hex_digit(byte / 16);
+    text[len + 2] = hex_digit(byte % 16);
+    len + 3
 }
 
-fn hex_digit(value: u8) -> char
+fn hex_digit(value: u8) -> u8
     requires { value < 16 }
     ensures { result ≡ digit_glyph false value }
 {
-    let digit = if value < 10 {
-        b'0' + value
-    } else {
-        b'a' + (value - 10)
-    };
-    char::from(digit)
+    HEX_DIGITS[value as usize]
 }
 
 fn stands_for_itself(byte: u8) -> bool
