@@ -7,7 +7,7 @@
 --     has_words        whether a line is read word by word
 --     line_value        what a line says, or the first thing that is wrong with it
 --     IsSaid, LineSays        the same with its ACL
-use Rattle.std.specs.Prelude.{◌≡◌, ℕ, ℤ, ◌+◌, ◌==◌, nat_le, nat_lt, Bool, true, false, not, ◌&&◌, List, [], ◌∷◌, ◌++◌, length, codes, ok_or, unwrap_or, Option, None, Some, Result, Ok, Err, if◌then◌else◌}
+use Rattle.std.specs.Prelude.{◌≡◌, ℕ, ℤ, ◌==◌, nat_le, nat_lt, Bool, false, not, ◌&&◌, List, [], ◌∷◌, ◌++◌, length, codes, ok_or, unwrap_or, Option, None, Some, Result, Ok, Err, if◌then◌else◌}
 use Rattle.std.specs.List.{find, list_all, slice_get}
 use Rattle.std.specs.Str.{bytes_eq}
 use Rattle.posix_acl.specs.AccessList.{AccessList}
