@@ -1,12 +1,10 @@
 -- What an event comes to: a state, and what was done to the disk.
 use Rattle.std.proofs.Common.{◌≡◌, ◌≤◌, ℕ, Bool, true, false, None, IsTrue, refl, sym, ap, subst, ◌∙◌, arith, inl, inr}
-use Rattle.std.specs.Prelude.{IsFalse, ◌&&◌, not, count_by}
-use Rattle.std.specs.List.{range_with_len}
+use Rattle.std.specs.Prelude.{IsFalse, ◌&&◌}
 use Rattle.sector_disk.specs.Disk.{DiskState, Image, IsImage, IsSame, LeavesOnly, OnlyReads, HasFailed, HasFailedToWrite}
 use Rattle.sector_disk.proofs.Moments.{holds_now, reads_nothing}
 use Rattle.fs_layout.specs.declared.place.Place.{Place}
 use Rattle.fs_layout.specs.Bytes.{SectorMap}
-use Rattle.fs_layout.specs.Images.{bit, inode_bitmap, free_sectors}
 use Rattle.fs_cred.specs.declared.errno.Errno.TheVariants.{EIO}
 use Rattle.fs_cred.specs.declared.refusal.Refusal.TheVariants.{Failed}
 use Rattle.redo_journal.specs.Meaning.{SameMap, EachReadsAs}
@@ -16,7 +14,6 @@ use Rattle.fs_model.specs.declared.reply.Reply.TheVariants.{Done, Space, Refused
 use Rattle.fs_model.specs.declared.event.Event.{Event}
 use Rattle.fs_model.specs.declared.event.Event.TheVariants.{Statfs}
 use Rattle.fs_model.specs.Trees.{Tree, Room, IsTree, free_inodes}
-use Rattle.fs_model.proofs.FreeInodes.{free_are_clear}
 use Rattle.fs_model.specs.Processes.{Desks}
 use Rattle.fs_model.specs.States.{State, IsState}
 use Rattle.fs_model.specs.Steps.{Step, is_of_machine, firm_refusal}

@@ -1,5 +1,5 @@
-use Rattle.std.specs.Prelude.{Option, Some, Result, IsFalse, MatchOption}
-use Rattle.std.proofs.Common.{◌≡◌, ap, subst}
+use Rattle.std.specs.Prelude.{Option, Result, IsFalse, MatchOption}
+use Rattle.std.proofs.Common.{ap, subst}
 use Rattle.fs_cred.specs.declared.refusal.Refusal.{Refusal}
 use Rattle.sector_txn.specs.Sectors.{TxnState}
 use Rattle.fs_model.specs.declared.reply.Reply.{Reply}

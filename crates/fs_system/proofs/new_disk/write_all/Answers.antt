@@ -1,5 +1,5 @@
-use Rattle.std.proofs.Common.{◌⊎◌, inl, inr, arith}
-use Rattle.sector_disk.specs.Disk.{Image, IsImage, LeavesOnly}
+use Rattle.std.proofs.Common.{inl, inr, arith}
+use Rattle.sector_disk.specs.Disk.{Image, LeavesOnly}
 use Rattle.sector_disk.proofs.Moments.{joined, weaker}
 use Rattle.fs_system.specs.Making.{HasNoSuperblock, IsHalfCleared, IsHalfDone, IsHalfMade}
 use Rattle.fs_system.proofs.MakingMoments.{place_on_disk}

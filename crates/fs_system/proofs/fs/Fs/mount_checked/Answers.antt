@@ -1,6 +1,12 @@
-use Rattle.std.proofs.Common.{arith, ◌∙◌}
+use Rattle.std.proofs.Common.{Some, Ok, sym, subst, arith, ◌∙◌}
+use Rattle.sector_disk.specs.Disk.{LeavesOnly}
 use Rattle.sector_disk.proofs.Moments.{failed_later}
 use Rattle.fs_model.specs.declared.event.RestartFault.TheVariants.{DiskFault}
+use Rattle.sector_txn.specs.Stores.{StoreView}
+use Rattle.fs_model.specs.States.{State}
+use Rattle.fs_system.specs.Mounting.{IsSystem, StandsAsBefore}
+use Rattle.fs_system.specs.Mounts.{Mounts}
+use Rattle.fs_system.specs.Seen.{IsIn}
 use Rattle.fs_system.proofs.Mounts.{same_stands, opened_stands, opened_tree, swept_moments, fails_to_mount, mounts_found, mounted_system, device_failed}
 use Rattle.fs_system.proofs.fs.Fs.mount_checked.Goals as goal
 
@@ -20,31 +26,37 @@ returns-in_default-clause-any_moment g c =
 
 pub returns-in-Ok-sweep-clause-any_moment : goal.returns-in-Ok-sweep-clause-any_moment
 returns-in-Ok-sweep-clause-any_moment g c =
-    swept_moments g.D.Disk.state c.args.disk c.read_place.new.disk c.in-Ok-open_store.store (g.met.D.Disk.seen_is_image c.args.disk) c.requires
+    subst (λ (x : StoreView g.row.D.Denot). LeavesOnly (g.D.Disk.state c.args.disk) (g.D.Disk.state x.disk) (StandsAsBefore (g.D.Disk.state c.args.disk)))
+    (sym c.uncounted.ensures)
+    (swept_moments g.D.Disk.state c.args.disk c.read_place.new.disk c.in-Ok-open_store.store (g.met.D.Disk.seen_is_image c.args.disk) c.requires
     c.read_place.ensures.same c.in-Ok-open_store.ensures.size c.in-Ok-open_store.ensures.map c.in-Ok-open_store.ensures.lasting c.in-Ok.place c.in-Ok.ensures.found
     (g.D.Disk.state c.in-Ok-sweep.store.disk)
     (opened_stands (g.D.Disk.state c.args.disk) (g.D.Disk.state c.read_place.new.disk) (g.D.Disk.state c.in-Ok-open_store.store.disk) (g.met.D.Disk.only_now c.args.disk)
-    c.read_place.ensures.same c.read_place.ensures.time c.in-Ok-open_store.ensures.any_moment) c.in-Ok-sweep.ensures.any_moment
+    c.read_place.ensures.same c.read_place.ensures.time c.in-Ok-open_store.ensures.any_moment) c.in-Ok-sweep.ensures.any_moment)
 
 pub returns-in-Ok-sweep-clause-mounted : goal.returns-in-Ok-sweep-clause-mounted
 returns-in-Ok-sweep-clause-mounted g c =
     let first = c.read_place.ensures.cause.later in
     let then = c.in-Ok-open_store.ensures.later in
     let last = c.in-Ok-sweep.ensures.cause.later in
-    mounts_found g.D.Disk.state c.args.disk c.read_place.new.disk c.in-Ok-open_store.store (g.met.D.Disk.seen_is_image c.args.disk) c.requires
+    subst (λ (x : StoreView g.row.D.Denot). (s : State) × IsIn g.D.Disk.state (record { base = Some (Ok x); place = c.in-Ok.place; desks = c.new.result }) s
+    × Mounts (g.D.Disk.state c.args.disk) (g.D.Disk.state x.disk) s) (sym c.uncounted.ensures)
+    (mounts_found g.D.Disk.state c.args.disk c.read_place.new.disk c.in-Ok-open_store.store (g.met.D.Disk.seen_is_image c.args.disk) c.requires
     c.read_place.ensures.same c.in-Ok-open_store.ensures.size c.in-Ok-open_store.ensures.map c.in-Ok-open_store.ensures.lasting c.in-Ok.place c.in-Ok.ensures.found
     c.in-Ok-sweep.store c.in-Ok-sweep.ensures.swept c.in-Ok-sweep.ensures.lasting (omega (arith, first, then, last))
-    (c.in-Ok-sweep.ensures.quiet ∙ c.in-Ok-open_store.ensures.quiet ∙ c.read_place.ensures.quiet) c.new.result c.new.ensures
+    (c.in-Ok-sweep.ensures.quiet ∙ c.in-Ok-open_store.ensures.quiet ∙ c.read_place.ensures.quiet) c.new.result c.new.ensures)
 
 pub invariant_of-result : goal.invariant_of-result
 invariant_of-result g c =
     let first = c.read_place.ensures.cause.later in
     let then = c.in-Ok-open_store.ensures.later in
     let last = c.in-Ok-sweep.ensures.cause.later in
-    mounted_system g.D.Disk.state c.args.disk c.read_place.new.disk c.in-Ok-open_store.store (g.met.D.Disk.seen_is_image c.args.disk) c.requires
+    subst (λ (x : StoreView g.row.D.Denot). IsSystem g.D.Disk.state (record { base = Some (Ok x); place = c.in-Ok.place; desks = c.new.result }))
+    (sym c.uncounted.ensures)
+    (mounted_system g.D.Disk.state c.args.disk c.read_place.new.disk c.in-Ok-open_store.store (g.met.D.Disk.seen_is_image c.args.disk) c.requires
     c.read_place.ensures.same c.in-Ok-open_store.ensures.size c.in-Ok-open_store.ensures.map c.in-Ok-open_store.ensures.lasting c.in-Ok.place c.in-Ok.ensures.found
     c.in-Ok-sweep.store c.in-Ok-sweep.ensures.swept c.in-Ok-sweep.ensures.lasting (omega (arith, first, then, last))
-    (c.in-Ok-sweep.ensures.quiet ∙ c.in-Ok-open_store.ensures.quiet ∙ c.read_place.ensures.quiet) c.new.result c.new.ensures
+    (c.in-Ok-sweep.ensures.quiet ∙ c.in-Ok-open_store.ensures.quiet ∙ c.read_place.ensures.quiet) c.new.result c.new.ensures)
 
 pub returns-in-Err-sweep-clause-any_moment : goal.returns-in-Err-sweep-clause-any_moment
 returns-in-Err-sweep-clause-any_moment g c =
