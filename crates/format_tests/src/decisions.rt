@@ -1,6 +1,6 @@
 //! Worked rows of the access check, and each of its answers beside what the manual says.
 use bitflags::Flags;
-use fs_cred::{Caps, Cred, Node, NodeKind, Rule, Verdict, decide};
+use fs_cred::{Caps, Cred, Node, NodeKind, Rule, Verdict, decide, decide_by_mode};
 use posix_acl::{Acl, AclFault, Entry, Perms, Tag};
 use std::alloc::Global;
 use std::test::Fail;
@@ -87,14 +87,15 @@ fn an_entry_decides(rt: HostRuntime) -> Result<(), Fail> {
     Ok(())
 }
 
-// What user 7, who has these capabilities, may do to a file or directory of user 0 that has this mode.
+// What user 7, who has these capabilities, may do to a file or directory of user 0 that has this mode: by the list that the
+// mode is, and by the mode itself.
 fn asked_by_capable(
     alloc: Global,
     caps: Caps,
     kind: NodeKind,
     mode: u16,
     want: u16,
-) -> Result<Verdict, Fail> {
+) -> Result<(Verdict, Verdict), Fail> {
     let cred = Cred::with_caps(alloc, 7, 7, &[], caps)?;
     let acl = Acl::from_mode(alloc, mode)?;
     let node = Node {
@@ -103,7 +104,8 @@ fn asked_by_capable(
         group: 0,
         acl,
     };
-    Ok(ask(&cred, &node, want))
+    let by_mode = decide_by_mode(&cred, kind, 0, 0, mode, Perms::from_digit(want));
+    Ok((ask(&cred, &node, want), by_mode))
 }
 
 #[test]
@@ -137,8 +139,8 @@ fn capabilities_decide_first(rt: HostRuntime) -> Result<(), Fail> {
         (reads, NodeKind::Directory, 0o770, W, no(Rule::Other)),
         (Caps::FOWNER, NodeKind::File, 0o660, R, no(Rule::Other)),
     ] {
-        let seen = asked_by_capable(rt.alloc(), caps, kind, mode, want)?;
-        assert!(rt; seen == wanted, "{mode} {want}");
+        let (seen, by_mode) = asked_by_capable(rt.alloc(), caps, kind, mode, want)?;
+        assert!(rt; seen == wanted && by_mode == wanted, "{mode} {want}");
     }
     Ok(())
 }
@@ -320,6 +322,25 @@ fn askers(alloc: Global) -> Result<Vec<(Cred, Asker)>, Fail> {
     Ok(askers)
 }
 
+// Whether the answer about this file or directory is the manual's, by the list and, where it is no more than a mode, by that.
+fn is_right(list: &Digits, node: &Node, cred: &Cred, asker: Asker, want: u16) -> bool {
+    let right = by_the_manual(list, node.kind, asker, want);
+    let by_mode = if node.acl.is_extended() {
+        right
+    } else {
+        let mode = node.acl.mode_bits();
+        decide_by_mode(
+            cred,
+            node.kind,
+            node.owner,
+            node.group,
+            mode,
+            Perms::from_digit(want),
+        )
+    };
+    ask(cred, node, want) == right && by_mode == right
+}
+
 // How many answers about this file or directory agree, over every set of permissions. Where two users or groups are named only
 // those without capabilities ask.
 fn agreeing_on(list: &Digits, node: &Node, askers: &[(Cred, Asker)]) -> u32 {
@@ -327,7 +348,7 @@ fn agreeing_on(list: &Digits, node: &Node, askers: &[(Cred, Asker)]) -> u32 {
     for (cred, asker) in askers {
         if list.is_short() || asker.caps == 0 {
             for want in 0..8 {
-                if ask(cred, node, want) == by_the_manual(list, node.kind, *asker, want) {
+                if is_right(list, node, cred, *asker, want) {
                     agreeing = agreeing.wrapping_add(1);
                 }
             }
