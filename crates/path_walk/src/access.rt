@@ -1,6 +1,6 @@
 //! Access decisions on files and directories of a disk.
 
-ghost use Rattle.std.specs.Prelude.{◌≡◌, Ok, IfErr};
+ghost use Rattle.std.specs.Prelude.{◌≡◌, Ok, IsOk, IfErr};
 ghost use Rattle.fs_cred.specs.declared.node.Node.{Node as AccessNode};
 ghost use Rattle.fs_cred.specs.declared.refusal.Need.TheVariants.{Search};
 ghost use Rattle.fs_cred.specs.declared.node.NodeKind.{NodeKind};
@@ -39,6 +39,7 @@ pub fn permission<S: Sectors>(
     requires has { (node : AccessNode) × HasAccess (S.state s.old).sectors inode.now node }
     ensures each { (node : AccessNode) → HasAccess (S.state s.old).sectors inode.now node
         → IsAnswered (S.state s.old).disk (S.state s.new).disk (Ok (verdict cred.now node want)) result }
+    ensures by_mode { inode.now.acl ≡ 0 → IsOk result }
     ensures same { IsUnchanged (S.state s.old) (S.state s.new) }
     ensures cause { HasCauseOf (Refusal.Failed Errno.EIO) (S.state s.old).disk (S.state s.new).disk result }
 {
