@@ -54,24 +54,21 @@ def states_of(root, work):
     return states, answers
 
 
-def killed(mounted, worker, work, seconds):
-    """Sends the changes until the server is killed: the answers until then, and how many changes the last sync covers."""
-    started, answers, synced, server = time.monotonic(), [], 0, mounted.server()
-    for number, change in enumerate(work):
+def killed(mounted, worker, work, last, seconds):
+    """Sends the changes, and so long after the last one that is to be sent kills the server: the answers until then, and how many
+    changes the last sync covers."""
+    answers, synced, server = [], 0, mounted.server()
+    for number, change in enumerate(work[:last + 1]):
         worker.send(mounted.mount, *change)
-        rest = seconds - (time.monotonic() - started)
-        if rest < 0.05:
-            time.sleep(max(rest, 0))
+        if number == last:
+            time.sleep(seconds)
             os.kill(server, signal.SIGKILL)
-            server = None
         answer = worker.answer()
-        if answer in ('ENOTCONN', 'ECONNABORTED', 'EIO') or server is None:
+        if answer in ('ENOTCONN', 'ECONNABORTED', 'EIO'):
             break
         answers.append(answer)
         if change[0] == 'write' and change[-1] and answer is None:
             synced = number + 1
-    if server:
-        os.kill(server, signal.SIGKILL)
     return answers, synced
 
 
@@ -86,7 +83,8 @@ def kills(mounted, told, seed, count):
         states, wanted = states_of(mounted.local, work)
         mounted.begin()
         worker = Worker('root', perform)
-        answers, synced = killed(mounted, worker, work, dice.random() * 1.0)
+        # A change takes less than a millisecond, and one that commits some.
+        answers, synced = killed(mounted, worker, work, dice.randrange(len(work)), dice.random() * dice.choice([0.0005, 0.005]))
         worker.end()
         at = judge(mounted, told, f'kill {number} of seed {seed} behind {len(answers)} changes', states, wanted, answers, synced)
         told.compared += 1
