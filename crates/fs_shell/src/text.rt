@@ -20,7 +20,7 @@ use std::str;
 const USUAL_TEXT: usize = 96;
 
 // So many bytes are written at once.
-const RUN: usize = 256;
+const RUN: usize = 512;
 
 // The text of one byte has at most so many.
 const MOST_OF_BYTE: usize = 3;
