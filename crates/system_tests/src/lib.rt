@@ -1,6 +1,6 @@
 //! Tests of what stands above the disk: the model's values and laws, the table of processes, new disks and the methods of
 //! file systems, the texts of the shell and its runs, the program's words and what it prints. What file systems answer to lines
-//! is tried by the program `rows`.
+//! is tried by the program `player`.
 #![tactic(auto)]
 
 #[cfg(test)]

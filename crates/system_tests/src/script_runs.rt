@@ -1,4 +1,4 @@
-//! Runs over readers and writers of several kinds. What file systems answer to lines is tried by the program `rows`.
+//! Runs over readers and writers of several kinds. What file systems answer to lines is tried by the program `player`.
 
 use crate::report::push_other;
 use fs_shell::{Count, RunFault, Watched, run};

@@ -1,6 +1,6 @@
 //! Plays scripts with stops of the disk.
 
-use crate::served::{INODES, SECTORS};
+use crate::disks::{INODES, SECTORS};
 use anyhow::bail;
 use fs_model::{Bytes, Event, EventReply, RestartFault};
 use fs_shell::{Line, parse_line, reply_text};

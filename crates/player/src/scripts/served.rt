@@ -1,17 +1,12 @@
 //! Runs scripts on disks of which calls may fail, which may be changed, checked, and mounted again.
 
+use crate::disks::{INODES, SECTORS};
 use anyhow::{anyhow, bail};
 use fs_check::{CheckFault, Summary, check};
 use fs_shell::{Watched, run};
 use fs_system::{Fs, mkfs};
 use sector_disk::{Disk, FailOnce, FuseDisk, MemDisk};
 use std::alloc::{AllocError, Global};
-
-/// The sectors of a disk.
-pub const SECTORS: u32 = 1024;
-
-/// Its inodes, 0 too.
-pub const INODES: u32 = 64;
 
 // One call fails; and all from some call on.
 type FailingDisk = FuseDisk<FailOnce<MemDisk>>;

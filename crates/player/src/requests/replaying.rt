@@ -1,7 +1,7 @@
 //! Plays a recording, and compares the replies.
 
-use crate::playing::{put_request, serve_new};
-use crate::recording::{Exchange, Recording};
+use crate::requests::playing::{put_request, serve_new};
+use crate::requests::recording::{Exchange, Recording};
 use bitflags::Flags;
 use fs_cred::Caps;
 use fuse_protocol::Time;

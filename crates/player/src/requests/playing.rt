@@ -1,6 +1,7 @@
 //! A server on a new file system in memory.
 ghost use Rattle.std.specs.Prelude.{◌≤◌, length, IfSome};
 
+use crate::disks::{INODES, SECTORS};
 use anyhow::bail;
 use fs_fuse::serve_requests;
 use fs_system::{Fs, mkfs};
@@ -9,12 +10,6 @@ use fuse_serving::{Kernel, Nobody, ReplyRoom, ServeFault};
 use fuse_state::Settings;
 use sector_disk::MemDisk;
 use std::alloc::Global;
-
-// The sectors of a disk.
-const SECTORS: u32 = 1024;
-
-// Its inodes, 0 too.
-const INODES: u32 = 64;
 
 // The largest request: one that writes 131,072 bytes.
 const REQUEST_ROOM: usize = 131_152;

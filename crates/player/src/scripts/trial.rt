@@ -1,7 +1,7 @@
 //! Tries scripts for all their numbers.
 
-use crate::script::{NewDisk, Script};
-use crate::{served, stopped};
+use crate::scripts::script::{NewDisk, Script};
+use crate::scripts::{served, stopped};
 use std::alloc::Global;
 
 /// `ok`, or the first numbers for which the script isn't answered as its rows say, and how it is answered.

@@ -21,7 +21,7 @@
 //! - `arm PASSES`, `restart CHOICE` and `restart CHOICE PASSES` are the events of a disk that stops, and how they are answered
 //!   are its replies: a restart picks in each sector what has the number CHOICE of what may stand there.
 
-use crate::row::{Fill, push_row};
+use crate::scripts::row::{Fill, push_row};
 use anyhow::bail;
 use std::alloc::Global;
 

@@ -1,6 +1,6 @@
 //! Changes bytes of requests by chance.
 
-use crate::chance::Chance;
+use crate::requests::chance::Chance;
 use std::alloc::AllocError;
 
 // The bytes of a request's header. Its first four are the length.

@@ -1,11 +1,11 @@
 //! Plays requests at random.
 
-use crate::chance::Chance;
-use crate::changing::{change, has_to_end, is_reply_to};
-use crate::leaving::look_after;
-use crate::playing::{put_request, serve_new};
-use crate::recording::{Exchange, Recording};
-use crate::replaying::groups_of;
+use crate::requests::chance::Chance;
+use crate::requests::changing::{change, has_to_end, is_reply_to};
+use crate::requests::leaving::look_after;
+use crate::requests::playing::{put_request, serve_new};
+use crate::requests::recording::{Exchange, Recording};
+use crate::requests::replaying::groups_of;
 use anyhow::bail;
 use bitflags::Flags;
 use fs_cred::Caps;
