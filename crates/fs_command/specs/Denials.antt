@@ -6,7 +6,7 @@ use Rattle.std.specs.Fmt.{decimal}
 use Rattle.fs_cred.specs.declared.refusal.Denial.{Denial}
 use Rattle.fs_cred.specs.declared.refusal.Refusal.TheVariants.{Denied}
 use Rattle.fs_model.specs.declared.reply.Reply.TheVariants.{Refused}
-use Rattle.fs_shell.specs.Texts.{word_text, reply_text}
+use Rattle.fs_lines.specs.Texts.{word_text, reply_text}
 use Rattle.fuse_protocol.specs.declared.operation.Operation.{Operation}
 use Rattle.fuse_protocol.specs.declared.operation.Operation.TheVariants.{Lookup, SetAttr, SymLink, MkNod, MkDir, Unlink, RmDir, Rename, Link, Open, SetXAttr, RemoveXAttr, OpenDir, Access, Create}
 use Rattle.fuse_protocol.specs.declared.reply.Time.{Time}

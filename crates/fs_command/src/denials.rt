@@ -6,8 +6,8 @@ ghost use Rattle.std.specs.Io.KnownBytes.{Appends};
 ghost use Rattle.fs_command.specs.Denials.{request_name, name_asked, name_text, asked_text, denial_words, denial_line};
 
 use fs_cred::{Denial, Refusal};
+use fs_lines::{reply_text, word_text};
 use fs_model::Reply;
-use fs_shell::{reply_text, word_text};
 use fuse_plans::{Response, Stop};
 use fuse_protocol::{Operation, Request, Time};
 use fuse_serving::Witness;

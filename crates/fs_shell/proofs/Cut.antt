@@ -5,10 +5,10 @@ use borrow.Author.Tests.{ltb-false, ltb-true, lt-ltb}
 use Rattle.fs_model.specs.declared.event.Event.{Event}
 use Rattle.fs_model.specs.declared.event.EventReply.{EventReply}
 use Rattle.fs_shell.specs.declared.answer.Answer.{Answer}
-use Rattle.fs_shell.specs.declared.line.Line.{Line}
-use Rattle.fs_shell.specs.declared.line.LineFault.{LineFault}
-use Rattle.fs_shell.specs.declared.line.LineFault.TheVariants.{TooLong}
-use Rattle.fs_shell.specs.Commands.{has_words, line_value, IsSaid, LineSays}
+use Rattle.fs_lines.specs.declared.line.Line.{Line}
+use Rattle.fs_lines.specs.declared.line.LineFault.{LineFault}
+use Rattle.fs_lines.specs.declared.line.LineFault.TheVariants.{TooLong}
+use Rattle.fs_lines.specs.Commands.{has_words, line_value, IsSaid, LineSays}
 use Rattle.fs_shell.specs.Scripts.{kept_front}
 use Rattle.fs_shell.specs.Runs.{LineAnswers, is_blank, is_faulty, is_performed, lacks_memory}
 

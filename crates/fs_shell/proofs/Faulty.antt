@@ -1,10 +1,10 @@
 -- Faults of lines, and what they come from.
 use Rattle.std.proofs.Common.{◌≡◌, ◌≢◌, ◌⊎◌, inl, inr, refl, true, List, [], ℕ, Result, Err, sym, ap, subst, ◌∙◌}
 use Rattle.fs_shell.specs.declared.answer.Answer.TheVariants.{Fault}
-use Rattle.fs_shell.specs.declared.line.Line.{Line}
-use Rattle.fs_shell.specs.declared.line.LineFault.{LineFault}
-use Rattle.fs_shell.specs.declared.line.LineFault.TheVariants.{TooLong, BadByte, BadEscape, UnknownCommand, WordCount, BadNumber, BadAcl, OutOfMemory}
-use Rattle.fs_shell.specs.Commands.{has_words, LineSays}
+use Rattle.fs_lines.specs.declared.line.Line.{Line}
+use Rattle.fs_lines.specs.declared.line.LineFault.{LineFault}
+use Rattle.fs_lines.specs.declared.line.LineFault.TheVariants.{TooLong, BadByte, BadEscape, UnknownCommand, WordCount, BadNumber, BadAcl, OutOfMemory}
+use Rattle.fs_lines.specs.Commands.{has_words, LineSays}
 use Rattle.fs_shell.specs.Runs.{LineAnswers, is_faulty, lacks_memory}
 
 wants_memory : (fault : LineFault) → (fault ≡ OutOfMemory) ⊎ (fault ≢ OutOfMemory)

@@ -1,15 +1,5 @@
-pub mod Escapes
 pub mod Cut
-pub mod Cutting
-pub mod Each
-pub mod Letters
-pub mod Names
-pub mod Capabilities
 pub mod Faulty
-pub mod Numbers
-pub mod OneMeaning
 pub mod Pieces
 pub mod Reading
-pub mod Rows
 pub mod Sessions
-pub mod Spelling

@@ -4,7 +4,7 @@ use Rattle.std.proofs.lemmas.Bool.{false≢true, ne_eqb, cases_lt}
 use Rattle.std.proofs.lemmas.List.{take-append-le, take-take}
 use Rattle.std.specs.Io.KnownBytes.{Consumes, Keeps, IsAtEnd}
 use Rattle.std.proofs.KnownBytes.{Consumes-nil, Consumes-trans, Consumes-kept}
-use Rattle.fs_shell.specs.Lines.{lines_of}
+use Rattle.fs_lines.specs.Lines.{lines_of}
 use Rattle.fs_shell.specs.Scripts.{kept_front, IsTaken, LineRead, IsOver}
 
 abbrev pub HasNoNewline : List ℕ → Type 0

@@ -15,7 +15,7 @@ use Rattle.fs_shell.specs.declared.answer.Answer.TheVariants.{Nothing, Reply, Fa
 use Rattle.fs_shell.specs.declared.answer.Count.{Count}
 use Rattle.fs_shell.specs.declared.fault.RunFault.{RunFault}
 use Rattle.fs_shell.specs.declared.fault.RunFault.TheVariants.{WriteFault, OutOfMemory, TooMuch}
-use Rattle.fs_shell.specs.Lines.{lines_of}
+use Rattle.fs_lines.specs.Lines.{lines_of}
 use Rattle.fs_shell.specs.Scripts.{script_limit, IsTaken, LineRead, IsOver}
 use Rattle.fs_shell.specs.Runs.{answer_text, answers_text, faults_counted, count_faults, LineAnswers, LinePerformed, ScriptAnswers, no_line, a_line, Finished, EndedEarly, Ran}
 use Rattle.fs_shell.proofs.Cut.{cut_answers}

@@ -1,20 +1,15 @@
 -- Runs of scripts: which answers lines get, and what is written.
---     Gives, GivesSaid        what reading comes to
---     GivesAcl        the same of an ACL
---     IsOffered        a line asks for no event of the disk's
 --     answer_text, answers_text, count_faults        what is written for answers
 --     LineAnswers, ScriptAnswers        what is performed for one line, and for all lines of a script
 --     LinePerformed, Ran        a file system performs a line; a run of a script
-use Rattle.std.specs.Prelude.{◌≡◌, ◌≢◌, ◌≤◌, ◌+◌, ℕ, true, List, [], ◌∷◌, ◌++◌, length, Option, IfSome, IsTrue, Result, Ok, Err, MatchResult}
+use Rattle.std.specs.Prelude.{◌≡◌, ◌≤◌, ◌+◌, ℕ, true, List, [], ◌∷◌, ◌++◌, length, Option, IfSome, Result, Ok, Err, MatchResult}
 use Rattle.std.specs.List.{flat_map}
 use Rattle.std.specs.Io.KnownBytes.{Appends}
 use Rattle.sector_disk.specs.Disk.{DiskState}
-use Rattle.posix_acl.specs.AccessList.{AccessList}
 use Rattle.fs_model.specs.declared.event.Event.{Event}
 use Rattle.fs_model.specs.declared.event.EventReply.{EventReply}
 use Rattle.fs_model.specs.declared.event.EventReply.TheVariants.{Reply as Replies}
 use Rattle.fs_model.specs.declared.reply.Reply.{Reply as ReplyType}
-use Rattle.fs_model.specs.Steps.{is_of_machine}
 use Rattle.fs_system.specs.Playing.{Plays}
 use Rattle.fs_system.specs.Histories.{Config, History}
 use Rattle.fs_system.specs.Seen.{System}
@@ -23,30 +18,14 @@ use Rattle.fs_shell.specs.declared.answer.Answer.TheVariants.{Nothing, Reply, Fa
 use Rattle.fs_shell.specs.declared.answer.Count.{Count}
 use Rattle.fs_shell.specs.declared.fault.RunFault.{RunFault}
 use Rattle.fs_shell.specs.declared.fault.RunFault.TheVariants.{TooMuch}
-use Rattle.fs_shell.specs.declared.line.Line.{Line}
-use Rattle.fs_shell.specs.declared.line.Line.TheVariants.{Blank, Event as Asks}
-use Rattle.fs_shell.specs.declared.line.LineFault.{LineFault}
-use Rattle.fs_shell.specs.declared.line.LineFault.TheVariants.{OutOfMemory}
-use Rattle.fs_shell.specs.Lines.{lines_of}
-use Rattle.fs_shell.specs.Commands.{Said, IsSaid, LineSays, acl_said_by, has_words}
+use Rattle.fs_lines.specs.declared.line.Line.{Line}
+use Rattle.fs_lines.specs.declared.line.Line.TheVariants.{Blank, Event as Asks}
+use Rattle.fs_lines.specs.declared.line.LineFault.{LineFault}
+use Rattle.fs_lines.specs.declared.line.LineFault.TheVariants.{OutOfMemory}
+use Rattle.fs_lines.specs.Lines.{lines_of}
+use Rattle.fs_lines.specs.Commands.{LineSays, has_words}
 use Rattle.fs_shell.specs.Scripts.{script_limit, IsOver}
-use Rattle.fs_shell.specs.Texts.{reply_text, fault_text}
-
--- What reading comes to, seen by view, is what is said, unless memory ran out.
-abbrev pub Gives : {X Y : Type 0} → (X → Y) → Result X LineFault → Result Y LineFault → Type 0
-Gives view read said = MatchResult read (λ x. said ≡ Ok (view x)) (λ fault. fault ≢ OutOfMemory → said ≡ Err fault)
-
--- the same where it is known what is said but for the ACL of a text
-abbrev pub GivesSaid : {X : Type 0} → (X → Line) → Result X LineFault → Result Said LineFault → Type 0
-GivesSaid view read said = MatchResult read (λ x. IsSaid said (Ok (view x))) (λ fault. fault ≢ OutOfMemory → IsSaid said (Err fault))
-
--- The same of a word that is an ACL, whatever asks for it.
-abbrev pub GivesAcl : Result (Option AccessList) LineFault → List ℕ → Type 0
-GivesAcl read word = (says : Option AccessList → Event) → GivesSaid (λ acl. Asks (says acl)) read (acl_said_by says word)
-
-abbrev pub IsOffered : Line → Type 0
-IsOffered Blank = Unit {0}
-IsOffered (Asks e) = IsTrue (is_of_machine e)
+use Rattle.fs_lines.specs.Texts.{reply_text, fault_text}
 
 -- ---- answers
 

@@ -6,7 +6,7 @@
 --     IsOver        what is to come goes past the limit
 use Rattle.std.specs.Prelude.{◌≡◌, ◌+◌, ◌<◌, ℕ, List, ◌∷◌, length, take, Option, None, Some}
 use Rattle.std.specs.Io.KnownBytes.{prepend_known, Consumes, IsAtEnd, Keeps}
-use Rattle.fs_shell.specs.Lines.{lines_of}
+use Rattle.fs_lines.specs.Lines.{lines_of}
 
 abbrev pub script_limit : ℕ
 script_limit = 16777216

@@ -6,9 +6,8 @@ ghost use Rattle.fs_shell.specs.Runs.{answer_text};
 ghost use Rattle.fs_shell.specs.Watching.{FailsWhere};
 
 use crate::fault::RunFault;
-use crate::line::LineFault;
-use crate::text::{fault_text, reply_text};
 use crate::watched::Watched;
+use fs_lines::{LineFault, fault_text, reply_text};
 use fs_model::Reply;
 use std::alloc::Global;
 use std::io::Write;

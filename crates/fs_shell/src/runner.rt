@@ -9,10 +9,9 @@ ghost use Rattle.fs_shell.specs.Watching.{FailsWhere};
 
 use crate::answer::{Answer, Count, write_answer};
 use crate::fault::RunFault;
-use crate::line::{Line, MAX_LINE};
-use crate::parse::parse_line;
 use crate::script::Pending;
 use crate::watched::Watched;
+use fs_lines::{Line, MAX_LINE, parse_line};
 use fs_system::Fs;
 use sector_disk::Disk;
 use std::alloc::Global;

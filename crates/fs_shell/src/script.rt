@@ -8,9 +8,8 @@ ghost use Rattle.fs_shell.specs.Watching.{FailsWhere};
 ghost use Rattle.fs_shell.specs.Scripts.{bytes_left, script_limit, kept_front, FindsEnd, IsOver, ReadsLine};
 
 use crate::fault::RunFault;
-use crate::line::MAX_LINE;
-use crate::places::len_before;
 use crate::watched::Watched;
+use fs_lines::{MAX_LINE, len_before};
 use std::alloc::{AllocError, Global};
 use std::io::Read;
 use std::marker::Model;

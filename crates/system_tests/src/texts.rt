@@ -2,8 +2,8 @@
 
 use crate::report::push_other;
 use fs_cred::{Caps, Denial, Errno, Need, Refusal, Rule};
+use fs_lines::{Line, LineFault, a_line_says_one_thing, fault_text, parse_line, reply_text};
 use fs_model::{Bytes, Call, Event, FileType, Listing, Name, Named, Path, Reply, Status};
-use fs_shell::{Line, LineFault, a_line_says_one_thing, fault_text, parse_line, reply_text};
 use posix_acl::{Acl, Perms};
 use std::alloc::{AllocError, Global};
 use std::test::Fail;

@@ -2,8 +2,8 @@
 
 use crate::disks::{INODES, SECTORS};
 use anyhow::bail;
+use fs_lines::{Line, parse_line, reply_text};
 use fs_model::{Bytes, Event, EventReply, RestartFault};
-use fs_shell::{Line, parse_line, reply_text};
 use fs_system::{mkfs, play};
 use sector_disk::MemDisk;
 use std::alloc::{AllocError, Global};

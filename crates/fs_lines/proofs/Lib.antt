@@ -1,0 +1,10 @@
+pub mod Escapes
+pub mod Cutting
+pub mod Each
+pub mod Letters
+pub mod Names
+pub mod Capabilities
+pub mod Numbers
+pub mod OneMeaning
+pub mod Rows
+pub mod Spelling

@@ -1,0 +1,18 @@
+use Rattle.std.proofs.Common.{Err, sym, ap, ◌∙◌}
+use Rattle.std.proofs.lemmas.Result.{err_from_is_err_and}
+use Rattle.fs_lines.proofs.Escapes.{reads_escape, escape_fails, reads_rest}
+use Rattle.fs_lines.proofs.words.unescaped.Goals as goal
+
+pub returns-in_err-byte : goal.returns-in_err-byte
+returns-in_err-byte c =
+    let p = err_from_is_err_and c.from_residual-in_err-byte.result c.from_residual-in_err-byte.ensures.1 in
+    let bad = c.in_err-byte.ensures.err in
+    rw p.1 (λ other. escape_fails _ _ _ _ c.in-Some.at _ c.loop-at.invariant c.in-Some.ensures c.split_at.ensures.front c.split_at.ensures.back bad.1 ∙ ap Err (sym (p.2 ∙ bad.0)))
+
+pub loop-at-preserved : goal.loop-at-preserved
+loop-at-preserved c =
+    reads_escape _ _ _ _ c.in_ok-byte.after.now _ _ c.in-Some.at c.in_ok-byte.byte _ c.loop-at.invariant c.in-Some.ensures c.split_at.ensures.front c.split_at.ensures.back c.in_ok-byte.ensures.ok.1
+    c.in_ok-extend_from_slice.ensures.items c.in_ok-push.ensures.items
+
+pub returns : goal.returns
+returns c = reads_rest _ _ _ _ c.loop-at.invariant c.in_default.ensures c.in_ok-extend_from_slice-2.ensures.items

@@ -1,0 +1,6 @@
+pub mod Lines
+pub mod Words
+pub mod Commands
+pub mod Readings
+pub mod Laws
+pub mod Texts

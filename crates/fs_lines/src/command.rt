@@ -1,0 +1,280 @@
+//! The table of commands: each by its name, the words behind it, and what they ask for.
+ghost use Rattle.std.specs.Prelude.{◌≡◌, ◌++◌, [], ℕ, List, Ok, IfOk, IsTrue, codes, option_map};
+ghost use Rattle.fs_model.specs.Steps.{is_of_machine};
+ghost use Rattle.fs_lines.specs.declared.line.Line.TheVariants.{Event as Asks};
+ghost use Rattle.fs_lines.specs.Commands.{begins_with_digit, caps_apart, lone_commands, commands, path_commands, descriptor_commands, name_commands, process_commands, row_named, command_says, words_value};
+ghost use Rattle.fs_lines.specs.Words.{number_of};
+ghost use Rattle.fs_lines.specs.Readings.{GivesSaid};
+
+use crate::forms::{begins_with_cap, read_acl, read_caps, read_groups, read_number};
+use crate::line::LineFault;
+use crate::operand::{Groups, Operands};
+use crate::words::Word;
+use fs_cred::Cred;
+use fs_model::{AclType, Bytes, Call, Event, Path};
+use std::alloc::Global;
+
+// The mode of a file that is made, where none is given.
+const NEW_FILE_MODE: u16 = 0o666;
+
+/// What the words of a line ask for.
+#[tactic(auto, unfolding(crate::specs::Commands::words_value))]
+pub fn read_event(alloc: Global, words: &[Word<'_>]) -> Result<Event, LineFault>
+    ensures said { GivesSaid Asks result (words_value words.now) }
+    ensures offered { IfOk result (λ e. IsTrue (is_of_machine e)) }
+{
+    let Some((first, rest)) = words.split_first() else {
+        return Err(LineFault::WordCount);
+    };
+    if !begins_with_digit(first.bytes()) {
+        return read_alone(alloc, first.bytes(), rest);
+    }
+    let Some((name, rest)) = rest.split_first() else {
+        return Err(LineFault::WordCount);
+    };
+    read_behind_pid(alloc, first.bytes(), name.bytes(), rest)
+}
+
+fn begins_with_digit(word: &[u8]) -> bool
+    ensures { result ≡ begins_with_digit word.now }
+{
+    matches!(word, [b'0'..=b'9', ..])
+}
+
+// What a command asks for that stands alone.
+fn read_alone(alloc: Global, name: &[u8], words: &[Word<'_>]) -> Result<Event, LineFault>
+    ensures said { GivesSaid Asks result (command_says (row_named lone_commands name.now) [] words.now) }
+    ensures offered { IfOk result (λ e. IsTrue (is_of_machine e)) }
+{
+    let Ok(name) = std::str::from_utf8(name) else {
+        return Err(LineFault::UnknownCommand);
+    };
+    let operands = Operands {
+        alloc,
+        pid: Ok(0),
+        words,
+    };
+    match name {
+        "spawn" => read_spawn(operands),
+        "sync" => {
+            operands.none()?;
+            Ok(Event::Sync)
+        }
+        "statfs" => {
+            operands.none()?;
+            Ok(Event::Statfs)
+        }
+        _ => Err(LineFault::UnknownCommand),
+    }
+}
+
+// What a command asks for that stands behind a pid.
+fn read_behind_pid(
+    alloc: Global,
+    pid: &[u8],
+    name: &[u8],
+    words: &[Word<'_>],
+) -> Result<Event, LineFault>
+    ensures said { GivesSaid Asks result (command_says (row_named commands name.now) pid.now words.now) }
+    ensures offered { IfOk result (λ e. IsTrue (is_of_machine e)) }
+{
+    let Ok(name) = std::str::from_utf8(name) else {
+        return Err(LineFault::UnknownCommand);
+    };
+    let pid = read_number(pid);
+    read_path_command(name, Operands { alloc, pid, words })
+}
+
+// The commands whose first word is a path, and those below.
+fn read_path_command(name: &str, operands: Operands<'_>) -> Result<Event, LineFault>
+    ensures said { (pid : List ℕ) → operands.entry.pid ≡ number_of 64 pid
+        → GivesSaid Asks result (command_says (row_named commands name.now) pid operands.entry.words.now) }
+    ensures offered { IfOk result (λ e. IsTrue (is_of_machine e)) }
+{
+    match name {
+        "open" => {
+            let (pid, path, flags, mode) = operands.two_or(NEW_FILE_MODE)?;
+            Ok(Event::Call(pid, Call::Open(path, flags, mode)))
+        }
+        "stat" => {
+            let (pid, path) = operands.one()?;
+            Ok(Event::Call(pid, Call::Stat(path)))
+        }
+        "lstat" => {
+            let (pid, path) = operands.one()?;
+            Ok(Event::Call(pid, Call::Lstat(path)))
+        }
+        "access" => {
+            let (pid, path, want) = operands.two()?;
+            Ok(Event::Call(pid, Call::Access(path, want)))
+        }
+        "truncate" => {
+            let (pid, path, size) = operands.two()?;
+            Ok(Event::Call(pid, Call::Truncate(path, size)))
+        }
+        "chmod" => {
+            let (pid, path, mode) = operands.two()?;
+            Ok(Event::Call(pid, Call::Chmod(path, mode)))
+        }
+        "chown" => {
+            let (pid, path, owner, group) = operands.three()?;
+            Ok(Event::Call(pid, Call::Chown { path, owner, group }))
+        }
+        "getacl" => {
+            let (pid, path, which) = operands.two()?;
+            Ok(Event::Call(pid, Call::GetAcl(path, which)))
+        }
+        "setacl" => read_set_acl(operands),
+        _ => read_descriptor_command(name, operands),
+    }
+}
+
+// Those whose first word is a descriptor, and those below.
+fn read_descriptor_command(name: &str, operands: Operands<'_>) -> Result<Event, LineFault>
+    ensures said { (pid : List ℕ) → operands.entry.pid ≡ number_of 64 pid
+        → GivesSaid Asks result (command_says (row_named (descriptor_commands ++ (name_commands ++ process_commands)) name.now) pid operands.entry.words.now) }
+    ensures offered { IfOk result (λ e. IsTrue (is_of_machine e)) }
+{
+    match name {
+        "read" => {
+            let (pid, fd, len) = operands.two()?;
+            Ok(Event::Call(pid, Call::Read { fd, len }))
+        }
+        "write" => {
+            let (pid, fd, bytes) = operands.two()?;
+            Ok(Event::Call(pid, Call::Write(fd, bytes)))
+        }
+        "lseek" => {
+            let (pid, fd, whence, offset) = operands.three()?;
+            Ok(Event::Call(pid, Call::Lseek(fd, whence, offset)))
+        }
+        "close" => {
+            let (pid, fd) = operands.one()?;
+            Ok(Event::Call(pid, Call::Close(fd)))
+        }
+        "fstat" => {
+            let (pid, fd) = operands.one()?;
+            Ok(Event::Call(pid, Call::Fstat(fd)))
+        }
+        "fsync" => {
+            let (pid, fd) = operands.one()?;
+            Ok(Event::Fsync { pid, fd })
+        }
+        "ftruncate" => {
+            let (pid, fd, size) = operands.two()?;
+            Ok(Event::Call(pid, Call::Ftruncate(fd, size)))
+        }
+        "readdir" => {
+            let (pid, fd) = operands.one()?;
+            Ok(Event::Call(pid, Call::Readdir(fd)))
+        }
+        _ => read_name_command(name, operands),
+    }
+}
+
+// Those on names, and those below.
+fn read_name_command(name: &str, operands: Operands<'_>) -> Result<Event, LineFault>
+    ensures said { (pid : List ℕ) → operands.entry.pid ≡ number_of 64 pid
+        → GivesSaid Asks result (command_says (row_named (name_commands ++ process_commands) name.now) pid operands.entry.words.now) }
+    ensures offered { IfOk result (λ e. IsTrue (is_of_machine e)) }
+{
+    match name {
+        "mkdir" => {
+            let (pid, path, mode) = operands.two()?;
+            Ok(Event::Call(pid, Call::Mkdir(path, mode)))
+        }
+        "rmdir" => {
+            let (pid, path) = operands.one()?;
+            Ok(Event::Call(pid, Call::Rmdir(path)))
+        }
+        "link" => {
+            let (pid, old, new) = operands.two()?;
+            Ok(Event::Call(pid, Call::Link { old, new }))
+        }
+        "symlink" => {
+            let (pid, target, path) = operands.two()?;
+            Ok(Event::Call(pid, Call::Symlink { target, path }))
+        }
+        "readlink" => {
+            let (pid, path) = operands.one()?;
+            Ok(Event::Call(pid, Call::Readlink(path)))
+        }
+        "unlink" => {
+            let (pid, path) = operands.one()?;
+            Ok(Event::Call(pid, Call::Unlink(path)))
+        }
+        "rename" => {
+            let (pid, old, new) = operands.two()?;
+            Ok(Event::Call(pid, Call::Rename { old, new }))
+        }
+        "chdir" => {
+            let (pid, path) = operands.one()?;
+            Ok(Event::Call(pid, Call::Chdir(path)))
+        }
+        _ => read_process_command(name, operands),
+    }
+}
+
+// Those on the process itself.
+fn read_process_command(name: &str, operands: Operands<'_>) -> Result<Event, LineFault>
+    ensures said { (pid : List ℕ) → operands.entry.pid ≡ number_of 64 pid
+        → GivesSaid Asks result (command_says (row_named process_commands name.now) pid operands.entry.words.now) }
+    ensures offered { IfOk result (λ e. IsTrue (is_of_machine e)) }
+{
+    match name {
+        "umask" => {
+            let (pid, mask) = operands.one()?;
+            Ok(Event::Call(pid, Call::Umask(mask)))
+        }
+        "exit" => {
+            let pid = operands.none()?;
+            Ok(Event::Exit(pid))
+        }
+        _ => Err(LineFault::UnknownCommand),
+    }
+}
+
+// An ACL that is set, or removed.
+fn read_set_acl(operands: Operands<'_>) -> Result<Event, LineFault>
+    ensures said { (pid : List ℕ) → operands.entry.pid ≡ number_of 64 pid
+        → GivesSaid Asks result (command_says (row_named path_commands (codes "setacl")) pid operands.entry.words.now) }
+    ensures offered { IfOk result (λ e. IsTrue (is_of_machine e)) }
+{
+    let (pid, path, which, text): (usize, Path, AclType, Bytes) = operands.three()?;
+    let acl = read_acl(operands.alloc, text.bytes())?;
+    Ok(Event::Call(pid, Call::SetAcl(path, which, acl)))
+}
+
+// The credential of a new process.
+fn read_spawn(operands: Operands<'_>) -> Result<Event, LineFault>
+    ensures said { operands.entry.pid ≡ Ok 0
+        → GivesSaid Asks result (command_says (row_named lone_commands (codes "spawn")) [] operands.entry.words.now) }
+    ensures offered { IfOk result (λ e. IsTrue (is_of_machine e)) }
+{
+    let (words, caps) = caps_apart(operands.words);
+    let (_, uid, gid, groups): (usize, u32, u32, Groups) = Operands { words, ..operands }.two_or(
+        Groups::new(operands.alloc),
+    )?;
+    let made = match caps {
+        Some(word) => {
+            let caps = read_caps(word.bytes())?;
+            Cred::with_caps(operands.alloc, uid, gid, groups.ids(), caps)
+        }
+        None => Cred::new(operands.alloc, uid, gid, groups.ids()),
+    };
+    match made {
+        Ok(cred) => Ok(Event::Spawn(cred)),
+        Err(_) => Err(LineFault::OutOfMemory),
+    }
+}
+
+// The words, and apart from them that of capabilities: a fourth one, or a third that begins as such a word.
+fn caps_apart<'a>(words: &'a [Word<'a>]) -> (&'a [Word<'a>], Option<&'a Word<'a>>)
+    ensures { (result.0.now, option_map (λ word. word.now) result.1) ≡ caps_apart words.now }
+{
+    match words {
+        [rest @ .., caps] if rest.len() == 3 || rest.len() == 2 && begins_with_cap(caps.bytes()) =>
+            (rest, Some(caps)),
+        _ => (words, None),
+    }
+}

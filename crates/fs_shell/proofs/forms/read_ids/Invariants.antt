@@ -1,7 +1,0 @@
-use Rattle.std.proofs.Common.{◌≡◌, Ok, map}
-use Rattle.fs_shell.specs.Lines.{each}
-use Rattle.fs_shell.specs.Words.{id_of}
-use Rattle.fs_shell.proofs.forms.read_ids.Given as goal
-
-abbrev pub invariant-loop-id : goal.invariant-loop-id
-invariant-loop-id l = each id_of (map (λ x. x.now) l.yielded) ≡ Ok l.ids.items

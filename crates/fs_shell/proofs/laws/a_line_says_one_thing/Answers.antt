@@ -1,5 +1,0 @@
-use Rattle.fs_shell.proofs.OneMeaning.{one_thing}
-use Rattle.fs_shell.proofs.laws.a_line_says_one_thing.Goals as goal
-
-pub returns : goal.returns
-returns c = one_thing
