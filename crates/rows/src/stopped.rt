@@ -4,7 +4,8 @@ use crate::served::{INODES, SECTORS};
 use anyhow::bail;
 use fs_model::{Bytes, Event, EventReply, RestartFault};
 use fs_shell::{Line, parse_line, reply_text};
-use fs_system::{mkfs, play};
+use fs_images::mkfs;
+use fs_system::play;
 use sector_disk::MemDisk;
 use std::alloc::{AllocError, Global};
 

@@ -3,7 +3,8 @@ ghost use Rattle.std.specs.Prelude.{◌≤◌, length, IfSome};
 
 use anyhow::bail;
 use fs_fuse::serve_requests;
-use fs_system::{Fs, mkfs};
+use fs_images::mkfs;
+use fs_system::Fs;
 use fuse_protocol::Time;
 use fuse_serving::{Kernel, Nobody, ReplyRoom, ServeFault};
 use fuse_state::Settings;
