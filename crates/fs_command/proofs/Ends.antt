@@ -11,12 +11,12 @@ use Rattle.fs_model.specs.States.{State}
 use Rattle.fs_model.specs.declared.event.Event.TheVariants.{Sync}
 use Rattle.fs_model.specs.declared.reply.Reply.{Reply}
 use Rattle.fs_system.specs.Doing.{Does, HappensLast}
-use Rattle.fs_system.specs.Making.{mkfs_refusal}
+use Rattle.fs_images.specs.Making.{mkfs_refusal}
 use Rattle.fs_system.specs.Playing.{HasDisk, IsConfig}
 use Rattle.fs_system.specs.Histories.{Config, Up, Off}
 use Rattle.fs_system.specs.Mounts.{Mounts}
 use Rattle.fs_system.specs.Seen.{System, disk_in, IsIn}
-use Rattle.fs_system.proofs.MakingRefusals.{place_or_too_small}
+use Rattle.fs_images.proofs.MakingRefusals.{place_or_too_small}
 use Rattle.fs_system.proofs.Played.{seen_in, the_disk}
 use Rattle.fs_shell.specs.Runs.{Ran}
 use Rattle.fs_shell.specs.declared.answer.Count.{Count}

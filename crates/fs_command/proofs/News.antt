@@ -10,7 +10,7 @@ use Rattle.fs_model.specs.TreeChanges.{pruned}
 use Rattle.fs_model.specs.States.{State}
 use Rattle.fs_model.specs.Stands.{room_of}
 use Rattle.fs_model.specs.NewDisk.{empty_tree}
-use Rattle.fs_system.specs.Making.{IsNewDisk}
+use Rattle.fs_images.specs.Making.{IsNewDisk}
 use Rattle.fs_system.specs.Playing.{IsConfig}
 use Rattle.fs_system.specs.Histories.{Config, Up}
 use Rattle.fs_system.specs.Mounts.{Mounts}

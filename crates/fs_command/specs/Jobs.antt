@@ -19,15 +19,15 @@ use Rattle.fs_check.specs.declared.faults.CheckFault.{CheckFault}
 use Rattle.fs_check.specs.declared.faults.Finding.{Finding}
 use Rattle.fs_check.specs.declared.faults.Summary.{Summary}
 use Rattle.fs_system.specs.Doing.{Does}
-use Rattle.fs_system.specs.Making.{IsDeviceFault, IsNewDisk}
+use Rattle.fs_images.specs.Making.{IsDeviceFault, IsNewDisk}
 use Rattle.fs_system.specs.Mounts.{IsNotMounted}
 use Rattle.fs_system.specs.Histories.{Up}
 use Rattle.fs_system.specs.Mounts.{Mounts}
-use Rattle.fs_system.specs.declared.faults.MkfsFault.{MkfsFault}
-use Rattle.fs_system.specs.declared.faults.MkfsFault.TheVariants.{TooSmall}
+use Rattle.fs_images.specs.declared.faults.MkfsFault.{MkfsFault}
+use Rattle.fs_images.specs.declared.faults.MkfsFault.TheVariants.{TooSmall}
 use Rattle.fs_system.specs.declared.faults.MountFault.{MountFault}
-use Rattle.fs_system.specs.declared.faults.UpgradeFault.{UpgradeFault}
-use Rattle.fs_system.specs.Upgrading.{IsHalfUpgraded, IsNotUpgraded, IsUpgraded}
+use Rattle.fs_images.specs.declared.faults.UpgradeFault.{UpgradeFault}
+use Rattle.fs_images.specs.Upgrading.{IsHalfUpgraded, IsNotUpgraded, IsUpgraded}
 use Rattle.fs_shell.specs.Runs.{Ran}
 use Rattle.fs_shell.specs.declared.answer.Count.{Count}
 use Rattle.fs_shell.specs.Watching.{FailsWhere}

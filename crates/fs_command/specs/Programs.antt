@@ -12,11 +12,11 @@ use Rattle.fs_model.specs.NewDisk.{empty_tree}
 use Rattle.fs_shell.specs.declared.answer.Count.{Count}
 use Rattle.fs_shell.specs.declared.fault.RunFault.{RunFault}
 use Rattle.fs_shell.specs.Runs.{Ran}
-use Rattle.fs_system.specs.Making.{IsNewDisk}
+use Rattle.fs_images.specs.Making.{IsNewDisk}
 use Rattle.fs_system.specs.Playing.{IsOfRestart}
 use Rattle.fs_system.specs.Histories.{Config, Up}
 use Rattle.fs_system.specs.Mounts.{Mounts}
-use Rattle.fs_system.specs.declared.faults.MkfsFault.TheVariants.{DiskFault}
+use Rattle.fs_images.specs.declared.faults.MkfsFault.TheVariants.{DiskFault}
 use Rattle.fs_command.specs.Streams.{Reading, Writing}
 use Rattle.fs_command.specs.declared.failure.Failure.{Failure}
 use Rattle.fs_command.specs.declared.failure.Failure.TheVariants.{Exists, NotCreated, NotOpened, NoScript, NoDenials, Mkfs, Mount, Check, Upgrade, Run, Serve, Unmount}

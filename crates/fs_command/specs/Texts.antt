@@ -9,7 +9,7 @@ use Rattle.fs_layout.specs.declared.place.Place.{Place}
 use Rattle.fs_layout.specs.Version.{version_number}
 use Rattle.fs_check.specs.declared.faults.Finding.{Finding}
 use Rattle.fs_check.specs.declared.faults.Summary.{Summary}
-use Rattle.fs_system.specs.Upgrading.{target}
+use Rattle.fs_images.specs.Upgrading.{target}
 
 abbrev pub made_text : Place → List ℕ
 made_text place =

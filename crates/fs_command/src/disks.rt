@@ -4,7 +4,7 @@ ghost use Rattle.std.specs.Prelude.{◌≡◌, OnOk, is_ok, if◌then◌else◌,
 ghost use Rattle.std.specs.Io.KnownBytes.{Appends};
 ghost use Rattle.sector_disk.specs.Disk.{LeavesOnly, OnlyReads};
 ghost use Rattle.fs_layout.specs.Place.{IsPlace, the_place};
-ghost use Rattle.fs_system.specs.Upgrading.{IsHalfUpgraded};
+ghost use Rattle.fs_images.specs.Upgrading.{IsHalfUpgraded};
 ghost use Rattle.fs_command.specs.Jobs.{MkfsEnds, RunEnds, CheckEnds, UpgradeEnds, ended, run_status};
 ghost use Rattle.fs_command.specs.Streams.{reading, writing};
 ghost use Rattle.fs_command.specs.Texts.{made_text, kinds_text, room_text, yes_text, clean_text, finding_text, version_text};
@@ -14,7 +14,8 @@ use crate::status::Status;
 use fs_check::{CheckFault, Finding, Summary, check};
 use fs_layout::{Place, Version};
 use fs_shell::{Count, RunFault, Watched, run};
-use fs_system::{Fs, mkfs, upgrade};
+use fs_images::{mkfs, upgrade};
+use fs_system::Fs;
 use sector_disk::Disk;
 use std::alloc::Global;
 use std::io::{self, Read, Write};

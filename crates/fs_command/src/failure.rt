@@ -2,7 +2,8 @@
 
 use fs_check::CheckFault;
 use fs_shell::RunFault;
-use fs_system::{MkfsFault, MountFault, UpgradeFault};
+use fs_images::{MkfsFault, UpgradeFault};
+use fs_system::MountFault;
 use fuse_serving::ServeFault;
 use thiserror::Error;
 

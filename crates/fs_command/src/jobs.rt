@@ -17,7 +17,7 @@ use crate::status::Status;
 use crate::words::{Job, Text, WordsFault, parse_words};
 use fs_layout::place_of;
 use fs_shell::Watched;
-use fs_system::MkfsFault;
+use fs_images::MkfsFault;
 use fuse_serving::Standard;
 use sector_disk::{Disk, DiskFile, FileDisk, FileFault, MemDisk};
 use std::fs::{self, OpenOptions};

@@ -7,7 +7,7 @@ use Rattle.fs_model.specs.declared.event.RestartFault.TheVariants as restarts
 use Rattle.fs_model.specs.States.{State}
 use Rattle.fs_system.specs.Mounts.{IsNotMounted, Mounts, FailsToMount}
 use Rattle.fs_system.specs.Mounting.{StandsAsBefore, fault_of}
-use Rattle.fs_system.specs.Standing.{StandsFor, StandsForSome}
+use Rattle.fs_images.specs.Standing.{StandsFor, StandsForSome}
 
 module _ (old mid : DiskState) (reads : OnlyReads old mid) where
   -- what a mount finds then is what was there before the check

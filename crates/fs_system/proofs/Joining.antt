@@ -17,7 +17,7 @@ use Rattle.fs_model.specs.Trees.{Tree, Room, IsTree}
 use Rattle.fs_model.specs.States.{State}
 use Rattle.fs_model.specs.Stands.{HoldsAll, placed, room_of, Stands}
 use Rattle.fs_model.proofs.Frame.{agreed}
-use Rattle.fs_system.specs.Standing.{StandsFor, StandsAs, EachStandsFor}
+use Rattle.fs_images.specs.Standing.{StandsFor, StandsAs, EachStandsFor}
 use Rattle.fs_system.specs.Doing.{IsFound}
 use Rattle.fs_system.specs.Layouts.{IsDiskOf}
 

@@ -1,5 +1,4 @@
 pub mod Acting
-pub mod Both
 pub mod Checked
 pub mod Confined
 pub mod Endings
@@ -10,14 +9,9 @@ pub mod Forgetting
 pub mod FreedFiles
 pub mod Joining
 pub mod Kept
-pub mod MakingMoments
-pub mod MakingRefusals
-pub mod MakingTables
 pub mod Methods
 pub mod Mounts
-pub mod Places
 pub mod Played
-pub mod Raising
 pub mod Remembered
 pub mod Runs
 pub mod Soundness

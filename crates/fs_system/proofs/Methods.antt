@@ -28,7 +28,7 @@ use Rattle.fs_model.proofs.StepsKeep.{steps_keep}
 use Rattle.fs_system.specs.Doing.{Does, Happens, HappensLast, FlushesFor}
 use Rattle.fs_system.specs.Mounting.{IsSystem, is_halted}
 use Rattle.fs_system.specs.Seen.{System, Base, disk_in, IsRunning, IsOn}
-use Rattle.fs_system.specs.Standing.{EachStandsForSome}
+use Rattle.fs_images.specs.Standing.{EachStandsForSome}
 use Rattle.fs_system.specs.Replies.{spawned, finished}
 use Rattle.fs_system.proofs.Acting.{spawns, spawn_full, spawn_unmade, flush_machine, fsync_firm, fsync_closed, fsync_absent, sync_firm}
 use Rattle.fs_system.proofs.Ends.{does_nothing, does_halted, does_flush, does_flush_halt, mountable_then, flush_mountable, running_same, running_with}

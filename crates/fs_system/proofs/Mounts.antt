@@ -24,10 +24,10 @@ use Rattle.sector_txn.specs.Stores.{StoreView, present}
 use Rattle.fs_system.specs.Mounts.{IsMounted, Mounts, FailsToMount}
 use Rattle.fs_system.specs.Mounting.{StandsAsBefore, IsSystem}
 use Rattle.fs_system.specs.Seen.{IsRunning}
-use Rattle.fs_system.specs.Standing.{StandsFor, StandsForSome, HasPartsAt, EachStandsFor}
+use Rattle.fs_images.specs.Standing.{StandsFor, StandsForSome, HasPartsAt, EachStandsFor}
 use Rattle.fs_system.specs.Sweeping.{IsStored, StandsPruned, HasTree, KeepsTree}
 use Rattle.fs_system.proofs.Joining.{HoldsCounted, disk_of_standing, holds_of_standing, disk_same, holds_same, stands_as, each_stands}
-use Rattle.fs_system.proofs.Places.{is_room}
+use Rattle.fs_images.proofs.Places.{is_room}
 
 -- ---- what a stop leaves
 

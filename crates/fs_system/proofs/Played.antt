@@ -29,10 +29,10 @@ use Rattle.fs_system.specs.Doing.{Does, Happens}
 use Rattle.fs_system.specs.Played.{begun, Played, Unplayed, CountsFor}
 use Rattle.fs_system.specs.Playing.{HasDisk, HasDiskOf, IsConfig, Plays, IsOfRestart}
 use Rattle.fs_system.specs.Histories.{Stopped, Config, Up, Off, device, Goes, does, is_down, arms_up, arms_off, restarts as restarts_up, fails, on_disk, History, ends, goes, forgets, Follows}
-use Rattle.fs_system.specs.Mounts.{HasFinding, IsNotMounted, IsMounted, Mounts, FailsToMount}
+use Rattle.fs_system.specs.Mounts.{IsNotMounted, IsMounted, Mounts, FailsToMount}
 use Rattle.fs_system.specs.Mounting.{IsSystem, fault_of}
 use Rattle.fs_system.specs.Seen.{System, Base, disk_in, IsOn, IsIn}
-use Rattle.fs_system.specs.Standing.{StandsForSome, EachStandsForSome, Covers}
+use Rattle.fs_images.specs.Standing.{StandsForSome, EachStandsForSome, Covers, HasFinding}
 use Rattle.fs_system.proofs.Runs.{only_here, histories_are_runs}
 
 -- there is room where the table isn't full

@@ -22,7 +22,7 @@ use Rattle.fs_model.proofs.Swept.{pruned_twice}
 use Rattle.fs_system.specs.Played.{CountsFor}
 use Rattle.fs_system.specs.Histories.{Stopped, Config, Up, Off, device, Goes, does, is_down, arms_up, arms_off, restarts, fails, on_disk, ends, goes, forgets, Follows, HistoriesAreRuns}
 use Rattle.fs_system.specs.Mounts.{Mounts, FailsToMount}
-use Rattle.fs_system.specs.Standing.{StandsFor, Covers}
+use Rattle.fs_images.specs.Standing.{StandsFor, Covers}
 use Rattle.fs_system.specs.Doing.{Does, Adds, IsFound}
 
 -- ---- steps

@@ -22,7 +22,7 @@ use Rattle.inode_table.specs.Inodes.{ClearAreFree}
 use Rattle.fs_model.specs.StoredNodes.{Placed}
 use Rattle.fs_model.specs.Stands.{HoldsAll, HoldsPlaced, placed}
 use Rattle.fs_model.specs.Trees.{Tree, Room}
-use Rattle.fs_system.specs.Standing.{StandsFor}
+use Rattle.fs_images.specs.Standing.{StandsFor}
 use Rattle.fs_system.specs.Sound.{IsSoundDisk}
 
 -- ---- a map that holds nodes

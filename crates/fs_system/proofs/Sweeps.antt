@@ -31,7 +31,7 @@ use Rattle.path_walk.specs.HeldTrees.{HoldsTree}
 use Rattle.call_parts.specs.Dropping.{LeavesInode}
 use Rattle.call_parts.proofs.Leavings.{left_super}
 use Rattle.fs_system.specs.Layouts.{IsDiskOf}
-use Rattle.fs_system.specs.Standing.{StandsFor, EachStandsFor}
+use Rattle.fs_images.specs.Standing.{StandsFor, EachStandsFor}
 use Rattle.fs_system.specs.Sweeping.{IsStored, StandsPruned, HasTree, IsNamedBelow, FreesNameless, KeepsTree}
 use Rattle.fs_system.proofs.EventEnds.{disk_kept}
 use Rattle.fs_system.proofs.FreedFiles.{IsFreed, freed, named_first, named_all}

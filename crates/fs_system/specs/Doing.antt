@@ -12,7 +12,7 @@ use Rattle.fs_model.specs.States.{State}
 use Rattle.fs_model.specs.Steps.{Step, Choice, after, tree_after, firm_refusal}
 use Rattle.fs_model.specs.Stops.{Halts, asks_stable, makes_stable, is_io_error}
 use Rattle.fs_system.specs.Seen.{System, disk_in, IsIn}
-use Rattle.fs_system.specs.Standing.{StandsFor, StandsAs, EachStandsFor}
+use Rattle.fs_images.specs.Standing.{StandsFor, StandsAs, EachStandsFor}
 
 -- The tree is the one after the event, or where that halts the machine, the one that its effect would have given.
 abbrev pub Adds : State → Event → State → Tree → Type 0

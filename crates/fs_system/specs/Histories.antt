@@ -15,7 +15,7 @@ use Rattle.fs_model.specs.Trees.{Room}
 use Rattle.fs_model.specs.States.{State}
 use Rattle.fs_model.specs.Steps.{is_of_machine}
 use Rattle.fs_model.specs.Stops.{Machine, MachineRun}
-use Rattle.fs_system.specs.Standing.{Covers}
+use Rattle.fs_images.specs.Standing.{Covers}
 use Rattle.fs_system.specs.Doing.{Does}
 use Rattle.fs_system.specs.Mounts.{Mounts, FailsToMount}
 use Rattle.fs_system.specs.Played.{CountsFor}

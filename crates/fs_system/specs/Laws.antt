@@ -7,7 +7,7 @@ use Rattle.sector_txn.specs.Stores.{TxnView, txn_state}
 use Rattle.bit_alloc.specs.Inodes.{IsSound}
 use Rattle.inode_table.specs.Inodes.{ClearAreFree}
 use Rattle.fs_model.specs.Trees.{Tree, Room}
-use Rattle.fs_system.specs.Standing.{StandsFor}
+use Rattle.fs_images.specs.Standing.{StandsFor}
 use Rattle.fs_system.specs.Sound.{IsSoundDisk}
 
 -- A disk that stands for a tree is sound.

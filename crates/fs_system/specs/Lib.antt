@@ -1,15 +1,11 @@
 pub mod Doing
 pub mod Seen
-pub mod Standing
 pub mod Replies
 pub mod Playing
 pub mod Mounts
 pub mod Mounting
 pub mod Histories
 pub mod Laws
-pub mod NewTables
-pub mod Making
-pub mod Upgrading
 pub mod Sound
 pub mod Layouts
 pub mod Sweeping

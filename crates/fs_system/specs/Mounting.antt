@@ -15,7 +15,7 @@ use Rattle.fs_check.specs.declared.faults.CheckFault.TheVariants as checks
 use Rattle.fs_system.specs.declared.faults.MountFault.{MountFault}
 use Rattle.fs_system.specs.declared.faults.MountFault.TheVariants.{NotAFileSystem, Damaged, DiskFault, OutOfMemory}
 use Rattle.fs_system.specs.Seen.{Base, System, disk_in, IsInSomeState}
-use Rattle.fs_system.specs.Standing.{EachStandsForSome, StandsAsPruned}
+use Rattle.fs_images.specs.Standing.{EachStandsForSome, StandsAsPruned}
 
 -- the image stands for what one from before it stood for, but for files without names
 abbrev pub StandsAsBefore : DiskState → Image → Type 0

@@ -1,18 +1,17 @@
 -- What a mount leaves, and why a disk is not mounted.
 --     mounted, IsMounted, Mounts        a mount finds the tree for which the disk stands
 --     FailsToMount        the device failed, or memory is lacking
---     HasFinding, IsNotMounted        why a disk is not mounted
+--     IsNotMounted        why a disk is not mounted
 use Rattle.std.specs.Prelude.{◌≡◌, ◌≢◌, ◌≤◌, ℕ, [], false}
-use Rattle.sector_disk.specs.Disk.{DiskState, Image, IsImage, OnlyReads, HasFailed, sector}
+use Rattle.sector_disk.specs.Disk.{DiskState, Image, IsImage, HasFailed}
 use Rattle.fs_model.specs.declared.event.RestartFault.{RestartFault}
 use Rattle.fs_model.specs.declared.event.RestartFault.TheVariants as restarts
 use Rattle.fs_model.specs.Trees.{Tree, Room}
 use Rattle.fs_model.specs.TreeChanges.{pruned}
 use Rattle.fs_model.specs.States.{State, MayBeFree}
-use Rattle.fs_model.specs.Rules.{IsFinding}
 use Rattle.fs_system.specs.declared.faults.MountFault.{MountFault}
 use Rattle.fs_system.specs.declared.faults.MountFault.TheVariants.{NotAFileSystem, Damaged, DiskFault, OutOfMemory}
-use Rattle.fs_system.specs.Standing.{StandsFor, StandsForSome, StandsAsPruned, EachStandsFor}
+use Rattle.fs_images.specs.Standing.{StandsFor, StandsForSome, StandsAsPruned, EachStandsFor, HasFinding}
 
 -- the state as a mount leaves it
 abbrev pub mounted : Room → Tree → ℕ → State
@@ -37,11 +36,6 @@ pub record FailsToMount (before now : DiskState) (fault : RestartFault) : Type 0
   pub images : (image : Image) → IsImage now image → (from : Image) × IsImage before from × StandsAsPruned from image
   pub later : before.failures ≤ now.failures
   pub cause : fault ≡ restarts.DiskFault → HasFailed before now
-
--- The disk stands for no tree: this is the first rule that fails, at its least number. It was only read.
-pub record HasFinding (before now : DiskState) (rule at : ℕ) : Type 0 where
-  pub finding : IsFinding before.size (sector before.seen) rule at
-  pub reads : OnlyReads before now
 
 -- Why a disk was not mounted.
 abbrev pub IsNotMounted : DiskState → DiskState → MountFault → Type 0

@@ -14,7 +14,7 @@ use Rattle.fs_model.specs.Stops.{Machine, MachineRun}
 use Rattle.fs_system.specs.declared.faults.PlayFault.{PlayFault}
 use Rattle.fs_system.specs.declared.faults.PlayFault.TheVariants.{Mount, OutOfMemory}
 use Rattle.fs_system.specs.Mounts.{IsNotMounted, mounted}
-use Rattle.fs_system.specs.Standing.{StandsFor, StandsForSome, Covers}
+use Rattle.fs_images.specs.Standing.{StandsFor, StandsForSome, Covers}
 
 -- up, without processes, and with one tree that a stop may leave
 abbrev pub begun : Room → Tree → ℕ → Machine

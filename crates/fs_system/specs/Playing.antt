@@ -13,7 +13,7 @@ use Rattle.fs_system.specs.declared.faults.MountFault.{MountFault}
 use Rattle.fs_system.specs.declared.faults.MountFault.TheVariants as mounts
 use Rattle.fs_system.specs.Histories.{Config, Up, Off, History}
 use Rattle.fs_system.specs.Seen.{System, Base, IsIn}
-use Rattle.fs_system.specs.Standing.{EachStandsForSome}
+use Rattle.fs_images.specs.Standing.{EachStandsForSome}
 
 -- ---- what is served: a file system, or the disk alone
 

@@ -16,7 +16,7 @@ use Rattle.fs_model.specs.Stands.{room_of}
 use Rattle.fs_model.specs.Trees.{Tree, Room, node_at, names_of}
 use Rattle.path_walk.specs.HeldTrees.{HoldsTree}
 use Rattle.fs_system.specs.Layouts.{IsDiskOf}
-use Rattle.fs_system.specs.Standing.{StandsFor}
+use Rattle.fs_images.specs.Standing.{StandsFor}
 
 -- a map of a disk of so many sectors is laid out so, and holds the tree
 pub record IsStored (size : ℕ) (p : Place) (map : SectorMap) (t : Tree) : Type 0 where

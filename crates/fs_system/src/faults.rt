@@ -2,30 +2,10 @@
 
 ghost use Rattle.std.specs.Prelude.{◌≡◌};
 ghost use Rattle.fs_system.specs.Mounting.{IsFaultOfCheck, fault_of};
-ghost use Rattle.fs_system.specs.Upgrading.{IsUpgradeFault};
-ghost use Rattle.fs_system.specs.declared.faults.UpgradeFault.TheVariants.{DiskFault as Device};
 
 use fs_check::{CheckFault, Finding};
 use fs_model::RestartFault;
-use sector_disk::DiskFault;
 use thiserror::Error;
-
-/// Why [`mkfs`](crate::mkfs) made none: the first of these that holds, in this order.
-#[derive(Clone, Copy, Debug, PartialEq, Eq, Error)]
-pub enum MkfsFault {
-    /// The disk has fewer than 1,024 sectors, or more than 65,536.
-    #[error("BadSize")]
-    BadSize,
-    /// Fewer than 16 inodes are asked for, or more than 4,096.
-    #[error("BadInodes")]
-    BadInodes,
-    /// So many inodes leave fewer than 64 sectors for data.
-    #[error("TooSmall")]
-    TooSmall,
-    /// A write or a sync failed. The disk may be as it was, or without a superblock, or made.
-    #[error("DiskFault")]
-    DiskFault,
-}
 
 /// Why a disk was not mounted.
 #[derive(Clone, Copy, Debug, PartialEq, Eq, Error)]
@@ -40,23 +20,6 @@ pub enum MountFault {
     #[error("DiskFault")]
     DiskFault,
     /// There was no memory for the check's tables, or for the file system's own.
-    #[error("OutOfMemory")]
-    OutOfMemory,
-}
-
-/// Why [`upgrade`](crate::upgrade) didn't upgrade a disk.
-#[derive(Clone, Copy, Debug, PartialEq, Eq, Error)]
-pub enum UpgradeFault {
-    /// The superblock says no layout that a disk of this size may have. The disk was only read.
-    #[error("NotAFileSystem")]
-    NotAFileSystem,
-    /// Another rule of the checker fails: the first, at its least number. The disk was only read.
-    #[error("Damaged {0}")]
-    Damaged(Finding),
-    /// A read, a write or a sync failed. The disk may have been upgraded, or not.
-    #[error("DiskFault")]
-    DiskFault,
-    /// There was no memory for the check's tables. The disk was only read.
     #[error("OutOfMemory")]
     OutOfMemory,
 }
@@ -98,28 +61,5 @@ impl From<RestartFault> for MountFault {
             RestartFault::DiskFault => MountFault::DiskFault,
             RestartFault::OutOfMemory => MountFault::OutOfMemory,
         }
-    }
-}
-
-impl From<CheckFault> for UpgradeFault {
-    ghost from_gives = { IsUpgradeFault };
-
-    fn from(fault: CheckFault) -> UpgradeFault {
-        match fault {
-            CheckFault::Found(finding) if finding.rule == SUPERBLOCK_RULE => {
-                UpgradeFault::NotAFileSystem
-            }
-            CheckFault::Found(finding) => UpgradeFault::Damaged(finding),
-            CheckFault::DiskFault => UpgradeFault::DiskFault,
-            CheckFault::OutOfMemory => UpgradeFault::OutOfMemory,
-        }
-    }
-}
-
-impl From<DiskFault> for UpgradeFault {
-    ghost from_gives = { λ _ fault. fault ≡ Device };
-
-    fn from(_: DiskFault) -> UpgradeFault {
-        UpgradeFault::DiskFault
     }
 }

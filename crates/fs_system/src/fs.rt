@@ -12,7 +12,7 @@ ghost use Rattle.fs_system.specs.Playing.{HasDisk};
 ghost use Rattle.fs_system.specs.Mounts.{Mounts, FailsToMount, IsNotMounted};
 ghost use Rattle.fs_system.specs.Mounting.{StandsAsBefore, disk_mounted, disk_of_store, is_halted, LeavesHalted};
 ghost use Rattle.fs_system.specs.Seen.{disk_in, IsOn, IsIn, IsInSomeState};
-ghost use Rattle.fs_system.specs.Standing.{StandsForSome, EachStandsForSome, HasPartsAt};
+ghost use Rattle.fs_images.specs.Standing.{StandsForSome, EachStandsForSome, HasPartsAt};
 ghost use Rattle.fs_system.specs.Doing.{Happens, HappensLast, FlushesFor};
 ghost use Rattle.fs_system.specs.Replies.{spawned, finished, unmounted, counted};
 ghost use Rattle.fs_model.specs.declared.event.RestartFault.TheVariants.{DiskFault as Device};

@@ -10,7 +10,7 @@ ghost use Rattle.fs_system.specs.Playing.{IsConfig, Plays, MayMount, HasDiskOf, 
 ghost use Rattle.fs_system.specs.Histories.{Stopped};
 ghost use Rattle.fs_system.specs.Mounts.{FailsToMount, IsNotMounted};
 ghost use Rattle.fs_system.specs.Mounting.{fault_of};
-ghost use Rattle.fs_system.specs.Standing.{StandsForSome, EachStandsForSome};
+ghost use Rattle.fs_images.specs.Standing.{StandsForSome, EachStandsForSome};
 
 use crate::faults::{MountFault, PlayFault};
 use crate::fs::Fs;

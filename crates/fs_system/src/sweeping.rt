@@ -9,7 +9,7 @@ ghost use Rattle.bit_alloc.specs.Bitmaps.{IsNumber};
 ghost use Rattle.fs_model.specs.TreeChanges.{pruned};
 ghost use Rattle.fs_model.specs.Stands.{room_of};
 ghost use Rattle.fs_model.specs.Trees.{Tree};
-ghost use Rattle.fs_system.specs.Standing.{EachStandsFor};
+ghost use Rattle.fs_images.specs.Standing.{EachStandsFor};
 ghost use Rattle.fs_system.specs.Sweeping.{IsStored, HasTree, FreesNameless, KeepsTree};
 
 use call_parts::leave;

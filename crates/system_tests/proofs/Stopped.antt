@@ -2,7 +2,7 @@
 use Rattle.std.proofs.Common.{ℕ, length, sym, subst}
 use Rattle.sector_disk.specs.Disk.{DiskState, Image, IsImage, IsStable}
 use Rattle.sector_disk.proofs.Moments.{stable_image}
-use Rattle.fs_system.specs.Making.{IsNewDisk}
+use Rattle.fs_images.specs.Making.{IsNewDisk}
 
 -- a stop leaves the new disk once it is stable
 pub each_is_new : {inodes : ℕ} {disk : DiskState} → IsNewDisk inodes disk.seen → IsStable disk → IsImage disk disk.seen → (image : Image) → IsImage disk image

@@ -3,7 +3,8 @@
 
 use fs_cred::{Cred, Errno, Refusal};
 use fs_model::{Bytes, Call, Flags, Path, Reply};
-use fs_system::{Fs, mkfs};
+use fs_images::mkfs;
+use fs_system::Fs;
 use sector_disk::{Disk, FuseDisk, MemDisk};
 use std::alloc::Global;
 use std::test::Fail;

@@ -2,9 +2,10 @@
 
 ghost use Rattle.std.specs.Prelude.{◌≡◌, ◌<◌, IfOk, OnOk};
 ghost use Rattle.sector_disk.specs.Disk.{IsStable};
-ghost use Rattle.fs_system.specs.Making.{IsHalfMade, IsNewDisk};
+ghost use Rattle.fs_images.specs.Making.{IsHalfMade, IsNewDisk};
 
-use fs_system::{Fs, MkfsFault, MountFault, mkfs};
+use fs_images::{MkfsFault, mkfs};
+use fs_system::{Fs, MountFault};
 use sector_disk::{CrashDisk, Disk, FailOnce, FuseDisk, MemDisk};
 use std::alloc::{AllocError, Global};
 use std::test::Fail;

@@ -2,7 +2,8 @@
 
 use crate::report::push_other;
 use fs_shell::{Count, RunFault, Watched, run};
-use fs_system::{Fs, mkfs};
+use fs_images::mkfs;
+use fs_system::Fs;
 use sector_disk::MemDisk;
 use std::alloc::{AllocError, Global};
 use std::io::{self, ErrorKind, Read, Write};

@@ -2,7 +2,7 @@
 
 ghost use Rattle.std.specs.Prelude.{◌≡◌, ◌<◌, IfOk};
 
-use fs_system::{UpgradeFault, mkfs, upgrade};
+use fs_images::{UpgradeFault, mkfs, upgrade};
 use sector_disk::{CrashDisk, Disk, MemDisk, write_synced};
 use std::alloc::Global;
 use std::test::Fail;

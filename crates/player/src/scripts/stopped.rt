@@ -2,9 +2,10 @@
 
 use crate::disks::{INODES, SECTORS};
 use anyhow::bail;
+use fs_images::mkfs;
 use fs_lines::{Line, parse_line, reply_text};
 use fs_model::{Bytes, Event, EventReply, RestartFault};
-use fs_system::{mkfs, play};
+use fs_system::play;
 use sector_disk::MemDisk;
 use std::alloc::{AllocError, Global};
 

@@ -1,7 +1,7 @@
 use Rattle.std.proofs.Common.{◌≡◌, ◌∙◌, ap, ℕ, None}
 use Rattle.fs_model.specs.NewDisk.{empty_tree}
 use Rattle.fs_model.specs.Stands.{room_of}
-use Rattle.fs_system.specs.Making.{mkfs_refusal}
+use Rattle.fs_images.specs.Making.{mkfs_refusal}
 use Rattle.fs_system.proofs.Played.{fault_of_restart}
 use Rattle.fs_command.proofs.News.{begins}
 use Rattle.fs_command.proofs.memory.new_file_system.Goals as goal

@@ -1,5 +1,5 @@
 use Rattle.std.proofs.Common.{arith, ◌∙◌}
-use Rattle.fs_system.proofs.Places.{many_sectors}
+use Rattle.fs_images.proofs.Places.{many_sectors}
 use Rattle.fs_system.proofs.fs.open_store.Goals as goal
 
 pub open-requires : goal.open-requires

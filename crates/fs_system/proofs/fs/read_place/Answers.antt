@@ -1,7 +1,7 @@
 use Rattle.std.proofs.Common.{rules, arith, ◌≡◌, ◌∙◌}
 use Rattle.sector_disk.specs.Disk.{sector}
 use Rattle.fs_layout.proofs.Codecs.{same_ok}
-use Rattle.fs_system.proofs.Places.{some_sectors, place_found, some_same, ok_or_err, some_or_none}
+use Rattle.fs_images.proofs.Places.{some_sectors, place_found, some_same, ok_or_err, some_or_none}
 use Rattle.fs_system.proofs.fs.read_place.Goals as goal
 
 pub read-requires : goal.read-requires

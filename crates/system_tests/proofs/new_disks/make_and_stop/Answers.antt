@@ -1,5 +1,5 @@
 use Rattle.sector_disk.proofs.Moments.{holds_now}
-use Rattle.fs_system.proofs.Both.{on_ok_both}
+use Rattle.fs_images.proofs.Both.{on_ok_both}
 use Rattle.system_tests.proofs.Stopped.{each_is_new}
 use Rattle.system_tests.proofs.new_disks.make_and_stop.Goals as goal
 

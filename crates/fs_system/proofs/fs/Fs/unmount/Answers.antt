@@ -1,7 +1,7 @@
 use Rattle.std.proofs.Common.{Some, sym, ap, subst, ◌∙◌}
 use Rattle.fs_system.proofs.Methods.{last_done, last_broken, last_halted, flush_leaves}
 use Rattle.fs_system.proofs.fs.Fs.unmount.Goals as goal
-use Rattle.fs_system.specs.Standing.{EachStandsForSome}
+use Rattle.fs_images.specs.Standing.{EachStandsForSome}
 
 pub returns-in-Ok-clause-does : goal.returns-in-Ok-clause-does
 returns-in-Ok-clause-does g c =

@@ -1,0 +1,6 @@
+pub mod Both
+pub mod MakingMoments
+pub mod MakingRefusals
+pub mod MakingTables
+pub mod Places
+pub mod Raising

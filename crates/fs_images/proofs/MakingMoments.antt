@@ -1,0 +1,148 @@
+-- What images stand on the disk while a new file system is made.
+use Rattle.std.proofs.Common.{◌≡◌, ◌≢◌, ℕ, ◌+◌, ◌-◌, ◌<◌, ◌≤◌, List, [], length, sym, ap, subst, ◌∙◌, arith, inl, inr, ◌⊎◌, ⊎_elim, Some, set, get_or-set_same, get_or-set_other}
+use Rattle.std.proofs.lemmas.Bool.{cases_eq}
+use Rattle.std.proofs.lemmas.List.{length-set}
+use Rattle.sector_disk.specs.Disk.{DiskState, Image, sector, AddsOnly, IsImage, IsImageOr, IsStable, IsWrite}
+use Rattle.sector_disk.proofs.Moments.{image_or, stays, stays_or}
+use Rattle.fs_layout.specs.declared.place.Place.{Place}
+use Rattle.fs_layout.specs.Bytes.{zeros}
+use Rattle.fs_layout.specs.Commit.{commit_bytes}
+use Rattle.fs_layout.specs.Version.{newest}
+use Rattle.fs_layout.specs.Place.{the_place, IsPlace}
+use Rattle.fs_layout.specs.Superblock.{super_bytes, super_for}
+use Rattle.fs_layout.proofs.Places.{place_is_laid_out, place_is_place}
+use Rattle.fs_model.specs.NewDisk.{empty_tree, IsNewImage}
+use Rattle.fs_model.specs.Stands.{room_of, Stands}
+use Rattle.fs_model.proofs.NewDiskStands.{new_disk_stands}
+use Rattle.fs_images.specs.Making.{BehindSuperblock, HasNoSuperblock, HoldsNewTables, IsCleared, IsNewDisk, IsPrepared}
+use Rattle.fs_images.specs.NewTables.{IsNewTable}
+use Rattle.fs_images.proofs.MakingTables.{new_image}
+
+-- while zeros are written over the superblock, an image is one of before, or has none
+pub before_or_cleared : (old : DiskState) (content : List ℕ) → 0 < old.size → content ≡ zeros 512 → (image : Image) → IsImageOr (IsWrite 0 content) old image
+    → IsImage old image ⊎ HasNoSuperblock image
+before_or_cleared old content room zero image is = ⊎_elim (λ was. inl (before was)) (λ new. inr (new.1 ∙ zero)) (is.each 0 room)
+  where
+    before : old.may_hold 0 (sector image 0) → IsImage old image
+    before was = record {
+      size = is.size;
+      each = λ n below. ⊎_elim (λ same. same) (λ here. subst (λ (k : ℕ). old.may_hold k (sector image k)) (sym here.0) was) (is.each n below);
+    }
+
+-- once that is stable, there is none
+pub cleared : (old new : DiskState) (content : List ℕ) → 0 < old.size → content ≡ zeros 512 → new.size ≡ old.size → length old.seen ≡ old.size
+    → new.seen ≡ set old.seen 0 content → IsStable new → IsCleared new
+cleared old new content room zero size whole put stable = record {
+  room = omega (arith, room, size);
+  whole = ap length put ∙ length-set old.seen 0 content ∙ whole ∙ sym size;
+  stable = stable;
+  cleared = ap (λ (i : Image). sector i 0) put ∙ get_or-set_same old.seen 0 content [] (omega (arith, room, whole)) ∙ zero;
+}
+
+-- then it has none while all else is written
+pub still_cleared : (old : DiskState) → IsCleared old → (image : Image) → IsImageOr BehindSuperblock old image → HasNoSuperblock image
+still_cleared old at_rest image is = stays at_rest.stable at_rest.whole is 0 (λ content lt. omega (arith, lt)) ∙ at_rest.cleared
+
+-- one sector of the tables more
+pub table_more : (p : Place) (old new : Image) (n : ℕ) (content : List ℕ) → n < length old → new ≡ set old n content → IsNewTable p n content
+    → ((s : ℕ) → 128 ≤ s → s < n → IsNewTable p s (sector old s)) → (s : ℕ) → 128 ≤ s → s < n + 1 → IsNewTable p s (sector new s)
+table_more p old new n content fits put is so_far s ge lt = elim (cases_eq s n) [
+  | inl here ↦
+      let e : sector new s ≡ content = ap (sector new) here ∙ ap (λ (i : Image). sector i n) put ∙ get_or-set_same old n content [] fits in
+      subst (IsNewTable p s) (sym e) (subst (λ (k : ℕ). IsNewTable p k content) (sym here) is)
+  | inr there ↦
+      let e : sector new s ≡ sector old s = ap (λ (i : Image). sector i s) put ∙ get_or-set_other old n s content [] there in
+      subst (IsNewTable p s) (sym e) (so_far s ge (omega (arith, lt, there)))
+]
+
+-- another sector is the same
+pub same_beside : (old new : Image) (n k : ℕ) (content : List ℕ) → new ≡ set old n content → k ≢ n → sector new k ≡ sector old k
+same_beside old new n k content put ne = ap (λ (i : Image). sector i k) put ∙ get_or-set_other old n k content [] ne
+
+-- what several writes add, and then what more of them add
+pub adds_joined : {R : ℕ → List ℕ → Type 0} {old mid new : DiskState} → AddsOnly R old mid → AddsOnly R mid new → AddsOnly R old new
+adds_joined first second = record {
+  size = second.size ∙ first.size;
+  nothing_else = λ n content holds. ⊎_elim (first.nothing_else n content) (λ more. inr more) (second.nothing_else n content holds);
+}
+
+pub image_joined : {R : ℕ → List ℕ → Type 0} {old mid : DiskState} → AddsOnly R old mid → (image : Image) → IsImageOr R mid image → IsImageOr R old image
+image_joined {old = old} {mid} first image is = record {
+  size = is.size ∙ first.size;
+  each = λ n below. ⊎_elim (first.nothing_else n (sector image n)) (λ more. inr more) (is.each n (omega (arith, below, first.size)));
+}
+
+-- a place is that of a disk of its size
+pub place_size : (size inodes : ℕ) (p : Place) → the_place size inodes ≡ Some p → p.sectors ≡ size
+place_size size inodes p e = ap (λ (q : Place). q.sectors) (place_is_laid_out size inodes e)
+
+-- and of so many inodes
+pub place_inodes : (size inodes : ℕ) (p : Place) → the_place size inodes ≡ Some p → p.inodes ≡ inodes
+place_inodes size inodes p e = ap (λ (q : Place). q.inodes) (place_is_laid_out size inodes e)
+
+-- its parts are on the disk
+pub record IsOnDisk (p : Place) (size : ℕ) : Type 0 where
+  pub least : 1024 ≤ size
+  pub first_data : p.first_data ≤ size
+
+pub place_on_disk : (size inodes : ℕ) (p : Place) → the_place size inodes ≡ Some p → IsOnDisk p size
+place_on_disk size inodes p e =
+    let place = place_is_place newest size inodes e in
+    let same = place_size size inodes p e in
+    record { least = omega (arith, place.least_sectors, same); first_data = omega (arith, place.data_sectors, same) }
+
+-- with the superblock a prepared disk is a new one
+pub is_new_disk : (p : Place) (old : DiskState) → IsPrepared p old → (image : Image) → length image ≡ old.size
+    → sector image 0 ≡ super_bytes (super_for p)
+    → ((n : ℕ) → 0 < n → n < old.size → sector image n ≡ sector old.seen n) → IsNewDisk p.inodes image
+is_new_disk p old ready image size super others = record {
+  place = p;
+  has_place = ap (λ (k : ℕ). the_place k p.inodes) size ∙ ready.has_place;
+  new = new;
+  stands = subst (λ (k : ℕ). Stands k (sector image) (room_of p) empty_tree (p.sectors - p.first_data)) (sectors ∙ sym size) (new_disk_stands p (sector image) new);
+}
+  where
+    sectors : p.sectors ≡ old.size
+    sectors = place_size old.size p.inodes p ready.has_place
+
+    place : IsPlace p
+    place = place_is_place newest old.size p.inodes ready.has_place
+
+    new : IsNewImage p (sector image)
+    new =
+        new_image p (sector image) (ap (λ (k : ℕ). the_place k p.inodes) sectors ∙ ready.has_place) super
+        (others 1 (omega arith) (omega (arith, sectors, place.least_sectors)) ∙ ready.commit)
+        (λ s ge lt. subst (IsNewTable p s) (sym (others s (omega (arith, ge)) (omega (arith, lt, sectors, place.data_sectors)))) (ready.tables s ge lt))
+
+-- while the superblock is written, an image has none, or is that of a new disk
+pub cleared_or_new : (p : Place) (old : DiskState) (content : List ℕ) → IsPrepared p old → content ≡ super_bytes (super_for p)
+    → (image : Image) → IsImageOr (IsWrite 0 content) old image → HasNoSuperblock image ⊎ IsNewDisk p.inodes image
+cleared_or_new p old content ready super image is =
+    ⊎_elim (λ was. inl (was ∙ ready.at_rest.cleared))
+    (λ new. inr (is_new_disk p old ready image is.size (new.1 ∙ super) (λ n some below.
+    ⊎_elim (λ same. same) (λ (here : IsWrite 0 content n (sector image n)). absurd (omega (arith, some, here.0))) (stays_or ready.at_rest.stable is n below))))
+    (stays_or ready.at_rest.stable is 0 ready.at_rest.room)
+
+-- once it is written
+pub written_new : (p : Place) (old : DiskState) (content : List ℕ) → IsPrepared p old → content ≡ super_bytes (super_for p)
+    → (image : Image) → image ≡ set old.seen 0 content → IsNewDisk p.inodes image
+written_new p old content ready super image put =
+    let room : 0 < length old.seen = omega (arith, ready.at_rest.room, ready.at_rest.whole) in
+    is_new_disk p old ready image (ap length put ∙ length-set old.seen 0 content ∙ ready.at_rest.whole)
+    (ap (λ (i : Image). sector i 0) put ∙ get_or-set_same old.seen 0 content [] room ∙ super)
+    (λ n some below. ap (λ (i : Image). sector i n) put ∙ get_or-set_other old.seen 0 n content [] (λ (e : n ≡ 0). omega (arith, some, e)))
+
+-- the disk once all but the superblock is stable
+pub prepared : (p : Place) (old new : DiskState) → the_place old.size p.inodes ≡ Some p → IsCleared old → AddsOnly BehindSuperblock old new → IsImage new new.seen
+    → sector new.seen 1 ≡ commit_bytes [] → HoldsNewTables p new.seen → IsStable new → IsPrepared p new
+prepared p old new has_place at_rest adds seen commit tables stable = record {
+  has_place = ap (λ (k : ℕ). the_place k p.inodes) adds.size ∙ has_place;
+  at_rest = record {
+    room = omega (arith, adds.size, at_rest.room);
+    whole = seen.size;
+    stable = stable;
+    cleared = still_cleared old at_rest new.seen (image_or adds new.seen seen);
+  };
+  commit = commit;
+  tables = tables;
+}

@@ -1,0 +1,50 @@
+-- Where the parts of a disk lie that stands for a tree, and what room it has.
+use Rattle.std.proofs.Common.{◌≡◌, ◌<◌, ◌≤◌, ℕ, length, Option, Some, None, Ok, Err, Result, sym, ap, subst, ◌∙◌, arith}
+use Rattle.sector_disk.specs.Disk.{Image}
+use Rattle.fs_layout.specs.declared.place.Place.{Place}
+use Rattle.fs_layout.specs.declared.superblock.Super.{Super}
+use Rattle.fs_layout.specs.Place.{IsPlace, place_in}
+use Rattle.fs_layout.specs.Superblock.{place_for}
+use Rattle.fs_layout.proofs.Versions.{file_bounds}
+use Rattle.fs_layout.proofs.Places.{place_is_place, place_is_laid_out}
+use Rattle.fs_model.specs.Trees.{Tree, Room}
+use Rattle.fs_model.specs.States.{IsRoom}
+use Rattle.fs_images.specs.Standing.{StandsFor}
+
+module _ (seen : Image) (room : Room) (t : Tree) (free : ℕ) (st : StandsFor room seen t free) where
+  pub is_place : IsPlace st.place
+  is_place = place_is_place _ (length seen) st.super.inodes st.has_place
+
+  pub some_sectors : 0 < length seen
+  some_sectors =
+      let all : st.place.sectors ≡ length seen = ap (λ (p : Place). p.sectors) (place_is_laid_out (length seen) st.super.inodes st.has_place) in
+      let least = is_place.least_sectors in
+      omega (arith, all, least)
+
+  -- the commit and its log have sectors
+  pub many_sectors : 128 ≤ length seen
+  many_sectors =
+      let all : st.place.sectors ≡ length seen = ap (λ (p : Place). p.sectors) (place_is_laid_out (length seen) st.super.inodes st.has_place) in
+      let least = is_place.least_sectors in
+      omega (arith, all, least)
+
+  -- the place that a superblock gives
+  pub place_found : (v : Super) → v ≡ st.super → place_for v ≡ Some st.place
+  place_found v same =
+      ap place_for same ∙ ap (λ (n : ℕ). place_in st.super.version n st.super.inodes) st.same_size ∙ st.has_place
+
+  pub is_room : IsRoom room
+  is_room =
+      let most = is_place.most_inodes in
+      let large = is_place.most_sectors in
+      let limit = (file_bounds st.place.version).1 in
+      subst IsRoom (sym st.room_is) (record { inodes = most; sectors = omega (arith, large); file_limit = omega (arith, limit) })
+
+pub some_same : {A : Type 0} (x y : A) (o : Option A) → o ≡ Some x → o ≡ Some y → x ≡ y
+some_same x y o e f = cc
+
+pub ok_or_err : {A E : Type 0} (x : A) (e : E) (r : Result A E) → r ≡ Ok x → r ≡ Err e → ⊥
+ok_or_err x e r a b = cc
+
+pub some_or_none : {A : Type 0} (x : A) (o : Option A) → o ≡ Some x → o ≡ None → ⊥
+some_or_none x o a b = cc

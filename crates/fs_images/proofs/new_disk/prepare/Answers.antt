@@ -1,0 +1,50 @@
+use Rattle.std.proofs.Common.{◌≡◌, ◌<◌, ◌∙◌, [], length, arith, ap, sym, subst, get_or-set_same}
+use Rattle.std.proofs.lemmas.Result.{on_ok_weaker}
+use Rattle.sector_disk.specs.Disk.{AddsOnly, Image, sector}
+use Rattle.sector_disk.proofs.Moments.{adds_narrowed, adds_nothing, adds_write, goes_on, image_or, joined, started, weaker}
+use Rattle.fs_layout.specs.Commit.{commit_bytes}
+use Rattle.fs_layout.specs.Version.{newest}
+use Rattle.fs_layout.proofs.Places.{place_is_place}
+use Rattle.fs_images.specs.Making.{BehindSuperblock, HoldsNewTables}
+use Rattle.fs_images.proofs.MakingMoments.{adds_joined, image_joined, place_on_disk, prepared, still_cleared}
+use Rattle.fs_images.proofs.new_disk.prepare.Goals as goal
+
+pub write-requires : goal.write-requires
+write-requires g c = omega (arith, (place_on_disk _ c.args.place.inodes c.args.place c.requires.place).least)
+
+pub write_tables-requires-clause-place : goal.write_tables-requires-clause-place
+write_tables-requires-clause-place g c = place_is_place newest _ c.args.place.inodes c.requires.place
+
+pub write_tables-requires-clause-room : goal.write_tables-requires-clause-room
+write_tables-requires-clause-room g c =
+    omega (arith, (place_on_disk _ c.args.place.inodes c.args.place c.requires.place).first_data, c.write.ensures.changes.size)
+
+pub returns-clause-any_moment : goal.returns-clause-any_moment
+returns-clause-any_moment g c =
+    let before = g.D.Disk.state c.args.disk.now in
+    let written = g.D.Disk.state c.write.new.self in
+    let keep = still_cleared before c.requires.cleared in
+    let first : AddsOnly BehindSuperblock before written = adds_write adds_nothing c.write.ensures.changes (λ k content is same. omega (arith, is)) in
+    let tables : AddsOnly BehindSuperblock before (g.D.Disk.state c.write_tables.new.disk) = adds_joined first c.write_tables.ensures.adds in
+    let all = adds_narrowed tables c.sync.ensures.changes in
+    let start = started (g.met.D.Disk.only_now c.args.disk.now) (λ image is. keep image (image_or (adds_nothing {R = BehindSuperblock}) image is)) in
+    let one = goes_on start c.write.ensures.time (λ image is. keep image (image_or first image is)) in
+    let two = joined one (weaker (λ image is. keep image (image_joined first image is)) c.write_tables.ensures.any_moment) in
+    goes_on two c.sync.ensures.time (λ image is. keep image (image_or all image is))
+
+pub returns-clause-prepared : goal.returns-clause-prepared
+returns-clause-prepared g c =
+    let before = g.D.Disk.state c.args.disk.now in
+    let written = g.D.Disk.state c.write.new.self in
+    let after = g.D.Disk.state c.sync.new.self in
+    let seen = c.sync.ensures.changes.seen in
+    let first : AddsOnly BehindSuperblock before written = adds_write adds_nothing c.write.ensures.changes (λ k content is same. omega (arith, is)) in
+    let all = adds_narrowed (adds_joined first c.write_tables.ensures.adds) c.sync.ensures.changes in
+    let room : 1 < length before.seen = omega (arith, (place_on_disk _ c.args.place.inodes c.args.place c.requires.place).least, c.requires.cleared.whole) in
+    let commit : sector written.seen 1 ≡ commit_bytes [] =
+    ap (λ (i : Image). sector i 1) c.in_ok-write.ensures.written.seen ∙ get_or-set_same before.seen 1 c.to_sector.result [] room ∙ c.to_sector.ensures ∙ ap commit_bytes c.idle.ensures in
+    on_ok_weaker c.sync.result
+    (prepared c.args.place before after c.requires.place c.requires.cleared all (g.met.D.Disk.seen_is_image c.sync.new.self)
+    (ap (λ (i : Image). sector i 1) seen ∙ c.in_ok-write_tables.ensures.commit ∙ commit)
+    (subst (HoldsNewTables c.args.place) (sym seen) c.in_ok-write_tables.ensures.written))
+    c.sync.ensures.stable

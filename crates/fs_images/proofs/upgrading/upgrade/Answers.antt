@@ -1,0 +1,27 @@
+use Rattle.fs_images.proofs.Raising.{check_then, then_upgraded, then_narrowed}
+use Rattle.fs_images.proofs.upgrading.upgrade.Goals as goal
+
+pub returns-in_err-raise_version-clause-any_moment : goal.returns-in_err-raise_version-clause-any_moment
+returns-in_err-raise_version-clause-any_moment g c =
+    check_then (g.D.Disk.state c.args.disk.now) (g.D.Disk.state c.check.new.disk) c.check.ensures.passed.reads
+    (g.D.Disk.state c.raise_version.new.disk) (g.met.D.Disk.only_now c.args.disk.now) c.raise_version.ensures.any_moment
+
+pub returns-in_err-raise_version-clause-unwritten : goal.returns-in_err-raise_version-clause-unwritten
+returns-in_err-raise_version-clause-unwritten g c =
+    then_narrowed (g.D.Disk.state c.args.disk.now) (g.D.Disk.state c.check.new.disk) c.check.ensures.passed.reads
+    (g.D.Disk.state c.raise_version.new.disk) c.raise_version.result c.raise_version.ensures.unwritten
+
+pub returns-clause-any_moment : goal.returns-clause-any_moment
+returns-clause-any_moment g c =
+    check_then (g.D.Disk.state c.args.disk.now) (g.D.Disk.state c.check.new.disk) c.check.ensures.passed.reads
+    (g.D.Disk.state c.raise_version.new.disk) (g.met.D.Disk.only_now c.args.disk.now) c.raise_version.ensures.any_moment
+
+pub returns-clause-unwritten : goal.returns-clause-unwritten
+returns-clause-unwritten g c =
+    then_narrowed (g.D.Disk.state c.args.disk.now) (g.D.Disk.state c.check.new.disk) c.check.ensures.passed.reads
+    (g.D.Disk.state c.raise_version.new.disk) c.raise_version.result c.raise_version.ensures.unwritten
+
+pub returns-clause-upgraded : goal.returns-clause-upgraded
+returns-clause-upgraded g c =
+    then_upgraded (g.D.Disk.state c.args.disk.now) (g.D.Disk.state c.check.new.disk) c.check.ensures.passed.reads
+    (g.D.Disk.state c.raise_version.new.disk) c.in_ok-raise_version.ensures.upgraded

@@ -1,0 +1,4 @@
+pub mod Standing
+pub mod NewTables
+pub mod Making
+pub mod Upgrading

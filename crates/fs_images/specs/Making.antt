@@ -1,0 +1,81 @@
+-- What mkfs makes, and what it refuses.
+--     is_out_of, mkfs_refusal        a number out of its range; the first refusal
+--     IsDeviceFault        it failed since the device did
+--     IsNewDisk        the image of a new disk
+--     HasNoSuperblock, IsHalfCleared, IsHalfDone, IsHalfMade        what a stop may leave meanwhile
+--     BehindSuperblock        what the steps may write, and where
+--     HoldsNewTables, IsCleared, IsPrepared        the disk after each step
+use Rattle.std.specs.Prelude.{◌≡◌, ◌⊎◌, ℕ, ◌+◌, ◌-◌, ◌<◌, ◌≤◌, Bool, nat_lt, ◌||◌, List, [], length, Option, Some, None, if◌then◌else◌}
+use Rattle.sector_disk.specs.Disk.{DiskState, Image, sector, HasFailed, IsImage, IsStable}
+use Rattle.fs_layout.specs.declared.place.Place.{Place}
+use Rattle.fs_layout.specs.Bytes.{zeros}
+use Rattle.fs_layout.specs.Commit.{commit_bytes}
+use Rattle.fs_layout.specs.Place.{laid_out, the_place}
+use Rattle.fs_model.specs.NewDisk.{empty_tree, IsNewImage}
+use Rattle.fs_model.specs.Stands.{room_of}
+use Rattle.fs_images.specs.declared.faults.MkfsFault.{MkfsFault}
+use Rattle.fs_images.specs.declared.faults.MkfsFault.TheVariants.{BadSize, BadInodes, TooSmall, DiskFault}
+use Rattle.fs_images.specs.NewTables.{IsNewTable}
+use Rattle.fs_images.specs.Standing.{StandsFor}
+
+-- less than the least, or more than the most
+abbrev pub is_out_of : ℕ → ℕ → ℕ → Bool
+is_out_of least most n = nat_lt n least || nat_lt most n
+
+-- the first refusal, in this order: the disk's size, the number of inodes, the data sectors that are left
+unfoldable pub mkfs_refusal : ℕ → ℕ → Option MkfsFault
+mkfs_refusal sectors inodes =
+    if is_out_of 1024 65536 sectors then Some BadSize else
+    (if is_out_of 16 4096 inodes then Some BadInodes else
+    (if nat_lt sectors ((laid_out sectors inodes).first_data + 64) then Some TooSmall else None))
+
+-- the device has failed since
+abbrev pub IsDeviceFault : DiskState → DiskState → MkfsFault → Type 0
+IsDeviceFault before now fault = (fault ≡ DiskFault) × HasFailed before now
+
+-- The image is that of a new disk with so many inodes: it stands for an empty root, and all its data sectors are free.
+pub record IsNewDisk (inodes : ℕ) (image : Image) : Type 0 where
+  pub place : Place
+  pub has_place : the_place (length image) inodes ≡ Some place
+  pub new : IsNewImage place (sector image)
+  pub stands : StandsFor (room_of place) image empty_tree (place.sectors - place.first_data)
+
+-- sector 0 is zero
+abbrev pub HasNoSuperblock : Image → Type 0
+HasNoSuperblock image = sector image 0 ≡ zeros 512
+
+-- what a stop may leave while the superblock is cleared: what it might have left before, or no superblock
+abbrev pub IsHalfCleared : DiskState → Image → Type 0
+IsHalfCleared before image = IsImage before image ⊎ HasNoSuperblock image
+
+-- while it is written again: no superblock, or the new disk
+abbrev pub IsHalfDone : ℕ → Image → Type 0
+IsHalfDone inodes image = HasNoSuperblock image ⊎ IsNewDisk inodes image
+
+-- in the whole: what it might have left before, no superblock, or the new disk
+abbrev pub IsHalfMade : DiskState → ℕ → Image → Type 0
+IsHalfMade before inodes image = IsImage before image ⊎ IsHalfDone inodes image
+
+-- ---- what the steps may write, and where
+-- any content in any sector but the first
+abbrev pub BehindSuperblock : ℕ → List ℕ → Type 0
+BehindSuperblock n content = 0 < n
+
+-- ---- the disk after each step
+-- bitmaps and inode table are those of a new disk
+abbrev pub HoldsNewTables : Place → Image → Type 0
+HoldsNewTables p image = (s : ℕ) → 128 ≤ s → s < p.first_data → IsNewTable p s (sector image s)
+
+-- all is stable, and there is no superblock
+pub record IsCleared (disk : DiskState) : Type 0 where
+  pub room : 0 < disk.size
+  pub whole : length disk.seen ≡ disk.size
+  pub stable : IsStable disk
+  pub cleared : HasNoSuperblock disk.seen
+
+-- that, and all but the superblock is as on a new disk
+pub record IsPrepared (p : Place) (disk : DiskState) : Type 0 where
+  pub has_place : the_place disk.size p.inodes ≡ Some p
+  pub at_rest : IsCleared disk
+  pub commit : sector disk.seen 1 ≡ commit_bytes []
+  pub tables : HoldsNewTables p disk.seen

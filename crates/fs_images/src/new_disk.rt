@@ -1,0 +1,124 @@
+//! Making a new file system.
+
+ghost use Rattle.std.specs.Prelude.{◌≡◌, ◌≤◌, ◌<◌, Some, None, Err, IfErr, OnOk, MatchResult};
+ghost use Rattle.sector_disk.specs.Disk.{AddsOnly, HasCause, IsImageOr, IsStable, LeavesOnly, sector};
+ghost use Rattle.fs_layout.specs.Place.{IsPlace, the_place};
+ghost use Rattle.fs_layout.specs.Superblock.{super_bytes, super_for};
+ghost use Rattle.fs_images.specs.Making.{BehindSuperblock, HasNoSuperblock, HoldsNewTables, IsCleared, IsDeviceFault, IsHalfCleared, IsHalfDone, IsHalfMade, IsNewDisk, IsPrepared, mkfs_refusal};
+
+use crate::MkfsFault;
+use crate::new_tables::table_sector;
+use fs_layout::{COMMIT_SECTOR, Commit, INODE_BITMAP, Place, Super, place_of};
+use sector_disk::{Disk, DiskFault, write_synced};
+
+const SUPERBLOCK: u32 = 0;
+
+/// Makes a file system with so many inodes on the disk, whose root is an empty directory of user 0, 0755.
+///
+/// The superblock is cleared first and written last, with a sync after each step: a disk on which this was stopped
+/// halfway has none, and isn't taken for a file system.
+pub fn mkfs<D: Disk>(disk: &mut D, inodes: u32) -> Result<(), MkfsFault>
+    // The first refusal in order; the disk isn't touched.
+    ensures refused { (f : MkfsFault) → mkfs_refusal (D.state disk.old).size inodes ≡ Some f → (result ≡ Err f) × (disk.new ≡ disk.old) }
+    ensures fault { mkfs_refusal (D.state disk.old).size inodes ≡ None
+        → IfErr result (IsDeviceFault (D.state disk.old) (D.state disk.new)) }
+    ensures made { OnOk result (IsNewDisk inodes (D.state disk.new).seen) }
+    ensures stable { OnOk result (IsStable (D.state disk.new)) }
+    ensures any_moment { LeavesOnly (D.state disk.old) (D.state disk.new) (IsHalfMade (D.state disk.old) inodes) }
+    ensures size { (D.state disk.new).size ≡ (D.state disk.old).size }
+    ensures failures { (D.state disk.old).failures ≤ (D.state disk.new).failures }
+{
+    let place = place_for(disk.size(), inodes)?;
+    write_all(disk, place).map_err(|_| MkfsFault::DiskFault)
+}
+
+// Where the parts of the disk are to lie.
+fn place_for(sectors: u32, inodes: u32) -> Result<Place, MkfsFault>
+    ensures { MatchResult result
+        (λ p. (mkfs_refusal sectors inodes ≡ None) × (the_place sectors inodes ≡ Some p))
+        (λ f. mkfs_refusal sectors inodes ≡ Some f) }
+{
+    if sectors < 1024 || 65536 < sectors {
+        return Err(MkfsFault::BadSize);
+    }
+    if inodes < 16 || 4096 < inodes {
+        return Err(MkfsFault::BadInodes);
+    }
+    place_of(sectors, inodes).ok_or(MkfsFault::TooSmall)
+}
+
+// Writes the new disk: its superblock last, after all else is stable.
+fn write_all<D: Disk>(disk: &mut D, place: Place) -> Result<(), DiskFault>
+    requires { the_place (D.state disk.old).size place.inodes ≡ Some place }
+    ensures made { OnOk result (IsNewDisk place.inodes (D.state disk.new).seen) }
+    ensures stable { OnOk result (IsStable (D.state disk.new)) }
+    ensures any_moment { LeavesOnly (D.state disk.old) (D.state disk.new) (IsHalfMade (D.state disk.old) place.inodes) }
+    ensures size { (D.state disk.new).size ≡ (D.state disk.old).size }
+    ensures cause { HasCause (D.state disk.old) (D.state disk.new) result }
+{
+    clear_superblock(disk)?;
+    prepare(disk, place)?;
+    write_superblock(disk, place)
+}
+
+// Writes zeros over the superblock, and syncs.
+fn clear_superblock<D: Disk>(disk: &mut D) -> Result<(), DiskFault>
+    requires { 0 < (D.state disk.old).size }
+    ensures cleared { OnOk result (IsCleared (D.state disk.new)) }
+    ensures any_moment { LeavesOnly (D.state disk.old) (D.state disk.new) (IsHalfCleared (D.state disk.old)) }
+    ensures size { (D.state disk.new).size ≡ (D.state disk.old).size }
+    ensures cause { HasCause (D.state disk.old) (D.state disk.new) result }
+{
+    write_synced(disk, SUPERBLOCK, &[0; 512])
+}
+
+// Writes all but the superblock, and syncs.
+fn prepare<D: Disk>(disk: &mut D, place: Place) -> Result<(), DiskFault>
+    requires cleared { IsCleared (D.state disk.old) }
+    requires place { the_place (D.state disk.old).size place.inodes ≡ Some place }
+    ensures prepared { OnOk result (IsPrepared place (D.state disk.new)) }
+    ensures any_moment { LeavesOnly (D.state disk.old) (D.state disk.new) HasNoSuperblock }
+    ensures size { (D.state disk.new).size ≡ (D.state disk.old).size }
+    ensures cause { HasCause (D.state disk.old) (D.state disk.new) result }
+{
+    disk.write(COMMIT_SECTOR, &Commit::idle().to_sector())?;
+    write_tables(disk, place)?;
+    disk.sync()
+}
+
+// Writes bitmaps and inode table.
+fn write_tables<D: Disk>(disk: &mut D, place: Place) -> Result<(), DiskFault>
+    requires place { IsPlace place }
+    requires room { place.first_data ≤ (D.state disk.old).size }
+    ensures written { OnOk result (HoldsNewTables place (D.state disk.new).seen) }
+    ensures commit { OnOk result (sector (D.state disk.new).seen 1 ≡ sector (D.state disk.old).seen 1) }
+    ensures adds { AddsOnly BehindSuperblock (D.state disk.old) (D.state disk.new) }
+    ensures any_moment { LeavesOnly (D.state disk.old) (D.state disk.new) (IsImageOr BehindSuperblock (D.state disk.old)) }
+    ensures cause { HasCause (D.state disk.old) (D.state disk.new) result }
+{
+    for n in INODE_BITMAP..place.first_data {
+        disk.write(n, &table_sector(place, n))?;
+    }
+    Ok(())
+}
+
+// Writes the superblock, and syncs.
+fn write_superblock<D: Disk>(disk: &mut D, place: Place) -> Result<(), DiskFault>
+    requires { IsPrepared place (D.state disk.old) }
+    ensures made { OnOk result (IsNewDisk place.inodes (D.state disk.new).seen) }
+    ensures stable { OnOk result (IsStable (D.state disk.new)) }
+    ensures any_moment { LeavesOnly (D.state disk.old) (D.state disk.new) (IsHalfDone place.inodes) }
+    ensures size { (D.state disk.new).size ≡ (D.state disk.old).size }
+    ensures cause { HasCause (D.state disk.old) (D.state disk.new) result }
+{
+    write_synced(disk, SUPERBLOCK, &superblock(place))
+}
+
+// The content of the superblock.
+fn superblock(place: Place) -> [u8; 512]
+    ensures { result ≡ super_bytes (super_for place) }
+{
+    let mut content = [0; 512];
+    Super::of_place(place).write_to(&mut content, 0);
+    content
+}

@@ -1,0 +1,80 @@
+//! Upgrading a file system to the newest version of the layout.
+
+ghost use Rattle.std.specs.Prelude.{◌≡◌, ◌≤◌, IfOk, IfErr, OnOk};
+ghost use Rattle.sector_disk.specs.Disk.{HasCause, IsSame, Elapses, IsNarrowed, LeavesOnly};
+ghost use Rattle.fs_layout.specs.Superblock.{super_bytes, with_version};
+ghost use Rattle.fs_images.specs.Standing.{StandsForSome};
+ghost use Rattle.fs_images.specs.Upgrading.{target, IsSuperOf, SaysVersion, SyncsAlone, IsHalfUpgraded, IsUpgraded, IsNotUpgraded};
+
+use crate::faults::UpgradeFault;
+use fs_check::check;
+use fs_layout::{Super, Version};
+use sector_disk::{Disk, DiskFault, write_synced};
+use std::alloc::Global;
+
+const SUPERBLOCK: u32 = 0;
+
+/// Upgrades the file system on the disk to the newest version of the layout: its files may be larger then.
+///
+/// The disk is checked first, and a disk that stands for no tree is only read. Nothing but the superblock is written, between
+/// two syncs; a commit that is sealed stays as it is. A disk of the newest version is synced alone.
+pub fn upgrade<D: Disk>(alloc: Global, disk: &mut D) -> Result<(), UpgradeFault>
+    ensures upgraded { OnOk result (IsUpgraded (D.state disk.old) (D.state disk.new)) }
+    ensures failed { IfErr result (IsNotUpgraded (D.state disk.old) (D.state disk.new)) }
+    // A stop at any moment of the call leaves what stands for what it did before, with the old limit of a file or the new one.
+    ensures any_moment { LeavesOnly (D.state disk.old) (D.state disk.new) (IsHalfUpgraded (D.state disk.old)) }
+    // A disk of the newest version isn't written.
+    ensures unwritten { SaysVersion target (D.state disk.old).seen → IsNarrowed (D.state disk.old) (D.state disk.new) }
+    ensures size { (D.state disk.new).size ≡ (D.state disk.old).size }
+    ensures failures { (D.state disk.old).failures ≤ (D.state disk.new).failures }
+{
+    check(alloc, disk)?;
+    raise_version(disk)?;
+    Ok(())
+}
+
+// Upgrades a disk that stands for a tree.
+fn raise_version<D: Disk>(disk: &mut D) -> Result<(), DiskFault>
+    requires { StandsForSome (D.state disk.old).seen }
+    ensures upgraded { OnOk result (IsUpgraded (D.state disk.old) (D.state disk.new)) }
+    ensures any_moment { LeavesOnly (D.state disk.old) (D.state disk.new) (IsHalfUpgraded (D.state disk.old)) }
+    ensures unwritten { SaysVersion target (D.state disk.old).seen → SyncsAlone (D.state disk.old) (D.state disk.new) result }
+    ensures size { (D.state disk.new).size ≡ (D.state disk.old).size }
+    ensures cause { HasCause (D.state disk.old) (D.state disk.new) result }
+{
+    let superblock = read_superblock(disk)?;
+    disk.sync()?;
+    match superblock.version {
+        Version::One => write_synced(disk, SUPERBLOCK, &raised(superblock)),
+        Version::Two => Ok(()),
+    }
+}
+
+// Reads the superblock.
+fn read_superblock<D: Disk>(disk: &mut D) -> Result<Super, DiskFault>
+    requires { StandsForSome (D.state disk.old).seen }
+    ensures found { IfOk result (IsSuperOf (D.state disk.old).seen) }
+    ensures same { IsSame (D.state disk.old) (D.state disk.new) }
+    ensures time { Elapses (D.state disk.old) (D.state disk.new) }
+    ensures cause { HasCause (D.state disk.old) (D.state disk.new) result }
+{
+    let mut sector = [0; 512];
+    disk.read(SUPERBLOCK, &mut sector)?;
+    let Ok(superblock) = Super::read_from(&sector, 0) else {
+        unreachable!()
+    };
+    Ok(superblock)
+}
+
+// The content of the superblock in the newest version.
+fn raised(superblock: Super) -> [u8; 512]
+    ensures { result ≡ super_bytes (with_version target superblock) }
+{
+    let raised = Super {
+        version: Version::Two,
+        ..superblock
+    };
+    let mut content = [0; 512];
+    raised.write_to(&mut content, 0);
+    content
+}
