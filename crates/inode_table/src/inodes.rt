@@ -34,11 +34,12 @@ pub fn load<S: Sectors>(s: &mut S, place: Place, n: u32) -> Result<Inode, DiskFa
     ensures same { IsUnchanged (S.state s.old) (S.state s.new) }
     ensures cause { HasCause (S.state s.old).disk (S.state s.new).disk result }
 {
-    let mut content = [0; 512];
-    s.get(place.inode_sector(n), &mut content)?;
-    let Ok(inode) = Inode::read_from(&content, place.inode_offset(n)) else {
-        unreachable!()
-    };
+    let at = place.inode_offset(n);
+    let read = s.read_with(
+        place.inode_sector(n),
+        |content| Inode::read_from(content, at),
+    )?;
+    let Ok(inode) = read else { unreachable!() };
     Ok(inode)
 }
 
