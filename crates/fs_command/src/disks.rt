@@ -12,9 +12,9 @@ ghost use Rattle.fs_command.specs.Texts.{made_text, kinds_text, room_text, yes_t
 use crate::failure::Failure;
 use crate::status::Status;
 use fs_check::{CheckFault, Finding, Summary, check};
+use fs_images::{mkfs, upgrade};
 use fs_layout::{Place, Version};
 use fs_shell::{Count, RunFault, Watched, run};
-use fs_images::{mkfs, upgrade};
 use fs_system::Fs;
 use sector_disk::Disk;
 use std::alloc::Global;

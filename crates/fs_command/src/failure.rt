@@ -1,8 +1,8 @@
 //! Why a job wasn't done. The text is the line that is printed on the standard error.
 
 use fs_check::CheckFault;
-use fs_shell::RunFault;
 use fs_images::{MkfsFault, UpgradeFault};
+use fs_shell::RunFault;
 use fs_system::MountFault;
 use fuse_serving::ServeFault;
 use thiserror::Error;

@@ -9,8 +9,8 @@ ghost use Rattle.fs_command.specs.Programs.{Begins, Fails, RunsInMemory};
 ghost use Rattle.fs_command.specs.Streams.{reading, writing};
 
 use crate::failure::Failure;
-use fs_shell::{Count, Watched, run};
 use fs_images::mkfs;
+use fs_shell::{Count, Watched, run};
 use fs_system::Fs;
 use sector_disk::{Disk, MemDisk};
 use std::alloc::Global;

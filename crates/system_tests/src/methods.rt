@@ -2,8 +2,8 @@
 //! and their replies are shown by the scripts of the shell.
 
 use fs_cred::{Cred, Errno, Refusal};
-use fs_model::{Bytes, Call, Flags, Path, Reply};
 use fs_images::mkfs;
+use fs_model::{Bytes, Call, Flags, Path, Reply};
 use fs_system::Fs;
 use sector_disk::{Disk, FuseDisk, MemDisk};
 use std::alloc::Global;

@@ -2,8 +2,8 @@
 
 use fs_check::{CheckFault, Finding};
 use fs_command::{Failure, perform, run_on_disk};
-use fs_shell::{RunFault, Watched};
 use fs_images::{MkfsFault, UpgradeFault, mkfs};
+use fs_shell::{RunFault, Watched};
 use fs_system::MountFault;
 use sector_disk::{CrashDisk, Disk, MemDisk};
 use std::alloc::Global;

@@ -1,8 +1,8 @@
 //! Runs over readers and writers of several kinds. What file systems answer to lines is tried by the program `player`.
 
 use crate::report::push_other;
-use fs_shell::{Count, RunFault, Watched, run};
 use fs_images::mkfs;
+use fs_shell::{Count, RunFault, Watched, run};
 use fs_system::Fs;
 use sector_disk::MemDisk;
 use std::alloc::{AllocError, Global};

@@ -3,8 +3,8 @@
 use crate::disks::{INODES, SECTORS};
 use anyhow::{anyhow, bail};
 use fs_check::{CheckFault, Summary, check};
-use fs_shell::{Watched, run};
 use fs_images::mkfs;
+use fs_shell::{Watched, run};
 use fs_system::Fs;
 use sector_disk::{Disk, FailOnce, FuseDisk, MemDisk};
 use std::alloc::{AllocError, Global};
