@@ -6,11 +6,15 @@
 //!
 //! Calls share commits: what was kept waits in memory for a flush, or until the changes of a call don't fit beside it. A
 //! sector that was put is read from there, and another one that was read lately from a cache; no contract shows that.
+//!
+//! A call may leave hints for later ones, numbers under keys. They outlive it, kept or dropped, but not the store; nobody
+//! trusts them.
 #![tactic(auto)]
 
 mod cached;
 mod clean;
 mod commit;
+mod hints;
 mod sectors;
 mod store;
 

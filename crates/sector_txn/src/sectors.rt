@@ -52,4 +52,14 @@ pub trait Sectors {
     /// How many sectors can still be put that weren't yet.
     fn room(&self) -> usize
         ensures { result ≡ (state self.now).room };
+
+    /// Leaves a hint, such as where something was found, under a key. It may be lost.
+    fn leave_hint(&mut self, _key: u32, _hint: u64)
+        ensures { IsUnchanged (state self.old) (state self.new) }
+    {}
+
+    /// The hint that was left under a key. Nothing is promised of it: whoever asks looks whether it is so.
+    fn hint(&self, _key: u32) -> Option<u64> {
+        None
+    }
 }

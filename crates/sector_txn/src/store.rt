@@ -10,6 +10,7 @@ ghost use Rattle.sector_txn.specs.Stores.{present, map_before, map_now, txn_stat
 use crate::Sectors;
 use crate::cached::CachedJournal;
 use crate::commit::commit_if_full;
+use crate::hints::Hints;
 use redo_journal::{Batch, Broken, Journal};
 use sector_disk::{CrashDisk, Disk, DiskFault};
 use std::alloc::{AllocError, Global};
@@ -29,6 +30,8 @@ pub struct Store<D: Disk> {
     waiting: Box<Batch>,
     // No sectors: its memory serves one transaction after another.
     delta: Box<Batch>,
+    // What calls left for later ones.
+    hints: Box<Hints>,
 }
 
 impl<D: Disk> Model for Store<D> {
@@ -49,6 +52,7 @@ pub struct Txn<D: Disk> {
     journal: CachedJournal<D>,
     waiting: Box<Batch>,
     delta: Box<Batch>,
+    hints: Box<Hints>,
 }
 
 impl<D: Disk> Model for Txn<D> {
@@ -71,10 +75,11 @@ impl<D: Disk> Store<D> {
     {
         journal.tell_idle();
         match reserved(alloc) {
-            Ok((waiting, delta)) => Ok(Store {
+            Ok((waiting, delta, hints)) => Ok(Store {
                 journal: CachedJournal::new(alloc, journal),
                 waiting,
                 delta,
+                hints,
             }),
             Err(error) => Err((error, journal)),
         }
@@ -92,11 +97,13 @@ impl<D: Disk> Store<D> {
             journal,
             waiting,
             delta,
+            hints,
         } = self;
         Txn {
             journal,
             waiting,
             delta,
+            hints,
         }
     }
 
@@ -118,6 +125,7 @@ impl<D: Disk> Store<D> {
             journal,
             mut waiting,
             delta,
+            hints,
         } = self;
         match journal.commit(&waiting) {
             Ok(journal) => {
@@ -127,6 +135,7 @@ impl<D: Disk> Store<D> {
                     journal,
                     waiting,
                     delta,
+                    hints,
                 })
             }
             Err(broken) => Err(broken),
@@ -149,6 +158,7 @@ impl<D: Disk> Store<D> {
             journal,
             waiting: _,
             delta: _,
+            hints: _,
         } = self;
         journal.into_disk()
     }
@@ -189,6 +199,7 @@ impl<D: Disk> Txn<D> {
             journal,
             mut waiting,
             mut delta,
+            hints,
         } = self;
         match commit_if_full(journal, &mut waiting, &delta) {
             Ok(journal) => {
@@ -198,6 +209,7 @@ impl<D: Disk> Txn<D> {
                     journal,
                     waiting,
                     delta,
+                    hints,
                 })
             }
             Err(broken) => Err(broken),
@@ -213,12 +225,14 @@ impl<D: Disk> Txn<D> {
             journal,
             waiting,
             mut delta,
+            hints,
         } = self;
         delta.clear();
         Store {
             journal,
             waiting,
             delta,
+            hints,
         }
     }
 }
@@ -263,13 +277,22 @@ impl<D: Disk> Sectors for Txn<D> {
     fn room(&self) -> usize {
         DELTA - self.delta.len()
     }
+
+    fn leave_hint(&mut self, key: u32, hint: u64) {
+        self.hints.leave(key, hint);
+    }
+
+    fn hint(&self, key: u32) -> Option<u64> {
+        self.hints.find(key)
+    }
 }
 
-// The memory of the sectors that wait, and of a transaction's.
-fn reserved(alloc: Global) -> Result<(Box<Batch>, Box<Batch>), AllocError>
-    ensures { IfOk result (λ batches. (batches.0.value ≡ []) × (batches.1.value ≡ [])) }
+// The memory of the sectors that wait, of a transaction's, and of hints.
+fn reserved(alloc: Global) -> Result<(Box<Batch>, Box<Batch>, Box<Hints>), AllocError>
+    ensures { IfOk result (λ parts. (parts.0.value ≡ []) × (parts.1.value ≡ [])) }
 {
     let waiting = Box::new(alloc, Batch::new(alloc)?)?;
     let delta = Box::new(alloc, Batch::new(alloc)?)?;
-    Ok((waiting, delta))
+    let hints = Box::new(alloc, Hints::new())?;
+    Ok((waiting, delta, hints))
 }
