@@ -1,6 +1,6 @@
 //! The slot of a name.
 
-ghost use Rattle.std.specs.Prelude.{◌≡◌, ◌↔◌, ◌≤◌, ◌<◌, ◌+◌, List, length, slice_index, IsTrue, IfOk};
+ghost use Rattle.std.specs.Prelude.{◌≡◌, ◌↔◌, ◌≤◌, ◌<◌, ◌+◌, List, length, slice_index, IsTrue, Some, IfOk, IfSome};
 ghost use Rattle.sector_disk.specs.Disk.{HasCause};
 ghost use Rattle.fs_layout.specs.Directories.{NamedInode};
 ghost use Rattle.sector_txn.specs.Sectors.{IsUnchanged};
@@ -67,7 +67,76 @@ fn find_in_block(block: &[u8; 512], name: &[u8]) -> Option<FoundSlot>
     None
 }
 
-/// Finds the slot of a name, block by block. What can't be a name is not found.
+// Under this key the slot of a name is left as a hint. Names may share a key.
+fn hint_key(inode: &Inode, name: &[u8]) -> u32 {
+    let mut key = inode.direct[0];
+    for byte in name {
+        key = key.wrapping_mul(31).wrapping_add(u32::from(*byte));
+    }
+    key
+}
+
+// Looks for a name in the block where it was found lately. If it isn't there, another block may have it.
+fn find_at_hint<S: Sectors>(
+    s: &mut S,
+    inode: &Inode,
+    key: u32,
+    name: &[u8],
+) -> Result<Option<FoundSlot>, DiskFault>
+    requires len { (0 < length name.now) × (length name.now ≤ MAX_NAME) }
+    requires within { IsWithin (S.state s.old).disk.size (S.state s.old).sectors inode.now }
+    ensures found { IfOk result (λ found. IfSome found (λ slot. (slots : List NamedInode) → HasSlots (S.state s.old).sectors inode.now slots
+        → IsFoundIn slots name.now (Some slot))) }
+    ensures same { IsUnchanged (S.state s.old) (S.state s.new) }
+    ensures cause { HasCause (S.state s.old).disk (S.state s.new).disk result }
+{
+    let Some(hint) = s.hint(key) else {
+        return Ok(None);
+    };
+    // The directory may have fewer slots by now.
+    if inode.size / SLOT_SIZE as u64 <= hint {
+        return Ok(None);
+    }
+    let k = hint / SLOTS;
+    let found = Blocks::new(inode).read_with(s, k, |block| find_in_block(block, name))?;
+    if let Some(found) = found {
+        return Ok(Some(FoundSlot {
+            slot: SLOTS * k + found.slot,
+            inode: found.inode,
+        }));
+    }
+    Ok(None)
+}
+
+// Looks for a name in one block after another.
+fn find_by_blocks<S: Sectors>(
+    s: &mut S,
+    inode: &Inode,
+    name: &[u8],
+) -> Result<Option<FoundSlot>, DiskFault>
+    requires len { (0 < length name.now) × (length name.now ≤ MAX_NAME) }
+    requires within { IsWithin (S.state s.old).disk.size (S.state s.old).sectors inode.now }
+    requires directory { (slots : List NamedInode) × HasSlots (S.state s.old).sectors inode.now slots }
+    ensures found { IfOk result (λ found. (slots : List NamedInode) → HasSlots (S.state s.old).sectors inode.now slots
+        → IsFoundIn slots name.now found) }
+    ensures same { IsUnchanged (S.state s.old) (S.state s.new) }
+    ensures cause { HasCause (S.state s.old).disk (S.state s.new).disk result }
+{
+    let slots = inode.size / SLOT_SIZE as u64;
+    let mut blocks = Blocks::new(inode);
+    for k in 0..slots.div_ceil(SLOTS) {
+        let found = blocks.read_with(s, k, |block| find_in_block(block, name))?;
+        if let Some(found) = found {
+            return Ok(Some(FoundSlot {
+                slot: SLOTS * k + found.slot,
+                inode: found.inode,
+            }));
+        }
+    }
+    Ok(None)
+}
+
+/// Finds the slot of a name: first where it was found lately, and then block by block. What can't be a name is not found.
 pub(crate) fn find_slot<S: Sectors>(
     s: &mut S,
     inode: &Inode,
@@ -86,16 +155,18 @@ pub(crate) fn find_slot<S: Sectors>(
     if MAX_NAME < name.len() {
         return Ok(None);
     }
-    let slots = inode.size / SLOT_SIZE as u64;
-    let mut blocks = Blocks::new(inode);
-    for k in 0..slots.div_ceil(SLOTS) {
-        let found = blocks.read_with(s, k, |block| find_in_block(block, name))?;
-        if let Some(found) = found {
-            return Ok(Some(FoundSlot {
-                slot: SLOTS * k + found.slot,
-                inode: found.inode,
-            }));
-        }
+    // One block needs no hint.
+    if inode.size / SLOT_SIZE as u64 <= SLOTS {
+        let found = find_by_blocks(s, inode, name)?;
+        return Ok(found);
+    }
+    let key = hint_key(inode, name);
+    if let Some(found) = find_at_hint(s, inode, key, name)? {
+        return Ok(Some(found));
+    }
+    if let Some(found) = find_by_blocks(s, inode, name)? {
+        s.leave_hint(key, found.slot);
+        return Ok(Some(found));
     }
     Ok(None)
 }

@@ -12,6 +12,9 @@
 //! | [`remove`] | as [`lookup`]; then, unless the name's slot is the last, the last block and the name's, each with the sector of pointers if it is past the first 12; then as [`block_map::set_size`] | the name's block, unless its slot is the last; then as [`block_map::set_size`] |
 //! | [`replace`] | as [`lookup`]; then the block, and the sector of pointers if it is past the first 12 | 1 |
 //! | [`rename`] | as [`replace`] | 1 |
+//!
+//! Where `k` is above 1, a name that was found lately is looked for first in the block where it was: [`lookup`] then reads that
+//! block alone, with the sector of pointers if it is past the first 12. If the name has left the block, they are read beside the others.
 #![tactic(auto)]
 
 mod change;

@@ -211,4 +211,12 @@ impl<D: Disk> Sectors for CountedTxn<D> {
     fn room(&self) -> usize {
         self.txn.room()
     }
+
+    fn leave_hint(&mut self, key: u32, hint: u64) {
+        self.txn.leave_hint(key, hint);
+    }
+
+    fn hint(&self, key: u32) -> Option<u64> {
+        self.txn.hint(key)
+    }
 }

@@ -4,7 +4,7 @@ use Rattle.sector_txn.specs.Sectors.{IsUnchanged}
 use Rattle.block_map.specs.Blocks.{IsAtHand}
 use Rattle.dir_core.specs.Slots.{HasSlots}
 use Rattle.dir_core.proofs.Found.{IsAbsentBelow}
-use Rattle.dir_core.proofs.find.find_slot.Given as goal
+use Rattle.dir_core.proofs.find.find_by_blocks.Given as goal
 
 abbrev pub invariant-loop-k : goal.invariant-loop-k
 invariant-loop-k g l = record {
