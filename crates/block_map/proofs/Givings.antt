@@ -160,6 +160,13 @@ rest_given {p} {v} {level} {first} {k} {old} {new} g end le none =
       | inr ge ↦ inr (ap (part old.sectors v) w.1 ∙ none w.0 ge)
     ])
 
+-- nor holes among them
+pub holes_given : {p : Place} {v : Inode} {level first end : ℕ} {txn : TxnState} → HasBitmaps p txn
+    → ((i : ℕ) → first ≤ i → i < end → number_on txn.sectors v level i ≡ 0) → GivesParts p v (IsAmong level first end) txn txn
+unfolding part
+holes_given {p} {v} {level} {first} {end} {txn} h none =
+    given_weaker {P = λ at. ⊥} (none_given h (λ at x. x)) (λ at x. absurd x) (λ at w. inr (ap (part txn.sectors v) w.1 ∙ none w.0 w.2 w.3))
+
 -- a number more
 pub number_given : {p : Place} {v : Inode} {level first k n : ℕ} {old mid new : TxnState} → IsInData p old.sectors v → GivesParts p v (IsAmong level first k) old mid → first ≤ k
     → number_on old.sectors v level k ≡ n → n ≢ 0 → GivesNumber p BlockMap n mid.sectors new.sectors → HasBitmaps p new → PutsOnly (λ t. t ≡ sector_of BlockMap n) (bitmaps p) 0 mid new
@@ -259,6 +266,30 @@ pub all_given : {p : Place} {v : Inode} {first : ℕ} {old a b new : TxnState} �
     → GivesParts p v (IsAmong 1 (first_on 1 first) (1 + SECTOR_POINTERS)) a b → GivesParts p v (IsAmong 2 (first_on 2 first) 1) b new → GivesParts p v (IsFor first) old new
 all_given {v = v} {first} {old} inside few x y z =
     given_weaker (given_joined inside (given_joined inside x y) z) (λ at way. for_from first at few way) (λ at here. from_for old.sectors v first at few here)
+
+-- the sector of pointers that the inode names is none to give
+pub no_indirect : {p : Place} {v : Inode} {first : ℕ} {txn : TxnState} → HasBitmaps p txn → (DIRECT_BLOCKS < first) ⊎ (v.indirect ≡ 0)
+    → GivesParts p v (IsAmong 1 (first_on 1 first) 1) txn txn
+no_indirect {v = v} {first} {txn} h way = holes_given h (λ i from lt. elim way [
+  | inl past ↦ absurd (omega (arith, from, lt, past))
+  | inr none ↦ ap (number_on txn.sectors v 1) (omega (arith, lt)) ∙ number_on_indirect txn.sectors v ∙ none
+])
+
+-- or it is given
+pub indirect_given : {p : Place} {v : Inode} {first : ℕ} {old new : TxnState} → HasBitmaps p old → IsInData p old.sectors v → first ≤ DIRECT_BLOCKS → v.indirect ≢ 0
+    → GivesNumber p BlockMap v.indirect old.sectors new.sectors → HasBitmaps p new → PutsOnly (λ t. t ≡ sector_of BlockMap v.indirect) (bitmaps p) 0 old new
+    → GivesParts p v (IsAmong 1 (first_on 1 first) 1) old new
+indirect_given {p} {v} {first} {old} {new} h inside low some given bits puts =
+    let serves : 0 ≡ first_on 1 first = omega (arith, low) in
+    subst (λ (m : ℕ). GivesParts p v (IsAmong 1 m 1) old new) serves
+    (number_given inside (none_among {first = 0} h) (omega arith) (number_on_indirect old.sectors v) some given bits puts)
+
+-- and without a double indirect sector there is no other
+pub all_given_direct : {p : Place} {v : Inode} {first : ℕ} {old mid new : TxnState} → IsInData p old.sectors v → first ≤ MAX_BLOCKS → v.double_indirect ≡ 0
+    → GivesParts p v (IsAmong 0 first MAX_BLOCKS) old mid → GivesParts p v (IsAmong 1 (first_on 1 first) 1) mid new → GivesParts p v (IsFor first) old new
+all_given_direct {v = v} {first} {old} {mid} {new} inside few none x y =
+    all_given inside few x (rest_given y (1 + SECTOR_POINTERS) (omega arith) (λ j ge. number_on_without mid.sectors v j ge none))
+    (holes_given y.tables (λ i from lt. ap (number_on new.sectors v 2) (omega (arith, lt)) ∙ number_on_double new.sectors v ∙ none))
 
 -- the inode without it has no block, nor a sector of pointers
 pub emptied_number : (image : SectorMap) (v : Inode) (level i : ℕ) → number_on image (emptied v) level i ≡ 0

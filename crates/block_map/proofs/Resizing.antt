@@ -173,3 +173,44 @@ resizes {p} {m} {old} {start} {mid} {new} {u} {v} {w} may allowed le small same 
           (ap (λ (image : SectorMap). pointer image v k) (sym map) ∙ sym (t.pointers k) ∙ sym (d.kept 0 k (omega (arith, lt))) ∙ sym (sized_pointer new.sectors w m k) ∙ f);
       free = let a = t.free in let b = d.free in let c = free_same p old start same in omega (arith, a, b, c);
     }
+
+-- within the last block
+tail_byte : {image : SectorMap} {v : Inode} {m : ℕ} {bytes then : List ℕ} → Holds image v then → HasZeroTail m bytes then → v.size ≤ 512 * ((m + 511) / 512)
+    → (i : ℕ) → byte_at image v i ≡ get_or (take m bytes) i 0
+tail_byte {m = m} {bytes} {then} h c last i =
+    h.byte i
+    ∙ elim (cases_lt i m) [
+      | inl before ↦ c.before i before ∙ sym (get_or-take m bytes i 0 before)
+      | inr ge ↦ elim (cases_lt i (512 * ((m + 511) / 512))) [
+        | inl within ↦ c.after i ge within ∙ sym (past_cut bytes m i ge)
+        | inr past ↦ get_or_past then i 0 (let z = h.size in omega (arith, z, last, past)) ∙ sym (past_cut bytes m i ge)
+      ]
+    ]
+
+tail_held : {image : SectorMap} {v : Inode} {m : ℕ} {bytes then : List ℕ} → Holds image v then → HasZeroTail m bytes then → v.size ≤ 512 * ((m + 511) / 512)
+    → m ≤ length bytes → Holds image (record v { size = m }) (take m bytes)
+tail_held {image} {v} {m} {bytes} {then} h c last le = record {
+  size = sym (length-take-le m bytes le);
+  byte = λ i. sized_byte image v m i ∙ tail_byte h c last i;
+  trim = λ level i past. sized_number image v m level i ∙ h.trim level i (omega (arith, past, last));
+}
+
+pub resizes_last : {p : Place} {m : ℕ} {old start new : TxnState} {u v : Inode} → MayChange p old v → AllowsSize v.kind m → m ≤ v.size → v.size ≤ MAX_FILE_SIZE
+    → IsUnchanged old start → u ≡ v → ClearsTail p m start new u → v.size ≤ 512 * ((m + 511) / 512) → Resizes p m old new v (record v { size = m })
+resizes_last {p} {m} {old} {start} {new} {u} {v} may allowed le small same e clear_u last =
+    let t : ClearsTail p m start new v = subst (λ (i : Inode). ClearsTail p m start new i) e clear_u in
+    let map : start.sectors ≡ old.sectors = same_map old.sectors start.sectors same.sectors in
+    let steps : Alters p old new v v = altered_after same t.alters in
+    record {
+      alters = alters_joined steps (sized m (may_after may steps) unchanged_nothing allowed (omega (arith, le, small)));
+      puts = changes_weaker {Q = IsStepSector p} (λ n r. r) (omega arith) (puts_after same t.puts);
+      held = λ bytes h.
+          let z = h.size in
+          let there = t.held bytes (subst (λ (image : SectorMap). Holds image v bytes) (sym map) h) in
+          subst (λ (r : List ℕ). Holds new.sectors (record v { size = m }) r) (cut_is_resized bytes m (omega (arith, z, le)))
+          (tail_held there.1 there.2 last (omega (arith, z, le)));
+      whole = λ none less k lt f.
+          none k (omega (arith, lt, less))
+          (ap (λ (image : SectorMap). pointer image v k) (sym map) ∙ sym (t.pointers k) ∙ sym (sized_pointer new.sectors v m k) ∙ f);
+      free = let a = t.free in let c = free_same p old start same in omega (arith, a, c);
+    }

@@ -76,6 +76,31 @@ fn give_listed<S: Sectors>(
     Ok(())
 }
 
+// Gives back the sector of pointers that the inode names, where only blocks from `first` on are found by it.
+fn give_indirect<S: Sectors>(
+    s: &mut S,
+    place: Place,
+    inode: &Inode,
+    first: u64,
+) -> Result<(), DiskFault>
+    requires bitmaps { HasBitmaps place (S.state s.old) }
+    requires inside { IsInData place (S.state s.old).sectors inode.now }
+    requires few { first ≤ MAX_BLOCKS }
+    requires room { HasSpare place 0 (S.state s.old) }
+    ensures given { OnOk result (GivesParts place inode.now (IsAmong 1 (first_on 1 first) 1) (S.state s.old) (S.state s.new)) }
+    ensures store { SameStore (S.state s.old) (S.state s.new) }
+    ensures cause { HasCause (S.state s.old).disk (S.state s.new).disk result }
+{
+    if DIRECT_BLOCKS < first {
+        return Ok(());
+    }
+    if inode.indirect == 0 {
+        return Ok(());
+    }
+    give(s, place, Bitmap::Blocks, inode.indirect)?;
+    Ok(())
+}
+
 /// Gives back the sectors of the blocks from `first` on, and the sectors of pointers by which only such blocks are found. The inode
 /// still points to them.
 pub(crate) fn give_from<S: Sectors>(
@@ -92,6 +117,11 @@ pub(crate) fn give_from<S: Sectors>(
     ensures cause { HasCause (S.state s.old).disk (S.state s.new).disk result }
 {
     give_blocks(s, place, inode, first)?;
+    // No sector of pointers is listed then.
+    if inode.double_indirect == 0 {
+        give_indirect(s, place, inode, first)?;
+        return Ok(());
+    }
     let mut content = [0; BLOCK];
     read_listed(s, inode, 2, 0, &mut content)?;
     let index = first

@@ -155,7 +155,13 @@ fn resize<S: Sectors>(
     let mut blocks = Blocks::new(inode);
     blocks.load(s, size / BLOCK as u64)?;
     clear_tail(s, place, &blocks, size)?;
-    drop_blocks(s, place, &mut blocks.inode, size.div_ceil(BLOCK as u64))?;
+    let end = size.div_ceil(BLOCK as u64);
+    // Past its size an inode has no block: where the last one stays, there is none to drop.
+    if inode.size <= end * BLOCK as u64 {
+        inode.size = size;
+        return Ok(());
+    }
+    drop_blocks(s, place, &mut blocks.inode, end)?;
     blocks.inode.size = size;
     *inode = blocks.inode;
     Ok(())

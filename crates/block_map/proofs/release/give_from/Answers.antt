@@ -7,11 +7,21 @@ use Rattle.bit_alloc.proofs.Soundness.{spare_then}
 use Rattle.fs_layout.specs.declared.inode.TheConstants.{SECTOR_POINTERS}
 use Rattle.block_map.specs.Drops.{GivesParts, IsAmong, first_on}
 use Rattle.block_map.proofs.Numbers.{data_within, has_unchanged}
-use Rattle.block_map.proofs.Givings.{all_given, given_keeps, given_unchanged, in_data, in_data_kept}
+use Rattle.block_map.proofs.Givings.{all_given, all_given_direct, given_keeps, given_unchanged, in_data, in_data_kept}
 use Rattle.block_map.proofs.release.give_from.Goals as goal
 
 pub give_blocks-requires-clause-inside : goal.give_blocks-requires-clause-inside
 give_blocks-requires-clause-inside g c = in_data c.requires.may
+
+pub give_indirect-requires-clause-inside : goal.give_indirect-requires-clause-inside
+give_indirect-requires-clause-inside g c = in_data_kept c.args.place (in_data c.requires.may) (given_keeps (in_data c.requires.may) c.in_ok-give_blocks.ensures.given)
+
+pub give_indirect-requires-clause-room : goal.give_indirect-requires-clause-room
+give_indirect-requires-clause-room g c = spare_then c.args.place 0 0 _ _ (omega (arith, c.requires.room)) c.in_ok-give_blocks.ensures.given.puts
+
+pub returns-then-inode-eq0-clause-given : goal.returns-then-inode-eq0-clause-given
+returns-then-inode-eq0-clause-given g c =
+    all_given_direct (in_data c.requires.may) c.requires.few c.if-inode-eq0.true c.in_ok-give_blocks.ensures.given c.in_ok-give_indirect.ensures.given
 
 pub read_listed-requires-clause-within : goal.read_listed-requires-clause-within
 read_listed-requires-clause-within g c =

@@ -9,7 +9,7 @@ use Rattle.block_map.specs.Drops.{DropsBlocks, cut_by}
 use Rattle.block_map.specs.Steps.{MayChange, blocks_to}
 use Rattle.block_map.proofs.Alterings.{may_after}
 use Rattle.block_map.proofs.Givings.{may_unchanged}
-use Rattle.block_map.proofs.Resizing.{grows, resizes}
+use Rattle.block_map.proofs.Resizing.{grows, resizes, resizes_last}
 use Rattle.block_map.proofs.size.resize.Goals as goal
 
 pub load-requires-clause-within : goal.load-requires-clause-within
@@ -27,6 +27,11 @@ pub clear_tail-requires-clause-may : goal.clear_tail-requires-clause-may
 clear_tail-requires-clause-may g c =
     subst (λ (u : Inode). MayChange c.args.place (g.S.Sectors.state c.load.new.s) u) (sym (c.in_ok-load.ensures.inode ∙ c.new-blocks.ensures.inode)) (may_unchanged c.requires.may c.in_ok-load.ensures.same)
 
+pub returns-then-inode-end-clause-resized : goal.returns-then-inode-end-clause-resized
+returns-then-inode-end-clause-resized g c =
+    resizes_last c.requires.may c.requires.kind (omega (arith, c.if-inode-size.false)) c.requires.limit.1 c.in_ok-load.ensures.same (c.in_ok-load.ensures.inode ∙ c.new-blocks.ensures.inode)
+    c.in_ok-clear_tail.ensures.cleared (omega (arith, c.if-inode-end.true, c.div_ceil-end.ensures))
+
 pub drop_blocks-requires-clause-may : goal.drop_blocks-requires-clause-may
 drop_blocks-requires-clause-may g c =
     may_after
@@ -43,7 +48,7 @@ drop_blocks-requires-clause-room g c =
 
 pub returns-clause-resized : goal.returns-clause-resized
 returns-clause-resized g c =
-    let e : c.div_ceil.result ≡ (c.args.size + 511) / 512 = omega (arith, c.div_ceil.ensures) in
+    let e : c.div_ceil-end.result ≡ (c.args.size + 511) / 512 = omega (arith, c.div_ceil-end.ensures) in
     resizes c.requires.may c.requires.kind (omega (arith, c.if-inode-size.false)) c.requires.limit.1 c.in_ok-load.ensures.same (c.in_ok-load.ensures.inode ∙ c.new-blocks.ensures.inode)
     c.in_ok-clear_tail.ensures.cleared
     (subst (λ (f : ℕ). DropsBlocks c.args.place f (g.S.Sectors.state c.clear_tail.new.s) (g.S.Sectors.state c.drop_blocks.new.s) c.load.new.self.inode c.drop_blocks.new.inode) e
