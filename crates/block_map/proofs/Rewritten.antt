@@ -25,12 +25,16 @@ pub filled : {k : ℕ} {piece x : List ℕ} (at : ℕ) → piece ≡ x → k ≡
 unfolding zeros
 filled {k} {piece} {x} at e wide = part_is_splice (replicate 512 0) piece x at k (length x) refl e wide
 
--- zeros are written as a whole
-pub filled_whole : (at : ℕ) (x : List ℕ) → length x ≡ 512 → at ≡ 0 → x ≡ splice (zeros 512) at x
+-- a sector is written as a whole
+pub written_whole : (s : List ℕ) (at : ℕ) (x : List ℕ) → length s ≡ 512 → length x ≡ 512 → at ≡ 0 → x ≡ splice s at x
 unfolding splice
-filled_whole at x long first =
-    let rest : drop (0 + length x) (zeros 512) ≡ [] = drop_all (0 + length x) (zeros 512) (omega (arith, long, length-zeros 512)) in
-    sym (ap (λ (n : ℕ). splice (zeros 512) n x) first ∙ ap (λ (r : List ℕ). x ++ r) rest ∙ append-nil x)
+written_whole s at x wide long first =
+    let rest : drop (0 + length x) s ≡ [] = drop_all (0 + length x) s (omega (arith, long, wide)) in
+    sym (ap (λ (n : ℕ). splice s n x) first ∙ ap (λ (r : List ℕ). x ++ r) rest ∙ append-nil x)
+
+-- so are zeros
+pub filled_whole : (at : ℕ) (x : List ℕ) → length x ≡ 512 → at ≡ 0 → x ≡ splice (zeros 512) at x
+filled_whole at x = written_whole (zeros 512) at x (length-zeros 512)
 
 -- a number is written at an offset of a list of known length
 pub number_put : (size : ℕ) (s new x : List ℕ) (offset n : ℕ) → length s ≡ size → length x ≡ n → new ≡ x ++ drop n (take (size - offset) (drop offset s)) → offset ≤ size

@@ -1,15 +1,15 @@
 -- Bytes are written and the inode is saved.
-use Rattle.std.proofs.Common.{◌≡◌, ℕ, ◌+◌, ◌-◌, ◌/◌, ◌%◌, ◌≤◌, ◌<◌, ◌*◌, zero, suc, List, [], ◌++◌, length, sym, ap, subst, ◌∙◌, arith, inl, inr}
+use Rattle.std.proofs.Common.{◌≡◌, ◌≢◌, ℕ, ◌+◌, ◌-◌, ◌/◌, ◌%◌, ◌≤◌, ◌<◌, ◌*◌, zero, suc, List, [], ◌++◌, length, sym, ap, subst, ◌∙◌, arith, inl, inr}
 use Rattle.std.specs.Prelude.{max}
 use Rattle.std.proofs.lemmas.Bool.{cases_lt}
 use Rattle.fs_layout.specs.declared.inode.TheConstants.{DIRECT_BLOCKS, MAX_BLOCKS, MAX_DIRECTORY_SIZE, MAX_FILE_SIZE}
 use Rattle.fs_layout.specs.declared.slot.TheConstants.{SLOT_SIZE}
 use Rattle.fs_layout.specs.declared.inode.Inode.{Inode}
 use Rattle.fs_layout.specs.declared.place.Place.{Place}
-use Rattle.fs_layout.specs.Bytes.{SectorMap, zeros, overwritten}
+use Rattle.fs_layout.specs.Bytes.{SectorMap, IsSector, zeros, overwritten}
 use Rattle.fs_layout.specs.Images.{holder, number_on, pointer, Holds, HasNoHole, inode_at, free_sectors}
 use Rattle.fs_layout.specs.InodeChanges.{Saves}
-use Rattle.fs_layout.proofs.Parts.{Holds-kept, HasNoHole-kept}
+use Rattle.fs_layout.proofs.Parts.{Holds-kept, HasNoHole-kept, owns_block}
 use Rattle.fs_layout.proofs.Places.{after_map, before_data}
 use Rattle.sector_txn.specs.Sectors.{TxnState, IsUnchanged, PutsOnly}
 use Rattle.bit_alloc.specs.Room.{bitmaps}
@@ -33,6 +33,11 @@ may_within {p} {txn} {v} may s o =
     let b = before_data may.bitmaps.place in
     let k = may.bitmaps.disk in
     (omega (arith, d.0, m, b), omega (arith, d.1, k))
+
+-- and each of its blocks is a whole sector
+pub block_whole : {p : Place} {txn : TxnState} {v : Inode} {s : ℕ} (k : ℕ) → MayChange p txn v → s ≡ pointer txn.sectors v k → s ≢ 0 → IsSector (txn.sectors s)
+block_whole {txn = txn} {v} k may is some =
+    subst (λ (n : ℕ). IsSector (txn.sectors n)) (sym is) (may.apart.whole (pointer txn.sectors v k) (owns_block txn.sectors v k (λ e. some (is ∙ e))))
 
 -- the size after a write within the limit
 pub limit_at : (m size offset len limit : ℕ) → m ≡ max size (offset + len) → offset ≤ limit - len → len ≤ 4096 → 4096 ≤ limit → limit ≤ MAX_FILE_SIZE

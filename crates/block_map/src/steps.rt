@@ -20,7 +20,7 @@ use fs_layout::{DIRECT_BLOCKS, Place};
 use sector_disk::DiskFault;
 use sector_txn::Sectors;
 
-/// Writes bytes into a sector, from `at` on.
+/// Writes bytes into a sector, from `at` on. One that is written whole is not read before.
 pub(crate) fn rewrite<S: Sectors>(
     s: &mut S,
     number: u32,
@@ -30,6 +30,7 @@ pub(crate) fn rewrite<S: Sectors>(
     requires part { 128 ≤ number }
     requires on_disk { number < (S.state s.old).disk.size }
     requires fits { at + length bytes.now ≤ 512 }
+    requires whole { IsSector ((S.state s.old).sectors number) }
     requires room { (S.state s.old).has_put number ≡ false → 0 < (S.state s.old).room }
     ensures written { OnOk result (Puts number (splice ((S.state s.old).sectors number) at bytes.now)
         (S.state s.old).sectors (S.state s.new).sectors) }
@@ -37,6 +38,10 @@ pub(crate) fn rewrite<S: Sectors>(
     ensures store { SameStore (S.state s.old) (S.state s.new) }
     ensures cause { HasCause (S.state s.old).disk (S.state s.new).disk result }
 {
+    if let Some(whole) = bytes.as_array() {
+        s.put(number, whole);
+        return Ok(());
+    }
     let mut block = [0; BLOCK];
     s.get(number, &mut block)?;
     (&mut block[at..at + bytes.len()]).copy_from_slice(bytes);

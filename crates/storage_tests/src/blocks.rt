@@ -174,7 +174,7 @@ fn calls(rt: HostRuntime) -> Result<(), Fail> {
             (Call::Read(508), [0, 0, 7, 7], 1, 0),
             (Call::Read(510), [7, 7, 7, 7], 2, 0),
             (Call::Read(512), [7, 7, 9, 9], 1, 0),
-            (Call::Write(0, 1024), done, 3, 3),
+            (Call::Write(0, 1024), done, 1, 3),
             (Call::Overwrite(508), done, 1, 1),
             (Call::Read(510), [5, 5, 7, 7], 2, 0),
             (Call::SetSize(513), done, 2, 2),

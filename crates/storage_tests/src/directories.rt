@@ -236,7 +236,7 @@ fn changes(rt: HostRuntime) -> Result<(), Fail> {
         (2, Call::Remove, 0, (Ok(1), 5, 3)),
         (2, Call::Remove, 1, (Ok(1), 3, 2)),
         (2, Call::Remove, 2, (Err(DirFault::Absent), 1, 0)),
-        (50, Call::Remove, 0, (Ok(49), 9, 4)),
+        (50, Call::Remove, 0, (Ok(49), 7, 3)),
         (49, Call::Remove, 48, (Ok(48), 20, 3)),
         (2, Call::Replace, 0, (Ok(2), 2, 1)),
         (2, Call::Replace, 2, (Err(DirFault::Absent), 1, 0)),

@@ -7,6 +7,7 @@ use Rattle.sector_txn.proofs.TransactionRuns.{changes_beside, changes_weaker}
 use Rattle.bit_alloc.specs.Room.{bitmaps}
 use Rattle.block_map.specs.Steps.{IsStepSector}
 use Rattle.block_map.proofs.Resizing.{tail_kept, at_a_block, hole_is_clear, some_zeros, tail_written}
+use Rattle.block_map.proofs.Wrote.{block_whole}
 use Rattle.block_map.proofs.size.clear_tail.Goals as goal
 
 pub returns-then-at-eq0-clause-cleared : goal.returns-then-at-eq0-clause-cleared
@@ -39,6 +40,10 @@ rewrite-requires-clause-on_disk g c =
     let is : c.number-number.result ≡ pointer old.sectors v k = c.number-number.ensures old.sectors c.requires.loaded in
     let d = c.requires.may.apart.each (pointer old.sectors v k) (owns_block old.sectors v k (λ e. c.if-number-eq0.false (is ∙ e))) in
     omega (arith, is, d.1, c.requires.may.bitmaps.disk)
+
+pub rewrite-requires-clause-whole : goal.rewrite-requires-clause-whole
+rewrite-requires-clause-whole g c =
+    block_whole (c.args.size / 512) c.requires.may (c.number-number.ensures (g.S.Sectors.state c.args.s.now).sectors c.requires.loaded) c.if-number-eq0.false
 
 pub returns-clause-cleared : goal.returns-clause-cleared
 returns-clause-cleared g c =

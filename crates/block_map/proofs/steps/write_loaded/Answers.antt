@@ -13,7 +13,7 @@ use Rattle.block_map.proofs.Numbers.{at_hand_near, listed_within, loaded_sector}
 use Rattle.block_map.proofs.Rewritten.{was_full}
 use Rattle.block_map.proofs.Rooms.{lacking_unput, puts_beside}
 use Rattle.block_map.proofs.Writings.{there_at_hand, writes_block_there, direct_at_hand, writes_direct_block, entry_at_hand, pointers_are, writes_entry_block}
-use Rattle.block_map.proofs.Wrote.{may_within}
+use Rattle.block_map.proofs.Wrote.{block_whole, may_within}
 use Rattle.block_map.proofs.steps.write_loaded.Goals as goal
 
 pub rewrite-requires-clause-part : goal.rewrite-requires-clause-part
@@ -33,6 +33,10 @@ rewrite-requires-clause-on_disk g c =
     let is : c.number-number.result ≡ pointer old.sectors v c.args.k = c.number-number.ensures old.sectors c.requires.loaded in
     let d = c.requires.may.apart.each (pointer old.sectors v c.args.k) (owns_block old.sectors v c.args.k (λ e. c.if-number-ne0.true (is ∙ e))) in
     omega (arith, is, d.1, c.requires.may.bitmaps.disk)
+
+pub rewrite-requires-clause-whole : goal.rewrite-requires-clause-whole
+rewrite-requires-clause-whole g c =
+    block_whole c.args.k c.requires.may (c.number-number.ensures (g.S.Sectors.state c.args.s.now).sectors c.requires.loaded) c.if-number-ne0.true
 
 pub returns-then-number-ne0-clause-written : goal.returns-then-number-ne0-clause-written
 returns-then-number-ne0-clause-written g c =

@@ -1,12 +1,12 @@
 use Rattle.std.proofs.Common.{◌≡◌, ◌+◌, ◌*◌, ◌/◌, ◌%◌, ℕ, sym, subst, ◌∙◌, arith, rules}
-use Rattle.fs_layout.specs.Bytes.{splice}
+use Rattle.fs_layout.specs.Bytes.{IsSector, splice}
 use Rattle.fs_layout.specs.declared.inode.Inode.{Inode}
 use Rattle.block_map.specs.Blocks.{IsWithin}
 use Rattle.fs_layout.specs.Images.{pointer, Holds}
 use Rattle.fs_layout.proofs.Parts.{owns_block}
 use Rattle.block_map.specs.Steps.{MayChange}
 use Rattle.block_map.proofs.Overwriting.{used_may_change, loaded_number, over_changes, over_holds, over_whole}
-use Rattle.block_map.proofs.Wrote.{may_within}
+use Rattle.block_map.proofs.Wrote.{block_whole, may_within}
 use Rattle.block_map.proofs.write.overwrite.Goals as goal
 
 pub load-requires-clause-within : goal.load-requires-clause-within
@@ -34,6 +34,12 @@ rewrite-requires-clause-on_disk g c =
     let is = loaded_number (g.S.Sectors.state c.args.s.now).sectors (c.args.offset / 512) (c.number.ensures (g.S.Sectors.state c.args.s.now).sectors c.in_ok-load.ensures.loaded) (c.in_ok-load.ensures.inode ∙ c.new-blocks.ensures.inode) in
     let w = may_within may (pointer old.sectors v (c.args.offset / 512)) (owns_block old.sectors v (c.args.offset / 512) c.requires.no_hole) in
     omega (arith, is, w.1, c.in_ok-load.ensures.same.store.reads.narrowed.size)
+
+pub rewrite-requires-clause-whole : goal.rewrite-requires-clause-whole
+rewrite-requires-clause-whole g c =
+    let may : MayChange c.args.place (g.S.Sectors.state c.args.s.now) c.args.inode.now = used_may_change c.requires.sound c.requires.below c.requires.inode c.requires.used in
+    let is = loaded_number (g.S.Sectors.state c.args.s.now).sectors (c.args.offset / 512) (c.number.ensures (g.S.Sectors.state c.args.s.now).sectors c.in_ok-load.ensures.loaded) (c.in_ok-load.ensures.inode ∙ c.new-blocks.ensures.inode) in
+    subst IsSector (sym (c.in_ok-load.ensures.same.sectors c.number.result)) (block_whole (c.args.offset / 512) may is (λ e. c.requires.no_hole (sym is ∙ e)))
 
 pub returns-clause-change : goal.returns-clause-change
 returns-clause-change g c =
