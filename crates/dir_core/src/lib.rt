@@ -13,8 +13,9 @@
 //! | [`replace`] | as [`lookup`]; then the block, and the sector of pointers if it is past the first 12 | 1 |
 //! | [`rename`] | as [`replace`] | 1 |
 //!
-//! Where `k` is above 1, a name that was found lately is looked for first in the block where it was: [`lookup`] then reads that
-//! block alone, with the sector of pointers if it is past the first 12. If the name has left the block, they are read beside the others.
+//! Where `k` is above 1, a name that was found lately is looked for first in the block where it was: then [`lookup`] reads that
+//! block alone, and the sector of pointers if it is past the first 12. Where the name has left the block, both are read beside
+//! the others.
 #![tactic(auto)]
 
 mod change;
