@@ -18,7 +18,6 @@ use Rattle.fs_shell.specs.declared.answer.Answer.TheVariants.{Nothing, Reply, Fa
 use Rattle.fs_shell.specs.declared.answer.Count.{Count}
 use Rattle.fs_shell.specs.declared.fault.RunFault.{RunFault}
 use Rattle.fs_shell.specs.declared.fault.RunFault.TheVariants.{TooMuch}
-use Rattle.fs_lines.specs.declared.line.Line.{Line}
 use Rattle.fs_lines.specs.declared.line.Line.TheVariants.{Blank, Event as Asks}
 use Rattle.fs_lines.specs.declared.line.LineFault.{LineFault}
 use Rattle.fs_lines.specs.declared.line.LineFault.TheVariants.{OutOfMemory}
