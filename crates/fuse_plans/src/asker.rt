@@ -52,11 +52,12 @@ pub(crate) fn ask_call<M: Machine>(machine: &mut M, pid: usize, call: &Call) -> 
 }
 
 /// The reply to an event, unless that is a refusal.
-pub(crate) fn obtain<M: Machine>(machine: &mut M, event: &Event) -> Result<Reply, Stop>
-    requires { IsTrue (is_of_machine event.now) }
-    ensures { DidByMachine M.Serves (obtain event.now) machine.old machine.new result }
+pub(crate) fn obtain<M: Machine>(machine: &mut M, event: Event) -> Result<Reply, Stop>
+    requires { IsTrue (is_of_machine event) }
+    ensures { DidByMachine M.Serves (obtain event) machine.old machine.new result }
 {
-    let reply = ask(machine, event);
+    let reply = ask(machine, &event);
+    mem::drop(event);
     unless_refused(reply)
 }
 
@@ -70,6 +71,19 @@ pub(crate) fn obtain_call<M: Machine>(
 {
     let reply = ask_call(machine, pid, call);
     unless_refused(reply)
+}
+
+/// The same of a call that is made once.
+pub(crate) fn obtain_once<M: Machine>(
+    machine: &mut M,
+    pid: usize,
+    call: Call,
+) -> Result<Reply, Stop>
+    ensures { DidByMachine M.Serves (obtain (Calls pid call)) machine.old machine.new result }
+{
+    let reply = obtain_call(machine, pid, &call);
+    mem::drop(call);
+    reply
 }
 
 // A process goes to a directory, and with the second names of its calls to another.
@@ -96,7 +110,7 @@ pub(crate) fn between<M: Machine>(
 ) -> Result<Reply, Stop>
     ensures { DidByMachine M.Serves (between pid directory second call.now) machine.old machine.new result }
 {
-    unless_refused(enter(machine, pid, directory, second))?;
+    mem::drop(unless_refused(enter(machine, pid, directory, second))?);
     let reply = ask_call(machine, pid, call);
     let back = enter(machine, pid, ROOT, ROOT);
     mem::drop(back);

@@ -6,7 +6,7 @@ ghost use Rattle.fuse_plans.specs.Performing.{Did};
 ghost use Rattle.fuse_plans.specs.Works.{of_result};
 ghost use Rattle.fs_cred.specs.Ownership.{counts_as_owner};
 
-use crate::asker::obtain_call;
+use crate::asker::obtain_once;
 use crate::machine::Machine;
 use crate::name::attributes;
 use crate::replies::target_of_reply;
@@ -19,6 +19,7 @@ use fs_model::{Bytes, Call, FileType, Reply, Status};
 use fuse_protocol::{AttrChanges, NewTime, Time};
 use fuse_state::{Server, Times, descriptor_of, owner_of};
 use posix_acl::Perms;
+use std::mem;
 
 /// Whether it is known to be a symbolic link.
 pub(crate) fn is_known_link(kind: Option<FileType>) -> bool
@@ -165,12 +166,12 @@ impl<M: Machine> Session<M> {
         ensures kept { self.new.server ≡ self.old.server }
     {
         let Some(handle) = handle else {
-            let mut call = Call::Truncate(self.blank_path(), size);
-            return self.on(pid, inode, &mut call);
+            let call = Call::Truncate(self.blank_path(), size);
+            return self.on_once(pid, inode, call);
         };
         let _opened = self.the_open(handle)?;
         let call = Call::Ftruncate(descriptor_of(handle), size);
-        obtain_call(&mut self.machine, owner_of(handle), &call)
+        obtain_once(&mut self.machine, owner_of(handle), call)
     }
 
     fn set_size(
@@ -188,7 +189,7 @@ impl<M: Machine> Session<M> {
         let Some(size) = size else {
             return Ok(());
         };
-        self.resize_object(pid, inode, size, handle)?;
+        mem::drop(self.resize_object(pid, inode, size, handle)?);
         self.server.touch(now, inode);
         Ok(())
     }
@@ -209,8 +210,8 @@ impl<M: Machine> Session<M> {
         }
         let (owner, group) = owners;
         let path = self.blank_path();
-        let mut call = Call::Chown { path, owner, group };
-        self.on(pid, inode, &mut call)?;
+        let call = Call::Chown { path, owner, group };
+        mem::drop(self.on_once(pid, inode, call)?);
         self.server.change(now, inode);
         Ok(())
     }
@@ -223,8 +224,8 @@ impl<M: Machine> Session<M> {
         let Some(mode) = mode else {
             return Ok(());
         };
-        let mut call = Call::Chmod(self.blank_path(), (mode & 0o7777) as u16);
-        self.on(pid, inode, &mut call)?;
+        let call = Call::Chmod(self.blank_path(), (mode & 0o7777) as u16);
+        mem::drop(self.on_once(pid, inode, call)?);
         self.server.change(now, inode);
         Ok(())
     }
@@ -266,8 +267,8 @@ impl<M: Machine> Session<M> {
         if needs_owner(link, changes) {
             return Err(Stop::EPERM);
         }
-        let mut call = Call::Access(self.blank_path(), Perms::from_digit(2));
-        self.on(pid, inode, &mut call)?;
+        let call = Call::Access(self.blank_path(), Perms::from_digit(2));
+        mem::drop(self.on_once(pid, inode, call)?);
         Ok(())
     }
 
@@ -321,8 +322,8 @@ impl<M: Machine> Session<M> {
     {
         let inode = self.the_number(asked.node)?;
         let pid = self.the_looker()?;
-        let mut call = Call::Readlink(self.blank_path());
-        let reply = self.on(pid, inode, &mut call)?;
+        let call = Call::Readlink(self.blank_path());
+        let reply = self.on_once(pid, inode, call)?;
         let Some(target) = target_of_reply(reply) else {
             return Err(Stop::EIO);
         };
@@ -336,8 +337,8 @@ impl<M: Machine> Session<M> {
         ensures room { self.old.server.room ≤ self.new.server.room + 1 }
     {
         let pid = self.caller(who)?;
-        let mut call = Call::Access(self.blank_path(), perms);
-        self.on(pid, inode, &mut call)?;
+        let call = Call::Access(self.blank_path(), perms);
+        mem::drop(self.on_once(pid, inode, call)?);
         Ok(())
     }
 

@@ -15,6 +15,7 @@ use bitflags::Flags as _;
 use fs_cred::Cred;
 use fuse_protocol::{InitFlags, Offer, Terms};
 use fuse_state::Settings;
+use std::mem;
 
 // The version that is spoken.
 const VERSION: u32 = 7;
@@ -103,7 +104,9 @@ impl<M: Machine> Session<M> {
         ensures room { self.old.server.room ≤ self.new.server.room }
     {
         let reply = unless_refused(ask_spawn(&mut self.machine, &own))?;
-        let Some(pid) = pid_of_reply(&reply) else {
+        let pid = pid_of_reply(&reply);
+        mem::drop(reply);
+        let Some(pid) = pid else {
             return Err(Stop::EIO);
         };
         self.server.set_looker(pid);

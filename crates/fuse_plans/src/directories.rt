@@ -4,7 +4,7 @@ ghost use Rattle.fuse_plans.specs.Callers.{has_place};
 ghost use Rattle.fuse_plans.specs.DirectoryPlans.{open_directory, tell_names, list_open, list_all, read_directory, close_directory};
 ghost use Rattle.fuse_plans.specs.Performing.{Did, DidByMachine};
 
-use crate::asker::{ask_call, obtain_call};
+use crate::asker::{ask_call, obtain_once};
 use crate::flags::listing;
 use crate::listing::listing_bytes;
 use crate::machine::Machine;
@@ -19,12 +19,13 @@ use fs_model::{Call, Listing};
 use fuse_protocol::Extent;
 use fuse_state::OpenDirectory;
 use posix_acl::Perms;
+use std::mem;
 
 // The names in what is open.
 fn tell_names<M: Machine>(machine: &mut M, pid: usize, fd: usize) -> Result<Listing, Stop>
     ensures { DidByMachine M.Serves (tell_names pid fd) machine.old machine.new result }
 {
-    let reply = obtain_call(machine, pid, &Call::Readdir(fd))?;
+    let reply = obtain_once(machine, pid, Call::Readdir(fd))?;
     match names_of_reply(reply) {
         Some(names) => Ok(names),
         None => Err(Stop::EIO),
@@ -38,7 +39,9 @@ fn list_open<M: Machine>(machine: &mut M, pid: usize, fd: usize) -> Result<Listi
     match tell_names(machine, pid, fd) {
         Ok(names) => Ok(names),
         Err(stop) => {
-            let _closed = ask_call(machine, pid, &Call::Close(fd));
+            let call = Call::Close(fd);
+            mem::drop(ask_call(machine, pid, &call));
+            mem::drop(call);
             Err(stop)
         }
     }
@@ -72,13 +75,15 @@ impl<M: Machine> Session<M> {
         ensures kept { self.new.server ≡ self.old.server }
     {
         let pid = self.the_looker()?;
-        let mut call = Call::Open(self.blank_path(), listing(), 0);
-        let opened = self.on(pid, inode, &mut call)?;
-        let Some(fd) = fd_of_reply(&opened) else {
+        let call = Call::Open(self.blank_path(), listing(), 0);
+        let opened = self.on_once(pid, inode, call)?;
+        let fd = fd_of_reply(&opened);
+        mem::drop(opened);
+        let Some(fd) = fd else {
             return Err(Stop::EIO);
         };
         let names = list_open(&mut self.machine, pid, fd)?;
-        obtain_call(&mut self.machine, pid, &Call::Close(fd))?;
+        mem::drop(obtain_once(&mut self.machine, pid, Call::Close(fd))?);
         Ok(names)
     }
 

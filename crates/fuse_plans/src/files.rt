@@ -6,7 +6,7 @@ ghost use Rattle.fuse_plans.specs.Flags.{is_trunc, is_excl};
 ghost use Rattle.fuse_plans.specs.Stops.{is_for};
 ghost use Rattle.fuse_plans.specs.Performing.{Did, DidByMachine};
 
-use crate::asker::{ask_call, between, obtain_call};
+use crate::asker::{ask_call, between, obtain_once};
 use crate::flags::{Mode, creating, is_excl, is_exec, is_trunc, opening};
 use crate::machine::Machine;
 use crate::name::{attributes, place, plain_name};
@@ -22,6 +22,7 @@ use fs_model::{Call, Path, Reply, Status};
 use fuse_protocol::{OpenFlags, Time};
 use fuse_state::{Place, Server, descriptor_of};
 use posix_acl::Perms;
+use std::mem;
 
 // Whether a file that is opened for reading alone is to lose its bytes.
 fn cuts_first(flags: OpenFlags, mode: Mode) -> bool
@@ -117,8 +118,10 @@ fn open_or_make<M: Machine>(
 fn show_open<M: Machine>(machine: &mut M, pid: usize, fd: usize) -> Result<Status, Stop>
     ensures { DidByMachine M.Serves (show_open pid fd) machine.old machine.new result }
 {
-    let reply = obtain_call(machine, pid, &Call::Fstat(fd))?;
-    match status_of_reply(&reply) {
+    let reply = obtain_once(machine, pid, Call::Fstat(fd))?;
+    let status = status_of_reply(&reply);
+    mem::drop(reply);
+    match status {
         Some(status) => Ok(status),
         None => Err(Stop::EIO),
     }
@@ -131,7 +134,9 @@ fn look_open<M: Machine>(machine: &mut M, pid: usize, fd: usize) -> Result<Statu
     match show_open(machine, pid, fd) {
         Ok(status) => Ok(status),
         Err(stop) => {
-            let _closed = ask_call(machine, pid, &Call::Close(fd));
+            let call = Call::Close(fd);
+            mem::drop(ask_call(machine, pid, &call));
+            mem::drop(call);
             Err(stop)
         }
     }
@@ -149,10 +154,10 @@ impl<M: Machine> Session<M> {
         ensures did { Did M.Serves (ask_first pid inode flags.0 mode) self.old self.new result }
         ensures kept { self.new.server ≡ self.old.server }
     {
-        let mut run = Call::Access(self.blank_path(), Perms::from_digit(1));
-        self.on_if(is_exec(flags), pid, inode, &mut run)?;
-        let mut cut = Call::Truncate(self.blank_path(), 0);
-        self.on_if(cuts_first(flags, mode), pid, inode, &mut cut)
+        let run = Call::Access(self.blank_path(), Perms::from_digit(1));
+        self.on_if(is_exec(flags), pid, inode, run)?;
+        let cut = Call::Truncate(self.blank_path(), 0);
+        self.on_if(cuts_first(flags, mode), pid, inode, cut)
     }
 
     // Opens an object: its handle.
@@ -167,9 +172,11 @@ impl<M: Machine> Session<M> {
         requires { 2 ≤ self.old.server.room }
         ensures { Did M.Serves (open_object now pid inode flags.0 mode) self.old self.new result }
     {
-        let mut call = Call::Open(self.blank_path(), opening(mode, is_trunc(flags)), 0);
-        let reply = self.on(pid, inode, &mut call)?;
-        let Some(handle) = handle_within(pid, fd_of_reply(&reply)) else {
+        let call = Call::Open(self.blank_path(), opening(mode, is_trunc(flags)), 0);
+        let reply = self.on_once(pid, inode, call)?;
+        let fd = fd_of_reply(&reply);
+        mem::drop(reply);
+        let Some(handle) = handle_within(pid, fd) else {
             return Err(Stop::EIO);
         };
         touch_if(&mut self.server, is_trunc(flags), now, inode);
@@ -238,10 +245,12 @@ impl<M: Machine> Session<M> {
         let directory = self.directory_number(asked.node)?;
         let pid = self.caller_with_room(copy)?;
         let machine = &mut self.machine;
-        set_umask(machine, pid, umask)?;
+        mem::drop(set_umask(machine, pid, umask)?);
         let (opened, name) = open_or_make(machine, pid, directory, name, mode, flags, file_mode);
         let (reply, is_new) = opened?;
-        let Some(handle) = handle_within(pid, fd_of_reply(&reply)) else {
+        let fd = fd_of_reply(&reply);
+        mem::drop(reply);
+        let Some(handle) = handle_within(pid, fd) else {
             return Err(Stop::EIO);
         };
         let status = look_open(machine, pid, descriptor_of(handle))?;

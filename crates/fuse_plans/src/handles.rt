@@ -4,7 +4,7 @@ ghost use Rattle.fuse_plans.specs.FilePlans.{seek, pieces_of, read_piece, read_p
 ghost use Rattle.fuse_plans.specs.Performing.{Did, DidByMachine};
 ghost use Rattle.fuse_plans.specs.Works.{of_result};
 
-use crate::asker::{obtain, obtain_call};
+use crate::asker::{obtain, obtain_call, obtain_once};
 use crate::machine::Machine;
 use crate::replies::{count_of_reply, count_within, data_of_reply, within};
 use crate::reply::ReplyBody;
@@ -14,6 +14,7 @@ use fs_model::{Bytes, Call, Event, Reply, Whence};
 use fuse_protocol::{Extent, Time};
 use fuse_state::{descriptor_of, owner_of};
 use std::alloc::{AllocError, Global};
+use std::mem;
 
 // So many bytes are moved at once.
 const MOVE: usize = 4096;
@@ -28,7 +29,7 @@ fn seek<M: Machine>(machine: &mut M, pid: usize, fd: usize, offset: u64) -> Resu
     if offset >= OFFSETS {
         return Err(Stop::EINVAL);
     }
-    obtain_call(machine, pid, &Call::Lseek(fd, Whence::Set, offset as i64))
+    obtain_once(machine, pid, Call::Lseek(fd, Whence::Set, offset as i64))
 }
 
 // A piece of at most so many bytes.
@@ -41,7 +42,7 @@ fn read_piece<M: Machine>(
     ensures did { DidByMachine M.Serves (read_piece pid fd most) machine.old machine.new result }
     ensures most { IfOk result (λ piece. length piece ≤ most) }
 {
-    let reply = obtain_call(machine, pid, &Call::Read { fd, len: most })?;
+    let reply = obtain_once(machine, pid, Call::Read { fd, len: most })?;
     match within(most, data_of_reply(reply)) {
         Some(piece) => Ok(piece),
         None => Err(Stop::EIO),
@@ -96,7 +97,9 @@ fn write_piece<M: Machine>(machine: &mut M, pid: usize, call: &Call) -> Result<u
     ensures most { IfOk result (λ count. count ≤ length_written call.now) }
 {
     let reply = obtain_call(machine, pid, call)?;
-    match count_within(length_written(call), count_of_reply(&reply)) {
+    let count = count_of_reply(&reply);
+    mem::drop(reply);
+    match count_within(length_written(call), count) {
         Some(count) => Ok(count),
         None => Err(Stop::EIO),
     }
@@ -158,7 +161,7 @@ impl<M: Machine> Session<M> {
         let _inode = self.the_open(extent.handle)?;
         let pid = owner_of(extent.handle);
         let fd = descriptor_of(extent.handle);
-        seek(&mut self.machine, pid, fd, extent.offset)?;
+        mem::drop(seek(&mut self.machine, pid, fd, extent.offset)?);
         let bytes = read_pieces(&mut self.machine, pid, fd, extent.size as usize, room)?;
         Ok(ReplyBody::Bytes(bytes))
     }
@@ -177,7 +180,7 @@ impl<M: Machine> Session<M> {
     {
         let inode = self.the_open(handle)?;
         let pid = owner_of(handle);
-        seek(&mut self.machine, pid, descriptor_of(handle), offset)?;
+        mem::drop(seek(&mut self.machine, pid, descriptor_of(handle), offset)?);
         let count = write_pieces(&mut self.machine, pid, calls)?;
         self.server.touch(now, inode);
         Ok(ReplyBody::Wrote(count))
@@ -189,7 +192,7 @@ impl<M: Machine> Session<M> {
     {
         let _inode = self.the_open(handle)?;
         let call = Call::Close(descriptor_of(handle));
-        obtain_call(&mut self.machine, owner_of(handle), &call)?;
+        mem::drop(obtain_once(&mut self.machine, owner_of(handle), call)?);
         self.server.remove_handle(handle);
         Ok(ReplyBody::Nothing)
     }
@@ -203,7 +206,7 @@ impl<M: Machine> Session<M> {
             pid: owner_of(handle),
             fd: descriptor_of(handle),
         };
-        obtain(&mut self.machine, &event)?;
+        mem::drop(obtain(&mut self.machine, event)?);
         Ok(ReplyBody::Nothing)
     }
 }

@@ -4,7 +4,7 @@ ghost use Rattle.fuse_plans.specs.NamePlans.{directory_for, find_name, made, mak
 ghost use Rattle.fuse_plans.specs.Paths.{name_in};
 ghost use Rattle.fuse_plans.specs.Performing.{Did, DidByMachine};
 
-use crate::asker::{between, done, done_between, obtain_call};
+use crate::asker::{between, done, done_between, obtain_once};
 use crate::flags::making;
 use crate::machine::Machine;
 use crate::name::{found_body, only_file, or_absent, place, plain_name};
@@ -24,20 +24,14 @@ use std::mem;
 pub(crate) fn set_umask<M: Machine>(machine: &mut M, pid: usize, umask: u32) -> Result<Reply, Stop>
     ensures { DidByMachine M.Serves (set_umask pid umask) machine.old machine.new result }
 {
-    let call = Call::Umask((umask & 0o777) as u16);
-    let reply = obtain_call(machine, pid, &call);
-    mem::drop(call);
-    reply
+    obtain_once(machine, pid, Call::Umask((umask & 0o777) as u16))
 }
 
 // Closes a descriptor.
 fn close<M: Machine>(machine: &mut M, pid: usize, fd: usize) -> Result<(), Stop>
     ensures { DidByMachine M.Serves (close pid fd) machine.old machine.new result }
 {
-    let call = Call::Close(fd);
-    let reply = obtain_call(machine, pid, &call);
-    mem::drop(call);
-    done(reply)
+    done(obtain_once(machine, pid, Call::Close(fd)))
 }
 
 // What a call opens in a directory is closed.
@@ -176,7 +170,7 @@ impl<M: Machine> Session<M> {
     {
         let directory = self.directory_for(asked.node, &name)?;
         let pid = self.caller(copy)?;
-        set_umask(&mut self.machine, pid, umask)?;
+        mem::drop(set_umask(&mut self.machine, pid, umask)?);
         let call = Call::Mkdir(name, (mode & 0o7777) as u16);
         self.make_by(asked.now, pid, directory, call)
     }
@@ -197,7 +191,7 @@ impl<M: Machine> Session<M> {
         only_file(mode)?;
         let directory = self.directory_for(asked.node, &name)?;
         let pid = self.caller_with_room(copy)?;
-        set_umask(&mut self.machine, pid, umask)?;
+        mem::drop(set_umask(&mut self.machine, pid, umask)?);
         let call = Call::Open(name, making(), (mode & 0o777) as u16);
         self.make_closed(asked.now, pid, directory, call)
     }

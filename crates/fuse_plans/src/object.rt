@@ -7,7 +7,7 @@ ghost use Rattle.fuse_plans.specs.Paths.{at_path, takes_path};
 ghost use Rattle.fuse_plans.specs.Performing.{Did, DidByMachine};
 ghost use Rattle.fuse_plans.specs.Works.{of_result, replied_status};
 
-use crate::asker::{between, done, obtain_call};
+use crate::asker::{between, done, obtain_once};
 use crate::machine::Machine;
 use crate::number::is_known_directory;
 use crate::path::{name_in, swap_path};
@@ -98,16 +98,17 @@ impl<M: Machine> Session<M> {
         condition: bool,
         pid: usize,
         inode: u32,
-        call: &mut Call,
+        call: Call,
     ) -> Result<(), Stop>
-        requires { IsTrue (takes_path call.old) }
-        ensures did { Did M.Serves (when condition (done (on pid inode (at_path call.old)))) self.old self.new result }
+        requires { IsTrue (takes_path call) }
+        ensures did { Did M.Serves (when condition (done (on pid inode (at_path call)))) self.old self.new result }
         ensures kept { self.new.server ≡ self.old.server }
     {
         if !condition {
+            mem::drop(call);
             return Ok(());
         }
-        done(self.on(pid, inode, call))
+        done(self.on_once(pid, inode, call))
     }
 
     /// A call on an object, by its latest place; the root needs none. The path of the call isn't looked at, and stays.
@@ -130,6 +131,18 @@ impl<M: Machine> Session<M> {
             Ok(reply) => Ok(reply),
             Err(stop) => self.or_inside(pid, inode, call, stop),
         }
+    }
+
+    /// The same of a call that is made once.
+    pub(crate) fn on_once(&mut self, pid: usize, inode: u32, call: Call) -> Result<Reply, Stop>
+        requires { IsTrue (takes_path call) }
+        ensures did { Did M.Serves (on pid inode (at_path call)) self.old self.new result }
+        ensures kept { self.new.server ≡ self.old.server }
+    {
+        let mut call = call;
+        let reply = self.on(pid, inode, &mut call);
+        mem::drop(call);
+        reply
     }
 
     // In a directory that the caller may not search it may stand all the same.
@@ -171,10 +184,8 @@ impl<M: Machine> Session<M> {
     {
         if has_place(&self.server, inode) {
             let pid = self.the_looker()?;
-            let mut call = Call::Lstat(Path::new(Vec::new(self.alloc)));
-            let reply = self.on(pid, inode, &mut call);
-            mem::drop(call);
-            reply
+            let call = Call::Lstat(Path::new(Vec::new(self.alloc)));
+            self.on_once(pid, inode, call)
         } else {
             self.by_handle(inode)
         }
@@ -188,8 +199,6 @@ impl<M: Machine> Session<M> {
             return Err(Stop::ESTALE);
         };
         let call = Call::Fstat(descriptor_of(handle));
-        let reply = obtain_call(&mut self.machine, owner_of(handle), &call);
-        mem::drop(call);
-        reply
+        obtain_once(&mut self.machine, owner_of(handle), call)
     }
 }

@@ -11,6 +11,7 @@ use crate::reply::ReplyBody;
 use crate::session::Session;
 use crate::stop::Stop;
 use fs_model::Event;
+use std::mem;
 
 impl<M: Machine> Session<M> {
     /// How much room there is.
@@ -18,8 +19,10 @@ impl<M: Machine> Session<M> {
         ensures did { Did M.Serves count_space self.old self.new result }
         ensures room { self.old.server.room ≤ self.new.server.room }
     {
-        let reply = obtain(&mut self.machine, &Event::Statfs)?;
-        let Some((free_sectors, free_inodes)) = space_of_reply(&reply) else {
+        let reply = obtain(&mut self.machine, Event::Statfs)?;
+        let space = space_of_reply(&reply);
+        mem::drop(reply);
+        let Some((free_sectors, free_inodes)) = space else {
             return Err(Stop::EIO);
         };
         let settings = self.server.settings();
@@ -36,7 +39,7 @@ impl<M: Machine> Session<M> {
         ensures did { Did M.Serves sync_all self.old self.new result }
         ensures room { self.old.server.room ≤ self.new.server.room }
     {
-        obtain(&mut self.machine, &Event::Sync)?;
+        mem::drop(obtain(&mut self.machine, Event::Sync)?);
         Ok(ReplyBody::Nothing)
     }
 

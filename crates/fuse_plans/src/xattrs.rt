@@ -20,6 +20,7 @@ use fs_model::{AclType, Bytes, Call, FileType};
 use fuse_state::Server;
 use posix_acl::Acl;
 use std::alloc::{AllocError, Global};
+use std::mem;
 
 // The ACL that an attribute is.
 fn the_acl(name: &[u8]) -> Result<AclType, Stop>
@@ -147,8 +148,8 @@ impl<M: Machine> Session<M> {
         ensures kept { self.new.server ≡ self.old.server }
     {
         let pid = self.the_looker()?;
-        let mut call = Call::GetAcl(self.blank_path(), which);
-        let reply = self.on(pid, inode, &mut call)?;
+        let call = Call::GetAcl(self.blank_path(), which);
+        let reply = self.on_once(pid, inode, call)?;
         match acl_of_reply(reply) {
             Some(acl) => Ok(told_acl(which, acl)),
             None => Err(Stop::EIO),
@@ -244,8 +245,8 @@ impl<M: Machine> Session<M> {
         }
         let pid = self.caller(copy)?;
         let acl = self.acl_set(inode, which, wanted, spare)?;
-        let mut call = Call::SetAcl(self.blank_path(), which, acl);
-        self.on(pid, inode, &mut call)?;
+        let call = Call::SetAcl(self.blank_path(), which, acl);
+        mem::drop(self.on_once(pid, inode, call)?);
         self.server.change(asked.now, inode);
         Ok(ReplyBody::Nothing)
     }

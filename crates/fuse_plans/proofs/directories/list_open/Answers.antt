@@ -10,4 +10,4 @@ returns-in-Ok g c =
 pub returns-in-Err : goal.returns-in-Err
 unfolding list_open
 returns-in-Err g c =
-    machine-ok _ (machine-attempts _ c.in-Err.ensures) (machine-ok _ c.ask_call-closed.ensures (machine-stops _ _))
+    machine-ok _ (machine-attempts _ c.in-Err.ensures) (machine-ok _ c.ask_call.ensures (machine-stops _ _))

@@ -14,7 +14,7 @@ unfolding show_open
 returns-in-Some g c =
     machine-ok _ c.in_ok-reply.ensures (machine-needs-last _ (sym c.in-Some.ensures))
 
-pub returns : goal.returns
+pub returns-in-None : goal.returns-in-None
 unfolding show_open
-returns g c =
+returns-in-None g c =
     machine-ok _ c.in_ok-reply.ensures (machine-lacks-last _ (sym c.in-None.ensures))

@@ -11,4 +11,4 @@ returns-then-offset-ge-OFFSETS g c = machine-false _ _ (le-ltb _ _ c.if-offset-g
 
 pub returns : goal.returns
 unfolding seek
-returns g c = machine-true _ _ (lt-ltb _ _ c.if-offset-ge-OFFSETS.false) (rw (to_z_pos w64 c.args.offset c.if-offset-ge-OFFSETS.false) at c.obtain_call.ensures)
+returns g c = machine-true _ _ (lt-ltb _ _ c.if-offset-ge-OFFSETS.false) (rw (to_z_pos w64 c.args.offset c.if-offset-ge-OFFSETS.false) at c.obtain_once.ensures)

@@ -9,8 +9,8 @@ returns-in_err-reply-clause-did g c = let r = c.from_residual.ensures in machine
 
 pub returns-in-Some-clause-did : goal.returns-in-Some-clause-did
 unfolding write_piece
-returns-in-Some-clause-did g c = machine-ok _ c.in_ok-reply.ensures (machine-needs-last _ (sym (rw (c.count_of_reply.ensures, c.length_written.ensures) at c.in-Some.ensures)))
+returns-in-Some-clause-did g c = machine-ok _ c.in_ok-reply.ensures (machine-needs-last _ (sym (rw (c.count_of_reply-count.ensures, c.length_written.ensures) at c.in-Some.ensures)))
 
-pub returns-clause-did : goal.returns-clause-did
+pub returns-in-None-clause-did : goal.returns-in-None-clause-did
 unfolding write_piece
-returns-clause-did g c = machine-ok _ c.in_ok-reply.ensures (machine-lacks-last _ (sym (rw (c.count_of_reply.ensures, c.length_written.ensures) at c.in-None.ensures)))
+returns-in-None-clause-did g c = machine-ok _ c.in_ok-reply.ensures (machine-lacks-last _ (sym (rw (c.count_of_reply-count.ensures, c.length_written.ensures) at c.in-None.ensures)))

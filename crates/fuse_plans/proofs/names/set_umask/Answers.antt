@@ -2,4 +2,4 @@ use Rattle.fuse_plans.proofs.names.set_umask.Goals as goal
 
 pub returns : goal.returns
 returns g c =
-    c.obtain_call-reply.ensures
+    c.obtain_once.ensures

@@ -20,6 +20,6 @@ returns-in-Some-clause-did g c =
     (then-ok _ c.in_ok-reply.ensures.did
     (needs-some _ _ (sym c.in-Some.ensures) (same-work (ap give (sym c.told_acl.ensures)) (gives _ _))))
 
-pub returns-clause-did : goal.returns-clause-did
-returns-clause-did g c =
+pub returns-in-None-clause-did : goal.returns-in-None-clause-did
+returns-in-None-clause-did g c =
     then-ok _ c.in_ok-pid.ensures (then-ok _ c.in_ok-reply.ensures.did (needs-none _ _ _ (sym c.in-None.ensures)))

@@ -7,4 +7,4 @@ returns-in_default-clause-did g c = reads _ _ refl (needs-none _ _ _ (sym c.in_d
 
 pub returns-clause-did : goal.returns-clause-did
 returns-clause-did g c =
-    reads _ _ refl (needs-some _ _ (sym c.in-Some.ensures) (on-machine (rw (c.owner_of.ensures, c.descriptor_of.ensures) at c.obtain_call-reply.ensures)))
+    reads _ _ refl (needs-some _ _ (sym c.in-Some.ensures) (on-machine (rw (c.owner_of.ensures, c.descriptor_of.ensures) at c.obtain_once.ensures)))

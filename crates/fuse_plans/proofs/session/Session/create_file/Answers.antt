@@ -68,7 +68,7 @@ returns-in_default-handle_within g c =
     (on-machine {w = open_or_make c.in_ok-pid.pid c.in_ok-directory.directory c.args.name c.in-Some.mode c.args.flags.0 c.args.file_mode}
     c.open_or_make-opened.ensures.did)
     c.in_ok-reply.was
-    (needs-none _ _ _ (sym (rw c.fd_of_reply.ensures at c.in_default-handle_within.ensures))))))))
+    (needs-none _ _ _ (sym (rw c.fd_of_reply-fd.ensures at c.in_default-handle_within.ensures))))))))
 
 pub returns-in_err-status : goal.returns-in_err-status
 unfolding create_file
@@ -83,7 +83,7 @@ returns-in_err-status g c =
     (on-machine {w = open_or_make c.in_ok-pid.pid c.in_ok-directory.directory c.args.name c.in-Some.mode c.args.flags.0 c.args.file_mode}
     c.open_or_make-opened.ensures.did)
     c.in_ok-reply.was
-    (needs-some _ _ (sym (rw c.fd_of_reply.ensures at c.in-Some-handle_within.ensures))
+    (needs-some _ _ (sym (rw c.fd_of_reply-fd.ensures at c.in-Some-handle_within.ensures))
     (then-fails _ r.0 r.1 (on-machine (rw (c.descriptor_of.ensures) at c.in_err-status.ensures)))))))))
 
 pub returns : goal.returns
@@ -98,6 +98,6 @@ returns g c =
     (on-machine {w = open_or_make c.in_ok-pid.pid c.in_ok-directory.directory c.args.name c.in-Some.mode c.args.flags.0 c.args.file_mode}
     c.open_or_make-opened.ensures.did)
     c.in_ok-reply.was
-    (needs-some _ _ (sym (rw c.fd_of_reply.ensures at c.in-Some-handle_within.ensures))
+    (needs-some _ _ (sym (rw c.fd_of_reply-fd.ensures at c.in-Some-handle_within.ensures))
     (then-ok _ (on-machine (rw (c.descriptor_of.ensures) at c.in_ok-status.ensures))
     ((rw (c.place-place.ensures, c.is_trunc.ensures, c.open_or_make-opened.ensures.name) at c.tell_created.ensures)))))))))

@@ -27,14 +27,14 @@ returns-in_err-names-clause-did g c =
     (needs-some _ _ (sym c.in-Some.ensures)
     (then-fails _ r.0 r.1 (on-machine c.in_err-names.ensures))))
 
-pub returns-in_err-obtain_call-clause-did : goal.returns-in_err-obtain_call-clause-did
-returns-in_err-obtain_call-clause-did g c =
-    let r = c.from_residual-in_err-obtain_call.ensures in
+pub returns-in_err-obtain_once-clause-did : goal.returns-in_err-obtain_once-clause-did
+returns-in_err-obtain_once-clause-did g c =
+    let r = c.from_residual-in_err-obtain_once.ensures in
     then-ok _ c.in_ok-pid.ensures
     (then-ok _ (rw (c.listing.ensures) at c.in_ok-opened.ensures.did)
     (needs-some _ _ (sym c.in-Some.ensures)
     (then-ok _ (on-machine c.in_ok-names.ensures)
-    (then-fails _ r.0 r.1 (on-machine c.in_err-obtain_call.ensures)))))
+    (then-fails _ r.0 r.1 (on-machine c.in_err-obtain_once.ensures)))))
 
 pub returns-clause-did : goal.returns-clause-did
 returns-clause-did g c =
@@ -42,5 +42,5 @@ returns-clause-did g c =
     (then-ok _ (rw (c.listing.ensures) at c.in_ok-opened.ensures.did)
     (needs-some _ _ (sym c.in-Some.ensures)
     (then-ok _ (on-machine c.in_ok-names.ensures)
-    (then-ok _ (on-machine c.in_ok-obtain_call.ensures)
+    (then-ok _ (on-machine c.in_ok-obtain_once.ensures)
     (gives _ _)))))

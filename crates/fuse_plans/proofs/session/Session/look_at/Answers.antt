@@ -9,4 +9,4 @@ returns-in_err-pid-clause-did g c =
 
 pub returns-in_ok-pid-clause-did : goal.returns-in_ok-pid-clause-did
 returns-in_ok-pid-clause-did g c =
-    same-work (ap (look_at _) (sym c.has_place.ensures ∙ c.if-has_place.true)) (then-ok _ c.in_ok-pid.ensures c.on-reply.ensures.did)
+    same-work (ap (look_at _) (sym c.has_place.ensures ∙ c.if-has_place.true)) (then-ok _ c.in_ok-pid.ensures c.on_once.ensures.did)

@@ -5,4 +5,4 @@ pub returns-then-not-condition-clause-did : goal.returns-then-not-condition-clau
 returns-then-not-condition-clause-did g c = when-false _ c.if-not-condition.true
 
 pub returns-clause-did : goal.returns-clause-did
-returns-clause-did g c = when-true _ c.if-not-condition.false (then-matches _ c.on.ensures.did c.done.ensures)
+returns-clause-did g c = when-true _ c.if-not-condition.false (then-matches _ c.on_once.ensures.did c.done.ensures)

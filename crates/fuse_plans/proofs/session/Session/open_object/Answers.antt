@@ -13,13 +13,13 @@ pub returns-in_default : goal.returns-in_default
 unfolding open_object
 returns-in_default g c =
     then-ok _ (rw (c.opening.ensures, c.is_trunc.ensures) at c.in_ok-reply.ensures.did)
-    (needs-none _ _ _ (sym (rw c.fd_of_reply.ensures at c.in_default.ensures)))
+    (needs-none _ _ _ (sym (rw c.fd_of_reply-fd.ensures at c.in_default.ensures)))
 
 pub returns : goal.returns
 unfolding open_object
 returns g c =
     then-ok _ (rw (c.opening.ensures, c.is_trunc.ensures) at c.in_ok-reply.ensures.did)
-    (needs-some _ _ (sym (rw c.fd_of_reply.ensures at c.in-Some.ensures))
+    (needs-some _ _ (sym (rw c.fd_of_reply-fd.ensures at c.in-Some.ensures))
     (keeps-on _ _ (rw c.is_trunc-2.ensures at c.touch_if.ensures.kept)
     (keeps _ _ refl c.add_handle.ensures.kept
     (gives _ _))))

@@ -5,7 +5,7 @@ use Rattle.fuse_plans.proofs.session.Session.resize_object.Goals as goal
 
 pub returns-in_default-clause-did : goal.returns-in_default-clause-did
 returns-in_default-clause-did g c =
-    same-work (ap (resize_object c.args.pid c.args.inode c.args.size) c.in_default.is) c.on.ensures.did
+    same-work (ap (resize_object c.args.pid c.args.inode c.args.size) c.in_default.is) c.on_once.ensures.did
 
 pub returns-in_err-_opened-clause-did : goal.returns-in_err-_opened-clause-did
 returns-in_err-_opened-clause-did g c =
@@ -15,4 +15,4 @@ returns-in_err-_opened-clause-did g c =
 pub returns-clause-did : goal.returns-clause-did
 returns-clause-did g c =
     same-work (ap (resize_object c.args.pid c.args.inode c.args.size) c.in-Some.is)
-    (then-ok _ c.in_ok-_opened.ensures (on-machine (rw (c.owner_of.ensures, c.descriptor_of.ensures) at c.obtain_call.ensures)))
+    (then-ok _ c.in_ok-_opened.ensures (on-machine (rw (c.owner_of.ensures, c.descriptor_of.ensures) at c.obtain_once.ensures)))

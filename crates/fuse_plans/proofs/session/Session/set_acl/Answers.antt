@@ -24,15 +24,15 @@ returns-in_err-acl g c =
     (then-ok _ (rw (c.requires.copy) at c.in_ok-pid.ensures.did)
     (then-fails _ r.0 r.1 c.in_err-acl.ensures.did))))
 
-pub returns-in_err-on : goal.returns-in_err-on
-returns-in_err-on g c =
-    let r = c.from_residual-in_err-on.ensures in
+pub returns-in_err-on_once : goal.returns-in_err-on_once
+returns-in_err-on_once g c =
+    let r = c.from_residual-in_err-on_once.ensures in
     then-ok _ c.in_ok-inode.ensures
     (reads _ _ c.kind_of.ensures
     (then-ok _ (when-false _ (sym c.is_misplaced.ensures ∙ c.if-is_misplaced.false))
     (then-ok _ (rw (c.requires.copy) at c.in_ok-pid.ensures.did)
     (then-ok _ c.in_ok-acl.ensures.did
-    (then-fails _ r.0 r.1 c.in_err-on.ensures.did)))))
+    (then-fails _ r.0 r.1 c.in_err-on_once.ensures.did)))))
 
 pub returns : goal.returns
 returns g c =
@@ -41,7 +41,7 @@ returns g c =
     (then-ok _ (when-false _ (sym c.is_misplaced.ensures ∙ c.if-is_misplaced.false))
     (then-ok _ (rw (c.requires.copy) at c.in_ok-pid.ensures.did)
     (then-ok _ c.in_ok-acl.ensures.did
-    (then-ok _ c.in_ok-on.ensures.did
+    (then-ok _ c.in_ok-on_once.ensures.did
     (keeps _ _ refl c.change.ensures.kept
     (gives _ _)))))))
 

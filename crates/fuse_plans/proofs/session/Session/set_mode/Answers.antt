@@ -7,12 +7,12 @@ pub returns-in_default-clause-did : goal.returns-in_default-clause-did
 returns-in_default-clause-did g c =
     same-work (ap (set_mode c.args.now c.args.pid c.args.inode) c.in_default.is) (gives _ _)
 
-pub returns-in_err-on-clause-did : goal.returns-in_err-on-clause-did
-returns-in_err-on-clause-did g c =
+pub returns-in_err-on_once-clause-did : goal.returns-in_err-on_once-clause-did
+returns-in_err-on_once-clause-did g c =
     let r = c.from_residual.ensures in
-    same-work (ap (set_mode c.args.now c.args.pid c.args.inode) c.in-Some.is) (then-fails _ r.0 r.1 c.in_err-on.ensures.did)
+    same-work (ap (set_mode c.args.now c.args.pid c.args.inode) c.in-Some.is) (then-fails _ r.0 r.1 c.in_err-on_once.ensures.did)
 
 pub returns-clause-did : goal.returns-clause-did
 returns-clause-did g c =
     same-work (ap (set_mode c.args.now c.args.pid c.args.inode) c.in-Some.is)
-    (then-ok _ c.in_ok-on.ensures.did (keeps-last _ refl c.change.ensures.kept))
+    (then-ok _ c.in_ok-on_once.ensures.did (keeps-last _ refl c.change.ensures.kept))
