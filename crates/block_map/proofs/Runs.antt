@@ -57,12 +57,3 @@ fault_on {old = old} {mid} {new} first cause (Err y) passed = record {
   later = let a = first.reads.failures in let b = cause.later in omega (arith, a, b);
   fault = failed_later old.disk mid.disk new first.reads.failures cause.fault;
 }
-
--- one of the map's own faults stands for it
-pub map_fault_on : {T U E : Type 0} {e : E} {fault : MapFault} {old mid : TxnState} {new : DiskState} → SameStore old mid → HasCause {T = T} mid.disk new (Err e)
-    → (r : Result U MapFault) → IsErr r × IsErrAnd r (λ y. y ≡ fault) → HasCauseOf fault old.disk new r
-map_fault_on first cause (Ok x) passed = absurd passed.1
-map_fault_on {old = old} {mid} {new} first cause (Err y) passed = record {
-  later = let a = first.reads.failures in let b = cause.later in omega (arith, a, b);
-  failed = λ is. failed_later old.disk mid.disk new first.reads.failures cause.fault;
-}
