@@ -1,7 +1,7 @@
 -- Runs of reads.
 use Rattle.std.proofs.Common.{◌≡◌, ℕ, ◌≤◌, Result, Ok, Err, sym, ◌∙◌, arith}
 use Rattle.std.specs.Prelude.{IsErr, IsErrAnd, IfErr}
-use Rattle.sector_disk.specs.Disk.{DiskState, HasFailed}
+use Rattle.sector_disk.specs.Disk.{DiskState, HasFailed, HasCause}
 use Rattle.sector_disk.proofs.Moments.{failed_later}
 use Rattle.fs_layout.specs.Bytes.{SectorMap}
 use Rattle.sector_txn.specs.Sectors.{TxnState, SameStore, IsUnchanged}
@@ -42,4 +42,18 @@ pub cause_on : {fault e : MapFault} {old mid : TxnState} {new : DiskState} → S
 cause_on {fault} {e} {old} {mid} {new} first cause r err and = record {
   later = let a = first.reads.failures in let b = cause.later in omega (arith, a, b);
   failed = failed_on old.disk mid.disk new first.reads.failures cause.failed r err and;
+}
+
+-- ---- what a call tells of the disk
+-- no fault
+pub no_fault : {T E : Type 0} {x : T} {old new : TxnState} → SameStore old new → HasCause {T = T} {E = E} old.disk new.disk (Ok x)
+no_fault store = record { later = store.reads.failures; fault = tt }
+
+-- that of a later call
+pub fault_on : {T U E : Type 0} {e : E} {old mid : TxnState} {new : DiskState} → SameStore old mid → HasCause {T = T} mid.disk new (Err e)
+    → (r : Result U E) → IsErr r × IsErrAnd r (λ y. y ≡ e) → HasCause old.disk new r
+fault_on first cause (Ok x) passed = absurd passed.1
+fault_on {old = old} {mid} {new} first cause (Err y) passed = record {
+  later = let a = first.reads.failures in let b = cause.later in omega (arith, a, b);
+  fault = failed_later old.disk mid.disk new first.reads.failures cause.fault;
 }

@@ -1,6 +1,7 @@
 -- What a check has read stays so while it reads on.
-use Rattle.std.specs.Prelude.{◌≡◌, ℕ, ◌+◌, ◌≤◌, List, Result, Ok, Err, OnOk, IfOk}
+use Rattle.std.specs.Prelude.{◌≡◌, ℕ, ◌+◌, ◌≤◌, List, Result, Ok, Err, OnOk, IfOk, IsErrAnd}
 use Rattle.std.proofs.Common.{sym, ap, arith, ◌∙◌, subst, inl, inr}
+use Rattle.std.proofs.lemmas.Result.{err_from_is_err_and}
 use Rattle.fs_layout.specs.declared.inode.Inode.{Inode}
 use Rattle.fs_layout.specs.declared.place.Place.{Place}
 use Rattle.fs_layout.specs.Recovered.{recovered}
@@ -10,7 +11,7 @@ use Rattle.fs_layout.specs.Commit.{IsCommit}
 use Rattle.fs_model.specs.Rules.{IsPlaceOf, HasCommit, ImageRule, rule_number, ObeysEach, ObeysBefore, IsFinding, fails}
 use Rattle.fs_check.specs.declared.faults.CheckFault.{CheckFault}
 use Rattle.fs_check.specs.declared.faults.CheckFault.TheVariants.{Found, DiskFault, OutOfMemory}
-use Rattle.fs_check.specs.Checks.{meaning, BeginsWith, AreInodes, IsReason, Passed, IsLeast, IsFirst, IsFailureOf}
+use Rattle.fs_check.specs.Checks.{meaning, BeginsWith, AreInodes, IsReason, Passed, IsNone, IsLeast, IsFirst, IsFailureOf}
 use Rattle.fs_model.proofs.Findings.{next_obeyed}
 
 -- the same facts of two states
@@ -149,3 +150,27 @@ part_passed old mid new reads q x = passed_on IsFirst IsFirst old mid new reads 
 pub if_ok : {T E : Type 0} {P Q : T → Type 0} (r : Result T E) → IfOk r P → ((x : T) → P x → Q x) → IfOk r Q
 if_ok (Ok x) p f = f x p
 if_ok (Err e) p f = tt
+
+-- ---- what is told of no rule
+-- the disk failed at a later read, or there was no memory for it
+pub read_error : {T U : Type 0} {I : DiskState → ℕ → ℕ → Type 0} {e : CheckFault} (old mid new : DiskState) → OnlyReads old mid
+    → (r : Result U CheckFault) → IsErrAnd r (λ y. y ≡ e) → Passed {T = T} IsNone mid new (Err e) → Passed I old new r
+read_error {T} {U} {I} {e} old mid new reads r told x =
+    let q = err_from_is_err_and r told in passed_err {T = T} {U = U} IsNone I old mid new reads because e q.0 r q.1 q.2 x
+  where
+    because : (y : CheckFault) → IsReason IsNone mid new y → IsReason I old new y
+    because (Found f) h = absurd h
+    because DiskFault h = failed_back reads new h
+    because OutOfMemory h = tt
+
+-- the part that ended the check tells of the same rule
+pub same_error : {T U : Type 0} {I : DiskState → ℕ → ℕ → Type 0} {e : CheckFault} (old new : DiskState) → (r : Result U CheckFault) → IsErrAnd r (λ y. y ≡ e)
+    → Passed {T = T} I old new (Err e) → Passed I old new r
+same_error {T} {U} {I} {e} old new r told x =
+    let q = err_from_is_err_and r told in passed_err {T = T} {U = U} I I old old new reads_nothing (λ y h. h) e q.0 r q.1 q.2 x
+
+-- there was no memory for a table
+pub memory_error : {U : Type 0} {I : DiskState → ℕ → ℕ → Type 0} (old new : DiskState) → OnlyReads old new → (r : Result U CheckFault)
+    → IsErrAnd r (λ y. y ≡ OutOfMemory) → Passed I old new r
+memory_error old new reads (Ok x) told = absurd told
+memory_error {I = I} old new reads (Err y) told = record { reads = reads; reason = subst (IsReason I old new) (sym told) tt }

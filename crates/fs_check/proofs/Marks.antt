@@ -1,8 +1,9 @@
 -- One more part of an inode is marked.
-use Rattle.std.specs.Prelude.{◌≡◌, ◌≢◌, ℕ, zero, suc, ◌+◌, ◌<◌, ◌≤◌, Bool, true, false, List, length, get_or, set, IsTrue, ◌↔◌, ◌⊎◌}
+use Rattle.std.specs.Prelude.{◌≡◌, ◌≢◌, ℕ, zero, suc, ◌+◌, ◌<◌, ◌≤◌, Bool, true, false, List, length, get_or, set, replicate, IsTrue, ◌↔◌, ◌⊎◌}
 use Rattle.std.specs.Prelude.{Option, Some, None, IfSome, IfNone, MatchOption}
 use Rattle.std.proofs.Common.{refl, sym, ap, subst, arith, ◌∙◌, inl, inr, get_or-set_other, get_or-set_same, length-set}
 use Rattle.std.proofs.lemmas.Bool.{cases_eq, cases_lt}
+use Rattle.std.proofs.lemmas.List.{length-replicate, get_or-replicate, get_or_past}
 use Rattle.fs_layout.specs.declared.place.Place.{Place}
 use Rattle.fs_layout.specs.Bytes.{SectorMap}
 use Rattle.fs_layout.specs.Images.{inode_at}
@@ -239,6 +240,19 @@ none_marked f size owned twice a b c d = record {
   once = λ s lt. ((λ set. absurd (let e : false ≡ true = sym (c s) ∙ set in cc)), (λ x. absurd (let l = before_all x.inode x.at 0 x.before in omega (arith, l))));
   again = λ s lt. ((λ set. absurd (let e : false ≡ true = sym (d s) ∙ set in cc)), (λ x. absurd (let l = before_all x.inode x.at 0 x.before in omega (arith, l))));
 }
+
+-- as where each says no
+none_set : (n : ℕ) (l : List Bool) → l ≡ replicate n false → (s : ℕ) → get_or l s false ≡ false
+none_set n l is s =
+    ap (λ (x : List Bool). get_or x s false) is
+    ∙ elim (cases_lt s n) [
+      | inl lt ↦ get_or-replicate n s false false lt
+      | inr ge ↦ get_or_past (replicate n false) s false (let z = length-replicate n false in omega (arith, z, ge))
+    ]
+
+pub clear_marked : (f : ℕ → ℕ → ℕ) (size : ℕ) (owned twice : List Bool) → owned ≡ replicate size false → twice ≡ replicate size false → IsMarked f 0 0 size owned twice
+clear_marked f size owned twice a b =
+    none_marked f size owned twice (ap length a ∙ length-replicate size false) (ap length b ∙ length-replicate size false) (none_set size owned a) (none_set size twice b)
 
 -- ---- what the maps say
 

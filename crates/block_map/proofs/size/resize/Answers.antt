@@ -1,6 +1,6 @@
-use Rattle.std.proofs.Common.{◌≡◌, ◌+◌, ◌/◌, ℕ, sym, subst, ◌∙◌, arith}
+use Rattle.std.proofs.Common.{◌≡◌, ◌+◌, ◌/◌, ℕ, sym, ap, subst, ◌∙◌, arith}
 use Rattle.fs_layout.specs.declared.inode.Inode.{Inode}
-use Rattle.sector_txn.proofs.TransactionRuns.{store_joined}
+use Rattle.sector_txn.proofs.TransactionRuns.{store_same, store_joined}
 use Rattle.bit_alloc.proofs.Transactions.{spare_unchanged}
 use Rattle.block_map.specs.Blocks.{IsWithin}
 use Rattle.block_map.proofs.Numbers.{loaded_unchanged}
@@ -10,6 +10,7 @@ use Rattle.block_map.specs.Steps.{MayChange, blocks_to}
 use Rattle.block_map.proofs.Alterings.{may_after}
 use Rattle.block_map.proofs.Givings.{may_unchanged}
 use Rattle.block_map.proofs.Resizing.{grows, resizes, resizes_last}
+use Rattle.block_map.proofs.Runs.{no_fault, fault_on}
 use Rattle.block_map.proofs.size.resize.Goals as goal
 
 pub load-requires-clause-within : goal.load-requires-clause-within
@@ -57,3 +58,52 @@ returns-clause-resized g c =
 pub returns-clause-store : goal.returns-clause-store
 returns-clause-store g c =
     store_joined (store_joined c.in_ok-load.ensures.same.store c.in_ok-clear_tail.ensures.store) c.in_ok-drop_blocks.ensures.store
+
+pub returns-clause-cause : goal.returns-clause-cause
+returns-clause-cause g c =
+    no_fault (store_joined (store_joined c.in_ok-load.ensures.same.store c.in_ok-clear_tail.ensures.store) c.in_ok-drop_blocks.ensures.store)
+
+pub clear_tail-requires-clause-less : goal.clear_tail-requires-clause-less
+clear_tail-requires-clause-less g c =
+    let e = ap (λ (u : Inode). u.size) (c.in_ok-load.ensures.inode ∙ c.new-blocks.ensures.inode) in
+    omega (arith, e, c.if-inode-size.false)
+
+pub clear_tail-requires-clause-limit : goal.clear_tail-requires-clause-limit
+clear_tail-requires-clause-limit g c =
+    let e = ap (λ (u : Inode). u.size) (c.in_ok-load.ensures.inode ∙ c.new-blocks.ensures.inode) in
+    omega (arith, e, c.requires.limit.1)
+
+pub clear_tail-requires-clause-room : goal.clear_tail-requires-clause-room
+clear_tail-requires-clause-room g c = spare_unchanged c.args.place 1 _ _ (omega (arith, c.requires.room)) c.in_ok-load.ensures.same
+
+pub drop_blocks-requires-clause-few : goal.drop_blocks-requires-clause-few
+drop_blocks-requires-clause-few g c = omega (arith, c.requires.limit.0, c.div_ceil-end.ensures)
+
+pub returns-in_err-load-clause-store : goal.returns-in_err-load-clause-store
+returns-in_err-load-clause-store g c = c.in_err-load.ensures.same.store
+
+pub returns-in_err-load-clause-cause : goal.returns-in_err-load-clause-cause
+returns-in_err-load-clause-cause g c =
+    fault_on {old = g.S.Sectors.state c.args.s.now} store_same c.in_err-load.ensures.cause c.from_residual.result c.from_residual.ensures
+
+pub returns-in_err-clear_tail-clause-store : goal.returns-in_err-clear_tail-clause-store
+returns-in_err-clear_tail-clause-store g c = store_joined c.in_ok-load.ensures.same.store c.in_err-clear_tail.ensures.store
+
+pub returns-in_err-clear_tail-clause-cause : goal.returns-in_err-clear_tail-clause-cause
+returns-in_err-clear_tail-clause-cause g c =
+    fault_on c.in_ok-load.ensures.same.store c.in_err-clear_tail.ensures.cause c.from_residual-in_err-clear_tail.result c.from_residual-in_err-clear_tail.ensures
+
+pub returns-then-inode-end-clause-store : goal.returns-then-inode-end-clause-store
+returns-then-inode-end-clause-store g c = store_joined c.in_ok-load.ensures.same.store c.in_ok-clear_tail.ensures.store
+
+pub returns-then-inode-end-clause-cause : goal.returns-then-inode-end-clause-cause
+returns-then-inode-end-clause-cause g c = no_fault (store_joined c.in_ok-load.ensures.same.store c.in_ok-clear_tail.ensures.store)
+
+pub returns-in_err-drop_blocks-clause-store : goal.returns-in_err-drop_blocks-clause-store
+returns-in_err-drop_blocks-clause-store g c =
+    store_joined (store_joined c.in_ok-load.ensures.same.store c.in_ok-clear_tail.ensures.store) c.in_err-drop_blocks.ensures.store
+
+pub returns-in_err-drop_blocks-clause-cause : goal.returns-in_err-drop_blocks-clause-cause
+returns-in_err-drop_blocks-clause-cause g c =
+    fault_on (store_joined c.in_ok-load.ensures.same.store c.in_ok-clear_tail.ensures.store) c.in_err-drop_blocks.ensures.cause
+    c.from_residual-in_err-drop_blocks.result c.from_residual-in_err-drop_blocks.ensures

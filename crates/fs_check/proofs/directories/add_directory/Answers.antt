@@ -9,6 +9,8 @@ use Rattle.fs_layout.specs.Directories.{HaveDistinctNames}
 use Rattle.fs_model.specs.Rules.{Obeys, InData, Inodes, NamesApart}
 use Rattle.fs_check.specs.Checks.{meaning}
 use Rattle.fs_check.specs.Naming.{AreSlots, HasGoodSlots}
+use Rattle.sector_disk.proofs.Moments.{reads_nothing}
+use Rattle.fs_check.proofs.Carrying.{same_error}
 use Rattle.fs_check.proofs.Tables.{table_place}
 use Rattle.fs_check.proofs.Tests.{inode_here, blank}
 use Rattle.fs_check.proofs.Tallies.{directory_size, same_naming, next_naming, has_room, adds_same, naming_same}
@@ -94,3 +96,16 @@ returns-clause-names g c =
     c.first_repeated-names.result
     c.requires.below (sym (ap (λ (v : Inode). v.kind) here) ∙ is) are adds c.requires.names
     (λ x test. c.first_repeated-names.ensures p m x (subst (λ l. HaveDistinctNames l ↔ Obeys p m NamesApart d) (sym c.deref_mut-3.ensures.value) test)))
+
+pub returns-then-ne-clause-passed : goal.returns-then-ne-clause-passed
+returns-then-ne-clause-passed g c = record { reads = reads_nothing; reason = tt }
+
+pub returns-in_err-slots-clause-passed : goal.returns-in_err-slots-clause-passed
+returns-in_err-slots-clause-passed g c =
+    same_error (g.D.Disk.state c.args.disk.now) (g.D.Disk.state c.read_good_slots.new.disk) c.from_residual.result c.from_residual.ensures.1 c.in_err-slots.ensures.passed
+
+pub returns-in_default-clause-passed : goal.returns-in_default-clause-passed
+returns-in_default-clause-passed g c = record { reads = c.in_ok-slots.ensures.passed.reads; reason = tt }
+
+pub returns-clause-passed : goal.returns-clause-passed
+returns-clause-passed g c = record { reads = c.in_ok-slots.ensures.passed.reads; reason = tt }

@@ -3,7 +3,7 @@ use Rattle.fs_model.specs.Rules.{Obeys, Slots}
 use Rattle.sector_disk.proofs.Moments.{reads_joined}
 use Rattle.fs_check.specs.Checks.{meaning}
 use Rattle.fs_check.specs.Naming.{IsNaming}
-use Rattle.fs_check.proofs.Carrying.{meaning_same}
+use Rattle.fs_check.proofs.Carrying.{meaning_same, opened_still, table_still, before_still, read_error}
 use Rattle.fs_check.proofs.Tables.{more_good}
 use Rattle.fs_check.proofs.Tests.{refuses}
 use Rattle.fs_check.proofs.Tallies.{all_repeated, all_named}
@@ -59,3 +59,21 @@ returns-clause-repeated g c =
     let past = c.loop-d-test.false in
     all_repeated c.args.opened.now.place (meaning (g.D.Disk.state c.args.disk.now)) c.loop-d.d c.loop-d.names.repeated (omega (arith, past))
     c.loop-d.invariant.naming.repeated
+
+pub add_directory-requires-clause-opened : goal.add_directory-requires-clause-opened
+add_directory-requires-clause-opened g c = opened_still c.loop-d.invariant.reads c.requires.opened
+
+pub add_directory-requires-clause-table : goal.add_directory-requires-clause-table
+add_directory-requires-clause-table g c = table_still c.loop-d.invariant.reads c.requires.table
+
+pub add_directory-requires-clause-before : goal.add_directory-requires-clause-before
+add_directory-requires-clause-before g c = before_still c.loop-d.invariant.reads c.requires.before
+
+pub returns-in_err-add_directory-clause-passed : goal.returns-in_err-add_directory-clause-passed
+returns-in_err-add_directory-clause-passed g c =
+    let left = c.from_residual-in_err-add_directory in
+    read_error (g.D.Disk.state c.args.disk.now) (g.D.Disk.state c.loop-d.disk) (g.D.Disk.state c.add_directory.new.disk) c.loop-d.invariant.reads left.result left.ensures.1
+    c.in_err-add_directory.ensures.passed
+
+pub returns-clause-passed : goal.returns-clause-passed
+returns-clause-passed g c = record { reads = c.loop-d.invariant.reads; reason = tt }

@@ -1,9 +1,10 @@
-use Rattle.std.proofs.Common.{Some, None, refl}
+use Rattle.std.proofs.Common.{Some, None, refl, arith}
 use Rattle.fs_layout.specs.Inode.{free_inode}
 use Rattle.fs_layout.specs.Images.{inode_at}
 use Rattle.fs_model.specs.Rules.{IsGoodInode}
-use Rattle.sector_disk.proofs.Moments.{reads_joined}
+use Rattle.sector_disk.proofs.Moments.{reads_nothing, reads_joined}
 use Rattle.fs_check.specs.Checks.{meaning}
+use Rattle.fs_check.proofs.Carrying.{opened_still, read_error, memory_error}
 use Rattle.fs_check.proofs.Tables.{good_is, more_there, more_good}
 use Rattle.fs_check.proofs.TableSectors.{same_sector, sector_back, sector_still, one_longer}
 use Rattle.fs_check.proofs.inodes.read_inodes.Goals as goal
@@ -47,3 +48,35 @@ returns-in-None-clause-passed g c =
       reads = reads_joined so_far.reads c.in_ok-read_table.ensures.passed.reads;
       reason = (refl, record { fails = λ h. bad (h lt); least = λ k low below. so_far.good k low });
     }
+
+pub read_table-requires-clause-opened : goal.read_table-requires-clause-opened
+read_table-requires-clause-opened g c = opened_still c.loop-n.invariant.reads c.requires.opened
+
+pub returns-in_err-inodes-clause-passed : goal.returns-in_err-inodes-clause-passed
+returns-in_err-inodes-clause-passed g c =
+    let s0 = g.D.Disk.state c.args.disk.now in memory_error s0 s0 reads_nothing c.from_residual.result c.from_residual.ensures.1
+
+pub returns-in_err-read_table-clause-passed : goal.returns-in_err-read_table-clause-passed
+returns-in_err-read_table-clause-passed g c =
+    let left = c.from_residual-in_err-read_table in
+    read_error (g.D.Disk.state c.args.disk.now) (g.D.Disk.state c.loop-n.disk) (g.D.Disk.state c.read_table.new.disk) c.loop-n.invariant.reads left.result left.ensures.1
+    c.in_err-read_table.ensures.passed
+
+pub returns-in_err-push-in-Some-clause-passed : goal.returns-in_err-push-in-Some-clause-passed
+returns-in_err-push-in-Some-clause-passed g c =
+    let left = c.from_residual-in_err-push-in-Some in
+    memory_error (g.D.Disk.state c.args.disk.now) (g.D.Disk.state c.read_table.new.disk) (reads_joined c.loop-n.invariant.reads c.in_ok-read_table.ensures.passed.reads)
+    left.result left.ensures.1
+
+pub returns-clause-each : goal.returns-clause-each
+returns-clause-each g c = λ n lt. c.loop-n.invariant.good n (let past = c.loop-n-test.false in omega (arith, lt, past))
+
+pub returns-clause-table : goal.returns-clause-table
+returns-clause-table g c =
+    let past = c.loop-n-test.false in
+    let end = c.loop-n.auto.n-end in
+    let len = c.loop-n.invariant.len in
+    record { len = omega (arith, len, past, end); each = λ n lt. c.loop-n.invariant.each n (omega (arith, lt, past)) }
+
+pub returns-clause-passed : goal.returns-clause-passed
+returns-clause-passed g c = record { reads = c.loop-n.invariant.reads; reason = tt }

@@ -5,7 +5,7 @@ use Rattle.fs_layout.specs.Images.{HasPointers, number_on}
 use Rattle.sector_disk.proofs.Moments.{reads_nothing, reads_joined}
 use Rattle.fs_check.specs.Checks.{meaning}
 use Rattle.fs_check.specs.Owning.{AreInData}
-use Rattle.fs_check.proofs.Carrying.{meaning_same, opened_still}
+use Rattle.fs_check.proofs.Carrying.{meaning_same, opened_still, read_error}
 use Rattle.fs_check.proofs.DataNumbers.{in_data_joined, none_in_data, none_past, not_among, listed_own}
 use Rattle.fs_check.proofs.MarkedParts.{rest_skipped, next_marked}
 use Rattle.fs_check.proofs.marking.mark_blocks.Goals as goal
@@ -94,3 +94,14 @@ returns-clause-marked g c = λ t n is x.
     let j = c.loop-j.j in
     rest_skipped c.args.opened.now.place m n v is c.loop-j.owned c.loop-j.twice j
     (λ i ge. c.pointers_end-j-end.ensures.past m i (omega (arith, ge, c.loop-j-test.false))) (c.loop-j.invariant.marked n is x)
+
+pub returns-in_err-mark_sector-clause-passed : goal.returns-in_err-mark_sector-clause-passed
+returns-in_err-mark_sector-clause-passed g c =
+    read_error (g.D.Disk.state c.args.disk.now) (g.D.Disk.state c.loop-j.disk) (g.D.Disk.state c.mark_sector.new.disk) c.loop-j.invariant.reads
+    c.from_residual.result c.from_residual.ensures.1 c.in_err-mark_sector.ensures.passed
+
+pub returns-then-not-branch-clause-passed : goal.returns-then-not-branch-clause-passed
+returns-then-not-branch-clause-passed g c = record { reads = reads_joined c.loop-j.invariant.reads c.in_ok-mark_sector.ensures.passed.reads; reason = tt }
+
+pub returns-clause-passed : goal.returns-clause-passed
+returns-clause-passed g c = record { reads = c.loop-j.invariant.reads; reason = tt }

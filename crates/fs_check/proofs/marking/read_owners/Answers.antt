@@ -1,7 +1,9 @@
 use Rattle.std.proofs.Common.{sym, ◌∙◌}
 use Rattle.std.proofs.lemmas.List.{take_at}
+use Rattle.sector_disk.proofs.Moments.{reads_nothing}
 use Rattle.fs_check.specs.Checks.{meaning}
-use Rattle.fs_check.proofs.Marks.{twice_found, owner_map}
+use Rattle.fs_check.proofs.Carrying.{same_error, memory_error}
+use Rattle.fs_check.proofs.Marks.{clear_marked, twice_found, owner_map}
 use Rattle.fs_check.proofs.marking.read_owners.Goals as goal
 
 pub returns-clause-twice : goal.returns-clause-twice
@@ -17,3 +19,27 @@ returns-clause-owners g c =
     let a = c.in_ok-mark_all.ensures.marked in
     owner_map c.args.opened.now.place (meaning (g.D.Disk.state c.args.disk.now)) c.mark_all.new.owned c.mark_all.new.twice a _
     (take_at c.mark_all.new.owned _ c.in_ok-owned.owned.len (a.owned_len ∙ sym c.in_ok-owned.ensures.len))
+
+pub returns-in_err-owned-clause-passed : goal.returns-in_err-owned-clause-passed
+returns-in_err-owned-clause-passed g c =
+    let s0 = g.D.Disk.state c.args.disk.now in memory_error s0 s0 reads_nothing c.from_residual.result c.from_residual.ensures.1
+
+pub returns-in_err-twice-clause-passed : goal.returns-in_err-twice-clause-passed
+returns-in_err-twice-clause-passed g c =
+    let s0 = g.D.Disk.state c.args.disk.now in
+    memory_error s0 s0 reads_nothing c.from_residual-in_err-twice.result c.from_residual-in_err-twice.ensures.1
+
+-- no number is marked yet
+pub mark_all-requires-clause-none : goal.mark_all-requires-clause-none
+mark_all-requires-clause-none g c =
+    let owned = c.deref_mut.ensures.value ∙ c.in_ok-owned.ensures.items_if_clones_equal (λ y e. cc) in
+    let twice = c.deref_mut-2.ensures.value ∙ c.in_ok-twice.ensures.items_if_clones_equal (λ y e. cc) in
+    clear_marked _ _ _ _ owned twice
+
+pub returns-in_err-mark_all-clause-passed : goal.returns-in_err-mark_all-clause-passed
+returns-in_err-mark_all-clause-passed g c =
+    let left = c.from_residual-in_err-mark_all in
+    same_error (g.D.Disk.state c.args.disk.now) (g.D.Disk.state c.mark_all.new.disk) left.result left.ensures.1 c.in_err-mark_all.ensures.passed
+
+pub returns-clause-passed : goal.returns-clause-passed
+returns-clause-passed g c = record { reads = c.in_ok-mark_all.ensures.passed.reads; reason = tt }

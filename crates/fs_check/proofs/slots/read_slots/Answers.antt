@@ -2,7 +2,7 @@ use Rattle.std.proofs.Common.{◌≡◌, ◌/◌, arith, sym, subst}
 use Rattle.std.specs.Prelude.{Ok}
 use Rattle.fs_layout.specs.Images.{number_on, pointer, HasPointers}
 use Rattle.fs_layout.proofs.Parts.{owns_on_level}
-use Rattle.fs_check.proofs.Carrying.{opened_still, meaning_same}
+use Rattle.fs_check.proofs.Carrying.{opened_still, meaning_same, read_error, same_error, memory_error}
 use Rattle.fs_layout.specs.Directories.{slot_at, slot_of, stored_slot}
 use Rattle.sector_disk.proofs.Moments.{reads_joined}
 use Rattle.fs_check.specs.Checks.{meaning}
@@ -70,3 +70,30 @@ returns-clause-slots g c =
       len = (let len = c.loop-k.invariant.len in omega (arith, len, past, end));
       each = λ k d lt. c.loop-k.invariant.each d k (omega (arith, lt, past));
     }
+
+pub returns-in_err-read_listed-clause-passed : goal.returns-in_err-read_listed-clause-passed
+returns-in_err-read_listed-clause-passed g c =
+    same_error (g.D.Disk.state c.args.disk.now) (g.D.Disk.state c.read_listed.new.disk) c.from_residual.result c.from_residual.ensures.1 c.in_err-read_listed.ensures.passed
+
+pub returns-in_err-slots-clause-passed : goal.returns-in_err-slots-clause-passed
+returns-in_err-slots-clause-passed g c =
+    memory_error (g.D.Disk.state c.args.disk.now) (g.D.Disk.state c.read_listed.new.disk) c.in_ok-read_listed.ensures.passed.reads
+    c.from_residual-in_err-slots.result c.from_residual-in_err-slots.ensures.1
+
+pub returns-in_err-read_block_of-clause-passed : goal.returns-in_err-read_block_of-clause-passed
+returns-in_err-read_block_of-clause-passed g c =
+    let left = c.from_residual-in_err-read_block_of in
+    read_error (g.D.Disk.state c.args.disk.now) (g.D.Disk.state c.loop-k.disk) (g.D.Disk.state c.read_block_of.new.disk) c.loop-k.invariant.reads left.result left.ensures.1
+    c.in_err-read_block_of.ensures.passed
+
+pub returns-in_default-clause-passed : goal.returns-in_default-clause-passed
+returns-in_default-clause-passed g c = record { reads = reads_joined c.loop-k.invariant.reads c.in_ok-read_block_of.ensures.passed.reads; reason = tt }
+
+pub returns-in_err-push-clause-passed : goal.returns-in_err-push-clause-passed
+returns-in_err-push-clause-passed g c =
+    let left = c.from_residual-in_err-push in
+    memory_error (g.D.Disk.state c.args.disk.now) (g.D.Disk.state c.read_block_of.new.disk) (reads_joined c.loop-k.invariant.reads c.in_ok-read_block_of.ensures.passed.reads)
+    left.result left.ensures.1
+
+pub returns-clause-passed : goal.returns-clause-passed
+returns-clause-passed g c = record { reads = c.loop-k.invariant.reads; reason = tt }
