@@ -6,6 +6,7 @@ ghost use Rattle.sector_disk.specs.Disk.{Image, sector, IsStable, HasCause, Leav
 ghost use Rattle.disk_tests.specs.Writes.{IsAmong, after_writes};
 
 use sector_disk::{CrashDisk, Disk, DiskFault, FailOnce, FaultyDisk, FuseDisk, MemDisk};
+use std::alloc::Global;
 use std::test::Fail;
 
 const OLD: [u8; 512] = [1; 512];
@@ -154,35 +155,48 @@ const SYNCED_BETWEEN: [Call; 4] = [
     Call::Write(0, 3),
 ];
 
+// The same of a new disk of four sectors.
+fn stopped_in_memory(
+    alloc: Global,
+    armed: u64,
+    calls: [Call; 4],
+    choice: &[u8],
+) -> Result<([bool; 4], u64, [u8; 4]), Fail> {
+    let mut disk = MemDisk::new(alloc, 4)?;
+    Ok(stopped(&mut disk, armed, calls, choice)?)
+}
+
+// How many writes and syncs pass, the calls, the choice, how often the disk has failed, and the first bytes.
+static STOPS: [(u64, [Call; 4], &[u8], u64, [u8; 4]); 21] = [
+    (9, ONE_SECTOR, &[], 0, [0, 0, 1, 0]),
+    (9, ONE_SECTOR, &[0], 0, [0, 0, 1, 0]),
+    (9, ONE_SECTOR, &[1], 0, [0, 0, 2, 0]),
+    (9, ONE_SECTOR, &[2], 0, [0, 0, 3, 0]),
+    (9, ONE_SECTOR, &[3], 0, [0, 0, 1, 0]),
+    (9, ONE_SECTOR, &[254], 0, [0, 0, 3, 0]),
+    (9, ONE_SECTOR, &[255], 0, [0, 0, 1, 0]),
+    // The sectors' bytes are picked in rising order.
+    (9, TWO_SECTORS, &[], 0, [0, 0, 0, 0]),
+    (9, TWO_SECTORS, &[1], 0, [0, 1, 0, 0]),
+    (9, TWO_SECTORS, &[0, 1], 0, [0, 0, 0, 2]),
+    (9, TWO_SECTORS, &[1, 1], 0, [0, 1, 0, 2]),
+    (9, TWO_SECTORS, &[2, 2], 0, [0, 0, 0, 3]),
+    (9, TWO_SECTORS, &[1, 2, 9], 0, [0, 1, 0, 3]),
+    // What a fault kept from passing may be left too.
+    (0, SYNCED_BETWEEN, &[0, 0], 4, [0, 0, 0, 0]),
+    (0, SYNCED_BETWEEN, &[1, 1], 4, [1, 1, 0, 0]),
+    (1, SYNCED_BETWEEN, &[0, 0], 3, [0, 0, 0, 0]),
+    (1, SYNCED_BETWEEN, &[1, 1], 3, [1, 1, 0, 0]),
+    (2, SYNCED_BETWEEN, &[0, 0], 2, [0, 0, 0, 0]),
+    (2, SYNCED_BETWEEN, &[1, 1], 2, [1, 1, 0, 0]),
+    (3, SYNCED_BETWEEN, &[0, 0], 1, [1, 1, 0, 0]),
+    (3, SYNCED_BETWEEN, &[1, 1], 1, [3, 1, 0, 0]),
+];
+
 #[test]
 fn a_stop_leaves_what_its_choice_picks(rt: HostRuntime) -> Result<(), Fail> {
-    // How many writes and syncs pass, the calls, the choice, how often the disk has failed, and the first bytes.
-    for (armed, calls, choice, failures, found) in [
-        (9, ONE_SECTOR, [].as_slice(), 0, [0, 0, 1, 0]),
-        (9, ONE_SECTOR, [0].as_slice(), 0, [0, 0, 1, 0]),
-        (9, ONE_SECTOR, [1].as_slice(), 0, [0, 0, 2, 0]),
-        (9, ONE_SECTOR, [2].as_slice(), 0, [0, 0, 3, 0]),
-        (9, ONE_SECTOR, [3].as_slice(), 0, [0, 0, 1, 0]),
-        (9, ONE_SECTOR, [254].as_slice(), 0, [0, 0, 3, 0]),
-        (9, ONE_SECTOR, [255].as_slice(), 0, [0, 0, 1, 0]),
-        // The sectors' bytes are picked in rising order.
-        (9, TWO_SECTORS, [].as_slice(), 0, [0, 0, 0, 0]),
-        (9, TWO_SECTORS, [1].as_slice(), 0, [0, 1, 0, 0]),
-        (9, TWO_SECTORS, [0, 1].as_slice(), 0, [0, 0, 0, 2]),
-        (9, TWO_SECTORS, [1, 1].as_slice(), 0, [0, 1, 0, 2]),
-        (9, TWO_SECTORS, [2, 2].as_slice(), 0, [0, 0, 0, 3]),
-        (9, TWO_SECTORS, [1, 2, 9].as_slice(), 0, [0, 1, 0, 3]),
-        // What a fault kept from passing may be left too.
-        (0, SYNCED_BETWEEN, [0, 0].as_slice(), 4, [0, 0, 0, 0]),
-        (0, SYNCED_BETWEEN, [1, 1].as_slice(), 4, [1, 1, 0, 0]),
-        (1, SYNCED_BETWEEN, [0, 0].as_slice(), 3, [0, 0, 0, 0]),
-        (1, SYNCED_BETWEEN, [1, 1].as_slice(), 3, [1, 1, 0, 0]),
-        (2, SYNCED_BETWEEN, [0, 0].as_slice(), 2, [0, 0, 0, 0]),
-        (2, SYNCED_BETWEEN, [1, 1].as_slice(), 2, [1, 1, 0, 0]),
-        (3, SYNCED_BETWEEN, [0, 0].as_slice(), 1, [1, 1, 0, 0]),
-        (3, SYNCED_BETWEEN, [1, 1].as_slice(), 1, [3, 1, 0, 0]),
-    ] {
-        let seen = stopped(&mut MemDisk::new(rt.alloc(), 4)?, armed, calls, choice)?;
+    for &(armed, calls, choice, failures, found) in &STOPS {
+        let seen = stopped_in_memory(rt.alloc(), armed, calls, choice)?;
         let wanted = (
             [armed > 0, armed > 1, armed > 2, armed > 3],
             failures,
@@ -194,9 +208,11 @@ fn a_stop_leaves_what_its_choice_picks(rt: HostRuntime) -> Result<(), Fail> {
 }
 
 // Which calls of a disk pass that fails by itself, how often it has failed, and what is in sector 0 of the disk below.
+type Through = ([bool; 4], u64, u8);
+
 fn through<D: Disk + Drop, const FAULTS: u64>(
     faulty: FaultyDisk<D, FAULTS>,
-) -> Result<([bool; 4], u64, u8), DiskFault> {
+) -> Result<Through, DiskFault> {
     let mut faulty = faulty;
     let passed = four_calls(
         &mut faulty,
@@ -212,14 +228,18 @@ fn through<D: Disk + Drop, const FAULTS: u64>(
     Ok((passed, failures, first_byte(&mut disk, 0)?))
 }
 
+// The same of a fuse and of a disk of one fault, each over a new disk.
+fn through_both(alloc: Global, call: u64) -> Result<(Through, Through), Fail> {
+    let burnt = through(FuseDisk::new(MemDisk::new(alloc, 4)?, call))?;
+    let failed = through(FailOnce::new(MemDisk::new(alloc, 4)?, call))?;
+    Ok((burnt, failed))
+}
+
 #[test]
 fn faults_come_at_their_calls(rt: HostRuntime) -> Result<(), Fail> {
     // The first call that fails, how often a fuse has failed then, and what it and a disk of one fault leave.
     for (call, failures, burnt, once) in [(0, 4, 0, 3), (1, 3, 1, 3), (2, 2, 1, 3), (3, 1, 1, 1)] {
-        let seen = (
-            through(FuseDisk::new(MemDisk::new(rt.alloc(), 4)?, call))?,
-            through(FailOnce::new(MemDisk::new(rt.alloc(), 4)?, call))?,
-        );
+        let seen = through_both(rt.alloc(), call)?;
         let wanted = (
             ([call > 0, call > 1, call > 2, call > 3], failures, burnt),
             ([call != 0, call != 1, call != 2, call != 3], 1, once),
@@ -229,40 +249,41 @@ fn faults_come_at_their_calls(rt: HostRuntime) -> Result<(), Fail> {
     Ok(())
 }
 
+// Whether each of the clients passes on a disk, and its first bytes then.
+type Ran = ((bool, bool), [u8; 4]);
+
+fn ran_in_memory(alloc: Global) -> Result<Ran, Fail> {
+    let mut disk = MemDisk::new(alloc, 4)?;
+    let contents = [(3, MIDDLE), (1, NEW), (3, OLD)];
+    let passed = run_clients(&mut disk, 2, &NEW, 0, &OLD, &contents)?;
+    Ok((passed, first_bytes(&mut disk)?))
+}
+
+fn ran_with_fuse(alloc: Global) -> Result<Ran, Fail> {
+    let mut fuse = FuseDisk::new(MemDisk::new(alloc, 4)?, 4);
+    let passed = run_clients(&mut fuse, 1, &OLD, 3, &NEW, &[(2, MIDDLE)])?;
+    Ok((passed, first_bytes(&mut fuse.into_inner())?))
+}
+
+fn ran_with_one_fault(alloc: Global) -> Result<Ran, Fail> {
+    let mut once = FailOnce::new(MemDisk::new(alloc, 4)?, 6);
+    let contents = [(2, MIDDLE), (0, OLD), (1, NEW)];
+    let passed = run_clients(&mut once, 1, &OLD, 3, &NEW, &contents)?;
+    Ok((passed, first_bytes(&mut once)?))
+}
+
 #[test]
 fn clients_run_over_each_disk(rt: HostRuntime) -> Result<(), Fail> {
-    let mut disk = MemDisk::new(rt.alloc(), 4)?;
-    let passed = run_clients(
-        &mut disk,
-        2,
-        &NEW,
-        0,
-        &OLD,
-        &[(3, MIDDLE), (1, NEW), (3, OLD)],
-    )?;
-    let plain = (passed, first_bytes(&mut disk)?);
-
-    let mut fuse = FuseDisk::new(MemDisk::new(rt.alloc(), 4)?, 4);
-    let passed = run_clients(&mut fuse, 1, &OLD, 3, &NEW, &[(2, MIDDLE)])?;
-    let burnt = (passed, first_bytes(&mut fuse.into_inner())?);
-
-    let mut once = FailOnce::new(MemDisk::new(rt.alloc(), 4)?, 6);
-    let passed = run_clients(
-        &mut once,
-        1,
-        &OLD,
-        3,
-        &NEW,
-        &[(2, MIDDLE), (0, OLD), (1, NEW)],
-    )?;
-    let failed = (passed, first_bytes(&mut once)?);
-
+    let seen = (
+        ran_in_memory(rt.alloc())?,
+        ran_with_fuse(rt.alloc())?,
+        ran_with_one_fault(rt.alloc())?,
+    );
     let wanted = (
         ((true, true), [1, 3, 3, 1]),
         ((false, false), [0, 1, 0, 3]),
         ((true, false), [0, 1, 2, 3]),
     );
-    let seen = (plain, burnt, failed);
     assert!(rt; seen == wanted, "{seen:?}");
     Ok(())
 }

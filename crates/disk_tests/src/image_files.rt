@@ -100,10 +100,10 @@ enum Step {
 
 fn take_step(rt: &HostRuntime, path: Path<'_>, step: Step) -> Result<Seen, FileFault> {
     match step {
-        Step::Create => Ok(see(&mut FileDisk::create(rt, rt.alloc(), path, 4)?)),
+        Step::Create => created(rt, path),
         Step::Open => opened(rt, path),
-        Step::CreateTwice => second(rt, path, FileDisk::create(rt, rt.alloc(), path, 4)?),
-        Step::OpenTwice => second(rt, path, FileDisk::open(rt, rt.alloc(), path)?),
+        Step::CreateTwice => second(rt, path, FileDisk::create(rt, rt.alloc(), path, 4)),
+        Step::OpenTwice => second(rt, path, FileDisk::open(rt, rt.alloc(), path)),
         Step::Zeros(len) => zeros(rt, path, len),
         Step::Sevens => sevens(rt, path),
         Step::Write => written(rt, path),
@@ -111,12 +111,21 @@ fn take_step(rt: &HostRuntime, path: Path<'_>, step: Step) -> Result<Seen, FileF
     }
 }
 
+fn created(rt: &HostRuntime, path: Path<'_>) -> Result<Seen, FileFault> {
+    Ok(see(&mut FileDisk::create(rt, rt.alloc(), path, 4)?))
+}
+
 fn opened(rt: &HostRuntime, path: Path<'_>) -> Result<Seen, FileFault> {
     Ok(see(&mut FileDisk::open(rt, rt.alloc(), path)?))
 }
 
 // What a second disk of a file comes to, while the first is there.
-fn second(rt: &HostRuntime, path: Path<'_>, first: FileDisk<File>) -> Result<Seen, FileFault> {
+fn second(
+    rt: &HostRuntime,
+    path: Path<'_>,
+    first: Result<FileDisk<File>, FileFault>,
+) -> Result<Seen, FileFault> {
+    let first = first?;
     let second = opened(rt, path);
     let _ = first.size();
     second
@@ -149,9 +158,21 @@ fn tail(rt: &HostRuntime, path: Path<'_>) -> Result<Seen, FileFault> {
     let Ok(bytes) = fs::read(rt, path) else {
         return Err(FileFault::Failed);
     };
-    let byte = |at: usize| bytes.get(at).copied().unwrap_or(255);
+    Ok(tail_of(&bytes))
+}
+
+fn tail_of(bytes: &[u8]) -> Seen {
     let len = u32::try_from(bytes.len()).unwrap_or(u32::MAX);
-    Ok((len, [byte(1536), byte(1600), byte(1635)]))
+    let tail = [
+        byte_of(bytes, 1536),
+        byte_of(bytes, 1600),
+        byte_of(bytes, 1635),
+    ];
+    (len, tail)
+}
+
+fn byte_of(bytes: &[u8], at: usize) -> u8 {
+    bytes.get(at).copied().unwrap_or(255)
 }
 
 // The number of the first row that isn't so, and what there is instead.
@@ -169,30 +190,34 @@ fn first_wrong(
     None
 }
 
+// What is done to one file after another, and what comes of it.
+static STEPS: [(Step, Result<Seen, FileFault>); 14] = [
+    (Step::Open, Err(FileFault::Failed)),
+    (Step::CreateTwice, Err(FileFault::Failed)),
+    (Step::Create, Err(FileFault::Exists)),
+    (Step::Open, Ok((4, [0, 0, 0]))),
+    (Step::Sevens, Ok((3, [7, 7, 7]))),
+    (Step::OpenTwice, Err(FileFault::Failed)),
+    (Step::Write, Ok((3, [7, 1, 3]))),
+    (Step::OpenTwice, Err(FileFault::Failed)),
+    (Step::Open, Ok((3, [7, 1, 3]))),
+    (Step::Tail, Ok((1636, [7, 7, 7]))),
+    (Step::Zeros(511), Ok((0, [255, 255, 255]))),
+    (Step::Zeros(1023), Ok((1, [0, 255, 255]))),
+    (Step::Zeros(65_537 * 512), Ok((65_537, [0, 0, 0]))),
+    (Step::Zeros(65_538 * 512), Ok((65_537, [0, 0, 0]))),
+];
+
+fn first_wrong_step(rt: &HostRuntime) -> Result<Option<(usize, Result<Seen, FileFault>)>, Fail> {
+    let path = scratch(rt, "kept")?;
+    let wrong = first_wrong(rt, path.as_path(), &STEPS);
+    let _ = fs::remove_file(rt, path.as_path());
+    Ok(wrong)
+}
+
 #[test]
 fn a_file_keeps_its_sectors(rt: HostRuntime) -> Result<(), Fail> {
-    let path = scratch(&rt, "kept")?;
-    let wrong = first_wrong(
-        &rt,
-        path.as_path(),
-        &[
-            (Step::Open, Err(FileFault::Failed)),
-            (Step::CreateTwice, Err(FileFault::Failed)),
-            (Step::Create, Err(FileFault::Exists)),
-            (Step::Open, Ok((4, [0, 0, 0]))),
-            (Step::Sevens, Ok((3, [7, 7, 7]))),
-            (Step::OpenTwice, Err(FileFault::Failed)),
-            (Step::Write, Ok((3, [7, 1, 3]))),
-            (Step::OpenTwice, Err(FileFault::Failed)),
-            (Step::Open, Ok((3, [7, 1, 3]))),
-            (Step::Tail, Ok((1636, [7, 7, 7]))),
-            (Step::Zeros(511), Ok((0, [255, 255, 255]))),
-            (Step::Zeros(1023), Ok((1, [0, 255, 255]))),
-            (Step::Zeros(65_537 * 512), Ok((65_537, [0, 0, 0]))),
-            (Step::Zeros(65_538 * 512), Ok((65_537, [0, 0, 0]))),
-        ],
-    );
-    let _ = fs::remove_file(&rt, path.as_path());
+    let wrong = first_wrong_step(&rt)?;
     assert!(rt; wrong == None, "{wrong:?}");
     Ok(())
 }
@@ -203,22 +228,34 @@ type Told = (Result<([bool; 4], u64, Seen), FileFault>, u64);
 
 fn fail_calls(rt: &HostRuntime, path: Path<'_>, done: [Call; 4], first: u64, count: u64) -> Told {
     let calls = Cell::new(0);
-    let mut how = OpenOptions::new();
-    how.read(true).write(true);
-    let Ok(file) = how.open(rt, path) else {
-        return (Err(FileFault::Failed), 0);
-    };
-    let flaky = Flaky {
-        file,
-        first,
-        count,
-        calls: &calls,
-    };
-    let told = match FileDisk::over(rt.alloc(), flaky) {
-        Ok(disk) => Ok(call_disk(disk, done)),
-        Err(fault) => Err(fault),
+    let told = match open_to_write(rt, path) {
+        Err(_) => Err(FileFault::Failed),
+        Ok(file) => call_over(
+            rt,
+            Flaky {
+                file,
+                first,
+                count,
+                calls: &calls,
+            },
+            done,
+        ),
     };
     (told, calls.get())
+}
+
+fn open_to_write(rt: &HostRuntime, path: Path<'_>) -> io::Result<File> {
+    let mut how = OpenOptions::new();
+    how.read(true).write(true);
+    how.open(rt, path)
+}
+
+fn call_over(
+    rt: &HostRuntime,
+    file: Flaky<'_>,
+    calls: [Call; 4],
+) -> Result<([bool; 4], u64, Seen), FileFault> {
+    Ok(call_disk(FileDisk::over(rt.alloc(), file)?, calls))
 }
 
 fn call_disk<D: Disk + Drop>(disk: D, calls: [Call; 4]) -> ([bool; 4], u64, Seen) {
@@ -228,12 +265,9 @@ fn call_disk<D: Disk + Drop>(disk: D, calls: [Call; 4]) -> ([bool; 4], u64, Seen
 }
 
 // The same of a file of three sectors, and what it has then.
-fn fail(
-    rt: &HostRuntime,
-    path: Path<'_>,
-    first: u64,
-    count: u64,
-) -> Result<([bool; 4], u64, Seen, Seen), FileFault> {
+type Failed = Result<([bool; 4], u64, Seen, Seen), FileFault>;
+
+fn fail(rt: &HostRuntime, path: Path<'_>, first: u64, count: u64) -> Failed {
     let _ = zeros(rt, path, 3 * 512)?;
     let (told, _) = fail_calls(rt, path, TWO_RUNS, first, count);
     let (passed, failures, read) = told?;
@@ -253,76 +287,90 @@ const TWO_RUNS: [Call; 4] = [Call::Write(2, 3), Call::Write(0, 1), Call::Sync, C
 // Where the file isn't failing: a lock, a sync and a read when it is opened, two writes and a sync at the first sync, and at the
 // second a sync. The first call that fails and how many do; the disk's failures and which calls pass; what reads give, and
 // what the file has.
-type Failing = (
-    u64,
-    u64,
-    Result<([bool; 4], u64, [u8; 3], [u8; 3]), FileFault>,
-);
-
-const FAILING: [Failing; 11] = [
+static FAILING: [(u64, u64, Failed); 11] = [
     (0, 1, Err(FileFault::Failed)),
     (1, 1, Err(FileFault::Failed)),
     (2, 1, Err(FileFault::Failed)),
     (
         3,
         1,
-        Ok(([true, true, false, true], 1, [1, 0, 3], [1, 0, 3])),
+        Ok(([true, true, false, true], 1, (3, [1, 0, 3]), (3, [1, 0, 3]))),
     ),
     // The next sync begins with the first run again.
     (
         3,
         2,
-        Ok(([true, true, false, false], 2, [1, 0, 3], [0, 0, 0])),
+        Ok((
+            [true, true, false, false],
+            2,
+            (3, [1, 0, 3]),
+            (3, [0, 0, 0]),
+        )),
     ),
     (
         4,
         1,
-        Ok(([true, true, false, true], 1, [1, 0, 3], [1, 0, 3])),
+        Ok(([true, true, false, true], 1, (3, [1, 0, 3]), (3, [1, 0, 3]))),
     ),
     (
         4,
         2,
-        Ok(([true, true, false, false], 2, [1, 0, 3], [1, 0, 0])),
+        Ok((
+            [true, true, false, false],
+            2,
+            (3, [1, 0, 3]),
+            (3, [1, 0, 0]),
+        )),
     ),
     (
         5,
         1,
-        Ok(([true, true, false, true], 1, [1, 0, 3], [1, 0, 3])),
+        Ok(([true, true, false, true], 1, (3, [1, 0, 3]), (3, [1, 0, 3]))),
     ),
     // The next one would write all three sectors again.
     (
         5,
         2,
-        Ok(([true, true, false, false], 2, [1, 0, 3], [1, 0, 3])),
+        Ok((
+            [true, true, false, false],
+            2,
+            (3, [1, 0, 3]),
+            (3, [1, 0, 3]),
+        )),
     ),
     (
         6,
         1,
-        Ok(([true, true, true, false], 1, [1, 0, 3], [1, 0, 3])),
+        Ok(([true, true, true, false], 1, (3, [1, 0, 3]), (3, [1, 0, 3]))),
     ),
     (
         7,
         1,
-        Ok(([true, true, true, true], 0, [1, 0, 3], [1, 0, 3])),
+        Ok(([true, true, true, true], 0, (3, [1, 0, 3]), (3, [1, 0, 3]))),
     ),
 ];
 
+fn refused_at_scratch(rt: &HostRuntime) -> Result<Result<Told, FileFault>, Fail> {
+    let path = scratch(rt, "flaky")?;
+    let seen = refused(rt, path.as_path());
+    let _ = fs::remove_file(rt, path.as_path());
+    Ok(seen)
+}
+
+fn fail_at_scratch(rt: &HostRuntime, first: u64, count: u64) -> Result<Failed, Fail> {
+    let path = scratch(rt, "flaky")?;
+    let seen = fail(rt, path.as_path(), first, count);
+    let _ = fs::remove_file(rt, path.as_path());
+    Ok(seen)
+}
+
 #[test]
 fn a_failing_file_is_a_failing_disk(rt: HostRuntime) -> Result<(), Fail> {
-    let path = scratch(&rt, "flaky")?;
     // Of a file whose lock is taken nothing but that is asked.
-    let seen = refused(&rt, path.as_path());
-    let _ = fs::remove_file(&rt, path.as_path());
+    let seen = refused_at_scratch(&rt)?;
     assert!(rt; seen == Ok((Err(FileFault::Failed), 1)), "{seen:?}");
-    for (first, count, wanted) in FAILING {
-        let seen = fail(&rt, path.as_path(), first, count);
-        let _ = fs::remove_file(&rt, path.as_path());
-        let wanted = wanted.map(|(passed, failures, read, file)| (
-            passed,
-            failures,
-            (3, read),
-            (3, file),
-        ));
+    for &(first, count, wanted) in &FAILING {
+        let seen = fail_at_scratch(&rt, first, count)?;
         assert!(rt; seen == wanted, "{first} {count} {seen:?}");
     }
     Ok(())
@@ -342,9 +390,18 @@ fn count_calls(rt: &HostRuntime, path: Path<'_>, writes: [u32; 3]) -> Result<u64
     Ok(count)
 }
 
+fn count_calls_at_scratch(
+    rt: &HostRuntime,
+    writes: [u32; 3],
+) -> Result<Result<u64, FileFault>, Fail> {
+    let path = scratch(rt, "runs")?;
+    let seen = count_calls(rt, path.as_path(), writes);
+    let _ = fs::remove_file(rt, path.as_path());
+    Ok(seen)
+}
+
 #[test]
 fn neighbours_are_written_in_one_call(rt: HostRuntime) -> Result<(), Fail> {
-    let path = scratch(&rt, "runs")?;
     // A lock, a sync and a read, the writes, and a sync.
     for (writes, wanted) in [
         ([0, 1, 2], 5),
@@ -353,8 +410,7 @@ fn neighbours_are_written_in_one_call(rt: HostRuntime) -> Result<(), Fail> {
         ([0, 1, 0], 5),
         ([2, 0, 2], 6),
     ] {
-        let seen = count_calls(&rt, path.as_path(), writes);
-        let _ = fs::remove_file(&rt, path.as_path());
+        let seen = count_calls_at_scratch(&rt, writes)?;
         assert!(rt; seen == Ok(wanted), "{writes:?} {seen:?}");
     }
     Ok(())

@@ -153,9 +153,29 @@ fn bytes_after_stop<D: CrashDisk + Drop>(
     bytes_of(disk)
 }
 
+// The same of a batch of two sectors, on a new disk.
+fn two_after_stop(
+    alloc: Global,
+    passes: u64,
+    choice: &[u8],
+) -> Result<Option<(u8, u8)>, AllocError> {
+    let batch = batch_of(alloc, 2)?;
+    let disk = disk_with(alloc, 0)?;
+    Ok(bytes_after_stop(disk, &batch, passes, choice))
+}
+
+// The same for choices 0, choices 1, and two that begin with one of these and end with the other.
+fn two_after_stops(alloc: Global, passes: u64) -> Result<[Option<(u8, u8)>; 4], AllocError> {
+    Ok([
+        two_after_stop(alloc, passes, &[])?,
+        two_after_stop(alloc, passes, &[1, 1, 1])?,
+        two_after_stop(alloc, passes, &[0, 1])?,
+        two_after_stop(alloc, passes, &[1, 0])?,
+    ])
+}
+
 #[test]
 fn a_stop_leaves_the_batch_whole_or_not_at_all(rt: HostRuntime) -> Result<(), Fail> {
-    let batch = batch_of(rt.alloc(), 2)?;
     // How many writes and syncs pass, and what is read for choices 0 and for choices 1.
     for (passes, zeros, ones) in [
         (0, (0, 0), (0, 0)),
@@ -170,15 +190,9 @@ fn a_stop_leaves_the_batch_whole_or_not_at_all(rt: HostRuntime) -> Result<(), Fa
         (9, (7, 8), (7, 8)),
         (10, (7, 8), (7, 8)),
     ] {
-        for (choice, want) in [
-            ([].as_slice(), zeros),
-            ([1, 1, 1].as_slice(), ones),
-            ([0, 1].as_slice(), zeros),
-            ([1, 0].as_slice(), ones),
-        ] {
-            let found = bytes_after_stop(disk_with(rt.alloc(), 0)?, &batch, passes, choice);
-            assert!(rt; found == Some(want), "{passes} {choice:?}");
-        }
+        let found = two_after_stops(rt.alloc(), passes)?;
+        let wanted = [Some(zeros), Some(ones), Some(zeros), Some(ones)];
+        assert!(rt; found == wanted, "{passes} {found:?}");
     }
     Ok(())
 }
@@ -201,30 +215,51 @@ fn bytes_after_stops<D: CrashDisk + Drop>(
     bytes_of(disk)
 }
 
+// The same of a batch of two sectors, on a new disk.
+fn two_after_openings(
+    alloc: Global,
+    passes: u64,
+    choice: &[u8],
+    openings: (u64, u64),
+    later: &[u8],
+) -> Result<Option<(u8, u8)>, AllocError> {
+    let batch = batch_of(alloc, 2)?;
+    let disk = disk_with(alloc, 0)?;
+    Ok(bytes_after_stops(disk, &batch, passes, choice, openings, later))
+}
+
+// The same for four choices at the later stops.
+fn four_after_openings(
+    alloc: Global,
+    passes: u64,
+    choice: &[u8],
+    openings: (u64, u64),
+) -> Result<[Option<(u8, u8)>; 4], AllocError> {
+    Ok([
+        two_after_openings(alloc, passes, choice, openings, &[])?,
+        two_after_openings(alloc, passes, choice, openings, &[1, 1])?,
+        two_after_openings(alloc, passes, choice, openings, &[0, 1])?,
+        two_after_openings(alloc, passes, choice, openings, &[1, 0])?,
+    ])
+}
+
+// How many writes and syncs of the commit pass, the choice at its stop, and what is read then.
+static RECOVERIES: [(u64, &[u8], (u8, u8)); 6] = [
+    (3, &[0], (0, 0)),
+    (4, &[1], (7, 8)),
+    (5, &[0], (7, 8)),
+    (7, &[1], (7, 8)),
+    (9, &[0], (7, 8)),
+    (9, &[1], (7, 8)),
+];
+
 #[test]
 fn a_stop_within_recovery_leaves_the_same(rt: HostRuntime) -> Result<(), Fail> {
-    let batch = batch_of(rt.alloc(), 2)?;
-    // How many writes and syncs of the commit pass, the choice at its stop, and what is read then.
-    for (passes, choice, want) in [
-        (3, [0].as_slice(), (0, 0)),
-        (4, [1].as_slice(), (7, 8)),
-        (5, [0].as_slice(), (7, 8)),
-        (7, [1].as_slice(), (7, 8)),
-        (9, [0].as_slice(), (7, 8)),
-        (9, [1].as_slice(), (7, 8)),
-    ] {
+    for &(passes, choice, want) in &RECOVERIES {
         for stops in 0..64 {
             let openings = (stops / 8, stops % 8);
-            for later in [
-                [].as_slice(),
-                [1, 1].as_slice(),
-                [0, 1].as_slice(),
-                [1, 0].as_slice(),
-            ] {
-                let disk = disk_with(rt.alloc(), 0)?;
-                let found = bytes_after_stops(disk, &batch, passes, choice, openings, later);
-                assert!(rt; found == Some(want), "{passes} {openings:?} {later:?}");
-            }
+            let found = four_after_openings(rt.alloc(), passes, choice, openings)?;
+            assert!(rt; found == [Some(want); 4], "{passes} {openings:?} {found:?}");
         }
     }
     Ok(())
@@ -253,15 +288,20 @@ fn sealed_disk(alloc: Global, batch: &Batch) -> Option<MemDisk>
     }
 }
 
+// What is read after a fault at this call of the recovery of two sectors.
+fn two_after_fault(alloc: Global, call: u64) -> Result<Option<(u8, u8)>, AllocError> {
+    let batch = batch_of(alloc, 2)?;
+    Ok(match sealed_disk(alloc, &batch) {
+        Some(disk) => bytes_after_fault(FailOnce::new(disk, call)),
+        None => None,
+    })
+}
+
 #[test]
 fn a_fault_within_recovery_loses_nothing(rt: HostRuntime) -> Result<(), Fail> {
-    let batch = batch_of(rt.alloc(), 2)?;
     // Recovery of two sectors makes a sync and a read, two reads and writes, a sync, a write and a sync.
     for call in 0..9 {
-        let found = match sealed_disk(rt.alloc(), &batch) {
-            Some(disk) => bytes_after_fault(FailOnce::new(disk, call)),
-            None => None,
-        };
+        let found = two_after_fault(rt.alloc(), call)?;
         assert!(rt; found == Some((7, 8)), "{call}");
     }
     Ok(())
@@ -344,16 +384,18 @@ fn recovery_calls(alloc: Global, batch: &Batch) -> Option<u64>
     None
 }
 
+// A batch's length, and both for it.
+fn calls_of(alloc: Global, length: u8) -> Result<(usize, Option<u64>, Option<u64>), AllocError> {
+    let batch = batch_of(alloc, length)?;
+    let commit = commit_calls(alloc, &batch);
+    Ok((batch.len(), commit, recovery_calls(alloc, &batch)))
+}
+
 #[test]
 fn writes_and_syncs_are_counted(rt: HostRuntime) -> Result<(), Fail> {
     // The batch's length; the writes and syncs of its commit, and of opening where it is sealed.
     for (length, commit, recovery) in [(0, 0, 1), (1, 8, 5), (2, 10, 6), (126, 258, 130)] {
-        let batch = batch_of(rt.alloc(), length)?;
-        let found = (
-            batch.len(),
-            commit_calls(rt.alloc(), &batch),
-            recovery_calls(rt.alloc(), &batch),
-        );
+        let found = calls_of(rt.alloc(), length)?;
         assert!(rt;
             found == (usize::from(length), Some(commit), Some(recovery)),
             "{found:?}"
@@ -385,10 +427,14 @@ fn bytes_after_arming<D: CrashDisk + Drop>(disk: D, batch: &Batch) -> Option<(u8
     }
 }
 
+fn two_after_arming(alloc: Global) -> Result<Option<(u8, u8)>, AllocError> {
+    let batch = batch_of(alloc, 2)?;
+    Ok(bytes_after_arming(disk_with(alloc, 0)?, &batch))
+}
+
 #[test]
 fn a_broken_journal_can_be_armed(rt: HostRuntime) -> Result<(), Fail> {
-    let batch = batch_of(rt.alloc(), 2)?;
-    let found = bytes_after_arming(disk_with(rt.alloc(), 0)?, &batch);
+    let found = two_after_arming(rt.alloc())?;
     assert!(rt; found == Some((7, 8)), "{found:?}");
     Ok(())
 }

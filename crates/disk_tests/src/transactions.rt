@@ -119,8 +119,22 @@ fn with_some<D: Disk>(store: Store<D>, from: u8, to: u8) -> Txn<D>
 fn with_kept<D: Disk + Drop>(alloc: Global, disk: D, count: u8) -> Result<Store<D>, Fail>
     ensures { IfOk result (λ store. (D.state store.disk).size ≡ 1024) }
 {
-    match with_some(opened(alloc, disk)?, 0, count).keep() {
+    keep(with_some(opened(alloc, disk)?, 0, count))
+}
+
+fn keep<D: Disk + Drop>(txn: Txn<D>) -> Result<Store<D>, Fail>
+    requires { (D.state txn.disk).size ≡ 1024 }
+    ensures { IfOk result (λ store. (D.state store.disk).size ≡ 1024) }
+{
+    match txn.keep() {
         Ok(store) => Ok(store),
+        Err(_) => Err(Fail::new("broken")),
+    }
+}
+
+fn flushed_disk<D: Disk + Drop>(store: Store<D>) -> Result<D, Fail> {
+    match store.flush() {
+        Ok(store) => Ok(store.into_disk()),
         Err(_) => Err(Fail::new("broken")),
     }
 }
@@ -133,19 +147,9 @@ fn after_keep<D: CrashDisk + Drop>(
 ) -> Result<(usize, u8, u8), Fail> {
     let txn = with_some(opened(alloc, disk)?, 0, count);
     let room = txn.room();
-    match txn.keep() {
-        Err(_) => Err(Fail::new("broken")),
-        Ok(store) => {
-            let (kept, store) = count_kept(store, count);
-            match store.flush() {
-                Err(_) => Err(Fail::new("broken")),
-                Ok(store) => {
-                    let lasting = count_lasting(alloc, store.into_disk(), &[], count)?;
-                    Ok((room, kept?, lasting))
-                }
-            }
-        }
-    }
+    let (kept, store) = count_kept(keep(txn)?, count);
+    let lasting = count_lasting(alloc, flushed_disk(store)?, &[], count)?;
+    Ok((room, kept?, lasting))
 }
 
 // How many sectors are there once they are put, once they are dropped, and after a stop.
@@ -222,15 +226,20 @@ fn kept_and_flushed<D: Disk>(txn: Txn<D>) -> (bool, bool, D) {
     }
 }
 
+// Whether no change is kept and flushed where the disk's calls pass up to the first after the journal's opening.
+fn nothing_kept(alloc: Global) -> Result<(bool, bool), Fail> {
+    let idle = FuseDisk::new(idle_disk(alloc)?, 2);
+    let (kept, flushed, _) = kept_and_flushed(opened(alloc, idle)?.begin());
+    Ok((kept, flushed))
+}
+
 #[test]
 fn a_failed_get_leaves_map_and_delta(rt: HostRuntime) -> Result<(), Fail> {
     // Opening an idle journal makes a sync and a read; keeping one change makes no call, and flushing nothing none.
-    let idle = FuseDisk::new(idle_disk(rt.alloc())?, 2);
-    let (kept, flushed, _) = kept_and_flushed(opened(rt.alloc(), idle)?.begin());
     let seen = (
         around_a_fault(rt.alloc(), FailOnce::new(idle_disk(rt.alloc())?, 2))?,
         around_a_fault(rt.alloc(), FuseDisk::new(idle_disk(rt.alloc())?, 2))?,
-        (kept, flushed),
+        nothing_kept(rt.alloc())?,
     );
     let wanted = (
         (false, 7, true, 63, (true, true)),
@@ -255,6 +264,26 @@ fn kept_while_armed<D: CrashDisk + Drop>(
     Ok((kept, flushed, count_lasting(alloc, disk, choice, count)?))
 }
 
+// The same on a new disk.
+fn kept_on_new(
+    alloc: Global,
+    passes: u64,
+    count: u8,
+    choice: &[u8],
+) -> Result<(bool, bool, u8), Fail> {
+    kept_while_armed(alloc, idle_disk(alloc)?, passes, count, choice)
+}
+
+// The same for choices 0, choices 1, and two that begin with one of these and end with the other.
+fn kept_for_choices(alloc: Global, passes: u64, count: u8) -> Result<[(bool, bool, u8); 4], Fail> {
+    Ok([
+        kept_on_new(alloc, passes, count, &[])?,
+        kept_on_new(alloc, passes, count, &[1, 1, 1])?,
+        kept_on_new(alloc, passes, count, &[0, 1])?,
+        kept_on_new(alloc, passes, count, &[1, 0])?,
+    ])
+}
+
 #[test]
 fn a_stop_within_a_flush_leaves_all_or_nothing(rt: HostRuntime) -> Result<(), Fail> {
     // How many writes and syncs pass, of how many sectors, and how many are there for choices 0 and for choices 1: a
@@ -277,24 +306,14 @@ fn a_stop_within_a_flush_leaves_all_or_nothing(rt: HostRuntime) -> Result<(), Fa
         (134, 64, 64, 64),
     ] {
         let flushed = passes == 2 * u64::from(count) + 6;
-        for (choice, want) in [
-            ([].as_slice(), zeros),
-            ([1, 1, 1].as_slice(), ones),
-            ([0, 1].as_slice(), zeros),
-            ([1, 0].as_slice(), ones),
-        ] {
-            let found = kept_while_armed(
-                rt.alloc(),
-                idle_disk(rt.alloc())?,
-                passes,
-                count,
-                choice,
-            )?;
-            assert!(rt;
-                found == (true, flushed, want),
-                "{passes} {count} {choice:?}"
-            );
-        }
+        let found = kept_for_choices(rt.alloc(), passes, count)?;
+        let wanted = [
+            (true, flushed, zeros),
+            (true, flushed, ones),
+            (true, flushed, zeros),
+            (true, flushed, ones),
+        ];
+        assert!(rt; found == wanted, "{passes} {count} {found:?}");
     }
     Ok(())
 }
@@ -345,19 +364,24 @@ fn read_twice<D: Disk + Drop>(alloc: Global, disk: D) -> Result<[bool; 5], Fail>
     let again = byte_at(&mut txn, 200).is_ok();
     let other = byte_at(&mut txn, 201).is_ok();
     put_some(&mut txn, 0, 1);
-    match txn.keep() {
-        Err(_) => Err(Fail::new("not kept")),
-        Ok(store) => match store.flush() {
-            Err(_) => Ok([first, again, other, false, false]),
-            Ok(store) => {
-                let mut txn = store.begin();
-                let changed = byte_at(&mut txn, 200).is_ok();
-                let same = byte_at(&mut txn, 201).is_ok();
-                let _ = txn.drop_delta();
-                Ok([first, again, other, changed, same])
-            }
-        },
-    }
+    let (changed, same) = match keep(txn)?.flush() {
+        Ok(store) => read_both(store),
+        Err(_) => (false, false),
+    };
+    Ok([first, again, other, changed, same])
+}
+
+// Whether a read of sector 200 is answered, and one of sector 201.
+fn read_both<D: Disk + Drop>(store: Store<D>) -> (bool, bool)
+    requires { (D.state store.disk).size ≡ 1024 }
+{
+    let mut txn = store.begin();
+    let seen = (
+        byte_at(&mut txn, 200).is_ok(),
+        byte_at(&mut txn, 201).is_ok(),
+    );
+    let _ = txn.drop_delta();
+    seen
 }
 
 #[test]

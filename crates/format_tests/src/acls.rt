@@ -4,7 +4,7 @@ use std::alloc::Global;
 use std::test::Fail;
 
 // Texts, how many times over they stand, and their first fault.
-const FAULTY: [(&str, usize, AclFault); 25] = [
+static FAULTY: [(&str, usize, AclFault); 25] = [
     ("", 1, AclFault::MissingBase),
     ("u::rw-,u::r--,g::---,o::---", 1, AclFault::TwiceBase),
     (
@@ -55,7 +55,7 @@ fn fault_of(alloc: Global, text: &[u8], times: usize) -> Result<Option<AclFault>
 
 #[test]
 fn names_the_first_fault_of_a_text(rt: HostRuntime) -> Result<(), Fail> {
-    for (text, times, fault) in FAULTY {
+    for &(text, times, fault) in &FAULTY {
         let seen = fault_of(rt.alloc(), text.as_bytes(), times)?;
         assert!(rt; seen == Some(fault), "{times} times {text}");
     }
@@ -65,7 +65,7 @@ fn names_the_first_fault_of_a_text(rt: HostRuntime) -> Result<(), Fail> {
 }
 
 // Texts of one list.
-const TEXTS: [&str; 6] = [
+static TEXTS: [&str; 6] = [
     "user::rw-\nuser:1000:rwx\t#effective:r--\ngroup::r--\nmask::r--\nother::---\n",
     "# file: notes\n# owner: 1000\n# group: 100\nuser::rw-\nuser:1000:rwx\t\t#effective:r--\ngroup::r--\nmask::r--\nother::---\n\n",
     ",\n \t,o:---, m:-r-,g::--r\t# a, b\nu:1000:wxr,,u::wr,",
@@ -74,16 +74,18 @@ const TEXTS: [&str; 6] = [
     "user::rw-\nuser:1000:rwx\ngroup::r--\nmask::r--\nother::---\n",
 ];
 
-fn rewritten(alloc: Global, text: &str, form: TextForm) -> Result<String, AclFault> {
-    Acl::parse_text(alloc, text.as_bytes())?.write_text(form)
+// Whether the list of a text is written so in a form.
+fn is_rewritten(alloc: Global, text: &str, form: TextForm, wanted: &str) -> Result<bool, AclFault> {
+    let seen = Acl::parse_text(alloc, text.as_bytes())?.write_text(form)?;
+    Ok(seen.as_str() == wanted)
 }
 
 #[test]
 fn reads_and_writes_texts(rt: HostRuntime) -> Result<(), Fail> {
     for (form, wanted) in [(TextForm::Short, TEXTS[4]), (TextForm::Long, TEXTS[5])] {
-        for text in TEXTS {
-            let seen = rewritten(rt.alloc(), text, form)?;
-            assert!(rt; seen.as_str() == wanted, "{text}");
+        for &text in &TEXTS {
+            let seen = is_rewritten(rt.alloc(), text, form, wanted)?;
+            assert!(rt; seen, "{text}");
         }
     }
     Ok(())
@@ -96,15 +98,20 @@ enum Change {
     Given(u16),
 }
 
-fn changed(alloc: Global, text: &str, change: Change) -> Result<String, AclFault> {
-    let acl = Acl::parse_text(alloc, text.as_bytes())?;
+// Whether the list of a text is written so once it is changed.
+fn is_changed(alloc: Global, text: &str, change: Change, wanted: &str) -> Result<bool, AclFault> {
+    let changed = after(Acl::parse_text(alloc, text.as_bytes())?, change)?;
+    Ok(changed.write_text(TextForm::Short)?.as_str() == wanted)
+}
+
+fn after(acl: Acl, change: Change) -> Result<Acl, AclFault> {
     match change {
-        Change::Inherited(mode) => acl.inherit(mode)?.write_text(TextForm::Short),
-        Change::Given(bits) => acl.with_mode_bits(bits).write_text(TextForm::Short),
+        Change::Inherited(mode) => acl.inherit(mode),
+        Change::Given(bits) => Ok(acl.with_mode_bits(bits)),
     }
 }
 
-const CHANGES: [(&str, Change, &str); 3] = [
+static CHANGES: [(&str, Change, &str); 3] = [
     (
         "user::rwx,user:1001:rwx,group::r-x,mask::rwx,other::---",
         Change::Inherited(0o640),
@@ -124,9 +131,9 @@ const CHANGES: [(&str, Change, &str); 3] = [
 
 #[test]
 fn permission_bits_change_a_list(rt: HostRuntime) -> Result<(), Fail> {
-    for (text, change, wanted) in CHANGES {
-        let seen = changed(rt.alloc(), text, change)?;
-        assert!(rt; seen.as_str() == wanted, "{text}: {seen}");
+    for &(text, change, wanted) in &CHANGES {
+        let seen = is_changed(rt.alloc(), text, change, wanted)?;
+        assert!(rt; seen, "{text}");
     }
     Ok(())
 }

@@ -58,7 +58,7 @@ fn rights(cred: &Cred) -> [bool; 6] {
 }
 
 // A user in these groups, who has these capabilities, and what the user may of that.
-const RIGHTS: [(u32, &[u32], u32, [bool; 6]); 10] = [
+static RIGHTS: [(u32, &[u32], u32, [bool; 6]); 10] = [
     (1001, &[], 0, [false, false, false, false, false, false]),
     (0, &[], 0, [false, false, false, false, true, false]),
     (0, &[], 31, [true, true, true, true, true, true]),
@@ -71,11 +71,16 @@ const RIGHTS: [(u32, &[u32], u32, [bool; 6]); 10] = [
     (1001, &[], 16, [false, false, false, false, false, true]),
 ];
 
+fn rights_of(alloc: Global, uid: u32, groups: &[u32], caps: u32) -> Result<[bool; 6], CredFault> {
+    let cred = Cred::with_caps(alloc, uid, 101, groups, Caps::from_bits_retain(caps))?;
+    Ok(rights(&cred))
+}
+
 #[test]
 fn a_capability_passes_its_questions(rt: HostRuntime) -> Result<(), Fail> {
-    for (uid, groups, caps, wanted) in RIGHTS {
-        let cred = Cred::with_caps(rt.alloc(), uid, 101, groups, Caps::from_bits_retain(caps))?;
-        assert!(rt; rights(&cred) == wanted, "{uid} {caps}");
+    for &(uid, groups, caps, wanted) in &RIGHTS {
+        let seen = rights_of(rt.alloc(), uid, groups, caps)?;
+        assert!(rt; seen == wanted, "{uid} {caps}");
     }
     one_answer();
     Ok(())

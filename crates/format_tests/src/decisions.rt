@@ -1,6 +1,6 @@
 //! Worked rows of the access check, and each of its answers beside what the manual says.
 use bitflags::Flags;
-use fs_cred::{Caps, Cred, Node, NodeKind, Rule, Verdict, decide, decide_by_mode};
+use fs_cred::{Caps, Cred, CredFault, Node, NodeKind, Rule, Verdict, decide, decide_by_mode};
 use posix_acl::{Acl, AclFault, Entry, Perms, Tag};
 use std::alloc::Global;
 use std::test::Fail;
@@ -30,7 +30,7 @@ const UNMASKED: &str = "u::rw-,u:1001:rw-,g::r--,m::rw-,o::---";
 const CLOSED: &str = "u::---,u:1001:---,g::---,g:5:---,m::---,o::---";
 
 // The ACL of a file of user 1000 and group 100, who asks with which groups, for what, and what answers it.
-const DECISIONS: [(&str, u32, u32, &[u32], u16, bool, Rule); 15] = [
+static DECISIONS: [(&str, u32, u32, &[u32], u16, bool, Rule); 15] = [
     (OPEN_BUT_TO_THE_OWNER, 1000, 100, &[], R, false, Rule::Owner),
     (OPEN_BUT_TO_THE_OWNER, 1001, 101, &[], R, true, Rule::Other),
     (OPEN_TO_THE_OWNER, 1000, 100, &[], R + W, true, Rule::Owner),
@@ -80,7 +80,7 @@ fn asked(
 
 #[test]
 fn an_entry_decides(rt: HostRuntime) -> Result<(), Fail> {
-    for (acl, uid, gid, groups, want, yes, rule) in DECISIONS {
+    for &(acl, uid, gid, groups, want, yes, rule) in &DECISIONS {
         let seen = asked(rt.alloc(), acl, uid, gid, groups, want)?;
         assert!(rt; seen == Verdict { yes, rule }, "{uid} {gid} {want} {acl}");
     }
@@ -108,38 +108,51 @@ fn asked_by_capable(
     Ok((ask(&cred, &node, want), by_mode))
 }
 
+// The capabilities DAC_OVERRIDE, DAC_READ_SEARCH and FOWNER as numbers.
+const PASSES: u32 = 2;
+
+const READS: u32 = 4;
+
+const OWNS: u32 = 8;
+
+const BY_PASSING: Rule = Rule::Capability(Caps::DAC_OVERRIDE);
+
+const BY_READING: Rule = Rule::Capability(Caps::DAC_READ_SEARCH);
+
+// The capabilities, what is asked for of what kind and mode, and what answers it.
+static CAPABLE: [(u32, NodeKind, u16, u16, bool, Rule); 17] = [
+    (PASSES, NodeKind::File, 0o644, X, false, Rule::NoExecuteBit),
+    (PASSES, NodeKind::File, 0o001, X, true, BY_PASSING),
+    (PASSES, NodeKind::File, 0o010, R + X, true, BY_PASSING),
+    (PASSES, NodeKind::File, 0o100, X, true, BY_PASSING),
+    (PASSES, NodeKind::File, 0o000, R + W, true, BY_PASSING),
+    (PASSES, NodeKind::Directory, 0o000, X, true, BY_PASSING),
+    (PASSES + READS, NodeKind::File, 0o000, R, true, BY_PASSING),
+    (
+        PASSES + READS,
+        NodeKind::File,
+        0o000,
+        R + X,
+        false,
+        Rule::NoExecuteBit,
+    ),
+    (READS, NodeKind::File, 0o600, R, true, BY_READING),
+    (READS, NodeKind::File, 0o600, NONE, true, BY_READING),
+    (READS, NodeKind::File, 0o662, R + W, false, Rule::Other),
+    (READS, NodeKind::File, 0o001, X, true, Rule::Other),
+    (READS, NodeKind::File, 0o001, R + X, false, Rule::Other),
+    (READS, NodeKind::Directory, 0o000, R + X, true, BY_READING),
+    (READS, NodeKind::Directory, 0o773, W + X, true, Rule::Other),
+    (READS, NodeKind::Directory, 0o770, W, false, Rule::Other),
+    (OWNS, NodeKind::File, 0o660, R, false, Rule::Other),
+];
+
 #[test]
 fn capabilities_decide_first(rt: HostRuntime) -> Result<(), Fail> {
-    let passes = Caps::DAC_OVERRIDE;
-    let reads = Caps::DAC_READ_SEARCH;
-    let by_passing = yes(Rule::Capability(passes));
-    let by_reading = yes(Rule::Capability(reads));
-    for (caps, kind, mode, want, wanted) in [
-        (passes, NodeKind::File, 0o644, X, no(Rule::NoExecuteBit)),
-        (passes, NodeKind::File, 0o001, X, by_passing),
-        (passes, NodeKind::File, 0o010, R + X, by_passing),
-        (passes, NodeKind::File, 0o100, X, by_passing),
-        (passes, NodeKind::File, 0o000, R + W, by_passing),
-        (passes, NodeKind::Directory, 0o000, X, by_passing),
-        (passes.union(reads), NodeKind::File, 0o000, R, by_passing),
-        (
-            passes.union(reads),
-            NodeKind::File,
-            0o000,
-            R + X,
-            no(Rule::NoExecuteBit),
-        ),
-        (reads, NodeKind::File, 0o600, R, by_reading),
-        (reads, NodeKind::File, 0o600, NONE, by_reading),
-        (reads, NodeKind::File, 0o662, R + W, no(Rule::Other)),
-        (reads, NodeKind::File, 0o001, X, yes(Rule::Other)),
-        (reads, NodeKind::File, 0o001, R + X, no(Rule::Other)),
-        (reads, NodeKind::Directory, 0o000, R + X, by_reading),
-        (reads, NodeKind::Directory, 0o773, W + X, yes(Rule::Other)),
-        (reads, NodeKind::Directory, 0o770, W, no(Rule::Other)),
-        (Caps::FOWNER, NodeKind::File, 0o660, R, no(Rule::Other)),
-    ] {
+    for &(caps, kind, mode, want, yes, rule) in &CAPABLE {
+        let caps = Caps::from_bits_retain(caps);
         let (seen, by_mode) = asked_by_capable(rt.alloc(), caps, kind, mode, want)?;
+        let wanted = Verdict { yes, rule };
         assert!(rt; seen == wanted && by_mode == wanted, "{mode} {want}");
     }
     Ok(())
@@ -268,18 +281,25 @@ fn by_the_manual(list: &Digits, kind: NodeKind, asker: Asker, want: u16) -> Verd
     }
 }
 
-// The algorithm of acl(5), one paragraph after another.
-fn by_the_list(list: &Digits, asker: Asker, want: u16) -> Verdict {
-    let whole = |digit, rule| Verdict {
+// What an entry gives that decides alone.
+fn whole(digit: u16, want: u16, rule: Rule) -> Verdict {
+    Verdict {
         yes: contains(digit, want),
         rule,
-    };
-    match (asker.uid, list.users) {
-        (3, _) => return whole(list.owner, Rule::Owner),
-        (1, [Some(digit), _]) => return with_mask(digit, list.mask, want, Rule::NamedUser(1)),
-        (2, [_, Some(digit)]) => return with_mask(digit, list.mask, want, Rule::NamedUser(2)),
-        _ => {}
     }
+}
+
+// The algorithm of acl(5), one paragraph after another.
+fn by_the_list(list: &Digits, asker: Asker, want: u16) -> Verdict {
+    match (asker.uid, list.users) {
+        (3, _) => whole(list.owner, want, Rule::Owner),
+        (1, [Some(digit), _]) => with_mask(digit, list.mask, want, Rule::NamedUser(1)),
+        (2, [_, Some(digit)]) => with_mask(digit, list.mask, want, Rule::NamedUser(2)),
+        _ => by_groups(list, asker, want),
+    }
+}
+
+fn by_groups(list: &Digits, asker: Asker, want: u16) -> Verdict {
     let mut first = None;
     for (member, digit, rule) in [
         (asker.groups[0], Some(list.group), Rule::OwningGroup),
@@ -296,12 +316,14 @@ fn by_the_list(list: &Digits, asker: Asker, want: u16) -> Verdict {
     }
     match first {
         Some(rule) => no(rule),
-        None => whole(list.other, Rule::Other),
+        None => whole(list.other, want, Rule::Other),
     }
 }
 
 // Users with their groups, and whether 3, 1 and 2 are among these: the owner and five others, of whom one has uid 0.
-const USERS: [(u32, u32, &[u32], [bool; 3]); 6] = [
+type User = (u32, u32, &'static [u32], [bool; 3]);
+
+static USERS: [User; 6] = [
     (0, 0, &[], [false, false, false]),
     (3, 3, &[], [true, false, false]),
     (1, 1, &[2, 3], [true, true, true]),
@@ -313,13 +335,18 @@ const USERS: [(u32, u32, &[u32], [bool; 3]); 6] = [
 // Each of these users with each set of capabilities.
 fn askers(alloc: Global) -> Result<Vec<(Cred, Asker)>, Fail> {
     let mut askers = Vec::new(alloc);
-    for (uid, gid, more, groups) in USERS {
+    for &user in &USERS {
         for caps in 0..32 {
-            let cred = Cred::with_caps(alloc, uid, gid, more, Caps::from_bits_retain(caps))?;
-            askers.push((cred, Asker { uid, groups, caps }))?;
+            askers.push(with_caps(alloc, user, caps)?)?;
         }
     }
     Ok(askers)
+}
+
+fn with_caps(alloc: Global, user: User, caps: u32) -> Result<(Cred, Asker), CredFault> {
+    let (uid, gid, more, groups) = user;
+    let cred = Cred::with_caps(alloc, uid, gid, more, Caps::from_bits_retain(caps))?;
+    Ok((cred, Asker { uid, groups, caps }))
 }
 
 // Whether the answer about this file or directory is the manual's, by the list and, where it is no more than a mode, by that.
@@ -357,30 +384,44 @@ fn agreeing_on(list: &Digits, node: &Node, askers: &[(Cred, Asker)]) -> u32 {
     agreeing
 }
 
-// The same over every list, of a file and of a directory. A list with a name and no mask is none.
-fn agreeing(alloc: Global) -> Result<u32, Fail> {
-    let askers = askers(alloc)?;
+// The same of the list of this number. A list with a name and no mask is none.
+fn agreeing_on_list(
+    alloc: Global,
+    number: u32,
+    kind: NodeKind,
+    askers: &[(Cred, Asker)],
+) -> Result<u32, AclFault> {
+    let list = list(number);
+    match acl(alloc, &list) {
+        Ok(acl) => {
+            let node = Node {
+                kind,
+                owner: 3,
+                group: 3,
+                acl,
+            };
+            Ok(agreeing_on(&list, &node, askers))
+        }
+        Err(AclFault::NoMask) => Ok(0),
+        Err(fault) => Err(fault),
+    }
+}
+
+// The same over every list, of a file and of a directory.
+fn agreeing_of(alloc: Global, askers: &[(Cred, Asker)]) -> Result<u32, AclFault> {
     let mut agreeing = 0u32;
     for number in 0..LISTS {
-        let list = list(number);
         for kind in [NodeKind::File, NodeKind::Directory] {
-            match acl(alloc, &list) {
-                Ok(acl) => {
-                    let node = Node {
-                        kind,
-                        owner: 3,
-                        group: 3,
-                        acl,
-                    };
-                    let more = agreeing_on(&list, &node, &askers);
-                    agreeing = agreeing.wrapping_add(more);
-                }
-                Err(AclFault::NoMask) => {}
-                Err(fault) => return Err(fault.into()),
-            }
+            let more = agreeing_on_list(alloc, number, kind, askers)?;
+            agreeing = agreeing.wrapping_add(more);
         }
     }
     Ok(agreeing)
+}
+
+fn agreeing(alloc: Global) -> Result<u32, Fail> {
+    let askers = askers(alloc)?;
+    Ok(agreeing_of(alloc, &askers)?)
 }
 
 // Of the lists that have a mask where they have names, 6,464 name at most one user and one group, and 153,600 more than that.

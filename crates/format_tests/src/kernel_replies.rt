@@ -111,7 +111,7 @@ fn error_to(unique: u64) -> Reply<'static>
     }
 }
 
-const REPLIES: [(u64, &str); 17] = [
+static REPLIES: [(u64, &str); 17] = [
     (
         2,
         "50000000000000000200000000000000070000001f000000000002006800480010000c000000020001000000200000000000000000000000000000000000000000000000000000000000000000000000",
@@ -149,16 +149,16 @@ const REPLIES: [(u64, &str); 17] = [
     (70, "100000008cffffff4600000000000000"),
 ];
 
-fn written(alloc: Global, unique: u64) -> Result<Bytes, AllocError> {
+fn is_written(alloc: Global, unique: u64, text: &str) -> Result<bool, AllocError> {
     let bytes = write_reply(alloc, unique, &reply_to(unique))?;
-    Ok(bytes_from(&bytes))
+    Ok(bytes_from(&bytes) == bytes_of(text))
 }
 
 #[test]
 fn replies_to_a_kernel(rt: HostRuntime) -> Result<(), Fail> {
-    for (unique, text) in REPLIES {
-        let seen = written(rt.alloc(), unique)?;
-        assert!(rt; seen == bytes_of(text), "{unique}");
+    for &(unique, text) in &REPLIES {
+        let seen = is_written(rt.alloc(), unique, text)?;
+        assert!(rt; seen, "{unique}");
     }
     Ok(())
 }
@@ -216,26 +216,36 @@ fn reread(alloc: Global, value: &[u8]) -> Result<(u16, Bytes, Option<(u32, u16)>
     Ok((mode, bytes, second))
 }
 
+// Whether the list has the first two of these, and no room for the third.
+fn is_listed(alloc: Global) -> Result<bool, AllocError> {
+    Ok(listed(alloc)? == ([true, true, false], bytes_of(DOTS)))
+}
+
+// Whether the value is written again as it was, and what it says is what it is to say.
+fn is_reread(alloc: Global) -> Result<bool, Fail> {
+    let (value, count) = bytes_of(ACL);
+    let seen = reread(alloc, &value[..count])?;
+    Ok(seen == (0o770, (value, count), Some((1001, 7))))
+}
+
 #[test]
 fn entries_and_acls(rt: HostRuntime) -> Result<(), Fail> {
-    let seen = listed(rt.alloc())?;
-    assert!(rt; seen == ([true, true, false], bytes_of(DOTS)));
-    let (value, count) = bytes_of(ACL);
-    let seen = reread(rt.alloc(), &value[..count])?;
-    assert!(rt; seen == (0o770, (value, count), Some((1001, 7))));
+    let seen = (is_listed(rt.alloc())?, is_reread(rt.alloc())?);
+    assert!(rt; seen == (true, true), "{seen:?}");
     Ok(())
 }
 
-// How many entries a value has, if it is one.
-fn count_of(alloc: Global, value: &[u8]) -> Result<Option<usize>, Fail> {
-    match read_acl_value(alloc, value) {
+// How many entries the value of a text has, if it is one.
+fn count_of(alloc: Global, text: &str) -> Result<Option<usize>, Fail> {
+    let (value, count) = bytes_of(text);
+    match read_acl_value(alloc, &value[..count]) {
         Ok(entries) => Ok(Some(entries.len())),
         Err(AclValueFault::Malformed) => Ok(None),
         Err(fault) => Err(fault.into()),
     }
 }
 
-const VALUES: [(&str, Option<usize>); 7] = [
+static VALUES: [(&str, Option<usize>); 7] = [
     (ACL, Some(5)),
     ("02000000", Some(0)),
     // A part of an entry, another version, a tag and permissions that there aren't, and no whole version.
@@ -248,9 +258,8 @@ const VALUES: [(&str, Option<usize>); 7] = [
 
 #[test]
 fn values_of_acls(rt: HostRuntime) -> Result<(), Fail> {
-    for (text, wanted) in VALUES {
-        let (value, count) = bytes_of(text);
-        let seen = count_of(rt.alloc(), &value[..count])?;
+    for &(text, wanted) in &VALUES {
+        let seen = count_of(rt.alloc(), text)?;
         assert!(rt; seen == wanted, "{text}");
     }
     Ok(())

@@ -153,6 +153,11 @@ fn is_read_again(part: Part) -> bool {
     }
 }
 
+// Whether a sector has these bytes of a part, and they are read as what was written.
+fn is_as_said(part: Part, sector: &[u8; 512], bytes: &[u8]) -> bool {
+    *sector == sector_of(part, bytes) && is_read_again(part)
+}
+
 #[test]
 fn structures_are_as_the_format_says(rt: HostRuntime) {
     for (part, sector, bytes) in [
@@ -167,17 +172,14 @@ fn structures_are_as_the_format_says(rt: HostRuntime) {
         (Part::Slot, written_slot(b"hello".as_slice()), SLOT_BYTES),
         (Part::AclSector, written_acl(), ACL_BYTES),
     ] {
-        let seen = (sector, is_read_again(part));
-        assert!(rt;
-            seen == (sector_of(part, bytes), true),
-            "{part:?} {bytes:?}"
-        );
+        let seen = is_as_said(part, &sector, bytes);
+        assert!(rt; seen, "{part:?} {bytes:?}");
     }
 }
 
 // What is read of a part's bytes where some of them are changed: the first that is, the one past the last, and their
 // new value.
-const READS: [(Part, &[u8], usize, usize, u8, Option<LayoutFault>); 64] = [
+static READS: [(Part, &[u8], usize, usize, u8, Option<LayoutFault>); 64] = [
     (Part::Super, SUPER_BYTES, 0, 0, 0, None),
     (Part::Super, SUPER_BYTES, 0, 1, 0x48, Some(BadMagic)),
     (Part::Super, SUPER_BYTES, 3, 4, 0, Some(BadMagic)),
@@ -256,6 +258,12 @@ fn with_bytes(sector: &[u8; 512], part: Part, first: usize, end: usize, byte: u8
     changed
 }
 
+// The fault of a part's bytes once these are changed.
+fn fault_with(part: Part, bytes: &[u8], first: usize, end: usize, byte: u8) -> Option<LayoutFault> {
+    let sector = sector_of(part, bytes);
+    fault_of(part, &with_bytes(&sector, part, first, end, byte))
+}
+
 fn fault_of(part: Part, sector: &[u8; 512]) -> Option<LayoutFault> {
     match part {
         Part::Super => Super::read_from(sector, 0).err(),
@@ -268,9 +276,8 @@ fn fault_of(part: Part, sector: &[u8; 512]) -> Option<LayoutFault> {
 
 #[test]
 fn wrong_bytes_are_refused(rt: HostRuntime) {
-    for (part, bytes, first, end, byte, fault) in READS {
-        let sector = with_bytes(&sector_of(part, bytes), part, first, end, byte);
-        let found = fault_of(part, &sector);
+    for &(part, bytes, first, end, byte, fault) in &READS {
+        let found = fault_with(part, bytes, first, end, byte);
         assert!(rt;
             found == fault,
             "{part:?} {bytes:?}, {byte} from {first} to {end}"
@@ -279,7 +286,7 @@ fn wrong_bytes_are_refused(rt: HostRuntime) {
 }
 
 // The table and the first data sector on a disk of so many sectors and inodes.
-const PLACES: [(u32, u32, Option<(u32, u32)>); 9] = [
+static PLACES: [(u32, u32, Option<(u32, u32)>); 9] = [
     (1024, 64, Some((130, 146))),
     (4096, 16, Some((130, 134))),
     (4097, 17, Some((131, 136))),
@@ -291,16 +298,21 @@ const PLACES: [(u32, u32, Option<(u32, u32)>); 9] = [
     (1024, 4096, None),
 ];
 
+fn starts_of(sectors: u32, inodes: u32) -> Option<(u32, u32)> {
+    let place = place_of(sectors, inodes)?;
+    Some((place.table, place.first_data))
+}
+
 #[test]
 fn places_are_as_the_format_says(rt: HostRuntime) {
-    for (sectors, inodes, starts) in PLACES {
-        let found = place_of(sectors, inodes).map(|place| (place.table, place.first_data));
+    for &(sectors, inodes, starts) in &PLACES {
+        let found = starts_of(sectors, inodes);
         assert!(rt; found == starts, "{sectors} sectors and {inodes} inodes");
     }
 }
 
 // Whether a commit with these targets is valid for a disk of so many sectors.
-const COMMITS: [(&[u32], u32, bool); 7] = [
+static COMMITS: [(&[u32], u32, bool); 7] = [
     (&[], 1024, true),
     (&[128], 129, true),
     (&[128], 128, false),
@@ -319,13 +331,13 @@ fn is_valid(targets: &[u32], sectors: u32) -> Option<bool> {
 
 #[test]
 fn commits_are_valid_for_a_disk(rt: HostRuntime) {
-    for (targets, sectors, valid) in COMMITS {
+    for &(targets, sectors, valid) in &COMMITS {
         let found = is_valid(targets, sectors);
         assert!(rt; found == Some(valid), "{targets:?} on {sectors} sectors");
     }
 }
 
-const NAMES: [(&[u8], bool); 10] = [
+static NAMES: [(&[u8], bool); 10] = [
     (b"a", true),
     (b".a", true),
     (b"...", true),
@@ -340,7 +352,7 @@ const NAMES: [(&[u8], bool); 10] = [
 
 #[test]
 fn names_are_as_the_format_says(rt: HostRuntime) {
-    for (name, is) in NAMES {
+    for &(name, is) in &NAMES {
         assert!(rt; is_name(name) == is, "{name:?}");
     }
 }

@@ -15,7 +15,7 @@ struct Said<'a>(&'static str, [u64; 4], [&'a [u8]; 2]);
 // A request's bytes; its number, node, uid, gid and pid; and what it says.
 type Row = (&'static str, [u64; 5], Said<'static>);
 
-const REQUESTS: [Row; 37] = [
+static REQUESTS: [Row; 37] = [
     (
         "2a0000000100000058000000000000000100000000000000e8030000640000006c760000000000007000",
         [88, 1, 1000, 100, 30316],
@@ -219,11 +219,16 @@ fn header_of(request: &Request<'_>) -> [u64; 5] {
     ]
 }
 
-fn is_told(bytes: &[u8], header: [u64; 5], wanted: Said<'_>) -> bool {
-    let Ok(request) = parse_request(bytes) else {
-        return false;
-    };
-    let found = header_of(&request);
+fn is_told(text: &str, header: [u64; 5], wanted: Said<'_>) -> bool {
+    let (bytes, count) = bytes_of(text);
+    match parse_request(&bytes[..count]) {
+        Ok(request) => says(&request, header, wanted),
+        Err(_) => false,
+    }
+}
+
+fn says(request: &Request<'_>, header: [u64; 5], wanted: Said<'_>) -> bool {
+    let found = header_of(request);
     let numbers = numbers_of(&request.operation);
     let pieces = pieces_of(&request.operation);
     let wanted_pieces = wanted.2;
@@ -347,9 +352,8 @@ fn other_word(operation: &Operation<'_>) -> &'static str {
 
 #[test]
 fn requests_of_a_kernel(rt: HostRuntime) {
-    for (text, header, said) in REQUESTS {
-        let (bytes, count) = bytes_of(text);
-        let seen = is_told(&bytes[..count], header, said);
+    for &(text, header, said) in &REQUESTS {
+        let seen = is_told(text, header, said);
         assert!(rt; seen, "{text}");
     }
 }
@@ -380,8 +384,10 @@ fn parts_of(changes: &AttrChanges) -> Changes {
     )
 }
 
-fn changes_of(bytes: &[u8]) -> Option<Changes> {
-    match parse_request(bytes).ok()?.operation {
+fn changes_of(text: &str) -> Option<Changes> {
+    let (bytes, count) = bytes_of(text);
+    let request = parse_request(&bytes[..count]).ok()?;
+    match request.operation {
         Operation::SetAttr(changes) => Some(parts_of(&changes)),
         _ => None,
     }
@@ -417,14 +423,18 @@ const CHANGES: [(&str, Changes); 5] = [
 #[test]
 fn changes_of_attributes(rt: HostRuntime) {
     for (text, changes) in CHANGES {
-        let (bytes, count) = bytes_of(text);
-        let seen = changes_of(&bytes[..count]);
+        let seen = changes_of(text);
         assert!(rt; seen == Some(changes), "{text}");
     }
 }
 
 // No refusal, or that of bytes that aren't whole, or the number of a request that isn't of the form.
 type Outcome = Result<(), Option<u64>>;
+
+fn outcome_of(text: &str) -> Outcome {
+    let (bytes, count) = bytes_of(text);
+    outcome(&bytes[..count])
+}
 
 fn outcome(bytes: &[u8]) -> Outcome {
     match parse_request(bytes) {
@@ -449,7 +459,7 @@ fn outcome_of_zeros(opcode: u8, size: u8, missing: usize) -> Outcome
 }
 
 // Opcodes, and how many zero bytes are a body of their form.
-const SIZES: [(u8, u8); 28] = [
+static SIZES: [(u8, u8); 28] = [
     (1, 1),
     (3, 16),
     (4, 88),
@@ -482,7 +492,7 @@ const SIZES: [(u8, u8); 28] = [
 
 #[test]
 fn bodies_that_are_too_short(rt: HostRuntime) {
-    for (opcode, size) in SIZES {
+    for &(opcode, size) in &SIZES {
         let seen = [
             outcome_of_zeros(opcode, size, 0),
             outcome_of_zeros(opcode, size.saturating_sub(1), 0),
@@ -492,7 +502,7 @@ fn bodies_that_are_too_short(rt: HostRuntime) {
     }
 }
 
-const OTHER_FORMS: [(&str, Outcome); 5] = [
+static OTHER_FORMS: [(&str, Outcome); 5] = [
     // A name with a slash.
     (
         "2c000000010000001600000000000000010000000000000000000000000000008d77000000000000612f6200",
@@ -520,9 +530,8 @@ const OTHER_FORMS: [(&str, Outcome); 5] = [
 
 #[test]
 fn bodies_of_other_forms(rt: HostRuntime) {
-    for (text, wanted) in OTHER_FORMS {
-        let (bytes, count) = bytes_of(text);
-        let seen = outcome(&bytes[..count]);
+    for &(text, wanted) in &OTHER_FORMS {
+        let seen = outcome_of(text);
         assert!(rt; seen == wanted, "{text}");
     }
 }
