@@ -320,26 +320,31 @@ const ROWS: [(Step, u64); 75] = [
 ];
 
 // The first row that is answered otherwise, and how; one behind the last if there is none.
-fn other_answer(server: &mut Server, alloc: Global) -> Result<(usize, u64), AllocError> {
-    for (i, (step, wanted)) in ROWS.iter().enumerate() {
+fn other_answer(
+    server: &mut Server,
+    alloc: Global,
+    rows: &[(Step, u64)],
+) -> Result<(usize, u64), AllocError> {
+    for (i, (step, wanted)) in rows.iter().enumerate() {
         let answer = answered(server, alloc, *step)?;
         if answer != *wanted {
             return Ok((i, answer));
         }
     }
-    Ok((ROWS.len(), 0))
+    Ok((rows.len(), 0))
 }
 
 // The same of a new server.
-fn other_answer_at_start(alloc: Global) -> Result<(usize, u64), AllocError> {
+fn other_answer_at_start(alloc: Global, rows: &[(Step, u64)]) -> Result<(usize, u64), AllocError> {
     let mut server = started(alloc)?;
-    other_answer(&mut server, alloc)
+    other_answer(&mut server, alloc, rows)
 }
 
 #[test]
 fn answers_follow_changes(rt: HostRuntime) -> Result<(), Fail> {
-    let (row, answer) = other_answer_at_start(rt.alloc())?;
-    assert!(rt; row == ROWS.len(), "row {row}: {answer}");
+    let rows: &[(Step, u64)] = &ROWS;
+    let (row, answer) = other_answer_at_start(rt.alloc(), rows)?;
+    assert!(rt; row == rows.len(), "row {row}: {answer}");
     Ok(())
 }
 
@@ -584,27 +589,32 @@ fn handles_are_apart() -> bool {
 }
 
 // The first row that is answered otherwise, and how; one behind the last if there is none.
-fn other_use(server: &mut Server, alloc: Global) -> Result<(usize, u64), CredFault> {
-    for (i, (step, wanted)) in USES.iter().enumerate() {
+fn other_use(
+    server: &mut Server,
+    alloc: Global,
+    rows: &[(Use, u64)],
+) -> Result<(usize, u64), CredFault> {
+    for (i, (step, wanted)) in rows.iter().enumerate() {
         let answer = used(server, alloc, *step)?;
         if answer != *wanted {
             return Ok((i, answer));
         }
     }
-    Ok((USES.len(), 0))
+    Ok((rows.len(), 0))
 }
 
 // The same of a new server, and the most bytes of a write to it then.
-fn other_use_at_start(alloc: Global) -> Result<(usize, u64, u32), CredFault> {
+fn other_use_at_start(alloc: Global, rows: &[(Use, u64)]) -> Result<(usize, u64, u32), CredFault> {
     let mut server = started(alloc)?;
-    let (row, answer) = other_use(&mut server, alloc)?;
+    let (row, answer) = other_use(&mut server, alloc, rows)?;
     Ok((row, answer, server.settings().max_write))
 }
 
 #[test]
 fn processes_and_handles(rt: HostRuntime) -> Result<(), Fail> {
-    let (row, answer, max_write) = other_use_at_start(rt.alloc())?;
-    assert!(rt; row == USES.len(), "row {row}: {answer}");
+    let rows: &[(Use, u64)] = &USES;
+    let (row, answer, max_write) = other_use_at_start(rt.alloc(), rows)?;
+    assert!(rt; row == rows.len(), "row {row}: {answer}");
     assert!(rt; handles_are_apart() && max_write == 4096);
     Ok(())
 }

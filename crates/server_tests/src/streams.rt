@@ -121,13 +121,13 @@ fn taken_by<K: Kernel + Drop>(kernel: K) -> Option<bool> {
 }
 
 // How many reads are as their rows say, up to the first that isn't.
-fn agreed_reads(rt: HostRuntime) -> usize {
-    for (i, (turns, wanted)) in READS.iter().enumerate() {
+fn agreed_reads(rt: HostRuntime, rows: &[(&'static [Turn], Sizes)]) -> usize {
+    for (i, (turns, wanted)) in rows.iter().enumerate() {
         if sizes_of(kernel_at(rt, turns, Output::Takes)) != *wanted {
             return i;
         }
     }
-    READS.len()
+    rows.len()
 }
 
 // A reply that nobody waits for is left out.
@@ -139,13 +139,13 @@ const WRITES: [(Output, Option<bool>); 4] = [
 ];
 
 // The same of writes.
-fn agreed_writes(rt: HostRuntime) -> usize {
-    for (i, (output, wanted)) in WRITES.iter().enumerate() {
+fn agreed_writes(rt: HostRuntime, rows: &[(Output, Option<bool>)]) -> usize {
+    for (i, (output, wanted)) in rows.iter().enumerate() {
         if taken_by(kernel_at(rt, &[], *output)) != *wanted {
             return i;
         }
     }
-    WRITES.len()
+    rows.len()
 }
 
 const STATUS: &[u8] =
@@ -218,11 +218,12 @@ fn learnt_from<K: Kernel + Drop>(kernel: K, pid: u32) -> (Known, Known, bool) {
 #[test]
 fn what_passes_at_streams(rt: HostRuntime) -> Result<(), Fail> {
     let (pid, own) = told_by(fs::read(&rt, "/proc/self/status")?);
-    let reads = agreed_reads(rt);
-    let writes = agreed_writes(rt);
+    let reads: &[(&[Turn], Sizes)] = &READS;
+    let writes: &[(Output, Option<bool>)] = &WRITES;
+    let (read, written) = (agreed_reads(rt, reads), agreed_writes(rt, writes));
     assert!(rt;
-        reads == READS.len() && writes == WRITES.len(),
-        "{reads} {writes}"
+        read == reads.len() && written == writes.len(),
+        "{read} reads, {written} writes"
     );
     let seen = learnt_from(kernel_at(rt, &[], Output::Takes), pid);
     assert!(rt;

@@ -215,8 +215,9 @@ const READS: [Row; 15] = [
 
 #[test]
 fn reads(rt: HostRuntime) -> Result<(), Fail> {
-    let seen = agreed_of(rt.alloc(), &READS)?;
-    assert!(rt; seen == READS.len(), "{seen}");
+    let rows: &[Row] = &READS;
+    let seen = agreed_of(rt.alloc(), rows)?;
+    assert!(rt; seen == rows.len(), "{seen}");
     Ok(())
 }
 
@@ -246,7 +247,8 @@ const CHANGES: [Row; 19] = [
 
 #[test]
 fn changes(rt: HostRuntime) -> Result<(), Fail> {
-    let seen = agreed_of(rt.alloc(), &CHANGES)?;
-    assert!(rt; seen == CHANGES.len(), "{seen}");
+    let rows: &[Row] = &CHANGES;
+    let seen = agreed_of(rt.alloc(), rows)?;
+    assert!(rt; seen == rows.len(), "{seen}");
     Ok(())
 }

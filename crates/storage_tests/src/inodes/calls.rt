@@ -57,6 +57,11 @@ fn is_as_if_any(read: Option<Acl>, wanted: Option<&Acl>) -> bool {
     }
 }
 
+// Whether the first inode of a map was made, with one name and both ACLs.
+fn is_first(n: u32, made: &Inode, has_access: bool, has_default: bool) -> bool {
+    has_access && has_default && made.names == 1 && n == 1
+}
+
 // Makes an inode with these ACLs: its number, what that, its load and the loads of its ACLs cost, and whether its fields
 // and ACLs were read.
 pub(super) fn made<S: Sectors>(
@@ -100,8 +105,8 @@ pub(super) fn made<S: Sectors>(
         return Err(Fail::new("no default ACL"));
     };
     counts[3] = (s.gets, s.puts);
-    let same_default = is_as_if_any(read_default, default);
-    Ok((n, counts, same && same_default && made.names == 1 && n == 1))
+    let same = is_first(n, &made, same, is_as_if_any(read_default, default));
+    Ok((n, counts, same))
 }
 
 #[derive(Clone, Copy)]
