@@ -120,16 +120,6 @@ fn taken_by<K: Kernel + Drop>(kernel: K) -> Option<bool> {
     }
 }
 
-// How many reads are as their rows say, up to the first that isn't.
-fn agreed_reads(rt: HostRuntime, rows: &[(&'static [Turn], Sizes)]) -> usize {
-    for (i, (turns, wanted)) in rows.iter().enumerate() {
-        if sizes_of(kernel_at(rt, turns, Output::Takes)) != *wanted {
-            return i;
-        }
-    }
-    rows.len()
-}
-
 // A reply that nobody waits for is left out.
 const WRITES: [(Output, Option<bool>); 4] = [
     (Output::Takes, Some(true)),
@@ -137,16 +127,6 @@ const WRITES: [(Output, Option<bool>); 4] = [
     (Output::Fails(2), Some(false)),
     (Output::Fails(22), None),
 ];
-
-// The same of writes.
-fn agreed_writes(rt: HostRuntime, rows: &[(Output, Option<bool>)]) -> usize {
-    for (i, (output, wanted)) in rows.iter().enumerate() {
-        if taken_by(kernel_at(rt, &[], *output)) != *wanted {
-            return i;
-        }
-    }
-    rows.len()
-}
 
 const STATUS: &[u8] =
     b"Name:\tcat\nUmask:\t0022\nUid:\t1000\t1000\t1000\t1000\nGroups:\t4 24 4294967295 \nCapEff:\t000001ffffffffff\nSeccomp:\t0\n";
@@ -218,13 +198,14 @@ fn learnt_from<K: Kernel + Drop>(kernel: K, pid: u32) -> (Known, Known, bool) {
 #[test]
 fn what_passes_at_streams(rt: HostRuntime) -> Result<(), Fail> {
     let (pid, own) = told_by(fs::read(&rt, "/proc/self/status")?);
-    let reads: &[(&[Turn], Sizes)] = &READS;
-    let writes: &[(Output, Option<bool>)] = &WRITES;
-    let (read, written) = (agreed_reads(rt, reads), agreed_writes(rt, writes));
-    assert!(rt;
-        read == reads.len() && written == writes.len(),
-        "{read} reads, {written} writes"
-    );
+    for (turns, wanted) in &READS {
+        let seen = sizes_of(kernel_at(rt, turns, Output::Takes));
+        assert!(rt; seen == *wanted, "{seen:?}");
+    }
+    for (output, wanted) in &WRITES {
+        let seen = taken_by(kernel_at(rt, &[], *output));
+        assert!(rt; seen == *wanted, "{seen:?}");
+    }
     let seen = learnt_from(kernel_at(rt, &[], Output::Takes), pid);
     assert!(rt;
         own.0.is_some() && seen == (own, (None, 0), true),
