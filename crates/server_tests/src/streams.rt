@@ -167,9 +167,9 @@ const TEXTS: [(&[u8], Known); 6] = [
 
 #[test]
 fn what_proc_tells(rt: HostRuntime) {
-    for (status, wanted) in TEXTS {
+    for (status, wanted) in &TEXTS {
         let seen = known_in(status);
-        assert!(rt; seen == wanted, "{seen:?}");
+        assert!(rt; seen == *wanted, "{seen:?}");
     }
 }
 
@@ -198,13 +198,13 @@ fn learnt_from<K: Kernel + Drop>(kernel: K, pid: u32) -> (Known, Known, bool) {
 #[test]
 fn what_passes_at_streams(rt: HostRuntime) -> Result<(), Fail> {
     let (pid, own) = told_by(fs::read(&rt, "/proc/self/status")?);
-    for (turns, wanted) in READS {
+    for (turns, wanted) in &READS {
         let seen = sizes_of(kernel_at(rt, turns, Output::Takes));
-        assert!(rt; seen == wanted, "{seen:?}");
+        assert!(rt; seen == *wanted, "{seen:?}");
     }
-    for (output, wanted) in WRITES {
-        let seen = taken_by(kernel_at(rt, &[], output));
-        assert!(rt; seen == wanted, "{seen:?}");
+    for (output, wanted) in &WRITES {
+        let seen = taken_by(kernel_at(rt, &[], *output));
+        assert!(rt; seen == *wanted, "{seen:?}");
     }
     let seen = learnt_from(kernel_at(rt, &[], Output::Takes), pid);
     assert!(rt;

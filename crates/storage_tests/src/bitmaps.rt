@@ -1,6 +1,6 @@
 //! Calls on bitmaps of a transaction, with what each reads and puts.
 
-ghost use Rattle.std.specs.Prelude.{◌≡◌, ◌≤◌, IfOk, OnOk};
+ghost use Rattle.std.specs.Prelude.{◌≤◌, OnOk};
 ghost use Rattle.fs_layout.specs.Place.{IsPlace};
 ghost use Rattle.bit_alloc.specs.Bitmaps.{HasBitmaps};
 ghost use Rattle.bit_alloc.specs.Room.{HasSpare};
@@ -8,11 +8,11 @@ ghost use Rattle.bit_alloc.specs.Room.{HasSpare};
 mod searches;
 mod tables;
 
+use crate::maps::{end, new_map};
 use bit_alloc::{Bitmap, TakeFault, count_free, give, has_free, is_taken, take};
-use fs_layout::{Commit, Place, place_of};
-use redo_journal::Journal;
-use sector_disk::{Disk, DiskFault, MemDisk};
-use sector_txn::{Sectors, Store};
+use blank_map::Counted;
+use fs_layout::Place;
+use sector_txn::Sectors;
 use std::alloc::Global;
 use std::test::Fail;
 use tables::{is_number, is_ready, put_all_but};
@@ -21,31 +21,6 @@ use tables::{is_number, is_ready, put_all_but};
 const SECTORS: u32 = 9000;
 
 const INODES: u32 = 64;
-
-// A transaction that counts its reads and puts.
-struct Counted<S> {
-    inner: S,
-    gets: u32,
-    puts: u32,
-}
-
-impl<S: Sectors> Sectors for Counted<S> {
-    ghost state = { λ c. S.state c.inner };
-
-    fn get(&mut self, n: u32, to: &mut [u8; 512]) -> Result<(), DiskFault> {
-        self.gets = self.gets.saturating_add(1);
-        self.inner.get(n, to)
-    }
-
-    fn put(&mut self, n: u32, from: &[u8; 512]) {
-        self.puts = self.puts.saturating_add(1);
-        self.inner.put(n, from);
-    }
-
-    fn room(&self) -> usize {
-        self.inner.room()
-    }
-}
 
 #[derive(Clone, Copy)]
 enum Call {
@@ -143,50 +118,11 @@ fn agreed_without<S: Sectors>(
     agreed(s, place, map, rows)
 }
 
-// A disk of zeros, but for an idle commit sector.
-fn idle_disk(alloc: Global) -> Result<MemDisk, Fail> {
-    let mut disk = MemDisk::new(alloc, SECTORS)?;
-    let mut commit = [0; 512];
-    Commit::idle().write_to(&mut commit, 0);
-    disk.write(1, &commit)?;
-    disk.sync()?;
-    Ok(disk)
-}
-
-fn opened<D: Disk + Drop>(alloc: Global, disk: D) -> Result<Store<D>, Fail>
-    ensures { IfOk result (λ store. (D.state store.disk).size ≡ SECTORS) }
-{
-    if disk.size() != SECTORS {
-        return Err(Fail::new("another size"));
-    }
-    match Journal::open(disk) {
-        Ok(journal) => match Store::new(alloc, journal) {
-            Ok(store) => Ok(store),
-            Err(_) => Err(Fail::new("no memory")),
-        },
-        Err(_) => Err(Fail::new("not opened")),
-    }
-}
-
 // The same on a new disk.
 fn agreed_on_disk(alloc: Global, map: Bitmap, clear: &[u32], rows: &[Row]) -> Result<usize, Fail> {
-    let place = place_of(SECTORS, INODES).ok_or("no place")?;
-    if place.sectors != SECTORS {
-        return Err(Fail::new("another size"));
-    }
-    let store = opened(alloc, idle_disk(alloc)?)?;
-    let mut s = Counted {
-        inner: store.begin(),
-        gets: 0,
-        puts: 0,
-    };
+    let (place, mut s) = new_map(alloc, SECTORS, INODES)?;
     let seen = agreed_without(&mut s, place, map, clear, rows);
-    let Counted {
-        inner,
-        gets: _,
-        puts: _,
-    } = s;
-    let _store = inner.drop_delta();
+    end(s);
     seen
 }
 

@@ -9,9 +9,10 @@ ghost use Rattle.bit_alloc.specs.Room.{HasSpare};
 
 mod links;
 
-use blank_map::{Counted, idle_store, is_blank, put_blank};
+use crate::maps::{end, new_map, parsed};
+use blank_map::{Counted, is_blank, put_blank};
 use block_map::{overwrite, read_at, release_all, set_size, write_at};
-use fs_layout::{Inode, Kind, Place, place_of};
+use fs_layout::{Inode, Kind, Place};
 use inode_table::{load, new_inode};
 use posix_acl::Acl;
 use sector_txn::Sectors;
@@ -149,60 +150,65 @@ fn agreed_on_blank<S: Sectors>(
 }
 
 // The same on a new disk.
-fn agreed_on_disk(alloc: Global, rows: &[Row]) -> Result<usize, Fail> {
-    let Ok(access) = Acl::parse_text(alloc, b"user::rw-,group::r--,other::---") else {
-        return Err(Fail::new("no ACL"));
-    };
-    let place = place_of(SECTORS, INODES).ok_or("no place")?;
-    if place.sectors != SECTORS {
-        return Err(Fail::new("another size"));
-    }
-    let store = idle_store(alloc, SECTORS).ok_or("no store")?;
-    let mut s = Counted::new(store.begin());
-    let seen = agreed_on_blank(&mut s, place, &access, rows);
-    let _store = s.into_inner().drop_delta();
+fn agreed_on_disk(alloc: Global, access: &Acl, rows: &[Row]) -> Result<usize, Fail> {
+    let (place, mut s) = new_map(alloc, SECTORS, INODES)?;
+    let seen = agreed_on_blank(&mut s, place, access, rows);
+    end(s);
     seen
 }
 
+// The same of a file with an ACL of its mode.
+fn agreed_of(alloc: Global, rows: &[Row]) -> Result<usize, Fail> {
+    let access = parsed(alloc, b"user::rw-,group::r--,other::---")?;
+    agreed_on_disk(alloc, &access, rows)
+}
+
+// The bytes of a call that reads none.
+const NOTHING: [u8; 4] = [9; 4];
+
+// Blocks that the inode points to.
+const DIRECT: [Row; 13] = [
+    (Call::Read(0), NOTHING, 0, 0),
+    (Call::Write(510, 4), NOTHING, 3, 5),
+    (Call::Read(508), [0, 0, 7, 7], 1, 0),
+    (Call::Read(510), [7, 7, 7, 7], 2, 0),
+    (Call::Read(512), [7, 7, 9, 9], 1, 0),
+    (Call::Write(0, 1024), NOTHING, 1, 3),
+    (Call::Overwrite(508), NOTHING, 1, 1),
+    (Call::Read(510), [5, 5, 7, 7], 2, 0),
+    (Call::SetSize(513), NOTHING, 2, 2),
+    (Call::Write(516, 1), NOTHING, 2, 2),
+    (Call::Read(512), [7, 0, 0, 0], 1, 0),
+    (Call::SetSize(512), NOTHING, 2, 2),
+    (Call::Release, NOTHING, 2, 2),
+];
+
+// The first of the blocks that sectors of pointers lead to, behind holes.
+const BEHIND_HOLES: [Row; 8] = [
+    (Call::SetSize(71_680), NOTHING, 1, 1),
+    (Call::Read(71_676), [0; 4], 0, 0),
+    (Call::Write(6144, 1), NOTHING, 3, 6),
+    (Call::Read(6143), [0, 7, 0, 0], 2, 0),
+    (Call::Write(6656, 1), NOTHING, 3, 4),
+    (Call::SetSize(6200), NOTHING, 6, 4),
+    (Call::SetSize(6144), NOTHING, 6, 3),
+    (Call::Release, NOTHING, 1, 1),
+];
+
+// As many bytes as one call writes, and a block behind a hole.
+const LONG: [Row; 5] = [
+    (Call::Write(0, 4096), NOTHING, 9, 17),
+    (Call::Read(4094), [7, 7, 9, 9], 1, 0),
+    (Call::SetSize(9000), NOTHING, 1, 1),
+    (Call::Write(8998, 2), NOTHING, 3, 6),
+    (Call::Release, NOTHING, 12, 11),
+];
+
 #[test]
 fn calls(rt: HostRuntime) -> Result<(), Fail> {
-    let done = [9; 4];
-    let rows: [&[Row]; 3] = [
-        &[
-            (Call::Read(0), done, 0, 0),
-            (Call::Write(510, 4), done, 3, 5),
-            (Call::Read(508), [0, 0, 7, 7], 1, 0),
-            (Call::Read(510), [7, 7, 7, 7], 2, 0),
-            (Call::Read(512), [7, 7, 9, 9], 1, 0),
-            (Call::Write(0, 1024), done, 1, 3),
-            (Call::Overwrite(508), done, 1, 1),
-            (Call::Read(510), [5, 5, 7, 7], 2, 0),
-            (Call::SetSize(513), done, 2, 2),
-            (Call::Write(516, 1), done, 2, 2),
-            (Call::Read(512), [7, 0, 0, 0], 1, 0),
-            (Call::SetSize(512), done, 2, 2),
-            (Call::Release, done, 2, 2),
-        ],
-        &[
-            (Call::SetSize(71_680), done, 1, 1),
-            (Call::Read(71_676), [0; 4], 0, 0),
-            (Call::Write(6144, 1), done, 3, 6),
-            (Call::Read(6143), [0, 7, 0, 0], 2, 0),
-            (Call::Write(6656, 1), done, 3, 4),
-            (Call::SetSize(6200), done, 6, 4),
-            (Call::SetSize(6144), done, 6, 3),
-            (Call::Release, done, 1, 1),
-        ],
-        &[
-            (Call::Write(0, 4096), done, 9, 17),
-            (Call::Read(4094), [7, 7, 9, 9], 1, 0),
-            (Call::SetSize(9000), done, 1, 1),
-            (Call::Write(8998, 2), done, 3, 6),
-            (Call::Release, done, 12, 11),
-        ],
-    ];
-    for calls in rows {
-        let seen = agreed_on_disk(rt.alloc(), calls)?;
+    let rows: [&[Row]; 3] = [&DIRECT, &BEHIND_HOLES, &LONG];
+    for calls in rows.iter() {
+        let seen = agreed_of(rt.alloc(), calls)?;
         assert!(rt; seen == calls.len(), "{seen}");
     }
     Ok(())

@@ -7,9 +7,10 @@ ghost use Rattle.fs_layout.specs.Directories.{IsName, HasNames};
 ghost use Rattle.bit_alloc.specs.Inodes.{IsSound};
 ghost use Rattle.bit_alloc.specs.Room.{HasSpare};
 
-use blank_map::{Counted, idle_store, is_blank, put_blank};
+use crate::maps::{end, new_map, parsed};
+use blank_map::{Counted, is_blank, put_blank};
 use dir_core::{DirFault, insert, is_empty, list, lookup, remove, rename, replace};
-use fs_layout::{Inode, Kind, Place, is_name, place_of};
+use fs_layout::{Inode, Kind, Place, is_name};
 use inode_table::{load, new_inode};
 use posix_acl::Acl;
 use sector_txn::Sectors;
@@ -166,18 +167,10 @@ fn seen_on_blank<S: Sectors>(
 }
 
 // The same on a new disk.
-fn seen_on_disk(alloc: Global, row: &Row) -> Result<Seen, Fail> {
-    let Ok(access) = Acl::parse_text(alloc, b"user::rwx,group::r-x,other::---") else {
-        return Err(Fail::new("no ACL"));
-    };
-    let place = place_of(SECTORS, INODES).ok_or("no place")?;
-    if place.sectors != SECTORS {
-        return Err(Fail::new("another size"));
-    }
-    let store = idle_store(alloc, SECTORS).ok_or("no store")?;
-    let mut s = Counted::new(store.begin());
-    let seen = seen_on_blank(alloc, &mut s, place, &access, row);
-    let _store = s.into_inner().drop_delta();
+fn seen_on_disk(alloc: Global, access: &Acl, row: &Row) -> Result<Seen, Fail> {
+    let (place, mut s) = new_map(alloc, SECTORS, INODES)?;
+    let seen = seen_on_blank(alloc, &mut s, place, access, row);
+    end(s);
     seen
 }
 
@@ -185,67 +178,77 @@ fn seen_on_disk(alloc: Global, row: &Row) -> Result<Seen, Fail> {
 type Row = (u32, Call, u32, Seen);
 
 // How many rows are as they say, up to the first that isn't.
-fn agreed(alloc: Global, rows: &[Row]) -> Result<usize, Fail> {
+fn agreed(alloc: Global, access: &Acl, rows: &[Row]) -> Result<usize, Fail> {
     for (i, row) in rows.iter().enumerate() {
-        if seen_on_disk(alloc, row)? != row.3 {
+        if seen_on_disk(alloc, access, row)? != row.3 {
             return Ok(i);
         }
     }
     Ok(rows.len())
 }
 
+// The same of directories with an ACL of their mode.
+fn agreed_of(alloc: Global, rows: &[Row]) -> Result<usize, Fail> {
+    let access = parsed(alloc, b"user::rwx,group::r-x,other::---")?;
+    agreed(alloc, &access, rows)
+}
+
 // Of the names no sector is read twice, and none behind that of the name; from 49 names on there is a sector of pointers, which
 // is read for name 48 and those behind it.
+const READS: [Row; 15] = [
+    (0, Call::Lookup, 0, (Ok(0), 0, 0)),
+    (0, Call::List, 0, (Ok(0), 0, 0)),
+    (1, Call::Lookup, 0, (Ok(2), 1, 0)),
+    (1, Call::Lookup, 1, (Ok(0), 1, 0)),
+    (1, Call::List, 0, (Ok(1), 1, 0)),
+    (48, Call::Lookup, 3, (Ok(5), 1, 0)),
+    (48, Call::Lookup, 4, (Ok(6), 2, 0)),
+    (48, Call::Lookup, 47, (Ok(49), 12, 0)),
+    (48, Call::Lookup, 48, (Ok(0), 12, 0)),
+    (48, Call::List, 0, (Ok(48), 12, 0)),
+    (49, Call::Lookup, 0, (Ok(2), 1, 0)),
+    (49, Call::Lookup, 48, (Ok(50), 14, 0)),
+    (49, Call::Lookup, 49, (Ok(0), 14, 0)),
+    (49, Call::List, 0, (Ok(49), 14, 0)),
+    (160, Call::Lookup, 160, (Ok(0), 41, 0)),
+];
+
 #[test]
 fn reads(rt: HostRuntime) -> Result<(), Fail> {
-    let rows: [Row; 15] = [
-        (0, Call::Lookup, 0, (Ok(0), 0, 0)),
-        (0, Call::List, 0, (Ok(0), 0, 0)),
-        (1, Call::Lookup, 0, (Ok(2), 1, 0)),
-        (1, Call::Lookup, 1, (Ok(0), 1, 0)),
-        (1, Call::List, 0, (Ok(1), 1, 0)),
-        (48, Call::Lookup, 3, (Ok(5), 1, 0)),
-        (48, Call::Lookup, 4, (Ok(6), 2, 0)),
-        (48, Call::Lookup, 47, (Ok(49), 12, 0)),
-        (48, Call::Lookup, 48, (Ok(0), 12, 0)),
-        (48, Call::List, 0, (Ok(48), 12, 0)),
-        (49, Call::Lookup, 0, (Ok(2), 1, 0)),
-        (49, Call::Lookup, 48, (Ok(50), 14, 0)),
-        (49, Call::Lookup, 49, (Ok(0), 14, 0)),
-        (49, Call::List, 0, (Ok(49), 14, 0)),
-        (160, Call::Lookup, 160, (Ok(0), 41, 0)),
-    ];
-    let seen = agreed(rt.alloc(), &rows)?;
+    let rows: &[Row] = &READS;
+    let seen = agreed_of(rt.alloc(), rows)?;
     assert!(rt; seen == rows.len(), "{seen}");
     Ok(())
 }
 
 // A name takes a block where the last one is full, and with name 48 the sector of pointers too. The last slot moves into
 // the place of the one that is removed. Before a name becomes another one, that is looked up.
+const CHANGES: [Row; 19] = [
+    (0, Call::Insert, 0, (Ok(1), 2, 3)),
+    (1, Call::Insert, 0, (Err(DirFault::Exists), 1, 0)),
+    (1, Call::Insert, 1, (Ok(2), 3, 2)),
+    (4, Call::Insert, 4, (Ok(5), 3, 3)),
+    (48, Call::Insert, 48, (Ok(49), 15, 6)),
+    (49, Call::Insert, 49, (Ok(50), 17, 2)),
+    (0, Call::Remove, 0, (Err(DirFault::Absent), 0, 0)),
+    (1, Call::Remove, 0, (Ok(0), 3, 2)),
+    (2, Call::Remove, 0, (Ok(1), 5, 3)),
+    (2, Call::Remove, 1, (Ok(1), 3, 2)),
+    (2, Call::Remove, 2, (Err(DirFault::Absent), 1, 0)),
+    (50, Call::Remove, 0, (Ok(49), 7, 3)),
+    (49, Call::Remove, 48, (Ok(48), 20, 3)),
+    (2, Call::Replace, 0, (Ok(2), 2, 1)),
+    (2, Call::Replace, 2, (Err(DirFault::Absent), 1, 0)),
+    (50, Call::Replace, 49, (Ok(50), 16, 1)),
+    (2, Call::Rename, 0, (Ok(2), 3, 1)),
+    (2, Call::Rename, 2, (Err(DirFault::Absent), 2, 0)),
+    (50, Call::Rename, 49, (Ok(50), 30, 1)),
+];
+
 #[test]
 fn changes(rt: HostRuntime) -> Result<(), Fail> {
-    let rows: [Row; 19] = [
-        (0, Call::Insert, 0, (Ok(1), 2, 3)),
-        (1, Call::Insert, 0, (Err(DirFault::Exists), 1, 0)),
-        (1, Call::Insert, 1, (Ok(2), 3, 2)),
-        (4, Call::Insert, 4, (Ok(5), 3, 3)),
-        (48, Call::Insert, 48, (Ok(49), 15, 6)),
-        (49, Call::Insert, 49, (Ok(50), 17, 2)),
-        (0, Call::Remove, 0, (Err(DirFault::Absent), 0, 0)),
-        (1, Call::Remove, 0, (Ok(0), 3, 2)),
-        (2, Call::Remove, 0, (Ok(1), 5, 3)),
-        (2, Call::Remove, 1, (Ok(1), 3, 2)),
-        (2, Call::Remove, 2, (Err(DirFault::Absent), 1, 0)),
-        (50, Call::Remove, 0, (Ok(49), 7, 3)),
-        (49, Call::Remove, 48, (Ok(48), 20, 3)),
-        (2, Call::Replace, 0, (Ok(2), 2, 1)),
-        (2, Call::Replace, 2, (Err(DirFault::Absent), 1, 0)),
-        (50, Call::Replace, 49, (Ok(50), 16, 1)),
-        (2, Call::Rename, 0, (Ok(2), 3, 1)),
-        (2, Call::Rename, 2, (Err(DirFault::Absent), 2, 0)),
-        (50, Call::Rename, 49, (Ok(50), 30, 1)),
-    ];
-    let seen = agreed(rt.alloc(), &rows)?;
+    let rows: &[Row] = &CHANGES;
+    let seen = agreed_of(rt.alloc(), rows)?;
     assert!(rt; seen == rows.len(), "{seen}");
     Ok(())
 }

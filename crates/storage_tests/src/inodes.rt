@@ -8,11 +8,12 @@ ghost use Rattle.inode_table.specs.Inodes.{ClearAreFree};
 
 mod calls;
 
-use blank_map::{Counted, idle_store, is_blank, put_blank};
+use crate::maps::{end, new_map, parsed};
+use blank_map::{Counted, is_blank, put_blank};
 use calls::made;
-use fs_layout::{Inode, Kind, Place, place_of};
+use fs_layout::{Inode, Kind, Place};
 use inode_table::load;
-use posix_acl::{Acl, AclFault, TextForm};
+use posix_acl::{Acl, TextForm};
 use sector_txn::Sectors;
 use std::alloc::Global;
 use std::test::Fail;
@@ -21,14 +22,6 @@ use std::test::Fail;
 const SECTORS: u32 = 1024;
 
 const INODES: u32 = 16;
-
-fn parsed(alloc: Global, text: &[u8]) -> Result<Acl, Fail> {
-    match Acl::parse_text(alloc, text) {
-        Ok(acl) => Ok(acl),
-        Err(AclFault::OutOfMemory) => Err(Fail::new("no memory")),
-        Err(_) => Err(Fail::new("no ACL")),
-    }
-}
 
 fn is_written_as(acl: &Acl, text: &[u8]) -> Result<bool, Fail> {
     match acl.write_text(TextForm::Short) {
@@ -99,45 +92,56 @@ fn stored_on_blank<S: Sectors>(
 }
 
 // The same on a new disk, of the ACL that this text is of.
-fn stored_on_disk(alloc: Global, text: &[u8]) -> Result<Stored, Fail> {
-    let acl = parsed(alloc, text)?;
-    if !is_written_as(&acl, text)? {
+fn stored_on_disk(alloc: Global, acl: &Acl, text: &[u8]) -> Result<Stored, Fail> {
+    if !is_written_as(acl, text)? {
         return Err(Fail::new("another text"));
     }
-    let place = place_of(SECTORS, INODES).ok_or("no place")?;
-    if place.sectors != SECTORS {
-        return Err(Fail::new("another size"));
-    }
-    let store = idle_store(alloc, SECTORS).ok_or("no store")?;
-    let mut s = Counted::new(store.begin());
-    let seen = stored_on_blank(alloc, &mut s, place, &acl);
-    let _store = s.into_inner().drop_delta();
+    let (place, mut s) = new_map(alloc, SECTORS, INODES)?;
+    let seen = stored_on_blank(alloc, &mut s, place, acl);
+    end(s);
     seen
 }
 
-#[test]
-fn acls_have_the_bytes_of_the_format(rt: HostRuntime) -> Result<(), Fail> {
-    // Count, zeros, and tag, permissions and id of the first two entries.
-    for (text, first, kept, mode) in [
+// The same of a text.
+fn stored_of(alloc: Global, text: &[u8]) -> Result<Stored, Fail> {
+    let acl = parsed(alloc, text)?;
+    stored_on_disk(alloc, &acl, text)
+}
+
+// The text of an ACL, and what is seen of it.
+type Row = (&'static [u8], Stored);
+
+// Count, zeros, and tag, permissions and id of the first two entries.
+const ROWS: [Row; 2] = [
+    (
+        b"user::rw-,group::r--,other::---",
         (
-            b"user::rw-,group::r--,other::---".as_slice(),
             [
                 3, 0, 0, 0, 0, 0, 0, 0, 1, 0, 6, 0, 0, 0, 0, 0, 4, 0, 4, 0, 0, 0, 0, 0,
             ],
+            true,
             false,
             0o1640,
         ),
+    ),
+    (
+        b"user::rwx,user:1001:rw-,group::r--,mask::r-x,other::--x",
         (
-            b"user::rwx,user:1001:rw-,group::r--,mask::r-x,other::--x".as_slice(),
             [
                 5, 0, 0, 0, 0, 0, 0, 0, 1, 0, 7, 0, 0, 0, 0, 0, 2, 0, 6, 0, 233, 3, 0, 0,
             ],
             true,
+            true,
             0o1751,
         ),
-    ] {
-        let seen = stored_on_disk(rt.alloc(), text)?;
-        assert!(rt; seen == (first, true, kept, mode), "{text:?}");
+    ),
+];
+
+#[test]
+fn acls_have_the_bytes_of_the_format(rt: HostRuntime) -> Result<(), Fail> {
+    for (text, wanted) in &ROWS {
+        let seen = stored_of(rt.alloc(), text)?;
+        assert!(rt; seen == *wanted, "{text:?}");
     }
     Ok(())
 }

@@ -10,3 +10,5 @@ mod blocks;
 mod directories;
 #[cfg(test)]
 mod inodes;
+#[cfg(test)]
+mod maps;

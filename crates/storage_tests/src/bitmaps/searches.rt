@@ -48,6 +48,7 @@ fn searched(rows: &[Search]) -> usize {
 
 #[test]
 fn lowest_clear_bits(rt: HostRuntime) {
-    let seen = searched(&SEARCHES);
-    assert!(rt; seen == SEARCHES.len(), "{seen}");
+    let rows: &[Search] = &SEARCHES;
+    let seen = searched(rows);
+    assert!(rt; seen == rows.len(), "{seen}");
 }

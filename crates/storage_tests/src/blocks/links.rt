@@ -9,10 +9,11 @@ ghost use Rattle.bit_alloc.specs.Room.{HasSpare};
 ghost use Rattle.inode_table.specs.Inodes.{ClearAreFree};
 
 use super::{INODES, SECTORS};
+use crate::maps::{end, new_map};
 use bit_alloc::{Bitmap, count_free};
-use blank_map::{Counted, idle_store, is_blank, put_blank};
+use blank_map::{Counted, is_blank, put_blank};
 use block_map::{free_all, new_link};
-use fs_layout::{Place, place_of};
+use fs_layout::Place;
 use sector_txn::Sectors;
 use std::alloc::Global;
 use std::test::Fail;
@@ -73,14 +74,9 @@ fn life_on_blank<S: Sectors>(s: &mut Counted<S>, place: Place, target: &[u8]) ->
 
 // The same on a new disk.
 fn life_on_disk(alloc: Global, target: &[u8]) -> Result<Life, Fail> {
-    let place = place_of(SECTORS, INODES).ok_or("no place")?;
-    if place.sectors != SECTORS {
-        return Err(Fail::new("another size"));
-    }
-    let store = idle_store(alloc, SECTORS).ok_or("no store")?;
-    let mut s = Counted::new(store.begin());
+    let (place, mut s) = new_map(alloc, SECTORS, INODES)?;
     let seen = life_on_blank(&mut s, place, target);
-    let _store = s.into_inner().drop_delta();
+    end(s);
     seen
 }
 

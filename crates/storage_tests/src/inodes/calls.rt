@@ -10,9 +10,10 @@ ghost use Rattle.bit_alloc.specs.Room.{HasSpare};
 ghost use Rattle.bit_alloc.specs.Inodes.{IsBlank, IsSound};
 ghost use Rattle.inode_table.specs.Inodes.{ClearAreFree};
 
-use super::{INODES, SECTORS, parsed};
-use blank_map::{Counted, idle_store, is_blank, put_blank};
-use fs_layout::{Inode, Kind, Place, place_of};
+use super::{INODES, SECTORS};
+use crate::maps::{end, new_map, parsed};
+use blank_map::{Counted, is_blank, put_blank};
+use fs_layout::{Inode, Kind, Place};
 use inode_table::{
     free_inode, load, load_acl, load_default_acl, new_inode, save, save_acl, save_default_acl,
     write_inode,
@@ -40,15 +41,25 @@ fn are_alike(one: &Acl, other: &Acl) -> bool {
     true
 }
 
+// Whether an ACL that was read has the same entries.
+fn is_as(read: Acl, wanted: &Acl) -> bool {
+    are_alike(&read, wanted)
+}
+
 // The same, where there are ACLs.
-fn are_alike_if_any(one: Option<&Acl>, other: Option<&Acl>) -> bool {
-    match one {
-        None => other.is_none(),
-        Some(one) => match other {
+fn is_as_if_any(read: Option<Acl>, wanted: Option<&Acl>) -> bool {
+    match read {
+        None => wanted.is_none(),
+        Some(read) => match wanted {
             None => false,
-            Some(other) => are_alike(one, other),
+            Some(wanted) => is_as(read, wanted),
         },
     }
+}
+
+// Whether the first inode of a map was made, with one name and both ACLs.
+fn is_first(n: u32, made: &Inode, has_access: bool, has_default: bool) -> bool {
+    has_access && has_default && made.names == 1 && n == 1
 }
 
 // Makes an inode with these ACLs: its number, what that, its load and the loads of its ACLs cost, and whether its fields
@@ -87,16 +98,14 @@ pub(super) fn made<S: Sectors>(
         return Err(Fail::new("no access ACL"));
     };
     counts[2] = (s.gets, s.puts);
+    let same = is_as(read, access);
     s.gets = 0;
     s.puts = 0;
     let Ok(read_default) = load_default_acl(alloc, s, place, &made) else {
         return Err(Fail::new("no default ACL"));
     };
     counts[3] = (s.gets, s.puts);
-    let same = are_alike(&read, access)
-        && are_alike_if_any(read_default.as_ref(), default)
-        && made.names == 1
-        && n == 1;
+    let same = is_first(n, &made, same, is_as_if_any(read_default, default));
     Ok((n, counts, same))
 }
 
@@ -229,62 +238,62 @@ fn life_on_blank<S: Sectors>(
 
 // The same on a new disk.
 fn life_on_disk(alloc: Global, first: Acls, then: Acls) -> Result<Life, Fail> {
-    let place = place_of(SECTORS, INODES).ok_or("no place")?;
-    if place.sectors != SECTORS {
-        return Err(Fail::new("another size"));
-    }
-    let store = idle_store(alloc, SECTORS).ok_or("no store")?;
-    let mut s = Counted::new(store.begin());
+    let (place, mut s) = new_map(alloc, SECTORS, INODES)?;
     let seen = life_on_blank(alloc, &mut s, place, first, then);
-    let _store = s.into_inner().drop_delta();
+    end(s);
     seen
 }
 
 // The lives of files whose ACLs take a sector, rewrite one or give one back.
+fn lives_of(alloc: Global, short: &Acl, long: &Acl) -> Result<[Life; 4], Fail> {
+    Ok([
+        life_on_disk(alloc, (short, None), (long, Some(long)))?,
+        life_on_disk(alloc, (long, None), (long, None))?,
+        life_on_disk(alloc, (short, Some(short)), (short, None))?,
+        life_on_disk(alloc, (long, Some(long)), (short, Some(short)))?,
+    ])
+}
+
 fn lives(alloc: Global) -> Result<[Life; 4], Fail> {
     let short = parsed(alloc, b"user::rw-,group::r--,other::---")?;
     let long = parsed(
         alloc,
         b"user::rw-,user:1001:rw-,group::r--,mask::rw-,other::---",
     )?;
-    Ok([
-        life_on_disk(alloc, (&short, None), (&long, Some(&long)))?,
-        life_on_disk(alloc, (&long, None), (&long, None))?,
-        life_on_disk(alloc, (&short, Some(&short)), (&short, None))?,
-        life_on_disk(alloc, (&long, Some(&long)), (&short, Some(&short)))?,
-    ])
+    lives_of(alloc, &short, &long)
 }
+
+// new_inode, load, load_acl, load_default_acl; write_inode, save, save_acl, save_default_acl; free_inode
+const LIVES: [Life; 4] = [
+    (
+        [(2, 2), (1, 0), (0, 0), (0, 0)],
+        [(1, 1), (1, 1), (2, 3), (2, 3)],
+        (5, 4),
+        true,
+    ),
+    (
+        [(3, 4), (1, 0), (1, 0), (0, 0)],
+        [(1, 1), (1, 1), (1, 2), (1, 1)],
+        (4, 3),
+        true,
+    ),
+    (
+        [(3, 4), (1, 0), (0, 0), (1, 0)],
+        [(1, 1), (1, 1), (1, 1), (2, 2)],
+        (3, 2),
+        true,
+    ),
+    (
+        [(4, 6), (1, 0), (1, 0), (1, 0)],
+        [(1, 1), (1, 1), (2, 2), (1, 2)],
+        (4, 3),
+        true,
+    ),
+];
 
 #[test]
 fn calls(rt: HostRuntime) -> Result<(), Fail> {
     let seen = lives(rt.alloc())?;
-    // new_inode, load, load_acl, load_default_acl; write_inode, save, save_acl, save_default_acl; free_inode
-    let wanted = [
-        (
-            [(2, 2), (1, 0), (0, 0), (0, 0)],
-            [(1, 1), (1, 1), (2, 3), (2, 3)],
-            (5, 4),
-            true,
-        ),
-        (
-            [(3, 4), (1, 0), (1, 0), (0, 0)],
-            [(1, 1), (1, 1), (1, 2), (1, 1)],
-            (4, 3),
-            true,
-        ),
-        (
-            [(3, 4), (1, 0), (0, 0), (1, 0)],
-            [(1, 1), (1, 1), (1, 1), (2, 2)],
-            (3, 2),
-            true,
-        ),
-        (
-            [(4, 6), (1, 0), (1, 0), (1, 0)],
-            [(1, 1), (1, 1), (2, 2), (1, 2)],
-            (4, 3),
-            true,
-        ),
-    ];
-    assert!(rt; seen == wanted, "{seen:?}");
+    assert!(rt; seen == LIVES, "{seen:?}");
     Ok(())
 }

@@ -1,4 +1,4 @@
-use Rattle.std.proofs.Common.{◌-◌, arith, refl, sym, subst}
+use Rattle.std.proofs.Common.{◌-◌, ◌∙◌, ap, arith, refl, sym, subst}
 use Rattle.std.specs.Prelude.{[]}
 use Rattle.fs_layout.specs.declared.inode.Kind.TheVariants.{Directory}
 use Rattle.fs_layout.specs.Inode.{inode_fits}
@@ -20,6 +20,10 @@ new_inode-requires-clause-fits g c = new_fits Directory 0o750 1 (record { number
 pub fill-requires-clause-sound : goal.fill-requires-clause-sound
 fill-requires-clause-sound g c =
     sound_after_reads c.in-Ok.ensures.sound c.in_ok-inode.ensures.same
+
+pub fill-requires-clause-there : goal.fill-requires-clause-there
+fill-requires-clause-there g c =
+    c.in_ok-inode.ensures.found ∙ ap (λ image. inode_at c.args.place image c.in-Ok.n) (map_unchanged c.in_ok-inode.ensures.same)
 
 pub fill-requires-clause-directory : goal.fill-requires-clause-directory
 fill-requires-clause-directory g c =

@@ -1,0 +1,42 @@
+//! A map on a new disk in memory, and the ACLs of its inodes.
+
+ghost use Rattle.std.specs.Prelude.{◌≤◌, IfOk};
+ghost use Rattle.fs_layout.specs.Place.{IsPlace};
+
+use blank_map::{Counted, idle_store};
+use fs_layout::{Place, place_of};
+use posix_acl::{Acl, AclFault};
+use sector_disk::MemDisk;
+use sector_txn::{Sectors, Txn};
+use std::alloc::Global;
+use std::test::Fail;
+
+// A transaction on a new disk of so many sectors, laid out for so many inodes.
+pub(super) fn new_map(
+    alloc: Global,
+    sectors: u32,
+    inodes: u32,
+) -> Result<(Place, Counted<Txn<MemDisk>>), Fail>
+    ensures place { IfOk result (λ map. IsPlace map.0) }
+    ensures disk { IfOk result (λ map. map.0.sectors ≤ (⟦<Txn<MemDisk> as Sectors>⟧.state map.1.inner).disk.size) }
+{
+    let place = place_of(sectors, inodes).ok_or("no place")?;
+    if place.sectors != sectors {
+        return Err(Fail::new("another size"));
+    }
+    let store = idle_store(alloc, sectors).ok_or("no store")?;
+    Ok((place, Counted::new(store.begin())))
+}
+
+// Nothing of it is kept.
+pub(super) fn end(s: Counted<Txn<MemDisk>>) {
+    let _store = s.into_inner().drop_delta();
+}
+
+pub(super) fn parsed(alloc: Global, text: &[u8]) -> Result<Acl, Fail> {
+    match Acl::parse_text(alloc, text) {
+        Ok(acl) => Ok(acl),
+        Err(AclFault::OutOfMemory) => Err(Fail::new("no memory")),
+        Err(_) => Err(Fail::new("no ACL")),
+    }
+}
