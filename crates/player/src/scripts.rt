@@ -7,6 +7,7 @@ mod stopped;
 mod trial;
 
 use script::Script;
+use std::mem;
 use trial::outcome;
 
 /// Plays each script of a file on a new file system, and tells how it is answered.
@@ -14,10 +15,17 @@ pub fn play(rt: &HostRuntime, name: &str, text: &str) -> anyhow::Result<()> {
     let mut parts = text.split("\n== ");
     let head = parts.next().unwrap_or("");
     for part in parts {
-        let script = Script::read(rt.alloc(), head, part)?;
-        let outcome = outcome(rt.alloc(), &script)?;
-        let title = script.title;
-        println!(rt; "{name}: {title}: {outcome}")?;
+        play_script(rt, name, head, part)?;
     }
+    Ok(())
+}
+
+fn play_script(rt: &HostRuntime, name: &str, head: &str, part: &str) -> anyhow::Result<()> {
+    let script = Script::read(rt.alloc(), head, part)?;
+    let title = script.title;
+    let outcome = outcome(rt.alloc(), &script);
+    mem::drop(script);
+    let outcome = outcome?;
+    println!(rt; "{name}: {title}: {outcome}")?;
     Ok(())
 }

@@ -1,7 +1,7 @@
 //! What has to hold of a file system once its server has ended.
 
 use anyhow::{anyhow, bail};
-use fs_check::check;
+use fs_check::{Summary, check};
 use fs_cred::{Errno, Refusal};
 use fs_layout::ROOT;
 use fs_lines::reply_text;
@@ -10,6 +10,7 @@ use fs_system::Fs;
 use posix_acl::Acl;
 use sector_disk::MemDisk;
 use std::alloc::{AllocError, Global};
+use std::mem;
 
 // The server's own process, which has all capabilities.
 const LOOKER: usize = 1;
@@ -35,91 +36,159 @@ const LISTED: Flags = Flags {
     directory: true,
 };
 
+// What a reply tells those who look.
+#[derive(Clone, Copy)]
+enum Answer {
+    Done,
+    AtRoot,
+    Failed(Errno),
+    Other,
+}
+
 /// Each process stands at the root; no directory is where the walks of one start, so that all names can be removed; and what is
 /// left on the disk is an empty root.
 ///
 /// Descriptors are closed before that: OPEN of a directory, which Linux never asks for, leaves it open.
 pub fn look_after(alloc: Global, fs: Fs<MemDisk>) -> anyhow::Result<()> {
     let mut fs = fs;
-    open_root(alloc, &mut fs)?;
-    for pid in 1..=MAX_PROCESSES {
-        find_at_root(alloc, &mut fs, pid)?;
-        for fd in 0..MAX_DESCRIPTORS {
-            fs.serve_call(pid, &Call::Close(fd));
+    match clear(alloc, &mut fs) {
+        Ok(()) => look_at_disk(alloc, fs),
+        Err(fault) => {
+            mem::drop(fs);
+            Err(fault)
         }
     }
-    remove_all(alloc, &mut fs)?;
+}
+
+fn clear(alloc: Global, fs: &mut Fs<MemDisk>) -> anyhow::Result<()> {
+    open_root(alloc, fs)?;
+    for pid in 1..=MAX_PROCESSES {
+        find_at_root(alloc, fs, pid)?;
+        close_all(fs, pid);
+    }
+    remove_all(alloc, fs)
+}
+
+fn look_at_disk(alloc: Global, fs: Fs<MemDisk>) -> anyhow::Result<()> {
     let (mut disk, errno) = fs.unmount();
+    let checked = check(alloc, &mut disk);
+    mem::drop(disk);
     if errno.is_some() {
         bail!("unmount failed");
     }
-    let summary = check(alloc, &mut disk)?;
-    if (summary.files, summary.dirs, summary.links, summary.nameless) != (0, 1, 0, 0) {
+    if !is_empty(&checked?) {
         bail!("objects are left");
     }
     Ok(())
+}
+
+fn is_empty(summary: &Summary) -> bool {
+    (summary.files, summary.dirs, summary.links, summary.nameless) == (0, 1, 0, 0)
 }
 
 fn path(alloc: Global, bytes: &[u8]) -> Result<Path, AllocError> {
     Path::from_slice(alloc, bytes)
 }
 
-fn is_failed(reply: &Reply, errno: Errno) -> bool {
+// The reply to a call.
+fn asked(fs: &mut Fs<MemDisk>, pid: usize, call: Call) -> Reply {
+    let reply = fs.serve_call(pid, &call);
+    mem::drop(call);
+    reply
+}
+
+fn answer_in(reply: &Reply) -> Answer {
     match reply {
-        Reply::Refused(Refusal::Failed(failed)) => *failed == errno,
-        _ => false,
+        Reply::Done => Answer::Done,
+        Reply::Shown(status) if status.inode == ROOT => Answer::AtRoot,
+        Reply::Refused(Refusal::Failed(errno)) => Answer::Failed(*errno),
+        _ => Answer::Other,
     }
 }
 
-fn unexpected(alloc: Global, asked: &str, reply: &Reply) -> anyhow::Result<anyhow::Error> {
-    let reply = reply_text(alloc, reply)?;
-    Ok(anyhow!("{asked}: {reply}"))
+fn text_of(alloc: Global, reply: Reply) -> Result<String, AllocError> {
+    let text = reply_text(alloc, &reply);
+    mem::drop(reply);
+    text
 }
 
-fn is_at_root(reply: &Reply) -> bool {
-    match reply {
-        Reply::Shown(status) => status.inode == ROOT,
-        _ => false,
+fn unexpected(alloc: Global, asked: &str, reply: Reply) -> anyhow::Error {
+    match text_of(alloc, reply) {
+        Ok(reply) => anyhow!("{asked}: {reply}"),
+        Err(fault) => anyhow::Error::from(fault),
     }
 }
 
 // Lets everybody search the root.
 fn open_root(alloc: Global, fs: &mut Fs<MemDisk>) -> anyhow::Result<()> {
-    let Ok(acl) = Acl::from_mode(alloc, 511) else {
-        bail!("no memory");
-    };
+    let acl = everything(alloc)?;
     let call = Call::SetAcl(path(alloc, b"/")?, AclType::Access, Some(acl));
-    match fs.serve_call(LOOKER, &call) {
+    match asked(fs, LOOKER, call) {
         Reply::Done => Ok(()),
-        other => Err(unexpected(alloc, "setacl", &other)?),
+        other => Err(unexpected(alloc, "setacl", other)),
+    }
+}
+
+// The ACL that permits everything to everybody.
+fn everything(alloc: Global) -> anyhow::Result<Acl> {
+    match Acl::from_mode(alloc, 511) {
+        Ok(acl) => Ok(acl),
+        Err(_) => bail!("no memory"),
     }
 }
 
 // The process, where it is there, stands at the root.
 fn find_at_root(alloc: Global, fs: &mut Fs<MemDisk>, pid: usize) -> anyhow::Result<()> {
     let call = Call::Lstat(path(alloc, b".")?);
-    let reply = fs.serve_call(pid, &call);
-    if is_at_root(&reply) || is_failed(&reply, Errno::ESRCH) {
-        return Ok(());
+    let reply = asked(fs, pid, call);
+    match answer_in(&reply) {
+        Answer::AtRoot | Answer::Failed(Errno::ESRCH) => {
+            mem::drop(reply);
+            Ok(())
+        }
+        _ => {
+            let reply = text_of(alloc, reply)?;
+            bail!("process {pid}: {reply}")
+        }
     }
-    let reply = reply_text(alloc, &reply)?;
-    bail!("process {pid}: {reply}")
+}
+
+fn close_all(fs: &mut Fs<MemDisk>, pid: usize) {
+    for fd in 0..MAX_DESCRIPTORS {
+        close(fs, pid, fd);
+    }
+}
+
+fn close(fs: &mut Fs<MemDisk>, pid: usize, fd: usize) {
+    mem::drop(asked(fs, pid, Call::Close(fd)));
 }
 
 // Removes all that has a name.
 fn remove_all(alloc: Global, fs: &mut Fs<MemDisk>) -> anyhow::Result<()> {
     let mut above = Vec::new(alloc);
     above.push(ROOT)?;
+    let removed = remove_below(alloc, fs, &mut above);
+    mem::drop(above);
+    removed
+}
+
+// Removes all names in these directories, of which each one stands in the one before it.
+fn remove_below(alloc: Global, fs: &mut Fs<MemDisk>, above: &mut Vec<u32>) -> anyhow::Result<()> {
     for _ in 0..MOST_STEPS {
         let Some(directory) = above.last().copied() else {
             return Ok(());
         };
-        if fs.enter(LOOKER, directory, directory).is_err() {
+        if !enters(fs, directory) {
             bail!("enter failed");
         }
-        remove_first(alloc, fs, &mut above)?;
+        remove_first(alloc, fs, above)?;
     }
     bail!("too many names")
+}
+
+// Whether the looker stands in this directory from now on.
+fn enters(fs: &mut Fs<MemDisk>, directory: u32) -> bool {
+    fs.enter(LOOKER, directory, directory).is_ok()
 }
 
 // Removes the first name in the last of these directories, goes below it, or goes up again where there is none.
@@ -128,8 +197,11 @@ fn remove_first(alloc: Global, fs: &mut Fs<MemDisk>, above: &mut Vec<u32>) -> an
         above.pop();
         return Ok(());
     };
-    if !remove(alloc, fs, &named)? {
-        above.push(named.inode)?;
+    let inode = named.inode;
+    let removed = remove(alloc, fs, &named);
+    mem::drop(named);
+    if !removed? {
+        above.push(inode)?;
     }
     Ok(())
 }
@@ -137,57 +209,63 @@ fn remove_first(alloc: Global, fs: &mut Fs<MemDisk>, above: &mut Vec<u32>) -> an
 // Opens the directory that the looker stands in.
 fn open_here(alloc: Global, fs: &mut Fs<MemDisk>) -> anyhow::Result<usize> {
     let call = Call::Open(path(alloc, b".")?, LISTED, 0);
-    match fs.serve_call(LOOKER, &call) {
+    match asked(fs, LOOKER, call) {
         Reply::Fd(fd) => Ok(fd),
-        other => Err(unexpected(alloc, "open", &other)?),
+        other => Err(unexpected(alloc, "open", other)),
     }
 }
 
 fn names_in(alloc: Global, fs: &mut Fs<MemDisk>, fd: usize) -> anyhow::Result<Listing> {
-    match fs.serve_call(LOOKER, &Call::Readdir(fd)) {
+    match asked(fs, LOOKER, Call::Readdir(fd)) {
         Reply::Names(listing) => Ok(listing),
-        other => Err(unexpected(alloc, "readdir", &other)?),
+        other => Err(unexpected(alloc, "readdir", other)),
     }
 }
 
 // The first name but for the two that each directory has.
 fn first_of(listing: Listing) -> Option<Named> {
-    for named in listing.into_names() {
-        if named.name.bytes() != b".".as_slice() && named.name.bytes() != b"..".as_slice() {
-            return Some(named);
-        }
-    }
-    None
+    listing
+        .into_names()
+        .into_iter()
+        .find(|named| !is_own(named))
+}
+
+fn is_own(named: &Named) -> bool {
+    named.name.bytes() == b".".as_slice() || named.name.bytes() == b"..".as_slice()
 }
 
 // The first name in the directory that the looker stands in.
 fn first_named(alloc: Global, fs: &mut Fs<MemDisk>) -> anyhow::Result<Option<Named>> {
     let fd = open_here(alloc, fs)?;
     let listing = names_in(alloc, fs, fd)?;
-    fs.serve_call(LOOKER, &Call::Close(fd));
+    close(fs, LOOKER, fd);
     Ok(first_of(listing))
 }
 
 // Removes a name there; false where it leads to a directory that isn't empty.
 fn remove(alloc: Global, fs: &mut Fs<MemDisk>, named: &Named) -> anyhow::Result<bool> {
     let call = Call::Rmdir(path(alloc, named.name.bytes())?);
-    let reply = fs.serve_call(LOOKER, &call);
-    if is_failed(&reply, Errno::ENOTDIR) {
-        return unlink(alloc, fs, named);
+    let reply = asked(fs, LOOKER, call);
+    match answer_in(&reply) {
+        Answer::Failed(Errno::ENOTDIR) => {
+            mem::drop(reply);
+            unlink(alloc, fs, named)
+        }
+        _ => is_removed(alloc, reply),
     }
-    is_removed(alloc, &reply)
 }
 
 fn unlink(alloc: Global, fs: &mut Fs<MemDisk>, named: &Named) -> anyhow::Result<bool> {
     let call = Call::Unlink(path(alloc, named.name.bytes())?);
-    let reply = fs.serve_call(LOOKER, &call);
-    is_removed(alloc, &reply)
+    is_removed(alloc, asked(fs, LOOKER, call))
 }
 
-fn is_removed(alloc: Global, reply: &Reply) -> anyhow::Result<bool> {
-    match reply {
-        Reply::Done => Ok(true),
-        Reply::Refused(Refusal::Failed(Errno::ENOTEMPTY)) => Ok(false),
-        other => Err(unexpected(alloc, "remove", other)?),
-    }
+fn is_removed(alloc: Global, reply: Reply) -> anyhow::Result<bool> {
+    let is_done = match answer_in(&reply) {
+        Answer::Done => true,
+        Answer::Failed(Errno::ENOTEMPTY) => false,
+        _ => return Err(unexpected(alloc, "remove", reply)),
+    };
+    mem::drop(reply);
+    Ok(is_done)
 }

@@ -11,6 +11,7 @@ use fuse_serving::{Kernel, Nobody, ReplyRoom, ServeFault};
 use fuse_state::Settings;
 use sector_disk::MemDisk;
 use std::alloc::Global;
+use std::mem;
 
 // The largest request: one that writes 131,072 bytes.
 const REQUEST_ROOM: usize = 131_152;
@@ -22,11 +23,43 @@ pub fn serve_new<K: Kernel>(
     max_write: u32,
     kernel: &mut K,
 ) -> anyhow::Result<(Result<(), ServeFault>, Fs<MemDisk>)> {
+    let mut buffer = Vec::new(alloc);
+    buffer.resize(REQUEST_ROOM, 0)?;
+    let mut room = ReplyRoom::new(alloc)?;
+    let (fs, settings) = new_mounted(alloc, start, max_write)?;
+    let served = serve_requests(
+        alloc,
+        fs,
+        settings,
+        kernel,
+        &mut Nobody,
+        &mut buffer,
+        &mut room,
+    );
+    Ok(served)
+}
+
+// A new file system, and what is shown of it.
+fn new_mounted(
+    alloc: Global,
+    start: u64,
+    max_write: u32,
+) -> anyhow::Result<(Fs<MemDisk>, Settings)> {
     let mut fs = new_file_system(alloc)?;
+    match settings_of(&mut fs, start, max_write) {
+        Some(settings) => Ok((fs, settings)),
+        None => {
+            mem::drop(fs);
+            bail!("statfs failed")
+        }
+    }
+}
+
+fn settings_of(fs: &mut Fs<MemDisk>, start: u64, max_write: u32) -> Option<Settings> {
     let Ok((sectors, free_inodes)) = fs.statfs() else {
-        bail!("statfs failed");
+        return None;
     };
-    let settings = Settings {
+    Some(Settings {
         max_write,
         posix_acl: false,
         sectors,
@@ -35,28 +68,23 @@ pub fn serve_new<K: Kernel>(
             seconds: start,
             nanoseconds: 0,
         },
-    };
-    let mut buffer = Vec::new(alloc);
-    buffer.resize(REQUEST_ROOM, 0)?;
-    let mut room = ReplyRoom::new(alloc)?;
-    Ok(serve_requests(
-        alloc,
-        fs,
-        settings,
-        kernel,
-        &mut Nobody,
-        &mut buffer,
-        &mut room,
-    ))
+    })
 }
 
 fn new_file_system(alloc: Global) -> anyhow::Result<Fs<MemDisk>> {
+    match Fs::mount(alloc, new_disk(alloc)?) {
+        Ok(fs) => Ok(fs),
+        Err((fault, disk)) => {
+            mem::drop(disk);
+            bail!("{fault}")
+        }
+    }
+}
+
+fn new_disk(alloc: Global) -> anyhow::Result<MemDisk> {
     let mut disk = MemDisk::new(alloc, SECTORS)?;
     mkfs(&mut disk, INODES)?;
-    match Fs::mount(alloc, disk) {
-        Ok(fs) => Ok(fs),
-        Err((fault, _)) => bail!("{fault}"),
-    }
+    Ok(disk)
 }
 
 /// Puts a request at the front of a buffer, and tells its length; nothing where it doesn't fit.

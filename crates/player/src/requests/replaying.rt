@@ -8,6 +8,7 @@ use fuse_protocol::Time;
 use fuse_serving::{Caller, Groups, Kernel};
 use std::alloc::{AllocError, Global};
 use std::io::{self, ErrorKind};
+use std::mem;
 
 // The kernel that was recorded.
 #[derive(Drop)]
@@ -40,11 +41,20 @@ pub fn replay<'a>(
         written: Vec::new(alloc),
         told: String::new(alloc),
     };
-    let (served, _) = serve_new(alloc, recording.start, recording.max_write, &mut kernel)?;
+    let played = play(alloc, recording, &mut kernel);
+    let Recorded { written, told, .. } = kernel;
+    mem::drop(written);
+    played?;
+    Ok(told)
+}
+
+fn play(alloc: Global, recording: &Recording, kernel: &mut Recorded<'_>) -> anyhow::Result<()> {
+    let (served, fs) = serve_new(alloc, recording.start, recording.max_write, kernel)?;
+    mem::drop(fs);
     served?;
     kernel.compare()?;
     kernel.compare_count()?;
-    Ok(kernel.told)
+    Ok(())
 }
 
 impl<'a> Recorded<'a> {
@@ -55,17 +65,22 @@ impl<'a> Recorded<'a> {
         };
         self.present = None;
         if !are_same(&self.written, &exchange.reply) {
-            let name = self.name;
-            let number = self.given;
-            let recorded = hex::encode(self.alloc, &exchange.reply)?;
-            let written = hex::encode(self.alloc, &self.written)?;
-            writeln!(
-                self.told,
-                "{name}: request {number}: recorded {recorded}, replied {written}"
-            )?;
+            self.tell_both(&exchange.reply)?;
         }
         self.written.clear();
         Ok(())
+    }
+
+    // Tells what was written in place of what is recorded.
+    fn tell_both(&mut self, recorded: &[u8]) -> Result<(), AllocError> {
+        let name = self.name;
+        let number = self.given;
+        let recorded = hex::encode(self.alloc, recorded)?;
+        let written = hex::encode(self.alloc, &self.written)?;
+        writeln!(
+            self.told,
+            "{name}: request {number}: recorded {recorded}, replied {written}"
+        )
     }
 
     // Tells how many requests there are, where nothing else was told, or that not all were read.

@@ -10,9 +10,10 @@ use anyhow::bail;
 use bitflags::Flags;
 use fs_cred::Caps;
 use fuse_protocol::Time;
-use fuse_serving::{Caller, Kernel};
+use fuse_serving::{Caller, Kernel, ServeFault};
 use std::alloc::{AllocError, Global};
 use std::io::{self, ErrorKind};
+use std::mem;
 
 // A kernel that plays a recording, with other requests in between, and with bytes that are changed.
 #[derive(Drop)]
@@ -43,23 +44,31 @@ pub fn play_sessions(
     recordings: &[Recording],
     words: &str,
 ) -> anyhow::Result<()> {
-    let Some((count, seed)) = words.split_once(':') else {
-        bail!("random:{words}");
-    };
-    let count = count.parse::<u64>()?;
-    let seed = seed.parse::<u64>()?;
+    let (count, seed) = count_and_seed(words)?;
+    play_all(rt.alloc(), recordings, count, seed)?;
+    println!(rt; "seed {seed}: {count} requests at random")?;
+    Ok(())
+}
+
+fn count_and_seed(words: &str) -> anyhow::Result<(u64, u64)> {
+    match words.split_once(':') {
+        Some((count, seed)) => Ok((count.parse::<u64>()?, seed.parse::<u64>()?)),
+        None => bail!("random:{words}"),
+    }
+}
+
+fn play_all(alloc: Global, recordings: &[Recording], count: u64, seed: u64) -> anyhow::Result<()> {
     let mut chance = Chance::new(seed);
     let mut left = count;
     for session in 1..=count {
         if left == 0 {
             break;
         }
-        match play_session(rt.alloc(), &mut chance, recordings, left) {
+        match play_session(alloc, &mut chance, recordings, left) {
             Ok(played) => left = left.saturating_sub(played),
             Err(fault) => bail!("seed {seed}: session {session}: {fault}"),
         }
     }
-    println!(rt; "seed {seed}: {count} requests at random")?;
     Ok(())
 }
 
@@ -87,30 +96,54 @@ fn play_session(
         read_on: false,
         replies_well: true,
     };
-    let (served, fs) = serve_new(alloc, played.start, played.max_write, &mut kernel)?;
+    let outcome = play(alloc, &mut kernel);
     *chance = kernel.chance;
     let left = kernel.left;
-    if let Err(fault) = served {
-        bail!("{left} left: {fault}");
-    }
-    kernel.judge()?;
-    look_after(alloc, fs)?;
+    mem::drop(kernel);
+    outcome?;
     Ok(size.saturating_sub(left))
 }
 
+// Serves a kernel, and looks at what it was replied, and at what is left.
+fn play(alloc: Global, kernel: &mut Changing<'_>) -> anyhow::Result<()> {
+    let Recording {
+        start,
+        max_write,
+        ..
+    } = kernel.played;
+    let (served, fs) = serve_new(alloc, *start, *max_write, kernel)?;
+    match kernel.judge(served) {
+        Ok(()) => look_after(alloc, fs),
+        Err(fault) => {
+            mem::drop(fs);
+            Err(fault)
+        }
+    }
+}
+
 impl<'a> Changing<'a> {
-    fn judge(&self) -> anyhow::Result<()> {
+    fn judge(&self, served: Result<(), ServeFault>) -> anyhow::Result<()> {
         let left = self.left;
+        if let Err(fault) = served {
+            bail!("{left} left: {fault}");
+        }
+        match self.misdeed() {
+            Some(misdeed) => bail!("{left} left: {misdeed}"),
+            None => Ok(()),
+        }
+    }
+
+    // What the server did that it may not.
+    fn misdeed(&self) -> Option<&'static str> {
         if self.read_on {
-            bail!("{left} left: the server went on");
+            Some("the server went on")
+        } else if !self.last && self.left > 0 {
+            Some("the server ended")
+        } else if !self.replies_well {
+            Some("a reply isn't of its form, or is one too many")
+        } else {
+            None
         }
-        if !self.last && left > 0 {
-            bail!("{left} left: the server ended");
-        }
-        if !self.replies_well {
-            bail!("{left} left: a reply isn't of its form, or is one too many");
-        }
-        Ok(())
     }
 
     // The next one of the recording, or any of all.

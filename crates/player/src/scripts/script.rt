@@ -24,6 +24,7 @@
 use crate::scripts::row::{Fill, push_row};
 use anyhow::bail;
 use std::alloc::Global;
+use std::mem;
 
 /// Numbers that a script is run for.
 #[derive(Clone, Copy)]
@@ -125,13 +126,24 @@ impl<'a> Script<'a> {
             disk: DiskLine::Made,
             rows: Vec::new(alloc),
         };
+        match script.add_all(head, below) {
+            Ok(()) => Ok(script),
+            Err(fault) => {
+                mem::drop(script);
+                Err(fault)
+            }
+        }
+    }
+
+    // Adds the rows above the first title, and the lines below its own.
+    fn add_all(&mut self, head: &'a str, below: &'a str) -> anyhow::Result<()> {
         for row in head.split_terminator('\n') {
-            script.rows.push(row)?;
+            self.rows.push(row)?;
         }
         for line in below.split_terminator('\n') {
-            script.add(line)?;
+            self.add(line)?;
         }
-        Ok(script)
+        Ok(())
     }
 
     fn add(&mut self, line: &'a str) -> anyhow::Result<()> {
@@ -159,13 +171,13 @@ impl<'a> Script<'a> {
             lines: String::new(alloc),
             replies: Vec::new(alloc),
         };
-        for row in &self.rows {
-            let text = filled(alloc, &fill, row)?;
-            for row in text.as_str().split_terminator('\n') {
-                rows.add(alloc, row)?;
+        match rows.add_all(alloc, &fill, &self.rows) {
+            Ok(()) => Ok(rows),
+            Err(fault) => {
+                mem::drop(rows);
+                Err(fault)
             }
         }
-        Ok(rows)
     }
 }
 
@@ -190,6 +202,22 @@ fn filled(alloc: Global, fill: &Fill<'_>, row: &str) -> anyhow::Result<String> {
 }
 
 impl Rows {
+    fn add_all(&mut self, alloc: Global, fill: &Fill<'_>, rows: &[&str]) -> anyhow::Result<()> {
+        for row in rows {
+            let text = filled(alloc, fill, row)?;
+            self.add_filled(alloc, text.as_str())?;
+        }
+        Ok(())
+    }
+
+    // Adds the rows that a row makes.
+    fn add_filled(&mut self, alloc: Global, text: &str) -> anyhow::Result<()> {
+        for row in text.split_terminator('\n') {
+            self.add(alloc, row)?;
+        }
+        Ok(())
+    }
+
     fn add(&mut self, alloc: Global, row: &str) -> anyhow::Result<()> {
         match row.split_once(" -> ") {
             Some((line, reply)) => {

@@ -5,9 +5,10 @@ use anyhow::{anyhow, bail};
 use fs_check::{CheckFault, Summary, check};
 use fs_images::mkfs;
 use fs_shell::{Watched, run};
-use fs_system::Fs;
+use fs_system::{Fs, MountFault};
 use sector_disk::{Disk, FailOnce, FuseDisk, MemDisk};
 use std::alloc::{AllocError, Global};
+use std::mem;
 
 // One call fails; and all from some call on.
 type FailingDisk = FuseDisk<FailOnce<MemDisk>>;
@@ -32,24 +33,61 @@ enum Request<'a> {
 
 /// What is answered to the lines on an empty file system, of whose disk this call fails.
 pub fn replies(alloc: Global, call: u64, lines: &str) -> anyhow::Result<String> {
-    let mut disk = FailOnce::new(MemDisk::new(alloc, SECTORS)?, call);
-    mkfs(&mut disk, INODES)?;
     let mut seen = String::new(alloc);
-    let mut served = mounted(alloc, &mut seen, FuseDisk::new(disk, u64::MAX))?;
+    let mut served = mounted(alloc, &mut seen, new_disk(alloc, call)?)?;
     seen.clear();
     let mut script = String::new(alloc);
     for line in lines.split_terminator('\n') {
-        match requested(line)? {
-            Some(request) => {
-                served = push_replies(alloc, &mut seen, served, script.as_str())?;
-                script.clear();
-                served = answered(alloc, &mut seen, served, &request)?;
-            }
-            None => writeln!(script, "{line}")?,
+        served = took_line(alloc, &mut seen, &mut script, served, line)?;
+    }
+    let pushed = push_replies(alloc, &mut seen, &mut served, script.as_str());
+    mem::drop(served);
+    pushed?;
+    Ok(seen)
+}
+
+// A disk with an empty file system, of which this call fails.
+fn new_disk(alloc: Global, call: u64) -> anyhow::Result<FailingDisk> {
+    let mut disk = FailOnce::new(MemDisk::new(alloc, SECTORS)?, call);
+    mkfs(&mut disk, INODES)?;
+    Ok(FuseDisk::new(disk, u64::MAX))
+}
+
+// What is served once a line is taken: it asks for something, or belongs to the script that a file system has to answer next.
+fn took_line(
+    alloc: Global,
+    seen: &mut String,
+    script: &mut String,
+    served: Served,
+    line: &str,
+) -> anyhow::Result<Served> {
+    let mut served = served;
+    match prepared(alloc, seen, script, &mut served, line) {
+        Ok(Some(request)) => answered(alloc, seen, served, request),
+        Ok(None) => Ok(served),
+        Err(fault) => {
+            mem::drop(served);
+            Err(fault)
         }
     }
-    push_replies(alloc, &mut seen, served, script.as_str())?;
-    Ok(seen)
+}
+
+// What a line asks for, once the script above it is answered. A line that asks for nothing is added to the script.
+fn prepared<'a>(
+    alloc: Global,
+    seen: &mut String,
+    script: &mut String,
+    served: &mut Served,
+    line: &'a str,
+) -> anyhow::Result<Option<Request<'a>>> {
+    let request = requested(line)?;
+    if request.is_some() {
+        push_replies(alloc, seen, served, script.as_str())?;
+        script.clear();
+    } else {
+        writeln!(script, "{line}")?;
+    }
+    Ok(request)
 }
 
 fn requested(line: &str) -> anyhow::Result<Option<Request<'_>>> {
@@ -68,44 +106,64 @@ fn answered(
     alloc: Global,
     seen: &mut String,
     served: Served,
-    request: &Request<'_>,
+    request: Request<'_>,
 ) -> anyhow::Result<Served> {
     let (mut disk, errno) = unmounted(served);
-    match request {
+    let done = match request {
         Request::Mount(calls) => {
-            return mounted(alloc, seen, FuseDisk::new(disk.into_inner(), *calls));
+            return mounted(alloc, seen, FuseDisk::new(disk.into_inner(), calls));
         }
-        Request::Unmount => match errno {
-            None => seen.push_str("unmounted\n")?,
-            Some(errno) => writeln!(seen, "unmount: {errno}")?,
-        },
-        Request::Put(words) => put(&mut disk, words)?,
-        Request::Check => push_check(alloc, seen, &mut disk)?,
+        Request::Unmount => push_unmounted(seen, errno),
+        Request::Put(words) => put(&mut disk, words),
+        Request::Check => push_check(alloc, seen, &mut disk),
+    };
+    served_after(done, Served::Down(disk))
+}
+
+// What is served, unless something went wrong.
+fn served_after(done: anyhow::Result<()>, served: Served) -> anyhow::Result<Served> {
+    match done {
+        Ok(()) => Ok(served),
+        Err(fault) => {
+            mem::drop(served);
+            Err(fault)
+        }
     }
-    Ok(Served::Down(disk))
+}
+
+fn push_unmounted(seen: &mut String, errno: Option<&'static str>) -> anyhow::Result<()> {
+    match errno {
+        None => seen.push_str("unmounted\n")?,
+        Some(errno) => writeln!(seen, "unmount: {errno}")?,
+    }
+    Ok(())
 }
 
 // Adds what a check finds.
-fn push_check<D: Disk>(alloc: Global, seen: &mut String, disk: &mut D) -> Result<(), AllocError> {
+fn push_check<D: Disk>(alloc: Global, seen: &mut String, disk: &mut D) -> anyhow::Result<()> {
     match check(alloc, disk) {
-        Ok(summary) => push_summary(seen, &summary),
-        Err(CheckFault::Found(finding)) => writeln!(seen, "finding {finding}"),
-        Err(fault) => writeln!(seen, "{fault}"),
+        Ok(summary) => push_summary(seen, &summary)?,
+        Err(CheckFault::Found(finding)) => writeln!(seen, "finding {finding}")?,
+        Err(fault) => writeln!(seen, "{fault}")?,
     }
+    Ok(())
 }
 
 // Mounts, and adds what comes of it.
 fn mounted(alloc: Global, seen: &mut String, disk: FailingDisk) -> anyhow::Result<Served> {
-    match Fs::mount(alloc, disk) {
-        Ok(fs) => {
-            seen.push_str("mounted\n")?;
-            Ok(Served::Mounted(fs))
-        }
-        Err((fault, disk)) => {
-            writeln!(seen, "{fault}")?;
-            Ok(Served::Down(disk))
-        }
+    let (served, fault) = match Fs::mount(alloc, disk) {
+        Ok(fs) => (Served::Mounted(fs), None),
+        Err((fault, disk)) => (Served::Down(disk), Some(fault)),
+    };
+    served_after(push_mounted(seen, fault), served)
+}
+
+fn push_mounted(seen: &mut String, fault: Option<MountFault>) -> anyhow::Result<()> {
+    match fault {
+        None => seen.push_str("mounted\n")?,
+        Some(fault) => writeln!(seen, "{fault}")?,
     }
+    Ok(())
 }
 
 // The disk after an unmount, and the error that this tells. From then on no call fails for want of calls that pass.
@@ -164,29 +222,39 @@ fn number(word: Option<&str>) -> anyhow::Result<u32> {
     }
 }
 
-// Adds what a file system answers to a script.
+// Adds what is answered to a script.
 fn push_replies(
     alloc: Global,
     seen: &mut String,
-    served: Served,
+    served: &mut Served,
     script: &str,
-) -> anyhow::Result<Served> {
-    let mut fs = match served {
-        Served::Mounted(fs) => fs,
-        Served::Down(disk) => {
+) -> anyhow::Result<()> {
+    match served {
+        Served::Mounted(fs) => push_run(alloc, seen, fs, script),
+        Served::Down(_) => {
             push_down(seen, script)?;
-            return Ok(Served::Down(disk));
+            Ok(())
         }
-    };
+    }
+}
+
+// Adds what a file system answers to a script.
+fn push_run(
+    alloc: Global,
+    seen: &mut String,
+    fs: &mut Fs<FailingDisk>,
+    script: &str,
+) -> anyhow::Result<()> {
     let mut written = Vec::new(alloc);
     run(
         alloc,
         &mut Watched::new(script.as_bytes()),
         &mut Watched::new(&mut written),
-        &mut fs,
+        fs,
     )?;
-    seen.push_str(String::from_utf8_lossy(alloc, &written)?.as_str())?;
-    Ok(Served::Mounted(fs))
+    let text = String::from_utf8_lossy(alloc, &written)?;
+    seen.push_str(text.as_str())?;
+    Ok(())
 }
 
 // Each line that would have a reply finds nothing mounted.

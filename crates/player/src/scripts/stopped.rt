@@ -4,10 +4,11 @@ use crate::disks::{INODES, SECTORS};
 use anyhow::bail;
 use fs_images::mkfs;
 use fs_lines::{Line, parse_line, reply_text};
-use fs_model::{Bytes, Event, EventReply, RestartFault};
+use fs_model::{Bytes, Event, EventReply, Reply, RestartFault};
 use fs_system::play;
 use sector_disk::MemDisk;
 use std::alloc::{AllocError, Global};
+use std::mem;
 
 /// Whether lines have a stop of the disk.
 pub fn has_stops(lines: &str) -> bool {
@@ -29,36 +30,52 @@ pub fn replies_without_mkfs(alloc: Global, lines: &str) -> anyhow::Result<String
 
 // What is answered to the lines on this disk, or why they aren't played.
 fn replies_on(alloc: Global, disk: MemDisk, lines: &str) -> anyhow::Result<String> {
-    let mut events = Vec::new(alloc);
-    for line in lines.split_terminator('\n') {
-        push_event(alloc, &mut events, line)?;
-    }
+    let events = events_of(alloc, lines)?;
+    let (disk, outcome) = play(alloc, disk, &events);
+    mem::drop(disk);
+    mem::drop(events);
     let mut seen = String::new(alloc);
-    let (_, outcome) = play(alloc, disk, &events);
     match outcome {
         Ok(replies) => {
-            for reply in &replies {
-                push_reply(alloc, &mut seen, reply)?;
-            }
+            let pushed = push_replies(alloc, &mut seen, &replies);
+            mem::drop(replies);
+            pushed?;
         }
         Err(fault) => writeln!(seen, "{fault}")?,
     }
     Ok(seen)
 }
 
+fn events_of(alloc: Global, lines: &str) -> anyhow::Result<Vec<Event>> {
+    let mut events = Vec::new(alloc);
+    for line in lines.split_terminator('\n') {
+        push_event(alloc, &mut events, line)?;
+    }
+    Ok(events)
+}
+
 // Adds the event that a line asks for, if it asks for one.
 fn push_event(alloc: Global, events: &mut Vec<Event>, line: &str) -> anyhow::Result<()> {
-    let event = match line.split_once(' ') {
-        Some(("arm", passes)) => Event::Arm(passes.parse::<u64>()?),
-        Some(("restart", words)) => restart(alloc, words)?,
-        _ => match parse_line(alloc, line.as_bytes()) {
-            Ok(Line::Event(event)) => event,
-            Ok(Line::Blank) => return Ok(()),
-            Err(_) => bail!("{line}"),
-        },
-    };
-    events.push(event)?;
+    if let Some(event) = event_of(alloc, line)? {
+        events.push(event)?;
+    }
     Ok(())
+}
+
+fn event_of(alloc: Global, line: &str) -> anyhow::Result<Option<Event>> {
+    match line.split_once(' ') {
+        Some(("arm", passes)) => Ok(Some(Event::Arm(passes.parse::<u64>()?))),
+        Some(("restart", words)) => Ok(Some(restart(alloc, words)?)),
+        _ => parsed(alloc, line),
+    }
+}
+
+fn parsed(alloc: Global, line: &str) -> anyhow::Result<Option<Event>> {
+    match parse_line(alloc, line.as_bytes()) {
+        Ok(Line::Event(event)) => Ok(Some(event)),
+        Ok(Line::Blank) => Ok(None),
+        Err(_) => bail!("{line}"),
+    }
 }
 
 // A stop that picks the content of this number in each sector, after which so many writes and syncs pass, or all.
@@ -74,9 +91,20 @@ fn restart(alloc: Global, words: &str) -> anyhow::Result<Event> {
     })
 }
 
+fn push_replies(
+    alloc: Global,
+    seen: &mut String,
+    replies: &[EventReply],
+) -> Result<(), AllocError> {
+    for reply in replies {
+        push_reply(alloc, seen, reply)?;
+    }
+    Ok(())
+}
+
 fn push_reply(alloc: Global, seen: &mut String, reply: &EventReply) -> Result<(), AllocError> {
     match reply {
-        EventReply::Reply(reply) => seen.push_str(reply_text(alloc, reply)?.as_str())?,
+        EventReply::Reply(reply) => push_text(alloc, seen, reply)?,
         EventReply::Armed => seen.push_str("armed")?,
         EventReply::Mounted => seen.push_str("mounted")?,
         EventReply::MountFailed(RestartFault::DiskFault) => seen.push_str("failed DiskFault")?,
@@ -84,4 +112,9 @@ fn push_reply(alloc: Global, seen: &mut String, reply: &EventReply) -> Result<()
         EventReply::Down => seen.push_str("down")?,
     }
     seen.push('\n')
+}
+
+fn push_text(alloc: Global, seen: &mut String, reply: &Reply) -> Result<(), AllocError> {
+    let text = reply_text(alloc, reply)?;
+    seen.push_str(text.as_str())
 }
