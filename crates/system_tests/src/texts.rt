@@ -6,6 +6,7 @@ use fs_lines::{Line, LineFault, a_line_says_one_thing, fault_text, parse_line, r
 use fs_model::{Bytes, Call, Event, FileType, Listing, Name, Named, Path, Reply, Status};
 use posix_acl::{Acl, Perms};
 use std::alloc::{AllocError, Global};
+use std::mem;
 use std::test::Fail;
 
 // ---- lines
@@ -25,11 +26,18 @@ fn asks_access(line: &Result<Line, LineFault>, pid: usize, path: &[u8], want: Pe
     }
 }
 
+// Whether a line with escapes says its call.
+fn says_access(alloc: Global) -> bool {
+    let line = parse_line(alloc, b"\\31 access /a\\20b r--");
+    let asks = asks_access(&line, 1, b"/a b", READ);
+    mem::drop(line);
+    asks
+}
+
 #[test]
 fn a_line_says_a_call(rt: HostRuntime) {
     a_line_says_one_thing();
-    let line = parse_line(rt.alloc(), b"\\31 access /a\\20b r--");
-    assert!(rt; asks_access(&line, 1, b"/a b", READ));
+    assert!(rt; says_access(rt.alloc()));
 }
 
 // ---- the text of faults and replies
@@ -50,7 +58,9 @@ fn expect_text(
     reply: Reply,
     wanted: &str,
 ) -> Result<(), AllocError> {
-    let text = reply_text(alloc, &reply)?;
+    let text = reply_text(alloc, &reply);
+    mem::drop(reply);
+    let text = text?;
     push_other(report, text.as_str(), wanted)
 }
 
@@ -172,21 +182,21 @@ const RULES: [(Rule, &str); 13] = [
 ];
 
 fn expect_tables(alloc: Global, report: &mut String) -> Result<(), AllocError> {
-    for (fault, wanted) in FAULTS {
-        expect_fault(alloc, report, fault, wanted)?;
+    for (fault, wanted) in &FAULTS {
+        expect_fault(alloc, report, *fault, wanted)?;
     }
-    for (kind, wanted) in KINDS {
-        expect_text(alloc, report, status(kind), wanted)?;
+    for (kind, wanted) in &KINDS {
+        expect_text(alloc, report, status(*kind), wanted)?;
     }
-    for (need, wanted) in NEEDS {
-        expect_text(alloc, report, denial(need), wanted)?;
+    for (need, wanted) in &NEEDS {
+        expect_text(alloc, report, denial(*need), wanted)?;
     }
-    for (errno, wanted) in ERRORS {
-        let reply = Reply::Refused(Refusal::Failed(errno));
+    for (errno, wanted) in &ERRORS {
+        let reply = Reply::Refused(Refusal::Failed(*errno));
         expect_text(alloc, report, reply, wanted)?;
     }
-    for (rule, wanted) in RULES {
-        expect_text(alloc, report, Reply::Granted(rule), wanted)?;
+    for (rule, wanted) in &RULES {
+        expect_text(alloc, report, Reply::Granted(*rule), wanted)?;
     }
     Ok(())
 }
