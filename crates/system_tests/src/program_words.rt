@@ -2,6 +2,7 @@
 
 use fs_command::{Job, WordsFault, parse_words};
 use std::alloc::{AllocError, Global};
+use std::mem;
 use std::test::Fail;
 
 // What the words of a line ask for.
@@ -10,12 +11,17 @@ fn parsed(alloc: Global, line: &str) -> Result<Result<Job, WordsFault>, AllocErr
     for word in line.split(' ') {
         words.push(String::from_str(alloc, word)?)?;
     }
-    Ok(parse_words(alloc, words.as_slice()))
+    let outcome = parse_words(alloc, words.as_slice());
+    mem::drop(words);
+    Ok(outcome)
 }
 
 // The same as a text.
 fn asked(alloc: Global, line: &str) -> Result<String, AllocError> {
-    told(alloc, &parsed(alloc, line)?)
+    let outcome = parsed(alloc, line)?;
+    let told = told(alloc, &outcome);
+    mem::drop(outcome);
+    told
 }
 
 fn told(alloc: Global, outcome: &Result<Job, WordsFault>) -> Result<String, AllocError> {
@@ -166,10 +172,13 @@ fn push_other(report: &mut String, line: &str, seen: &str, wanted: &str) -> Resu
 
 // What is printed at the words of a line, which ask for no job.
 fn text(alloc: Global, line: &str) -> Result<String, AllocError> {
-    match parsed(alloc, line)? {
+    let outcome = parsed(alloc, line)?;
+    let text = match &outcome {
         Ok(_) => Ok(String::new(alloc)),
         Err(fault) => format!(in alloc; "{fault}"),
-    }
+    };
+    mem::drop(outcome);
+    text
 }
 
 const HELP: &str = "A file system in an image, with a journal and access control lists
@@ -253,16 +262,16 @@ fn expect_text(
 }
 
 fn expect_all(alloc: Global, report: &mut String) -> Result<(), AllocError> {
-    for (line, wanted) in JOBS {
+    for (line, wanted) in &JOBS {
         expect(alloc, report, line, wanted)?;
     }
-    for line in BAD {
+    for line in &BAD {
         expect(alloc, report, line, "bad 2")?;
     }
-    for line in SHOWN {
+    for line in &SHOWN {
         expect(alloc, report, line, "help 0")?;
     }
-    for (line, wanted) in TEXTS {
+    for (line, wanted) in &TEXTS {
         expect_text(alloc, report, line, wanted)?;
     }
     Ok(())
