@@ -1,6 +1,6 @@
 //! What the program prints and ends with.
 
-use crate::report::push_other;
+use crate::report::push_other_text;
 use fs_check::{CheckFault, Finding};
 use fs_command::{Failure, Status, perform, run_on_disk};
 use fs_images::{MkfsFault, UpgradeFault, mkfs};
@@ -73,7 +73,7 @@ const FAILURES: [(Failure, &str); 23] = [
 fn push_failures(alloc: Global, report: &mut String) -> Result<(), AllocError> {
     for (failure, line) in &FAILURES {
         let seen = format!(in alloc; "{failure}")?;
-        push_other(report, seen.as_str(), line)?;
+        push_other_text(report, line, seen, line)?;
     }
     Ok(())
 }
@@ -311,23 +311,27 @@ const ROWS: [(Change, &str, &str, &str); 29] = [
     (Change::Nothing, "fsck @d", "", "2"),
 ];
 
-// Adds where the rows come to something other than they say.
-fn push_others(rt: &HostRuntime, folder: &str, report: &mut String) -> Result<(), Fail> {
-    for (before, line, input, wanted) in &ROWS {
-        prepare(rt, folder, before)?;
-        let seen = seen(rt, folder, line, &mut input.as_bytes())?;
-        if seen.as_str() != *wanted {
-            writeln!(report, "{line}: {seen}")?;
-        }
-    }
+// Adds where a row comes to something other than it says.
+fn push_row(
+    rt: &HostRuntime,
+    folder: &str,
+    report: &mut String,
+    row: &(Change, &str, &str, &str),
+) -> Result<(), Fail> {
+    let (before, line, input, wanted) = row;
+    prepare(rt, folder, before)?;
+    let seen = seen(rt, folder, line, &mut input.as_bytes())?;
+    push_other_text(report, line, seen, wanted)?;
     Ok(())
 }
 
-// The same in a folder that is there for the rows alone.
-fn push_others_of_a_folder(rt: &HostRuntime, report: &mut String) -> Result<(), Fail> {
+// The same of all rows, in a folder that is there for them alone.
+fn push_others(rt: &HostRuntime, report: &mut String) -> Result<(), Fail> {
     let folder = folder(rt)?;
     fs::create_dir(rt, folder.as_str())?;
-    push_others(rt, folder.as_str(), report)?;
+    for row in &ROWS {
+        push_row(rt, folder.as_str(), report, row)?;
+    }
     fs::remove_dir_all(rt, folder.as_str())?;
     Ok(())
 }
@@ -335,7 +339,7 @@ fn push_others_of_a_folder(rt: &HostRuntime, report: &mut String) -> Result<(), 
 #[test]
 fn the_program_does_what_its_words_say(rt: HostRuntime) -> Result<(), Fail> {
     let mut report = String::new(rt.alloc());
-    push_others_of_a_folder(&rt, &mut report)?;
+    push_others(&rt, &mut report)?;
     assert!(rt; report.is_empty(), "{report}");
     Ok(())
 }
@@ -410,26 +414,15 @@ fn halted(alloc: Global) -> Result<String, Fail> {
     Ok(format!(in alloc; "{out}{end}")?)
 }
 
-// Adds where something other is seen than is wanted.
-fn push_seen(report: &mut String, seen: String, wanted: &str) -> Result<(), AllocError> {
-    let pushed = push_other(report, seen.as_str(), wanted);
-    mem::drop(seen);
-    pushed
-}
-
 // Adds what fails and is told otherwise.
 fn push_failing(rt: &HostRuntime, report: &mut String) -> Result<(), Fail> {
-    push_seen(report, unwritten(rt)?, "3\nrun: WriteFault\n")?;
-    push_seen(
-        report,
-        seen(rt, "", "", &mut NoReader)?,
-        "3\nrun: ReadFault\n",
-    )?;
-    push_seen(
-        report,
-        halted(rt.alloc())?,
-        "pid 1\nok\nerror EIO 5\nunmount: EIO\n",
-    )?;
+    let unread = seen(rt, "", "", &mut NoReader)?;
+    push_other_text(report, "unread", unread, "3\nrun: ReadFault\n")?;
+    let unwritten = unwritten(rt)?;
+    push_other_text(report, "unwritten", unwritten, "3\nrun: WriteFault\n")?;
+    let halted = halted(rt.alloc())?;
+    let wanted = "pid 1\nok\nerror EIO 5\nunmount: EIO\n";
+    push_other_text(report, "halted", halted, wanted)?;
     Ok(())
 }
 

@@ -1,5 +1,6 @@
 //! Which job the words ask for, and what is printed where they ask for none.
 
+use crate::report::push_other_text;
 use fs_command::{Job, WordsFault, parse_words};
 use std::alloc::{AllocError, Global};
 use std::mem;
@@ -19,55 +20,71 @@ fn parsed(alloc: Global, line: &str) -> Result<Result<Job, WordsFault>, AllocErr
 // The same as a text.
 fn asked(alloc: Global, line: &str) -> Result<String, AllocError> {
     let outcome = parsed(alloc, line)?;
-    let told = told(alloc, &outcome);
+    let told = match &outcome {
+        Ok(job) => told_job(alloc, job),
+        Err(fault) => told_fault(alloc, fault),
+    };
     mem::drop(outcome);
     told
 }
 
-fn told(alloc: Global, outcome: &Result<Job, WordsFault>) -> Result<String, AllocError> {
-    match outcome {
-        Ok(Job::Memory) => String::from_str(alloc, "memory"),
-        Ok(
-            Job::Mkfs {
-                image,
-                sectors,
-                inodes,
-            },
-        ) => format!(in alloc; "mkfs {} {sectors} {inodes}", image.as_str()),
-        Ok(
-            Job::Run {
-                image,
-                script: Some(script),
-            },
-        ) => format!(in alloc; "run {} {}", image.as_str(), script.as_str()),
-        Ok(
-            Job::Run {
-                image,
-                script: None,
-            },
-        ) => format!(in alloc; "run {}", image.as_str()),
-        Ok(Job::Check { image }) => format!(in alloc; "check {}", image.as_str()),
-        Ok(Job::Upgrade { image }) => format!(in alloc; "upgrade {}", image.as_str()),
-        Ok(
-            Job::Fuse {
-                image,
-                denials: Some(denials),
-                own_rules,
-            },
-        ) => format!(in alloc; "fuse {} {} {own_rules}", image.as_str(), denials.as_str()),
-        Ok(
-            Job::Fuse {
-                image,
-                denials: None,
-                own_rules,
-            },
-        ) => format!(in alloc; "fuse {} {own_rules}", image.as_str()),
-        Err(fault) => match fault {
-            WordsFault::Help(_) => format!(in alloc; "help {}", fault.status().code()),
-            WordsFault::BadWords(_) => format!(in alloc; "bad {}", fault.status().code()),
-            WordsFault::OutOfMemory => format!(in alloc; "memory {}", fault.status().code()),
-        },
+fn told_job(alloc: Global, job: &Job) -> Result<String, AllocError> {
+    match job {
+        Job::Memory => joined(alloc, &["memory"]),
+        Job::Mkfs {
+            image,
+            sectors,
+            inodes,
+        } => format!(in alloc; "mkfs {} {sectors} {inodes}", image.as_str()),
+        Job::Run {
+            image,
+            script: Some(script),
+        } => joined(alloc, &["run", image.as_str(), script.as_str()]),
+        Job::Run {
+            image,
+            script: None,
+        } => joined(alloc, &["run", image.as_str()]),
+        Job::Check { image } => joined(alloc, &["check", image.as_str()]),
+        Job::Upgrade { image } => joined(alloc, &["upgrade", image.as_str()]),
+        Job::Fuse {
+            image,
+            denials: Some(denials),
+            own_rules,
+        } => {
+            let rules = told_bool(*own_rules);
+            joined(alloc, &["fuse", image.as_str(), denials.as_str(), rules])
+        }
+        Job::Fuse {
+            image,
+            denials: None,
+            own_rules,
+        } => joined(alloc, &["fuse", image.as_str(), told_bool(*own_rules)]),
     }
+}
+
+fn told_bool(value: bool) -> &'static str {
+    if value { "true" } else { "false" }
+}
+
+// The words, with a space between each two.
+fn joined(alloc: Global, words: &[&str]) -> Result<String, AllocError> {
+    let mut text = String::new(alloc);
+    for word in words {
+        if !text.is_empty() {
+            text.push(' ')?;
+        }
+        text.push_str(word)?;
+    }
+    Ok(text)
+}
+
+fn told_fault(alloc: Global, fault: &WordsFault) -> Result<String, AllocError> {
+    let word = match fault {
+        WordsFault::Help(_) => "help",
+        WordsFault::BadWords(_) => "bad",
+        WordsFault::OutOfMemory => "memory",
+    };
+    format!(in alloc; "{word} {}", fault.status().code())
 }
 
 // ---- what is asked for
@@ -158,14 +175,7 @@ const SHOWN: [&str; 9] = [
 // Adds to the report where a line asks for something other than is wanted.
 fn expect(alloc: Global, report: &mut String, line: &str, wanted: &str) -> Result<(), AllocError> {
     let asked = asked(alloc, line)?;
-    push_other(report, line, asked.as_str(), wanted)
-}
-
-fn push_other(report: &mut String, line: &str, seen: &str, wanted: &str) -> Result<(), AllocError> {
-    if seen == wanted {
-        return Ok(());
-    }
-    writeln!(report, "{line}: {seen}")
+    push_other_text(report, line, asked, wanted)
 }
 
 // ---- what is printed
@@ -258,19 +268,29 @@ fn expect_text(
     wanted: &str,
 ) -> Result<(), AllocError> {
     let text = text(alloc, line)?;
-    push_other(report, line, text.as_str(), wanted)
+    push_other_text(report, line, text, wanted)
 }
 
-fn expect_all(alloc: Global, report: &mut String) -> Result<(), AllocError> {
+fn expect_jobs(alloc: Global, report: &mut String) -> Result<(), AllocError> {
     for (line, wanted) in &JOBS {
         expect(alloc, report, line, wanted)?;
     }
-    for line in &BAD {
-        expect(alloc, report, line, "bad 2")?;
+    Ok(())
+}
+
+fn expect_each(
+    alloc: Global,
+    report: &mut String,
+    lines: &[&str],
+    wanted: &str,
+) -> Result<(), AllocError> {
+    for line in lines {
+        expect(alloc, report, line, wanted)?;
     }
-    for line in &SHOWN {
-        expect(alloc, report, line, "help 0")?;
-    }
+    Ok(())
+}
+
+fn expect_texts(alloc: Global, report: &mut String) -> Result<(), AllocError> {
     for (line, wanted) in &TEXTS {
         expect_text(alloc, report, line, wanted)?;
     }
@@ -279,8 +299,12 @@ fn expect_all(alloc: Global, report: &mut String) -> Result<(), AllocError> {
 
 #[test]
 fn words_ask_for_jobs_or_are_answered_by_a_text(rt: HostRuntime) -> Result<(), Fail> {
-    let mut report = String::new(rt.alloc());
-    expect_all(rt.alloc(), &mut report)?;
+    let alloc = rt.alloc();
+    let mut report = String::new(alloc);
+    expect_jobs(alloc, &mut report)?;
+    expect_each(alloc, &mut report, &BAD, "bad 2")?;
+    expect_each(alloc, &mut report, &SHOWN, "help 0")?;
+    expect_texts(alloc, &mut report)?;
     assert!(rt; report.is_empty(), "{report}");
     Ok(())
 }

@@ -1,6 +1,6 @@
 //! Runs over readers and writers of several kinds. What file systems answer to lines is tried by the program `player`.
 
-use crate::report::push_other;
+use crate::report::push_other_text;
 use fs_images::mkfs;
 use fs_shell::{Count, RunFault, Watched, run};
 use fs_system::Fs;
@@ -147,7 +147,7 @@ fn expect_run(
     let outcome = ran(alloc, script, &mut written)?;
     let mut seen = String::from_utf8_lossy(alloc, &written)?;
     push_outcome(&mut seen, outcome)?;
-    push_other(report, seen.as_str(), wanted)?;
+    push_other_text(report, wanted, seen, wanted)?;
     Ok(())
 }
 
@@ -240,13 +240,17 @@ const SOURCES: [(Source<'static>, &str); 7] = [
     ),
 ];
 
+fn expect_sources(alloc: Global, report: &mut String) -> Result<(), Fail> {
+    for (source, replies) in &SOURCES {
+        expect_run(alloc, report, *source, replies)?;
+    }
+    Ok(())
+}
+
 #[test]
 fn readers_get_their_replies(rt: HostRuntime) -> Result<(), Fail> {
-    let alloc = rt.alloc();
-    let mut report = String::new(alloc);
-    for (source, replies) in &SOURCES {
-        expect_run(alloc, &mut report, *source, replies)?;
-    }
+    let mut report = String::new(rt.alloc());
+    expect_sources(rt.alloc(), &mut report)?;
     assert!(rt; report.is_empty(), "{report}");
     Ok(())
 }

@@ -1,6 +1,6 @@
 //! What a line says, and the text of each reply and each fault.
 
-use crate::report::push_other;
+use crate::report::{push_other, push_other_text};
 use fs_cred::{Caps, Denial, Errno, Need, Refusal, Rule};
 use fs_lines::{Line, LineFault, a_line_says_one_thing, fault_text, parse_line, reply_text};
 use fs_model::{Bytes, Call, Event, FileType, Listing, Name, Named, Path, Reply, Status};
@@ -49,7 +49,7 @@ fn expect_fault(
     wanted: &str,
 ) -> Result<(), AllocError> {
     let text = fault_text(alloc, fault)?;
-    push_other(report, text.as_str(), wanted)
+    push_other_text(report, wanted, text, wanted)
 }
 
 fn expect_text(
@@ -61,7 +61,7 @@ fn expect_text(
     let text = reply_text(alloc, &reply);
     mem::drop(reply);
     let text = text?;
-    push_other(report, text.as_str(), wanted)
+    push_other_text(report, wanted, text, wanted)
 }
 
 const FAULTS: [(LineFault, &str); 8] = [
@@ -248,7 +248,7 @@ fn expect_list(
     wanted: &str,
 ) -> Result<(), AllocError> {
     let Ok(acl) = Acl::parse_text(alloc, text) else {
-        return push_other(report, "no list", wanted);
+        return push_other(report, wanted, "no list", wanted);
     };
     expect_text(alloc, report, Reply::Acl(Some(acl)), wanted)
 }
@@ -289,16 +289,12 @@ fn expect_words(alloc: Global, report: &mut String) -> Result<(), AllocError> {
     expect_text(alloc, report, names, "list 2:. 1:.. 3:a\\20b")
 }
 
-fn expect_texts(alloc: Global, report: &mut String) -> Result<(), AllocError> {
-    expect_tables(alloc, report)?;
-    expect_numbers(alloc, report)?;
-    expect_words(alloc, report)
-}
-
 #[test]
 fn faults_and_replies_have_their_texts(rt: HostRuntime) -> Result<(), Fail> {
     let mut report = String::new(rt.alloc());
-    expect_texts(rt.alloc(), &mut report)?;
+    expect_tables(rt.alloc(), &mut report)?;
+    expect_numbers(rt.alloc(), &mut report)?;
+    expect_words(rt.alloc(), &mut report)?;
     assert!(rt; report.is_empty(), "{report}");
     Ok(())
 }
