@@ -161,11 +161,17 @@ fn made_and_stopped<D: CrashDisk + Drop>(
     Ok((made.is_ok(), content))
 }
 
+// The same after a stop that leaves the old contents, and after one that leaves the new ones.
+fn made_both_ways(alloc: Global, passes: u64) -> Result<[(bool, [u8; 512]); 2], Fail> {
+    let zeros = made_and_stopped(used_disk(alloc, 1024)?, passes, &[])?;
+    let ones = made_and_stopped(used_disk(alloc, 1024)?, passes, &[1; 32])?;
+    Ok([zeros, ones])
+}
+
 #[test]
 fn a_stop_leaves_what_was_there_or_no_superblock_or_the_new_disk(
     rt: HostRuntime,
 ) -> Result<(), Fail> {
-    let alloc = rt.alloc();
     let new = new_superblock();
     // Zeros into sector 0 and a sync; sector 1, 18 sectors of tables and a sync; the superblock and a sync.
     for (passes, made, zeros_chosen, ones_chosen) in [
@@ -179,10 +185,9 @@ fn a_stop_leaves_what_was_there_or_no_superblock_or_the_new_disk(
         (23, false, NONE, new),
         (24, true, new, new),
     ] {
-        let zeros = made_and_stopped(used_disk(alloc, 1024)?, passes, &[])?;
-        let ones = made_and_stopped(used_disk(alloc, 1024)?, passes, &[1; 32])?;
+        let seen = made_both_ways(rt.alloc(), passes)?;
         assert!(rt;
-            zeros == (made, zeros_chosen) && ones == (made, ones_chosen),
+            seen == [(made, zeros_chosen), (made, ones_chosen)],
             "{passes}"
         );
     }
