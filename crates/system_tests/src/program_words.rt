@@ -30,7 +30,7 @@ fn asked(alloc: Global, line: &str) -> Result<String, AllocError> {
 
 fn told_job(alloc: Global, job: &Job) -> Result<String, AllocError> {
     match job {
-        Job::Memory => joined(alloc, &["memory"]),
+        Job::Memory => String::from_str(alloc, "memory"),
         Job::Mkfs {
             image,
             sectors,
@@ -39,43 +39,24 @@ fn told_job(alloc: Global, job: &Job) -> Result<String, AllocError> {
         Job::Run {
             image,
             script: Some(script),
-        } => joined(alloc, &["run", image.as_str(), script.as_str()]),
+        } => format!(in alloc; "run {} {}", image.as_str(), script.as_str()),
         Job::Run {
             image,
             script: None,
-        } => joined(alloc, &["run", image.as_str()]),
-        Job::Check { image } => joined(alloc, &["check", image.as_str()]),
-        Job::Upgrade { image } => joined(alloc, &["upgrade", image.as_str()]),
+        } => format!(in alloc; "run {}", image.as_str()),
+        Job::Check { image } => format!(in alloc; "check {}", image.as_str()),
+        Job::Upgrade { image } => format!(in alloc; "upgrade {}", image.as_str()),
         Job::Fuse {
             image,
             denials: Some(denials),
             own_rules,
-        } => {
-            let rules = told_bool(*own_rules);
-            joined(alloc, &["fuse", image.as_str(), denials.as_str(), rules])
-        }
+        } => format!(in alloc; "fuse {} {} {own_rules}", image.as_str(), denials.as_str()),
         Job::Fuse {
             image,
             denials: None,
             own_rules,
-        } => joined(alloc, &["fuse", image.as_str(), told_bool(*own_rules)]),
+        } => format!(in alloc; "fuse {} {own_rules}", image.as_str()),
     }
-}
-
-fn told_bool(value: bool) -> &'static str {
-    if value { "true" } else { "false" }
-}
-
-// The words, with a space between each two.
-fn joined(alloc: Global, words: &[&str]) -> Result<String, AllocError> {
-    let mut text = String::new(alloc);
-    for word in words {
-        if !text.is_empty() {
-            text.push(' ')?;
-        }
-        text.push_str(word)?;
-    }
-    Ok(text)
 }
 
 fn told_fault(alloc: Global, fault: &WordsFault) -> Result<String, AllocError> {
