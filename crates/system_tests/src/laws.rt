@@ -11,24 +11,32 @@ use fs_model::{
 use fs_system::{a_running_system_is_in_one_state, histories_are_runs, trees_are_sound};
 use sector_disk::{FuseDisk, MemDisk};
 use std::alloc::{AllocError, Global};
+use std::mem;
 
-// The law on calls, of one that opens the root to read it, and of one that renames.
+// The law on calls, of this one.
+fn law_on(call: Call) {
+    call_is_in_range(&call);
+    mem::drop(call);
+}
+
+const READ_DIRECTORY: Flags = Flags {
+    read: true,
+    write: false,
+    create: false,
+    excl: false,
+    trunc: false,
+    append: false,
+    nofollow: false,
+    directory: true,
+};
+
+// The same of one that opens the root to read it, and of one that renames.
 fn calls_are_in_range(alloc: Global) -> Result<(), AllocError> {
-    let flags = Flags {
-        read: true,
-        write: false,
-        create: false,
-        excl: false,
-        trunc: false,
-        append: false,
-        nofollow: false,
-        directory: true,
-    };
     let root = Path::from_slice(alloc, b"/")?;
+    law_on(Call::Open(root, READ_DIRECTORY, 0));
     let old = Path::from_slice(alloc, b"/a")?;
     let new = Path::from_slice(alloc, b"/b")?;
-    call_is_in_range(&Call::Open(root, flags, 0));
-    call_is_in_range(&Call::Rename { old, new });
+    law_on(Call::Rename { old, new });
     Ok(())
 }
 

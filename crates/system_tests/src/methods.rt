@@ -7,6 +7,7 @@ use fs_model::{Bytes, Call, Flags, Path, Reply};
 use fs_system::Fs;
 use sector_disk::{Disk, FuseDisk, MemDisk};
 use std::alloc::Global;
+use std::mem;
 use std::test::Fail;
 
 // A new file system of 1,024 sectors with 64 inodes, on any disk of that size.
@@ -60,6 +61,15 @@ fn spawned<D: Disk + Drop>(alloc: Global, fs: &mut Fs<D>) -> Result<Told, Fail> 
     Ok(told_pid(fs.spawn(cred)))
 }
 
+// What process 1 is told that makes a call.
+fn called<D: Disk + Drop>(fs: &mut Fs<D>, call: Call) -> Told {
+    let reply = fs.call(1, &call);
+    mem::drop(call);
+    let told = told(&reply);
+    mem::drop(reply);
+    told
+}
+
 // Process 1 makes and opens a file for writing.
 fn opened<D: Disk + Drop>(alloc: Global, fs: &mut Fs<D>) -> Result<Told, Fail> {
     let flags = Flags {
@@ -73,12 +83,12 @@ fn opened<D: Disk + Drop>(alloc: Global, fs: &mut Fs<D>) -> Result<Told, Fail> {
         directory: false,
     };
     let call = Call::Open(Path::from_slice(alloc, b"/file")?, flags, 0o644);
-    Ok(told(&fs.call(1, &call)))
+    Ok(called(fs, call))
 }
 
 fn written<D: Disk + Drop>(alloc: Global, fs: &mut Fs<D>) -> Result<Told, Fail> {
     let call = Call::Write(0, Bytes::from_slice(alloc, b"abc")?);
-    Ok(told(&fs.call(1, &call)))
+    Ok(called(fs, call))
 }
 
 // ---- each method
@@ -104,14 +114,16 @@ type Seen = (Answers, Told, u64);
 
 fn seen<D: Disk + Drop>(alloc: Global, disk: D) -> Result<Seen, Fail> {
     let mut fs = new_fs(alloc, disk)?;
-    let answers = answers(alloc, &mut fs)?;
+    let answers = answers(alloc, &mut fs);
     fs.tell_state();
     let (disk, errno) = fs.unmount();
+    let failures = disk.failures();
+    mem::drop(disk);
     let end = match errno {
         None => Ok(0),
         Some(errno) => Err(errno.number()),
     };
-    Ok((answers, end, disk.failures()))
+    Ok((answers?, end, failures))
 }
 
 const EIO: Told = Err(5);
@@ -137,13 +149,21 @@ fn a_halted_one_calls_its_disk_no_more(rt: HostRuntime) -> Result<(), Fail> {
 }
 
 // What process 1 or another is answered that is put into these directories. The root is inode 1, and a file 2.
+fn put<D: Disk + Drop>(
+    alloc: Global,
+    fs: &mut Fs<D>,
+    row: (usize, u32, u32),
+) -> Result<Told, Fail> {
+    let _pid = spawned(alloc, fs)?;
+    let _fd = opened(alloc, fs)?;
+    Ok(told_done(fs.enter(row.0, row.1, row.2)))
+}
+
 fn entered(alloc: Global, row: (usize, u32, u32)) -> Result<Told, Fail> {
     let mut fs = new_fs(alloc, MemDisk::new(alloc, 1024)?)?;
-    let _pid = spawned(alloc, &mut fs)?;
-    let _fd = opened(alloc, &mut fs)?;
-    let told = told_done(fs.enter(row.0, row.1, row.2));
-    let (_disk, _errno) = fs.unmount();
-    Ok(told)
+    let told = put(alloc, &mut fs, row);
+    mem::drop(fs.unmount());
+    told
 }
 
 #[test]

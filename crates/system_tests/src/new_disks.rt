@@ -8,6 +8,7 @@ use fs_images::{MkfsFault, mkfs};
 use fs_system::{Fs, MountFault};
 use sector_disk::{CrashDisk, Disk, FailOnce, FuseDisk, MemDisk};
 use std::alloc::{AllocError, Global};
+use std::mem;
 use std::test::Fail;
 
 // What a disk holds that was used before.
@@ -98,35 +99,41 @@ fn first_other<D: Disk>(
     Ok(None)
 }
 
+// Sectors and offsets of a new disk that was used before, and the bytes from there on.
+const BYTES: [(u32, usize, &[u8]); 11] = [
+    // Magic, version 2, 1,024 sectors, 64 inodes.
+    (0, 0, b"INOS\x02\0\0\0\0\x04\0\0\x40\0\0\0\0"),
+    // No targets.
+    (1, 0, b"INOJ\0\0\0\0\0"),
+    // Inodes 0 and 1, and those from 64 on.
+    (128, 0, b"\x03\0\0\0\0\0\0\0\xff"),
+    (128, 511, b"\xff"),
+    // Sectors 0 to 145, and those from 1,024 on.
+    (129, 16, b"\xff\xff\x03\0"),
+    (129, 126, b"\0\0\xff"),
+    (129, 511, b"\xff"),
+    // Behind inode 0 a directory with the mode 0755 and one name, which is its own parent.
+    (
+        130,
+        124,
+        b"\0\0\0\0\x02\0\xed\x01\0\0\0\0\0\0\0\0\x01\0\0\0",
+    ),
+    (130, 144, b"\0\0\0\0\0\0\0\0\x01\0\0\0\0\0\0\0"),
+    (145, 508, b"\0\0\0\0"),
+    // The data is what it was.
+    (146, 0, b"\xaa\xaa"),
+];
+
+fn first_other_of_a_new_disk(alloc: Global) -> Result<Option<(u32, usize)>, Fail> {
+    let mut disk = used_disk(alloc, 1024)?;
+    let other = first_other(&mut disk, &BYTES);
+    mem::drop(disk);
+    other
+}
+
 #[test]
 fn a_new_disk_has_these_bytes(rt: HostRuntime) -> Result<(), Fail> {
-    let mut disk = used_disk(rt.alloc(), 1024)?;
-    let other = first_other(
-        &mut disk,
-        &[
-            // Magic, version 2, 1,024 sectors, 64 inodes.
-            (0, 0, b"INOS\x02\0\0\0\0\x04\0\0\x40\0\0\0\0".as_slice()),
-            // No targets.
-            (1, 0, b"INOJ\0\0\0\0\0".as_slice()),
-            // Inodes 0 and 1, and those from 64 on.
-            (128, 0, b"\x03\0\0\0\0\0\0\0\xff".as_slice()),
-            (128, 511, b"\xff".as_slice()),
-            // Sectors 0 to 145, and those from 1,024 on.
-            (129, 16, b"\xff\xff\x03\0".as_slice()),
-            (129, 126, b"\0\0\xff".as_slice()),
-            (129, 511, b"\xff".as_slice()),
-            // Behind inode 0 a directory with the mode 0755 and one name, which is its own parent.
-            (
-                130,
-                124,
-                b"\0\0\0\0\x02\0\xed\x01\0\0\0\0\0\0\0\0\x01\0\0\0".as_slice(),
-            ),
-            (130, 144, b"\0\0\0\0\0\0\0\0\x01\0\0\0\0\0\0\0".as_slice()),
-            (145, 508, b"\0\0\0\0".as_slice()),
-            // The data is what it was.
-            (146, 0, b"\xaa\xaa".as_slice()),
-        ],
-    )?;
+    let other = first_other_of_a_new_disk(rt.alloc())?;
     assert!(rt; other.is_none(), "{other:?}");
     Ok(())
 }
@@ -154,11 +161,17 @@ fn made_and_stopped<D: CrashDisk + Drop>(
     Ok((made.is_ok(), content))
 }
 
+// The same after a stop that leaves the old contents, and after one that leaves the new ones.
+fn made_both_ways(alloc: Global, passes: u64) -> Result<[(bool, [u8; 512]); 2], Fail> {
+    let zeros = made_and_stopped(used_disk(alloc, 1024)?, passes, &[])?;
+    let ones = made_and_stopped(used_disk(alloc, 1024)?, passes, &[1; 32])?;
+    Ok([zeros, ones])
+}
+
 #[test]
 fn a_stop_leaves_what_was_there_or_no_superblock_or_the_new_disk(
     rt: HostRuntime,
 ) -> Result<(), Fail> {
-    let alloc = rt.alloc();
     let new = new_superblock();
     // Zeros into sector 0 and a sync; sector 1, 18 sectors of tables and a sync; the superblock and a sync.
     for (passes, made, zeros_chosen, ones_chosen) in [
@@ -172,10 +185,9 @@ fn a_stop_leaves_what_was_there_or_no_superblock_or_the_new_disk(
         (23, false, NONE, new),
         (24, true, new, new),
     ] {
-        let zeros = made_and_stopped(used_disk(alloc, 1024)?, passes, &[])?;
-        let ones = made_and_stopped(used_disk(alloc, 1024)?, passes, &[1; 32])?;
+        let seen = made_both_ways(rt.alloc(), passes)?;
         assert!(rt;
-            zeros == (made, zeros_chosen) && ones == (made, ones_chosen),
+            seen == [(made, zeros_chosen), (made, ones_chosen)],
             "{passes}"
         );
     }
@@ -185,37 +197,51 @@ fn a_stop_leaves_what_was_there_or_no_superblock_or_the_new_disk(
 // What mkfs comes to, how often the disk has failed then, and why it isn't mounted.
 type Outcome = (Result<(), MkfsFault>, u64, Option<MountFault>);
 
+fn mount_fault<D: Disk + Drop>(alloc: Global, disk: D) -> Option<MountFault> {
+    let mounted = Fs::mount(alloc, disk);
+    let fault = match &mounted {
+        Ok(_) => None,
+        Err((fault, _)) => Some(*fault),
+    };
+    mem::drop(mounted);
+    fault
+}
+
 fn made_and_mounted<D: Disk + Drop>(alloc: Global, mut disk: D) -> Outcome {
     let made = mkfs(&mut disk, 64);
     let failures = disk.failures();
     if made.is_err() {
+        mem::drop(disk);
         return (made, failures, None);
     }
-    match Fs::mount(alloc, disk) {
-        Ok(_) => (made, failures, None),
-        Err((fault, _)) => (made, failures, Some(fault)),
+    (made, failures, mount_fault(alloc, disk))
+}
+
+// The same of a disk whose call of this number alone fails, and of one where all from it on do.
+fn told_at(alloc: Global, call: u64) -> Result<[Outcome; 2], AllocError> {
+    let once = FailOnce::new(used_disk(alloc, 1024)?, call);
+    let once = made_and_mounted(alloc, once);
+    let fuse = FuseDisk::new(used_disk(alloc, 1024)?, call);
+    Ok([once, made_and_mounted(alloc, fuse)])
+}
+
+fn wanted_at(call: u64) -> Outcome {
+    if call < 24 {
+        (Err(MkfsFault::DiskFault), 1, None)
+    } else if call < 79 {
+        (Ok(()), 0, Some(MountFault::DiskFault))
+    } else {
+        (Ok(()), 0, None)
     }
 }
 
 #[test]
 fn each_failing_call_is_told(rt: HostRuntime) -> Result<(), Fail> {
-    let alloc = rt.alloc();
     // Each call of mkfs; those of mount: the 36 reads of a check, two reads and a sync, and the 16 sectors of the inode table; and
     // the one after these.
     for call in 0..80 {
-        let once = made_and_mounted(alloc, FailOnce::new(used_disk(alloc, 1024)?, call));
-        let fuse = made_and_mounted(alloc, FuseDisk::new(used_disk(alloc, 1024)?, call));
-        let wanted = if call < 24 {
-            (Err(MkfsFault::DiskFault), 1, None)
-        } else if call < 79 {
-            (Ok(()), 0, Some(MountFault::DiskFault))
-        } else {
-            (Ok(()), 0, None)
-        };
-        assert!(rt;
-            once == wanted && fuse == wanted,
-            "{call}: {once:?} {fuse:?}"
-        );
+        let seen = told_at(rt.alloc(), call)?;
+        assert!(rt; seen == [wanted_at(call); 2], "{call}: {seen:?}");
     }
     Ok(())
 }

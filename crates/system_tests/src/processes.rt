@@ -2,7 +2,7 @@
 use fs_cred::{Cred, Errno};
 use open_files::{Descriptor, Procs};
 use std::alloc::Global;
-use std::test::Fail;
+use std::mem;
 
 // A call, with what it is told: process, descriptor, inode, offset or mask.
 #[derive(Clone, Copy)]
@@ -175,13 +175,21 @@ const ROWS: [(Step, u64, Result<u64, Errno>); 50] = [
     (Step::Open(2, 5), 32, Ok(0)),
 ];
 
+// The first row that is answered otherwise.
+fn first_other(procs: &mut Procs, alloc: Global) -> Option<usize> {
+    for (row, (step, count, first)) in ROWS.iter().enumerate() {
+        if !are_answered(procs, alloc, *step, *count, *first) {
+            return Some(row);
+        }
+    }
+    None
+}
+
 #[test]
-fn calls_are_answered(rt: HostRuntime) -> Result<(), Fail> {
+fn calls_are_answered(rt: HostRuntime) {
     let alloc = rt.alloc();
     let mut procs = Procs::new(alloc);
-    for (row, (step, count, first)) in ROWS.iter().enumerate() {
-        let seen = are_answered(&mut procs, alloc, *step, *count, *first);
-        assert!(rt; seen, "row {row}");
-    }
-    Ok(())
+    let other = first_other(&mut procs, alloc);
+    mem::drop(procs);
+    assert!(rt; other.is_none(), "row {other:?}");
 }

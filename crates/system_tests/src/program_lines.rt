@@ -1,79 +1,88 @@
 //! What the program prints and ends with.
 
+use crate::report::push_other_text;
 use fs_check::{CheckFault, Finding};
-use fs_command::{Failure, perform, run_on_disk};
+use fs_command::{Failure, Status, perform, run_on_disk};
 use fs_images::{MkfsFault, UpgradeFault, mkfs};
 use fs_shell::{RunFault, Watched};
 use fs_system::MountFault;
 use sector_disk::{CrashDisk, Disk, MemDisk};
-use std::alloc::Global;
+use std::alloc::{AllocError, Global};
 use std::io::{self, ErrorKind, Read, Write};
 use std::path::PathBuf;
 use std::test::Fail;
-use std::{env, fs, process};
+use std::{env, fs, mem, process};
 
 // ---- texts
 
+// What a mount or an upgrade finds.
+const FINDING: Finding = Finding { rule: 6, at: 147 };
+
 // What is printed where a job isn't done.
+const FAILURES: [(Failure, &str); 23] = [
+    (Failure::Exists, "image: exists"),
+    (Failure::NotCreated, "image: cannot create"),
+    (Failure::NotOpened, "image: cannot open"),
+    (Failure::NoScript, "script: cannot open"),
+    (Failure::Mkfs(MkfsFault::BadSize), "mkfs: BadSize"),
+    (Failure::Mkfs(MkfsFault::BadInodes), "mkfs: BadInodes"),
+    (Failure::Mkfs(MkfsFault::TooSmall), "mkfs: TooSmall"),
+    (Failure::Mkfs(MkfsFault::DiskFault), "mkfs: DiskFault"),
+    (
+        Failure::Mount(MountFault::NotAFileSystem),
+        "mount: NotAFileSystem",
+    ),
+    (
+        Failure::Mount(MountFault::Damaged(FINDING)),
+        "mount: Damaged 6 147",
+    ),
+    (Failure::Mount(MountFault::DiskFault), "mount: DiskFault"),
+    (
+        Failure::Mount(MountFault::OutOfMemory),
+        "mount: OutOfMemory",
+    ),
+    (Failure::Check(CheckFault::DiskFault), "check: DiskFault"),
+    (
+        Failure::Check(CheckFault::OutOfMemory),
+        "check: OutOfMemory",
+    ),
+    (
+        Failure::Upgrade(UpgradeFault::NotAFileSystem),
+        "upgrade: NotAFileSystem",
+    ),
+    (
+        Failure::Upgrade(UpgradeFault::Damaged(FINDING)),
+        "upgrade: Damaged 6 147",
+    ),
+    (
+        Failure::Upgrade(UpgradeFault::DiskFault),
+        "upgrade: DiskFault",
+    ),
+    (
+        Failure::Upgrade(UpgradeFault::OutOfMemory),
+        "upgrade: OutOfMemory",
+    ),
+    (Failure::Run(RunFault::ReadFault), "run: ReadFault"),
+    (Failure::Run(RunFault::WriteFault), "run: WriteFault"),
+    (Failure::Run(RunFault::OutOfMemory), "run: OutOfMemory"),
+    (Failure::Run(RunFault::TooMuch), "run: TooMuch"),
+    (Failure::Unmount, "unmount: EIO"),
+];
+
+// Adds the failures that have another line.
+fn push_failures(alloc: Global, report: &mut String) -> Result<(), AllocError> {
+    for (failure, line) in &FAILURES {
+        let seen = format!(in alloc; "{failure}")?;
+        push_other_text(report, line, seen, line)?;
+    }
+    Ok(())
+}
+
 #[test]
 fn each_failure_has_its_line(rt: HostRuntime) -> Result<(), Fail> {
-    let finding = Finding { rule: 6, at: 147 };
-    let lines = [
-        (Failure::Exists, "image: exists"),
-        (Failure::NotCreated, "image: cannot create"),
-        (Failure::NotOpened, "image: cannot open"),
-        (Failure::NoScript, "script: cannot open"),
-        (Failure::Mkfs(MkfsFault::BadSize), "mkfs: BadSize"),
-        (Failure::Mkfs(MkfsFault::BadInodes), "mkfs: BadInodes"),
-        (Failure::Mkfs(MkfsFault::TooSmall), "mkfs: TooSmall"),
-        (Failure::Mkfs(MkfsFault::DiskFault), "mkfs: DiskFault"),
-        (
-            Failure::Mount(MountFault::NotAFileSystem),
-            "mount: NotAFileSystem",
-        ),
-        (
-            Failure::Mount(MountFault::Damaged(finding)),
-            "mount: Damaged 6 147",
-        ),
-        (Failure::Mount(MountFault::DiskFault), "mount: DiskFault"),
-        (
-            Failure::Mount(MountFault::OutOfMemory),
-            "mount: OutOfMemory",
-        ),
-        (Failure::Check(CheckFault::DiskFault), "check: DiskFault"),
-        (
-            Failure::Check(CheckFault::OutOfMemory),
-            "check: OutOfMemory",
-        ),
-        (
-            Failure::Upgrade(UpgradeFault::NotAFileSystem),
-            "upgrade: NotAFileSystem",
-        ),
-        (
-            Failure::Upgrade(UpgradeFault::Damaged(finding)),
-            "upgrade: Damaged 6 147",
-        ),
-        (
-            Failure::Upgrade(UpgradeFault::DiskFault),
-            "upgrade: DiskFault",
-        ),
-        (
-            Failure::Upgrade(UpgradeFault::OutOfMemory),
-            "upgrade: OutOfMemory",
-        ),
-        (Failure::Run(RunFault::ReadFault), "run: ReadFault"),
-        (Failure::Run(RunFault::WriteFault), "run: WriteFault"),
-        (Failure::Run(RunFault::OutOfMemory), "run: OutOfMemory"),
-        (Failure::Run(RunFault::TooMuch), "run: TooMuch"),
-        (Failure::Unmount, "unmount: EIO"),
-    ];
-    let mut seen = String::new(rt.alloc());
-    let mut wanted = String::new(rt.alloc());
-    for (failure, line) in &lines {
-        writeln!(seen, "{failure}")?;
-        writeln!(wanted, "{line}")?;
-    }
-    assert!(rt; seen.as_str() == wanted.as_str(), "{seen}");
+    let mut report = String::new(rt.alloc());
+    push_failures(rt.alloc(), &mut report)?;
+    assert!(rt; report.is_empty(), "{report}");
     Ok(())
 }
 
@@ -86,21 +95,54 @@ fn folder(rt: &HostRuntime) -> Result<PathBuf, Fail> {
     Ok(env::temp_dir(rt)?.join(rt.alloc(), name.as_str())?)
 }
 
-// The words of a line; one that begins with `@` is a file in the folder.
-fn words(alloc: Global, folder: &str, line: &str) -> Result<Vec<String>, Fail> {
+// A word; one that begins with `@` is a file in the folder.
+fn word_of(alloc: Global, folder: &str, word: &str) -> Result<String, AllocError> {
+    match word.strip_prefix('@') {
+        Some(name) => format!(in alloc; "{folder}/{name}"),
+        None => String::from_str(alloc, word),
+    }
+}
+
+// The words of a line.
+fn words(alloc: Global, folder: &str, line: &str) -> Result<Vec<String>, AllocError> {
     let mut words = Vec::new(alloc);
     words.push(String::from_str(alloc, "inofs")?)?;
     for word in line.split_whitespace() {
-        let word = match word.strip_prefix('@') {
-            Some(name) => format!(in alloc; "{folder}/{name}")?,
-            None => String::from_str(alloc, word)?,
-        };
-        words.push(word)?;
+        words.push(word_of(alloc, folder, word)?)?;
     }
     Ok(words)
 }
 
+// The status that the words of a line come to.
+fn performed<I: Read, O: Write>(
+    rt: &HostRuntime,
+    words: Vec<String>,
+    input: &mut I,
+    out: &mut O,
+    err: &mut Vec<u8>,
+) -> u8 {
+    let status = perform(
+        rt,
+        &words,
+        &mut Watched::new(input),
+        &mut Watched::new(out),
+        err,
+    );
+    mem::drop(words);
+    status
+}
+
 // The status, and then what is written: of bad words the status alone.
+fn told(alloc: Global, status: u8, out: &[u8], err: &[u8]) -> Result<String, AllocError> {
+    if status == 2 {
+        return String::from_str(alloc, "2");
+    }
+    let out = String::from_utf8_lossy(alloc, out)?;
+    let err = String::from_utf8_lossy(alloc, err)?;
+    format!(in alloc; "{status}\n{out}{err}")
+}
+
+// The same of the words of a line and what stands on the standard input.
 fn seen<I: Read>(
     rt: &HostRuntime,
     folder: &str,
@@ -111,19 +153,8 @@ fn seen<I: Read>(
     let words = words(alloc, folder, line)?;
     let mut out = Vec::new(alloc);
     let mut err = Vec::new(alloc);
-    let status = perform(
-        rt,
-        &words,
-        &mut Watched::new(input),
-        &mut Watched::new(&mut out),
-        &mut err,
-    );
-    if status == 2 {
-        return Ok(String::from_str(alloc, "2")?);
-    }
-    let out = String::from_utf8_lossy(alloc, &out)?;
-    let err = String::from_utf8_lossy(alloc, &err)?;
-    Ok(format!(in alloc; "{status}\n{out}{err}")?)
+    let status = performed(rt, words, input, &mut out, &mut err);
+    Ok(told(alloc, status, &out, &err)?)
 }
 
 // What becomes of a file before a line.
@@ -138,28 +169,36 @@ enum Change {
 }
 
 fn prepare(rt: &HostRuntime, folder: &str, change: &Change) -> Result<(), Fail> {
-    let alloc = rt.alloc();
-    let image = format!(in alloc; "{folder}/d")?;
     match change {
-        Change::Nothing => {}
-        Change::Byte(at, byte) => {
-            let mut bytes = fs::read(rt, image.as_str())?;
-            if let Some(place) = bytes.get_mut(*at) {
-                *place = *byte;
-            }
-            fs::write(rt, image.as_str(), &bytes)?;
-        }
-        Change::Longer => {
-            let mut bytes = fs::read(rt, image.as_str())?;
-            bytes.push(7)?;
-            fs::write(rt, image.as_str(), &bytes)?;
-        }
-        Change::Script(text) => {
-            let script = format!(in alloc; "{folder}/s")?;
-            fs::write(rt, script.as_str(), *text)?;
-        }
+        Change::Nothing => Ok(()),
+        Change::Byte(at, byte) => set_byte(rt, folder, *at, *byte),
+        Change::Longer => lengthen(rt, folder),
+        Change::Script(text) => write_file(rt, folder, "s", text.as_bytes()),
     }
-    Ok(())
+}
+
+fn set_byte(rt: &HostRuntime, folder: &str, at: usize, byte: u8) -> Result<(), Fail> {
+    let mut image = read_file(rt, folder, "d")?;
+    if let Some(place) = image.get_mut(at) {
+        *place = byte;
+    }
+    write_file(rt, folder, "d", image.as_slice())
+}
+
+fn lengthen(rt: &HostRuntime, folder: &str) -> Result<(), Fail> {
+    let mut image = read_file(rt, folder, "d")?;
+    image.push(7)?;
+    write_file(rt, folder, "d", image.as_slice())
+}
+
+fn read_file(rt: &HostRuntime, folder: &str, name: &str) -> Result<Vec<u8>, Fail> {
+    let file = format!(in rt.alloc(); "{folder}/{name}")?;
+    Ok(fs::read(rt, file.as_str())?)
+}
+
+fn write_file(rt: &HostRuntime, folder: &str, name: &str, bytes: &[u8]) -> Result<(), Fail> {
+    let file = format!(in rt.alloc(); "{folder}/{name}")?;
+    Ok(fs::write(rt, file.as_str(), bytes)?)
 }
 
 // The first file, and what it has after the next mount.
@@ -272,25 +311,35 @@ const ROWS: [(Change, &str, &str, &str); 29] = [
     (Change::Nothing, "fsck @d", "", "2"),
 ];
 
-// Adds where the rows come to something other than they say.
-fn push_others(rt: &HostRuntime, folder: &str, report: &mut String) -> Result<(), Fail> {
-    for (before, line, input, wanted) in &ROWS {
-        prepare(rt, folder, before)?;
-        let seen = seen(rt, folder, line, &mut input.as_bytes())?;
-        if seen.as_str() != *wanted {
-            writeln!(report, "{line}: {seen}")?;
-        }
+// Adds where a row comes to something other than it says.
+fn push_row(
+    rt: &HostRuntime,
+    folder: &str,
+    report: &mut String,
+    row: &(Change, &str, &str, &str),
+) -> Result<(), Fail> {
+    let (before, line, input, wanted) = row;
+    prepare(rt, folder, before)?;
+    let seen = seen(rt, folder, line, &mut input.as_bytes())?;
+    push_other_text(report, line, seen, wanted)?;
+    Ok(())
+}
+
+// The same of all rows, in a folder that is there for them alone.
+fn push_others(rt: &HostRuntime, report: &mut String) -> Result<(), Fail> {
+    let folder = folder(rt)?;
+    fs::create_dir(rt, folder.as_str())?;
+    for row in &ROWS {
+        push_row(rt, folder.as_str(), report, row)?;
     }
+    fs::remove_dir_all(rt, folder.as_str())?;
     Ok(())
 }
 
 #[test]
 fn the_program_does_what_its_words_say(rt: HostRuntime) -> Result<(), Fail> {
-    let folder = folder(&rt)?;
-    fs::create_dir(&rt, folder.as_str())?;
     let mut report = String::new(rt.alloc());
-    push_others(&rt, folder.as_str(), &mut report)?;
-    fs::remove_dir_all(&rt, folder.as_str())?;
+    push_others(&rt, &mut report)?;
     assert!(rt; report.is_empty(), "{report}");
     Ok(())
 }
@@ -320,12 +369,37 @@ impl Write for NoWriter {
     }
 }
 
-// What is seen where a commit fails, and the system halts.
-fn halted(alloc: Global) -> Result<String, Fail> {
+// What is seen where nothing can be written.
+fn unwritten(rt: &HostRuntime) -> Result<String, Fail> {
+    let alloc = rt.alloc();
+    let words = words(alloc, "", "")?;
+    let mut err = Vec::new(alloc);
+    let mut script = "spawn 0 0\n".as_bytes();
+    let status = performed(rt, words, &mut script, &mut NoWriter, &mut err);
+    Ok(told(alloc, status, &[], &err)?)
+}
+
+// A disk with a new file system that takes the sync of a mount, and then nothing.
+fn failing_disk(alloc: Global) -> Result<MemDisk, Fail> {
     let mut disk = MemDisk::new(alloc, 1024)?;
     mkfs(&mut disk, 64)?;
-    // The sync of the mount passes.
     disk.arm(1);
+    Ok(disk)
+}
+
+// What a run on a disk ended with.
+fn end_text(alloc: Global, ended: Result<Status, Failure>) -> Result<String, AllocError> {
+    let text = match &ended {
+        Ok(status) => format!(in alloc; "{status:?}\n"),
+        Err(failure) => format!(in alloc; "{failure}\n"),
+    };
+    mem::drop(ended);
+    text
+}
+
+// What is seen where a commit fails, and the system halts.
+fn halted(alloc: Global) -> Result<String, Fail> {
+    let disk = failing_disk(alloc)?;
     let mut out = Vec::new(alloc);
     let script = "spawn 0 0\n1 chmod / 0700\nsync\n".as_bytes();
     let ended = run_on_disk(
@@ -335,30 +409,27 @@ fn halted(alloc: Global) -> Result<String, Fail> {
         &mut Watched::new(&mut out),
         &mut Vec::new(alloc),
     );
+    let end = end_text(alloc, ended)?;
     let out = String::from_utf8_lossy(alloc, &out)?;
-    match ended {
-        Ok(status) => Ok(format!(in alloc; "{out}{status:?}\n")?),
-        Err(failure) => Ok(format!(in alloc; "{out}{failure}\n")?),
-    }
+    Ok(format!(in alloc; "{out}{end}")?)
+}
+
+// Adds what fails and is told otherwise.
+fn push_failing(rt: &HostRuntime, report: &mut String) -> Result<(), Fail> {
+    let unread = seen(rt, "", "", &mut NoReader)?;
+    push_other_text(report, "unread", unread, "3\nrun: ReadFault\n")?;
+    let unwritten = unwritten(rt)?;
+    push_other_text(report, "unwritten", unwritten, "3\nrun: WriteFault\n")?;
+    let halted = halted(rt.alloc())?;
+    let wanted = "pid 1\nok\nerror EIO 5\nunmount: EIO\n";
+    push_other_text(report, "halted", halted, wanted)?;
+    Ok(())
 }
 
 #[test]
 fn what_fails_is_told(rt: HostRuntime) -> Result<(), Fail> {
-    let alloc = rt.alloc();
-    let words = words(alloc, "", "")?;
-    let mut err = Vec::new(alloc);
-    let unwritten = perform(
-        &rt,
-        &words,
-        &mut Watched::new("spawn 0 0\n".as_bytes()),
-        &mut Watched::new(NoWriter),
-        &mut err,
-    );
-    let err = String::from_utf8_lossy(alloc, &err)?;
-    let unread = seen(&rt, "", "", &mut NoReader)?;
-    let halted = halted(alloc)?;
-    let seen = format!(in alloc; "{unwritten}\n{err}{unread}{halted}")?;
-    let wanted = "3\nrun: WriteFault\n3\nrun: ReadFault\npid 1\nok\nerror EIO 5\nunmount: EIO\n";
-    assert!(rt; seen.as_str() == wanted, "{seen}");
+    let mut report = String::new(rt.alloc());
+    push_failing(&rt, &mut report)?;
+    assert!(rt; report.is_empty(), "{report}");
     Ok(())
 }

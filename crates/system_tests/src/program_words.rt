@@ -1,7 +1,9 @@
 //! Which job the words ask for, and what is printed where they ask for none.
 
+use crate::report::push_other_text;
 use fs_command::{Job, WordsFault, parse_words};
 use std::alloc::{AllocError, Global};
+use std::mem;
 use std::test::Fail;
 
 // What the words of a line ask for.
@@ -10,58 +12,60 @@ fn parsed(alloc: Global, line: &str) -> Result<Result<Job, WordsFault>, AllocErr
     for word in line.split(' ') {
         words.push(String::from_str(alloc, word)?)?;
     }
-    Ok(parse_words(alloc, words.as_slice()))
+    let outcome = parse_words(alloc, words.as_slice());
+    mem::drop(words);
+    Ok(outcome)
 }
 
 // The same as a text.
 fn asked(alloc: Global, line: &str) -> Result<String, AllocError> {
-    told(alloc, &parsed(alloc, line)?)
+    let outcome = parsed(alloc, line)?;
+    let told = match &outcome {
+        Ok(job) => told_job(alloc, job),
+        Err(fault) => told_fault(alloc, fault),
+    };
+    mem::drop(outcome);
+    told
 }
 
-fn told(alloc: Global, outcome: &Result<Job, WordsFault>) -> Result<String, AllocError> {
-    match outcome {
-        Ok(Job::Memory) => String::from_str(alloc, "memory"),
-        Ok(
-            Job::Mkfs {
-                image,
-                sectors,
-                inodes,
-            },
-        ) => format!(in alloc; "mkfs {} {sectors} {inodes}", image.as_str()),
-        Ok(
-            Job::Run {
-                image,
-                script: Some(script),
-            },
-        ) => format!(in alloc; "run {} {}", image.as_str(), script.as_str()),
-        Ok(
-            Job::Run {
-                image,
-                script: None,
-            },
-        ) => format!(in alloc; "run {}", image.as_str()),
-        Ok(Job::Check { image }) => format!(in alloc; "check {}", image.as_str()),
-        Ok(Job::Upgrade { image }) => format!(in alloc; "upgrade {}", image.as_str()),
-        Ok(
-            Job::Fuse {
-                image,
-                denials: Some(denials),
-                own_rules,
-            },
-        ) => format!(in alloc; "fuse {} {} {own_rules}", image.as_str(), denials.as_str()),
-        Ok(
-            Job::Fuse {
-                image,
-                denials: None,
-                own_rules,
-            },
-        ) => format!(in alloc; "fuse {} {own_rules}", image.as_str()),
-        Err(fault) => match fault {
-            WordsFault::Help(_) => format!(in alloc; "help {}", fault.status().code()),
-            WordsFault::BadWords(_) => format!(in alloc; "bad {}", fault.status().code()),
-            WordsFault::OutOfMemory => format!(in alloc; "memory {}", fault.status().code()),
-        },
+fn told_job(alloc: Global, job: &Job) -> Result<String, AllocError> {
+    match job {
+        Job::Memory => String::from_str(alloc, "memory"),
+        Job::Mkfs {
+            image,
+            sectors,
+            inodes,
+        } => format!(in alloc; "mkfs {} {sectors} {inodes}", image.as_str()),
+        Job::Run {
+            image,
+            script: Some(script),
+        } => format!(in alloc; "run {} {}", image.as_str(), script.as_str()),
+        Job::Run {
+            image,
+            script: None,
+        } => format!(in alloc; "run {}", image.as_str()),
+        Job::Check { image } => format!(in alloc; "check {}", image.as_str()),
+        Job::Upgrade { image } => format!(in alloc; "upgrade {}", image.as_str()),
+        Job::Fuse {
+            image,
+            denials: Some(denials),
+            own_rules,
+        } => format!(in alloc; "fuse {} {} {own_rules}", image.as_str(), denials.as_str()),
+        Job::Fuse {
+            image,
+            denials: None,
+            own_rules,
+        } => format!(in alloc; "fuse {} {own_rules}", image.as_str()),
     }
+}
+
+fn told_fault(alloc: Global, fault: &WordsFault) -> Result<String, AllocError> {
+    let word = match fault {
+        WordsFault::Help(_) => "help",
+        WordsFault::BadWords(_) => "bad",
+        WordsFault::OutOfMemory => "memory",
+    };
+    format!(in alloc; "{word} {}", fault.status().code())
 }
 
 // ---- what is asked for
@@ -152,24 +156,20 @@ const SHOWN: [&str; 9] = [
 // Adds to the report where a line asks for something other than is wanted.
 fn expect(alloc: Global, report: &mut String, line: &str, wanted: &str) -> Result<(), AllocError> {
     let asked = asked(alloc, line)?;
-    push_other(report, line, asked.as_str(), wanted)
-}
-
-fn push_other(report: &mut String, line: &str, seen: &str, wanted: &str) -> Result<(), AllocError> {
-    if seen == wanted {
-        return Ok(());
-    }
-    writeln!(report, "{line}: {seen}")
+    push_other_text(report, line, asked, wanted)
 }
 
 // ---- what is printed
 
 // What is printed at the words of a line, which ask for no job.
 fn text(alloc: Global, line: &str) -> Result<String, AllocError> {
-    match parsed(alloc, line)? {
+    let outcome = parsed(alloc, line)?;
+    let text = match &outcome {
         Ok(_) => Ok(String::new(alloc)),
         Err(fault) => format!(in alloc; "{fault}"),
-    }
+    };
+    mem::drop(outcome);
+    text
 }
 
 const HELP: &str = "A file system in an image, with a journal and access control lists
@@ -249,20 +249,30 @@ fn expect_text(
     wanted: &str,
 ) -> Result<(), AllocError> {
     let text = text(alloc, line)?;
-    push_other(report, line, text.as_str(), wanted)
+    push_other_text(report, line, text, wanted)
 }
 
-fn expect_all(alloc: Global, report: &mut String) -> Result<(), AllocError> {
-    for (line, wanted) in JOBS {
+fn expect_jobs(alloc: Global, report: &mut String) -> Result<(), AllocError> {
+    for (line, wanted) in &JOBS {
         expect(alloc, report, line, wanted)?;
     }
-    for line in BAD {
-        expect(alloc, report, line, "bad 2")?;
+    Ok(())
+}
+
+fn expect_each(
+    alloc: Global,
+    report: &mut String,
+    lines: &[&str],
+    wanted: &str,
+) -> Result<(), AllocError> {
+    for line in lines {
+        expect(alloc, report, line, wanted)?;
     }
-    for line in SHOWN {
-        expect(alloc, report, line, "help 0")?;
-    }
-    for (line, wanted) in TEXTS {
+    Ok(())
+}
+
+fn expect_texts(alloc: Global, report: &mut String) -> Result<(), AllocError> {
+    for (line, wanted) in &TEXTS {
         expect_text(alloc, report, line, wanted)?;
     }
     Ok(())
@@ -270,8 +280,12 @@ fn expect_all(alloc: Global, report: &mut String) -> Result<(), AllocError> {
 
 #[test]
 fn words_ask_for_jobs_or_are_answered_by_a_text(rt: HostRuntime) -> Result<(), Fail> {
-    let mut report = String::new(rt.alloc());
-    expect_all(rt.alloc(), &mut report)?;
+    let alloc = rt.alloc();
+    let mut report = String::new(alloc);
+    expect_jobs(alloc, &mut report)?;
+    expect_each(alloc, &mut report, &BAD, "bad 2")?;
+    expect_each(alloc, &mut report, &SHOWN, "help 0")?;
+    expect_texts(alloc, &mut report)?;
     assert!(rt; report.is_empty(), "{report}");
     Ok(())
 }

@@ -1,12 +1,13 @@
 //! Runs over readers and writers of several kinds. What file systems answer to lines is tried by the program `player`.
 
-use crate::report::push_other;
+use crate::report::push_other_text;
 use fs_images::mkfs;
 use fs_shell::{Count, RunFault, Watched, run};
 use fs_system::Fs;
 use sector_disk::MemDisk;
 use std::alloc::{AllocError, Global};
 use std::io::{self, ErrorKind, Read, Write};
+use std::mem;
 use std::test::Fail;
 
 // ---- file systems
@@ -118,6 +119,23 @@ fn push_outcome(seen: &mut String, outcome: Result<Count, RunFault>) -> Result<(
     }
 }
 
+// Runs a script on an empty file system.
+fn ran(
+    alloc: Global,
+    script: Source<'_>,
+    written: &mut Vec<u8>,
+) -> Result<Result<Count, RunFault>, Fail> {
+    let mut fs = mounted(alloc)?;
+    let outcome = run(
+        alloc,
+        &mut Watched::new(script),
+        &mut Watched::new(written),
+        &mut fs,
+    );
+    mem::drop(fs);
+    Ok(outcome)
+}
+
 // Adds to the report where a script on an empty file system comes to something other than is wanted.
 fn expect_run(
     alloc: Global,
@@ -125,17 +143,11 @@ fn expect_run(
     script: Source<'_>,
     wanted: &str,
 ) -> Result<(), Fail> {
-    let mut fs = mounted(alloc)?;
     let mut written = Vec::new(alloc);
-    let outcome = run(
-        alloc,
-        &mut Watched::new(script),
-        &mut Watched::new(&mut written),
-        &mut fs,
-    );
+    let outcome = ran(alloc, script, &mut written)?;
     let mut seen = String::from_utf8_lossy(alloc, &written)?;
     push_outcome(&mut seen, outcome)?;
-    push_other(report, seen.as_str(), wanted)?;
+    push_other_text(report, wanted, seen, wanted)?;
     Ok(())
 }
 
@@ -228,13 +240,17 @@ const SOURCES: [(Source<'static>, &str); 7] = [
     ),
 ];
 
+fn expect_sources(alloc: Global, report: &mut String) -> Result<(), Fail> {
+    for (source, replies) in &SOURCES {
+        expect_run(alloc, report, *source, replies)?;
+    }
+    Ok(())
+}
+
 #[test]
 fn readers_get_their_replies(rt: HostRuntime) -> Result<(), Fail> {
-    let alloc = rt.alloc();
-    let mut report = String::new(alloc);
-    for (source, replies) in SOURCES {
-        expect_run(alloc, &mut report, source, replies)?;
-    }
+    let mut report = String::new(rt.alloc());
+    expect_sources(rt.alloc(), &mut report)?;
     assert!(rt; report.is_empty(), "{report}");
     Ok(())
 }
@@ -259,29 +275,39 @@ fn push_run_into(
     push_outcome(seen, outcome)
 }
 
-// Adds what scripts come to over several writers, one after another on one file system.
-fn push_writers(alloc: Global, seen: &mut String) -> Result<(), Fail> {
-    let mut fs = mounted(alloc)?;
-    for (script, sink) in [
-        // The text of two replies, of six bytes and of 42, is flushed.
-        (b"spawn 0 0\n1 stat /\n".as_slice(), WIDE),
-        // A script without replies needs no room.
-        (b"# x\n".as_slice(), Sink { room: 0, ..WIDE }),
-        // What can't be written ends the run. What was performed stays.
-        (b"# x\nspawn 0 0\n".as_slice(), Sink { room: 0, ..WIDE }),
-        (b"2 access / rwx\n".as_slice(), WIDE),
-        // A flush fails.
-        (
-            b"2 stat \"\"\n".as_slice(),
-            Sink {
-                fails: true,
-                ..WIDE
-            },
-        ),
-    ] {
-        push_run_into(alloc, seen, script, sink, &mut fs)?;
+// Scripts, and what each is written to.
+const SINKS: [(&[u8], Sink); 5] = [
+    // The text of two replies, of six bytes and of 42, is flushed.
+    (b"spawn 0 0\n1 stat /\n", WIDE),
+    // A script without replies needs no room.
+    (b"# x\n", Sink { room: 0, ..WIDE }),
+    // What can't be written ends the run. What was performed stays.
+    (b"# x\nspawn 0 0\n", Sink { room: 0, ..WIDE }),
+    (b"2 access / rwx\n", WIDE),
+    // A flush fails.
+    (
+        b"2 stat \"\"\n",
+        Sink {
+            fails: true,
+            ..WIDE
+        },
+    ),
+];
+
+// Adds what the scripts come to, one after another on one file system.
+fn push_runs(alloc: Global, seen: &mut String, fs: &mut Fs<MemDisk>) -> Result<(), AllocError> {
+    for (script, sink) in &SINKS {
+        push_run_into(alloc, seen, script, *sink, fs)?;
     }
     Ok(())
+}
+
+// The same on a new file system.
+fn push_writers(alloc: Global, seen: &mut String) -> Result<(), Fail> {
+    let mut fs = mounted(alloc)?;
+    let pushed = push_runs(alloc, seen, &mut fs);
+    mem::drop(fs);
+    Ok(pushed?)
 }
 
 #[test]

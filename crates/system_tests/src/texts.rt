@@ -1,11 +1,12 @@
 //! What a line says, and the text of each reply and each fault.
 
-use crate::report::push_other;
+use crate::report::{push_other, push_other_text};
 use fs_cred::{Caps, Denial, Errno, Need, Refusal, Rule};
 use fs_lines::{Line, LineFault, a_line_says_one_thing, fault_text, parse_line, reply_text};
 use fs_model::{Bytes, Call, Event, FileType, Listing, Name, Named, Path, Reply, Status};
 use posix_acl::{Acl, Perms};
 use std::alloc::{AllocError, Global};
+use std::mem;
 use std::test::Fail;
 
 // ---- lines
@@ -25,11 +26,18 @@ fn asks_access(line: &Result<Line, LineFault>, pid: usize, path: &[u8], want: Pe
     }
 }
 
+// Whether a line with escapes says its call.
+fn says_access(alloc: Global) -> bool {
+    let line = parse_line(alloc, b"\\31 access /a\\20b r--");
+    let asks = asks_access(&line, 1, b"/a b", READ);
+    mem::drop(line);
+    asks
+}
+
 #[test]
 fn a_line_says_a_call(rt: HostRuntime) {
     a_line_says_one_thing();
-    let line = parse_line(rt.alloc(), b"\\31 access /a\\20b r--");
-    assert!(rt; asks_access(&line, 1, b"/a b", READ));
+    assert!(rt; says_access(rt.alloc()));
 }
 
 // ---- the text of faults and replies
@@ -41,7 +49,7 @@ fn expect_fault(
     wanted: &str,
 ) -> Result<(), AllocError> {
     let text = fault_text(alloc, fault)?;
-    push_other(report, text.as_str(), wanted)
+    push_other_text(report, wanted, text, wanted)
 }
 
 fn expect_text(
@@ -50,8 +58,10 @@ fn expect_text(
     reply: Reply,
     wanted: &str,
 ) -> Result<(), AllocError> {
-    let text = reply_text(alloc, &reply)?;
-    push_other(report, text.as_str(), wanted)
+    let text = reply_text(alloc, &reply);
+    mem::drop(reply);
+    let text = text?;
+    push_other_text(report, wanted, text, wanted)
 }
 
 const FAULTS: [(LineFault, &str); 8] = [
@@ -172,21 +182,21 @@ const RULES: [(Rule, &str); 13] = [
 ];
 
 fn expect_tables(alloc: Global, report: &mut String) -> Result<(), AllocError> {
-    for (fault, wanted) in FAULTS {
-        expect_fault(alloc, report, fault, wanted)?;
+    for (fault, wanted) in &FAULTS {
+        expect_fault(alloc, report, *fault, wanted)?;
     }
-    for (kind, wanted) in KINDS {
-        expect_text(alloc, report, status(kind), wanted)?;
+    for (kind, wanted) in &KINDS {
+        expect_text(alloc, report, status(*kind), wanted)?;
     }
-    for (need, wanted) in NEEDS {
-        expect_text(alloc, report, denial(need), wanted)?;
+    for (need, wanted) in &NEEDS {
+        expect_text(alloc, report, denial(*need), wanted)?;
     }
-    for (errno, wanted) in ERRORS {
-        let reply = Reply::Refused(Refusal::Failed(errno));
+    for (errno, wanted) in &ERRORS {
+        let reply = Reply::Refused(Refusal::Failed(*errno));
         expect_text(alloc, report, reply, wanted)?;
     }
-    for (rule, wanted) in RULES {
-        expect_text(alloc, report, Reply::Granted(rule), wanted)?;
+    for (rule, wanted) in &RULES {
+        expect_text(alloc, report, Reply::Granted(*rule), wanted)?;
     }
     Ok(())
 }
@@ -238,7 +248,7 @@ fn expect_list(
     wanted: &str,
 ) -> Result<(), AllocError> {
     let Ok(acl) = Acl::parse_text(alloc, text) else {
-        return push_other(report, "no list", wanted);
+        return push_other(report, wanted, "no list", wanted);
     };
     expect_text(alloc, report, Reply::Acl(Some(acl)), wanted)
 }
@@ -279,16 +289,12 @@ fn expect_words(alloc: Global, report: &mut String) -> Result<(), AllocError> {
     expect_text(alloc, report, names, "list 2:. 1:.. 3:a\\20b")
 }
 
-fn expect_texts(alloc: Global, report: &mut String) -> Result<(), AllocError> {
-    expect_tables(alloc, report)?;
-    expect_numbers(alloc, report)?;
-    expect_words(alloc, report)
-}
-
 #[test]
 fn faults_and_replies_have_their_texts(rt: HostRuntime) -> Result<(), Fail> {
     let mut report = String::new(rt.alloc());
-    expect_texts(rt.alloc(), &mut report)?;
+    expect_tables(rt.alloc(), &mut report)?;
+    expect_numbers(rt.alloc(), &mut report)?;
+    expect_words(rt.alloc(), &mut report)?;
     assert!(rt; report.is_empty(), "{report}");
     Ok(())
 }

@@ -45,9 +45,21 @@ fn upgraded_and_stopped<D: CrashDisk + Drop>(
     Ok((upgraded, content[VERSION]))
 }
 
+// The same after a stop that leaves the old contents, and after one that leaves the new ones.
+fn upgraded_both_ways(
+    alloc: Global,
+    version: u8,
+    passes: u64,
+) -> Result<[(Result<(), UpgradeFault>, u8); 2], Fail> {
+    let disk = disk_of_version(alloc, version)?;
+    let zeros = upgraded_and_stopped(alloc, disk, passes, &[])?;
+    let disk = disk_of_version(alloc, version)?;
+    let ones = upgraded_and_stopped(alloc, disk, passes, &[1])?;
+    Ok([zeros, ones])
+}
+
 #[test]
 fn a_stop_leaves_the_old_version_or_the_new_one(rt: HostRuntime) -> Result<(), Fail> {
-    let alloc = rt.alloc();
     let failed = Err(UpgradeFault::DiskFault);
     // The version before, what passes of a sync, the write of sector 0 and a sync, what the upgrade comes to, and the version
     // after a stop that leaves the old contents, and the new ones.
@@ -60,14 +72,9 @@ fn a_stop_leaves_the_old_version_or_the_new_one(rt: HostRuntime) -> Result<(), F
         (2, 0, failed, 2, 2),
         (2, 1, Ok(()), 2, 2),
     ] {
-        let disk = disk_of_version(alloc, version)?;
-        let zeros = upgraded_and_stopped(alloc, disk, passes, &[])?;
-        let disk = disk_of_version(alloc, version)?;
-        let ones = upgraded_and_stopped(alloc, disk, passes, &[1])?;
-        assert!(rt;
-            zeros == (wanted, zeros_chosen) && ones == (wanted, ones_chosen),
-            "{version} {passes}: {zeros:?} {ones:?}"
-        );
+        let seen = upgraded_both_ways(rt.alloc(), version, passes)?;
+        let wanted = [(wanted, zeros_chosen), (wanted, ones_chosen)];
+        assert!(rt; seen == wanted, "{version} {passes}: {seen:?}");
     }
     Ok(())
 }
