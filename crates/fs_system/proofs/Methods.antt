@@ -49,6 +49,19 @@ module _ {D : Type 0} (state : D → DiskState) where
       let next = happens was.in_some.0 was.in_some.1 in
       record { in_some = (next.0, next.1); mountable = may }
 
+  -- what is so of what an event leaves is so of what stands in its place
+  module _ (place : Place) (desks : Desks) {put left : Base D} (is : put ≡ left) where
+    pub system_put : IsSystem state (record { base = left; place = place; desks = desks }) → IsSystem state (record { base = put; place = place; desks = desks })
+    system_put was = subst (λ (b : Base D). IsSystem state (record { base = b; place = place; desks = desks })) (sym is) was
+
+    pub happens_put : (old : System D) (e : Event) (reply : Reply) → Happens state old (record { base = left; place = place; desks = desks }) e reply
+        → Happens state old (record { base = put; place = place; desks = desks }) e reply
+    happens_put old e reply was = subst (λ (b : Base D). Happens state old (record { base = b; place = place; desks = desks }) e reply) (sym is) was
+
+    pub flushes_put : (old : System D) (e : Event) (reply : Reply) → FlushesFor state old (record { base = left; place = place; desks = desks }) e reply
+        → FlushesFor state old (record { base = put; place = place; desks = desks }) e reply
+    flushes_put old e reply was = subst (λ (b : Base D). FlushesFor state old (record { base = b; place = place; desks = desks }) e reply) (sym is) was
+
   module _ (only_now : (disk : D) (image : Image) → (state disk).left_since (state disk).moment image → IsImage (state disk) image) where
     -- ---- a halted one
 

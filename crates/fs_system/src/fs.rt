@@ -111,6 +111,16 @@ fn take_store<D: Disk + Drop>(
     }
 }
 
+// Puts what an event leaves in the place of the store that it took.
+fn put_base<D: Disk + Drop>(
+    base: &mut Option<Result<CountedStore<D>, Broken<D>>>,
+    left: Result<CountedStore<D>, Broken<D>>,
+)
+    ensures { base.new ≡ Some left }
+{
+    *base = Some(left);
+}
+
 // Lets this many writes and syncs of the disk pass, and fails all later ones.
 fn arm_disk<D: CrashDisk>(base: &mut Result<CountedStore<D>, Broken<D>>, passes: u64)
     ensures stays { (p : Place) (desks : Desks) (s : State)
@@ -255,7 +265,7 @@ impl<D: Disk + Drop> Fs<D> {
         }
         let store = take_store(&mut self.base);
         let (done, base) = exit_kept(store, self.place, &mut self.procs, pid);
-        self.base = Some(base);
+        put_base(&mut self.base, base);
         done
     }
 
@@ -277,7 +287,7 @@ impl<D: Disk + Drop> Fs<D> {
         }
         let store = take_store(&mut self.base);
         let (done, store) = enter_kept(store, self.place, &mut self.procs, pid, directory, second);
-        self.base = Some(Ok(store));
+        put_base(&mut self.base, Ok(store));
         done
     }
 
@@ -293,7 +303,7 @@ impl<D: Disk + Drop> Fs<D> {
         }
         let store = take_store(&mut self.base);
         let (reply, base) = perform_kept(self.alloc, store, self.place, &mut self.procs, pid, call);
-        self.base = Some(base);
+        put_base(&mut self.base, base);
         reply
     }
 
@@ -307,11 +317,11 @@ impl<D: Disk + Drop> Fs<D> {
         }
         match take_store(&mut self.base).flush() {
             Ok(store) => {
-                self.base = Some(Ok(store));
+                put_base(&mut self.base, Ok(store));
                 Ok(())
             }
             Err(broken) => {
-                self.base = Some(Err(broken));
+                put_base(&mut self.base, Err(broken));
                 Err(Errno::EIO)
             }
         }
@@ -362,7 +372,7 @@ impl<D: Disk + Drop> Fs<D> {
         }
         let store = take_store(&mut self.base);
         let (free, store) = count_space(store, self.place, &self.procs);
-        self.base = Some(Ok(store));
+        put_base(&mut self.base, Ok(store));
         free
     }
 

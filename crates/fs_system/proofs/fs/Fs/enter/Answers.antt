@@ -1,7 +1,7 @@
 use Rattle.std.proofs.Common.{Ok, sym, refl, ◌∙◌}
 use Rattle.fs_model.specs.declared.event.Event.TheVariants.{Enter}
 use Rattle.fs_system.specs.Replies.{finished}
-use Rattle.fs_system.proofs.Methods.{halted_happens, store_there, store_runs, kept_returns, kept_system}
+use Rattle.fs_system.proofs.Methods.{halted_happens, store_there, store_runs, kept_returns, kept_system, system_put, happens_put}
 use Rattle.fs_system.proofs.fs.Fs.enter.Goals as goal
 
 pub returns-then-is_halted-clause-does : goal.returns-then-is_halted-clause-does
@@ -21,12 +21,14 @@ enter_kept-done-requires g c = record {
 
 pub invariant_of-self : goal.invariant_of-self
 invariant_of-self g c =
-    kept_system g.D.Disk.state g.met.D.Disk.only_now c.self.inside.base c.self.inside.place c.self.inside.procs c.args.self.now c.self.view_is c.take_store-store.result
+    system_put g.D.Disk.state c.self.inside.place c.enter_kept-done.new.procs c.put_base.ensures
+    (kept_system g.D.Disk.state g.met.D.Disk.only_now c.self.inside.base c.self.inside.place c.self.inside.procs c.args.self.now c.self.view_is c.take_store-store.result
     c.take_store-store.ensures (Ok c.enter_kept-done.result.1) c.enter_kept-done.new.procs (Enter c.args.pid c.args.directory c.args.second) (finished c.enter_kept-done.result.0)
-    c.enter_kept-done.ensures.does (g.met.D.Disk.counts_now c.enter_kept-done.result.1.disk) c.self.invariant
+    c.enter_kept-done.ensures.does (g.met.D.Disk.counts_now c.enter_kept-done.result.1.disk) c.self.invariant)
 
 pub returns-clause-does : goal.returns-clause-does
 returns-clause-does g c =
-    kept_returns g.D.Disk.state g.met.D.Disk.only_now c.self.inside.base c.self.inside.place c.self.inside.procs c.args.self.now c.self.view_is c.take_store-store.result
+    happens_put g.D.Disk.state c.self.inside.place c.enter_kept-done.new.procs c.put_base.ensures c.args.self.now (Enter c.args.pid c.args.directory c.args.second) (finished c.enter_kept-done.result.0)
+    (kept_returns g.D.Disk.state g.met.D.Disk.only_now c.self.inside.base c.self.inside.place c.self.inside.procs c.args.self.now c.self.view_is c.take_store-store.result
     c.take_store-store.ensures (Ok c.enter_kept-done.result.1) c.enter_kept-done.new.procs (Enter c.args.pid c.args.directory c.args.second) (finished c.enter_kept-done.result.0)
-    c.enter_kept-done.ensures.does
+    c.enter_kept-done.ensures.does)

@@ -2,7 +2,7 @@ use Rattle.std.proofs.Common.{sym, refl, ◌∙◌}
 use Rattle.sector_txn.specs.Stores.{disk_after}
 use Rattle.fs_model.specs.declared.event.Event.TheVariants.{Exit}
 use Rattle.fs_system.specs.Replies.{finished}
-use Rattle.fs_system.proofs.Methods.{halted_happens, store_there, store_runs, kept_returns, kept_system}
+use Rattle.fs_system.proofs.Methods.{halted_happens, store_there, store_runs, kept_returns, kept_system, system_put, happens_put}
 use Rattle.fs_system.proofs.fs.Fs.exit.Goals as goal
 
 pub returns-then-is_halted-clause-does : goal.returns-then-is_halted-clause-does
@@ -22,12 +22,14 @@ exit_kept-done-requires g c = record {
 
 pub invariant_of-self : goal.invariant_of-self
 invariant_of-self g c =
-    kept_system g.D.Disk.state g.met.D.Disk.only_now c.self.inside.base c.self.inside.place c.self.inside.procs c.args.self.now c.self.view_is c.take_store-store.result
+    system_put g.D.Disk.state c.self.inside.place c.exit_kept-done.new.procs c.put_base.ensures
+    (kept_system g.D.Disk.state g.met.D.Disk.only_now c.self.inside.base c.self.inside.place c.self.inside.procs c.args.self.now c.self.view_is c.take_store-store.result
     c.take_store-store.ensures c.exit_kept-done.result.1 c.exit_kept-done.new.procs (Exit c.args.pid) (finished c.exit_kept-done.result.0)
-    c.exit_kept-done.ensures.does (g.met.D.Disk.counts_now (disk_after c.exit_kept-done.result.1)) c.self.invariant
+    c.exit_kept-done.ensures.does (g.met.D.Disk.counts_now (disk_after c.exit_kept-done.result.1)) c.self.invariant)
 
 pub returns-clause-does : goal.returns-clause-does
 returns-clause-does g c =
-    kept_returns g.D.Disk.state g.met.D.Disk.only_now c.self.inside.base c.self.inside.place c.self.inside.procs c.args.self.now c.self.view_is c.take_store-store.result
+    happens_put g.D.Disk.state c.self.inside.place c.exit_kept-done.new.procs c.put_base.ensures c.args.self.now (Exit c.args.pid) (finished c.exit_kept-done.result.0)
+    (kept_returns g.D.Disk.state g.met.D.Disk.only_now c.self.inside.base c.self.inside.place c.self.inside.procs c.args.self.now c.self.view_is c.take_store-store.result
     c.take_store-store.ensures c.exit_kept-done.result.1 c.exit_kept-done.new.procs (Exit c.args.pid) (finished c.exit_kept-done.result.0)
-    c.exit_kept-done.ensures.does
+    c.exit_kept-done.ensures.does)

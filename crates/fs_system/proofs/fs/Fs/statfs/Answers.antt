@@ -1,7 +1,7 @@
 use Rattle.std.proofs.Common.{sym, refl, ◌∙◌}
 use Rattle.fs_model.specs.declared.event.Event.TheVariants.{Statfs}
 use Rattle.fs_system.specs.Replies.{counted}
-use Rattle.fs_system.proofs.Methods.{halted_happens, store_there, store_runs, same_returns, same_system}
+use Rattle.fs_system.proofs.Methods.{halted_happens, store_there, store_runs, same_returns, same_system, system_put, happens_put}
 use Rattle.fs_system.proofs.fs.Fs.statfs.Goals as goal
 
 pub returns-then-is_halted-clause-does : goal.returns-then-is_halted-clause-does
@@ -21,11 +21,13 @@ count_space-free-requires g c = record {
 
 pub invariant_of-self : goal.invariant_of-self
 invariant_of-self g c =
-    same_system g.D.Disk.state g.met.D.Disk.only_now c.self.inside.base c.self.inside.place c.self.inside.procs c.args.self.now c.self.view_is c.take_store-store.result
+    system_put g.D.Disk.state c.self.inside.place c.self.inside.procs c.put_base.ensures
+    (same_system g.D.Disk.state g.met.D.Disk.only_now c.self.inside.base c.self.inside.place c.self.inside.procs c.args.self.now c.self.view_is c.take_store-store.result
     c.take_store-store.ensures c.count_space-free.result.1 Statfs (counted c.count_space-free.result.0) c.count_space-free.ensures.does
-    (g.met.D.Disk.counts_now c.count_space-free.result.1.disk) c.self.invariant
+    (g.met.D.Disk.counts_now c.count_space-free.result.1.disk) c.self.invariant)
 
 pub returns-clause-does : goal.returns-clause-does
 returns-clause-does g c =
-    same_returns g.D.Disk.state g.met.D.Disk.only_now c.self.inside.base c.self.inside.place c.self.inside.procs c.args.self.now c.self.view_is c.take_store-store.result
-    c.take_store-store.ensures c.count_space-free.result.1 Statfs (counted c.count_space-free.result.0) c.count_space-free.ensures.does
+    happens_put g.D.Disk.state c.self.inside.place c.self.inside.procs c.put_base.ensures c.args.self.now Statfs (counted c.count_space-free.result.0)
+    (same_returns g.D.Disk.state g.met.D.Disk.only_now c.self.inside.base c.self.inside.place c.self.inside.procs c.args.self.now c.self.view_is c.take_store-store.result
+    c.take_store-store.ensures c.count_space-free.result.1 Statfs (counted c.count_space-free.result.0) c.count_space-free.ensures.does)
