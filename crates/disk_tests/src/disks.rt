@@ -85,19 +85,27 @@ pub(super) enum Call {
 fn passes<D: Disk>(disk: &mut D, call: Call) -> bool {
     match call {
         Call::Read(n) => first_byte(disk, n).is_ok(),
-        Call::Write(n, byte) => n < disk.size() && disk.write(n, &[byte; 512]).is_ok(),
+        Call::Write(n, byte) => is_filled(disk, n, byte),
         Call::Sync => disk.sync().is_ok(),
     }
 }
 
+// Whether the sector is there, and is filled with the byte.
+fn is_filled<D: Disk>(disk: &mut D, n: u32, byte: u8) -> bool {
+    if n >= disk.size() {
+        return false;
+    }
+    let content = [byte; 512];
+    disk.write(n, &content).is_ok()
+}
+
 // Which of the calls pass.
 pub(super) fn four_calls<D: Disk>(disk: &mut D, calls: [Call; 4]) -> [bool; 4] {
-    [
-        passes(disk, calls[0]),
-        passes(disk, calls[1]),
-        passes(disk, calls[2]),
-        passes(disk, calls[3]),
-    ]
+    let mut passed = [false; 4];
+    for i in 0..4 {
+        passed[i] = passes(disk, calls[i]);
+    }
+    passed
 }
 
 // A sector past the end gives a fault.

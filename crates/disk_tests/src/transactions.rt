@@ -188,6 +188,20 @@ fn cleared<D: Disk + Drop>(alloc: Global, disk: D) -> Result<(usize, u8), Fail> 
     Ok((room, found?))
 }
 
+// What a call finds under a key where it has left a hint and under another one; what the next call finds there; and what it finds
+// where it leaves one under a key that has the same place, and under that.
+fn hinted<D: Disk + Drop>(alloc: Global, disk: D) -> Result<[Option<u64>; 5], Fail> {
+    let mut txn = opened(alloc, disk)?.begin();
+    txn.leave_hint(5, 40);
+    let (left, other) = (txn.hint(5), txn.hint(6));
+    let mut later = keep(txn)?.begin();
+    let found = later.hint(5);
+    later.leave_hint(69, 41);
+    let (lost, last) = (later.hint(5), later.hint(69));
+    let _ = later.drop_delta();
+    Ok([left, other, found, lost, last])
+}
+
 #[test]
 fn a_call_is_kept_or_dropped(rt: HostRuntime) -> Result<(), Fail> {
     let seen = (
@@ -195,8 +209,13 @@ fn a_call_is_kept_or_dropped(rt: HostRuntime) -> Result<(), Fail> {
         after_drop(rt.alloc(), idle_disk(rt.alloc())?, 64)?,
         mixed(rt.alloc(), idle_disk(rt.alloc())?)?,
         cleared(rt.alloc(), idle_disk(rt.alloc())?)?,
+        hinted(rt.alloc(), idle_disk(rt.alloc())?)?,
     );
-    assert!(rt; seen == ((0, 64, 64), (64, 0, 0), 8, (62, 1)), "{seen:?}");
+    let hints = [Some(40), None, Some(40), None, Some(41)];
+    assert!(rt;
+        seen == ((0, 64, 64), (64, 0, 0), 8, (62, 1), hints),
+        "{seen:?}"
+    );
     Ok(())
 }
 

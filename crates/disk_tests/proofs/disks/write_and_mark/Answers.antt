@@ -1,6 +1,6 @@
 use Rattle.std.proofs.Common.{◌≡◌, ◌≢◌, ◌⊎◌, inl, inr, ⊎_elim, ℕ, ◌<◌, List, [], length, slice_set, ap, sym, ◌∙◌, arith, refl, get_or-set_other}
 use Rattle.std.proofs.lemmas.Grind.{get_or-set_at}
-use Rattle.sector_disk.specs.Disk.{DiskState, Image, sector, IsImage, IsStable, ChangesOnly, AddsOnly, LeavesOnly}
+use Rattle.sector_disk.specs.Disk.{DiskState, Image, sector, IsImage, IsStable, IsNarrowed, ChangesOnly, AddsOnly, LeavesOnly, Elapses}
 use Rattle.sector_disk.proofs.Moments.{started, goes_on, narrowed, adds_nothing, adds_write, adds_narrowed, image_or, stays_or}
 use Rattle.disk_tests.proofs.disks.write_and_mark.Goals as goal
 
@@ -28,20 +28,66 @@ marked old {staged} {new} n at content mark apart n_fits at_fits whole size seen
     ∙ get_or-set_other old.seen n at content _ (λ same. apart (sym same))))
     (λ new. inr (new.1, at_n)) (holds at at_fits)
 
-pub returns-clause-any_moment : goal.returns-clause-any_moment
-returns-clause-any_moment g c =
-    let old = g.D.Disk.state c.args.disk.now in
+-- what a stop leaves after the first write
+written : {old new : DiskState} (n at : ℕ) (content mark : List ℕ) → ((image : Image) → old.left_since old.moment image → IsImage old image) → IsStable old
+    → n ≢ at → at < old.size → ChangesOnly old new n content → Elapses old new → LeavesOnly old new (OldOrMarked old n content at mark)
+written {old} {new} n at content mark only_now stable apart fits changes time =
+    let none : AddsOnly (λ k c. k ≡ n) old old = adds_nothing in
+    let adds : AddsOnly (λ k c. k ≡ n) old new = adds_write none changes (λ k c is same. is) in
+    let before : LeavesOnly old old (OldOrMarked old n content at mark) = started only_now (unmarked n at content mark stable apart fits none) in
+    goes_on before time (unmarked n at content mark stable apart fits adds)
+
+-- and after its sync
+synced : {old mid new : DiskState} (n at : ℕ) (content mark : List ℕ) → IsStable old → n ≢ at → at < old.size → ChangesOnly old mid n content
+    → LeavesOnly old mid (OldOrMarked old n content at mark) → IsNarrowed mid new → Elapses mid new → LeavesOnly old new (OldOrMarked old n content at mark)
+synced {old} {mid} {new} n at content mark stable apart fits changes so_far narrow time =
+    let none : AddsOnly (λ k c. k ≡ n) old old = adds_nothing in
+    let adds : AddsOnly (λ k c. k ≡ n) old mid = adds_write none changes (λ k c is same. is) in
+    let still : AddsOnly (λ k c. k ≡ n) old new = adds_narrowed adds narrow in
+    goes_on so_far time (unmarked n at content mark stable apart fits still)
+
+pub returns-in_err-write-clause-any_moment : goal.returns-in_err-write-clause-any_moment
+returns-in_err-write-clause-any_moment g c =
+    let only_now = g.met.D.Disk.only_now c.args.disk.now in
+    written c.args.n c.args.at c.args.content.now c.args.mark.now only_now c.requires.stable c.requires.apart c.requires.at_fits c.write.ensures.changes c.write.ensures.time
+
+pub returns-in_err-sync-clause-any_moment : goal.returns-in_err-sync-clause-any_moment
+returns-in_err-sync-clause-any_moment g c =
     let n = c.args.n in
     let at = c.args.at in
     let content = c.args.content.now in
     let mark = c.args.mark.now in
+    let r = c.requires in
+    let m1 = written n at content mark (g.met.D.Disk.only_now c.args.disk.now) r.stable r.apart r.at_fits c.write.ensures.changes c.write.ensures.time in
+    synced n at content mark r.stable r.apart r.at_fits c.write.ensures.changes m1 c.sync.ensures.changes c.sync.ensures.time
+
+pub returns-in_err-write-2-clause-any_moment : goal.returns-in_err-write-2-clause-any_moment
+returns-in_err-write-2-clause-any_moment g c =
+    let n = c.args.n in
+    let at = c.args.at in
+    let content = c.args.content.now in
+    let mark = c.args.mark.now in
+    let r = c.requires in
+    let old = g.D.Disk.state c.args.disk.now in
     let whole = (g.met.D.Disk.seen_is_image c.args.disk.now).size in
-    let alone = λ (now : DiskState) (adds : AddsOnly (λ k c. k ≡ n) old now). unmarked n at content mark c.requires.stable c.requires.apart c.requires.at_fits adds in
-    let first : AddsOnly (λ k c. k ≡ n) old (g.D.Disk.state c.write.new.self) = adds_write adds_nothing c.write.ensures.changes (λ k c is same. is) in
-    let synced = adds_narrowed first c.sync.ensures.changes in
-    let then = marked old n at content mark c.requires.apart c.requires.n_fits c.requires.at_fits whole synced.size (c.sync.ensures.changes.seen ∙ c.in_ok-write.ensures.written.seen) c.in_ok-sync.ensures.stable c.write-2.ensures.changes in
-    let m0 : LeavesOnly old old (OldOrMarked old n content at mark) = started (g.met.D.Disk.only_now c.args.disk.now) (alone old adds_nothing) in
-    let m1 = goes_on m0 c.write.ensures.time (alone _ first) in
-    let m2 = goes_on m1 c.sync.ensures.time (alone _ synced) in
+    let m1 = written n at content mark (g.met.D.Disk.only_now c.args.disk.now) r.stable r.apart r.at_fits c.write.ensures.changes c.write.ensures.time in
+    let m2 = synced n at content mark r.stable r.apart r.at_fits c.write.ensures.changes m1 c.sync.ensures.changes c.sync.ensures.time in
+    goes_on m2 c.write-2.ensures.time
+    (marked old n at content mark r.apart r.n_fits r.at_fits whole (c.sync.ensures.changes.size ∙ c.write.ensures.changes.size) (c.sync.ensures.changes.seen ∙ c.in_ok-write.ensures.written.seen)
+    c.in_ok-sync.ensures.stable c.write-2.ensures.changes)
+
+pub returns-clause-any_moment : goal.returns-clause-any_moment
+returns-clause-any_moment g c =
+    let n = c.args.n in
+    let at = c.args.at in
+    let content = c.args.content.now in
+    let mark = c.args.mark.now in
+    let r = c.requires in
+    let old = g.D.Disk.state c.args.disk.now in
+    let whole = (g.met.D.Disk.seen_is_image c.args.disk.now).size in
+    let m1 = written n at content mark (g.met.D.Disk.only_now c.args.disk.now) r.stable r.apart r.at_fits c.write.ensures.changes c.write.ensures.time in
+    let m2 = synced n at content mark r.stable r.apart r.at_fits c.write.ensures.changes m1 c.sync.ensures.changes c.sync.ensures.time in
+    let then = marked old n at content mark r.apart r.n_fits r.at_fits whole (c.sync.ensures.changes.size ∙ c.write.ensures.changes.size) (c.sync.ensures.changes.seen ∙ c.in_ok-write.ensures.written.seen)
+    c.in_ok-sync.ensures.stable c.write-2.ensures.changes in
     let m3 = goes_on m2 c.write-2.ensures.time then in
     goes_on m3 c.sync-2.ensures.time (λ image is. then image (narrowed c.sync-2.ensures.changes is))
