@@ -128,21 +128,28 @@ fn seen<D: Disk + Drop>(alloc: Global, disk: D) -> Result<Seen, Fail> {
 
 const EIO: Told = Err(5);
 
+const WELL: Answers = [Ok(1), Ok(0), Ok(3), Ok(0), Ok(0), Ok(876), Ok(0), Ok(1)];
+
+const HALTED: Answers = [Ok(1), Ok(0), Ok(3), EIO, EIO, EIO, EIO, EIO];
+
+const UNREAD: Answers = [Ok(1), EIO, Err(9), Err(9), Ok(0), EIO, Ok(0), Ok(1)];
+
+// What is seen where so many calls of the disk pass.
+fn seen_with(alloc: Global, calls: u64) -> Result<Seen, Fail> {
+    seen(alloc, FuseDisk::new(MemDisk::new(alloc, 1024)?, calls))
+}
+
 #[test]
 fn a_halted_one_calls_its_disk_no_more(rt: HostRuntime) -> Result<(), Fail> {
-    let alloc = rt.alloc();
-    let well = [Ok(1), Ok(0), Ok(3), Ok(0), Ok(0), Ok(876), Ok(0), Ok(1)];
-    // mkfs and mount make 79 calls. The file is made and written with the two bitmaps read, and committed by its fsync.
-    let halted = [Ok(1), Ok(0), Ok(3), EIO, EIO, EIO, EIO, EIO];
-    let unread = [Ok(1), EIO, Err(9), Err(9), Ok(0), EIO, Ok(0), Ok(1)];
+    // How many calls of the disk pass, and what is seen. mkfs and mount make 79 calls. The file is made and written with the two
+    // bitmaps read, and committed by its fsync.
     for (calls, wanted) in [
-        (u64::MAX, (well, Ok(0), 0)),
-        (79, (unread, Ok(0), 2)),
-        (81, (halted, EIO, 1)),
-        (84, (halted, EIO, 1)),
+        (u64::MAX, (WELL, Ok(0), 0)),
+        (79, (UNREAD, Ok(0), 2)),
+        (81, (HALTED, EIO, 1)),
+        (84, (HALTED, EIO, 1)),
     ] {
-        let disk = FuseDisk::new(MemDisk::new(alloc, 1024)?, calls);
-        let found = seen(alloc, disk)?;
+        let found = seen_with(rt.alloc(), calls)?;
         assert!(rt; found == wanted, "{calls}: {found:?}");
     }
     Ok(())
@@ -166,16 +173,19 @@ fn entered(alloc: Global, row: (usize, u32, u32)) -> Result<Told, Fail> {
     told
 }
 
+// Processes and directories, and what is answered.
+static DIRECTORIES: [((usize, u32, u32), Told); 6] = [
+    ((1, 1, 1), Ok(0)),
+    ((2, 64, 2), Err(3)),
+    ((1, 2, 64), Err(2)),
+    ((1, 0, 2), Err(2)),
+    ((1, 2, 1), Err(20)),
+    ((1, 1, 2), Err(20)),
+];
+
 #[test]
 fn a_process_is_put_into_directories(rt: HostRuntime) -> Result<(), Fail> {
-    for (row, wanted) in [
-        ((1, 1, 1), Ok(0)),
-        ((2, 64, 2), Err(3)),
-        ((1, 2, 64), Err(2)),
-        ((1, 0, 2), Err(2)),
-        ((1, 2, 1), Err(20)),
-        ((1, 1, 2), Err(20)),
-    ] {
+    for &(row, wanted) in &DIRECTORIES {
         let found = entered(rt.alloc(), row)?;
         assert!(rt; found == wanted, "{row:?}: {found:?}");
     }

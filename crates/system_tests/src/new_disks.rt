@@ -53,21 +53,24 @@ fn outcome_of(alloc: Global, sectors: u32, inodes: u32) -> Result<Result<(), Mkf
     Ok(mkfs(&mut disk, inodes))
 }
 
+// Sectors and inodes, and what is answered.
+static SIZES: [(u32, u32, Result<(), MkfsFault>); 10] = [
+    (1023, 64, Err(MkfsFault::BadSize)),
+    (65537, 64, Err(MkfsFault::BadSize)),
+    (1023, 15, Err(MkfsFault::BadSize)),
+    (1024, 15, Err(MkfsFault::BadInodes)),
+    (1024, 4097, Err(MkfsFault::BadInodes)),
+    (1024, 4096, Err(MkfsFault::TooSmall)),
+    // The data would begin at 961.
+    (1024, 3321, Err(MkfsFault::TooSmall)),
+    (1024, 3320, Ok(())),
+    (1024, 16, Ok(())),
+    (65536, 4096, Ok(())),
+];
+
 #[test]
 fn sizes_and_inodes_out_of_range_are_refused(rt: HostRuntime) -> Result<(), Fail> {
-    for (sectors, inodes, wanted) in [
-        (1023, 64, Err(MkfsFault::BadSize)),
-        (65537, 64, Err(MkfsFault::BadSize)),
-        (1023, 15, Err(MkfsFault::BadSize)),
-        (1024, 15, Err(MkfsFault::BadInodes)),
-        (1024, 4097, Err(MkfsFault::BadInodes)),
-        (1024, 4096, Err(MkfsFault::TooSmall)),
-        // The data would begin at 961.
-        (1024, 3321, Err(MkfsFault::TooSmall)),
-        (1024, 3320, Ok(())),
-        (1024, 16, Ok(())),
-        (65536, 4096, Ok(())),
-    ] {
+    for &(sectors, inodes, wanted) in &SIZES {
         let outcome = outcome_of(rt.alloc(), sectors, inodes)?;
         assert!(rt; outcome == wanted, "{sectors} {inodes}: {outcome:?}");
     }
@@ -100,7 +103,7 @@ fn first_other<D: Disk>(
 }
 
 // Sectors and offsets of a new disk that was used before, and the bytes from there on.
-const BYTES: [(u32, usize, &[u8]); 11] = [
+static BYTES: [(u32, usize, &[u8]); 11] = [
     // Magic, version 2, 1,024 sectors, 64 inodes.
     (0, 0, b"INOS\x02\0\0\0\0\x04\0\0\x40\0\0\0\0"),
     // No targets.
@@ -168,28 +171,50 @@ fn made_both_ways(alloc: Global, passes: u64) -> Result<[(bool, [u8; 512]); 2], 
     Ok([zeros, ones])
 }
 
+// What is in sector 0.
+#[derive(Clone, Copy)]
+enum Front {
+    // What was there.
+    Used,
+    // Zeros.
+    Zeros,
+    // The superblock.
+    New,
+}
+
+fn content_at(front: Front) -> [u8; 512] {
+    match front {
+        Front::Used => USED,
+        Front::Zeros => NONE,
+        Front::New => new_superblock(),
+    }
+}
+
+// What passes of zeros into sector 0 and a sync; sector 1, 18 sectors of tables and a sync; the superblock and a sync. Then
+// whether a file system is made, and what is in sector 0 after a stop that leaves the old contents, and the new ones.
+static STOPS: [(u64, bool, Front, Front); 9] = [
+    (0, false, Front::Used, Front::Zeros),
+    (1, false, Front::Used, Front::Zeros),
+    (2, false, Front::Zeros, Front::Zeros),
+    (3, false, Front::Zeros, Front::Zeros),
+    (20, false, Front::Zeros, Front::Zeros),
+    (21, false, Front::Zeros, Front::Zeros),
+    (22, false, Front::Zeros, Front::New),
+    (23, false, Front::Zeros, Front::New),
+    (24, true, Front::New, Front::New),
+];
+
 #[test]
 fn a_stop_leaves_what_was_there_or_no_superblock_or_the_new_disk(
     rt: HostRuntime,
 ) -> Result<(), Fail> {
-    let new = new_superblock();
-    // Zeros into sector 0 and a sync; sector 1, 18 sectors of tables and a sync; the superblock and a sync.
-    for (passes, made, zeros_chosen, ones_chosen) in [
-        (0, false, USED, NONE),
-        (1, false, USED, NONE),
-        (2, false, NONE, NONE),
-        (3, false, NONE, NONE),
-        (20, false, NONE, NONE),
-        (21, false, NONE, NONE),
-        (22, false, NONE, new),
-        (23, false, NONE, new),
-        (24, true, new, new),
-    ] {
+    for &(passes, made, zeros_chosen, ones_chosen) in &STOPS {
         let seen = made_both_ways(rt.alloc(), passes)?;
-        assert!(rt;
-            seen == [(made, zeros_chosen), (made, ones_chosen)],
-            "{passes}"
-        );
+        let wanted = [
+            (made, content_at(zeros_chosen)),
+            (made, content_at(ones_chosen)),
+        ];
+        assert!(rt; seen == wanted, "{passes}");
     }
     Ok(())
 }

@@ -116,7 +116,7 @@ fn are_answered(
 }
 
 // Which call, how often, and what the first of them answers.
-const ROWS: [(Step, u64, Result<u64, Errno>); 50] = [
+static ROWS: [(Step, u64, Result<u64, Errno>); 50] = [
     // Numbers rise from 1, and there are 64 processes.
     (Step::Spawn, 64, Ok(1)),
     (Step::Spawn, 2, Err(Errno::EAGAIN)),

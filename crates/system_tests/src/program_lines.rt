@@ -19,7 +19,7 @@ use std::{env, fs, mem, process};
 const FINDING: Finding = Finding { rule: 6, at: 147 };
 
 // What is printed where a job isn't done.
-const FAILURES: [(Failure, &str); 23] = [
+static FAILURES: [(Failure, &str); 23] = [
     (Failure::Exists, "image: exists"),
     (Failure::NotCreated, "image: cannot create"),
     (Failure::NotOpened, "image: cannot open"),
@@ -211,7 +211,7 @@ const THEN: &str = "spawn 0 0\n1 open /d/f r\n1 read 0 100\n";
 const READ: &str = "0\npid 1\nfd 0\ndata hello\n";
 
 // What becomes of a file, the words, the standard input, and what is seen.
-const ROWS: [(Change, &str, &str, &str); 29] = [
+static ROWS: [(Change, &str, &str, &str); 29] = [
     (
         Change::Nothing,
         "mkfs @d --sectors 1024 --inodes 64",
@@ -369,6 +369,17 @@ impl Write for NoWriter {
     }
 }
 
+// What fails.
+#[derive(Clone, Copy)]
+enum Failing {
+    // Nothing can be read.
+    Reader,
+    // Nothing can be written.
+    Writer,
+    // A commit fails.
+    Disk,
+}
+
 // What is seen where nothing can be written.
 fn unwritten(rt: &HostRuntime) -> Result<String, Fail> {
     let alloc = rt.alloc();
@@ -414,15 +425,32 @@ fn halted(alloc: Global) -> Result<String, Fail> {
     Ok(format!(in alloc; "{out}{end}")?)
 }
 
+// What is seen where something fails.
+fn seen_failing(rt: &HostRuntime, failing: Failing) -> Result<String, Fail> {
+    match failing {
+        Failing::Reader => seen(rt, "", "", &mut NoReader),
+        Failing::Writer => unwritten(rt),
+        Failing::Disk => halted(rt.alloc()),
+    }
+}
+
+// What fails, and what is seen.
+static FAILING: [(Failing, &str, &str); 3] = [
+    (Failing::Reader, "unread", "3\nrun: ReadFault\n"),
+    (Failing::Writer, "unwritten", "3\nrun: WriteFault\n"),
+    (
+        Failing::Disk,
+        "halted",
+        "pid 1\nok\nerror EIO 5\nunmount: EIO\n",
+    ),
+];
+
 // Adds what fails and is told otherwise.
 fn push_failing(rt: &HostRuntime, report: &mut String) -> Result<(), Fail> {
-    let unread = seen(rt, "", "", &mut NoReader)?;
-    push_other_text(report, "unread", unread, "3\nrun: ReadFault\n")?;
-    let unwritten = unwritten(rt)?;
-    push_other_text(report, "unwritten", unwritten, "3\nrun: WriteFault\n")?;
-    let halted = halted(rt.alloc())?;
-    let wanted = "pid 1\nok\nerror EIO 5\nunmount: EIO\n";
-    push_other_text(report, "halted", halted, wanted)?;
+    for &(failing, name, wanted) in &FAILING {
+        let seen = seen_failing(rt, failing)?;
+        push_other_text(report, name, seen, wanted)?;
+    }
     Ok(())
 }
 

@@ -71,7 +71,7 @@ fn told_fault(alloc: Global, fault: &WordsFault) -> Result<String, AllocError> {
 // ---- what is asked for
 
 // Lines, and what they ask for.
-const JOBS: [(&str, &str); 14] = [
+static JOBS: [(&str, &str); 14] = [
     ("inofs", "memory"),
     (
         "inofs mkfs a.img --sectors 1024 --inodes 16",
@@ -101,7 +101,7 @@ const JOBS: [(&str, &str); 14] = [
 ];
 
 // Lines that ask for no job.
-const BAD: [&str; 36] = [
+static BAD: [&str; 36] = [
     "inofs mkfs",
     "inofs mkfs a.img",
     "inofs mkfs a.img --sectors 1024",
@@ -141,7 +141,7 @@ const BAD: [&str; 36] = [
 ];
 
 // Lines that ask for help or the version.
-const SHOWN: [&str; 9] = [
+static SHOWN: [&str; 9] = [
     "inofs --help",
     "inofs -h",
     "inofs --version",
@@ -224,7 +224,7 @@ Options:
 ";
 
 // Lines that ask for no job, and what is printed.
-const TEXTS: [(&str, &str); 6] = [
+static TEXTS: [(&str, &str); 6] = [
     ("inofs --help", HELP),
     ("inofs mkfs --help", MKFS_HELP),
     ("inofs fuse --help", FUSE_HELP),
@@ -278,14 +278,18 @@ fn expect_texts(alloc: Global, report: &mut String) -> Result<(), AllocError> {
     Ok(())
 }
 
+fn expect_all(alloc: Global, report: &mut String) -> Result<(), AllocError> {
+    expect_jobs(alloc, report)?;
+    expect_each(alloc, report, &BAD, "bad 2")?;
+    expect_each(alloc, report, &SHOWN, "help 0")?;
+    expect_texts(alloc, report)
+}
+
 #[test]
 fn words_ask_for_jobs_or_are_answered_by_a_text(rt: HostRuntime) -> Result<(), Fail> {
     let alloc = rt.alloc();
     let mut report = String::new(alloc);
-    expect_jobs(alloc, &mut report)?;
-    expect_each(alloc, &mut report, &BAD, "bad 2")?;
-    expect_each(alloc, &mut report, &SHOWN, "help 0")?;
-    expect_texts(alloc, &mut report)?;
+    expect_all(alloc, &mut report)?;
     assert!(rt; report.is_empty(), "{report}");
     Ok(())
 }

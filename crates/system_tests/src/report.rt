@@ -3,12 +3,7 @@ use std::alloc::AllocError;
 use std::mem;
 
 // Adds to the report what a row comes to, where something other was seen than is wanted.
-pub(crate) fn push_other(
-    report: &mut String,
-    row: &str,
-    seen: &str,
-    wanted: &str,
-) -> Result<(), AllocError> {
+fn push_other(report: &mut String, row: &str, seen: &str, wanted: &str) -> Result<(), AllocError> {
     if seen == wanted {
         return Ok(());
     }

@@ -152,7 +152,7 @@ fn expect_run(
 }
 
 // What a reader gives, and what is seen.
-const SOURCES: [(Source<'static>, &str); 7] = [
+static SOURCES: [(Source<'static>, &str); 7] = [
     // Each fault of a line, the first of those that it has. A line has 4,097 bytes.
     (
         Source {
@@ -276,7 +276,7 @@ fn push_run_into(
 }
 
 // Scripts, and what each is written to.
-const SINKS: [(&[u8], Sink); 5] = [
+static SINKS: [(&[u8], Sink); 5] = [
     // The text of two replies, of six bytes and of 42, is flushed.
     (b"spawn 0 0\n1 stat /\n", WIDE),
     // A script without replies needs no room.
