@@ -15,10 +15,10 @@ use Rattle.std.proofs.Common.{refl, sym, ap, subst, ◌∙◌, inl, inr}
 use Rattle.std.specs.List.{list_any}
 use Rattle.std.specs.Option.{ok_or}
 use Rattle.std.specs.Ordering.{nat_cmp, is_eq}
-use Rattle.sector_disk.specs.Disk.{DiskState, HasFailed}
+use Rattle.sector_disk.specs.Disk.{DiskState}
 use Rattle.sector_disk.proofs.Moments.{failed_later}
 use Rattle.fs_cred.specs.declared.errno.Errno.{Errno}
-use Rattle.fs_cred.specs.declared.errno.Errno.TheVariants.{ESRCH, EBADF, EIO}
+use Rattle.fs_cred.specs.declared.errno.Errno.TheVariants.{ESRCH, EBADF}
 use Rattle.fs_cred.specs.declared.refusal.Refusal.{Refusal}
 use Rattle.fs_cred.specs.declared.refusal.Refusal.TheVariants.{Failed}
 use Rattle.fs_layout.specs.declared.inode.Inode.{Inode}

@@ -2,12 +2,11 @@
 --     checked_first, checked_second, checked_third, checked_all        some demands, then others, then one more
 --     link_says        the kind of an inode says whether it is a link
 --     refused_as        a refusal, whatever would be answered else
-use Rattle.std.specs.Prelude.{◌≡◌, List, [], ◌∷◌, ◌++◌, None, Result, Ok, Err, IsErr, IsErrAnd}
+use Rattle.std.specs.Prelude.{◌≡◌, List, [], ◌∷◌, ◌++◌, None, Ok, Err, IsErr, IsErrAnd}
 use Rattle.std.proofs.Common.{sym, ap, ◌∙◌, inl, inr}
 use Rattle.fs_cred.specs.declared.refusal.Refusal.{Refusal}
 use Rattle.sector_disk.specs.Disk.{DiskState}
 use Rattle.fs_layout.specs.declared.inode.Inode.{Inode}
-use Rattle.fs_layout.specs.declared.inode.Kind.TheVariants as kinds
 use Rattle.fs_layout.specs.Bytes.{SectorMap}
 use Rattle.fs_model.specs.Demands.{Demand, or_else, first_of}
 use Rattle.fs_model.specs.Nodes.{Body, File, Dir, Link, is_link}

@@ -4,7 +4,7 @@
 --     takes_one, takes_few, room_suffices        there is room: the disk alone can fail
 --     dir_below, apart_from_new, dir_kept, dir_still_held        the directory, once the inode is made
 --     set_group_says, default_is        what a directory gives to what is made in it
-use Rattle.std.specs.Prelude.{◌≡◌, ◌≢◌, ℕ, ◌+◌, ◌%◌, ◌^◌, ◌<◌, ◌≤◌, nat_eq, nat_le, ◌||◌, if◌then◌else◌, Bool, true, false, List, [], length, get_or, Option, None, Some, is_some, IsTrue, ◌-◌, ◌/◌, ◌==◌, cond}
+use Rattle.std.specs.Prelude.{◌≡◌, ◌≢◌, ℕ, ◌+◌, ◌%◌, ◌^◌, ◌<◌, ◌≤◌, nat_eq, nat_le, ◌||◌, if◌then◌else◌, Bool, true, false, List, [], length, get_or, Option, None, Some, is_some, IsTrue, ◌/◌, ◌==◌, cond}
 use Rattle.std.proofs.Common.{refl, sym, ap, arith, ◌∙◌, inl, inr}
 use Rattle.std.proofs.lemmas.Bool.{or_right, true≢false}
 use Rattle.posix_acl.specs.AccessList.{AccessList, mode_bits}

@@ -1,9 +1,7 @@
 -- What is shown of an object, as its inode says it.
-use Rattle.std.specs.Prelude.{◌≡◌, ◌≢◌, ℕ, length, Bool, true, false, not, [], ◌∷◌, Option, None, Some, is_some, unwrap_or, if◌then◌else◌, IsTrue, Result, Ok, Err}
+use Rattle.std.specs.Prelude.{◌≡◌, ◌≢◌, ℕ, length, Bool, true, false, not, Option, None, Some, is_some, unwrap_or, if◌then◌else◌, IsTrue, Ok}
 use Rattle.std.proofs.Common.{refl, sym, ap, subst, arith, ◌∙◌}
-use Rattle.sector_disk.specs.Disk.{DiskState}
 use Rattle.fs_cred.specs.declared.errno.Errno.TheVariants.{ENOENT}
-use Rattle.fs_cred.specs.declared.refusal.Refusal.{Refusal}
 use Rattle.fs_layout.specs.declared.inode.Inode.{Inode}
 use Rattle.fs_layout.specs.declared.inode.Kind.TheVariants as kinds
 use Rattle.fs_layout.specs.declared.place.Place.{Place}
@@ -13,7 +11,7 @@ use Rattle.fs_model.specs.declared.reply.FileType.{FileType}
 use Rattle.fs_model.specs.declared.reply.FileType.TheVariants as types
 use Rattle.fs_model.specs.declared.reply.Status.{Status}
 use Rattle.fs_model.specs.declared.walk.Found.{Found}
-use Rattle.fs_model.specs.Demands.{Demand, refuse, first_of}
+use Rattle.fs_model.specs.Demands.{refuse, first_of}
 use Rattle.fs_model.specs.declared.reply.Reply.TheVariants.{Shown}
 use Rattle.fs_model.specs.AttributeCalls.{stat_demands, stat_effect}
 use Rattle.fs_model.specs.Processes.{Process}
@@ -25,7 +23,7 @@ use Rattle.fs_model.specs.Kinds.{kind_of_type, type_of_kind}
 use Rattle.fs_model.specs.Nodes.{Node, Body, File, Dir, Link, is_directory, shown_mode, shown_size, type_of}
 use Rattle.fs_model.specs.StoredNodes.{HoldsBody, HoldsNode, names_field}
 use Rattle.fs_model.specs.Trees.{Tree, node_at, names_of, parent}
-use Rattle.path_walk.specs.Answers.{refused_or, IsAnswered}
+use Rattle.path_walk.specs.Answers.{refused_or}
 use Rattle.call_parts.specs.Reaching.{IsInodeFound}
 use Rattle.path_walk.specs.HeldTrees.{HoldsTree, IsThere}
 use Rattle.call_parts.specs.Paths.{scene_at}

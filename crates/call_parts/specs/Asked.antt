@@ -3,7 +3,7 @@
 --     owner_asked        to own it or to give away what is another's, and then to give it this owner and this group
 --     holder_asked, acl_space_asked        to give it an ACL
 --     sticky_asked        to take it from a directory with S_ISVTX
-use Rattle.std.specs.Prelude.{ℕ, nat_lt, not, ◌&&◌, List, [], ◌∷◌, Option, ◌-◌, ◌/◌, ◌%◌, ◌==◌}
+use Rattle.std.specs.Prelude.{ℕ, nat_lt, not, ◌&&◌, List, [], ◌∷◌, Option, ◌/◌, ◌%◌, ◌==◌}
 use Rattle.posix_acl.specs.AccessList.{AccessList}
 use Rattle.fs_cred.specs.declared.errno.Errno.TheVariants.{ENOSPC, ENOTDIR}
 use Rattle.fs_cred.specs.declared.refusal.Need.TheVariants.{Own, Chown, Chgrp, Remove}

@@ -2,7 +2,6 @@
 --     make_asked, room_asked        asked of a directory in which something is made, or gets a name
 --     CanMake        a directory in which a name may be made
 use Rattle.std.specs.Prelude.{◌≡◌, ◌≢◌, ℕ, ◌<◌, ◌≤◌, List, [], length, None, ◌==◌, nat_lt, nat_le, ◌∷◌}
-use Rattle.fs_layout.specs.declared.inode.Kind.TheVariants as kinds
 use Rattle.fs_layout.specs.declared.place.Place.{Place}
 use Rattle.fs_layout.specs.Bytes.{SectorMap}
 use Rattle.fs_layout.specs.Directories.{IsName}

@@ -7,7 +7,7 @@
 --     WalksBoth, RefusesBoth, HasWalkedBoth        the same of a call by two paths
 --     bad_for, opens_for        what a descriptor has to be open for, and what an open file is open for
 --     ActsOn, IsNotOpen, RefusesOpen, IsOpened, IsOpenFor, HasOpened        the same of a call by a descriptor
-use Rattle.std.specs.Prelude.{◌≡◌, ℕ, Bool, true, List, [], ◌∷◌, None, Some, IsTrue, Result, Ok}
+use Rattle.std.specs.Prelude.{◌≡◌, ℕ, Bool, true, List, ◌∷◌, None, Some, IsTrue, Result, Ok}
 use Rattle.std.specs.Ordering.{nat_cmp}
 use Rattle.sector_disk.specs.Disk.{DiskState}
 use Rattle.fs_cred.specs.declared.refusal.Refusal.{Refusal}

@@ -4,15 +4,13 @@
 --     removal_absent, removal_slashed, removal_denied, removal_sticky        one of the demands refuses
 --     removal_met        all are met
 --     directory_checked        what remains to be asked of a directory
-use Rattle.std.specs.Prelude.{◌≡◌, ℕ, ◌+◌, ◌-◌, ◌/◌, ◌%◌, ◌<◌, ◌==◌, Bool, true, false, not, ◌&&◌, cond, List, [], ◌∷◌, Option, None, is_some, IsTrue, Result, Ok, Err}
-use Rattle.std.proofs.Common.{refl, sym, ap, subst, arith, ◌∙◌, inl}
+use Rattle.std.specs.Prelude.{◌≡◌, ℕ, ◌+◌, ◌-◌, ◌/◌, ◌%◌, ◌<◌, ◌==◌, Bool, true, false, not, ◌&&◌, cond, List, [], ◌∷◌, Option, None, is_some, IsTrue, Ok}
+use Rattle.std.proofs.Common.{refl, sym, ap, arith, ◌∙◌}
 use Rattle.fs_cred.specs.declared.errno.Errno.TheVariants.{EBUSY, ENOTDIR, ENOTEMPTY}
-use Rattle.fs_cred.specs.declared.refusal.Need.TheVariants.{Perm, Remove}
+use Rattle.fs_cred.specs.declared.refusal.Need.TheVariants.{Remove}
 use Rattle.fs_cred.specs.declared.refusal.Refusal.{Refusal}
-use Rattle.fs_cred.specs.declared.rule.Rule.{Rule}
 use Rattle.fs_cred.specs.Credentials.{Credential}
 use Rattle.fs_cred.specs.Ownership.{sticky_allows}
-use Rattle.fs_cred.specs.Verdicts.{verdict}
 use Rattle.posix_acl.specs.AccessList.{mode_bits}
 use Rattle.fs_layout.specs.declared.inode.TheConstants.{S_ISGID, S_ISVTX}
 use Rattle.fs_layout.specs.declared.inode.Inode.{Inode}
@@ -24,7 +22,7 @@ use Rattle.fs_layout.specs.Images.{inode_at}
 use Rattle.fs_layout.proofs.OneAcl.{mode_small}
 use Rattle.fs_model.specs.declared.walk.Found.{Found}
 use Rattle.fs_model.specs.Births.{the_node, the_directory}
-use Rattle.fs_model.specs.Demands.{Demand, refuse, or_else, first_of, decided, allowed_by, permission_of, permission_on, write_and_search}
+use Rattle.fs_model.specs.Demands.{Demand, refuse, or_else, first_of, allowed_by, permission_on, write_and_search}
 use Rattle.fs_model.specs.Kinds.{kind_of_type}
 use Rattle.fs_model.specs.Nodes.{Node, Body, File, Dir, Link, is_directory, type_of, shown_mode}
 use Rattle.fs_model.specs.Parts.{is_empty}
@@ -32,14 +30,11 @@ use Rattle.fs_model.specs.Rules.{is_directory_kind}
 use Rattle.fs_model.specs.Scenes.{is_found, number, must_be_there}
 use Rattle.fs_model.specs.StoredNodes.{HoldsBody}
 use Rattle.fs_model.specs.Trees.{Tree, IsDirectoryAt}
-use Rattle.path_walk.specs.Answers.{refused_or}
-use Rattle.path_walk.specs.HeldTrees.{HoldsTree, HasAccess}
+use Rattle.path_walk.specs.HeldTrees.{HoldsTree}
 use Rattle.call_parts.proofs.Calling.{or_else-none, both_met}
 use Rattle.call_parts.proofs.Refuses.{Refuses, refuses_first, refuses_next, demand_met}
 use Rattle.path_walk.proofs.HeldNodes.{held_node}
-use Rattle.call_parts.proofs.Followed.{IsAccessed, accessed_is}
 use Rattle.call_parts.specs.Reaching.{checked, IsInodeFound}
-use Rattle.call_parts.proofs.MakeAsked.{dir_access, dir_held}
 use Rattle.call_parts.proofs.Ownership.{IsNode, node_of}
 use Rattle.call_parts.proofs.Shown.{body_kind, the_node_is}
 use Rattle.name_calls.specs.Removing.{IsNamedThere, removal_asked, directory_asked}

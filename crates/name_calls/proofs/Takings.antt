@@ -14,13 +14,12 @@ use Rattle.fs_layout.specs.declared.place.Place.{Place}
 use Rattle.fs_layout.specs.Bytes.{SectorMap}
 use Rattle.fs_layout.specs.Directories.{HasNames}
 use Rattle.fs_layout.specs.Images.{inode_at}
-use Rattle.fs_layout.specs.Maps.{name_cmp, get, without}
+use Rattle.fs_layout.specs.Maps.{name_cmp, without}
 use Rattle.fs_layout.proofs.NameMaps.{once_same}
 use Rattle.fs_layout.proofs.Saves.{inode_kept}
 use Rattle.sector_txn.specs.Sectors.{TxnState}
 use Rattle.bit_alloc.specs.declared.bitmap.Bitmap.TheVariants.{Inodes}
 use Rattle.bit_alloc.specs.Bitmaps.{IsNumber}
-use Rattle.dir_core.specs.declared.fault.DirFault.TheVariants as faults
 use Rattle.fs_model.specs.TreeChanges.{TakeName, changed, swept, lives_nameless}
 use Rattle.fs_model.specs.Limits.{root}
 use Rattle.fs_model.specs.Nodes.{Node, Body, File, Dir, Link, is_directory, names_in}

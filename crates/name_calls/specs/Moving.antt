@@ -8,7 +8,7 @@ use Rattle.fs_layout.specs.declared.inode.Kind.TheVariants as kinds
 use Rattle.fs_layout.specs.declared.place.Place.{Place}
 use Rattle.fs_layout.specs.Bytes.{SectorMap, IsBytes}
 use Rattle.fs_layout.specs.InodeChanges.{ChangesInode}
-use Rattle.fs_layout.specs.Directories.{IsName, HasNames}
+use Rattle.fs_layout.specs.Directories.{IsName}
 use Rattle.fs_layout.specs.Images.{bit, free_sectors, inode_at, inode_bitmap}
 use Rattle.fs_layout.specs.Maps.{name_cmp, get, with_entry, without}
 use Rattle.bit_alloc.specs.Inodes.{KeepsBytes, KeepsAcls}
