@@ -4,6 +4,7 @@
 --     IsDone        nothing refuses the call, and the map holds the tree after it
 --     IsRefused        why the call is refused
 --     Performs        the whole
+--     IsReadyFor, PerformsFor        the same of a caller, and of a call that leaves all processes as they are
 --     is_on_names        whether a call is on names, or else on files, descriptors and processes
 use Rattle.std.specs.Prelude.{◌≡◌, ℕ, Bool, true, false, None, Some, IsTrue, IsFalse, Result, MatchResult, OnOk, OnErr}
 use Rattle.sector_disk.specs.Disk.{DiskState, HasFailed}
@@ -25,6 +26,7 @@ use Rattle.fs_model.specs.Stands.{HoldsAll, placed, room_of}
 use Rattle.fs_model.specs.Steps.{Choice, HasNewNumber, after, asks_in_call, firm_refusal, other_refusal}
 use Rattle.bit_alloc.specs.Inodes.{IsSound}
 use Rattle.bit_alloc.specs.Room.{HasSpare}
+use Rattle.call_parts.specs.declared.caller.Caller.{Caller}
 
 -- a state that runs: its tree is what the map holds, and its processes are those of the table
 pub record IsStateOf (p : Place) (map : SectorMap) (desks : Desks) (s : State) : Type 0 where
@@ -71,6 +73,14 @@ pub record Performs (p : Place) (pid : ℕ) (call : Call) (old new : TxnState) (
   pub table : OnErr result (now ≡ before)
   pub each : (s : State) → IsStateOf p old.sectors before s
       → MatchResult result (λ reply. IsDone p new.sectors now s pid call reply) (λ r. IsRefused old.disk new.disk s pid call r)
+
+-- A caller's call may be performed.
+abbrev pub IsReadyFor : Caller → TxnState → Type 0
+IsReadyFor c txn = IsReady c.place txn c.procs.now
+
+-- A caller's call, which leaves all processes as they are, whatever it answers.
+abbrev pub PerformsFor : Caller → Call → TxnState → TxnState → Result Reply Refusal → Type 0
+PerformsFor c call old new result = Performs c.place c.pid call old new c.procs.now c.procs.now result
 
 -- whether the call is on directories and what they name
 abbrev pub is_on_names : Call → Bool

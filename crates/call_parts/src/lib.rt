@@ -6,6 +6,7 @@
 //! made, named, counted or freed.
 #![tactic(auto)]
 
+mod caller;
 mod checks;
 mod dropping;
 mod found;
@@ -14,6 +15,7 @@ mod naming;
 mod reaching;
 mod space;
 
+pub use caller::{CallResult, Caller};
 pub use checks::{
     WRITE_AND_SEARCH, allowed_by, check_is_directory, check_mode, check_no_directory, check_slash,
     check_sticky, permitted, refuse_if,

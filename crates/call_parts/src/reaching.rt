@@ -3,19 +3,19 @@
 ghost use Rattle.std.specs.Prelude.{◌≡◌, Result, IfOk, IfErr};
 ghost use Rattle.call_parts.specs.DiskWords.{IsUnchanged};
 ghost use Rattle.call_parts.specs.ModelWords.{State, IsTable};
-ghost use Rattle.call_parts.specs.Performing.{IsReady, IsStateOf};
+ghost use Rattle.call_parts.specs.Performing.{IsStateOf, IsReadyFor};
 ghost use Rattle.call_parts.specs.Reaching.{RefusesWalk, RefusesReach, RefusesOwned, HasWalked, HasReached, HasOwned, RefusesBoth, HasWalkedBoth, IsNotOpen, RefusesOpen, IsOpenFor, HasOpened, opens_for};
 
+use crate::caller::Caller;
 use crate::checks::allowed_by;
 use crate::found::{find, inode_found};
 use crate::naming::find_names;
 use fs_cred::{Errno, Need, Refusal, may_own};
-use fs_layout::{Inode, Place};
+use fs_layout::Inode;
 use fs_model::{Form, Found, Path};
 use open_files::{Descriptor, Process, Procs};
 use path_walk::load_inode;
 use sector_txn::Sectors;
-use std::alloc::Global;
 
 /// The process that calls, and what its path leads to.
 #[derive(Drop)]
@@ -49,52 +49,48 @@ pub enum OpenFor {
     Writing,
 }
 
-/// What the path of a call leads to, for the process of this number, once the checks of the call's arguments are passed: they
-/// have answered `checks`. At `Err` it is the refusal of whichever call walks so.
+/// What the path of a call leads to, for its caller, once the checks of the call's arguments are passed: they have answered
+/// `checks`. At `Err` it is the refusal of whichever call walks so.
 pub fn walk_path<'a, S: Sectors>(
-    alloc: Global,
     s: &mut S,
-    place: Place,
-    procs: &'a Procs,
-    pid: usize,
+    caller: &Caller<'a>,
     checks: Result<(), Refusal>,
     path: &Path,
     form: Form,
 ) -> Result<Walked<'a>, Refusal>
-    requires ready { IsReady place (S.state s.old) procs.now }
-    ensures refused { IfErr result (λ e. (st : State) → IsStateOf place (S.state s.old).sectors procs.now st
-        → RefusesWalk (S.state s.old).disk (S.state s.new).disk st pid checks form path.now e) }
-    ensures walked { IfOk result (λ w. HasWalked place (S.state s.new) procs.now pid checks form path.now
-        w.process.now w.found) }
+    requires ready { IsReadyFor caller.now (S.state s.old) }
+    ensures refused { IfErr result (λ e. (st : State)
+        → IsStateOf caller.now.place (S.state s.old).sectors caller.now.procs.now st
+        → RefusesWalk (S.state s.old).disk (S.state s.new).disk st caller.now.pid checks form path.now e) }
+    ensures walked { IfOk result (λ w. HasWalked caller.now.place (S.state s.new)
+        caller.now.procs.now caller.now.pid checks form path.now w.process.now w.found) }
     ensures same { IsUnchanged (S.state s.old) (S.state s.new) }
 {
     let _bytes = path.bytes();
-    let process = procs.process(pid)?;
+    let process = caller.procs.process(caller.pid)?;
     checks?;
-    let found = find(alloc, s, place, process, path, form)?;
+    let found = find(caller.alloc, s, caller.place, process, path, form)?;
     Ok(Walked { process, found })
 }
 
 /// The same, where something has to be there, with its inode. ENOENT: nothing is.
 pub fn reach<'a, S: Sectors>(
-    alloc: Global,
     s: &mut S,
-    place: Place,
-    procs: &'a Procs,
-    pid: usize,
+    caller: &Caller<'a>,
     checks: Result<(), Refusal>,
     path: &Path,
     form: Form,
 ) -> Result<Reached<'a>, Refusal>
-    requires ready { IsReady place (S.state s.old) procs.now }
-    ensures refused { IfErr result (λ e. (st : State) → IsStateOf place (S.state s.old).sectors procs.now st
-        → RefusesReach (S.state s.old).disk (S.state s.new).disk st pid checks form path.now e) }
-    ensures reached { IfOk result (λ r. HasReached place (S.state s.new) procs.now pid checks form path.now
-        r.process.now r.found r.number r.inode) }
+    requires ready { IsReadyFor caller.now (S.state s.old) }
+    ensures refused { IfErr result (λ e. (st : State)
+        → IsStateOf caller.now.place (S.state s.old).sectors caller.now.procs.now st
+        → RefusesReach (S.state s.old).disk (S.state s.new).disk st caller.now.pid checks form path.now e) }
+    ensures reached { IfOk result (λ r. HasReached caller.now.place (S.state s.new)
+        caller.now.procs.now caller.now.pid checks form path.now r.process.now r.found r.number r.inode) }
     ensures same { IsUnchanged (S.state s.old) (S.state s.new) }
 {
-    let Walked { process, found } = walk_path(alloc, s, place, procs, pid, checks, path, form)?;
-    let (number, inode) = inode_found(s, place, &found)?;
+    let Walked { process, found } = walk_path(s, caller, checks, path, form)?;
+    let (number, inode) = inode_found(s, caller.place, &found)?;
     Ok(Reached {
         process,
         found,
@@ -105,23 +101,21 @@ pub fn reach<'a, S: Sectors>(
 
 /// The same, where the caller may change its mode, owner and ACLs.
 pub fn reach_owned<'a, S: Sectors>(
-    alloc: Global,
     s: &mut S,
-    place: Place,
-    procs: &'a Procs,
-    pid: usize,
+    caller: &Caller<'a>,
     checks: Result<(), Refusal>,
     path: &Path,
     form: Form,
 ) -> Result<Reached<'a>, Refusal>
-    requires ready { IsReady place (S.state s.old) procs.now }
-    ensures refused { IfErr result (λ e. (st : State) → IsStateOf place (S.state s.old).sectors procs.now st
-        → RefusesOwned (S.state s.old).disk (S.state s.new).disk st pid checks form path.now e) }
-    ensures owned { IfOk result (λ r. HasOwned place (S.state s.new) procs.now pid checks form path.now
-        r.process.now r.found r.number r.inode) }
+    requires ready { IsReadyFor caller.now (S.state s.old) }
+    ensures refused { IfErr result (λ e. (st : State)
+        → IsStateOf caller.now.place (S.state s.old).sectors caller.now.procs.now st
+        → RefusesOwned (S.state s.old).disk (S.state s.new).disk st caller.now.pid checks form path.now e) }
+    ensures owned { IfOk result (λ r. HasOwned caller.now.place (S.state s.new)
+        caller.now.procs.now caller.now.pid checks form path.now r.process.now r.found r.number r.inode) }
     ensures same { IsUnchanged (S.state s.old) (S.state s.new) }
 {
-    let reached = reach(alloc, s, place, procs, pid, checks, path, form)?;
+    let reached = reach(s, caller, checks, path, form)?;
     let answer = may_own(reached.process.cred(), reached.inode.uid);
     allowed_by(1, reached.found.step, Need::Own, answer)?;
     Ok(reached)
@@ -130,23 +124,21 @@ pub fn reach_owned<'a, S: Sectors>(
 /// What both paths of a call lead to, links at their ends among that, and the directories that name it. Both are checked before
 /// the first is walked. At `Err` it is the refusal of whichever call walks so.
 pub fn walk_both<'a, S: Sectors>(
-    alloc: Global,
     s: &mut S,
-    place: Place,
-    procs: &'a Procs,
-    pid: usize,
+    caller: &Caller<'a>,
     old: &Path,
     new: &Path,
 ) -> Result<WalkedBoth<'a>, Refusal>
-    requires ready { IsReady place (S.state s.old) procs.now }
-    ensures refused { IfErr result (λ e. (st : State) → IsStateOf place (S.state s.old).sectors procs.now st
-        → RefusesBoth (S.state s.old).disk (S.state s.new).disk st pid old.now new.now e) }
-    ensures walked { IfOk result (λ w. HasWalkedBoth place (S.state s.new) procs.now pid old.now new.now
-        w.process.now w.first w.second) }
+    requires ready { IsReadyFor caller.now (S.state s.old) }
+    ensures refused { IfErr result (λ e. (st : State)
+        → IsStateOf caller.now.place (S.state s.old).sectors caller.now.procs.now st
+        → RefusesBoth (S.state s.old).disk (S.state s.new).disk st caller.now.pid old.now new.now e) }
+    ensures walked { IfOk result (λ w. HasWalkedBoth caller.now.place (S.state s.new)
+        caller.now.procs.now caller.now.pid old.now new.now w.process.now w.first w.second) }
     ensures same { IsUnchanged (S.state s.old) (S.state s.new) }
 {
-    let process = procs.process(pid)?;
-    let (first, second) = find_names(alloc, s, place, process, old, new)?;
+    let process = caller.procs.process(caller.pid)?;
+    let (first, second) = find_names(caller.alloc, s, caller.place, process, old, new)?;
     Ok(WalkedBoth {
         process,
         first,
@@ -187,19 +179,19 @@ pub fn find_open(
 /// The same, with its inode. EIO: the disk has failed.
 pub fn reach_open<S: Sectors>(
     s: &mut S,
-    place: Place,
-    procs: &Procs,
-    pid: usize,
+    caller: &Caller,
     fd: usize,
     purpose: OpenFor,
 ) -> Result<(Descriptor, Inode), Refusal>
-    requires ready { IsReady place (S.state s.old) procs.now }
-    ensures refused { IfErr result (λ e. (st : State) → IsStateOf place (S.state s.old).sectors procs.now st
-        → RefusesOpen (S.state s.old).disk (S.state s.new).disk st pid fd purpose e) }
-    ensures opened { IfOk result (λ r. HasOpened place (S.state s.new) procs.now pid fd purpose r.0 r.1) }
+    requires ready { IsReadyFor caller.now (S.state s.old) }
+    ensures refused { IfErr result (λ e. (st : State)
+        → IsStateOf caller.now.place (S.state s.old).sectors caller.now.procs.now st
+        → RefusesOpen (S.state s.old).disk (S.state s.new).disk st caller.now.pid fd purpose e) }
+    ensures opened { IfOk result (λ r. HasOpened caller.now.place (S.state s.new)
+        caller.now.procs.now caller.now.pid fd purpose r.0 r.1) }
     ensures same { IsUnchanged (S.state s.old) (S.state s.new) }
 {
-    let descriptor = find_open(procs, pid, fd, purpose)?;
-    let inode = load_inode(s, place, descriptor.number)?;
+    let descriptor = find_open(caller.procs, caller.pid, fd, purpose)?;
+    let inode = load_inode(s, caller.place, descriptor.number)?;
     Ok((descriptor, inode))
 }

@@ -10,16 +10,15 @@ ghost use Rattle.fs_model.specs.AttributeCalls.{acl_shown, needs_sector, set_acl
 ghost use Rattle.fs_model.specs.Demands.{first_of};
 ghost use Rattle.fs_model.specs.Nodes.{Body, default_in};
 ghost use Rattle.path_walk.specs.Words.{inode_at, free_sectors, SameStore, IsUnchanged, HasBitmaps, IsSound, HasSpare, HasAcl, acl_takes, IsInodeOf, refused_or, Interrupts, IsAnswered};
-ghost use Rattle.call_parts.specs.Performing.{IsReady, Performs};
+ghost use Rattle.call_parts.specs.Performing.{IsReadyFor, PerformsFor};
 ghost use Rattle.call_parts.specs.Asked.{holder_asked, acl_space_asked};
 ghost use Rattle.call_parts.specs.Given.{SavesAcl, SavesDefaultAcl, HasBody};
 
-use call_parts::{ask_for_sectors, default_of, reach, reach_owned};
+use call_parts::{CallResult, Caller, ask_for_sectors, default_of, reach, reach_owned};
 use fs_cred::{Errno, Refusal};
 use fs_layout::{Inode, Kind, Place};
 use fs_model::{AclType, Form, Path, Reply};
 use inode_table::{LoadAclFault, load_acl, save_acl, save_default_acl};
-use open_files::Procs;
 use posix_acl::Acl;
 use sector_txn::Sectors;
 use std::alloc::Global;
@@ -120,21 +119,13 @@ fn shown_acl<S: Sectors>(
 /// Reads an ACL of what a path leads to. ENOENT: the path leads to nothing.
 ///
 /// What is no directory has no default ACL, and a directory may have none.
-pub fn get_acl<S: Sectors>(
-    alloc: Global,
-    s: &mut S,
-    place: Place,
-    procs: &Procs,
-    pid: usize,
-    path: &Path,
-    which: AclType,
-) -> Result<Reply, Refusal>
-    requires ready { IsReady place (S.state s.old) procs.now }
-    ensures performs { Performs place pid (GetAcl path.now which) (S.state s.old) (S.state s.new) procs.now procs.now result }
+pub fn get_acl<S: Sectors>(s: &mut S, caller: &Caller, path: &Path, which: AclType) -> CallResult
+    requires ready { IsReadyFor caller.now (S.state s.old) }
+    ensures performs { PerformsFor caller.now (GetAcl path.now which) (S.state s.old) (S.state s.new) result }
     ensures same { IsUnchanged (S.state s.old) (S.state s.new) }
 {
-    let reached = reach(alloc, s, place, procs, pid, Ok(()), path, Form::Follow)?;
-    let acl = shown_acl(alloc, s, place, &reached.inode, which)?;
+    let reached = reach(s, caller, Ok(()), path, Form::Follow)?;
+    let acl = shown_acl(caller.alloc, s, caller.place, &reached.inode, which)?;
     Ok(Reply::Acl(acl))
 }
 
@@ -246,24 +237,20 @@ fn replace_acl<S: Sectors>(
 /// The permission bits of the mode become those of an access ACL. EINVAL: no access ACL is given. ENOENT: the path leads to
 /// nothing. ENOTDIR: a default ACL for what is no directory. ENOSPC: the ACL needs a sector, and fewer than 16 are free.
 pub fn set_acl<S: Sectors>(
-    alloc: Global,
     s: &mut S,
-    place: Place,
-    procs: &Procs,
-    pid: usize,
+    caller: &Caller,
     path: &Path,
     which: AclType,
     acl: Option<&Acl>,
-) -> Result<Reply, Refusal>
-    requires ready { IsReady place (S.state s.old) procs.now }
-    ensures { Performs place pid (SetAcl path.now which (option_copied acl.entry)) (S.state s.old) (S.state s.new)
-        procs.now procs.now result }
+) -> CallResult
+    requires ready { IsReadyFor caller.now (S.state s.old) }
+    ensures { PerformsFor caller.now (SetAcl path.now which (option_copied acl.entry)) (S.state s.old) (S.state s.new) result }
 {
     let checks = check_acl(which, acl);
-    let reached = reach_owned(alloc, s, place, procs, pid, checks, path, Form::Follow)?;
+    let reached = reach_owned(s, caller, checks, path, Form::Follow)?;
     let inode = reached.inode;
     check_holder(which, inode.kind)?;
-    ask_for_space(s, place, which, acl)?;
-    replace_acl(s, place, reached.number, &inode, which, acl)?;
+    ask_for_space(s, caller.place, which, acl)?;
+    replace_acl(s, caller.place, reached.number, &inode, which, acl)?;
     Ok(Reply::Done)
 }

@@ -5,19 +5,18 @@ ghost use Rattle.fs_model.specs.Demands.{first_of};
 ghost use Rattle.posix_acl.specs.AccessList.{AccessList, with_mode_bits};
 ghost use Rattle.fs_model.specs.declared.call.Call.TheVariants.{Chmod, Chown};
 ghost use Rattle.path_walk.specs.Words.{inode_at, SameStore, IsSound, HasSpare, HasAcl, refused_or, Interrupts};
-ghost use Rattle.call_parts.specs.Performing.{IsReady, Performs};
+ghost use Rattle.call_parts.specs.Performing.{IsReadyFor, PerformsFor};
 ghost use Rattle.call_parts.specs.Asked.{owner_asked};
 ghost use Rattle.call_parts.specs.Given.{GivesOwner, SavesAcl, special_mode};
 
 use crate::acls::{acl_of, give_acl};
-use call_parts::{allowed_by, check_mode, reach, reach_owned};
+use call_parts::{CallResult, Caller, allowed_by, check_mode, reach, reach_owned};
 use fs_cred::{
     Cred, Errno, Need, Refusal, keeps_set_group_id, may_chgrp, may_chown, owns_or_may_chown,
 };
 use fs_layout::{Inode, Kind, Place, S_ISGID, S_ISVTX};
 use fs_model::{Form, Path, Reply};
 use inode_table::save;
-use open_files::Procs;
 use sector_txn::Sectors;
 use std::alloc::Global;
 
@@ -108,23 +107,15 @@ fn give_mode<S: Sectors>(
 ///
 /// S_ISGID stays clear without an error where `keeps_set_group_id` says so. EINVAL: the mode has more bits than
 /// 07777. ENOENT: the path leads to nothing.
-pub fn chmod<S: Sectors>(
-    alloc: Global,
-    s: &mut S,
-    place: Place,
-    procs: &Procs,
-    pid: usize,
-    path: &Path,
-    mode: u16,
-) -> Result<Reply, Refusal>
-    requires ready { IsReady place (S.state s.old) procs.now }
-    ensures { Performs place pid (Chmod path.now mode) (S.state s.old) (S.state s.new) procs.now procs.now result }
+pub fn chmod<S: Sectors>(s: &mut S, caller: &Caller, path: &Path, mode: u16) -> CallResult
+    requires ready { IsReadyFor caller.now (S.state s.old) }
+    ensures { PerformsFor caller.now (Chmod path.now mode) (S.state s.old) (S.state s.new) result }
 {
     let checks = check_mode(mode);
-    let reached = reach_owned(alloc, s, place, procs, pid, checks, path, Form::Follow)?;
+    let reached = reach_owned(s, caller, checks, path, Form::Follow)?;
     let cred = reached.process.cred();
     let n = reached.number;
-    give_mode(alloc, s, place, cred, n, &reached.inode, mode)?;
+    give_mode(caller.alloc, s, caller.place, cred, n, &reached.inode, mode)?;
     Ok(Reply::Done)
 }
 
@@ -133,24 +124,21 @@ pub fn chmod<S: Sectors>(
 /// Who may is asked of `owns_or_may_chown`, `may_chown` and `may_chgrp`. S_ISGID and the ACLs stay. ENOENT: the path leads
 /// to nothing.
 pub fn chown<S: Sectors>(
-    alloc: Global,
     s: &mut S,
-    place: Place,
-    procs: &Procs,
-    pid: usize,
+    caller: &Caller,
     path: &Path,
     owner: Option<u32>,
     group: Option<u32>,
-) -> Result<Reply, Refusal>
-    requires ready { IsReady place (S.state s.old) procs.now }
-    ensures { Performs place pid (Chown path.now owner group) (S.state s.old) (S.state s.new) procs.now procs.now result }
+) -> CallResult
+    requires ready { IsReadyFor caller.now (S.state s.old) }
+    ensures { PerformsFor caller.now (Chown path.now owner group) (S.state s.old) (S.state s.new) result }
 {
-    let reached = reach(alloc, s, place, procs, pid, Ok(()), path, Form::Follow)?;
+    let reached = reach(s, caller, Ok(()), path, Form::Follow)?;
     let cred = reached.process.cred();
     let inode = reached.inode;
     let uid = owner.unwrap_or(inode.uid);
     let gid = group.unwrap_or(inode.gid);
     check_owner(cred, &inode, uid, gid, reached.found.step)?;
-    give_owner(s, place, reached.number, &inode, uid, gid)?;
+    give_owner(s, caller.place, reached.number, &inode, uid, gid)?;
     Ok(Reply::Done)
 }

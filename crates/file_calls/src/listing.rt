@@ -6,14 +6,13 @@ ghost use Rattle.fs_model.specs.declared.call.Call.TheVariants.{Readdir};
 ghost use Rattle.fs_model.specs.Listings.{pairs};
 ghost use Rattle.dir_core.specs.Slots.{name_entry};
 ghost use Rattle.path_walk.specs.Words.{IsUnchanged, IsSound, IsInodeOf, Interrupts};
-ghost use Rattle.call_parts.specs.Performing.{IsReady, Performs};
+ghost use Rattle.call_parts.specs.Performing.{IsReadyFor, PerformsFor};
 
-use call_parts::{OpenFor, check_is_directory, reach_open};
+use call_parts::{CallResult, Caller, OpenFor, check_is_directory, reach_open};
 use dir_core::{DirFault, list};
 use fs_cred::{Errno, Refusal};
 use fs_layout::{Inode, Place, Slot};
 use fs_model::{Listing, Name, Named, Reply};
-use open_files::Procs;
 use sector_txn::Sectors;
 use std::alloc::Global;
 
@@ -74,20 +73,13 @@ fn list_names<S: Sectors>(
 /// Lists a directory: `.`, `..`, and its names in bytewise order.
 ///
 /// EBADF: it isn't open for reading. ENOTDIR: it is no directory.
-pub fn readdir<S: Sectors>(
-    alloc: Global,
-    s: &mut S,
-    place: Place,
-    procs: &Procs,
-    pid: usize,
-    fd: usize,
-) -> Result<Reply, Refusal>
-    requires ready { IsReady place (S.state s.old) procs.now }
-    ensures performs { Performs place pid (Readdir fd) (S.state s.old) (S.state s.new) procs.now procs.now result }
+pub fn readdir<S: Sectors>(s: &mut S, caller: &Caller, fd: usize) -> CallResult
+    requires ready { IsReadyFor caller.now (S.state s.old) }
+    ensures performs { PerformsFor caller.now (Readdir fd) (S.state s.old) (S.state s.new) result }
     ensures same { IsUnchanged (S.state s.old) (S.state s.new) }
 {
-    let (descriptor, inode) = reach_open(s, place, procs, pid, fd, OpenFor::Reading)?;
+    let (descriptor, inode) = reach_open(s, caller, fd, OpenFor::Reading)?;
     check_is_directory(inode.kind)?;
-    let names = list_names(alloc, s, place, descriptor.number, &inode)?;
+    let names = list_names(caller.alloc, s, caller.place, descriptor.number, &inode)?;
     Ok(Reply::Names(names))
 }

@@ -15,7 +15,7 @@ ghost use Rattle.file_calls.specs.Openings.{open_asked, open_kind_asked, found_a
 
 use crate::making::open_new;
 use crate::sizes::give_size;
-use call_parts::permitted;
+use call_parts::{CallResult, permitted};
 use fs_cred::{Cred, Errno, Refusal};
 use fs_layout::{Inode, Kind, Place};
 use fs_model::{Flags, Form, Found, Path, Reply};
@@ -202,7 +202,7 @@ pub fn open<S: Sectors>(
     path: &Path,
     flags: Flags,
     mode: u16,
-) -> Result<Reply, Refusal>
+) -> CallResult
     requires ready { IsReady place (S.state s.old) procs.old }
     ensures { Performs place pid (Open path.now flags mode) (S.state s.old) (S.state s.new) procs.old procs.new result }
 {

@@ -13,9 +13,9 @@ use crate::show::{fstat, lstat, stat};
 use crate::sizes::{ftruncate, truncate};
 use crate::transfer::{lseek, read};
 use crate::writes::write;
-use fs_cred::Refusal;
+use call_parts::{CallResult, Caller};
 use fs_layout::Place;
-use fs_model::{Call, Reply};
+use fs_model::Call;
 use open_files::Procs;
 use sector_txn::Sectors;
 use std::alloc::Global;
@@ -28,42 +28,37 @@ pub fn perform<S: Sectors>(
     procs: &mut Procs,
     pid: usize,
     call: &Call,
-) -> Option<Result<Reply, Refusal>>
+) -> Option<CallResult>
     requires ready { IsReady place (S.state s.old) procs.old }
     ensures { MatchOption result (IsTrue (is_on_names call.now) × (s.new ≡ s.old) × (procs.new ≡ procs.old))
         (λ r. Performs place pid call.now (S.state s.old) (S.state s.new) procs.old procs.new r) }
 {
+    let caller = Caller {
+        alloc,
+        place,
+        procs,
+        pid,
+    };
     match call {
         Call::Open(path, flags, mode) => Some(open(
             alloc, s, place, procs, pid, path, *flags, *mode,
         )),
         Call::Read { fd, len } => Some(read(alloc, s, place, procs, pid, *fd, *len)),
         Call::Write(fd, bytes) => Some(write(s, place, procs, pid, *fd, bytes)),
-        Call::Lseek(fd, whence, by) => Some(lseek(s, place, procs, pid, *fd, *whence, *by)),
+        Call::Lseek(fd, whence, by) => Some(lseek(alloc, s, place, procs, pid, *fd, *whence, *by)),
         Call::Close(fd) => Some(close(s, place, procs, pid, *fd)),
-        Call::Fstat(fd) => Some(fstat(s, place, procs, pid, *fd)),
-        Call::Ftruncate(fd, size) => Some(ftruncate(s, place, procs, pid, *fd, *size)),
-        Call::Readdir(fd) => Some(readdir(alloc, s, place, procs, pid, *fd)),
+        Call::Fstat(fd) => Some(fstat(s, &caller, *fd)),
+        Call::Ftruncate(fd, size) => Some(ftruncate(s, &caller, *fd, *size)),
+        Call::Readdir(fd) => Some(readdir(s, &caller, *fd)),
         Call::Umask(mask) => Some(umask(procs, pid, *mask)),
-        Call::Stat(path) => Some(stat(alloc, s, place, procs, pid, path)),
-        Call::Lstat(path) => Some(lstat(alloc, s, place, procs, pid, path)),
-        Call::Access(path, want) => Some(access(alloc, s, place, procs, pid, path, *want)),
-        Call::Truncate(path, size) => Some(truncate(alloc, s, place, procs, pid, path, *size)),
-        Call::Chmod(path, mode) => Some(chmod(alloc, s, place, procs, pid, path, *mode)),
-        Call::Chown { path, owner, group } => Some(chown(
-            alloc, s, place, procs, pid, path, *owner, *group,
-        )),
-        Call::GetAcl(path, which) => Some(get_acl(alloc, s, place, procs, pid, path, *which)),
-        Call::SetAcl(path, which, acl) => Some(set_acl(
-            alloc,
-            s,
-            place,
-            procs,
-            pid,
-            path,
-            *which,
-            acl.as_ref(),
-        )),
+        Call::Stat(path) => Some(stat(s, &caller, path)),
+        Call::Lstat(path) => Some(lstat(s, &caller, path)),
+        Call::Access(path, want) => Some(access(s, &caller, path, *want)),
+        Call::Truncate(path, size) => Some(truncate(s, &caller, path, *size)),
+        Call::Chmod(path, mode) => Some(chmod(s, &caller, path, *mode)),
+        Call::Chown { path, owner, group } => Some(chown(s, &caller, path, *owner, *group)),
+        Call::GetAcl(path, which) => Some(get_acl(s, &caller, path, *which)),
+        Call::SetAcl(path, which, acl) => Some(set_acl(s, &caller, path, *which, acl.as_ref())),
         _ => None,
     }
 }

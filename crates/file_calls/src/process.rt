@@ -4,15 +4,14 @@ ghost use Rattle.fs_model.specs.declared.call.Call.TheVariants.{Umask, Close};
 ghost use Rattle.call_parts.specs.Performing.{IsReady, Performs};
 ghost use Rattle.file_calls.specs.Settling.{Settles};
 
-use call_parts::{OpenFor, find_open, leave};
-use fs_cred::Refusal;
+use call_parts::{CallResult, OpenFor, find_open, leave};
 use fs_layout::Place;
 use fs_model::Reply;
 use open_files::Procs;
 use sector_txn::Sectors;
 
 /// Sets the umask of a process to the bits 0777 of `mask`, and answers the old one.
-pub fn umask(procs: &mut Procs, pid: usize, mask: u16) -> Result<Reply, Refusal>
+pub fn umask(procs: &mut Procs, pid: usize, mask: u16) -> CallResult
     ensures { Settles pid (Umask mask) procs.old procs.new result }
 {
     let old = procs.umask(pid, mask)?;
@@ -28,7 +27,7 @@ pub fn close<S: Sectors>(
     procs: &mut Procs,
     pid: usize,
     fd: usize,
-) -> Result<Reply, Refusal>
+) -> CallResult
     requires ready { IsReady place (S.state s.old) procs.old }
     ensures { Performs place pid (Close fd) (S.state s.old) (S.state s.new) procs.old procs.new result }
 {

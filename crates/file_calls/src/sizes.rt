@@ -7,18 +7,18 @@ ghost use Rattle.fs_layout.specs.Bytes.{resized};
 ghost use Rattle.fs_model.specs.Demands.{refuse};
 ghost use Rattle.fs_model.specs.declared.call.Call.TheVariants.{Truncate, Ftruncate};
 ghost use Rattle.path_walk.specs.Words.{inode_at, SameStore, IsSound, HasSpare, refused_or, FailsToRead};
-ghost use Rattle.call_parts.specs.Performing.{IsReady, Performs};
+ghost use Rattle.call_parts.specs.Performing.{IsReadyFor, PerformsFor};
 ghost use Rattle.call_parts.specs.ByteChanges.{ChangesBytes};
 
 use block_map::set_size;
-use call_parts::{OpenFor, check_no_directory, permitted, reach, reach_open, refuse_if};
+use call_parts::{
+    CallResult, Caller, OpenFor, check_no_directory, permitted, reach, reach_open, refuse_if,
+};
 use fs_cred::{Errno, Refusal};
 use fs_layout::{Inode, Kind, Place};
 use fs_model::{Form, Path, Reply};
-use open_files::Procs;
 use posix_acl::Perms;
 use sector_txn::Sectors;
-use std::alloc::Global;
 
 const WRITE: Perms = Perms {
     read: false,
@@ -61,44 +61,30 @@ pub(crate) fn give_size<S: Sectors>(
 /// Cuts the file that a path leads to, or fills it up with zeros.
 ///
 /// ENOENT: the path leads to nothing. EISDIR: it leads to a directory. EFBIG: the size is more than a file may have on this disk.
-pub fn truncate<S: Sectors>(
-    alloc: Global,
-    s: &mut S,
-    place: Place,
-    procs: &Procs,
-    pid: usize,
-    path: &Path,
-    size: u64,
-) -> Result<Reply, Refusal>
-    requires ready { IsReady place (S.state s.old) procs.now }
-    ensures { Performs place pid (Truncate path.now size) (S.state s.old) (S.state s.new) procs.now procs.now result }
+pub fn truncate<S: Sectors>(s: &mut S, caller: &Caller, path: &Path, size: u64) -> CallResult
+    requires ready { IsReadyFor caller.now (S.state s.old) }
+    ensures { PerformsFor caller.now (Truncate path.now size) (S.state s.old) (S.state s.new) result }
 {
-    let reached = reach(alloc, s, place, procs, pid, Ok(()), path, Form::Follow)?;
+    let reached = reach(s, caller, Ok(()), path, Form::Follow)?;
     let inode = reached.inode;
     check_no_directory(inode.kind)?;
     let cred = reached.process.cred();
-    permitted(alloc, s, place, cred, &inode, WRITE, 1, reached.found.step)?;
-    check_size(place, size)?;
-    give_size(s, place, reached.number, inode, size)?;
+    let step = reached.found.step;
+    permitted(caller.alloc, s, caller.place, cred, &inode, WRITE, 1, step)?;
+    check_size(caller.place, size)?;
+    give_size(s, caller.place, reached.number, inode, size)?;
     Ok(Reply::Done)
 }
 
 /// Cuts the file of a descriptor, or fills it up with zeros.
 ///
 /// EBADF: it isn't open for writing. EFBIG: the size is more than a file may have on this disk.
-pub fn ftruncate<S: Sectors>(
-    s: &mut S,
-    place: Place,
-    procs: &Procs,
-    pid: usize,
-    fd: usize,
-    size: u64,
-) -> Result<Reply, Refusal>
-    requires ready { IsReady place (S.state s.old) procs.now }
-    ensures { Performs place pid (Ftruncate fd size) (S.state s.old) (S.state s.new) procs.now procs.now result }
+pub fn ftruncate<S: Sectors>(s: &mut S, caller: &Caller, fd: usize, size: u64) -> CallResult
+    requires ready { IsReadyFor caller.now (S.state s.old) }
+    ensures { PerformsFor caller.now (Ftruncate fd size) (S.state s.old) (S.state s.new) result }
 {
-    let (descriptor, inode) = reach_open(s, place, procs, pid, fd, OpenFor::Writing)?;
-    check_size(place, size)?;
-    give_size(s, place, descriptor.number, inode, size)?;
+    let (descriptor, inode) = reach_open(s, caller, fd, OpenFor::Writing)?;
+    check_size(caller.place, size)?;
+    give_size(s, caller.place, descriptor.number, inode, size)?;
     Ok(Reply::Done)
 }

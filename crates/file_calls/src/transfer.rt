@@ -9,7 +9,7 @@ ghost use Rattle.path_walk.specs.Words.{Holds, IsUnchanged, Interrupts};
 ghost use Rattle.call_parts.specs.Performing.{IsReady, Performs};
 
 use block_map::read_at;
-use call_parts::{OpenFor, check_no_directory, reach_open};
+use call_parts::{CallResult, Caller, OpenFor, check_no_directory, reach_open};
 use fs_cred::{Errno, Refusal};
 use fs_layout::{Inode, Place};
 use fs_model::{Bytes, Reply, Whence};
@@ -61,12 +61,18 @@ pub fn read<S: Sectors>(
     pid: usize,
     fd: usize,
     len: usize,
-) -> Result<Reply, Refusal>
+) -> CallResult
     requires ready { IsReady place (S.state s.old) procs.old }
     ensures performs { Performs place pid (Read fd len) (S.state s.old) (S.state s.new) procs.old procs.new result }
     ensures same { IsUnchanged (S.state s.old) (S.state s.new) }
 {
-    let (descriptor, inode) = reach_open(s, place, procs, pid, fd, OpenFor::Reading)?;
+    let caller = Caller {
+        alloc,
+        place,
+        procs,
+        pid,
+    };
+    let (descriptor, inode) = reach_open(s, &caller, fd, OpenFor::Reading)?;
     check_no_directory(inode.kind)?;
     let bytes = read_bytes(alloc, s, &inode, descriptor.offset, len)?;
     procs.seek(pid, fd, descriptor.offset + bytes.bytes().len() as u64);
@@ -104,6 +110,7 @@ fn moved(base: u64, by: i64) -> Option<u64>
 ///
 /// EBADF: it isn't open. EISDIR: it is for a directory. EINVAL: that would be below 0 or above 2^63 - 1.
 pub fn lseek<S: Sectors>(
+    alloc: Global,
     s: &mut S,
     place: Place,
     procs: &mut Procs,
@@ -111,12 +118,18 @@ pub fn lseek<S: Sectors>(
     fd: usize,
     whence: Whence,
     by: i64,
-) -> Result<Reply, Refusal>
+) -> CallResult
     requires ready { IsReady place (S.state s.old) procs.old }
     ensures performs { Performs place pid (Lseek fd whence by) (S.state s.old) (S.state s.new) procs.old procs.new result }
     ensures same { IsUnchanged (S.state s.old) (S.state s.new) }
 {
-    let (descriptor, inode) = reach_open(s, place, procs, pid, fd, OpenFor::Anything)?;
+    let caller = Caller {
+        alloc,
+        place,
+        procs,
+        pid,
+    };
+    let (descriptor, inode) = reach_open(s, &caller, fd, OpenFor::Anything)?;
     check_no_directory(inode.kind)?;
     let Some(offset) = moved(base(whence, descriptor.offset, inode.size), by) else {
         return Err(Refusal::Failed(Errno::EINVAL));

@@ -12,7 +12,7 @@ ghost use Rattle.call_parts.specs.ByteChanges.{ChangesBytes};
 
 use crate::transfer::MAX_MOVE;
 use block_map::write_at;
-use call_parts::{OpenFor, ask_for_sectors, find_open};
+use call_parts::{CallResult, OpenFor, ask_for_sectors, find_open};
 use fs_cred::{Errno, Refusal};
 use fs_layout::{Inode, Place};
 use fs_model::{Bytes, Reply};
@@ -80,7 +80,7 @@ pub fn write<S: Sectors>(
     pid: usize,
     fd: usize,
     bytes: &Bytes,
-) -> Result<Reply, Refusal>
+) -> CallResult
     requires ready { IsReady place (S.state s.old) procs.old }
     ensures { Performs place pid (Write fd bytes.now) (S.state s.old) (S.state s.new) procs.old procs.new result }
 {

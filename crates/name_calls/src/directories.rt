@@ -5,20 +5,20 @@ ghost use Rattle.std.specs.Ordering.{nat_cmp};
 ghost use Rattle.call_parts.specs.DiskWords.{get, inode_at, SameStore, IsUnchanged, IsSound, HasSpare};
 ghost use Rattle.call_parts.specs.ModelWords.{Done, Desks, with_changed, standing_at, born_directory, the_node, refuse, first_of, number, must_be_new, Tree, refused_or, FailsToRead, IsAnswered, HoldsTree, IsThere};
 ghost use Rattle.fs_model.specs.declared.call.Call.TheVariants.{Mkdir, Chdir};
-ghost use Rattle.call_parts.specs.Performing.{IsReady, Performs};
+ghost use Rattle.call_parts.specs.Performing.{IsReady, Performs, IsReadyFor, PerformsFor};
 ghost use Rattle.call_parts.specs.Makings.{CanMake};
 ghost use Rattle.name_calls.specs.Entering.{enter_asked};
 ghost use Rattle.call_parts.specs.NewNodes.{IsMade, IsNewIn, IsPlaced, directory_made};
 
 use call_parts::{
-    check_is_directory, check_make, check_mode, default_of, inherited, inode_found, is_new,
-    name_inode, new_group, walk_path,
+    CallResult, Caller, Walked, check_is_directory, check_make, check_mode, default_of, inherited,
+    inode_found, is_new, name_inode, new_group, walk_path,
 };
 use fs_cred::{Cred, Errno, Refusal};
 use fs_layout::{Inode, Kind, Place, S_ISGID, S_ISVTX};
 use fs_model::{Form, Found, Path, Reply};
 use inode_table::new_inode;
-use open_files::{Process, Procs};
+use open_files::Procs;
 use path_walk::search;
 use posix_acl::Acl;
 use sector_txn::Sectors;
@@ -79,27 +79,31 @@ fn place_directory<S: Sectors>(
 
 // Asks what is asked of the directory of the last lookup, and makes a directory of the last name in it.
 fn make_directory<S: Sectors>(
-    alloc: Global,
     s: &mut S,
-    place: Place,
-    process: &Process,
-    found: &Found,
+    caller: &Caller,
+    walked: &Walked,
     mode: u16,
 ) -> Result<(), Refusal>
-    requires sound { IsSound place (S.state s.old) }
-    requires spare { HasSpare place 47 (S.state s.old) }
-    requires name { (t : Tree) × HoldsTree place (S.state s.old).sectors t × IsNewIn t found.now.dir found.now.name }
+    requires sound { IsSound caller.now.place (S.state s.old) }
+    requires spare { HasSpare caller.now.place 47 (S.state s.old) }
+    requires name { (t : Tree) × HoldsTree caller.now.place (S.state s.old).sectors t
+        × IsNewIn t walked.now.found.dir walked.now.found.name }
     ensures store { SameStore (S.state s.old) (S.state s.new) }
-    ensures each { (t : Tree) → HoldsTree place (S.state s.old).sectors t → IsNewIn t found.now.dir found.now.name
-        → IsMade place (S.state s.old) (S.state s.new) process.now.cred t found.now
-        (born_directory process.now.cred process.now.umask mode (the_node t found.now.dir)) result }
+    ensures each { (t : Tree) → HoldsTree caller.now.place (S.state s.old).sectors t
+        → IsNewIn t walked.now.found.dir walked.now.found.name
+        → IsMade caller.now.place (S.state s.old) (S.state s.new) walked.now.process.now.cred t walked.now.found
+        (born_directory walked.now.process.now.cred walked.now.process.now.umask mode
+        (the_node t walked.now.found.dir)) result }
 {
+    let place = caller.place;
+    let process = walked.process;
+    let found = &walked.found;
     let cred = process.cred();
     let step = found.step.saturating_sub(1);
-    let directory = check_make(alloc, s, place, cred, found.dir, step)?;
-    let inherits = default_of(alloc, s, place, &directory)?;
+    let directory = check_make(caller.alloc, s, place, cred, found.dir, step)?;
+    let inherits = default_of(caller.alloc, s, place, &directory)?;
     let default = inherits.as_ref();
-    let access = inherited(alloc, default, mode, process.umask())?;
+    let access = inherited(caller.alloc, default, mode, process.umask())?;
     let bits = special_bits(&directory, mode);
     let gid = new_group(&directory, cred);
     let name = found.name.bytes();
@@ -124,22 +128,14 @@ fn check_new(found: &Found) -> Result<(), Refusal>
 /// than 07777.
 ///
 /// It gets the default ACL and S_ISGID of the directory that names it, and S_ISVTX as the mode says.
-pub fn mkdir<S: Sectors>(
-    alloc: Global,
-    s: &mut S,
-    place: Place,
-    procs: &Procs,
-    pid: usize,
-    path: &Path,
-    mode: u16,
-) -> Result<Reply, Refusal>
-    requires ready { IsReady place (S.state s.old) procs.now }
-    ensures { Performs place pid (Mkdir path.now mode) (S.state s.old) (S.state s.new) procs.now procs.now result }
+pub fn mkdir<S: Sectors>(s: &mut S, caller: &Caller, path: &Path, mode: u16) -> CallResult
+    requires ready { IsReadyFor caller.now (S.state s.old) }
+    ensures { PerformsFor caller.now (Mkdir path.now mode) (S.state s.old) (S.state s.new) result }
 {
     let checks = check_mode(mode);
-    let walked = walk_path(alloc, s, place, procs, pid, checks, path, Form::Parent)?;
+    let walked = walk_path(s, caller, checks, path, Form::Parent)?;
     check_new(&walked.found)?;
-    make_directory(alloc, s, place, walked.process, &walked.found, mode)?;
+    make_directory(s, caller, &walked, mode)?;
     Ok(Reply::Done)
 }
 
@@ -166,24 +162,19 @@ fn directory_found<S: Sectors>(
 
 // The directory that the path of chdir leads to. At `Err` that is its refusal; else it is performed once the process stands
 // there.
-fn directory_at<S: Sectors>(
-    alloc: Global,
-    s: &mut S,
-    place: Place,
-    procs: &Procs,
-    pid: usize,
-    path: &Path,
-) -> Result<u32, Refusal>
-    requires ready { IsReady place (S.state s.old) procs.now }
-    ensures refused { IfErr result (λ e. Performs place pid (Chdir path.now) (S.state s.old) (S.state s.new)
-        procs.now procs.now (Err e)) }
-    ensures there { IfOk result (λ n. IsSome (get nat_cmp procs.now pid)) }
-    ensures entered { IfOk result (λ n. (now : Desks) → now ≡ with_changed procs.now pid (standing_at n n)
-        → Performs place pid (Chdir path.now) (S.state s.old) (S.state s.new) procs.now now (Ok Done)) }
+fn directory_at<S: Sectors>(s: &mut S, caller: &Caller, path: &Path) -> Result<u32, Refusal>
+    requires ready { IsReadyFor caller.now (S.state s.old) }
+    ensures refused { IfErr result (λ e. PerformsFor caller.now (Chdir path.now) (S.state s.old) (S.state s.new) (Err e)) }
+    ensures there { IfOk result (λ n. IsSome (get nat_cmp caller.now.procs.now caller.now.pid)) }
+    ensures entered { IfOk result (λ n. (now : Desks)
+        → now ≡ with_changed caller.now.procs.now caller.now.pid (standing_at n n)
+        → Performs caller.now.place caller.now.pid (Chdir path.now) (S.state s.old) (S.state s.new)
+        caller.now.procs.now now (Ok Done)) }
     ensures same { IsUnchanged (S.state s.old) (S.state s.new) }
 {
-    let walked = walk_path(alloc, s, place, procs, pid, Ok(()), path, Form::Follow)?;
-    let n = directory_found(alloc, s, place, walked.process.cred(), &walked.found)?;
+    let walked = walk_path(s, caller, Ok(()), path, Form::Follow)?;
+    let cred = walked.process.cred();
+    let n = directory_found(caller.alloc, s, caller.place, cred, &walked.found)?;
     Ok(n)
 }
 
@@ -196,12 +187,18 @@ pub fn chdir<S: Sectors>(
     procs: &mut Procs,
     pid: usize,
     path: &Path,
-) -> Result<Reply, Refusal>
+) -> CallResult
     requires ready { IsReady place (S.state s.old) procs.old }
     ensures performs { Performs place pid (Chdir path.now) (S.state s.old) (S.state s.new) procs.old procs.new result }
     ensures same { IsUnchanged (S.state s.old) (S.state s.new) }
 {
-    let n = directory_at(alloc, s, place, procs, pid, path)?;
+    let caller = Caller {
+        alloc,
+        place,
+        procs,
+        pid,
+    };
+    let n = directory_at(s, &caller, path)?;
     procs.stand_at(pid, n, n);
     Ok(Reply::Done)
 }

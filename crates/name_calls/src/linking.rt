@@ -4,18 +4,19 @@ ghost use Rattle.std.specs.Prelude.{◌≡◌, ◌-◌, ◌<◌, nat_le, ℕ, []
 ghost use Rattle.call_parts.specs.DiskWords.{inode_at, SameStore, IsUnchanged, IsSound, HasSpare};
 ghost use Rattle.call_parts.specs.ModelWords.{AddName, changed, swept, refuse, first_of, names_limit, link_demands, Desks, is_directory_kind, number, is_special, HoldsAll, placed, State, Tree, IsDirectoryAt, refused_or, FailsToRead, IsAnswered, HoldsTree, IsThere};
 ghost use Rattle.fs_model.specs.declared.call.Call.TheVariants.{Link};
-ghost use Rattle.call_parts.specs.Performing.{IsReady, IsStateOf, Performs};
+ghost use Rattle.call_parts.specs.Performing.{IsStateOf, IsReadyFor, PerformsFor};
 ghost use Rattle.name_calls.specs.Linking.{source_asked, place_asked, MayLink};
 ghost use Rattle.call_parts.specs.TwoPaths.{scene_with, FindsBoth};
 
 use crate::links::check_link_name;
 use call_parts::{
-    ask_directory, ask_for_name, check_slash, inode_found, name_inode, set_names, walk_both,
+    CallResult, Caller, WalkedBoth, ask_directory, ask_for_name, check_slash, inode_found,
+    name_inode, set_names, walk_both,
 };
 use fs_cred::{Errno, Refusal};
 use fs_layout::{Inode, Kind, MAX_INODE_NAMES, Place};
 use fs_model::{Found, Last, Path, Reply};
-use open_files::{Process, Procs};
+use open_files::Process;
 use sector_txn::Sectors;
 use std::alloc::Global;
 
@@ -95,30 +96,32 @@ fn check_place<S: Sectors>(
 // Asks all that link asks of what was found, and answers number and inode of what is to get the name, and the directory's
 // inode.
 fn check_link<S: Sectors>(
-    alloc: Global,
     s: &mut S,
-    place: Place,
-    process: &Process,
-    first: &Found,
-    second: &Found,
+    caller: &Caller,
+    walked: &WalkedBoth,
 ) -> Result<(u32, Inode, Inode), Refusal>
-    requires sound { IsSound place (S.state s.old) }
+    requires sound { IsSound caller.now.place (S.state s.old) }
     requires found { (desks : Desks) × (st : State)
-        × FindsBoth place (S.state s.old).sectors desks process.now first.now second.now st }
+        × FindsBoth caller.now.place (S.state s.old).sectors desks
+        walked.now.process.now walked.now.first walked.now.second st }
     ensures each { (desks : Desks) (st : State)
-        → FindsBoth place (S.state s.old).sectors desks process.now first.now second.now st
+        → FindsBoth caller.now.place (S.state s.old).sectors desks
+        walked.now.process.now walked.now.first walked.now.second st
         → IsAnswered (S.state s.old).disk (S.state s.new).disk
-        (refused_or (first_of (link_demands (scene_with st process.now first.now second.now)))
+        (refused_or (first_of (link_demands
+        (scene_with st walked.now.process.now walked.now.first walked.now.second)))
         (Ok (
-          number first.now,
-          inode_at place (S.state s.old).sectors (number first.now),
-          inode_at place (S.state s.old).sectors second.now.dir,
+          number walked.now.first,
+          inode_at caller.now.place (S.state s.old).sectors (number walked.now.first),
+          inode_at caller.now.place (S.state s.old).sectors walked.now.second.dir,
         ))) result }
     ensures same { IsUnchanged (S.state s.old) (S.state s.new) }
 {
-    let (n, inode) = check_source(s, place, first)?;
+    let (n, inode) = check_source(s, caller.place, &walked.first)?;
+    let second = &walked.second;
     check_link_name(second)?;
-    let directory = check_place(alloc, s, place, process, second, inode.names)?;
+    let process = walked.process;
+    let directory = check_place(caller.alloc, s, caller.place, process, second, inode.names)?;
     Ok((n, inode, directory))
 }
 
@@ -156,23 +159,14 @@ fn add_name<S: Sectors>(
 /// EPERM: `old` leads to a directory, or ends in no name. ENOENT: it leads to nothing, or `new` ends in a slash. ENOTDIR: `old`
 /// ends in a slash. EEXIST: there is something of the new name, or `new` ends in no name. EMLINK: there are
 /// [`MAX_INODE_NAMES`] names already.
-pub fn link<S: Sectors>(
-    alloc: Global,
-    s: &mut S,
-    place: Place,
-    procs: &Procs,
-    pid: usize,
-    old: &Path,
-    new: &Path,
-) -> Result<Reply, Refusal>
-    requires ready { IsReady place (S.state s.old) procs.now }
-    ensures { Performs place pid (Link old.now new.now) (S.state s.old) (S.state s.new) procs.now procs.now result }
+pub fn link<S: Sectors>(s: &mut S, caller: &Caller, old: &Path, new: &Path) -> CallResult
+    requires ready { IsReadyFor caller.now (S.state s.old) }
+    ensures { PerformsFor caller.now (Link old.now new.now) (S.state s.old) (S.state s.new) result }
 {
-    let walked = walk_both(alloc, s, place, procs, pid, old, new)?;
-    let first = &walked.first;
+    let walked = walk_both(s, caller, old, new)?;
+    let (n, inode, directory) = check_link(s, caller, &walked)?;
     let second = &walked.second;
-    let (n, inode, directory) = check_link(alloc, s, place, walked.process, first, second)?;
     let name = second.name.bytes();
-    add_name(s, place, second.dir, directory, name, n, &inode)?;
+    add_name(s, caller.place, second.dir, directory, name, n, &inode)?;
     Ok(Reply::Done)
 }

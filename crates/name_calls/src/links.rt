@@ -4,19 +4,19 @@ ghost use Rattle.std.specs.Prelude.{◌≡◌, ℕ, not, Ok, OnOk, IfErr};
 ghost use Rattle.call_parts.specs.DiskWords.{IsBytes, inode_at, SameStore, IsUnchanged, IsSound, HasSpare};
 ghost use Rattle.call_parts.specs.ModelWords.{born_link, the_node, refuse, first_of, symlink_arguments, is_link_kind, Tree, IsTarget, refused_or, FailsToRead, HoldsTree};
 ghost use Rattle.fs_model.specs.declared.call.Call.TheVariants.{Symlink, Readlink};
-ghost use Rattle.call_parts.specs.Performing.{IsReady, Performs};
+ghost use Rattle.call_parts.specs.Performing.{IsReadyFor, PerformsFor};
 ghost use Rattle.call_parts.specs.Makings.{CanMake};
 ghost use Rattle.call_parts.specs.NewNodes.{IsMade, IsNewIn, IsPlaced, link_made, link_name_asked};
 
 use block_map::new_link;
-use call_parts::{check_make, is_new, name_inode, new_group, reach, walk_path};
+use call_parts::{
+    CallResult, Caller, Walked, check_make, is_new, name_inode, new_group, reach, walk_path,
+};
 use fs_cred::{Cred, Errno, Refusal};
 use fs_layout::{Inode, Kind, MAX_LINK_SIZE, Place};
 use fs_model::{Form, Found, Path, Reply};
-use open_files::{Process, Procs};
 use path_walk::read_target;
 use sector_txn::Sectors;
-use std::alloc::Global;
 
 // Asks whether these bytes may be a target: at least one, none of them zero, and no more than 512.
 fn check_target(target: &Path) -> Result<(), Refusal>
@@ -80,49 +80,42 @@ fn place_link<S: Sectors>(
 
 // Asks what is asked of the directory of the last lookup, and makes a link of the last name in it.
 fn make_link<S: Sectors>(
-    alloc: Global,
     s: &mut S,
-    place: Place,
-    process: &Process,
-    found: &Found,
+    caller: &Caller,
+    walked: &Walked,
     target: &Path,
 ) -> Result<(), Refusal>
-    requires sound { IsSound place (S.state s.old) }
-    requires spare { HasSpare place 47 (S.state s.old) }
-    requires name { (t : Tree) × HoldsTree place (S.state s.old).sectors t × IsNewIn t found.now.dir found.now.name }
+    requires sound { IsSound caller.now.place (S.state s.old) }
+    requires spare { HasSpare caller.now.place 47 (S.state s.old) }
+    requires name { (t : Tree) × HoldsTree caller.now.place (S.state s.old).sectors t
+        × IsNewIn t walked.now.found.dir walked.now.found.name }
     requires target { IsTarget target.now }
     ensures store { SameStore (S.state s.old) (S.state s.new) }
-    ensures each { (t : Tree) → HoldsTree place (S.state s.old).sectors t → IsNewIn t found.now.dir found.now.name
-        → IsMade place (S.state s.old) (S.state s.new) process.now.cred t found.now
-        (born_link process.now.cred target.now (the_node t found.now.dir)) result }
+    ensures each { (t : Tree) → HoldsTree caller.now.place (S.state s.old).sectors t
+        → IsNewIn t walked.now.found.dir walked.now.found.name
+        → IsMade caller.now.place (S.state s.old) (S.state s.new) walked.now.process.now.cred t walked.now.found
+        (born_link walked.now.process.now.cred target.now (the_node t walked.now.found.dir)) result }
 {
-    let cred = process.cred();
+    let found = &walked.found;
+    let cred = walked.process.cred();
     let step = found.step.saturating_sub(1);
-    let directory = check_make(alloc, s, place, cred, found.dir, step)?;
+    let directory = check_make(caller.alloc, s, caller.place, cred, found.dir, step)?;
     let name = found.name.bytes();
     let bytes = target.bytes();
-    place_link(s, place, found.dir, directory, name, cred, bytes)?;
+    place_link(s, caller.place, found.dir, directory, name, cred, bytes)?;
     Ok(())
 }
 
 /// Makes a symbolic link. ENOENT: the target is empty, or the path ends in a slash. EINVAL: the target has a zero byte.
 /// ENAMETOOLONG: it has more than 512 bytes. EEXIST: there is something of the name, or the path doesn't end in a name.
-pub fn symlink<S: Sectors>(
-    alloc: Global,
-    s: &mut S,
-    place: Place,
-    procs: &Procs,
-    pid: usize,
-    target: &Path,
-    path: &Path,
-) -> Result<Reply, Refusal>
-    requires ready { IsReady place (S.state s.old) procs.now }
-    ensures { Performs place pid (Symlink target.now path.now) (S.state s.old) (S.state s.new) procs.now procs.now result }
+pub fn symlink<S: Sectors>(s: &mut S, caller: &Caller, target: &Path, path: &Path) -> CallResult
+    requires ready { IsReadyFor caller.now (S.state s.old) }
+    ensures { PerformsFor caller.now (Symlink target.now path.now) (S.state s.old) (S.state s.new) result }
 {
     let checks = check_target(target);
-    let walked = walk_path(alloc, s, place, procs, pid, checks, path, Form::Parent)?;
+    let walked = walk_path(s, caller, checks, path, Form::Parent)?;
     check_link_name(&walked.found)?;
-    make_link(alloc, s, place, walked.process, &walked.found, target)?;
+    make_link(s, caller, &walked, target)?;
     Ok(Reply::Done)
 }
 
@@ -137,20 +130,13 @@ fn check_link(inode: &Inode) -> Result<(), Refusal>
 }
 
 /// Answers the target of the symbolic link that a path leads to. ENOENT: the path leads to nothing. EINVAL: to no link.
-pub fn readlink<S: Sectors>(
-    alloc: Global,
-    s: &mut S,
-    place: Place,
-    procs: &Procs,
-    pid: usize,
-    path: &Path,
-) -> Result<Reply, Refusal>
-    requires ready { IsReady place (S.state s.old) procs.now }
-    ensures performs { Performs place pid (Readlink path.now) (S.state s.old) (S.state s.new) procs.now procs.now result }
+pub fn readlink<S: Sectors>(s: &mut S, caller: &Caller, path: &Path) -> CallResult
+    requires ready { IsReadyFor caller.now (S.state s.old) }
+    ensures performs { PerformsFor caller.now (Readlink path.now) (S.state s.old) (S.state s.new) result }
     ensures same { IsUnchanged (S.state s.old) (S.state s.new) }
 {
-    let reached = reach(alloc, s, place, procs, pid, Ok(()), path, Form::NoFollow)?;
+    let reached = reach(s, caller, Ok(()), path, Form::NoFollow)?;
     check_link(&reached.inode)?;
-    let target = read_target(alloc, s, place, &reached.inode)?;
+    let target = read_target(caller.alloc, s, caller.place, &reached.inode)?;
     Ok(Reply::Target(target))
 }

@@ -10,13 +10,12 @@ ghost use Rattle.name_calls.specs.Moving.{MayMove, MayLead, MovesEntry, ParentFo
 ghost use Rattle.name_calls.specs.Renaming.{inode_there};
 
 use crate::dropping::lose_name;
-use call_parts::{name_inode, remove_name};
+use call_parts::{Caller, WalkedBoth, name_inode, remove_name};
 use dir_core::{rename, replace};
 use fs_cred::{Errno, Refusal};
 use fs_layout::{Inode, Kind, Place};
 use fs_model::Found;
 use inode_table::save;
-use open_files::Procs;
 use path_walk::load_inode;
 use sector_txn::Sectors;
 
@@ -189,33 +188,35 @@ fn follow<S: Sectors>(
 /// last name unless it is open. A directory that goes to another one gets its parent. EIO: the disk has failed.
 pub(crate) fn move_name<S: Sectors>(
     s: &mut S,
-    place: Place,
-    procs: &Procs,
-    first: &Found,
-    second: &Found,
+    caller: &Caller,
+    walked: &WalkedBoth,
     n: u32,
     inode: &Inode,
     replaced: &Option<(u32, Inode)>,
 ) -> Result<(), Refusal>
-    requires sound { IsSound place (S.state s.old) }
-    requires inode { inode.now ≡ inode_at place (S.state s.old).sectors n }
-    requires replaced { replaced.now ≡ inode_there place (S.state s.old).sectors second.now.ino }
-    requires may { (st : State) × IsStateOf place (S.state s.old).sectors procs.now st
-        × MayMove place (S.state s.old).sectors st first.now.dir first.now.name n
-        second.now.dir second.now.name second.now.ino }
-    requires spare { HasSpare place 47 (S.state s.old) }
+    requires sound { IsSound caller.now.place (S.state s.old) }
+    requires inode { inode.now ≡ inode_at caller.now.place (S.state s.old).sectors n }
+    requires replaced { replaced.now ≡ inode_there caller.now.place (S.state s.old).sectors walked.now.second.ino }
+    requires may { (st : State) × IsStateOf caller.now.place (S.state s.old).sectors caller.now.procs.now st
+        × MayMove caller.now.place (S.state s.old).sectors st walked.now.first.dir walked.now.first.name n
+        walked.now.second.dir walked.now.second.name walked.now.second.ino }
+    requires spare { HasSpare caller.now.place 47 (S.state s.old) }
     ensures store { SameStore (S.state s.old) (S.state s.new) }
     ensures superblock { OnOk result ((S.state s.new).sectors 0 ≡ (S.state s.old).sectors 0) }
-    ensures moved { OnOk result ((st : State) → IsStateOf place (S.state s.old).sectors procs.now st
-        → MayMove place (S.state s.old).sectors st first.now.dir first.now.name n second.now.dir second.now.name second.now.ino
-        → HoldsAll place (S.state s.new).sectors
-        (placed (swept (changed st.tree (MoveName first.now.dir first.now.name second.now.dir second.now.name)) procs.now))) }
+    ensures moved { OnOk result ((st : State) → IsStateOf caller.now.place (S.state s.old).sectors caller.now.procs.now st
+        → MayMove caller.now.place (S.state s.old).sectors st walked.now.first.dir walked.now.first.name n
+        walked.now.second.dir walked.now.second.name walked.now.second.ino
+        → HoldsAll caller.now.place (S.state s.new).sectors
+        (placed (swept (changed st.tree (MoveName walked.now.first.dir walked.now.first.name
+        walked.now.second.dir walked.now.second.name)) caller.now.procs.now))) }
     ensures fault { IfErr result (FailsToRead (S.state s.old).disk (S.state s.new).disk) }
 {
-    move_entry(s, place, first, second, n)?;
-    follow(s, place, n, inode, first.dir, second.dir)?;
+    let first = &walked.first;
+    let second = &walked.second;
+    move_entry(s, caller.place, first, second, n)?;
+    follow(s, caller.place, n, inode, first.dir, second.dir)?;
     if let Some((m, inode)) = replaced {
-        lose_name(s, place, procs, *m, inode)?;
+        lose_name(s, caller.place, caller.procs, *m, inode)?;
     }
     Ok(())
 }

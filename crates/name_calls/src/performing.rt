@@ -8,9 +8,9 @@ use crate::linking::link;
 use crate::links::{readlink, symlink};
 use crate::removal::{rmdir, unlink};
 use crate::renaming::rename;
-use fs_cred::Refusal;
+use call_parts::{CallResult, Caller};
 use fs_layout::Place;
-use fs_model::{Call, Reply};
+use fs_model::Call;
 use open_files::Procs;
 use sector_txn::Sectors;
 use std::alloc::Global;
@@ -23,19 +23,25 @@ pub fn perform<S: Sectors>(
     procs: &mut Procs,
     pid: usize,
     call: &Call,
-) -> Option<Result<Reply, Refusal>>
+) -> Option<CallResult>
     requires ready { IsReady place (S.state s.old) procs.old }
     ensures { MatchOption result (IsFalse (is_on_names call.now))
         (λ r. Performs place pid call.now (S.state s.old) (S.state s.new) procs.old procs.new r) }
 {
+    let caller = Caller {
+        alloc,
+        place,
+        procs,
+        pid,
+    };
     match call {
-        Call::Mkdir(path, mode) => Some(mkdir(alloc, s, place, procs, pid, path, *mode)),
-        Call::Rmdir(path) => Some(rmdir(alloc, s, place, procs, pid, path)),
-        Call::Link { old, new } => Some(link(alloc, s, place, procs, pid, old, new)),
-        Call::Symlink { target, path } => Some(symlink(alloc, s, place, procs, pid, target, path)),
-        Call::Readlink(path) => Some(readlink(alloc, s, place, procs, pid, path)),
-        Call::Unlink(path) => Some(unlink(alloc, s, place, procs, pid, path)),
-        Call::Rename { old, new } => Some(rename(alloc, s, place, procs, pid, old, new)),
+        Call::Mkdir(path, mode) => Some(mkdir(s, &caller, path, *mode)),
+        Call::Rmdir(path) => Some(rmdir(s, &caller, path)),
+        Call::Link { old, new } => Some(link(s, &caller, old, new)),
+        Call::Symlink { target, path } => Some(symlink(s, &caller, target, path)),
+        Call::Readlink(path) => Some(readlink(s, &caller, path)),
+        Call::Unlink(path) => Some(unlink(s, &caller, path)),
+        Call::Rename { old, new } => Some(rename(s, &caller, old, new)),
         Call::Chdir(path) => Some(chdir(alloc, s, place, procs, pid, path)),
         _ => None,
     }

@@ -5,22 +5,21 @@ ghost use Rattle.call_parts.specs.DiskWords.{SectorMap, inode_at, SameStore, IsU
 ghost use Rattle.call_parts.specs.ModelWords.{TakeName, changed, swept, first_of, Body, is_in_use, number, HoldsAll, placed, State, HoldsBody, Tree, refused_or, FailsToRead, IsAnswered, HoldsTree};
 ghost use Rattle.fs_model.specs.declared.call.Call.TheVariants.{Unlink, Rmdir};
 ghost use Rattle.call_parts.specs.Paths.{scene_at};
-ghost use Rattle.call_parts.specs.Performing.{IsReady, IsStateOf, Performs};
+ghost use Rattle.call_parts.specs.Performing.{IsStateOf, IsReadyFor, PerformsFor};
 ghost use Rattle.name_calls.specs.declared.removal.Target.TheVariants.{NoDirectory, Directory};
 ghost use Rattle.name_calls.specs.Removing.{FindsName, IsNamedThere, removal_asked, last_asked, directory_asked, kind_asked, removal_demands, removal_call, MayGo};
 
 use crate::dropping::lose_name;
 use call_parts::{
-    ask_directory, check_no_directory, check_slash, check_sticky, inode_found, remove_name,
-    walk_path,
+    CallResult, Caller, Walked, ask_directory, check_no_directory, check_slash, check_sticky,
+    inode_found, remove_name, walk_path,
 };
 use dir_core::is_empty;
 use fs_cred::{Errno, Refusal};
 use fs_layout::{Inode, Kind, Place};
 use fs_model::{Form, Found, Last, Path, Reply};
-use open_files::{Process, Procs};
+use open_files::Procs;
 use sector_txn::Sectors;
-use std::alloc::Global;
 
 /// What a call removes.
 #[derive(Clone, Copy)]
@@ -63,23 +62,23 @@ fn check_last(found: &Found, what: Target) -> Result<(), Refusal>
 
 // Asks all that is asked before a name is removed, whatever it leads to, and answers number and inode of that.
 fn check_removal<S: Sectors>(
-    alloc: Global,
     s: &mut S,
-    place: Place,
-    process: &Process,
-    found: &Found,
+    caller: &Caller,
+    walked: &Walked,
 ) -> Result<(u32, Inode), Refusal>
-    requires sound { IsSound place (S.state s.old) }
-    requires there { (t : Tree) × HoldsTree place (S.state s.old).sectors t × IsNamedThere t found.now }
-    ensures each { (t : Tree) → HoldsTree place (S.state s.old).sectors t → IsNamedThere t found.now
+    requires sound { IsSound caller.now.place (S.state s.old) }
+    requires there { (t : Tree) × HoldsTree caller.now.place (S.state s.old).sectors t × IsNamedThere t walked.now.found }
+    ensures each { (t : Tree) → HoldsTree caller.now.place (S.state s.old).sectors t → IsNamedThere t walked.now.found
         → IsAnswered (S.state s.old).disk (S.state s.new).disk
-        (refused_or (first_of (removal_asked process.now.cred t found.now))
-        (Ok (number found.now, inode_at place (S.state s.old).sectors (number found.now)))) result }
+        (refused_or (first_of (removal_asked walked.now.process.now.cred t walked.now.found))
+        (Ok (number walked.now.found, inode_at caller.now.place (S.state s.old).sectors (number walked.now.found)))) result }
     ensures same { IsUnchanged (S.state s.old) (S.state s.new) }
 {
-    let (n, inode) = inode_found(s, place, found)?;
+    let process = walked.process;
+    let found = &walked.found;
+    let (n, inode) = inode_found(s, caller.place, found)?;
     check_slash(found, inode.kind)?;
-    let directory = ask_directory(alloc, s, place, process, found, 1)?;
+    let directory = ask_directory(caller.alloc, s, caller.place, process, found, 1)?;
     check_sticky(process, found, &directory, &inode, 1)?;
     Ok((n, inode))
 }
@@ -114,25 +113,24 @@ fn check_kind(procs: &Procs, n: u32, inode: &Inode, what: Target) -> Result<(), 
 
 // Asks all that the call asks of what was found, and answers its number and its inode.
 fn check_target<S: Sectors>(
-    alloc: Global,
     s: &mut S,
-    place: Place,
-    procs: &Procs,
-    process: &Process,
-    found: &Found,
+    caller: &Caller,
+    walked: &Walked,
     what: Target,
 ) -> Result<(u32, Inode), Refusal>
-    requires sound { IsSound place (S.state s.old) }
-    requires found { (st : State) × FindsName place (S.state s.old).sectors procs.now process.now found.now st }
-    ensures each { (st : State) → FindsName place (S.state s.old).sectors procs.now process.now found.now st
+    requires sound { IsSound caller.now.place (S.state s.old) }
+    requires found { (st : State)
+        × FindsName caller.now.place (S.state s.old).sectors caller.now.procs.now walked.now.process.now walked.now.found st }
+    ensures each { (st : State)
+        → FindsName caller.now.place (S.state s.old).sectors caller.now.procs.now walked.now.process.now walked.now.found st
         → IsAnswered (S.state s.old).disk (S.state s.new).disk
-        (refused_or (first_of (removal_demands what (scene_at st process.now found.now)))
-        (Ok (number found.now, inode_at place (S.state s.old).sectors (number found.now)))) result }
+        (refused_or (first_of (removal_demands what (scene_at st walked.now.process.now walked.now.found)))
+        (Ok (number walked.now.found, inode_at caller.now.place (S.state s.old).sectors (number walked.now.found)))) result }
     ensures same { IsUnchanged (S.state s.old) (S.state s.new) }
 {
-    check_last(found, what)?;
-    let (n, inode) = check_removal(alloc, s, place, process, found)?;
-    check_kind(procs, n, &inode, what)?;
+    check_last(&walked.found, what)?;
+    let (n, inode) = check_removal(s, caller, walked)?;
+    check_kind(caller.procs, n, &inode, what)?;
     Ok((n, inode))
 }
 
@@ -163,23 +161,15 @@ fn take_name<S: Sectors>(
 }
 
 // Removes the name that a path ends in, and with its last name what it leads to.
-fn remove_target<S: Sectors>(
-    alloc: Global,
-    s: &mut S,
-    place: Place,
-    procs: &Procs,
-    pid: usize,
-    path: &Path,
-    what: Target,
-) -> Result<Reply, Refusal>
-    requires ready { IsReady place (S.state s.old) procs.now }
-    ensures { Performs place pid (removal_call what path.now) (S.state s.old) (S.state s.new) procs.now procs.now result }
+fn remove_target<S: Sectors>(s: &mut S, caller: &Caller, path: &Path, what: Target) -> CallResult
+    requires ready { IsReadyFor caller.now (S.state s.old) }
+    ensures { PerformsFor caller.now (removal_call what path.now) (S.state s.old) (S.state s.new) result }
 {
-    let walked = walk_path(alloc, s, place, procs, pid, Ok(()), path, Form::Parent)?;
+    let walked = walk_path(s, caller, Ok(()), path, Form::Parent)?;
+    let (n, inode) = check_target(s, caller, &walked, what)?;
     let found = &walked.found;
-    let (n, inode) = check_target(alloc, s, place, procs, walked.process, found, what)?;
     let name = found.name.bytes();
-    take_name(s, place, procs, found.dir, name, n, inode)?;
+    take_name(s, caller.place, caller.procs, found.dir, name, n, inode)?;
     Ok(Reply::Done)
 }
 
@@ -188,18 +178,11 @@ fn remove_target<S: Sectors>(
 ///
 /// In a directory with S_ISVTX only the owner of one of both may. EISDIR: the path leads to a directory, or ends in no name.
 /// ENOENT: it leads to nothing. ENOTDIR: it ends in a slash.
-pub fn unlink<S: Sectors>(
-    alloc: Global,
-    s: &mut S,
-    place: Place,
-    procs: &Procs,
-    pid: usize,
-    path: &Path,
-) -> Result<Reply, Refusal>
-    requires ready { IsReady place (S.state s.old) procs.now }
-    ensures { Performs place pid (Unlink path.now) (S.state s.old) (S.state s.new) procs.now procs.now result }
+pub fn unlink<S: Sectors>(s: &mut S, caller: &Caller, path: &Path) -> CallResult
+    requires ready { IsReadyFor caller.now (S.state s.old) }
+    ensures { PerformsFor caller.now (Unlink path.now) (S.state s.old) (S.state s.new) result }
 {
-    remove_target(alloc, s, place, procs, pid, path, Target::NoDirectory)
+    remove_target(s, caller, path, Target::NoDirectory)
 }
 
 /// Removes the directory that a path leads to, with its name.
@@ -207,16 +190,9 @@ pub fn unlink<S: Sectors>(
 /// In a directory with S_ISVTX only the owner of one of both may. EBUSY: it is the root, or a process stands in it or has it
 /// open. EINVAL: the path ends in `.`. ENOTEMPTY: it ends in `..`, or the directory has names. ENOENT: it leads to nothing.
 /// ENOTDIR: it leads to no directory.
-pub fn rmdir<S: Sectors>(
-    alloc: Global,
-    s: &mut S,
-    place: Place,
-    procs: &Procs,
-    pid: usize,
-    path: &Path,
-) -> Result<Reply, Refusal>
-    requires ready { IsReady place (S.state s.old) procs.now }
-    ensures { Performs place pid (Rmdir path.now) (S.state s.old) (S.state s.new) procs.now procs.now result }
+pub fn rmdir<S: Sectors>(s: &mut S, caller: &Caller, path: &Path) -> CallResult
+    requires ready { IsReadyFor caller.now (S.state s.old) }
+    ensures { PerformsFor caller.now (Rmdir path.now) (S.state s.old) (S.state s.new) result }
 {
-    remove_target(alloc, s, place, procs, pid, path, Target::Directory)
+    remove_target(s, caller, path, Target::Directory)
 }

@@ -4,21 +4,19 @@ ghost use Rattle.std.specs.Prelude.{◌≡◌, ◌<◌, ◌||◌, ℕ, Some, Ok}
 ghost use Rattle.call_parts.specs.DiskWords.{inode_at, IsUnchanged, IsSound};
 ghost use Rattle.call_parts.specs.ModelWords.{first_of, rename_demands, number, ends_top, ends_dot, ends_dot_dot, State, Tree, refused_or, IsAnswered, HoldsTree, IsThere};
 ghost use Rattle.fs_model.specs.declared.call.Call.TheVariants.{Rename};
-ghost use Rattle.call_parts.specs.Performing.{IsReady, Performs};
+ghost use Rattle.call_parts.specs.Performing.{IsReadyFor, PerformsFor};
 ghost use Rattle.name_calls.specs.Renaming.{ends_asked, names_asked, inode_there, other_kind, directory_kind, slash_told, replacing_asked};
 ghost use Rattle.name_calls.specs.Replacing.{same_number};
 ghost use Rattle.call_parts.specs.TwoPaths.{scene_with, FindsBoth};
 
 use crate::moving::move_name;
 use crate::replacing::check_move;
-use call_parts::{inode_found, walk_both};
+use call_parts::{CallResult, Caller, WalkedBoth, inode_found, walk_both};
 use fs_cred::{Errno, Refusal};
 use fs_layout::{Inode, Kind, Place};
 use fs_model::{Found, Last, Path, Reply};
-use open_files::{Process, Procs};
 use path_walk::load_inode;
 use sector_txn::Sectors;
-use std::alloc::Global;
 
 // Whether a path ends in `.` or `..`.
 fn ends_in_dots(found: &Found) -> bool
@@ -171,33 +169,31 @@ fn is_same(n: u32, replaced: &Option<(u32, Inode)>) -> bool
 // Asks all that rename asks of what was found, and answers number and inode of what is renamed, and of what the new name leads
 // to. Where both are one object, nothing is asked but of the names.
 fn check_rename<S: Sectors>(
-    alloc: Global,
     s: &mut S,
-    place: Place,
-    procs: &Procs,
-    process: &Process,
-    first: &Found,
-    second: &Found,
+    caller: &Caller,
+    walked: &WalkedBoth,
 ) -> Result<(u32, Inode, Option<(u32, Inode)>), Refusal>
-    requires sound { IsSound place (S.state s.old) }
-    requires found { (st : State) × FindsBoth place (S.state s.old).sectors procs.now process.now first.now second.now st }
-    ensures each { (st : State) → FindsBoth place (S.state s.old).sectors procs.now process.now first.now second.now st
+    requires sound { IsSound caller.now.place (S.state s.old) }
+    requires found { (st : State)
+        × FindsBoth caller.now.place (S.state s.old).sectors caller.now.procs.now
+        walked.now.process.now walked.now.first walked.now.second st }
+    ensures each { (st : State)
+        → FindsBoth caller.now.place (S.state s.old).sectors caller.now.procs.now
+        walked.now.process.now walked.now.first walked.now.second st
         → IsAnswered (S.state s.old).disk (S.state s.new).disk
-        (refused_or (first_of (rename_demands (scene_with st process.now first.now second.now)))
+        (refused_or (first_of (rename_demands (scene_with st walked.now.process.now walked.now.first walked.now.second)))
         (Ok (
-          number first.now,
-          inode_at place (S.state s.old).sectors (number first.now),
-          inode_there place (S.state s.old).sectors second.now.ino,
+          number walked.now.first,
+          inode_at caller.now.place (S.state s.old).sectors (number walked.now.first),
+          inode_there caller.now.place (S.state s.old).sectors walked.now.second.ino,
         ))) result }
     ensures same { IsUnchanged (S.state s.old) (S.state s.new) }
 {
-    let (n, inode, replaced) = check_renamed(s, place, first, second)?;
+    let (n, inode, replaced) = check_renamed(s, caller.place, &walked.first, &walked.second)?;
     if is_same(n, &replaced) {
         return Ok((n, inode, replaced));
     }
-    check_move(
-        alloc, s, place, process, procs, n, &inode, &replaced, first, second,
-    )?;
+    check_move(s, caller, walked, n, &inode, &replaced)?;
     Ok((n, inode, replaced))
 }
 
@@ -208,25 +204,15 @@ fn check_rename<S: Sectors>(
 /// `..`, or a directory would go below itself. EBUSY: a path leads to where it starts, or the directory that is replaced is in
 /// use. ENOTDIR: a path of what is no directory ends in a slash, or a directory would replace what is none. EISDIR: something
 /// else would replace a directory. ENOTEMPTY: the directory that is replaced has names.
-pub fn rename<S: Sectors>(
-    alloc: Global,
-    s: &mut S,
-    place: Place,
-    procs: &Procs,
-    pid: usize,
-    old: &Path,
-    new: &Path,
-) -> Result<Reply, Refusal>
-    requires ready { IsReady place (S.state s.old) procs.now }
-    ensures { Performs place pid (Rename old.now new.now) (S.state s.old) (S.state s.new) procs.now procs.now result }
+pub fn rename<S: Sectors>(s: &mut S, caller: &Caller, old: &Path, new: &Path) -> CallResult
+    requires ready { IsReadyFor caller.now (S.state s.old) }
+    ensures { PerformsFor caller.now (Rename old.now new.now) (S.state s.old) (S.state s.new) result }
 {
-    let walked = walk_both(alloc, s, place, procs, pid, old, new)?;
-    let first = &walked.first;
-    let second = &walked.second;
-    let (n, inode, replaced) = check_rename(alloc, s, place, procs, walked.process, first, second)?;
+    let walked = walk_both(s, caller, old, new)?;
+    let (n, inode, replaced) = check_rename(s, caller, &walked)?;
     if is_same(n, &replaced) {
         return Ok(Reply::Done);
     }
-    move_name(s, place, procs, first, second, n, &inode, &replaced)?;
+    move_name(s, caller, &walked, n, &inode, &replaced)?;
     Ok(Reply::Done)
 }

@@ -3,7 +3,7 @@
 ghost use Rattle.std.specs.Prelude.{◌≡◌, ◌-◌, ℕ, Option, Some, Ok};
 ghost use Rattle.call_parts.specs.DiskWords.{SectorMap, inode_at, IsUnchanged, IsSound};
 ghost use Rattle.call_parts.specs.ModelWords.{first_of, Desks, rename_permissions, rename_moved, rename_space, State, Tree, IsDirectoryAt, refused_or, IsAnswered, HoldsTree, IsThere};
-ghost use Rattle.fs_model.specs.Processes.{Process as Caller};
+ghost use Rattle.fs_model.specs.Processes.{Process as Asking};
 ghost use Rattle.name_calls.specs.Renaming.{inode_there};
 ghost use Rattle.name_calls.specs.Replacing.{IsToRename, sticky_there, below_asked, replaced_asked, move_asked};
 ghost use Rattle.call_parts.specs.TwoPaths.{scene_with};
@@ -11,14 +11,13 @@ ghost use Rattle.call_parts.specs.TwoPaths.{scene_with};
 use crate::removal::check_directory;
 use crate::renaming::check_kinds;
 use crate::ways::is_below;
-use call_parts::{ask_directory, ask_for_name, check_sticky, permitted};
+use call_parts::{Caller, WalkedBoth, ask_directory, ask_for_name, check_sticky, permitted};
 use fs_cred::{Errno, Refusal};
 use fs_layout::{Inode, Kind, Place};
 use fs_model::Found;
 use open_files::{Process, Procs};
 use posix_acl::Perms;
 use sector_txn::Sectors;
-use std::alloc::Global;
 
 // What is asked of a directory that goes to another one: its `..` changes.
 const WRITE: Perms = Perms {
@@ -46,27 +45,29 @@ fn check_sticky_there(
 
 // Asks both directories for what renaming takes of them, and answers the inode of the second.
 fn check_permissions<S: Sectors>(
-    alloc: Global,
     s: &mut S,
-    place: Place,
-    process: &Process,
+    caller: &Caller,
+    walked: &WalkedBoth,
     inode: &Inode,
     replaced: &Option<(u32, Inode)>,
-    first: &Found,
-    second: &Found,
 ) -> Result<Inode, Refusal>
-    requires sound { IsSound place (S.state s.old) }
+    requires sound { IsSound caller.now.place (S.state s.old) }
     requires names { (desks : Desks) × (n : ℕ) × (st : State)
-        × IsToRename place (S.state s.old).sectors desks first.now second.now n inode.now replaced.now st }
+        × IsToRename caller.now.place (S.state s.old).sectors desks walked.now.first walked.now.second
+        n inode.now replaced.now st }
     ensures each { (desks : Desks) (n : ℕ) (st : State)
-        → IsToRename place (S.state s.old).sectors desks first.now second.now n inode.now replaced.now st
+        → IsToRename caller.now.place (S.state s.old).sectors desks walked.now.first walked.now.second
+        n inode.now replaced.now st
         → IsAnswered (S.state s.old).disk (S.state s.new).disk
-        (refused_or (first_of (rename_permissions (scene_with st process.now first.now second.now)))
-        (Ok (inode_at place (S.state s.old).sectors second.now.dir))) result }
+        (refused_or (first_of (rename_permissions (scene_with st walked.now.process.now walked.now.first walked.now.second)))
+        (Ok (inode_at caller.now.place (S.state s.old).sectors walked.now.second.dir))) result }
     ensures same { IsUnchanged (S.state s.old) (S.state s.new) }
 {
-    let directory = ask_directory(alloc, s, place, process, first, 1)?;
-    let to_directory = ask_directory(alloc, s, place, process, second, 2)?;
+    let process = walked.process;
+    let first = &walked.first;
+    let second = &walked.second;
+    let directory = ask_directory(caller.alloc, s, caller.place, process, first, 1)?;
+    let to_directory = ask_directory(caller.alloc, s, caller.place, process, second, 2)?;
     check_sticky(process, first, &directory, inode, 1)?;
     check_sticky_there(process, second, &to_directory, replaced)?;
     Ok(to_directory)
@@ -115,31 +116,33 @@ fn check_replaced(procs: &Procs, replaced: &Option<(u32, Inode)>) -> Result<(), 
 
 // Asks for write permission on a directory that goes to another one.
 fn check_moved<S: Sectors>(
-    alloc: Global,
     s: &mut S,
-    place: Place,
-    first: &Found,
-    second: &Found,
-    process: &Process,
+    caller: &Caller,
+    walked: &WalkedBoth,
     inode: &Inode,
 ) -> Result<(), Refusal>
-    requires sound { IsSound place (S.state s.old) }
+    requires sound { IsSound caller.now.place (S.state s.old) }
     requires names { (desks : Desks) × (n : ℕ) × (there : Option (ℕ × Inode)) × (st : State)
-        × IsToRename place (S.state s.old).sectors desks first.now second.now n inode.now there st }
+        × IsToRename caller.now.place (S.state s.old).sectors desks walked.now.first walked.now.second
+        n inode.now there st }
     ensures each { (desks : Desks) (n : ℕ) (there : Option (ℕ × Inode)) (st : State)
-        → IsToRename place (S.state s.old).sectors desks first.now second.now n inode.now there st
+        → IsToRename caller.now.place (S.state s.old).sectors desks walked.now.first walked.now.second
+        n inode.now there st
         → IsAnswered (S.state s.old).disk (S.state s.new).disk
-        (refused_or (first_of (rename_moved (scene_with st process.now first.now second.now))) (Ok tt)) result }
+        (refused_or (first_of (rename_moved (scene_with st walked.now.process.now walked.now.first walked.now.second))) (Ok tt)) result }
     ensures same { IsUnchanged (S.state s.old) (S.state s.new) }
 {
+    let first = &walked.first;
+    let second = &walked.second;
     if inode.kind != Kind::Directory {
         return Ok(());
     }
     if first.dir == second.dir {
         return Ok(());
     }
-    let cred = process.cred();
-    permitted(alloc, s, place, cred, inode, WRITE, 1, first.step)?;
+    let cred = walked.process.cred();
+    let step = first.step;
+    permitted(caller.alloc, s, caller.place, cred, inode, WRITE, 1, step)?;
     Ok(())
 }
 
@@ -152,7 +155,7 @@ fn check_space<S: Sectors>(
     to_directory: &Inode,
 ) -> Result<(), Refusal>
     requires sound { IsSound place (S.state s.old) }
-    ensures each { (desks : Desks) (q : Caller) (n : ℕ) (v : Inode) (there : Option (ℕ × Inode)) (st : State)
+    ensures each { (desks : Desks) (q : Asking) (n : ℕ) (v : Inode) (there : Option (ℕ × Inode)) (st : State)
         → IsToRename place (S.state s.old).sectors desks first.now second.now n v there st
         → to_directory.now ≡ inode_at place (S.state s.old).sectors second.now.dir
         → IsAnswered (S.state s.old).disk (S.state s.new).disk
@@ -171,31 +174,31 @@ fn check_space<S: Sectors>(
 
 /// Asks all that rename asks where its names aren't of one object.
 pub(crate) fn check_move<S: Sectors>(
-    alloc: Global,
     s: &mut S,
-    place: Place,
-    process: &Process,
-    procs: &Procs,
+    caller: &Caller,
+    walked: &WalkedBoth,
     n: u32,
     inode: &Inode,
     replaced: &Option<(u32, Inode)>,
-    first: &Found,
-    second: &Found,
 ) -> Result<(), Refusal>
-    requires sound { IsSound place (S.state s.old) }
+    requires sound { IsSound caller.now.place (S.state s.old) }
     requires names { (st : State)
-        × IsToRename place (S.state s.old).sectors procs.now first.now second.now n inode.now replaced.now st }
+        × IsToRename caller.now.place (S.state s.old).sectors caller.now.procs.now
+        walked.now.first walked.now.second n inode.now replaced.now st }
     ensures each { (st : State)
-        → IsToRename place (S.state s.old).sectors procs.now first.now second.now n inode.now replaced.now st
+        → IsToRename caller.now.place (S.state s.old).sectors caller.now.procs.now
+        walked.now.first walked.now.second n inode.now replaced.now st
         → IsAnswered (S.state s.old).disk (S.state s.new).disk
-        (refused_or (first_of (move_asked (scene_with st process.now first.now second.now))) (Ok tt)) result }
+        (refused_or (first_of (move_asked (scene_with st walked.now.process.now walked.now.first walked.now.second))) (Ok tt)) result }
     ensures same { IsUnchanged (S.state s.old) (S.state s.new) }
 {
-    let to_directory = check_permissions(alloc, s, place, process, inode, replaced, first, second)?;
+    let first = &walked.first;
+    let second = &walked.second;
+    let to_directory = check_permissions(s, caller, walked, inode, replaced)?;
     check_kinds(inode.kind, replaced)?;
-    check_below(s, place, n, inode.kind, second.dir)?;
-    check_replaced(procs, replaced)?;
-    check_moved(alloc, s, place, first, second, process, inode)?;
-    check_space(s, place, first, second, &to_directory)?;
+    check_below(s, caller.place, n, inode.kind, second.dir)?;
+    check_replaced(caller.procs, replaced)?;
+    check_moved(s, caller, walked, inode)?;
+    check_space(s, caller.place, first, second, &to_directory)?;
     Ok(())
 }

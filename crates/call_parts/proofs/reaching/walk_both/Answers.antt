@@ -21,20 +21,20 @@ returns-in_err-process-clause-refused g c =
     let old = g.S.Sectors.state c.args.s.now in
     let absent = c.in_err-process.ensures.absent in
     failed_with c.from_residual.result (Failed c.in_err-process.field-0.0)
-    (λ (e : Refusal). (s : State) → IsStateOf c.args.place old.sectors c.args.procs.now s
-    → RefusesBoth old.disk old.disk s c.args.pid c.args.old.now c.args.new.now e) r.0 r.1
-    (λ s at. absent_both old.disk old.disk s c.args.pid c.args.old.now c.args.new.now c.in_err-process.field-0.0 absent.0
-    (ap (λ (d : Desks). get nat_cmp d c.args.pid) at.same_desks ∙ absent.1))
+    (λ (e : Refusal). (s : State) → IsStateOf c.args.caller.now.place old.sectors c.args.caller.now.procs.now s
+    → RefusesBoth old.disk old.disk s c.args.caller.now.pid c.args.old.now c.args.new.now e) r.0 r.1
+    (λ s at. absent_both old.disk old.disk s c.args.caller.now.pid c.args.old.now c.args.new.now c.in_err-process.field-0.0 absent.0
+    (ap (λ (d : Desks). get nat_cmp d c.args.caller.now.pid) at.same_desks ∙ absent.1))
 
 pub find_names-requires-clause-inodes : goal.find_names-requires-clause-inodes
 find_names-requires-clause-inodes g c = held_inodes (state_tree c.requires.ready.is_state)
 
 pub find_names-requires-clause-start : goal.find_names-requires-clause-start
-find_names-requires-clause-start g c = cwd_below c.requires.ready.is_state c.args.pid c.in_ok-process.process.now c.in_ok-process.ensures.found
+find_names-requires-clause-start g c = cwd_below c.requires.ready.is_state c.args.caller.now.pid c.in_ok-process.process.now c.in_ok-process.ensures.found
 
 pub find_names-requires-clause-second_start : goal.find_names-requires-clause-second_start
 find_names-requires-clause-second_start g c =
-    second_cwd_below c.requires.ready.is_state c.args.pid c.in_ok-process.process.now c.in_ok-process.ensures.found
+    second_cwd_below c.requires.ready.is_state c.args.caller.now.pid c.in_ok-process.process.now c.in_ok-process.ensures.found
 
 pub returns-in_err-first-clause-refused : goal.returns-in_err-first-clause-refused
 returns-in_err-first-clause-refused g c =
@@ -46,10 +46,10 @@ returns-in_err-first-clause-refused g c =
     let there = c.in_ok-process.ensures.found in
     let e = c.in_err-first.field-0.0 in
     failed_with c.from_residual-in_err-first.result e
-    (λ (e : Refusal). (s : State) → IsStateOf c.args.place old.sectors c.args.procs.now s
-    → RefusesBoth old.disk new.disk s c.args.pid c.args.old.now c.args.new.now e) r.0 r.1
-    (λ s at. unwalked_both old.disk new.disk s c.args.pid q (same_process at c.args.pid q there) c.args.old.now c.args.new.now e
-    (λ x h. same_err e x (found.checked x h)) (λ none. found.each none s.tree (state_tree at) (cwd_there at c.args.pid q there) (second_cwd_there at c.args.pid q there)))
+    (λ (e : Refusal). (s : State) → IsStateOf c.args.caller.now.place old.sectors c.args.caller.now.procs.now s
+    → RefusesBoth old.disk new.disk s c.args.caller.now.pid c.args.old.now c.args.new.now e) r.0 r.1
+    (λ s at. unwalked_both old.disk new.disk s c.args.caller.now.pid q (same_process at c.args.caller.now.pid q there) c.args.old.now c.args.new.now e
+    (λ x h. same_err e x (found.checked x h)) (λ none. found.each none s.tree (state_tree at) (cwd_there at c.args.caller.now.pid q there) (second_cwd_there at c.args.caller.now.pid q there)))
 
 pub returns-clause-walked : goal.returns-clause-walked
 returns-clause-walked g c =
@@ -64,7 +64,7 @@ returns-clause-walked g c =
       old_bytes = found.old_bytes;
       new_bytes = found.new_bytes;
       found = λ s at.
-          let before = kept_back (λ (m : SectorMap). IsStateOf c.args.place m c.args.procs.now s) found.same at in
-          both_found old.disk new.disk s c.args.pid q (same_process before c.args.pid q there) c.args.old.now c.args.new.now c.in_ok-first.first c.in_ok-first.second found.valid
-          (found.each found.valid s.tree (state_tree before) (cwd_there before c.args.pid q there) (second_cwd_there before c.args.pid q there));
+          let before = kept_back (λ (m : SectorMap). IsStateOf c.args.caller.now.place m c.args.caller.now.procs.now s) found.same at in
+          both_found old.disk new.disk s c.args.caller.now.pid q (same_process before c.args.caller.now.pid q there) c.args.old.now c.args.new.now c.in_ok-first.first c.in_ok-first.second found.valid
+          (found.each found.valid s.tree (state_tree before) (cwd_there before c.args.caller.now.pid q there) (second_cwd_there before c.args.caller.now.pid q there));
     }

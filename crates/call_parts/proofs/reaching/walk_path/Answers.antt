@@ -1,8 +1,7 @@
-use Rattle.std.specs.Prelude.{Err}
 use Rattle.fs_cred.specs.declared.refusal.Refusal.{Refusal}
 use Rattle.fs_cred.specs.declared.refusal.Refusal.TheVariants.{Failed}
 use Rattle.std.specs.Ordering.{nat_cmp}
-use Rattle.std.proofs.Common.{sym, ap, ◌∙◌}
+use Rattle.std.proofs.Common.{ap, ◌∙◌}
 use Rattle.fs_layout.specs.Maps.{get}
 use Rattle.fs_layout.specs.Bytes.{SectorMap}
 use Rattle.fs_model.specs.Processes.{Desks}
@@ -22,10 +21,10 @@ returns-in_err-process-clause-refused g c =
     let old = g.S.Sectors.state c.args.s.now in
     let absent = c.in_err-process.ensures.absent in
     failed_with c.from_residual.result (Failed c.in_err-process.field-0.0)
-    (λ (e : Refusal). (s : State) → IsStateOf c.args.place old.sectors c.args.procs.now s
-    → RefusesWalk old.disk old.disk s c.args.pid c.args.checks c.args.form c.args.path.now e) r.0 r.1
-    (λ s at. absent_walk old.disk old.disk s c.args.pid c.args.checks c.args.form c.args.path.now c.in_err-process.field-0.0 absent.0
-    (ap (λ (d : Desks). get nat_cmp d c.args.pid) at.same_desks ∙ absent.1))
+    (λ (e : Refusal). (s : State) → IsStateOf c.args.caller.now.place old.sectors c.args.caller.now.procs.now s
+    → RefusesWalk old.disk old.disk s c.args.caller.now.pid c.args.checks c.args.form c.args.path.now e) r.0 r.1
+    (λ s at. absent_walk old.disk old.disk s c.args.caller.now.pid c.args.checks c.args.form c.args.path.now c.in_err-process.field-0.0 absent.0
+    (ap (λ (d : Desks). get nat_cmp d c.args.caller.now.pid) at.same_desks ∙ absent.1))
 
 pub returns-in_err-checks-clause-refused : goal.returns-in_err-checks-clause-refused
 returns-in_err-checks-clause-refused g c =
@@ -34,16 +33,16 @@ returns-in_err-checks-clause-refused g c =
     let q = c.in_ok-process.process.now in
     let e = c.in_err-checks.field-0.0 in
     failed_with c.from_residual-in_err-checks.result e
-    (λ (e : Refusal). (s : State) → IsStateOf c.args.place old.sectors c.args.procs.now s
-    → RefusesWalk old.disk old.disk s c.args.pid c.args.checks c.args.form c.args.path.now e) r.0 r.1
-    (λ s at. unchecked_walk old.disk old.disk s c.args.pid q (same_process at c.args.pid q c.in_ok-process.ensures.found) c.args.checks c.args.form c.args.path.now e
+    (λ (e : Refusal). (s : State) → IsStateOf c.args.caller.now.place old.sectors c.args.caller.now.procs.now s
+    → RefusesWalk old.disk old.disk s c.args.caller.now.pid c.args.checks c.args.form c.args.path.now e) r.0 r.1
+    (λ s at. unchecked_walk old.disk old.disk s c.args.caller.now.pid q (same_process at c.args.caller.now.pid q c.in_ok-process.ensures.found) c.args.checks c.args.form c.args.path.now e
     c.in_err-checks.was)
 
 pub find-requires-clause-inodes : goal.find-requires-clause-inodes
 find-requires-clause-inodes g c = held_inodes (state_tree c.requires.ready.is_state)
 
 pub find-requires-clause-start : goal.find-requires-clause-start
-find-requires-clause-start g c = cwd_below c.requires.ready.is_state c.args.pid c.in_ok-process.process.now c.in_ok-process.ensures.found
+find-requires-clause-start g c = cwd_below c.requires.ready.is_state c.args.caller.now.pid c.in_ok-process.process.now c.in_ok-process.ensures.found
 
 pub returns-in_err-found-clause-refused : goal.returns-in_err-found-clause-refused
 returns-in_err-found-clause-refused g c =
@@ -55,10 +54,10 @@ returns-in_err-found-clause-refused g c =
     let there = c.in_ok-process.ensures.found in
     let e = c.in_err-found.field-0.0 in
     failed_with c.from_residual-in_err-found.result e
-    (λ (e : Refusal). (s : State) → IsStateOf c.args.place old.sectors c.args.procs.now s
-    → RefusesWalk old.disk new.disk s c.args.pid c.args.checks c.args.form c.args.path.now e) r.0 r.1
-    (λ s at. unwalked old.disk new.disk s c.args.pid q (same_process at c.args.pid q there) c.args.checks c.args.form c.args.path.now e c.in_ok-checks.was
-    (λ x h. same_err e x (found.checked x h)) (λ none. found.each none s.tree (state_tree at) (cwd_there at c.args.pid q there)))
+    (λ (e : Refusal). (s : State) → IsStateOf c.args.caller.now.place old.sectors c.args.caller.now.procs.now s
+    → RefusesWalk old.disk new.disk s c.args.caller.now.pid c.args.checks c.args.form c.args.path.now e) r.0 r.1
+    (λ s at. unwalked old.disk new.disk s c.args.caller.now.pid q (same_process at c.args.caller.now.pid q there) c.args.checks c.args.form c.args.path.now e c.in_ok-checks.was
+    (λ x h. same_err e x (found.checked x h)) (λ none. found.each none s.tree (state_tree at) (cwd_there at c.args.caller.now.pid q there)))
 
 pub returns-clause-walked : goal.returns-clause-walked
 returns-clause-walked g c =
@@ -73,7 +72,7 @@ returns-clause-walked g c =
       fine = c.in_ok-checks.was;
       bytes = c.bytes-bytes.ensures.valid;
       found = λ s at.
-          let before = kept_back (λ (m : SectorMap). IsStateOf c.args.place m c.args.procs.now s) found.same at in
-          resolved old.disk new.disk c.in_ok-found.found (same_process before c.args.pid q there) found.valid
-          (found.each found.valid s.tree (state_tree before) (cwd_there before c.args.pid q there));
+          let before = kept_back (λ (m : SectorMap). IsStateOf c.args.caller.now.place m c.args.caller.now.procs.now s) found.same at in
+          resolved old.disk new.disk c.in_ok-found.found (same_process before c.args.caller.now.pid q there) found.valid
+          (found.each found.valid s.tree (state_tree before) (cwd_there before c.args.caller.now.pid q there));
     }

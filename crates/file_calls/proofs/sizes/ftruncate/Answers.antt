@@ -32,7 +32,7 @@ pub give_size-requires : goal.give_size-requires
 give_size-requires g c =
     let x = reached_as c.descriptor.view_is c.in_ok-descriptor.ensures.opened in
     let o = x.is_open.opened in
-    let met = few_enough (max_file_size c.args.place.version) c.args.size (met_ok {A = Unit {0}} (refuse EFBIG (nat_lt (max_file_size c.args.place.version) c.args.size)) tt tt (sym c.in_ok-check_size.ensures)).0 in
+    let met = few_enough (max_file_size c.args.caller.now.place.version) c.args.size (met_ok {A = Unit {0}} (refuse EFBIG (nat_lt (max_file_size c.args.caller.now.place.version) c.args.size)) tt tt (sym c.in_ok-check_size.ensures)).0 in
     let room = x.ready.spare in
     record {
       sound = x.ready.sound;
@@ -54,10 +54,10 @@ returns-in_err-give_size g c =
 pub returns : goal.returns
 returns g c =
     let x = reached_as c.descriptor.view_is c.in_ok-descriptor.ensures.opened in
-    let fits = few_enough (max_file_size c.args.place.version) c.args.size (met_ok {A = Unit {0}} (refuse EFBIG (nat_lt (max_file_size c.args.place.version) c.args.size)) tt tt (sym c.in_ok-check_size.ensures)).0 in
+    let fits = few_enough (max_file_size c.args.caller.now.place.version) c.args.size (met_ok {A = Unit {0}} (refuse EFBIG (nat_lt (max_file_size c.args.caller.now.place.version) c.args.size)) tt tt (sym c.in_ok-check_size.ensures)).0 in
     let mid = g.S.Sectors.state c.reach_open.new.s in
     let new = g.S.Sectors.state c.give_size.new.s in
     let done = c.in_ok-give_size.ensures in
     let stays = process_stays x.is_open.opened x.table in
-    changed_tree (ftruncate_by c.args.fd c.args.size) c.in_ok-descriptor.ensures.same x.is_open new c.args.procs.now done.store done.change.super (λ p. p) Done stays
+    changed_tree (ftruncate_by c.args.fd c.args.size) c.in_ok-descriptor.ensures.same x.is_open new c.args.caller.now.procs.now done.store done.change.super (λ p. p) Done stays
     (λ s at. cuts mid x.is_open.opened c.args.size s at new (open_to_write x.is_open) fits stays done.change)

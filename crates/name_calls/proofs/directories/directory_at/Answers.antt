@@ -22,7 +22,7 @@ returns-in_err-walked-clause-refused g c =
     let old = g.S.Sectors.state c.args.s.now in
     let new = g.S.Sectors.state c.walk_path.new.s in
     failed_with c.from_residual.result e
-    (λ (e : Refusal). Performs c.args.place c.args.pid (Chdir c.args.path.now) old new c.args.procs.now c.args.procs.now (Err e)) r.0 r.1
+    (λ (e : Refusal). Performs c.args.caller.now.place c.args.caller.now.pid (Chdir c.args.path.now) old new c.args.caller.now.procs.now c.args.caller.now.procs.now (Err e)) r.0 r.1
     (walk_refused (chdir_by_path c.args.path.now) (Err e) e refl refl x.same x.refused)
 
 pub directory_found-requires : goal.directory_found-requires
@@ -41,9 +41,9 @@ returns-in_err-n-clause-refused g c =
     let mid = g.S.Sectors.state c.walk_path.new.s in
     let new = g.S.Sectors.state c.directory_found.new.s in
     failed_with c.from_residual-in_err-n.result e
-    (λ (e : Refusal). Performs c.args.place c.args.pid (Chdir c.args.path.now) old new c.args.procs.now c.args.procs.now (Err e)) r.0 r.1
+    (λ (e : Refusal). Performs c.args.caller.now.place c.args.caller.now.pid (Chdir c.args.path.now) old new c.args.caller.now.procs.now c.args.caller.now.procs.now (Err e)) r.0 r.1
     (asked_refused (chdir_by_path c.args.path.now) x.same x.walked new (Err e) e refl refl c.in_err-n.ensures.same.store {A = ℕ} (number f)
-    (λ s has at. entering_as s.tree f e mid.disk new.disk c.cred.ensures (c.in_err-n.ensures.each s.tree (state_tree at) (λ n some. found_there n at has some))))
+    (λ s has at. entering_as s.tree f e mid.disk new.disk c.cred-cred.ensures (c.in_err-n.ensures.each s.tree (state_tree at) (λ n some. found_there n at has some))))
 
 pub returns-in_err-n-clause-same : goal.returns-in_err-n-clause-same
 returns-in_err-n-clause-same g c = unchanged_joined c.in_ok-walked.ensures.same c.in_err-n.ensures.same
@@ -58,9 +58,9 @@ returns-clause-entered g c = λ now is_now.
     let q = c.in_ok-walked.walked.process.now in
     let n = c.in_ok-n.n in
     process_changed (chdir_by_path c.args.path.now) x.same x.walked (g.S.Sectors.state c.directory_found.new.s) now c.in_ok-n.ensures.same
-    (standing_at n n q) Done (is_now ∙ changed_there _ c.args.pid q (standing_at n n) x.walked.there) refl
+    (standing_at n n q) Done (is_now ∙ changed_there _ c.args.caller.now.pid q (standing_at n n) x.walked.there) refl
     (λ s has at.
-    let met = entered_as s.tree f n c.cred.ensures (c.in_ok-n.ensures.each s.tree (state_tree at) (λ k some. found_there k at has some)) in
+    let met = entered_as s.tree f n c.cred-cred.ensures (c.in_ok-n.ensures.each s.tree (state_tree at) (λ k some. found_there k at has some)) in
     (met.0, ap (λ (k : ℕ). with_process (standing_at k k q) Done) met.1))
 
 pub returns-clause-same : goal.returns-clause-same

@@ -37,33 +37,33 @@ check_place-requires-clause-sound g c = sound_kept c.in_ok-n.ensures.same c.requ
 pub check_place-requires-clause-there : goal.check_place-requires-clause-there
 check_place-requires-clause-there g c =
     let x = c.requires.found in
-    (x.1.tree, tree_kept c.in_ok-n.ensures.same (state_tree x.2.is_state), name_dir x.2 (is_link_name c.args.second.now (sym c.in_ok-check_link_name.ensures)).0)
+    (x.1.tree, tree_kept c.in_ok-n.ensures.same (state_tree x.2.is_state), name_dir x.2 (is_link_name c.args.walked.now.second (sym c.in_ok-check_link_name.ensures)).0)
 
 pub returns-in_err-directory-clause-each : goal.returns-in_err-directory-clause-each
 returns-in_err-directory-clause-each g c = λ desks st i.
-    let p = c.args.place in
-    let h = c.args.second.now in
-    let q = c.args.process.now in
+    let p = c.args.caller.now.place in
+    let h = c.args.walked.now.second in
+    let q = c.args.walked.now.process.now in
     let same = c.in_ok-n.ensures.same in
-    let source = source_inode st.tree c.args.first.now p (g.S.Sectors.state c.args.s.now).sectors (c.in_ok-n.ensures.each st.tree (state_tree i.is_state) (first_there i)) in
+    let source = source_inode st.tree c.args.walked.now.first p (g.S.Sectors.state c.args.s.now).sectors (c.in_ok-n.ensures.each st.tree (state_tree i.is_state) (first_there i)) in
     let name = (is_link_name h (sym c.in_ok-check_link_name.ensures)).0 in
     passed_later (g.S.Sectors.state c.check_place.new.s).disk _ _ _ c.from_residual-in_err-directory.ensures same
-    (kept (λ (m : SectorMap). Refuses (first_of (place_asked p m q.cred st.tree h.dir (h.step - 1) c.in_ok-n.inode.names)) (first_of (link_demands (scene_with st q c.args.first.now h)))) same
+    (kept (λ (m : SectorMap). Refuses (first_of (place_asked p m q.cred st.tree h.dir (h.step - 1) c.in_ok-n.inode.names)) (first_of (link_demands (scene_with st q c.args.walked.now.first h)))) same
     (place_refuses i source.0 name source.1)) _
     (c.in_err-directory.ensures.each st.tree (tree_kept same (state_tree i.is_state)) (name_dir i name))
 
 pub returns-clause-each : goal.returns-clause-each
 returns-clause-each g c = λ desks st i.
-    let p = c.args.place in
-    let f = c.args.first.now in
-    let h = c.args.second.now in
+    let p = c.args.caller.now.place in
+    let f = c.args.walked.now.first in
+    let h = c.args.walked.now.second in
     let old = (g.S.Sectors.state c.args.s.now).sectors in
     let same = c.in_ok-n.ensures.same in
     let told = c.in_ok-n.ensures.each st.tree (state_tree i.is_state) (first_there i) in
     let source = source_inode st.tree f p old told in
     let name = (is_link_name h (sym c.in_ok-check_link_name.ensures)).0 in
-    let last = met_ok {A = Inode} (first_of (place_asked p old c.args.process.now.cred st.tree h.dir (h.step - 1) c.in_ok-n.inode.names)) (inode_at p old h.dir) c.in_ok-directory.directory
-    (kept_back (λ (m : SectorMap). refused_or {A = Inode} (first_of (place_asked p m c.args.process.now.cred st.tree h.dir (h.step - 1) c.in_ok-n.inode.names)) (Ok (inode_at p m h.dir)) ≡ Ok c.in_ok-directory.directory)
+    let last = met_ok {A = Inode} (first_of (place_asked p old c.args.walked.now.process.now.cred st.tree h.dir (h.step - 1) c.in_ok-n.inode.names)) (inode_at p old h.dir) c.in_ok-directory.directory
+    (kept_back (λ (m : SectorMap). refused_or {A = Inode} (first_of (place_asked p m c.args.walked.now.process.now.cred st.tree h.dir (h.step - 1) c.in_ok-n.inode.names)) (Ok (inode_at p m h.dir)) ≡ Ok c.in_ok-directory.directory)
     same (c.in_ok-directory.ensures.each st.tree (tree_kept same (state_tree i.is_state)) (name_dir i name))) in
     answered_ok (link_asked_met i source.0 name source.1 last.0)
     (ap (λ (x : ℕ × Inode). (x.0, x.1, inode_at p old h.dir)) (met_ok {A = ℕ × Inode} _ _ _ told).1 ∙ ap (λ (w : Inode). (c.in_ok-n.n, c.in_ok-n.inode, w)) last.1)

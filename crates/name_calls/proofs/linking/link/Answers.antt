@@ -18,7 +18,7 @@ pub check_link-requires : goal.check_link-requires
 check_link-requires g c =
     let w = c.in_ok-walked.ensures.walked in
     let ready = w.ready in
-    record { sound = ready.sound; found = (c.args.procs.now, ready.state, finds_each w ready.state ready.is_state) }
+    record { sound = ready.sound; found = (c.args.caller.now.procs.now, ready.state, finds_each w ready.state ready.is_state) }
 
 pub returns-in_err-walked : goal.returns-in_err-walked
 returns-in_err-walked g c =
@@ -38,17 +38,17 @@ add_name-requires g c =
     let w = c.in_ok-walked.ensures.walked in
     let ready = w.ready in
     let h = c.in_ok-walked.walked.second in
-    let p = c.args.place in
+    let p = c.args.caller.now.place in
     let mid = g.S.Sectors.state c.walk_both.new.s in
     let finds = finds_each w ready.state ready.is_state in
-    let told = link_told ready.state (c.in_ok-n.ensures.each c.args.procs.now ready.state finds) in
+    let told = link_told ready.state (c.in_ok-n.ensures.each c.args.caller.now.procs.now ready.state finds) in
     record {
       sound = sound_kept same ready.sound;
       inode = kept (λ (m : SectorMap). c.in_ok-n.inode ≡ inode_at p m c.in_ok-n.n) same told.inode.inode;
       few = few_names finds told;
       directory = kept (λ (m : SectorMap). c.in_ok-n.directory ≡ inode_at p m h.dir) same told.directory;
       may = (
-        c.args.procs.now,
+        c.args.caller.now.procs.now,
         ready.state,
         state_kept same ready.is_state,
         kept (λ (m : SectorMap). MayLink p m ready.state.tree h.dir c.bytes-name.result.now c.in_ok-n.n) same
@@ -62,11 +62,11 @@ returns-in_err-n g c =
     let r = c.from_residual-in_err-n.ensures in
     let x = c.in_ok-walked.ensures in
     both_refused (link_by_two c.args.old.now c.args.new.now) x.same x.walked (g.S.Sectors.state c.check_link.new.s) _ _ r.0 r.1 c.in_err-n.ensures.same.store _
-    (λ s has at. c.in_err-n.ensures.each c.args.procs.now s (finds_each x.walked s at))
+    (λ s has at. c.in_err-n.ensures.each c.args.caller.now.procs.now s (finds_each x.walked s at))
 
 pub returns : goal.returns
 returns g c =
-    let p = c.args.place in
+    let p = c.args.caller.now.place in
     let x = c.in_ok-walked.ensures in
     let f = c.in_ok-walked.walked.first in
     let h = c.in_ok-walked.walked.second in
@@ -77,9 +77,9 @@ returns g c =
     both_performs (link_by_two c.args.old.now c.args.new.now) x.same x.walked new (store_joined same.store added.store) (added.superblock ∙ same.sectors 0) Done
     (λ s has at.
     let finds = finds_each x.walked s at in
-    let told = link_told s (c.in_ok-n.ensures.each c.args.procs.now s finds) in
+    let told = link_told s (c.in_ok-n.ensures.each c.args.caller.now.procs.now s finds) in
     let may = kept (λ (m : SectorMap). MayLink p m s.tree h.dir c.bytes-name.result.now c.in_ok-n.n) same
     (subst (λ (name : List ℕ). MayLink p mid s.tree h.dir name c.in_ok-n.n) (sym c.bytes-name.ensures.all) (link_may finds told)) in
     link_changes s c.in_ok-walked.walked.process.now f h c.in_ok-n.n told.inode.number told.met
-    (subst (λ (name : List ℕ). HoldsAll p new.sectors (placed (swept (changed s.tree (AddName h.dir name c.in_ok-n.n)) c.args.procs.now))) c.bytes-name.ensures.all
-    (added.added c.args.procs.now s (state_kept same at) may)))
+    (subst (λ (name : List ℕ). HoldsAll p new.sectors (placed (swept (changed s.tree (AddName h.dir name c.in_ok-n.n)) c.args.caller.now.procs.now))) c.bytes-name.ensures.all
+    (added.added c.args.caller.now.procs.now s (state_kept same at) may)))

@@ -17,15 +17,15 @@ check_renamed-requires-clause-there g c = let x = c.requires.found in (x.0.tree,
 pub returns-in_err-n-clause-each : goal.returns-in_err-n-clause-each
 returns-in_err-n-clause-each g c = λ st i.
     passed (g.S.Sectors.state c.args.s.now).disk (g.S.Sectors.state c.check_renamed.new.s).disk _ _ _ c.from_residual.ensures
-    (names_refuse st c.args.process.now c.args.first.now c.args.second.now) _
+    (names_refuse st c.args.walked.now.process.now c.args.walked.now.first c.args.walked.now.second) _
     (c.in_err-n.ensures.each st.tree (state_tree i.is_state) (first_there i) (second_there i))
 
 pub returns-then-is_same-clause-each : goal.returns-then-is_same-clause-each
 returns-then-is_same-clause-each g c = λ st i.
-    let q = c.args.process.now in
+    let q = c.args.walked.now.process.now in
     let told = c.in_ok-n.ensures.each st.tree (state_tree i.is_state) (first_there i) (second_there i) in
     let r = to_rename i told in
-    answered_ok (same_met st q c.args.first.now c.args.second.now r.0 (same_is q r.1 ∙ sym c.is_same.ensures ∙ c.if-is_same.true)) (met_ok _ _ _ told).1
+    answered_ok (same_met st q c.args.walked.now.first c.args.walked.now.second r.0 (same_is q r.1 ∙ sym c.is_same.ensures ∙ c.if-is_same.true)) (met_ok _ _ _ told).1
 
 pub check_move-requires-clause-sound : goal.check_move-requires-clause-sound
 check_move-requires-clause-sound g c = sound_kept c.in_ok-n.ensures.same c.requires.sound
@@ -38,11 +38,11 @@ check_move-requires-clause-names g c =
 
 pub returns-in_err-check_move-clause-each : goal.returns-in_err-check_move-clause-each
 returns-in_err-check_move-clause-each g c = λ st i.
-    let q = c.args.process.now in
+    let q = c.args.walked.now.process.now in
     let same = c.in_ok-n.ensures.same in
     let r = to_rename i (c.in_ok-n.ensures.each st.tree (state_tree i.is_state) (first_there i) (second_there i)) in
     passed_later (g.S.Sectors.state c.check_move.new.s).disk _ _ _ c.from_residual-in_err-check_move.ensures same
-    (move_refuses st q c.args.first.now c.args.second.now r.0 (same_is q r.1 ∙ sym c.is_same.ensures ∙ c.if-is_same.false)) tt
+    (move_refuses st q c.args.walked.now.first c.args.walked.now.second r.0 (same_is q r.1 ∙ sym c.is_same.ensures ∙ c.if-is_same.false)) tt
     (c.in_err-check_move.ensures.each st (to_rename_kept same r.1))
 
 pub returns-in_err-check_move-clause-same : goal.returns-in_err-check_move-clause-same
@@ -50,9 +50,9 @@ returns-in_err-check_move-clause-same g c = unchanged_joined c.in_ok-n.ensures.s
 
 pub returns-clause-each : goal.returns-clause-each
 returns-clause-each g c = λ st i.
-    let a = c.args.first.now in
-    let b = c.args.second.now in
-    let q = c.args.process.now in
+    let a = c.args.walked.now.first in
+    let b = c.args.walked.now.second in
+    let q = c.args.walked.now.process.now in
     let told = c.in_ok-n.ensures.each st.tree (state_tree i.is_state) (first_there i) (second_there i) in
     let r = to_rename i told in
     answered_ok
