@@ -6,14 +6,14 @@ ghost use Rattle.call_parts.specs.ModelWords.{Perm, verdict, allowed_by, decided
 ghost use Rattle.fs_cred.specs.declared.node.Node.{Node as AccessNode};
 ghost use Rattle.call_parts.specs.Asked.{sticky_asked};
 
+use crate::caller::Caller;
 use fs_cred::{Cred, Denial, Errno, Need, Refusal, Rule, sticky_allows};
-use fs_layout::{Inode, Kind, Place, S_ISVTX};
+use fs_layout::{Inode, Kind, S_ISVTX};
 use fs_model::Found;
 use open_files::Process;
 use path_walk::permission;
 use posix_acl::Perms;
 use sector_txn::Sectors;
-use std::alloc::Global;
 
 /// What adding, removing and renaming a name takes of a directory.
 pub const WRITE_AND_SEARCH: Perms = Perms {
@@ -42,17 +42,16 @@ pub fn check_mode(mode: u16) -> Result<(), Refusal>
 /// Asks for all of `want` on a file or a directory of the inode table, after `step` lookups of the walk with this number.
 /// Answers the rule that grants it. ENOMEM where the ACL finds no memory.
 pub fn permitted<S: Sectors>(
-    alloc: Global,
     s: &mut S,
-    place: Place,
+    caller: &Caller,
     cred: &Cred,
     inode: &Inode,
     want: Perms,
     walk: u8,
     step: usize,
 ) -> Result<Rule, Refusal>
-    requires sound { IsSound place (S.state s.old) }
-    requires there { IsInodeOf place (S.state s.old).sectors inode.now }
+    requires sound { IsSound caller.now.place (S.state s.old) }
+    requires there { IsInodeOf caller.now.place (S.state s.old).sectors inode.now }
     requires has { (node : AccessNode) × HasAccess (S.state s.old).sectors inode.now node }
     ensures each { (node : AccessNode) → HasAccess (S.state s.old).sectors inode.now node
         → IsAnswered (S.state s.old).disk (S.state s.new).disk
@@ -60,7 +59,7 @@ pub fn permitted<S: Sectors>(
         (Ok (verdict cred.now node want).rule)) result }
     ensures same { IsUnchanged (S.state s.old) (S.state s.new) }
 {
-    let verdict = permission(alloc, s, place, cred, inode, want)?;
+    let verdict = permission(caller.alloc, s, caller.place, cred, inode, want)?;
     if !verdict.yes {
         return Err(Refusal::Denied(Denial::new(walk, step, Need::Perm(want), verdict.rule)));
     }

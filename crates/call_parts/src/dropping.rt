@@ -5,6 +5,7 @@ ghost use Rattle.std.specs.Prelude.{◌≡◌, ◌≢◌, OnOk, IfErr, ◌<◌};
 ghost use Rattle.call_parts.specs.DiskWords.{inode_at, SameStore, Inodes, IsNumber, IsSound, HasSpare};
 ghost use Rattle.call_parts.specs.ModelWords.{FailsToRead};
 ghost use Rattle.call_parts.specs.Dropping.{Drops, LeavesInode, Counts};
+ghost use Rattle.call_parts.specs.Loaded.{IsLoaded};
 
 use block_map::free_all;
 use fs_cred::{Errno, Refusal};
@@ -61,10 +62,7 @@ pub fn set_names<S: Sectors>(
     inode: &Inode,
     names: u32,
 ) -> Result<(), Refusal>
-    requires sound { IsSound place (S.state s.old) }
-    requires below { n < place.inodes }
-    requires inode { inode.now ≡ inode_at place (S.state s.old).sectors n }
-    requires used { inode.now.kind ≢ Kind.Free }
+    requires loaded { IsLoaded place (S.state s.old) n inode.now }
     requires spare { HasSpare place 1 (S.state s.old) }
     ensures store { SameStore (S.state s.old) (S.state s.new) }
     ensures counts { OnOk result (Counts place n names (S.state s.old) (S.state s.new)) }

@@ -4,35 +4,36 @@ ghost use Rattle.std.specs.Prelude.{◌≡◌, ◌<◌, ℕ, None, Some, Ok, Err
 ghost use Rattle.call_parts.specs.DiskWords.{inode_at, IsUnchanged, IsSound};
 ghost use Rattle.call_parts.specs.ModelWords.{first_of, path_checks, number, must_be_there, Tree, refused_or, IsAnswered, HoldsTree, IsThere, HasSoundInodes, walk_of};
 
+use crate::caller::Caller;
 use fs_cred::{Errno, Refusal};
 use fs_layout::{Inode, Place};
 use fs_model::{Form, Found, Path};
 use open_files::Process;
 use path_walk::{load_inode, resolve};
 use sector_txn::Sectors;
-use std::alloc::Global;
 
 /// What a path leads to for a process.
 pub(crate) fn find<S: Sectors>(
-    alloc: Global,
     s: &mut S,
-    place: Place,
+    caller: &Caller,
     process: &Process,
     path: &Path,
     form: Form,
 ) -> Result<Found, Refusal>
-    requires sound { IsSound place (S.state s.old) }
-    requires inodes { HasSoundInodes place (S.state s.old).sectors }
-    requires start { process.now.cwd < place.inodes }
+    requires sound { IsSound caller.now.place (S.state s.old) }
+    requires inodes { HasSoundInodes caller.now.place (S.state s.old).sectors }
+    requires start { process.now.cwd < caller.now.place.inodes }
     ensures checked { (refusal : Refusal) → first_of (path_checks path.now) ≡ Some refusal → result ≡ Err refusal }
     ensures each { first_of (path_checks path.now) ≡ None
-        → (t : Tree) → HoldsTree place (S.state s.old).sectors t → IsThere t process.now.cwd
+        → (t : Tree) → HoldsTree caller.now.place (S.state s.old).sectors t → IsThere t process.now.cwd
         → IsAnswered (S.state s.old).disk (S.state s.new).disk
         (walk_of t process.now.cred 1 form process.now.cwd path.now) result }
     ensures valid { IfOk result (λ found. first_of (path_checks path.now) ≡ None) }
     ensures same { IsUnchanged (S.state s.old) (S.state s.new) }
 {
-    resolve(alloc, s, place, process.cred(), process.cwd(), path, form)
+    let cred = process.cred();
+    let cwd = process.cwd();
+    resolve(caller.alloc, s, caller.place, cred, cwd, path, form)
 }
 
 /// The inode that was found, with its number. ENOENT: none was.

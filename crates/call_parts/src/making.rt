@@ -5,10 +5,11 @@ ghost use Rattle.call_parts.specs.DiskWords.{AccessList, minimal, MAX_DIRECTORY_
 ghost use Rattle.call_parts.specs.ModelWords.{without_perms, masked_acl, born_acl, refuse, first_of, permission_on, write_and_search, Tree, IsDirectoryAt, refused_or, Interrupts, IsAnswered, HoldsTree};
 ghost use Rattle.call_parts.specs.Makings.{make_asked};
 
+use crate::caller::Caller;
 use crate::checks::{WRITE_AND_SEARCH, permitted, refuse_if};
 use crate::space::{ask_for_inode, ask_for_sectors};
 use fs_cred::{Cred, Errno, Refusal};
-use fs_layout::{Inode, MAX_DIRECTORY_SIZE, Place, S_ISGID};
+use fs_layout::{Inode, MAX_DIRECTORY_SIZE, S_ISGID};
 use fs_model::Found;
 use inode_table::{LoadAclFault, load_default_acl};
 use open_files::Process;
@@ -26,79 +27,67 @@ pub(crate) fn check_names(directory: &Inode) -> Result<(), Refusal>
 
 // Asks for write and search on directory dir, after `step` lookups of the walk with this number, and answers its inode.
 fn ask_in_directory<S: Sectors>(
-    alloc: Global,
     s: &mut S,
-    place: Place,
+    caller: &Caller,
     cred: &Cred,
     dir: u32,
     walk: u8,
     step: usize,
 ) -> Result<Inode, Refusal>
-    requires sound { IsSound place (S.state s.old) }
-    requires there { (t : Tree) × HoldsTree place (S.state s.old).sectors t × IsDirectoryAt t dir }
-    ensures each { (t : Tree) → HoldsTree place (S.state s.old).sectors t → IsDirectoryAt t dir
+    requires sound { IsSound caller.now.place (S.state s.old) }
+    requires there { (t : Tree) × HoldsTree caller.now.place (S.state s.old).sectors t × IsDirectoryAt t dir }
+    ensures each { (t : Tree) → HoldsTree caller.now.place (S.state s.old).sectors t → IsDirectoryAt t dir
         → IsAnswered (S.state s.old).disk (S.state s.new).disk
         (refused_or (permission_on cred.now t dir write_and_search walk step)
-        (Ok (inode_at place (S.state s.old).sectors dir))) result }
+        (Ok (inode_at caller.now.place (S.state s.old).sectors dir))) result }
     ensures same { IsUnchanged (S.state s.old) (S.state s.new) }
 {
-    let directory = load_inode(s, place, dir)?;
-    permitted(
-        alloc,
-        s,
-        place,
-        cred,
-        &directory,
-        WRITE_AND_SEARCH,
-        walk,
-        step,
-    )?;
+    let directory = load_inode(s, caller.place, dir)?;
+    permitted(s, caller, cred, &directory, WRITE_AND_SEARCH, walk, step)?;
     Ok(directory)
 }
 
 /// Asks for write and search on the directory of the last lookup of the walk with this number, and answers its inode.
 pub fn ask_directory<S: Sectors>(
-    alloc: Global,
     s: &mut S,
-    place: Place,
+    caller: &Caller,
     process: &Process,
     found: &Found,
     walk: u8,
 ) -> Result<Inode, Refusal>
-    requires sound { IsSound place (S.state s.old) }
-    requires there { (t : Tree) × HoldsTree place (S.state s.old).sectors t × IsDirectoryAt t found.now.dir }
-    ensures each { (t : Tree) → HoldsTree place (S.state s.old).sectors t → IsDirectoryAt t found.now.dir
+    requires sound { IsSound caller.now.place (S.state s.old) }
+    requires there { (t : Tree) × HoldsTree caller.now.place (S.state s.old).sectors t × IsDirectoryAt t found.now.dir }
+    ensures each { (t : Tree) → HoldsTree caller.now.place (S.state s.old).sectors t → IsDirectoryAt t found.now.dir
         → IsAnswered (S.state s.old).disk (S.state s.new).disk
         (refused_or (permission_on process.now.cred t found.now.dir write_and_search walk (found.now.step - 1))
-        (Ok (inode_at place (S.state s.old).sectors found.now.dir))) result }
+        (Ok (inode_at caller.now.place (S.state s.old).sectors found.now.dir))) result }
     ensures same { IsUnchanged (S.state s.old) (S.state s.new) }
 {
     let cred = process.cred();
     let step = found.step.saturating_sub(1);
-    ask_in_directory(alloc, s, place, cred, found.dir, walk, step)
+    ask_in_directory(s, caller, cred, found.dir, walk, step)
 }
 
 /// Asks all that is asked of a directory before something is made in it, and answers its inode. ENOSPC: there is no room for
 /// its sectors, its inode or its name.
 pub fn check_make<S: Sectors>(
-    alloc: Global,
     s: &mut S,
-    place: Place,
+    caller: &Caller,
     cred: &Cred,
     dir: u32,
     step: usize,
 ) -> Result<Inode, Refusal>
-    requires sound { IsSound place (S.state s.old) }
-    requires there { (t : Tree) × HoldsTree place (S.state s.old).sectors t × IsDirectoryAt t dir }
-    ensures each { (t : Tree) → HoldsTree place (S.state s.old).sectors t → IsDirectoryAt t dir
+    requires sound { IsSound caller.now.place (S.state s.old) }
+    requires there { (t : Tree) × HoldsTree caller.now.place (S.state s.old).sectors t × IsDirectoryAt t dir }
+    ensures each { (t : Tree) → HoldsTree caller.now.place (S.state s.old).sectors t → IsDirectoryAt t dir
         → IsAnswered (S.state s.old).disk (S.state s.new).disk
-        (refused_or (first_of (make_asked place (S.state s.old).sectors cred.now t dir step))
-        (Ok (inode_at place (S.state s.old).sectors dir))) result }
+        (refused_or (first_of (make_asked caller.now.place (S.state s.old).sectors cred.now t dir step))
+        (Ok (inode_at caller.now.place (S.state s.old).sectors dir))) result }
     ensures same { IsUnchanged (S.state s.old) (S.state s.new) }
 {
-    let directory = ask_in_directory(alloc, s, place, cred, dir, 1, step)?;
-    ask_for_sectors(s, place)?;
-    ask_for_inode(s, place)?;
+    let directory = ask_in_directory(s, caller, cred, dir, 1, step)?;
+    ask_for_sectors(s, caller.place)?;
+    ask_for_inode(s, caller.place)?;
     check_names(&directory)?;
     Ok(directory)
 }
@@ -146,20 +135,19 @@ pub fn inherited(
 
 /// The default ACL of a directory of the table. ENOMEM: it finds no memory. EIO: the disk has failed.
 pub fn default_of<S: Sectors>(
-    alloc: Global,
     s: &mut S,
-    place: Place,
+    caller: &Caller,
     directory: &Inode,
 ) -> Result<Option<Acl>, Refusal>
-    requires sound { IsSound place (S.state s.old) }
-    requires there { IsInodeOf place (S.state s.old).sectors directory.now }
+    requires sound { IsSound caller.now.place (S.state s.old) }
+    requires there { IsInodeOf caller.now.place (S.state s.old).sectors directory.now }
     requires has { (a : Option AccessList) × HasDefaultAcl (S.state s.old).sectors directory.now a }
     ensures found { IfOk result (λ acl. (a : Option AccessList) → HasDefaultAcl (S.state s.old).sectors directory.now a
         → acl ≡ a) }
     ensures err { IfErr result (Interrupts (S.state s.old).disk (S.state s.new).disk) }
     ensures same { IsUnchanged (S.state s.old) (S.state s.new) }
 {
-    match load_default_acl(alloc, s, place, directory) {
+    match load_default_acl(caller.alloc, s, caller.place, directory) {
         Ok(default) => Ok(default),
         Err(LoadAclFault::OutOfMemory) => Err(Refusal::Failed(Errno::ENOMEM)),
         Err(LoadAclFault::DiskFault) => Err(Refusal::Failed(Errno::EIO)),

@@ -69,7 +69,7 @@ pub fn walk_path<'a, S: Sectors>(
     let _bytes = path.bytes();
     let process = caller.procs.process(caller.pid)?;
     checks?;
-    let found = find(caller.alloc, s, caller.place, process, path, form)?;
+    let found = find(s, caller, process, path, form)?;
     Ok(Walked { process, found })
 }
 

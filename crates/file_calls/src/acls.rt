@@ -13,6 +13,7 @@ ghost use Rattle.path_walk.specs.Words.{inode_at, free_sectors, SameStore, IsUnc
 ghost use Rattle.call_parts.specs.Performing.{IsReadyFor, PerformsFor};
 ghost use Rattle.call_parts.specs.Asked.{holder_asked, acl_space_asked};
 ghost use Rattle.call_parts.specs.Given.{SavesAcl, SavesDefaultAcl, HasBody};
+ghost use Rattle.call_parts.specs.Loaded.{IsLoaded};
 
 use call_parts::{CallResult, Caller, ask_for_sectors, default_of, reach, reach_owned};
 use fs_cred::{Errno, Refusal};
@@ -21,23 +22,17 @@ use fs_model::{AclType, Form, Path, Reply};
 use inode_table::{LoadAclFault, load_acl, save_acl, save_default_acl};
 use posix_acl::Acl;
 use sector_txn::Sectors;
-use std::alloc::Global;
 
 /// The access ACL of an inode of the table, a file or a directory. ENOMEM: it finds no memory. EIO: the disk has failed.
-pub(crate) fn acl_of<S: Sectors>(
-    alloc: Global,
-    s: &mut S,
-    place: Place,
-    inode: &Inode,
-) -> Result<Acl, Refusal>
-    requires sound { IsSound place (S.state s.old) }
-    requires there { IsInodeOf place (S.state s.old).sectors inode.now }
+pub(crate) fn acl_of<S: Sectors>(s: &mut S, caller: &Caller, inode: &Inode) -> Result<Acl, Refusal>
+    requires sound { IsSound caller.now.place (S.state s.old) }
+    requires there { IsInodeOf caller.now.place (S.state s.old).sectors inode.now }
     requires has { (a : AccessList) × HasAcl (S.state s.old).sectors inode.now a }
     ensures found { IfOk result (λ acl. (a : AccessList) → HasAcl (S.state s.old).sectors inode.now a → acl ≡ a) }
     ensures same { IsUnchanged (S.state s.old) (S.state s.new) }
     ensures interrupts { IfErr result (Interrupts (S.state s.old).disk (S.state s.new).disk) }
 {
-    match load_acl(alloc, s, place, inode) {
+    match load_acl(caller.alloc, s, caller.place, inode) {
         Ok(acl) => Ok(acl),
         Err(LoadAclFault::OutOfMemory) => Err(Refusal::Failed(Errno::ENOMEM)),
         Err(LoadAclFault::DiskFault) => Err(Refusal::Failed(Errno::EIO)),
@@ -73,13 +68,12 @@ pub(crate) fn give_acl<S: Sectors>(
 
 // The default ACL of an inode of the table, a file or a directory; what is no directory has none.
 fn shown_default<S: Sectors>(
-    alloc: Global,
     s: &mut S,
-    place: Place,
+    caller: &Caller,
     inode: &Inode,
 ) -> Result<Option<Acl>, Refusal>
-    requires sound { IsSound place (S.state s.old) }
-    requires there { IsInodeOf place (S.state s.old).sectors inode.now }
+    requires sound { IsSound caller.now.place (S.state s.old) }
+    requires there { IsInodeOf caller.now.place (S.state s.old).sectors inode.now }
     requires has { (b : Body) × HasBody (S.state s.old).sectors inode.now b }
     ensures found { IfOk result (λ acl. (b : Body) → HasBody (S.state s.old).sectors inode.now b → acl ≡ default_in b) }
     ensures same { IsUnchanged (S.state s.old) (S.state s.new) }
@@ -88,20 +82,19 @@ fn shown_default<S: Sectors>(
     if inode.kind != Kind::Directory {
         return Ok(None);
     }
-    let default = default_of(alloc, s, place, inode)?;
+    let default = default_of(s, caller, inode)?;
     Ok(default)
 }
 
 // An ACL of an inode of the table, a file or a directory. What is no directory has no default ACL.
 fn shown_acl<S: Sectors>(
-    alloc: Global,
     s: &mut S,
-    place: Place,
+    caller: &Caller,
     inode: &Inode,
     which: AclType,
 ) -> Result<Option<Acl>, Refusal>
-    requires sound { IsSound place (S.state s.old) }
-    requires there { IsInodeOf place (S.state s.old).sectors inode.now }
+    requires sound { IsSound caller.now.place (S.state s.old) }
+    requires there { IsInodeOf caller.now.place (S.state s.old).sectors inode.now }
     requires has { (b : Body) × HasBody (S.state s.old).sectors inode.now b }
     ensures found { IfOk result (λ acl. (b : Body) → HasBody (S.state s.old).sectors inode.now b → acl ≡ acl_shown which b) }
     ensures same { IsUnchanged (S.state s.old) (S.state s.new) }
@@ -109,10 +102,10 @@ fn shown_acl<S: Sectors>(
 {
     match which {
         AclType::Access => {
-            let acl = acl_of(alloc, s, place, inode)?;
+            let acl = acl_of(s, caller, inode)?;
             Ok(Some(acl))
         }
-        AclType::Default => shown_default(alloc, s, place, inode),
+        AclType::Default => shown_default(s, caller, inode),
     }
 }
 
@@ -125,7 +118,7 @@ pub fn get_acl<S: Sectors>(s: &mut S, caller: &Caller, path: &Path, which: AclTy
     ensures same { IsUnchanged (S.state s.old) (S.state s.new) }
 {
     let reached = reach(s, caller, Ok(()), path, Form::Follow)?;
-    let acl = shown_acl(caller.alloc, s, caller.place, &reached.inode, which)?;
+    let acl = shown_acl(s, caller, &reached.inode, which)?;
     Ok(Reply::Acl(acl))
 }
 
@@ -187,10 +180,7 @@ fn give_default_acl<S: Sectors>(
     inode: &Inode,
     acl: Option<&Acl>,
 ) -> Result<(), Refusal>
-    requires sound { IsSound place (S.state s.old) }
-    requires below { n < place.inodes }
-    requires inode { inode.now ≡ inode_at place (S.state s.old).sectors n }
-    requires used { inode.now.kind ≢ Kind.Free }
+    requires loaded { IsLoaded place (S.state s.old) n inode.now }
     requires spare { HasSpare place 2 (S.state s.old) }
     requires room { acl_takes inode.now.default_acl (option_copied acl) ≤ free_sectors place (S.state s.old).sectors }
     ensures given { OnOk result (SavesDefaultAcl place n (option_copied acl.entry) (S.state s.old).sectors (S.state s.new).sectors) }
@@ -212,10 +202,7 @@ fn replace_acl<S: Sectors>(
     which: AclType,
     acl: Option<&Acl>,
 ) -> Result<(), Refusal>
-    requires sound { IsSound place (S.state s.old) }
-    requires below { n < place.inodes }
-    requires inode { inode.now ≡ inode_at place (S.state s.old).sectors n }
-    requires used { inode.now.kind ≢ Kind.Free }
+    requires loaded { IsLoaded place (S.state s.old) n inode.now }
     requires no_link { inode.now.kind ≢ Kind.Link }
     requires spare { HasSpare place 2 (S.state s.old) }
     requires space { first_of (acl_space_asked which (option_copied acl) (free_sectors place (S.state s.old).sectors)) ≡ None }

@@ -8,6 +8,7 @@ ghost use Rattle.path_walk.specs.Words.{inode_at, SameStore, IsSound, HasSpare, 
 ghost use Rattle.call_parts.specs.Performing.{IsReadyFor, PerformsFor};
 ghost use Rattle.call_parts.specs.Asked.{owner_asked};
 ghost use Rattle.call_parts.specs.Given.{GivesOwner, SavesAcl, special_mode};
+ghost use Rattle.call_parts.specs.Loaded.{IsLoaded};
 
 use crate::acls::{acl_of, give_acl};
 use call_parts::{CallResult, Caller, allowed_by, check_mode, reach, reach_owned};
@@ -18,7 +19,6 @@ use fs_layout::{Inode, Kind, Place, S_ISGID, S_ISVTX};
 use fs_model::{Form, Path, Reply};
 use inode_table::save;
 use sector_txn::Sectors;
-use std::alloc::Global;
 
 // Asks whether the caller may give the inode this owner and group.
 fn check_owner(cred: &Cred, inode: &Inode, uid: u32, gid: u32, step: usize) -> Result<(), Refusal>
@@ -39,10 +39,7 @@ fn give_owner<S: Sectors>(
     uid: u32,
     gid: u32,
 ) -> Result<(), Refusal>
-    requires sound { IsSound place (S.state s.old) }
-    requires below { n < place.inodes }
-    requires inode { inode.now ≡ inode_at place (S.state s.old).sectors n }
-    requires used { inode.now.kind ≢ Kind.Free }
+    requires loaded { IsLoaded place (S.state s.old) n inode.now }
     requires spare { HasSpare place 1 (S.state s.old) }
     ensures given { OnOk result (GivesOwner place n uid gid (S.state s.old).sectors (S.state s.new).sectors) }
     ensures store { SameStore (S.state s.old) (S.state s.new) }
@@ -72,34 +69,30 @@ fn special_bits(cred: &Cred, inode: &Inode, mode: u16) -> u16
 
 // Gives inode n this mode.
 fn give_mode<S: Sectors>(
-    alloc: Global,
     s: &mut S,
-    place: Place,
+    caller: &Caller,
     cred: &Cred,
     n: u32,
     inode: &Inode,
     mode: u16,
 ) -> Result<(), Refusal>
-    requires sound { IsSound place (S.state s.old) }
-    requires below { n < place.inodes }
-    requires inode { inode.now ≡ inode_at place (S.state s.old).sectors n }
+    requires loaded { IsLoaded caller.now.place (S.state s.old) n inode.now }
     requires has { (a : AccessList) × HasAcl (S.state s.old).sectors inode.now a }
-    requires used { inode.now.kind ≢ Kind.Free }
     requires no_link { inode.now.kind ≢ Kind.Link }
-    requires spare { HasSpare place 2 (S.state s.old) }
+    requires spare { HasSpare caller.now.place 2 (S.state s.old) }
     ensures given { OnOk result ((a : AccessList) → HasAcl (S.state s.old).sectors inode.now a
-        → SavesAcl place n (special_mode cred.now inode.now.kind inode.now.gid mode) (with_mode_bits a mode)
+        → SavesAcl caller.now.place n (special_mode cred.now inode.now.kind inode.now.gid mode) (with_mode_bits a mode)
         (S.state s.old).sectors (S.state s.new).sectors) }
     ensures store { SameStore (S.state s.old) (S.state s.new) }
     ensures interrupts { IfErr result (Interrupts (S.state s.old).disk (S.state s.new).disk) }
 {
-    let had = acl_of(alloc, s, place, inode)?;
+    let had = acl_of(s, caller, inode)?;
     let acl = had.with_mode_bits(mode);
     let moded = Inode {
         mode: special_bits(cred, inode, mode),
         ..*inode
     };
-    give_acl(s, place, n, &moded, &acl)?;
+    give_acl(s, caller.place, n, &moded, &acl)?;
     Ok(())
 }
 
@@ -115,7 +108,7 @@ pub fn chmod<S: Sectors>(s: &mut S, caller: &Caller, path: &Path, mode: u16) -> 
     let reached = reach_owned(s, caller, checks, path, Form::Follow)?;
     let cred = reached.process.cred();
     let n = reached.number;
-    give_mode(caller.alloc, s, caller.place, cred, n, &reached.inode, mode)?;
+    give_mode(s, caller, cred, n, &reached.inode, mode)?;
     Ok(Reply::Done)
 }
 

@@ -11,7 +11,7 @@ ghost use Rattle.call_parts.specs.Performing.{IsReadyFor, PerformsFor};
 use call_parts::{CallResult, Caller, OpenFor, check_is_directory, reach_open};
 use dir_core::{DirFault, list};
 use fs_cred::{Errno, Refusal};
-use fs_layout::{Inode, Place, Slot};
+use fs_layout::{Inode, Slot};
 use fs_model::{Listing, Name, Named, Reply};
 use sector_txn::Sectors;
 use std::alloc::Global;
@@ -48,26 +48,25 @@ fn list_slots(alloc: Global, n: u32, parent: u32, slots: &[Slot]) -> Result<List
 
 // The listing of directory n, whose inode this is.
 fn list_names<S: Sectors>(
-    alloc: Global,
     s: &mut S,
-    place: Place,
+    caller: &Caller,
     n: u32,
     inode: &Inode,
 ) -> Result<Listing, Refusal>
-    requires sound { IsSound place (S.state s.old) }
-    requires there { IsInodeOf place (S.state s.old).sectors inode.now }
+    requires sound { IsSound caller.now.place (S.state s.old) }
+    requires there { IsInodeOf caller.now.place (S.state s.old).sectors inode.now }
     requires directory { (names : List (List ℕ × ℕ)) × HasNames (S.state s.old).sectors inode.now names }
     ensures found { IfOk result (λ found. (names : List (List ℕ × ℕ)) → HasNames (S.state s.old).sectors inode.now names
         → found ≡ (codes ".", n) ∷ (codes "..", inode.now.parent) ∷ names) }
     ensures fault { IfErr result (λ e. Interrupts (S.state s.old).disk (S.state s.new).disk e) }
     ensures same { IsUnchanged (S.state s.old) (S.state s.new) }
 {
-    let slots = match list(alloc, s, place, inode) {
+    let slots = match list(caller.alloc, s, caller.place, inode) {
         Ok(slots) => slots,
         Err(DirFault::OutOfMemory) => return Err(Refusal::Failed(Errno::ENOMEM)),
         Err(_) => return Err(Refusal::Failed(Errno::EIO)),
     };
-    list_slots(alloc, n, inode.parent, &slots)
+    list_slots(caller.alloc, n, inode.parent, &slots)
 }
 
 /// Lists a directory: `.`, `..`, and its names in bytewise order.
@@ -80,6 +79,6 @@ pub fn readdir<S: Sectors>(s: &mut S, caller: &Caller, fd: usize) -> CallResult
 {
     let (descriptor, inode) = reach_open(s, caller, fd, OpenFor::Reading)?;
     check_is_directory(inode.kind)?;
-    let names = list_names(caller.alloc, s, caller.place, descriptor.number, &inode)?;
+    let names = list_names(s, caller, descriptor.number, &inode)?;
     Ok(Reply::Names(names))
 }

@@ -11,7 +11,7 @@ ghost use Rattle.call_parts.specs.Makings.{CanMake};
 ghost use Rattle.call_parts.specs.NewNodes.{MakesNode, file_made};
 ghost use Rattle.file_calls.specs.Openings.{FindsIn, IsRefusedOpen, Reaches};
 
-use call_parts::{check_make, default_of, inherited, name_inode, new_group};
+use call_parts::{Caller, check_make, default_of, inherited, name_inode, new_group};
 use fs_cred::{Errno, Refusal};
 use fs_layout::{Inode, Kind, Place};
 use fs_model::{Flags, Found};
@@ -19,27 +19,25 @@ use inode_table::new_inode;
 use open_files::Process;
 use posix_acl::Acl;
 use sector_txn::Sectors;
-use std::alloc::Global;
 
 // The access ACL of what is made in a directory.
 fn new_acl<S: Sectors>(
-    alloc: Global,
     s: &mut S,
-    place: Place,
+    caller: &Caller,
     directory: &Inode,
     mode: u16,
     umask: u16,
 ) -> Result<Acl, Refusal>
-    requires sound { IsSound place (S.state s.old) }
-    requires there { IsInodeOf place (S.state s.old).sectors directory.now }
+    requires sound { IsSound caller.now.place (S.state s.old) }
+    requires there { IsInodeOf caller.now.place (S.state s.old).sectors directory.now }
     requires has { (a : Option AccessList) × HasDefaultAcl (S.state s.old).sectors directory.now a }
     ensures born { IfOk result (λ acl. (a : Option AccessList) → HasDefaultAcl (S.state s.old).sectors directory.now a
         → acl ≡ born_acl a mode umask) }
     ensures err { IfErr result (Interrupts (S.state s.old).disk (S.state s.new).disk) }
     ensures same { IsUnchanged (S.state s.old) (S.state s.new) }
 {
-    let default = default_of(alloc, s, place, directory)?;
-    let acl = inherited(alloc, default.as_ref(), mode, umask)?;
+    let default = default_of(s, caller, directory)?;
+    let acl = inherited(caller.alloc, default.as_ref(), mode, umask)?;
     Ok(acl)
 }
 
@@ -89,32 +87,31 @@ fn check_new(flags: Flags, found: &Found) -> Result<(), Refusal>
 
 // Makes the file that was not found.
 pub(crate) fn open_new<S: Sectors>(
-    alloc: Global,
     s: &mut S,
-    place: Place,
+    caller: &Caller,
     process: &Process,
     found: &Found,
     flags: Flags,
     mode: u16,
 ) -> Result<u32, Refusal>
-    requires sound { IsSound place (S.state s.old) }
-    requires spare { HasSpare place 47 (S.state s.old) }
-    requires found { (st : State) × FindsIn place (S.state s.old).sectors flags process.now found.now st }
+    requires sound { IsSound caller.now.place (S.state s.old) }
+    requires spare { HasSpare caller.now.place 47 (S.state s.old) }
+    requires found { (st : State) × FindsIn caller.now.place (S.state s.old).sectors flags process.now found.now st }
     requires none { found.now.ino ≡ None }
     ensures store { SameStore (S.state s.old) (S.state s.new) }
     ensures superblock { OnOk result ((S.state s.new).sectors 0 ≡ (S.state s.old).sectors 0) }
-    ensures each { (st : State) → FindsIn place (S.state s.old).sectors flags process.now found.now st
-        → MatchResult result (λ m. Reaches place (S.state s.new).sectors flags mode process.now found.now st m)
+    ensures each { (st : State) → FindsIn caller.now.place (S.state s.old).sectors flags process.now found.now st
+        → MatchResult result (λ m. Reaches caller.now.place (S.state s.new).sectors flags mode process.now found.now st m)
         (λ e. IsRefusedOpen (S.state s.old).disk (S.state s.new).disk flags process.now found.now st e) }
 {
     check_new(flags, found)?;
     let cred = process.cred();
     let step = found.step.saturating_sub(1);
-    let directory = check_make(alloc, s, place, cred, found.dir, step)?;
-    let acl = new_acl(alloc, s, place, &directory, mode, process.umask())?;
+    let directory = check_make(s, caller, cred, found.dir, step)?;
+    let acl = new_acl(s, caller, &directory, mode, process.umask())?;
     let gid = new_group(&directory, cred);
     let name = found.name.bytes();
     let uid = cred.uid();
-    let n = make_file(s, place, found.dir, directory, name, uid, gid, &acl)?;
+    let n = make_file(s, caller.place, found.dir, directory, name, uid, gid, &acl)?;
     Ok(n)
 }

@@ -15,7 +15,7 @@ ghost use Rattle.file_calls.specs.Openings.{open_asked, open_kind_asked, found_a
 
 use crate::making::open_new;
 use crate::sizes::give_size;
-use call_parts::{CallResult, permitted};
+use call_parts::{CallResult, Caller, permitted};
 use fs_cred::{Cred, Errno, Refusal};
 use fs_layout::{Inode, Kind, Place};
 use fs_model::{Flags, Form, Found, Path, Reply};
@@ -105,24 +105,24 @@ fn wanted(flags: Flags) -> Perms
 
 // Asks all that an open asks of what was found, and answers its inode.
 fn check_found<S: Sectors>(
-    alloc: Global,
     s: &mut S,
-    place: Place,
+    caller: &Caller,
     cred: &Cred,
     n: u32,
     step: usize,
     flags: Flags,
 ) -> Result<Inode, Refusal>
-    requires sound { IsSound place (S.state s.old) }
-    requires there { (t : Tree) × HoldsTree place (S.state s.old).sectors t × IsThere t n }
-    ensures each { (t : Tree) → HoldsTree place (S.state s.old).sectors t → IsThere t n
+    requires sound { IsSound caller.now.place (S.state s.old) }
+    requires there { (t : Tree) × HoldsTree caller.now.place (S.state s.old).sectors t × IsThere t n }
+    ensures each { (t : Tree) → HoldsTree caller.now.place (S.state s.old).sectors t → IsThere t n
         → IsAnswered (S.state s.old).disk (S.state s.new).disk
-        (refused_or (first_of (found_asked flags cred.now t n step)) (Ok (inode_at place (S.state s.old).sectors n))) result }
+        (refused_or (first_of (found_asked flags cred.now t n step))
+        (Ok (inode_at caller.now.place (S.state s.old).sectors n))) result }
     ensures same { IsUnchanged (S.state s.old) (S.state s.new) }
 {
-    let inode = load_inode(s, place, n)?;
+    let inode = load_inode(s, caller.place, n)?;
     check_kind(flags, inode.kind)?;
-    permitted(alloc, s, place, cred, &inode, wanted(flags), 1, step)?;
+    permitted(s, caller, cred, &inode, wanted(flags), 1, step)?;
     Ok(inode)
 }
 
@@ -135,55 +135,53 @@ fn cuts(flags: Flags) -> bool
 
 // Opens what was found at n, which loses its bytes with O_TRUNC.
 fn open_old<S: Sectors>(
-    alloc: Global,
     s: &mut S,
-    place: Place,
+    caller: &Caller,
     process: &Process,
     found: &Found,
     n: u32,
     flags: Flags,
 ) -> Result<u32, Refusal>
-    requires sound { IsSound place (S.state s.old) }
-    requires spare { HasSpare place 47 (S.state s.old) }
-    requires found { (st : State) × FindsIn place (S.state s.old).sectors flags process.now found.now st }
+    requires sound { IsSound caller.now.place (S.state s.old) }
+    requires spare { HasSpare caller.now.place 47 (S.state s.old) }
+    requires found { (st : State) × FindsIn caller.now.place (S.state s.old).sectors flags process.now found.now st }
     requires some { found.now.ino ≡ Some n }
     ensures store { SameStore (S.state s.old) (S.state s.new) }
     ensures superblock { OnOk result ((S.state s.new).sectors 0 ≡ (S.state s.old).sectors 0) }
-    ensures each { (mode : ℕ) (st : State) → FindsIn place (S.state s.old).sectors flags process.now found.now st
-        → MatchResult result (λ m. Reaches place (S.state s.new).sectors flags mode process.now found.now st m)
+    ensures each { (mode : ℕ) (st : State) → FindsIn caller.now.place (S.state s.old).sectors flags process.now found.now st
+        → MatchResult result (λ m. Reaches caller.now.place (S.state s.new).sectors flags mode process.now found.now st m)
         (λ e. IsRefusedOpen (S.state s.old).disk (S.state s.new).disk flags process.now found.now st e) }
 {
-    let inode = check_found(alloc, s, place, process.cred(), n, found.step, flags)?;
+    let inode = check_found(s, caller, process.cred(), n, found.step, flags)?;
     let cuts = cuts(flags);
     if !cuts {
         return Ok(n);
     }
-    give_size(s, place, n, inode, 0)?;
+    give_size(s, caller.place, n, inode, 0)?;
     Ok(n)
 }
 
 // Opens what was found, or makes it.
 fn open_inode<S: Sectors>(
-    alloc: Global,
     s: &mut S,
-    place: Place,
+    caller: &Caller,
     process: &Process,
     found: &Found,
     flags: Flags,
     mode: u16,
 ) -> Result<u32, Refusal>
-    requires sound { IsSound place (S.state s.old) }
-    requires spare { HasSpare place 47 (S.state s.old) }
-    requires found { (st : State) × FindsIn place (S.state s.old).sectors flags process.now found.now st }
+    requires sound { IsSound caller.now.place (S.state s.old) }
+    requires spare { HasSpare caller.now.place 47 (S.state s.old) }
+    requires found { (st : State) × FindsIn caller.now.place (S.state s.old).sectors flags process.now found.now st }
     ensures store { SameStore (S.state s.old) (S.state s.new) }
     ensures superblock { OnOk result ((S.state s.new).sectors 0 ≡ (S.state s.old).sectors 0) }
-    ensures each { (st : State) → FindsIn place (S.state s.old).sectors flags process.now found.now st
-        → MatchResult result (λ m. Reaches place (S.state s.new).sectors flags mode process.now found.now st m)
+    ensures each { (st : State) → FindsIn caller.now.place (S.state s.old).sectors flags process.now found.now st
+        → MatchResult result (λ m. Reaches caller.now.place (S.state s.new).sectors flags mode process.now found.now st m)
         (λ e. IsRefusedOpen (S.state s.old).disk (S.state s.new).disk flags process.now found.now st e) }
 {
     match found.ino {
-        Some(n) => open_old(alloc, s, place, process, found, n, flags),
-        None => open_new(alloc, s, place, process, found, flags, mode),
+        Some(n) => open_old(s, caller, process, found, n, flags),
+        None => open_new(s, caller, process, found, flags, mode),
     }
 }
 
@@ -206,6 +204,12 @@ pub fn open<S: Sectors>(
     requires ready { IsReady place (S.state s.old) procs.old }
     ensures { Performs place pid (Open path.now flags mode) (S.state s.old) (S.state s.new) procs.old procs.new result }
 {
+    let caller = Caller {
+        alloc,
+        place,
+        procs,
+        pid,
+    };
     let process = procs.process(pid)?;
     check_open(flags, mode, path)?;
     let fd = procs.open_slot(pid)?;
@@ -220,7 +224,7 @@ pub fn open<S: Sectors>(
         form,
         1,
     )?;
-    let n = open_inode(alloc, s, place, process, &found, flags, mode)?;
+    let n = open_inode(s, &caller, process, &found, flags, mode)?;
     procs.open(
         pid,
         fd,

@@ -20,6 +20,6 @@ pub fn access<S: Sectors>(s: &mut S, caller: &Caller, path: &Path, want: Perms) 
     let cred = reached.process.cred();
     let step = reached.found.step;
     let inode = &reached.inode;
-    let rule = permitted(caller.alloc, s, caller.place, cred, inode, want, 1, step)?;
+    let rule = permitted(s, caller, cred, inode, want, 1, step)?;
     Ok(Reply::Granted(rule))
 }

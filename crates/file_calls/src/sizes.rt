@@ -70,7 +70,7 @@ pub fn truncate<S: Sectors>(s: &mut S, caller: &Caller, path: &Path, size: u64) 
     check_no_directory(inode.kind)?;
     let cred = reached.process.cred();
     let step = reached.found.step;
-    permitted(caller.alloc, s, caller.place, cred, &inode, WRITE, 1, step)?;
+    permitted(s, caller, cred, &inode, WRITE, 1, step)?;
     check_size(caller.place, size)?;
     give_size(s, caller.place, reached.number, inode, size)?;
     Ok(Reply::Done)

@@ -100,8 +100,8 @@ fn make_directory<S: Sectors>(
     let found = &walked.found;
     let cred = process.cred();
     let step = found.step.saturating_sub(1);
-    let directory = check_make(caller.alloc, s, place, cred, found.dir, step)?;
-    let inherits = default_of(caller.alloc, s, place, &directory)?;
+    let directory = check_make(s, caller, cred, found.dir, step)?;
+    let inherits = default_of(s, caller, &directory)?;
     let default = inherits.as_ref();
     let access = inherited(caller.alloc, default, mode, process.umask())?;
     let bits = special_bits(&directory, mode);
@@ -141,22 +141,23 @@ pub fn mkdir<S: Sectors>(s: &mut S, caller: &Caller, path: &Path, mode: u16) -> 
 
 // The directory that was found, which the caller may search. ENOENT: nothing was. ENOTDIR: it is none.
 fn directory_found<S: Sectors>(
-    alloc: Global,
     s: &mut S,
-    place: Place,
+    caller: &Caller,
     cred: &Cred,
     found: &Found,
 ) -> Result<u32, Refusal>
-    requires sound { IsSound place (S.state s.old) }
-    requires there { (t : Tree) × HoldsTree place (S.state s.old).sectors t × ((n : ℕ) → found.now.ino ≡ Some n → IsThere t n) }
-    ensures each { (t : Tree) → HoldsTree place (S.state s.old).sectors t → ((n : ℕ) → found.now.ino ≡ Some n → IsThere t n)
+    requires sound { IsSound caller.now.place (S.state s.old) }
+    requires there { (t : Tree) × HoldsTree caller.now.place (S.state s.old).sectors t
+        × ((n : ℕ) → found.now.ino ≡ Some n → IsThere t n) }
+    ensures each { (t : Tree) → HoldsTree caller.now.place (S.state s.old).sectors t
+        → ((n : ℕ) → found.now.ino ≡ Some n → IsThere t n)
         → IsAnswered (S.state s.old).disk (S.state s.new).disk
         (refused_or (first_of (enter_asked cred.now t found.now)) (Ok (number found.now))) result }
     ensures same { IsUnchanged (S.state s.old) (S.state s.new) }
 {
-    let (n, inode) = inode_found(s, place, found)?;
+    let (n, inode) = inode_found(s, caller.place, found)?;
     check_is_directory(inode.kind)?;
-    search(alloc, s, place, cred, &inode, 1, found.step)?;
+    search(caller.alloc, s, caller.place, cred, &inode, 1, found.step)?;
     Ok(n)
 }
 
@@ -174,7 +175,7 @@ fn directory_at<S: Sectors>(s: &mut S, caller: &Caller, path: &Path) -> Result<u
 {
     let walked = walk_path(s, caller, Ok(()), path, Form::Follow)?;
     let cred = walked.process.cred();
-    let n = directory_found(caller.alloc, s, caller.place, cred, &walked.found)?;
+    let n = directory_found(s, caller, cred, &walked.found)?;
     Ok(n)
 }
 

@@ -18,7 +18,6 @@ use fs_layout::{Inode, Kind, MAX_INODE_NAMES, Place};
 use fs_model::{Found, Last, Path, Reply};
 use open_files::Process;
 use sector_txn::Sectors;
-use std::alloc::Global;
 
 // Asks whether a path ends in a name.
 fn check_last(found: &Found) -> Result<(), Refusal>
@@ -71,25 +70,25 @@ fn check_count(names: u32) -> Result<(), Refusal>
 
 // Asks all that is asked of the directory that names what has so many names, and answers its inode.
 fn check_place<S: Sectors>(
-    alloc: Global,
     s: &mut S,
-    place: Place,
+    caller: &Caller,
     process: &Process,
     found: &Found,
     names: u32,
 ) -> Result<Inode, Refusal>
-    requires sound { IsSound place (S.state s.old) }
-    requires there { (t : Tree) × HoldsTree place (S.state s.old).sectors t × IsDirectoryAt t found.now.dir }
-    ensures each { (t : Tree) → HoldsTree place (S.state s.old).sectors t → IsDirectoryAt t found.now.dir
+    requires sound { IsSound caller.now.place (S.state s.old) }
+    requires there { (t : Tree) × HoldsTree caller.now.place (S.state s.old).sectors t × IsDirectoryAt t found.now.dir }
+    ensures each { (t : Tree) → HoldsTree caller.now.place (S.state s.old).sectors t → IsDirectoryAt t found.now.dir
         → IsAnswered (S.state s.old).disk (S.state s.new).disk
         (refused_or
-        (first_of (place_asked place (S.state s.old).sectors process.now.cred t found.now.dir (found.now.step - 1) names))
-        (Ok (inode_at place (S.state s.old).sectors found.now.dir))) result }
+        (first_of (place_asked caller.now.place (S.state s.old).sectors process.now.cred t
+        found.now.dir (found.now.step - 1) names))
+        (Ok (inode_at caller.now.place (S.state s.old).sectors found.now.dir))) result }
     ensures same { IsUnchanged (S.state s.old) (S.state s.new) }
 {
-    let directory = ask_directory(alloc, s, place, process, found, 2)?;
+    let directory = ask_directory(s, caller, process, found, 2)?;
     check_count(names)?;
-    ask_for_name(s, place, &directory)?;
+    ask_for_name(s, caller.place, &directory)?;
     Ok(directory)
 }
 
@@ -121,7 +120,7 @@ fn check_link<S: Sectors>(
     let second = &walked.second;
     check_link_name(second)?;
     let process = walked.process;
-    let directory = check_place(caller.alloc, s, caller.place, process, second, inode.names)?;
+    let directory = check_place(s, caller, process, second, inode.names)?;
     Ok((n, inode, directory))
 }
 

@@ -99,7 +99,7 @@ fn make_link<S: Sectors>(
     let found = &walked.found;
     let cred = walked.process.cred();
     let step = found.step.saturating_sub(1);
-    let directory = check_make(caller.alloc, s, caller.place, cred, found.dir, step)?;
+    let directory = check_make(s, caller, cred, found.dir, step)?;
     let name = found.name.bytes();
     let bytes = target.bytes();
     place_link(s, caller.place, found.dir, directory, name, cred, bytes)?;

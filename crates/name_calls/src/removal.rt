@@ -78,7 +78,7 @@ fn check_removal<S: Sectors>(
     let found = &walked.found;
     let (n, inode) = inode_found(s, caller.place, found)?;
     check_slash(found, inode.kind)?;
-    let directory = ask_directory(caller.alloc, s, caller.place, process, found, 1)?;
+    let directory = ask_directory(s, caller, process, found, 1)?;
     check_sticky(process, found, &directory, &inode, 1)?;
     Ok((n, inode))
 }

@@ -66,8 +66,8 @@ fn check_permissions<S: Sectors>(
     let process = walked.process;
     let first = &walked.first;
     let second = &walked.second;
-    let directory = ask_directory(caller.alloc, s, caller.place, process, first, 1)?;
-    let to_directory = ask_directory(caller.alloc, s, caller.place, process, second, 2)?;
+    let directory = ask_directory(s, caller, process, first, 1)?;
+    let to_directory = ask_directory(s, caller, process, second, 2)?;
     check_sticky(process, first, &directory, inode, 1)?;
     check_sticky_there(process, second, &to_directory, replaced)?;
     Ok(to_directory)
@@ -129,7 +129,8 @@ fn check_moved<S: Sectors>(
         → IsToRename caller.now.place (S.state s.old).sectors desks walked.now.first walked.now.second
         n inode.now there st
         → IsAnswered (S.state s.old).disk (S.state s.new).disk
-        (refused_or (first_of (rename_moved (scene_with st walked.now.process.now walked.now.first walked.now.second))) (Ok tt)) result }
+        (refused_or (first_of (rename_moved
+        (scene_with st walked.now.process.now walked.now.first walked.now.second))) (Ok tt)) result }
     ensures same { IsUnchanged (S.state s.old) (S.state s.new) }
 {
     let first = &walked.first;
@@ -142,7 +143,7 @@ fn check_moved<S: Sectors>(
     }
     let cred = walked.process.cred();
     let step = first.step;
-    permitted(caller.alloc, s, caller.place, cred, inode, WRITE, 1, step)?;
+    permitted(s, caller, cred, inode, WRITE, 1, step)?;
     Ok(())
 }
 
@@ -189,7 +190,8 @@ pub(crate) fn check_move<S: Sectors>(
         → IsToRename caller.now.place (S.state s.old).sectors caller.now.procs.now
         walked.now.first walked.now.second n inode.now replaced.now st
         → IsAnswered (S.state s.old).disk (S.state s.new).disk
-        (refused_or (first_of (move_asked (scene_with st walked.now.process.now walked.now.first walked.now.second))) (Ok tt)) result }
+        (refused_or (first_of (move_asked
+        (scene_with st walked.now.process.now walked.now.first walked.now.second))) (Ok tt)) result }
     ensures same { IsUnchanged (S.state s.old) (S.state s.new) }
 {
     let first = &walked.first;

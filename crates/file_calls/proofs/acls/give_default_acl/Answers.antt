@@ -4,4 +4,4 @@ use Rattle.fs_layout.proofs.Free.{inode_fits_there}
 use Rattle.file_calls.proofs.acls.give_default_acl.Goals as goal
 
 pub save_default_acl-requires-clause-fits : goal.save_default_acl-requires-clause-fits
-save_default_acl-requires-clause-fits g c = subst FitsInode (sym c.requires.inode) (inode_fits_there c.requires.sound.consistent c.args.n c.requires.below)
+save_default_acl-requires-clause-fits g c = subst FitsInode (sym c.requires.loaded.inode) (inode_fits_there c.requires.loaded.sound.consistent c.args.n c.requires.loaded.below)

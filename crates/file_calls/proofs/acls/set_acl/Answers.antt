@@ -61,10 +61,12 @@ replace_acl-requires g c =
     let enough = (met_ok (first_of (acl_space_asked c.args.which acl (free_sectors c.args.caller.now.place mid.sectors))) tt tt c.in_ok-ask_for_space.ensures.each).0 in
     let spare = spare_unchanged c.args.caller.now.place 47 mid (g.S.Sectors.state c.ask_for_space.new.s) x.walked.ready.spare same in
     record {
-      sound = sound_kept same x.walked.ready.sound;
-      below = reached_below x;
-      inode = kept (λ (m : SectorMap). c.in_ok-reached.reached.inode ≡ inode_at c.args.caller.now.place m c.in_ok-reached.reached.number) same x.inode.inode;
-      used = kind.0;
+      loaded = record {
+        sound = sound_kept same x.walked.ready.sound;
+        below = reached_below x;
+        inode = kept (λ (m : SectorMap). c.in_ok-reached.reached.inode ≡ inode_at c.args.caller.now.place m c.in_ok-reached.reached.number) same x.inode.inode;
+        used = kind.0;
+      };
       no_link = kind.1;
       spare = omega (arith, spare);
       space = kept (λ (m : SectorMap). first_of (acl_space_asked c.args.which acl (free_sectors c.args.caller.now.place m)) ≡ None) same enough;

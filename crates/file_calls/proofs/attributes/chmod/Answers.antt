@@ -18,11 +18,8 @@ give_mode-requires g c =
     let access = reached_access x in
     let kind = accessed_kind _ c.in_ok-reached.reached.inode.kind access.kind in
     record {
-      sound = ready.sound;
-      below = reached_below x;
-      inode = x.inode.inode;
+      loaded = record { sound = ready.sound; below = reached_below x; inode = x.inode.inode; used = kind.0 };
       has = (_, access.acl);
-      used = kind.0;
       no_link = kind.1;
       spare = let spare = ready.spare in omega (arith, spare);
     }

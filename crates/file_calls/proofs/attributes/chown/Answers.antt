@@ -27,10 +27,7 @@ give_owner-requires g c =
     let x = c.in_ok-reached.ensures.reached in
     let ready = x.walked.ready in
     record {
-      sound = ready.sound;
-      below = reached_below x;
-      inode = x.inode.inode;
-      used = reached_used x;
+      loaded = record { sound = ready.sound; below = reached_below x; inode = x.inode.inode; used = reached_used x };
       spare = let spare = ready.spare in omega (arith, spare);
     }
 

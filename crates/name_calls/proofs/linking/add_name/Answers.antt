@@ -5,13 +5,16 @@ use Rattle.fs_layout.specs.declared.inode.Kind.TheVariants as kinds
 use Rattle.name_calls.proofs.Linkings.{target_below, target_used, dir_same, dir_room, link_holds}
 use Rattle.name_calls.proofs.linking.add_name.Goals as goal
 
-pub set_names-requires-clause-below : goal.set_names-requires-clause-below
-set_names-requires-clause-below g c = let x = c.requires.may in target_below (g.S.Sectors.state c.args.s.now) x.2 x.3
-
-pub set_names-requires-clause-used : goal.set_names-requires-clause-used
-set_names-requires-clause-used g c =
+pub set_names-requires-clause-loaded : goal.set_names-requires-clause-loaded
+set_names-requires-clause-loaded g c =
     let x = c.requires.may in
-    subst (λ (v : Inode). v.kind ≢ kinds.Free) (sym c.requires.inode) (target_used (g.S.Sectors.state c.args.s.now) x.2 x.3)
+    let old = g.S.Sectors.state c.args.s.now in
+    record {
+      sound = c.requires.sound;
+      below = target_below old x.2 x.3;
+      inode = c.requires.inode;
+      used = subst (λ (v : Inode). v.kind ≢ kinds.Free) (sym c.requires.inode) (target_used old x.2 x.3);
+    }
 
 pub name_inode-requires-clause-inode : goal.name_inode-requires-clause-inode
 name_inode-requires-clause-inode g c =

@@ -8,18 +8,16 @@ use Rattle.name_calls.proofs.Droppings.{lost_super}
 use Rattle.name_calls.proofs.Movings.{follow_super, there_is, nothing_there, moved_below, moved_used, entry_super, moved_same, moved_none, replaced_number, replaced_same, replaced_used, replaced_named, replaced_holds}
 use Rattle.name_calls.proofs.moving.move_name.Goals as goal
 
-pub follow-requires-clause-below : goal.follow-requires-clause-below
-follow-requires-clause-below g c = let x = c.requires.may in moved_below (g.S.Sectors.state c.args.s.now) x.1 x.2
-
-pub follow-requires-clause-inode : goal.follow-requires-clause-inode
-follow-requires-clause-inode g c =
+pub follow-requires-clause-loaded : goal.follow-requires-clause-loaded
+follow-requires-clause-loaded g c =
     let x = c.requires.may in
-    c.requires.inode ∙ sym (moved_same (g.S.Sectors.state c.args.s.now) x.1 x.2 c.in_ok-move_entry.ensures.moves)
-
-pub follow-requires-clause-used : goal.follow-requires-clause-used
-follow-requires-clause-used g c =
-    let x = c.requires.may in
-    subst (λ (v : Inode). v.kind ≢ kinds.Free) (sym c.requires.inode) (moved_used (g.S.Sectors.state c.args.s.now) x.1 x.2)
+    let old = g.S.Sectors.state c.args.s.now in
+    record {
+      sound = c.in_ok-move_entry.ensures.sound;
+      below = moved_below old x.1 x.2;
+      inode = c.requires.inode ∙ sym (moved_same old x.1 x.2 c.in_ok-move_entry.ensures.moves);
+      used = subst (λ (v : Inode). v.kind ≢ kinds.Free) (sym c.requires.inode) (moved_used old x.1 x.2);
+    }
 
 pub returns-in_err-follow-clause-store : goal.returns-in_err-follow-clause-store
 returns-in_err-follow-clause-store g c = store_joined c.in_ok-move_entry.ensures.store c.in_err-follow.ensures.store
