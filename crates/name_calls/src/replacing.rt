@@ -151,22 +151,21 @@ fn check_moved<S: Sectors>(
 fn check_space<S: Sectors>(
     s: &mut S,
     place: Place,
-    first: &Found,
-    second: &Found,
+    walked: &WalkedBoth,
     to_directory: &Inode,
 ) -> Result<(), Refusal>
     requires sound { IsSound place (S.state s.old) }
     ensures each { (desks : Desks) (q : Asking) (n : ℕ) (v : Inode) (there : Option (ℕ × Inode)) (st : State)
-        → IsToRename place (S.state s.old).sectors desks first.now second.now n v there st
-        → to_directory.now ≡ inode_at place (S.state s.old).sectors second.now.dir
+        → IsToRename place (S.state s.old).sectors desks walked.now.first walked.now.second n v there st
+        → to_directory.now ≡ inode_at place (S.state s.old).sectors walked.now.second.dir
         → IsAnswered (S.state s.old).disk (S.state s.new).disk
-        (refused_or (first_of (rename_space (scene_with st q first.now second.now))) (Ok tt)) result }
+        (refused_or (first_of (rename_space (scene_with st q walked.now.first walked.now.second))) (Ok tt)) result }
     ensures same { IsUnchanged (S.state s.old) (S.state s.new) }
 {
-    if second.ino.is_some() {
+    if walked.second.ino.is_some() {
         return Ok(());
     }
-    if first.dir == second.dir {
+    if walked.first.dir == walked.second.dir {
         return Ok(());
     }
     ask_for_name(s, place, to_directory)?;
@@ -194,13 +193,11 @@ pub(crate) fn check_move<S: Sectors>(
         (scene_with st walked.now.process.now walked.now.first walked.now.second))) (Ok tt)) result }
     ensures same { IsUnchanged (S.state s.old) (S.state s.new) }
 {
-    let first = &walked.first;
-    let second = &walked.second;
     let to_directory = check_permissions(s, caller, walked, inode, replaced)?;
     check_kinds(inode.kind, replaced)?;
-    check_below(s, caller.place, n, inode.kind, second.dir)?;
+    check_below(s, caller.place, n, inode.kind, walked.second.dir)?;
     check_replaced(caller.procs, replaced)?;
     check_moved(s, caller, walked, inode)?;
-    check_space(s, caller.place, first, second, &to_directory)?;
+    check_space(s, caller.place, walked, &to_directory)?;
     Ok(())
 }

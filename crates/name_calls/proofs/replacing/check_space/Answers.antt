@@ -15,17 +15,17 @@ returns-in_err-ask_for_name-clause-each g c = λ desks q n v there st r is.
     let k = c.from_residual.ensures in
     let old = g.S.Sectors.state c.args.s.now in
     let new = g.S.Sectors.state c.ask_for_name.new.s in
-    let b = c.args.second.now in
-    let sc = scene_with st q c.args.first.now b in
+    let b = c.args.walked.now.second in
+    let sc = scene_with st q c.args.walked.now.first b in
     let e = c.in_err-ask_for_name.field-0.0 in
     let none : is_some b.ino ≡ false = sym c.is_some.ensures ∙ c.if-is_some.false in
     answered_err {A = Unit {0}} old.disk new.disk (checked (first_of (rename_space sc))) c.from_residual.result e k.0 k.1
-    (subst (λ (ds : List Demand). IsAnswered {A = Unit {0}} old.disk new.disk (checked (first_of ds)) (Err e)) (sym (room_is r q none c.if-first-second.false))
+    (subst (λ (ds : List Demand). IsAnswered {A = Unit {0}} old.disk new.disk (checked (first_of ds)) (Err e)) (sym (room_is r q none c.if-walked.false))
     (c.in_err-ask_for_name.ensures.each st.tree b.dir (state_tree r.is_state) r.second.directory is))
 
 pub returns-clause-each : goal.returns-clause-each
 returns-clause-each g c = λ desks q n v there st r is.
-    let b = c.args.second.now in
+    let b = c.args.walked.now.second in
     let none : is_some b.ino ≡ false = sym c.is_some.ensures ∙ c.if-is_some.false in
-    ap (λ (ds : List Demand). checked (first_of ds)) (room_is r q none c.if-first-second.false)
+    ap (λ (ds : List Demand). checked (first_of ds)) (room_is r q none c.if-walked.false)
     ∙ c.in_ok-ask_for_name.ensures.each st.tree b.dir (state_tree r.is_state) r.second.directory is
