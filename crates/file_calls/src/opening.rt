@@ -214,27 +214,17 @@ pub fn open<S: Sectors>(
     check_open(flags, mode, path)?;
     let fd = procs.open_slot(pid)?;
     let form = form_of(flags);
-    let found = walk(
-        alloc,
-        s,
-        place,
-        process.cred(),
-        process.cwd(),
-        path,
-        form,
-        1,
-    )?;
+    let cred = process.cred();
+    let cwd = process.cwd();
+    let found = walk(alloc, s, place, cred, cwd, path, form, 1)?;
     let n = open_inode(s, &caller, process, &found, flags, mode)?;
-    procs.open(
-        pid,
-        fd,
-        Descriptor {
-            number: n,
-            offset: 0,
-            read: flags.read,
-            write: flags.write,
-            append: flags.append,
-        },
-    );
+    let descriptor = Descriptor {
+        number: n,
+        offset: 0,
+        read: flags.read,
+        write: flags.write,
+        append: flags.append,
+    };
+    procs.open(pid, fd, descriptor);
     Ok(Reply::Fd(fd))
 }
