@@ -1,4 +1,3 @@
-pub mod Counting
 pub mod Maps
 pub mod Marking
 pub mod Soundness

@@ -14,7 +14,7 @@ use Rattle.bit_alloc.specs.declared.bitmap.Bitmap.{Bitmap}
 use Rattle.bit_alloc.specs.declared.bitmap.Bitmap.TheVariants.{Inodes, Blocks}
 use Rattle.bit_alloc.specs.Bits.{clear_below}
 use Rattle.bit_alloc.specs.Bitmaps.{first_sector, bit_count, least, limit, IsFreeNumber, free_numbers, HasRestSet}
-use Rattle.bit_alloc.proofs.Counting.{count_same, count_split, count_moved, count_none, count_at_most}
+use Rattle.fs_layout.proofs.Counting.{count_same, count_split, count_moved, count_none, count_at_most}
 
 -- ---- from a sector to the bitmap
 -- a bit of the bitmap is one of its sector

@@ -18,7 +18,7 @@ use Rattle.bit_alloc.specs.declared.bitmap.Bitmap.{Bitmap}
 use Rattle.bit_alloc.specs.declared.bitmap.Bitmap.TheVariants.{Inodes, Blocks}
 use Rattle.bit_alloc.specs.Bitmaps.{first_sector, bit_count, limit, IsNumber, IsFreeNumber, free_numbers, sector_of, Marks, HasRestSet, HasBitmaps}
 use Rattle.bit_alloc.specs.Room.{bitmaps, HasSpare}
-use Rattle.bit_alloc.proofs.Counting.{count_one_more}
+use Rattle.fs_layout.proofs.Counting.{count_one_more}
 
 -- ---- the sector of a number's bit
 pub in_bitmaps : (p : Place) (s : ℕ) → 128 ≤ s → s < p.table → Contains (bitmaps p) s

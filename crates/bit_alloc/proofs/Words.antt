@@ -14,7 +14,7 @@ use Rattle.fs_layout.specs.Bytes.{IsBytes, IsSector, u64_of}
 use Rattle.fs_layout.proofs.Small.{u64_small}
 use Rattle.bit_alloc.specs.Bits.{AreSet, HasFullWords, IsLeastClear, clear_below}
 use Rattle.fs_layout.specs.Images.{bit}
-use Rattle.bit_alloc.proofs.Counting.{one_if, count_cons, count_same, count_both, count_split, count_moved, count_at_most}
+use Rattle.fs_layout.proofs.Counting.{one_if, count_cons, count_same, count_both, count_split, count_moved, count_at_most}
 
 -- bit j of a number of n bytes is one of byte j / 8
 pub number_bit : (xs : List ℕ) → IsBytes xs → (n i j : ℕ) → j < 8 * n → bit_at (little_from i n xs) j ≡ bit_at (get_or xs (i + j / 8) 0) (j % 8)

@@ -1,17 +1,17 @@
 -- What a bitmap's bits depend on, and how the count of free sectors follows them.
-use Rattle.std.proofs.Common.{◌≡◌, ◌≢◌, ℕ, zero, suc, ◌+◌, ◌-◌, ◌/◌, ◌%◌, ◌<◌, ◌≤◌, nat_eq}
+use Rattle.std.proofs.Common.{◌≡◌, ◌≢◌, ℕ, ◌+◌, ◌-◌, ◌/◌, ◌%◌, ◌<◌, ◌≤◌, nat_eq}
 use Rattle.std.proofs.Common.{Bool, true, false, cond, not, List, length, get_or, set, refl, sym, ap, ◌∙◌, arith, inl, inr, ◌⊎◌, IsTrue}
 use Rattle.std.specs.Prelude.{count_by}
 use Rattle.std.specs.Int.{bit_at}
 use Rattle.std.specs.List.{range_with_len}
 use Rattle.std.proofs.lemmas.Bool.{cases_eq, eq-eqb, ne_eqb}
 use Rattle.std.proofs.lemmas.List.{get_or-set_same, get_or-set_other}
-use Rattle.std.proofs.lemmas.List.Sums.{sum_by-cons}
 use Rattle.fs_layout.specs.declared.place.Place.{Place}
 use Rattle.fs_layout.specs.Bytes.{SectorMap}
 use Rattle.fs_layout.specs.Place.{IsPlace}
 use Rattle.fs_layout.specs.Images.{IsData, map_bits, bit, inode_bitmap, block_bitmap, free_sectors}
 use Rattle.fs_layout.specs.InodeChanges.{IsBlockMap, IsFree}
+use Rattle.fs_layout.proofs.Counting.{count_same, count_one_more, count_all}
 
 -- a bit is set or clear, and not both
 pub set_or_clear : (b : Bool) → IsTrue b ⊎ (b ≡ false)
@@ -86,43 +86,6 @@ bit_put_other {start} {n} {b} {old} {new} p same m ne =
     apart : m / 4096 ≡ n / 4096 → m % 4096 / 8 ≡ n % 4096 / 8 → m ≢ n → m % 8 ≢ n % 8
     apart e f ne g = ne (omega (arith, e, f, g))
 
--- ---- counts
-one_if : Bool → ℕ
-one_if b = cond b 1 0
-
-count_cons : (f : ℕ → Bool) (a n : ℕ) → count_by f (range_with_len a (suc n)) ≡ one_if (f a) + count_by f (range_with_len (a + 1) n)
-unfolding one_if
-count_cons f a n = sum_by-cons (λ (x : ℕ). cond (f x) 1 0) a (range_with_len (a + 1) n)
-
--- equal tests count the same
-count_same : (f g : ℕ → Bool) (a n : ℕ) → ((s : ℕ) → a ≤ s → s < a + n → f s ≡ g s)
-    → count_by f (range_with_len a n) ≡ count_by g (range_with_len a n)
-count_same f g a zero same = refl
-count_same f g a (suc n) same =
-    let here : one_if (f a) ≡ one_if (g a) = ap one_if (same a (omega arith) (omega arith)) in
-    let rest : count_by f (range_with_len (a + 1) n) ≡ count_by g (range_with_len (a + 1) n) = count_same f g (a + 1) n (λ s le lt. same s (omega arith) (omega arith)) in
-    count_cons f a n ∙ omega (arith, here, rest) ∙ sym (count_cons g a n)
-
--- one more number that passes
-count_one_more : (f g : ℕ → Bool) (a n x : ℕ) → a ≤ x → x < a + n → f x ≡ true → g x ≡ false → ((s : ℕ) → a ≤ s → s < a + n → s ≢ x → f s ≡ g s)
-    → count_by f (range_with_len a n) ≡ count_by g (range_with_len a n) + 1
-unfolding one_if
-count_one_more f g a zero x le lt yes_f no_g same = absurd (omega arith)
-count_one_more f g a (suc n) x le lt yes_f no_g same =
-    elim (cases_eq x a) [
-      | inl e ↦
-          let one : one_if (f a) ≡ 1 = ap (λ (k : ℕ). one_if (f k)) (sym e) ∙ ap one_if yes_f in
-          let none : one_if (g a) ≡ 0 = ap (λ (k : ℕ). one_if (g k)) (sym e) ∙ ap one_if no_g in
-          let rest : count_by f (range_with_len (a + 1) n) ≡ count_by g (range_with_len (a + 1) n) =
-          count_same f g (a + 1) n (λ s low high. same s (omega arith) (omega arith) (λ there. omega arith)) in
-          count_cons f a n ∙ omega (arith, one, none, rest) ∙ ap (λ (k : ℕ). k + 1) (sym (count_cons g a n))
-      | inr ne ↦
-          let here : one_if (f a) ≡ one_if (g a) = ap one_if (same a (omega arith) (omega arith) (λ there. ne (sym there))) in
-          let rest : count_by f (range_with_len (a + 1) n) ≡ count_by g (range_with_len (a + 1) n) + 1 =
-          count_one_more f g (a + 1) n x (omega arith) (omega arith) yes_f no_g (λ s low high. same s (omega arith) (omega arith)) in
-          count_cons f a n ∙ omega (arith, here, rest) ∙ ap (λ (k : ℕ). k + 1) (sym (count_cons g a n))
-    ]
-
 -- ---- free sectors
 free_bit : SectorMap → ℕ → Bool
 free_bit image s = not (bit image block_bitmap s)
@@ -182,11 +145,6 @@ free_sectors_none p image none s at = elim (set_or_clear (bit image block_bitmap
   | inl set ↦ set
   | inr clear ↦ absurd (let some = free_sectors_some p image s (at.0, at.1, clear) in omega (arith, none, some))
 ]
-
-count_all : (a n : ℕ) → count_by (λ (s : ℕ). true) (range_with_len a n) ≡ n
-unfolding one_if
-count_all a zero = refl
-count_all a (suc n) = let rest : count_by (λ (s : ℕ). true) (range_with_len (a + 1) n) ≡ n = count_all (a + 1) n in count_cons (λ (s : ℕ). true) a n ∙ omega (arith, rest)
 
 -- where each data sector's bit is clear, all are free
 pub free_sectors_all : (p : Place) (image : SectorMap) → ((s : ℕ) → IsData p s → bit image block_bitmap s ≡ false)

@@ -6,6 +6,7 @@ pub mod Codecs
 pub mod CommitLaw
 pub mod Composes
 pub mod Consistent
+pub mod Counting
 pub mod Entries
 pub mod Fields
 pub mod FirstEntries

@@ -1,5 +1,5 @@
 -- One number of an inode's sectors changes: one that stands in the inode, one in a sector of pointers, or an ACL's.
-use Rattle.std.proofs.Common.{◌≡◌, ◌≢◌, ℕ, zero, suc, ◌+◌, ◌-◌, ◌*◌, ◌/◌, ◌%◌, ◌^◌, ◌<◌, ◌≤◌, List, length, drop, get_or, refl, sym, ap, subst, ◌∙◌, arith, inl, inr, ◌⊎◌}
+use Rattle.std.proofs.Common.{◌≡◌, ◌≢◌, ℕ, zero, suc, ◌+◌, ◌-◌, ◌*◌, ◌^◌, ◌<◌, ◌≤◌, List, length, drop, get_or, refl, sym, ap, ◌∙◌, arith, inl, inr, ◌⊎◌}
 use Rattle.std.proofs.lemmas.List.{get_or-set_same, get_or-set_other, drop-drop}
 use Rattle.std.proofs.lemmas.Bool.{cases_eq, cases_lt, lt-ltb, le-ltb}
 use Rattle.fs_layout.specs.declared.inode.TheConstants.{DIRECT_BLOCKS, INDIRECT_END, MAX_BLOCKS, SECTOR_POINTERS}
@@ -8,7 +8,7 @@ use Rattle.fs_layout.specs.Bytes.{SectorMap, splice, le32, zeros, u32_of}
 use Rattle.fs_layout.specs.Images.{pointer_in, own_count, Level, levels, holder, place_in_holder, number_at, number_on, pointer, first_block, IsTrimmed}
 use Rattle.fs_layout.specs.Images.{HasPointers, number_in, Part, AccessAcl, DefaultAcl, OnLevel, Indirect, Block, part}
 use Rattle.fs_layout.specs.InodeChanges.{Turns, Gains, Loses, with_direct}
-use Rattle.fs_layout.proofs.Levels.{entry_kept, entry_there, number_own, number_held, Alike-refl, AlikeBut, KeepsEntries, KeepsOtherEntries, numbers_alike, numbers_turned}
+use Rattle.fs_layout.proofs.Levels.{entry_kept, entry_there, Alike-refl, AlikeBut, KeepsEntries, KeepsOtherEntries, numbers_alike, numbers_turned}
 use Rattle.fs_layout.proofs.Parts.{KeepsPointers, entries_kept, number_on_alike, number_on_indirect}
 use Rattle.fs_layout.proofs.Numbers.{are_numbers_32}
 use Rattle.fs_layout.proofs.SplicedBytes.{u32_of-splice_other, u32_of-zeros}

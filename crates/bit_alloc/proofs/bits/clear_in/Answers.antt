@@ -4,7 +4,7 @@ use Rattle.std.specs.List.{range_with_len}
 use Rattle.std.specs.Int.RustNames.{count_ones}
 use Rattle.fs_layout.specs.Bytes.{IsSector, u64_of}
 use Rattle.fs_layout.specs.Images.{bit}
-use Rattle.bit_alloc.proofs.Counting.{count_at_most}
+use Rattle.fs_layout.proofs.Counting.{count_at_most}
 use Rattle.bit_alloc.proofs.Words.{ones_few, word_counted, rest_clear}
 use Rattle.bit_alloc.proofs.bits.clear_in.Goals as goal
 

@@ -83,6 +83,12 @@ count_none f a (suc n) none =
     let rest : count_by f (range_with_len (a + 1) n) ≡ 0 = count_none f (a + 1) n (λ s le lt. none s (omega arith) (omega arith)) in
     count_cons f a n ∙ omega (arith, here, rest)
 
+-- all numbers pass
+pub count_all : (a n : ℕ) → count_by (λ (s : ℕ). true) (range_with_len a n) ≡ n
+unfolding one_if
+count_all a zero = refl
+count_all a (suc n) = let rest : count_by (λ (s : ℕ). true) (range_with_len (a + 1) n) ≡ n = count_all (a + 1) n in count_cons (λ (s : ℕ). true) a n ∙ omega (arith, rest)
+
 one_at_most : (b : Bool) → one_if b ≤ 1
 unfolding one_if
 one_at_most true = omega arith
