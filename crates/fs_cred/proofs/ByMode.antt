@@ -4,7 +4,7 @@ use Rattle.std.specs.Prelude.{if◌then◌else◌}
 use Rattle.std.proofs.lemmas.Bool.Decides.{nat_tests}
 use Rattle.posix_acl.specs.declared.entry.Perms.{Perms}
 use Rattle.posix_acl.specs.Entries.{perms_of}
-use Rattle.posix_acl.specs.AccessList.{IsAcl, minimal}
+use Rattle.posix_acl.specs.AccessList.{minimal}
 use Rattle.fs_cred.specs.declared.node.NodeKind.{NodeKind}
 use Rattle.fs_cred.specs.declared.rule.Rule.TheVariants.{OwningGroup}
 use Rattle.fs_cred.specs.Permissions.{holds}
@@ -12,9 +12,6 @@ use Rattle.fs_cred.specs.Credentials.{Credential, is_member}
 use Rattle.fs_cred.specs.Decisions.{has_execute_bit, node_of_mode}
 use Rattle.fs_cred.specs.Verdicts.{verdict, verdict_of, by_capability, by_entry, by_groups, by_groups_found}
 use Rattle.fs_cred.proofs.ByCapability.{entries_are_left}
-
-pub minimal_valid : (mode : ℕ) → IsAcl (minimal mode)
-minimal_valid mode = record { users = tt; user_ids = tt; groups = tt; group_ids = tt; masked = λ lt. absurd (omega (arith, lt)); few = omega arith }
 
 module _ (cred : Credential) (kind : NodeKind) (owner group mode : ℕ) (want : Perms) where
   -- there is no entry of a group but the owning group's

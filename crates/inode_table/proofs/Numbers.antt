@@ -1,5 +1,5 @@
 -- The entries of an ACL and their numbers, as a sector has them.
-use Rattle.std.proofs.Common.{◌≡◌, ℕ, ◌+◌, ◌<◌, List, [], ◌∷◌, ◌++◌, length, get_or, set, take, map, Some, None, Result, Ok, refl, sym, ap, subst, ◌∙◌, arith}
+use Rattle.std.proofs.Common.{◌≡◌, ℕ, ◌+◌, ◌<◌, List, [], ◌∷◌, ◌++◌, length, get_or, set, take, map, Some, None, Result, Ok, sym, ap, subst, ◌∙◌, arith}
 use Rattle.std.specs.List.Sorted.{IsPermutation}
 use Rattle.std.proofs.lemmas.List.{take_more, take_more_set, take_all, map-append, get_or-map, length-map}
 use Rattle.std.proofs.lemmas.List.Sorted.{IsPermutation-refl}
@@ -9,7 +9,7 @@ use Rattle.posix_acl.specs.declared.fault.AclFault.{AclFault}
 use Rattle.posix_acl.specs.Entries.{numbers_of, plain_entries}
 use Rattle.posix_acl.specs.AccessList.{AccessList, IsAcl, entries_of, list_numbers}
 use Rattle.posix_acl.specs.Faults.{first_fault, IsListOf}
-use Rattle.posix_acl.proofs.Laws.{numbers_injective, own_plain}
+use Rattle.posix_acl.proofs.Laws.{entries_same, own_plain}
 use Rattle.posix_acl.proofs.NoFault.{no_fault_in}
 use Rattle.fs_layout.specs.AclSector.{FitsAclSector, acl_sector_bytes, acl_content}
 use Rattle.fs_layout.proofs.OneAcl.{sector_fits}
@@ -44,16 +44,6 @@ pub entry_known : (a : AccessList) (ns : List EntryNumbers) (i : ℕ) (d : Entry
 entry_known a ns i d e is lt =
     let room : i < length (entries_of a) = omega (arith, lt, ap length is, length-map (entries_of a) numbers_of) in
     sym (ap (λ (l : List EntryNumbers). get_or l i d) is ∙ get_or-map numbers_of (entries_of a) i e d room)
-
--- numbers tell their entries
-pub entries_same : (es fs : List Entry) → map numbers_of es ≡ map numbers_of fs → es ≡ fs
-entries_same [] [] same = refl
-entries_same [] (f ∷ fs) same = absurd cc
-entries_same (e ∷ es) [] same = absurd cc
-entries_same (e ∷ es) (f ∷ fs) same =
-    let heads : numbers_of e ≡ numbers_of f = cc in
-    let tails : map numbers_of es ≡ map numbers_of fs = cc in
-    ap (λ x. x ∷ es) (numbers_injective e f heads) ∙ ap (λ xs. f ∷ xs) (entries_same es fs tails)
 
 -- all of them are read
 pub entries_read : (a : AccessList) (es : List Entry) (ns : List EntryNumbers) (i : ℕ) → ns ≡ list_numbers a → i ≡ length ns → map numbers_of es ≡ take i ns

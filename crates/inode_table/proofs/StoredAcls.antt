@@ -1,9 +1,9 @@
 -- ACLs as sectors' contents, and how many sectors they take.
-use Rattle.std.proofs.Common.{◌≡◌, ◌≢◌, ℕ, zero, suc, ◌*◌, ◌/◌, ◌%◌, ◌<◌, ◌≤◌, List, Option, Some, None, true, false, refl, sym, subst, ◌∙◌, arith}
-use Rattle.std.specs.Prelude.{if◌then◌else◌, ◌==◌}
-use Rattle.posix_acl.specs.Entries.{digit_of, perms_of}
+use Rattle.std.proofs.Common.{◌≡◌, ◌≢◌, ℕ, zero, suc, ◌<◌, ◌≤◌, List, Option, Some, None, true, false, refl, sym, subst, ◌∙◌, arith}
+use Rattle.std.specs.Prelude.{if◌then◌else◌}
 use Rattle.std.specs.Option.{option_map}
-use Rattle.posix_acl.specs.AccessList.{AccessList, IsAcl, IsSomeAcl, list_numbers, minimal, mode_bits, is_extended}
+use Rattle.posix_acl.specs.AccessList.{AccessList, IsAcl, IsSomeAcl, list_numbers, minimal, is_extended}
+use Rattle.posix_acl.proofs.Laws.{minimal_valid, mode_bits-minimal}
 use Rattle.fs_layout.specs.declared.inode.Inode.{Inode}
 use Rattle.fs_layout.specs.Bytes.{SectorMap, IsSector}
 use Rattle.fs_layout.specs.AclSector.{acl_content, HoldsAcl, kept_acl}
@@ -70,29 +70,6 @@ data_mapped sound d =
     (omega (arith, from, to, d), omega (arith, d, size))
 
 -- ---- without a sector
--- a digit of mode bits as permissions
-bit_value : (b k : ℕ) → b < 2 → (if b == 1 then k else 0) ≡ k * b
-bit_value zero k below = omega arith
-bit_value (suc zero) k below = omega arith
-bit_value (suc (suc b)) k below = absurd (omega arith)
-
-digit_of-perms_of : (d : ℕ) → digit_of (perms_of d) ≡ d % 8
-digit_of-perms_of d =
-    let high = bit_value (d / 4 % 2) 4 (omega arith) in
-    let middle = bit_value (d / 2 % 2) 2 (omega arith) in
-    let low = bit_value (d % 2) 1 (omega arith) in
-    omega (arith, high, middle, low)
-
-mode_bits-minimal : (mode : ℕ) → mode_bits (minimal mode) ≡ mode % 512
-mode_bits-minimal mode =
-    let high = digit_of-perms_of (mode / 64) in
-    let middle = digit_of-perms_of (mode / 8) in
-    let low = digit_of-perms_of mode in
-    omega (arith, high, middle, low)
-
-minimal_valid : (mode : ℕ) → IsAcl (minimal mode)
-minimal_valid mode = record { users = tt; user_ids = tt; groups = tt; group_ids = tt; masked = λ lt. absurd (omega (arith, lt)); few = omega arith }
-
 -- an access ACL that has none is told by the mode
 pub told_by_mode : (image : SectorMap) (v : Inode) (a b : AccessList) → HasAcl image v a → v.acl ≡ 0 → b ≡ minimal v.mode → b ≡ a
 told_by_mode image v a b has none is =

@@ -11,7 +11,7 @@ use Rattle.posix_acl.specs.declared.fault.AclFault.{AclFault}
 use Rattle.posix_acl.specs.declared.fault.AclFault.TheVariants.{OutOfMemory, BadText, MissingBase, TwiceBase, TwiceQualifier, NoMask, TwoMasks, TooMany}
 use Rattle.posix_acl.specs.declared.text.TextForm.{TextForm}
 use Rattle.posix_acl.specs.Entries.{tag_number, is_named, perms_of, digit_of, entry, plain, plain_entries, numbers_of}
-use Rattle.posix_acl.specs.AccessList.{AccessList, IsAcl, IdsFit, entries_of, named_entries, mask_entries, list_numbers}
+use Rattle.posix_acl.specs.AccessList.{AccessList, IsAcl, IdsFit, entries_of, named_entries, mask_entries, list_numbers, mode_bits, minimal}
 use Rattle.posix_acl.specs.Faults.{first_fault, IsListOf}
 use Rattle.posix_acl.specs.Stored.{access_list}
 use Rattle.posix_acl.specs.Text.{written_text, IsText, text_pieces, SaysList, SaysFault, SaysFaulty, ReadsBack}
@@ -49,19 +49,20 @@ numbers_injective e f same =
     let all : entry e.tag e.id e.perms ≡ entry f.tag f.id f.perms = rw (tags, ids, perms) refl in
     all
 
-all_numbers : (es fs : List Entry) → map numbers_of es ≡ map numbers_of fs → es ≡ fs
-all_numbers [] [] same = refl
-all_numbers [] (f ∷ fs) same = absurd (cc)
-all_numbers (e ∷ es) [] same = absurd (cc)
-all_numbers (e ∷ es) (f ∷ fs) same =
+-- numbers tell their entries
+pub entries_same : (es fs : List Entry) → map numbers_of es ≡ map numbers_of fs → es ≡ fs
+entries_same [] [] same = refl
+entries_same [] (f ∷ fs) same = absurd (cc)
+entries_same (e ∷ es) [] same = absurd (cc)
+entries_same (e ∷ es) (f ∷ fs) same =
     let heads : numbers_of e ≡ numbers_of f = cc in
     let tails : map numbers_of es ≡ map numbers_of fs = cc in
-    ap (λ x. x ∷ es) (numbers_injective e f heads) ∙ ap (λ xs. f ∷ xs) (all_numbers es fs tails)
+    ap (λ x. x ∷ es) (numbers_injective e f heads) ∙ ap (λ xs. f ∷ xs) (entries_same es fs tails)
 
 -- a list's numbers determine it
 pub one_of_numbers : (a b : AccessList) → list_numbers a ≡ list_numbers b → a ≡ b
 one_of_numbers a b same =
-    sym (access_list-entries_of a) ∙ ap access_list (all_numbers (entries_of a) (entries_of b) same) ∙ access_list-entries_of b
+    sym (access_list-entries_of a) ∙ ap access_list (entries_same (entries_of a) (entries_of b) same) ∙ access_list-entries_of b
 
 readable-append : (xs ys : List Entry) → AllReadable xs → AllReadable ys → AllReadable (xs ++ ys)
 readable-append [] ys first second = second
@@ -134,17 +135,32 @@ reads_back text a form (Err fault) valid same says faults = only fault faults
     only TwoMasks says = absurd (not_faulty TwoMasks (says (λ e. cc)))
     only TooMany says = absurd (not_faulty TooMany (says (λ e. cc)))
 
-bit_value : (b k : ℕ) → b < 2 → cond (eqb b 1) k 0 ≡ k * b
+pub bit_value : (b k : ℕ) → b < 2 → cond (eqb b 1) k 0 ≡ k * b
 bit_value zero k below = omega arith
 bit_value (suc zero) k below = omega arith
 bit_value (suc (suc b)) k below = absurd (omega arith)
 
-pub digit_back : (d : ℕ) → d < 8 → digit_of (perms_of d) ≡ d
-digit_back d small =
+digit_of-perms_of : (d : ℕ) → digit_of (perms_of d) ≡ d % 8
+digit_of-perms_of d =
     let high = bit_value (d / 4 % 2) 4 (omega arith) in
     let middle = bit_value (d / 2 % 2) 2 (omega arith) in
     let low = bit_value (d % 2) 1 (omega arith) in
-    rw (high, middle, low) (omega arith)
+    omega (arith, high, middle, low)
+
+pub digit_back : (d : ℕ) → d < 8 → digit_of (perms_of d) ≡ d
+digit_back d small = let digit = digit_of-perms_of d in omega (arith, digit, small)
+
+-- the three base entries that a mode gives have its permission bits
+pub mode_bits-minimal : (mode : ℕ) → mode_bits (minimal mode) ≡ mode % 512
+mode_bits-minimal mode =
+    let high = digit_of-perms_of (mode / 64) in
+    let middle = digit_of-perms_of (mode / 8) in
+    let low = digit_of-perms_of mode in
+    omega (arith, high, middle, low)
+
+-- and are a valid list
+pub minimal_valid : (mode : ℕ) → IsAcl (minimal mode)
+minimal_valid mode = record { users = tt; user_ids = tt; groups = tt; group_ids = tt; masked = λ lt. absurd (omega (arith, lt)); few = omega arith }
 
 pub digit_small : (p : Perms) → digit_of p < 8
 digit_small p = small p.read p.write p.execute

@@ -1,7 +1,8 @@
 use Rattle.std.proofs.Common.{rules, ◌∙◌}
 use Rattle.fs_cred.specs.Decisions.{node_of_mode}
 use Rattle.fs_cred.proofs.ByCapability.{capability_is_verdict, capability_decides}
-use Rattle.fs_cred.proofs.ByMode.{minimal_valid, verdict_by_group}
+use Rattle.posix_acl.proofs.Laws.{minimal_valid}
+use Rattle.fs_cred.proofs.ByMode.{verdict_by_group}
 use Rattle.fs_cred.proofs.OneAnswer.{decided}
 use Rattle.fs_cred.proofs.access.decide_by_mode.Goals as goal
 
