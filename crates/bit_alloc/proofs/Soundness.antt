@@ -1,5 +1,5 @@
 -- How calls on inodes go together: soundness, the room, and the sectors that they put.
-use Rattle.std.proofs.Common.{◌≡◌, ℕ, ◌+◌, ◌-◌, ◌/◌, ◌<◌, ◌≤◌, sym, ap, subst, ◌∙◌, arith, inl, inr, ◌⊎◌, IsTrue, Some}
+use Rattle.std.proofs.Common.{◌≡◌, ℕ, ◌+◌, ◌-◌, ◌/◌, ◌<◌, ◌≤◌, List, sym, ap, subst, ◌∙◌, arith, inl, inr, ◌⊎◌, IsTrue, Some}
 use Rattle.std.proofs.lemmas.Bool.{cases_eq, cases_lt}
 use Rattle.std.proofs.lemmas.List.FromFn.{length-range_with_len}
 use Rattle.fs_layout.specs.declared.place.Place.{Place}
@@ -8,7 +8,7 @@ use Rattle.fs_layout.specs.declared.version.Version.{Version}
 use Rattle.fs_layout.specs.Place.{IsPlace, place_in}
 use Rattle.fs_layout.specs.Images.{bit, inode_bitmap, block_bitmap, free_sectors}
 use Rattle.fs_layout.specs.Ownership.{IsConsistent}
-use Rattle.fs_layout.specs.InodeChanges.{MarksInode}
+use Rattle.fs_layout.specs.InodeChanges.{MarksInode, Puts}
 use Rattle.fs_layout.proofs.Bits.{bit_kept, inode_bit_kept, free_sectors_kept}
 use Rattle.fs_layout.proofs.Composes.{both_inodes}
 use Rattle.fs_layout.proofs.Consistent.{stays_consistent}
@@ -51,6 +51,16 @@ bitmaps_put p s x old new has high whole put =
       | inr ne ↦ subst IsSector (sym (put.sectors.others t ne)) (has.tables t (let table = after_map has.place in omega (arith, table, from)) to)
     ])
 
+-- a data sector is put
+pub put_keeps_bitmaps : {p : Place} {s : ℕ} {x : List ℕ} {old new : TxnState} → HasBitmaps p old → SameStore old new → p.first_data ≤ s
+    → Puts s x old.sectors new.sectors → HasBitmaps p new
+put_keeps_bitmaps {p} {s} {x} {old} {new} has store high put =
+    let from = after_map has.place in
+    let to = before_data has.place in
+    let same : (t : ℕ) → t < p.first_data → new.sectors t ≡ old.sectors t = λ t low. put.others t (λ e. omega (arith, low, high, e)) in
+    bitmaps_kept p old new has store (λ t past low. same t (omega (arith, low, to)))
+    (λ t past low. subst IsSector (sym (same t low)) (has.tables t (omega (arith, past, from)) low))
+
 -- ---- soundness
 -- of a consistent map
 pub sound_from : (p : Place) (txn : TxnState) → IsConsistent p txn.sectors → p.sectors ≤ txn.disk.size
@@ -73,19 +83,22 @@ sound_from p txn consistent disk outside = record {
       ]
     ]
 
+-- of one whose inode bitmap has the same bits of what is no inode
+pub sound_after : {p : Place} {old new : TxnState} → IsSound p old → SameStore old new → IsConsistent p new.sectors
+    → ((m : ℕ) → m < 4096 → (IsNumber p Inodes m → ⊥) → bit new.sectors inode_bitmap m ≡ bit old.sectors inode_bitmap m) → IsSound p new
+sound_after {p} {old} {new} sound store consistent same =
+    sound_from p new consistent (omega (arith, sound.bitmaps.disk, store.reads.narrowed.size))
+    (λ m low outside. same m low (none m outside) ∙ sound.bitmaps.rest Inodes m low (none m outside))
+  where
+    none : (m : ℕ) → (m ≡ 0) ⊎ (p.inodes ≤ m) → IsNumber p Inodes m → ⊥
+    none m (inl e) number = let from = number.0 in omega (arith, from, e)
+    none m (inr past) number = let below = number.1 in omega (arith, below, past)
+
 -- after a call on one inode
 pub sound_then : (p : Place) (n taken more : ℕ) (old new : TxnState) → IsSound p old → IsNumber p Inodes n → Touches p n taken more old new → IsSound p new
 sound_then p n taken more old new sound is touches =
-    let disk : p.sectors ≤ new.disk.size = omega (arith, sound.bitmaps.disk, touches.puts.store.reads.narrowed.size) in
-    sound_from p new (stays_consistent sound.consistent is.1 touches.inode) disk (λ m low outside.
-    touches.inode.inode_bits m low (λ e. apart m e outside) ∙ sound.bitmaps.rest Inodes m low (λ number. none m number outside))
-  where
-    none : (m : ℕ) → IsNumber p Inodes m → (m ≡ 0) ⊎ (p.inodes ≤ m) → ⊥
-    none m number (inl e) = let from = number.0 in omega (arith, from, e)
-    none m number (inr past) = let below = number.1 in omega (arith, below, past)
-
-    apart : (m : ℕ) → m ≡ n → (m ≡ 0) ⊎ (p.inodes ≤ m) → ⊥
-    apart m e outside = none m (subst (IsNumber p Inodes) (sym e) is) outside
+    sound_after sound touches.puts.store (stays_consistent sound.consistent is.1 touches.inode)
+    (λ m low none. touches.inode.inode_bits m low (λ e. none (subst (IsNumber p Inodes) (sym e) is)))
 
 -- two calls on one inode are one
 pub touches_joined : (p : Place) (n a b j k : ℕ) (old mid new : TxnState) → IsPlace p → Touches p n a j old mid → Touches p n b k mid new → Touches p n (a + b) (j + k) old new

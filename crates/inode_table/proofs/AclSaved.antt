@@ -18,7 +18,8 @@ use Rattle.sector_txn.proofs.TransactionRuns.{changes_joined}
 use Rattle.bit_alloc.specs.Room.{bitmaps}
 use Rattle.bit_alloc.specs.Inodes.{IsSound, Touches, KeepsBytes}
 use Rattle.inode_table.specs.Storing.{IsForAcl}
-use Rattle.inode_table.proofs.Sound.{sound_after, puts_acl, puts_inode}
+use Rattle.bit_alloc.proofs.Soundness.{sound_after}
+use Rattle.inode_table.proofs.Sound.{puts_acl, puts_inode}
 use Rattle.inode_table.proofs.Saved.{fields_keep_bytes, saved_keeps_bytes}
 use Rattle.inode_table.proofs.Stores.{HasStored, stored_keeps_bytes}
 

@@ -14,7 +14,8 @@ use Rattle.bit_alloc.specs.Inodes.{IsSound, Touches}
 use Rattle.bit_alloc.proofs.Transactions.{map_unchanged}
 use Rattle.inode_table.specs.Storing.{IsForAcl, IsForSaving, GivesBack}
 use Rattle.inode_table.proofs.Freed.{freed_consistent, freed_changes, freed_is, freed_bits, freed_free_sectors, freed_super}
-use Rattle.inode_table.proofs.Sound.{sound_after, puts_nothing, puts_saving, puts_saved, puts_inode_map}
+use Rattle.bit_alloc.proofs.Soundness.{sound_after}
+use Rattle.inode_table.proofs.Sound.{puts_nothing, puts_saving, puts_saved, puts_inode_map}
 
 -- what has come of it
 pub record IsFreed (p : Place) (n : ℕ) (old new : TxnState) : Type 0 where

@@ -36,7 +36,8 @@ use Rattle.inode_table.proofs.AclCalls.{bits_shown}
 use Rattle.inode_table.proofs.AclSaved.{bytes_joined}
 use Rattle.inode_table.proofs.Bits.{with_low_bits}
 use Rattle.inode_table.proofs.Saved.{fields_keep_bytes, saved_keeps_bytes}
-use Rattle.inode_table.proofs.Sound.{sound_after, puts_acl, puts_inode_bit, puts_inode}
+use Rattle.bit_alloc.proofs.Soundness.{sound_after}
+use Rattle.inode_table.proofs.Sound.{puts_acl, puts_inode_bit, puts_inode}
 use Rattle.inode_table.proofs.StoredAcls.{contents, contents_whole, kept_valid, holds_acl, acl_stays, takes_same}
 use Rattle.inode_table.proofs.Stores.{HasStored, stored, stored_keeps_bytes, content_there}
 

@@ -16,7 +16,8 @@ use Rattle.fs_layout.proofs.Saves.{IsSaved}
 use Rattle.sector_txn.specs.Sectors.{TxnState, SameStore, PutsOnly}
 use Rattle.bit_alloc.specs.Inodes.{IsSound, Touches, KeepsBytes, KeepsAccess, KeepsDefault, KeepsAcls}
 use Rattle.inode_table.specs.Inodes.{DiffersInAttributes}
-use Rattle.inode_table.proofs.Sound.{sound_after, puts_inode}
+use Rattle.bit_alloc.proofs.Soundness.{sound_after}
+use Rattle.inode_table.proofs.Sound.{puts_inode}
 
 -- ---- before the save
 -- an inode with the same blocks holds the same

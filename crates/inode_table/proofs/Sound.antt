@@ -1,62 +1,14 @@
--- What is sound stays so, and what calls in a row put and take.
-use Rattle.std.proofs.Common.{◌≡◌, ℕ, ◌+◌, ◌/◌, ◌<◌, ◌≤◌, List, [], refl, sym, subst, ◌∙◌, arith, inl, inr, IsTrue}
-use Rattle.std.proofs.lemmas.Bool.{cases_lt}
+-- What calls in a row put and take.
+use Rattle.std.proofs.Common.{◌≡◌, ℕ, ◌+◌, ◌/◌, ◌<◌, ◌≤◌, List, [], refl, arith, inl, inr}
 use Rattle.fs_layout.specs.declared.place.Place.{Place}
-use Rattle.fs_layout.specs.Bytes.{SectorMap, IsSector}
 use Rattle.fs_layout.specs.Place.{IsPlace}
-use Rattle.fs_layout.specs.Images.{IsData, map_bits, bit, inode_bitmap, block_bitmap}
-use Rattle.fs_layout.specs.Ownership.{IsConsistent}
-use Rattle.fs_layout.proofs.Places.{after_map, before_data}
-use Rattle.fs_layout.proofs.Bits.{bit_kept}
-use Rattle.sector_txn.specs.Sectors.{TxnState, SameStore, IsUnchanged, IsPut, PutsOnly}
+use Rattle.fs_layout.specs.Images.{IsData, map_bits, inode_bitmap, block_bitmap}
+use Rattle.fs_layout.proofs.Places.{after_map}
+use Rattle.sector_txn.specs.Sectors.{TxnState, IsUnchanged, IsPut, PutsOnly}
 use Rattle.sector_txn.proofs.TransactionRuns.{changes_nothing, changes_read, changes_put, changes_joined, changes_beside, changes_weaker}
-use Rattle.bit_alloc.specs.declared.bitmap.Bitmap.{Bitmap}
-use Rattle.bit_alloc.specs.declared.bitmap.Bitmap.TheVariants.{Inodes, Blocks}
-use Rattle.bit_alloc.specs.Bitmaps.{HasBitmaps, IsNumber, bit_count, first_sector}
 use Rattle.bit_alloc.specs.Room.{bitmaps, HasSpare, TakesSpare}
-use Rattle.bit_alloc.specs.Inodes.{IsSound, IsSectorFor}
+use Rattle.bit_alloc.specs.Inodes.{IsSectorFor}
 use Rattle.inode_table.specs.Storing.{IsForAcl, IsForSaving}
-
--- ---- a consistent image is sound
--- what is asked of one bitmap
-abbrev RestOf : Place → SectorMap → Bitmap → Type 0
-RestOf p image map = (n : ℕ) → n < bit_count p map → (IsNumber p map n → ⊥) → IsTrue (bit image (first_sector map) n)
-
--- the bits of the block bitmap follow from consistency, and those of the inodes' that are no inode's stay
-pub sound_after : {p : Place} {old new : TxnState} → IsSound p old → SameStore old new → IsConsistent p new.sectors
-    → ((m : ℕ) → m < 4096 → (IsNumber p Inodes m → ⊥) → bit new.sectors inode_bitmap m ≡ bit old.sectors inode_bitmap m) → IsSound p new
-sound_after {p} {old} {new} sound store h same = record {
-  consistent = h;
-  bitmaps = record {
-    place = h.place;
-    disk = let b = sound.bitmaps.disk in let e = store.reads.narrowed.size in omega (arith, b, e);
-    tables = h.sectors;
-    rest = λ map. elim map as (λ k. RestOf p new.sectors k) [
-      | Inodes ↦ λ m few none. same m few none ∙ sound.bitmaps.rest Inodes m few none
-      | Blocks ↦ λ m few none. (h.block_bits m few).1 (elim (cases_lt m p.first_data) [
-        | inl low ↦ inl low
-        | inr ge ↦ elim (cases_lt m p.sectors) [ inl lt ↦ absurd (none (ge, lt)) | inr past ↦ inr (inl past) ]
-      ])
-    ];
-  };
-}
-
--- bitmaps and inode table stay where a data sector is put
-pub data_put_keeps_bitmaps : {p : Place} {s : ℕ} {x : List ℕ} {old new : TxnState} → HasBitmaps p old → IsPut s x old new → p.first_data ≤ s → HasBitmaps p new
-data_put_keeps_bitmaps {p} {s} {x} {old} {new} b put ge =
-    let from = after_map b.place in
-    let to = before_data b.place in
-    let low : (t : ℕ) → t < p.first_data → new.sectors t ≡ old.sectors t = λ t lt. put.sectors.others t (λ e. omega (arith, lt, ge, e)) in
-    record {
-      place = b.place;
-      disk = let d = b.disk in let e = put.store.reads.narrowed.size in omega (arith, d, e);
-      tables = λ t past lt. subst IsSector (sym (low t lt)) (b.tables t past lt);
-      rest = λ map. elim map as (λ k. RestOf p new.sectors k) [
-        | Inodes ↦ λ m few none. bit_kept old.sectors new.sectors inode_bitmap m (low (inode_bitmap + m / 4096) (omega (arith, few, from, to))) ∙ b.rest Inodes m few none
-        | Blocks ↦ λ m few none.
-            bit_kept old.sectors new.sectors block_bitmap m (low (block_bitmap + m / 4096) (omega (arith, few, from, to))) ∙ b.rest Blocks m few none
-      ];
-    }
 
 -- ---- one put
 -- a data sector is put

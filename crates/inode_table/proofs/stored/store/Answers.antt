@@ -1,14 +1,15 @@
 use Rattle.bit_alloc.specs.Room.{bitmaps}
 use Rattle.fs_layout.proofs.Bits.{has_bit}
 use Rattle.sector_txn.proofs.TransactionRuns.{changes_joined}
-use Rattle.inode_table.proofs.Sound.{data_put_keeps_bitmaps, puts_data, puts_bitmap}
+use Rattle.bit_alloc.proofs.Soundness.{put_keeps_bitmaps}
+use Rattle.inode_table.proofs.Sound.{puts_data, puts_bitmap}
 use Rattle.inode_table.proofs.stored.store.Goals as goal
 
 pub returns-then-sector-ne0-clause-puts : goal.returns-then-sector-ne0-clause-puts
 returns-then-sector-ne0-clause-puts g c = puts_data c.args.place (bitmaps c.args.place) c.put.ensures (c.requires.owned c.if-sector-ne0.true)
 
 pub returns-then-sector-ne0-clause-bitmaps : goal.returns-then-sector-ne0-clause-bitmaps
-returns-then-sector-ne0-clause-bitmaps g c = data_put_keeps_bitmaps c.requires.bitmaps c.put.ensures (c.requires.owned c.if-sector-ne0.true).0
+returns-then-sector-ne0-clause-bitmaps g c = put_keeps_bitmaps c.requires.bitmaps c.put.ensures.store (c.requires.owned c.if-sector-ne0.true).0 c.put.ensures.sectors
 
 pub returns-clause-puts : goal.returns-clause-puts
 returns-clause-puts g c =
@@ -18,4 +19,4 @@ returns-clause-puts g c =
     (puts_data p (bitmaps p) c.put-2.ensures (free.0, free.1))
 
 pub returns-clause-bitmaps : goal.returns-clause-bitmaps
-returns-clause-bitmaps g c = data_put_keeps_bitmaps c.in_ok-to.ensures.bitmaps c.put-2.ensures c.in_ok-to.ensures.taken.free.0
+returns-clause-bitmaps g c = put_keeps_bitmaps c.in_ok-to.ensures.bitmaps c.put-2.ensures.store c.in_ok-to.ensures.taken.free.0 c.put-2.ensures.sectors
