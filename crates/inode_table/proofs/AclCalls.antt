@@ -38,6 +38,22 @@ pub record IsSavedWith (p : Place) (n : ℕ) (w : Inode) (sector : Inode → ℕ
   pub bytes : KeepsBytes old.sectors new.sectors (inode_at p old.sectors n) (inode_at p new.sectors n)
   pub used : bit new.sectors inode_bitmap n ≡ bit old.sectors inode_bitmap n
 
+-- it follows where the inode as it is saved, x, has sector y for the ACL, and the fields of w
+saved_with : {p : Place} {n y taken : ℕ} {w x : Inode} {t0 t1 t2 : TxnState} (sector : Inode → ℕ) → IsAclSaved p n (inode_at p t0.sectors n) x taken t0 t1 t2 → sector x ≡ y
+    → KeepsFields w x → SameStore t0 t2 → PutsOnly (IsForAcl p y) (bitmaps p) 1 t0 t1 → (y ≡ 0 → TakesSpare p 0 t0 t1)
+    → PutsOnly (λ t. t ≡ p.table + n / 4) [] 1 t1 t2 → IsSavedWith p n w sector taken t0 t2
+saved_with {p} {n} {y} {w = w} {t0 = t0} {t1} {t2} sector saved is fields store acl_put none inode_put =
+    let there : y ≡ sector (inode_at p t2.sectors n) = sym (ap sector saved.is ∙ is) in
+    record {
+      sound = saved.sound store;
+      touches = saved.touches acl_put inode_put;
+      puts = subst (λ (x : ℕ). PutsOnly (IsForSaving p n x) (bitmaps p) 2 t0 t2) there (puts_saving p n y acl_put inode_put);
+      none = λ e. spare_saving p n t0 t1 t2 (none (there ∙ e)) inode_put;
+      fields = subst (KeepsFields w) (sym saved.is) fields;
+      bytes = saved.bytes;
+      used = saved.bit_same;
+    }
+
 pub record IsAccessSaved (p : Place) (n : ℕ) (inode : Inode) (a : AccessList) (old new : TxnState) : Type 0 where
   pub saved : IsSavedWith p n (with_acl_bits inode a) (λ v. v.acl) (acl_takes inode.acl (kept_acl a)) old new
   pub access : HasAcl new.sectors (inode_at p new.sectors n) a
@@ -78,29 +94,6 @@ module _ (p : Place) (n : ℕ) (inode : Inode) (a : AccessList) (y : ℕ) (t0 t1
       acl_saved p n (record v { acl = y }) (record inode { mode = with_low_bits inode.mode (mode_bits a); acl = y }) AccessAcl (acl_takes inode.acl (kept_acl a)) t0 t1 t2
       sound lt access_turned refl default_is numbers_are fits saves (λ m i e. cc) (λ k e. cc) refl (ap (λ (u : Inode). u.size) attributes)
 
-  access_sound : SameStore t0 t2 → IsSound p t2
-  access_sound = access_saved.sound
-
-  access_touches : PutsOnly (IsForAcl p y) (bitmaps p) 1 t0 t1 → PutsOnly (λ t. t ≡ p.table + n / 4) [] 1 t1 t2
-      → Touches p n (acl_takes inode.acl (kept_acl a)) 2 t0 t2
-  access_touches = access_saved.touches
-
-  access_puts : PutsOnly (IsForAcl p y) (bitmaps p) 1 t0 t1 → PutsOnly (λ t. t ≡ p.table + n / 4) [] 1 t1 t2
-      → PutsOnly (IsForSaving p n (inode_at p t2.sectors n).acl) (bitmaps p) 2 t0 t2
-  access_puts acl inode =
-      subst (λ (u : Inode). PutsOnly (IsForSaving p n u.acl) (bitmaps p) 2 t0 t2) (sym access_saved.is) (puts_saving p n y acl inode)
-
-  access_none : (y ≡ 0 → TakesSpare p 0 t0 t1) → PutsOnly (λ t. t ≡ p.table + n / 4) [] 1 t1 t2
-      → (inode_at p t2.sectors n).acl ≡ 0 → TakesSpare p 1 t0 t2
-  access_none taken inode none = spare_saving p n t0 t1 t2 (taken (sym (ap (λ (u : Inode). u.acl) access_saved.is) ∙ none)) inode
-
-  access_fields : KeepsFields (with_acl_bits inode a) (inode_at p t2.sectors n)
-  access_fields =
-      subst (KeepsFields (with_acl_bits inode a)) (sym access_saved.is) (record { kind = refl; mode = refl; uid = refl; gid = refl; names = refl; parent = refl })
-
-  access_bytes : KeepsBytes t0.sectors t2.sectors (inode_at p t0.sectors n) (inode_at p t2.sectors n)
-  access_bytes = access_saved.bytes
-
   access_has : HasAcl t2.sectors (inode_at p t2.sectors n) a
   access_has =
       let w : Inode = record inode { mode = with_low_bits inode.mode (mode_bits a); acl = y } in
@@ -123,21 +116,10 @@ module _ (p : Place) (n : ℕ) (inode : Inode) (a : AccessList) (y : ℕ) (t0 t1
       } in
       subst (λ (u : Inode). KeepsDefault t0.sectors t2.sectors v u) (sym access_saved.is) (saved_keeps_default mid access_saved.keeps)
 
-  access_bit : bit t2.sectors inode_bitmap n ≡ bit t0.sectors inode_bitmap n
-  access_bit = access_saved.bit_same
-
   pub access_is_saved : SameStore t0 t2 → PutsOnly (IsForAcl p y) (bitmaps p) 1 t0 t1 → (y ≡ 0 → TakesSpare p 0 t0 t1)
       → PutsOnly (λ t. t ≡ p.table + n / 4) [] 1 t1 t2 → IsAccessSaved p n inode a t0 t2
   access_is_saved store acl_put none inode_put = record {
-    saved = record {
-      sound = access_sound store;
-      touches = access_touches acl_put inode_put;
-      puts = access_puts acl_put inode_put;
-      none = access_none none inode_put;
-      fields = access_fields;
-      bytes = access_bytes;
-      used = access_bit;
-    };
+    saved = saved_with (λ v. v.acl) access_saved refl (record { kind = refl; mode = refl; uid = refl; gid = refl; names = refl; parent = refl }) store acl_put none inode_put;
     access = access_has;
     default = access_keeps_default;
   }
@@ -169,29 +151,6 @@ module _ (p : Place) (n : ℕ) (inode : Inode) (a : Option AccessList) (y : ℕ)
       access_is refl (ap levels attributes) fits saves
       (λ m i e. cc) (λ k e. cc) refl (ap (λ (u : Inode). u.size) attributes)
 
-  default_sound : SameStore t0 t2 → IsSound p t2
-  default_sound = default_saved.sound
-
-  default_touches : PutsOnly (IsForAcl p y) (bitmaps p) 1 t0 t1 → PutsOnly (λ t. t ≡ p.table + n / 4) [] 1 t1 t2
-      → Touches p n (acl_takes inode.default_acl a) 2 t0 t2
-  default_touches = default_saved.touches
-
-  default_puts : PutsOnly (IsForAcl p y) (bitmaps p) 1 t0 t1 → PutsOnly (λ t. t ≡ p.table + n / 4) [] 1 t1 t2
-      → PutsOnly (IsForSaving p n (inode_at p t2.sectors n).default_acl) (bitmaps p) 2 t0 t2
-  default_puts acl inode =
-      subst (λ (u : Inode). PutsOnly (IsForSaving p n u.default_acl) (bitmaps p) 2 t0 t2) (sym default_saved.is) (puts_saving p n y acl inode)
-
-  default_none : (y ≡ 0 → TakesSpare p 0 t0 t1) → PutsOnly (λ t. t ≡ p.table + n / 4) [] 1 t1 t2
-      → (inode_at p t2.sectors n).default_acl ≡ 0 → TakesSpare p 1 t0 t2
-  default_none taken inode none = spare_saving p n t0 t1 t2 (taken (sym (ap (λ (u : Inode). u.default_acl) default_saved.is) ∙ none)) inode
-
-  default_fields : KeepsFields inode (inode_at p t2.sectors n)
-  default_fields =
-      subst (KeepsFields inode) (sym default_saved.is) (record { kind = refl; mode = refl; uid = refl; gid = refl; names = refl; parent = refl })
-
-  default_bytes : KeepsBytes t0.sectors t2.sectors (inode_at p t0.sectors n) (inode_at p t2.sectors n)
-  default_bytes = default_saved.bytes
-
   default_has : HasDefaultAcl t2.sectors (inode_at p t2.sectors n) a
   default_has =
       let w : Inode = record inode { default_acl = y } in
@@ -213,21 +172,10 @@ module _ (p : Place) (n : ℕ) (inode : Inode) (a : Option AccessList) (y : ℕ)
       } in
       subst (λ (u : Inode). KeepsAccess t0.sectors t2.sectors v u) (sym default_saved.is) (saved_keeps_access mid default_saved.keeps)
 
-  default_bit : bit t2.sectors inode_bitmap n ≡ bit t0.sectors inode_bitmap n
-  default_bit = default_saved.bit_same
-
   pub default_is_saved : SameStore t0 t2 → PutsOnly (IsForAcl p y) (bitmaps p) 1 t0 t1 → (y ≡ 0 → TakesSpare p 0 t0 t1)
       → PutsOnly (λ t. t ≡ p.table + n / 4) [] 1 t1 t2 → IsDefaultSaved p n inode a t0 t2
   default_is_saved store acl_put none inode_put = record {
-    saved = record {
-      sound = default_sound store;
-      touches = default_touches acl_put inode_put;
-      puts = default_puts acl_put inode_put;
-      none = default_none none inode_put;
-      fields = default_fields;
-      bytes = default_bytes;
-      used = default_bit;
-    };
+    saved = saved_with (λ v. v.default_acl) default_saved refl (record { kind = refl; mode = refl; uid = refl; gid = refl; names = refl; parent = refl }) store acl_put none inode_put;
     default = default_has;
     access = default_keeps_access;
   }

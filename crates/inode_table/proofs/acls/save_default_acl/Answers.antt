@@ -1,4 +1,4 @@
-use Rattle.std.proofs.Common.{◌^◌, ◌<◌, ap, subst, arith}
+use Rattle.std.proofs.Common.{◌^◌, ◌<◌, ap, subst, arith, rules}
 use Rattle.std.specs.Option.{option_copied}
 use Rattle.fs_layout.specs.declared.inode.Inode.{Inode}
 use Rattle.sector_txn.proofs.TransactionRuns.{store_joined}
@@ -31,29 +31,20 @@ is_saved g c =
     default_is_saved p c.args.n v (option_copied c.args.acl) y t0 t1 t2 c.requires.sound c.requires.below c.requires.attributes c.content_of.ensures.valid way fits c.in_ok-write_inode.ensures.saved
     (store_joined c.in_ok-sector.ensures.store c.in_ok-write_inode.ensures.store) c.in_ok-sector.ensures.puts c.in_ok-sector.ensures.none c.in_ok-write_inode.ensures.puts
 
-pub returns-clause-sound : goal.returns-clause-sound
-returns-clause-sound g c = (is_saved g c).saved.sound
-
-pub returns-clause-touches : goal.returns-clause-touches
-returns-clause-touches g c = (is_saved g c).saved.touches
-
-pub returns-clause-puts : goal.returns-clause-puts
-returns-clause-puts g c = (is_saved g c).saved.puts
-
-pub returns-clause-none : goal.returns-clause-none
-returns-clause-none g c = (is_saved g c).saved.none
-
-pub returns-clause-fields : goal.returns-clause-fields
-returns-clause-fields g c = (is_saved g c).saved.fields
-
-pub returns-clause-bytes : goal.returns-clause-bytes
-returns-clause-bytes g c = (is_saved g c).saved.bytes
-
-pub returns-clause-access : goal.returns-clause-access
-returns-clause-access g c = (is_saved g c).access
-
-pub returns-clause-default : goal.returns-clause-default
-returns-clause-default g c = (is_saved g c).default
-
-pub returns-clause-used : goal.returns-clause-used
-returns-clause-used g c = (is_saved g c).saved.used
+pub returns : goal.returns
+returns g c =
+    let s = is_saved g c in
+    record {
+      store = s.saved.touches.puts.store;
+      sound = s.saved.sound;
+      touches = s.saved.touches;
+      puts = s.saved.puts;
+      none = s.saved.none;
+      fields = s.saved.fields;
+      bytes = s.saved.bytes;
+      access = s.access;
+      default = s.default;
+      used = s.saved.used;
+      full = search rules;
+      cause = search rules;
+    }
