@@ -2,26 +2,26 @@
 use Rattle.std.proofs.Common.{◌≡◌, ◌≢◌, ℕ, ◌+◌, ◌*◌, ◌^◌, ◌<◌, ◌≤◌, true, List, [], ◌∷◌, ◌++◌, refl, sym, ap, subst, ◌∙◌, arith, inl, inr, ◌⊎◌}
 use Rattle.std.proofs.lemmas.Bool.{eq-eqb}
 use Rattle.fs_layout.specs.declared.inode.Inode.{Inode}
-use Rattle.fs_layout.specs.declared.inode.Kind.TheVariants as kinds
 use Rattle.fs_layout.specs.declared.place.Place.{Place}
 use Rattle.fs_layout.specs.Bytes.{SectorMap, splice, le32, zeros}
-use Rattle.fs_layout.specs.Inode.{FitsInode, inode_fits}
 use Rattle.fs_layout.specs.Images.{holder, place_in_holder, number_on, first_block, OnLevel, part, Owns, Holds, free_sectors}
-use Rattle.fs_layout.specs.InodeChanges.{Keeps, Puts, PutsEntry, Allocates, Gains}
+use Rattle.fs_layout.specs.InodeChanges.{Keeps, Puts, PutsEntry, Allocates, Gains, ChangesBlocks}
 use Rattle.fs_layout.specs.Place.{IsPlace}
 use Rattle.fs_layout.proofs.Blocks.{nothing_changes}
 use Rattle.fs_layout.proofs.Parts.{KeepsPointers, level_is_one, index_is_one, number_on_indirect, pointers_kept, owns_on_level}
 use Rattle.fs_layout.proofs.Pointers.{gains_indirect, gains_double}
 use Rattle.fs_layout.proofs.Steps.{allocates_keeps, allocated_some, pointers_gained, pointers_gained_holds, double_gained, double_gained_holds, entry_content, entry_pointers, entry_pointers_gained, entry_pointers_hold}
+use Rattle.fs_layout.proofs.UsedInodes.{with_blocks_fits}
 use Rattle.sector_txn.specs.Sectors.{TxnState, SameStore, IsUnchanged, PutsOnly, lacking}
 use Rattle.sector_txn.proofs.TransactionRuns.{changes_nothing, changes_weaker, lacking_less}
 use Rattle.bit_alloc.specs.Bitmaps.{HasBitmaps}
 use Rattle.bit_alloc.specs.Room.{bitmaps}
 use Rattle.bit_alloc.proofs.Transactions.{puts_after}
+use Rattle.bit_alloc.proofs.Soundness.{put_keeps_bitmaps}
 use Rattle.block_map.specs.declared.blocks.Blocks.{Blocks}
 use Rattle.block_map.specs.Blocks.{IsAtHand}
 use Rattle.block_map.specs.Steps.{MayChange, IsStepSector, Alters, lack, AddsSector}
-use Rattle.block_map.proofs.Alterings.{fields_same, acls_kept, acls_where_kept, altered_after, put_keeps_bitmaps}
+use Rattle.block_map.proofs.Alterings.{fields_same, acls_kept, acls_where_kept, altered_after}
 use Rattle.block_map.proofs.Numbers.{at_hand_kept}
 use Rattle.block_map.proofs.Rooms.{lacking-append, lacking_beside, lacking_put, puts_before}
 use Rattle.block_map.proofs.Runs.{same_map}
@@ -93,25 +93,6 @@ adds_sector {p} {ns} {level} {i} {s} {old} {new} {v} {w} alters g some put puts 
       free = omega (arith, free, one_lacks old.sectors v level i (gained_none g));
     }
 
--- an inode with other numbers of sectors of pointers fits its fields
-pub with_pointers_fits : (v : Inode) (s t : ℕ) → FitsInode v → v.kind ≢ kinds.Free → s < 2 ^ 32 → t < 2 ^ 32 → FitsInode (record v { indirect = s; double_indirect = t })
-unfolding inode_fits
-with_pointers_fits v s t fits used small few = record {
-  valid = record { numbers = fits.valid.numbers; free = λ e. absurd (used e) };
-  mode = fits.mode;
-  uid = fits.uid;
-  gid = fits.gid;
-  names = fits.names;
-  size = fits.size;
-  parent = fits.parent;
-  acl = fits.acl;
-  default_acl = fits.default_acl;
-  direct_len = fits.direct_len;
-  direct = fits.direct;
-  indirect = small;
-  double_indirect = few;
-}
-
 -- the one that it names
 module _ {p : Place} {s : ℕ} {old new : TxnState} {bits : SectorMap} {x : List ℕ} {v : Inode} (may : MayChange p old v) (clear : x ≡ zeros 512)
     (a : Allocates p s x old.sectors bits new.sectors) (free : free_sectors p old.sectors ≡ free_sectors p new.sectors + 1) (bitmaps_now : HasBitmaps p new)
@@ -128,19 +109,25 @@ module _ {p : Place} {s : ℕ} {old new : TxnState} {bits : SectorMap} {x : List
   small : s < 2 ^ 32
   small = let l = a.free.1 in let most = place.most_sectors in omega (arith, l, most)
 
+  -- the inode names it
+  names_sector : (indirect double : ℕ) → ChangesBlocks p v (record v { indirect = indirect; double_indirect = double }) old.sectors new.sectors
+      → indirect < 2 ^ 32 → double < 2 ^ 32 → Alters p old new v (record v { indirect = indirect; double_indirect = double })
+  names_sector indirect double blocks few less = record {
+    blocks = blocks;
+    fields = record { kind = refl; mode = refl; uid = refl; gid = refl; names = refl; parent = refl };
+    acls = acls_where_kept refl refl keeps;
+    bitmaps = bitmaps_now;
+    fits = with_blocks_fits may.fits may.used
+        (record { direct_len = may.fits.direct_len; direct_small = may.fits.direct; indirect_small = few; double_small = less });
+  }
+
   indirect_gained : v.indirect ≡ 0 → Gains old.sectors new.sectors v (record v { indirect = s }) (OnLevel 1 0) s
   indirect_gained none = gains_indirect old.sectors new.sectors v s (pointers_kept keeps) none some (a.put.here ∙ clear)
 
   pub gets_indirect : v.indirect ≡ 0 → 512 * first_block 1 0 < v.size → AddsSector p [] 1 0 old new v (record v { indirect = s })
   gets_indirect none large =
-      let alters : Alters p old new v (record v { indirect = s }) = record {
-        blocks = pointers_gained place may.apart a none clear;
-        fields = record { kind = refl; mode = refl; uid = refl; gid = refl; names = refl; parent = refl };
-        acls = acls_where_kept refl refl keeps;
-        bitmaps = bitmaps_now;
-        fits = with_pointers_fits v s v.double_indirect may.fits may.used small may.fits.double_indirect;
-      } in
-      adds_sector alters (indirect_gained none) some put puts refl (λ bytes h. pointers_gained_holds place may.apart a bytes none clear large h) free
+      adds_sector (names_sector s v.double_indirect (pointers_gained place may.apart a none clear) small may.fits.double_indirect) (indirect_gained none) some put puts refl
+      (λ bytes h. pointers_gained_holds place may.apart a bytes none clear large h) free
 
   -- which is at hand then
   pub indirect_at_hand : {c : Blocks} → c.inode ≡ record v { indirect = s } → c.index ≡ 0 → c.sector ≡ s → c.pointers ≡ zeros 512 → IsAtHand new.sectors c
@@ -156,14 +143,8 @@ module _ {p : Place} {s : ℕ} {old new : TxnState} {bits : SectorMap} {x : List
 
   pub gets_double : v.double_indirect ≡ 0 → 512 * first_block 2 0 < v.size → AddsSector p [] 2 0 old new v (record v { double_indirect = s })
   gets_double none large =
-      let alters : Alters p old new v (record v { double_indirect = s }) = record {
-        blocks = double_gained place may.apart a none clear;
-        fields = record { kind = refl; mode = refl; uid = refl; gid = refl; names = refl; parent = refl };
-        acls = acls_where_kept refl refl keeps;
-        bitmaps = bitmaps_now;
-        fits = with_pointers_fits v v.indirect s may.fits may.used may.fits.indirect small;
-      } in
-      adds_sector alters (double_now none) some put puts refl (λ bytes h. double_gained_holds place may.apart a bytes none clear large h) free
+      adds_sector (names_sector v.indirect s (double_gained place may.apart a none clear) may.fits.indirect small) (double_now none) some put puts refl
+      (λ bytes h. double_gained_holds place may.apart a bytes none clear large h) free
 
   -- what is at hand stays so
   pub double_at_hand : {b : Blocks} → v.double_indirect ≡ 0 → IsAtHand old.sectors b → b.inode ≡ v → IsAtHand new.sectors (record b { inode = record v { double_indirect = s } })

@@ -1,45 +1,15 @@
 -- What a step leaves alone.
-use Rattle.std.proofs.Common.{◌≡◌, ◌≢◌, ℕ, ◌<◌, ◌≤◌, List, refl, sym, subst, ◌∙◌, arith, IsTrue}
+use Rattle.std.proofs.Common.{◌≡◌, ◌≢◌, ℕ, refl, sym, subst, ◌∙◌}
 use Rattle.fs_layout.specs.declared.inode.Inode.{Inode}
 use Rattle.fs_layout.specs.declared.place.Place.{Place}
-use Rattle.fs_layout.specs.Bytes.{SectorMap, IsSector}
-use Rattle.fs_layout.specs.Images.{bit, inode_bitmap}
-use Rattle.fs_layout.specs.InodeChanges.{Keeps, Puts, ChangesBlocks}
-use Rattle.fs_layout.proofs.Places.{after_map, before_data}
+use Rattle.fs_layout.specs.Bytes.{SectorMap}
+use Rattle.fs_layout.specs.InodeChanges.{Keeps, ChangesBlocks}
 use Rattle.fs_layout.proofs.Parts.{owns_acl, owns_default_acl}
-use Rattle.fs_layout.proofs.Bits.{inode_bit_kept, block_bit_kept}
-use Rattle.fs_layout.proofs.Blocks.{map_is_low}
 use Rattle.fs_layout.proofs.Composes.{apart_after, both_changes}
-use Rattle.sector_txn.specs.Sectors.{TxnState, SameStore, IsUnchanged}
-use Rattle.bit_alloc.specs.declared.bitmap.Bitmap.{Bitmap}
-use Rattle.bit_alloc.specs.declared.bitmap.Bitmap.TheVariants.{Inodes, Blocks}
-use Rattle.bit_alloc.specs.Bitmaps.{HasBitmaps, IsNumber, bit_count, first_sector}
+use Rattle.sector_txn.specs.Sectors.{TxnState, IsUnchanged}
 use Rattle.bit_alloc.specs.Inodes.{KeepsFields, KeepsAcls}
 use Rattle.block_map.specs.Steps.{MayChange, Alters}
 use Rattle.block_map.proofs.Runs.{same_map}
-
--- what is asked of one bitmap
-abbrev pub RestOf : Place → SectorMap → Bitmap → Type 0
-RestOf p image map = (n : ℕ) → n < bit_count p map → (IsNumber p map n → ⊥) → IsTrue (bit image (first_sector map) n)
-
--- a data sector is put: the bitmaps are as they were
-pub put_keeps_bitmaps : {p : Place} {s : ℕ} {x : List ℕ} {old new : TxnState} → HasBitmaps p old → SameStore old new → p.first_data ≤ s
-    → Puts s x old.sectors new.sectors → HasBitmaps p new
-put_keeps_bitmaps {p} {s} {x} {old} {new} h store ge put =
-    let m = after_map h.place in
-    let d = before_data h.place in
-    record {
-      place = h.place;
-      disk = let b = h.disk in let e = store.reads.narrowed.size in omega (arith, b, e);
-      tables = λ t past low. subst IsSector (sym (put.others t (λ e. omega (arith, low, ge, e)))) (h.tables t past low);
-      rest = λ map. elim map as (λ k. RestOf p new.sectors k) [
-        | Inodes ↦ λ n few none.
-            inode_bit_kept old.sectors new.sectors n few (put.others inode_bitmap (λ e. omega (arith, m, d, ge, e))) ∙ h.rest Inodes n few none
-        | Blocks ↦ λ n few none.
-            block_bit_kept p old.sectors new.sectors n few (λ t low. put.others t (λ e. let l = map_is_low h.place t low in omega (arith, l, ge, e)))
-            ∙ h.rest Blocks n few none
-      ];
-    }
 
 -- the same attributes
 pub fields_same : {v : Inode} → KeepsFields v v

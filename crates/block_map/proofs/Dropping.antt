@@ -7,7 +7,7 @@ use Rattle.fs_layout.specs.declared.inode.Inode.{Inode}
 use Rattle.fs_layout.specs.declared.inode.Kind.TheVariants.{Free}
 use Rattle.fs_layout.specs.declared.place.Place.{Place}
 use Rattle.fs_layout.specs.Bytes.{SectorMap, IsSector, u32_of}
-use Rattle.fs_layout.specs.Inode.{FitsInode, inode_fits}
+use Rattle.fs_layout.specs.Inode.{FitsInode}
 use Rattle.fs_layout.specs.Place.{IsPlace}
 use Rattle.fs_layout.specs.Images.{pointer_in, own_count, holder, place_in_holder, number_on, pointer, first_block, HasPointers, Part, AccessAcl, DefaultAcl, OnLevel, part, Owns, bit, block_bitmap, map_bits, free_sectors}
 use Rattle.fs_layout.specs.InodeChanges.{IsOwnedApart}
@@ -18,6 +18,7 @@ use Rattle.fs_layout.proofs.Marks.{no_map}
 use Rattle.fs_layout.proofs.Parts.{level_is_one, index_is_one, number_on_indirect, owns_on_level, owns_acl, owns_default_acl}
 use Rattle.fs_layout.proofs.Places.{after_map, before_data}
 use Rattle.fs_layout.proofs.Pointers.{number_on_double, number_on_held, number_on_past, no_number_on, pointer_direct}
+use Rattle.fs_layout.proofs.UsedInodes.{with_blocks_fits}
 use Rattle.sector_txn.specs.Sectors.{TxnState, PutsOnly}
 use Rattle.sector_txn.proofs.TransactionRuns.{changes_beside, changes_joined, changes_weaker, store_joined}
 use Rattle.bit_alloc.specs.Bitmaps.{HasBitmaps}
@@ -124,31 +125,21 @@ abbrev pub with_numbers : Inode → List ℕ → ℕ → ℕ → Inode
 with_numbers v d a b = record v { direct = d; indirect = a; double_indirect = b }
 
 cleared_fits : {v : Inode} {first a b : ℕ} {d : List ℕ} → FitsInode v → v.kind ≢ Free → ClearsNumbers first v (with_numbers v d a b) → FitsInode (with_numbers v d a b)
-unfolding inode_fits
-cleared_fits {v} {first} {a} {b} {d} fits used c = record {
-  valid = record { numbers = fits.valid.numbers; free = λ e. absurd (used e) };
-  mode = fits.mode;
-  uid = fits.uid;
-  gid = fits.gid;
-  names = fits.names;
-  size = fits.size;
-  parent = fits.parent;
-  acl = fits.acl;
-  default_acl = fits.default_acl;
+cleared_fits {v} {first} fits used c = with_blocks_fits fits used (record {
   direct_len = c.direct_len;
-  direct = λ i. elim (cases_lt i first) [
+  direct_small = λ i. elim (cases_lt i first) [
     | inl lt ↦ let e = c.direct_kept i lt in let f = fits.direct i in omega (arith, e, f)
     | inr ge ↦ let e = c.direct_gone i ge in omega (arith, e)
   ];
-  indirect = elim (cases_lt DIRECT_BLOCKS first) [
+  indirect_small = elim (cases_lt DIRECT_BLOCKS first) [
     | inl lt ↦ let e = c.indirect_kept lt in let f = fits.indirect in omega (arith, e, f)
     | inr ge ↦ let e = c.indirect_gone ge in omega (arith, e)
   ];
-  double_indirect = elim (cases_lt INDIRECT_END first) [
+  double_small = elim (cases_lt INDIRECT_END first) [
     | inl lt ↦ let e = c.double_kept lt in let f = fits.double_indirect in omega (arith, e, f)
     | inr ge ↦ let e = c.double_gone ge in omega (arith, e)
   ];
-}
+})
 
 -- ---- all of it
 module _ {p : Place} {v : Inode} {first a b u0 u1 from0 from1 : ℕ} {d x0 x1 : List ℕ} {old given cut new : TxnState} (may : MayChange p old v) (few : first ≤ MAX_BLOCKS)

@@ -5,15 +5,16 @@ use Rattle.fs_layout.specs.declared.inode.TheConstants.{DIRECT_BLOCKS, MAX_BLOCK
 use Rattle.fs_layout.specs.declared.inode.Inode.{Inode}
 use Rattle.fs_layout.specs.declared.place.Place.{Place}
 use Rattle.fs_layout.specs.Bytes.{SectorMap, IsSector, zeros}
-use Rattle.fs_layout.specs.Inode.{FitsInode, inode_fits}
+use Rattle.fs_layout.specs.Inode.{FitsInode}
 use Rattle.fs_layout.specs.Place.{IsPlace}
 use Rattle.fs_layout.specs.Images.{HasWholeTables, pointer_in, holder, place_in_holder, number_on, first_block, Part, AccessAcl, DefaultAcl, OnLevel, part, Owns, Holds, byte_in, byte_at, bit, block_bitmap, map_bits, free_sectors}
 use Rattle.fs_layout.specs.InodeChanges.{Keeps, IsOwnedApart, IsBlockMap, ChangesBlocks}
 use Rattle.fs_layout.proofs.Bits.{set_or_clear, not_both, has_bit, free_sectors_kept}
 use Rattle.fs_layout.proofs.Parts.{number_on_indirect, number_on_kept, owned_before, owns_part, part_kept}
 use Rattle.fs_layout.proofs.Pointers.{number_on_held_above, number_on_double, number_on_past, number_on_without, no_number_on, pointer_direct, pointer_past, pointer_without}
+use Rattle.fs_layout.proofs.Free.{free_fits}
 use Rattle.fs_layout.proofs.SplicedBytes.{get_or-zeros}
-use Rattle.fs_layout.proofs.Writes.{length-zeros}
+use Rattle.fs_layout.proofs.UsedInodes.{blocks_fit, with_blocks_fits}
 use Rattle.block_map.proofs.Alterings.{acls_where_kept}
 use Rattle.block_map.proofs.Sizing.{sized_fits, is_used}
 use Rattle.fs_layout.proofs.Blocks.{low_not_owned, map_is_low}
@@ -333,24 +334,9 @@ gone_part image v (OnLevel level i) here = emptied_number image v level i
 
 -- it fits its fields
 emptied_fits : (v : Inode) → FitsInode v → AllowsSize v.kind 0 → FitsInode (emptied v)
-unfolding inode_fits zeros
+unfolding zeros
 emptied_fits v fits allowed =
-    let sized : FitsInode (record v { size = 0 }) = sized_fits v 0 fits allowed (omega arith) in
-    record {
-      valid = record { numbers = sized.valid.numbers; free = λ e. absurd (is_used v.kind 0 allowed e) };
-      mode = fits.mode;
-      uid = fits.uid;
-      gid = fits.gid;
-      names = fits.names;
-      size = omega arith;
-      parent = fits.parent;
-      acl = fits.acl;
-      default_acl = fits.default_acl;
-      direct_len = length-zeros DIRECT_BLOCKS;
-      direct = λ i. let z = get_or-zeros DIRECT_BLOCKS i in omega (arith, z);
-      indirect = omega arith;
-      double_indirect = omega arith;
-    }
+    with_blocks_fits (sized_fits v 0 fits allowed (omega arith)) (is_used v.kind 0 allowed) (blocks_fit free_fits)
 
 -- what it owned besides its ACLs is given back
 pub emptied_blocks : {p : Place} {v : Inode} {old new : TxnState} → IsPlace p → IsOwnedApart p old.sectors v → GivesParts p v (IsFor 0) old new

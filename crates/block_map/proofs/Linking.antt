@@ -7,13 +7,13 @@ use Rattle.fs_layout.specs.declared.inode.Inode.{Inode}
 use Rattle.fs_layout.specs.declared.inode.Kind.TheVariants as kinds
 use Rattle.fs_layout.specs.declared.place.Place.{Place}
 use Rattle.fs_layout.specs.Bytes.{SectorMap, splice, zeros}
-use Rattle.fs_layout.specs.Inode.{FitsInode, inode_fits, free_inode}
+use Rattle.fs_layout.specs.Inode.{FitsInode, free_inode, numbers_fit}
 use Rattle.fs_layout.specs.Images.{pointer, Holds, HasNoHole, bit, free_sectors, inode_at, inode_bitmap}
 use Rattle.fs_layout.specs.Ownership.{IsConsistent}
 use Rattle.fs_layout.specs.InodeChanges.{with_direct, Allocates, IsOwnedApart, ReplacesBlock, ChangesBlocks, ChangesInode, Saves}
 use Rattle.fs_layout.proofs.Composes.{apart_after, both_changes, both_inodes}
 use Rattle.fs_layout.proofs.Consistent.{owned_is_apart, stays_consistent, saved_stays_consistent}
-use Rattle.fs_layout.proofs.Free.{HasNoSector, free_has_no_sector, holds_nothing, no_sector_changes, with_direct_fits}
+use Rattle.fs_layout.proofs.Free.{HasNoSector, free_has_no_sector, holds_nothing, no_sector_changes}
 use Rattle.fs_layout.proofs.Held.{splice_replaces}
 use Rattle.fs_layout.proofs.Marks.{marks_change}
 use Rattle.fs_layout.proofs.Parts.{Holds-kept, HasNoHole-kept}
@@ -23,6 +23,7 @@ use Rattle.fs_layout.proofs.Sizes.{extends}
 use Rattle.fs_layout.proofs.SplicedBytes.{IsSector-zeros, get_or-zeros}
 use Rattle.fs_layout.proofs.Steps.{allocated_some, direct_block_gained, direct_block_filled}
 use Rattle.fs_layout.proofs.Writes.{length-zeros}
+use Rattle.fs_layout.proofs.UsedInodes.{made_fits, with_direct_fits}
 use Rattle.sector_txn.specs.Sectors.{TxnState, PutsOnly}
 use Rattle.sector_txn.proofs.TransactionRuns.{changes_joined}
 use Rattle.bit_alloc.specs.declared.bitmap.Bitmap.TheVariants.{Inodes}
@@ -68,25 +69,10 @@ link_holds_zeros image owner group size =
 -- with a sector it fits its fields
 pub link_fits : (owner group size y : ℕ) → owner < 2 ^ 32 → group < 2 ^ 32 → 1 ≤ size → size ≤ 512 → y < 2 ^ 32
     → FitsInode (with_direct (link_of owner group size) 0 y)
-unfolding inode_fits zeros
+unfolding zeros
 link_fits owner group size y small_owner small_group some few small =
-    let v : Inode = link_of owner group size in
-    let fits : FitsInode v = record {
-      valid = record { numbers = grind (arith, nat_tests); free = λ e. cc };
-      mode = omega arith;
-      uid = small_owner;
-      gid = small_group;
-      names = omega arith;
-      size = omega (arith, few);
-      parent = omega arith;
-      acl = omega arith;
-      default_acl = omega arith;
-      direct_len = refl;
-      direct = λ i. let z = get_or-zeros DIRECT_BLOCKS i in omega (arith, z);
-      indirect = omega arith;
-      double_indirect = omega arith;
-    } in
-    with_direct_fits v 0 y fits (λ e. cc) small
+    let numbers : IsTrue (numbers_fit kinds.Link 0o777 size) = grind (arith, nat_tests) in
+    with_direct_fits (link_of owner group size) 0 y (made_fits (λ e. cc) numbers small_owner small_group (omega arith) (omega arith)) (λ e. cc) small
 
 -- the target, written into a sector of zeros, stands for the zeros
 target_fills : (target : List ℕ) → length target ≤ 512 → ReplacesBlock 0 (splice (zeros 512) 0 target) (zeros (length target)) target

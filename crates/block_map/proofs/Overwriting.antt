@@ -20,12 +20,12 @@ use Rattle.sector_txn.proofs.TransactionRuns.{changes_beside, changes_weaker}
 use Rattle.bit_alloc.specs.Room.{bitmaps}
 use Rattle.bit_alloc.specs.Inodes.{IsSound, IsSectorFor}
 use Rattle.bit_alloc.proofs.Transactions.{puts_after}
+use Rattle.bit_alloc.proofs.Soundness.{sound_after}
 use Rattle.block_map.specs.Contents.{ChangesContent}
 use Rattle.block_map.specs.Steps.{MayChange, IsStepSector, Alters, WritesBlock}
 use Rattle.block_map.proofs.Givings.{may_unchanged}
 use Rattle.block_map.proofs.Alterings.{altered_after}
 use Rattle.block_map.proofs.Runs.{same_map}
-use Rattle.block_map.proofs.Saving.{sound_after}
 use Rattle.block_map.proofs.Writings.{free_after_put, writes_block_there}
 use Rattle.block_map.proofs.Wrote.{free_same}
 
@@ -62,7 +62,7 @@ changed_unsaved {p} {n} {taken} {more} {old} {new} {v} sound lt at alters puts f
       inode_bits = λ k small ne. bits k small;
     } in
     record {
-      sound = sound_after sound puts.store (stays_consistent h lt changes) bits;
+      sound = sound_after sound puts.store (stays_consistent h lt changes) (λ k small none. bits k small);
       touches = record {
         puts = changes_weaker {R = IsStepSector p} {Q = IsSectorFor p n} (λ t way. elim way [ inl map ↦ inl map | inr data_sector ↦ inr (inr data_sector) ]) (omega arith) puts;
         super = x.low 0 (omega (arith, m, d)) (λ b. omega (arith, b.0));

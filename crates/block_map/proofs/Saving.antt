@@ -1,41 +1,21 @@
 -- An inode is saved after steps of a change.
 use Rattle.std.proofs.Common.{◌≡◌, ℕ, ◌+◌, ◌/◌, ◌≤◌, ◌<◌, [], refl, ◌∙◌, arith, inl, inr}
-use Rattle.std.proofs.lemmas.Bool.{cases_lt}
 use Rattle.fs_layout.specs.declared.inode.Inode.{Inode}
 use Rattle.fs_layout.specs.declared.place.Place.{Place}
-use Rattle.fs_layout.specs.Images.{bit, inode_bitmap, inode_at, free_sectors}
+use Rattle.fs_layout.specs.Images.{inode_at, free_sectors}
 use Rattle.fs_layout.specs.Ownership.{IsConsistent}
 use Rattle.fs_layout.specs.InodeChanges.{Keeps, Saves}
 use Rattle.fs_layout.proofs.Places.{after_map, before_data}
 use Rattle.fs_layout.proofs.Saves.{IsSaved}
 use Rattle.fs_layout.proofs.Consistent.{saved_stays_consistent}
-use Rattle.sector_txn.specs.Sectors.{TxnState, SameStore, PutsOnly}
+use Rattle.sector_txn.specs.Sectors.{TxnState, PutsOnly}
 use Rattle.sector_txn.proofs.TransactionRuns.{changes_beside, changes_joined, changes_weaker}
-use Rattle.bit_alloc.specs.declared.bitmap.Bitmap.TheVariants.{Inodes, Blocks}
 use Rattle.bit_alloc.specs.Room.{bitmaps}
 use Rattle.bit_alloc.specs.Inodes.{IsSound, IsSectorFor}
+use Rattle.bit_alloc.proofs.Soundness.{sound_after}
 use Rattle.block_map.specs.Contents.{ChangesContent}
 use Rattle.block_map.specs.Steps.{IsStepSector, Alters}
-use Rattle.block_map.proofs.Alterings.{RestOf, acls_joined, acls_where_kept}
-
--- a consistent map is sound, if the bits of the inode bitmap that are no inode's stay
-pub sound_after : {p : Place} {old new : TxnState} → IsSound p old → SameStore old new → IsConsistent p new.sectors
-    → ((m : ℕ) → m < 4096 → bit new.sectors inode_bitmap m ≡ bit old.sectors inode_bitmap m) → IsSound p new
-sound_after {p} {old} {new} sound store h same = record {
-  consistent = h;
-  bitmaps = record {
-    place = h.place;
-    disk = let b = sound.bitmaps.disk in let e = store.reads.narrowed.size in omega (arith, b, e);
-    tables = h.sectors;
-    rest = λ map. elim map as (λ k. RestOf p new.sectors k) [
-      | Inodes ↦ λ m few none. same m few ∙ sound.bitmaps.rest Inodes m few none
-      | Blocks ↦ λ m few none. (h.block_bits m few).1 (elim (cases_lt m p.first_data) [
-        | inl low ↦ inl low
-        | inr ge ↦ elim (cases_lt m p.sectors) [ inl lt ↦ absurd (none (ge, lt)) | inr past ↦ inr (inl past) ]
-      ])
-    ];
-  };
-}
+use Rattle.block_map.proofs.Alterings.{acls_joined, acls_where_kept}
 
 -- the sectors of a step are some of those that a call on an inode may put
 pub puts_steps : (p : Place) (n : ℕ) {more : ℕ} {old new : TxnState} → PutsOnly (IsStepSector p) (bitmaps p) more old new → PutsOnly (IsSectorFor p n) (bitmaps p) more old new
@@ -63,7 +43,7 @@ saved_after {p} {n} {taken} {more} {old} {mid} {new} {v} {w} sound lt at alters 
     (changes_weaker {Q = IsSectorFor p n} (λ t e. inr (inl e)) (omega arith) (changes_beside put (bitmaps p))) in
     record {
       content = record {
-        sound = sound_after sound all.store after.0 (λ k small. saved.inode_bits k small);
+        sound = sound_after sound all.store after.0 (λ k small none. saved.inode_bits k small);
         touches = record {
           puts = all;
           super = saves.others 0 (λ e. omega (arith, m, e)) ∙ alters.blocks.low 0 (omega (arith, m, d)) (λ b. omega (arith, b.0));

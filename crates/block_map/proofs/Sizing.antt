@@ -18,6 +18,7 @@ use Rattle.fs_layout.proofs.SplicedBytes.{get_or-zeros}
 use Rattle.fs_layout.proofs.Blocks.{fields_change}
 use Rattle.fs_layout.proofs.Consistent.{owned_is_apart}
 use Rattle.fs_layout.proofs.Free.{inode_fits_there}
+use Rattle.fs_layout.proofs.UsedInodes.{used_fits, blocks_fit}
 use Rattle.fs_layout.proofs.Sizes.{extends}
 use Rattle.sector_txn.specs.Sectors.{TxnState, IsUnchanged}
 use Rattle.bit_alloc.specs.Inodes.{IsSound}
@@ -44,21 +45,9 @@ is_used Link m allowed e = cc
 -- it fits its fields
 pub sized_fits : (v : Inode) (m : ℕ) → FitsInode v → AllowsSize v.kind m → m ≤ MAX_FILE_SIZE → FitsInode (record v { size = m })
 unfolding inode_fits
-sized_fits v m fits allowed few = record {
-  valid = record { numbers = sized_numbers v.kind v.mode v.size m fits.valid.numbers allowed few; free = λ e. absurd (is_used v.kind m allowed e) };
-  mode = fits.mode;
-  uid = fits.uid;
-  gid = fits.gid;
-  names = fits.names;
-  size = omega (arith, few);
-  parent = fits.parent;
-  acl = fits.acl;
-  default_acl = fits.default_acl;
-  direct_len = fits.direct_len;
-  direct = fits.direct;
-  indirect = fits.indirect;
-  double_indirect = fits.double_indirect;
-}
+sized_fits v m fits allowed few =
+    used_fits (is_used v.kind m allowed) (sized_numbers v.kind v.mode v.size m fits.valid.numbers allowed few) fits.mode fits.uid fits.gid fits.names
+    (omega (arith, few)) fits.parent fits.acl fits.default_acl (blocks_fit fits)
 
 -- an inode of the table may be changed
 pub may_change : {p : Place} {n : ℕ} {txn : TxnState} {v : Inode} (m : ℕ) → IsSound p txn → n < p.inodes → v ≡ inode_at p txn.sectors n → AllowsSize v.kind m → MayChange p txn v

@@ -13,7 +13,7 @@ use Rattle.fs_layout.proofs.Sectors.{IsSector-splice}
 use Rattle.fs_layout.proofs.SplicedBytes.{IsSector-zeros}
 use Rattle.fs_layout.proofs.Bits.{has_bit, block_bit_kept, free_sectors_kept}
 use Rattle.fs_layout.proofs.Blocks.{map_is_low, pointers_apart, others_kept, block_changes}
-use Rattle.fs_layout.proofs.Free.{with_direct_fits}
+use Rattle.fs_layout.proofs.UsedInodes.{with_direct_fits}
 use Rattle.fs_layout.proofs.Held.{held_block, held_hole, splice_replaces, write_block}
 use Rattle.fs_layout.proofs.Pointers.{turns_direct, turns_entry}
 use Rattle.fs_layout.proofs.Sizes.{other_blocks, now_block}
@@ -23,10 +23,11 @@ use Rattle.bit_alloc.specs.Bitmaps.{HasBitmaps}
 use Rattle.bit_alloc.specs.Room.{bitmaps}
 use Rattle.bit_alloc.specs.Inodes.{KeepsAcls}
 use Rattle.bit_alloc.proofs.Transactions.{puts_after}
+use Rattle.bit_alloc.proofs.Soundness.{put_keeps_bitmaps}
 use Rattle.block_map.specs.Blocks.{IsAtHand}
 use Rattle.block_map.specs.declared.blocks.Blocks.{Blocks}
 use Rattle.block_map.specs.Steps.{MayChange, IsStepSector, hole, pointers_to, WritesBlock}
-use Rattle.block_map.proofs.Alterings.{put_keeps_bitmaps, fields_same, acls_kept, acls_where_kept, altered_after}
+use Rattle.block_map.proofs.Alterings.{fields_same, acls_kept, acls_where_kept, altered_after}
 use Rattle.block_map.proofs.Numbers.{at_hand_kept}
 use Rattle.block_map.proofs.Rooms.{puts_before}
 use Rattle.block_map.proofs.Runs.{same_map}

@@ -1,18 +1,17 @@
 -- An inode without sectors; an image in which no inode owns anything; and what an inode of an image fits.
-use Rattle.std.proofs.Common.{◌≡◌, ◌≢◌, ℕ, zero, suc, ◌+◌, ◌-◌, ◌*◌, ◌/◌, ◌%◌, ◌^◌, ◌<◌, ◌≤◌, List, [], length, take, get_or, set, refl, sym, ap, ◌∙◌, arith, inl, inr, ◌⊎◌, ◌↔◌, IsTrue, Ok}
-use Rattle.std.proofs.lemmas.List.{drop-replicate, take-replicate, get_or-set_same, get_or-set_other, length-set, get_or_past}
+use Rattle.std.proofs.Common.{◌≡◌, ℕ, zero, suc, ◌+◌, ◌-◌, ◌*◌, ◌/◌, ◌%◌, ◌<◌, ◌≤◌, List, [], length, take, get_or, refl, sym, ap, ◌∙◌, arith, inl, inr, ◌⊎◌, ◌↔◌, IsTrue, Ok}
+use Rattle.std.proofs.lemmas.List.{drop-replicate, take-replicate}
 use Rattle.std.proofs.lemmas.Bool.{cases_eq, cases_lt}
 use Rattle.fs_layout.specs.declared.inode.TheConstants.{DIRECT_BLOCKS, INODE_SIZE}
-use Rattle.fs_layout.specs.declared.inode.Kind.TheVariants.{Free}
 use Rattle.fs_layout.specs.declared.inode.Inode.{Inode}
 use Rattle.fs_layout.specs.declared.place.Place.{Place}
 use Rattle.fs_layout.specs.Bytes.{SectorMap, IsSector, window, zeros, le16, le32, le64, le32s}
 use Rattle.fs_layout.specs.Inode.{inode_bytes, inode_of, inode_fits, free_inode, FitsInode}
 use Rattle.fs_layout.specs.Place.{IsPlace}
 use Rattle.fs_layout.specs.Images.{HasWholeTables, map_bits, bit, block_bitmap, stored, inode_at}
-use Rattle.fs_layout.specs.Images.{number_on, pointer, byte_in, byte_at, Part, AccessAcl, DefaultAcl, OnLevel, part, Owns, Holds}
+use Rattle.fs_layout.specs.Images.{number_on, byte_in, byte_at, Part, AccessAcl, DefaultAcl, OnLevel, part, Owns, Holds}
 use Rattle.fs_layout.specs.Ownership.{IsOwned, IsConsistent}
-use Rattle.fs_layout.specs.InodeChanges.{with_direct, IsOwnedApart, ChangesBlocks}
+use Rattle.fs_layout.specs.InodeChanges.{IsOwnedApart, ChangesBlocks}
 use Rattle.fs_layout.proofs.Places.{after_map}
 use Rattle.fs_layout.proofs.Fields.{part_len, IsBytes-part}
 use Rattle.fs_layout.proofs.InodeLaw.{read_fits}
@@ -122,31 +121,6 @@ inode_fits_there {p} {image} h n lt =
     let room : INODE_SIZE * (n % 4) + INODE_SIZE ≤ length (image (p.table + n / 4)) = omega (arith, whole.len) in
     read_fits (stored p image n) (inode_at p image n) (part_len INODE_SIZE (INODE_SIZE * (n % 4)) (image (p.table + n / 4)) room)
     (IsBytes-part INODE_SIZE (INODE_SIZE * (n % 4)) (image (p.table + n / 4)) whole.bytes) (h.valid n lt)
-
--- and so it does with another direct block, unless it is free
-pub with_direct_fits : (v : Inode) (k s : ℕ) → FitsInode v → v.kind ≢ Free → s < 2 ^ 32 → FitsInode (with_direct v k s)
-unfolding inode_fits
-with_direct_fits v k s fits used small = record {
-  valid = record { numbers = fits.valid.numbers; free = λ e. absurd (used e) };
-  mode = fits.mode;
-  uid = fits.uid;
-  gid = fits.gid;
-  names = fits.names;
-  size = fits.size;
-  parent = fits.parent;
-  acl = fits.acl;
-  default_acl = fits.default_acl;
-  direct_len = length-set v.direct k s ∙ fits.direct_len;
-  direct = λ i. elim (cases_eq i k) [
-    | inr ne ↦ let e = get_or-set_other v.direct k i s 0 ne in let b = fits.direct i in omega (arith, e, b)
-    | inl here ↦ elim (cases_lt k (length v.direct)) [
-      | inl lt ↦ let e = ap (λ (j : ℕ). get_or (set v.direct k s) j 0) here ∙ get_or-set_same v.direct k s 0 lt in omega (arith, e, small)
-      | inr ge ↦ let e = get_or_past (set v.direct k s) i 0 (omega (arith, length-set v.direct k s, here, ge)) in omega (arith, e)
-    ]
-  ];
-  indirect = fits.indirect;
-  double_indirect = fits.double_indirect;
-}
 
 -- ---- an image in which nothing is owned
 -- It is consistent where its inodes are valid, and the bits set are those below the data and past the end. So is

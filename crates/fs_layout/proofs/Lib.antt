@@ -47,5 +47,6 @@ pub mod Steps
 pub mod StoredLists
 pub mod SuperLaw
 pub mod Targets
+pub mod UsedInodes
 pub mod Versions
 pub mod Writes

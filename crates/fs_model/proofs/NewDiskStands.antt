@@ -4,11 +4,11 @@ use Rattle.std.proofs.Common.{refl, sym, ap, arith, ◌∙◌, subst, inl, inr}
 use Rattle.std.proofs.lemmas.Bool.{cases_eq, ne_eqb}
 use Rattle.std.proofs.lemmas.List.Elements.{All-nil}
 use Rattle.std.specs.Ordering.{nat_cmp, is_eq}
-use Rattle.posix_acl.specs.AccessList.{IsAcl, minimal}
-use Rattle.fs_layout.specs.declared.inode.Kind.TheVariants as kinds
+use Rattle.posix_acl.specs.AccessList.{minimal}
+use Rattle.posix_acl.proofs.Laws.{minimal_valid}
 use Rattle.fs_layout.specs.declared.place.Place.{Place}
 use Rattle.fs_layout.specs.Bytes.{SectorMap}
-use Rattle.fs_layout.specs.Inode.{FitsInode, free_inode, inode_fits, inode_of}
+use Rattle.fs_layout.specs.Inode.{FitsInode, free_inode, inode_of}
 use Rattle.fs_layout.specs.Version.{newest}
 use Rattle.fs_layout.specs.Place.{IsPlace, place_in}
 use Rattle.fs_layout.specs.Superblock.{super_for}
@@ -18,6 +18,7 @@ use Rattle.fs_layout.specs.Ownership.{IsConsistent}
 use Rattle.fs_layout.specs.Recovered.{recovered}
 use Rattle.fs_layout.proofs.Bits.{has_bit, set_or_clear, free_sectors_all}
 use Rattle.fs_layout.proofs.Free.{HasNoSector, owns_nothing, holds_nothing, free_has_no_sector, free_fits, consistent_without_owners}
+use Rattle.fs_layout.proofs.UsedInodes.{made_fits}
 use Rattle.fs_layout.proofs.Places.{place_is_place, place_is_laid_out}
 use Rattle.fs_layout.proofs.RecoveryLaw.{recovered-idle}
 use Rattle.fs_layout.proofs.Targets.{no_targets}
@@ -35,28 +36,10 @@ use Rattle.fs_layout.proofs.FirstEntries.{apart, tied}
 -- ---- the root's inode
 
 root_fits : FitsInode root_inode
-unfolding inode_fits
-root_fits = record {
-  valid = record { numbers = refl; free = λ e. absurd (let c : kinds.Directory ≡ kinds.Free = e in cc) };
-  mode = omega arith;
-  uid = omega arith;
-  gid = omega arith;
-  names = omega arith;
-  size = omega arith;
-  parent = omega arith;
-  acl = omega arith;
-  default_acl = omega arith;
-  direct_len = refl;
-  direct = free_fits.direct;
-  indirect = omega arith;
-  double_indirect = omega arith;
-}
+root_fits = made_fits (λ e. cc) refl (omega arith) (omega arith) (omega arith) (omega arith)
 
 root_has_no_sector : HasNoSector root_inode
 root_has_no_sector = record { acl = refl; default_acl = refl; direct = free_has_no_sector.direct; indirect = refl; double_indirect = refl }
-
-minimal_is_acl : IsAcl (minimal 0o755)
-minimal_is_acl = record { users = tt; user_ids = tt; groups = tt; group_ids = tt; masked = λ lt. absurd (omega (arith, lt)); few = omega arith }
 
 -- ---- the tree
 
@@ -85,7 +68,7 @@ root_is_node room many = record {
   below = omega (arith, many);
   owner = omega arith;
   group = omega arith;
-  body = (minimal_is_acl, tt, record { names = refl; few = omega arith; each = λ name n e. absurd cc });
+  body = (minimal_valid 0o755, tt, record { names = refl; few = omega arith; each = λ name n e. absurd cc });
   names = refl;
   under_root = λ d. is_root;
 }
@@ -142,7 +125,7 @@ module _ (p : Place) (image : SectorMap) (h : IsNewImage p image) where
       holds = holds_nothing image root_inode root_has_no_sector refl;
       whole = λ k lt none. absurd (omega (arith, lt));
     };
-    acl = minimal_is_acl;
+    acl = minimal_valid 0o755;
     default = tt;
     has_acl = refl;
     has_default = refl;

@@ -1,7 +1,7 @@
 use Rattle.std.proofs.Common.{ℕ, ◌+◌, sym, ap, ◌∙◌, arith, inl, inr}
 use Rattle.sector_txn.proofs.TransactionRuns.{changes_put, changes_weaker}
 use Rattle.block_map.specs.Steps.{IsStepSector}
-use Rattle.block_map.proofs.Alterings.{put_keeps_bitmaps}
+use Rattle.bit_alloc.proofs.Soundness.{put_keeps_bitmaps}
 use Rattle.block_map.proofs.Writings.{free_after_put}
 use Rattle.block_map.proofs.steps.take_sector.Goals as goal
 

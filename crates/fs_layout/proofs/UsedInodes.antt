@@ -1,0 +1,78 @@
+-- What an inode in use fits: its numbers, and those of its blocks.
+use Rattle.std.proofs.Common.{◌≡◌, ◌≢◌, ℕ, ◌^◌, ◌<◌, List, length, get_or, set, refl, ap, ◌∙◌, arith, inl, inr, IsTrue}
+use Rattle.std.proofs.lemmas.Bool.{cases_eq, cases_lt}
+use Rattle.std.proofs.lemmas.Bool.Decides.{nat_tests}
+use Rattle.std.proofs.lemmas.List.{get_or-set_same, get_or-set_other, length-set, get_or_past}
+use Rattle.fs_layout.specs.declared.inode.TheConstants.{DIRECT_BLOCKS}
+use Rattle.fs_layout.specs.declared.inode.Kind.{Kind}
+use Rattle.fs_layout.specs.declared.inode.Kind.TheVariants.{Free, File, Directory, Link}
+use Rattle.fs_layout.specs.declared.inode.Inode.{Inode}
+use Rattle.fs_layout.specs.Inode.{FitsInode, free_inode, inode_fits, numbers_fit}
+use Rattle.fs_layout.specs.InodeChanges.{with_direct}
+use Rattle.fs_layout.proofs.Free.{free_fits}
+
+-- the numbers of its blocks fit their fields
+pub record FitsBlocks (direct : List ℕ) (indirect double_indirect : ℕ) : Type 0 where
+  pub direct_len : length direct ≡ DIRECT_BLOCKS
+  pub direct_small : (i : ℕ) → get_or direct i 0 < 2 ^ 32
+  pub indirect_small : indirect < 2 ^ 32
+  pub double_small : double_indirect < 2 ^ 32
+
+pub blocks_fit : {v : Inode} → FitsInode v → FitsBlocks v.direct v.indirect v.double_indirect
+blocks_fit fits = record { direct_len = fits.direct_len; direct_small = fits.direct; indirect_small = fits.indirect; double_small = fits.double_indirect }
+
+-- An inode in use fits its fields where mode and size are in the range of its kind, and each number is small.
+pub used_fits : {v : Inode} → v.kind ≢ Free → IsTrue (inode_fits v) → v.mode < 2 ^ 16 → v.uid < 2 ^ 32 → v.gid < 2 ^ 32 → v.names < 2 ^ 32 → v.size < 2 ^ 64
+    → v.parent < 2 ^ 32 → v.acl < 2 ^ 32 → v.default_acl < 2 ^ 32 → FitsBlocks v.direct v.indirect v.double_indirect → FitsInode v
+used_fits used numbers mode uid gid names size parent acl default_acl blocks = record {
+  valid = record { numbers = numbers; free = λ e. absurd (used e) };
+  mode = mode;
+  uid = uid;
+  gid = gid;
+  names = names;
+  size = size;
+  parent = parent;
+  acl = acl;
+  default_acl = default_acl;
+  direct_len = blocks.direct_len;
+  direct = blocks.direct_small;
+  indirect = blocks.indirect_small;
+  double_indirect = blocks.double_small;
+}
+
+-- ---- a free inode is put to use
+numbers_small : (kind : Kind) (mode size : ℕ) → kind ≢ Free → IsTrue (numbers_fit kind mode size) → (mode < 2 ^ 16) × (size < 2 ^ 64)
+numbers_small Free mode size used fits = absurd (used refl)
+numbers_small File mode size used fits = (grind (arith, nat_tests), grind (arith, nat_tests))
+numbers_small Directory mode size used fits = (grind (arith, nat_tests), grind (arith, nat_tests))
+numbers_small Link mode size used fits = (grind (arith, nat_tests), grind (arith, nat_tests))
+
+pub made_fits : {kind : Kind} {mode uid gid names size parent : ℕ} → kind ≢ Free → IsTrue (numbers_fit kind mode size) → uid < 2 ^ 32 → gid < 2 ^ 32
+    → names < 2 ^ 32 → parent < 2 ^ 32
+    → FitsInode (record free_inode { kind = kind; mode = mode; uid = uid; gid = gid; names = names; size = size; parent = parent })
+unfolding inode_fits
+made_fits {kind} {mode} {size = size} used numbers uid gid names parent =
+    let small = numbers_small kind mode size used numbers in
+    used_fits used numbers small.0 uid gid names small.1 parent free_fits.acl free_fits.default_acl (blocks_fit free_fits)
+
+-- ---- an inode gets other blocks
+pub with_blocks_fits : {v : Inode} {direct : List ℕ} {indirect double_indirect : ℕ} → FitsInode v → v.kind ≢ Free → FitsBlocks direct indirect double_indirect
+    → FitsInode (record v { direct = direct; indirect = indirect; double_indirect = double_indirect })
+unfolding inode_fits
+with_blocks_fits fits used blocks =
+    used_fits used fits.valid.numbers fits.mode fits.uid fits.gid fits.names fits.size fits.parent fits.acl fits.default_acl blocks
+
+-- another direct block
+pub with_direct_fits : (v : Inode) (k s : ℕ) → FitsInode v → v.kind ≢ Free → s < 2 ^ 32 → FitsInode (with_direct v k s)
+with_direct_fits v k s fits used small = with_blocks_fits fits used (record {
+  direct_len = length-set v.direct k s ∙ fits.direct_len;
+  direct_small = λ i. elim (cases_eq i k) [
+    | inr ne ↦ let e = get_or-set_other v.direct k i s 0 ne in let b = fits.direct i in omega (arith, e, b)
+    | inl here ↦ elim (cases_lt k (length v.direct)) [
+      | inl lt ↦ let e = ap (λ (j : ℕ). get_or (set v.direct k s) j 0) here ∙ get_or-set_same v.direct k s 0 lt in omega (arith, e, small)
+      | inr ge ↦ let e = get_or_past (set v.direct k s) i 0 (omega (arith, length-set v.direct k s, here, ge)) in omega (arith, e)
+    ]
+  ];
+  indirect_small = fits.indirect;
+  double_small = fits.double_indirect;
+})
