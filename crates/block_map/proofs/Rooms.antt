@@ -128,41 +128,38 @@ module _ (old new : TxnState) (kept : (n : ℕ) → old.has_put n ≡ true → n
             omega (arith, rest, a, b, one)
       ]
 
--- a run that may share sectors more
-pub puts_before : {R : ℕ → Type 0} {ns : List ℕ} {more : ℕ} {old new : TxnState} → PutsOnly R ns more old new → (xs : List ℕ) → PutsOnly R (xs ++ ns) more old new
-puts_before {R} {ns} {more} {old} {new} puts xs = record {
+-- a run that may share others, which lack as many less
+puts_sharing : {R : ℕ → Type 0} {ns ms : List ℕ} {more : ℕ} {old new : TxnState} → PutsOnly R ns more old new → lacking new ms + lacking old ns ≤ lacking old ms + lacking new ns
+    → PutsOnly R ms more old new
+puts_sharing puts less = record {
   store = puts.store;
   others = puts.others;
   delta = puts.delta;
   kept = puts.kept;
-  room =
-      let r = puts.room in
-      let f = lacking_less old new puts.kept xs in
-      let a = lacking-append new xs ns in
-      let b = lacking-append old xs ns in
-      omega (arith, r, f, a, b);
+  room = let r = puts.room in omega (arith, r, less);
 }
+
+-- sectors more
+pub puts_before : {R : ℕ → Type 0} {ns : List ℕ} {more : ℕ} {old new : TxnState} → PutsOnly R ns more old new → (xs : List ℕ) → PutsOnly R (xs ++ ns) more old new
+puts_before {ns = ns} {old = old} {new} puts xs =
+    let f = lacking_less old new puts.kept xs in
+    let a = lacking-append new xs ns in
+    let b = lacking-append old xs ns in
+    puts_sharing puts (omega (arith, f, a, b))
 
 pub puts_beside : {R : ℕ → Type 0} {ns : List ℕ} {more : ℕ} {old new : TxnState} → PutsOnly R ns more old new → (u : ℕ) → PutsOnly R (u ∷ ns) more old new
 puts_beside puts u = puts_before puts (u ∷ [])
 
--- a run that shares one of several numbers
+-- several numbers in place of one of them
 pub puts_among : {R : ℕ → Type 0} {ns : List ℕ} {more : ℕ} {old new : TxnState} (image : SectorMap) (v : Inode) (level first count i : ℕ) → first ≤ i → i < first + count
     → PutsOnly R (number_on image v level i ∷ ns) more old new → PutsOnly R (numbers_on image v level first count ++ ns) more old new
-puts_among {R} {ns} {more} {old} {new} image v level first count i from to puts = record {
-  store = puts.store;
-  others = puts.others;
-  delta = puts.delta;
-  kept = puts.kept;
-  room =
-      let r = puts.room in
-      let f = falls_with old new puts.kept image v level first count i from to in
-      let a = lacking-append new (numbers_on image v level first count) ns in
-      let b = lacking-append old (numbers_on image v level first count) ns in
-      let c = lacking-cons new (number_on image v level i) ns in
-      let d = lacking-cons old (number_on image v level i) ns in
-      omega (arith, r, f, a, b, c, d);
-}
+puts_among {ns = ns} {old = old} {new} image v level first count i from to puts =
+    let f = falls_with old new puts.kept image v level first count i from to in
+    let a = lacking-append new (numbers_on image v level first count) ns in
+    let b = lacking-append old (numbers_on image v level first count) ns in
+    let c = lacking-cons new (number_on image v level i) ns in
+    let d = lacking-cons old (number_on image v level i) ns in
+    puts_sharing puts (omega (arith, f, a, b, c, d))
 
 -- one of several numbers needs no more room than they
 pub lacks_among : (txn : TxnState) (image : SectorMap) (v : Inode) (level first count i : ℕ) → first ≤ i → i < first + count

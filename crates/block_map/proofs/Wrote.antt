@@ -1,6 +1,6 @@
 -- Bytes are written and the inode is saved.
-use Rattle.std.proofs.Common.{◌≡◌, ◌≢◌, ℕ, ◌+◌, ◌-◌, ◌/◌, ◌%◌, ◌≤◌, ◌<◌, ◌*◌, zero, suc, List, [], ◌++◌, length, sym, ap, subst, ◌∙◌, arith, inl, inr}
-use Rattle.std.specs.Prelude.{max}
+use Rattle.std.proofs.Common.{◌≡◌, ◌≢◌, ℕ, ◌+◌, ◌-◌, ◌/◌, ◌%◌, ◌≤◌, ◌<◌, ◌*◌, zero, suc, List, [], ◌∷◌, ◌++◌, length, refl, sym, ap, subst, ◌∙◌, arith, inl, inr}
+use Rattle.std.specs.Prelude.{max, Contains}
 use Rattle.std.proofs.lemmas.Bool.{cases_lt}
 use Rattle.fs_layout.specs.declared.inode.TheConstants.{DIRECT_BLOCKS, MAX_BLOCKS, MAX_DIRECTORY_SIZE, MAX_FILE_SIZE}
 use Rattle.fs_layout.specs.declared.slot.TheConstants.{SLOT_SIZE}
@@ -9,9 +9,10 @@ use Rattle.fs_layout.specs.declared.place.Place.{Place}
 use Rattle.fs_layout.specs.Bytes.{SectorMap, IsSector, zeros, overwritten}
 use Rattle.fs_layout.specs.Images.{holder, number_on, pointer, Holds, HasNoHole, inode_at, free_sectors}
 use Rattle.fs_layout.specs.InodeChanges.{Saves}
-use Rattle.fs_layout.proofs.Parts.{Holds-kept, HasNoHole-kept, owns_block}
+use Rattle.fs_layout.proofs.Parts.{Holds-kept, HasNoHole-kept, owns_block, owns_on_level}
 use Rattle.fs_layout.proofs.Places.{after_map, before_data}
-use Rattle.sector_txn.specs.Sectors.{TxnState, IsUnchanged, PutsOnly}
+use Rattle.sector_txn.specs.Sectors.{TxnState, IsUnchanged, IsPut, PutsOnly}
+use Rattle.sector_txn.proofs.TransactionRuns.{changes_beside, changes_put_shared, changes_weaker}
 use Rattle.bit_alloc.specs.Room.{bitmaps}
 use Rattle.bit_alloc.specs.Inodes.{IsSound}
 use Rattle.bit_alloc.proofs.Transactions.{puts_after}
@@ -21,6 +22,7 @@ use Rattle.block_map.specs.Sizes.{put_to}
 use Rattle.block_map.specs.Steps.{MayChange, IsStepSector, lacks_above, lacks_pointers, pointer_sectors, sectors_above, WritesBlocks, blocks_to, taken_by, put_by}
 use Rattle.block_map.proofs.Alterings.{alters_joined}
 use Rattle.block_map.proofs.Counts.{empty_few, lack_few, lacks_few, lacks_pointers_is, no_lacks, taken_is}
+use Rattle.block_map.proofs.Rooms.{puts_beside}
 use Rattle.block_map.proofs.Runs.{same_map}
 use Rattle.block_map.proofs.Saving.{IsEnded, saved_after}
 use Rattle.block_map.proofs.Sizing.{may_change, sized, sized_holds, sized_pointer, spliced_is_overwritten}
@@ -38,6 +40,21 @@ may_within {p} {txn} {v} may s o =
 pub block_whole : {p : Place} {txn : TxnState} {v : Inode} {s : ℕ} (k : ℕ) → MayChange p txn v → s ≡ pointer txn.sectors v k → s ≢ 0 → IsSector (txn.sectors s)
 block_whole {txn = txn} {v} k may is some =
     subst (λ (n : ℕ). IsSector (txn.sectors n)) (sym is) (may.apart.whole (pointer txn.sectors v k) (owns_block txn.sectors v k (λ e. some (is ∙ e))))
+
+-- which a rewrite alone puts
+pub rewrite_puts : {p : Place} {old new : TxnState} {v : Inode} {s : ℕ} (k : ℕ) → MayChange p old v → s ≡ pointer old.sectors v k → s ≢ 0
+    → PutsOnly (λ t. t ≡ s) [] 1 old new → PutsOnly (IsStepSector p) (bitmaps p) 1 old new
+rewrite_puts {p} {old} {v = v} k may is some puts =
+    let d = may.apart.each (pointer old.sectors v k) (owns_block old.sectors v k (λ e. some (is ∙ e))) in
+    changes_weaker {Q = IsStepSector p} (λ t e. inr (omega (arith, e, is, d.0), omega (arith, e, is, d.1))) (omega arith) (changes_beside puts (bitmaps p))
+
+-- a sector of pointers is put after a sector was taken
+pub pointers_puts : {p : Place} {old mid new : TxnState} {v : Inode} {u : ℕ} {x : List ℕ} (level i : ℕ) → MayChange p old v → u ≡ number_on old.sectors v level i → u ≢ 0
+    → PutsOnly (IsStepSector p) (bitmaps p) 1 old mid → IsPut u x mid new → PutsOnly (IsStepSector p) (u ∷ bitmaps p) 1 old new
+pointers_puts {p} {old} {v = v} {u} level i may is some puts put =
+    let d = may.apart.each (number_on old.sectors v level i) (owns_on_level old.sectors v level i (λ e. some (is ∙ e))) in
+    let first : Contains (u ∷ bitmaps p) u = (0, omega arith, refl) in
+    changes_put_shared {R = IsStepSector p} (puts_beside puts u) put (inr (omega (arith, d.0, is), omega (arith, d.1, is))) first
 
 -- the size after a write within the limit
 pub limit_at : (m size offset len limit : ℕ) → m ≡ max size (offset + len) → offset ≤ limit - len → len ≤ 4096 → 4096 ≤ limit → limit ≤ MAX_FILE_SIZE

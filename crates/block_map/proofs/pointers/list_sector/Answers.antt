@@ -1,16 +1,13 @@
-use Rattle.std.proofs.Common.{◌∷◌, refl, ◌∙◌, arith, inr}
-use Rattle.std.specs.Prelude.{Contains}
+use Rattle.std.proofs.Common.{refl, arith}
 use Rattle.fs_layout.specs.Bytes.{zeros}
-use Rattle.fs_layout.specs.Images.{holder, number_on}
-use Rattle.fs_layout.proofs.Parts.{owns_on_level}
-use Rattle.sector_txn.proofs.TransactionRuns.{changes_put_shared, still_put, store_joined}
+use Rattle.fs_layout.specs.Images.{holder}
+use Rattle.sector_txn.proofs.TransactionRuns.{still_put, store_joined}
 use Rattle.bit_alloc.specs.Room.{bitmaps}
-use Rattle.block_map.specs.Steps.{IsStepSector}
 use Rattle.block_map.proofs.AddedPointers.{gets_listed, listed_at_hand}
 use Rattle.block_map.proofs.Numbers.{listed_within}
 use Rattle.block_map.proofs.Rewritten.{was_full}
 use Rattle.block_map.proofs.Rooms.{lacking_beside, lacking_unput, puts_beside}
-use Rattle.block_map.proofs.Wrote.{may_within}
+use Rattle.block_map.proofs.Wrote.{may_within, pointers_puts}
 use Rattle.block_map.proofs.pointers.list_sector.Goals as goal
 
 pub take_sector-requires-clause-room : goal.take_sector-requires-clause-room
@@ -39,28 +36,14 @@ put-requires-clause-room g c = λ none.
 pub returns-clause-added : goal.returns-clause-added
 unfolding zeros
 returns-clause-added g c =
-    let old = g.S.Sectors.state c.args.s.now in
-    let p = c.args.place in
-    let v = c.args.blocks.now.inode in
-    let u = c.args.above in
-    let d = c.requires.may.apart.each (number_on old.sectors v 2 (holder 1 c.args.index)) (owns_on_level old.sectors v 2 (holder 1 c.args.index) (λ e. c.requires.index.2 (c.requires.index.1 ∙ e))) in
-    let first : Contains (u ∷ bitmaps p) u = (0, omega arith, refl) in
-    let puts = changes_put_shared {R = IsStepSector p} (puts_beside c.in_ok-number.ensures.puts u) c.put.ensures (inr (omega (arith, d.0, c.requires.index.1), omega (arith, d.1, c.requires.index.1))) first in
     gets_listed c.requires.may refl c.in_ok-number.ensures.taken.1 c.in_ok-number.ensures.free c.in_ok-number.ensures.bitmaps c.requires.index.0 c.requires.index.1 c.requires.index.2
-    c.requires.content c.write_pointer.ensures c.put.ensures.sectors c.put.ensures.store puts (still_put c.put.ensures _ c.in_ok-number.ensures.has) c.requires.none c.requires.inside
+    c.requires.content c.write_pointer.ensures c.put.ensures.sectors c.put.ensures.store (pointers_puts 2 (holder 1 c.args.index) c.requires.may c.requires.index.1 c.requires.index.2 c.in_ok-number.ensures.puts c.put.ensures) (still_put c.put.ensures _ c.in_ok-number.ensures.has) c.requires.none c.requires.inside
 
 pub returns-clause-at_hand : goal.returns-clause-at_hand
 unfolding zeros
 returns-clause-at_hand g c =
-    let old = g.S.Sectors.state c.args.s.now in
-    let p = c.args.place in
-    let v = c.args.blocks.now.inode in
-    let u = c.args.above in
-    let d = c.requires.may.apart.each (number_on old.sectors v 2 (holder 1 c.args.index)) (owns_on_level old.sectors v 2 (holder 1 c.args.index) (λ e. c.requires.index.2 (c.requires.index.1 ∙ e))) in
-    let first : Contains (u ∷ bitmaps p) u = (0, omega arith, refl) in
-    let puts = changes_put_shared {R = IsStepSector p} (puts_beside c.in_ok-number.ensures.puts u) c.put.ensures (inr (omega (arith, d.0, c.requires.index.1), omega (arith, d.1, c.requires.index.1))) first in
     listed_at_hand c.requires.may refl c.in_ok-number.ensures.taken.1 c.in_ok-number.ensures.free c.in_ok-number.ensures.bitmaps c.requires.index.0 c.requires.index.1 c.requires.index.2
-    c.requires.content c.write_pointer.ensures c.put.ensures.sectors c.put.ensures.store puts (still_put c.put.ensures _ c.in_ok-number.ensures.has) c.requires.none refl refl refl refl
+    c.requires.content c.write_pointer.ensures c.put.ensures.sectors c.put.ensures.store (pointers_puts 2 (holder 1 c.args.index) c.requires.may c.requires.index.1 c.requires.index.2 c.in_ok-number.ensures.puts c.put.ensures) (still_put c.put.ensures _ c.in_ok-number.ensures.has) c.requires.none refl refl refl refl
 
 pub returns-clause-store : goal.returns-clause-store
 returns-clause-store g c = store_joined c.in_ok-number.ensures.store c.put.ensures.store

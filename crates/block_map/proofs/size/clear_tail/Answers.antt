@@ -1,13 +1,9 @@
 use Rattle.std.proofs.Common.{◌≡◌, ◌+◌, ◌-◌, ◌/◌, ◌%◌, ◌⊎◌, sym, ◌∙◌, arith, inl, inr}
 use Rattle.std.proofs.lemmas.Bool.{cases_lt}
 use Rattle.fs_layout.specs.Images.{pointer}
-use Rattle.fs_layout.proofs.Parts.{owns_block}
-use Rattle.fs_layout.proofs.Places.{after_map, before_data}
-use Rattle.sector_txn.proofs.TransactionRuns.{changes_beside, changes_weaker}
-use Rattle.bit_alloc.specs.Room.{bitmaps}
-use Rattle.block_map.specs.Steps.{IsStepSector}
+use Rattle.block_map.proofs.Numbers.{number_within}
 use Rattle.block_map.proofs.Resizing.{tail_kept, at_a_block, hole_is_clear, some_zeros, tail_written}
-use Rattle.block_map.proofs.Wrote.{block_whole}
+use Rattle.block_map.proofs.Wrote.{block_whole, may_within, rewrite_puts}
 use Rattle.block_map.proofs.size.clear_tail.Goals as goal
 
 pub returns-then-at-eq0-clause-cleared : goal.returns-then-at-eq0-clause-cleared
@@ -23,23 +19,11 @@ returns-then-number-eq0-clause-cleared g c =
 
 pub rewrite-requires-clause-part : goal.rewrite-requires-clause-part
 rewrite-requires-clause-part g c =
-    let old = g.S.Sectors.state c.args.s.now in
-    let v = c.args.blocks.now.inode in
-    let k = c.args.size / 512 in
-    let is : c.number-number.result ≡ pointer old.sectors v k = c.number-number.ensures old.sectors c.requires.loaded in
-    let d = c.requires.may.apart.each (pointer old.sectors v k) (owns_block old.sectors v k (λ e. c.if-number-eq0.false (is ∙ e))) in
-    let m = after_map c.requires.may.bitmaps.place in
-    let b = before_data c.requires.may.bitmaps.place in
-    omega (arith, is, d.0, m, b)
+    (number_within c.args.blocks.now.inode (c.args.size / 512) (may_within c.requires.may) (c.number-number.ensures _ c.requires.loaded) c.if-number-eq0.false).0
 
 pub rewrite-requires-clause-on_disk : goal.rewrite-requires-clause-on_disk
 rewrite-requires-clause-on_disk g c =
-    let old = g.S.Sectors.state c.args.s.now in
-    let v = c.args.blocks.now.inode in
-    let k = c.args.size / 512 in
-    let is : c.number-number.result ≡ pointer old.sectors v k = c.number-number.ensures old.sectors c.requires.loaded in
-    let d = c.requires.may.apart.each (pointer old.sectors v k) (owns_block old.sectors v k (λ e. c.if-number-eq0.false (is ∙ e))) in
-    omega (arith, is, d.1, c.requires.may.bitmaps.disk)
+    (number_within c.args.blocks.now.inode (c.args.size / 512) (may_within c.requires.may) (c.number-number.ensures _ c.requires.loaded) c.if-number-eq0.false).1
 
 pub rewrite-requires-clause-whole : goal.rewrite-requires-clause-whole
 rewrite-requires-clause-whole g c =
@@ -53,11 +37,10 @@ returns-clause-cleared g c =
     let k = c.args.size / 512 in
     let len = c.min-len.result in
     let is : c.number-number.result ≡ pointer old.sectors v k = c.number-number.ensures old.sectors c.requires.loaded in
-    let d = c.requires.may.apart.each (pointer old.sectors v k) (owns_block old.sectors v k (λ e. c.if-number-eq0.false (is ∙ e))) in
     let way : (len ≡ 512 - c.args.size % 512) ⊎ (c.args.size + len ≡ v.size) = elim (cases_lt (v.size - c.args.size) (512 - c.args.size % 512)) [
       | inl lt ↦ inr (omega (arith, lt, c.min-len.ensures, c.requires.less))
       | inr ge ↦ inl (omega (arith, ge, c.min-len.ensures))
     ] in
     tail_written {len = len} c.requires.may (sym is) c.if-number-eq0.false c.in_ok-rewrite.ensures.written (some_zeros 512 len (omega (arith, c.min-len.ensures)))
-    (changes_weaker {Q = IsStepSector p} (λ t e. inr (omega (arith, e, is, d.0), omega (arith, e, is, d.1))) (omega arith) (changes_beside c.in_ok-rewrite.ensures.puts (bitmaps p)))
+    (rewrite_puts k c.requires.may is c.if-number-eq0.false c.in_ok-rewrite.ensures.puts)
     (omega (arith, c.min-len.ensures, c.requires.less)) (omega (arith, c.min-len.ensures)) way

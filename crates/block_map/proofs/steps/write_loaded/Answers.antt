@@ -1,38 +1,24 @@
-use Rattle.std.proofs.Common.{◌≡◌, ◌≢◌, ◌∷◌, ◌++◌, ℕ, List, refl, sym, ap, subst, ◌∙◌, arith, rules, inr}
-use Rattle.std.specs.Prelude.{Contains}
+use Rattle.std.proofs.Common.{◌≡◌, ◌≢◌, ◌∷◌, ◌++◌, ℕ, List, refl, sym, ap, subst, ◌∙◌, arith, rules}
 use Rattle.fs_layout.specs.declared.inode.Inode.{Inode}
 use Rattle.fs_layout.specs.declared.inode.TheConstants.{DIRECT_BLOCKS}
-use Rattle.fs_layout.specs.Images.{holder, number_on, pointer}
-use Rattle.fs_layout.proofs.Parts.{owns_block, owns_on_level}
-use Rattle.fs_layout.proofs.Places.{after_map, before_data}
+use Rattle.fs_layout.specs.Images.{holder, pointer}
 use Rattle.sector_txn.specs.Sectors.{lacking}
-use Rattle.sector_txn.proofs.TransactionRuns.{changes_beside, changes_weaker, changes_put_shared}
 use Rattle.bit_alloc.specs.Room.{bitmaps}
-use Rattle.block_map.specs.Steps.{IsStepSector, WritesBlock}
-use Rattle.block_map.proofs.Numbers.{at_hand_near, listed_within, loaded_sector}
+use Rattle.block_map.specs.Steps.{WritesBlock}
+use Rattle.block_map.proofs.Numbers.{at_hand_near, listed_within, loaded_sector, number_within}
 use Rattle.block_map.proofs.Rewritten.{was_full}
 use Rattle.block_map.proofs.Rooms.{lacking_unput, puts_beside}
 use Rattle.block_map.proofs.Writings.{there_at_hand, writes_block_there, direct_at_hand, writes_direct_block, entry_at_hand, pointers_are, writes_entry_block}
-use Rattle.block_map.proofs.Wrote.{block_whole, may_within}
+use Rattle.block_map.proofs.Wrote.{block_whole, may_within, rewrite_puts, pointers_puts}
 use Rattle.block_map.proofs.steps.write_loaded.Goals as goal
 
 pub rewrite-requires-clause-part : goal.rewrite-requires-clause-part
 rewrite-requires-clause-part g c =
-    let old = g.S.Sectors.state c.args.s.now in
-    let v = c.args.blocks.now.inode in
-    let is : c.number-number.result ≡ pointer old.sectors v c.args.k = c.number-number.ensures old.sectors c.requires.loaded in
-    let d = c.requires.may.apart.each (pointer old.sectors v c.args.k) (owns_block old.sectors v c.args.k (λ e. c.if-number-ne0.true (is ∙ e))) in
-    let m = after_map c.requires.may.bitmaps.place in
-    let b = before_data c.requires.may.bitmaps.place in
-    omega (arith, is, d.0, m, b)
+    (number_within c.args.blocks.now.inode c.args.k (may_within c.requires.may) (c.number-number.ensures _ c.requires.loaded) c.if-number-ne0.true).0
 
 pub rewrite-requires-clause-on_disk : goal.rewrite-requires-clause-on_disk
 rewrite-requires-clause-on_disk g c =
-    let old = g.S.Sectors.state c.args.s.now in
-    let v = c.args.blocks.now.inode in
-    let is : c.number-number.result ≡ pointer old.sectors v c.args.k = c.number-number.ensures old.sectors c.requires.loaded in
-    let d = c.requires.may.apart.each (pointer old.sectors v c.args.k) (owns_block old.sectors v c.args.k (λ e. c.if-number-ne0.true (is ∙ e))) in
-    omega (arith, is, d.1, c.requires.may.bitmaps.disk)
+    (number_within c.args.blocks.now.inode c.args.k (may_within c.requires.may) (c.number-number.ensures _ c.requires.loaded) c.if-number-ne0.true).1
 
 pub rewrite-requires-clause-whole : goal.rewrite-requires-clause-whole
 rewrite-requires-clause-whole g c =
@@ -44,10 +30,8 @@ returns-then-number-ne0-clause-written g c =
     let p = c.args.place in
     let v = c.args.blocks.now.inode in
     let is : c.number-number.result ≡ pointer old.sectors v c.args.k = c.number-number.ensures old.sectors c.requires.loaded in
-    let d = c.requires.may.apart.each (pointer old.sectors v c.args.k) (owns_block old.sectors v c.args.k (λ e. c.if-number-ne0.true (is ∙ e))) in
     writes_block_there (g.S.Sectors.state c.rewrite.new.s) c.args.k c.args.at c.args.bytes.now c.requires.may (sym is) c.if-number-ne0.true c.in_ok-rewrite.ensures.written c.requires.fits.0 (λ i. let f = c.type_inv.bytes i in search rules)
-    (changes_weaker {Q = IsStepSector p} (λ t e. inr (omega (arith, e, is, d.0), omega (arith, e, is, d.1))) (omega arith)
-    (changes_beside c.in_ok-rewrite.ensures.puts (bitmaps p))) c.requires.fits.1
+    (rewrite_puts c.args.k c.requires.may is c.if-number-ne0.true c.in_ok-rewrite.ensures.puts) c.requires.fits.1
 
 pub returns-then-number-ne0-clause-at_hand : goal.returns-then-number-ne0-clause-at_hand
 returns-then-number-ne0-clause-at_hand g c =
@@ -99,38 +83,23 @@ returns-then-k-lt-DIRECT_BLOCKS-clause-at_hand g c =
 pub returns-else-k-lt-DIRECT_BLOCKS-clause-written : goal.returns-else-k-lt-DIRECT_BLOCKS-clause-written
 returns-else-k-lt-DIRECT_BLOCKS-clause-written g c =
     let old = g.S.Sectors.state c.args.s.now in
-    let new = g.S.Sectors.state c.put_pointer.new.s in
-    let p = c.args.place in
-    let b = c.args.blocks.now in
-    let v = b.inode in
-    let u = b.sector in
+    let v = c.args.blocks.now.inode in
     let ge = c.if-k-lt-DIRECT_BLOCKS.false in
     let sector = loaded_sector c.requires.loaded ge in
-    let has : u ≢ 0 = λ e. c.requires.pointers ge (sector ∙ e) in
+    let has : c.args.blocks.now.sector ≢ 0 = λ e. c.requires.pointers ge (sector ∙ e) in
     let none : pointer old.sectors v c.args.k ≡ 0 = sym (c.number-number.ensures old.sectors c.requires.loaded) ∙ c.if-number-ne0.false in
-    let d = c.requires.may.apart.each (number_on old.sectors v 1 (holder DIRECT_BLOCKS c.args.k)) (owns_on_level old.sectors v 1 (holder DIRECT_BLOCKS c.args.k) (c.requires.pointers ge)) in
-    let first : Contains (u ∷ bitmaps p) u = (0, omega arith, refl) in
-    let puts = changes_put_shared {R = IsStepSector p} (puts_beside c.in_ok-number.ensures.puts u) c.put_pointer.ensures.put (inr (omega (arith, d.0, sector), omega (arith, d.1, sector))) first in
-    subst (λ (w : Inode). WritesBlock p c.args.k c.args.at c.args.bytes.now old new v w) (sym c.put_pointer.ensures.inode)
+    subst (λ (w : Inode). WritesBlock c.args.place c.args.k c.args.at c.args.bytes.now old (g.S.Sectors.state c.put_pointer.new.s) v w) (sym c.put_pointer.ensures.inode)
     (writes_entry_block c.args.at c.args.bytes.now c.requires.may none c.requires.fits.0 refl c.requires.fits.1 c.requires.inside
     c.in_ok-number.ensures.taken.1 c.in_ok-number.ensures.free c.in_ok-number.ensures.bitmaps ge (sym sector) has
-    (c.requires.loaded.at_hand.is has) c.put_pointer.ensures.pointers c.put_pointer.ensures.put.sectors c.put_pointer.ensures.put.store puts)
+    (c.requires.loaded.at_hand.is has) c.put_pointer.ensures.pointers c.put_pointer.ensures.put.sectors c.put_pointer.ensures.put.store (pointers_puts 1 (holder DIRECT_BLOCKS c.args.k) c.requires.may (sym sector) has c.in_ok-number.ensures.puts c.put_pointer.ensures.put))
 
 pub returns-else-k-lt-DIRECT_BLOCKS-clause-at_hand : goal.returns-else-k-lt-DIRECT_BLOCKS-clause-at_hand
 returns-else-k-lt-DIRECT_BLOCKS-clause-at_hand g c =
-    let old = g.S.Sectors.state c.args.s.now in
-    let p = c.args.place in
-    let b = c.args.blocks.now in
-    let v = b.inode in
-    let u = b.sector in
     let ge = c.if-k-lt-DIRECT_BLOCKS.false in
     let sector = loaded_sector c.requires.loaded ge in
-    let has : u ≢ 0 = λ e. c.requires.pointers ge (sector ∙ e) in
-    let none : pointer old.sectors v c.args.k ≡ 0 = sym (c.number-number.ensures old.sectors c.requires.loaded) ∙ c.if-number-ne0.false in
-    let d = c.requires.may.apart.each (number_on old.sectors v 1 (holder DIRECT_BLOCKS c.args.k)) (owns_on_level old.sectors v 1 (holder DIRECT_BLOCKS c.args.k) (c.requires.pointers ge)) in
-    let first : Contains (u ∷ bitmaps p) u = (0, omega arith, refl) in
-    let puts = changes_put_shared {R = IsStepSector p} (puts_beside c.in_ok-number.ensures.puts u) c.put_pointer.ensures.put (inr (omega (arith, d.0, sector), omega (arith, d.1, sector))) first in
+    let has : c.args.blocks.now.sector ≢ 0 = λ e. c.requires.pointers ge (sector ∙ e) in
+    let none = sym (c.number-number.ensures (g.S.Sectors.state c.args.s.now).sectors c.requires.loaded) ∙ c.if-number-ne0.false in
     entry_at_hand c.args.at c.args.bytes.now c.requires.may none c.requires.fits.0 refl c.requires.fits.1 c.requires.inside
     c.in_ok-number.ensures.taken.1 c.in_ok-number.ensures.free c.in_ok-number.ensures.bitmaps ge (sym sector) has
-    (c.requires.loaded.at_hand.is has) c.put_pointer.ensures.pointers c.put_pointer.ensures.put.sectors c.put_pointer.ensures.put.store puts
+    (c.requires.loaded.at_hand.is has) c.put_pointer.ensures.pointers c.put_pointer.ensures.put.sectors c.put_pointer.ensures.put.store (pointers_puts 1 (holder DIRECT_BLOCKS c.args.k) c.requires.may (sym sector) has c.in_ok-number.ensures.puts c.put_pointer.ensures.put)
     _ c.put_pointer.ensures.inode (c.put_pointer.ensures.here.0 ∙ c.requires.loaded.index ge) c.put_pointer.ensures.here.1 refl

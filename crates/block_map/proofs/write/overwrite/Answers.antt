@@ -2,9 +2,9 @@ use Rattle.std.proofs.Common.{◌≡◌, ◌+◌, ◌*◌, ◌/◌, ◌%◌, ℕ
 use Rattle.fs_layout.specs.Bytes.{IsSector, splice}
 use Rattle.fs_layout.specs.declared.inode.Inode.{Inode}
 use Rattle.block_map.specs.Blocks.{IsWithin}
-use Rattle.fs_layout.specs.Images.{pointer, Holds}
-use Rattle.fs_layout.proofs.Parts.{owns_block}
+use Rattle.fs_layout.specs.Images.{Holds}
 use Rattle.block_map.specs.Steps.{MayChange}
+use Rattle.block_map.proofs.Numbers.{number_within}
 use Rattle.block_map.proofs.Overwriting.{used_may_change, loaded_number, over_changes, over_holds, over_whole}
 use Rattle.block_map.proofs.Wrote.{block_whole, may_within}
 use Rattle.block_map.proofs.write.overwrite.Goals as goal
@@ -19,21 +19,16 @@ load-requires-clause-at_hand g c = c.new-blocks.ensures.at_hand _
 
 pub rewrite-requires-clause-part : goal.rewrite-requires-clause-part
 rewrite-requires-clause-part g c =
-    let old = g.S.Sectors.state c.args.s.now in
-    let v = c.args.inode.now in
-    let may : MayChange c.args.place old v = used_may_change c.requires.sound c.requires.below c.requires.inode c.requires.used in
+    let may = used_may_change c.requires.sound c.requires.below c.requires.inode c.requires.used in
     let is = loaded_number (g.S.Sectors.state c.args.s.now).sectors (c.args.offset / 512) (c.number.ensures (g.S.Sectors.state c.args.s.now).sectors c.in_ok-load.ensures.loaded) (c.in_ok-load.ensures.inode ∙ c.new-blocks.ensures.inode) in
-    let w = may_within may (pointer old.sectors v (c.args.offset / 512)) (owns_block old.sectors v (c.args.offset / 512) c.requires.no_hole) in
-    omega (arith, is, w.0)
+    (number_within c.args.inode.now (c.args.offset / 512) (may_within may) is (λ e. c.requires.no_hole (sym is ∙ e))).0
 
 pub rewrite-requires-clause-on_disk : goal.rewrite-requires-clause-on_disk
 rewrite-requires-clause-on_disk g c =
-    let old = g.S.Sectors.state c.args.s.now in
-    let v = c.args.inode.now in
-    let may : MayChange c.args.place old v = used_may_change c.requires.sound c.requires.below c.requires.inode c.requires.used in
+    let may = used_may_change c.requires.sound c.requires.below c.requires.inode c.requires.used in
     let is = loaded_number (g.S.Sectors.state c.args.s.now).sectors (c.args.offset / 512) (c.number.ensures (g.S.Sectors.state c.args.s.now).sectors c.in_ok-load.ensures.loaded) (c.in_ok-load.ensures.inode ∙ c.new-blocks.ensures.inode) in
-    let w = may_within may (pointer old.sectors v (c.args.offset / 512)) (owns_block old.sectors v (c.args.offset / 512) c.requires.no_hole) in
-    omega (arith, is, w.1, c.in_ok-load.ensures.same.store.reads.narrowed.size)
+    let w = number_within c.args.inode.now (c.args.offset / 512) (may_within may) is (λ e. c.requires.no_hole (sym is ∙ e)) in
+    omega (arith, w.1, c.in_ok-load.ensures.same.store.reads.narrowed.size)
 
 pub rewrite-requires-clause-whole : goal.rewrite-requires-clause-whole
 rewrite-requires-clause-whole g c =
