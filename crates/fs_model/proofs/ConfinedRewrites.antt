@@ -1,12 +1,12 @@
 -- Calls that rewrite one node are confined.
-use Rattle.std.specs.Prelude.{◌≡◌, ℕ, ◌+◌, ◌==◌, min, Bool, true, false, ◌||◌, ◌&&◌, cond, List, [], ◌∷◌, length, take, drop, replicate, Option, None, Some, IsFalse}
+use Rattle.std.specs.Prelude.{◌≡◌, ℕ, ◌+◌, ◌==◌, min, Bool, true, false, ◌||◌, ◌&&◌, cond, List, [], ◌∷◌, length, take, replicate, Option, None, Some, IsFalse}
 use Rattle.std.proofs.Common.{refl, sym, ap, ◌∙◌, arith}
-use Rattle.std.proofs.lemmas.List.{length-replicate, length-drop, length-append}
+use Rattle.std.proofs.lemmas.List.{length-replicate}
 use Rattle.fs_model.specs.declared.call.Call.TheVariants.{Truncate, Ftruncate, Write, Chmod, Chown, SetAcl}
 use Rattle.fs_model.specs.declared.reply.Reply.TheVariants.{Wrote}
 use Rattle.std.proofs.lemmas.Bool.Decides.{nat_tests}
 use Rattle.std.specs.List.{list_any}
-use Rattle.std.specs.Prelude.{◌-◌, ◌++◌}
+use Rattle.std.specs.Prelude.{◌-◌}
 use Rattle.posix_acl.specs.AccessList.{AccessList}
 use Rattle.fs_cred.specs.declared.refusal.Need.{Need}
 use Rattle.fs_cred.specs.declared.refusal.Need.TheVariants.{Own}
@@ -34,7 +34,7 @@ use Rattle.fs_layout.specs.Bytes.{resized, overwritten}
 use Rattle.fs_model.specs.DescriptorCalls.{resized_node, written, write_offset}
 use Rattle.fs_model.specs.Scenes.{Row, number}
 use Rattle.fs_model.specs.Steps.{scene_of}
-use Rattle.fs_model.proofs.StepsBodies.{length-resized}
+use Rattle.fs_model.proofs.StepsBodies.{length-resized, length-overwritten_all}
 use Rattle.fs_model.proofs.Veils.{veiled}
 use Rattle.fs_model.proofs.SeenTrees.{sees-veiled, the_node-seen, with_node-seen, tree_seen-less, SeesNoMore, sees_no_more}
 use Rattle.fs_model.proofs.ConfinedSteps.{Confines}
@@ -121,17 +121,10 @@ truncate_confined path size u pid p new free is runs here confined fits asked me
 
 even_overwritten : (offset : ℕ) (new bytes : List ℕ) → length (overwritten (replicate (length bytes) 0) offset new) ≡ length (overwritten bytes offset new)
 even_overwritten offset new bytes =
-    let zeros : List ℕ = replicate {A = ℕ} (length bytes) 0 in
     omega (
       arith,
-      length-append (resized bytes offset ++ new) (drop (offset + length new) bytes),
-      length-append (resized bytes offset) new,
-      length-resized bytes offset,
-      length-drop (offset + length new) bytes,
-      length-append (resized zeros offset ++ new) (drop (offset + length new) zeros),
-      length-append (resized zeros offset) new,
-      length-resized zeros offset,
-      length-drop (offset + length new) zeros,
+      length-overwritten_all (replicate {A = ℕ} (length bytes) 0) offset new,
+      length-overwritten_all bytes offset new,
       length-replicate {A = ℕ} (length bytes) 0,
     )
 

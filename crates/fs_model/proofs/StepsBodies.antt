@@ -33,9 +33,9 @@ pub IsBytes-resized : (bytes : List ℕ) (size : ℕ) → IsBytes bytes → IsBy
 IsBytes-resized bytes size are =
     IsBytes-append (take size bytes) (replicate (size - length bytes) 0) (IsBytes-take size bytes are) (IsBytes-zeros (size - length bytes))
 
-pub length-overwritten : (bytes : List ℕ) (offset : ℕ) (new : List ℕ) (limit : ℕ) → length bytes ≤ limit → offset + length new ≤ limit
-    → length (overwritten bytes offset new) ≤ limit
-length-overwritten bytes offset new limit few fits =
+-- up to the end of what is written over them, and what is left past it
+pub length-overwritten_all : (bytes : List ℕ) (offset : ℕ) (new : List ℕ) → length (overwritten bytes offset new) ≡ offset + length new + (length bytes - (offset + length new))
+length-overwritten_all bytes offset new =
     omega (
       arith,
       length-append (resized bytes offset ++ new) (drop (offset + length new) bytes),
@@ -43,6 +43,10 @@ length-overwritten bytes offset new limit few fits =
       length-resized bytes offset,
       length-drop (offset + length new) bytes,
     )
+
+pub length-overwritten : (bytes : List ℕ) (offset : ℕ) (new : List ℕ) (limit : ℕ) → length bytes ≤ limit → offset + length new ≤ limit
+    → length (overwritten bytes offset new) ≤ limit
+length-overwritten bytes offset new limit few fits = let all = length-overwritten_all bytes offset new in omega (arith, all, few, fits)
 
 pub IsBytes-overwritten : (bytes : List ℕ) (offset : ℕ) (new : List ℕ) → IsBytes bytes → IsBytes new → IsBytes (overwritten bytes offset new)
 IsBytes-overwritten bytes offset new are fresh =
