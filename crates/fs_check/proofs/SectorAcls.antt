@@ -1,6 +1,6 @@
 -- ACLs made of the numbers that a sector has.
-use Rattle.std.specs.Prelude.{◌≡◌, ◌≢◌, ℕ, ◌<◌, Bool, true, false, List, [], ◌∷◌, length, get_or, map, Option, Some, None, IsTrue, ◌↔◌}
-use Rattle.std.proofs.Common.{refl, sym, ap, arith, ◌∙◌, subst, Vec, Global}
+use Rattle.std.specs.Prelude.{◌≡◌, ◌≢◌, ℕ, ◌<◌, Bool, true, false, List, length, get_or, map, Option, Some, None, IsTrue, ◌↔◌}
+use Rattle.std.proofs.Common.{sym, ap, arith, ◌∙◌, subst, Vec, Global}
 use Rattle.std.specs.Option.{MatchOption}
 use Rattle.std.specs.List.Sorted.{IsPermutation}
 use Rattle.std.proofs.lemmas.List.{get_or-map, length-map}
@@ -11,7 +11,7 @@ use Rattle.posix_acl.specs.declared.fault.AclFault.{AclFault}
 use Rattle.posix_acl.specs.Entries.{numbers_of, plain_entries}
 use Rattle.posix_acl.specs.AccessList.{AccessList, IsAcl, entries_of, list_numbers}
 use Rattle.posix_acl.specs.Faults.{first_fault, IsListOf}
-use Rattle.posix_acl.proofs.Laws.{numbers_injective, own_plain}
+use Rattle.posix_acl.proofs.Laws.{entries_same, own_plain}
 use Rattle.posix_acl.proofs.NoFault.{no_fault_in}
 use Rattle.posix_acl.proofs.Ordering.{blank}
 use Rattle.fs_check.specs.StoredAcls.{AreNoEntries, IsListed}
@@ -39,16 +39,6 @@ module _ (ns : List EntryNumbers) (o : Option (Vec Entry Global)) (found : AreFo
   with_entries v is = subst (AreFound ns) is found
 
 -- ---- the ACL with these entries
-
--- numbers tell their entries
-entries_same : (es fs : List Entry) → map numbers_of es ≡ map numbers_of fs → es ≡ fs
-entries_same [] [] same = refl
-entries_same [] (f ∷ fs) same = absurd cc
-entries_same (e ∷ es) [] same = absurd cc
-entries_same (e ∷ es) (f ∷ fs) same =
-    let heads : numbers_of e ≡ numbers_of f = cc in
-    let tails : map numbers_of es ≡ map numbers_of fs = cc in
-    ap (λ x. x ∷ es) (numbers_injective e f heads) ∙ ap (λ xs. f ∷ xs) (entries_same es fs tails)
 
 made_plain : (a : AccessList) (es : List Entry) → IsAcl a → es ≡ entries_of a → plain_entries es ≡ entries_of a
 made_plain a es valid same = ap plain_entries same ∙ own_plain a valid

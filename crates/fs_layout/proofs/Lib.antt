@@ -7,6 +7,7 @@ pub mod CommitLaw
 pub mod Composes
 pub mod Consistent
 pub mod Counting
+pub mod DistinctNames
 pub mod Entries
 pub mod Fields
 pub mod FirstEntries
