@@ -87,6 +87,14 @@ module _ {image : SectorMap} {v : Inode} {slots : List NamedInode} (h : HasSlots
       ap (λ (k : ℕ). splice (slots_bytes slots) k bytes) here ∙ ap (splice (slots_bytes slots) (SLOT_SIZE * slot)) is ∙ bytes_replaced slots slot x h.each fit lt in
       subst (λ (r : List ℕ). Holds new v r) e (write (slots_bytes slots) h.holds)
 
+-- no slot is past the limit
+pub slot_below : {p : Place} {n : ℕ} {txn : TxnState} {v : Inode} {slots : List NamedInode} → IsSound p txn → n < p.inodes → v ≡ inode_at p txn.sectors n → HasSlots txn.sectors v slots
+    → (slot : ℕ) → slot < length slots → slot * SLOT_SIZE + SLOT_SIZE ≤ MAX_DIRECTORY_SIZE
+slot_below sound lt is h slot within =
+    let inside = slot_inside h slot within in
+    let limit = directory_limit sound lt is h.kind in
+    omega (arith, inside, limit)
+
 -- ---- the last slot
 -- it moves into its own place
 pub moves_itself : (slots : List NamedInode) (slot : ℕ) (d : NamedInode) → slot ≡ length slots - 1 → set slots slot (get_or slots (length slots - 1) d) ≡ slots
@@ -121,15 +129,9 @@ module _ (slots : List NamedInode) (name : List ℕ) (apart : HaveDistinctNames 
   not_there None is e = sym (found_is_entry slots name None apart is)
   not_there (Some f) is e = absurd (true≢false e)
 
--- the slot that is found
-pub found_slot : (slots : List NamedInode) (name : List ℕ) (found : Option FoundSlot) (f : FoundSlot) → IsFoundIn slots name found → found ≡ Some f
-    → (f.slot < length slots) × ((d : NamedInode) → get_or slots f.slot d ≡ record { inode = f.inode; name = name })
-found_slot slots name found f is e = subst (IsFoundIn slots name) e is
-
--- its name is one
-pub found_name : (slots : List NamedInode) (name : List ℕ) (found : Option FoundSlot) (f : FoundSlot) → All FitsSlot slots → IsFoundIn slots name found → found ≡ Some f → IsName name
-found_name slots name found f fits is e =
-    let at = found_slot slots name found f is e in
+-- the name that is found is one
+pub found_name : (slots : List NamedInode) (name : List ℕ) (f : FoundSlot) → All FitsSlot slots → IsFoundIn slots name (Some f) → IsName name
+found_name slots name f fits at =
     let x : NamedInode = record { inode = f.inode; name = name } in
     subst IsName (ap (λ (y : NamedInode). y.name) (at.1 x)) (fits f.slot x at.0).name
 
@@ -143,10 +145,10 @@ pub said_by_slots : {image : SectorMap} {v : Inode} {names : List (List ℕ × �
 said_by_slots name h none = ap (λ (m : List (List ℕ × ℕ)). get name_cmp m name) (sym h.are) ∙ none
 
 -- what they lead to is found
-pub leads_to_found : {image : SectorMap} {v : Inode} {names : List (List ℕ × ℕ)} {to : ℕ} (h : HasNames image v names) (name : List ℕ) (found : Option FoundSlot) (f : FoundSlot)
-    → IsFoundIn h.slots name found → found ≡ Some f → get name_cmp names name ≡ Some to → f.inode ≡ to
-leads_to_found {to = to} h name found f is e leads =
-    let entry = found_is_entry h.slots name (Some f) h.apart (subst (IsFoundIn h.slots name) e is) in
+pub leads_to_found : {image : SectorMap} {v : Inode} {names : List (List ℕ × ℕ)} {to : ℕ} (h : HasNames image v names) (name : List ℕ) (f : FoundSlot)
+    → IsFoundIn h.slots name (Some f) → get name_cmp names name ≡ Some to → f.inode ≡ to
+leads_to_found {to = to} h name f is leads =
+    let entry = found_is_entry h.slots name (Some f) h.apart is in
     one_number (entry ∙ ap (λ (m : List (List ℕ × ℕ)). get name_cmp m name) (sym h.are) ∙ leads)
   where
     one_number : Some f.inode ≡ Some to → f.inode ≡ to

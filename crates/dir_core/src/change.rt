@@ -1,21 +1,22 @@
 //! Adding a name, removing one, leading one to another inode, and giving it another name.
 
-ghost use Rattle.std.specs.Prelude.{◌≡◌, ◌≢◌, ◌≤◌, ◌<◌, ◌-◌, ◌*◌, ℕ, List, length, slice_index_or, take, set, None, Some, IfErr, OnOk};
+ghost use Rattle.std.specs.Prelude.{◌≡◌, ◌≢◌, ◌≤◌, ◌<◌, ◌-◌, ◌*◌, ℕ, List, length, slice_index_or, take, set, None, Some, IfOk, IfErr, OnOk};
 ghost use Rattle.fs_layout.specs.declared.slot.TheConstants.{MAX_NAMES};
 ghost use Rattle.fs_layout.specs.Directories.{NamedInode, IsName, HaveDistinctNames, slot_bytes, slots_bytes, HasNames};
 ghost use Rattle.fs_layout.specs.Images.{Holds, HasNoHole, inode_at};
 ghost use Rattle.fs_layout.specs.Maps.{name_cmp, get, with_entry, without};
 ghost use Rattle.sector_disk.specs.Disk.{HasCause};
-ghost use Rattle.sector_txn.specs.Sectors.{SameStore};
+ghost use Rattle.sector_txn.specs.Sectors.{SameStore, IsUnchanged};
 ghost use Rattle.bit_alloc.specs.Faults.{HasCauseOf};
 ghost use Rattle.bit_alloc.specs.Inodes.{IsSound};
 ghost use Rattle.bit_alloc.specs.Room.{HasSpare};
+ghost use Rattle.block_map.specs.Blocks.{IsWithin};
 ghost use Rattle.block_map.specs.Contents.{ChangesContent};
 ghost use Rattle.dir_core.specs.Faults.{taken_for, WhyNotAdded, WhyNotChanged};
-ghost use Rattle.dir_core.specs.Slots.{HasSlots};
+ghost use Rattle.dir_core.specs.Slots.{HasSlots, IsFoundIn};
 
 use crate::DirFault;
-use crate::find::find_slot;
+use crate::find::{FoundSlot, find_slot};
 use block_map::{overwrite, read_at, set_size, write_at};
 use fs_layout::{Inode, MAX_DIRECTORY_SIZE, Place, SLOT_SIZE, Slot};
 use sector_disk::DiskFault;
@@ -98,6 +99,25 @@ pub fn insert<S: Sectors>(
     Ok(())
 }
 
+// Finds the slot of a name of a directory, which has to be there.
+fn named_slot<S: Sectors>(s: &mut S, inode: &Inode, name: &[u8]) -> Result<FoundSlot, DirFault>
+    requires within { IsWithin (S.state s.old).disk.size (S.state s.old).sectors inode.now }
+    requires directory { (names : List (List ℕ × ℕ)) × HasNames (S.state s.old).sectors inode.now names }
+    ensures found { IfOk result (λ found. (slots : List NamedInode) → HasSlots (S.state s.old).sectors inode.now slots
+        → IsFoundIn slots name.now (Some found)) }
+    ensures slots { IfOk result (λ found. (slots : List NamedInode) × HasSlots (S.state s.new).sectors inode.now slots
+        × (found.slot < length slots)) }
+    ensures why { IfErr result (λ e. (names : List (List ℕ × ℕ)) → HasNames (S.state s.old).sectors inode.now names
+        → WhyNotChanged names name.now e) }
+    ensures same { IsUnchanged (S.state s.old) (S.state s.new) }
+    ensures cause { HasCauseOf DirFault.DiskFault (S.state s.old).disk (S.state s.new).disk result }
+{
+    let Some(found) = find_slot(s, inode, name)? else {
+        return Err(DirFault::Absent);
+    };
+    Ok(found)
+}
+
 // Writes the last slot in the place of another one.
 fn move_last<S: Sectors>(
     s: &mut S,
@@ -153,9 +173,7 @@ pub fn remove<S: Sectors>(
     ensures store { SameStore (S.state s.old) (S.state s.new) }
     ensures cause { HasCauseOf DirFault.DiskFault (S.state s.old).disk (S.state s.new).disk result }
 {
-    let Some(found) = find_slot(s, inode, name)? else {
-        return Err(DirFault::Absent);
-    };
+    let found = named_slot(s, inode, name)?;
     move_last(s, place, n, inode, found.slot)?;
     let size = inode.size - SLOT_SIZE as u64;
     set_size(s, place, n, inode, size)?;
@@ -214,9 +232,7 @@ pub fn replace<S: Sectors>(
     ensures store { SameStore (S.state s.old) (S.state s.new) }
     ensures cause { HasCauseOf DirFault.DiskFault (S.state s.old).disk (S.state s.new).disk result }
 {
-    let Some(found) = find_slot(s, inode, name)? else {
-        return Err(DirFault::Absent);
-    };
+    let found = named_slot(s, inode, name)?;
     set_slot(s, place, n, inode, found.slot, name, to)?;
     Ok(())
 }
@@ -250,9 +266,7 @@ pub fn rename<S: Sectors>(
     ensures store { SameStore (S.state s.old) (S.state s.new) }
     ensures cause { HasCauseOf DirFault.DiskFault (S.state s.old).disk (S.state s.new).disk result }
 {
-    let Some(found) = find_slot(s, inode, name)? else {
-        return Err(DirFault::Absent);
-    };
+    let found = named_slot(s, inode, name)?;
     set_slot(s, place, n, inode, found.slot, new_name, found.inode)?;
     Ok(())
 }

@@ -3,16 +3,14 @@ use Rattle.fs_layout.specs.Images.{Holds}
 use Rattle.fs_layout.specs.Directories.{NamedInode, slots_bytes}
 use Rattle.sector_txn.proofs.TransactionRuns.{store_joined}
 use Rattle.block_map.proofs.Joins.{sound_after_reads, content_after_reads}
-use Rattle.dir_core.proofs.Changing.{slots_after_reads, directory_within, directory_limit, same_content, slot_inside, slot_has_block, slot_written, moves_itself, last_read}
+use Rattle.dir_core.proofs.Changing.{slots_after_reads, directory_within, slot_below, same_content, slot_inside, slot_has_block, slot_written, moves_itself, last_read}
 use Rattle.dir_core.proofs.Taking.{size_of_slots}
 use Rattle.dir_core.proofs.change.move_last.Goals as goal
 
 pub overflow_mul-at : goal.overflow_mul-at
 overflow_mul-at g c =
-    let h = c.requires.directory.1 in
-    let inside = slot_inside h c.args.slot c.requires.directory.2 in
-    let limit = directory_limit c.requires.sound c.requires.below c.requires.inode h.kind in
-    omega (arith, inside, limit)
+    let below = slot_below c.requires.sound c.requires.below c.requires.inode c.requires.directory.1 c.args.slot c.requires.directory.2 in
+    omega (arith, below)
 
 pub overflow_sub-last : goal.overflow_sub-last
 overflow_sub-last g c = let inside = slot_inside c.requires.directory.1 c.args.slot c.requires.directory.2 in omega (arith, inside)

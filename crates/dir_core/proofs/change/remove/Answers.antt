@@ -1,5 +1,4 @@
-use Rattle.std.proofs.Common.{◌-◌, ℕ, List, length, get_or, set, Err, sym, ap, subst, arith}
-use Rattle.std.specs.Prelude.{is_some}
+use Rattle.std.proofs.Common.{◌-◌, ℕ, List, length, get_or, set, Some, Err, refl, sym, ap, subst, arith}
 use Rattle.fs_layout.specs.declared.slot.TheConstants.{SLOT_SIZE}
 use Rattle.fs_layout.specs.Directories.{NamedInode, HasNames, slots_bytes}
 use Rattle.sector_txn.proofs.TransactionRuns.{store_joined}
@@ -10,35 +9,22 @@ use Rattle.block_map.specs.Contents.{ChangesContent}
 use Rattle.block_map.proofs.Wrote.{put_to_directory}
 use Rattle.block_map.proofs.Joins.{sound_after_reads, content_after_reads, content_joined}
 use Rattle.dir_core.specs.Faults.{WhyNotChanged}
-use Rattle.dir_core.proofs.Changing.{allows, slots_there, slots_after_reads, directory_within, directory_limit, found_there, not_there, found_slot, said_by_names, said_by_slots, passed_on, added, names_without}
+use Rattle.dir_core.proofs.Changing.{allows, slots_there, slots_after_reads, directory_within, directory_limit, found_there, said_by_slots, passed_on, added, names_without}
 use Rattle.dir_core.proofs.Taking.{size_of_slots}
 use Rattle.fs_layout.proofs.Versions.{file_bounds}
 use Rattle.dir_core.proofs.change.remove.Goals as goal
 
-pub find_slot-requires-clause-within : goal.find_slot-requires-clause-within
-find_slot-requires-clause-within g c = directory_within c.requires.sound c.requires.below c.requires.inode c.requires.directory.1.kind
-
-pub returns-in_default-clause-why : goal.returns-in_default-clause-why
-returns-in_default-clause-why g c = λ names h.
-    let none = not_there h.slots c.args.name.now h.apart c.in_ok-found.field-0 (c.in_ok-found.ensures.found h.slots (slots_there h)) (ap is_some c.in_default.is) in
-    said_by_names c.args.name.now h none
+pub named_slot-requires-clause-within : goal.named_slot-requires-clause-within
+named_slot-requires-clause-within g c = directory_within c.requires.sound c.requires.below c.requires.inode c.requires.directory.1.kind
 
 pub move_last-requires-clause-sound : goal.move_last-requires-clause-sound
 move_last-requires-clause-sound g c = sound_after_reads c.requires.sound c.in_ok-found.ensures.same
-
-pub move_last-requires-clause-directory : goal.move_last-requires-clause-directory
-move_last-requires-clause-directory g c =
-    let h = c.requires.directory.1 in (
-      h.slots,
-      slots_after_reads c.in_ok-found.ensures.same (slots_there h),
-      (found_slot h.slots c.args.name.now c.in_ok-found.field-0 c.in-Some.found (c.in_ok-found.ensures.found h.slots (slots_there h)) c.in-Some.is).0,
-    )
 
 pub overflow_sub-size : goal.overflow_sub-size
 overflow_sub-size g c =
     let h = c.requires.directory.1 in
     let size = size_of_slots (slots_there h) in
-    let lt = (found_slot h.slots c.args.name.now c.in_ok-found.field-0 c.in-Some.found (c.in_ok-found.ensures.found h.slots (slots_there h)) c.in-Some.is).0 in
+    let lt = (c.in_ok-found.ensures.found h.slots (slots_there h)).0 in
     omega (arith, size, lt)
 
 pub set_size-requires-clause-kind : goal.set_size-requires-clause-kind
@@ -52,7 +38,7 @@ pub set_size-requires-clause-spare : goal.set_size-requires-clause-spare
 set_size-requires-clause-spare g c =
     let few = put_to_directory (c.args.inode.now.size - SLOT_SIZE) (let limit = directory_limit c.requires.sound c.requires.below c.requires.inode c.requires.directory.1.kind in omega (arith, limit)) in
     subst (λ (k : ℕ). HasSpare c.args.place k (g.S.Sectors.state c.move_last.new.s)) (sym few)
-    (spare_then c.args.place 1 3 (g.S.Sectors.state c.find_slot.new.s) (g.S.Sectors.state c.move_last.new.s)
+    (spare_then c.args.place 1 3 (g.S.Sectors.state c.named_slot.new.s) (g.S.Sectors.state c.move_last.new.s)
     (spare_unchanged c.args.place 4 _ _ c.requires.spare c.in_ok-found.ensures.same) c.in_ok-move_last.ensures.change.touches.puts)
 
 pub returns-in_err-set_size-clause-why : goal.returns-in_err-set_size-clause-why
@@ -78,15 +64,14 @@ returns-clause-change g c =
 pub returns-clause-names : goal.returns-clause-names
 returns-clause-names g c = λ names h.
     let name = c.args.name.now in
-    let found = c.in-Some.found in
+    let found = c.in_ok-found.found in
     let x : NamedInode = added name found.inode in
     let v = c.args.inode.now in
-    let is = c.in_ok-found.ensures.found h.slots (slots_there h) in
-    let at = found_slot h.slots name c.in_ok-found.field-0 found is c.in-Some.is in
+    let at = c.in_ok-found.ensures.found h.slots (slots_there h) in
     let mid = slots_after_reads c.in_ok-found.ensures.same (slots_there h) in
     let moved = c.in_ok-move_last.ensures.moved h.slots x mid in
     let r = c.in_ok-set_size.ensures in (
-      λ none. found_there h.slots name h.apart c.in_ok-found.field-0 is (ap is_some c.in-Some.is) (said_by_slots name h none),
+      λ none. found_there h.slots name h.apart (Some found) at refl (said_by_slots name h none),
       names_without h found.slot x at.0 (at.1 x) r.change.fields.kind (r.held (slots_bytes (set h.slots found.slot (get_or h.slots (length h.slots - 1) x))) moved)
           (r.whole c.in_ok-move_last.ensures.whole (omega arith)),
     )

@@ -1,33 +1,19 @@
-use Rattle.std.proofs.Common.{refl, ap}
-use Rattle.std.specs.Prelude.{is_some}
+use Rattle.std.proofs.Common.{Some, refl}
 use Rattle.fs_layout.specs.Directories.{NamedInode}
 use Rattle.block_map.proofs.Joins.{sound_after_reads, content_after_reads}
-use Rattle.dir_core.proofs.Changing.{slots_there, slots_after_reads, directory_within, found_there, not_there, found_slot, found_name, said_by_names, said_by_slots, added, apart_led, names_led}
+use Rattle.dir_core.proofs.Changing.{slots_there, slots_after_reads, directory_within, found_there, found_name, said_by_slots, added, apart_led, names_led}
 use Rattle.dir_core.proofs.change.replace.Goals as goal
 
-pub find_slot-requires-clause-within : goal.find_slot-requires-clause-within
-find_slot-requires-clause-within g c = directory_within c.requires.sound c.requires.below c.requires.inode c.requires.directory.1.kind
-
-pub returns-in_default-clause-why : goal.returns-in_default-clause-why
-returns-in_default-clause-why g c = λ names h.
-    let none = not_there h.slots c.args.name.now h.apart c.in_ok-found.field-0 (c.in_ok-found.ensures.found h.slots (slots_there h)) (ap is_some c.in_default.is) in
-    said_by_names c.args.name.now h none
+pub named_slot-requires-clause-within : goal.named_slot-requires-clause-within
+named_slot-requires-clause-within g c = directory_within c.requires.sound c.requires.below c.requires.inode c.requires.directory.1.kind
 
 pub set_slot-requires-clause-sound : goal.set_slot-requires-clause-sound
 set_slot-requires-clause-sound g c = sound_after_reads c.requires.sound c.in_ok-found.ensures.same
 
-pub set_slot-requires-clause-directory : goal.set_slot-requires-clause-directory
-set_slot-requires-clause-directory g c =
-    let h = c.requires.directory.1 in (
-      h.slots,
-      slots_after_reads c.in_ok-found.ensures.same (slots_there h),
-      (found_slot h.slots c.args.name.now c.in_ok-found.field-0 c.in-Some.found (c.in_ok-found.ensures.found h.slots (slots_there h)) c.in-Some.is).0,
-    )
-
 pub set_slot-requires-clause-name : goal.set_slot-requires-clause-name
 set_slot-requires-clause-name g c =
     let h = c.requires.directory.1 in
-    found_name h.slots c.args.name.now c.in_ok-found.field-0 c.in-Some.found h.each (c.in_ok-found.ensures.found h.slots (slots_there h)) c.in-Some.is
+    found_name h.slots c.args.name.now c.in_ok-found.found h.each (c.in_ok-found.ensures.found h.slots (slots_there h))
 
 pub returns-clause-change : goal.returns-clause-change
 returns-clause-change g c = content_after_reads c.in_ok-found.ensures.same c.in_ok-set_slot.ensures.change
@@ -35,12 +21,11 @@ returns-clause-change g c = content_after_reads c.in_ok-found.ensures.same c.in_
 pub returns-clause-names : goal.returns-clause-names
 returns-clause-names g c = λ names h.
     let name = c.args.name.now in
-    let found = c.in-Some.found in
+    let found = c.in_ok-found.found in
     let x : NamedInode = added name found.inode in
     let y : NamedInode = added name c.args.to in
-    let is = c.in_ok-found.ensures.found h.slots (slots_there h) in
-    let at = found_slot h.slots name c.in_ok-found.field-0 found is c.in-Some.is in
+    let at = c.in_ok-found.ensures.found h.slots (slots_there h) in
     let mid = slots_after_reads c.in_ok-found.ensures.same (slots_there h) in (
-      λ none. found_there h.slots name h.apart c.in_ok-found.field-0 is (ap is_some c.in-Some.is) (said_by_slots name h none),
+      λ none. found_there h.slots name h.apart (Some found) at refl (said_by_slots name h none),
       names_led h found.slot x y at.0 (at.1 x) refl (c.in_ok-set_slot.ensures.slots h.slots mid (apart_led h found.slot x y at.0 (at.1 x) refl)),
     )

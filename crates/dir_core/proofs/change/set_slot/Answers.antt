@@ -1,17 +1,15 @@
 use Rattle.std.proofs.Common.{◌<◌, length, sym, ap, ◌∙◌, arith, rules}
 use Rattle.fs_layout.specs.Directories.{FitsSlot}
 use Rattle.fs_layout.proofs.SlotLaw.{length-slot_bytes}
-use Rattle.dir_core.proofs.Changing.{directory_limit, slot_inside, slot_has_block, slot_written, added}
+use Rattle.dir_core.proofs.Changing.{slot_below, slot_inside, slot_has_block, slot_written, added}
 use Rattle.dir_core.proofs.NamesAfter.{fits_set}
 use Rattle.dir_core.proofs.Taking.{size_of_slots}
 use Rattle.dir_core.proofs.change.set_slot.Goals as goal
 
 pub overflow_mul-at : goal.overflow_mul-at
 overflow_mul-at g c =
-    let h = c.requires.directory.1 in
-    let inside = slot_inside h c.args.slot c.requires.directory.2 in
-    let limit = directory_limit c.requires.sound c.requires.below c.requires.inode h.kind in
-    omega (arith, inside, limit)
+    let below = slot_below c.requires.sound c.requires.below c.requires.inode c.requires.directory.1 c.args.slot c.requires.directory.2 in
+    omega (arith, below)
 
 pub slice_bounds-overwrite-end-2 : goal.slice_bounds-overwrite-end-2
 slice_bounds-overwrite-end-2 g c = sym (ap length c.block_with.ensures ∙ length-slot_bytes (added c.args.name.now c.args.to) c.requires.name.short)
