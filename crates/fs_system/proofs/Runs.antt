@@ -247,35 +247,7 @@ module _ {D : Type 0} (state : D → DiskState) (counts_now : (disk : D) (t : �
         },
       )
 
-  -- one event
-  goes_on : (room : Room) (start : DiskState) (m : Machine) (old new : Config D) (e : Event) (reply : EventReply) → Follows state room start m old
-      → Goes state old e reply new → Next room start m e reply new
-  goes_on room start m old new e reply fs (does before now s t _ r d) = does_on room start m before now s t e r fs d d.is_added
-  goes_on room start m old new e reply fs (is_down disk _ of) = (m, machine.is_down fs.has_config of refl refl, fs)
-  goes_on room start m old new e reply fs (arms_up before now s k same later) = (
-    m,
-    machine.arms k refl refl refl,
-    record {
-      same_room = fs.same_room;
-      has_config = fs.has_config;
-      covers = same_covered room m.trees before now same fs.covers;
-      faults = counted m.faults start (state before) (state now) fs.faults later;
-    },
-  )
-  goes_on room start m old new e reply fs (arms_off before now k same later) = (
-    m,
-    machine.arms k refl refl refl,
-    record {
-      same_room = fs.same_room;
-      has_config = fs.has_config;
-      covers = same_covered room m.trees before now same fs.covers;
-      faults = counted m.faults start (state before) (state now) fs.faults later;
-    },
-  )
-  goes_on room start m old new e reply fs (restarts _ mid now s bytes arm stop d) = mounts_on room start m old mid now s bytes arm fs stop d
-  goes_on room start m old new e reply fs (fails _ mid now fault bytes arm stop d) = mount_fails_on room start m old mid now fault bytes arm fs stop d
-
-  -- the disk lets go of its past
+  -- the disk is another in the same state, or lets go of its past
   forgotten : (room : Room) (start : DiskState) (m : Machine) (old : Config D) (now : D) → Follows state room start m old
       → IsSame (state (device old)) (state now) → (state (device old)).failures ≤ (state now).failures → Follows state room start m (on_disk old now)
   forgotten room start m (Up s before) now fs same later = record {
@@ -290,6 +262,16 @@ module _ {D : Type 0} (state : D → DiskState) (counts_now : (disk : D) (t : �
     covers = same_covered room m.trees before now same fs.covers;
     faults = counted m.faults start (state before) (state now) fs.faults later;
   }
+
+  -- one event
+  goes_on : (room : Room) (start : DiskState) (m : Machine) (old new : Config D) (e : Event) (reply : EventReply) → Follows state room start m old
+      → Goes state old e reply new → Next room start m e reply new
+  goes_on room start m old new e reply fs (does before now s t _ r d) = does_on room start m before now s t e r fs d d.is_added
+  goes_on room start m old new e reply fs (is_down disk _ of) = (m, machine.is_down fs.has_config of refl refl, fs)
+  goes_on room start m old new e reply fs (arms_up before now s k same later) = (m, machine.arms k refl refl refl, forgotten room start m (Up s before) now fs same later)
+  goes_on room start m old new e reply fs (arms_off before now k same later) = (m, machine.arms k refl refl refl, forgotten room start m (Off before) now fs same later)
+  goes_on room start m old new e reply fs (restarts _ mid now s bytes arm stop d) = mounts_on room start m old mid now s bytes arm fs stop d
+  goes_on room start m old new e reply fs (fails _ mid now fault bytes arm stop d) = mount_fails_on room start m old mid now fault bytes arm fs stop d
 
   pub histories_are_runs : HistoriesAreRuns state
   histories_are_runs room start m old new es replies fs (ends _) = (m, refl, fs)
