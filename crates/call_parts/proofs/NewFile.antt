@@ -4,7 +4,7 @@
 --     takes_one, takes_few, room_suffices        there is room: the disk alone can fail
 --     dir_below, apart_from_new, dir_kept, dir_still_held        the directory, once the inode is made
 --     set_group_says, default_is        what a directory gives to what is made in it
-use Rattle.std.specs.Prelude.{◌≡◌, ◌≢◌, ℕ, ◌+◌, ◌%◌, ◌^◌, ◌<◌, ◌≤◌, nat_eq, nat_le, ◌||◌, if◌then◌else◌, Bool, true, false, List, [], length, get_or, Option, None, Some, is_some, IsTrue, ◌/◌, ◌==◌, cond}
+use Rattle.std.specs.Prelude.{◌≡◌, ◌≢◌, ℕ, ◌+◌, ◌%◌, ◌^◌, ◌<◌, ◌≤◌, nat_eq, nat_le, ◌||◌, if◌then◌else◌, Bool, true, false, List, [], length, Option, None, Some, is_some, IsTrue, ◌/◌, ◌==◌, cond}
 use Rattle.std.proofs.Common.{refl, sym, ap, arith, ◌∙◌, inl, inr}
 use Rattle.std.proofs.lemmas.Bool.{or_right, true≢false}
 use Rattle.posix_acl.specs.AccessList.{AccessList, mode_bits}
@@ -14,12 +14,12 @@ use Rattle.fs_layout.specs.declared.inode.Inode.{Inode}
 use Rattle.fs_layout.specs.declared.inode.Kind.TheVariants as kinds
 use Rattle.fs_layout.specs.declared.place.Place.{Place}
 use Rattle.fs_layout.specs.AclSector.{kept_acl}
-use Rattle.fs_layout.specs.Bytes.{SectorMap, zeros}
+use Rattle.fs_layout.specs.Bytes.{SectorMap}
 use Rattle.fs_layout.specs.InodeChanges.{ChangesInode}
-use Rattle.fs_layout.specs.Inode.{FitsInode, inode_fits, free_inode}
+use Rattle.fs_layout.specs.Inode.{FitsInode, free_inode}
 use Rattle.fs_layout.specs.Maps.{name_cmp, get}
 use Rattle.fs_layout.specs.Images.{Holds, bit, inode_at, inode_bitmap, free_sectors}
-use Rattle.fs_layout.proofs.SplicedBytes.{get_or-zeros}
+use Rattle.fs_layout.proofs.UsedInodes.{made_fits}
 use Rattle.fs_layout.proofs.Saves.{inode_kept}
 use Rattle.bit_alloc.specs.declared.bitmap.Bitmap.TheVariants.{Inodes}
 use Rattle.bit_alloc.specs.Bitmaps.{IsFreeNumber}
@@ -67,22 +67,7 @@ abbrev pub new_file : ℕ → ℕ → Inode
 new_file uid gid = record free_inode { kind = kinds.File; uid = uid; gid = gid; names = 1 }
 
 pub file_fits : (uid gid : ℕ) → uid < 2 ^ 32 → gid < 2 ^ 32 → FitsInode (new_file uid gid)
-unfolding inode_fits zeros
-file_fits uid gid small_uid small_gid = record {
-  valid = record { numbers = refl; free = λ e. cc };
-  mode = omega arith;
-  uid = small_uid;
-  gid = small_gid;
-  names = omega arith;
-  size = omega arith;
-  parent = omega arith;
-  acl = omega arith;
-  default_acl = omega arith;
-  direct_len = refl;
-  direct = λ i. let z : get_or free_inode.direct i 0 ≡ 0 = get_or-zeros 12 i in omega (arith, z);
-  indirect = omega arith;
-  double_indirect = omega arith;
-}
+file_fits uid gid small_uid small_gid = made_fits (λ e. cc) refl small_uid small_gid (omega arith) (omega arith)
 
 -- an ACL takes a sector at most
 pub takes_one : (o : Option AccessList) → acl_takes 0 o ≤ 1

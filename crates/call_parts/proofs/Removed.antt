@@ -15,6 +15,7 @@ use Rattle.fs_layout.specs.Directories.{HasNames}
 use Rattle.fs_layout.specs.Images.{bit, free_sectors, inode_at, inode_bitmap}
 use Rattle.fs_layout.specs.Inode.{FitsInode, inode_fits}
 use Rattle.fs_layout.specs.Maps.{name_cmp, get, without}
+use Rattle.fs_layout.proofs.UsedInodes.{used_fits, blocks_fit}
 use Rattle.sector_txn.specs.Sectors.{TxnState, IsUnchanged}
 use Rattle.bit_alloc.specs.Inodes.{Touches, KeepsFields, KeepsAcls}
 use Rattle.bit_alloc.proofs.Transactions.{puts_after}
@@ -93,21 +94,8 @@ fails_to_change p dir name {old} {mid} {v} new e named same is why failed = (
 pub attributes_fit : (v : Inode) (uid gid names parent : ℕ) → FitsInode v → v.kind ≢ kinds.Free → uid < 2 ^ 32 → gid < 2 ^ 32 → names < 2 ^ 32 → parent < 2 ^ 32
     → FitsInode (record v { uid = uid; gid = gid; names = names; parent = parent })
 unfolding inode_fits
-attributes_fit v uid gid names parent fits used owner group count up = record {
-  valid = record { numbers = fits.valid.numbers; free = λ free. absurd (used free) };
-  mode = fits.mode;
-  uid = owner;
-  gid = group;
-  names = count;
-  size = fits.size;
-  parent = up;
-  acl = fits.acl;
-  default_acl = fits.default_acl;
-  direct_len = fits.direct_len;
-  direct = fits.direct;
-  indirect = fits.indirect;
-  double_indirect = fits.double_indirect;
-}
+attributes_fit v uid gid names parent fits used owner group count up =
+    used_fits used fits.valid.numbers fits.mode owner group count fits.size up fits.acl fits.default_acl (blocks_fit fits)
 
 pub counted_fits : (v : Inode) (names : ℕ) → FitsInode v → v.kind ≢ kinds.Free → names < 2 ^ 32 → FitsInode (record v { names = names })
 counted_fits v names fits used few = attributes_fit v v.uid v.gid names v.parent fits used fits.uid fits.gid few fits.parent
