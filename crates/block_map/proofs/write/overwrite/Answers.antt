@@ -1,8 +1,8 @@
-use Rattle.std.proofs.Common.{◌≡◌, ◌+◌, ◌*◌, ◌/◌, ◌%◌, ℕ, sym, subst, ◌∙◌, arith, rules}
+use Rattle.std.proofs.Common.{◌≡◌, ◌≢◌, ◌+◌, ◌*◌, ◌/◌, ◌%◌, ℕ, sym, subst, ◌∙◌, arith, rules}
 use Rattle.fs_layout.specs.Bytes.{IsSector, splice}
 use Rattle.fs_layout.specs.declared.inode.Inode.{Inode}
 use Rattle.block_map.specs.Blocks.{IsWithin}
-use Rattle.fs_layout.specs.Images.{Holds}
+use Rattle.fs_layout.specs.Images.{pointer, Holds}
 use Rattle.block_map.specs.Steps.{MayChange}
 use Rattle.block_map.proofs.Numbers.{number_within}
 use Rattle.block_map.proofs.Overwriting.{used_may_change, loaded_number, over_changes, over_holds, over_whole}
@@ -36,27 +36,31 @@ rewrite-requires-clause-whole g c =
     let is = loaded_number (g.S.Sectors.state c.args.s.now).sectors (c.args.offset / 512) (c.number.ensures (g.S.Sectors.state c.args.s.now).sectors c.in_ok-load.ensures.loaded) (c.in_ok-load.ensures.inode ∙ c.new-blocks.ensures.inode) in
     subst IsSector (sym (c.in_ok-load.ensures.same.sectors c.number.result)) (block_whole (c.args.offset / 512) may is (λ e. c.requires.no_hole (sym is ∙ e)))
 
+-- the block's number, which is some
+number_is : (g : _) (c : goal.In_ok-rewrite g) → c.number.result ≡ pointer (g.S.Sectors.state c.args.s.now).sectors c.args.inode.now (c.args.offset / 512)
+number_is g c =
+    loaded_number (g.S.Sectors.state c.args.s.now).sectors (c.args.offset / 512) (c.number.ensures (g.S.Sectors.state c.args.s.now).sectors c.in_ok-load.ensures.loaded)
+    (c.in_ok-load.ensures.inode ∙ c.new-blocks.ensures.inode)
+
+some_number : (g : _) (c : goal.In_ok-rewrite g) → c.number.result ≢ 0
+some_number g c e = c.requires.no_hole (sym (number_is g c) ∙ e)
+
 pub returns-clause-change : goal.returns-clause-change
 returns-clause-change g c =
-    let is = loaded_number (g.S.Sectors.state c.args.s.now).sectors (c.args.offset / 512) (c.number.ensures (g.S.Sectors.state c.args.s.now).sectors c.in_ok-load.ensures.loaded) (c.in_ok-load.ensures.inode ∙ c.new-blocks.ensures.inode) in
-    over_changes (c.args.offset / 512) (c.args.offset % 512) c.args.bytes.now c.requires.sound c.requires.below c.requires.inode c.requires.used c.in_ok-load.ensures.same (sym is)
-    (λ e. c.requires.no_hole (sym is ∙ e)) c.requires.one_block (λ i. let f = c.type_inv.bytes i in search rules)
-    (let e : 512 * (c.args.offset / 512) + c.args.offset % 512 ≡ c.args.offset = omega arith in omega (arith, e, c.requires.inside))
+    over_changes (c.args.offset / 512) (c.args.offset % 512) c.args.bytes.now c.requires.sound c.requires.below c.requires.inode c.requires.used c.in_ok-load.ensures.same
+    (sym (number_is g c)) (some_number g c) c.requires.one_block (λ i. let f = c.type_inv.bytes i in search rules) (omega (arith, c.requires.inside))
     c.in_ok-rewrite.ensures.written c.in_ok-rewrite.ensures.puts
 
 pub returns-clause-held : goal.returns-clause-held
 returns-clause-held g c = λ held h.
-    let is = loaded_number (g.S.Sectors.state c.args.s.now).sectors (c.args.offset / 512) (c.number.ensures (g.S.Sectors.state c.args.s.now).sectors c.in_ok-load.ensures.loaded) (c.in_ok-load.ensures.inode ∙ c.new-blocks.ensures.inode) in
     let at : 512 * (c.args.offset / 512) + c.args.offset % 512 ≡ c.args.offset = omega arith in
     subst (λ (k : ℕ). Holds (g.S.Sectors.state c.rewrite.new.s).sectors c.args.inode.now (splice held k c.args.bytes.now)) at
-    (over_holds (c.args.offset / 512) (c.args.offset % 512) c.args.bytes.now c.requires.sound c.requires.below c.requires.inode c.requires.used c.in_ok-load.ensures.same (sym is)
-    (λ e. c.requires.no_hole (sym is ∙ e)) c.requires.one_block (λ i. let f = c.type_inv.bytes i in search rules) (omega (arith, at, c.requires.inside))
+    (over_holds (c.args.offset / 512) (c.args.offset % 512) c.args.bytes.now c.requires.sound c.requires.below c.requires.inode c.requires.used c.in_ok-load.ensures.same
+    (sym (number_is g c)) (some_number g c) c.requires.one_block (λ i. let f = c.type_inv.bytes i in search rules) (omega (arith, at, c.requires.inside))
     c.in_ok-rewrite.ensures.written c.in_ok-rewrite.ensures.puts held h)
 
 pub returns-clause-whole : goal.returns-clause-whole
 returns-clause-whole g c =
-    let is = loaded_number (g.S.Sectors.state c.args.s.now).sectors (c.args.offset / 512) (c.number.ensures (g.S.Sectors.state c.args.s.now).sectors c.in_ok-load.ensures.loaded) (c.in_ok-load.ensures.inode ∙ c.new-blocks.ensures.inode) in
-    over_whole (c.args.offset / 512) (c.args.offset % 512) c.args.bytes.now c.requires.sound c.requires.below c.requires.inode c.requires.used c.in_ok-load.ensures.same (sym is)
-    (λ e. c.requires.no_hole (sym is ∙ e)) c.requires.one_block (λ i. let f = c.type_inv.bytes i in search rules)
-    (let e : 512 * (c.args.offset / 512) + c.args.offset % 512 ≡ c.args.offset = omega arith in omega (arith, e, c.requires.inside))
+    over_whole (c.args.offset / 512) (c.args.offset % 512) c.args.bytes.now c.requires.sound c.requires.below c.requires.inode c.requires.used c.in_ok-load.ensures.same
+    (sym (number_is g c)) (some_number g c) c.requires.one_block (λ i. let f = c.type_inv.bytes i in search rules) (omega (arith, c.requires.inside))
     c.in_ok-rewrite.ensures.written c.in_ok-rewrite.ensures.puts
