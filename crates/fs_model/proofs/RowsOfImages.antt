@@ -7,6 +7,7 @@ use Rattle.std.proofs.lemmas.List.Kept.{AllPairs-cons}
 use Rattle.std.proofs.lemmas.List.{get_or_past, get_or_append_left, get_or-append_right}
 use Rattle.posix_acl.specs.Entries.{perms_of}
 use Rattle.posix_acl.specs.AccessList.{AccessList, IsAcl, minimal}
+use Rattle.posix_acl.proofs.Laws.{minimal_valid}
 use Rattle.fs_layout.specs.declared.inode.Kind.TheVariants as kinds
 use Rattle.fs_layout.specs.declared.inode.Inode.{Inode}
 use Rattle.fs_layout.specs.Bytes.{IsBytes, SectorMap, le16, le32, zeros}
@@ -207,9 +208,6 @@ directory_has_a_block = one_block image directory_inode 149 (slots_bytes slots) 
 abbrev two_names : Directory
 two_names = record { names = (codes "a", 2) ∷ (codes "b", 3) ∷ []; default = None; set_group_id = true; sticky = true }
 
-minimal_is_valid : IsAcl (minimal 0o755)
-minimal_is_valid = record { users = tt; user_ids = tt; groups = tt; group_ids = tt; masked = λ lt. absurd (omega (arith, lt)); few = omega arith }
-
 a_directory_with_two_names : HoldsNode image directory_inode (record { node = record { owner = 0; group = 0; body = Dir (minimal 0o755) two_names }; names = 1; parent = 1 })
 unfolding directory_inode with_block names_of_slots zeros
 a_directory_with_two_names = node_held image directory_inode _ refl refl refl refl refl (record {
@@ -222,7 +220,7 @@ a_directory_with_two_names = node_held image directory_inode _ refl refl refl re
     holds = one_block_holds image directory_inode 149 (slots_bytes slots) directory_has_a_block;
     whole = one_block_is_whole image directory_inode 149 (slots_bytes slots) directory_has_a_block;
   };
-  acl = minimal_is_valid;
+  acl = minimal_valid 0o755;
   default = tt;
   has_acl = refl;
   has_default = refl;

@@ -4,7 +4,7 @@ use Rattle.std.proofs.Common.{refl, sym, ap, ◌∙◌}
 use Rattle.std.specs.Option.{option_map}
 use Rattle.std.proofs.lemmas.List.{length-replicate}
 use Rattle.std.proofs.lemmas.List.Sums.{sum_by-cons}
-use Rattle.fs_model.specs.Nodes.{Node, Body, File, Dir, Link, bytes_in, shown_mode, shown_size, type_of, acl_in, default_in}
+use Rattle.fs_model.specs.Nodes.{Node, Body, File, bytes_in, shown_mode, shown_size, type_of, acl_in, default_in}
 use Rattle.fs_model.specs.Trees.{Tree, node_at, names_of, names_for, parent, is_within}
 use Rattle.fs_model.specs.Processes.{Process, cwd_of}
 use Rattle.fs_model.specs.Limits.{root}
@@ -16,7 +16,7 @@ use Rattle.fs_model.specs.Walks.{found_of, first_refusal}
 use Rattle.fs_model.specs.Parts.{parts_of, start_of}
 use Rattle.fs_model.specs.Scenes.{Scene, Row}
 use Rattle.fs_model.specs.Steps.{walk_refusals, found_by, first_found, second_found, scene_of, trail_in}
-use Rattle.fs_model.proofs.Veils.{parent-veil, veiled, veil, names_in-blotted, node_at-veil, trail_of-veil, first_refusal-veil}
+use Rattle.fs_model.proofs.Veils.{same-blotted, parent-veil, veiled, veil, names_in-blotted, node_at-veil, trail_of-veil, first_refusal-veil}
 
 -- ---- states
 
@@ -27,9 +27,7 @@ abbrev pub veiled_scene : Scene → Scene
 veiled_scene c = record c { state = veiled_state c.state }
 
 pub twice-blotted : (b : Body) → blotted (blotted b) ≡ blotted b
-twice-blotted (File a bytes) = ap (λ n. File a (replicate n 0)) (length-replicate (length bytes) 0)
-twice-blotted (Dir a d) = refl
-twice-blotted (Link target) = refl
+twice-blotted = same-blotted blotted (λ a bytes. ap (λ n. File a (replicate n 0)) (length-replicate (length bytes) 0))
 
 pub veiled-seen : (p : Process) (n : ℕ) (node : Node) → veiled (node_seen p n node) ≡ veiled node
 veiled-seen p n node = go (sees_into p n node)
@@ -95,34 +93,22 @@ names_of-veil (e ∷ t) n =
     ∙ sym (sum_by-cons f e t)
 
 pub type_of-blotted : (b : Body) → type_of (blotted b) ≡ type_of b
-type_of-blotted (File a bytes) = refl
-type_of-blotted (Dir a d) = refl
-type_of-blotted (Link target) = refl
+type_of-blotted = same-blotted type_of (λ a bytes. refl)
 
 pub shown_mode-blotted : (b : Body) → shown_mode (blotted b) ≡ shown_mode b
-shown_mode-blotted (File a bytes) = refl
-shown_mode-blotted (Dir a d) = refl
-shown_mode-blotted (Link target) = refl
+shown_mode-blotted = same-blotted shown_mode (λ a bytes. refl)
 
 pub shown_size-blotted : (b : Body) → shown_size (blotted b) ≡ shown_size b
-shown_size-blotted (File a bytes) = length-replicate (length bytes) 0
-shown_size-blotted (Dir a d) = refl
-shown_size-blotted (Link target) = refl
+shown_size-blotted = same-blotted shown_size (λ a bytes. length-replicate (length bytes) 0)
 
 pub size-blotted : (b : Body) → length (bytes_in (blotted b)) ≡ length (bytes_in b)
-size-blotted (File a bytes) = length-replicate (length bytes) 0
-size-blotted (Dir a d) = refl
-size-blotted (Link target) = refl
+size-blotted = same-blotted (λ (b : Body). length (bytes_in b)) (λ a bytes. length-replicate (length bytes) 0)
 
 pub acl_in-blotted : (b : Body) → acl_in (blotted b) ≡ acl_in b
-acl_in-blotted (File a bytes) = refl
-acl_in-blotted (Dir a d) = refl
-acl_in-blotted (Link target) = refl
+acl_in-blotted = same-blotted acl_in (λ a bytes. refl)
 
 pub default_in-blotted : (b : Body) → default_in (blotted b) ≡ default_in b
-default_in-blotted (File a bytes) = refl
-default_in-blotted (Dir a d) = refl
-default_in-blotted (Link target) = refl
+default_in-blotted = same-blotted default_in (λ a bytes. refl)
 
 pub is_within-veil : (far : ℕ) (t : Tree) (m d : ℕ) → is_within far (veil t) m d ≡ is_within far t m d
 is_within-veil zero t m d = refl

@@ -13,6 +13,7 @@ use Rattle.fs_cred.specs.declared.errno.Errno.TheVariants.{ENOTDIR, ENAMETOOLONG
 use Rattle.fs_cred.specs.Credentials.{Credential}
 use Rattle.fs_model.specs.Demands.{refuse, or_else, failed_with, accessed_at, permission_of, permission_on, search_of, search_on}
 use Rattle.fs_model.specs.Walks.{least_refusal, first_refusal, lookup_refusal, slash_refusal, is_nondirectory, is_nondirectory_node, is_parent_form}
+use Rattle.posix_acl.specs.AccessList.{AccessList}
 use Rattle.posix_acl.specs.declared.entry.Perms.{Perms}
 use Rattle.std.specs.Prelude.{option_and_then}
 use Rattle.fs_model.specs.Trails.{Lookup, follows_last}
@@ -28,30 +29,26 @@ veil t = map (λ e. (e.0, veiled e.1)) t
 
 -- ---- bodies
 
+-- what says nothing of a file's bytes is the same of a body with bytes made zero
+pub same-blotted : {X : Type 0} (f : Body → X) → ((a : AccessList) (bytes : List ℕ) → f (blotted (File a bytes)) ≡ f (File a bytes)) → (b : Body) → f (blotted b) ≡ f b
+same-blotted f file (File a bytes) = file a bytes
+same-blotted f file (Dir a d) = refl
+same-blotted f file (Link target) = refl
+
 pub names_in-blotted : (b : Body) → names_in (blotted b) ≡ names_in b
-names_in-blotted (File a bytes) = refl
-names_in-blotted (Dir a d) = refl
-names_in-blotted (Link target) = refl
+names_in-blotted = same-blotted names_in (λ a bytes. refl)
 
 pub directory_in-blotted : (b : Body) → directory_in (blotted b) ≡ directory_in b
-directory_in-blotted (File a bytes) = refl
-directory_in-blotted (Dir a d) = refl
-directory_in-blotted (Link target) = refl
+directory_in-blotted = same-blotted directory_in (λ a bytes. refl)
 
 pub is_link-blotted : (b : Body) → is_link (blotted b) ≡ is_link b
-is_link-blotted (File a bytes) = refl
-is_link-blotted (Dir a d) = refl
-is_link-blotted (Link target) = refl
+is_link-blotted = same-blotted is_link (λ a bytes. refl)
 
 pub target_in-blotted : (b : Body) → target_in (blotted b) ≡ target_in b
-target_in-blotted (File a bytes) = refl
-target_in-blotted (Dir a d) = refl
-target_in-blotted (Link target) = refl
+target_in-blotted = same-blotted target_in (λ a bytes. refl)
 
 pub accessed-blotted : (u g : ℕ) (b : Body) → accessed_body u g (blotted b) ≡ accessed_body u g b
-accessed-blotted u g (File a bytes) = refl
-accessed-blotted u g (Dir a d) = refl
-accessed-blotted u g (Link target) = refl
+accessed-blotted u g = same-blotted (accessed_body u g) (λ a bytes. refl)
 
 -- ---- nodes of a tree
 
