@@ -1,5 +1,5 @@
 -- What a trail finds is in the tree.
-use Rattle.std.specs.Prelude.{◌≡◌, ◌≢◌, ℕ, zero, suc, nat_lt, Bool, true, false, not, ◌&&◌, ◌||◌, cond, List, [], ◌∷◌, ◌++◌, Option, None, Some, is_some, IsTrue}
+use Rattle.std.specs.Prelude.{◌≡◌, ◌≢◌, ℕ, nat_lt, Bool, true, false, not, ◌||◌, cond, List, [], ◌∷◌, Option, None, Some, is_some, IsTrue}
 use Rattle.std.proofs.Common.{refl, ap, ◌∙◌, subst, inl, inr}
 use Rattle.std.proofs.lemmas.Bool.{cases_eq}
 use Rattle.std.specs.Ordering.{nat_cmp}
@@ -7,11 +7,12 @@ use Rattle.fs_model.specs.Limits.{root, links_limit}
 use Rattle.fs_layout.specs.Maps.{get, name_cmp, IsMap}
 use Rattle.fs_model.specs.Nodes.{Node, Body, File, Dir, Link, names_in}
 use Rattle.fs_model.specs.Trees.{Tree, Room, node_at, names_for, parent, IsTree, IsBody}
-use Rattle.fs_model.specs.Parts.{Parts, parts_of, start_of, is_empty}
+use Rattle.fs_model.specs.Parts.{Parts, parts_of, start_of}
 use Rattle.fs_model.specs.declared.walk.Form.{Form}
-use Rattle.fs_model.specs.Trails.{Trail, Outcome, Faulty, Absent, Reaches, Through, GoesOn, reached, reached_body, named_inode, arrival, looked_up, is_dot, is_dot_dot, onward, through_if, lookups_from, trail_with, trail_of, follows_last}
+use Rattle.fs_model.specs.Trails.{Outcome, Reaches, reached, reached_body, named_inode, arrival, looked_up, is_dot, is_dot_dot, trail_of, follows_last}
 use Rattle.fs_layout.proofs.FirstEntries.{at_same, at_other, right}
 use Rattle.fs_model.proofs.LookedUp.{looked_up_is}
+use Rattle.fs_model.proofs.TrailFinds.{finds_such}
 
 abbrev pub IsThere : Tree → ℕ → Type 0
 IsThere t n = IsTrue (is_some (node_at t n))
@@ -89,43 +90,10 @@ module _ (room : Room) (t : Tree) (is : IsTree room t) where
       arrival_reached is_last follow (named_inode t dir (names_in node.body) name) (λ n f. number_there dir node name n (at ∙ e) f))
 
   -- what the trail found is there
-  abbrev pub FindsThere : Trail → Type 0
-  FindsThere trail = (n : ℕ) → trail.found ≡ Some n → IsThere t n
-
-  abbrev GoesThere : Option GoesOn → Type 0
-  GoesThere None = Unit {0}
-  GoesThere (Some go_on) = (dir : ℕ) (names : List (List ℕ)) (slash : Bool) → IsThere t dir → FindsThere (go_on dir names slash)
-
-  through_there : (behind : Option GoesOn) (dir : ℕ) (name : List ℕ) (names : List (List ℕ)) (slash : Bool) (target : List ℕ)
-      → GoesThere behind → IsThere t dir → FindsThere (through_if behind dir name names slash target)
-  through_there None dir name names slash target h there n e = absurd cc
-  through_there (Some go_on) dir name names slash target h there n e =
-      h (start_of (parts_of target) dir) ((parts_of target).names ++ names) (slash || (is_empty names && (parts_of target).slash_at_end)) (start_there (parts_of target) dir there) n e
-
-  onward_there : (behind : Option GoesOn) (rest : ℕ → Trail) (dir : ℕ) (name : List ℕ) (names : List (List ℕ)) (slash : Bool) (o : Outcome)
-      → GoesThere behind → IsThere t dir → Reached o → ((n : ℕ) → IsThere t n → FindsThere (rest n)) → FindsThere (onward behind rest dir name names slash o)
-  onward_there behind rest dir name names slash (Faulty f) h there r more n e = absurd cc
-  onward_there behind rest dir name names slash Absent h there r more n e = absurd cc
-  onward_there behind rest dir name names slash (Reaches k) h there r more n e = more k r n e
-  onward_there behind rest dir name names slash (Through target) h there r more n e = through_there behind dir name names slash target h there n e
-
-  names_there : (follow : Bool) (behind : Option GoesOn) (dir : ℕ) (names : List (List ℕ)) (slash : Bool) → GoesThere behind → IsThere t dir
-      → FindsThere (lookups_from t follow behind dir names slash)
-  names_there follow behind dir [] slash h there n e = let same : dir ≡ n = cc in subst (IsThere t) same there
-  names_there follow behind dir (name ∷ names) slash h there n e =
-      onward_there behind (λ k. lookups_from t follow behind k names slash) dir name names slash
-      (looked_up t (is_empty names) follow dir name (node_at t dir)) h there
-      (lookup_reached (is_empty names) follow dir name (node_at t dir) refl)
-      (λ k found. names_there follow behind k names slash h found) n e
-
-  links_there : (follow : Bool) (links dir : ℕ) (names : List (List ℕ)) (slash : Bool) → IsThere t dir
-      → FindsThere (trail_with t follow links dir names slash)
-  links_there follow zero dir names slash there = names_there follow None dir names slash tt there
-  links_there follow (suc links) dir names slash there =
-      names_there follow (Some (trail_with t follow links)) dir names slash (λ p ns s h. links_there follow links p ns s h) there
-
-  pub finds_are_there : (cwd : ℕ) (form : Form) (path : List ℕ) → IsThere t cwd → FindsThere (trail_of t cwd form path)
+  pub finds_are_there : (cwd : ℕ) (form : Form) (path : List ℕ) → IsThere t cwd → (n : ℕ) → (trail_of t cwd form path).found ≡ Some n → IsThere t n
   unfolding trail_of
   finds_are_there cwd form path there =
       let parts = parts_of path in
-      links_there (follows_last form parts) links_limit (start_of parts cwd) parts.names parts.slash_at_end (start_there parts cwd there)
+      let follow = follows_last form parts in
+      finds_such t (IsThere t) start_there follow (λ is_last dir name at. lookup_reached is_last follow dir name (node_at t dir) refl) links_limit
+      (start_of parts cwd) parts.names parts.slash_at_end (start_there parts cwd there)

@@ -1,13 +1,14 @@
 -- What a trail finds that follows a link at its end is no link.
-use Rattle.std.specs.Prelude.{◌≡◌, ℕ, zero, suc, Bool, true, false, ◌&&◌, ◌||◌, cond, List, [], ◌∷◌, ◌++◌, Option, None, Some}
-use Rattle.std.proofs.Common.{refl, sym, ap, ◌∙◌, subst}
+use Rattle.std.specs.Prelude.{◌≡◌, ℕ, Bool, true, false, cond, List, Option, None, Some}
+use Rattle.std.proofs.Common.{refl, sym, ap, ◌∙◌}
 use Rattle.fs_model.specs.Limits.{root, links_limit}
 use Rattle.fs_model.specs.Nodes.{Node, Body, File, Dir, Link, is_directory, is_link, names_in}
 use Rattle.fs_model.specs.Trees.{Tree, Room, node_at, IsTree, IsDirectoryAt}
-use Rattle.fs_model.specs.Parts.{Parts, parts_of, start_of, is_empty}
+use Rattle.fs_model.specs.Parts.{Parts, parts_of, start_of}
 use Rattle.fs_model.specs.declared.walk.Form.TheVariants.{Follow}
-use Rattle.fs_model.specs.Trails.{Trail, Outcome, Faulty, Absent, Reaches, Through, GoesOn, reached, reached_body, named_inode, arrival, looked_up, onward, through_if, lookups_from, trail_with, trail_of}
+use Rattle.fs_model.specs.Trails.{Outcome, Reaches, reached, reached_body, named_inode, arrival, looked_up, trail_of}
 use Rattle.fs_model.proofs.LookedUp.{looked_up_is}
+use Rattle.fs_model.proofs.TrailFinds.{finds_such}
 
 -- no link stands at n
 abbrev pub NoLink : Tree → ℕ → Type 0
@@ -58,42 +59,9 @@ module _ (room : Room) (t : Tree) (is : IsTree room t) where
   lookup_reached is_last dir name o =
       looked_up_is Reached t is_last true dir name o tt tt (λ node e. arrival_reached is_last (named_inode t dir (names_in node.body) name))
 
-  abbrev FindsNone : Trail → Type 0
-  FindsNone trail = (n : ℕ) → trail.found ≡ Some n → NoLink t n
-
-  abbrev GoesWithout : Option GoesOn → Type 0
-  GoesWithout None = Unit {0}
-  GoesWithout (Some go_on) = (dir : ℕ) (names : List (List ℕ)) (slash : Bool) → NoLink t dir → FindsNone (go_on dir names slash)
-
-  through_none : (behind : Option GoesOn) (dir : ℕ) (name : List ℕ) (names : List (List ℕ)) (slash : Bool) (target : List ℕ)
-      → GoesWithout behind → NoLink t dir → FindsNone (through_if behind dir name names slash target)
-  through_none None dir name names slash target h none n e = absurd cc
-  through_none (Some go_on) dir name names slash target h none n e =
-      h (start_of (parts_of target) dir) ((parts_of target).names ++ names) (slash || (is_empty names && (parts_of target).slash_at_end)) (start_no_link (parts_of target) dir none) n e
-
-  onward_none : (behind : Option GoesOn) (rest : ℕ → Trail) (dir : ℕ) (name : List ℕ) (names : List (List ℕ)) (slash : Bool) (o : Outcome)
-      → GoesWithout behind → NoLink t dir → Reached o → ((n : ℕ) → NoLink t n → FindsNone (rest n)) → FindsNone (onward behind rest dir name names slash o)
-  onward_none behind rest dir name names slash (Faulty f) h none r more n e = absurd cc
-  onward_none behind rest dir name names slash Absent h none r more n e = absurd cc
-  onward_none behind rest dir name names slash (Reaches k) h none r more n e = more k r n e
-  onward_none behind rest dir name names slash (Through target) h none r more n e = through_none behind dir name names slash target h none n e
-
-  names_none : (behind : Option GoesOn) (dir : ℕ) (names : List (List ℕ)) (slash : Bool) → GoesWithout behind → NoLink t dir
-      → FindsNone (lookups_from t true behind dir names slash)
-  names_none behind dir [] slash h none n e = let same : dir ≡ n = cc in subst (NoLink t) same none
-  names_none behind dir (name ∷ names) slash h none n e =
-      onward_none behind (λ k. lookups_from t true behind k names slash) dir name names slash
-      (looked_up t (is_empty names) true dir name (node_at t dir)) h none
-      (lookup_reached (is_empty names) dir name (node_at t dir))
-      (λ k found. names_none behind k names slash h found) n e
-
-  links_none : (links dir : ℕ) (names : List (List ℕ)) (slash : Bool) → NoLink t dir → FindsNone (trail_with t true links dir names slash)
-  links_none zero dir names slash none = names_none None dir names slash tt none
-  links_none (suc links) dir names slash none =
-      names_none (Some (trail_with t true links)) dir names slash (λ p ns s h. links_none links p ns s h) none
-
   pub followed_no_link : (cwd : ℕ) (path : List ℕ) → IsDirectoryAt t cwd → (n : ℕ) → (trail_of t cwd Follow path).found ≡ Some n → NoLink t n
   unfolding trail_of
   followed_no_link cwd path d =
       let parts = parts_of path in
-      links_none links_limit (start_of parts cwd) parts.names parts.slash_at_end (start_no_link parts cwd (directory_no_link t cwd d))
+      finds_such t (NoLink t) start_no_link true (λ is_last dir name at. lookup_reached is_last dir name (node_at t dir)) links_limit
+      (start_of parts cwd) parts.names parts.slash_at_end (start_no_link parts cwd (directory_no_link t cwd d))

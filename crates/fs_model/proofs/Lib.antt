@@ -84,6 +84,7 @@ pub mod StoredTrees
 pub mod Summaries
 pub mod Swept
 pub mod Taken
+pub mod TrailFinds
 pub mod Unchanged
 pub mod Upgraded
 pub mod VeiledDemands
