@@ -7,12 +7,8 @@ pub returns-in-Ok-clause-found : goal.returns-in-Ok-clause-found
 returns-in-Ok-clause-found g c = λ a has.
     told_by_mode (g.S.Sectors.state c.args.s.now).sectors c.args.inode.now a c.in-Ok.acl has c.if-inode-eq0.true c.in-Ok.ensures.ok
 
-pub get-requires-clause-part : goal.get-requires-clause-part
-get-requires-clause-part g c =
+pub get-requires : goal.get-requires
+get-requires g c =
     let there = c.requires.there in
-    inr (data_mapped c.requires.sound (acl_in_data c.requires.sound there.1 (ap (λ (u : Inode). u.acl) there.2) c.if-inode-eq0.false)).0
-
-pub get-requires-clause-on_disk : goal.get-requires-clause-on_disk
-get-requires-clause-on_disk g c =
-    let there = c.requires.there in
-    (data_mapped c.requires.sound (acl_in_data c.requires.sound there.1 (ap (λ (u : Inode). u.acl) there.2) c.if-inode-eq0.false)).1
+    let mapped = data_mapped c.requires.sound (acl_in_data c.requires.sound there.1 (ap (λ (u : Inode). u.acl) there.2) c.if-inode-eq0.false) in
+    record { part = inr mapped.0; on_disk = mapped.1 }
