@@ -2,76 +2,34 @@
 use Rattle.std.proofs.Common.{◌≡◌, ℕ, zero, suc, ◌+◌, ◌-◌, ◌/◌, ◌<◌, ◌≤◌, Bool, true, false, cond, refl, ap, ◌∙◌, arith}
 use Rattle.std.specs.Prelude.{nat_eq, nat_lt, if◌then◌else◌, count_by}
 use Rattle.std.specs.List.{range_with_len}
-use Rattle.std.proofs.lemmas.List.Sums.{sum_by-cons}
 use Rattle.std.proofs.lemmas.Bool.{lt-ltb, le-ltb}
 use Rattle.fs_layout.specs.declared.inode.Inode.{Inode}
 use Rattle.fs_layout.specs.Bytes.{SectorMap}
 use Rattle.fs_layout.specs.declared.inode.TheConstants.{DIRECT_BLOCKS, MAX_BLOCKS, SECTOR_POINTERS}
 use Rattle.fs_layout.specs.Images.{own_count, holder, number_on}
 use Rattle.fs_layout.specs.Lacking.{lacks_from}
+use Rattle.fs_layout.proofs.Counting.{one_if, count_cons, count_split, count_at_most}
 use Rattle.block_map.specs.Steps.{lack, lacks_on, holes, lacks_above, lacks_pointers, blocks_to, taken_by}
-
-one_if : Bool → ℕ
-one_if b = cond b 1 0
-
-one_at_most : (b : Bool) → one_if b ≤ 1
-unfolding one_if
-one_at_most true = omega arith
-one_at_most false = omega arith
-
-count_cons : (f : ℕ → Bool) (a n : ℕ) → count_by f (range_with_len a (suc n)) ≡ one_if (f a) + count_by f (range_with_len (a + 1) n)
-unfolding one_if
-count_cons f a n = sum_by-cons (λ (x : ℕ). cond (f x) 1 0) a (range_with_len (a + 1) n)
-
--- one number more
-count_more : (f : ℕ → Bool) (a n : ℕ) → count_by f (range_with_len a (suc n)) ≡ count_by f (range_with_len a n) + one_if (f (a + n))
-count_more f a zero =
-    let e : a ≡ a + 0 = omega arith in
-    let here : one_if (f a) ≡ one_if (f (a + 0)) = ap (λ (k : ℕ). one_if (f k)) e in
-    let one : count_by f (range_with_len a (suc zero)) ≡ one_if (f a) + 0 = count_cons f a 0 in
-    one ∙ omega (arith, here)
-count_more f a (suc n) =
-    let rest : count_by f (range_with_len (a + 1) (suc n)) ≡ count_by f (range_with_len (a + 1) n) + one_if (f (a + 1 + n)) = count_more f (a + 1) n in
-    let e : a + 1 + n ≡ a + suc n = omega arith in
-    let last : one_if (f (a + 1 + n)) ≡ one_if (f (a + suc n)) = ap (λ (k : ℕ). one_if (f k)) e in
-    let here = count_cons f a n in
-    count_cons f a (suc n) ∙ omega (arith, rest, last, here)
-
--- no more than there are numbers
-count_few : (f : ℕ → Bool) (a n : ℕ) → count_by f (range_with_len a n) ≤ n
-count_few f a zero = omega arith
-count_few f a (suc n) = let rest = count_few f (a + 1) n in let here = count_cons f a n in let one = one_at_most (f a) in omega (arith, rest, here, one)
-
--- and the more numbers, the more
-count_on : (f : ℕ → Bool) (a n more : ℕ) → count_by f (range_with_len a n) ≤ count_by f (range_with_len a (n + more))
-count_on f a n zero =
-    let none : n + 0 ≡ n = omega arith in
-    let e : count_by f (range_with_len a (n + 0)) ≡ count_by f (range_with_len a n) = ap (λ (k : ℕ). count_by f (range_with_len a k)) none in
-    omega (arith, e)
-count_on f a n (suc more) =
-    let so_far = count_on f a n more in
-    let one = count_more f a (n + more) in
-    let next : suc (n + more) ≡ n + suc more = omega arith in
-    let e : count_by f (range_with_len a (suc (n + more))) ≡ count_by f (range_with_len a (n + suc more)) = ap (λ (k : ℕ). count_by f (range_with_len a k)) next in
-    omega (arith, so_far, one, e)
 
 -- one number more
 pub lacks_more : (image : SectorMap) (v : Inode) (level first n : ℕ) → lacks_on image v level first (n + 1) ≡ lacks_on image v level first n + lack image v level (first + n)
 unfolding one_if
 lacks_more image v level first n =
-    let next : n + 1 ≡ suc n = omega arith in
-    ap (λ (k : ℕ). lacks_on image v level first k) next ∙ count_more (λ k. nat_eq (number_on image v level k) 0) first n
+    let f : ℕ → Bool = λ k. nat_eq (number_on image v level k) 0 in
+    let one : count_by f (range_with_len (first + n) 1) ≡ lack image v level (first + n) + 0 = count_cons f (first + n) 0 in
+    omega (arith, count_split f first n 1, one)
 
+-- and the more numbers, the more
 pub lacks_further : (image : SectorMap) (v : Inode) (level first n m : ℕ) → n ≤ m → lacks_on image v level first n ≤ lacks_on image v level first m
 lacks_further image v level first n m le =
-    let on = count_on (λ k. nat_eq (number_on image v level k) 0) first n (m - n) in
+    let on = count_split (λ k. nat_eq (number_on image v level k) 0) first n (m - n) in
     let all : n + (m - n) ≡ m = omega (arith, le) in
     let e : lacks_on image v level first (n + (m - n)) ≡ lacks_on image v level first m = ap (λ (k : ℕ). lacks_on image v level first k) all in
     omega (arith, on, e)
 
 -- no more than there are numbers
 pub lacks_few : (image : SectorMap) (v : Inode) (level first n : ℕ) → lacks_on image v level first n ≤ n
-lacks_few image v level first n = count_few (λ k. nat_eq (number_on image v level k) 0) first n
+lacks_few image v level first n = count_at_most (λ k. nat_eq (number_on image v level k) 0) first n
 
 -- and as many where each number is the same
 pub lacks_same : (old new : SectorMap) (v w : Inode) (level : ℕ) → ((i : ℕ) → number_on new w level i ≡ number_on old v level i) → (first n : ℕ)
