@@ -11,11 +11,19 @@ use Rattle.fuse_state.specs.Servers.{Server, first_of, has_credential, is_same_c
 use Rattle.fuse_state.proofs.Searched.{found_each}
 
 -- what `map` makes of what was found
-pub mapped : {A B C : Type 0} (v : A → B) (h : B → C) (P : A → C → Type 0) (o : Option A) (m : Option C) → ((x : A) (y : C) → P x y → y ≡ h (v x))
+mapped : {A B C : Type 0} (v : A → B) (h : B → C) (P : A → C → Type 0) (o : Option A) (m : Option C) → ((x : A) (y : C) → P x y → y ≡ h (v x))
     → MatchOption o (m ≡ None) (λ x. IsSomeAnd m (P x)) → m ≡ option_map h (option_map v o)
 mapped v h P None m says is = is
 mapped v h P (Some x) None says is = absurd is
 mapped v h P (Some x) (Some y) says is = ap Some (says x y is)
+
+-- the key of the entry that was found
+pub key-found : {A X : Type 0} (v : A → ℕ × X) (P : A → ℕ → Type 0) (test : ℕ × X → Bool) (o : Option A) (k : Option ℕ) {shown kept : List (ℕ × X)}
+    → ((x : A) (y : ℕ) → P x y → y ≡ (v x).0) → MatchOption o (k ≡ None) (λ x. IsSomeAnd k (P x)) → option_map v o ≡ find test shown → shown ≡ kept
+    → k ≡ option_map (λ e. e.0) (find test kept)
+key-found {A} {X} v P test o k says cases found same =
+    mapped v (λ (e : ℕ × X). e.0) P o k says cases
+    ∙ (ap (option_map (λ (e : ℕ × X). e.0)) found ∙ ap (λ (m : List (ℕ × X)). option_map (λ e. e.0) (find test m)) same)
 
 module _ {X : Type 0} where
   abbrev pub keys : List (ℕ × X) → List ℕ

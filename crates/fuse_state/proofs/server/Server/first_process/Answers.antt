@@ -1,12 +1,11 @@
-use Rattle.std.proofs.Common.{ℕ, ◌∙◌, ap, option_map, rules, tests, subst}
+use Rattle.std.proofs.Common.{ℕ, ◌∙◌, ap, rules, tests, subst}
 use Rattle.std.proofs.lemmas.Iterator.{YieldsList-from_slice}
 use Rattle.std.proofs.lemmas.Iterator.Search.{find_from_yields_List}
-use Rattle.std.specs.List.{find}
 use Rattle.std.specs.Ordering.{nat_cmp}
 use Rattle.fs_cred.specs.Credentials.{Credential}
 use Rattle.fs_layout.specs.Maps.{IsMap}
 use Rattle.fuse_state.specs.Servers.{is_same_credential}
-use Rattle.fuse_state.proofs.Chosen.{mapped, first_found}
+use Rattle.fuse_state.proofs.Chosen.{key-found, first_found}
 use Rattle.fuse_state.proofs.server.Server.first_process.Goals as goal
 
 pub returns : goal.returns
@@ -16,7 +15,4 @@ returns c =
     let same = c.entries.ensures.all ∙ ap (λ k. k.server.processes) c.self.view_is in
     let found = find_from_yields_List test _ _ c.find.result c.find.ensures.ran (YieldsList-from_slice c.entries.result.now c.iter.ensures.rest) (λ x b f called. search (rules, tests)) in
     let rising = subst (λ k. IsMap nat_cmp k.server.processes) c.self.view_is c.entries.ensures.rising in
-    mapped (λ y. y.now) (λ e. e.0) _ c.find.result c.map.result (λ x y said. search rules) c.map.ensures.cases
-    ∙ ap (option_map (λ e. e.0)) found
-    ∙ ap (λ m. option_map (λ e. e.0) (find test m)) same
-    ∙ first_found s c.args.cred.now rising
+    key-found (λ y. y.now) _ test c.find.result c.map.result (λ x y said. search rules) c.map.ensures.cases found same ∙ first_found s c.args.cred.now rising

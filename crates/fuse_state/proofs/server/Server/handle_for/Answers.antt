@@ -1,8 +1,7 @@
-use Rattle.std.proofs.Common.{ℕ, ◌==◌, ◌∙◌, ap, option_map, rules, tests}
+use Rattle.std.proofs.Common.{ℕ, ◌==◌, ◌∙◌, ap, rules, tests}
 use Rattle.std.proofs.lemmas.Iterator.{YieldsList-from_slice}
 use Rattle.std.proofs.lemmas.Iterator.Search.{find_from_yields_List}
-use Rattle.std.specs.List.{find}
-use Rattle.fuse_state.proofs.Chosen.{mapped, handle_found}
+use Rattle.fuse_state.proofs.Chosen.{key-found, handle_found}
 use Rattle.fuse_state.proofs.server.Server.handle_for.Goals as goal
 
 pub returns : goal.returns
@@ -11,7 +10,4 @@ returns c =
     let test = λ (e : ℕ × ℕ). e.1 == c.args.inode in
     let same = c.entries.ensures.all ∙ ap (λ k. k.server.handles) c.self.view_is in
     let found = find_from_yields_List test _ _ c.find.result c.find.ensures.ran (YieldsList-from_slice c.entries.result.now c.iter.ensures.rest) (λ x b f called. search (rules, tests)) in
-    mapped (λ y. y.now) (λ e. e.0) _ c.find.result c.map.result (λ x y said. search rules) c.map.ensures.cases
-    ∙ ap (option_map (λ e. e.0)) found
-    ∙ ap (λ m. option_map (λ e. e.0) (find test m)) same
-    ∙ handle_found s c.args.inode
+    key-found (λ y. y.now) _ test c.find.result c.map.result (λ x y said. search rules) c.map.ensures.cases found same ∙ handle_found s c.args.inode

@@ -1,10 +1,9 @@
-use Rattle.std.proofs.Common.{ℕ, ◌&&◌, not, nat_le, ◌∙◌, ap, option_map, rules, tests}
+use Rattle.std.proofs.Common.{ℕ, ◌&&◌, not, nat_le, ◌∙◌, ap, rules, tests}
 use Rattle.std.proofs.lemmas.Iterator.{YieldsList-from_slice}
 use Rattle.std.proofs.lemmas.Iterator.Search.{find_from_yields_List}
-use Rattle.std.specs.List.{find}
 use Rattle.fs_cred.specs.Credentials.{Credential}
 use Rattle.fuse_state.specs.Servers.{holds_some}
-use Rattle.fuse_state.proofs.Chosen.{mapped, next_found}
+use Rattle.fuse_state.proofs.Chosen.{key-found, next_found}
 use Rattle.fuse_state.proofs.server.Server.next_idle.Goals as goal
 
 pub returns : goal.returns
@@ -13,7 +12,4 @@ returns c =
     let test = λ (e : ℕ × Credential). nat_le c.args.least e.0 && not (holds_some s e.0) in
     let same = c.entries.ensures.all ∙ ap (λ k. k.server.processes) c.self.view_is in
     let found = find_from_yields_List test _ _ c.find.result c.find.ensures.ran (YieldsList-from_slice c.entries.result.now c.iter.ensures.rest) (λ x b f called. search (rules, tests)) in
-    mapped (λ y. y.now) (λ e. e.0) _ c.find.result c.map.result (λ x y said. search rules) c.map.ensures.cases
-    ∙ ap (option_map (λ e. e.0)) found
-    ∙ ap (λ m. option_map (λ e. e.0) (find test m)) same
-    ∙ next_found s c.args.least
+    key-found (λ y. y.now) _ test c.find.result c.map.result (λ x y said. search rules) c.map.ensures.cases found same ∙ next_found s c.args.least
