@@ -15,7 +15,7 @@ use Rattle.fuse_plans.specs.declared.stop.Stop.{Stop}
 use Rattle.fuse_plans.specs.Stops.{failed, is_for}
 use Rattle.fuse_state.specs.Servers.{Server}
 use Rattle.fuse_plans.specs.Works.{Work, give, stop, kept, goes_on, ◌>>=◌, ◌>>◌, needed, ask, unless_refused, obtain, or_closed, replied_status, unexpected}
-use Rattle.fuse_plans.specs.Callers.{between, inside, done_between, look_inside, on, or_inside, by_place, the_looker, look, look_at, is_known_directory, the_number, directory_number, only_directory}
+use Rattle.fuse_plans.specs.Callers.{between, inside, done_between, look_inside, on, or_inside, by_place, the_looker, by_looker, look, look_at, is_known_directory, the_number, directory_number, only_directory}
 use Rattle.fuse_plans.specs.Conduct
 use Rattle.fuse_plans.specs.Conduct.{Known, Rights, MayCall, as_caller, as_looker, shows, MayAsk, conduct, known_after, away_after, Fits, IsNobodyElse, MayEnter, IsCaller, only_looks}
 use Rattle.fuse_plans.proofs.Conducts.{Left, Does, does-give, does-stop, does-kept, does->>=, does-attempt, does-needed, does-unless_refused}
@@ -185,8 +185,11 @@ module _ {rights : Rights} {P : List (ℕ × Credential) → Type 0} where
   unfolding look_inside
   does-look_inside pid d name may = does->>= (does-between pid d d (Lstat name) may) does-replied_status
 
+  pub does-by_looker : (n : ℕ) (call : List ℕ → Call) → ((path : List ℕ) → IsTrue (only_looks (call path))) → Does rights P (by_looker n call)
+  does-by_looker n call only = does-with_looker (λ pid is. does-on pid n call (λ path. looks pid is (call path) (only path)))
+
   does-look_at : (n : ℕ) (placed : Bool) → Does rights P (look_at n placed)
-  does-look_at n true = does-with_looker (λ pid is. does-on pid n Lstat (λ path. looks pid is (Lstat path) refl))
+  does-look_at n true = does-by_looker n Lstat (λ path. refl)
   does-look_at n false =
       does->>= (does-kept _) (λ found.
       does->>= (does-needed _ found) (λ handle. does-obtain _ _ (λ known s fits. shows refl)))

@@ -93,7 +93,7 @@ module _ {rights : Rights} where
       after n (Ok x, t) left = keeps-weaker (conduct rights) (Left rights (Q x)) (Left rights Anyone) (f x t) n ((rest x).goes n t left) (λ m r fits. anyone fits)
       after n (Err e, t) left = left
 
-  then-does_to : {X Y : Type 0} {Q : Y → List (ℕ × Credential) → Type 0} {w : Work X} {f : X → Work Y}
+  pub then-does_to : {X Y : Type 0} {Q : Y → List (ℕ × Credential) → Type 0} {w : Work X} {f : X → Work Y}
       → Does rights Anyone w → ((x : X) → DoesTo rights Q (f x)) → DoesTo rights Q (w >>= f)
   unfolding ◌>>=◌
   then-does_to {X} {Y} {Q} {w} {f} first rest = record {
@@ -103,6 +103,20 @@ module _ {rights : Rights} where
     where
       after : (n : Known) (r : Result X Stop × Server) → Left rights Anyone n r → KeepsTo (conduct rights) (LeftTo rights Q) n (goes_on f r)
       after n (Ok x, t) left = (rest x).goes n t left
+      after n (Err e, t) left = left
+
+  pub gives-with : {X Y : Type 0} {Q : X → List (ℕ × Credential) → Type 0} {w : Work X} (y : Y)
+      → DoesTo rights Q w → DoesTo rights (λ (p : Y × X). Q p.1) (w >>= (λ x. give (y, x)))
+  unfolding give ◌>>=◌
+  gives-with {X} {Y} {Q} {w} y first = record {
+    goes = λ known s fits.
+        keeps-followed_by (conduct rights) (LeftTo rights Q) (LeftTo rights (λ (p : Y × X). Q p.1)) (w s) (goes_on (λ x. give (y, x))) known
+        (first.goes known s fits) after;
+  }
+    where
+      after : (n : Known) (r : Result X Stop × Server) → LeftTo rights Q n r
+          → KeepsTo (conduct rights) (LeftTo rights (λ (p : Y × X). Q p.1)) n (goes_on (λ x. give (y, x)) r)
+      after n (Ok x, t) left = left
       after n (Err e, t) left = left
 
   stops : (e : Stop) (known : Known) (s : Server) → Fits rights Anyone known s → KeepsTo (conduct rights) (LeftTo rights (OfCaller rights)) known (stop {X = ℕ} e s)

@@ -2,10 +2,11 @@
 --     then-ok, then-fails        after the first step goes the rest, or nothing
 --     then-matches        after the first goes one that asks nothing
 --     of-result, gives, stops        steps that ask nothing and read nothing
---     reads, keeps, needs-some, needs-none, where-true, where-false        steps that ask nothing, before the rest
+--     reads, reads-needed, keeps, needs-some, needs-none, where-true, where-false        steps that ask nothing, before the rest
 --     attempts        a step of which it is told whether it stopped
 --     by-machine        a step for which nothing that is kept is read
 use Rattle.std.specs.Prelude.{◌≡◌, Bool, true, false, ◌&&◌, Option, None, Some, unwrap_or, Result, Ok, Err, IsErr, IsErrAnd, MatchResult, if◌then◌else◌}
+use Rattle.std.specs.Option.{ok_or}
 use Rattle.std.proofs.Common.{refl, sym, ap, subst, ◌∙◌}
 use Rattle.fs_model.specs.declared.event.Event.{Event}
 use Rattle.fs_model.specs.declared.reply.Reply.{Reply}
@@ -17,9 +18,17 @@ use Rattle.fuse_plans.specs.Works.{Work, give, stop, kept, keep, goes_on, ◌>>=
 use Rattle.fuse_plans.specs.FilePlans.{when, done}
 use Rattle.fuse_plans.specs.Performing.{Did, DidByMachine}
 
-passed-on : {Y : Type 0} (r : Result Y Stop) (e : Stop) → IsErr r → IsErrAnd r (λ d. d ≡ e) → r ≡ Err e
-passed-on (Ok y) e is and = absurd and
-passed-on (Err d) e is and = ap (λ (z : Stop). Err z) and
+-- what `?` makes of an error
+abbrev pub PassedOn : {Y : Type 0} → Result Y Stop → Stop → Type 0
+PassedOn r e = IsErr r × IsErrAnd r (λ d. d ≡ e)
+
+needed-is : {X : Type 0} (e : Stop) (o : Option X) → needed e o ≡ of_result (ok_or o e)
+needed-is e None = refl
+needed-is e (Some x) = refl
+
+passed-on : {Y : Type 0} (r : Result Y Stop) (e : Stop) → PassedOn r e → r ≡ Err e
+passed-on (Ok y) e is = absurd is.1
+passed-on (Err d) e is = ap (λ (z : Stop). Err z) is.1
 
 pub some-same : {X : Type 0} {x y : X} → Some x ≡ Some y → x ≡ y
 some-same {X} {x} {y} is = ap (λ (o : Option X). unwrap_or o x) is
@@ -71,14 +80,14 @@ module _ {M : Type 0} {Serves : M → Event → Reply → M → Type 0} where
 
   -- what is passed on by `?`
   pub machine-fails : {X Y : Type 0} {w : Work X} (f : X → Work Y) {old new : M} {e : Stop} {r : Result Y Stop}
-      → IsErr r → IsErrAnd r (λ d. d ≡ e) → DidByMachine Serves w old new (Err e) → DidByMachine Serves (w >>= f) old new r
-  machine-fails {X} {Y} {w} f {old} {new} {e} {r} is and first =
-      subst (λ (q : Result Y Stop). DidByMachine Serves (w >>= f) old new q) (sym (passed-on r e is and)) (machine-err f first)
+      → PassedOn r e → DidByMachine Serves w old new (Err e) → DidByMachine Serves (w >>= f) old new r
+  machine-fails {X} {Y} {w} f {old} {new} {e} {r} is first =
+      subst (λ (q : Result Y Stop). DidByMachine Serves (w >>= f) old new q) (sym (passed-on r e is)) (machine-err f first)
 
   -- what is passed on by `?` as the last step
   pub machine-last-fails : {X : Type 0} {w : Work X} {old new : M} {e : Stop} {r : Result X Stop}
-      → IsErr r → IsErrAnd r (λ d. d ≡ e) → DidByMachine Serves w old new (Err e) → DidByMachine Serves w old new r
-  machine-last-fails {X} {w} {old} {new} {e} {r} is and first = subst (λ (q : Result X Stop). DidByMachine Serves w old new q) (sym (passed-on r e is and)) first
+      → PassedOn r e → DidByMachine Serves w old new (Err e) → DidByMachine Serves w old new r
+  machine-last-fails {X} {w} {old} {new} {e} {r} is first = subst (λ (q : Result X Stop). DidByMachine Serves w old new q) (sym (passed-on r e is)) first
 
   pub machine-result : {X : Type 0} {w : Work X} {m : M} {r : Result X Stop} → w ≡ of_result r → DidByMachine Serves w m m r
   machine-result {X} {w} {m} {r} is = record {
@@ -89,6 +98,10 @@ module _ {M : Type 0} {Serves : M → Event → Reply → M → Type 0} where
   pub machine-was : {X Y : Type 0} {w : Work X} (f : X → Work Y) {old mid new : M} {q : Result X Stop} {x : X} {r : Result Y Stop}
       → DidByMachine Serves w old mid q → q ≡ Ok x → DidByMachine Serves (f x) mid new r → DidByMachine Serves (w >>= f) old new r
   machine-was {X} {Y} {w} f {old} {mid} {new} {q} {x} {r} first is rest = machine-ok f (subst (λ (p : Result X Stop). DidByMachine Serves w old mid p) is first) rest
+
+  pub machine-was-err : {X Y : Type 0} {w : Work X} (f : X → Work Y) {old new : M} {q : Result X Stop} {e : Stop}
+      → DidByMachine Serves w old new q → q ≡ Err e → DidByMachine Serves (w >>= f) old new (Err e)
+  machine-was-err {X} {Y} {w} f {old} {new} {q} {e} first is = machine-err f (subst (λ (p : Result X Stop). DidByMachine Serves w old new p) is first)
 
   -- a step, and what its result leads to
   pub machine-then : {X Y : Type 0} {w : Work X} (f : X → Work Y) {old new : M} {q : Result X Stop} {r : Result Y Stop}
@@ -130,6 +143,9 @@ module _ {M : Type 0} {Serves : M → Event → Reply → M → Type 0} where
   pub machine-needs-last : {X : Type 0} (e : Stop) {o : Option X} {m : M} {x : X} → o ≡ Some x → DidByMachine Serves (needed e o) m m (Ok x)
   machine-needs-last {X} e {o} {m} {x} is = machine-same (ap (λ (p : Option X). needed e p) is) (machine-gives x m)
 
+  pub machine-needed : {X : Type 0} (e : Stop) (o : Option X) {m : M} {r : Result X Stop} → r ≡ ok_or o e → DidByMachine Serves (needed e o) m m r
+  machine-needed {X} e o {m} {r} is = machine-result (needed-is e o ∙ ap of_result (sym is))
+
   pub machine-lacks-last : {X : Type 0} (e : Stop) {o : Option X} {m : M} → o ≡ None → DidByMachine Serves (needed e o) m m (Err e)
   machine-lacks-last {X} e {o} {m} is = machine-same (ap (λ (p : Option X). needed e p) is) (machine-stops e m)
 
@@ -161,9 +177,9 @@ module _ {M : Type 0} {Serves : M → Event → Reply → M → Type 0} where
 
   -- what is passed on by `?`
   pub then-fails : {X Y : Type 0} {w : Work X} (f : X → Work Y) {old new : Session M} {e : Stop} {r : Result Y Stop}
-      → IsErr r → IsErrAnd r (λ d. d ≡ e) → Did Serves w old new (Err e) → Did Serves (w >>= f) old new r
-  then-fails {X} {Y} {w} f {old} {new} {e} {r} is and first =
-      subst (λ (q : Result Y Stop). Did Serves (w >>= f) old new q) (sym (passed-on r e is and)) (then-err f first)
+      → PassedOn r e → Did Serves w old new (Err e) → Did Serves (w >>= f) old new r
+  then-fails {X} {Y} {w} f {old} {new} {e} {r} is first =
+      subst (λ (q : Result Y Stop). Did Serves (w >>= f) old new q) (sym (passed-on r e is)) (then-err f first)
 
   -- a step whose result is known afterwards
   pub then-was : {X Y : Type 0} {w : Work X} (f : X → Work Y) {old mid new : Session M} {q : Result X Stop} {x : X} {r : Result Y Stop}
@@ -171,13 +187,13 @@ module _ {M : Type 0} {Serves : M → Event → Reply → M → Type 0} where
   then-was {X} {Y} {w} f {old} {mid} {new} {q} {x} {r} first is rest = then-ok f (subst (λ (p : Result X Stop). Did Serves w old mid p) is first) rest
 
   pub was-fails : {X Y : Type 0} {w : Work X} (f : X → Work Y) {old new : Session M} {q : Result X Stop} {e : Stop} {r : Result Y Stop}
-      → IsErr r → IsErrAnd r (λ d. d ≡ e) → Did Serves w old new q → q ≡ Err e → Did Serves (w >>= f) old new r
-  was-fails {X} {Y} {w} f {old} {new} {q} {e} {r} is and first same = then-fails f is and (subst (λ (p : Result X Stop). Did Serves w old new p) same first)
+      → PassedOn r e → Did Serves w old new q → q ≡ Err e → Did Serves (w >>= f) old new r
+  was-fails {X} {Y} {w} f {old} {new} {q} {e} {r} is first same = then-fails f is (subst (λ (p : Result X Stop). Did Serves w old new p) same first)
 
   -- what is passed on by `?` as the last step
   pub last-fails : {X : Type 0} {w : Work X} {old new : Session M} {e : Stop} {r : Result X Stop}
-      → IsErr r → IsErrAnd r (λ d. d ≡ e) → Did Serves w old new (Err e) → Did Serves w old new r
-  last-fails {X} {w} {old} {new} {e} {r} is and first = subst (λ (q : Result X Stop). Did Serves w old new q) (sym (passed-on r e is and)) first
+      → PassedOn r e → Did Serves w old new (Err e) → Did Serves w old new r
+  last-fails {X} {w} {old} {new} {e} {r} is first = subst (λ (q : Result X Stop). Did Serves w old new q) (sym (passed-on r e is)) first
 
   pub of-result : {X : Type 0} {w : Work X} {s : Session M} {r : Result X Stop} → w ≡ of_result r → Did Serves w s s r
   of-result {X} {w} {s} {r} is = record {
@@ -254,6 +270,10 @@ module _ {M : Type 0} {Serves : M → Event → Reply → M → Type 0} where
     performs = subst (λ (y : X). CarriesOut Serves (kept h s.server.server) s.machine s.machine (Ok y, s.server.server)) (sym is)
         (finishes (Ok (h s.server.server), s.server.server) s.machine);
   }
+
+  pub reads-needed : {X : Type 0} (e : Stop) (h : Server → Option X) (s : Session M) {r : Result X Stop}
+      → r ≡ ok_or (h s.server.server) e → Did Serves (kept h >>= needed e) s s r
+  reads-needed {X} e h s {r} is = reads h (needed e) refl (of-result (needed-is e (h s.server.server) ∙ ap of_result (sym is)))
 
   -- what is kept changes
   pub keeps : {Y : Type 0} (h : Server → Server) (w : Work Y) {old mid new : Session M} {r : Result Y Stop}

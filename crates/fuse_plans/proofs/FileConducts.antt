@@ -18,7 +18,7 @@ use Rattle.fuse_state.specs.Changes.{told}
 use Rattle.fuse_state.specs.Servers.{owner_of, descriptor_of}
 use Rattle.fuse_state.specs.declared.place.Place.{Place}
 use Rattle.fuse_plans.specs.Conduct.{Rights, stays, by_handle, is_on, IsByHandle}
-use Rattle.fuse_plans.specs.FilePlans.{touched_if, ask_first, open_object, open_file, or_opened, open_or_make, show_open, look_open, tell_created, create_file, the_open, seek, read_piece, read_pieces, read_file, or_done, write_piece, write_pieces, pieces_in, write_by, write_file, close_file}
+use Rattle.fuse_plans.specs.FilePlans.{touched_if, ask_first, open_object, open_file, or_opened, open_or_make, show_open, look_open, tell_created, create_file, the_open, call_open, seek, seek_open, read_piece, read_pieces, read_file, or_done, write_piece, write_pieces, pieces_in, write_file, close_file}
 use Rattle.fuse_plans.specs.Flags.{is_trunc}
 use Rattle.fuse_plans.proofs.Conducts.{Does, does-give, does-stop, does-kept, does-keep, does->>=, does-attempt, does-needed}
 use Rattle.fuse_plans.proofs.Calls.{CanCall, does-obtain, does-or_closed, does-between, does-on, does-replied_status, does-the_number, does-directory_number}
@@ -37,13 +37,11 @@ touched_if-same false now n s = (refl, refl)
 
 module _ {rights : Rights} (r : Asked) (is : rights.cred ≡ r.cred) where
   does-ask_first : (pid n flags : ℕ) (mode : Mode) → Does rights (OfCaller rights pid) (ask_first pid n flags mode)
-  unfolding ask_first
   does-ask_first pid n flags mode =
       does->>= (does-when _ _ (does-done (does-on pid n _ (λ path. caller-can pid _ refl)))) (λ may.
       does-when _ _ (does-done (does-on pid n _ (λ path. caller-can pid _ refl))))
 
   does-open_object : (now : Time) (pid n flags : ℕ) (mode : Mode) → Does rights (OfCaller rights pid) (open_object now pid n flags mode)
-  unfolding open_object
   does-open_object now pid n flags mode =
       does->>= (does-on pid n _ (λ path. caller-can pid _ refl)) (λ reply.
       does->>= (does-replied_handle pid reply) (λ handle.
@@ -51,7 +49,6 @@ module _ {rights : Rights} (r : Asked) (is : rights.cred ≡ r.cred) where
       does->>= (does-keep _ (λ s. (refl, refl))) (λ done. does-give _))))
 
   pub does-open_file : (flags : ℕ) → Does rights Anyone (open_file r flags)
-  unfolding open_file
   does-open_file flags =
       does->>= (does-the_number _) (λ n.
       does->>= (does-needed _ _) (λ mode.
@@ -82,7 +79,6 @@ module _ {rights : Rights} (r : Asked) (is : rights.cred ≡ r.cred) where
       does->>= (does-keep _ (told-same now p _ _ is_new is_cut)) (λ told. does->>= (does-keep _ (λ s. (refl, refl))) (λ done. does-kept _))
 
   pub does-create_file : (name : List ℕ) (flags mode umask : ℕ) → Does rights Anyone (create_file r name flags mode umask)
-  unfolding create_file
   does-create_file name flags file_mode umask =
       does->>= (does-plain_name name) (λ plain.
       does->>= (does-needed _ _) (λ mode.
@@ -112,6 +108,12 @@ module _ {rights : Rights} {P : List (ℕ × Credential) → Type 0} where
   unfolding seek
   does-seek handle given offset = does-if _ _ _ (does-obtain _ _ (handle-can handle given _ (itself _))) (does-stop _)
 
+  does-seek_open : (handle : ℕ) → rights.handle ≡ Some handle → (offset : ℕ) → Does rights P (seek_open handle offset)
+  does-seek_open handle given offset = does->>= (does-the_open handle) (λ n. does->>= (does-seek handle given offset) (λ at. does-give n))
+
+  pub does-call_open : (handle : ℕ) → rights.handle ≡ Some handle → (call : Call) → IsTrue (is_on (descriptor_of handle) call) → Does rights P (call_open handle call)
+  does-call_open handle given call on = does->>= (does-the_open handle) (λ n. does-obtain _ call (handle-can handle given call on))
+
   does-read_piece : (pid fd most : ℕ) → CanCall rights P pid (ReadCall fd most) → Does rights P (read_piece pid fd most)
   unfolding read_piece
   does-read_piece pid fd most can = does->>= (does-obtain pid _ can) (λ reply. does-replied_data most reply)
@@ -126,11 +128,9 @@ module _ {rights : Rights} {P : List (ℕ × Credential) → Type 0} where
       (does->>= (does-read_piece _ _ _ (handle-can handle given _ (itself _))) (λ piece. does-if _ _ _ (does-give _) (later _)))
 
   pub does-read_file : (extent : Extent) → rights.handle ≡ Some extent.handle → Does rights P (read_file extent)
-  unfolding read_file
   does-read_file extent given =
-      does->>= (does-the_open _) (λ n.
-      does->>= (does-seek extent.handle given _) (λ at.
-      does->>= (does-read_pieces extent.handle given _ _ _) (λ bytes. does-give _)))
+      does->>= (does-seek_open extent.handle given _) (λ n.
+      does->>= (does-read_pieces extent.handle given _ _ _) (λ bytes. does-give _))
 
   does-or_done : (done : ℕ) (wrote : Result ℕ Stop) → Does rights P (or_done done wrote)
   does-or_done done (Ok count) = does-give count
@@ -152,16 +152,12 @@ module _ {rights : Rights} {P : List (ℕ × Credential) → Type 0} where
       does-if _ _ _ (does-give _) (later count)))
 
   pub does-write_file : (r : Asked) (handle offset : ℕ) (bytes : List ℕ) → rights.handle ≡ Some handle → Does rights P (write_file r handle offset bytes)
-  unfolding write_by
   does-write_file r handle offset bytes given =
-      does->>= (does-the_open _) (λ n.
-      does->>= (does-seek handle given offset) (λ at.
+      does->>= (does-seek_open handle given offset) (λ n.
       does->>= (does-write_pieces handle given _ (pieces_in _ bytes)) (λ count.
-      does->>= (does-keep _ (λ s. (refl, refl))) (λ done. does-give _))))
+      does->>= (does-keep _ (λ s. (refl, refl))) (λ done. does-give _)))
 
   pub does-close_file : (handle : ℕ) → rights.handle ≡ Some handle → Does rights P (close_file handle)
-  unfolding close_file
   does-close_file handle given =
-      does->>= (does-the_open _) (λ n.
-      does->>= (does-obtain _ _ (handle-can handle given _ (itself _))) (λ closed.
-      does->>= (does-keep _ (λ s. (refl, refl))) (λ done. does-give _)))
+      does->>= (does-call_open handle given _ (itself _)) (λ closed.
+      does->>= (does-keep _ (λ s. (refl, refl))) (λ done. does-give _))

@@ -17,7 +17,7 @@ use Rattle.fuse_protocol.specs.declared.entry.DirectoryEntry.{DirectoryEntry}
 use Rattle.fuse_protocol.specs.Bytes.{le32s, le64s, zeros}
 use Rattle.fuse_protocol.specs.Entries.{padding, entry_size, directory_entry_bytes}
 use Rattle.fuse_state.specs.declared.directory.OpenDirectory.{OpenDirectory}
-use Rattle.fuse_plans.specs.DirectoryPlans.{listed_entry, fitting, listing_bytes, listed}
+use Rattle.fuse_plans.specs.DirectoryPlans.{listed_entry, fitting, listing_bytes, list_now, listed}
 use Rattle.fuse_plans.specs.Works.{give}
 
 pub entry-length : (e : DirectoryEntry) → length (directory_entry_bytes e) ≡ entry_size (length e.name)
@@ -110,9 +110,9 @@ module _ (handle : ℕ) (d : OpenDirectory) where
       → anew ≡ false → known ≡ Some names → listed handle d anew known ≡ give names
   listed-before {anew} {known} {names} is there = ap (λ (b : Bool). listed handle d b known) is ∙ ap (listed handle d false) there
 
-  pub listed-anew : {anew : Bool} (known : Option (List (List ℕ × ℕ))) → anew ≡ true → listed handle d anew known ≡ listed handle d true None
+  pub listed-anew : {anew : Bool} (known : Option (List (List ℕ × ℕ))) → anew ≡ true → listed handle d anew known ≡ list_now handle d.number
   listed-anew {anew} known is = ap (λ (b : Bool). listed handle d b known) is
 
-  pub listed-first : (anew : Bool) {known : Option (List (List ℕ × ℕ))} → known ≡ None → listed handle d anew known ≡ listed handle d true None
+  pub listed-first : (anew : Bool) {known : Option (List (List ℕ × ℕ))} → known ≡ None → listed handle d anew known ≡ list_now handle d.number
   listed-first true {known} is = refl
   listed-first false {known} is = ap (listed handle d false) is

@@ -16,10 +16,10 @@ use Rattle.fuse_state.specs.declared.place.Place.{Place}
 use Rattle.fuse_state.specs.Servers.{named, kind_of, without_name}
 use Rattle.fuse_state.specs.Changes.{changed_if, removed, named_if, moved_to, moved, linked}
 use Rattle.fuse_plans.specs.Conduct.{Rights, stays}
-use Rattle.fuse_plans.specs.NamePlans.{plain_name, directory_for, tell_entry, or_absent, find_name, made, make_by, make_link, make_directory, open_and_close, make_file, remove, none_there, may_move, rename, move_name, link_by_place, tell_linked, add_link}
+use Rattle.fuse_plans.specs.NamePlans.{plain_name, directory_for, tell_entry, or_absent, searched_directory, find_name, made, caller_in, make_link, make_directory, open_and_close, make_file, remove, none_there, may_move, rename, move_name, link_by_place, tell_linked, add_link}
 use Rattle.fuse_plans.proofs.Conducts.{Does, does-give, does-stop, does-kept, does-keep, does->>=, does-attempt, does-needed}
 use Rattle.fuse_plans.proofs.Calls.{CanCall, does-obtain, does-between, does-done_between, does-look_inside, does-with_looker, looks, does-look, does-the_number, does-directory_number}
-use Rattle.fuse_plans.proofs.Chosen.{Anyone, then-does, does-caller, does-caller_with_room}
+use Rattle.fuse_plans.proofs.Chosen.{Anyone, OfCaller, DoesTo, then-does, then-does_to, gives-with, does-caller, does-caller_with_room}
 use Rattle.fuse_plans.proofs.Forms.{SameOwn, caller-can, does-if, does-replied_fd}
 
 -- ---- what the server keeps
@@ -72,6 +72,10 @@ module _ {rights : Rights} {P : List (ℕ × Credential) → Type 0} where
   does-link_by_place pid n d name can =
       does->>= (does-kept _) (λ known. does->>= (does-needed _ known) (λ p. does-done_between pid p.directory d _ (can p.name)))
 
+  does-searched_directory : (node : ℕ) (name : List ℕ) → Does rights P (searched_directory node name)
+  does-searched_directory node name =
+      does->>= (does-plain_name name) (λ plain. does->>= (does-attempt (does-directory_number node)) does-or_absent)
+
   does-directory_for : (node : ℕ) (name : List ℕ) → Does rights P (directory_for node name)
   does-directory_for node name = does->>= (does-plain_name name) (λ plain. does-directory_number node)
 
@@ -81,9 +85,6 @@ module _ {rights : Rights} {P : List (ℕ × Credential) → Type 0} where
       does-with_looker (λ pid is.
       does->>= (does-look_inside pid d name (looks pid is (Lstat name) refl)) (λ status.
       does->>= (does-keep _ (λ s. (refl, refl))) (λ done. does-tell_entry status)))
-
-  does-make_by : (now : Time) (pid d : ℕ) (call : Call) (name : List ℕ) → CanCall rights P pid call → Does rights P (make_by now pid d call name)
-  does-make_by now pid d call name can = does->>= (does-done_between pid d d call can) (λ done. does-made now d name)
 
   does-open_and_close : (pid d : ℕ) (call : Call) → ((any : Call) → IsTrue (stays any) → CanCall rights P pid any) → IsTrue (stays call)
       → Does rights P (open_and_close pid d call)
@@ -109,30 +110,26 @@ module _ {rights : Rights} {P : List (ℕ × Credential) → Type 0} where
 
 module _ {rights : Rights} (r : Asked) (is : rights.cred ≡ r.cred) where
   pub does-find_name : (name : List ℕ) → Does rights Anyone (find_name r name)
-  unfolding find_name
   does-find_name name =
-      does->>= (does-plain_name name) (λ plain.
-      does->>= (does-attempt (does-directory_number _)) (λ known.
-      does->>= (does-or_absent known) (λ d.
+      does->>= (does-searched_directory _ name) (λ d.
       then-does (does-caller _ is) (λ pid.
       does->>= (does-look_inside pid d name (caller-can pid _ refl)) (λ status.
-      does->>= (does-keep _ (λ s. (refl, refl))) (λ done. does-tell_entry status))))))
+      does->>= (does-keep _ (λ s. (refl, refl))) (λ done. does-tell_entry status))))
+
+  does-caller_in : (name : List ℕ) → DoesTo rights (λ (who : ℕ × ℕ). OfCaller rights who.1) (caller_in r name)
+  does-caller_in name = then-does_to (does-directory_for _ name) (λ d. gives-with d (does-caller _ is))
 
   pub does-make_link : (name target : List ℕ) → Does rights Anyone (make_link r name target)
-  unfolding make_link
   does-make_link name target =
-      does->>= (does-directory_for _ name) (λ d.
-      then-does (does-caller _ is) (λ pid. does-make_by _ pid d _ name (caller-can pid _ refl)))
+      then-does (does-caller_in name) (λ who. does->>= (does-done_between who.1 who.0 who.0 _ (caller-can who.1 _ refl)) (λ done. does-made _ who.0 name))
 
   pub does-make_directory : (name : List ℕ) (mode umask : ℕ) → Does rights Anyone (make_directory r name mode umask)
-  unfolding make_directory
   does-make_directory name mode umask =
-      does->>= (does-directory_for _ name) (λ d.
-      then-does (does-caller _ is) (λ pid.
-      does->>= (does-obtain pid _ (caller-can pid _ refl)) (λ old. does-make_by _ pid d _ name (caller-can pid _ refl))))
+      then-does (does-caller_in name) (λ who.
+      does->>= (does-obtain who.1 _ (caller-can who.1 _ refl)) (λ old.
+      does->>= (does-done_between who.1 who.0 who.0 _ (caller-can who.1 _ refl)) (λ done. does-made _ who.0 name)))
 
   pub does-make_file : (name : List ℕ) (mode umask : ℕ) → Does rights Anyone (make_file r name mode umask)
-  unfolding make_file
   does-make_file name mode umask =
       does->>= (does-if _ _ _ (does-give tt) (does-stop _)) (λ file.
       does->>= (does-directory_for _ name) (λ d.
@@ -141,19 +138,16 @@ module _ {rights : Rights} (r : Asked) (is : rights.cred ≡ r.cred) where
       does->>= (does-open_and_close pid d _ (caller-can pid) refl) (λ done. does-made _ d name)))))
 
   pub does-remove : (call : List ℕ → Call) (name : List ℕ) → IsTrue (stays (call name)) → Does rights Anyone (remove r call name)
-  unfolding remove
   does-remove call name puts =
-      does->>= (does-directory_for _ name) (λ d.
-      then-does (does-caller _ is) (λ pid.
-      does->>= (does-done_between pid d d _ (caller-can pid _ puts)) (λ gone.
-      does->>= (does-keep _ (removed-same _ _)) (λ done. does-give _))))
+      then-does (does-caller_in name) (λ who.
+      does->>= (does-done_between who.1 who.0 who.0 _ (caller-can who.1 _ puts)) (λ gone.
+      does->>= (does-keep _ (removed-same _ _)) (λ done. does-give _)))
 
   does-none_there : {P : List (ℕ × Credential) → Type 0} (there : Result Reply Stop) → Does rights P (none_there there)
   does-none_there (Ok reply) = does-stop _
   does-none_there (Err e) = does-if _ _ _ (does-give tt) (does-stop e)
 
   pub does-move_name : (name : List ℕ) (new_node : ℕ) (new_name : List ℕ) (flags : ℕ) → Does rights Anyone (move_name r name new_node new_name flags)
-  unfolding move_name
   does-move_name name new_node new_name flags =
       does->>= (does-may_move name new_name flags) (λ may.
       does->>= (does-directory_number _) (λ d.
@@ -163,7 +157,6 @@ module _ {rights : Rights} (r : Asked) (is : rights.cred ≡ r.cred) where
       does-rename _ pid _ _ (caller-can pid))))))
 
   pub does-add_link : (old_node : ℕ) (name : List ℕ) → Does rights Anyone (add_link r old_node name)
-  unfolding add_link
   does-add_link old_node name =
       does->>= (does-directory_for _ name) (λ d.
       does->>= (does-the_number old_node) (λ n.

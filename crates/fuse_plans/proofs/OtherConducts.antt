@@ -19,14 +19,14 @@ use Rattle.fuse_plans.specs.Works.{ask}
 use Rattle.fuse_plans.specs.Conduct.{Rights, IsHome, IsSyncOf}
 use Rattle.fuse_plans.specs.FilePlans.{sync_file}
 use Rattle.fuse_plans.specs.AttributePlans.{tell_attributes, get_attributes, new_owners, resize_object, set_size, set_mode, may_set_times, set_times, change_attributes, set_attributes, read_link, access_as, ask_access}
-use Rattle.fuse_plans.specs.DirectoryPlans.{open_directory, tell_names, list_open, list_all, listed, read_directory, close_directory, sync_all}
+use Rattle.fuse_plans.specs.DirectoryPlans.{open_directory, tell_names, list_open, list_all, list_now, listed, read_directory, close_directory, sync_all}
 use Rattle.fuse_plans.specs.AclPlans.{acl_of, sized, get_xattr, attribute_names, list_xattrs, acl_set, set_acl, set_xattr, remove_xattr}
 use Rattle.fuse_plans.specs.Serving.{count_space, end}
 use Rattle.fuse_plans.proofs.Conducts.{Does, does-give, does-stop, does-kept, does-keep, does->>=, does-attempt, does-needed, does-unless_refused}
-use Rattle.fuse_plans.proofs.Calls.{does-obtain, does-or_closed, does-on, does-with_looker, looks, does-look, does-the_number, does-directory_number}
+use Rattle.fuse_plans.proofs.Calls.{does-obtain, does-or_closed, does-on, does-by_looker, does-with_looker, looks, does-look, does-the_number, does-directory_number}
 use Rattle.fuse_plans.proofs.Chosen.{Anyone, OfCaller, then-does, does-caller}
 use Rattle.fuse_plans.proofs.Forms.{caller-can, does-if, does-when, does-done, does-replied_fd, does-replied_target, does-replied_acl, does-replied_names, does-replied_space}
-use Rattle.fuse_plans.proofs.FileConducts.{does-the_open, handle-can, itself}
+use Rattle.fuse_plans.proofs.FileConducts.{does-the_open, does-call_open, itself}
 
 -- ---- attributes
 
@@ -35,7 +35,6 @@ module _ {rights : Rights} {P : List (ℕ × Credential) → Type 0} where
   does-tell_attributes status = does-kept _
 
   pub does-get_attributes : (r : Asked) → Does rights P (get_attributes r)
-  unfolding get_attributes
   does-get_attributes r = does->>= (does-the_number _) (λ n. does->>= (does-look n) does-tell_attributes)
 
   does-new_owners : (c : AttrChanges) (n : ℕ) (link : Bool) → Does rights P (new_owners c n link)
@@ -52,7 +51,7 @@ module _ {rights : Rights} (r : Asked) (is : rights.cred ≡ r.cred) where
   does-resize_object : (pid n size : ℕ) (handle : Option ℕ) → HandleIs rights handle → Does rights (OfCaller rights pid) (resize_object pid n size handle)
   does-resize_object pid n size None given = does-on pid n _ (λ path. caller-can pid _ refl)
   does-resize_object pid n size (Some handle) given =
-      does->>= (does-the_open handle) (λ opened. does-obtain _ _ (handle-can handle given _ (itself _)))
+      does-call_open handle given _ (itself _)
 
   does-set_size : (now : Time) (pid n : ℕ) (handle size : Option ℕ) → HandleIs rights handle → Does rights (OfCaller rights pid) (set_size now pid n handle size)
   does-set_size now pid n handle None given = does-give tt
@@ -74,7 +73,6 @@ module _ {rights : Rights} (r : Asked) (is : rights.cred ≡ r.cred) where
 
   does-change_attributes : (now : Time) (pid n : ℕ) (link : Bool) (c : AttrChanges) → HandleIs rights c.handle
       → Does rights (OfCaller rights pid) (change_attributes now pid n link c)
-  unfolding change_attributes
   does-change_attributes now pid n link c given =
       does->>= (does-new_owners c n _) (λ owners.
       does->>= (does-set_size _ pid n c.handle c.size given) (λ size.
@@ -82,7 +80,6 @@ module _ {rights : Rights} (r : Asked) (is : rights.cred ≡ r.cred) where
       does-set_mode _ pid n c.mode)))
 
   pub does-set_attributes : (c : AttrChanges) → HandleIs rights c.handle → Does rights Anyone (set_attributes r c)
-  unfolding set_attributes
   does-set_attributes c given =
       does->>= (does-the_number _) (λ n.
       then-does (does-caller _ is) (λ pid.
@@ -107,19 +104,15 @@ module _ {rights : Rights} (r : Asked) (is : rights.cred ≡ r.cred) where
       does-acl_set n which acl = does-if _ _ _ (does->>= (does-look n) (λ status. does-give _)) (does-give _)
 
   pub does-set_xattr : (name : List ℕ) (value : Option (Option AccessList)) → Does rights Anyone (set_xattr r name value)
-  unfolding set_xattr
   does-set_xattr name value = does->>= (does-needed _ _) (λ which. does->>= (does-needed _ value) (λ acl. does-set_acl which acl))
 
   pub does-remove_xattr : (name : List ℕ) → Does rights Anyone (remove_xattr r name)
-  unfolding remove_xattr
   does-remove_xattr name = does->>= (does-needed _ _) (λ which. does-set_acl which None)
 
   does-access_as : (n : ℕ) (perms : Perms) → Does rights Anyone (access_as r.cred n perms)
-  unfolding access_as
   does-access_as n perms = then-does (does-caller _ is) (λ pid. does-done (does-on pid n _ (λ path. caller-can pid _ refl)))
 
   pub does-ask_access : (mask : ℕ) → Does rights Anyone (ask_access r mask)
-  unfolding ask_access
   does-ask_access mask =
       does->>= (does-the_number _) (λ n.
       does->>= (does-kept _) (λ kind.
@@ -128,7 +121,6 @@ module _ {rights : Rights} (r : Asked) (is : rights.cred ≡ r.cred) where
   -- ---- directories
 
   pub does-open_directory : Does rights Anyone (open_directory r)
-  unfolding open_directory
   does-open_directory =
       does->>= (does-directory_number _) (λ n.
       does->>= (does-kept _) (λ full.
@@ -140,12 +132,10 @@ module _ {rights : Rights} (r : Asked) (is : rights.cred ≡ r.cred) where
 
 module _ {rights : Rights} {P : List (ℕ × Credential) → Type 0} where
   pub does-read_link : (r : Asked) → Does rights P (read_link r)
-  unfolding read_link
   does-read_link r =
       does->>= (does-the_number _) (λ n.
-      does-with_looker (λ pid is.
-      does->>= (does-on pid n _ (λ path. looks pid is _ refl)) (λ reply.
-      does->>= (does-replied_target reply) (λ target. does-give _))))
+      does->>= (does-by_looker n _ (λ path. refl)) (λ reply.
+      does->>= (does-replied_target reply) (λ target. does-give _)))
 
   does-list_open : (pid fd : ℕ) → rights.looker ≡ Some pid → Does rights P (list_open pid fd)
   unfolding tell_names list_open
@@ -161,12 +151,14 @@ module _ {rights : Rights} {P : List (ℕ × Credential) → Type 0} where
       does->>= (does-list_open pid fd is) (λ names.
       does->>= (does-obtain pid _ (looks pid is _ refl)) (λ closed. does-give names)))))
 
+  does-list_now : (handle n : ℕ) → Does rights P (list_now handle n)
+  does-list_now handle n =
+      does->>= (does-kept _) (λ placed. does->>= (does-list_all n placed) (λ names. does->>= (does-keep _ (λ s. (refl, refl))) (λ done. does-give names)))
+
   does-listed_anew : (handle : ℕ) (d : OpenDirectory) (anew : Bool) (known : Option (List (List ℕ × ℕ))) → Does rights P (listed handle d anew known)
   does-listed_anew handle d false (Some names) = does-give names
-  does-listed_anew handle d false None =
-      does->>= (does-kept _) (λ placed. does->>= (does-list_all _ placed) (λ names. does->>= (does-keep _ (λ s. (refl, refl))) (λ done. does-give names)))
-  does-listed_anew handle d true known =
-      does->>= (does-kept _) (λ placed. does->>= (does-list_all _ placed) (λ names. does->>= (does-keep _ (λ s. (refl, refl))) (λ done. does-give names)))
+  does-listed_anew handle d false None = does-list_now handle d.number
+  does-listed_anew handle d true known = does-list_now handle d.number
 
   pub does-read_directory : (extent : Extent) → Does rights P (read_directory extent)
   unfolding read_directory
@@ -183,15 +175,12 @@ module _ {rights : Rights} {P : List (ℕ × Credential) → Type 0} where
 
   does-acl_of : (n : ℕ) (which : AclType) → Does rights P (acl_of n which)
   does-acl_of n which =
-      does-with_looker (λ pid is.
-      does->>= (does-on pid n _ (λ path. looks pid is _ refl)) (λ reply.
-      does->>= (does-replied_acl reply) (λ acl. does-give _)))
+      does->>= (does-by_looker n _ (λ path. refl)) (λ reply. does->>= (does-replied_acl reply) (λ acl. does-give _))
 
   does-sized : (size has : ℕ) (body : ReplyBody) → Does rights P (sized size has body)
   does-sized size has body = does-if _ _ _ (does-give _) (does-if _ _ _ (does-stop _) (does-give body))
 
   pub does-get_xattr : (r : Asked) (name : List ℕ) (size : ℕ) → Does rights P (get_xattr r name size)
-  unfolding get_xattr
   does-get_xattr r name size =
       does->>= (does-needed _ _) (λ which.
       does->>= (does->>= (does-the_number _) (λ n. does->>= (does-kept _) (λ has. does-if has _ _ (does-give n) (does-stop _)))) (λ n.
@@ -203,7 +192,6 @@ module _ {rights : Rights} {P : List (ℕ × Credential) → Type 0} where
   does-attribute_names n true = does->>= (does-acl_of n Access) (λ access. does->>= (does-acl_of n Default) (λ default. does-give _))
 
   pub does-list_xattrs : (r : Asked) (size : ℕ) → Does rights P (list_xattrs r size)
-  unfolding list_xattrs
   does-list_xattrs r size =
       does->>= (does-the_number _) (λ n.
       does->>= (does-kept _) (λ has.
@@ -233,7 +221,6 @@ module _ {rights : Rights} {P : List (ℕ × Credential) → Type 0} where
   does-sync_all = does->>= (does->>= does-sync does-unless_refused) (λ done. does-give _)
 
   pub does-sync_file : (handle : ℕ) → rights.handle ≡ Some handle → Does rights P (sync_file handle)
-  unfolding sync_file
   does-sync_file handle given =
       does->>= (does-the_open handle) (λ n. does->>= (does->>= (does-fsync handle given) does-unless_refused) (λ done. does-give _))
 

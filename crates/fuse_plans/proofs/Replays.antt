@@ -46,11 +46,9 @@ use Rattle.fuse_plans.specs.Works.{give, stop, kept, keep, ◌>>=◌, attempt, a
 use Rattle.fuse_plans.specs.Callers.{retire, begin_process, caller, caller_with_room, the_looker, between, look_inside, on, look, the_number, directory_number}
 use Rattle.fuse_plans.specs.declared.flags.Mode.{Mode}
 use Rattle.fuse_plans.specs.Flags.{only}
-use Rattle.fuse_plans.specs.NamePlans.{find_name, made, make_link, make_directory, make_file, remove, move_name, link_by_place, add_link}
-use Rattle.fuse_plans.specs.FilePlans.{ask_first, open_object, open_file, open_or_make, show_open, look_open, tell_created, create_file, the_open, seek, read_piece, read_pieces, read_file, write_piece, write_pieces, write_by, close_file, sync_file}
-use Rattle.fuse_plans.specs.AttributePlans.{get_attributes, change_attributes, set_attributes, read_link, access_as, ask_access}
-use Rattle.fuse_plans.specs.DirectoryPlans.{entry_kind, open_directory, tell_names, list_open, read_directory, close_directory, sync_all}
-use Rattle.fuse_plans.specs.AclPlans.{get_xattr, list_xattrs, set_xattr, remove_xattr}
+use Rattle.fuse_plans.specs.NamePlans.{made, link_by_place}
+use Rattle.fuse_plans.specs.FilePlans.{open_or_make, show_open, look_open, tell_created, the_open, seek, read_piece, read_pieces, write_piece, write_pieces}
+use Rattle.fuse_plans.specs.DirectoryPlans.{entry_kind, tell_names, list_open, read_directory, close_directory, sync_all}
 use Rattle.fuse_plans.specs.Serving.{begin, count_space, end, request_plan}
 
 -- what is asked, and the result, if the plan is done with just these replies
@@ -92,7 +90,7 @@ played s (step ∷ steps) =
 
 -- all that a plan computes with
 unfoldable pub all_plans : Unit {0}
-unfolding give stop kept keep ◌>>=◌ attempt ask retire begin_process caller caller_with_room the_looker between look_inside on look the_number directory_number find_name made make_link make_directory make_file remove move_name link_by_place add_link ask_first open_object open_file open_or_make show_open look_open tell_created create_file the_open seek read_piece read_pieces read_file write_piece write_pieces write_by close_file sync_file get_attributes change_attributes set_attributes read_link access_as ask_access open_directory tell_names list_open read_directory close_directory sync_all get_xattr list_xattrs set_xattr remove_xattr begin count_space end request_plan
+unfolding give stop kept keep ◌>>=◌ attempt ask retire begin_process caller caller_with_room the_looker between look_inside on look the_number directory_number made link_by_place open_or_make show_open look_open tell_created the_open seek read_piece read_pieces write_piece write_pieces tell_names list_open read_directory close_directory sync_all begin count_space end request_plan
 all_plans = tt
 
 -- ---- words

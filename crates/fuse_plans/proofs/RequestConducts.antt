@@ -17,6 +17,7 @@ use Rattle.fuse_plans.specs.declared.reply.ReplyBody.{ReplyBody}
 use Rattle.fuse_state.specs.Servers.{Server, with_the_looker}
 use Rattle.fuse_plans.specs.Works.{Work, give, stop, kept, keep, goes_on, ◌>>=◌, ◌>>◌, ask, unless_refused, replied_pid}
 use Rattle.fuse_plans.specs.Conduct.{Known, Rights, conduct, after_spawn}
+use Rattle.fuse_plans.specs.NamePlans.{removal}
 use Rattle.fuse_plans.specs.Serving.{agreed, later_version, or_looker, begin, plan_of, asked_for, response_of, answered, request_plan}
 use Rattle.fuse_plans.specs.Laws.{RunsBehave, server_rights, Begun, BeginningBehaves, handle_of_operation, handle_in, is_beginning, is_init, rights_of, known_in, Ends, RequestsBehave}
 use Rattle.fuse_plans.proofs.PlanLaws.{keeps-follows}
@@ -46,8 +47,8 @@ module _ (rights : Rights) (r : Asked) (is : rights.cred ≡ r.cred) where
   does-plan value (SymLink name target) other given = does-make_link r is name target
   does-plan value (MkNod name mode umask) other given = does-make_file r is name mode umask
   does-plan value (MkDir name mode umask) other given = does-make_directory r is name mode umask
-  does-plan value (Unlink name) other given = does-remove r is _ name refl
-  does-plan value (RmDir name) other given = does-remove r is _ name refl
+  does-plan value (Unlink name) other given = does-remove r is (removal false) name refl
+  does-plan value (RmDir name) other given = does-remove r is (removal true) name refl
   does-plan value (Rename name new_directory new_name flags) other given = does-move_name r is name new_directory new_name flags
   does-plan value (Link node name) other given = does-add_link r is node name
   does-plan value (Open flags) other given = does-open_file r is flags.0

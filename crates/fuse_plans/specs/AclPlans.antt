@@ -11,11 +11,12 @@ use Rattle.fuse_plans.specs.declared.stop.Stop.TheVariants.{Lacks}
 use Rattle.fuse_plans.specs.Stops.{failed}
 use Rattle.fuse_plans.specs.declared.stop.OtherErrno.TheVariants.{EOPNOTSUPP, ENODATA, ERANGE}
 use Rattle.fuse_plans.specs.declared.request.Asked.{Asked}
+use Rattle.fuse_protocol.specs.declared.reply.Time.{Time}
 use Rattle.fuse_plans.specs.declared.reply.ReplyBody.{ReplyBody}
 use Rattle.fuse_plans.specs.declared.reply.ReplyBody.TheVariants.{Nothing, Bytes, Acl, Size}
 use Rattle.fuse_state.specs.Servers.{Server, kind_of, changed}
 use Rattle.fuse_plans.specs.Works.{Work, give, stop, kept, keep, ◌>>=◌, ◌>>◌, needed, replied_acl}
-use Rattle.fuse_plans.specs.Callers.{caller, the_looker, is_known_directory, has_place, on, look, the_number}
+use Rattle.fuse_plans.specs.Callers.{caller, is_known_directory, has_place, on, by_looker, look, the_number}
 use Rattle.fuse_plans.specs.AttributePlans.{is_known_link}
 use Rattle.fuse_plans.specs.FilePlans.{when}
 
@@ -52,8 +53,7 @@ told_acl Access None = None
 
 abbrev pub acl_of : ℕ → AclType → Work (Option AccessList)
 acl_of n which = do
-  pid ← the_looker
-  reply ← on pid n (λ path. GetAcl path which)
+  reply ← by_looker n (λ path. GetAcl path which)
   acl ← replied_acl reply
   give (told_acl which acl)
 
@@ -64,13 +64,18 @@ acl_size a = 4 + 8 * entry_count a
 abbrev pub sized : ℕ → ℕ → ReplyBody → Work ReplyBody
 sized size has body = if size == 0 then give (Size has) else if nat_lt size has then stop (Lacks ERANGE) else give body
 
-unfoldable pub get_xattr : Asked → List ℕ → ℕ → Work ReplyBody
-get_xattr r name size = do
-  which ← the_acl name
-  n ← an_object r
+-- an ACL that is there, or how many bytes it has
+abbrev pub tell_acl : ℕ → AclType → ℕ → Work ReplyBody
+tell_acl n which size = do
   found ← acl_of n which
   acl ← needed (Lacks ENODATA) found
   sized size (acl_size acl) (Acl acl)
+
+abbrev pub get_xattr : Asked → List ℕ → ℕ → Work ReplyBody
+get_xattr r name size = do
+  which ← the_acl name
+  n ← an_object r
+  tell_acl n which size
 
 abbrev pub name_if : List ℕ → Bool → List ℕ
 name_if name false = []
@@ -87,7 +92,7 @@ attribute_names n true = do
   default ← acl_of n Default
   give (acl_names (is_some access) (is_some default))
 
-unfoldable pub list_xattrs : Asked → ℕ → Work ReplyBody
+abbrev pub list_xattrs : Asked → ℕ → Work ReplyBody
 list_xattrs r size = do
   n ← the_number r.node
   has ← kept (λ s. has_acls s n)
@@ -110,24 +115,29 @@ acl_set n which acl = if is_plain which acl then (do
   status ← look n
   give (Some (minimal status.mode))) else give acl
 
+-- a process sets it
+abbrev pub set_by : Time → ℕ → ℕ → AclType → Option AccessList → Work ReplyBody
+set_by now pid n which wanted = do
+  acl ← acl_set n which wanted
+  on pid n (λ path. SetAcl path which acl)
+  keep (changed now n)
+  give Nothing
+
 abbrev pub set_acl : Asked → AclType → Option AccessList → Work ReplyBody
 set_acl r which wanted = do
   n ← an_object r
   kind ← kept (λ s. kind_of s n)
   when (is_of_default which && not (is_known_directory kind)) (stop (failed EACCES))
   pid ← caller r.cred
-  acl ← acl_set n which wanted
-  on pid n (λ path. SetAcl path which acl)
-  keep (changed r.now n)
-  give Nothing
+  set_by r.now pid n which wanted
 
-unfoldable pub set_xattr : Asked → List ℕ → Option (Option AccessList) → Work ReplyBody
+abbrev pub set_xattr : Asked → List ℕ → Option (Option AccessList) → Work ReplyBody
 set_xattr r name value = do
   which ← the_acl name
   acl ← needed (failed EINVAL) value
   set_acl r which acl
 
-unfoldable pub remove_xattr : Asked → List ℕ → Work ReplyBody
+abbrev pub remove_xattr : Asked → List ℕ → Work ReplyBody
 remove_xattr r name = do
   which ← the_acl name
   set_acl r which None

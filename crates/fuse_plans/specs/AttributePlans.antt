@@ -8,7 +8,6 @@ use Rattle.fs_cred.specs.Credentials.{Credential}
 use Rattle.fs_cred.specs.declared.errno.Errno.TheVariants.{EPERM, EACCES}
 use Rattle.fs_cred.specs.Ownership.{counts_as_owner}
 use Rattle.fs_model.specs.declared.call.Call.TheVariants.{Access, Truncate, Ftruncate, Chmod, Chown, Readlink}
-use Rattle.fs_model.specs.declared.event.Event.TheVariants.{Call as Calls}
 use Rattle.fs_model.specs.declared.reply.FileType.{FileType}
 use Rattle.fs_model.specs.declared.reply.FileType.TheVariants.{Link}
 use Rattle.fs_model.specs.declared.reply.Reply.{Reply}
@@ -23,16 +22,16 @@ use Rattle.fuse_protocol.specs.declared.operation.NewTime.TheVariants.{Now, At}
 use Rattle.fuse_protocol.specs.declared.operation.AttrChanges.{AttrChanges}
 use Rattle.fuse_plans.specs.declared.reply.ReplyBody.{ReplyBody}
 use Rattle.fuse_plans.specs.declared.reply.ReplyBody.TheVariants.{Nothing, Shown, Bytes}
-use Rattle.fuse_state.specs.Servers.{Server, kind_of, times_of, with_times, touched, changed, owner_of, descriptor_of}
-use Rattle.fuse_plans.specs.Works.{Work, give, stop, kept, keep, ◌>>=◌, ◌>>◌, needed, obtain, replied_target}
-use Rattle.fuse_plans.specs.Callers.{caller, the_looker, on, look, the_number}
+use Rattle.fuse_state.specs.Servers.{Server, kind_of, times_of, with_times, touched, changed, descriptor_of}
+use Rattle.fuse_plans.specs.Works.{Work, give, stop, kept, keep, ◌>>=◌, ◌>>◌, needed, replied_target}
+use Rattle.fuse_plans.specs.Callers.{caller, on, by_looker, look, the_number}
 use Rattle.fuse_plans.specs.NamePlans.{attributes}
-use Rattle.fuse_plans.specs.FilePlans.{when, done, the_open}
+use Rattle.fuse_plans.specs.FilePlans.{when, done, call_open}
 
 abbrev pub tell_attributes : Status → Work ReplyBody
 tell_attributes status = kept (λ s. Shown (attributes s status))
 
-unfoldable pub get_attributes : Asked → Work ReplyBody
+abbrev pub get_attributes : Asked → Work ReplyBody
 get_attributes r = do
   n ← the_number r.node
   status ← look n
@@ -66,9 +65,7 @@ new_owners c n true = if is_some c.mode || is_some c.size then stop (Lacks EOPNO
 -- by the handle, where there is one
 abbrev pub resize_object : ℕ → ℕ → ℕ → Option ℕ → Work Reply
 resize_object pid n size None = on pid n (λ path. Truncate path size)
-resize_object pid n size (Some handle) = do
-  opened ← the_open handle
-  obtain (Calls (owner_of handle) (Ftruncate (descriptor_of handle) size))
+resize_object pid n size (Some handle) = call_open handle (Ftruncate (descriptor_of handle) size)
 
 abbrev pub set_size : Time → ℕ → ℕ → Option ℕ → Option ℕ → Work (Unit {0})
 set_size now pid n handle None = give tt
@@ -114,42 +111,50 @@ set_times r pid n link status c = when (is_some c.atime || is_some c.mtime) (do
   keep (timed r.now n c))
 
 -- Size, then owner and group, then mode; what was done before a refusal stays.
-unfoldable pub change_attributes : Time → ℕ → ℕ → Bool → AttrChanges → Work (Unit {0})
+abbrev pub change_attributes : Time → ℕ → ℕ → Bool → AttrChanges → Work (Unit {0})
 change_attributes now pid n link c = do
   owners ← new_owners c n link
   set_size now pid n c.handle c.size
   set_owners now pid n owners
   set_mode now pid n c.mode
 
+-- times, and what is there then
+abbrev pub tell_times : Asked → ℕ → ℕ → Bool → AttrChanges → Work ReplyBody
+tell_times r pid n link c = do
+  status ← look n
+  set_times r pid n link status c
+  tell_attributes status
+
 -- and then times
-unfoldable pub set_attributes : Asked → AttrChanges → Work ReplyBody
+abbrev pub set_attributes : Asked → AttrChanges → Work ReplyBody
 set_attributes r c = do
   n ← the_number r.node
   pid ← caller r.cred
   kind ← kept (λ s. kind_of s n)
   change_attributes r.now pid n (is_known_link kind) c
-  status ← look n
-  set_times r pid n (is_known_link kind) status c
-  tell_attributes status
+  tell_times r pid n (is_known_link kind) c
 
 -- ---- links and access
 
-unfoldable pub read_link : Asked → Work ReplyBody
-read_link r = do
-  n ← the_number r.node
-  pid ← the_looker
-  reply ← on pid n Readlink
+abbrev pub tell_target : ℕ → Work ReplyBody
+tell_target n = do
+  reply ← by_looker n Readlink
   target ← replied_target reply
   give (Bytes target)
 
+abbrev pub read_link : Asked → Work ReplyBody
+read_link r = do
+  n ← the_number r.node
+  tell_target n
+
 -- a process of who asks may do so much
-unfoldable pub access_as : Option Credential → ℕ → Perms → Work (Unit {0})
+abbrev pub access_as : Option Credential → ℕ → Perms → Work (Unit {0})
 access_as who n perms = do
   pid ← caller who
   done (on pid n (λ path. Access path perms))
 
 -- on a link it is never refused
-unfoldable pub ask_access : Asked → ℕ → Work ReplyBody
+abbrev pub ask_access : Asked → ℕ → Work ReplyBody
 ask_access r mask = do
   n ← the_number r.node
   kind ← kept (λ s. kind_of s n)

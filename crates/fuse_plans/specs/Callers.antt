@@ -1,7 +1,7 @@
 -- For whom a request is performed, and by which process.
 --     caller, caller_with_room        a process of it; one that can hold one more descriptor
 --     inside, between, done_between        a call in a directory, and in two
---     on, look        a call on an object, by its latest place; what stat(2) shows of it
+--     on, by_looker, look        a call on an object, by its latest place; by the server's own process; what stat(2) shows of it
 use Rattle.std.specs.Prelude.{ℕ, zero, suc, ◌==◌, Bool, true, false, ◌&&◌, ◌||◌, List, codes, Option, None, Some, is_some, Result, Ok, Err, if◌then◌else◌}
 use Rattle.fs_cred.specs.declared.errno.Errno.TheVariants.{EACCES, EAGAIN, ENOTDIR}
 use Rattle.fs_cred.specs.Credentials.{Credential}
@@ -154,10 +154,14 @@ by_handle n = do
   handle ← needed (Lacks ESTALE) found
   obtain (Calls (owner_of handle) (Fstat (descriptor_of handle)))
 
-abbrev pub look_at : ℕ → Bool → Work Reply
-look_at n true = do
+-- a call on an object by the server's own process
+abbrev pub by_looker : ℕ → (List ℕ → Call) → Work Reply
+by_looker n call = do
   pid ← the_looker
-  on pid n Lstat
+  on pid n call
+
+abbrev pub look_at : ℕ → Bool → Work Reply
+look_at n true = by_looker n Lstat
 look_at n false = by_handle n
 
 -- No permission is asked: the kernel holds the object.

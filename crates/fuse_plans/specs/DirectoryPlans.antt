@@ -26,7 +26,7 @@ use Rattle.fuse_plans.specs.FilePlans.{when}
 use Rattle.fuse_plans.specs.AttributePlans.{access_as}
 
 -- Asks for reading, as who asks; of a directory that was removed nothing is asked.
-unfoldable pub open_directory : Asked → Work ReplyBody
+abbrev pub open_directory : Asked → Work ReplyBody
 open_directory r = do
   n ← directory_number r.node
   full ← kept (λ s. are_directories_full s)
@@ -69,31 +69,48 @@ list_open pid fd = do
   seen ← attempt (tell_names pid fd)
   or_closed pid fd seen
 
+-- the same, and then it is closed
+abbrev pub list_and_close : ℕ → ℕ → Work (List (List ℕ × ℕ))
+list_and_close pid fd = do
+  names ← list_open pid fd
+  obtain (Calls pid (Close fd))
+  give names
+
 abbrev pub list_all : ℕ → Bool → Work (List (List ℕ × ℕ))
 list_all n false = give []
 list_all n true = do
   pid ← the_looker
   opened ← on pid n (λ path. OpenCall path listing 0)
   fd ← replied_fd opened
-  names ← list_open pid fd
-  obtain (Calls pid (Close fd))
+  list_and_close pid fd
+
+-- the names that are there now
+abbrev pub list_now : ℕ → ℕ → Work (List (List ℕ × ℕ))
+list_now handle n = do
+  placed ← kept (λ s. has_place s n)
+  names ← list_all n placed
+  keep (with_directory handle (record { number = n; listing = Some names }))
   give names
 
 -- at the beginning it is listed anew
 abbrev pub listed : ℕ → OpenDirectory → Bool → Option (List (List ℕ × ℕ)) → Work (List (List ℕ × ℕ))
 listed handle d false (Some names) = give names
-listed handle d _ _ = do
-  placed ← kept (λ s. has_place s d.number)
-  names ← list_all d.number placed
-  keep (with_directory handle (record { number = d.number; listing = Some names }))
-  give names
+listed handle d _ _ = list_now handle d.number
+
+abbrev pub tell_listed : Extent → List (List ℕ × ℕ) → Work ReplyBody
+tell_listed extent names = give (Bytes (listing_bytes extent.offset extent.size (drop extent.offset names)))
+
+abbrev pub tell_now : Extent → ℕ → Work ReplyBody
+tell_now extent n = do
+  names ← list_now extent.handle n
+  tell_listed extent names
 
 unfoldable pub read_directory : Extent → Work ReplyBody
 read_directory extent = do
   known ← kept (λ s. directory_of s extent.handle)
   d ← needed (failed EBADF) known
   names ← listed extent.handle d (extent.offset == 0) d.listing
-  give (Bytes (listing_bytes extent.offset extent.size (drop extent.offset names)))
+  tell_listed extent names
 
 unfoldable pub close_directory : ℕ → Work ReplyBody
 close_directory handle = do

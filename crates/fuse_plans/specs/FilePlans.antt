@@ -45,7 +45,7 @@ reads_alone _ = false
 
 -- To run it is asked for as access(2) does; where a file that is opened for reading alone is to lose its bytes, that is asked
 -- for as truncate(2) does.
-unfoldable pub ask_first : ℕ → ℕ → ℕ → Mode → Work (Unit {0})
+abbrev pub ask_first : ℕ → ℕ → ℕ → Mode → Work (Unit {0})
 ask_first pid n flags mode = do
   when (is_exec flags) (done (on pid n (λ path. Access path (perms_of 1))))
   when (is_trunc flags && reads_alone mode) (done (on pid n (λ path. Truncate path 0)))
@@ -55,7 +55,7 @@ touched_if true now n s = touched now n s
 touched_if false now n s = s
 
 -- what is open has a handle
-unfoldable pub open_object : Time → ℕ → ℕ → ℕ → Mode → Work ℕ
+abbrev pub open_object : Time → ℕ → ℕ → ℕ → Mode → Work ℕ
 open_object now pid n flags mode = do
   reply ← on pid n (λ path. OpenCall path (opening mode (is_trunc flags)) 0)
   handle ← replied_handle pid reply
@@ -63,14 +63,19 @@ open_object now pid n flags mode = do
   keep (with_handle handle n)
   give handle
 
-unfoldable pub open_file : Asked → ℕ → Work ReplyBody
+-- once it is granted
+abbrev pub open_granted : Time → ℕ → ℕ → ℕ → Mode → Work ReplyBody
+open_granted now pid n flags mode = do
+  ask_first pid n flags mode
+  handle ← open_object now pid n flags mode
+  give (Opened handle)
+
+abbrev pub open_file : Asked → ℕ → Work ReplyBody
 open_file r flags = do
   n ← the_number r.node
   mode ← needed (failed EINVAL) (mode_in flags)
   pid ← caller_with_room r.cred
-  ask_first pid n flags mode
-  handle ← open_object r.now pid n flags mode
-  give (Opened handle)
+  open_granted r.now pid n flags mode
 
 -- what was opened, and whether it is new
 abbrev pub or_opened : ℕ → ℕ → List ℕ → Mode → ℕ → Result Reply Stop → Work (Reply × Bool)
@@ -106,17 +111,22 @@ tell_created now p is_new is_cut handle status = do
   keep (with_handle handle status.inode)
   kept (created_body handle status)
 
-unfoldable pub create_file : Asked → List ℕ → ℕ → ℕ → ℕ → Work ReplyBody
+-- a process makes the file, or opens it
+abbrev pub create_by : Time → ℕ → ℕ → List ℕ → Mode → ℕ → ℕ → Work ReplyBody
+create_by now pid d name mode flags file_mode = do
+  opened ← open_or_make pid d name mode flags file_mode
+  handle ← replied_handle pid opened.0
+  status ← look_open pid (descriptor_of handle)
+  tell_created now (place d name) opened.1 (is_trunc flags) handle status
+
+abbrev pub create_file : Asked → List ℕ → ℕ → ℕ → ℕ → Work ReplyBody
 create_file r name flags file_mode umask = do
   plain_name name
   mode ← needed (failed EINVAL) (mode_in flags)
   d ← directory_number r.node
   pid ← caller_with_room r.cred
   set_umask pid umask
-  opened ← open_or_make pid d name mode flags file_mode
-  handle ← replied_handle pid opened.0
-  status ← look_open pid (descriptor_of handle)
-  tell_created r.now (place d name) opened.1 (is_trunc flags) handle status
+  create_by r.now pid d name mode flags file_mode
 
 -- ---- by a handle
 
@@ -126,9 +136,22 @@ the_open handle = do
   n ← kept (λ s. object_of s handle)
   needed (failed EBADF) n
 
+-- a call of the process that opened it
+abbrev pub call_open : ℕ → Call → Work Reply
+call_open handle call = do
+  the_open handle
+  obtain (Calls (owner_of handle) call)
+
 -- offsets are numbers of 63 bits
 unfoldable pub seek : ℕ → ℕ → ℕ → Work Reply
 seek pid fd offset = if nat_lt offset (2 ^ 63) then obtain (Calls pid (Lseek fd Set (pos offset))) else stop (failed EINVAL)
+
+-- the next bytes that are moved are those behind the offset
+abbrev pub seek_open : ℕ → ℕ → Work ℕ
+seek_open handle offset = do
+  n ← the_open handle
+  seek (owner_of handle) (descriptor_of handle) offset
+  give n
 
 unfoldable pub read_piece : ℕ → ℕ → ℕ → Work (List ℕ)
 read_piece pid fd most = do
@@ -145,10 +168,9 @@ read_pieces (suc k) pid fd size bytes = if size == 0 then give bytes else do
 abbrev pub pieces_of : ℕ → ℕ
 pieces_of size = size / move_limit + 1
 
-unfoldable pub read_file : Extent → Work ReplyBody
+abbrev pub read_file : Extent → Work ReplyBody
 read_file extent = do
-  n ← the_open extent.handle
-  seek (owner_of extent.handle) (descriptor_of extent.handle) extent.offset
+  seek_open extent.handle extent.offset
   bytes ← read_pieces (pieces_of extent.size) (owner_of extent.handle) (descriptor_of extent.handle) extent.size []
   give (Bytes bytes)
 
@@ -189,10 +211,9 @@ pieces_in (suc k) (b ∷ bs) = take move_limit (b ∷ bs) ∷ pieces_in k (drop 
 abbrev pub writes_of : ℕ → List ℕ → List Call
 writes_of fd bytes = map (WriteCall fd) (pieces_in (pieces_of (length bytes)) bytes)
 
-unfoldable pub write_by : Time → ℕ → ℕ → List Call → Work ReplyBody
+abbrev pub write_by : Time → ℕ → ℕ → List Call → Work ReplyBody
 write_by now handle offset calls = do
-  n ← the_open handle
-  seek (owner_of handle) (descriptor_of handle) offset
+  n ← seek_open handle offset
   count ← write_pieces (owner_of handle) 0 calls
   keep (touched now n)
   give (Wrote count)
@@ -200,14 +221,13 @@ write_by now handle offset calls = do
 abbrev pub write_file : Asked → ℕ → ℕ → List ℕ → Work ReplyBody
 write_file r handle offset bytes = write_by r.now handle offset (writes_of (descriptor_of handle) bytes)
 
-unfoldable pub close_file : ℕ → Work ReplyBody
+abbrev pub close_file : ℕ → Work ReplyBody
 close_file handle = do
-  n ← the_open handle
-  obtain (Calls (owner_of handle) (Close (descriptor_of handle)))
+  call_open handle (Close (descriptor_of handle))
   keep (without_handle handle)
   give Nothing
 
-unfoldable pub sync_file : ℕ → Work ReplyBody
+abbrev pub sync_file : ℕ → Work ReplyBody
 sync_file handle = do
   n ← the_open handle
   obtain (Fsync (owner_of handle) (descriptor_of handle))

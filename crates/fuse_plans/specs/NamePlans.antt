@@ -54,15 +54,25 @@ or_absent (Ok n) = give n
 or_absent (Err (Lacks ESTALE)) = stop (failed ENOENT)
 or_absent (Err e) = stop e
 
-unfoldable pub find_name : Asked → List ℕ → Work ReplyBody
-find_name r name = do
+-- the directory in which a name is looked for
+abbrev pub searched_directory : ℕ → List ℕ → Work ℕ
+searched_directory node name = do
   plain_name name
-  known ← attempt (directory_number r.node)
-  d ← or_absent known
-  pid ← caller r.cred
+  known ← attempt (directory_number node)
+  or_absent known
+
+-- what a process finds under the name
+abbrev pub find_inside : ℕ → ℕ → List ℕ → Work ReplyBody
+find_inside pid d name = do
   status ← look_inside pid d name
   keep (with_name (place d name) status.inode status.kind)
   tell_entry status
+
+abbrev pub find_name : Asked → List ℕ → Work ReplyBody
+find_name r name = do
+  d ← searched_directory r.node name
+  pid ← caller r.cred
+  find_inside pid d name
 
 -- ---- new objects
 
@@ -73,36 +83,6 @@ made now d name = do
   status ← look_inside pid d name
   keep (born now (place d name) status.inode status.kind)
   tell_entry status
-
--- a call makes what has the name then
-abbrev pub make_by : Time → ℕ → ℕ → Call → List ℕ → Work ReplyBody
-make_by now pid d call name = do
-  done_between pid d d call
-  made now d name
-
-unfoldable pub make_link : Asked → List ℕ → List ℕ → Work ReplyBody
-make_link r name target = do
-  d ← directory_for r.node name
-  pid ← caller r.cred
-  make_by r.now pid d (Symlink target name) name
-
--- new objects of the process are made with this mask from now on
-abbrev pub set_umask : ℕ → ℕ → Work Reply
-set_umask pid umask = obtain (Calls pid (Umask (bit_and umask 0o777)))
-
-unfoldable pub make_directory : Asked → List ℕ → ℕ → ℕ → Work ReplyBody
-make_directory r name mode umask = do
-  d ← directory_for r.node name
-  pid ← caller r.cred
-  set_umask pid umask
-  make_by r.now pid d (Mkdir name (bit_and mode 0o7777)) name
-
--- the type in a mode is that of a file, or none
-abbrev pub is_of_file : ℕ → Bool
-is_of_file mode = bit_and mode 0o170000 == 0 || bit_and mode 0o170000 == 0o100000
-
-abbrev pub only_file : ℕ → Work (Unit {0})
-only_file mode = if is_of_file mode then give tt else stop (failed EPERM)
 
 abbrev pub close : ℕ → ℕ → Work (Unit {0})
 close pid fd = do
@@ -116,19 +96,60 @@ open_and_close pid d call = do
   fd ← replied_fd reply
   close pid fd
 
--- a new file
-abbrev pub make_closed : Time → ℕ → ℕ → Call → List ℕ → Work ReplyBody
-make_closed now pid d call name = do
-  open_and_close pid d call
+abbrev pub opens : Call → Bool
+opens (OpenCall path flags mode) = true
+opens _ = false
+
+-- a call in a directory, after which nothing is open
+abbrev pub done_closed : ℕ → ℕ → Call → Work (Unit {0})
+done_closed pid d call = if opens call then open_and_close pid d call else done_between pid d d call
+
+-- a call makes what has the name then
+abbrev pub make_by : Time → ℕ → ℕ → Call → List ℕ → Work ReplyBody
+make_by now pid d call name = do
+  done_closed pid d call
   made now d name
 
-unfoldable pub make_file : Asked → List ℕ → ℕ → ℕ → Work ReplyBody
+-- the directory of a name that is asked for, and a process of who asks
+abbrev pub caller_in : Asked → List ℕ → Work (ℕ × ℕ)
+caller_in r name = do
+  d ← directory_for r.node name
+  pid ← caller r.cred
+  give (d, pid)
+
+abbrev pub make_link : Asked → List ℕ → List ℕ → Work ReplyBody
+make_link r name target = do
+  who ← caller_in r name
+  make_by r.now who.1 who.0 (Symlink target name) name
+
+-- new objects of the process are made with this mask from now on
+abbrev pub set_umask : ℕ → ℕ → Work Reply
+set_umask pid umask = obtain (Calls pid (Umask (bit_and umask 0o777)))
+
+-- the same, where the mode that is asked for is masked
+abbrev pub make_masked : Time → ℕ → ℕ → ℕ → Call → List ℕ → Work ReplyBody
+make_masked now umask pid d call name = do
+  set_umask pid umask
+  make_by now pid d call name
+
+abbrev pub make_directory : Asked → List ℕ → ℕ → ℕ → Work ReplyBody
+make_directory r name mode umask = do
+  who ← caller_in r name
+  make_masked r.now umask who.1 who.0 (Mkdir name (bit_and mode 0o7777)) name
+
+-- the type in a mode is that of a file, or none
+abbrev pub is_of_file : ℕ → Bool
+is_of_file mode = bit_and mode 0o170000 == 0 || bit_and mode 0o170000 == 0o100000
+
+abbrev pub only_file : ℕ → Work (Unit {0})
+only_file mode = if is_of_file mode then give tt else stop (failed EPERM)
+
+abbrev pub make_file : Asked → List ℕ → ℕ → ℕ → Work ReplyBody
 make_file r name mode umask = do
   only_file mode
   d ← directory_for r.node name
   pid ← caller_with_room r.cred
-  set_umask pid umask
-  make_closed r.now pid d (OpenCall name making (bit_and mode 0o777)) name
+  make_masked r.now umask pid d (OpenCall name making (bit_and mode 0o777)) name
 
 -- ---- names that go
 
@@ -138,12 +159,11 @@ removal true name = Rmdir name
 removal false name = Unlink name
 
 -- with unlink or rmdir
-unfoldable pub remove : Asked → (List ℕ → Call) → List ℕ → Work ReplyBody
+abbrev pub remove : Asked → (List ℕ → Call) → List ℕ → Work ReplyBody
 remove r call name = do
-  d ← directory_for r.node name
-  pid ← caller r.cred
-  done_between pid d d (call name)
-  keep (removed r.now (place d name))
+  who ← caller_in r name
+  done_between who.1 who.0 who.0 (call name)
+  keep (removed r.now (place who.0 name))
   give Nothing
 
 -- the one flag is that nothing may be replaced
@@ -173,14 +193,19 @@ rename now pid old new = do
   keep (moved now old new)
   give Nothing
 
-unfoldable pub move_name : Asked → List ℕ → ℕ → List ℕ → ℕ → Work ReplyBody
+-- the same, if it may replace what is there
+abbrev pub move_to : Time → ℕ → ℕ → Place → ℕ → List ℕ → Work ReplyBody
+move_to now flags pid old new new_name = do
+  nothing_to_replace flags pid new new_name
+  rename now pid old (place new new_name)
+
+abbrev pub move_name : Asked → List ℕ → ℕ → List ℕ → ℕ → Work ReplyBody
 move_name r name new_node new_name flags = do
   may_move name new_name flags
   d ← directory_number r.node
   new ← directory_number new_node
   pid ← caller r.cred
-  nothing_to_replace flags pid new new_name
-  rename r.now pid (place d name) (place new new_name)
+  move_to r.now flags pid (place d name) new new_name
 
 -- an object gets one more name, by its latest
 unfoldable pub link_by_place : ℕ → ℕ → ℕ → List ℕ → Work (Unit {0})
@@ -197,10 +222,15 @@ tell_linked now p n = do
   status ← look n
   tell_entry status
 
-unfoldable pub add_link : Asked → ℕ → List ℕ → Work ReplyBody
-add_link r old_node name = do
-  d ← directory_for r.node name
-  n ← the_number old_node
+-- who asks gives an object one more name
+abbrev pub link_as : Asked → ℕ → ℕ → List ℕ → Work ReplyBody
+link_as r n d name = do
   pid ← caller r.cred
   link_by_place pid n d name
   tell_linked r.now (place d name) n
+
+abbrev pub add_link : Asked → ℕ → List ℕ → Work ReplyBody
+add_link r old_node name = do
+  d ← directory_for r.node name
+  n ← the_number old_node
+  link_as r n d name

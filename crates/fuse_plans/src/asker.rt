@@ -2,18 +2,20 @@
 //!
 //! Events, calls and replies are let go by `mem::drop`, here and elsewhere: where they go in place, each of their kinds is a case
 //! of that function's proof.
-ghost use Rattle.std.specs.Prelude.{◌≡◌, Err, Ok, IfOk, IsTrue, MatchResult};
+ghost use Rattle.std.specs.Prelude.{◌≡◌, Some, Err, Ok, IfOk, IsSome, IsTrue, MatchResult};
 ghost use Rattle.fs_model.specs.Steps.{is_of_machine};
 ghost use Rattle.fs_model.specs.declared.event.Event.TheVariants.{Call as Calls, Enter};
-ghost use Rattle.fuse_plans.specs.Works.{give, ask, obtain, of_result, refusal_in, unless_refused};
-ghost use Rattle.fuse_plans.specs.Callers.{between, done_between};
+ghost use Rattle.fuse_plans.specs.Works.{give, ask, obtain, of_result, or_closed, refusal_in, unless_refused};
+ghost use Rattle.fuse_plans.specs.Callers.{between, inside, done_between};
+ghost use Rattle.fuse_plans.specs.Paths.{name_in};
 ghost use Rattle.fuse_plans.specs.Performing.{DidByMachine};
 
 use crate::machine::Machine;
+use crate::path::name_in;
 use crate::stop::Stop;
 use fs_cred::Refusal;
 use fs_layout::ROOT;
-use fs_model::{Call, Event, Reply};
+use fs_model::{Call, Event, Path, Reply};
 use std::mem;
 
 // The refusal that a reply is.
@@ -117,6 +119,24 @@ pub(crate) fn between<M: Machine>(
     unless_refused(reply)
 }
 
+/// The same of a call with names of one directory. The name of what it is about comes back.
+pub(crate) fn inside<M: Machine>(
+    machine: &mut M,
+    pid: usize,
+    directory: u32,
+    call: Call,
+) -> (Result<Reply, Stop>, Path)
+    requires { IsSome (name_in call) }
+    ensures did { DidByMachine M.Serves (inside pid directory call) machine.old machine.new result.0 }
+    ensures name { name_in call ≡ Some result.1 }
+{
+    let reply = between(machine, pid, directory, directory, &call);
+    let Some(name) = name_in(call) else {
+        unreachable!()
+    };
+    (reply, name)
+}
+
 /// The reply says no more than that it was done.
 pub(crate) fn done(tried: Result<Reply, Stop>) -> Result<(), Stop>
     ensures { MatchResult tried (λ reply. give tt ≡ of_result result) (λ stop. result ≡ Err stop) }
@@ -124,6 +144,26 @@ pub(crate) fn done(tried: Result<Reply, Stop>) -> Result<(), Stop>
     match tried {
         Ok(_reply) => Ok(()),
         Err(stop) => Err(stop),
+    }
+}
+
+/// Where the work stopped the process closes what it has opened.
+pub(crate) fn or_closed<M: Machine, T>(
+    machine: &mut M,
+    pid: usize,
+    fd: usize,
+    tried: Result<T, Stop>,
+) -> Result<T, Stop>
+    ensures { DidByMachine M.Serves (or_closed pid fd tried) machine.old machine.new result }
+{
+    match tried {
+        Ok(value) => Ok(value),
+        Err(stop) => {
+            let call = Call::Close(fd);
+            mem::drop(ask_call(machine, pid, &call));
+            mem::drop(call);
+            Err(stop)
+        }
     }
 }
 

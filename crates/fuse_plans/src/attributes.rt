@@ -1,12 +1,11 @@
 //! Requests for attributes: what stat(2) shows, and what changes it.
 ghost use Rattle.std.specs.Prelude.{◌≡◌, ◌+◌, ◌≤◌, ◌&&◌, ◌||◌, not, is_some};
-ghost use Rattle.fuse_plans.specs.AttributePlans.{get_attributes, is_known_link, differs, owners_stay, new_owners, resize_object, set_size, set_owners, set_mode, is_now, may_set_times, time_after, timed, set_times, change_attributes, set_attributes, read_link, access_as, ask_access};
+ghost use Rattle.fuse_plans.specs.AttributePlans.{get_attributes, is_known_link, differs, owners_stay, new_owners, resize_object, set_size, set_owners, set_mode, is_now, may_set_times, time_after, timed, set_times, change_attributes, tell_times, set_attributes, tell_target, read_link, access_as, ask_access};
 ghost use Rattle.fuse_plans.specs.FilePlans.{when};
 ghost use Rattle.fuse_plans.specs.Performing.{Did};
 ghost use Rattle.fuse_plans.specs.Works.{of_result};
 ghost use Rattle.fs_cred.specs.Ownership.{counts_as_owner};
 
-use crate::asker::obtain_once;
 use crate::machine::Machine;
 use crate::name::attributes;
 use crate::replies::target_of_reply;
@@ -17,7 +16,7 @@ use crate::stop::Stop;
 use fs_cred::{Cred, may_own};
 use fs_model::{Bytes, Call, FileType, Reply, Status};
 use fuse_protocol::{AttrChanges, NewTime, Time};
-use fuse_state::{Server, Times, descriptor_of, owner_of};
+use fuse_state::{Server, Times, descriptor_of};
 use posix_acl::Perms;
 use std::mem;
 
@@ -169,9 +168,7 @@ impl<M: Machine> Session<M> {
             let call = Call::Truncate(self.blank_path(), size);
             return self.on_once(pid, inode, call);
         };
-        let _opened = self.the_open(handle)?;
-        let call = Call::Ftruncate(descriptor_of(handle), size);
-        obtain_once(&mut self.machine, owner_of(handle), call)
+        self.call_open(handle, Call::Ftruncate(descriptor_of(handle), size))
     }
 
     fn set_size(
@@ -311,6 +308,21 @@ impl<M: Machine> Session<M> {
         let pid = self.caller(copy)?;
         let link = is_known_link(self.server.kind_of(inode));
         self.change_attributes(asked.now, pid, inode, link, changes)?;
+        self.tell_times(asked, pid, inode, link, changes)
+    }
+
+    // Times, and what is there then.
+    fn tell_times(
+        &mut self,
+        asked: &Asked,
+        pid: usize,
+        inode: u32,
+        link: bool,
+        changes: &AttrChanges,
+    ) -> Result<ReplyBody, Stop>
+        requires { 1 ≤ self.old.server.room }
+        ensures { Did M.Serves (tell_times asked.entry.now pid inode link changes.now) self.old self.new result }
+    {
         let status = self.look(inode)?;
         self.set_times(asked, pid, inode, link, status, changes)?;
         Ok(ReplyBody::Shown(attributes(&self.server, status)))
@@ -321,9 +333,14 @@ impl<M: Machine> Session<M> {
         ensures { Did M.Serves (read_link asked.entry.now) self.old self.new result }
     {
         let inode = self.the_number(asked.node)?;
-        let pid = self.the_looker()?;
+        self.tell_target(inode)
+    }
+
+    fn tell_target(&mut self, inode: u32) -> Result<ReplyBody, Stop>
+        ensures { Did M.Serves (tell_target inode) self.old self.new result }
+    {
         let call = Call::Readlink(self.blank_path());
-        let reply = self.on_once(pid, inode, call)?;
+        let reply = self.by_looker(inode, call)?;
         let Some(target) = target_of_reply(reply) else {
             return Err(Stop::EIO);
         };

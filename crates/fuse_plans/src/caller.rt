@@ -2,7 +2,7 @@
 ghost use Rattle.std.specs.Prelude.{◌≡◌, ◌+◌, ◌≤◌, None, Ok};
 ghost use Rattle.fs_model.specs.Limits.{processes_limit};
 ghost use Rattle.fs_model.specs.declared.event.Event.TheVariants.{Spawn};
-ghost use Rattle.fuse_plans.specs.Callers.{settle, retire, spawn_again, begin_process, caller, or_unused, caller_with_room, the_looker};
+ghost use Rattle.fuse_plans.specs.Callers.{settle, retire, spawn_again, begin_process, caller, or_spawned, or_unused, caller_with_room, the_looker};
 ghost use Rattle.fuse_plans.specs.Performing.{Did, DidByMachine};
 ghost use Rattle.fuse_plans.specs.Works.{ask, is_refused_for};
 
@@ -99,6 +99,18 @@ impl<M: Machine> Session<M> {
         }
     }
 
+    // The process that was found, or a new one.
+    fn or_spawned(&mut self, cred: Cred, pid: Option<usize>) -> Result<usize, Stop>
+        requires { 1 ≤ self.old.server.room }
+        ensures did { Did M.Serves (or_spawned cred pid) self.old self.new result }
+        ensures room { self.old.server.room ≤ self.new.server.room + 1 }
+    {
+        match pid {
+            Some(pid) => Ok(pid),
+            None => self.begin_process(cred),
+        }
+    }
+
     /// A process of who asks; the credential is a copy of theirs.
     pub(crate) fn caller(&mut self, who: Option<Cred>) -> Result<usize, Stop>
         requires { 1 ≤ self.old.server.room }
@@ -108,10 +120,8 @@ impl<M: Machine> Session<M> {
         let Some(cred) = who else {
             return Err(Stop::EACCES);
         };
-        match self.server.first_process(&cred) {
-            Some(pid) => Ok(pid),
-            None => self.begin_process(cred),
-        }
+        let pid = self.server.first_process(&cred);
+        self.or_spawned(cred, pid)
     }
 
     // A process that holds no descriptor, unless too many hold some.
@@ -123,10 +133,8 @@ impl<M: Machine> Session<M> {
         if self.server.are_many(&cred) {
             return Err(Stop::ENFILE);
         }
-        match self.server.idle_process(&cred) {
-            Some(pid) => Ok(pid),
-            None => self.begin_process(cred),
-        }
+        let pid = self.server.idle_process(&cred);
+        self.or_spawned(cred, pid)
     }
 
     /// A process of who asks that can hold one more descriptor; the credential is a copy of theirs.
@@ -148,9 +156,6 @@ impl<M: Machine> Session<M> {
     pub(crate) fn the_looker(&self) -> Result<usize, Stop>
         ensures { Did M.Serves the_looker self.now self.now result }
     {
-        match self.server.looker() {
-            Some(pid) => Ok(pid),
-            None => Err(Stop::EIO),
-        }
+        self.server.looker().ok_or(Stop::EIO)
     }
 }

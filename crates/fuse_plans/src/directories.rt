@@ -1,10 +1,10 @@
 //! Requests for directories. An open one holds no descriptor of the machine.
 ghost use Rattle.std.specs.Prelude.{◌≡◌, ◌≤◌, [], vec_capacity, true};
 ghost use Rattle.fuse_plans.specs.Callers.{has_place};
-ghost use Rattle.fuse_plans.specs.DirectoryPlans.{open_directory, tell_names, list_open, list_all, read_directory, close_directory};
+ghost use Rattle.fuse_plans.specs.DirectoryPlans.{open_directory, tell_names, list_open, list_and_close, list_all, tell_now, read_directory, close_directory};
 ghost use Rattle.fuse_plans.specs.Performing.{Did, DidByMachine};
 
-use crate::asker::{ask_call, obtain_once};
+use crate::asker::{obtain_once, or_closed};
 use crate::flags::listing;
 use crate::listing::listing_bytes;
 use crate::machine::Machine;
@@ -26,25 +26,24 @@ fn tell_names<M: Machine>(machine: &mut M, pid: usize, fd: usize) -> Result<List
     ensures { DidByMachine M.Serves (tell_names pid fd) machine.old machine.new result }
 {
     let reply = obtain_once(machine, pid, Call::Readdir(fd))?;
-    match names_of_reply(reply) {
-        Some(names) => Ok(names),
-        None => Err(Stop::EIO),
-    }
+    names_of_reply(reply).ok_or(Stop::EIO)
 }
 
 // The names in what was opened; where it tells none that is closed.
 fn list_open<M: Machine>(machine: &mut M, pid: usize, fd: usize) -> Result<Listing, Stop>
     ensures { DidByMachine M.Serves (list_open pid fd) machine.old machine.new result }
 {
-    match tell_names(machine, pid, fd) {
-        Ok(names) => Ok(names),
-        Err(stop) => {
-            let call = Call::Close(fd);
-            mem::drop(ask_call(machine, pid, &call));
-            mem::drop(call);
-            Err(stop)
-        }
-    }
+    let seen = tell_names(machine, pid, fd);
+    or_closed(machine, pid, fd, seen)
+}
+
+// The same, and then it is closed.
+fn list_and_close<M: Machine>(machine: &mut M, pid: usize, fd: usize) -> Result<Listing, Stop>
+    ensures { DidByMachine M.Serves (list_and_close pid fd) machine.old machine.new result }
+{
+    let names = list_open(machine, pid, fd)?;
+    mem::drop(obtain_once(machine, pid, Call::Close(fd))?);
+    Ok(names)
 }
 
 impl<M: Machine> Session<M> {
@@ -82,9 +81,7 @@ impl<M: Machine> Session<M> {
         let Some(fd) = fd else {
             return Err(Stop::EIO);
         };
-        let names = list_open(&mut self.machine, pid, fd)?;
-        mem::drop(obtain_once(&mut self.machine, pid, Call::Close(fd))?);
-        Ok(names)
+        list_and_close(&mut self.machine, pid, fd)
     }
 
     // A directory that was removed has no names.
@@ -120,6 +117,16 @@ impl<M: Machine> Session<M> {
             }
         }
         let number = open.number;
+        self.tell_now(extent, number, room)
+    }
+
+    // The entries that are there now.
+    fn tell_now(&mut self, extent: Extent, number: u32, room: Vec<u8>) -> Result<ReplyBody, Stop>
+        requires empty { room.items ≡ [] }
+        requires capacity { extent.size ≤ vec_capacity room }
+        requires room { 1 ≤ self.old.server.room }
+        ensures { Did M.Serves (tell_now extent number) self.old self.new result }
+    {
         let names = self.list_placed(number)?;
         let bytes = listing_bytes(extent, &names, room);
         let listed = OpenDirectory {

@@ -1,18 +1,18 @@
 //! Requests that open files.
 ghost use Rattle.std.specs.Prelude.{◌≡◌, ◌+◌, ◌≤◌, ◌&&◌, not, Err};
-ghost use Rattle.fuse_plans.specs.FilePlans.{reads_alone, ask_first, touched_if, open_object, open_file, or_opened, open_or_make, show_open, look_open, created_body, tell_created, create_file};
+ghost use Rattle.fuse_plans.specs.FilePlans.{reads_alone, ask_first, touched_if, open_object, open_granted, open_file, or_opened, open_or_make, show_open, look_open, created_body, tell_created, create_by, create_file};
 ghost use Rattle.fs_cred.specs.declared.errno.Errno.TheVariants.{EEXIST};
 ghost use Rattle.fuse_plans.specs.Flags.{is_trunc, is_excl};
 ghost use Rattle.fuse_plans.specs.Stops.{is_for};
 ghost use Rattle.fuse_plans.specs.Performing.{Did, DidByMachine};
 
-use crate::asker::{ask_call, between, obtain_once};
+use crate::asker::{inside, obtain_once, or_closed};
 use crate::flags::{Mode, creating, is_excl, is_exec, is_trunc, opening};
 use crate::machine::Machine;
 use crate::name::{attributes, place, plain_name};
 use crate::names::set_umask;
-use crate::path::name_in;
-use crate::replies::{fd_of_reply, handle_within, status_of_reply};
+use crate::object::shown;
+use crate::replies::{fd_of_reply, handle_within};
 use crate::reply::ReplyBody;
 use crate::request::Asked;
 use crate::session::Session;
@@ -80,10 +80,7 @@ fn or_opened<M: Machine>(
         return (Err(stop), name);
     }
     let call = Call::Open(name, opening(mode, is_trunc(flags)), 0);
-    let opened = between(machine, pid, directory, directory, &call);
-    let Some(name) = name_in(call) else {
-        unreachable!()
-    };
+    let (opened, name) = inside(machine, pid, directory, call);
     match opened {
         Ok(reply) => (Ok((reply, false)), name),
         Err(stop) => (Err(stop), name),
@@ -104,10 +101,7 @@ fn open_or_make<M: Machine>(
     ensures name { result.1 ≡ name }
 {
     let call = Call::Open(name, creating(mode), (file_mode & 0o777) as u16);
-    let first = between(machine, pid, directory, directory, &call);
-    let Some(name) = name_in(call) else {
-        unreachable!()
-    };
+    let (first, name) = inside(machine, pid, directory, call);
     match first {
         Ok(reply) => (Ok((reply, true)), name),
         Err(stop) => or_opened(machine, pid, directory, name, mode, flags, stop),
@@ -118,28 +112,15 @@ fn open_or_make<M: Machine>(
 fn show_open<M: Machine>(machine: &mut M, pid: usize, fd: usize) -> Result<Status, Stop>
     ensures { DidByMachine M.Serves (show_open pid fd) machine.old machine.new result }
 {
-    let reply = obtain_once(machine, pid, Call::Fstat(fd))?;
-    let status = status_of_reply(&reply);
-    mem::drop(reply);
-    match status {
-        Some(status) => Ok(status),
-        None => Err(Stop::EIO),
-    }
+    shown(obtain_once(machine, pid, Call::Fstat(fd)))
 }
 
 // What stat(2) shows of what was opened; where it shows nothing that is closed.
 fn look_open<M: Machine>(machine: &mut M, pid: usize, fd: usize) -> Result<Status, Stop>
     ensures { DidByMachine M.Serves (look_open pid fd) machine.old machine.new result }
 {
-    match show_open(machine, pid, fd) {
-        Ok(status) => Ok(status),
-        Err(stop) => {
-            let call = Call::Close(fd);
-            mem::drop(ask_call(machine, pid, &call));
-            mem::drop(call);
-            Err(stop)
-        }
-    }
+    let seen = show_open(machine, pid, fd);
+    or_closed(machine, pid, fd, seen)
 }
 
 impl<M: Machine> Session<M> {
@@ -200,8 +181,23 @@ impl<M: Machine> Session<M> {
             return Err(Stop::EINVAL);
         };
         let pid = self.caller_with_room(copy)?;
+        self.open_granted(asked.now, pid, inode, flags, mode)
+    }
+
+    // Opens a file, once it is granted.
+    fn open_granted(
+        &mut self,
+        now: Time,
+        pid: usize,
+        inode: u32,
+        flags: OpenFlags,
+        mode: Mode,
+    ) -> Result<ReplyBody, Stop>
+        requires { 2 ≤ self.old.server.room }
+        ensures { Did M.Serves (open_granted now pid inode flags.0 mode) self.old self.new result }
+    {
         self.ask_first(pid, inode, flags, mode)?;
-        let handle = self.open_object(asked.now, pid, inode, flags, mode)?;
+        let handle = self.open_object(now, pid, inode, flags, mode)?;
         Ok(ReplyBody::Opened(handle))
     }
 
@@ -244,8 +240,25 @@ impl<M: Machine> Session<M> {
         };
         let directory = self.directory_number(asked.node)?;
         let pid = self.caller_with_room(copy)?;
+        mem::drop(set_umask(&mut self.machine, pid, umask)?);
+        self.create_by(asked.now, pid, directory, name, mode, flags, file_mode)
+    }
+
+    // A process makes the file, or opens it.
+    fn create_by(
+        &mut self,
+        now: Time,
+        pid: usize,
+        directory: u32,
+        name: Path,
+        mode: Mode,
+        flags: OpenFlags,
+        file_mode: u32,
+    ) -> Result<ReplyBody, Stop>
+        requires { 5 ≤ self.old.server.room }
+        ensures { Did M.Serves (create_by now pid directory name mode flags.0 file_mode) self.old self.new result }
+    {
         let machine = &mut self.machine;
-        mem::drop(set_umask(machine, pid, umask)?);
         let (opened, name) = open_or_make(machine, pid, directory, name, mode, flags, file_mode);
         let (reply, is_new) = opened?;
         let fd = fd_of_reply(&reply);
@@ -255,6 +268,6 @@ impl<M: Machine> Session<M> {
         };
         let status = look_open(machine, pid, descriptor_of(handle))?;
         let place = place(directory, name);
-        self.tell_created(asked.now, place, is_new, is_trunc(flags), handle, status)
+        self.tell_created(now, place, is_new, is_trunc(flags), handle, status)
     }
 }

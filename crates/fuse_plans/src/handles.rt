@@ -1,6 +1,6 @@
 //! What is done by the handle of an open file.
 ghost use Rattle.std.specs.Prelude.{◌≡◌, ℕ, ◌<◌, ◌≤◌, ◌^◌, [], length, vec_capacity, IfOk};
-ghost use Rattle.fuse_plans.specs.FilePlans.{seek, pieces_of, read_piece, read_pieces, read_file, length_written, total_written, write_piece, or_done, write_pieces, writes_of, write_by, close_file, sync_file};
+ghost use Rattle.fuse_plans.specs.FilePlans.{seek, pieces_of, read_piece, read_pieces, read_file, length_written, total_written, write_piece, or_done, write_pieces, writes_of, write_by, call_open, seek_open, close_file, sync_file};
 ghost use Rattle.fuse_plans.specs.Performing.{Did, DidByMachine};
 ghost use Rattle.fuse_plans.specs.Works.{of_result};
 
@@ -152,16 +152,39 @@ pub(crate) fn writes_of(alloc: Global, fd: usize, bytes: &[u8]) -> Result<Vec<Ca
 }
 
 impl<M: Machine> Session<M> {
+    /// A call of the process that opened it.
+    pub(crate) fn call_open(&mut self, handle: u64, call: Call) -> Result<Reply, Stop>
+        ensures did { Did M.Serves (call_open handle call) self.old self.new result }
+        ensures kept { self.new.server ≡ self.old.server }
+    {
+        let _inode = self.the_open(handle)?;
+        obtain_once(&mut self.machine, owner_of(handle), call)
+    }
+
+    // The next bytes that are moved are those behind the offset.
+    fn seek_open(&mut self, handle: u64, offset: u64) -> Result<u32, Stop>
+        ensures did { Did M.Serves (seek_open handle offset) self.old self.new result }
+        ensures kept { self.new.server ≡ self.old.server }
+    {
+        let inode = self.the_open(handle)?;
+        mem::drop(seek(
+            &mut self.machine,
+            owner_of(handle),
+            descriptor_of(handle),
+            offset,
+        )?);
+        Ok(inode)
+    }
+
     /// Reads what is open, with room for so many bytes.
     pub(crate) fn read_file(&mut self, extent: Extent, room: Vec<u8>) -> Result<ReplyBody, Stop>
         requires empty { room.items ≡ [] }
         requires capacity { extent.size ≤ vec_capacity room }
         ensures { Did M.Serves (read_file extent) self.old self.new result }
     {
-        let _inode = self.the_open(extent.handle)?;
+        let _inode = self.seek_open(extent.handle, extent.offset)?;
         let pid = owner_of(extent.handle);
         let fd = descriptor_of(extent.handle);
-        mem::drop(seek(&mut self.machine, pid, fd, extent.offset)?);
         let bytes = read_pieces(&mut self.machine, pid, fd, extent.size as usize, room)?;
         Ok(ReplyBody::Bytes(bytes))
     }
@@ -178,10 +201,8 @@ impl<M: Machine> Session<M> {
         requires total { total_written calls.now < 2 ^ 64 }
         ensures { Did M.Serves (write_by now handle offset calls.now) self.old self.new result }
     {
-        let inode = self.the_open(handle)?;
-        let pid = owner_of(handle);
-        mem::drop(seek(&mut self.machine, pid, descriptor_of(handle), offset)?);
-        let count = write_pieces(&mut self.machine, pid, calls)?;
+        let inode = self.seek_open(handle, offset)?;
+        let count = write_pieces(&mut self.machine, owner_of(handle), calls)?;
         self.server.touch(now, inode);
         Ok(ReplyBody::Wrote(count))
     }
@@ -190,9 +211,8 @@ impl<M: Machine> Session<M> {
     pub(crate) fn close_file(&mut self, handle: u64) -> Result<ReplyBody, Stop>
         ensures { Did M.Serves (close_file handle) self.old self.new result }
     {
-        let _inode = self.the_open(handle)?;
         let call = Call::Close(descriptor_of(handle));
-        mem::drop(obtain_once(&mut self.machine, owner_of(handle), call)?);
+        mem::drop(self.call_open(handle, call)?);
         self.server.remove_handle(handle);
         Ok(ReplyBody::Nothing)
     }

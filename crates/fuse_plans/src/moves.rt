@@ -1,14 +1,14 @@
 //! Requests for names that go, and for further names.
 ghost use Rattle.std.specs.Prelude.{◌≡◌, ◌≤◌};
 ghost use Rattle.fuse_plans.specs.Callers.{done_between};
-ghost use Rattle.fuse_plans.specs.NamePlans.{remove, removal, nothing_to_replace, may_move, rename, move_name, link_by_place, tell_linked, add_link};
+ghost use Rattle.fuse_plans.specs.NamePlans.{remove, removal, nothing_to_replace, may_move, rename, move_to, move_name, link_by_place, tell_linked, link_as, add_link};
 ghost use Rattle.fuse_plans.specs.Performing.{Did, DidByMachine};
 ghost use Rattle.fs_model.specs.declared.call.Call.TheVariants.{Link as LinkCall};
 
-use crate::asker::{between, done_between};
+use crate::asker::{done, done_between, inside};
 use crate::machine::Machine;
 use crate::name::{found_body, none_there, only_no_replace, place, plain_name};
-use crate::path::{name_in, names_in};
+use crate::path::names_in;
 use crate::reply::ReplyBody;
 use crate::request::Asked;
 use crate::session::Session;
@@ -42,11 +42,8 @@ fn remove_inside<M: Machine>(
     ensures name { result.1 ≡ name }
 {
     let call = removal(of_directory, name);
-    let tried = done_between(machine, pid, directory, directory, &call);
-    let Some(name) = name_in(call) else {
-        unreachable!()
-    };
-    (tried, name)
+    let (tried, name) = inside(machine, pid, directory, call);
+    (done(tried), name)
 }
 
 // Where nothing is to be replaced, the name leads nowhere. It comes back.
@@ -63,11 +60,7 @@ fn nothing_to_replace<M: Machine>(
     if flags == 0 {
         return (Ok(()), name);
     }
-    let call = Call::Lstat(name);
-    let there = between(machine, pid, directory, directory, &call);
-    let Some(name) = name_in(call) else {
-        unreachable!()
-    };
+    let (there, name) = inside(machine, pid, directory, Call::Lstat(name));
     (none_there(there), name)
 }
 
@@ -119,8 +112,7 @@ impl<M: Machine> Session<M> {
         requires room { 3 ≤ self.old.server.room }
         ensures { Did M.Serves (remove asked.entry.now (removal of_directory) name) self.old self.new result }
     {
-        let directory = self.directory_for(asked.node, &name)?;
-        let pid = self.caller(copy)?;
+        let (directory, pid) = self.caller_in(asked, copy, &name)?;
         let (tried, name) = remove_inside(&mut self.machine, pid, directory, of_directory, name);
         tried?;
         self.server.note_removed(asked.now, &place(directory, name));
@@ -177,9 +169,25 @@ impl<M: Machine> Session<M> {
         let directory = self.directory_number(asked.node)?;
         let new = self.directory_number(new_node)?;
         let pid = self.caller(copy)?;
+        self.move_to(asked.now, flags, pid, place(directory, name), new, new_name)
+    }
+
+    // The same, if it may replace what is there.
+    fn move_to(
+        &mut self,
+        now: Time,
+        flags: u32,
+        pid: usize,
+        old: Place,
+        new: u32,
+        new_name: Path,
+    ) -> Result<ReplyBody, Stop>
+        requires { 5 ≤ self.old.server.room }
+        ensures { Did M.Serves (move_to now flags pid old new new_name) self.old self.new result }
+    {
         let (free, new_name) = nothing_to_replace(&mut self.machine, flags, pid, new, new_name);
         free?;
-        self.rename(asked.now, pid, place(directory, name), place(new, new_name))
+        self.rename(now, pid, old, place(new, new_name))
     }
 
     // An object gets one more name, by its latest. The new one comes back.
@@ -228,6 +236,22 @@ impl<M: Machine> Session<M> {
     {
         let directory = self.directory_for(asked.node, &name)?;
         let inode = self.the_number(old_node)?;
+        self.link_as(asked, copy, inode, directory, name)
+    }
+
+    // Who asks gives an object one more name.
+    fn link_as(
+        &mut self,
+        asked: &Asked,
+        copy: Option<Cred>,
+        inode: u32,
+        directory: u32,
+        name: Path,
+    ) -> Result<ReplyBody, Stop>
+        requires copy { copy ≡ asked.now.cred }
+        requires room { 4 ≤ self.old.server.room }
+        ensures { Did M.Serves (link_as asked.entry.now inode directory name) self.old self.new result }
+    {
         let pid = self.caller(copy)?;
         let (tried, name) = self.link_by_place(pid, inode, directory, name);
         tried?;

@@ -1,6 +1,6 @@
 //! Requests for names that are found or made: each is asked of a directory, and performed by a process of who asks.
-ghost use Rattle.std.specs.Prelude.{◌≡◌, ◌≤◌, ℕ, List, Some, IsSome};
-ghost use Rattle.fuse_plans.specs.NamePlans.{directory_for, find_name, made, make_by, make_link, set_umask, make_directory, close, open_and_close, make_closed, make_file};
+ghost use Rattle.std.specs.Prelude.{◌≡◌, ◌+◌, ◌≤◌, ℕ, List, Some, IsSome};
+ghost use Rattle.fuse_plans.specs.NamePlans.{directory_for, find_name, made, make_by, caller_in, make_link, set_umask, make_masked, make_directory, close, open_and_close, opens, done_closed, make_file, searched_directory, find_inside};
 ghost use Rattle.fuse_plans.specs.Paths.{name_in};
 ghost use Rattle.fuse_plans.specs.Performing.{Did, DidByMachine};
 
@@ -52,6 +52,29 @@ fn open_and_close<M: Machine>(
     close(machine, pid, fd)
 }
 
+// Whether a call opens something.
+fn opens(call: &Call) -> bool
+    ensures { result ≡ opens call.now }
+{
+    matches!(call, Call::Open(..))
+}
+
+// A call in a directory, after which nothing is open.
+fn done_closed<M: Machine>(
+    machine: &mut M,
+    pid: usize,
+    directory: u32,
+    call: &Call,
+) -> Result<(), Stop>
+    ensures { DidByMachine M.Serves (done_closed pid directory call.now) machine.old machine.new result }
+{
+    if opens(call) {
+        open_and_close(machine, pid, directory, call)
+    } else {
+        done_between(machine, pid, directory, directory, call)
+    }
+}
+
 impl<M: Machine> Session<M> {
     /// What has a name in a directory. The credential is a copy of that of who asks.
     pub(crate) fn find_name(
@@ -64,9 +87,24 @@ impl<M: Machine> Session<M> {
         requires room { 2 ≤ self.old.server.room }
         ensures { Did M.Serves (find_name asked.entry.now name) self.old self.new result }
     {
-        plain_name(&name)?;
-        let directory = or_absent(self.directory_number(asked.node))?;
+        let directory = self.searched_directory(asked.node, &name)?;
         let pid = self.caller(copy)?;
+        self.find_inside(pid, directory, name)
+    }
+
+    // The directory in which a name is looked for.
+    fn searched_directory(&self, node: u64, name: &Path) -> Result<u32, Stop>
+        ensures { Did M.Serves (searched_directory node name.now) self.now self.now result }
+    {
+        plain_name(name)?;
+        or_absent(self.directory_number(node))
+    }
+
+    // What a process finds under the name.
+    fn find_inside(&mut self, pid: usize, directory: u32, name: Path) -> Result<ReplyBody, Stop>
+        requires { 1 ≤ self.old.server.room }
+        ensures { Did M.Serves (find_inside pid directory name) self.old self.new result }
+    {
         let (shown, name) = look_inside(&mut self.machine, pid, directory, name);
         let status = shown?;
         self.server
@@ -80,6 +118,23 @@ impl<M: Machine> Session<M> {
     {
         plain_name(name)?;
         self.directory_number(node)
+    }
+
+    /// The directory of a name that is asked for, and a process of who asks. The credential is a copy of theirs.
+    pub(crate) fn caller_in(
+        &mut self,
+        asked: &Asked,
+        copy: Option<Cred>,
+        name: &Path,
+    ) -> Result<(u32, usize), Stop>
+        requires copy { copy ≡ asked.now.cred }
+        requires room { 1 ≤ self.old.server.room }
+        ensures did { Did M.Serves (caller_in asked.entry.now name.now) self.old self.new result }
+        ensures room { self.old.server.room ≤ self.new.server.room + 1 }
+    {
+        let directory = self.directory_for(asked.node, name)?;
+        let pid = self.caller(copy)?;
+        Ok((directory, pid))
     }
 
     // What has just been made, as the server's own process sees it.
@@ -108,7 +163,7 @@ impl<M: Machine> Session<M> {
         ensures { (name : List ℕ) → name_in call ≡ Some name →
             Did M.Serves (make_by now pid directory call name) self.old self.new result }
     {
-        let tried = done_between(&mut self.machine, pid, directory, directory, &call);
+        let tried = done_closed(&mut self.machine, pid, directory, &call);
         let Some(name) = name_in(call) else {
             unreachable!()
         };
@@ -116,10 +171,11 @@ impl<M: Machine> Session<M> {
         self.made(now, directory, name)
     }
 
-    // The same of a call that opens a new file.
-    fn make_closed(
+    // The same, where the mode that is asked for is masked.
+    fn make_masked(
         &mut self,
         now: Time,
+        umask: u32,
         pid: usize,
         directory: u32,
         call: Call,
@@ -127,14 +183,10 @@ impl<M: Machine> Session<M> {
         requires name { IsSome (name_in call) }
         requires room { 4 ≤ self.old.server.room }
         ensures { (name : List ℕ) → name_in call ≡ Some name →
-            Did M.Serves (make_closed now pid directory call name) self.old self.new result }
+            Did M.Serves (make_masked now umask pid directory call name) self.old self.new result }
     {
-        let tried = open_and_close(&mut self.machine, pid, directory, &call);
-        let Some(name) = name_in(call) else {
-            unreachable!()
-        };
-        tried?;
-        self.made(now, directory, name)
+        mem::drop(set_umask(&mut self.machine, pid, umask)?);
+        self.make_by(now, pid, directory, call)
     }
 
     /// Makes a symbolic link.
@@ -149,8 +201,7 @@ impl<M: Machine> Session<M> {
         requires room { 5 ≤ self.old.server.room }
         ensures { Did M.Serves (make_link asked.entry.now name target) self.old self.new result }
     {
-        let directory = self.directory_for(asked.node, &name)?;
-        let pid = self.caller(copy)?;
+        let (directory, pid) = self.caller_in(asked, copy, &name)?;
         let call = Call::Symlink { target, path: name };
         self.make_by(asked.now, pid, directory, call)
     }
@@ -168,11 +219,9 @@ impl<M: Machine> Session<M> {
         requires room { 5 ≤ self.old.server.room }
         ensures { Did M.Serves (make_directory asked.entry.now name mode umask) self.old self.new result }
     {
-        let directory = self.directory_for(asked.node, &name)?;
-        let pid = self.caller(copy)?;
-        mem::drop(set_umask(&mut self.machine, pid, umask)?);
+        let (directory, pid) = self.caller_in(asked, copy, &name)?;
         let call = Call::Mkdir(name, (mode & 0o7777) as u16);
-        self.make_by(asked.now, pid, directory, call)
+        self.make_masked(asked.now, umask, pid, directory, call)
     }
 
     /// Makes a file.
@@ -191,8 +240,7 @@ impl<M: Machine> Session<M> {
         only_file(mode)?;
         let directory = self.directory_for(asked.node, &name)?;
         let pid = self.caller_with_room(copy)?;
-        mem::drop(set_umask(&mut self.machine, pid, umask)?);
         let call = Call::Open(name, making(), (mode & 0o777) as u16);
-        self.make_closed(asked.now, pid, directory, call)
+        self.make_masked(asked.now, umask, pid, directory, call)
     }
 }

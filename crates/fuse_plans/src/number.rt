@@ -21,10 +21,7 @@ impl<M: Machine> Session<M> {
     pub(crate) fn the_number(&self, node: u64) -> Result<u32, Stop>
         ensures { Did M.Serves (the_number node) self.now self.now result }
     {
-        match self.server.number_of(node) {
-            Some(inode) => Ok(inode),
-            None => Err(Stop::ESTALE),
-        }
+        self.server.number_of(node).ok_or(Stop::ESTALE)
     }
 
     /// The inode of a node that is a directory.
@@ -43,9 +40,6 @@ impl<M: Machine> Session<M> {
     pub(crate) fn the_open(&self, handle: u64) -> Result<u32, Stop>
         ensures { Did M.Serves (the_open handle) self.now self.now result }
     {
-        match self.server.object_of(handle) {
-            Some(inode) => Ok(inode),
-            None => Err(Stop::EBADF),
-        }
+        self.server.object_of(handle).ok_or(Stop::EBADF)
     }
 }

@@ -1,16 +1,16 @@
 //! Calls on objects, by the names under which they were found.
 ghost use Rattle.std.specs.Prelude.{◌≡◌, Err, IsTrue, MatchResult};
 ghost use Rattle.fuse_state.specs.Servers.{kind_of};
-ghost use Rattle.fuse_plans.specs.Callers.{inside, or_inside, on, has_place, by_handle, look_at, look, look_inside};
+ghost use Rattle.fuse_plans.specs.Callers.{inside, or_inside, on, by_looker, has_place, by_handle, look_at, look, look_inside};
 ghost use Rattle.fuse_plans.specs.FilePlans.{when, done};
 ghost use Rattle.fuse_plans.specs.Paths.{at_path, takes_path};
 ghost use Rattle.fuse_plans.specs.Performing.{Did, DidByMachine};
 ghost use Rattle.fuse_plans.specs.Works.{of_result, replied_status};
 
-use crate::asker::{between, done, obtain_once};
+use crate::asker::{between, done, inside, obtain_once};
 use crate::machine::Machine;
 use crate::number::is_known_directory;
-use crate::path::{name_in, swap_path};
+use crate::path::swap_path;
 use crate::replies::status_of_reply;
 use crate::session::Session;
 use crate::stop::Stop;
@@ -48,8 +48,8 @@ fn call_at<M: Machine>(
     (reply, Lent { at, found })
 }
 
-// What stat(2) shows, in a reply that may be a refusal.
-fn shown(reply: Result<Reply, Stop>) -> Result<Status, Stop>
+/// What stat(2) shows, in a reply that may be a refusal.
+pub(crate) fn shown(reply: Result<Reply, Stop>) -> Result<Status, Stop>
     ensures { MatchResult reply (λ shown. replied_status shown ≡ of_result result) (λ stop. result ≡ Err stop) }
 {
     let reply = reply?;
@@ -71,11 +71,7 @@ pub(crate) fn look_inside<M: Machine>(
     ensures did { DidByMachine M.Serves (look_inside pid directory name) machine.old machine.new result.0 }
     ensures name { result.1 ≡ name }
 {
-    let call = Call::Lstat(name);
-    let reply = between(machine, pid, directory, directory, &call);
-    let Some(name) = name_in(call) else {
-        unreachable!()
-    };
+    let (reply, name) = inside(machine, pid, directory, Call::Lstat(name));
     (shown(reply), name)
 }
 
@@ -145,6 +141,16 @@ impl<M: Machine> Session<M> {
         reply
     }
 
+    /// The same by the server's own process.
+    pub(crate) fn by_looker(&mut self, inode: u32, call: Call) -> Result<Reply, Stop>
+        requires { IsTrue (takes_path call) }
+        ensures did { Did M.Serves (by_looker inode (at_path call)) self.old self.new result }
+        ensures kept { self.new.server ≡ self.old.server }
+    {
+        let pid = self.the_looker()?;
+        self.on_once(pid, inode, call)
+    }
+
     // In a directory that the caller may not search it may stand all the same.
     fn or_inside(
         &mut self,
@@ -183,9 +189,7 @@ impl<M: Machine> Session<M> {
         ensures kept { self.new.server ≡ self.old.server }
     {
         if has_place(&self.server, inode) {
-            let pid = self.the_looker()?;
-            let call = Call::Lstat(Path::new(Vec::new(self.alloc)));
-            self.on_once(pid, inode, call)
+            self.by_looker(inode, Call::Lstat(self.blank_path()))
         } else {
             self.by_handle(inode)
         }

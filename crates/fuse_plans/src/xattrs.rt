@@ -1,7 +1,7 @@
 //! Requests for the two ACLs of acl(5), which are attributes to the kernel.
 ghost use Rattle.std.specs.Prelude.{◌≡◌, ◌≤◌, not, ◌&&◌, true, false};
 ghost use Rattle.posix_acl.specs.AccessList.{minimal};
-ghost use Rattle.fuse_plans.specs.AclPlans.{the_acl, acl_names, attribute_names, list_xattrs, has_acls, an_object, told_acl, acl_of, acl_size, sized, get_xattr, is_of_default, is_plain, acl_set, set_acl, set_xattr, remove_xattr};
+ghost use Rattle.fuse_plans.specs.AclPlans.{the_acl, acl_names, attribute_names, list_xattrs, has_acls, an_object, told_acl, acl_of, acl_size, sized, tell_acl, get_xattr, is_of_default, is_plain, acl_set, set_by, set_acl, set_xattr, remove_xattr};
 ghost use Rattle.fuse_plans.specs.Callers.{is_known_directory};
 ghost use Rattle.fuse_plans.specs.Performing.{Did};
 ghost use Rattle.fuse_plans.specs.Works.{of_result};
@@ -17,6 +17,7 @@ use crate::session::Session;
 use crate::stop::Stop;
 use fs_cred::Cred;
 use fs_model::{AclType, Bytes, Call, FileType};
+use fuse_protocol::Time;
 use fuse_state::Server;
 use posix_acl::Acl;
 use std::alloc::{AllocError, Global};
@@ -147,9 +148,8 @@ impl<M: Machine> Session<M> {
         ensures did { Did M.Serves (acl_of inode which) self.old self.new result }
         ensures kept { self.new.server ≡ self.old.server }
     {
-        let pid = self.the_looker()?;
         let call = Call::GetAcl(self.blank_path(), which);
-        let reply = self.on_once(pid, inode, call)?;
+        let reply = self.by_looker(inode, call)?;
         match acl_of_reply(reply) {
             Some(acl) => Ok(told_acl(which, acl)),
             None => Err(Stop::EIO),
@@ -167,6 +167,13 @@ impl<M: Machine> Session<M> {
     {
         let which = the_acl(name)?;
         let inode = self.an_object(asked)?;
+        self.tell_acl(inode, which, size)
+    }
+
+    // An ACL that is there, or how many bytes it has.
+    fn tell_acl(&mut self, inode: u32, which: AclType, size: u32) -> Result<ReplyBody, Stop>
+        ensures { Did M.Serves (tell_acl inode which size) self.old self.new result }
+    {
         let found = self.acl_of(inode, which)?;
         let Some(acl) = found else {
             return Err(Stop::ENODATA);
@@ -244,10 +251,27 @@ impl<M: Machine> Session<M> {
             return Err(Stop::EACCES);
         }
         let pid = self.caller(copy)?;
+        self.set_by(asked.now, pid, inode, which, wanted, spare)
+    }
+
+    // A process sets it.
+    fn set_by(
+        &mut self,
+        now: Time,
+        pid: usize,
+        inode: u32,
+        which: AclType,
+        wanted: Option<Acl>,
+        spare: Acl,
+    ) -> Result<ReplyBody, Stop>
+        requires spare { spare ≡ minimal 0 }
+        requires room { 1 ≤ self.old.server.room }
+        ensures { Did M.Serves (set_by now pid inode which wanted) self.old self.new result }
+    {
         let acl = self.acl_set(inode, which, wanted, spare)?;
         let call = Call::SetAcl(self.blank_path(), which, acl);
         mem::drop(self.on_once(pid, inode, call)?);
-        self.server.change(asked.now, inode);
+        self.server.change(now, inode);
         Ok(ReplyBody::Nothing)
     }
 

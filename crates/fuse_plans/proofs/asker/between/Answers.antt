@@ -5,8 +5,7 @@ use Rattle.fuse_plans.proofs.asker.between.Goals as goal
 pub returns-in_err-unless_refused : goal.returns-in_err-unless_refused
 unfolding between
 returns-in_err-unless_refused g c =
-    let r = c.from_residual.ensures in
-    machine-fails _ r.0 r.1 (machine-ok _ c.enter.ensures (machine-result c.in_err-unless_refused.ensures))
+    machine-fails _ c.from_residual.ensures (machine-ok _ c.enter.ensures (machine-result c.in_err-unless_refused.ensures))
 
 pub returns : goal.returns
 unfolding between

@@ -1,20 +1,11 @@
-use Rattle.std.proofs.Common.{sym}
 use Rattle.fuse_plans.specs.DirectoryPlans.{tell_names}
-use Rattle.fuse_plans.proofs.Doings.{machine-fails, machine-lacks-last, machine-needs-last, machine-ok}
+use Rattle.fuse_plans.proofs.Doings.{machine-fails, machine-needed, machine-ok}
 use Rattle.fuse_plans.proofs.directories.tell_names.Goals as goal
 
 pub returns-in_err-reply : goal.returns-in_err-reply
 unfolding tell_names
-returns-in_err-reply g c =
-    let r = c.from_residual.ensures in
-    machine-fails _ r.0 r.1 c.in_err-reply.ensures
+returns-in_err-reply g c = machine-fails _ c.from_residual.ensures c.in_err-reply.ensures
 
-pub returns-in-Some : goal.returns-in-Some
+pub returns : goal.returns
 unfolding tell_names
-returns-in-Some g c =
-    machine-ok _ c.in_ok-reply.ensures (machine-needs-last _ (sym c.in-Some.ensures))
-
-pub returns-in-None : goal.returns-in-None
-unfolding tell_names
-returns-in-None g c =
-    machine-ok _ c.in_ok-reply.ensures (machine-lacks-last _ (sym c.in-None.ensures))
+returns g c = machine-ok _ c.in_ok-reply.ensures (machine-needed _ _ (rw c.names_of_reply.ensures at c.ok_or.ensures.value))

@@ -1,5 +1,5 @@
 use Rattle.std.proofs.Common.{sym, ◌∙◌}
-use Rattle.fuse_plans.proofs.Doings.{machine-ok, machine-err, machine-true, machine-false, machine-gives, machine-stops}
+use Rattle.fuse_plans.proofs.Doings.{machine-false, machine-gives, machine-stops, machine-true, machine-was, machine-was-err}
 use Rattle.fuse_plans.proofs.files.or_opened.Goals as goal
 
 pub returns-then-not-may_be_found-clause-did : goal.returns-then-not-may_be_found-clause-did
@@ -8,8 +8,9 @@ returns-then-not-may_be_found-clause-did g c = machine-false _ _ (sym c.may_be_f
 pub returns-in-Ok-clause-did : goal.returns-in-Ok-clause-did
 returns-in-Ok-clause-did g c =
     machine-true _ _ (sym c.may_be_found.ensures ∙ c.if-not-may_be_found.false)
-    (machine-ok _ (rw (c.opening.ensures, c.is_trunc.ensures) at c.in-Ok.ensures) (machine-gives _ _))
+    (machine-was _ (rw (c.opening.ensures, c.is_trunc.ensures) at c.inside-opened.ensures.did) c.in-Ok.is (machine-gives _ _))
 
 pub returns-in-Err-clause-did : goal.returns-in-Err-clause-did
 returns-in-Err-clause-did g c =
-    machine-true _ _ (sym c.may_be_found.ensures ∙ c.if-not-may_be_found.false) (machine-err _ (rw (c.opening.ensures, c.is_trunc.ensures) at c.in-Err.ensures))
+    machine-true _ _ (sym c.may_be_found.ensures ∙ c.if-not-may_be_found.false)
+    (machine-was-err _ (rw (c.opening.ensures, c.is_trunc.ensures) at c.inside-opened.ensures.did) c.in-Err.is)

@@ -28,8 +28,7 @@ returns-then-left-eq0 g c = c.loop-round.invariant.0 _ _ (read-none _ _ _ _ _ _ 
 
 pub returns-in_err-piece : goal.returns-in_err-piece
 returns-in_err-piece g c =
-    let r = c.from_residual.ensures in
-    c.loop-round.invariant.0 _ _ (machine-last-fails r.0 r.1
+    c.loop-round.invariant.0 _ _ (machine-last-fails c.from_residual.ensures
     (machine-same (ap (λ (k : ℕ). read_pieces k c.args.pid c.args.fd c.loop-round.left c.loop-round.bytes.items) (one-more (pieces_of c.args.size) c.loop-round._round c.loop-round-test.true))
     (read-refused _ _ _ c.loop-round.left c.min-most.result c.loop-round.bytes.items (omega (arith, c.min-most.ensures)) (ne_eqb _ _ c.if-left-eq0.false) c.in_err-piece.ensures.did)))
 

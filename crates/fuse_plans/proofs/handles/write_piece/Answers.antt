@@ -5,7 +5,7 @@ use Rattle.fuse_plans.proofs.handles.write_piece.Goals as goal
 
 pub returns-in_err-reply-clause-did : goal.returns-in_err-reply-clause-did
 unfolding write_piece
-returns-in_err-reply-clause-did g c = let r = c.from_residual.ensures in machine-fails _ r.0 r.1 c.in_err-reply.ensures
+returns-in_err-reply-clause-did g c = machine-fails _ c.from_residual.ensures c.in_err-reply.ensures
 
 pub returns-in-Some-clause-did : goal.returns-in-Some-clause-did
 unfolding write_piece

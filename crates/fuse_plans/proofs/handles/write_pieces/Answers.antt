@@ -11,9 +11,8 @@ loop-call-init g c = (λ fin r did. did, omega arith)
 
 pub returns-in_err-count : goal.returns-in_err-count
 returns-in_err-count g c =
-    let r = c.from_residual.ensures in
     let next = next-call c.args.calls.now c.loop-call.call-index c.call-item.result c.loop-call-test.true c.call-item.is in
-    c.loop-call.invariant.0 _ _ (machine-last-fails r.0 r.1 (machine-same (ap (write_pieces _ _) next)
+    c.loop-call.invariant.0 _ _ (machine-last-fails c.from_residual.ensures (machine-same (ap (write_pieces _ _) next)
     (write-refused _ c.loop-call.done c.call-item.result _ c.write_piece-wrote.ensures.did c.in_err-count.ensures.done)))
 
 pub overflow_add-done : goal.overflow_add-done

@@ -4,8 +4,7 @@ use Rattle.fuse_plans.proofs.names.open_and_close.Goals as goal
 
 pub returns-in_err-reply : goal.returns-in_err-reply
 returns-in_err-reply g c =
-    let r = c.from_residual.ensures in
-    machine-fails _ r.0 r.1 c.in_err-reply.ensures
+    machine-fails _ c.from_residual.ensures c.in_err-reply.ensures
 
 pub returns-in_default : goal.returns-in_default
 returns-in_default g c = machine-ok _ c.in_ok-reply.ensures (machine-needs-none _ _ _ (sym c.in_default.ensures))

@@ -12,8 +12,7 @@ returns-then-not-is_plain-clause-did g c = where-false _ _ (sym c.is_plain.ensur
 
 pub returns-in_err-status-clause-did : goal.returns-in_err-status-clause-did
 returns-in_err-status-clause-did g c =
-    let r = c.from_residual.ensures in
-    where-true _ _ (sym c.is_plain.ensures ∙ c.if-not-is_plain.false) (then-fails _ r.0 r.1 c.in_err-status.ensures.did)
+    where-true _ _ (sym c.is_plain.ensures ∙ c.if-not-is_plain.false) (then-fails _ c.from_residual.ensures c.in_err-status.ensures.did)
 
 pub returns-clause-did : goal.returns-clause-did
 returns-clause-did g c =

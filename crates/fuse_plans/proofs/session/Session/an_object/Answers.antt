@@ -3,8 +3,7 @@ use Rattle.fuse_plans.proofs.session.Session.an_object.Goals as goal
 
 pub returns-in_err-inode : goal.returns-in_err-inode
 returns-in_err-inode g c =
-    let r = c.from_residual.ensures in
-    then-fails _ r.0 r.1 c.in_err-inode.ensures
+    then-fails _ c.from_residual.ensures c.in_err-inode.ensures
 
 pub returns-then-has_acls : goal.returns-then-has_acls
 returns-then-has_acls g c =

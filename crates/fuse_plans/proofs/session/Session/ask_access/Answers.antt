@@ -1,26 +1,15 @@
-use Rattle.fuse_plans.specs.AttributePlans.{ask_access}
 use Rattle.fuse_plans.proofs.Doings.{gives, reads, then-fails, then-ok}
 use Rattle.fuse_plans.proofs.session.Session.ask_access.Goals as goal
 
 pub returns-in_err-inode : goal.returns-in_err-inode
-unfolding ask_access
-returns-in_err-inode g c =
-    let r = c.from_residual.ensures in
-    then-fails _ r.0 r.1 c.in_err-inode.ensures
+returns-in_err-inode g c = then-fails _ c.from_residual.ensures c.in_err-inode.ensures
 
 pub returns-in_err-access_if : goal.returns-in_err-access_if
-unfolding ask_access
 returns-in_err-access_if g c =
-    let r = c.from_residual-in_err-access_if.ensures in
-    then-ok _ c.in_ok-inode.ensures
-    (reads _ _ c.kind_of.ensures
-    (then-fails _ r.0 r.1
-    (rw (c.is_known_link-link.ensures, c.from_digit-perms.ensures, c.requires.copy) at c.in_err-access_if.ensures.did)))
+    then-ok _ c.in_ok-inode.ensures (reads _ _ c.kind_of.ensures
+    (then-fails _ c.from_residual-in_err-access_if.ensures (rw (c.is_known_link-link.ensures, c.from_digit-perms.ensures, c.requires.copy) at c.in_err-access_if.ensures.did)))
 
 pub returns : goal.returns
-unfolding ask_access
 returns g c =
-    then-ok _ c.in_ok-inode.ensures
-    (reads _ _ c.kind_of.ensures
-    (then-ok _ (rw (c.is_known_link-link.ensures, c.from_digit-perms.ensures, c.requires.copy) at c.in_ok-access_if.ensures.did)
-    (gives _ _)))
+    then-ok _ c.in_ok-inode.ensures (reads _ _ c.kind_of.ensures
+    (then-ok _ (rw (c.is_known_link-link.ensures, c.from_digit-perms.ensures, c.requires.copy) at c.in_ok-access_if.ensures.did) (gives _ _)))

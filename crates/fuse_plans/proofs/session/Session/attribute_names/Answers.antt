@@ -8,14 +8,12 @@ returns-then-not-has-clause-did g c = same-work (ap (attribute_names c.args.inod
 
 pub returns-in_err-access-clause-did : goal.returns-in_err-access-clause-did
 returns-in_err-access-clause-did g c =
-    let r = c.from_residual.ensures in
-    same-work (ap (attribute_names c.args.inode) c.if-not-has.false) (then-fails _ r.0 r.1 c.in_err-access.ensures.did)
+    same-work (ap (attribute_names c.args.inode) c.if-not-has.false) (then-fails _ c.from_residual.ensures c.in_err-access.ensures.did)
 
 pub returns-in_err-default-clause-did : goal.returns-in_err-default-clause-did
 returns-in_err-default-clause-did g c =
-    let r = c.from_residual-in_err-default.ensures in
     same-work (ap (attribute_names c.args.inode) c.if-not-has.false)
-    (then-ok _ c.in_ok-access.ensures.did (then-fails _ r.0 r.1 c.in_err-default.ensures.did))
+    (then-ok _ c.in_ok-access.ensures.did (then-fails _ c.from_residual-in_err-default.ensures c.in_err-default.ensures.did))
 
 pub returns-clause-did : goal.returns-clause-did
 returns-clause-did g c =

@@ -17,9 +17,8 @@ returns-then-offer-gt-VERSION g c =
 pub returns-in_err-or_looker : goal.returns-in_err-or_looker
 unfolding begin
 returns-in_err-or_looker g c =
-    let r = c.from_residual.ensures in
     where-false _ _ (le-ltb _ _ c.if-offer-lt-VERSION.false) (where-false _ _ (le-ltb _ _ c.if-offer-gt-VERSION.false)
-    (reads _ _ refl (then-fails _ r.0 r.1 c.in_err-or_looker.ensures.did)))
+    (reads _ _ refl (then-fails _ c.from_residual.ensures c.in_err-or_looker.ensures.did)))
 
 pub returns : goal.returns
 unfolding begin

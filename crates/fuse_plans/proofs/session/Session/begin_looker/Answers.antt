@@ -4,8 +4,7 @@ use Rattle.fuse_plans.proofs.session.Session.begin_looker.Goals as goal
 
 pub returns-in_err-reply-clause-did : goal.returns-in_err-reply-clause-did
 returns-in_err-reply-clause-did g c =
-    let r = c.from_residual.ensures in
-    then-fails _ r.0 r.1 (on-machine (machine-ok _ (rw c.requires at c.ask_spawn.ensures) (machine-result c.in_err-reply.ensures)))
+    then-fails _ c.from_residual.ensures (on-machine (machine-ok _ (rw c.requires at c.ask_spawn.ensures) (machine-result c.in_err-reply.ensures)))
 
 pub returns-in_default-clause-did : goal.returns-in_default-clause-did
 returns-in_default-clause-did g c =

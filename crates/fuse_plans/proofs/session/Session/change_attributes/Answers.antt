@@ -1,30 +1,22 @@
-use Rattle.fuse_plans.specs.AttributePlans.{change_attributes}
 use Rattle.fuse_plans.proofs.Doings.{then-fails, then-ok}
 use Rattle.fuse_plans.proofs.session.Session.change_attributes.Goals as goal
 
 pub returns-in_err-owners-clause-did : goal.returns-in_err-owners-clause-did
-unfolding change_attributes
 returns-in_err-owners-clause-did g c =
-    let r = c.from_residual.ensures in
-    then-fails _ r.0 r.1 c.in_err-owners.ensures.did
+    then-fails _ c.from_residual.ensures c.in_err-owners.ensures.did
 
 pub returns-in_err-set_size-clause-did : goal.returns-in_err-set_size-clause-did
-unfolding change_attributes
 returns-in_err-set_size-clause-did g c =
-    let r = c.from_residual-in_err-set_size.ensures in
     then-ok _ c.in_ok-owners.ensures.did
-    (then-fails _ r.0 r.1 c.in_err-set_size.ensures.did)
+    (then-fails _ c.from_residual-in_err-set_size.ensures c.in_err-set_size.ensures.did)
 
 pub returns-in_err-set_owners-clause-did : goal.returns-in_err-set_owners-clause-did
-unfolding change_attributes
 returns-in_err-set_owners-clause-did g c =
-    let r = c.from_residual-in_err-set_owners.ensures in
     then-ok _ c.in_ok-owners.ensures.did
     (then-ok _ c.in_ok-set_size.ensures.did
-    (then-fails _ r.0 r.1 c.in_err-set_owners.ensures.did))
+    (then-fails _ c.from_residual-in_err-set_owners.ensures c.in_err-set_owners.ensures.did))
 
 pub returns-clause-did : goal.returns-clause-did
-unfolding change_attributes
 returns-clause-did g c =
     then-ok _ c.in_ok-owners.ensures.did
     (then-ok _ c.in_ok-set_size.ensures.did

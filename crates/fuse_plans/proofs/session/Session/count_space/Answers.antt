@@ -7,7 +7,7 @@ use Rattle.fuse_plans.proofs.session.Session.count_space.Goals as goal
 
 pub returns-in_err-reply-clause-did : goal.returns-in_err-reply-clause-did
 unfolding count_space
-returns-in_err-reply-clause-did g c = let r = c.from_residual.ensures in then-fails _ r.0 r.1 (by-machine c.in_err-reply.ensures refl)
+returns-in_err-reply-clause-did g c = then-fails _ c.from_residual.ensures (by-machine c.in_err-reply.ensures refl)
 
 pub returns-in_default-clause-did : goal.returns-in_default-clause-did
 unfolding count_space

@@ -5,7 +5,7 @@ use Rattle.fuse_plans.proofs.session.Session.directory_number.Goals as goal
 
 pub returns-in_err-inode : goal.returns-in_err-inode
 unfolding directory_number
-returns-in_err-inode g c = let r = c.from_residual.ensures in then-fails _ r.0 r.1 c.in_err-inode.ensures
+returns-in_err-inode g c = then-fails _ c.from_residual.ensures c.in_err-inode.ensures
 
 pub returns-then-is_known_directory : goal.returns-then-is_known_directory
 unfolding directory_number

@@ -6,15 +6,13 @@ use Rattle.fuse_plans.proofs.session.Session.made.Goals as goal
 pub returns-in_err-pid : goal.returns-in_err-pid
 unfolding made
 returns-in_err-pid g c =
-    let r = c.from_residual.ensures in
-    then-fails _ r.0 r.1 c.in_err-pid.ensures
+    then-fails _ c.from_residual.ensures c.in_err-pid.ensures
 
 pub returns-in_err-status : goal.returns-in_err-status
 unfolding made
 returns-in_err-status g c =
-    let r = c.from_residual-in_err-status.ensures in
     then-ok _ c.in_ok-pid.ensures
-    (was-fails _ r.0 r.1 (on-machine c.look_inside-shown.ensures.did) c.in_err-status.was)
+    (was-fails _ c.from_residual-in_err-status.ensures (on-machine c.look_inside-shown.ensures.did) c.in_err-status.was)
 
 pub returns : goal.returns
 unfolding made

@@ -3,11 +3,9 @@ use Rattle.fuse_plans.proofs.Doings.{on-machine, some-same, then-was, was-fails}
 use Rattle.fuse_plans.proofs.session.Session.make_by.Goals as goal
 
 pub returns-in_err-tried : goal.returns-in_err-tried
-returns-in_err-tried g c name is =
-    let r = c.from_residual.ensures in
-    was-fails _ r.0 r.1 (on-machine c.done_between-tried.ensures) c.in_err-tried.was
+returns-in_err-tried g c name is = was-fails _ c.from_residual.ensures (on-machine c.done_closed-tried.ensures) c.in_err-tried.was
 
 pub returns : goal.returns
 returns g c name is =
-    then-was _ (on-machine c.done_between-tried.ensures) c.in_ok-tried.was
+    then-was _ (on-machine c.done_closed-tried.ensures) c.in_ok-tried.was
     (rw (some-same (c.in-Some.ensures ∙ is)) at c.made.ensures)

@@ -3,14 +3,12 @@ use Rattle.fuse_plans.proofs.session.Session.may_move.Goals as goal
 
 pub returns-in_err-only_no_replace : goal.returns-in_err-only_no_replace
 returns-in_err-only_no_replace g c =
-    let r = c.from_residual.ensures in
-    then-fails _ r.0 r.1 (of-result c.in_err-only_no_replace.ensures)
+    then-fails _ c.from_residual.ensures (of-result c.in_err-only_no_replace.ensures)
 
 pub returns-in_err-plain_name : goal.returns-in_err-plain_name
 returns-in_err-plain_name g c =
-    let r = c.from_residual-in_err-plain_name.ensures in
     then-ok _ (of-result c.in_ok-only_no_replace.ensures)
-    (then-fails _ r.0 r.1 (of-result c.in_err-plain_name.ensures))
+    (then-fails _ c.from_residual-in_err-plain_name.ensures (of-result c.in_err-plain_name.ensures))
 
 pub returns : goal.returns
 returns g c =

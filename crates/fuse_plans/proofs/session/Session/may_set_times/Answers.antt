@@ -15,10 +15,9 @@ returns-then-needs_owner-clause-did g c =
 
 pub returns-in_err-on_once-clause-did : goal.returns-in_err-on_once-clause-did
 returns-in_err-on_once-clause-did g c =
-    let r = c.from_residual.ensures in
     same-work (ap (λ (b : Bool). may_set_times c.args.pid c.args.inode c.args.link b c.args.changes.now) c.if-is_owner.false)
     (where-false _ _ (sym c.needs_owner.ensures ∙ c.if-needs_owner.false)
-    (then-fails _ r.0 r.1 (rw c.from_digit.ensures at c.in_err-on_once.ensures.did)))
+    (then-fails _ c.from_residual.ensures (rw c.from_digit.ensures at c.in_err-on_once.ensures.did)))
 
 pub returns-clause-did : goal.returns-clause-did
 returns-clause-did g c =

@@ -15,10 +15,9 @@ returns-then-changes_more-clause-did g c =
 
 pub returns-in_err-status-clause-did : goal.returns-in_err-status-clause-did
 returns-in_err-status-clause-did g c =
-    let r = c.from_residual.ensures in
     same-work (ap (λ (b : Bool). new_owners c.args.changes.now c.args.inode b) c.if-not-link.false)
     (where-false _ _ (sym c.changes_more.ensures ∙ c.if-changes_more.false)
-    (then-fails _ r.0 r.1 c.in_err-status.ensures.did))
+    (then-fails _ c.from_residual.ensures c.in_err-status.ensures.did))
 
 pub returns-clause-did : goal.returns-clause-did
 returns-clause-did g c =

@@ -1,22 +1,17 @@
 use Rattle.std.proofs.Common.{refl, sym}
-use Rattle.fuse_plans.specs.FilePlans.{open_object}
 use Rattle.fuse_plans.proofs.Doings.{gives, keeps, keeps-on, needs-none, needs-some, then-fails, then-ok}
 use Rattle.fuse_plans.proofs.session.Session.open_object.Goals as goal
 
 pub returns-in_err-reply : goal.returns-in_err-reply
-unfolding open_object
 returns-in_err-reply g c =
-    let r = c.from_residual.ensures in
-    then-fails _ r.0 r.1 (rw (c.opening.ensures, c.is_trunc.ensures) at c.in_err-reply.ensures.did)
+    then-fails _ c.from_residual.ensures (rw (c.opening.ensures, c.is_trunc.ensures) at c.in_err-reply.ensures.did)
 
 pub returns-in_default : goal.returns-in_default
-unfolding open_object
 returns-in_default g c =
     then-ok _ (rw (c.opening.ensures, c.is_trunc.ensures) at c.in_ok-reply.ensures.did)
     (needs-none _ _ _ (sym (rw c.fd_of_reply-fd.ensures at c.in_default.ensures)))
 
 pub returns : goal.returns
-unfolding open_object
 returns g c =
     then-ok _ (rw (c.opening.ensures, c.is_trunc.ensures) at c.in_ok-reply.ensures.did)
     (needs-some _ _ (sym (rw c.fd_of_reply-fd.ensures at c.in-Some.ensures))

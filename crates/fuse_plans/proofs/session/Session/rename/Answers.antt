@@ -8,8 +8,7 @@ use Rattle.fuse_plans.proofs.session.Session.rename.Goals as goal
 
 pub returns-in_err-tried : goal.returns-in_err-tried
 returns-in_err-tried g c =
-    let r = c.from_residual.ensures in
-    was-fails _ r.0 r.1
+    was-fails _ c.from_residual.ensures
     (on-machine (rw (c.new.ensures, c.new-2.ensures, c.into_bytes.ensures, c.into_bytes-2.ensures) at c.done_between-tried.ensures))
     c.in_err-tried.was
 

@@ -9,8 +9,7 @@ returns-in_default-clause-did g c =
 
 pub returns-in_err-on_once-clause-did : goal.returns-in_err-on_once-clause-did
 returns-in_err-on_once-clause-did g c =
-    let r = c.from_residual.ensures in
-    same-work (ap (set_mode c.args.now c.args.pid c.args.inode) c.in-Some.is) (then-fails _ r.0 r.1 c.in_err-on_once.ensures.did)
+    same-work (ap (set_mode c.args.now c.args.pid c.args.inode) c.in-Some.is) (then-fails _ c.from_residual.ensures c.in_err-on_once.ensures.did)
 
 pub returns-clause-did : goal.returns-clause-did
 returns-clause-did g c =

@@ -7,8 +7,7 @@ returns-then-not-sets_owners-clause-did g c = when-false _ (sym c.sets_owners.en
 
 pub returns-in_err-on_once-clause-did : goal.returns-in_err-on_once-clause-did
 returns-in_err-on_once-clause-did g c =
-    let r = c.from_residual.ensures in
-    when-true _ (sym c.sets_owners.ensures ∙ c.if-not-sets_owners.false) (then-fails _ r.0 r.1 c.in_err-on_once.ensures.did)
+    when-true _ (sym c.sets_owners.ensures ∙ c.if-not-sets_owners.false) (then-fails _ c.from_residual.ensures c.in_err-on_once.ensures.did)
 
 pub returns-clause-did : goal.returns-clause-did
 returns-clause-did g c =

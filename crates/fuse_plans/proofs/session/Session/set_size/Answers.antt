@@ -9,9 +9,8 @@ returns-in_default-clause-did g c =
 
 pub returns-in_err-resize_object-clause-did : goal.returns-in_err-resize_object-clause-did
 returns-in_err-resize_object-clause-did g c =
-    let r = c.from_residual.ensures in
     same-work (ap (set_size c.args.now c.args.pid c.args.inode c.args.handle) c.in-Some.is)
-    (then-fails _ r.0 r.1 c.in_err-resize_object.ensures.did)
+    (then-fails _ c.from_residual.ensures c.in_err-resize_object.ensures.did)
 
 pub returns-clause-did : goal.returns-clause-did
 returns-clause-did g c =

@@ -10,9 +10,8 @@ returns-in_default g c = when-true _ (sym c.sets_times.ensures ∙ c.if-not-sets
 
 pub returns-in_err-may_set_times : goal.returns-in_err-may_set_times
 returns-in_err-may_set_times g c =
-    let r = c.from_residual.ensures in
     when-true _ (sym c.sets_times.ensures ∙ c.if-not-sets_times.false) (needs-some _ _ c.in-Some.is
-    (then-fails _ r.0 r.1 (rw c.counts_as_owner-is_owner.ensures at c.in_err-may_set_times.ensures.did)))
+    (then-fails _ c.from_residual.ensures (rw c.counts_as_owner-is_owner.ensures at c.in_err-may_set_times.ensures.did)))
 
 pub returns : goal.returns
 returns g c =

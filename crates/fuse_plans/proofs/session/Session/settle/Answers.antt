@@ -7,8 +7,7 @@ returns-then-is_refused_for-clause-did g c = where-true _ _ (sym c.is_refused_fo
 
 pub returns-in_err-done-clause-did : goal.returns-in_err-done-clause-did
 returns-in_err-done-clause-did g c =
-    let r = c.from_residual.ensures in
-    where-false _ _ (sym c.is_refused_for.ensures ∙ c.if-is_refused_for.false) (then-fails _ r.0 r.1 (of-result c.in_err-done.ensures))
+    where-false _ _ (sym c.is_refused_for.ensures ∙ c.if-is_refused_for.false) (then-fails _ c.from_residual.ensures (of-result c.in_err-done.ensures))
 
 pub returns-in_default-clause-did : goal.returns-in_default-clause-did
 returns-in_default-clause-did g c =

@@ -5,7 +5,7 @@ use Rattle.fuse_plans.proofs.session.Session.sync_all.Goals as goal
 
 pub returns-in_err-obtain-clause-did : goal.returns-in_err-obtain-clause-did
 unfolding sync_all
-returns-in_err-obtain-clause-did g c = let r = c.from_residual.ensures in then-fails _ r.0 r.1 (by-machine c.in_err-obtain.ensures refl)
+returns-in_err-obtain-clause-did g c = then-fails _ c.from_residual.ensures (by-machine c.in_err-obtain.ensures refl)
 
 pub returns-clause-did : goal.returns-clause-did
 unfolding sync_all

@@ -4,8 +4,7 @@ use Rattle.fuse_plans.proofs.session.Session.tell_linked.Goals as goal
 
 pub returns-in_err-status : goal.returns-in_err-status
 returns-in_err-status g c =
-    let r = c.from_residual.ensures in
-    reads _ _ c.kind_of-kind.ensures (keeps _ _ refl c.note_linked.ensures.kept (then-fails _ r.0 r.1 c.in_err-status.ensures.did))
+    reads _ _ c.kind_of-kind.ensures (keeps _ _ refl c.note_linked.ensures.kept (then-fails _ c.from_residual.ensures c.in_err-status.ensures.did))
 
 pub returns : goal.returns
 returns g c =

@@ -1,11 +1,7 @@
 use Rattle.fuse_plans.specs.Callers.{the_looker}
-use Rattle.fuse_plans.proofs.Doings.{reads, gives, stops}
+use Rattle.fuse_plans.proofs.Doings.{reads-needed}
 use Rattle.fuse_plans.proofs.session.Session.the_looker.Goals as goal
 
-pub returns-in-Some : goal.returns-in-Some
+pub returns : goal.returns
 unfolding the_looker
-returns-in-Some g c = reads _ _ c.in-Some.ensures (gives _ _)
-
-pub returns-in-None : goal.returns-in-None
-unfolding the_looker
-returns-in-None g c = reads _ _ c.in-None.ensures (stops _ _)
+returns g c = reads-needed _ _ _ (rw c.looker.ensures at c.ok_or.ensures.value)
