@@ -1,12 +1,9 @@
 -- Of operations for which nobody is learnt the plan is the same whoever asks.
 use Rattle.std.proofs.Common.{refl}
 use Rattle.fuse_protocol.specs.declared.operation.Operation.TheVariants.{Lookup, Forget, GetAttr, SetAttr, ReadLink, SymLink, MkNod, MkDir, Unlink, RmDir, Rename, Link, Open, Read, Write, StatFs, Release, FSync, SetXAttr, GetXAttr, ListXAttr, RemoveXAttr, Init, OpenDir, ReadDir, ReleaseDir, FSyncDir, Access, Create, Interrupt, Destroy, BatchForget, SyncFs, Unknown}
-use Rattle.fuse_plans.specs.AclPlans.{get_xattr, list_xattrs}
-use Rattle.fuse_plans.specs.AttributePlans.{get_attributes, read_link}
 use Rattle.fuse_serving.specs.Alike.{IsAlike}
 
 pub alike : IsAlike
-unfolding get_attributes read_link get_xattr list_xattrs
 alike r cred value (Lookup name) is = absurd (cc)
 alike r cred value Forget is = refl
 alike r cred value GetAttr is = refl
