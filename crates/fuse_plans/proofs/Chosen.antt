@@ -18,10 +18,10 @@ use Rattle.fuse_plans.specs.declared.stop.Stop.TheVariants.{Refuses, Lacks}
 use Rattle.fuse_plans.specs.declared.stop.OtherErrno.TheVariants.{ENFILE}
 use Rattle.fuse_plans.specs.Stops.{failed, is_for}
 use Rattle.fuse_state.specs.Servers.{Server, is_process_of, has_credential, is_same_credential, all_processes, processes_of, first_of, partly_used, are_many, idle, holds_some, has_room, without_process}
-use Rattle.fuse_plans.specs.Works.{Work, give, stop, kept, keep, goes_on, ◌>>=◌, needed, ask}
+use Rattle.fuse_plans.specs.Works.{Work, give, stop, kept, keep, ◌>>=◌, needed, ask}
 use Rattle.fuse_plans.specs.Callers.{settled, settle, retire_next, retire, spawn_again, settle_first, begin_process, or_spawned, caller, unused_of, or_unused, caller_with_room}
 use Rattle.fuse_plans.specs.Conduct.{Known, Rights, conduct, after_spawn, after_exit, Fits, IsHome, IsCaller}
-use Rattle.fuse_plans.proofs.Conducts.{Left, Does, does-give, does-kept, does->>=, keeps-followed_by, keeps-weaker}
+use Rattle.fuse_plans.proofs.Conducts.{Left, Does, does-give, does-kept, does->>=, keeps->>=, keeps-weaker}
 
 -- of the processes nothing more is known
 abbrev pub Anyone : List (ℕ × Credential) → Type 0
@@ -83,41 +83,28 @@ OfCaller rights pid processes = IsCaller rights.cred processes pid
 module _ {rights : Rights} where
   pub then-does : {X Y : Type 0} {Q : X → List (ℕ × Credential) → Type 0} {w : Work X} {f : X → Work Y}
       → DoesTo rights Q w → ((x : X) → Does rights (Q x) (f x)) → Does rights Anyone (w >>= f)
-  unfolding ◌>>=◌
   then-does {X} {Y} {Q} {w} {f} first rest = record {
     goes = λ known s fits.
-        keeps-followed_by (conduct rights) (LeftTo rights Q) (Left rights Anyone) (w s) (goes_on f) known (first.goes known s fits) after;
+        keeps->>= rights (LeftTo rights Q) (Left rights Anyone) w f known s (first.goes known s fits)
+        (λ n x t left. keeps-weaker (conduct rights) (Left rights (Q x)) (Left rights Anyone) (f x t) n ((rest x).goes n t left) (λ m r fits. anyone fits))
+        (λ n e t left. left);
   }
-    where
-      after : (n : Known) (r : Result X Stop × Server) → LeftTo rights Q n r → KeepsTo (conduct rights) (Left rights Anyone) n (goes_on f r)
-      after n (Ok x, t) left = keeps-weaker (conduct rights) (Left rights (Q x)) (Left rights Anyone) (f x t) n ((rest x).goes n t left) (λ m r fits. anyone fits)
-      after n (Err e, t) left = left
 
   pub then-does_to : {X Y : Type 0} {Q : Y → List (ℕ × Credential) → Type 0} {w : Work X} {f : X → Work Y}
       → Does rights Anyone w → ((x : X) → DoesTo rights Q (f x)) → DoesTo rights Q (w >>= f)
-  unfolding ◌>>=◌
   then-does_to {X} {Y} {Q} {w} {f} first rest = record {
     goes = λ known s fits.
-        keeps-followed_by (conduct rights) (Left rights Anyone) (LeftTo rights Q) (w s) (goes_on f) known (first.goes known s fits) after;
+        keeps->>= rights (Left rights Anyone) (LeftTo rights Q) w f known s (first.goes known s fits) (λ n x t left. (rest x).goes n t left) (λ n e t left. left);
   }
-    where
-      after : (n : Known) (r : Result X Stop × Server) → Left rights Anyone n r → KeepsTo (conduct rights) (LeftTo rights Q) n (goes_on f r)
-      after n (Ok x, t) left = (rest x).goes n t left
-      after n (Err e, t) left = left
 
   pub gives-with : {X Y : Type 0} {Q : X → List (ℕ × Credential) → Type 0} {w : Work X} (y : Y)
       → DoesTo rights Q w → DoesTo rights (λ (p : Y × X). Q p.1) (w >>= (λ x. give (y, x)))
-  unfolding give ◌>>=◌
+  unfolding give
   gives-with {X} {Y} {Q} {w} y first = record {
     goes = λ known s fits.
-        keeps-followed_by (conduct rights) (LeftTo rights Q) (LeftTo rights (λ (p : Y × X). Q p.1)) (w s) (goes_on (λ x. give (y, x))) known
-        (first.goes known s fits) after;
+        keeps->>= rights (LeftTo rights Q) (LeftTo rights (λ (p : Y × X). Q p.1)) w (λ x. give (y, x)) known s (first.goes known s fits)
+        (λ n x t left. left) (λ n e t left. left);
   }
-    where
-      after : (n : Known) (r : Result X Stop × Server) → LeftTo rights Q n r
-          → KeepsTo (conduct rights) (LeftTo rights (λ (p : Y × X). Q p.1)) n (goes_on (λ x. give (y, x)) r)
-      after n (Ok x, t) left = left
-      after n (Err e, t) left = left
 
   stops : (e : Stop) (known : Known) (s : Server) → Fits rights Anyone known s → KeepsTo (conduct rights) (LeftTo rights (OfCaller rights)) known (stop {X = ℕ} e s)
   unfolding stop

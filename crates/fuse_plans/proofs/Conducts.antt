@@ -28,6 +28,19 @@ keeps-weaker rule E F (Ask e next) m first weaker = (
   λ reply. keeps-weaker rule E F (next reply) (rule.after m e reply) (first.1 reply) weaker,
 )
 
+-- one piece after another, where what the first leaves is enough for the second
+pub keeps->>= : {X Y : Type 0} (rights : Rights) (E : Known → Result X Stop × Server → Type 0) (F : Known → Result Y Stop × Server → Type 0)
+    (w : Work X) (f : X → Work Y) (known : Known) (s : Server)
+    → KeepsTo (conduct rights) E known (w s)
+    → ((n : Known) (x : X) (t : Server) → E n (Ok x, t) → KeepsTo (conduct rights) F n (f x t))
+    → ((n : Known) (e : Stop) (t : Server) → E n (Err e, t) → F n (Err e, t)) → KeepsTo (conduct rights) F known ((w >>= f) s)
+unfolding ◌>>=◌
+keeps->>= {X} {Y} rights E F w f known s first ok err = keeps-followed_by (conduct rights) E F (w s) (goes_on f) known first after
+  where
+    after : (n : Known) (r : Result X Stop × Server) → E n r → KeepsTo (conduct rights) F n (goes_on f r)
+    after n (Ok x, t) left = ok n x t left
+    after n (Err e, t) left = err n e t left
+
 -- ---- pieces
 
 abbrev pub Left : Rights → (List (ℕ × Credential) → Type 0) → {X : Type 0} → Known → Result X Stop × Server → Type 0
@@ -62,15 +75,10 @@ module _ {rights : Rights} {P : List (ℕ × Credential) → Type 0} where
   }
 
   pub does->>= : {X Y : Type 0} {w : Work X} {f : X → Work Y} → Does rights P w → ((x : X) → Does rights P (f x)) → Does rights P (w >>= f)
-  unfolding ◌>>=◌
   does->>= {X} {Y} {w} {f} first rest = record {
     goes = λ known s fits.
-        keeps-followed_by (conduct rights) (Left rights P) (Left rights P) (w s) (goes_on f) known (first.goes known s fits) after;
+        keeps->>= rights (Left rights P) (Left rights P) w f known s (first.goes known s fits) (λ n x t left. (rest x).goes n t left) (λ n e t left. left);
   }
-    where
-      after : (n : Known) (r : Result X Stop × Server) → Left rights P n r → KeepsTo (conduct rights) (Left rights P) n (goes_on f r)
-      after n (Ok x, t) left = (rest x).goes n t left
-      after n (Err e, t) left = left
 
   pub does-attempt : {X : Type 0} {w : Work X} → Does rights P w → Does rights P (attempt w)
   unfolding attempt

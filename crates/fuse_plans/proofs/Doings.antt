@@ -18,6 +18,12 @@ use Rattle.fuse_plans.specs.Works.{Work, give, stop, kept, keep, goes_on, ◌>>=
 use Rattle.fuse_plans.specs.FilePlans.{when, done}
 use Rattle.fuse_plans.specs.Performing.{Did, DidByMachine}
 
+-- one of the two, with what is known there
+either : {X : Type 0} {A : X → Type 0} {B : Stop → Type 0} {C : Type 0} (q : Result X Stop) → MatchResult q A B
+    → ((x : X) → q ≡ Ok x → A x → C) → ((e : Stop) → q ≡ Err e → B e → C) → C
+either (Ok x) is ok err = ok x refl is
+either (Err e) is ok err = err e refl is
+
 -- what `?` makes of an error
 abbrev pub PassedOn : {Y : Type 0} → Result Y Stop → Stop → Type 0
 PassedOn r e = IsErr r × IsErrAnd r (λ d. d ≡ e)
@@ -106,11 +112,9 @@ module _ {M : Type 0} {Serves : M → Event → Reply → M → Type 0} where
   -- a step, and what its result leads to
   pub machine-then : {X Y : Type 0} {w : Work X} (f : X → Work Y) {old new : M} {q : Result X Stop} {r : Result Y Stop}
       → DidByMachine Serves w old new q → MatchResult q (λ x. f x ≡ of_result r) (λ e. r ≡ Err e) → DidByMachine Serves (w >>= f) old new r
-  machine-then {X} {Y} {w} f {old} {new} {q} {r} first is = chosen q first is
-    where
-      chosen : (p : Result X Stop) → DidByMachine Serves w old new p → MatchResult p (λ x. f x ≡ of_result r) (λ e. r ≡ Err e) → DidByMachine Serves (w >>= f) old new r
-      chosen (Ok x) did is = machine-ok f did (machine-result is)
-      chosen (Err e) did is = subst (λ (p : Result Y Stop). DidByMachine Serves (w >>= f) old new p) (sym is) (machine-err f did)
+  machine-then {X} {Y} {w} f {old} {new} {q} {r} first is =
+      either q is (λ x was same. machine-was f first was (machine-result same))
+      (λ e was same. subst (λ (p : Result Y Stop). DidByMachine Serves (w >>= f) old new p) (sym same) (machine-was-err f first was))
 
   pub machine-gives : {X : Type 0} (x : X) (m : M) → DidByMachine Serves (give x) m m (Ok x)
   machine-gives x m = machine-result {r = Ok x} refl
@@ -204,11 +208,10 @@ module _ {M : Type 0} {Serves : M → Event → Reply → M → Type 0} where
   -- a step whose result goes into one that asks nothing
   pub then-matches : {X Y : Type 0} {w : Work X} (f : X → Work Y) {old new : Session M} {q : Result X Stop} {r : Result Y Stop}
       → Did Serves w old new q → MatchResult q (λ x. f x ≡ of_result r) (λ e. r ≡ Err e) → Did Serves (w >>= f) old new r
-  then-matches {X} {Y} {w} f {old} {new} {q} {r} first is = chosen q first is
-    where
-      chosen : (p : Result X Stop) → Did Serves w old new p → MatchResult p (λ x. f x ≡ of_result r) (λ e. r ≡ Err e) → Did Serves (w >>= f) old new r
-      chosen (Ok x) did is = then-ok f did (of-result is)
-      chosen (Err e) did is = subst (λ (p : Result Y Stop). Did Serves (w >>= f) old new p) (sym is) (then-err f did)
+  then-matches {X} {Y} {w} f {old} {new} {q} {r} first is =
+      either q is (λ x was same. then-was f first was (of-result same))
+      (λ e was same. subst (λ (p : Result Y Stop). Did Serves (w >>= f) old new p) (sym same)
+      (then-err f (subst (λ (p : Result X Stop). Did Serves w old new p) was first)))
 
   pub by-machine : {X : Type 0} {w : Work X} {old new : Session M} {r : Result X Stop}
       → DidByMachine Serves w old.machine new.machine r → new.server.server ≡ old.server.server → Did Serves w old new r
@@ -313,6 +316,9 @@ module _ {M : Type 0} {Serves : M → Event → Reply → M → Type 0} where
 
   pub needs-last : {X : Type 0} (e : Stop) {o : Option X} {s : Session M} {x : X} → o ≡ Some x → Did Serves (needed e o) s s (Ok x)
   needs-last {X} e {o} {s} {x} is = same-work (ap (λ (p : Option X). needed e p) is) (gives x s)
+
+  pub needs-was : {X : Type 0} (e : Stop) (o : Option X) {s : Session M} {r : Result X Stop} → r ≡ ok_or o e → Did Serves (needed e o) s s r
+  needs-was {X} e o {s} {r} is = of-result (needed-is e o ∙ ap of_result (sym is))
 
   pub lacks-last : {X : Type 0} (e : Stop) {o : Option X} {s : Session M} → o ≡ None → Did Serves (needed e o) s s (Err e)
   lacks-last {X} e {o} {s} is = same-work (ap (λ (p : Option X). needed e p) is) (stops e s)

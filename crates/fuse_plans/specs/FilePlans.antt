@@ -146,7 +146,7 @@ call_open handle call = do
 unfoldable pub seek : ℕ → ℕ → ℕ → Work Reply
 seek pid fd offset = if nat_lt offset (2 ^ 63) then obtain (Calls pid (Lseek fd Set (pos offset))) else stop (failed EINVAL)
 
--- the next bytes that are moved are those behind the offset
+-- by a handle, what is open there
 abbrev pub seek_open : ℕ → ℕ → Work ℕ
 seek_open handle offset = do
   n ← the_open handle

@@ -126,7 +126,7 @@ make_link r name target = do
 abbrev pub set_umask : ℕ → ℕ → Work Reply
 set_umask pid umask = obtain (Calls pid (Umask (bit_and umask 0o777)))
 
--- the same, where the mode that is asked for is masked
+-- the same, once new objects of the process are made with a mask
 abbrev pub make_masked : Time → ℕ → ℕ → ℕ → Call → List ℕ → Work ReplyBody
 make_masked now umask pid d call name = do
   set_umask pid umask

@@ -117,9 +117,7 @@ impl<M: Machine> Session<M> {
         ensures did { Did M.Serves (caller who) self.old self.new result }
         ensures room { self.old.server.room ≤ self.new.server.room + 1 }
     {
-        let Some(cred) = who else {
-            return Err(Stop::EACCES);
-        };
+        let cred = who.ok_or(Stop::EACCES)?;
         let pid = self.server.first_process(&cred);
         self.or_spawned(cred, pid)
     }
@@ -143,9 +141,7 @@ impl<M: Machine> Session<M> {
         ensures did { Did M.Serves (caller_with_room who) self.old self.new result }
         ensures room { self.old.server.room ≤ self.new.server.room + 1 }
     {
-        let Some(cred) = who else {
-            return Err(Stop::EACCES);
-        };
+        let cred = who.ok_or(Stop::EACCES)?;
         match self.server.partly_used(&cred) {
             Some(pid) => Ok(pid),
             None => self.unused(cred),

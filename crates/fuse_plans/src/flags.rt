@@ -56,37 +56,20 @@ pub(crate) fn is_trunc(flags: OpenFlags) -> bool
 fn flags_with(mode: Mode, is_new: bool, trunc: bool, nofollow: bool, directory: bool) -> Flags
     ensures { result ≡ flags_with mode is_new trunc nofollow directory }
 {
-    match mode {
-        Mode::Reads => Flags {
-            read: true,
-            write: false,
-            create: is_new,
-            excl: is_new,
-            trunc,
-            append: false,
-            nofollow,
-            directory,
-        },
-        Mode::Writes => Flags {
-            read: false,
-            write: true,
-            create: is_new,
-            excl: is_new,
-            trunc,
-            append: false,
-            nofollow,
-            directory,
-        },
-        Mode::Both => Flags {
-            read: true,
-            write: true,
-            create: is_new,
-            excl: is_new,
-            trunc,
-            append: false,
-            nofollow,
-            directory,
-        },
+    let (read, write) = match mode {
+        Mode::Reads => (true, false),
+        Mode::Writes => (false, true),
+        Mode::Both => (true, true),
+    };
+    Flags {
+        read,
+        write,
+        create: is_new,
+        excl: is_new,
+        trunc,
+        append: false,
+        nofollow,
+        directory,
     }
 }
 

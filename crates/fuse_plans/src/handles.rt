@@ -161,7 +161,7 @@ impl<M: Machine> Session<M> {
         obtain_once(&mut self.machine, owner_of(handle), call)
     }
 
-    // The next bytes that are moved are those behind the offset.
+    // The same by a handle: the inode that is open there.
     fn seek_open(&mut self, handle: u64, offset: u64) -> Result<u32, Stop>
         ensures did { Did M.Serves (seek_open handle offset) self.old self.new result }
         ensures kept { self.new.server ≡ self.old.server }

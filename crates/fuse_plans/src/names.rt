@@ -171,7 +171,7 @@ impl<M: Machine> Session<M> {
         self.made(now, directory, name)
     }
 
-    // The same, where the mode that is asked for is masked.
+    // The same, once new objects of the process are made with a mask.
     fn make_masked(
         &mut self,
         now: Time,

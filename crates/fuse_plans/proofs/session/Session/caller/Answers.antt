@@ -1,11 +1,12 @@
 use Rattle.fuse_plans.specs.Callers.{caller}
-use Rattle.fuse_plans.proofs.Doings.{needs-none, needs-some, reads}
+use Rattle.fuse_plans.proofs.Doings.{needs-was, reads, then-was, was-fails}
 use Rattle.fuse_plans.proofs.session.Session.caller.Goals as goal
 
-pub returns-in_default-clause-did : goal.returns-in_default-clause-did
+pub returns-in_err-cred-clause-did : goal.returns-in_err-cred-clause-did
 unfolding caller
-returns-in_default-clause-did g c = needs-none _ _ _ c.in_default.is
+returns-in_err-cred-clause-did g c = was-fails _ c.from_residual.ensures (needs-was _ _ c.ok_or.ensures.value) c.in_err-cred.was
 
 pub returns-clause-did : goal.returns-clause-did
 unfolding caller
-returns-clause-did g c = needs-some _ _ c.in-Some.is (reads _ _ c.first_process-pid.ensures c.or_spawned.ensures.did)
+returns-clause-did g c =
+    then-was _ (needs-was _ _ c.ok_or.ensures.value) c.in_ok-cred.was (reads _ _ c.first_process-pid.ensures c.or_spawned.ensures.did)

@@ -1,15 +1,17 @@
 use Rattle.fuse_plans.specs.Callers.{caller_with_room}
-use Rattle.fuse_plans.proofs.Doings.{needs-some, needs-none, reads, gives}
+use Rattle.fuse_plans.proofs.Doings.{gives, needs-was, reads, then-was, was-fails}
 use Rattle.fuse_plans.proofs.session.Session.caller_with_room.Goals as goal
 
-pub returns-in_default-clause-did : goal.returns-in_default-clause-did
+pub returns-in_err-cred-clause-did : goal.returns-in_err-cred-clause-did
 unfolding caller_with_room
-returns-in_default-clause-did g c = needs-none _ _ _ c.in_default.is
+returns-in_err-cred-clause-did g c = was-fails _ c.from_residual.ensures (needs-was _ _ c.ok_or.ensures.value) c.in_err-cred.was
 
-pub returns-in-Some-partly_used-clause-did : goal.returns-in-Some-partly_used-clause-did
+pub returns-in-Some-clause-did : goal.returns-in-Some-clause-did
 unfolding caller_with_room
-returns-in-Some-partly_used-clause-did g c = needs-some _ _ c.in-Some.is (reads _ _ c.in-Some-partly_used.ensures (gives _ _))
+returns-in-Some-clause-did g c =
+    then-was _ (needs-was _ _ c.ok_or.ensures.value) c.in_ok-cred.was (reads _ _ c.in-Some.ensures (gives _ _))
 
 pub returns-in-None-clause-did : goal.returns-in-None-clause-did
 unfolding caller_with_room
-returns-in-None-clause-did g c = needs-some _ _ c.in-Some.is (reads _ _ c.in-None.ensures c.unused.ensures.did)
+returns-in-None-clause-did g c =
+    then-was _ (needs-was _ _ c.ok_or.ensures.value) c.in_ok-cred.was (reads _ _ c.in-None.ensures c.unused.ensures.did)
