@@ -2,10 +2,11 @@
 --     answers        the work of the plan was done
 --     refuses, is-silent        there is no work, or nothing to say
 --     with-name, with-two        the work with names that are copies
+--     answering        by which it is found that what was done is the answer
 --     begins-as        from a session that is the same
---     silent-plan, sync-plan        the plan of an operation
-use Rattle.std.specs.Prelude.{◌≡◌, ◌⊎◌, ℕ, true, List, Option, None, Some, Result, Err}
-use Rattle.std.proofs.Common.{refl, sym, ap, subst, inl, inr}
+--     silent-plan        the plan of an operation
+use Rattle.std.specs.Prelude.{◌≡◌, ℕ, true, List, Option, None, Some, Result, Err}
+use Rattle.std.proofs.Common.{refl, sym, subst}
 use Rattle.posix_acl.specs.AccessList.{AccessList}
 use Rattle.fs_model.specs.declared.event.Event.{Event}
 use Rattle.fs_model.specs.declared.reply.Reply.{Reply}
@@ -14,7 +15,6 @@ use Rattle.fuse_protocol.specs.declared.operation.Operation.TheVariants.{Lookup,
 use Rattle.fuse_state.specs.Servers.{Server}
 use Rattle.fuse_plans.specs.declared.family.Family.TheVariants as families
 use Rattle.fuse_plans.specs.declared.request.Asked.{Asked}
-use Rattle.fuse_plans.specs.DirectoryPlans.{sync_all}
 use Rattle.fuse_plans.specs.Families.{family_of}
 use Rattle.fuse_plans.specs.declared.reply.ReplyBody.{ReplyBody}
 use Rattle.fuse_plans.specs.declared.reply.Response.{Response}
@@ -65,12 +65,6 @@ silent-plan r value BatchForget is = refl
 silent-plan r value SyncFs is = absurd (cc)
 silent-plan r value Unknown is = absurd (cc)
 
--- two that are one
-pub sync-plan : (r : Asked) (value : Option (Option AccessList)) (o : Operation) → (o ≡ FSyncDir) ⊎ (o ≡ SyncFs)
-    → plan_of r value o ≡ Some sync_all
-sync-plan r value o (inl is) = ap (plan_of r value) is
-sync-plan r value o (inr is) = ap (plan_of r value) is
-
 module _ {M : Type 0} {Serves : M → Event → Reply → M → Type 0} where
   did-answers : {w : Work ReplyBody} {old new : Session M} {r : Result ReplyBody Stop} → Did Serves w old new r
       → Answered Serves (Some w) old new (response_of r)
@@ -106,6 +100,8 @@ module _ {M : Type 0} {Serves : M → Event → Reply → M → Type 0} where
       → copied ≡ given → copied_second ≡ second → Did Serves (f copied copied_second) old new r → Did Serves (f given second) old new r
   with-two {X} f {given} {copied} {second} {copied_second} {old} {new} {r} is and did =
       with-name (λ n. f given n) and (with-name (λ n. f n copied_second) is did)
+
+  pub ruleset answering = (answers, with-name, with-two)
 
   -- what room there is doesn't count
   pub begins-as : {plan : Option (Work ReplyBody)} (other old : Session M) {new : Session M} {response : Response}

@@ -153,6 +153,7 @@ impl<M: Machine> Session<M> {
     }
 
     // Requests that make an object.
+    #[tactic(auto, using(crate::proofs::Answerings::answering))]
     fn perform_making(
         &mut self,
         asked: &Asked,
@@ -194,6 +195,7 @@ impl<M: Machine> Session<M> {
     }
 
     // Requests for names that are there, and for further ones.
+    #[tactic(auto, using(crate::proofs::Answerings::answering))]
     fn perform_naming(
         &mut self,
         asked: &Asked,
@@ -233,6 +235,7 @@ impl<M: Machine> Session<M> {
     }
 
     // Requests that remove names.
+    #[tactic(auto, using(crate::proofs::Answerings::answering))]
     fn perform_removing(
         &mut self,
         asked: &Asked,
@@ -258,6 +261,7 @@ impl<M: Machine> Session<M> {
     }
 
     // Requests for an object.
+    #[tactic(auto, using(crate::proofs::Answerings::answers))]
     fn perform_on_object(
         &mut self,
         asked: &Asked,
@@ -293,6 +297,7 @@ impl<M: Machine> Session<M> {
     }
 
     // Requests for attributes that are ACLs.
+    #[tactic(auto, using(crate::proofs::Answerings::answering))]
     fn perform_on_acl(
         &mut self,
         asked: &Asked,
@@ -344,6 +349,7 @@ impl<M: Machine> Session<M> {
     }
 
     // Requests by a handle.
+    #[tactic(auto, using(crate::proofs::Answerings::answers))]
     fn perform_by_handle(
         &mut self,
         asked: &Asked,
@@ -377,6 +383,7 @@ impl<M: Machine> Session<M> {
     }
 
     // Requests for the whole file system.
+    #[tactic(auto, using(crate::proofs::Answerings::answers))]
     fn perform_on_whole(&mut self, operation: &Operation<'_>) -> Result<Response, AllocError>
         requires family { family_of operation.now ≡ families.OnWhole }
         ensures answered { (asked : AskedBy) (value : Option (Option AccessList)) →
