@@ -3,6 +3,7 @@ ghost use Rattle.std.specs.Prelude.{◌||◌, IsTrue};
 
 use crate::bytes::{Bytes, Path};
 use posix_acl::{Acl, Perms};
+use std::mem;
 
 /// How a file is opened: the flags of open(2). At least one of `read` and `write` is set.
 #[derive(Clone, Copy)]
@@ -115,4 +116,13 @@ pub enum Call {
     Chdir(Path),
     /// umask: the mask.
     Umask(u16),
+}
+
+impl Call {
+    /// Lets go of it.
+    ///
+    /// Who has done with a value of many kinds calls this: so the going of each kind is proved here, and not in each crate again.
+    pub fn discard(self) {
+        mem::drop(self);
+    }
 }

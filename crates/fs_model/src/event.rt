@@ -3,6 +3,7 @@ use crate::bytes::Bytes;
 use crate::call::Call;
 use crate::reply::Reply;
 use fs_cred::Cred;
+use std::mem;
 
 /// What comes to a file system and its disk.
 #[derive(Drop)]
@@ -37,6 +38,13 @@ pub enum Event {
         choice: Bytes,
         arm: Option<u64>,
     },
+}
+
+impl Event {
+    /// Lets go of it, as [`Call::discard`] does of a call.
+    pub fn discard(self) {
+        mem::drop(self);
+    }
 }
 
 /// Why a file system isn't mounted again.

@@ -6,6 +6,7 @@ use crate::listing::Listing;
 use fs_cred::{NodeKind, Refusal, Rule};
 use fs_layout::Kind;
 use posix_acl::Acl;
+use std::mem;
 
 /// The file types of this file system.
 #[derive(Clone, Copy)]
@@ -102,4 +103,11 @@ pub enum Reply {
     /// How many data sectors and inodes are free.
     Space { sectors: u32, inodes: u32 },
     Refused(Refusal),
+}
+
+impl Reply {
+    /// Lets go of it, as [`Call::discard`](crate::Call::discard) does of a call.
+    pub fn discard(self) {
+        mem::drop(self);
+    }
 }

@@ -58,7 +58,11 @@ pub fn write_answer<W: Write>(
 {
     match answer {
         Answer::Nothing => Ok(()),
-        Answer::Reply(reply) => write_line(writer, reply_text(alloc, &reply)?),
+        Answer::Reply(reply) => {
+            let text = reply_text(alloc, &reply);
+            reply.discard();
+            write_line(writer, text?)
+        }
         Answer::Fault(fault) => write_line(writer, fault_text(alloc, fault)?),
     }
 }

@@ -1,5 +1,5 @@
 //! Runs scripts.
-ghost use Rattle.std.specs.Prelude.{◌≡◌, Ok, Err, OnOk, IsTrue};
+ghost use Rattle.std.specs.Prelude.{◌≡◌, [], Ok, Err, OnOk, IsTrue};
 ghost use Rattle.std.specs.Io.KnownBytes.{IsAtEnd};
 ghost use Rattle.fs_system.specs.Playing.{IsConfig};
 ghost use Rattle.fs_system.specs.Histories.{Config};
@@ -42,12 +42,32 @@ pub fn run<R: Read, W: Write, D: Disk + Drop>(
 {
     let mut pending = Pending::new(alloc)?;
     let mut line = Vec::with_capacity(alloc, MAX_LINE + 1)?;
+    run_lines(alloc, reader, writer, fs, &mut pending, &mut line)
+}
+
+// Performs and answers line after line, each in this buffer, and flushes what was written.
+fn run_lines<R: Read, W: Write, D: Disk + Drop>(
+    alloc: Global,
+    reader: &mut Watched<R>,
+    writer: &mut Watched<W>,
+    fs: &mut Fs<D>,
+    pending: &mut Pending,
+    line: &mut Vec<u8>,
+) -> Result<Count, RunFault>
+    requires { pending.old ≡ record { ahead = []; given = 0 } }
+    ensures ran { (c : Config D) → IsConfig D.state (Ok fs.old) c → (d : Config D) × IsConfig D.state (Ok fs.new) d
+        × Ran D.state (R.remaining reader.old.inner) (W.contents writer.old.inner) (W.contents writer.new.inner) c d result }
+    ensures end { OnOk result (IsAtEnd (R.remaining reader.new.inner)) }
+    ensures read_fault { FailsWhere reader.old.failed reader.new.failed (result ≡ Err ReadFault) }
+    ensures write_fault { FailsWhere writer.old.failed writer.new.failed (result ≡ Err WriteFault) }
+    ensures flushed { OnOk result (IsTrue writer.new.flushed) }
+{
     let mut count = Count {
         lines: 0,
         faults: 0,
     };
-    while pending.read_line(reader, &mut line)? {
-        let answer = perform_line(alloc, fs, &line);
+    while pending.read_line(reader, line)? {
+        let answer = perform_line(alloc, fs, line);
         count.lines += 1;
         count.faults += answer.faults();
         write_answer(alloc, writer, answer)?;
@@ -64,7 +84,11 @@ fn perform_line<D: Disk + Drop>(alloc: Global, fs: &mut Fs<D>, line: &[u8]) -> A
 {
     match parse_line(alloc, line) {
         Ok(Line::Blank) => Answer::Nothing,
-        Ok(Line::Event(event)) => Answer::Reply(fs.serve(&event)),
+        Ok(Line::Event(event)) => {
+            let reply = fs.serve(&event);
+            event.discard();
+            Answer::Reply(reply)
+        }
         Err(fault) => Answer::Fault(fault),
     }
 }

@@ -1,6 +1,6 @@
 //! What is asked of a machine, and what comes of a refusal.
 //!
-//! Events, calls and replies are let go by `mem::drop`, here and elsewhere: where they go in place, each of their kinds is a case
+//! Events, calls and replies are let go by `discard`, here and elsewhere: where they go in place, each of their kinds is a case
 //! of that function's proof.
 ghost use Rattle.std.specs.Prelude.{◌≡◌, Some, Err, Ok, IfOk, IsSome, IsTrue, MatchResult};
 ghost use Rattle.fs_model.specs.Steps.{is_of_machine};
@@ -16,7 +16,6 @@ use crate::stop::Stop;
 use fs_cred::Refusal;
 use fs_layout::ROOT;
 use fs_model::{Call, Event, Path, Reply};
-use std::mem;
 
 // The refusal that a reply is.
 fn refusal_in(reply: &Reply) -> Option<Refusal>
@@ -59,7 +58,7 @@ pub(crate) fn obtain<M: Machine>(machine: &mut M, event: Event) -> Result<Reply,
     ensures { DidByMachine M.Serves (obtain event) machine.old machine.new result }
 {
     let reply = ask(machine, &event);
-    mem::drop(event);
+    event.discard();
     unless_refused(reply)
 }
 
@@ -84,7 +83,7 @@ pub(crate) fn obtain_once<M: Machine>(
     ensures { DidByMachine M.Serves (obtain (Calls pid call)) machine.old machine.new result }
 {
     let reply = obtain_call(machine, pid, &call);
-    mem::drop(call);
+    call.discard();
     reply
 }
 
@@ -98,7 +97,7 @@ fn enter<M: Machine>(machine: &mut M, pid: usize, directory: u32, second: u32) -
         second,
     };
     let reply = ask(machine, &event);
-    mem::drop(event);
+    event.discard();
     reply
 }
 
@@ -112,10 +111,10 @@ pub(crate) fn between<M: Machine>(
 ) -> Result<Reply, Stop>
     ensures { DidByMachine M.Serves (between pid directory second call.now) machine.old machine.new result }
 {
-    mem::drop(unless_refused(enter(machine, pid, directory, second))?);
+    unless_refused(enter(machine, pid, directory, second))?.discard();
     let reply = ask_call(machine, pid, call);
     let back = enter(machine, pid, ROOT, ROOT);
-    mem::drop(back);
+    back.discard();
     unless_refused(reply)
 }
 
@@ -142,7 +141,10 @@ pub(crate) fn done(tried: Result<Reply, Stop>) -> Result<(), Stop>
     ensures { MatchResult tried (λ reply. give tt ≡ of_result result) (λ stop. result ≡ Err stop) }
 {
     match tried {
-        Ok(_reply) => Ok(()),
+        Ok(reply) => {
+            reply.discard();
+            Ok(())
+        }
         Err(stop) => Err(stop),
     }
 }
@@ -160,8 +162,8 @@ pub(crate) fn or_closed<M: Machine, T>(
         Ok(value) => Ok(value),
         Err(stop) => {
             let call = Call::Close(fd);
-            mem::drop(ask_call(machine, pid, &call));
-            mem::drop(call);
+            ask_call(machine, pid, &call).discard();
+            call.discard();
             Err(stop)
         }
     }

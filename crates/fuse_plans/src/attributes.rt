@@ -18,7 +18,6 @@ use fs_model::{Bytes, Call, FileType, Reply, Status};
 use fuse_protocol::{AttrChanges, NewTime, Time};
 use fuse_state::{Server, Times, descriptor_of};
 use posix_acl::Perms;
-use std::mem;
 
 /// Whether it is known to be a symbolic link.
 pub(crate) fn is_known_link(kind: Option<FileType>) -> bool
@@ -186,7 +185,7 @@ impl<M: Machine> Session<M> {
         let Some(size) = size else {
             return Ok(());
         };
-        mem::drop(self.resize_object(pid, inode, size, handle)?);
+        self.resize_object(pid, inode, size, handle)?.discard();
         self.server.touch(now, inode);
         Ok(())
     }
@@ -208,7 +207,7 @@ impl<M: Machine> Session<M> {
         let (owner, group) = owners;
         let path = self.blank_path();
         let call = Call::Chown { path, owner, group };
-        mem::drop(self.on_once(pid, inode, call)?);
+        self.on_once(pid, inode, call)?.discard();
         self.server.change(now, inode);
         Ok(())
     }
@@ -222,7 +221,7 @@ impl<M: Machine> Session<M> {
             return Ok(());
         };
         let call = Call::Chmod(self.blank_path(), (mode & 0o7777) as u16);
-        mem::drop(self.on_once(pid, inode, call)?);
+        self.on_once(pid, inode, call)?.discard();
         self.server.change(now, inode);
         Ok(())
     }
@@ -265,7 +264,7 @@ impl<M: Machine> Session<M> {
             return Err(Stop::EPERM);
         }
         let call = Call::Access(self.blank_path(), Perms::from_digit(2));
-        mem::drop(self.on_once(pid, inode, call)?);
+        self.on_once(pid, inode, call)?.discard();
         Ok(())
     }
 
@@ -355,7 +354,7 @@ impl<M: Machine> Session<M> {
     {
         let pid = self.caller(who)?;
         let call = Call::Access(self.blank_path(), perms);
-        mem::drop(self.on_once(pid, inode, call)?);
+        self.on_once(pid, inode, call)?.discard();
         Ok(())
     }
 

@@ -15,7 +15,6 @@ use bitflags::Flags as _;
 use fs_cred::Cred;
 use fuse_protocol::{InitFlags, Offer, Terms};
 use fuse_state::Settings;
-use std::mem;
 
 // The version that is spoken.
 const VERSION: u32 = 7;
@@ -105,7 +104,7 @@ impl<M: Machine> Session<M> {
     {
         let reply = unless_refused(ask_spawn(&mut self.machine, &own))?;
         let pid = pid_of_reply(&reply);
-        mem::drop(reply);
+        reply.discard();
         let Some(pid) = pid else {
             return Err(Stop::EIO);
         };

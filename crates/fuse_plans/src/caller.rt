@@ -13,7 +13,6 @@ use crate::session::Session;
 use crate::stop::Stop;
 use fs_cred::{Cred, Errno};
 use fs_model::{Event, Reply};
-use std::mem;
 
 // More processes than these there aren't.
 const MAX_PROCESSES: usize = 64;
@@ -43,12 +42,12 @@ impl<M: Machine> Session<M> {
         ensures room { self.old.server.room ≤ self.new.server.room + 1 }
     {
         if is_refused_for(Errno::EAGAIN, &reply) {
-            mem::drop(reply);
+            reply.discard();
             return Err(Stop::ENFILE);
         }
         let done = unless_refused(reply)?;
         let pid = pid_of_reply(&done);
-        mem::drop(done);
+        done.discard();
         let Some(pid) = pid else {
             return Err(Stop::EIO);
         };
@@ -67,8 +66,8 @@ impl<M: Machine> Session<M> {
             };
             let event = Event::Exit(pid);
             let done = ask(&mut self.machine, &event);
-            mem::drop(event);
-            mem::drop(done);
+            event.discard();
+            done.discard();
             self.server.remove_process(pid);
         }
     }
@@ -92,7 +91,7 @@ impl<M: Machine> Session<M> {
     {
         let reply = ask_spawn(&mut self.machine, &cred);
         if is_refused_for(Errno::EAGAIN, &reply) {
-            mem::drop(reply);
+            reply.discard();
             self.spawn_again(cred)
         } else {
             self.settle(cred, reply)

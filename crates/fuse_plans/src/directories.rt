@@ -19,7 +19,6 @@ use fs_model::{Call, Listing};
 use fuse_protocol::Extent;
 use fuse_state::OpenDirectory;
 use posix_acl::Perms;
-use std::mem;
 
 // The names in what is open.
 fn tell_names<M: Machine>(machine: &mut M, pid: usize, fd: usize) -> Result<Listing, Stop>
@@ -42,7 +41,7 @@ fn list_and_close<M: Machine>(machine: &mut M, pid: usize, fd: usize) -> Result<
     ensures { DidByMachine M.Serves (list_and_close pid fd) machine.old machine.new result }
 {
     let names = list_open(machine, pid, fd)?;
-    mem::drop(obtain_once(machine, pid, Call::Close(fd))?);
+    obtain_once(machine, pid, Call::Close(fd))?.discard();
     Ok(names)
 }
 
@@ -77,7 +76,7 @@ impl<M: Machine> Session<M> {
         let call = Call::Open(self.blank_path(), listing(), 0);
         let opened = self.on_once(pid, inode, call)?;
         let fd = fd_of_reply(&opened);
-        mem::drop(opened);
+        opened.discard();
         let Some(fd) = fd else {
             return Err(Stop::EIO);
         };

@@ -22,7 +22,6 @@ use fs_model::{Call, Path, Reply, Status};
 use fuse_protocol::{OpenFlags, Time};
 use fuse_state::{Place, Server, descriptor_of};
 use posix_acl::Perms;
-use std::mem;
 
 // Whether a file that is opened for reading alone is to lose its bytes.
 fn cuts_first(flags: OpenFlags, mode: Mode) -> bool
@@ -156,7 +155,7 @@ impl<M: Machine> Session<M> {
         let call = Call::Open(self.blank_path(), opening(mode, is_trunc(flags)), 0);
         let reply = self.on_once(pid, inode, call)?;
         let fd = fd_of_reply(&reply);
-        mem::drop(reply);
+        reply.discard();
         let Some(handle) = handle_within(pid, fd) else {
             return Err(Stop::EIO);
         };
@@ -240,7 +239,7 @@ impl<M: Machine> Session<M> {
         };
         let directory = self.directory_number(asked.node)?;
         let pid = self.caller_with_room(copy)?;
-        mem::drop(set_umask(&mut self.machine, pid, umask)?);
+        set_umask(&mut self.machine, pid, umask)?.discard();
         self.create_by(asked.now, pid, directory, name, mode, flags, file_mode)
     }
 
@@ -262,7 +261,7 @@ impl<M: Machine> Session<M> {
         let (opened, name) = open_or_make(machine, pid, directory, name, mode, flags, file_mode);
         let (reply, is_new) = opened?;
         let fd = fd_of_reply(&reply);
-        mem::drop(reply);
+        reply.discard();
         let Some(handle) = handle_within(pid, fd) else {
             return Err(Stop::EIO);
         };

@@ -14,7 +14,6 @@ use fs_model::{Bytes, Call, Event, Reply, Whence};
 use fuse_protocol::{Extent, Time};
 use fuse_state::{descriptor_of, owner_of};
 use std::alloc::{AllocError, Global};
-use std::mem;
 
 // So many bytes are moved at once.
 const MOVE: usize = 4096;
@@ -98,7 +97,7 @@ fn write_piece<M: Machine>(machine: &mut M, pid: usize, call: &Call) -> Result<u
 {
     let reply = obtain_call(machine, pid, call)?;
     let count = count_of_reply(&reply);
-    mem::drop(reply);
+    reply.discard();
     match count_within(length_written(call), count) {
         Some(count) => Ok(count),
         None => Err(Stop::EIO),
@@ -167,12 +166,13 @@ impl<M: Machine> Session<M> {
         ensures kept { self.new.server ≡ self.old.server }
     {
         let inode = self.the_open(handle)?;
-        mem::drop(seek(
+        seek(
             &mut self.machine,
             owner_of(handle),
             descriptor_of(handle),
             offset,
-        )?);
+        )?
+        .discard();
         Ok(inode)
     }
 
@@ -212,7 +212,7 @@ impl<M: Machine> Session<M> {
         ensures { Did M.Serves (close_file handle) self.old self.new result }
     {
         let call = Call::Close(descriptor_of(handle));
-        mem::drop(self.call_open(handle, call)?);
+        self.call_open(handle, call)?.discard();
         self.server.remove_handle(handle);
         Ok(ReplyBody::Nothing)
     }
@@ -226,7 +226,7 @@ impl<M: Machine> Session<M> {
             pid: owner_of(handle),
             fd: descriptor_of(handle),
         };
-        mem::drop(obtain(&mut self.machine, event)?);
+        obtain(&mut self.machine, event)?.discard();
         Ok(ReplyBody::Nothing)
     }
 }

@@ -18,7 +18,6 @@ use crate::stop::Stop;
 use fs_cred::Cred;
 use fs_model::{Call, Path, Reply};
 use fuse_protocol::Time;
-use std::mem;
 
 /// New objects of the process are made with this mask from now on.
 pub(crate) fn set_umask<M: Machine>(machine: &mut M, pid: usize, umask: u32) -> Result<Reply, Stop>
@@ -45,7 +44,7 @@ fn open_and_close<M: Machine>(
 {
     let reply = between(machine, pid, directory, directory, call)?;
     let fd = fd_of_reply(&reply);
-    mem::drop(reply);
+    reply.discard();
     let Some(fd) = fd else {
         return Err(Stop::EIO);
     };
@@ -185,7 +184,7 @@ impl<M: Machine> Session<M> {
         ensures { (name : List ℕ) → name_in call ≡ Some name →
             Did M.Serves (make_masked now umask pid directory call name) self.old self.new result }
     {
-        mem::drop(set_umask(&mut self.machine, pid, umask)?);
+        set_umask(&mut self.machine, pid, umask)?.discard();
         self.make_by(now, pid, directory, call)
     }
 

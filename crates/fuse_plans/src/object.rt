@@ -18,7 +18,6 @@ use fs_cred::Errno;
 use fs_layout::ROOT;
 use fs_model::{Call, Name, Path, Reply, Status};
 use fuse_state::{Found, Lent, Place, Server, descriptor_of, owner_of};
-use std::mem;
 
 // A call on a name that was lent, and comes back.
 fn call_at<M: Machine>(
@@ -54,7 +53,7 @@ pub(crate) fn shown(reply: Result<Reply, Stop>) -> Result<Status, Stop>
 {
     let reply = reply?;
     let status = status_of_reply(&reply);
-    mem::drop(reply);
+    reply.discard();
     match status {
         Some(status) => Ok(status),
         None => Err(Stop::EIO),
@@ -101,7 +100,7 @@ impl<M: Machine> Session<M> {
         ensures kept { self.new.server ≡ self.old.server }
     {
         if !condition {
-            mem::drop(call);
+            call.discard();
             return Ok(());
         }
         done(self.on_once(pid, inode, call))
@@ -137,7 +136,7 @@ impl<M: Machine> Session<M> {
     {
         let mut call = call;
         let reply = self.on(pid, inode, &mut call);
-        mem::drop(call);
+        call.discard();
         reply
     }
 

@@ -39,7 +39,7 @@ pub(crate) fn name_in(call: Call) -> Option<Path>
         } => Some(path),
         Call::Unlink(path) => Some(path),
         other => {
-            mem::drop(other);
+            other.discard();
             None
         }
     }
@@ -53,7 +53,7 @@ pub(crate) fn names_in(call: Call) -> Option<(Path, Path)>
         Call::Link { old, new } => Some((old, new)),
         Call::Rename { old, new } => Some((old, new)),
         other => {
-            mem::drop(other);
+            other.discard();
             None
         }
     }

@@ -11,7 +11,6 @@ use crate::reply::ReplyBody;
 use crate::session::Session;
 use crate::stop::Stop;
 use fs_model::Event;
-use std::mem;
 
 impl<M: Machine> Session<M> {
     /// How much room there is.
@@ -21,7 +20,7 @@ impl<M: Machine> Session<M> {
     {
         let reply = obtain(&mut self.machine, Event::Statfs)?;
         let space = space_of_reply(&reply);
-        mem::drop(reply);
+        reply.discard();
         let Some((free_sectors, free_inodes)) = space else {
             return Err(Stop::EIO);
         };
@@ -39,7 +38,7 @@ impl<M: Machine> Session<M> {
         ensures did { Did M.Serves sync_all self.old self.new result }
         ensures room { self.old.server.room ≤ self.new.server.room }
     {
-        mem::drop(obtain(&mut self.machine, Event::Sync)?);
+        obtain(&mut self.machine, Event::Sync)?.discard();
         Ok(ReplyBody::Nothing)
     }
 

@@ -21,7 +21,6 @@ use fuse_protocol::Time;
 use fuse_state::Server;
 use posix_acl::Acl;
 use std::alloc::{AllocError, Global};
-use std::mem;
 
 // The ACL that an attribute is.
 fn the_acl(name: &[u8]) -> Result<AclType, Stop>
@@ -270,7 +269,7 @@ impl<M: Machine> Session<M> {
     {
         let acl = self.acl_set(inode, which, wanted, spare)?;
         let call = Call::SetAcl(self.blank_path(), which, acl);
-        mem::drop(self.on_once(pid, inode, call)?);
+        self.on_once(pid, inode, call)?.discard();
         self.server.change(now, inode);
         Ok(ReplyBody::Nothing)
     }

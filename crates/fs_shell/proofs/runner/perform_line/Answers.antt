@@ -8,9 +8,9 @@ use Rattle.fs_shell.proofs.runner.perform_line.Goals as goal
 pub returns-in-Ok-Event : goal.returns-in-Ok-Event
 returns-in-Ok-Event g c = record {
   events = c.in-Ok-Event.event ∷ [];
-  replies = Replies c.serve.result ∷ [];
-  answered = is_performed c.in-Ok-Event.event c.serve.result (rw c.in-Ok-Event.field-0-is at c.in-Ok-Event.ensures.said);
-  plays = c.serve.ensures;
+  replies = Replies c.serve-reply.result ∷ [];
+  answered = is_performed c.in-Ok-Event.event c.serve-reply.result (rw c.in-Ok-Event.field-0-is at c.in-Ok-Event.ensures.said);
+  plays = c.serve-reply.ensures;
 }
 
 pub returns-in-Err : goal.returns-in-Err

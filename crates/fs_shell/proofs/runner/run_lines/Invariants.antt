@@ -1,10 +1,10 @@
 use Rattle.std.proofs.Common.{◌≡◌, ◌-◌, ◌≤◌}
 use Rattle.fs_shell.specs.Scripts.{script_limit, bytes_left}
 use Rattle.fs_shell.proofs.Sessions.{Running}
-use Rattle.fs_shell.proofs.runner.run.Given as goal
+use Rattle.fs_shell.proofs.runner.run_lines.Given as goal
 
-abbrev pub invariant-loop-line : goal.invariant-loop-line
-invariant-loop-line g l = record {
+abbrev pub invariant-loop-fs : goal.invariant-loop-fs
+invariant-loop-fs g l = record {
   running : Running g.D.Disk.state (g.R.Read.remaining l.initial.reader.inner) (bytes_left l.pending (g.R.Read.remaining l.reader.inner))
       (g.W.Write.contents l.initial.writer.inner) (g.W.Write.contents l.writer.inner) l.pending.given l.count l.initial.fs l.fs;
   lines : l.count.lines ≤ l.pending.given;
@@ -14,5 +14,5 @@ invariant-loop-line g l = record {
   writer_is_same : l.writer.failed ≡ l.initial.writer.failed;
 }
 
-abbrev pub decreases-loop-line : goal.decreases-loop-line
-decreases-loop-line g l = script_limit - l.pending.given
+abbrev pub decreases-loop-fs : goal.decreases-loop-fs
+decreases-loop-fs g l = script_limit - l.pending.given
