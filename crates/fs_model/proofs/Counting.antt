@@ -1,9 +1,9 @@
 -- Numbers that a list names are at most as many as the list is long.
-use Rattle.std.specs.Prelude.{◌≡◌, ◌≢◌, ℕ, zero, suc, ◌+◌, ◌<◌, ◌≤◌, Bool, true, false, cond, ◌||◌, nat_eq, List, [], ◌∷◌, ◌++◌, length, ◌⊎◌, count_by}
-use Rattle.std.proofs.Common.{refl, ap, arith, inl, inr}
+use Rattle.std.specs.Prelude.{◌≡◌, ◌≢◌, ℕ, zero, suc, ◌+◌, ◌<◌, ◌≤◌, Bool, true, false, ◌||◌, nat_eq, List, [], ◌∷◌, ◌++◌, length, ◌⊎◌, count_by}
+use Rattle.std.proofs.Common.{refl, ◌∙◌, arith, inl, inr}
 use Rattle.std.specs.List.{range_with_len}
 use Rattle.std.proofs.lemmas.Bool.{cases_eq, eq-eqb, ne_eqb}
-use Rattle.std.proofs.lemmas.List.Sums.{sum_by-cons}
+use Rattle.fs_layout.proofs.Counting.{one_if, count_cons, count_same, count_all}
 
 -- ---- the numbers that a list names
 
@@ -21,18 +21,6 @@ in_second [] ys s i = i
 in_second (x ∷ xs) ys s i = inr (in_second xs ys s i)
 
 -- ---- counts over a range
-
-unfoldable pub one_if : Bool → ℕ
-one_if b = cond b 1 0
-
-pub count_cons : (f : ℕ → Bool) (a n : ℕ) → count_by f (range_with_len a (suc n)) ≡ one_if (f a) + count_by f (range_with_len (a + 1) n)
-unfolding one_if
-count_cons f a n = sum_by-cons (λ (x : ℕ). cond (f x) 1 0) a (range_with_len (a + 1) n)
-
-at_most_one : (b : Bool) → one_if b ≤ 1
-unfolding one_if
-at_most_one true = omega arith
-at_most_one false = omega arith
 
 one_if_more : (b c : Bool) → (b ≡ true → c ≡ true) → one_if b ≤ one_if c
 unfolding one_if
@@ -52,11 +40,12 @@ count_within f g a (suc n) h =
 -- but for one number
 count_within_but_one : (f g : ℕ → Bool) (x a n : ℕ) → ((s : ℕ) → s ≢ x → f s ≡ true → g s ≡ true)
     → count_by f (range_with_len a n) ≤ count_by g (range_with_len a n) + 1
+unfolding one_if
 count_within_but_one f g x a zero h = omega arith
 count_within_but_one f g x a (suc n) h = elim (cases_eq a x) [
   | inl e ↦
       let rest = count_within f g (a + 1) n (λ s le t. h s (λ i. omega (arith, le, e, i)) t) in
-      omega (arith, count_cons f a n, count_cons g a n, at_most_one (f a), rest)
+      omega (arith, count_cons f a n, count_cons g a n, one_if_more (f a) true (λ t. refl), rest)
   | inr ne ↦
       let here = one_if_more (f a) (g a) (h a ne) in
       let rest = count_within_but_one f g x (a + 1) n h in
@@ -64,12 +53,7 @@ count_within_but_one f g x a (suc n) h = elim (cases_eq a x) [
 ]
 
 count_each : (g : ℕ → Bool) (a n : ℕ) → ((s : ℕ) → a ≤ s → s < a + n → g s ≡ true) → count_by g (range_with_len a n) ≡ n
-unfolding one_if
-count_each g a zero h = refl
-count_each g a (suc n) h =
-    let here : one_if (g a) ≡ 1 = ap one_if (h a (omega arith) (omega arith)) in
-    let rest = count_each g (a + 1) n (λ s le lt. h s (omega arith) (omega arith)) in
-    omega (arith, count_cons g a n, here, rest)
+count_each g a n h = count_same g (λ s. true) a n h ∙ count_all a n
 
 pub or_true : (b c : Bool) → (b ≡ true) ⊎ (c ≡ true) → (b || c) ≡ true
 or_true true c h = refl

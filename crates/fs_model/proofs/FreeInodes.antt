@@ -11,7 +11,7 @@ use Rattle.fs_layout.specs.Images.{bit, inode_bitmap}
 use Rattle.fs_model.specs.Nodes.{Node}
 use Rattle.fs_model.specs.Trees.{Tree, node_at, names_of, parent, free_inodes, IsTree}
 use Rattle.fs_model.specs.Stands.{HoldsAll, placed, room_of}
-use Rattle.fs_model.proofs.Counting.{one_if, count_cons}
+use Rattle.fs_layout.proofs.Counting.{one_if, count_cons}
 use Rattle.fs_layout.proofs.MapLaws.{summand}
 use Rattle.fs_model.proofs.RulesFromTree.{stores}
 use Rattle.fs_model.proofs.Summaries.{count_is, length_is}
