@@ -13,9 +13,9 @@ use Rattle.fs_layout.specs.declared.inode.TheConstants.{MAX_DIRECTORY_SIZE, S_IS
 use Rattle.fs_layout.specs.declared.place.Place.{Place}
 use Rattle.fs_layout.specs.AclSector.{kept_acl}
 use Rattle.fs_layout.specs.Bytes.{SectorMap, IsBytes, zeros}
-use Rattle.fs_layout.specs.Inode.{FitsInode, inode_fits, free_inode}
+use Rattle.fs_layout.specs.Inode.{FitsInode, free_inode}
 use Rattle.fs_layout.specs.Images.{Holds, bit, inode_at, inode_bitmap}
-use Rattle.fs_layout.proofs.SplicedBytes.{get_or-zeros}
+use Rattle.fs_layout.proofs.UsedInodes.{made_fits}
 use Rattle.sector_txn.specs.Sectors.{TxnState}
 use Rattle.bit_alloc.specs.declared.bitmap.Bitmap.TheVariants.{Inodes}
 use Rattle.bit_alloc.specs.Bitmaps.{IsFreeNumber}
@@ -51,24 +51,9 @@ abbrev pub new_directory : ℕ → ℕ → ℕ → ℕ → Inode
 new_directory dir uid gid bits = record free_inode { kind = kinds.Directory; mode = bits; uid = uid; gid = gid; names = 1; parent = dir }
 
 pub directory_fits : (dir uid gid bits : ℕ) → dir < 2 ^ 32 → uid < 2 ^ 32 → gid < 2 ^ 32 → bits < 2048 → FitsInode (new_directory dir uid gid bits)
-unfolding inode_fits zeros
 directory_fits dir uid gid bits small_dir small_uid small_gid few =
     let low : nat_le bits 0o3777 ≡ true = grind (arith, nat_tests) in
-    record {
-      valid = record { numbers = ap (λ (b : Bool). (b && nat_le 0 MAX_DIRECTORY_SIZE) && nat_eq (0 % SLOT_SIZE) 0) low; free = λ e. cc };
-      mode = omega (arith, few);
-      uid = small_uid;
-      gid = small_gid;
-      names = omega arith;
-      size = omega arith;
-      parent = small_dir;
-      acl = omega arith;
-      default_acl = omega arith;
-      direct_len = refl;
-      direct = λ i. let z : get_or free_inode.direct i 0 ≡ 0 = get_or-zeros 12 i in omega (arith, z);
-      indirect = omega arith;
-      double_indirect = omega arith;
-    }
+    made_fits (λ e. cc) (ap (λ (b : Bool). (b && nat_le 0 MAX_DIRECTORY_SIZE) && nat_eq (0 % SLOT_SIZE) 0) low) small_uid small_gid (omega arith) small_dir
 
 pub acls_few : (a : AccessList) (default : Option AccessList) → acls_take a default ≤ 2
 acls_few a default = let one = takes_one (kept_acl a) in let other = takes_one default in omega (arith, one, other)
