@@ -1,39 +1,17 @@
 -- What the tests of a file's life ask.
-use Rattle.std.proofs.Common.{◌≡◌, ℕ, ◌-◌, ◌≤◌, ◌<◌, ◌+◌, ◌^◌, [], refl, ap, subst, ◌∙◌, arith}
+use Rattle.std.proofs.Common.{◌≡◌, ℕ, ◌-◌, ◌≤◌, ◌+◌, [], refl, ap, subst, ◌∙◌, arith}
 use Rattle.std.proofs.lemmas.List.FromFn.{length-range_with_len}
 use Rattle.fs_layout.specs.declared.inode.Inode.{Inode}
-use Rattle.fs_layout.specs.declared.inode.Kind.{Kind}
 use Rattle.fs_layout.specs.declared.place.Place.{Place}
 use Rattle.fs_layout.specs.Bytes.{SectorMap}
 use Rattle.fs_layout.specs.Images.{Holds, inode_at}
-use Rattle.fs_layout.specs.Inode.{IsInode, FitsInode, free_inode}
 use Rattle.fs_layout.specs.Ownership.{IsConsistent}
-use Rattle.fs_layout.proofs.Free.{free_fits}
 use Rattle.sector_txn.specs.Sectors.{TxnState, IsUnchanged}
 use Rattle.sector_txn.proofs.TransactionRuns.{lacking_at_most}
 use Rattle.bit_alloc.specs.Inodes.{IsSound, KeepsBytes}
 use Rattle.bit_alloc.specs.Room.{bitmaps, HasSpare}
 use Rattle.bit_alloc.proofs.Transactions.{map_unchanged, bitmaps_unchanged}
 use Rattle.inode_table.specs.Inodes.{DiffersInAttributes}
-
--- an inode with one name that holds nothing fits its fields
-pub new_fits : (kind : Kind) (mode parent : ℕ) → IsInode (record free_inode { kind = kind; mode = mode; names = 1; parent = parent }) → mode < 2 ^ 16
-    → parent < 2 ^ 32 → FitsInode (record free_inode { kind = kind; mode = mode; names = 1; parent = parent })
-new_fits kind mode parent valid small few = record {
-  valid = valid;
-  mode = small;
-  uid = free_fits.uid;
-  gid = free_fits.gid;
-  names = omega arith;
-  size = free_fits.size;
-  parent = few;
-  acl = free_fits.acl;
-  default_acl = free_fits.default_acl;
-  direct_len = free_fits.direct_len;
-  direct = free_fits.direct;
-  indirect = free_fits.indirect;
-  double_indirect = free_fits.double_indirect;
-}
 
 -- a map that was only read is sound
 pub sound_unchanged : (p : Place) (old new : TxnState) → IsSound p old → IsUnchanged old new → IsSound p new

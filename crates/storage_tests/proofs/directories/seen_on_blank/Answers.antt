@@ -1,21 +1,20 @@
 use Rattle.std.proofs.Common.{◌-◌, ◌∙◌, ap, arith, refl, sym, subst}
 use Rattle.std.specs.Prelude.{[]}
-use Rattle.fs_layout.specs.declared.inode.Kind.TheVariants.{Directory}
 use Rattle.fs_layout.specs.Inode.{inode_fits}
 use Rattle.fs_layout.specs.Images.{inode_at}
 use Rattle.fs_layout.specs.Directories.{HasNames}
+use Rattle.fs_layout.proofs.UsedInodes.{made_fits}
 use Rattle.bit_alloc.proofs.Transactions.{map_unchanged}
 use Rattle.std.proofs.lemmas.List.FromFn.{length-range_with_len}
 use Rattle.sector_txn.proofs.TransactionRuns.{lacking_at_most}
 use Rattle.bit_alloc.specs.Room.{bitmaps}
-use Rattle.storage_tests.proofs.Lives.{new_fits}
 use Rattle.block_map.proofs.Joins.{sound_after_reads}
 use Rattle.dir_core.proofs.Empty.{no_names}
 use Rattle.storage_tests.proofs.directories.seen_on_blank.Goals as goal
 
 pub new_inode-requires-clause-fits : goal.new_inode-requires-clause-fits
 unfolding inode_fits
-new_inode-requires-clause-fits g c = new_fits Directory 0o750 1 (record { numbers = refl; free = λ e. cc }) (omega arith) (omega arith)
+new_inode-requires-clause-fits g c = made_fits (λ e. cc) refl (omega arith) (omega arith) (omega arith) (omega arith)
 
 pub fill-requires-clause-sound : goal.fill-requires-clause-sound
 fill-requires-clause-sound g c =
