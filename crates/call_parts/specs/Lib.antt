@@ -4,7 +4,7 @@ pub mod Performing
 pub mod Paths
 pub mod Asked
 pub mod Given
-pub mod Loaded
+pub mod UsedInode
 pub mod ByteChanges
 pub mod Dropping
 pub mod Makings

@@ -5,7 +5,7 @@ ghost use Rattle.std.specs.Prelude.{◌≡◌, ◌≢◌, OnOk, IfErr, ◌<◌};
 ghost use Rattle.call_parts.specs.DiskWords.{inode_at, SameStore, Inodes, IsNumber, IsSound, HasSpare};
 ghost use Rattle.call_parts.specs.ModelWords.{FailsToRead};
 ghost use Rattle.call_parts.specs.Dropping.{Drops, LeavesInode, Counts};
-ghost use Rattle.call_parts.specs.Loaded.{IsLoaded};
+ghost use Rattle.call_parts.specs.UsedInode.{IsUsedInode};
 
 use block_map::free_all;
 use fs_cred::{Errno, Refusal};
@@ -62,7 +62,7 @@ pub fn set_names<S: Sectors>(
     inode: &Inode,
     names: u32,
 ) -> Result<(), Refusal>
-    requires loaded { IsLoaded place (S.state s.old) n inode.now }
+    requires loaded { IsUsedInode place (S.state s.old) n inode.now }
     requires spare { HasSpare place 1 (S.state s.old) }
     ensures store { SameStore (S.state s.old) (S.state s.new) }
     ensures counts { OnOk result (Counts place n names (S.state s.old) (S.state s.new)) }

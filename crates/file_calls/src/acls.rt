@@ -13,7 +13,7 @@ ghost use Rattle.path_walk.specs.Words.{inode_at, free_sectors, SameStore, IsUnc
 ghost use Rattle.call_parts.specs.Performing.{IsReadyFor, PerformsFor};
 ghost use Rattle.call_parts.specs.Asked.{holder_asked, acl_space_asked};
 ghost use Rattle.call_parts.specs.Given.{SavesAcl, SavesDefaultAcl, HasBody};
-ghost use Rattle.call_parts.specs.Loaded.{IsLoaded};
+ghost use Rattle.call_parts.specs.UsedInode.{IsUsedInode};
 
 use call_parts::{CallResult, Caller, ask_for_sectors, default_of, reach, reach_owned};
 use fs_cred::{Errno, Refusal};
@@ -180,7 +180,7 @@ fn give_default_acl<S: Sectors>(
     inode: &Inode,
     acl: Option<&Acl>,
 ) -> Result<(), Refusal>
-    requires loaded { IsLoaded place (S.state s.old) n inode.now }
+    requires loaded { IsUsedInode place (S.state s.old) n inode.now }
     requires spare { HasSpare place 2 (S.state s.old) }
     requires room { acl_takes inode.now.default_acl (option_copied acl) ≤ free_sectors place (S.state s.old).sectors }
     ensures given { OnOk result (SavesDefaultAcl place n (option_copied acl.entry) (S.state s.old).sectors (S.state s.new).sectors) }
@@ -202,7 +202,7 @@ fn replace_acl<S: Sectors>(
     which: AclType,
     acl: Option<&Acl>,
 ) -> Result<(), Refusal>
-    requires loaded { IsLoaded place (S.state s.old) n inode.now }
+    requires loaded { IsUsedInode place (S.state s.old) n inode.now }
     requires no_link { inode.now.kind ≢ Kind.Link }
     requires spare { HasSpare place 2 (S.state s.old) }
     requires space { first_of (acl_space_asked which (option_copied acl) (free_sectors place (S.state s.old).sectors)) ≡ None }

@@ -8,7 +8,7 @@ ghost use Rattle.path_walk.specs.Words.{inode_at, SameStore, IsSound, HasSpare, 
 ghost use Rattle.call_parts.specs.Performing.{IsReadyFor, PerformsFor};
 ghost use Rattle.call_parts.specs.Asked.{owner_asked};
 ghost use Rattle.call_parts.specs.Given.{GivesOwner, SavesAcl, special_mode};
-ghost use Rattle.call_parts.specs.Loaded.{IsLoaded};
+ghost use Rattle.call_parts.specs.UsedInode.{IsUsedInode};
 
 use crate::acls::{acl_of, give_acl};
 use call_parts::{CallResult, Caller, allowed_by, check_mode, reach, reach_owned};
@@ -39,7 +39,7 @@ fn give_owner<S: Sectors>(
     uid: u32,
     gid: u32,
 ) -> Result<(), Refusal>
-    requires loaded { IsLoaded place (S.state s.old) n inode.now }
+    requires loaded { IsUsedInode place (S.state s.old) n inode.now }
     requires spare { HasSpare place 1 (S.state s.old) }
     ensures given { OnOk result (GivesOwner place n uid gid (S.state s.old).sectors (S.state s.new).sectors) }
     ensures store { SameStore (S.state s.old) (S.state s.new) }
@@ -76,7 +76,7 @@ fn give_mode<S: Sectors>(
     inode: &Inode,
     mode: u16,
 ) -> Result<(), Refusal>
-    requires loaded { IsLoaded caller.now.place (S.state s.old) n inode.now }
+    requires loaded { IsUsedInode caller.now.place (S.state s.old) n inode.now }
     requires has { (a : AccessList) × HasAcl (S.state s.old).sectors inode.now a }
     requires no_link { inode.now.kind ≢ Kind.Link }
     requires spare { HasSpare caller.now.place 2 (S.state s.old) }

@@ -16,7 +16,7 @@ use Rattle.fuse_state.specs.declared.place.Place.{Place}
 use Rattle.fuse_state.specs.Servers.{named, kind_of, without_name}
 use Rattle.fuse_state.specs.Changes.{changed_if, removed, named_if, moved_to, moved, linked}
 use Rattle.fuse_plans.specs.Conduct.{Rights, stays}
-use Rattle.fuse_plans.specs.NamePlans.{plain_name, directory_for, tell_entry, or_absent, searched_directory, find_name, made, caller_in, make_link, make_directory, open_and_close, make_file, remove, none_there, may_move, rename, move_name, link_by_place, tell_linked, add_link}
+use Rattle.fuse_plans.specs.NamePlans.{plain_name, directory_for, tell_entry, or_absent, searched_directory, find_name, made, directory_and_caller, make_link, make_directory, open_and_close, make_file, remove, none_there, may_move, rename, move_name, link_by_place, tell_linked, add_link}
 use Rattle.fuse_plans.proofs.Conducts.{Does, does-give, does-stop, does-kept, does-keep, does->>=, does-attempt, does-needed}
 use Rattle.fuse_plans.proofs.Calls.{CanCall, does-obtain, does-between, does-done_between, does-look_inside, does-with_looker, looks, does-look, does-the_number, does-directory_number}
 use Rattle.fuse_plans.proofs.Chosen.{Anyone, OfCaller, DoesTo, then-does, then-does_to, gives-with, does-caller, does-caller_with_room}
@@ -116,16 +116,16 @@ module _ {rights : Rights} (r : Asked) (is : rights.cred ≡ r.cred) where
       does->>= (does-look_inside pid d name (caller-can pid _ refl)) (λ status.
       does->>= (does-keep _ (λ s. (refl, refl))) (λ done. does-tell_entry status))))
 
-  does-caller_in : (name : List ℕ) → DoesTo rights (λ (who : ℕ × ℕ). OfCaller rights who.1) (caller_in r name)
-  does-caller_in name = then-does_to (does-directory_for _ name) (λ d. gives-with d (does-caller _ is))
+  does-directory_and_caller : (name : List ℕ) → DoesTo rights (λ (who : ℕ × ℕ). OfCaller rights who.1) (directory_and_caller r name)
+  does-directory_and_caller name = then-does_to (does-directory_for _ name) (λ d. gives-with d (does-caller _ is))
 
   pub does-make_link : (name target : List ℕ) → Does rights Anyone (make_link r name target)
   does-make_link name target =
-      then-does (does-caller_in name) (λ who. does->>= (does-done_between who.1 who.0 who.0 _ (caller-can who.1 _ refl)) (λ done. does-made _ who.0 name))
+      then-does (does-directory_and_caller name) (λ who. does->>= (does-done_between who.1 who.0 who.0 _ (caller-can who.1 _ refl)) (λ done. does-made _ who.0 name))
 
   pub does-make_directory : (name : List ℕ) (mode umask : ℕ) → Does rights Anyone (make_directory r name mode umask)
   does-make_directory name mode umask =
-      then-does (does-caller_in name) (λ who.
+      then-does (does-directory_and_caller name) (λ who.
       does->>= (does-obtain who.1 _ (caller-can who.1 _ refl)) (λ old.
       does->>= (does-done_between who.1 who.0 who.0 _ (caller-can who.1 _ refl)) (λ done. does-made _ who.0 name)))
 
@@ -139,7 +139,7 @@ module _ {rights : Rights} (r : Asked) (is : rights.cred ≡ r.cred) where
 
   pub does-remove : (call : List ℕ → Call) (name : List ℕ) → IsTrue (stays (call name)) → Does rights Anyone (remove r call name)
   does-remove call name puts =
-      then-does (does-caller_in name) (λ who.
+      then-does (does-directory_and_caller name) (λ who.
       does->>= (does-done_between who.1 who.0 who.0 _ (caller-can who.1 _ puts)) (λ gone.
       does->>= (does-keep _ (removed-same _ _)) (λ done. does-give _)))
 

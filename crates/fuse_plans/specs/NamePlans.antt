@@ -111,15 +111,15 @@ make_by now pid d call name = do
   made now d name
 
 -- the directory of a name that is asked for, and a process of who asks
-abbrev pub caller_in : Asked → List ℕ → Work (ℕ × ℕ)
-caller_in r name = do
+abbrev pub directory_and_caller : Asked → List ℕ → Work (ℕ × ℕ)
+directory_and_caller r name = do
   d ← directory_for r.node name
   pid ← caller r.cred
   give (d, pid)
 
 abbrev pub make_link : Asked → List ℕ → List ℕ → Work ReplyBody
 make_link r name target = do
-  who ← caller_in r name
+  who ← directory_and_caller r name
   make_by r.now who.1 who.0 (Symlink target name) name
 
 -- new objects of the process are made with this mask from now on
@@ -134,7 +134,7 @@ make_masked now umask pid d call name = do
 
 abbrev pub make_directory : Asked → List ℕ → ℕ → ℕ → Work ReplyBody
 make_directory r name mode umask = do
-  who ← caller_in r name
+  who ← directory_and_caller r name
   make_masked r.now umask who.1 who.0 (Mkdir name (bit_and mode 0o7777)) name
 
 -- the type in a mode is that of a file, or none
@@ -161,7 +161,7 @@ removal false name = Unlink name
 -- with unlink or rmdir
 abbrev pub remove : Asked → (List ℕ → Call) → List ℕ → Work ReplyBody
 remove r call name = do
-  who ← caller_in r name
+  who ← directory_and_caller r name
   done_between who.1 who.0 who.0 (call name)
   keep (removed r.now (place who.0 name))
   give Nothing

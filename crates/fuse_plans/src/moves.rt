@@ -112,7 +112,7 @@ impl<M: Machine> Session<M> {
         requires room { 3 ≤ self.old.server.room }
         ensures { Did M.Serves (remove asked.entry.now (removal of_directory) name) self.old self.new result }
     {
-        let (directory, pid) = self.caller_in(asked, copy, &name)?;
+        let (directory, pid) = self.directory_and_caller(asked, copy, &name)?;
         let (tried, name) = remove_inside(&mut self.machine, pid, directory, of_directory, name);
         tried?;
         self.server.note_removed(asked.now, &place(directory, name));

@@ -1,6 +1,6 @@
 //! Requests for names that are found or made: each is asked of a directory, and performed by a process of who asks.
 ghost use Rattle.std.specs.Prelude.{◌≡◌, ◌+◌, ◌≤◌, ℕ, List, Some, IsSome};
-ghost use Rattle.fuse_plans.specs.NamePlans.{directory_for, find_name, made, make_by, caller_in, make_link, set_umask, make_masked, make_directory, close, open_and_close, opens, done_closed, make_file, searched_directory, find_inside};
+ghost use Rattle.fuse_plans.specs.NamePlans.{directory_for, find_name, made, make_by, directory_and_caller, make_link, set_umask, make_masked, make_directory, close, open_and_close, opens, done_closed, make_file, searched_directory, find_inside};
 ghost use Rattle.fuse_plans.specs.Paths.{name_in};
 ghost use Rattle.fuse_plans.specs.Performing.{Did, DidByMachine};
 
@@ -120,7 +120,7 @@ impl<M: Machine> Session<M> {
     }
 
     /// The directory of a name that is asked for, and a process of who asks. The credential is a copy of theirs.
-    pub(crate) fn caller_in(
+    pub(crate) fn directory_and_caller(
         &mut self,
         asked: &Asked,
         copy: Option<Cred>,
@@ -128,7 +128,7 @@ impl<M: Machine> Session<M> {
     ) -> Result<(u32, usize), Stop>
         requires copy { copy ≡ asked.now.cred }
         requires room { 1 ≤ self.old.server.room }
-        ensures did { Did M.Serves (caller_in asked.entry.now name.now) self.old self.new result }
+        ensures did { Did M.Serves (directory_and_caller asked.entry.now name.now) self.old self.new result }
         ensures room { self.old.server.room ≤ self.new.server.room + 1 }
     {
         let directory = self.directory_for(asked.node, name)?;
@@ -200,7 +200,7 @@ impl<M: Machine> Session<M> {
         requires room { 5 ≤ self.old.server.room }
         ensures { Did M.Serves (make_link asked.entry.now name target) self.old self.new result }
     {
-        let (directory, pid) = self.caller_in(asked, copy, &name)?;
+        let (directory, pid) = self.directory_and_caller(asked, copy, &name)?;
         let call = Call::Symlink { target, path: name };
         self.make_by(asked.now, pid, directory, call)
     }
@@ -218,7 +218,7 @@ impl<M: Machine> Session<M> {
         requires room { 5 ≤ self.old.server.room }
         ensures { Did M.Serves (make_directory asked.entry.now name mode umask) self.old self.new result }
     {
-        let (directory, pid) = self.caller_in(asked, copy, &name)?;
+        let (directory, pid) = self.directory_and_caller(asked, copy, &name)?;
         let call = Call::Mkdir(name, (mode & 0o7777) as u16);
         self.make_masked(asked.now, umask, pid, directory, call)
     }

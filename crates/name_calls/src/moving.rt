@@ -6,7 +6,7 @@ ghost use Rattle.call_parts.specs.ModelWords.{MoveName, changed, swept, Desks, H
 ghost use Rattle.call_parts.specs.Performing.{IsStateOf};
 ghost use Rattle.call_parts.specs.Given.{ChangesNames};
 ghost use Rattle.call_parts.specs.NewNodes.{HasName, MayBeNamed};
-ghost use Rattle.call_parts.specs.Loaded.{IsLoaded};
+ghost use Rattle.call_parts.specs.UsedInode.{IsUsedInode};
 ghost use Rattle.name_calls.specs.Moving.{MayMove, MayLead, MovesEntry, ParentFollows};
 ghost use Rattle.name_calls.specs.Renaming.{inode_there};
 
@@ -161,7 +161,7 @@ fn follow<S: Sectors>(
     dir: u32,
     to_dir: u32,
 ) -> Result<(), Refusal>
-    requires loaded { IsLoaded place (S.state s.old) n inode.now }
+    requires loaded { IsUsedInode place (S.state s.old) n inode.now }
     requires spare { HasSpare place 1 (S.state s.old) }
     ensures store { SameStore (S.state s.old) (S.state s.new) }
     ensures sound { OnOk result (IsSound place (S.state s.new)) }

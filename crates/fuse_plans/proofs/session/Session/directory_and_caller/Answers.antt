@@ -1,5 +1,5 @@
 use Rattle.fuse_plans.proofs.Doings.{gives, then-fails, then-ok}
-use Rattle.fuse_plans.proofs.session.Session.caller_in.Goals as goal
+use Rattle.fuse_plans.proofs.session.Session.directory_and_caller.Goals as goal
 
 pub returns-in_err-directory-clause-did : goal.returns-in_err-directory-clause-did
 returns-in_err-directory-clause-did g c = then-fails _ c.from_residual.ensures c.in_err-directory.ensures
