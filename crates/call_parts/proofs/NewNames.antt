@@ -40,6 +40,7 @@ use Rattle.fs_model.specs.Steps.{HasNewNumber}
 use Rattle.fs_model.specs.StoredNodes.{Placed, HoldsNode}
 use Rattle.fs_model.specs.Trees.{Room, Tree, IsBody, IsDirectoryAt, free_inodes, names_of, parent}
 use Rattle.fs_model.proofs.PlacedChanges.{make_held}
+use Rattle.fs_model.proofs.StepsAdding.{takes_new}
 use Rattle.fs_model.proofs.StepsFound.{IsNameAt}
 use Rattle.fs_model.proofs.StepsMaking.{IsNewborn}
 use Rattle.fs_model.proofs.StepsOfMaking.{dir_is_there}
@@ -210,19 +211,11 @@ module _ {p : Place} {map : SectorMap} {desks : Desks} {s : State} (at : IsState
         holds =
             make_held s at.is_state at.up desks (λ k is. subst (λ (d : Desks). IsTrue (is_open d k)) at.same_desks is) p map at.holds at.same_room
             made.mid new f.dir directory f.name n node (record {
-              stands = new_name.stands;
-              is_dir = new_name.directory;
-              is_new = new_name.leads;
-              has_room = subst (λ (u : Node). length (names_in u.body) < entries_limit) (the_node_is s.tree f.dir directory new_name.stands) (has_few p map s.tree f.dir q.cred (f.step - 1) allows);
-              is_name = new_name.is_name;
-              bytes = new_name.bytes;
+              takes = takes_new new_name (subst (λ (u : Node). length (names_in u.body) < entries_limit) (the_node_is s.tree f.dir directory new_name.stands) (has_few p map s.tree f.dir q.cred (f.step - 1) allows));
               positive = fresh.0;
               below = fresh.1;
               unused = fresh.2;
-              no_names = newborn.no_names;
-              owner = newborn.owner;
-              group = newborn.group;
-              body = newborn.body;
+              newborn = newborn;
             }) made.takes.change made.takes.taken made.takes.holds made.names.change made.names.used renamed_held;
       }
 

@@ -34,6 +34,7 @@ use Rattle.fs_model.specs.Steps.{HasNewNumber}
 use Rattle.fs_model.specs.StoredNodes.{HoldsNode}
 use Rattle.fs_model.specs.Trees.{Room, Tree, free_inodes, names_of, parent, IsDirectoryAt}
 use Rattle.fs_model.proofs.PlacedChanges.{make_held}
+use Rattle.fs_model.proofs.StepsAdding.{takes_new}
 use Rattle.fs_model.proofs.StepsFound.{IsNameAt}
 use Rattle.fs_model.proofs.StepsMaking.{IsNewborn, file_is_born}
 use Rattle.path_walk.specs.Answers.{refused_or, IsAnswered}
@@ -209,18 +210,10 @@ module _ {p : Place} {map : SectorMap} {flags : Flags} {q : Process} {f : Found}
             holds = λ now still.
                 subst (λ (x : Change). HoldsAll p new (placed (swept (changed s.tree x) now))) (sym change_is)
                 (make_held s at.is_state at.up now still p map at.holds at.same_room made.mid new f.dir node f.name n file (record {
-                  stands = new_name.stands;
-                  is_dir = new_name.directory;
-                  is_new = new_name.leads;
-                  has_room = has_room;
-                  is_name = new_name.is_name;
-                  bytes = new_name.bytes;
+                  takes = takes_new new_name has_room;
                   positive = fresh.0;
                   below = fresh.1;
                   unused = fresh.2;
-                  no_names = refl;
-                  owner = newborn.owner;
-                  group = newborn.group;
-                  body = newborn.body;
+                  newborn = newborn;
                 }) made.takes.change made.takes.taken born made.names.change made.names.used here);
           }

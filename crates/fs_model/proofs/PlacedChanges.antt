@@ -1,20 +1,18 @@
 -- What an image holds after a call that changed its tree so: what the changed tree places.
 --     MakesNode        what making a node asks
 --     same_held, rewrite_held, make_held, add_held, take_held, drop_held        after each change
-use Rattle.std.specs.Prelude.{◌≡◌, ◌≢◌, ℕ, ◌+◌, ◌-◌, ◌<◌, ◌≤◌, ◌^◌, nat_eq, nat_le, ◌==◌, true, false, not, ◌||◌, List, [], length, Option, None, Some, IsTrue, IsFalse}
+use Rattle.std.specs.Prelude.{◌≡◌, ◌≢◌, ℕ, ◌+◌, ◌-◌, ◌<◌, ◌≤◌, nat_eq, nat_le, ◌==◌, true, false, not, ◌||◌, List, Option, None, Some, IsTrue, IsFalse}
 use Rattle.std.proofs.Common.{refl, sym, ap, ◌∙◌, subst}
 use Rattle.std.proofs.lemmas.Bool.{or_right}
 use Rattle.fs_layout.specs.declared.place.Place.{Place}
-use Rattle.fs_layout.specs.Bytes.{SectorMap, IsBytes}
+use Rattle.fs_layout.specs.Bytes.{SectorMap}
 use Rattle.fs_layout.specs.InodeChanges.{ChangesInode}
-use Rattle.fs_layout.specs.Directories.{IsName}
 use Rattle.fs_layout.specs.Inode.{free_inode}
 use Rattle.fs_layout.specs.Images.{bit, inode_bitmap, inode_at}
-use Rattle.fs_layout.specs.Maps.{get, name_cmp, with_entry, without}
+use Rattle.fs_layout.specs.Maps.{name_cmp, with_entry, without}
 use Rattle.fs_layout.proofs.NameMaps.{leading}
-use Rattle.fs_model.specs.Limits.{entries_limit}
-use Rattle.fs_model.specs.Nodes.{Node, is_directory, names_in}
-use Rattle.fs_model.specs.Trees.{Tree, node_at, with_node, names_of, parent, IsBody}
+use Rattle.fs_model.specs.Nodes.{Node, names_in}
+use Rattle.fs_model.specs.Trees.{Tree, node_at, with_node, names_of, parent}
 use Rattle.fs_model.specs.Processes.{Desks, is_open}
 use Rattle.fs_model.specs.TreeChanges.{Same, Rewrite, Make, AddName, TakeName, changed, swept, lives_nameless, with_names_at}
 use Rattle.fs_model.specs.States.{State, IsState}
@@ -24,7 +22,7 @@ use Rattle.fs_model.proofs.Frame.{placed_elsewhere}
 use Rattle.fs_model.proofs.PlacedNames.{added_dir, added_node, added_others, added_nameless, taken_dir, taken_others, taken_stays, taken_goes, taken_apart}
 use Rattle.fs_model.proofs.PlacedNodes.{same_placed, placing, placing_other, placed_once, placed_twice, one_placed, one_replaced, one_dropped, placed_from, nothing_goes, below_inodes, node_below}
 use Rattle.fs_model.proofs.Rewrites.{names_of-rewritten, parent-rewritten, parent-with_node, there-rewritten}
-use Rattle.fs_model.proofs.StepsAdding.{AddsName, GivesName, gives_name, added_keeps_types, added_is_tree, dir_apart, stands_then, new_parent}
+use Rattle.fs_model.proofs.StepsAdding.{TakesNewName, AddsName, GivesName, gives_name, added_keeps_types, added_is_tree, dir_apart, stands_then, new_parent}
 use Rattle.fs_model.proofs.StepsKinds.{MayReplace, replaced_is_tree, replaced_keeps_types}
 use Rattle.fs_model.proofs.StepsMaking.{IsNewborn, makes_name, nothing_leads}
 use Rattle.fs_model.proofs.StepsNaming.{renamed_node, renamed, at_it}
@@ -36,19 +34,11 @@ use Rattle.fs_model.proofs.Unchanged.{open_stays}
 -- ---- what making a node asks
 
 pub record MakesNode (s : State) (dir : ℕ) (directory : Node) (name : List ℕ) (n : ℕ) (now : Node) : Type 0 where
-  pub stands : node_at s.tree dir ≡ Some directory
-  pub is_dir : IsTrue (is_directory directory.body)
-  pub is_new : get name_cmp (names_in directory.body) name ≡ None
-  pub has_room : length (names_in directory.body) < entries_limit
-  pub is_name : IsName name
-  pub bytes : IsBytes name
+  pub takes : TakesNewName s.tree dir directory name
   pub positive : 1 ≤ n
   pub below : n < s.room.inodes
   pub unused : node_at s.tree n ≡ None
-  pub no_names : names_in now.body ≡ []
-  pub owner : now.owner < 2 ^ 32
-  pub group : now.group < 2 ^ 32
-  pub body : IsBody s.room s.tree now.body
+  pub newborn : IsNewborn s.room s.tree now
 
 -- ---- the image after the call
 
@@ -89,16 +79,13 @@ module _ (s : State) (is : IsState s) (up : IsFalse s.halted) (desks : Desks) (s
     abbrev made : Tree
     made = renamed (with_node s.tree n now) dir directory (with_entry name_cmp (names_in directory.body) name n)
 
-    newborn : IsNewborn s.room s.tree now
-    newborn = record { owner = makes.owner; group = makes.group; body = makes.body; no_names = makes.no_names }
-
     adds : AddsName s.room s.tree w dir directory name n now
     adds =
-        makes_name s.room s.tree dir directory name n now is.tree makes.stands makes.is_dir makes.is_new makes.has_room makes.is_name makes.bytes makes.positive makes.below makes.unused newborn
+        makes_name s.room s.tree dir directory name n now is.tree makes.takes makes.positive makes.below makes.unused makes.newborn
 
     parents : (x : ℕ) → parent w x ≡ parent s.tree x
     parents x =
-        parent-with_node s.tree n now is.tree.numbers x (ap (leading x) makes.no_names ∙ sym (ap (λ o. leading x (names_or o)) makes.unused))
+        parent-with_node s.tree n now is.tree.numbers x (ap (leading x) makes.newborn.no_names ∙ sym (ap (λ o. leading x (names_or o)) makes.unused))
 
     apart : dir ≢ n
     apart = dir_apart s.room s.tree w dir directory name n now is.tree adds
@@ -129,8 +116,8 @@ module _ (s : State) (is : IsState s) (up : IsFalse s.halted) (desks : Desks) (s
     make_held =
         subst (λ u. HoldsAll p new (placed u)) (sym make_stays)
         (same_placed p new _ (placed made)
-        (one_replaced p dir mid new (placing n (Some (record { node = now; names = 1; parent = dir })) (placed s.tree)) held_then (node_below s p is room dir directory makes.stands) second _ _
-        (placing_other n _ (placed s.tree) dir apart ∙ placed_from s.tree dir (Some directory) _ _ makes.stands refl refl) here used)
+        (one_replaced p dir mid new (placing n (Some (record { node = now; names = 1; parent = dir })) (placed s.tree)) held_then (node_below s p is room dir directory makes.takes.stands) second _ _
+        (placing_other n _ (placed s.tree) dir apart ∙ placed_from s.tree dir (Some directory) _ _ makes.takes.stands refl refl) here used)
         (placed_twice (placed s.tree) (placed made) n dir _ _ node_now (added_dir s.room s.tree w dir directory name n now is.tree adds parents)
         (added_others s.room s.tree w dir directory name n now is.tree adds parents)))
 
@@ -146,7 +133,7 @@ module _ (s : State) (is : IsState s) (up : IsFalse s.halted) (desks : Desks) (s
     linked = renamed s.tree dir directory (with_entry name_cmp (names_in directory.body) name n)
 
     linked_is : changed s.tree (AddName dir name n) ≡ linked
-    linked_is = named_is s.tree dir directory name n gives.stands
+    linked_is = named_is s.tree dir directory name n gives.takes.stands
 
     add_stays : swept (changed s.tree (AddName dir name n)) desks ≡ linked
     add_stays =
@@ -164,8 +151,8 @@ module _ (s : State) (is : IsState s) (up : IsFalse s.halted) (desks : Desks) (s
         (same_placed p new _ (placed linked)
         (one_replaced p dir mid new _
         (one_replaced p n old mid (placed s.tree) held (node_below s p is room n target gives.there) first _ _ (placed_from s.tree n (Some target) _ _ gives.there refl refl) counted_then taken)
-        (node_below s p is room dir directory gives.stands) second _ _
-        (placing_other n _ (placed s.tree) dir (dir_apart s.room s.tree s.tree dir directory name n target is.tree given) ∙ placed_from s.tree dir (Some directory) _ _ gives.stands refl refl) here used)
+        (node_below s p is room dir directory gives.takes.stands) second _ _
+        (placing_other n _ (placed s.tree) dir (dir_apart s.room s.tree s.tree dir directory name n target is.tree given) ∙ placed_from s.tree dir (Some directory) _ _ gives.takes.stands refl refl) here used)
         (placed_twice (placed s.tree) (placed linked) n dir _ _ (added_node s.room s.tree s.tree dir directory name n target is.tree given (λ x. refl))
         (added_dir s.room s.tree s.tree dir directory name n target is.tree given (λ x. refl))
         (added_others s.room s.tree s.tree dir directory name n target is.tree given (λ x. refl))))

@@ -36,7 +36,7 @@ module _ (room : Room) (t w : Tree) (dir : ℕ) (directory : Node) (name : List 
   parent_other x ne =
       let all = more room t w dir directory name n target is adds x in
       let none = once_other n x (λ e. ne (sym e)) in
-      let now : leading x (names_in (renamed_node directory new).body) ≡ leading x new = ap (leading x) (names_with_names new directory.body adds.is_dir) in
+      let now : leading x (names_in (renamed_node directory new).body) ≡ leading x new = ap (leading x) (names_with_names new directory.body adds.takes.is_dir) in
       let was : leading x (names_or (node_at w dir)) ≡ leading x (names_in directory.body) = ap (λ o. leading x (names_or o)) (stands_then room t w dir directory name n target is adds) in
       parent-with_node w dir (renamed_node directory new) adds.numbers x (omega (arith, all, none, now, was)) ∙ parents x
 
@@ -69,7 +69,7 @@ module _ (room : Room) (t w : Tree) (dir : ℕ) (directory : Node) (name : List 
         | inl e ↦ absurd (let one = once_same n x (sym e) in omega (arith, all, none, one))
         | inr ne ↦ (
           elim (cases_eq x dir) [
-            | inl e ↦ ap (λ k. is_some (node_at t k)) e ∙ ap is_some adds.stands
+            | inl e ↦ ap (λ k. is_some (node_at t k)) e ∙ ap is_some adds.takes.stands
             | inr other ↦ ap is_some (sym (at_others w dir (renamed_node directory new) x other ∙ adds.others x ne)) ∙ there
           ],
           omega (arith, all, none),

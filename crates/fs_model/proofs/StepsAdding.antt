@@ -12,10 +12,24 @@ use Rattle.fs_model.specs.Trees.{Tree, Room, node_at, names_of, parent, NamesFit
 use Rattle.fs_model.proofs.Finds.{IsThere}
 use Rattle.fs_layout.proofs.MapLaws.{with_entry-IsMap}
 use Rattle.fs_layout.proofs.NameMaps.{Names, leading, once_if, once_same, once_other, get-with_name, with_name-IsMap, length-with_name, leading-with_name, tied_names}
+use Rattle.fs_model.proofs.StepsFound.{IsNameAt}
 use Rattle.fs_model.proofs.StepsKinds.{KeepsTypes, types_stay, directory_moves, same_fit}
 use Rattle.fs_model.proofs.Moves.{entry_moves, body_moves}
 use Rattle.fs_model.proofs.StepsNaming.{leading_stays, renamed_node, renamed, at_it, at_others, still_there, names_there, names_elsewhere, names_of-renamed, renamed_keeps_types, types_compose, type_with_names, IsShape, node_from_shape, AreNames, body_renamed, are_names}
 use Rattle.fs_model.proofs.StepsParents.{names_at, parent_is, parent_kept, under_all, directory_named, parent_at, under_root}
+
+-- a directory takes a name: it is new there, and there is room
+pub record TakesNewName (t : Tree) (dir : ℕ) (directory : Node) (name : List ℕ) : Type 0 where
+  pub stands : node_at t dir ≡ Some directory
+  pub is_dir : IsTrue (is_directory directory.body)
+  pub is_new : get name_cmp (names_in directory.body) name ≡ None
+  pub has_room : length (names_in directory.body) < entries_limit
+  pub is_name : IsName name
+  pub bytes : IsBytes name
+
+-- as it does where no entry of it has the name
+pub takes_new : {t : Tree} {dir : ℕ} {name : List ℕ} (x : IsNameAt t dir name None) → length (names_in x.node.body) < entries_limit → TakesNewName t dir x.node name
+takes_new x few = record { stands = x.stands; is_dir = x.directory; is_new = x.leads; has_room = few; is_name = x.is_name; bytes = x.bytes }
 
 -- From t, or from t with a new node in it, which is w: a name is added in a directory.
 pub record AddsName (room : Room) (t w : Tree) (dir : ℕ) (directory : Node) (name : List ℕ) (n : ℕ) (target : Node) : Type 0 where
@@ -26,12 +40,7 @@ pub record AddsName (room : Room) (t w : Tree) (dir : ℕ) (directory : Node) (n
   pub names : (k : ℕ) → names_at w k ≡ names_at t k
   pub counts : (x : ℕ) → names_of w x ≡ names_of t x
   pub types : KeepsTypes t w
-  pub stands : node_at t dir ≡ Some directory
-  pub is_dir : IsTrue (is_directory directory.body)
-  pub is_new : get name_cmp (names_in directory.body) name ≡ None
-  pub has_room : length (names_in directory.body) < entries_limit
-  pub is_name : IsName name
-  pub bytes : IsBytes name
+  pub takes : TakesNewName t dir directory name
   pub apart : (d : ℕ) → IsDirectoryAt t d → d ≢ n
   pub shape : IsShape room t n target
   pub fits : NamesFit n target.body (names_of t n + 1)
@@ -45,17 +54,17 @@ module _ (room : Room) (t w : Tree) (dir : ℕ) (directory : Node) (name : List 
   u = renamed w dir directory (with_entry name_cmp (names_in directory.body) name n)
 
   pub dir_apart : dir ≢ n
-  dir_apart = adds.apart dir (record { node = directory; is_there = adds.stands; directory = adds.is_dir })
+  dir_apart = adds.apart dir (record { node = directory; is_there = adds.takes.stands; directory = adds.takes.is_dir })
 
   pub stands_then : node_at w dir ≡ Some directory
-  stands_then = adds.others dir dir_apart ∙ adds.stands
+  stands_then = adds.others dir dir_apart ∙ adds.takes.stands
 
   pub more : (x : ℕ) → leading x new ≡ leading x (names_in directory.body) + once_if n x
-  more x = leading-with_name (names_in directory.body) name n x adds.is_new
+  more x = leading-with_name (names_in directory.body) name n x adds.takes.is_new
 
   pub count : (x : ℕ) → names_of u x ≡ names_of t x + once_if n x
   count x =
-      let all = names_of-renamed w dir directory new adds.is_dir adds.numbers stands_then x in
+      let all = names_of-renamed w dir directory new adds.takes.is_dir adds.numbers stands_then x in
       let was = adds.counts x in
       let one = more x in
       omega (arith, all, was, one)
@@ -73,9 +82,9 @@ module _ (room : Room) (t w : Tree) (dir : ℕ) (directory : Node) (name : List 
 
   names_kept : (x k : ℕ) → 1 ≤ leading x (names_at t k) → 1 ≤ leading x (names_at u k)
   names_kept x k some = elim (cases_eq k dir) [
-    | inl e ↦ leading_stays w dir directory new adds.is_dir t x k e adds.stands (λ some. let one = more x in omega (arith, one, some)) some
+    | inl e ↦ leading_stays w dir directory new adds.takes.is_dir t x k e adds.takes.stands (λ some. let one = more x in omega (arith, one, some)) some
     | inr ne ↦
-        let same : names_at u k ≡ names_at t k = names_elsewhere w dir directory new adds.is_dir k ne ∙ adds.names k in
+        let same : names_at u k ≡ names_at t k = names_elsewhere w dir directory new adds.takes.is_dir k ne ∙ adds.names k in
         subst (λ q. 1 ≤ leading x q) (sym same) some
   ]
 
@@ -87,24 +96,24 @@ module _ (room : Room) (t w : Tree) (dir : ℕ) (directory : Node) (name : List 
           let same : q ≡ name = tied_names q name t in
           let it : n ≡ k = cc in
           subst (IsEntry u q) it (subst (λ z. IsEntry u z n) (sym same) (record {
-            is_name = adds.is_name;
-            bytes = adds.bytes;
+            is_name = adds.takes.is_name;
+            bytes = adds.takes.bytes;
             leads = (
               (λ e. adds.apart root is.root_is_there (sym e)),
               still_there w dir (renamed_node directory new) n (ap is_some adds.here),
             );
           }))
       go false f i =
-          entry_moves t u q k (there k) ((are_names room t directory.body (is.each dir directory adds.stands).body).each q k i)
+          entry_moves t u q k (there k) ((are_names room t directory.body (is.each dir directory adds.takes.stands).body).each q k i)
 
   are_new : AreNames u new
   are_new =
-      let were = are_names room t directory.body (is.each dir directory adds.stands).body in
+      let were = are_names room t directory.body (is.each dir directory adds.takes.stands).body in
       record {
         rising = with_name-IsMap (names_in directory.body) name n were.rising;
         few =
-            let len = length-with_name (names_in directory.body) name n were.rising adds.is_new in
-            let room = adds.has_room in
+            let len = length-with_name (names_in directory.body) name n were.rising adds.takes.is_new in
+            let room = adds.takes.has_room in
             omega (arith, len, room);
         each = entry_is;
       }
@@ -129,13 +138,13 @@ module _ (room : Room) (t w : Tree) (dir : ℕ) (directory : Node) (name : List 
       let one = once_same n n refl in
       let all = count n in
       let led = more n in
-      let names : names_at u dir ≡ new = names_there w dir directory new adds.is_dir in
+      let names : names_at u dir ≡ new = names_there w dir directory new adds.takes.is_dir in
       let some : 1 ≤ leading n (names_at u dir) = (let same : leading n (names_at u dir) ≡ leading n new = ap (leading n) names in omega (arith, same, led, one)) in
       parent_is u dir n some (omega (arith, all, none, one))
 
   new_climbs : IsTrue (is_directory target.body) → IsUnderRoot u n
   new_climbs d =
-      is_in n (subst (IsUnderRoot u) (sym (new_parent (adds.unnamed d))) (climbs dir (record { node = directory; is_there = adds.stands; directory = adds.is_dir })))
+      is_in n (subst (IsUnderRoot u) (sym (new_parent (adds.unnamed d))) (climbs dir (record { node = directory; is_there = adds.takes.stands; directory = adds.takes.is_dir })))
 
   -- ---- all nodes
 
@@ -150,7 +159,7 @@ module _ (room : Room) (t w : Tree) (dir : ℕ) (directory : Node) (name : List 
 
   dir_is : IsNode room u dir (renamed_node directory new)
   dir_is =
-      let was = is.each dir directory adds.stands in
+      let was = is.each dir directory adds.takes.stands in
       let type = type_with_names new directory.body in
       node_from_shape room u dir (renamed_node directory new)
       (record {
@@ -158,10 +167,10 @@ module _ (room : Room) (t w : Tree) (dir : ℕ) (directory : Node) (name : List 
         below = was.below;
         owner = was.owner;
         group = was.group;
-        body = body_renamed room t u directory.body new adds.is_dir are_new was.body;
+        body = body_renamed room t u directory.body new adds.takes.is_dir are_new was.body;
       })
       (same_fit dir (names_of u dir) (with_names new directory.body) directory.body type (subst (NamesFit dir directory.body) (sym (count_other dir dir_apart)) was.names))
-      (λ d. climbs dir (record { node = directory; is_there = adds.stands; directory = adds.is_dir }))
+      (λ d. climbs dir (record { node = directory; is_there = adds.takes.stands; directory = adds.takes.is_dir }))
 
   target_is : IsNode room u n target
   target_is =
@@ -209,12 +218,7 @@ module _ (room : Room) (t w : Tree) (dir : ℕ) (directory : Node) (name : List 
 -- ---- a name for what is no directory
 
 pub record GivesName (t : Tree) (dir : ℕ) (directory : Node) (name : List ℕ) (n : ℕ) (target : Node) : Type 0 where
-  pub stands : node_at t dir ≡ Some directory
-  pub is_dir : IsTrue (is_directory directory.body)
-  pub is_new : get name_cmp (names_in directory.body) name ≡ None
-  pub has_room : length (names_in directory.body) < entries_limit
-  pub is_name : IsName name
-  pub bytes : IsBytes name
+  pub takes : TakesNewName t dir directory name
   pub there : node_at t n ≡ Some target
   pub no_directory : IsFalse (is_directory target.body)
   pub few : names_of t n < names_limit
@@ -236,12 +240,7 @@ gives_name room t dir directory name n target is gives =
       names = λ k. refl;
       counts = λ k. refl;
       types = types_stay t;
-      stands = gives.stands;
-      is_dir = gives.is_dir;
-      is_new = gives.is_new;
-      has_room = gives.has_room;
-      is_name = gives.is_name;
-      bytes = gives.bytes;
+      takes = gives.takes;
       apart = apart;
       shape = record { positive = node.positive; below = node.below; owner = node.owner; group = node.group; body = node.body };
       fits = one_name_more n target.body (names_of t n) gives.no_directory gives.few;

@@ -1,5 +1,5 @@
 -- A new node in a directory.
-use Rattle.std.specs.Prelude.{◌≡◌, ◌≢◌, ℕ, ◌+◌, ◌^◌, ◌<◌, ◌≤◌, ◌==◌, ◌/◌, Bool, true, false, cond, List, [], length, Option, None, Some, is_some, unwrap_or, IsTrue}
+use Rattle.std.specs.Prelude.{◌≡◌, ◌≢◌, ℕ, ◌+◌, ◌^◌, ◌<◌, ◌≤◌, ◌==◌, ◌/◌, Bool, true, false, cond, List, [], Option, None, Some, is_some, unwrap_or}
 use Rattle.std.proofs.Common.{refl, sym, ap, arith, ◌∙◌, subst, inl, inr}
 use Rattle.std.proofs.lemmas.Bool.{cases_eq, cases_lt}
 use Rattle.std.proofs.lemmas.Bool.Decides.{nat_tests}
@@ -8,16 +8,14 @@ use Rattle.posix_acl.specs.AccessList.{AccessList, IsAcl, group_class, IsSomeAcl
 use Rattle.posix_acl.specs.Entries.{perms_of, meet}
 use Rattle.posix_acl.proofs.Classes.{IsAcl-with_classes}
 use Rattle.fs_cred.specs.Credentials.{Credential, IsCredential}
-use Rattle.fs_layout.specs.Bytes.{IsBytes}
-use Rattle.fs_layout.specs.Directories.{IsName}
-use Rattle.fs_model.specs.Limits.{root, entries_limit}
-use Rattle.fs_layout.specs.Maps.{get, name_cmp}
-use Rattle.fs_model.specs.Nodes.{Node, Body, File, Dir, Link, is_directory, names_in, directory_in}
+use Rattle.fs_model.specs.Limits.{root}
+use Rattle.fs_layout.specs.Maps.{get}
+use Rattle.fs_model.specs.Nodes.{Node, Body, File, Dir, Link, names_in, directory_in}
 use Rattle.fs_model.specs.Trees.{Tree, Room, node_at, with_node, names_for, names_of, parent, NamesFit, IsBody, IsTarget, IsDirectoryAt, IsTree}
 use Rattle.fs_model.specs.Births.{the_directory, no_directory, masked_acl, born_acl, born, born_file, born_directory, born_link}
 use Rattle.fs_model.proofs.Finds.{IsThere}
 use Rattle.fs_layout.proofs.MapLaws.{with_entry-IsMap, sum-with_entry, summand}
-use Rattle.fs_model.proofs.StepsAdding.{AddsName}
+use Rattle.fs_model.proofs.StepsAdding.{TakesNewName, AddsName}
 use Rattle.fs_layout.proofs.NameMaps.{leading, name_if}
 use Rattle.fs_model.proofs.StepsKinds.{KeepsTypes}
 use Rattle.fs_model.proofs.StepsNaming.{at_it, at_others, still_there, are_names}
@@ -106,10 +104,7 @@ first_fits n (Dir a d) ne = let other : (n == root) ≡ false = grind (arith, na
 first_fits n (Link target) ne = (omega arith, omega arith)
 
 module _ (room : Room) (t : Tree) (dir : ℕ) (directory : Node) (name : List ℕ) (n : ℕ) (new : Node) (is : IsTree room t)
-    (stands : node_at t dir ≡ Some directory) (is_dir : IsTrue (is_directory directory.body))
-    (is_new : get name_cmp (names_in directory.body) name ≡ None) (has_room : length (names_in directory.body) < entries_limit)
-    (is_name : IsName name) (bytes : IsBytes name)
-    (positive : 1 ≤ n) (below : n < room.inodes) (none : node_at t n ≡ None) (newborn : IsNewborn room t new) where
+    (takes : TakesNewName t dir directory name) (positive : 1 ≤ n) (below : n < room.inodes) (none : node_at t n ≡ None) (newborn : IsNewborn room t new) where
   apart_from : (d : ℕ) → IsDirectoryAt t d → d ≢ n
   apart_from d there e =
       let at : node_at t n ≡ Some there.node = ap (node_at t) (sym e) ∙ there.is_there in
@@ -147,12 +142,7 @@ module _ (room : Room) (t : Tree) (dir : ℕ) (directory : Node) (name : List �
         names = names_same;
         counts = count_same;
         types = types_same;
-        stands = stands;
-        is_dir = is_dir;
-        is_new = is_new;
-        has_room = has_room;
-        is_name = is_name;
-        bytes = bytes;
+        takes = takes;
         apart = apart_from;
         shape = record { positive = positive; below = below; owner = newborn.owner; group = newborn.group; body = newborn.body };
         fits =

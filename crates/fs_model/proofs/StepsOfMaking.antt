@@ -72,8 +72,8 @@ module _ (c : Scene) (is : IsScene c) (name : IsNameAt c.state.tree c.first.dir 
       → AddsName c.state.room c.state.tree (with_node c.state.tree n new) c.first.dir (dir_node c c.first) c.first.name n new
   adds new newborn =
       let x = dir_is_there c.state.tree c.first.dir c.first.name None name in
-      makes_name c.state.room c.state.tree c.first.dir (dir_node c c.first) c.first.name n new is.state.tree x.0 x.1 x.2 has_room
-      name.is_name name.bytes positive below none newborn
+      makes_name c.state.room c.state.tree c.first.dir (dir_node c c.first) c.first.name n new is.state.tree
+      (record { stands = x.0; is_dir = x.1; is_new = x.2; has_room = has_room; is_name = name.is_name; bytes = name.bytes }) positive below none newborn
 
   abbrev made : Node → Tree
   made new = changed c.state.tree (Make c.first.dir c.first.name n new)
@@ -82,7 +82,7 @@ module _ (c : Scene) (is : IsScene c) (name : IsNameAt c.state.tree c.first.dir 
       → made new ≡ renamed (with_node c.state.tree n new) c.first.dir (dir_node c c.first) (with_entry name_cmp (names_in (dir_node c c.first).body) c.first.name n)
   made_is new newborn =
       let a = adds new newborn in
-      let ne : c.first.dir ≢ n = a.apart c.first.dir (record { node = dir_node c c.first; is_there = a.stands; directory = a.is_dir }) in
+      let ne : c.first.dir ≢ n = a.apart c.first.dir (record { node = dir_node c c.first; is_there = a.takes.stands; directory = a.takes.is_dir }) in
       named_is (with_node c.state.tree n new) c.first.dir (dir_node c c.first) c.first.name n (at_others c.state.tree n new c.first.dir ne ∙ dir_at)
 
   made_is_tree : (new : Node) → IsNewborn c.state.room c.state.tree new → IsTree c.state.room (made new)
@@ -99,7 +99,7 @@ module _ (c : Scene) (is : IsScene c) (name : IsNameAt c.state.tree c.first.dir 
   made_at : (new : Node) → IsNewborn c.state.room c.state.tree new → node_at (made new) n ≡ Some new
   made_at new newborn =
       let a = adds new newborn in
-      let ne : n ≢ c.first.dir = (λ e. a.apart c.first.dir (record { node = dir_node c c.first; is_there = a.stands; directory = a.is_dir }) (sym e)) in
+      let ne : n ≢ c.first.dir = (λ e. a.apart c.first.dir (record { node = dir_node c c.first; is_there = a.takes.stands; directory = a.takes.is_dir }) (sym e)) in
       ap (λ t. node_at t n) (made_is new newborn)
       ∙ at_others (with_node c.state.tree n new) c.first.dir (renamed_node (dir_node c c.first) (with_entry name_cmp (names_in (dir_node c c.first).body) c.first.name n)) n ne
       ∙ at_it c.state.tree n new
@@ -202,12 +202,7 @@ link_fits c is name met =
     let free : length (names_in directory.body) < entries_limit = grind (arith, nat_tests) in
     let adds =
     gives_name c.state.room t dir directory c.second.name n target is.state.tree (record {
-      stands = x.0;
-      is_dir = x.1;
-      is_new = x.2;
-      has_room = free;
-      is_name = name.is_name;
-      bytes = name.bytes;
+      takes = record { stands = x.0; is_dir = x.1; is_new = x.2; has_room = free; is_name = name.is_name; bytes = name.bytes };
       there = first_at c is found;
       no_directory = no_directory;
       few = few;

@@ -196,12 +196,7 @@ module _ {p : Place} (old : TxnState) {desks : Desks} {s : State} (at : IsStateO
 
   gives : GivesName s.tree dir directory name n may.target
   gives = record {
-    stands = may.directory.is_there;
-    is_new = may.is_new;
-    is_dir = may.directory.directory;
-    has_room = may.has_room;
-    is_name = may.is_name;
-    bytes = may.bytes;
+    takes = record { stands = may.directory.is_there; is_dir = may.directory.directory; is_new = may.is_new; has_room = may.has_room; is_name = may.is_name; bytes = may.bytes };
     there = may.there;
     no_directory = may.no_directory;
     few = may.few;
