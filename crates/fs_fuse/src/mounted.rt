@@ -5,7 +5,7 @@ ghost use Rattle.fs_fuse.specs.Performing.{ServesOne};
 use fs_cred::Cred;
 use fs_model::{Call, Event, Reply};
 use fs_system::Fs;
-use fuse_plans::Machine;
+use fuse_steps::Machine;
 use sector_disk::Disk;
 use std::marker::Model;
 

@@ -9,7 +9,7 @@ use Rattle.fs_model.specs.declared.reply.FileType.{FileType}
 use Rattle.fs_model.specs.declared.reply.Reply.{Reply}
 use Rattle.fs_model.specs.declared.reply.Status.{Status}
 use Rattle.fs_model.specs.Limits.{move_limit}
-use Rattle.fuse_plans.specs.declared.flags.Mode.{Mode}
+use Rattle.fuse_plans.specs.declared.mode.Mode.{Mode}
 use Rattle.fuse_plans.specs.declared.stop.Stop.{Stop}
 use Rattle.fuse_plans.specs.declared.request.Asked.{Asked}
 use Rattle.fuse_protocol.specs.declared.operation.Extent.{Extent}

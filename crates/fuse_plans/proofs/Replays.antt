@@ -44,7 +44,7 @@ use Rattle.fuse_plans.specs.declared.reply.Response.TheVariants.{Silence, Says, 
 use Rattle.fuse_state.specs.Servers.{Server, new_server}
 use Rattle.fuse_plans.specs.Works.{give, stop, kept, keep, ◌>>=◌, attempt, ask}
 use Rattle.fuse_plans.specs.Callers.{retire, begin_process, caller, caller_with_room, the_looker, between, look_inside, on, look, the_number, directory_number}
-use Rattle.fuse_plans.specs.declared.flags.Mode.{Mode}
+use Rattle.fuse_plans.specs.declared.mode.Mode.{Mode}
 use Rattle.fuse_plans.specs.Flags.{only}
 use Rattle.fuse_plans.specs.NamePlans.{made, link_by_place}
 use Rattle.fuse_plans.specs.FilePlans.{open_or_make, show_open, look_open, tell_created, the_open, seek, read_piece, read_pieces, write_piece, write_pieces}

@@ -8,7 +8,7 @@ use Rattle.fs_model.specs.declared.call.Call.TheVariants.{Open, Write, Lseek, Cl
 use Rattle.fs_model.specs.declared.event.Event.TheVariants.{Call as Calls, Enter, Statfs}
 use Rattle.fs_model.specs.declared.reply.FileType.TheVariants.{File, Directory}
 use Rattle.fs_model.specs.declared.reply.Reply.TheVariants.{Done, Pid, Fd, Wrote, Mask, Shown, Space}
-use Rattle.fuse_plans.specs.declared.flags.Mode.TheVariants.{Writes}
+use Rattle.fuse_plans.specs.declared.mode.Mode.TheVariants.{Writes}
 use Rattle.fuse_plans.proofs.Replays.{new, user, failed, granted, AtOffset, status, flags, served, all_bytes, outside}
 
 pub lookup_getattr_bytes : served new (

@@ -10,7 +10,7 @@ use Rattle.fs_model.specs.declared.reply.FileType.TheVariants.{File, Directory}
 use Rattle.fs_model.specs.declared.reply.Reply.TheVariants.{Done, Pid, Fd, Data, Wrote, Mask, Shown, Names, Space}
 use Rattle.fuse_protocol.specs.declared.operation.Operation.TheVariants.{Lookup, Forget, GetAttr, SetAttr, Unlink as UnlinkName, Link as AddLink, Open as OpenFile, Read as ReadFile, Write as WriteFile, StatFs, Release, GetXAttr, Init, OpenDir, ReadDir, ReleaseDir, Access as AskAccess, Create, Unknown}
 use Rattle.fuse_plans.specs.declared.reply.ReplyBody.TheVariants.{Nothing, Found, Shown as ShownAs, Opened, Created, Bytes, Wrote as WroteBytes, Space as SpaceOf}
-use Rattle.fuse_plans.specs.declared.flags.Mode.TheVariants.{Reads, Writes, Both}
+use Rattle.fuse_plans.specs.declared.mode.Mode.TheVariants.{Reads, Writes, Both}
 use Rattle.fuse_plans.specs.Serving.{terms}
 use Rattle.fuse_plans.proofs.Replays.{Silent, Told, Error, played, all_plans, second, new, asks, user, extent, failed, granted, AtOffset, status, attributes, entry, entries, flags}
 

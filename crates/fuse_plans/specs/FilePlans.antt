@@ -23,8 +23,8 @@ use Rattle.fuse_state.specs.Changes.{told}
 use Rattle.fuse_state.specs.declared.place.Place.{Place}
 use Rattle.fuse_plans.specs.Works.{Work, give, stop, kept, keep, ◌>>=◌, ◌>>◌, attempt, needed, obtain, or_closed, replied_status, replied_handle, replied_data, replied_count}
 use Rattle.fuse_plans.specs.Callers.{caller_with_room, inside, on, the_number, directory_number}
-use Rattle.fuse_plans.specs.declared.flags.Mode.{Mode}
-use Rattle.fuse_plans.specs.declared.flags.Mode.TheVariants.{Reads}
+use Rattle.fuse_plans.specs.declared.mode.Mode.{Mode}
+use Rattle.fuse_plans.specs.declared.mode.Mode.TheVariants.{Reads}
 use Rattle.fuse_plans.specs.Flags.{mode_in, is_exec, is_excl, is_trunc, opening, creating}
 use Rattle.fuse_plans.specs.NamePlans.{place, plain_name, attributes, set_umask}
 

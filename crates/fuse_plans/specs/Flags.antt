@@ -5,8 +5,8 @@
 use Rattle.std.specs.Prelude.{ℕ, ◌==◌, Bool, true, false, not, Option, None, Some, if◌then◌else◌, bit_and}
 use Rattle.std.proofs.Common.{refl}
 use Rattle.fs_model.specs.declared.call.Flags.{Flags}
-use Rattle.fuse_plans.specs.declared.flags.Mode.{Mode}
-use Rattle.fuse_plans.specs.declared.flags.Mode.TheVariants.{Reads, Writes, Both}
+use Rattle.fuse_plans.specs.declared.mode.Mode.{Mode}
+use Rattle.fuse_plans.specs.declared.mode.Mode.TheVariants.{Reads, Writes, Both}
 
 -- 3 is no mode
 abbrev pub mode_in : ℕ → Option Mode

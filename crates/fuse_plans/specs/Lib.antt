@@ -11,9 +11,6 @@ pub mod AttributePlans
 pub mod DirectoryPlans
 pub mod AclPlans
 pub mod Serving
-pub mod Families
 pub mod Protocol
 pub mod Conduct
 pub mod Laws
-pub mod Performing
-pub mod Truth

@@ -1,8 +1,10 @@
 //! A session performs the plans of requests.
 
 use crate::performer::Performer;
-use fuse_plans::{Asked, Machine, Response, Session};
+use fuse_plans::{Asked, Response};
 use fuse_protocol::Operation;
+use fuse_sessions::Session;
+use fuse_steps::Machine;
 use posix_acl::Acl;
 use std::alloc::AllocError;
 

@@ -1,9 +1,0 @@
-use Rattle.std.proofs.Common.{refl}
-use Rattle.fuse_plans.proofs.Doings.{then-fails, then-ok}
-use Rattle.fuse_plans.proofs.session.Session.make_directory.Goals as goal
-
-pub returns-in_err-directory : goal.returns-in_err-directory
-returns-in_err-directory g c = then-fails _ c.from_residual.ensures c.in_err-directory.ensures.did
-
-pub returns : goal.returns
-returns g c = then-ok _ c.in_ok-directory.ensures.did (c.make_masked.ensures _ refl)

@@ -1,0 +1,4 @@
+mod Answerings
+mod Doings
+mod Pieces
+mod Writings

@@ -1,0 +1,124 @@
+-- Bytes that are moved piece by piece: the first piece, and then the rest.
+--     read-none, read-more, read-short, read-refused        reading
+--     write-more, write-short, write-refused        writing
+--     pieces-more, pieces-split, pieces-none, pieces-end        bytes as pieces
+--     next-call, within-total        the calls that are left
+use Rattle.std.specs.Prelude.{◌≡◌, ℕ, zero, suc, ◌+◌, ◌-◌, ◌<◌, ◌==◌, min, nat_lt, true, false, List, [], ◌∷◌, ◌++◌, length, ◌≤◌, get_or, take, drop, Result, Ok, Err}
+use Rattle.std.proofs.Common.{refl, sym, ap, subst, ◌∙◌, arith}
+use Rattle.std.proofs.Math.Seq.{drop-cons}
+use Rattle.std.proofs.Math.Numerals.{add-one}
+use Rattle.std.proofs.lemmas.List.{take_min, drop_min}
+use Rattle.std.proofs.lemmas.List.Sums.{sum_by-cons}
+use Rattle.fs_model.specs.declared.call.Call.{Call}
+use Rattle.fs_model.specs.declared.event.Event.{Event}
+use Rattle.fs_model.specs.declared.reply.Reply.{Reply}
+use Rattle.fs_model.specs.Limits.{move_limit}
+use Rattle.fuse_plans.specs.declared.stop.Stop.{Stop}
+use Rattle.fuse_plans.specs.Works.{of_result}
+use Rattle.fuse_plans.specs.FilePlans.{read_piece, read_pieces, write_piece, write_pieces, or_done, length_written, total_written, pieces_in}
+use Rattle.fuse_steps.specs.Performing.{DidByMachine}
+use Rattle.fuse_steps.proofs.Steps.{machine-ok, machine-err, machine-attempts, machine-result, machine-gives, machine-gives-as, machine-true, machine-false}
+
+less : (size : ℕ) → size - min move_limit size ≡ size - move_limit
+less size = omega arith
+
+module _ {M : Type 0} {Serves : M → Event → Reply → M → Type 0} (pid : ℕ) where
+  -- ---- reading
+
+  pub read-none : (k fd size : ℕ) (bytes : List ℕ) {got : List ℕ} (m : M) → (size == 0) ≡ true → got ≡ bytes
+      → DidByMachine Serves (read_pieces k pid fd size bytes) m m (Ok got)
+  unfolding read_pieces
+  read-none zero fd size bytes m is all = machine-gives-as all
+  read-none (suc k) fd size bytes m is all = machine-true _ _ is (machine-gives-as all)
+
+  pub read-done : (fd size : ℕ) (bytes : List ℕ) {got : List ℕ} (m : M) → got ≡ bytes → DidByMachine Serves (read_pieces 0 pid fd size bytes) m m (Ok got)
+  unfolding read_pieces
+  read-done fd size bytes m all = machine-gives-as all
+
+  pub read-more : (k fd size most : ℕ) (bytes piece : List ℕ) {old mid new : M} {r : Result (List ℕ) Stop}
+      → most ≡ min move_limit size → (size == 0) ≡ false → DidByMachine Serves (read_piece pid fd most) old mid (Ok piece)
+      → nat_lt (length piece) most ≡ false → DidByMachine Serves (read_pieces k pid fd (size - most) (bytes ++ piece)) mid new r
+      → DidByMachine Serves (read_pieces (suc k) pid fd size bytes) old new r
+  unfolding read_pieces
+  read-more k fd size most bytes piece {old} {mid} {new} {r} is some first full rest =
+      machine-false _ _ some
+      (machine-ok _ (subst (λ (n : ℕ). DidByMachine Serves (read_piece pid fd n) old mid (Ok piece)) is first)
+      (machine-false _ _ (subst (λ (n : ℕ). nat_lt (length piece) n ≡ false) is full)
+      (subst (λ (n : ℕ). DidByMachine Serves (read_pieces k pid fd n (bytes ++ piece)) mid new r) (less size)
+      (subst (λ (n : ℕ). DidByMachine Serves (read_pieces k pid fd (size - n) (bytes ++ piece)) mid new r) is rest))))
+
+  pub read-short : (k fd size most : ℕ) (bytes piece : List ℕ) {got : List ℕ} {old new : M}
+      → most ≡ min move_limit size → (size == 0) ≡ false → DidByMachine Serves (read_piece pid fd most) old new (Ok piece)
+      → nat_lt (length piece) most ≡ true → got ≡ bytes ++ piece → DidByMachine Serves (read_pieces (suc k) pid fd size bytes) old new (Ok got)
+  unfolding read_pieces
+  read-short k fd size most bytes piece {got} {old} {new} is some first short all =
+      machine-false _ _ some
+      (machine-ok _ (subst (λ (n : ℕ). DidByMachine Serves (read_piece pid fd n) old new (Ok piece)) is first)
+      (machine-true _ _ (subst (λ (n : ℕ). nat_lt (length piece) n ≡ true) is short) (machine-gives-as all)))
+
+  pub read-refused : (k fd size most : ℕ) (bytes : List ℕ) {old new : M} {e : Stop}
+      → most ≡ min move_limit size → (size == 0) ≡ false → DidByMachine Serves (read_piece pid fd most) old new (Err e)
+      → DidByMachine Serves (read_pieces (suc k) pid fd size bytes) old new (Err e)
+  unfolding read_pieces
+  read-refused k fd size most bytes {old} {new} {e} is some first =
+      machine-false _ _ some (machine-err _ (subst (λ (n : ℕ). DidByMachine Serves (read_piece pid fd n) old new (Err e)) is first))
+
+  -- ---- writing
+
+  pub write-more : (done count : ℕ) (call : Call) (calls : List Call) {wrote : Result ℕ Stop} {old mid new : M} {r : Result ℕ Stop}
+      → DidByMachine Serves (write_piece pid call) old mid wrote → or_done done wrote ≡ of_result (Ok count)
+      → nat_lt count (length_written call) ≡ false → DidByMachine Serves (write_pieces pid (done + count) calls) mid new r
+      → DidByMachine Serves (write_pieces pid done (call ∷ calls)) old new r
+  unfolding write_pieces
+  write-more done count call calls first kept full rest =
+      machine-ok _ (machine-attempts _ first) (machine-ok _ (machine-result kept) (machine-false _ _ full rest))
+
+  pub write-short : (done count : ℕ) (call : Call) (calls : List Call) {wrote : Result ℕ Stop} {old new : M}
+      → DidByMachine Serves (write_piece pid call) old new wrote → or_done done wrote ≡ of_result (Ok count)
+      → nat_lt count (length_written call) ≡ true → DidByMachine Serves (write_pieces pid done (call ∷ calls)) old new (Ok (done + count))
+  unfolding write_pieces
+  write-short done count call calls {wrote} {old} {new} first kept short =
+      machine-ok _ (machine-attempts _ first) (machine-ok _ (machine-result kept) (machine-true _ _ short (machine-gives (done + count) new)))
+
+  pub write-refused : (done : ℕ) (call : Call) (calls : List Call) {wrote : Result ℕ Stop} {old new : M} {e : Stop}
+      → DidByMachine Serves (write_piece pid call) old new wrote → or_done done wrote ≡ of_result (Err e)
+      → DidByMachine Serves (write_pieces pid done (call ∷ calls)) old new (Err e)
+  unfolding write_pieces
+  write-refused done call calls first kept = machine-ok _ (machine-attempts _ first) (machine-err _ (machine-result kept))
+
+-- ---- pieces
+
+pub pieces-none : (k : ℕ) → pieces_in k [] ≡ []
+pieces-none zero = refl
+pieces-none (suc k) = refl
+
+pub pieces-more : (k : ℕ) (bytes : List ℕ) → 0 < length bytes → pieces_in (suc k) bytes ≡ take move_limit bytes ∷ pieces_in k (drop move_limit bytes)
+pieces-more k [] some = absurd (omega (arith, some))
+pieces-more k (b ∷ bs) some = refl
+
+pub pieces-end : (k : ℕ) (bytes : List ℕ) → length bytes ≡ 0 → pieces_in k bytes ≡ []
+pieces-end k [] is = pieces-none k
+pieces-end k (b ∷ bs) is = absurd (omega (arith, is))
+
+pub pieces-split : (k n : ℕ) (bytes : List ℕ) → n ≡ min (length bytes) move_limit → 0 < n → pieces_in (suc k) bytes ≡ take n bytes ∷ pieces_in k (drop n bytes)
+pieces-split k n bytes is some =
+    let other : min move_limit (length bytes) ≡ n = omega (arith, is) in
+    let first : take move_limit bytes ≡ take n bytes = sym (take_min move_limit bytes) ∙ ap (λ (i : ℕ). take i bytes) other in
+    let rest : drop move_limit bytes ≡ drop n bytes = sym (drop_min move_limit bytes) ∙ ap (λ (i : ℕ). drop i bytes) other in
+    pieces-more k bytes (omega (arith, is, some))
+    ∙ (ap (λ (p : List ℕ). p ∷ pieces_in k (drop move_limit bytes)) first ∙ ap (λ (p : List ℕ). take n bytes ∷ pieces_in k p) rest)
+
+-- ---- the calls that are left
+
+pub next-call : (calls : List Call) (i : ℕ) (call : Call) → i < length calls → call ≡ get_or calls i call → drop i calls ≡ call ∷ drop (i + 1) calls
+next-call calls i call lt is =
+    subst (λ (n : ℕ). drop i calls ≡ call ∷ drop n calls) (sym (add-one i))
+    (drop-cons calls i call lt ∙ ap (λ (k : Call). k ∷ drop (suc i) calls) (sym is))
+
+-- they write no more than all
+pub within-total : (calls : List Call) (i done count total : ℕ) (call : Call) → drop i calls ≡ call ∷ drop (i + 1) calls → count ≤ length_written call
+    → done + total_written (drop i calls) ≤ total → (done + count) + total_written (drop (i + 1) calls) ≤ total
+within-total calls i done count total call next few within =
+    let whole : total_written (drop i calls) ≡ length_written call + total_written (drop (i + 1) calls) =
+    ap total_written next ∙ sum_by-cons length_written call (drop (i + 1) calls) in
+    omega (arith, whole, few, within)

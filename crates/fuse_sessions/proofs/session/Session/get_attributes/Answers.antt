@@ -1,0 +1,13 @@
+use Rattle.std.proofs.Common.{ap}
+use Rattle.fuse_plans.specs.declared.reply.ReplyBody.TheVariants.{Shown as ShownAs}
+use Rattle.fuse_sessions.proofs.Doings.{reads-last, then-fails, then-ok}
+use Rattle.fuse_sessions.proofs.session.Session.get_attributes.Goals as goal
+
+pub returns-in_err-inode : goal.returns-in_err-inode
+returns-in_err-inode g c = then-fails _ c.from_residual.ensures c.in_err-inode.ensures
+
+pub returns-in_err-status : goal.returns-in_err-status
+returns-in_err-status g c = then-ok _ c.in_ok-inode.ensures (then-fails _ c.from_residual-in_err-status.ensures c.in_err-status.ensures.did)
+
+pub returns : goal.returns
+returns g c = then-ok _ c.in_ok-inode.ensures (then-ok _ c.in_ok-status.ensures.did (reads-last _ _ (ap ShownAs c.attributes.ensures)))

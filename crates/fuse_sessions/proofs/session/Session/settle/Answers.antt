@@ -1,0 +1,22 @@
+use Rattle.std.proofs.Common.{refl, sym, ◌∙◌}
+use Rattle.fuse_sessions.proofs.Doings.{then-ok, then-fails, of-result, needs-some, needs-none, keeps, where-true, where-false, gives, stops}
+use Rattle.fuse_sessions.proofs.session.Session.settle.Goals as goal
+
+pub returns-then-is_refused_for-clause-did : goal.returns-then-is_refused_for-clause-did
+returns-then-is_refused_for-clause-did g c = where-true _ _ (sym c.is_refused_for.ensures ∙ c.if-is_refused_for.true) (stops _ _)
+
+pub returns-in_err-done-clause-did : goal.returns-in_err-done-clause-did
+returns-in_err-done-clause-did g c =
+    where-false _ _ (sym c.is_refused_for.ensures ∙ c.if-is_refused_for.false) (then-fails _ c.from_residual.ensures (of-result c.in_err-done.ensures))
+
+pub returns-in_default-clause-did : goal.returns-in_default-clause-did
+returns-in_default-clause-did g c =
+    where-false _ _ (sym c.is_refused_for.ensures ∙ c.if-is_refused_for.false)
+    (then-ok _ (of-result c.in_ok-done.ensures) (needs-none _ _ _ (sym c.in_default.ensures)))
+
+pub returns-clause-did : goal.returns-clause-did
+returns-clause-did g c =
+    where-false _ _ (sym c.is_refused_for.ensures ∙ c.if-is_refused_for.false)
+    (then-ok _ (of-result c.in_ok-done.ensures)
+    (needs-some _ _ (sym c.in-Some.ensures)
+    (keeps _ _ refl c.add_process.ensures.kept (gives _ _))))

@@ -1,0 +1,394 @@
+//! Requests for attributes: what stat(2) shows, and what changes it.
+ghost use Rattle.std.specs.Prelude.{◌≡◌, ◌+◌, ◌≤◌, ◌&&◌, ◌||◌, not, is_some};
+ghost use Rattle.fuse_plans.specs.AttributePlans.{get_attributes, is_known_link, differs, owners_stay, new_owners, resize_object, set_size, set_owners, set_mode, is_now, may_set_times, time_after, timed, set_times, change_attributes, tell_times, set_attributes, tell_target, read_link, access_as, ask_access};
+ghost use Rattle.fuse_plans.specs.FilePlans.{when};
+ghost use Rattle.fuse_sessions.specs.Performing.{Did};
+ghost use Rattle.fuse_plans.specs.Works.{of_result};
+ghost use Rattle.fs_cred.specs.Ownership.{counts_as_owner};
+
+use crate::session::Session;
+use fs_cred::{Cred, may_own};
+use fs_model::{Bytes, Call, FileType, Reply, Status};
+use fuse_plans::{Asked, ReplyBody, Stop};
+use fuse_protocol::{AttrChanges, NewTime, Time};
+use fuse_state::{Server, Times, descriptor_of};
+use fuse_steps::Machine;
+use fuse_steps::name::attributes;
+use fuse_steps::replies::target_of_reply;
+use posix_acl::Perms;
+
+/// Whether it is known to be a symbolic link.
+pub(crate) fn is_known_link(kind: Option<FileType>) -> bool
+    ensures { result ≡ is_known_link kind }
+{
+    matches!(kind, Some(FileType::Link))
+}
+
+// Whether a number is to be set that isn't there already.
+fn differs(wanted: Option<u32>, present: u32) -> bool
+    ensures { result ≡ differs wanted present }
+{
+    match wanted {
+        Some(wanted) => wanted != present,
+        None => false,
+    }
+}
+
+// Neither the owner nor the group are to be others.
+fn owners_stay(changes: &AttrChanges, status: Status) -> Result<(Option<u32>, Option<u32>), Stop>
+    ensures { owners_stay changes.now status ≡ of_result result }
+{
+    if differs(changes.uid, status.owner) || differs(changes.gid, status.group) {
+        Err(Stop::EOPNOTSUPP)
+    } else {
+        Ok((None, None))
+    }
+}
+
+// Whether the new time is the present one, or there is none.
+fn is_now(time: Option<NewTime>) -> bool
+    ensures { result ≡ is_now time }
+{
+    !matches!(time, Some(NewTime::At { .. }))
+}
+
+fn time_after(now: Time, old: Time, new: Option<NewTime>) -> Time
+    ensures { result ≡ time_after now old new }
+{
+    match new {
+        None => old,
+        Some(NewTime::Now) => now,
+        Some(
+            NewTime::At {
+                seconds,
+                nanoseconds,
+            },
+        ) => Time {
+            seconds,
+            nanoseconds,
+        },
+    }
+}
+
+// An object gets the new times.
+fn note_times(server: &mut Server, now: Time, inode: u32, changes: &AttrChanges)
+    requires { 1 ≤ server.old.room }
+    ensures kept { server.new.server ≡ timed now inode changes.now server.old.server }
+    ensures room { server.old.room ≤ server.new.room + 1 }
+{
+    let old = server.times_of(inode);
+    let times = Times {
+        atime: time_after(now, old.atime, changes.atime),
+        mtime: time_after(now, old.mtime, changes.mtime),
+        ctime: now,
+    };
+    server.set_times(inode, times);
+}
+
+// Whether who asks counts as the owner.
+fn counts_as_owner(cred: &Cred, owner: u32) -> bool
+    ensures { result ≡ counts_as_owner cred.now owner }
+{
+    may_own(cred, owner).is_ok()
+}
+
+// Whether what a link has not is to change.
+fn changes_more(changes: &AttrChanges) -> bool
+    ensures { result ≡ (is_some changes.now.mode || is_some changes.now.size) }
+{
+    changes.mode.is_some() || changes.size.is_some()
+}
+
+// Whether an owner or a group is to be set.
+fn sets_owners(owners: (Option<u32>, Option<u32>)) -> bool
+    ensures { result ≡ (is_some owners.0 || is_some owners.1) }
+{
+    owners.0.is_some() || owners.1.is_some()
+}
+
+// Whether a time is to be set.
+fn sets_times(changes: &AttrChanges) -> bool
+    ensures { result ≡ (is_some changes.now.atime || is_some changes.now.mtime) }
+{
+    changes.atime.is_some() || changes.mtime.is_some()
+}
+
+// Whether times are set that only an owner may set.
+fn needs_owner(link: bool, changes: &AttrChanges) -> bool
+    ensures { result ≡ (link || not (is_now changes.now.atime && is_now changes.now.mtime)) }
+{
+    link || !is_now(changes.atime) || !is_now(changes.mtime)
+}
+
+impl<M: Machine> Session<M> {
+    /// What is told of an object.
+    pub(crate) fn get_attributes(&mut self, asked: &Asked) -> Result<ReplyBody, Stop>
+        ensures { Did M.Serves (get_attributes asked.entry.now) self.old self.new result }
+    {
+        let inode = self.the_number(asked.node)?;
+        let status = self.look(inode)?;
+        Ok(ReplyBody::Shown(attributes(&self.server, status)))
+    }
+
+    // The owner and the group that are to be set. Of a link nothing changes but its times.
+    fn new_owners(
+        &mut self,
+        changes: &AttrChanges,
+        inode: u32,
+        link: bool,
+    ) -> Result<(Option<u32>, Option<u32>), Stop>
+        ensures did { Did M.Serves (new_owners changes.now inode link) self.old self.new result }
+        ensures kept { self.new.server ≡ self.old.server }
+    {
+        if !link {
+            return Ok((changes.uid, changes.gid));
+        }
+        if changes_more(changes) {
+            return Err(Stop::EOPNOTSUPP);
+        }
+        let status = self.look(inode)?;
+        owners_stay(changes, status)
+    }
+
+    // By the handle, where there is one.
+    fn resize_object(
+        &mut self,
+        pid: usize,
+        inode: u32,
+        size: u64,
+        handle: Option<u64>,
+    ) -> Result<Reply, Stop>
+        ensures did { Did M.Serves (resize_object pid inode size handle) self.old self.new result }
+        ensures kept { self.new.server ≡ self.old.server }
+    {
+        let Some(handle) = handle else {
+            let call = Call::Truncate(self.blank_path(), size);
+            return self.on_once(pid, inode, call);
+        };
+        self.call_open(handle, Call::Ftruncate(descriptor_of(handle), size))
+    }
+
+    fn set_size(
+        &mut self,
+        now: Time,
+        pid: usize,
+        inode: u32,
+        handle: Option<u64>,
+        size: Option<u64>,
+    ) -> Result<(), Stop>
+        requires { 1 ≤ self.old.server.room }
+        ensures did { Did M.Serves (set_size now pid inode handle size) self.old self.new result }
+        ensures room { self.old.server.room ≤ self.new.server.room + 1 }
+    {
+        let Some(size) = size else {
+            return Ok(());
+        };
+        self.resize_object(pid, inode, size, handle)?.discard();
+        self.server.touch(now, inode);
+        Ok(())
+    }
+
+    fn set_owners(
+        &mut self,
+        now: Time,
+        pid: usize,
+        inode: u32,
+        owners: (Option<u32>, Option<u32>),
+    ) -> Result<(), Stop>
+        requires { 1 ≤ self.old.server.room }
+        ensures did { Did M.Serves (set_owners now pid inode owners) self.old self.new result }
+        ensures room { self.old.server.room ≤ self.new.server.room + 1 }
+    {
+        if !sets_owners(owners) {
+            return Ok(());
+        }
+        let (owner, group) = owners;
+        let path = self.blank_path();
+        let call = Call::Chown { path, owner, group };
+        self.on_once(pid, inode, call)?.discard();
+        self.server.change(now, inode);
+        Ok(())
+    }
+
+    fn set_mode(&mut self, now: Time, pid: usize, inode: u32, mode: Option<u32>) -> Result<(), Stop>
+        requires { 1 ≤ self.old.server.room }
+        ensures did { Did M.Serves (set_mode now pid inode mode) self.old self.new result }
+        ensures room { self.old.server.room ≤ self.new.server.room + 1 }
+    {
+        let Some(mode) = mode else {
+            return Ok(());
+        };
+        let call = Call::Chmod(self.blank_path(), (mode & 0o7777) as u16);
+        self.on_once(pid, inode, call)?.discard();
+        self.server.change(now, inode);
+        Ok(())
+    }
+
+    // Size, then owner and group, then mode.
+    fn change_attributes(
+        &mut self,
+        now: Time,
+        pid: usize,
+        inode: u32,
+        link: bool,
+        changes: &AttrChanges,
+    ) -> Result<(), Stop>
+        requires { 3 ≤ self.old.server.room }
+        ensures did { Did M.Serves (change_attributes now pid inode link changes.now) self.old self.new result }
+        ensures room { self.old.server.room ≤ self.new.server.room + 3 }
+    {
+        let owners = self.new_owners(changes, inode, link)?;
+        self.set_size(now, pid, inode, changes.handle, changes.size)?;
+        self.set_owners(now, pid, inode, owners)?;
+        self.set_mode(now, pid, inode, changes.mode)
+    }
+
+    // The owner may; and who may write may set both to the present time.
+    fn may_set_times(
+        &mut self,
+        pid: usize,
+        inode: u32,
+        link: bool,
+        is_owner: bool,
+        changes: &AttrChanges,
+    ) -> Result<(), Stop>
+        ensures did { Did M.Serves (may_set_times pid inode link is_owner changes.now) self.old self.new result }
+        ensures kept { self.new.server ≡ self.old.server }
+    {
+        if is_owner {
+            return Ok(());
+        }
+        if needs_owner(link, changes) {
+            return Err(Stop::EPERM);
+        }
+        let call = Call::Access(self.blank_path(), Perms::from_digit(2));
+        self.on_once(pid, inode, call)?.discard();
+        Ok(())
+    }
+
+    fn set_times(
+        &mut self,
+        asked: &Asked,
+        pid: usize,
+        inode: u32,
+        link: bool,
+        status: Status,
+        changes: &AttrChanges,
+    ) -> Result<(), Stop>
+        requires { 1 ≤ self.old.server.room }
+        ensures { Did M.Serves (set_times asked.entry.now pid inode link status changes.now) self.old self.new result }
+    {
+        if !sets_times(changes) {
+            return Ok(());
+        }
+        let Some(cred) = &asked.cred else {
+            return Err(Stop::EACCES);
+        };
+        let is_owner = counts_as_owner(cred, status.owner);
+        self.may_set_times(pid, inode, link, is_owner, changes)?;
+        note_times(&mut self.server, asked.now, inode, changes);
+        Ok(())
+    }
+
+    /// Changes attributes.
+    pub(crate) fn set_attributes(
+        &mut self,
+        asked: &Asked,
+        copy: Option<Cred>,
+        changes: &AttrChanges,
+    ) -> Result<ReplyBody, Stop>
+        requires copy { copy ≡ asked.now.cred }
+        requires room { 5 ≤ self.old.server.room }
+        ensures { Did M.Serves (set_attributes asked.entry.now changes.now) self.old self.new result }
+    {
+        let inode = self.the_number(asked.node)?;
+        let pid = self.caller(copy)?;
+        let link = is_known_link(self.server.kind_of(inode));
+        self.change_attributes(asked.now, pid, inode, link, changes)?;
+        self.tell_times(asked, pid, inode, link, changes)
+    }
+
+    // Times, and what is there then.
+    fn tell_times(
+        &mut self,
+        asked: &Asked,
+        pid: usize,
+        inode: u32,
+        link: bool,
+        changes: &AttrChanges,
+    ) -> Result<ReplyBody, Stop>
+        requires { 1 ≤ self.old.server.room }
+        ensures { Did M.Serves (tell_times asked.entry.now pid inode link changes.now) self.old self.new result }
+    {
+        let status = self.look(inode)?;
+        self.set_times(asked, pid, inode, link, status, changes)?;
+        Ok(ReplyBody::Shown(attributes(&self.server, status)))
+    }
+
+    /// The target of a link.
+    pub(crate) fn read_link(&mut self, asked: &Asked) -> Result<ReplyBody, Stop>
+        ensures { Did M.Serves (read_link asked.entry.now) self.old self.new result }
+    {
+        let inode = self.the_number(asked.node)?;
+        self.tell_target(inode)
+    }
+
+    fn tell_target(&mut self, inode: u32) -> Result<ReplyBody, Stop>
+        ensures { Did M.Serves (tell_target inode) self.old self.new result }
+    {
+        let call = Call::Readlink(self.blank_path());
+        let reply = self.by_looker(inode, call)?;
+        let Some(target) = target_of_reply(reply) else {
+            return Err(Stop::EIO);
+        };
+        Ok(ReplyBody::Bytes(Bytes::new(target.into_bytes())))
+    }
+
+    // A process of who asks may do so much.
+    fn access_as(&mut self, who: Option<Cred>, inode: u32, perms: Perms) -> Result<(), Stop>
+        requires { 1 ≤ self.old.server.room }
+        ensures did { Did M.Serves (access_as who inode perms) self.old self.new result }
+        ensures room { self.old.server.room ≤ self.new.server.room + 1 }
+    {
+        let pid = self.caller(who)?;
+        let call = Call::Access(self.blank_path(), perms);
+        self.on_once(pid, inode, call)?.discard();
+        Ok(())
+    }
+
+    /// The same, where it is asked.
+    pub(crate) fn access_if(
+        &mut self,
+        condition: bool,
+        who: Option<Cred>,
+        inode: u32,
+        perms: Perms,
+    ) -> Result<(), Stop>
+        requires { 1 ≤ self.old.server.room }
+        ensures did { Did M.Serves (when condition (access_as who inode perms)) self.old self.new result }
+        ensures room { self.old.server.room ≤ self.new.server.room + 1 }
+    {
+        if !condition {
+            return Ok(());
+        }
+        self.access_as(who, inode, perms)
+    }
+
+    /// Whether permissions are granted: on a link each.
+    pub(crate) fn ask_access(
+        &mut self,
+        asked: &Asked,
+        copy: Option<Cred>,
+        mask: u32,
+    ) -> Result<ReplyBody, Stop>
+        requires copy { copy ≡ asked.now.cred }
+        requires room { 1 ≤ self.old.server.room }
+        ensures { Did M.Serves (ask_access asked.entry.now mask) self.old self.new result }
+    {
+        let inode = self.the_number(asked.node)?;
+        let link = is_known_link(self.server.kind_of(inode));
+        let perms = Perms::from_digit((mask & 7) as u16);
+        self.access_if(!link, copy, inode, perms)?;
+        Ok(ReplyBody::Nothing)
+    }
+}

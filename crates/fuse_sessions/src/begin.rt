@@ -1,0 +1,128 @@
+//! The first request: what is agreed on with the kernel.
+ghost use Rattle.std.specs.Prelude.{◌≡◌, ◌≤◌, [], None};
+ghost use Rattle.fs_cred.specs.Credentials.{usual_credential};
+ghost use Rattle.fuse_plans.specs.Serving.{wanted_flags, pages, terms, agreed, or_looker, begin};
+ghost use Rattle.fuse_sessions.specs.Performing.{Did};
+
+use crate::caller::ask_spawn;
+use crate::session::Session;
+use bitflags::Flags as _;
+use fs_cred::Cred;
+use fuse_plans::{ReplyBody, Stop};
+use fuse_protocol::{InitFlags, Offer, Terms};
+use fuse_state::Settings;
+use fuse_steps::Machine;
+use fuse_steps::asker::unless_refused;
+use fuse_steps::replies::pid_of_reply;
+
+// The version that is spoken.
+const VERSION: u32 = 7;
+
+// So many requests may wait, and from so many on the kernel holds back.
+const MAX_BACKGROUND: u16 = 16;
+
+const CONGESTION_THRESHOLD: u16 = 12;
+
+// Of so many bytes each write may be that has a page.
+const PAGE: u32 = 4096;
+
+// What is wanted of what the kernel offers.
+fn wanted_flags(settings: Settings) -> u32
+    ensures { result ≡ wanted_flags settings }
+{
+    let always = InitFlags::ATOMIC_O_TRUNC.bits()
+        + InitFlags::DONT_MASK.bits()
+        + InitFlags::HANDLE_KILLPRIV.bits();
+    let large = if settings.max_write > PAGE {
+        InitFlags::BIG_WRITES.bits() + InitFlags::MAX_PAGES.bits()
+    } else {
+        0
+    };
+    let acls = if settings.posix_acl {
+        InitFlags::POSIX_ACL.bits()
+    } else {
+        0
+    };
+    always + large + acls
+}
+
+// How many pages a large write has.
+fn pages(settings: Settings) -> u16
+    ensures { result ≡ pages settings }
+{
+    if settings.max_write <= PAGE {
+        return 0;
+    }
+    let pages = (u64::from(settings.max_write) + 4095) / 4096;
+    pages.min(65_535) as u16
+}
+
+fn terms(max_readahead: u32, flags: u32, max_write: u32, max_pages: u16) -> ReplyBody
+    ensures { result ≡ terms max_readahead flags max_write max_pages }
+{
+    ReplyBody::Agreed(Terms {
+        max_readahead,
+        flags: InitFlags::from_bits_retain(flags),
+        max_background: MAX_BACKGROUND,
+        congestion_threshold: CONGESTION_THRESHOLD,
+        max_write,
+        max_pages,
+    })
+}
+
+// What is agreed on.
+fn agreed(offer: &Offer, settings: Settings) -> ReplyBody
+    ensures { result ≡ agreed offer.now settings }
+{
+    terms(
+        offer.max_readahead,
+        offer.flags.bits() & wanted_flags(settings),
+        settings.max_write,
+        pages(settings),
+    )
+}
+
+impl<M: Machine> Session<M> {
+    // The server's own process begins, unless it has.
+    fn or_looker(&mut self, own: Cred) -> Result<(), Stop>
+        requires { own ≡ usual_credential 0 0 [] }
+        ensures did { Did M.Serves (or_looker self.old.server.server.looker) self.old self.new result }
+        ensures room { self.old.server.room ≤ self.new.server.room }
+    {
+        match self.server.looker() {
+            Some(_pid) => Ok(()),
+            None => self.begin_looker(own),
+        }
+    }
+
+    // The server's own process begins.
+    fn begin_looker(&mut self, own: Cred) -> Result<(), Stop>
+        requires { own ≡ usual_credential 0 0 [] }
+        ensures did { Did M.Serves (or_looker None) self.old self.new result }
+        ensures room { self.old.server.room ≤ self.new.server.room }
+    {
+        let reply = unless_refused(ask_spawn(&mut self.machine, &own))?;
+        let pid = pid_of_reply(&reply);
+        reply.discard();
+        let Some(pid) = pid else {
+            return Err(Stop::EIO);
+        };
+        self.server.set_looker(pid);
+        Ok(())
+    }
+
+    /// The first request. The credential is that of the server's own process.
+    pub(crate) fn begin(&mut self, offer: &Offer, own: Cred) -> Result<ReplyBody, Stop>
+        requires { own ≡ usual_credential 0 0 [] }
+        ensures { Did M.Serves (begin offer.now) self.old self.new result }
+    {
+        if offer.major < VERSION {
+            return Err(Stop::EPROTO);
+        }
+        if offer.major > VERSION {
+            return Ok(terms(0, 0, 0, 0));
+        }
+        self.or_looker(own)?;
+        Ok(agreed(offer, self.server.settings()))
+    }
+}

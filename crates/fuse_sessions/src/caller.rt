@@ -1,0 +1,157 @@
+//! Processes of who asks.
+ghost use Rattle.std.specs.Prelude.{◌≡◌, ◌+◌, ◌≤◌, None, Ok};
+ghost use Rattle.fs_model.specs.Limits.{processes_limit};
+ghost use Rattle.fs_model.specs.declared.event.Event.TheVariants.{Spawn};
+ghost use Rattle.fuse_plans.specs.Callers.{settle, retire, spawn_again, begin_process, caller, or_spawned, or_unused, caller_with_room, the_looker};
+ghost use Rattle.fuse_sessions.specs.Performing.{Did};
+ghost use Rattle.fuse_steps.specs.Performing.{DidByMachine};
+ghost use Rattle.fuse_plans.specs.Works.{ask, is_refused_for};
+
+use crate::session::Session;
+use fs_cred::{Cred, Errno};
+use fs_model::{Event, Reply};
+use fuse_plans::Stop;
+use fuse_steps::Machine;
+use fuse_steps::asker::{ask, unless_refused};
+use fuse_steps::replies::pid_of_reply;
+
+// More processes than these there aren't.
+const MAX_PROCESSES: usize = 64;
+
+// Whether the machine refuses with this error.
+fn is_refused_for(errno: Errno, reply: &Reply) -> bool
+    ensures { result ≡ is_refused_for errno reply.now }
+{
+    match reply {
+        Reply::Refused(refusal) => Stop::Refuses(*refusal).is_for(errno),
+        _ => false,
+    }
+}
+
+// The reply to a new process of a credential.
+pub(crate) fn ask_spawn<M: Machine>(machine: &mut M, cred: &Cred) -> Reply
+    ensures { DidByMachine M.Serves (ask (Spawn cred.now)) machine.old machine.new (Ok result) }
+{
+    machine.spawn(cred)
+}
+
+impl<M: Machine> Session<M> {
+    // The process that a reply tells of.
+    fn settle(&mut self, cred: Cred, reply: Reply) -> Result<usize, Stop>
+        requires { 1 ≤ self.old.server.room }
+        ensures did { Did M.Serves (settle cred reply) self.old self.new result }
+        ensures room { self.old.server.room ≤ self.new.server.room + 1 }
+    {
+        if is_refused_for(Errno::EAGAIN, &reply) {
+            reply.discard();
+            return Err(Stop::ENFILE);
+        }
+        let done = unless_refused(reply)?;
+        let pid = pid_of_reply(&done);
+        done.discard();
+        let Some(pid) = pid else {
+            return Err(Stop::EIO);
+        };
+        self.server.add_process(pid, cred);
+        Ok(pid)
+    }
+
+    // Processes that hold no descriptor end.
+    fn retire(&mut self)
+        ensures did { Did M.Serves (retire processes_limit) self.old self.new (Ok tt) }
+        ensures room { self.old.server.room ≤ self.new.server.room }
+    {
+        for _round in 0..MAX_PROCESSES {
+            let Some(pid) = self.server.next_idle(0) else {
+                return;
+            };
+            let event = Event::Exit(pid);
+            let done = ask(&mut self.machine, &event);
+            event.discard();
+            done.discard();
+            self.server.remove_process(pid);
+        }
+    }
+
+    // A new process, once those without descriptors have ended.
+    fn spawn_again(&mut self, cred: Cred) -> Result<usize, Stop>
+        requires { 1 ≤ self.old.server.room }
+        ensures did { Did M.Serves (spawn_again cred) self.old self.new result }
+        ensures room { self.old.server.room ≤ self.new.server.room + 1 }
+    {
+        self.retire();
+        let reply = ask_spawn(&mut self.machine, &cred);
+        self.settle(cred, reply)
+    }
+
+    // A new process.
+    fn begin_process(&mut self, cred: Cred) -> Result<usize, Stop>
+        requires { 1 ≤ self.old.server.room }
+        ensures did { Did M.Serves (begin_process cred) self.old self.new result }
+        ensures room { self.old.server.room ≤ self.new.server.room + 1 }
+    {
+        let reply = ask_spawn(&mut self.machine, &cred);
+        if is_refused_for(Errno::EAGAIN, &reply) {
+            reply.discard();
+            self.spawn_again(cred)
+        } else {
+            self.settle(cred, reply)
+        }
+    }
+
+    // The process that was found, or a new one.
+    fn or_spawned(&mut self, cred: Cred, pid: Option<usize>) -> Result<usize, Stop>
+        requires { 1 ≤ self.old.server.room }
+        ensures did { Did M.Serves (or_spawned cred pid) self.old self.new result }
+        ensures room { self.old.server.room ≤ self.new.server.room + 1 }
+    {
+        match pid {
+            Some(pid) => Ok(pid),
+            None => self.begin_process(cred),
+        }
+    }
+
+    /// A process of who asks; the credential is a copy of theirs.
+    pub(crate) fn caller(&mut self, who: Option<Cred>) -> Result<usize, Stop>
+        requires { 1 ≤ self.old.server.room }
+        ensures did { Did M.Serves (caller who) self.old self.new result }
+        ensures room { self.old.server.room ≤ self.new.server.room + 1 }
+    {
+        let cred = who.ok_or(Stop::EACCES)?;
+        let pid = self.server.first_process(&cred);
+        self.or_spawned(cred, pid)
+    }
+
+    // A process that holds no descriptor, unless too many hold some.
+    fn unused(&mut self, cred: Cred) -> Result<usize, Stop>
+        requires { 1 ≤ self.old.server.room }
+        ensures did { Did M.Serves (or_unused cred None) self.old self.new result }
+        ensures room { self.old.server.room ≤ self.new.server.room + 1 }
+    {
+        if self.server.are_many(&cred) {
+            return Err(Stop::ENFILE);
+        }
+        let pid = self.server.idle_process(&cred);
+        self.or_spawned(cred, pid)
+    }
+
+    /// A process of who asks that can hold one more descriptor; the credential is a copy of theirs.
+    pub(crate) fn caller_with_room(&mut self, who: Option<Cred>) -> Result<usize, Stop>
+        requires { 1 ≤ self.old.server.room }
+        ensures did { Did M.Serves (caller_with_room who) self.old self.new result }
+        ensures room { self.old.server.room ≤ self.new.server.room + 1 }
+    {
+        let cred = who.ok_or(Stop::EACCES)?;
+        match self.server.partly_used(&cred) {
+            Some(pid) => Ok(pid),
+            None => self.unused(cred),
+        }
+    }
+
+    /// The server's own process.
+    pub(crate) fn the_looker(&self) -> Result<usize, Stop>
+        ensures { Did M.Serves the_looker self.now self.now result }
+    {
+        self.server.looker().ok_or(Stop::EIO)
+    }
+}

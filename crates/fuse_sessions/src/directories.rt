@@ -1,0 +1,145 @@
+//! Requests for directories. An open one holds no descriptor of the machine.
+ghost use Rattle.std.specs.Prelude.{◌≡◌, ◌≤◌, [], vec_capacity, true};
+ghost use Rattle.fuse_plans.specs.Callers.{has_place};
+ghost use Rattle.fuse_plans.specs.DirectoryPlans.{open_directory, tell_names, list_open, list_and_close, list_all, tell_now, read_directory, close_directory};
+ghost use Rattle.fuse_sessions.specs.Performing.{Did};
+ghost use Rattle.fuse_steps.specs.Performing.{DidByMachine};
+
+use crate::object::has_place;
+use crate::session::Session;
+use fs_cred::Cred;
+use fs_model::{Call, Listing};
+use fuse_plans::{Asked, ReplyBody, Stop};
+use fuse_protocol::Extent;
+use fuse_state::OpenDirectory;
+use fuse_steps::Machine;
+use fuse_steps::asker::{obtain_once, or_closed};
+use fuse_steps::flags::listing;
+use fuse_steps::listing::listing_bytes;
+use fuse_steps::replies::{fd_of_reply, names_of_reply};
+use posix_acl::Perms;
+
+// The names in what is open.
+fn tell_names<M: Machine>(machine: &mut M, pid: usize, fd: usize) -> Result<Listing, Stop>
+    ensures { DidByMachine M.Serves (tell_names pid fd) machine.old machine.new result }
+{
+    let reply = obtain_once(machine, pid, Call::Readdir(fd))?;
+    names_of_reply(reply).ok_or(Stop::EIO)
+}
+
+// The names in what was opened; where it tells none that is closed.
+fn list_open<M: Machine>(machine: &mut M, pid: usize, fd: usize) -> Result<Listing, Stop>
+    ensures { DidByMachine M.Serves (list_open pid fd) machine.old machine.new result }
+{
+    let seen = tell_names(machine, pid, fd);
+    or_closed(machine, pid, fd, seen)
+}
+
+// The same, and then it is closed.
+fn list_and_close<M: Machine>(machine: &mut M, pid: usize, fd: usize) -> Result<Listing, Stop>
+    ensures { DidByMachine M.Serves (list_and_close pid fd) machine.old machine.new result }
+{
+    let names = list_open(machine, pid, fd)?;
+    obtain_once(machine, pid, Call::Close(fd))?.discard();
+    Ok(names)
+}
+
+impl<M: Machine> Session<M> {
+    /// Opens a directory, for reading by who asks; of one that was removed nothing is asked.
+    pub(crate) fn open_directory(
+        &mut self,
+        asked: &Asked,
+        copy: Option<Cred>,
+    ) -> Result<ReplyBody, Stop>
+        requires copy { copy ≡ asked.now.cred }
+        requires room { 2 ≤ self.old.server.room }
+        ensures { Did M.Serves (open_directory asked.entry.now) self.old self.new result }
+    {
+        let inode = self.directory_number(asked.node)?;
+        if self.server.are_directories_full() {
+            return Err(Stop::ENFILE);
+        }
+        let is_placed = has_place(&self.server, inode);
+        self.access_if(is_placed, copy, inode, Perms::from_digit(4))?;
+        let handle = self.server.next_directory();
+        self.server.add_directory(inode);
+        Ok(ReplyBody::Opened(handle))
+    }
+
+    // The names in a directory, as the server's own process sees them.
+    fn list_all(&mut self, inode: u32) -> Result<Listing, Stop>
+        ensures did { Did M.Serves (list_all inode true) self.old self.new result }
+        ensures kept { self.new.server ≡ self.old.server }
+    {
+        let pid = self.the_looker()?;
+        let call = Call::Open(self.blank_path(), listing(), 0);
+        let opened = self.on_once(pid, inode, call)?;
+        let fd = fd_of_reply(&opened);
+        opened.discard();
+        let Some(fd) = fd else {
+            return Err(Stop::EIO);
+        };
+        list_and_close(&mut self.machine, pid, fd)
+    }
+
+    // A directory that was removed has no names.
+    fn list_placed(&mut self, inode: u32) -> Result<Listing, Stop>
+        ensures did { Did M.Serves (list_all inode (has_place self.old.server.server inode)) self.old self.new result }
+        ensures kept { self.new.server ≡ self.old.server }
+    {
+        if has_place(&self.server, inode) {
+            self.list_all(inode)
+        } else {
+            Ok(Listing::new(Vec::new(self.alloc)))
+        }
+    }
+
+    /// The entries of a directory, with room for so many bytes. At the beginning it is listed anew.
+    pub(crate) fn read_directory(
+        &mut self,
+        extent: Extent,
+        room: Vec<u8>,
+    ) -> Result<ReplyBody, Stop>
+        requires empty { room.items ≡ [] }
+        requires capacity { extent.size ≤ vec_capacity room }
+        requires room { 1 ≤ self.old.server.room }
+        ensures { Did M.Serves (read_directory extent) self.old self.new result }
+    {
+        let Some(open) = self.server.directory_of(extent.handle) else {
+            return Err(Stop::EBADF);
+        };
+        if extent.offset != 0 {
+            if let Some(names) = &open.listing {
+                let bytes = listing_bytes(extent, names, room);
+                return Ok(ReplyBody::Bytes(bytes));
+            }
+        }
+        let number = open.number;
+        self.tell_now(extent, number, room)
+    }
+
+    // The entries that are there now.
+    fn tell_now(&mut self, extent: Extent, number: u32, room: Vec<u8>) -> Result<ReplyBody, Stop>
+        requires empty { room.items ≡ [] }
+        requires capacity { extent.size ≤ vec_capacity room }
+        requires room { 1 ≤ self.old.server.room }
+        ensures { Did M.Serves (tell_now extent number) self.old self.new result }
+    {
+        let names = self.list_placed(number)?;
+        let bytes = listing_bytes(extent, &names, room);
+        let listed = OpenDirectory {
+            number,
+            listing: Some(names),
+        };
+        self.server.set_directory(extent.handle, listed);
+        Ok(ReplyBody::Bytes(bytes))
+    }
+
+    /// A directory is closed.
+    pub(crate) fn close_directory(&mut self, handle: u64) -> Result<ReplyBody, Stop>
+        ensures { Did M.Serves (close_directory handle) self.old self.new result }
+    {
+        self.server.remove_directory(handle);
+        Ok(ReplyBody::Nothing)
+    }
+}

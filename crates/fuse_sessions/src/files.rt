@@ -1,0 +1,271 @@
+//! Requests that open files.
+ghost use Rattle.std.specs.Prelude.{◌≡◌, ◌+◌, ◌≤◌, ◌&&◌, not, Err};
+ghost use Rattle.fuse_plans.specs.FilePlans.{reads_alone, ask_first, touched_if, open_object, open_granted, open_file, or_opened, open_or_make, show_open, look_open, created_body, tell_created, create_by, create_file};
+ghost use Rattle.fs_cred.specs.declared.errno.Errno.TheVariants.{EEXIST};
+ghost use Rattle.fuse_plans.specs.Flags.{is_trunc, is_excl};
+ghost use Rattle.fuse_plans.specs.Stops.{is_for};
+ghost use Rattle.fuse_sessions.specs.Performing.{Did};
+ghost use Rattle.fuse_steps.specs.Performing.{DidByMachine};
+
+use crate::names::set_umask;
+use crate::object::shown;
+use crate::session::Session;
+use fs_cred::{Cred, Errno};
+use fs_model::{Call, Path, Reply, Status};
+use fuse_plans::{Asked, Mode, ReplyBody, Stop};
+use fuse_protocol::{OpenFlags, Time};
+use fuse_state::{Place, Server, descriptor_of};
+use fuse_steps::Machine;
+use fuse_steps::asker::{inside, obtain_once, or_closed};
+use fuse_steps::flags::{creating, is_excl, is_exec, is_trunc, opening};
+use fuse_steps::name::{attributes, place, plain_name};
+use fuse_steps::replies::{fd_of_reply, handle_within};
+use posix_acl::Perms;
+
+// Whether a file that is opened for reading alone is to lose its bytes.
+fn cuts_first(flags: OpenFlags, mode: Mode) -> bool
+    ensures { result ≡ (is_trunc flags.0 && reads_alone mode) }
+{
+    match mode {
+        Mode::Reads => is_trunc(flags),
+        _ => false,
+    }
+}
+
+// The contents of an object have changed, if they have.
+fn touch_if(server: &mut Server, is_cut: bool, now: Time, inode: u32)
+    requires { 1 ≤ server.old.room }
+    ensures kept { server.new.server ≡ touched_if is_cut now inode server.old.server }
+    ensures room { server.old.room ≤ server.new.room + 1 }
+{
+    if is_cut {
+        server.touch(now, inode);
+    }
+}
+
+// What is told of a file that was opened by its making.
+fn created_body(server: &Server, handle: u64, status: Status) -> ReplyBody
+    ensures { result ≡ created_body handle status server.now.server }
+{
+    ReplyBody::Created(
+        server.node_of(status.inode),
+        attributes(server, status),
+        handle,
+    )
+}
+
+// Whether what has the name is opened where no file was made.
+fn may_be_found(stop: Stop, flags: OpenFlags) -> bool
+    ensures { result ≡ (is_for EEXIST stop && not (is_excl flags.0)) }
+{
+    stop.is_for(Errno::EEXIST) && !is_excl(flags)
+}
+
+// Where a file wasn't made, what has the name is opened. The name comes back.
+fn or_opened<M: Machine>(
+    machine: &mut M,
+    pid: usize,
+    directory: u32,
+    name: Path,
+    mode: Mode,
+    flags: OpenFlags,
+    stop: Stop,
+) -> (Result<(Reply, bool), Stop>, Path)
+    ensures did { DidByMachine M.Serves (or_opened pid directory name mode flags.0 (Err stop)) machine.old machine.new result.0 }
+    ensures name { result.1 ≡ name }
+{
+    if !may_be_found(stop, flags) {
+        return (Err(stop), name);
+    }
+    let call = Call::Open(name, opening(mode, is_trunc(flags)), 0);
+    let (opened, name) = inside(machine, pid, directory, call);
+    match opened {
+        Ok(reply) => (Ok((reply, false)), name),
+        Err(stop) => (Err(stop), name),
+    }
+}
+
+// Makes a file, or opens what has the name, and tells whether it is new. The name comes back.
+fn open_or_make<M: Machine>(
+    machine: &mut M,
+    pid: usize,
+    directory: u32,
+    name: Path,
+    mode: Mode,
+    flags: OpenFlags,
+    file_mode: u32,
+) -> (Result<(Reply, bool), Stop>, Path)
+    ensures did { DidByMachine M.Serves (open_or_make pid directory name mode flags.0 file_mode) machine.old machine.new result.0 }
+    ensures name { result.1 ≡ name }
+{
+    let call = Call::Open(name, creating(mode), (file_mode & 0o777) as u16);
+    let (first, name) = inside(machine, pid, directory, call);
+    match first {
+        Ok(reply) => (Ok((reply, true)), name),
+        Err(stop) => or_opened(machine, pid, directory, name, mode, flags, stop),
+    }
+}
+
+// What stat(2) shows of what is open.
+fn show_open<M: Machine>(machine: &mut M, pid: usize, fd: usize) -> Result<Status, Stop>
+    ensures { DidByMachine M.Serves (show_open pid fd) machine.old machine.new result }
+{
+    shown(obtain_once(machine, pid, Call::Fstat(fd)))
+}
+
+// What stat(2) shows of what was opened; where it shows nothing that is closed.
+fn look_open<M: Machine>(machine: &mut M, pid: usize, fd: usize) -> Result<Status, Stop>
+    ensures { DidByMachine M.Serves (look_open pid fd) machine.old machine.new result }
+{
+    let seen = show_open(machine, pid, fd);
+    or_closed(machine, pid, fd, seen)
+}
+
+impl<M: Machine> Session<M> {
+    // What open(2) doesn't ask is asked first.
+    fn ask_first(
+        &mut self,
+        pid: usize,
+        inode: u32,
+        flags: OpenFlags,
+        mode: Mode,
+    ) -> Result<(), Stop>
+        ensures did { Did M.Serves (ask_first pid inode flags.0 mode) self.old self.new result }
+        ensures kept { self.new.server ≡ self.old.server }
+    {
+        let run = Call::Access(self.blank_path(), Perms::from_digit(1));
+        self.on_if(is_exec(flags), pid, inode, run)?;
+        let cut = Call::Truncate(self.blank_path(), 0);
+        self.on_if(cuts_first(flags, mode), pid, inode, cut)
+    }
+
+    // Opens an object: its handle.
+    fn open_object(
+        &mut self,
+        now: Time,
+        pid: usize,
+        inode: u32,
+        flags: OpenFlags,
+        mode: Mode,
+    ) -> Result<u64, Stop>
+        requires { 2 ≤ self.old.server.room }
+        ensures { Did M.Serves (open_object now pid inode flags.0 mode) self.old self.new result }
+    {
+        let call = Call::Open(self.blank_path(), opening(mode, is_trunc(flags)), 0);
+        let reply = self.on_once(pid, inode, call)?;
+        let fd = fd_of_reply(&reply);
+        reply.discard();
+        let Some(handle) = handle_within(pid, fd) else {
+            return Err(Stop::EIO);
+        };
+        touch_if(&mut self.server, is_trunc(flags), now, inode);
+        self.server.add_handle(handle, inode);
+        Ok(handle)
+    }
+
+    /// Opens a file.
+    pub(crate) fn open_file(
+        &mut self,
+        asked: &Asked,
+        copy: Option<Cred>,
+        flags: OpenFlags,
+    ) -> Result<ReplyBody, Stop>
+        requires copy { copy ≡ asked.now.cred }
+        requires room { 3 ≤ self.old.server.room }
+        ensures { Did M.Serves (open_file asked.entry.now flags.0) self.old self.new result }
+    {
+        let inode = self.the_number(asked.node)?;
+        let Some(mode) = Mode::of_flags(flags) else {
+            return Err(Stop::EINVAL);
+        };
+        let pid = self.caller_with_room(copy)?;
+        self.open_granted(asked.now, pid, inode, flags, mode)
+    }
+
+    // Opens a file, once it is granted.
+    fn open_granted(
+        &mut self,
+        now: Time,
+        pid: usize,
+        inode: u32,
+        flags: OpenFlags,
+        mode: Mode,
+    ) -> Result<ReplyBody, Stop>
+        requires { 2 ≤ self.old.server.room }
+        ensures { Did M.Serves (open_granted now pid inode flags.0 mode) self.old self.new result }
+    {
+        self.ask_first(pid, inode, flags, mode)?;
+        let handle = self.open_object(now, pid, inode, flags, mode)?;
+        Ok(ReplyBody::Opened(handle))
+    }
+
+    // What was opened by a name is told, and whether it is new.
+    fn tell_created(
+        &mut self,
+        now: Time,
+        place: Place,
+        is_new: bool,
+        is_cut: bool,
+        handle: u64,
+        status: Status,
+    ) -> Result<ReplyBody, Stop>
+        requires { 5 ≤ self.old.server.room }
+        ensures { Did M.Serves (tell_created now place is_new is_cut handle status) self.old self.new result }
+    {
+        self.server
+            .note_opened(now, place, status.inode, status.kind, is_new, is_cut);
+        self.server.add_handle(handle, status.inode);
+        Ok(created_body(&self.server, handle, status))
+    }
+
+    /// Opens a file by a name, and makes it where there is none.
+    pub(crate) fn create_file(
+        &mut self,
+        asked: &Asked,
+        copy: Option<Cred>,
+        name: Path,
+        flags: OpenFlags,
+        file_mode: u32,
+        umask: u32,
+    ) -> Result<ReplyBody, Stop>
+        requires copy { copy ≡ asked.now.cred }
+        requires room { 6 ≤ self.old.server.room }
+        ensures { Did M.Serves (create_file asked.entry.now name flags.0 file_mode umask) self.old self.new result }
+    {
+        plain_name(&name)?;
+        let Some(mode) = Mode::of_flags(flags) else {
+            return Err(Stop::EINVAL);
+        };
+        let directory = self.directory_number(asked.node)?;
+        let pid = self.caller_with_room(copy)?;
+        set_umask(&mut self.machine, pid, umask)?.discard();
+        self.create_by(asked.now, pid, directory, name, mode, flags, file_mode)
+    }
+
+    // A process makes the file, or opens it.
+    fn create_by(
+        &mut self,
+        now: Time,
+        pid: usize,
+        directory: u32,
+        name: Path,
+        mode: Mode,
+        flags: OpenFlags,
+        file_mode: u32,
+    ) -> Result<ReplyBody, Stop>
+        requires { 5 ≤ self.old.server.room }
+        ensures { Did M.Serves (create_by now pid directory name mode flags.0 file_mode) self.old self.new result }
+    {
+        let machine = &mut self.machine;
+        let (opened, name) = open_or_make(machine, pid, directory, name, mode, flags, file_mode);
+        let (reply, is_new) = opened?;
+        let fd = fd_of_reply(&reply);
+        reply.discard();
+        let Some(handle) = handle_within(pid, fd) else {
+            return Err(Stop::EIO);
+        };
+        let status = look_open(machine, pid, descriptor_of(handle))?;
+        let place = place(directory, name);
+        self.tell_created(now, place, is_new, is_trunc(flags), handle, status)
+    }
+}

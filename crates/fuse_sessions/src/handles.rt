@@ -1,0 +1,232 @@
+//! What is done by the handle of an open file.
+ghost use Rattle.std.specs.Prelude.{◌≡◌, ℕ, ◌<◌, ◌≤◌, ◌^◌, [], length, vec_capacity, IfOk};
+ghost use Rattle.fuse_plans.specs.FilePlans.{seek, pieces_of, read_piece, read_pieces, read_file, length_written, total_written, write_piece, or_done, write_pieces, writes_of, write_by, call_open, seek_open, close_file, sync_file};
+ghost use Rattle.fuse_sessions.specs.Performing.{Did};
+ghost use Rattle.fuse_steps.specs.Performing.{DidByMachine};
+ghost use Rattle.fuse_plans.specs.Works.{of_result};
+
+use crate::session::Session;
+use fs_model::{Bytes, Call, Event, Reply, Whence};
+use fuse_plans::{ReplyBody, Stop};
+use fuse_protocol::{Extent, Time};
+use fuse_state::{descriptor_of, owner_of};
+use fuse_steps::Machine;
+use fuse_steps::asker::{obtain, obtain_call, obtain_once};
+use fuse_steps::replies::{count_of_reply, count_within, data_of_reply, within};
+use std::alloc::{AllocError, Global};
+
+// So many bytes are moved at once.
+const MOVE: usize = 4096;
+
+// Offsets have 63 bits.
+const OFFSETS: u64 = 9_223_372_036_854_775_808;
+
+// The next bytes that are moved are those behind this offset.
+fn seek<M: Machine>(machine: &mut M, pid: usize, fd: usize, offset: u64) -> Result<Reply, Stop>
+    ensures { DidByMachine M.Serves (seek pid fd offset) machine.old machine.new result }
+{
+    if offset >= OFFSETS {
+        return Err(Stop::EINVAL);
+    }
+    obtain_once(machine, pid, Call::Lseek(fd, Whence::Set, offset as i64))
+}
+
+// A piece of at most so many bytes.
+fn read_piece<M: Machine>(
+    machine: &mut M,
+    pid: usize,
+    fd: usize,
+    most: usize,
+) -> Result<Bytes, Stop>
+    ensures did { DidByMachine M.Serves (read_piece pid fd most) machine.old machine.new result }
+    ensures most { IfOk result (λ piece. length piece ≤ most) }
+{
+    let reply = obtain_once(machine, pid, Call::Read { fd, len: most })?;
+    match within(most, data_of_reply(reply)) {
+        Some(piece) => Ok(piece),
+        None => Err(Stop::EIO),
+    }
+}
+
+// Pieces until one is short, with room for them.
+fn read_pieces<M: Machine>(
+    machine: &mut M,
+    pid: usize,
+    fd: usize,
+    size: usize,
+    room: Vec<u8>,
+) -> Result<Bytes, Stop>
+    requires empty { room.items ≡ [] }
+    requires capacity { size ≤ vec_capacity room }
+    ensures { DidByMachine M.Serves (read_pieces (pieces_of size) pid fd size []) machine.old machine.new result }
+{
+    let mut bytes = room;
+    let mut left = size;
+    for _round in 0..size / MOVE + 1 {
+        if left == 0 {
+            return Ok(Bytes::new(bytes));
+        }
+        let most = left.min(MOVE);
+        let piece = read_piece(machine, pid, fd, most)?;
+        let piece = piece.bytes();
+        let Ok(()) = bytes.extend_from_slice(piece) else {
+            return Err(Stop::ENOMEM);
+        };
+        if piece.len() < most {
+            return Ok(Bytes::new(bytes));
+        }
+        left -= most;
+    }
+    Ok(Bytes::new(bytes))
+}
+
+// So many bytes a call writes.
+fn length_written(call: &Call) -> usize
+    ensures { result ≡ length_written call.now }
+{
+    match call {
+        Call::Write(_, bytes) => bytes.bytes().len(),
+        _ => 0,
+    }
+}
+
+// How many bytes were written of a piece.
+fn write_piece<M: Machine>(machine: &mut M, pid: usize, call: &Call) -> Result<usize, Stop>
+    ensures did { DidByMachine M.Serves (write_piece pid call.now) machine.old machine.new result }
+    ensures most { IfOk result (λ count. count ≤ length_written call.now) }
+{
+    let reply = obtain_call(machine, pid, call)?;
+    let count = count_of_reply(&reply);
+    reply.discard();
+    match count_within(length_written(call), count) {
+        Some(count) => Ok(count),
+        None => Err(Stop::EIO),
+    }
+}
+
+// What was written before a refusal counts.
+fn or_done(done: usize, wrote: Result<usize, Stop>) -> Result<usize, Stop>
+    ensures done { or_done done wrote ≡ of_result result }
+    ensures most { (most : ℕ) → IfOk wrote (λ count. count ≤ most) → IfOk result (λ count. count ≤ most) }
+{
+    match wrote {
+        Ok(count) => Ok(count),
+        Err(stop) => { if done == 0 { Err(stop) } else { Ok(0) } }
+    }
+}
+
+// Pieces until one is short or refused: how many bytes were written.
+fn write_pieces<M: Machine>(machine: &mut M, pid: usize, calls: &[Call]) -> Result<usize, Stop>
+    requires { total_written calls.now < 2 ^ 64 }
+    ensures { DidByMachine M.Serves (write_pieces pid 0 calls.now) machine.old machine.new result }
+{
+    let mut done = 0;
+    for call in calls {
+        let wrote = write_piece(machine, pid, call);
+        let count = or_done(done, wrote)?;
+        done += count;
+        if count < length_written(call) {
+            return Ok(done);
+        }
+    }
+    Ok(done)
+}
+
+/// The calls that write bytes by a handle, piece by piece.
+pub(crate) fn writes_of(alloc: Global, fd: usize, bytes: &[u8]) -> Result<Vec<Call>, AllocError>
+    ensures { IfOk result (λ calls. calls.items ≡ writes_of fd bytes.now) }
+{
+    let mut calls = Vec::new(alloc);
+    let mut rest = bytes;
+    for _round in 0..bytes.len() / MOVE + 1 {
+        let count = rest.len().min(MOVE);
+        if count == 0 {
+            return Ok(calls);
+        }
+        let (piece, behind) = rest.split_at(count);
+        calls.push(Call::Write(fd, Bytes::from_slice(alloc, piece)?))?;
+        rest = behind;
+    }
+    Ok(calls)
+}
+
+impl<M: Machine> Session<M> {
+    /// A call of the process that opened it.
+    pub(crate) fn call_open(&mut self, handle: u64, call: Call) -> Result<Reply, Stop>
+        ensures did { Did M.Serves (call_open handle call) self.old self.new result }
+        ensures kept { self.new.server ≡ self.old.server }
+    {
+        let _inode = self.the_open(handle)?;
+        obtain_once(&mut self.machine, owner_of(handle), call)
+    }
+
+    // The same by a handle: the inode that is open there.
+    fn seek_open(&mut self, handle: u64, offset: u64) -> Result<u32, Stop>
+        ensures did { Did M.Serves (seek_open handle offset) self.old self.new result }
+        ensures kept { self.new.server ≡ self.old.server }
+    {
+        let inode = self.the_open(handle)?;
+        seek(
+            &mut self.machine,
+            owner_of(handle),
+            descriptor_of(handle),
+            offset,
+        )?
+        .discard();
+        Ok(inode)
+    }
+
+    /// Reads what is open, with room for so many bytes.
+    pub(crate) fn read_file(&mut self, extent: Extent, room: Vec<u8>) -> Result<ReplyBody, Stop>
+        requires empty { room.items ≡ [] }
+        requires capacity { extent.size ≤ vec_capacity room }
+        ensures { Did M.Serves (read_file extent) self.old self.new result }
+    {
+        let _inode = self.seek_open(extent.handle, extent.offset)?;
+        let pid = owner_of(extent.handle);
+        let fd = descriptor_of(extent.handle);
+        let bytes = read_pieces(&mut self.machine, pid, fd, extent.size as usize, room)?;
+        Ok(ReplyBody::Bytes(bytes))
+    }
+
+    /// Writes into what is open, by calls for each piece.
+    pub(crate) fn write_file(
+        &mut self,
+        now: Time,
+        handle: u64,
+        offset: u64,
+        calls: &[Call],
+    ) -> Result<ReplyBody, Stop>
+        requires room { 1 ≤ self.old.server.room }
+        requires total { total_written calls.now < 2 ^ 64 }
+        ensures { Did M.Serves (write_by now handle offset calls.now) self.old self.new result }
+    {
+        let inode = self.seek_open(handle, offset)?;
+        let count = write_pieces(&mut self.machine, owner_of(handle), calls)?;
+        self.server.touch(now, inode);
+        Ok(ReplyBody::Wrote(count))
+    }
+
+    /// A handle is closed.
+    pub(crate) fn close_file(&mut self, handle: u64) -> Result<ReplyBody, Stop>
+        ensures { Did M.Serves (close_file handle) self.old self.new result }
+    {
+        let call = Call::Close(descriptor_of(handle));
+        self.call_open(handle, call)?.discard();
+        self.server.remove_handle(handle);
+        Ok(ReplyBody::Nothing)
+    }
+
+    /// What was written by a handle is to last.
+    pub(crate) fn sync_file(&mut self, handle: u64) -> Result<ReplyBody, Stop>
+        ensures { Did M.Serves (sync_file handle) self.old self.new result }
+    {
+        let _inode = self.the_open(handle)?;
+        let event = Event::Fsync {
+            pid: owner_of(handle),
+            fd: descriptor_of(handle),
+        };
+        obtain(&mut self.machine, event)?.discard();
+        Ok(ReplyBody::Nothing)
+    }
+}

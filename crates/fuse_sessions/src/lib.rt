@@ -1,0 +1,20 @@
+//! A server of a kernel's requests at work: a [`Session`] performs the plan of each request of FUSE on whatever answers events.
+#![tactic(auto)]
+
+mod attributes;
+mod begin;
+mod caller;
+mod directories;
+mod dispatch;
+mod family;
+mod files;
+mod handles;
+mod moves;
+mod names;
+mod number;
+mod object;
+mod session;
+mod whole;
+mod xattrs;
+
+pub use session::Session;

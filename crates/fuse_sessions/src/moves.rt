@@ -1,0 +1,259 @@
+//! Requests for names that go, and for further names.
+ghost use Rattle.std.specs.Prelude.{◌≡◌, ◌≤◌};
+ghost use Rattle.fuse_plans.specs.Callers.{done_between};
+ghost use Rattle.fuse_plans.specs.NamePlans.{remove, removal, nothing_to_replace, may_move, rename, move_to, move_name, link_by_place, tell_linked, link_as, add_link};
+ghost use Rattle.fuse_sessions.specs.Performing.{Did};
+ghost use Rattle.fuse_steps.specs.Performing.{DidByMachine};
+ghost use Rattle.fs_model.specs.declared.call.Call.TheVariants.{Link as LinkCall};
+
+use crate::session::Session;
+use fs_cred::Cred;
+use fs_model::{Call, Name, Path};
+use fuse_plans::{Asked, ReplyBody, Stop};
+use fuse_protocol::Time;
+use fuse_state::{Found, Lent, Place};
+use fuse_steps::Machine;
+use fuse_steps::asker::{done, done_between, inside};
+use fuse_steps::name::{found_body, none_there, only_no_replace, place, plain_name};
+use fuse_steps::path::names_in;
+
+// Removes a name: of a directory, or of something else.
+fn removal(of_directory: bool, name: Path) -> Call
+    ensures { result ≡ removal of_directory name }
+{
+    if of_directory {
+        Call::Rmdir(name)
+    } else {
+        Call::Unlink(name)
+    }
+}
+
+// The same on a machine. The name comes back.
+fn remove_inside<M: Machine>(
+    machine: &mut M,
+    pid: usize,
+    directory: u32,
+    of_directory: bool,
+    name: Path,
+) -> (Result<(), Stop>, Path)
+    ensures did { let call = removal of_directory name in
+        DidByMachine M.Serves (done_between pid directory directory call) machine.old machine.new result.0 }
+    ensures name { result.1 ≡ name }
+{
+    let call = removal(of_directory, name);
+    let (tried, name) = inside(machine, pid, directory, call);
+    (done(tried), name)
+}
+
+// Where nothing is to be replaced, the name leads nowhere. It comes back.
+fn nothing_to_replace<M: Machine>(
+    machine: &mut M,
+    flags: u32,
+    pid: usize,
+    directory: u32,
+    name: Path,
+) -> (Result<(), Stop>, Path)
+    ensures did { DidByMachine M.Serves (nothing_to_replace flags pid directory name) machine.old machine.new result.0 }
+    ensures name { result.1 ≡ name }
+{
+    if flags == 0 {
+        return (Ok(()), name);
+    }
+    let (there, name) = inside(machine, pid, directory, Call::Lstat(name));
+    (none_there(there), name)
+}
+
+// What was found at a place that was lent gets one more name. Both come back.
+fn link_at<M: Machine>(
+    machine: &mut M,
+    pid: usize,
+    lent: Lent,
+    directory: u32,
+    name: Path,
+) -> (Result<(), Stop>, Lent, Path)
+    ensures did { let old = lent.found.place in
+        DidByMachine M.Serves (done_between pid old.directory directory (LinkCall old.name name)) machine.old machine.new result.0 }
+    ensures lent { result.1 ≡ lent }
+    ensures name { result.2 ≡ name }
+{
+    let Lent { at, found } = lent;
+    let Found { place, inode } = found;
+    let Place {
+        directory: old_directory,
+        name: old_name,
+    } = place;
+    let call = Call::Link {
+        old: Path::new(old_name.into_bytes()),
+        new: name,
+    };
+    let tried = done_between(machine, pid, old_directory, directory, &call);
+    let Some((old, new)) = names_in(call) else {
+        unreachable!()
+    };
+    let place = Place {
+        directory: old_directory,
+        name: Name::new(old.into_bytes()),
+    };
+    let found = Found { place, inode };
+    (tried, Lent { at, found }, new)
+}
+
+impl<M: Machine> Session<M> {
+    /// Removes a name: of a directory, or of something else.
+    pub(crate) fn remove(
+        &mut self,
+        asked: &Asked,
+        copy: Option<Cred>,
+        name: Path,
+        of_directory: bool,
+    ) -> Result<ReplyBody, Stop>
+        requires copy { copy ≡ asked.now.cred }
+        requires room { 3 ≤ self.old.server.room }
+        ensures { Did M.Serves (remove asked.entry.now (removal of_directory) name) self.old self.new result }
+    {
+        let (directory, pid) = self.directory_and_caller(asked, copy, &name)?;
+        let (tried, name) = remove_inside(&mut self.machine, pid, directory, of_directory, name);
+        tried?;
+        self.server.note_removed(asked.now, &place(directory, name));
+        Ok(ReplyBody::Nothing)
+    }
+
+    // The names may be asked for, and the flags.
+    fn may_move(&self, name: &Path, new_name: &Path, flags: u32) -> Result<(), Stop>
+        ensures { Did M.Serves (may_move name.now new_name.now flags) self.now self.now result }
+    {
+        only_no_replace(flags)?;
+        plain_name(name)?;
+        plain_name(new_name)
+    }
+
+    // What has the one place gets the other.
+    fn rename(&mut self, now: Time, pid: usize, old: Place, new: Place) -> Result<ReplyBody, Stop>
+        requires { 5 ≤ self.old.server.room }
+        ensures { Did M.Serves (rename now pid old new) self.old self.new result }
+    {
+        let Place { directory, name } = old;
+        let Place {
+            directory: new_directory,
+            name: new_name,
+        } = new;
+        let call = Call::Rename {
+            old: Path::new(name.into_bytes()),
+            new: Path::new(new_name.into_bytes()),
+        };
+        let tried = done_between(&mut self.machine, pid, directory, new_directory, &call);
+        let Some((name, new_name)) = names_in(call) else {
+            unreachable!()
+        };
+        tried?;
+        self.server.note_moved(now, &place(directory, name), place(new_directory, new_name));
+        Ok(ReplyBody::Nothing)
+    }
+
+    /// What has a name gets another.
+    pub(crate) fn move_name(
+        &mut self,
+        asked: &Asked,
+        copy: Option<Cred>,
+        name: Path,
+        new_node: u64,
+        new_name: Path,
+        flags: u32,
+    ) -> Result<ReplyBody, Stop>
+        requires copy { copy ≡ asked.now.cred }
+        requires room { 6 ≤ self.old.server.room }
+        ensures { Did M.Serves (move_name asked.entry.now name new_node new_name flags) self.old self.new result }
+    {
+        self.may_move(&name, &new_name, flags)?;
+        let directory = self.directory_number(asked.node)?;
+        let new = self.directory_number(new_node)?;
+        let pid = self.caller(copy)?;
+        self.move_to(asked.now, flags, pid, place(directory, name), new, new_name)
+    }
+
+    // The same, if it may replace what is there.
+    fn move_to(
+        &mut self,
+        now: Time,
+        flags: u32,
+        pid: usize,
+        old: Place,
+        new: u32,
+        new_name: Path,
+    ) -> Result<ReplyBody, Stop>
+        requires { 5 ≤ self.old.server.room }
+        ensures { Did M.Serves (move_to now flags pid old new new_name) self.old self.new result }
+    {
+        let (free, new_name) = nothing_to_replace(&mut self.machine, flags, pid, new, new_name);
+        free?;
+        self.rename(now, pid, old, place(new, new_name))
+    }
+
+    // An object gets one more name, by its latest. The new one comes back.
+    fn link_by_place(
+        &mut self,
+        pid: usize,
+        inode: u32,
+        directory: u32,
+        name: Path,
+    ) -> (Result<(), Stop>, Path)
+        ensures did { Did M.Serves (link_by_place pid inode directory name) self.old self.new result.0 }
+        ensures name { result.1 ≡ name }
+        ensures kept { self.new.server ≡ self.old.server }
+    {
+        let blank = Name::new(Vec::new(self.alloc));
+        let Some(lent) = self.server.lend_place(inode, blank) else {
+            return (Err(Stop::ENOENT), name);
+        };
+        let (tried, lent, name) = link_at(&mut self.machine, pid, lent, directory, name);
+        self.server.give_back(lent);
+        (tried, name)
+    }
+
+    // The object has the name too.
+    fn tell_linked(&mut self, now: Time, place: Place, inode: u32) -> Result<ReplyBody, Stop>
+        requires { 3 ≤ self.old.server.room }
+        ensures { Did M.Serves (tell_linked now place inode) self.old self.new result }
+    {
+        let kind = self.server.kind_of(inode);
+        self.server.note_linked(now, place, inode, kind);
+        let status = self.look(inode)?;
+        Ok(found_body(&self.server, status))
+    }
+
+    /// An object gets one more name.
+    pub(crate) fn add_link(
+        &mut self,
+        asked: &Asked,
+        copy: Option<Cred>,
+        old_node: u64,
+        name: Path,
+    ) -> Result<ReplyBody, Stop>
+        requires copy { copy ≡ asked.now.cred }
+        requires room { 4 ≤ self.old.server.room }
+        ensures { Did M.Serves (add_link asked.entry.now old_node name) self.old self.new result }
+    {
+        let directory = self.directory_for(asked.node, &name)?;
+        let inode = self.the_number(old_node)?;
+        self.link_as(asked, copy, inode, directory, name)
+    }
+
+    // Who asks gives an object one more name.
+    fn link_as(
+        &mut self,
+        asked: &Asked,
+        copy: Option<Cred>,
+        inode: u32,
+        directory: u32,
+        name: Path,
+    ) -> Result<ReplyBody, Stop>
+        requires copy { copy ≡ asked.now.cred }
+        requires room { 4 ≤ self.old.server.room }
+        ensures { Did M.Serves (link_as asked.entry.now inode directory name) self.old self.new result }
+    {
+        let pid = self.caller(copy)?;
+        let (tried, name) = self.link_by_place(pid, inode, directory, name);
+        tried?;
+        self.tell_linked(asked.now, place(directory, name), inode)
+    }
+}

@@ -1,0 +1,244 @@
+//! Requests for names that are found or made: each is asked of a directory, and performed by a process of who asks.
+ghost use Rattle.std.specs.Prelude.{◌≡◌, ◌+◌, ◌≤◌, ℕ, List, Some, IsSome};
+ghost use Rattle.fuse_plans.specs.NamePlans.{directory_for, find_name, made, make_by, directory_and_caller, make_link, set_umask, make_masked, make_directory, close, open_and_close, opens, done_closed, make_file, searched_directory, find_inside};
+ghost use Rattle.fuse_plans.specs.Paths.{name_in};
+ghost use Rattle.fuse_sessions.specs.Performing.{Did};
+ghost use Rattle.fuse_steps.specs.Performing.{DidByMachine};
+
+use crate::object::look_inside;
+use crate::session::Session;
+use fs_cred::Cred;
+use fs_model::{Call, Path, Reply};
+use fuse_plans::{Asked, ReplyBody, Stop};
+use fuse_protocol::Time;
+use fuse_steps::Machine;
+use fuse_steps::asker::{between, done, done_between, obtain_once};
+use fuse_steps::flags::making;
+use fuse_steps::name::{found_body, only_file, or_absent, place, plain_name};
+use fuse_steps::path::name_in;
+use fuse_steps::replies::fd_of_reply;
+
+/// New objects of the process are made with this mask from now on.
+pub(crate) fn set_umask<M: Machine>(machine: &mut M, pid: usize, umask: u32) -> Result<Reply, Stop>
+    ensures { DidByMachine M.Serves (set_umask pid umask) machine.old machine.new result }
+{
+    obtain_once(machine, pid, Call::Umask((umask & 0o777) as u16))
+}
+
+// Closes a descriptor.
+fn close<M: Machine>(machine: &mut M, pid: usize, fd: usize) -> Result<(), Stop>
+    ensures { DidByMachine M.Serves (close pid fd) machine.old machine.new result }
+{
+    done(obtain_once(machine, pid, Call::Close(fd)))
+}
+
+// What a call opens in a directory is closed.
+fn open_and_close<M: Machine>(
+    machine: &mut M,
+    pid: usize,
+    directory: u32,
+    call: &Call,
+) -> Result<(), Stop>
+    ensures { DidByMachine M.Serves (open_and_close pid directory call.now) machine.old machine.new result }
+{
+    let reply = between(machine, pid, directory, directory, call)?;
+    let fd = fd_of_reply(&reply);
+    reply.discard();
+    let Some(fd) = fd else {
+        return Err(Stop::EIO);
+    };
+    close(machine, pid, fd)
+}
+
+// Whether a call opens something.
+fn opens(call: &Call) -> bool
+    ensures { result ≡ opens call.now }
+{
+    matches!(call, Call::Open(..))
+}
+
+// A call in a directory, after which nothing is open.
+fn done_closed<M: Machine>(
+    machine: &mut M,
+    pid: usize,
+    directory: u32,
+    call: &Call,
+) -> Result<(), Stop>
+    ensures { DidByMachine M.Serves (done_closed pid directory call.now) machine.old machine.new result }
+{
+    if opens(call) {
+        open_and_close(machine, pid, directory, call)
+    } else {
+        done_between(machine, pid, directory, directory, call)
+    }
+}
+
+impl<M: Machine> Session<M> {
+    /// What has a name in a directory. The credential is a copy of that of who asks.
+    pub(crate) fn find_name(
+        &mut self,
+        asked: &Asked,
+        copy: Option<Cred>,
+        name: Path,
+    ) -> Result<ReplyBody, Stop>
+        requires copy { copy ≡ asked.now.cred }
+        requires room { 2 ≤ self.old.server.room }
+        ensures { Did M.Serves (find_name asked.entry.now name) self.old self.new result }
+    {
+        let directory = self.searched_directory(asked.node, &name)?;
+        let pid = self.caller(copy)?;
+        self.find_inside(pid, directory, name)
+    }
+
+    // The directory in which a name is looked for.
+    fn searched_directory(&self, node: u64, name: &Path) -> Result<u32, Stop>
+        ensures { Did M.Serves (searched_directory node name.now) self.now self.now result }
+    {
+        plain_name(name)?;
+        or_absent(self.directory_number(node))
+    }
+
+    // What a process finds under the name.
+    fn find_inside(&mut self, pid: usize, directory: u32, name: Path) -> Result<ReplyBody, Stop>
+        requires { 1 ≤ self.old.server.room }
+        ensures { Did M.Serves (find_inside pid directory name) self.old self.new result }
+    {
+        let (shown, name) = look_inside(&mut self.machine, pid, directory, name);
+        let status = shown?;
+        self.server
+            .add_name(place(directory, name), status.inode, status.kind);
+        Ok(found_body(&self.server, status))
+    }
+
+    /// The directory of a name that is asked for.
+    pub(crate) fn directory_for(&self, node: u64, name: &Path) -> Result<u32, Stop>
+        ensures { Did M.Serves (directory_for node name.now) self.now self.now result }
+    {
+        plain_name(name)?;
+        self.directory_number(node)
+    }
+
+    /// The directory of a name that is asked for, and a process of who asks. The credential is a copy of theirs.
+    pub(crate) fn directory_and_caller(
+        &mut self,
+        asked: &Asked,
+        copy: Option<Cred>,
+        name: &Path,
+    ) -> Result<(u32, usize), Stop>
+        requires copy { copy ≡ asked.now.cred }
+        requires room { 1 ≤ self.old.server.room }
+        ensures did { Did M.Serves (directory_and_caller asked.entry.now name.now) self.old self.new result }
+        ensures room { self.old.server.room ≤ self.new.server.room + 1 }
+    {
+        let directory = self.directory_for(asked.node, name)?;
+        let pid = self.caller(copy)?;
+        Ok((directory, pid))
+    }
+
+    // What has just been made, as the server's own process sees it.
+    fn made(&mut self, now: Time, directory: u32, name: Path) -> Result<ReplyBody, Stop>
+        requires { 4 ≤ self.old.server.room }
+        ensures { Did M.Serves (made now directory name) self.old self.new result }
+    {
+        let pid = self.the_looker()?;
+        let (shown, name) = look_inside(&mut self.machine, pid, directory, name);
+        let status = shown?;
+        self.server
+            .add_object(now, place(directory, name), status.inode, status.kind);
+        Ok(found_body(&self.server, status))
+    }
+
+    // A call makes what has the name in it.
+    fn make_by(
+        &mut self,
+        now: Time,
+        pid: usize,
+        directory: u32,
+        call: Call,
+    ) -> Result<ReplyBody, Stop>
+        requires name { IsSome (name_in call) }
+        requires room { 4 ≤ self.old.server.room }
+        ensures { (name : List ℕ) → name_in call ≡ Some name →
+            Did M.Serves (make_by now pid directory call name) self.old self.new result }
+    {
+        let tried = done_closed(&mut self.machine, pid, directory, &call);
+        let Some(name) = name_in(call) else {
+            unreachable!()
+        };
+        tried?;
+        self.made(now, directory, name)
+    }
+
+    // The same, once new objects of the process are made with a mask.
+    fn make_masked(
+        &mut self,
+        now: Time,
+        umask: u32,
+        pid: usize,
+        directory: u32,
+        call: Call,
+    ) -> Result<ReplyBody, Stop>
+        requires name { IsSome (name_in call) }
+        requires room { 4 ≤ self.old.server.room }
+        ensures { (name : List ℕ) → name_in call ≡ Some name →
+            Did M.Serves (make_masked now umask pid directory call name) self.old self.new result }
+    {
+        set_umask(&mut self.machine, pid, umask)?.discard();
+        self.make_by(now, pid, directory, call)
+    }
+
+    /// Makes a symbolic link.
+    pub(crate) fn make_link(
+        &mut self,
+        asked: &Asked,
+        copy: Option<Cred>,
+        name: Path,
+        target: Path,
+    ) -> Result<ReplyBody, Stop>
+        requires copy { copy ≡ asked.now.cred }
+        requires room { 5 ≤ self.old.server.room }
+        ensures { Did M.Serves (make_link asked.entry.now name target) self.old self.new result }
+    {
+        let (directory, pid) = self.directory_and_caller(asked, copy, &name)?;
+        let call = Call::Symlink { target, path: name };
+        self.make_by(asked.now, pid, directory, call)
+    }
+
+    /// Makes a directory.
+    pub(crate) fn make_directory(
+        &mut self,
+        asked: &Asked,
+        copy: Option<Cred>,
+        name: Path,
+        mode: u32,
+        umask: u32,
+    ) -> Result<ReplyBody, Stop>
+        requires copy { copy ≡ asked.now.cred }
+        requires room { 5 ≤ self.old.server.room }
+        ensures { Did M.Serves (make_directory asked.entry.now name mode umask) self.old self.new result }
+    {
+        let (directory, pid) = self.directory_and_caller(asked, copy, &name)?;
+        let call = Call::Mkdir(name, (mode & 0o7777) as u16);
+        self.make_masked(asked.now, umask, pid, directory, call)
+    }
+
+    /// Makes a file.
+    pub(crate) fn make_file(
+        &mut self,
+        asked: &Asked,
+        copy: Option<Cred>,
+        name: Path,
+        mode: u32,
+        umask: u32,
+    ) -> Result<ReplyBody, Stop>
+        requires copy { copy ≡ asked.now.cred }
+        requires room { 5 ≤ self.old.server.room }
+        ensures { Did M.Serves (make_file asked.entry.now name mode umask) self.old self.new result }
+    {
+        only_file(mode)?;
+        let directory = self.directory_for(asked.node, &name)?;
+        let pid = self.caller_with_room(copy)?;
+        let call = Call::Open(name, making(), (mode & 0o777) as u16);
+        self.make_masked(asked.now, umask, pid, directory, call)
+    }
+}

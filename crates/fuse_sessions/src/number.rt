@@ -1,0 +1,45 @@
+//! The inodes of nodes and of handles.
+ghost use Rattle.std.specs.Prelude.{◌≡◌};
+ghost use Rattle.fuse_plans.specs.Callers.{is_known_directory, the_number, directory_number};
+ghost use Rattle.fuse_plans.specs.FilePlans.{the_open};
+ghost use Rattle.fuse_sessions.specs.Performing.{Did};
+
+use crate::session::Session;
+use fs_model::FileType;
+use fuse_plans::Stop;
+use fuse_steps::Machine;
+
+/// Whether it is known to be a directory.
+pub(crate) fn is_known_directory(kind: Option<FileType>) -> bool
+    ensures { result ≡ is_known_directory kind }
+{
+    matches!(kind, Some(FileType::Directory))
+}
+
+impl<M: Machine> Session<M> {
+    /// The inode of a node.
+    pub(crate) fn the_number(&self, node: u64) -> Result<u32, Stop>
+        ensures { Did M.Serves (the_number node) self.now self.now result }
+    {
+        self.server.number_of(node).ok_or(Stop::ESTALE)
+    }
+
+    /// The inode of a node that is a directory.
+    pub(crate) fn directory_number(&self, node: u64) -> Result<u32, Stop>
+        ensures { Did M.Serves (directory_number node) self.now self.now result }
+    {
+        let inode = self.the_number(node)?;
+        if is_known_directory(self.server.kind_of(inode)) {
+            Ok(inode)
+        } else {
+            Err(Stop::ENOTDIR)
+        }
+    }
+
+    /// The inode that is open at a handle.
+    pub(crate) fn the_open(&self, handle: u64) -> Result<u32, Stop>
+        ensures { Did M.Serves (the_open handle) self.now self.now result }
+    {
+        self.server.object_of(handle).ok_or(Stop::EBADF)
+    }
+}

@@ -1,0 +1,208 @@
+//! Calls on objects, by the names under which they were found.
+ghost use Rattle.std.specs.Prelude.{◌≡◌, Err, IsTrue, MatchResult};
+ghost use Rattle.fuse_state.specs.Servers.{kind_of};
+ghost use Rattle.fuse_plans.specs.Callers.{inside, or_inside, on, by_looker, has_place, by_handle, look_at, look, look_inside};
+ghost use Rattle.fuse_plans.specs.FilePlans.{when, done};
+ghost use Rattle.fuse_plans.specs.Paths.{at_path, takes_path};
+ghost use Rattle.fuse_sessions.specs.Performing.{Did};
+ghost use Rattle.fuse_steps.specs.Performing.{DidByMachine};
+ghost use Rattle.fuse_plans.specs.Works.{of_result, replied_status};
+
+use crate::number::is_known_directory;
+use crate::session::Session;
+use fs_cred::Errno;
+use fs_layout::ROOT;
+use fs_model::{Call, Name, Path, Reply, Status};
+use fuse_plans::Stop;
+use fuse_state::{Found, Lent, Place, Server, descriptor_of, owner_of};
+use fuse_steps::Machine;
+use fuse_steps::asker::{between, done, inside, obtain_once};
+use fuse_steps::path::swap_path;
+use fuse_steps::replies::status_of_reply;
+
+// A call on a name that was lent, and comes back.
+fn call_at<M: Machine>(
+    machine: &mut M,
+    pid: usize,
+    lent: Lent,
+    call: &mut Call,
+) -> (Result<Reply, Stop>, Lent)
+    requires { IsTrue (takes_path call.old) }
+    ensures did { let place = lent.found.place in
+        DidByMachine M.Serves (inside pid place.directory (at_path call.old place.name)) machine.old machine.new result.0 }
+    ensures lent { result.1 ≡ lent }
+    ensures call { call.new ≡ call.old }
+{
+    let Lent { at, found } = lent;
+    let Found { place, inode } = found;
+    let Place { directory, name } = place;
+    let mut path = Path::new(name.into_bytes());
+    swap_path(call, &mut path);
+    let reply = between(machine, pid, directory, directory, call);
+    swap_path(call, &mut path);
+    let place = Place {
+        directory,
+        name: Name::new(path.into_bytes()),
+    };
+    let found = Found { place, inode };
+    (reply, Lent { at, found })
+}
+
+/// What stat(2) shows, in a reply that may be a refusal.
+pub(crate) fn shown(reply: Result<Reply, Stop>) -> Result<Status, Stop>
+    ensures { MatchResult reply (λ shown. replied_status shown ≡ of_result result) (λ stop. result ≡ Err stop) }
+{
+    let reply = reply?;
+    let status = status_of_reply(&reply);
+    reply.discard();
+    match status {
+        Some(status) => Ok(status),
+        None => Err(Stop::EIO),
+    }
+}
+
+/// What stat(2) shows of a name in a directory. The name comes back.
+pub(crate) fn look_inside<M: Machine>(
+    machine: &mut M,
+    pid: usize,
+    directory: u32,
+    name: Path,
+) -> (Result<Status, Stop>, Path)
+    ensures did { DidByMachine M.Serves (look_inside pid directory name) machine.old machine.new result.0 }
+    ensures name { result.1 ≡ name }
+{
+    let (reply, name) = inside(machine, pid, directory, Call::Lstat(name));
+    (shown(reply), name)
+}
+
+/// Whether it has a name that is known, or needs none.
+pub(crate) fn has_place(server: &Server, inode: u32) -> bool
+    ensures { result ≡ has_place server.now.server inode }
+{
+    inode == ROOT || server.place_of(inode).is_some()
+}
+
+impl<M: Machine> Session<M> {
+    /// A path for a call on an object: none is looked at.
+    pub(crate) fn blank_path(&self) -> Path {
+        Path::new(Vec::new(self.alloc))
+    }
+
+    /// A call on an object, if it is to be made. Only its stop counts.
+    pub(crate) fn on_if(
+        &mut self,
+        condition: bool,
+        pid: usize,
+        inode: u32,
+        call: Call,
+    ) -> Result<(), Stop>
+        requires { IsTrue (takes_path call) }
+        ensures did { Did M.Serves (when condition (done (on pid inode (at_path call)))) self.old self.new result }
+        ensures kept { self.new.server ≡ self.old.server }
+    {
+        if !condition {
+            call.discard();
+            return Ok(());
+        }
+        done(self.on_once(pid, inode, call))
+    }
+
+    /// A call on an object, by its latest place; the root needs none. The path of the call isn't looked at, and stays.
+    pub(crate) fn on(&mut self, pid: usize, inode: u32, call: &mut Call) -> Result<Reply, Stop>
+        requires { IsTrue (takes_path call.old) }
+        ensures did { Did M.Serves (on pid inode (at_path call.old)) self.old self.new result }
+        ensures kept { self.new.server ≡ self.old.server }
+        ensures call { call.new ≡ call.old }
+    {
+        if inode == ROOT {
+            return self.machine.obtain_at_root(pid, call);
+        }
+        let blank = Name::new(Vec::new(self.alloc));
+        let Some(lent) = self.server.lend_place(inode, blank) else {
+            return Err(Stop::ESTALE);
+        };
+        let (tried, lent) = call_at(&mut self.machine, pid, lent, call);
+        self.server.give_back(lent);
+        match tried {
+            Ok(reply) => Ok(reply),
+            Err(stop) => self.or_inside(pid, inode, call, stop),
+        }
+    }
+
+    /// The same of a call that is made once.
+    pub(crate) fn on_once(&mut self, pid: usize, inode: u32, call: Call) -> Result<Reply, Stop>
+        requires { IsTrue (takes_path call) }
+        ensures did { Did M.Serves (on pid inode (at_path call)) self.old self.new result }
+        ensures kept { self.new.server ≡ self.old.server }
+    {
+        let mut call = call;
+        let reply = self.on(pid, inode, &mut call);
+        call.discard();
+        reply
+    }
+
+    /// The same by the server's own process.
+    pub(crate) fn by_looker(&mut self, inode: u32, call: Call) -> Result<Reply, Stop>
+        requires { IsTrue (takes_path call) }
+        ensures did { Did M.Serves (by_looker inode (at_path call)) self.old self.new result }
+        ensures kept { self.new.server ≡ self.old.server }
+    {
+        let pid = self.the_looker()?;
+        self.on_once(pid, inode, call)
+    }
+
+    // In a directory that the caller may not search it may stand all the same.
+    fn or_inside(
+        &mut self,
+        pid: usize,
+        inode: u32,
+        call: &mut Call,
+        stop: Stop,
+    ) -> Result<Reply, Stop>
+        requires { IsTrue (takes_path call.old) }
+        ensures did { let kind = kind_of self.old.server.server inode in
+            Did M.Serves (or_inside pid inode (at_path call.old) kind (Err stop)) self.old self.new result }
+        ensures kept { self.new.server ≡ self.old.server }
+        ensures call { call.new ≡ call.old }
+    {
+        if !stop.is_for(Errno::EACCES) {
+            return Err(stop);
+        }
+        if !is_known_directory(self.server.kind_of(inode)) {
+            return Err(stop);
+        }
+        self.machine.obtain_inside(pid, inode, call)
+    }
+
+    /// What stat(2) shows of an object. No permission is asked: the kernel holds it.
+    pub(crate) fn look(&mut self, inode: u32) -> Result<Status, Stop>
+        ensures did { Did M.Serves (look inode) self.old self.new result }
+        ensures kept { self.new.server ≡ self.old.server }
+    {
+        let reply = self.look_at(inode);
+        shown(reply)
+    }
+
+    // By the server's own process where the object has a place, else by a handle.
+    fn look_at(&mut self, inode: u32) -> Result<Reply, Stop>
+        ensures did { Did M.Serves (look_at inode (has_place self.old.server.server inode)) self.old self.new result }
+        ensures kept { self.new.server ≡ self.old.server }
+    {
+        if has_place(&self.server, inode) {
+            self.by_looker(inode, Call::Lstat(self.blank_path()))
+        } else {
+            self.by_handle(inode)
+        }
+    }
+
+    fn by_handle(&mut self, inode: u32) -> Result<Reply, Stop>
+        ensures did { Did M.Serves (by_handle inode) self.old self.new result }
+        ensures kept { self.new.server ≡ self.old.server }
+    {
+        let Some(handle) = self.server.handle_for(inode) else {
+            return Err(Stop::ESTALE);
+        };
+        let call = Call::Fstat(descriptor_of(handle));
+        obtain_once(&mut self.machine, owner_of(handle), call)
+    }
+}

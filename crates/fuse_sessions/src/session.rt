@@ -1,0 +1,46 @@
+//! A server at work on a file system.
+ghost use Rattle.std.specs.Prelude.{◌≡◌, IfOk, MatchResult};
+ghost use Rattle.fuse_state.specs.Servers.{new_server};
+
+use fuse_state::{Server, Settings};
+use fuse_steps::Machine;
+use fuse_steps::paths::WithPaths;
+use std::alloc::Global;
+
+/// A file system, and what is kept of the requests for it.
+#[derive(Drop)]
+pub struct Session<M> {
+    pub(crate) alloc: Global,
+    pub(crate) machine: WithPaths<M>,
+    pub(crate) server: Server,
+}
+
+impl<M: Machine> Session<M> {
+    /// A session on a file system of which the server knows the root alone. Where memory is lacking the file system comes back.
+    pub fn new(alloc: Global, machine: M, settings: Settings) -> Result<Session<M>, M>
+        ensures machine { MatchResult result (λ session. session.machine ≡ machine) (λ back. back ≡ machine) }
+        ensures server { IfOk result (λ session. session.server.server ≡ new_server settings) }
+    {
+        let Ok(server) = Server::new(alloc, settings) else {
+            return Err(machine);
+        };
+        let machine = WithPaths::new(alloc, machine)?;
+        Ok(Session {
+            alloc,
+            machine,
+            server,
+        })
+    }
+
+    /// The file system, once no more requests are served.
+    pub fn into_machine(self) -> M
+        ensures { result ≡ self.machine }
+    {
+        let Session {
+            alloc: _alloc,
+            machine,
+            server: _server,
+        } = self;
+        machine.into_machine()
+    }
+}

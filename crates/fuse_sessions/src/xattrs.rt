@@ -1,0 +1,312 @@
+//! Requests for the two ACLs of acl(5), which are attributes to the kernel.
+ghost use Rattle.std.specs.Prelude.{◌≡◌, ◌≤◌, not, ◌&&◌, true, false};
+ghost use Rattle.posix_acl.specs.AccessList.{minimal};
+ghost use Rattle.fuse_plans.specs.AclPlans.{the_acl, acl_names, attribute_names, list_xattrs, has_acls, an_object, told_acl, acl_of, acl_size, sized, tell_acl, get_xattr, is_of_default, is_plain, acl_set, set_by, set_acl, set_xattr, remove_xattr};
+ghost use Rattle.fuse_plans.specs.Callers.{is_known_directory};
+ghost use Rattle.fuse_sessions.specs.Performing.{Did};
+ghost use Rattle.fuse_plans.specs.Works.{of_result};
+
+use crate::attributes::is_known_link;
+use crate::number::is_known_directory;
+use crate::object::has_place;
+use crate::session::Session;
+use fs_cred::Cred;
+use fs_model::{AclType, Bytes, Call, FileType};
+use fuse_plans::{Asked, ReplyBody, Stop};
+use fuse_protocol::Time;
+use fuse_state::Server;
+use fuse_steps::Machine;
+use fuse_steps::replies::acl_of_reply;
+use posix_acl::Acl;
+use std::alloc::{AllocError, Global};
+
+// The ACL that an attribute is.
+fn the_acl(name: &[u8]) -> Result<AclType, Stop>
+    ensures { the_acl name.now ≡ of_result result }
+{
+    if name == b"system.posix_acl_access".as_slice() {
+        Ok(AclType::Access)
+    } else if name == b"system.posix_acl_default".as_slice() {
+        Ok(AclType::Default)
+    } else {
+        Err(Stop::EOPNOTSUPP)
+    }
+}
+
+// Whether an object is no link, and has a name.
+fn has_acls(server: &Server, inode: u32) -> bool
+    ensures { result ≡ has_acls server.now.server inode }
+{
+    !is_known_link(server.kind_of(inode)) && has_place(server, inode)
+}
+
+// An access ACL with three entries says no more than the mode.
+fn told_acl(which: AclType, acl: Option<Acl>) -> Option<Acl>
+    ensures { result ≡ told_acl which acl }
+{
+    match which {
+        AclType::Access => acl.filter(|acl| acl.is_extended()),
+        AclType::Default => acl,
+    }
+}
+
+// For a size of 0 how many bytes there are.
+fn sized(size: u32, has: usize, body: ReplyBody) -> Result<ReplyBody, Stop>
+    ensures { sized size has body ≡ of_result result }
+{
+    if size == 0 {
+        Ok(ReplyBody::Size(has))
+    } else if (size as usize) < has {
+        Err(Stop::ERANGE)
+    } else {
+        Ok(body)
+    }
+}
+
+// Whether an access ACL is set that says no more than the mode.
+fn is_plain(which: AclType, wanted: &Option<Acl>) -> bool
+    ensures { result ≡ is_plain which wanted.now }
+{
+    match which {
+        AclType::Access => wanted.is_none(),
+        AclType::Default => false,
+    }
+}
+
+// Whether a default ACL is to be set on what is no directory.
+fn is_misplaced(which: AclType, kind: Option<FileType>) -> bool
+    ensures { result ≡ (is_of_default which && not (is_known_directory kind)) }
+{
+    match which {
+        AclType::Access => false,
+        AclType::Default => !is_known_directory(kind),
+    }
+}
+
+// How many bytes the value of an attribute has.
+fn acl_size(acl: &Acl) -> usize
+    ensures { result ≡ acl_size acl.now }
+{
+    4 + 8 * acl.entries().len()
+}
+
+// The name of the first ACL has so many bytes, and NUL.
+const FIRST_NAME: usize = 24;
+
+/// The names of both ACLs, and that of the second, each with NUL.
+#[derive(Drop)]
+pub(crate) struct AclNames {
+    both: Vec<u8>,
+    second: Vec<u8>,
+    ghost of_both: { both.items ≡ acl_names true true },
+    ghost of_second: { second.items ≡ acl_names false true },
+}
+
+impl AclNames {
+    /// Asks for memory for the names.
+    pub(crate) fn new(alloc: Global) -> Result<AclNames, AllocError> {
+        Ok(AclNames {
+            both: Vec::from_slice(
+                alloc,
+                b"system.posix_acl_access\0system.posix_acl_default\0",
+            )?,
+            second: Vec::from_slice(alloc, b"system.posix_acl_default\0")?,
+        })
+    }
+
+    // The names of those that are there.
+    fn told(self, access: bool, default: bool) -> Bytes
+        ensures { result ≡ acl_names access default }
+    {
+        let AclNames { both, second } = self;
+        if default {
+            return Bytes::new(if access { both } else { second });
+        }
+        let mut names = both;
+        names.truncate(if access { FIRST_NAME } else { 0 });
+        Bytes::new(names)
+    }
+}
+
+impl<M: Machine> Session<M> {
+    // An object that may have ACLs.
+    fn an_object(&self, asked: &Asked) -> Result<u32, Stop>
+        ensures { Did M.Serves (an_object asked.entry.now) self.now self.now result }
+    {
+        let inode = self.the_number(asked.node)?;
+        if has_acls(&self.server, inode) {
+            Ok(inode)
+        } else {
+            Err(Stop::EOPNOTSUPP)
+        }
+    }
+
+    fn acl_of(&mut self, inode: u32, which: AclType) -> Result<Option<Acl>, Stop>
+        ensures did { Did M.Serves (acl_of inode which) self.old self.new result }
+        ensures kept { self.new.server ≡ self.old.server }
+    {
+        let call = Call::GetAcl(self.blank_path(), which);
+        let reply = self.by_looker(inode, call)?;
+        match acl_of_reply(reply) {
+            Some(acl) => Ok(told_acl(which, acl)),
+            None => Err(Stop::EIO),
+        }
+    }
+
+    /// An ACL, or how many bytes it has.
+    pub(crate) fn get_xattr(
+        &mut self,
+        asked: &Asked,
+        name: &[u8],
+        size: u32,
+    ) -> Result<ReplyBody, Stop>
+        ensures { Did M.Serves (get_xattr asked.entry.now name.now size) self.old self.new result }
+    {
+        let which = the_acl(name)?;
+        let inode = self.an_object(asked)?;
+        self.tell_acl(inode, which, size)
+    }
+
+    // An ACL that is there, or how many bytes it has.
+    fn tell_acl(&mut self, inode: u32, which: AclType, size: u32) -> Result<ReplyBody, Stop>
+        ensures { Did M.Serves (tell_acl inode which size) self.old self.new result }
+    {
+        let found = self.acl_of(inode, which)?;
+        let Some(acl) = found else {
+            return Err(Stop::ENODATA);
+        };
+        let has = acl_size(&acl);
+        sized(size, has, ReplyBody::Acl(acl))
+    }
+
+    // The names of an object's ACLs.
+    fn attribute_names(&mut self, inode: u32, has: bool, names: AclNames) -> Result<Bytes, Stop>
+        ensures did { Did M.Serves (attribute_names inode has) self.old self.new result }
+        ensures kept { self.new.server ≡ self.old.server }
+    {
+        if !has {
+            let none = names.told(false, false);
+            return Ok(none);
+        }
+        let access = self.acl_of(inode, AclType::Access)?;
+        let default = self.acl_of(inode, AclType::Default)?;
+        let told = names.told(access.is_some(), default.is_some());
+        Ok(told)
+    }
+
+    /// The names of the ACLs that an object has, or how many bytes they have.
+    pub(crate) fn list_xattrs(
+        &mut self,
+        asked: &Asked,
+        size: u32,
+        names: AclNames,
+    ) -> Result<ReplyBody, Stop>
+        ensures { Did M.Serves (list_xattrs asked.entry.now size) self.old self.new result }
+    {
+        let inode = self.the_number(asked.node)?;
+        let has = has_acls(&self.server, inode);
+        let names = self.attribute_names(inode, has, names)?;
+        let count = names.bytes().len();
+        sized(size, count, ReplyBody::Bytes(names))
+    }
+
+    // No access ACL: the three entries of the present mode, for which there is memory.
+    fn acl_set(
+        &mut self,
+        inode: u32,
+        which: AclType,
+        wanted: Option<Acl>,
+        spare: Acl,
+    ) -> Result<Option<Acl>, Stop>
+        requires { spare ≡ minimal 0 }
+        ensures did { Did M.Serves (acl_set inode which wanted) self.old self.new result }
+        ensures kept { self.new.server ≡ self.old.server }
+    {
+        if !is_plain(which, &wanted) {
+            return Ok(wanted);
+        }
+        let status = self.look(inode)?;
+        Ok(Some(spare.with_mode_bits(status.mode)))
+    }
+
+    /// Sets an ACL, or removes it.
+    fn set_acl(
+        &mut self,
+        asked: &Asked,
+        copy: Option<Cred>,
+        which: AclType,
+        wanted: Option<Acl>,
+        spare: Acl,
+    ) -> Result<ReplyBody, Stop>
+        requires copy { copy ≡ asked.now.cred }
+        requires spare { spare ≡ minimal 0 }
+        requires room { 2 ≤ self.old.server.room }
+        ensures { Did M.Serves (set_acl asked.entry.now which wanted) self.old self.new result }
+    {
+        let inode = self.an_object(asked)?;
+        if is_misplaced(which, self.server.kind_of(inode)) {
+            return Err(Stop::EACCES);
+        }
+        let pid = self.caller(copy)?;
+        self.set_by(asked.now, pid, inode, which, wanted, spare)
+    }
+
+    // A process sets it.
+    fn set_by(
+        &mut self,
+        now: Time,
+        pid: usize,
+        inode: u32,
+        which: AclType,
+        wanted: Option<Acl>,
+        spare: Acl,
+    ) -> Result<ReplyBody, Stop>
+        requires spare { spare ≡ minimal 0 }
+        requires room { 1 ≤ self.old.server.room }
+        ensures { Did M.Serves (set_by now pid inode which wanted) self.old self.new result }
+    {
+        let acl = self.acl_set(inode, which, wanted, spare)?;
+        let call = Call::SetAcl(self.blank_path(), which, acl);
+        self.on_once(pid, inode, call)?.discard();
+        self.server.change(now, inode);
+        Ok(ReplyBody::Nothing)
+    }
+
+    /// Sets the ACL that an attribute's value says.
+    pub(crate) fn set_xattr(
+        &mut self,
+        asked: &Asked,
+        copy: Option<Cred>,
+        name: &[u8],
+        value: Option<Option<Acl>>,
+        spare: Acl,
+    ) -> Result<ReplyBody, Stop>
+        requires copy { copy ≡ asked.now.cred }
+        requires spare { spare ≡ minimal 0 }
+        requires room { 2 ≤ self.old.server.room }
+        ensures { Did M.Serves (set_xattr asked.entry.now name.now value) self.old self.new result }
+    {
+        let which = the_acl(name)?;
+        let Some(acl) = value else {
+            return Err(Stop::EINVAL);
+        };
+        self.set_acl(asked, copy, which, acl, spare)
+    }
+
+    /// Removes an ACL.
+    pub(crate) fn remove_xattr(
+        &mut self,
+        asked: &Asked,
+        copy: Option<Cred>,
+        name: &[u8],
+        spare: Acl,
+    ) -> Result<ReplyBody, Stop>
+        requires copy { copy ≡ asked.now.cred }
+        requires spare { spare ≡ minimal 0 }
+        requires room { 2 ≤ self.old.server.room }
+        ensures { Did M.Serves (remove_xattr asked.entry.now name.now) self.old self.new result }
+    {
+        let which = the_acl(name)?;
+        self.set_acl(asked, copy, which, None, spare)
+    }
+}

@@ -1,0 +1,175 @@
+//! What is asked of a machine, and what comes of a refusal.
+//!
+//! Events, calls and replies are let go by `discard`, here and elsewhere: where they go in place, each of their kinds is a case
+//! of that function's proof.
+ghost use Rattle.std.specs.Prelude.{◌≡◌, Some, Err, Ok, IfOk, IsSome, IsTrue, MatchResult};
+ghost use Rattle.fs_model.specs.Steps.{is_of_machine};
+ghost use Rattle.fs_model.specs.declared.event.Event.TheVariants.{Call as Calls, Enter};
+ghost use Rattle.fuse_plans.specs.Works.{give, ask, obtain, of_result, or_closed, refusal_in, unless_refused};
+ghost use Rattle.fuse_plans.specs.Callers.{between, inside, done_between};
+ghost use Rattle.fuse_plans.specs.Paths.{name_in};
+ghost use Rattle.fuse_steps.specs.Performing.{DidByMachine};
+
+use crate::machine::Machine;
+use crate::path::name_in;
+use fs_cred::Refusal;
+use fs_layout::ROOT;
+use fs_model::{Call, Event, Path, Reply};
+use fuse_plans::Stop;
+
+// The refusal that a reply is.
+fn refusal_in(reply: &Reply) -> Option<Refusal>
+    ensures { result ≡ refusal_in reply.now }
+{
+    match reply {
+        Reply::Refused(refusal) => Some(*refusal),
+        _ => None,
+    }
+}
+
+/// A refusal stops.
+pub fn unless_refused(reply: Reply) -> Result<Reply, Stop>
+    ensures { unless_refused reply ≡ of_result result }
+{
+    match refusal_in(&reply) {
+        Some(refusal) => Err(Stop::Refuses(refusal)),
+        None => Ok(reply),
+    }
+}
+
+/// The reply to an event.
+pub fn ask<M: Machine>(machine: &mut M, event: &Event) -> Reply
+    requires { IsTrue (is_of_machine event.now) }
+    ensures { DidByMachine M.Serves (ask event.now) machine.old machine.new (Ok result) }
+{
+    machine.serve(event)
+}
+
+/// The reply to a call of a process.
+pub fn ask_call<M: Machine>(machine: &mut M, pid: usize, call: &Call) -> Reply
+    ensures { DidByMachine M.Serves (ask (Calls pid call.now)) machine.old machine.new (Ok result) }
+{
+    machine.call(pid, call)
+}
+
+/// The reply to an event, unless that is a refusal.
+pub fn obtain<M: Machine>(machine: &mut M, event: Event) -> Result<Reply, Stop>
+    requires { IsTrue (is_of_machine event) }
+    ensures { DidByMachine M.Serves (obtain event) machine.old machine.new result }
+{
+    let reply = ask(machine, &event);
+    event.discard();
+    unless_refused(reply)
+}
+
+/// The reply to a call of a process, unless that is a refusal.
+pub fn obtain_call<M: Machine>(machine: &mut M, pid: usize, call: &Call) -> Result<Reply, Stop>
+    ensures { DidByMachine M.Serves (obtain (Calls pid call.now)) machine.old machine.new result }
+{
+    let reply = ask_call(machine, pid, call);
+    unless_refused(reply)
+}
+
+/// The same of a call that is made once.
+pub fn obtain_once<M: Machine>(machine: &mut M, pid: usize, call: Call) -> Result<Reply, Stop>
+    ensures { DidByMachine M.Serves (obtain (Calls pid call)) machine.old machine.new result }
+{
+    let reply = obtain_call(machine, pid, &call);
+    call.discard();
+    reply
+}
+
+// A process goes to a directory, and with the second names of its calls to another.
+fn enter<M: Machine>(machine: &mut M, pid: usize, directory: u32, second: u32) -> Reply
+    ensures { DidByMachine M.Serves (ask (Enter pid directory second)) machine.old machine.new (Ok result) }
+{
+    let event = Event::Enter {
+        pid,
+        directory,
+        second,
+    };
+    let reply = ask(machine, &event);
+    event.discard();
+    reply
+}
+
+/// The reply to a call with names of one directory, or of two. Afterwards the process stands at the root again.
+pub fn between<M: Machine>(
+    machine: &mut M,
+    pid: usize,
+    directory: u32,
+    second: u32,
+    call: &Call,
+) -> Result<Reply, Stop>
+    ensures { DidByMachine M.Serves (between pid directory second call.now) machine.old machine.new result }
+{
+    unless_refused(enter(machine, pid, directory, second))?.discard();
+    let reply = ask_call(machine, pid, call);
+    let back = enter(machine, pid, ROOT, ROOT);
+    back.discard();
+    unless_refused(reply)
+}
+
+/// The same of a call with names of one directory. The name of what it is about comes back.
+pub fn inside<M: Machine>(
+    machine: &mut M,
+    pid: usize,
+    directory: u32,
+    call: Call,
+) -> (Result<Reply, Stop>, Path)
+    requires { IsSome (name_in call) }
+    ensures did { DidByMachine M.Serves (inside pid directory call) machine.old machine.new result.0 }
+    ensures name { name_in call ≡ Some result.1 }
+{
+    let reply = between(machine, pid, directory, directory, &call);
+    let Some(name) = name_in(call) else {
+        unreachable!()
+    };
+    (reply, name)
+}
+
+/// The reply says no more than that it was done.
+pub fn done(tried: Result<Reply, Stop>) -> Result<(), Stop>
+    ensures { MatchResult tried (λ reply. give tt ≡ of_result result) (λ stop. result ≡ Err stop) }
+{
+    match tried {
+        Ok(reply) => {
+            reply.discard();
+            Ok(())
+        }
+        Err(stop) => Err(stop),
+    }
+}
+
+/// Where the work stopped the process closes what it has opened.
+pub fn or_closed<M: Machine, T>(
+    machine: &mut M,
+    pid: usize,
+    fd: usize,
+    tried: Result<T, Stop>,
+) -> Result<T, Stop>
+    ensures { DidByMachine M.Serves (or_closed pid fd tried) machine.old machine.new result }
+{
+    match tried {
+        Ok(value) => Ok(value),
+        Err(stop) => {
+            let call = Call::Close(fd);
+            ask_call(machine, pid, &call).discard();
+            call.discard();
+            Err(stop)
+        }
+    }
+}
+
+/// The same call, where its reply says no more.
+pub fn done_between<M: Machine>(
+    machine: &mut M,
+    pid: usize,
+    directory: u32,
+    second: u32,
+    call: &Call,
+) -> Result<(), Stop>
+    ensures { DidByMachine M.Serves (done_between pid directory second call.now) machine.old machine.new result }
+{
+    done(between(machine, pid, directory, second, call))
+}

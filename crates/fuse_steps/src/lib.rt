@@ -1,0 +1,15 @@
+//! Steps of plans: what asks a [`Machine`] one thing or two, and what is told by names, flags and replies alone.
+//!
+//! Nothing here reads or changes what a server keeps. `fuse_sessions` performs whole plans by these steps.
+#![tactic(auto)]
+
+pub mod asker;
+pub mod flags;
+pub mod listing;
+mod machine;
+pub mod name;
+pub mod path;
+pub mod paths;
+pub mod replies;
+
+pub use machine::Machine;
