@@ -1,7 +1,2 @@
-pub mod Jobs
-pub mod Serving
-pub mod Denials
-pub mod Programs
-pub mod Streams
-pub mod Texts
+pub mod Statuses
 pub mod Words

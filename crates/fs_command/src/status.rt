@@ -1,7 +1,7 @@
 //! What the program ends with.
 
 ghost use Rattle.std.specs.Prelude.{◌≡◌};
-ghost use Rattle.fs_command.specs.Programs.{code_of, status_of};
+ghost use Rattle.fs_command.specs.Statuses.{code_of, status_of};
 
 use fs_shell::Count;
 

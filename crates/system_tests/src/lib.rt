@@ -1,6 +1,6 @@
 //! Tests of what stands above the disk: the model's values and laws, the table of processes, new disks and the methods of
-//! file systems, the texts of the shell and its runs, the program's words and what it prints. What file systems answer to lines
-//! is tried by the program `player`.
+//! file systems, the texts of the shell and its runs, the program's words and its failures. What file systems answer to lines is
+//! tried by the program `player`, and what the program does by `bench/program`.
 #![tactic(auto)]
 
 #[cfg(test)]
@@ -14,7 +14,7 @@ mod new_disks;
 #[cfg(test)]
 mod processes;
 #[cfg(test)]
-mod program_lines;
+mod program_failures;
 #[cfg(test)]
 mod program_words;
 #[cfg(test)]

@@ -1,0 +1,6 @@
+pub mod Jobs
+pub mod Serving
+pub mod Denials
+pub mod Programs
+pub mod Streams
+pub mod Texts
