@@ -1,11 +1,11 @@
 //! The blocks of an inode.
 
-ghost use Rattle.std.specs.Prelude.{◌≡◌, ◌≢◌, ◌≤◌, ◌<◌, ◌+◌, ◌*◌, ◌^◌, ℕ, suc, length, get_or, false, IfOk, OnOk};
+ghost use Rattle.std.specs.Prelude.{◌≡◌, ◌≢◌, ◌≤◌, ◌<◌, ◌+◌, ◌*◌, ◌^◌, ℕ, length, get_or, false, IfOk, OnOk};
 ghost use Rattle.std.specs.Fn.{FnOnceReturnsAt};
 ghost use Rattle.sector_disk.specs.Disk.{HasCause};
 ghost use Rattle.fs_layout.specs.declared.inode.TheConstants.{DIRECT_BLOCKS, SECTOR_POINTERS};
 ghost use Rattle.fs_layout.specs.Bytes.{SectorMap, splice, le32};
-ghost use Rattle.fs_layout.specs.Images.{HasPointers, byte_in, byte_at, holder, number_on, own_count, place_in_holder, pointer};
+ghost use Rattle.fs_layout.specs.Images.{HasPointers, HasPointersAbove, byte_in, byte_at, number_on, place_in_holder, pointer};
 ghost use Rattle.sector_txn.specs.Sectors.{IsUnchanged, IsPut};
 ghost use Rattle.block_map.specs.Blocks.{IsWithin};
 
@@ -52,7 +52,7 @@ pub(crate) fn read_listed<S: Sectors>(
     content: &mut [u8; 512],
 ) -> Result<u32, DiskFault>
     requires within { IsWithin (S.state s.old).disk.size (S.state s.old).sectors inode.now }
-    requires listed { own_count level ≤ i → HasPointers (S.state s.old).sectors inode.now (suc level) (holder (own_count level) i) content.old }
+    requires listed { HasPointersAbove (S.state s.old).sectors inode.now level i content.old }
     ensures number { IfOk result (λ n. n ≡ number_on (S.state s.old).sectors inode.now level i) }
     ensures content { OnOk result (HasPointers (S.state s.old).sectors inode.now level i content.new) }
     ensures same { IsUnchanged (S.state s.old) (S.state s.new) }

@@ -1,9 +1,9 @@
 //! The numbers of the sectors that an inode owns.
 
-ghost use Rattle.std.specs.Prelude.{◌≡◌, ◌≤◌, ◌<◌, ◌+◌, ℕ, suc, OnOk, IsTrue, ◌↔◌};
+ghost use Rattle.std.specs.Prelude.{◌≡◌, ◌≤◌, ◌<◌, ◌+◌, ℕ, OnOk, IsTrue, ◌↔◌};
 ghost use Rattle.fs_layout.specs.declared.inode.TheConstants.{SECTOR_POINTERS};
 ghost use Rattle.fs_layout.specs.Bytes.{SectorMap};
-ghost use Rattle.fs_layout.specs.Images.{IsData, own_count, holder, number_on, HasPointers};
+ghost use Rattle.fs_layout.specs.Images.{IsData, number_on, HasPointers, HasPointersAbove};
 ghost use Rattle.fs_check.specs.Checks.{meaning, BeginsWith, Passed, IsNone};
 
 use crate::faults::Checked;
@@ -45,7 +45,7 @@ pub(crate) fn read_listed<D: Disk>(
     content: &mut [u8; 512],
 ) -> Checked<()>
     requires opened { BeginsWith (D.state disk.old) opened.now.place opened.now.commit }
-    requires listed { own_count level ≤ i → HasPointers (meaning (D.state disk.old)) inode.now (suc level) (holder (own_count level) i) content.old }
+    requires listed { HasPointersAbove (meaning (D.state disk.old)) inode.now level i content.old }
     requires on_disk { number_on (meaning (D.state disk.old)) inode.now level i < (D.state disk.old).size }
     ensures content { OnOk result (HasPointers (meaning (D.state disk.old)) inode.now level i content.new) }
     ensures passed { Passed IsNone (D.state disk.old) (D.state disk.new) result }

@@ -6,7 +6,7 @@
 --     stored, inode_at        an inode's bytes, and the inode
 --     levels, node, pointer        the numbers of an inode's sectors, level by level, and those of its blocks
 --     Part, part, Owns        the sectors that an inode owns, each by its role
---     HasPointers, number_in        a sector of pointers at hand, and a number by it
+--     HasPointers, HasPointersAbove, number_in        a sector of pointers at hand, that in which a number stands, and a number by it
 --     byte_at, IsTrimmed, Holds, HasNoHole        the bytes that an inode holds
 use Rattle.std.specs.Prelude.{◌≡◌, ◌≢◌, ℕ, zero, suc, ◌+◌, ◌-◌, ◌*◌, ◌/◌, ◌%◌, ◌<◌, ◌≤◌, Bool, not, nat_eq, nat_lt, List, [], ◌∷◌, get_or, drop, length, count_by, if◌then◌else◌, Result, Ok, Err}
 use Rattle.std.specs.Int.{bit_at}
@@ -117,6 +117,10 @@ first_block (suc level) i = first_block level (own_count level + SECTOR_POINTERS
 pub record HasPointers (image : SectorMap) (v : Inode) (level i : ℕ) (content : List ℕ) : Type 0 where
   pub is : number_on image v level i ≢ 0 → content ≡ image (number_on image v level i)
   pub none : number_on image v level i ≡ 0 → content ≡ zeros 512
+
+-- the content of the one in which number i of a level stands, if it doesn't stand in the inode
+abbrev pub HasPointersAbove : SectorMap → Inode → ℕ → ℕ → List ℕ → Type 0
+HasPointersAbove image v level i content = own_count level ≤ i → HasPointers image v (suc level) (holder (own_count level) i) content
 
 -- number i of a level, by the content of the sector of pointers in which it stands, if it doesn't stand in the inode
 abbrev own_number : List Level → ℕ → ℕ

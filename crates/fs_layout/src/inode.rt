@@ -1,8 +1,8 @@
 //! An inode of the inode table, 128 bytes.
 
-ghost use Rattle.std.specs.Prelude.{◌≡◌, ◌≤◌, ◌+◌, ℕ, suc, length, IfOk, Ok};
+ghost use Rattle.std.specs.Prelude.{◌≡◌, ◌≤◌, ◌+◌, ℕ, length, IfOk, Ok};
 ghost use Rattle.fs_layout.specs.Bytes.{SectorMap, splice, window};
-ghost use Rattle.fs_layout.specs.Images.{pointer, own_count, holder, number_on, HasPointers, number_in};
+ghost use Rattle.fs_layout.specs.Images.{pointer, number_on, HasPointersAbove, number_in};
 ghost use Rattle.fs_layout.specs.Inode.{inode_bytes, inode_of, inode_fits, kind_number, kind_of, fields_end, IsInode, FitsInode};
 
 use crate::bytes::{
@@ -248,7 +248,7 @@ impl Inode {
     /// Number `i` of a level; 0 where there is none. `content` is that of the sector of pointers in which it stands, zeros
     /// where there is no such sector; for a number that stands in the inode it may be any.
     pub fn number(&self, level: usize, content: &[u8; 512], i: u64) -> u32
-        ensures { (image : SectorMap) → (own_count level ≤ i → HasPointers image self.now (suc level) (holder (own_count level) i) content.now)
+        ensures { (image : SectorMap) → HasPointersAbove image self.now level i content.now
             → result ≡ number_on image self.now level i }
     {
         self.number_in(level, content, i)
