@@ -1,4 +1,6 @@
-use Rattle.std.proofs.Common.{arith, ◌∙◌}
+use Rattle.std.proofs.Common.{arith, ◌≤◌, sym, ap, subst, ◌∙◌}
+use Rattle.sector_disk.specs.Disk.{LeavesOnly}
+use Rattle.redo_journal.specs.Meaning.{MeansAsBefore}
 use Rattle.fs_images.proofs.Places.{many_sectors}
 use Rattle.fs_system.proofs.fs.open_store.Goals as goal
 
@@ -10,3 +12,44 @@ open-requires g c =
 
 pub returns-in-Ok-new-clause-map : goal.returns-in-Ok-new-clause-map
 returns-in-Ok-new-clause-map g c = λ n part. c.in-Ok-new.ensures.map n part ∙ c.in-Ok.ensures.same n part
+
+pub returns-in-Ok-new-clause-lasting : goal.returns-in-Ok-new-clause-lasting
+returns-in-Ok-new-clause-lasting g c = c.in-Ok-new.ensures.lasting
+
+pub returns-in-Ok-new-clause-any_moment : goal.returns-in-Ok-new-clause-any_moment
+returns-in-Ok-new-clause-any_moment g c =
+    let state = g.D.Disk.state in
+    subst (λ d. LeavesOnly (state c.args.disk) (state d) (MeansAsBefore (state c.args.disk))) (sym c.in-Ok-new.ensures.disk) c.in-Ok.ensures.any_moment
+
+pub returns-in-Ok-new-clause-size : goal.returns-in-Ok-new-clause-size
+returns-in-Ok-new-clause-size g c = ap (λ d. (g.D.Disk.state d).size) c.in-Ok-new.ensures.disk ∙ c.in-Ok.ensures.size
+
+pub returns-in-Ok-new-clause-later : goal.returns-in-Ok-new-clause-later
+returns-in-Ok-new-clause-later g c =
+    let state = g.D.Disk.state in
+    subst (λ d. (state c.args.disk).failures ≤ (state d).failures) (sym c.in-Ok-new.ensures.disk) c.in-Ok.ensures.later
+
+pub returns-in-Ok-new-clause-quiet : goal.returns-in-Ok-new-clause-quiet
+returns-in-Ok-new-clause-quiet g c = ap (λ d. (g.D.Disk.state d).failed_writes) c.in-Ok-new.ensures.disk ∙ c.in-Ok.ensures.counted.quiet
+
+pub returns-in-Err-clause-any_moment : goal.returns-in-Err-clause-any_moment
+returns-in-Err-clause-any_moment g c =
+    let state = g.D.Disk.state in
+    subst (λ d. LeavesOnly (state c.args.disk) (state d) (MeansAsBefore (state c.args.disk))) (sym (c.into_disk.ensures.disk ∙ c.in-Err.ensures.disk)) c.in-Ok.ensures.any_moment
+
+pub returns-in-Err-clause-size : goal.returns-in-Err-clause-size
+returns-in-Err-clause-size g c = ap (λ d. (g.D.Disk.state d).size) (c.into_disk.ensures.disk ∙ c.in-Err.ensures.disk) ∙ c.in-Ok.ensures.size
+
+pub returns-in-Err-clause-later : goal.returns-in-Err-clause-later
+returns-in-Err-clause-later g c =
+    let state = g.D.Disk.state in
+    subst (λ d. (state c.args.disk).failures ≤ (state d).failures) (sym (c.into_disk.ensures.disk ∙ c.in-Err.ensures.disk)) c.in-Ok.ensures.later
+
+pub returns-in-Err-DiskFault-default-clause-any_moment : goal.returns-in-Err-DiskFault-default-clause-any_moment
+returns-in-Err-DiskFault-default-clause-any_moment g c = c.in-Err-DiskFault-default.ensures.any_moment
+
+pub returns-in-Err-DiskFault-default-clause-size : goal.returns-in-Err-DiskFault-default-clause-size
+returns-in-Err-DiskFault-default-clause-size g c = c.in-Err-DiskFault-default.ensures.size
+
+pub returns-in-Err-DiskFault-default-clause-later : goal.returns-in-Err-DiskFault-default-clause-later
+returns-in-Err-DiskFault-default-clause-later g c = c.in-Err-DiskFault-default.ensures.later

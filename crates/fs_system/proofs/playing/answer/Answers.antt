@@ -11,3 +11,6 @@ returns-in-Restart-clause-answers g c =
     rw c.in-Restart.is (subst
     (λ choice. Plays g.D.Disk.state c.args.served (Restart choice c.in-Restart.arm ∷ []) (c.restart.result.1 ∷ []) c.restart.result.0)
     c.bytes.ensures.all c.restart.ensures.answers)
+
+pub returns-in_default : goal.returns-in_default
+returns-in_default g c = record { answers = c.serve.ensures.answers; again = c.serve.ensures.again }
