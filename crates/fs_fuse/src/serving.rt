@@ -4,8 +4,8 @@ ghost use Rattle.fs_fuse.specs.Performing.{ServedFrom};
 
 use crate::mounted::Mounted;
 use fs_system::Fs;
-use fuse_sessions::Session;
 use fuse_serving::{Kernel, ReplyRoom, ServeFault, Witness, serve};
+use fuse_sessions::Session;
 use fuse_state::Settings;
 use sector_disk::Disk;
 use std::alloc::Global;

@@ -5,7 +5,7 @@
 --     reads, reads-needed, keeps, needs-some, needs-none, where-true, where-false        steps that ask nothing, before the rest
 --     attempts        a step of which it is told whether it stopped
 --     by-machine        a step for which nothing that is kept is read
-use Rattle.std.specs.Prelude.{◌≡◌, Bool, true, false, ◌&&◌, Option, None, Some, unwrap_or, Result, Ok, Err, IsErr, IsErrAnd, MatchResult, if◌then◌else◌}
+use Rattle.std.specs.Prelude.{◌≡◌, Bool, true, false, Option, None, Some, Result, Ok, Err, MatchResult, if◌then◌else◌}
 use Rattle.std.specs.Option.{ok_or}
 use Rattle.std.proofs.Common.{refl, sym, ap, subst, ◌∙◌}
 use Rattle.fs_model.specs.declared.event.Event.{Event}
@@ -13,7 +13,7 @@ use Rattle.fs_model.specs.declared.reply.Reply.{Reply}
 use Rattle.fuse_state.specs.Servers.{Server}
 use Rattle.fuse_sessions.specs.declared.session.Session.{Session}
 use Rattle.fuse_plans.specs.declared.stop.Stop.{Stop}
-use Rattle.fuse_plans.specs.Plans.{Plan, Finish, followed_by, CarriesOut, finishes, asks}
+use Rattle.fuse_plans.specs.Plans.{Finish, CarriesOut, finishes, asks}
 use Rattle.fuse_plans.specs.Works.{Work, give, stop, kept, keep, goes_on, ◌>>=◌, ◌>>◌, attempt, of_result, needed, ask}
 use Rattle.fuse_plans.specs.FilePlans.{when, done}
 use Rattle.fuse_sessions.specs.Performing.{Did}
