@@ -10,7 +10,7 @@ const HEADER_SIZE: u64 = 40;
 const FRONT_SIZE: u64 = 140;
 
 // Numbers at which something ends.
-const NUMBERS: [u64; 12] = [
+static NUMBERS: [u64; 12] = [
     0,
     1,
     2,
@@ -26,7 +26,7 @@ const NUMBERS: [u64; 12] = [
 ];
 
 // Who is recorded.
-const USERS: [u64; 5] = [0, 1000, 1001, 1002, 65_534];
+static USERS: [u64; 5] = [0, 1000, 1001, 1002, 65_534];
 
 /// Changes a request at one to three places. Mostly it stays whole.
 pub fn change(chance: &mut Chance, request: &mut Vec<u8>) -> Result<(), AllocError> {
@@ -43,33 +43,39 @@ pub fn change(chance: &mut Chance, request: &mut Vec<u8>) -> Result<(), AllocErr
 fn change_once(chance: &mut Chance, request: &mut Vec<u8>) -> Result<(), AllocError> {
     let front = FRONT_SIZE.min(request.len() as u64);
     let place = chance.below(front).max(4);
-    let aligned = (place / 4).saturating_mul(4);
-    let value = chance.pick(&NUMBERS).copied().unwrap_or(0);
-    match chance.below(10) {
-        0 => put(request, aligned, 4, value),
-        1 => put(request, aligned, 8, value),
-        2 => {
-            let node = any_node(chance);
-            put(request, aligned, 8, node);
-        }
-        3 => {
-            let node = any_node(chance);
-            put(request, 16, 8, node);
-        }
-        4 => {
-            let user = chance.pick(&USERS).copied().unwrap_or(0);
-            put(
-                request,
-                chance.below(2).saturating_mul(4).saturating_add(24),
-                4,
-                user,
-            );
-        }
-        5 => put(request, 4, 4, chance.below(54)),
-        6 => return change_length(chance, request),
-        _ => put(request, place, 1, chance.below(256)),
+    let value = one_of(chance, &NUMBERS);
+    let kind = chance.below(10);
+    if kind == 6 {
+        return change_length(chance, request);
     }
+    let (place, size, number) = any_number(chance, kind, place, value);
+    put(request, place, size, number);
     Ok(())
+}
+
+// Where a number is put, in how many bytes, and which one.
+fn any_number(chance: &mut Chance, kind: u64, place: u64, value: u64) -> (u64, usize, u64) {
+    let aligned = (place / 4).saturating_mul(4);
+    match kind {
+        0 => (aligned, 4, value),
+        1 => (aligned, 8, value),
+        2 => (aligned, 8, any_node(chance)),
+        3 => (16, 8, any_node(chance)),
+        4 => any_user(chance),
+        5 => (4, 4, chance.below(54)),
+        _ => (place, 1, chance.below(256)),
+    }
+}
+
+// Who asks is another user, or another group.
+fn any_user(chance: &mut Chance) -> (u64, usize, u64) {
+    let user = one_of(chance, &USERS);
+    let place = chance.below(2).saturating_mul(4).saturating_add(24);
+    (place, 4, user)
+}
+
+fn one_of(chance: &mut Chance, numbers: &[u64]) -> u64 {
+    chance.pick(numbers).copied().unwrap_or(0)
 }
 
 // A node as the server makes them: the number of an inode, and how many objects had that before.

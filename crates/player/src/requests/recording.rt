@@ -63,21 +63,33 @@ fn read_head(line: &str) -> anyhow::Result<(u64, u32)> {
 
 impl Exchange {
     fn read(alloc: Global, line: &str) -> anyhow::Result<Exchange> {
-        let mut words = line.split(' ');
+        let (now, words) = halves(line)?;
+        let (groups, words) = halves(words)?;
+        let (request, reply) = halves(words)?;
+        let now = now.parse::<u64>()?;
+        let groups = read_groups(alloc, groups)?;
+        let (request, reply) = read_both(alloc, request, reply)?;
         Ok(Exchange {
-            now: one_of(words.next())?.parse::<u64>()?,
-            groups: read_groups(alloc, one_of(words.next())?)?,
-            request: read_bytes(alloc, one_of(words.next())?)?,
-            reply: read_bytes(alloc, one_of(words.next())?)?,
+            now,
+            groups,
+            request,
+            reply,
         })
     }
 }
 
-fn one_of(word: Option<&str>) -> anyhow::Result<&str> {
-    match word {
-        Some(word) => Ok(word),
+// The first word, and those behind it.
+fn halves(words: &str) -> anyhow::Result<(&str, &str)> {
+    match words.split_once(' ') {
+        Some(halves) => Ok(halves),
         None => Err(anyhow!("too few words")),
     }
+}
+
+// The bytes of a request, and those of its reply.
+fn read_both(alloc: Global, request: &str, reply: &str) -> anyhow::Result<(Vec<u8>, Vec<u8>)> {
+    let request = read_bytes(alloc, request)?;
+    Ok((request, read_bytes(alloc, reply)?))
 }
 
 fn read_groups(alloc: Global, word: &str) -> anyhow::Result<Option<Vec<u32>>> {

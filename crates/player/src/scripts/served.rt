@@ -197,29 +197,48 @@ fn push_summary(seen: &mut String, summary: &Summary) -> Result<(), AllocError> 
 
 // Puts bytes on a disk: the words are the sector, the place in it, and the bytes.
 fn put<D: Disk>(disk: &mut D, words: &str) -> anyhow::Result<()> {
-    let mut words = words.split(' ');
-    let sector = number(words.next())?;
-    let place = number(words.next())?;
-    if sector >= disk.size() {
-        bail!("no sector {sector}");
-    }
-    let mut content = [0; 512];
-    let read = disk.read(sector, &mut content);
-    for (byte, word) in content.iter_mut().skip(place as usize).zip(words) {
-        *byte = word.parse::<u8>()?;
-    }
-    if read.is_err() || disk.write(sector, &content).is_err() || disk.sync().is_err() {
+    let (sector, words) = number_before(words)?;
+    let (place, bytes) = number_before(words)?;
+    let mut content = content_of(disk, sector)?;
+    set_bytes(&mut content, place, bytes)?;
+    if !put_stable(disk, sector, &content) {
         bail!("the disk failed");
     }
     disk.forget();
     Ok(())
 }
 
-fn number(word: Option<&str>) -> anyhow::Result<u32> {
-    match word {
-        Some(word) => Ok(word.parse::<u32>()?),
+// A number, and the words behind it.
+fn number_before(words: &str) -> anyhow::Result<(u32, &str)> {
+    match words.split_once(' ') {
+        Some((number, words)) => Ok((number.parse::<u32>()?, words)),
         None => Err(anyhow!("too few words")),
     }
+}
+
+fn content_of<D: Disk>(disk: &mut D, sector: u32) -> anyhow::Result<[u8; 512]> {
+    let mut content = [0; 512];
+    if sector >= disk.size() || disk.read(sector, &mut content).is_err() {
+        bail!("sector {sector} isn't read");
+    }
+    Ok(content)
+}
+
+// Sets the bytes from a place on.
+fn set_bytes(content: &mut [u8], place: u32, words: &str) -> anyhow::Result<()> {
+    for (byte, word) in content
+        .iter_mut()
+        .skip(place as usize)
+        .zip(words.split(' '))
+    {
+        *byte = word.parse::<u8>()?;
+    }
+    Ok(())
+}
+
+// Gives a sector this content, and tells whether that is stable.
+fn put_stable<D: Disk>(disk: &mut D, sector: u32, content: &[u8; 512]) -> bool {
+    sector < disk.size() && disk.write(sector, content).is_ok() && disk.sync().is_ok()
 }
 
 // Adds what is answered to a script.
