@@ -27,7 +27,7 @@ fn refusal_in(reply: &Reply) -> Option<Refusal>
     }
 }
 
-/// A refusal stops.
+/// A refusal stops: the error is the refusal, with the denial that it may be.
 pub fn unless_refused(reply: Reply) -> Result<Reply, Stop>
     ensures { unless_refused reply ≡ of_result result }
 {
@@ -94,6 +94,8 @@ fn enter<M: Machine>(machine: &mut M, pid: usize, directory: u32, second: u32) -
 }
 
 /// The reply to a call with names of one directory, or of two. Afterwards the process stands at the root again.
+///
+/// The error is that of the way there, and then no call was made, or that of the call.
 pub fn between<M: Machine>(
     machine: &mut M,
     pid: usize,
@@ -141,7 +143,7 @@ pub fn done(tried: Result<Reply, Stop>) -> Result<(), Stop>
     }
 }
 
-/// Where the work stopped the process closes what it has opened.
+/// Where the work stopped the process closes what it has opened. The reply to that doesn't count.
 pub fn or_closed<M: Machine, T>(
     machine: &mut M,
     pid: usize,

@@ -18,7 +18,7 @@ pub fn place(directory: u32, path: Path) -> Place
     }
 }
 
-/// Nobody asks for `.` or `..` by name.
+/// Nobody asks for `.` or `..` by name: the kernel resolves these itself. EINVAL for them.
 pub fn plain_name(name: &Path) -> Result<(), Stop>
     ensures { plain_name name.now ≡ of_result result }
 {
@@ -30,7 +30,7 @@ pub fn plain_name(name: &Path) -> Result<(), Stop>
     }
 }
 
-/// What is told of an object.
+/// What is told of an object: what stat(2) shows, and the times that are kept of it.
 pub fn attributes(server: &Server, status: Status) -> Attributes
     ensures { result ≡ attributes server.now.server status }
 {
@@ -40,14 +40,14 @@ pub fn attributes(server: &Server, status: Status) -> Attributes
     }
 }
 
-/// What is told of an object that was found.
+/// What is told of an object that was found: its node too.
 pub fn found_body(server: &Server, status: Status) -> ReplyBody
     ensures { result ≡ found_body status server.now.server }
 {
     ReplyBody::Found(server.node_of(status.inode), attributes(server, status))
 }
 
-/// A directory that was removed has no names.
+/// A directory that was removed has no names: ENOENT in place of ESTALE.
 pub fn or_absent(known: Result<u32, Stop>) -> Result<u32, Stop>
     ensures { or_absent known ≡ of_result result }
 {
@@ -62,7 +62,7 @@ const TYPE_BITS: u32 = 0o170000;
 
 const FILE_TYPE: u32 = 0o100000;
 
-/// Other types than that of a file aren't made.
+/// Other types than that of a file aren't made, as mknod(2) has it: EPERM. Without a type it is that of a file.
 pub fn only_file(mode: u32) -> Result<(), Stop>
     ensures { only_file mode ≡ of_result result }
 {
@@ -74,14 +74,14 @@ pub fn only_file(mode: u32) -> Result<(), Stop>
     }
 }
 
-/// The one flag is that nothing may be replaced.
+/// The one flag is that nothing may be replaced, RENAME_NOREPLACE of renameat2(2): EINVAL for any other.
 pub fn only_no_replace(flags: u32) -> Result<(), Stop>
     ensures { only_no_replace flags ≡ of_result result }
 {
     if flags > 1 { Err(Stop::EINVAL) } else { Ok(()) }
 }
 
-/// The name leads nowhere.
+/// The name leads nowhere: EEXIST where it leads to something. Other errors of the look at it stay.
 pub fn none_there(there: Result<Reply, Stop>) -> Result<(), Stop>
     ensures { none_there there ≡ of_result result }
 {

@@ -18,7 +18,7 @@ use fuse_plans::Stop;
 use std::alloc::Global;
 use std::marker::Model;
 
-/// A machine; contracts see that alone.
+/// A machine with paths to lend. Contracts see the machine alone.
 #[derive(Drop)]
 pub struct WithPaths<M> {
     machine: M,
@@ -82,7 +82,7 @@ impl<M: Machine> WithPaths<M> {
         machine
     }
 
-    /// A call on the root.
+    /// The reply to a call on the root: its path is `/` meanwhile.
     pub fn obtain_at_root(&mut self, pid: usize, call: &mut Call) -> Result<Reply, Stop>
         requires { IsTrue (takes_path call.old) }
         ensures did { DidByMachine M.Serves (obtain (Calls pid (at_path call.old (codes "/")))) self.old self.new result }
@@ -94,7 +94,7 @@ impl<M: Machine> WithPaths<M> {
         reply
     }
 
-    /// A call on a directory by a process that stands there.
+    /// The reply to a call on a directory by a process that stands there: its path is `.` meanwhile.
     pub fn obtain_inside(
         &mut self,
         pid: usize,

@@ -101,7 +101,7 @@ pub fn names_of_reply(reply: Reply) -> Option<Listing>
     }
 }
 
-/// The handle of a process's descriptor.
+/// The handle of a process's descriptor, where both lie within their limits.
 pub fn handle_within(pid: usize, fd: Option<usize>) -> Option<u64>
     ensures { result ≡ handle_within pid fd }
 {
@@ -111,7 +111,7 @@ pub fn handle_within(pid: usize, fd: Option<usize>) -> Option<u64>
     }
 }
 
-/// At most so many bytes.
+/// The bytes, where these are at most so many.
 pub fn within(most: usize, bytes: Option<Bytes>) -> Option<Bytes>
     ensures { result ≡ within most bytes }
 {
@@ -121,7 +121,7 @@ pub fn within(most: usize, bytes: Option<Bytes>) -> Option<Bytes>
     }
 }
 
-/// At most so many.
+/// The count, where it is at most this.
 pub fn count_within(most: usize, count: Option<usize>) -> Option<usize>
     ensures { result ≡ count_within most count }
 {
