@@ -1,3 +1,4 @@
+use Rattle.std.proofs.Common.{◌∙◌, arith}
 use Rattle.fs_images.proofs.Raising.{check_then, then_upgraded, then_narrowed}
 use Rattle.fs_images.proofs.upgrading.upgrade.Goals as goal
 
@@ -25,3 +26,24 @@ pub returns-clause-upgraded : goal.returns-clause-upgraded
 returns-clause-upgraded g c =
     then_upgraded (g.D.Disk.state c.args.disk.now) (g.D.Disk.state c.check.new.disk) c.check.ensures.passed.reads
     (g.D.Disk.state c.raise_version.new.disk) c.in_ok-raise_version.ensures.upgraded
+
+pub returns-clause-size : goal.returns-clause-size
+returns-clause-size g c = c.raise_version.ensures.size ∙ c.check.ensures.passed.reads.narrowed.size
+
+pub returns-in_err-raise_version-clause-size : goal.returns-in_err-raise_version-clause-size
+returns-in_err-raise_version-clause-size g c = c.raise_version.ensures.size ∙ c.check.ensures.passed.reads.narrowed.size
+
+pub returns-in_err-check-clause-size : goal.returns-in_err-check-clause-size
+returns-in_err-check-clause-size g c = c.check.ensures.passed.reads.narrowed.size
+
+pub returns-in_err-check-clause-failures : goal.returns-in_err-check-clause-failures
+returns-in_err-check-clause-failures g c = c.check.ensures.passed.reads.failures
+
+pub returns-in_err-raise_version-clause-failures : goal.returns-in_err-raise_version-clause-failures
+returns-in_err-raise_version-clause-failures g c = omega (arith, c.check.ensures.passed.reads.failures, c.raise_version.ensures.cause.later)
+
+pub returns-clause-failures : goal.returns-clause-failures
+returns-clause-failures g c = omega (arith, c.check.ensures.passed.reads.failures, c.raise_version.ensures.cause.later)
+
+pub returns-in_err-check-clause-unwritten : goal.returns-in_err-check-clause-unwritten
+returns-in_err-check-clause-unwritten g c = λ _. c.check.ensures.passed.reads.narrowed
