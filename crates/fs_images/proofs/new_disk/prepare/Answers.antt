@@ -48,3 +48,23 @@ returns-clause-prepared g c =
     (ap (λ (i : Image). sector i 1) seen ∙ c.in_ok-write_tables.ensures.commit ∙ commit)
     (subst (HoldsNewTables c.args.place) (sym seen) c.in_ok-write_tables.ensures.written))
     c.sync.ensures.stable
+
+pub returns-in_err-write-clause-any_moment : goal.returns-in_err-write-clause-any_moment
+returns-in_err-write-clause-any_moment g c =
+    let before = g.D.Disk.state c.args.disk.now in
+    let keep = still_cleared before c.requires.cleared in
+    let first : AddsOnly BehindSuperblock before (g.D.Disk.state c.write.new.self) = adds_write adds_nothing c.write.ensures.changes (λ k content is same. omega (arith, is)) in
+    let start = started (g.met.D.Disk.only_now c.args.disk.now) (λ image is. keep image (image_or (adds_nothing {R = BehindSuperblock}) image is)) in
+    goes_on start c.write.ensures.time (λ image is. keep image (image_or first image is))
+
+pub returns-in_err-write_tables-clause-any_moment : goal.returns-in_err-write_tables-clause-any_moment
+returns-in_err-write_tables-clause-any_moment g c =
+    let before = g.D.Disk.state c.args.disk.now in
+    let keep = still_cleared before c.requires.cleared in
+    let first : AddsOnly BehindSuperblock before (g.D.Disk.state c.write.new.self) = adds_write adds_nothing c.write.ensures.changes (λ k content is same. omega (arith, is)) in
+    let start = started (g.met.D.Disk.only_now c.args.disk.now) (λ image is. keep image (image_or (adds_nothing {R = BehindSuperblock}) image is)) in
+    let one = goes_on start c.write.ensures.time (λ image is. keep image (image_or first image is)) in
+    joined one (weaker (λ image is. keep image (image_joined first image is)) c.write_tables.ensures.any_moment)
+
+pub returns-clause-size : goal.returns-clause-size
+returns-clause-size g c = c.sync.ensures.changes.size ∙ c.write_tables.ensures.adds.size ∙ c.write.ensures.changes.size
