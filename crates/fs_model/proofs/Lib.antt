@@ -42,6 +42,7 @@ pub mod PlacedNodes
 pub mod ReadsLess
 pub mod Rests
 pub mod Rewrites
+pub mod RowsOfConfinement
 pub mod RowsOfEntering
 pub mod RowsOfFiles
 pub mod RowsOfImages
