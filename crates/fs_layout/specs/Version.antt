@@ -5,11 +5,10 @@
 use Rattle.std.specs.Prelude.{ℕ, zero, suc, ◌*◌, Option, Some, None}
 use Rattle.fs_layout.specs.declared.version.Version.{Version}
 use Rattle.fs_layout.specs.declared.version.Version.TheVariants.{One, Two}
-use Rattle.fs_layout.specs.declared.version.TheConstants.Version.{NEWEST}
 use Rattle.fs_layout.specs.declared.inode.TheConstants.{INDIRECT_END, DOUBLE_INDIRECT_END}
 
 abbrev pub newest : Version
-newest = NEWEST
+newest = Two
 
 abbrev pub version_number : Version → ℕ
 version_number One = 1

@@ -5,7 +5,7 @@
 pub enum LayoutFault {
     /// The bytes do not begin as the structure does.
     BadMagic,
-    /// The version is not 1.
+    /// There is no such version of the layout.
     BadVersion,
     /// There is no such kind of inode.
     BadKind,
