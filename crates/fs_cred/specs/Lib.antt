@@ -7,4 +7,5 @@ pub mod Decisions
 pub mod Verdicts
 pub mod Scans
 pub mod Ownership
+pub mod Groups
 pub mod Laws

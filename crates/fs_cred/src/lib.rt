@@ -17,7 +17,7 @@ pub use access::{decide, decide_by_mode};
 pub use caps::Caps;
 pub use cred::{Cred, CredFault, MAX_GROUPS};
 pub use errno::Errno;
-pub use laws::one_answer;
+pub use laws::{named_groups_count, one_answer};
 pub use node::{Node, NodeKind};
 pub use ownership::{
     keeps_set_group_id, may_chgrp, may_chown, may_own, owns_or_may_chown, sticky_allows,
