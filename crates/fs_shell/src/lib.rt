@@ -11,6 +11,7 @@ mod watched;
 
 pub use answer::{Answer, Count};
 pub use fault::RunFault;
+pub use fs_lines::{Line, LineFault, parse_line, reply_text};
 pub use runner::run;
 pub use script::MAX_SCRIPT;
 pub use watched::Watched;

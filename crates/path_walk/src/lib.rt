@@ -15,6 +15,7 @@ mod walks;
 
 pub use access::{permission, search};
 pub use components::ends_with_slash;
+pub use fs_model::{Form, Found, Last};
 pub use laws::inodes_say_what_stands;
 pub use links::read_target;
 pub use paths::{MAX_PATH, check_path};
