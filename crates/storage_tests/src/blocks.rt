@@ -9,10 +9,11 @@ ghost use Rattle.bit_alloc.specs.Room.{HasSpare};
 
 mod links;
 
-use crate::maps::{end, new_map, parsed};
+use crate::maps::{end, map_of_version, parsed};
+use bit_alloc::{Bitmap, count_free};
 use blank_map::{Counted, is_blank, put_blank};
-use block_map::{overwrite, read_at, release_all, set_size, write_at};
-use fs_layout::{Inode, Kind, Place};
+use block_map::{MapFault, overwrite, read_at, release_all, set_size, write_at};
+use fs_layout::{Inode, Kind, Place, Version};
 use inode_table::{load, new_inode};
 use posix_acl::Acl;
 use sector_txn::Sectors;
@@ -34,9 +35,11 @@ enum Call {
     Overwrite(u64),
     SetSize(u64),
     Release,
+    // Whether so many data sectors are free.
+    HasFree(u32),
 }
 
-// A call, the bytes that it reads, 9 where there are none, and how many sectors it reads and puts.
+// A call, the bytes that it reads, 9 where there are none, or that it was refused, and how many sectors it reads and puts.
 type Row = (Call, [u8; 4], u32, u32);
 
 // Writes four bytes over those of one of the first 12 blocks.
@@ -88,6 +91,7 @@ fn perform<S: Sectors>(s: &mut S, place: Place, n: u32, call: Call) -> Result<[u
             }
             match write_at(s, place, n, &mut inode, offset, &[7; 4096][..len]) {
                 Ok(()) => Ok(bytes),
+                Err(MapFault::TooBig) => Ok(TOO_BIG),
                 Err(_) => Err(Fail::new("not written")),
             }
         }
@@ -97,10 +101,18 @@ fn perform<S: Sectors>(s: &mut S, place: Place, n: u32, call: Call) -> Result<[u
         }
         Call::SetSize(size) => match set_size(s, place, n, &mut inode, size) {
             Ok(()) => Ok(bytes),
+            Err(MapFault::TooBig) => Ok(TOO_BIG),
             Err(_) => Err(Fail::new("no other size")),
         },
         Call::Release => {
             release_all(s, place, n, &mut inode)?;
+            Ok(bytes)
+        }
+        Call::HasFree(wanted) => {
+            let free = count_free(s, place, Bitmap::Blocks)?;
+            if free != wanted {
+                return Err(Fail::new("another number is free"));
+            }
             Ok(bytes)
         }
     }
@@ -149,22 +161,30 @@ fn agreed_on_blank<S: Sectors>(
     agreed(s, place, n, rows)
 }
 
-// The same on a new disk.
-fn agreed_on_disk(alloc: Global, access: &Acl, rows: &[Row]) -> Result<usize, Fail> {
-    let (place, mut s) = new_map(alloc, SECTORS, INODES)?;
+// The same on a new disk of this version.
+fn agreed_on_disk(
+    alloc: Global,
+    version: Version,
+    access: &Acl,
+    rows: &[Row],
+) -> Result<usize, Fail> {
+    let (place, mut s) = map_of_version(alloc, version, SECTORS, INODES)?;
     let seen = agreed_on_blank(&mut s, place, access, rows);
     end(s);
     seen
 }
 
 // The same of a file with an ACL of its mode.
-fn agreed_of(alloc: Global, rows: &[Row]) -> Result<usize, Fail> {
+fn agreed_of(alloc: Global, version: Version, rows: &[Row]) -> Result<usize, Fail> {
     let access = parsed(alloc, b"user::rw-,group::r--,other::---")?;
-    agreed_on_disk(alloc, &access, rows)
+    agreed_on_disk(alloc, version, &access, rows)
 }
 
 // The bytes of a call that reads none.
 const NOTHING: [u8; 4] = [9; 4];
+
+// Those of one that is refused: the file would be too big.
+const TOO_BIG: [u8; 4] = [8; 4];
 
 // Blocks that the inode points to.
 const DIRECT: [Row; 13] = [
@@ -204,11 +224,52 @@ const LONG: [Row; 5] = [
     (Call::Release, NOTHING, 12, 11),
 ];
 
+// A hole of the largest size takes no sector, and a byte in it two, the second for pointers; a cut gives both back. The largest
+// file in version 1 is that of one sector of pointers.
+const LIMIT_OF_ONE: [Row; 11] = [
+    (Call::SetSize(71_680), NOTHING, 1, 1),
+    (Call::HasFree(890), NOTHING, 1, 0),
+    (Call::Write(6144, 1), NOTHING, 3, 6),
+    (Call::HasFree(888), NOTHING, 1, 0),
+    (Call::SetSize(6144), NOTHING, 6, 3),
+    (Call::HasFree(890), NOTHING, 1, 0),
+    (Call::Write(71_679, 2), TOO_BIG, 0, 0),
+    (Call::SetSize(71_681), TOO_BIG, 0, 0),
+    (Call::HasFree(890), NOTHING, 1, 0),
+    (Call::Write(71_679, 1), NOTHING, 3, 6),
+    (Call::Read(71_676), [0, 0, 0, 7], 2, 0),
+];
+
+// In version 2 more sectors of pointers are found by a sector of their numbers: the first bytes behind those of version 1 take five
+// sectors with them, and the last of all two.
+const LIMIT_OF_TWO: [Row; 11] = [
+    (Call::Write(71_679, 2), NOTHING, 10, 14),
+    (Call::HasFree(885), NOTHING, 1, 0),
+    (Call::Write(8_460_287, 2), TOO_BIG, 0, 0),
+    (Call::SetSize(8_460_289), TOO_BIG, 0, 0),
+    (Call::SetSize(8_460_288), NOTHING, 1, 1),
+    (Call::HasFree(885), NOTHING, 1, 0),
+    (Call::Write(8_460_287, 1), NOTHING, 4, 7),
+    (Call::HasFree(883), NOTHING, 1, 0),
+    (Call::Read(8_460_284), [0, 0, 0, 7], 3, 0),
+    (Call::SetSize(6144), NOTHING, 143, 8),
+    (Call::HasFree(890), NOTHING, 1, 0),
+];
+
 #[test]
 fn calls(rt: HostRuntime) -> Result<(), Fail> {
-    let rows: [&[Row]; 3] = [&DIRECT, &BEHIND_HOLES, &LONG];
-    for calls in rows.iter() {
-        let seen = agreed_of(rt.alloc(), calls)?;
+    let rows: [(Version, &[Row]); 8] = [
+        (Version::One, &DIRECT),
+        (Version::One, &BEHIND_HOLES),
+        (Version::One, &LONG),
+        (Version::One, &LIMIT_OF_ONE),
+        (Version::Two, &DIRECT),
+        (Version::Two, &BEHIND_HOLES),
+        (Version::Two, &LONG),
+        (Version::Two, &LIMIT_OF_TWO),
+    ];
+    for (version, calls) in rows.iter() {
+        let seen = agreed_of(rt.alloc(), *version, calls)?;
         assert!(rt; seen == calls.len(), "{seen}");
     }
     Ok(())

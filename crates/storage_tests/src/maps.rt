@@ -4,14 +4,37 @@ ghost use Rattle.std.specs.Prelude.{◌≤◌, IfOk};
 ghost use Rattle.fs_layout.specs.Place.{IsPlace};
 
 use blank_map::{Counted, idle_store};
-use fs_layout::{Place, place_of};
+use fs_layout::{Place, Super, Version};
 use posix_acl::{Acl, AclFault};
 use sector_disk::MemDisk;
 use sector_txn::{Sectors, Txn};
 use std::alloc::Global;
 use std::test::Fail;
 
-// A transaction on a new disk of so many sectors, laid out for so many inodes.
+// A transaction on a new disk of so many sectors, laid out in this version for so many inodes.
+pub(super) fn map_of_version(
+    alloc: Global,
+    version: Version,
+    sectors: u32,
+    inodes: u32,
+) -> Result<(Place, Counted<Txn<MemDisk>>), Fail>
+    ensures place { IfOk result (λ map. IsPlace map.0) }
+    ensures disk { IfOk result (λ map. map.0.sectors ≤ (⟦<Txn<MemDisk> as Sectors>⟧.state map.1.inner).disk.size) }
+{
+    let superblock = Super {
+        version,
+        sectors,
+        inodes,
+    };
+    let place = superblock.place().ok_or("no place")?;
+    if place.sectors != sectors {
+        return Err(Fail::new("another size"));
+    }
+    let store = idle_store(alloc, sectors).ok_or("no store")?;
+    Ok((place, Counted::new(store.begin())))
+}
+
+// The same in the newest version.
 pub(super) fn new_map(
     alloc: Global,
     sectors: u32,
@@ -20,12 +43,7 @@ pub(super) fn new_map(
     ensures place { IfOk result (λ map. IsPlace map.0) }
     ensures disk { IfOk result (λ map. map.0.sectors ≤ (⟦<Txn<MemDisk> as Sectors>⟧.state map.1.inner).disk.size) }
 {
-    let place = place_of(sectors, inodes).ok_or("no place")?;
-    if place.sectors != sectors {
-        return Err(Fail::new("another size"));
-    }
-    let store = idle_store(alloc, sectors).ok_or("no store")?;
-    Ok((place, Counted::new(store.begin())))
+    map_of_version(alloc, Version::NEWEST, sectors, inodes)
 }
 
 // Nothing of it is kept.

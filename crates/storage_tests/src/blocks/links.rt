@@ -9,11 +9,11 @@ ghost use Rattle.bit_alloc.specs.Room.{HasSpare};
 ghost use Rattle.inode_table.specs.Inodes.{ClearAreFree};
 
 use super::{INODES, SECTORS};
-use crate::maps::{end, new_map};
+use crate::maps::{end, map_of_version};
 use bit_alloc::{Bitmap, count_free};
 use blank_map::{Counted, is_blank, put_blank};
 use block_map::{free_all, new_link};
-use fs_layout::Place;
+use fs_layout::{Place, Version};
 use sector_txn::Sectors;
 use std::alloc::Global;
 use std::test::Fail;
@@ -72,9 +72,9 @@ fn life_on_blank<S: Sectors>(s: &mut Counted<S>, place: Place, target: &[u8]) ->
     life(s, place, target)
 }
 
-// The same on a new disk.
-fn life_on_disk(alloc: Global, target: &[u8]) -> Result<Life, Fail> {
-    let (place, mut s) = new_map(alloc, SECTORS, INODES)?;
+// The same on a new disk of this version.
+fn life_on_disk(alloc: Global, version: Version, target: &[u8]) -> Result<Life, Fail> {
+    let (place, mut s) = map_of_version(alloc, version, SECTORS, INODES)?;
     let seen = life_on_blank(&mut s, place, target);
     end(s);
     seen
@@ -83,8 +83,13 @@ fn life_on_disk(alloc: Global, target: &[u8]) -> Result<Life, Fail> {
 #[test]
 fn a_link_takes_an_inode_and_a_sector(rt: HostRuntime) -> Result<(), Fail> {
     let wanted = ([(15, 890), (14, 889), (15, 890)], [(3, 4), (4, 3)]);
-    for target in [b"t".as_slice(), &[97; 512]] {
-        let seen = life_on_disk(rt.alloc(), target)?;
+    for (version, target) in [
+        (Version::One, b"t".as_slice()),
+        (Version::One, &[97; 512]),
+        (Version::Two, b"t"),
+        (Version::Two, &[97; 512]),
+    ] {
+        let seen = life_on_disk(rt.alloc(), version, target)?;
         assert!(rt; seen == wanted, "{seen:?}");
     }
     Ok(())

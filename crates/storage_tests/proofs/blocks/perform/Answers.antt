@@ -1,5 +1,5 @@
 use Rattle.std.proofs.Common.{◌-◌, ◌≤◌, ℕ, List, length, take, ap, subst, ◌∙◌, arith}
-use Rattle.std.specs.Prelude.{replicate}
+use Rattle.std.specs.Prelude.{replicate, Err}
 use Rattle.std.proofs.lemmas.List.{length-take, length-replicate}
 use Rattle.std.proofs.lemmas.List.FromFn.{length-range_with_len}
 use Rattle.fs_layout.specs.declared.inode.Inode.{Inode}
@@ -74,3 +74,28 @@ release_all-requires-clause-inode g c = c.in_ok-inode.ensures.found ∙ ap (λ i
 
 pub release_all-requires-clause-spare : goal.release_all-requires-clause-spare
 release_all-requires-clause-spare g c = omega (arith, lacking_at_most (g.S.Sectors.state c.load.new.s) (bitmaps c.args.place), length-range_with_len 128 (c.args.place.table - 128), c.room.ensures, c.if-room-place.false)
+
+pub returns-in-Err-TooBig : goal.returns-in-Err-TooBig
+returns-in-Err-TooBig g c =
+    let e = c.in-Err-TooBig.ensures in
+    record {
+      sound = sound_after_reads c.requires.sound
+          (unchanged_joined c.in_ok-inode.ensures.same (e.untouched (e.too_big.0 (ap (λ x. Err x) c.in-Err-TooBig.field-0-is))));
+    }
+
+pub returns-in-Err-TooBig-set_size : goal.returns-in-Err-TooBig-set_size
+returns-in-Err-TooBig-set_size g c =
+    let e = c.in-Err-TooBig-set_size.ensures in
+    record {
+      sound = sound_after_reads c.requires.sound
+          (unchanged_joined c.in_ok-inode.ensures.same (e.untouched (e.too_big.0 (ap (λ x. Err x) c.in-Err-TooBig-set_size.field-0-is))));
+    }
+
+pub count_free-requires : goal.count_free-requires
+count_free-requires g c = (sound_after_reads c.requires.sound c.in_ok-inode.ensures.same).bitmaps
+
+pub returns-else-free-wanted : goal.returns-else-free-wanted
+returns-else-free-wanted g c = record {
+  sound = sound_after_reads c.requires.sound
+      (unchanged_joined c.in_ok-inode.ensures.same c.in_ok-free-in-HasFree.ensures.same);
+}
