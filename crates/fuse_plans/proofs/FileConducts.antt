@@ -18,7 +18,7 @@ use Rattle.fuse_state.specs.Changes.{told}
 use Rattle.fuse_state.specs.Servers.{owner_of, descriptor_of}
 use Rattle.fuse_state.specs.declared.place.Place.{Place}
 use Rattle.fuse_plans.specs.Conduct.{Rights, stays, by_handle, is_on, IsByHandle}
-use Rattle.fuse_plans.specs.FilePlans.{touched_if, ask_first, open_object, open_file, or_opened, open_or_make, show_open, look_open, tell_created, create_file, the_open, call_open, seek, seek_open, read_piece, read_pieces, read_file, or_done, write_piece, write_pieces, pieces_in, write_file, close_file}
+use Rattle.fuse_plans.specs.FilePlans.{touched_if, ask_first, open_object, open_file, or_opened, open_or_make, show_open, confirm_shown, confirm_open, look_open, tell_created, create_file, the_open, call_open, seek, seek_open, read_piece, read_pieces, read_file, or_done, write_piece, write_pieces, pieces_in, write_file, close_file}
 use Rattle.fuse_plans.specs.Flags.{is_trunc}
 use Rattle.fuse_plans.proofs.Conducts.{Does, does-give, does-stop, does-kept, does-keep, does->>=, does-attempt, does-needed}
 use Rattle.fuse_plans.proofs.Calls.{CanCall, does-obtain, does-or_closed, does-between, does-on, does-replied_status, does-the_number, does-directory_number}
@@ -41,12 +41,22 @@ module _ {rights : Rights} (r : Asked) (is : rights.cred ≡ r.cred) where
       does->>= (does-when _ _ (does-done (does-on pid n _ (λ path. caller-can pid _ refl)))) (λ may.
       does-when _ _ (does-done (does-on pid n _ (λ path. caller-can pid _ refl))))
 
+  does-confirm_open : (pid fd n : ℕ) (cuts : Bool) → Does rights (OfCaller rights pid) (confirm_open pid fd n cuts)
+  unfolding show_open confirm_shown confirm_open
+  does-confirm_open pid fd n cuts =
+      does->>= (does-attempt
+      (does->>= (does->>= (does-obtain pid _ (caller-can pid _ refl)) does-replied_status) (λ status.
+      does->>= (does-if _ _ _ (does-give tt) (does-stop _)) (λ same.
+      does-when cuts _ (does-done (does-obtain pid _ (caller-can pid _ refl))))))) (λ confirmed.
+      does-or_closed pid fd confirmed (caller-can pid _ refl))
+
   does-open_object : (now : Time) (pid n flags : ℕ) (mode : Mode) → Does rights (OfCaller rights pid) (open_object now pid n flags mode)
   does-open_object now pid n flags mode =
       does->>= (does-on pid n _ (λ path. caller-can pid _ refl)) (λ reply.
       does->>= (does-replied_handle pid reply) (λ handle.
+      does->>= (does-confirm_open pid _ n _) (λ confirmed.
       does->>= (does-keep _ (touched_if-same (is_trunc flags) now n)) (λ touched.
-      does->>= (does-keep _ (λ s. (refl, refl))) (λ done. does-give _))))
+      does->>= (does-keep _ (λ s. (refl, refl))) (λ done. does-give _)))))
 
   pub does-open_file : (flags : ℕ) → Does rights Anyone (open_file r flags)
   does-open_file flags =

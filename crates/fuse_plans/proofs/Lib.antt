@@ -4,6 +4,7 @@ pub mod Conducts
 pub mod FileConducts
 pub mod Forms
 pub mod NameConducts
+pub mod OpenedObjects
 pub mod OtherConducts
 pub mod PlanLaws
 pub mod Replays

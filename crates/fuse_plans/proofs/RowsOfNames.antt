@@ -50,7 +50,7 @@ pub unlink_open : played new (
     ∷ asks 1 0 0 (Some []) 1000000034 (Lookup (codes "v2")) (Done ∷ (failed ENOENT) ∷ Done ∷ [])
     ∷ asks 1 0 0 (Some []) 1000000035 (AddLink 4294967299 (codes "v2")) (Done ∷ Done ∷ Done ∷ Done ∷ (Shown (status 3 File 493 2 0 0 0)) ∷ Done ∷ [])
     ∷ asks 1 0 0 (Some []) 1000000036 (Lookup (codes "v")) (Done ∷ (Shown (status 3 File 493 2 0 0 0)) ∷ Done ∷ [])
-    ∷ asks 4294967299 0 0 (Some []) 1000000037 (OpenFile (record { 0 = 32770 })) (Done ∷ (Fd 0) ∷ Done ∷ [])
+    ∷ asks 4294967299 0 0 (Some []) 1000000037 (OpenFile (record { 0 = 32770 })) (Done ∷ (Fd 0) ∷ Done ∷ (Shown (status 3 File 493 2 0 0 0)) ∷ [])
     ∷ asks 4294967298 0 0 None 1000000038 (Forget) []
     ∷ asks 1 0 0 (Some []) 1000000039 (Lookup (codes "v2")) (Done ∷ (Shown (status 3 File 493 2 0 0 0)) ∷ Done ∷ [])
     ∷ asks 1 0 0 (Some []) 1000000040 (UnlinkName (codes "v2")) (Done ∷ Done ∷ Done ∷ [])
@@ -97,7 +97,7 @@ pub unlink_open : played new (
     ∷ (((Enter 2 1 1) ∷ (Calls 2 (Lstat (codes "v2"))) ∷ (Enter 2 1 1) ∷ []), Error 2)
     ∷ (((Enter 2 1 1) ∷ (Calls 2 (Link (codes "v") (codes "v2"))) ∷ (Enter 2 1 1) ∷ (Enter 1 1 1) ∷ (Calls 1 (Lstat (codes "v2"))) ∷ (Enter 1 1 1) ∷ []), Told (Found 4294967299 (attributes (status 3 File 493 2 0 0 0) (second 1000000026) (second 1000000026) (second 1000000035))))
     ∷ (((Enter 2 1 1) ∷ (Calls 2 (Lstat (codes "v"))) ∷ (Enter 2 1 1) ∷ []), Told (Found 4294967299 (attributes (status 3 File 493 2 0 0 0) (second 1000000026) (second 1000000026) (second 1000000035))))
-    ∷ (((Enter 2 1 1) ∷ (Calls 2 (Open (codes "v") (flags Both false false false true false) 0)) ∷ (Enter 2 1 1) ∷ []), Told (Opened 64))
+    ∷ (((Enter 2 1 1) ∷ (Calls 2 (Open (codes "v") (flags Both false false false true false) 0)) ∷ (Enter 2 1 1) ∷ (Calls 2 (Fstat 0)) ∷ []), Told (Opened 64))
     ∷ ([], Silent)
     ∷ (((Enter 2 1 1) ∷ (Calls 2 (Lstat (codes "v2"))) ∷ (Enter 2 1 1) ∷ []), Told (Found 4294967299 (attributes (status 3 File 493 2 0 0 0) (second 1000000026) (second 1000000026) (second 1000000035))))
     ∷ (((Enter 2 1 1) ∷ (Calls 2 (Unlink (codes "v2"))) ∷ (Enter 2 1 1) ∷ []), Told Nothing)

@@ -5,7 +5,7 @@ use Rattle.std.specs.Prelude.{ℕ, ◌+◌, ◌-◌, ◌/◌, ◌^◌, ◌==◌,
 use Rattle.posix_acl.specs.Entries.{perms_of}
 use Rattle.fs_cred.specs.declared.errno.Errno.TheVariants.{EEXIST, EINVAL, EBADF}
 use Rattle.fs_model.specs.declared.call.Call.{Call}
-use Rattle.fs_model.specs.declared.call.Call.TheVariants.{Open as OpenCall, Close, Fstat, Lseek, Read as ReadCall, Write as WriteCall, Access, Truncate}
+use Rattle.fs_model.specs.declared.call.Call.TheVariants.{Open as OpenCall, Close, Fstat, Ftruncate, Lseek, Read as ReadCall, Write as WriteCall, Access, Truncate}
 use Rattle.fs_model.specs.declared.call.Whence.TheVariants.{Set}
 use Rattle.fs_model.specs.declared.event.Event.TheVariants.{Call as Calls, Fsync}
 use Rattle.fs_model.specs.declared.reply.Reply.{Reply}
@@ -13,7 +13,9 @@ use Rattle.fs_model.specs.declared.reply.Status.{Status}
 use Rattle.fuse_protocol.specs.declared.reply.Time.{Time}
 use Rattle.fs_model.specs.Limits.{move_limit}
 use Rattle.fuse_plans.specs.declared.stop.Stop.{Stop}
+use Rattle.fuse_plans.specs.declared.stop.Stop.TheVariants.{Lacks}
 use Rattle.fuse_plans.specs.Stops.{failed, is_for}
+use Rattle.fuse_plans.specs.declared.stop.OtherErrno.TheVariants.{ESTALE}
 use Rattle.fuse_plans.specs.declared.request.Asked.{Asked}
 use Rattle.fuse_protocol.specs.declared.operation.Extent.{Extent}
 use Rattle.fuse_plans.specs.declared.reply.ReplyBody.{ReplyBody}
@@ -54,11 +56,38 @@ abbrev pub touched_if : Bool → Time → ℕ → Server → Server
 touched_if true now n s = touched now n s
 touched_if false now n s = s
 
--- what is open has a handle
+unfoldable pub show_open : ℕ → ℕ → Work Status
+show_open pid fd = do
+  reply ← obtain (Calls pid (Fstat fd))
+  replied_status reply
+
+-- a name may lead to another object by now
+abbrev pub only_inode : ℕ → Status → Work (Unit {0})
+only_inode n status = if status.inode == n then give tt else stop (Lacks ESTALE)
+
+-- What is open is this object, and loses its bytes, if it is to.
+unfoldable pub confirm_shown : ℕ → ℕ → ℕ → Bool → Work (Unit {0})
+confirm_shown pid fd n cuts = do
+  status ← show_open pid fd
+  only_inode n status
+  when cuts (done (obtain (Calls pid (Ftruncate fd 0))))
+
+-- the same; where it is another, or isn't shown, it is closed
+unfoldable pub confirm_open : ℕ → ℕ → ℕ → Bool → Work (Unit {0})
+confirm_open pid fd n cuts = do
+  confirmed ← attempt (confirm_shown pid fd n cuts)
+  or_closed pid fd confirmed
+
+-- a file that is opened for writing loses its bytes once it is known to be the object
+abbrev pub cuts_open : ℕ → Mode → Bool
+cuts_open flags mode = not (reads_alone mode) && is_trunc flags
+
+-- what is open, and is the object, has a handle
 abbrev pub open_object : Time → ℕ → ℕ → ℕ → Mode → Work ℕ
 open_object now pid n flags mode = do
-  reply ← on pid n (λ path. OpenCall path (opening mode (is_trunc flags)) 0)
+  reply ← on pid n (λ path. OpenCall path (opening mode false) 0)
   handle ← replied_handle pid reply
+  confirm_open pid (descriptor_of handle) n (cuts_open flags mode)
   keep (touched_if (is_trunc flags) now n)
   keep (with_handle handle n)
   give handle
@@ -89,11 +118,6 @@ unfoldable pub open_or_make : ℕ → ℕ → List ℕ → Mode → ℕ → ℕ 
 open_or_make pid d name mode flags file_mode = do
   first ← attempt (inside pid d (OpenCall name (creating mode) (bit_and file_mode 0o777)))
   or_opened pid d name mode flags first
-
-unfoldable pub show_open : ℕ → ℕ → Work Status
-show_open pid fd = do
-  reply ← obtain (Calls pid (Fstat fd))
-  replied_status reply
 
 -- what stat(2) shows of what is open; where it shows nothing that is closed
 unfoldable pub look_open : ℕ → ℕ → Work Status

@@ -4,17 +4,25 @@
 --             root
 --     BeginningBehaves        the first request begins the server's own process, and asks no more
 --     RunsBehave        the same of what was asked
-use Rattle.std.specs.Prelude.{◌≡◌, ℕ, Bool, true, false, List, [], Option, None, Some, IsFalse}
+--     OpenedIsTheObject        what an OPEN has opened is the object of its node
+use Rattle.std.specs.Prelude.{◌≡◌, ℕ, Bool, true, false, List, [], All, Option, None, Some, IsFalse}
 use Rattle.fs_cred.specs.Credentials.{usual_credential}
+use Rattle.fs_model.specs.declared.call.Call.TheVariants.{Fstat, Ftruncate}
 use Rattle.fs_model.specs.declared.event.Event.{Event}
+use Rattle.fs_model.specs.declared.event.Event.TheVariants.{Call as Calls}
 use Rattle.fs_model.specs.declared.reply.Reply.{Reply}
-use Rattle.fuse_plans.specs.Plans.{IsRunOf, KeepsTo, MayAskAll, after_all}
+use Rattle.fs_model.specs.declared.reply.Reply.TheVariants.{Shown}
+use Rattle.fs_model.specs.declared.reply.Status.{Status}
+use Rattle.fuse_plans.specs.Plans.{IsRunOf, IsAsked, KeepsTo, MayAskAll, after_all}
 use Rattle.fuse_plans.specs.Requests.{Request}
+use Rattle.fuse_protocol.specs.declared.flags.OpenFlags.{OpenFlags}
 use Rattle.fuse_protocol.specs.declared.operation.Offer.{Offer}
 use Rattle.fuse_protocol.specs.declared.operation.Operation.{Operation}
-use Rattle.fuse_protocol.specs.declared.operation.Operation.TheVariants.{SetAttr, Read, Write, Release, FSync, Init}
+use Rattle.fuse_protocol.specs.declared.operation.Operation.TheVariants.{SetAttr, Open, Read, Write, Release, FSync, Init}
+use Rattle.fuse_plans.specs.declared.reply.ReplyBody.TheVariants.{Opened}
 use Rattle.fuse_plans.specs.declared.reply.Response.{Response}
-use Rattle.fuse_state.specs.Servers.{Server}
+use Rattle.fuse_plans.specs.declared.reply.Response.TheVariants.{Says}
+use Rattle.fuse_state.specs.Servers.{Server, number_of, owner_of, descriptor_of, object_of}
 use Rattle.fuse_plans.specs.Conduct.{Known, Rights, conduct}
 use Rattle.fuse_plans.specs.Serving.{request_plan}
 
@@ -78,3 +86,22 @@ RunsBehave =
     (r : Request) (s : Server) (es : List Event) (replies : List Reply) (result : Response × Server) → IsFalse (is_init r.operation)
     → IsRunOf (request_plan r s) es replies result
     → MayAskAll (conduct (rights_of r s)) (known_in s) es replies × Ends s (after_all (conduct (rights_of r s)) (known_in s) es replies) result
+
+-- ---- what is opened
+
+-- What is open under the handle has been shown to be the object of the request's node. After that it has lost its bytes at most.
+pub record OpenedObject (r : Request) (s t : Server) (es : List Event) (replies : List Reply) (handle : ℕ) : Type 0 where
+  pub number : ℕ
+  pub of_node : number_of s r.asked.node ≡ Some number
+  pub status : Status
+  pub is_object : status.inode ≡ number
+  pub after : List Event
+  pub shown : IsAsked (Calls (owner_of handle) (Fstat (descriptor_of handle))) (Shown status) after es replies
+  pub emptied : All (λ e. e ≡ Calls (owner_of handle) (Ftruncate (descriptor_of handle) 0)) after
+  pub held : object_of t handle ≡ Some number
+
+-- Whatever was replied: where an OPEN ends well, its handle is of the object of its node.
+abbrev pub OpenedIsTheObject : Type 0
+OpenedIsTheObject =
+    (r : Request) (s t : Server) (flags : OpenFlags) (es : List Event) (replies : List Reply) (handle : ℕ) → r.operation ≡ Some (Open flags)
+    → IsRunOf (request_plan r s) es replies (Says (Opened handle), t) → OpenedObject r s t es replies handle

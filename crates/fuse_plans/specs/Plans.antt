@@ -3,6 +3,7 @@
 --     followed_by        one plan after another
 --     CarriesOut        a machine goes on by what the plan asks, to its result
 --     IsRunOf        with these replies these events are asked, and that is the result
+--     IsAsked        one of these events, with its reply
 --     Restraint, KeepsTo        what a plan keeps to, whatever is replied
 --     after_all, MayAskAll        the same of events with their replies
 use Rattle.std.specs.Prelude.{◌≡◌, List, [], ◌∷◌}
@@ -32,6 +33,12 @@ IsRunOf (Finish y) [] (reply ∷ replies) x = ⊥
 IsRunOf (Finish y) (f ∷ es) replies x = ⊥
 IsRunOf (Ask e next) [] replies x = ⊥
 IsRunOf (Ask e next) (f ∷ es) [] x = ⊥
+
+-- The event is one of those that were asked, with this reply, and these were asked after it.
+pub data IsAsked (e : Event) (reply : Reply) (after : List Event) : List Event → List Reply → Type 0 where
+  at_once : (replies : List Reply) → IsAsked e reply after (e ∷ after) (reply ∷ replies)
+  later : (f : Event) (other : Reply) (es : List Event) (replies : List Reply)
+      → IsAsked e reply after es replies → IsAsked e reply after (f ∷ es) (other ∷ replies)
 
 -- ---- what a plan keeps to
 

@@ -1,5 +1,5 @@
 //! The laws of the plans: each is the contract of a function that does nothing.
-ghost use Rattle.fuse_plans.specs.Laws.{BeginningBehaves, RequestsBehave, RunsBehave};
+ghost use Rattle.fuse_plans.specs.Laws.{BeginningBehaves, OpenedIsTheObject, RequestsBehave, RunsBehave};
 
 /// Whatever the machine replies, no request but the first is performed with more than the rights of who asks.
 ///
@@ -19,4 +19,12 @@ pub fn beginning_behaves()
 /// The same of what was asked, with the replies that were given.
 pub fn what_is_asked_may_be()
     ensures { RunsBehave }
+{}
+
+/// What an OPEN has opened is the object of its node.
+///
+/// The process of the handle has asked fstat(2) of its descriptor, and the inode that was shown has the number of the node: so a
+/// name that leads elsewhere is ESTALE, and never another file.
+pub fn opened_is_the_object()
+    ensures { OpenedIsTheObject }
 {}

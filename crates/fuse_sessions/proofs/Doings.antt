@@ -13,8 +13,8 @@ use Rattle.fs_model.specs.declared.reply.Reply.{Reply}
 use Rattle.fuse_state.specs.Servers.{Server}
 use Rattle.fuse_sessions.specs.declared.session.Session.{Session}
 use Rattle.fuse_plans.specs.declared.stop.Stop.{Stop}
-use Rattle.fuse_plans.specs.Plans.{Finish, CarriesOut, finishes, asks}
-use Rattle.fuse_plans.specs.Works.{Work, give, stop, kept, keep, goes_on, ◌>>=◌, ◌>>◌, attempt, of_result, needed, ask}
+use Rattle.fuse_plans.specs.Plans.{Finish, CarriesOut, finishes}
+use Rattle.fuse_plans.specs.Works.{Work, give, stop, kept, keep, goes_on, ◌>>=◌, ◌>>◌, attempt, of_result, needed}
 use Rattle.fuse_plans.specs.FilePlans.{when, done}
 use Rattle.fuse_sessions.specs.Performing.{Did}
 use Rattle.fuse_steps.specs.Performing.{DidByMachine}

@@ -1,6 +1,6 @@
 //! Requests that open files.
 ghost use Rattle.std.specs.Prelude.{◌≡◌, ◌+◌, ◌≤◌, ◌&&◌, not, Err};
-ghost use Rattle.fuse_plans.specs.FilePlans.{reads_alone, ask_first, touched_if, open_object, open_granted, open_file, or_opened, open_or_make, show_open, look_open, created_body, tell_created, create_by, create_file};
+ghost use Rattle.fuse_plans.specs.FilePlans.{reads_alone, ask_first, touched_if, cuts_open, confirm_shown, confirm_open, open_object, open_granted, open_file, or_opened, open_or_make, show_open, look_open, created_body, tell_created, create_by, create_file};
 ghost use Rattle.fs_cred.specs.declared.errno.Errno.TheVariants.{EEXIST};
 ghost use Rattle.fuse_plans.specs.Flags.{is_trunc, is_excl};
 ghost use Rattle.fuse_plans.specs.Stops.{is_for};
@@ -16,7 +16,7 @@ use fuse_plans::{Asked, Mode, ReplyBody, Stop};
 use fuse_protocol::{OpenFlags, Time};
 use fuse_state::{Place, Server, descriptor_of};
 use fuse_steps::Machine;
-use fuse_steps::asker::{inside, obtain_once, or_closed};
+use fuse_steps::asker::{done, inside, obtain_once, or_closed};
 use fuse_steps::flags::{creating, is_excl, is_exec, is_trunc, opening};
 use fuse_steps::name::{attributes, place, plain_name};
 use fuse_steps::replies::{fd_of_reply, handle_within};
@@ -29,6 +29,16 @@ fn cuts_first(flags: OpenFlags, mode: Mode) -> bool
     match mode {
         Mode::Reads => is_trunc(flags),
         _ => false,
+    }
+}
+
+// Whether a file that is opened for writing is to lose its bytes.
+fn cuts_open(flags: OpenFlags, mode: Mode) -> bool
+    ensures { result ≡ cuts_open flags.0 mode }
+{
+    match mode {
+        Mode::Reads => false,
+        _ => is_trunc(flags),
     }
 }
 
@@ -113,6 +123,40 @@ fn show_open<M: Machine>(machine: &mut M, pid: usize, fd: usize) -> Result<Statu
     shown(obtain_once(machine, pid, Call::Fstat(fd)))
 }
 
+// What is open is this object, and loses its bytes, if it is to.
+fn confirm_shown<M: Machine>(
+    machine: &mut M,
+    pid: usize,
+    fd: usize,
+    inode: u32,
+    is_cut: bool,
+) -> Result<(), Stop>
+    ensures { DidByMachine M.Serves (confirm_shown pid fd inode is_cut) machine.old machine.new result }
+{
+    let status = show_open(machine, pid, fd)?;
+    if status.inode != inode {
+        return Err(Stop::ESTALE);
+    }
+    if !is_cut {
+        return Ok(());
+    }
+    done(obtain_once(machine, pid, Call::Ftruncate(fd, 0)))
+}
+
+// The same; where it is another object, or isn't shown, it is closed.
+fn confirm_open<M: Machine>(
+    machine: &mut M,
+    pid: usize,
+    fd: usize,
+    inode: u32,
+    is_cut: bool,
+) -> Result<(), Stop>
+    ensures { DidByMachine M.Serves (confirm_open pid fd inode is_cut) machine.old machine.new result }
+{
+    let confirmed = confirm_shown(machine, pid, fd, inode, is_cut);
+    or_closed(machine, pid, fd, confirmed)
+}
+
 // What stat(2) shows of what was opened; where it shows nothing that is closed.
 fn look_open<M: Machine>(machine: &mut M, pid: usize, fd: usize) -> Result<Status, Stop>
     ensures { DidByMachine M.Serves (look_open pid fd) machine.old machine.new result }
@@ -139,7 +183,7 @@ impl<M: Machine> Session<M> {
         self.on_if(cuts_first(flags, mode), pid, inode, cut)
     }
 
-    // Opens an object: its handle.
+    // Opens an object, and no other that its name may lead to: its handle.
     fn open_object(
         &mut self,
         now: Time,
@@ -151,13 +195,15 @@ impl<M: Machine> Session<M> {
         requires { 2 ≤ self.old.server.room }
         ensures { Did M.Serves (open_object now pid inode flags.0 mode) self.old self.new result }
     {
-        let call = Call::Open(self.blank_path(), opening(mode, is_trunc(flags)), 0);
+        let call = Call::Open(self.blank_path(), opening(mode, false), 0);
         let reply = self.on_once(pid, inode, call)?;
         let fd = fd_of_reply(&reply);
         reply.discard();
         let Some(handle) = handle_within(pid, fd) else {
             return Err(Stop::EIO);
         };
+        let (fd, is_cut) = (descriptor_of(handle), cuts_open(flags, mode));
+        confirm_open(&mut self.machine, pid, fd, inode, is_cut)?;
         touch_if(&mut self.server, is_trunc(flags), now, inode);
         self.server.add_handle(handle, inode);
         Ok(handle)
