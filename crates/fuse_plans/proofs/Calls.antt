@@ -1,8 +1,8 @@
 -- How calls behave: in a directory, on an object, by a process of who asks and by the server's own.
 use Rattle.std.specs.Prelude.{◌≡◌, ℕ, ◌==◌, Bool, true, false, ◌&&◌, List, codes, Option, None, Some, Result, Ok, Err, IsTrue, if◌then◌else◌}
-use Rattle.std.proofs.Common.{refl, sym, subst, ◌∙◌}
+use Rattle.std.proofs.Common.{refl, sym, subst, ◌∙◌, arith}
+use Rattle.std.proofs.lemmas.Bool.Decides.{nat_tests}
 use Rattle.fs_cred.specs.declared.errno.Errno.TheVariants.{EACCES, ENOTDIR}
-use Rattle.fs_cred.specs.Credentials.{Credential}
 use Rattle.fs_model.specs.Limits.{root}
 use Rattle.fs_model.specs.declared.call.Call.{Call}
 use Rattle.fs_model.specs.declared.call.Call.TheVariants.{Lstat, Close}
@@ -12,26 +12,40 @@ use Rattle.fs_model.specs.declared.reply.Reply.{Reply}
 use Rattle.fs_model.specs.declared.reply.Reply.TheVariants.{Done, Pid, Fd, Data, Wrote, At, Target, Mask, Shown, Granted, Acl, Names, Space, Refused}
 use Rattle.fuse_plans.specs.Plans.{followed_by, KeepsTo}
 use Rattle.fuse_plans.specs.declared.stop.Stop.{Stop}
+use Rattle.fuse_plans.specs.declared.stop.Stop.TheVariants.{Lacks}
+use Rattle.fuse_plans.specs.declared.stop.OtherErrno.TheVariants.{ESTALE}
 use Rattle.fuse_plans.specs.Stops.{failed, is_for}
-use Rattle.fuse_state.specs.Servers.{Server}
-use Rattle.fuse_plans.specs.Works.{Work, give, stop, kept, goes_on, ◌>>=◌, ◌>>◌, needed, ask, unless_refused, obtain, or_closed, replied_status, unexpected}
-use Rattle.fuse_plans.specs.Callers.{between, inside, done_between, look_inside, on, or_inside, by_place, the_looker, by_looker, look, look_at, is_known_directory, the_number, directory_number, only_directory}
+use Rattle.fuse_state.specs.declared.place.Place.{Place}
+use Rattle.fuse_state.specs.Servers.{Server, number_of, place_of}
+use Rattle.fuse_plans.specs.Works.{Work, give, stop, kept, goes_on, ◌>>=◌, ◌>>◌, needed, ask, refusal_in, unless_refused, obtain, or_closed, replied_status, unexpected}
+use Rattle.fuse_plans.specs.Callers.{between, inside, done_between, look_inside, on, or_inside, at_place, by_place, the_looker, by_looker, look, look_at, is_known_directory, the_number, directory_number, only_directory}
+use Rattle.fuse_plans.specs.Paths.{only_path}
+use Rattle.fuse_plans.specs.Acts.{Subject, Away, gone_to, node_of_object, own_directory, second_directory, IsObject, IsOf, is_known, is_itself, named_in, ActsOn, on_one, Concerns, acts, on_root, without_path}
 use Rattle.fuse_plans.specs.Conduct
 use Rattle.fuse_plans.specs.Conduct.{Known, Rights, MayCall, as_caller, as_looker, shows, MayAsk, conduct, known_after, away_after, Fits, IsNobodyElse, MayEnter, IsCaller, only_looks}
-use Rattle.fuse_plans.proofs.Conducts.{Left, Does, does-give, does-stop, does-kept, does->>=, does-attempt, does-needed, does-unless_refused}
+use Rattle.fuse_plans.proofs.Conducts.{Any, Still, still-number, still-place, Left, LeftTo, Does, Lasts, Gives, then-does_to, does-does_to, gives-give, gives-stop, does-give, does-stop, does-kept, does->>=, does-attempt, does-needed, does-unless_refused, fits-any}
 
 -- where P holds, the process may make the call
-abbrev pub CanCall : Rights → (List (ℕ × Credential) → Type 0) → ℕ → Call → Type 0
+abbrev pub CanCall : Rights → (Server → Type 0) → ℕ → Call → Type 0
 CanCall rights P pid call = (known : Known) (s : Server) → Fits rights P known s → MayCall rights known pid call
 
+-- each call of these takes just the path
+abbrev pub IsPathOf : (List ℕ → Call) → Type 0
+IsPathOf call = (path : List ℕ) → only_path (call path) ≡ Some path
+
+-- the object of the request, whose place is one that may be used
+pub record About (rights : Rights) (P : Server → Type 0) (n : ℕ) : Type 0 where
+  pub object : IsObject rights.subject n
+  pub places : (s : Server) (p : Place) → P s → place_of s n ≡ Some p → IsOf rights.subject p
+
 -- what is known while the process is away
-record Out (rights : Rights) (P : List (ℕ × Credential) → Type 0) (pid : ℕ) (known : Known) (s : Server) : Type 0 where
+record Out (rights : Rights) (P : Server → Type 0) (pid : ℕ) (known : Known) (s : Server) : Type 0 where
   free : IsNobodyElse known.away pid
   processes : known.processes ≡ s.processes
   looker : s.looker ≡ rights.looker
-  holds : P s.processes
+  holds : P s
 
-may-come_back : (away : Option ℕ) (pid : ℕ) → IsNobodyElse away pid → MayEnter away pid root root
+may-come_back : (away : Option Away) (pid : ℕ) → IsNobodyElse away pid → MayEnter away pid root root
 may-come_back None pid free = tt
 may-come_back (Some p) pid free = (free, (refl, refl))
 
@@ -41,47 +55,71 @@ back pid call = do
   ask (Enter pid root root)
   unless_refused reply
 
-still-away : (away : Option ℕ) (pid : ℕ) (at_root : Bool) (reply : Reply) → IsNobodyElse away pid → IsNobodyElse (away_after away pid at_root reply) pid
-still-away away pid true reply free = tt
-still-away away pid false (Refused r) free = free
-still-away away pid false Done free = refl
-still-away away pid false (Pid k) free = refl
-still-away away pid false (Fd k) free = refl
-still-away away pid false (Data k) free = refl
-still-away away pid false (Wrote k) free = refl
-still-away away pid false (At k) free = refl
-still-away away pid false (Target k) free = refl
-still-away away pid false (Mask k) free = refl
-still-away away pid false (Shown k) free = refl
-still-away away pid false (Granted k) free = refl
-still-away away pid false (Acl k) free = refl
-still-away away pid false (Names k) free = refl
-still-away away pid false (Space j k) free = refl
+-- who has entered a directory is the one who is away, and stands there
+record There (there : Away) (away : Option Away) : Type 0 where
+  free : IsNobodyElse away there.pid
+  directory : own_directory away ≡ there.directory
+  second : second_directory away ≡ there.second
 
-still-home : (away : Option ℕ) (pid : ℕ) (at_root : Bool) (r : _) → away ≡ None → away_after away pid at_root (Refused r) ≡ None
-still-home away pid true r home = refl
-still-home away pid false r home = home
+is_root : (directory second : ℕ) → (directory == root && second == root) ≡ true → (root ≡ directory) × (root ≡ second)
+is_root directory second is = (grind (arith, nat_tests), grind (arith, nat_tests))
 
-module _ {rights : Rights} {P : List (ℕ × Credential) → Type 0} where
+there_after : (away : Option Away) (there : Away) (at_root : Bool) (reply : Reply) → (there.directory == root && there.second == root) ≡ at_root → refusal_in reply ≡ None
+    → There there (away_after away there at_root reply)
+there_after away there true reply is fine =
+    let same = is_root there.directory there.second is in
+    record { free = tt; directory = same.0; second = same.1 }
+there_after away there false (Refused r) is fine = absurd (let no : Some r ≡ None = fine in cc)
+there_after away there false Done is fine = record { free = refl; directory = refl; second = refl }
+there_after away there false (Pid k) is fine = record { free = refl; directory = refl; second = refl }
+there_after away there false (Fd k) is fine = record { free = refl; directory = refl; second = refl }
+there_after away there false (Data k) is fine = record { free = refl; directory = refl; second = refl }
+there_after away there false (Wrote k) is fine = record { free = refl; directory = refl; second = refl }
+there_after away there false (At k) is fine = record { free = refl; directory = refl; second = refl }
+there_after away there false (Target k) is fine = record { free = refl; directory = refl; second = refl }
+there_after away there false (Mask k) is fine = record { free = refl; directory = refl; second = refl }
+there_after away there false (Shown k) is fine = record { free = refl; directory = refl; second = refl }
+there_after away there false (Granted k) is fine = record { free = refl; directory = refl; second = refl }
+there_after away there false (Acl k) is fine = record { free = refl; directory = refl; second = refl }
+there_after away there false (Names k) is fine = record { free = refl; directory = refl; second = refl }
+there_after away there false (Space j k) is fine = record { free = refl; directory = refl; second = refl }
+
+still-home : (away : Option Away) (there : Away) (at_root : Bool) (r : _) → away ≡ None → away_after away there at_root (Refused r) ≡ None
+still-home away there true r home = refl
+still-home away there false r home = home
+
+-- what is acted on in these directories
+acts_there : {r : Subject} {there : Away} {away : Option Away} {call : Call} → There there away → ActsOn r there.directory there.second call → Concerns r away call
+acts_there {r} {there} {away} {call} is act =
+    acts (subst (λ d. ActsOn r d (second_directory away) call) (sym is.directory)
+    (subst (λ d. ActsOn r there.directory d call) (sym is.second) act))
+
+module _ {rights : Rights} {P : Server → Type 0} where
   at_home : {known : Known} {s : Server} (pid : ℕ) → Fits rights P known s → IsNobodyElse known.away pid
   at_home pid fits = subst (λ a. IsNobodyElse a pid) (sym fits.home) tt
 
-  pub does-call : (pid : ℕ) (call : Call) → CanCall rights P pid call → Does rights P (ask (Calls pid call))
+  -- by who stands at the root
+  pub does-call : (pid : ℕ) (call : Call) → CanCall rights P pid call → Concerns rights.subject None call → Does rights P (ask (Calls pid call))
   unfolding ask
-  does-call pid call may = record { goes = λ known s fits. ((at_home pid fits, may known s fits), λ reply. fits) }
+  does-call pid call may concerns = record {
+    goes = λ known s fits. (
+      (at_home pid fits, may known s fits, subst (λ a. Concerns rights.subject a call) (sym fits.home) concerns),
+      λ reply. fits,
+    );
+  }
 
-  pub does-obtain : (pid : ℕ) (call : Call) → CanCall rights P pid call → Does rights P (obtain (Calls pid call))
-  does-obtain pid call may = does->>= (does-call pid call may) does-unless_refused
+  pub does-obtain : (pid : ℕ) (call : Call) → CanCall rights P pid call → Concerns rights.subject None call → Does rights P (obtain (Calls pid call))
+  does-obtain pid call may concerns = does->>= (does-call pid call may concerns) does-unless_refused
 
   pub does-or_closed : {X : Type 0} (pid fd : ℕ) (r : Result X Stop) → CanCall rights P pid (Close fd) → Does rights P (or_closed pid fd r)
   does-or_closed pid fd (Ok x) may = does-give x
-  does-or_closed pid fd (Err e) may = does->>= (does-call pid (Close fd) may) (λ reply. does-stop e)
+  does-or_closed pid fd (Err e) may = does->>= (does-call pid (Close fd) may (without_path refl refl refl)) (λ reply. does-stop e)
 
-  goes_back : (pid : ℕ) (call : Call) (known : Known) (s : Server) → MayCall rights known pid call → Out rights P pid known s
+  goes_back : (pid : ℕ) (call : Call) (known : Known) (s : Server) → MayCall rights known pid call → Concerns rights.subject known.away call → Out rights P pid known s
       → KeepsTo (conduct rights) (Left rights P) known (back pid call s)
   unfolding ask ◌>>=◌
-  goes_back pid call known s may out = (
-    (out.free, may),
+  goes_back pid call known s may concerns out = (
+    (out.free, may, concerns),
     λ reply. (
       may-come_back known.away pid out.free,
       λ again. (does-unless_refused reply).goes (known_after known (Enter pid root root) again) s
@@ -90,18 +128,22 @@ module _ {rights : Rights} {P : List (ℕ × Credential) → Type 0} where
   )
 
   -- in a directory or in two
-  pub does-between : (pid directory second : ℕ) (call : Call) → CanCall rights P pid call → Does rights P (between pid directory second call)
+  pub does-between : (pid directory second : ℕ) (call : Call) → CanCall rights P pid call → ActsOn rights.subject directory second call
+      → Does rights P (between pid directory second call)
   unfolding between ask stop give ◌>>=◌
-  does-between pid directory second call may = record {
+  does-between pid directory second call may act = record {
     goes = λ known s fits. (
       subst (λ a. MayEnter a pid directory second) (sym fits.home) tt,
       λ reply. entered known s fits reply,
     );
   }
     where
-      out : (known : Known) (s : Server) (reply : Reply) → Fits rights P known s → Out rights P pid (known_after known (Enter pid directory second) reply) s
-      out known s reply fits = record {
-        free = still-away known.away pid (directory == root && second == root) reply (at_home pid fits);
+      there : (known : Known) (reply : Reply) → refusal_in reply ≡ None → There (gone_to pid directory second) (known_after known (Enter pid directory second) reply).away
+      there known reply fine = there_after known.away (gone_to pid directory second) (directory == root && second == root) reply refl fine
+
+      out : (known : Known) (s : Server) (reply : Reply) → refusal_in reply ≡ None → Fits rights P known s → Out rights P pid (known_after known (Enter pid directory second) reply) s
+      out known s reply fine fits = record {
+        free = (there known reply fine).free;
         processes = fits.processes;
         looker = fits.looker;
         holds = fits.holds;
@@ -110,58 +152,77 @@ module _ {rights : Rights} {P : List (ℕ × Credential) → Type 0} where
       may_then : (known : Known) (s : Server) (reply : Reply) → Fits rights P known s → MayCall rights (known_after known (Enter pid directory second) reply) pid call
       may_then known s reply fits = elim (may known s fits) [ as_caller h i ↦ as_caller h i | Conduct.by_handle h ↦ Conduct.by_handle h | as_looker h i ↦ as_looker h i | shows h ↦ shows h ]
 
-      goes : (known : Known) (s : Server) (reply : Reply) → Fits rights P known s
+      goes : (known : Known) (s : Server) (reply : Reply) → refusal_in reply ≡ None → Fits rights P known s
           → KeepsTo (conduct rights) (Left rights P) (known_after known (Enter pid directory second) reply) (back pid call s)
-      goes known s reply fits = goes_back pid call (known_after known (Enter pid directory second) reply) s (may_then known s reply fits) (out known s reply fits)
+      goes known s reply fine fits =
+          goes_back pid call (known_after known (Enter pid directory second) reply) s (may_then known s reply fits) (acts_there (there known reply fine) act)
+          (out known s reply fine fits)
 
       entered : (known : Known) (s : Server) → Fits rights P known s → (reply : Reply)
           → KeepsTo (conduct rights) (Left rights P) (known_after known (Enter pid directory second) reply)
           (followed_by (unless_refused reply s) (goes_on (λ _. back pid call)))
       entered known s fits (Refused r) = record {
-        home = still-home known.away pid (directory == root && second == root) r fits.home;
+        home = still-home known.away (gone_to pid directory second) (directory == root && second == root) r fits.home;
         processes = fits.processes;
         looker = fits.looker;
         holds = fits.holds;
       }
-      entered known s fits Done = goes known s _ fits
-      entered known s fits (Pid k) = goes known s _ fits
-      entered known s fits (Fd k) = goes known s _ fits
-      entered known s fits (Data k) = goes known s _ fits
-      entered known s fits (Wrote k) = goes known s _ fits
-      entered known s fits (At k) = goes known s _ fits
-      entered known s fits (Target k) = goes known s _ fits
-      entered known s fits (Mask k) = goes known s _ fits
-      entered known s fits (Shown k) = goes known s _ fits
-      entered known s fits (Granted k) = goes known s _ fits
-      entered known s fits (Acl k) = goes known s _ fits
-      entered known s fits (Names k) = goes known s _ fits
-      entered known s fits (Space j k) = goes known s _ fits
+      entered known s fits Done = goes known s _ refl fits
+      entered known s fits (Pid k) = goes known s _ refl fits
+      entered known s fits (Fd k) = goes known s _ refl fits
+      entered known s fits (Data k) = goes known s _ refl fits
+      entered known s fits (Wrote k) = goes known s _ refl fits
+      entered known s fits (At k) = goes known s _ refl fits
+      entered known s fits (Target k) = goes known s _ refl fits
+      entered known s fits (Mask k) = goes known s _ refl fits
+      entered known s fits (Shown k) = goes known s _ refl fits
+      entered known s fits (Granted k) = goes known s _ refl fits
+      entered known s fits (Acl k) = goes known s _ refl fits
+      entered known s fits (Names k) = goes known s _ refl fits
+      entered known s fits (Space j k) = goes known s _ refl fits
 
-  pub does-done_between : (pid directory second : ℕ) (call : Call) → CanCall rights P pid call → Does rights P (done_between pid directory second call)
-  does-done_between pid directory second call may = does->>= (does-between pid directory second call may) (λ reply. does-give tt)
+  pub does-done_between : (pid directory second : ℕ) (call : Call) → CanCall rights P pid call → ActsOn rights.subject directory second call
+      → Does rights P (done_between pid directory second call)
+  does-done_between pid directory second call may act = does->>= (does-between pid directory second call may act) (λ reply. does-give tt)
 
   -- ---- on objects
 
-  does-or_inside : (pid n : ℕ) (call : List ℕ → Call) (kind : Option FileType) (r : Result Reply Stop)
-      → ((path : List ℕ) → CanCall rights P pid (call path)) → Does rights P (or_inside pid n call kind r)
-  does-or_inside pid n call kind (Ok reply) may = does-give reply
-  does-or_inside pid n call kind (Err e) may = choose (is_for EACCES e && is_known_directory kind)
+  does-or_inside : (pid n : ℕ) (call : List ℕ → Call) (kind : Option FileType) (r : Result Reply Stop) → ((path : List ℕ) → CanCall rights P pid (call path)) → IsPathOf call
+      → IsObject rights.subject n → Does rights P (or_inside pid n call kind r)
+  does-or_inside pid n call kind (Ok reply) may takes object = does-give reply
+  does-or_inside pid n call kind (Err e) may takes object = choose (is_for EACCES e && is_known_directory kind)
     where
       choose : (b : Bool) → Does rights P (if b then inside pid n (call (codes ".")) else stop e)
-      choose true = does-between pid n n (call (codes ".")) (may (codes "."))
+      choose true = does-between pid n n (call (codes ".")) (may (codes ".")) (on_one (codes ".") refl (takes (codes ".")) (is_itself object refl))
       choose false = does-stop e
 
-  pub does-on : (pid n : ℕ) (call : List ℕ → Call) → ((path : List ℕ) → CanCall rights P pid (call path)) → Does rights P (on pid n call)
-  unfolding on
-  does-on pid n call may = choose (n == root)
+  does-at_place : (pid n : ℕ) (call : List ℕ → Call) → ((path : List ℕ) → CanCall rights P pid (call path)) → IsPathOf call → IsObject rights.subject n
+      → (p : Place) → IsOf rights.subject p → Does rights P (at_place pid n call p)
+  does-at_place pid n call may takes object p is =
+      does->>= (does-kept _) (λ kind.
+      does->>= (does-attempt (does-between pid p.directory p.directory (call p.name) (may p.name) (on_one p.name refl (takes p.name) is))) (λ r.
+      does-or_inside pid n call kind r may takes object))
+
+  does-by_place : (pid n : ℕ) (call : List ℕ → Call) → ((path : List ℕ) → CanCall rights P pid (call path)) → IsPathOf call → About rights P n
+      → Does rights P (by_place pid n call)
+  unfolding kept give stop ◌>>=◌
+  does-by_place pid n call may takes about = record { goes = λ known s fits. placed known s fits (place_of s n) refl }
     where
-      choose : (b : Bool) → Does rights P (if b then obtain (Calls pid (call (codes "/"))) else by_place pid n call)
-      choose true = does-obtain pid (call (codes "/")) (may (codes "/"))
-      choose false =
-          does->>= (does-kept _) (λ place.
-          does->>= (does-needed _ place) (λ p.
-          does->>= (does-kept _) (λ kind.
-          does->>= (does-attempt (does-between pid p.directory p.directory (call p.name) (may p.name))) (λ r. does-or_inside pid n call kind r may))))
+      placed : (known : Known) (s : Server) → Fits rights P known s → (o : Option Place) → place_of s n ≡ o
+          → KeepsTo (conduct rights) (Left rights P) known (followed_by (needed (Lacks ESTALE) o s) (goes_on (at_place pid n call)))
+      placed known s fits None is = fits
+      placed known s fits (Some p) is = (does-at_place pid n call may takes about.object p (about.places s p fits.holds is)).goes known s fits
+
+  pub does-on : (pid n : ℕ) (call : List ℕ → Call) → ((path : List ℕ) → CanCall rights P pid (call path)) → IsPathOf call → About rights P n
+      → Does rights P (on pid n call)
+  unfolding on
+  does-on pid n call may takes about = choose (n == root) refl
+    where
+      choose : (b : Bool) → (n == root) ≡ b → Does rights P (if b then obtain (Calls pid (call (codes "/"))) else by_place pid n call)
+      choose true is =
+          let same : n ≡ root = grind (arith, nat_tests) in
+          does-obtain pid (call (codes "/")) (may (codes "/")) (on_root refl (takes (codes "/")) (subst (λ k. IsObject rights.subject k) same about.object))
+      choose false is = does-by_place pid n call may takes about
 
   -- ---- the server's own process
 
@@ -174,6 +235,15 @@ module _ {rights : Rights} {P : List (ℕ × Credential) → Type 0} where
       found known s fits None is = fits
       found known s fits (Some pid) is = (rest pid (sym fits.looker ∙ is)).goes known s fits
 
+  pub lasts-with_looker : {X : Type 0} {f : ℕ → Work X} → ((pid : ℕ) → rights.looker ≡ Some pid → Lasts rights P (f pid)) → Lasts rights P (the_looker >>= f)
+  unfolding the_looker kept give stop ◌>>=◌
+  lasts-with_looker {X} {f} rest = record { goes = λ known s fits. found known s fits s.looker refl }
+    where
+      found : (known : Known) (s : Server) → Fits rights P known s → (o : Option ℕ) → s.looker ≡ o
+          → KeepsTo (conduct rights) (Left rights Any) known (followed_by (needed unexpected o s) (goes_on f))
+      found known s fits None is = fits-any fits
+      found known s fits (Some pid) is = (rest pid (sym fits.looker ∙ is)).goes known s fits
+
   -- it may look
   pub looks : (pid : ℕ) → rights.looker ≡ Some pid → (call : Call) → IsTrue (only_looks call) → CanCall rights P pid call
   looks pid is call only known s fits = as_looker is only
@@ -181,36 +251,58 @@ module _ {rights : Rights} {P : List (ℕ × Credential) → Type 0} where
   pub does-replied_status : (reply : Reply) → Does rights P (replied_status reply)
   does-replied_status reply = does-needed _ _
 
-  pub does-look_inside : (pid d : ℕ) (name : List ℕ) → CanCall rights P pid (Lstat name) → Does rights P (look_inside pid d name)
+  pub does-look_inside : (pid d : ℕ) (name : List ℕ) → CanCall rights P pid (Lstat name) → IsOf rights.subject (named_in d name) → Does rights P (look_inside pid d name)
   unfolding look_inside
-  does-look_inside pid d name may = does->>= (does-between pid d d (Lstat name) may) does-replied_status
+  does-look_inside pid d name may is = does->>= (does-between pid d d (Lstat name) may (on_one name refl refl is)) does-replied_status
 
-  pub does-by_looker : (n : ℕ) (call : List ℕ → Call) → ((path : List ℕ) → IsTrue (only_looks (call path))) → Does rights P (by_looker n call)
-  does-by_looker n call only = does-with_looker (λ pid is. does-on pid n call (λ path. looks pid is (call path) (only path)))
+  pub does-by_looker : (n : ℕ) (call : List ℕ → Call) → ((path : List ℕ) → IsTrue (only_looks (call path))) → IsPathOf call → About rights P n
+      → Does rights P (by_looker n call)
+  does-by_looker n call only takes about = does-with_looker (λ pid is. does-on pid n call (λ path. looks pid is (call path) (only path)) takes about)
 
-  does-look_at : (n : ℕ) (placed : Bool) → Does rights P (look_at n placed)
-  does-look_at n true = does-by_looker n Lstat (λ path. refl)
-  does-look_at n false =
+  does-look_at : (n : ℕ) (placed : Bool) → About rights P n → Does rights P (look_at n placed)
+  does-look_at n true about = does-by_looker n Lstat (λ path. refl) (λ path. refl) about
+  does-look_at n false about =
       does->>= (does-kept _) (λ found.
-      does->>= (does-needed _ found) (λ handle. does-obtain _ _ (λ known s fits. shows refl)))
+      does->>= (does-needed _ found) (λ handle. does-obtain _ _ (λ known s fits. shows refl) (without_path refl refl refl)))
 
-  pub does-look : (n : ℕ) → Does rights P (look n)
+  pub does-look : (n : ℕ) → About rights P n → Does rights P (look n)
   unfolding look
-  does-look n = does->>= (does-kept _) (λ placed. does->>= (does-look_at n placed) does-replied_status)
+  does-look n about = does->>= (does-kept _) (λ placed. does->>= (does-look_at n placed about) does-replied_status)
 
-  -- ---- nodes
+-- ---- nodes
 
-  pub does-the_number : (node : ℕ) → Does rights P (the_number node)
-  unfolding the_number
-  does-the_number node = does->>= (does-kept _) (λ n. does-needed _ n)
+-- a node led to the number when the request began
+abbrev pub WasNumber : Rights → ℕ → ℕ → Type 0
+WasNumber rights node n = number_of rights.subject.start node ≡ Some n
 
-  does-only_directory : (n : ℕ) (kind : Option FileType) → Does rights P (only_directory n kind)
-  does-only_directory n kind = choose (is_known_directory kind)
+-- the object of the request is that of the node
+abbrev pub AsksOf : Rights → ℕ → Type 0
+AsksOf rights node = node_of_object rights.subject.operation rights.subject.node ≡ node
+
+pub is-object : (rights : Rights) (node : ℕ) → AsksOf rights node → (n : ℕ) → WasNumber rights node n → IsObject rights.subject n
+is-object rights node asks n was = subst (λ k. number_of rights.subject.start k ≡ Some n) (sym asks) was
+
+module _ {rights : Rights} where
+  -- of an object, where names are as they were
+  pub about-still : (n : ℕ) → IsObject rights.subject n → About rights (Still rights) n
+  about-still n object = record { object = object; places = λ s p still is. is_known n object (sym (still-place still n) ∙ is) }
+
+  pub gives-number : {F : ℕ → Type 0} (node : ℕ) → ((n : ℕ) → WasNumber rights node n → F n) → Gives rights F (the_number node)
+  unfolding the_number kept give stop ◌>>=◌
+  gives-number {F} node says = record { goes = λ known s fits. found known s fits (number_of s node) refl }
     where
-      choose : (b : Bool) → Does rights P (if b then give n else stop (failed ENOTDIR))
-      choose true = does-give n
-      choose false = does-stop _
+      found : (known : Known) (s : Server) → Fits rights (Still rights) known s → (o : Option ℕ) → number_of s node ≡ o
+          → KeepsTo (conduct rights) (LeftTo rights (λ n. Still rights) F) known (needed (Lacks ESTALE) o s)
+      found known s fits None is = fits-any fits
+      found known s fits (Some n) is = (fits, says n (sym (still-number fits.holds node) ∙ is))
 
-  pub does-directory_number : (node : ℕ) → Does rights P (directory_number node)
+  gives-only_directory : {F : ℕ → Type 0} (n : ℕ) (kind : Option FileType) → F n → Gives rights F (only_directory n kind)
+  gives-only_directory {F} n kind is = choose (is_known_directory kind)
+    where
+      choose : (b : Bool) → Gives rights F (if b then give n else stop (failed ENOTDIR))
+      choose true = gives-give n is
+      choose false = gives-stop _
+
+  pub gives-directory_number : {F : ℕ → Type 0} (node : ℕ) → ((n : ℕ) → WasNumber rights node n → F n) → Gives rights F (directory_number node)
   unfolding directory_number
-  does-directory_number node = does->>= (does-the_number node) (λ n. does->>= (does-kept _) (λ kind. does-only_directory n kind))
+  gives-directory_number node says = then-does_to (gives-number node says) (λ n is. does-does_to (does-kept _) (λ kind. gives-only_directory n kind is))

@@ -1,5 +1,5 @@
 -- How a process of who asks is found or begun.
-use Rattle.std.specs.Prelude.{◌≡◌, ℕ, zero, suc, Bool, true, false, not, cond, List, [], ◌∷◌, filter, Option, None, Some, Result, Ok, Err, if◌then◌else◌}
+use Rattle.std.specs.Prelude.{◌≡◌, ℕ, zero, suc, Bool, true, false, not, cond, List, [], ◌∷◌, filter, Option, None, Some, Result, if◌then◌else◌}
 use Rattle.std.proofs.Common.{refl, sym, ap, subst, ◌∙◌}
 use Rattle.std.specs.Ordering.{nat_cmp}
 use Rattle.std.specs.Cmp.{unsigned_tied, nat_eq_equiv}
@@ -21,22 +21,9 @@ use Rattle.fuse_state.specs.Servers.{Server, is_process_of, has_credential, is_s
 use Rattle.fuse_plans.specs.Works.{Work, give, stop, kept, keep, ◌>>=◌, needed, ask}
 use Rattle.fuse_plans.specs.Callers.{settled, settle, retire_next, retire, spawn_again, settle_first, begin_process, or_spawned, caller, unused_of, or_unused, caller_with_room}
 use Rattle.fuse_plans.specs.Conduct.{Known, Rights, conduct, after_spawn, after_exit, Fits, IsHome, IsCaller}
-use Rattle.fuse_plans.proofs.Conducts.{Left, Does, does-give, does-kept, does->>=, keeps->>=, keeps-weaker}
-
--- of the processes nothing more is known
-abbrev pub Anyone : List (ℕ × Credential) → Type 0
-Anyone processes = Unit {0}
-
-abbrev pub LeftTo : Rights → {X : Type 0} → (X → List (ℕ × Credential) → Type 0) → Known → Result X Stop × Server → Type 0
-LeftTo rights Q known (Ok x, s) = Fits rights (Q x) known s
-LeftTo rights Q known (Err e, s) = Fits rights Anyone known s
-
--- the work behaves, and Q holds of its value and the processes then
-pub record DoesTo (rights : Rights) {X : Type 0} (Q : X → List (ℕ × Credential) → Type 0) (w : Work X) : Type 0 where
-  pub goes : (known : Known) (s : Server) → Fits rights Anyone known s → KeepsTo (conduct rights) (LeftTo rights Q) known (w s)
-
-pub anyone : {rights : Rights} {P : List (ℕ × Credential) → Type 0} {known : Known} {s : Server} → Fits rights P known s → Fits rights Anyone known s
-anyone fits = record { home = fits.home; processes = fits.processes; looker = fits.looker; holds = tt }
+use Rattle.fuse_plans.specs.Acts.{IsObject}
+use Rattle.fuse_plans.proofs.Conducts.{Still, still-as, LeftTo, Does, DoesTo, fits-any, does-does_to, does-give, does-kept, does->>=, keeps->>=}
+use Rattle.fuse_plans.proofs.Calls.{About, about-still}
 
 -- ---- what is chosen
 
@@ -74,93 +61,94 @@ begun processes pid cred =
     ap (has_credential cred) (get-with_entry processes pid cred pid ∙ ap (λ b. cond b (Some cred) (get nat_cmp processes pid)) (unsigned_tied pid pid ∙ nat_eq_equiv.refl pid))
     ∙ same_credential cred
 
--- a process of who asks
-abbrev pub OfCaller : Rights → ℕ → List (ℕ × Credential) → Type 0
-OfCaller rights pid processes = IsCaller rights.cred processes pid
+-- a process of who asks, where nodes and names are as they were
+pub record OfCaller (rights : Rights) (pid : ℕ) (s : Server) : Type 0 where
+  pub still : Still rights s
+  pub is : IsCaller rights.cred s.processes pid
+
+-- nothing more is known of a value
+abbrev pub NoMore : ℕ → Type 0
+NoMore pid = Unit {0}
+
+abbrev ChosenLeft : Rights → Known → Result ℕ Stop × Server → Type 0
+ChosenLeft rights = LeftTo rights (OfCaller rights) NoMore
 
 -- ---- a new process
 
 module _ {rights : Rights} where
-  pub then-does : {X Y : Type 0} {Q : X → List (ℕ × Credential) → Type 0} {w : Work X} {f : X → Work Y}
-      → DoesTo rights Q w → ((x : X) → Does rights (Q x) (f x)) → Does rights Anyone (w >>= f)
-  then-does {X} {Y} {Q} {w} {f} first rest = record {
-    goes = λ known s fits.
-        keeps->>= rights (LeftTo rights Q) (Left rights Anyone) w f known s (first.goes known s fits)
-        (λ n x t left. keeps-weaker (conduct rights) (Left rights (Q x)) (Left rights Anyone) (f x t) n ((rest x).goes n t left) (λ m r fits. anyone fits))
-        (λ n e t left. left);
-  }
+  pub about-caller : (pid n : ℕ) → IsObject rights.subject n → About rights (OfCaller rights pid) n
+  about-caller pid n object = let about = about-still n object in record { object = object; places = λ s p of is. about.places s p of.still is }
 
-  pub then-does_to : {X Y : Type 0} {Q : Y → List (ℕ × Credential) → Type 0} {w : Work X} {f : X → Work Y}
-      → Does rights Anyone w → ((x : X) → DoesTo rights Q (f x)) → DoesTo rights Q (w >>= f)
-  then-does_to {X} {Y} {Q} {w} {f} first rest = record {
-    goes = λ known s fits.
-        keeps->>= rights (Left rights Anyone) (LeftTo rights Q) w f known s (first.goes known s fits) (λ n x t left. (rest x).goes n t left) (λ n e t left. left);
-  }
-
-  pub gives-with : {X Y : Type 0} {Q : X → List (ℕ × Credential) → Type 0} {w : Work X} (y : Y)
-      → DoesTo rights Q w → DoesTo rights (λ (p : Y × X). Q p.1) (w >>= (λ x. give (y, x)))
+  pub gives-with : {X Y : Type 0} {Q : X → Server → Type 0} {F : X → Type 0} {w : Work X} (G : Y → Type 0) (y : Y)
+      → G y → DoesTo rights Q F w → DoesTo rights (λ (p : Y × X). Q p.1) (λ (p : Y × X). G p.0) (w >>= (λ x. give (y, x)))
   unfolding give
-  gives-with {X} {Y} {Q} {w} y first = record {
+  gives-with {X} {Y} {Q} {F} {w} G y is first = record {
     goes = λ known s fits.
-        keeps->>= rights (LeftTo rights Q) (LeftTo rights (λ (p : Y × X). Q p.1)) w (λ x. give (y, x)) known s (first.goes known s fits)
-        (λ n x t left. left) (λ n e t left. left);
+        keeps->>= rights (LeftTo rights Q F) (LeftTo rights (λ (p : Y × X). Q p.1) (λ (p : Y × X). G p.0)) w (λ x. give (y, x)) known s (first.goes known s fits)
+        (λ n x t left. (left.0, is)) (λ n e t left. left);
   }
 
-  stops : (e : Stop) (known : Known) (s : Server) → Fits rights Anyone known s → KeepsTo (conduct rights) (LeftTo rights (OfCaller rights)) known (stop {X = ℕ} e s)
+  stops : (e : Stop) (known : Known) (s : Server) → Fits rights (Still rights) known s → KeepsTo (conduct rights) (ChosenLeft rights) known (stop {X = ℕ} e s)
   unfolding stop
-  stops e known s fits = fits
+  stops e known s fits = fits-any fits
 
-  settles_refused : (cred : Credential) (r : Refusal) (known : Known) (s : Server) → Fits rights Anyone known s → (b : Bool)
-      → KeepsTo (conduct rights) (LeftTo rights (OfCaller rights)) known ((if b then stop (Lacks ENFILE) else settled cred (Refused r)) s)
+  settles_refused : (cred : Credential) (r : Refusal) (known : Known) (s : Server) → Fits rights (Still rights) known s → (b : Bool)
+      → KeepsTo (conduct rights) (ChosenLeft rights) known ((if b then stop (Lacks ENFILE) else settled cred (Refused r)) s)
   unfolding stop ◌>>=◌
-  settles_refused cred r known s fits true = fits
-  settles_refused cred r known s fits false = fits
+  settles_refused cred r known s fits true = fits-any fits
+  settles_refused cred r known s fits false = fits-any fits
 
-  settles : (cred : Credential) → rights.cred ≡ Some cred → (known : Known) (s : Server) → Fits rights Anyone known s → (reply : Reply)
-      → KeepsTo (conduct rights) (LeftTo rights (OfCaller rights)) (after_spawn known cred reply) (settle cred reply s)
+  settles : (cred : Credential) → rights.cred ≡ Some cred → (known : Known) (s : Server) → Fits rights (Still rights) known s → (reply : Reply)
+      → KeepsTo (conduct rights) (ChosenLeft rights) (after_spawn known cred reply) (settle cred reply s)
   unfolding keep give stop ◌>>=◌
-  settles cred is known s fits (Pid pid) = record {
-    home = fits.home;
-    processes = ap (λ m. with_entry nat_cmp m pid cred) fits.processes;
-    looker = fits.looker;
-    holds = subst (λ o. IsCaller o (with_entry nat_cmp s.processes pid cred) pid) (sym is) (begun s.processes pid cred);
-  }
+  settles cred is known s fits (Pid pid) = (
+    record {
+      home = fits.home;
+      processes = ap (λ m. with_entry nat_cmp m pid cred) fits.processes;
+      looker = fits.looker;
+      holds = record {
+        still = still-as refl refl refl fits.holds;
+        is = subst (λ o. IsCaller o (with_entry nat_cmp s.processes pid cred) pid) (sym is) (begun s.processes pid cred);
+      };
+    },
+    tt,
+  )
   settles cred is known s fits (Refused r) = settles_refused cred r known s fits (is_for EAGAIN (Refuses r))
-  settles cred is known s fits Done = fits
-  settles cred is known s fits (Fd k) = fits
-  settles cred is known s fits (Data k) = fits
-  settles cred is known s fits (Wrote k) = fits
-  settles cred is known s fits (At k) = fits
-  settles cred is known s fits (Target k) = fits
-  settles cred is known s fits (Mask k) = fits
-  settles cred is known s fits (Shown k) = fits
-  settles cred is known s fits (Granted k) = fits
-  settles cred is known s fits (Acl k) = fits
-  settles cred is known s fits (Names k) = fits
-  settles cred is known s fits (Space j k) = fits
+  settles cred is known s fits Done = fits-any fits
+  settles cred is known s fits (Fd k) = fits-any fits
+  settles cred is known s fits (Data k) = fits-any fits
+  settles cred is known s fits (Wrote k) = fits-any fits
+  settles cred is known s fits (At k) = fits-any fits
+  settles cred is known s fits (Target k) = fits-any fits
+  settles cred is known s fits (Mask k) = fits-any fits
+  settles cred is known s fits (Shown k) = fits-any fits
+  settles cred is known s fits (Granted k) = fits-any fits
+  settles cred is known s fits (Acl k) = fits-any fits
+  settles cred is known s fits (Names k) = fits-any fits
+  settles cred is known s fits (Space j k) = fits-any fits
 
   -- ---- processes end
 
-  retires : (pid : ℕ) (rest : Work (Unit {0})) → Does rights Anyone rest → Does rights Anyone (retire_next rest (Some pid))
+  retires : (pid : ℕ) (rest : Work (Unit {0})) → Does rights (Still rights) rest → Does rights (Still rights) (retire_next rest (Some pid))
   unfolding ask keep ◌>>=◌
   retires pid rest does = record {
     goes = λ known s fits. (
       subst IsHome (sym fits.home) tt,
       λ reply. does.goes (after_exit known pid) (without_process pid s)
-          (record { home = fits.home; processes = ap (λ m. without nat_cmp m pid) fits.processes; looker = fits.looker; holds = tt }),
+          (record { home = fits.home; processes = ap (λ m. without nat_cmp m pid) fits.processes; looker = fits.looker; holds = still-as refl refl refl fits.holds }),
     );
   }
 
-  does-retire_next : (rest : Work (Unit {0})) → Does rights Anyone rest → (o : Option ℕ) → Does rights Anyone (retire_next rest o)
+  does-retire_next : (rest : Work (Unit {0})) → Does rights (Still rights) rest → (o : Option ℕ) → Does rights (Still rights) (retire_next rest o)
   does-retire_next rest does None = does-give tt
   does-retire_next rest does (Some pid) = retires pid rest does
 
-  does-retire : (k : ℕ) → Does rights Anyone (retire k)
+  does-retire : (k : ℕ) → Does rights (Still rights) (retire k)
   unfolding retire
   does-retire zero = does-give tt
   does-retire (suc k) = does->>= (does-kept _) (does-retire_next (retire k) (does-retire k))
 
-  begins : (cred : Credential) → rights.cred ≡ Some cred → DoesTo rights (OfCaller rights) (ask (Spawn cred) >>= settle cred)
+  begins : (cred : Credential) → rights.cred ≡ Some cred → DoesTo rights (OfCaller rights) NoMore (ask (Spawn cred) >>= settle cred)
   unfolding ask ◌>>=◌
   begins cred is = record {
     goes = λ known s fits. (
@@ -169,16 +157,16 @@ module _ {rights : Rights} where
     );
   }
 
-  does-spawn_again : (cred : Credential) → rights.cred ≡ Some cred → DoesTo rights (OfCaller rights) (spawn_again cred)
-  does-spawn_again cred is = then-does_to (does-retire _) (λ done. begins cred is)
+  does-spawn_again : (cred : Credential) → rights.cred ≡ Some cred → DoesTo rights (OfCaller rights) NoMore (spawn_again cred)
+  does-spawn_again cred is = does-does_to (does-retire _) (λ done. begins cred is)
 
-  settles_again : (cred : Credential) → rights.cred ≡ Some cred → (known : Known) (s : Server) → Fits rights Anyone known s → (r : Refusal) (b : Bool)
-      → KeepsTo (conduct rights) (LeftTo rights (OfCaller rights)) known ((if b then spawn_again cred else settle cred (Refused r)) s)
+  settles_again : (cred : Credential) → rights.cred ≡ Some cred → (known : Known) (s : Server) → Fits rights (Still rights) known s → (r : Refusal) (b : Bool)
+      → KeepsTo (conduct rights) (ChosenLeft rights) known ((if b then spawn_again cred else settle cred (Refused r)) s)
   settles_again cred is known s fits r true = (does-spawn_again cred is).goes known s fits
   settles_again cred is known s fits r false = settles cred is known s fits (Refused r)
 
-  settles_first : (cred : Credential) → rights.cred ≡ Some cred → (known : Known) (s : Server) → Fits rights Anyone known s → (reply : Reply)
-      → KeepsTo (conduct rights) (LeftTo rights (OfCaller rights)) (after_spawn known cred reply) (settle_first cred reply s)
+  settles_first : (cred : Credential) → rights.cred ≡ Some cred → (known : Known) (s : Server) → Fits rights (Still rights) known s → (reply : Reply)
+      → KeepsTo (conduct rights) (ChosenLeft rights) (after_spawn known cred reply) (settle_first cred reply s)
   settles_first cred is known s fits (Refused r) = settles_again cred is known s fits r (is_for EAGAIN (Refuses r))
   settles_first cred is known s fits Done = settles cred is known s fits Done
   settles_first cred is known s fits (Pid k) = settles cred is known s fits (Pid k)
@@ -194,7 +182,7 @@ module _ {rights : Rights} where
   settles_first cred is known s fits (Names k) = settles cred is known s fits (Names k)
   settles_first cred is known s fits (Space j k) = settles cred is known s fits (Space j k)
 
-  does-begin_process : (cred : Credential) → rights.cred ≡ Some cred → DoesTo rights (OfCaller rights) (begin_process cred)
+  does-begin_process : (cred : Credential) → rights.cred ≡ Some cred → DoesTo rights (OfCaller rights) NoMore (begin_process cred)
   unfolding begin_process ask ◌>>=◌
   does-begin_process cred is = record {
     goes = λ known s fits. (
@@ -205,59 +193,65 @@ module _ {rights : Rights} where
 
   -- ---- one that is there, or a new one
 
-  or-begin_process : (cred : Credential) → rights.cred ≡ Some cred → (o : Option ℕ) (known : Known) (s : Server) → Fits rights Anyone known s
-      → ((pid : ℕ) → o ≡ Some pid → is_process_of s.processes cred pid ≡ true) → KeepsTo (conduct rights) (LeftTo rights (OfCaller rights)) known (or_spawned cred o s)
+  or-begin_process : (cred : Credential) → rights.cred ≡ Some cred → (o : Option ℕ) (known : Known) (s : Server) → Fits rights (Still rights) known s
+      → ((pid : ℕ) → o ≡ Some pid → is_process_of s.processes cred pid ≡ true) → KeepsTo (conduct rights) (ChosenLeft rights) known (or_spawned cred o s)
   unfolding give
   or-begin_process cred is None known s fits found = (does-begin_process cred is).goes known s fits
-  or-begin_process cred is (Some pid) known s fits found = record {
-    home = fits.home;
-    processes = fits.processes;
-    looker = fits.looker;
-    holds = subst (λ o. IsCaller o s.processes pid) (sym is) (found pid refl);
-  }
+  or-begin_process cred is (Some pid) known s fits found = (
+    record {
+      home = fits.home;
+      processes = fits.processes;
+      looker = fits.looker;
+      holds = record { still = fits.holds; is = subst (λ o. IsCaller o s.processes pid) (sym is) (found pid refl) };
+    },
+    tt,
+  )
 
   with-credential : {f : Credential → Work ℕ} (o : Option Credential) → rights.cred ≡ o
-      → ((cred : Credential) → rights.cred ≡ Some cred → DoesTo rights (OfCaller rights) (f cred)) → DoesTo rights (OfCaller rights) (needed (failed EACCES) o >>= f)
+      → ((cred : Credential) → rights.cred ≡ Some cred → DoesTo rights (OfCaller rights) NoMore (f cred)) → DoesTo rights (OfCaller rights) NoMore (needed (failed EACCES) o >>= f)
   unfolding ◌>>=◌ give stop
-  with-credential None is rest = record { goes = λ known s fits. fits }
+  with-credential None is rest = record { goes = λ known s fits. fits-any fits }
   with-credential (Some cred) is rest = record { goes = λ known s fits. (rest cred is).goes known s fits }
 
-  chooses : (cred : Credential) → rights.cred ≡ Some cred → DoesTo rights (OfCaller rights) (kept (λ s. first_of (processes_of s cred)) >>= or_spawned cred)
+  chooses : (cred : Credential) → rights.cred ≡ Some cred → DoesTo rights (OfCaller rights) NoMore (kept (λ s. first_of (processes_of s cred)) >>= or_spawned cred)
   unfolding kept ◌>>=◌
   chooses cred same = record {
     goes = λ known s fits.
         or-begin_process cred same (first_of (processes_of s cred)) known s fits (λ pid chosen. first-passes (is_process_of s.processes cred) (all_processes s) pid chosen);
   }
 
-  pub does-caller : (who : Option Credential) → rights.cred ≡ who → DoesTo rights (OfCaller rights) (caller who)
+  pub does-caller : (who : Option Credential) → rights.cred ≡ who → DoesTo rights (OfCaller rights) NoMore (caller who)
   unfolding caller
   does-caller who is = with-credential who is chooses
 
-  unused : (cred : Credential) → rights.cred ≡ Some cred → (known : Known) (s : Server) → Fits rights Anyone known s → (b : Bool)
-      → KeepsTo (conduct rights) (LeftTo rights (OfCaller rights)) known (unused_of cred b s)
+  unused : (cred : Credential) → rights.cred ≡ Some cred → (known : Known) (s : Server) → Fits rights (Still rights) known s → (b : Bool)
+      → KeepsTo (conduct rights) (ChosenLeft rights) known (unused_of cred b s)
   unfolding stop kept ◌>>=◌
-  unused cred is known s fits true = fits
+  unused cred is known s fits true = fits-any fits
   unused cred is known s fits false = or-begin_process cred is (first_of (idle s (processes_of s cred))) known s fits
       (λ pid chosen. twice-passes (is_process_of s.processes cred) (λ p. not (holds_some s p)) (all_processes s) pid chosen)
 
-  or-unused : (cred : Credential) → rights.cred ≡ Some cred → (o : Option ℕ) (known : Known) (s : Server) → Fits rights Anyone known s
-      → ((pid : ℕ) → o ≡ Some pid → is_process_of s.processes cred pid ≡ true) → KeepsTo (conduct rights) (LeftTo rights (OfCaller rights)) known (or_unused cred o s)
+  or-unused : (cred : Credential) → rights.cred ≡ Some cred → (o : Option ℕ) (known : Known) (s : Server) → Fits rights (Still rights) known s
+      → ((pid : ℕ) → o ≡ Some pid → is_process_of s.processes cred pid ≡ true) → KeepsTo (conduct rights) (ChosenLeft rights) known (or_unused cred o s)
   unfolding give kept ◌>>=◌
-  or-unused cred is (Some pid) known s fits found = record {
-    home = fits.home;
-    processes = fits.processes;
-    looker = fits.looker;
-    holds = subst (λ o. IsCaller o s.processes pid) (sym is) (found pid refl);
-  }
+  or-unused cred is (Some pid) known s fits found = (
+    record {
+      home = fits.home;
+      processes = fits.processes;
+      looker = fits.looker;
+      holds = record { still = fits.holds; is = subst (λ o. IsCaller o s.processes pid) (sym is) (found pid refl) };
+    },
+    tt,
+  )
   or-unused cred is None known s fits found = unused cred is known s fits (are_many s cred)
 
-  chooses_room : (cred : Credential) → rights.cred ≡ Some cred → DoesTo rights (OfCaller rights) (kept (λ s. partly_used s cred) >>= or_unused cred)
+  chooses_room : (cred : Credential) → rights.cred ≡ Some cred → DoesTo rights (OfCaller rights) NoMore (kept (λ s. partly_used s cred) >>= or_unused cred)
   unfolding kept ◌>>=◌
   chooses_room cred same = record {
     goes = λ known s fits.
         or-unused cred same (partly_used s cred) known s fits (λ pid chosen. twice-passes (is_process_of s.processes cred) (has_room s) (all_processes s) pid chosen);
   }
 
-  pub does-caller_with_room : (who : Option Credential) → rights.cred ≡ who → DoesTo rights (OfCaller rights) (caller_with_room who)
+  pub does-caller_with_room : (who : Option Credential) → rights.cred ≡ who → DoesTo rights (OfCaller rights) NoMore (caller_with_room who)
   unfolding caller_with_room
   does-caller_with_room who is = with-credential who is chooses_room

@@ -1,12 +1,11 @@
 -- How pieces of plans behave, and those that are made of them.
-use Rattle.std.specs.Prelude.{◌≡◌, ℕ, List, Option, None, Some, Result, Ok, Err}
-use Rattle.std.proofs.Common.{sym, subst, ◌∙◌}
-use Rattle.fs_cred.specs.Credentials.{Credential}
+use Rattle.std.specs.Prelude.{◌≡◌, ℕ, Option, None, Some, Result, Ok, Err}
+use Rattle.std.proofs.Common.{sym, ap, ◌∙◌}
 use Rattle.fs_model.specs.declared.reply.Reply.{Reply}
 use Rattle.fs_model.specs.declared.reply.Reply.TheVariants.{Done, Pid, Fd, Data, Wrote, At, Target, Mask, Shown, Granted, Acl, Names, Space, Refused}
 use Rattle.fuse_plans.specs.Plans.{Plan, Finish, Ask, followed_by, Restraint, KeepsTo}
 use Rattle.fuse_plans.specs.declared.stop.Stop.{Stop}
-use Rattle.fuse_state.specs.Servers.{Server}
+use Rattle.fuse_state.specs.Servers.{Server, number_of, place_of}
 use Rattle.fuse_plans.specs.Works.{Work, give, stop, kept, keep, goes_on, ◌>>=◌, attempt, of_result, needed, unless_refused}
 use Rattle.fuse_plans.specs.Conduct.{Known, Rights, conduct, Fits}
 
@@ -41,16 +40,79 @@ keeps->>= {X} {Y} rights E F w f known s first ok err = keeps-followed_by (condu
     after n (Ok x, t) left = ok n x t left
     after n (Err e, t) left = err n e t left
 
+-- ---- what is known of what the server keeps
+
+-- nothing
+abbrev pub Any : Server → Type 0
+Any s = Unit {0}
+
+-- nodes and names are as they were when the request began
+pub record Still (rights : Rights) (s : Server) : Type 0 where
+  pub kinds : s.kinds ≡ rights.subject.start.kinds
+  pub generations : s.generations ≡ rights.subject.start.generations
+  pub names : s.names ≡ rights.subject.start.names
+
+-- the server's processes stay
+abbrev pub SameOwn : (Server → Server) → Type 0
+SameOwn f = (s : Server) → ((f s).processes ≡ s.processes) × ((f s).looker ≡ s.looker)
+
+-- and so do nodes and names
+abbrev pub SameAll : (Server → Server) → Type 0
+SameAll f =
+    (s : Server)
+    → ((f s).processes ≡ s.processes) × ((f s).looker ≡ s.looker) × ((f s).kinds ≡ s.kinds) × ((f s).generations ≡ s.generations) × ((f s).names ≡ s.names)
+
+pub still-as : {rights : Rights} {s t : Server} → t.kinds ≡ s.kinds → t.generations ≡ s.generations → t.names ≡ s.names → Still rights s → Still rights t
+still-as kinds generations names still = record {
+  kinds = kinds ∙ still.kinds;
+  generations = generations ∙ still.generations;
+  names = names ∙ still.names;
+}
+
+pub still-kept : {rights : Rights} (f : Server → Server) → SameAll f → (s : Server) → Still rights s → Still rights (f s)
+still-kept f same s still = still-as (same s).2 (same s).3 (same s).4 still
+
+-- a node leads where it did
+pub still-number : {rights : Rights} {s : Server} → Still rights s → (node : ℕ) → number_of s node ≡ number_of rights.subject.start node
+still-number {rights} {s} still node =
+    let t = rights.subject.start in
+    ap (λ k. number_of (record s { kinds = k }) node) still.kinds
+    ∙ ap (λ g. number_of (record s { kinds = t.kinds; generations = g }) node) still.generations
+
+-- and an object has the place that it had
+pub still-place : {rights : Rights} {s : Server} → Still rights s → (n : ℕ) → place_of s n ≡ place_of rights.subject.start n
+still-place {rights} {s} still n = ap (λ l. place_of (record s { names = l }) n) still.names
+
 -- ---- pieces
 
-abbrev pub Left : Rights → (List (ℕ × Credential) → Type 0) → {X : Type 0} → Known → Result X Stop × Server → Type 0
+abbrev pub Left : Rights → (Server → Type 0) → {X : Type 0} → Known → Result X Stop × Server → Type 0
 Left rights P known r = Fits rights P known r.1
 
--- Where P holds of the processes, the work behaves, and P holds then.
-pub record Does (rights : Rights) (P : List (ℕ × Credential) → Type 0) {X : Type 0} (w : Work X) : Type 0 where
+-- Where P holds of what the server knows, the work behaves, and P holds then.
+pub record Does (rights : Rights) (P : Server → Type 0) {X : Type 0} (w : Work X) : Type 0 where
   pub goes : (known : Known) (s : Server) → Fits rights P known s → KeepsTo (conduct rights) (Left rights P) known (w s)
 
-module _ {rights : Rights} {P : List (ℕ × Credential) → Type 0} where
+-- Where P holds, the work behaves; it is the last.
+pub record Lasts (rights : Rights) (P : Server → Type 0) {X : Type 0} (w : Work X) : Type 0 where
+  pub goes : (known : Known) (s : Server) → Fits rights P known s → KeepsTo (conduct rights) (Left rights Any) known (w s)
+
+abbrev pub LeftTo : Rights → {X : Type 0} → (X → Server → Type 0) → (X → Type 0) → Known → Result X Stop × Server → Type 0
+LeftTo rights Q F known (Ok x, s) = Fits rights (Q x) known s × F x
+LeftTo rights Q F known (Err e, s) = Fits rights Any known s
+
+-- Where nodes and names are as they were, the work behaves; then Q holds of its value and of what the server knows, and F of its
+-- value.
+pub record DoesTo (rights : Rights) {X : Type 0} (Q : X → Server → Type 0) (F : X → Type 0) (w : Work X) : Type 0 where
+  pub goes : (known : Known) (s : Server) → Fits rights (Still rights) known s → KeepsTo (conduct rights) (LeftTo rights Q F) known (w s)
+
+-- the same, where what the server knows stays
+abbrev pub Gives : (rights : Rights) {X : Type 0} → (X → Type 0) → Work X → Type 0
+Gives rights F w = DoesTo rights (λ x. Still rights) F w
+
+pub fits-any : {rights : Rights} {P : Server → Type 0} {known : Known} {s : Server} → Fits rights P known s → Fits rights Any known s
+fits-any fits = record { home = fits.home; processes = fits.processes; looker = fits.looker; holds = tt }
+
+module _ {rights : Rights} {P : Server → Type 0} where
   pub does-give : {X : Type 0} (x : X) → Does rights P (give x)
   unfolding give
   does-give x = record { goes = λ known s fits. fits }
@@ -63,14 +125,14 @@ module _ {rights : Rights} {P : List (ℕ × Credential) → Type 0} where
   unfolding kept
   does-kept f = record { goes = λ known s fits. fits }
 
-  pub does-keep : (f : Server → Server) → ((s : Server) → ((f s).processes ≡ s.processes) × ((f s).looker ≡ s.looker)) → Does rights P (keep f)
+  pub does-keep : (f : Server → Server) → SameOwn f → ((s : Server) → P s → P (f s)) → Does rights P (keep f)
   unfolding keep
-  does-keep f same = record {
+  does-keep f same stays = record {
     goes = λ known s fits. record {
       home = fits.home;
       processes = fits.processes ∙ sym (same s).0;
       looker = (same s).1 ∙ fits.looker;
-      holds = subst P (sym (same s).0) fits.holds;
+      holds = stays s fits.holds;
     };
   }
 
@@ -86,6 +148,46 @@ module _ {rights : Rights} {P : List (ℕ × Credential) → Type 0} where
     goes = λ known s fits.
         keeps-followed_by (conduct rights) (Left rights P) (Left rights P) (w s) (λ r. Finish (Ok r.0, r.1)) known (first.goes known s fits) (λ n r left. left);
   }
+
+  -- ---- the last pieces
+
+  pub does-lasts : {X : Type 0} {w : Work X} → Does rights P w → Lasts rights P w
+  does-lasts {X} {w} does = record {
+    goes = λ known s fits. keeps-weaker (conduct rights) (Left rights P) (Left rights Any) (w s) known (does.goes known s fits) (λ n r left. fits-any left);
+  }
+
+  pub lasts->>= : {X Y : Type 0} {w : Work X} {f : X → Work Y} → Does rights P w → ((x : X) → Lasts rights P (f x)) → Lasts rights P (w >>= f)
+  lasts->>= {X} {Y} {w} {f} first rest = record {
+    goes = λ known s fits.
+        keeps->>= rights (Left rights P) (Left rights Any) w f known s (first.goes known s fits) (λ n x t left. (rest x).goes n t left) (λ n e t left. fits-any left);
+  }
+
+  -- where nothing needs to be known any more
+  pub ends->>= : {X Y : Type 0} {w : Work X} {f : X → Work Y} → Lasts rights P w → ((x : X) → Does rights Any (f x)) → Lasts rights P (w >>= f)
+  ends->>= {X} {Y} {w} {f} first rest = record {
+    goes = λ known s fits.
+        keeps->>= rights (Left rights Any) (Left rights Any) w f known s (first.goes known s fits) (λ n x t left. (rest x).goes n t left) (λ n e t left. left);
+  }
+
+  pub lasts-any : {X : Type 0} {w : Work X} → Does rights Any w → Lasts rights P w
+  lasts-any does = record { goes = λ known s fits. does.goes known s (fits-any fits) }
+
+  -- the server keeps something else from now on
+  pub keep-lasts : {X : Type 0} {Q : Server → Type 0} (f : Server → Server) {w : Work X} → SameOwn f → ((s : Server) → P s → Q (f s)) → Lasts rights Q w
+      → Lasts rights P (keep f >>= (λ _. w))
+  unfolding keep ◌>>=◌
+  keep-lasts {X} {Q} f {w} same after rest = record {
+    goes = λ known s fits.
+        rest.goes known (f s)
+        (record {
+          home = fits.home;
+          processes = fits.processes ∙ sym (same s).0;
+          looker = (same s).1 ∙ fits.looker;
+          holds = after s fits.holds;
+        });
+  }
+
+  -- ---- values
 
   pub does-of_result : {X : Type 0} (r : Result X Stop) → Does rights P (of_result r)
   does-of_result (Ok x) = does-give x
@@ -110,3 +212,69 @@ module _ {rights : Rights} {P : List (ℕ × Credential) → Type 0} where
   does-unless_refused (Acl t) = does-give _
   does-unless_refused (Names t) = does-give _
   does-unless_refused (Space j k) = does-give _
+
+-- ---- what is known of a value
+
+module _ {rights : Rights} where
+  pub then-lasts : {X Y : Type 0} {Q : X → Server → Type 0} {F : X → Type 0} {w : Work X} {f : X → Work Y}
+      → DoesTo rights Q F w → ((x : X) → F x → Lasts rights (Q x) (f x)) → Lasts rights (Still rights) (w >>= f)
+  then-lasts {X} {Y} {Q} {F} {w} {f} first rest = record {
+    goes = λ known s fits.
+        keeps->>= rights (LeftTo rights Q F) (Left rights Any) w f known s (first.goes known s fits) (λ n x t left. (rest x left.1).goes n t left.0)
+        (λ n e t left. left);
+  }
+
+  pub then-does : {X Y : Type 0} {Q : X → Server → Type 0} {F : X → Type 0} {w : Work X} {f : X → Work Y}
+      → DoesTo rights Q F w → ((x : X) → F x → Does rights (Q x) (f x)) → Lasts rights (Still rights) (w >>= f)
+  then-does first rest = then-lasts first (λ x is. does-lasts (rest x is))
+
+  pub then-does_to : {X Y : Type 0} {F : X → Type 0} {R : Y → Server → Type 0} {G : Y → Type 0} {w : Work X} {f : X → Work Y}
+      → Gives rights F w → ((x : X) → F x → DoesTo rights R G (f x)) → DoesTo rights R G (w >>= f)
+  then-does_to {X} {Y} {F} {R} {G} {w} {f} first rest = record {
+    goes = λ known s fits.
+        keeps->>= rights (LeftTo rights (λ x. Still rights) F) (LeftTo rights R G) w f known s (first.goes known s fits)
+        (λ n x t left. (rest x left.1).goes n t left.0) (λ n e t left. left);
+  }
+
+  pub does-does_to : {X Y : Type 0} {R : Y → Server → Type 0} {G : Y → Type 0} {w : Work X} {f : X → Work Y}
+      → Does rights (Still rights) w → ((x : X) → DoesTo rights R G (f x)) → DoesTo rights R G (w >>= f)
+  does-does_to {X} {Y} {R} {G} {w} {f} first rest = record {
+    goes = λ known s fits.
+        keeps->>= rights (Left rights (Still rights)) (LeftTo rights R G) w f known s (first.goes known s fits) (λ n x t left. (rest x).goes n t left)
+        (λ n e t left. fits-any left);
+  }
+
+  pub gives-give : {X : Type 0} {F : X → Type 0} (x : X) → F x → Gives rights F (give x)
+  unfolding give
+  gives-give x is = record { goes = λ known s fits. (fits, is) }
+
+  pub gives-stop : {X : Type 0} {Q : X → Server → Type 0} {F : X → Type 0} (e : Stop) → DoesTo rights Q F (stop e)
+  unfolding stop
+  gives-stop e = record { goes = λ known s fits. fits-any fits }
+
+  -- where it is told whether the first stopped
+  pub attempt-does_to : {X Y : Type 0} {F : X → Type 0} {R : Y → Server → Type 0} {G : Y → Type 0} {w : Work X} (f : Result X Stop → Work Y)
+      → Gives rights F w → ((x : X) → F x → DoesTo rights R G (f (Ok x)))
+      → ((e : Stop) (known : Known) (s : Server) → Fits rights Any known s → KeepsTo (conduct rights) (LeftTo rights R G) known (f (Err e) s))
+      → DoesTo rights R G (attempt w >>= f)
+  unfolding attempt ◌>>=◌
+  attempt-does_to {X} {Y} {F} {R} {G} {w} f first ok err = record {
+    goes = λ known s fits.
+        keeps-followed_by (conduct rights) told (LeftTo rights R G) (followed_by (w s) (λ r. Finish (Ok r.0, r.1))) (goes_on f) known
+        (keeps-followed_by (conduct rights) (LeftTo rights (λ x. Still rights) F) told (w s) (λ r. Finish (Ok r.0, r.1)) known (first.goes known s fits) tells)
+        goes;
+  }
+    where
+      told : Known → Result (Result X Stop) Stop × Server → Type 0
+      told n (Ok (Ok x), t) = Fits rights (Still rights) n t × F x
+      told n (Ok (Err e), t) = Fits rights Any n t
+      told n (Err e, t) = ⊥
+
+      tells : (n : Known) (r : Result X Stop × Server) → LeftTo rights (λ x. Still rights) F n r → told n (Ok r.0, r.1)
+      tells n (Ok x, t) left = left
+      tells n (Err e, t) left = left
+
+      goes : (n : Known) (r : Result (Result X Stop) Stop × Server) → told n r → KeepsTo (conduct rights) (LeftTo rights R G) n (goes_on f r)
+      goes n (Ok (Ok x), t) left = (ok x left.1).goes n t left.0
+      goes n (Ok (Err e), t) left = err e n t left
+      goes n (Err e, t) left = elim left [ ]

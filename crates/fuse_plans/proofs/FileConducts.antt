@@ -1,8 +1,7 @@
 -- How requests for files behave.
-use Rattle.std.specs.Prelude.{◌≡◌, ℕ, ◌+◌, ◌-◌, ◌==◌, suc, zero, Bool, true, false, List, [], ◌∷◌, map, Some, Result, Ok, Err, IsTrue}
+use Rattle.std.specs.Prelude.{◌≡◌, ℕ, ◌+◌, ◌-◌, ◌==◌, suc, zero, Bool, true, false, List, [], ◌∷◌, map, None, Some, Result, Ok, Err, IsTrue}
 use Rattle.std.proofs.Common.{refl, sym, subst}
 use Rattle.std.specs.Cmp.{nat_eq_equiv}
-use Rattle.fs_cred.specs.Credentials.{Credential}
 use Rattle.fs_model.specs.declared.call.Call.{Call}
 use Rattle.fs_model.specs.declared.call.Call.TheVariants.{Read as ReadCall, Write as WriteCall}
 use Rattle.fs_model.specs.declared.reply.FileType.{FileType}
@@ -15,118 +14,131 @@ use Rattle.fuse_plans.specs.declared.request.Asked.{Asked}
 use Rattle.fuse_protocol.specs.declared.operation.Extent.{Extent}
 use Rattle.fuse_protocol.specs.declared.reply.Time.{Time}
 use Rattle.fuse_state.specs.Changes.{told}
-use Rattle.fuse_state.specs.Servers.{owner_of, descriptor_of}
+use Rattle.fuse_state.specs.Servers.{Server, owner_of, descriptor_of}
 use Rattle.fuse_state.specs.declared.place.Place.{Place}
+use Rattle.fuse_plans.specs.Acts.{given_name, IsObject, IsOf, is_given, named_in, on_one, Concerns, without_path}
 use Rattle.fuse_plans.specs.Conduct.{Rights, stays, by_handle, is_on, IsByHandle}
 use Rattle.fuse_plans.specs.FilePlans.{touched_if, ask_first, open_object, open_file, or_opened, open_or_make, show_open, confirm_shown, confirm_open, look_open, tell_created, create_file, the_open, call_open, seek, seek_open, read_piece, read_pieces, read_file, or_done, write_piece, write_pieces, pieces_in, write_file, close_file}
 use Rattle.fuse_plans.specs.Flags.{is_trunc}
-use Rattle.fuse_plans.proofs.Conducts.{Does, does-give, does-stop, does-kept, does-keep, does->>=, does-attempt, does-needed}
-use Rattle.fuse_plans.proofs.Calls.{CanCall, does-obtain, does-or_closed, does-between, does-on, does-replied_status, does-the_number, does-directory_number}
-use Rattle.fuse_plans.proofs.Chosen.{Anyone, OfCaller, then-does, does-caller_with_room}
-use Rattle.fuse_plans.proofs.Forms.{SameOwn, caller-can, does-if, does-when, does-done, does-replied_handle, does-replied_data, does-replied_count}
-use Rattle.fuse_plans.proofs.NameConducts.{does-plain_name}
+use Rattle.fuse_plans.proofs.Conducts.{Still, SameOwn, SameAll, Does, Lasts, does-give, does-stop, does-kept, does-keep, does->>=, does-attempt, does-needed, lasts->>=, ends->>=, then-lasts, then-does}
+use Rattle.fuse_plans.proofs.Calls.{CanCall, AsksOf, is-object, does-obtain, does-or_closed, does-between, does-on, does-replied_status, gives-number, gives-directory_number}
+use Rattle.fuse_plans.proofs.Chosen.{OfCaller, about-caller, does-caller_with_room}
+use Rattle.fuse_plans.proofs.Forms.{caller-can, does-if, does-when, does-done, does-keep_still, does-keep_caller, ends-keep, does-replied_handle, does-replied_data, does-replied_count}
+use Rattle.fuse_plans.proofs.NameConducts.{does-plain_name, given-in}
 
 told-same : (now : Time) (p : Place) (n : ℕ) (kind : FileType) (is_new is_cut : Bool) → SameOwn (told now p n kind is_new is_cut)
 told-same now p n kind true is_cut s = (refl, refl)
 told-same now p n kind false true s = (refl, refl)
 told-same now p n kind false false s = (refl, refl)
 
-touched_if-same : (is_cut : Bool) (now : Time) (n : ℕ) → SameOwn (touched_if is_cut now n)
-touched_if-same true now n s = (refl, refl)
-touched_if-same false now n s = (refl, refl)
+touched_if-same : (is_cut : Bool) (now : Time) (n : ℕ) → SameAll (touched_if is_cut now n)
+touched_if-same true now n s = (refl, refl, refl, refl, refl)
+touched_if-same false now n s = (refl, refl, refl, refl, refl)
 
-module _ {rights : Rights} (r : Asked) (is : rights.cred ≡ r.cred) where
-  does-ask_first : (pid n flags : ℕ) (mode : Mode) → Does rights (OfCaller rights pid) (ask_first pid n flags mode)
-  does-ask_first pid n flags mode =
-      does->>= (does-when _ _ (does-done (does-on pid n _ (λ path. caller-can pid _ refl)))) (λ may.
-      does-when _ _ (does-done (does-on pid n _ (λ path. caller-can pid _ refl))))
+-- ---- to open
+
+module _ {rights : Rights} (r : Asked) (is : rights.cred ≡ r.cred) (asks : AsksOf rights r.node) where
+  does-ask_first : (pid n flags : ℕ) (mode : Mode) → IsObject rights.subject n → Does rights (OfCaller rights pid) (ask_first pid n flags mode)
+  does-ask_first pid n flags mode object =
+      let about = about-caller pid n object in
+      does->>= (does-when _ _ (does-done (does-on pid n _ (λ path. caller-can pid _ refl) (λ path. refl) about))) (λ may.
+      does-when _ _ (does-done (does-on pid n _ (λ path. caller-can pid _ refl) (λ path. refl) about)))
 
   does-confirm_open : (pid fd n : ℕ) (cuts : Bool) → Does rights (OfCaller rights pid) (confirm_open pid fd n cuts)
   unfolding show_open confirm_shown confirm_open
   does-confirm_open pid fd n cuts =
       does->>= (does-attempt
-      (does->>= (does->>= (does-obtain pid _ (caller-can pid _ refl)) does-replied_status) (λ status.
+      (does->>= (does->>= (does-obtain pid _ (caller-can pid _ refl) (without_path refl refl refl)) does-replied_status) (λ status.
       does->>= (does-if _ _ _ (does-give tt) (does-stop _)) (λ same.
-      does-when cuts _ (does-done (does-obtain pid _ (caller-can pid _ refl))))))) (λ confirmed.
+      does-when cuts _ (does-done (does-obtain pid _ (caller-can pid _ refl) (without_path refl refl refl))))))) (λ confirmed.
       does-or_closed pid fd confirmed (caller-can pid _ refl))
 
-  does-open_object : (now : Time) (pid n flags : ℕ) (mode : Mode) → Does rights (OfCaller rights pid) (open_object now pid n flags mode)
-  does-open_object now pid n flags mode =
-      does->>= (does-on pid n _ (λ path. caller-can pid _ refl)) (λ reply.
+  does-open_object : (now : Time) (pid n flags : ℕ) (mode : Mode) → IsObject rights.subject n → Does rights (OfCaller rights pid) (open_object now pid n flags mode)
+  does-open_object now pid n flags mode object =
+      does->>= (does-on pid n _ (λ path. caller-can pid _ refl) (λ path. refl) (about-caller pid n object)) (λ reply.
       does->>= (does-replied_handle pid reply) (λ handle.
       does->>= (does-confirm_open pid _ n _) (λ confirmed.
-      does->>= (does-keep _ (touched_if-same (is_trunc flags) now n)) (λ touched.
-      does->>= (does-keep _ (λ s. (refl, refl))) (λ done. does-give _)))))
+      does->>= (does-keep_caller _ (touched_if-same (is_trunc flags) now n)) (λ touched.
+      does->>= (does-keep_caller _ (λ s. (refl, refl, refl, refl, refl))) (λ done. does-give _)))))
 
-  pub does-open_file : (flags : ℕ) → Does rights Anyone (open_file r flags)
-  does-open_file flags =
-      does->>= (does-the_number _) (λ n.
-      does->>= (does-needed _ _) (λ mode.
-      then-does (does-caller_with_room _ is) (λ pid.
-      does->>= (does-ask_first pid n flags mode) (λ asked.
-      does->>= (does-open_object _ pid n flags mode) (λ handle. does-give _)))))
+  pub lasts-open_file : (flags : ℕ) → Lasts rights (Still rights) (open_file r flags)
+  lasts-open_file flags =
+      then-lasts (gives-number _ (is-object rights _ asks)) (λ n object.
+      lasts->>= (does-needed _ _) (λ mode.
+      then-does (does-caller_with_room _ is) (λ pid more.
+      does->>= (does-ask_first pid n flags mode object) (λ asked.
+      does->>= (does-open_object _ pid n flags mode object) (λ handle. does-give _)))))
 
-  does-or_opened : {P : List (ℕ × Credential) → Type 0} (pid d : ℕ) (name : List ℕ) (mode : Mode) (flags : ℕ) (first : Result Reply Stop)
-      → ((call : Call) → IsTrue (stays call) → CanCall rights P pid call) → Does rights P (or_opened pid d name mode flags first)
-  does-or_opened pid d name mode flags (Ok reply) can = does-give _
-  does-or_opened pid d name mode flags (Err e) can =
-      does-if _ _ _ (does->>= (does-between pid d d _ (can _ refl)) (λ reply. does-give _)) (does-stop e)
+-- ---- to create
 
-  does-open_or_make : (pid d : ℕ) (name : List ℕ) (mode : Mode) (flags file_mode : ℕ) → Does rights (OfCaller rights pid) (open_or_make pid d name mode flags file_mode)
+module _ {rights : Rights} (r : Asked) (is : rights.cred ≡ r.cred) (node : rights.subject.node ≡ r.node) where
+  does-or_opened : {P : Server → Type 0} (pid d : ℕ) (name : List ℕ) (mode : Mode) (flags : ℕ) (first : Result Reply Stop)
+      → ((call : Call) → IsTrue (stays call) → CanCall rights P pid call) → IsOf rights.subject (named_in d name) → Does rights P (or_opened pid d name mode flags first)
+  does-or_opened pid d name mode flags (Ok reply) can of = does-give _
+  does-or_opened pid d name mode flags (Err e) can of =
+      does-if _ _ _ (does->>= (does-between pid d d _ (can _ refl) (on_one name refl refl of)) (λ reply. does-give _)) (does-stop e)
+
+  does-open_or_make : (pid d : ℕ) (name : List ℕ) (mode : Mode) (flags file_mode : ℕ) → IsOf rights.subject (named_in d name)
+      → Does rights (OfCaller rights pid) (open_or_make pid d name mode flags file_mode)
   unfolding open_or_make
-  does-open_or_make pid d name mode flags file_mode =
-      does->>= (does-attempt (does-between pid d d _ (caller-can pid _ refl))) (λ first. does-or_opened pid d name mode flags first (caller-can pid))
+  does-open_or_make pid d name mode flags file_mode of =
+      does->>= (does-attempt (does-between pid d d _ (caller-can pid _ refl) (on_one name refl refl of))) (λ first.
+      does-or_opened pid d name mode flags first (caller-can pid) of)
 
   does-look_open : (pid fd : ℕ) → Does rights (OfCaller rights pid) (look_open pid fd)
   unfolding show_open look_open
   does-look_open pid fd =
-      does->>= (does-attempt (does->>= (does-obtain pid _ (caller-can pid _ refl)) does-replied_status)) (λ seen. does-or_closed pid fd seen (caller-can pid _ refl))
+      does->>= (does-attempt (does->>= (does-obtain pid _ (caller-can pid _ refl) (without_path refl refl refl)) does-replied_status)) (λ seen.
+      does-or_closed pid fd seen (caller-can pid _ refl))
 
-  does-tell_created : {P : List (ℕ × Credential) → Type 0} (now : Time) (p : Place) (is_new is_cut : Bool) (handle : ℕ) (status : Status)
-      → Does rights P (tell_created now p is_new is_cut handle status)
+  lasts-tell_created : {P : Server → Type 0} (now : Time) (p : Place) (is_new is_cut : Bool) (handle : ℕ) (status : Status)
+      → Lasts rights P (tell_created now p is_new is_cut handle status)
   unfolding tell_created
-  does-tell_created now p is_new is_cut handle status =
-      does->>= (does-keep _ (told-same now p _ _ is_new is_cut)) (λ told. does->>= (does-keep _ (λ s. (refl, refl))) (λ done. does-kept _))
+  lasts-tell_created now p is_new is_cut handle status =
+      ends->>= (ends-keep _ (told-same now p _ _ is_new is_cut)) (λ told.
+      does->>= (does-keep _ (λ s. (refl, refl)) (λ s any. tt)) (λ done. does-kept _))
 
-  pub does-create_file : (name : List ℕ) (flags mode umask : ℕ) → Does rights Anyone (create_file r name flags mode umask)
-  does-create_file name flags file_mode umask =
-      does->>= (does-plain_name name) (λ plain.
-      does->>= (does-needed _ _) (λ mode.
-      does->>= (does-directory_number _) (λ d.
-      then-does (does-caller_with_room _ is) (λ pid.
-      does->>= (does-obtain pid _ (caller-can pid _ refl)) (λ old.
-      does->>= (does-open_or_make pid d name mode flags file_mode) (λ opened.
-      does->>= (does-replied_handle pid opened.0) (λ handle.
-      does->>= (does-look_open pid _) (λ status. does-tell_created _ _ opened.1 _ handle status))))))))
+  pub lasts-create_file : (name : List ℕ) (flags mode umask : ℕ) → given_name rights.subject.operation ≡ Some name
+      → Lasts rights (Still rights) (create_file r name flags mode umask)
+  lasts-create_file name flags file_mode umask given =
+      lasts->>= (does-plain_name name) (λ plain.
+      lasts->>= (does-needed _ _) (λ mode.
+      then-lasts (gives-directory_number _ (given-in rights r.node node name given)) (λ d in_it.
+      then-lasts (does-caller_with_room _ is) (λ pid more.
+      lasts->>= (does-obtain pid _ (caller-can pid _ refl) (without_path refl refl refl)) (λ old.
+      lasts->>= (does-open_or_make pid d name mode flags file_mode (is_given in_it)) (λ opened.
+      lasts->>= (does-replied_handle pid opened.0) (λ handle.
+      lasts->>= (does-look_open pid _) (λ status. lasts-tell_created _ _ opened.1 _ handle status))))))))
 
 -- ---- by a handle
 
 -- what is asked by the handle that is given
-pub handle-can : {rights : Rights} {P : List (ℕ × Credential) → Type 0} (handle : ℕ) → rights.handle ≡ Some handle → (call : Call) → IsTrue (is_on (descriptor_of handle) call)
+pub handle-can : {rights : Rights} {P : Server → Type 0} (handle : ℕ) → rights.handle ≡ Some handle → (call : Call) → IsTrue (is_on (descriptor_of handle) call)
     → CanCall rights P (owner_of handle) call
 handle-can handle given call on known s fits = by_handle (subst (λ o. IsByHandle o (owner_of handle) call) (sym given) (refl, on))
 
 pub itself : (n : ℕ) → (n == n) ≡ true
 itself n = nat_eq_equiv.refl n
 
-module _ {rights : Rights} {P : List (ℕ × Credential) → Type 0} where
+module _ {rights : Rights} {P : Server → Type 0} where
   pub does-the_open : (handle : ℕ) → Does rights P (the_open handle)
   unfolding the_open
   does-the_open handle = does->>= (does-kept _) (λ n. does-needed _ n)
 
   does-seek : (handle : ℕ) → rights.handle ≡ Some handle → (offset : ℕ) → Does rights P (seek (owner_of handle) (descriptor_of handle) offset)
   unfolding seek
-  does-seek handle given offset = does-if _ _ _ (does-obtain _ _ (handle-can handle given _ (itself _))) (does-stop _)
+  does-seek handle given offset = does-if _ _ _ (does-obtain _ _ (handle-can handle given _ (itself _)) (without_path refl refl refl)) (does-stop _)
 
   does-seek_open : (handle : ℕ) → rights.handle ≡ Some handle → (offset : ℕ) → Does rights P (seek_open handle offset)
   does-seek_open handle given offset = does->>= (does-the_open handle) (λ n. does->>= (does-seek handle given offset) (λ at. does-give n))
 
-  pub does-call_open : (handle : ℕ) → rights.handle ≡ Some handle → (call : Call) → IsTrue (is_on (descriptor_of handle) call) → Does rights P (call_open handle call)
-  does-call_open handle given call on = does->>= (does-the_open handle) (λ n. does-obtain _ call (handle-can handle given call on))
+  pub does-call_open : (handle : ℕ) → rights.handle ≡ Some handle → (call : Call) → IsTrue (is_on (descriptor_of handle) call) → Concerns rights.subject None call
+      → Does rights P (call_open handle call)
+  does-call_open handle given call on concerns = does->>= (does-the_open handle) (λ n. does-obtain _ call (handle-can handle given call on) concerns)
 
   does-read_piece : (pid fd most : ℕ) → CanCall rights P pid (ReadCall fd most) → Does rights P (read_piece pid fd most)
   unfolding read_piece
-  does-read_piece pid fd most can = does->>= (does-obtain pid _ can) (λ reply. does-replied_data most reply)
+  does-read_piece pid fd most can = does->>= (does-obtain pid _ can (without_path refl refl refl)) (λ reply. does-replied_data most reply)
 
   does-read_pieces : (handle : ℕ) → rights.handle ≡ Some handle → (k size : ℕ) (bytes : List ℕ)
       → Does rights P (read_pieces k (owner_of handle) (descriptor_of handle) size bytes)
@@ -147,9 +159,9 @@ module _ {rights : Rights} {P : List (ℕ × Credential) → Type 0} where
   does-or_done zero (Err e) = does-stop e
   does-or_done (suc done) (Err e) = does-give 0
 
-  does-write_piece : (pid : ℕ) (call : Call) → CanCall rights P pid call → Does rights P (write_piece pid call)
+  does-write_piece : (pid : ℕ) (call : Call) → CanCall rights P pid call → Concerns rights.subject None call → Does rights P (write_piece pid call)
   unfolding write_piece
-  does-write_piece pid call can = does->>= (does-obtain pid call can) (λ reply. does-replied_count _ reply)
+  does-write_piece pid call can concerns = does->>= (does-obtain pid call can concerns) (λ reply. does-replied_count _ reply)
 
   does-write_pieces : (handle : ℕ) → rights.handle ≡ Some handle → (done : ℕ) (pieces : List (List ℕ))
       → Does rights P (write_pieces (owner_of handle) done (map (WriteCall (descriptor_of handle)) pieces))
@@ -157,17 +169,18 @@ module _ {rights : Rights} {P : List (ℕ × Credential) → Type 0} where
   does-write_pieces handle given done [] = does-give done
   does-write_pieces handle given done (piece ∷ pieces) =
       let later = λ (count : ℕ). does-write_pieces handle given (done + count) pieces in
-      does->>= (does-attempt (does-write_piece _ (WriteCall (descriptor_of handle) piece) (handle-can handle given _ (itself _)))) (λ wrote.
+      does->>= (does-attempt (does-write_piece _ (WriteCall (descriptor_of handle) piece) (handle-can handle given _ (itself _)) (without_path refl refl refl))) (λ wrote.
       does->>= (does-or_done done wrote) (λ count.
       does-if _ _ _ (does-give _) (later count)))
 
-  pub does-write_file : (r : Asked) (handle offset : ℕ) (bytes : List ℕ) → rights.handle ≡ Some handle → Does rights P (write_file r handle offset bytes)
+module _ {rights : Rights} where
+  pub does-write_file : (r : Asked) (handle offset : ℕ) (bytes : List ℕ) → rights.handle ≡ Some handle → Does rights (Still rights) (write_file r handle offset bytes)
   does-write_file r handle offset bytes given =
       does->>= (does-seek_open handle given offset) (λ n.
       does->>= (does-write_pieces handle given _ (pieces_in _ bytes)) (λ count.
-      does->>= (does-keep _ (λ s. (refl, refl))) (λ done. does-give _)))
+      does->>= (does-keep_still _ (λ s. (refl, refl, refl, refl, refl))) (λ done. does-give _)))
 
-  pub does-close_file : (handle : ℕ) → rights.handle ≡ Some handle → Does rights P (close_file handle)
+  pub does-close_file : (handle : ℕ) → rights.handle ≡ Some handle → Does rights (Still rights) (close_file handle)
   does-close_file handle given =
-      does->>= (does-call_open handle given _ (itself _)) (λ closed.
-      does->>= (does-keep _ (λ s. (refl, refl))) (λ done. does-give _))
+      does->>= (does-call_open handle given _ (itself _) (without_path refl refl refl)) (λ closed.
+      does->>= (does-keep_still _ (λ s. (refl, refl, refl, refl, refl))) (λ done. does-give _))

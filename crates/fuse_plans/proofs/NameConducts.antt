@@ -1,26 +1,34 @@
 -- How requests for names behave.
-use Rattle.std.specs.Prelude.{◌≡◌, ℕ, List, Option, None, Some, Result, Ok, Err, IsTrue}
-use Rattle.std.proofs.Common.{refl, ◌∙◌}
-use Rattle.fs_cred.specs.Credentials.{Credential}
+use Rattle.std.specs.Prelude.{◌≡◌, ℕ, List, Option, None, Some, unwrap_or, Result, Ok, Err, IsTrue}
+use Rattle.std.proofs.Common.{refl, sym, ap, subst, ◌∙◌}
+use Rattle.fs_cred.specs.declared.errno.Errno.TheVariants.{ENOENT}
 use Rattle.fs_model.specs.declared.call.Call.{Call}
 use Rattle.fs_model.specs.declared.call.Call.TheVariants.{Lstat, Link as LinkCall}
 use Rattle.fs_model.specs.declared.reply.FileType.{FileType}
 use Rattle.fs_model.specs.declared.reply.Reply.{Reply}
 use Rattle.fs_model.specs.declared.reply.Status.{Status}
+use Rattle.fuse_plans.specs.Plans.{followed_by, KeepsTo}
 use Rattle.fuse_plans.specs.declared.stop.Stop.{Stop}
 use Rattle.fuse_plans.specs.declared.stop.Stop.TheVariants.{Refuses, Lacks}
 use Rattle.fuse_plans.specs.declared.stop.OtherErrno.TheVariants.{ENFILE, ERANGE, ENOSYS, ENODATA, EPROTO, EOPNOTSUPP, ESTALE}
+use Rattle.fuse_plans.specs.Stops.{failed}
 use Rattle.fuse_plans.specs.declared.request.Asked.{Asked}
+use Rattle.fuse_protocol.specs.declared.operation.Operation.TheVariants.{Rename, Link}
 use Rattle.fuse_protocol.specs.declared.reply.Time.{Time}
 use Rattle.fuse_state.specs.declared.place.Place.{Place}
-use Rattle.fuse_state.specs.Servers.{named, kind_of, without_name}
+use Rattle.fuse_state.specs.Servers.{Server, number_of, place_of, named, kind_of, without_name}
 use Rattle.fuse_state.specs.Changes.{changed_if, removed, named_if, moved_to, moved, linked}
-use Rattle.fuse_plans.specs.Conduct.{Rights, stays}
-use Rattle.fuse_plans.specs.NamePlans.{plain_name, directory_for, tell_entry, or_absent, searched_directory, find_name, made, directory_and_caller, make_link, make_directory, open_and_close, make_file, remove, none_there, may_move, rename, move_name, link_by_place, tell_linked, add_link}
-use Rattle.fuse_plans.proofs.Conducts.{Does, does-give, does-stop, does-kept, does-keep, does->>=, does-attempt, does-needed}
-use Rattle.fuse_plans.proofs.Calls.{CanCall, does-obtain, does-between, does-done_between, does-look_inside, does-with_looker, looks, does-look, does-the_number, does-directory_number}
-use Rattle.fuse_plans.proofs.Chosen.{Anyone, OfCaller, DoesTo, then-does, then-does_to, gives-with, does-caller, does-caller_with_room}
-use Rattle.fuse_plans.proofs.Forms.{SameOwn, caller-can, does-if, does-replied_fd}
+use Rattle.fuse_state.proofs.StateLaws.{latest_is_the_place}
+use Rattle.fuse_plans.specs.Paths.{only_path}
+use Rattle.fuse_plans.specs.Acts.{Subject, given_name, node_of_object, IsGiven, IsNewName, is_new, IsObject, IsOf, is_given, is_new_name, named_in, ActsOn, on_one, moves, links, without_path}
+use Rattle.fuse_plans.specs.Conduct.{Known, Rights, conduct, Fits, stays}
+use Rattle.fuse_plans.specs.Works.{give, stop, kept, keep, goes_on, ◌>>=◌, ◌>>◌, needed}
+use Rattle.fuse_plans.specs.Callers.{done_between}
+use Rattle.fuse_plans.specs.NamePlans.{plain_name, directory_for, tell_entry, or_absent, searched_directory, find_name, made, directory_and_caller, make_link, make_directory, open_and_close, make_file, remove, none_there, may_move, rename, move_name, link_by_place, add_link}
+use Rattle.fuse_plans.proofs.Conducts.{Any, Still, still-place, SameOwn, Left, LeftTo, Does, Lasts, DoesTo, Gives, does-give, does-stop, does-kept, does->>=, does-attempt, does-lasts, lasts->>=, ends->>=, keep-lasts, then-lasts, then-does_to, does-does_to, attempt-does_to, gives-give}
+use Rattle.fuse_plans.proofs.Calls.{CanCall, WasNumber, does-obtain, does-between, does-done_between, does-look_inside, lasts-with_looker, looks, does-look, is-object, gives-number, gives-directory_number}
+use Rattle.fuse_plans.proofs.Chosen.{OfCaller, about-caller, gives-with, does-caller, does-caller_with_room}
+use Rattle.fuse_plans.proofs.Forms.{caller-can, does-if, does-replied_fd, ends-keep}
 
 -- ---- what the server keeps
 
@@ -49,116 +57,166 @@ moved-same now old new s =
 linked-same : (now : Time) (p : Place) (n : ℕ) (kind : Option FileType) → SameOwn (linked now p n kind)
 linked-same now p n kind s = named_if-same p n kind s
 
-module _ {rights : Rights} {P : List (ℕ × Credential) → Type 0} where
+module _ {rights : Rights} {P : Server → Type 0} where
   pub does-plain_name : (name : List ℕ) → Does rights P (plain_name name)
   does-plain_name name = does-if _ _ _ (does-stop _) (does-give tt)
 
   pub does-tell_entry : (status : Status) → Does rights P (tell_entry status)
   does-tell_entry status = does-kept _
 
-  does-or_absent : (known : Result ℕ Stop) → Does rights P (or_absent known)
-  does-or_absent (Ok n) = does-give n
-  does-or_absent (Err (Lacks ESTALE)) = does-stop _
-  does-or_absent (Err (Lacks ENFILE)) = does-stop _
-  does-or_absent (Err (Lacks ERANGE)) = does-stop _
-  does-or_absent (Err (Lacks ENOSYS)) = does-stop _
-  does-or_absent (Err (Lacks ENODATA)) = does-stop _
-  does-or_absent (Err (Lacks EPROTO)) = does-stop _
-  does-or_absent (Err (Lacks EOPNOTSUPP)) = does-stop _
-  does-or_absent (Err (Refuses r)) = does-stop _
+  -- what was found, made or opened is told, and no more is asked
+  pub tells-entry : (f : Server → Server) → SameOwn f → (status : Status) → Lasts rights P (keep f >> tell_entry status)
+  tells-entry f same status = ends->>= (ends-keep f same) (λ done. does-kept _)
 
-  does-link_by_place : (pid n d : ℕ) (name : List ℕ) → ((old : List ℕ) → CanCall rights P pid (LinkCall old name)) → Does rights P (link_by_place pid n d name)
-  unfolding link_by_place
-  does-link_by_place pid n d name can =
-      does->>= (does-kept _) (λ known. does->>= (does-needed _ known) (λ p. does-done_between pid p.directory d _ (can p.name)))
-
-  does-searched_directory : (node : ℕ) (name : List ℕ) → Does rights P (searched_directory node name)
-  does-searched_directory node name =
-      does->>= (does-plain_name name) (λ plain. does->>= (does-attempt (does-directory_number node)) does-or_absent)
-
-  does-directory_for : (node : ℕ) (name : List ℕ) → Does rights P (directory_for node name)
-  does-directory_for node name = does->>= (does-plain_name name) (λ plain. does-directory_number node)
-
-  pub does-made : (now : Time) (d : ℕ) (name : List ℕ) → Does rights P (made now d name)
+  pub lasts-made : (now : Time) (d : ℕ) (name : List ℕ) → IsOf rights.subject (named_in d name) → Lasts rights P (made now d name)
   unfolding made
-  does-made now d name =
-      does-with_looker (λ pid is.
-      does->>= (does-look_inside pid d name (looks pid is (Lstat name) refl)) (λ status.
-      does->>= (does-keep _ (λ s. (refl, refl))) (λ done. does-tell_entry status)))
+  lasts-made now d name is =
+      lasts-with_looker (λ pid looker.
+      lasts->>= (does-look_inside pid d name (looks pid looker (Lstat name) refl) is) (λ status.
+      tells-entry _ (λ s. (refl, refl)) status))
 
-  does-open_and_close : (pid d : ℕ) (call : Call) → ((any : Call) → IsTrue (stays any) → CanCall rights P pid any) → IsTrue (stays call)
+  does-open_and_close : (pid d : ℕ) (call : Call) → ((any : Call) → IsTrue (stays any) → CanCall rights P pid any) → IsTrue (stays call) → ActsOn rights.subject d d call
       → Does rights P (open_and_close pid d call)
-  does-open_and_close pid d call can puts =
-      does->>= (does-between pid d d call (can call puts)) (λ reply.
+  does-open_and_close pid d call can puts act =
+      does->>= (does-between pid d d call (can call puts) act) (λ reply.
       does->>= (does-replied_fd reply) (λ fd.
-      does->>= (does-obtain pid _ (can _ refl)) (λ closed. does-give tt)))
+      does->>= (does-obtain pid _ (can _ refl) (without_path refl refl refl)) (λ closed. does-give tt)))
 
   does-may_move : (name new_name : List ℕ) (flags : ℕ) → Does rights P (may_move name new_name flags)
   does-may_move name new_name flags =
       does->>= (does-if _ _ _ (does-stop _) (does-give tt)) (λ known.
       does->>= (does-plain_name name) (λ plain. does-plain_name new_name))
 
-  does-rename : (now : Time) (pid : ℕ) (old new : Place) → ((call : Call) → IsTrue (stays call) → CanCall rights P pid call) → Does rights P (rename now pid old new)
-  does-rename now pid old new can =
-      does->>= (does-done_between pid _ _ _ (can _ refl)) (λ renamed. does->>= (does-keep _ (moved-same now old new)) (λ done. does-give _))
-
-  does-tell_linked : (now : Time) (p : Place) (n : ℕ) → Does rights P (tell_linked now p n)
-  does-tell_linked now p n =
-      does->>= (does-kept _) (λ kind.
-      does->>= (does-keep _ (linked-same now p n kind)) (λ done.
-      does->>= (does-look n) (λ status. does-tell_entry status)))
-
-module _ {rights : Rights} (r : Asked) (is : rights.cred ≡ r.cred) where
-  pub does-find_name : (name : List ℕ) → Does rights Anyone (find_name r name)
-  does-find_name name =
-      does->>= (does-searched_directory _ name) (λ d.
-      then-does (does-caller _ is) (λ pid.
-      does->>= (does-look_inside pid d name (caller-can pid _ refl)) (λ status.
-      does->>= (does-keep _ (λ s. (refl, refl))) (λ done. does-tell_entry status))))
-
-  does-directory_and_caller : (name : List ℕ) → DoesTo rights (λ (who : ℕ × ℕ). OfCaller rights who.1) (directory_and_caller r name)
-  does-directory_and_caller name = then-does_to (does-directory_for _ name) (λ d. gives-with d (does-caller _ is))
-
-  pub does-make_link : (name target : List ℕ) → Does rights Anyone (make_link r name target)
-  does-make_link name target =
-      then-does (does-directory_and_caller name) (λ who. does->>= (does-done_between who.1 who.0 who.0 _ (caller-can who.1 _ refl)) (λ done. does-made _ who.0 name))
-
-  pub does-make_directory : (name : List ℕ) (mode umask : ℕ) → Does rights Anyone (make_directory r name mode umask)
-  does-make_directory name mode umask =
-      then-does (does-directory_and_caller name) (λ who.
-      does->>= (does-obtain who.1 _ (caller-can who.1 _ refl)) (λ old.
-      does->>= (does-done_between who.1 who.0 who.0 _ (caller-can who.1 _ refl)) (λ done. does-made _ who.0 name)))
-
-  pub does-make_file : (name : List ℕ) (mode umask : ℕ) → Does rights Anyone (make_file r name mode umask)
-  does-make_file name mode umask =
-      does->>= (does-if _ _ _ (does-give tt) (does-stop _)) (λ file.
-      does->>= (does-directory_for _ name) (λ d.
-      then-does (does-caller_with_room _ is) (λ pid.
-      does->>= (does-obtain pid _ (caller-can pid _ refl)) (λ old.
-      does->>= (does-open_and_close pid d _ (caller-can pid) refl) (λ done. does-made _ d name)))))
-
-  pub does-remove : (call : List ℕ → Call) (name : List ℕ) → IsTrue (stays (call name)) → Does rights Anyone (remove r call name)
-  does-remove call name puts =
-      then-does (does-directory_and_caller name) (λ who.
-      does->>= (does-done_between who.1 who.0 who.0 _ (caller-can who.1 _ puts)) (λ gone.
-      does->>= (does-keep _ (removed-same _ _)) (λ done. does-give _)))
-
-  does-none_there : {P : List (ℕ × Credential) → Type 0} (there : Result Reply Stop) → Does rights P (none_there there)
+  does-none_there : (there : Result Reply Stop) → Does rights P (none_there there)
   does-none_there (Ok reply) = does-stop _
   does-none_there (Err e) = does-if _ _ _ (does-give tt) (does-stop e)
 
-  pub does-move_name : (name : List ℕ) (new_node : ℕ) (new_name : List ℕ) (flags : ℕ) → Does rights Anyone (move_name r name new_node new_name flags)
-  does-move_name name new_node new_name flags =
-      does->>= (does-may_move name new_name flags) (λ may.
-      does->>= (does-directory_number _) (λ d.
-      does->>= (does-directory_number _) (λ new.
-      then-does (does-caller _ is) (λ pid.
-      does->>= (does-if _ _ _ (does-give tt) (does->>= (does-attempt (does-between pid new new _ (caller-can pid _ refl))) does-none_there)) (λ none.
-      does-rename _ pid _ _ (caller-can pid))))))
+  lasts-rename : (now : Time) (pid : ℕ) (old new : Place) → ((call : Call) → IsTrue (stays call) → CanCall rights P pid call)
+      → IsGiven rights.subject old → IsNewName rights.subject new → Lasts rights P (rename now pid old new)
+  lasts-rename now pid old new can given renamed =
+      lasts->>= (does-done_between pid _ _ _ (can _ refl) (moves old.name new.name refl given renamed)) (λ done.
+      ends->>= (ends-keep _ (moved-same now old new)) (λ done. does-give _))
 
-  pub does-add_link : (old_node : ℕ) (name : List ℕ) → Does rights Anyone (add_link r old_node name)
-  does-add_link old_node name =
-      does->>= (does-directory_for _ name) (λ d.
-      does->>= (does-the_number old_node) (λ n.
-      then-does (does-caller _ is) (λ pid.
-      does->>= (does-link_by_place pid n d name (λ old. caller-can pid _ refl)) (λ linked. does-tell_linked r.now _ n))))
+-- ---- directories of names
+
+-- a name that is given, in the directory of the node
+abbrev pub IsNameIn : Subject → List ℕ → ℕ → Type 0
+IsNameIn subject name d = IsGiven subject (named_in d name)
+
+pub given-in : (rights : Rights) (node : ℕ) → rights.subject.node ≡ node → (name : List ℕ) → given_name rights.subject.operation ≡ Some name
+    → (d : ℕ) → WasNumber rights node d → IsNameIn rights.subject name d
+given-in rights node is name given d was = record { name = given; directory = subst (λ k. number_of rights.subject.start k ≡ Some d) (sym is) was }
+
+-- the new name of a rename, in the directory of the other node
+new-in : (rights : Rights) (name : List ℕ) (new_node : ℕ) (new_name : List ℕ) (flags : ℕ) → rights.subject.operation ≡ Some (Rename name new_node new_name flags)
+    → (d : ℕ) → WasNumber rights new_node d → IsNewName rights.subject (named_in d new_name)
+new-in rights name new_node new_name flags asks d was = is_new name new_node flags asks was
+
+module _ {rights : Rights} (r : Asked) (node : rights.subject.node ≡ r.node) where
+  -- a directory that was removed has no names
+  stays-absent : (F : ℕ → Type 0) (e : Stop) (known : Known) (s : Server) → Fits rights Any known s
+      → KeepsTo (conduct rights) (LeftTo rights (λ n. Still rights) F) known (or_absent (Err e) s)
+  unfolding stop
+  stays-absent F (Lacks ESTALE) known s fits = fits
+  stays-absent F (Lacks ENFILE) known s fits = fits
+  stays-absent F (Lacks ERANGE) known s fits = fits
+  stays-absent F (Lacks ENOSYS) known s fits = fits
+  stays-absent F (Lacks ENODATA) known s fits = fits
+  stays-absent F (Lacks EPROTO) known s fits = fits
+  stays-absent F (Lacks EOPNOTSUPP) known s fits = fits
+  stays-absent F (Refuses r) known s fits = fits
+
+  gives-searched_directory : (name : List ℕ) → given_name rights.subject.operation ≡ Some name → Gives rights (IsNameIn rights.subject name) (searched_directory r.node name)
+  gives-searched_directory name given =
+      does-does_to (does-plain_name name) (λ plain.
+      attempt-does_to or_absent (gives-directory_number r.node (given-in rights r.node node name given)) (λ d is. gives-give d is) (stays-absent (IsNameIn rights.subject name)))
+
+  gives-directory_for : (name : List ℕ) → given_name rights.subject.operation ≡ Some name → Gives rights (IsNameIn rights.subject name) (directory_for r.node name)
+  gives-directory_for name given = does-does_to (does-plain_name name) (λ plain. gives-directory_number r.node (given-in rights r.node node name given))
+
+-- where the object may be looked at once it has one more name
+abbrev Leads : Rights → ℕ → Server → Type 0
+Leads rights n s = (q : Place) → place_of s n ≡ Some q → IsOf rights.subject q
+
+module _ {rights : Rights} (r : Asked) (is : rights.cred ≡ r.cred) (node : rights.subject.node ≡ r.node) where
+  pub lasts-find_name : (name : List ℕ) → given_name rights.subject.operation ≡ Some name → Lasts rights (Still rights) (find_name r name)
+  lasts-find_name name given =
+      then-lasts (gives-searched_directory r node name given) (λ d in_it.
+      then-lasts (does-caller _ is) (λ pid more.
+      lasts->>= (does-look_inside pid d name (caller-can pid _ refl) (is_given in_it)) (λ status.
+      tells-entry _ (λ s. (refl, refl)) status)))
+
+  does-directory_and_caller : (name : List ℕ) → given_name rights.subject.operation ≡ Some name
+      → DoesTo rights (λ (who : ℕ × ℕ). OfCaller rights who.1) (λ (who : ℕ × ℕ). IsNameIn rights.subject name who.0) (directory_and_caller r name)
+  does-directory_and_caller name given = then-does_to (gives-directory_for r node name given) (λ d in_it. gives-with (IsNameIn rights.subject name) d in_it (does-caller _ is))
+
+  pub lasts-make_link : (name target : List ℕ) → given_name rights.subject.operation ≡ Some name → Lasts rights (Still rights) (make_link r name target)
+  lasts-make_link name target given =
+      then-lasts (does-directory_and_caller name given) (λ who in_it.
+      lasts->>= (does-done_between who.1 who.0 who.0 _ (caller-can who.1 _ refl) (on_one name refl refl (is_given in_it))) (λ done.
+      lasts-made _ who.0 name (is_given in_it)))
+
+  pub lasts-make_directory : (name : List ℕ) (mode umask : ℕ) → given_name rights.subject.operation ≡ Some name
+      → Lasts rights (Still rights) (make_directory r name mode umask)
+  lasts-make_directory name mode umask given =
+      then-lasts (does-directory_and_caller name given) (λ who in_it.
+      lasts->>= (does-obtain who.1 _ (caller-can who.1 _ refl) (without_path refl refl refl)) (λ old.
+      lasts->>= (does-done_between who.1 who.0 who.0 _ (caller-can who.1 _ refl) (on_one name refl refl (is_given in_it))) (λ done.
+      lasts-made _ who.0 name (is_given in_it))))
+
+  pub lasts-make_file : (name : List ℕ) (mode umask : ℕ) → given_name rights.subject.operation ≡ Some name
+      → Lasts rights (Still rights) (make_file r name mode umask)
+  lasts-make_file name mode umask given =
+      lasts->>= (does-if _ _ _ (does-give tt) (does-stop _)) (λ file.
+      then-lasts (gives-directory_for r node name given) (λ d in_it.
+      then-lasts (does-caller_with_room _ is) (λ pid more.
+      lasts->>= (does-obtain pid _ (caller-can pid _ refl) (without_path refl refl refl)) (λ old.
+      lasts->>= (does-open_and_close pid d _ (caller-can pid) refl (on_one name refl refl (is_given in_it))) (λ done.
+      lasts-made _ d name (is_given in_it))))))
+
+  pub lasts-remove : (call : List ℕ → Call) (name : List ℕ) → IsTrue (stays (call name)) → only_path (call name) ≡ Some name
+      → given_name rights.subject.operation ≡ Some name → Lasts rights (Still rights) (remove r call name)
+  lasts-remove call name puts takes given =
+      then-lasts (does-directory_and_caller name given) (λ who in_it.
+      lasts->>= (does-done_between who.1 who.0 who.0 _ (caller-can who.1 _ puts) (on_one name refl takes (is_given in_it))) (λ gone.
+      ends->>= (ends-keep _ (removed-same _ _)) (λ done. does-give _)))
+
+  pub lasts-move_name : (name : List ℕ) (new_node : ℕ) (new_name : List ℕ) (flags : ℕ) → rights.subject.operation ≡ Some (Rename name new_node new_name flags)
+      → Lasts rights (Still rights) (move_name r name new_node new_name flags)
+  lasts-move_name name new_node new_name flags asks =
+      lasts->>= (does-may_move name new_name flags) (λ may.
+      then-lasts (gives-directory_number _ (given-in rights r.node node name (ap given_name asks))) (λ d in_it.
+      then-lasts (gives-directory_number _ (new-in rights name new_node new_name flags asks)) (λ new renamed.
+      then-lasts (does-caller _ is) (λ pid more.
+      lasts->>= (does-if _ _ _ (does-give tt) (does->>= (does-attempt (does-between pid new new _ (caller-can pid _ refl) (on_one new_name refl refl (is_new_name renamed)))) does-none_there)) (λ none.
+      lasts-rename _ pid _ _ (caller-can pid) in_it renamed)))))
+
+  -- ---- one more name
+
+  linked-leads : (now : Time) (pid d n : ℕ) (name : List ℕ) (kind : Option FileType) → IsObject rights.subject n → IsNameIn rights.subject name d
+      → (s : Server) → OfCaller rights pid s → Leads rights n (linked now (named_in d name) n kind s)
+  linked-leads now pid d n name None object in_it s of q leads = (about-caller pid n object).places s q of leads
+  linked-leads now pid d n name (Some kind) object in_it s of q leads =
+      let both : Some (named_in d name) ≡ Some q = sym (latest_is_the_place s (named_in d name) n kind) ∙ leads in
+      subst (λ o. IsOf rights.subject (unwrap_or o q)) both (is_given in_it)
+
+  does-link_by_place : (pid n d : ℕ) (name : List ℕ) → IsObject rights.subject n → IsNameIn rights.subject name d
+      → Does rights (OfCaller rights pid) (link_by_place pid n d name)
+  unfolding link_by_place kept give stop ◌>>=◌
+  does-link_by_place pid n d name object in_it = record { goes = λ known s fits. placed known s fits (place_of s n) refl }
+    where
+      placed : (known : Known) (s : Server) → Fits rights (OfCaller rights pid) known s → (o : Option Place) → place_of s n ≡ o
+          → KeepsTo (conduct rights) (Left rights (OfCaller rights pid)) known (followed_by (needed (failed ENOENT) o s) (goes_on (λ p. done_between pid p.directory d (LinkCall p.name name))))
+      placed known s fits None at = fits
+      placed known s fits (Some p) at =
+          (does-done_between pid p.directory d _ (caller-can pid _ refl) (links n p.name name refl object (sym (still-place fits.holds.still n) ∙ at) in_it)).goes known s fits
+
+  pub lasts-add_link : (old_node : ℕ) (name : List ℕ) → rights.subject.operation ≡ Some (Link old_node name) → Lasts rights (Still rights) (add_link r old_node name)
+  lasts-add_link old_node name asks =
+      then-lasts (gives-directory_for r node name (ap given_name asks)) (λ d in_it.
+      then-lasts (gives-number old_node (is-object rights old_node (ap (λ o. node_of_object o rights.subject.node) asks))) (λ n object.
+      then-lasts (does-caller _ is) (λ pid more.
+      lasts->>= (does-link_by_place pid n d name object in_it) (λ done.
+      lasts->>= (does-kept _) (λ kind.
+      keep-lasts {Q = Leads rights n} (linked r.now (named_in d name) n kind) (linked-same r.now (named_in d name) n kind) (linked-leads r.now pid d n name kind object in_it)
+      (does-lasts (does->>= (does-look n (record { object = object; places = λ s q leads at. leads q at })) (λ status. does-tell_entry status))))))))

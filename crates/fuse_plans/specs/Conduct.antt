@@ -1,6 +1,6 @@
--- How plans behave, whatever is replied: who makes each call, and where processes stand.
+-- How plans behave, whatever is replied: who makes each call, on what, and where processes stand.
 --     Known        what is known while a plan goes on
---     Rights        for whom it is done
+--     Rights        for whom it is done, and on what
 --     MayCall, MayAsk, conduct        what may be asked
 --     IsDone        how it ends
 use Rattle.std.specs.Prelude.{◌≡◌, ℕ, ◌==◌, Bool, true, false, not, ◌&&◌, List, Option, None, Some, IsTrue}
@@ -15,18 +15,21 @@ use Rattle.fs_model.specs.declared.event.Event.TheVariants.{Spawn, Exit, Call as
 use Rattle.fs_model.specs.declared.reply.Reply.{Reply}
 use Rattle.fs_model.specs.declared.reply.Reply.TheVariants.{Pid, Refused}
 use Rattle.fuse_plans.specs.Plans.{Restraint}
+use Rattle.fuse_plans.specs.Acts.{Subject, Away, gone_to, Concerns}
 use Rattle.fuse_state.specs.Servers.{Server, is_process_of, owner_of, descriptor_of}
 
 -- The process that has entered a directory and wasn't told to come back yet, if there is one; and the processes of callers.
 pub record Known : Type 0 where
-  pub away : Option ℕ
+  pub away : Option Away
   pub processes : List (ℕ × Credential)
 
--- the credential of who asks, where it is known; the server's own process; and the handle that is given
+-- the credential of who asks, where it is known; the server's own process; the handle that is given; and what the request is
+-- about
 pub record Rights : Type 0 where
   pub cred : Option Credential
   pub looker : Option ℕ
   pub handle : Option ℕ
+  pub subject : Subject
 
 -- ---- who calls
 
@@ -80,11 +83,11 @@ pub data MayCall (rights : Rights) (known : Known) (pid : ℕ) (call : Call) : T
 -- ---- what may be asked
 
 -- nobody else is away
-abbrev pub IsNobodyElse : Option ℕ → ℕ → Type 0
+abbrev pub IsNobodyElse : Option Away → ℕ → Type 0
 IsNobodyElse None pid = Unit {0}
-IsNobodyElse (Some p) pid = p ≡ pid
+IsNobodyElse (Some p) pid = p.pid ≡ pid
 
-abbrev pub IsHome : Option ℕ → Type 0
+abbrev pub IsHome : Option Away → Type 0
 IsHome None = Unit {0}
 IsHome (Some p) = ⊥
 
@@ -92,19 +95,19 @@ abbrev pub IsRoot : ℕ → ℕ → Type 0
 IsRoot directory second = (directory ≡ root) × (second ≡ root)
 
 -- from the root anywhere, and from elsewhere to the root
-abbrev pub MayEnter : Option ℕ → ℕ → ℕ → ℕ → Type 0
+abbrev pub MayEnter : Option Away → ℕ → ℕ → ℕ → Type 0
 MayEnter None pid directory second = Unit {0}
-MayEnter (Some p) pid directory second = (p ≡ pid) × IsRoot directory second
+MayEnter (Some p) pid directory second = (p.pid ≡ pid) × IsRoot directory second
 
 abbrev pub IsSyncOf : Option ℕ → ℕ → ℕ → Type 0
 IsSyncOf None pid fd = ⊥
 IsSyncOf (Some handle) pid fd = (pid ≡ owner_of handle) × (fd ≡ descriptor_of handle)
 
--- Nothing is asked of the disk, and processes begin for who asks alone.
+-- Nothing is asked of the disk, and processes begin for who asks alone. Each call concerns what the request is about.
 abbrev pub MayAsk : Rights → Known → Event → Type 0
 MayAsk rights known (Spawn cred) = IsHome known.away × (rights.cred ≡ Some cred)
 MayAsk rights known (Exit pid) = IsHome known.away
-MayAsk rights known (Calls pid call) = IsNobodyElse known.away pid × MayCall rights known pid call
+MayAsk rights known (Calls pid call) = IsNobodyElse known.away pid × MayCall rights known pid call × Concerns rights.subject known.away call
 MayAsk rights known (Enter pid directory second) = MayEnter known.away pid directory second
 MayAsk rights known (Fsync pid fd) = IsHome known.away × IsSyncOf rights.handle pid fd
 MayAsk rights known Sync = IsHome known.away
@@ -112,10 +115,10 @@ MayAsk rights known Statfs = IsHome known.away
 MayAsk rights known _ = ⊥
 
 -- who is away then; a process that is told to come back is taken to be there
-abbrev pub away_after : Option ℕ → ℕ → Bool → Reply → Option ℕ
-away_after away pid true reply = None
-away_after away pid false (Refused r) = away
-away_after away pid false _ = Some pid
+abbrev pub away_after : Option Away → Away → Bool → Reply → Option Away
+away_after away there true reply = None
+away_after away there false (Refused r) = away
+away_after away there false _ = Some there
 
 abbrev pub after_spawn : Known → Credential → Reply → Known
 after_spawn known cred (Pid pid) = record known { processes = with_entry nat_cmp known.processes pid cred }
@@ -129,15 +132,15 @@ abbrev pub known_after : Known → Event → Reply → Known
 known_after known (Spawn cred) reply = after_spawn known cred reply
 known_after known (Exit pid) reply = after_exit known pid
 known_after known (Enter pid directory second) reply =
-    record known { away = away_after known.away pid (directory == root && second == root) reply }
+    record known { away = away_after known.away (gone_to pid directory second) (directory == root && second == root) reply }
 known_after known _ reply = known
 
 abbrev pub conduct : Rights → Restraint Known
 conduct rights = record { after = known_after; may_ask = MayAsk rights }
 
--- Nobody is away, and the server knows the processes.
-pub record Fits (rights : Rights) (P : List (ℕ × Credential) → Type 0) (known : Known) (s : Server) : Type 0 where
+-- Nobody is away, the server knows the processes, and P holds of what it knows.
+pub record Fits (rights : Rights) (P : Server → Type 0) (known : Known) (s : Server) : Type 0 where
   pub home : known.away ≡ None
   pub processes : known.processes ≡ s.processes
   pub looker : s.looker ≡ rights.looker
-  pub holds : P s.processes
+  pub holds : P s

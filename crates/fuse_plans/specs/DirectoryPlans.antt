@@ -8,7 +8,7 @@ use Rattle.fs_model.specs.declared.call.Call.TheVariants.{Open as OpenCall, Clos
 use Rattle.fs_model.specs.declared.event.Event.TheVariants.{Call as Calls, Sync}
 use Rattle.fuse_plans.specs.declared.stop.Stop.TheVariants.{Lacks}
 use Rattle.fuse_plans.specs.Stops.{failed}
-use Rattle.fuse_plans.specs.declared.stop.OtherErrno.TheVariants.{ENFILE}
+use Rattle.fuse_plans.specs.declared.stop.OtherErrno.TheVariants.{ENFILE, ESTALE}
 use Rattle.fuse_plans.specs.declared.request.Asked.{Asked}
 use Rattle.fuse_protocol.specs.declared.entry.DirectoryEntry.{DirectoryEntry}
 use Rattle.fuse_protocol.specs.declared.entry.EntryKind.{EntryKind}
@@ -20,7 +20,7 @@ use Rattle.fuse_plans.specs.declared.reply.ReplyBody.TheVariants.{Nothing, Opene
 use Rattle.fuse_state.specs.Servers.{are_directories_full, directory_of, with_directory, opened, without_directory}
 use Rattle.fuse_state.specs.declared.directory.OpenDirectory.{OpenDirectory}
 use Rattle.fuse_plans.specs.Works.{Work, give, stop, kept, keep, ◌>>=◌, ◌>>◌, attempt, needed, obtain, or_closed, replied_fd, replied_names}
-use Rattle.fuse_plans.specs.Callers.{the_looker, has_place, on, directory_number}
+use Rattle.fuse_plans.specs.Callers.{the_looker, has_place, on, the_number, directory_number}
 use Rattle.fuse_plans.specs.Flags.{listing}
 use Rattle.fuse_plans.specs.FilePlans.{when}
 use Rattle.fuse_plans.specs.AttributePlans.{access_as}
@@ -84,32 +84,38 @@ list_all n true = do
   fd ← replied_fd opened
   list_and_close pid fd
 
--- the names that are there now
-abbrev pub list_now : ℕ → ℕ → Work (List (List ℕ × ℕ))
-list_now handle n = do
+-- once the directory is gone another may have its number
+abbrev pub only_number : ℕ → ℕ → Work (Unit {0})
+only_number number n = if n == number then give tt else stop (Lacks ESTALE)
+
+-- the names that are there now, in the directory of the node, if that is the one that is open
+abbrev pub list_now : ℕ → ℕ → ℕ → Work (List (List ℕ × ℕ))
+list_now node handle number = do
+  n ← the_number node
+  only_number number n
   placed ← kept (λ s. has_place s n)
   names ← list_all n placed
   keep (with_directory handle (record { number = n; listing = Some names }))
   give names
 
 -- at the beginning it is listed anew
-abbrev pub listed : ℕ → OpenDirectory → Bool → Option (List (List ℕ × ℕ)) → Work (List (List ℕ × ℕ))
-listed handle d false (Some names) = give names
-listed handle d _ _ = list_now handle d.number
+abbrev pub listed : ℕ → ℕ → OpenDirectory → Bool → Option (List (List ℕ × ℕ)) → Work (List (List ℕ × ℕ))
+listed node handle d false (Some names) = give names
+listed node handle d _ _ = list_now node handle d.number
 
 abbrev pub tell_listed : Extent → List (List ℕ × ℕ) → Work ReplyBody
 tell_listed extent names = give (Bytes (listing_bytes extent.offset extent.size (drop extent.offset names)))
 
-abbrev pub tell_now : Extent → ℕ → Work ReplyBody
-tell_now extent n = do
-  names ← list_now extent.handle n
+abbrev pub tell_now : ℕ → Extent → ℕ → Work ReplyBody
+tell_now node extent number = do
+  names ← list_now node extent.handle number
   tell_listed extent names
 
-unfoldable pub read_directory : Extent → Work ReplyBody
-read_directory extent = do
+unfoldable pub read_directory : ℕ → Extent → Work ReplyBody
+read_directory node extent = do
   known ← kept (λ s. directory_of s extent.handle)
   d ← needed (failed EBADF) known
-  names ← listed extent.handle d (extent.offset == 0) d.listing
+  names ← listed node extent.handle d (extent.offset == 0) d.listing
   tell_listed extent names
 
 unfoldable pub close_directory : ℕ → Work ReplyBody

@@ -1,7 +1,7 @@
 -- The laws of the plans, whatever is replied.
---     handle_in, rights_of        for whom a request is performed
---     RequestsBehave        no request is performed with more than the rights of who asks, and nobody is left away from the
---             root
+--     handle_in, rights_of        for whom a request is performed, and on what
+--     RequestsBehave        no request is performed with more than the rights of who asks, or on anything but what it is about;
+--             and nobody is left away from the root
 --     BeginningBehaves        the first request begins the server's own process, and asks no more
 --     RunsBehave        the same of what was asked
 --     OpenedIsTheObject        what an OPEN has opened is the object of its node
@@ -23,6 +23,7 @@ use Rattle.fuse_plans.specs.declared.reply.ReplyBody.TheVariants.{Opened}
 use Rattle.fuse_plans.specs.declared.reply.Response.{Response}
 use Rattle.fuse_plans.specs.declared.reply.Response.TheVariants.{Says}
 use Rattle.fuse_state.specs.Servers.{Server, number_of, owner_of, descriptor_of, object_of}
+use Rattle.fuse_plans.specs.Acts.{Subject}
 use Rattle.fuse_plans.specs.Conduct.{Known, Rights, conduct}
 use Rattle.fuse_plans.specs.Serving.{request_plan}
 
@@ -47,8 +48,12 @@ abbrev pub is_init : Option Operation → Bool
 is_init None = false
 is_init (Some operation) = is_beginning operation
 
+abbrev pub subject_of : Request → Server → Subject
+subject_of r s = record { node = r.asked.node; operation = r.operation; start = s }
+
 abbrev pub rights_of : Request → Server → Rights
-rights_of r s = record { cred = r.asked.cred; looker = s.looker; handle = handle_in r.operation }
+rights_of r s =
+    record { cred = r.asked.cred; looker = s.looker; handle = handle_in r.operation; subject = subject_of r s }
 
 -- nobody is away
 abbrev pub known_in : Server → Known
@@ -60,15 +65,16 @@ pub record Ends (s : Server) (known : Known) (r : Response × Server) : Type 0 w
   pub processes : known.processes ≡ r.1.processes
   pub looker : r.1.looker ≡ s.looker
 
--- Each request but the first: who calls, and in the end all stand at the root.
+-- Each request but the first: who calls, and on what; and in the end all stand at the root.
 abbrev pub RequestsBehave : Type 0
 RequestsBehave =
     (r : Request) (s : Server) → IsFalse (is_init r.operation)
     → KeepsTo (conduct (rights_of r s)) (Ends s) (known_in s) (request_plan r s)
 
 -- the server's own process has all rights
-abbrev pub server_rights : Rights
-server_rights = record { cred = Some (usual_credential 0 0 []); looker = None; handle = None }
+abbrev pub server_rights : Request → Server → Rights
+server_rights r s =
+    record { cred = Some (usual_credential 0 0 []); looker = None; handle = None; subject = subject_of r s }
 
 pub record Begun (s : Server) (known : Known) (r : Response × Server) : Type 0 where
   pub home : known.away ≡ None
@@ -78,7 +84,7 @@ pub record Begun (s : Server) (known : Known) (r : Response × Server) : Type 0 
 abbrev pub BeginningBehaves : Type 0
 BeginningBehaves =
     (r : Request) (s : Server) (offer : Offer) → r.operation ≡ Some (Init offer)
-    → KeepsTo (conduct server_rights) (Begun s) (known_in s) (request_plan r s)
+    → KeepsTo (conduct (server_rights r s)) (Begun s) (known_in s) (request_plan r s)
 
 -- The same of what was asked of a machine, with its replies.
 abbrev pub RunsBehave : Type 0

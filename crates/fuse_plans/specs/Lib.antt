@@ -12,5 +12,6 @@ pub mod DirectoryPlans
 pub mod AclPlans
 pub mod Serving
 pub mod Protocol
+pub mod Acts
 pub mod Conduct
 pub mod Laws

@@ -2,9 +2,10 @@
 --     at_path, path_in        the call with another path; its path, or another where it has none
 --     takes_path        it has one
 --     name_in, names_in        the name that a call is about, or the two
+--     only_path        the path of a call that has just one
 use Rattle.std.specs.Prelude.{ℕ, Bool, true, false, List, Option, None, Some}
 use Rattle.fs_model.specs.declared.call.Call.{Call}
-use Rattle.fs_model.specs.declared.call.Call.TheVariants.{Open, Lstat, Access, Truncate, Chmod, Chown, GetAcl, SetAcl, Readlink, Mkdir, Rmdir, Symlink, Unlink, Link, Rename}
+use Rattle.fs_model.specs.declared.call.Call.TheVariants.{Open, Stat, Lstat, Access, Truncate, Chmod, Chown, GetAcl, SetAcl, Readlink, Mkdir, Rmdir, Symlink, Unlink, Link, Rename, Chdir}
 
 abbrev pub at_path : Call → List ℕ → Call
 at_path (Open old flags mode) path = Open path flags mode
@@ -55,3 +56,22 @@ abbrev pub names_in : Call → Option (List ℕ × List ℕ)
 names_in (Link old new) = Some (old, new)
 names_in (Rename old new) = Some (old, new)
 names_in call = None
+
+-- of a link that is made, its own path
+abbrev pub only_path : Call → Option (List ℕ)
+only_path (Open path flags mode) = Some path
+only_path (Stat path) = Some path
+only_path (Lstat path) = Some path
+only_path (Access path perms) = Some path
+only_path (Truncate path size) = Some path
+only_path (Chmod path mode) = Some path
+only_path (Chown path owner group) = Some path
+only_path (GetAcl path which) = Some path
+only_path (SetAcl path which acl) = Some path
+only_path (Mkdir path mode) = Some path
+only_path (Rmdir path) = Some path
+only_path (Symlink target path) = Some path
+only_path (Readlink path) = Some path
+only_path (Unlink path) = Some path
+only_path (Chdir path) = Some path
+only_path call = None

@@ -7,6 +7,10 @@ ghost use Rattle.fuse_plans.specs.Laws.{BeginningBehaves, OpenedIsTheObject, Req
 /// server's own process, which only looks; or it is fstat(2) of something open, which is shown to all. A process that has
 /// entered a directory makes one call there, and is told to come back before anything else. Nothing is asked of the disk, and
 /// no process changes its directory by a call.
+///
+/// Each call acts on what the request is about, as the server knew it when the request began: on a name that the request gives, in
+/// the directory of its node; on the name by which the server knew the object of the node; or on the object itself, by a process
+/// that stands in it. Who has entered no directory may also make a call on a descriptor, or on the root, where that is the object.
 pub fn requests_behave()
     ensures { RequestsBehave }
 {}

@@ -97,13 +97,14 @@ impl<M: Machine> Session<M> {
     /// The entries of a directory, with room for so many bytes. At the beginning it is listed anew.
     pub(crate) fn read_directory(
         &mut self,
+        node: u64,
         extent: Extent,
         room: Vec<u8>,
     ) -> Result<ReplyBody, Stop>
         requires empty { room.items ≡ [] }
         requires capacity { extent.size ≤ vec_capacity room }
         requires room { 1 ≤ self.old.server.room }
-        ensures { Did M.Serves (read_directory extent) self.old self.new result }
+        ensures { Did M.Serves (read_directory node extent) self.old self.new result }
     {
         let Some(open) = self.server.directory_of(extent.handle) else {
             return Err(Stop::EBADF);
@@ -115,20 +116,30 @@ impl<M: Machine> Session<M> {
             }
         }
         let number = open.number;
-        self.tell_now(extent, number, room)
+        self.tell_now(node, extent, number, room)
     }
 
-    // The entries that are there now.
-    fn tell_now(&mut self, extent: Extent, number: u32, room: Vec<u8>) -> Result<ReplyBody, Stop>
+    // The entries that are there now, in the directory of the node, if that is the one that is open.
+    fn tell_now(
+        &mut self,
+        node: u64,
+        extent: Extent,
+        number: u32,
+        room: Vec<u8>,
+    ) -> Result<ReplyBody, Stop>
         requires empty { room.items ≡ [] }
         requires capacity { extent.size ≤ vec_capacity room }
         requires room { 1 ≤ self.old.server.room }
-        ensures { Did M.Serves (tell_now extent number) self.old self.new result }
+        ensures { Did M.Serves (tell_now node extent number) self.old self.new result }
     {
-        let names = self.list_placed(number)?;
+        let inode = self.the_number(node)?;
+        if inode != number {
+            return Err(Stop::ESTALE);
+        }
+        let names = self.list_placed(inode)?;
         let bytes = listing_bytes(extent, &names, room);
         let listed = OpenDirectory {
-            number,
+            number: inode,
             listing: Some(names),
         };
         self.server.set_directory(extent.handle, listed);

@@ -373,7 +373,7 @@ impl<M: Machine> Session<M> {
             Operation::FSync(handle) => Ok(response_of(self.sync_file(*handle))),
             Operation::ReadDir(extent) => {
                 let room = Vec::with_capacity(self.alloc, extent.size as usize)?;
-                Ok(response_of(self.read_directory(*extent, room)))
+                Ok(response_of(self.read_directory(asked.node, *extent, room)))
             }
             Operation::ReleaseDir(handle) => Ok(response_of(self.close_directory(*handle))),
             _ => unreachable!(),

@@ -105,14 +105,14 @@ module _ {all now : List ℕ} {b : Bool} (was : List ℕ) (size i len : ℕ) (na
 
 -- ---- whether it is listed anew
 
-module _ (handle : ℕ) (d : OpenDirectory) where
+module _ (node handle : ℕ) (d : OpenDirectory) where
   pub listed-before : {anew : Bool} {known : Option (List (List ℕ × ℕ))} {names : List (List ℕ × ℕ)}
-      → anew ≡ false → known ≡ Some names → listed handle d anew known ≡ give names
-  listed-before {anew} {known} {names} is there = ap (λ (b : Bool). listed handle d b known) is ∙ ap (listed handle d false) there
+      → anew ≡ false → known ≡ Some names → listed node handle d anew known ≡ give names
+  listed-before {anew} {known} {names} is there = ap (λ (b : Bool). listed node handle d b known) is ∙ ap (listed node handle d false) there
 
-  pub listed-anew : {anew : Bool} (known : Option (List (List ℕ × ℕ))) → anew ≡ true → listed handle d anew known ≡ list_now handle d.number
-  listed-anew {anew} known is = ap (λ (b : Bool). listed handle d b known) is
+  pub listed-anew : {anew : Bool} (known : Option (List (List ℕ × ℕ))) → anew ≡ true → listed node handle d anew known ≡ list_now node handle d.number
+  listed-anew {anew} known is = ap (λ (b : Bool). listed node handle d b known) is
 
-  pub listed-first : (anew : Bool) {known : Option (List (List ℕ × ℕ))} → known ≡ None → listed handle d anew known ≡ list_now handle d.number
+  pub listed-first : (anew : Bool) {known : Option (List (List ℕ × ℕ))} → known ≡ None → listed node handle d anew known ≡ list_now node handle d.number
   listed-first true {known} is = refl
-  listed-first false {known} is = ap (listed handle d false) is
+  listed-first false {known} is = ap (listed node handle d false) is

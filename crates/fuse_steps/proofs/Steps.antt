@@ -13,7 +13,7 @@ use Rattle.fs_model.specs.declared.reply.Reply.{Reply}
 use Rattle.fuse_state.specs.Servers.{Server}
 use Rattle.fuse_plans.specs.declared.stop.Stop.{Stop}
 use Rattle.fuse_plans.specs.Plans.{Plan, Finish, followed_by, CarriesOut, finishes, asks}
-use Rattle.fuse_plans.specs.Works.{Work, give, stop, goes_on, ◌>>=◌, ◌>>◌, attempt, of_result, needed, ask}
+use Rattle.fuse_plans.specs.Works.{Work, give, stop, goes_on, ◌>>=◌, attempt, of_result, needed, ask}
 use Rattle.fuse_steps.specs.Performing.{DidByMachine}
 
 -- one of the two, with what is known there

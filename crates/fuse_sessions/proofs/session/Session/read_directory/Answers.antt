@@ -17,17 +17,17 @@ unfolding read_directory
 returns-in-Some-listing g c =
     reads _ _ refl
     (needs-some _ _ (sym c.in-Some.ensures)
-    (then-ok _ (same-work (listed-before c.args.extent.handle c.in-Some.open.now (ne_eqb _ _ c.if-extent-ne0.true) c.in-Some-listing.is) (gives _ _))
+    (then-ok _ (same-work (listed-before c.args.node c.args.extent.handle c.in-Some.open.now (ne_eqb _ _ c.if-extent-ne0.true) c.in-Some-listing.is) (gives _ _))
     (gives-as (ap Bytes c.listing_bytes-bytes.ensures))))
 
 pub returns : goal.returns
 unfolding read_directory
 returns g c =
     let d = c.in-Some.open.now in
-    let now : listed c.args.extent.handle d (c.args.extent.offset == 0) d.listing ≡ list_now c.args.extent.handle d.number =
+    let now : listed c.args.node c.args.extent.handle d (c.args.extent.offset == 0) d.listing ≡ list_now c.args.node c.args.extent.handle d.number =
     elim c.if-extent-ne0.branch [
-      | then-extent-ne0+in_default-listing w ↦ listed-first c.args.extent.handle d (c.args.extent.offset == 0) w.in_default-listing.is
-      | else-extent-ne0 w ↦ listed-anew c.args.extent.handle d d.listing (ap (λ n. n == 0) w.if-extent-ne0.false)
+      | then-extent-ne0+in_default-listing w ↦ listed-first c.args.node c.args.extent.handle d (c.args.extent.offset == 0) w.in_default-listing.is
+      | else-extent-ne0 w ↦ listed-anew c.args.node c.args.extent.handle d d.listing (ap (λ n. n == 0) w.if-extent-ne0.false)
     ] in
     reads _ _ refl
     (needs-some _ _ (sym c.in-Some.ensures)

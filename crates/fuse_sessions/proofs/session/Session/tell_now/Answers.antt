@@ -1,12 +1,26 @@
 use Rattle.std.proofs.Common.{refl, ap}
+use Rattle.std.proofs.lemmas.Bool.{eq-eqb, ne_eqb}
 use Rattle.fuse_plans.specs.declared.reply.ReplyBody.TheVariants.{Bytes}
-use Rattle.fuse_sessions.proofs.Doings.{gives, gives-as, keeps, reads, then-err, then-fails, then-ok}
+use Rattle.fuse_sessions.proofs.Doings.{gives, gives-as, keeps, reads, stops, then-err, then-fails, then-ok, where-false, where-true}
 use Rattle.fuse_sessions.proofs.session.Session.tell_now.Goals as goal
 
+pub returns-in_err-inode : goal.returns-in_err-inode
+returns-in_err-inode g c = then-fails _ c.from_residual.ensures (then-err _ c.in_err-inode.ensures)
+
+pub returns-then-inode-number : goal.returns-then-inode-number
+returns-then-inode-number g c =
+    then-err _ (then-ok _ c.in_ok-inode.ensures (then-err _ (where-false _ _ (ne_eqb _ _ c.if-inode-number.true) (stops _ _))))
+
 pub returns-in_err-names : goal.returns-in_err-names
-returns-in_err-names g c = then-fails _ c.from_residual.ensures (reads _ _ refl (then-err _ c.in_err-names.ensures.did))
+returns-in_err-names g c =
+    then-fails _ c.from_residual-in_err-names.ensures
+    (then-ok _ c.in_ok-inode.ensures
+    (then-ok _ (where-true _ _ (eq-eqb _ _ c.if-inode-number.false) (gives _ _)) (reads _ _ refl (then-err _ c.in_err-names.ensures.did))))
 
 pub returns : goal.returns
 returns g c =
-    then-ok _ (reads _ _ refl (then-ok _ c.in_ok-names.ensures.did (keeps _ _ refl c.set_directory.ensures.kept (gives _ _))))
+    then-ok _
+    (then-ok _ c.in_ok-inode.ensures
+    (then-ok _ (where-true _ _ (eq-eqb _ _ c.if-inode-number.false) (gives _ _))
+    (reads _ _ refl (then-ok _ c.in_ok-names.ensures.did (keeps _ _ refl c.set_directory.ensures.kept (gives _ _))))))
     (gives-as (ap Bytes c.listing_bytes-bytes.ensures))

@@ -1,0 +1,115 @@
+-- On what a request acts: on names that it gives, and on the object of its node.
+--     Subject        the request, and what the server knew when it began
+--     IsObject, IsPlaceOf        the object, and where the server knew it
+--     IsGiven, IsNewName        names that are given
+--     ActsOn, Concerns        in which directories a call may be made
+use Rattle.std.specs.Prelude.{◌≡◌, ℕ, List, codes, Option, None, Some}
+use Rattle.fs_model.specs.Limits.{root}
+use Rattle.fs_model.specs.declared.call.Call.{Call}
+use Rattle.fs_model.specs.declared.call.Call.TheVariants.{Link as LinkCall, Rename as RenameCall}
+use Rattle.fuse_protocol.specs.declared.operation.Operation.{Operation}
+use Rattle.fuse_protocol.specs.declared.operation.Operation.TheVariants.{Lookup, SymLink, MkNod, MkDir, Unlink, RmDir, Rename, Link, Create}
+use Rattle.fuse_state.specs.declared.place.Place.{Place}
+use Rattle.fuse_state.specs.Servers.{Server, number_of, place_of}
+use Rattle.fuse_plans.specs.Paths.{only_path, names_in}
+
+-- the node that a request is asked of, what it asks, and what the server knew when it began
+pub record Subject : Type 0 where
+  pub node : ℕ
+  pub operation : Option Operation
+  pub start : Server
+
+-- ---- names
+
+abbrev pub name_asked : Operation → Option (List ℕ)
+name_asked (Lookup name) = Some name
+name_asked (SymLink name target) = Some name
+name_asked (MkNod name mode umask) = Some name
+name_asked (MkDir name mode umask) = Some name
+name_asked (Unlink name) = Some name
+name_asked (RmDir name) = Some name
+name_asked (Rename name new_directory new_name flags) = Some name
+name_asked (Link old_node name) = Some name
+name_asked (Create name flags mode umask) = Some name
+name_asked _ = None
+
+-- the name that is given
+abbrev pub given_name : Option Operation → Option (List ℕ)
+given_name None = None
+given_name (Some operation) = name_asked operation
+
+-- the name that is given, in the directory of the node
+pub record IsGiven (r : Subject) (p : Place) : Type 0 where
+  pub name : given_name r.operation ≡ Some p.name
+  pub directory : number_of r.start r.node ≡ Some p.directory
+
+-- the new name of a rename, in the directory of its other node
+pub data IsNewName (r : Subject) (p : Place) : Type 0 where
+  is_new : (name : List ℕ) (new_node flags : ℕ) → r.operation ≡ Some (Rename name new_node p.name flags)
+      → number_of r.start new_node ≡ Some p.directory → IsNewName r p
+
+-- ---- the object
+
+-- that of its node; of LINK that of the old one
+abbrev pub node_asked : Operation → ℕ → ℕ
+node_asked (Link old_node name) node = old_node
+node_asked _ node = node
+
+abbrev pub node_of_object : Option Operation → ℕ → ℕ
+node_of_object None node = node
+node_of_object (Some operation) node = node_asked operation node
+
+-- the object that a request is about has this number
+abbrev pub IsObject : Subject → ℕ → Type 0
+IsObject r n = number_of r.start (node_of_object r.operation r.node) ≡ Some n
+
+-- where the server knows an object
+abbrev pub IsPlaceOf : Server → ℕ → Place → Type 0
+IsPlaceOf s n p = place_of s n ≡ Some p
+
+-- ---- what is acted on
+
+-- A name that is given, or one by which the object is known; or the object itself, by who stands in it.
+pub data IsOf (r : Subject) (p : Place) : Type 0 where
+  is_given : IsGiven r p → IsOf r p
+  is_new_name : IsNewName r p → IsOf r p
+  is_known : (n : ℕ) → IsObject r n → IsPlaceOf r.start n p → IsOf r p
+  is_itself : IsObject r p.directory → p.name ≡ codes "." → IsOf r p
+
+abbrev pub named_in : ℕ → List ℕ → Place
+named_in directory name = record { directory = directory; name = name }
+
+-- What may be asked with names of a directory, and with second names of another one: a call on one name that is of the request;
+-- to rename what has the name that is given, to the new one; or to give the object the name that is given too, by its known one.
+pub data ActsOn (r : Subject) (directory second : ℕ) (call : Call) : Type 0 where
+  on_one : (name : List ℕ) → second ≡ directory → only_path call ≡ Some name → IsOf r (named_in directory name)
+      → ActsOn r directory second call
+  moves : (old new : List ℕ) → call ≡ RenameCall old new → IsGiven r (named_in directory old) → IsNewName r (named_in second new)
+      → ActsOn r directory second call
+  links : (n : ℕ) (old new : List ℕ) → call ≡ LinkCall old new → IsObject r n → IsPlaceOf r.start n (named_in directory old)
+      → IsGiven r (named_in second new) → ActsOn r directory second call
+
+-- A process that has entered a directory, and with the second names of its calls another.
+pub record Away : Type 0 where
+  pub pid : ℕ
+  pub directory : ℕ
+  pub second : ℕ
+
+abbrev pub gone_to : ℕ → ℕ → ℕ → Away
+gone_to pid directory second = record { pid = pid; directory = directory; second = second }
+
+-- who hasn't entered one stands at the root
+abbrev pub own_directory : Option Away → ℕ
+own_directory None = root
+own_directory (Some away) = away.directory
+
+abbrev pub second_directory : Option Away → ℕ
+second_directory None = root
+second_directory (Some away) = away.second
+
+-- A call is on what the request is about. At home it may also be about a descriptor, or about the root, where that is the
+-- object.
+pub data Concerns (r : Subject) (away : Option Away) (call : Call) : Type 0 where
+  acts : ActsOn r (own_directory away) (second_directory away) call → Concerns r away call
+  on_root : away ≡ None → only_path call ≡ Some (codes "/") → IsObject r root → Concerns r away call
+  without_path : away ≡ None → only_path call ≡ None → names_in call ≡ None → Concerns r away call
