@@ -11,3 +11,4 @@ pub mod Replays
 pub mod RequestConducts
 pub mod RowsOfBytes
 pub mod RowsOfNames
+pub mod RowsOfStale
