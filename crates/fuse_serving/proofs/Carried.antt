@@ -1,8 +1,12 @@
 -- Plans that are carried out: where nothing is asked, and one after another.
-use Rattle.std.proofs.Common.{◌≡◌, sym, subst}
+use Rattle.std.proofs.Common.{◌≡◌, List, [], ◌∷◌, sym, subst}
 use Rattle.fs_model.specs.declared.event.Event.{Event}
 use Rattle.fs_model.specs.declared.reply.Reply.{Reply}
+use Rattle.fuse_state.specs.Servers.{Server}
+use Rattle.fuse_plans.specs.declared.reply.Response.{Response}
 use Rattle.fuse_plans.specs.Plans.{Plan, Finish, followed_by, CarriesOut, finishes, asks}
+use Rattle.fuse_plans.specs.Requests.{Request}
+use Rattle.fuse_plans.specs.Serving.{request_plan, requests_plan}
 
 pub nothing_asked : {M X : Type 0} (Serves : M → Event → Reply → M → Type 0) (plan : Plan X) (old new : M) (x y : X)
     → plan ≡ Finish x → new ≡ old → y ≡ x → CarriesOut Serves plan old new y
@@ -17,3 +21,18 @@ pub carried_then : {M X Y : Type 0} (Serves : M → Event → Reply → M → Ty
 carried_then Serves p f old mid new x y (finishes _ _) rest = rest
 carried_then Serves p f old mid new x y (asks e next reply _ after _ _ serves first) rest =
     asks e (λ r. followed_by (next r) f) reply old after new y serves (carried_then Serves (next reply) f after mid new x y first rest)
+
+-- ---- requests
+
+module _ {M : Type 0} (Serves : M → Event → Reply → M → Type 0) where
+  pub carried_on : (r : Request) (rs : List Request) (before mid after : Server) (old next new : M) (first : Response) (rest : List Response)
+      → CarriesOut Serves (request_plan r before) old next (first, mid) → CarriesOut Serves (requests_plan rs mid) next new (rest, after)
+      → CarriesOut Serves (requests_plan (r ∷ rs) before) old new (first ∷ rest, after)
+  unfolding requests_plan
+  carried_on r rs before mid after old next new first rest one more =
+      carried_then Serves (request_plan r before) _ old next new (first, mid) (first ∷ rest, after) one
+      (carried_then Serves (requests_plan rs mid) _ next new new (rest, after) (first ∷ rest, after) more (finishes _ _))
+
+  pub carried_none : (s : Server) (m : M) → CarriesOut Serves (requests_plan [] s) m m ([], s)
+  unfolding requests_plan
+  carried_none s m = finishes ([], s) m

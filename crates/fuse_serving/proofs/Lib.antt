@@ -1,5 +1,6 @@
 pub mod Alike
 pub mod Values
+pub mod Broken
 pub mod Carried
 pub mod Lines
 pub mod Passing

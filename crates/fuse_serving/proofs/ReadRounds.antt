@@ -20,6 +20,10 @@ use Rattle.fuse_serving.specs.Exchanges.{Exchange, Reads, Passes, passes_more}
 use Rattle.fuse_serving.specs.Rounds.{Scene, learns, tells, later_exchanges, not_whole}
 use Rattle.fuse_serving.specs.Pieces.{SpokenServed, ReadServed, ReadComesTo, ComesTo}
 
+-- nothing counts
+abbrev pub any_outside : Outside
+any_outside = record { groups = None; caps = no_caps; now = record { seconds = 0; nanoseconds = 0 }; memory = true }
+
 module _ {M K : Type 0} (Serves : M → Event → Reply → M → Type 0) (Does : K → Exchange → K → Type 0) where
   abbrev pub at : M → Server → K → Scene M K
   at m s k = record { machine = m; server = s; kernel = k }
@@ -52,10 +56,6 @@ module _ {M K : Type 0} (Serves : M → Event → Reply → M → Type 0) (Does 
         (sym is) s.passes;
     performs = s.performs;
   }
-
-  -- nothing counts
-  abbrev any_outside : Outside
-  any_outside = record { groups = None; caps = no_caps; now = record { seconds = 0; nanoseconds = 0 }; memory = true }
 
   pub read_badly : (bytes : List ℕ) (unique : ℕ) (m : M) (s : Server) (k after : K) (taken : Bool) → request_of bytes ≡ Err (Malformed unique)
       → Passes Does k (tells unique (Fails (failed EINVAL)) taken) after → ReadServed Serves Does bytes (at m s k) (at m s after)

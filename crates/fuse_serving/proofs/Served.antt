@@ -9,17 +9,14 @@ use Rattle.fuse_protocol.specs.declared.reply.Time.{Time}
 use Rattle.fuse_protocol.specs.declared.request.Request.{Request as WireRequest}
 use Rattle.fuse_protocol.specs.declared.request.RequestFault.{RequestFault}
 use Rattle.fuse_protocol.specs.Requests.{request_of}
-use Rattle.fuse_state.specs.Servers.{Server}
 use Rattle.fuse_plans.specs.declared.reply.Response.{Response}
 use Rattle.fuse_plans.specs.declared.reply.Response.TheVariants.{Silence, Says, Fails}
-use Rattle.fuse_plans.specs.Plans.{CarriesOut, finishes}
 use Rattle.fuse_plans.specs.Requests.{Outside, Request}
 use Rattle.fuse_plans.specs.Protocol.{no_more, one_more, response_bytes}
-use Rattle.fuse_plans.specs.Serving.{request_plan, requests_plan}
 use Rattle.fuse_serving.specs.declared.caller.Caller.{Caller}
 use Rattle.fuse_serving.specs.Exchanges.{Exchange, Learns, SeesTime, Passes, passes_none}
 use Rattle.fuse_serving.specs.Rounds.{Round, Scene, IsRound, Rounds, no_round, one_round, AreServed, needs_caller, caller_in, learns, tells, exchanges, heard_in, taken_bytes, written}
-use Rattle.fuse_serving.proofs.Carried.{carried_then}
+use Rattle.fuse_serving.proofs.Carried.{carried_on, carried_none}
 use Rattle.fuse_serving.proofs.Passing.{passes_joined}
 
 -- of what was written, what was taken
@@ -59,26 +56,14 @@ module _ {M K : Type 0} (Serves : M → Event → Reply → M → Type 0) (Does 
   abbrev responses_in : List Round → List Response
   responses_in = map (λ r. r.response)
 
-  carried_on : (r : Request) (rs : List Request) (before mid after : Server) (old next new : M) (first : Response) (rest : List Response)
-      → CarriesOut Serves (request_plan r before) old next (first, mid) → CarriesOut Serves (requests_plan rs mid) next new (rest, after)
-      → CarriesOut Serves (requests_plan (r ∷ rs) before) old new (first ∷ rest, after)
-  unfolding requests_plan
-  carried_on r rs before mid after old next new first rest one more =
-      carried_then Serves (request_plan r before) _ old next new (first, mid) (first ∷ rest, after) one
-      (carried_then Serves (requests_plan rs mid) _ next new new (rest, after) (first ∷ rest, after) more (finishes _ _))
-
-  carried_none : (s : Server) (m : M) → CarriesOut Serves (requests_plan [] s) m m ([], s)
-  unfolding requests_plan
-  carried_none s m = finishes ([], s) m
-
   pub are_served : (rounds : List Round) (old new : Scene M K) → Rounds Serves Does old rounds new → AreServed Serves Does old rounds new
   are_served [] old new (no_round _) =
-      record { hears = no_more; performs = carried_none old.server old.machine; passes = passes_none old.kernel; is_written = refl }
+      record { hears = no_more; performs = carried_none Serves old.server old.machine; passes = passes_none old.kernel; is_written = refl }
   are_served (round ∷ rounds) old new (one_round _ _ _ mid _ is rest) =
       let more : AreServed Serves Does mid rounds new = are_served rounds mid new rest in
       record {
         hears = one_more round.bytes round.outside round.request (map heard_in rounds) (requests_in rounds) is.hears more.hears;
-        performs = carried_on round.request (requests_in rounds) old.server mid.server new.server old.machine mid.machine new.machine round.response (responses_in rounds) is.performs more.performs;
+        performs = carried_on Serves round.request (requests_in rounds) old.server mid.server new.server old.machine mid.machine new.machine round.response (responses_in rounds) is.performs more.performs;
         passes = subst (λ (xs : List Exchange). Passes Does old.kernel xs new.kernel) (sym (flat_map-cons exchanges round rounds))
             (passes_joined Does (exchanges round) (flat_map exchanges rounds) old.kernel mid.kernel new.kernel is.passes more.passes);
         is_written =

@@ -4,8 +4,10 @@ use Rattle.std.proofs.lemmas.List.{length_push}
 use Rattle.fs_model.specs.declared.event.Event.{Event}
 use Rattle.fs_model.specs.declared.reply.Reply.{Reply}
 use Rattle.fuse_serving.specs.Exchanges.{Exchange}
-use Rattle.fuse_serving.specs.Rounds.{Round, Scene, Rounds, no_round, Ends, ServedAll, rounds_limit}
+use Rattle.fuse_serving.specs.Rounds.{Round, Scene, Rounds, no_round, Ends, ServedAll, Breaks, BrokenOff, rounds_limit}
 use Rattle.fuse_serving.specs.Pieces.{ComesTo}
+use Rattle.fuse_serving.specs.declared.fault.ServeFault.{ServeFault}
+use Rattle.fuse_serving.proofs.Broken.{all_performed}
 use Rattle.fuse_serving.proofs.Served.{are_served, one_round_more}
 
 pub record SoFar {M K : Type 0} (Serves : M → Event → Reply → M → Type 0) (Does : K → Exchange → K → Type 0)
@@ -49,3 +51,14 @@ module _ {M K : Type 0} (Serves : M → Event → Reply → M → Type 0) (Does 
       → goes_on ≡ false → ComesTo Serves Does last new goes_on → ServedAll Serves Does old new
   served_to_end old last new count goes_on so_far off comes =
       all_served old last new count so_far (inl (subst (λ (b : Bool). ComesTo Serves Does last new b) off comes))
+
+  pub broken_off : (old last new : Scene M K) (count : ℕ) (fault : ServeFault) → SoFar Serves Does old last count
+      → Breaks Serves Does fault last new → BrokenOff Serves Does fault old new
+  broken_off old last new count fault so_far breaks = record {
+    rounds = so_far.rounds;
+    last = last;
+    in_order = so_far.in_order;
+    served = are_served Serves Does so_far.rounds old last so_far.in_order;
+    break = breaks;
+    performed = all_performed Serves Does so_far.rounds breaks.untold old last new so_far.in_order breaks.performed;
+  }

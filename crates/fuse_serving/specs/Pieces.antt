@@ -4,6 +4,7 @@
 --     SpokenServed        the same, and its answer is told
 --     ReadComesTo        a read, by whether the server goes on
 --     ComesTo        the next round, or none
+--     ReadBreaks        the round of a read breaks off
 use Rattle.std.specs.Prelude.{◌≡◌, ℕ, Bool, true, false, List, ◌++◌, Option, Ok, Err}
 use Rattle.posix_acl.specs.AccessList.{AccessList}
 use Rattle.fs_model.specs.declared.event.Event.{Event}
@@ -19,8 +20,9 @@ use Rattle.fuse_plans.specs.Requests.{Outside}
 use Rattle.fuse_plans.specs.Protocol.{HasValue, Hears, request_from}
 use Rattle.fuse_plans.specs.Serving.{request_plan}
 use Rattle.fuse_serving.specs.declared.caller.Caller.{Caller}
-use Rattle.fuse_serving.specs.Exchanges.{Exchange, Passes}
-use Rattle.fuse_serving.specs.Rounds.{Round, Scene, IsRound, Ends, learns, tells, later_exchanges}
+use Rattle.fuse_serving.specs.declared.fault.ServeFault.{ServeFault}
+use Rattle.fuse_serving.specs.Exchanges.{Exchange, Reads, Passes}
+use Rattle.fuse_serving.specs.Rounds.{Round, Scene, IsRound, Ends, IsBreak, ArePerformed, learns, tells, later_exchanges}
 
 -- with memory for what is added, or without
 abbrev pub known : Caller → Time → Bool → Outside
@@ -80,3 +82,10 @@ abbrev pub ComesTo : {M K : Type 0} → (M → Event → Reply → M → Type 0)
     → Scene M K → Scene M K → Bool → Type 0
 ComesTo Serves Does old new true = (round : Round) × IsRound Serves Does old round new
 ComesTo Serves Does old new false = Ends Does old new
+
+-- A request was read, and its round breaks off.
+pub record ReadBreaks {M K : Type 0} (Serves : M → Event → Reply → M → Type 0) (Does : K → Exchange → K → Type 0) (bytes : List ℕ)
+    (fault : ServeFault) (old new : Scene M K) : Type 0 where
+  pub untold : List Round
+  pub is_break : (before : K) → Does before (Reads bytes) old.kernel → IsBreak Does fault before untold
+  pub performed : ArePerformed Serves old untold new

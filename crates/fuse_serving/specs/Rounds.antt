@@ -4,6 +4,8 @@
 --     Rounds        several
 --     IsEnd        why no more are
 --     ServedAll        all of a session, and what its requests come to
+--     IsBreak        how a round breaks off with a fault
+--     BrokenOff        all of a session that broke off, and what its requests come to
 use Rattle.std.specs.Prelude.{◌≡◌, ℕ, ◌-◌, ◌^◌, Bool, true, false, List, [], ◌∷◌, ◌++◌, map, length, ◌⊎◌, Result, Ok, Err, if◌then◌else◌}
 use Rattle.std.specs.List.{flat_map}
 use Rattle.fs_model.specs.declared.event.Event.{Event}
@@ -22,6 +24,8 @@ use Rattle.fuse_plans.specs.Requests.{Outside, Request}
 use Rattle.fuse_plans.specs.Protocol.{Hears, HearsAll, response_bytes}
 use Rattle.fuse_plans.specs.Serving.{request_plan, requests_plan}
 use Rattle.fuse_serving.specs.declared.caller.Caller.{Caller}
+use Rattle.fuse_serving.specs.declared.fault.ServeFault.{ServeFault}
+use Rattle.fuse_serving.specs.declared.fault.ServeFault.TheVariants as faults
 use Rattle.fuse_serving.specs.Exchanges.{Exchange, Reads, ReadsEnd, Writes, Learns, SeesTime, Passes}
 
 -- what was read, and what was known beside it; the request that it says, and its answer; and whether the reply was taken
@@ -148,3 +152,53 @@ pub record ServedAll {M K : Type 0} (Serves : M → Event → Reply → M → Ty
   pub in_order : Rounds Serves Does old rounds last
   pub served : AreServed Serves Does old rounds last
   pub end : Ends Does last new ⊎ ((length rounds ≡ rounds_limit) × (new ≡ last))
+
+-- ---- until a fault
+
+-- No request could be read.
+abbrev pub IsOfRead : ServeFault → Type 0
+IsOfRead (faults.Read error) = Unit {0}
+IsOfRead _ = ⊥
+
+-- The time isn't known.
+abbrev pub IsOfClock : ServeFault → Type 0
+IsOfClock (faults.Clock error) = Unit {0}
+IsOfClock _ = ⊥
+
+-- The reply could not be made, or not be written.
+abbrev pub IsOfReply : ServeFault → Type 0
+IsOfReply (faults.Reply fault) = Unit {0}
+IsOfReply (faults.Write error) = Unit {0}
+IsOfReply _ = ⊥
+
+-- How a round breaks off, and the request, if one was performed, whose answer is untold. What passes with the fault isn't known.
+pub data IsBreak {K : Type 0} (Does : K → Exchange → K → Type 0) (fault : ServeFault) (old : K) : List Round → Type 0 where
+  no_request : IsOfRead fault → IsBreak Does fault old []
+  -- one is read, and nothing is asked for it
+  no_time : (bytes : List ℕ) (reached : K) → IsOfClock fault → Does old (Reads bytes) reached → IsBreak Does fault old []
+  -- its plan is performed, and whether its answer is taken isn't known
+  no_reply : (untold : Round) (reached : K) → IsOfReply fault
+      → Passes Does old (Reads untold.bytes ∷ learns (request_of untold.bytes) untold.outside) reached → IsBreak Does fault old (untold ∷ [])
+
+-- The requests of rounds are those that the reads say. Their plans, run one after another, give the answers, told or untold.
+pub record ArePerformed {M K : Type 0} (Serves : M → Event → Reply → M → Type 0) (old : Scene M K) (rounds : List Round) (new : Scene M K) : Type 0 where
+  pub hears : HearsAll (map heard_in rounds) (map (λ r. r.request) rounds)
+  pub performs : CarriesOut Serves (requests_plan (map (λ r. r.request) rounds) old.server) old.machine new.machine (map (λ r. r.response) rounds, new.server)
+
+-- No more is asked than the plan of the request that is untold, if one is.
+pub record Breaks {M K : Type 0} (Serves : M → Event → Reply → M → Type 0) (Does : K → Exchange → K → Type 0) (fault : ServeFault)
+    (old new : Scene M K) : Type 0 where
+  pub goes_on : old.server.ended ≡ false
+  pub untold : List Round
+  pub is_break : IsBreak Does fault old.kernel untold
+  pub performed : ArePerformed Serves old untold new
+
+-- Requests were served until a fault. All that was asked is their plans, and that of the request that is untold, one after another.
+pub record BrokenOff {M K : Type 0} (Serves : M → Event → Reply → M → Type 0) (Does : K → Exchange → K → Type 0) (fault : ServeFault)
+    (old new : Scene M K) : Type 0 where
+  pub rounds : List Round
+  pub last : Scene M K
+  pub in_order : Rounds Serves Does old rounds last
+  pub served : AreServed Serves Does old rounds last
+  pub break : Breaks Serves Does fault last new
+  pub performed : ArePerformed Serves old (rounds ++ break.untold) new

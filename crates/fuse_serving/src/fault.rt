@@ -25,6 +25,11 @@ pub enum ServeFault {
 }
 
 impl From<ReplyFault> for ServeFault {
+    ghost use Rattle.std.specs.Prelude.{◌≡◌};
+    ghost use Rattle.fuse_serving.specs.declared.fault.ServeFault.TheVariants.{Reply};
+
+    ghost from_gives = { λ fault e. e ≡ Reply fault };
+
     fn from(fault: ReplyFault) -> ServeFault {
         ServeFault::Reply(fault)
     }

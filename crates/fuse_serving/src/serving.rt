@@ -1,8 +1,9 @@
 //! The loop of a server.
-ghost use Rattle.std.specs.Prelude.{◌≡◌, IfOk, OnOk};
+ghost use Rattle.std.specs.Prelude.{◌≡◌, ℕ, List, Ok, IfOk, IfErr, OnOk};
+ghost use Rattle.fuse_protocol.specs.Requests.{request_of};
 ghost use Rattle.fuse_serving.specs.Exchanges.{Passes};
-ghost use Rattle.fuse_serving.specs.Rounds.{tells, asks_for, ServedAll};
-ghost use Rattle.fuse_serving.specs.Pieces.{ReadComesTo, ComesTo, SpokenServed, scene};
+ghost use Rattle.fuse_serving.specs.Rounds.{tells, asks_for, IsOfReply, ServedAll, Breaks, BrokenOff};
+ghost use Rattle.fuse_serving.specs.Pieces.{ReadComesTo, ReadBreaks, ComesTo, SpokenServed, scene};
 
 use crate::answer::answer;
 use crate::caller::Caller;
@@ -24,7 +25,8 @@ fn tell<K: Kernel>(
     unique: u64,
     response: &Response,
 ) -> Result<bool, ServeFault>
-    ensures { IfOk result (λ taken. Passes K.Does kernel.old (tells unique response.now taken) kernel.new) }
+    ensures told { IfOk result (λ taken. Passes K.Does kernel.old (tells unique response.now taken) kernel.new) }
+    ensures fault { IfErr result (λ fault. IsOfReply fault) }
 {
     if !write_response(room, unique, response)? {
         return Ok(true);
@@ -55,7 +57,9 @@ fn serve_spoken<P: Performer, K: Kernel, W: Witness>(
     room: &mut ReplyRoom,
     spoken: &Request<'_>,
 ) -> Result<(), ServeFault>
-    ensures { OnOk result (SpokenServed P.Serves K.Does spoken.now
+    ensures served { OnOk result (SpokenServed P.Serves K.Does spoken.now
+        (scene P.machine P.server performer.old kernel.old) (scene P.machine P.server performer.new kernel.new)) }
+    ensures broken { IfErr result (λ fault. (bytes : List ℕ) → request_of bytes ≡ Ok spoken.now → ReadBreaks P.Serves K.Does bytes fault
         (scene P.machine P.server performer.old kernel.old) (scene P.machine P.server performer.new kernel.new)) }
 {
     let now = match kernel.now() {
@@ -78,7 +82,9 @@ fn serve_read<P: Performer, K: Kernel, W: Witness>(
     room: &mut ReplyRoom,
     bytes: &[u8],
 ) -> Result<bool, ServeFault>
-    ensures { IfOk result (ReadComesTo P.Serves K.Does bytes.now
+    ensures served { IfOk result (ReadComesTo P.Serves K.Does bytes.now
+        (scene P.machine P.server performer.old kernel.old) (scene P.machine P.server performer.new kernel.new)) }
+    ensures broken { IfErr result (λ fault. ReadBreaks P.Serves K.Does bytes.now fault
         (scene P.machine P.server performer.old kernel.old) (scene P.machine P.server performer.new kernel.new)) }
 {
     match parse_request(bytes) {
@@ -103,7 +109,9 @@ fn serve_next<P: Performer, K: Kernel, W: Witness>(
     buffer: &mut [u8],
     room: &mut ReplyRoom,
 ) -> Result<bool, ServeFault>
-    ensures { IfOk result (ComesTo P.Serves K.Does
+    ensures served { IfOk result (ComesTo P.Serves K.Does
+        (scene P.machine P.server performer.old kernel.old) (scene P.machine P.server performer.new kernel.new)) }
+    ensures broken { IfErr result (λ fault. Breaks P.Serves K.Does fault
         (scene P.machine P.server performer.old kernel.old) (scene P.machine P.server performer.new kernel.new)) }
 {
     if performer.is_ended() {
@@ -124,7 +132,8 @@ fn serve_next<P: Performer, K: Kernel, W: Witness>(
 ///
 /// # Errors
 ///
-/// See [`ServeFault`].
+/// See [`ServeFault`]. What was served before stays. Where no request could be read, or the time isn't known, nothing more was asked;
+/// where a reply could not be made or written, its request was performed.
 pub fn serve<P: Performer, K: Kernel, W: Witness>(
     alloc: Global,
     performer: &mut P,
@@ -133,7 +142,9 @@ pub fn serve<P: Performer, K: Kernel, W: Witness>(
     buffer: &mut [u8],
     room: &mut ReplyRoom,
 ) -> Result<(), ServeFault>
-    ensures { OnOk result (ServedAll P.Serves K.Does
+    ensures served { OnOk result (ServedAll P.Serves K.Does
+        (scene P.machine P.server performer.old kernel.old) (scene P.machine P.server performer.new kernel.new)) }
+    ensures broken { IfErr result (λ fault. BrokenOff P.Serves K.Does fault
         (scene P.machine P.server performer.old kernel.old) (scene P.machine P.server performer.new kernel.new)) }
 {
     for _ in 0..u64::MAX {
