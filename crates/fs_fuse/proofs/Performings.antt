@@ -1,5 +1,5 @@
 -- What a session does on a file system is a history of what its plans ask.
-use Rattle.std.specs.Prelude.{◌≡◌, ◌⊎◌, List, [], ◌∷◌, map, length, Result, Ok, Err, OnOk}
+use Rattle.std.specs.Prelude.{◌≡◌, ◌⊎◌, List, [], ◌∷◌, ◌++◌, map, length, Result, Ok, Err, OnOk, IfErr}
 use Rattle.std.proofs.Common.{refl, inl, inr, subst, sym, ap}
 use Rattle.sector_disk.specs.Disk.{DiskState}
 use Rattle.fs_model.specs.declared.event.EventReply.TheVariants.{Reply as Replies}
@@ -10,8 +10,9 @@ use Rattle.fuse_state.specs.declared.settings.Settings.{Settings}
 use Rattle.fuse_plans.specs.Plans.{Plan, CarriesOut, finishes, asks}
 use Rattle.fuse_plans.specs.Serving.{requests_plan}
 use Rattle.fuse_serving.specs.Exchanges.{Exchange}
-use Rattle.fuse_serving.specs.Rounds.{Scene, Round, AreServed, IsEnd, Ends, ServedAll, rounds_limit}
-use Rattle.fs_fuse.specs.Performing.{ServesOne, Performed, Served, ServedFrom}
+use Rattle.fuse_serving.specs.Rounds.{Scene, Round, AreServed, IsEnd, Ends, ServedAll, BrokenOff, rounds_limit}
+use Rattle.fuse_serving.specs.declared.fault.ServeFault.{ServeFault}
+use Rattle.fs_fuse.specs.Performing.{ServesOne, Performed, Served, ServedFrom, BrokenFrom, ServingEnds, broke_off}
 
 module _ {D X : Type 0} (state : D → DiskState) where
   pub performed : (plan : Plan X) (old new : System D) (x : X) → CarriesOut (ServesOne state) plan old new x → Performed state plan old new x
@@ -59,11 +60,34 @@ module _ {D K : Type 0} (state : D → DiskState) (Does : K → Exchange → K �
           served_until old all.last new.machine new.kernel all.rounds begun all.served (ap (λ (s : Scene (System D) K). s.machine) many.1)
           (inr (many.0, ap (λ (s : Scene (System D) K). s.kernel) many.1))
 
-  -- the same of what may have ended early, between a file system that was given and one that comes back
-  pub served_between : {E : Type 0} (old new : Scene (System D) K) (first last : System D) (served : Result (Unit {0}) E)
+  -- a session that broke off
+  pub broken_from : (old new : Scene (System D) K) (fault : ServeFault) → old.server ≡ new_server settings
+      → BrokenOff (ServesOne state) Does fault old new → BrokenFrom state Does settings fault old.machine new.machine old.kernel
+  broken_from old new fault begun b =
+      let heard : List Round = b.rounds ++ b.break.untold in
+      let done : Served state (map (λ r. r.request) heard) old.machine new.machine old.server new.server (map (λ r. r.response) heard) =
+      performed state (requests_plan (map (λ r. r.request) heard) old.server) old.machine new.machine (map (λ r. r.response) heard, new.server) b.performed.performs in
+      record {
+        rounds = b.rounds;
+        untold = b.break.untold;
+        server = new.server;
+        last = b.last.kernel;
+        hears = b.performed.hears;
+        served = subst (λ s. Served state (map (λ r. r.request) heard) old.machine new.machine s new.server (map (λ r. r.response) heard)) begun done;
+        passes = b.served.passes;
+        is_written = b.served.is_written;
+        is_break = b.break.is_break;
+      }
+
+  -- a session, however it ended, between a file system that was given and one that comes back
+  pub serves_between : (old new : Scene (System D) K) (first last : System D) (served : Result (Unit {0}) ServeFault)
       → old.machine ≡ first → old.server ≡ new_server settings → new.machine ≡ last
-      → OnOk served (ServedAll (ServesOne state) Does old new) → OnOk served (ServedFrom state Does settings first last old.kernel new.kernel)
-  served_between old new first last (Err e) is begun end all = all
-  served_between old new first last (Ok done) is begun end all =
+      → OnOk served (ServedAll (ServesOne state) Does old new) → IfErr served (λ fault. BrokenOff (ServesOne state) Does fault old new)
+      → ServingEnds state Does settings first last old.kernel new.kernel served
+  serves_between old new first last (Err fault) is begun end all broken =
+      broke_off
+      (subst (λ f. BrokenFrom state Does settings fault f last old.kernel) is
+      (subst (λ l. BrokenFrom state Does settings fault old.machine l old.kernel) end (broken_from old new fault begun broken)))
+  serves_between old new first last (Ok done) is begun end all broken =
       subst (λ f. ServedFrom state Does settings f last old.kernel new.kernel) is
       (subst (λ l. ServedFrom state Does settings old.machine l old.kernel new.kernel) end (served_from old new begun all))

@@ -4,7 +4,9 @@
 --     Served        requests were served, one after another
 --     ServesHistories        what is carried out on a file system is served so
 --     ServedFrom        the same of all requests until the end, and of what was read and written
-use Rattle.std.specs.Prelude.{◌≡◌, ◌⊎◌, List, [], ◌∷◌, map, length, Ok}
+--     BrokenFrom, Faulted        the same until a fault
+--     ServingEnds        either, by how it ends
+use Rattle.std.specs.Prelude.{◌≡◌, ◌⊎◌, List, [], ◌∷◌, ◌++◌, map, length, Result, Ok, Err}
 use Rattle.std.specs.List.{flat_map}
 use Rattle.sector_disk.specs.Disk.{DiskState}
 use Rattle.fs_model.specs.declared.event.Event.{Event}
@@ -20,7 +22,9 @@ use Rattle.fuse_plans.specs.Requests.{Request}
 use Rattle.fuse_plans.specs.Serving.{requests_plan}
 use Rattle.fuse_plans.specs.Protocol.{HearsAll}
 use Rattle.fuse_serving.specs.Exchanges.{Exchange, Passes}
-use Rattle.fuse_serving.specs.Rounds.{Round, IsEnd, heard_in, exchanges, written, taken_bytes, rounds_limit}
+use Rattle.fuse_serving.specs.Rounds.{Round, IsEnd, IsBreak, heard_in, exchanges, written, taken_bytes, rounds_limit}
+use Rattle.fuse_serving.specs.declared.fault.ServeFault.{ServeFault}
+use Rattle.fuse_serving.specs.declared.fault.ServeFault.TheVariants.{OutOfMemory}
 
 abbrev pub ServesOne : {D : Type 0} → (D → DiskState) → System D → Event → Reply → System D → Type 0
 ServesOne state old e reply new = Plays state (Ok old) (e ∷ []) (Replies reply ∷ []) (Ok new)
@@ -55,3 +59,31 @@ pub record ServedFrom {D K : Type 0} (state : D → DiskState) (Does : K → Exc
   pub passes : Passes Does before (flat_map exchanges rounds) last
   pub is_written : flat_map written (flat_map exchanges rounds) ≡ flat_map taken_bytes rounds
   pub end : IsEnd Does server last after ⊎ ((length rounds ≡ rounds_limit) × (after ≡ last))
+
+-- The kernel's requests were served by a server that had just begun, until a fault. Of the requests that were answered, and of what was
+-- written and taken, the same holds. All that was asked of the file system is one history still: that of the plans of these
+-- requests, and of the one that is untold, if one is.
+pub record BrokenFrom {D K : Type 0} (state : D → DiskState) (Does : K → Exchange → K → Type 0) (settings : Settings) (fault : ServeFault)
+    (old new : System D) (before : K) : Type 0 where
+  pub rounds : List Round
+  pub untold : List Round
+  pub server : Server
+  pub last : K
+  pub hears : HearsAll (map heard_in (rounds ++ untold)) (map (λ r. r.request) (rounds ++ untold))
+  pub served : Served state (map (λ r. r.request) (rounds ++ untold)) old new (new_server settings) server (map (λ r. r.response) (rounds ++ untold))
+  pub passes : Passes Does before (flat_map exchanges rounds) last
+  pub is_written : flat_map written (flat_map exchanges rounds) ≡ flat_map taken_bytes rounds
+  pub is_break : IsBreak Does fault last untold
+
+-- The serving ended with a fault.
+pub data Faulted {D K : Type 0} (state : D → DiskState) (Does : K → Exchange → K → Type 0) (settings : Settings) (fault : ServeFault)
+    (old new : System D) (before : K) : Type 0 where
+  -- memory ran out before the first request
+  has_not_begun : fault ≡ OutOfMemory → new ≡ old → Faulted state Does settings fault old new before
+  broke_off : BrokenFrom state Does settings fault old new before → Faulted state Does settings fault old new before
+
+-- Requests were served until the end, or a fault.
+abbrev pub ServingEnds : {D K : Type 0} → (D → DiskState) → (K → Exchange → K → Type 0) → Settings → System D → System D → K → K
+    → Result (Unit {0}) ServeFault → Type 0
+ServingEnds state Does settings old new before after (Ok done) = ServedFrom state Does settings old new before after
+ServingEnds state Does settings old new before after (Err fault) = Faulted state Does settings fault old new before

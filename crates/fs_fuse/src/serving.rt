@@ -1,6 +1,5 @@
 //! Serves requests from a file system until the end.
-ghost use Rattle.std.specs.Prelude.{OnOk};
-ghost use Rattle.fs_fuse.specs.Performing.{ServedFrom};
+ghost use Rattle.fs_fuse.specs.Performing.{ServingEnds};
 
 use crate::mounted::Mounted;
 use fs_system::Fs;
@@ -17,7 +16,8 @@ use std::alloc::Global;
 ///
 /// # Errors
 ///
-/// See [`ServeFault`]. What was served before stays, and no process of the server has gone.
+/// See [`ServeFault`]. What was served before stays, and no process of the server has gone. Where a reply could not be made or
+/// written, its request was performed.
 pub fn serve_requests<D: Disk + Drop, K: Kernel, W: Witness>(
     alloc: Global,
     fs: Fs<D>,
@@ -27,8 +27,8 @@ pub fn serve_requests<D: Disk + Drop, K: Kernel, W: Witness>(
     buffer: &mut [u8],
     room: &mut ReplyRoom,
 ) -> (Result<(), ServeFault>, Fs<D>)
-    // The replies that were taken are those of the requests' plans, which are one history of the file system.
-    ensures { OnOk result.0 (ServedFrom D.state K.Does settings fs result.1 kernel.old kernel.new) }
+    // What was asked is one history of the file system, that of the requests' plans; and the replies that were taken are theirs.
+    ensures { ServingEnds D.state K.Does settings fs result.1 kernel.old kernel.new result.0 }
 {
     let mut session = match Session::new(alloc, Mounted::new(fs), settings) {
         Ok(session) => session,

@@ -1,8 +1,9 @@
-use Rattle.std.proofs.Common.{rules, ◌≡◌}
+use Rattle.std.proofs.Common.{rules, ◌≡◌, refl}
 use Rattle.fs_system.specs.Seen.{System}
 use Rattle.fuse_state.specs.Servers.{new_server}
 use Rattle.fuse_serving.specs.Rounds.{Scene}
-use Rattle.fs_fuse.proofs.Performings.{served_between}
+use Rattle.fs_fuse.specs.Performing.{has_not_begun}
+use Rattle.fs_fuse.proofs.Performings.{serves_between}
 use Rattle.fs_fuse.proofs.serving.serve_requests.Goals as goal
 
 pub returns : goal.returns
@@ -16,4 +17,9 @@ returns g c =
     let is : session.machine ≡ c.args.fs = search rules in
     let begun : session.server.server ≡ new_server c.args.settings = search rules in
     let end : after.machine ≡ c.into_fs-2.result = search rules in
-    served_between g.D.Disk.state g.K.Kernel.Does c.args.settings old new c.args.fs c.into_fs-2.result c.serve-served.result is begun end c.serve-served.ensures
+    serves_between g.D.Disk.state g.K.Kernel.Does c.args.settings old new c.args.fs c.into_fs-2.result c.serve-served.result is begun end c.serve-served.ensures.served c.serve-served.ensures.broken
+
+pub returns-in-Err : goal.returns-in-Err
+returns-in-Err g c =
+    let is : c.into_fs.result ≡ c.args.fs = search rules in
+    has_not_begun refl is
