@@ -3,7 +3,7 @@
 --     served_status, fuse_end        how that ends
 --     ServesOn, FuseEnds        a disk is mounted, served and unmounted
 --     ImageFuseEnds        the job
-use Rattle.std.specs.Prelude.{◌≡◌, ◌-◌, Bool, not, List, ℕ, Option, IsSome, Result, Ok, Err, OnOk}
+use Rattle.std.specs.Prelude.{◌≡◌, ◌-◌, Bool, not, List, ℕ, Option, IsSome, Result, Ok, Err}
 use Rattle.sector_disk.specs.Disk.{DiskState, IsFresh}
 use Rattle.fs_layout.specs.declared.place.Place.{Place}
 use Rattle.fs_model.specs.States.{State}
@@ -18,7 +18,7 @@ use Rattle.fuse_protocol.specs.declared.reply.Time.{Time}
 use Rattle.fuse_state.specs.declared.settings.Settings.{Settings}
 use Rattle.fuse_serving.specs.Exchanges.{Exchange, SeesTime}
 use Rattle.fuse_serving.specs.declared.fault.ServeFault.{ServeFault}
-use Rattle.fs_fuse.specs.Performing.{ServedFrom}
+use Rattle.fs_fuse.specs.Performing.{ServingEnds}
 use Rattle.fs_command.specs.declared.failure.Failure.{Failure}
 use Rattle.fs_command.specs.declared.failure.Failure.TheVariants as failures
 use Rattle.fs_command.specs.declared.status.Status.{Status}
@@ -43,8 +43,8 @@ abbrev pub fuse_end : Result (Unit {0}) ServeFault → Reply → Result Status F
 fuse_end served replies.Done = Ok (served_status served)
 fuse_end served reply = Err failures.Unmount
 
--- A disk was mounted; the kernel's requests were served from its file system, until the end or a fault; and then that was
--- unmounted. The unmount makes all stable, as sync does.
+-- A disk was mounted; the kernel's requests were served from its file system, until the end or a fault, and are one history of it
+-- either way; and then that was unmounted. The unmount makes all stable, as sync does.
 pub record ServesOn {D K : Type 0} (state : D → DiskState) (Does : K → Exchange → K → Type 0) (disk : D) (own_rules : Bool)
     (before after : K) (served : Result (Unit {0}) ServeFault) (reply : Reply) : Type 0 where
   pub start : Time
@@ -55,7 +55,7 @@ pub record ServesOn {D K : Type 0} (state : D → DiskState) (Does : K → Excha
   pub is_first : IsIn state first s
   pub mounts : Mounts (state disk) (disk_in state first.base) s
   pub last : System D
-  pub serves : OnOk served (ServedFrom state Does (settings_of first.place own_rules start) first last begun after)
+  pub serves : ServingEnds state Does (settings_of first.place own_rules start) first last begun after served
   pub left : D
   pub unmounts : HappensLast state last left Sync reply
 
