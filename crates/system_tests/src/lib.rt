@@ -1,8 +1,10 @@
-//! Tests of what stands above the disk: the model's values and laws, the table of processes, new disks and the methods of
-//! file systems, the texts of the shell and its runs, the program's words and its failures. What file systems answer to lines is
+//! Tests of what stands above the disk: the model's values and laws, the table of processes, new and damaged disks and the methods
+//! of file systems, the texts of the shell and its runs, the program's words and its failures. What file systems answer to lines is
 //! tried by the program `player`, and what the program does by `bench/program`.
 #![tactic(auto)]
 
+#[cfg(test)]
+mod damaged_images;
 #[cfg(test)]
 mod laws;
 #[cfg(test)]

@@ -222,7 +222,7 @@ fn a_stop_leaves_what_was_there_or_no_superblock_or_the_new_disk(
 // What mkfs comes to, how often the disk has failed then, and why it isn't mounted.
 type Outcome = (Result<(), MkfsFault>, u64, Option<MountFault>);
 
-fn mount_fault<D: Disk + Drop>(alloc: Global, disk: D) -> Option<MountFault> {
+pub(crate) fn mount_fault<D: Disk + Drop>(alloc: Global, disk: D) -> Option<MountFault> {
     let mounted = Fs::mount(alloc, disk);
     let fault = match &mounted {
         Ok(_) => None,

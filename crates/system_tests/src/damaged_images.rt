@@ -1,0 +1,233 @@
+//! An image whose one file has the largest size and no hole, so that both levels of sectors of pointers are full: what a check
+//! finds where bytes of it are changed, or where it is cut; and that a mount agrees.
+
+ghost use Rattle.std.specs.Prelude.{◌+◌, ◌^◌, ◌≤◌, length};
+
+use crate::new_disks::mount_fault;
+use fs_check::{CheckFault, Finding, check};
+use fs_system::MountFault;
+use sector_disk::{Disk, MemDisk};
+use std::alloc::{AllocError, Global};
+
+// Sectors of the disk; with 64 inodes its inode table begins at 137, and its data at 153.
+const SECTORS: u32 = 32768;
+
+// The first block of the file; from it on all sectors are zeros.
+const FIRST_BLOCK: u32 = 284;
+
+fn beginning_with(bytes: &[u8]) -> [u8; 512]
+    requires { length bytes.now ≤ 512 }
+{
+    let mut content = [0; 512];
+    (&mut content[..bytes.len()]).copy_from_slice(bytes);
+    content
+}
+
+// A sector of pointers: 128 numbers from this one on.
+fn numbers_from(first: u32) -> [u8; 512]
+    requires { first + 128 ≤ 2 ^ 32 }
+{
+    let mut content = [0; 512];
+    for k in 0..128 {
+        let number = first + k;
+        let at = 4 * k as usize;
+        (&mut content[at..at + 4]).copy_from_slice(&number.to_le_bytes());
+    }
+    content
+}
+
+// Inode 1, the root, whose block is sector 153: a directory of 128 bytes.
+static ROOT: &[u8] =
+    b"\x02\0\xed\x01\0\0\0\0\0\0\0\0\x01\0\0\0\x80\0\0\0\0\0\0\0\x01\0\0\0\0\0\0\0\0\0\0\0\x99\0\0\0";
+
+// Inode 2, a file of 8,460,288 bytes: blocks 0 to 11 are the sectors from 284 on, the indirect sector is 155, and the double indirect
+// one 154.
+static FILE: &[u8] =
+    b"\x01\0\xa4\x01\0\0\0\0\0\0\0\0\x01\0\0\0\0\x18\x81\0\0\0\0\0\0\0\0\0\0\0\0\0\0\0\0\0\
+    \x1c\x01\0\0\x1d\x01\0\0\x1e\x01\0\0\x1f\x01\0\0\x20\x01\0\0\x21\x01\0\0\
+    \x22\x01\0\0\x23\x01\0\0\x24\x01\0\0\x25\x01\0\0\x26\x01\0\0\x27\x01\0\0\
+    \x9b\0\0\0\x9a\0\0\0";
+
+// What sector `s` holds. The sectors up to 16,807 are in use: those below the data, the root's block, 130 sectors of pointers, and
+// 16,524 blocks.
+fn content_of(s: u32) -> [u8; 512] {
+    let mut content = [0; 512];
+    match s {
+        // Version 2, 32,768 sectors, 64 inodes.
+        0 => content = beginning_with(b"INOS\x02\0\0\0\0\x80\0\0\x40\0\0\0"),
+        1 => content = beginning_with(b"INOJ"),
+        128 => {
+            content.fill(0xff);
+            (&mut content[..8]).copy_from_slice(b"\x07\0\0\0\0\0\0\0");
+        }
+        129..=132 => content.fill(0xff),
+        133 => (&mut content[..53]).fill(0xff),
+        137 => {
+            (&mut content[128..128 + ROOT.len()]).copy_from_slice(ROOT);
+            (&mut content[256..256 + FILE.len()]).copy_from_slice(FILE);
+        }
+        // Inode 2 is `h`.
+        153 => content = beginning_with(b"\x02\0\0\0\x01\0\0\0h"),
+        154 => content = numbers_from(156),
+        // The indirect sector has blocks 12 to 139, and the others those from 140 on.
+        155..=283 => content = numbers_from(296 + 128 * (s - 155)),
+        _ => {}
+    }
+    content
+}
+
+// A sector, an offset in it, and the bytes from there on.
+type Change = (usize, usize, &'static [u8]);
+
+// What doesn't lie in the image is left.
+fn change(image: &mut [[u8; 512]], s: usize, at: usize, bytes: &[u8]) {
+    if s >= image.len() || at > 512 || bytes.len() > 512 - at {
+        return;
+    }
+    (&mut image[s][at..at + bytes.len()]).copy_from_slice(bytes);
+}
+
+fn write_image(image: &mut [[u8; 512]], changes: &[Change]) {
+    for s in 0..FIRST_BLOCK {
+        change(image, s as usize, 0, &content_of(s));
+    }
+    for &(s, at, bytes) in changes {
+        change(image, s, at, bytes);
+    }
+}
+
+// The image with these changes, cut to so many sectors, or with zeros behind it.
+fn changed_disk(alloc: Global, sectors: u32, changes: &[Change]) -> Result<MemDisk, AllocError> {
+    let mut image = Vec::new(alloc);
+    image.resize(sectors as usize, [0; 512])?;
+    write_image(&mut image, changes);
+    MemDisk::from_sectors(alloc, image)
+}
+
+// What a check comes to, of a clean disk its free sectors; and why it isn't mounted.
+type Seen = (Result<usize, CheckFault>, Option<MountFault>);
+
+fn checked_and_mounted<D: Disk + Drop>(alloc: Global, mut disk: D) -> Seen {
+    let checked = match check(alloc, &mut disk) {
+        Ok(summary) => Ok(summary.blocks),
+        Err(fault) => Err(fault),
+    };
+    (checked, mount_fault(alloc, disk))
+}
+
+fn seen_of(alloc: Global, sectors: u32, changes: &[Change]) -> Result<Seen, AllocError> {
+    let disk = changed_disk(alloc, sectors, changes)?;
+    Ok(checked_and_mounted(alloc, disk))
+}
+
+// How many sectors are free, or the finding: the rule, and where it fails.
+type Wanted = Result<usize, (u8, u32)>;
+
+fn wanted_of(wanted: Wanted) -> Seen {
+    match wanted {
+        Ok(free) => (Ok(free), None),
+        Err((rule, at)) => {
+            let finding = Finding { rule, at };
+            let fault = match rule {
+                1 => MountFault::NotAFileSystem,
+                _ => MountFault::Damaged(finding),
+            };
+            (Err(CheckFault::Found(finding)), Some(fault))
+        }
+    }
+}
+
+// The last sector of pointers has holes alone, and the sectors of what stood there are free.
+const LAST_NUMBERS: Change = (283, 0, &[0; 512]);
+
+const LAST_BITS: Change = (133, 37, &[0; 16]);
+
+// How many sectors there are, what is changed, and what is wanted. Inode 2 has its size at 272 of sector 137, the number of its
+// indirect sector at 340, and that of its double indirect one at 344.
+static ROWS: [(u32, &[Change], Wanted); 38] = [
+    (SECTORS, &[], Ok(15_960)),
+    // Rule 1: as many sectors as the superblock says, and such as have a layout.
+    (32767, &[], Err((1, 0))),
+    (32769, &[], Err((1, 0))),
+    (1023, &[], Err((1, 0))),
+    (1023, &[(0, 8, b"\xff\x03\0\0")], Err((1, 0))),
+    // Rule 4: one byte more than the largest file has; version 1, whose files end at 71,680, and which has no double indirect
+    // sector.
+    (SECTORS, &[(137, 272, b"\x01\x18\x81\0")], Err((4, 2))),
+    (SECTORS, &[(0, 4, b"\x01")], Err((4, 2))),
+    (
+        SECTORS,
+        &[(0, 4, b"\x01"), (137, 272, b"\0\x18\x01\0")],
+        Err((4, 2)),
+    ),
+    // Rule 5: the sector before the data, or the first past the end, in place of each kind of number.
+    (SECTORS, &[(137, 336, b"\x98\0\0\0")], Err((5, 2))),
+    (SECTORS, &[(137, 340, b"\x98\0\0\0")], Err((5, 2))),
+    (SECTORS, &[(137, 344, b"\x98\0\0\0")], Err((5, 2))),
+    (SECTORS, &[(137, 344, b"\0\x80\0\0")], Err((5, 2))),
+    (SECTORS, &[(154, 0, b"\x98\0\0\0")], Err((5, 2))),
+    (SECTORS, &[(154, 508, b"\0\x80\0\0")], Err((5, 2))),
+    (SECTORS, &[(155, 508, b"\x98\0\0\0")], Err((5, 2))),
+    (SECTORS, &[(283, 508, b"\x05\0\0\0")], Err((5, 2))),
+    // Rule 6: a sector of pointers that is a block too, or stands on both levels, or twice.
+    (SECTORS, &[(155, 508, b"\x9b\0\0\0")], Err((6, 155))),
+    (SECTORS, &[(283, 508, b"\x9a\0\0\0")], Err((6, 154))),
+    (SECTORS, &[(137, 340, b"\x9a\0\0\0")], Err((6, 154))),
+    (SECTORS, &[(154, 0, b"\x9b\0\0\0")], Err((6, 155))),
+    (SECTORS, &[(154, 4, b"\x9c\0\0\0")], Err((6, 156))),
+    // Rule 7: the bit of a sector of pointers is clear, or a number is gone with all that is found by it.
+    (SECTORS, &[(129, 35, b"\xf7")], Err((7, 283))),
+    (SECTORS, &[(137, 340, &[0; 4])], Err((7, 155))),
+    (SECTORS, &[(137, 344, &[0; 4])], Err((7, 154))),
+    (SECTORS, &[(154, 0, &[0; 4])], Err((7, 156))),
+    (SECTORS, &[(155, 0, &[0; 4])], Err((7, 296))),
+    (SECTORS, &[(283, 508, &[0; 4])], Err((7, 16_807))),
+    // Rule 8: past the size there is the last block, or all that version 1 hasn't, or each sector of pointers.
+    (SECTORS, &[(137, 272, b"\0\x16\x81\0")], Err((8, 2))),
+    (SECTORS, &[(137, 272, b"\0\x18\x01\0")], Err((8, 2))),
+    (SECTORS, &[(137, 272, b"\0\x18\0\0")], Err((8, 2))),
+    // One byte before the end of the last block, which is zero, or isn't.
+    (SECTORS, &[(137, 272, b"\xff\x17\x81\0")], Ok(15_960)),
+    (
+        SECTORS,
+        &[(137, 272, b"\xff\x17\x81\0"), (16_807, 511, b"\x01")],
+        Err((8, 2)),
+    ),
+    // A sector of pointers to holes alone stays while the first of them isn't past the size.
+    (SECTORS, &[LAST_NUMBERS, LAST_BITS], Ok(16_088)),
+    (
+        SECTORS,
+        &[LAST_NUMBERS, LAST_BITS, (137, 272, b"\x01\x18\x80\0")],
+        Ok(16_088),
+    ),
+    (
+        SECTORS,
+        &[LAST_NUMBERS, LAST_BITS, (137, 272, b"\0\x18\x80\0")],
+        Err((8, 2)),
+    ),
+    (
+        SECTORS,
+        &[(155, 0, &[0; 512]), (129, 37, &[0; 16])],
+        Ok(16_088),
+    ),
+    // A directory needs no sector of pointers to its one block: the root has an indirect, or a double indirect one.
+    (
+        SECTORS,
+        &[(137, 212, b"\xa8\x41\0\0"), (133, 53, b"\x01")],
+        Err((8, 1)),
+    ),
+    (
+        SECTORS,
+        &[(137, 216, b"\xa8\x41\0\0"), (133, 53, b"\x01")],
+        Err((8, 1)),
+    ),
+];
+
+#[test]
+fn a_check_finds_damage_on_both_levels(rt: HostRuntime) -> Result<(), AllocError> {
+    for (i, &(sectors, changes, wanted)) in ROWS.iter().enumerate() {
+        let seen = seen_of(rt.alloc(), sectors, changes)?;
+        assert!(rt; seen == wanted_of(wanted), "{i}: {seen:?}");
+    }
+    Ok(())
+}
