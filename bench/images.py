@@ -8,8 +8,9 @@ from failing import Table, demand, faults, happened, run_program, told
 TOP = pathlib.Path(__file__).resolve().parent.parent
 PROGRAM = TOP / 'crates/inofs/out/inofs'
 SECTOR = 512
+INODES = 64
 TABLE = Table()
-MKFS = ['mkfs', 'image', '--sectors', '1024', '--inodes', '64']
+MKFS = ['mkfs', 'image', '--sectors', '1024', '--inodes', str(INODES)]
 BASE = ['spawn 0 0', '1 mkdir /d 0755', '1 open /f wc 0644', '1 write 0 x', '1 symlink t /l']
 LOOK = ['spawn 0 0', '1 open / r', '1 readdir 0', '1 open /d r', '1 readdir 1', '1 stat /d/f', '1 open /d/f r', '1 read 2 100']
 CLEAN = re.compile(r'clean files \d+ dirs \d+ links \d+ nameless \d+ blocks \d+ inodes \d+ pending (yes|no)')
