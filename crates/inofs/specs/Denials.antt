@@ -1,7 +1,8 @@
 -- The lines of denials.
 --     request_name, name_asked, name_text        what was asked for, and for which name
 --     asked_text, denial_words, denial_line        the line
-use Rattle.std.specs.Prelude.{ℕ, List, ◌++◌, Option, None, Some, codes}
+--     line_start        what stands before it where the last one was cut short
+use Rattle.std.specs.Prelude.{ℕ, ◌%◌, ◌^◌, Bool, true, false, List, [], ◌++◌, Option, None, Some, codes}
 use Rattle.std.specs.Fmt.{decimal}
 use Rattle.fs_cred.specs.declared.refusal.Denial.{Denial}
 use Rattle.fs_cred.specs.declared.refusal.Refusal.TheVariants.{Denied}
@@ -53,9 +54,15 @@ word_or_hyphen (Some name) = word_text name
 abbrev pub name_text : Operation → List ℕ
 name_text operation = word_or_hyphen (name_asked operation)
 
--- when, to whom, and what was asked for
+-- the number of the inode that a node names
+abbrev pub inode_number : Request → ℕ
+inode_number request = request.node % 2 ^ 32
+
+-- when, to which user and process, what was asked for, and of which object
 abbrev pub asked_text : Time → Request → List ℕ
-asked_text now request = decimal now.seconds ++ codes " " ++ decimal request.uid ++ codes " " ++ request_name request.operation ++ codes " "
+asked_text now request =
+    decimal now.seconds ++ codes " " ++ decimal request.uid ++ codes " " ++ decimal request.pid ++ codes " "
+    ++ request_name request.operation ++ codes " " ++ decimal (inode_number request) ++ codes " "
 
 -- the shell's words of it
 abbrev pub denial_words : Denial → List ℕ
@@ -65,3 +72,8 @@ denial_words denial = reply_text (Refused (Denied denial))
 abbrev pub denial_line : Time → Request → Denial → List ℕ
 denial_line now request denial =
     asked_text now request ++ (name_text request.operation ++ (codes " " ++ (denial_words denial ++ codes "\n")))
+
+-- where a part of a line may be all that was written of it, that is ended first
+abbrev pub line_start : Bool → List ℕ
+line_start true = codes "\n"
+line_start false = []

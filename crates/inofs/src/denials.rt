@@ -3,7 +3,7 @@
 ghost use Rattle.std.specs.Prelude.{◌≡◌, ◌++◌, IfOk, OnOk, string_bytes};
 ghost use Rattle.std.specs.Option.{option_copied};
 ghost use Rattle.std.specs.Io.KnownBytes.{Appends};
-ghost use Rattle.inofs.specs.Denials.{request_name, name_asked, name_text, asked_text, denial_words, denial_line};
+ghost use Rattle.inofs.specs.Denials.{request_name, name_asked, name_text, inode_number, asked_text, denial_words, denial_line, line_start};
 
 use fs_cred::{Denial, Refusal};
 use fs_lines::{reply_text, word_text};
@@ -15,17 +15,22 @@ use std::alloc::{AllocError, Global};
 use std::io::{self, Write};
 
 /// Writes a line for each request that was denied by a rule, if there is something to write to. A line that can't be written is
-/// left out.
+/// left out; where a part of it may have been, as on a full device, the next one begins with the end of that.
 #[derive(Drop)]
 pub(crate) struct DenialList<W> {
     alloc: Global,
     out: Option<W>,
+    is_cut: bool,
 }
 
 impl<W> DenialList<W> {
     /// Lines are written to this, or nowhere.
     pub(crate) fn new(alloc: Global, out: Option<W>) -> DenialList<W> {
-        DenialList { alloc, out }
+        DenialList {
+            alloc,
+            out,
+            is_cut: false,
+        }
     }
 }
 
@@ -33,34 +38,41 @@ impl<W: Write> Witness for DenialList<W> {
     fn see(&mut self, request: &Request<'_>, response: &Response, now: Time) {
         if let Response::Fails(Stop::Refuses(Refusal::Denied(denial))) = response {
             if let Some(out) = &mut self.out {
-                let _ = write_denial(self.alloc, out, request, *denial, now);
+                if let Ok(line) = denial_line(self.alloc, request, *denial, now) {
+                    self.is_cut = write_line(out, self.is_cut, &line).is_err();
+                }
             }
         }
     }
 }
 
-// Writes the line of a denial: when, to whom, of which request for which name; and the shell's words of it.
-fn write_denial<W: Write>(
-    alloc: Global,
-    out: &mut W,
-    request: &Request<'_>,
-    denial: Denial,
-    now: Time,
-) -> io::Result<()>
-    ensures { OnOk result (Appends (W.contents out.old) (W.contents out.new) (denial_line now request.now denial)) }
+// Writes a line, and the end of the last one before it where that was cut short.
+fn write_line<W: Write>(out: &mut W, is_cut: bool, line: &String) -> io::Result<()>
+    ensures { OnOk result (Appends (W.contents out.old) (W.contents out.new) (line_start is_cut ++ string_bytes line.now)) }
 {
-    let line = denial_line(alloc, request, denial, now)?;
+    if is_cut {
+        out.write_all(b"\n")?;
+    }
     out.write_all(line.as_bytes())
 }
 
-// Adds when it was denied, to whom, and what was asked for.
+// Adds when it was denied, to which user and process, what was asked for, and of which object.
 fn push_asked(line: &mut String, request: &Request<'_>, now: Time) -> Result<(), AllocError>
     ensures { OnOk result (string_bytes line.new ≡ string_bytes line.old ++ asked_text now request.now) }
 {
     let seconds = now.seconds;
     let uid = request.uid;
+    let pid = request.pid;
     let asked = request_name(&request.operation);
-    write!(line, "{seconds} {uid} {asked} ")
+    let number = inode_number(request);
+    write!(line, "{seconds} {uid} {pid} {asked} {number} ")
+}
+
+// The number of the inode that a node names: of the directory of a name, or of the object itself.
+fn inode_number(request: &Request<'_>) -> u64
+    ensures { result ≡ inode_number request.now }
+{
+    request.node % (1 << 32)
 }
 
 // Adds the name that it was asked for, as a word; without one a hyphen.
@@ -79,6 +91,7 @@ fn push_words(line: &mut String, alloc: Global, denial: Denial) -> Result<(), Al
     line.push_str(words.as_str())
 }
 
+// The line of a denial: when, to whom, of which request for which name; and the shell's words of it.
 #[tactic(auto, using(std::proofs::Common::append_assoc))]
 fn denial_line(
     alloc: Global,

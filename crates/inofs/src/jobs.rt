@@ -19,7 +19,8 @@ use fs_shell::Watched;
 use fuse_serving::Standard;
 use sector_disk::{Disk, DiskFile, FileDisk, FileFault, MemDisk};
 use std::fs::{self, OpenOptions};
-use std::io::{Read, Write};
+use std::io::{ErrorKind, Read, Write};
+use std::os::unix::fs::OpenOptionsExt;
 use std::rt::{Clock, Files};
 
 /// Does what the words ask for, the program's name being the first of them, and answers the status.
@@ -184,16 +185,29 @@ fn serve_image<R: Files<File: DiskFile> + AllocGlobal + Clock, I: Read, O: Write
     serve_on_disk(rt.alloc(), disk, own_rules, &mut kernel, &mut witness, err)
 }
 
-// The file for denials, if one is named. What it has stays, and lines are added.
+// Whether there is a regular file, or nothing yet. A link is followed by nobody: who made it would say where denials go.
+fn is_file_or_absent<R: Files>(rt: &R, path: &str) -> bool {
+    match fs::symlink_metadata(rt, path) {
+        Ok(metadata) => metadata.is_file(),
+        Err(error) => error.kind() == ErrorKind::NotFound,
+    }
+}
+
+// The file for denials, if one is named, made for its owner alone. What it has stays, and lines are added. Anything but a regular file
+// is refused: a pipe would keep the server waiting.
 fn open_denials<R: Files>(rt: &R, path: Option<&Text>) -> Result<Option<R::File>, Failure>
     ensures { IfErr result (λ failure. (failure ≡ Failure.NoDenials) × IsSome (option_copied path.entry)) }
 {
     let Some(path) = path else {
         return Ok(None);
     };
+    if !is_file_or_absent(rt, path.as_str()) {
+        return Err(Failure::NoDenials);
+    }
     match OpenOptions::new()
         .append(true)
         .create(true)
+        .mode(0o600)
         .open(rt, path.as_str())
     {
         Ok(file) => Ok(Some(file)),
