@@ -1,14 +1,8 @@
 //! The program `inofs`: makes, runs and checks file systems in images. `docs/inofs.1` says how it is called and what it prints.
 #![tactic(auto)]
 
-mod denials;
-mod disks;
-mod jobs;
-mod memory;
-mod served;
-
-use crate::jobs::perform;
 use fs_command::Status;
+use fs_program::perform;
 use fs_shell::Watched;
 use std::process::ExitCode;
 use std::{env, io};

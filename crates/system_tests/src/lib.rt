@@ -1,6 +1,5 @@
 //! Tests of what stands above the disk: the model's values and laws, the table of processes, new and damaged disks and the methods
-//! of file systems, the texts of the shell and its runs, the program's words and its failures. What file systems answer to lines is
-//! tried by the program `player`, and what the program does by `bench/program`.
+//! of file systems, the texts of the shell and its runs. What file systems answer to lines is tried by the program `player`.
 #![tactic(auto)]
 
 #[cfg(test)]
@@ -15,10 +14,6 @@ mod model_values;
 mod new_disks;
 #[cfg(test)]
 mod processes;
-#[cfg(test)]
-mod program_failures;
-#[cfg(test)]
-mod program_words;
 #[cfg(test)]
 mod report;
 #[cfg(test)]

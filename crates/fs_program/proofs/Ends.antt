@@ -1,0 +1,89 @@
+-- How jobs end, from what their parts say.
+use Rattle.std.proofs.Common.{◌≡◌, inl, inr, ℕ, List, Option, None, Some, Result, Ok, Err, sym, ap, ap₂, subst, ◌∙◌}
+use Rattle.std.specs.Prelude.{OnOk, IsTrue, is_ok, if◌then◌else◌}
+use Rattle.std.specs.Io.KnownBytes.{Appends}
+use Rattle.sector_disk.specs.Disk.{DiskState}
+use Rattle.fs_layout.specs.declared.place.Place.{Place}
+use Rattle.fs_layout.specs.Place.{IsPlace, laid_out, the_place}
+use Rattle.fs_layout.specs.Version.{newest}
+use Rattle.fs_layout.proofs.Places.{place_is_laid_out, place_is_place}
+use Rattle.fs_model.specs.States.{State}
+use Rattle.fs_model.specs.declared.event.Event.TheVariants.{Sync}
+use Rattle.fs_model.specs.declared.reply.Reply.{Reply}
+use Rattle.fs_system.specs.Doing.{Does, HappensLast}
+use Rattle.fs_images.specs.Making.{mkfs_refusal}
+use Rattle.fs_system.specs.Playing.{HasDisk, IsConfig}
+use Rattle.fs_system.specs.Histories.{Config, Up, Off}
+use Rattle.fs_system.specs.Mounts.{Mounts}
+use Rattle.fs_system.specs.Seen.{System, disk_in, IsIn}
+use Rattle.fs_images.proofs.MakingRefusals.{place_or_too_small}
+use Rattle.fs_system.proofs.Played.{seen_in, the_disk}
+use Rattle.fs_shell.specs.Runs.{Ran}
+use Rattle.fs_shell.specs.declared.answer.Count.{Count}
+use Rattle.fs_shell.specs.Watching.{FailsWhere}
+use Rattle.fs_shell.specs.declared.fault.RunFault.{RunFault}
+use Rattle.fs_shell.specs.declared.fault.RunFault.TheVariants.{ReadFault, WriteFault}
+use Rattle.fs_program.specs.Jobs.{Tells, RunsOn}
+use Rattle.fs_program.specs.Streams.{Reading, Writing}
+use Rattle.fs_command.specs.declared.status.Status.{Status}
+use Rattle.fs_command.specs.declared.status.Status.TheVariants.{Failed}
+
+-- a line that was to be printed
+pub tells : {E : Type 0} (w : Writing) (line : List ℕ) (outcome : Result (Unit {0}) E) (status told : Status)
+    → OnOk outcome (Appends w.before w.after line) → told ≡ (if is_ok outcome then status else Failed) → Tells w line status (Ok told)
+tells w line (Ok done) status told wrote is = inl (wrote, ap Ok is)
+tells w line (Err e) status told wrote is = inr (ap Ok is)
+
+-- ---- a layout
+
+-- a disk of so many sectors has it
+pub placed : (sectors inodes size : ℕ) (place : Place) → the_place sectors inodes ≡ Some place → size ≡ place.sectors → the_place size place.inodes ≡ Some place
+placed sectors inodes size place has same =
+    let is = place_is_laid_out sectors inodes has in
+    ap₂ the_place (same ∙ ap (λ (p : Place). p.sectors) is) (ap (λ (p : Place). p.inodes) is) ∙ has
+
+-- where there is one, mkfs refuses nothing
+pub refuses_nothing : (sectors inodes : ℕ) (place : Place) → the_place sectors inodes ≡ Some place → mkfs_refusal sectors inodes ≡ None
+refuses_nothing sectors inodes place has =
+    let is : IsPlace (laid_out sectors inodes) = subst IsPlace (place_is_laid_out sectors inodes has) (place_is_place newest sectors inodes has) in
+    (place_or_too_small sectors inodes (record {
+      size = record { least = is.least_sectors; most = is.most_sectors };
+      least = is.least_inodes;
+      most = is.most_inodes;
+    }) (Some place) (sym has)).0
+
+-- ---- runs
+
+-- a disk that was mounted, run on and unmounted
+pub runs_on : {D : Type 0} (state : D → DiskState) (disk left : D) (first now : System D) (r : Reading) (w : Writing)
+    (ran : Result Count RunFault) (reply : Reply)
+    → (m : (s : State) × IsIn state first s × Mounts (state disk) (disk_in state first.base) s)
+    → ((c : Config D) → IsConfig state (Ok first) c → (d : Config D) × IsConfig state (Ok now) d × Ran state r.input w.before w.after c d ran)
+    → FailsWhere r.had_failed r.has_failed (ran ≡ Err ReadFault) → FailsWhere w.had_failed w.has_failed (ran ≡ Err WriteFault)
+    → OnOk ran (IsTrue w.is_flushed) → HappensLast state now left Sync reply → RunsOn state disk r w ran reply
+runs_on {D} state disk left first now r w ran reply m run reads writes flushed last = ends end.0 end.1 end.2
+  where
+    there : (d : D) × HasDisk first.base d
+    there = the_disk state first m.0 m.1
+
+    end : (d : Config D) × IsConfig state (Ok now) d × Ran state r.input w.before w.after (Up m.0 there.0) d ran
+    end = run (Up m.0 there.0) (there.1, m.1)
+
+    ends : (d : Config D) → IsConfig state (Ok now) d → Ran state r.input w.before w.after (Up m.0 there.0) d ran → RunsOn state disk r w ran reply
+    ends (Off d) is runs = absurd is
+    ends (Up t d) is runs =
+        let done = last t is.1 in
+        record {
+          first = there.0;
+          s = m.0;
+          mounts = seen_in state (λ x. Mounts (state disk) x m.0) first.base there.0 there.1 m.2;
+          last = d;
+          t = t;
+          runs = runs;
+          read_fault = reads;
+          write_fault = writes;
+          flushed = flushed;
+          left = left;
+          u = done.0;
+          unmounts = seen_in state (λ x. Does x (state left) t Sync reply done.0) now.base d is.0 done.1;
+        }

@@ -1,0 +1,16 @@
+use Rattle.fs_program.proofs.jobs.perform_job.Goals as goal
+
+pub returns-in-Mkfs : goal.returns-in-Mkfs
+returns-in-Mkfs g c = rw c.in-Mkfs.is c.make_image.ensures
+
+pub returns-in-Run : goal.returns-in-Run
+returns-in-Run g c = rw c.in-Run.is (rw c.as_ref.ensures.value at c.run_image.ensures)
+
+pub returns-in-Check : goal.returns-in-Check
+returns-in-Check g c = rw c.in-Check.is c.check_image.ensures
+
+pub returns-in-Upgrade : goal.returns-in-Upgrade
+returns-in-Upgrade g c = rw c.in-Upgrade.is c.upgrade_image.ensures
+
+pub returns-in-Fuse : goal.returns-in-Fuse
+returns-in-Fuse g c = rw c.in-Fuse.is (rw c.as_ref-in-Fuse.ensures.value at c.serve_image.ensures)

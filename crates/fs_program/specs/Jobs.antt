@@ -1,0 +1,183 @@
+-- How the jobs end, and with which status.
+--     ended        the status of a job
+--     IsUndone        a job isn't done, and nothing is printed
+--     Tells        a line is printed, and the status is this one; or it can't be printed
+--     MkfsEnds, CheckEnds, UpgradeEnds        a disk is made a file system, a disk is checked, and a disk is upgraded
+--     RunsOn, RunEnds        a script is run on a disk that is mounted for it
+--     MemoryEnds, ImageMkfsEnds, ImageRunEnds, ImageCheckEnds, ImageUpgradeEnds        the jobs but that of serving
+--     JobEnds, ProgramEnds        a job, and what the program does for its words
+use Rattle.std.specs.Prelude.{◌≡◌, ◌⊎◌, ℕ, List, Option, None, IsSome, IsTrue, Result, Ok, Err, OnOk}
+use Rattle.std.specs.Io.KnownBytes.{Appends}
+use Rattle.sector_disk.specs.Disk.{DiskState, IsFresh, IsStable, LeavesOnly, OnlyReads}
+use Rattle.fs_layout.specs.Place.{laid_out, the_place}
+use Rattle.fs_model.specs.States.{State}
+use Rattle.fs_model.specs.declared.event.Event.TheVariants.{Sync}
+use Rattle.fs_model.specs.declared.reply.Reply.{Reply}
+use Rattle.fs_model.specs.declared.reply.Reply.TheVariants as replies
+use Rattle.fs_check.specs.Checks.{IsClean, IsFirst, IsReason, IsNone}
+use Rattle.fs_check.specs.declared.faults.CheckFault.{CheckFault}
+use Rattle.fs_check.specs.declared.faults.Finding.{Finding}
+use Rattle.fs_check.specs.declared.faults.Summary.{Summary}
+use Rattle.fs_system.specs.Doing.{Does}
+use Rattle.fs_images.specs.Making.{IsDeviceFault, IsNewDisk}
+use Rattle.fs_system.specs.Mounts.{IsNotMounted}
+use Rattle.fs_system.specs.Histories.{Up}
+use Rattle.fs_system.specs.Mounts.{Mounts}
+use Rattle.fs_images.specs.declared.faults.MkfsFault.{MkfsFault}
+use Rattle.fs_images.specs.declared.faults.MkfsFault.TheVariants.{TooSmall}
+use Rattle.fs_system.specs.declared.faults.MountFault.{MountFault}
+use Rattle.fs_images.specs.declared.faults.UpgradeFault.{UpgradeFault}
+use Rattle.fs_images.specs.Upgrading.{IsHalfUpgraded, IsNotUpgraded, IsUpgraded}
+use Rattle.fs_shell.specs.Runs.{Ran}
+use Rattle.fs_shell.specs.declared.answer.Count.{Count}
+use Rattle.fs_shell.specs.Watching.{FailsWhere}
+use Rattle.fs_shell.specs.declared.fault.RunFault.{RunFault}
+use Rattle.fs_shell.specs.declared.fault.RunFault.TheVariants.{ReadFault, WriteFault}
+use Rattle.fs_program.specs.Serving.{ImageFuseEnds}
+use Rattle.fs_program.specs.Programs.{RunsInMemory}
+use Rattle.fs_command.specs.Statuses.{code_of, status_of}
+use Rattle.fs_program.specs.Streams.{Reading, Writing}
+use Rattle.fs_program.specs.Texts.{made_text, clean_text, finding_text, version_text}
+use Rattle.fs_command.specs.Words.{AsksFor, Refuses, words_status}
+use Rattle.fs_command.specs.declared.failure.Failure.{Failure}
+use Rattle.fs_command.specs.declared.failure.Failure.TheVariants as failures
+use Rattle.fs_program.specs.declared.memory.TheConstants.{SECTORS, INODES}
+use Rattle.fs_command.specs.declared.status.Status.{Status}
+use Rattle.fs_command.specs.declared.status.Status.TheVariants.{Done, Faulty, Failed}
+use Rattle.fs_command.specs.declared.words.Job.{Job}
+use Rattle.fs_command.specs.declared.words.Job.TheVariants.{Memory, Mkfs, Run, Check, Upgrade, Fuse}
+use Rattle.fs_command.specs.declared.words.WordsFault.{WordsFault}
+
+-- ---- statuses
+
+-- each failure is the same status
+abbrev pub ended : Result Status Failure → Status
+ended (Ok status) = status
+ended (Err failure) = Failed
+
+-- a run: that of its lines, or it ended early
+abbrev pub run_status : Result Count RunFault → Status
+run_status (Ok count) = status_of count
+run_status (Err fault) = Failed
+
+-- a run, and what the unmount after it is answered
+abbrev pub run_end : Result Count RunFault → Reply → Result Status Failure
+run_end ran replies.Done = Ok (run_status ran)
+run_end ran reply = Err failures.Unmount
+
+-- a run in memory
+abbrev pub memory_end : Result Count Failure → Result Status Failure
+memory_end (Ok count) = Ok (status_of count)
+memory_end (Err failure) = Err failure
+
+-- The job isn't done, for this reason, and nothing is printed.
+abbrev pub IsUndone : Writing → Failure → Result Status Failure → Type 0
+IsUndone w failure result = (w.after ≡ w.before) × (result ≡ Err failure)
+
+-- The line is printed, and the status is this one; or it can't be printed.
+abbrev pub Tells : Writing → List ℕ → Status → Result Status Failure → Type 0
+Tells w line status result = (Appends w.before w.after line × (result ≡ Ok status)) ⊎ (result ≡ Ok Failed)
+
+-- ---- on a disk
+
+-- A file system is to be made on a disk that has room for so many inodes.
+pub data MkfsEnds (old now : DiskState) (inodes : ℕ) (w : Writing) (result : Result Status Failure) : Type 0 where
+  cannot_make : (fault : MkfsFault) → IsDeviceFault old now fault → IsUndone w (failures.Mkfs fault) result
+      → MkfsEnds old now inodes w result
+  is_made : IsNewDisk inodes now.seen → IsStable now → Tells w (made_text (laid_out old.size inodes)) Done result
+      → MkfsEnds old now inodes w result
+
+-- A disk is to be checked.
+pub data CheckEnds (old now : DiskState) (w : Writing) (result : Result Status Failure) : Type 0 where
+  is_clean : (summary : Summary) → IsClean old summary → Tells w (clean_text summary) Done result
+      → CheckEnds old now w result
+  has_finding : (finding : Finding) → IsFirst old finding.rule finding.at → Tells w (finding_text finding) Faulty result
+      → CheckEnds old now w result
+  -- the device failed, or memory ran out
+  is_unchecked : (fault : CheckFault) → IsReason IsNone old now fault → IsUndone w (failures.Check fault) result
+      → CheckEnds old now w result
+
+-- A disk is to be upgraded.
+pub data UpgradeEnds (old now : DiskState) (w : Writing) (result : Result Status Failure) : Type 0 where
+  cannot_upgrade : (fault : UpgradeFault) → IsNotUpgraded old now fault → IsUndone w (failures.Upgrade fault) result
+      → UpgradeEnds old now w result
+  is_upgraded : IsUpgraded old now → Tells w version_text Done result → UpgradeEnds old now w result
+
+-- A disk was mounted, a script was run on its file system, and then that was unmounted, however the run had ended. The
+-- unmount makes all stable, as sync does.
+pub record RunsOn {D : Type 0} (state : D → DiskState) (disk : D) (r : Reading) (w : Writing) (ran : Result Count RunFault) (reply : Reply) : Type 0 where
+  pub first : D
+  pub s : State
+  pub mounts : Mounts (state disk) (state first) s
+  pub last : D
+  pub t : State
+  pub runs : Ran state r.input w.before w.after (Up s first) (Up t last) ran
+  -- a fault of the reader or the writer is told exactly where it has failed
+  pub read_fault : FailsWhere r.had_failed r.has_failed (ran ≡ Err ReadFault)
+  pub write_fault : FailsWhere w.had_failed w.has_failed (ran ≡ Err WriteFault)
+  pub flushed : OnOk ran (IsTrue w.is_flushed)
+  pub left : D
+  pub u : State
+  pub unmounts : Does (state last) (state left) t Sync reply u
+
+-- A script is to be run on a disk.
+pub data RunEnds {D : Type 0} (state : D → DiskState) (disk : D) (r : Reading) (w : Writing) (result : Result Status Failure) : Type 0 where
+  cannot_mount : (now : D) (fault : MountFault) → IsNotMounted (state disk) (state now) fault → IsUndone w (failures.Mount fault) result
+      → RunEnds state disk r w result
+  has_run : (ran : Result Count RunFault) (reply : Reply) → RunsOn state disk r w ran reply → result ≡ run_end ran reply
+      → RunEnds state disk r w result
+
+-- ---- jobs: of a file nothing is known but that it is some disk
+
+-- A script is to be run on a new disk in memory.
+pub record MemoryEnds {D : Type 0} (state : D → DiskState) (r : Reading) (w : Writing) (result : Result Status Failure) : Type 0 where
+  pub ran : Result Count Failure
+  pub runs : RunsInMemory state SECTORS INODES r w (w.after ≡ w.before) ran
+  pub read_fault : FailsWhere r.had_failed r.has_failed (ran ≡ Err (failures.Run ReadFault))
+  pub write_fault : FailsWhere w.had_failed w.has_failed (ran ≡ Err (failures.Run WriteFault))
+  pub flushed : OnOk ran (IsTrue w.is_flushed)
+  pub is_end : result ≡ memory_end ran
+
+pub data ImageMkfsEnds {D : Type 0} (state : D → DiskState) (sectors inodes : ℕ) (w : Writing) (result : Result Status Failure) : Type 0 where
+  has_no_place : the_place sectors inodes ≡ None → IsUndone w (failures.Mkfs TooSmall) result → ImageMkfsEnds state sectors inodes w result
+  exists : IsUndone w failures.Exists result → ImageMkfsEnds state sectors inodes w result
+  is_not_created : IsUndone w failures.NotCreated result → ImageMkfsEnds state sectors inodes w result
+  is_created : (old now : D) → (state old).size ≡ sectors → MkfsEnds (state old) (state now) inodes w result
+      → ImageMkfsEnds state sectors inodes w result
+
+-- The script is that of the standard input, unless it is in a file.
+pub data ImageRunEnds {D : Type 0} (state : D → DiskState) (script : Option (List ℕ)) (r : Reading) (w : Writing) (result : Result Status Failure) : Type 0 where
+  cannot_open : IsUndone w failures.NotOpened result → ImageRunEnds state script r w result
+  has_no_script : IsSome script → IsUndone w failures.NoScript result → ImageRunEnds state script r w result
+  opens : (disk : D) (own : Reading) → IsFresh (state disk) (state disk).seen → (script ≡ None → own ≡ r)
+      → RunEnds state disk own w result → ImageRunEnds state script r w result
+
+pub data ImageCheckEnds {D : Type 0} (state : D → DiskState) (w : Writing) (result : Result Status Failure) : Type 0 where
+  cannot_check : IsUndone w failures.NotOpened result → ImageCheckEnds state w result
+  checks : (old now : D) → IsFresh (state old) (state old).seen → OnlyReads (state old) (state now)
+      → CheckEnds (state old) (state now) w result → ImageCheckEnds state w result
+
+pub data ImageUpgradeEnds {D : Type 0} (state : D → DiskState) (w : Writing) (result : Result Status Failure) : Type 0 where
+  has_no_image : IsUndone w failures.NotOpened result → ImageUpgradeEnds state w result
+  upgrades : (old now : D) → IsFresh (state old) (state old).seen → LeavesOnly (state old) (state now) (IsHalfUpgraded (state old))
+      → UpgradeEnds (state old) (state now) w result → ImageUpgradeEnds state w result
+
+-- A job ends so, on disks in memory and in files.
+abbrev pub JobEnds : {M F : Type 0} → (M → DiskState) → (F → DiskState) → Reading → Writing → Job → Result Status Failure → Type 0
+JobEnds memory file r w Memory result = MemoryEnds memory r w result
+JobEnds memory file r w (Mkfs image sectors inodes) result = ImageMkfsEnds file sectors inodes w result
+JobEnds memory file r w (Run image script) result = ImageRunEnds file script r w result
+JobEnds memory file r w (Check image) result = ImageCheckEnds file w result
+JobEnds memory file r w (Upgrade image) result = ImageUpgradeEnds file w result
+JobEnds memory file r w (Fuse image denials own_rules) result = ImageFuseEnds file denials own_rules result
+
+-- ---- the program
+
+-- What the program does for its words, and the number that it ends with.
+pub data ProgramEnds {M F : Type 0} (memory : M → DiskState) (file : F → DiskState) (words : List (List ℕ)) (r : Reading) (w : Writing) (code : ℕ) : Type 0 where
+  does_job : (job : Job) (result : Result Status Failure) → AsksFor words job → JobEnds memory file r w job result
+      → code ≡ code_of (ended result) → ProgramEnds memory file words r w code
+  -- the help, the version, or what is wrong is printed
+  refuses : (fault : WordsFault) → Refuses words fault → code ≡ code_of (words_status fault) → ProgramEnds memory file words r w code
+  -- that can't be printed
+  is_mute : (fault : WordsFault) → Refuses words fault → code ≡ code_of Failed → ProgramEnds memory file words r w code

@@ -1,0 +1,164 @@
+//! Denials, a line each.
+
+ghost use Rattle.std.specs.Prelude.{◌≡◌, ◌++◌, IfOk, OnOk, string_bytes};
+ghost use Rattle.std.specs.Option.{option_copied};
+ghost use Rattle.std.specs.Io.KnownBytes.{Appends};
+ghost use Rattle.fs_program.specs.Denials.{request_name, name_asked, name_text, inode_number, asked_text, denial_words, denial_line, line_start};
+
+use fs_cred::{Denial, Refusal};
+use fs_lines::{reply_text, word_text};
+use fs_model::Reply;
+use fuse_plans::{Response, Stop};
+use fuse_protocol::{Operation, Request, Time};
+use fuse_serving::Witness;
+use std::alloc::{AllocError, Global};
+use std::io::{self, Write};
+
+/// Writes a line for each request that was denied by a rule, if there is something to write to. A line that can't be written is
+/// left out; where a part of it may have been, as on a full device, the next one begins with the end of that.
+#[derive(Drop)]
+pub(crate) struct DenialList<W> {
+    alloc: Global,
+    out: Option<W>,
+    is_cut: bool,
+}
+
+impl<W> DenialList<W> {
+    /// Lines are written to this, or nowhere.
+    pub(crate) fn new(alloc: Global, out: Option<W>) -> DenialList<W> {
+        DenialList {
+            alloc,
+            out,
+            is_cut: false,
+        }
+    }
+}
+
+impl<W: Write> Witness for DenialList<W> {
+    fn see(&mut self, request: &Request<'_>, response: &Response, now: Time) {
+        if let Response::Fails(Stop::Refuses(Refusal::Denied(denial))) = response {
+            if let Some(out) = &mut self.out {
+                if let Ok(line) = denial_line(self.alloc, request, *denial, now) {
+                    self.is_cut = write_line(out, self.is_cut, &line).is_err();
+                }
+            }
+        }
+    }
+}
+
+// Writes a line, and the end of the last one before it where that was cut short.
+fn write_line<W: Write>(out: &mut W, is_cut: bool, line: &String) -> io::Result<()>
+    ensures { OnOk result (Appends (W.contents out.old) (W.contents out.new) (line_start is_cut ++ string_bytes line.now)) }
+{
+    if is_cut {
+        out.write_all(b"\n")?;
+    }
+    out.write_all(line.as_bytes())
+}
+
+// Adds when it was denied, to which user and process, what was asked for, and of which object.
+fn push_asked(line: &mut String, request: &Request<'_>, now: Time) -> Result<(), AllocError>
+    ensures { OnOk result (string_bytes line.new ≡ string_bytes line.old ++ asked_text now request.now) }
+{
+    let seconds = now.seconds;
+    let uid = request.uid;
+    let pid = request.pid;
+    let asked = request_name(&request.operation);
+    let number = inode_number(request);
+    write!(line, "{seconds} {uid} {pid} {asked} {number} ")
+}
+
+// The number of the inode that a node names: of the directory of a name, or of the object itself.
+fn inode_number(request: &Request<'_>) -> u64
+    ensures { result ≡ inode_number request.now }
+{
+    request.node % (1 << 32)
+}
+
+// Adds the name that it was asked for, as a word; without one a hyphen.
+fn push_name(line: &mut String, alloc: Global, operation: &Operation<'_>) -> Result<(), AllocError>
+    ensures { OnOk result (string_bytes line.new ≡ string_bytes line.old ++ name_text operation.now) }
+{
+    let named = name_text(alloc, operation)?;
+    line.push_str(named.as_str())
+}
+
+// Adds the shell's words of the denial.
+fn push_words(line: &mut String, alloc: Global, denial: Denial) -> Result<(), AllocError>
+    ensures { OnOk result (string_bytes line.new ≡ string_bytes line.old ++ denial_words denial) }
+{
+    let words = reply_text(alloc, &Reply::Refused(Refusal::Denied(denial)))?;
+    line.push_str(words.as_str())
+}
+
+// The line of a denial: when, to whom, of which request for which name; and the shell's words of it.
+#[tactic(auto, using(std::proofs::Common::append_assoc))]
+fn denial_line(
+    alloc: Global,
+    request: &Request<'_>,
+    denial: Denial,
+    now: Time,
+) -> Result<String, AllocError>
+    ensures { IfOk result (λ line. string_bytes line ≡ denial_line now request.now denial) }
+{
+    let mut line = String::new(alloc);
+    push_asked(&mut line, request, now)?;
+    push_name(&mut line, alloc, &request.operation)?;
+    line.push_str(" ")?;
+    push_words(&mut line, alloc, denial)?;
+    line.push_str("\n")?;
+    Ok(line)
+}
+
+// The name that a request is about, as a word; without one a hyphen.
+fn name_text(alloc: Global, operation: &Operation<'_>) -> Result<String, AllocError>
+    ensures { IfOk result (λ text. string_bytes text ≡ name_text operation.now) }
+{
+    match name_asked(operation) {
+        Some(name) => word_text(alloc, name),
+        None => String::from_str(alloc, "-"),
+    }
+}
+
+// The name that a request is about, of two the first.
+fn name_asked<'a>(operation: &Operation<'a>) -> Option<&'a [u8]>
+    ensures { option_copied result ≡ name_asked operation.now }
+{
+    match operation {
+        Operation::Lookup(name)
+        | Operation::SymLink { name, .. }
+        | Operation::MkNod { name, .. }
+        | Operation::MkDir { name, .. }
+        | Operation::Unlink(name)
+        | Operation::RmDir(name)
+        | Operation::Rename { name, .. }
+        | Operation::Link { new_name: name, .. }
+        | Operation::Create { name, .. } => Some(name.bytes()),
+        Operation::SetXAttr { name, .. } | Operation::RemoveXAttr(name) => Some(name.bytes()),
+        _ => None,
+    }
+}
+
+// What is asked for, as the kernel's header calls it.
+fn request_name(operation: &Operation<'_>) -> &'static str
+    ensures { result.now ≡ request_name operation.now }
+{
+    match operation {
+        Operation::Lookup(_) => "LOOKUP",
+        Operation::SetAttr(_) => "SETATTR",
+        Operation::SymLink { .. } => "SYMLINK",
+        Operation::MkNod { .. } => "MKNOD",
+        Operation::MkDir { .. } => "MKDIR",
+        Operation::Unlink(_) => "UNLINK",
+        Operation::RmDir(_) => "RMDIR",
+        Operation::Rename { .. } => "RENAME",
+        Operation::Link { .. } => "LINK",
+        Operation::Open(_) => "OPEN",
+        Operation::SetXAttr { .. } => "SETXATTR",
+        Operation::RemoveXAttr(_) => "REMOVEXATTR",
+        Operation::OpenDir => "OPENDIR",
+        Operation::Access(_) => "ACCESS",
+        Operation::Create { .. } => "CREATE",
+        _ => "OTHER",
+    }
+}

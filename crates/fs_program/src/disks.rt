@@ -1,0 +1,206 @@
+//! What the jobs do on a disk, and what they print.
+
+ghost use Rattle.std.specs.Prelude.{◌≡◌, OnOk, is_ok, if◌then◌else◌, Some, Ok};
+ghost use Rattle.std.specs.Io.KnownBytes.{Appends};
+ghost use Rattle.sector_disk.specs.Disk.{LeavesOnly, OnlyReads};
+ghost use Rattle.fs_layout.specs.Place.{IsPlace, the_place};
+ghost use Rattle.fs_images.specs.Upgrading.{IsHalfUpgraded};
+ghost use Rattle.fs_program.specs.Jobs.{MkfsEnds, RunEnds, CheckEnds, UpgradeEnds, ended, run_status};
+ghost use Rattle.fs_program.specs.Streams.{reading, writing};
+ghost use Rattle.fs_program.specs.Texts.{made_text, kinds_text, room_text, yes_text, clean_text, finding_text, version_text};
+
+use fs_check::{CheckFault, Finding, Summary, check};
+use fs_command::{Failure, Status};
+use fs_images::{mkfs, upgrade};
+use fs_layout::{Place, Version};
+use fs_shell::{Count, RunFault, Watched, run};
+use fs_system::Fs;
+use sector_disk::Disk;
+use std::alloc::Global;
+use std::io::{self, Read, Write};
+
+/// Prints why a job wasn't done.
+pub(crate) fn tell<E: Write>(err: &mut E, failure: &Failure) -> Status
+    ensures { result ≡ Status.Failed }
+{
+    let _ = writeln!(err, "{failure}");
+    Status::Failed
+}
+
+/// The status of a job that has ended so. Why it wasn't done is printed.
+pub(crate) fn finish<E: Write>(outcome: Result<Status, Failure>, err: &mut E) -> Status
+    ensures { result ≡ ended outcome }
+{
+    match outcome {
+        Ok(status) => status,
+        Err(failure) => tell(err, &failure),
+    }
+}
+
+/// The status, where the text was written.
+pub(crate) fn written(outcome: io::Result<()>, status: Status) -> Status
+    ensures { result ≡ (if is_ok outcome then status else Status.Failed) }
+{
+    match outcome {
+        Ok(()) => status,
+        Err(_) => Status::Failed,
+    }
+}
+
+// ---- making a file system
+
+/// Makes a file system on a disk that has the size of the layout.
+pub(crate) fn make_on_disk<D: Disk, O: Write>(
+    disk: &mut D,
+    place: Place,
+    out: &mut Watched<O>,
+) -> Result<Status, Failure>
+    requires { the_place (D.state disk.old).size place.inodes ≡ Some place }
+    ensures { MkfsEnds (D.state disk.old) (D.state disk.new) place.inodes (writing O.contents out.old out.new) result }
+{
+    if let Err(fault) = mkfs(disk, place.inodes) {
+        return Err(Failure::Mkfs(fault));
+    }
+    Ok(written(print_made(place, out), Status::Done))
+}
+
+fn print_made<O: Write>(place: Place, out: &mut O) -> io::Result<()>
+    requires { IsPlace place }
+    ensures { OnOk result (Appends (O.contents out.old) (O.contents out.new) (made_text place)) }
+{
+    let Place {
+        sectors,
+        inodes,
+        first_data,
+        ..
+    } = place;
+    let free = sectors - first_data;
+    writeln!(out, "made {sectors} sectors {inodes} inodes {free} free")
+}
+
+// ---- running a script
+
+/// Mounts a disk, runs a script on it, and unmounts, also where the run ended early, which is told first.
+pub(crate) fn run_on_disk<D: Disk + Drop, I: Read, O: Write, E: Write>(
+    alloc: Global,
+    disk: D,
+    input: &mut Watched<I>,
+    out: &mut Watched<O>,
+    err: &mut E,
+) -> Result<Status, Failure>
+    ensures { RunEnds D.state disk (reading I.remaining input.old input.new) (writing O.contents out.old out.new) result }
+{
+    let mut fs = match Fs::mount(alloc, disk) {
+        Ok(fs) => fs,
+        Err((fault, _)) => return Err(Failure::Mount(fault)),
+    };
+    let ran = run(alloc, input, out, &mut fs);
+    let (_, errno) = fs.unmount();
+    let status = tell_run(ran, err);
+    match errno {
+        None => Ok(status),
+        Some(_) => Err(Failure::Unmount),
+    }
+}
+
+// The status of a run. Why it ended early is printed.
+fn tell_run<E: Write>(ran: Result<Count, RunFault>, err: &mut E) -> Status
+    ensures { result ≡ run_status ran }
+{
+    match ran {
+        Ok(count) => Status::of(&count),
+        Err(fault) => tell(err, &Failure::Run(fault)),
+    }
+}
+
+// ---- checking
+
+/// Checks a disk, and prints what it has, or which rule fails.
+pub(crate) fn check_disk<D: Disk, O: Write>(
+    alloc: Global,
+    disk: &mut D,
+    out: &mut Watched<O>,
+) -> Result<Status, Failure>
+    ensures reads { OnlyReads (D.state disk.old) (D.state disk.new) }
+    ensures ends { CheckEnds (D.state disk.old) (D.state disk.new) (writing O.contents out.old out.new) result }
+{
+    match check(alloc, disk) {
+        Ok(summary) => Ok(written(print_summary(&summary, out), Status::Done)),
+        Err(CheckFault::Found(finding)) => {
+            Ok(written(print_finding(finding, out), Status::Faulty))
+        }
+        Err(CheckFault::DiskFault) => Err(Failure::Check(CheckFault::DiskFault)),
+        Err(CheckFault::OutOfMemory) => Err(Failure::Check(CheckFault::OutOfMemory)),
+    }
+}
+
+fn print_finding<O: Write>(finding: Finding, out: &mut O) -> io::Result<()>
+    ensures { OnOk result (Appends (O.contents out.old) (O.contents out.new) (finding_text finding)) }
+{
+    let Finding { rule, at } = finding;
+    writeln!(out, "finding {rule} {at}")
+}
+
+fn print_summary<O: Write>(summary: &Summary, out: &mut O) -> io::Result<()>
+    ensures { OnOk result (Appends (O.contents out.old) (O.contents out.new) (clean_text summary.now)) }
+{
+    print_kinds(summary, out)?;
+    print_room(summary, out)?;
+    let pending = yes_or_no(summary.pending);
+    writeln!(out, " pending {pending}")?;
+    Ok(())
+}
+
+fn print_kinds<O: Write>(summary: &Summary, out: &mut O) -> io::Result<()>
+    ensures { OnOk result (Appends (O.contents out.old) (O.contents out.new) (kinds_text summary.now)) }
+{
+    let Summary {
+        files,
+        dirs,
+        links,
+        ..
+    } = summary;
+    write!(out, "clean files {files} dirs {dirs} links {links}")
+}
+
+fn print_room<O: Write>(summary: &Summary, out: &mut O) -> io::Result<()>
+    ensures { OnOk result (Appends (O.contents out.old) (O.contents out.new) (room_text summary.now)) }
+{
+    let Summary {
+        nameless,
+        blocks,
+        inodes,
+        ..
+    } = summary;
+    write!(out, " nameless {nameless} blocks {blocks} inodes {inodes}")
+}
+
+fn yes_or_no(yes: bool) -> &'static str
+    ensures { result.now ≡ yes_text yes }
+{
+    if yes { "yes" } else { "no" }
+}
+
+// ---- upgrading
+
+/// Upgrades the file system on a disk, and prints the version that it has then.
+pub(crate) fn upgrade_disk<D: Disk, O: Write>(
+    alloc: Global,
+    disk: &mut D,
+    out: &mut Watched<O>,
+) -> Result<Status, Failure>
+    ensures any_moment { LeavesOnly (D.state disk.old) (D.state disk.new) (IsHalfUpgraded (D.state disk.old)) }
+    ensures ends { UpgradeEnds (D.state disk.old) (D.state disk.new) (writing O.contents out.old out.new) result }
+{
+    if let Err(fault) = upgrade(alloc, disk) {
+        return Err(Failure::Upgrade(fault));
+    }
+    Ok(written(print_version(out), Status::Done))
+}
+
+fn print_version<O: Write>(out: &mut O) -> io::Result<()>
+    ensures { OnOk result (Appends (O.contents out.old) (O.contents out.new) version_text) }
+{
+    let version = Version::Two.number();
+    writeln!(out, "version {version}")
+}

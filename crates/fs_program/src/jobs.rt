@@ -1,0 +1,216 @@
+//! What the program does for its words.
+
+ghost use Rattle.std.specs.Prelude.{◌≡◌, ◌⊎◌, ◌≤◌, map, string_bytes, MatchResult, Err, IfErr, IsSome};
+ghost use Rattle.std.specs.Option.{option_copied};
+ghost use Rattle.sector_disk.specs.Disk.{IsFresh};
+ghost use Rattle.fs_program.specs.Jobs.{ImageMkfsEnds, ImageRunEnds, ImageCheckEnds, ImageUpgradeEnds, JobEnds, ProgramEnds};
+ghost use Rattle.fs_program.specs.Serving.{ImageFuseEnds};
+ghost use Rattle.fs_program.specs.Streams.{reading, writing};
+ghost use Rattle.fs_command.specs.Words.{words_status};
+
+use crate::denials::DenialList;
+use crate::disks::{check_disk, finish, make_on_disk, run_on_disk, upgrade_disk, written};
+use crate::memory::run_in_memory;
+use crate::served::serve_on_disk;
+use fs_command::{Failure, Job, Status, Text, WordsFault, parse_words};
+use fs_images::MkfsFault;
+use fs_layout::place_of;
+use fs_shell::Watched;
+use fuse_serving::Standard;
+use sector_disk::{Disk, DiskFile, FileDisk, FileFault, MemDisk};
+use std::fs::{self, OpenOptions};
+use std::io::{ErrorKind, Read, Write};
+use std::os::unix::fs::OpenOptionsExt;
+use std::rt::{Clock, Files};
+
+/// Does what the words ask for, the program's name being the first of them, and answers the status.
+///
+/// A script on the standard input is read from `input`, and replies are written to `out`: whether a call of them fails is
+/// remembered. A text that can't be written is passed over, with status 3.
+pub fn perform<R: Files<File: DiskFile> + AllocGlobal + Clock, I: Read, O: Write, E: Write>(
+    rt: &R,
+    words: &[String],
+    input: &mut Watched<I>,
+    out: &mut Watched<O>,
+    err: &mut E,
+) -> u8
+    // The words ask for a job, and it has ended with this status; or they ask for none.
+    ensures performs { ProgramEnds ⟦<MemDisk as Disk>⟧.state ⟦<FileDisk<R::File> as Disk>⟧.state (map string_bytes words.now)
+        (reading I.remaining input.old input.new) (writing O.contents out.old out.new) result }
+    ensures range { result ≤ 3 }
+{
+    match parse_words(rt.alloc(), words) {
+        Ok(job) => {
+            let outcome = perform_job(rt, &job, input, out, err);
+            finish(outcome, err).code()
+        }
+        Err(fault) => refuse(&fault, out, err).code(),
+    }
+}
+
+// Prints the parser's text: help and version are what was asked for.
+fn refuse<O: Write, E: Write>(fault: &WordsFault, out: &mut Watched<O>, err: &mut E) -> Status
+    ensures { (result ≡ words_status fault.now) ⊎ (result ≡ Status.Failed) }
+{
+    match fault.status() {
+        Status::Done => written(write!(out, "{fault}"), Status::Done),
+        status => written(write!(err, "{fault}"), status),
+    }
+}
+
+fn perform_job<R: Files<File: DiskFile> + AllocGlobal + Clock, I: Read, O: Write, E: Write>(
+    rt: &R,
+    job: &Job,
+    input: &mut Watched<I>,
+    out: &mut Watched<O>,
+    err: &mut E,
+) -> Result<Status, Failure>
+    ensures { JobEnds ⟦<MemDisk as Disk>⟧.state ⟦<FileDisk<R::File> as Disk>⟧.state
+        (reading I.remaining input.old input.new) (writing O.contents out.old out.new) job.now result }
+{
+    match job {
+        Job::Memory => {
+            let count = run_in_memory(rt.alloc(), input, out)?;
+            Ok(Status::of(&count))
+        }
+        Job::Mkfs {
+            image,
+            sectors,
+            inodes,
+        } => make_image(rt, image, *sectors, *inodes, out),
+        Job::Run { image, script } => run_image(rt, image, script.as_ref(), input, out, err),
+        Job::Check { image } => check_image(rt, image, out),
+        Job::Upgrade { image } => upgrade_image(rt, image, out),
+        Job::Fuse {
+            image,
+            denials,
+            own_rules,
+        } => serve_image(rt, image, denials.as_ref(), *own_rules, input, out, err),
+    }
+}
+
+// Where so many inodes leave too few sectors for data, no file is made.
+fn make_image<R: Files<File: DiskFile> + AllocGlobal, O: Write>(
+    rt: &R,
+    image: &Text,
+    sectors: u32,
+    inodes: u32,
+    out: &mut Watched<O>,
+) -> Result<Status, Failure>
+    ensures { ImageMkfsEnds ⟦<FileDisk<R::File> as Disk>⟧.state sectors inodes (writing O.contents out.old out.new) result }
+{
+    let Some(place) = place_of(sectors, inodes) else {
+        return Err(Failure::Mkfs(MkfsFault::TooSmall));
+    };
+    let mut disk = match FileDisk::create(rt, rt.alloc(), image.as_str(), place.sectors) {
+        Ok(disk) => disk,
+        Err(FileFault::Exists) => return Err(Failure::Exists),
+        Err(FileFault::Failed | FileFault::OutOfMemory) => return Err(Failure::NotCreated),
+    };
+    make_on_disk(&mut disk, place, out)
+}
+
+fn open_image<R: Files<File: DiskFile> + AllocGlobal>(
+    rt: &R,
+    image: &Text,
+) -> Result<FileDisk<R::File>, Failure>
+    ensures { MatchResult result
+        (λ disk. IsFresh (⟦<FileDisk<R::File> as Disk>⟧.state disk) (⟦<FileDisk<R::File> as Disk>⟧.state disk).seen)
+        (λ failure. failure ≡ Failure.NotOpened) }
+{
+    match FileDisk::open(rt, rt.alloc(), image.as_str()) {
+        Ok(disk) => Ok(disk),
+        Err(_) => Err(Failure::NotOpened),
+    }
+}
+
+fn run_image<R: Files<File: DiskFile> + AllocGlobal, I: Read, O: Write, E: Write>(
+    rt: &R,
+    image: &Text,
+    script: Option<&Text>,
+    input: &mut Watched<I>,
+    out: &mut Watched<O>,
+    err: &mut E,
+) -> Result<Status, Failure>
+    ensures { ImageRunEnds ⟦<FileDisk<R::File> as Disk>⟧.state (option_copied script.entry)
+        (reading I.remaining input.old input.new) (writing O.contents out.old out.new) result }
+{
+    let disk = open_image(rt, image)?;
+    let Some(script) = script else {
+        return run_on_disk(rt.alloc(), disk, input, out, err);
+    };
+    match fs::open(rt, script.as_str()) {
+        Ok(file) => run_on_disk(rt.alloc(), disk, &mut Watched::new(file), out, err),
+        Err(_) => Err(Failure::NoScript),
+    }
+}
+
+fn check_image<R: Files<File: DiskFile> + AllocGlobal, O: Write>(
+    rt: &R,
+    image: &Text,
+    out: &mut Watched<O>,
+) -> Result<Status, Failure>
+    ensures { ImageCheckEnds ⟦<FileDisk<R::File> as Disk>⟧.state (writing O.contents out.old out.new) result }
+{
+    let mut disk = open_image(rt, image)?;
+    check_disk(rt.alloc(), &mut disk, out)
+}
+
+fn upgrade_image<R: Files<File: DiskFile> + AllocGlobal, O: Write>(
+    rt: &R,
+    image: &Text,
+    out: &mut Watched<O>,
+) -> Result<Status, Failure>
+    ensures { ImageUpgradeEnds ⟦<FileDisk<R::File> as Disk>⟧.state (writing O.contents out.old out.new) result }
+{
+    let mut disk = open_image(rt, image)?;
+    upgrade_disk(rt.alloc(), &mut disk, out)
+}
+
+// Requests are read from the one stream, and replies are written to the other.
+fn serve_image<R: Files<File: DiskFile> + AllocGlobal + Clock, I: Read, O: Write, E: Write>(
+    rt: &R,
+    image: &Text,
+    denials: Option<&Text>,
+    own_rules: bool,
+    input: &mut Watched<I>,
+    out: &mut Watched<O>,
+    err: &mut E,
+) -> Result<Status, Failure>
+    ensures { ImageFuseEnds ⟦<FileDisk<R::File> as Disk>⟧.state (option_copied denials.entry) own_rules result }
+{
+    let disk = open_image(rt, image)?;
+    let mut witness = DenialList::new(rt.alloc(), open_denials(rt, denials)?);
+    let mut kernel = Standard::new(rt, input, out);
+    serve_on_disk(rt.alloc(), disk, own_rules, &mut kernel, &mut witness, err)
+}
+
+// Whether there is a regular file, or nothing yet. A link is followed by nobody: who made it would say where denials go.
+fn is_file_or_absent<R: Files>(rt: &R, path: &str) -> bool {
+    match fs::symlink_metadata(rt, path) {
+        Ok(metadata) => metadata.is_file(),
+        Err(error) => error.kind() == ErrorKind::NotFound,
+    }
+}
+
+// The file for denials, if one is named, made for its owner alone. What it has stays, and lines are added. Anything but a regular file
+// is refused: a pipe would keep the server waiting.
+fn open_denials<R: Files>(rt: &R, path: Option<&Text>) -> Result<Option<R::File>, Failure>
+    ensures { IfErr result (λ failure. (failure ≡ Failure.NoDenials) × IsSome (option_copied path.entry)) }
+{
+    let Some(path) = path else {
+        return Ok(None);
+    };
+    if !is_file_or_absent(rt, path.as_str()) {
+        return Err(Failure::NoDenials);
+    }
+    match OpenOptions::new()
+        .append(true)
+        .create(true)
+        .mode(0o600)
+        .open(rt, path.as_str())
+    {
+        Ok(file) => Ok(Some(file)),
+        Err(_) => Err(Failure::NoDenials),
+    }
+}

@@ -1,0 +1,13 @@
+//! The jobs of the program `inofs`: what it does for its words, on which streams, and with which status it ends.
+//!
+//! `docs/inofs.1` says how the program is called and what it prints.
+#![tactic(auto)]
+
+mod denials;
+mod disks;
+mod jobs;
+mod memory;
+mod served;
+
+pub use fs_command::{Job, WordsFault, parse_words};
+pub use jobs::perform;

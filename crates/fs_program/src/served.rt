@@ -1,0 +1,94 @@
+//! Serves the kernel's FUSE requests from a disk.
+
+ghost use Rattle.std.specs.Prelude.{◌≡◌};
+ghost use Rattle.fs_program.specs.Serving.{FuseEnds, served_status, settings_of};
+
+use crate::disks::tell;
+use fs_command::{Failure, Status};
+use fs_fuse::serve_requests;
+use fs_layout::Place;
+use fs_system::Fs;
+use fuse_protocol::Time;
+use fuse_serving::{Kernel, ReplyRoom, ServeFault, Witness};
+use fuse_state::Settings;
+use sector_disk::Disk;
+use std::alloc::{AllocError, Global};
+use std::io::Write;
+
+// The most bytes of one write.
+const MAX_WRITE: u32 = 131_072;
+
+// A request with so many bytes to write has a header and a body of 80 more.
+const REQUEST_ROOM: usize = 131_152;
+
+// Room for one request, and for one reply.
+#[derive(Drop)]
+struct Rooms {
+    request: Vec<u8>,
+    reply: ReplyRoom,
+}
+
+impl Rooms {
+    fn new(alloc: Global) -> Result<Rooms, AllocError> {
+        let mut request = Vec::new(alloc);
+        request.resize(REQUEST_ROOM, 0)?;
+        let reply = ReplyRoom::new(alloc)?;
+        Ok(Rooms { request, reply })
+    }
+}
+
+// What is agreed on with the kernel, and what is shown of the whole file system.
+fn settings_of(place: Place, own_rules: bool, start: Time) -> Settings
+    ensures { result ≡ settings_of place own_rules start }
+{
+    Settings {
+        max_write: MAX_WRITE,
+        posix_acl: !own_rules,
+        sectors: place.sectors.saturating_sub(place.first_data),
+        inodes: place.inodes,
+        start,
+    }
+}
+
+/// Mounts a disk, serves the kernel's requests from it, and unmounts, also where the serving ended early, which is told first.
+pub(crate) fn serve_on_disk<D: Disk + Drop, K: Kernel, W: Witness, E: Write>(
+    alloc: Global,
+    disk: D,
+    own_rules: bool,
+    kernel: &mut K,
+    witness: &mut W,
+    err: &mut E,
+) -> Result<Status, Failure>
+    ensures { FuseEnds D.state K.Does disk own_rules kernel.old kernel.new result }
+{
+    let Ok(mut rooms) = Rooms::new(alloc) else {
+        return Err(Failure::Serve(ServeFault::OutOfMemory));
+    };
+    let start = match kernel.now() {
+        Ok(start) => start,
+        Err(fault) => return Err(Failure::Serve(ServeFault::Clock(fault))),
+    };
+    let fs = match Fs::mount(alloc, disk) {
+        Ok(fs) => fs,
+        Err((fault, _)) => return Err(Failure::Mount(fault)),
+    };
+    let settings = settings_of(fs.place(), own_rules, start);
+    let Rooms { request, reply } = &mut rooms;
+    let (served, fs) = serve_requests(alloc, fs, settings, kernel, witness, request, reply);
+    let (_, errno) = fs.unmount();
+    let status = tell_served(served, err);
+    match errno {
+        None => Ok(status),
+        Some(_) => Err(Failure::Unmount),
+    }
+}
+
+// The status of what was served. Why it ended early is printed.
+fn tell_served<E: Write>(served: Result<(), ServeFault>, err: &mut E) -> Status
+    ensures { result ≡ served_status served }
+{
+    match served {
+        Ok(()) => Status::Done,
+        Err(fault) => tell(err, &Failure::Serve(fault)),
+    }
+}

@@ -1,5 +1,0 @@
-use Rattle.inofs.specs.Jobs.{checks}
-use Rattle.inofs.proofs.jobs.check_image.Goals as goal
-
-pub returns : goal.returns
-returns g c = checks c.in_ok-disk.disk c.check_disk.new.disk c.in_ok-disk.ensures c.check_disk.ensures.reads c.check_disk.ensures.ends

@@ -1,0 +1,252 @@
+//! What the program does for its words, on files of this machine.
+
+use crate::program_words::HELP;
+use crate::report::push_other_text;
+use fs_program::perform;
+use fs_shell::Watched;
+use std::alloc::{AllocError, Global};
+use std::path::PathBuf;
+use std::test::Fail;
+use std::{env, fs, mem, process};
+
+// ---- the files
+
+// What becomes of an image before the program runs.
+enum Change {
+    Nothing,
+    // This byte at this place.
+    Byte(usize, u8),
+    // So many of its first bytes are left.
+    Cut(usize),
+}
+
+// A folder of this process alone.
+fn folder(rt: &HostRuntime) -> Result<PathBuf, Fail> {
+    let process = process::id(rt.process());
+    let name = format!(in rt.alloc(); "program_tests-{process}")?;
+    Ok(env::temp_dir(rt)?.join(rt.alloc(), name.as_str())?)
+}
+
+// Changes the image `d` of the folder.
+fn change_image(rt: &HostRuntime, folder: &str, change: &Change) -> Result<(), Fail> {
+    if let Change::Nothing = change {
+        return Ok(());
+    }
+    let path = format!(in rt.alloc(); "{folder}/d")?;
+    let mut image = fs::read(rt, path.as_str())?;
+    change_bytes(&mut image, change);
+    Ok(fs::write(rt, path.as_str(), image.as_slice())?)
+}
+
+fn change_bytes(image: &mut Vec<u8>, change: &Change) {
+    match change {
+        Change::Nothing => {}
+        Change::Byte(at, byte) => {
+            if let Some(place) = image.get_mut(*at) {
+                *place = *byte;
+            }
+        }
+        Change::Cut(len) => image.truncate(*len),
+    }
+}
+
+// ---- what is seen
+
+// A word; one that begins with `@` is a file in the folder.
+fn word_of(alloc: Global, folder: &str, word: &str) -> Result<String, AllocError> {
+    match word.strip_prefix('@') {
+        Some(name) => format!(in alloc; "{folder}/{name}"),
+        None => String::from_str(alloc, word),
+    }
+}
+
+// The words of a line, after the program's name.
+fn words_of(alloc: Global, folder: &str, line: &str) -> Result<Vec<String>, AllocError> {
+    let mut words = Vec::new(alloc);
+    words.push(String::from_str(alloc, "inofs")?)?;
+    for word in line.split_whitespace() {
+        words.push(word_of(alloc, folder, word)?)?;
+    }
+    Ok(words)
+}
+
+// A status, and the texts on the standard output and on the standard error.
+fn told(alloc: Global, status: u8, out: &str, err: &str) -> Result<String, AllocError> {
+    format!(in alloc; "status {status}\n{out}error\n{err}")
+}
+
+// What is seen where the program is called by the words of a line, with this on its standard input.
+fn seen(rt: &HostRuntime, folder: &str, line: &str, input: &str) -> Result<String, Fail> {
+    let alloc = rt.alloc();
+    let words = words_of(alloc, folder, line)?;
+    let mut out = Vec::new(alloc);
+    let mut err = Vec::new(alloc);
+    let status = perform(
+        rt,
+        &words,
+        &mut Watched::new(input.as_bytes()),
+        &mut Watched::new(&mut out),
+        &mut err,
+    );
+    mem::drop(words);
+    let out = String::from_utf8_lossy(alloc, &out)?;
+    let err = String::from_utf8_lossy(alloc, &err)?;
+    Ok(told(alloc, status, out.as_str(), err.as_str())?)
+}
+
+// ---- the rows
+
+// What becomes of the image, the words, and what is on the standard input; then what is seen: the status, and the texts on the
+// standard output and on the standard error.
+type Row = (
+    Change,
+    &'static str,
+    &'static str,
+    (u8, &'static str, &'static str),
+);
+
+const MKFS: &str = "mkfs @d --sectors 1024 --inodes 64";
+
+const NEW: &str = "clean files 0 dirs 1 links 0 nameless 0 blocks 878 inodes 62 pending no\n";
+
+// A directory, a file with a byte, and a link.
+const SCRIPT: &str = "spawn 0 0\n1 mkdir /d 0755\n1 open /f wc 0644\n1 write 0 x\n1 symlink t /l\n";
+
+const REPLIES: &str = "pid 1\nok\nfd 0\nwrote 1\nok\n";
+
+const FILLED: &str = "clean files 1 dirs 2 links 1 nameless 0 blocks 875 inodes 59 pending no\n";
+
+// The script in the file `s`.
+const UNKNOWN: &str = "spawn 0 0\n1 frobnicate\n";
+
+const WITHOUT_INODES: &str = "error: the following required arguments were not provided:
+  --inodes <N>
+
+Usage: inofs mkfs --sectors <N> --inodes <N> <IMAGE>
+
+For more information, try '--help'.
+";
+
+const NO_COMMAND: &str = "error: unrecognized subcommand 'fsck'
+
+Usage: inofs
+       inofs mkfs IMAGE --sectors N --inodes N
+       inofs run IMAGE [SCRIPT]
+       inofs check IMAGE
+       inofs upgrade IMAGE
+       inofs fuse IMAGE [--denials FILE] [--own-rules]
+
+For more information, try '--help'.
+";
+
+// A row finds what those before it have left.
+static ROWS: [Row; 20] = [
+    // No file is made.
+    (
+        Change::Nothing,
+        "mkfs @d --sectors 1024",
+        "",
+        (2, "", WITHOUT_INODES),
+    ),
+    (
+        Change::Nothing,
+        "check @d",
+        "",
+        (3, "", "image: cannot open\n"),
+    ),
+    (
+        Change::Nothing,
+        MKFS,
+        "",
+        (0, "made 1024 sectors 64 inodes 878 free\n", ""),
+    ),
+    (Change::Nothing, MKFS, "", (3, "", "image: exists\n")),
+    (Change::Nothing, "check @d", "", (0, NEW, "")),
+    (Change::Nothing, "upgrade @d", "", (0, "version 2\n", "")),
+    (Change::Nothing, "run @d", SCRIPT, (0, REPLIES, "")),
+    (
+        Change::Nothing,
+        "run @d @s",
+        SCRIPT,
+        (1, "pid 1\nfault 4 UnknownCommand\n", ""),
+    ),
+    (
+        Change::Nothing,
+        "run @d @none",
+        SCRIPT,
+        (3, "", "script: cannot open\n"),
+    ),
+    (Change::Nothing, "check @d", "", (0, FILLED, "")),
+    (Change::Byte(0, 0), "check @d", "", (1, "finding 1 0\n", "")),
+    (
+        Change::Nothing,
+        "run @d",
+        SCRIPT,
+        (3, "", "mount: NotAFileSystem\n"),
+    ),
+    (
+        Change::Nothing,
+        "upgrade @d",
+        "",
+        (3, "", "upgrade: NotAFileSystem\n"),
+    ),
+    (
+        Change::Nothing,
+        "fuse @d",
+        "",
+        (3, "", "mount: NotAFileSystem\n"),
+    ),
+    // The byte that was there.
+    (Change::Byte(0, 0x49), "check @d", "", (0, FILLED, "")),
+    (
+        Change::Cut(1023 * 512),
+        "check @d",
+        "",
+        (1, "finding 1 0\n", ""),
+    ),
+    (
+        Change::Nothing,
+        "run @d",
+        SCRIPT,
+        (3, "", "mount: NotAFileSystem\n"),
+    ),
+    (Change::Nothing, "", SCRIPT, (0, REPLIES, "")),
+    (Change::Nothing, "--help", "", (0, HELP, "")),
+    (Change::Nothing, "fsck @d", "", (2, "", NO_COMMAND)),
+];
+
+// Adds where a row comes to something other than it says.
+fn push_row(rt: &HostRuntime, folder: &str, report: &mut String, row: &Row) -> Result<(), Fail> {
+    let (before, line, input, (status, out, err)) = row;
+    change_image(rt, folder, before)?;
+    let seen = seen(rt, folder, line, input)?;
+    let wanted = told(rt.alloc(), *status, out, err)?;
+    push_other_text(report, line, seen, wanted.as_str())?;
+    Ok(())
+}
+
+fn push_rows(rt: &HostRuntime, folder: &str, report: &mut String) -> Result<(), Fail> {
+    let script = format!(in rt.alloc(); "{folder}/s")?;
+    fs::write(rt, script.as_str(), UNKNOWN.as_bytes())?;
+    for row in &ROWS {
+        push_row(rt, folder, report, row)?;
+    }
+    Ok(())
+}
+
+// The same in a folder that is there for the rows alone.
+fn push_others(rt: &HostRuntime, report: &mut String) -> Result<(), Fail> {
+    let folder = folder(rt)?;
+    fs::create_dir(rt, folder.as_str())?;
+    let pushed = push_rows(rt, folder.as_str(), report);
+    let _ = fs::remove_dir_all(rt, folder.as_str());
+    pushed
+}
+
+#[test]
+fn the_program_does_what_its_words_say(rt: HostRuntime) -> Result<(), Fail> {
+    let mut report = String::new(rt.alloc());
+    push_others(&rt, &mut report)?;
+    assert!(rt; report.is_empty(), "{report}");
+    Ok(())
+}

@@ -1,0 +1,295 @@
+//! Which job the words ask for, and what is printed where they ask for none.
+
+use crate::report::push_other_text;
+use fs_program::{Job, WordsFault, parse_words};
+use std::alloc::{AllocError, Global};
+use std::mem;
+use std::test::Fail;
+
+// What the words of a line ask for.
+fn parsed(alloc: Global, line: &str) -> Result<Result<Job, WordsFault>, AllocError> {
+    let mut words = Vec::new(alloc);
+    for word in line.split(' ') {
+        words.push(String::from_str(alloc, word)?)?;
+    }
+    let outcome = parse_words(alloc, words.as_slice());
+    mem::drop(words);
+    Ok(outcome)
+}
+
+// The same as a text.
+fn asked(alloc: Global, line: &str) -> Result<String, AllocError> {
+    let outcome = parsed(alloc, line)?;
+    let told = match &outcome {
+        Ok(job) => told_job(alloc, job),
+        Err(fault) => told_fault(alloc, fault),
+    };
+    mem::drop(outcome);
+    told
+}
+
+fn told_job(alloc: Global, job: &Job) -> Result<String, AllocError> {
+    match job {
+        Job::Memory => String::from_str(alloc, "memory"),
+        Job::Mkfs {
+            image,
+            sectors,
+            inodes,
+        } => format!(in alloc; "mkfs {} {sectors} {inodes}", image.as_str()),
+        Job::Run {
+            image,
+            script: Some(script),
+        } => format!(in alloc; "run {} {}", image.as_str(), script.as_str()),
+        Job::Run {
+            image,
+            script: None,
+        } => format!(in alloc; "run {}", image.as_str()),
+        Job::Check { image } => format!(in alloc; "check {}", image.as_str()),
+        Job::Upgrade { image } => format!(in alloc; "upgrade {}", image.as_str()),
+        Job::Fuse {
+            image,
+            denials: Some(denials),
+            own_rules,
+        } => format!(in alloc; "fuse {} {} {own_rules}", image.as_str(), denials.as_str()),
+        Job::Fuse {
+            image,
+            denials: None,
+            own_rules,
+        } => format!(in alloc; "fuse {} {own_rules}", image.as_str()),
+    }
+}
+
+fn told_fault(alloc: Global, fault: &WordsFault) -> Result<String, AllocError> {
+    let word = match fault {
+        WordsFault::Help(_) => "help",
+        WordsFault::BadWords(_) => "bad",
+        WordsFault::OutOfMemory => "memory",
+    };
+    format!(in alloc; "{word} {}", fault.status().code())
+}
+
+// ---- what is asked for
+
+// Lines, and what they ask for.
+static JOBS: [(&str, &str); 14] = [
+    ("inofs", "memory"),
+    (
+        "inofs mkfs a.img --sectors 1024 --inodes 16",
+        "mkfs a.img 1024 16",
+    ),
+    (
+        "inofs mkfs --inodes 4096 --sectors 65536 a.img",
+        "mkfs a.img 65536 4096",
+    ),
+    (
+        "inofs mkfs --sectors=+02048 a.img --inodes=64",
+        "mkfs a.img 2048 64",
+    ),
+    ("inofs run a.img", "run a.img"),
+    ("inofs run a.img s", "run a.img s"),
+    ("inofs run -- --help s", "run --help s"),
+    ("inofs check a.img", "check a.img"),
+    ("/usr/bin/inofs check check", "check check"),
+    ("inofs upgrade a.img", "upgrade a.img"),
+    ("inofs fuse a.img", "fuse a.img false"),
+    ("inofs fuse a.img --own-rules", "fuse a.img true"),
+    ("inofs fuse --denials d a.img", "fuse a.img d false"),
+    (
+        "inofs fuse a.img --denials=d --own-rules",
+        "fuse a.img d true",
+    ),
+];
+
+// Lines that ask for no job.
+static BAD: [&str; 36] = [
+    "inofs mkfs",
+    "inofs mkfs a.img",
+    "inofs mkfs a.img --sectors 1024",
+    "inofs mkfs a.img --inodes 16",
+    "inofs mkfs --sectors 1024 --inodes 16",
+    "inofs mkfs a.img --sectors 1023 --inodes 16",
+    "inofs mkfs a.img --sectors 65537 --inodes 16",
+    "inofs mkfs a.img --sectors 1024 --inodes 15",
+    "inofs mkfs a.img --sectors 1024 --inodes 4097",
+    "inofs mkfs a.img --sectors x --inodes 16",
+    "inofs mkfs a.img --sectors -1024 --inodes 16",
+    "inofs mkfs a.img --sectors 99999999999999999999 --inodes 16",
+    "inofs mkfs a.img --sectors 1024 --sectors 1024 --inodes 16",
+    "inofs mkfs a.img b.img --sectors 1024 --inodes 16",
+    "inofs mkfs a.img --sectors 1024 --inodes",
+    "inofs run",
+    "inofs run a.img s t",
+    "inofs run a.img --sectors 1024",
+    "inofs check",
+    "inofs check a.img b.img",
+    "inofs upgrade",
+    "inofs upgrade a.img b.img",
+    "inofs fuse",
+    "inofs fuse a.img b.img",
+    "inofs fuse a.img --denials",
+    "inofs fuse a.img --denials --own-rules",
+    "inofs fuse a.img --denials c --denials d",
+    "inofs fuse a.img --own-rules --own-rules",
+    "inofs fuse a.img --own-rules=true",
+    "inofs fuse a.img --own_rules",
+    "inofs fsck a.img",
+    "inofs help",
+    "inofs a.img",
+    "inofs -- check a.img",
+    "inofs --sectors 1024",
+    "inofs run --version",
+];
+
+// Lines that ask for help or the version.
+static SHOWN: [&str; 9] = [
+    "inofs --help",
+    "inofs -h",
+    "inofs --version",
+    "inofs -V",
+    "inofs mkfs --help",
+    "inofs run a.img -h",
+    "inofs check --help",
+    "inofs upgrade --help",
+    "inofs fuse --help",
+];
+
+// Adds to the report where a line asks for something other than is wanted.
+fn expect(alloc: Global, report: &mut String, line: &str, wanted: &str) -> Result<(), AllocError> {
+    let asked = asked(alloc, line)?;
+    push_other_text(report, line, asked, wanted)
+}
+
+// ---- what is printed
+
+// What is printed at the words of a line, which ask for no job.
+fn text(alloc: Global, line: &str) -> Result<String, AllocError> {
+    let outcome = parsed(alloc, line)?;
+    let text = match &outcome {
+        Ok(_) => Ok(String::new(alloc)),
+        Err(fault) => format!(in alloc; "{fault}"),
+    };
+    mem::drop(outcome);
+    text
+}
+
+pub(crate) const HELP: &str = "A file system in an image, with a journal and access control lists
+
+Usage: inofs
+       inofs mkfs IMAGE --sectors N --inodes N
+       inofs run IMAGE [SCRIPT]
+       inofs check IMAGE
+       inofs upgrade IMAGE
+       inofs fuse IMAGE [--denials FILE] [--own-rules]
+
+Commands:
+  mkfs     Make an image with an empty file system
+  run      Run a script on an image
+  check    Check an image
+  upgrade  Upgrade an image to the newest version of the layout
+  fuse     Serve an image to the kernel's FUSE, on the standard input and output
+
+Options:
+  -h, --help     Print help
+  -V, --version  Print version
+
+With no command, runs the script on the standard input on a new disk in memory.
+
+Status: 0 done, 1 a line's fault or a finding, 2 bad words, 3 every other fault.
+";
+
+const FUSE_HELP: &str = "Serve an image to the kernel's FUSE, on the standard input and output
+
+Usage: inofs fuse [OPTIONS] <IMAGE>
+
+Arguments:
+  <IMAGE>  The image
+
+Options:
+      --denials <FILE>  The file to which denials are written, a line each
+      --own-rules       Let the kernel judge no ACLs
+  -h, --help            Print help
+";
+
+const MKFS_HELP: &str = "Make an image with an empty file system
+
+Usage: inofs mkfs --sectors <N> --inodes <N> <IMAGE>
+
+Arguments:
+  <IMAGE>  The image, which must not exist
+
+Options:
+      --sectors <N>  Sectors of 512 bytes, 1024 to 65536
+      --inodes <N>   Inodes, 16 to 4096
+  -h, --help         Print help
+";
+
+// Lines that ask for no job, and what is printed.
+static TEXTS: [(&str, &str); 6] = [
+    ("inofs --help", HELP),
+    ("inofs mkfs --help", MKFS_HELP),
+    ("inofs fuse --help", FUSE_HELP),
+    ("inofs --version", "inofs 0.1.0\n"),
+    (
+        "inofs mkfs a.img --sectors 1023 --inodes 16",
+        "error: invalid value '1023' for '--sectors <N>': 1023 is not in 1024..=65536\n\n\
+         For more information, try '--help'.\n",
+    ),
+    (
+        "inofs run",
+        "error: the following required arguments were not provided:\n  <IMAGE>\n\n\
+         Usage: inofs run <IMAGE> [SCRIPT]\n\nFor more information, try '--help'.\n",
+    ),
+];
+
+// Adds to the report where something other is printed than is wanted.
+fn expect_text(
+    alloc: Global,
+    report: &mut String,
+    line: &str,
+    wanted: &str,
+) -> Result<(), AllocError> {
+    let text = text(alloc, line)?;
+    push_other_text(report, line, text, wanted)
+}
+
+fn expect_jobs(alloc: Global, report: &mut String) -> Result<(), AllocError> {
+    for (line, wanted) in &JOBS {
+        expect(alloc, report, line, wanted)?;
+    }
+    Ok(())
+}
+
+fn expect_each(
+    alloc: Global,
+    report: &mut String,
+    lines: &[&str],
+    wanted: &str,
+) -> Result<(), AllocError> {
+    for line in lines {
+        expect(alloc, report, line, wanted)?;
+    }
+    Ok(())
+}
+
+fn expect_texts(alloc: Global, report: &mut String) -> Result<(), AllocError> {
+    for (line, wanted) in &TEXTS {
+        expect_text(alloc, report, line, wanted)?;
+    }
+    Ok(())
+}
+
+fn expect_all(alloc: Global, report: &mut String) -> Result<(), AllocError> {
+    expect_jobs(alloc, report)?;
+    expect_each(alloc, report, &BAD, "bad 2")?;
+    expect_each(alloc, report, &SHOWN, "help 0")?;
+    expect_texts(alloc, report)
+}
+
+#[test]
+fn words_ask_for_jobs_or_are_answered_by_a_text(rt: HostRuntime) -> Result<(), Fail> {
+    let alloc = rt.alloc();
+    let mut report = String::new(alloc);
+    expect_all(alloc, &mut report)?;
+    assert!(rt; report.is_empty(), "{report}");
+    Ok(())
+}
