@@ -1,6 +1,6 @@
 -- The lines of denials.
 --     request_name, name_asked, name_text        what was asked for, and for which name
---     asked_text, denial_words, denial_line        the line
+--     who_text, asked_text, denial_words, denial_line        the line
 --     line_start        what stands before it where the last one was cut short
 use Rattle.std.specs.Prelude.{ℕ, ◌%◌, ◌^◌, Bool, true, false, List, [], ◌++◌, Option, None, Some, codes}
 use Rattle.std.specs.Fmt.{decimal}
@@ -58,11 +58,13 @@ name_text operation = word_or_hyphen (name_asked operation)
 abbrev pub inode_number : Request → ℕ
 inode_number request = request.node % 2 ^ 32
 
--- when, to which user and process, what was asked for, and of which object
-abbrev pub asked_text : Time → Request → List ℕ
-asked_text now request =
-    decimal now.seconds ++ codes " " ++ decimal request.uid ++ codes " " ++ decimal request.pid ++ codes " "
-    ++ request_name request.operation ++ codes " " ++ decimal (inode_number request) ++ codes " "
+-- when, to which user and to which process
+abbrev pub who_text : Time → Request → List ℕ
+who_text now request = decimal now.seconds ++ codes " " ++ decimal request.uid ++ codes " " ++ decimal request.pid ++ codes " "
+
+-- what was asked for, and of which object
+abbrev pub asked_text : Request → List ℕ
+asked_text request = request_name request.operation ++ codes " " ++ decimal (inode_number request) ++ codes " "
 
 -- the shell's words of it
 abbrev pub denial_words : Denial → List ℕ
@@ -71,7 +73,8 @@ denial_words denial = reply_text (Refused (Denied denial))
 -- and for which name; and the shell's words of it
 abbrev pub denial_line : Time → Request → Denial → List ℕ
 denial_line now request denial =
-    asked_text now request ++ (name_text request.operation ++ (codes " " ++ (denial_words denial ++ codes "\n")))
+    who_text now request
+    ++ (asked_text request ++ (name_text request.operation ++ (codes " " ++ (denial_words denial ++ codes "\n"))))
 
 -- where a part of a line may be all that was written of it, that is ended first
 abbrev pub line_start : Bool → List ℕ

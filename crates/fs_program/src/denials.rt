@@ -3,7 +3,7 @@
 ghost use Rattle.std.specs.Prelude.{◌≡◌, ◌++◌, IfOk, OnOk, string_bytes};
 ghost use Rattle.std.specs.Option.{option_copied};
 ghost use Rattle.std.specs.Io.KnownBytes.{Appends};
-ghost use Rattle.fs_program.specs.Denials.{request_name, name_asked, name_text, inode_number, asked_text, denial_words, denial_line, line_start};
+ghost use Rattle.fs_program.specs.Denials.{request_name, name_asked, name_text, inode_number, who_text, asked_text, denial_words, denial_line, line_start};
 
 use fs_cred::{Denial, Refusal};
 use fs_lines::{reply_text, word_text};
@@ -56,16 +56,23 @@ fn write_line<W: Write>(out: &mut W, is_cut: bool, line: &String) -> io::Result<
     out.write_all(line.as_bytes())
 }
 
-// Adds when it was denied, to which user and process, what was asked for, and of which object.
-fn push_asked(line: &mut String, request: &Request<'_>, now: Time) -> Result<(), AllocError>
-    ensures { OnOk result (string_bytes line.new ≡ string_bytes line.old ++ asked_text now request.now) }
+// Adds when it was denied, to which user and to which process.
+fn push_who(line: &mut String, request: &Request<'_>, now: Time) -> Result<(), AllocError>
+    ensures { OnOk result (string_bytes line.new ≡ string_bytes line.old ++ who_text now request.now) }
 {
     let seconds = now.seconds;
     let uid = request.uid;
     let pid = request.pid;
+    write!(line, "{seconds} {uid} {pid} ")
+}
+
+// Adds what was asked for, and of which object.
+fn push_asked(line: &mut String, request: &Request<'_>) -> Result<(), AllocError>
+    ensures { OnOk result (string_bytes line.new ≡ string_bytes line.old ++ asked_text request.now) }
+{
     let asked = request_name(&request.operation);
     let number = inode_number(request);
-    write!(line, "{seconds} {uid} {pid} {asked} {number} ")
+    write!(line, "{asked} {number} ")
 }
 
 // The number of the inode that a node names: of the directory of a name, or of the object itself.
@@ -102,7 +109,8 @@ fn denial_line(
     ensures { IfOk result (λ line. string_bytes line ≡ denial_line now request.now denial) }
 {
     let mut line = String::new(alloc);
-    push_asked(&mut line, request, now)?;
+    push_who(&mut line, request, now)?;
+    push_asked(&mut line, request)?;
     push_name(&mut line, alloc, &request.operation)?;
     line.push_str(" ")?;
     push_words(&mut line, alloc, denial)?;

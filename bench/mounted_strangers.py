@@ -1,0 +1,158 @@
+"""What users who don't trust each other, and whoever ends the server, may come to on a mount: each with what is wanted."""
+import ctypes
+import fcntl
+import os
+import pathlib
+import signal
+import stat
+import subprocess
+import time
+
+from mounts import TOP, attempt, become
+
+LIBC = ctypes.CDLL(None, use_errno=True)
+CLONE_NEWUSER = 0x10000000
+COMMIT = 5  # seconds, where the mount doesn't say
+
+
+def in_child(work):
+    """What the work answers in a process of its own, as text."""
+    reading, writing = os.pipe()
+    pid = os.fork()
+    if pid == 0:
+        try:
+            os.write(writing, str(attempt(work)).encode())
+        finally:
+            os._exit(0)
+    os.close(writing)
+    os.waitpid(pid, 0)
+    with os.fdopen(reading) as told:
+        return told.read()
+
+
+def with_other_ids(path):
+    """Root looks at what belongs to a user as a thread with the user's file-system ids alone: nobody knows whose groups count."""
+    def work():
+        LIBC.setfsgid(100)
+        LIBC.setfsuid(1000)
+        return pathlib.Path(path).read_text()
+    return in_child(work)
+
+
+def in_namespace(path):
+    """Root of a user namespace of its own, in which it is user 0 too, looks at what only a capability lets it read."""
+    def work():
+        if LIBC.unshare(CLONE_NEWUSER):
+            return 'no namespace here'
+        pathlib.Path('/proc/self/uid_map').write_text('0 0 1')
+        pathlib.Path('/proc/self/setgroups').write_text('deny')
+        pathlib.Path('/proc/self/gid_map').write_text('0 0 1')
+        return pathlib.Path(path).read_text()
+    return in_child(work)
+
+
+def as_user(user, work):
+    def become_and_work():
+        become(user)
+        return work()
+    return in_child(become_and_work)
+
+
+def make_private(mounted):
+    """A directory and a file of user ann, closed to all others."""
+    folder = mounted.mount / 'ann'
+    folder.mkdir(mode=0o700)
+    (folder / 'f').write_text('hello')
+    os.chmod(folder / 'f', 0o600)
+    for path in (folder, folder / 'f'):
+        os.chown(path, 1000, 100)
+    return folder / 'f'
+
+
+def identities(mounted, told):
+    path = make_private(mounted)
+    told.compare('identity', 'the owner reads', None, as_user('ann', path.read_text), 'hello')
+    told.compare('identity', 'root reads', None, in_child(path.read_text), 'hello')
+    told.compare('identity', 'another user reads', None, as_user('bob', path.read_text), 'EACCES')
+    told.compare('identity', "a thread of root with the owner's file-system ids reads", None, with_other_ids(path), 'EACCES')
+    seen = in_namespace(path)
+    if seen != 'no namespace here':
+        told.compare('identity', 'root of another user namespace reads', None, seen, 'EACCES')
+
+
+def locks(mounted, told):
+    """A lock that the caller of mount holds by a descriptor is free once that has closed it, though the server runs."""
+    path = mounted.folder / 'lock'
+    held = os.open(path, os.O_RDWR | os.O_CREAT)
+    os.set_inheritable(held, True)
+    fcntl.flock(held, fcntl.LOCK_EX)
+    mounted.run(TOP / 'mount/mount.inofs', mounted.image, mounted.mount, '-o', ','.join(mounted.options), check=True, close_fds=False)
+    os.close(held)
+    other = os.open(path, os.O_RDWR)
+    told.compare('descriptors', 'a lock of the caller', None, attempt(fcntl.flock, other, fcntl.LOCK_EX | fcntl.LOCK_NB), None)
+    os.close(other)
+
+
+def refused(mounted, options):
+    said = mounted.run(TOP / 'mount/mount.inofs', mounted.image, mounted.mount, '-o', options, stderr=subprocess.PIPE, text=True)
+    return said.returncode, said.stderr.strip().rsplit(': ', 1)[-1]
+
+
+def options(mounted, told):
+    flags = next(line.split()[5] for line in pathlib.Path('/proc/self/mountinfo').read_text().splitlines()
+                 if line.split()[4] == str(mounted.mount))
+    told.compare('options', 'suid,dev', None, {'nosuid', 'nodev'} <= set(flags.split(',')), True)
+    told.compare('options', 'remount,own_rules', None, refused(mounted, 'remount,own_rules'), (32, 'stays as it is until the next mount'))
+    mode = stat.S_IMODE((mounted.folder / 'denials').stat().st_mode)
+    told.compare('options', 'the mode of the file for denials', None, oct(mode), '0o600')
+
+
+def denial_files(mounted, told):
+    link, pipe = mounted.folder / 'link', mounted.folder / 'pipe'
+    link.symlink_to(mounted.folder / 'elsewhere')
+    os.mkfifo(pipe)
+    told.compare('denials', 'a link', None, refused(mounted, f'denials={link}'), (32, "a link can't have the denials"))
+    told.compare('denials', 'a pipe', None, refused(mounted, f'denials={pipe}'), (32, 'no file for denials'))
+    told.compare('denials', 'what the link leads to', None, (mounted.folder / 'elsewhere').exists(), False)
+
+
+def found_after(mounted, end):
+    """The names in the root behind a server that was ended so, and the line of a check."""
+    end()
+    if not mounted.gone():
+        return 'the mount stays'
+    checked = mounted.check().split()[0]
+    mounted.begin()
+    names = sorted(path.name for path in mounted.mount.iterdir())
+    mounted.end()
+    return checked, names
+
+
+def killed_later(mounted):
+    (mounted.mount / 'kept').write_text('x')
+    time.sleep(COMMIT + 1)
+    os.kill(mounted.server(), signal.SIGKILL)
+
+
+def terminated(mounted):
+    (mounted.mount / 'last').write_text('x')
+    server = mounted.server()
+    os.kill(server, signal.SIGTERM)
+    time.sleep(0.2)
+    helper = int(next(pathlib.Path('/run/inofs').glob('*/pid')).read_text())
+    os.kill(helper, signal.SIGTERM)
+
+
+def strangers(mounted, told):
+    mounted.fresh()
+    denial_files(mounted, told)
+    mounted.options.append('suid,dev')
+    locks(mounted, told)
+    options(mounted, told)
+    identities(mounted, told)
+    told.compare('ends', f'killed {COMMIT + 1} seconds after the last write', None,
+                 found_after(mounted, lambda: killed_later(mounted)), ('clean', ['ann', 'kept']))
+    mounted.begin()
+    told.compare('ends', 'SIGTERM to the server and its helper', None,
+                 found_after(mounted, lambda: terminated(mounted)), ('clean', ['ann', 'kept', 'last']))
+    mounted.options.pop()
