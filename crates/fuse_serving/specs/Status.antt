@@ -2,8 +2,9 @@
 --     HasLine        a line of the text begins so
 --     SaysNumber, SaysIds        digits, and numbers with spaces between them
 --     SaysGroups, SaysCaps        the supplementary groups; which capabilities are in effect
-use Rattle.std.specs.Prelude.{◌≡◌, ℕ, ◌^◌, ◌<◌, ◌==◌, Bool, List, [], ◌∷◌, ◌++◌, codes, bit_and, Contains}
-use Rattle.std.specs.List.{slice_split}
+--     SaysLastId, ActsAs        as which user and group it acts on files
+use Rattle.std.specs.Prelude.{◌≡◌, ℕ, ◌^◌, ◌<◌, ◌==◌, Bool, List, [], ◌∷◌, ◌++◌, codes, bit_and, Contains, drop, ◌+◌}
+use Rattle.std.specs.List.{slice_split, slice_index}
 use Rattle.std.specs.Str.Parse.{IsNumeral, digits_value, without_leading_plus}
 use Rattle.fs_cred.specs.declared.caps.Caps.{Caps}
 use Rattle.fs_cred.specs.Capabilities.{all_caps}
@@ -38,6 +39,28 @@ pub record SaysGroups (text groups : List ℕ) : Type 0 where
   pub rest : List ℕ
   pub line : HasLine text groups_name rest
   pub ids : SaysIds (slice_split is_space rest) groups
+
+abbrev pub tab : ℕ
+tab = 9
+
+-- The number behind the last tab of the line.
+pub record SaysLastId (text name : List ℕ) (id : ℕ) : Type 0 where
+  pub rest : List ℕ
+  pub line : HasLine text name rest
+  pub at : ℕ
+  pub is_tab : slice_index rest at ≡ tab
+  pub number : SaysNumber 32 10 (drop (at + 1) rest) id
+
+abbrev pub user_name : List ℕ
+user_name = codes "Uid:\t"
+
+abbrev pub group_name : List ℕ
+group_name = codes "Gid:\t"
+
+-- The real, the effective and the saved id of a process stand first, and last the one as which it acts on files: credentials(7).
+pub record ActsAs (text : List ℕ) (uid gid : ℕ) : Type 0 where
+  pub user : SaysLastId text user_name uid
+  pub group : SaysLastId text group_name gid
 
 abbrev pub caps_name : List ℕ
 caps_name = codes "CapEff:\t"

@@ -24,8 +24,8 @@ pub trait Kernel {
     fn write(&mut self, reply: &[u8]) -> io::Result<bool>
         ensures { IfOk result (λ taken. Does self.old (Writes reply.now taken) self.new) };
 
-    /// What is known of the process with this number.
-    fn caller(&mut self, pid: u32) -> Caller
+    /// What is known of the process with this number, as which this user with this group asks.
+    fn caller(&mut self, pid: u32, uid: u32, gid: u32) -> Caller
         ensures { Does self.old (Learns pid result) self.new };
 
     /// The present time.

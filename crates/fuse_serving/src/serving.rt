@@ -45,7 +45,7 @@ fn learn<K: Kernel>(kernel: &mut K, spoken: &Request<'_>) -> Caller
     if !needs_caller(&spoken.operation) {
         return Caller::unknown();
     }
-    kernel.caller(spoken.pid)
+    kernel.caller(spoken.pid, spoken.uid, spoken.gid)
 }
 
 // Serves a request whose body is of its form.

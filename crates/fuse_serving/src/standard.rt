@@ -3,6 +3,8 @@
 use crate::caller::Caller;
 use crate::kernel::Kernel;
 use crate::status::caller_of_status;
+use bitflags::Flags;
+use fs_cred::Caps;
 use fuse_protocol::Time;
 use std::alloc::Global;
 use std::fs;
@@ -39,12 +41,26 @@ fn is_errno(fault: &io::Error, errno: i32) -> bool {
     fault.raw_os_error() == Some(errno)
 }
 
-// What /proc shows of a process.
-fn look_up<R: Files + AllocGlobal>(rt: &R, pid: u32) -> io::Result<Caller> {
+// Whether a process is in the user namespace of this one: user_namespaces(7).
+fn shares_users<R: Files + AllocGlobal>(rt: &R, pid: u32) -> io::Result<bool> {
+    let alloc: Global = rt.alloc();
+    let path = format!(in alloc; "/proc/{pid}/ns/user")?;
+    let theirs = fs::read_link(rt, path.as_str())?;
+    let own = fs::read_link(rt, "/proc/self/ns/user")?;
+    Ok(theirs.as_str() == own.as_str())
+}
+
+// What /proc shows of a process that asks as this user and this group. Capabilities are those of its user namespace, and count here
+// only where that is this one's.
+fn look_up<R: Files + AllocGlobal>(rt: &R, pid: u32, uid: u32, gid: u32) -> io::Result<Caller> {
     let alloc: Global = rt.alloc();
     let path = format!(in alloc; "/proc/{pid}/status")?;
     let text = fs::read(rt, path.as_str())?;
-    Ok(caller_of_status(&text))
+    let mut caller = caller_of_status(&text, uid, gid);
+    if !caller.caps.is_empty() && !shares_users(rt, pid)? {
+        caller.caps = Caps::empty();
+    }
+    Ok(caller)
 }
 
 fn time_of<R: Clock>(rt: &R) -> io::Result<Time> {
@@ -86,8 +102,8 @@ impl<R: Files + AllocGlobal + Clock, I: Read, O: Write> Kernel for Standard<R, I
         }
     }
 
-    fn caller(&mut self, pid: u32) -> Caller {
-        match look_up(&self.rt, pid) {
+    fn caller(&mut self, pid: u32, uid: u32, gid: u32) -> Caller {
+        match look_up(&self.rt, pid, uid, gid) {
             Ok(caller) => caller,
             Err(_) => Caller::unknown(),
         }

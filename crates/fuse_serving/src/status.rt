@@ -1,8 +1,8 @@
 //! What /proc/PID/status says of a process.
-ghost use Rattle.std.specs.Prelude.{◌≡◌, ◌≤◌, ◌⊎◌, List, IfSome};
+ghost use Rattle.std.specs.Prelude.{◌≡◌, ◌≤◌, ◌⊎◌, List, Some, IfSome, IsTrue};
 ghost use Rattle.std.specs.List.{slice_split};
 ghost use Rattle.fs_cred.specs.Capabilities.{no_caps};
-ghost use Rattle.fuse_serving.specs.Status.{is_space, HasLine, SaysNumber, SaysIds, SaysGroups, SaysCaps};
+ghost use Rattle.fuse_serving.specs.Status.{is_space, HasLine, SaysNumber, SaysIds, SaysGroups, SaysLastId, ActsAs, SaysCaps};
 
 use crate::caller::{Caller, Groups};
 use bitflags::Flags;
@@ -66,6 +66,26 @@ fn groups_of(text: &[u8]) -> Option<Groups>
     Some(groups)
 }
 
+// The last id of the line with this name.
+fn last_id_of(text: &[u8], name: &[u8]) -> Option<u32>
+    ensures { IfSome result (SaysLastId text.now name.now) }
+{
+    let rest = str::from_utf8(line_of(text, name)?).ok()?;
+    let (_, word) = rest.rsplit_once('\t')?;
+    let id = id_of(word.as_bytes())?;
+    Some(id)
+}
+
+// Whether it acts on files as this user and this group.
+fn acts_as(text: &[u8], uid: u32, gid: u32) -> bool
+    ensures { IsTrue result → ActsAs text.now uid gid }
+{
+    if last_id_of(text, b"Uid:\t") != Some(uid) {
+        return false;
+    }
+    last_id_of(text, b"Gid:\t") == Some(gid)
+}
+
 // The capabilities in effect, where the text says them.
 fn caps_of(text: &[u8]) -> Option<Caps>
     ensures { IfSome result (SaysCaps text.now) }
@@ -75,11 +95,18 @@ fn caps_of(text: &[u8]) -> Option<Caps>
     Some(Caps::from_bits_retain((bits & ASKED_CAPS) as u32))
 }
 
-/// What the text says of a process: the text that Linux shows as /proc/PID/status. Where it says no capabilities there are none.
-pub fn caller_of_status(text: &[u8]) -> Caller
+/// What the text says of a process that asks as this user and this group: the text that Linux shows as /proc/PID/status.
+///
+/// Where that says another user or group, as of a program that serves others, or of one that has changed its own meanwhile, the
+/// process isn't who asks, and nothing is known. Where it says no capabilities there are none.
+pub fn caller_of_status(text: &[u8], uid: u32, gid: u32) -> Caller
     ensures groups { IfSome result.groups (SaysGroups text.now) }
+    ensures acts { IfSome result.groups (λ groups. ActsAs text.now uid gid) }
     ensures caps { (result.caps ≡ no_caps) ⊎ SaysCaps text.now result.caps }
 {
+    if !acts_as(text, uid, gid) {
+        return Caller::unknown();
+    }
     let caps = match caps_of(text) {
         Some(caps) => caps,
         None => Caps::empty(),

@@ -81,7 +81,7 @@ impl<'a> Kernel for Played<'a> {
         }
     }
 
-    fn caller(&mut self, _pid: u32) -> Caller {
+    fn caller(&mut self, _pid: u32, _uid: u32, _gid: u32) -> Caller {
         Caller::unknown()
     }
 

@@ -129,17 +129,27 @@ const WRITES: [(Output, Option<bool>); 4] = [
 ];
 
 const STATUS: &[u8] =
-    b"Name:\tcat\nUmask:\t0022\nUid:\t1000\t1000\t1000\t1000\nGroups:\t4 24 4294967295 \nCapEff:\t000001ffffffffff\nSeccomp:\t0\n";
+    b"Name:\tcat\nUmask:\t0022\nUid:\t0\t1001\t1002\t1000\nGid:\t0\t101\t102\t100\nGroups:\t4 24 4294967295 \nCapEff:\t000001ffffffffff\nSeccomp:\t0\n";
 
-const NO_GROUPS: &[u8] = b"Name:\tGroups:\t7\nGroups:\t \nCapEff:\t0000000000000009\n";
+const NO_GROUPS: &[u8] =
+    b"Name:\tGroups:\t7\nUid:\t1000\t1000\t1000\t1000\nGid:\t100\t100\t100\t100\nGroups:\t \nCapEff:\t0000000000000009\n";
 
 const MOST_GROUPS: &[u8] =
-    b"Groups:\t1 2 3 4 5 6 7 8 9 10 11 12 13 14 15 16 \nCapEff:\t0000000000000020\n";
+    b"Uid:\t0\t0\t0\t1000\nGid:\t0\t0\t0\t100\nGroups:\t1 2 3 4 5 6 7 8 9 10 11 12 13 14 15 16 \nCapEff:\t0000000000000020\n";
 
 const MANY_GROUPS: &[u8] =
-    b"Groups:\t1 2 3 4 5 6 7 8 9 10 11 12 13 14 15 16 17 \nCapEff:\t0000000000000000\n";
+    b"Uid:\t0\t0\t0\t1000\nGid:\t0\t0\t0\t100\nGroups:\t1 2 3 4 5 6 7 8 9 10 11 12 13 14 15 16 17 \nCapEff:\t0000000000000000\n";
 
-const BAD_GROUPS: &[u8] = b"Groups:\t1 4294967296 \n";
+const BAD_GROUPS: &[u8] = b"Uid:\t0\t0\t0\t1000\nGid:\t0\t0\t0\t100\nGroups:\t1 4294967296 \n";
+
+// It acts on files as another user, or as another group, than it has else.
+const OTHER_USER: &[u8] =
+    b"Uid:\t1000\t1000\t1000\t0\nGid:\t100\t100\t100\t100\nGroups:\t1 \nCapEff:\t0000000000000009\n";
+
+const OTHER_GROUP: &[u8] =
+    b"Uid:\t1000\t1000\t1000\t1000\nGid:\t100\t100\t100\t0\nGroups:\t1 \nCapEff:\t0000000000000009\n";
+
+const NO_USER: &[u8] = b"Gid:\t100\t100\t100\t100\nGroups:\t1 \nCapEff:\t0000000000000009\n";
 
 // How many groups, the last of them, and the bits of the capabilities.
 type Known = (Option<(usize, Option<u32>)>, u32);
@@ -153,15 +163,19 @@ fn known_of(caller: &Caller) -> Known {
 }
 
 fn known_in(status: &[u8]) -> Known {
-    known_of(&caller_of_status(status))
+    known_of(&caller_of_status(status, 1000, 100))
 }
 
-const TEXTS: [(&[u8], Known); 6] = [
+// Who asks is user 1000 with group 100.
+const TEXTS: [(&[u8], Known); 9] = [
     (STATUS, (Some((3, Some(u32::MAX))), 31)),
     (NO_GROUPS, (Some((0, None)), 9)),
     (MOST_GROUPS, (Some((16, Some(16))), 0)),
     (MANY_GROUPS, (None, 0)),
     (BAD_GROUPS, (None, 0)),
+    (OTHER_USER, (None, 0)),
+    (OTHER_GROUP, (None, 0)),
+    (NO_USER, (None, 0)),
     (b"", (None, 0)),
 ];
 
@@ -173,31 +187,42 @@ fn what_proc_tells(rt: HostRuntime) {
     }
 }
 
-fn pid_in(status: &[u8]) -> Option<u32> {
+// The number behind the last tab of the line with this name.
+fn number_in(status: &[u8], name: &[u8]) -> Option<u32> {
     for line in status.split(|byte| *byte == b'\n') {
-        if let Some(pid) = line.strip_prefix(b"Pid:\t") {
-            return str::from_utf8(pid).ok()?.parse::<u32>().ok();
+        if let Some(numbers) = line.strip_prefix(name) {
+            let (_, last) = str::from_utf8(numbers).ok()?.rsplit_once('\t')?;
+            return last.parse::<u32>().ok();
         }
     }
     None
 }
 
-// Its process, and what it says of that.
-fn told_by(status: Vec<u8>) -> (u32, Known) {
-    (pid_in(&status).unwrap_or(0), known_in(&status))
+// A process, and the user and the group as which it acts on files.
+type Ids = (u32, u32, u32);
+
+// Those of the text, and what that says.
+fn told_by(status: Vec<u8>) -> (Ids, Known) {
+    let pid = number_in(&status, b"Pid:").unwrap_or(0);
+    let uid = number_in(&status, b"Uid:").unwrap_or(0);
+    let gid = number_in(&status, b"Gid:").unwrap_or(0);
+    let known = known_of(&caller_of_status(&status, uid, gid));
+    ((pid, uid, gid), known)
 }
 
-// What is known of a process and of none, and whether the time is.
-fn learnt_from<K: Kernel + Drop>(kernel: K, pid: u32) -> (Known, Known, bool) {
+// What is known of a process, of it as another group, and of none, and whether the time is.
+fn learnt_from<K: Kernel + Drop>(kernel: K, ids: Ids) -> ([Known; 3], bool) {
     let mut kernel = kernel;
-    let own = known_of(&kernel.caller(pid));
-    let none = known_of(&kernel.caller(0));
-    (own, none, kernel.now().is_ok())
+    let (pid, uid, gid) = ids;
+    let own = known_of(&kernel.caller(pid, uid, gid));
+    let other = known_of(&kernel.caller(pid, uid, gid ^ 1));
+    let none = known_of(&kernel.caller(0, uid, gid));
+    ([own, other, none], kernel.now().is_ok())
 }
 
 #[test]
 fn what_passes_at_streams(rt: HostRuntime) -> Result<(), Fail> {
-    let (pid, own) = told_by(fs::read(&rt, "/proc/self/status")?);
+    let (ids, own) = told_by(fs::read(&rt, "/proc/self/status")?);
     for (turns, wanted) in &READS {
         let seen = sizes_of(kernel_at(rt, turns, Output::Takes));
         assert!(rt; seen == *wanted, "{seen:?}");
@@ -206,9 +231,10 @@ fn what_passes_at_streams(rt: HostRuntime) -> Result<(), Fail> {
         let seen = taken_by(kernel_at(rt, &[], *output));
         assert!(rt; seen == *wanted, "{seen:?}");
     }
-    let seen = learnt_from(kernel_at(rt, &[], Output::Takes), pid);
+    let seen = learnt_from(kernel_at(rt, &[], Output::Takes), ids);
+    let nothing = (None, 0);
     assert!(rt;
-        own.0.is_some() && seen == (own, (None, 0), true),
+        own.0.is_some() && seen == ([own, nothing, nothing], true),
         "{seen:?}"
     );
     Ok(())

@@ -120,7 +120,7 @@ impl<'a> Kernel for Recorded<'a> {
         Ok(true)
     }
 
-    fn caller(&mut self, _pid: u32) -> Caller {
+    fn caller(&mut self, _pid: u32, _uid: u32, _gid: u32) -> Caller {
         match self.present {
             Some(exchange) => Caller {
                 groups: groups_of(exchange),

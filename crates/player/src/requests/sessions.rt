@@ -203,7 +203,7 @@ impl<'a> Kernel for Changing<'a> {
         Ok(!self.chance.is_once_in(30))
     }
 
-    fn caller(&mut self, _pid: u32) -> Caller {
+    fn caller(&mut self, _pid: u32, _uid: u32, _gid: u32) -> Caller {
         let Some(exchange) = self.present else {
             return Caller::unknown();
         };
