@@ -24,12 +24,12 @@ use Rattle.fuse_plans.proofs.Conducts.{Still, SameOwn, SameAll, Does, Lasts, doe
 use Rattle.fuse_plans.proofs.Calls.{CanCall, AsksOf, is-object, does-obtain, does-or_closed, does-between, does-on, does-replied_status, gives-number, gives-directory_number}
 use Rattle.fuse_plans.proofs.Chosen.{OfCaller, about-caller, does-caller_with_room}
 use Rattle.fuse_plans.proofs.Forms.{caller-can, does-if, does-when, does-done, does-keep_still, does-keep_caller, ends-keep, does-replied_handle, does-replied_data, does-replied_count}
-use Rattle.fuse_plans.proofs.NameConducts.{does-plain_name, given-in}
+use Rattle.fuse_plans.proofs.NameConducts.{found-same, does-plain_name, given-in}
 
 told-same : (now : Time) (p : Place) (n : ℕ) (kind : FileType) (is_new is_cut : Bool) → SameOwn (told now p n kind is_new is_cut)
 told-same now p n kind true is_cut s = (refl, refl)
-told-same now p n kind false true s = (refl, refl)
-told-same now p n kind false false s = (refl, refl)
+told-same now p n kind false true s = found-same p n kind s
+told-same now p n kind false false s = found-same p n kind s
 
 touched_if-same : (is_cut : Bool) (now : Time) (n : ℕ) → SameAll (touched_if is_cut now n)
 touched_if-same true now n s = (refl, refl, refl, refl, refl)

@@ -12,3 +12,4 @@ pub mod RequestConducts
 pub mod RowsOfBytes
 pub mod RowsOfNames
 pub mod RowsOfStale
+pub mod ToldNodes

@@ -1,5 +1,5 @@
 -- How requests for names behave.
-use Rattle.std.specs.Prelude.{◌≡◌, ℕ, List, Option, None, Some, unwrap_or, Result, Ok, Err, IsTrue}
+use Rattle.std.specs.Prelude.{◌≡◌, ℕ, Bool, true, false, List, Option, None, Some, unwrap_or, Result, Ok, Err, IsTrue, if◌then◌else◌}
 use Rattle.std.proofs.Common.{refl, sym, ap, subst, ◌∙◌}
 use Rattle.fs_cred.specs.declared.errno.Errno.TheVariants.{ENOENT}
 use Rattle.fs_model.specs.declared.call.Call.{Call}
@@ -16,21 +16,28 @@ use Rattle.fuse_plans.specs.declared.request.Asked.{Asked}
 use Rattle.fuse_protocol.specs.declared.operation.Operation.TheVariants.{Rename, Link}
 use Rattle.fuse_protocol.specs.declared.reply.Time.{Time}
 use Rattle.fuse_state.specs.declared.place.Place.{Place}
-use Rattle.fuse_state.specs.Servers.{Server, number_of, place_of, named, kind_of, without_name}
-use Rattle.fuse_state.specs.Changes.{changed_if, removed, named_if, moved_to, moved, linked}
+use Rattle.fuse_state.specs.Servers.{Server, number_of, place_of, named, kind_of, with_generation, with_name, without_name}
+use Rattle.fuse_state.specs.Changes.{is_gone, found, changed_if, removed, named_if, moved_to, moved, linked}
 use Rattle.fuse_state.proofs.StateLaws.{latest_is_the_place}
 use Rattle.fuse_plans.specs.Paths.{only_path}
 use Rattle.fuse_plans.specs.Acts.{Subject, given_name, node_of_object, IsGiven, IsNewName, is_new, IsObject, IsOf, is_given, is_new_name, named_in, ActsOn, on_one, moves, links, without_path}
 use Rattle.fuse_plans.specs.Conduct.{Known, Rights, conduct, Fits, stays}
 use Rattle.fuse_plans.specs.Works.{give, stop, kept, keep, goes_on, ◌>>=◌, ◌>>◌, needed}
 use Rattle.fuse_plans.specs.Callers.{done_between}
-use Rattle.fuse_plans.specs.NamePlans.{plain_name, directory_for, tell_entry, or_absent, searched_directory, find_name, made, directory_and_caller, make_link, make_directory, open_and_close, make_file, remove, none_there, may_move, rename, move_name, link_by_place, add_link}
+use Rattle.fuse_plans.specs.NamePlans.{place, plain_name, directory_for, tell_entry, or_absent, searched_directory, find_name, made, directory_and_caller, make_link, make_directory, open_and_close, make_file, remove, none_there, may_move, rename, move_name, link_by_place, add_link}
 use Rattle.fuse_plans.proofs.Conducts.{Any, Still, still-place, SameOwn, Left, LeftTo, Does, Lasts, DoesTo, Gives, does-give, does-stop, does-kept, does->>=, does-attempt, does-lasts, lasts->>=, ends->>=, keep-lasts, then-lasts, then-does_to, does-does_to, attempt-does_to, gives-give}
 use Rattle.fuse_plans.proofs.Calls.{CanCall, WasNumber, does-obtain, does-between, does-done_between, does-look_inside, lasts-with_looker, looks, does-look, is-object, gives-number, gives-directory_number}
 use Rattle.fuse_plans.proofs.Chosen.{OfCaller, about-caller, gives-with, does-caller, does-caller_with_room}
 use Rattle.fuse_plans.proofs.Forms.{caller-can, does-if, does-replied_fd, ends-keep}
 
 -- ---- what the server keeps
+
+pub found-same : (p : Place) (n : ℕ) (kind : FileType) → SameOwn (found p n kind)
+found-same p n kind s = go (is_gone s n)
+  where
+    go : (b : Bool) → let t : Server = with_name p n kind (if b then with_generation n s else s) in (t.processes ≡ s.processes) × (t.looker ≡ s.looker)
+    go true = (refl, refl)
+    go false = (refl, refl)
 
 changed_if-same : (now : Time) (o : Option ℕ) → SameOwn (changed_if now o)
 changed_if-same now None s = (refl, refl)
@@ -144,7 +151,7 @@ module _ {rights : Rights} (r : Asked) (is : rights.cred ≡ r.cred) (node : rig
       then-lasts (gives-searched_directory r node name given) (λ d in_it.
       then-lasts (does-caller _ is) (λ pid more.
       lasts->>= (does-look_inside pid d name (caller-can pid _ refl) (is_given in_it)) (λ status.
-      tells-entry _ (λ s. (refl, refl)) status)))
+      tells-entry _ (found-same (place d name) status.inode status.kind) status)))
 
   does-directory_and_caller : (name : List ℕ) → given_name rights.subject.operation ≡ Some name
       → DoesTo rights (λ (who : ℕ × ℕ). OfCaller rights who.1) (λ (who : ℕ × ℕ). IsNameIn rights.subject name who.0) (directory_and_caller r name)

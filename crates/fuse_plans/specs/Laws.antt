@@ -5,7 +5,8 @@
 --     BeginningBehaves        the first request begins the server's own process, and asks no more
 --     RunsBehave        the same of what was asked
 --     OpenedIsTheObject        what an OPEN has opened is the object of its node
-use Rattle.std.specs.Prelude.{◌≡◌, ℕ, Bool, true, false, List, [], All, Option, None, Some, IsFalse}
+--     ToldNodesLeadToObjects        the node that is told of a name leads to what has it
+use Rattle.std.specs.Prelude.{◌≡◌, ℕ, Bool, true, false, List, [], All, Option, None, Some, IsTrue, IsFalse, ◌<◌, ◌^◌}
 use Rattle.fs_cred.specs.Credentials.{usual_credential}
 use Rattle.fs_model.specs.declared.call.Call.TheVariants.{Fstat, Ftruncate}
 use Rattle.fs_model.specs.declared.event.Event.{Event}
@@ -18,11 +19,14 @@ use Rattle.fuse_plans.specs.Requests.{Request}
 use Rattle.fuse_protocol.specs.declared.flags.OpenFlags.{OpenFlags}
 use Rattle.fuse_protocol.specs.declared.operation.Offer.{Offer}
 use Rattle.fuse_protocol.specs.declared.operation.Operation.{Operation}
-use Rattle.fuse_protocol.specs.declared.operation.Operation.TheVariants.{SetAttr, Open, Read, Write, Release, FSync, Init}
-use Rattle.fuse_plans.specs.declared.reply.ReplyBody.TheVariants.{Opened}
+use Rattle.fuse_protocol.specs.declared.operation.Operation.TheVariants.{Lookup, SetAttr, SymLink, MkNod, MkDir, Open, Read, Write, Release, FSync, Init, Create}
+use Rattle.fuse_plans.specs.declared.reply.Attributes.{Attributes}
+use Rattle.fuse_plans.specs.declared.reply.ReplyBody.{ReplyBody}
+use Rattle.fuse_plans.specs.declared.reply.ReplyBody.TheVariants.{Found, Opened, Created}
 use Rattle.fuse_plans.specs.declared.reply.Response.{Response}
 use Rattle.fuse_plans.specs.declared.reply.Response.TheVariants.{Says}
 use Rattle.fuse_state.specs.Servers.{Server, number_of, owner_of, descriptor_of, object_of}
+use Rattle.fuse_state.specs.Changes.{is_gone}
 use Rattle.fuse_plans.specs.Acts.{Subject}
 use Rattle.fuse_plans.specs.Conduct.{Known, Rights, conduct}
 use Rattle.fuse_plans.specs.Serving.{request_plan}
@@ -111,3 +115,32 @@ abbrev pub OpenedIsTheObject : Type 0
 OpenedIsTheObject =
     (r : Request) (s t : Server) (flags : OpenFlags) (es : List Event) (replies : List Reply) (handle : ℕ) → r.operation ≡ Some (Open flags)
     → IsRunOf (request_plan r s) es replies (Says (Opened handle), t) → OpenedObject r s t es replies handle
+
+-- ---- what is found or made
+
+-- a name is looked up, or what is made gets it
+abbrev pub names_an_object : Operation → Bool
+names_an_object (Lookup name) = true
+names_an_object (SymLink name target) = true
+names_an_object (MkNod name mode umask) = true
+names_an_object (MkDir name mode umask) = true
+names_an_object (Create name flags mode umask) = true
+names_an_object _ = false
+
+-- the node and the attributes that are told of what has the name
+abbrev pub told_entry : ReplyBody → Option (ℕ × Attributes)
+told_entry (Found node shown) = Some (node, shown)
+told_entry (Created node shown handle) = Some (node, shown)
+told_entry _ = None
+
+-- The node leads to the inode that was shown. Where the object that had its number may have been no more, it led nowhere before.
+pub record LeadsToShown (s t : Server) (node inode : ℕ) : Type 0 where
+  pub leads : number_of t node ≡ Some inode
+  pub fresh : IsTrue (is_gone s inode) → number_of s node ≡ None
+
+-- Whatever was replied, and whatever was answered before.
+abbrev pub ToldNodesLeadToObjects : Type 0
+ToldNodesLeadToObjects =
+    (r : Request) (s t : Server) (operation : Operation) (body : ReplyBody) (es : List Event) (replies : List Reply) (node : ℕ) (shown : Attributes)
+    → r.operation ≡ Some operation → IsTrue (names_an_object operation) → shown.status.inode < 2 ^ 32 → told_entry body ≡ Some (node, shown)
+    → IsRunOf (request_plan r s) es replies (Says body, t) → LeadsToShown s t node shown.status.inode

@@ -16,8 +16,8 @@ use Rattle.fuse_protocol.specs.declared.reply.Time.{Time}
 use Rattle.fuse_plans.specs.declared.reply.ReplyBody.{ReplyBody}
 use Rattle.fuse_plans.specs.declared.reply.ReplyBody.TheVariants.{Nothing, Found}
 use Rattle.fuse_plans.specs.declared.reply.Attributes.{Attributes}
-use Rattle.fuse_state.specs.Servers.{Server, node_of, kind_of, place_of, with_name, times_of, born}
-use Rattle.fuse_state.specs.Changes.{removed, moved, linked}
+use Rattle.fuse_state.specs.Servers.{Server, node_of, kind_of, place_of, times_of, born}
+use Rattle.fuse_state.specs.Changes.{found, removed, moved, linked}
 use Rattle.fuse_state.specs.declared.place.Place.{Place}
 use Rattle.fuse_plans.specs.Works.{Work, give, stop, kept, keep, ◌>>=◌, ◌>>◌, attempt, needed, obtain, replied_fd}
 use Rattle.fuse_plans.specs.Callers.{caller, caller_with_room, the_looker, inside, done_between, look_inside, look, the_number, directory_number}
@@ -65,7 +65,7 @@ searched_directory node name = do
 abbrev pub find_inside : ℕ → ℕ → List ℕ → Work ReplyBody
 find_inside pid d name = do
   status ← look_inside pid d name
-  keep (with_name (place d name) status.inode status.kind)
+  keep (found (place d name) status.inode status.kind)
   tell_entry status
 
 abbrev pub find_name : Asked → List ℕ → Work ReplyBody

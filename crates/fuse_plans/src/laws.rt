@@ -1,5 +1,5 @@
 //! The laws of the plans: each is the contract of a function that does nothing.
-ghost use Rattle.fuse_plans.specs.Laws.{BeginningBehaves, OpenedIsTheObject, RequestsBehave, RunsBehave};
+ghost use Rattle.fuse_plans.specs.Laws.{BeginningBehaves, OpenedIsTheObject, RequestsBehave, RunsBehave, ToldNodesLeadToObjects};
 
 /// Whatever the machine replies, no request but the first is performed with more than the rights of who asks.
 ///
@@ -31,4 +31,13 @@ pub fn what_is_asked_may_be()
 /// name that leads elsewhere is ESTALE, and never another file.
 pub fn opened_is_the_object()
     ensures { OpenedIsTheObject }
+{}
+
+/// The node that is told of a name, where that is looked up or what is made gets it, leads to the inode that was shown.
+///
+/// Where the object that had the inode's number may have been no more when the request began - the kernel was told of it, but none of
+/// its names was left, and it wasn't open - the node led nowhere before. So the node of an object that is gone doesn't lead to
+/// another, also where that was made by a request that couldn't show it, and was answered with an error.
+pub fn told_nodes_lead_to_objects()
+    ensures { ToldNodesLeadToObjects }
 {}

@@ -9,7 +9,10 @@ mod reply;
 mod request;
 mod stop;
 
-pub use laws::{beginning_behaves, opened_is_the_object, requests_behave, what_is_asked_may_be};
+pub use laws::{
+    beginning_behaves, opened_is_the_object, requests_behave, told_nodes_lead_to_objects,
+    what_is_asked_may_be,
+};
 pub use mode::Mode;
 pub use reply::{Attributes, ReplyBody, Response};
 pub use request::Asked;

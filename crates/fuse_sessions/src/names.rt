@@ -82,7 +82,7 @@ impl<M: Machine> Session<M> {
         name: Path,
     ) -> Result<ReplyBody, Stop>
         requires copy { copy ≡ asked.now.cred }
-        requires room { 2 ≤ self.old.server.room }
+        requires room { 3 ≤ self.old.server.room }
         ensures { Did M.Serves (find_name asked.entry.now name) self.old self.new result }
     {
         let directory = self.searched_directory(asked.node, &name)?;
@@ -100,13 +100,13 @@ impl<M: Machine> Session<M> {
 
     // What a process finds under the name.
     fn find_inside(&mut self, pid: usize, directory: u32, name: Path) -> Result<ReplyBody, Stop>
-        requires { 1 ≤ self.old.server.room }
+        requires { 2 ≤ self.old.server.room }
         ensures { Did M.Serves (find_inside pid directory name) self.old self.new result }
     {
         let (shown, name) = look_inside(&mut self.machine, pid, directory, name);
         let status = shown?;
         self.server
-            .add_name(place(directory, name), status.inode, status.kind);
+            .note_found(place(directory, name), status.inode, status.kind);
         Ok(found_body(&self.server, status))
     }
 

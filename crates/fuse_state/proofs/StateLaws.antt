@@ -1,5 +1,5 @@
 -- The laws of what a server keeps.
-use Rattle.std.specs.Prelude.{◌≡◌, ◌≢◌, ◌==◌, ℕ, ◌+◌, ◌*◌, ◌%◌, ◌/◌, ◌^◌, ◌<◌, Bool, true, false, not, ◌&&◌, cond, if◌then◌else◌, List, [], ◌∷◌, ◌++◌, reverse, bytes_eq, is_some, unwrap_or, option_map, Option, None, Some, refl}
+use Rattle.std.specs.Prelude.{◌≡◌, ◌≢◌, ◌==◌, ℕ, ◌+◌, ◌*◌, ◌%◌, ◌/◌, ◌^◌, ◌<◌, Bool, true, false, not, ◌&&◌, cond, if◌then◌else◌, List, [], ◌∷◌, ◌++◌, reverse, bytes_eq, is_some, unwrap_or, option_map, Option, None, Some, IsSome, IsTrue, refl}
 use Rattle.std.proofs.Common.{sym, ap, ◌∙◌, arith}
 use Rattle.std.specs.List.{filter, find}
 use Rattle.std.specs.Option.{option_or}
@@ -11,10 +11,12 @@ use Rattle.std.proofs.lemmas.Slice.Eq.{bytes_eq-Decides}
 use Rattle.fs_layout.specs.Maps.{get, with_entry}
 use Rattle.fs_layout.proofs.FirstEntries.{apart, left, right, ties}
 use Rattle.fs_layout.proofs.MapLaws.{get-with_entry}
+use Rattle.fs_model.specs.declared.reply.FileType.{FileType}
+use Rattle.fuse_state.specs.Changes.{is_gone, renewed, found}
 use Rattle.fuse_state.specs.declared.place.Found.{Found}
 use Rattle.fuse_state.specs.declared.place.Place.{Place}
-use Rattle.fuse_state.specs.Laws.{HandlesTellDescriptors, NodesLeadBack, StaleNodesLeadNowhere, OtherNodesStay, NamesAreKept, LatestNameIsThePlace}
-use Rattle.fuse_state.specs.Servers.{generation_of, kind_of, node_of, is_place, without_name, born}
+use Rattle.fuse_state.specs.Laws.{HandlesTellDescriptors, NodesLeadBack, StaleNodesLeadNowhere, NewNodesLedNowhere, OtherNodesStay, FoundNodesLeadBack, GoneNodesLeadNowhere, FoundNodesLedNowhere, KnownNodesStay, OtherNodesStayThen, NamesAreKept, LatestNameIsThePlace}
+use Rattle.fuse_state.specs.Servers.{Server, generation_of, with_generation, kind_of, node_of, number_of, is_place, with_name, without_name, born}
 
 pub handles_tell : HandlesTellDescriptors
 handles_tell pid fd lt = (omega arith, omega arith)
@@ -58,8 +60,8 @@ set_same m n g =
 set_other : (m : List (ℕ × ℕ)) (n g q : ℕ) → q ≢ n → get nat_cmp (with_entry nat_cmp m n g) q ≡ get nat_cmp m q
 set_other m n g q other = get-with_entry m n g q ∙ ap (λ b. cond b (Some g) (get nat_cmp m q)) (apart q n other)
 
-one_more : (g : ℕ) → g < 2 ^ 32 → (g + 1) % 2 ^ 32 ≢ g
-one_more g lt same = omega arith
+one_more : (g : ℕ) → (g + 1) % 2 ^ 32 ≢ g
+one_more g same = omega arith
 
 pub lead_nowhere : StaleNodesLeadNowhere
 lead_nowhere s now p n kind lt small =
@@ -67,12 +69,61 @@ lead_nowhere s now p n kind lt small =
     let g = generation_of s n in
     let low = low_part g n lt in
     let new : generation_of t (node_of s n % 2 ^ 32) ≡ (g + 1) % 2 ^ 32 = ap (generation_of t) low ∙ set_same s.generations n ((g + 1) % 2 ^ 32) in
-    let other : generation_of t (node_of s n % 2 ^ 32) ≢ node_of s n / 2 ^ 32 = λ same. one_more g small (sym new ∙ same ∙ high_part g n lt) in
+    let other : generation_of t (node_of s n % 2 ^ 32) ≢ node_of s n / 2 ^ 32 = λ same. one_more g (sym new ∙ same ∙ high_part g n lt) in
     not_chosen (is_some (kind_of t (node_of s n % 2 ^ 32))) _ _ (unequal _ _ other)
 
 pub others_stay : OtherNodesStay
 others_stay s now p n m kind other =
     ap (λ o. 2 ^ 32 * unwrap_or o 0 + m) (set_other s.generations n ((generation_of s n + 1) % 2 ^ 32) m other)
+
+-- ---- nodes of what is found
+
+module _ (s : Server) (p : Place) (n : ℕ) (kind : FileType) where
+  pub kind_then : (u : Server) → IsSome (kind_of (with_name p n kind u) n)
+  kind_then u = ap is_some (get-with_entry u.kinds n kind n ∙ ap (λ b. cond b (Some kind) (get nat_cmp u.kinds n)) (ties n n refl))
+
+  -- where the one before may be no more
+  generation_then : IsTrue (is_gone s n) → generation_of (found p n kind s) n ≡ (generation_of s n + 1) % 2 ^ 32
+  generation_then gone =
+      ap (λ b. generation_of (with_name p n kind (if b then with_generation n s else s)) n) gone
+      ∙ set_same s.generations n ((generation_of s n + 1) % 2 ^ 32)
+
+pub found_leads_back : FoundNodesLeadBack
+found_leads_back s p n kind lt = lead_back (found p n kind s) n lt (kind_then s p n kind (renewed n s))
+
+pub gone_leads_nowhere : GoneNodesLeadNowhere
+gone_leads_nowhere s p n kind lt gone =
+    let t = found p n kind s in
+    let g = generation_of s n in
+    let low = low_part g n lt in
+    let new : generation_of t (node_of s n % 2 ^ 32) ≡ (g + 1) % 2 ^ 32 = ap (generation_of t) low ∙ generation_then s p n kind gone in
+    let other : generation_of t (node_of s n % 2 ^ 32) ≢ node_of s n / 2 ^ 32 = λ same. one_more g (sym new ∙ same ∙ high_part g n lt) in
+    not_chosen (is_some (kind_of t (node_of s n % 2 ^ 32))) _ _ (unequal _ _ other)
+
+-- a node of the next generation
+led_nowhere : (s : Server) (n next : ℕ) → n < 2 ^ 32 → next ≡ (generation_of s n + 1) % 2 ^ 32 → number_of s (2 ^ 32 * next + n) ≡ None
+led_nowhere s n next lt is =
+    let node = 2 ^ 32 * next + n in
+    let other : generation_of s (node % 2 ^ 32) ≢ node / 2 ^ 32 =
+    λ same. one_more (generation_of s n) (sym is ∙ sym (high_part next n lt) ∙ sym same ∙ ap (generation_of s) (low_part next n lt)) in
+    not_chosen (is_some (kind_of s (node % 2 ^ 32))) _ _ (unequal _ _ other)
+
+pub found_led_nowhere : FoundNodesLedNowhere
+found_led_nowhere s p n kind lt gone = led_nowhere s n (generation_of (found p n kind s) n) lt (generation_then s p n kind gone)
+
+pub born_led_nowhere : NewNodesLedNowhere
+born_led_nowhere s now p n kind lt =
+    led_nowhere s n (generation_of (born now p n kind s) n) lt (set_same s.generations n ((generation_of s n + 1) % 2 ^ 32))
+
+pub known_stays : KnownNodesStay
+known_stays s p n kind known = ap (λ b. node_of (with_name p n kind (if b then with_generation n s else s)) n) known
+
+pub others_stay_then : OtherNodesStayThen
+others_stay_then s p n m kind other = go (is_gone s n)
+  where
+    go : (b : Bool) → node_of (with_name p n kind (if b then with_generation n s else s)) m ≡ node_of s m
+    go true = ap (λ o. 2 ^ 32 * unwrap_or o 0 + m) (set_other s.generations n ((generation_of s n + 1) % 2 ^ 32) m other)
+    go false = refl
 
 -- ---- names
 

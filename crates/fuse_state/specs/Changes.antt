@@ -1,10 +1,26 @@
 -- What requests for names change of what a server keeps.
+--     is_gone        whether the object that had a number may be no more
+--     found        where a name is found
 --     removed, moved, linked, told        where a name goes, leads elsewhere, is added, or is found or made by its opening
-use Rattle.std.specs.Prelude.{ℕ, Bool, true, false, Option, None, Some}
+use Rattle.std.specs.Prelude.{ℕ, ◌==◌, Bool, true, false, not, ◌&&◌, Option, None, Some, is_some, is_none, if◌then◌else◌}
+use Rattle.fs_model.specs.Limits.{root}
 use Rattle.fs_model.specs.declared.reply.FileType.{FileType}
 use Rattle.fuse_protocol.specs.declared.reply.Time.{Time}
 use Rattle.fuse_state.specs.declared.place.Place.{Place}
-use Rattle.fuse_state.specs.Servers.{Server, kind_of, named, with_name, without_name, touched, changed, born}
+use Rattle.fuse_state.specs.Servers.{Server, with_generation, kind_of, named, place_of, with_name, without_name, touched, changed, born, handle_for}
+
+-- The kernel was told of an object with this number, but none of its names is left, and it isn't open. So it may be no more, and
+-- what has the number from now on may be another object. The root always stays.
+abbrev pub is_gone : Server → ℕ → Bool
+is_gone s n = not (n == root) && (is_some (kind_of s n) && (is_none (place_of s n) && is_none (handle_for s n)))
+
+-- what is found under such a number counts as a new object
+abbrev pub renewed : ℕ → Server → Server
+renewed n s = if is_gone s n then with_generation n s else s
+
+-- a name is found to lead to an object
+abbrev pub found : Place → ℕ → FileType → Server → Server
+found p n kind s = with_name p n kind (renewed n s)
 
 abbrev pub changed_if : Time → Option ℕ → Server → Server
 changed_if now None s = s
@@ -35,5 +51,5 @@ linked now p n kind s = touched now p.directory (changed now n (named_if p n kin
 -- what was opened by a name is new, or lost its bytes, or is as it was
 abbrev pub told : Time → Place → ℕ → FileType → Bool → Bool → Server → Server
 told now p n kind true trunc s = born now p n kind s
-told now p n kind false true s = touched now n (with_name p n kind s)
-told now p n kind false false s = with_name p n kind s
+told now p n kind false true s = touched now n (found p n kind s)
+told now p n kind false false s = found p n kind s

@@ -1,12 +1,14 @@
 -- Laws of what a server keeps.
 --     HandlesTellDescriptors        a handle tells its process and its descriptor, so no two of these have the same
---     NodesLeadBack, StaleNodesLeadNowhere, OtherNodesStay        nodes
+--     NodesLeadBack, StaleNodesLeadNowhere, NewNodesLedNowhere, OtherNodesStay        nodes
+--     FoundNodesLeadBack, GoneNodesLeadNowhere, FoundNodesLedNowhere, KnownNodesStay, OtherNodesStayThen        nodes of what is found
 --     NamesAreKept, LatestNameIsThePlace        names
-use Rattle.std.specs.Prelude.{◌≡◌, ◌≢◌, ℕ, ◌<◌, ◌^◌, None, Some, IsSome}
+use Rattle.std.specs.Prelude.{◌≡◌, ◌≢◌, ℕ, ◌<◌, ◌^◌, None, Some, IsSome, IsTrue, IsFalse}
 use Rattle.fs_model.specs.Limits.{descriptors_limit}
 use Rattle.fs_model.specs.declared.reply.FileType.{FileType}
 use Rattle.fuse_protocol.specs.declared.reply.Time.{Time}
 use Rattle.fuse_state.specs.declared.place.Place.{Place}
+use Rattle.fuse_state.specs.Changes.{is_gone, found}
 use Rattle.fuse_state.specs.Servers.{Server, generation_of, kind_of, node_of, number_of, named, place_of, with_name, without_name, born, handle_of, owner_of, descriptor_of}
 
 abbrev pub HandlesTellDescriptors : Type 0
@@ -22,9 +24,44 @@ StaleNodesLeadNowhere =
     (s : Server) (now : Time) (p : Place) (n : ℕ) (kind : FileType) → n < 2 ^ 32 → generation_of s n < 2 ^ 32
     → number_of (born now p n kind s) (node_of s n) ≡ None
 
+-- the node of the new object led nowhere before
+abbrev pub NewNodesLedNowhere : Type 0
+NewNodesLedNowhere =
+    (s : Server) (now : Time) (p : Place) (n : ℕ) (kind : FileType) → n < 2 ^ 32 → number_of s (node_of (born now p n kind s) n) ≡ None
+
 -- and each other number has the node that it had
 abbrev pub OtherNodesStay : Type 0
 OtherNodesStay = (s : Server) (now : Time) (p : Place) (n m : ℕ) (kind : FileType) → m ≢ n → node_of (born now p n kind s) m ≡ node_of s m
+
+-- ---- nodes of what is found
+
+-- the node of what is found leads to its number
+abbrev pub FoundNodesLeadBack : Type 0
+FoundNodesLeadBack =
+    (s : Server) (p : Place) (n : ℕ) (kind : FileType) → n < 2 ^ 32
+    → number_of (found p n kind s) (node_of (found p n kind s) n) ≡ Some n
+
+-- Where the object that had the number may be no more, its node is stale from then on,
+abbrev pub GoneNodesLeadNowhere : Type 0
+GoneNodesLeadNowhere =
+    (s : Server) (p : Place) (n : ℕ) (kind : FileType) → n < 2 ^ 32 → IsTrue (is_gone s n)
+    → number_of (found p n kind s) (node_of s n) ≡ None
+
+-- and the node of what is found led nowhere before.
+abbrev pub FoundNodesLedNowhere : Type 0
+FoundNodesLedNowhere =
+    (s : Server) (p : Place) (n : ℕ) (kind : FileType) → n < 2 ^ 32 → IsTrue (is_gone s n)
+    → number_of s (node_of (found p n kind s) n) ≡ None
+
+-- Otherwise it has the node that it had,
+abbrev pub KnownNodesStay : Type 0
+KnownNodesStay = (s : Server) (p : Place) (n : ℕ) (kind : FileType) → IsFalse (is_gone s n) → node_of (found p n kind s) n ≡ node_of s n
+
+-- and each other number has the one that it had.
+abbrev pub OtherNodesStayThen : Type 0
+OtherNodesStayThen = (s : Server) (p : Place) (n m : ℕ) (kind : FileType) → m ≢ n → node_of (found p n kind s) m ≡ node_of s m
+
+-- ---- names
 
 -- A name that is added leads to its object, one that is removed leads nowhere, and each other leads where it did.
 pub record KeepsNames (s : Server) (p : Place) (n : ℕ) (kind : FileType) : Type 0 where

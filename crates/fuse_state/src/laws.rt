@@ -1,5 +1,5 @@
 //! Laws of what a server keeps, each proved by a function that does nothing: its contract is the law.
-ghost use Rattle.fuse_state.specs.Laws.{HandlesTellDescriptors, NodesLeadBack, StaleNodesLeadNowhere, OtherNodesStay, NamesAreKept, LatestNameIsThePlace};
+ghost use Rattle.fuse_state.specs.Laws.{HandlesTellDescriptors, NodesLeadBack, StaleNodesLeadNowhere, NewNodesLedNowhere, OtherNodesStay, FoundNodesLeadBack, GoneNodesLeadNowhere, FoundNodesLedNowhere, KnownNodesStay, OtherNodesStayThen, NamesAreKept, LatestNameIsThePlace};
 
 /// A handle tells its process and its descriptor: no two of these have the same.
 pub fn handles_tell_descriptors()
@@ -7,11 +7,25 @@ pub fn handles_tell_descriptors()
 {}
 
 /// The node of an object that the kernel was told of leads to its number. Once a new object has the number, the node of the
-/// one before leads nowhere, and each other number has the node that it had.
+/// one before leads nowhere; the node of the new one led nowhere before; and each other number has the node that it had.
 pub fn nodes_lead_to_objects()
     ensures back { NodesLeadBack }
     ensures stale { StaleNodesLeadNowhere }
+    ensures fresh { NewNodesLedNowhere }
     ensures others { OtherNodesStay }
+{}
+
+/// The node of what is found leads to its number.
+///
+/// Where the object that had the number may be no more - the kernel was told of it, but none of its names is left, and it isn't
+/// open - that node led nowhere before, and the node of the one before leads nowhere from then on. Otherwise it is the node that
+/// the number had. Each other number has the node that it had.
+pub fn found_nodes_lead_to_objects()
+    ensures back { FoundNodesLeadBack }
+    ensures stale { GoneNodesLeadNowhere }
+    ensures fresh { FoundNodesLedNowhere }
+    ensures known { KnownNodesStay }
+    ensures others { OtherNodesStayThen }
 {}
 
 /// A name that is added leads to its object, and is its place; one that is removed leads nowhere; each other leads where it

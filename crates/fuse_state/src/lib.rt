@@ -16,7 +16,9 @@ mod times;
 
 pub use directory::OpenDirectory;
 pub use handle::{descriptor_of, handle_of, owner_of};
-pub use laws::{handles_tell_descriptors, names_are_kept, nodes_lead_to_objects};
+pub use laws::{
+    found_nodes_lead_to_objects, handles_tell_descriptors, names_are_kept, nodes_lead_to_objects,
+};
 pub use place::{Found, Lent, Place};
 pub use server::{MAX_DIRECTORIES, REQUEST_ROOM, Server};
 pub use settings::Settings;

@@ -22,6 +22,8 @@ enum Step {
     Linked(u64, Entry, u32),
     // An object; whether it is new, and whether it has lost its bytes.
     Opened(u64, Entry, u32, bool, bool),
+    // An object has a handle.
+    Held(u32),
     Lent(u32),
     Written(u64, u32),
     Changed(u64, u32),
@@ -83,7 +85,7 @@ fn made(
 
 fn found(server: &mut Server, alloc: Global, name: Entry, inode: u32) -> Result<u64, AllocError> {
     server.prepare()?;
-    server.add_name(place(alloc, name)?, inode, FileType::Directory);
+    server.note_found(place(alloc, name)?, inode, FileType::Directory);
     Ok(0)
 }
 
@@ -141,6 +143,12 @@ fn opened(
         is.0,
         is.1,
     );
+    Ok(0)
+}
+
+fn held(server: &mut Server, inode: u32) -> Result<u64, AllocError> {
+    server.prepare()?;
+    server.add_handle(handle_of(1, 0), inode);
     Ok(0)
 }
 
@@ -217,6 +225,7 @@ fn answered(server: &mut Server, alloc: Global, step: Step) -> Result<u64, Alloc
             inode,
             (new, cut),
         ),
+        Step::Held(inode) => held(server, inode),
         Step::Lent(inode) => lent(server, alloc, inode),
         Step::Written(now, inode) => written(server, now, inode),
         Step::Changed(now, inode) => changed(server, now, inode),
@@ -231,7 +240,7 @@ fn answered(server: &mut Server, alloc: Global, step: Step) -> Result<u64, Alloc
     }
 }
 
-const ROWS: [(Step, u64); 75] = [
+const ROWS: [(Step, u64); 96] = [
     // The root is node 1. What the kernel was never told of is stale.
     (Step::Node(1), 1),
     (Step::Number(1), 1),
@@ -317,6 +326,30 @@ const ROWS: [(Step, u64); 75] = [
     (Step::Node(10), 4_294_967_306),
     (Step::Mtime(10), 100),
     (Step::Mtime(7), 90),
+    // What is found under the number of an object that has no name is another: the node of before it is stale.
+    (Step::Found((1, b'h'), 9), 0),
+    (Step::Node(9), 4_294_967_305),
+    (Step::Number(4_294_967_305), 9),
+    (Step::Number(9), 0),
+    (Step::Opened(120, (1, b'i'), 8, false, false), 0),
+    (Step::Node(8), 4_294_967_304),
+    (Step::Number(8), 0),
+    (Step::Gone((1, b'i')), 0),
+    (Step::Opened(130, (1, b'i'), 8, false, true), 0),
+    (Step::Node(8), 8_589_934_600),
+    (Step::Mtime(8), 130),
+    // One that has a name, is moved, or is open is the same.
+    (Step::Found((1, b'j'), 9), 0),
+    (Step::Node(9), 4_294_967_305),
+    (Step::Moved(140, (1, b'i'), (1, b'k')), 0),
+    (Step::Node(8), 8_589_934_600),
+    (Step::Gone((1, b'k')), 0),
+    (Step::Held(8), 0),
+    (Step::Found((1, b'l'), 8), 0),
+    (Step::Node(8), 8_589_934_600),
+    // The root needs no name.
+    (Step::Found((7, b'r'), 1), 0),
+    (Step::Node(1), 1),
 ];
 
 // The first row that is answered otherwise, and how; one behind the last if there is none.

@@ -1,6 +1,6 @@
 //! What requests for names change.
 ghost use Rattle.std.specs.Prelude.{◌≡◌, ◌+◌, ◌≤◌};
-ghost use Rattle.fuse_state.specs.Changes.{changed_if, named_if, moved_to, removed, moved, linked, told};
+ghost use Rattle.fuse_state.specs.Changes.{found, changed_if, named_if, moved_to, removed, moved, linked, told};
 
 use super::Server;
 use crate::place::Place;
@@ -41,6 +41,16 @@ impl Server {
             self.add_name_if(new, inode, kind);
             self.change(now, inode);
         }
+    }
+
+    /// A name was found to lead to an object of this kind. Where the object that had the inode may be no more, it counts as new.
+    pub fn note_found(&mut self, place: Place, inode: u32, kind: FileType)
+        requires { 2 ≤ self.old.room }
+        ensures kept { self.new.server ≡ found place inode kind self.old.server }
+        ensures room { self.old.room ≤ self.new.room + 2 }
+    {
+        self.renew(inode);
+        self.add_name(place, inode, kind);
     }
 
     /// A name was removed.
@@ -102,7 +112,7 @@ impl Server {
             self.add_object(now, place, inode, kind);
             return;
         }
-        self.add_name(place, inode, kind);
+        self.note_found(place, inode, kind);
         if is_cut {
             self.touch(now, inode);
         }

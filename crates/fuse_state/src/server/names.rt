@@ -32,8 +32,8 @@ impl Server {
             .map(|found| &found.place)
     }
 
-    /// A name leads to an object of this kind, and to no other.
-    pub fn add_name(&mut self, place: Place, inode: u32, kind: FileType)
+    // A name leads to an object of this kind, and to no other.
+    pub(super) fn add_name(&mut self, place: Place, inode: u32, kind: FileType)
         requires { 1 ≤ self.old.room }
         ensures kept { self.new.server ≡ with_name place inode kind self.old.server }
         ensures room { self.old.room ≤ self.new.room + 1 }

@@ -1,8 +1,10 @@
 //! Nodes, by which the kernel names objects: an inode's number, and how often it was given to a new object.
 ghost use Rattle.std.specs.Prelude.{◌≡◌, ◌+◌, ◌≤◌};
+ghost use Rattle.fuse_state.specs.Changes.{is_gone, renewed};
 ghost use Rattle.fuse_state.specs.Servers.{generation_of, with_generation, kind_of, node_of, number_of};
 
 use super::Server;
+use fs_layout::ROOT;
 use fs_model::FileType;
 
 // So many numbers of inodes there are.
@@ -25,6 +27,27 @@ impl Server {
         let generation = self.generation_of(inode).wrapping_add(1);
         self.generations.put(u64::from(inode), generation);
         self.room -= 1;
+    }
+
+    // Whether the object that had the number may be no more: none of its names is left, and it isn't open.
+    fn is_gone(&self, inode: u32) -> bool
+        ensures { result ≡ is_gone self.now.server inode }
+    {
+        inode != ROOT
+            && self.kind_of(inode).is_some()
+            && self.place_of(inode).is_none()
+            && self.handle_for(inode).is_none()
+    }
+
+    // What is found under the number of an object that may be no more counts as a new object.
+    pub(super) fn renew(&mut self, inode: u32)
+        requires { 1 ≤ self.old.room }
+        ensures kept { self.new.server ≡ renewed inode self.old.server }
+        ensures room { self.old.room ≤ self.new.room + 1 }
+    {
+        if self.is_gone(inode) {
+            self.add_generation(inode);
+        }
     }
 
     /// The node of an inode.

@@ -8,5 +8,5 @@ returns-in_err-status g c = was-fails _ c.from_residual.ensures (on-machine c.lo
 pub returns : goal.returns
 returns g c =
     then-was _ (on-machine c.look_inside-shown.ensures.did) c.in_ok-status.was
-    (keeps _ _ refl (rw (c.place.ensures, c.look_inside-shown.ensures.name) at c.add_name.ensures.kept)
+    (keeps _ _ refl (rw (c.place.ensures, c.look_inside-shown.ensures.name) at c.note_found.ensures.kept)
     (reads-last _ _ c.found_body.ensures))

@@ -1,0 +1,409 @@
+-- What is told of a name that was found or made leads to the object.
+--     AllEnd        something holds of each end of a plan, whatever is replied
+--     Same, Leaves        nodes, names and handles of files are as they were; work that changes none of them
+--     Tells        work that ends with what it tells of a name
+--     told_nodes_lead_to_objects
+use Rattle.std.specs.Prelude.{◌≡◌, ℕ, zero, suc, ◌<◌, ◌^◌, Bool, true, false, List, [], ◌∷◌, Option, None, Some, unwrap_or, Result, Ok, Err, IsTrue, if◌then◌else◌, bit_and}
+use Rattle.std.proofs.Common.{refl, sym, ap, subst, ◌∙◌}
+use Rattle.posix_acl.specs.AccessList.{AccessList}
+use Rattle.fs_cred.specs.Credentials.{Credential}
+use Rattle.fs_model.specs.declared.call.Call.{Call}
+use Rattle.fs_model.specs.declared.call.Call.TheVariants.{Open as OpenCall, Mkdir, Symlink}
+use Rattle.fs_model.specs.declared.event.Event.{Event}
+use Rattle.fs_model.specs.declared.reply.FileType.{FileType}
+use Rattle.fs_model.specs.declared.reply.Reply.{Reply}
+use Rattle.fs_model.specs.Limits.{processes_limit}
+use Rattle.fuse_protocol.specs.declared.operation.Operation.{Operation}
+use Rattle.fuse_protocol.specs.declared.operation.Operation.TheVariants.{Lookup, SymLink, MkNod, MkDir, Create}
+use Rattle.fuse_protocol.specs.declared.reply.Time.{Time}
+use Rattle.fuse_state.specs.declared.place.Place.{Place}
+use Rattle.fuse_state.specs.Servers.{Server, number_of, node_of, with_process, without_process, with_handle, born, descriptor_of}
+use Rattle.fuse_state.specs.Changes.{is_gone, found, told}
+use Rattle.fuse_state.proofs.StateLaws.{kind_then, lead_back, found_leads_back, found_led_nowhere, born_led_nowhere}
+use Rattle.fuse_plans.specs.declared.mode.Mode.{Mode}
+use Rattle.fuse_plans.specs.declared.request.Asked.{Asked}
+use Rattle.fuse_plans.specs.declared.reply.Attributes.{Attributes}
+use Rattle.fuse_plans.specs.declared.reply.ReplyBody.{ReplyBody}
+use Rattle.fuse_plans.specs.declared.reply.Response.{Response}
+use Rattle.fuse_plans.specs.declared.reply.Response.TheVariants.{Says}
+use Rattle.fuse_plans.specs.declared.stop.Stop.{Stop}
+use Rattle.fuse_plans.specs.declared.stop.Stop.TheVariants.{Refuses, Lacks}
+use Rattle.fuse_plans.specs.declared.stop.OtherErrno.TheVariants.{ENFILE, ERANGE, ENOSYS, ENODATA, EPROTO, EOPNOTSUPP, ESTALE}
+use Rattle.fuse_plans.specs.Plans.{Plan, Finish, Ask, followed_by, IsRunOf}
+use Rattle.fuse_plans.specs.Flags.{mode_in, is_trunc, making}
+use Rattle.fuse_plans.specs.Works.{Work, give, stop, kept, keep, goes_on, ◌>>=◌, attempt, needed, ask, give_unless, refusal_in, unless_refused, obtain, or_closed}
+use Rattle.fuse_plans.specs.Callers.{settled, settle, retire_next, retire, settle_first, begin_process, or_spawned, caller, unused_of, or_unused, caller_with_room, the_looker, between, done_between, look_inside, the_number, is_known_directory, directory_number}
+use Rattle.fuse_plans.specs.NamePlans.{plain_name, directory_for, or_absent, searched_directory, find_inside, find_name, made, close, done_closed, make_by, directory_and_caller, make_masked, is_of_file, make_file}
+use Rattle.fuse_plans.specs.FilePlans.{or_opened, open_or_make, show_open, look_open, tell_created, create_file}
+use Rattle.fuse_plans.specs.Laws.{told_entry, names_an_object, LeadsToShown, ToldNodesLeadToObjects}
+use Rattle.fuse_plans.specs.Serving.{response_of, plan_of, asked_for, answered, request_plan}
+
+-- ---- each end of a plan
+
+-- whatever is replied, this holds of the end
+abbrev AllEnd : {X : Type 0} → (X → Type 0) → Plan X → Type 0
+AllEnd P (Finish x) = P x
+AllEnd P (Ask e next) = (reply : Reply) → AllEnd P (next reply)
+
+all-weaker : {X : Type 0} (P Q : X → Type 0) (p : Plan X) → AllEnd P p → ((x : X) → P x → Q x) → AllEnd Q p
+all-weaker P Q (Finish x) ends weaker = weaker x ends
+all-weaker P Q (Ask e next) ends weaker = λ reply. all-weaker P Q (next reply) (ends reply) weaker
+
+all-followed_by : {X Y : Type 0} (P : X → Type 0) (Q : Y → Type 0) (p : Plan X) (f : X → Plan Y) → AllEnd P p → ((x : X) → P x → AllEnd Q (f x)) → AllEnd Q (followed_by p f)
+all-followed_by P Q (Finish x) f ends rest = rest x ends
+all-followed_by P Q (Ask e next) f ends rest = λ reply. all-followed_by P Q (next reply) f (ends reply) rest
+
+-- also of that of a run
+all-run : {X : Type 0} (P : X → Type 0) (p : Plan X) (es : List Event) (replies : List Reply) (x : X) → AllEnd P p → IsRunOf p es replies x → P x
+all-run P (Finish y) [] [] x ends runs = subst P (sym runs) ends
+all-run P (Finish y) [] (reply ∷ replies) x ends runs = elim runs [ ]
+all-run P (Finish y) (e ∷ es) replies x ends runs = elim runs [ ]
+all-run P (Ask e next) [] replies x ends runs = elim runs [ ]
+all-run P (Ask e next) (f ∷ es) [] x ends runs = elim runs [ ]
+all-run P (Ask e next) (f ∷ es) (reply ∷ replies) x ends runs = all-run P (next reply) es replies x (ends reply) runs.1
+
+-- ---- what stays
+
+-- nodes, names and handles of files are as they were
+record Same (s t : Server) : Type 0 where
+  generations : t.generations ≡ s.generations
+  kinds : t.kinds ≡ s.kinds
+  names : t.names ≡ s.names
+  handles : t.handles ≡ s.handles
+
+same-self : (s : Server) → Same s s
+same-self s = record { generations = refl; kinds = refl; names = refl; handles = refl }
+
+same-then : {s t u : Server} → Same s t → Same t u → Same s u
+same-then first later = record {
+  generations = later.generations ∙ first.generations;
+  kinds = later.kinds ∙ first.kinds;
+  names = later.names ∙ first.names;
+  handles = later.handles ∙ first.handles;
+}
+
+same-number : {s t : Server} → Same s t → (node : ℕ) → number_of t node ≡ number_of s node
+same-number {s} {t} same node =
+    ap (λ k. number_of (record t { kinds = k }) node) same.kinds
+    ∙ ap (λ g. number_of (record t { kinds = s.kinds; generations = g }) node) same.generations
+
+same-gone : {s t : Server} → Same s t → (n : ℕ) → is_gone t n ≡ is_gone s n
+same-gone {s} {t} same n =
+    ap (λ k. is_gone (record t { kinds = k }) n) same.kinds
+    ∙ ap (λ l. is_gone (record t { kinds = s.kinds; names = l }) n) same.names
+    ∙ ap (λ h. is_gone (record t { kinds = s.kinds; names = s.names; handles = h }) n) same.handles
+
+-- whatever is replied, the work changes nothing of these
+record Leaves {X : Type 0} (w : Work X) : Type 0 where
+  at : (s : Server) → AllEnd (λ r. Same s r.1) (w s)
+
+leaves-give : {X : Type 0} (x : X) → Leaves (give x)
+unfolding give
+leaves-give x = record { at = same-self }
+
+leaves-stop : {X : Type 0} (e : Stop) → Leaves {X = X} (stop e)
+unfolding stop
+leaves-stop e = record { at = same-self }
+
+leaves-kept : {X : Type 0} (f : Server → X) → Leaves (kept f)
+unfolding kept
+leaves-kept f = record { at = same-self }
+
+leaves-keep : (f : Server → Server) → ((s : Server) → Same s (f s)) → Leaves (keep f)
+unfolding keep
+leaves-keep f same = record { at = same }
+
+leaves-ask : (e : Event) → Leaves (ask e)
+unfolding ask
+leaves-ask e = record { at = λ s reply. same-self s }
+
+leaves->>= : {X Y : Type 0} {w : Work X} {f : X → Work Y} → Leaves w → ((x : X) → Leaves (f x)) → Leaves (w >>= f)
+unfolding ◌>>=◌
+leaves->>= {X} {Y} {w} {f} first rest = record { at = λ s. all-followed_by (λ r. Same s r.1) (λ r. Same s r.1) (w s) (goes_on f) (first.at s) (after s) }
+  where
+    after : (s : Server) (r : Result X Stop × Server) → Same s r.1 → AllEnd (λ (q : Result Y Stop × Server). Same s q.1) (goes_on f r)
+    after s (Ok x, t) same = all-weaker (λ q. Same t q.1) (λ q. Same s q.1) (f x t) ((rest x).at t) (λ q later. same-then same later)
+    after s (Err e, t) same = same
+
+leaves-attempt : {X : Type 0} {w : Work X} → Leaves w → Leaves (attempt w)
+unfolding attempt
+leaves-attempt {X} {w} first = record {
+  at = λ s. all-followed_by (λ r. Same s r.1) (λ r. Same s r.1) (w s) (λ r. Finish (Ok r.0, r.1)) (first.at s) (λ r same. same);
+}
+
+leaves-if : {X : Type 0} (b : Bool) (w v : Work X) → Leaves w → Leaves v → Leaves (if b then w else v)
+leaves-if true w v first second = first
+leaves-if false w v first second = second
+
+leaves-needed : {X : Type 0} (e : Stop) (o : Option X) → Leaves (needed e o)
+leaves-needed e None = leaves-stop e
+leaves-needed e (Some x) = leaves-give x
+
+leaves-unless_refused : (reply : Reply) → Leaves (unless_refused reply)
+leaves-unless_refused reply = go (refusal_in reply)
+  where
+    go : (o : _) → Leaves (give_unless reply o)
+    go None = leaves-give reply
+    go (Some r) = leaves-stop _
+
+leaves-obtain : (e : Event) → Leaves (obtain e)
+leaves-obtain e = leaves->>= (leaves-ask e) leaves-unless_refused
+
+leaves-or_closed : {X : Type 0} (pid fd : ℕ) (r : Result X Stop) → Leaves (or_closed pid fd r)
+leaves-or_closed pid fd (Ok x) = leaves-give x
+leaves-or_closed pid fd (Err e) = leaves->>= (leaves-ask _) (λ reply. leaves-stop e)
+
+-- ---- who calls
+
+leaves-settled : (cred : Credential) (reply : Reply) → Leaves (settled cred reply)
+leaves-settled cred reply =
+    leaves->>= (leaves-unless_refused reply) (λ done.
+    leaves->>= (leaves-needed _ _) (λ pid.
+    leaves->>= (leaves-keep (with_process pid cred) (λ s. record { generations = refl; kinds = refl; names = refl; handles = refl })) (λ added. leaves-give pid)))
+
+leaves-settle : (cred : Credential) (reply : Reply) → Leaves (settle cred reply)
+leaves-settle cred reply = leaves-if _ _ _ (leaves-stop _) (leaves-settled cred reply)
+
+leaves-retire_next : {rest : Work (Unit {0})} → Leaves rest → (o : Option ℕ) → Leaves (retire_next rest o)
+leaves-retire_next after None = leaves-give tt
+leaves-retire_next after (Some pid) =
+    leaves->>= (leaves-ask _) (λ reply.
+    leaves->>= (leaves-keep (without_process pid) (λ s. record { generations = refl; kinds = refl; names = refl; handles = refl })) (λ gone. after))
+
+leaves-retire : (k : ℕ) → Leaves (retire k)
+unfolding retire
+leaves-retire zero = leaves-give tt
+leaves-retire (suc k) = leaves->>= (leaves-kept _) (leaves-retire_next (leaves-retire k))
+
+leaves-settle_first : (cred : Credential) (reply : Reply) → Leaves (settle_first cred reply)
+leaves-settle_first cred reply =
+    leaves-if _ _ _ (leaves->>= (leaves-retire processes_limit) (λ retired. leaves->>= (leaves-ask _) (leaves-settle cred))) (leaves-settle cred reply)
+
+leaves-begin_process : (cred : Credential) → Leaves (begin_process cred)
+unfolding begin_process
+leaves-begin_process cred = leaves->>= (leaves-ask _) (leaves-settle_first cred)
+
+leaves-or_spawned : (cred : Credential) (o : Option ℕ) → Leaves (or_spawned cred o)
+leaves-or_spawned cred None = leaves-begin_process cred
+leaves-or_spawned cred (Some pid) = leaves-give pid
+
+leaves-caller : (who : Option Credential) → Leaves (caller who)
+unfolding caller
+leaves-caller who = leaves->>= (leaves-needed _ who) (λ cred. leaves->>= (leaves-kept _) (leaves-or_spawned cred))
+
+leaves-unused_of : (cred : Credential) (many : Bool) → Leaves (unused_of cred many)
+leaves-unused_of cred true = leaves-stop _
+leaves-unused_of cred false = leaves->>= (leaves-kept _) (leaves-or_spawned cred)
+
+leaves-or_unused : (cred : Credential) (o : Option ℕ) → Leaves (or_unused cred o)
+leaves-or_unused cred (Some pid) = leaves-give pid
+leaves-or_unused cred None = leaves->>= (leaves-kept _) (leaves-unused_of cred)
+
+leaves-caller_with_room : (who : Option Credential) → Leaves (caller_with_room who)
+unfolding caller_with_room
+leaves-caller_with_room who = leaves->>= (leaves-needed _ who) (λ cred. leaves->>= (leaves-kept _) (leaves-or_unused cred))
+
+leaves-the_looker : Leaves the_looker
+unfolding the_looker
+leaves-the_looker = leaves->>= (leaves-kept _) (leaves-needed _)
+
+-- ---- calls
+
+leaves-between : (pid d second : ℕ) (call : Call) → Leaves (between pid d second call)
+unfolding between
+leaves-between pid d second call =
+    leaves->>= (leaves-obtain _) (λ entered. leaves->>= (leaves-ask _) (λ reply. leaves->>= (leaves-ask _) (λ left. leaves-unless_refused reply)))
+
+leaves-done_between : (pid d second : ℕ) (call : Call) → Leaves (done_between pid d second call)
+leaves-done_between pid d second call = leaves->>= (leaves-between pid d second call) (λ reply. leaves-give tt)
+
+leaves-look_inside : (pid d : ℕ) (name : List ℕ) → Leaves (look_inside pid d name)
+unfolding look_inside
+leaves-look_inside pid d name = leaves->>= (leaves-between pid d d _) (λ reply. leaves-needed _ _)
+
+leaves-close : (pid fd : ℕ) → Leaves (close pid fd)
+leaves-close pid fd = leaves->>= (leaves-obtain _) (λ reply. leaves-give tt)
+
+leaves-done_closed : (pid d : ℕ) (call : Call) → Leaves (done_closed pid d call)
+leaves-done_closed pid d call =
+    leaves-if _ _ _ (leaves->>= (leaves-between pid d d call) (λ reply. leaves->>= (leaves-needed _ _) (leaves-close pid))) (leaves-done_between pid d d call)
+
+leaves-show_open : (pid fd : ℕ) → Leaves (show_open pid fd)
+unfolding show_open
+leaves-show_open pid fd = leaves->>= (leaves-obtain _) (λ reply. leaves-needed _ _)
+
+leaves-look_open : (pid fd : ℕ) → Leaves (look_open pid fd)
+unfolding look_open
+leaves-look_open pid fd = leaves->>= (leaves-attempt (leaves-show_open pid fd)) (leaves-or_closed pid fd)
+
+leaves-or_opened : (pid d : ℕ) (name : List ℕ) (mode : Mode) (flags : ℕ) (first : Result Reply Stop) → Leaves (or_opened pid d name mode flags first)
+leaves-or_opened pid d name mode flags (Ok reply) = leaves-give _
+leaves-or_opened pid d name mode flags (Err e) = leaves-if _ _ _ (leaves->>= (leaves-between pid d d _) (λ reply. leaves-give _)) (leaves-stop e)
+
+leaves-open_or_make : (pid d : ℕ) (name : List ℕ) (mode : Mode) (flags file_mode : ℕ) → Leaves (open_or_make pid d name mode flags file_mode)
+unfolding open_or_make
+leaves-open_or_make pid d name mode flags file_mode = leaves->>= (leaves-attempt (leaves-between pid d d _)) (leaves-or_opened pid d name mode flags)
+
+-- ---- directories of names
+
+leaves-plain_name : (name : List ℕ) → Leaves (plain_name name)
+leaves-plain_name name = leaves-if _ _ _ (leaves-stop _) (leaves-give tt)
+
+leaves-directory_number : (node : ℕ) → Leaves (directory_number node)
+unfolding directory_number the_number
+leaves-directory_number node =
+    leaves->>= (leaves->>= (leaves-kept _) (leaves-needed _)) (λ n.
+    leaves->>= (leaves-kept _) (λ kind. leaves-if (is_known_directory kind) _ _ (leaves-give n) (leaves-stop _)))
+
+leaves-or_absent : (r : Result ℕ Stop) → Leaves (or_absent r)
+leaves-or_absent (Ok n) = leaves-give n
+leaves-or_absent (Err (Lacks ESTALE)) = leaves-stop _
+leaves-or_absent (Err (Lacks ENFILE)) = leaves-stop _
+leaves-or_absent (Err (Lacks ERANGE)) = leaves-stop _
+leaves-or_absent (Err (Lacks ENOSYS)) = leaves-stop _
+leaves-or_absent (Err (Lacks ENODATA)) = leaves-stop _
+leaves-or_absent (Err (Lacks EPROTO)) = leaves-stop _
+leaves-or_absent (Err (Lacks EOPNOTSUPP)) = leaves-stop _
+leaves-or_absent (Err (Refuses r)) = leaves-stop _
+
+leaves-searched_directory : (node : ℕ) (name : List ℕ) → Leaves (searched_directory node name)
+leaves-searched_directory node name = leaves->>= (leaves-plain_name name) (λ plain. leaves->>= (leaves-attempt (leaves-directory_number node)) leaves-or_absent)
+
+leaves-directory_for : (node : ℕ) (name : List ℕ) → Leaves (directory_for node name)
+leaves-directory_for node name = leaves->>= (leaves-plain_name name) (λ plain. leaves-directory_number node)
+
+leaves-directory_and_caller : (r : Asked) (name : List ℕ) → Leaves (directory_and_caller r name)
+leaves-directory_and_caller r name = leaves->>= (leaves-directory_for r.node name) (λ d. leaves->>= (leaves-caller r.cred) (λ pid. leaves-give _))
+
+-- ---- what is told
+
+abbrev ToldOf : Server → Result ReplyBody Stop × Server → Type 0
+ToldOf s (Ok body, t) = (node : ℕ) (shown : Attributes) → told_entry body ≡ Some (node, shown) → shown.status.inode < 2 ^ 32 → LeadsToShown s t node shown.status.inode
+ToldOf s (Err e, t) = Unit {0}
+
+-- where it ends well, what it tells leads to the object
+record Tells (w : Work ReplyBody) : Type 0 where
+  at : (s : Server) → AllEnd (ToldOf s) (w s)
+
+told-before : {s t : Server} → Same s t → (r : Result ReplyBody Stop × Server) → ToldOf t r → ToldOf s r
+told-before {s} {t} same (Ok body, u) of_body = λ node shown is lt.
+    let leads = of_body node shown is lt in
+    record { leads = leads.leads; fresh = λ gone. sym (same-number same node) ∙ leads.fresh (same-gone same shown.status.inode ∙ gone) }
+told-before same (Err e, u) nothing = tt
+
+tells-after : {X : Type 0} {w : Work X} {f : X → Work ReplyBody} → Leaves w → ((x : X) → Tells (f x)) → Tells (w >>= f)
+unfolding ◌>>=◌
+tells-after {X} {w} {f} first rest = record { at = λ s. all-followed_by (λ r. Same s r.1) (ToldOf s) (w s) (goes_on f) (first.at s) (after s) }
+  where
+    after : (s : Server) (r : Result X Stop × Server) → Same s r.1 → AllEnd (ToldOf s) (goes_on f r)
+    after s (Ok x, t) same = all-weaker (ToldOf t) (ToldOf s) (f x t) ((rest x).at t) (told-before same)
+    after s (Err e, t) same = tt
+
+-- the entry is that which was told
+entry-is : (s t : Server) (told_node node : ℕ) (told_shown shown : Attributes) → ◌≡◌ {A = Option (ℕ × Attributes)} (Some (told_node, told_shown)) (Some (node, shown))
+    → shown.status.inode < 2 ^ 32 → (told_shown.status.inode < 2 ^ 32 → LeadsToShown s t told_node told_shown.status.inode)
+    → LeadsToShown s t node shown.status.inode
+entry-is s t told_node node told_shown shown is lt leads =
+    subst (λ (e : ℕ × Attributes). e.1.status.inode < 2 ^ 32 → LeadsToShown s t e.0 e.1.status.inode)
+    (ap (λ (o : Option (ℕ × Attributes)). unwrap_or o (node, shown)) is) leads lt
+
+found-leads : (s : Server) (p : Place) (n : ℕ) (kind : FileType) → n < 2 ^ 32 → LeadsToShown s (found p n kind s) (node_of (found p n kind s) n) n
+found-leads s p n kind lt = record { leads = found_leads_back s p n kind lt; fresh = λ gone. found_led_nowhere s p n kind lt gone }
+
+born-leads : (s : Server) (now : Time) (p : Place) (n : ℕ) (kind : FileType) → n < 2 ^ 32 → LeadsToShown s (born now p n kind s) (node_of (born now p n kind s) n) n
+born-leads s now p n kind lt = record {
+  leads = lead_back (born now p n kind s) n lt (kind_then s p n kind s);
+  fresh = λ gone. born_led_nowhere s now p n kind lt;
+}
+
+told-leads : (s : Server) (now : Time) (p : Place) (n : ℕ) (kind : FileType) (is_new is_cut : Bool) (handle : ℕ) → n < 2 ^ 32
+    → let t : Server = with_handle handle n (told now p n kind is_new is_cut s) in LeadsToShown s t (node_of t n) n
+told-leads s now p n kind true is_cut handle lt = let l = born-leads s now p n kind lt in record { leads = l.leads; fresh = l.fresh }
+told-leads s now p n kind false true handle lt = let l = found-leads s p n kind lt in record { leads = l.leads; fresh = l.fresh }
+told-leads s now p n kind false false handle lt = let l = found-leads s p n kind lt in record { leads = l.leads; fresh = l.fresh }
+
+-- ---- each plan
+
+tells-find_inside : (pid d : ℕ) (name : List ℕ) → Tells (find_inside pid d name)
+unfolding kept keep ◌>>=◌
+tells-find_inside pid d name = tells-after (leaves-look_inside pid d name) (λ status. record {
+  at = λ s node shown is lt. entry-is s _ _ node _ shown is lt (λ low. found-leads s _ status.inode status.kind low);
+})
+
+tells-find_name : (r : Asked) (name : List ℕ) → Tells (find_name r name)
+tells-find_name r name =
+    tells-after (leaves-searched_directory r.node name) (λ d.
+    tells-after (leaves-caller r.cred) (λ pid. tells-find_inside pid d name))
+
+tells-made : (now : Time) (d : ℕ) (name : List ℕ) → Tells (made now d name)
+unfolding made kept keep ◌>>=◌
+tells-made now d name =
+    tells-after leaves-the_looker (λ pid.
+    tells-after (leaves-look_inside pid d name) (λ status. record {
+      at = λ s node shown is lt. entry-is s _ _ node _ shown is lt (λ low. born-leads s now _ status.inode status.kind low);
+    }))
+
+tells-make_by : (now : Time) (pid d : ℕ) (call : Call) (name : List ℕ) → Tells (make_by now pid d call name)
+tells-make_by now pid d call name = tells-after (leaves-done_closed pid d call) (λ done. tells-made now d name)
+
+tells-make_masked : (now : Time) (umask pid d : ℕ) (call : Call) (name : List ℕ) → Tells (make_masked now umask pid d call name)
+tells-make_masked now umask pid d call name = tells-after (leaves-obtain _) (λ reply. tells-make_by now pid d call name)
+
+tells-make_file : (r : Asked) (name : List ℕ) (mode umask : ℕ) → Tells (make_file r name mode umask)
+tells-make_file r name mode umask =
+    tells-after (leaves-if (is_of_file mode) _ _ (leaves-give tt) (leaves-stop _)) (λ file.
+    tells-after (leaves-directory_for r.node name) (λ d.
+    tells-after (leaves-caller_with_room r.cred) (λ pid. tells-make_masked r.now umask pid d (OpenCall name making (bit_and mode 0o777)) name)))
+
+tells-create_file : (r : Asked) (name : List ℕ) (flags file_mode umask : ℕ) → Tells (create_file r name flags file_mode umask)
+unfolding tell_created kept keep ◌>>=◌
+tells-create_file r name flags file_mode umask =
+    tells-after (leaves-plain_name name) (λ plain.
+    tells-after (leaves-needed _ (mode_in flags)) (λ mode.
+    tells-after (leaves-directory_number r.node) (λ d.
+    tells-after (leaves-caller_with_room r.cred) (λ pid.
+    tells-after (leaves-obtain _) (λ masked.
+    tells-after (leaves-open_or_make pid d name mode flags file_mode) (λ opened.
+    tells-after (leaves-needed _ _) (λ handle.
+    tells-after (leaves-look_open pid (descriptor_of handle)) (λ status. record {
+      at = λ s node shown is lt.
+          entry-is s _ _ node _ shown is lt (λ low. told-leads s r.now _ status.inode status.kind opened.1 (is_trunc flags) handle low);
+    }))))))))
+
+-- ---- each request
+
+-- Some work, that tells
+abbrev IfTells : Option (Work ReplyBody) → Type 0
+IfTells None = ⊥
+IfTells (Some w) = Tells w
+
+tells-plan : (r : Asked) (value : Option (Option AccessList)) (operation : Operation) → IsTrue (names_an_object operation) → IfTells (plan_of r value operation)
+tells-plan r value (Lookup name) is = tells-find_name r name
+tells-plan r value (SymLink name target) is =
+    tells-after (leaves-directory_and_caller r name) (λ who. tells-make_by r.now who.1 who.0 (Symlink target name) name)
+tells-plan r value (MkNod name mode umask) is = tells-make_file r name mode umask
+tells-plan r value (MkDir name mode umask) is =
+    tells-after (leaves-directory_and_caller r name) (λ who. tells-make_masked r.now umask who.1 who.0 (Mkdir name (bit_and mode 0o7777)) name)
+tells-plan r value (Create name flags mode umask) is = tells-create_file r name flags.0 mode umask
+tells-plan r value _ is = absurd (cc)
+
+abbrev AnswerOf : Server → Response × Server → Type 0
+AnswerOf s (Says body, t) = ToldOf s (Ok body, t)
+AnswerOf s _ = Unit {0}
+
+tells-answer : (s : Server) (memory : Bool) (work : Option (Work ReplyBody)) → IfTells work → AllEnd (AnswerOf s) (answered memory work s)
+tells-answer s memory None tells = absurd tells
+tells-answer s true (Some w) tells = all-followed_by (ToldOf s) (AnswerOf s) (w s) (λ r. Finish (response_of r.0, r.1)) (tells.at s) answer
+  where
+    answer : (r : Result ReplyBody Stop × Server) → ToldOf s r → AnswerOf s (response_of r.0, r.1)
+    answer (Ok body, t) of_body = of_body
+    answer (Err e, t) nothing = tt
+tells-answer s false (Some w) tells = tt
+
+pub told_nodes_lead_to_objects : ToldNodesLeadToObjects
+unfolding request_plan
+told_nodes_lead_to_objects r s t operation body es replies node shown asks names lt entry runs =
+    all-run (AnswerOf s) (answered r.memory (asked_for r.asked r.value r.operation) s) es replies (Says body, t)
+    (subst (λ o. AllEnd (AnswerOf s) (answered r.memory (asked_for r.asked r.value o) s)) (sym asks)
+    (tells-answer s r.memory _ (tells-plan r.asked r.value operation names)))
+    runs node shown entry lt
