@@ -1,6 +1,6 @@
 -- How calls behave: in a directory, on an object, by a process of who asks and by the server's own.
-use Rattle.std.specs.Prelude.{◌≡◌, ℕ, ◌==◌, Bool, true, false, ◌&&◌, List, codes, Option, None, Some, Result, Ok, Err, IsTrue, if◌then◌else◌}
-use Rattle.std.proofs.Common.{refl, sym, subst, ◌∙◌, arith}
+use Rattle.std.specs.Prelude.{◌≡◌, ℕ, ◌==◌, Bool, true, false, ◌&&◌, ◌||◌, List, codes, Option, None, Some, is_some, Result, Ok, Err, IsTrue, if◌then◌else◌}
+use Rattle.std.proofs.Common.{refl, sym, ap, subst, ◌∙◌, arith}
 use Rattle.std.proofs.lemmas.Bool.Decides.{nat_tests}
 use Rattle.fs_cred.specs.declared.errno.Errno.TheVariants.{EACCES, ENOTDIR}
 use Rattle.fs_model.specs.Limits.{root}
@@ -18,9 +18,9 @@ use Rattle.fuse_plans.specs.Stops.{failed, is_for}
 use Rattle.fuse_state.specs.declared.place.Place.{Place}
 use Rattle.fuse_state.specs.Servers.{Server, number_of, place_of}
 use Rattle.fuse_plans.specs.Works.{Work, give, stop, kept, goes_on, ◌>>=◌, ◌>>◌, needed, ask, refusal_in, unless_refused, obtain, or_closed, replied_status, unexpected}
-use Rattle.fuse_plans.specs.Callers.{between, inside, done_between, look_inside, on, or_inside, at_place, by_place, the_looker, by_looker, look, look_at, is_known_directory, the_number, directory_number, only_directory}
+use Rattle.fuse_plans.specs.Callers.{between, inside, done_between, look_inside, on, or_inside, at_place, by_place, the_looker, by_looker, look, look_at, is_known_directory, the_number, directory_number, only_directory, standing_directory, has_place}
 use Rattle.fuse_plans.specs.Paths.{only_path}
-use Rattle.fuse_plans.specs.Acts.{Subject, Away, gone_to, node_of_object, own_directory, second_directory, IsObject, IsOf, is_known, is_itself, named_in, ActsOn, on_one, Concerns, acts, on_root, without_path}
+use Rattle.fuse_plans.specs.Acts.{Subject, Away, gone_to, node_of_object, own_directory, second_directory, Stands, IsObject, IsOf, is_known, is_itself, named_in, ActsOn, on_one, Concerns, acts, on_root, without_path}
 use Rattle.fuse_plans.specs.Conduct
 use Rattle.fuse_plans.specs.Conduct.{Known, Rights, MayCall, as_caller, as_looker, shows, MayAsk, conduct, known_after, away_after, Fits, IsNobodyElse, MayEnter, IsCaller, only_looks}
 use Rattle.fuse_plans.proofs.Conducts.{Any, Still, still-number, still-place, Left, LeftTo, Does, Lasts, Gives, then-does_to, does-does_to, gives-give, gives-stop, does-give, does-stop, does-kept, does->>=, does-attempt, does-needed, does-unless_refused, fits-any}
@@ -306,3 +306,14 @@ module _ {rights : Rights} where
   pub gives-directory_number : {F : ℕ → Type 0} (node : ℕ) → ((n : ℕ) → WasNumber rights node n → F n) → Gives rights F (directory_number node)
   unfolding directory_number
   gives-directory_number node says = then-does_to (gives-number node says) (λ n is. does-does_to (does-kept _) (λ kind. gives-only_directory n kind is))
+
+  -- the node led to the number, and that had a name
+  pub gives-standing_directory : {F : ℕ → Type 0} (node : ℕ) → ((n : ℕ) → Stands rights.subject.start node n → F n) → Gives rights F (standing_directory node)
+  unfolding standing_directory kept give stop ◌>>=◌
+  gives-standing_directory {F} node says = then-does_to (gives-directory_number node (λ n was. was)) (λ n was. record { goes = λ known s fits. placed n was known s fits (has_place s n) refl })
+    where
+      placed : (n : ℕ) → WasNumber rights node n → (known : Known) (s : Server) → Fits rights (Still rights) known s → (b : Bool) → has_place s n ≡ b
+          → KeepsTo (conduct rights) (LeftTo rights (λ n. Still rights) F) known ((if b then give n else stop (Lacks ESTALE)) s)
+      placed n was known s fits true is =
+          (fits, says n (record { of_node = was; has_place = ap (λ o. n == root || is_some o) (sym (still-place fits.holds n)) ∙ is }))
+      placed n was known s fits false is = fits-any fits

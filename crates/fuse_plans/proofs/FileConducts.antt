@@ -21,7 +21,7 @@ use Rattle.fuse_plans.specs.Conduct.{Rights, stays, by_handle, is_on, IsByHandle
 use Rattle.fuse_plans.specs.FilePlans.{touched_if, ask_first, open_object, open_file, or_opened, open_or_make, show_open, confirm_shown, confirm_open, look_open, tell_created, create_file, the_open, call_open, seek, seek_open, read_piece, read_pieces, read_file, or_done, write_piece, write_pieces, pieces_in, write_file, close_file}
 use Rattle.fuse_plans.specs.Flags.{is_trunc}
 use Rattle.fuse_plans.proofs.Conducts.{Still, SameOwn, SameAll, Does, Lasts, does-give, does-stop, does-kept, does-keep, does->>=, does-attempt, does-needed, lasts->>=, ends->>=, then-lasts, then-does}
-use Rattle.fuse_plans.proofs.Calls.{CanCall, AsksOf, is-object, does-obtain, does-or_closed, does-between, does-on, does-replied_status, gives-number, gives-directory_number}
+use Rattle.fuse_plans.proofs.Calls.{CanCall, AsksOf, is-object, does-obtain, does-or_closed, does-between, does-on, does-replied_status, gives-number, gives-standing_directory}
 use Rattle.fuse_plans.proofs.Chosen.{OfCaller, about-caller, does-caller_with_room}
 use Rattle.fuse_plans.proofs.Forms.{caller-can, does-if, does-when, does-done, does-keep_still, does-keep_caller, ends-keep, does-replied_handle, does-replied_data, does-replied_count}
 use Rattle.fuse_plans.proofs.NameConducts.{found-same, does-plain_name, given-in}
@@ -103,7 +103,7 @@ module _ {rights : Rights} (r : Asked) (is : rights.cred ≡ r.cred) (node : rig
   lasts-create_file name flags file_mode umask given =
       lasts->>= (does-plain_name name) (λ plain.
       lasts->>= (does-needed _ _) (λ mode.
-      then-lasts (gives-directory_number _ (given-in rights r.node node name given)) (λ d in_it.
+      then-lasts (gives-standing_directory _ (given-in rights r.node node name given)) (λ d in_it.
       then-lasts (does-caller_with_room _ is) (λ pid more.
       lasts->>= (does-obtain pid _ (caller-can pid _ refl) (without_path refl refl refl)) (λ old.
       lasts->>= (does-open_or_make pid d name mode flags file_mode (is_given in_it)) (λ opened.

@@ -16,17 +16,17 @@ use Rattle.fuse_plans.specs.declared.request.Asked.{Asked}
 use Rattle.fuse_protocol.specs.declared.operation.Operation.TheVariants.{Rename, Link}
 use Rattle.fuse_protocol.specs.declared.reply.Time.{Time}
 use Rattle.fuse_state.specs.declared.place.Place.{Place}
-use Rattle.fuse_state.specs.Servers.{Server, number_of, place_of, named, kind_of, with_generation, with_name, without_name}
+use Rattle.fuse_state.specs.Servers.{Server, place_of, named, kind_of, with_generation, with_name, without_name}
 use Rattle.fuse_state.specs.Changes.{is_gone, found, changed_if, removed, named_if, moved_to, moved, linked}
 use Rattle.fuse_state.proofs.StateLaws.{latest_is_the_place}
 use Rattle.fuse_plans.specs.Paths.{only_path}
-use Rattle.fuse_plans.specs.Acts.{Subject, given_name, node_of_object, IsGiven, IsNewName, is_new, IsObject, IsOf, is_given, is_new_name, named_in, ActsOn, on_one, moves, links, without_path}
+use Rattle.fuse_plans.specs.Acts.{Subject, given_name, node_of_object, IsGiven, IsNewName, is_new, Stands, IsObject, IsOf, is_given, is_new_name, named_in, ActsOn, on_one, moves, links, without_path}
 use Rattle.fuse_plans.specs.Conduct.{Known, Rights, conduct, Fits, stays}
 use Rattle.fuse_plans.specs.Works.{give, stop, kept, keep, goes_on, ◌>>=◌, ◌>>◌, needed}
 use Rattle.fuse_plans.specs.Callers.{done_between}
 use Rattle.fuse_plans.specs.NamePlans.{place, plain_name, directory_for, tell_entry, or_absent, searched_directory, find_name, made, directory_and_caller, make_link, make_directory, open_and_close, make_file, remove, none_there, may_move, rename, move_name, link_by_place, add_link}
 use Rattle.fuse_plans.proofs.Conducts.{Any, Still, still-place, SameOwn, Left, LeftTo, Does, Lasts, DoesTo, Gives, does-give, does-stop, does-kept, does->>=, does-attempt, does-lasts, lasts->>=, ends->>=, keep-lasts, then-lasts, then-does_to, does-does_to, attempt-does_to, gives-give}
-use Rattle.fuse_plans.proofs.Calls.{CanCall, WasNumber, does-obtain, does-between, does-done_between, does-look_inside, lasts-with_looker, looks, does-look, is-object, gives-number, gives-directory_number}
+use Rattle.fuse_plans.proofs.Calls.{CanCall, does-obtain, does-between, does-done_between, does-look_inside, lasts-with_looker, looks, does-look, is-object, gives-number, gives-standing_directory}
 use Rattle.fuse_plans.proofs.Chosen.{OfCaller, about-caller, gives-with, does-caller, does-caller_with_room}
 use Rattle.fuse_plans.proofs.Forms.{caller-can, does-if, does-replied_fd, ends-keep}
 
@@ -111,13 +111,13 @@ abbrev pub IsNameIn : Subject → List ℕ → ℕ → Type 0
 IsNameIn subject name d = IsGiven subject (named_in d name)
 
 pub given-in : (rights : Rights) (node : ℕ) → rights.subject.node ≡ node → (name : List ℕ) → given_name rights.subject.operation ≡ Some name
-    → (d : ℕ) → WasNumber rights node d → IsNameIn rights.subject name d
-given-in rights node is name given d was = record { name = given; directory = subst (λ k. number_of rights.subject.start k ≡ Some d) (sym is) was }
+    → (d : ℕ) → Stands rights.subject.start node d → IsNameIn rights.subject name d
+given-in rights node is name given d stands = record { name = given; directory = subst (λ k. Stands rights.subject.start k d) (sym is) stands }
 
 -- the new name of a rename, in the directory of the other node
 new-in : (rights : Rights) (name : List ℕ) (new_node : ℕ) (new_name : List ℕ) (flags : ℕ) → rights.subject.operation ≡ Some (Rename name new_node new_name flags)
-    → (d : ℕ) → WasNumber rights new_node d → IsNewName rights.subject (named_in d new_name)
-new-in rights name new_node new_name flags asks d was = is_new name new_node flags asks was
+    → (d : ℕ) → Stands rights.subject.start new_node d → IsNewName rights.subject (named_in d new_name)
+new-in rights name new_node new_name flags asks d stands = is_new name new_node flags asks stands
 
 module _ {rights : Rights} (r : Asked) (node : rights.subject.node ≡ r.node) where
   -- a directory that was removed has no names
@@ -136,10 +136,10 @@ module _ {rights : Rights} (r : Asked) (node : rights.subject.node ≡ r.node) w
   gives-searched_directory : (name : List ℕ) → given_name rights.subject.operation ≡ Some name → Gives rights (IsNameIn rights.subject name) (searched_directory r.node name)
   gives-searched_directory name given =
       does-does_to (does-plain_name name) (λ plain.
-      attempt-does_to or_absent (gives-directory_number r.node (given-in rights r.node node name given)) (λ d is. gives-give d is) (stays-absent (IsNameIn rights.subject name)))
+      attempt-does_to or_absent (gives-standing_directory r.node (given-in rights r.node node name given)) (λ d is. gives-give d is) (stays-absent (IsNameIn rights.subject name)))
 
   gives-directory_for : (name : List ℕ) → given_name rights.subject.operation ≡ Some name → Gives rights (IsNameIn rights.subject name) (directory_for r.node name)
-  gives-directory_for name given = does-does_to (does-plain_name name) (λ plain. gives-directory_number r.node (given-in rights r.node node name given))
+  gives-directory_for name given = does-does_to (does-plain_name name) (λ plain. gives-standing_directory r.node (given-in rights r.node node name given))
 
 -- where the object may be looked at once it has one more name
 abbrev Leads : Rights → ℕ → Server → Type 0
@@ -192,8 +192,8 @@ module _ {rights : Rights} (r : Asked) (is : rights.cred ≡ r.cred) (node : rig
       → Lasts rights (Still rights) (move_name r name new_node new_name flags)
   lasts-move_name name new_node new_name flags asks =
       lasts->>= (does-may_move name new_name flags) (λ may.
-      then-lasts (gives-directory_number _ (given-in rights r.node node name (ap given_name asks))) (λ d in_it.
-      then-lasts (gives-directory_number _ (new-in rights name new_node new_name flags asks)) (λ new renamed.
+      then-lasts (gives-standing_directory _ (given-in rights r.node node name (ap given_name asks))) (λ d in_it.
+      then-lasts (gives-standing_directory _ (new-in rights name new_node new_name flags asks)) (λ new renamed.
       then-lasts (does-caller _ is) (λ pid more.
       lasts->>= (does-if _ _ _ (does-give tt) (does->>= (does-attempt (does-between pid new new _ (caller-can pid _ refl) (on_one new_name refl refl (is_new_name renamed)))) does-none_there)) (λ none.
       lasts-rename _ pid _ _ (caller-can pid) in_it renamed)))))

@@ -55,6 +55,8 @@ pub made_unseen : played new (
     ∷ asks 1 0 0 (Some []) 1000000004 (RmDir (codes "d")) (Done ∷ Done ∷ Done ∷ [])
     ∷ asks 1 0 0 (Some []) 1000000005 (MkDir (codes "e") 493 18) ((Mask 18) ∷ Done ∷ Done ∷ Done ∷ Done ∷ (failed EIO) ∷ Done ∷ [])
     ∷ asks 4294967300 0 0 (Some []) 1000000006 GetAttr []
+    ∷ asks 4294967300 0 0 (Some []) 1000000006 (Lookup (codes "f")) []
+    ∷ asks 4294967300 0 0 (Some []) 1000000006 (RmDir (codes "f")) []
     ∷ asks 1 0 0 (Some []) 1000000007 (Lookup (codes "e")) (Done ∷ (Shown (status 4 Directory 493 1 0 0 0)) ∷ Done ∷ [])
     ∷ asks 4294967300 0 0 (Some []) 1000000008 GetAttr []
     ∷ asks 4294967300 0 0 (Some []) 1000000009 (Lookup (codes "f")) []
@@ -64,6 +66,8 @@ pub made_unseen : played new (
     ∷ (((user 0 0 []) ∷ (Calls 2 (Umask 18)) ∷ (Enter 2 1 1) ∷ (Calls 2 (Mkdir (codes "d") 493)) ∷ (Enter 2 1 1) ∷ (Enter 1 1 1) ∷ (Calls 1 (Lstat (codes "d"))) ∷ (Enter 1 1 1) ∷ []), Told (Found 4294967300 (attributes (status 4 Directory 493 1 0 0 0) (second 1000000003) (second 1000000003) (second 1000000003))))
     ∷ (((Enter 2 1 1) ∷ (Calls 2 (Rmdir (codes "d"))) ∷ (Enter 2 1 1) ∷ []), Told Nothing)
     ∷ (((Calls 2 (Umask 18)) ∷ (Enter 2 1 1) ∷ (Calls 2 (Mkdir (codes "e") 493)) ∷ (Enter 2 1 1) ∷ (Enter 1 1 1) ∷ (Calls 1 (Lstat (codes "e"))) ∷ (Enter 1 1 1) ∷ []), Error 5)
+    ∷ ([], Error 116)
+    ∷ ([], Error 2)
     ∷ ([], Error 116)
     ∷ (((Enter 2 1 1) ∷ (Calls 2 (Lstat (codes "e"))) ∷ (Enter 2 1 1) ∷ []), Told (Found 8589934596 (attributes (status 4 Directory 493 1 0 0 0) (second 1000000003) (second 1000000003) (second 1000000004))))
     ∷ ([], Error 116)

@@ -32,7 +32,7 @@ use Rattle.fuse_plans.specs.declared.stop.OtherErrno.TheVariants.{ENFILE, ERANGE
 use Rattle.fuse_plans.specs.Plans.{Plan, Finish, Ask, followed_by, IsRunOf}
 use Rattle.fuse_plans.specs.Flags.{mode_in, is_trunc, making}
 use Rattle.fuse_plans.specs.Works.{Work, give, stop, kept, keep, goes_on, ◌>>=◌, attempt, needed, ask, give_unless, refusal_in, unless_refused, obtain, or_closed}
-use Rattle.fuse_plans.specs.Callers.{settled, settle, retire_next, retire, settle_first, begin_process, or_spawned, caller, unused_of, or_unused, caller_with_room, the_looker, between, done_between, look_inside, the_number, is_known_directory, directory_number}
+use Rattle.fuse_plans.specs.Callers.{settled, settle, retire_next, retire, settle_first, begin_process, or_spawned, caller, unused_of, or_unused, caller_with_room, the_looker, between, done_between, look_inside, the_number, is_known_directory, directory_number, standing_directory}
 use Rattle.fuse_plans.specs.NamePlans.{plain_name, directory_for, or_absent, searched_directory, find_inside, find_name, made, close, done_closed, make_by, directory_and_caller, make_masked, is_of_file, make_file}
 use Rattle.fuse_plans.specs.FilePlans.{or_opened, open_or_make, show_open, look_open, tell_created, create_file}
 use Rattle.fuse_plans.specs.Laws.{told_entry, names_an_object, LeadsToShown, ToldNodesLeadToObjects}
@@ -255,6 +255,12 @@ leaves-directory_number node =
     leaves->>= (leaves->>= (leaves-kept _) (leaves-needed _)) (λ n.
     leaves->>= (leaves-kept _) (λ kind. leaves-if (is_known_directory kind) _ _ (leaves-give n) (leaves-stop _)))
 
+leaves-standing_directory : (node : ℕ) → Leaves (standing_directory node)
+unfolding standing_directory
+leaves-standing_directory node =
+    leaves->>= (leaves-directory_number node) (λ n.
+    leaves->>= (leaves-kept _) (λ placed. leaves-if placed _ _ (leaves-give n) (leaves-stop _)))
+
 leaves-or_absent : (r : Result ℕ Stop) → Leaves (or_absent r)
 leaves-or_absent (Ok n) = leaves-give n
 leaves-or_absent (Err (Lacks ESTALE)) = leaves-stop _
@@ -267,10 +273,10 @@ leaves-or_absent (Err (Lacks EOPNOTSUPP)) = leaves-stop _
 leaves-or_absent (Err (Refuses r)) = leaves-stop _
 
 leaves-searched_directory : (node : ℕ) (name : List ℕ) → Leaves (searched_directory node name)
-leaves-searched_directory node name = leaves->>= (leaves-plain_name name) (λ plain. leaves->>= (leaves-attempt (leaves-directory_number node)) leaves-or_absent)
+leaves-searched_directory node name = leaves->>= (leaves-plain_name name) (λ plain. leaves->>= (leaves-attempt (leaves-standing_directory node)) leaves-or_absent)
 
 leaves-directory_for : (node : ℕ) (name : List ℕ) → Leaves (directory_for node name)
-leaves-directory_for node name = leaves->>= (leaves-plain_name name) (λ plain. leaves-directory_number node)
+leaves-directory_for node name = leaves->>= (leaves-plain_name name) (λ plain. leaves-standing_directory node)
 
 leaves-directory_and_caller : (r : Asked) (name : List ℕ) → Leaves (directory_and_caller r name)
 leaves-directory_and_caller r name = leaves->>= (leaves-directory_for r.node name) (λ d. leaves->>= (leaves-caller r.cred) (λ pid. leaves-give _))
@@ -360,7 +366,7 @@ unfolding tell_created kept keep ◌>>=◌
 tells-create_file r name flags file_mode umask =
     tells-after (leaves-plain_name name) (λ plain.
     tells-after (leaves-needed _ (mode_in flags)) (λ mode.
-    tells-after (leaves-directory_number r.node) (λ d.
+    tells-after (leaves-standing_directory r.node) (λ d.
     tells-after (leaves-caller_with_room r.cred) (λ pid.
     tells-after (leaves-obtain _) (λ masked.
     tells-after (leaves-open_or_make pid d name mode flags file_mode) (λ opened.

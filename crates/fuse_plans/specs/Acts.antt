@@ -1,9 +1,9 @@
 -- On what a request acts: on names that it gives, and on the object of its node.
 --     Subject        the request, and what the server knew when it began
 --     IsObject, IsPlaceOf        the object, and where the server knew it
---     IsGiven, IsNewName        names that are given
+--     Stands, IsGiven, IsNewName        names that are given, in directories that stand
 --     ActsOn, Concerns        in which directories a call may be made
-use Rattle.std.specs.Prelude.{◌≡◌, ℕ, List, codes, Option, None, Some}
+use Rattle.std.specs.Prelude.{◌≡◌, ℕ, List, codes, Option, None, Some, IsTrue}
 use Rattle.fs_model.specs.Limits.{root}
 use Rattle.fs_model.specs.declared.call.Call.{Call}
 use Rattle.fs_model.specs.declared.call.Call.TheVariants.{Link as LinkCall, Rename as RenameCall}
@@ -11,6 +11,7 @@ use Rattle.fuse_protocol.specs.declared.operation.Operation.{Operation}
 use Rattle.fuse_protocol.specs.declared.operation.Operation.TheVariants.{Lookup, SymLink, MkNod, MkDir, Unlink, RmDir, Rename, Link, Create}
 use Rattle.fuse_state.specs.declared.place.Place.{Place}
 use Rattle.fuse_state.specs.Servers.{Server, number_of, place_of}
+use Rattle.fuse_plans.specs.Callers.{has_place}
 use Rattle.fuse_plans.specs.Paths.{only_path, names_in}
 
 -- the node that a request is asked of, what it asks, and what the server knew when it began
@@ -38,15 +39,20 @@ abbrev pub given_name : Option Operation → Option (List ℕ)
 given_name None = None
 given_name (Some operation) = name_asked operation
 
+-- a directory that stands: it is the root, or a name leads to it
+pub record Stands (s : Server) (node directory : ℕ) : Type 0 where
+  pub of_node : number_of s node ≡ Some directory
+  pub has_place : IsTrue (has_place s directory)
+
 -- the name that is given, in the directory of the node
 pub record IsGiven (r : Subject) (p : Place) : Type 0 where
   pub name : given_name r.operation ≡ Some p.name
-  pub directory : number_of r.start r.node ≡ Some p.directory
+  pub directory : Stands r.start r.node p.directory
 
 -- the new name of a rename, in the directory of its other node
 pub data IsNewName (r : Subject) (p : Place) : Type 0 where
   is_new : (name : List ℕ) (new_node flags : ℕ) → r.operation ≡ Some (Rename name new_node p.name flags)
-      → number_of r.start new_node ≡ Some p.directory → IsNewName r p
+      → Stands r.start new_node p.directory → IsNewName r p
 
 -- ---- the object
 

@@ -186,3 +186,10 @@ directory_number node = do
   n ← the_number node
   kind ← kept (λ s. kind_of s n)
   only_directory n kind
+
+-- A directory that has no name was removed, so it holds none; and another may have its number.
+unfoldable pub standing_directory : ℕ → Work ℕ
+standing_directory node = do
+  n ← directory_number node
+  placed ← kept (λ s. has_place s n)
+  if placed then give n else stop (Lacks ESTALE)

@@ -24,7 +24,7 @@ use Rattle.fuse_state.specs.Servers.{Server, node_of, touched, owner_of, descrip
 use Rattle.fuse_state.specs.Changes.{told}
 use Rattle.fuse_state.specs.declared.place.Place.{Place}
 use Rattle.fuse_plans.specs.Works.{Work, give, stop, kept, keep, ◌>>=◌, ◌>>◌, attempt, needed, obtain, or_closed, replied_status, replied_handle, replied_data, replied_count}
-use Rattle.fuse_plans.specs.Callers.{caller_with_room, inside, on, the_number, directory_number}
+use Rattle.fuse_plans.specs.Callers.{caller_with_room, inside, on, the_number, standing_directory}
 use Rattle.fuse_plans.specs.declared.mode.Mode.{Mode}
 use Rattle.fuse_plans.specs.declared.mode.Mode.TheVariants.{Reads}
 use Rattle.fuse_plans.specs.Flags.{mode_in, is_exec, is_excl, is_trunc, opening, creating}
@@ -147,7 +147,7 @@ abbrev pub create_file : Asked → List ℕ → ℕ → ℕ → ℕ → Work Rep
 create_file r name flags file_mode umask = do
   plain_name name
   mode ← needed (failed EINVAL) (mode_in flags)
-  d ← directory_number r.node
+  d ← standing_directory r.node
   pid ← caller_with_room r.cred
   set_umask pid umask
   create_by r.now pid d name mode flags file_mode

@@ -20,7 +20,7 @@ use Rattle.fuse_state.specs.Servers.{Server, node_of, kind_of, place_of, times_o
 use Rattle.fuse_state.specs.Changes.{found, removed, moved, linked}
 use Rattle.fuse_state.specs.declared.place.Place.{Place}
 use Rattle.fuse_plans.specs.Works.{Work, give, stop, kept, keep, ◌>>=◌, ◌>>◌, attempt, needed, obtain, replied_fd}
-use Rattle.fuse_plans.specs.Callers.{caller, caller_with_room, the_looker, inside, done_between, look_inside, look, the_number, directory_number}
+use Rattle.fuse_plans.specs.Callers.{caller, caller_with_room, the_looker, inside, done_between, look_inside, look, the_number, standing_directory}
 use Rattle.fuse_plans.specs.Flags.{making}
 
 -- the directory and a name in it
@@ -35,7 +35,7 @@ plain_name name = if bytes_eq name (codes ".") || bytes_eq name (codes "..") the
 abbrev pub directory_for : ℕ → List ℕ → Work ℕ
 directory_for node name = do
   plain_name name
-  directory_number node
+  standing_directory node
 
 abbrev pub attributes : Server → Status → Attributes
 attributes s status = record { status = status; times = times_of s status.inode }
@@ -58,7 +58,7 @@ or_absent (Err e) = stop e
 abbrev pub searched_directory : ℕ → List ℕ → Work ℕ
 searched_directory node name = do
   plain_name name
-  known ← attempt (directory_number node)
+  known ← attempt (standing_directory node)
   or_absent known
 
 -- what a process finds under the name
@@ -202,8 +202,8 @@ move_to now flags pid old new new_name = do
 abbrev pub move_name : Asked → List ℕ → ℕ → List ℕ → ℕ → Work ReplyBody
 move_name r name new_node new_name flags = do
   may_move name new_name flags
-  d ← directory_number r.node
-  new ← directory_number new_node
+  d ← standing_directory r.node
+  new ← standing_directory new_node
   pid ← caller r.cred
   move_to r.now flags pid (place d name) new new_name
 

@@ -282,7 +282,7 @@ impl<M: Machine> Session<M> {
         let Some(mode) = Mode::of_flags(flags) else {
             return Err(Stop::EINVAL);
         };
-        let directory = self.directory_number(asked.node)?;
+        let directory = self.standing_directory(asked.node)?;
         let pid = self.caller_with_room(copy)?;
         set_umask(&mut self.machine, pid, umask)?.discard();
         self.create_by(asked.now, pid, directory, name, mode, flags, file_mode)

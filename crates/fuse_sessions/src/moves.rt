@@ -165,8 +165,8 @@ impl<M: Machine> Session<M> {
         ensures { Did M.Serves (move_name asked.entry.now name new_node new_name flags) self.old self.new result }
     {
         self.may_move(&name, &new_name, flags)?;
-        let directory = self.directory_number(asked.node)?;
-        let new = self.directory_number(new_node)?;
+        let directory = self.standing_directory(asked.node)?;
+        let new = self.standing_directory(new_node)?;
         let pid = self.caller(copy)?;
         self.move_to(asked.now, flags, pid, place(directory, name), new, new_name)
     }

@@ -95,7 +95,7 @@ impl<M: Machine> Session<M> {
         ensures { Did M.Serves (searched_directory node name.now) self.now self.now result }
     {
         plain_name(name)?;
-        or_absent(self.directory_number(node))
+        or_absent(self.standing_directory(node))
     }
 
     // What a process finds under the name.
@@ -115,7 +115,7 @@ impl<M: Machine> Session<M> {
         ensures { Did M.Serves (directory_for node name.now) self.now self.now result }
     {
         plain_name(name)?;
-        self.directory_number(node)
+        self.standing_directory(node)
     }
 
     /// The directory of a name that is asked for, and a process of who asks. The credential is a copy of theirs.

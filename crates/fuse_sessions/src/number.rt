@@ -1,9 +1,10 @@
 //! The inodes of nodes and of handles.
 ghost use Rattle.std.specs.Prelude.{◌≡◌};
-ghost use Rattle.fuse_plans.specs.Callers.{is_known_directory, the_number, directory_number};
+ghost use Rattle.fuse_plans.specs.Callers.{is_known_directory, the_number, directory_number, standing_directory};
 ghost use Rattle.fuse_plans.specs.FilePlans.{the_open};
 ghost use Rattle.fuse_sessions.specs.Performing.{Did};
 
+use crate::object::has_place;
 use crate::session::Session;
 use fs_model::FileType;
 use fuse_plans::Stop;
@@ -33,6 +34,18 @@ impl<M: Machine> Session<M> {
             Ok(inode)
         } else {
             Err(Stop::ENOTDIR)
+        }
+    }
+
+    /// The inode of a node that is a directory and has a name: one that was removed holds no names.
+    pub(crate) fn standing_directory(&self, node: u64) -> Result<u32, Stop>
+        ensures { Did M.Serves (standing_directory node) self.now self.now result }
+    {
+        let inode = self.directory_number(node)?;
+        if has_place(&self.server, inode) {
+            Ok(inode)
+        } else {
+            Err(Stop::ESTALE)
         }
     }
 

@@ -6,4 +6,4 @@ returns-in_err-plain_name g c =
     then-fails _ c.from_residual.ensures (of-result c.in_err-plain_name.ensures)
 
 pub returns : goal.returns
-returns g c = then-ok _ (of-result c.in_ok-plain_name.ensures) c.directory_number.ensures
+returns g c = then-ok _ (of-result c.in_ok-plain_name.ensures) c.standing_directory.ensures
