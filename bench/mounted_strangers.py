@@ -31,7 +31,7 @@ def in_child(work):
 
 
 def with_other_ids(path):
-    """Root looks at what belongs to a user as a thread with the user's file-system ids alone: nobody knows whose groups count."""
+    """A thread of root, which acts on files as a user, looks at what belongs to that user."""
     def work():
         LIBC.setfsgid(100)
         LIBC.setfsuid(1000)
@@ -43,12 +43,27 @@ def in_namespace(path):
     """Root of a user namespace of its own, in which it is user 0 too, looks at what only a capability lets it read."""
     def work():
         if LIBC.unshare(CLONE_NEWUSER):
-            return 'no namespace here'
+            raise OSError(ctypes.get_errno(), 'no namespace')
         pathlib.Path('/proc/self/uid_map').write_text('0 0 1')
         pathlib.Path('/proc/self/setgroups').write_text('deny')
         pathlib.Path('/proc/self/gid_map').write_text('0 0 1')
         return pathlib.Path(path).read_text()
-    return in_child(work)
+    seen = in_child(work)
+    return None if seen in ('EPERM', 'ENOSPC', 'EINVAL', 'ENOSYS') else seen
+
+
+def by_overlay(mounted):
+    """The owner looks at it through overlayfs, which asks as who has mounted that: the process is another one's than the request."""
+    place, empty = mounted.folder / 'overlay', mounted.folder / 'empty'
+    for folder in (place, empty):
+        folder.mkdir()
+    options = f'lowerdir={mounted.mount}:{empty}'
+    if mounted.run('mount', '-i', '-t', 'overlay', '-o', options, 'overlay', place, stderr=subprocess.DEVNULL).returncode:
+        return None
+    try:
+        return as_user('ann', (place / 'ann/f').read_text)
+    finally:
+        mounted.run('umount', place, check=True)
 
 
 def as_user(user, work):
@@ -74,10 +89,13 @@ def identities(mounted, told):
     told.compare('identity', 'the owner reads', None, as_user('ann', path.read_text), 'hello')
     told.compare('identity', 'root reads', None, in_child(path.read_text), 'hello')
     told.compare('identity', 'another user reads', None, as_user('bob', path.read_text), 'EACCES')
-    told.compare('identity', "a thread of root with the owner's file-system ids reads", None, with_other_ids(path), 'EACCES')
-    seen = in_namespace(path)
-    if seen != 'no namespace here':
-        told.compare('identity', 'root of another user namespace reads', None, seen, 'EACCES')
+    told.compare('identity', 'a thread of root that acts on files as the owner reads', None, with_other_ids(path), 'hello')
+    for line, seen in (('the owner reads by overlayfs, which asks for root', by_overlay(mounted)),
+                       ('root of another user namespace reads', in_namespace(path))):
+        if seen is None:
+            print(f'identity: {line}: not tried, it is not here')
+        else:
+            told.compare('identity', line, None, seen, 'EACCES')
 
 
 def locks(mounted, told):
