@@ -152,13 +152,20 @@ def killed_later(mounted):
     os.kill(mounted.server(), signal.SIGKILL)
 
 
+def helper_of(mounted):
+    """The process that looks after the server of this mount."""
+    device = mounted.mount.stat().st_dev
+    for record in pathlib.Path('/run/inofs').iterdir():
+        if (record / 'device').read_text().strip() == f'{os.major(device)}:{os.minor(device)}':
+            return int((record / 'pid').read_text())
+    return None
+
+
 def terminated(mounted):
     (mounted.mount / 'last').write_text('x')
-    server = mounted.server()
-    os.kill(server, signal.SIGTERM)
+    os.kill(mounted.server(), signal.SIGTERM)
     time.sleep(0.2)
-    helper = int(next(pathlib.Path('/run/inofs').glob('*/pid')).read_text())
-    os.kill(helper, signal.SIGTERM)
+    os.kill(helper_of(mounted), signal.SIGTERM)
 
 
 def strangers(mounted, told):
