@@ -1,5 +1,5 @@
 //! What is known of a process that asks.
-ghost use Rattle.std.specs.Prelude.{◌≡◌, ◌++◌, ◌∷◌, [], None, OnOk};
+ghost use Rattle.std.specs.Prelude.{◌≡◌, ◌≤◌, ◌++◌, ◌∷◌, [], None, OnOk, OnErr, length};
 ghost use Rattle.fs_cred.specs.Capabilities.{no_caps};
 
 use arrayvec::ArrayVec;
@@ -36,7 +36,8 @@ impl Groups {
 
     /// One more group, behind the others. Fails where there are as many already as are kept.
     pub fn push(&mut self, id: u32) -> Result<(), TooManyGroups>
-        ensures { OnOk result (self.new ≡ self.old ++ id ∷ []) }
+        ensures added { OnOk result (self.new ≡ self.old ++ id ∷ []) }
+        ensures full { OnErr result (MAX_GROUPS ≤ length self.old) }
     {
         match self.ids.try_push(id) {
             Ok(()) => Ok(()),
