@@ -20,7 +20,7 @@ use Rattle.fuse_state.specs.Servers.{Server, number_of, place_of}
 use Rattle.fuse_plans.specs.Works.{Work, give, stop, kept, goes_on, ◌>>=◌, ◌>>◌, needed, ask, refusal_in, unless_refused, obtain, or_closed, replied_status, unexpected}
 use Rattle.fuse_plans.specs.Callers.{between, inside, done_between, look_inside, on, or_inside, at_place, by_place, the_looker, by_looker, look, look_at, is_known_directory, the_number, directory_number, only_directory, standing_directory, has_place}
 use Rattle.fuse_plans.specs.Paths.{only_path}
-use Rattle.fuse_plans.specs.Acts.{Subject, Away, gone_to, node_of_object, own_directory, second_directory, Stands, IsObject, IsOf, is_known, is_itself, named_in, ActsOn, on_one, Concerns, acts, on_root, without_path}
+use Rattle.fuse_plans.specs.Acts.{Subject, Away, gone_to, node_of_object, own_directory, second_directory, IsStandingDirectory, IsObject, IsOfRequest, is_known, is_itself, named_in, ActsWithin, on_one, Concerns, acts, on_root, without_path}
 use Rattle.fuse_plans.specs.Conduct
 use Rattle.fuse_plans.specs.Conduct.{Known, Rights, MayCall, as_caller, as_looker, shows, MayAsk, conduct, known_after, away_after, Fits, IsNobodyElse, MayEnter, IsCaller, only_looks}
 use Rattle.fuse_plans.proofs.Conducts.{Any, Still, still-number, still-place, Left, LeftTo, Does, Lasts, Gives, then-does_to, does-does_to, gives-give, gives-stop, does-give, does-stop, does-kept, does->>=, does-attempt, does-needed, does-unless_refused, fits-any}
@@ -36,7 +36,7 @@ IsPathOf call = (path : List ℕ) → only_path (call path) ≡ Some path
 -- the object of the request, whose place is one that may be used
 pub record About (rights : Rights) (P : Server → Type 0) (n : ℕ) : Type 0 where
   pub object : IsObject rights.subject n
-  pub places : (s : Server) (p : Place) → P s → place_of s n ≡ Some p → IsOf rights.subject p
+  pub places : (s : Server) (p : Place) → P s → place_of s n ≡ Some p → IsOfRequest rights.subject p
 
 -- what is known while the process is away
 record Out (rights : Rights) (P : Server → Type 0) (pid : ℕ) (known : Known) (s : Server) : Type 0 where
@@ -89,10 +89,10 @@ still-home away there true r home = refl
 still-home away there false r home = home
 
 -- what is acted on in these directories
-acts_there : {r : Subject} {there : Away} {away : Option Away} {call : Call} → There there away → ActsOn r there.directory there.second call → Concerns r away call
+acts_there : {r : Subject} {there : Away} {away : Option Away} {call : Call} → There there away → ActsWithin r there.directory there.second call → Concerns r away call
 acts_there {r} {there} {away} {call} is act =
-    acts (subst (λ d. ActsOn r d (second_directory away) call) (sym is.directory)
-    (subst (λ d. ActsOn r there.directory d call) (sym is.second) act))
+    acts (subst (λ d. ActsWithin r d (second_directory away) call) (sym is.directory)
+    (subst (λ d. ActsWithin r there.directory d call) (sym is.second) act))
 
 module _ {rights : Rights} {P : Server → Type 0} where
   at_home : {known : Known} {s : Server} (pid : ℕ) → Fits rights P known s → IsNobodyElse known.away pid
@@ -128,7 +128,7 @@ module _ {rights : Rights} {P : Server → Type 0} where
   )
 
   -- in a directory or in two
-  pub does-between : (pid directory second : ℕ) (call : Call) → CanCall rights P pid call → ActsOn rights.subject directory second call
+  pub does-between : (pid directory second : ℕ) (call : Call) → CanCall rights P pid call → ActsWithin rights.subject directory second call
       → Does rights P (between pid directory second call)
   unfolding between ask stop give ◌>>=◌
   does-between pid directory second call may act = record {
@@ -181,7 +181,7 @@ module _ {rights : Rights} {P : Server → Type 0} where
       entered known s fits (Names k) = goes known s _ refl fits
       entered known s fits (Space j k) = goes known s _ refl fits
 
-  pub does-done_between : (pid directory second : ℕ) (call : Call) → CanCall rights P pid call → ActsOn rights.subject directory second call
+  pub does-done_between : (pid directory second : ℕ) (call : Call) → CanCall rights P pid call → ActsWithin rights.subject directory second call
       → Does rights P (done_between pid directory second call)
   does-done_between pid directory second call may act = does->>= (does-between pid directory second call may act) (λ reply. does-give tt)
 
@@ -197,7 +197,7 @@ module _ {rights : Rights} {P : Server → Type 0} where
       choose false = does-stop e
 
   does-at_place : (pid n : ℕ) (call : List ℕ → Call) → ((path : List ℕ) → CanCall rights P pid (call path)) → IsPathOf call → IsObject rights.subject n
-      → (p : Place) → IsOf rights.subject p → Does rights P (at_place pid n call p)
+      → (p : Place) → IsOfRequest rights.subject p → Does rights P (at_place pid n call p)
   does-at_place pid n call may takes object p is =
       does->>= (does-kept _) (λ kind.
       does->>= (does-attempt (does-between pid p.directory p.directory (call p.name) (may p.name) (on_one p.name refl (takes p.name) is))) (λ r.
@@ -251,7 +251,7 @@ module _ {rights : Rights} {P : Server → Type 0} where
   pub does-replied_status : (reply : Reply) → Does rights P (replied_status reply)
   does-replied_status reply = does-needed _ _
 
-  pub does-look_inside : (pid d : ℕ) (name : List ℕ) → CanCall rights P pid (Lstat name) → IsOf rights.subject (named_in d name) → Does rights P (look_inside pid d name)
+  pub does-look_inside : (pid d : ℕ) (name : List ℕ) → CanCall rights P pid (Lstat name) → IsOfRequest rights.subject (named_in d name) → Does rights P (look_inside pid d name)
   unfolding look_inside
   does-look_inside pid d name may is = does->>= (does-between pid d d (Lstat name) may (on_one name refl refl is)) does-replied_status
 
@@ -308,7 +308,7 @@ module _ {rights : Rights} where
   gives-directory_number node says = then-does_to (gives-number node says) (λ n is. does-does_to (does-kept _) (λ kind. gives-only_directory n kind is))
 
   -- the node led to the number, and that had a name
-  pub gives-standing_directory : {F : ℕ → Type 0} (node : ℕ) → ((n : ℕ) → Stands rights.subject.start node n → F n) → Gives rights F (standing_directory node)
+  pub gives-standing_directory : {F : ℕ → Type 0} (node : ℕ) → ((n : ℕ) → IsStandingDirectory rights.subject.start node n → F n) → Gives rights F (standing_directory node)
   unfolding standing_directory kept give stop ◌>>=◌
   gives-standing_directory {F} node says = then-does_to (gives-directory_number node (λ n was. was)) (λ n was. record { goes = λ known s fits. placed n was known s fits (has_place s n) refl })
     where

@@ -16,7 +16,7 @@ use Rattle.fuse_protocol.specs.declared.reply.Time.{Time}
 use Rattle.fuse_state.specs.Changes.{told}
 use Rattle.fuse_state.specs.Servers.{Server, owner_of, descriptor_of}
 use Rattle.fuse_state.specs.declared.place.Place.{Place}
-use Rattle.fuse_plans.specs.Acts.{given_name, IsObject, IsOf, is_given, named_in, on_one, Concerns, without_path}
+use Rattle.fuse_plans.specs.Acts.{given_name, IsObject, IsOfRequest, is_given, named_in, on_one, Concerns, without_path}
 use Rattle.fuse_plans.specs.Conduct.{Rights, stays, by_handle, is_on, IsByHandle}
 use Rattle.fuse_plans.specs.FilePlans.{touched_if, ask_first, open_object, open_file, or_opened, open_or_make, show_open, confirm_shown, confirm_open, look_open, tell_created, create_file, the_open, call_open, seek, seek_open, read_piece, read_pieces, read_file, or_done, write_piece, write_pieces, pieces_in, write_file, close_file}
 use Rattle.fuse_plans.specs.Flags.{is_trunc}
@@ -73,12 +73,12 @@ module _ {rights : Rights} (r : Asked) (is : rights.cred ≡ r.cred) (asks : Ask
 
 module _ {rights : Rights} (r : Asked) (is : rights.cred ≡ r.cred) (node : rights.subject.node ≡ r.node) where
   does-or_opened : {P : Server → Type 0} (pid d : ℕ) (name : List ℕ) (mode : Mode) (flags : ℕ) (first : Result Reply Stop)
-      → ((call : Call) → IsTrue (stays call) → CanCall rights P pid call) → IsOf rights.subject (named_in d name) → Does rights P (or_opened pid d name mode flags first)
+      → ((call : Call) → IsTrue (stays call) → CanCall rights P pid call) → IsOfRequest rights.subject (named_in d name) → Does rights P (or_opened pid d name mode flags first)
   does-or_opened pid d name mode flags (Ok reply) can of = does-give _
   does-or_opened pid d name mode flags (Err e) can of =
       does-if _ _ _ (does->>= (does-between pid d d _ (can _ refl) (on_one name refl refl of)) (λ reply. does-give _)) (does-stop e)
 
-  does-open_or_make : (pid d : ℕ) (name : List ℕ) (mode : Mode) (flags file_mode : ℕ) → IsOf rights.subject (named_in d name)
+  does-open_or_make : (pid d : ℕ) (name : List ℕ) (mode : Mode) (flags file_mode : ℕ) → IsOfRequest rights.subject (named_in d name)
       → Does rights (OfCaller rights pid) (open_or_make pid d name mode flags file_mode)
   unfolding open_or_make
   does-open_or_make pid d name mode flags file_mode of =

@@ -20,7 +20,7 @@ use Rattle.fuse_state.specs.Servers.{Server, place_of, named, kind_of, with_gene
 use Rattle.fuse_state.specs.Changes.{is_gone, found, changed_if, removed, named_if, moved_to, moved, linked}
 use Rattle.fuse_state.proofs.StateLaws.{latest_is_the_place}
 use Rattle.fuse_plans.specs.Paths.{only_path}
-use Rattle.fuse_plans.specs.Acts.{Subject, given_name, node_of_object, IsGiven, IsNewName, is_new, Stands, IsObject, IsOf, is_given, is_new_name, named_in, ActsOn, on_one, moves, links, without_path}
+use Rattle.fuse_plans.specs.Acts.{Subject, given_name, node_of_object, IsGivenName, IsNewName, is_new, IsStandingDirectory, IsObject, IsOfRequest, is_given, is_new_name, named_in, ActsWithin, on_one, moves, links, without_path}
 use Rattle.fuse_plans.specs.Conduct.{Known, Rights, conduct, Fits, stays}
 use Rattle.fuse_plans.specs.Works.{give, stop, kept, keep, goes_on, ◌>>=◌, ◌>>◌, needed}
 use Rattle.fuse_plans.specs.Callers.{done_between}
@@ -75,14 +75,14 @@ module _ {rights : Rights} {P : Server → Type 0} where
   pub tells-entry : (f : Server → Server) → SameOwn f → (status : Status) → Lasts rights P (keep f >> tell_entry status)
   tells-entry f same status = ends->>= (ends-keep f same) (λ done. does-kept _)
 
-  pub lasts-made : (now : Time) (d : ℕ) (name : List ℕ) → IsOf rights.subject (named_in d name) → Lasts rights P (made now d name)
+  pub lasts-made : (now : Time) (d : ℕ) (name : List ℕ) → IsOfRequest rights.subject (named_in d name) → Lasts rights P (made now d name)
   unfolding made
   lasts-made now d name is =
       lasts-with_looker (λ pid looker.
       lasts->>= (does-look_inside pid d name (looks pid looker (Lstat name) refl) is) (λ status.
       tells-entry _ (λ s. (refl, refl)) status))
 
-  does-open_and_close : (pid d : ℕ) (call : Call) → ((any : Call) → IsTrue (stays any) → CanCall rights P pid any) → IsTrue (stays call) → ActsOn rights.subject d d call
+  does-open_and_close : (pid d : ℕ) (call : Call) → ((any : Call) → IsTrue (stays any) → CanCall rights P pid any) → IsTrue (stays call) → ActsWithin rights.subject d d call
       → Does rights P (open_and_close pid d call)
   does-open_and_close pid d call can puts act =
       does->>= (does-between pid d d call (can call puts) act) (λ reply.
@@ -99,7 +99,7 @@ module _ {rights : Rights} {P : Server → Type 0} where
   does-none_there (Err e) = does-if _ _ _ (does-give tt) (does-stop e)
 
   lasts-rename : (now : Time) (pid : ℕ) (old new : Place) → ((call : Call) → IsTrue (stays call) → CanCall rights P pid call)
-      → IsGiven rights.subject old → IsNewName rights.subject new → Lasts rights P (rename now pid old new)
+      → IsGivenName rights.subject old → IsNewName rights.subject new → Lasts rights P (rename now pid old new)
   lasts-rename now pid old new can given renamed =
       lasts->>= (does-done_between pid _ _ _ (can _ refl) (moves old.name new.name refl given renamed)) (λ done.
       ends->>= (ends-keep _ (moved-same now old new)) (λ done. does-give _))
@@ -108,15 +108,15 @@ module _ {rights : Rights} {P : Server → Type 0} where
 
 -- a name that is given, in the directory of the node
 abbrev pub IsNameIn : Subject → List ℕ → ℕ → Type 0
-IsNameIn subject name d = IsGiven subject (named_in d name)
+IsNameIn subject name d = IsGivenName subject (named_in d name)
 
 pub given-in : (rights : Rights) (node : ℕ) → rights.subject.node ≡ node → (name : List ℕ) → given_name rights.subject.operation ≡ Some name
-    → (d : ℕ) → Stands rights.subject.start node d → IsNameIn rights.subject name d
-given-in rights node is name given d stands = record { name = given; directory = subst (λ k. Stands rights.subject.start k d) (sym is) stands }
+    → (d : ℕ) → IsStandingDirectory rights.subject.start node d → IsNameIn rights.subject name d
+given-in rights node is name given d stands = record { name = given; directory = subst (λ k. IsStandingDirectory rights.subject.start k d) (sym is) stands }
 
 -- the new name of a rename, in the directory of the other node
 new-in : (rights : Rights) (name : List ℕ) (new_node : ℕ) (new_name : List ℕ) (flags : ℕ) → rights.subject.operation ≡ Some (Rename name new_node new_name flags)
-    → (d : ℕ) → Stands rights.subject.start new_node d → IsNewName rights.subject (named_in d new_name)
+    → (d : ℕ) → IsStandingDirectory rights.subject.start new_node d → IsNewName rights.subject (named_in d new_name)
 new-in rights name new_node new_name flags asks d stands = is_new name new_node flags asks stands
 
 module _ {rights : Rights} (r : Asked) (node : rights.subject.node ≡ r.node) where
@@ -143,7 +143,7 @@ module _ {rights : Rights} (r : Asked) (node : rights.subject.node ≡ r.node) w
 
 -- where the object may be looked at once it has one more name
 abbrev Leads : Rights → ℕ → Server → Type 0
-Leads rights n s = (q : Place) → place_of s n ≡ Some q → IsOf rights.subject q
+Leads rights n s = (q : Place) → place_of s n ≡ Some q → IsOfRequest rights.subject q
 
 module _ {rights : Rights} (r : Asked) (is : rights.cred ≡ r.cred) (node : rights.subject.node ≡ r.node) where
   pub lasts-find_name : (name : List ℕ) → given_name rights.subject.operation ≡ Some name → Lasts rights (Still rights) (find_name r name)
@@ -205,7 +205,7 @@ module _ {rights : Rights} (r : Asked) (is : rights.cred ≡ r.cred) (node : rig
   linked-leads now pid d n name None object in_it s of q leads = (about-caller pid n object).places s q of leads
   linked-leads now pid d n name (Some kind) object in_it s of q leads =
       let both : Some (named_in d name) ≡ Some q = sym (latest_is_the_place s (named_in d name) n kind) ∙ leads in
-      subst (λ o. IsOf rights.subject (unwrap_or o q)) both (is_given in_it)
+      subst (λ o. IsOfRequest rights.subject (unwrap_or o q)) both (is_given in_it)
 
   does-link_by_place : (pid n d : ℕ) (name : List ℕ) → IsObject rights.subject n → IsNameIn rights.subject name d
       → Does rights (OfCaller rights pid) (link_by_place pid n d name)

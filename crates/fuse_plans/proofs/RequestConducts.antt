@@ -17,7 +17,7 @@ use Rattle.fuse_plans.specs.declared.reply.ReplyBody.{ReplyBody}
 use Rattle.fuse_state.specs.Servers.{Server, with_the_looker}
 use Rattle.fuse_plans.specs.Works.{Work, give, stop, kept, keep, goes_on, ◌>>=◌, ◌>>◌, ask, unless_refused, replied_pid}
 use Rattle.fuse_plans.specs.Requests.{Request}
-use Rattle.fuse_plans.specs.Acts.{name_asked, given_name, node_asked, node_of_object}
+use Rattle.fuse_plans.specs.Acts.{name_of_operation, given_name, node_asked, node_of_object}
 use Rattle.fuse_plans.specs.Conduct.{Known, Rights, conduct, after_spawn}
 use Rattle.fuse_plans.specs.NamePlans.{removal}
 use Rattle.fuse_plans.specs.Serving.{agreed, later_version, or_looker, begin, plan_of, asked_for, response_of, answered, request_plan}
@@ -45,7 +45,7 @@ module _ (rights : Rights) (r : Asked) (is : rights.cred ≡ r.cred) (node : rig
     of_node : ((k : ℕ) → node_asked operation k ≡ k) → AsksOf rights r.node
     of_node same = ap (λ o. node_of_object o rights.subject.node) asks ∙ same rights.subject.node ∙ node
 
-    gives_name : (name : List ℕ) → name_asked operation ≡ Some name → given_name rights.subject.operation ≡ Some name
+    gives_name : (name : List ℕ) → name_of_operation operation ≡ Some name → given_name rights.subject.operation ≡ Some name
     gives_name name given = ap given_name asks ∙ given
 
   does-plan : (value : Option (Option AccessList)) (operation : Operation) → rights.subject.operation ≡ Some operation → IsFalse (is_beginning operation)

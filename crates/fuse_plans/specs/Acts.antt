@@ -1,8 +1,8 @@
 -- On what a request acts: on names that it gives, and on the object of its node.
 --     Subject        the request, and what the server knew when it began
---     IsObject, IsPlaceOf        the object, and where the server knew it
---     Stands, IsGiven, IsNewName        names that are given, in directories that stand
---     ActsOn, Concerns        in which directories a call may be made
+--     IsObject, IsKnownPlace        the object, and where the server knew it
+--     IsStandingDirectory, IsGivenName, IsNewName        names that are given, in directories that stand
+--     ActsWithin, Concerns        in which directories a call may be made
 use Rattle.std.specs.Prelude.{◌≡◌, ℕ, List, codes, Option, None, Some, IsTrue}
 use Rattle.fs_model.specs.Limits.{root}
 use Rattle.fs_model.specs.declared.call.Call.{Call}
@@ -22,37 +22,37 @@ pub record Subject : Type 0 where
 
 -- ---- names
 
-abbrev pub name_asked : Operation → Option (List ℕ)
-name_asked (Lookup name) = Some name
-name_asked (SymLink name target) = Some name
-name_asked (MkNod name mode umask) = Some name
-name_asked (MkDir name mode umask) = Some name
-name_asked (Unlink name) = Some name
-name_asked (RmDir name) = Some name
-name_asked (Rename name new_directory new_name flags) = Some name
-name_asked (Link old_node name) = Some name
-name_asked (Create name flags mode umask) = Some name
-name_asked _ = None
+abbrev pub name_of_operation : Operation → Option (List ℕ)
+name_of_operation (Lookup name) = Some name
+name_of_operation (SymLink name target) = Some name
+name_of_operation (MkNod name mode umask) = Some name
+name_of_operation (MkDir name mode umask) = Some name
+name_of_operation (Unlink name) = Some name
+name_of_operation (RmDir name) = Some name
+name_of_operation (Rename name new_directory new_name flags) = Some name
+name_of_operation (Link old_node name) = Some name
+name_of_operation (Create name flags mode umask) = Some name
+name_of_operation _ = None
 
 -- the name that is given
 abbrev pub given_name : Option Operation → Option (List ℕ)
 given_name None = None
-given_name (Some operation) = name_asked operation
+given_name (Some operation) = name_of_operation operation
 
 -- a directory that stands: it is the root, or a name leads to it
-pub record Stands (s : Server) (node directory : ℕ) : Type 0 where
+pub record IsStandingDirectory (s : Server) (node directory : ℕ) : Type 0 where
   pub of_node : number_of s node ≡ Some directory
   pub has_place : IsTrue (has_place s directory)
 
 -- the name that is given, in the directory of the node
-pub record IsGiven (r : Subject) (p : Place) : Type 0 where
+pub record IsGivenName (r : Subject) (p : Place) : Type 0 where
   pub name : given_name r.operation ≡ Some p.name
-  pub directory : Stands r.start r.node p.directory
+  pub directory : IsStandingDirectory r.start r.node p.directory
 
 -- the new name of a rename, in the directory of its other node
 pub data IsNewName (r : Subject) (p : Place) : Type 0 where
   is_new : (name : List ℕ) (new_node flags : ℕ) → r.operation ≡ Some (Rename name new_node p.name flags)
-      → Stands r.start new_node p.directory → IsNewName r p
+      → IsStandingDirectory r.start new_node p.directory → IsNewName r p
 
 -- ---- the object
 
@@ -70,30 +70,30 @@ abbrev pub IsObject : Subject → ℕ → Type 0
 IsObject r n = number_of r.start (node_of_object r.operation r.node) ≡ Some n
 
 -- where the server knows an object
-abbrev pub IsPlaceOf : Server → ℕ → Place → Type 0
-IsPlaceOf s n p = place_of s n ≡ Some p
+abbrev pub IsKnownPlace : Server → ℕ → Place → Type 0
+IsKnownPlace s n p = place_of s n ≡ Some p
 
 -- ---- what is acted on
 
 -- A name that is given, or one by which the object is known; or the object itself, by who stands in it.
-pub data IsOf (r : Subject) (p : Place) : Type 0 where
-  is_given : IsGiven r p → IsOf r p
-  is_new_name : IsNewName r p → IsOf r p
-  is_known : (n : ℕ) → IsObject r n → IsPlaceOf r.start n p → IsOf r p
-  is_itself : IsObject r p.directory → p.name ≡ codes "." → IsOf r p
+pub data IsOfRequest (r : Subject) (p : Place) : Type 0 where
+  is_given : IsGivenName r p → IsOfRequest r p
+  is_new_name : IsNewName r p → IsOfRequest r p
+  is_known : (n : ℕ) → IsObject r n → IsKnownPlace r.start n p → IsOfRequest r p
+  is_itself : IsObject r p.directory → p.name ≡ codes "." → IsOfRequest r p
 
 abbrev pub named_in : ℕ → List ℕ → Place
 named_in directory name = record { directory = directory; name = name }
 
 -- What may be asked with names of a directory, and with second names of another one: a call on one name that is of the request;
 -- to rename what has the name that is given, to the new one; or to give the object the name that is given too, by its known one.
-pub data ActsOn (r : Subject) (directory second : ℕ) (call : Call) : Type 0 where
-  on_one : (name : List ℕ) → second ≡ directory → only_path call ≡ Some name → IsOf r (named_in directory name)
-      → ActsOn r directory second call
-  moves : (old new : List ℕ) → call ≡ RenameCall old new → IsGiven r (named_in directory old) → IsNewName r (named_in second new)
-      → ActsOn r directory second call
-  links : (n : ℕ) (old new : List ℕ) → call ≡ LinkCall old new → IsObject r n → IsPlaceOf r.start n (named_in directory old)
-      → IsGiven r (named_in second new) → ActsOn r directory second call
+pub data ActsWithin (r : Subject) (directory second : ℕ) (call : Call) : Type 0 where
+  on_one : (name : List ℕ) → second ≡ directory → only_path call ≡ Some name → IsOfRequest r (named_in directory name)
+      → ActsWithin r directory second call
+  moves : (old new : List ℕ) → call ≡ RenameCall old new → IsGivenName r (named_in directory old) → IsNewName r (named_in second new)
+      → ActsWithin r directory second call
+  links : (n : ℕ) (old new : List ℕ) → call ≡ LinkCall old new → IsObject r n → IsKnownPlace r.start n (named_in directory old)
+      → IsGivenName r (named_in second new) → ActsWithin r directory second call
 
 -- A process that has entered a directory, and with the second names of its calls another.
 pub record Away : Type 0 where
@@ -116,6 +116,6 @@ second_directory (Some away) = away.second
 -- A call is on what the request is about. At home it may also be about a descriptor, or about the root, where that is the
 -- object.
 pub data Concerns (r : Subject) (away : Option Away) (call : Call) : Type 0 where
-  acts : ActsOn r (own_directory away) (second_directory away) call → Concerns r away call
+  acts : ActsWithin r (own_directory away) (second_directory away) call → Concerns r away call
   on_root : away ≡ None → only_path call ≡ Some (codes "/") → IsObject r root → Concerns r away call
   without_path : away ≡ None → only_path call ≡ None → names_in call ≡ None → Concerns r away call
