@@ -1,17 +1,23 @@
 //! Credentials, and worked rows of the rules of ownership.
 use bitflags::Flags;
 use fs_cred::{
-    Caps, Cred, CredFault, keeps_set_group_id, may_chgrp, may_chown, may_own, one_answer,
-    owns_or_may_chown, sticky_allows,
+    Caps, Cred, CredFault, MAX_PROCESS_GROUPS, keeps_set_group_id, may_chgrp, may_chown, may_own,
+    one_answer, owns_or_may_chown, sticky_allows,
 };
 use std::alloc::Global;
 use std::test::Fail;
 
+type Seen = ((u32, u32, usize, u32), [bool; 6], [Option<CredFault>; 3]);
+
+// What so many groups of a process are.
+fn process_fault(alloc: Global, count: usize) -> Result<Option<CredFault>, CredFault> {
+    let groups = vec![in alloc; 9; count]?;
+    Ok(Cred::of_process(alloc, 7, 8, &groups, Caps::empty()).err())
+}
+
 // The parts of a copy of a credential with 16 more groups, whether it is in three groups and has three sets of capabilities,
-// and what 17 groups are.
-fn with_groups(
-    alloc: Global,
-) -> Result<((u32, u32, usize, u32), [bool; 6], Option<CredFault>), CredFault> {
+// what 17 groups are, and the most and one more of a process.
+fn with_groups(alloc: Global) -> Result<Seen, CredFault> {
     let both = Caps::CHOWN.union(Caps::FSETID);
     let cred = Cred::with_caps(alloc, 7, u32::MAX, &[9; 16], both)?.try_clone(alloc)?;
     let parts = (
@@ -28,8 +34,12 @@ fn with_groups(
         cred.is_capable(Caps::FSETID),
         cred.is_capable(Caps::FSETID.union(Caps::FOWNER)),
     ];
-    let fault = Cred::with_caps(alloc, 7, 8, &[9; 17], both).err();
-    Ok((parts, tests, fault))
+    let faults = [
+        Cred::with_caps(alloc, 7, 8, &[9; 17], both).err(),
+        process_fault(alloc, MAX_PROCESS_GROUPS)?,
+        process_fault(alloc, MAX_PROCESS_GROUPS + 1)?,
+    ];
+    Ok((parts, tests, faults))
 }
 
 #[test]
@@ -38,7 +48,11 @@ fn credentials_have_groups_and_capabilities(rt: HostRuntime) -> Result<(), Fail>
     let wanted = (
         (7, u32::MAX, 16, 17),
         [true, true, false, true, true, false],
-        Some(CredFault::TooManyGroups),
+        [
+            Some(CredFault::TooManyGroups),
+            None,
+            Some(CredFault::TooManyGroups),
+        ],
     );
     assert!(rt; seen == wanted, "{seen:?}");
     Ok(())

@@ -11,12 +11,16 @@ pub record Credential : Type 0 where
   pub groups : List ℕ
   pub caps : Caps
 
--- ids and sets of capabilities are numbers of 32 bits, and there are at most 16 more groups
+-- how many more groups a process has at most: NGROUPS_MAX of Linux
+abbrev pub groups_limit : ℕ
+groups_limit = 65536
+
+-- ids and sets of capabilities are numbers of 32 bits, and there are no more groups than a process of the system has
 pub record IsCredential (cred : Credential) : Type 0 where
   pub uid : cred.uid < 2 ^ 32
   pub gid : cred.gid < 2 ^ 32
   pub groups : All (λ group. group < 2 ^ 32) cred.groups
-  pub few : length cred.groups ≤ 16
+  pub few : length cred.groups ≤ groups_limit
   pub caps : cred.caps.0 < 2 ^ 32
 
 abbrev pub credential : ℕ → ℕ → List ℕ → Caps → Credential

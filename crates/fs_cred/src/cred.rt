@@ -7,13 +7,16 @@ use bitflags::Flags;
 use std::alloc::{AllocError, Global};
 use std::marker::Model;
 
-/// The most groups that a credential has beside its own.
+/// The most groups that a credential of a script has beside its own.
 pub const MAX_GROUPS: usize = 16;
+
+/// The most that one of a process of the system has: NGROUPS_MAX of Linux.
+pub const MAX_PROCESS_GROUPS: usize = 65_536;
 
 /// Why a credential can't be made.
 #[derive(Clone, Copy, Debug, PartialEq, Eq)]
 pub enum CredFault {
-    /// There are more than 16 supplementary groups.
+    /// There are more supplementary groups than such a credential has.
     TooManyGroups,
     /// Memory ran out.
     OutOfMemory,
@@ -27,7 +30,7 @@ impl From<AllocError> for CredFault {
     }
 }
 
-/// Who asks: a user, a group, up to 16 supplementary groups, and capabilities.
+/// Who asks: a user, a group, supplementary groups, and capabilities.
 #[derive(Drop)]
 pub struct Cred {
     uid: u32,
@@ -47,7 +50,7 @@ impl Model for Cred {
 }
 
 impl Cred {
-    ghost use Rattle.fs_cred.specs.Credentials.{IsCredential, credential, is_capable, is_member, usual_credential};
+    ghost use Rattle.fs_cred.specs.Credentials.{IsCredential, credential, groups_limit, is_capable, is_member, usual_credential};
 
     /// The credential of a user with these groups, which may hold `gid` and repeat one another. User 0 has all capabilities,
     /// and others have none.
@@ -73,6 +76,23 @@ impl Cred {
         ensures many { (result ≡ Err TooManyGroups) ↔ (16 < length groups.now) }
     {
         if groups.len() > MAX_GROUPS {
+            return Err(CredFault::TooManyGroups);
+        }
+        Cred::of_process(alloc, uid, gid, groups, caps)
+    }
+
+    /// That of a process of the system, which may be in many more groups than one of a script.
+    pub fn of_process(
+        alloc: Global,
+        uid: u32,
+        gid: u32,
+        groups: &[u32],
+        caps: Caps,
+    ) -> Result<Cred, CredFault>
+        ensures ok { IfOk result (λ cred. cred ≡ credential uid gid groups.now caps) }
+        ensures many { (result ≡ Err TooManyGroups) ↔ (groups_limit < length groups.now) }
+    {
+        if groups.len() > MAX_PROCESS_GROUPS {
             return Err(CredFault::TooManyGroups);
         }
         Ok(Cred {

@@ -15,7 +15,7 @@ mod rule;
 
 pub use access::{decide, decide_by_mode};
 pub use caps::Caps;
-pub use cred::{Cred, CredFault, MAX_GROUPS};
+pub use cred::{Cred, CredFault, MAX_GROUPS, MAX_PROCESS_GROUPS};
 pub use errno::Errno;
 pub use laws::{named_groups_count, one_answer};
 pub use node::{Node, NodeKind};

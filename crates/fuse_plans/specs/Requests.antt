@@ -5,7 +5,7 @@ use Rattle.std.specs.Prelude.{ℕ, nat_le, Bool, List, length, Option, None, Som
 use Rattle.posix_acl.specs.AccessList.{AccessList}
 use Rattle.fs_cred.specs.declared.caps.Caps.{Caps}
 use Rattle.fs_cred.specs.Capabilities.{usual_caps}
-use Rattle.fs_cred.specs.Credentials.{Credential, credential}
+use Rattle.fs_cred.specs.Credentials.{Credential, credential, groups_limit}
 use Rattle.fuse_protocol.specs.declared.operation.Operation.{Operation}
 use Rattle.fuse_protocol.specs.declared.reply.Time.{Time}
 use Rattle.fuse_plans.specs.declared.request.Asked.{Asked}
@@ -21,7 +21,7 @@ pub record Outside : Type 0 where
 -- ---- who asks
 
 abbrev pub are_known : List ℕ → Bool
-are_known groups = nat_le (length groups) 16
+are_known groups = nat_le (length groups) groups_limit
 
 -- those of the user, less those that the process lacks
 abbrev pub caps_left : ℕ → Caps → Caps

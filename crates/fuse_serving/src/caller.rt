@@ -1,19 +1,16 @@
 //! What is known of a process that asks.
-ghost use Rattle.std.specs.Prelude.{◌≡◌, ◌≤◌, ◌++◌, ◌∷◌, [], None, OnOk, OnErr, length};
+ghost use Rattle.std.specs.Prelude.{◌≡◌, ◌++◌, ◌∷◌, [], None, OnOk};
 ghost use Rattle.fs_cred.specs.Capabilities.{no_caps};
 
-use arrayvec::ArrayVec;
 use bitflags::Flags;
 use fs_cred::Caps;
+use std::alloc::{AllocError, Global};
 use std::marker::Model;
 
-/// The most groups that are kept: as many as a credential has beside its own.
-pub const MAX_GROUPS: usize = 16;
-
-/// Supplementary groups, at most [`MAX_GROUPS`]. Contracts see a list.
+/// Supplementary groups, however many. Contracts see a list.
 #[derive(Drop)]
 pub struct Groups {
-    ids: ArrayVec<u32, MAX_GROUPS>,
+    ids: Vec<u32>,
 }
 
 impl Model for Groups {
@@ -26,36 +23,29 @@ impl Model for Groups {
 
 impl Groups {
     /// No groups.
-    pub fn new() -> Groups
+    pub fn new(alloc: Global) -> Groups
         ensures { result ≡ [] }
     {
         Groups {
-            ids: ArrayVec::new(),
+            ids: Vec::new(alloc),
         }
     }
 
-    /// One more group, behind the others. Fails where there are as many already as are kept.
-    pub fn push(&mut self, id: u32) -> Result<(), TooManyGroups>
-        ensures added { OnOk result (self.new ≡ self.old ++ id ∷ []) }
-        ensures full { OnErr result (MAX_GROUPS ≤ length self.old) }
+    /// One more group, behind the others.
+    pub fn push(&mut self, id: u32) -> Result<(), AllocError>
+        ensures { OnOk result (self.new ≡ self.old ++ id ∷ []) }
     {
-        match self.ids.try_push(id) {
-            Ok(()) => Ok(()),
-            Err(_) => Err(TooManyGroups),
-        }
+        self.ids.push(id)?;
+        Ok(())
     }
 
     /// The groups.
     pub fn ids(&self) -> &[u32]
         ensures { result.now ≡ self.now }
     {
-        self.ids.as_slice()
+        &self.ids
     }
 }
-
-/// There are more groups than are kept.
-#[derive(Clone, Copy)]
-pub struct TooManyGroups;
 
 /// What is known of a process.
 #[derive(Drop)]

@@ -19,7 +19,7 @@ mod standard;
 mod status;
 mod witness;
 
-pub use caller::{Caller, Groups, MAX_GROUPS, TooManyGroups};
+pub use caller::{Caller, Groups};
 pub use fault::ServeFault;
 pub use kernel::Kernel;
 pub use laws::who_asks_counts_only_where_learnt;

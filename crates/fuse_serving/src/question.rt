@@ -38,7 +38,7 @@ pub(crate) fn credential_of(
         return Ok(None);
     };
     let caps = caps_left(uid, caller.caps);
-    match Cred::with_caps(alloc, uid, gid, groups.ids(), caps) {
+    match Cred::of_process(alloc, uid, gid, groups.ids(), caps) {
         Ok(cred) => Ok(Some(cred)),
         Err(CredFault::TooManyGroups) => Ok(None),
         Err(CredFault::OutOfMemory) => Err(AllocError),

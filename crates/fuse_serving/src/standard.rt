@@ -56,7 +56,7 @@ fn look_up<R: Files + AllocGlobal>(rt: &R, pid: u32, uid: u32, gid: u32) -> io::
     let alloc: Global = rt.alloc();
     let path = format!(in alloc; "/proc/{pid}/status")?;
     let text = fs::read(rt, path.as_str())?;
-    let mut caller = caller_of_status(&text, uid, gid);
+    let mut caller = caller_of_status(alloc, &text, uid, gid)?;
     if !caller.caps.is_empty() && !shares_users(rt, pid)? {
         caller.caps = Caps::empty();
     }

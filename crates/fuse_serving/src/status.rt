@@ -1,5 +1,5 @@
 //! What /proc/PID/status says of a process.
-ghost use Rattle.std.specs.Prelude.{◌≡◌, ◌≤◌, ◌⊎◌, List, Some, IfSome, IsTrue};
+ghost use Rattle.std.specs.Prelude.{◌≡◌, ◌≤◌, ◌⊎◌, List, Some, IfOk, IfSome, IsTrue};
 ghost use Rattle.std.specs.List.{slice_split};
 ghost use Rattle.fs_cred.specs.Capabilities.{no_caps};
 ghost use Rattle.fuse_serving.specs.Status.{is_space, HasLine, SaysNumber, SaysIds, SaysGroups, SaysLastId, ActsAs, SaysCaps};
@@ -7,6 +7,7 @@ ghost use Rattle.fuse_serving.specs.Status.{is_space, HasLine, SaysNumber, SaysI
 use crate::caller::{Caller, Groups};
 use bitflags::Flags;
 use fs_cred::Caps;
+use std::alloc::{AllocError, Global};
 use std::str;
 
 // Of the capabilities in effect those that are asked here: the lowest five.
@@ -40,30 +41,32 @@ fn bits_of(word: &[u8]) -> Option<u64>
     Some(bits)
 }
 
-// Numbers with spaces between them, and perhaps behind them: none where there are more than are kept.
-fn ids_of(text: &[u8]) -> Option<Groups>
-    ensures { IfSome result (SaysIds (slice_split is_space text.now)) }
+// Numbers with spaces between them, and perhaps behind them.
+fn ids_of(alloc: Global, text: &[u8]) -> Result<Option<Groups>, AllocError>
+    ensures { IfOk result (λ groups. IfSome groups (SaysIds (slice_split is_space text.now))) }
 {
-    let mut groups = Groups::new();
+    let mut groups = Groups::new(alloc);
     for word in text.split(|byte| *byte == b' ') {
         if word.is_empty() {
             continue;
         }
-        let id = id_of(word)?;
-        let Ok(()) = groups.push(id) else {
-            return None;
+        let Some(id) = id_of(word) else {
+            return Ok(None);
         };
+        groups.push(id)?;
     }
-    Some(groups)
+    Ok(Some(groups))
 }
 
 // The supplementary groups, where the text says them all.
-fn groups_of(text: &[u8]) -> Option<Groups>
-    ensures { IfSome result (SaysGroups text.now) }
+fn groups_of(alloc: Global, text: &[u8]) -> Result<Option<Groups>, AllocError>
+    ensures { IfOk result (λ groups. IfSome groups (SaysGroups text.now)) }
 {
-    let rest = line_of(text, b"Groups:\t")?;
-    let groups = ids_of(rest)?;
-    Some(groups)
+    let Some(rest) = line_of(text, b"Groups:\t") else {
+        return Ok(None);
+    };
+    let groups = ids_of(alloc, rest)?;
+    Ok(groups)
 }
 
 // The last id of the line with this name.
@@ -99,20 +102,23 @@ fn caps_of(text: &[u8]) -> Option<Caps>
 ///
 /// Where that says another user or group, as of a program that serves others, or of one that has changed its own meanwhile, the
 /// process isn't who asks, and nothing is known. Where it says no capabilities there are none.
-pub fn caller_of_status(text: &[u8], uid: u32, gid: u32) -> Caller
-    ensures groups { IfSome result.groups (SaysGroups text.now) }
-    ensures acts { IfSome result.groups (λ groups. ActsAs text.now uid gid) }
-    ensures caps { (result.caps ≡ no_caps) ⊎ SaysCaps text.now result.caps }
+pub fn caller_of_status(
+    alloc: Global,
+    text: &[u8],
+    uid: u32,
+    gid: u32,
+) -> Result<Caller, AllocError>
+    ensures groups { IfOk result (λ caller. IfSome caller.groups (SaysGroups text.now)) }
+    ensures acts { IfOk result (λ caller. IfSome caller.groups (λ groups. ActsAs text.now uid gid)) }
+    ensures caps { IfOk result (λ caller. (caller.caps ≡ no_caps) ⊎ SaysCaps text.now caller.caps) }
 {
     if !acts_as(text, uid, gid) {
-        return Caller::unknown();
+        return Ok(Caller::unknown());
     }
+    let groups = groups_of(alloc, text)?;
     let caps = match caps_of(text) {
         Some(caps) => caps,
         None => Caps::empty(),
     };
-    Caller {
-        groups: groups_of(text),
-        caps,
-    }
+    Ok(Caller { groups, caps })
 }

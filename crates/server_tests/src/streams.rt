@@ -1,7 +1,7 @@
 //! What the streams of a process and /proc tell a server: no clause says any of it.
 use bitflags::Flags;
 use fuse_serving::{Caller, Kernel, Standard, caller_of_status};
-use std::alloc::Global;
+use std::alloc::{AllocError, Global};
 use std::io::{self, ErrorKind, Read, Write};
 use std::test::Fail;
 use std::{fs, str};
@@ -134,11 +134,12 @@ const STATUS: &[u8] =
 const NO_GROUPS: &[u8] =
     b"Name:\tGroups:\t7\nUid:\t1000\t1000\t1000\t1000\nGid:\t100\t100\t100\t100\nGroups:\t \nCapEff:\t0000000000000009\n";
 
-const MOST_GROUPS: &[u8] =
-    b"Uid:\t0\t0\t0\t1000\nGid:\t0\t0\t0\t100\nGroups:\t1 2 3 4 5 6 7 8 9 10 11 12 13 14 15 16 \nCapEff:\t0000000000000020\n";
-
 const MANY_GROUPS: &[u8] =
-    b"Uid:\t0\t0\t0\t1000\nGid:\t0\t0\t0\t100\nGroups:\t1 2 3 4 5 6 7 8 9 10 11 12 13 14 15 16 17 \nCapEff:\t0000000000000000\n";
+    b"Uid:\t0\t0\t0\t1000\nGid:\t0\t0\t0\t100\nGroups:\t1 2 3 4 5 6 7 8 9 10 11 12 13 14 15 16 17 \nCapEff:\t0000000000000020\n";
+
+// As of a user of a domain.
+const FORTY_GROUPS: &[u8] =
+    b"Uid:\t0\t0\t0\t1000\nGid:\t0\t0\t0\t100\nGroups:\t100 30000 30001 30002 30003 30004 30005 30006 30007 30008 30009 30010 30011 30012 30013 30014 30015 30016 30017 30018 30019 30020 30021 30022 30023 30024 30025 30026 30027 30028 30029 30030 30031 30032 30033 30034 30035 30036 30037 65534 \nCapEff:\t0000000000000000\n";
 
 const BAD_GROUPS: &[u8] = b"Uid:\t0\t0\t0\t1000\nGid:\t0\t0\t0\t100\nGroups:\t1 4294967296 \n";
 
@@ -162,16 +163,17 @@ fn known_of(caller: &Caller) -> Known {
     (groups, caller.caps.bits())
 }
 
-fn known_in(status: &[u8]) -> Known {
-    known_of(&caller_of_status(status, 1000, 100))
+fn known_in(alloc: Global, status: &[u8], uid: u32, gid: u32) -> Result<Known, AllocError> {
+    let caller = caller_of_status(alloc, status, uid, gid)?;
+    Ok(known_of(&caller))
 }
 
 // Who asks is user 1000 with group 100.
 const TEXTS: [(&[u8], Known); 9] = [
     (STATUS, (Some((3, Some(u32::MAX))), 31)),
     (NO_GROUPS, (Some((0, None)), 9)),
-    (MOST_GROUPS, (Some((16, Some(16))), 0)),
-    (MANY_GROUPS, (None, 0)),
+    (MANY_GROUPS, (Some((17, Some(17))), 0)),
+    (FORTY_GROUPS, (Some((40, Some(65_534))), 0)),
     (BAD_GROUPS, (None, 0)),
     (OTHER_USER, (None, 0)),
     (OTHER_GROUP, (None, 0)),
@@ -180,11 +182,12 @@ const TEXTS: [(&[u8], Known); 9] = [
 ];
 
 #[test]
-fn what_proc_tells(rt: HostRuntime) {
+fn what_proc_tells(rt: HostRuntime) -> Result<(), Fail> {
     for (status, wanted) in &TEXTS {
-        let seen = known_in(status);
+        let seen = known_in(rt.alloc(), status, 1000, 100)?;
         assert!(rt; seen == *wanted, "{seen:?}");
     }
+    Ok(())
 }
 
 // The number behind the last tab of the line with this name.
@@ -202,12 +205,12 @@ fn number_in(status: &[u8], name: &[u8]) -> Option<u32> {
 type Ids = (u32, u32, u32);
 
 // Those of the text, and what that says.
-fn told_by(status: Vec<u8>) -> (Ids, Known) {
+fn told_by(alloc: Global, status: Vec<u8>) -> Result<(Ids, Known), AllocError> {
     let pid = number_in(&status, b"Pid:").unwrap_or(0);
     let uid = number_in(&status, b"Uid:").unwrap_or(0);
     let gid = number_in(&status, b"Gid:").unwrap_or(0);
-    let known = known_of(&caller_of_status(&status, uid, gid));
-    ((pid, uid, gid), known)
+    let known = known_in(alloc, &status, uid, gid)?;
+    Ok(((pid, uid, gid), known))
 }
 
 // What is known of a process, of it as another group, and of none, and whether the time is.
@@ -222,7 +225,7 @@ fn learnt_from<K: Kernel + Drop>(kernel: K, ids: Ids) -> ([Known; 3], bool) {
 
 #[test]
 fn what_passes_at_streams(rt: HostRuntime) -> Result<(), Fail> {
-    let (ids, own) = told_by(fs::read(&rt, "/proc/self/status")?);
+    let (ids, own) = told_by(rt.alloc(), fs::read(&rt, "/proc/self/status")?)?;
     for (turns, wanted) in &READS {
         let seen = sizes_of(kernel_at(rt, turns, Output::Takes));
         assert!(rt; seen == *wanted, "{seen:?}");

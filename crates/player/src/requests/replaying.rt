@@ -123,7 +123,7 @@ impl<'a> Kernel for Recorded<'a> {
     fn caller(&mut self, _pid: u32, _uid: u32, _gid: u32) -> Caller {
         match self.present {
             Some(exchange) => Caller {
-                groups: groups_of(exchange),
+                groups: groups_of(self.alloc, exchange),
                 caps: Caps::all(),
             },
             None => Caller::unknown(),
@@ -146,12 +146,12 @@ fn are_same(one: &[u8], other: &[u8]) -> bool {
     one == other
 }
 
-/// The groups that are recorded, where they are known.
-pub fn groups_of(exchange: &Exchange) -> Option<Groups> {
+/// The groups that are recorded, where they are known and there is memory for them.
+pub fn groups_of(alloc: Global, exchange: &Exchange) -> Option<Groups> {
     let Some(recorded) = &exchange.groups else {
         return None;
     };
-    let mut groups = Groups::new();
+    let mut groups = Groups::new(alloc);
     for group in recorded {
         if groups.push(*group).is_err() {
             return None;

@@ -18,6 +18,7 @@ use std::mem;
 // A kernel that plays a recording, with other requests in between, and with bytes that are changed.
 #[derive(Drop)]
 struct Changing<'a> {
+    alloc: Global,
     chance: Chance,
     recordings: &'a [Recording],
     // The recording that is played.
@@ -84,6 +85,7 @@ fn play_session(
     };
     let size = chance.below(400).saturating_add(1).min(most);
     let mut kernel = Changing {
+        alloc,
         chance: *chance,
         recordings,
         played,
@@ -216,7 +218,7 @@ impl<'a> Kernel for Changing<'a> {
             Caps::all()
         };
         Caller {
-            groups: groups_of(exchange),
+            groups: groups_of(self.alloc, exchange),
             caps,
         }
     }

@@ -15,7 +15,7 @@ loop-word-preserved-then-is_empty c =
 
 pub loop-word-preserved : goal.loop-word-preserved
 loop-word-preserved c =
-    one_id_more (λ x. x.now) c.loop-word.yielded c.in-Some.word c.loop-word.groups c.push.new.self c.in_ok-id.id c.loop-word.invariant c.in_ok-id.ensures c.in-Ok.ensures.added
+    one_id_more (λ x. x.now) c.loop-word.yielded c.in-Some.word c.loop-word.groups c.push.new.self c.in-Some-id_of.id c.loop-word.invariant c.in-Some-id_of.ensures c.in_ok-push.ensures
 
 pub returns : goal.returns
 returns c =

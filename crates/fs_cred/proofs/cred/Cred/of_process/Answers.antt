@@ -1,5 +1,5 @@
 use Rattle.std.proofs.Common.{rules}
-use Rattle.fs_cred.proofs.cred.Cred.with_caps.Goals as goal
+use Rattle.fs_cred.proofs.cred.Cred.of_process.Goals as goal
 
 pub returns-in_err-from_slice-clause-many : goal.returns-in_err-from_slice-clause-many
 returns-in_err-from_slice-clause-many c = search rules
