@@ -1,7 +1,8 @@
 -- How calls behave: in a directory, on an object, by a process of who asks and by the server's own.
-use Rattle.std.specs.Prelude.{◌≡◌, ℕ, ◌==◌, Bool, true, false, ◌&&◌, ◌||◌, List, codes, Option, None, Some, is_some, Result, Ok, Err, IsTrue, if◌then◌else◌}
+use Rattle.std.specs.Prelude.{◌≡◌, ℕ, ◌==◌, Bool, true, false, ◌&&◌, ◌||◌, List, [], ◌∷◌, codes, All, Option, None, Some, is_some, unwrap_or, Result, Ok, Err, IsTrue, if◌then◌else◌}
 use Rattle.std.proofs.Common.{refl, sym, ap, subst, ◌∙◌, arith}
 use Rattle.std.proofs.lemmas.Bool.Decides.{nat_tests}
+use Rattle.std.proofs.lemmas.List.Elements.{All-head, All-tail, All-same, All-weaker, All-contains_itself}
 use Rattle.fs_cred.specs.declared.errno.Errno.TheVariants.{EACCES, ENOTDIR}
 use Rattle.fs_model.specs.Limits.{root}
 use Rattle.fs_model.specs.declared.call.Call.{Call}
@@ -16,14 +17,14 @@ use Rattle.fuse_plans.specs.declared.stop.Stop.TheVariants.{Lacks}
 use Rattle.fuse_plans.specs.declared.stop.OtherErrno.TheVariants.{ESTALE}
 use Rattle.fuse_plans.specs.Stops.{failed, is_for}
 use Rattle.fuse_state.specs.declared.place.Place.{Place}
-use Rattle.fuse_state.specs.Servers.{Server, number_of, place_of}
-use Rattle.fuse_plans.specs.Works.{Work, give, stop, kept, goes_on, ◌>>=◌, ◌>>◌, needed, ask, refusal_in, unless_refused, obtain, or_closed, replied_status, unexpected}
-use Rattle.fuse_plans.specs.Callers.{between, inside, done_between, look_inside, on, or_inside, at_place, by_place, the_looker, by_looker, look, look_at, is_known_directory, the_number, directory_number, only_directory, standing_directory, has_place}
+use Rattle.fuse_state.specs.Servers.{Server, number_of, kind_of, places_of, first_of}
+use Rattle.fuse_plans.specs.Works.{Work, give, stop, kept, goes_on, ◌>>=◌, ◌>>◌, attempt, needed, ask, refusal_in, unless_refused, obtain, or_closed, replied_status, unexpected}
+use Rattle.fuse_plans.specs.Callers.{between, inside, done_between, look_inside, on, or_inside, first_refusal, or_next, by_places, by_place, the_looker, by_looker, look, look_at, is_known_directory, the_number, directory_number, only_directory, standing_directory, has_place}
 use Rattle.fuse_plans.specs.Paths.{only_path}
-use Rattle.fuse_plans.specs.Acts.{Subject, Away, gone_to, node_of_object, own_directory, second_directory, IsStandingDirectory, IsObject, IsOfRequest, is_known, is_itself, named_in, ActsWithin, on_one, Concerns, acts, on_root, without_path}
+use Rattle.fuse_plans.specs.Acts.{Subject, Away, gone_to, node_of_object, own_directory, second_directory, IsStandingDirectory, IsObject, IsKnownPlace, IsOfRequest, is_known, is_itself, named_in, ActsWithin, on_one, Concerns, acts, on_root, without_path}
 use Rattle.fuse_plans.specs.Conduct
 use Rattle.fuse_plans.specs.Conduct.{Known, Rights, MayCall, as_caller, as_looker, shows, MayAsk, conduct, known_after, away_after, Fits, IsNobodyElse, MayEnter, IsCaller, only_looks}
-use Rattle.fuse_plans.proofs.Conducts.{Any, Still, still-number, still-place, Left, LeftTo, Does, Lasts, Gives, then-does_to, does-does_to, gives-give, gives-stop, does-give, does-stop, does-kept, does->>=, does-attempt, does-needed, does-unless_refused, fits-any}
+use Rattle.fuse_plans.proofs.Conducts.{Any, Still, still-number, still-places, Left, LeftTo, Does, Lasts, Gives, then-does_to, does-does_to, gives-give, gives-stop, does-give, does-stop, does-kept, does->>=, does-attempt, does-needed, does-unless_refused, fits-any}
 
 -- where P holds, the process may make the call
 abbrev pub CanCall : Rights → (Server → Type 0) → ℕ → Call → Type 0
@@ -33,10 +34,14 @@ CanCall rights P pid call = (known : Known) (s : Server) → Fits rights P known
 abbrev pub IsPathOf : (List ℕ → Call) → Type 0
 IsPathOf call = (path : List ℕ) → only_path (call path) ≡ Some path
 
--- the object of the request, whose place is one that may be used
+-- the object of the request, whose places are ones that may be used
 pub record About (rights : Rights) (P : Server → Type 0) (n : ℕ) : Type 0 where
   pub object : IsObject rights.subject n
-  pub places : (s : Server) (p : Place) → P s → place_of s n ≡ Some p → IsOfRequest rights.subject p
+  pub places : (s : Server) → P s → All (IsOfRequest rights.subject) (places_of s n)
+
+-- by this place, what is acted on is of the request
+abbrev pub ActsAt : Subject → Option ℕ → (List ℕ → Call) → Place → Type 0
+ActsAt r second call p = ActsWithin r p.directory (unwrap_or second p.directory) (call p.name)
 
 -- what is known while the process is away
 record Out (rights : Rights) (P : Server → Type 0) (pid : ℕ) (known : Known) (s : Server) : Type 0 where
@@ -196,22 +201,31 @@ module _ {rights : Rights} {P : Server → Type 0} where
       choose true = does-between pid n n (call (codes ".")) (may (codes ".")) (on_one (codes ".") refl (takes (codes ".")) (is_itself object refl))
       choose false = does-stop e
 
-  does-at_place : (pid n : ℕ) (call : List ℕ → Call) → ((path : List ℕ) → CanCall rights P pid (call path)) → IsPathOf call → IsObject rights.subject n
-      → (p : Place) → IsOfRequest rights.subject p → Does rights P (at_place pid n call p)
-  does-at_place pid n call may takes object p is =
-      does->>= (does-kept _) (λ kind.
-      does->>= (does-attempt (does-between pid p.directory p.directory (call p.name) (may p.name) (on_one p.name refl (takes p.name) is))) (λ r.
-      does-or_inside pid n call kind r may takes object))
+  does-or_next : {next : Stop → Work Reply} → ((e : Stop) → Does rights P (next e)) → (r : Result Reply Stop) → Does rights P (or_next next r)
+  does-or_next rest (Ok reply) = does-give reply
+  does-or_next {next} rest (Err e) = choose (is_for EACCES e)
+    where
+      choose : (b : Bool) → Does rights P (if b then next e else stop e)
+      choose true = rest e
+      choose false = does-stop e
+
+  pub does-by_places : (pid : ℕ) (second : Option ℕ) (call : List ℕ → Call) (before : Stop) (places : List Place) → ((path : List ℕ) → CanCall rights P pid (call path))
+      → All (ActsAt rights.subject second call) places → Does rights P (by_places pid second call before places)
+  unfolding by_places
+  does-by_places pid second call before [] may act = does-stop before
+  does-by_places pid second call before (p ∷ others) may act =
+      does->>= (does-attempt (does-between pid p.directory _ (call p.name) (may p.name) (All-head (ActsAt rights.subject second call) p others act)))
+      (does-or_next (λ e. does-by_places pid second call (first_refusal before e) others may (All-tail (ActsAt rights.subject second call) p others act)))
 
   does-by_place : (pid n : ℕ) (call : List ℕ → Call) → ((path : List ℕ) → CanCall rights P pid (call path)) → IsPathOf call → About rights P n
       → Does rights P (by_place pid n call)
-  unfolding kept give stop ◌>>=◌
-  does-by_place pid n call may takes about = record { goes = λ known s fits. placed known s fits (place_of s n) refl }
+  unfolding kept ◌>>=◌
+  does-by_place pid n call may takes about = record { goes = λ known s fits. (by s fits.holds).goes known s fits }
     where
-      placed : (known : Known) (s : Server) → Fits rights P known s → (o : Option Place) → place_of s n ≡ o
-          → KeepsTo (conduct rights) (Left rights P) known (followed_by (needed (Lacks ESTALE) o s) (goes_on (at_place pid n call)))
-      placed known s fits None is = fits
-      placed known s fits (Some p) is = (does-at_place pid n call may takes about.object p (about.places s p fits.holds is)).goes known s fits
+      by : (s : Server) → P s → Does rights P (attempt (by_places pid None call (Lacks ESTALE) (places_of s n)) >>= or_inside pid n call (kind_of s n))
+      by s holds =
+          let act = All-weaker (IsOfRequest rights.subject) (ActsAt rights.subject None call) (λ p is. on_one p.name refl (takes p.name) is) (places_of s n) (about.places s holds) in
+          does->>= (does-attempt (does-by_places pid None call (Lacks ESTALE) (places_of s n) may act)) (λ r. does-or_inside pid n call (kind_of s n) r may takes about.object)
 
   pub does-on : (pid n : ℕ) (call : List ℕ → Call) → ((path : List ℕ) → CanCall rights P pid (call path)) → IsPathOf call → About rights P n
       → Does rights P (on pid n call)
@@ -283,9 +297,19 @@ pub is-object : (rights : Rights) (node : ℕ) → AsksOf rights node → (n : �
 is-object rights node asks n was = subst (λ k. number_of rights.subject.start k ≡ Some n) (sym asks) was
 
 module _ {rights : Rights} where
+  -- where names are as they were, each place is a known one
+  pub known-places : {s : Server} → Still rights s → (n : ℕ) → All (IsKnownPlace rights.subject.start n) (places_of s n)
+  known-places {s} still n =
+      All-same (IsKnownPlace rights.subject.start n) (places_of s n) (places_of rights.subject.start n) (still-places still n)
+      (All-contains_itself (places_of rights.subject.start n))
+
   -- of an object, where names are as they were
   pub about-still : (n : ℕ) → IsObject rights.subject n → About rights (Still rights) n
-  about-still n object = record { object = object; places = λ s p still is. is_known n object (sym (still-place still n) ∙ is) }
+  about-still n object = record {
+    object = object;
+    places = λ s still.
+        All-weaker (IsKnownPlace rights.subject.start n) (IsOfRequest rights.subject) (λ p is. is_known n object is) (places_of s n) (known-places still n);
+  }
 
   pub gives-number : {F : ℕ → Type 0} (node : ℕ) → ((n : ℕ) → WasNumber rights node n → F n) → Gives rights F (the_number node)
   unfolding the_number kept give stop ◌>>=◌
@@ -315,5 +339,5 @@ module _ {rights : Rights} where
       placed : (n : ℕ) → WasNumber rights node n → (known : Known) (s : Server) → Fits rights (Still rights) known s → (b : Bool) → has_place s n ≡ b
           → KeepsTo (conduct rights) (LeftTo rights (λ n. Still rights) F) known ((if b then give n else stop (Lacks ESTALE)) s)
       placed n was known s fits true is =
-          (fits, says n (record { of_node = was; has_place = ap (λ o. n == root || is_some o) (sym (still-place fits.holds n)) ∙ is }))
+          (fits, says n (record { of_node = was; has_place = ap (λ l. n == root || is_some (first_of l)) (sym (still-places fits.holds n)) ∙ is }))
       placed n was known s fits false is = fits-any fits

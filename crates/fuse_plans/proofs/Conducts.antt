@@ -5,7 +5,7 @@ use Rattle.fs_model.specs.declared.reply.Reply.{Reply}
 use Rattle.fs_model.specs.declared.reply.Reply.TheVariants.{Done, Pid, Fd, Data, Wrote, At, Target, Mask, Shown, Granted, Acl, Names, Space, Refused}
 use Rattle.fuse_plans.specs.Plans.{Plan, Finish, Ask, followed_by, Restraint, KeepsTo}
 use Rattle.fuse_plans.specs.declared.stop.Stop.{Stop}
-use Rattle.fuse_state.specs.Servers.{Server, number_of, place_of}
+use Rattle.fuse_state.specs.Servers.{Server, number_of, places_in, places_of}
 use Rattle.fuse_plans.specs.Works.{Work, give, stop, kept, keep, goes_on, ◌>>=◌, attempt, of_result, needed, unless_refused}
 use Rattle.fuse_plans.specs.Conduct.{Known, Rights, conduct, Fits}
 
@@ -79,9 +79,9 @@ still-number {rights} {s} still node =
     ap (λ k. number_of (record s { kinds = k }) node) still.kinds
     ∙ ap (λ g. number_of (record s { kinds = t.kinds; generations = g }) node) still.generations
 
--- and an object has the place that it had
-pub still-place : {rights : Rights} {s : Server} → Still rights s → (n : ℕ) → place_of s n ≡ place_of rights.subject.start n
-still-place {rights} {s} still n = ap (λ l. place_of (record s { names = l }) n) still.names
+-- and an object has the places that it had
+pub still-places : {rights : Rights} {s : Server} → Still rights s → (n : ℕ) → places_of s n ≡ places_of rights.subject.start n
+still-places {rights} {s} still n = ap (λ l. places_in l n) still.names
 
 -- ---- pieces
 

@@ -11,5 +11,6 @@ pub mod Replays
 pub mod RequestConducts
 pub mod RowsOfBytes
 pub mod RowsOfNames
+pub mod RowsOfPlaces
 pub mod RowsOfStale
 pub mod ToldNodes

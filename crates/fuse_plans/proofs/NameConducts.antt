@@ -1,6 +1,7 @@
 -- How requests for names behave.
-use Rattle.std.specs.Prelude.{◌≡◌, ℕ, Bool, true, false, List, Option, None, Some, unwrap_or, Result, Ok, Err, IsTrue, if◌then◌else◌}
+use Rattle.std.specs.Prelude.{◌≡◌, ℕ, Bool, true, false, List, All, Option, None, Some, unwrap_or, Result, Ok, Err, IsTrue, if◌then◌else◌}
 use Rattle.std.proofs.Common.{refl, sym, ap, subst, ◌∙◌}
+use Rattle.std.proofs.lemmas.List.Elements.{All-weaker}
 use Rattle.fs_cred.specs.declared.errno.Errno.TheVariants.{ENOENT}
 use Rattle.fs_model.specs.declared.call.Call.{Call}
 use Rattle.fs_model.specs.declared.call.Call.TheVariants.{Lstat, Link as LinkCall}
@@ -16,17 +17,17 @@ use Rattle.fuse_plans.specs.declared.request.Asked.{Asked}
 use Rattle.fuse_protocol.specs.declared.operation.Operation.TheVariants.{Rename, Link}
 use Rattle.fuse_protocol.specs.declared.reply.Time.{Time}
 use Rattle.fuse_state.specs.declared.place.Place.{Place}
-use Rattle.fuse_state.specs.Servers.{Server, place_of, named, kind_of, with_generation, with_name, without_name}
+use Rattle.fuse_state.specs.Servers.{Server, places_of, named, kind_of, with_generation, with_name, without_name}
 use Rattle.fuse_state.specs.Changes.{is_gone, found, changed_if, removed, named_if, moved_to, moved, linked}
-use Rattle.fuse_state.proofs.StateLaws.{latest_is_the_place}
+use Rattle.fuse_state.proofs.StateLaws.{all_places_then}
 use Rattle.fuse_plans.specs.Paths.{only_path}
-use Rattle.fuse_plans.specs.Acts.{Subject, given_name, node_of_object, IsGivenName, IsNewName, is_new, IsStandingDirectory, IsObject, IsOfRequest, is_given, is_new_name, named_in, ActsWithin, on_one, moves, links, without_path}
+use Rattle.fuse_plans.specs.Acts.{Subject, given_name, node_of_object, IsGivenName, IsNewName, is_new, IsStandingDirectory, IsObject, IsKnownPlace, IsOfRequest, is_given, is_new_name, named_in, ActsWithin, on_one, moves, links, without_path}
 use Rattle.fuse_plans.specs.Conduct.{Known, Rights, conduct, Fits, stays}
 use Rattle.fuse_plans.specs.Works.{give, stop, kept, keep, goes_on, ◌>>=◌, ◌>>◌, needed}
-use Rattle.fuse_plans.specs.Callers.{done_between}
+use Rattle.fuse_plans.specs.Callers.{done_between, by_places}
 use Rattle.fuse_plans.specs.NamePlans.{place, plain_name, directory_for, tell_entry, or_absent, searched_directory, find_name, made, directory_and_caller, make_link, make_directory, open_and_close, make_file, remove, none_there, may_move, rename, move_name, link_by_place, add_link}
-use Rattle.fuse_plans.proofs.Conducts.{Any, Still, still-place, SameOwn, Left, LeftTo, Does, Lasts, DoesTo, Gives, does-give, does-stop, does-kept, does->>=, does-attempt, does-lasts, lasts->>=, ends->>=, keep-lasts, then-lasts, then-does_to, does-does_to, attempt-does_to, gives-give}
-use Rattle.fuse_plans.proofs.Calls.{CanCall, does-obtain, does-between, does-done_between, does-look_inside, lasts-with_looker, looks, does-look, is-object, gives-number, gives-standing_directory}
+use Rattle.fuse_plans.proofs.Conducts.{Any, Still, SameOwn, Left, LeftTo, Does, Lasts, DoesTo, Gives, does-give, does-stop, does-kept, does->>=, does-attempt, does-lasts, lasts->>=, ends->>=, keep-lasts, then-lasts, then-does_to, does-does_to, attempt-does_to, gives-give}
+use Rattle.fuse_plans.proofs.Calls.{CanCall, ActsAt, does-obtain, does-between, does-done_between, does-by_places, known-places, does-look_inside, lasts-with_looker, looks, does-look, is-object, gives-number, gives-standing_directory}
 use Rattle.fuse_plans.proofs.Chosen.{OfCaller, about-caller, gives-with, does-caller, does-caller_with_room}
 use Rattle.fuse_plans.proofs.Forms.{caller-can, does-if, does-replied_fd, ends-keep}
 
@@ -143,7 +144,7 @@ module _ {rights : Rights} (r : Asked) (node : rights.subject.node ≡ r.node) w
 
 -- where the object may be looked at once it has one more name
 abbrev Leads : Rights → ℕ → Server → Type 0
-Leads rights n s = (q : Place) → place_of s n ≡ Some q → IsOfRequest rights.subject q
+Leads rights n s = All (IsOfRequest rights.subject) (places_of s n)
 
 module _ {rights : Rights} (r : Asked) (is : rights.cred ≡ r.cred) (node : rights.subject.node ≡ r.node) where
   pub lasts-find_name : (name : List ℕ) → given_name rights.subject.operation ≡ Some name → Lasts rights (Still rights) (find_name r name)
@@ -202,21 +203,22 @@ module _ {rights : Rights} (r : Asked) (is : rights.cred ≡ r.cred) (node : rig
 
   linked-leads : (now : Time) (pid d n : ℕ) (name : List ℕ) (kind : Option FileType) → IsObject rights.subject n → IsNameIn rights.subject name d
       → (s : Server) → OfCaller rights pid s → Leads rights n (linked now (named_in d name) n kind s)
-  linked-leads now pid d n name None object in_it s of q leads = (about-caller pid n object).places s q of leads
-  linked-leads now pid d n name (Some kind) object in_it s of q leads =
-      let both : Some (named_in d name) ≡ Some q = sym (latest_is_the_place s (named_in d name) n kind) ∙ leads in
-      subst (λ o. IsOfRequest rights.subject (unwrap_or o q)) both (is_given in_it)
+  linked-leads now pid d n name None object in_it s of = (about-caller pid n object).places s of
+  linked-leads now pid d n name (Some kind) object in_it s of =
+      all_places_then (IsOfRequest rights.subject) s (named_in d name) n kind (is_given in_it) ((about-caller pid n object).places s of)
 
   does-link_by_place : (pid n d : ℕ) (name : List ℕ) → IsObject rights.subject n → IsNameIn rights.subject name d
       → Does rights (OfCaller rights pid) (link_by_place pid n d name)
-  unfolding link_by_place kept give stop ◌>>=◌
-  does-link_by_place pid n d name object in_it = record { goes = λ known s fits. placed known s fits (place_of s n) refl }
+  unfolding link_by_place kept ◌>>=◌
+  does-link_by_place pid n d name object in_it = record { goes = λ known s fits. (by s fits.holds.still).goes known s fits }
     where
-      placed : (known : Known) (s : Server) → Fits rights (OfCaller rights pid) known s → (o : Option Place) → place_of s n ≡ o
-          → KeepsTo (conduct rights) (Left rights (OfCaller rights pid)) known (followed_by (needed (failed ENOENT) o s) (goes_on (λ p. done_between pid p.directory d (LinkCall p.name name))))
-      placed known s fits None at = fits
-      placed known s fits (Some p) at =
-          (does-done_between pid p.directory d _ (caller-can pid _ refl) (links n p.name name refl object (sym (still-place fits.holds.still n) ∙ at) in_it)).goes known s fits
+      linked_from : List ℕ → Call
+      linked_from old = LinkCall old name
+
+      by : (s : Server) → Still rights s → Does rights (OfCaller rights pid) (by_places pid (Some d) linked_from (failed ENOENT) (places_of s n) >>= (λ _. give {X = Unit {0}} tt))
+      by s still =
+          let act = All-weaker (IsKnownPlace rights.subject.start n) (ActsAt rights.subject (Some d) linked_from) (λ p is. links n p.name name refl object is in_it) (places_of s n) (known-places still n) in
+          does->>= (does-by_places pid (Some d) linked_from (failed ENOENT) (places_of s n) (λ path. caller-can pid _ refl) act) (λ reply. does-give tt)
 
   pub lasts-add_link : (old_node : ℕ) (name : List ℕ) → rights.subject.operation ≡ Some (Link old_node name) → Lasts rights (Still rights) (add_link r old_node name)
   lasts-add_link old_node name asks =
@@ -226,4 +228,4 @@ module _ {rights : Rights} (r : Asked) (is : rights.cred ≡ r.cred) (node : rig
       lasts->>= (does-link_by_place pid n d name object in_it) (λ done.
       lasts->>= (does-kept _) (λ kind.
       keep-lasts {Q = Leads rights n} (linked r.now (named_in d name) n kind) (linked-same r.now (named_in d name) n kind) (linked-leads r.now pid d n name kind object in_it)
-      (does-lasts (does->>= (does-look n (record { object = object; places = λ s q leads at. leads q at })) (λ status. does-tell_entry status))))))))
+      (does-lasts (does->>= (does-look n (record { object = object; places = λ s leads. leads })) (λ status. does-tell_entry status))))))))

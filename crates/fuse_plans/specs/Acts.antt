@@ -4,13 +4,14 @@
 --     IsStandingDirectory, IsGivenName, IsNewName        names that are given, in directories that stand
 --     ActsWithin, Concerns        in which directories a call may be made
 use Rattle.std.specs.Prelude.{◌≡◌, ℕ, List, codes, Option, None, Some, IsTrue}
+use Rattle.std.specs.List.{Contains}
 use Rattle.fs_model.specs.Limits.{root}
 use Rattle.fs_model.specs.declared.call.Call.{Call}
 use Rattle.fs_model.specs.declared.call.Call.TheVariants.{Link as LinkCall, Rename as RenameCall}
 use Rattle.fuse_protocol.specs.declared.operation.Operation.{Operation}
 use Rattle.fuse_protocol.specs.declared.operation.Operation.TheVariants.{Lookup, SymLink, MkNod, MkDir, Unlink, RmDir, Rename, Link, Create}
 use Rattle.fuse_state.specs.declared.place.Place.{Place}
-use Rattle.fuse_state.specs.Servers.{Server, number_of, place_of}
+use Rattle.fuse_state.specs.Servers.{Server, number_of, places_of}
 use Rattle.fuse_plans.specs.Callers.{has_place}
 use Rattle.fuse_plans.specs.Paths.{only_path, names_in}
 
@@ -69,9 +70,9 @@ node_of_object (Some operation) node = node_asked operation node
 abbrev pub IsObject : Subject → ℕ → Type 0
 IsObject r n = number_of r.start (node_of_object r.operation r.node) ≡ Some n
 
--- where the server knows an object
+-- where the server knows an object: one of its names
 abbrev pub IsKnownPlace : Server → ℕ → Place → Type 0
-IsKnownPlace s n p = place_of s n ≡ Some p
+IsKnownPlace s n p = Contains (places_of s n) p
 
 -- ---- what is acted on
 
@@ -86,7 +87,7 @@ abbrev pub named_in : ℕ → List ℕ → Place
 named_in directory name = record { directory = directory; name = name }
 
 -- What may be asked with names of a directory, and with second names of another one: a call on one name that is of the request;
--- to rename what has the name that is given, to the new one; or to give the object the name that is given too, by its known one.
+-- to rename what has the name that is given, to the new one; or to give the object the name that is given too, by a known one.
 pub data ActsWithin (r : Subject) (directory second : ℕ) (call : Call) : Type 0 where
   on_one : (name : List ℕ) → second ≡ directory → only_path call ≡ Some name → IsOfRequest r (named_in directory name)
       → ActsWithin r directory second call

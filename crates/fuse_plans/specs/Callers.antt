@@ -1,8 +1,9 @@
 -- For whom a request is performed, and by which process.
 --     caller, caller_with_room        a process of it; one that can hold one more descriptor
 --     inside, between, done_between        a call in a directory, and in two
---     on, by_looker, look        a call on an object, by its latest place; by the server's own process; what stat(2) shows of it
-use Rattle.std.specs.Prelude.{ℕ, zero, suc, ◌==◌, Bool, true, false, ◌&&◌, ◌||◌, List, codes, Option, None, Some, is_some, Result, Ok, Err, if◌then◌else◌}
+--     by_places, on        a call by one place after another; on an object, by where it is known
+--     by_looker, look        a call on an object by the server's own process; what stat(2) shows of it
+use Rattle.std.specs.Prelude.{ℕ, zero, suc, ◌==◌, Bool, true, false, ◌&&◌, ◌||◌, List, [], ◌∷◌, codes, Option, None, Some, is_some, unwrap_or, Result, Ok, Err, if◌then◌else◌}
 use Rattle.fs_cred.specs.declared.errno.Errno.TheVariants.{EACCES, EAGAIN, ENOTDIR}
 use Rattle.fs_cred.specs.Credentials.{Credential}
 use Rattle.fs_model.specs.declared.call.Call.{Call}
@@ -17,7 +18,7 @@ use Rattle.fuse_plans.specs.declared.stop.Stop.{Stop}
 use Rattle.fuse_plans.specs.declared.stop.Stop.TheVariants.{Lacks}
 use Rattle.fuse_plans.specs.Stops.{failed, is_for}
 use Rattle.fuse_plans.specs.declared.stop.OtherErrno.TheVariants.{ENFILE, ESTALE}
-use Rattle.fuse_state.specs.Servers.{Server, number_of, kind_of, place_of, first_process, partly_used, idle_process, are_many, next_idle, with_process, without_process, owner_of, descriptor_of, handle_for}
+use Rattle.fuse_state.specs.Servers.{Server, number_of, kind_of, places_of, place_of, first_process, partly_used, idle_process, are_many, next_idle, with_process, without_process, owner_of, descriptor_of, handle_for}
 use Rattle.fuse_state.specs.declared.place.Place.{Place}
 use Rattle.fuse_plans.specs.Works.{Work, give, stop, kept, keep, ◌>>=◌, ◌>>◌, attempt, needed, ask, is_refused_for, unless_refused, obtain, unexpected, replied_pid, replied_status}
 
@@ -129,17 +130,31 @@ abbrev pub or_inside : ℕ → ℕ → (List ℕ → Call) → Option FileType �
 or_inside pid n call kind (Ok reply) = give reply
 or_inside pid n call kind (Err e) = if is_for EACCES e && is_known_directory kind then inside pid n (call (codes ".")) else stop e
 
-abbrev pub at_place : ℕ → ℕ → (List ℕ → Call) → Place → Work Reply
-at_place pid n call p = do
-  kind ← kept (λ s. kind_of s n)
-  reply ← attempt (inside pid p.directory (call p.name))
-  or_inside pid n call kind reply
+-- a call with this name; a second name of the call may be one of another directory
+abbrev pub at_place : ℕ → Option ℕ → (List ℕ → Call) → Place → Work Reply
+at_place pid second call p = between pid p.directory (unwrap_or second p.directory) (call p.name)
+
+-- the refusal that stands where each place is refused for permission: the first
+abbrev pub first_refusal : Stop → Stop → Stop
+first_refusal before e = if is_for EACCES before then before else e
+
+-- Who is refused by one place goes on to the next.
+abbrev pub or_next : (Stop → Work Reply) → Result Reply Stop → Work Reply
+or_next next (Ok reply) = give reply
+or_next next (Err e) = if is_for EACCES e then next e else stop e
+
+-- By one place after another, until the call isn't refused for permission. Where no place is left it stops, as it would have before.
+unfoldable pub by_places : ℕ → Option ℕ → (List ℕ → Call) → Stop → List Place → Work Reply
+by_places pid second call before [] = stop before
+by_places pid second call before (p ∷ others) =
+    attempt (at_place pid second call p) >>= or_next (λ e. by_places pid second call (first_refusal before e) others)
 
 abbrev pub by_place : ℕ → ℕ → (List ℕ → Call) → Work Reply
 by_place pid n call = do
-  place ← kept (λ s. place_of s n)
-  p ← needed (Lacks ESTALE) place
-  at_place pid n call p
+  kind ← kept (λ s. kind_of s n)
+  places ← kept (λ s. places_of s n)
+  reply ← attempt (by_places pid None call (Lacks ESTALE) places)
+  or_inside pid n call kind reply
 
 unfoldable pub on : ℕ → ℕ → (List ℕ → Call) → Work Reply
 on pid n call = if n == root then obtain (Calls pid (call (codes "/"))) else by_place pid n call

@@ -1,6 +1,6 @@
 -- Plans of requests for names: each is asked of a directory, and performed by a process of who asks.
 --     find_name, make_link, make_file, make_directory, remove, move_name, add_link
-use Rattle.std.specs.Prelude.{ℕ, ◌==◌, nat_lt, Bool, true, false, ◌||◌, List, codes, bytes_eq, Result, Ok, Err, if◌then◌else◌, bit_and}
+use Rattle.std.specs.Prelude.{ℕ, ◌==◌, nat_lt, Bool, true, false, ◌||◌, List, codes, bytes_eq, Some, Result, Ok, Err, if◌then◌else◌, bit_and}
 use Rattle.fs_cred.specs.declared.errno.Errno.TheVariants.{EPERM, ENOENT, EEXIST, EINVAL}
 use Rattle.fs_model.specs.declared.call.Call.{Call}
 use Rattle.fs_model.specs.declared.call.Call.TheVariants.{Open as OpenCall, Close, Lstat, Mkdir, Rmdir, Link as LinkCall, Symlink, Rename as RenameCall, Umask, Unlink}
@@ -16,11 +16,11 @@ use Rattle.fuse_protocol.specs.declared.reply.Time.{Time}
 use Rattle.fuse_plans.specs.declared.reply.ReplyBody.{ReplyBody}
 use Rattle.fuse_plans.specs.declared.reply.ReplyBody.TheVariants.{Nothing, Found}
 use Rattle.fuse_plans.specs.declared.reply.Attributes.{Attributes}
-use Rattle.fuse_state.specs.Servers.{Server, node_of, kind_of, place_of, times_of, born}
+use Rattle.fuse_state.specs.Servers.{Server, node_of, kind_of, places_of, times_of, born}
 use Rattle.fuse_state.specs.Changes.{found, removed, moved, linked}
 use Rattle.fuse_state.specs.declared.place.Place.{Place}
-use Rattle.fuse_plans.specs.Works.{Work, give, stop, kept, keep, ◌>>=◌, ◌>>◌, attempt, needed, obtain, replied_fd}
-use Rattle.fuse_plans.specs.Callers.{caller, caller_with_room, the_looker, inside, done_between, look_inside, look, the_number, standing_directory}
+use Rattle.fuse_plans.specs.Works.{Work, give, stop, kept, keep, ◌>>=◌, ◌>>◌, attempt, obtain, replied_fd}
+use Rattle.fuse_plans.specs.Callers.{caller, caller_with_room, the_looker, inside, done_between, by_places, look_inside, look, the_number, standing_directory}
 use Rattle.fuse_plans.specs.Flags.{making}
 
 -- the directory and a name in it
@@ -207,12 +207,12 @@ move_name r name new_node new_name flags = do
   pid ← caller r.cred
   move_to r.now flags pid (place d name) new new_name
 
--- an object gets one more name, by its latest
+-- an object gets one more name, by one of those that are known
 unfoldable pub link_by_place : ℕ → ℕ → ℕ → List ℕ → Work (Unit {0})
 link_by_place pid n d name = do
-  known ← kept (λ s. place_of s n)
-  p ← needed (failed ENOENT) known
-  done_between pid p.directory d (LinkCall p.name name)
+  places ← kept (λ s. places_of s n)
+  by_places pid (Some d) (λ old. LinkCall old name) (failed ENOENT) places
+  give tt
 
 -- once the object has the name too
 abbrev pub tell_linked : Time → Place → ℕ → Work ReplyBody

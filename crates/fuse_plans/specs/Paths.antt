@@ -1,6 +1,6 @@
 -- The path of a call that has one.
 --     at_path, path_in        the call with another path; its path, or another where it has none
---     takes_path        it has one
+--     takes_path        it has one, and of a link the old one counts
 --     name_in, names_in        the name that a call is about, or the two
 --     only_path        the path of a call that has just one
 use Rattle.std.specs.Prelude.{ℕ, Bool, true, false, List, Option, None, Some}
@@ -17,6 +17,7 @@ at_path (Chown old owner group) path = Chown path owner group
 at_path (GetAcl old which) path = GetAcl path which
 at_path (SetAcl old which acl) path = SetAcl path which acl
 at_path (Readlink old) path = Readlink path
+at_path (Link old new) path = Link path new
 at_path call path = call
 
 abbrev pub path_in : Call → List ℕ → List ℕ
@@ -29,6 +30,7 @@ path_in (Chown old owner group) path = old
 path_in (GetAcl old which) path = old
 path_in (SetAcl old which acl) path = old
 path_in (Readlink old) path = old
+path_in (Link old new) path = old
 path_in call path = path
 
 abbrev pub takes_path : Call → Bool
@@ -41,6 +43,7 @@ takes_path (Chown old owner group) = true
 takes_path (GetAcl old which) = true
 takes_path (SetAcl old which acl) = true
 takes_path (Readlink old) = true
+takes_path (Link old new) = true
 takes_path call = false
 
 abbrev pub name_in : Call → Option (List ℕ)

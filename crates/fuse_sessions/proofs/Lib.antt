@@ -1,4 +1,5 @@
 mod Answerings
+mod ByPlaces
 mod Doings
 mod Pieces
 mod Writings

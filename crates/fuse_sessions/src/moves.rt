@@ -4,14 +4,13 @@ ghost use Rattle.fuse_plans.specs.Callers.{done_between};
 ghost use Rattle.fuse_plans.specs.NamePlans.{remove, removal, nothing_to_replace, may_move, rename, move_to, move_name, link_by_place, tell_linked, link_as, add_link};
 ghost use Rattle.fuse_sessions.specs.Performing.{Did};
 ghost use Rattle.fuse_steps.specs.Performing.{DidByMachine};
-ghost use Rattle.fs_model.specs.declared.call.Call.TheVariants.{Link as LinkCall};
 
 use crate::session::Session;
 use fs_cred::Cred;
-use fs_model::{Call, Name, Path};
+use fs_model::{Call, Path};
 use fuse_plans::{Asked, ReplyBody, Stop};
 use fuse_protocol::Time;
-use fuse_state::{Found, Lent, Place};
+use fuse_state::Place;
 use fuse_steps::Machine;
 use fuse_steps::asker::{done, done_between, inside};
 use fuse_steps::name::{found_body, none_there, only_no_replace, place, plain_name};
@@ -61,41 +60,6 @@ fn nothing_to_replace<M: Machine>(
     }
     let (there, name) = inside(machine, pid, directory, Call::Lstat(name));
     (none_there(there), name)
-}
-
-// What was found at a place that was lent gets one more name. Both come back.
-fn link_at<M: Machine>(
-    machine: &mut M,
-    pid: usize,
-    lent: Lent,
-    directory: u32,
-    name: Path,
-) -> (Result<(), Stop>, Lent, Path)
-    ensures did { let old = lent.found.place in
-        DidByMachine M.Serves (done_between pid old.directory directory (LinkCall old.name name)) machine.old machine.new result.0 }
-    ensures lent { result.1 ≡ lent }
-    ensures name { result.2 ≡ name }
-{
-    let Lent { at, found } = lent;
-    let Found { place, inode } = found;
-    let Place {
-        directory: old_directory,
-        name: old_name,
-    } = place;
-    let call = Call::Link {
-        old: Path::new(old_name.into_bytes()),
-        new: name,
-    };
-    let tried = done_between(machine, pid, old_directory, directory, &call);
-    let Some((old, new)) = names_in(call) else {
-        unreachable!()
-    };
-    let place = Place {
-        directory: old_directory,
-        name: Name::new(old.into_bytes()),
-    };
-    let found = Found { place, inode };
-    (tried, Lent { at, found }, new)
 }
 
 impl<M: Machine> Session<M> {
@@ -189,7 +153,7 @@ impl<M: Machine> Session<M> {
         self.rename(now, pid, old, place(new, new_name))
     }
 
-    // An object gets one more name, by its latest. The new one comes back.
+    // An object gets one more name, by one of those that are known. The new one comes back.
     fn link_by_place(
         &mut self,
         pid: usize,
@@ -201,13 +165,13 @@ impl<M: Machine> Session<M> {
         ensures name { result.1 ≡ name }
         ensures kept { self.new.server ≡ self.old.server }
     {
-        let blank = Name::new(Vec::new(self.alloc));
-        let Some(lent) = self.server.lend_place(inode, blank) else {
-            return (Err(Stop::ENOENT), name);
+        let old = self.blank_path();
+        let mut call = Call::Link { old, new: name };
+        let tried = self.by_places(pid, inode, Some(directory), Stop::ENOENT, &mut call);
+        let Some((_blank, name)) = names_in(call) else {
+            unreachable!()
         };
-        let (tried, lent, name) = link_at(&mut self.machine, pid, lent, directory, name);
-        self.server.give_back(lent);
-        (tried, name)
+        (done(tried), name)
     }
 
     // The object has the name too.

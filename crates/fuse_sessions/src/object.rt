@@ -1,7 +1,7 @@
 //! Calls on objects, by the names under which they were found.
 ghost use Rattle.std.specs.Prelude.{◌≡◌, Err, IsTrue, MatchResult};
-ghost use Rattle.fuse_state.specs.Servers.{kind_of};
-ghost use Rattle.fuse_plans.specs.Callers.{inside, or_inside, on, by_looker, has_place, by_handle, look_at, look, look_inside};
+ghost use Rattle.fuse_state.specs.Servers.{kind_of, places_of};
+ghost use Rattle.fuse_plans.specs.Callers.{inside, at_place, first_refusal, by_places, or_inside, on, by_looker, has_place, by_handle, look_at, look, look_inside};
 ghost use Rattle.fuse_plans.specs.FilePlans.{when, done};
 ghost use Rattle.fuse_plans.specs.Paths.{at_path, takes_path};
 ghost use Rattle.fuse_sessions.specs.Performing.{Did};
@@ -20,16 +20,16 @@ use fuse_steps::asker::{between, done, inside, obtain_once};
 use fuse_steps::path::swap_path;
 use fuse_steps::replies::status_of_reply;
 
-// A call on a name that was lent, and comes back.
+// A call on a name that was lent, and comes back; a second name of the call may be one of another directory.
 fn call_at<M: Machine>(
     machine: &mut M,
     pid: usize,
     lent: Lent,
+    second: Option<u32>,
     call: &mut Call,
 ) -> (Result<Reply, Stop>, Lent)
     requires { IsTrue (takes_path call.old) }
-    ensures did { let place = lent.found.place in
-        DidByMachine M.Serves (inside pid place.directory (at_path call.old place.name)) machine.old machine.new result.0 }
+    ensures did { DidByMachine M.Serves (at_place pid second (at_path call.old) lent.found.place) machine.old machine.new result.0 }
     ensures lent { result.1 ≡ lent }
     ensures call { call.new ≡ call.old }
 {
@@ -38,7 +38,7 @@ fn call_at<M: Machine>(
     let Place { directory, name } = place;
     let mut path = Path::new(name.into_bytes());
     swap_path(call, &mut path);
-    let reply = between(machine, pid, directory, directory, call);
+    let reply = between(machine, pid, directory, second.unwrap_or(directory), call);
     swap_path(call, &mut path);
     let place = Place {
         directory,
@@ -46,6 +46,17 @@ fn call_at<M: Machine>(
     };
     let found = Found { place, inode };
     (reply, Lent { at, found })
+}
+
+// The refusal that stands where each place is refused for permission.
+fn first_refusal(before: Stop, refusal: Stop) -> Stop
+    ensures { result ≡ first_refusal before refusal }
+{
+    if before.is_for(Errno::EACCES) {
+        before
+    } else {
+        refusal
+    }
 }
 
 /// What stat(2) shows, in a reply that may be a refusal.
@@ -107,7 +118,46 @@ impl<M: Machine> Session<M> {
         done(self.on_once(pid, inode, call))
     }
 
-    /// A call on an object, by its latest place; the root needs none. The path of the call isn't looked at, and stays.
+    /// A call by the places of an object in turn, the latest first, until it isn't refused for permission. The stop is what comes
+    /// where the object has none. A second name of the call may be one of another directory. The path of the call isn't looked
+    /// at, and stays.
+    pub(crate) fn by_places(
+        &mut self,
+        pid: usize,
+        inode: u32,
+        second: Option<u32>,
+        unplaced: Stop,
+        call: &mut Call,
+    ) -> Result<Reply, Stop>
+        requires { IsTrue (takes_path call.old) }
+        ensures did { let places = places_of self.old.server.server inode in
+            Did M.Serves (by_places pid second (at_path call.old) unplaced places) self.old self.new result }
+        ensures kept { self.new.server ≡ self.old.server }
+        ensures call { call.new ≡ call.old }
+    {
+        let mut stop = unplaced;
+        let mut end = self.server.names_count();
+        while let Some(lent) = self
+            .server
+            .lend_place(inode, end, Name::new(Vec::new(self.alloc)))
+        {
+            end = lent.at;
+            let (tried, lent) = call_at(&mut self.machine, pid, lent, second, call);
+            self.server.give_back(lent);
+            match tried {
+                Ok(reply) => return Ok(reply),
+                Err(refusal) => {
+                    if !refusal.is_for(Errno::EACCES) {
+                        return Err(refusal);
+                    }
+                    stop = first_refusal(stop, refusal);
+                }
+            }
+        }
+        Err(stop)
+    }
+
+    /// A call on an object, by where it is known; the root needs no name. The path of the call isn't looked at, and stays.
     pub(crate) fn on(&mut self, pid: usize, inode: u32, call: &mut Call) -> Result<Reply, Stop>
         requires { IsTrue (takes_path call.old) }
         ensures did { Did M.Serves (on pid inode (at_path call.old)) self.old self.new result }
@@ -117,13 +167,7 @@ impl<M: Machine> Session<M> {
         if inode == ROOT {
             return self.machine.obtain_at_root(pid, call);
         }
-        let blank = Name::new(Vec::new(self.alloc));
-        let Some(lent) = self.server.lend_place(inode, blank) else {
-            return Err(Stop::ESTALE);
-        };
-        let (tried, lent) = call_at(&mut self.machine, pid, lent, call);
-        self.server.give_back(lent);
-        match tried {
+        match self.by_places(pid, inode, None, Stop::ESTALE, call) {
             Ok(reply) => Ok(reply),
             Err(stop) => self.or_inside(pid, inode, call, stop),
         }

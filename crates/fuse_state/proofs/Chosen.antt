@@ -17,6 +17,16 @@ mapped v h P None m says is = is
 mapped v h P (Some x) None says is = absurd is
 mapped v h P (Some x) (Some y) says is = ap Some (says x y is)
 
+-- the first of what is made of those that pass
+pub first-of_mapped : {X Y : Type 0} (f : X → Y) (test : X → Bool) (xs : List X) → first_of (map f (filter test xs)) ≡ option_map f (find test xs)
+first-of_mapped f test [] = refl
+first-of_mapped {X} {Y} f test (x ∷ xs) = go (test x) (first-of_mapped f test xs)
+  where
+    go : (b : Bool) → first_of (map f (filter test xs)) ≡ option_map f (find test xs)
+        → first_of (map f (cond b (x ∷ filter test xs) (filter test xs))) ≡ option_map f (cond b (Some x) (find test xs))
+    go true rest = refl
+    go false rest = rest
+
 -- the key of the entry that was found
 pub key-found : {A X : Type 0} (v : A → ℕ × X) (P : A → ℕ → Type 0) (test : ℕ × X → Bool) (o : Option A) (k : Option ℕ) {shown kept : List (ℕ × X)}
     → ((x : A) (y : ℕ) → P x y → y ≡ (v x).0) → MatchOption o (k ≡ None) (λ x. IsSomeAnd k (P x)) → option_map v o ≡ find test shown → shown ≡ kept
@@ -51,13 +61,7 @@ module _ {X : Type 0} where
       go false rest = rest
 
   pub first-chosen : (chosen : ℕ × X → Bool) (m : List (ℕ × X)) → first_of (keys (filter chosen m)) ≡ option_map (λ e. e.0) (find chosen m)
-  first-chosen chosen [] = refl
-  first-chosen chosen (e ∷ m) = go (chosen e) (first-chosen chosen m)
-    where
-      go : (b : Bool) → first_of (keys (filter chosen m)) ≡ option_map (λ d. d.0) (find chosen m)
-          → first_of (keys (cond b (e ∷ filter chosen m) (filter chosen m))) ≡ option_map (λ d. d.0) (cond b (Some e) (find chosen m))
-      go true rest = refl
-      go false rest = rest
+  first-chosen chosen m = first-of_mapped (λ (e : ℕ × X). e.0) chosen m
 
   -- a test of what a function has at the keys, where that is what stands there
   chosen_by : (f : ℕ → Option X) (test : Option X → Bool) (m : List (ℕ × X))

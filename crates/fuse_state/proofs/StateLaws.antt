@@ -1,11 +1,12 @@
 -- The laws of what a server keeps.
-use Rattle.std.specs.Prelude.{◌≡◌, ◌≢◌, ◌==◌, ℕ, ◌+◌, ◌*◌, ◌%◌, ◌/◌, ◌^◌, ◌<◌, Bool, true, false, not, ◌&&◌, cond, if◌then◌else◌, List, [], ◌∷◌, ◌++◌, reverse, bytes_eq, is_some, unwrap_or, option_map, Option, None, Some, IsSome, IsTrue, refl}
-use Rattle.std.proofs.Common.{sym, ap, ◌∙◌, arith}
+use Rattle.std.specs.Prelude.{◌≡◌, ◌≢◌, ◌==◌, ℕ, ◌+◌, ◌*◌, ◌%◌, ◌/◌, ◌^◌, ◌<◌, Bool, true, false, not, ◌&&◌, cond, if◌then◌else◌, List, [], ◌∷◌, ◌++◌, map, reverse, All, bytes_eq, is_some, unwrap_or, option_map, Option, None, Some, IsSome, IsTrue, refl}
+use Rattle.std.proofs.Common.{sym, ap, subst, ◌∙◌, arith}
 use Rattle.std.specs.List.{filter, find}
 use Rattle.std.specs.Option.{option_or}
 use Rattle.std.specs.Ordering.{nat_cmp}
 use Rattle.std.proofs.lemmas.Bool.Decides.{nat_tests}
-use Rattle.std.proofs.lemmas.List.{reverse-append}
+use Rattle.std.proofs.lemmas.List.{append-nil, reverse-append}
+use Rattle.std.proofs.lemmas.List.Elements.{All-same, All-cons, All-head, All-tail, filter-append}
 use Rattle.std.proofs.lemmas.List.Folds.{find-append}
 use Rattle.std.proofs.lemmas.Slice.Eq.{bytes_eq-Decides}
 use Rattle.fs_layout.specs.Maps.{get, with_entry}
@@ -16,7 +17,7 @@ use Rattle.fuse_state.specs.Changes.{is_gone, renewed, found}
 use Rattle.fuse_state.specs.declared.place.Found.{Found}
 use Rattle.fuse_state.specs.declared.place.Place.{Place}
 use Rattle.fuse_state.specs.Laws.{HandlesTellDescriptors, NodesLeadBack, StaleNodesLeadNowhere, NewNodesLedNowhere, OtherNodesStay, FoundNodesLeadBack, GoneNodesLeadNowhere, FoundNodesLedNowhere, KnownNodesStay, OtherNodesStayThen, NamesAreKept, LatestNameIsThePlace}
-use Rattle.fuse_state.specs.Servers.{Server, generation_of, with_generation, kind_of, node_of, number_of, is_place, with_name, without_name, born}
+use Rattle.fuse_state.specs.Servers.{Server, generation_of, with_generation, kind_of, node_of, number_of, is_place, places_of, first_of, with_name, without_name, born}
 
 pub handles_tell : HandlesTellDescriptors
 handles_tell pid fd lt = (omega arith, omega arith)
@@ -197,10 +198,11 @@ module _ (names : List Found) (p : Place) where
         ∙ or_none _
         ∙ stays q other
 
-    found_latest : (rest : List Found) → find (λ found. found.inode == n) (reverse (rest ++ new ∷ [])) ≡ Some new
-    found_latest rest =
-        ap (find (λ found. found.inode == n)) (reverse-append rest (new ∷ []))
-        ∙ ap (λ b. cond b (Some new) (find (λ found. found.inode == n) (reverse rest))) (equal n n refl)
+    first_latest : (rest : List Found)
+        → filter (λ found. found.inode == n) (reverse (rest ++ new ∷ [])) ≡ new ∷ filter (λ found. found.inode == n) (reverse rest)
+    first_latest rest =
+        let before = filter (λ found. found.inode == n) (reverse rest) in
+        ap (filter (λ found. found.inode == n)) (reverse-append rest (new ∷ [])) ∙ ap (λ b. cond b (new ∷ before) before) (equal n n refl)
 
 pub names_are_kept : NamesAreKept
 names_are_kept s p n kind = record {
@@ -210,6 +212,52 @@ names_are_kept s p n kind = record {
   besides_removed = λ q other. ap (option_map (λ found. found.inode)) (stays s.names p q other);
 }
 
+-- ---- places
+
+-- the name is the latest place of the object
+pub places_then : (s : Server) (p : Place) (n : ℕ) (kind : FileType) → places_of (with_name p n kind s) n ≡ p ∷ places_of (without_name p s) n
+places_then s p n kind = ap (map (λ found. found.place)) (first_latest s.names p n (without_name p s).names)
+
 pub latest_is_the_place : LatestNameIsThePlace
-latest_is_the_place s p n kind =
-    ap (option_map (λ found. found.place)) (found_latest s.names p n (without_name p s).names)
+latest_is_the_place s p n kind = ap first_of (places_then s p n kind)
+
+module _ {X : Type 0} (test : X → Bool) where
+  -- what passes, the last first
+  filter-reverse : (xs : List X) → reverse (filter test xs) ≡ filter test (reverse xs)
+  filter-reverse [] = refl
+  filter-reverse (x ∷ xs) =
+      go (test x) (filter-reverse xs)
+      ∙ sym (filter-append test (reverse xs) (x ∷ []))
+      ∙ ap (filter test) (sym (reverse-append (x ∷ []) xs))
+    where
+      go : (b : Bool) → reverse (filter test xs) ≡ filter test (reverse xs)
+          → reverse (cond b (x ∷ filter test xs) (filter test xs)) ≡ filter test (reverse xs) ++ cond b (x ∷ []) []
+      go true rest = reverse-append (x ∷ []) (filter test xs) ∙ ap (λ l. l ++ x ∷ []) rest
+      go false rest = rest ∙ sym (append-nil (filter test (reverse xs)))
+
+-- what holds of what passes, holds where fewer are tested
+module _ {X Y : Type 0} (P : Y → Type 0) (f : X → Y) (test other : X → Bool) where
+  fewer : (xs : List X) → All P (map f (filter test xs)) → All P (map f (filter test (filter other xs)))
+  fewer [] all = all
+  fewer (x ∷ xs) all = go (other x) (test x) refl all (fewer xs)
+    where
+      go : (b a : Bool) → test x ≡ a → All P (map f (cond a (x ∷ filter test xs) (filter test xs)))
+          → (All P (map f (filter test xs)) → All P (map f (filter test (filter other xs))))
+          → All P (map f (filter test (cond b (x ∷ filter other xs) (filter other xs))))
+      go true true t all rest =
+          subst (λ a. All P (map f (cond a (x ∷ filter test (filter other xs)) (filter test (filter other xs))))) (sym t)
+          (All-cons P (f x) (map f (filter test (filter other xs))) (All-head P (f x) (map f (filter test xs)) all) (rest (All-tail P (f x) (map f (filter test xs)) all)))
+      go true false t all rest = subst (λ a. All P (map f (cond a (x ∷ filter test (filter other xs)) (filter test (filter other xs))))) (sym t) (rest all)
+      go false true t all rest = rest (All-tail P (f x) (map f (filter test xs)) all)
+      go false false t all rest = rest all
+
+-- what holds of the new name and of each place, holds of each place then
+pub all_places_then : (P : Place → Type 0) (s : Server) (p : Place) (n : ℕ) (kind : FileType) → P p → All P (places_of s n) → All P (places_of (with_name p n kind s) n)
+all_places_then P s p n kind new all =
+    let test = λ (found : Found). found.inode == n in
+    let others = λ (found : Found). not (is_place p found.place) in
+    All-same P (places_of (with_name p n kind s) n) (p ∷ places_of (without_name p s) n) (places_then s p n kind)
+    (All-cons P p (places_of (without_name p s) n) new
+    (All-same P (places_of (without_name p s) n) (map (λ found. found.place) (filter test (filter others (reverse s.names))))
+    (ap (λ l. map (λ found. found.place) (filter test l)) (filter-reverse others s.names))
+    (fewer P (λ found. found.place) test others (reverse s.names) all)))

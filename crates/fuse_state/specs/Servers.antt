@@ -1,12 +1,13 @@
 -- What a server keeps between requests. Its maps are lists of entries with rising keys.
 --     Server, new_server        the whole
 --     node_of, number_of        nodes, by which the kernel names objects, and the numbers of their inodes
---     named, place_of, with_name, without_name, born        names, all that were found and still stand
+--     named, with_name, without_name, born        names, all that were found and still stand
+--     places_of, places_before, place_of        where an object is known
 --     times_of, touched, changed        times of objects
 --     processes_of, held_by, ..        processes, and the descriptors that they hold
 --     owner_of, descriptor_of, handle_of        a handle is a process and one of its descriptors
 --     opened, with_directory, without_directory        open directories
-use Rattle.std.specs.Prelude.{ℕ, ◌+◌, ◌*◌, ◌/◌, ◌%◌, ◌^◌, ◌==◌, nat_eq, nat_lt, nat_le, Bool, true, false, not, ◌&&◌, ◌||◌, List, [], ◌∷◌, ◌++◌, length, map, reverse, bytes_eq, Option, None, Some, is_some, unwrap_or, option_map, if◌then◌else◌}
+use Rattle.std.specs.Prelude.{ℕ, ◌+◌, ◌*◌, ◌/◌, ◌%◌, ◌^◌, ◌==◌, nat_eq, nat_lt, nat_le, Bool, true, false, not, ◌&&◌, ◌||◌, List, [], ◌∷◌, ◌++◌, length, map, reverse, take, bytes_eq, Option, None, Some, is_some, unwrap_or, option_map, if◌then◌else◌}
 use Rattle.std.specs.Ordering.{nat_cmp}
 use Rattle.std.specs.List.{filter, find}
 use Rattle.std.specs.Cmp.Lexicographic.{pointwise}
@@ -91,9 +92,24 @@ is_place p q = p.directory == q.directory && bytes_eq p.name q.name
 abbrev pub named : Server → Place → Option ℕ
 named s p = option_map (λ found. found.inode) (find (λ found. is_place p found.place) s.names)
 
+-- where an object is known by these names, the latest first
+abbrev pub places_in : List Found → ℕ → List Place
+places_in names n = map (λ found. found.place) (filter (λ found. found.inode == n) (reverse names))
+
+abbrev pub places_of : Server → ℕ → List Place
+places_of s n = places_in s.names n
+
+-- by the first so many names alone
+abbrev pub places_before : Server → ℕ → ℕ → List Place
+places_before s before n = places_in (take before s.names) n
+
+abbrev pub first_of : {X : Type 0} → List X → Option X
+first_of [] = None
+first_of (x ∷ xs) = Some x
+
 -- the latest
 abbrev pub place_of : Server → ℕ → Option Place
-place_of s n = option_map (λ found. found.place) (find (λ found. found.inode == n) (reverse s.names))
+place_of s n = first_of (places_of s n)
 
 abbrev pub without_name : Place → Server → Server
 without_name p s = record s { names = filter (λ found. not (is_place p found.place)) s.names }
@@ -182,10 +198,6 @@ idle s pids = filter (λ pid. not (holds_some s pid)) pids
 
 abbrev pub busy : Server → List ℕ → List ℕ
 busy s pids = filter (holds_some s) pids
-
-abbrev pub first_of : {X : Type 0} → List X → Option X
-first_of [] = None
-first_of (x ∷ xs) = Some x
 
 abbrev pub first_process : Server → Credential → Option ℕ
 first_process s cred = first_of (processes_of s cred)

@@ -3,7 +3,7 @@
 use Rattle.std.specs.Prelude.{◌≡◌, ℕ, true, false, List}
 use Rattle.std.proofs.Common.{refl}
 use Rattle.fs_model.specs.declared.call.Call.{Call}
-use Rattle.fs_model.specs.declared.call.Call.TheVariants.{Open, Lstat, Access, Truncate, Chmod, Chown, GetAcl, SetAcl, Readlink}
+use Rattle.fs_model.specs.declared.call.Call.TheVariants.{Open, Lstat, Access, Truncate, Chmod, Chown, GetAcl, SetAcl, Readlink, Link}
 use Rattle.fuse_plans.specs.Paths.{at_path, path_in, takes_path}
 
 pub swapped-back : (call : Call) (path : List ℕ) → takes_path call ≡ true → at_path (at_path call path) (path_in call path) ≡ call
@@ -16,6 +16,7 @@ swapped-back (Chown old owner group) path is = refl
 swapped-back (GetAcl old which) path is = refl
 swapped-back (SetAcl old which acl) path is = refl
 swapped-back (Readlink old) path is = refl
+swapped-back (Link old new) path is = refl
 swapped-back call path is = absurd (let no : false ≡ true = is in cc)
 
 pub path-back : (call : Call) (path other : List ℕ) → takes_path call ≡ true → path_in (at_path call path) other ≡ path
@@ -28,4 +29,5 @@ path-back (Chown old owner group) path other is = refl
 path-back (GetAcl old which) path other is = refl
 path-back (SetAcl old which acl) path other is = refl
 path-back (Readlink old) path other is = refl
+path-back (Link old new) path other is = refl
 path-back call path other is = absurd (let no : false ≡ true = is in cc)

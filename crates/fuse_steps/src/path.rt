@@ -5,7 +5,7 @@ ghost use Rattle.fuse_plans.specs.Paths.{at_path, path_in, name_in, names_in};
 use fs_model::{Call, Path};
 use std::mem;
 
-/// The call gets another path, and the path that it had comes back. A call without a path, or with two, stays.
+/// The call gets another path, and the path that it had comes back: of a link the old one. A call that takes none stays.
 pub fn swap_path(call: &mut Call, path: &mut Path)
     ensures call { call.new ≡ at_path call.old path.old }
     ensures path { path.new ≡ path_in call.old path.old }
@@ -20,6 +20,7 @@ pub fn swap_path(call: &mut Call, path: &mut Path)
         Call::GetAcl(old, _) => mem::swap(old, path),
         Call::SetAcl(old, _, _) => mem::swap(old, path),
         Call::Readlink(old) => mem::swap(old, path),
+        Call::Link { old, .. } => mem::swap(old, path),
         _ => {}
     }
 }

@@ -24,7 +24,7 @@ enum Step {
     Opened(u64, Entry, u32, bool, bool),
     // An object has a handle.
     Held(u32),
-    Lent(u32),
+    Lent(u32, usize),
     Written(u64, u32),
     Changed(u64, u32),
     TimesSet(u64, u32),
@@ -152,10 +152,11 @@ fn held(server: &mut Server, inode: u32) -> Result<u64, AllocError> {
     Ok(0)
 }
 
-// The letter that is lent and given back.
-fn lent(server: &mut Server, alloc: Global, inode: u32) -> Result<u64, AllocError> {
+// The letter, of the first so many names, that is lent and given back.
+fn lent(server: &mut Server, alloc: Global, inode: u32, before: usize) -> Result<u64, AllocError> {
     let blank = Name::from_slice(alloc, b"")?;
-    let Some(lent) = server.lend_place(inode, blank) else {
+    let before = before.min(server.names_count());
+    let Some(lent) = server.lend_place(inode, before, blank) else {
         return Ok(0);
     };
     let letter = letter_of(&lent.found.place);
@@ -226,7 +227,7 @@ fn answered(server: &mut Server, alloc: Global, step: Step) -> Result<u64, Alloc
             (new, cut),
         ),
         Step::Held(inode) => held(server, inode),
-        Step::Lent(inode) => lent(server, alloc, inode),
+        Step::Lent(inode, before) => lent(server, alloc, inode, before),
         Step::Written(now, inode) => written(server, now, inode),
         Step::Changed(now, inode) => changed(server, now, inode),
         Step::TimesSet(time, inode) => times_set(server, time, inode),
@@ -240,7 +241,7 @@ fn answered(server: &mut Server, alloc: Global, step: Step) -> Result<u64, Alloc
     }
 }
 
-const ROWS: [(Step, u64); 96] = [
+const ROWS: [(Step, u64); 99] = [
     // The root is node 1. What the kernel was never told of is stale.
     (Step::Node(1), 1),
     (Step::Number(1), 1),
@@ -259,7 +260,10 @@ const ROWS: [(Step, u64); 96] = [
     // One more name: the latest is the place, and all are kept.
     (Step::Linked(20, (1, b'b'), 5), 0),
     (Step::Letter(5), 98),
-    (Step::Lent(5), 98),
+    (Step::Lent(5, 9), 98),
+    (Step::Lent(5, 2), 98),
+    (Step::Lent(5, 1), 97),
+    (Step::Lent(5, 0), 0),
     (Step::Letter(5), 98),
     (Step::Named((1, b'a')), 5),
     (Step::Mtime(5), 10),
@@ -284,7 +288,7 @@ const ROWS: [(Step, u64); 96] = [
     (Step::Directory(5), 7),
     (Step::Directory(6), 0),
     (Step::Letter(6), 0),
-    (Step::Lent(6), 0),
+    (Step::Lent(6, 9), 0),
     (Step::Ctime(6), 50),
     (Step::Ctime(5), 50),
     (Step::Mtime(5), 10),

@@ -1,6 +1,6 @@
 //! Names that were found and still stand.
-ghost use Rattle.std.specs.Prelude.{◌≡◌, ◌+◌, ◌≤◌, option_copied, IsNone, IfSome};
-ghost use Rattle.fuse_state.specs.Servers.{named, place_of, with_name, without_name, born};
+ghost use Rattle.std.specs.Prelude.{◌≡◌, ◌+◌, ◌<◌, ◌≤◌, [], ◌∷◌, length, option_copied, IsNone, IfSome};
+ghost use Rattle.fuse_state.specs.Servers.{named, places_before, place_of, with_name, without_name, born};
 ghost use Rattle.fuse_state.specs.Rooms.{given_back};
 
 use super::Server;
@@ -72,20 +72,29 @@ impl Server {
         self.touch(now, directory);
     }
 
-    /// The name by which an object was found last, as its own: it is to be given back by [`Server::give_back`] before anything
-    /// else is asked of the server. An empty name stands for it meanwhile.
-    pub fn lend_place(&mut self, inode: u32, blank: Name) -> Option<Lent>
-        ensures none { IsNone result → place_of self.old.server inode ≡ None }
-        ensures found { IfSome result (λ lent. place_of self.old.server inode ≡ Some lent.found.place) }
+    /// How many names there are.
+    pub fn names_count(&self) -> usize
+        ensures { result ≡ length self.now.server.names }
+    {
+        self.names.len()
+    }
+
+    /// The name by which an object was found last, of the first so many, as its own: it is to be given back by
+    /// [`Server::give_back`] before anything else is asked of the server. An empty name stands for it meanwhile.
+    pub fn lend_place(&mut self, inode: u32, before: usize, blank: Name) -> Option<Lent>
+        requires { before ≤ length self.old.server.names }
+        ensures none { IsNone result → places_before self.old.server before inode ≡ [] }
+        ensures found { IfSome result (λ lent.
+            places_before self.old.server before inode ≡ lent.found.place ∷ places_before self.old.server lent.at inode) }
+        ensures earlier { IfSome result (λ lent. lent.at < before) }
         ensures kept { IfSome result (λ lent. self.old ≡ given_back lent self.new) }
         ensures same { IsNone result → self.new ≡ self.old }
     {
-        let later = self
-            .names
+        let later = self.names[..before]
             .iter()
             .rev()
             .position(|found| found.inode == inode)?;
-        let at = self.names.len() - 1 - later;
+        let at = before - 1 - later;
         let found = &mut self.names[at];
         let name = mem::replace(&mut found.place.name, blank);
         let directory = found.place.directory;
