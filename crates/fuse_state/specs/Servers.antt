@@ -173,6 +173,10 @@ without_process pid s = record s { processes = without nat_cmp s.processes pid }
 abbrev pub with_the_looker : ℕ → Server → Server
 with_the_looker pid s = record s { looker = Some pid }
 
+-- the kernel judges by ACLs only where it offers that
+abbrev pub with_acls_offered : Bool → Server → Server
+with_acls_offered offered s = record s { settings = record s.settings { posix_acl = s.settings.posix_acl && offered } }
+
 abbrev pub handle_of : ℕ → ℕ → ℕ
 handle_of pid fd = descriptors_limit * pid + fd
 

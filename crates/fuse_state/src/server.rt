@@ -1,6 +1,6 @@
 //! A server's state.
 ghost use Rattle.std.specs.Prelude.{◌≡◌, IfOk, OnOk, OnErr};
-ghost use Rattle.fuse_state.specs.Servers.{new_server, with_the_looker, with_end};
+ghost use Rattle.fuse_state.specs.Servers.{new_server, with_the_looker, with_acls_offered, with_end};
 
 mod changes;
 mod directories;
@@ -136,6 +136,14 @@ impl Server {
         ensures room { self.new.room ≡ self.old.room }
     {
         self.looker = Some(pid);
+    }
+
+    /// Whether the kernel offers to judge by ACLs too. Where it doesn't, the server judges alone.
+    pub fn agree_on_acls(&mut self, offered: bool)
+        ensures kept { self.new.server ≡ with_acls_offered offered self.old.server }
+        ensures room { self.new.room ≡ self.old.room }
+    {
+        self.settings.posix_acl = self.settings.posix_acl && offered;
     }
 
     /// Whether it was told to end.

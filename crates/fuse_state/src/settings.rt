@@ -7,7 +7,7 @@ use fuse_protocol::Time;
 pub struct Settings {
     /// The most bytes of one write.
     pub max_write: u32,
-    /// The kernel judges ACLs too: `FUSE_POSIX_ACL`.
+    /// The kernel judges before it asks, by modes and ACLs: `FUSE_POSIX_ACL`. Until the first request this is only wanted.
     pub posix_acl: bool,
     /// All data sectors.
     pub sectors: u32,
