@@ -3,7 +3,9 @@ pub mod Chosen
 pub mod Conducts
 pub mod FileConducts
 pub mod Forms
+pub mod JudgedLookups
 pub mod NameConducts
+pub mod NobodyConducts
 pub mod OpenedObjects
 pub mod OtherConducts
 pub mod PlanLaws

@@ -24,8 +24,8 @@ use Rattle.fuse_plans.specs.Paths.{only_path}
 use Rattle.fuse_plans.specs.Acts.{Subject, given_name, node_of_object, IsGivenName, IsNewName, is_new, IsStandingDirectory, IsObject, IsKnownPlace, IsOfRequest, is_given, is_new_name, named_in, ActsWithin, on_one, moves, links, without_path}
 use Rattle.fuse_plans.specs.Conduct.{Known, Rights, conduct, Fits, stays}
 use Rattle.fuse_plans.specs.Works.{give, stop, kept, keep, goes_on, ◌>>=◌, ◌>>◌, needed}
-use Rattle.fuse_plans.specs.Callers.{done_between, by_places}
-use Rattle.fuse_plans.specs.NamePlans.{place, plain_name, directory_for, tell_entry, or_absent, searched_directory, find_name, made, directory_and_caller, make_link, make_directory, open_and_close, make_file, remove, none_there, may_move, rename, move_name, link_by_place, add_link}
+use Rattle.fuse_plans.specs.Callers.{caller, the_looker, done_between, by_places}
+use Rattle.fuse_plans.specs.NamePlans.{place, plain_name, directory_for, tell_entry, or_absent, searched_directory, find_inside, find_name, made, directory_and_caller, make_link, make_directory, open_and_close, make_file, remove, none_there, may_move, rename, move_name, link_by_place, add_link}
 use Rattle.fuse_plans.proofs.Conducts.{Any, Still, SameOwn, Left, LeftTo, Does, Lasts, DoesTo, Gives, does-give, does-stop, does-kept, does->>=, does-attempt, does-lasts, lasts->>=, ends->>=, keep-lasts, then-lasts, then-does_to, does-does_to, attempt-does_to, gives-give}
 use Rattle.fuse_plans.proofs.Calls.{CanCall, ActsAt, does-obtain, does-between, does-done_between, does-by_places, known-places, does-look_inside, lasts-with_looker, looks, does-look, is-object, gives-number, gives-standing_directory}
 use Rattle.fuse_plans.proofs.Chosen.{OfCaller, about-caller, gives-with, does-caller, does-caller_with_room}
@@ -75,6 +75,12 @@ module _ {rights : Rights} {P : Server → Type 0} where
   -- what was found, made or opened is told, and no more is asked
   pub tells-entry : (f : Server → Server) → SameOwn f → (status : Status) → Lasts rights P (keep f >> tell_entry status)
   tells-entry f same status = ends->>= (ends-keep f same) (λ done. does-kept _)
+
+  pub lasts-find_inside : (pid d : ℕ) (name : List ℕ) → CanCall rights P pid (Lstat name) → IsOfRequest rights.subject (named_in d name)
+      → Lasts rights P (find_inside pid d name)
+  lasts-find_inside pid d name can is =
+      lasts->>= (does-look_inside pid d name can is) (λ status.
+      tells-entry _ (found-same (place d name) status.inode status.kind) status)
 
   pub lasts-made : (now : Time) (d : ℕ) (name : List ℕ) → IsOfRequest rights.subject (named_in d name) → Lasts rights P (made now d name)
   unfolding made
@@ -147,12 +153,14 @@ abbrev Leads : Rights → ℕ → Server → Type 0
 Leads rights n s = All (IsOfRequest rights.subject) (places_of s n)
 
 module _ {rights : Rights} (r : Asked) (is : rights.cred ≡ r.cred) (node : rights.subject.node ≡ r.node) where
+  lasts-search : (nobody : Bool) (d : ℕ) (name : List ℕ) → IsNameIn rights.subject name d
+      → Lasts rights (Still rights) ((if nobody then the_looker else caller r.cred) >>= (λ pid. find_inside pid d name))
+  lasts-search true d name in_it =
+      lasts-with_looker (λ pid looker. lasts-find_inside pid d name (looks pid looker (Lstat name) refl) (is_given in_it))
+  lasts-search false d name in_it = then-lasts (does-caller _ is) (λ pid more. lasts-find_inside pid d name (caller-can pid _ refl) (is_given in_it))
+
   pub lasts-find_name : (name : List ℕ) → given_name rights.subject.operation ≡ Some name → Lasts rights (Still rights) (find_name r name)
-  lasts-find_name name given =
-      then-lasts (gives-searched_directory r node name given) (λ d in_it.
-      then-lasts (does-caller _ is) (λ pid more.
-      lasts->>= (does-look_inside pid d name (caller-can pid _ refl) (is_given in_it)) (λ status.
-      tells-entry _ (found-same (place d name) status.inode status.kind) status)))
+  lasts-find_name name given = then-lasts (gives-searched_directory r node name given) (λ d in_it. lasts-search r.needs_nobody d name in_it)
 
   does-directory_and_caller : (name : List ℕ) → given_name rights.subject.operation ≡ Some name
       → DoesTo rights (λ (who : ℕ × ℕ). OfCaller rights who.1) (λ (who : ℕ × ℕ). IsNameIn rights.subject name who.0) (directory_and_caller r name)

@@ -37,6 +37,8 @@ use Rattle.fuse_plans.specs.Callers.{the_number, caller_with_room}
 use Rattle.fuse_plans.specs.FilePlans.{when, done, touched_if, show_open, confirm_shown, confirm_open, cuts_open, ask_first, open_object, open_granted, open_file}
 use Rattle.fuse_plans.specs.Flags.{mode_in, is_trunc}
 use Rattle.fuse_plans.specs.Laws.{OpenedIsTheObject}
+use Rattle.fuse_plans.specs.Requests.{asked_of}
+use Rattle.fuse_plans.specs.Nobody.{needs_nobody_in}
 use Rattle.fuse_plans.specs.Serving.{answered, asked_for, response_of, request_plan}
 use Rattle.fuse_plans.proofs.PlanLaws.{run-parts}
 
@@ -65,7 +67,7 @@ stops_not_well e x s t es replies runs =
     let no : Ok x ≡ Err e = ap (λ r. r.0) ends.2 in cc
 
 -- the event was asked as well where more was asked before
-before : {X : Type 0} (p : Plan X) (es : List Event) (replies : List Reply) (x : X) {e : Event} {reply : Reply} {after fs : List Event} {rest : List Reply}
+pub before : {X : Type 0} (p : Plan X) (es : List Event) (replies : List Reply) (x : X) {e : Event} {reply : Reply} {after fs : List Event} {rest : List Reply}
     → IsRunOf p es replies x → IsAsked e reply after fs rest → IsAsked e reply after (es ++ fs) (replies ++ rest)
 before (Finish y) [] [] x runs asked = asked
 before (Finish y) [] (again ∷ replies) x runs asked = elim runs [ ]
@@ -381,8 +383,8 @@ answered_held r flags false s t es replies handle runs =
 pub opened_is_the_object : OpenedIsTheObject
 unfolding request_plan
 opened_is_the_object r s t flags es replies handle is runs =
-    let found = answered_held r.asked flags.0 r.memory s t es replies handle
-    (subst (λ o. IsRunOf {X = Response × Server} (answered r.memory (asked_for r.asked r.value o) s) es replies (Says (Opened handle), t)) is runs) in
+    let found = answered_held (asked_of r false) flags.0 r.memory s t es replies handle
+    (subst (λ o. IsRunOf {X = Response × Server} (followed_by (needs_nobody_in r.node o s) (λ nobody. answered r.memory (asked_for (asked_of r nobody) r.value o) s)) es replies (Says (Opened handle), t)) is runs) in
     record {
       number = found.number;
       of_node = found.of_node;

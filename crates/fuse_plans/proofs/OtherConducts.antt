@@ -41,6 +41,12 @@ module _ {rights : Rights} {P : Server → Type 0} where
   does-new_owners c n true about =
       does-if _ _ _ (does-stop _) (does->>= (does-look n about) (λ status. does-if _ _ _ (does-stop _) (does-give _)))
 
+module _ {rights : Rights} where
+  pub does-acl_of : (n : ℕ) (which : AclType) → IsObject rights.subject n → Does rights (Still rights) (acl_of n which)
+  does-acl_of n which object =
+      does->>= (does-by_looker n _ (λ path. refl) (λ path. refl) (about-still n object)) (λ reply.
+      does->>= (does-replied_acl reply) (λ acl. does-give _))
+
 -- the handle that a change of the size is asked by is the one of the request
 abbrev pub HandleIs : Rights → Option ℕ → Type 0
 HandleIs rights None = Unit {0}
@@ -195,11 +201,6 @@ module _ {rights : Rights} (r : Asked) (is : rights.cred ≡ r.cred) (asks : Ask
       ends->>= (lasts-listed_anew extent.handle d _ _) (λ names. does-give _)))
 
   -- ---- ACLs that are told
-
-  does-acl_of : (n : ℕ) (which : AclType) → IsObject rights.subject n → Does rights (Still rights) (acl_of n which)
-  does-acl_of n which object =
-      does->>= (does-by_looker n _ (λ path. refl) (λ path. refl) (about-still n object)) (λ reply.
-      does->>= (does-replied_acl reply) (λ acl. does-give _))
 
   does-sized : {P : Server → Type 0} (size has : ℕ) (body : ReplyBody) → Does rights P (sized size has body)
   does-sized size has body = does-if _ _ _ (does-give _) (does-if _ _ _ (does-stop _) (does-give body))

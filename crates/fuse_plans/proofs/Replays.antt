@@ -49,6 +49,7 @@ use Rattle.fuse_plans.specs.Flags.{only}
 use Rattle.fuse_plans.specs.NamePlans.{made, link_by_place}
 use Rattle.fuse_plans.specs.FilePlans.{open_or_make, show_open, confirm_shown, confirm_open, look_open, tell_created, the_open, seek, read_piece, read_pieces, write_piece, write_pieces}
 use Rattle.fuse_plans.specs.DirectoryPlans.{entry_kind, tell_names, list_open, read_directory, close_directory, sync_all}
+use Rattle.fuse_plans.specs.Nobody.{is_masked}
 use Rattle.fuse_plans.specs.Serving.{begin, count_space, end, request_plan}
 
 -- what is asked, and the result, if the plan is done with just these replies
@@ -90,7 +91,7 @@ played s (step ∷ steps) =
 
 -- all that a plan computes with
 unfoldable pub all_plans : Unit {0}
-unfolding give stop kept keep ◌>>=◌ attempt ask retire begin_process caller caller_with_room the_looker between look_inside by_places on look the_number directory_number standing_directory made link_by_place open_or_make show_open confirm_shown confirm_open look_open tell_created the_open seek read_piece read_pieces write_piece write_pieces tell_names list_open read_directory close_directory sync_all begin count_space end request_plan
+unfolding give stop kept keep ◌>>=◌ attempt ask retire begin_process caller caller_with_room the_looker between look_inside by_places on look the_number directory_number standing_directory made is_masked link_by_place open_or_make show_open confirm_shown confirm_open look_open tell_created the_open seek read_piece read_pieces write_piece write_pieces tell_names list_open read_directory close_directory sync_all begin count_space end request_plan
 all_plans = tt
 
 -- ---- words
@@ -109,7 +110,9 @@ abbrev pub asks : ℕ → ℕ → ℕ → Option (List ℕ) → ℕ → Operatio
 asks node uid gid groups now operation replies = (
   record {
     unique = 0;
-    asked = record { node = node; cred = credential_for uid gid (outside groups now); now = second now };
+    node = node;
+    cred = credential_for uid gid (outside groups now);
+    now = second now;
     operation = Some operation;
     value = None;
     memory = true;

@@ -14,17 +14,19 @@ use Rattle.fuse_protocol.specs.declared.operation.Offer.{Offer}
 use Rattle.fuse_protocol.specs.declared.operation.Operation.{Operation}
 use Rattle.fuse_protocol.specs.declared.operation.Operation.TheVariants.{Lookup, Forget, GetAttr, SetAttr, ReadLink, SymLink, MkNod, MkDir, Unlink, RmDir, Rename, Link, Open, Read, Write, StatFs, Release, FSync, SetXAttr, GetXAttr, ListXAttr, RemoveXAttr, Init, OpenDir, ReadDir, ReleaseDir, FSyncDir, Access, Create, Interrupt, Destroy, BatchForget, SyncFs, Unknown}
 use Rattle.fuse_plans.specs.declared.reply.ReplyBody.{ReplyBody}
-use Rattle.fuse_state.specs.Servers.{Server, with_the_looker}
+use Rattle.fuse_state.specs.Servers.{Server, with_the_looker, with_acls_offered}
 use Rattle.fuse_plans.specs.Works.{Work, give, stop, kept, keep, goes_on, ◌>>=◌, ◌>>◌, ask, unless_refused, replied_pid}
-use Rattle.fuse_plans.specs.Requests.{Request}
+use Rattle.fuse_plans.specs.Requests.{Request, asked_of}
+use Rattle.fuse_plans.specs.Nobody.{needs_nobody_in}
 use Rattle.fuse_plans.specs.Acts.{name_of_operation, given_name, node_asked, node_of_object}
 use Rattle.fuse_plans.specs.Conduct.{Known, Rights, conduct, after_spawn}
 use Rattle.fuse_plans.specs.NamePlans.{removal}
-use Rattle.fuse_plans.specs.Serving.{agreed, later_version, or_looker, begin, plan_of, asked_for, response_of, answered, request_plan}
+use Rattle.fuse_plans.specs.Serving.{agreed, later_version, or_looker, offers_acls, begin, plan_of, asked_for, response_of, answered, answered_as, request_plan}
 use Rattle.fuse_plans.specs.Laws.{RunsBehave, server_rights, Begun, BeginningBehaves, handle_of_operation, handle_in, is_beginning, is_init, rights_of, known_in, Ends, RequestsBehave}
 use Rattle.fuse_plans.proofs.PlanLaws.{keeps-follows}
 use Rattle.fuse_plans.proofs.Conducts.{Any, Still, Left, Lasts, does-stop, does-lasts, keeps-followed_by}
 use Rattle.fuse_plans.proofs.Calls.{AsksOf}
+use Rattle.fuse_plans.proofs.NobodyConducts.{AtHome, keeps-needs_nobody_in}
 use Rattle.fuse_plans.proofs.NameConducts.{lasts-find_name, lasts-make_link, lasts-make_directory, lasts-make_file, lasts-remove, lasts-move_name, lasts-add_link}
 use Rattle.fuse_plans.proofs.FileConducts.{lasts-open_file, lasts-create_file, does-read_file, does-write_file, does-close_file}
 use Rattle.fuse_plans.proofs.OtherConducts.{HandleIs, lasts-get_attributes, lasts-set_attributes, lasts-set_xattr, lasts-remove_xattr, lasts-ask_access, lasts-open_directory, lasts-read_link, lasts-read_directory, does-close_directory, lasts-get_xattr, lasts-list_xattrs, does-sync_all, does-sync_file, does-count_space, does-end}
@@ -94,22 +96,25 @@ answers_end : (rights : Rights) (s : Server) → rights.looker ≡ s.looker → 
 answers_end rights s same known r left = record { home = left.home; processes = left.processes; looker = left.looker ∙ same }
 
 answers : (rights : Rights) (s : Server) → rights.looker ≡ s.looker → rights.subject.start ≡ s → (memory : Bool) (work : Option (Work ReplyBody)) → LastsIfAny rights work
-    → KeepsTo (conduct rights) (Ends s) (known_in s) (answered memory work s)
-answers rights s same start memory None lasts = record { home = refl; processes = refl; looker = refl }
-answers rights s same start true (Some w) lasts =
-    keeps-followed_by (conduct rights) (Left rights Any) (Ends s) (w s) (λ r. Finish (response_of r.0, r.1)) (known_in s)
-    (lasts.goes (known_in s) s (record { home = refl; processes = refl; looker = sym same; holds = begins_still }))
-    (λ known r left. answers_end rights s same known r left)
+    → (known : Known) → known.away ≡ None → known.processes ≡ s.processes → KeepsTo (conduct rights) (Ends s) known (answered memory work s)
+answers rights s same start memory None lasts known home processes = record { home = home; processes = processes; looker = refl }
+answers rights s same start true (Some w) lasts known home processes =
+    keeps-followed_by (conduct rights) (Left rights Any) (Ends s) (w s) (λ r. Finish (response_of r.0, r.1)) known
+    (lasts.goes known s (record { home = home; processes = processes; looker = sym same; holds = begins_still }))
+    (λ n r left. answers_end rights s same n r left)
   where
     begins_still : Still rights s
     begins_still = record { kinds = ap (λ t. t.kinds) (sym start); generations = ap (λ t. t.generations) (sym start); names = ap (λ t. t.names) (sym start) }
-answers rights s same start false (Some w) lasts = record { home = refl; processes = refl; looker = refl }
+answers rights s same start false (Some w) lasts known home processes = record { home = home; processes = processes; looker = refl }
 
 pub requests_behave : RequestsBehave
 unfolding request_plan
 requests_behave r s other =
-    answers (rights_of r s) s refl refl r.memory (asked_for r.asked r.value r.operation)
-    (does-asked_for (rights_of r s) r.asked refl refl r.value r.operation refl other refl)
+    keeps-followed_by (conduct (rights_of r s)) (AtHome s) (Ends s) (needs_nobody_in r.node r.operation s) (λ nobody. answered_as nobody r s) (known_in s)
+    (keeps-needs_nobody_in (rights_of r s) r.node refl s refl refl r.operation refl)
+    (λ known nobody left.
+    answers (rights_of r s) s refl refl r.memory (asked_for (asked_of r nobody) r.value r.operation)
+    (does-asked_for (rights_of r s) (asked_of r nobody) refl refl r.value r.operation refl other refl) known left.home left.processes)
 
 -- ---- the first request
 
@@ -118,10 +123,13 @@ Alone s known r = (known.away ≡ None) × (r.1.processes ≡ s.processes)
 
 -- what is done once the server's own process is looked for
 abbrev welcome : Offer → Option ℕ → Work ReplyBody
-welcome offer looker = or_looker looker >> kept (λ t. agreed offer t.settings)
+welcome offer looker = do
+  or_looker looker
+  keep (with_acls_offered (offers_acls offer))
+  kept (λ t. agreed offer t.settings)
 
 spawned_then : (r : Request) (s : Server) (offer : Offer) (known : Known) → known.away ≡ None → (reply : Reply)
-    → KeepsTo (conduct (server_rights r s)) (Alone s) known (followed_by (followed_by (unless_refused reply s) (goes_on (λ done. replied_pid done >>= (λ pid. keep (with_the_looker pid))))) (goes_on (λ _. kept (λ t. agreed offer t.settings))))
+    → KeepsTo (conduct (server_rights r s)) (Alone s) known (followed_by (followed_by (unless_refused reply s) (goes_on (λ done. replied_pid done >>= (λ pid. keep (with_the_looker pid))))) (goes_on (λ _. keep (with_acls_offered (offers_acls offer)) >>= (λ _. kept (λ t. agreed offer t.settings)))))
 unfolding kept keep give stop ◌>>=◌
 spawned_then r s offer known home (Pid k) = (home, refl)
 spawned_then r s offer known home Done = (home, refl)
@@ -181,7 +189,7 @@ begins r s false offer = record { home = refl; processes = refl }
 pub beginning_behaves : BeginningBehaves
 unfolding request_plan
 beginning_behaves r s offer is =
-    subst (λ operation. KeepsTo (conduct (server_rights r s)) (Begun s) (known_in s) (answered r.memory (asked_for r.asked r.value operation) s)) (sym is) (begins r s r.memory offer)
+    subst (λ operation. KeepsTo (conduct (server_rights r s)) (Begun s) (known_in s) (followed_by (needs_nobody_in r.node operation s) (λ nobody. answered r.memory (asked_for (asked_of r nobody) r.value operation) s))) (sym is) (begins r s r.memory offer)
 
 -- ---- what was asked
 

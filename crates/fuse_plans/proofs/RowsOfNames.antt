@@ -1,18 +1,24 @@
--- Recorded requests: a name that goes while its file is open.
-use Rattle.std.specs.Prelude.{◌≡◌, true, false, [], ◌∷◌, codes, None, Some, pos}
+-- Recorded requests: a name that goes while its file is open; and look-ups where the kernel has judged before it asks.
+use Rattle.std.specs.Prelude.{◌≡◌, ℕ, true, false, [], ◌∷◌, codes, None, Some, pos}
 use Rattle.std.proofs.Common.{refl}
+use Rattle.posix_acl.specs.AccessList.{AccessList, minimal}
 use Rattle.posix_acl.specs.Entries.{perms_of}
-use Rattle.fs_cred.specs.declared.errno.Errno.TheVariants.{ENOENT}
+use Rattle.fs_cred.specs.declared.errno.Errno.TheVariants.{ENOENT, EACCES}
+use Rattle.fs_model.specs.declared.call.AclType.TheVariants.{Access as AccessAcl}
 use Rattle.fs_model.specs.declared.call.Whence.TheVariants.{Set}
-use Rattle.fs_model.specs.declared.call.Call.TheVariants.{Open, Read, Write, Lseek, Close, Fstat, Lstat, Access, Ftruncate, Chmod, Readdir, Link, Unlink, Umask}
+use Rattle.fs_model.specs.declared.call.Call.TheVariants.{Open, Read, Write, Lseek, Close, Fstat, Lstat, Access, Ftruncate, GetAcl, Chmod, Readdir, Link, Unlink, Umask}
 use Rattle.fs_model.specs.declared.event.Event.TheVariants.{Call as Calls, Enter, Statfs}
 use Rattle.fs_model.specs.declared.reply.FileType.TheVariants.{File, Directory}
-use Rattle.fs_model.specs.declared.reply.Reply.TheVariants.{Done, Pid, Fd, Data, Wrote, Mask, Shown, Names, Space}
+use Rattle.fs_model.specs.declared.reply.Reply.TheVariants.{Done, Pid, Fd, Data, Wrote, Mask, Shown, Acl, Names, Space}
 use Rattle.fuse_protocol.specs.declared.operation.Operation.TheVariants.{Lookup, Forget, GetAttr, SetAttr, Unlink as UnlinkName, Link as AddLink, Open as OpenFile, Read as ReadFile, Write as WriteFile, StatFs, Release, GetXAttr, Init, OpenDir, ReadDir, ReleaseDir, Access as AskAccess, Create, Unknown}
+use Rattle.fs_model.specs.declared.reply.Status.{Status}
+use Rattle.fuse_protocol.specs.declared.operation.Operation.{Operation}
+use Rattle.fuse_state.specs.Servers.{Server, new_server}
+use Rattle.fuse_plans.specs.declared.reply.Attributes.{Attributes}
 use Rattle.fuse_plans.specs.declared.reply.ReplyBody.TheVariants.{Nothing, Found, Shown as ShownAs, Opened, Created, Bytes, Wrote as WroteBytes, Space as SpaceOf}
 use Rattle.fuse_plans.specs.declared.mode.Mode.TheVariants.{Reads, Writes, Both}
 use Rattle.fuse_plans.specs.Serving.{terms}
-use Rattle.fuse_plans.proofs.Replays.{Silent, Told, Error, played, all_plans, second, new, asks, user, extent, failed, granted, AtOffset, status, attributes, entry, entries, flags}
+use Rattle.fuse_plans.proofs.Replays.{Silent, Told, Error, played, all_plans, second, new, asks, user, extent, failed, granted, AtOffset, status, attributes, entry, entries, acl, flags}
 
 pub unlink_open : played new (
     asks 0 0 0 None 1000000002 (Init (record { major = 7; minor = 45; max_readahead = 131072; flags = record { 0 = 1946157051 } })) ((Pid 1) ∷ [])
@@ -111,3 +117,51 @@ pub unlink_open : played new (
     ∷ []
 unfolding all_plans
 unlink_open = refl
+
+-- ---- the kernel judges before it asks
+
+abbrev pub default_way : Server
+default_way = new_server (record { max_write = 4096; posix_acl = true; sectors = 878; inodes = 63; start = second 1000000001 })
+
+abbrev offer : ℕ → Operation
+offer bits = Init (record { major = 7; minor = 45; max_readahead = 131072; flags = record { 0 = bits } })
+
+-- user 1000 is named, and the mask takes what the entry gives
+abbrev masked : AccessList
+masked = acl (perms_of 7) ((1000, perms_of 5) ∷ []) (perms_of 0) [] (Some (perms_of 0)) (perms_of 1)
+
+abbrev times_at_start : Status → Attributes
+times_at_start shown = attributes shown (second 1000000001) (second 1000000001) (second 1000000001)
+
+-- Of whom nothing is known a name is looked up. In a directory whose list has the mask `---` a caller is granted it, another is
+-- refused, and so is one whose groups aren't known; where the same mode has no such list, nobody is.
+pub judged : played default_way (
+    asks 0 0 0 None 1000000002 (offer 1946157051) ((Pid 1) ∷ [])
+    ∷ asks 1 1000 1000 None 1000000003 (Lookup (codes "d")) ((Shown (status 1 Directory 493 1 0 0 128)) ∷ Done ∷ (Shown (status 2 Directory 449 1 0 0 128)) ∷ Done ∷ [])
+    ∷ asks 2 1001 1001 (Some []) 1000000004 (Lookup (codes "f")) (Done ∷ (Shown (status 2 Directory 449 1 0 0 128)) ∷ Done ∷ Done ∷ (Acl (Some masked)) ∷ Done ∷ (Pid 2) ∷ Done ∷ (Shown (status 3 File 420 1 0 0 0)) ∷ Done ∷ [])
+    ∷ asks 2 1000 1000 (Some []) 1000000005 (Lookup (codes "f")) (Done ∷ (Shown (status 2 Directory 449 1 0 0 128)) ∷ Done ∷ Done ∷ (Acl (Some masked)) ∷ Done ∷ (Pid 3) ∷ (failed EACCES) ∷ [])
+    ∷ asks 2 1001 1001 None 1000000006 (Lookup (codes "f")) (Done ∷ (Shown (status 2 Directory 449 1 0 0 128)) ∷ Done ∷ Done ∷ (Acl (Some masked)) ∷ Done ∷ [])
+    ∷ asks 2 1001 1001 None 1000000007 (Lookup (codes "f")) (Done ∷ (Shown (status 2 Directory 449 1 0 0 128)) ∷ Done ∷ Done ∷ (Acl (Some (minimal 449))) ∷ Done ∷ Done ∷ (Shown (status 3 File 420 1 0 0 0)) ∷ Done ∷ [])
+    ∷ asks 1 1001 1001 None 1000000008 (UnlinkName (codes "d")) []
+    ∷ []) ≡
+    (((user 0 0 []) ∷ []), Told (terms 131072 1572936 4096 0))
+    ∷ (((Calls 1 (Lstat (codes "/"))) ∷ (Enter 1 1 1) ∷ (Calls 1 (Lstat (codes "d"))) ∷ (Enter 1 1 1) ∷ []), Told (Found 2 (times_at_start (status 2 Directory 449 1 0 0 128))))
+    ∷ (((Enter 1 1 1) ∷ (Calls 1 (Lstat (codes "d"))) ∷ (Enter 1 1 1) ∷ (Enter 1 1 1) ∷ (Calls 1 (GetAcl (codes "d") AccessAcl)) ∷ (Enter 1 1 1) ∷ (user 1001 1001 []) ∷ (Enter 2 2 2) ∷ (Calls 2 (Lstat (codes "f"))) ∷ (Enter 2 1 1) ∷ []), Told (Found 3 (times_at_start (status 3 File 420 1 0 0 0))))
+    ∷ (((Enter 1 1 1) ∷ (Calls 1 (Lstat (codes "d"))) ∷ (Enter 1 1 1) ∷ (Enter 1 1 1) ∷ (Calls 1 (GetAcl (codes "d") AccessAcl)) ∷ (Enter 1 1 1) ∷ (user 1000 1000 []) ∷ (Enter 3 2 2) ∷ []), Error 13)
+    ∷ (((Enter 1 1 1) ∷ (Calls 1 (Lstat (codes "d"))) ∷ (Enter 1 1 1) ∷ (Enter 1 1 1) ∷ (Calls 1 (GetAcl (codes "d") AccessAcl)) ∷ (Enter 1 1 1) ∷ []), Error 13)
+    ∷ (((Enter 1 1 1) ∷ (Calls 1 (Lstat (codes "d"))) ∷ (Enter 1 1 1) ∷ (Enter 1 1 1) ∷ (Calls 1 (GetAcl (codes "d") AccessAcl)) ∷ (Enter 1 1 1) ∷ (Enter 1 2 2) ∷ (Calls 1 (Lstat (codes "f"))) ∷ (Enter 1 1 1) ∷ []), Told (Found 3 (times_at_start (status 3 File 420 1 0 0 0))))
+    ∷ ([], Error 13)
+    ∷ []
+unfolding all_plans
+judged = refl
+
+-- A kernel that doesn't offer to judge by lists leaves that to the server.
+pub not_offered : played default_way (
+    asks 0 0 0 None 1000000002 (offer 1945108475) ((Pid 1) ∷ [])
+    ∷ asks 1 1000 1000 None 1000000003 (Lookup (codes "d")) []
+    ∷ []) ≡
+    (((user 0 0 []) ∷ []), Told (terms 131072 524360 4096 0))
+    ∷ ([], Error 13)
+    ∷ []
+unfolding all_plans
+not_offered = refl

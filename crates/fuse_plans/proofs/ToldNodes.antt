@@ -36,12 +36,15 @@ use Rattle.fuse_plans.specs.Callers.{settled, settle, retire_next, retire, settl
 use Rattle.fuse_plans.specs.NamePlans.{plain_name, directory_for, or_absent, searched_directory, find_inside, find_name, made, close, done_closed, make_by, directory_and_caller, make_masked, is_of_file, make_file}
 use Rattle.fuse_plans.specs.FilePlans.{or_opened, open_or_make, show_open, look_open, tell_created, create_file}
 use Rattle.fuse_plans.specs.Laws.{told_entry, names_an_object, LeadsToShown, ToldNodesLeadToObjects}
-use Rattle.fuse_plans.specs.Serving.{response_of, plan_of, asked_for, answered, request_plan}
+use Rattle.fuse_plans.specs.Requests.{asked_of}
+use Rattle.fuse_plans.specs.Nobody.{needs_nobody_in}
+use Rattle.fuse_plans.specs.Serving.{response_of, plan_of, asked_for, answered, answered_as, request_plan}
+use Rattle.fuse_plans.proofs.PlanLaws.{run-parts}
 
 -- ---- each end of a plan
 
 -- whatever is replied, this holds of the end
-abbrev AllEnd : {X : Type 0} → (X → Type 0) → Plan X → Type 0
+abbrev pub AllEnd : {X : Type 0} → (X → Type 0) → Plan X → Type 0
 AllEnd P (Finish x) = P x
 AllEnd P (Ask e next) = (reply : Reply) → AllEnd P (next reply)
 
@@ -49,7 +52,7 @@ all-weaker : {X : Type 0} (P Q : X → Type 0) (p : Plan X) → AllEnd P p → (
 all-weaker P Q (Finish x) ends weaker = weaker x ends
 all-weaker P Q (Ask e next) ends weaker = λ reply. all-weaker P Q (next reply) (ends reply) weaker
 
-all-followed_by : {X Y : Type 0} (P : X → Type 0) (Q : Y → Type 0) (p : Plan X) (f : X → Plan Y) → AllEnd P p → ((x : X) → P x → AllEnd Q (f x)) → AllEnd Q (followed_by p f)
+pub all-followed_by : {X Y : Type 0} (P : X → Type 0) (Q : Y → Type 0) (p : Plan X) (f : X → Plan Y) → AllEnd P p → ((x : X) → P x → AllEnd Q (f x)) → AllEnd Q (followed_by p f)
 all-followed_by P Q (Finish x) f ends rest = rest x ends
 all-followed_by P Q (Ask e next) f ends rest = λ reply. all-followed_by P Q (next reply) f (ends reply) rest
 
@@ -339,7 +342,7 @@ tells-find_inside pid d name = tells-after (leaves-look_inside pid d name) (λ s
 tells-find_name : (r : Asked) (name : List ℕ) → Tells (find_name r name)
 tells-find_name r name =
     tells-after (leaves-searched_directory r.node name) (λ d.
-    tells-after (leaves-caller r.cred) (λ pid. tells-find_inside pid d name))
+    tells-after (leaves-if r.needs_nobody _ _ leaves-the_looker (leaves-caller r.cred)) (λ pid. tells-find_inside pid d name))
 
 tells-made : (now : Time) (d : ℕ) (name : List ℕ) → Tells (made now d name)
 unfolding made kept keep ◌>>=◌
@@ -409,7 +412,8 @@ tells-answer s false (Some w) tells = tt
 pub told_nodes_lead_to_objects : ToldNodesLeadToObjects
 unfolding request_plan
 told_nodes_lead_to_objects r s t operation body es replies node shown asks names lt entry runs =
-    all-run (AnswerOf s) (answered r.memory (asked_for r.asked r.value r.operation) s) es replies (Says body, t)
-    (subst (λ o. AllEnd (AnswerOf s) (answered r.memory (asked_for r.asked r.value o) s)) (sym asks)
-    (tells-answer s r.memory _ (tells-plan r.asked r.value operation names)))
-    runs node shown entry lt
+    let parts = run-parts (needs_nobody_in r.node r.operation s) (λ nobody. answered_as nobody r s) es replies (Says body, t) runs in
+    all-run (AnswerOf s) (answered_as parts.middle r s) parts.later_events parts.later_replies (Says body, t)
+    (subst (λ o. AllEnd (AnswerOf s) (answered r.memory (asked_for (asked_of r parts.middle) r.value o) s)) (sym asks)
+    (tells-answer s r.memory _ (tells-plan (asked_of r parts.middle) r.value operation names)))
+    parts.later node shown entry lt

@@ -6,13 +6,19 @@
 --     RunsBehave        the same of what was asked
 --     OpenedIsTheObject        what an OPEN has opened is the object of its node
 --     ToldNodesLeadToObjects        the node that is told of a name leads to what has it
+--     WhoAsksCountsOnlyWhereNeeded        where nobody is needed a request is the same whoever asks
+--     JudgedLookupsAreGranted        where the kernel has judged, a look-up is refused in one kind of directory only
 use Rattle.std.specs.Prelude.{◌≡◌, ℕ, Bool, true, false, List, [], All, Option, None, Some, IsTrue, IsFalse, ◌<◌, ◌^◌}
-use Rattle.fs_cred.specs.Credentials.{usual_credential}
-use Rattle.fs_model.specs.declared.call.Call.TheVariants.{Fstat, Ftruncate}
+use Rattle.posix_acl.specs.AccessList.{AccessList}
+use Rattle.fs_cred.specs.declared.errno.Errno.TheVariants.{EACCES}
+use Rattle.fs_cred.specs.declared.refusal.Refusal.{Refusal}
+use Rattle.fs_cred.specs.Credentials.{Credential, usual_credential}
+use Rattle.fs_model.specs.declared.call.AclType.TheVariants.{Access as AccessAcl}
+use Rattle.fs_model.specs.declared.call.Call.TheVariants.{Lstat, Fstat, Ftruncate, GetAcl}
 use Rattle.fs_model.specs.declared.event.Event.{Event}
-use Rattle.fs_model.specs.declared.event.Event.TheVariants.{Call as Calls}
+use Rattle.fs_model.specs.declared.event.Event.TheVariants.{Call as Calls, Enter}
 use Rattle.fs_model.specs.declared.reply.Reply.{Reply}
-use Rattle.fs_model.specs.declared.reply.Reply.TheVariants.{Shown}
+use Rattle.fs_model.specs.declared.reply.Reply.TheVariants.{Shown, Acl, Refused}
 use Rattle.fs_model.specs.declared.reply.Status.{Status}
 use Rattle.fuse_plans.specs.Plans.{IsRunOf, IsAsked, KeepsTo, MayAskAll, after_all}
 use Rattle.fuse_plans.specs.Requests.{Request}
@@ -24,12 +30,16 @@ use Rattle.fuse_plans.specs.declared.reply.Attributes.{Attributes}
 use Rattle.fuse_plans.specs.declared.reply.ReplyBody.{ReplyBody}
 use Rattle.fuse_plans.specs.declared.reply.ReplyBody.TheVariants.{Found, Opened, Created}
 use Rattle.fuse_plans.specs.declared.reply.Response.{Response}
-use Rattle.fuse_plans.specs.declared.reply.Response.TheVariants.{Says}
+use Rattle.fuse_plans.specs.declared.reply.Response.TheVariants.{Says, Fails}
 use Rattle.fuse_state.specs.Servers.{Server, number_of, owner_of, descriptor_of, object_of}
 use Rattle.fuse_state.specs.Changes.{is_gone}
 use Rattle.fuse_plans.specs.Acts.{Subject}
 use Rattle.fuse_plans.specs.Conduct.{Known, Rights, conduct}
-use Rattle.fuse_plans.specs.Serving.{request_plan}
+use Rattle.fuse_plans.specs.declared.stop.Stop.{Stop}
+use Rattle.fuse_plans.specs.declared.stop.Stop.TheVariants.{Refuses}
+use Rattle.fuse_plans.specs.Stops.{is_for}
+use Rattle.fuse_plans.specs.Nobody.{may_hide, hides, needs_nobody_in}
+use Rattle.fuse_plans.specs.Serving.{answered_as, request_plan}
 
 -- the handle of an open file by which something is asked
 abbrev pub handle_of_operation : Operation → Option ℕ
@@ -53,11 +63,11 @@ is_init None = false
 is_init (Some operation) = is_beginning operation
 
 abbrev pub subject_of : Request → Server → Subject
-subject_of r s = record { node = r.asked.node; operation = r.operation; start = s }
+subject_of r s = record { node = r.node; operation = r.operation; start = s }
 
 abbrev pub rights_of : Request → Server → Rights
 rights_of r s =
-    record { cred = r.asked.cred; looker = s.looker; handle = handle_in r.operation; subject = subject_of r s }
+    record { cred = r.cred; looker = s.looker; handle = handle_in r.operation; subject = subject_of r s }
 
 -- nobody is away
 abbrev pub known_in : Server → Known
@@ -102,7 +112,7 @@ RunsBehave =
 -- What is open under the handle has been shown to be the object of the request's node. After that it has lost its bytes at most.
 pub record OpenedObject (r : Request) (s t : Server) (es : List Event) (replies : List Reply) (handle : ℕ) : Type 0 where
   pub number : ℕ
-  pub of_node : number_of s r.asked.node ≡ Some number
+  pub of_node : number_of s r.node ≡ Some number
   pub status : Status
   pub is_object : status.inode ≡ number
   pub after : List Event
@@ -144,3 +154,36 @@ ToldNodesLeadToObjects =
     (r : Request) (s t : Server) (operation : Operation) (body : ReplyBody) (es : List Event) (replies : List Reply) (node : ℕ) (shown : Attributes)
     → r.operation ≡ Some operation → IsTrue (names_an_object operation) → shown.status.inode < 2 ^ 32 → told_entry body ≡ Some (node, shown)
     → IsRunOf (request_plan r s) es replies (Says body, t) → LeadsToShown s t node shown.status.inode
+
+-- ---- who asks
+
+-- Whatever was replied: where it was found that who asks doesn't count, the rest is the same for any credential, and for none.
+abbrev pub WhoAsksCountsOnlyWhereNeeded : Type 0
+WhoAsksCountsOnlyWhereNeeded =
+    (r : Request) (s : Server) (cred : Option Credential) (es : List Event) (replies : List Reply) → IsRunOf (needs_nobody_in r.node r.operation s) es replies true
+    → answered_as true (record r { cred = cred }) s ≡ answered_as true r s
+
+-- ---- look-ups that the kernel has judged
+
+-- what a process does
+abbrev pub IsDoneBy : ℕ → Event → Type 0
+IsDoneBy pid (Calls by call) = by ≡ pid
+IsDoneBy pid (Enter by directory second) = by ≡ pid
+IsDoneBy pid _ = ⊥
+
+-- Why a look-up is refused all the same: the server's own process was shown a directory whose access list has the mask `---` while
+-- others may search, or the machine refused that process itself.
+pub data MayBeRefused (looker : Option ℕ) (es : List Event) (replies : List Reply) : Type 0 where
+  is_masked : (pid : ℕ) (path acl_path : List ℕ) (status : Status) (acl : AccessList) (after acl_after : List Event) → looker ≡ Some pid
+      → IsAsked (Calls pid (Lstat path)) (Shown status) after es replies → IsTrue (may_hide status.mode)
+      → IsAsked (Calls pid (GetAcl acl_path AccessAcl)) (Acl (Some acl)) acl_after es replies → IsTrue (hides (Some acl))
+      → MayBeRefused looker es replies
+  looker_refused : (pid : ℕ) (e : Event) (refusal : Refusal) (after : List Event) → looker ≡ Some pid → IsDoneBy pid e
+      → IsAsked e (Refused refusal) after es replies → IsTrue (is_for EACCES (Refuses refusal)) → MayBeRefused looker es replies
+
+-- Whatever was replied: where the kernel judges before it asks, no look-up is answered EACCES for who asks, but in such a directory.
+abbrev pub JudgedLookupsAreGranted : Type 0
+JudgedLookupsAreGranted =
+    (r : Request) (s t : Server) (name : List ℕ) (es : List Event) (replies : List Reply) (e : Stop) → r.operation ≡ Some (Lookup name)
+    → IsTrue s.settings.posix_acl → IsTrue (is_for EACCES e) → IsRunOf (request_plan r s) es replies (Fails e, t)
+    → MayBeRefused s.looker es replies

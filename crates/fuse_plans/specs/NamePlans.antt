@@ -1,4 +1,4 @@
--- Plans of requests for names: each is asked of a directory, and performed by a process of who asks.
+-- Plans of requests for names: each is asked of a directory, and performed by a process of who asks, but for look-ups that need nobody.
 --     find_name, make_link, make_file, make_directory, remove, move_name, add_link
 use Rattle.std.specs.Prelude.{ℕ, ◌==◌, nat_lt, Bool, true, false, ◌||◌, List, codes, bytes_eq, Some, Result, Ok, Err, if◌then◌else◌, bit_and}
 use Rattle.fs_cred.specs.declared.errno.Errno.TheVariants.{EPERM, ENOENT, EEXIST, EINVAL}
@@ -68,10 +68,14 @@ find_inside pid d name = do
   keep (found (place d name) status.inode status.kind)
   tell_entry status
 
+-- where the kernel has judged, the server's own process looks
+abbrev pub searcher : Asked → Work ℕ
+searcher r = if r.needs_nobody then the_looker else caller r.cred
+
 abbrev pub find_name : Asked → List ℕ → Work ReplyBody
 find_name r name = do
   d ← searched_directory r.node name
-  pid ← caller r.cred
+  pid ← searcher r
   find_inside pid d name
 
 -- ---- new objects

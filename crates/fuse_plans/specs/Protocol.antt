@@ -43,7 +43,9 @@ HasValue _ acl = Unit {0}
 abbrev pub request_from : Outside → Option (Option AccessList) → WireRequest → Request
 request_from outside acl r = record {
   unique = r.unique;
-  asked = record { node = r.node; cred = credential_for r.uid r.gid outside; now = outside.now };
+  node = r.node;
+  cred = credential_for r.uid r.gid outside;
+  now = outside.now;
   operation = Some r.operation;
   value = acl;
   memory = outside.memory;
@@ -53,7 +55,9 @@ request_from outside acl r = record {
 abbrev pub malformed : Outside → ℕ → Request
 malformed outside unique = record {
   unique = unique;
-  asked = record { node = 0; cred = None; now = outside.now };
+  node = 0;
+  cred = None;
+  now = outside.now;
   operation = None;
   value = None;
   memory = outside.memory;

@@ -1,6 +1,7 @@
 -- Requests: what is known beside the bytes of one, and for whom it is performed.
 --     Outside, credential_for        what is known, and the credential of who asks
 --     Request        who asks for what
+--     asked_of        the same for a plan, once it is known whether who asks counts
 use Rattle.std.specs.Prelude.{ℕ, nat_le, Bool, List, length, Option, None, Some, if◌then◌else◌, bit_and}
 use Rattle.posix_acl.specs.AccessList.{AccessList}
 use Rattle.fs_cred.specs.declared.caps.Caps.{Caps}
@@ -42,7 +43,13 @@ credential_for uid gid outside = credential_with uid gid outside.caps outside.gr
 -- memory for what is added.
 pub record Request : Type 0 where
   pub unique : ℕ
-  pub asked : Asked
+  pub node : ℕ
+  pub cred : Option Credential
+  pub now : Time
   pub operation : Option Operation
   pub value : Option (Option AccessList)
   pub memory : Bool
+
+-- by whom it is performed where who asks doesn't count, or counts
+abbrev pub asked_of : Request → Bool → Asked
+asked_of r nobody = record { node = r.node; needs_nobody = nobody; cred = r.cred; now = r.now }

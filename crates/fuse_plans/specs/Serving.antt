@@ -1,8 +1,9 @@
 -- The plan of each request, and of requests one after another.
 --     plan_of        of an operation
+--     answered_as        the answer, once it is known whether who asks counts
 --     request_plan        of a request, with its answer
 --     requests_plan        of several, one after another
-use Rattle.std.specs.Prelude.{ℕ, ◌+◌, ◌/◌, nat_lt, min, Bool, true, false, List, [], ◌∷◌, Option, None, Some, Result, Ok, Err, if◌then◌else◌, bit_and}
+use Rattle.std.specs.Prelude.{ℕ, ◌+◌, ◌/◌, nat_lt, min, ◌==◌, Bool, true, false, not, List, [], ◌∷◌, Option, None, Some, Result, Ok, Err, if◌then◌else◌, bit_and}
 use Rattle.posix_acl.specs.AccessList.{AccessList}
 use Rattle.fs_cred.specs.Credentials.{usual_credential}
 use Rattle.fs_cred.specs.declared.errno.Errno.TheVariants.{EINVAL, ENOMEM}
@@ -13,7 +14,7 @@ use Rattle.fuse_plans.specs.declared.stop.Stop.TheVariants.{Lacks}
 use Rattle.fuse_plans.specs.Stops.{failed}
 use Rattle.fuse_plans.specs.declared.stop.OtherErrno.TheVariants.{ENOSYS, EPROTO}
 use Rattle.fuse_plans.specs.declared.request.Asked.{Asked}
-use Rattle.fuse_plans.specs.Requests.{Request}
+use Rattle.fuse_plans.specs.Requests.{Request, asked_of}
 use Rattle.fuse_protocol.specs.declared.operation.Offer.{Offer}
 use Rattle.fuse_protocol.specs.declared.operation.Operation.{Operation}
 use Rattle.fuse_protocol.specs.declared.operation.Operation.TheVariants.{Lookup, Forget, GetAttr, SetAttr, ReadLink, SymLink, MkNod, MkDir, Unlink, RmDir, Rename, Link, Open, Read, Write, StatFs, Release, FSync, SetXAttr, GetXAttr, ListXAttr, RemoveXAttr, Init, OpenDir, ReadDir, ReleaseDir, FSyncDir, Access, Create, Interrupt, Destroy, BatchForget, SyncFs, Unknown}
@@ -21,9 +22,10 @@ use Rattle.fuse_plans.specs.declared.reply.ReplyBody.{ReplyBody}
 use Rattle.fuse_plans.specs.declared.reply.ReplyBody.TheVariants.{Space, Agreed}
 use Rattle.fuse_plans.specs.declared.reply.Response.{Response}
 use Rattle.fuse_plans.specs.declared.reply.Response.TheVariants.{Silence, Says, Fails}
-use Rattle.fuse_state.specs.Servers.{Server, with_the_looker, with_end}
+use Rattle.fuse_state.specs.Servers.{Server, with_the_looker, with_acls_offered, with_end}
 use Rattle.fuse_state.specs.declared.settings.Settings.{Settings}
 use Rattle.fuse_plans.specs.Works.{Work, give, stop, kept, keep, ◌>>=◌, ◌>>◌, obtain, replied_pid, replied_space}
+use Rattle.fuse_plans.specs.Nobody.{needs_nobody_in}
 use Rattle.fuse_plans.specs.NamePlans.{find_name, make_link, make_file, make_directory, remove, removal, move_name, add_link}
 use Rattle.fuse_plans.specs.FilePlans.{open_file, create_file, read_file, write_file, close_file, sync_file}
 use Rattle.fuse_plans.specs.AttributePlans.{get_attributes, set_attributes, read_link, ask_access}
@@ -66,10 +68,14 @@ or_looker None = do
   pid ← replied_pid reply
   keep (with_the_looker pid)
 
+abbrev pub offers_acls : Offer → Bool
+offers_acls offer = not (bit_and offer.flags.0 0x100000 == 0)
+
 unfoldable pub begin : Offer → Work ReplyBody
 begin offer = if nat_lt offer.major 7 then stop (Lacks EPROTO) else if nat_lt 7 offer.major then give later_version else do
   looker ← kept (λ s. s.looker)
   or_looker looker
+  keep (with_acls_offered (offers_acls offer))
   kept (λ s. agreed offer s.settings)
 
 unfoldable pub count_space : Work ReplyBody
@@ -139,8 +145,12 @@ answered memory None s = Finish (Silence, s)
 answered true (Some w) s = followed_by (w s) (λ r. Finish (response_of r.0, r.1))
 answered false (Some w) s = Finish (Fails (failed ENOMEM), s)
 
+-- once it is known whether who asks counts
+abbrev pub answered_as : Bool → Request → Server → Plan (Response × Server)
+answered_as nobody r s = answered r.memory (asked_for (asked_of r nobody) r.value r.operation) s
+
 unfoldable pub request_plan : Request → Server → Plan (Response × Server)
-request_plan r s = answered r.memory (asked_for r.asked r.value r.operation) s
+request_plan r s = followed_by (needs_nobody_in r.node r.operation s) (λ nobody. answered_as nobody r s)
 
 -- One after another: what each is answered, and what the server keeps then.
 unfoldable pub requests_plan : List Request → Server → Plan (List Response × Server)

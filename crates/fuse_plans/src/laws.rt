@@ -1,5 +1,5 @@
 //! The laws of the plans: each is the contract of a function that does nothing.
-ghost use Rattle.fuse_plans.specs.Laws.{BeginningBehaves, OpenedIsTheObject, RequestsBehave, RunsBehave, ToldNodesLeadToObjects};
+ghost use Rattle.fuse_plans.specs.Laws.{BeginningBehaves, JudgedLookupsAreGranted, OpenedIsTheObject, RequestsBehave, RunsBehave, ToldNodesLeadToObjects, WhoAsksCountsOnlyWhereNeeded};
 
 /// Whatever the machine replies, no request but the first is performed with more than the rights of who asks.
 ///
@@ -41,4 +41,18 @@ pub fn opened_is_the_object()
 /// another, also where that was made by a request that couldn't show it, and was answered with an error.
 pub fn told_nodes_lead_to_objects()
     ensures { ToldNodesLeadToObjects }
+{}
+
+/// Where a request was found to need nobody, its plan is the same whoever asks: their process isn't even looked for.
+pub fn who_asks_counts_only_where_needed()
+    ensures { WhoAsksCountsOnlyWhereNeeded }
+{}
+
+/// Where the kernel judges by modes and lists before it asks, no look-up is answered EACCES, whoever asks and whether their groups are
+/// known or not; so the kernel drops no name, and unmounts nothing below it.
+///
+/// There are two exceptions. In a directory whose access list has the mask `---` while others may search, the caller is judged, since
+/// Linux asks the entry for others there. And the machine may refuse the server's own process.
+pub fn judged_lookups_are_granted()
+    ensures { JudgedLookupsAreGranted }
 {}

@@ -10,10 +10,10 @@ mod request;
 mod stop;
 
 pub use laws::{
-    beginning_behaves, opened_is_the_object, requests_behave, told_nodes_lead_to_objects,
-    what_is_asked_may_be,
+    beginning_behaves, judged_lookups_are_granted, opened_is_the_object, requests_behave,
+    told_nodes_lead_to_objects, what_is_asked_may_be, who_asks_counts_only_where_needed,
 };
 pub use mode::Mode;
 pub use reply::{Attributes, ReplyBody, Response};
-pub use request::Asked;
+pub use request::{Asked, needs_caller};
 pub use stop::{OtherErrno, Stop};

@@ -1,13 +1,41 @@
-//! Who asks.
+//! Who asks, and where that counts.
+ghost use Rattle.std.specs.Prelude.{◌≡◌};
+ghost use Rattle.fuse_plans.specs.Nobody.{needs_caller};
 
 use fs_cred::Cred;
-use fuse_protocol::Time;
+use fuse_protocol::{Operation, Time};
 
 /// Who asks, of which node, and when.
 #[derive(Drop)]
 pub struct Asked {
     pub node: u64,
+    /// Who asks doesn't count: what a process of theirs would look up, the server's own does.
+    pub needs_nobody: bool,
     /// None where not all groups of who asks are known.
     pub cred: Option<Cred>,
     pub now: Time,
+}
+
+/// Whether an operation is performed by a process of who asks, or may fail for its credential.
+pub fn needs_caller(operation: &Operation<'_>) -> bool
+    ensures { result ≡ needs_caller operation.now }
+{
+    match operation {
+        Operation::Lookup(_)
+        | Operation::SetAttr(_)
+        | Operation::SymLink { .. }
+        | Operation::MkNod { .. }
+        | Operation::MkDir { .. }
+        | Operation::Unlink(_)
+        | Operation::RmDir(_)
+        | Operation::Rename { .. }
+        | Operation::Link { .. }
+        | Operation::Open(_)
+        | Operation::SetXAttr { .. }
+        | Operation::RemoveXAttr(_)
+        | Operation::OpenDir
+        | Operation::Access(_)
+        | Operation::Create { .. } => true,
+        _ => false,
+    }
 }

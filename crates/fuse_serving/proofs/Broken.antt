@@ -1,5 +1,5 @@
 -- A round that breaks off, from its read on, and the requests until there.
-use Rattle.std.proofs.Common.{◌≡◌, ℕ, true, false, List, [], ◌∷◌, ◌++◌, map, Option, Result, Ok, Err, IsErr, IsErrAnd, IfErr, sym, subst}
+use Rattle.std.proofs.Common.{◌≡◌, ℕ, Bool, true, false, List, [], ◌∷◌, ◌++◌, map, Option, Result, Ok, Err, IsErr, IsErrAnd, IfErr, sym, subst}
 use Rattle.posix_acl.specs.AccessList.{AccessList}
 use Rattle.fs_model.specs.declared.event.Event.{Event}
 use Rattle.fs_model.specs.declared.reply.Reply.{Reply}
@@ -11,17 +11,16 @@ use Rattle.fuse_protocol.specs.Requests.{request_of}
 use Rattle.fuse_state.specs.Servers.{Server}
 use Rattle.fuse_plans.specs.declared.reply.Response.{Response}
 use Rattle.fuse_plans.specs.declared.reply.Response.TheVariants.{Fails}
-use Rattle.fuse_plans.specs.Plans.{CarriesOut, finishes}
+use Rattle.fuse_plans.specs.Plans.{finishes}
 use Rattle.fuse_plans.specs.Protocol.{HasValue, Hears, says, says_badly, no_more, one_more, request_from, malformed}
 use Rattle.fuse_plans.specs.Requests.{Outside}
-use Rattle.fuse_plans.specs.Serving.{request_plan}
 use Rattle.fuse_plans.specs.Stops.{failed}
 use Rattle.fuse_plans.specs.Works.{stop}
 use Rattle.fuse_serving.specs.declared.fault.ServeFault.{ServeFault}
 use Rattle.fuse_serving.specs.Exchanges.{Exchange, Reads, Passes, passes_none, passes_more}
-use Rattle.fuse_serving.specs.Rounds.{Round, Scene, Rounds, no_round, one_round, ArePerformed, Breaks, IsOfRead, IsOfClock, IsOfReply, no_request, no_time, no_reply, heard_in, learns}
+use Rattle.fuse_serving.specs.Rounds.{Round, Scene, IsAnswered, Rounds, no_round, one_round, IsFound, ArePerformed, Breaks, IsOfRead, IsOfClock, IsOfReply, no_request, no_time, no_reply, heard_in, learns}
 use Rattle.fuse_serving.specs.Pieces.{ReadBreaks}
-use Rattle.fuse_serving.proofs.Carried.{carried_on, carried_none}
+use Rattle.fuse_serving.proofs.Carried.{whole, carried_on, carried_none}
 use Rattle.fuse_serving.proofs.ReadRounds.{any_outside}
 
 -- what `?` makes of a fault
@@ -38,12 +37,12 @@ module _ {M K : Type 0} (Serves : M → Event → Reply → M → Type 0) (Does 
   none_performed m s before after = record { hears = no_more; performs = carried_none Serves s m }
 
   one_performed : (round : Round) (old new : Scene M K) → Hears round.bytes round.outside round.request
-      → CarriesOut Serves (request_plan round.request old.server) old.machine new.machine (round.response, new.server)
+      → IsAnswered Serves round.request round.nobody round.response old.server new.server old.machine new.machine
       → ArePerformed Serves old (round ∷ []) new
   one_performed round old new hears performs = record {
     hears = one_more round.bytes round.outside round.request [] [] hears no_more;
-    performs = carried_on Serves round.request [] old.server new.server new.server old.machine new.machine new.machine round.response [] performs
-        (carried_none Serves new.server new.machine);
+    performs = carried_on Serves round.request [] old.server new.server new.server old.machine new.machine new.machine round.response []
+        (whole Serves round.request round.nobody round.response old.server new.server old.machine new.machine performs) (carried_none Serves new.server new.machine);
   }
 
   -- after the rounds, more requests
@@ -55,13 +54,19 @@ module _ {M K : Type 0} (Serves : M → Event → Reply → M → Type 0) (Does 
       record {
         hears = one_more round.bytes round.outside round.request (map heard_in (rounds ++ more)) (map (λ r. r.request) (rounds ++ more)) is.hears all.hears;
         performs = carried_on Serves round.request (map (λ r. r.request) (rounds ++ more)) old.server next.server new.server old.machine next.machine new.machine
-            round.response (map (λ r. r.response) (rounds ++ more)) is.performs all.performs;
+            round.response (map (λ r. r.response) (rounds ++ more))
+            (whole Serves round.request round.nobody round.response old.server next.server old.machine next.machine is.performs) all.performs;
       }
 
   -- no request can be read
   pub unread : (fault : ServeFault) (m : M) (s : Server) (before after : K) → s.ended ≡ false → IsOfRead fault
       → Breaks Serves Does fault (at m s before) (at m s after)
-  unread fault m s before after on is = record { goes_on = on; untold = []; is_break = no_request is; performed = none_performed m s before after }
+  unread fault m s before after on is = record { goes_on = on; untold = []; is_break = no_request is; found = tt; performed = none_performed m s before after }
+
+  -- what the kernel does doesn't count for it
+  found_from : (m : M) (s : Server) (before after : K) (untold : List Round) → IsFound Serves (at m s before) untold → IsFound Serves (at m s after) untold
+  found_from m s before after [] found = tt
+  found_from m s before after (round ∷ rounds) found = found
 
   pub broken_from_read : (fault : ServeFault) (m : M) (s : Server) (k after : K) (bytes : List ℕ) (new : Scene M K) → s.ended ≡ false
       → Does k (Reads bytes) after → ReadBreaks Serves Does bytes fault (at m s after) new → Breaks Serves Does fault (at m s k) new
@@ -69,6 +74,7 @@ module _ {M K : Type 0} (Serves : M → Event → Reply → M → Type 0) (Does 
     goes_on = on;
     untold = r.untold;
     is_break = r.is_break k does;
+    found = found_from m s after k r.untold r.found;
     performed = record { hears = r.performed.hears; performs = r.performed.performs };
   }
 
@@ -77,32 +83,35 @@ module _ {M K : Type 0} (Serves : M → Event → Reply → M → Type 0) (Does 
   untimed bytes fault m s before after is = record {
     untold = [];
     is_break = λ k does. no_time bytes before is does;
+    found = tt;
     performed = none_performed m s before after;
   }
 
   unanswered : (round : Round) (fault : ServeFault) (old new : Scene M K) (reached : K) → IsOfReply fault → Hears round.bytes round.outside round.request
-      → CarriesOut Serves (request_plan round.request old.server) old.machine new.machine (round.response, new.server)
-      → Passes Does old.kernel (learns (request_of round.bytes) round.outside) reached → ReadBreaks Serves Does round.bytes fault old new
+      → IsAnswered Serves round.request round.nobody round.response old.server new.server old.machine new.machine
+      → Passes Does old.kernel (learns round.nobody (request_of round.bytes) round.outside) reached → ReadBreaks Serves Does round.bytes fault old new
   unanswered round fault old new reached is hears performs passes = record {
     untold = round ∷ [];
-    is_break = λ k does. no_reply round reached is (passes_more (Reads round.bytes) (learns (request_of round.bytes) round.outside) k old.kernel reached does passes);
+    is_break = λ k does. no_reply round reached is (passes_more (Reads round.bytes) (learns round.nobody (request_of round.bytes) round.outside) k old.kernel reached does passes);
+    found = (performs.mid, performs.finds);
     performed = one_performed round old new hears performs;
   }
 
-  pub unanswered_spoken : (bytes : List ℕ) (spoken : WireRequest) (outside : Outside) (acl : Option (Option AccessList)) (response : Response)
+  pub unanswered_spoken : (bytes : List ℕ) (spoken : WireRequest) (outside : Outside) (acl : Option (Option AccessList)) (nobody : Bool) (response : Response)
       (fault : ServeFault) (old new : Scene M K) (reached : K) → request_of bytes ≡ Ok spoken → IsOfReply fault
       → (outside.memory ≡ true → HasValue spoken.operation acl)
-      → CarriesOut Serves (request_plan (request_from outside acl spoken) old.server) old.machine new.machine (response, new.server)
-      → Passes Does old.kernel (learns (Ok spoken) outside) reached → ReadBreaks Serves Does bytes fault old new
-  unanswered_spoken bytes spoken outside acl response fault old new reached spoke is has performs passes =
-      unanswered (record { bytes = bytes; outside = outside; request = request_from outside acl spoken; response = response; taken = false })
+      → IsAnswered Serves (request_from outside acl spoken) nobody response old.server new.server old.machine new.machine
+      → Passes Does old.kernel (learns nobody (Ok spoken) outside) reached → ReadBreaks Serves Does bytes fault old new
+  unanswered_spoken bytes spoken outside acl nobody response fault old new reached spoke is has performs passes =
+      unanswered (record { bytes = bytes; outside = outside; request = request_from outside acl spoken; nobody = nobody; response = response; taken = false })
       fault old new reached is (says spoken acl spoke has) performs
-      (subst (λ (r : Result WireRequest RequestFault). Passes Does old.kernel (learns r outside) reached) (sym spoke) passes)
+      (subst (λ (r : Result WireRequest RequestFault). Passes Does old.kernel (learns nobody r outside) reached) (sym spoke) passes)
 
   pub unanswered_badly : (bytes : List ℕ) (unique : ℕ) (fault : ServeFault) (m : M) (s : Server) (before after : K)
       → request_of bytes ≡ Err (Malformed unique) → IsOfReply fault → ReadBreaks Serves Does bytes fault (at m s before) (at m s after)
-  unfolding request_plan stop
+  unfolding stop
   unanswered_badly bytes unique fault m s before after spoke is =
-      unanswered (record { bytes = bytes; outside = any_outside; request = malformed any_outside unique; response = Fails (failed EINVAL); taken = false })
-      fault (at m s before) (at m s after) before is (says_badly unique spoke) (finishes (Fails (failed EINVAL), s) m)
-      (subst (λ (r : Result WireRequest RequestFault). Passes Does before (learns r any_outside) before) (sym spoke) (passes_none before))
+      unanswered (record { bytes = bytes; outside = any_outside; request = malformed any_outside unique; nobody = true; response = Fails (failed EINVAL); taken = false })
+      fault (at m s before) (at m s after) before is (says_badly unique spoke)
+      (record { mid = m; finds = finishes true m; answers = finishes (Fails (failed EINVAL), s) m })
+      (subst (λ (r : Result WireRequest RequestFault). Passes Does before (learns true r any_outside) before) (sym spoke) (passes_none before))

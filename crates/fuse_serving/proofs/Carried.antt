@@ -1,12 +1,14 @@
 -- Plans that are carried out: where nothing is asked, and one after another.
-use Rattle.std.proofs.Common.{◌≡◌, List, [], ◌∷◌, sym, subst}
+use Rattle.std.proofs.Common.{◌≡◌, Bool, List, [], ◌∷◌, sym, subst}
 use Rattle.fs_model.specs.declared.event.Event.{Event}
 use Rattle.fs_model.specs.declared.reply.Reply.{Reply}
 use Rattle.fuse_state.specs.Servers.{Server}
 use Rattle.fuse_plans.specs.declared.reply.Response.{Response}
 use Rattle.fuse_plans.specs.Plans.{Plan, Finish, followed_by, CarriesOut, finishes, asks}
 use Rattle.fuse_plans.specs.Requests.{Request}
-use Rattle.fuse_plans.specs.Serving.{request_plan, requests_plan}
+use Rattle.fuse_plans.specs.Nobody.{needs_nobody_in}
+use Rattle.fuse_plans.specs.Serving.{answered_as, request_plan, requests_plan}
+use Rattle.fuse_serving.specs.Rounds.{IsAnswered}
 
 pub nothing_asked : {M X : Type 0} (Serves : M → Event → Reply → M → Type 0) (plan : Plan X) (old new : M) (x y : X)
     → plan ≡ Finish x → new ≡ old → y ≡ x → CarriesOut Serves plan old new y
@@ -25,6 +27,22 @@ carried_then Serves p f old mid new x y (asks e next reply _ after _ _ serves fi
 -- ---- requests
 
 module _ {M : Type 0} (Serves : M → Event → Reply → M → Type 0) where
+  pub whole : (r : Request) (nobody : Bool) (response : Response) (before after : Server) (old new : M) → IsAnswered Serves r nobody response before after old new
+      → CarriesOut Serves (request_plan r before) old new (response, after)
+  unfolding request_plan
+  whole r nobody response before after old new is =
+      carried_then Serves (needs_nobody_in r.node r.operation before) _ old is.mid new nobody (response, after) is.finds is.answers
+
+  -- it was found first, and the server kept what it kept
+  pub answered_after : (r : Request) (nobody : Bool) (response : Response) {before kept after : Server} {old mid new : M}
+      → CarriesOut Serves (needs_nobody_in r.node r.operation before) old mid nobody → kept ≡ before
+      → CarriesOut Serves (answered_as nobody r kept) mid new (response, after) → IsAnswered Serves r nobody response before after old new
+  answered_after r nobody response {before} {kept} {after} {old} {mid} {new} finds same answers = record {
+    mid = mid;
+    finds = finds;
+    answers = subst (λ (s : Server). CarriesOut Serves (answered_as nobody r s) mid new (response, after)) same answers;
+  }
+
   pub carried_on : (r : Request) (rs : List Request) (before mid after : Server) (old next new : M) (first : Response) (rest : List Response)
       → CarriesOut Serves (request_plan r before) old next (first, mid) → CarriesOut Serves (requests_plan rs mid) next new (rest, after)
       → CarriesOut Serves (requests_plan (r ∷ rs) before) old new (first ∷ rest, after)

@@ -1,4 +1,3 @@
-pub mod Alike
 pub mod Values
 pub mod Broken
 pub mod Carried

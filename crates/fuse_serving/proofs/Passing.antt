@@ -1,12 +1,11 @@
 -- What passes, one after another.
 use Rattle.std.proofs.Common.{◌≡◌, ℕ, Bool, true, false, List, [], ◌∷◌, ◌++◌, subst, if◌then◌else◌}
-use Rattle.fuse_protocol.specs.declared.operation.Operation.{Operation}
 use Rattle.fuse_plans.specs.declared.reply.Response.{Response}
 use Rattle.fuse_plans.specs.declared.reply.Response.TheVariants.{Silence, Says, Fails}
 use Rattle.fuse_plans.specs.Protocol.{response_bytes}
 use Rattle.fuse_serving.specs.declared.caller.Caller.{Caller}
 use Rattle.fuse_serving.specs.Exchanges.{Exchange, Writes, Learns, Passes, passes_none, passes_more}
-use Rattle.fuse_serving.specs.Rounds.{needs_caller, has_reply, tells}
+use Rattle.fuse_serving.specs.Rounds.{has_reply, tells}
 
 module _ {K : Type 0} (Does : K → Exchange → K → Type 0) where
   pub passes_joined : (xs ys : List Exchange) (old mid new : K) → Passes Does old xs mid → Passes Does mid ys new → Passes Does old (xs ++ ys) new
@@ -30,10 +29,9 @@ module _ {K : Type 0} (Does : K → Exchange → K → Type 0) where
   tells_one old new unique (Says body) bytes taken is same does = told old new bytes (response_bytes unique (Says body)) taken same does
   tells_one old new unique (Fails e) bytes taken is same does = told old new bytes (response_bytes unique (Fails e)) taken same does
 
-  pub learns_nothing : (k : K) (operation : Operation) (pid : ℕ) (caller : Caller) → needs_caller operation ≡ false
-      → Passes Does k (if needs_caller operation then Learns pid caller ∷ [] else []) k
-  learns_nothing k operation pid caller none = rw none (passes_none k)
+  pub learns_nothing : (k : K) (nobody : Bool) (pid : ℕ) (caller : Caller) → nobody ≡ true → Passes Does k (if nobody then [] else Learns pid caller ∷ []) k
+  learns_nothing k nobody pid caller none = rw none (passes_none k)
 
-  pub learns_one : (old new : K) (operation : Operation) (pid : ℕ) (caller : Caller) → needs_caller operation ≡ true → Does old (Learns pid caller) new
-      → Passes Does old (if needs_caller operation then Learns pid caller ∷ [] else []) new
-  learns_one old new operation pid caller needs does = rw needs (passes_more (Learns pid caller) [] old new new does (passes_none new))
+  pub learns_one : (old new : K) (nobody : Bool) (pid : ℕ) (caller : Caller) → nobody ≡ false → Does old (Learns pid caller) new
+      → Passes Does old (if nobody then [] else Learns pid caller ∷ []) new
+  learns_one old new nobody pid caller needs does = rw needs (passes_more (Learns pid caller) [] old new new does (passes_none new))

@@ -13,7 +13,6 @@ use Rattle.fuse_plans.specs.declared.reply.Response.TheVariants.{Fails}
 use Rattle.fuse_plans.specs.Plans.{finishes}
 use Rattle.fuse_plans.specs.Protocol.{Hears, says, says_badly, request_from, malformed}
 use Rattle.fuse_plans.specs.Requests.{Outside}
-use Rattle.fuse_plans.specs.Serving.{request_plan}
 use Rattle.fuse_plans.specs.Stops.{failed}
 use Rattle.fuse_plans.specs.Works.{stop}
 use Rattle.fuse_serving.specs.Exchanges.{Exchange, Reads, Passes, passes_more}
@@ -49,21 +48,21 @@ module _ {M K : Type 0} (Serves : M → Event → Reply → M → Type 0) (Does 
   pub read_spoken : (bytes : List ℕ) (spoken : WireRequest) (old new : Scene M K) → request_of bytes ≡ Ok spoken
       → SpokenServed Serves Does spoken old new → ReadServed Serves Does bytes old new
   read_spoken bytes spoken old new is s = record {
-    round = record { bytes = bytes; outside = s.outside; request = request_from s.outside s.acl spoken; response = s.response; taken = s.taken };
+    round = record { bytes = bytes; outside = s.outside; request = request_from s.outside s.acl spoken; nobody = s.nobody; response = s.response; taken = s.taken };
     is_read = refl;
     hears = says spoken s.acl is s.has_value;
-    passes = subst (λ (r : Result WireRequest RequestFault). Passes Does old.kernel (learns r s.outside ++ tells spoken.unique s.response s.taken) new.kernel)
+    passes = subst (λ (r : Result WireRequest RequestFault). Passes Does old.kernel (learns s.nobody r s.outside ++ tells spoken.unique s.response s.taken) new.kernel)
         (sym is) s.passes;
     performs = s.performs;
   }
 
   pub read_badly : (bytes : List ℕ) (unique : ℕ) (m : M) (s : Server) (k after : K) (taken : Bool) → request_of bytes ≡ Err (Malformed unique)
       → Passes Does k (tells unique (Fails (failed EINVAL)) taken) after → ReadServed Serves Does bytes (at m s k) (at m s after)
-  unfolding request_plan stop
+  unfolding stop
   read_badly bytes unique m s k after taken is told = record {
-    round = record { bytes = bytes; outside = any_outside; request = malformed any_outside unique; response = Fails (failed EINVAL); taken = taken };
+    round = record { bytes = bytes; outside = any_outside; request = malformed any_outside unique; nobody = true; response = Fails (failed EINVAL); taken = taken };
     is_read = refl;
     hears = says_badly unique is;
-    passes = subst (λ (r : Result WireRequest RequestFault). Passes Does k (learns r any_outside ++ tells unique (Fails (failed EINVAL)) taken) after) (sym is) told;
-    performs = finishes (Fails (failed EINVAL), s) m;
+    passes = subst (λ (r : Result WireRequest RequestFault). Passes Does k (learns true r any_outside ++ tells unique (Fails (failed EINVAL)) taken) after) (sym is) told;
+    performs = record { mid = m; finds = finishes true m; answers = finishes (Fails (failed EINVAL), s) m };
   }

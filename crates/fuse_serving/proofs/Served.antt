@@ -15,8 +15,8 @@ use Rattle.fuse_plans.specs.Requests.{Outside, Request}
 use Rattle.fuse_plans.specs.Protocol.{no_more, one_more, response_bytes}
 use Rattle.fuse_serving.specs.declared.caller.Caller.{Caller}
 use Rattle.fuse_serving.specs.Exchanges.{Exchange, Learns, SeesTime, Passes, passes_none}
-use Rattle.fuse_serving.specs.Rounds.{Round, Scene, IsRound, Rounds, no_round, one_round, AreServed, needs_caller, caller_in, learns, tells, exchanges, heard_in, taken_bytes, written}
-use Rattle.fuse_serving.proofs.Carried.{carried_on, carried_none}
+use Rattle.fuse_serving.specs.Rounds.{Round, Scene, IsRound, Rounds, no_round, one_round, AreServed, caller_in, learns, tells, exchanges, heard_in, taken_bytes, written}
+use Rattle.fuse_serving.proofs.Carried.{whole, carried_on, carried_none}
 use Rattle.fuse_serving.proofs.Passing.{passes_joined}
 
 -- of what was written, what was taken
@@ -34,19 +34,19 @@ told_bytes unique (Says body) false = search rules
 told_bytes unique (Fails e) true = search rules
 told_bytes unique (Fails e) false = search rules
 
-asked_bytes : (now : Time) (pid : ℕ) (caller : Caller) (needs : Bool)
-    → written_of (SeesTime now ∷ (if needs then Learns pid caller ∷ [] else [])) ≡ []
+asked_bytes : (now : Time) (pid : ℕ) (caller : Caller) (nobody : Bool)
+    → written_of (SeesTime now ∷ (if nobody then [] else Learns pid caller ∷ [])) ≡ []
 asked_bytes now pid caller true = refl
 asked_bytes now pid caller false = refl
 
-learnt_bytes : (spoken : Result WireRequest RequestFault) (outside : Outside) → written_of (learns spoken outside) ≡ []
-learnt_bytes (Ok spoken) outside = asked_bytes outside.now spoken.pid (caller_in outside) (needs_caller spoken.operation)
-learnt_bytes (Err e) outside = refl
+learnt_bytes : (nobody : Bool) (spoken : Result WireRequest RequestFault) (outside : Outside) → written_of (learns nobody spoken outside) ≡ []
+learnt_bytes nobody (Ok spoken) outside = asked_bytes outside.now spoken.pid (caller_in outside) nobody
+learnt_bytes nobody (Err e) outside = refl
 
 round_bytes : (r : Round) → written_of (exchanges r) ≡ taken_bytes r
 round_bytes r =
-    flat_map-append written (learns (request_of r.bytes) r.outside) (tells r.request.unique r.response r.taken)
-    ∙ ap (λ (s : List ℕ). s ++ written_of (tells r.request.unique r.response r.taken)) (learnt_bytes (request_of r.bytes) r.outside)
+    flat_map-append written (learns r.nobody (request_of r.bytes) r.outside) (tells r.request.unique r.response r.taken)
+    ∙ ap (λ (s : List ℕ). s ++ written_of (tells r.request.unique r.response r.taken)) (learnt_bytes r.nobody (request_of r.bytes) r.outside)
     ∙ told_bytes r.request.unique r.response r.taken
 
 module _ {M K : Type 0} (Serves : M → Event → Reply → M → Type 0) (Does : K → Exchange → K → Type 0) where
@@ -63,7 +63,8 @@ module _ {M K : Type 0} (Serves : M → Event → Reply → M → Type 0) (Does 
       let more : AreServed Serves Does mid rounds new = are_served rounds mid new rest in
       record {
         hears = one_more round.bytes round.outside round.request (map heard_in rounds) (requests_in rounds) is.hears more.hears;
-        performs = carried_on Serves round.request (requests_in rounds) old.server mid.server new.server old.machine mid.machine new.machine round.response (responses_in rounds) is.performs more.performs;
+        performs = carried_on Serves round.request (requests_in rounds) old.server mid.server new.server old.machine mid.machine new.machine round.response (responses_in rounds)
+            (whole Serves round.request round.nobody round.response old.server mid.server old.machine mid.machine is.performs) more.performs;
         passes = subst (λ (xs : List Exchange). Passes Does old.kernel xs new.kernel) (sym (flat_map-cons exchanges round rounds))
             (passes_joined Does (exchanges round) (flat_map exchanges rounds) old.kernel mid.kernel new.kernel is.passes more.passes);
         is_written =

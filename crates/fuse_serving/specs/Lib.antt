@@ -2,4 +2,3 @@ pub mod Exchanges
 pub mod Rounds
 pub mod Pieces
 pub mod Status
-pub mod Alike

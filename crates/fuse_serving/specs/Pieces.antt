@@ -1,5 +1,5 @@
 -- What the pieces of a round come to.
---     Answers, AnswersWithMemory        a request that was spoken is answered
+--     Answers, AnswersWithMemory        a request that was spoken is answered, once it is known whether who asks counts
 --     scene        of a performer and the kernel
 --     SpokenServed        the same, and its answer is told
 --     ReadComesTo        a read, by whether the server goes on
@@ -18,29 +18,29 @@ use Rattle.fuse_plans.specs.declared.reply.Response.{Response}
 use Rattle.fuse_plans.specs.Plans.{CarriesOut}
 use Rattle.fuse_plans.specs.Requests.{Outside}
 use Rattle.fuse_plans.specs.Protocol.{HasValue, Hears, request_from}
-use Rattle.fuse_plans.specs.Serving.{request_plan}
+use Rattle.fuse_plans.specs.Serving.{answered_as}
 use Rattle.fuse_serving.specs.declared.caller.Caller.{Caller}
 use Rattle.fuse_serving.specs.declared.fault.ServeFault.{ServeFault}
 use Rattle.fuse_serving.specs.Exchanges.{Exchange, Reads, Passes}
-use Rattle.fuse_serving.specs.Rounds.{Round, Scene, IsRound, Ends, IsBreak, ArePerformed, learns, tells, later_exchanges}
+use Rattle.fuse_serving.specs.Rounds.{Round, Scene, IsAnswered, IsRound, Ends, IsBreak, IsFound, ArePerformed, learns, tells, later_exchanges}
 
 -- with memory for what is added, or without
 abbrev pub known : Caller → Time → Bool → Outside
 known caller now memory = record { groups = caller.groups; caps = caller.caps; now = now; memory = memory }
 
-pub record Answers {M : Type 0} (Serves : M → Event → Reply → M → Type 0) (spoken : WireRequest) (caller : Caller) (now : Time)
-    (old new : M) (before after : Server) (response : Response) : Type 0 where
+pub record Answers {M : Type 0} (Serves : M → Event → Reply → M → Type 0) (spoken : WireRequest) (caller : Caller) (nobody : Bool)
+    (now : Time) (old new : M) (before after : Server) (response : Response) : Type 0 where
   pub memory : Bool
   pub acl : Option (Option AccessList)
   pub has_value : memory ≡ true → HasValue spoken.operation acl
-  pub performs : CarriesOut Serves (request_plan (request_from (known caller now memory) acl spoken) before) old new (response, after)
+  pub performs : CarriesOut Serves (answered_as nobody (request_from (known caller now memory) acl spoken) before) old new (response, after)
 
 -- the same where there was memory
-pub record AnswersWithMemory {M : Type 0} (Serves : M → Event → Reply → M → Type 0) (spoken : WireRequest) (caller : Caller) (now : Time)
-    (old new : M) (before after : Server) (response : Response) : Type 0 where
+pub record AnswersWithMemory {M : Type 0} (Serves : M → Event → Reply → M → Type 0) (spoken : WireRequest) (caller : Caller) (nobody : Bool)
+    (now : Time) (old new : M) (before after : Server) (response : Response) : Type 0 where
   pub acl : Option (Option AccessList)
   pub has_value : HasValue spoken.operation acl
-  pub performs : CarriesOut Serves (request_plan (request_from (known caller now true) acl spoken) before) old new (response, after)
+  pub performs : CarriesOut Serves (answered_as nobody (request_from (known caller now true) acl spoken) before) old new (response, after)
 
 -- a performer and the kernel
 abbrev pub scene : {P M K : Type 0} → (P → M) → (P → Server) → P → K → Scene M K
@@ -52,10 +52,11 @@ pub record SpokenServed {M K : Type 0} (Serves : M → Event → Reply → M →
   pub outside : Outside
   pub acl : Option (Option AccessList)
   pub has_value : outside.memory ≡ true → HasValue spoken.operation acl
+  pub nobody : Bool
   pub response : Response
   pub taken : Bool
-  pub performs : CarriesOut Serves (request_plan (request_from outside acl spoken) old.server) old.machine new.machine (response, new.server)
-  pub passes : Passes Does old.kernel (learns (Ok spoken) outside ++ tells spoken.unique response taken) new.kernel
+  pub performs : IsAnswered Serves (request_from outside acl spoken) nobody response old.server new.server old.machine new.machine
+  pub passes : Passes Does old.kernel (learns nobody (Ok spoken) outside ++ tells spoken.unique response taken) new.kernel
 
 -- The request that was read is served.
 pub record ReadServed {M K : Type 0} (Serves : M → Event → Reply → M → Type 0) (Does : K → Exchange → K → Type 0)
@@ -64,7 +65,7 @@ pub record ReadServed {M K : Type 0} (Serves : M → Event → Reply → M → T
   pub is_read : round.bytes ≡ bytes
   pub hears : Hears bytes round.outside round.request
   pub passes : Passes Does old.kernel (later_exchanges round) new.kernel
-  pub performs : CarriesOut Serves (request_plan round.request old.server) old.machine new.machine (round.response, new.server)
+  pub performs : IsAnswered Serves round.request round.nobody round.response old.server new.server old.machine new.machine
 
 -- A read that isn't whole changes nothing.
 pub record IsNotWhole {M K : Type 0} (bytes : List ℕ) (old new : Scene M K) : Type 0 where
@@ -88,4 +89,5 @@ pub record ReadBreaks {M K : Type 0} (Serves : M → Event → Reply → M → T
     (fault : ServeFault) (old new : Scene M K) : Type 0 where
   pub untold : List Round
   pub is_break : (before : K) → Does before (Reads bytes) old.kernel → IsBreak Does fault before untold
+  pub found : IsFound Serves old untold
   pub performed : ArePerformed Serves old untold new

@@ -1,5 +1,6 @@
 -- Requests that are served, one after another.
 --     Round        a request with its answer
+--     IsAnswered        its plan is performed, in two parts
 --     IsRound        how one is served
 --     Rounds        several
 --     IsEnd        why no more are
@@ -10,8 +11,6 @@ use Rattle.std.specs.Prelude.{◌≡◌, ℕ, ◌-◌, ◌^◌, Bool, true, fals
 use Rattle.std.specs.List.{flat_map}
 use Rattle.fs_model.specs.declared.event.Event.{Event}
 use Rattle.fs_model.specs.declared.reply.Reply.{Reply}
-use Rattle.fuse_protocol.specs.declared.operation.Operation.{Operation}
-use Rattle.fuse_protocol.specs.declared.operation.Operation.TheVariants.{Lookup, SetAttr, SymLink, MkNod, MkDir, Unlink, RmDir, Rename, Link, Open, SetXAttr, RemoveXAttr, OpenDir, Access, Create}
 use Rattle.fuse_protocol.specs.declared.request.Request.{Request as WireRequest}
 use Rattle.fuse_protocol.specs.declared.request.RequestFault.{RequestFault}
 use Rattle.fuse_protocol.specs.declared.request.RequestFault.TheVariants.{NotWhole}
@@ -22,17 +21,20 @@ use Rattle.fuse_plans.specs.declared.reply.Response.TheVariants.{Silence, Says, 
 use Rattle.fuse_plans.specs.Plans.{CarriesOut}
 use Rattle.fuse_plans.specs.Requests.{Outside, Request}
 use Rattle.fuse_plans.specs.Protocol.{Hears, HearsAll, response_bytes}
-use Rattle.fuse_plans.specs.Serving.{request_plan, requests_plan}
+use Rattle.fuse_plans.specs.Nobody.{needs_nobody_in}
+use Rattle.fuse_plans.specs.Serving.{answered_as, requests_plan}
 use Rattle.fuse_serving.specs.declared.caller.Caller.{Caller}
 use Rattle.fuse_serving.specs.declared.fault.ServeFault.{ServeFault}
 use Rattle.fuse_serving.specs.declared.fault.ServeFault.TheVariants as faults
 use Rattle.fuse_serving.specs.Exchanges.{Exchange, Reads, ReadsEnd, Writes, Learns, SeesTime, Passes}
 
--- what was read, and what was known beside it; the request that it says, and its answer; and whether the reply was taken
+-- what was read, and what was known beside it; the request that it says, whether it was found to need nobody, and its answer; and
+-- whether the reply was taken
 pub record Round : Type 0 where
   pub bytes : List ℕ
   pub outside : Outside
   pub request : Request
+  pub nobody : Bool
   pub response : Response
   pub taken : Bool
 
@@ -47,33 +49,14 @@ pub record Scene (M K : Type 0) : Type 0 where
 abbrev pub caller_in : Outside → Caller
 caller_in outside = record { groups = outside.groups; caps = outside.caps }
 
--- what is done by a process of who asks, and what may fail for its credential
-abbrev pub needs_caller : Operation → Bool
-needs_caller (Lookup name) = true
-needs_caller (SetAttr changes) = true
-needs_caller (SymLink name target) = true
-needs_caller (MkNod name mode umask) = true
-needs_caller (MkDir name mode umask) = true
-needs_caller (Unlink name) = true
-needs_caller (RmDir name) = true
-needs_caller (Rename name new_directory new_name flags) = true
-needs_caller (Link node name) = true
-needs_caller (Open flags) = true
-needs_caller (SetXAttr name value) = true
-needs_caller (RemoveXAttr name) = true
-needs_caller OpenDir = true
-needs_caller (Access mask) = true
-needs_caller (Create name flags mode umask) = true
-needs_caller _ = false
-
--- Of the others nothing is asked about who asks.
-abbrev pub asks_for : WireRequest → Caller → List Exchange
-asks_for spoken caller = if needs_caller spoken.operation then Learns spoken.pid caller ∷ [] else []
+-- Where nobody is needed nothing is asked about who asks.
+abbrev pub asks_for : Bool → WireRequest → Caller → List Exchange
+asks_for nobody spoken caller = if nobody then [] else Learns spoken.pid caller ∷ []
 
 -- Where the body is of its form.
-abbrev pub learns : Result WireRequest RequestFault → Outside → List Exchange
-learns (Ok spoken) outside = SeesTime outside.now ∷ asks_for spoken (caller_in outside)
-learns (Err e) outside = []
+abbrev pub learns : Bool → Result WireRequest RequestFault → Outside → List Exchange
+learns nobody (Ok spoken) outside = SeesTime outside.now ∷ asks_for nobody spoken (caller_in outside)
+learns nobody (Err e) outside = []
 
 abbrev pub has_reply : Response → Bool
 has_reply Silence = false
@@ -87,10 +70,17 @@ tells unique (Fails e) taken = Writes (response_bytes unique (Fails e)) taken �
 
 -- behind the read
 abbrev pub later_exchanges : Round → List Exchange
-later_exchanges r = learns (request_of r.bytes) r.outside ++ tells r.request.unique r.response r.taken
+later_exchanges r = learns r.nobody (request_of r.bytes) r.outside ++ tells r.request.unique r.response r.taken
 
 abbrev pub exchanges : Round → List Exchange
 exchanges r = Reads r.bytes ∷ later_exchanges r
+
+-- It is found whether who asks counts, which changes nothing that the server keeps; and then the request is answered.
+pub record IsAnswered {M : Type 0} (Serves : M → Event → Reply → M → Type 0) (request : Request) (nobody : Bool) (response : Response)
+    (before after : Server) (old new : M) : Type 0 where
+  pub mid : M
+  pub finds : CarriesOut Serves (needs_nobody_in request.node request.operation before) old mid nobody
+  pub answers : CarriesOut Serves (answered_as nobody request before) mid new (response, after)
 
 -- The request is read, its plan is performed, and the answer is told.
 pub record IsRound {M K : Type 0} (Serves : M → Event → Reply → M → Type 0) (Does : K → Exchange → K → Type 0)
@@ -98,7 +88,7 @@ pub record IsRound {M K : Type 0} (Serves : M → Event → Reply → M → Type
   pub goes_on : old.server.ended ≡ false
   pub hears : Hears round.bytes round.outside round.request
   pub passes : Passes Does old.kernel (exchanges round) new.kernel
-  pub performs : CarriesOut Serves (request_plan round.request old.server) old.machine new.machine (round.response, new.server)
+  pub performs : IsAnswered Serves round.request round.nobody round.response old.server new.server old.machine new.machine
 
 -- ---- several
 
@@ -178,12 +168,18 @@ pub data IsBreak {K : Type 0} (Does : K → Exchange → K → Type 0) (fault : 
   no_time : (bytes : List ℕ) (reached : K) → IsOfClock fault → Does old (Reads bytes) reached → IsBreak Does fault old []
   -- its plan is performed, and whether its answer is taken isn't known
   no_reply : (untold : Round) (reached : K) → IsOfReply fault
-      → Passes Does old (Reads untold.bytes ∷ learns (request_of untold.bytes) untold.outside) reached → IsBreak Does fault old (untold ∷ [])
+      → Passes Does old (Reads untold.bytes ∷ learns untold.nobody (request_of untold.bytes) untold.outside) reached → IsBreak Does fault old (untold ∷ [])
 
 -- The requests of rounds are those that the reads say. Their plans, run one after another, give the answers, told or untold.
 pub record ArePerformed {M K : Type 0} (Serves : M → Event → Reply → M → Type 0) (old : Scene M K) (rounds : List Round) (new : Scene M K) : Type 0 where
   pub hears : HearsAll (map heard_in rounds) (map (λ r. r.request) rounds)
   pub performs : CarriesOut Serves (requests_plan (map (λ r. r.request) rounds) old.server) old.machine new.machine (map (λ r. r.response) rounds, new.server)
+
+-- of the first of these it was found whether who asks counts
+abbrev pub IsFound : {M K : Type 0} → (M → Event → Reply → M → Type 0) → Scene M K → List Round → Type 0
+IsFound Serves old [] = Unit {0}
+IsFound {M} Serves old (round ∷ rounds) =
+    (mid : M) × CarriesOut Serves (needs_nobody_in round.request.node round.request.operation old.server) old.machine mid round.nobody
 
 -- No more is asked than the plan of the request that is untold, if one is.
 pub record Breaks {M K : Type 0} (Serves : M → Event → Reply → M → Type 0) (Does : K → Exchange → K → Type 0) (fault : ServeFault)
@@ -191,6 +187,7 @@ pub record Breaks {M K : Type 0} (Serves : M → Event → Reply → M → Type 
   pub goes_on : old.server.ended ≡ false
   pub untold : List Round
   pub is_break : IsBreak Does fault old.kernel untold
+  pub found : IsFound Serves old untold
   pub performed : ArePerformed Serves old untold new
 
 -- Requests were served until a fault. All that was asked is their plans, and that of the request that is untold, one after another.

@@ -40,9 +40,10 @@ fn ask<P: Performer>(
     performer: &mut P,
     spoken: &Request<'_>,
     caller: &Caller,
+    needs_nobody: bool,
     now: Time,
 ) -> Result<Response, AllocError>
-    ensures answered { IfOk result (AnswersWithMemory P.Serves spoken.now caller.now now
+    ensures answered { IfOk result (AnswersWithMemory P.Serves spoken.now caller.now needs_nobody now
         (P.machine performer.old) (P.machine performer.new) (P.server performer.old) (P.server performer.new)) }
     ensures machine { OnErr result (P.machine performer.new ≡ P.machine performer.old) }
     ensures kept { OnErr result (P.server performer.new ≡ P.server performer.old) }
@@ -54,6 +55,7 @@ fn ask<P: Performer>(
     let value = value_in(alloc, &spoken.operation)?;
     let asked = Asked {
         node: spoken.node,
+        needs_nobody,
         cred,
         now,
     };
@@ -61,18 +63,19 @@ fn ask<P: Performer>(
     Ok(response)
 }
 
-/// The answer to a request, whose plan is performed.
+/// The answer to a request, whose plan is performed once it is known whether who asks counts.
 pub(crate) fn answer<P: Performer>(
     alloc: Global,
     performer: &mut P,
     spoken: &Request<'_>,
     caller: &Caller,
+    needs_nobody: bool,
     now: Time,
 ) -> Response
-    ensures { Answers P.Serves spoken.now caller.now now
+    ensures { Answers P.Serves spoken.now caller.now needs_nobody now
         (P.machine performer.old) (P.machine performer.new) (P.server performer.old) (P.server performer.new) result }
 {
-    match ask(alloc, performer, spoken, caller, now) {
+    match ask(alloc, performer, spoken, caller, needs_nobody, now) {
         Ok(response) => response,
         Err(AllocError) => refused(&spoken.operation),
     }

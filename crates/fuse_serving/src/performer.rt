@@ -1,5 +1,6 @@
 //! What performs the plans of requests.
 ghost use Rattle.std.specs.Prelude.{◌≡◌, true, IfOk, OnErr};
+ghost use Rattle.fuse_plans.specs.Nobody.{needs_nobody};
 ghost use Rattle.fuse_plans.specs.Plans.{CarriesOut};
 ghost use Rattle.fuse_plans.specs.Serving.{answered, plan_of};
 
@@ -28,6 +29,11 @@ pub trait Performer {
     /// Whether it was told to end.
     fn is_ended(&self) -> bool
         ensures { result ≡ (server self.now).ended };
+
+    /// Whether who asks doesn't count for an operation of this node. Nothing changes of what is kept.
+    fn needs_nobody(&mut self, node: u64, operation: &Operation<'_>) -> bool
+        ensures decided { CarriesOut Serves (needs_nobody node operation.now (server self.old)) (machine self.old) (machine self.new) result }
+        ensures kept { server self.new ≡ server self.old };
 
     /// Performs the plan of an operation, with the ACL that the value of an attribute says. Where memory is lacking for what the
     /// plan adds, nothing is asked and nothing changes.

@@ -3,7 +3,6 @@ ghost use Rattle.std.specs.Prelude.{◌≡◌, IfOk};
 ghost use Rattle.fs_cred.specs.Capabilities.{usual_caps};
 ghost use Rattle.fuse_plans.specs.Protocol.{IsValueOf, HasValue};
 ghost use Rattle.fuse_plans.specs.Requests.{caps_left, credential_with};
-ghost use Rattle.fuse_serving.specs.Rounds.{needs_caller};
 
 use crate::caller::Caller;
 use bitflags::Flags;
@@ -74,29 +73,5 @@ pub(crate) fn value_in(
     match operation {
         Operation::SetXAttr { value, .. } => acl_of_value(alloc, value.bytes()),
         _ => Ok(None),
-    }
-}
-
-/// Whether the plan of an operation asks who asks.
-pub(crate) fn needs_caller(operation: &Operation<'_>) -> bool
-    ensures { result ≡ needs_caller operation.now }
-{
-    match operation {
-        Operation::Lookup(_)
-        | Operation::SetAttr(_)
-        | Operation::SymLink { .. }
-        | Operation::MkNod { .. }
-        | Operation::MkDir { .. }
-        | Operation::Unlink(_)
-        | Operation::RmDir(_)
-        | Operation::Rename { .. }
-        | Operation::Link { .. }
-        | Operation::Open(_)
-        | Operation::SetXAttr { .. }
-        | Operation::RemoveXAttr(_)
-        | Operation::OpenDir
-        | Operation::Access(_)
-        | Operation::Create { .. } => true,
-        _ => false,
     }
 }

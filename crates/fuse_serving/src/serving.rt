@@ -10,7 +10,6 @@ use crate::caller::Caller;
 use crate::fault::ServeFault;
 use crate::kernel::Kernel;
 use crate::performer::Performer;
-use crate::question::needs_caller;
 use crate::reply::write_response;
 use crate::room::ReplyRoom;
 use crate::witness::Witness;
@@ -39,10 +38,10 @@ fn tell<K: Kernel>(
 
 // What is known of who asks, where that counts.
 #[tactic(auto, using(crate::proofs::Passing::learns_nothing, crate::proofs::Passing::learns_one))]
-fn learn<K: Kernel>(kernel: &mut K, spoken: &Request<'_>) -> Caller
-    ensures { Passes K.Does kernel.old (asks_for spoken.now result) kernel.new }
+fn learn<K: Kernel>(kernel: &mut K, spoken: &Request<'_>, needs_nobody: bool) -> Caller
+    ensures { Passes K.Does kernel.old (asks_for needs_nobody spoken.now result) kernel.new }
 {
-    if !needs_caller(&spoken.operation) {
+    if needs_nobody {
         return Caller::unknown();
     }
     kernel.caller(spoken.pid, spoken.uid, spoken.gid)
@@ -66,8 +65,9 @@ fn serve_spoken<P: Performer, K: Kernel, W: Witness>(
         Ok(now) => now,
         Err(fault) => return Err(ServeFault::Clock(fault)),
     };
-    let caller = learn(kernel, spoken);
-    let response = answer(alloc, performer, spoken, &caller, now);
+    let needs_nobody = performer.needs_nobody(spoken.node, &spoken.operation);
+    let caller = learn(kernel, spoken, needs_nobody);
+    let response = answer(alloc, performer, spoken, &caller, needs_nobody, now);
     witness.see(spoken, &response, now);
     let _taken = tell(kernel, room, spoken.unique, &response)?;
     Ok(())

@@ -21,6 +21,10 @@ impl<M: Machine> Performer for Session<M> {
         self.is_ended()
     }
 
+    fn needs_nobody(&mut self, node: u64, operation: &Operation<'_>) -> bool {
+        self.needs_nobody(node, operation)
+    }
+
     fn perform(
         &mut self,
         asked: Asked,

@@ -1,5 +1,6 @@
 mod Answerings
 mod ByPlaces
 mod Doings
+mod Judging
 mod Pieces
 mod Writings

@@ -1,7 +1,7 @@
 //! The first request: what is agreed on with the kernel.
 ghost use Rattle.std.specs.Prelude.{◌≡◌, ◌≤◌, [], None};
 ghost use Rattle.fs_cred.specs.Credentials.{usual_credential};
-ghost use Rattle.fuse_plans.specs.Serving.{wanted_flags, pages, terms, agreed, or_looker, begin};
+ghost use Rattle.fuse_plans.specs.Serving.{wanted_flags, pages, terms, agreed, offers_acls, or_looker, begin};
 ghost use Rattle.fuse_sessions.specs.Performing.{Did};
 
 use crate::caller::ask_spawn;
@@ -82,6 +82,13 @@ fn agreed(offer: &Offer, settings: Settings) -> ReplyBody
     )
 }
 
+// Whether the kernel offers to judge by ACLs.
+fn offers_acls(offer: &Offer) -> bool
+    ensures { result ≡ offers_acls offer.now }
+{
+    offer.flags.bits() & InitFlags::POSIX_ACL.bits() != 0
+}
+
 impl<M: Machine> Session<M> {
     // The server's own process begins, unless it has.
     fn or_looker(&mut self, own: Cred) -> Result<(), Stop>
@@ -123,6 +130,7 @@ impl<M: Machine> Session<M> {
             return Ok(terms(0, 0, 0, 0));
         }
         self.or_looker(own)?;
+        self.server.agree_on_acls(offers_acls(offer));
         Ok(agreed(offer, self.server.settings()))
     }
 }

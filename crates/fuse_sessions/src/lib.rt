@@ -11,6 +11,7 @@ mod files;
 mod handles;
 mod moves;
 mod names;
+mod nobody;
 mod number;
 mod object;
 mod session;

@@ -1,6 +1,7 @@
-//! Requests for names that are found or made: each is asked of a directory, and performed by a process of who asks.
+//! Requests for names that are found or made: each is asked of a directory, and performed by a process of who asks, but for look-ups
+//! that need nobody.
 ghost use Rattle.std.specs.Prelude.{◌≡◌, ◌+◌, ◌≤◌, ℕ, List, Some, IsSome};
-ghost use Rattle.fuse_plans.specs.NamePlans.{directory_for, find_name, made, make_by, directory_and_caller, make_link, set_umask, make_masked, make_directory, close, open_and_close, opens, done_closed, make_file, searched_directory, find_inside};
+ghost use Rattle.fuse_plans.specs.NamePlans.{directory_for, find_name, made, make_by, directory_and_caller, make_link, set_umask, make_masked, make_directory, close, open_and_close, opens, done_closed, make_file, searched_directory, find_inside, searcher};
 ghost use Rattle.fuse_plans.specs.Paths.{name_in};
 ghost use Rattle.fuse_sessions.specs.Performing.{Did};
 ghost use Rattle.fuse_steps.specs.Performing.{DidByMachine};
@@ -86,8 +87,21 @@ impl<M: Machine> Session<M> {
         ensures { Did M.Serves (find_name asked.entry.now name) self.old self.new result }
     {
         let directory = self.searched_directory(asked.node, &name)?;
-        let pid = self.caller(copy)?;
+        let pid = self.searcher(asked, copy)?;
         self.find_inside(pid, directory, name)
+    }
+
+    // By whom a name is looked up: by the server's own process where nobody is needed.
+    fn searcher(&mut self, asked: &Asked, copy: Option<Cred>) -> Result<usize, Stop>
+        requires copy { copy ≡ asked.now.cred }
+        requires room { 1 ≤ self.old.server.room }
+        ensures did { Did M.Serves (searcher asked.entry.now) self.old self.new result }
+        ensures room { self.old.server.room ≤ self.new.server.room + 1 }
+    {
+        if asked.needs_nobody {
+            return self.the_looker();
+        }
+        self.caller(copy)
     }
 
     // The directory in which a name is looked for.

@@ -141,7 +141,8 @@ impl<M: Machine> Session<M> {
         }
     }
 
-    fn acl_of(&mut self, inode: u32, which: AclType) -> Result<Option<Acl>, Stop>
+    /// An ACL, where it says more than the mode.
+    pub(crate) fn acl_of(&mut self, inode: u32, which: AclType) -> Result<Option<Acl>, Stop>
         ensures did { Did M.Serves (acl_of inode which) self.old self.new result }
         ensures kept { self.new.server ≡ self.old.server }
     {

@@ -2,7 +2,7 @@
 ghost use Rattle.std.specs.Prelude.{⊤, false};
 ghost use Rattle.fuse_state.specs.Servers.{new_server};
 
-use fuse_plans::{Asked, Response};
+use fuse_plans::{Asked, Response, needs_caller};
 use fuse_protocol::{Operation, Time};
 use fuse_serving::{Caller, Kernel, Nobody, Performer, ReplyRoom, serve};
 use posix_acl::Acl;
@@ -24,6 +24,13 @@ impl Performer for Lacking {
 
     fn is_ended(&self) -> bool {
         false
+    }
+
+    fn needs_nobody(&mut self, _node: u64, operation: &Operation<'_>) -> bool {
+        match operation {
+            Operation::Lookup(_) => false,
+            _ => !needs_caller(operation),
+        }
     }
 
     fn perform(

@@ -2,7 +2,7 @@ use Rattle.std.proofs.Common.{true, false, None, ap}
 use Rattle.fuse_state.specs.Servers.{Server}
 use Rattle.fuse_plans.specs.declared.request.Asked.{Asked}
 use Rattle.fuse_plans.specs.Requests.{credential_for}
-use Rattle.fuse_plans.specs.Serving.{answered, plan_of, request_plan}
+use Rattle.fuse_plans.specs.Serving.{answered, plan_of}
 use Rattle.fuse_serving.specs.Pieces.{known}
 use Rattle.fuse_serving.proofs.Carried.{nothing_asked}
 use Rattle.fuse_serving.proofs.answer.answer.Goals as goal
@@ -13,11 +13,10 @@ returns-in-Ok g c =
     record { memory = true; acl = with.acl; has_value = λ _. with.has_value; performs = with.performs }
 
 pub returns-in-Err : goal.returns-in-Err
-unfolding request_plan
 returns-in-Err g c =
     let p = g.P.Performer in
     let spoken = c.args.spoken.now in
-    let asked : Asked = record { node = spoken.node; cred = credential_for spoken.uid spoken.gid (known c.args.caller.now c.args.now false); now = c.args.now } in
+    let asked : Asked = record { node = spoken.node; needs_nobody = c.args.needs_nobody; cred = credential_for spoken.uid spoken.gid (known c.args.caller.now c.args.now false); now = c.args.now } in
     let before : Server = p.server c.args.performer.now in
     record {
       memory = false;

@@ -1,8 +1,10 @@
+use Rattle.std.specs.Prelude.{Bool}
 use Rattle.std.proofs.Common.{refl, ap, ◌∙◌}
 use Rattle.std.proofs.lemmas.Bool.{le-ltb, lt-ltb}
 use Rattle.fuse_state.specs.declared.settings.Settings.{Settings}
+use Rattle.fuse_state.specs.Servers.{with_acls_offered}
 use Rattle.fuse_plans.specs.Serving.{begin, agreed}
-use Rattle.fuse_sessions.proofs.Doings.{then-ok, then-fails, reads, reads-last, where-true, where-false, gives-as, stops}
+use Rattle.fuse_sessions.proofs.Doings.{then-ok, then-fails, keeps, reads, reads-last, where-true, where-false, gives-as, stops}
 use Rattle.fuse_sessions.proofs.session.Session.begin.Goals as goal
 
 pub returns-then-offer-lt-VERSION : goal.returns-then-offer-lt-VERSION
@@ -24,4 +26,5 @@ pub returns : goal.returns
 unfolding begin
 returns g c =
     where-false _ _ (le-ltb _ _ c.if-offer-lt-VERSION.false) (where-false _ _ (le-ltb _ _ c.if-offer-gt-VERSION.false)
-    (reads _ _ refl (then-ok _ c.in_ok-or_looker.ensures.did (reads-last _ _ (c.agreed.ensures ∙ ap (λ (k : Settings). agreed c.args.offer.now k) c.settings.ensures)))))
+    (reads _ _ refl (then-ok _ c.in_ok-or_looker.ensures.did
+    (keeps _ _ refl (c.agree_on_acls.ensures.kept ∙ ap (λ (b : Bool). with_acls_offered b c.or_looker.new.self.server.server) c.offers_acls.ensures) (reads-last _ _ (c.agreed.ensures ∙ ap (λ (k : Settings). agreed c.args.offer.now k) c.settings.ensures))))))

@@ -6,7 +6,7 @@ returns-in_err-directory g c = then-fails _ c.from_residual.ensures c.in_err-dir
 
 pub returns-in_err-pid : goal.returns-in_err-pid
 returns-in_err-pid g c =
-    then-ok _ c.in_ok-directory.ensures (then-fails _ c.from_residual-in_err-pid.ensures (rw c.requires.copy at c.in_err-pid.ensures.did))
+    then-ok _ c.in_ok-directory.ensures (then-fails _ c.from_residual-in_err-pid.ensures c.in_err-pid.ensures.did)
 
 pub returns : goal.returns
-returns g c = then-ok _ c.in_ok-directory.ensures (then-ok _ (rw c.requires.copy at c.in_ok-pid.ensures.did) c.find_inside.ensures)
+returns g c = then-ok _ c.in_ok-directory.ensures (then-ok _ c.in_ok-pid.ensures.did c.find_inside.ensures)

@@ -1,0 +1,290 @@
+-- How it is found whether a request needs nobody.
+--     Stays, stays-is_masked        work that changes nothing of what the server keeps
+--     decided_at_once        of all but look-ups
+--     AtHome, keeps-needs_nobody_in        what may be asked for it
+--     who_asks_counts_only_where_needed
+use Rattle.std.specs.Prelude.{◌≡◌, ℕ, ◌==◌, Bool, true, false, not, ◌&&◌, List, [], ◌∷◌, Option, None, Some, Result, Ok, Err, if◌then◌else◌}
+use Rattle.std.proofs.Common.{refl, sym, ap, subst, ◌∙◌}
+use Rattle.posix_acl.specs.AccessList.{AccessList}
+use Rattle.fs_cred.specs.Credentials.{Credential}
+use Rattle.fs_cred.specs.declared.refusal.Refusal.{Refusal}
+use Rattle.fs_cred.specs.declared.errno.Errno.TheVariants.{EACCES}
+use Rattle.fs_model.specs.Limits.{root}
+use Rattle.fs_model.specs.declared.call.AclType.TheVariants.{Access as AccessAcl}
+use Rattle.fs_model.specs.declared.call.Call.{Call}
+use Rattle.fs_model.specs.declared.call.Call.TheVariants.{Lstat}
+use Rattle.fs_model.specs.declared.event.Event.{Event}
+use Rattle.fs_model.specs.declared.reply.FileType.{FileType}
+use Rattle.fs_model.specs.declared.reply.Reply.{Reply}
+use Rattle.fs_model.specs.declared.reply.Status.{Status}
+use Rattle.fuse_protocol.specs.declared.operation.Operation.{Operation}
+use Rattle.fuse_protocol.specs.declared.operation.Operation.TheVariants.{Lookup, Forget, GetAttr, SetAttr, ReadLink, SymLink, MkNod, MkDir, Unlink, RmDir, Rename, Link, Open, Read, Write, StatFs, Release, FSync, SetXAttr, GetXAttr, ListXAttr, RemoveXAttr, Init, OpenDir, ReadDir, ReleaseDir, FSyncDir, Access, Create, Interrupt, Destroy, BatchForget, SyncFs, Unknown}
+use Rattle.fuse_state.specs.Servers.{Server}
+use Rattle.fuse_plans.specs.declared.stop.Stop.{Stop}
+use Rattle.fuse_plans.specs.Stops.{is_for}
+use Rattle.fuse_plans.specs.declared.request.Asked.{Asked}
+use Rattle.fuse_plans.specs.Plans.{Plan, Finish, Ask, CarriesOut, finishes, IsRunOf, Restraint, KeepsTo}
+use Rattle.fuse_plans.specs.Works.{Work, give, stop, kept, goes_on, ◌>>=◌, attempt, needed, ask, give_unless, refusal_in, unless_refused, obtain}
+use Rattle.fuse_plans.specs.Callers.{the_looker, between, or_inside, on, by_looker, is_known_directory, the_number, directory_number}
+use Rattle.fuse_plans.specs.AclPlans.{acl_of}
+use Rattle.fuse_plans.specs.Nobody.{needs_caller, may_hide, hides, asks_list, is_masked, unless_masked, is_judged, needs_nobody, needs_nobody_in}
+use Rattle.fuse_plans.specs.Acts.{IsObject, node_of_object}
+use Rattle.fuse_plans.specs.Requests.{Request, asked_of}
+use Rattle.fuse_plans.specs.Serving.{plan_of, asked_for, answered}
+use Rattle.fuse_plans.specs.Conduct.{Known, Rights, conduct}
+use Rattle.fuse_plans.specs.Laws.{known_in, WhoAsksCountsOnlyWhereNeeded}
+use Rattle.fuse_plans.proofs.Conducts.{Any, Still, Left, Does, Lasts, does-give, does->>=, does-lasts, lasts->>=, then-lasts, keeps-followed_by}
+use Rattle.fuse_plans.proofs.Calls.{AsksOf, about-still, is-object, does-by_looker, does-replied_status, gives-directory_number}
+use Rattle.fuse_plans.proofs.OtherConducts.{does-acl_of}
+use Rattle.fuse_plans.proofs.ToldNodes.{AllEnd, all-followed_by}
+
+-- ---- what stays
+
+-- whatever is replied, the server keeps what it kept
+pub record Stays {X : Type 0} (w : Work X) : Type 0 where
+  pub at : (s : Server) → AllEnd (λ r. r.1 ≡ s) (w s)
+
+stays-give : {X : Type 0} (x : X) → Stays (give x)
+unfolding give
+stays-give x = record { at = λ s. refl }
+
+stays-stop : {X : Type 0} (e : Stop) → Stays {X = X} (stop e)
+unfolding stop
+stays-stop e = record { at = λ s. refl }
+
+stays-kept : {X : Type 0} (f : Server → X) → Stays (kept f)
+unfolding kept
+stays-kept f = record { at = λ s. refl }
+
+stays->>= : {X Y : Type 0} {w : Work X} {f : X → Work Y} → Stays w → ((x : X) → Stays (f x)) → Stays (w >>= f)
+unfolding ◌>>=◌
+stays->>= {X} {Y} {w} {f} first rest = record { at = λ s. all-followed_by (λ r. r.1 ≡ s) (λ r. r.1 ≡ s) (w s) (goes_on f) (first.at s) (next s) }
+  where
+    next : (s : Server) (r : Result X Stop × Server) → r.1 ≡ s → AllEnd (λ q. q.1 ≡ s) (goes_on f r)
+    next s (Ok x, t) is = subst (λ u. AllEnd (λ q. q.1 ≡ u) (f x t)) is ((rest x).at t)
+    next s (Err e, t) is = is
+
+stays-attempt : {X : Type 0} {w : Work X} → Stays w → Stays (attempt w)
+unfolding attempt
+stays-attempt {X} {w} first = record {
+  at = λ s. all-followed_by (λ r. r.1 ≡ s) (λ r. r.1 ≡ s) (w s) (λ r. Finish (Ok r.0, r.1)) (first.at s) (λ r is. is);
+}
+
+stays-if : {X : Type 0} (b : Bool) (w v : Work X) → Stays w → Stays v → Stays (if b then w else v)
+stays-if true w v first second = first
+stays-if false w v first second = second
+
+stays-needed : {X : Type 0} (e : Stop) (o : Option X) → Stays (needed e o)
+stays-needed e None = stays-stop e
+stays-needed e (Some x) = stays-give x
+
+stays-ask : (e : Event) → Stays (ask e)
+unfolding ask
+stays-ask e = record { at = λ s reply. refl }
+
+stays-unless_refused : (reply : Reply) → Stays (unless_refused reply)
+stays-unless_refused reply = choose (refusal_in reply)
+  where
+    choose : (o : Option Refusal) → Stays (give_unless reply o)
+    choose None = stays-give reply
+    choose (Some r) = stays-stop _
+
+stays-obtain : (e : Event) → Stays (obtain e)
+stays-obtain e = stays->>= (stays-ask e) stays-unless_refused
+
+stays-between : (pid d second : ℕ) (call : Call) → Stays (between pid d second call)
+unfolding between
+stays-between pid d second call =
+    stays->>= (stays-obtain _) (λ entered.
+    stays->>= (stays-ask _) (λ reply. stays->>= (stays-ask _) (λ back. stays-unless_refused reply)))
+
+stays-or_inside : (pid n : ℕ) (call : List ℕ → Call) (kind : Option FileType) (r : Result Reply Stop) → Stays (or_inside pid n call kind r)
+stays-or_inside pid n call kind (Ok reply) = stays-give reply
+stays-or_inside pid n call kind (Err e) = stays-if (is_for EACCES e && is_known_directory kind) _ _ (stays-between pid n n _) (stays-stop e)
+
+stays-on : (pid n : ℕ) (call : List ℕ → Call) → Stays (on pid n call)
+unfolding on
+stays-on pid n call =
+    stays-if (n == root) _ _ (stays-obtain _)
+    (stays->>= (stays-kept _) (λ place.
+    stays->>= (stays-needed _ place) (λ p.
+    stays->>= (stays-kept _) (λ kind.
+    stays->>= (stays-attempt (stays-between pid p.directory p.directory _)) (stays-or_inside pid n call kind)))))
+
+stays-by_looker : (n : ℕ) (call : List ℕ → Call) → Stays (by_looker n call)
+unfolding the_looker
+stays-by_looker n call = stays->>= (stays->>= (stays-kept _) (stays-needed _)) (λ pid. stays-on pid n call)
+
+stays-asks_list : (n : ℕ) (status : Status) → Stays (asks_list n status)
+stays-asks_list n status =
+    stays-if (may_hide status.mode) _ _
+    (stays->>= (stays->>= (stays-by_looker n _) (λ reply. stays->>= (stays-needed _ _) (λ acl. stays-give _))) (λ acl. stays-give _))
+    (stays-give false)
+
+pub stays-is_masked : (node : ℕ) → Stays (is_masked node)
+unfolding is_masked directory_number the_number
+stays-is_masked node =
+    stays->>= (stays->>= (stays->>= (stays-kept _) (stays-needed _)) (λ n. stays->>= (stays-kept _) (λ kind. stays-if (is_known_directory kind) _ _ (stays-give n) (stays-stop _))))
+    (λ n.
+    stays->>= (stays->>= (stays-by_looker n Lstat) (λ reply. stays-needed _ _)) (λ status. stays-asks_list n status))
+
+-- ---- what may be asked
+
+keeps-both : {M X : Type 0} (rule : Restraint M) (E : M → X → Type 0) (Q : X → Type 0) (p : Plan X) (m : M)
+    → KeepsTo rule E m p → AllEnd Q p → KeepsTo rule (λ n x. E n x × Q x) m p
+keeps-both rule E Q (Finish x) m keeps all = (keeps, all)
+keeps-both rule E Q (Ask e next) m keeps all = (keeps.0, λ reply. keeps-both rule E Q (next reply) (rule.after m e reply) (keeps.1 reply) (all reply))
+
+-- Nobody is away, and the processes are those that there were.
+pub record AtHome (s : Server) (known : Known) (nobody : Bool) : Type 0 where
+  pub home : known.away ≡ None
+  pub processes : known.processes ≡ s.processes
+
+-- of all but look-ups nothing is asked
+abbrev pub is_lookup : Operation → Bool
+is_lookup (Lookup name) = true
+is_lookup _ = false
+
+pub at_once : (node : ℕ) (operation : Operation) (s : Server) → is_lookup operation ≡ false → needs_nobody node operation s ≡ Finish (not (needs_caller operation))
+at_once node (Lookup name) s is = absurd (cc)
+at_once node Forget s is = refl
+at_once node GetAttr s is = refl
+at_once node (SetAttr changes) s is = refl
+at_once node ReadLink s is = refl
+at_once node (SymLink name target) s is = refl
+at_once node (MkNod name mode umask) s is = refl
+at_once node (MkDir name mode umask) s is = refl
+at_once node (Unlink name) s is = refl
+at_once node (RmDir name) s is = refl
+at_once node (Rename name new_directory new_name flags) s is = refl
+at_once node (Link old_node name) s is = refl
+at_once node (Open flags) s is = refl
+at_once node (Read extent) s is = refl
+at_once node (Write handle offset bytes) s is = refl
+at_once node StatFs s is = refl
+at_once node (Release handle) s is = refl
+at_once node (FSync handle) s is = refl
+at_once node (SetXAttr name bytes) s is = refl
+at_once node (GetXAttr name size) s is = refl
+at_once node (ListXAttr size) s is = refl
+at_once node (RemoveXAttr name) s is = refl
+at_once node (Init offer) s is = refl
+at_once node OpenDir s is = refl
+at_once node (ReadDir extent) s is = refl
+at_once node (ReleaseDir handle) s is = refl
+at_once node FSyncDir s is = refl
+at_once node (Access mask) s is = refl
+at_once node (Create name flags mode umask) s is = refl
+at_once node Interrupt s is = refl
+at_once node Destroy s is = refl
+at_once node BatchForget s is = refl
+at_once node SyncFs s is = refl
+at_once node Unknown s is = refl
+
+is_lookup_alone : (operation : Operation) → ((name : List ℕ) → operation ≡ Lookup name → ⊥) → is_lookup operation ≡ false
+is_lookup_alone (Lookup name) other = absurd (other name refl)
+is_lookup_alone _ other = refl
+
+pub decided_at_once : {M : Type 0} {Serves : M → Event → Reply → M → Type 0} (node : ℕ) (operation : Operation) (s : Server) (m : M)
+    → ((name : List ℕ) → operation ≡ Lookup name → ⊥) → CarriesOut Serves (needs_nobody node operation s) m m (not (needs_caller operation))
+decided_at_once {M} {Serves} node operation s m other =
+    subst (λ p. CarriesOut Serves p m m (not (needs_caller operation))) (sym (at_once node operation s (is_lookup_alone operation other)))
+    (finishes (not (needs_caller operation)) m)
+
+module _ (rights : Rights) (node : ℕ) (same : rights.subject.node ≡ node) (s : Server) (start : rights.subject.start ≡ s) (own : rights.looker ≡ s.looker) where
+  does-asks_list : (n : ℕ) (b : Bool) → IsObject rights.subject n
+      → Does rights (Still rights) (if b then (acl_of n AccessAcl >>= (λ acl. give (hides acl))) else give false)
+  does-asks_list n true object = does->>= (does-acl_of n AccessAcl object) (λ acl. does-give _)
+  does-asks_list n false object = does-give false
+
+  lasts-is_masked : AsksOf rights node → Lasts rights (Still rights) (is_masked node)
+  unfolding is_masked
+  lasts-is_masked asks =
+      then-lasts (gives-directory_number node (λ n was. is-object rights node asks n was)) (λ n object.
+      lasts->>= (does->>= (does-by_looker n Lstat (λ path. refl) (λ path. refl) (about-still n object)) does-replied_status) (λ status.
+      does-lasts (does-asks_list n (may_hide status.mode) object)))
+
+  begins_still : Still rights s
+  begins_still = record { kinds = ap (λ t. t.kinds) (sym start); generations = ap (λ t. t.generations) (sym start); names = ap (λ t. t.names) (sym start) }
+
+  keeps-is_judged : AsksOf rights node → (b : Bool) → KeepsTo (conduct rights) (AtHome s) (known_in s) (is_judged node b s)
+  keeps-is_judged asks false = record { home = refl; processes = refl }
+  keeps-is_judged asks true =
+      keeps-followed_by (conduct rights) (λ known r. Left rights Any known r × (r.1 ≡ s)) (AtHome s) (is_masked node s) (λ r. Finish (unless_masked r.0)) (known_in s)
+      (keeps-both (conduct rights) (Left rights Any) (λ r. r.1 ≡ s) (is_masked node s) (known_in s)
+      ((lasts-is_masked asks).goes (known_in s) s (record { home = refl; processes = refl; looker = sym own; holds = begins_still })) ((stays-is_masked node).at s))
+      (λ known r left. record { home = left.0.home; processes = left.0.processes ∙ ap (λ t. t.processes) left.1 })
+
+  keeps-needs_nobody : (operation : Operation) → rights.subject.operation ≡ Some operation → (b : Bool) → is_lookup operation ≡ b
+      → KeepsTo (conduct rights) (AtHome s) (known_in s) (needs_nobody node operation s)
+  keeps-needs_nobody (Lookup name) asks b is = keeps-is_judged (ap (λ o. node_of_object o rights.subject.node) asks ∙ same) s.settings.posix_acl
+  keeps-needs_nobody operation asks true is = absurd (cc)
+  keeps-needs_nobody operation asks false is =
+      subst (λ p. KeepsTo (conduct rights) (AtHome s) (known_in s) p) (sym (at_once node operation s is)) (record { home = refl; processes = refl })
+
+  pub keeps-needs_nobody_in : (operation : Option Operation) → rights.subject.operation ≡ operation
+      → KeepsTo (conduct rights) (AtHome s) (known_in s) (needs_nobody_in node operation s)
+  keeps-needs_nobody_in None asks = record { home = refl; processes = refl }
+  keeps-needs_nobody_in (Some operation) asks = keeps-needs_nobody operation asks (is_lookup operation) refl
+
+-- ---- who asks
+
+alike-plan : (r : Asked) (cred : Option Credential) (value : Option (Option AccessList)) (operation : Operation) → needs_caller operation ≡ false
+    → plan_of (record r { cred = cred }) value operation ≡ plan_of r value operation
+alike-plan r cred value (Lookup name) is = absurd (cc)
+alike-plan r cred value Forget is = refl
+alike-plan r cred value GetAttr is = refl
+alike-plan r cred value (SetAttr changes) is = absurd (cc)
+alike-plan r cred value ReadLink is = refl
+alike-plan r cred value (SymLink name target) is = absurd (cc)
+alike-plan r cred value (MkNod name mode umask) is = absurd (cc)
+alike-plan r cred value (MkDir name mode umask) is = absurd (cc)
+alike-plan r cred value (Unlink name) is = absurd (cc)
+alike-plan r cred value (RmDir name) is = absurd (cc)
+alike-plan r cred value (Rename name new_directory new_name flags) is = absurd (cc)
+alike-plan r cred value (Link old_node name) is = absurd (cc)
+alike-plan r cred value (Open flags) is = absurd (cc)
+alike-plan r cred value (Read extent) is = refl
+alike-plan r cred value (Write handle offset bytes) is = refl
+alike-plan r cred value StatFs is = refl
+alike-plan r cred value (Release handle) is = refl
+alike-plan r cred value (FSync handle) is = refl
+alike-plan r cred value (SetXAttr name bytes) is = absurd (cc)
+alike-plan r cred value (GetXAttr name size) is = refl
+alike-plan r cred value (ListXAttr size) is = refl
+alike-plan r cred value (RemoveXAttr name) is = absurd (cc)
+alike-plan r cred value (Init offer) is = refl
+alike-plan r cred value OpenDir is = absurd (cc)
+alike-plan r cred value (ReadDir extent) is = refl
+alike-plan r cred value (ReleaseDir handle) is = refl
+alike-plan r cred value FSyncDir is = refl
+alike-plan r cred value (Access mask) is = absurd (cc)
+alike-plan r cred value (Create name flags mode umask) is = absurd (cc)
+alike-plan r cred value Interrupt is = refl
+alike-plan r cred value Destroy is = refl
+alike-plan r cred value BatchForget is = refl
+alike-plan r cred value SyncFs is = refl
+alike-plan r cred value Unknown is = refl
+
+alike-search : (r : Request) (s : Server) (cred : Option Credential) (operation : Option Operation) (es : List Event) (replies : List Reply)
+    → IsRunOf (needs_nobody_in r.node operation s) es replies true
+    → asked_for (asked_of (record r { cred = cred }) true) r.value operation ≡ asked_for (asked_of r true) r.value operation
+alike-search r s cred None es replies runs = refl
+alike-search r s cred (Some operation) es replies runs = choose operation (is_lookup operation) refl runs
+  where
+    found : (b : Bool) (es : List Event) (replies : List Reply) → IsRunOf (Finish b) es replies true → b ≡ true
+    found b [] [] is = sym is
+    found b [] (reply ∷ replies) is = elim is [ ]
+    found b (e ∷ es) replies is = elim is [ ]
+
+    choose : (o : Operation) (b : Bool) → is_lookup o ≡ b → IsRunOf (needs_nobody r.node o s) es replies true
+        → plan_of (asked_of (record r { cred = cred }) true) r.value o ≡ plan_of (asked_of r true) r.value o
+    choose (Lookup name) b is ran = refl
+    choose o true is ran = absurd (cc)
+    choose o false is ran =
+        alike-plan (asked_of r true) cred r.value o
+        (let none = found (not (needs_caller o)) es replies (subst (λ p. IsRunOf p es replies true) (at_once r.node o s is) ran) in cc)
+
+pub who_asks_counts_only_where_needed : WhoAsksCountsOnlyWhereNeeded
+who_asks_counts_only_where_needed r s cred es replies runs =
+    ap (λ work. answered r.memory work s) (alike-search r s cred r.operation es replies runs)

@@ -1,0 +1,5 @@
+use Rattle.fuse_plans.proofs.laws.judged_lookups_are_granted.Goals as goal
+use Rattle.fuse_plans.proofs.JudgedLookups.{judged_lookups_are_granted as law}
+
+pub returns : goal.returns
+returns c = law
