@@ -44,9 +44,9 @@ impl DiskFile for Flaky<'_> {
         self.file.fill(sectors)
     }
 
-    fn read_all(&mut self, to: &mut [[u8; 512]]) -> io::Result<()> {
+    fn read_run(&mut self, first: u32, to: &mut [[u8; 512]]) -> io::Result<()> {
         self.pass()?;
-        self.file.read_all(to)
+        self.file.read_run(first, to)
     }
 
     fn write_run(&mut self, first: u32, run: &[[u8; 512]]) -> io::Result<()> {

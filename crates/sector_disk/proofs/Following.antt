@@ -1,16 +1,17 @@
 -- A file that follows its disk: what a run and a sync of the file keep.
-use Rattle.std.proofs.Common.{◌≡◌, ◌⊎◌, inl, inr, ⊎_elim, ℕ, zero, ◌+◌, ◌-◌, ◌<◌, ◌≤◌, Bool, true, false, List, [], ◌∷◌, ◌++◌, length, drop, refl, sym, ◌∙◌, ap, subst, arith, get_or, get_or-set_other, length-drop, length-take, slice_index}
+use Rattle.std.proofs.Common.{◌≡◌, ◌⊎◌, inl, inr, ⊎_elim, ℕ, zero, ◌+◌, ◌-◌, ◌<◌, ◌≤◌, Bool, true, false, List, [], ◌∷◌, ◌++◌, length, drop, refl, sym, ◌∙◌, ap, subst, arith, get_or, get_or-set_other, length-drop, length-take, slice_index, replicate}
 use Rattle.std.specs.Prelude.{Option, Some, None, IfSome, All, Contains, Result, Ok, Err, OnOk, IsPermutation, slice_range, if◌then◌else◌}
 use Rattle.std.specs.Result.{is_ok}
 use Rattle.std.proofs.Math.Logic.{∥∥₁_map}
 use Rattle.std.proofs.lemmas.Bool.{cases_lt, cases_eq}
 use Rattle.std.proofs.lemmas.Grind.{merely, get_or_default_zero}
-use Rattle.std.proofs.lemmas.List.{get_or-drop, get_or-take}
+use Rattle.std.proofs.lemmas.List.{get_or-drop, get_or-take, get_or-replicate, length-replicate}
 use Rattle.std.proofs.lemmas.List.Elements.{All-push, Contains-append_left, Contains-append_right}
 use Rattle.std.proofs.lemmas.List.Sorted.{Contains-permutation}
 use Rattle.sector_disk.specs.Disk.{DiskState, Image, sector, IsImage, IsSame, ChangesOnly}
 use Rattle.sector_disk.specs.Record.{Past, Held, recorded_state}
-use Rattle.sector_disk.specs.Files.{file_seen, Goes, IsRun, IsRunTried, HasRun, IsHeldNarrowed, IsHeldSynced, IsHeldStable, HasSectors, HasStable, Lacks, Keeps, Follows}
+use Rattle.sector_disk.specs.Places.{IsRunSet}
+use Rattle.sector_disk.specs.Files.{file_seen, Goes, IsRun, IsRunTried, HasRun, IsHeldNarrowed, IsHeldSynced, IsHeldStable, HasZeros, HasSectors, HasStable, Lacks, Keeps, Follows, KeepsBefore, FollowsBefore}
 
 -- ---- what may be known
 pub goes : {P : Held → Held → Type 0} {K L : Held → Type 0} (old new : Option Held) → Goes P old new → IfSome old K → ((h g : Held) → P h g → K h → L g) → IfSome new L
@@ -236,14 +237,105 @@ pushed_waits n old new (Err e) is = tt
 pub sorted_more : (disk : DiskState) (waiting sorted : List ℕ) (all_wait : Bool) (file : Option Held) → IsPermutation waiting sorted → Follows disk waiting all_wait file → Follows disk sorted all_wait file
 sorted_more disk waiting sorted all_wait file is was = follows_more disk waiting sorted all_wait file (λ n has. Contains-permutation waiting sorted n is has) was
 
--- ---- all sectors at once
-pub whole_failed : (disk : DiskState) (waiting : List ℕ) (all_wait : Bool) (size : ℕ) (run : Image) (old new : Option Held) → IsImage disk disk.seen → size ≡ disk.size
-    → run ≡ slice_range disk.seen 0 size → Goes (IsRunTried 0 run) old new → Follows disk waiting all_wait old → Follows disk waiting all_wait new
-whole_failed disk waiting all_wait size run old new image whole is tried was =
-    follows_tried disk waiting all_wait 0 size old new image (omega arith) (omega (arith, whole)) (subst (λ (r : Image). Goes (IsRunTried 0 r) old new) is tried) was
+-- ---- all sectors, from the first on
+pub before_none : (disk : DiskState) (waiting : List ℕ) (all_wait : Bool) (file : Option Held) → Follows disk waiting all_wait file → FollowsBefore disk 0 file
+before_none disk waiting all_wait file was =
+    ∥∥₁_map was (λ keeps. both file keeps keeps (λ h k l. record { allowed = k.allowed; same = λ n below early. absurd (omega (arith, early)) }))
 
-pub whole_done : (disk : DiskState) (waiting : List ℕ) (all_wait : Bool) (size : ℕ) (run : Image) (old new : Option Held) → IsImage disk disk.seen → size ≡ disk.size
-    → run ≡ slice_range disk.seen 0 size → Goes (IsRunTried 0 run) old new → IfSome new (HasRun 0 run) → Follows disk waiting all_wait old → Follows disk [] false new
-whole_done disk waiting all_wait size run old new image whole is tried done was =
-    follows_run disk waiting [] all_wait 0 size new image (omega arith) (omega (arith, whole)) (λ n below lacks. inl (omega arith, omega (arith, below, whole)))
-    (subst (λ (r : Image). IfSome new (HasRun 0 r)) is done) (whole_failed disk waiting all_wait size run old new image whole is tried was)
+-- all may wait
+pub before_lacks : (disk : DiskState) (waiting : List ℕ) (all_wait : Bool) (first : ℕ) (file : Option Held) → all_wait ≡ true → FollowsBefore disk first file → Follows disk waiting all_wait file
+before_lacks disk waiting all_wait first file all was = ∥∥₁_map was (λ keeps. both file keeps keeps (λ h k l. record { allowed = k.allowed; same = λ n below. inl (inl all) }))
+
+-- and where these are all, none waits
+pub before_all : (disk : DiskState) (first : ℕ) (file : Option Held) → disk.size ≤ first → FollowsBefore disk first file → Follows disk [] false file
+before_all disk first file past was =
+    ∥∥₁_map was (λ keeps. both file keeps keeps (λ h k l. record { allowed = k.allowed; same = λ n below. inr (k.same n below (omega (arith, below, past))) }))
+
+tried_before : (disk : DiskState) (kept first end : ℕ) (old new : Held) → IsImage disk disk.seen → first ≤ end → end ≤ disk.size
+    → IsRunTried first (slice_range disk.seen first end) old new → KeepsBefore disk kept old → KeepsBefore disk kept new
+tried_before disk kept first end old new image order fits tried keeps = record {
+  allowed = λ n content below may.
+      ⊎_elim (λ was. keeps.allowed n content below was)
+      (λ run. subst (λ c. disk.may_hold n c) (sym (from_disk disk first end n content order within run)) (image.each n below))
+      (tried.nothing_else n content may);
+  same = λ n below early.
+      ⊎_elim (λ is. is ∙ keeps.same n below early) (λ run. from_disk disk first end n (sector (file_seen new) n) order within run) (tried.seen n);
+}
+  where
+    within : end ≤ length disk.seen
+    within = let size = image.size in omega (arith, fits, size)
+
+done_before : (disk : DiskState) (first end : ℕ) (held : Held) → IsImage disk disk.seen → first ≤ end → end ≤ disk.size
+    → HasRun first (slice_range disk.seen first end) held → KeepsBefore disk first held → KeepsBefore disk end held
+done_before disk first end held image order fits has keeps = record {
+  allowed = keeps.allowed;
+  same = λ n below early. elim (cases_lt n first) [
+    | inl sooner ↦ keeps.same n below sooner
+    | inr from ↦ has n from (len n early) ∙ sector_of_range disk.seen first end n from early
+  ];
+}
+  where
+    len : (n : ℕ) → n < end → n < first + length (slice_range disk.seen first end)
+    len n below = let size = image.size in let length = length-range disk.seen first end order (omega (arith, fits, size)) in omega (arith, length, below)
+
+pub follows_tried_before : (disk : DiskState) (kept first end : ℕ) (old new : Option Held) → IsImage disk disk.seen → first ≤ end → end ≤ disk.size
+    → Goes (IsRunTried first (slice_range disk.seen first end)) old new → FollowsBefore disk kept old → FollowsBefore disk kept new
+follows_tried_before disk kept first end old new image order fits is was =
+    ∥∥₁_map was (λ keeps. goes old new is keeps (λ h g tried k. tried_before disk kept first end h g image order fits tried k))
+
+pub follows_done_before : (disk : DiskState) (first end : ℕ) (file : Option Held) → IsImage disk disk.seen → first ≤ end → end ≤ disk.size
+    → IfSome file (HasRun first (slice_range disk.seen first end)) → FollowsBefore disk first file → FollowsBefore disk end file
+follows_done_before disk first end file image order fits has was =
+    ∥∥₁_map was (λ keeps. both file has keeps (λ h run k. done_before disk first end h image order fits run k))
+
+-- less than these
+pub before_less : (disk : DiskState) (first less : ℕ) (file : Option Held) → less ≤ first → FollowsBefore disk first file → FollowsBefore disk less file
+before_less disk first less file order was =
+    ∥∥₁_map was (λ keeps. both file keeps keeps (λ h k l. record { allowed = k.allowed; same = λ n below early. k.same n below (omega (arith, early, order)) }))
+
+-- ---- what is read
+-- The first sectors are as the file has them, and those behind are zeros still.
+pub record IsReadTo (at count : ℕ) (sectors : Image) (first file : Option Held) : Type 0 where
+  pub fits : at ≤ count
+  pub len : length sectors ≡ count
+  pub behind : (n : ℕ) → at ≤ n → n < count → sector sectors n ≡ replicate 512 0
+  pub same : file ≡ first
+  pub read : IfSome file (λ held. (n : ℕ) → n < at → sector (file_seen held) n ≡ sector sectors n)
+
+pub read_none : (count : ℕ) (sectors : Image) (file : Option Held) → sectors ≡ replicate count (replicate 512 0) → IsReadTo 0 count sectors file file
+read_none count sectors file zeros = record {
+  fits = omega arith;
+  len = ap (λ (i : Image). length i) zeros ∙ length-replicate count (replicate 512 0);
+  behind = λ n from below. ap (λ (i : Image). sector i n) zeros ∙ get_or-replicate count n (replicate 512 0) [] below;
+  same = refl;
+  read = nothing file;
+}
+  where
+    nothing : (file : Option Held) → IfSome file (λ held. (n : ℕ) → n < 0 → sector (file_seen held) n ≡ sector sectors n)
+    nothing None = tt
+    nothing (Some held) = λ n below. absurd (omega (arith, below))
+
+pub read_more : (at count from end : ℕ) (piece sectors more : Image) (first old new : Option Held) → IsReadTo at count sectors first old → at ≤ from → from + length piece ≤ count → end ≡ from + length piece
+    → new ≡ old → IfSome old (HasZeros at from) → IfSome new (HasRun from piece) → IsRunSet from piece sectors more → IsReadTo end count more first new
+read_more at count from end piece sectors more first old new was order fits is same zeros has set = record {
+  fits = omega (arith, fits, is);
+  len = set.len ∙ was.len;
+  behind = λ n past below. set.behind n (omega (arith, past, is)) ∙ was.behind n (omega (arith, past, is, order)) below;
+  same = same ∙ was.same;
+  read = both new (both new (here (HasZeros at from) zeros) has (λ h z r. (z, r))) (here (λ held. (n : ℕ) → n < at → sector (file_seen held) n ≡ sector sectors n) was.read) each;
+}
+  where
+    here : (P : Held → Type 0) → IfSome old P → IfSome new P
+    here P known = subst (λ (o : Option Held). IfSome o P) (sym same) known
+
+    each : (h : Held) → HasZeros at from h × HasRun from piece h → ((n : ℕ) → n < at → sector (file_seen h) n ≡ sector sectors n) → (n : ℕ) → n < end → sector (file_seen h) n ≡ sector more n
+    each h known read n below = elim (cases_lt n from) [
+      | inl before ↦ elim (cases_lt n at) [
+        | inl early ↦ read n early ∙ sym (set.before n before)
+        | inr hole ↦ known.0 n hole before ∙ sym (set.before n before ∙ was.behind n hole (omega (arith, before, fits)))
+      ]
+      | inr past ↦ known.1 n past (omega (arith, below, is)) ∙ sym (set.inside n past (omega (arith, below, is)))
+    ]
+
+pub read_all : (at count : ℕ) (sectors : Image) (first file : Option Held) → count ≤ at → IsReadTo at count sectors first file → IfSome file (HasSectors sectors)
+read_all at count sectors first file past was = both file was.read was.read (λ h r s. λ n below. r n (let len = was.len in omega (arith, below, past, len)))

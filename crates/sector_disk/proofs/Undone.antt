@@ -1,8 +1,8 @@
 -- A record that is kept backwards says what was done.
-use Rattle.std.proofs.Common.{◌≡◌, ◌≢◌, ◌⊎◌, inl, inr, ⊎_elim, ℕ, zero, suc, ◌+◌, ◌-◌, ◌<◌, ◌≤◌, ◌^◌, List, [], ◌∷◌, ◌++◌, length, take, drop, refl, sym, ◌∙◌, ap, subst, arith, slice_set, get_or, length-set, get_or-set_other, length-append, length-drop}
-use Rattle.std.specs.Prelude.{Contains}
+use Rattle.std.proofs.Common.{◌≡◌, ◌≢◌, ◌⊎◌, inl, inr, ⊎_elim, ℕ, zero, suc, ◌+◌, ◌-◌, ◌<◌, ◌≤◌, ◌^◌, List, [], ◌∷◌, ◌++◌, length, take, drop, refl, sym, ◌∙◌, ap, subst, arith, slice_set, length-set, get_or-set_other, length-append, length-drop}
+use Rattle.std.specs.Prelude.{Contains, Result, Ok, Err, OnOk, OnErr}
 use Rattle.std.proofs.lemmas.Bool.{cases_eq, cases_lt}
-use Rattle.std.proofs.lemmas.List.{set-set, get_or_read, set-get_or, get_or-set_same, drop-append-le, drop_all, take-append-le, take_rest}
+use Rattle.std.proofs.lemmas.List.{set-set, set-get_or, get_or-set_same, drop-append-le, drop_all, take-append-le, take_rest}
 use Rattle.std.proofs.lemmas.List.Sums.{fold_push}
 use Rattle.std.proofs.lemmas.List.Elements.{Contains-append_right}
 use Rattle.std.proofs.lemmas.Grind.{get_or-set_at}
@@ -209,17 +209,28 @@ log-start image small = record {
 }
 
 -- the image that is picked is one that a stop may leave
-pub stopped : (seen read image : Image) (done pending : List Step) (synced : ℕ) (p : Past) → IsLog seen done synced → past_of seen done ≡ p → read ≡ seen → pending ≡ drop synced done
-    → length image ≡ length seen → ((n : ℕ) → n < length read → MayHold (held_before read pending) n (sector image n)) → Leaves (length p.start) (replay p.start p.events) image
-stopped seen read image done pending synced p log is same tail size each =
+pub stopped : (seen image : Image) (done pending : List Step) (synced : ℕ) (p : Past) → IsLog seen done synced → past_of seen done ≡ p → pending ≡ drop synced done
+    → length image ≡ length seen → ((n : ℕ) → n < length seen → MayHold (held_before seen pending) n (sector image n)) → Leaves (length p.start) (replay p.start p.events) image
+stopped seen image done pending synced p log is tail size each =
     subst (λ (q : Past). Leaves (length q.start) (replay q.start q.events) image) is (record {
       size = size ∙ sym log.len;
       each = λ n below.
-          let here = subst (λ (l : List Step). MayHold (held_before seen l) n (sector image n)) tail
-          (subst (λ (i : Image). MayHold (held_before i pending) n (sector image n)) same (each n (let len = log.len in let read_len = ap length same in omega (arith, below, len, read_len)))) in
+          let here = subst (λ (l : List Step). MayHold (held_before seen l) n (sector image n)) tail (each n (let len = log.len in omega (arith, below, len))) in
           ⊎_elim (λ was. inl (was ∙ ap (λ (i : Image). sector i n) (sym log.stable))) (λ new. inr (subst (λ (l : List Event). Contains l (Written n (sector image n))) (sym log.pending) new)) here;
     })
 
--- the step that a write leaves
-pub replaces : (seen : Image) (n : ℕ) (content was : List ℕ) (steps more : List Step) → n < length seen → was ≡ get_or seen n was → more ≡ steps ++ Replaced n was ∷ [] → more ≡ written seen n content steps
-replaces seen n content was steps more below is same = same ∙ ap (λ (c : List ℕ). steps ++ Replaced n c ∷ []) (get_or_read seen n was below is [])
+-- the picked content of a sector is set, or finds no memory
+pub record PickedSo (seen image : Image) (steps : List Step) (n : ℕ) : Type 0 where
+  pub len : length image ≡ length seen
+  pub picked : Picked seen image steps n
+
+pub picked_set : {T E : Type 0} (seen image later : Image) (steps : List Step) (n : ℕ) (content : List ℕ) (r : Result T E) → length image ≡ length seen → n < length image
+    → (content ≡ sector image n) ⊎ Contains steps (Replaced n content) → OnOk r (later ≡ slice_set image n content) → OnErr r (later ≡ image) → Picked seen image steps n
+    → PickedSo seen later steps (n + 1)
+picked_set seen image later steps n content (Ok x) size fits is ok err picked =
+    subst (λ (i : Image). PickedSo seen i steps (n + 1)) (sym {A = Image} ok) (record { len = length-set image n content ∙ size; picked = picked_one seen image steps n content size fits is picked })
+picked_set seen image later steps n content (Err e) size fits is ok err picked =
+    subst (λ (i : Image). PickedSo seen i steps (n + 1)) (sym {A = Image} err) (record { len = size; picked = picked_same seen image steps n picked })
+
+pub picked_content : (last here content : List ℕ) (steps : List Step) (n : ℕ) → last ≡ here → (content ≡ last) ⊎ Contains steps (Replaced n content) → (content ≡ here) ⊎ Contains steps (Replaced n content)
+picked_content last here content steps n same is = ⊎_elim (λ was. inl (was ∙ same)) (λ has. inr has) is

@@ -3,9 +3,10 @@
 --     Goes        what is known of a file stays known
 --     IsRun, IsRunTried, HasRun        a run of sectors that is written
 --     IsHeldNarrowed, IsHeldSynced        a sync
---     HasSectors, HasStable        what is read from it; what it has at first
+--     HasZeros, HasSectors, HasStable        what is read from it; what it has at first
 --     Lacks, Keeps, Follows        how it follows the disk
-use Rattle.std.specs.Prelude.{◌≡◌, ◌⊎◌, ℕ, ◌+◌, ◌-◌, ◌<◌, ◌≤◌, Bool, true, List, length, Option, Some, None, IfSome, Contains}
+--     KeepsBefore, FollowsBefore        how its first sectors do
+use Rattle.std.specs.Prelude.{◌≡◌, ◌⊎◌, ℕ, ◌+◌, ◌-◌, ◌<◌, ◌≤◌, Bool, true, List, length, replicate, Option, Some, None, IfSome, Contains}
 use Rattle.sector_disk.specs.Disk.{DiskState, Image, sector}
 use Rattle.sector_disk.specs.Record.{Held, after_events, MayHold}
 
@@ -46,6 +47,10 @@ pub record IsHeldSynced (old new : Held) : Type 0 where
 abbrev pub IsHeldStable : Held → Type 0
 IsHeldStable held = (n : ℕ) (content : List ℕ) → MayHold held n content → content ≡ sector (file_seen held) n
 
+-- reads of the sectors from one on, up to the one before another, give zeros
+abbrev pub HasZeros : ℕ → ℕ → Held → Type 0
+HasZeros first end held = (n : ℕ) → first ≤ n → n < end → sector (file_seen held) n ≡ replicate 512 0
+
 -- reads of the file's first sectors give these
 abbrev pub HasSectors : Image → Held → Type 0
 HasSectors image held = (n : ℕ) → n < length image → sector (file_seen held) n ≡ sector image n
@@ -68,3 +73,13 @@ pub record Keeps (disk : DiskState) (waiting : List ℕ) (all_wait : Bool) (held
 -- the same of a file of which it may be known what it holds
 abbrev pub Follows : DiskState → List ℕ → Bool → Option Held → Type 0
 Follows disk waiting all_wait file = ∥ IfSome file (Keeps disk waiting all_wait) ∥₁
+
+-- What a stop leaves in the file, the disk says that a stop may leave; and before sector `first` the file has what reads of the
+-- disk give.
+pub record KeepsBefore (disk : DiskState) (first : ℕ) (held : Held) : Type 0 where
+  pub allowed : (n : ℕ) (content : List ℕ) → n < disk.size → MayHold held n content → disk.may_hold n content
+  pub same : (n : ℕ) → n < disk.size → n < first → sector (file_seen held) n ≡ sector disk.seen n
+
+-- the same of a file of which it may be known what it holds
+abbrev pub FollowsBefore : DiskState → ℕ → Option Held → Type 0
+FollowsBefore disk first file = ∥ IfSome file (KeepsBefore disk first) ∥₁

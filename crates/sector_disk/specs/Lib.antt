@@ -2,6 +2,7 @@ pub mod Disk
 pub mod Faults
 pub mod Files
 pub mod Forgotten
+pub mod Places
 pub mod Record
 pub mod Replay
 pub mod Steps

@@ -8,6 +8,7 @@ ghost use Rattle.sector_disk.specs.Whole.{whole_sectors};
 ghost use Rattle.sector_disk.specs.Files.{Follows, HasStable, IsHeldStable};
 ghost use Rattle.sector_disk.specs.declared.file_disk.FileFault.TheVariants.{Exists, OutOfMemory};
 
+use crate::reading::read_sectors;
 use crate::waiting::write_out;
 use crate::{Disk, DiskFault, DiskFile, MemDisk};
 use std::alloc::{AllocError, Global};
@@ -18,6 +19,9 @@ use std::rt::Files;
 
 // What of a longer file lies behind them is no part of the disk.
 const MAX_SECTORS: u32 = 65_537;
+
+// So many neighbours are read or written in one call: a MiB.
+const PIECE: usize = 2048;
 
 // So many written sectors may wait before a write has to pass them to the file.
 const MAX_WAITING: usize = 1024;
@@ -43,7 +47,7 @@ impl From<AllocError> for FileFault {
 
 /// A disk whose sectors are those of a file, for a file system that is to last.
 ///
-/// All sectors are in memory, where reads find them. What is written waits for the next sync, and goes to the file in rising
+/// All sectors are in memory, where reads find them, and those that are zeros take four bytes each. What is written waits for the next sync, and goes to the file in rising
 /// order then, neighbours in one call; a write to which too much waits passes that on first. Bytes past the last whole
 /// sector, or past sector 65,536, aren't touched. A write or a sync of the file that fails is a failure of the disk, at that
 /// sync or that write. What the file lacks then waits for the next one.
@@ -59,6 +63,9 @@ pub struct FileDisk<F: DiskFile> {
     waiting: Vec<u32>,
     // Whether it may lack all of them.
     all_wait: bool,
+    // What goes between the file and memory. Its room is there from the start.
+    buffer: Vec<[u8; 512]>,
+    ghost room: { 0 < length buffer.items },
     ghost in_disk: { All (λ n. n < length memory.value.history.start) waiting.items },
     // A stop leaves in the file nothing but what the disk says.
     ghost follows: { Follows (recorded_state memory.value.history memory.value.failures) waiting.items all_wait (F.held file) },
@@ -98,12 +105,14 @@ impl<F: DiskFile + Drop> FileDisk<F> {
     {
         let memory = boxed(alloc, MemDisk::new(alloc, sectors)?)?;
         let waiting = Vec::with_capacity(alloc, MAX_WAITING)?;
+        let buffer = new_buffer(alloc)?;
         let file = new_file(rt, path, sectors)?;
         Ok(FileDisk {
             memory,
             file,
             waiting,
             all_wait: false,
+            buffer,
         })
     }
 
@@ -118,13 +127,15 @@ impl<F: DiskFile + Drop> FileDisk<F> {
         if file.try_lock().is_err() {
             return Err(FileFault::Failed);
         }
-        let memory = boxed(alloc, load(alloc, &mut file)?)?;
+        let mut buffer = new_buffer(alloc)?;
+        let memory = boxed(alloc, load(alloc, &mut file, &mut buffer)?)?;
         let waiting = Vec::with_capacity(alloc, MAX_WAITING)?;
         Ok(FileDisk {
             memory,
             file,
             waiting,
             all_wait: false,
+            buffer,
         })
     }
 
@@ -135,7 +146,13 @@ impl<F: DiskFile + Drop> FileDisk<F> {
         ensures all { OnOk result (self.new.all_wait ≡ false) }
     {
         self.waiting.sort_unstable();
-        write_out(&mut self.file, &self.memory, &self.waiting, self.all_wait)?;
+        write_out(
+            &mut self.file,
+            &self.memory,
+            &self.waiting,
+            self.all_wait,
+            &mut self.buffer,
+        )?;
         self.waiting.clear();
         self.all_wait = false;
         Ok(())
@@ -203,7 +220,12 @@ fn prepare<F: DiskFile>(file: &mut F, sectors: u32) -> io::Result<()>
 }
 
 // The sectors of a file, which is synced first.
-fn load<F: DiskFile>(alloc: Global, file: &mut F) -> Result<MemDisk, FileFault>
+fn load<F: DiskFile>(
+    alloc: Global,
+    file: &mut F,
+    buffer: &mut [[u8; 512]],
+) -> Result<MemDisk, FileFault>
+    requires { 0 < length buffer.old }
     ensures fresh { IfOk result (λ disk. IsFresh (⟦<MemDisk as Disk>⟧.state disk) (⟦<MemDisk as Disk>⟧.state disk).seen) }
     ensures small { IfOk result (λ disk. (⟦<MemDisk as Disk>⟧.state disk).size ≤ 65537) }
     ensures follows { IfOk result (λ disk. Follows (⟦<MemDisk as Disk>⟧.state disk) [] false (F.held file.new)) }
@@ -212,12 +234,17 @@ fn load<F: DiskFile>(alloc: Global, file: &mut F) -> Result<MemDisk, FileFault>
     let Ok(count) = synced_sectors(file) else {
         return Err(FileFault::Failed);
     };
-    let mut sectors = Vec::new(alloc);
-    sectors.resize(count as usize, [0; 512])?;
-    if file.read_all(&mut sectors).is_err() {
-        return Err(FileFault::Failed);
-    }
-    Ok(MemDisk::from_sectors(alloc, sectors)?)
+    let sectors = read_sectors(alloc, file, count, buffer)?;
+    Ok(MemDisk::with_sectors(alloc, sectors))
+}
+
+// Room for a piece of a file.
+fn new_buffer(alloc: Global) -> Result<Vec<[u8; 512]>, AllocError>
+    ensures { IfOk result (λ buffer. 0 < length buffer.items) }
+{
+    let mut buffer = Vec::new(alloc);
+    buffer.resize(PIECE, [0; 512])?;
+    Ok(buffer)
 }
 
 // The disk on the heap: a `FileDisk` is moved often.

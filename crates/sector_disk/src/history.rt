@@ -1,10 +1,11 @@
 //! What was done to a disk in memory since it was last stopped.
 
-ghost use Rattle.std.specs.Prelude.{◌≡◌, ◌⊎◌, ◌^◌, ◌<◌, ◌++◌, [], ◌∷◌, length, vec_len, ℕ, ◌≤◌, Contains, slice_range, OnOk, OnErr};
+ghost use Rattle.std.specs.Prelude.{◌≡◌, ◌⊎◌, ◌^◌, ◌<◌, ◌+◌, ◌++◌, [], ◌∷◌, length, ℕ, ◌≤◌, Contains, slice_range, OnOk, OnErr};
 ghost use Rattle.sector_disk.specs.Disk.{sector};
 ghost use Rattle.sector_disk.specs.Record.{Written, Synced, after_events, replay, since_sync, Leaves, MayHold};
 ghost use Rattle.sector_disk.specs.Steps.{held_before};
 
+use crate::sectors::Sectors;
 use std::alloc::{AllocError, Global};
 use std::marker::Model;
 
@@ -32,7 +33,7 @@ impl Step {
 #[derive(Drop)]
 pub struct History {
     // What reads give.
-    seen: Vec<[u8; 512]>,
+    seen: Sectors,
     done: Vec<Step>,
     // How many steps there are up to the last sync.
     synced: usize,
@@ -45,16 +46,16 @@ impl Model for History {
 
     ghost use Rattle.sector_disk.specs.Steps.{past_of, IsLog};
 
-    ghost view = { λ history. past_of history.seen.items history.done.items };
+    ghost view = { λ history. past_of history.seen history.done.items };
 
-    ghost invariant = { λ history. IsLog history.seen.items history.done.items history.synced };
+    ghost invariant = { λ history. IsLog history.seen history.done.items history.synced };
 }
 
 impl History {
     /// Nothing was done yet to these sectors.
-    pub fn new(alloc: Global, sectors: Vec<[u8; 512]>) -> Self
-        requires { vec_len sectors < 2 ^ 32 }
-        ensures { result ≡ record { start = sectors.items; events = [] } }
+    pub fn new(alloc: Global, sectors: Sectors) -> Self
+        requires { length sectors < 2 ^ 32 }
+        ensures { result ≡ record { start = sectors; events = [] } }
     {
         History {
             seen: sectors,
@@ -75,16 +76,15 @@ impl History {
         requires { n < length self.now.start }
         ensures { to.new ≡ sector (after_events self.now.start self.now.events) n }
     {
-        *to = self.seen[n as usize];
+        *to = *self.seen.get(n);
     }
 
-    /// What reads of these sectors give.
-    pub fn run(&self, first: u32, end: u32) -> &[[u8; 512]]
-        requires order { first ≤ end }
-        requires fits { end ≤ length self.now.start }
-        ensures { result.now ≡ slice_range (after_events self.now.start self.now.events) first end }
+    /// What reads of neighbours from one on give.
+    pub fn copy_run(&self, first: u32, to: &mut [[u8; 512]])
+        requires { first + length to.old ≤ length self.now.start }
+        ensures { to.new ≡ slice_range (after_events self.now.start self.now.events) first (first + length to.new) }
     {
-        &self.seen[first as usize..end as usize]
+        self.seen.copy_run(first, to);
     }
 
     /// Records a write; at `Err` nothing has changed.
@@ -93,9 +93,11 @@ impl History {
         ensures ok { OnOk result (self.new ≡ record self.old { events = self.old.events ++ Written n content.now ∷ [] }) }
         ensures err { OnErr result (self.new ≡ self.old) }
     {
-        let at = n as usize;
-        self.done.push(Step::Replaced(n, self.seen[at]))?;
-        self.seen[at] = *content;
+        self.done.push(Step::Replaced(n, *self.seen.get(n)))?;
+        if self.seen.set(n, content).is_err() {
+            self.done.pop();
+            return Err(AllocError);
+        }
         Ok(())
     }
 
@@ -120,7 +122,7 @@ impl History {
     }
 
     /// Forgets the past but for one image that a stop may leave: over the sectors with pending writes, in rising
-    /// order, the next byte of `choice` picks one of the contents.
+    /// order, the next byte of `choice` picks one of the contents. For one that finds no memory what reads give stays.
     pub fn stop(&mut self, choice: &[u8])
         ensures image { Leaves (length self.old.start) (replay self.old.start self.old.events) self.new.start }
         ensures events { self.new.events ≡ [] }
@@ -131,16 +133,21 @@ impl History {
     }
 }
 
-// Picks one of the contents of each sector: that before the steps, or one that it got in them.
-fn pick(image: &mut [[u8; 512]], pending: &[Step], choice: &[u8])
-    ensures { (n : ℕ) → n < length image.old → MayHold (held_before image.old pending.now) n (sector image.new n) }
+// Picks one of the contents of each sector: that before the steps, or one that it got in them. Where there is no memory for it, the
+// sector stays as it is.
+fn pick(image: &mut Sectors, pending: &[Step], choice: &[u8])
+    requires { length image.old < 2 ^ 32 }
+    ensures len { length image.new ≡ length image.old }
+    ensures each { (n : ℕ) → n < length image.old → MayHold (held_before image.old pending.now) n (sector image.new n) }
 {
     let mut choice = choice.iter();
     for n in 0..image.len() {
         let count = count_writes(pending, n);
         if count > 0 {
             let byte = choice.next().copied().unwrap_or(0);
-            image[n] = replaced_content(pending, n, byte as usize % (count + 1), &image[n]);
+            let number = byte as usize % (count + 1);
+            let content = replaced_content(pending, n, number, image.get(n as u32));
+            let _ = image.set(n as u32, &content);
         }
     }
 }

@@ -7,10 +7,13 @@ mod faulty;
 mod file_disk;
 mod history;
 mod memory;
+mod reading;
+mod sectors;
 mod waiting;
+mod whole;
 
 pub use disk::{CrashDisk, Disk, DiskFault, write_synced};
-pub use disk_file::DiskFile;
+pub use disk_file::{DiskFile, Stretch};
 pub use faulty::{FailOnce, FaultyDisk, FuseDisk};
 pub use file_disk::{FileDisk, FileFault};
 pub use memory::MemDisk;

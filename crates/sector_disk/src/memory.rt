@@ -1,17 +1,18 @@
 //! A disk in memory, which can be stopped. A record of its writes and syncs answers for the moments since the last
 //! stop.
 
-ghost use Rattle.std.specs.Prelude.{◌≡◌, ◌^◌, ◌<◌, ◌-◌, length, vec_len, replicate, IfOk, IsErr, ◌+◌, ℕ, get_or, min, ◌≤◌, slice_range};
-ghost use Rattle.sector_disk.specs.Disk.{IsFresh, IsWholeSector, sector};
+ghost use Rattle.std.specs.Prelude.{◌≡◌, ◌^◌, ◌<◌, ◌-◌, length, vec_len, replicate, IfOk, IsErr, ◌+◌, min, ◌≤◌, slice_range};
+ghost use Rattle.sector_disk.specs.Disk.{IsFresh};
 ghost use Rattle.sector_disk.specs.Record.{recorded_state};
 ghost use Rattle.sector_disk.specs.Replay.{seen_is_image, counts_now, only_now};
-ghost use Rattle.sector_disk.specs.Whole.{AreSectors, AreWhole, whole_sectors};
+ghost use Rattle.sector_disk.specs.Whole.{AreWhole, whole_sectors};
 
 use crate::history::History;
+use crate::sectors::Sectors;
 use crate::{CrashDisk, Disk, DiskFault};
 use std::alloc::{AllocError, Global};
 
-/// A disk in memory, for tests and for a file system that isn't to last.
+/// A disk in memory, for tests and for a file system that isn't to last. A sector of zeros takes four bytes.
 ///
 /// Each write and sync is recorded, until [`forget`](Disk::forget) lets go of what came before the last sync. One whose
 /// record finds no memory fails and is counted, and its content isn't kept; one that fails because of
@@ -32,9 +33,7 @@ impl MemDisk {
     pub fn new(alloc: Global, size: u32) -> Result<Self, AllocError>
         ensures { IfOk result (λ disk. IsFresh (⟦<MemDisk as Disk>⟧.state disk) (replicate size (replicate 512 0))) }
     {
-        let mut sectors = Vec::new(alloc);
-        sectors.resize(size as usize, [0; 512])?;
-        MemDisk::from_sectors(alloc, sectors)
+        Ok(MemDisk::with_sectors(alloc, Sectors::zeros(alloc, size)?))
     }
 
     /// A disk with these contents, all of them stable.
@@ -42,12 +41,22 @@ impl MemDisk {
         requires { vec_len sectors < 2 ^ 32 }
         ensures { IfOk result (λ disk. IsFresh (⟦<MemDisk as Disk>⟧.state disk) sectors.items) }
     {
-        tell_all_whole(&sectors);
-        Ok(MemDisk {
+        let mut kept = Sectors::zeros(alloc, sectors.len() as u32)?;
+        kept.set_run(0, &sectors)?;
+        Ok(MemDisk::with_sectors(alloc, kept))
+    }
+
+    /// The same of sectors as a disk keeps them.
+    pub(crate) fn with_sectors(alloc: Global, sectors: Sectors) -> Self
+        requires { length sectors < 2 ^ 32 }
+        ensures { IsFresh (⟦<MemDisk as Disk>⟧.state result) sectors }
+    {
+        sectors.tell_whole();
+        MemDisk {
             history: History::new(alloc, sectors),
             armed: None,
             failures: 0,
-        })
+        }
     }
 
     // Whether one write or sync more passes.
@@ -75,36 +84,12 @@ impl MemDisk {
         Err(DiskFault)
     }
 
-    /// What reads of these sectors give.
-    pub(crate) fn run(&self, first: u32, end: u32) -> &[[u8; 512]]
-        requires order { first ≤ end }
-        requires fits { end ≤ (⟦<MemDisk as Disk>⟧.state self.now).size }
-        ensures { result.now ≡ slice_range (⟦<MemDisk as Disk>⟧.state self.now).seen first end }
+    /// What reads of neighbours from one on give.
+    pub(crate) fn copy_run(&self, first: u32, to: &mut [[u8; 512]])
+        requires { first + length to.old ≤ (⟦<MemDisk as Disk>⟧.state self.now).size }
+        ensures { to.new ≡ slice_range (⟦<MemDisk as Disk>⟧.state self.now).seen first (first + length to.new) }
     {
-        self.history.run(first, end)
-    }
-}
-
-// Bytes are below 256: a fact of their type.
-fn tell_bytes(bytes: &[u8])
-    ensures { (i : ℕ) → get_or bytes.now i 0 < 256 }
-{
-    let _count = bytes.len();
-}
-
-// A sector has 512 of them.
-fn tell_whole(sector: &[u8; 512])
-    ensures { IsWholeSector sector.now }
-{
-    tell_bytes(sector);
-}
-
-// The same of each of these.
-fn tell_all_whole(sectors: &[[u8; 512]])
-    ensures { AreSectors sectors.now }
-{
-    for sector in sectors {
-        tell_whole(sector);
+        self.history.copy_run(first, to);
     }
 }
 

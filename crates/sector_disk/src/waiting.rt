@@ -1,29 +1,66 @@
 //! The sectors that a disk has still to write to its file.
 
-ghost use Rattle.std.specs.Prelude.{◌≡◌, ◌<◌, ◌≤◌, ℕ, [], All, false, length, slice_index, OnOk};
-ghost use Rattle.sector_disk.specs.Files.{Follows};
+ghost use Rattle.std.specs.Prelude.{◌<◌, ◌≤◌, ◌+◌, ℕ, [], All, false, length, slice_index, slice_range, OnOk, IfSome};
+ghost use Rattle.sector_disk.specs.Files.{Goes, IsRunTried, HasRun, Follows, FollowsBefore};
 
 use crate::{Disk, DiskFile, MemDisk};
 use std::io;
 
 /// Writes to the file the sectors that wait, as reads give them: all, or those of the list in its order. Neighbours that follow one
-/// another there are written in one call.
+/// another there are written in one call, as far as the buffer has room for them.
 pub fn write_out<F: DiskFile>(
     file: &mut F,
     memory: &MemDisk,
     waiting: &[u32],
     all_wait: bool,
+    buffer: &mut [[u8; 512]],
 ) -> io::Result<()>
+    requires room { 0 < length buffer.old }
     requires in_disk { All (λ n. n < (⟦<MemDisk as Disk>⟧.state memory.now).size) waiting.now }
     requires follows { Follows (⟦<MemDisk as Disk>⟧.state memory.now) waiting.now all_wait (F.held file.old) }
     ensures follows { Follows (⟦<MemDisk as Disk>⟧.state memory.now) waiting.now all_wait (F.held file.new) }
     ensures done { OnOk result (Follows (⟦<MemDisk as Disk>⟧.state memory.now) [] false (F.held file.new)) }
 {
     if all_wait {
-        file.write_run(0, memory.run(0, memory.size()))?;
-        return Ok(());
+        return write_all(file, memory, buffer);
     }
-    write_waiting(file, memory, waiting)
+    write_waiting(file, memory, waiting, buffer)
+}
+
+// Writes these neighbours to the file as reads give them, in one call.
+fn write_run<F: DiskFile>(
+    file: &mut F,
+    memory: &MemDisk,
+    first: u32,
+    run: &mut [[u8; 512]],
+) -> io::Result<()>
+    requires { first + length run.old ≤ (⟦<MemDisk as Disk>⟧.state memory.now).size }
+    ensures tried { Goes (IsRunTried first (slice_range (⟦<MemDisk as Disk>⟧.state memory.now).seen first (first + length run.new))) (F.held file.old) (F.held file.new) }
+    ensures done { OnOk result (IfSome (F.held file.new) (HasRun first (slice_range (⟦<MemDisk as Disk>⟧.state memory.now).seen first (first + length run.new)))) }
+{
+    memory.copy_run(first, run);
+    file.write_run(first, run)
+}
+
+// Writes all sectors to the file as reads give them.
+fn write_all<F: DiskFile>(
+    file: &mut F,
+    memory: &MemDisk,
+    buffer: &mut [[u8; 512]],
+) -> io::Result<()>
+    requires room { 0 < length buffer.old }
+    requires follows { FollowsBefore (⟦<MemDisk as Disk>⟧.state memory.now) 0 (F.held file.old) }
+    ensures follows { FollowsBefore (⟦<MemDisk as Disk>⟧.state memory.now) 0 (F.held file.new) }
+    ensures done { OnOk result (Follows (⟦<MemDisk as Disk>⟧.state memory.now) [] false (F.held file.new)) }
+{
+    let size = memory.size();
+    let mut at = 0;
+    while at < size {
+        let len = buffer.len().min((size - at) as usize);
+        write_run(file, memory, at, &mut buffer[..len])?;
+        at += len as u32;
+    }
+    Ok(())
 }
 
 // Neighbouring sectors, up to the one before `end`, and how many numbers of a list stand for them.
@@ -35,8 +72,14 @@ struct Run {
 }
 
 // Writes these sectors to the file as reads give them, in the order of the list. Neighbours that follow one another in it are
-// written in one call.
-fn write_waiting<F: DiskFile>(file: &mut F, memory: &MemDisk, waiting: &[u32]) -> io::Result<()>
+// written in one call, as far as the buffer has room for them.
+fn write_waiting<F: DiskFile>(
+    file: &mut F,
+    memory: &MemDisk,
+    waiting: &[u32],
+    buffer: &mut [[u8; 512]],
+) -> io::Result<()>
+    requires room { 0 < length buffer.old }
     requires in_disk { All (λ n. n < (⟦<MemDisk as Disk>⟧.state memory.now).size) waiting.now }
     requires follows { Follows (⟦<MemDisk as Disk>⟧.state memory.now) waiting.now false (F.held file.old) }
     ensures follows { Follows (⟦<MemDisk as Disk>⟧.state memory.now) waiting.now false (F.held file.new) }
@@ -44,21 +87,24 @@ fn write_waiting<F: DiskFile>(file: &mut F, memory: &MemDisk, waiting: &[u32]) -
 {
     let mut at = 0;
     while at < waiting.len() {
-        let run = first_run(&waiting[at..], memory.size());
-        file.write_run(run.first, memory.run(run.first, run.end))?;
+        let run = first_run(&waiting[at..], memory.size(), buffer.len());
+        let len = (run.end - run.first) as usize;
+        write_run(file, memory, run.first, &mut buffer[..len])?;
         at += run.count;
     }
     Ok(())
 }
 
-// The longest run that a list of numbers below `size` begins with.
-fn first_run(waiting: &[u32], size: u32) -> Run
+// The longest run, of at most so many sectors, that a list of numbers below `size` begins with.
+fn first_run(waiting: &[u32], size: u32, most: usize) -> Run
     requires some { 0 < length waiting.now }
+    requires room { 0 < most }
     requires in_disk { All (λ n. n < size) waiting.now }
     ensures some { 0 < result.count }
     ensures count { result.count ≤ length waiting.now }
     ensures end { result.end ≤ size }
     ensures order { result.first ≤ result.end }
+    ensures fits { result.end ≤ result.first + most }
     ensures within { (i : ℕ) → i < result.count → (result.first ≤ slice_index waiting.now i) × (slice_index waiting.now i < result.end) }
 {
     let first = waiting[0];
@@ -69,6 +115,9 @@ fn first_run(waiting: &[u32], size: u32) -> Run
             break;
         }
         if *n == end {
+            if (end - first) as usize == most {
+                break;
+            }
             end += 1;
         }
         count += 1;

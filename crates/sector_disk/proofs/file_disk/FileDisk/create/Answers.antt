@@ -17,6 +17,7 @@ pub invariant_of-result : goal.invariant_of-result
 invariant_of-result g c =
     let disk = c.in_ok-memory.memory.value in
     record {
+      room = c.in_ok-buffer.ensures;
       in_disk = subst (λ (l : List ℕ). All (λ n. n < length disk.history.start) l) (sym c.in_ok-waiting.ensures.items) (All-nil (λ n. n < length disk.history.start));
       follows =
           follows_stable (recorded_state disk.history disk.failures) (replicate c.args.sectors (replicate 512 0)) c.in_ok-waiting.waiting.items false (g.F.DiskFile.held c.in_ok-file.file)

@@ -11,6 +11,7 @@ invariant_of-self g c =
     let new = c.fail.new.self in
     let same = c.fail.ensures.history ∙ ap (λ (m : MemDisk). m.history) c.deref_mut.ensures.value in
     record {
+      room = disk.room;
       in_disk = stays_in disk.waiting.items (length old.history.start) (length new.history.start) (ap (λ (p : Past). length p.start) same) disk.in_disk;
       follows = follows_counted old.history new.history old.failures new.failures disk.waiting.items disk.all_wait (g.F.DiskFile.held disk.file) same disk.follows;
     }

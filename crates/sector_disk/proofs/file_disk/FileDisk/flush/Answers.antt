@@ -1,7 +1,9 @@
-use Rattle.std.proofs.Common.{[], ◌<◌, ℕ, List, false, length, sym, subst}
+use Rattle.std.proofs.Common.{[], ◌<◌, ℕ, List, false, length, sym, subst, ◌∙◌, arith}
 use Rattle.std.specs.Prelude.{All}
 use Rattle.std.proofs.lemmas.List.Elements.{All-nil}
 use Rattle.std.proofs.lemmas.List.Sorted.{All-permutation}
+use Rattle.std.proofs.lemmas.List.{with_items_is}
+use Rattle.sector_disk.specs.Disk.{Image}
 use Rattle.sector_disk.specs.Record.{recorded_state}
 use Rattle.sector_disk.specs.Files.{Follows}
 use Rattle.sector_disk.specs.declared.memory.MemDisk.{MemDisk}
@@ -29,7 +31,9 @@ invariant_of-self g c =
     let disk = c.args.self.now in
     let file = g.F.DiskFile.held c.write_out.new.file in
     let memory = disk.memory.value in
+    let size = c.write_out.auto.buffer ∙ c.deref_mut.ensures.len in
     record {
+      room = subst (λ (l : Image). 0 < length l) (sym (with_items_is disk.buffer c.write_out.new.buffer size)) (let some = disk.room in let len = disk.buffer.ok.0 in omega (arith, some, size, len));
       in_disk = All-permutation (λ n. n < length memory.history.start) disk.waiting.items c.sort_unstable.new.self.items c.sort_unstable.ensures.permutation disk.in_disk;
       follows =
           subst (λ (l : List ℕ). Follows (recorded_state memory.history memory.failures) l disk.all_wait file) c.deref-2.ensures.value
@@ -38,9 +42,12 @@ invariant_of-self g c =
 
 pub invariant_of-self-2 : goal.invariant_of-self-2
 invariant_of-self-2 g c =
-    let memory = c.args.self.now.memory.value in
+    let disk = c.args.self.now in
+    let memory = disk.memory.value in
     let file = g.F.DiskFile.held c.write_out.new.file in
+    let size = c.write_out.auto.buffer ∙ c.deref_mut.ensures.len in
     record {
+      room = subst (λ (l : Image). 0 < length l) (sym {A = Image} (with_items_is disk.buffer c.write_out.new.buffer size)) (let some = disk.room in let len = disk.buffer.ok.0 in omega (arith, some, size, len));
       in_disk = subst (λ (l : List ℕ). All (λ n. n < length memory.history.start) l) (sym c.clear.ensures.items) (All-nil (λ n. n < length memory.history.start));
       follows =
           subst (λ (l : List ℕ). Follows (recorded_state memory.history memory.failures) l false file) (sym {A = List ℕ} c.clear.ensures.items)

@@ -13,6 +13,7 @@ invariant_of-self g c =
     let ok = is_ok c.push.result in
     let below = subst (λ (m : MemDisk). c.args.n < length m.history.start) (sym c.in_ok-make_room.ensures) c.requires in
     record {
+      room = disk.room;
       in_disk = pushed_in (length memory.history.start) c.args.n disk.waiting.items new ok c.push.ensures.items disk.in_disk below;
       follows = follows_more (recorded_state memory.history memory.failures) disk.waiting.items new disk.all_wait (g.F.DiskFile.held disk.file) (pushed_more c.args.n disk.waiting.items new ok c.push.ensures.items) disk.follows;
     }

@@ -12,6 +12,7 @@ invariant_of-self g c =
     let new = c.forget.new.self in
     let same = subst (λ (was : MemDisk). IsSame (recorded_state was.history was.failures) (recorded_state new.history new.failures)) c.deref_mut.ensures.value c.forget.ensures.same in
     record {
+      room = disk.room;
       in_disk = stays_in disk.waiting.items (length old.history.start) (length new.history.start) same.narrowed.size disk.in_disk;
       follows = follows_same (recorded_state old.history old.failures) (recorded_state new.history new.failures) disk.waiting.items disk.all_wait (g.F.DiskFile.held disk.file) same disk.follows;
     }

@@ -13,6 +13,7 @@ invariant_of-self g c =
     let disk = c.flush.new.self in
     let memory = disk.memory.value in
     record {
+      room = disk.room;
       in_disk = disk.in_disk;
       follows = follows_failed (recorded_state memory.history memory.failures) disk.waiting.items disk.all_wait (g.F.DiskFile.held disk.file) (g.F.DiskFile.held c.sync.new.self) c.sync.ensures.narrowed disk.follows;
     }
@@ -31,6 +32,7 @@ invariant_of-self-2 g c =
     let changes = subst (λ (was : MemDisk). IsNarrowed (recorded_state was.history was.failures) (recorded_state new.history new.failures)) c.deref_mut.ensures.value c.sync-2.ensures.changes in
     let synced = recorded c.sync.result (sym c.is_err-2.ensures.value ∙ c.if-is_err-2.false) c.sync.ensures.stable in
     record {
+      room = disk.room;
       in_disk = stays_in disk.waiting.items (length old.history.start) (length new.history.start) changes.size disk.in_disk;
       follows =
           follows_synced (recorded_state old.history old.failures) (recorded_state new.history new.failures) disk.waiting.items disk.all_wait file (g.F.DiskFile.held c.sync.new.self)

@@ -14,6 +14,7 @@ invariant_of-self g c =
     let waits = recorded c.wait_for.result (sym c.is_err.ensures.value ∙ c.if-is_err.false) c.wait_for.ensures.waits in
     let changes = subst (λ (was : MemDisk). ChangesOnly (recorded_state was.history was.failures) (recorded_state new.history new.failures) c.args.n c.args.from.now) c.deref_mut.ensures.value c.write.ensures.changes in
     record {
+      room = disk.room;
       in_disk = stays_in disk.waiting.items (length old.history.start) (length new.history.start) changes.size disk.in_disk;
       follows =
           follows_write (recorded_state old.history old.failures) (recorded_state new.history new.failures) c.args.n c.args.from.now disk.waiting.items disk.all_wait (g.F.DiskFile.held disk.file)

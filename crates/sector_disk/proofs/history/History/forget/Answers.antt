@@ -11,7 +11,7 @@ invariant_of-self c =
     let rest =
     c.truncate.ensures.items ∙ ap (λ (l : List Step). take (c.len.result - i.synced) l) c.rotate_left.ensures.items
     ∙ kept_end i.done.items i.synced (c.len.result - i.synced) (ap (λ n. n - i.synced) (c.len.ensures ∙ i.done.ok.0)) in
-    log-forget i.seen.items i.done.items c.truncate.new.self.items i.synced rest c.self.invariant
+    log-forget i.seen i.done.items c.truncate.new.self.items i.synced rest c.self.invariant
 
 pub returns : goal.returns
 returns c =
@@ -19,4 +19,4 @@ returns c =
     let rest =
     c.truncate.ensures.items ∙ ap (λ (l : List Step). take (c.len.result - i.synced) l) c.rotate_left.ensures.items
     ∙ kept_end i.done.items i.synced (c.len.result - i.synced) (ap (λ n. n - i.synced) (c.len.ensures ∙ i.done.ok.0)) in
-    ap (λ (l : List Step). past_of i.seen.items l) rest ∙ past-forget i.seen.items i.done.items i.synced c.self.invariant ∙ ap (λ (p : Past). since_sync p) c.self.view_is
+    ap (λ (l : List Step). past_of i.seen l) rest ∙ past-forget i.seen i.done.items i.synced c.self.invariant ∙ ap (λ (p : Past). since_sync p) c.self.view_is

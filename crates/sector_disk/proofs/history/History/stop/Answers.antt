@@ -1,7 +1,5 @@
-use Rattle.std.proofs.Common.{[], ◌∙◌, ◌-◌, ◌<◌, ◌^◌, ap, arith, drop, length, List, subst, sym, take}
-use Rattle.std.specs.Vec.{with_items}
-use Rattle.std.proofs.lemmas.List.{take_rest, with_items_is}
-use Rattle.sector_disk.specs.Disk.{Image}
+use Rattle.std.proofs.Common.{◌∙◌, ◌-◌, ◌<◌, ◌^◌, ap, arith, drop, length, List, subst, sym, take}
+use Rattle.std.proofs.lemmas.List.{take_rest}
 use Rattle.sector_disk.specs.Record.{Leaves, replay}
 use Rattle.sector_disk.specs.Steps.{before, IsLog}
 use Rattle.sector_disk.specs.declared.history.Step.{Step}
@@ -12,18 +10,15 @@ pub invariant_of-self : goal.invariant_of-self
 invariant_of-self c =
     let i = c.self.inside in
     let image = c.pick.new.image in
-    let size = c.pick.auto.image ∙ c.deref_mut.ensures.len in
-    let small : length image < 2 ^ 32 = let few = c.self.invariant.small in let ok = i.seen.ok.0 in omega (arith, size, few, ok) in
-    subst (λ (l : List Step). IsLog (with_items i.seen image).items l 0) (sym c.clear.ensures.items) (subst (λ (j : Image). IsLog j [] 0) (sym (with_items_is i.seen image size)) (log-start image small))
+    let small : length image < 2 ^ 32 = let few = c.self.invariant.small in let size = c.pick.ensures.len in omega (arith, size, few) in
+    subst (λ (l : List Step). IsLog image l 0) (sym c.clear.ensures.items) (log-start image small)
 
 pub returns-clause-image : goal.returns-clause-image
 returns-clause-image c =
     let i = c.self.inside in
     let p = c.args.self.now in
     let image = c.pick.new.image in
-    let size = c.pick.auto.image ∙ c.deref_mut.ensures.len in
     let pending = take (length c.deref.result.now - i.synced) (drop i.synced c.deref.result.now) in
     let tail = take_rest c.deref.result.now i.synced ∙ ap (λ (l : List Step). drop i.synced l) c.deref.ensures.value in
-    subst (λ (l : List Step). Leaves (length p.start) (replay p.start p.events) (before (with_items i.seen image).items l)) (sym c.clear.ensures.items)
-    (subst (λ (j : Image). Leaves (length p.start) (replay p.start p.events) j) (sym (with_items_is i.seen image size))
-    (stopped i.seen.items c.deref_mut.result.now image i.done.items pending i.synced p c.self.invariant c.self.view_is c.deref_mut.ensures.value tail (size ∙ i.seen.ok.0) c.pick.ensures))
+    subst (λ (l : List Step). Leaves (length p.start) (replay p.start p.events) (before image l)) (sym c.clear.ensures.items)
+    (stopped i.seen image i.done.items pending i.synced p c.self.invariant c.self.view_is tail c.pick.ensures.len c.pick.ensures.each)

@@ -1,0 +1,447 @@
+-- Sectors that are kept by places: what a change of the places and the contents shows.
+use Rattle.std.proofs.Common.{◌≡◌, ◌≢◌, ◌⊎◌, inl, inr, ⊎_elim, ℕ, ◌+◌, ◌-◌, ◌<◌, ◌≤◌, List, [], ◌∷◌, ◌++◌, length, take, drop, refl, sym, ◌∙◌, ap, subst, arith, slice_set, get_or, replicate, length-set, length-append, length-take, length-drop, get_or-set_other}
+use Rattle.std.proofs.lemmas.Bool.{cases_eq, cases_lt}
+use Rattle.std.proofs.lemmas.Grind.{get_or-set_at, get_or_default_zero}
+use Rattle.std.proofs.lemmas.List.{ext_get_or, take_all, get_or-take, get_or-drop, get_or_append_left, get_or-append_right, get_or-map, get_or-replicate, length-map, length-replicate}
+use Rattle.std.specs.Prelude.{Result, slice_range, Bool, false, not, if◌then◌else◌}
+use Rattle.std.specs.Result.{is_ok}
+use Rattle.sector_disk.specs.Disk.{Image, sector, IsWholeSector}
+use Rattle.sector_disk.specs.Whole.{AreSectors}
+use Rattle.sector_disk.specs.Places.{shown, IsKept, IsRunSet}
+
+pub sector_shown : (contents : Image) (places : List ℕ) (n : ℕ) → n < length places → sector (shown contents places) n ≡ sector contents (get_or places n 0)
+sector_shown contents places n below = get_or-map (sector contents) places n 0 [] below
+
+-- one sector shows another content
+pub shown_set : (contents contents' : Image) (places places' : List ℕ) (n : ℕ) (content : List ℕ) → n < length places → length places' ≡ length places
+    → sector contents' (get_or places' n 0) ≡ content
+    → ((i : ℕ) → i < length places → i ≢ n → sector contents' (get_or places' i 0) ≡ sector contents (get_or places i 0))
+    → shown contents' places' ≡ slice_set (shown contents places) n content
+shown_set contents contents' places places' n content below size here others =
+    ext_get_or [] (shown contents' places') (slice_set (shown contents places) n content) (length-map places' (sector contents') ∙ size ∙ sym (length-set (shown contents places) n content ∙ length-map places (sector contents))) each
+  where
+    each : (i : ℕ) → i < length (shown contents' places') → sector (shown contents' places') i ≡ sector (slice_set (shown contents places) n content) i
+    each i fits =
+        let new : i < length places' = omega (arith, fits, length-map places' (sector contents')) in
+        let old : i < length places = omega (arith, new, size) in
+        sector_shown contents' places' i new
+        ∙ elim (cases_eq i n) [
+          | inl same ↦
+              ap (λ k. sector contents' (get_or places' k 0)) same ∙ here
+              ∙ sym (get_or-set_at (shown contents places) n i content [] same (omega (arith, below, length-map places (sector contents))))
+          | inr other ↦ others i old other ∙ sym (get_or-set_other (shown contents places) n i content [] other ∙ sector_shown contents places i old)
+        ]
+
+-- ---- one content less
+-- the last element stands in the place of another, which is gone
+pub record IsRemoved {X : Type 0} (at : ℕ) (old new : List X) : Type 0 where
+  pub len : length new + 1 ≡ length old
+  pub moved : (d : X) → at + 1 < length old → get_or new at d ≡ get_or old (length old - 1) d
+  pub rest : (k : ℕ) (d : X) → k ≢ at → k + 1 < length old → get_or new k d ≡ get_or old k d
+
+pub removed : {X : Type 0} (at was is : ℕ) (old new : List X) → was ≡ length old → is ≡ length new → is + 1 ≡ was
+    → (((d : X) → at + 1 < was → get_or new at d ≡ get_or old (was - 1) d) × ((k : ℕ) (d : X) → k ≢ at → k + 1 < was → get_or new k d ≡ get_or old k d))
+    → IsRemoved at old new
+removed at was is old new old_len new_len len each = record {
+  len = omega (arith, old_len, new_len, len);
+  moved = λ d fits. each.0 d (omega (arith, fits, old_len)) ∙ ap (λ n. get_or old (n - 1) d) old_len;
+  rest = λ k d other fits. each.1 k d other (omega (arith, fits, old_len));
+}
+
+-- The place `at` of sector n is free, and the last content, if that's another, stands there.
+pub record IsCleared (n at last : ℕ) (old new : List ℕ) : Type 0 where
+  pub size : length new ≡ length old
+  pub here : get_or new n 0 ≡ 0
+  pub others : (i : ℕ) → i < length old → i ≢ n
+      → ((get_or old i 0 ≡ last) × (get_or new i 0 ≡ at) × (at < last)) ⊎ ((get_or old i 0 ≢ last) × (get_or new i 0 ≡ get_or old i 0))
+
+-- no two sectors have a place
+apart : (places : List ℕ) (contents : Image) (owners : List ℕ) (i n : ℕ) → IsKept places contents owners → i < length places → n < length places → get_or places n 0 ≢ 0
+    → get_or places i 0 ≡ get_or places n 0 → i ≡ n
+apart places contents owners i n kept below fits used same =
+    sym (kept.owned i below (λ none. used (sym same ∙ none))) ∙ ap (λ k. get_or owners k 0) same ∙ kept.owned n fits used
+
+pub cleared_last : (places : List ℕ) (contents : Image) (owners : List ℕ) (n at last : ℕ) → IsKept places contents owners → n < length places → at ≡ get_or places n 0 → at ≢ 0
+    → at ≡ last → IsCleared n at last places (slice_set places n 0)
+cleared_last places contents owners n at last kept below is used all = record {
+  size = length-set places n 0;
+  here = get_or-set_at places n n 0 0 refl below;
+  others = λ i fits other. inr (
+    (λ same. other (apart places contents owners i n kept fits below (λ none. used (is ∙ none)) (same ∙ sym all ∙ is))),
+    get_or-set_other places n i 0 0 other,
+  );
+}
+
+pub cleared_moved : (places : List ℕ) (contents : Image) (owners : List ℕ) (n at last moved : ℕ) → IsKept places contents owners → n < length places → at ≡ get_or places n 0 → at ≢ 0
+    → last + 1 ≡ length contents → at < last → moved ≡ get_or owners last 0 → IsCleared n at last places (slice_set (slice_set places n 0) moved at)
+cleared_moved places contents owners n at last moved kept below is used len early owner = record {
+  size = length-set (slice_set places n 0) moved at ∙ length-set places n 0;
+  here = get_or-set_other (slice_set places n 0) moved n at 0 (λ same. other_place (sym same)) ∙ get_or-set_at places n n 0 0 refl below;
+  others = λ i fits other. elim (cases_eq i moved) [
+    | inl same ↦ inl (ap (λ k. get_or places k 0) same ∙ stands, get_or-set_at (slice_set places n 0) moved i at 0 same (omega (arith, fits, same, length-set places n 0)), early)
+    | inr apart ↦ inr (
+      (λ last_is. apart (sym (kept.owned i fits (λ none. let zero = sym last_is ∙ none in omega (arith, zero, early))) ∙ ap (λ k. get_or owners k 0) last_is ∙ sym owner)),
+      get_or-set_other (slice_set places n 0) moved i at 0 apart ∙ get_or-set_other places n i 0 0 other,
+    )
+  ];
+}
+  where
+    stands : get_or places moved 0 ≡ last
+    stands = ap (λ k. get_or places k 0) owner ∙ kept.owns last (omega (arith, len)) (omega (arith, early))
+
+    other_place : moved ≢ n
+    other_place same = let there = sym stands ∙ ap (λ k. get_or places k 0) same ∙ sym is in omega (arith, there, early)
+
+pub cleared_kept : (places places' : List ℕ) (contents contents' : Image) (owners owners' : List ℕ) (n at last : ℕ) → IsKept places contents owners → n < length places → at ≡ get_or places n 0
+    → at ≢ 0 → last + 1 ≡ length contents → IsRemoved at contents contents' → IsRemoved at owners owners' → IsCleared n at last places places' → IsKept places' contents' owners'
+cleared_kept places places' contents contents' owners owners' n at last kept below is used len content owner cleared = record {
+  some = omega (arith, len, at_fits, used, content.len);
+  len = omega (arith, content.len, owner.len, kept.len);
+  whole = λ k fits. elim (cases_eq k at) [
+    | inl here ↦ subst IsWholeSector (sym (content_moved k here (below_last k fits))) (kept.whole last (omega (arith, len)))
+    | inr other ↦ subst IsWholeSector (sym (content_stays k other (below_last k fits))) (kept.whole k (omega (arith, len, below_last k fits)))
+  ];
+  zeros = content_stays 0 (λ none. used (sym none)) (omega (arith, at_fits, used, len)) ∙ kept.zeros;
+  used = λ k fits other. elim (cases_eq k at) [
+    | inl here ↦ λ zeros. kept.used last (omega (arith, len)) (omega (arith, below_last k fits)) (sym (content_moved k here (below_last k fits)) ∙ zeros)
+    | inr apart ↦ λ zeros. kept.used k (omega (arith, len, below_last k fits)) other (sym (content_stays k apart (below_last k fits)) ∙ zeros)
+  ];
+  placed = λ i fits. elim (cases_eq i n) [
+    | inl same ↦ let zero = ap (λ j. get_or places' j 0) same ∙ cleared.here in omega (arith, zero, len, at_fits, used, content.len)
+    | inr other ↦
+        let old : i < length places = omega (arith, fits, cleared.size) in
+        let was = kept.placed i old in
+        ⊎_elim (λ there. let now = there.1 in let early = there.2 in omega (arith, now, early, len, content.len))
+        (λ stays. let now = stays.1 in let apart = stays.0 in omega (arith, now, apart, was, len, content.len)) (cleared.others i old other)
+  ];
+  owned = λ i fits some. elim (cases_eq i n) [
+    | inl same ↦ absurd (some (ap (λ j. get_or places' j 0) same ∙ cleared.here))
+    | inr other ↦
+        let old : i < length places = omega (arith, fits, cleared.size) in
+        ⊎_elim
+        (λ there.
+        ap (λ k. get_or owners' k 0) there.1 ∙ owner_moved at refl there.2 ∙ ap (λ k. get_or owners k 0) (sym there.0)
+        ∙ kept.owned i old (λ none. let zero = sym there.0 ∙ none in let early = there.2 in omega (arith, zero, early)))
+        (λ stays.
+        let here = kept.placed i old in
+        let apart = stays.0 in
+        ap (λ k. get_or owners' k 0) stays.1
+        ∙ owner_stays (get_or places i 0) (λ same. other (unique i old (same ∙ is))) (omega (arith, here, apart, len))
+        ∙ kept.owned i old (λ none. some (stays.1 ∙ none)))
+        (cleared.others i old other)
+  ];
+  owner = λ k fits other. elim (cases_eq k at) [
+    | inl here ↦ let bound = kept.owner last (omega (arith, len)) (omega (arith, below_last k fits)) in omega (arith, bound, owner_moved k here (below_last k fits), cleared.size)
+    | inr apart ↦ let bound = kept.owner k (omega (arith, len, below_last k fits)) other in omega (arith, bound, owner_stays k apart (below_last k fits), cleared.size)
+  ];
+  owns = λ k fits other. elim (cases_eq k at) [
+    | inl here ↦
+        let early = below_last k fits in
+        let bound = kept.owner last (omega (arith, len)) (omega (arith, early)) in
+        let was = kept.owns last (omega (arith, len)) (omega (arith, early)) in
+        ap (λ i. get_or places' i 0) (owner_moved k here early)
+        ∙ ⊎_elim (λ there. there.1 ∙ sym here) (λ stays. absurd (stays.0 was))
+        (cleared.others (get_or owners last 0) bound (λ same. let there = sym was ∙ ap (λ i. get_or places i 0) same ∙ sym is in omega (arith, there, here, early)))
+    | inr apart ↦
+        let early = below_last k fits in
+        let bound = kept.owner k (omega (arith, len, early)) other in
+        let was = kept.owns k (omega (arith, len, early)) other in
+        ap (λ i. get_or places' i 0) (owner_stays k apart early)
+        ∙ ⊎_elim (λ there. let wrong = sym was ∙ there.0 in absurd (omega (arith, wrong, early))) (λ stays. stays.1 ∙ was)
+        (cleared.others (get_or owners k 0) bound (λ same. apart (sym was ∙ ap (λ i. get_or places i 0) same ∙ sym is)))
+  ];
+}
+  where
+    at_fits : at < length contents
+    at_fits = let fits = kept.placed n below in omega (arith, fits, is)
+
+    below_last : (k : ℕ) → k < length contents' → k < last
+    below_last k fits = omega (arith, fits, len, content.len)
+
+    last_is : length contents - 1 ≡ last
+    last_is = omega (arith, len)
+
+    content_moved : (k : ℕ) → k ≡ at → k < last → sector contents' k ≡ sector contents last
+    content_moved k here early =
+        ap (λ j. sector contents' j) here ∙ content.moved [] (omega (arith, here, early, len)) ∙ ap (λ j. sector contents j) last_is
+
+    content_stays : (k : ℕ) → k ≢ at → k < last → sector contents' k ≡ sector contents k
+    content_stays k other early = content.rest k [] other (omega (arith, early, len))
+
+    owner_moved : (k : ℕ) → k ≡ at → k < last → get_or owners' k 0 ≡ get_or owners last 0
+    owner_moved k here early =
+        ap (λ j. get_or owners' j 0) here ∙ owner.moved 0 (omega (arith, here, early, len, kept.len)) ∙ ap (λ j. get_or owners j 0) (let same : length owners - 1 ≡ last = omega (arith, len, kept.len) in same)
+
+    owner_stays : (k : ℕ) → k ≢ at → k < last → get_or owners' k 0 ≡ get_or owners k 0
+    owner_stays k other early = owner.rest k 0 other (omega (arith, early, len, kept.len))
+
+    unique : (i : ℕ) → i < length places → get_or places i 0 ≡ get_or places n 0 → i ≡ n
+    unique i fits same = apart places contents owners i n kept fits below (λ none. used (is ∙ none)) same
+
+pub cleared_shown : (places places' : List ℕ) (contents contents' : Image) (owners : List ℕ) (n at last : ℕ) → IsKept places contents owners → n < length places → at ≡ get_or places n 0
+    → at ≢ 0 → last + 1 ≡ length contents → IsRemoved at contents contents' → IsCleared n at last places places' → shown contents' places' ≡ slice_set (shown contents places) n (replicate 512 0)
+cleared_shown places places' contents contents' owners n at last kept below is used len content cleared =
+    shown_set contents contents' places places' n (replicate 512 0) below cleared.size
+    (ap (λ k. sector contents' k) cleared.here ∙ content.rest 0 [] (λ none. used (sym none)) (let fits = kept.placed n below in omega (arith, fits, is, used, len)) ∙ kept.zeros)
+    (λ i fits other.
+    ⊎_elim
+    (λ there.
+    ap (λ k. sector contents' k) there.1 ∙ content.moved [] (let early = there.2 in omega (arith, early, len)) ∙ ap (λ k. sector contents k) (let same : length contents - 1 ≡ last = omega (arith, len) in same)
+    ∙ ap (λ k. sector contents k) (sym there.0))
+    (λ stays.
+    let here = kept.placed i fits in
+    let apart_from = stays.0 in
+    ap (λ k. sector contents' k) stays.1
+    ∙ content.rest (get_or places i 0) [] (λ same. other (apart places contents owners i n kept fits below (λ none. used (is ∙ none)) (same ∙ is))) (omega (arith, here, apart_from, len)))
+    (cleared.others i fits other))
+
+-- a sector of zeros has zeros already
+pub zeros_stay : (places : List ℕ) (contents : Image) (owners : List ℕ) (n : ℕ) → IsKept places contents owners → n < length places → get_or places n 0 ≡ 0
+    → shown contents places ≡ slice_set (shown contents places) n (replicate 512 0)
+zeros_stay places contents owners n kept below none =
+    shown_set contents contents places places n (replicate 512 0) below refl (ap (λ k. sector contents k) none ∙ kept.zeros) (λ i fits other. refl)
+
+-- ---- a content in place of another, or one more
+pub replaced_shown : (places : List ℕ) (contents : Image) (owners : List ℕ) (n at : ℕ) (content : List ℕ) → IsKept places contents owners → n < length places → at ≡ get_or places n 0 → at ≢ 0
+    → shown (slice_set contents at content) places ≡ slice_set (shown contents places) n content
+replaced_shown places contents owners n at content kept below is used =
+    shown_set contents (slice_set contents at content) places places n content below refl
+    (get_or-set_at contents at (get_or places n 0) content [] (sym is) (let fits = kept.placed n below in omega (arith, fits, is)))
+    (λ i fits other. get_or-set_other contents at (get_or places i 0) content [] (λ same. other (apart places contents owners i n kept fits below (λ none. used (is ∙ none)) (same ∙ is))))
+
+pub added_kept : (places : List ℕ) (contents : Image) (owners : List ℕ) (n at : ℕ) (content : List ℕ) → IsKept places contents owners → n < length places → get_or places n 0 ≡ 0
+    → at ≡ length contents → IsWholeSector content → content ≢ replicate 512 0 → IsKept (slice_set places n at) (contents ++ content ∷ []) (owners ++ n ∷ [])
+added_kept places contents owners n at content kept below none end whole used = record {
+  some = omega (arith, more);
+  len = omega (arith, kept.len, more, length-append owners (n ∷ []));
+  whole = λ k fits. elim (cases_lt k (length contents)) [
+    | inl old ↦ subst IsWholeSector (sym (get_or_append_left contents (content ∷ []) [] k old)) (kept.whole k old)
+    | inr new ↦ subst IsWholeSector (sym (last_content k (omega (arith, fits, new, more)))) whole
+  ];
+  zeros = get_or_append_left contents (content ∷ []) [] 0 kept.some ∙ kept.zeros;
+  used = λ k fits other. elim (cases_lt k (length contents)) [
+    | inl old ↦ λ zeros. kept.used k old other (sym (get_or_append_left contents (content ∷ []) [] k old) ∙ zeros)
+    | inr new ↦ λ zeros. used (sym (last_content k (omega (arith, fits, new, more))) ∙ zeros)
+  ];
+  placed = λ i fits. elim (cases_eq i n) [
+    | inl same ↦ omega (arith, get_or-set_at places n i at 0 same below, end, more)
+    | inr other ↦ let was = kept.placed i (omega (arith, fits, length-set places n at)) in omega (arith, was, get_or-set_other places n i at 0 other, more)
+  ];
+  owned = λ i fits some. elim (cases_eq i n) [
+    | inl same ↦ ap (λ k. get_or (owners ++ n ∷ []) k 0) (get_or-set_at places n i at 0 same below) ∙ last_owner at (end ∙ sym kept.len) ∙ sym same
+    | inr other ↦
+        let old : i < length places = omega (arith, fits, length-set places n at) in
+        let was = kept.placed i old in
+        let stays = get_or-set_other places n i at 0 other in
+        ap (λ k. get_or (owners ++ n ∷ []) k 0) stays ∙ get_or_append_left owners (n ∷ []) 0 (get_or places i 0) (omega (arith, was, kept.len)) ∙ kept.owned i old (λ zero. some (stays ∙ zero))
+  ];
+  owner = λ k fits other. elim (cases_lt k (length contents)) [
+    | inl old ↦ let bound = kept.owner k old other in omega (arith, bound, get_or_append_left owners (n ∷ []) 0 k (omega (arith, old, kept.len)), length-set places n at)
+    | inr new ↦ omega (arith, below, last_owner k (omega (arith, fits, new, more, kept.len)), length-set places n at)
+  ];
+  owns = λ k fits other. elim (cases_lt k (length contents)) [
+    | inl old ↦
+        let was = kept.owns k old other in
+        ap (λ i. get_or (slice_set places n at) i 0) (get_or_append_left owners (n ∷ []) 0 k (omega (arith, old, kept.len)))
+        ∙ get_or-set_other places n (get_or owners k 0) at 0 (λ same. other (sym was ∙ ap (λ i. get_or places i 0) same ∙ none)) ∙ was
+    | inr new ↦
+        let here : k ≡ length contents = omega (arith, fits, new, more) in
+        ap (λ i. get_or (slice_set places n at) i 0) (last_owner k (here ∙ sym kept.len)) ∙ get_or-set_at places n n at 0 refl below ∙ end ∙ sym here
+  ];
+}
+  where
+    more : length (contents ++ content ∷ []) ≡ length contents + 1
+    more = length-append contents (content ∷ [])
+
+    last_content : (k : ℕ) → k ≡ length contents → sector (contents ++ content ∷ []) k ≡ content
+    last_content k here = get_or-append_right contents (content ∷ []) (length contents) k [] refl (omega (arith, here)) ∙ ap (λ j. sector (content ∷ []) j) (let first : k - length contents ≡ 0 = omega (arith, here) in first)
+
+    last_owner : (k : ℕ) → k ≡ length owners → get_or (owners ++ n ∷ []) k 0 ≡ n
+    last_owner k here = get_or-append_right owners (n ∷ []) (length owners) k 0 refl (omega (arith, here)) ∙ ap (λ j. get_or (n ∷ []) j 0) (let first : k - length owners ≡ 0 = omega (arith, here) in first)
+
+pub added_shown : (places : List ℕ) (contents : Image) (owners : List ℕ) (n at : ℕ) (content : List ℕ) → IsKept places contents owners → n < length places
+    → at ≡ length contents → shown (contents ++ content ∷ []) (slice_set places n at) ≡ slice_set (shown contents places) n content
+added_shown places contents owners n at content kept below end =
+    shown_set contents (contents ++ content ∷ []) places (slice_set places n at) n content below (length-set places n at)
+    (ap (λ k. sector (contents ++ content ∷ []) k) (get_or-set_at places n n at 0 refl below)
+    ∙ get_or-append_right contents (content ∷ []) (length contents) at [] refl (omega (arith, end)) ∙ ap (λ j. sector (content ∷ []) j) (let first : at - length contents ≡ 0 = omega (arith, end) in first))
+    (λ i fits other.
+    ap (λ k. sector (contents ++ content ∷ []) k) (get_or-set_other places n i at 0 other) ∙ get_or_append_left contents (content ∷ []) [] (get_or places i 0) (kept.placed i fits))
+
+-- ---- zeros alone
+pub zeros_kept : (count : ℕ) → IsWholeSector (replicate 512 0) → IsKept (replicate count 0) (replicate 512 0 ∷ []) (0 ∷ [])
+zeros_kept count whole = record {
+  some = omega arith;
+  len = refl;
+  whole = λ k fits. subst (λ j. IsWholeSector (sector (replicate 512 0 ∷ []) j)) (let first : 0 ≡ k = omega (arith, fits) in first) whole;
+  zeros = refl;
+  used = λ k fits other. absurd (other (omega (arith, fits)));
+  placed = λ n fits. let zero = none n fits in omega (arith, zero);
+  owned = λ n fits some. absurd (some (none n fits));
+  owner = λ k fits other. absurd (other (omega (arith, fits)));
+  owns = λ k fits other. absurd (other (omega (arith, fits)));
+}
+  where
+    none : (n : ℕ) → n < length {A = ℕ} (replicate count 0) → get_or {A = ℕ} (replicate count 0) n 0 ≡ 0
+    none n fits = get_or-replicate count n 0 0 (omega (arith, fits, length-replicate {A = ℕ} count 0))
+
+pub zeros_shown : (count : ℕ) → shown (replicate 512 0 ∷ []) (replicate count 0) ≡ replicate count (replicate 512 0)
+zeros_shown count =
+    ext_get_or [] (shown (replicate 512 0 ∷ []) (replicate count 0)) (replicate count (replicate 512 0)) (size ∙ sym (length-replicate count (replicate 512 0)))
+    (λ i fits.
+    let below : i < count = omega (arith, fits, size) in
+    sector_shown (replicate 512 0 ∷ []) (replicate count 0) i (omega (arith, below, length-replicate {A = ℕ} count 0)) ∙ ap (λ k. sector (replicate 512 0 ∷ []) k) (get_or-replicate count i 0 0 below)
+    ∙ sym (get_or-replicate count i (replicate 512 0) [] below))
+  where
+    size : length (shown (replicate 512 0 ∷ []) (replicate count 0)) ≡ count
+    size = length-map (replicate count 0) (sector (replicate 512 0 ∷ [])) ∙ length-replicate {A = ℕ} count 0
+
+-- ---- whole sectors
+pub shown_whole : (places : List ℕ) (contents : Image) (owners : List ℕ) → IsKept places contents owners → AreSectors (shown contents places)
+shown_whole places contents owners kept n below =
+    let fits : n < length places = omega (arith, below, length-map places (sector contents)) in
+    subst IsWholeSector (sym (sector_shown contents places n fits)) (kept.whole (get_or places n 0) (kept.placed n fits))
+
+-- ---- as a function has them
+-- the place of a sector, as it's read
+pub place_read : (places : List ℕ) (contents seen : Image) (n at : ℕ) → shown contents places ≡ seen → n < length seen → at ≡ get_or places n at → (n < length places) × (at ≡ get_or places n 0)
+place_read places contents seen n at is fits read =
+    let below : n < length places = let size = ap (λ (i : Image). length i) is in omega (arith, fits, size, length-map places (sector contents)) in
+    (below, read ∙ get_or_default_zero places n at below)
+
+-- what is known once a content is removed
+pub record IsRemoval (places : List ℕ) (contents : Image) (owners : List ℕ) (n at : ℕ) (contents' : Image) (owners' : List ℕ) : Type 0 where
+  pub kept : IsKept places contents owners
+  pub below : n < length places
+  pub is : at ≡ get_or places n 0
+  pub used : at ≢ 0
+  pub content : IsRemoved at contents contents'
+  pub owner : IsRemoved at owners owners'
+
+-- and where the last content stood elsewhere, or at the place itself
+removal_moved : (places : List ℕ) (contents : Image) (owners : List ℕ) (n at moved : ℕ) (contents' : Image) (owners' : List ℕ) → IsRemoval places contents owners n at contents' owners'
+    → at < length owners' → moved ≡ get_or owners' at moved → IsCleared n at (length contents - 1) places (slice_set (slice_set places n 0) moved at)
+removal_moved places contents owners n at moved contents' owners' removal early read =
+    let kept = removal.kept in
+    let owner = removal.owner in
+    cleared_moved places contents owners n at (length contents - 1) moved kept removal.below removal.is removal.used (omega (arith, early, owner.len, kept.len)) (omega (arith, early, owner.len, kept.len))
+    (read ∙ get_or_default_zero owners' at moved early ∙ owner.moved 0 (omega (arith, early, owner.len)) ∙ ap (λ k. get_or owners (k - 1) 0) kept.len)
+
+removal_last : (places : List ℕ) (contents : Image) (owners : List ℕ) (n at : ℕ) (contents' : Image) (owners' : List ℕ) → IsRemoval places contents owners n at contents' owners'
+    → length owners' ≤ at → IsCleared n at (length contents - 1) places (slice_set places n 0)
+removal_last places contents owners n at contents' owners' removal late =
+    let kept = removal.kept in
+    let owner = removal.owner in
+    cleared_last places contents owners n at (length contents - 1) kept removal.below removal.is removal.used
+    (let fits = kept.placed n removal.below in omega (arith, fits, removal.is, late, owner.len, kept.len))
+
+removal_kept : (places : List ℕ) (contents : Image) (owners : List ℕ) (n at : ℕ) (places' : List ℕ) (contents' : Image) (owners' : List ℕ) → IsRemoval places contents owners n at contents' owners'
+    → IsCleared n at (length contents - 1) places places' → IsKept places' contents' owners'
+removal_kept places contents owners n at places' contents' owners' removal cleared =
+    let kept = removal.kept in
+    cleared_kept places places' contents contents' owners owners' n at (length contents - 1) kept removal.below removal.is removal.used (let some = kept.some in omega (arith, some)) removal.content removal.owner cleared
+
+removal_shown : (places : List ℕ) (contents : Image) (owners : List ℕ) (n at : ℕ) (places' : List ℕ) (contents' : Image) (owners' : List ℕ) → IsRemoval places contents owners n at contents' owners'
+    → IsCleared n at (length contents - 1) places places' → shown contents' places' ≡ slice_set (shown contents places) n (replicate 512 0)
+removal_shown places contents owners n at places' contents' owners' removal cleared =
+    let kept = removal.kept in
+    cleared_shown places places' contents contents' owners n at (length contents - 1) kept removal.below removal.is removal.used (let some = kept.some in omega (arith, some)) removal.content cleared
+
+pub moved_kept : (places : List ℕ) (contents : Image) (owners : List ℕ) (n at moved : ℕ) (contents' : Image) (owners' : List ℕ) → IsRemoval places contents owners n at contents' owners'
+    → at < length owners' → moved ≡ get_or owners' at moved → IsKept (slice_set (slice_set places n 0) moved at) contents' owners'
+moved_kept places contents owners n at moved contents' owners' removal early read =
+    removal_kept places contents owners n at (slice_set (slice_set places n 0) moved at) contents' owners' removal (removal_moved places contents owners n at moved contents' owners' removal early read)
+
+pub moved_shown : (places : List ℕ) (contents : Image) (owners : List ℕ) (n at moved : ℕ) (contents' : Image) (owners' : List ℕ) → IsRemoval places contents owners n at contents' owners'
+    → at < length owners' → moved ≡ get_or owners' at moved → shown contents' (slice_set (slice_set places n 0) moved at) ≡ slice_set (shown contents places) n (replicate 512 0)
+moved_shown places contents owners n at moved contents' owners' removal early read =
+    removal_shown places contents owners n at (slice_set (slice_set places n 0) moved at) contents' owners' removal (removal_moved places contents owners n at moved contents' owners' removal early read)
+
+pub last_kept : (places : List ℕ) (contents : Image) (owners : List ℕ) (n at : ℕ) (contents' : Image) (owners' : List ℕ) → IsRemoval places contents owners n at contents' owners'
+    → length owners' ≤ at → IsKept (slice_set places n 0) contents' owners'
+last_kept places contents owners n at contents' owners' removal late =
+    removal_kept places contents owners n at (slice_set places n 0) contents' owners' removal (removal_last places contents owners n at contents' owners' removal late)
+
+pub last_shown : (places : List ℕ) (contents : Image) (owners : List ℕ) (n at : ℕ) (contents' : Image) (owners' : List ℕ) → IsRemoval places contents owners n at contents' owners'
+    → length owners' ≤ at → shown contents' (slice_set places n 0) ≡ slice_set (shown contents places) n (replicate 512 0)
+last_shown places contents owners n at contents' owners' removal late =
+    removal_shown places contents owners n at (slice_set places n 0) contents' owners' removal (removal_last places contents owners n at contents' owners' removal late)
+
+pub removal : (places : List ℕ) (contents : Image) (owners : List ℕ) (n at : ℕ) (contents' : Image) (owners' : List ℕ) (c c' o o' : ℕ) → IsKept places contents owners
+    → (n < length places) × (at ≡ get_or places n 0) → at ≢ 0
+    → c ≡ length contents → c' ≡ length contents' → c' + 1 ≡ c
+    → (((d : List ℕ) → at + 1 < c → get_or contents' at d ≡ get_or contents (c - 1) d) × ((k : ℕ) (d : List ℕ) → k ≢ at → k + 1 < c → get_or contents' k d ≡ get_or contents k d))
+    → o ≡ length owners → o' ≡ length owners' → o' + 1 ≡ o
+    → (((d : ℕ) → at + 1 < o → get_or owners' at d ≡ get_or owners (o - 1) d) × ((k : ℕ) (d : ℕ) → k ≢ at → k + 1 < o → get_or owners' k d ≡ get_or owners k d))
+    → IsRemoval places contents owners n at contents' owners'
+removal places contents owners n at contents' owners' c c' o o' kept read used c_is c'_is c_len c_each o_is o'_is o_len o_each = record {
+  kept = kept;
+  below = read.0;
+  is = read.1;
+  used = used;
+  content = removed at c c' contents contents' c_is c'_is c_len c_each;
+  owner = removed at o o' owners owners' o_is o'_is o_len o_each;
+}
+
+-- a push that was no error
+pub pushed : {X : Type 0} {T E : Type 0} (r : Result T E) (e : Bool) (old new : List X) (x : X) → is_ok r ≡ not e → e ≡ false → new ≡ (if is_ok r then old ++ x ∷ [] else old) → new ≡ old ++ x ∷ []
+pushed r e old new x negation fine is = is ∙ ap (λ b. if b then old ++ x ∷ [] else old) (negation ∙ ap not fine)
+
+-- ---- a list that is made anew
+pub made : (n len : ℕ) (old new : List ℕ) → old ≡ [] → len ≡ 0 → new ≡ take n old ++ replicate {A = ℕ} (n - len) 0 → new ≡ replicate {A = ℕ} n 0
+made n len old new none nought is =
+    is ∙ ap (λ l. take n l ++ replicate {A = ℕ} (n - len) 0) none ∙ ap (λ l. l ++ replicate {A = ℕ} (n - len) 0) (take_all n [] (omega arith))
+    ∙ ap (λ k. replicate {A = ℕ} k 0) (let rest : n - len ≡ n = omega (arith, nought) in rest)
+
+-- ---- neighbours, one after the other
+pub run_none : (first : ℕ) (run image : Image) → IsRunSet first (take 0 run) image image
+run_none first run image = record {
+  len = refl;
+  inside = λ n from to. absurd (omega (arith, from, to, length-take 0 run));
+  before = λ n early. refl;
+  behind = λ n late. refl;
+}
+
+pub run_more : (first i : ℕ) (run old new : Image) (content : List ℕ) → i < length run → first + length run ≤ length old → content ≡ sector run i → IsRunSet first (take i run) old new
+    → IsRunSet first (take (i + 1) run) old (slice_set new (first + i) content)
+run_more first i run old new content below fits is set = record {
+  len = length-set new (first + i) content ∙ set.len;
+  inside = λ n from to. elim (cases_eq n (first + i)) [
+    | inl here ↦
+        get_or-set_at new (first + i) n content [] here (omega (arith, below, fits, set.len)) ∙ is
+        ∙ sym (get_or-take (i + 1) run (n - first) [] (omega (arith, here)) ∙ ap (λ k. sector run k) (let same : n - first ≡ i = omega (arith, here) in same))
+    | inr other ↦
+        let early : n < first + i = omega (arith, to, other, from, length-take (i + 1) run) in
+        get_or-set_other new (first + i) n content [] other ∙ set.inside n from (omega (arith, early, below, length-take i run))
+        ∙ get_or-take i run (n - first) [] (omega (arith, early, from)) ∙ sym (get_or-take (i + 1) run (n - first) [] (omega (arith, early, from)))
+  ];
+  before = λ n early. get_or-set_other new (first + i) n content [] (λ same. let less = early in omega (arith, same, less)) ∙ set.before n early;
+  behind = λ n late.
+      let past : first + i + 1 ≤ n = omega (arith, late, below, length-take (i + 1) run) in
+      get_or-set_other new (first + i) n content [] (λ same. omega (arith, same, past)) ∙ set.behind n (omega (arith, past, below, length-take i run));
+}
+
+-- the first i of these are what stands from `first` on
+pub record IsCopied (first i : ℕ) (image to : Image) : Type 0 where
+  pub each : (k : ℕ) → k < i → sector to k ≡ sector image (first + k)
+
+pub copied_more : (first i : ℕ) (image to : Image) (content : List ℕ) → i < length to → content ≡ sector image (first + i) → IsCopied first i image to → IsCopied first (i + 1) image (slice_set to i content)
+copied_more first i image to content below is copied = record {
+  each = λ k early. elim (cases_eq k i) [
+    | inl here ↦ get_or-set_at to i k content [] here (omega (arith, below, here)) ∙ is ∙ ap (λ j. sector image (first + j)) (sym here)
+    | inr other ↦ get_or-set_other to i k content [] other ∙ copied.each k (omega (arith, early, other))
+  ];
+}
+
+pub copied_all : (first i : ℕ) (image to : Image) → i ≡ length to → first + length to ≤ length image → IsCopied first i image to → to ≡ slice_range image first (first + length to)
+copied_all first i image to all fits copied =
+    ext_get_or [] to (slice_range image first (first + length to))
+    (let span : first + length to - first ≡ length to = omega arith in omega (arith, span, fits, length-take (first + length to - first) (drop first image), length-drop first image))
+    (λ k below.
+    copied.each k (omega (arith, below, all))
+    ∙ sym (get_or-take (first + length to - first) (drop first image) k [] (omega (arith, below)) ∙ get_or-drop first image k []))
+
+-- a run over all sectors
+pub run_all : (count : ℕ) (run old new : Image) → length old ≡ count → length run ≡ count → IsRunSet 0 run old new → new ≡ run
+run_all count run old new size all set =
+    ext_get_or [] new run (omega (arith, size, all, set.len)) (λ i below. set.inside i (omega arith) (omega (arith, below, size, all, set.len)) ∙ ap (λ k. sector run k) (let same : i - 0 ≡ i = omega arith in same))

@@ -1,0 +1,30 @@
+-- Sectors in memory that are kept by places: a number for each sector, and each content that isn't zeros once.
+--     shown        the sectors that the places stand for
+--     IsKept        zeros stand at place 0 alone, and each other content has one owner
+--     IsRunSet        neighbours got other contents
+use Rattle.std.specs.Prelude.{◌≡◌, ◌≢◌, ℕ, ◌+◌, ◌-◌, ◌<◌, ◌≤◌, List, length, map, get_or, replicate}
+use Rattle.sector_disk.specs.Disk.{Image, sector}
+use Rattle.sector_disk.specs.Whole.{AreSectors}
+
+-- the content at each place
+abbrev pub shown : Image → List ℕ → Image
+shown contents places = map (sector contents) places
+
+-- Place 0 has zeros. Each other place has a content that isn't zeros, and is that of one sector, its owner.
+pub record IsKept (places : List ℕ) (contents : Image) (owners : List ℕ) : Type 0 where
+  pub some : 0 < length contents
+  pub len : length owners ≡ length contents
+  pub whole : AreSectors contents
+  pub zeros : sector contents 0 ≡ replicate 512 0
+  pub used : (k : ℕ) → k < length contents → k ≢ 0 → sector contents k ≢ replicate 512 0
+  pub placed : (n : ℕ) → n < length places → get_or places n 0 < length contents
+  pub owned : (n : ℕ) → n < length places → get_or places n 0 ≢ 0 → get_or owners (get_or places n 0) 0 ≡ n
+  pub owner : (k : ℕ) → k < length contents → k ≢ 0 → get_or owners k 0 < length places
+  pub owns : (k : ℕ) → k < length contents → k ≢ 0 → get_or places (get_or owners k 0) 0 ≡ k
+
+-- The sectors from `first` on got the contents of the run, and the others stay.
+pub record IsRunSet (first : ℕ) (run old new : Image) : Type 0 where
+  pub len : length new ≡ length old
+  pub inside : (n : ℕ) → first ≤ n → n < first + length run → sector new n ≡ sector run (n - first)
+  pub before : (n : ℕ) → n < first → sector new n ≡ sector old n
+  pub behind : (n : ℕ) → first + length run ≤ n → sector new n ≡ sector old n

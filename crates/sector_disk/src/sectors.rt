@@ -1,0 +1,158 @@
+//! Sectors in memory, of which those that are zeros take four bytes each.
+
+ghost use Rattle.std.specs.Prelude.{◌≡◌, ◌≢◌, ◌<◌, ◌≤◌, ◌+◌, ◌^◌, length, replicate, slice_set, slice_range, IfOk, OnOk, OnErr};
+ghost use Rattle.sector_disk.specs.Disk.{sector};
+ghost use Rattle.sector_disk.specs.Whole.{AreSectors};
+ghost use Rattle.sector_disk.specs.Places.{IsRunSet};
+
+use crate::whole::tell_whole;
+use std::alloc::{AllocError, Global};
+use std::marker::Model;
+
+const ZEROS: [u8; 512] = [0; 512];
+
+/// A list of sectors. One of zeros is kept by a number alone, and each other content once: a contract sees the sectors.
+#[derive(Drop)]
+pub struct Sectors {
+    // For each sector where its content stands.
+    places: Vec<u32>,
+    // Zeros, and behind them the contents of the sectors that aren't zeros.
+    contents: Vec<[u8; 512]>,
+    // For each content but the zeros the sector that has it.
+    owners: Vec<u32>,
+}
+
+impl Model for Sectors {
+    ghost use Rattle.sector_disk.specs.Disk.{Image};
+
+    ghost Value = { Image };
+
+    ghost use Rattle.sector_disk.specs.Places.{shown, IsKept};
+
+    ghost view = { λ sectors. shown sectors.contents.items sectors.places.items };
+
+    ghost invariant = { λ sectors. IsKept sectors.places.items sectors.contents.items sectors.owners.items };
+}
+
+impl Sectors {
+    /// So many sectors of zeros.
+    pub fn zeros(alloc: Global, count: u32) -> Result<Self, AllocError>
+        ensures { IfOk result (λ sectors. sectors ≡ replicate count (replicate 512 0)) }
+    {
+        tell_whole(&ZEROS);
+        let mut places = Vec::new(alloc);
+        places.resize(count as usize, 0)?;
+        let mut contents = Vec::new(alloc);
+        contents.push(ZEROS)?;
+        let mut owners = Vec::new(alloc);
+        owners.push(0)?;
+        Ok(Sectors {
+            places,
+            contents,
+            owners,
+        })
+    }
+
+    /// How many there are.
+    pub fn len(&self) -> usize
+        ensures { result ≡ length self.now }
+    {
+        self.places.len()
+    }
+
+    /// The content of one.
+    pub fn get(&self, n: u32) -> &[u8; 512]
+        requires { n < length self.now }
+        ensures { result.now ≡ sector self.now n }
+    {
+        &self.contents[self.places[n as usize] as usize]
+    }
+
+    /// Gives one another content. Zeros need no memory; at `Err` nothing has changed.
+    pub fn set(&mut self, n: u32, content: &[u8; 512]) -> Result<(), AllocError>
+        requires { n < length self.old }
+        ensures ok { OnOk result (self.new ≡ slice_set self.old n content.now) }
+        ensures err { OnErr result (self.new ≡ self.old) }
+    {
+        if *content == ZEROS {
+            self.clear(n);
+            return Ok(());
+        }
+        self.keep(n, content)
+    }
+
+    // Makes one zeros. The last content takes the place that becomes free.
+    fn clear(&mut self, n: u32)
+        requires { n < length self.old }
+        ensures { self.new ≡ slice_set self.old n (replicate 512 0) }
+    {
+        let place = self.places[n as usize];
+        if place == 0 {
+            return;
+        }
+        let at = place as usize;
+        self.contents.swap_remove(at);
+        self.owners.swap_remove(at);
+        self.places[n as usize] = 0;
+        if at < self.owners.len() {
+            let moved = self.owners[at];
+            self.places[moved as usize] = place;
+        }
+    }
+
+    // Gives one a content that isn't zeros.
+    fn keep(&mut self, n: u32, content: &[u8; 512]) -> Result<(), AllocError>
+        requires below { n < length self.old }
+        requires used { content.now ≢ replicate 512 0 }
+        ensures ok { OnOk result (self.new ≡ slice_set self.old n content.now) }
+        ensures err { OnErr result (self.new ≡ self.old) }
+    {
+        tell_whole(content);
+        let place = self.places[n as usize];
+        if place != 0 {
+            self.contents[place as usize] = *content;
+            return Ok(());
+        }
+        // There are no more contents than sectors.
+        let Ok(place) = u32::try_from(self.contents.len()) else {
+            return Err(AllocError);
+        };
+        self.owners.push(n)?;
+        if self.contents.push(*content).is_err() {
+            self.owners.pop();
+            return Err(AllocError);
+        }
+        self.places[n as usize] = place;
+        Ok(())
+    }
+
+    /// Gives neighbours from one on these contents. At `Err` some of them may have them.
+    pub fn set_run(&mut self, first: u32, run: &[[u8; 512]]) -> Result<(), AllocError>
+        requires small { length self.old < 2 ^ 32 }
+        requires fits { first + length run.now ≤ length self.old }
+        ensures { OnOk result (IsRunSet first run.now self.old self.new) }
+    {
+        for (i, content) in run.iter().enumerate() {
+            self.set(first + i as u32, content)?;
+        }
+        Ok(())
+    }
+
+    /// Copies neighbours from one on.
+    pub fn copy_run(&self, first: u32, to: &mut [[u8; 512]])
+        requires small { length self.now < 2 ^ 32 }
+        requires fits { first + length to.old ≤ length self.now }
+        ensures { to.new ≡ slice_range self.now first (first + length to.new) }
+    {
+        for i in 0..to.len() {
+            to[i] = *self.get(first + i as u32);
+        }
+    }
+
+    /// Each has 512 bytes.
+    pub fn tell_whole(&self)
+        ensures { AreSectors self.now }
+    {
+        let _count = self.places.len();
+    }
+}

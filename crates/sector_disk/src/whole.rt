@@ -1,0 +1,18 @@
+//! A sector has 512 bytes, each below 256: facts of its type, told to proofs.
+
+ghost use Rattle.std.specs.Prelude.{ℕ, ◌<◌, get_or};
+ghost use Rattle.sector_disk.specs.Disk.{IsWholeSector};
+
+// Bytes are below 256.
+fn tell_bytes(bytes: &[u8])
+    ensures { (i : ℕ) → get_or bytes.now i 0 < 256 }
+{
+    let _count = bytes.len();
+}
+
+/// A sector has 512 of them.
+pub fn tell_whole(sector: &[u8; 512])
+    ensures { IsWholeSector sector.now }
+{
+    tell_bytes(sector);
+}
