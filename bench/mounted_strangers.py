@@ -8,26 +8,12 @@ import stat
 import subprocess
 import time
 
-from mounts import TOP, attempt, become
+from mounted_crowds import crowds
+from mounts import TOP, as_user, attempt, in_child
 
 LIBC = ctypes.CDLL(None, use_errno=True)
 CLONE_NEWUSER = 0x10000000
 COMMIT = 5  # seconds, where the mount doesn't say
-
-
-def in_child(work):
-    """What the work answers in a process of its own, as text."""
-    reading, writing = os.pipe()
-    pid = os.fork()
-    if pid == 0:
-        try:
-            os.write(writing, str(attempt(work)).encode())
-        finally:
-            os._exit(0)
-    os.close(writing)
-    os.waitpid(pid, 0)
-    with os.fdopen(reading) as told:
-        return told.read()
 
 
 def with_other_ids(path):
@@ -64,13 +50,6 @@ def by_overlay(mounted):
         return as_user('ann', (place / 'ann/f').read_text)
     finally:
         mounted.run('umount', place, check=True)
-
-
-def as_user(user, work):
-    def become_and_work():
-        become(user)
-        return work()
-    return in_child(become_and_work)
 
 
 def make_private(mounted):
@@ -181,3 +160,4 @@ def strangers(mounted, told):
     told.compare('ends', 'SIGTERM to the server and its helper', None,
                  found_after(mounted, lambda: terminated(mounted)), ('clean', ['ann', 'kept', 'last']))
     mounted.options.pop()
+    crowds(mounted, told)

@@ -20,7 +20,8 @@ TAGS = {'u': (1, 2), 'g': (4, 8), 'm': (16, 16), 'o': (32, 32)}  # of an unnamed
 
 
 def become(user):
-    uid, groups = USERS[user]
+    """Takes the credential of a user by its name, or a user id and some groups."""
+    uid, groups = USERS.get(user, user)
     os.setgroups(groups)
     os.setresgid(groups[0], groups[0], groups[0])
     os.setresuid(uid, uid, uid)
@@ -145,6 +146,29 @@ def attempt(call, *words):
         return call(*words)
     except OSError as error:
         return errno.errorcode.get(error.errno, str(error.errno))
+
+
+def in_child(work):
+    """What the work answers in a process of its own, as text."""
+    reading, writing = os.pipe()
+    pid = os.fork()
+    if pid == 0:
+        try:
+            os.write(writing, str(attempt(work)).encode())
+        finally:
+            os._exit(0)
+    os.close(writing)
+    os.waitpid(pid, 0)
+    with os.fdopen(reading) as told:
+        return told.read()
+
+
+def as_user(user, work):
+    """The same as a user."""
+    def become_and_work():
+        become(user)
+        return work()
+    return in_child(become_and_work)
 
 
 class Mounted:
