@@ -17,7 +17,7 @@ use Rattle.fuse_plans.specs.declared.stop.Stop.TheVariants.{Lacks}
 use Rattle.fuse_plans.specs.declared.stop.OtherErrno.TheVariants.{ESTALE}
 use Rattle.fuse_plans.specs.Stops.{failed, is_for}
 use Rattle.fuse_state.specs.declared.place.Place.{Place}
-use Rattle.fuse_state.specs.Servers.{Server, number_of, kind_of, places_of, first_of}
+use Rattle.fuse_state.specs.Servers.{Server, number_of, kind_of, places_of, first_of, WithinShares}
 use Rattle.fuse_plans.specs.Works.{Work, give, stop, kept, goes_on, ◌>>=◌, ◌>>◌, attempt, needed, ask, refusal_in, unless_refused, obtain, or_closed, replied_status, unexpected}
 use Rattle.fuse_plans.specs.Callers.{between, inside, done_between, look_inside, on, or_inside, first_refusal, or_next, by_places, by_place, the_looker, by_looker, look, look_at, is_known_directory, the_number, directory_number, only_directory, standing_directory, has_place}
 use Rattle.fuse_plans.specs.Paths.{only_path}
@@ -48,6 +48,7 @@ record Out (rights : Rights) (P : Server → Type 0) (pid : ℕ) (known : Known)
   free : IsNobodyElse known.away pid
   processes : known.processes ≡ s.processes
   looker : s.looker ≡ rights.looker
+  shares : WithinShares rights.subject.start → WithinShares s
   holds : P s
 
 may-come_back : (away : Option Away) (pid : ℕ) → IsNobodyElse away pid → MayEnter away pid root root
@@ -128,7 +129,7 @@ module _ {rights : Rights} {P : Server → Type 0} where
     λ reply. (
       may-come_back known.away pid out.free,
       λ again. (does-unless_refused reply).goes (known_after known (Enter pid root root) again) s
-          (record { home = refl; processes = out.processes; looker = out.looker; holds = out.holds }),
+          (record { home = refl; processes = out.processes; looker = out.looker; shares = out.shares; holds = out.holds }),
     ),
   )
 
@@ -151,6 +152,7 @@ module _ {rights : Rights} {P : Server → Type 0} where
         free = (there known reply fine).free;
         processes = fits.processes;
         looker = fits.looker;
+        shares = fits.shares;
         holds = fits.holds;
       }
 
@@ -170,6 +172,7 @@ module _ {rights : Rights} {P : Server → Type 0} where
         home = still-home known.away (gone_to pid directory second) (directory == root && second == root) r fits.home;
         processes = fits.processes;
         looker = fits.looker;
+        shares = fits.shares;
         holds = fits.holds;
       }
       entered known s fits Done = goes known s _ refl fits

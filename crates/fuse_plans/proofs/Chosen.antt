@@ -1,6 +1,7 @@
 -- How a process of who asks is found or begun.
-use Rattle.std.specs.Prelude.{◌≡◌, ℕ, zero, suc, Bool, true, false, not, cond, List, [], ◌∷◌, filter, Option, None, Some, Result, if◌then◌else◌}
-use Rattle.std.proofs.Common.{refl, sym, ap, subst, ◌∙◌}
+use Rattle.std.specs.Prelude.{◌≡◌, ◌==◌, ℕ, zero, suc, nat_le, Bool, true, false, not, cond, List, [], ◌∷◌, filter, Option, None, Some, is_some, Result, Ok, Err, if◌then◌else◌}
+use Rattle.std.proofs.lemmas.Bool.Decides.{nat_tests}
+use Rattle.std.proofs.Common.{refl, sym, ap, subst, ◌∙◌, arith}
 use Rattle.std.specs.Ordering.{nat_cmp}
 use Rattle.std.specs.Cmp.{unsigned_tied, nat_eq_equiv}
 use Rattle.std.proofs.lemmas.Cmp.{nat_list_eq_equiv}
@@ -8,6 +9,7 @@ use Rattle.fs_cred.specs.declared.errno.Errno.TheVariants.{EACCES, EAGAIN}
 use Rattle.fs_cred.specs.Credentials.{Credential}
 use Rattle.fs_cred.specs.declared.refusal.Refusal.{Refusal}
 use Rattle.fs_layout.specs.Maps.{get, with_entry, without}
+use Rattle.fs_layout.proofs.FirstEntries.{left}
 use Rattle.fs_layout.proofs.MapLaws.{get-with_entry}
 use Rattle.fs_model.specs.declared.event.Event.TheVariants.{Spawn}
 use Rattle.fs_model.specs.declared.reply.Reply.{Reply}
@@ -17,12 +19,14 @@ use Rattle.fuse_plans.specs.declared.stop.Stop.{Stop}
 use Rattle.fuse_plans.specs.declared.stop.Stop.TheVariants.{Refuses, Lacks}
 use Rattle.fuse_plans.specs.declared.stop.OtherErrno.TheVariants.{ENFILE}
 use Rattle.fuse_plans.specs.Stops.{failed, is_for}
-use Rattle.fuse_state.specs.Servers.{Server, is_process_of, has_credential, is_same_credential, all_processes, processes_of, first_of, partly_used, are_many, idle, holds_some, has_room, without_process}
+use Rattle.fuse_state.specs.Servers.{Server, is_process_of, has_credential, is_same_credential, all_processes, processes_of, first_of, partly_used, is_process, may_take_process, next_idle, idle, holds_some, has_room, process_holders, without_process, WithinShares}
+use Rattle.fuse_state.specs.Shares.{process_shares, may_hold}
+use Rattle.fuse_state.proofs.Holders.{begun_holders, begun_within, ended_holders, ended_within}
 use Rattle.fuse_plans.specs.Works.{Work, give, stop, kept, keep, ◌>>=◌, needed, ask}
-use Rattle.fuse_plans.specs.Callers.{settled, settle, retire_next, retire, spawn_again, settle_first, begin_process, or_spawned, caller, unused_of, or_unused, caller_with_room}
-use Rattle.fuse_plans.specs.Conduct.{Known, Rights, conduct, after_spawn, after_exit, Fits, IsHome, IsCaller}
+use Rattle.fuse_plans.specs.Callers.{settle_new, settled, settle, retire_next, retire, retire_idle, spawn_again, settle_first, begin_process, or_spawned, caller, unused_of, or_unused, caller_with_room}
+use Rattle.fuse_plans.specs.Conduct.{Known, Rights, conduct, after_begin, after_spawn, after_exit, Fits, IsHome, IsCaller}
 use Rattle.fuse_plans.specs.Acts.{IsObject}
-use Rattle.fuse_plans.proofs.Conducts.{Still, still-as, LeftTo, Does, DoesTo, fits-any, does-does_to, does-give, does-kept, does->>=, keeps->>=}
+use Rattle.fuse_plans.proofs.Conducts.{Still, still-as, Left, LeftTo, Does, DoesTo, fits-any, does-give, does-kept, does->>=, keeps-weaker, keeps->>=}
 use Rattle.fuse_plans.proofs.Calls.{About, about-still}
 
 -- ---- what is chosen
@@ -51,6 +55,14 @@ twice-passes : {X : Type 0} (test other : X → Bool) (xs : List X) (x : X) → 
 twice-passes test other [] x is = absurd (let none : None ≡ Some x = is in cc)
 twice-passes test other (y ∷ ys) x is = twice_chosen test other y x (filter test ys) (test y) refl is (twice-passes test other ys x)
 
+idle_of : (b : Bool) → not b ≡ true → b ≡ false
+idle_of true is = absurd (let no : false ≡ true = is in cc)
+idle_of false is = refl
+
+-- the next that ends holds none
+pub next-idle : (s : Server) (pid : ℕ) → next_idle s 0 ≡ Some pid → holds_some s pid ≡ false
+next-idle s pid is = idle_of (holds_some s pid) (first-passes (λ p. not (holds_some s p)) (filter (nat_le 0) (all_processes s)) pid is)
+
 same_credential : (cred : Credential) → is_same_credential cred cred ≡ true
 same_credential cred =
     rw (nat_eq_equiv.refl cred.uid, nat_eq_equiv.refl cred.gid, nat_list_eq_equiv.refl cred.groups, nat_eq_equiv.refl cred.caps.0) refl
@@ -70,8 +82,61 @@ pub record OfCaller (rights : Rights) (pid : ℕ) (s : Server) : Type 0 where
 abbrev pub NoMore : ℕ → Type 0
 NoMore pid = Unit {0}
 
-abbrev ChosenLeft : Rights → Known → Result ℕ Stop × Server → Type 0
-ChosenLeft rights = LeftTo rights (OfCaller rights) NoMore
+-- the process holds descriptors, or may hold some
+pub record MayOpen (rights : Rights) (pid : ℕ) (s : Server) : Type 0 where
+  pub cred : Credential
+  pub there : get nat_cmp s.processes pid ≡ Some cred
+  pub room : WithinShares rights.subject.start → holds_some s pid ≡ false → may_take_process s cred.uid ≡ true
+
+-- such a one of who asks
+pub record OfOpener (rights : Rights) (pid : ℕ) (s : Server) : Type 0 where
+  pub caller : OfCaller rights pid s
+  pub may : MayOpen rights pid s
+
+-- where a process is looked for, with what is so of those who hold descriptors
+record Looks (rights : Rights) (T : List ℕ → Type 0) (s : Server) : Type 0 where
+  still : Still rights s
+  allows : WithinShares rights.subject.start → T (process_holders s)
+
+-- where it is found
+record Finds (rights : Rights) (T : List ℕ → Type 0) (pid : ℕ) (s : Server) : Type 0 where
+  caller : OfCaller rights pid s
+  allows : WithinShares rights.subject.start → T (process_holders s)
+
+abbrev ChosenLeft : Rights → (List ℕ → Type 0) → Known → Result ℕ Stop × Server → Type 0
+ChosenLeft rights T = LeftTo rights (Finds rights T) NoMore
+
+-- what is found has the user
+record Found (cred : Credential) (processes : List (ℕ × Credential)) (pid : ℕ) : Type 0 where
+  other : Credential
+  there : get nat_cmp processes pid ≡ Some other
+  user : cred.uid ≡ other.uid
+
+found_there : (cred : Credential) (processes : List (ℕ × Credential)) (pid : ℕ) → is_process_of processes cred pid ≡ true → Found cred processes pid
+found_there cred processes pid is = go (get nat_cmp processes pid) refl is
+  where
+    equal : (m n : ℕ) → (m == n) ≡ true → m ≡ n
+    equal m n same = grind (arith, nat_tests)
+
+    go : (o : Option Credential) → get nat_cmp processes pid ≡ o → has_credential cred o ≡ true → Found cred processes pid
+    go None none holds = absurd (let never : false ≡ true = holds in cc)
+    go (Some other) there same = record { other = other; there = there; user = equal cred.uid other.uid (left _ _ same) }
+
+-- a process that may hold some, as its user may
+opener_of : {rights : Rights} (cred : Credential) (pid : ℕ) (s : Server) → is_process_of s.processes cred pid ≡ true → OfCaller rights pid s
+    → (WithinShares rights.subject.start → holds_some s pid ≡ false → may_take_process s cred.uid ≡ true) → OfOpener rights pid s
+opener_of {rights} cred pid s is of room =
+    let found = found_there cred s.processes pid is in
+    record {
+      caller = of;
+      may = record { cred = found.other; there = found.there; room = λ start idle. subst (λ uid. may_take_process s uid ≡ true) found.user (room start idle) };
+    }
+
+weaker_chosen : (rights : Rights) {Q R : ℕ → Server → Type 0} → ((pid : ℕ) (s : Server) → Q pid s → R pid s) → (known : Known) (r : Result ℕ Stop × Server)
+    → LeftTo rights Q NoMore known r → LeftTo rights R NoMore known r
+weaker_chosen rights weaker known (Ok pid, s) is =
+    (record { home = is.0.home; processes = is.0.processes; looker = is.0.looker; shares = is.0.shares; holds = weaker pid s is.0.holds }, tt)
+weaker_chosen rights weaker known (Err e, s) is = is
 
 -- ---- a new process
 
@@ -88,31 +153,45 @@ module _ {rights : Rights} where
         (λ n x t left. (left.0, is)) (λ n e t left. left);
   }
 
-  stops : (e : Stop) (known : Known) (s : Server) → Fits rights (Still rights) known s → KeepsTo (conduct rights) (ChosenLeft rights) known (stop {X = ℕ} e s)
-  unfolding stop
-  stops e known s fits = fits-any fits
-
-  settles_refused : (cred : Credential) (r : Refusal) (known : Known) (s : Server) → Fits rights (Still rights) known s → (b : Bool)
-      → KeepsTo (conduct rights) (ChosenLeft rights) known ((if b then stop (Lacks ENFILE) else settled cred (Refused r)) s)
+module _ {rights : Rights} (T : List ℕ → Type 0) where
+  settles_refused : (cred : Credential) (r : Refusal) (known : Known) (s : Server) → Fits rights (Looks rights T) known s → (b : Bool)
+      → KeepsTo (conduct rights) (ChosenLeft rights T) known ((if b then stop (Lacks ENFILE) else settled cred (Refused r)) s)
   unfolding stop ◌>>=◌
   settles_refused cred r known s fits true = fits-any fits
   settles_refused cred r known s fits false = fits-any fits
 
-  settles : (cred : Credential) → rights.cred ≡ Some cred → (known : Known) (s : Server) → Fits rights (Still rights) known s → (reply : Reply)
-      → KeepsTo (conduct rights) (ChosenLeft rights) (after_spawn known cred reply) (settle cred reply s)
+  -- no other has its number
+  settles_new : (cred : Credential) → rights.cred ≡ Some cred → (known : Known) (s : Server) → Fits rights (Looks rights T) known s → (pid : ℕ) (o : Option Credential)
+      → get nat_cmp s.processes pid ≡ o → KeepsTo (conduct rights) (ChosenLeft rights T) (after_begin known cred pid (is_some o)) (settle_new cred pid (is_some o) s)
   unfolding keep give stop ◌>>=◌
-  settles cred is known s fits (Pid pid) = (
+  settles_new cred is known s fits pid (Some other) there = fits-any fits
+  settles_new cred is known s fits pid None none = (
     record {
       home = fits.home;
       processes = ap (λ m. with_entry nat_cmp m pid cred) fits.processes;
       looker = fits.looker;
+      shares = λ start. begun_within s pid cred none (fits.shares start);
       holds = record {
-        still = still-as refl refl refl fits.holds;
-        is = subst (λ o. IsCaller o (with_entry nat_cmp s.processes pid cred) pid) (sym is) (begun s.processes pid cred);
+        caller = record {
+          still = still-as refl refl refl fits.holds.still;
+          is = subst (λ o. IsCaller o (with_entry nat_cmp s.processes pid cred) pid) (sym is) (begun s.processes pid cred);
+        };
+        allows = λ start. subst T (sym (begun_holders s pid cred ((fits.shares start).known pid none))) (fits.holds.allows start);
       };
     },
     tt,
   )
+
+  settles_pid : (cred : Credential) → rights.cred ≡ Some cred → (known : Known) (s : Server) → Fits rights (Looks rights T) known s → (pid : ℕ)
+      → KeepsTo (conduct rights) (ChosenLeft rights T) (after_spawn known cred (Pid pid)) (settle_new cred pid (is_process s pid) s)
+  settles_pid cred is known s fits pid =
+      subst (λ m. KeepsTo (conduct rights) (ChosenLeft rights T) (after_begin known cred pid (is_some (get nat_cmp m pid))) (settle_new cred pid (is_process s pid) s))
+      (sym fits.processes) (settles_new cred is known s fits pid (get nat_cmp s.processes pid) refl)
+
+  settles : (cred : Credential) → rights.cred ≡ Some cred → (known : Known) (s : Server) → Fits rights (Looks rights T) known s → (reply : Reply)
+      → KeepsTo (conduct rights) (ChosenLeft rights T) (after_spawn known cred reply) (settle cred reply s)
+  unfolding kept give stop ◌>>=◌
+  settles cred is known s fits (Pid pid) = settles_pid cred is known s fits pid
   settles cred is known s fits (Refused r) = settles_refused cred r known s fits (is_for EAGAIN (Refuses r))
   settles cred is known s fits Done = fits-any fits
   settles cred is known s fits (Fd k) = fits-any fits
@@ -129,44 +208,58 @@ module _ {rights : Rights} where
 
   -- ---- processes end
 
-  retires : (pid : ℕ) (rest : Work (Unit {0})) → Does rights (Still rights) rest → Does rights (Still rights) (retire_next rest (Some pid))
-  unfolding ask keep ◌>>=◌
-  retires pid rest does = record {
-    goes = λ known s fits. (
-      subst IsHome (sym fits.home) tt,
-      λ reply. does.goes (after_exit known pid) (without_process pid s)
-          (record { home = fits.home; processes = ap (λ m. without nat_cmp m pid) fits.processes; looker = fits.looker; holds = still-as refl refl refl fits.holds }),
-    );
-  }
+  -- the next one holds none
+  next_ends : (rest : Work (Unit {0})) → Does rights (Looks rights T) rest → Does rights (Looks rights T) (kept (λ s. next_idle s 0) >>= retire_next rest)
+  unfolding ask keep kept give ◌>>=◌
+  next_ends rest does = record { goes = λ known s fits. go known s fits (next_idle s 0) refl }
+    where
+      ended : (known : Known) (s : Server) (pid : ℕ) → holds_some s pid ≡ false → Fits rights (Looks rights T) known s
+          → Fits rights (Looks rights T) (after_exit known pid) (without_process pid s)
+      ended known s pid idle fits = record {
+        home = fits.home;
+        processes = ap (λ m. without nat_cmp m pid) fits.processes;
+        looker = fits.looker;
+        shares = λ start. ended_within s pid idle (fits.shares start);
+        holds = record {
+          still = still-as refl refl refl fits.holds.still;
+          allows = λ start. subst T (sym (ended_holders s pid idle)) (fits.holds.allows start);
+        };
+      }
 
-  does-retire_next : (rest : Work (Unit {0})) → Does rights (Still rights) rest → (o : Option ℕ) → Does rights (Still rights) (retire_next rest o)
-  does-retire_next rest does None = does-give tt
-  does-retire_next rest does (Some pid) = retires pid rest does
+      go : (known : Known) (s : Server) → Fits rights (Looks rights T) known s → (o : Option ℕ) → next_idle s 0 ≡ o
+          → KeepsTo (conduct rights) (Left rights (Looks rights T)) known (retire_next rest o s)
+      go known s fits None is = fits
+      go known s fits (Some pid) is = (
+        subst IsHome (sym fits.home) tt,
+        λ reply. does.goes (after_exit known pid) (without_process pid s) (ended known s pid (next-idle s pid is) fits),
+      )
 
-  does-retire : (k : ℕ) → Does rights (Still rights) (retire k)
+  does-retire : (k : ℕ) → Does rights (Looks rights T) (retire k)
   unfolding retire
   does-retire zero = does-give tt
-  does-retire (suc k) = does->>= (does-kept _) (does-retire_next (retire k) (does-retire k))
+  does-retire (suc k) = next_ends (retire k) (does-retire k)
 
-  begins : (cred : Credential) → rights.cred ≡ Some cred → DoesTo rights (OfCaller rights) NoMore (ask (Spawn cred) >>= settle cred)
+  does-retire_idle : Does rights (Looks rights T) retire_idle
+  does-retire_idle = does->>= (does-kept _) does-retire
+
+  begins : (cred : Credential) → rights.cred ≡ Some cred → (known : Known) (s : Server) → Fits rights (Looks rights T) known s
+      → KeepsTo (conduct rights) (ChosenLeft rights T) known ((ask (Spawn cred) >>= settle cred) s)
   unfolding ask ◌>>=◌
-  begins cred is = record {
-    goes = λ known s fits. (
-      (subst IsHome (sym fits.home) tt, is),
-      λ reply. settles cred is known s fits reply,
-    );
-  }
+  begins cred is known s fits = ((subst IsHome (sym fits.home) tt, is), λ reply. settles cred is known s fits reply)
 
-  does-spawn_again : (cred : Credential) → rights.cred ≡ Some cred → DoesTo rights (OfCaller rights) NoMore (spawn_again cred)
-  does-spawn_again cred is = does-does_to (does-retire _) (λ done. begins cred is)
+  begins_again : (cred : Credential) → rights.cred ≡ Some cred → (known : Known) (s : Server) → Fits rights (Looks rights T) known s
+      → KeepsTo (conduct rights) (ChosenLeft rights T) known (spawn_again cred s)
+  begins_again cred is known s fits =
+      keeps->>= rights (Left rights (Looks rights T)) (ChosenLeft rights T) retire_idle _ known s (does-retire_idle.goes known s fits)
+      (λ n x t left. begins cred is n t left) (λ n e t left. fits-any left)
 
-  settles_again : (cred : Credential) → rights.cred ≡ Some cred → (known : Known) (s : Server) → Fits rights (Still rights) known s → (r : Refusal) (b : Bool)
-      → KeepsTo (conduct rights) (ChosenLeft rights) known ((if b then spawn_again cred else settle cred (Refused r)) s)
-  settles_again cred is known s fits r true = (does-spawn_again cred is).goes known s fits
+  settles_again : (cred : Credential) → rights.cred ≡ Some cred → (known : Known) (s : Server) → Fits rights (Looks rights T) known s → (r : Refusal) (b : Bool)
+      → KeepsTo (conduct rights) (ChosenLeft rights T) known ((if b then spawn_again cred else settle cred (Refused r)) s)
+  settles_again cred is known s fits r true = begins_again cred is known s fits
   settles_again cred is known s fits r false = settles cred is known s fits (Refused r)
 
-  settles_first : (cred : Credential) → rights.cred ≡ Some cred → (known : Known) (s : Server) → Fits rights (Still rights) known s → (reply : Reply)
-      → KeepsTo (conduct rights) (ChosenLeft rights) (after_spawn known cred reply) (settle_first cred reply s)
+  settles_first : (cred : Credential) → rights.cred ≡ Some cred → (known : Known) (s : Server) → Fits rights (Looks rights T) known s → (reply : Reply)
+      → KeepsTo (conduct rights) (ChosenLeft rights T) (after_spawn known cred reply) (settle_first cred reply s)
   settles_first cred is known s fits (Refused r) = settles_again cred is known s fits r (is_for EAGAIN (Refuses r))
   settles_first cred is known s fits Done = settles cred is known s fits Done
   settles_first cred is known s fits (Pid k) = settles cred is known s fits (Pid k)
@@ -182,33 +275,49 @@ module _ {rights : Rights} where
   settles_first cred is known s fits (Names k) = settles cred is known s fits (Names k)
   settles_first cred is known s fits (Space j k) = settles cred is known s fits (Space j k)
 
-  does-begin_process : (cred : Credential) → rights.cred ≡ Some cred → DoesTo rights (OfCaller rights) NoMore (begin_process cred)
+  begins_process : (cred : Credential) → rights.cred ≡ Some cred → (known : Known) (s : Server) → Fits rights (Looks rights T) known s
+      → KeepsTo (conduct rights) (ChosenLeft rights T) known (begin_process cred s)
   unfolding begin_process ask ◌>>=◌
-  does-begin_process cred is = record {
-    goes = λ known s fits. (
-      (subst IsHome (sym fits.home) tt, is),
-      λ reply. settles_first cred is known s fits reply,
-    );
-  }
+  begins_process cred is known s fits = ((subst IsHome (sym fits.home) tt, is), λ reply. settles_first cred is known s fits reply)
 
-  -- ---- one that is there, or a new one
+-- ---- one that is there, or a new one
 
-  or-begin_process : (cred : Credential) → rights.cred ≡ Some cred → (o : Option ℕ) (known : Known) (s : Server) → Fits rights (Still rights) known s
-      → ((pid : ℕ) → o ≡ Some pid → is_process_of s.processes cred pid ≡ true) → KeepsTo (conduct rights) (ChosenLeft rights) known (or_spawned cred o s)
+module _ {rights : Rights} where
+  -- where those who hold descriptors are as they are to be, and the process that is found is
+  or-begins : {Q : ℕ → Server → Type 0} (T : List ℕ → Type 0) (cred : Credential) → rights.cred ≡ Some cred
+      → ((pid : ℕ) (t : Server) → is_process_of t.processes cred pid ≡ true → Finds rights T pid t → Q pid t) → (o : Option ℕ) (known : Known) (s : Server)
+      → Fits rights (Looks rights T) known s → ((pid : ℕ) → o ≡ Some pid → is_process_of s.processes cred pid ≡ true)
+      → KeepsTo (conduct rights) (LeftTo rights Q NoMore) known (or_spawned cred o s)
   unfolding give
-  or-begin_process cred is None known s fits found = (does-begin_process cred is).goes known s fits
-  or-begin_process cred is (Some pid) known s fits found = (
+  or-begins T cred is finds None known s fits found =
+      keeps-weaker (conduct rights) (ChosenLeft rights T) _ (begin_process cred s) known (begins_process T cred is known s fits)
+      (weaker_chosen rights (λ pid t f. finds pid t (subst (λ o. IsCaller o t.processes pid) is f.caller.is) f))
+  or-begins T cred is finds (Some pid) known s fits found = (
     record {
       home = fits.home;
       processes = fits.processes;
       looker = fits.looker;
-      holds = record { still = fits.holds; is = subst (λ o. IsCaller o s.processes pid) (sym is) (found pid refl) };
+      shares = fits.shares;
+      holds = finds pid s (found pid refl) (record {
+        caller = record { still = fits.holds.still; is = subst (λ o. IsCaller o s.processes pid) (sym is) (found pid refl) };
+        allows = fits.holds.allows;
+      });
     },
     tt,
   )
 
-  with-credential : {f : Credential → Work ℕ} (o : Option Credential) → rights.cred ≡ o
-      → ((cred : Credential) → rights.cred ≡ Some cred → DoesTo rights (OfCaller rights) NoMore (f cred)) → DoesTo rights (OfCaller rights) NoMore (needed (failed EACCES) o >>= f)
+  looks_with : {T : List ℕ → Type 0} (known : Known) (s : Server) → (WithinShares rights.subject.start → T (process_holders s)) → Fits rights (Still rights) known s
+      → Fits rights (Looks rights T) known s
+  looks_with known s allows fits = record {
+    home = fits.home;
+    processes = fits.processes;
+    looker = fits.looker;
+    shares = fits.shares;
+    holds = record { still = fits.holds; allows = allows };
+  }
+
+  with-credential : {Q : ℕ → Server → Type 0} {f : Credential → Work ℕ} (o : Option Credential) → rights.cred ≡ o
+      → ((cred : Credential) → rights.cred ≡ Some cred → DoesTo rights Q NoMore (f cred)) → DoesTo rights Q NoMore (needed (failed EACCES) o >>= f)
   unfolding ◌>>=◌ give stop
   with-credential None is rest = record { goes = λ known s fits. fits-any fits }
   with-credential (Some cred) is rest = record { goes = λ known s fits. (rest cred is).goes known s fits }
@@ -217,41 +326,56 @@ module _ {rights : Rights} where
   unfolding kept ◌>>=◌
   chooses cred same = record {
     goes = λ known s fits.
-        or-begin_process cred same (first_of (processes_of s cred)) known s fits (λ pid chosen. first-passes (is_process_of s.processes cred) (all_processes s) pid chosen);
+        or-begins (λ holders. Unit {0}) cred same (λ pid t is f. f.caller) (first_of (processes_of s cred)) known s (looks_with known s (λ start. tt) fits)
+        (λ pid chosen. first-passes (is_process_of s.processes cred) (all_processes s) pid chosen);
   }
 
   pub does-caller : (who : Option Credential) → rights.cred ≡ who → DoesTo rights (OfCaller rights) NoMore (caller who)
   unfolding caller
   does-caller who is = with-credential who is chooses
 
-  unused : (cred : Credential) → rights.cred ≡ Some cred → (known : Known) (s : Server) → Fits rights (Still rights) known s → (b : Bool)
-      → KeepsTo (conduct rights) (ChosenLeft rights) known (unused_of cred b s)
+  -- ---- one with room
+
+  unused : (cred : Credential) → rights.cred ≡ Some cred → (known : Known) (s : Server) → Fits rights (Still rights) known s → (b : Bool) → may_take_process s cred.uid ≡ b
+      → KeepsTo (conduct rights) (LeftTo rights (OfOpener rights) NoMore) known (unused_of cred b s)
   unfolding stop kept ◌>>=◌
-  unused cred is known s fits true = fits-any fits
-  unused cred is known s fits false = or-begin_process cred is (first_of (idle s (processes_of s cred))) known s fits
+  unused cred is known s fits false may = fits-any fits
+  unused cred is known s fits true may =
+      or-begins (λ holders. may_hold process_shares holders cred.uid ≡ true) cred is (λ pid t of f. opener_of cred pid t of f.caller (λ start idle. f.allows start))
+      (first_of (idle s (processes_of s cred))) known s (looks_with known s (λ start. may) fits)
       (λ pid chosen. twice-passes (is_process_of s.processes cred) (λ p. not (holds_some s p)) (all_processes s) pid chosen)
 
-  or-unused : (cred : Credential) → rights.cred ≡ Some cred → (o : Option ℕ) (known : Known) (s : Server) → Fits rights (Still rights) known s
-      → ((pid : ℕ) → o ≡ Some pid → is_process_of s.processes cred pid ≡ true) → KeepsTo (conduct rights) (ChosenLeft rights) known (or_unused cred o s)
+  or-unused : (cred : Credential) → rights.cred ≡ Some cred → (o : Option ℕ) (known : Known) (s : Server) → Fits rights (Still rights) known s → partly_used s cred ≡ o
+      → KeepsTo (conduct rights) (LeftTo rights (OfOpener rights) NoMore) known (or_unused cred o s)
   unfolding give kept ◌>>=◌
-  or-unused cred is (Some pid) known s fits found = (
+  or-unused cred is (Some pid) known s fits chosen = (
     record {
       home = fits.home;
       processes = fits.processes;
       looker = fits.looker;
-      holds = record { still = fits.holds; is = subst (λ o. IsCaller o s.processes pid) (sym is) (found pid refl) };
+      shares = fits.shares;
+      holds =
+          let of_cred : is_process_of s.processes cred pid ≡ true = twice-passes (is_process_of s.processes cred) (has_room s) (all_processes s) pid chosen in
+          let holds : holds_some s pid ≡ true = left (holds_some s pid) _ (first-passes (has_room s) (processes_of s cred) pid chosen) in
+          opener_of cred pid s of_cred (record { still = fits.holds; is = subst (λ o. IsCaller o s.processes pid) (sym is) of_cred })
+          (λ start idle. absurd (let no : true ≡ false = sym holds ∙ idle in cc));
     },
     tt,
   )
-  or-unused cred is None known s fits found = unused cred is known s fits (are_many s cred)
+  or-unused cred is None known s fits chosen = unused cred is known s fits (may_take_process s cred.uid) refl
 
-  chooses_room : (cred : Credential) → rights.cred ≡ Some cred → DoesTo rights (OfCaller rights) NoMore (kept (λ s. partly_used s cred) >>= or_unused cred)
+  chooses_room : (cred : Credential) → rights.cred ≡ Some cred → DoesTo rights (OfOpener rights) NoMore (kept (λ s. partly_used s cred) >>= or_unused cred)
   unfolding kept ◌>>=◌
-  chooses_room cred same = record {
-    goes = λ known s fits.
-        or-unused cred same (partly_used s cred) known s fits (λ pid chosen. twice-passes (is_process_of s.processes cred) (has_room s) (all_processes s) pid chosen);
-  }
+  chooses_room cred same = record { goes = λ known s fits. or-unused cred same (partly_used s cred) known s fits refl }
+
+  -- a process that may open a file
+  pub does-opener : (who : Option Credential) → rights.cred ≡ who → DoesTo rights (OfOpener rights) NoMore (caller_with_room who)
+  unfolding caller_with_room
+  does-opener who is = with-credential who is chooses_room
 
   pub does-caller_with_room : (who : Option Credential) → rights.cred ≡ who → DoesTo rights (OfCaller rights) NoMore (caller_with_room who)
-  unfolding caller_with_room
-  does-caller_with_room who is = with-credential who is chooses_room
+  does-caller_with_room who is = record {
+    goes = λ known s fits.
+        keeps-weaker (conduct rights) (LeftTo rights (OfOpener rights) NoMore) (LeftTo rights (OfCaller rights) NoMore) (caller_with_room who s) known
+        ((does-opener who is).goes known s fits) (weaker_chosen rights (λ pid t of. of.caller));
+  }

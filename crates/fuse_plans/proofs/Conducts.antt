@@ -5,7 +5,8 @@ use Rattle.fs_model.specs.declared.reply.Reply.{Reply}
 use Rattle.fs_model.specs.declared.reply.Reply.TheVariants.{Done, Pid, Fd, Data, Wrote, At, Target, Mask, Shown, Granted, Acl, Names, Space, Refused}
 use Rattle.fuse_plans.specs.Plans.{Plan, Finish, Ask, followed_by, Restraint, KeepsTo}
 use Rattle.fuse_plans.specs.declared.stop.Stop.{Stop}
-use Rattle.fuse_state.specs.Servers.{Server, number_of, places_in, places_of}
+use Rattle.fuse_state.specs.Servers.{Server, number_of, places_in, places_of, WithinShares}
+use Rattle.fuse_state.proofs.Holders.{holding_of, same_within}
 use Rattle.fuse_plans.specs.Works.{Work, give, stop, kept, keep, goes_on, ◌>>=◌, attempt, of_result, needed, unless_refused}
 use Rattle.fuse_plans.specs.Conduct.{Known, Rights, conduct, Fits}
 
@@ -52,15 +53,15 @@ pub record Still (rights : Rights) (s : Server) : Type 0 where
   pub generations : s.generations ≡ rights.subject.start.generations
   pub names : s.names ≡ rights.subject.start.names
 
--- the server's processes stay
+-- the server's processes stay, and what is held
 abbrev pub SameOwn : (Server → Server) → Type 0
-SameOwn f = (s : Server) → ((f s).processes ≡ s.processes) × ((f s).looker ≡ s.looker)
+SameOwn f = (s : Server) → (holding_of (f s) ≡ holding_of s) × ((f s).looker ≡ s.looker)
 
 -- and so do nodes and names
 abbrev pub SameAll : (Server → Server) → Type 0
 SameAll f =
     (s : Server)
-    → ((f s).processes ≡ s.processes) × ((f s).looker ≡ s.looker) × ((f s).kinds ≡ s.kinds) × ((f s).generations ≡ s.generations) × ((f s).names ≡ s.names)
+    → (holding_of (f s) ≡ holding_of s) × ((f s).looker ≡ s.looker) × ((f s).kinds ≡ s.kinds) × ((f s).generations ≡ s.generations) × ((f s).names ≡ s.names)
 
 pub still-as : {rights : Rights} {s t : Server} → t.kinds ≡ s.kinds → t.generations ≡ s.generations → t.names ≡ s.names → Still rights s → Still rights t
 still-as kinds generations names still = record {
@@ -110,7 +111,7 @@ abbrev pub Gives : (rights : Rights) {X : Type 0} → (X → Type 0) → Work X 
 Gives rights F w = DoesTo rights (λ x. Still rights) F w
 
 pub fits-any : {rights : Rights} {P : Server → Type 0} {known : Known} {s : Server} → Fits rights P known s → Fits rights Any known s
-fits-any fits = record { home = fits.home; processes = fits.processes; looker = fits.looker; holds = tt }
+fits-any fits = record { home = fits.home; processes = fits.processes; looker = fits.looker; shares = fits.shares; holds = tt }
 
 module _ {rights : Rights} {P : Server → Type 0} where
   pub does-give : {X : Type 0} (x : X) → Does rights P (give x)
@@ -130,8 +131,24 @@ module _ {rights : Rights} {P : Server → Type 0} where
   does-keep f same stays = record {
     goes = λ known s fits. record {
       home = fits.home;
+      processes = fits.processes ∙ sym (ap (λ k. k.0) (same s).0);
+      looker = (same s).1 ∙ fits.looker;
+      shares = λ within. same_within s (f s) (same s).0 (fits.shares within);
+      holds = stays s fits.holds;
+    };
+  }
+
+  -- where processes stay, and none holds more than it may
+  pub does-keep_within : (f : Server → Server) → ((s : Server) → ((f s).processes ≡ s.processes) × ((f s).looker ≡ s.looker))
+      → ((s : Server) → P s → (WithinShares rights.subject.start → WithinShares s) → WithinShares rights.subject.start → WithinShares (f s))
+      → ((s : Server) → P s → P (f s)) → Does rights P (keep f)
+  unfolding keep
+  does-keep_within f same within stays = record {
+    goes = λ known s fits. record {
+      home = fits.home;
       processes = fits.processes ∙ sym (same s).0;
       looker = (same s).1 ∙ fits.looker;
+      shares = within s fits.holds fits.shares;
       holds = stays s fits.holds;
     };
   }
@@ -181,8 +198,9 @@ module _ {rights : Rights} {P : Server → Type 0} where
         rest.goes known (f s)
         (record {
           home = fits.home;
-          processes = fits.processes ∙ sym (same s).0;
+          processes = fits.processes ∙ sym (ap (λ k. k.0) (same s).0);
           looker = (same s).1 ∙ fits.looker;
+          shares = λ within. same_within s (f s) (same s).0 (fits.shares within);
           holds = after s fits.holds;
         });
   }

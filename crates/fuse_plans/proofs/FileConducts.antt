@@ -14,16 +14,18 @@ use Rattle.fuse_plans.specs.declared.request.Asked.{Asked}
 use Rattle.fuse_protocol.specs.declared.operation.Extent.{Extent}
 use Rattle.fuse_protocol.specs.declared.reply.Time.{Time}
 use Rattle.fuse_state.specs.Changes.{told}
+use Rattle.fuse_state.proofs.Holders.{closed_within}
 use Rattle.fuse_state.specs.Servers.{Server, owner_of, descriptor_of}
 use Rattle.fuse_state.specs.declared.place.Place.{Place}
 use Rattle.fuse_plans.specs.Acts.{given_name, IsObject, IsOfRequest, is_given, named_in, on_one, Concerns, without_path}
 use Rattle.fuse_plans.specs.Conduct.{Rights, stays, by_handle, is_on, IsByHandle}
 use Rattle.fuse_plans.specs.FilePlans.{touched_if, ask_first, open_object, open_file, or_opened, open_or_make, show_open, confirm_shown, confirm_open, look_open, tell_created, create_file, the_open, call_open, seek, seek_open, read_piece, read_pieces, read_file, or_done, write_piece, write_pieces, pieces_in, write_file, close_file}
 use Rattle.fuse_plans.specs.Flags.{is_trunc}
-use Rattle.fuse_plans.proofs.Conducts.{Still, SameOwn, SameAll, Does, Lasts, does-give, does-stop, does-kept, does-keep, does->>=, does-attempt, does-needed, lasts->>=, ends->>=, then-lasts, then-does}
+use Rattle.fuse_plans.proofs.Conducts.{Still, still-as, SameOwn, SameAll, Does, Lasts, does-give, does-stop, does-kept, does-keep_within, does->>=, does-attempt, does-needed, does-lasts, lasts->>=, keep-lasts, then-lasts, then-does}
 use Rattle.fuse_plans.proofs.Calls.{CanCall, AsksOf, is-object, does-obtain, does-or_closed, does-between, does-on, does-replied_status, gives-number, gives-standing_directory}
-use Rattle.fuse_plans.proofs.Chosen.{OfCaller, about-caller, does-caller_with_room}
-use Rattle.fuse_plans.proofs.Forms.{caller-can, does-if, does-when, does-done, does-keep_still, does-keep_caller, ends-keep, does-replied_handle, does-replied_data, does-replied_count}
+use Rattle.fuse_plans.proofs.Chosen.{OfOpener, does-opener}
+use Rattle.fuse_plans.proofs.Openers.{opener-can, about-opener, may_open-as, does-keep_opener, does-keep_handle, does-keep_opened, does-with_handle, lasts-with_handle}
+use Rattle.fuse_plans.proofs.Forms.{does-if, does-when, does-done, does-keep_still, does-replied_data, does-replied_count}
 use Rattle.fuse_plans.proofs.NameConducts.{found-same, does-plain_name, given-in}
 
 told-same : (now : Time) (p : Place) (n : ℕ) (kind : FileType) (is_new is_cut : Bool) → SameOwn (told now p n kind is_new is_cut)
@@ -38,34 +40,34 @@ touched_if-same false now n s = (refl, refl, refl, refl, refl)
 -- ---- to open
 
 module _ {rights : Rights} (r : Asked) (is : rights.cred ≡ r.cred) (asks : AsksOf rights r.node) where
-  does-ask_first : (pid n flags : ℕ) (mode : Mode) → IsObject rights.subject n → Does rights (OfCaller rights pid) (ask_first pid n flags mode)
+  does-ask_first : (pid n flags : ℕ) (mode : Mode) → IsObject rights.subject n → Does rights (OfOpener rights pid) (ask_first pid n flags mode)
   does-ask_first pid n flags mode object =
-      let about = about-caller pid n object in
-      does->>= (does-when _ _ (does-done (does-on pid n _ (λ path. caller-can pid _ refl) (λ path. refl) about))) (λ may.
-      does-when _ _ (does-done (does-on pid n _ (λ path. caller-can pid _ refl) (λ path. refl) about)))
+      let about = about-opener pid n object in
+      does->>= (does-when _ _ (does-done (does-on pid n _ (λ path. opener-can pid _ refl) (λ path. refl) about))) (λ may.
+      does-when _ _ (does-done (does-on pid n _ (λ path. opener-can pid _ refl) (λ path. refl) about)))
 
-  does-confirm_open : (pid fd n : ℕ) (cuts : Bool) → Does rights (OfCaller rights pid) (confirm_open pid fd n cuts)
+  does-confirm_open : (pid fd n : ℕ) (cuts : Bool) → Does rights (OfOpener rights pid) (confirm_open pid fd n cuts)
   unfolding show_open confirm_shown confirm_open
   does-confirm_open pid fd n cuts =
       does->>= (does-attempt
-      (does->>= (does->>= (does-obtain pid _ (caller-can pid _ refl) (without_path refl refl refl)) does-replied_status) (λ status.
+      (does->>= (does->>= (does-obtain pid _ (opener-can pid _ refl) (without_path refl refl refl)) does-replied_status) (λ status.
       does->>= (does-if _ _ _ (does-give tt) (does-stop _)) (λ same.
-      does-when cuts _ (does-done (does-obtain pid _ (caller-can pid _ refl) (without_path refl refl refl))))))) (λ confirmed.
-      does-or_closed pid fd confirmed (caller-can pid _ refl))
+      does-when cuts _ (does-done (does-obtain pid _ (opener-can pid _ refl) (without_path refl refl refl))))))) (λ confirmed.
+      does-or_closed pid fd confirmed (opener-can pid _ refl))
 
-  does-open_object : (now : Time) (pid n flags : ℕ) (mode : Mode) → IsObject rights.subject n → Does rights (OfCaller rights pid) (open_object now pid n flags mode)
+  does-open_object : (now : Time) (pid n flags : ℕ) (mode : Mode) → IsObject rights.subject n → Does rights (OfOpener rights pid) (open_object now pid n flags mode)
   does-open_object now pid n flags mode object =
-      does->>= (does-on pid n _ (λ path. caller-can pid _ refl) (λ path. refl) (about-caller pid n object)) (λ reply.
-      does->>= (does-replied_handle pid reply) (λ handle.
+      does->>= (does-on pid n _ (λ path. opener-can pid _ refl) (λ path. refl) (about-opener pid n object)) (λ reply.
+      does-with_handle pid reply (λ handle owner.
       does->>= (does-confirm_open pid _ n _) (λ confirmed.
-      does->>= (does-keep_caller _ (touched_if-same (is_trunc flags) now n)) (λ touched.
-      does->>= (does-keep_caller _ (λ s. (refl, refl, refl, refl, refl))) (λ done. does-give _)))))
+      does->>= (does-keep_opener _ (touched_if-same (is_trunc flags) now n)) (λ touched.
+      does->>= (does-keep_handle pid handle n owner) (λ done. does-give _)))))
 
   pub lasts-open_file : (flags : ℕ) → Lasts rights (Still rights) (open_file r flags)
   lasts-open_file flags =
       then-lasts (gives-number _ (is-object rights _ asks)) (λ n object.
       lasts->>= (does-needed _ _) (λ mode.
-      then-does (does-caller_with_room _ is) (λ pid more.
+      then-does (does-opener _ is) (λ pid more.
       does->>= (does-ask_first pid n flags mode object) (λ asked.
       does->>= (does-open_object _ pid n flags mode object) (λ handle. does-give _)))))
 
@@ -79,24 +81,25 @@ module _ {rights : Rights} (r : Asked) (is : rights.cred ≡ r.cred) (node : rig
       does-if _ _ _ (does->>= (does-between pid d d _ (can _ refl) (on_one name refl refl of)) (λ reply. does-give _)) (does-stop e)
 
   does-open_or_make : (pid d : ℕ) (name : List ℕ) (mode : Mode) (flags file_mode : ℕ) → IsOfRequest rights.subject (named_in d name)
-      → Does rights (OfCaller rights pid) (open_or_make pid d name mode flags file_mode)
+      → Does rights (OfOpener rights pid) (open_or_make pid d name mode flags file_mode)
   unfolding open_or_make
   does-open_or_make pid d name mode flags file_mode of =
-      does->>= (does-attempt (does-between pid d d _ (caller-can pid _ refl) (on_one name refl refl of))) (λ first.
-      does-or_opened pid d name mode flags first (caller-can pid) of)
+      does->>= (does-attempt (does-between pid d d _ (opener-can pid _ refl) (on_one name refl refl of))) (λ first.
+      does-or_opened pid d name mode flags first (opener-can pid) of)
 
-  does-look_open : (pid fd : ℕ) → Does rights (OfCaller rights pid) (look_open pid fd)
+  does-look_open : (pid fd : ℕ) → Does rights (OfOpener rights pid) (look_open pid fd)
   unfolding show_open look_open
   does-look_open pid fd =
-      does->>= (does-attempt (does->>= (does-obtain pid _ (caller-can pid _ refl) (without_path refl refl refl)) does-replied_status)) (λ seen.
-      does-or_closed pid fd seen (caller-can pid _ refl))
+      does->>= (does-attempt (does->>= (does-obtain pid _ (opener-can pid _ refl) (without_path refl refl refl)) does-replied_status)) (λ seen.
+      does-or_closed pid fd seen (opener-can pid _ refl))
 
-  lasts-tell_created : {P : Server → Type 0} (now : Time) (p : Place) (is_new is_cut : Bool) (handle : ℕ) (status : Status)
-      → Lasts rights P (tell_created now p is_new is_cut handle status)
+  lasts-tell_created : (now : Time) (p : Place) (is_new is_cut : Bool) (pid handle : ℕ) (status : Status) → owner_of handle ≡ pid
+      → Lasts rights (OfOpener rights pid) (tell_created now p is_new is_cut handle status)
   unfolding tell_created
-  lasts-tell_created now p is_new is_cut handle status =
-      ends->>= (ends-keep _ (told-same now p _ _ is_new is_cut)) (λ told.
-      does->>= (does-keep _ (λ s. (refl, refl)) (λ s any. tt)) (λ done. does-kept _))
+  lasts-tell_created now p is_new is_cut pid handle status owner =
+      let same = told-same now p status.inode status.kind is_new is_cut in
+      keep-lasts _ same (λ s of. may_open-as s (told now p status.inode status.kind is_new is_cut s) (same s).0 of.may)
+      (does-lasts (does->>= (does-keep_opened pid handle status.inode owner) (λ done. does-kept _)))
 
   pub lasts-create_file : (name : List ℕ) (flags mode umask : ℕ) → given_name rights.subject.operation ≡ Some name
       → Lasts rights (Still rights) (create_file r name flags mode umask)
@@ -104,11 +107,11 @@ module _ {rights : Rights} (r : Asked) (is : rights.cred ≡ r.cred) (node : rig
       lasts->>= (does-plain_name name) (λ plain.
       lasts->>= (does-needed _ _) (λ mode.
       then-lasts (gives-standing_directory _ (given-in rights r.node node name given)) (λ d in_it.
-      then-lasts (does-caller_with_room _ is) (λ pid more.
-      lasts->>= (does-obtain pid _ (caller-can pid _ refl) (without_path refl refl refl)) (λ old.
+      then-lasts (does-opener _ is) (λ pid more.
+      lasts->>= (does-obtain pid _ (opener-can pid _ refl) (without_path refl refl refl)) (λ old.
       lasts->>= (does-open_or_make pid d name mode flags file_mode (is_given in_it)) (λ opened.
-      lasts->>= (does-replied_handle pid opened.0) (λ handle.
-      lasts->>= (does-look_open pid _) (λ status. lasts-tell_created _ _ opened.1 _ handle status))))))))
+      lasts-with_handle pid opened.0 (λ handle owner.
+      lasts->>= (does-look_open pid _) (λ status. lasts-tell_created _ _ opened.1 _ pid handle status owner))))))))
 
 -- ---- by a handle
 
@@ -183,4 +186,4 @@ module _ {rights : Rights} where
   pub does-close_file : (handle : ℕ) → rights.handle ≡ Some handle → Does rights (Still rights) (close_file handle)
   does-close_file handle given =
       does->>= (does-call_open handle given _ (itself _) (without_path refl refl refl)) (λ closed.
-      does->>= (does-keep_still _ (λ s. (refl, refl, refl, refl, refl))) (λ done. does-give _))
+      does->>= (does-keep_within _ (λ s. (refl, refl)) (λ s still within start. closed_within s handle (within start)) (λ s still. still-as refl refl refl still)) (λ done. does-give _))

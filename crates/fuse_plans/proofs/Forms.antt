@@ -1,6 +1,6 @@
 -- How small pieces behave: values in replies, choices, and changes of what the server keeps.
 use Rattle.std.specs.Prelude.{ℕ, Bool, true, false, IsTrue, if◌then◌else◌}
-use Rattle.std.proofs.Common.{sym, subst}
+use Rattle.std.proofs.Common.{sym, ap, subst}
 use Rattle.fs_model.specs.declared.call.Call.{Call}
 use Rattle.fs_model.specs.declared.reply.Reply.{Reply}
 use Rattle.fuse_state.specs.Servers.{Server}
@@ -25,7 +25,7 @@ module _ {rights : Rights} where
   pub does-keep_caller : {pid : ℕ} (f : Server → Server) → SameAll f → Does rights (OfCaller rights pid) (keep f)
   does-keep_caller {pid} f same =
       does-keep f (λ s. ((same s).0, (same s).1))
-      (λ s of. record { still = still-kept f same s of.still; is = subst (λ m. IsCaller rights.cred m pid) (sym (same s).0) of.is })
+      (λ s of. record { still = still-kept f same s of.still; is = subst (λ m. IsCaller rights.cred m pid) (sym (ap (λ k. k.0) (same s).0)) of.is })
 
   -- where no more is asked
   pub ends-keep : {P : Server → Type 0} (f : Server → Server) → SameOwn f → Lasts rights P (keep f)

@@ -7,6 +7,7 @@ pub mod JudgedLookups
 pub mod NameConducts
 pub mod NobodyConducts
 pub mod OpenedObjects
+pub mod Openers
 pub mod OtherConducts
 pub mod PlanLaws
 pub mod Replays
@@ -15,4 +16,5 @@ pub mod RowsOfBytes
 pub mod RowsOfNames
 pub mod RowsOfPlaces
 pub mod RowsOfStale
+pub mod ShareRuns
 pub mod ToldNodes

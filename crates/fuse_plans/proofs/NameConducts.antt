@@ -29,6 +29,7 @@ use Rattle.fuse_plans.specs.NamePlans.{place, plain_name, directory_for, tell_en
 use Rattle.fuse_plans.proofs.Conducts.{Any, Still, SameOwn, Left, LeftTo, Does, Lasts, DoesTo, Gives, does-give, does-stop, does-kept, does->>=, does-attempt, does-lasts, lasts->>=, ends->>=, keep-lasts, then-lasts, then-does_to, does-does_to, attempt-does_to, gives-give}
 use Rattle.fuse_plans.proofs.Calls.{CanCall, ActsAt, does-obtain, does-between, does-done_between, does-by_places, known-places, does-look_inside, lasts-with_looker, looks, does-look, is-object, gives-number, gives-standing_directory}
 use Rattle.fuse_plans.proofs.Chosen.{OfCaller, about-caller, gives-with, does-caller, does-caller_with_room}
+use Rattle.fuse_state.proofs.Holders.{holding_of}
 use Rattle.fuse_plans.proofs.Forms.{caller-can, does-if, does-replied_fd, ends-keep}
 
 -- ---- what the server keeps
@@ -36,7 +37,7 @@ use Rattle.fuse_plans.proofs.Forms.{caller-can, does-if, does-replied_fd, ends-k
 pub found-same : (p : Place) (n : ℕ) (kind : FileType) → SameOwn (found p n kind)
 found-same p n kind s = go (is_gone s n)
   where
-    go : (b : Bool) → let t : Server = with_name p n kind (if b then with_generation n s else s) in (t.processes ≡ s.processes) × (t.looker ≡ s.looker)
+    go : (b : Bool) → let t : Server = with_name p n kind (if b then with_generation n s else s) in (holding_of t ≡ holding_of s) × (t.looker ≡ s.looker)
     go true = (refl, refl)
     go false = (refl, refl)
 

@@ -49,7 +49,7 @@ abbrev EndsWell : {X : Type 0} → Plan (Result X Stop × Server) → List Event
 EndsWell p es replies x t = IsRunOf p es replies (Ok x, t)
 
 -- nothing more
-finished : {X : Type 0} (x y : X) (es : List Event) (replies : List Reply) → IsRunOf (Finish x) es replies y → (es ≡ []) × (replies ≡ []) × (y ≡ x)
+pub finished : {X : Type 0} (x y : X) (es : List Event) (replies : List Reply) → IsRunOf (Finish x) es replies y → (es ≡ []) × (replies ≡ []) × (y ≡ x)
 finished x y [] [] ends = (refl, refl, ends)
 finished x y [] (reply ∷ replies) ends = elim ends [ ]
 finished x y (e ∷ es) replies ends = elim ends [ ]
@@ -205,7 +205,7 @@ owner_of_one pid fd handle true true lt is =
 owner_of_one pid fd handle true false lt is = absurd (let no : None ≡ Some handle = is in cc)
 owner_of_one pid fd handle false room lt is = absurd (let no : None ≡ Some handle = is in cc)
 
-owner_is : (pid : ℕ) (o : Option ℕ) (handle : ℕ) → handle_within pid o ≡ Some handle → owner_of handle ≡ pid
+pub owner_is : (pid : ℕ) (o : Option ℕ) (handle : ℕ) → handle_within pid o ≡ Some handle → owner_of handle ≡ pid
 owner_is pid None handle is = absurd (let none : None ≡ Some handle = is in cc)
 owner_is pid (Some fd) handle is = owner_of_one pid fd handle (nat_lt pid processes_limit) (nat_lt fd descriptors_limit) refl is
 

@@ -13,18 +13,20 @@ use Rattle.fuse_protocol.specs.declared.reply.Time.{Time}
 use Rattle.fuse_protocol.specs.declared.operation.AttrChanges.{AttrChanges}
 use Rattle.fuse_plans.specs.declared.reply.ReplyBody.{ReplyBody}
 use Rattle.fuse_state.specs.declared.directory.OpenDirectory.{OpenDirectory}
-use Rattle.fuse_state.specs.Servers.{Server, owner_of, descriptor_of}
+use Rattle.fuse_state.specs.Servers.{Server, owner_of, descriptor_of, directory_of, may_open_directory, with_listing, with_listing_of}
+use Rattle.fuse_state.proofs.Holders.{opened_within, listed_within, released_within}
 use Rattle.fuse_plans.specs.declared.stop.Stop.TheVariants.{Lacks}
 use Rattle.fuse_plans.specs.declared.stop.OtherErrno.TheVariants.{EOPNOTSUPP}
-use Rattle.fuse_plans.specs.Works.{give, stop, ask}
+use Rattle.fuse_plans.specs.Works.{give, stop, kept, keep, ◌>>=◌, ask}
 use Rattle.fuse_plans.specs.Acts.{IsObject, without_path}
-use Rattle.fuse_plans.specs.Conduct.{Rights, IsHome, IsSyncOf}
+use Rattle.fuse_plans.specs.Plans.{KeepsTo}
+use Rattle.fuse_plans.specs.Conduct.{Known, Rights, conduct, Fits, IsHome, IsSyncOf}
 use Rattle.fuse_plans.specs.FilePlans.{sync_file}
 use Rattle.fuse_plans.specs.AttributePlans.{tell_attributes, get_attributes, new_owners, resize_object, set_size, set_mode, may_set_times, set_times, change_attributes, set_attributes, read_link, access_as, ask_access}
-use Rattle.fuse_plans.specs.DirectoryPlans.{open_directory, tell_names, list_open, list_all, list_now, listed, read_directory, close_directory, sync_all}
+use Rattle.fuse_plans.specs.DirectoryPlans.{open_directory, take_directory, take_directory_if, tell_names, list_open, list_all, list_now, listed, read_directory, close_directory, sync_all}
 use Rattle.fuse_plans.specs.AclPlans.{an_object, acl_of, sized, get_xattr, attribute_names, list_xattrs, acl_set, set_acl, set_xattr, remove_xattr}
 use Rattle.fuse_plans.specs.Serving.{count_space, end}
-use Rattle.fuse_plans.proofs.Conducts.{Still, Does, Lasts, Gives, does-give, does-stop, does-kept, does-keep, does->>=, does-attempt, does-needed, does-unless_refused, does-lasts, lasts->>=, ends->>=, then-lasts, then-does, then-does_to, does-does_to, gives-give, gives-stop}
+use Rattle.fuse_plans.proofs.Conducts.{Any, Still, still-as, Left, does-keep_within, Does, Lasts, Gives, does-give, does-stop, does-kept, does->>=, does-attempt, does-needed, does-unless_refused, does-lasts, lasts->>=, ends->>=, then-lasts, then-does, then-does_to, does-does_to, gives-give, gives-stop}
 use Rattle.fuse_plans.proofs.Calls.{About, AsksOf, about-still, is-object, does-obtain, does-or_closed, does-on, does-by_looker, does-with_looker, looks, does-look, gives-number, gives-directory_number}
 use Rattle.fuse_plans.proofs.Chosen.{OfCaller, about-caller, does-caller}
 use Rattle.fuse_plans.proofs.Forms.{caller-can, does-if, does-when, lasts-when, does-done, does-keep_still, does-keep_caller, does-replied_fd, does-replied_target, does-replied_acl, does-replied_names, does-replied_space}
@@ -51,6 +53,14 @@ module _ {rights : Rights} where
 abbrev pub HandleIs : Rights → Option ℕ → Type 0
 HandleIs rights None = Unit {0}
 HandleIs rights (Some handle) = rights.handle ≡ Some handle
+
+listing-same : (handle : ℕ) (names : List (List ℕ × ℕ)) (s : Server)
+    → ((with_listing handle names s).processes ≡ s.processes) × ((with_listing handle names s).looker ≡ s.looker)
+listing-same handle names s = choose (directory_of s handle)
+  where
+    choose : (o : Option OpenDirectory) → ((with_listing_of handle names o s).processes ≡ s.processes) × ((with_listing_of handle names o s).looker ≡ s.looker)
+    choose None = (refl, refl)
+    choose (Some d) = (refl, refl)
 
 module _ {rights : Rights} (r : Asked) (is : rights.cred ≡ r.cred) (asks : AsksOf rights r.node) where
   pub lasts-get_attributes : Lasts rights (Still rights) (get_attributes r)
@@ -149,15 +159,27 @@ module _ {rights : Rights} (r : Asked) (is : rights.cred ≡ r.cred) (asks : Ask
 
   -- ---- directories
 
+  does-take_directory : (uid n : ℕ) → Does rights Any (take_directory uid n)
+  unfolding take_directory kept keep give stop ◌>>=◌
+  does-take_directory uid n = record { goes = λ known s fits. takes known s fits (may_open_directory s uid) refl }
+    where
+      takes : (known : Known) (s : Server) → Fits rights Any known s → (b : Bool) → may_open_directory s uid ≡ b
+          → KeepsTo (conduct rights) (Left rights Any) known (take_directory_if uid n b s)
+      takes known s fits false is = fits
+      takes known s fits true is = record {
+        home = fits.home;
+        processes = fits.processes;
+        looker = fits.looker;
+        shares = λ start. opened_within s uid n is (fits.shares start);
+        holds = tt;
+      }
+
   pub lasts-open_directory : Lasts rights (Still rights) (open_directory r)
   lasts-open_directory =
       then-lasts (gives-directory_number _ (is-object rights _ asks)) (λ n object.
-      lasts->>= (does-kept _) (λ full.
-      lasts->>= (does-when full _ (does-stop _)) (λ room.
+      lasts->>= (does-needed _ _) (λ cred.
       lasts->>= (does-kept _) (λ placed.
-      ends->>= (lasts-when placed _ (lasts-access_as n _ object)) (λ may.
-      does->>= (does-kept _) (λ handle.
-      does->>= (does-keep _ (λ s. (refl, refl)) (λ s any. tt)) (λ done. does-give _)))))))
+      ends->>= (lasts-when placed _ (lasts-access_as n _ object)) (λ may. does-take_directory cred.uid n))))
 
   pub lasts-read_link : Lasts rights (Still rights) (read_link r)
   lasts-read_link =
@@ -180,13 +202,20 @@ module _ {rights : Rights} (r : Asked) (is : rights.cred ≡ r.cred) (asks : Ask
       does->>= (does-list_open pid fd looker) (λ names.
       does->>= (does-obtain pid _ (looks pid looker _ refl) (without_path refl refl refl)) (λ closed. does-give names)))))
 
+  listing-still : (handle : ℕ) (names : List (List ℕ × ℕ)) (s : Server) → Still rights s → Still rights (with_listing handle names s)
+  listing-still handle names s still = choose (directory_of s handle)
+    where
+      choose : (o : Option OpenDirectory) → Still rights (with_listing_of handle names o s)
+      choose None = still
+      choose (Some d) = still-as refl refl refl still
+
   lasts-list_now : (handle number : ℕ) → Lasts rights (Still rights) (list_now r.node handle number)
   lasts-list_now handle number =
       then-does (gives-number _ (is-object rights _ asks)) (λ n object.
       does->>= (does-if _ _ _ (does-give tt) (does-stop _)) (λ same.
       does->>= (does-kept _) (λ placed.
       does->>= (does-list_all n placed object) (λ names.
-      does->>= (does-keep_still _ (λ s. (refl, refl, refl, refl, refl))) (λ done. does-give names)))))
+      does->>= (does-keep_within _ (listing-same handle names) (λ s still within start. listed_within s handle names (within start)) (λ s still. listing-still handle names s still)) (λ done. does-give names)))))
 
   lasts-listed_anew : (handle : ℕ) (d : OpenDirectory) (anew : Bool) (known : Option (List (List ℕ × ℕ))) → Lasts rights (Still rights) (listed r.node handle d anew known)
   lasts-listed_anew handle d false (Some names) = does-lasts (does-give names)
@@ -227,7 +256,8 @@ module _ {rights : Rights} (r : Asked) (is : rights.cred ≡ r.cred) (asks : Ask
 module _ {rights : Rights} where
   pub does-close_directory : (handle : ℕ) → Does rights (Still rights) (close_directory handle)
   unfolding close_directory
-  does-close_directory handle = does->>= (does-keep_still _ (λ s. (refl, refl, refl, refl, refl))) (λ done. does-give _)
+  does-close_directory handle =
+      does->>= (does-keep_within _ (λ s. (refl, refl)) (λ s still within start. released_within s handle (within start)) (λ s still. still-as refl refl refl still)) (λ done. does-give _)
 
 module _ {rights : Rights} {P : Server → Type 0} where
   does-sync : Does rights P (ask Sync)

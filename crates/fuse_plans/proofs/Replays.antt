@@ -48,7 +48,7 @@ use Rattle.fuse_plans.specs.declared.mode.Mode.{Mode}
 use Rattle.fuse_plans.specs.Flags.{only}
 use Rattle.fuse_plans.specs.NamePlans.{made, link_by_place}
 use Rattle.fuse_plans.specs.FilePlans.{open_or_make, show_open, confirm_shown, confirm_open, look_open, tell_created, the_open, seek, read_piece, read_pieces, write_piece, write_pieces}
-use Rattle.fuse_plans.specs.DirectoryPlans.{entry_kind, tell_names, list_open, read_directory, close_directory, sync_all}
+use Rattle.fuse_plans.specs.DirectoryPlans.{take_directory, entry_kind, tell_names, list_open, read_directory, close_directory, sync_all}
 use Rattle.fuse_plans.specs.Nobody.{is_masked}
 use Rattle.fuse_plans.specs.Serving.{begin, count_space, end, request_plan}
 
@@ -91,7 +91,7 @@ played s (step ∷ steps) =
 
 -- all that a plan computes with
 unfoldable pub all_plans : Unit {0}
-unfolding give stop kept keep ◌>>=◌ attempt ask retire begin_process caller caller_with_room the_looker between look_inside by_places on look the_number directory_number standing_directory made is_masked link_by_place open_or_make show_open confirm_shown confirm_open look_open tell_created the_open seek read_piece read_pieces write_piece write_pieces tell_names list_open read_directory close_directory sync_all begin count_space end request_plan
+unfolding give stop kept keep ◌>>=◌ attempt ask retire begin_process caller caller_with_room the_looker between look_inside by_places on look the_number directory_number standing_directory made is_masked link_by_place open_or_make show_open confirm_shown confirm_open look_open tell_created the_open seek read_piece read_pieces write_piece write_pieces tell_names list_open read_directory close_directory sync_all begin count_space end request_plan take_directory
 all_plans = tt
 
 -- ---- words

@@ -1,5 +1,7 @@
 -- How requests behave, and what that says of the events that were asked.
-use Rattle.std.specs.Prelude.{◌≡◌, ℕ, Bool, true, false, nat_lt, List, [], Option, None, Some, Result, IsFalse, if◌then◌else◌}
+use Rattle.std.specs.Prelude.{◌≡◌, ℕ, Bool, true, false, nat_lt, List, [], Option, None, Some, is_some, Result, IsFalse, if◌then◌else◌}
+use Rattle.std.specs.Ordering.{nat_cmp}
+use Rattle.fs_layout.specs.Maps.{get}
 use Rattle.std.proofs.Common.{refl, sym, ap, subst, ◌∙◌}
 use Rattle.posix_acl.specs.AccessList.{AccessList}
 use Rattle.fs_cred.specs.Credentials.{Credential, usual_credential}
@@ -14,12 +16,13 @@ use Rattle.fuse_protocol.specs.declared.operation.Offer.{Offer}
 use Rattle.fuse_protocol.specs.declared.operation.Operation.{Operation}
 use Rattle.fuse_protocol.specs.declared.operation.Operation.TheVariants.{Lookup, Forget, GetAttr, SetAttr, ReadLink, SymLink, MkNod, MkDir, Unlink, RmDir, Rename, Link, Open, Read, Write, StatFs, Release, FSync, SetXAttr, GetXAttr, ListXAttr, RemoveXAttr, Init, OpenDir, ReadDir, ReleaseDir, FSyncDir, Access, Create, Interrupt, Destroy, BatchForget, SyncFs, Unknown}
 use Rattle.fuse_plans.specs.declared.reply.ReplyBody.{ReplyBody}
-use Rattle.fuse_state.specs.Servers.{Server, with_the_looker, with_acls_offered}
+use Rattle.fuse_state.specs.Servers.{Server, with_the_looker, with_acls_offered, WithinShares}
+use Rattle.fuse_state.proofs.Holders.{holding_of, same_within}
 use Rattle.fuse_plans.specs.Works.{Work, give, stop, kept, keep, goes_on, ◌>>=◌, ◌>>◌, ask, unless_refused, replied_pid}
 use Rattle.fuse_plans.specs.Requests.{Request, asked_of}
 use Rattle.fuse_plans.specs.Nobody.{needs_nobody_in}
 use Rattle.fuse_plans.specs.Acts.{name_of_operation, given_name, node_asked, node_of_object}
-use Rattle.fuse_plans.specs.Conduct.{Known, Rights, conduct, after_spawn}
+use Rattle.fuse_plans.specs.Conduct.{Known, Rights, conduct, after_begin, after_spawn}
 use Rattle.fuse_plans.specs.NamePlans.{removal}
 use Rattle.fuse_plans.specs.Serving.{agreed, later_version, or_looker, offers_acls, begin, plan_of, asked_for, response_of, answered, answered_as, request_plan}
 use Rattle.fuse_plans.specs.Laws.{RunsBehave, server_rights, Begun, BeginningBehaves, handle_of_operation, handle_in, is_beginning, is_init, rights_of, known_in, Ends, RequestsBehave}
@@ -92,20 +95,27 @@ module _ (rights : Rights) (r : Asked) (is : rights.cred ≡ r.cred) (node : rig
   does-asked_for value None asks other given = does-lasts (does-stop _)
   does-asked_for value (Some operation) asks other given = does-plan value operation asks other given
 
-answers_end : (rights : Rights) (s : Server) → rights.looker ≡ s.looker → (known : Known) (r : Result ReplyBody Stop × Server) → Left rights Any known r → Ends s known (response_of r.0, r.1)
-answers_end rights s same known r left = record { home = left.home; processes = left.processes; looker = left.looker ∙ same }
+answers_end : (rights : Rights) (s : Server) → rights.looker ≡ s.looker → rights.subject.start ≡ s → (known : Known) (r : Result ReplyBody Stop × Server) → Left rights Any known r → Ends s known (response_of r.0, r.1)
+answers_end rights s same start known r left = record {
+  home = left.home;
+  processes = left.processes;
+  looker = left.looker ∙ same;
+  shares = λ within. left.shares (subst WithinShares (sym start) within);
+}
 
 answers : (rights : Rights) (s : Server) → rights.looker ≡ s.looker → rights.subject.start ≡ s → (memory : Bool) (work : Option (Work ReplyBody)) → LastsIfAny rights work
     → (known : Known) → known.away ≡ None → known.processes ≡ s.processes → KeepsTo (conduct rights) (Ends s) known (answered memory work s)
-answers rights s same start memory None lasts known home processes = record { home = home; processes = processes; looker = refl }
+answers rights s same start memory None lasts known home processes =
+    record { home = home; processes = processes; looker = refl; shares = λ within. within }
 answers rights s same start true (Some w) lasts known home processes =
     keeps-followed_by (conduct rights) (Left rights Any) (Ends s) (w s) (λ r. Finish (response_of r.0, r.1)) known
-    (lasts.goes known s (record { home = home; processes = processes; looker = sym same; holds = begins_still }))
-    (λ n r left. answers_end rights s same n r left)
+    (lasts.goes known s (record { home = home; processes = processes; looker = sym same; shares = λ within. subst WithinShares start within; holds = begins_still }))
+    (λ n r left. answers_end rights s same start n r left)
   where
     begins_still : Still rights s
     begins_still = record { kinds = ap (λ t. t.kinds) (sym start); generations = ap (λ t. t.generations) (sym start); names = ap (λ t. t.names) (sym start) }
-answers rights s same start false (Some w) lasts known home processes = record { home = home; processes = processes; looker = refl }
+answers rights s same start false (Some w) lasts known home processes =
+    record { home = home; processes = processes; looker = refl; shares = λ within. within }
 
 pub requests_behave : RequestsBehave
 unfolding request_plan
@@ -119,7 +129,7 @@ requests_behave r s other =
 -- ---- the first request
 
 abbrev Alone : Server → Known → Result ReplyBody Stop × Server → Type 0
-Alone s known r = (known.away ≡ None) × (r.1.processes ≡ s.processes)
+Alone s known r = (known.away ≡ None) × (holding_of r.1 ≡ holding_of s)
 
 -- what is done once the server's own process is looked for
 abbrev welcome : Offer → Option ℕ → Work ReplyBody
@@ -146,8 +156,12 @@ spawned_then r s offer known home (Names k) = (home, refl)
 spawned_then r s offer known home (SpaceIs j k) = (home, refl)
 spawned_then r s offer known home (Refused k) = (home, refl)
 
+home_begun : (known : Known) (cred : Credential) (pid : ℕ) (taken : Bool) → (after_begin known cred pid taken).away ≡ known.away
+home_begun known cred pid true = refl
+home_begun known cred pid false = refl
+
 home_still : (known : Known) (cred : Credential) (reply : Reply) → (after_spawn known cred reply).away ≡ known.away
-home_still known cred (Pid k) = refl
+home_still known cred (Pid k) = home_begun known cred k (is_some (get nat_cmp known.processes k))
 home_still known cred Done = refl
 home_still known cred (Fd k) = refl
 home_still known cred (Data k) = refl
@@ -183,8 +197,8 @@ begins_alone r s offer = choose (nat_lt offer.major 7) (nat_lt 7 offer.major)
 begins : (r : Request) (s : Server) (memory : Bool) (offer : Offer) → KeepsTo (conduct (server_rights r s)) (Begun s) (known_in s) (answered memory (Some (begin offer)) s)
 begins r s true offer =
     keeps-followed_by (conduct (server_rights r s)) (Alone s) (Begun s) (begin offer s) (λ r. Finish (response_of r.0, r.1)) (known_in s) (begins_alone r s offer)
-    (λ known q left. record { home = left.0; processes = left.1 })
-begins r s false offer = record { home = refl; processes = refl }
+    (λ known q left. record { home = left.0; processes = ap (λ k. k.0) left.1; shares = same_within s q.1 left.1 })
+begins r s false offer = record { home = refl; processes = refl; shares = λ within. within }
 
 pub beginning_behaves : BeginningBehaves
 unfolding request_plan

@@ -12,7 +12,6 @@ use Rattle.fs_model.specs.declared.call.Call.TheVariants.{Open as OpenCall, Mkdi
 use Rattle.fs_model.specs.declared.event.Event.{Event}
 use Rattle.fs_model.specs.declared.reply.FileType.{FileType}
 use Rattle.fs_model.specs.declared.reply.Reply.{Reply}
-use Rattle.fs_model.specs.Limits.{processes_limit}
 use Rattle.fuse_protocol.specs.declared.operation.Operation.{Operation}
 use Rattle.fuse_protocol.specs.declared.operation.Operation.TheVariants.{Lookup, SymLink, MkNod, MkDir, Create}
 use Rattle.fuse_protocol.specs.declared.reply.Time.{Time}
@@ -32,7 +31,7 @@ use Rattle.fuse_plans.specs.declared.stop.OtherErrno.TheVariants.{ENFILE, ERANGE
 use Rattle.fuse_plans.specs.Plans.{Plan, Finish, Ask, followed_by, IsRunOf}
 use Rattle.fuse_plans.specs.Flags.{mode_in, is_trunc, making}
 use Rattle.fuse_plans.specs.Works.{Work, give, stop, kept, keep, goes_on, ◌>>=◌, attempt, needed, ask, give_unless, refusal_in, unless_refused, obtain, or_closed}
-use Rattle.fuse_plans.specs.Callers.{settled, settle, retire_next, retire, settle_first, begin_process, or_spawned, caller, unused_of, or_unused, caller_with_room, the_looker, between, done_between, look_inside, the_number, is_known_directory, directory_number, standing_directory}
+use Rattle.fuse_plans.specs.Callers.{settle_new, settled, settle, retire_next, retire, settle_first, begin_process, or_spawned, caller, unused_of, or_unused, caller_with_room, the_looker, between, done_between, look_inside, the_number, is_known_directory, directory_number, standing_directory}
 use Rattle.fuse_plans.specs.NamePlans.{plain_name, directory_for, or_absent, searched_directory, find_inside, find_name, made, close, done_closed, make_by, directory_and_caller, make_masked, is_of_file, make_file}
 use Rattle.fuse_plans.specs.FilePlans.{or_opened, open_or_make, show_open, look_open, tell_created, create_file}
 use Rattle.fuse_plans.specs.Laws.{told_entry, names_an_object, LeadsToShown, ToldNodesLeadToObjects}
@@ -158,11 +157,16 @@ leaves-or_closed pid fd (Err e) = leaves->>= (leaves-ask _) (λ reply. leaves-st
 
 -- ---- who calls
 
+leaves-settle_new : (cred : Credential) (pid : ℕ) (taken : Bool) → Leaves (settle_new cred pid taken)
+leaves-settle_new cred pid true = leaves-stop _
+leaves-settle_new cred pid false =
+    leaves->>= (leaves-keep (with_process pid cred) (λ s. record { generations = refl; kinds = refl; names = refl; handles = refl })) (λ added. leaves-give pid)
+
 leaves-settled : (cred : Credential) (reply : Reply) → Leaves (settled cred reply)
 leaves-settled cred reply =
     leaves->>= (leaves-unless_refused reply) (λ done.
     leaves->>= (leaves-needed _ _) (λ pid.
-    leaves->>= (leaves-keep (with_process pid cred) (λ s. record { generations = refl; kinds = refl; names = refl; handles = refl })) (λ added. leaves-give pid)))
+    leaves->>= (leaves-kept _) (leaves-settle_new cred pid)))
 
 leaves-settle : (cred : Credential) (reply : Reply) → Leaves (settle cred reply)
 leaves-settle cred reply = leaves-if _ _ _ (leaves-stop _) (leaves-settled cred reply)
@@ -180,7 +184,7 @@ leaves-retire (suc k) = leaves->>= (leaves-kept _) (leaves-retire_next (leaves-r
 
 leaves-settle_first : (cred : Credential) (reply : Reply) → Leaves (settle_first cred reply)
 leaves-settle_first cred reply =
-    leaves-if _ _ _ (leaves->>= (leaves-retire processes_limit) (λ retired. leaves->>= (leaves-ask _) (leaves-settle cred))) (leaves-settle cred reply)
+    leaves-if _ _ _ (leaves->>= (leaves->>= (leaves-kept _) leaves-retire) (λ retired. leaves->>= (leaves-ask _) (leaves-settle cred))) (leaves-settle cred reply)
 
 leaves-begin_process : (cred : Credential) → Leaves (begin_process cred)
 unfolding begin_process
@@ -194,9 +198,9 @@ leaves-caller : (who : Option Credential) → Leaves (caller who)
 unfolding caller
 leaves-caller who = leaves->>= (leaves-needed _ who) (λ cred. leaves->>= (leaves-kept _) (leaves-or_spawned cred))
 
-leaves-unused_of : (cred : Credential) (many : Bool) → Leaves (unused_of cred many)
-leaves-unused_of cred true = leaves-stop _
-leaves-unused_of cred false = leaves->>= (leaves-kept _) (leaves-or_spawned cred)
+leaves-unused_of : (cred : Credential) (may : Bool) → Leaves (unused_of cred may)
+leaves-unused_of cred false = leaves-stop _
+leaves-unused_of cred true = leaves->>= (leaves-kept _) (leaves-or_spawned cred)
 
 leaves-or_unused : (cred : Credential) (o : Option ℕ) → Leaves (or_unused cred o)
 leaves-or_unused cred (Some pid) = leaves-give pid

@@ -3,7 +3,7 @@
 --     inside, between, done_between        a call in a directory, and in two
 --     by_places, on        a call by one place after another; on an object, by where it is known
 --     by_looker, look        a call on an object by the server's own process; what stat(2) shows of it
-use Rattle.std.specs.Prelude.{ℕ, zero, suc, ◌==◌, Bool, true, false, ◌&&◌, ◌||◌, List, [], ◌∷◌, codes, Option, None, Some, is_some, unwrap_or, Result, Ok, Err, if◌then◌else◌}
+use Rattle.std.specs.Prelude.{ℕ, zero, suc, ◌==◌, Bool, true, false, ◌&&◌, ◌||◌, List, [], ◌∷◌, length, codes, Option, None, Some, is_some, unwrap_or, Result, Ok, Err, if◌then◌else◌}
 use Rattle.fs_cred.specs.declared.errno.Errno.TheVariants.{EACCES, EAGAIN, ENOTDIR}
 use Rattle.fs_cred.specs.Credentials.{Credential}
 use Rattle.fs_model.specs.declared.call.Call.{Call}
@@ -13,23 +13,30 @@ use Rattle.fs_model.specs.declared.reply.FileType.{FileType}
 use Rattle.fs_model.specs.declared.reply.FileType.TheVariants.{Directory}
 use Rattle.fs_model.specs.declared.reply.Reply.{Reply}
 use Rattle.fs_model.specs.declared.reply.Status.{Status}
-use Rattle.fs_model.specs.Limits.{root, processes_limit}
+use Rattle.fs_model.specs.Limits.{root}
 use Rattle.fuse_plans.specs.declared.stop.Stop.{Stop}
 use Rattle.fuse_plans.specs.declared.stop.Stop.TheVariants.{Lacks}
 use Rattle.fuse_plans.specs.Stops.{failed, is_for}
 use Rattle.fuse_plans.specs.declared.stop.OtherErrno.TheVariants.{ENFILE, ESTALE}
-use Rattle.fuse_state.specs.Servers.{Server, number_of, kind_of, places_of, place_of, first_process, partly_used, idle_process, are_many, next_idle, with_process, without_process, owner_of, descriptor_of, handle_for}
+use Rattle.fuse_state.specs.Servers.{Server, number_of, kind_of, places_of, place_of, first_process, partly_used, idle_process, is_process, may_take_process, next_idle, with_process, without_process, owner_of, descriptor_of, handle_for}
 use Rattle.fuse_state.specs.declared.place.Place.{Place}
 use Rattle.fuse_plans.specs.Works.{Work, give, stop, kept, keep, ◌>>=◌, ◌>>◌, attempt, needed, ask, is_refused_for, unless_refused, obtain, unexpected, replied_pid, replied_status}
 
 -- ---- a process of it
 
+-- No two processes have one number.
+abbrev pub settle_new : Credential → ℕ → Bool → Work ℕ
+settle_new cred pid true = stop unexpected
+settle_new cred pid false = do
+  keep (with_process pid cred)
+  give pid
+
 abbrev pub settled : Credential → Reply → Work ℕ
 settled cred reply = do
   done ← unless_refused reply
   pid ← replied_pid done
-  keep (with_process pid cred)
-  give pid
+  taken ← kept (λ s. is_process s pid)
+  settle_new cred pid taken
 
 abbrev pub settle : Credential → Reply → Work ℕ
 settle cred reply = if is_refused_for EAGAIN reply then stop (Lacks ENFILE) else settled cred reply
@@ -47,10 +54,16 @@ unfoldable pub retire : ℕ → Work (Unit {0})
 retire zero = give tt
 retire (suc k) = kept (λ s. next_idle s 0) >>= retire_next (retire k)
 
+-- all those
+abbrev pub retire_idle : Work (Unit {0})
+retire_idle = do
+  count ← kept (λ s. length s.processes)
+  retire count
+
 -- there are no more of them
 abbrev pub spawn_again : Credential → Work ℕ
 spawn_again cred = do
-  retire processes_limit
+  retire_idle
   reply ← ask (Spawn cred)
   settle cred reply
 
@@ -73,17 +86,18 @@ caller who = do
   pid ← kept (λ s. first_process s cred)
   or_spawned cred pid
 
+-- one that holds no descriptor, where one more of the user may hold some
 abbrev pub unused_of : Credential → Bool → Work ℕ
-unused_of cred true = stop (Lacks ENFILE)
-unused_of cred false = do
+unused_of cred false = stop (Lacks ENFILE)
+unused_of cred true = do
   pid ← kept (λ s. idle_process s cred)
   or_spawned cred pid
 
 abbrev pub or_unused : Credential → Option ℕ → Work ℕ
 or_unused cred (Some pid) = give pid
 or_unused cred None = do
-  many ← kept (λ s. are_many s cred)
-  unused_of cred many
+  may ← kept (λ s. may_take_process s cred.uid)
+  unused_of cred may
 
 unfoldable pub caller_with_room : Option Credential → Work ℕ
 caller_with_room who = do

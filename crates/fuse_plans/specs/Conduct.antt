@@ -3,10 +3,10 @@
 --     Rights        for whom it is done, and on what
 --     MayCall, MayAsk, conduct        what may be asked
 --     IsDone        how it ends
-use Rattle.std.specs.Prelude.{◌≡◌, ℕ, ◌==◌, Bool, true, false, not, ◌&&◌, List, Option, None, Some, IsTrue}
+use Rattle.std.specs.Prelude.{◌≡◌, ℕ, ◌==◌, Bool, true, false, not, ◌&&◌, List, Option, None, Some, is_some, IsTrue}
 use Rattle.std.specs.Ordering.{nat_cmp}
 use Rattle.fs_cred.specs.Credentials.{Credential}
-use Rattle.fs_layout.specs.Maps.{with_entry, without}
+use Rattle.fs_layout.specs.Maps.{get, with_entry, without}
 use Rattle.fs_model.specs.Limits.{root}
 use Rattle.fs_model.specs.declared.call.Call.{Call}
 use Rattle.fs_model.specs.declared.call.Call.TheVariants.{Open, Read, Write, Lseek, Close, Fstat, Lstat, Ftruncate, GetAcl, Readdir, Readlink, Chdir}
@@ -16,7 +16,7 @@ use Rattle.fs_model.specs.declared.reply.Reply.{Reply}
 use Rattle.fs_model.specs.declared.reply.Reply.TheVariants.{Pid, Refused}
 use Rattle.fuse_plans.specs.Plans.{Restraint}
 use Rattle.fuse_plans.specs.Acts.{Subject, Away, gone_to, Concerns}
-use Rattle.fuse_state.specs.Servers.{Server, is_process_of, owner_of, descriptor_of}
+use Rattle.fuse_state.specs.Servers.{Server, is_process_of, owner_of, descriptor_of, WithinShares}
 
 -- The process that has entered a directory and wasn't told to come back yet, if there is one; and the processes of callers.
 pub record Known : Type 0 where
@@ -120,8 +120,13 @@ away_after away there true reply = None
 away_after away there false (Refused r) = away
 away_after away there false _ = Some there
 
+-- No two processes have one number.
+abbrev pub after_begin : Known → Credential → ℕ → Bool → Known
+after_begin known cred pid true = known
+after_begin known cred pid false = record known { processes = with_entry nat_cmp known.processes pid cred }
+
 abbrev pub after_spawn : Known → Credential → Reply → Known
-after_spawn known cred (Pid pid) = record known { processes = with_entry nat_cmp known.processes pid cred }
+after_spawn known cred (Pid pid) = after_begin known cred pid (is_some (get nat_cmp known.processes pid))
 after_spawn known cred _ = known
 
 -- whatever is replied
@@ -138,9 +143,11 @@ known_after known _ reply = known
 abbrev pub conduct : Rights → Restraint Known
 conduct rights = record { after = known_after; may_ask = MayAsk rights }
 
--- Nobody is away, the server knows the processes, and P holds of what it knows.
+-- Nobody is away, the server knows the processes, and P holds of what it knows. No user holds more than it may, where that was so
+-- when the request began.
 pub record Fits (rights : Rights) (P : Server → Type 0) (known : Known) (s : Server) : Type 0 where
   pub home : known.away ≡ None
   pub processes : known.processes ≡ s.processes
   pub looker : s.looker ≡ rights.looker
+  pub shares : WithinShares rights.subject.start → WithinShares s
   pub holds : P s

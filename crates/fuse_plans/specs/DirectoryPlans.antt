@@ -1,9 +1,9 @@
 -- Plans of requests for directories. An open directory holds no descriptor of the machine.
---     open_directory, read_directory, close_directory
+--     open_directory, take_directory, read_directory, close_directory
 use Rattle.std.specs.Prelude.{ℕ, ◌+◌, ◌-◌, ◌==◌, nat_le, Bool, true, false, ◌||◌, List, [], ◌∷◌, drop, length, codes, bytes_eq, Option, Some, if◌then◌else◌}
 use Rattle.std.specs.List.{flat_map}
 use Rattle.posix_acl.specs.Entries.{perms_of}
-use Rattle.fs_cred.specs.declared.errno.Errno.TheVariants.{EBADF}
+use Rattle.fs_cred.specs.declared.errno.Errno.TheVariants.{EACCES, EBADF}
 use Rattle.fs_model.specs.declared.call.Call.TheVariants.{Open as OpenCall, Close, Readdir}
 use Rattle.fs_model.specs.declared.event.Event.TheVariants.{Call as Calls, Sync}
 use Rattle.fuse_plans.specs.declared.stop.Stop.TheVariants.{Lacks}
@@ -17,7 +17,7 @@ use Rattle.fuse_protocol.specs.declared.operation.Extent.{Extent}
 use Rattle.fuse_protocol.specs.Entries.{directory_entry_bytes, entry_size}
 use Rattle.fuse_plans.specs.declared.reply.ReplyBody.{ReplyBody}
 use Rattle.fuse_plans.specs.declared.reply.ReplyBody.TheVariants.{Nothing, Opened, Bytes}
-use Rattle.fuse_state.specs.Servers.{are_directories_full, directory_of, with_directory, opened, without_directory}
+use Rattle.fuse_state.specs.Servers.{may_open_directory, directory_of, opened, with_listing, without_directory}
 use Rattle.fuse_state.specs.declared.directory.OpenDirectory.{OpenDirectory}
 use Rattle.fuse_plans.specs.Works.{Work, give, stop, kept, keep, ◌>>=◌, ◌>>◌, attempt, needed, obtain, or_closed, replied_fd, replied_names}
 use Rattle.fuse_plans.specs.Callers.{the_looker, has_place, on, the_number, directory_number}
@@ -25,17 +25,27 @@ use Rattle.fuse_plans.specs.Flags.{listing}
 use Rattle.fuse_plans.specs.FilePlans.{when}
 use Rattle.fuse_plans.specs.AttributePlans.{access_as}
 
+abbrev pub take_directory_if : ℕ → ℕ → Bool → Work ReplyBody
+take_directory_if uid n false = stop (Lacks ENFILE)
+take_directory_if uid n true = do
+  handle ← kept (λ s. s.next_directory)
+  keep (opened uid n)
+  give (Opened handle)
+
+-- where the user may open one more
+unfoldable pub take_directory : ℕ → ℕ → Work ReplyBody
+take_directory uid n = do
+  may ← kept (λ s. may_open_directory s uid)
+  take_directory_if uid n may
+
 -- Asks for reading, as who asks; of a directory that was removed nothing is asked.
 abbrev pub open_directory : Asked → Work ReplyBody
 open_directory r = do
   n ← directory_number r.node
-  full ← kept (λ s. are_directories_full s)
-  when full (stop (Lacks ENFILE))
+  cred ← needed (failed EACCES) r.cred
   placed ← kept (λ s. has_place s n)
   when placed (access_as r.cred n (perms_of 4))
-  handle ← kept (λ s. s.next_directory)
-  keep (opened n)
-  give (Opened handle)
+  take_directory cred.uid n
 
 -- ---- listings
 
@@ -95,7 +105,7 @@ list_now node handle number = do
   only_number number n
   placed ← kept (λ s. has_place s n)
   names ← list_all n placed
-  keep (with_directory handle (record { number = n; listing = Some names }))
+  keep (with_listing handle names)
   give names
 
 -- at the beginning it is listed anew

@@ -31,7 +31,7 @@ use Rattle.fuse_plans.specs.declared.reply.ReplyBody.{ReplyBody}
 use Rattle.fuse_plans.specs.declared.reply.ReplyBody.TheVariants.{Found, Opened, Created}
 use Rattle.fuse_plans.specs.declared.reply.Response.{Response}
 use Rattle.fuse_plans.specs.declared.reply.Response.TheVariants.{Says, Fails}
-use Rattle.fuse_state.specs.Servers.{Server, number_of, owner_of, descriptor_of, object_of}
+use Rattle.fuse_state.specs.Servers.{Server, number_of, owner_of, descriptor_of, object_of, WithinShares}
 use Rattle.fuse_state.specs.Changes.{is_gone}
 use Rattle.fuse_plans.specs.Acts.{Subject}
 use Rattle.fuse_plans.specs.Conduct.{Known, Rights, conduct}
@@ -73,11 +73,12 @@ rights_of r s =
 abbrev pub known_in : Server → Known
 known_in s = record { away = None; processes = s.processes }
 
--- Nobody is away, and the server knows which processes there are.
+-- Nobody is away, and the server knows which processes there are. No user holds more than it may, where that was so before.
 pub record Ends (s : Server) (known : Known) (r : Response × Server) : Type 0 where
   pub home : known.away ≡ None
   pub processes : known.processes ≡ r.1.processes
   pub looker : r.1.looker ≡ s.looker
+  pub shares : WithinShares s → WithinShares r.1
 
 -- Each request but the first: who calls, and on what; and in the end all stand at the root.
 abbrev pub RequestsBehave : Type 0
@@ -93,6 +94,7 @@ server_rights r s =
 pub record Begun (s : Server) (known : Known) (r : Response × Server) : Type 0 where
   pub home : known.away ≡ None
   pub processes : r.1.processes ≡ s.processes
+  pub shares : WithinShares s → WithinShares r.1
 
 -- The first request.
 abbrev pub BeginningBehaves : Type 0

@@ -16,3 +16,4 @@ pub mod Protocol
 pub mod Acts
 pub mod Conduct
 pub mod Laws
+pub mod ShareLaws

@@ -1,4 +1,5 @@
 //! The laws of the plans: each is the contract of a function that does nothing.
+ghost use Rattle.fuse_plans.specs.ShareLaws.{RequestsKeepShares, ProcessesAreFound, DirectoriesAreFound};
 ghost use Rattle.fuse_plans.specs.Laws.{BeginningBehaves, JudgedLookupsAreGranted, OpenedIsTheObject, RequestsBehave, RunsBehave, ToldNodesLeadToObjects, WhoAsksCountsOnlyWhereNeeded};
 
 /// Whatever the machine replies, no request but the first is performed with more than the rights of who asks.
@@ -55,4 +56,16 @@ pub fn who_asks_counts_only_where_needed()
 /// Linux asks the entry for others there. And the machine may refuse the server's own process.
 pub fn judged_lookups_are_granted()
     ensures { JudgedLookupsAreGranted }
+{}
+
+/// Whatever the machine replies to requests, no user holds more processes or open directories than it may: others find theirs.
+///
+/// A user who has no file open finds a process for one, as long as fewer than 12 users have files open; and user 0 does, as long as
+/// fewer than 4 of its processes have some. That needs a machine that refuses processes only where it has 64. For what opens nothing
+/// each user finds a process. A user who has no directory open may open one, as long as fewer than 40 users have; and user 0 may, as
+/// long as it has fewer than 16.
+pub fn shares_are_found()
+    ensures kept { RequestsKeepShares }
+    ensures processes { ProcessesAreFound }
+    ensures directories { DirectoriesAreFound }
 {}

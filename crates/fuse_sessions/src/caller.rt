@@ -1,8 +1,7 @@
 //! Processes of who asks.
 ghost use Rattle.std.specs.Prelude.{◌≡◌, ◌+◌, ◌≤◌, None, Ok};
-ghost use Rattle.fs_model.specs.Limits.{processes_limit};
 ghost use Rattle.fs_model.specs.declared.event.Event.TheVariants.{Spawn};
-ghost use Rattle.fuse_plans.specs.Callers.{settle, retire, spawn_again, begin_process, caller, or_spawned, or_unused, caller_with_room, the_looker};
+ghost use Rattle.fuse_plans.specs.Callers.{settle, retire_idle, spawn_again, begin_process, caller, or_spawned, or_unused, caller_with_room, the_looker};
 ghost use Rattle.fuse_sessions.specs.Performing.{Did};
 ghost use Rattle.fuse_steps.specs.Performing.{DidByMachine};
 ghost use Rattle.fuse_plans.specs.Works.{ask, is_refused_for};
@@ -14,9 +13,6 @@ use fuse_plans::Stop;
 use fuse_steps::Machine;
 use fuse_steps::asker::{ask, unless_refused};
 use fuse_steps::replies::pid_of_reply;
-
-// More processes than these there aren't.
-const MAX_PROCESSES: usize = 64;
 
 // Whether the machine refuses with this error.
 fn is_refused_for(errno: Errno, reply: &Reply) -> bool
@@ -52,16 +48,20 @@ impl<M: Machine> Session<M> {
         let Some(pid) = pid else {
             return Err(Stop::EIO);
         };
+        if self.server.is_process(pid) {
+            return Err(Stop::EIO);
+        }
         self.server.add_process(pid, cred);
         Ok(pid)
     }
 
-    // Processes that hold no descriptor end.
+    // Processes that hold no descriptor end: as many as there are at most.
     fn retire(&mut self)
-        ensures did { Did M.Serves (retire processes_limit) self.old self.new (Ok tt) }
+        ensures did { Did M.Serves retire_idle self.old self.new (Ok tt) }
         ensures room { self.old.server.room ≤ self.new.server.room }
     {
-        for _round in 0..MAX_PROCESSES {
+        let count = self.server.process_count();
+        for _round in 0..count {
             let Some(pid) = self.server.next_idle(0) else {
                 return;
             };
@@ -122,13 +122,13 @@ impl<M: Machine> Session<M> {
         self.or_spawned(cred, pid)
     }
 
-    // A process that holds no descriptor, unless too many hold some.
+    // A process that holds no descriptor, where one more of its user may hold some.
     fn unused(&mut self, cred: Cred) -> Result<usize, Stop>
         requires { 1 ≤ self.old.server.room }
         ensures did { Did M.Serves (or_unused cred None) self.old self.new result }
         ensures room { self.old.server.room ≤ self.new.server.room + 1 }
     {
-        if self.server.are_many(&cred) {
+        if !self.server.may_take_process(cred.uid()) {
             return Err(Stop::ENFILE);
         }
         let pid = self.server.idle_process(&cred);

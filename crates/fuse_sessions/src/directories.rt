@@ -1,7 +1,7 @@
 //! Requests for directories. An open one holds no descriptor of the machine.
 ghost use Rattle.std.specs.Prelude.{◌≡◌, ◌≤◌, [], vec_capacity, true};
 ghost use Rattle.fuse_plans.specs.Callers.{has_place};
-ghost use Rattle.fuse_plans.specs.DirectoryPlans.{open_directory, tell_names, list_open, list_and_close, list_all, tell_now, read_directory, close_directory};
+ghost use Rattle.fuse_plans.specs.DirectoryPlans.{open_directory, take_directory, tell_names, list_open, list_and_close, list_all, tell_now, read_directory, close_directory};
 ghost use Rattle.fuse_sessions.specs.Performing.{Did};
 ghost use Rattle.fuse_steps.specs.Performing.{DidByMachine};
 
@@ -11,7 +11,6 @@ use fs_cred::Cred;
 use fs_model::{Call, Listing};
 use fuse_plans::{Asked, ReplyBody, Stop};
 use fuse_protocol::Extent;
-use fuse_state::OpenDirectory;
 use fuse_steps::Machine;
 use fuse_steps::asker::{obtain_once, or_closed};
 use fuse_steps::flags::listing;
@@ -56,13 +55,25 @@ impl<M: Machine> Session<M> {
         ensures { Did M.Serves (open_directory asked.entry.now) self.old self.new result }
     {
         let inode = self.directory_number(asked.node)?;
-        if self.server.are_directories_full() {
-            return Err(Stop::ENFILE);
-        }
+        let Some(cred) = &copy else {
+            return Err(Stop::EACCES);
+        };
+        let owner = cred.uid();
         let is_placed = has_place(&self.server, inode);
         self.access_if(is_placed, copy, inode, Perms::from_digit(4))?;
+        self.take_directory(owner, inode)
+    }
+
+    // Where the user may open one more.
+    fn take_directory(&mut self, owner: u32, inode: u32) -> Result<ReplyBody, Stop>
+        requires { 1 ≤ self.old.server.room }
+        ensures { Did M.Serves (take_directory owner inode) self.old self.new result }
+    {
+        if !self.server.may_open_directory(owner) {
+            return Err(Stop::ENFILE);
+        }
         let handle = self.server.next_directory();
-        self.server.add_directory(inode);
+        self.server.add_directory(owner, inode);
         Ok(ReplyBody::Opened(handle))
     }
 
@@ -138,11 +149,7 @@ impl<M: Machine> Session<M> {
         }
         let names = self.list_placed(inode)?;
         let bytes = listing_bytes(extent, &names, room);
-        let listed = OpenDirectory {
-            number: inode,
-            listing: Some(names),
-        };
-        self.server.set_directory(extent.handle, listed);
+        self.server.set_listing(extent.handle, names);
         Ok(ReplyBody::Bytes(bytes))
     }
 

@@ -1,13 +1,13 @@
 -- Keys that are chosen from a map, by themselves and by what they have.
-use Rattle.std.specs.Prelude.{◌≡◌, ◌==◌, ℕ, zero, suc, ◌<◌, ◌≤◌, nat_le, Bool, true, false, not, ◌&&◌, ◌||◌, cond, List, [], ◌∷◌, map, length, get_or, option_map, Option, None, Some, MatchOption, IsSomeAnd, refl}
+use Rattle.std.specs.Prelude.{◌≡◌, ◌==◌, ℕ, zero, suc, ◌<◌, nat_le, Bool, true, false, not, ◌&&◌, cond, List, [], ◌∷◌, map, length, get_or, option_map, Option, None, Some, MatchOption, IsSomeAnd, refl}
 use Rattle.std.proofs.Common.{sym, ap, ◌∙◌, arith}
-use Rattle.std.proofs.lemmas.Bool.Decides.{nat_tests}
-use Rattle.std.proofs.lemmas.List.{length-map}
 use Rattle.std.specs.Ordering.{nat_cmp}
 use Rattle.std.specs.List.{filter, find}
 use Rattle.fs_cred.specs.Credentials.{Credential}
 use Rattle.fs_layout.specs.Maps.{get, IsMap}
-use Rattle.fuse_state.specs.Servers.{Server, first_of, has_credential, is_same_credential, all_processes, processes_of, first_process, next_idle, holds_some, busy, handle_for}
+use Rattle.fuse_state.specs.Servers.{Server, first_of, has_credential, is_same_credential, processes_of, first_process, next_idle, holds_some, handle_for}
+use Rattle.fuse_state.specs.Shares.{count_of}
+use Rattle.fuse_state.proofs.KeptShares.{count_cons}
 use Rattle.fuse_state.proofs.Searched.{found_each}
 
 -- what `map` makes of what was found
@@ -77,14 +77,6 @@ module _ {X : Type 0} where
       → filter (λ k. test (get nat_cmp m k)) (keys m) ≡ keys (filter (λ e. test (Some e.1)) m)
   chosen-keys test m h = chosen_by (get nat_cmp m) test m (found_each m h)
 
--- ---- whether numbers reach limits
-
-pub many_first : (r n a : ℕ) (y : Bool) → r ≡ n → a ≤ r → nat_le a r ≡ (nat_le a n || y)
-many_first r n a y same le = grind (arith, nat_tests)
-
-pub many_other : (r n a q m b : ℕ) → r ≡ n → q ≡ m → r < a → nat_le b q ≡ (nat_le a n || nat_le b m)
-many_other r n a q m b same also lt = grind (arith, nat_tests)
-
 -- ---- processes
 
 module _ (s : Server) (cred : Credential) (h : IsMap nat_cmp s.processes) where
@@ -102,10 +94,6 @@ module _ (s : Server) (cred : Credential) (h : IsMap nat_cmp s.processes) where
       → option_map (λ e. e.0) (find (λ e. is_same_credential cred e.1 && test e.0) s.processes) ≡ first_of (filter test (processes_of s cred))
   passing_found test = sym (ap first_of (passing test) ∙ first-chosen (λ e. is_same_credential cred e.1 && test e.0) s.processes)
 
-  pub passing_counted : (test : ℕ → Bool)
-      → length (filter (λ e. is_same_credential cred e.1 && test e.0) s.processes) ≡ length (filter test (processes_of s cred))
-  passing_counted test = sym (ap length (passing test) ∙ length-map (filter (λ e. is_same_credential cred e.1 && test e.0) s.processes) (λ e. e.0))
-
 module _ (s : Server) where
   pub handle_found : (n : ℕ) → option_map (λ e. e.0) (find (λ e. e.1 == n) s.handles) ≡ handle_for s n
   handle_found n = sym (first-chosen (λ e. e.1 == n) s.handles)
@@ -117,5 +105,30 @@ module _ (s : Server) where
       ∙ ap first_of (filter-chosen idle_test (λ e. nat_le least e.0) s.processes)
       ∙ first-chosen (λ e. nat_le least e.0 && not (holds_some s e.0)) s.processes)
 
-  pub busy_counted : length (filter (λ e. holds_some s e.0) s.processes) ≡ length (busy s (all_processes s))
-  busy_counted = sym (ap length (filter-keys (holds_some s) s.processes) ∙ length-map (filter (λ e. holds_some s e.0) s.processes) (λ e. e.0))
+-- ---- users
+
+module _ {X : Type 0} (user : X → ℕ) (uid : ℕ) where
+  -- how many are a user's, of what is counted
+  pub counted_of : (xs : List X) → length (filter (λ x. user x == uid) xs) ≡ count_of (map user xs) uid
+  counted_of [] = refl
+  counted_of (x ∷ xs) = go (user x == uid) (counted_of xs)
+    where
+      go : (b : Bool) → length (filter (λ y. user y == uid) xs) ≡ count_of (map user xs) uid
+          → length (cond b (x ∷ filter (λ y. user y == uid) xs) (filter (λ y. user y == uid) xs))
+          ≡ length (cond b (user x ∷ filter (λ u. u == uid) (map user xs)) (filter (λ u. u == uid) (map user xs)))
+      go true rest = ap suc rest
+      go false rest = rest
+
+  -- and of those that are chosen
+  pub counted_chosen : (chosen : X → Bool) (xs : List X) → length (filter (λ x. chosen x && user x == uid) xs) ≡ count_of (map user (filter chosen xs)) uid
+  counted_chosen chosen [] = refl
+  counted_chosen chosen (x ∷ xs) = go (chosen x) (user x == uid) refl (counted_chosen chosen xs)
+    where
+      both : X → Bool
+      both y = chosen y && user y == uid
+
+      go : (b c : Bool) → (user x == uid) ≡ c → length (filter both xs) ≡ count_of (map user (filter chosen xs)) uid
+          → length (cond (b && c) (x ∷ filter both xs) (filter both xs)) ≡ count_of (map user (cond b (x ∷ filter chosen xs) (filter chosen xs))) uid
+      go false c is rest = rest
+      go true true is rest = ap suc rest ∙ sym (count_cons _ (map user (filter chosen xs)) uid ∙ ap (λ b. cond b (suc (count_of (map user (filter chosen xs)) uid)) (count_of (map user (filter chosen xs)) uid)) is)
+      go true false is rest = rest ∙ sym (count_cons _ (map user (filter chosen xs)) uid ∙ ap (λ b. cond b (suc (count_of (map user (filter chosen xs)) uid)) (count_of (map user (filter chosen xs)) uid)) is)

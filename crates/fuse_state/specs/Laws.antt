@@ -3,13 +3,17 @@
 --     NodesLeadBack, StaleNodesLeadNowhere, NewNodesLedNowhere, OtherNodesStay        nodes
 --     FoundNodesLeadBack, GoneNodesLeadNowhere, FoundNodesLedNowhere, KnownNodesStay, OtherNodesStayThen        nodes of what is found
 --     NamesAreKept, LatestNameIsThePlace        names
-use Rattle.std.specs.Prelude.{◌≡◌, ◌≢◌, ℕ, ◌<◌, ◌^◌, None, Some, IsSome, IsTrue, IsFalse}
+--     NewServersKeepShares, OneMoreKeepsShares, OneFewerKeepsShares, FurtherUsersMayHold, RootMayHold        shares
+use Rattle.std.specs.Prelude.{◌≡◌, ◌≢◌, ℕ, ◌<◌, ◌^◌, true, List, length, None, Some, IsSome, IsTrue, IsFalse}
 use Rattle.fs_model.specs.Limits.{descriptors_limit}
 use Rattle.fs_model.specs.declared.reply.FileType.{FileType}
 use Rattle.fuse_protocol.specs.declared.reply.Time.{Time}
 use Rattle.fuse_state.specs.declared.place.Place.{Place}
+use Rattle.fuse_state.specs.declared.settings.Settings.{Settings}
+use Rattle.fuse_state.specs.declared.shares.Shares.{Shares}
+use Rattle.fuse_state.specs.Shares.{count_of, may_hold, HasEach, KeepsShares, OneMore}
 use Rattle.fuse_state.specs.Changes.{is_gone, found}
-use Rattle.fuse_state.specs.Servers.{Server, generation_of, kind_of, node_of, number_of, named, place_of, with_name, without_name, born, handle_of, owner_of, descriptor_of}
+use Rattle.fuse_state.specs.Servers.{Server, new_server, WithinShares, generation_of, kind_of, node_of, number_of, named, place_of, with_name, without_name, born, handle_of, owner_of, descriptor_of}
 
 abbrev pub HandlesTellDescriptors : Type 0
 HandlesTellDescriptors = (pid fd : ℕ) → fd < descriptors_limit → (owner_of (handle_of pid fd) ≡ pid) × (descriptor_of (handle_of pid fd) ≡ fd)
@@ -75,3 +79,26 @@ NamesAreKept = (s : Server) (p : Place) (n : ℕ) (kind : FileType) → KeepsNam
 
 abbrev pub LatestNameIsThePlace : Type 0
 LatestNameIsThePlace = (s : Server) (p : Place) (n : ℕ) (kind : FileType) → place_of (with_name p n kind s) n ≡ Some p
+
+-- ---- shares
+
+-- a server that begins
+abbrev pub NewServersKeepShares : Type 0
+NewServersKeepShares = (settings : Settings) → WithinShares (new_server settings)
+
+-- where one more is held by who may, and where one is held no more
+abbrev pub OneMoreKeepsShares : Type 0
+OneMoreKeepsShares =
+    (shares : Shares) (uid : ℕ) (fewer more : List ℕ) → OneMore uid fewer more → KeepsShares shares fewer → may_hold shares fewer uid ≡ true → KeepsShares shares more
+
+abbrev pub OneFewerKeepsShares : Type 0
+OneFewerKeepsShares = (shares : Shares) (uid : ℕ) (fewer more : List ℕ) → OneMore uid fewer more → KeepsShares shares more → KeepsShares shares fewer
+
+-- A further user may hold one, as long as not too many users do; and user 0 may, as long as it doesn't hold its own part.
+abbrev pub FurtherUsersMayHold : Type 0
+FurtherUsersMayHold =
+    (shares : Shares) (holders : List ℕ) (uid : ℕ) → KeepsShares shares holders → 0 < uid → count_of holders uid ≡ 0 → (users : List ℕ)
+    → HasEach users holders → length users < shares.firsts → may_hold shares holders uid ≡ true
+
+abbrev pub RootMayHold : Type 0
+RootMayHold = (shares : Shares) (holders : List ℕ) → count_of holders 0 < shares.of_root → may_hold shares holders 0 ≡ true

@@ -1,3 +1,4 @@
+pub mod Shares
 pub mod Servers
 pub mod Changes
 pub mod Tables

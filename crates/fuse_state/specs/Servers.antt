@@ -6,17 +6,21 @@
 --     times_of, touched, changed        times of objects
 --     processes_of, held_by, ..        processes, and the descriptors that they hold
 --     owner_of, descriptor_of, handle_of        a handle is a process and one of its descriptors
---     opened, with_directory, without_directory        open directories
-use Rattle.std.specs.Prelude.{ℕ, ◌+◌, ◌*◌, ◌/◌, ◌%◌, ◌^◌, ◌==◌, nat_eq, nat_lt, nat_le, Bool, true, false, not, ◌&&◌, ◌||◌, List, [], ◌∷◌, ◌++◌, length, map, reverse, take, bytes_eq, Option, None, Some, is_some, unwrap_or, option_map, if◌then◌else◌}
+--     process_holders, directory_holders        whose processes hold descriptors, and who has opened directories
+--     may_take_process, may_open_directory        whether a user may hold one more
+--     opened, with_listing, without_directory        open directories
+--     WithinShares        none holds more than it may
+use Rattle.std.specs.Prelude.{◌≡◌, ℕ, ◌+◌, ◌*◌, ◌/◌, ◌%◌, ◌^◌, ◌==◌, ◌≤◌, nat_eq, nat_lt, nat_le, Bool, true, false, not, ◌&&◌, List, [], ◌∷◌, ◌++◌, length, map, reverse, take, bytes_eq, Option, None, Some, is_some, unwrap_or, option_map, if◌then◌else◌}
 use Rattle.std.specs.Ordering.{nat_cmp}
 use Rattle.std.specs.List.{filter, find}
 use Rattle.std.specs.Cmp.Lexicographic.{pointwise}
 use Rattle.fs_cred.specs.Credentials.{Credential}
-use Rattle.fs_layout.specs.Maps.{get, with_entry, without}
+use Rattle.fs_layout.specs.Maps.{get, with_entry, without, IsMap}
 use Rattle.fs_model.specs.Limits.{root, descriptors_limit}
 use Rattle.fs_model.specs.declared.reply.FileType.{FileType}
 use Rattle.fs_model.specs.declared.reply.FileType.TheVariants.{Directory}
 use Rattle.fuse_protocol.specs.declared.reply.Time.{Time}
+use Rattle.fuse_state.specs.Shares.{process_shares, directory_shares, may_hold, KeepsShares}
 use Rattle.fuse_state.specs.declared.directory.OpenDirectory.{OpenDirectory}
 use Rattle.fuse_state.specs.declared.place.Place.{Place}
 use Rattle.fuse_state.specs.declared.place.Found.{Found}
@@ -158,6 +162,9 @@ has_credential cred (Some other) = is_same_credential cred other
 abbrev pub is_process_of : List (ℕ × Credential) → Credential → ℕ → Bool
 is_process_of processes cred pid = has_credential cred (get nat_cmp processes pid)
 
+abbrev pub is_process : Server → ℕ → Bool
+is_process s pid = is_some (get nat_cmp s.processes pid)
+
 abbrev pub all_processes : Server → List ℕ
 all_processes s = map (λ e. e.0) s.processes
 
@@ -200,8 +207,6 @@ has_room s pid = holds_some s pid && nat_lt (held_by s pid) descriptors_limit
 abbrev pub idle : Server → List ℕ → List ℕ
 idle s pids = filter (λ pid. not (holds_some s pid)) pids
 
-abbrev pub busy : Server → List ℕ → List ℕ
-busy s pids = filter (holds_some s) pids
 
 abbrev pub first_process : Server → Credential → Option ℕ
 first_process s cred = first_of (processes_of s cred)
@@ -217,16 +222,13 @@ idle_process s cred = first_of (idle s (processes_of s cred))
 abbrev pub next_idle : Server → ℕ → Option ℕ
 next_idle s least = first_of (idle s (filter (nat_le least) (all_processes s)))
 
--- of all, and of one credential: our own rule, so that others always find a process
-abbrev pub busy_limit : ℕ
-busy_limit = 48
+-- the users of the processes that hold some, with an entry for each process
+abbrev pub process_holders : Server → List ℕ
+process_holders s = map (λ e. e.1.uid) (filter (λ e. holds_some s e.0) s.processes)
 
-abbrev pub busy_limit_of_one : ℕ
-busy_limit_of_one = 32
-
-abbrev pub are_many : Server → Credential → Bool
-are_many s cred =
-    nat_le busy_limit (length (busy s (all_processes s))) || nat_le busy_limit_of_one (length (busy s (processes_of s cred)))
+-- one more process of the user may hold some: our own rule, so that others find a process
+abbrev pub may_take_process : Server → ℕ → Bool
+may_take_process s uid = may_hold process_shares (process_holders s) uid
 
 -- the object of a handle
 abbrev pub object_of : Server → ℕ → Option ℕ
@@ -244,12 +246,13 @@ without_handle handle s = record s { handles = without nat_cmp s.handles handle 
 
 -- ---- open directories
 
--- our own limit on them
-abbrev pub directories_limit : ℕ
-directories_limit = 256
+-- the users who opened them, with an entry for each directory
+abbrev pub directory_holders : Server → List ℕ
+directory_holders s = map (λ e. e.1.owner) s.directories
 
-abbrev pub are_directories_full : Server → Bool
-are_directories_full s = nat_le directories_limit (length s.directories)
+-- the user may open one more: our own rule, as for processes
+abbrev pub may_open_directory : Server → ℕ → Bool
+may_open_directory s uid = may_hold directory_shares (directory_holders s) uid
 
 abbrev pub directory_of : Server → ℕ → Option OpenDirectory
 directory_of s handle = get nat_cmp s.directories handle
@@ -257,12 +260,32 @@ directory_of s handle = get nat_cmp s.directories handle
 abbrev pub with_directory : ℕ → OpenDirectory → Server → Server
 with_directory handle d s = record s { directories = with_entry nat_cmp s.directories handle d }
 
-abbrev pub opened : ℕ → Server → Server
-opened n s =
-    record (with_directory s.next_directory (record { number = n; listing = None }) s) { next_directory = s.next_directory + 1 }
+-- a user opens it
+abbrev pub opened : ℕ → ℕ → Server → Server
+opened uid n s =
+    record (with_directory s.next_directory (record { number = n; owner = uid; listing = None }) s) { next_directory = s.next_directory + 1 }
+
+abbrev pub with_listing_of : ℕ → List (List ℕ × ℕ) → Option OpenDirectory → Server → Server
+with_listing_of handle names None s = s
+with_listing_of handle names (Some d) s = with_directory handle (record d { listing = Some names }) s
+
+-- what is open there was listed
+abbrev pub with_listing : ℕ → List (List ℕ × ℕ) → Server → Server
+with_listing handle names s = with_listing_of handle names (directory_of s handle) s
 
 abbrev pub without_directory : ℕ → Server → Server
 without_directory handle s = record s { directories = without nat_cmp s.directories handle }
+
+-- ---- shares
+
+-- None holds more processes or directories than it may; who holds a descriptor is known; and the next handle of a directory is free.
+pub record WithinShares (s : Server) : Type 0 where
+  pub rising : IsMap nat_cmp s.processes
+  pub known : (pid : ℕ) → get nat_cmp s.processes pid ≡ None → holds_some s pid ≡ false
+  pub processes : KeepsShares process_shares (process_holders s)
+  pub directories_rising : IsMap nat_cmp s.directories
+  pub behind : (handle : ℕ) → s.next_directory ≤ handle → directory_of s handle ≡ None
+  pub directories : KeepsShares directory_shares (directory_holders s)
 
 -- ---- the end
 

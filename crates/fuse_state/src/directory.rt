@@ -7,6 +7,8 @@ use fs_model::Listing;
 pub struct OpenDirectory {
     /// The number of its inode.
     pub number: u32,
+    /// The user who opened it.
+    pub owner: u32,
     /// The listing that was made of it last.
     pub listing: Option<Listing>,
 }

@@ -1,5 +1,5 @@
 //! Laws of what a server keeps, each proved by a function that does nothing: its contract is the law.
-ghost use Rattle.fuse_state.specs.Laws.{HandlesTellDescriptors, NodesLeadBack, StaleNodesLeadNowhere, NewNodesLedNowhere, OtherNodesStay, FoundNodesLeadBack, GoneNodesLeadNowhere, FoundNodesLedNowhere, KnownNodesStay, OtherNodesStayThen, NamesAreKept, LatestNameIsThePlace};
+ghost use Rattle.fuse_state.specs.Laws.{HandlesTellDescriptors, NodesLeadBack, StaleNodesLeadNowhere, NewNodesLedNowhere, OtherNodesStay, FoundNodesLeadBack, GoneNodesLeadNowhere, FoundNodesLedNowhere, KnownNodesStay, OtherNodesStayThen, NamesAreKept, LatestNameIsThePlace, NewServersKeepShares, OneMoreKeepsShares, OneFewerKeepsShares, FurtherUsersMayHold, RootMayHold};
 
 /// A handle tells its process and its descriptor: no two of these have the same.
 pub fn handles_tell_descriptors()
@@ -33,4 +33,17 @@ pub fn found_nodes_lead_to_objects()
 pub fn names_are_kept()
     ensures names { NamesAreKept }
     ensures place { LatestNameIsThePlace }
+{}
+
+/// As long as each user takes only what it may, others find some.
+///
+/// The first of each further user is kept, while not too many users hold some; and a part for user 0, however much of the rest it
+/// holds. What is kept is never taken by others: that is so of a server that begins, and stays so where one more is held by who may,
+/// and where one is held no more.
+pub fn shares_are_kept()
+    ensures begin { NewServersKeepShares }
+    ensures more { OneMoreKeepsShares }
+    ensures fewer { OneFewerKeepsShares }
+    ensures further { FurtherUsersMayHold }
+    ensures root { RootMayHold }
 {}

@@ -11,6 +11,7 @@ mod laws;
 mod place;
 mod server;
 mod settings;
+mod shares;
 mod table;
 mod times;
 
@@ -18,8 +19,10 @@ pub use directory::OpenDirectory;
 pub use handle::{descriptor_of, handle_of, owner_of};
 pub use laws::{
     found_nodes_lead_to_objects, handles_tell_descriptors, names_are_kept, nodes_lead_to_objects,
+    shares_are_kept,
 };
 pub use place::{Found, Lent, Place};
-pub use server::{MAX_DIRECTORIES, REQUEST_ROOM, Server};
+pub use server::{REQUEST_ROOM, Server};
 pub use settings::Settings;
+pub use shares::Shares;
 pub use times::Times;

@@ -15,7 +15,6 @@ use crate::place::Found;
 use crate::settings::Settings;
 use crate::table::Table;
 use crate::times::Times;
-pub use directories::MAX_DIRECTORIES;
 use fs_cred::Cred;
 use fs_layout::ROOT;
 use fs_model::FileType;

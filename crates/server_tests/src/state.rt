@@ -1,10 +1,8 @@
 //! What no clause says: which answers follow which changes, and where the limits are.
 use fs_cred::{Cred, CredFault};
-use fs_model::{FileType, Name};
+use fs_model::{FileType, Listing, Name};
 use fuse_protocol::Time;
-use fuse_state::{
-    OpenDirectory, Place, Server, Settings, Times, descriptor_of, handle_of, owner_of,
-};
+use fuse_state::{Place, Server, Settings, Times, descriptor_of, handle_of, owner_of};
 use std::alloc::{AllocError, Global};
 use std::test::Fail;
 
@@ -399,15 +397,17 @@ enum Use {
     PartlyUsed(u32),
     Idle(u32),
     NextIdle(u32),
-    AreMany(u32),
+    MayTake(u32),
     Object(u32, u32),
     HandleFor(u32),
-    // So many times a directory is opened: the last handle.
-    OpensDirectory(u32, u32),
-    SetsDirectory(u64, u32),
+    // So many times a user opens a directory: the last handle.
+    OpensDirectory(u32, u32, u32),
+    ListsDirectory(u64),
     ClosesDirectory(u64),
     DirectoryAt(u64),
-    AreFull,
+    // Whose directory it is.
+    OwnerAt(u64),
+    MayOpen(u32),
     Looks(u32),
     Looker,
     Ends,
@@ -460,31 +460,36 @@ fn asked(server: &Server, alloc: Global, step: Use, uid: u32) -> Result<u64, Cre
     Ok(match step {
         Use::First(_) => process(server.first_process(&cred)),
         Use::PartlyUsed(_) => process(server.partly_used(&cred)),
-        Use::Idle(_) => process(server.idle_process(&cred)),
-        _ => u64::from(server.are_many(&cred)),
+        _ => process(server.idle_process(&cred)),
     })
 }
 
-fn opens_directory(server: &mut Server, count: u32, inode: u32) -> Result<u64, CredFault> {
+fn opens_directory(
+    server: &mut Server,
+    uid: u32,
+    count: u32,
+    inode: u32,
+) -> Result<u64, CredFault> {
     let mut handle = 0;
     for _ in 0..count {
         server.prepare()?;
         handle = server.next_directory();
-        server.add_directory(inode);
+        server.add_directory(uid, inode);
     }
     Ok(handle)
 }
 
-fn sets_directory(server: &mut Server, handle: u64, number: u32) -> Result<u64, CredFault> {
+fn lists_directory(server: &mut Server, alloc: Global, handle: u64) -> Result<u64, CredFault> {
     server.prepare()?;
-    server.set_directory(
-        handle,
-        OpenDirectory {
-            number,
-            listing: None,
-        },
-    );
+    server.set_listing(handle, Listing::new(Vec::new(alloc)));
     Ok(0)
+}
+
+fn owner_at(server: &Server, handle: u64) -> u64 {
+    match server.directory_of(handle) {
+        Some(directory) => u64::from(directory.owner),
+        None => 0,
+    }
 }
 
 fn closes_directory(server: &mut Server, handle: u64) -> Result<u64, CredFault> {
@@ -524,15 +529,16 @@ fn used(server: &mut Server, alloc: Global, step: Use) -> Result<u64, CredFault>
         Use::First(uid) => asked(server, alloc, step, uid),
         Use::PartlyUsed(uid) => asked(server, alloc, step, uid),
         Use::Idle(uid) => asked(server, alloc, step, uid),
-        Use::AreMany(uid) => asked(server, alloc, step, uid),
+        Use::MayTake(uid) => Ok(u64::from(server.may_take_process(uid))),
         Use::NextIdle(least) => Ok(process(server.next_idle(least as usize))),
         Use::Object(pid, fd) => Ok(number(server.object_of(handle_of(pid as usize, fd as usize)))),
         Use::HandleFor(inode) => Ok(server.handle_for(inode).unwrap_or(0)),
-        Use::OpensDirectory(count, inode) => opens_directory(server, count, inode),
-        Use::SetsDirectory(handle, inode) => sets_directory(server, handle, inode),
+        Use::OpensDirectory(uid, count, inode) => opens_directory(server, uid, count, inode),
+        Use::ListsDirectory(handle) => lists_directory(server, alloc, handle),
         Use::ClosesDirectory(handle) => closes_directory(server, handle),
         Use::DirectoryAt(handle) => Ok(directory_at(server, handle)),
-        Use::AreFull => Ok(u64::from(server.are_directories_full())),
+        Use::OwnerAt(handle) => Ok(owner_at(server, handle)),
+        Use::MayOpen(uid) => Ok(u64::from(server.may_open_directory(uid))),
         Use::Looks(pid) => looks(server, pid),
         Use::Looker => Ok(process(server.looker())),
         Use::Ends => ends(server),
@@ -540,7 +546,7 @@ fn used(server: &mut Server, alloc: Global, step: Use) -> Result<u64, CredFault>
     }
 }
 
-const USES: [(Use, u64); 62] = [
+const USES: [(Use, u64); 78] = [
     (Use::Looker, 0),
     (Use::Looks(1), 0),
     (Use::Looker, 1),
@@ -579,32 +585,48 @@ const USES: [(Use, u64); 62] = [
     (Use::Ended(3), 0),
     (Use::NextIdle(0), 4),
     (Use::First(1001), 0),
-    // 32 processes of one user may hold descriptors, and 48 of all.
+    // 32 processes of one user may hold descriptors, and 44 of all, but for user 0 and the first ones of others.
     (Use::Crowd(1000, 5, 30), 0),
-    (Use::AreMany(1000), 0),
+    (Use::MayTake(1000), 1),
     (Use::Crowd(1000, 35, 1), 0),
-    (Use::AreMany(1000), 1),
-    (Use::AreMany(1001), 0),
-    (Use::Crowd(1001, 36, 15), 0),
-    (Use::AreMany(1001), 0),
-    (Use::AreMany(1002), 0),
-    (Use::Crowd(1001, 51, 1), 0),
-    (Use::AreMany(1002), 1),
-    (Use::Closes(51, 0), 0),
-    (Use::AreMany(1002), 0),
-    // Handles of directories lie behind those of files; 256 may be open.
-    (Use::OpensDirectory(1, 5), 4_294_967_296),
-    (Use::OpensDirectory(1, 6), 4_294_967_297),
+    (Use::MayTake(1000), 0),
+    (Use::MayTake(1001), 1),
+    (Use::MayTake(0), 1),
+    (Use::Crowd(1001, 36, 11), 0),
+    (Use::MayTake(1001), 1),
+    (Use::Crowd(1001, 47, 1), 0),
+    (Use::MayTake(1001), 0),
+    (Use::MayTake(1002), 1),
+    (Use::MayTake(0), 1),
+    (Use::Crowd(0, 48, 4), 0),
+    (Use::MayTake(0), 0),
+    (Use::MayTake(1002), 1),
+    (Use::Closes(47, 0), 0),
+    (Use::MayTake(1001), 0),
+    // Handles of directories lie behind those of files; 128 of one user may be open, and 200 of all, but for the same.
+    (Use::OpensDirectory(1000, 1, 5), 4_294_967_296),
+    (Use::OpensDirectory(1001, 1, 6), 4_294_967_297),
     (Use::DirectoryAt(4_294_967_296), 5),
     (Use::DirectoryAt(4_294_967_297), 6),
-    (Use::SetsDirectory(4_294_967_297, 7), 0),
-    (Use::DirectoryAt(4_294_967_297), 7),
+    (Use::ListsDirectory(4_294_967_297), 0),
+    (Use::DirectoryAt(4_294_967_297), 6),
+    (Use::OwnerAt(4_294_967_297), 1001),
     (Use::ClosesDirectory(4_294_967_296), 0),
     (Use::DirectoryAt(4_294_967_296), 0),
-    (Use::OpensDirectory(254, 8), 4_294_967_551),
-    (Use::AreFull, 0),
-    (Use::OpensDirectory(1, 8), 4_294_967_552),
-    (Use::AreFull, 1),
+    (Use::ListsDirectory(4_294_967_296), 0),
+    (Use::DirectoryAt(4_294_967_296), 0),
+    (Use::OpensDirectory(1001, 126, 8), 4_294_967_423),
+    (Use::MayOpen(1001), 1),
+    (Use::OpensDirectory(1001, 1, 8), 4_294_967_424),
+    (Use::MayOpen(1001), 0),
+    (Use::MayOpen(1000), 1),
+    (Use::OpensDirectory(1000, 72, 8), 4_294_967_496),
+    (Use::MayOpen(1000), 0),
+    (Use::MayOpen(1002), 1),
+    (Use::MayOpen(0), 1),
+    (Use::OpensDirectory(0, 16, 8), 4_294_967_512),
+    (Use::MayOpen(0), 0),
+    (Use::MayOpen(1002), 1),
     (Use::IsEnded, 0),
     (Use::Ends, 0),
     (Use::IsEnded, 1),

@@ -1,19 +1,42 @@
 //! Open directories. They hold no descriptors.
-ghost use Rattle.std.specs.Prelude.{◌≡◌, ◌+◌, ◌≤◌, option_copied};
-ghost use Rattle.fuse_state.specs.Servers.{are_directories_full, directory_of, with_directory, opened, without_directory};
+ghost use Rattle.std.specs.Prelude.{◌≡◌, ◌+◌, ◌≤◌, length, option_copied};
+ghost use Rattle.fuse_state.specs.Shares.{count_of};
+ghost use Rattle.fuse_state.specs.Servers.{directory_holders, may_open_directory, directory_of, opened, with_listing, without_directory};
 
 use super::Server;
 use crate::directory::OpenDirectory;
-
-/// The most open directories: our own limit.
-pub const MAX_DIRECTORIES: usize = 256;
+use crate::shares::{Held, Shares};
+use fs_model::Listing;
 
 impl Server {
-    /// Whether no further directory may be opened.
-    pub fn are_directories_full(&self) -> bool
-        ensures { result ≡ are_directories_full self.now.server }
+    // How many directories are open.
+    fn count_directories(&self) -> usize
+        ensures { result ≡ length (directory_holders self.now.server) }
     {
-        self.directories.entries().len() >= MAX_DIRECTORIES
+        self.directories.entries().len()
+    }
+
+    // How many of them a user has opened.
+    fn count_directories_of(&self, uid: u32) -> usize
+        ensures { result ≡ count_of (directory_holders self.now.server) uid }
+    {
+        self.directories
+            .entries()
+            .iter()
+            .filter(|(_, open)| open.owner == uid)
+            .count()
+    }
+
+    /// Whether a user may open one more directory.
+    pub fn may_open_directory(&self, uid: u32) -> bool
+        ensures { result ≡ may_open_directory self.now.server uid }
+    {
+        let held = Held {
+            all: self.count_directories(),
+            own: self.count_directories_of(uid),
+            of_root: self.count_directories_of(0),
+        };
+        Shares::of_directories().allow(uid, held)
     }
 
     /// The handle that the next open directory has.
@@ -30,14 +53,15 @@ impl Server {
         self.directories.get(handle)
     }
 
-    /// A directory is open at [`Server::next_directory`].
-    pub fn add_directory(&mut self, inode: u32)
+    /// A user has opened a directory at [`Server::next_directory`].
+    pub fn add_directory(&mut self, owner: u32, inode: u32)
         requires { 1 ≤ self.old.room }
-        ensures kept { self.new.server ≡ opened inode self.old.server }
+        ensures kept { self.new.server ≡ opened owner inode self.old.server }
         ensures room { self.old.room ≤ self.new.room + 1 }
     {
         let directory = OpenDirectory {
             number: inode,
+            owner,
             listing: None,
         };
         self.directories.put(self.next_directory, directory);
@@ -45,13 +69,21 @@ impl Server {
         self.room -= 1;
     }
 
-    /// The open directory of a handle is this.
-    pub fn set_directory(&mut self, handle: u64, directory: OpenDirectory)
+    /// An open directory was listed.
+    pub fn set_listing(&mut self, handle: u64, listing: Listing)
         requires { 1 ≤ self.old.room }
-        ensures kept { self.new.server ≡ with_directory handle directory self.old.server }
+        ensures kept { self.new.server ≡ with_listing handle listing self.old.server }
         ensures room { self.old.room ≤ self.new.room + 1 }
     {
-        self.directories.put(handle, directory);
+        let Some(open) = self.directories.get(handle) else {
+            return;
+        };
+        let listed = OpenDirectory {
+            number: open.number,
+            owner: open.owner,
+            listing: Some(listing),
+        };
+        self.directories.put(handle, listed);
         self.room -= 1;
     }
 

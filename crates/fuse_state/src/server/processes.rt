@@ -1,19 +1,16 @@
 //! Processes: those of callers, by their credentials.
-ghost use Rattle.std.specs.Prelude.{◌≡◌, ◌+◌, ◌≤◌};
-ghost use Rattle.fuse_state.specs.Servers.{held_by, holds_some, has_room, is_same_credential, first_process, partly_used, idle_process, next_idle, are_many, with_process, without_process};
+ghost use Rattle.std.specs.Prelude.{◌≡◌, ◌+◌, ◌≤◌, length};
+ghost use Rattle.fuse_state.specs.Shares.{count_of};
+ghost use Rattle.fuse_state.specs.Servers.{held_by, holds_some, has_room, is_same_credential, first_process, partly_used, idle_process, next_idle, is_process, process_holders, may_take_process, with_process, without_process};
 
 use super::Server;
 use crate::handle::owner_of;
+use crate::shares::{Held, Shares};
 use bitflags::Flags;
 use fs_cred::Cred;
 
 // The descriptors of one process.
 const DESCRIPTORS: usize = 32;
-
-// So many processes may hold descriptors, and so many of one credential: then others always find a process.
-const BUSY_LIMIT: usize = 48;
-
-const BUSY_LIMIT_OF_ONE: usize = 32;
 
 impl Server {
     // How many descriptors a process holds.
@@ -86,23 +83,52 @@ impl Server {
             .map(|(pid, _)| *pid as usize)
     }
 
-    /// Whether no further process may hold descriptors, or none of this credential.
-    pub fn are_many(&self, cred: &Cred) -> bool
-        ensures { result ≡ are_many self.now.server cred.now }
+    /// Whether a process has begun, and hasn't ended.
+    pub fn is_process(&self, pid: usize) -> bool
+        ensures { result ≡ is_process self.now.server pid }
     {
-        let busy = self
-            .processes
+        self.processes.get(pid as u64).is_some()
+    }
+
+    /// How many processes of callers there are.
+    pub fn process_count(&self) -> usize
+        ensures { result ≡ length self.now.server.processes }
+    {
+        self.processes.entries().len()
+    }
+
+    // How many processes hold descriptors.
+    fn count_busy(&self) -> usize
+        ensures { result ≡ length (process_holders self.now.server) }
+    {
+        self.processes
             .entries()
             .iter()
             .filter(|(pid, _)| self.holds_some(*pid as usize))
-            .count();
-        let of_one = self
-            .processes
+            .count()
+    }
+
+    // How many of a user's.
+    fn count_busy_of(&self, uid: u32) -> usize
+        ensures { result ≡ count_of (process_holders self.now.server) uid }
+    {
+        self.processes
             .entries()
             .iter()
-            .filter(|(pid, other)| is_same(cred, other) && self.holds_some(*pid as usize))
-            .count();
-        busy >= BUSY_LIMIT || of_one >= BUSY_LIMIT_OF_ONE
+            .filter(|(pid, cred)| self.holds_some(*pid as usize) && cred.uid() == uid)
+            .count()
+    }
+
+    /// Whether one more process of a user may hold descriptors.
+    pub fn may_take_process(&self, uid: u32) -> bool
+        ensures { result ≡ may_take_process self.now.server uid }
+    {
+        let held = Held {
+            all: self.count_busy(),
+            own: self.count_busy_of(uid),
+            of_root: self.count_busy_of(0),
+        };
+        Shares::of_processes().allow(uid, held)
     }
 
     /// A process has begun.

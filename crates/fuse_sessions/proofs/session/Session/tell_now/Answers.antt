@@ -22,5 +22,5 @@ returns g c =
     then-ok _
     (then-ok _ c.in_ok-inode.ensures
     (then-ok _ (where-true _ _ (eq-eqb _ _ c.if-inode-number.false) (gives _ _))
-    (reads _ _ refl (then-ok _ c.in_ok-names.ensures.did (keeps _ _ refl c.set_directory.ensures.kept (gives _ _))))))
+    (reads _ _ refl (then-ok _ c.in_ok-names.ensures.did (keeps _ _ refl c.set_listing.ensures.kept (gives _ _))))))
     (gives-as (ap Bytes c.listing_bytes-bytes.ensures))
