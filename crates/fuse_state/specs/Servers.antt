@@ -207,7 +207,6 @@ has_room s pid = holds_some s pid && nat_lt (held_by s pid) descriptors_limit
 abbrev pub idle : Server → List ℕ → List ℕ
 idle s pids = filter (λ pid. not (holds_some s pid)) pids
 
-
 abbrev pub first_process : Server → Credential → Option ℕ
 first_process s cred = first_of (processes_of s cred)
 
