@@ -32,7 +32,7 @@ use Rattle.fuse_plans.specs.declared.stop.OtherErrno.TheVariants.{ENFILE, ERANGE
 use Rattle.fuse_plans.specs.Stops.{failed, is_for}
 use Rattle.fuse_plans.specs.Plans.{Plan, Finish, Ask, followed_by, IsRunOf, IsAsked, at_once, later, Restraint, KeepsTo, after_all}
 use Rattle.fuse_plans.specs.Works.{Work, give, stop, kept, keep, goes_on, ◌>>=◌, attempt, needed, ask, give_unless, refusal_in, unless_refused, obtain, unexpected, status_of_reply, acl_of_reply}
-use Rattle.fuse_plans.specs.Callers.{caller, the_looker, between, or_inside, on, by_looker, look_inside, is_known_directory, the_number, directory_number, standing_directory}
+use Rattle.fuse_plans.specs.Callers.{caller, the_looker, between, or_inside, first_refusal, or_next, by_places, on, by_looker, look_inside, is_known_directory, the_number, directory_number, standing_directory}
 use Rattle.fuse_plans.specs.NamePlans.{or_absent, searched_directory, find_inside, find_name, place}
 use Rattle.fuse_plans.specs.AclPlans.{told_acl, acl_of}
 use Rattle.fuse_plans.specs.Nobody.{may_hide, hides, seen_by_looker, asks_list, is_masked, unless_masked, is_judged, needs_nobody_in}
@@ -219,15 +219,27 @@ module _ (who : Event → Bool) (what : Reply → Bool) (looker : Option ℕ) wh
   goes-or_inside pid n call kind tells (Err e) =
       goes-if (is_for EACCES e && is_known_directory kind) _ _ (goes-from (goes-between pid n n _ (tells (codes ".")))) (goes-stop e (λ m told. told))
 
+  goes-or_next : (next : Stop → Work Reply) {T : Bool → Result Reply Stop → Type 0} → ((e : Stop) → Goes (λ m. T m (Err e)) T (next e))
+      → (r : Result Reply Stop) → Goes (λ m. T m r) T (or_next next r)
+  goes-or_next next rest (Ok reply) = goes-give reply (λ m told. told)
+  goes-or_next next rest (Err e) = goes-if (is_for EACCES e) _ _ (rest e) (goes-stop e (λ m told. told))
+
+  goes-by_places : (pid : ℕ) (second : Option ℕ) (call : List ℕ → Call) (before : Stop) (places : List Place) {T : Bool → Result Reply Stop → Type 0}
+      → ((path : List ℕ) → Tells pid (call path) T) → ((m : Bool) (e : Stop) → T m (Err e)) → Goes Anyhow T (by_places pid second call before places)
+  unfolding by_places
+  goes-by_places pid second call before [] tells err = goes-stop before (λ m any. err m before)
+  goes-by_places pid second call before (p ∷ others) tells err =
+      goes-attempt (goes-between pid p.directory _ (call p.name) (tells p.name))
+      (goes-or_next _ (λ e. goes-from (goes-by_places pid second call (first_refusal before e) others tells err)))
+
   goes-on : (pid n : ℕ) (call : List ℕ → Call) {T : Bool → Result Reply Stop → Type 0} → ((path : List ℕ) → Tells pid (call path) T)
       → ((m : Bool) (e : Stop) → T m (Err e)) → Goes Anyhow T (on pid n call)
   unfolding on
   goes-on pid n call {T} tells err =
       goes-if (n == root) _ _ (goes-obtain pid _ (tells (codes "/")))
-      (goes-kept _ (λ place.
-      goes->>= {T = λ m r. Unit {0}} (goes-needed _ place (λ m any. tt) (λ m p some any. tt))
-      (λ p. goes-kept _ (λ kind. goes-attempt (goes-between pid p.directory p.directory _ (tells p.name)) (goes-or_inside pid n call kind tells)))
-      (λ m e told. err m e)))
+      (goes-kept _ (λ kind.
+      goes-kept _ (λ places.
+      goes-attempt (goes-by_places pid None call _ places tells err) (goes-or_inside pid n call kind tells))))
 
   goes-by_looker : (n : ℕ) (call : List ℕ → Call) {T : Bool → Result Reply Stop → Type 0}
       → ((pid : ℕ) (path : List ℕ) → looker ≡ Some pid → Tells pid (call path) T) → ((m : Bool) (e : Stop) → T m (Err e)) → Goes Anyhow T (by_looker n call)

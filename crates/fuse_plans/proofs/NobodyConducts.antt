@@ -19,13 +19,14 @@ use Rattle.fs_model.specs.declared.reply.Reply.{Reply}
 use Rattle.fs_model.specs.declared.reply.Status.{Status}
 use Rattle.fuse_protocol.specs.declared.operation.Operation.{Operation}
 use Rattle.fuse_protocol.specs.declared.operation.Operation.TheVariants.{Lookup, Forget, GetAttr, SetAttr, ReadLink, SymLink, MkNod, MkDir, Unlink, RmDir, Rename, Link, Open, Read, Write, StatFs, Release, FSync, SetXAttr, GetXAttr, ListXAttr, RemoveXAttr, Init, OpenDir, ReadDir, ReleaseDir, FSyncDir, Access, Create, Interrupt, Destroy, BatchForget, SyncFs, Unknown}
-use Rattle.fuse_state.specs.Servers.{Server}
+use Rattle.fuse_state.specs.declared.place.Place.{Place}
+use Rattle.fuse_state.specs.Servers.{Server, WithinShares}
 use Rattle.fuse_plans.specs.declared.stop.Stop.{Stop}
 use Rattle.fuse_plans.specs.Stops.{is_for}
 use Rattle.fuse_plans.specs.declared.request.Asked.{Asked}
 use Rattle.fuse_plans.specs.Plans.{Plan, Finish, Ask, CarriesOut, finishes, IsRunOf, Restraint, KeepsTo}
 use Rattle.fuse_plans.specs.Works.{Work, give, stop, kept, goes_on, ◌>>=◌, attempt, needed, ask, give_unless, refusal_in, unless_refused, obtain}
-use Rattle.fuse_plans.specs.Callers.{the_looker, between, or_inside, on, by_looker, is_known_directory, the_number, directory_number}
+use Rattle.fuse_plans.specs.Callers.{the_looker, between, or_inside, first_refusal, or_next, by_places, on, by_looker, is_known_directory, the_number, directory_number}
 use Rattle.fuse_plans.specs.AclPlans.{acl_of}
 use Rattle.fuse_plans.specs.Nobody.{needs_caller, may_hide, hides, asks_list, is_masked, unless_masked, is_judged, needs_nobody, needs_nobody_in}
 use Rattle.fuse_plans.specs.Acts.{IsObject, node_of_object}
@@ -102,14 +103,24 @@ stays-or_inside : (pid n : ℕ) (call : List ℕ → Call) (kind : Option FileTy
 stays-or_inside pid n call kind (Ok reply) = stays-give reply
 stays-or_inside pid n call kind (Err e) = stays-if (is_for EACCES e && is_known_directory kind) _ _ (stays-between pid n n _) (stays-stop e)
 
+stays-or_next : (next : Stop → Work Reply) → ((e : Stop) → Stays (next e)) → (r : Result Reply Stop) → Stays (or_next next r)
+stays-or_next next rest (Ok reply) = stays-give reply
+stays-or_next next rest (Err e) = stays-if (is_for EACCES e) _ _ (rest e) (stays-stop e)
+
+stays-by_places : (pid : ℕ) (second : Option ℕ) (call : List ℕ → Call) (before : Stop) (places : List Place) → Stays (by_places pid second call before places)
+unfolding by_places
+stays-by_places pid second call before [] = stays-stop before
+stays-by_places pid second call before (p ∷ others) =
+    stays->>= (stays-attempt (stays-between pid p.directory _ (call p.name)))
+    (stays-or_next _ (λ e. stays-by_places pid second call (first_refusal before e) others))
+
 stays-on : (pid n : ℕ) (call : List ℕ → Call) → Stays (on pid n call)
 unfolding on
 stays-on pid n call =
     stays-if (n == root) _ _ (stays-obtain _)
-    (stays->>= (stays-kept _) (λ place.
-    stays->>= (stays-needed _ place) (λ p.
-    stays->>= (stays-kept _) (λ kind.
-    stays->>= (stays-attempt (stays-between pid p.directory p.directory _)) (stays-or_inside pid n call kind)))))
+    (stays->>= (stays-kept _) (λ kind.
+    stays->>= (stays-kept _) (λ places.
+    stays->>= (stays-attempt (stays-by_places pid None call _ places)) (stays-or_inside pid n call kind))))
 
 stays-by_looker : (n : ℕ) (call : List ℕ → Call) → Stays (by_looker n call)
 unfolding the_looker
@@ -212,7 +223,7 @@ module _ (rights : Rights) (node : ℕ) (same : rights.subject.node ≡ node) (s
   keeps-is_judged asks true =
       keeps-followed_by (conduct rights) (λ known r. Left rights Any known r × (r.1 ≡ s)) (AtHome s) (is_masked node s) (λ r. Finish (unless_masked r.0)) (known_in s)
       (keeps-both (conduct rights) (Left rights Any) (λ r. r.1 ≡ s) (is_masked node s) (known_in s)
-      ((lasts-is_masked asks).goes (known_in s) s (record { home = refl; processes = refl; looker = sym own; holds = begins_still })) ((stays-is_masked node).at s))
+      ((lasts-is_masked asks).goes (known_in s) s (record { home = refl; processes = refl; looker = sym own; shares = λ within. subst WithinShares start within; holds = begins_still })) ((stays-is_masked node).at s))
       (λ known r left. record { home = left.0.home; processes = left.0.processes ∙ ap (λ t. t.processes) left.1 })
 
   keeps-needs_nobody : (operation : Operation) → rights.subject.operation ≡ Some operation → (b : Bool) → is_lookup operation ≡ b
