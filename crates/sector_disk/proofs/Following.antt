@@ -11,7 +11,7 @@ use Rattle.std.proofs.lemmas.List.Sorted.{Contains-permutation}
 use Rattle.sector_disk.specs.Disk.{DiskState, Image, sector, IsImage, IsSame, ChangesOnly}
 use Rattle.sector_disk.specs.Record.{Past, Held, recorded_state}
 use Rattle.sector_disk.specs.Places.{IsRunSet}
-use Rattle.sector_disk.specs.Files.{file_seen, Goes, IsRun, IsRunTried, HasRun, IsHeldNarrowed, IsHeldSynced, IsHeldStable, HasZeros, HasSectors, HasStable, Lacks, Keeps, Follows, KeepsBefore, FollowsBefore}
+use Rattle.sector_disk.specs.Files.{file_seen, Goes, IsRun, IsRunTried, HasRun, IsHeldNarrowed, IsHeldSynced, IsHeldStable, HasSectors, HasStable, Lacks, Keeps, Follows, KeepsBefore, FollowsBefore}
 
 -- ---- what may be known
 pub goes : {P : Held → Held → Type 0} {K L : Held → Type 0} (old new : Option Held) → Goes P old new → IfSome old K → ((h g : Held) → P h g → K h → L g) → IfSome new L
@@ -315,26 +315,20 @@ read_none count sectors file zeros = record {
     nothing None = tt
     nothing (Some held) = λ n below. absurd (omega (arith, below))
 
-pub read_more : (at count from end : ℕ) (piece sectors more : Image) (first old new : Option Held) → IsReadTo at count sectors first old → at ≤ from → from + length piece ≤ count → end ≡ from + length piece
-    → new ≡ old → IfSome old (HasZeros at from) → IfSome new (HasRun from piece) → IsRunSet from piece sectors more → IsReadTo end count more first new
-read_more at count from end piece sectors more first old new was order fits is same zeros has set = record {
+pub read_more : (at count end : ℕ) (piece sectors more : Image) (first old new : Option Held) → IsReadTo at count sectors first old → at + length piece ≤ count → end ≡ at + length piece
+    → new ≡ old → IfSome new (HasRun at piece) → IsRunSet at piece sectors more → IsReadTo end count more first new
+read_more at count end piece sectors more first old new was fits is same has set = record {
   fits = omega (arith, fits, is);
   len = set.len ∙ was.len;
-  behind = λ n past below. set.behind n (omega (arith, past, is)) ∙ was.behind n (omega (arith, past, is, order)) below;
+  behind = λ n past below. set.behind n (omega (arith, past, is)) ∙ was.behind n (omega (arith, past, is)) below;
   same = same ∙ was.same;
-  read = both new (both new (here (HasZeros at from) zeros) has (λ h z r. (z, r))) (here (λ held. (n : ℕ) → n < at → sector (file_seen held) n ≡ sector sectors n) was.read) each;
+  read = both new has (subst (λ (o : Option Held). IfSome o (λ held. (n : ℕ) → n < at → sector (file_seen held) n ≡ sector sectors n)) (sym same) was.read) each;
 }
   where
-    here : (P : Held → Type 0) → IfSome old P → IfSome new P
-    here P known = subst (λ (o : Option Held). IfSome o P) (sym same) known
-
-    each : (h : Held) → HasZeros at from h × HasRun from piece h → ((n : ℕ) → n < at → sector (file_seen h) n ≡ sector sectors n) → (n : ℕ) → n < end → sector (file_seen h) n ≡ sector more n
-    each h known read n below = elim (cases_lt n from) [
-      | inl before ↦ elim (cases_lt n at) [
-        | inl early ↦ read n early ∙ sym (set.before n before)
-        | inr hole ↦ known.0 n hole before ∙ sym (set.before n before ∙ was.behind n hole (omega (arith, before, fits)))
-      ]
-      | inr past ↦ known.1 n past (omega (arith, below, is)) ∙ sym (set.inside n past (omega (arith, below, is)))
+    each : (h : Held) → HasRun at piece h → ((n : ℕ) → n < at → sector (file_seen h) n ≡ sector sectors n) → (n : ℕ) → n < end → sector (file_seen h) n ≡ sector more n
+    each h known read n below = elim (cases_lt n at) [
+      | inl early ↦ read n early ∙ sym (set.before n early)
+      | inr past ↦ known n past (omega (arith, below, is)) ∙ sym (set.inside n past (omega (arith, below, is)))
     ]
 
 pub read_all : (at count : ℕ) (sectors : Image) (first file : Option Held) → count ≤ at → IsReadTo at count sectors first file → IfSome file (HasSectors sectors)

@@ -3,7 +3,7 @@
 --     Goes        what is known of a file stays known
 --     IsRun, IsRunTried, HasRun        a run of sectors that is written
 --     IsHeldNarrowed, IsHeldSynced        a sync
---     HasZeros, HasSectors, HasStable        what is read from it; what it has at first
+--     HasSectors, HasStable        what is read from it; what it has at first
 --     Lacks, Keeps, Follows        how it follows the disk
 --     KeepsBefore, FollowsBefore        how its first sectors do
 use Rattle.std.specs.Prelude.{◌≡◌, ◌⊎◌, ℕ, ◌+◌, ◌-◌, ◌<◌, ◌≤◌, Bool, true, List, length, replicate, Option, Some, None, IfSome, Contains}
@@ -46,10 +46,6 @@ pub record IsHeldSynced (old new : Held) : Type 0 where
 -- a stop leaves what reads give
 abbrev pub IsHeldStable : Held → Type 0
 IsHeldStable held = (n : ℕ) (content : List ℕ) → MayHold held n content → content ≡ sector (file_seen held) n
-
--- reads of the sectors from one on, up to the one before another, give zeros
-abbrev pub HasZeros : ℕ → ℕ → Held → Type 0
-HasZeros first end held = (n : ℕ) → first ≤ n → n < end → sector (file_seen held) n ≡ replicate 512 0
 
 -- reads of the file's first sectors give these
 abbrev pub HasSectors : Image → Held → Type 0

@@ -13,7 +13,7 @@ mod waiting;
 mod whole;
 
 pub use disk::{CrashDisk, Disk, DiskFault, write_synced};
-pub use disk_file::{DiskFile, Stretch};
+pub use disk_file::DiskFile;
 pub use faulty::{FailOnce, FaultyDisk, FuseDisk};
 pub use file_disk::{FileDisk, FileFault};
 pub use memory::MemDisk;

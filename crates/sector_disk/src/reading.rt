@@ -8,7 +8,7 @@ use crate::sectors::Sectors;
 use crate::{DiskFile, FileFault};
 use std::alloc::Global;
 
-/// The first sectors of a file, read through a buffer in pieces of its length. What the file says is zeros isn't read.
+/// The first sectors of a file, read through a buffer in pieces of its length.
 pub fn read_sectors<F: DiskFile>(
     alloc: Global,
     file: &mut F,
@@ -24,14 +24,13 @@ pub fn read_sectors<F: DiskFile>(
     let mut sectors = Sectors::zeros(alloc, count)?;
     let mut at = 0;
     while at < count {
-        let data = file.next_data(at, count);
-        let len = buffer.len().min((data.end - data.first) as usize);
+        let len = buffer.len().min((count - at) as usize);
         let piece = &mut buffer[..len];
-        if file.read_run(data.first, piece).is_err() {
+        if file.read_run(at, piece).is_err() {
             return Err(FileFault::Failed);
         }
-        sectors.set_run(data.first, piece)?;
-        at = data.first + len as u32;
+        sectors.set_run(at, piece)?;
+        at += len as u32;
     }
     Ok(sectors)
 }
