@@ -7,7 +7,7 @@ use Rattle.std.specs.Prelude.{Result, slice_range, Bool, false, not, if◌then�
 use Rattle.std.specs.Result.{is_ok}
 use Rattle.sector_disk.specs.Disk.{Image, sector, IsWholeSector}
 use Rattle.sector_disk.specs.Whole.{AreSectors}
-use Rattle.sector_disk.specs.Places.{shown, IsKept, IsRunSet}
+use Rattle.sector_disk.specs.Places.{shown, IsKept, IsRunSet, IsRow}
 
 pub sector_shown : (contents : Image) (places : List ℕ) (n : ℕ) → n < length places → sector (shown contents places) n ≡ sector contents (get_or places n 0)
 sector_shown contents places n below = get_or-map (sector contents) places n 0 [] below
@@ -445,3 +445,30 @@ copied_all first i image to all fits copied =
 pub run_all : (count : ℕ) (run old new : Image) → length old ≡ count → length run ≡ count → IsRunSet 0 run old new → new ≡ run
 run_all count run old new size all set =
     ext_get_or [] new run (omega (arith, size, all, set.len)) (λ i below. set.inside i (omega arith) (omega (arith, below, size, all, set.len)) ∙ ap (λ k. sector run k) (let same : i - 0 ≡ i = omega arith in same))
+
+-- neighbours in neighbouring places
+pub row_shown : (first len start : ℕ) (places : List ℕ) (contents : Image) → first + len ≤ length places → start + len ≤ length contents → IsRow start (slice_range places first (first + len))
+    → slice_range contents start (start + len) ≡ slice_range (shown contents places) first (first + len)
+row_shown first len start places contents fits stands row =
+    ext_get_or [] (slice_range contents start (start + len)) (slice_range (shown contents places) first (first + len)) (size ∙ sym other) (λ k below.
+    let early : k < len = omega (arith, below, size) in
+    let place : get_or (slice_range places first (first + len)) k 0 ≡ get_or places (first + k) 0 =
+    get_or-take (first + len - first) (drop first places) k 0 (omega (arith, early)) ∙ get_or-drop first places k 0 in
+    get_or-take (start + len - start) (drop start contents) k [] (omega (arith, early)) ∙ get_or-drop start contents k []
+    ∙ ap (λ j. sector contents j) (sym (row k (omega (arith, early, fits, length-take (first + len - first) (drop first places), length-drop first places))) ∙ place)
+    ∙ sym (sector_shown contents places (first + k) (omega (arith, early, fits)))
+    ∙ sym (get_or-take (first + len - first) (drop first (shown contents places)) k [] (omega (arith, early)) ∙ get_or-drop first (shown contents places) k []))
+  where
+    size : length (slice_range contents start (start + len)) ≡ len
+    size = omega (arith, stands, length-take (start + len - start) (drop start contents), length-drop start contents)
+
+    other : length (slice_range (shown contents places) first (first + len)) ≡ len
+    other = omega (arith, fits, length-take (first + len - first) (drop first (shown contents places)), length-drop first (shown contents places), length-map places (sector contents))
+
+pub row_seen : (first len start : ℕ) (places read : List ℕ) (contents stored seen : Image) → shown contents places ≡ seen → read ≡ places → stored ≡ contents → first + len ≤ length seen
+    → start + len ≤ length contents → IsRow start (slice_range read first (first + len)) → slice_range stored start (start + len) ≡ slice_range seen first (first + len)
+row_seen first len start places read contents stored seen view read_is stored_is fits stands row =
+    ap (λ (i : Image). slice_range i start (start + len)) stored_is
+    ∙ row_shown first len start places contents (let size = ap (λ (i : Image). length i) view in omega (arith, fits, size, length-map places (sector contents))) stands
+    (subst (λ (l : List ℕ). IsRow start (slice_range l first (first + len))) read_is row)
+    ∙ ap (λ (i : Image). slice_range i first (first + len)) view

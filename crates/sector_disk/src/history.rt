@@ -1,6 +1,6 @@
 //! What was done to a disk in memory since it was last stopped.
 
-ghost use Rattle.std.specs.Prelude.{◌≡◌, ◌⊎◌, ◌^◌, ◌<◌, ◌+◌, ◌++◌, [], ◌∷◌, length, ℕ, ◌≤◌, Contains, slice_range, OnOk, OnErr};
+ghost use Rattle.std.specs.Prelude.{◌≡◌, ◌⊎◌, ◌^◌, ◌<◌, ◌+◌, ◌++◌, [], ◌∷◌, length, ℕ, ◌≤◌, Contains, slice_range, IfSome, OnOk, OnErr};
 ghost use Rattle.sector_disk.specs.Disk.{sector};
 ghost use Rattle.sector_disk.specs.Record.{Written, Synced, after_events, replay, since_sync, Leaves, MayHold};
 ghost use Rattle.sector_disk.specs.Steps.{held_before};
@@ -77,6 +77,14 @@ impl History {
         ensures { to.new ≡ sector (after_events self.now.start self.now.events) n }
     {
         *to = *self.seen.get(n);
+    }
+
+    /// What reads of so many neighbours from one on give, where their contents are neighbours too.
+    pub fn run(&self, first: u32, len: usize) -> Option<&[[u8; 512]]>
+        requires { first + len ≤ length self.now.start }
+        ensures { IfSome result (λ run. run.now ≡ slice_range (after_events self.now.start self.now.events) first (first + len)) }
+    {
+        self.seen.run(first, len)
     }
 
     /// What reads of neighbours from one on give.

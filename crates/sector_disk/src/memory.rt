@@ -1,7 +1,7 @@
 //! A disk in memory, which can be stopped. A record of its writes and syncs answers for the moments since the last
 //! stop.
 
-ghost use Rattle.std.specs.Prelude.{◌≡◌, ◌^◌, ◌<◌, ◌-◌, length, vec_len, replicate, IfOk, IsErr, ◌+◌, min, ◌≤◌, slice_range};
+ghost use Rattle.std.specs.Prelude.{◌≡◌, ◌^◌, ◌<◌, ◌-◌, length, vec_len, replicate, IfOk, IfSome, IsErr, ◌+◌, min, ◌≤◌, slice_range};
 ghost use Rattle.sector_disk.specs.Disk.{IsFresh};
 ghost use Rattle.sector_disk.specs.Record.{recorded_state};
 ghost use Rattle.sector_disk.specs.Replay.{seen_is_image, counts_now, only_now};
@@ -15,8 +15,9 @@ use std::alloc::{AllocError, Global};
 /// A disk in memory, for tests and for a file system that isn't to last. A sector of zeros takes four bytes.
 ///
 /// Each write and sync is recorded, until [`forget`](Disk::forget) lets go of what came before the last sync. One whose
-/// record finds no memory fails and is counted, and its content isn't kept; one that fails because of
-/// [`arm`](CrashDisk::arm) is recorded, so that a stop may leave its content.
+/// record or content finds no memory fails and is counted, and its content isn't kept; one that fails because of
+/// [`arm`](CrashDisk::arm) is recorded, so that a stop may leave its content. Where a stop finds no memory for a content
+/// that it picks, it leaves there what reads gave.
 #[derive(Drop)]
 pub struct MemDisk {
     history: History,
@@ -82,6 +83,14 @@ impl MemDisk {
     {
         self.failures = self.failures.saturating_add(1);
         Err(DiskFault)
+    }
+
+    /// What reads of so many neighbours from one on give, where their contents are neighbours too.
+    pub(crate) fn run(&self, first: u32, len: usize) -> Option<&[[u8; 512]]>
+        requires { first + len ≤ (⟦<MemDisk as Disk>⟧.state self.now).size }
+        ensures { IfSome result (λ run. run.now ≡ slice_range (⟦<MemDisk as Disk>⟧.state self.now).seen first (first + len)) }
+    {
+        self.history.run(first, len)
     }
 
     /// What reads of neighbours from one on give.

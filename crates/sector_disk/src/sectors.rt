@@ -1,9 +1,9 @@
 //! Sectors in memory, of which those that are zeros take four bytes each.
 
-ghost use Rattle.std.specs.Prelude.{◌≡◌, ◌≢◌, ◌<◌, ◌≤◌, ◌+◌, ◌^◌, length, replicate, slice_set, slice_range, IfOk, OnOk, OnErr};
+ghost use Rattle.std.specs.Prelude.{◌≡◌, ◌≢◌, ◌<◌, ◌≤◌, ◌+◌, ◌^◌, length, replicate, slice_set, slice_range, IfOk, IfSome, IsTrue, OnOk, OnErr};
 ghost use Rattle.sector_disk.specs.Disk.{sector};
 ghost use Rattle.sector_disk.specs.Whole.{AreSectors};
-ghost use Rattle.sector_disk.specs.Places.{IsRunSet};
+ghost use Rattle.sector_disk.specs.Places.{IsRunSet, IsRow};
 
 use crate::whole::tell_whole;
 use std::alloc::{AllocError, Global};
@@ -138,6 +138,20 @@ impl Sectors {
         Ok(())
     }
 
+    /// So many neighbours from one on, where their contents are neighbours too.
+    pub fn run(&self, first: u32, len: usize) -> Option<&[[u8; 512]]>
+        requires { first + len ≤ length self.now }
+        ensures { IfSome result (λ run. run.now ≡ slice_range self.now first (first + len)) }
+    {
+        let from = first as usize;
+        let places = &self.places[from..from + len];
+        let start = *places.first()? as usize;
+        if start + len > self.contents.len() || !are_in_row(places, start) {
+            return None;
+        }
+        Some(&self.contents[start..start + len])
+    }
+
     /// Copies neighbours from one on.
     pub fn copy_run(&self, first: u32, to: &mut [[u8; 512]])
         requires small { length self.now < 2 ^ 32 }
@@ -155,4 +169,17 @@ impl Sectors {
     {
         let _count = self.places.len();
     }
+}
+
+// Whether these places are neighbours, from one on.
+fn are_in_row(places: &[u32], start: usize) -> bool
+    requires { start + length places.now < 2 ^ 64 }
+    ensures { IsTrue result → IsRow start places.now }
+{
+    for (i, place) in places.iter().enumerate() {
+        if *place as usize != start + i {
+            return false;
+        }
+    }
+    true
 }

@@ -27,7 +27,7 @@ pub fn write_out<F: DiskFile>(
     write_waiting(file, memory, waiting, buffer)
 }
 
-// Writes these neighbours to the file as reads give them, in one call.
+// Writes these neighbours to the file as reads give them, in one call: from where they stand, or through the buffer.
 fn write_run<F: DiskFile>(
     file: &mut F,
     memory: &MemDisk,
@@ -38,6 +38,9 @@ fn write_run<F: DiskFile>(
     ensures tried { Goes (IsRunTried first (slice_range (⟦<MemDisk as Disk>⟧.state memory.now).seen first (first + length run.new))) (F.held file.old) (F.held file.new) }
     ensures done { OnOk result (IfSome (F.held file.new) (HasRun first (slice_range (⟦<MemDisk as Disk>⟧.state memory.now).seen first (first + length run.new)))) }
 {
+    if let Some(run) = memory.run(first, run.len()) {
+        return file.write_run(first, run);
+    }
     memory.copy_run(first, run);
     file.write_run(first, run)
 }
