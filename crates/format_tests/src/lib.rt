@@ -9,6 +9,8 @@ mod credentials;
 #[cfg(test)]
 mod decisions;
 #[cfg(test)]
+mod headers;
+#[cfg(test)]
 mod hex;
 #[cfg(test)]
 mod kernel_replies;

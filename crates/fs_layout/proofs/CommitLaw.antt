@@ -1,7 +1,7 @@
 -- What is read of a commit sector is spelled so, and what is spelled so is read.
-use Rattle.std.proofs.Common.{◌≡◌, ℕ, zero, suc, ◌+◌, ◌*◌, ◌-◌, ◌≤◌, List, ◌∷◌, ◌++◌, length, take, drop, refl, sym, ap, subst, ◌∙◌, length-append, arith, Bool, true, false, cond, Result, Ok, Err, nat_eq, nat_lt}
-use Rattle.std.proofs.lemmas.List.{drop-drop, drop_at, take_rest}
-use Rattle.std.proofs.lemmas.Bool.{eqb-true, le-ltb, ltb-false}
+use Rattle.std.proofs.Common.{◌≡◌, ℕ, zero, suc, ◌+◌, ◌*◌, ◌-◌, ◌≤◌, ◌<◌, ◌^◌, inl, inr, get_or, List, ◌∷◌, ◌++◌, length, take, drop, refl, sym, ap, subst, ◌∙◌, length-append, arith, Bool, true, false, cond, Result, Ok, Err, nat_eq, nat_lt}
+use Rattle.std.proofs.lemmas.List.{drop-drop, drop_at, take_rest, take_all, length-take, get_or-take, get_or_past}
+use Rattle.std.proofs.lemmas.Bool.{cases_lt, eqb-true, le-ltb, ltb-false}
 use Rattle.fs_layout.specs.declared.fault.LayoutFault.{LayoutFault}
 use Rattle.fs_layout.specs.declared.fault.LayoutFault.TheVariants.{BadMagic, BadNumber, NotZero}
 use Rattle.fs_layout.specs.Bytes.{IsBytes, splice, le32, le32s, zeros, u32_of, u32s_of, are_zero}
@@ -11,10 +11,18 @@ use Rattle.fs_layout.proofs.Fields.{back32, back32s, zeros_back, zeros-are_zero,
 use Rattle.fs_layout.proofs.Small.{u32s_len, u32s_small}
 use Rattle.fs_layout.proofs.Writes.{first_write, next_write, all_written, length-le32s, length-zeros}
 
+-- the bytes of a commit whose targets all stand in the commit sector
+abbrev short_bytes : List ℕ → List ℕ
+short_bytes targets = le32 commit_magic ++ (le32 (length targets) ++ (le32s targets ++ zeros (504 - 4 * length targets)))
+
+pub short_is : (ts : List ℕ) → length ts ≤ 126 → short_bytes ts ≡ commit_bytes ts
+short_is ts few =
+    ap (λ (l : List ℕ). le32 commit_magic ++ (le32 (length ts) ++ (le32s l ++ zeros (504 - 4 * length ts)))) (sym (take_all 126 ts few))
+
 -- the bytes of a commit that the fields of s are
 spelled : (s : List ℕ) (n : ℕ) → length s ≡ 512 → IsBytes s → n ≤ 126 → u32_of s 0 ≡ commit_magic → u32_of s 4 ≡ n
     → are_zero (drop (8 + 4 * n) s) ≡ true
-    → s ≡ commit_bytes (u32s_of s 8 n)
+    → s ≡ short_bytes (u32s_of s 8 n)
 spelled s n len fits few magic count rest =
     let ts = u32s_of s 8 n in
     let counted : length ts ≡ n = u32s_len s 8 n in
@@ -26,7 +34,7 @@ spelled s n len fits few magic count rest =
     ∙ ap (λ (r : List ℕ). le32 commit_magic ++ r) (e1 ∙ ap (λ (k : ℕ). le32 k ++ drop 8 s) (count ∙ sym counted)
     ∙ ap (λ (r : List ℕ). le32 (length ts) ++ r) (e2 ∙ ap (λ (r : List ℕ). le32s ts ++ r) e3))
 
-back : (s v : List ℕ) → length s ≡ 512 → IsBytes s → commit_of s ≡ Ok v → (s ≡ commit_bytes v) × FitsCommit v
+back : (s v : List ℕ) → length s ≡ 512 → IsBytes s → commit_of s ≡ Ok v → (s ≡ short_bytes v) × FitsCommit v
 unfolding commit_of
 back s v len fits e =
     let n = u32_of s 4 in
@@ -37,20 +45,20 @@ back s v len fits e =
     let same : u32s_of s 8 n ≡ v = same_ok (u32s_of s 8 n) v (Ok (u32s_of s 8 n)) refl c.1 in
     let few : n ≤ 126 = ltb-false 126 n b.0 in
     let fit : FitsCommit (u32s_of s 8 n) = record { few = omega (arith, u32s_len s 8 n, few); numbers = λ i. u32s_small s 8 n i fits } in
-    (spelled s n len fits few (eqb-true (u32_of s 0) commit_magic a.0) refl c.0 ∙ ap commit_bytes same, subst FitsCommit same fit)
+    (spelled s n len fits few (eqb-true (u32_of s 0) commit_magic a.0) refl c.0 ∙ ap short_bytes same, subst FitsCommit same fit)
 
-counted : (ts : List ℕ) → drop 4 (commit_bytes ts) ≡ le32 (length ts) ++ (le32s ts ++ zeros (504 - 4 * length ts))
+counted : (ts : List ℕ) → drop 4 (short_bytes ts) ≡ le32 (length ts) ++ (le32s ts ++ zeros (504 - 4 * length ts))
 unfolding le32
 counted ts = refl
 
-listed : (ts : List ℕ) → drop 8 (commit_bytes ts) ≡ le32s ts ++ zeros (504 - 4 * length ts)
+listed : (ts : List ℕ) → drop 8 (short_bytes ts) ≡ le32s ts ++ zeros (504 - 4 * length ts)
 unfolding le32
 listed ts = refl
 
-again : (ts : List ℕ) → FitsCommit ts → commit_of (commit_bytes ts) ≡ Ok ts
+again : (ts : List ℕ) → FitsCommit ts → commit_of (short_bytes ts) ≡ Ok ts
 unfolding commit_of
 again ts f =
-    let s = commit_bytes ts in
+    let s = short_bytes ts in
     let n = length ts in
     let magic : u32_of s 0 ≡ commit_magic = read32 s 0 commit_magic (le32 n ++ (le32s ts ++ zeros (504 - 4 * n))) refl (omega arith) in
     let count : u32_of s 4 ≡ n = read32 s 4 n (le32s ts ++ zeros (504 - 4 * n)) (counted ts) (omega (arith, f.few)) in
@@ -62,13 +70,46 @@ again ts f =
     rw (magic, count, targets) (rw (small, rest) refl)
 
 pub commit_codec : IsCodec 512 FitsCommit commit_bytes commit_of
-commit_codec = record { back = back; again = again }
+commit_codec = record {
+  back = λ s v len fits e. let is = back s v len fits e in (is.0 ∙ short_is v is.1.few, is.1);
+  again = λ v fits. ap commit_of (sym (short_is v fits.few)) ∙ again v fits;
+}
 
 -- a commit's spelling fills a sector
-pub length-commit_bytes : (ts : List ℕ) → length ts ≤ 126 → length (commit_bytes ts) ≡ 512
+pub length-commit_bytes : (ts : List ℕ) → length (commit_bytes ts) ≡ 512
 unfolding le32
-length-commit_bytes ts few =
-    omega (arith, length-le32s ts, length-append (le32s ts) (zeros (504 - 4 * length ts)), length-zeros (504 - 4 * length ts))
+length-commit_bytes ts =
+    let first = take 126 ts in
+    omega (arith, length-take 126 ts, length-le32s first, length-append (le32s first) (zeros (504 - 4 * length ts)), length-zeros (504 - 4 * length ts))
+
+-- ---- the numbers of a commit's spelling
+pub get_or-u32s_of : (s : List ℕ) (at n i : ℕ) → i < n → get_or (u32s_of s at n) i 0 ≡ u32_of s (at + 4 * i)
+unfolding u32s_of
+get_or-u32s_of s at zero i lt = absurd (omega (arith, lt))
+get_or-u32s_of s at (suc n) zero lt = ap (u32_of s) (omega arith)
+get_or-u32s_of s at (suc n) (suc i) lt = get_or-u32s_of s (at + 4) n i (omega (arith, lt)) ∙ ap (u32_of s) (omega arith)
+
+counted_long : (ts : List ℕ) → drop 4 (commit_bytes ts) ≡ le32 (length ts) ++ (le32s (take 126 ts) ++ zeros (504 - 4 * length ts))
+unfolding le32
+counted_long ts = refl
+
+listed_long : (ts : List ℕ) → drop 8 (commit_bytes ts) ≡ le32s (take 126 ts) ++ zeros (504 - 4 * length ts)
+unfolding le32
+listed_long ts = refl
+
+pub count_of-commit_bytes : (ts : List ℕ) → length ts < 2 ^ 32 → u32_of (commit_bytes ts) 4 ≡ length ts
+count_of-commit_bytes ts small = read32 (commit_bytes ts) 4 (length ts) (le32s (take 126 ts) ++ zeros (504 - 4 * length ts)) (counted_long ts) small
+
+pub number_of-commit_bytes : (ts : List ℕ) (i : ℕ) → ((j : ℕ) → get_or ts j 0 < 2 ^ 32) → i < 126 → i < length ts → u32_of (commit_bytes ts) (8 + 4 * i) ≡ get_or ts i 0
+number_of-commit_bytes ts i numbers low lt =
+    let first = take 126 ts in
+    let fit : (j : ℕ) → get_or first j 0 < 2 ^ 32 = λ j. elim (cases_lt j 126) [
+      | inl near ↦ rw (get_or-take 126 ts j 0 near) (numbers j)
+      | inr far ↦ rw (get_or_past first j 0 (omega (arith, length-take 126 ts, far))) (omega arith)
+    ] in
+    let read : u32s_of (commit_bytes ts) 8 (length first) ≡ first = read32s first (commit_bytes ts) 8 (zeros (504 - 4 * length ts)) (listed_long ts) fit in
+    sym (get_or-u32s_of (commit_bytes ts) 8 (length first) i (omega (arith, length-take 126 ts, low, lt)))
+    ∙ ap (λ (l : List ℕ). get_or l i 0) read ∙ get_or-take 126 ts i 0 low
 
 pub take-u32s_of : (s : List ℕ) (at k n : ℕ) → k ≤ n → take k (u32s_of s at n) ≡ u32s_of s at k
 unfolding u32s_of
@@ -89,16 +130,19 @@ read_to_end s to magic n zero_rest is right count few tested true_rest e =
     sym (rw (m, c) (rw (small, rest, read) refl))
 
 -- the four writes of a commit
-pub written : (old a b d e ts : List ℕ) (n : ℕ) → length old ≡ 512 → length ts ≤ 126 → n ≡ length ts → a ≡ splice old 0 (le32 commit_magic)
-    → b ≡ splice a 4 (le32 n) → d ≡ splice b 8 (le32s ts)
-    → e ≡ splice d (8 + 4 * n) (zeros (504 - 4 * n)) → e ≡ commit_bytes ts
+pub written : (old a b d e ts first : List ℕ) (n : ℕ) → length old ≡ 512 → n ≡ length ts → first ≡ take 126 ts → a ≡ splice old 0 (le32 commit_magic)
+    → b ≡ splice a 4 (le32 n) → d ≡ splice b 8 (le32s first)
+    → e ≡ splice d (8 + 4 * length first) (zeros (504 - 4 * length first)) → e ≡ commit_bytes ts
 unfolding le32
-written old a b d e ts n len few is wa wb wd we =
-    let long : length (le32s ts) ≡ 4 * length ts = length-le32s ts in
-    let z : length (zeros (504 - 4 * n)) ≡ 504 - 4 * n = length-zeros (504 - 4 * n) in
+written old a b d e ts first n len is of wa wb wd we =
+    let m = length first in
+    let short : m ≡ length (take 126 ts) = ap length of in
+    let long : length (le32s first) ≡ 4 * m = length-le32s first in
+    let z : length (zeros (504 - 4 * m)) ≡ 504 - 4 * m = length-zeros (504 - 4 * m) in
+    let same : 504 - 4 * m ≡ 504 - 4 * length ts = omega (arith, short, length-take 126 ts) in
     let b0 = first_write old a (le32 commit_magic) wa in
     let b1 = next_write old _ a b (le32 n) 4 b0 refl wb in
-    let b2 = next_write old _ b d (le32s ts) 8 b1 refl wd in
-    let b3 = next_write old _ d e (zeros (504 - 4 * n)) (8 + 4 * n) b2 (omega (arith, long, is)) we in
-    all_written old _ e b3 (omega (arith, len, long, z, few, is, length-append (le32s ts) (zeros (504 - 4 * n))))
-    ∙ ap (λ (k : ℕ). le32 commit_magic ++ (le32 k ++ (le32s ts ++ zeros (504 - 4 * k)))) is
+    let b2 = next_write old _ b d (le32s first) 8 b1 refl wd in
+    let b3 = next_write old _ d e (zeros (504 - 4 * m)) (8 + 4 * m) b2 (omega (arith, long)) we in
+    all_written old _ e b3 (omega (arith, len, long, z, short, length-take 126 ts, length-append (le32s first) (zeros (504 - 4 * m))))
+    ∙ (λ i. le32 commit_magic ++ (le32 (is i) ++ (le32s (of i) ++ zeros (same i))))

@@ -14,6 +14,7 @@ pub mod FirstEntries
 pub mod Free
 pub mod Fresh
 pub mod Gains
+pub mod HeaderLaw
 pub mod Held
 pub mod Holes
 pub mod ImageSlots

@@ -1,13 +1,18 @@
 -- What a recovered image is, and what it depends on.
-use Rattle.std.proofs.Common.{◌≡◌, ℕ, zero, suc, ◌+◌, ◌^◌, ◌<◌, ◌≤◌, ◌⊎◌, List, [], ◌∷◌, length, get_or, refl, sym, ap, subst, ◌∙◌, arith, inl, inr, false, nat_eq}
+use Rattle.std.proofs.Common.{◌≡◌, ℕ, zero, suc, ◌+◌, ◌*◌, ◌/◌, ◌%◌, ◌^◌, ◌<◌, ◌≤◌, ◌⊎◌, List, [], ◌∷◌, length, get_or, refl, sym, ap, subst, ◌∙◌, arith, inl, inr, false, nat_eq}
 use Rattle.std.specs.Prelude.{Contains}
 use Rattle.std.proofs.lemmas.Bool.{cases_eq, cond-true, cond-false, eq-eqb, ne_eqb}
 use Rattle.std.proofs.lemmas.List.{get_or_default}
+use Rattle.fs_layout.specs.Bytes.{SectorMap, u32_of}
+use Rattle.fs_layout.specs.declared.superblock.Super.{Super}
+use Rattle.fs_layout.specs.Header.{log_end, header_for, header_in, header_of}
+use Rattle.fs_layout.specs.Superblock.{FitsSuper, super_bytes}
 use Rattle.fs_layout.specs.declared.place.TheConstants.{INODE_BITMAP}
-use Rattle.fs_layout.specs.Bytes.{SectorMap}
+use Rattle.fs_layout.proofs.HeaderLaw.{no_header}
+use Rattle.fs_layout.proofs.SuperLaw.{super_codec}
 use Rattle.fs_layout.specs.Commit.{AreDistinct, AreTargets, IsCommit, IsValidCommit, commit_bytes, targets_in}
 use Rattle.fs_layout.specs.Recovered.{replayed, recovered}
-use Rattle.fs_layout.proofs.Targets.{no_targets, targets_in-commit, targets_in-invalid, targets_in-valid}
+use Rattle.fs_layout.proofs.Targets.{no_targets, targets_in-alike, targets_in-commit, targets_in-invalid, targets_in-valid}
 
 -- ---- sectors that are targets
 -- a sector is a target, at some index of the list, or it is none
@@ -31,11 +36,11 @@ contains_at ts k s lt is = (k, lt, get_or_default ts k s 0 lt ∙ is)
 behind : (t : ℕ) (ts : List ℕ) (s : ℕ) → Contains ts s → Contains (t ∷ ts) s
 behind t ts s c = (suc c.0, omega (arith, c.1), c.2)
 
-pub low_no_target : (size : ℕ) (ts : List ℕ) (s : ℕ) → AreTargets size ts → s < INODE_BITMAP → Contains ts s → ⊥
-low_no_target size ts s valid low c = let r : INODE_BITMAP ≤ get_or ts c.0 s = (valid.in_range c.0 s c.1).0 in omega (arith, r, c.2)
+pub low_no_target : (header size : ℕ) (ts : List ℕ) (s : ℕ) → AreTargets header size ts → s < log_end header → Contains ts s → ⊥
+low_no_target header size ts s valid low c = let r : log_end header ≤ get_or ts c.0 s = (valid.in_range c.0 s c.1).0 in omega (arith, r, c.2, low)
 
-pub past_no_target : (size : ℕ) (ts : List ℕ) (s : ℕ) → AreTargets size ts → size ≤ s → Contains ts s → ⊥
-past_no_target size ts s valid high c = let r : get_or ts c.0 s < size = (valid.in_range c.0 s c.1).1 in omega (arith, r, c.2)
+pub past_no_target : (header size : ℕ) (ts : List ℕ) (s : ℕ) → AreTargets header size ts → size ≤ s → Contains ts s → ⊥
+past_no_target header size ts s valid high c = let r : get_or ts c.0 s < size = (valid.in_range c.0 s c.1).1 in omega (arith, r, c.2)
 
 -- ---- replayed
 pub replayed-other : (image : SectorMap) (log : ℕ) (ts : List ℕ) (s : ℕ) → (Contains ts s → ⊥) → replayed image log ts s ≡ image s
@@ -80,80 +85,125 @@ replayed-same image new log (t ∷ ts) s logs own = elim (cases_eq s t) [
     past there none (suc k, lt, is) = none (k, omega (arith, lt), is)
 
 -- ---- recovered
--- an image whose commit sector has these targets
-pub recovered-commit : (size : ℕ) (image : SectorMap) (ts : List ℕ) (s : ℕ) → size < 2 ^ 32 → IsCommit size (image 1) ts
-    → recovered size image s ≡ replayed image 2 ts s
+-- the first log sector of an image
+abbrev pub log_start : SectorMap → ℕ
+log_start image = 2 + header_of (image 0)
+
+-- an image whose commit has these targets
+pub recovered-commit : (size : ℕ) (image : SectorMap) (ts : List ℕ) (s : ℕ) → size < 2 ^ 32 → IsCommit size image ts
+    → recovered size image s ≡ replayed image (log_start image) ts s
 unfolding recovered
-recovered-commit size image ts s small is = ap (λ (l : List ℕ). replayed image 2 l s) (targets_in-commit size (image 1) ts small is)
+recovered-commit size image ts s small is = ap (λ (l : List ℕ). replayed image (log_start image) l s) (targets_in-commit size image ts small is)
 
 -- a target has its log sector's content
-pub recovered-target : (size : ℕ) (image : SectorMap) (ts : List ℕ) (k : ℕ) → size < 2 ^ 32 → IsCommit size (image 1) ts → k < length ts
-    → recovered size image (get_or ts k 0) ≡ image (2 + k)
+pub recovered-target : (size : ℕ) (image : SectorMap) (ts : List ℕ) (k : ℕ) → size < 2 ^ 32 → IsCommit size image ts → k < length ts
+    → recovered size image (get_or ts k 0) ≡ image (log_start image + k)
 recovered-target size image ts k small is lt =
-    recovered-commit size image ts (get_or ts k 0) small is ∙ replayed-target image 2 ts k is.valid.apart lt
+    recovered-commit size image ts (get_or ts k 0) small is ∙ replayed-target image (log_start image) ts k is.valid.apart lt
 
 -- a sector that is no target has its own
-pub recovered-other : (size : ℕ) (image : SectorMap) (ts : List ℕ) (s : ℕ) → size < 2 ^ 32 → IsCommit size (image 1) ts
+pub recovered-other : (size : ℕ) (image : SectorMap) (ts : List ℕ) (s : ℕ) → size < 2 ^ 32 → IsCommit size image ts
     → (Contains ts s → ⊥) → recovered size image s ≡ image s
-recovered-other size image ts s small is none = recovered-commit size image ts s small is ∙ replayed-other image 2 ts s none
+recovered-other size image ts s small is none = recovered-commit size image ts s small is ∙ replayed-other image (log_start image) ts s none
 
--- an image with an idle commit sector is recovered
+-- an image with an idle commit sector
+pub idle_commit : (size : ℕ) (image : SectorMap) → image 1 ≡ commit_bytes [] → IsCommit size image []
+idle_commit size image idle = record { bytes = idle; more = λ k lt. absurd (omega (arith, lt)); valid = no_targets (header_of (image 0)) size }
+
+-- it is recovered
 pub recovered-idle : (size : ℕ) (image : SectorMap) (s : ℕ) → size < 2 ^ 32 → image 1 ≡ commit_bytes [] → recovered size image s ≡ image s
-recovered-idle size image s small idle = recovered-commit size image [] s small (record { bytes = idle; valid = no_targets size })
+recovered-idle size image s small idle = recovered-commit size image [] s small (idle_commit size image idle)
 
--- and so is one whose commit sector is not valid
-pub recovered-invalid : (size : ℕ) (image : SectorMap) (s : ℕ) → (IsValidCommit size (image 1) → ⊥) → recovered size image s ≡ image s
+-- and so is one whose commit is not valid
+pub recovered-invalid : (size : ℕ) (image : SectorMap) (s : ℕ) → (IsValidCommit size image → ⊥) → recovered size image s ≡ image s
 unfolding recovered
-recovered-invalid size image s none = ap (λ (l : List ℕ). replayed image 2 l s) (targets_in-invalid size (image 1) none)
+recovered-invalid size image s none = ap (λ (l : List ℕ). replayed image (log_start image) l s) (targets_in-invalid size image none)
 
--- superblock, commit sector and log are never targets, whatever the commit sector holds
-pub recovered-low : (size : ℕ) (image : SectorMap) (s : ℕ) → s < INODE_BITMAP → recovered size image s ≡ image s
+-- superblock, commit sector, header and log are never targets, whatever they hold
+pub recovered-low : (size : ℕ) (image : SectorMap) (s : ℕ) → s < log_end (header_of (image 0)) → recovered size image s ≡ image s
 unfolding recovered
 recovered-low size image s low =
-    replayed-other image 2 (targets_in size (image 1)) s (low_no_target size (targets_in size (image 1)) s (targets_in-valid size (image 1)) low)
+    replayed-other image (log_start image) (targets_in size image) s (low_no_target (header_of (image 0)) size (targets_in size image) s (targets_in-valid size image) low)
+
+pub recovered-super : (size : ℕ) (image : SectorMap) → recovered size image 0 ≡ image 0
+recovered-super size image = recovered-low size image 0 (omega arith)
 
 -- nor are sectors past the disk's end
 pub recovered-past : (size : ℕ) (image : SectorMap) (s : ℕ) → size ≤ s → recovered size image s ≡ image s
 unfolding recovered
 recovered-past size image s high =
-    replayed-other image 2 (targets_in size (image 1)) s (past_no_target size (targets_in size (image 1)) s (targets_in-valid size (image 1)) high)
+    replayed-other image (log_start image) (targets_in size image) s (past_no_target (header_of (image 0)) size (targets_in size image) s (targets_in-valid size image) high)
 
--- A recovered sector depends on the commit sector, on the log sectors in use and, where it is no target, on itself. So
--- a sealed image stays the same while its targets are written, and an idle one while the log is.
-pub recovered-same : (size : ℕ) (image new : SectorMap) (s : ℕ) → new 1 ≡ image 1
-    → ((k : ℕ) → k < length (targets_in size (image 1)) → new (2 + k) ≡ image (2 + k))
-    → ((Contains (targets_in size (image 1)) s → ⊥) → new s ≡ image s) → recovered size new s ≡ recovered size image s
-unfolding recovered
-recovered-same size image new s commit logs own =
-    ap (λ (content : List ℕ). replayed new 2 (targets_in size content) s) commit
-    ∙ replayed-same image new 2 (targets_in size (image 1)) s logs own
+-- A recovered sector depends on the targets, on the log sectors in use and, where it is no target, on itself. So a sealed
+-- image stays the same while its targets are written, and an idle one while the log is.
+pub recovered-same : (size : ℕ) (image new : SectorMap) (ts : List ℕ) (s : ℕ) → size < 2 ^ 32 → IsCommit size image ts → IsCommit size new ts → new 0 ≡ image 0
+    → ((k : ℕ) → k < length ts → new (log_start image + k) ≡ image (log_start image + k))
+    → ((Contains ts s → ⊥) → new s ≡ image s) → recovered size new s ≡ recovered size image s
+recovered-same size image new ts s small is now super logs own =
+    recovered-commit size new ts s small now
+    ∙ ap (λ (content : List ℕ). replayed new (2 + header_of content) ts s) super
+    ∙ replayed-same image new (log_start image) ts s logs own
+    ∙ sym (recovered-commit size image ts s small is)
 
 -- an image whose targets have the log's contents is recovered
-pub recovered-installed : (size : ℕ) (image : SectorMap) (s : ℕ)
-    → ((k : ℕ) → k < length (targets_in size (image 1)) → image (get_or (targets_in size (image 1)) k 0) ≡ image (2 + k))
+pub recovered-installed : (size : ℕ) (image : SectorMap) (ts : List ℕ) (s : ℕ) → size < 2 ^ 32 → IsCommit size image ts
+    → ((k : ℕ) → k < length ts → image (get_or ts k 0) ≡ image (log_start image + k))
     → recovered size image s ≡ image s
-unfolding recovered
-recovered-installed size image s in_place =
-    let ts = targets_in size (image 1) in
-    elim (target_or_none ts s) [
+recovered-installed size image ts s small is in_place =
+    recovered-commit size image ts s small is
+    ∙ elim (target_or_none ts s) [
       | inl found ↦
-          ap (λ (n : ℕ). replayed image 2 ts n) (sym found.1.1)
-          ∙ replayed-target image 2 ts found.0 (targets_in-valid size (image 1)).apart found.1.0
+          ap (λ (n : ℕ). replayed image (log_start image) ts n) (sym found.1.1)
+          ∙ replayed-target image (log_start image) ts found.0 is.valid.apart found.1.0
           ∙ sym (in_place found.0 found.1.0) ∙ ap image found.1.1
-      | inr none ↦ replayed-other image 2 ts s none
+      | inr none ↦ replayed-other image (log_start image) ts s none
     ]
 
 -- what holds of the log sectors in use, and of a sector itself, holds of the recovered sector
 pub recovered-has : (P : List ℕ → Type 0) (size : ℕ) (image : SectorMap) (s : ℕ)
-    → ((k : ℕ) → k < length (targets_in size (image 1)) → P (image (2 + k))) → P (image s) → P (recovered size image s)
+    → ((k : ℕ) → k < length (targets_in size image) → P (image (log_start image + k))) → P (image s) → P (recovered size image s)
 unfolding recovered
 recovered-has P size image s logs own =
-    let ts = targets_in size (image 1) in
+    let ts = targets_in size image in
     elim (target_or_none ts s) [
       | inl found ↦
           subst P
-          (sym (ap (λ (n : ℕ). replayed image 2 ts n) (sym found.1.1)
-          ∙ replayed-target image 2 ts found.0 (targets_in-valid size (image 1)).apart found.1.0))
+          (sym (ap (λ (n : ℕ). replayed image (log_start image) ts n) (sym found.1.1)
+          ∙ replayed-target image (log_start image) ts found.0 (targets_in-valid size image).apart found.1.0))
           (logs found.0 found.1.0)
-      | inr none ↦ subst P (sym (replayed-other image 2 ts s none)) own
+      | inr none ↦ subst P (sym (replayed-other image (log_start image) ts s none)) own
     ]
+
+-- A recovered sector depends on how many header sectors there are, on commit sector, header, the log sectors in use, and
+-- on itself, whether the commit is valid or not.
+pub recovered-alike : (size : ℕ) (image new : SectorMap) (s : ℕ) → header_of (new 0) ≡ header_of (image 0) → new 1 ≡ image 1
+    → ((k : ℕ) → k < header_of (image 0) → new (2 + k) ≡ image (2 + k))
+    → ((k : ℕ) → k < length (targets_in size image) → new (log_start image + k) ≡ image (log_start image + k)) → new s ≡ image s → recovered size new s ≡ recovered size image s
+unfolding recovered
+recovered-alike size image new s super one header logs own =
+    (λ j. replayed new (2 + super j) (targets_in-alike size image new super one header j) s)
+    ∙ replayed-same image new (log_start image) (targets_in size image) s logs (λ _. own)
+
+-- how many header sectors a superblock tells
+pub header_of-super_bytes : (v : Super) → FitsSuper v → header_of (super_bytes v) ≡ header_in v.version v.sectors v.inodes
+unfolding header_of
+header_of-super_bytes v fits = ap header_for (super_codec.again v fits)
+
+-- and the log that it tells ends before the bitmaps
+pub log_before_bitmaps : (v : Super) (content : List ℕ) → FitsSuper v → content ≡ super_bytes v → log_end (header_of content) ≤ INODE_BITMAP
+log_before_bitmaps v content fits is = omega (arith, ap header_of is ∙ header_of-super_bytes v fits ∙ no_header v.version v.sectors v.inodes)
+
+-- a valid commit stays one where superblock, commit sector and header stay
+pub valid_alike : (size : ℕ) (image new : SectorMap) → header_of (new 0) ≡ header_of (image 0) → new 1 ≡ image 1 → ((k : ℕ) → k < header_of (image 0) → new (2 + k) ≡ image (2 + k))
+    → IsValidCommit size image → IsValidCommit size new
+valid_alike size image new super one header valid =
+    let is = valid.is in
+    let few = is.valid.few in
+    record {
+      targets = valid.targets;
+      is = record {
+        bytes = one ∙ is.bytes;
+        more = λ k lt. ap (λ s. u32_of s (4 * (k % 128))) (header (k / 128) (omega (arith, lt, few))) ∙ is.more k lt;
+        valid = subst (λ h. AreTargets h size valid.targets) (sym super) is.valid;
+      };
+    }

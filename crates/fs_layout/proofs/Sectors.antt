@@ -101,13 +101,13 @@ IsSector-super_bytes v = let n = version_number v.version in record {
       (IsBytes-append (le32 v.inodes) (zeros 496) (IsBytes-le32 v.inodes) (IsBytes-zeros 496))));
 }
 
-pub IsSector-commit_bytes : (ts : List ℕ) → length ts ≤ 126 → IsSector (commit_bytes ts)
-IsSector-commit_bytes ts few = record {
-  len = length-commit_bytes ts few;
+pub IsSector-commit_bytes : (ts : List ℕ) → IsSector (commit_bytes ts)
+IsSector-commit_bytes ts = record {
+  len = length-commit_bytes ts;
   bytes =
-      IsBytes-append (le32 commit_magic) (le32 (length ts) ++ (le32s ts ++ zeros (504 - 4 * length ts))) (IsBytes-le32 commit_magic)
-      (IsBytes-append (le32 (length ts)) (le32s ts ++ zeros (504 - 4 * length ts)) (IsBytes-le32 (length ts))
-      (IsBytes-append (le32s ts) (zeros (504 - 4 * length ts)) (IsBytes-le32s ts) (IsBytes-zeros (504 - 4 * length ts))));
+      IsBytes-append (le32 commit_magic) (le32 (length ts) ++ (le32s (take 126 ts) ++ zeros (504 - 4 * length ts))) (IsBytes-le32 commit_magic)
+      (IsBytes-append (le32 (length ts)) (le32s (take 126 ts) ++ zeros (504 - 4 * length ts)) (IsBytes-le32 (length ts))
+      (IsBytes-append (le32s (take 126 ts)) (zeros (504 - 4 * length ts)) (IsBytes-le32s (take 126 ts)) (IsBytes-zeros (504 - 4 * length ts))));
 }
 
 entry_is_bytes : (e : EntryNumbers) → IsBytes (entry_bytes e)

@@ -1,20 +1,26 @@
 -- Which content is a valid commit sector, and what targets it has.
-use Rattle.std.proofs.Common.{◌≡◌, ◌⊎◌, ℕ, ◌^◌, ◌<◌, ◌≤◌, List, [], ◌∷◌, length, get_or, refl, sym, ap, subst, ◌∙◌, arith, inl, inr, Bool, true, false, cond, not, ◌&&◌, Result, Ok, Err, nat_eq, nat_le, nat_lt}
+use Rattle.std.proofs.Common.{◌≡◌, ℕ, ◌+◌, ◌*◌, ◌-◌, ◌/◌, ◌%◌, ◌^◌, ◌<◌, ◌≤◌, List, [], ◌∷◌, length, get_or, refl, sym, ap, subst, ◌∙◌, arith, inl, inr, Bool, true, false, cond, not, ◌&&◌, Result, Ok, Err, nat_eq, nat_le, nat_lt}
 use Rattle.std.specs.Prelude.{All}
 use Rattle.std.specs.Bool.{Decides}
 use Rattle.std.specs.List.{list_all, list_any, AllByRecursion, IsDistinct}
 use Rattle.std.specs.Str.{bytes_eq}
-use Rattle.std.proofs.lemmas.Bool.{and_parts, and_from, both_ways, cases_lt, cond-true, cond-false, false_from_ne_true, leb-true, le-leb, not-true, not_from_false, or_from, or_parts}
+use Rattle.std.proofs.lemmas.Bool.{and_parts, and_from, cases_lt, cond-true, cond-false, false_from_ne_true, leb-true, le-leb, le-ltb, lt-ltb, not-true, not_from_false, or_from, or_parts}
 use Rattle.std.proofs.lemmas.Bool.Decides.{Decides-and, Decides-by_and, Decides-eqb, Decides-like, Decides-ltb}
-use Rattle.std.proofs.lemmas.List.{get_or_past}
+use Rattle.std.proofs.lemmas.List.{ext_get_or, get_or_past}
+use Rattle.std.proofs.lemmas.List.FromFn.{get_or-map-range_with_len, length-map-range_with_len}
 use Rattle.std.proofs.lemmas.List.Elements.{All-nil}
 use Rattle.std.proofs.lemmas.Map.Made.{AllPairs-from_IsDistinct, IsDistinct-from_AllPairs}
 use Rattle.std.proofs.lemmas.Slice.Eq.{bytes_eq-Decides}
-use Rattle.fs_layout.specs.declared.place.TheConstants.{INODE_BITMAP}
 use Rattle.fs_layout.specs.declared.fault.LayoutFault.{LayoutFault}
-use Rattle.fs_layout.specs.Commit.{AreDistinct, AreTargets, FitsCommit, IsCommit, IsValidCommit, are_apart, are_targets, commit_bytes, commit_of, targets_if, targets_in}
-use Rattle.fs_layout.proofs.Codecs.{same_ok}
-use Rattle.fs_layout.proofs.CommitLaw.{commit_codec}
+use Rattle.fs_layout.specs.declared.header.TheConstants.{MAX_HEADER}
+use Rattle.fs_layout.specs.declared.superblock.Super.{Super}
+use Rattle.fs_layout.specs.declared.version.Version.{Version}
+use Rattle.fs_layout.specs.declared.version.Version.TheVariants.{One, Two}
+use Rattle.fs_layout.specs.Bytes.{SectorMap, u32_of}
+use Rattle.fs_layout.specs.Header.{log_end, max_targets, header_in, header_for, header_of}
+use Rattle.fs_layout.specs.Superblock.{super_of}
+use Rattle.fs_layout.specs.Commit.{AreDistinct, AreTargets, IsCommit, IsValidCommit, are_apart, are_targets, commit_bytes, header_number, named, target_number, targets_if, targets_in}
+use Rattle.fs_layout.proofs.CommitLaw.{count_of-commit_bytes, number_of-commit_bytes}
 
 -- ---- the tests say what they are called
 none_equal : (n : ℕ) (ns : List ℕ) → AllByRecursion (λ y. nat_eq n y ≡ false) ns → list_any (nat_eq n) ns ≡ false
@@ -41,133 +47,207 @@ apart_decides : (ns : List ℕ) → Decides (are_apart ns) (AreDistinct ns)
 apart_decides ns =
     (λ e. AllPairs-from_IsDistinct Decides-eqb ns (passed_apart ns e), λ apart. apart_passes ns (IsDistinct-from_AllPairs Decides-eqb ns apart))
 
-abbrev IsInRange : ℕ → ℕ → Type 0
-IsInRange size t = (INODE_BITMAP ≤ t) × (t < size)
+abbrev IsInRange : ℕ → ℕ → ℕ → Type 0
+IsInRange header size t = (log_end header ≤ t) × (t < size)
 
-abbrev is_in_range : ℕ → ℕ → Bool
-is_in_range size t = nat_le INODE_BITMAP t && nat_lt t size
+abbrev is_in_range : ℕ → ℕ → ℕ → Bool
+is_in_range header size t = nat_le (log_end header) t && nat_lt t size
 
-range_decides : (size t : ℕ) → Decides (is_in_range size t) (IsInRange size t)
-range_decides size t = Decides-and (nat_le INODE_BITMAP t) (nat_lt t size) (leb-true INODE_BITMAP t, le-leb INODE_BITMAP t) (Decides-ltb t size)
+range_decides : (header size t : ℕ) → Decides (is_in_range header size t) (IsInRange header size t)
+range_decides header size t = let first = log_end header in Decides-and (nat_le first t) (nat_lt t size) (leb-true first t, le-leb first t) (Decides-ltb t size)
 
-ranges_decide : (size : ℕ) (ts : List ℕ) → Decides (list_all (is_in_range size) ts) (All (IsInRange size) ts)
-ranges_decide size ts =
-    Decides-by_and (is_in_range size) (IsInRange size) (list_all (is_in_range size)) (range_decides size) refl (λ _ _. refl) ts
+ranges_decide : (header size : ℕ) (ts : List ℕ) → Decides (list_all (is_in_range header size) ts) (All (IsInRange header size) ts)
+ranges_decide header size ts =
+    Decides-by_and (is_in_range header size) (IsInRange header size) (list_all (is_in_range header size)) (range_decides header size) refl (λ _ _. refl) ts
 
-pub are_targets-decides : (size : ℕ) (ts : List ℕ) → Decides (are_targets size ts) (AreTargets size ts)
+pub are_targets-decides : (header size : ℕ) (ts : List ℕ) → Decides (are_targets header size ts) (AreTargets header size ts)
 unfolding are_targets
-are_targets-decides size ts =
-    let few = nat_le (length ts) 126 in
-    let ranges = list_all (is_in_range size) ts in
-    let first = Decides-and few ranges (leb-true (length ts) 126, le-leb (length ts) 126) (ranges_decide size ts) in
-    Decides-like (are_targets size ts) (λ p. record { few = p.0.0; in_range = p.0.1; apart = p.1 }) (λ t. ((t.few, t.in_range), t.apart))
+are_targets-decides header size ts =
+    let most = max_targets header in
+    let few = nat_le (length ts) most in
+    let ranges = list_all (is_in_range header size) ts in
+    let first = Decides-and few ranges (leb-true (length ts) most, le-leb (length ts) most) (ranges_decide header size ts) in
+    Decides-like (are_targets header size ts) (λ p. record { few = p.0.0; in_range = p.0.1; apart = p.1 }) (λ t. ((t.few, t.in_range), t.apart))
     (Decides-and (few && ranges) (are_apart ts) first (apart_decides ts))
 
 -- an idle commit is valid on each disk
-pub no_targets : (size : ℕ) → AreTargets size []
-no_targets size = record { few = omega arith; in_range = All-nil (IsInRange size); apart = λ i j d lt fits. absurd (omega (arith, fits)) }
+pub no_targets : (header size : ℕ) → AreTargets header size []
+no_targets header size = record { few = omega arith; in_range = All-nil (IsInRange header size); apart = λ i j d lt fits. absurd (omega (arith, fits)) }
 
 -- valid targets fit their fields
-pub targets_fit : (size : ℕ) (ts : List ℕ) → size < 2 ^ 32 → AreTargets size ts → FitsCommit ts
-targets_fit size ts small valid = record {
-  few = valid.few;
-  numbers = λ i. elim (cases_lt i (length ts)) [
-    | inl lt ↦ let t : get_or ts i 0 < size = (valid.in_range i 0 lt).1 in omega (arith, t)
-    | inr le ↦ rw (get_or_past ts i 0 le) (omega arith)
-  ];
+pub targets_small : (header size : ℕ) (ts : List ℕ) → size < 2 ^ 32 → AreTargets header size ts → (i : ℕ) → get_or ts i 0 < 2 ^ 32
+targets_small header size ts small valid i = elim (cases_lt i (length ts)) [
+  | inl lt ↦ let t : get_or ts i 0 < size = (valid.in_range i 0 lt).1 in omega (arith, t)
+  | inr le ↦ rw (get_or_past ts i 0 le) (omega arith)
+]
+
+-- ---- how large a header is
+header_for_most : (r : Result Super LayoutFault) → header_for r ≤ MAX_HEADER
+header_for_most (Ok v) = of_version v.version
+  where
+    of_version : (version : Version) → header_in version v.sectors v.inodes ≤ MAX_HEADER
+    of_version One = omega arith
+    of_version Two = omega arith
+header_for_most (Err fault) = omega arith
+
+pub header_most : (content : List ℕ) → header_of content ≤ MAX_HEADER
+unfolding header_of
+header_most content = header_for_most (super_of content)
+
+-- ---- what an image names
+pub length-named : (image : SectorMap) (n : ℕ) → length (named image n) ≡ n
+length-named image n = length-map-range_with_len (target_number image) 0 n
+
+-- the targets of a commit are what its image names
+named_is : (size : ℕ) (image : SectorMap) (ts : List ℕ) → size < 2 ^ 32 → IsCommit size image ts → named image (u32_of (image 1) 4) ≡ ts
+named_is size image ts small is =
+    let few : length ts ≤ max_targets (header_of (image 0)) = is.valid.few in
+    let count : u32_of (image 1) 4 ≡ length ts = ap (λ s. u32_of s 4) is.bytes ∙ count_of-commit_bytes ts (omega (arith, few, header_most (image 0))) in
+    let f = target_number image in
+    ext_get_or 0 (named image (u32_of (image 1) 4)) ts (length-named image (u32_of (image 1) 4) ∙ count) (λ i below.
+    let lt : i < length ts = omega (arith, below, length-named image (u32_of (image 1) 4), count) in
+    get_or-map-range_with_len f 0 (u32_of (image 1) 4) i i 0 (omega (arith, lt, count)) (omega arith)
+    ∙ each i lt)
+  where
+    each : (i : ℕ) → i < length ts → target_number image i ≡ get_or ts i 0
+    each i lt = elim (cases_lt i 126) [
+      | inl low ↦
+          cond-true (nat_lt i 126) (u32_of (image 1) (8 + 4 * i)) (header_number image (i - 126)) (lt-ltb i 126 low)
+          ∙ ap (λ s. u32_of s (8 + 4 * i)) is.bytes
+          ∙ number_of-commit_bytes ts i (targets_small (header_of (image 0)) size ts small is.valid) low lt
+      | inr high ↦
+          cond-false (nat_lt i 126) (u32_of (image 1) (8 + 4 * i)) (header_number image (i - 126)) (le-ltb i 126 high)
+          ∙ is.more (i - 126) (omega (arith, high, lt))
+          ∙ ap (λ k. get_or ts k 0) (omega (arith, high))
+    ]
+
+-- the commit of an image has exactly these targets
+pub targets_in-commit : (size : ℕ) (image : SectorMap) (ts : List ℕ) → size < 2 ^ 32 → IsCommit size image ts → targets_in size image ≡ ts
+unfolding targets_in
+targets_in-commit size image ts small is =
+    let header = header_of (image 0) in
+    ap (targets_if size image) (named_is size image ts small is)
+    ∙ cond-true (are_targets header size ts && bytes_eq (image 1) (commit_bytes ts)) ts []
+    (and_from (are_targets header size ts) (bytes_eq (image 1) (commit_bytes ts)) ((are_targets-decides header size ts).1 is.valid)
+    ((bytes_eq-Decides (image 1) (commit_bytes ts)).1 is.bytes))
+
+-- an image has one list of targets
+pub same_targets : (size : ℕ) (image : SectorMap) (ts us : List ℕ) → size < 2 ^ 32 → IsCommit size image ts → IsCommit size image us → ts ≡ us
+same_targets size image ts us small a b = sym (targets_in-commit size image ts small a) ∙ targets_in-commit size image us small b
+
+-- a valid commit is that of its targets
+pub commit_in : (size : ℕ) (image : SectorMap) → size < 2 ^ 32 → IsValidCommit size image → IsCommit size image (targets_in size image)
+commit_in size image small valid =
+    subst (IsCommit size image) (sym (targets_in-commit size image valid.targets small valid.is)) valid.is
+
+-- ---- targets that an image names, and that pass both tests
+-- a list with the numbers that an image names is what it names
+pub named_by_numbers : (image : SectorMap) (ts : List ℕ) → u32_of (image 1) 4 ≡ length ts
+    → ((i : ℕ) → i < 126 → i < length ts → get_or ts i 0 ≡ u32_of (image 1) (8 + 4 * i))
+    → ((k : ℕ) → 126 + k < length ts → header_number image k ≡ get_or ts (126 + k) 0)
+    → named image (u32_of (image 1) 4) ≡ ts
+named_by_numbers image ts count first more =
+    ext_get_or 0 (named image (u32_of (image 1) 4)) ts (length-named image (u32_of (image 1) 4) ∙ count) (λ i below.
+    let lt : i < length ts = omega (arith, below, length-named image (u32_of (image 1) 4), count) in
+    get_or-map-range_with_len (target_number image) 0 (u32_of (image 1) 4) i i 0 (omega (arith, lt, count)) (omega arith)
+    ∙ each i lt)
+  where
+    each : (i : ℕ) → i < length ts → target_number image i ≡ get_or ts i 0
+    each i lt = elim (cases_lt i 126) [
+      | inl low ↦
+          cond-true (nat_lt i 126) (u32_of (image 1) (8 + 4 * i)) (header_number image (i - 126)) (lt-ltb i 126 low) ∙ sym (first i low lt)
+      | inr high ↦
+          cond-false (nat_lt i 126) (u32_of (image 1) (8 + 4 * i)) (header_number image (i - 126)) (le-ltb i 126 high)
+          ∙ more (i - 126) (omega (arith, high, lt))
+          ∙ ap (λ k. get_or ts k 0) (omega (arith, high))
+    ]
+
+named_more : (image : SectorMap) (n k : ℕ) → 126 + k < n → header_number image k ≡ get_or (named image n) (126 + k) 0
+named_more image n k lt =
+    sym (get_or-map-range_with_len (target_number image) 0 n (126 + k) (126 + k) 0 lt (omega arith)
+    ∙ cond-false (nat_lt (126 + k) 126) (u32_of (image 1) (8 + 4 * (126 + k))) (header_number image (126 + k - 126)) (le-ltb (126 + k) 126 (omega arith))
+    ∙ ap (header_number image) (omega arith))
+
+-- what an image names is its commit where it passes both tests
+pub named_commit : (size : ℕ) (image : SectorMap) → let ts = named image (u32_of (image 1) 4) in
+    AreTargets (header_of (image 0)) size ts → image 1 ≡ commit_bytes ts → IsCommit size image ts
+named_commit size image valid bytes = record {
+  bytes = bytes;
+  more = λ k lt. named_more image (u32_of (image 1) 4) k (omega (arith, lt, length-named image (u32_of (image 1) 4)));
+  valid = valid;
 }
 
--- ---- what a commit sector names
--- the spelling of valid targets is a valid commit sector, with exactly these targets
-pub targets_in-commit : (size : ℕ) (content ts : List ℕ) → size < 2 ^ 32 → IsCommit size content ts → targets_in size content ≡ ts
+passed : (size : ℕ) (image : SectorMap) (ts : List ℕ) → (are_targets (header_of (image 0)) size ts && bytes_eq (image 1) (commit_bytes ts)) ≡ true
+    → AreTargets (header_of (image 0)) size ts × (image 1 ≡ commit_bytes ts)
+passed size image ts e =
+    let parts = and_parts (are_targets (header_of (image 0)) size ts) (bytes_eq (image 1) (commit_bytes ts)) e in
+    ((are_targets-decides (header_of (image 0)) size ts).0 parts.0, (bytes_eq-Decides (image 1) (commit_bytes ts)).0 parts.1)
+
+-- an image without a valid commit has no targets
+pub targets_in-invalid : (size : ℕ) (image : SectorMap) → (IsValidCommit size image → ⊥) → targets_in size image ≡ []
 unfolding targets_in
-targets_in-commit size content ts small is =
-    let read : commit_of content ≡ Ok ts = ap commit_of is.bytes ∙ commit_codec.again ts (targets_fit size ts small is.valid) in
-    ap (targets_if size content) read
-    ∙ cond-true (are_targets size ts && bytes_eq content (commit_bytes ts)) ts []
-    (and_from (are_targets size ts) (bytes_eq content (commit_bytes ts)) ((are_targets-decides size ts).1 is.valid)
-    ((bytes_eq-Decides content (commit_bytes ts)).1 is.bytes))
+targets_in-invalid size image none =
+    let ts = named image (u32_of (image 1) 4) in
+    let test = are_targets (header_of (image 0)) size ts && bytes_eq (image 1) (commit_bytes ts) in
+    cond-false test ts []
+    (false_from_ne_true test (λ e. let both = passed size image ts e in none (record { targets = ts; is = named_commit size image both.0 both.1 })))
 
--- a commit sector has one list of targets
-pub same_targets : (size : ℕ) (content ts us : List ℕ) → size < 2 ^ 32 → IsCommit size content ts → IsCommit size content us → ts ≡ us
-same_targets size content ts us small a b = sym (targets_in-commit size content ts small a) ∙ targets_in-commit size content us small b
-
--- a valid commit sector is the spelling of its targets
-pub commit_in : (size : ℕ) (content : List ℕ) → size < 2 ^ 32 → IsValidCommit size content → IsCommit size content (targets_in size content)
-commit_in size content small valid =
-    subst (IsCommit size content) (sym (targets_in-commit size content valid.targets small valid.is)) valid.is
-
--- what was read is what the sector names
-targets_named : (size : ℕ) (content : List ℕ) (r : Result (List ℕ) LayoutFault) → (IsValidCommit size content → ⊥)
-    → targets_if size content r ≡ []
-targets_named size content (Err fault) none = refl
-targets_named size content (Ok ts) none =
-    cond-false (are_targets size ts && bytes_eq content (commit_bytes ts)) ts []
-    (false_from_ne_true (are_targets size ts && bytes_eq content (commit_bytes ts)) (λ e.
-    let parts = and_parts (are_targets size ts) (bytes_eq content (commit_bytes ts)) e in
-    none (record {
-      targets = ts;
-      is = record { bytes = (bytes_eq-Decides content (commit_bytes ts)).0 parts.1; valid = (are_targets-decides size ts).0 parts.0 };
-    })))
-
--- a content that is no valid commit sector has no targets
-pub targets_in-invalid : (size : ℕ) (content : List ℕ) → (IsValidCommit size content → ⊥) → targets_in size content ≡ []
+-- what an image names is valid, whatever the image is
+pub targets_in-valid : (size : ℕ) (image : SectorMap) → AreTargets (header_of (image 0)) size (targets_in size image)
 unfolding targets_in
-targets_in-invalid size content none = targets_named size content (commit_of content) none
-
-named_valid : (size : ℕ) (content : List ℕ) (r : Result (List ℕ) LayoutFault) → AreTargets size (targets_if size content r)
-named_valid size content (Err fault) = no_targets size
-named_valid size content (Ok ts) = chosen (are_targets size ts && bytes_eq content (commit_bytes ts)) refl
+targets_in-valid size image =
+    let ts = named image (u32_of (image 1) 4) in chosen ts (are_targets (header_of (image 0)) size ts && bytes_eq (image 1) (commit_bytes ts)) refl
   where
-    chosen : (b : Bool) → (are_targets size ts && bytes_eq content (commit_bytes ts)) ≡ b → AreTargets size (cond b ts [])
-    chosen true e = (are_targets-decides size ts).0 (and_parts (are_targets size ts) (bytes_eq content (commit_bytes ts)) e).0
-    chosen false e = no_targets size
+    chosen : (ts : List ℕ) (b : Bool) → (are_targets (header_of (image 0)) size ts && bytes_eq (image 1) (commit_bytes ts)) ≡ b
+        → AreTargets (header_of (image 0)) size (cond b ts [])
+    chosen ts true e = (passed size image ts e).0
+    chosen ts false e = no_targets (header_of (image 0)) size
 
--- what a content names is valid, whatever the content is
-pub targets_in-valid : (size : ℕ) (content : List ℕ) → AreTargets size (targets_in size content)
-unfolding targets_in
-targets_in-valid size content = named_valid size content (commit_of content)
+-- an image with other targets, or with another commit sector, than what it names has no valid commit
+pub not_valid : (size : ℕ) (image : SectorMap) (ts : List ℕ) → size < 2 ^ 32 → named image (u32_of (image 1) 4) ≡ ts
+    → (AreTargets (header_of (image 0)) size ts → image 1 ≡ commit_bytes ts → ⊥) → IsValidCommit size image → ⊥
+not_valid size image ts small names none valid =
+    let same : valid.targets ≡ ts = sym (named_is size image valid.targets small valid.is) ∙ names in
+    none (subst (AreTargets (header_of (image 0)) size) same valid.is.valid) (valid.is.bytes ∙ ap commit_bytes same)
 
--- ---- what a reading says
--- a content that is refused is no valid commit sector
-pub refused_not_valid : (size : ℕ) (content : List ℕ) (fault : LayoutFault) → size < 2 ^ 32 → commit_of content ≡ Err fault
-    → IsValidCommit size content → ⊥
-refused_not_valid size content fault small refused valid =
-    let read : commit_of content ≡ Ok valid.targets =
-    ap commit_of valid.is.bytes ∙ commit_codec.again valid.targets (targets_fit size valid.targets small valid.is.valid) in
-    cc (refused, read)
-
--- nor is one whose targets this disk may not have
-pub read_not_valid : (size : ℕ) (content ts : List ℕ) → size < 2 ^ 32 → commit_of content ≡ Ok ts → (AreTargets size ts → ⊥)
-    → IsValidCommit size content → ⊥
-read_not_valid size content ts small read none valid =
-    let other : commit_of content ≡ Ok valid.targets =
-    ap commit_of valid.is.bytes ∙ commit_codec.again valid.targets (targets_fit size valid.targets small valid.is.valid) in
-    none (subst (AreTargets size) (same_ok valid.targets ts (commit_of content) other read) valid.is.valid)
-
--- whether a content is a valid commit sector
-pub valid_or_not : (size : ℕ) (content : List ℕ) → size < 2 ^ 32 → IsValidCommit size content ⊎ (IsValidCommit size content → ⊥)
-valid_or_not size content small = by_reading (commit_of content) refl
+-- ---- an image whose superblock, commit sector, header and log are those of another one, valid or not
+named_same : (image new : SectorMap) (n : ℕ) → new 1 ≡ image 1 → ((k : ℕ) → 126 + k < n → header_number new k ≡ header_number image k) → named new n ≡ named image n
+named_same image new n one header =
+    ext_get_or 0 (named new n) (named image n) (length-named new n ∙ sym (length-named image n)) (λ i below.
+    let lt : i < n = omega (arith, below, length-named new n) in
+    get_or-map-range_with_len (target_number new) 0 n i i 0 lt (omega arith)
+    ∙ each i lt
+    ∙ sym (get_or-map-range_with_len (target_number image) 0 n i i 0 lt (omega arith)))
   where
-    by_test : (ts : List ℕ) (b : Bool) → commit_of content ≡ Ok ts → (are_targets size ts && bytes_eq content (commit_bytes ts)) ≡ b
-        → IsValidCommit size content ⊎ (IsValidCommit size content → ⊥)
-    by_test ts true read e =
-        let parts = and_parts (are_targets size ts) (bytes_eq content (commit_bytes ts)) e in
-        inl (record {
-          targets = ts;
-          is = record { bytes = (bytes_eq-Decides content (commit_bytes ts)).0 parts.1; valid = (are_targets-decides size ts).0 parts.0 };
-        })
-    by_test ts false read e =
-        inr (λ valid.
-        let other : commit_of content ≡ Ok valid.targets =
-        ap commit_of valid.is.bytes ∙ commit_codec.again valid.targets (targets_fit size valid.targets small valid.is.valid) in
-        let same : valid.targets ≡ ts = same_ok valid.targets ts (commit_of content) other read in
-        let test : (are_targets size ts && bytes_eq content (commit_bytes ts)) ≡ true =
-        and_from (are_targets size ts) (bytes_eq content (commit_bytes ts))
-        ((are_targets-decides size ts).1 (subst (AreTargets size) same valid.is.valid))
-        ((bytes_eq-Decides content (commit_bytes ts)).1 (valid.is.bytes ∙ ap commit_bytes same)) in
-        both_ways (are_targets size ts && bytes_eq content (commit_bytes ts)) e test)
+    each : (i : ℕ) → i < n → target_number new i ≡ target_number image i
+    each i lt = elim (cases_lt i 126) [
+      | inl low ↦
+          cond-true (nat_lt i 126) (u32_of (new 1) (8 + 4 * i)) (header_number new (i - 126)) (lt-ltb i 126 low)
+          ∙ ap (λ s. u32_of s (8 + 4 * i)) one
+          ∙ sym (cond-true (nat_lt i 126) (u32_of (image 1) (8 + 4 * i)) (header_number image (i - 126)) (lt-ltb i 126 low))
+      | inr high ↦
+          cond-false (nat_lt i 126) (u32_of (new 1) (8 + 4 * i)) (header_number new (i - 126)) (le-ltb i 126 high)
+          ∙ header (i - 126) (omega (arith, high, lt))
+          ∙ sym (cond-false (nat_lt i 126) (u32_of (image 1) (8 + 4 * i)) (header_number image (i - 126)) (le-ltb i 126 high))
+    ]
 
-    by_reading : (r : Result (List ℕ) LayoutFault) → commit_of content ≡ r → IsValidCommit size content ⊎ (IsValidCommit size content → ⊥)
-    by_reading (Err fault) read = inr (refused_not_valid size content fault small read)
-    by_reading (Ok ts) read = by_test ts (are_targets size ts && bytes_eq content (commit_bytes ts)) read refl
+-- too many targets are none
+too_many : (size : ℕ) (image : SectorMap) → max_targets (header_of (image 0)) < u32_of (image 1) 4 → targets_in size image ≡ []
+unfolding targets_in
+too_many size image many =
+    let ts = named image (u32_of (image 1) 4) in
+    let test = are_targets (header_of (image 0)) size ts && bytes_eq (image 1) (commit_bytes ts) in
+    cond-false test ts []
+    (false_from_ne_true test (λ e. let few = (passed size image ts e).0.few in omega (arith, few, many, length-named image (u32_of (image 1) 4))))
+
+pub targets_in-alike : (size : ℕ) (image new : SectorMap) → header_of (new 0) ≡ header_of (image 0) → new 1 ≡ image 1
+    → ((k : ℕ) → k < header_of (image 0) → new (2 + k) ≡ image (2 + k)) → targets_in size new ≡ targets_in size image
+unfolding targets_in
+targets_in-alike size image new super one header = elim (cases_lt (max_targets (header_of (image 0))) (u32_of (image 1) 4)) [
+  | inl many ↦ too_many size new (omega (arith, many, super, ap (λ s. u32_of s 4) one)) ∙ sym (too_many size image many)
+  | inr few ↦
+      let n = u32_of (image 1) 4 in
+      let same : named new (u32_of (new 1) 4) ≡ named image n =
+      ap (named new) (ap (λ s. u32_of s 4) one) ∙ named_same image new n one (λ k lt. ap (λ s. u32_of s (4 * (k % 128))) (header (k / 128) (omega (arith, lt, few)))) in
+      (λ j. cond (are_targets (super j) size (same j) && bytes_eq (one j) (commit_bytes (same j))) (same j) [])
+]

@@ -1,27 +1,28 @@
--- The commit sector, sector 1: its bytes, what bytes are read as, and which content is valid on a disk.
-use Rattle.std.specs.Prelude.{ℕ, ◌+◌, ◌-◌, ◌*◌, ◌<◌, ◌≤◌, ◌^◌, ◌≡◌, ◌≢◌, ◌++◌, List, [], ◌∷◌, length, drop, get_or, Result, Ok, Err, Bool, true, nat_eq, nat_lt, nat_le, not, if◌then◌else◌, ◌&&◌, All, AllPairs}
-use Rattle.std.specs.List.{list_all, list_any}
+-- The commit: its bytes in sector 1 and in the header, what they are read as, and which commit is valid on a disk.
+use Rattle.std.specs.Prelude.{ℕ, ◌+◌, ◌-◌, ◌*◌, ◌/◌, ◌%◌, ◌<◌, ◌≤◌, ◌^◌, ◌≡◌, ◌≢◌, ◌++◌, List, [], ◌∷◌, length, take, drop, map, get_or, Result, Ok, Err, Bool, true, nat_eq, nat_lt, nat_le, not, if◌then◌else◌, ◌&&◌, All, AllPairs}
+use Rattle.std.specs.List.{list_all, list_any, range_with_len}
 use Rattle.std.specs.Str.{bytes_eq}
 use Rattle.fs_layout.specs.declared.fault.LayoutFault.{LayoutFault}
 use Rattle.fs_layout.specs.declared.fault.LayoutFault.TheVariants.{BadMagic, BadNumber, NotZero}
-use Rattle.fs_layout.specs.declared.commit.TheConstants.{MAX_TARGETS}
-use Rattle.fs_layout.specs.declared.place.TheConstants.{INODE_BITMAP}
-use Rattle.fs_layout.specs.Bytes.{le32, le32s, zeros, u32_of, u32s_of, are_zero}
+use Rattle.fs_layout.specs.declared.commit.TheConstants.{MAX_TARGETS, HEADER_TARGETS}
+use Rattle.fs_layout.specs.declared.place.TheConstants.{COMMIT_SECTOR, FIRST_LOG_SECTOR}
+use Rattle.fs_layout.specs.Bytes.{SectorMap, le32, le32s, zeros, u32_of, u32s_of, are_zero}
+use Rattle.fs_layout.specs.Header.{header_of, log_end, max_targets}
 
 -- the bytes 49 4e 4f 4a
 abbrev pub commit_magic : ℕ
 commit_magic = 0x4a4f_4e49
 
--- magic, how many targets, the targets, zeros; without targets the commit is idle
+-- magic, how many targets, the first of them, zeros; the others stand in the header, and without targets the commit is idle
 abbrev pub commit_bytes : List ℕ → List ℕ
-commit_bytes targets = le32 commit_magic ++ (le32 (length targets) ++ (le32s targets ++ zeros (504 - 4 * length targets)))
+commit_bytes targets = le32 commit_magic ++ (le32 (length targets) ++ (le32s (take MAX_TARGETS targets) ++ zeros (504 - 4 * length targets)))
 
--- the targets have room, and each fits its field
+-- the targets have room in the commit sector, and each fits its field
 pub record FitsCommit (targets : List ℕ) : Type 0 where
   pub few : length targets ≤ MAX_TARGETS
   pub numbers : (i : ℕ) → get_or targets i 0 < 2 ^ 32
 
--- the targets that 512 bytes name, or the first fault
+-- the targets that 512 bytes name without a header, or the first fault
 unfoldable pub commit_of : List ℕ → Result (List ℕ) LayoutFault
 commit_of s =
     if nat_eq (u32_of s 0) commit_magic then
@@ -33,21 +34,26 @@ commit_of s =
 abbrev pub AreDistinct : List ℕ → Type 0
 AreDistinct targets = AllPairs (λ a b. a ≢ b) targets
 
--- on a disk of so many sectors a commit may have these targets
-pub record AreTargets (size : ℕ) (targets : List ℕ) : Type 0 where
-  pub few : length targets ≤ MAX_TARGETS
-  pub in_range : All (λ t. (INODE_BITMAP ≤ t) × (t < size)) targets
+-- on a disk of so many sectors, so many of them header sectors, a commit may have these targets
+pub record AreTargets (header size : ℕ) (targets : List ℕ) : Type 0 where
+  pub few : length targets ≤ max_targets header
+  pub in_range : All (λ t. (log_end header ≤ t) × (t < size)) targets
   pub apart : AreDistinct targets
 
--- the content is a commit sector with these targets: idle without any, and otherwise sealed
-pub record IsCommit (size : ℕ) (content targets : List ℕ) : Type 0 where
-  pub bytes : content ≡ commit_bytes targets
-  pub valid : AreTargets size targets
+-- the k-th number of the header
+abbrev pub header_number : SectorMap → ℕ → ℕ
+header_number image k = u32_of (image (FIRST_LOG_SECTOR + k / HEADER_TARGETS)) (4 * (k % HEADER_TARGETS))
 
--- the content is a valid commit sector of a disk of so many sectors
-pub record IsValidCommit (size : ℕ) (content : List ℕ) : Type 0 where
+-- the image of a disk of so many sectors has a commit with these targets: idle without any, and otherwise sealed
+pub record IsCommit (size : ℕ) (image : SectorMap) (targets : List ℕ) : Type 0 where
+  pub bytes : image COMMIT_SECTOR ≡ commit_bytes targets
+  pub more : (k : ℕ) → MAX_TARGETS + k < length targets → header_number image k ≡ get_or targets (MAX_TARGETS + k) 0
+  pub valid : AreTargets (header_of (image 0)) size targets
+
+-- the image of a disk of so many sectors has a valid commit
+pub record IsValidCommit (size : ℕ) (image : SectorMap) : Type 0 where
   pub targets : List ℕ
-  pub is : IsCommit size content targets
+  pub is : IsCommit size image targets
 
 -- `AreDistinct` as a test
 abbrev pub are_apart : List ℕ → Bool
@@ -55,14 +61,21 @@ are_apart [] = true
 are_apart (t ∷ ts) = not (list_any (nat_eq t) ts) && are_apart ts
 
 -- `AreTargets` as a test
-unfoldable pub are_targets : ℕ → List ℕ → Bool
-are_targets size targets =
-    (nat_le (length targets) MAX_TARGETS && list_all (λ t. nat_le INODE_BITMAP t && nat_lt t size) targets) && are_apart targets
+unfoldable pub are_targets : ℕ → ℕ → List ℕ → Bool
+are_targets header size targets =
+    (nat_le (length targets) (max_targets header) && list_all (λ t. nat_le (log_end header) t && nat_lt t size) targets) && are_apart targets
 
-abbrev pub targets_if : ℕ → List ℕ → Result (List ℕ) LayoutFault → List ℕ
-targets_if size content (Ok targets) = if are_targets size targets && bytes_eq content (commit_bytes targets) then targets else []
-targets_if size content (Err fault) = []
+-- the i-th target that an image names, and the first n of them, valid or not
+abbrev pub target_number : SectorMap → ℕ → ℕ
+target_number image i = if nat_lt i MAX_TARGETS then u32_of (image COMMIT_SECTOR) (8 + 4 * i) else header_number image (i - MAX_TARGETS)
 
--- the targets of a commit sector's content: none where it is idle, and none where it is not valid
-unfoldable pub targets_in : ℕ → List ℕ → List ℕ
-targets_in size content = targets_if size content (commit_of content)
+abbrev pub named : SectorMap → ℕ → List ℕ
+named image n = map (target_number image) (range_with_len 0 n)
+
+abbrev pub targets_if : ℕ → SectorMap → List ℕ → List ℕ
+targets_if size image targets =
+    if are_targets (header_of (image 0)) size targets && bytes_eq (image COMMIT_SECTOR) (commit_bytes targets) then targets else []
+
+-- the targets of an image's commit: none where it is idle, and none where it is not valid
+unfoldable pub targets_in : ℕ → SectorMap → List ℕ
+targets_in size image = targets_if size image (named image (u32_of (image COMMIT_SECTOR) 4))

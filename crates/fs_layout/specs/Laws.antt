@@ -7,7 +7,7 @@ use Rattle.posix_acl.specs.AccessList.{AccessList, IsAcl, IsSomeAcl, list_number
 use Rattle.fs_layout.specs.declared.inode.Inode.{Inode}
 use Rattle.fs_layout.specs.declared.inode.TheConstants.{MAX_DIRECTORY_SIZE}
 use Rattle.fs_layout.specs.declared.place.Place.{Place}
-use Rattle.fs_layout.specs.declared.place.TheConstants.{COMMIT_SECTOR, FIRST_LOG_SECTOR}
+use Rattle.fs_layout.specs.declared.place.TheConstants.{FIRST_LOG_SECTOR}
 use Rattle.fs_layout.specs.declared.slot.TheConstants.{MAX_NAMES, SLOT_SIZE}
 use Rattle.fs_layout.specs.Bytes.{IsBytes, IsSector, SectorMap, splice, window}
 use Rattle.fs_layout.specs.Inode.{FitsInode}
@@ -17,6 +17,7 @@ use Rattle.fs_layout.specs.Images.{inode_at, pointer}
 use Rattle.fs_layout.specs.Ownership.{IsConsistent, Agrees}
 use Rattle.fs_layout.specs.InodeChanges.{Keeps, ChangesBlocks, ChangesInode, Saves}
 use Rattle.fs_layout.specs.Commit.{IsCommit, IsValidCommit}
+use Rattle.fs_layout.specs.Header.{header_of}
 use Rattle.fs_layout.specs.Recovered.{recovered}
 use Rattle.fs_layout.specs.Maps.{name_cmp, get, with_entry, without, IsMap}
 use Rattle.fs_layout.specs.Directories.{names_of_slots, HaveDistinctNames, slot_count, stored_slot, slot_at, HasNames}
@@ -29,11 +30,11 @@ pub record AreNumbersAsBytes (n : ℕ) (bytes : ℕ → List ℕ) (number : List
 
 -- on a disk of so many sectors a target has its log sector's content, and each other sector its own
 pub record IsRecovery (size : ℕ) : Type 0 where
-  pub target : (image : SectorMap) (targets : List ℕ) (k : ℕ) → IsCommit size (image COMMIT_SECTOR) targets → k < length targets
-      → recovered size image (get_or targets k 0) ≡ image (FIRST_LOG_SECTOR + k)
-  pub other : (image : SectorMap) (targets : List ℕ) (s : ℕ) → IsCommit size (image COMMIT_SECTOR) targets → (Contains targets s → ⊥)
+  pub target : (image : SectorMap) (targets : List ℕ) (k : ℕ) → IsCommit size image targets → k < length targets
+      → recovered size image (get_or targets k 0) ≡ image (FIRST_LOG_SECTOR + header_of (image 0) + k)
+  pub other : (image : SectorMap) (targets : List ℕ) (s : ℕ) → IsCommit size image targets → (Contains targets s → ⊥)
       → recovered size image s ≡ image s
-  pub invalid : (image : SectorMap) (s : ℕ) → (IsValidCommit size (image COMMIT_SECTOR) → ⊥) → recovered size image s ≡ image s
+  pub invalid : (image : SectorMap) (s : ℕ) → (IsValidCommit size image → ⊥) → recovered size image s ≡ image s
 
 -- on each disk whose size fits 32 bits
 abbrev pub RecoversEach : Type 0

@@ -2,6 +2,7 @@ pub mod AclSector
 pub mod Bytes
 pub mod Commit
 pub mod Directories
+pub mod Header
 pub mod Images
 pub mod Inode
 pub mod InodeChanges

@@ -1,37 +1,48 @@
-//! The commit sector, sector 1.
+//! The commit: sector 1, and the header behind it.
 
-ghost use Rattle.std.specs.Prelude.{◌≡◌, ◌≤◌, ◌↔◌, ℕ, List, [], length, IfOk, Ok, IsTrue};
+ghost use Rattle.std.specs.Prelude.{◌≡◌, ◌≤◌, ◌<◌, ◌+◌, ◌-◌, ◌*◌, ◌↔◌, ℕ, List, [], length, take, get_or, IfOk, IfSome, IfNone, Ok, IsTrue};
+ghost use Rattle.std.specs.Int.{div_ceil};
+ghost use Rattle.fs_layout.specs.Bytes.{u32_of};
 ghost use Rattle.fs_layout.specs.Commit.{commit_bytes, commit_of, FitsCommit, AreDistinct, AreTargets};
+ghost use Rattle.fs_layout.specs.Header.{max_targets};
+ghost use Rattle.fs_layout.specs.declared.header.TheConstants.{MAX_HEADER};
 
 use crate::bytes::{are_zero, get_u32s, put_u32, put_u32s, put_zeros, u32_at};
 use crate::fault::LayoutFault;
+use crate::header::{MAX_HEADER, max_targets};
 use crate::place::{FIRST_LOG_SECTOR, INODE_BITMAP};
 use std::marker::Model;
 
-/// The most targets that a commit has.
+/// The most targets that the commit sector has. Those past them stand in the header.
 pub const MAX_TARGETS: usize = 126;
+
+/// The most targets that a header sector has.
+pub const HEADER_TARGETS: usize = 128;
+
+/// The most targets that a commit has: where the header is the largest, one of [`MAX_HEADER`] sectors.
+pub const MAX_LOG_SECTORS: usize = 254;
 
 const COMMIT_MAGIC: u32 = 0x4a4f4e49;
 
-/// What the commit sector says: the sectors that recovery writes, in the order of their contents in the log.
+/// What a commit says: the sectors that recovery writes, in the order of their contents in the log.
 ///
-/// The content for target `i`, counted from 0, lies in log sector [`FIRST_LOG_SECTOR`]` + i`. A commit without targets is idle, another
-/// one is sealed. A contract sees a commit as the list of its targets.
+/// The content for target `i`, counted from 0, lies behind the header: `i` sectors past [`FIRST_LOG_SECTOR`] and the header's. A
+/// commit without targets is idle, another one is sealed. A contract sees a commit as the list of its targets.
 #[derive(Drop)]
 pub struct Commit {
     count: usize,
-    targets: [u32; MAX_TARGETS],
+    targets: [u32; MAX_LOG_SECTORS],
 }
 
 impl Model for Commit {
     ghost use Rattle.std.specs.Prelude.{ℕ, ◌≤◌, List, take};
-    ghost use Rattle.fs_layout.specs.declared.commit.TheConstants.{MAX_TARGETS};
+    ghost use Rattle.fs_layout.specs.declared.commit.TheConstants.{MAX_LOG_SECTORS};
 
     ghost Value = { List ℕ };
 
     ghost view = { λ c. take c.count c.targets };
 
-    ghost invariant = { λ c. c.count ≤ MAX_TARGETS };
+    ghost invariant = { λ c. c.count ≤ MAX_LOG_SECTORS };
 }
 
 impl Commit {
@@ -41,16 +52,16 @@ impl Commit {
     {
         Commit {
             count: 0,
-            targets: [0; MAX_TARGETS],
+            targets: [0; MAX_LOG_SECTORS],
         }
     }
 
-    /// A commit with these targets, at most [`MAX_TARGETS`].
+    /// A commit with these targets, at most [`MAX_LOG_SECTORS`].
     pub fn new(targets: &[u32]) -> Commit
-        requires { length targets.now ≤ MAX_TARGETS }
+        requires { length targets.now ≤ MAX_LOG_SECTORS }
         ensures { result ≡ targets.now }
     {
-        let mut all = [0; MAX_TARGETS];
+        let mut all = [0; MAX_LOG_SECTORS];
         (&mut all[..targets.len()]).copy_from_slice(targets);
         Commit {
             count: targets.len(),
@@ -58,10 +69,10 @@ impl Commit {
         }
     }
 
-    /// The targets, at most [`MAX_TARGETS`].
+    /// The targets, at most [`MAX_LOG_SECTORS`].
     pub fn targets(&self) -> &[u32]
         ensures value { result.now ≡ self.now }
-        ensures few { length self.now ≤ MAX_TARGETS }
+        ensures few { length self.now ≤ MAX_LOG_SECTORS }
     {
         &self.targets[..self.count]
     }
@@ -71,10 +82,11 @@ impl Commit {
         ensures { to.new ≡ commit_bytes self.now }
     {
         let targets = self.targets();
+        let first = first_targets(targets);
         put_u32(to, 0, COMMIT_MAGIC);
         put_u32(to, 4, targets.len() as u32);
-        put_u32s(to, 8, targets);
-        put_zeros(to, 8 + 4 * targets.len(), 504 - 4 * targets.len());
+        put_u32s(to, 8, first);
+        put_zeros(to, 8 + 4 * first.len(), 504 - 4 * first.len());
     }
 
     #[tactic(auto, unfolding(crate::specs::Commit::commit_of))]
@@ -92,22 +104,81 @@ impl Commit {
         if !are_zero(&from[8 + 4 * count..]) {
             return Err(LayoutFault::NotZero);
         }
-        let mut targets = [0; MAX_TARGETS];
-        get_u32s(from, 8, &mut targets);
-        Ok(Commit { count, targets })
+        let mut first = [0; MAX_TARGETS];
+        get_u32s(from, 8, &mut first);
+        Ok(Commit::new(&first[..count]))
     }
 
-    /// Every number stands between the layout's sectors and the end of a disk of so many sectors, and none twice.
+    /// Every number stands between the layout's sectors and the end of a disk of so many sectors, and none twice. The disk has
+    /// no header.
     pub fn is_valid_for(&self, sectors: u32) -> bool
-        ensures { IsTrue result ↔ AreTargets sectors self.now }
+        ensures { IsTrue result ↔ AreTargets 0 sectors self.now }
+    {
+        self.is_valid_with(0, sectors)
+    }
+
+    /// There are no more than a header of so many sectors has room for, every number stands between the log and the end of a
+    /// disk of so many sectors, and none twice.
+    pub fn is_valid_with(&self, header: u32, sectors: u32) -> bool
+        requires { header ≤ MAX_HEADER }
+        ensures { IsTrue result ↔ AreTargets header sectors self.now }
     {
         let targets = self.targets();
+        if max_targets(header) < targets.len() {
+            return false;
+        }
         for target in targets {
-            if *target < INODE_BITMAP || sectors <= *target {
+            if *target < INODE_BITMAP + 129 * header || sectors <= *target {
                 return false;
             }
         }
         are_apart(targets)
+    }
+
+    /// How many sectors of the header have targets of it.
+    pub fn header_sectors(&self) -> usize
+        ensures { result ≡ div_ceil (length self.now - MAX_TARGETS) HEADER_TARGETS }
+    {
+        self.count.saturating_sub(MAX_TARGETS).div_ceil(HEADER_TARGETS)
+    }
+
+    /// The content of a sector of the header, counted from 0: the targets past those of the sectors before it.
+    pub fn header_sector(&self, at: usize) -> [u8; 512]
+        requires { at < MAX_HEADER }
+        ensures { (k : ℕ) → k < HEADER_TARGETS → MAX_TARGETS + HEADER_TARGETS * at + k < length self.now
+            → u32_of result (4 * k) ≡ get_or self.now (MAX_TARGETS + HEADER_TARGETS * at + k) 0 }
+    {
+        let from = MAX_TARGETS + HEADER_TARGETS * at;
+        header_bytes(&self.targets[from..from + HEADER_TARGETS])
+    }
+
+    /// As many targets as a commit sector counts, of which the first are read from it; the others are for
+    /// [`Commit::read_header`]. None where a header of so many sectors has no room for them.
+    pub fn counted(from: &[u8; 512], header: u32) -> Option<Commit>
+        requires { header ≤ MAX_HEADER }
+        ensures count { IfSome result (λ targets. length targets ≡ u32_of from.now 4) }
+        ensures first { IfSome result (λ targets. (i : ℕ) → i < MAX_TARGETS → i < length targets → get_or targets i 0 ≡ u32_of from.now (8 + 4 * i)) }
+        ensures none { IfNone result (max_targets header < u32_of from.now 4) }
+    {
+        let count = u32_at(from, 4) as usize;
+        if max_targets(header) < count {
+            return None;
+        }
+        let mut targets = [0; MAX_LOG_SECTORS];
+        get_u32s(from, 8, &mut targets[..MAX_TARGETS]);
+        Some(Commit { count, targets })
+    }
+
+    /// Reads the targets that stand in a sector of the header, counted from 0.
+    pub fn read_header(&mut self, at: usize, from: &[u8; 512])
+        requires { at < MAX_HEADER }
+        ensures count { length self.new ≡ length self.old }
+        ensures read { (k : ℕ) → k < HEADER_TARGETS → MAX_TARGETS + HEADER_TARGETS * at + k < length self.old
+            → get_or self.new (MAX_TARGETS + HEADER_TARGETS * at + k) 0 ≡ u32_of from.now (4 * k) }
+        ensures before { (i : ℕ) → i < MAX_TARGETS + HEADER_TARGETS * at → get_or self.new i 0 ≡ get_or self.old i 0 }
+    {
+        let start = MAX_TARGETS + HEADER_TARGETS * at;
+        get_u32s(from, 0, &mut self.targets[start..start + HEADER_TARGETS]);
     }
 
     /// Writes the sector; `at` is 0.
@@ -139,6 +210,27 @@ impl Commit {
     {
         Commit::get(&from[at..at + 512])
     }
+}
+
+// A sector of the header, with these targets.
+fn header_bytes(targets: &[u32]) -> [u8; 512]
+    requires { length targets.now ≡ HEADER_TARGETS }
+    ensures { (k : ℕ) → k < HEADER_TARGETS → u32_of result (4 * k) ≡ get_or targets.now k 0 }
+{
+    let mut content = [0; 512];
+    put_u32s(&mut content, 0, targets);
+    content
+}
+
+// Those that stand in the commit sector.
+fn first_targets(targets: &[u32]) -> &[u32]
+    ensures first { result.now ≡ take MAX_TARGETS targets.now }
+    ensures few { length result.now ≤ MAX_TARGETS }
+{
+    if targets.len() < MAX_TARGETS {
+        return targets;
+    }
+    &targets[..MAX_TARGETS]
 }
 
 fn are_apart(targets: &[u32]) -> bool

@@ -5,6 +5,7 @@ mod acl_sector;
 mod bytes;
 mod commit;
 mod fault;
+mod header;
 mod inode;
 mod laws;
 mod place;
@@ -13,8 +14,9 @@ mod superblock;
 mod version;
 
 pub use acl_sector::AclSector;
-pub use commit::{Commit, MAX_TARGETS};
+pub use commit::{Commit, HEADER_TARGETS, MAX_LOG_SECTORS, MAX_TARGETS};
 pub use fault::LayoutFault;
+pub use header::{MAX_HEADER, header_of, max_targets};
 pub use inode::{
     DIRECT_BLOCKS, DIRECT_SIZE, DOUBLE_INDIRECT_END, INDIRECT_END, INODE_SIZE, Inode, Kind,
     MAX_BLOCKS, MAX_DIRECTORY_SIZE, MAX_FILE_SIZE, MAX_INODE_NAMES, MAX_LINK_SIZE, S_ISGID,

@@ -1,0 +1,57 @@
+//! A commit with more targets than its sector has room for.
+
+use fs_layout::Commit;
+
+// Whether a commit with these targets is valid on a disk of so many sectors, where the header has one.
+static COMMITS: [(&[u32], u32, bool); 5] = [
+    (&[], 1024, true),
+    (&[257], 258, true),
+    (&[257], 257, false),
+    (&[256], 1024, false),
+    (&[1023, 257], 1024, true),
+];
+
+fn is_valid(targets: &[u32], sectors: u32) -> Option<bool> {
+    if 126 < targets.len() {
+        return None;
+    }
+    Some(Commit::new(targets).is_valid_with(1, sectors))
+}
+
+#[test]
+fn a_header_pushes_the_first_target_back(rt: HostRuntime) {
+    for &(targets, sectors, valid) in &COMMITS {
+        let found = is_valid(targets, sectors);
+        assert!(rt; found == Some(valid), "{targets:?} on {sectors} sectors");
+    }
+}
+
+// A commit of the sectors 300 to 499.
+fn long_commit() -> Commit {
+    let mut targets = [300; 200];
+    for (k, target) in targets.iter_mut().enumerate() {
+        *target += k as u32;
+    }
+    Commit::new(&targets)
+}
+
+// Whether its two sectors begin so, whether it is read back from them, and whether it is where there is no header.
+fn seen() -> Option<[bool; 4]> {
+    let commit = long_commit();
+    let sector = commit.to_sector();
+    let header = commit.header_sector(0);
+    let mut read = Commit::counted(&sector, 1)?;
+    read.read_header(0, &header);
+    Some([
+        sector.starts_with(b"INOJ\xc8\0\0\0\x2c\x01\0\0"),
+        header.starts_with(b"\xaa\x01\0\0\xab\x01\0\0"),
+        read.targets() == commit.targets(),
+        Commit::counted(&sector, 0).is_some(),
+    ])
+}
+
+#[test]
+fn a_long_commit_is_read_back(rt: HostRuntime) {
+    let found = seen();
+    assert!(rt; found == Some([true, true, true, false]), "{found:?}");
+}

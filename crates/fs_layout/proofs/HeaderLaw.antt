@@ -1,0 +1,48 @@
+-- How many header sectors there are, and targets that are read from their bytes and written into them.
+use Rattle.std.proofs.Common.{◌≡◌, ℕ, ◌+◌, ◌*◌, ◌^◌, ◌<◌, ◌≤◌, List, ◌++◌, length, take, drop, get_or, refl, sym, ap, ◌∙◌, arith}
+use Rattle.std.proofs.lemmas.List.{get_or_append_left, get_or-take, length-take, length-drop, length-take-le}
+use Rattle.std.proofs.lemmas.Grind.{common_steps}
+use borrow.Rule.Slice.PartMut.{put_mid, mid_of}
+use Rattle.fs_layout.specs.declared.version.Version.{Version}
+use Rattle.fs_layout.specs.declared.version.Version.TheVariants.{One, Two}
+use Rattle.fs_layout.specs.Bytes.{splice, le32s, u32_of, u32s_of}
+use Rattle.fs_layout.specs.Header.{header_in}
+use Rattle.fs_layout.proofs.CommitLaw.{get_or-u32s_of}
+use Rattle.fs_layout.proofs.Fields.{read32s}
+use Rattle.fs_layout.proofs.Small.{u32s_len}
+
+-- no version has a header
+pub no_header : (version : Version) (sectors inodes : ℕ) → header_in version sectors inodes ≡ 0
+no_header One sectors inodes = refl
+no_header Two sectors inodes = refl
+
+-- ---- targets
+-- a number of the part that was read
+pub read_at : (count at k w i : ℕ) (old new from : List ℕ) → at + k ≤ length old → w ≡ k → new ≡ u32s_of from 0 (length (mid_of at w old)) → i < k → at + i < count
+    → get_or (take count (put_mid at w old new)) (at + i) 0 ≡ u32_of from (4 * i)
+read_at count at k w i old new from room wide is lt within =
+    let here : length (mid_of at w old) ≡ k = ap (λ (n : ℕ). length (mid_of at n old)) wide ∙ length-take-le k (drop at old) (omega (arith, room, length-drop at old)) in
+    let read : new ≡ u32s_of from 0 k = is ∙ ap (u32s_of from 0) here in
+    let len : length new ≡ k = ap length read ∙ u32s_len from 0 k in
+    get_or-take count (put_mid at w old new) (at + i) 0 within
+    ∙ in_part at w k i old new room len lt
+    ∙ ap (λ (l : List ℕ). get_or l i 0) read ∙ get_or-u32s_of from 0 k i lt ∙ ap (u32_of from) (omega arith)
+  where
+    in_part : (at w k i : ℕ) (old new : List ℕ) → at + k ≤ length old → length new ≡ k → i < k → get_or (put_mid at w old new) (at + i) 0 ≡ get_or new i 0
+    in_part at w k i old new room len lt = grind (arith, common_steps)
+
+-- numbers that were written from the first byte on
+pub written_numbers : (old new xs : List ℕ) (k : ℕ) → length old ≡ 4 * length xs → new ≡ splice old 0 (le32s xs) → ((i : ℕ) → get_or xs i 0 < 2 ^ 32) → k < length xs
+    → u32_of new (4 * k) ≡ get_or xs k 0
+unfolding splice
+written_numbers old new xs k len is small lt =
+    let rest = drop (0 + length (le32s xs)) old in
+    ap (u32_of new) (omega arith) ∙ sym (get_or-u32s_of new 0 (length xs) k lt)
+    ∙ ap (λ (l : List ℕ). get_or l k 0) (read32s xs new 0 rest is small)
+
+-- a number of those that were read first
+pub read_first : (count i : ℕ) (new rest from : List ℕ) → new ≡ u32s_of from 8 126 → i < 126 → i < length (take count (new ++ rest)) → get_or (take count (new ++ rest)) i 0 ≡ u32_of from (8 + 4 * i)
+read_first count i new rest from is low lt =
+    let len : length new ≡ 126 = ap length is ∙ u32s_len from 8 126 in
+    get_or-take count (new ++ rest) i 0 (omega (arith, lt, length-take count (new ++ rest)))
+    ∙ get_or_append_left new rest 0 i (omega (arith, low, len)) ∙ ap (λ (l : List ℕ). get_or l i 0) is ∙ get_or-u32s_of from 8 126 i low

@@ -1,6 +1,0 @@
-use Rattle.std.proofs.Common.{◌≤◌, ◌<◌, ℕ, get_or}
-use Rattle.fs_layout.proofs.commit.Commit.is_valid_for.Given as goal
-use Rattle.fs_layout.specs.declared.place.TheConstants.{INODE_BITMAP}
-
-abbrev pub invariant-loop-target : goal.invariant-loop-target
-invariant-loop-target l = (k d : ℕ) → k < l.target-index → (INODE_BITMAP ≤ get_or l.targets k d) × (get_or l.targets k d < l.sectors)
