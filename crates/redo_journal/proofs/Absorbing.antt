@@ -4,6 +4,7 @@ use Rattle.std.proofs.lemmas.Bool.{cases_Bool, cond-true, cond-false}
 use Rattle.std.proofs.lemmas.List.Sums.{count_by_more_no, count_by_more_yes, sum_by-take-le}
 use Rattle.std.specs.List.{count_by}
 use Rattle.fs_layout.specs.Bytes.{SectorMap}
+use Rattle.fs_layout.specs.Header.{log_end}
 use Rattle.redo_journal.specs.Batch.{Entry, IsBatch, IsOnDisk, added, targets, target_at, content_at, has_entry, put_entry, with_batch}
 use Rattle.redo_journal.proofs.Puts.{has_others, length-put, on_disk_put, other_key, with_batch-put}
 use Rattle.redo_journal.proofs.Entries.{length-targets, target_is, targets_apart}
@@ -63,15 +64,18 @@ length_more start old new entries i lt has len put = elim (cases_Bool (has_entry
   | inr none ↦ omega (arith, put, len, cond-false (has_entry old (target_at entries i)) (length old) (length old + 1) none, added_yes start entries i lt (sym (has i (omega arith) lt) ∙ none))
 ]
 
-on_disk_at : (size : ℕ) (entries : List Entry) (k : ℕ) → IsOnDisk size entries → k < length entries → target_at entries k < size
-on_disk_at size entries k on_disk lt = let fits = on_disk k 0 (omega (arith, lt, length-targets entries)) in omega (arith, fits, target_is entries k lt)
+on_disk_at : (header size : ℕ) (entries : List Entry) (k : ℕ) → IsOnDisk header size entries → k < length entries → (log_end header ≤ target_at entries k) × (target_at entries k < size)
+on_disk_at header size entries k on_disk lt =
+    let fits = on_disk k 0 (omega (arith, lt, length-targets entries)) in
+    let same = target_is entries k lt in
+    (omega (arith, fits.0, same), omega (arith, fits.1, same))
 
 -- ---- a batch that has taken the first i entries
 pub record HasTaken (start now entries : List Entry) (i : ℕ) : Type 0 where
   pub has : HasAsBefore start now entries i
   pub len : length now ≡ length start + added_among start entries i
   pub map : (f : SectorMap) (n : ℕ) → with_batch now f n ≡ with_batch (take i entries) (with_batch start f) n
-  pub on_disk : (size : ℕ) → IsOnDisk size start → IsOnDisk size entries → IsOnDisk size now
+  pub on_disk : (header size : ℕ) → IsOnDisk header size start → IsOnDisk header size entries → IsOnDisk header size now
 
 pub taken_more : (start old new entries : List Entry) (i : ℕ) → IsBatch entries → i < length entries → HasTaken start old entries i → new ≡ put_entry old (target_at entries i) (content_at entries i) → HasTaken start new entries (i + 1)
 taken_more start old new entries i is lt so_far put =
@@ -81,7 +85,9 @@ taken_more start old new entries i is lt so_far put =
       has = has_more start old new entries i content is so_far.has put;
       len = length_more start old new entries i lt so_far.has so_far.len (ap length put ∙ length-put old n content);
       map = map_more old new start entries i is lt put so_far.map;
-      on_disk = λ size first others. subst (IsOnDisk size) (sym put) (on_disk_put size old n content (on_disk_at size entries i others lt) (so_far.on_disk size first others));
+      on_disk = λ header size first others.
+          let at = on_disk_at header size entries i others lt in
+          subst (IsOnDisk header size) (sym put) (on_disk_put header size old n content at.0 at.1 (so_far.on_disk header size first others));
     }
 
 -- a sector that is added has room

@@ -2,6 +2,7 @@
 use Rattle.std.proofs.Common.{◌≡◌, ℕ, ◌<◌, ◌≤◌, List, [], length, get_or, arith, sym, ◌∙◌, ap}
 use Rattle.std.proofs.lemmas.List.{get_or-map, length-map}
 use Rattle.fs_layout.specs.Commit.{AreDistinct, AreTargets}
+use Rattle.fs_layout.specs.Header.{log_end}
 use Rattle.fs_layout.proofs.RecoveryLaw.{contains_at}
 use Rattle.redo_journal.specs.Batch.{Entry, targets, contents, target_at, content_at}
 use Rattle.redo_journal.specs.States.{InTargets}
@@ -39,15 +40,15 @@ targets_apart entries apart i j lt fits same =
     (target_is entries i (omega (arith, lt, fits)) ∙ same ∙ sym (target_is entries j fits))
 
 -- ---- targets on a disk
-pub range_at : (size : ℕ) (ns : List ℕ) → AreTargets size ns → (k : ℕ) → k < length ns → (128 ≤ get_or ns k 0) × (get_or ns k 0 < size)
-range_at size ns valid k lt = valid.in_range k 0 lt
+pub range_at : (header size : ℕ) (ns : List ℕ) → AreTargets header size ns → (k : ℕ) → k < length ns → (log_end header ≤ get_or ns k 0) × (get_or ns k 0 < size)
+range_at header size ns valid k lt = valid.in_range k 0 lt
 
 pub in_at : (ns : List ℕ) (k n : ℕ) (content : List ℕ) → k < length ns → n ≡ get_or ns k 0 → InTargets ns n content
 in_at ns k n content lt is = contains_at ns k n lt (sym is)
 
-pub target_range : (size : ℕ) (entries : List Entry) → AreTargets size (targets entries) → (k : ℕ) → k < length entries → (128 ≤ target_at entries k) × (target_at entries k < size)
-target_range size entries valid k lt =
-    let range = range_at size (targets entries) valid k (omega (arith, lt, length-targets entries)) in
+pub target_range : (header size : ℕ) (entries : List Entry) → AreTargets header size (targets entries) → (k : ℕ) → k < length entries → (log_end header ≤ target_at entries k) × (target_at entries k < size)
+target_range header size entries valid k lt =
+    let range = range_at header size (targets entries) valid k (omega (arith, lt, length-targets entries)) in
     let same = target_is entries k lt in
     (omega (arith, range.0, same), omega (arith, range.1, same))
 

@@ -6,3 +6,4 @@ mod Absorbing
 mod Marks
 pub mod Meaning
 mod Writing
+mod Reading

@@ -5,6 +5,7 @@ use Rattle.std.proofs.lemmas.List.{length-set, nil_from_length}
 use Rattle.std.specs.List.{zip, list_any, position_or_len}
 use Rattle.indexmap.specs.IndexSet.{insert_key}
 use Rattle.fs_layout.specs.Bytes.{SectorMap}
+use Rattle.fs_layout.specs.declared.commit.TheConstants.{MAX_LOG_SECTORS}
 use Rattle.redo_journal.specs.Batch.{Entry, targets, contents, has_entry, put_entry, with_batch, HasPlaces, IsBatch}
 use Rattle.redo_journal.proofs.Puts.{batch_put}
 
@@ -85,11 +86,11 @@ pub fits_places : (ns : List ℕ) (bytes : List (List ℕ)) (spare : ℕ) → Ha
 fits_places ns bytes spare is = omega (arith, is.few, is.all)
 
 module _ (ns : List ℕ) (bytes : List (List ℕ)) (spare n : ℕ) (entries : List Entry)
-    (is : HasPlaces ns bytes spare) (same : zip ns bytes ≡ entries) (room : has_entry entries n ≡ false → length entries < 126) where
+    (is : HasPlaces ns bytes spare) (same : zip ns bytes ≡ entries) (room : has_entry entries n ≡ false → length entries < MAX_LOG_SECTORS) where
   fits : length ns ≤ length bytes
   fits = fits_places ns bytes spare is
 
-  few_before : list_any (eqb n) ns ≡ false → length ns < 126
+  few_before : list_any (eqb n) ns ≡ false → length ns < MAX_LOG_SECTORS
   few_before none =
       let has : has_entry entries n ≡ false = ap (λ (es : List Entry). has_entry es n) (sym same) ∙ sym (has_is ns bytes n fits) ∙ none in
       omega (arith, room has, ap length same, length_entries ns bytes fits)
@@ -100,10 +101,10 @@ module _ (ns : List ℕ) (bytes : List (List ℕ)) (spare n : ℕ) (entries : Li
 
   -- the new parts
   module _ (new : List ℕ) (keys : new ≡ insert_key eqb ns n) where
-    few_after : length new ≤ 126
+    few_after : length new ≤ MAX_LOG_SECTORS
     few_after =
-        subst (λ (l : List ℕ). length l ≤ 126) (sym keys)
-        (cond_both (list_any (eqb n) ns) ns (ns ++ n ∷ []) (λ l. length l ≤ 126) (λ _. is.few) (λ none. omega (arith, few_before none, length-append ns (n ∷ []))))
+        subst (λ (l : List ℕ). length l ≤ MAX_LOG_SECTORS) (sym keys)
+        (cond_both (list_any (eqb n) ns) ns (ns ++ n ∷ []) (λ l. length l ≤ MAX_LOG_SECTORS) (λ _. is.few) (λ none. omega (arith, few_before none, length-append ns (n ∷ []))))
 
     pub within_contents : (at : ℕ) → at < length new → at < length bytes
     within_contents at lt = omega (arith, lt, few_after, is.all)

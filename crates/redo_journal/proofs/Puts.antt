@@ -7,8 +7,10 @@ use Rattle.std.proofs.lemmas.Map.Made.{AllPairs-from_IsDistinct, IsDistinct-from
 use Rattle.std.specs.Prelude.{All}
 use Rattle.std.specs.List.{AllByRecursion, IsDistinct}
 use Rattle.fs_layout.specs.Bytes.{SectorMap}
+use Rattle.fs_layout.specs.declared.commit.TheConstants.{MAX_LOG_SECTORS}
 use Rattle.fs_layout.specs.InodeChanges.{Puts}
 use Rattle.fs_layout.specs.Commit.{AreDistinct}
+use Rattle.fs_layout.specs.Header.{log_end}
 use Rattle.redo_journal.specs.Batch.{Entry, targets, put_entry, has_entry, with_batch, IsBatch, IsOnDisk}
 
 -- ---- which other sectors have an entry
@@ -67,15 +69,15 @@ few_put most es n content room few = elim (cases_Bool (has_entry es n)) [
   | inr none ↦ omega (arith, room none, length-put es n content, cond-false (has_entry es n) (length es) (length es + 1) none)
 ]
 
-pub batch_put : (entries : List Entry) (n : ℕ) (content : List ℕ) → IsBatch entries → 128 ≤ n → (has_entry entries n ≡ false → length entries < 126) → IsBatch (put_entry entries n content)
+pub batch_put : (entries : List Entry) (n : ℕ) (content : List ℕ) → IsBatch entries → 128 ≤ n → (has_entry entries n ≡ false → length entries < MAX_LOG_SECTORS) → IsBatch (put_entry entries n content)
 batch_put entries n content is high room = record {
-  few = few_put 126 entries n content room is.few;
+  few = few_put MAX_LOG_SECTORS entries n content room is.few;
   high = all_put (λ m. 128 ≤ m) entries n content is.high high;
   apart = apart_put entries n content is.apart;
 }
 
-pub on_disk_put : (size : ℕ) (entries : List Entry) (n : ℕ) (content : List ℕ) → n < size → IsOnDisk size entries → IsOnDisk size (put_entry entries n content)
-on_disk_put size entries n content fits on_disk = all_put (λ m. m < size) entries n content on_disk fits
+pub on_disk_put : (header size : ℕ) (entries : List Entry) (n : ℕ) (content : List ℕ) → log_end header ≤ n → n < size → IsOnDisk header size entries → IsOnDisk header size (put_entry entries n content)
+on_disk_put header size entries n content high fits on_disk = all_put (λ m. (log_end header ≤ m) × (m < size)) entries n content on_disk (high, fits)
 
 -- ---- a batch as a map
 -- a put into a batch is a put into the map

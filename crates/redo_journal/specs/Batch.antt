@@ -6,10 +6,11 @@
 --     added        how many sectors another batch adds
 use Rattle.std.specs.Prelude.{ℕ, ◌≡◌, ◌<◌, ◌≤◌, ◌+◌, Bool, true, false, List, [], ◌∷◌, length, map, All, slice_index_or, if◌then◌else◌, nat_eq, not, count_by}
 use Rattle.std.specs.List.{zip}
-use Rattle.fs_layout.specs.declared.commit.TheConstants.{MAX_TARGETS}
+use Rattle.fs_layout.specs.declared.commit.TheConstants.{MAX_LOG_SECTORS}
 use Rattle.fs_layout.specs.declared.place.TheConstants.{INODE_BITMAP}
 use Rattle.fs_layout.specs.Bytes.{SectorMap}
 use Rattle.fs_layout.specs.Commit.{AreDistinct}
+use Rattle.fs_layout.specs.Header.{log_end}
 
 abbrev pub Entry : Type 0
 Entry = ℕ × List ℕ
@@ -26,22 +27,22 @@ target_at entries k = (slice_index_or entries k (0, [])).0
 abbrev pub content_at : List Entry → ℕ → List ℕ
 content_at entries k = (slice_index_or entries k (0, [])).1
 
--- at most as many sectors as a commit has, each once, and each behind the log
+-- at most as many sectors as any commit has, each once, and none before the bitmaps
 pub record IsBatch (entries : List Entry) : Type 0 where
-  pub few : length entries ≤ MAX_TARGETS
+  pub few : length entries ≤ MAX_LOG_SECTORS
   pub high : All (λ t. INODE_BITMAP ≤ t) (targets entries)
   pub apart : AreDistinct (targets entries)
 
--- a disk of so many sectors has each of them
-abbrev pub IsOnDisk : ℕ → List Entry → Type 0
-IsOnDisk size entries = All (λ t. t < size) (targets entries)
+-- a disk of so many sectors, so many of them header sectors, has each of them behind its log
+abbrev pub IsOnDisk : ℕ → ℕ → List Entry → Type 0
+IsOnDisk header size entries = All (λ t. (log_end header ≤ t) × (t < size)) (targets entries)
 
 -- sectors, each beside its content, of which there are as many as a commit has sectors; and so many more sectors fit
 pub record HasPlaces (sectors : List ℕ) (contents : List (List ℕ)) (spare : ℕ) : Type 0 where
   pub batch : IsBatch (zip sectors contents)
-  pub few : length sectors ≤ MAX_TARGETS
-  pub all : length contents ≡ MAX_TARGETS
-  pub room : MAX_TARGETS ≤ length sectors + spare
+  pub few : length sectors ≤ MAX_LOG_SECTORS
+  pub all : length contents ≡ MAX_LOG_SECTORS
+  pub room : MAX_LOG_SECTORS ≤ length sectors + spare
 
 -- one of the entries is for this sector
 abbrev pub has_entry : List Entry → ℕ → Bool

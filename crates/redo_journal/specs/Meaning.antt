@@ -8,28 +8,28 @@
 --     MeansAs, MeansAsBefore        an image that means what another one does
 --     disk_of        the device in what a step of a commit gives
 use Rattle.std.specs.Prelude.{ℕ, ◌≡◌, ◌≤◌, ◌⊎◌, ◌↔◌, List, length, Result, Ok, Err}
-use Rattle.fs_layout.specs.declared.place.TheConstants.{COMMIT_SECTOR, INODE_BITMAP}
 use Rattle.fs_layout.specs.Bytes.{SectorMap}
 use Rattle.fs_layout.specs.Commit.{IsValidCommit}
+use Rattle.fs_layout.specs.Header.{header_of, log_end}
 use Rattle.fs_layout.specs.Recovered.{recovered}
 use Rattle.sector_disk.specs.Disk.{DiskState, Image, sector, IsImage, LeavesOnly}
 use Rattle.redo_journal.specs.Batch.{Entry, with_batch}
 
--- sector 0 and those behind the log
-abbrev pub IsMapped : ℕ → Type 0
-IsMapped n = (n ≡ 0) ⊎ (INODE_BITMAP ≤ n)
+-- with so many header sectors: sector 0, and those behind the log
+abbrev pub IsMapped : ℕ → ℕ → Type 0
+IsMapped header n = (n ≡ 0) ⊎ (log_end header ≤ n)
 
--- two maps that agree on these
+-- two maps that agree on these, where sector 0 tells how many header sectors there are
 abbrev pub SameMap : SectorMap → SectorMap → Type 0
-SameMap left right = (n : ℕ) → IsMapped n → left n ≡ right n
+SameMap left right = (n : ℕ) → IsMapped (header_of (right 0)) n → left n ≡ right n
 
 -- the map that a disk reads as after recovery
 abbrev pub data_of : DiskState → SectorMap
 data_of disk = recovered disk.size (sector disk.seen)
 
--- the commit sector of an image of so many sectors is valid
+-- the commit of an image of so many sectors is valid
 abbrev pub HasValidCommit : ℕ → Image → Type 0
-HasValidCommit size image = IsValidCommit size (sector image COMMIT_SECTOR)
+HasValidCommit size image = IsValidCommit size (sector image)
 
 -- on a disk of so many sectors the image has a valid commit sector, and after recovery it reads as this map
 pub record ReadsAs (size : ℕ) (sectors : SectorMap) (image : Image) : Type 0 where

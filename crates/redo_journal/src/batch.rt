@@ -1,14 +1,15 @@
 //! Sectors, and the contents that they are to have.
 
 ghost use Rattle.std.specs.Prelude.{◌≡◌, ◌↔◌, ◌≤◌, ◌<◌, ◌+◌, [], ℕ, List, IsTrue, true, false, length, IfOk, IfSome, IfNone, if◌then◌else◌, nat_eq};
-ghost use Rattle.fs_layout.specs.declared.commit.TheConstants.{MAX_TARGETS};
+ghost use Rattle.fs_layout.specs.declared.commit.TheConstants.{MAX_LOG_SECTORS};
 ghost use Rattle.fs_layout.specs.declared.place.TheConstants.{INODE_BITMAP};
 ghost use Rattle.fs_layout.specs.Bytes.{SectorMap};
+ghost use Rattle.fs_layout.specs.Header.{log_end};
 ghost use Rattle.fs_layout.specs.InodeChanges.{Puts};
 ghost use Rattle.indexmap.specs.IndexSet.{contains, index_set_len, insert_index, insert_key, spare};
 ghost use Rattle.redo_journal.specs.Batch.{IsBatch, IsOnDisk, targets, contents, added, put_entry, has_entry, with_batch};
 
-use fs_layout::MAX_TARGETS;
+use fs_layout::MAX_LOG_SECTORS;
 use indexmap::IndexSet;
 use std::alloc::{AllocError, Global};
 use std::marker::Model;
@@ -18,14 +19,14 @@ const MARKS: usize = 1024;
 
 /// A map from sectors behind the log to contents, for one commit.
 ///
-/// It finds a sector by hash, and keeps the sectors in the order of the log. It holds [`MAX_TARGETS`] sectors, and its memory is
+/// It finds a sector by hash, and keeps the sectors in the order of the log. It holds [`MAX_LOG_SECTORS`] sectors, and its memory is
 /// reserved once: no later call takes any. A contract sees it as the list of its entries, in that order.
 #[derive(Drop)]
 pub struct Batch {
     // The sectors, each with its place in the log.
     sectors: IndexSet<u32>,
 
-    // What they are to have, in that order; behind them stands what is no part of the batch. It always has `MAX_TARGETS` of
+    // What they are to have, in that order; behind them stands what is no part of the batch. It always has `MAX_LOG_SECTORS` of
     // these, so that a put copies its content once.
     contents: Vec<[u8; 512]>,
 
@@ -69,11 +70,11 @@ impl Batch {
     /// A batch without sectors.
     pub fn new(alloc: Global) -> Result<Batch, AllocError>
         ensures empty { IfOk result (λ batch. batch ≡ []) }
-        ensures on_disk { IfOk result (λ batch. (size : ℕ) → IsOnDisk size batch) }
+        ensures on_disk { IfOk result (λ batch. (header size : ℕ) → IsOnDisk header size batch) }
     {
-        let sectors = IndexSet::with_capacity(alloc, MAX_TARGETS)?;
-        let mut contents = Vec::with_capacity(alloc, MAX_TARGETS)?;
-        contents.resize(MAX_TARGETS, [0; 512])?;
+        let sectors = IndexSet::with_capacity(alloc, MAX_LOG_SECTORS)?;
+        let mut contents = Vec::with_capacity(alloc, MAX_LOG_SECTORS)?;
+        contents.resize(MAX_LOG_SECTORS, [0; 512])?;
         Ok(Batch {
             sectors,
             contents,
@@ -84,11 +85,11 @@ impl Batch {
     /// Sets the content for a sector. A new sector goes last.
     pub fn put(&mut self, n: u32, from: &[u8; 512])
         requires part { INODE_BITMAP ≤ n }
-        requires room { has_entry self.old n ≡ false → length self.old < MAX_TARGETS }
+        requires room { has_entry self.old n ≡ false → length self.old < MAX_LOG_SECTORS }
         ensures put { self.new ≡ put_entry self.old n from.now }
         ensures map { (sectors : SectorMap) → Puts n from.now (with_batch self.old sectors) (with_batch self.new sectors) }
         ensures len { length self.new ≡ (if has_entry self.old n then length self.old else length self.old + 1) }
-        ensures on_disk { (size : ℕ) → n < size → IsOnDisk size self.old → IsOnDisk size self.new }
+        ensures on_disk { (header size : ℕ) → log_end header ≤ n → n < size → IsOnDisk header size self.old → IsOnDisk header size self.new }
     {
         let at = index_for(&mut self.sectors, n);
         self.contents[at] = *from;
@@ -134,7 +135,7 @@ impl Batch {
     /// Takes all sectors out. The memory stays reserved.
     pub fn clear(&mut self)
         ensures empty { self.new ≡ [] }
-        ensures on_disk { (size : ℕ) → IsOnDisk size self.new }
+        ensures on_disk { (header size : ℕ) → IsOnDisk header size self.new }
     {
         if self.is_empty() {
             return;
@@ -168,10 +169,10 @@ impl Batch {
 
     /// Takes the other's contents for the other's sectors.
     pub fn absorb(&mut self, other: &Batch)
-        requires room { length self.old + added self.old other.now ≤ MAX_TARGETS }
+        requires room { length self.old + added self.old other.now ≤ MAX_LOG_SECTORS }
         ensures map { (sectors : SectorMap) (n : ℕ) → with_batch self.new sectors n ≡ with_batch other.now (with_batch self.old sectors) n }
         ensures len { length self.new ≡ length self.old + added self.old other.now }
-        ensures on_disk { (size : ℕ) → IsOnDisk size self.old → IsOnDisk size other.now → IsOnDisk size self.new }
+        ensures on_disk { (header size : ℕ) → IsOnDisk header size self.old → IsOnDisk header size other.now → IsOnDisk header size self.new }
     {
         for (n, content) in other.sectors().iter().zip(other.contents()) {
             self.put(*n, content);

@@ -1,21 +1,24 @@
 //! The steps of a commit, and what images mean while they run.
 
-ghost use Rattle.std.specs.Prelude.{◌≡◌, ℕ, List, length, IsOk, OnOk, MatchOption};
-ghost use Rattle.fs_layout.specs.Commit.{IsCommit, IsValidCommit, commit_bytes};
+ghost use Rattle.std.specs.Prelude.{◌≡◌, ◌≤◌, ℕ, List, length, IsOk, OnOk};
+ghost use Rattle.fs_layout.specs.Commit.{commit_bytes};
+ghost use Rattle.fs_layout.specs.Header.{max_targets};
 ghost use Rattle.redo_journal.specs.Batch.{IsOnDisk, targets, with_batch};
 ghost use Rattle.redo_journal.specs.Meaning.{data_of, EachReadsAs, LeavesSameMap, LeavesAllOrNone};
-ghost use Rattle.redo_journal.specs.States.{IsAtRest, IsIdle, IsLogged, IsSealed, IsInstalled};
+ghost use Rattle.redo_journal.specs.States.{HasHeader, IsAtRest, IsIdle, IsLogged, IsSealed, IsInstalled};
 ghost use Rattle.sector_disk.specs.Disk.{HasCause, HasWriteCause, CountsWrites};
 
 use crate::Batch;
-use crate::steps::{copy_log, write_log, write_targets};
+use crate::steps::{copy_log, write_header, write_log, write_targets};
 use fs_layout::{COMMIT_SECTOR, Commit};
 use sector_disk::{Disk, DiskFault, write_synced};
 
 /// Writes the batch into the log and syncs. Each image reads as before.
-pub(crate) fn log_batch<D: Disk>(disk: &mut D, batch: &Batch) -> Result<(), DiskFault>
+pub(crate) fn log_batch<D: Disk>(disk: &mut D, header: u32, batch: &Batch) -> Result<(), DiskFault>
     requires idle { IsIdle (D.state disk.old) }
-    requires on_disk { IsOnDisk (D.state disk.old).size batch.now }
+    requires header { HasHeader header (D.state disk.old) }
+    requires few { length batch.now ≤ max_targets header }
+    requires on_disk { IsOnDisk header (D.state disk.old).size batch.now }
     ensures logged { OnOk result (IsLogged batch.now (D.state disk.new)) }
     ensures any_moment { LeavesSameMap (D.state disk.old) (D.state disk.new) }
     ensures empty { length batch.now ≡ 0 → IsOk result × (disk.new ≡ disk.old) }
@@ -26,7 +29,8 @@ pub(crate) fn log_batch<D: Disk>(disk: &mut D, batch: &Batch) -> Result<(), Disk
     if batch.sectors().is_empty() {
         return Ok(());
     }
-    write_log(disk, batch)?;
+    write_header(disk, header, batch)?;
+    write_log(disk, header, batch)?;
     disk.sync()
 }
 
@@ -79,8 +83,13 @@ fn put_in_place<D: Disk>(disk: &mut D, batch: &Batch) -> Result<(), DiskFault>
 
 /// Writes the log's contents to the commit's sectors and syncs, and takes the commit away and syncs. Each image reads as
 /// before.
-pub(crate) fn install_log<D: Disk>(disk: &mut D, sectors: &[u32]) -> Result<(), DiskFault>
-    requires { IsAtRest sectors.now (D.state disk.old) }
+pub(crate) fn install_log<D: Disk>(
+    disk: &mut D,
+    header: u32,
+    sectors: &[u32],
+) -> Result<(), DiskFault>
+    requires rest { IsAtRest sectors.now (D.state disk.old) }
+    requires header { HasHeader header (D.state disk.old) }
     ensures idle { OnOk result (IsIdle (D.state disk.new)) }
     ensures any_moment { LeavesSameMap (D.state disk.old) (D.state disk.new) }
     ensures size { (D.state disk.new).size ≡ (D.state disk.old).size }
@@ -90,20 +99,21 @@ pub(crate) fn install_log<D: Disk>(disk: &mut D, sectors: &[u32]) -> Result<(), 
     if sectors.is_empty() {
         return Ok(());
     }
-    replay(disk, sectors)?;
+    replay(disk, header, sectors)?;
     clear_commit(disk)
 }
 
 // Writes the log's contents to the commit's sectors and syncs. The commit stays.
-fn replay<D: Disk>(disk: &mut D, sectors: &[u32]) -> Result<(), DiskFault>
-    requires { IsAtRest sectors.now (D.state disk.old) }
+fn replay<D: Disk>(disk: &mut D, header: u32, sectors: &[u32]) -> Result<(), DiskFault>
+    requires rest { IsAtRest sectors.now (D.state disk.old) }
+    requires header { HasHeader header (D.state disk.old) }
     ensures installed { OnOk result (IsInstalled sectors.now (D.state disk.new)) }
     ensures any_moment { LeavesSameMap (D.state disk.old) (D.state disk.new) }
     ensures size { (D.state disk.new).size ≡ (D.state disk.old).size }
     ensures cause { HasCause (D.state disk.old) (D.state disk.new) result }
     ensures counted { CountsWrites (D.state disk.old) (D.state disk.new) result }
 {
-    copy_log(disk, sectors)?;
+    copy_log(disk, header, sectors)?;
     disk.sync()
 }
 
@@ -124,20 +134,4 @@ fn commit_sector(batch: &Batch) -> [u8; 512]
     ensures { result ≡ commit_bytes (targets batch.now) }
 {
     Commit::new(batch.sectors()).to_sector()
-}
-
-/// The commit that a sector's content is, on a disk of so many sectors.
-pub(crate) fn valid_commit(content: &[u8; 512], size: u32) -> Option<Commit>
-    ensures { MatchOption result (IsValidCommit size content.now → ⊥) (λ sectors. IsCommit size content.now sectors) }
-{
-    match Commit::read_from(content, 0) {
-        Ok(commit) => {
-            if commit.is_valid_for(size) {
-                Some(commit)
-            } else {
-                None
-            }
-        }
-        Err(_) => None,
-    }
 }

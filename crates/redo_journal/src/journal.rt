@@ -1,9 +1,10 @@
 //! The states of a commit. Each owns the disk, so that a disk has one of them at a time.
 
-ghost use Rattle.std.specs.Prelude.{◌≡◌, ◌<◌, ℕ, List, length, Some, Ok, IfOk, OnOk};
+ghost use Rattle.std.specs.Prelude.{◌≡◌, ◌<◌, ◌≤◌, ℕ, List, length, Some, Ok, IfOk, OnOk};
 ghost use Rattle.redo_journal.specs.Batch.{IsOnDisk, with_batch};
 ghost use Rattle.redo_journal.specs.Meaning.{IsMapped, SameMap, data_of, disk_of, EachReadsAs, LeavesSameMap, LeavesAllOrNone};
-ghost use Rattle.redo_journal.specs.States.{IsIdle, IsLogged, IsSealed};
+ghost use Rattle.fs_layout.specs.Header.{max_targets};
+ghost use Rattle.redo_journal.specs.States.{header_at, HasHeader, IsIdle, IsLogged, IsSealed};
 ghost use Rattle.sector_disk.specs.Disk.{IsSame, ForgetsPast, Elapses, OnlyReads, HasCause, HasWriteCause};
 
 use crate::Batch;
@@ -18,40 +19,52 @@ use std::marker::Model;
 #[derive(Drop)]
 pub struct Journal<D: Disk> {
     disk: D,
+    // How many sectors the header of the log has.
+    header: u32,
 }
 
 impl<D: Disk> Model for Journal<D> {
-    ghost use Rattle.redo_journal.specs.States.{IsIdle};
+    ghost use Rattle.redo_journal.specs.States.{IsIdle, HasHeader};
 
     ghost Value = { D };
 
     ghost view = { λ j. j.disk };
 
-    ghost invariant = { λ j. IsIdle (D.state j.disk) };
+    ghost invariant = { λ j. IsIdle (D.state j.disk) × HasHeader j.header (D.state j.disk) };
 }
 
 /// A disk with a batch in its log. Its images still read as without the batch.
 #[derive(Drop)]
-pub struct Logged<D> {
+pub struct Logged<D: Disk> {
     disk: D,
+    header: u32,
 }
 
-impl<D> Model for Logged<D> {
+impl<D: Disk> Model for Logged<D> {
+    ghost use Rattle.redo_journal.specs.States.{HasHeader};
+
     ghost Value = { D };
 
     ghost view = { λ j. j.disk };
+
+    ghost invariant = { λ j. HasHeader j.header (D.state j.disk) };
 }
 
 /// A disk with the commit of a batch. Its images read as with the batch, though the batch's sectors aren't written.
 #[derive(Drop)]
-pub struct Sealed<D> {
+pub struct Sealed<D: Disk> {
     disk: D,
+    header: u32,
 }
 
-impl<D> Model for Sealed<D> {
+impl<D: Disk> Model for Sealed<D> {
+    ghost use Rattle.redo_journal.specs.States.{HasHeader};
+
     ghost Value = { D };
 
     ghost view = { λ j. j.disk };
+
+    ghost invariant = { λ j. HasHeader j.header (D.state j.disk) };
 }
 
 /// A disk that has failed within a commit. Only [`Journal::open`] tells how far the commit came.
@@ -68,11 +81,12 @@ impl<D> Model for Broken<D> {
 
 impl<D: Disk> Journal<D> {
     // A journal on this disk.
-    pub(crate) fn on(disk: D) -> Journal<D>
-        requires { IsIdle (D.state disk) }
+    pub(crate) fn on(disk: D, header: u32) -> Journal<D>
+        requires idle { IsIdle (D.state disk) }
+        requires header { HasHeader header (D.state disk) }
         ensures { result ≡ disk }
     {
-        Journal { disk }
+        Journal { disk, header }
     }
 
     /// Does nothing: its clause tells a caller's proof what is true of each journal.
@@ -84,7 +98,8 @@ impl<D: Disk> Journal<D> {
 
     /// Writes the batch into the log and syncs.
     pub fn log(self, batch: &Batch) -> Result<Logged<D>, Broken<D>>
-        requires { IsOnDisk (D.state self).size batch.now }
+        requires on_disk { IsOnDisk (header_at (D.state self).seen) (D.state self).size batch.now }
+        requires few { length batch.now ≤ max_targets (header_at (D.state self).seen) }
 
         ensures logged { IfOk result (λ logged. IsLogged batch.now (D.state logged)) }
         ensures same { IfOk result (λ logged. SameMap (data_of (D.state logged)) (data_of (D.state self))) }
@@ -99,16 +114,23 @@ impl<D: Disk> Journal<D> {
         ensures cause { HasCause (D.state self) (D.state (disk_of result)) result }
         ensures told { HasWriteCause (D.state self) (D.state (disk_of result)) result }
     {
-        let Journal { mut disk } = self;
-        match log_batch(&mut disk, batch) {
-            Ok(()) => Ok(Logged { disk }),
+        let Journal { mut disk, header } = self;
+        match log_batch(&mut disk, header, batch) {
+            Ok(()) => Ok(Logged { disk, header }),
             Err(DiskFault) => Err(Broken { disk }),
         }
     }
 
+    /// How many sectors the header of the log has.
+    pub fn header(&self) -> u32
+        ensures { HasHeader result (D.state self.now) }
+    {
+        self.header
+    }
+
     /// Reads sector 0, or one behind the log. At `Err` nothing is said of the buffer.
     pub fn read(&mut self, n: u32, to: &mut [u8; 512]) -> Result<(), DiskFault>
-        requires part { IsMapped n }
+        requires part { IsMapped (header_at (D.state self.old).seen) n }
         requires on_disk { n < (D.state self.old).size }
 
         ensures content { OnOk result (to.new ≡ data_of (D.state self.old) n) }
@@ -132,7 +154,7 @@ impl<D: Disk> Journal<D> {
         ensures disk { result ≡ self }
         ensures idle { IsIdle (D.state result) }
     {
-        let Journal { disk } = self;
+        let Journal { disk, header: _ } = self;
         disk
     }
 }
@@ -171,9 +193,9 @@ impl<D: Disk> Logged<D> {
         ensures cause { HasCause (D.state self) (D.state (disk_of result)) result }
         ensures told { HasWriteCause (D.state self) (D.state (disk_of result)) result }
     {
-        let Logged { mut disk } = self;
+        let Logged { mut disk, header } = self;
         match seal_batch(&mut disk, batch) {
-            Ok(()) => Ok(Sealed { disk }),
+            Ok(()) => Ok(Sealed { disk, header }),
             Err(DiskFault) => Err(Broken { disk }),
         }
     }
@@ -197,9 +219,9 @@ impl<D: Disk> Sealed<D> {
         ensures cause { HasCause (D.state self) (D.state (disk_of result)) result }
         ensures told { HasWriteCause (D.state self) (D.state (disk_of result)) result }
     {
-        let Sealed { mut disk } = self;
+        let Sealed { mut disk, header } = self;
         match install_batch(&mut disk, batch) {
-            Ok(()) => Ok(Journal { disk }),
+            Ok(()) => Ok(Journal { disk, header }),
             Err(DiskFault) => Err(Broken { disk }),
         }
     }

@@ -9,8 +9,10 @@ mod batch;
 mod commit;
 mod journal;
 mod open;
+mod reads;
 mod steps;
 
 pub use batch::Batch;
 pub use journal::{Broken, Journal, Logged, Sealed};
 pub use open::OpenFault;
+pub use reads::read_commit;

@@ -1,15 +1,17 @@
 //! What a stop has left is settled before a journal is there.
 
-ghost use Rattle.std.specs.Prelude.{◌≡◌, ◌≤◌, ◌<◌, ℕ, List, IfOk, IfErr, OnOk, IsErrOf};
+ghost use Rattle.std.specs.Prelude.{◌≡◌, ◌≤◌, ◌<◌, ℕ, List, IfOk, IfErr, OnOk, IsErrOf, MatchOption};
+ghost use Rattle.fs_layout.specs.Commit.{IsCommit};
 ghost use Rattle.fs_layout.specs.declared.place.TheConstants.{INODE_BITMAP};
 ghost use Rattle.redo_journal.specs.declared.open.OpenFault.TheVariants.{DiskFault as Device};
 ghost use Rattle.redo_journal.specs.Meaning.{SameMap, data_of, disk_opened, HasValidCommit, MeansAs, MeansAsBefore};
-ghost use Rattle.redo_journal.specs.States.{IsIdle};
-ghost use Rattle.sector_disk.specs.Disk.{IsStable, LeavesOnly, HasFailed, CountsWrites};
+ghost use Rattle.redo_journal.specs.States.{HasHeader, IsIdle};
+ghost use Rattle.sector_disk.specs.Disk.{sector, IsStable, LeavesOnly, OnlyReads, HasFailed, HasCause, CountsWrites};
 
 use crate::Journal;
-use crate::commit::{install_log, valid_commit};
-use fs_layout::COMMIT_SECTOR;
+use crate::commit::install_log;
+use crate::reads::read_commit;
+use fs_layout::{Commit, header_of};
 use sector_disk::{Disk, DiskFault};
 
 /// Why a disk has no journal.
@@ -51,16 +53,17 @@ impl<D: Disk> Journal<D> {
     {
         let mut disk = disk;
         match settle(&mut disk) {
-            Ok(()) => Ok(Journal::on(disk)),
+            Ok(header) => Ok(Journal::on(disk, header)),
             Err(fault) => Err((fault, disk)),
         }
     }
 }
 
 // Syncs and recovers.
-fn settle<D: Disk>(disk: &mut D) -> Result<(), OpenFault>
+fn settle<D: Disk>(disk: &mut D) -> Result<u32, OpenFault>
     requires { INODE_BITMAP ≤ (D.state disk.old).size }
     ensures idle { OnOk result (IsIdle (D.state disk.new)) }
+    ensures header { IfOk result (λ header. HasHeader header (D.state disk.new)) }
     ensures any_moment { LeavesOnly (D.state disk.old) (D.state disk.new) (MeansAsBefore (D.state disk.old)) }
     ensures same { SameMap (data_of (D.state disk.new)) (data_of (D.state disk.old)) }
     ensures size { (D.state disk.new).size ≡ (D.state disk.old).size }
@@ -74,11 +77,12 @@ fn settle<D: Disk>(disk: &mut D) -> Result<(), OpenFault>
     recover(disk)
 }
 
-// Writes the batch of a commit to its sectors, from the log, and takes the commit away.
-fn recover<D: Disk>(disk: &mut D) -> Result<(), OpenFault>
+// Writes the batch of a commit to its sectors, from the log, and takes the commit away. It answers how many sectors the header has.
+fn recover<D: Disk>(disk: &mut D) -> Result<u32, OpenFault>
     requires room { INODE_BITMAP ≤ (D.state disk.old).size }
     requires stable { IsStable (D.state disk.old) }
     ensures idle { OnOk result (IsIdle (D.state disk.new)) }
+    ensures header { IfOk result (λ header. HasHeader header (D.state disk.new)) }
     ensures any_moment { LeavesOnly (D.state disk.old) (D.state disk.new) (MeansAs (D.state disk.old).size (D.state disk.old).seen) }
     ensures size { (D.state disk.new).size ≡ (D.state disk.old).size }
     ensures valid { OnOk result (HasValidCommit (D.state disk.old).size (D.state disk.old).seen) }
@@ -87,11 +91,28 @@ fn recover<D: Disk>(disk: &mut D) -> Result<(), OpenFault>
     ensures cause { IsErrOf result OpenFault.DiskFault → HasFailed (D.state disk.old) (D.state disk.new) }
     ensures counted { CountsWrites (D.state disk.old) (D.state disk.new) result }
 {
-    let mut content = [0; 512];
-    disk.read(COMMIT_SECTOR, &mut content)?;
-    let size = disk.size();
-    match valid_commit(&content, size) {
+    let (header, found) = find_commit(disk)?;
+    match found {
         None => Err(OpenFault::BadCommitSector),
-        Some(commit) => Ok(install_log(disk, commit.targets())?),
+        Some(commit) => {
+            install_log(disk, header, commit.targets())?;
+            Ok(header)
+        }
     }
+}
+
+// How many sectors the header has, and the commit, if it is valid.
+fn find_commit<D: Disk>(disk: &mut D) -> Result<(u32, Option<Commit>), DiskFault>
+    requires room { INODE_BITMAP ≤ (D.state disk.old).size }
+    ensures header { IfOk result (λ found. HasHeader found.0 (D.state disk.old)) }
+    ensures commit { IfOk result (λ found. MatchOption found.1 (HasValidCommit (D.state disk.old).size (D.state disk.old).seen → ⊥)
+        (λ targets. IsCommit (D.state disk.old).size (sector (D.state disk.old).seen) targets)) }
+    ensures reads { OnlyReads (D.state disk.old) (D.state disk.new) }
+    ensures cause { HasCause (D.state disk.old) (D.state disk.new) result }
+{
+    let mut content = [0; 512];
+    disk.read(0, &mut content)?;
+    let header = header_of(&content);
+    let commit = read_commit(disk, header)?;
+    Ok((header, commit))
 }

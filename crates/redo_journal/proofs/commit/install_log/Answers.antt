@@ -4,7 +4,7 @@ use Rattle.redo_journal.proofs.commit.install_log.Goals as goal
 
 pub returns-then-is_empty-clause-any_moment : goal.returns-then-is_empty-clause-any_moment
 returns-then-is_empty-clause-any_moment g c =
-    started (g.met.D.Disk.only_now c.args.disk.now) (rest_reads c.args.sectors.now (g.D.Disk.state c.args.disk.now) c.requires)
+    started (g.met.D.Disk.only_now c.args.disk.now) (rest_reads c.args.sectors.now (g.D.Disk.state c.args.disk.now) c.requires.rest)
 
 pub returns-clause-any_moment : goal.returns-clause-any_moment
 returns-clause-any_moment g c =

@@ -3,15 +3,15 @@ use Rattle.std.proofs.lemmas.Result.{on_ok_weaker}
 use Rattle.sector_disk.specs.Disk.{sector}
 use Rattle.sector_disk.proofs.Moments.{adds_narrowed, goes_on, image_or, weaker}
 use Rattle.redo_journal.proofs.Meaning.{targets_keep, installed_from}
-use Rattle.redo_journal.specs.States.{HasReplayed}
+use Rattle.redo_journal.specs.States.{header_at, HasReplayed}
 use Rattle.redo_journal.proofs.commit.replay.Goals as goal
 
 pub returns-in_err-copy_log-clause-any_moment : goal.returns-in_err-copy_log-clause-any_moment
-returns-in_err-copy_log-clause-any_moment g c = weaker (targets_keep c.args.sectors.now (g.D.Disk.state c.args.disk.now) c.requires) c.copy_log.ensures.any_moment
+returns-in_err-copy_log-clause-any_moment g c = weaker (targets_keep c.args.sectors.now (g.D.Disk.state c.args.disk.now) c.requires.rest) c.copy_log.ensures.any_moment
 
 pub returns-clause-any_moment : goal.returns-clause-any_moment
 returns-clause-any_moment g c =
-    let keep = targets_keep c.args.sectors.now (g.D.Disk.state c.args.disk.now) c.requires in
+    let keep = targets_keep c.args.sectors.now (g.D.Disk.state c.args.disk.now) c.requires.rest in
     let adds = adds_narrowed c.copy_log.ensures.adds c.sync.ensures.changes in
     goes_on (weaker keep c.copy_log.ensures.any_moment) c.sync.ensures.time (λ image is. keep image (image_or adds image is))
 
@@ -23,5 +23,7 @@ returns-clause-installed g c =
     let changes = c.sync.ensures.changes in
     let adds = adds_narrowed c.copy_log.ensures.adds changes in
     let image = image_or adds after.seen (g.met.D.Disk.seen_is_image c.sync.new.self) in
-    let in_place = subst (HasReplayed sectors (sector before.seen)) (sym changes.seen) c.in_ok-copy_log.ensures.written in
-    on_ok_weaker c.sync.result (installed_from sectors before after c.requires image adds.size in_place) c.sync.ensures.stable
+    let is = c.requires.header.is in
+    let written = subst (λ h. HasReplayed h sectors (sector before.seen) (g.D.Disk.state c.copy_log.new.disk).seen) is c.in_ok-copy_log.ensures.written in
+    let in_place = subst (HasReplayed (header_at before.seen) sectors (sector before.seen)) (sym changes.seen) written in
+    on_ok_weaker c.sync.result (installed_from sectors before after c.requires.rest image adds.size in_place) c.sync.ensures.stable

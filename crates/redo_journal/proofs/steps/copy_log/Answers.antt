@@ -21,25 +21,27 @@ loop-target-preserved g c =
     let first = g.D.Disk.state c.args.disk.now in
     let last = g.D.Disk.state c.loop-target.disk in
     let after = g.D.Disk.state c.write.new.self in
-    let range = range_at first.size sectors so_far.valid i lt in
+    let few = so_far.valid.few in
+    let header = c.args.header in
+    let range = range_at header first.size sectors so_far.valid i lt in
     let whole : length last.seen ≡ last.size = (g.met.D.Disk.seen_is_image c.loop-target.disk).size in
     let fits : get_or sectors i 0 < length last.seen = omega (arith, whole, so_far.adds.size, range.1) in
-    let content : c.read.new.to ≡ sector first.seen (2 + i) =
-    c.in_ok-read.ensures.content ∙ so_far.low c.loop-target.from (omega (arith, so_far.from, lt, so_far.valid.few)) ∙ ap (sector first.seen) so_far.from in
+    let content : c.read.new.to ≡ sector first.seen (2 + header + i) =
+    c.in_ok-read.ensures.content ∙ so_far.low c.loop-target.from (omega (arith, so_far.from, lt, few)) ∙ ap (sector first.seen) so_far.from in
     let put : after.seen ≡ set last.seen (get_or sectors i 0) c.read.new.to =
     c.in_ok-write.ensures.written.seen ∙ ap (λ (l : Image). set l (get_or sectors i 0) c.read.new.to) c.read.ensures.same.narrowed.seen in
     let read = adds_narrowed so_far.adds c.read.ensures.same.narrowed in
     let adds = adds_write read c.write.ensures.changes (λ k content is same. in_at sectors i k content lt is) in
     record {
       from = omega (arith, so_far.from);
-      room = so_far.room;
+      most = so_far.most;
       valid = so_far.valid;
       low = λ n low.
           ap (λ (l : Image). sector l n) put
           ∙ get_or-set_other last.seen (get_or sectors i 0) n c.read.new.to [] (λ (e : n ≡ get_or sectors i 0). omega (arith, low, e, range.0))
           ∙ so_far.low n low;
       written =
-          written_more (λ k. get_or sectors k 0) (λ k. sector first.seen (2 + k)) last.seen after.seen i fits
+          written_more (λ k. get_or sectors k 0) (λ k. sector first.seen (2 + header + k)) last.seen after.seen i fits
           (put ∙ ap (set last.seen (get_or sectors i 0)) content)
           (λ k low same. apart_at sectors so_far.valid.apart k i low lt same) so_far.written;
       adds = adds;

@@ -11,7 +11,7 @@ write-requires g c =
     let so_far = c.loop-n.invariant in
     let next = entry_is c.args.batch.now _ _ (length c.loop-n.yielded) c.in-Some.n.now c.in-Some.content.now c.sectors.ensures.sectors c.contents.ensures.contents
     (zip_turn _ _ c.loop-n.yielded c.into_iter-n-iterator.result c.loop-n.n-iterator c.next.new.self c.next.result (search rules) (search rules) c.loop-n.yielded_by (c.in-Some.n, c.in-Some.content) c.in-Some.is c.next.ensures.steps) in
-    omega (arith, so_far.adds.size, next.1, (target_range _ c.args.batch.now so_far.valid (length c.loop-n.yielded) next.0).1)
+    omega (arith, so_far.adds.size, next.1, (target_range _ _ c.args.batch.now so_far.valid (length c.loop-n.yielded) next.0).1)
 
 pub returns-in_err-write-clause-adds : goal.returns-in_err-write-clause-adds
 returns-in_err-write-clause-adds g c =
@@ -32,7 +32,7 @@ loop-n-preserved g c =
     let last = g.D.Disk.state c.loop-n.disk in
     let after = g.D.Disk.state c.write.new.self in
     let whole : length last.seen ≡ last.size = (g.met.D.Disk.seen_is_image c.loop-n.disk).size in
-    let fits : target_at entries i < length last.seen = omega (arith, whole, so_far.adds.size, (target_range _ entries so_far.valid i next.0).1) in
+    let fits : target_at entries i < length last.seen = omega (arith, whole, so_far.adds.size, (target_range _ _ entries so_far.valid i next.0).1) in
     let written : after.seen ≡ set last.seen (target_at entries i) (content_at entries i) = written_so last.seen after.seen c.in-Some.n.now (target_at entries i) c.in-Some.content.now (content_at entries i) c.in_ok-write.ensures.written.seen next.1 next.2 in
     let adds = adds_write so_far.adds c.write.ensures.changes (λ k content is same. in_targets entries i k content next.0 (is ∙ next.1)) in
     record {

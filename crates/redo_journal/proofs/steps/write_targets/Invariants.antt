@@ -2,12 +2,12 @@ use Rattle.std.proofs.Common.{◌≡◌, ◌≤◌, ◌<◌, ℕ, length}
 use Rattle.fs_layout.specs.Commit.{AreTargets}
 use Rattle.sector_disk.specs.Disk.{AddsOnly, IsImageOr, LeavesOnly, sector}
 use Rattle.redo_journal.specs.Batch.{targets, target_at, content_at}
-use Rattle.redo_journal.specs.States.{InTargets}
+use Rattle.redo_journal.specs.States.{header_at, InTargets}
 use Rattle.redo_journal.proofs.steps.write_targets.Given as goal
 
 abbrev pub invariant-loop-n : goal.invariant-loop-n
 invariant-loop-n g l = record {
-  valid : AreTargets (g.D.Disk.state l.initial.disk).size (targets l.batch);
+  valid : AreTargets (header_at (g.D.Disk.state l.initial.disk).seen) (g.D.Disk.state l.initial.disk).size (targets l.batch);
   written : (k : ℕ) → k < length l.yielded → sector (g.D.Disk.state l.disk).seen (target_at l.batch k) ≡ content_at l.batch k;
   adds : AddsOnly (InTargets (targets l.batch)) (g.D.Disk.state l.initial.disk) (g.D.Disk.state l.disk);
   since : LeavesOnly (g.D.Disk.state l.initial.disk) (g.D.Disk.state l.disk) (IsImageOr (InTargets (targets l.batch)) (g.D.Disk.state l.initial.disk));

@@ -1,5 +1,6 @@
 use Rattle.std.proofs.Common.{◌≡◌, ◌∙◌, ℕ, false, [], ◌∷◌, length, sym, subst, rules, length-append}
 use Rattle.std.proofs.lemmas.Slice.Zip.{zip_turn}
+use Rattle.fs_layout.specs.declared.commit.TheConstants.{MAX_LOG_SECTORS}
 use Rattle.redo_journal.specs.Batch.{has_entry, put_entry}
 use Rattle.redo_journal.proofs.Absorbing.{HasTaken, room_left, taken_more}
 use Rattle.redo_journal.proofs.Entries.{entry_is}
@@ -9,7 +10,7 @@ pub put-requires-clause-room : goal.put-requires-clause-room
 put-requires-clause-room c = λ none.
     let next = entry_is c.args.other.now _ _ (length c.loop-n.yielded) c.in-Some.n.now c.in-Some.content.now c.sectors.ensures.sectors c.contents.ensures.contents
     (zip_turn _ _ c.loop-n.yielded c.into_iter-n-iterator.result c.loop-n.n-iterator c.next.new.self c.next.result (search rules) (search rules) c.loop-n.yielded_by (c.in-Some.n, c.in-Some.content) c.in-Some.is c.next.ensures.steps) in
-    room_left c.args.self.now c.loop-n.self c.args.other.now (length c.loop-n.yielded) 126 next.0 c.loop-n.invariant c.requires.room (subst (λ (n : ℕ). has_entry c.loop-n.self n ≡ false) next.1 none)
+    room_left c.args.self.now c.loop-n.self c.args.other.now (length c.loop-n.yielded) MAX_LOG_SECTORS next.0 c.loop-n.invariant c.requires.room (subst (λ (n : ℕ). has_entry c.loop-n.self n ≡ false) next.1 none)
 
 pub loop-n-preserved : goal.loop-n-preserved
 loop-n-preserved c =

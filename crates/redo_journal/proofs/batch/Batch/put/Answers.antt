@@ -40,5 +40,5 @@ pub returns-clause-len : goal.returns-clause-len
 returns-clause-len c = ap length (returns-clause-put c) ∙ length-put c.args.self.now c.args.n c.args.from.now
 
 pub returns-clause-on_disk : goal.returns-clause-on_disk
-returns-clause-on_disk c = λ size fits on_disk.
-    subst (IsOnDisk size) (sym (returns-clause-put c)) (on_disk_put size c.args.self.now c.args.n c.args.from.now fits on_disk)
+returns-clause-on_disk c = λ header size high fits on_disk.
+    subst (IsOnDisk header size) (sym (returns-clause-put c)) (on_disk_put header size c.args.self.now c.args.n c.args.from.now high fits on_disk)

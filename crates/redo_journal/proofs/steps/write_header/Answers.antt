@@ -1,0 +1,37 @@
+use Rattle.std.proofs.Common.{◌≡◌, ◌<◌, ◌+◌, ◌*◌, ◌∙◌, ℕ, List, length, get_or, arith, ap}
+use Rattle.sector_disk.proofs.Moments.{adds_write, goes_on, image_or}
+use Rattle.redo_journal.specs.Batch.{target_at, targets}
+use Rattle.redo_journal.proofs.Entries.{length-targets, target_is}
+use Rattle.redo_journal.proofs.Writing.{header_more}
+use Rattle.redo_journal.proofs.steps.write_header.Goals as goal
+
+pub loop-at-preserved : goal.loop-at-preserved
+loop-at-preserved g c =
+    let so_far = c.loop-at.invariant in
+    let header = c.args.header in
+    let entries = c.args.batch.now in
+    let at = c.loop-at.at in
+    let last = g.D.Disk.state c.loop-at.disk in
+    let after = g.D.Disk.state c.write.new.self in
+    let few = so_far.few in
+    let of_entries : c.new-commit.result ≡ targets entries = c.new-commit.ensures ∙ c.sectors.ensures.sectors in
+    let begins : 126 + 128 * at < length entries = omega (arith, c.loop-at-test.true, c.header_sectors-at-end.ensures, ap length of_entries, length-targets entries) in
+    let low : at < header = omega (arith, begins, few) in
+    let whole : length last.seen ≡ last.size = (g.met.D.Disk.seen_is_image c.loop-at.disk).size in
+    let fits : 2 + at < length last.seen = omega (arith, whole, so_far.room, so_far.adds.size, low) in
+    let adds = adds_write so_far.adds c.write.ensures.changes (λ k content is same. (omega (arith, is), omega (arith, is, low))) in
+    record {
+      most = so_far.most;
+      few = few;
+      room = so_far.room;
+      written =
+          header_more (λ k. target_at entries (126 + k)) (length entries) at c.header_sector.result last.seen after.seen fits c.in_ok-write.ensures.written.seen
+          (λ k near lt.
+          c.header_sector.ensures k near (omega (arith, lt, ap length of_entries, length-targets entries))
+          ∙ ap (λ (l : List ℕ). get_or l (126 + 128 * at + k) 0) of_entries ∙ target_is entries (126 + 128 * at + k) lt ∙ ap (target_at entries) (omega arith))
+          so_far.written;
+      adds = adds;
+      since = goes_on so_far.since c.write.ensures.time (image_or adds);
+      failures = omega (arith, so_far.failures, c.write.ensures.cause.later);
+      failed_writes = c.in_ok-write.ensures.told.quiet ∙ so_far.failed_writes;
+    }
