@@ -1,12 +1,12 @@
 -- What a stop leaves of a store, from one call to the next.
-use Rattle.std.proofs.Common.{◌≡◌, inl, inr, ⊎_elim, List, [], refl, ◌∙◌, subst}
+use Rattle.std.proofs.Common.{◌≡◌, inl, inr, ⊎_elim, ℕ, List, [], refl, ◌∙◌, subst}
 use Rattle.fs_layout.specs.Bytes.{SectorMap}
 use Rattle.sector_disk.specs.Disk.{DiskState, Image, IsImage, IsNarrowed, OnlyReads}
 use Rattle.sector_disk.proofs.Moments.{joined, narrowed, reads_then, started, weaker}
-use Rattle.redo_journal.specs.Batch.{Entry, with_batch}
+use Rattle.redo_journal.specs.Batch.{Entry, IsOnDisk, with_batch}
 use Rattle.redo_journal.specs.Meaning.{SameMap, LeavesAllOrNone, LeavesSameMap, MeansAs, MeansAsBefore, data_of}
 use Rattle.redo_journal.specs.States.{IsIdle}
-use Rattle.redo_journal.proofs.Meaning.{either_on, reads_means, reads_same, rest_valid, with_batch_same}
+use Rattle.redo_journal.proofs.Meaning.{batch_same, either_on, reads_means, reads_same, rest_valid, same_chain, super_on_disk}
 use Rattle.sector_txn.specs.Images.{IsOneOf, LeavesOldOr, LeavesOneOf}
 
 -- an image means what it means itself
@@ -20,13 +20,15 @@ nothing_left only_now = record { size = refl; any_moment = started only_now (λ 
 -- ---- a commit
 
 -- a batch that was logged, and then sealed or not
-pub sealed_left : (entries : List Entry) (old logged new : DiskState) → logged.size ≡ old.size → SameMap (data_of logged) (data_of old)
+pub sealed_left : (entries : List Entry) (header : ℕ) (old logged new : DiskState) → IsOnDisk header old.size entries → logged.size ≡ old.size → SameMap (data_of logged) (data_of old)
     → LeavesSameMap old logged → LeavesAllOrNone entries logged new → LeavesAllOrNone entries old new
-sealed_left entries old logged new size same first second = joined (weaker (λ image reads. inl reads) first) (weaker (either_on entries old logged size same) second)
+sealed_left entries header old logged new on_disk size same first second = joined (weaker (λ image reads. inl reads) first) (weaker (either_on entries header old logged on_disk size same) second)
 
-pub sealed_same : (entries : List Entry) (old logged sealed : DiskState) → SameMap (data_of logged) (data_of old) → SameMap (data_of sealed) (with_batch entries (data_of logged))
+pub sealed_same : (entries : List Entry) (header : ℕ) (old logged sealed : DiskState) → IsOnDisk header old.size entries → SameMap (data_of logged) (data_of old) → SameMap (data_of sealed) (with_batch entries (data_of logged))
     → SameMap (data_of sealed) (with_batch entries (data_of old))
-sealed_same entries old logged sealed same changed n part = changed n part ∙ with_batch_same entries (data_of logged) (data_of old) n (same n part)
+sealed_same entries header old logged sealed on_disk same changed =
+    same_chain (data_of sealed) (with_batch entries (data_of logged)) (with_batch entries (data_of old)) changed
+    (batch_same entries (data_of logged) (data_of old) (super_on_disk entries header old.size (data_of old) on_disk) same)
 
 -- and then installed or not
 pub installed_left : (entries : List Entry) (old sealed new : DiskState) → sealed.size ≡ old.size → SameMap (data_of sealed) (with_batch entries (data_of old))

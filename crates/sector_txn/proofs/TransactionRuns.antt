@@ -10,12 +10,13 @@ use Rattle.sector_txn.specs.Sectors.{TxnState, SameStore, IsUnchanged, IsPut, la
 -- ---- the store below
 
 pub store_same : {txn : TxnState} → SameStore txn txn
-store_same = record { before = λ n. refl; reads = reads_nothing }
+store_same = record { before = λ n. refl; header = refl; reads = reads_nothing }
 
 -- one run after another
 pub store_joined : {old mid new : TxnState} → SameStore old mid → SameStore mid new → SameStore old new
 store_joined first second = record {
   before = λ n. second.before n ∙ first.before n;
+  header = second.header ∙ first.header;
   reads = reads_joined first.reads second.reads;
 }
 

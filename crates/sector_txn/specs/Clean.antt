@@ -12,6 +12,6 @@ abbrev pub pairs_of : Option (Box (LruCache ℕ (List ℕ)) Global) → List (�
 pairs_of None = []
 pairs_of (Some cache) = cache.value.entries
 
--- each of the contents is what the map has there
-abbrev pub IsPartOf : SectorMap → List (ℕ × List ℕ) → Type 0
-IsPartOf sectors pairs = (pair : ℕ × List ℕ) → Contains pairs pair → IsMapped pair.0 → pair.1 ≡ sectors pair.0
+-- each of the contents is what the map has there, with so many header sectors
+abbrev pub IsPartOf : ℕ → SectorMap → List (ℕ × List ℕ) → Type 0
+IsPartOf header sectors pairs = (pair : ℕ × List ℕ) → Contains pairs pair → IsMapped header pair.0 → pair.1 ≡ sectors pair.0

@@ -19,12 +19,15 @@ pub record TxnState : Type 1 where
   pub has_put : ℕ → Bool
   -- how many sectors can still be put that weren't yet
   pub room : ℕ
+  -- how many header sectors the disk has
+  pub header : ℕ
   -- the disk below
   pub disk : DiskState
 
 -- what the transaction began with is the same, and the disk was only read
 pub record SameStore (old new : TxnState) : Type 0 where
   pub before : (n : ℕ) → new.before n ≡ old.before n
+  pub header : new.header ≡ old.header
   pub reads : OnlyReads old.disk new.disk
 
 -- the map is the same, and so are the sectors that were put

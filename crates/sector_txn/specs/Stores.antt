@@ -2,11 +2,13 @@
 --     StoreView, TxnView        their values
 --     present, txn_state        the map of a store; the state of a transaction
 --     disk_after        the disk in what `keep` and `flush` give
---     IsTxn        what each transaction is
+--     IsWaiting, IsTxn        what each store and each transaction is
 use Rattle.std.specs.Prelude.{◌-◌, ◌≤◌, List, length, Result, Ok, Err}
 use Rattle.fs_layout.specs.Bytes.{SectorMap}
 use Rattle.redo_journal.specs.Batch.{Entry, IsOnDisk, has_entry, with_batch}
+use Rattle.fs_layout.specs.Header.{max_delta, max_targets}
 use Rattle.redo_journal.specs.Meaning.{data_of}
+use Rattle.redo_journal.specs.States.{header_at}
 use Rattle.sector_disk.specs.Disk.{DiskState}
 use Rattle.sector_txn.specs.Sectors.{TxnState}
 
@@ -37,7 +39,8 @@ txn_state state txn = record {
   sectors = map_now state txn;
   before = map_before state txn;
   has_put = has_entry txn.delta;
-  room = 64 - length txn.delta;
+  room = max_delta (header_at (state txn.disk).seen) - length txn.delta;
+  header = header_at (state txn.disk).seen;
   disk = state txn.disk;
 }
 
@@ -46,7 +49,12 @@ abbrev pub disk_after : {D : Type 0} → Result (StoreView D) D → D
 disk_after (Ok store) = store.disk
 disk_after (Err broken) = broken
 
--- at most 64 sectors are put, all of them on the disk
+-- no more sectors wait than a commit has, all of them on the disk
+pub record IsWaiting (disk : DiskState) (waiting : List Entry) : Type 0 where
+  pub few : length waiting ≤ max_targets (header_at disk.seen)
+  pub on_disk : IsOnDisk (header_at disk.seen) disk.size waiting
+
+-- no more sectors are put than a call may, all of them on the disk
 pub record IsTxn (disk : DiskState) (delta : List Entry) : Type 0 where
-  pub few : length delta ≤ 64
-  pub on_disk : IsOnDisk disk.size delta
+  pub few : length delta ≤ max_delta (header_at disk.seen)
+  pub on_disk : IsOnDisk (header_at disk.seen) disk.size delta

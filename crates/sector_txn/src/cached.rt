@@ -1,10 +1,11 @@
 //! A journal whose sectors are kept in memory once they are read.
 
-ghost use Rattle.std.specs.Prelude.{◌≡◌, ◌<◌, ℕ, length, Some, Ok, IfOk, OnOk};
+ghost use Rattle.std.specs.Prelude.{◌≡◌, ◌<◌, ◌≤◌, ℕ, length, Some, Ok, IfOk, OnOk};
 ghost use Rattle.std.specs.Fn.{FnOnceReturnsAt};
+ghost use Rattle.fs_layout.specs.Header.{max_targets};
 ghost use Rattle.redo_journal.specs.Batch.{IsOnDisk, with_batch};
 ghost use Rattle.redo_journal.specs.Meaning.{IsMapped, SameMap, data_of, disk_of};
-ghost use Rattle.redo_journal.specs.States.{IsIdle};
+ghost use Rattle.redo_journal.specs.States.{header_at, HasHeader, IsIdle};
 ghost use Rattle.sector_disk.specs.Disk.{IsSame, ForgetsPast, Elapses, OnlyReads, HasCause, HasWriteCause};
 ghost use Rattle.sector_txn.specs.Images.{LeavesOldOr};
 
@@ -25,13 +26,14 @@ pub(crate) struct CachedJournal<D: Disk> {
 
 impl<D: Disk> Model for CachedJournal<D> {
     ghost use Rattle.redo_journal.specs.Meaning.{data_of};
+    ghost use Rattle.redo_journal.specs.States.{header_at};
     ghost use Rattle.sector_txn.specs.Clean.{IsPartOf};
 
     ghost Value = { D };
 
     ghost view = { λ cached. cached.journal };
 
-    ghost invariant = { λ cached. IsPartOf (data_of (D.state cached.journal)) cached.clean };
+    ghost invariant = { λ cached. IsPartOf (header_at (D.state cached.journal).seen) (data_of (D.state cached.journal)) cached.clean };
 }
 
 impl<D: Disk> CachedJournal<D> {
@@ -52,9 +54,16 @@ impl<D: Disk> CachedJournal<D> {
         self.journal.tell_idle();
     }
 
+    /// How many sectors the header of the log has.
+    pub(crate) fn header(&self) -> u32
+        ensures { HasHeader result (D.state self.now) }
+    {
+        self.journal.header()
+    }
+
     /// Reads a sector, from the device or as it was last read there. At `Err` nothing is said of the buffer.
     pub(crate) fn read(&mut self, n: u32, to: &mut [u8; 512]) -> Result<(), DiskFault>
-        requires part { IsMapped n }
+        requires part { IsMapped (header_at (D.state self.old).seen) n }
         requires on_disk { n < (D.state self.old).size }
         ensures content { OnOk result (to.new ≡ data_of (D.state self.old) n) }
         ensures same { (m : ℕ) → data_of (D.state self.new) m ≡ data_of (D.state self.old) m }
@@ -75,7 +84,7 @@ impl<D: Disk> CachedJournal<D> {
         n: u32,
         read: F,
     ) -> Result<T, DiskFault>
-        requires part { IsMapped n }
+        requires part { IsMapped (header_at (D.state self.old).seen) n }
         requires on_disk { n < (D.state self.old).size }
         requires callable { F.IsAlwaysCallable read }
         ensures content { IfOk result (λ x. FnOnceReturnsAt F.FnOnce read (data_of (D.state self.old) n) x) }
@@ -94,7 +103,7 @@ impl<D: Disk> CachedJournal<D> {
 
     // Reads a sector from the device, and keeps it.
     fn read_new(&mut self, n: u32, to: &mut [u8; 512]) -> Result<(), DiskFault>
-        requires part { IsMapped n }
+        requires part { IsMapped (header_at (D.state self.old).seen) n }
         requires on_disk { n < (D.state self.old).size }
         ensures content { OnOk result (to.new ≡ data_of (D.state self.old) n) }
         ensures same { (m : ℕ) → data_of (D.state self.new) m ≡ data_of (D.state self.old) m }
@@ -109,7 +118,8 @@ impl<D: Disk> CachedJournal<D> {
 
     /// Logs, seals and installs a batch. What the cache has of its sectors is dropped before they are written.
     pub(crate) fn commit(self, batch: &Batch) -> Result<CachedJournal<D>, Broken<D>>
-        requires { IsOnDisk (D.state self).size batch.now }
+        requires on_disk { IsOnDisk (header_at (D.state self).seen) (D.state self).size batch.now }
+        requires few { length batch.now ≤ max_targets (header_at (D.state self).seen) }
         ensures changed { IfOk result (λ after. SameMap (data_of (D.state after)) (with_batch batch.now (data_of (D.state self)))) }
         ensures images { LeavesOldOr (with_batch batch.now (data_of (D.state self))) (D.state self) (D.state (disk_of result)) }
         ensures empty { length batch.now ≡ 0 → result ≡ Ok self }

@@ -1,20 +1,23 @@
 //! The three steps of a commit in a row, and when a commit is due.
 
 ghost use Rattle.std.specs.Prelude.{◌≡◌, ◌≤◌, ◌+◌, ◌↔◌, ℕ, length, Ok, IfOk, IsTrue};
-ghost use Rattle.fs_layout.specs.declared.commit.TheConstants.{MAX_TARGETS};
+ghost use Rattle.fs_layout.specs.Header.{max_delta, max_targets};
 ghost use Rattle.redo_journal.specs.Batch.{IsOnDisk, with_batch, added};
 ghost use Rattle.redo_journal.specs.Meaning.{SameMap, data_of, disk_of};
+ghost use Rattle.redo_journal.specs.States.{header_at};
 ghost use Rattle.sector_disk.specs.Disk.{HasCause, HasWriteCause};
 ghost use Rattle.sector_txn.specs.Images.{LeavesOldOr};
+ghost use Rattle.sector_txn.specs.Stores.{IsWaiting};
 
 use crate::cached::CachedJournal;
-use fs_layout::MAX_TARGETS;
+use fs_layout::max_targets;
 use redo_journal::{Batch, Broken, Journal};
 use sector_disk::Disk;
 
 /// Logs, seals and installs a batch.
 pub(crate) fn commit<D: Disk>(journal: Journal<D>, batch: &Batch) -> Result<Journal<D>, Broken<D>>
-    requires { IsOnDisk (D.state journal).size batch.now }
+    requires on_disk { IsOnDisk (header_at (D.state journal).seen) (D.state journal).size batch.now }
+    requires few { length batch.now ≤ max_targets (header_at (D.state journal).seen) }
 
     ensures changed { IfOk result (λ after. SameMap (data_of (D.state after)) (with_batch batch.now (data_of (D.state journal)))) }
 
@@ -39,12 +42,12 @@ pub(crate) fn commit<D: Disk>(journal: Journal<D>, batch: &Batch) -> Result<Jour
 }
 
 // Whether the changes fit beside what waits. Nothing is looked up where they would if all their sectors were new.
-fn fits(waiting: &Batch, delta: &Batch) -> bool
-    ensures fits { IsTrue result ↔ (length waiting.now + added waiting.now delta.now ≤ MAX_TARGETS) }
+fn fits(most: usize, waiting: &Batch, delta: &Batch) -> bool
+    requires { length waiting.now ≤ most }
+    ensures fits { IsTrue result ↔ (length waiting.now + added waiting.now delta.now ≤ most) }
     ensures empty { length delta.now ≡ 0 → IsTrue result }
 {
-    waiting.len() + delta.len() <= MAX_TARGETS
-        || waiting.len() + waiting.added_by(delta) <= MAX_TARGETS
+    waiting.len() + delta.len() <= most || waiting.len() + waiting.added_by(delta) <= most
 }
 
 /// Commits what waits, where the changes wouldn't fit beside it: all of it, before they are kept.
@@ -53,10 +56,13 @@ pub(crate) fn commit_if_full<D: Disk>(
     waiting: &mut Batch,
     delta: &Batch,
 ) -> Result<CachedJournal<D>, Broken<D>>
-    requires on_disk { IsOnDisk (D.state journal).size waiting.old }
-    requires few { length delta.now ≤ 64 }
-    ensures on_disk { (size : ℕ) → IsOnDisk size waiting.old → IsOnDisk size waiting.new }
-    ensures room { IfOk result (λ after. length waiting.new + added waiting.new delta.now ≤ MAX_TARGETS) }
+    requires waits { IsWaiting (D.state journal) waiting.old }
+    requires few { length delta.now ≤ max_delta (header_at (D.state journal).seen) }
+    ensures on_disk { (header size : ℕ) → IsOnDisk header size waiting.old → IsOnDisk header size waiting.new }
+    ensures room { IfOk result (λ after. length waiting.new + added waiting.new delta.now ≤ max_targets (header_at (D.state journal).seen)) }
+
+    // The header stays.
+    ensures header { IfOk result (λ after. header_at (D.state after).seen ≡ header_at (D.state journal).seen) }
 
     // What was to be read stays so.
     ensures same { let before = with_batch waiting.old (data_of (D.state journal)) in
@@ -70,7 +76,7 @@ pub(crate) fn commit_if_full<D: Disk>(
     ensures cause { HasCause (D.state journal) (D.state (disk_of result)) result }
     ensures told { HasWriteCause (D.state journal) (D.state (disk_of result)) result }
 {
-    if fits(waiting, delta) {
+    if fits(max_targets(journal.header()), waiting, delta) {
         return Ok(journal);
     }
     match journal.commit(waiting) {

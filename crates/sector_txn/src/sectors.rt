@@ -2,6 +2,7 @@
 
 ghost use Rattle.std.specs.Prelude.{◌≡◌, ◌≤◌, ◌<◌, ℕ, false, IfOk, OnOk};
 ghost use Rattle.std.specs.Fn.{FnOnceReturnsAt};
+ghost use Rattle.fs_layout.specs.Header.{log_end};
 ghost use Rattle.redo_journal.specs.Meaning.{IsMapped};
 ghost use Rattle.sector_disk.specs.Disk.{HasCause};
 ghost use Rattle.sector_txn.specs.Sectors.{TxnState, IsUnchanged, IsPut};
@@ -10,7 +11,7 @@ use sector_disk::DiskFault;
 
 /// A map of sectors, and the changes of one call to it.
 ///
-/// The map has sector 0 and those from 128 on: between them lies the journal. A call that is refused leaves its
+/// The map has sector 0 and those behind the journal, which lies between them. A call that is refused leaves its
 /// changes behind, and its caller drops them all.
 pub trait Sectors {
     /// The map, what it was before, which sectors were put, and the disk below.
@@ -18,7 +19,7 @@ pub trait Sectors {
 
     /// Reads a sector, as the last `put` left it. At `Err` nothing is said of the buffer.
     fn get(&mut self, n: u32, to: &mut [u8; 512]) -> Result<(), DiskFault>
-        requires part { IsMapped n }
+        requires part { IsMapped (state self.old).header n }
         requires on_disk { n < (state self.old).disk.size }
         ensures content { OnOk result (to.new ≡ (state self.old).sectors n) }
         ensures same { IsUnchanged (state self.old) (state self.new) }
@@ -30,7 +31,7 @@ pub trait Sectors {
         n: u32,
         read: F,
     ) -> Result<T, DiskFault>
-        requires part { IsMapped n }
+        requires part { IsMapped (state self.old).header n }
         requires on_disk { n < (state self.old).disk.size }
         requires callable { F.IsAlwaysCallable read }
         ensures content { IfOk result (λ x. FnOnceReturnsAt F.FnOnce read ((state self.old).sectors n) x) }
@@ -44,7 +45,7 @@ pub trait Sectors {
 
     /// Changes a sector. A sector that wasn't put yet takes room.
     fn put(&mut self, n: u32, from: &[u8; 512])
-        requires part { 128 ≤ n }
+        requires part { log_end (state self.old).header ≤ n }
         requires on_disk { n < (state self.old).disk.size }
         requires room { (state self.old).has_put n ≡ false → 0 < (state self.old).room }
         ensures { IsPut n from.now (state self.old) (state self.new) };

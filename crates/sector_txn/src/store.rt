@@ -2,7 +2,9 @@
 #![tactic(auto, unfolding(crate::specs::Stores::present, crate::specs::Stores::map_before, crate::specs::Stores::map_now))]
 
 ghost use Rattle.std.specs.Prelude.{◌≡◌, ℕ, [], false, Some, IsOk, IfOk, MatchResult};
+ghost use Rattle.fs_layout.specs.Header.{header_of, max_delta};
 ghost use Rattle.redo_journal.specs.Meaning.{SameMap, EachReadsAs, data_of};
+ghost use Rattle.redo_journal.specs.States.{header_at};
 ghost use Rattle.sector_disk.specs.Disk.{IsSame, ForgetsPast, Elapses, HasCause, HasWriteCause};
 ghost use Rattle.sector_txn.specs.Images.{LeavesOneOf, LeavesOldOr};
 ghost use Rattle.sector_txn.specs.Stores.{present, map_before, map_now, txn_state, disk_after};
@@ -11,17 +13,18 @@ use crate::Sectors;
 use crate::cached::CachedJournal;
 use crate::commit::commit_if_full;
 use crate::hints::Hints;
+use fs_layout::HEADER_TARGETS;
 use redo_journal::{Batch, Broken, Journal};
 use sector_disk::{CrashDisk, Disk, DiskFault};
 use std::alloc::{AllocError, Global};
 use std::marker::Model;
 
-// How many sectors one call may change.
+// How many sectors one call may change, on a disk without a header.
 const DELTA: usize = 64;
 
-/// A map of sectors on a journal: sector 0 and those from 128 on.
+/// A map of sectors on a journal: sector 0 and those behind the log.
 ///
-/// At most 126 sectors that were kept wait in memory for their commit, which [`Store::flush`] makes. It may be dropped, which
+/// No more sectors that were kept than a commit has wait in memory for their commit, which [`Store::flush`] makes. It may be dropped, which
 /// is as if the disk were stopped.
 #[derive(Drop)]
 pub struct Store<D: Disk> {
@@ -36,17 +39,16 @@ pub struct Store<D: Disk> {
 
 impl<D: Disk> Model for Store<D> {
     ghost use Rattle.std.specs.Prelude.{◌≡◌, []};
-    ghost use Rattle.redo_journal.specs.Batch.{IsOnDisk};
-    ghost use Rattle.sector_txn.specs.Stores.{StoreView};
+    ghost use Rattle.sector_txn.specs.Stores.{StoreView, IsWaiting};
 
     ghost Value = { StoreView D };
 
     ghost view = { λ store. record { disk = store.journal; waiting = store.waiting.value } };
 
-    ghost invariant = { λ store. (store.delta.value ≡ []) × IsOnDisk (D.state store.journal).size store.waiting.value };
+    ghost invariant = { λ store. (store.delta.value ≡ []) × IsWaiting (D.state store.journal) store.waiting.value };
 }
 
-/// One call's changes to a store, at most 64 sectors. Either [`Txn::keep`] or [`Txn::drop_delta`] has to be called.
+/// One call's changes to a store, at most 64 sectors where the disk has no header. Either [`Txn::keep`] or [`Txn::drop_delta`] has to be called.
 #[must_use = "its changes are to be kept or dropped"]
 pub struct Txn<D: Disk> {
     journal: CachedJournal<D>,
@@ -56,14 +58,13 @@ pub struct Txn<D: Disk> {
 }
 
 impl<D: Disk> Model for Txn<D> {
-    ghost use Rattle.redo_journal.specs.Batch.{IsOnDisk};
-    ghost use Rattle.sector_txn.specs.Stores.{TxnView, IsTxn};
+    ghost use Rattle.sector_txn.specs.Stores.{TxnView, IsTxn, IsWaiting};
 
     ghost Value = { TxnView D };
 
     ghost view = { λ txn. record { disk = txn.journal; waiting = txn.waiting.value; delta = txn.delta.value } };
 
-    ghost invariant = { λ txn. IsTxn (D.state txn.journal) txn.delta.value × IsOnDisk (D.state txn.journal).size txn.waiting.value };
+    ghost invariant = { λ txn. IsTxn (D.state txn.journal) txn.delta.value × IsWaiting (D.state txn.journal) txn.waiting.value };
 }
 
 impl<D: Disk> Store<D> {
@@ -91,7 +92,8 @@ impl<D: Disk> Store<D> {
         ensures map { SameMap (txn_state D.state result).sectors (present D.state self) }
         ensures before { SameMap (txn_state D.state result).before (present D.state self) }
         ensures delta { (n : ℕ) → (txn_state D.state result).has_put n ≡ false }
-        ensures room { (txn_state D.state result).room ≡ 64 }
+        ensures header { (txn_state D.state result).header ≡ header_of ((txn_state D.state result).sectors 0) }
+        ensures room { (txn_state D.state result).room ≡ max_delta (txn_state D.state result).header }
     {
         let Store {
             journal,
@@ -110,6 +112,9 @@ impl<D: Disk> Store<D> {
     /// From `Ok` on, all that was kept outlasts a stop.
     pub fn flush(self) -> Result<Store<D>, Broken<D>>
         ensures map { IfOk result (λ store. SameMap (present D.state store) (present D.state self)) }
+
+        // The header stays.
+        ensures header { IfOk result (λ store. header_at (D.state store.disk).seen ≡ header_at (D.state self.disk).seen) }
 
         // A stop at any moment of the call leaves what means as before it, or reads as the store.
         ensures images { LeavesOldOr (present D.state self) (D.state self.disk) (D.state (disk_after result)) }
@@ -184,12 +189,15 @@ impl<D: Disk> Txn<D> {
     pub fn keep(self) -> Result<Store<D>, Broken<D>>
         ensures map { IfOk result (λ store. SameMap (present D.state store) (txn_state D.state self).sectors) }
 
+        // The header stays.
+        ensures header { IfOk result (λ store. header_at (D.state store.disk).seen ≡ header_at (D.state self.disk).seen) }
+
         // A stop at any moment of the call leaves what means as before it, or reads as the store without the changes
         // or with all of them.
         ensures images { LeavesOneOf (map_before D.state self) (map_now D.state self) (D.state self.disk) (D.state (disk_after result)) }
 
         // Without changes the disk isn't called.
-        ensures empty { (txn_state D.state self).room ≡ 64 → IsOk result × (disk_after result ≡ self.disk) }
+        ensures empty { (txn_state D.state self).room ≡ max_delta (txn_state D.state self).header → IsOk result × (disk_after result ≡ self.disk) }
 
         ensures cause { HasCause (D.state self.disk) (D.state (disk_after result)) result }
 
@@ -275,7 +283,7 @@ impl<D: Disk> Sectors for Txn<D> {
     }
 
     fn room(&self) -> usize {
-        DELTA - self.delta.len()
+        DELTA + HEADER_TARGETS * (self.journal.header() as usize) - self.delta.len()
     }
 
     fn leave_hint(&mut self, key: u32, hint: u64) {

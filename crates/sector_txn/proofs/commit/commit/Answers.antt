@@ -1,7 +1,9 @@
 use Rattle.std.proofs.Common.{◌∙◌, inl}
 use Rattle.std.proofs.lemmas.Result.{IfOk-weaker}
 use Rattle.sector_disk.proofs.Moments.{weaker}
-use Rattle.redo_journal.specs.Meaning.{disk_of}
+use Rattle.redo_journal.specs.Batch.{with_batch}
+use Rattle.redo_journal.specs.Meaning.{data_of, disk_of}
+use Rattle.redo_journal.proofs.Meaning.{same_chain}
 use Rattle.sector_txn.proofs.Images.{commit_left, installed_left, sealed_left, sealed_same}
 use Rattle.sector_txn.proofs.commit.commit.Goals as goal
 
@@ -19,7 +21,7 @@ returns-in-Err-seal-clause-images g c =
     let first = c.in-Ok.ensures in
     let second = c.in-Err-seal.ensures in
     commit_left c.args.batch.now before broken c.tell_idle.ensures (g.met.D.Disk.seen_is_image c.args.journal) (second.size ∙ first.size)
-    (sealed_left c.args.batch.now before logged broken first.size first.same first.any_moment second.any_moment)
+    (sealed_left c.args.batch.now _ before logged broken c.requires.on_disk first.size first.same first.any_moment second.any_moment)
 
 pub returns-in-Ok-seal-clause-images : goal.returns-in-Ok-seal-clause-images
 returns-in-Ok-seal-clause-images g c =
@@ -32,11 +34,11 @@ returns-in-Ok-seal-clause-images g c =
     let second = c.in-Ok-seal.ensures in
     let third = c.install.ensures in
     commit_left batch before after c.tell_idle.ensures (g.met.D.Disk.seen_is_image c.args.journal) (third.size ∙ second.size ∙ first.size)
-    (installed_left batch before sealed after (second.size ∙ first.size) (sealed_same batch before logged sealed first.same second.changed)
-    (sealed_left batch before logged sealed first.size first.same first.any_moment second.any_moment) third.any_moment)
+    (installed_left batch before sealed after (second.size ∙ first.size) (sealed_same batch _ before logged sealed c.requires.on_disk first.same second.changed)
+    (sealed_left batch _ before logged sealed c.requires.on_disk first.size first.same first.any_moment second.any_moment) third.any_moment)
 
 pub returns-in-Ok-seal-clause-changed : goal.returns-in-Ok-seal-clause-changed
 returns-in-Ok-seal-clause-changed g c =
     let state = g.D.Disk.state in
-    let same = sealed_same c.args.batch.now (state c.args.journal) (state c.in-Ok.logged) (state c.in-Ok-seal.sealed) c.in-Ok.ensures.same c.in-Ok-seal.ensures.changed in
-    IfOk-weaker c.install.result _ _ (λ after is n part. is n part ∙ same n part) c.install.ensures.same
+    let same = sealed_same c.args.batch.now _ (state c.args.journal) (state c.in-Ok.logged) (state c.in-Ok-seal.sealed) c.requires.on_disk c.in-Ok.ensures.same c.in-Ok-seal.ensures.changed in
+    IfOk-weaker c.install.result _ _ (λ after is. same_chain (data_of (state after)) (data_of (state c.in-Ok-seal.sealed)) (with_batch c.args.batch.now (data_of (state c.args.journal))) is same) c.install.ensures.same

@@ -1,12 +1,15 @@
-use Rattle.std.proofs.Common.{◌∙◌, ap, sym, inl, inr}
-use Rattle.redo_journal.specs.Meaning.{data_of}
+use Rattle.std.proofs.Common.{◌∙◌, ap, sym, inl, inr, subst}
+use Rattle.sector_disk.specs.Disk.{Image}
+use Rattle.redo_journal.specs.States.{header_at}
+use Rattle.redo_journal.specs.Meaning.{IsMapped, data_of}
 use Rattle.sector_txn.proofs.cached.CachedJournal.read_new.Goals as goal
 
 pub invariant_of-self-2 : goal.invariant_of-self-2
 invariant_of-self-2 g c = λ pair has part.
     let before = data_of (g.D.Disk.state c.self.inside.journal) in
     let same = c.read.ensures.same pair.0 in
+    let here = subst (λ (l : Image). IsMapped (header_at l) pair.0) c.read.ensures.unchanged.narrowed.seen part in
     elim (c.put.ensures pair has) [
-      | inl was ↦ c.self.invariant pair was part ∙ sym same
+      | inl was ↦ c.self.invariant pair was here ∙ sym same
       | inr is ↦ ap (λ p. p.1) is ∙ c.in_ok-read.ensures.content ∙ ap before (sym (ap (λ p. p.0) is)) ∙ sym same
     ]

@@ -1,8 +1,12 @@
-use Rattle.std.proofs.Common.{sym, subst, false, length, ◌≡◌, ◌-◌, ◌<◌, ◌≤◌}
-use Rattle.redo_journal.specs.Batch.{has_entry}
+use Rattle.std.proofs.Common.{sym, subst, ap, arith, false, ℕ, length, ◌≡◌, ◌-◌, ◌<◌, ◌≤◌}
+use Rattle.fs_layout.proofs.Targets.{header_most}
+use Rattle.sector_disk.specs.Disk.{DiskState, sector}
+use Rattle.fs_layout.specs.Header.{max_delta, log_end}
+use Rattle.redo_journal.specs.Batch.{IsOnDisk, has_entry}
+use Rattle.redo_journal.specs.States.{header_at}
 use Rattle.sector_txn.specs.Sectors.{IsPut}
-use Rattle.sector_txn.specs.Stores.{txn_state}
-use Rattle.sector_txn.proofs.Delta.{delta_put}
+use Rattle.sector_txn.specs.Stores.{TxnView, txn_state}
+use Rattle.sector_txn.proofs.Delta.{delta_put, few_after}
 use Rattle.sector_txn.proofs.store.TxnSectors.put.Goals as goal
 
 pub returns : goal.returns
@@ -11,10 +15,42 @@ returns g c =
     let state = g.D.Disk.state in
     let n = c.args.n in
     let content = c.args.from.now in
-    let room = subst (λ t. has_entry t.delta n ≡ false → 0 < 64 - length t.delta) (sym c.self.view_is) c.requires.room in
+    let most = max_delta (header_at (state inside.journal).seen) in
+    let room = subst (λ t. has_entry t.delta n ≡ false → 0 < max_delta (header_at (state t.disk).seen) - length t.delta) (sym c.self.view_is) c.requires.room in
     let after = txn_state state record { disk = inside.journal; waiting = inside.waiting.value; delta = c.put.new.self } in
     subst (λ t. IsPut n content (txn_state state t) after) c.self.view_is
-    (subst (λ delta. length delta ≤ 64 → (has_entry delta n ≡ false → 0 < 64 - length delta)
+    (subst (λ delta. length delta ≤ most → (has_entry delta n ≡ false → 0 < most - length delta)
     → IsPut n content (txn_state state record { disk = inside.journal; waiting = inside.waiting.value; delta = delta }) after) c.deref_mut.ensures.value
     (λ few free. delta_put state inside.journal inside.waiting.value c.deref_mut.result.now c.put.new.self n content few free c.put.ensures.put c.put.ensures.map c.put.ensures.len)
     c.self.invariant.0.few room)
+
+-- the room that there is, in the words of the delta
+free : {D : Type 0} (state : D → DiskState) (n : ℕ) (txn inside : TxnView D) → inside ≡ txn → (has_entry txn.delta n ≡ false → 0 < max_delta (header_at (state txn.disk).seen) - length txn.delta)
+    → has_entry inside.delta n ≡ false → 0 < max_delta (header_at (state inside.disk).seen) - length inside.delta
+free state n txn inside is room = subst (λ t. has_entry t.delta n ≡ false → 0 < max_delta (header_at (state t.disk).seen) - length t.delta) (sym is) room
+
+pub put-requires-clause-room : goal.put-requires-clause-room
+put-requires-clause-room g c = λ none.
+    let state = g.D.Disk.state in
+    let same = c.deref_mut.ensures.value in
+    let room = free state c.args.n c.args.self.now _ c.self.view_is c.requires.room (subst (λ d. has_entry d c.args.n ≡ false) same none) in
+    omega (arith, room, ap length same, header_most (sector (state c.self.inside.journal).seen 0))
+
+pub invariant_of-self : goal.invariant_of-self
+invariant_of-self g c =
+    let state = g.D.Disk.state in
+    let n = c.args.n in
+    let disk = state c.self.inside.journal in
+    let header = header_at disk.seen in
+    let same = c.deref_mut.ensures.value in
+    let was = c.self.invariant.0 in
+    let room = free state n c.args.self.now _ c.self.view_is c.requires.room in (
+      record {
+        few =
+            few_after (max_delta header) n c.deref_mut.result.now c.put.new.self (omega (arith, was.few, ap length same)) (λ none. let space = room (subst (λ d. has_entry d n ≡ false) same none) in omega (arith, space, ap length same))
+            c.put.ensures.len;
+        on_disk = c.put.ensures.on_disk header disk.size (subst (λ t. log_end (header_at (state t.disk).seen) ≤ n) (sym c.self.view_is) c.requires.part)
+            (subst (λ t. n < (state t.disk).size) (sym c.self.view_is) c.requires.on_disk) (subst (IsOnDisk header disk.size) (sym same) was.on_disk);
+      },
+      c.self.invariant.1,
+    )
