@@ -111,6 +111,7 @@ pub bitmaps_marked : (p : Place) (map : Bitmap) (n : â„•) (old new : TxnState) â
 bitmaps_marked p map n old new has store is mark = record {
   place = has.place;
   disk = omega (arith, has.disk, store.reads.narrowed.size);
+  header = omega (arith, has.header, store.header);
   tables = tables_kept p map n old.sectors new.sectors has.tables mark;
   rest = rest_kept p map n old.sectors new.sectors has.rest is mark;
 }

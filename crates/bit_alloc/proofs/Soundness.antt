@@ -18,6 +18,7 @@ use Rattle.sector_txn.proofs.TransactionRuns.{changes_joined, lacking_at_most}
 use Rattle.bit_alloc.specs.declared.bitmap.Bitmap.{Bitmap}
 use Rattle.bit_alloc.specs.declared.bitmap.Bitmap.TheVariants.{Inodes, Blocks}
 use Rattle.bit_alloc.specs.Bitmaps.{limit, IsNumber, sector_of, HasRestSet, HasBitmaps}
+use Rattle.fs_layout.specs.Header.{max_delta, log_end}
 use Rattle.bit_alloc.specs.Inodes.{IsSound, IsSectorFor, Touches}
 use Rattle.bit_alloc.specs.Room.{bitmaps, HasSpare}
 use Rattle.bit_alloc.proofs.Marking.{sector_below}
@@ -29,6 +30,7 @@ pub bitmaps_kept : (p : Place) (old new : TxnState) → HasBitmaps p old → Sam
 bitmaps_kept p old new has store same whole = record {
   place = has.place;
   disk = omega (arith, has.disk, store.reads.narrowed.size);
+  header = omega (arith, has.header, store.header);
   tables = λ s from to. elim (cases_lt s p.table) [
     | inl low ↦ subst IsSector (sym (same s from low)) (has.tables s from to)
     | inr high ↦ whole s high to
@@ -63,11 +65,11 @@ put_keeps_bitmaps {p} {s} {x} {old} {new} has store high put =
 
 -- ---- soundness
 -- of a consistent map
-pub sound_from : (p : Place) (txn : TxnState) → IsConsistent p txn.sectors → p.sectors ≤ txn.disk.size
+pub sound_from : (p : Place) (txn : TxnState) → IsConsistent p txn.sectors → p.sectors ≤ txn.disk.size → log_end txn.header ≤ inode_bitmap
     → ((n : ℕ) → n < 4096 → (n ≡ 0) ⊎ (p.inodes ≤ n) → IsTrue (bit txn.sectors inode_bitmap n)) → IsSound p txn
-sound_from p txn consistent disk outside = record {
+sound_from p txn consistent disk header outside = record {
   consistent = consistent;
-  bitmaps = record { place = consistent.place; disk = disk; tables = consistent.sectors; rest = rest_set };
+  bitmaps = record { place = consistent.place; disk = disk; header = header; tables = consistent.sectors; rest = rest_set };
 }
   where
     rest_set : HasRestSet p txn.sectors
@@ -87,7 +89,7 @@ sound_from p txn consistent disk outside = record {
 pub sound_after : {p : Place} {old new : TxnState} → IsSound p old → SameStore old new → IsConsistent p new.sectors
     → ((m : ℕ) → m < 4096 → (IsNumber p Inodes m → ⊥) → bit new.sectors inode_bitmap m ≡ bit old.sectors inode_bitmap m) → IsSound p new
 sound_after {p} {old} {new} sound store consistent same =
-    sound_from p new consistent (omega (arith, sound.bitmaps.disk, store.reads.narrowed.size))
+    sound_from p new consistent (omega (arith, sound.bitmaps.disk, store.reads.narrowed.size)) (omega (arith, sound.bitmaps.header, store.header))
     (λ m low outside. same m low (none m outside) ∙ sound.bitmaps.rest Inodes m low (none m outside))
   where
     none : (m : ℕ) → (m ≡ 0) ⊎ (p.inodes ≤ m) → IsNumber p Inodes m → ⊥
@@ -131,7 +133,7 @@ pub spare_then : (p : Place) (more rest : ℕ) {R : ℕ → Type 0} (old new : T
 spare_then p more rest old new spare puts = omega (arith, spare, puts.room)
 
 -- at the start
-pub spare_first : (p : Place) (version : Version) (sectors inodes : ℕ) (txn : TxnState) → place_in version sectors inodes ≡ Some p → txn.room ≡ 64 → HasSpare p 47 txn
+pub spare_first : (p : Place) (version : Version) (sectors inodes : ℕ) (txn : TxnState) → place_in version sectors inodes ≡ Some p → txn.room ≡ max_delta txn.header → HasSpare p 47 txn
 spare_first p version sectors inodes txn is room =
     let table = (place_has_bounds version sectors inodes is).table_to in
     omega (arith, lacking_at_most txn (bitmaps p), length-range_with_len 128 (p.table - 128), table, room)

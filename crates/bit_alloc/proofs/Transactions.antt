@@ -30,6 +30,7 @@ pub bitmaps_unchanged : (p : Place) (old new : TxnState) â†’ HasBitmaps p old â†
 bitmaps_unchanged p old new has same = record {
   place = has.place;
   disk = omega (arith, has.disk, same.store.reads.narrowed.size);
+  header = omega (arith, has.header, same.store.header);
   tables = subst (HasWholeTables p) (map_unchanged same) has.tables;
   rest = subst (HasRestSet p) (map_unchanged same) has.rest;
 }

@@ -12,6 +12,7 @@ use Rattle.bit_alloc.specs.declared.bitmap.Bitmap.{Bitmap}
 use Rattle.bit_alloc.specs.declared.bitmap.Bitmap.TheVariants.{Inodes, Blocks}
 use Rattle.fs_layout.specs.declared.place.Place.{Place}
 use Rattle.fs_layout.specs.Bytes.{SectorMap}
+use Rattle.fs_layout.specs.Header.{log_end}
 use Rattle.fs_layout.specs.Place.{IsPlace}
 use Rattle.fs_layout.specs.Images.{HasWholeTables, inode_bitmap, block_bitmap, map_bits, bit, free_sectors}
 use Rattle.fs_layout.specs.InodeChanges.{MarksSector, MarksInode}
@@ -84,5 +85,6 @@ HasRestSet p image =
 pub record HasBitmaps (p : Place) (txn : TxnState) : Type 0 where
   pub place : IsPlace p
   pub disk : p.sectors ≤ txn.disk.size
+  pub header : log_end txn.header ≤ inode_bitmap
   pub tables : HasWholeTables p txn.sectors
   pub rest : HasRestSet p txn.sectors

@@ -12,6 +12,7 @@ use Rattle.fs_layout.specs.Place.{IsPlace, place_in}
 use Rattle.fs_layout.specs.Images.{bit, inode_bitmap, free_sectors}
 use Rattle.fs_layout.specs.Ownership.{IsConsistent}
 use Rattle.fs_layout.specs.InodeChanges.{MarksInode}
+use Rattle.fs_layout.specs.Header.{max_delta, log_end}
 use Rattle.sector_txn.specs.Sectors.{TxnState}
 use Rattle.bit_alloc.specs.declared.bitmap.Bitmap.TheVariants.{Inodes}
 use Rattle.bit_alloc.specs.Bitmaps.{IsNumber}
@@ -34,7 +35,7 @@ CallsJoin {T} state =
 -- one are set.
 abbrev pub BeginsSound : {T : Type 0} → (T → TxnState) → Type 0
 BeginsSound {T} state =
-    (p : Place) (txn : T) → IsConsistent p (state txn).sectors → p.sectors ≤ (state txn).disk.size
+    (p : Place) (txn : T) → IsConsistent p (state txn).sectors → p.sectors ≤ (state txn).disk.size → log_end (state txn).header ≤ inode_bitmap
     → ((n : ℕ) → n < 4096 → (n ≡ 0) ⊎ (p.inodes ≤ n) → IsTrue (bit (state txn).sectors inode_bitmap n))
     → IsSound p (state txn)
 
@@ -44,10 +45,10 @@ LeavesSpare {T} state =
     (p : Place) (n taken more rest : ℕ) (old new : T) → HasSpare p (rest + more) (state old)
     → Touches p n taken more (state old) (state new) → HasSpare p rest (state new)
 
--- where 64 sectors can be put, 47 can be besides those of the bitmaps
+-- where all sectors can be put that a call may, 47 can be besides those of the bitmaps
 abbrev pub BeginsWithSpare : {T : Type 0} → (T → TxnState) → Type 0
 BeginsWithSpare {T} state =
-    (p : Place) (version : Version) (sectors inodes : ℕ) (txn : T) → place_in version sectors inodes ≡ Some p → (state txn).room ≡ 64
+    (p : Place) (version : Version) (sectors inodes : ℕ) (txn : T) → place_in version sectors inodes ≡ Some p → (state txn).room ≡ max_delta (state txn).header
     → HasSpare p 47 (state txn)
 
 -- the bit of an inode says nothing of sectors

@@ -2,9 +2,10 @@
 
 ghost use Rattle.std.specs.Prelude.{◌≡◌, ◌≤◌, ◌<◌, IfOk, IsTrue, ◌↔◌};
 ghost use Rattle.fs_layout.specs.Place.{IsPlace};
-ghost use Rattle.fs_layout.specs.Images.{bit};
+ghost use Rattle.fs_layout.specs.Images.{bit, inode_bitmap};
 ghost use Rattle.sector_disk.specs.Disk.{HasCause};
 ghost use Rattle.sector_txn.specs.Sectors.{IsUnchanged};
+ghost use Rattle.fs_layout.specs.Header.{log_end};
 ghost use Rattle.bit_alloc.specs.Bitmaps.{first_sector, bit_count, free_numbers, HasBitmaps};
 
 use crate::Bitmap;
@@ -18,6 +19,7 @@ pub fn is_taken<S: Sectors>(s: &mut S, place: Place, map: Bitmap, n: u32) -> Res
     requires place { IsPlace place }
     requires disk { place.sectors ≤ (S.state s.old).disk.size }
     requires bit { n < bit_count place map }
+    requires header { log_end (S.state s.old).header ≤ inode_bitmap }
     ensures taken { IfOk result (λ b. b ≡ bit (S.state s.old).sectors (first_sector map) n) }
     ensures same { IsUnchanged (S.state s.old) (S.state s.new) }
     ensures cause { HasCause (S.state s.old).disk (S.state s.new).disk result }
