@@ -4,6 +4,7 @@ use Rattle.std.specs.Prelude.{if◌then◌else◌}
 use Rattle.std.specs.Option.{option_map}
 use Rattle.posix_acl.specs.AccessList.{AccessList, IsAcl, IsSomeAcl, list_numbers, minimal, is_extended}
 use Rattle.posix_acl.proofs.Laws.{minimal_valid, mode_bits-minimal}
+use Rattle.fs_layout.specs.Header.{log_end}
 use Rattle.fs_layout.specs.declared.inode.Inode.{Inode}
 use Rattle.fs_layout.specs.Bytes.{SectorMap, IsSector}
 use Rattle.fs_layout.specs.AclSector.{acl_content, HoldsAcl, kept_acl}
@@ -62,12 +63,12 @@ default_acl_in_data {p} {n} {s} {txn} sound lt e some =
     subst (IsData p) (sym e) (sound.consistent.in_data n _ lt (owns_default_acl txn.sectors (inode_at p txn.sectors n) (λ z. some (e ∙ z))))
 
 -- so it is part of the map, and on the disk
-pub data_mapped : {p : Place} {s : ℕ} {txn : TxnState} → IsSound p txn → IsData p s → (128 ≤ s) × (s < txn.disk.size)
+pub data_mapped : {p : Place} {s : ℕ} {txn : TxnState} → IsSound p txn → IsData p s → (log_end txn.header ≤ s) × (s < txn.disk.size)
 data_mapped sound d =
     let from = after_map sound.consistent.place in
     let to = before_data sound.consistent.place in
     let size = sound.bitmaps.disk in
-    (omega (arith, from, to, d), omega (arith, d, size))
+    (omega (arith, from, to, d, sound.bitmaps.header), omega (arith, d, size))
 
 -- ---- without a sector
 -- an access ACL that has none is told by the mode

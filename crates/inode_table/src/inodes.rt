@@ -3,6 +3,7 @@
 ghost use Rattle.std.specs.Prelude.{◌≡◌, ◌≢◌, ◌≤◌, ◌<◌, ◌+◌, ◌/◌, ◌⊎◌, ℕ, [], true, false, None, Err, IfOk, IfErr, OnOk, IsTrue};
 ghost use Rattle.std.specs.Option.{option_copied};
 ghost use Rattle.sector_disk.specs.Disk.{HasCause};
+ghost use Rattle.fs_layout.specs.Header.{log_end};
 ghost use Rattle.fs_layout.specs.Place.{IsPlace};
 ghost use Rattle.fs_layout.specs.Inode.{FitsInode, free_inode};
 ghost use Rattle.fs_layout.specs.Images.{HasWholeTables, Holds, bit, free_sectors, inode_at, inode_bitmap};
@@ -53,6 +54,7 @@ pub fn write_inode<S: Sectors>(
 ) -> Result<(), DiskFault>
     requires place { IsPlace place }
     requires on_disk { place.sectors ≤ (S.state s.old).disk.size }
+    requires header { log_end (S.state s.old).header ≤ inode_bitmap }
     requires tables { HasWholeTables place (S.state s.old).sectors }
     requires below { n < place.inodes }
     requires fits { FitsInode inode.now }

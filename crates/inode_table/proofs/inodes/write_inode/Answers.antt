@@ -1,6 +1,6 @@
-use Rattle.std.proofs.Common.{◌≡◌, ℕ, [], subst}
+use Rattle.std.proofs.Common.{◌≡◌, ℕ, [], arith, inr, subst}
 use Rattle.sector_txn.specs.Sectors.{PutsOnly}
-use Rattle.inode_table.proofs.Tables.{inode_on_disk, sector_saves}
+use Rattle.inode_table.proofs.Tables.{inode_above, inode_on_disk, sector_saves}
 use Rattle.inode_table.proofs.Sound.{reads_and_puts}
 use Rattle.inode_table.proofs.inodes.write_inode.Goals as goal
 
@@ -14,3 +14,9 @@ pub returns-clause-puts : goal.returns-clause-puts
 returns-clause-puts g c =
     subst (λ (at : ℕ). PutsOnly (λ t. t ≡ at) [] 1 (g.S.Sectors.state c.args.s.now) (g.S.Sectors.state c.put.new.self)) c.inode_sector-at.ensures
     (reads_and_puts c.in_ok-get.ensures.same c.put.ensures)
+
+pub get-requires-clause-part : goal.get-requires-clause-part
+get-requires-clause-part g c = inr (omega (arith, c.inode_sector-at.ensures, inode_above c.args.n c.requires.place, c.requires.header))
+
+pub put-requires-clause-part : goal.put-requires-clause-part
+put-requires-clause-part g c = omega (arith, c.inode_sector-at.ensures, inode_above c.args.n c.requires.place, c.requires.header, c.in_ok-get.ensures.same.store.header)
