@@ -3,6 +3,7 @@ use Rattle.std.proofs.Common.{◌≡◌, ◌≢◌, ℕ, suc, ◌<◌, ◌≤◌
 use Rattle.fs_layout.specs.declared.inode.TheConstants.{DIRECT_BLOCKS, MAX_BLOCKS}
 use Rattle.fs_layout.specs.declared.inode.Inode.{Inode}
 use Rattle.fs_layout.specs.Bytes.{SectorMap, zeros}
+use Rattle.fs_layout.specs.Header.{log_end}
 use Rattle.fs_layout.specs.Images.{pointer_in, holder, place_in_holder, number_on, pointer, HasPointers, Owns}
 use Rattle.fs_layout.proofs.Pointers.{number_on_held_above, number_on_past, no_number_on}
 use Rattle.fs_layout.proofs.Parts.{number_on_kept, owns_block, owns_on_level, pointers_kept}
@@ -66,23 +67,23 @@ pub at_hand_sized : {image : SectorMap} {b : Blocks} → IsAtHand image b → (m
 at_hand_sized {image} {b} h m = at_hand_kept h (record b.inode { size = m }) (sized_number image b.inode m 1 b.index) (λ some. refl)
 
 -- a block can be read
-pub number_within : {image : SectorMap} {size n : ℕ} (v : Inode) (k : ℕ) → IsWithin size image v → n ≡ pointer image v k → n ≢ 0 → (128 ≤ n) × (n < size)
-number_within {image} v k within is some =
+pub number_within : {image : SectorMap} {size n : ℕ} (header : ℕ) (v : Inode) (k : ℕ) → IsWithin header size image v → n ≡ pointer image v k → n ≢ 0 → (log_end header ≤ n) × (n < size)
+number_within {image} header v k within is some =
     let w = within (pointer image v k) (owns_block image v k (λ e. some (is ∙ e))) in
     (omega (arith, is, w.0), omega (arith, is, w.1))
 
 -- and a sector of pointers
-pub listed_within : {image : SectorMap} {size n : ℕ} (v : Inode) (level i : ℕ) → IsWithin size image v → n ≡ number_on image v level i → n ≢ 0 → (128 ≤ n) × (n < size)
-listed_within {image} v level i within is some =
+pub listed_within : {image : SectorMap} {size n : ℕ} (header : ℕ) (v : Inode) (level i : ℕ) → IsWithin header size image v → n ≡ number_on image v level i → n ≢ 0 → (log_end header ≤ n) × (n < size)
+listed_within {image} header v level i within is some =
     let w = within (number_on image v level i) (owns_on_level image v level i (λ e. some (is ∙ e))) in
     (omega (arith, is, w.0), omega (arith, is, w.1))
 
 -- ---- after reads
 module _ {old mid : TxnState} (same : IsUnchanged old mid) where
-  pub within_unchanged : {v : Inode} → IsWithin old.disk.size old.sectors v → IsWithin mid.disk.size mid.sectors v
+  pub within_unchanged : {v : Inode} → IsWithin old.header old.disk.size old.sectors v → IsWithin mid.header mid.disk.size mid.sectors v
   within_unchanged {v} within s o =
       let w = within s (subst (λ (image : SectorMap). Owns image v s) (sym (map_unchanged same)) o) in
-      (w.0, (let a = w.1 in let e = same.store.reads.narrowed.size in omega (arith, a, e)))
+      (omega (arith, w.0, same.store.header), omega (arith, w.1, same.store.reads.narrowed.size))
 
   pub has_unchanged : {v : Inode} {level i : ℕ} {content : List ℕ} → HasPointers old.sectors v level i content → HasPointers mid.sectors v level i content
   has_unchanged {v} {level} {i} {content} h = subst (λ (image : SectorMap). HasPointers image v level i content) (map_unchanged same) h
@@ -120,10 +121,9 @@ has_kept {old} {new} {v} {level} {i} keeps h =
     }
 
 -- data sectors can be read
-pub data_within : {p : Place} {txn : TxnState} {v : Inode} → HasBitmaps p txn → IsInData p txn.sectors v → IsWithin txn.disk.size txn.sectors v
+pub data_within : {p : Place} {txn : TxnState} {v : Inode} → HasBitmaps p txn → IsInData p txn.sectors v → IsWithin txn.header txn.disk.size txn.sectors v
 data_within h owned s o =
     let d = owned s o in
     let m = after_map h.place in
     let b = before_data h.place in
-    let k = h.disk in
-    (omega (arith, d.0, m, b), omega (arith, d.1, k))
+    (omega (arith, d.0, m, b, h.header), omega (arith, d.1, h.disk))

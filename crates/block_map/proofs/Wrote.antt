@@ -28,13 +28,12 @@ use Rattle.block_map.proofs.Saving.{IsEnded, saved_after}
 use Rattle.block_map.proofs.Sizing.{may_change, sized, sized_holds, sized_pointer, spliced_is_overwritten}
 
 -- what may be changed can be read
-pub may_within : {p : Place} {txn : TxnState} {v : Inode} → MayChange p txn v → IsWithin txn.disk.size txn.sectors v
+pub may_within : {p : Place} {txn : TxnState} {v : Inode} → MayChange p txn v → IsWithin txn.header txn.disk.size txn.sectors v
 may_within {p} {txn} {v} may s o =
     let d = may.apart.each s o in
     let m = after_map may.bitmaps.place in
     let b = before_data may.bitmaps.place in
-    let k = may.bitmaps.disk in
-    (omega (arith, d.0, m, b), omega (arith, d.1, k))
+    (omega (arith, d.0, m, b, may.bitmaps.header), omega (arith, d.1, may.bitmaps.disk))
 
 -- and each of its blocks is a whole sector
 pub block_whole : {p : Place} {txn : TxnState} {v : Inode} {s : ℕ} (k : ℕ) → MayChange p txn v → s ≡ pointer txn.sectors v k → s ≢ 0 → IsSector (txn.sectors s)

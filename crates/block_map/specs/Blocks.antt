@@ -7,12 +7,13 @@ use Rattle.std.specs.Prelude.{◌≡◌, ◌≢◌, ℕ, ◌+◌, ◌-◌, ◌*�
 use Rattle.fs_layout.specs.declared.inode.TheConstants.{DIRECT_BLOCKS}
 use Rattle.fs_layout.specs.declared.inode.Inode.{Inode}
 use Rattle.fs_layout.specs.Bytes.{SectorMap, window, zeros}
+use Rattle.fs_layout.specs.Header.{log_end}
 use Rattle.fs_layout.specs.Images.{Owns, byte_at, holder, number_on}
 use Rattle.block_map.specs.declared.blocks.Blocks.{Blocks}
 
--- each sector that the inode owns lies behind the log, on a disk of so many sectors
-abbrev pub IsWithin : ℕ → SectorMap → Inode → Type 0
-IsWithin size image v = (s : ℕ) → Owns image v s → (128 ≤ s) × (s < size)
+-- each sector that the inode owns lies behind the log, on a disk of so many sectors, so many of them header sectors
+abbrev pub IsWithin : ℕ → ℕ → SectorMap → Inode → Type 0
+IsWithin header size image v = (s : ℕ) → Owns image v s → (log_end header ≤ s) × (s < size)
 
 -- what is at hand is the sector of pointers to blocks with this index: its number, and its content, zeros where there is none
 pub record IsAtHand (image : SectorMap) (b : Blocks) : Type 0 where

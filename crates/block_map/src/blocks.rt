@@ -5,6 +5,7 @@ ghost use Rattle.std.specs.Fn.{FnOnceReturnsAt};
 ghost use Rattle.sector_disk.specs.Disk.{HasCause};
 ghost use Rattle.fs_layout.specs.declared.inode.TheConstants.{DIRECT_BLOCKS, SECTOR_POINTERS};
 ghost use Rattle.fs_layout.specs.Bytes.{SectorMap, splice, le32};
+ghost use Rattle.fs_layout.specs.Header.{log_end};
 ghost use Rattle.fs_layout.specs.Images.{HasPointers, HasPointersAbove, byte_in, byte_at, number_on, place_in_holder, pointer};
 ghost use Rattle.sector_txn.specs.Sectors.{IsUnchanged, IsPut};
 ghost use Rattle.block_map.specs.Blocks.{IsWithin};
@@ -51,7 +52,7 @@ pub(crate) fn read_listed<S: Sectors>(
     i: u64,
     content: &mut [u8; 512],
 ) -> Result<u32, DiskFault>
-    requires within { IsWithin (S.state s.old).disk.size (S.state s.old).sectors inode.now }
+    requires within { IsWithin (S.state s.old).header (S.state s.old).disk.size (S.state s.old).sectors inode.now }
     requires listed { HasPointersAbove (S.state s.old).sectors inode.now level i content.old }
     ensures number { IfOk result (λ n. n ≡ number_on (S.state s.old).sectors inode.now level i) }
     ensures content { OnOk result (HasPointers (S.state s.old).sectors inode.now level i content.new) }
@@ -77,7 +78,7 @@ pub(crate) fn read_pointers<S: Sectors>(
     index: u64,
     content: &mut [u8; 512],
 ) -> Result<u32, DiskFault>
-    requires within { IsWithin (S.state s.old).disk.size (S.state s.old).sectors inode.now }
+    requires within { IsWithin (S.state s.old).header (S.state s.old).disk.size (S.state s.old).sectors inode.now }
     ensures number { IfOk result (λ n. n ≡ number_on (S.state s.old).sectors inode.now 1 index) }
     ensures content { OnOk result (HasPointers (S.state s.old).sectors inode.now 1 index content.new) }
     ensures same { IsUnchanged (S.state s.old) (S.state s.new) }
@@ -116,7 +117,7 @@ impl Blocks {
     ///
     /// At `Err` nothing is said of what is at hand.
     pub(crate) fn load<S: Sectors>(&mut self, s: &mut S, k: u64) -> Result<(), DiskFault>
-        requires within { IsWithin (S.state s.old).disk.size (S.state s.old).sectors self.old.inode }
+        requires within { IsWithin (S.state s.old).header (S.state s.old).disk.size (S.state s.old).sectors self.old.inode }
         requires at_hand { IsAtHand (S.state s.old).sectors self.old }
         ensures inode { self.new.inode ≡ self.old.inode }
         ensures loaded { OnOk result (IsLoaded (S.state s.old).sectors self.new k) }
@@ -151,7 +152,7 @@ impl Blocks {
         k: u64,
         to: &mut [u8; 512],
     ) -> Result<(), DiskFault>
-        requires within { IsWithin (S.state s.old).disk.size (S.state s.old).sectors self.old.inode }
+        requires within { IsWithin (S.state s.old).header (S.state s.old).disk.size (S.state s.old).sectors self.old.inode }
         requires at_hand { IsAtHand (S.state s.old).sectors self.old }
         ensures inode { self.new.inode ≡ self.old.inode }
         ensures at_hand { OnOk result (IsAtHand (S.state s.old).sectors self.new) }
@@ -178,7 +179,7 @@ impl Blocks {
         k: u64,
         read: F,
     ) -> Result<T, DiskFault>
-        requires within { IsWithin (S.state s.old).disk.size (S.state s.old).sectors self.old.inode }
+        requires within { IsWithin (S.state s.old).header (S.state s.old).disk.size (S.state s.old).sectors self.old.inode }
         requires at_hand { IsAtHand (S.state s.old).sectors self.old }
         requires callable { F.IsAlwaysCallable read }
         ensures inode { self.new.inode ≡ self.old.inode }
@@ -199,7 +200,7 @@ impl Blocks {
     /// Writes the sector of a block into the sector of pointers at hand.
     pub(crate) fn put_pointer<S: Sectors>(&mut self, s: &mut S, k: u64, number: u32)
         requires listed { DIRECT_BLOCKS ≤ k }
-        requires within { (128 ≤ self.old.sector) × (self.old.sector < (S.state s.old).disk.size) }
+        requires within { (log_end (S.state s.old).header ≤ self.old.sector) × (self.old.sector < (S.state s.old).disk.size) }
         requires room { (S.state s.old).has_put self.old.sector ≡ false → 0 < (S.state s.old).room }
         ensures pointers { self.new.pointers ≡ splice self.old.pointers (4 * place_in_holder DIRECT_BLOCKS k) (le32 number) }
         ensures inode { self.new.inode ≡ self.old.inode }
@@ -219,7 +220,7 @@ pub(crate) fn read_block<S: Sectors>(
     at: usize,
     to: &mut [u8],
 ) -> Result<(), DiskFault>
-    requires within { number ≢ 0 → (128 ≤ number) × (number < (S.state s.old).disk.size) }
+    requires within { number ≢ 0 → (log_end (S.state s.old).header ≤ number) × (number < (S.state s.old).disk.size) }
     requires fits { at + length to.old ≤ 512 }
     ensures bytes { OnOk result ((i : ℕ) → i < length to.old → get_or to.new i 0 ≡ byte_in (S.state s.old).sectors number (at + i)) }
     ensures same { IsUnchanged (S.state s.old) (S.state s.new) }

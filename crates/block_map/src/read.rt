@@ -20,7 +20,7 @@ pub fn read_at<S: Sectors>(
     offset: u64,
     to: &mut [u8],
 ) -> Result<usize, DiskFault>
-    requires within { IsWithin (S.state s.old).disk.size (S.state s.old).sectors inode.now }
+    requires within { IsWithin (S.state s.old).header (S.state s.old).disk.size (S.state s.old).sectors inode.now }
     ensures bytes { IfOk result (λ count. (bytes : List ℕ) → Holds (S.state s.old).sectors inode.now bytes
         → IsReadOf bytes offset to.old to.new count) }
     ensures few { IfOk result (λ count. count ≤ length to.old) }

@@ -4,6 +4,7 @@ ghost use Rattle.std.specs.Prelude.{◌≡◌, ◌≢◌, ◌≤◌, ◌<◌, �
 ghost use Rattle.fs_layout.specs.declared.inode.TheConstants.{DIRECT_BLOCKS, MAX_BLOCKS, MAX_FILE_SIZE, SECTOR_POINTERS};
 ghost use Rattle.fs_layout.specs.Version.{max_file_size};
 ghost use Rattle.fs_layout.specs.Bytes.{IsBytes, resized, u32_of};
+ghost use Rattle.fs_layout.specs.Header.{log_end};
 ghost use Rattle.fs_layout.specs.Images.{Holds, HasNoHole, inode_at};
 ghost use Rattle.sector_disk.specs.Disk.{HasCause};
 ghost use Rattle.sector_txn.specs.Sectors.{SameStore, IsUnchanged};
@@ -60,7 +61,7 @@ fn clear_pointers(pointers: &mut [u8; 512], first: usize)
 // Writes zeros over the numbers of a sector of pointers from number `from` on, if there is the sector and it keeps some. `content` is
 // what it holds.
 fn cut_sector<S: Sectors>(s: &mut S, sector: u32, content: &mut [u8; 512], from: usize)
-    requires within { sector ≢ 0 → (128 ≤ sector) × (sector < (S.state s.old).disk.size) }
+    requires within { sector ≢ 0 → (log_end (S.state s.old).header ≤ sector) × (sector < (S.state s.old).disk.size) }
     requires few { from ≤ SECTOR_POINTERS }
     requires room { from ≢ 0 → 0 < (S.state s.old).room }
     ensures { CutsSector sector from content.old (S.state s.old) (S.state s.new) }

@@ -3,6 +3,7 @@
 ghost use Rattle.std.specs.Prelude.{◌≡◌, ◌≢◌, ◌≤◌, ◌<◌, ◌+◌, ◌*◌, ℕ, [], length, false, true, Err, IfOk, IfErr, OnOk, OnErr};
 ghost use Rattle.fs_layout.specs.declared.inode.TheConstants.{DIRECT_BLOCKS};
 ghost use Rattle.fs_layout.specs.Bytes.{SectorMap, IsSector, splice, zeros};
+ghost use Rattle.fs_layout.specs.Header.{log_end};
 ghost use Rattle.fs_layout.specs.Images.{holder, number_on, pointer, free_sectors};
 ghost use Rattle.fs_layout.specs.InodeChanges.{Puts, Allocates};
 ghost use Rattle.sector_disk.specs.Disk.{HasCause};
@@ -27,7 +28,7 @@ pub(crate) fn rewrite<S: Sectors>(
     at: usize,
     bytes: &[u8],
 ) -> Result<(), DiskFault>
-    requires part { 128 ≤ number }
+    requires part { log_end (S.state s.old).header ≤ number }
     requires on_disk { number < (S.state s.old).disk.size }
     requires fits { at + length bytes.now ≤ 512 }
     requires whole { IsSector ((S.state s.old).sectors number) }

@@ -6,12 +6,12 @@ use Rattle.block_map.proofs.blocks.read_listed.Goals as goal
 pub get-requires-clause-part : goal.get-requires-clause-part
 get-requires-clause-part g c =
     let is = c.number-number.ensures (g.S.Sectors.state c.args.s.now).sectors c.requires.listed in
-    inr (listed_within c.args.inode.now c.args.level c.args.i c.requires.within is c.if-number-eq0.false).0
+    inr (listed_within (g.S.Sectors.state c.args.s.now).header c.args.inode.now c.args.level c.args.i c.requires.within is c.if-number-eq0.false).0
 
 pub get-requires-clause-on_disk : goal.get-requires-clause-on_disk
 get-requires-clause-on_disk g c =
     let is = c.number-number.ensures (g.S.Sectors.state c.args.s.now).sectors c.requires.listed in
-    (listed_within c.args.inode.now c.args.level c.args.i c.requires.within is c.if-number-eq0.false).1
+    (listed_within (g.S.Sectors.state c.args.s.now).header c.args.inode.now c.args.level c.args.i c.requires.within is c.if-number-eq0.false).1
 
 pub returns-then-number-eq0-clause-number : goal.returns-then-number-eq0-clause-number
 returns-then-number-eq0-clause-number g c =

@@ -21,11 +21,12 @@ returns-in_err-number-clause-full g c = λ is.
     c.in_err-number.ensures.full (was_full c.from_residual.result c.in_err-number.field-0.0 e.0 e.1 is)
 
 pub put-requires-clause-part : goal.put-requires-clause-part
-put-requires-clause-part g c = (listed_within c.args.blocks.now.inode 2 (holder 1 c.args.index) (may_within c.requires.may) c.requires.index.1 c.requires.index.2).0
+put-requires-clause-part g c =
+    omega (arith, (listed_within (g.S.Sectors.state c.args.s.now).header c.args.blocks.now.inode 2 (holder 1 c.args.index) (may_within c.requires.may) c.requires.index.1 c.requires.index.2).0, c.in_ok-number.ensures.store.header)
 
 pub put-requires-clause-on_disk : goal.put-requires-clause-on_disk
 put-requires-clause-on_disk g c =
-    omega (arith, (listed_within c.args.blocks.now.inode 2 (holder 1 c.args.index) (may_within c.requires.may) c.requires.index.1 c.requires.index.2).1, c.in_ok-number.ensures.store.reads.narrowed.size)
+    omega (arith, (listed_within (g.S.Sectors.state c.args.s.now).header c.args.blocks.now.inode 2 (holder 1 c.args.index) (may_within c.requires.may) c.requires.index.1 c.requires.index.2).1, c.in_ok-number.ensures.store.reads.narrowed.size)
 
 pub put-requires-clause-room : goal.put-requires-clause-room
 put-requires-clause-room g c = λ none.

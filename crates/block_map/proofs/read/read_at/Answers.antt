@@ -11,7 +11,7 @@ use Rattle.block_map.proofs.read.read_at.Goals as goal
 pub load-requires-clause-within : goal.load-requires-clause-within
 load-requires-clause-within g c =
     let mid = g.S.Sectors.state c.loop-done.s in
-    subst (λ v. IsWithin mid.disk.size mid.sectors v) (sym c.loop-done.invariant.inode) (within_unchanged c.loop-done.invariant.same c.requires.within)
+    subst (λ v. IsWithin mid.header mid.disk.size mid.sectors v) (sym c.loop-done.invariant.inode) (within_unchanged c.loop-done.invariant.same c.requires.within)
 
 pub load-requires-clause-at_hand : goal.load-requires-clause-at_hand
 load-requires-clause-at_hand g c = at_hand_unchanged c.loop-done.invariant.same c.loop-done.invariant.at_hand
@@ -23,8 +23,10 @@ read_block-requires-clause-within g c =
     let is : c.number-number.result ≡ pointer (g.S.Sectors.state c.args.s.now).sectors c.args.inode.now k =
     pointer_before c.loop-done.invariant.same k (c.number-number.ensures mid.sectors c.in_ok-load.ensures.loaded) (c.in_ok-load.ensures.inode ∙ c.loop-done.invariant.inode) in
     λ some.
-    let w = number_within c.args.inode.now k c.requires.within is some in
-    (w.0, omega (arith, w.1, c.loop-done.invariant.same.store.reads.narrowed.size, c.in_ok-load.ensures.same.store.reads.narrowed.size))
+    let w = number_within (g.S.Sectors.state c.args.s.now).header c.args.inode.now k c.requires.within is some in
+    let first = c.loop-done.invariant.same.store in
+    let then = c.in_ok-load.ensures.same.store in
+    (omega (arith, w.0, first.header, then.header), omega (arith, w.1, first.reads.narrowed.size, then.reads.narrowed.size))
 
 pub loop-done-init : goal.loop-done-init
 loop-done-init g c = record {

@@ -27,7 +27,7 @@ pub load-requires-clause-within : goal.load-requires-clause-within
 load-requires-clause-within g c =
     let now = g.S.Sectors.state c.loop-k.s in
     let x = c.loop-k.invariant in
-    subst (λ (v : Inode). IsWithin now.disk.size now.sectors v) (sym x.inode) (data_within x.given.tables (in_data_kept c.args.place c.requires.inside (given_keeps c.requires.inside x.given)))
+    subst (λ (v : Inode). IsWithin now.header now.disk.size now.sectors v) (sym x.inode) (data_within x.given.tables (in_data_kept c.args.place c.requires.inside (given_keeps c.requires.inside x.given)))
 
 pub load-requires-clause-at_hand : goal.load-requires-clause-at_hand
 load-requires-clause-at_hand g c = c.loop-k.invariant.at_hand

@@ -19,11 +19,11 @@ returns-then-number-eq0-clause-cleared g c =
 
 pub rewrite-requires-clause-part : goal.rewrite-requires-clause-part
 rewrite-requires-clause-part g c =
-    (number_within c.args.blocks.now.inode (c.args.size / 512) (may_within c.requires.may) (c.number-number.ensures _ c.requires.loaded) c.if-number-eq0.false).0
+    (number_within (g.S.Sectors.state c.args.s.now).header c.args.blocks.now.inode (c.args.size / 512) (may_within c.requires.may) (c.number-number.ensures _ c.requires.loaded) c.if-number-eq0.false).0
 
 pub rewrite-requires-clause-on_disk : goal.rewrite-requires-clause-on_disk
 rewrite-requires-clause-on_disk g c =
-    (number_within c.args.blocks.now.inode (c.args.size / 512) (may_within c.requires.may) (c.number-number.ensures _ c.requires.loaded) c.if-number-eq0.false).1
+    (number_within (g.S.Sectors.state c.args.s.now).header c.args.blocks.now.inode (c.args.size / 512) (may_within c.requires.may) (c.number-number.ensures _ c.requires.loaded) c.if-number-eq0.false).1
 
 pub rewrite-requires-clause-whole : goal.rewrite-requires-clause-whole
 rewrite-requires-clause-whole g c =

@@ -16,7 +16,7 @@ use Rattle.block_map.proofs.size.resize.Goals as goal
 pub load-requires-clause-within : goal.load-requires-clause-within
 load-requires-clause-within g c =
     let old = g.S.Sectors.state c.args.s.now in
-    subst (λ (v : Inode). IsWithin old.disk.size old.sectors v) (sym c.new-blocks.ensures.inode) (may_within c.requires.may)
+    subst (λ (v : Inode). IsWithin old.header old.disk.size old.sectors v) (sym c.new-blocks.ensures.inode) (may_within c.requires.may)
 
 pub load-requires-clause-at_hand : goal.load-requires-clause-at_hand
 load-requires-clause-at_hand g c = c.new-blocks.ensures.at_hand _

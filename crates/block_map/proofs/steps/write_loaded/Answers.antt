@@ -14,11 +14,11 @@ use Rattle.block_map.proofs.steps.write_loaded.Goals as goal
 
 pub rewrite-requires-clause-part : goal.rewrite-requires-clause-part
 rewrite-requires-clause-part g c =
-    (number_within c.args.blocks.now.inode c.args.k (may_within c.requires.may) (c.number-number.ensures _ c.requires.loaded) c.if-number-ne0.true).0
+    (number_within (g.S.Sectors.state c.args.s.now).header c.args.blocks.now.inode c.args.k (may_within c.requires.may) (c.number-number.ensures _ c.requires.loaded) c.if-number-ne0.true).0
 
 pub rewrite-requires-clause-on_disk : goal.rewrite-requires-clause-on_disk
 rewrite-requires-clause-on_disk g c =
-    (number_within c.args.blocks.now.inode c.args.k (may_within c.requires.may) (c.number-number.ensures _ c.requires.loaded) c.if-number-ne0.true).1
+    (number_within (g.S.Sectors.state c.args.s.now).header c.args.blocks.now.inode c.args.k (may_within c.requires.may) (c.number-number.ensures _ c.requires.loaded) c.if-number-ne0.true).1
 
 pub rewrite-requires-clause-whole : goal.rewrite-requires-clause-whole
 rewrite-requires-clause-whole g c =
@@ -51,8 +51,8 @@ pub put_pointer-requires-clause-within : goal.put_pointer-requires-clause-within
 put_pointer-requires-clause-within g c =
     let ge = c.if-k-lt-DIRECT_BLOCKS.false in
     let sector = loaded_sector c.requires.loaded ge in
-    let w = listed_within c.args.blocks.now.inode 1 (holder DIRECT_BLOCKS c.args.k) (may_within c.requires.may) (sym sector) (λ e. c.requires.pointers ge (sector ∙ e)) in
-    (w.0, omega (arith, w.1, c.in_ok-number.ensures.store.reads.narrowed.size))
+    let w = listed_within (g.S.Sectors.state c.args.s.now).header c.args.blocks.now.inode 1 (holder DIRECT_BLOCKS c.args.k) (may_within c.requires.may) (sym sector) (λ e. c.requires.pointers ge (sector ∙ e)) in
+    (omega (arith, w.0, c.in_ok-number.ensures.store.header), omega (arith, w.1, c.in_ok-number.ensures.store.reads.narrowed.size))
 
 pub put_pointer-requires-clause-room : goal.put_pointer-requires-clause-room
 put_pointer-requires-clause-room g c = λ none.

@@ -12,7 +12,7 @@ use Rattle.block_map.proofs.write.overwrite.Goals as goal
 pub load-requires-clause-within : goal.load-requires-clause-within
 load-requires-clause-within g c =
     let old = g.S.Sectors.state c.args.s.now in
-    subst (λ (v : Inode). IsWithin old.disk.size old.sectors v) (sym c.new-blocks.ensures.inode) (may_within (used_may_change c.requires.sound c.requires.below c.requires.inode c.requires.used))
+    subst (λ (v : Inode). IsWithin old.header old.disk.size old.sectors v) (sym c.new-blocks.ensures.inode) (may_within (used_may_change c.requires.sound c.requires.below c.requires.inode c.requires.used))
 
 pub load-requires-clause-at_hand : goal.load-requires-clause-at_hand
 load-requires-clause-at_hand g c = c.new-blocks.ensures.at_hand _
@@ -21,13 +21,14 @@ pub rewrite-requires-clause-part : goal.rewrite-requires-clause-part
 rewrite-requires-clause-part g c =
     let may = used_may_change c.requires.sound c.requires.below c.requires.inode c.requires.used in
     let is = loaded_number (g.S.Sectors.state c.args.s.now).sectors (c.args.offset / 512) (c.number.ensures (g.S.Sectors.state c.args.s.now).sectors c.in_ok-load.ensures.loaded) (c.in_ok-load.ensures.inode ∙ c.new-blocks.ensures.inode) in
-    (number_within c.args.inode.now (c.args.offset / 512) (may_within may) is (λ e. c.requires.no_hole (sym is ∙ e))).0
+    let w = number_within (g.S.Sectors.state c.args.s.now).header c.args.inode.now (c.args.offset / 512) (may_within may) is (λ e. c.requires.no_hole (sym is ∙ e)) in
+    omega (arith, w.0, c.in_ok-load.ensures.same.store.header)
 
 pub rewrite-requires-clause-on_disk : goal.rewrite-requires-clause-on_disk
 rewrite-requires-clause-on_disk g c =
     let may = used_may_change c.requires.sound c.requires.below c.requires.inode c.requires.used in
     let is = loaded_number (g.S.Sectors.state c.args.s.now).sectors (c.args.offset / 512) (c.number.ensures (g.S.Sectors.state c.args.s.now).sectors c.in_ok-load.ensures.loaded) (c.in_ok-load.ensures.inode ∙ c.new-blocks.ensures.inode) in
-    let w = number_within c.args.inode.now (c.args.offset / 512) (may_within may) is (λ e. c.requires.no_hole (sym is ∙ e)) in
+    let w = number_within (g.S.Sectors.state c.args.s.now).header c.args.inode.now (c.args.offset / 512) (may_within may) is (λ e. c.requires.no_hole (sym is ∙ e)) in
     omega (arith, w.1, c.in_ok-load.ensures.same.store.reads.narrowed.size)
 
 pub rewrite-requires-clause-whole : goal.rewrite-requires-clause-whole

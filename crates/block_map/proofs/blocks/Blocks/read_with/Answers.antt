@@ -12,12 +12,12 @@ use Rattle.block_map.proofs.blocks.Blocks.read_with.Goals as goal
 pub read_with-requires-clause-part : goal.read_with-requires-clause-part
 read_with-requires-clause-part g c =
     let is = loaded_number (g.S.Sectors.state c.args.s.now).sectors c.args.k (c.number-number.ensures (g.S.Sectors.state c.args.s.now).sectors c.in_ok-load.ensures.loaded) c.in_ok-load.ensures.inode in
-    inr (number_within c.args.self.now.inode c.args.k c.requires.within is c.if-number-eq0.false).0
+    inr (omega (arith, (number_within (g.S.Sectors.state c.args.s.now).header c.args.self.now.inode c.args.k c.requires.within is c.if-number-eq0.false).0, c.in_ok-load.ensures.same.store.header))
 
 pub read_with-requires-clause-on_disk : goal.read_with-requires-clause-on_disk
 read_with-requires-clause-on_disk g c =
     let is = loaded_number (g.S.Sectors.state c.args.s.now).sectors c.args.k (c.number-number.ensures (g.S.Sectors.state c.args.s.now).sectors c.in_ok-load.ensures.loaded) c.in_ok-load.ensures.inode in
-    omega (arith, (number_within c.args.self.now.inode c.args.k c.requires.within is c.if-number-eq0.false).1, c.in_ok-load.ensures.same.store.reads.narrowed.size)
+    omega (arith, (number_within (g.S.Sectors.state c.args.s.now).header c.args.self.now.inode c.args.k c.requires.within is c.if-number-eq0.false).1, c.in_ok-load.ensures.same.store.reads.narrowed.size)
 
 pub returns-then-number-eq0-clause-at_hand : goal.returns-then-number-eq0-clause-at_hand
 returns-then-number-eq0-clause-at_hand g c = c.in_ok-load.ensures.loaded.at_hand
