@@ -58,7 +58,7 @@ no_free k e f = let same : kinds.Directory ≡ kinds.Free = sym e ∙ f in cc
 
 module _ {p : Place} {n : ℕ} {txn : TxnState} {v : Inode} (sound : IsSound p txn) (lt : n < p.inodes) (is : v ≡ inode_at p txn.sectors n) (kind : v.kind ≡ kinds.Directory) where
   -- it can be read, and is within the limit
-  pub directory_within : IsWithin txn.disk.size txn.sectors v
+  pub directory_within : IsWithin txn.header txn.disk.size txn.sectors v
   directory_within = may_within (used_may_change sound lt is (no_free v.kind kind))
 
   pub directory_limit : v.size ≤ MAX_DIRECTORY_SIZE

@@ -14,7 +14,7 @@ use Rattle.block_map.proofs.Runs.{same_map}
 use Rattle.dir_core.specs.Slots.{HasSlots, IsBlock}
 
 -- what stands in the table can be read
-pub inode_within : {p : Place} {txn : TxnState} {v : Inode} → IsSound p txn → IsInodeOf p txn.sectors v → IsWithin txn.disk.size txn.sectors v
+pub inode_within : {p : Place} {txn : TxnState} {v : Inode} → IsSound p txn → IsInodeOf p txn.sectors v → IsWithin txn.header txn.disk.size txn.sectors v
 inode_within {p} {txn} {v} sound there s o =
     data_mapped sound (sound.consistent.in_data there.0 s there.1 (subst (λ u. Owns txn.sectors u s) there.2 o))
 
@@ -24,11 +24,11 @@ slots_of_names h = record { kind = h.kind; apart = h.apart; each = h.each; holds
 
 -- ---- later in the scan
 module _ {old mid : TxnState} (same : IsUnchanged old mid) where
-  pub within_later : (v w : Inode) → w ≡ v → IsWithin old.disk.size old.sectors v → IsWithin mid.disk.size mid.sectors w
+  pub within_later : (v w : Inode) → w ≡ v → IsWithin old.header old.disk.size old.sectors v → IsWithin mid.header mid.disk.size mid.sectors w
   within_later v w is within s o =
       let image : mid.sectors ≡ old.sectors = same_map old.sectors mid.sectors same.sectors in
       let r = within s (subst (λ m. Owns m v s) image (subst (λ u. Owns mid.sectors u s) is o)) in
-      (r.0, omega (arith, r.1, same.store.reads.narrowed.size))
+      (omega (arith, r.0, same.store.header), omega (arith, r.1, same.store.reads.narrowed.size))
 
   pub block_later : (v w : Inode) (k : ℕ) (block : List ℕ) → w ≡ v → IsBlock old.sectors v k block → IsBlock mid.sectors w k block
   block_later v w k block is h =

@@ -101,7 +101,7 @@ pub fn insert<S: Sectors>(
 
 // Finds the slot of a name of a directory, which has to be there.
 fn named_slot<S: Sectors>(s: &mut S, inode: &Inode, name: &[u8]) -> Result<FoundSlot, DirFault>
-    requires within { IsWithin (S.state s.old).disk.size (S.state s.old).sectors inode.now }
+    requires within { IsWithin (S.state s.old).header (S.state s.old).disk.size (S.state s.old).sectors inode.now }
     requires directory { (names : List (List ℕ × ℕ)) × HasNames (S.state s.old).sectors inode.now names }
     ensures found { IfOk result (λ found. (slots : List NamedInode) → HasSlots (S.state s.old).sectors inode.now slots
         → IsFoundIn slots name.now (Some found)) }

@@ -84,7 +84,7 @@ fn find_at_hint<S: Sectors>(
     name: &[u8],
 ) -> Result<Option<FoundSlot>, DiskFault>
     requires len { (0 < length name.now) × (length name.now ≤ MAX_NAME) }
-    requires within { IsWithin (S.state s.old).disk.size (S.state s.old).sectors inode.now }
+    requires within { IsWithin (S.state s.old).header (S.state s.old).disk.size (S.state s.old).sectors inode.now }
     ensures found { IfOk result (λ found. IfSome found (λ slot. (slots : List NamedInode) → HasSlots (S.state s.old).sectors inode.now slots
         → IsFoundIn slots name.now (Some slot))) }
     ensures same { IsUnchanged (S.state s.old) (S.state s.new) }
@@ -115,7 +115,7 @@ fn find_by_blocks<S: Sectors>(
     name: &[u8],
 ) -> Result<Option<FoundSlot>, DiskFault>
     requires len { (0 < length name.now) × (length name.now ≤ MAX_NAME) }
-    requires within { IsWithin (S.state s.old).disk.size (S.state s.old).sectors inode.now }
+    requires within { IsWithin (S.state s.old).header (S.state s.old).disk.size (S.state s.old).sectors inode.now }
     requires directory { (slots : List NamedInode) × HasSlots (S.state s.old).sectors inode.now slots }
     ensures found { IfOk result (λ found. (slots : List NamedInode) → HasSlots (S.state s.old).sectors inode.now slots
         → IsFoundIn slots name.now found) }
@@ -142,7 +142,7 @@ pub(crate) fn find_slot<S: Sectors>(
     inode: &Inode,
     name: &[u8],
 ) -> Result<Option<FoundSlot>, DiskFault>
-    requires within { IsWithin (S.state s.old).disk.size (S.state s.old).sectors inode.now }
+    requires within { IsWithin (S.state s.old).header (S.state s.old).disk.size (S.state s.old).sectors inode.now }
     requires directory { (slots : List NamedInode) × HasSlots (S.state s.old).sectors inode.now slots }
     ensures found { IfOk result (λ found. (slots : List NamedInode) → HasSlots (S.state s.old).sectors inode.now slots
         → IsFoundIn slots name.now found) }

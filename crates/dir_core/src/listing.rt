@@ -26,7 +26,7 @@ fn read_block_of<S: Sectors>(
     slot: u64,
     block: &mut [u8; 512],
 ) -> Result<(), DiskFault>
-    requires within { IsWithin (S.state s.old).disk.size (S.state s.old).sectors blocks.old.inode }
+    requires within { IsWithin (S.state s.old).header (S.state s.old).disk.size (S.state s.old).sectors blocks.old.inode }
     requires pointers { IsAtHand (S.state s.old).sectors blocks.old }
     requires at_hand { slot % 4 ≢ 0 → IsBlock (S.state s.old).sectors blocks.old.inode (slot / 4) block.old }
     ensures inode { blocks.new.inode ≡ blocks.old.inode }
@@ -43,7 +43,7 @@ fn read_block_of<S: Sectors>(
 
 // The slots of a directory, in their order.
 fn read_slots<S: Sectors>(alloc: Global, s: &mut S, inode: &Inode) -> Result<Vec<Slot>, DirFault>
-    requires within { IsWithin (S.state s.old).disk.size (S.state s.old).sectors inode.now }
+    requires within { IsWithin (S.state s.old).header (S.state s.old).disk.size (S.state s.old).sectors inode.now }
     requires directory { (slots : List NamedInode) × HasSlots (S.state s.old).sectors inode.now slots }
     ensures found { IfOk result (λ found. (slots : List NamedInode) → HasSlots (S.state s.old).sectors inode.now slots
         → found.items ≡ slots) }

@@ -7,7 +7,7 @@ use Rattle.dir_core.proofs.find.find_at_hint.Goals as goal
 pub read_with-requires-clause-within : goal.read_with-requires-clause-within
 read_with-requires-clause-within g c =
     let old = g.S.Sectors.state c.args.s.now in
-    subst (λ v. IsWithin old.disk.size old.sectors v) (sym c.new.ensures.inode) c.requires.within
+    subst (λ v. IsWithin old.header old.disk.size old.sectors v) (sym c.new.ensures.inode) c.requires.within
 
 pub read_with-requires-clause-at_hand : goal.read_with-requires-clause-at_hand
 read_with-requires-clause-at_hand g c = c.new.ensures.at_hand (g.S.Sectors.state c.args.s.now).sectors
