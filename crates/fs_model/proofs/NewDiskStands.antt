@@ -20,8 +20,7 @@ use Rattle.fs_layout.proofs.Bits.{has_bit, set_or_clear, free_sectors_all}
 use Rattle.fs_layout.proofs.Free.{HasNoSector, owns_nothing, holds_nothing, free_has_no_sector, free_fits, consistent_without_owners}
 use Rattle.fs_layout.proofs.UsedInodes.{made_fits}
 use Rattle.fs_layout.proofs.Places.{place_is_place, place_is_laid_out}
-use Rattle.fs_layout.proofs.RecoveryLaw.{recovered-idle}
-use Rattle.fs_layout.proofs.Targets.{no_targets}
+use Rattle.fs_layout.proofs.RecoveryLaw.{idle_commit, recovered-idle}
 use Rattle.fs_layout.proofs.Saves.{inode_there, valid_there}
 use Rattle.fs_model.specs.Limits.{root}
 use Rattle.fs_model.specs.Nodes.{Node, Dir}
@@ -176,7 +175,7 @@ module _ (p : Place) (image : SectorMap) (h : IsNewImage p image) where
     super_fits = record { sectors = small; inodes = (let most = place.most_inodes in omega (arith, most)) };
     same_size = refl;
     has_place = own_place;
-    commit_is = record { targets = []; is = record { bytes = h.commit; valid = no_targets p.sectors } };
+    commit_is = record { targets = []; is = idle_commit p.sectors image h.commit };
     room_is = refl;
     holds = subst (λ m. HoldsAll p m (placed empty_tree)) (sym idle) held;
     tree_is = empty_is_tree (room_of p) place.least_inodes;

@@ -1,13 +1,13 @@
 -- What an image stands for rests on what it reads as after recovery: superblock, tables and used data sectors. So it rests
 -- on the superblock, the commit sector with its log, and the sectors from the bitmaps on.
 use Rattle.std.specs.Prelude.{◌≡◌, ℕ, ◌<◌, ◌≤◌}
-use Rattle.std.proofs.Common.{sym, ap, arith, ◌∙◌, subst}
+use Rattle.std.proofs.Common.{sym, ap, arith, ◌∙◌}
 use Rattle.fs_layout.specs.Bytes.{SectorMap}
-use Rattle.fs_layout.specs.Commit.{IsValidCommit}
+use Rattle.fs_layout.specs.Header.{header_of}
 use Rattle.fs_layout.specs.Recovered.{recovered}
 use Rattle.fs_layout.proofs.Agree.{same_agrees, agree_free_sectors}
 use Rattle.fs_layout.proofs.Places.{place_is_laid_out, place_is_place}
-use Rattle.fs_layout.proofs.RecoveryLaw.{recovered-low, recovered-same}
+use Rattle.fs_layout.proofs.RecoveryLaw.{recovered-alike, recovered-super, valid_alike}
 use Rattle.fs_model.specs.Trees.{Tree, Room}
 use Rattle.fs_model.specs.Stands.{placed, Stands}
 use Rattle.fs_model.specs.Laws.{ReadsAlike, SaysSame}
@@ -18,7 +18,7 @@ pub standing_rests_on_reading : (sectors : ℕ) (old new : SectorMap) (room : Ro
 standing_rests_on_reading sectors old new room t free x alike = record {
   super = x.super;
   place = x.place;
-  super_is = sym (recovered-low sectors new 0 (omega arith)) ∙ alike.super ∙ recovered-low sectors old 0 (omega arith) ∙ x.super_is;
+  super_is = sym (recovered-super sectors new) ∙ alike.super ∙ recovered-super sectors old ∙ x.super_is;
   super_fits = x.super_fits;
   same_size = x.same_size;
   has_place = x.has_place;
@@ -36,9 +36,9 @@ standing_rests sectors old new room t free same x =
     let size : p.sectors ≡ sectors = ap (λ q. q.sectors) (place_is_laid_out sectors x.super.inodes x.has_place) in
     let place = place_is_place _ sectors x.super.inodes x.has_place in
     let each : (s : ℕ) → 128 ≤ s → s < p.sectors → recovered sectors new s ≡ recovered sectors old s =
-    λ s past low. recovered-same sectors old new s same.commit same.log (λ none. same.others s past (omega (arith, low, size))) in
+    λ s past low. recovered-alike sectors old new s (ap header_of same.super) same.commit same.header same.log (same.others s past (omega (arith, low, size))) in
     standing_rests_on_reading sectors old new room t free x (record {
-      commit = subst (IsValidCommit sectors) (sym same.commit) x.commit_is;
-      super = recovered-low sectors new 0 (omega arith) ∙ same.super ∙ sym (recovered-low sectors old 0 (omega arith));
+      commit = valid_alike sectors old new (ap header_of same.super) same.commit same.header x.commit_is;
+      super = recovered-super sectors new ∙ same.super ∙ sym (recovered-super sectors old);
       rest = same_agrees place each;
     })

@@ -3,10 +3,10 @@ use Rattle.std.specs.Prelude.{◌≡◌, ℕ, ◌<◌, ◌≤◌, Bool, true, fa
 use Rattle.std.proofs.Common.{◌+◌, ◌⊎◌, refl, sym, ap, subst, arith, inl, inr, ◌∙◌}
 use Rattle.fs_layout.specs.declared.superblock.Super.{Super}
 use Rattle.fs_layout.specs.declared.place.Place.{Place}
-use Rattle.fs_layout.specs.declared.place.TheConstants.{COMMIT_SECTOR, FIRST_LOG_SECTOR, INODE_BITMAP, SECTOR_BITS}
+use Rattle.fs_layout.specs.declared.place.TheConstants.{COMMIT_SECTOR, INODE_BITMAP, SECTOR_BITS}
 use Rattle.fs_layout.specs.declared.version.Version.{Version}
+use Rattle.fs_layout.specs.Header.{header_of}
 use Rattle.fs_layout.specs.Bytes.{SectorMap}
-use Rattle.fs_layout.specs.Commit.{IsValidCommit}
 use Rattle.fs_layout.specs.Images.{inode_at, stored, Owns}
 use Rattle.fs_layout.specs.Ownership.{IsOwned, IsConsistent, Agrees}
 use Rattle.fs_layout.specs.Place.{IsPlace, place_in, laid_out_in}
@@ -14,11 +14,12 @@ use Rattle.fs_layout.specs.Recovered.{recovered}
 use Rattle.fs_layout.specs.Superblock.{super_bytes, super_of, FitsSuper, with_version}
 use Rattle.fs_layout.specs.Version.{max_file_size}
 use Rattle.fs_layout.proofs.Codecs.{same_spelling}
+use Rattle.fs_layout.proofs.HeaderLaw.{no_header}
 use Rattle.fs_layout.proofs.SuperLaw.{super_codec}
 use Rattle.fs_layout.proofs.Agree.{same_agrees, agree_free_sectors}
-use Rattle.fs_layout.proofs.Targets.{targets_in-valid}
+use Rattle.fs_layout.proofs.Targets.{header_most, targets_in-valid}
 use Rattle.fs_layout.proofs.Places.{place_is_laid_out, place_is_place}
-use Rattle.fs_layout.proofs.RecoveryLaw.{recovered-same}
+use Rattle.fs_layout.proofs.RecoveryLaw.{header_of-super_bytes, log_start, recovered-alike, valid_alike}
 use Rattle.fs_model.specs.Nodes.{Node, Body, File, Dir, Link}
 use Rattle.fs_model.specs.Stands.{HoldsAll, placed, room_in, Stands}
 use Rattle.fs_model.specs.StoredNodes.{Placed}
@@ -139,8 +140,16 @@ stands_in_version version sectors old new super room t free x is =
     let commit : new COMMIT_SECTOR ≡ old COMMIT_SECTOR = is.others COMMIT_SECTOR (omega arith) (let least = (place_is_place x.super.version sectors inodes x.has_place).least_sectors in omega (arith, least, size)) in
     let place = place_is_place x.super.version sectors inodes x.has_place in
     let least = place.least_sectors in
+    let headers : header_of (new 0) ≡ header_of (old 0) =
+    ap header_of is.says ∙ header_of-super_bytes (with_version version super) (record { sectors = is.fits.sectors; inodes = is.fits.inodes }) ∙ no_header version super.sectors super.inodes
+    ∙ sym (ap header_of is.was ∙ header_of-super_bytes super is.fits ∙ no_header super.version super.sectors super.inodes) in
+    let header_is : (k : ℕ) → k < header_of (old 0) → new (2 + k) ≡ old (2 + k) = λ k lt. is.others (2 + k) (omega arith) (omega (arith, lt, header_most (old 0), least, size)) in
     let each : (s : ℕ) → INODE_BITMAP ≤ s → s < p.sectors → recovered sectors new s ≡ recovered sectors old s =
-    λ s past low. recovered-same sectors old new s commit (λ k lt. is.others (FIRST_LOG_SECTOR + k) (omega arith) (let few = (targets_in-valid sectors (old COMMIT_SECTOR)).few in omega (arith, few, lt, least, size))) (λ none. is.others s (omega (arith, past)) (omega (arith, low, size))) in
+    λ s past low. recovered-alike sectors old new s headers commit header_is (λ k lt.
+    let valid = targets_in-valid sectors old in
+    let few = valid.few in
+    let range = valid.in_range k 0 lt in
+    is.others (log_start old + k) (omega arith) (omega (arith, few, lt, range.0, range.1))) (is.others s (omega (arith, past)) (omega (arith, low, size))) in
     let rest : Agrees p (recovered sectors old) (recovered sectors new) = same_agrees place each in
     let held : HoldsAll p (recovered sectors new) (placed t) = agreed p (recovered sectors old) (recovered sectors new) (placed t) x.holds rest in
     record {
@@ -150,7 +159,7 @@ stands_in_version version sectors old new super room t free x is =
       super_fits = record { sectors = x.super_fits.sectors; inodes = x.super_fits.inodes };
       same_size = x.same_size;
       has_place = place_in_version x.super.version version sectors inodes p x.has_place ∙ ap (λ (q : Place). Some (in_version version q)) (sym there);
-      commit_is = subst (IsValidCommit sectors) (sym commit) x.commit_is;
+      commit_is = valid_alike sectors old new headers commit header_is x.commit_is;
       room_is = ap (room_in version) x.room_is;
       holds = all_held_in version p (recovered sectors new) (placed t) held;
       tree_is = tree_fits room (room_in version room) refl

@@ -19,6 +19,7 @@ use Rattle.fs_layout.specs.Version.{max_file_size}
 use Rattle.fs_layout.specs.Images.{bit, inode_bitmap, inode_at}
 use Rattle.fs_layout.specs.InodeChanges.{ChangesInode}
 use Rattle.fs_layout.specs.Ownership.{Agrees}
+use Rattle.fs_layout.specs.Header.{header_of}
 use Rattle.fs_layout.specs.Recovered.{recovered}
 use Rattle.fs_model.specs.declared.event.Event.{Event}
 use Rattle.fs_model.specs.declared.event.EventReply.TheVariants.{Reply as Replies}
@@ -146,13 +147,14 @@ abbrev pub CountsFit : Type 0
 CountsFit =
     (sectors : ℕ) (image : SectorMap) (room : Room) (t : Tree) (free : ℕ) → Stands sectors image room t free → MayBeFree room t free
 
--- On a disk of so many sectors two images say the same: superblock, commit sector, the log sectors that a sealed commit
+-- On a disk of so many sectors two images say the same: superblock, commit sector, header, the log sectors that a sealed commit
 -- uses, and all sectors from the bitmaps on are alike.
 pub record SaysSame (sectors : ℕ) (old new : SectorMap) : Type 0 where
   pub super : new 0 ≡ old 0
   pub commit : new COMMIT_SECTOR ≡ old COMMIT_SECTOR
-  pub log : (k : ℕ) → k < length (targets_in sectors (old COMMIT_SECTOR))
-      → new (FIRST_LOG_SECTOR + k) ≡ old (FIRST_LOG_SECTOR + k)
+  pub header : (k : ℕ) → k < header_of (old 0) → new (FIRST_LOG_SECTOR + k) ≡ old (FIRST_LOG_SECTOR + k)
+  pub log : (k : ℕ) → k < length (targets_in sectors old)
+      → new (FIRST_LOG_SECTOR + header_of (old 0) + k) ≡ old (FIRST_LOG_SECTOR + header_of (old 0) + k)
   pub others : (s : ℕ) → INODE_BITMAP ≤ s → s < sectors → new s ≡ old s
 
 -- Then they stand for the same.
@@ -164,7 +166,7 @@ StandingRests =
 -- On a disk of so many sectors, whose parts lie so, the commit sector is valid, and after recovery two images read alike:
 -- the superblock, the tables, and the data sectors that are used.
 pub record ReadsAlike (sectors : ℕ) (p : Place) (old new : SectorMap) : Type 0 where
-  pub commit : IsValidCommit sectors (new COMMIT_SECTOR)
+  pub commit : IsValidCommit sectors new
   pub super : recovered sectors new 0 ≡ recovered sectors old 0
   pub rest : Agrees p (recovered sectors old) (recovered sectors new)
 

@@ -1,5 +1,5 @@
 -- The checker's rules, each a predicate on an image, read from its bytes: our own layout.
---     IsPlaceOf, HasCommit        the first two: the superblock gives the disk this place; the commit sector is valid
+--     IsPlaceOf        the first two: the superblock gives the disk this place; the commit is valid, as `IsValidCommit` says it
 --     ImageRule, rule_number        the others, and their numbers; they speak of the recovered image
 --     namings_in, namings        how many slots of one directory, and of all, name an inode
 --     IsBit, IsAllowed, IsGoodInode, IsLaidOut, HasAcls, IsGoodSlot, HasNameCount, HasParent, GoesUp        what single rules ask
@@ -18,7 +18,7 @@ use Rattle.fs_layout.specs.declared.place.Place.{Place}
 use Rattle.fs_layout.specs.declared.place.TheConstants.{SECTOR_BITS}
 use Rattle.fs_layout.specs.Bytes.{SectorMap, IsSector, u16_of}
 use Rattle.fs_layout.specs.Superblock.{super_of}
-use Rattle.fs_layout.specs.Commit.{commit_of, AreTargets}
+use Rattle.fs_layout.specs.Commit.{IsValidCommit}
 use Rattle.fs_layout.specs.Inode.{inode_of}
 use Rattle.fs_layout.specs.AclSector.{acl_sector_of}
 use Rattle.fs_layout.specs.Directories.{slot_count, stored_slot, slot_at, slot_of}
@@ -41,12 +41,6 @@ pub record IsPlaceOf (sectors : ℕ) (image : SectorMap) (p : Place) : Type 0 wh
 pub record HasPlace (sectors : ℕ) (image : SectorMap) : Type 0 where
   pub place : Place
   pub is : IsPlaceOf sectors image place
-
--- Rule 2. The commit sector is valid.
-pub record HasCommit (sectors : ℕ) (image : SectorMap) : Type 0 where
-  pub targets : List ℕ
-  pub commit_is : commit_of (image 1) ≡ Ok targets
-  pub valid : AreTargets sectors targets
 
 -- ---- names
 
@@ -207,7 +201,7 @@ ObeysBefore p m k = (r : ImageRule) → rule_number r < k → ObeysEach p m r
 pub record ObeysAll (sectors : ℕ) (image : SectorMap) : Type 0 where
   pub place : Place
   pub is_place : IsPlaceOf sectors image place
-  pub commit : HasCommit sectors image
+  pub commit : IsValidCommit sectors image
   pub rules : (r : ImageRule) → ObeysEach place (recovered sectors image) r
 
 -- at this number m fails the rule, at none before it
@@ -218,8 +212,8 @@ pub record IsLeastFailure (p : Place) (m : SectorMap) (r : ImageRule) (at : ℕ)
 -- The first rule that fails, and the least number at which it does.
 pub data IsFinding (sectors : ℕ) (image : SectorMap) : ℕ → ℕ → Type 0 where
   no_place : (HasPlace sectors image → ⊥) → IsFinding sectors image 1 0
-  no_commit : HasPlace sectors image → (HasCommit sectors image → ⊥) → IsFinding sectors image 2 1
-  fails : (p : Place) (r : ImageRule) (at : ℕ) → IsPlaceOf sectors image p → HasCommit sectors image
+  no_commit : HasPlace sectors image → (IsValidCommit sectors image → ⊥) → IsFinding sectors image 2 1
+  fails : (p : Place) (r : ImageRule) (at : ℕ) → IsPlaceOf sectors image p → IsValidCommit sectors image
       → ObeysBefore p (recovered sectors image) (rule_number r) → IsLeastFailure p (recovered sectors image) r at
       → IsFinding sectors image (rule_number r) at
 

@@ -7,7 +7,7 @@ use Rattle.std.specs.Prelude.{◌≡◌, ℕ, ◌-◌, ◌<◌, nat_eq, nat_le, 
 use Rattle.std.specs.Option.{option_map}
 use Rattle.fs_layout.specs.declared.superblock.Super.{Super}
 use Rattle.fs_layout.specs.declared.place.Place.{Place}
-use Rattle.fs_layout.specs.declared.place.TheConstants.{COMMIT_SECTOR, SECTOR_BITS}
+use Rattle.fs_layout.specs.declared.place.TheConstants.{SECTOR_BITS}
 use Rattle.fs_layout.specs.declared.version.Version.{Version}
 use Rattle.fs_layout.specs.Bytes.{SectorMap}
 use Rattle.fs_layout.specs.Superblock.{super_bytes, FitsSuper}
@@ -52,7 +52,7 @@ pub record Stands (sectors : ℕ) (image : SectorMap) (room : Room) (tree : Tree
   pub super_fits : FitsSuper super
   pub same_size : super.sectors ≡ sectors
   pub has_place : place_in super.version sectors super.inodes ≡ Some place
-  pub commit_is : IsValidCommit sectors (image COMMIT_SECTOR)
+  pub commit_is : IsValidCommit sectors image
   pub room_is : room ≡ room_of place
   pub holds : HoldsAll place (recovered sectors image) (placed tree)
   pub tree_is : IsTree room tree
