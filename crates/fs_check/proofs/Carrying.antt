@@ -8,7 +8,7 @@ use Rattle.fs_layout.specs.Recovered.{recovered}
 use Rattle.sector_disk.specs.Disk.{DiskState, Image, IsImage, IsSame, Elapses, OnlyReads, HasFailed, sector}
 use Rattle.sector_disk.proofs.Moments.{reads_nothing, reads_more, reads_joined}
 use Rattle.fs_layout.specs.Commit.{IsCommit}
-use Rattle.fs_model.specs.Rules.{IsPlaceOf, HasCommit, ImageRule, rule_number, ObeysEach, ObeysBefore, IsFinding, fails}
+use Rattle.fs_model.specs.Rules.{IsPlaceOf, ImageRule, rule_number, ObeysEach, ObeysBefore, IsFinding, fails}
 use Rattle.fs_check.specs.declared.faults.CheckFault.{CheckFault}
 use Rattle.fs_check.specs.declared.faults.CheckFault.TheVariants.{Found, DiskFault, OutOfMemory}
 use Rattle.fs_check.specs.Checks.{meaning, BeginsWith, AreInodes, IsReason, Passed, IsNone, IsLeast, IsFirst, IsFailureOf}
@@ -28,8 +28,7 @@ module _ {old mid : DiskState} (reads : OnlyReads old mid) where
   pub opened_still : {p : Place} {targets : List ℕ} → BeginsWith old p targets → BeginsWith mid p targets
   opened_still {p} {targets} x = record {
     place = same_of (λ n i. IsPlaceOf n (sector i) p) reads x.place;
-    commit = same_of (λ n i. HasCommit n (sector i)) reads x.commit;
-    targets_are = same_of (λ n i. IsCommit n (sector i 1) targets) reads x.targets_are;
+    commit = same_of (λ n i. IsCommit n (sector i) targets) reads x.commit;
   }
 
   pub table_still : {p : Place} {inodes : List Inode} → AreInodes p (meaning old) inodes → AreInodes p (meaning mid) inodes
@@ -51,22 +50,22 @@ module _ {old mid : DiskState} (reads : OnlyReads old mid) where
 -- a rule whose predecessors hold: its finding is the first
 pub first_if : {old : DiskState} {p : Place} {targets : List ℕ} (new : DiskState) (r : ImageRule) (e : CheckFault) → BeginsWith old p targets
     → ObeysBefore p (meaning old) (rule_number r) → IsReason (IsLeast p r) old new e → IsReason IsFirst old new e
-first_if {old} {p} new r (Found f) opened before x =
-    subst (λ k. IsFinding old.size (sector old.seen) k f.at) (sym x.0) (fails p r f.at opened.place opened.commit before x.1)
+first_if {old} {p} {targets} new r (Found f) opened before x =
+    subst (λ k. IsFinding old.size (sector old.seen) k f.at) (sym x.0) (fails p r f.at opened.place (record { targets = targets; is = opened.commit }) before x.1)
 first_if new r DiskFault opened before x = x
 first_if new r OutOfMemory opened before x = tt
 
 -- the failure of a rule that was found in tables
 pub failed_of : {T : Type 0} (old mid new : DiskState) {p : Place} {targets : List ℕ} → OnlyReads old mid → OnlyReads mid new → BeginsWith old p targets
     → (e y : CheckFault) (q : Result T CheckFault) → q ≡ Err y → y ≡ e → IsFailureOf p (meaning mid) e → Passed IsFirst old new q
-failed_of {T} old mid new {p} reads then opened e y q at same x =
+failed_of {T} old mid new {p} {targets} reads then opened e y q at same x =
     subst (λ z. Passed {T = T} IsFirst old new z) (sym (at ∙ ap (λ z. Err z) same)) (record { reads = reads_joined reads then; reason = go e x })
   where
     go : (e : CheckFault) → IsFailureOf p (meaning mid) e → IsReason IsFirst old new e
     go (Found f) x =
         let now = opened_still reads opened in
         back_of (λ n i. IsFinding n (sector i) f.rule f.at) reads
-        (subst (λ k. IsFinding mid.size (sector mid.seen) k f.at) (sym x.number) (fails p x.of f.at now.place now.commit x.before x.least))
+        (subst (λ k. IsFinding mid.size (sector mid.seen) k f.at) (sym x.number) (fails p x.of f.at now.place (record { targets = targets; is = now.commit }) x.before x.least))
     go DiskFault x = absurd x
     go OutOfMemory x = tt
 

@@ -17,7 +17,7 @@ use Rattle.fs_layout.proofs.Bits.{has_bit}
 use Rattle.fs_layout.proofs.Places.{place_is_place}
 use Rattle.fs_layout.proofs.Targets.{targets_in-commit}
 use Rattle.sector_disk.specs.Disk.{DiskState, IsImage, IsWholeSector, OnlyReads, sector}
-use Rattle.fs_model.specs.Rules.{IsPlaceOf, HasCommit, BlockBits, is_directory_kind, ObeysBefore, ObeysAll, HasWholeSectors}
+use Rattle.fs_model.specs.Rules.{IsPlaceOf, BlockBits, is_directory_kind, ObeysBefore, ObeysAll, HasWholeSectors}
 use Rattle.fs_model.specs.Summaries.{is_file_kind, is_link_kind, is_used, some_target}
 use Rattle.fs_model.specs.Trees.{Tree}
 use Rattle.fs_model.specs.Stands.{room_of}
@@ -65,7 +65,7 @@ module _ (d : DiskState) (p : Place) (targets : List ℕ) (inodes : List Inode) 
     (owners : IsOwnerMap p (meaning d) owned)
     (before : ObeysBefore p (meaning d) 15) (counts : IsCounted p targets inodes owned s) where
   abbrev pub all : ObeysAll d.size (sector d.seen)
-  all = record { place = p; is_place = opened.place; commit = opened.commit; rules = each_obeyed p (meaning d) before }
+  all = record { place = p; is_place = opened.place; commit = record { targets = targets; is = opened.commit }; rules = each_obeyed p (meaning d) before }
 
   abbrev pub the_place_is : IsPlace p
   the_place_is = place d.size (sector d.seen) whole all
@@ -123,21 +123,20 @@ module _ (d : DiskState) (p : Place) (targets : List ℕ) (inodes : List Inode) 
           nameless = counts.nameless ∙ by_list (λ v. is_file_kind v.kind && v.names == 0) ∙ sym (nameless_counted p (meaning d) t held is);
           blocks = counts.blocks ∙ free_is;
           inodes = counts.free ∙ ap (λ k. p.inodes - 1 - k) (by_list (λ v. is_used v.kind) ∙ sym (nodes_counted p (meaning d) t held is));
-          pending = counts.pending ∙ ap some_target (sym (targets_in-commit d.size (sector d.seen 1) targets small opened.targets_are));
+          pending = counts.pending ∙ ap some_target (sym (targets_in-commit d.size (sector d.seen) targets small opened.commit));
         },
       )
 
 -- facts that were found one after the other
 pub clean_after : (s0 s1 s2 s3 : DiskState) (p : Place) (targets : List ℕ) (items inodes : List Inode) (bits owned : List Bool) (s : Summary)
     → s0.size < 2 ^ 32 → HasWholeSectors s0.size (sector s0.seen) → IsPlaceOf s0.size (sector s0.seen) p
-    → OnlyReads s0 s1 → HasCommit s1.size (sector s1.seen) → IsCommit s1.size (sector s1.seen 1) targets
+    → OnlyReads s0 s1 → IsCommit s1.size (sector s1.seen) targets
     → OnlyReads s0 s2 → AreInodes p (meaning s2) items → inodes ≡ items
     → OnlyReads s0 s3 → IsOwnerMap p (meaning s3) bits → owned ≡ bits → ObeysBefore p (meaning s3) 15 → IsCounted p targets inodes owned s → IsClean s0 s
-clean_after s0 s1 s2 s3 p targets items inodes bits owned s small whole at r1 commit are r2 table same r3 owners also before counts =
+clean_after s0 s1 s2 s3 p targets items inodes bits owned s small whole at r1 commit r2 table same r3 owners also before counts =
     let opened : BeginsWith s0 p targets = record {
       place = at;
-      commit = back_of (λ n i. HasCommit n (sector i)) r1 commit;
-      targets_are = back_of (λ n i. IsCommit n (sector i 1) targets) r1 are;
+      commit = back_of (λ n i. IsCommit n (sector i) targets) r1 commit;
     } in
     clean s0 p targets inodes owned s small whole opened
     (subst (AreInodes p (meaning s0)) (sym same) (subst (λ m. AreInodes p m items) (meaning_same r2) table))

@@ -1,6 +1,6 @@
 -- What a check says of a disk, which it only reads.
 --     meaning        what a disk means: its recovered image
---     BeginsWith        the superblock gives the place, and the commit sector these targets
+--     BeginsWith        the superblock gives the place, and the commit these targets
 --     AreInodes, IsOwnerMap, IsNameCount, IsNamedBy, IsNameTable        the tables of a check
 --     IsReason, Passed        why a check gives no summary; it only reads, and has a reason
 --     IsLeast, IsFirst        a finding of one rule; a finding
@@ -18,7 +18,7 @@ use Rattle.fs_layout.specs.Recovered.{recovered}
 use Rattle.sector_disk.specs.Disk.{DiskState, OnlyReads, HasFailed, sector}
 use Rattle.fs_model.specs.Trees.{Tree, Room, free_inodes}
 use Rattle.fs_model.specs.Stands.{Stands}
-use Rattle.fs_model.specs.Rules.{IsPlaceOf, HasCommit, namings_in, namings, is_directory_kind, ImageRule, rule_number, ObeysBefore, IsLeastFailure, IsFinding}
+use Rattle.fs_model.specs.Rules.{IsPlaceOf, namings_in, namings, is_directory_kind, ImageRule, rule_number, ObeysBefore, IsLeastFailure, IsFinding}
 use Rattle.fs_model.specs.Summaries.{named_files, nameless_files, directories, links, is_sealed, is_file_kind, is_link_kind, is_used, some_target}
 use Rattle.fs_check.specs.declared.faults.CheckFault.{CheckFault}
 use Rattle.fs_check.specs.declared.faults.CheckFault.TheVariants.{Found, DiskFault, OutOfMemory}
@@ -30,11 +30,10 @@ use Rattle.fs_check.specs.declared.faults.Summary.{Summary}
 abbrev pub meaning : DiskState → SectorMap
 meaning disk = recovered disk.size (sector disk.seen)
 
--- the superblock gives this place, and the commit sector is valid and has these targets
+-- the superblock gives this place, and the commit is valid and has these targets
 pub record BeginsWith (disk : DiskState) (p : Place) (targets : List ℕ) : Type 0 where
   pub place : IsPlaceOf disk.size (sector disk.seen) p
-  pub commit : HasCommit disk.size (sector disk.seen)
-  pub targets_are : IsCommit disk.size (sector disk.seen 1) targets
+  pub commit : IsCommit disk.size (sector disk.seen) targets
 
 -- all inodes of the image
 pub record AreInodes (p : Place) (m : SectorMap) (inodes : List Inode) : Type 0 where

@@ -131,7 +131,7 @@ pub fn check<D: Disk>(alloc: Global, disk: &mut D) -> Result<Summary, CheckFault
     ensures passed { Passed IsFirst (D.state disk.old) (D.state disk.new) result }
 {
     let place = open_place(disk)?;
-    let commit = open_commit(disk)?;
+    let commit = open_commit(disk, place)?;
     let opened = Opened {
         alloc,
         place,

@@ -1,18 +1,19 @@
-//! The superblock and the commit sector.
+//! The superblock and the commit.
 
 ghost use Rattle.std.specs.Prelude.{◌≡◌, IfOk, IfSome, IfNone};
 ghost use Rattle.fs_layout.specs.Bytes.{SectorMap};
 ghost use Rattle.fs_layout.specs.Commit.{IsCommit};
-ghost use Rattle.fs_model.specs.Rules.{IsPlaceOf, HasPlace, HasCommit};
+ghost use Rattle.fs_model.specs.Rules.{IsPlaceOf, HasPlace};
 ghost use Rattle.sector_disk.specs.Disk.{sector};
 ghost use Rattle.fs_check.specs.Checks.{Passed, IsFirst};
 
 use crate::faults::{CheckFault, Checked, Finding};
 use fs_layout::{Commit, Place, Super};
+use redo_journal::read_commit;
 use sector_disk::Disk;
 use std::alloc::Global;
 
-/// A disk whose first two sectors were read: where its parts lie, and the targets of a sealed commit.
+/// A disk whose superblock and commit were read: where its parts lie, and the targets of a sealed commit.
 #[derive(Drop)]
 pub(crate) struct Opened {
     /// Where the memory for a check's tables is taken from.
@@ -56,35 +57,14 @@ pub(crate) fn open_place<D: Disk>(disk: &mut D) -> Checked<Place>
     }
 }
 
-// The commit that a sector's content is, on a disk of so many sectors.
-fn commit_in(content: &[u8; 512], size: u32) -> Option<Commit>
-    ensures some { IfSome result (λ targets. (image : SectorMap) → image 1 ≡ content.now
-        → IsCommit size content.now targets × HasCommit size image) }
-    ensures none { IfNone result ((image : SectorMap) → image 1 ≡ content.now → HasCommit size image → ⊥) }
-{
-    match Commit::read_from(content, 0) {
-        Ok(commit) => {
-            if commit.is_valid_for(size) {
-                Some(commit)
-            } else {
-                None
-            }
-        }
-        Err(_) => None,
-    }
-}
-
-/// Reads the commit sector: the second rule.
-pub(crate) fn open_commit<D: Disk>(disk: &mut D) -> Checked<Commit>
-    requires { HasPlace (D.state disk.old).size (sector (D.state disk.old).seen) }
-    ensures targets { IfOk result (λ targets. IsCommit (D.state disk.old).size (sector (D.state disk.old).seen 1) targets) }
-    ensures commit { IfOk result (λ _. HasCommit (D.state disk.old).size (sector (D.state disk.old).seen)) }
+/// Reads the commit: the second rule.
+pub(crate) fn open_commit<D: Disk>(disk: &mut D, place: Place) -> Checked<Commit>
+    requires { IsPlaceOf (D.state disk.old).size (sector (D.state disk.old).seen) place }
+    ensures targets { IfOk result (λ targets. IsCommit (D.state disk.old).size (sector (D.state disk.old).seen) targets) }
     ensures passed { Passed IsFirst (D.state disk.old) (D.state disk.new) result }
 {
-    let size = disk.size();
-    let mut content = [0; 512];
-    disk.read(1, &mut content)?;
-    match commit_in(&content, size) {
+    let found = read_commit(disk, place.header())?;
+    match found {
         Some(commit) => Ok(commit),
         None => Err(NO_COMMIT),
     }

@@ -2,13 +2,15 @@
 
 ghost use Rattle.std.specs.Prelude.{◌≡◌, ◌≢◌, ◌≤◌, ◌<◌, ◌^◌, ℕ, length, get_or, IfSome, IfNone, OnOk};
 ghost use Rattle.fs_layout.specs.Bytes.{SectorMap};
-ghost use Rattle.fs_layout.specs.Commit.{IsCommit};
+ghost use Rattle.fs_layout.specs.Commit.{AreTargets, IsCommit};
+ghost use Rattle.fs_layout.specs.Header.{header_of};
+ghost use Rattle.fs_layout.specs.declared.header.TheConstants.{MAX_HEADER};
 ghost use Rattle.fs_layout.specs.Recovered.{recovered};
 ghost use Rattle.fs_check.specs.Checks.{meaning, BeginsWith, Passed, IsNone};
 
 use crate::faults::Checked;
 use crate::opening::Opened;
-use fs_layout::Commit;
+use fs_layout::{Commit, FIRST_LOG_SECTOR};
 use sector_disk::Disk;
 
 // Where the sector stands among the targets.
@@ -25,14 +27,15 @@ fn target_index(targets: &[u32], n: u32) -> Option<usize>
     None
 }
 
-// The sector that has the content of sector n: a target of the commit has it in the log.
-fn content_of(commit: &Commit, n: u32) -> u32
-    ensures content { (size : ℕ) (image : SectorMap) → size < 2 ^ 32 → IsCommit size (image 1) commit.now
+// The sector that has the content of sector n, where the header has so many sectors: a target of the commit has it in the log.
+fn content_of(header: u32, commit: &Commit, n: u32) -> u32
+    requires { header ≤ MAX_HEADER }
+    ensures content { (size : ℕ) (image : SectorMap) → size < 2 ^ 32 → header ≡ header_of (image 0) → IsCommit size image commit.now
         → recovered size image n ≡ image result }
-    ensures on_disk { (size : ℕ) → 128 ≤ size → n < size → result < size }
+    ensures on_disk { (size : ℕ) → AreTargets header size commit.now → n < size → result < size }
 {
     match target_index(commit.targets(), n) {
-        Some(k) => 2 + k as u32,
+        Some(k) => FIRST_LOG_SECTOR + header + k as u32,
         None => n,
     }
 }
@@ -49,6 +52,7 @@ pub(crate) fn read_recovered<D: Disk>(
     ensures content { OnOk result (to.new ≡ meaning (D.state disk.old) n) }
     ensures passed { Passed IsNone (D.state disk.old) (D.state disk.new) result }
 {
-    disk.read(content_of(&opened.commit, n), to)?;
+    let header = opened.place.header();
+    disk.read(content_of(header, &opened.commit, n), to)?;
     Ok(())
 }

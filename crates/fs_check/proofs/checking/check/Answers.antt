@@ -22,6 +22,6 @@ returns-clause-clean g c =
     clean_after s0 s1 s2 s3 c.in_ok-place.place c.in_ok-commit.commit c.in_ok-inodes.inodes.items c.deref-2.result.now c.in_ok-owned.owned.items
     c.deref-3.result.now c.summary.result
     (g.met.D.Disk.size_fits c.args.disk.now) whole c.in_ok-place.ensures.place
-    r1 c.in_ok-commit.ensures.commit c.in_ok-commit.ensures.targets
+    r1 c.in_ok-commit.ensures.targets
     r2 c.in_ok-inodes.ensures.table c.deref-2.ensures.value
     r3 c.in_ok-owned.ensures.owners c.deref-3.ensures.value c.in_ok-owned.ensures.before c.summary.ensures

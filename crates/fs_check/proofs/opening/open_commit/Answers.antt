@@ -1,19 +1,28 @@
-use Rattle.std.proofs.Common.{arith}
+use Rattle.std.proofs.Common.{arith, subst}
+use Rattle.std.specs.Prelude.{MatchOption}
+use Rattle.fs_layout.specs.Commit.{IsCommit, IsValidCommit}
+use Rattle.sector_disk.specs.Disk.{sector}
 use Rattle.fs_model.specs.Rules.{no_commit}
-use Rattle.fs_check.proofs.Carrying.{reads_once}
-use Rattle.fs_check.proofs.Openings.{many_sectors, no_commit_there, commit_there}
+use Rattle.fs_check.proofs.Openings.{has_header, many_sectors}
 use Rattle.fs_check.proofs.opening.open_commit.Goals as goal
 
-pub read-requires : goal.read-requires
-read-requires g c = let many = many_sectors _ _ c.requires in omega (arith, many)
+pub read_commit-requires-clause-room : goal.read_commit-requires-clause-room
+read_commit-requires-clause-room g c = let many = many_sectors _ _ (record { place = c.args.place; is = c.requires }) in omega (arith, many)
+
+pub read_commit-requires-clause-header : goal.read_commit-requires-clause-header
+read_commit-requires-clause-header g c = has_header (g.D.Disk.state c.args.disk.now) c.args.place c.header.result c.requires c.header.ensures.value c.header.ensures.most
 
 pub returns-in-Some-clause-targets : goal.returns-in-Some-clause-targets
 returns-in-Some-clause-targets g c =
-    commit_there _ c.size-size.result (g.D.Disk.state c.args.disk.now).seen c.read.new.to c.size-size.ensures c.in-Some.commit c.in_ok-read.ensures.content
-    c.in-Some.ensures.some
+    let disk = g.D.Disk.state c.args.disk.now in
+    subst (λ found. MatchOption found (IsValidCommit disk.size (sector disk.seen) → ⊥) (λ targets. IsCommit disk.size (sector disk.seen) targets)) c.in-Some.is c.in_ok-found.ensures.commit
 
 pub returns-in-None-clause-passed : goal.returns-in-None-clause-passed
-returns-in-None-clause-passed g c = record {
-  reads = reads_once c.read.ensures.same c.read.ensures.time c.read.ensures.cause.later c.read.ensures.quiet (g.met.D.Disk.counts_now c.args.disk.now);
-  reason = no_commit c.requires (no_commit_there _ c.size-size.result _ c.read.new.to c.size-size.ensures c.in_ok-read.ensures.content c.in-None.ensures.none);
-}
+returns-in-None-clause-passed g c =
+    let disk = g.D.Disk.state c.args.disk.now in
+    record {
+      reads = c.read_commit.ensures.reads;
+      reason =
+          no_commit (record { place = c.args.place; is = c.requires })
+          (subst (λ found. MatchOption found (IsValidCommit disk.size (sector disk.seen) → ⊥) (λ targets. IsCommit disk.size (sector disk.seen) targets)) c.in-None.is c.in_ok-found.ensures.commit);
+    }
