@@ -12,8 +12,8 @@ use Rattle.fs_layout.specs.Images.{HasWholeTables}
 use Rattle.fs_layout.specs.Ownership.{IsConsistent}
 use Rattle.sector_txn.specs.Sectors.{TxnState, IsUnchanged}
 use Rattle.bit_alloc.specs.Faults.{HasCauseOf}
-use Rattle.bit_alloc.specs.Bitmaps.{HasRestSet}
 use Rattle.bit_alloc.specs.Inodes.{IsSound}
+use Rattle.bit_alloc.proofs.Transactions.{bitmaps_unchanged}
 use Rattle.path_walk.specs.Answers.{FailsToRead, Interrupts, IsCaused, IsAnswered}
 
 -- the map is the same
@@ -30,12 +30,7 @@ kept_back P same h = subst P (same_map same) h
 pub sound_kept : {p : Place} {old new : TxnState} → IsUnchanged old new → IsSound p old → IsSound p new
 sound_kept {p} {old} {new} same sound = record {
   consistent = kept (IsConsistent p) same sound.consistent;
-  bitmaps = record {
-    place = sound.bitmaps.place;
-    disk = let b = sound.bitmaps.disk in let e = same.store.reads.narrowed.size in omega (arith, b, e);
-    tables = kept (HasWholeTables p) same sound.bitmaps.tables;
-    rest = kept (HasRestSet p) same sound.bitmaps.rest;
-  };
+  bitmaps = bitmaps_unchanged p old new sound.bitmaps same;
 }
 
 -- what interrupts a later call, since an earlier moment
