@@ -141,13 +141,13 @@ fn seen_with(alloc: Global, calls: u64) -> Result<Seen, Fail> {
 
 #[test]
 fn a_halted_one_calls_its_disk_no_more(rt: HostRuntime) -> Result<(), Fail> {
-    // How many calls of the disk pass, and what is seen. mkfs and mount make 79 calls. The file is made and written with the two
+    // How many calls of the disk pass, and what is seen. mkfs and mount make 80 calls. The file is made and written with the two
     // bitmaps read, and committed by its fsync.
     for (calls, wanted) in [
         (u64::MAX, (WELL, Ok(0), 0)),
-        (79, (UNREAD, Ok(0), 2)),
-        (81, (HALTED, EIO, 1)),
-        (84, (HALTED, EIO, 1)),
+        (80, (UNREAD, Ok(0), 2)),
+        (82, (HALTED, EIO, 1)),
+        (85, (HALTED, EIO, 1)),
     ] {
         let found = seen_with(rt.alloc(), calls)?;
         assert!(rt; found == wanted, "{calls}: {found:?}");

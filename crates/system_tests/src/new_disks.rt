@@ -253,7 +253,7 @@ fn told_at(alloc: Global, call: u64) -> Result<[Outcome; 2], AllocError> {
 fn wanted_at(call: u64) -> Outcome {
     if call < 24 {
         (Err(MkfsFault::DiskFault), 1, None)
-    } else if call < 79 {
+    } else if call < 80 {
         (Ok(()), 0, Some(MountFault::DiskFault))
     } else {
         (Ok(()), 0, None)
@@ -262,9 +262,9 @@ fn wanted_at(call: u64) -> Outcome {
 
 #[test]
 fn each_failing_call_is_told(rt: HostRuntime) -> Result<(), Fail> {
-    // Each call of mkfs; those of mount: the 36 reads of a check, two reads and a sync, and the 16 sectors of the inode table; and
+    // Each call of mkfs; those of mount: the 36 reads of a check, three reads and a sync, and the 16 sectors of the inode table; and
     // the one after these.
-    for call in 0..80 {
+    for call in 0..81 {
         let seen = told_at(rt.alloc(), call)?;
         assert!(rt; seen == [wanted_at(call); 2], "{call}: {seen:?}");
     }
