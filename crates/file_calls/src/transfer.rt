@@ -31,7 +31,7 @@ fn read_bytes<S: Sectors>(
     offset: u64,
     len: usize,
 ) -> Result<Bytes, Refusal>
-    requires within { IsWithin (S.state s.old).disk.size (S.state s.old).sectors inode.now }
+    requires within { IsWithin (S.state s.old).header (S.state s.old).disk.size (S.state s.old).sectors inode.now }
     ensures found { IfOk result (λ read. (bytes : List ℕ) → Holds (S.state s.old).sectors inode.now bytes
         → read ≡ take (min len move_limit) (drop offset bytes)) }
     ensures fault { IfErr result (λ e. Interrupts (S.state s.old).disk (S.state s.new).disk e) }
