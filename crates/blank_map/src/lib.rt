@@ -7,6 +7,7 @@
 
 ghost use Rattle.std.specs.Prelude.{◌≡◌, ◌≤◌, ◌<◌, ℕ, false, replicate, IfOk, IsTrue, ◌↔◌};
 ghost use Rattle.fs_layout.specs.Bytes.{IsBytes, IsSector};
+ghost use Rattle.fs_layout.specs.Header.{log_end};
 ghost use Rattle.fs_layout.specs.Place.{IsPlace};
 ghost use Rattle.fs_layout.specs.Images.{HasWholeTables, bit, inode_bitmap, inode_at};
 ghost use Rattle.fs_layout.specs.Inode.{free_inode};
@@ -50,6 +51,7 @@ fn count_bits(place: Place, map: Bitmap) -> u32
 pub fn put_blank<S: Sectors>(s: &mut S, place: Place)
     requires place { IsPlace place }
     requires disk { place.sectors ≤ (S.state s.old).disk.size }
+    requires header { log_end (S.state s.old).header ≤ inode_bitmap }
     ensures { SameStore (S.state s.old) (S.state s.new) }
 {
     for t in 128..place.first_data {
@@ -84,6 +86,7 @@ fn blank_sector(place: Place, t: u32) -> [u8; 512] {
 pub fn is_blank<S: Sectors>(s: &mut S, place: Place) -> Result<bool, DiskFault>
     requires place { IsPlace place }
     requires disk { place.sectors ≤ (S.state s.old).disk.size }
+    requires header { log_end (S.state s.old).header ≤ inode_bitmap }
     ensures sound { IfOk result (λ b. IsTrue b → IsSound place (S.state s.new)) }
     // An inode whose bit is clear is free.
     ensures clear { IfOk result (λ b. IsTrue b → (n : ℕ) → n < place.inodes → bit (S.state s.new).sectors inode_bitmap n ≡ false
@@ -109,6 +112,7 @@ pub fn is_blank<S: Sectors>(s: &mut S, place: Place) -> Result<bool, DiskFault>
 fn has_zero_table<S: Sectors>(s: &mut S, place: Place) -> Result<bool, DiskFault>
     requires place { IsPlace place }
     requires disk { place.sectors ≤ (S.state s.old).disk.size }
+    requires header { log_end (S.state s.old).header ≤ inode_bitmap }
     ensures tables { IfOk result (λ b. IsTrue b → HasWholeTables place (S.state s.old).sectors) }
     ensures zero { IfOk result (λ b. IsTrue b → (t : ℕ) → place.table ≤ t → t < place.first_data
         → (S.state s.old).sectors t ≡ replicate 512 0) }
@@ -156,6 +160,7 @@ fn may_be(place: Place, map: Bitmap, n: u32, taken: bool) -> bool
 fn has_bits<S: Sectors>(s: &mut S, place: Place, map: Bitmap) -> Result<bool, DiskFault>
     requires place { IsPlace place }
     requires disk { place.sectors ≤ (S.state s.old).disk.size }
+    requires header { log_end (S.state s.old).header ≤ inode_bitmap }
     ensures set { IfOk result (λ b. IsTrue b → (n : ℕ) → n < bit_count place map
         → (IsTrue (bit (S.state s.old).sectors (first_sector map) n) ↔ (IsNumber place map n → ⊥))) }
     ensures same { IsUnchanged (S.state s.old) (S.state s.new) }

@@ -3,6 +3,7 @@ use Rattle.std.proofs.lemmas.Bool.{leb-true, cases_lt}
 use Rattle.std.proofs.lemmas.List.FromFn.{length-range_with_len}
 use Rattle.fs_layout.specs.declared.place.Place.{Place}
 use Rattle.fs_layout.specs.Bytes.{SectorMap, zeros}
+use Rattle.fs_layout.specs.Header.{log_end}
 use Rattle.fs_layout.specs.Inode.{free_inode}
 use Rattle.fs_layout.specs.Place.{IsPlace}
 use Rattle.fs_layout.specs.Images.{HasWholeTables, inode_bitmap, block_bitmap, map_bits, bit, inode_at, Owns}
@@ -24,12 +25,12 @@ zero_there : (p : Place) (image : SectorMap) → IsPlace p → ((t : ℕ) → p.
 unfolding zeros
 zero_there p image place zero n lt = let i = in_table p n place lt in zero (p.table + n / 4) (omega arith) i.1
 
-blank_is_sound : (p : Place) (t : TxnState) → IsPlace p → p.sectors ≤ t.disk.size → HasWholeTables p t.sectors
+blank_is_sound : (p : Place) (t : TxnState) → IsPlace p → p.sectors ≤ t.disk.size → log_end t.header ≤ inode_bitmap → HasWholeTables p t.sectors
     → ((n : ℕ) → n < p.inodes → t.sectors (p.table + n / 4) ≡ zeros 512)
     → ((n : ℕ) → n < 4096 → IsTrue (bit t.sectors inode_bitmap n) ↔ (IsNumber p Inodes n → ⊥))
     → ((n : ℕ) → n < map_bits p → IsTrue (bit t.sectors block_bitmap n) ↔ (IsNumber p Blocks n → ⊥)) → IsSound p t
-blank_is_sound p t place disk whole zero inodes blocks =
-    sound_from p t (consistent_without_owners p t.sectors place whole (λ n lt. (free_where_zeros p t.sectors n (zero n lt)).1) none bits) disk outside
+blank_is_sound p t place disk header whole zero inodes blocks =
+    sound_from p t (consistent_without_owners p t.sectors place whole (λ n lt. (free_where_zeros p t.sectors n (zero n lt)).1) none bits) disk header outside
   where
     none : (n s : ℕ) → n < p.inodes → Owns t.sectors (inode_at p t.sectors n) s → ⊥
     none n s lt o =
@@ -63,7 +64,7 @@ returns-clause-sound g c = λ yes.
     let third = c.in_ok-blocks.ensures in
     let all = unchanged_joined (unchanged_joined first.same second.same) third.same in
     let last = unchanged_joined second.same third.same in
-    blank_is_sound p t3 c.requires.place (omega (arith, c.requires.disk, all.store.reads.narrowed.size))
+    blank_is_sound p t3 c.requires.place (omega (arith, c.requires.disk, all.store.reads.narrowed.size)) (omega (arith, c.requires.header, all.store.header))
     (subst (HasWholeTables p) (map_unchanged all) (first.tables c.if-not-zero.false))
     (subst (λ (image : SectorMap). (n : ℕ) → n < p.inodes → image (p.table + n / 4) ≡ zeros 512) (map_unchanged all)
     (zero_there p _ c.requires.place (first.zero c.if-not-zero.false)))
