@@ -1,2 +1,3 @@
 pub mod Mixed
+pub mod Small
 pub mod Writes

@@ -1,8 +1,9 @@
 //! What a stop leaves at each write and sync, how many of them there are, and what keeps a disk from being opened.
 
-ghost use Rattle.std.specs.Prelude.{◌≡◌, ◌≤◌, ◌<◌, ◌+◌, ℕ, IfOk, IfSome};
+ghost use Rattle.std.specs.Prelude.{◌≡◌, ◌≤◌, ◌<◌, ◌+◌, ℕ, length, IfOk, IfSome};
+ghost use Rattle.fs_layout.specs.declared.commit.TheConstants.{MAX_TARGETS};
 ghost use Rattle.redo_journal.specs.Batch.{IsOnDisk};
-ghost use Rattle.redo_journal.specs.States.{IsLogged, IsSealed};
+ghost use Rattle.redo_journal.specs.States.{IsLogged, IsSealed, header_at};
 
 use fs_layout::Commit;
 use redo_journal::{Batch, Journal, Logged, OpenFault, Sealed};
@@ -24,7 +25,8 @@ fn disk_with(alloc: Global, count: u8) -> Result<MemDisk, AllocError>
 
 // So many sectors from 200 on, whose bytes are 7, 8 and so on.
 fn batch_of(alloc: Global, count: u8) -> Result<Batch, AllocError>
-    ensures { IfOk result (λ batch. (size : ℕ) → 200 + count ≤ size → IsOnDisk size batch) }
+    ensures few { IfOk result (λ batch. length batch ≤ MAX_TARGETS) }
+    ensures on_disk { IfOk result (λ batch. (size : ℕ) → 200 + count ≤ size → IsOnDisk 0 size batch) }
 {
     let mut batch = Batch::new(alloc)?;
     for k in 0..count {
@@ -58,7 +60,9 @@ fn disk_after_logged<D: Disk>(logged: Logged<D>, batch: &Batch) -> D
 
 // The disk after a commit.
 fn disk_after<D: Disk>(journal: Journal<D>, batch: &Batch) -> D
-    requires { IsOnDisk (D.state journal).size batch.now }
+    requires header { header_at (D.state journal).seen ≡ 0 }
+    requires few { length batch.now ≤ MAX_TARGETS }
+    requires on_disk { IsOnDisk 0 (D.state journal).size batch.now }
     ensures { (D.state result).size ≡ (D.state journal).size }
 {
     match journal.log(batch) {
@@ -67,25 +71,41 @@ fn disk_after<D: Disk>(journal: Journal<D>, batch: &Batch) -> D
     }
 }
 
-// The disk after a commit of which so many writes and syncs pass.
-fn committed<D: CrashDisk + Drop>(disk: D, batch: &Batch, passes: u64) -> Option<D>
-    requires room { 128 ≤ (D.state disk).size }
-    requires on_disk { IsOnDisk (D.state disk).size batch.now }
-    ensures { IfSome result (λ after. (D.state after).size ≡ (D.state disk).size) }
+// A journal on a disk without a header.
+fn opened<D: Disk + Drop>(disk: D) -> Option<Journal<D>>
+    requires { 128 ≤ (D.state disk).size }
+    ensures header { IfSome result (λ journal. header_at (D.state journal).seen ≡ 0) }
+    ensures size { IfSome result (λ journal. (D.state journal).size ≡ (D.state disk).size) }
 {
     match Journal::open(disk) {
-        Ok(mut journal) => {
-            journal.arm(passes);
-            Some(disk_after(journal, batch))
+        Ok(journal) => {
+            if journal.header() == 0 {
+                Some(journal)
+            } else {
+                None
+            }
         }
         Err(_) => None,
     }
 }
 
+// The disk after a commit of which so many writes and syncs pass.
+fn committed<D: CrashDisk + Drop>(disk: D, batch: &Batch, passes: u64) -> Option<D>
+    requires room { 128 ≤ (D.state disk).size }
+    requires few { length batch.now ≤ MAX_TARGETS }
+    requires on_disk { IsOnDisk 0 (D.state disk).size batch.now }
+    ensures { IfSome result (λ after. (D.state after).size ≡ (D.state disk).size) }
+{
+    let mut journal = opened(disk)?;
+    journal.arm(passes);
+    Some(disk_after(journal, batch))
+}
+
 // The same, and a stop.
 fn stopped<D: CrashDisk + Drop>(disk: D, batch: &Batch, passes: u64, choice: &[u8]) -> Option<D>
     requires room { 128 ≤ (D.state disk).size }
-    requires on_disk { IsOnDisk (D.state disk).size batch.now }
+    requires few { length batch.now ≤ MAX_TARGETS }
+    requires on_disk { IsOnDisk 0 (D.state disk).size batch.now }
     ensures { IfSome result (λ after. (D.state after).size ≡ (D.state disk).size) }
 {
     let mut disk = committed(disk, batch, passes)?;
@@ -118,7 +138,8 @@ fn stopped_within_opening<D: CrashDisk>(disk: D, passes: u64, choice: &[u8]) -> 
 
 // The first bytes of sectors 200 and 201, if they are read.
 fn bytes_in<D: Disk>(journal: &mut Journal<D>) -> Option<(u8, u8)>
-    requires { 202 ≤ (D.state journal.old).size }
+    requires header { header_at (D.state journal.old).seen ≡ 0 }
+    requires room { 202 ≤ (D.state journal.old).size }
 {
     let mut first = [0; 512];
     let mut second = [0; 512];
@@ -133,10 +154,8 @@ fn bytes_in<D: Disk>(journal: &mut Journal<D>) -> Option<(u8, u8)>
 fn bytes_of<D: Disk + Drop>(disk: D) -> Option<(u8, u8)>
     requires { 202 ≤ (D.state disk).size }
 {
-    match Journal::open(disk) {
-        Ok(mut journal) => bytes_in(&mut journal),
-        Err(_) => None,
-    }
+    let mut journal = opened(disk)?;
+    bytes_in(&mut journal)
 }
 
 // What is read after a stop within a commit of which so many writes and syncs pass.
@@ -147,7 +166,8 @@ fn bytes_after_stop<D: CrashDisk + Drop>(
     choice: &[u8],
 ) -> Option<(u8, u8)>
     requires room { 202 ≤ (D.state disk).size }
-    requires on_disk { IsOnDisk (D.state disk).size batch.now }
+    requires few { length batch.now ≤ MAX_TARGETS }
+    requires on_disk { IsOnDisk 0 (D.state disk).size batch.now }
 {
     let disk = stopped(disk, batch, passes, choice)?;
     bytes_of(disk)
@@ -207,7 +227,8 @@ fn bytes_after_stops<D: CrashDisk + Drop>(
     later: &[u8],
 ) -> Option<(u8, u8)>
     requires room { 202 ≤ (D.state disk).size }
-    requires on_disk { IsOnDisk (D.state disk).size batch.now }
+    requires few { length batch.now ≤ MAX_TARGETS }
+    requires on_disk { IsOnDisk 0 (D.state disk).size batch.now }
 {
     let disk = stopped(disk, batch, passes, choice)?;
     let disk = stopped_within_opening(disk, openings.0, later);
@@ -278,7 +299,8 @@ fn bytes_after_fault<D: Disk + Drop>(disk: D) -> Option<(u8, u8)>
 
 // A disk whose batch is sealed: of its commit log and commit sector are written, and nothing more.
 fn sealed_disk(alloc: Global, batch: &Batch) -> Option<MemDisk>
-    requires { IsOnDisk 512 batch.now }
+    requires few { length batch.now ≤ MAX_TARGETS }
+    requires on_disk { IsOnDisk 0 512 batch.now }
     ensures { IfSome result (λ disk. (⟦<MemDisk as Disk>⟧.state disk).size ≡ 512) }
 {
     let passes = batch.len() as u64 + 3;
@@ -299,8 +321,8 @@ fn two_after_fault(alloc: Global, call: u64) -> Result<Option<(u8, u8)>, AllocEr
 
 #[test]
 fn a_fault_within_recovery_loses_nothing(rt: HostRuntime) -> Result<(), Fail> {
-    // Recovery of two sectors makes a sync and a read, two reads and writes, a sync, a write and a sync.
-    for call in 0..9 {
+    // Recovery of two sectors makes a sync and two reads, two reads and writes, a sync, a write and a sync.
+    for call in 0..10 {
         let found = two_after_fault(rt.alloc(), call)?;
         assert!(rt; found == Some((7, 8)), "{call}");
     }
@@ -344,7 +366,8 @@ fn a_disk_that_is_not_opened_is_given_back(rt: HostRuntime) -> Result<(), Fail> 
 // None of the writes and syncs of a commit fails where so many pass.
 fn is_committed<D: CrashDisk + Drop>(disk: D, batch: &Batch, passes: u64) -> bool
     requires room { 128 ≤ (D.state disk).size }
-    requires on_disk { IsOnDisk (D.state disk).size batch.now }
+    requires few { length batch.now ≤ MAX_TARGETS }
+    requires on_disk { IsOnDisk 0 (D.state disk).size batch.now }
 {
     match committed(disk, batch, passes) {
         Some(disk) => disk.failures() == 0,
@@ -362,7 +385,8 @@ fn is_opened<D: CrashDisk + Drop>(disk: D, passes: u64) -> bool
 
 // How many writes and syncs a commit makes: that many have to pass.
 fn commit_calls(alloc: Global, batch: &Batch) -> Option<u64>
-    requires { IsOnDisk 512 batch.now }
+    requires few { length batch.now ≤ MAX_TARGETS }
+    requires on_disk { IsOnDisk 0 512 batch.now }
 {
     for passes in 0..300 {
         if is_committed(disk_with(alloc, 0).ok()?, batch, passes) {
@@ -374,7 +398,8 @@ fn commit_calls(alloc: Global, batch: &Batch) -> Option<u64>
 
 // How many an opening makes once the batch is sealed.
 fn recovery_calls(alloc: Global, batch: &Batch) -> Option<u64>
-    requires { IsOnDisk 512 batch.now }
+    requires few { length batch.now ≤ MAX_TARGETS }
+    requires on_disk { IsOnDisk 0 512 batch.now }
 {
     for passes in 0..300 {
         if is_opened(sealed_disk(alloc, batch)?, passes) {
@@ -407,22 +432,19 @@ fn writes_and_syncs_are_counted(rt: HostRuntime) -> Result<(), Fail> {
 // What is read after a fault within a seal, once the disk is armed again.
 fn bytes_after_arming<D: CrashDisk + Drop>(disk: D, batch: &Batch) -> Option<(u8, u8)>
     requires room { 202 ≤ (D.state disk).size }
-    requires on_disk { IsOnDisk (D.state disk).size batch.now }
+    requires few { length batch.now ≤ MAX_TARGETS }
+    requires on_disk { IsOnDisk 0 (D.state disk).size batch.now }
 {
-    match Journal::open(disk) {
-        Ok(mut journal) => {
-            journal.arm(4);
-            match journal.log(batch) {
-                Ok(logged) => match logged.seal(batch) {
-                    Ok(_) => None,
-                    Err(mut broken) => {
-                        broken.arm(100);
-                        bytes_of(broken.into_disk())
-                    }
-                },
-                Err(_) => None,
+    let mut journal = opened(disk)?;
+    journal.arm(4);
+    match journal.log(batch) {
+        Ok(logged) => match logged.seal(batch) {
+            Ok(_) => None,
+            Err(mut broken) => {
+                broken.arm(100);
+                bytes_of(broken.into_disk())
             }
-        }
+        },
         Err(_) => None,
     }
 }

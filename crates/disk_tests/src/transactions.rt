@@ -1,7 +1,9 @@
 //! Transactions over disks that fail and stop, and callers as the layers above write them.
 
-ghost use Rattle.std.specs.Prelude.{◌≡◌, ◌≤◌, ◌<◌, ◌+◌, IfOk};
+ghost use Rattle.std.specs.Prelude.{◌≤◌, ◌<◌, ◌+◌, IfOk};
+ghost use Rattle.fs_layout.specs.Header.{log_end};
 ghost use Rattle.sector_txn.specs.Sectors.{SameStore};
+ghost use Rattle.disk_tests.specs.Small.{IsSmall, HasSmallMap};
 
 mod clients;
 
@@ -23,21 +25,26 @@ fn idle_disk(alloc: Global) -> Result<MemDisk, Fail> {
     Ok(disk)
 }
 
-// A journal on a disk of that size.
+// A journal on a disk of that size, without a header.
 fn opened_journal<D: Disk + Drop>(disk: D) -> Result<Journal<D>, Fail>
-    ensures { IfOk result (λ journal. (D.state journal).size ≡ 1024) }
+    ensures { IfOk result (λ journal. IsSmall (D.state journal)) }
 {
     if disk.size() != 1024 {
         return Err(Fail::new("another size"));
     }
     match Journal::open(disk) {
-        Ok(journal) => Ok(journal),
+        Ok(journal) => {
+            if journal.header() != 0 {
+                return Err(Fail::new("a header"));
+            }
+            Ok(journal)
+        }
         Err(_) => Err(Fail::new("not opened")),
     }
 }
 
 fn opened<D: Disk + Drop>(alloc: Global, disk: D) -> Result<Store<D>, Fail>
-    ensures { IfOk result (λ store. (D.state store.disk).size ≡ 1024) }
+    ensures { IfOk result (λ store. IsSmall (D.state store.disk)) }
 {
     match Store::new(alloc, opened_journal(disk)?) {
         Ok(store) => Ok(store),
@@ -47,7 +54,7 @@ fn opened<D: Disk + Drop>(alloc: Global, disk: D) -> Result<Store<D>, Fail>
 
 // Puts the sectors 200 + k for these k, each with the byte k + 7.
 fn put_some<S: Sectors>(s: &mut S, from: u8, to: u8)
-    requires { (S.state s.old).disk.size ≡ 1024 }
+    requires { HasSmallMap (S.state s.old) }
     ensures { SameStore (S.state s.old) (S.state s.new) }
 {
     for k in from..to {
@@ -58,9 +65,9 @@ fn put_some<S: Sectors>(s: &mut S, from: u8, to: u8)
     }
 }
 
-// The first byte of a sector from 128 on.
+// The first byte of a sector behind the log.
 fn byte_at<S: Sectors>(s: &mut S, n: u32) -> Result<u8, DiskFault>
-    requires part { 128 ≤ n }
+    requires part { log_end (S.state s.old).header ≤ n }
     requires on_disk { n < (S.state s.old).disk.size }
     ensures { SameStore (S.state s.old) (S.state s.new) }
 {
@@ -71,7 +78,7 @@ fn byte_at<S: Sectors>(s: &mut S, n: u32) -> Result<u8, DiskFault>
 
 // How many of so many sectors from 200 on are as `put_some` leaves them.
 fn count_put<S: Sectors>(s: &mut S, count: u8) -> Result<u8, DiskFault>
-    requires { (S.state s.old).disk.size ≡ 1024 }
+    requires { HasSmallMap (S.state s.old) }
     ensures { SameStore (S.state s.old) (S.state s.new) }
 {
     let mut found = 0u8;
@@ -85,7 +92,7 @@ fn count_put<S: Sectors>(s: &mut S, count: u8) -> Result<u8, DiskFault>
 
 // The same of a store.
 fn count_kept<D: Disk>(store: Store<D>, count: u8) -> (Result<u8, DiskFault>, Store<D>)
-    requires { (D.state store.disk).size ≡ 1024 }
+    requires { IsSmall (D.state store.disk) }
 {
     let mut txn = store.begin();
     let found = count_put(&mut txn, count);
@@ -107,8 +114,8 @@ fn count_lasting<D: CrashDisk + Drop>(
 
 // A transaction that has put these sectors.
 fn with_some<D: Disk>(store: Store<D>, from: u8, to: u8) -> Txn<D>
-    requires { (D.state store.disk).size ≡ 1024 }
-    ensures { (D.state result.disk).size ≡ 1024 }
+    requires { IsSmall (D.state store.disk) }
+    ensures { IsSmall (D.state result.disk) }
 {
     let mut txn = store.begin();
     put_some(&mut txn, from, to);
@@ -117,14 +124,14 @@ fn with_some<D: Disk>(store: Store<D>, from: u8, to: u8) -> Txn<D>
 
 // A store that has kept so many sectors.
 fn with_kept<D: Disk + Drop>(alloc: Global, disk: D, count: u8) -> Result<Store<D>, Fail>
-    ensures { IfOk result (λ store. (D.state store.disk).size ≡ 1024) }
+    ensures { IfOk result (λ store. IsSmall (D.state store.disk)) }
 {
     keep(with_some(opened(alloc, disk)?, 0, count))
 }
 
 fn keep<D: Disk + Drop>(txn: Txn<D>) -> Result<Store<D>, Fail>
-    requires { (D.state txn.disk).size ≡ 1024 }
-    ensures { IfOk result (λ store. (D.state store.disk).size ≡ 1024) }
+    requires { IsSmall (D.state txn.disk) }
+    ensures { IfOk result (λ store. IsSmall (D.state store.disk)) }
 {
     match txn.keep() {
         Ok(store) => Ok(store),
@@ -247,17 +254,17 @@ fn kept_and_flushed<D: Disk>(txn: Txn<D>) -> (bool, bool, D) {
 
 // Whether no change is kept and flushed where the disk's calls pass up to the first after the journal's opening.
 fn nothing_kept(alloc: Global) -> Result<(bool, bool), Fail> {
-    let idle = FuseDisk::new(idle_disk(alloc)?, 2);
+    let idle = FuseDisk::new(idle_disk(alloc)?, 3);
     let (kept, flushed, _) = kept_and_flushed(opened(alloc, idle)?.begin());
     Ok((kept, flushed))
 }
 
 #[test]
 fn a_failed_get_leaves_map_and_delta(rt: HostRuntime) -> Result<(), Fail> {
-    // Opening an idle journal makes a sync and a read; keeping one change makes no call, and flushing nothing none.
+    // Opening an idle journal makes a sync and two reads; keeping one change makes no call, and flushing nothing none.
     let seen = (
-        around_a_fault(rt.alloc(), FailOnce::new(idle_disk(rt.alloc())?, 2))?,
-        around_a_fault(rt.alloc(), FuseDisk::new(idle_disk(rt.alloc())?, 2))?,
+        around_a_fault(rt.alloc(), FailOnce::new(idle_disk(rt.alloc())?, 3))?,
+        around_a_fault(rt.alloc(), FuseDisk::new(idle_disk(rt.alloc())?, 3))?,
         nothing_kept(rt.alloc())?,
     );
     let wanted = (
@@ -392,7 +399,7 @@ fn read_twice<D: Disk + Drop>(alloc: Global, disk: D) -> Result<[bool; 5], Fail>
 
 // Whether a read of sector 200 is answered, and one of sector 201.
 fn read_both<D: Disk + Drop>(store: Store<D>) -> (bool, bool)
-    requires { (D.state store.disk).size ≡ 1024 }
+    requires { IsSmall (D.state store.disk) }
 {
     let mut txn = store.begin();
     let seen = (
@@ -405,13 +412,13 @@ fn read_both<D: Disk + Drop>(store: Store<D>) -> (bool, bool)
 
 #[test]
 fn a_sector_is_read_once_until_it_changes(rt: HostRuntime) -> Result<(), Fail> {
-    // How many calls the disk answers; two of them open the journal, and a commit of one sector makes 8.
+    // How many calls the disk answers; three of them open the journal, and a commit of one sector makes 8.
     for (calls, want) in [
-        (2, [false, false, false, false, false]),
-        (3, [true, true, false, false, false]),
-        (4, [true, true, true, false, false]),
-        (12, [true, true, true, false, true]),
-        (13, [true, true, true, true, true]),
+        (3, [false, false, false, false, false]),
+        (4, [true, true, false, false, false]),
+        (5, [true, true, true, false, false]),
+        (13, [true, true, true, false, true]),
+        (14, [true, true, true, true, true]),
     ] {
         let found = read_twice(rt.alloc(), FuseDisk::new(idle_disk(rt.alloc())?, calls))?;
         assert!(rt; found == want, "{calls}");

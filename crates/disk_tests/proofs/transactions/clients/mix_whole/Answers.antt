@@ -1,45 +1,70 @@
-use Rattle.std.proofs.Common.{◌≡◌, ◌∙◌, ℕ, eqb, ap, sym, subst, inl, inr}
+use Rattle.std.proofs.Common.{◌≡◌, ◌≤◌, ◌∙◌, ℕ, eqb, arith, ap, refl, sym, subst, inl, inr}
 use Rattle.std.specs.Prelude.{slice_set, slice_index}
 use Rattle.std.proofs.lemmas.Bool.{cases_eq, cond-true, cond-false, eq-eqb, ne_eqb}
 use Rattle.std.proofs.lemmas.Result.{IfOk-weaker}
 use Rattle.fs_layout.specs.Bytes.{SectorMap}
+use Rattle.fs_layout.specs.Header.{header_of}
 use Rattle.redo_journal.specs.Meaning.{IsMapped, SameMap}
+use Rattle.redo_journal.specs.States.{header_at}
+use Rattle.redo_journal.proofs.Meaning.{mapped_by, same_chain}
+use Rattle.sector_disk.specs.Disk.{DiskState}
 use Rattle.sector_txn.specs.Images.{LeavesOneOf}
 use Rattle.disk_tests.specs.Mixed.{mixed_content, with_mixed}
-use Rattle.sector_txn.specs.Stores.{present, map_now, disk_after}
+use Rattle.sector_txn.specs.Stores.{StoreView, TxnView, present, map_before, map_now, txn_state, disk_after}
 use Rattle.sector_txn.proofs.Images.{after_reads, maps_same, nothing_left}
 use Rattle.disk_tests.proofs.transactions.clients.mix_whole.Goals as goal
 
-mixed_same : (old from now : SectorMap) (first second at : ℕ) → IsMapped first → IsMapped second → SameMap from old → now at ≡ mixed_content from first second
-    → ((n : ℕ) → (n ≡ at → ⊥) → now n ≡ from n) → SameMap now (with_mixed old first second at)
-mixed_same old from now first second at first_part second_part same here others n part =
+-- the map with the mixed content tells the same header
+mixed_super : (old : SectorMap) (first second at : ℕ) → 1 ≤ at → with_mixed old first second at 0 ≡ old 0
+mixed_super old first second at behind = cond-false (eqb 0 at) (mixed_content old first second) (old 0) (ne_eqb 0 at (λ e. omega (arith, e, behind)))
+
+mixed_same : (old from now : SectorMap) (header first second at : ℕ) → header ≡ header_of (old 0) → IsMapped header first → IsMapped header second → 1 ≤ at → SameMap from old
+    → now at ≡ mixed_content from first second → ((n : ℕ) → (n ≡ at → ⊥) → now n ≡ from n) → SameMap now (with_mixed old first second at)
+mixed_same old from now header first second at tells first_part second_part behind same here others n part =
     let content = mixed_content old first second in
+    let mapped = mapped_by (with_mixed old first second at) old n (mixed_super old first second at behind) part in
+    let at_first = same first (subst (λ h. IsMapped h first) tells first_part) in
+    let at_second = same second (subst (λ h. IsMapped h second) tells second_part) in
     elim (cases_eq n at) [
       | inl is ↦
           ap now is
           ∙ here
-          ∙ (λ i. slice_set (same first first_part i) 0 (slice_index (same second second_part i) 0))
+          ∙ (λ i. slice_set (at_first i) 0 (slice_index (at_second i) 0))
           ∙ sym (cond-true (eqb n at) content (old n) (eq-eqb n at is))
-      | inr other ↦ others n other ∙ same n part ∙ sym (cond-false (eqb n at) content (old n) (ne_eqb n at other))
+      | inr other ↦ others n other ∙ same n mapped ∙ sym (cond-false (eqb n at) content (old n) (ne_eqb n at other))
     ]
+
+-- a transaction that begins has the header that the store's map tells
+tells_header : {D : Type 0} (state : D → DiskState) (store : StoreView D) (begun : TxnView D) → begun.disk ≡ store.disk → SameMap (map_now state begun) (present state store)
+    → (txn_state state begun).header ≡ header_of (map_now state begun 0) → header_at (state store.disk).seen ≡ header_of (present state store 0)
+tells_header state store begun disk map header =
+    ap (λ (d : _). header_at (state d).seen) (sym disk) ∙ header ∙ ap header_of (map 0 (inl refl))
 
 pub returns-in-Ok-clause-map : goal.returns-in-Ok-clause-map
 returns-in-Ok-clause-map g c =
     let state = g.D.Disk.state in
-    let after = mixed_same (present state c.args.store) (map_now state c.begin-txn.result) (map_now state c.mix.new.s) c.args.first c.args.second c.args.at
-    c.requires.first.0 c.requires.second.0 c.begin-txn.ensures.map c.in-Ok.ensures.written c.in-Ok.ensures.changes.others in
-    IfOk-weaker c.keep.result _ _ (λ store is. inr (λ n part. is n part ∙ after n part)) c.keep.ensures.map
+    let old = present state c.args.store in
+    let began = c.begin-txn.ensures in
+    let tells = tells_header state c.args.store c.begin-txn.result began.disk began.map began.header in
+    let after = mixed_same old (map_now state c.begin-txn.result) (map_now state c.mix.new.s) _ c.args.first c.args.second c.args.at tells
+    c.requires.first.0 c.requires.second.0 (omega (arith, c.requires.at.0)) began.map c.in-Ok.ensures.written c.in-Ok.ensures.changes.others in
+    IfOk-weaker c.keep.result _ _
+    (λ store is. inr (same_chain (present state store) (map_now state c.mix.new.s) (with_mixed old c.args.first c.args.second c.args.at) is after)) c.keep.ensures.map
 
 pub returns-in-Err-clause-map : goal.returns-in-Err-clause-map
-returns-in-Err-clause-map g c = inl (λ n part. c.drop_delta.ensures.map n part ∙ c.in-Err.ensures.store.before n ∙ c.begin-txn.ensures.before n part)
+returns-in-Err-clause-map g c =
+    let state = g.D.Disk.state in
+    inl (same_chain (present state c.drop_delta.result) (map_before state c.mix.new.s) (present state c.args.store) c.drop_delta.ensures.map
+    (λ n part. c.in-Err.ensures.store.before n ∙ c.begin-txn.ensures.before n part))
 
 pub returns-in-Ok-clause-images : goal.returns-in-Ok-clause-images
 returns-in-Ok-clause-images g c =
     let state = g.D.Disk.state in
     let old = present state c.args.store in
     let began = c.begin-txn.ensures in
-    let after = mixed_same old (map_now state c.begin-txn.result) (map_now state c.mix.new.s) c.args.first c.args.second c.args.at
-    c.requires.first.0 c.requires.second.0 began.map c.in-Ok.ensures.written c.in-Ok.ensures.changes.others in
+    let tells = tells_header state c.args.store c.begin-txn.result began.disk began.map began.header in
+    let after = mixed_same old (map_now state c.begin-txn.result) (map_now state c.mix.new.s) _ c.args.first c.args.second c.args.at tells
+    c.requires.first.0 c.requires.second.0 (omega (arith, c.requires.at.0)) began.map c.in-Ok.ensures.written c.in-Ok.ensures.changes.others in
     subst (λ disk. LeavesOneOf old (with_mixed old c.args.first c.args.second c.args.at) (state disk) (state (disk_after c.keep.result))) began.disk
     (after_reads (g.met.D.Disk.only_now c.begin-txn.result.disk) c.in-Ok.ensures.store.reads
     (maps_same (λ n part. c.in-Ok.ensures.store.before n ∙ began.before n part) after c.keep.ensures.images))
