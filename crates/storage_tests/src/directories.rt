@@ -1,8 +1,9 @@
 //! Calls on directories of a few names and of many, with what each reads and puts.
 
 ghost use Rattle.std.specs.Prelude.{◌≡◌, ◌≤◌, ◌<◌, ℕ, List, IfOk, OnOk};
+ghost use Rattle.fs_layout.specs.Header.{log_end};
 ghost use Rattle.fs_layout.specs.Place.{IsPlace};
-ghost use Rattle.fs_layout.specs.Images.{inode_at};
+ghost use Rattle.fs_layout.specs.Images.{inode_at, inode_bitmap};
 ghost use Rattle.fs_layout.specs.Directories.{IsName, HasNames};
 ghost use Rattle.bit_alloc.specs.Inodes.{IsSound};
 ghost use Rattle.bit_alloc.specs.Room.{HasSpare};
@@ -135,6 +136,7 @@ fn seen_on_blank<S: Sectors>(
 ) -> Result<Seen, Fail>
     requires place { IsPlace place }
     requires disk { place.sectors ≤ (S.state s.old.inner).disk.size }
+    requires header { log_end (S.state s.old.inner).header ≤ inode_bitmap }
 {
     let (count, call, i, _) = *row;
     put_blank(s, place);

@@ -1,6 +1,8 @@
 //! A map on a new disk in memory, and the ACLs of its inodes.
 
 ghost use Rattle.std.specs.Prelude.{◌≤◌, IfOk};
+ghost use Rattle.fs_layout.specs.Header.{log_end};
+ghost use Rattle.fs_layout.specs.Images.{inode_bitmap};
 ghost use Rattle.fs_layout.specs.Place.{IsPlace};
 
 use blank_map::{Counted, idle_store};
@@ -20,6 +22,7 @@ pub(super) fn map_of_version(
 ) -> Result<(Place, Counted<Txn<MemDisk>>), Fail>
     ensures place { IfOk result (λ map. IsPlace map.0) }
     ensures disk { IfOk result (λ map. map.0.sectors ≤ (⟦<Txn<MemDisk> as Sectors>⟧.state map.1.inner).disk.size) }
+    ensures header { IfOk result (λ map. log_end (⟦<Txn<MemDisk> as Sectors>⟧.state map.1.inner).header ≤ inode_bitmap) }
 {
     let superblock = Super {
         version,
@@ -42,6 +45,7 @@ pub(super) fn new_map(
 ) -> Result<(Place, Counted<Txn<MemDisk>>), Fail>
     ensures place { IfOk result (λ map. IsPlace map.0) }
     ensures disk { IfOk result (λ map. map.0.sectors ≤ (⟦<Txn<MemDisk> as Sectors>⟧.state map.1.inner).disk.size) }
+    ensures header { IfOk result (λ map. log_end (⟦<Txn<MemDisk> as Sectors>⟧.state map.1.inner).header ≤ inode_bitmap) }
 {
     map_of_version(alloc, Version::NEWEST, sectors, inodes)
 }

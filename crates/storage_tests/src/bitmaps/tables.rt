@@ -2,8 +2,9 @@
 
 ghost use Rattle.std.specs.Prelude.{◌≡◌, ◌≤◌, ◌<◌, ◌*◌, ℕ, IfOk, OnOk, IsTrue, ◌↔◌};
 ghost use Rattle.fs_layout.specs.Bytes.{IsBytes};
+ghost use Rattle.fs_layout.specs.Header.{log_end};
 ghost use Rattle.fs_layout.specs.Place.{IsPlace};
-ghost use Rattle.fs_layout.specs.Images.{HasWholeTables, bit};
+ghost use Rattle.fs_layout.specs.Images.{HasWholeTables, bit, inode_bitmap};
 ghost use Rattle.sector_txn.specs.Sectors.{SameStore, IsUnchanged};
 ghost use Rattle.bit_alloc.specs.Bitmaps.{first_sector, bit_count, IsNumber, HasBitmaps};
 ghost use Rattle.bit_alloc.specs.Room.{HasSpare};
@@ -48,6 +49,7 @@ fn sectors(place: Place, map: Bitmap) -> u32
 pub(super) fn put_all_but<S: Sectors>(s: &mut S, place: Place, map: Bitmap, clear: &[u32])
     requires place { IsPlace place }
     requires disk { place.sectors ≤ (S.state s.old).disk.size }
+    requires header { log_end (S.state s.old).header ≤ inode_bitmap }
     ensures { SameStore (S.state s.old) (S.state s.new) }
 {
     for k in 0..sectors(place, map) {
@@ -74,6 +76,7 @@ fn sector_without(k: u32, clear: &[u32]) -> [u8; 512] {
 pub(super) fn is_ready<S: Sectors>(s: &mut S, place: Place) -> Result<bool, DiskFault>
     requires place { IsPlace place }
     requires disk { place.sectors ≤ (S.state s.old).disk.size }
+    requires header { log_end (S.state s.old).header ≤ inode_bitmap }
     ensures bitmaps { IfOk result (λ b. IsTrue b → HasBitmaps place (S.state s.new)) }
     ensures room { IfOk result (λ b. IsTrue b → HasSpare place 0 (S.state s.new)) }
 {
@@ -93,6 +96,7 @@ pub(super) fn is_ready<S: Sectors>(s: &mut S, place: Place) -> Result<bool, Disk
 fn read_tables<S: Sectors>(s: &mut S, place: Place) -> Result<(), DiskFault>
     requires place { IsPlace place }
     requires disk { place.sectors ≤ (S.state s.old).disk.size }
+    requires header { log_end (S.state s.old).header ≤ inode_bitmap }
     ensures tables { OnOk result (HasWholeTables place (S.state s.new).sectors) }
     ensures same { IsUnchanged (S.state s.old) (S.state s.new) }
 {
@@ -115,6 +119,7 @@ fn tell_bytes(bytes: &[u8])
 fn has_rest_set<S: Sectors>(s: &mut S, place: Place, map: Bitmap) -> Result<bool, DiskFault>
     requires place { IsPlace place }
     requires disk { place.sectors ≤ (S.state s.old).disk.size }
+    requires header { log_end (S.state s.old).header ≤ inode_bitmap }
     ensures set { IfOk result (λ b. IsTrue b → (n : ℕ) → n < bit_count place map → (IsNumber place map n → ⊥)
         → IsTrue (bit (S.state s.new).sectors (first_sector map) n)) }
     ensures same { IsUnchanged (S.state s.old) (S.state s.new) }

@@ -1,8 +1,9 @@
 //! The life of an inode, with what each call reads and puts.
 
 ghost use Rattle.std.specs.Prelude.{◌≡◌, ◌≤◌, ◌<◌, [], IfOk, OnOk};
+ghost use Rattle.fs_layout.specs.Header.{log_end};
 ghost use Rattle.fs_layout.specs.Place.{IsPlace};
-ghost use Rattle.fs_layout.specs.Images.{Holds, inode_at};
+ghost use Rattle.fs_layout.specs.Images.{Holds, inode_at, inode_bitmap};
 ghost use Rattle.fs_layout.specs.Inode.{FitsInode};
 ghost use Rattle.bit_alloc.specs.declared.bitmap.Bitmap.TheVariants.{Inodes};
 ghost use Rattle.bit_alloc.specs.Bitmaps.{IsNumber};
@@ -228,6 +229,7 @@ fn life_on_blank<S: Sectors>(
 ) -> Result<Life, Fail>
     requires place { IsPlace place }
     requires disk { place.sectors ≤ (S.state s.old.inner).disk.size }
+    requires header { log_end (S.state s.old.inner).header ≤ inode_bitmap }
 {
     put_blank(s, place);
     if !is_blank(s, place)? {

@@ -27,6 +27,7 @@ returns-clause-bitmaps g c = λ yes.
     record {
       place = c.requires.place;
       disk = omega (arith, c.requires.disk, whole.store.reads.narrowed.size);
+      header = omega (arith, c.requires.header, whole.store.header);
       tables = subst (HasWholeTables c.args.place) (map_unchanged (unchanged_joined first.same second.same)) read.tables;
       rest = rest_of c.args.place (g.S.Sectors.state c.has_rest_set.new.s).sectors (g.S.Sectors.state c.has_rest_set-2.new.s).sectors (map_unchanged second.same)
           (first.set c.if-not-inodes.false) (second.set c.if-not-blocks.false);
