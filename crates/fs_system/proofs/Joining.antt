@@ -10,7 +10,7 @@ use Rattle.fs_layout.specs.Recovered.{recovered}
 use Rattle.fs_layout.proofs.Agree.{same_agrees}
 use Rattle.fs_layout.proofs.Bits.{bit_kept, free_sectors_kept}
 use Rattle.fs_layout.proofs.Places.{place_is_place}
-use Rattle.fs_layout.proofs.RecoveryLaw.{recovered-low}
+use Rattle.fs_layout.proofs.RecoveryLaw.{log_before_bitmaps, recovered-super}
 use Rattle.redo_journal.specs.Meaning.{SameMap, ReadsAs, MeansAs, EachReadsAs}
 use Rattle.sector_txn.specs.Images.{IsOneOf, LeavesOneOf}
 use Rattle.fs_model.specs.Trees.{Tree, Room, IsTree}
@@ -34,7 +34,8 @@ holds_same size p old new t free same disk h =
     let place = place_is_place _ size disk.super.inodes disk.has_place in
     let least = place.least_sectors in
     let most = place.most_sectors in
-    let each : (s : ℕ) → 128 ≤ s → s < p.sectors → new s ≡ old s = λ s past low. same s (inr past) in
+    let log = log_before_bitmaps disk.super (old 0) disk.super_fits disk.super_is in
+    let each : (s : ℕ) → 128 ≤ s → s < p.sectors → new s ≡ old s = λ s past low. same s (inr (omega (arith, log, past))) in
     let bits : free_sectors p new ≡ free_sectors p old =
     free_sectors_kept p old new (λ s at. bit_kept old new block_bitmap s (let to = at.1 in each (block_bitmap + s / 4096) (omega arith) (omega (arith, to, least, most)))) in
     record {
@@ -60,7 +61,7 @@ stands_for size p map t free image disk h reads =
     subst (λ n. Stands n (sector image) (room_of p) t free) (sym reads.whole) (record {
       super = disk.super;
       place = p;
-      super_is = sym (recovered-low size (sector image) 0 (omega arith)) ∙ reads.reads 0 (inl refl) ∙ disk.super_is;
+      super_is = sym (recovered-super size (sector image)) ∙ reads.reads 0 (inl refl) ∙ disk.super_is;
       super_fits = disk.super_fits;
       same_size = disk.same_size;
       has_place = disk.has_place;
@@ -76,7 +77,7 @@ module _ (size : ℕ) (image : SectorMap) (room : Room) (t : Tree) (free : ℕ) 
   pub disk_of_standing : IsDiskOf size st.place (recovered size image)
   disk_of_standing = record {
     super = st.super;
-    super_is = recovered-low size image 0 (omega arith) ∙ st.super_is;
+    super_is = recovered-super size image ∙ st.super_is;
     super_fits = st.super_fits;
     same_size = st.same_size;
     has_place = st.has_place;

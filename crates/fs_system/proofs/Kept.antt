@@ -5,6 +5,8 @@ use Rattle.fs_layout.specs.declared.place.Place.{Place}
 use Rattle.fs_cred.specs.declared.errno.Errno.TheVariants.{EIO}
 use Rattle.fs_cred.specs.declared.refusal.Refusal.TheVariants.{Failed}
 use Rattle.redo_journal.specs.Meaning.{SameMap}
+use Rattle.fs_layout.specs.Header.{header_of, max_delta}
+use Rattle.redo_journal.proofs.Meaning.{same_back, same_chain}
 use Rattle.sector_txn.specs.Images.{LeavesOneOf}
 use Rattle.sector_txn.specs.Sectors.{SameStore}
 use Rattle.sector_txn.specs.Stores.{StoreView, TxnView, present, map_before, map_now, txn_state}
@@ -45,10 +47,11 @@ module _ {D : Type 0} (state : D → DiskState) (store : StoreView D) (begun : T
 module _ {D : Type 0} (state : D → DiskState) (p : Place) (store : StoreView D) (desks : Desks) (begun : TxnView D) (disk : begun.disk ≡ store.disk)
     (map : SameMap (map_now state begun) (present state store)) (before : SameMap (map_before state begun) (present state store)) where
   -- the event may be performed
-  pub begins : (s : State) → IsRunning (state store.disk).size p (present state store) desks s → (txn_state state begun).room ≡ 64
+  pub begins : (s : State) → IsRunning (state store.disk).size p (present state store) desks s
+      → (txn_state state begun).header ≡ header_of ((txn_state state begun).sectors 0) → (txn_state state begun).room ≡ max_delta (txn_state state begun).header
       → IsReady p (txn_state state begun) desks
-  begins s r room =
-      begins_ready p (txn_state state begun) desks s room
+  begins s r header room =
+      begins_ready p (txn_state state begun) desks s header room
       (running_same (state store.disk).size (state begun.disk).size p (present state store) (map_now state begun) desks desks s (ap (λ d. (state d).size) disk) map refl r)
 
   -- the map is of the state that the store was in
@@ -57,6 +60,13 @@ module _ {D : Type 0} (state : D → DiskState) (p : Place) (store : StoreView D
       (running_same (state store.disk).size (state store.disk).size p (present state store) (map_now state begun) desks desks s refl map refl r).state_of
 
   module _ (last : TxnView D) (same : SameStore (txn_state state begun) (txn_state state last)) where
+    -- it began with the store's map
+    before_is_store : SameMap (map_before state last) (present state store)
+    before_is_store n part = same.before n ∙ before n part
+
+    before_is_begun : SameMap (map_before state last) (map_now state begun)
+    before_is_begun = same_chain (map_before state last) (present state store) (map_now state begun) before_is_store (same_back (map_now state begun) (present state store) map)
+
     -- one was performed
     module _ (s : State) (r : IsRunning (state store.disk).size p (present state store) desks s)
         (only_now : (image : Image) → (state store.disk).left_since (state store.disk).moment image → IsImage (state store.disk) image)
@@ -67,7 +77,7 @@ module _ {D : Type 0} (state : D → DiskState) (p : Place) (store : StoreView D
 
       run : (new : DiskState) → LeavesOneOf (map_before state last) (map_now state last) (state last.disk) new
           → LeavesOneOf (map_now state begun) (map_now state last) (state last.disk) new
-      run new images = maps_same (λ n part. same.before n ∙ before n part ∙ sym (map n part)) (λ n part. refl) images
+      run new images = maps_same before_is_begun (λ n part. refl) images
 
       -- its changes were kept
       pub kept_does : (after : StoreView D) → SameMap (present state after) (map_now state last)
@@ -102,8 +112,8 @@ module _ {D : Type 0} (state : D → DiskState) (p : Place) (store : StoreView D
         → IsRunning (state after.disk).size p (present state after) now s
     runs_on after dropped back s r now tabled =
         running_same (state store.disk).size (state after.disk).size p (present state store) (present state after) desks now s
-        (reads_alone state store begun disk before last same after.disk dropped).narrowed.size (λ n part. back n part ∙ same.before n ∙ before n part) tabled r
+        (reads_alone state store begun disk before last same after.disk dropped).narrowed.size (same_chain (present state after) (map_before state last) (present state store) back before_is_store) tabled r
 
     -- and its map is that with which the transaction began
     pub begun_again : (after : StoreView D) → SameMap (present state after) (map_before state last) → SameMap (present state after) (map_now state begun)
-    begun_again after back n part = back n part ∙ same.before n ∙ before n part ∙ sym (map n part)
+    begun_again after back = same_chain (present state after) (map_before state last) (map_now state begun) back before_is_begun

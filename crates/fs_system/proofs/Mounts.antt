@@ -19,7 +19,7 @@ use Rattle.fs_model.proofs.StepsSwept.{left_is_state, tree_may_be_left}
 use Rattle.fs_model.proofs.Swept.{pruned_is_tree}
 use Rattle.fs_model.proofs.Taken.{count_may_be_free}
 use Rattle.fs_system.specs.Layouts.{IsDiskOf}
-use Rattle.redo_journal.proofs.Meaning.{data_stays}
+use Rattle.redo_journal.proofs.Meaning.{data_stays, same_chain}
 use Rattle.sector_txn.specs.Stores.{StoreView, present}
 use Rattle.fs_system.specs.Mounts.{IsMounted, Mounts, FailsToMount}
 use Rattle.fs_system.specs.Mounting.{StandsAsBefore, IsSystem}
@@ -154,7 +154,8 @@ module _ {D : Type 0} (state : D → DiskState) (disk read : D) (store : StoreVi
   pub opened_tree : HasTree place (present state store) (state store.disk) was.1
   opened_tree =
       has_tree (state disk) seen.size was.0 was.1 was.2 was.3 (state store.disk) (size ∙ same.narrowed.size) (present state store)
-      (λ n part. map n part ∙ data_stays (state disk) (state read) same.narrowed n) lasting place at
+      (same_chain (present state store) (data_of (state read)) (data_of (state disk)) map (λ n part. data_stays (state disk) (state read) same.narrowed n))
+      lasting place at
 
   -- at any moment
   pub swept_moments : (new : DiskState) → LeavesOnly (state disk) (state store.disk) (StandsAsBefore (state disk))

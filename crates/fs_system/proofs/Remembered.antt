@@ -10,6 +10,7 @@ use Rattle.fs_layout.specs.Superblock.{FitsSuper, super_bytes, super_of}
 use Rattle.fs_layout.proofs.SuperLaw.{super_codec}
 use Rattle.fs_layout.proofs.Codecs.{same_spelling}
 use Rattle.redo_journal.specs.Meaning.{SameMap}
+use Rattle.redo_journal.proofs.Meaning.{same_back}
 use Rattle.fs_model.specs.Processes.{Desks}
 use Rattle.fs_model.specs.States.{State}
 use Rattle.fs_model.specs.Trees.{Room, free_inodes}
@@ -43,8 +44,8 @@ counted_tells size p map desks s r free all clear = record {
 -- It is so of the same map.
 pub tells_after : (size size' : ℕ) (old new : SectorMap) (free : FreeSpace) → size' ≡ size → SameMap new old → TellsSpace size old free → TellsSpace size' new free
 tells_after size size' old new free sized same told = record {
-  sectors = λ p desks s r. told.sectors p desks s (running_same size' size p new old desks desks s (sym sized) (λ n part. sym (same n part)) refl r);
-  inodes = λ p desks s r. told.inodes p desks s (running_same size' size p new old desks desks s (sym sized) (λ n part. sym (same n part)) refl r);
+  sectors = λ p desks s r. told.sectors p desks s (running_same size' size p new old desks desks s (sym sized) (same_back new old same) refl r);
+  inodes = λ p desks s r. told.inodes p desks s (running_same size' size p new old desks desks s (sym sized) (same_back new old same) refl r);
 }
 
 pub remembered_after : (size size' : ℕ) (old new : SectorMap) (free : Option FreeSpace) → size' ≡ size → SameMap new old → IsRemembered size old free

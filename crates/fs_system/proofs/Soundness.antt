@@ -1,10 +1,11 @@
 -- The map of a disk that stands for a tree is sound.
-use Rattle.std.proofs.Common.{◌≡◌, ℕ, ◌<◌, ◌≤◌, length, Bool, true, false, ◌||◌, nat_eq, sym, ap, subst, ◌∙◌, arith, inl, inr, ◌⊎◌, IsTrue}
+use Rattle.std.proofs.Common.{◌≡◌, ℕ, ◌<◌, ◌≤◌, length, Bool, true, false, ◌||◌, nat_eq, refl, sym, ap, subst, ◌∙◌, arith, inl, inr, ◌⊎◌, IsTrue}
 use Rattle.std.specs.Prelude.{nat_le, Option, None, Some, is_some}
 use Rattle.std.proofs.lemmas.Bool.{eq-eqb, le-leb, or_parts}
 use Rattle.sector_disk.specs.Disk.{DiskState, sector}
 use Rattle.fs_layout.specs.declared.place.Place.{Place}
 use Rattle.fs_layout.specs.Bytes.{SectorMap}
+use Rattle.fs_layout.specs.Header.{header_of, log_end}
 use Rattle.fs_layout.specs.Place.{place_in}
 use Rattle.fs_layout.specs.Inode.{free_inode}
 use Rattle.fs_layout.specs.Images.{bit, inode_bitmap, inode_at}
@@ -12,7 +13,9 @@ use Rattle.fs_layout.specs.Ownership.{IsConsistent, Agrees}
 use Rattle.fs_layout.specs.Recovered.{recovered}
 use Rattle.fs_layout.proofs.Agree.{same_agrees, agree_consistent, agree_inode, agree_inode_bit, agree_block_bit}
 use Rattle.fs_layout.proofs.Places.{place_is_laid_out}
+use Rattle.fs_layout.proofs.RecoveryLaw.{log_before_bitmaps}
 use Rattle.redo_journal.specs.Meaning.{SameMap, data_of}
+use Rattle.redo_journal.proofs.Meaning.{data_super}
 use Rattle.sector_txn.specs.Sectors.{TxnState}
 use Rattle.bit_alloc.specs.Inodes.{IsSound}
 use Rattle.bit_alloc.specs.declared.bitmap.Bitmap.TheVariants.{Inodes, Blocks}
@@ -38,8 +41,8 @@ module _ (p : Place) (image : SectorMap) (what : ℕ → Option Placed) (holds :
   -- as a transaction that has put nothing shows it
   pub held_rest : (disk : DiskState) → p.sectors ≤ disk.size → HasRestSet p image
   held_rest disk size =
-      let txn : TxnState = record { sectors = image; before = image; has_put = λ n. false; room = 64; disk = disk } in
-      (sound_from p txn holds.consistent size outside_set).bitmaps.rest
+      let txn : TxnState = record { sectors = image; before = image; has_put = λ n. false; room = 64; header = 0; disk = disk } in
+      (sound_from p txn holds.consistent size (omega arith) outside_set).bitmaps.rest
 
   free_where_none : (n : ℕ) (o : Option Placed) → is_some o ≡ false → HoldsPlaced p image n o → inode_at p image n ≡ free_inode
   free_where_none n None none is = is
@@ -68,15 +71,16 @@ standing_is_sound room t free disk len stands =
           ∙ ap (place_in stands.super.version (length disk.seen)) (sym inodes)
           ∙ stands.has_place;
       sectors = size;
+      log = log_before_bitmaps stands.super (data_of disk 0) stands.super_fits (data_super disk ∙ stands.super_is);
       consistent = holds.consistent;
       rest = held_rest stands.place (data_of disk) (placed t) holds disk size;
       clear = held_clear stands.place (data_of disk) (placed t) holds;
     }
 
 -- ---- maps that agree from the bitmaps on
-module _ (p : Place) (old new : SectorMap) (consistent : IsConsistent p old) (same : SameMap new old) where
+module _ (p : Place) (old new : SectorMap) (consistent : IsConsistent p old) (log : log_end (header_of (old 0)) ≤ inode_bitmap) (same : SameMap new old) where
   agrees : Agrees p old new
-  agrees = same_agrees consistent.place (λ s past low. same s (inr past))
+  agrees = same_agrees consistent.place (λ s past low. same s (inr (omega (arith, log, past))))
 
   pub consistent_same : IsConsistent p new
   consistent_same = agree_consistent consistent agrees
@@ -92,13 +96,14 @@ module _ (p : Place) (old new : SectorMap) (consistent : IsConsistent p old) (sa
 
 -- a transaction that shows a sound disk
 pub shown_is_sound : (p : Place) (disk : DiskState) (txn : TxnState) → IsSoundDisk p disk → SameMap txn.sectors (data_of disk) → disk.size ≤ txn.disk.size
-    → IsSound p txn × ClearAreFree p txn.sectors
-shown_is_sound p disk txn sound same size =
-    let consistent = consistent_same p (data_of disk) txn.sectors sound.consistent same in
+    → txn.header ≡ header_of (txn.sectors 0) → IsSound p txn × ClearAreFree p txn.sectors
+shown_is_sound p disk txn sound same size header =
+    let consistent = consistent_same p (data_of disk) txn.sectors sound.consistent sound.log same in
     let bitmaps : HasBitmaps p txn = record {
       place = consistent.place;
       disk = omega (arith, sound.sectors, size);
+      header = omega (arith, header, ap header_of (same 0 (inl refl)), sound.log);
       tables = consistent.sectors;
-      rest = rest_same p (data_of disk) txn.sectors sound.consistent same sound.rest;
+      rest = rest_same p (data_of disk) txn.sectors sound.consistent sound.log same sound.rest;
     } in
-    (record { consistent = consistent; bitmaps = bitmaps }, clear_same p (data_of disk) txn.sectors sound.consistent same sound.clear)
+    (record { consistent = consistent; bitmaps = bitmaps }, clear_same p (data_of disk) txn.sectors sound.consistent sound.log same sound.clear)

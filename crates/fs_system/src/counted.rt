@@ -1,6 +1,7 @@
 //! A store that remembers how much is free in it, once that was counted.
 
 ghost use Rattle.std.specs.Prelude.{◌≡◌, ℕ, false, Some, IsOk, IfOk};
+ghost use Rattle.fs_layout.specs.Header.{header_of, max_delta};
 ghost use Rattle.redo_journal.specs.Meaning.{SameMap, EachReadsAs};
 ghost use Rattle.sector_disk.specs.Disk.{IsSame, ForgetsPast, Elapses, HasCause, HasWriteCause};
 ghost use Rattle.sector_txn.specs.Images.{LeavesOneOf, LeavesOldOr};
@@ -90,7 +91,8 @@ impl<D: Disk> CountedStore<D> {
         ensures map { SameMap (txn_state D.state result).sectors (present D.state self) }
         ensures before { SameMap (txn_state D.state result).before (present D.state self) }
         ensures delta { (n : ℕ) → (txn_state D.state result).has_put n ≡ false }
-        ensures room { (txn_state D.state result).room ≡ 64 }
+        ensures header { (txn_state D.state result).header ≡ header_of ((txn_state D.state result).sectors 0) }
+        ensures room { (txn_state D.state result).room ≡ max_delta (txn_state D.state result).header }
     {
         let CountedStore { store, free } = self;
         CountedTxn {
@@ -151,7 +153,7 @@ impl<D: Disk> CountedTxn<D> {
     pub(crate) fn keep(self) -> Result<CountedStore<D>, Broken<D>>
         ensures map { IfOk result (λ store. SameMap (present D.state store) (txn_state D.state self).sectors) }
         ensures images { LeavesOneOf (map_before D.state self) (map_now D.state self) (D.state self.disk) (D.state (disk_after result)) }
-        ensures empty { (txn_state D.state self).room ≡ 64 → IsOk result × (disk_after result ≡ self.disk) }
+        ensures empty { (txn_state D.state self).room ≡ max_delta (txn_state D.state self).header → IsOk result × (disk_after result ≡ self.disk) }
         ensures cause { HasCause (D.state self.disk) (D.state (disk_after result)) result }
         ensures told { HasWriteCause (D.state self.disk) (D.state (disk_after result)) result }
     {

@@ -1,6 +1,8 @@
 use Rattle.std.proofs.Common.{arith, ◌≤◌, sym, ap, subst, ◌∙◌}
 use Rattle.sector_disk.specs.Disk.{LeavesOnly}
-use Rattle.redo_journal.specs.Meaning.{MeansAsBefore}
+use Rattle.redo_journal.specs.Meaning.{MeansAsBefore, data_of}
+use Rattle.redo_journal.proofs.Meaning.{same_chain}
+use Rattle.sector_txn.specs.Stores.{present}
 use Rattle.fs_images.proofs.Places.{many_sectors}
 use Rattle.fs_system.proofs.fs.open_store.Goals as goal
 
@@ -11,7 +13,9 @@ open-requires g c =
     omega (arith, many, size)
 
 pub returns-in-Ok-new-clause-map : goal.returns-in-Ok-new-clause-map
-returns-in-Ok-new-clause-map g c = λ n part. c.in-Ok-new.ensures.map n part ∙ c.in-Ok.ensures.same n part
+returns-in-Ok-new-clause-map g c =
+    let state = g.D.Disk.state in
+    same_chain (present state c.in-Ok-new.store) (data_of (state c.in-Ok.journal)) (data_of (state c.args.disk)) c.in-Ok-new.ensures.map c.in-Ok.ensures.same
 
 pub returns-in-Ok-new-clause-lasting : goal.returns-in-Ok-new-clause-lasting
 returns-in-Ok-new-clause-lasting g c = c.in-Ok-new.ensures.lasting

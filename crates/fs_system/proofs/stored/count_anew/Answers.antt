@@ -13,7 +13,7 @@ use Rattle.fs_system.proofs.stored.count_anew.Goals as goal
 pub count_both-requires : goal.count_both-requires
 count_both-requires g c =
     (begins g.D.Disk.state c.args.place c.args.store c.args.procs.now c.begin-txn.result c.begin-txn.ensures.disk c.begin-txn.ensures.map c.begin-txn.ensures.before
-    c.requires.running.0 c.requires.running.1 c.begin-txn.ensures.room).sound.bitmaps
+    c.requires.running.0 c.requires.running.1 c.begin-txn.ensures.header c.begin-txn.ensures.room).sound.bitmaps
 
 pub remember-requires : goal.remember-requires
 remember-requires g c =

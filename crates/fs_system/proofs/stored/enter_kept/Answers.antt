@@ -10,7 +10,7 @@ use Rattle.fs_system.proofs.stored.enter_kept.Goals as goal
 pub enter-done-requires : goal.enter-done-requires
 enter-done-requires g c = record {
   ready = begins g.D.Disk.state c.args.place c.args.store c.args.procs.now c.begin-txn.result c.begin-txn.ensures.disk c.begin-txn.ensures.map c.begin-txn.ensures.before
-      c.requires.running.0 c.requires.running.1 c.begin-txn.ensures.room;
+      c.requires.running.0 c.requires.running.1 c.begin-txn.ensures.header c.begin-txn.ensures.room;
 }
 
 pub returns : goal.returns

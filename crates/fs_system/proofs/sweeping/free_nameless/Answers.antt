@@ -12,7 +12,7 @@ leave-requires-clause-sound g c =
     let state = g.D.Disk.state in
     let some = c.requires.tree in
     let began = c.begin-txn.ensures in
-    begins_sound c.args.place (txn_state state c.begin-txn.result) some.0
+    begins_sound c.args.place (txn_state state c.begin-txn.result) some.0 began.header
     (stored_same (ap (λ d. (state d).size) began.disk) began.map some.1.stored)
 
 pub leave-requires-clause-spare : goal.leave-requires-clause-spare

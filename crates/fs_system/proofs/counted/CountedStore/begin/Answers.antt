@@ -1,5 +1,6 @@
-use Rattle.std.proofs.Common.{sym, ap, ◌∙◌}
-use Rattle.sector_txn.specs.Stores.{present, map_before}
+use Rattle.std.proofs.Common.{ap}
+use Rattle.redo_journal.proofs.Meaning.{same_back, same_chain}
+use Rattle.sector_txn.specs.Stores.{present, map_before, map_now}
 use Rattle.fs_system.proofs.Remembered.{remembered_after}
 use Rattle.fs_system.proofs.counted.CountedStore.begin.Goals as goal
 
@@ -11,5 +12,5 @@ invariant_of-result g c =
     let begun = c.begin.ensures in (
       remembered_after (state old.disk).size (state new.disk).size (present state old) (map_before state new) c.self.inside.free
           (ap (λ disk. (state disk).size) begun.disk) begun.before c.self.invariant,
-      λ unchanged n part. begun.map n part ∙ sym (begun.before n part),
+      λ unchanged. same_chain (map_now state new) (present state old) (map_before state new) begun.map (same_back (map_before state new) (present state old) begun.before),
     )

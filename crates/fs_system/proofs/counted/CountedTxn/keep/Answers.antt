@@ -1,5 +1,5 @@
-use Rattle.std.proofs.Common.{◌∙◌}
-use Rattle.sector_txn.specs.Stores.{present, map_before}
+use Rattle.redo_journal.proofs.Meaning.{same_chain}
+use Rattle.sector_txn.specs.Stores.{present, map_before, map_now}
 use Rattle.fs_system.proofs.Remembered.{remembered_after}
 use Rattle.fs_system.proofs.counted.CountedTxn.keep.Goals as goal
 
@@ -9,4 +9,5 @@ invariant_of-result g c =
     let old = c.self.inside.txn in
     let new = c.in-Ok.store in
     remembered_after (state old.disk).size (state new.disk).size (map_before state old) (present state new) c.self.inside.free
-    c.in-Ok.ensures.images.size (λ n part. c.in-Ok.ensures.map n part ∙ c.self.invariant.1 c.if-is_changed.false n part) c.self.invariant.0
+    c.in-Ok.ensures.images.size
+    (same_chain (present state new) (map_now state old) (map_before state old) c.in-Ok.ensures.map (c.self.invariant.1 c.if-is_changed.false)) c.self.invariant.0
