@@ -1,5 +1,5 @@
 -- The laws of the file system, each the contract of a function.
-use Rattle.std.specs.Prelude.{ℕ, ◌≤◌}
+use Rattle.std.specs.Prelude.{◌≡◌, ℕ, ◌≤◌}
 use Rattle.sector_disk.specs.Disk.{DiskState}
 use Rattle.fs_layout.specs.declared.place.Place.{Place}
 use Rattle.fs_layout.specs.Header.{header_of}
