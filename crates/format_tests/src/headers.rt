@@ -28,9 +28,9 @@ fn a_header_pushes_the_first_target_back(rt: HostRuntime) {
 
 // A commit of the sectors 300 to 499.
 fn long_commit() -> Commit {
-    let mut targets = [300; 200];
-    for (k, target) in targets.iter_mut().enumerate() {
-        *target += k as u32;
+    let mut targets = [0; 200];
+    for k in 0..200 {
+        targets[k] = 300 + k as u32;
     }
     Commit::new(&targets)
 }
