@@ -19,7 +19,7 @@ use Rattle.fs_layout.specs.declared.version.Version.TheVariants.{One, Two}
 use Rattle.fs_layout.specs.Bytes.{SectorMap, u32_of}
 use Rattle.fs_layout.specs.Header.{log_end, max_targets, header_in, header_for, header_of}
 use Rattle.fs_layout.specs.Superblock.{super_of}
-use Rattle.fs_layout.specs.Commit.{AreDistinct, AreTargets, IsCommit, IsValidCommit, are_apart, are_targets, commit_bytes, header_number, named, target_number, targets_if, targets_in}
+use Rattle.fs_layout.specs.Commit.{AreDistinct, AreTargets, IsCommit, IsValidCommit, are_apart, are_targets, commit_bytes, header_number, named_targets, target_number, targets_if, targets_in}
 use Rattle.fs_layout.proofs.CommitLaw.{count_of-commit_bytes, number_of-commit_bytes}
 
 -- ---- the tests say what they are called
@@ -95,16 +95,16 @@ unfolding header_of
 header_most content = header_for_most (super_of content)
 
 -- ---- what an image names
-pub length-named : (image : SectorMap) (n : ℕ) → length (named image n) ≡ n
+pub length-named : (image : SectorMap) (n : ℕ) → length (named_targets image n) ≡ n
 length-named image n = length-map-range_with_len (target_number image) 0 n
 
 -- the targets of a commit are what its image names
-named_is : (size : ℕ) (image : SectorMap) (ts : List ℕ) → size < 2 ^ 32 → IsCommit size image ts → named image (u32_of (image 1) 4) ≡ ts
+named_is : (size : ℕ) (image : SectorMap) (ts : List ℕ) → size < 2 ^ 32 → IsCommit size image ts → named_targets image (u32_of (image 1) 4) ≡ ts
 named_is size image ts small is =
     let few : length ts ≤ max_targets (header_of (image 0)) = is.valid.few in
     let count : u32_of (image 1) 4 ≡ length ts = ap (λ s. u32_of s 4) is.bytes ∙ count_of-commit_bytes ts (omega (arith, few, header_most (image 0))) in
     let f = target_number image in
-    ext_get_or 0 (named image (u32_of (image 1) 4)) ts (length-named image (u32_of (image 1) 4) ∙ count) (λ i below.
+    ext_get_or 0 (named_targets image (u32_of (image 1) 4)) ts (length-named image (u32_of (image 1) 4) ∙ count) (λ i below.
     let lt : i < length ts = omega (arith, below, length-named image (u32_of (image 1) 4), count) in
     get_or-map-range_with_len f 0 (u32_of (image 1) 4) i i 0 (omega (arith, lt, count)) (omega arith)
     ∙ each i lt)
@@ -145,9 +145,9 @@ commit_in size image small valid =
 pub named_by_numbers : (image : SectorMap) (ts : List ℕ) → u32_of (image 1) 4 ≡ length ts
     → ((i : ℕ) → i < 126 → i < length ts → get_or ts i 0 ≡ u32_of (image 1) (8 + 4 * i))
     → ((k : ℕ) → 126 + k < length ts → header_number image k ≡ get_or ts (126 + k) 0)
-    → named image (u32_of (image 1) 4) ≡ ts
+    → named_targets image (u32_of (image 1) 4) ≡ ts
 named_by_numbers image ts count first more =
-    ext_get_or 0 (named image (u32_of (image 1) 4)) ts (length-named image (u32_of (image 1) 4) ∙ count) (λ i below.
+    ext_get_or 0 (named_targets image (u32_of (image 1) 4)) ts (length-named image (u32_of (image 1) 4) ∙ count) (λ i below.
     let lt : i < length ts = omega (arith, below, length-named image (u32_of (image 1) 4), count) in
     get_or-map-range_with_len (target_number image) 0 (u32_of (image 1) 4) i i 0 (omega (arith, lt, count)) (omega arith)
     ∙ each i lt)
@@ -162,14 +162,14 @@ named_by_numbers image ts count first more =
           ∙ ap (λ k. get_or ts k 0) (omega (arith, high))
     ]
 
-named_more : (image : SectorMap) (n k : ℕ) → 126 + k < n → header_number image k ≡ get_or (named image n) (126 + k) 0
+named_more : (image : SectorMap) (n k : ℕ) → 126 + k < n → header_number image k ≡ get_or (named_targets image n) (126 + k) 0
 named_more image n k lt =
     sym (get_or-map-range_with_len (target_number image) 0 n (126 + k) (126 + k) 0 lt (omega arith)
     ∙ cond-false (nat_lt (126 + k) 126) (u32_of (image 1) (8 + 4 * (126 + k))) (header_number image (126 + k - 126)) (le-ltb (126 + k) 126 (omega arith))
     ∙ ap (header_number image) (omega arith))
 
 -- what an image names is its commit where it passes both tests
-pub named_commit : (size : ℕ) (image : SectorMap) → let ts = named image (u32_of (image 1) 4) in
+pub named_commit : (size : ℕ) (image : SectorMap) → let ts = named_targets image (u32_of (image 1) 4) in
     AreTargets (header_of (image 0)) size ts → image 1 ≡ commit_bytes ts → IsCommit size image ts
 named_commit size image valid bytes = record {
   bytes = bytes;
@@ -187,7 +187,7 @@ passed size image ts e =
 pub targets_in-invalid : (size : ℕ) (image : SectorMap) → (IsValidCommit size image → ⊥) → targets_in size image ≡ []
 unfolding targets_in
 targets_in-invalid size image none =
-    let ts = named image (u32_of (image 1) 4) in
+    let ts = named_targets image (u32_of (image 1) 4) in
     let test = are_targets (header_of (image 0)) size ts && bytes_eq (image 1) (commit_bytes ts) in
     cond-false test ts []
     (false_from_ne_true test (λ e. let both = passed size image ts e in none (record { targets = ts; is = named_commit size image both.0 both.1 })))
@@ -196,7 +196,7 @@ targets_in-invalid size image none =
 pub targets_in-valid : (size : ℕ) (image : SectorMap) → AreTargets (header_of (image 0)) size (targets_in size image)
 unfolding targets_in
 targets_in-valid size image =
-    let ts = named image (u32_of (image 1) 4) in chosen ts (are_targets (header_of (image 0)) size ts && bytes_eq (image 1) (commit_bytes ts)) refl
+    let ts = named_targets image (u32_of (image 1) 4) in chosen ts (are_targets (header_of (image 0)) size ts && bytes_eq (image 1) (commit_bytes ts)) refl
   where
     chosen : (ts : List ℕ) (b : Bool) → (are_targets (header_of (image 0)) size ts && bytes_eq (image 1) (commit_bytes ts)) ≡ b
         → AreTargets (header_of (image 0)) size (cond b ts [])
@@ -204,16 +204,16 @@ targets_in-valid size image =
     chosen ts false e = no_targets (header_of (image 0)) size
 
 -- an image with other targets, or with another commit sector, than what it names has no valid commit
-pub not_valid : (size : ℕ) (image : SectorMap) (ts : List ℕ) → size < 2 ^ 32 → named image (u32_of (image 1) 4) ≡ ts
+pub not_valid : (size : ℕ) (image : SectorMap) (ts : List ℕ) → size < 2 ^ 32 → named_targets image (u32_of (image 1) 4) ≡ ts
     → (AreTargets (header_of (image 0)) size ts → image 1 ≡ commit_bytes ts → ⊥) → IsValidCommit size image → ⊥
 not_valid size image ts small names none valid =
     let same : valid.targets ≡ ts = sym (named_is size image valid.targets small valid.is) ∙ names in
     none (subst (AreTargets (header_of (image 0)) size) same valid.is.valid) (valid.is.bytes ∙ ap commit_bytes same)
 
 -- ---- an image whose superblock, commit sector, header and log are those of another one, valid or not
-named_same : (image new : SectorMap) (n : ℕ) → new 1 ≡ image 1 → ((k : ℕ) → 126 + k < n → header_number new k ≡ header_number image k) → named new n ≡ named image n
+named_same : (image new : SectorMap) (n : ℕ) → new 1 ≡ image 1 → ((k : ℕ) → 126 + k < n → header_number new k ≡ header_number image k) → named_targets new n ≡ named_targets image n
 named_same image new n one header =
-    ext_get_or 0 (named new n) (named image n) (length-named new n ∙ sym (length-named image n)) (λ i below.
+    ext_get_or 0 (named_targets new n) (named_targets image n) (length-named new n ∙ sym (length-named image n)) (λ i below.
     let lt : i < n = omega (arith, below, length-named new n) in
     get_or-map-range_with_len (target_number new) 0 n i i 0 lt (omega arith)
     ∙ each i lt
@@ -235,7 +235,7 @@ named_same image new n one header =
 too_many : (size : ℕ) (image : SectorMap) → max_targets (header_of (image 0)) < u32_of (image 1) 4 → targets_in size image ≡ []
 unfolding targets_in
 too_many size image many =
-    let ts = named image (u32_of (image 1) 4) in
+    let ts = named_targets image (u32_of (image 1) 4) in
     let test = are_targets (header_of (image 0)) size ts && bytes_eq (image 1) (commit_bytes ts) in
     cond-false test ts []
     (false_from_ne_true test (λ e. let few = (passed size image ts e).0.few in omega (arith, few, many, length-named image (u32_of (image 1) 4))))
@@ -247,7 +247,7 @@ targets_in-alike size image new super one header = elim (cases_lt (max_targets (
   | inl many ↦ too_many size new (omega (arith, many, super, ap (λ s. u32_of s 4) one)) ∙ sym (too_many size image many)
   | inr few ↦
       let n = u32_of (image 1) 4 in
-      let same : named new (u32_of (new 1) 4) ≡ named image n =
-      ap (named new) (ap (λ s. u32_of s 4) one) ∙ named_same image new n one (λ k lt. ap (λ s. u32_of s (4 * (k % 128))) (header (k / 128) (omega (arith, lt, few)))) in
+      let same : named_targets new (u32_of (new 1) 4) ≡ named_targets image n =
+      ap (named_targets new) (ap (λ s. u32_of s 4) one) ∙ named_same image new n one (λ k lt. ap (λ s. u32_of s (4 * (k % 128))) (header (k / 128) (omega (arith, lt, few)))) in
       (λ j. cond (are_targets (super j) size (same j) && bytes_eq (one j) (commit_bytes (same j))) (same j) [])
 ]

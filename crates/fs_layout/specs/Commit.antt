@@ -69,8 +69,8 @@ are_targets header size targets =
 abbrev pub target_number : SectorMap → ℕ → ℕ
 target_number image i = if nat_lt i MAX_TARGETS then u32_of (image COMMIT_SECTOR) (8 + 4 * i) else header_number image (i - MAX_TARGETS)
 
-abbrev pub named : SectorMap → ℕ → List ℕ
-named image n = map (target_number image) (range_with_len 0 n)
+abbrev pub named_targets : SectorMap → ℕ → List ℕ
+named_targets image n = map (target_number image) (range_with_len 0 n)
 
 abbrev pub targets_if : ℕ → SectorMap → List ℕ → List ℕ
 targets_if size image targets =
@@ -78,4 +78,4 @@ targets_if size image targets =
 
 -- the targets of an image's commit: none where it is idle, and none where it is not valid
 unfoldable pub targets_in : ℕ → SectorMap → List ℕ
-targets_in size image = targets_if size image (named image (u32_of (image COMMIT_SECTOR) 4))
+targets_in size image = targets_if size image (named_targets image (u32_of (image COMMIT_SECTOR) 4))

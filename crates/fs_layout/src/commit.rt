@@ -139,7 +139,9 @@ impl Commit {
     pub fn header_sectors(&self) -> usize
         ensures { result ≡ div_ceil (length self.now - MAX_TARGETS) HEADER_TARGETS }
     {
-        self.count.saturating_sub(MAX_TARGETS).div_ceil(HEADER_TARGETS)
+        self.count
+            .saturating_sub(MAX_TARGETS)
+            .div_ceil(HEADER_TARGETS)
     }
 
     /// The content of a sector of the header, counted from 0: the targets past those of the sectors before it.

@@ -19,7 +19,7 @@ use Rattle.fuse_plans.specs.Stops.{failed, is_for}
 use Rattle.fuse_state.specs.declared.place.Place.{Place}
 use Rattle.fuse_state.specs.Servers.{Server, number_of, kind_of, places_of, first_of, WithinShares}
 use Rattle.fuse_plans.specs.Works.{Work, give, stop, kept, goes_on, ◌>>=◌, ◌>>◌, attempt, needed, ask, refusal_in, unless_refused, obtain, or_closed, replied_status, unexpected}
-use Rattle.fuse_plans.specs.Callers.{between, inside, done_between, look_inside, on, or_inside, first_refusal, or_next, by_places, by_place, the_looker, by_looker, look, look_at, is_known_directory, the_number, directory_number, only_directory, standing_directory, has_place}
+use Rattle.fuse_plans.specs.Callers.{between, inside, done_between, look_inside, on, or_inside, standing_refusal, or_next, by_places, by_place, the_looker, by_looker, look, look_at, is_known_directory, the_number, directory_number, only_directory, standing_directory, has_place}
 use Rattle.fuse_plans.specs.Paths.{only_path}
 use Rattle.fuse_plans.specs.Acts.{Subject, Away, gone_to, node_of_object, own_directory, second_directory, IsStandingDirectory, IsObject, IsKnownPlace, IsOfRequest, is_known, is_itself, named_in, ActsWithin, on_one, Concerns, acts, on_root, without_path}
 use Rattle.fuse_plans.specs.Conduct
@@ -218,7 +218,7 @@ module _ {rights : Rights} {P : Server → Type 0} where
   does-by_places pid second call before [] may act = does-stop before
   does-by_places pid second call before (p ∷ others) may act =
       does->>= (does-attempt (does-between pid p.directory _ (call p.name) (may p.name) (All-head (ActsAt rights.subject second call) p others act)))
-      (does-or_next (λ e. does-by_places pid second call (first_refusal before e) others may (All-tail (ActsAt rights.subject second call) p others act)))
+      (does-or_next (λ e. does-by_places pid second call (standing_refusal before e) others may (All-tail (ActsAt rights.subject second call) p others act)))
 
   does-by_place : (pid n : ℕ) (call : List ℕ → Call) → ((path : List ℕ) → CanCall rights P pid (call path)) → IsPathOf call → About rights P n
       → Does rights P (by_place pid n call)

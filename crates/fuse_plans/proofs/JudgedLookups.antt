@@ -32,7 +32,7 @@ use Rattle.fuse_plans.specs.declared.stop.OtherErrno.TheVariants.{ENFILE, ERANGE
 use Rattle.fuse_plans.specs.Stops.{failed, is_for}
 use Rattle.fuse_plans.specs.Plans.{Plan, Finish, Ask, followed_by, IsRunOf, IsAsked, at_once, later, Restraint, KeepsTo, after_all}
 use Rattle.fuse_plans.specs.Works.{Work, give, stop, kept, keep, goes_on, ◌>>=◌, attempt, needed, ask, give_unless, refusal_in, unless_refused, obtain, unexpected, status_of_reply, acl_of_reply}
-use Rattle.fuse_plans.specs.Callers.{caller, the_looker, between, or_inside, first_refusal, or_next, by_places, on, by_looker, look_inside, is_known_directory, the_number, directory_number, standing_directory}
+use Rattle.fuse_plans.specs.Callers.{caller, the_looker, between, or_inside, standing_refusal, or_next, by_places, on, by_looker, look_inside, is_known_directory, the_number, directory_number, standing_directory}
 use Rattle.fuse_plans.specs.NamePlans.{or_absent, searched_directory, find_inside, find_name, place}
 use Rattle.fuse_plans.specs.AclPlans.{told_acl, acl_of}
 use Rattle.fuse_plans.specs.Nobody.{may_hide, hides, seen_by_looker, asks_list, is_masked, unless_masked, is_judged, needs_nobody_in}
@@ -230,7 +230,7 @@ module _ (who : Event → Bool) (what : Reply → Bool) (looker : Option ℕ) wh
   goes-by_places pid second call before [] tells err = goes-stop before (λ m any. err m before)
   goes-by_places pid second call before (p ∷ others) tells err =
       goes-attempt (goes-between pid p.directory _ (call p.name) (tells p.name))
-      (goes-or_next _ (λ e. goes-from (goes-by_places pid second call (first_refusal before e) others tells err)))
+      (goes-or_next _ (λ e. goes-from (goes-by_places pid second call (standing_refusal before e) others tells err)))
 
   goes-on : (pid n : ℕ) (call : List ℕ → Call) {T : Bool → Result Reply Stop → Type 0} → ((path : List ℕ) → Tells pid (call path) T)
       → ((m : Bool) (e : Stop) → T m (Err e)) → Goes Anyhow T (on pid n call)

@@ -26,7 +26,7 @@ use Rattle.fuse_plans.specs.Stops.{is_for}
 use Rattle.fuse_plans.specs.declared.request.Asked.{Asked}
 use Rattle.fuse_plans.specs.Plans.{Plan, Finish, Ask, CarriesOut, finishes, IsRunOf, Restraint, KeepsTo}
 use Rattle.fuse_plans.specs.Works.{Work, give, stop, kept, goes_on, ◌>>=◌, attempt, needed, ask, give_unless, refusal_in, unless_refused, obtain}
-use Rattle.fuse_plans.specs.Callers.{the_looker, between, or_inside, first_refusal, or_next, by_places, on, by_looker, is_known_directory, the_number, directory_number}
+use Rattle.fuse_plans.specs.Callers.{the_looker, between, or_inside, standing_refusal, or_next, by_places, on, by_looker, is_known_directory, the_number, directory_number}
 use Rattle.fuse_plans.specs.AclPlans.{acl_of}
 use Rattle.fuse_plans.specs.Nobody.{needs_caller, may_hide, hides, asks_list, is_masked, unless_masked, is_judged, needs_nobody, needs_nobody_in}
 use Rattle.fuse_plans.specs.Acts.{IsObject, node_of_object}
@@ -112,7 +112,7 @@ unfolding by_places
 stays-by_places pid second call before [] = stays-stop before
 stays-by_places pid second call before (p ∷ others) =
     stays->>= (stays-attempt (stays-between pid p.directory _ (call p.name)))
-    (stays-or_next _ (λ e. stays-by_places pid second call (first_refusal before e) others))
+    (stays-or_next _ (λ e. stays-by_places pid second call (standing_refusal before e) others))
 
 stays-on : (pid n : ℕ) (call : List ℕ → Call) → Stays (on pid n call)
 unfolding on

@@ -149,8 +149,8 @@ abbrev pub at_place : ℕ → Option ℕ → (List ℕ → Call) → Place → W
 at_place pid second call p = between pid p.directory (unwrap_or second p.directory) (call p.name)
 
 -- the refusal that stands where each place is refused for permission: the first
-abbrev pub first_refusal : Stop → Stop → Stop
-first_refusal before e = if is_for EACCES before then before else e
+abbrev pub standing_refusal : Stop → Stop → Stop
+standing_refusal before e = if is_for EACCES before then before else e
 
 -- Who is refused by one place goes on to the next.
 abbrev pub or_next : (Stop → Work Reply) → Result Reply Stop → Work Reply
@@ -161,7 +161,7 @@ or_next next (Err e) = if is_for EACCES e then next e else stop e
 unfoldable pub by_places : ℕ → Option ℕ → (List ℕ → Call) → Stop → List Place → Work Reply
 by_places pid second call before [] = stop before
 by_places pid second call before (p ∷ others) =
-    attempt (at_place pid second call p) >>= or_next (λ e. by_places pid second call (first_refusal before e) others)
+    attempt (at_place pid second call p) >>= or_next (λ e. by_places pid second call (standing_refusal before e) others)
 
 abbrev pub by_place : ℕ → ℕ → (List ℕ → Call) → Work Reply
 by_place pid n call = do

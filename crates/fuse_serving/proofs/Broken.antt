@@ -18,7 +18,7 @@ use Rattle.fuse_plans.specs.Stops.{failed}
 use Rattle.fuse_plans.specs.Works.{stop}
 use Rattle.fuse_serving.specs.declared.fault.ServeFault.{ServeFault}
 use Rattle.fuse_serving.specs.Exchanges.{Exchange, Reads, Passes, passes_none, passes_more}
-use Rattle.fuse_serving.specs.Rounds.{Round, Scene, IsAnswered, Rounds, no_round, one_round, IsFound, ArePerformed, Breaks, IsOfRead, IsOfClock, IsOfReply, no_request, no_time, no_reply, heard_in, learns}
+use Rattle.fuse_serving.specs.Rounds.{Round, Scene, IsAnsweredSo, Rounds, no_round, one_round, IsDecided, ArePerformed, Breaks, IsOfRead, IsOfClock, IsOfReply, no_request, no_time, no_reply, heard_in, learns}
 use Rattle.fuse_serving.specs.Pieces.{ReadBreaks}
 use Rattle.fuse_serving.proofs.Carried.{whole, carried_on, carried_none}
 use Rattle.fuse_serving.proofs.ReadRounds.{any_outside}
@@ -37,7 +37,7 @@ module _ {M K : Type 0} (Serves : M → Event → Reply → M → Type 0) (Does 
   none_performed m s before after = record { hears = no_more; performs = carried_none Serves s m }
 
   one_performed : (round : Round) (old new : Scene M K) → Hears round.bytes round.outside round.request
-      → IsAnswered Serves round.request round.nobody round.response old.server new.server old.machine new.machine
+      → IsAnsweredSo Serves round.request round.nobody round.response old.server new.server old.machine new.machine
       → ArePerformed Serves old (round ∷ []) new
   one_performed round old new hears performs = record {
     hears = one_more round.bytes round.outside round.request [] [] hears no_more;
@@ -64,7 +64,7 @@ module _ {M K : Type 0} (Serves : M → Event → Reply → M → Type 0) (Does 
   unread fault m s before after on is = record { goes_on = on; untold = []; is_break = no_request is; found = tt; performed = none_performed m s before after }
 
   -- what the kernel does doesn't count for it
-  found_from : (m : M) (s : Server) (before after : K) (untold : List Round) → IsFound Serves (at m s before) untold → IsFound Serves (at m s after) untold
+  found_from : (m : M) (s : Server) (before after : K) (untold : List Round) → IsDecided Serves (at m s before) untold → IsDecided Serves (at m s after) untold
   found_from m s before after [] found = tt
   found_from m s before after (round ∷ rounds) found = found
 
@@ -88,7 +88,7 @@ module _ {M K : Type 0} (Serves : M → Event → Reply → M → Type 0) (Does 
   }
 
   unanswered : (round : Round) (fault : ServeFault) (old new : Scene M K) (reached : K) → IsOfReply fault → Hears round.bytes round.outside round.request
-      → IsAnswered Serves round.request round.nobody round.response old.server new.server old.machine new.machine
+      → IsAnsweredSo Serves round.request round.nobody round.response old.server new.server old.machine new.machine
       → Passes Does old.kernel (learns round.nobody (request_of round.bytes) round.outside) reached → ReadBreaks Serves Does round.bytes fault old new
   unanswered round fault old new reached is hears performs passes = record {
     untold = round ∷ [];
@@ -100,7 +100,7 @@ module _ {M K : Type 0} (Serves : M → Event → Reply → M → Type 0) (Does 
   pub unanswered_spoken : (bytes : List ℕ) (spoken : WireRequest) (outside : Outside) (acl : Option (Option AccessList)) (nobody : Bool) (response : Response)
       (fault : ServeFault) (old new : Scene M K) (reached : K) → request_of bytes ≡ Ok spoken → IsOfReply fault
       → (outside.memory ≡ true → HasValue spoken.operation acl)
-      → IsAnswered Serves (request_from outside acl spoken) nobody response old.server new.server old.machine new.machine
+      → IsAnsweredSo Serves (request_from outside acl spoken) nobody response old.server new.server old.machine new.machine
       → Passes Does old.kernel (learns nobody (Ok spoken) outside) reached → ReadBreaks Serves Does bytes fault old new
   unanswered_spoken bytes spoken outside acl nobody response fault old new reached spoke is has performs passes =
       unanswered (record { bytes = bytes; outside = outside; request = request_from outside acl spoken; nobody = nobody; response = response; taken = false })

@@ -8,7 +8,7 @@ use Rattle.fuse_plans.specs.Plans.{Plan, Finish, followed_by, CarriesOut, finish
 use Rattle.fuse_plans.specs.Requests.{Request}
 use Rattle.fuse_plans.specs.Nobody.{needs_nobody_in}
 use Rattle.fuse_plans.specs.Serving.{answered_as, request_plan, requests_plan}
-use Rattle.fuse_serving.specs.Rounds.{IsAnswered}
+use Rattle.fuse_serving.specs.Rounds.{IsAnsweredSo}
 
 pub nothing_asked : {M X : Type 0} (Serves : M → Event → Reply → M → Type 0) (plan : Plan X) (old new : M) (x y : X)
     → plan ≡ Finish x → new ≡ old → y ≡ x → CarriesOut Serves plan old new y
@@ -27,7 +27,7 @@ carried_then Serves p f old mid new x y (asks e next reply _ after _ _ serves fi
 -- ---- requests
 
 module _ {M : Type 0} (Serves : M → Event → Reply → M → Type 0) where
-  pub whole : (r : Request) (nobody : Bool) (response : Response) (before after : Server) (old new : M) → IsAnswered Serves r nobody response before after old new
+  pub whole : (r : Request) (nobody : Bool) (response : Response) (before after : Server) (old new : M) → IsAnsweredSo Serves r nobody response before after old new
       → CarriesOut Serves (request_plan r before) old new (response, after)
   unfolding request_plan
   whole r nobody response before after old new is =
@@ -36,7 +36,7 @@ module _ {M : Type 0} (Serves : M → Event → Reply → M → Type 0) where
   -- it was found first, and the server kept what it kept
   pub answered_after : (r : Request) (nobody : Bool) (response : Response) {before kept after : Server} {old mid new : M}
       → CarriesOut Serves (needs_nobody_in r.node r.operation before) old mid nobody → kept ≡ before
-      → CarriesOut Serves (answered_as nobody r kept) mid new (response, after) → IsAnswered Serves r nobody response before after old new
+      → CarriesOut Serves (answered_as nobody r kept) mid new (response, after) → IsAnsweredSo Serves r nobody response before after old new
   answered_after r nobody response {before} {kept} {after} {old} {mid} {new} finds same answers = record {
     mid = mid;
     finds = finds;

@@ -22,7 +22,7 @@ use Rattle.fuse_plans.specs.Serving.{answered_as}
 use Rattle.fuse_serving.specs.declared.caller.Caller.{Caller}
 use Rattle.fuse_serving.specs.declared.fault.ServeFault.{ServeFault}
 use Rattle.fuse_serving.specs.Exchanges.{Exchange, Reads, Passes}
-use Rattle.fuse_serving.specs.Rounds.{Round, Scene, IsAnswered, IsRound, Ends, IsBreak, IsFound, ArePerformed, learns, tells, later_exchanges}
+use Rattle.fuse_serving.specs.Rounds.{Round, Scene, IsAnsweredSo, IsRound, Ends, IsBreak, IsDecided, ArePerformed, learns, tells, later_exchanges}
 
 -- with memory for what is added, or without
 abbrev pub known : Caller → Time → Bool → Outside
@@ -55,7 +55,7 @@ pub record SpokenServed {M K : Type 0} (Serves : M → Event → Reply → M →
   pub nobody : Bool
   pub response : Response
   pub taken : Bool
-  pub performs : IsAnswered Serves (request_from outside acl spoken) nobody response old.server new.server old.machine new.machine
+  pub performs : IsAnsweredSo Serves (request_from outside acl spoken) nobody response old.server new.server old.machine new.machine
   pub passes : Passes Does old.kernel (learns nobody (Ok spoken) outside ++ tells spoken.unique response taken) new.kernel
 
 -- The request that was read is served.
@@ -65,7 +65,7 @@ pub record ReadServed {M K : Type 0} (Serves : M → Event → Reply → M → T
   pub is_read : round.bytes ≡ bytes
   pub hears : Hears bytes round.outside round.request
   pub passes : Passes Does old.kernel (later_exchanges round) new.kernel
-  pub performs : IsAnswered Serves round.request round.nobody round.response old.server new.server old.machine new.machine
+  pub performs : IsAnsweredSo Serves round.request round.nobody round.response old.server new.server old.machine new.machine
 
 -- A read that isn't whole changes nothing.
 pub record IsNotWhole {M K : Type 0} (bytes : List ℕ) (old new : Scene M K) : Type 0 where
@@ -89,5 +89,5 @@ pub record ReadBreaks {M K : Type 0} (Serves : M → Event → Reply → M → T
     (fault : ServeFault) (old new : Scene M K) : Type 0 where
   pub untold : List Round
   pub is_break : (before : K) → Does before (Reads bytes) old.kernel → IsBreak Does fault before untold
-  pub found : IsFound Serves old untold
+  pub found : IsDecided Serves old untold
   pub performed : ArePerformed Serves old untold new

@@ -1,6 +1,6 @@
 -- Requests that are served, one after another.
 --     Round        a request with its answer
---     IsAnswered        its plan is performed, in two parts
+--     IsAnsweredSo        its plan is performed, in two parts
 --     IsRound        how one is served
 --     Rounds        several
 --     IsEnd        why no more are
@@ -76,7 +76,7 @@ abbrev pub exchanges : Round → List Exchange
 exchanges r = Reads r.bytes ∷ later_exchanges r
 
 -- It is found whether who asks counts, which changes nothing that the server keeps; and then the request is answered.
-pub record IsAnswered {M : Type 0} (Serves : M → Event → Reply → M → Type 0) (request : Request) (nobody : Bool) (response : Response)
+pub record IsAnsweredSo {M : Type 0} (Serves : M → Event → Reply → M → Type 0) (request : Request) (nobody : Bool) (response : Response)
     (before after : Server) (old new : M) : Type 0 where
   pub mid : M
   pub finds : CarriesOut Serves (needs_nobody_in request.node request.operation before) old mid nobody
@@ -88,7 +88,7 @@ pub record IsRound {M K : Type 0} (Serves : M → Event → Reply → M → Type
   pub goes_on : old.server.ended ≡ false
   pub hears : Hears round.bytes round.outside round.request
   pub passes : Passes Does old.kernel (exchanges round) new.kernel
-  pub performs : IsAnswered Serves round.request round.nobody round.response old.server new.server old.machine new.machine
+  pub performs : IsAnsweredSo Serves round.request round.nobody round.response old.server new.server old.machine new.machine
 
 -- ---- several
 
@@ -176,9 +176,9 @@ pub record ArePerformed {M K : Type 0} (Serves : M → Event → Reply → M →
   pub performs : CarriesOut Serves (requests_plan (map (λ r. r.request) rounds) old.server) old.machine new.machine (map (λ r. r.response) rounds, new.server)
 
 -- of the first of these it was found whether who asks counts
-abbrev pub IsFound : {M K : Type 0} → (M → Event → Reply → M → Type 0) → Scene M K → List Round → Type 0
-IsFound Serves old [] = Unit {0}
-IsFound {M} Serves old (round ∷ rounds) =
+abbrev pub IsDecided : {M K : Type 0} → (M → Event → Reply → M → Type 0) → Scene M K → List Round → Type 0
+IsDecided Serves old [] = Unit {0}
+IsDecided {M} Serves old (round ∷ rounds) =
     (mid : M) × CarriesOut Serves (needs_nobody_in round.request.node round.request.operation old.server) old.machine mid round.nobody
 
 -- No more is asked than the plan of the request that is untold, if one is.
@@ -187,7 +187,7 @@ pub record Breaks {M K : Type 0} (Serves : M → Event → Reply → M → Type 
   pub goes_on : old.server.ended ≡ false
   pub untold : List Round
   pub is_break : IsBreak Does fault old.kernel untold
-  pub found : IsFound Serves old untold
+  pub found : IsDecided Serves old untold
   pub performed : ArePerformed Serves old untold new
 
 -- Requests were served until a fault. All that was asked is their plans, and that of the request that is untold, one after another.

@@ -14,7 +14,7 @@ use Rattle.fuse_state.specs.Rooms.{Kept, given_back}
 use Rattle.fuse_state.specs.Servers.{Server, places_in, places_of, places_before}
 use Rattle.fuse_plans.specs.declared.stop.Stop.{Stop}
 use Rattle.fuse_plans.specs.Stops.{is_for}
-use Rattle.fuse_plans.specs.Callers.{at_place, first_refusal, by_places}
+use Rattle.fuse_plans.specs.Callers.{at_place, standing_refusal, by_places}
 use Rattle.fuse_sessions.specs.declared.session.Session.{Session}
 use Rattle.fuse_sessions.specs.Performing.{Did}
 use Rattle.fuse_sessions.proofs.Doings.{then-ok, attempts, same-work, where-true, where-false, gives, stops}
@@ -45,7 +45,7 @@ module _ {M : Type 0} {Serves : M → Event → Reply → M → Type 0} (pid : �
         same-work (ap (by_places pid second call before) is) (then-ok _ (attempts _ did) (where-false _ _ other (stops e new)))
 
     pub places-next : {old mid new : Session M} {e : Stop} {r : Result Reply Stop} → Did Serves (at_place pid second call p) old mid (Err e) → is_for EACCES e ≡ true
-        → Did Serves (by_places pid second call (first_refusal before e) others) mid new r → Did Serves (by_places pid second call before places) old new r
+        → Did Serves (by_places pid second call (standing_refusal before e) others) mid new r → Did Serves (by_places pid second call before places) old new r
     unfolding by_places
     places-next {old} {mid} {new} {e} {r} did closed rest =
         same-work (ap (by_places pid second call before) is) (then-ok _ (attempts _ did) (where-true _ _ closed rest))

@@ -1,7 +1,7 @@
 //! Calls on objects, by the names under which they were found.
 ghost use Rattle.std.specs.Prelude.{◌≡◌, Err, IsTrue, MatchResult};
 ghost use Rattle.fuse_state.specs.Servers.{kind_of, places_of};
-ghost use Rattle.fuse_plans.specs.Callers.{inside, at_place, first_refusal, by_places, or_inside, on, by_looker, has_place, by_handle, look_at, look, look_inside};
+ghost use Rattle.fuse_plans.specs.Callers.{inside, at_place, standing_refusal, by_places, or_inside, on, by_looker, has_place, by_handle, look_at, look, look_inside};
 ghost use Rattle.fuse_plans.specs.FilePlans.{when, done};
 ghost use Rattle.fuse_plans.specs.Paths.{at_path, takes_path};
 ghost use Rattle.fuse_sessions.specs.Performing.{Did};
@@ -49,8 +49,8 @@ fn call_at<M: Machine>(
 }
 
 // The refusal that stands where each place is refused for permission.
-fn first_refusal(before: Stop, refusal: Stop) -> Stop
-    ensures { result ≡ first_refusal before refusal }
+fn standing_refusal(before: Stop, refusal: Stop) -> Stop
+    ensures { result ≡ standing_refusal before refusal }
 {
     if before.is_for(Errno::EACCES) {
         before
@@ -150,7 +150,7 @@ impl<M: Machine> Session<M> {
                     if !refusal.is_for(Errno::EACCES) {
                         return Err(refusal);
                     }
-                    stop = first_refusal(stop, refusal);
+                    stop = standing_refusal(stop, refusal);
                 }
             }
         }

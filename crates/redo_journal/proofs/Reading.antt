@@ -2,7 +2,7 @@
 use Rattle.std.proofs.Common.{◌≡◌, ℕ, ◌+◌, ◌*◌, ◌^◌, ◌<◌, ◌≤◌, List, length, get_or, refl, sym, ap, subst, ◌∙◌, arith}
 use Rattle.std.specs.Prelude.{Option, Some, MatchOption}
 use Rattle.fs_layout.specs.Bytes.{SectorMap, u32_of}
-use Rattle.fs_layout.specs.Commit.{AreTargets, IsCommit, IsValidCommit, commit_bytes, header_number, named}
+use Rattle.fs_layout.specs.Commit.{AreTargets, IsCommit, IsValidCommit, commit_bytes, header_number, named_targets}
 use Rattle.fs_layout.specs.Header.{header_of, max_targets}
 use Rattle.fs_layout.proofs.Targets.{length-named, named_by_numbers, not_valid}
 
@@ -11,8 +11,8 @@ pub too_many : (header size : ℕ) (zero one : List ℕ) (image : SectorMap) →
 too_many header size zero one image small is at_zero at_one many =
     let same : header ≡ header_of (image 0) = is ∙ ap header_of at_zero in
     let count : u32_of one 4 ≡ u32_of (image 1) 4 = ap (λ s. u32_of s 4) at_one in
-    not_valid size image (named image (u32_of (image 1) 4)) small refl
-    (λ valid bytes. let few : length (named image (u32_of (image 1) 4)) ≤ max_targets (header_of (image 0)) = valid.few in omega (arith, few, length-named image (u32_of (image 1) 4), same, count, many))
+    not_valid size image (named_targets image (u32_of (image 1) 4)) small refl
+    (λ valid bytes. let few : length (named_targets image (u32_of (image 1) 4)) ≤ max_targets (header_of (image 0)) = valid.few in omega (arith, few, length-named image (u32_of (image 1) 4), same, count, many))
 
 -- its targets are not valid, or its sector is no spelling of them
 pub other_targets : (header size : ℕ) (zero one : List ℕ) (image : SectorMap) (counted ts : List ℕ) → size < 2 ^ 32 → header ≡ header_of zero → zero ≡ image 0 → one ≡ image 1

@@ -7,20 +7,20 @@ use Rattle.std.specs.Prelude.{Result, slice_range, Bool, false, not, if◌then�
 use Rattle.std.specs.Result.{is_ok}
 use Rattle.sector_disk.specs.Disk.{Image, sector, IsWholeSector}
 use Rattle.sector_disk.specs.Whole.{AreSectors}
-use Rattle.sector_disk.specs.Places.{shown, IsKept, IsRunSet, IsRow}
+use Rattle.sector_disk.specs.Places.{sectors_at, IsKept, IsRunSet, IsRow}
 
-pub sector_shown : (contents : Image) (places : List ℕ) (n : ℕ) → n < length places → sector (shown contents places) n ≡ sector contents (get_or places n 0)
+pub sector_shown : (contents : Image) (places : List ℕ) (n : ℕ) → n < length places → sector (sectors_at contents places) n ≡ sector contents (get_or places n 0)
 sector_shown contents places n below = get_or-map (sector contents) places n 0 [] below
 
 -- one sector shows another content
 pub shown_set : (contents contents' : Image) (places places' : List ℕ) (n : ℕ) (content : List ℕ) → n < length places → length places' ≡ length places
     → sector contents' (get_or places' n 0) ≡ content
     → ((i : ℕ) → i < length places → i ≢ n → sector contents' (get_or places' i 0) ≡ sector contents (get_or places i 0))
-    → shown contents' places' ≡ slice_set (shown contents places) n content
+    → sectors_at contents' places' ≡ slice_set (sectors_at contents places) n content
 shown_set contents contents' places places' n content below size here others =
-    ext_get_or [] (shown contents' places') (slice_set (shown contents places) n content) (length-map places' (sector contents') ∙ size ∙ sym (length-set (shown contents places) n content ∙ length-map places (sector contents))) each
+    ext_get_or [] (sectors_at contents' places') (slice_set (sectors_at contents places) n content) (length-map places' (sector contents') ∙ size ∙ sym (length-set (sectors_at contents places) n content ∙ length-map places (sector contents))) each
   where
-    each : (i : ℕ) → i < length (shown contents' places') → sector (shown contents' places') i ≡ sector (slice_set (shown contents places) n content) i
+    each : (i : ℕ) → i < length (sectors_at contents' places') → sector (sectors_at contents' places') i ≡ sector (slice_set (sectors_at contents places) n content) i
     each i fits =
         let new : i < length places' = omega (arith, fits, length-map places' (sector contents')) in
         let old : i < length places = omega (arith, new, size) in
@@ -28,8 +28,8 @@ shown_set contents contents' places places' n content below size here others =
         ∙ elim (cases_eq i n) [
           | inl same ↦
               ap (λ k. sector contents' (get_or places' k 0)) same ∙ here
-              ∙ sym (get_or-set_at (shown contents places) n i content [] same (omega (arith, below, length-map places (sector contents))))
-          | inr other ↦ others i old other ∙ sym (get_or-set_other (shown contents places) n i content [] other ∙ sector_shown contents places i old)
+              ∙ sym (get_or-set_at (sectors_at contents places) n i content [] same (omega (arith, below, length-map places (sector contents))))
+          | inr other ↦ others i old other ∙ sym (get_or-set_other (sectors_at contents places) n i content [] other ∙ sector_shown contents places i old)
         ]
 
 -- ---- one content less
@@ -179,7 +179,7 @@ cleared_kept places places' contents contents' owners owners' n at last kept bel
     unique i fits same = apart places contents owners i n kept fits below (λ none. used (is ∙ none)) same
 
 pub cleared_shown : (places places' : List ℕ) (contents contents' : Image) (owners : List ℕ) (n at last : ℕ) → IsKept places contents owners → n < length places → at ≡ get_or places n 0
-    → at ≢ 0 → last + 1 ≡ length contents → IsRemoved at contents contents' → IsCleared n at last places places' → shown contents' places' ≡ slice_set (shown contents places) n (replicate 512 0)
+    → at ≢ 0 → last + 1 ≡ length contents → IsRemoved at contents contents' → IsCleared n at last places places' → sectors_at contents' places' ≡ slice_set (sectors_at contents places) n (replicate 512 0)
 cleared_shown places places' contents contents' owners n at last kept below is used len content cleared =
     shown_set contents contents' places places' n (replicate 512 0) below cleared.size
     (ap (λ k. sector contents' k) cleared.here ∙ content.rest 0 [] (λ none. used (sym none)) (let fits = kept.placed n below in omega (arith, fits, is, used, len)) ∙ kept.zeros)
@@ -197,13 +197,13 @@ cleared_shown places places' contents contents' owners n at last kept below is u
 
 -- a sector of zeros has zeros already
 pub zeros_stay : (places : List ℕ) (contents : Image) (owners : List ℕ) (n : ℕ) → IsKept places contents owners → n < length places → get_or places n 0 ≡ 0
-    → shown contents places ≡ slice_set (shown contents places) n (replicate 512 0)
+    → sectors_at contents places ≡ slice_set (sectors_at contents places) n (replicate 512 0)
 zeros_stay places contents owners n kept below none =
     shown_set contents contents places places n (replicate 512 0) below refl (ap (λ k. sector contents k) none ∙ kept.zeros) (λ i fits other. refl)
 
 -- ---- a content in place of another, or one more
 pub replaced_shown : (places : List ℕ) (contents : Image) (owners : List ℕ) (n at : ℕ) (content : List ℕ) → IsKept places contents owners → n < length places → at ≡ get_or places n 0 → at ≢ 0
-    → shown (slice_set contents at content) places ≡ slice_set (shown contents places) n content
+    → sectors_at (slice_set contents at content) places ≡ slice_set (sectors_at contents places) n content
 replaced_shown places contents owners n at content kept below is used =
     shown_set contents (slice_set contents at content) places places n content below refl
     (get_or-set_at contents at (get_or places n 0) content [] (sym is) (let fits = kept.placed n below in omega (arith, fits, is)))
@@ -260,7 +260,7 @@ added_kept places contents owners n at content kept below none end whole used = 
     last_owner k here = get_or-append_right owners (n ∷ []) (length owners) k 0 refl (omega (arith, here)) ∙ ap (λ j. get_or (n ∷ []) j 0) (let first : k - length owners ≡ 0 = omega (arith, here) in first)
 
 pub added_shown : (places : List ℕ) (contents : Image) (owners : List ℕ) (n at : ℕ) (content : List ℕ) → IsKept places contents owners → n < length places
-    → at ≡ length contents → shown (contents ++ content ∷ []) (slice_set places n at) ≡ slice_set (shown contents places) n content
+    → at ≡ length contents → sectors_at (contents ++ content ∷ []) (slice_set places n at) ≡ slice_set (sectors_at contents places) n content
 added_shown places contents owners n at content kept below end =
     shown_set contents (contents ++ content ∷ []) places (slice_set places n at) n content below (length-set places n at)
     (ap (λ k. sector (contents ++ content ∷ []) k) (get_or-set_at places n n at 0 refl below)
@@ -285,26 +285,26 @@ zeros_kept count whole = record {
     none : (n : ℕ) → n < length {A = ℕ} (replicate count 0) → get_or {A = ℕ} (replicate count 0) n 0 ≡ 0
     none n fits = get_or-replicate count n 0 0 (omega (arith, fits, length-replicate {A = ℕ} count 0))
 
-pub zeros_shown : (count : ℕ) → shown (replicate 512 0 ∷ []) (replicate count 0) ≡ replicate count (replicate 512 0)
+pub zeros_shown : (count : ℕ) → sectors_at (replicate 512 0 ∷ []) (replicate count 0) ≡ replicate count (replicate 512 0)
 zeros_shown count =
-    ext_get_or [] (shown (replicate 512 0 ∷ []) (replicate count 0)) (replicate count (replicate 512 0)) (size ∙ sym (length-replicate count (replicate 512 0)))
+    ext_get_or [] (sectors_at (replicate 512 0 ∷ []) (replicate count 0)) (replicate count (replicate 512 0)) (size ∙ sym (length-replicate count (replicate 512 0)))
     (λ i fits.
     let below : i < count = omega (arith, fits, size) in
     sector_shown (replicate 512 0 ∷ []) (replicate count 0) i (omega (arith, below, length-replicate {A = ℕ} count 0)) ∙ ap (λ k. sector (replicate 512 0 ∷ []) k) (get_or-replicate count i 0 0 below)
     ∙ sym (get_or-replicate count i (replicate 512 0) [] below))
   where
-    size : length (shown (replicate 512 0 ∷ []) (replicate count 0)) ≡ count
+    size : length (sectors_at (replicate 512 0 ∷ []) (replicate count 0)) ≡ count
     size = length-map (replicate count 0) (sector (replicate 512 0 ∷ [])) ∙ length-replicate {A = ℕ} count 0
 
 -- ---- whole sectors
-pub shown_whole : (places : List ℕ) (contents : Image) (owners : List ℕ) → IsKept places contents owners → AreSectors (shown contents places)
+pub shown_whole : (places : List ℕ) (contents : Image) (owners : List ℕ) → IsKept places contents owners → AreSectors (sectors_at contents places)
 shown_whole places contents owners kept n below =
     let fits : n < length places = omega (arith, below, length-map places (sector contents)) in
     subst IsWholeSector (sym (sector_shown contents places n fits)) (kept.whole (get_or places n 0) (kept.placed n fits))
 
 -- ---- as a function has them
 -- the place of a sector, as it's read
-pub place_read : (places : List ℕ) (contents seen : Image) (n at : ℕ) → shown contents places ≡ seen → n < length seen → at ≡ get_or places n at → (n < length places) × (at ≡ get_or places n 0)
+pub place_read : (places : List ℕ) (contents seen : Image) (n at : ℕ) → sectors_at contents places ≡ seen → n < length seen → at ≡ get_or places n at → (n < length places) × (at ≡ get_or places n 0)
 place_read places contents seen n at is fits read =
     let below : n < length places = let size = ap (λ (i : Image). length i) is in omega (arith, fits, size, length-map places (sector contents)) in
     (below, read ∙ get_or_default_zero places n at below)
@@ -342,7 +342,7 @@ removal_kept places contents owners n at places' contents' owners' removal clear
     cleared_kept places places' contents contents' owners owners' n at (length contents - 1) kept removal.below removal.is removal.used (let some = kept.some in omega (arith, some)) removal.content removal.owner cleared
 
 removal_shown : (places : List ℕ) (contents : Image) (owners : List ℕ) (n at : ℕ) (places' : List ℕ) (contents' : Image) (owners' : List ℕ) → IsRemoval places contents owners n at contents' owners'
-    → IsCleared n at (length contents - 1) places places' → shown contents' places' ≡ slice_set (shown contents places) n (replicate 512 0)
+    → IsCleared n at (length contents - 1) places places' → sectors_at contents' places' ≡ slice_set (sectors_at contents places) n (replicate 512 0)
 removal_shown places contents owners n at places' contents' owners' removal cleared =
     let kept = removal.kept in
     cleared_shown places places' contents contents' owners n at (length contents - 1) kept removal.below removal.is removal.used (let some = kept.some in omega (arith, some)) removal.content cleared
@@ -353,7 +353,7 @@ moved_kept places contents owners n at moved contents' owners' removal early rea
     removal_kept places contents owners n at (slice_set (slice_set places n 0) moved at) contents' owners' removal (removal_moved places contents owners n at moved contents' owners' removal early read)
 
 pub moved_shown : (places : List ℕ) (contents : Image) (owners : List ℕ) (n at moved : ℕ) (contents' : Image) (owners' : List ℕ) → IsRemoval places contents owners n at contents' owners'
-    → at < length owners' → moved ≡ get_or owners' at moved → shown contents' (slice_set (slice_set places n 0) moved at) ≡ slice_set (shown contents places) n (replicate 512 0)
+    → at < length owners' → moved ≡ get_or owners' at moved → sectors_at contents' (slice_set (slice_set places n 0) moved at) ≡ slice_set (sectors_at contents places) n (replicate 512 0)
 moved_shown places contents owners n at moved contents' owners' removal early read =
     removal_shown places contents owners n at (slice_set (slice_set places n 0) moved at) contents' owners' removal (removal_moved places contents owners n at moved contents' owners' removal early read)
 
@@ -363,7 +363,7 @@ last_kept places contents owners n at contents' owners' removal late =
     removal_kept places contents owners n at (slice_set places n 0) contents' owners' removal (removal_last places contents owners n at contents' owners' removal late)
 
 pub last_shown : (places : List ℕ) (contents : Image) (owners : List ℕ) (n at : ℕ) (contents' : Image) (owners' : List ℕ) → IsRemoval places contents owners n at contents' owners'
-    → length owners' ≤ at → shown contents' (slice_set places n 0) ≡ slice_set (shown contents places) n (replicate 512 0)
+    → length owners' ≤ at → sectors_at contents' (slice_set places n 0) ≡ slice_set (sectors_at contents places) n (replicate 512 0)
 last_shown places contents owners n at contents' owners' removal late =
     removal_shown places contents owners n at (slice_set places n 0) contents' owners' removal (removal_last places contents owners n at contents' owners' removal late)
 
@@ -448,24 +448,24 @@ run_all count run old new size all set =
 
 -- neighbours in neighbouring places
 pub row_shown : (first len start : ℕ) (places : List ℕ) (contents : Image) → first + len ≤ length places → start + len ≤ length contents → IsRow start (slice_range places first (first + len))
-    → slice_range contents start (start + len) ≡ slice_range (shown contents places) first (first + len)
+    → slice_range contents start (start + len) ≡ slice_range (sectors_at contents places) first (first + len)
 row_shown first len start places contents fits stands row =
-    ext_get_or [] (slice_range contents start (start + len)) (slice_range (shown contents places) first (first + len)) (size ∙ sym other) (λ k below.
+    ext_get_or [] (slice_range contents start (start + len)) (slice_range (sectors_at contents places) first (first + len)) (size ∙ sym other) (λ k below.
     let early : k < len = omega (arith, below, size) in
     let place : get_or (slice_range places first (first + len)) k 0 ≡ get_or places (first + k) 0 =
     get_or-take (first + len - first) (drop first places) k 0 (omega (arith, early)) ∙ get_or-drop first places k 0 in
     get_or-take (start + len - start) (drop start contents) k [] (omega (arith, early)) ∙ get_or-drop start contents k []
     ∙ ap (λ j. sector contents j) (sym (row k (omega (arith, early, fits, length-take (first + len - first) (drop first places), length-drop first places))) ∙ place)
     ∙ sym (sector_shown contents places (first + k) (omega (arith, early, fits)))
-    ∙ sym (get_or-take (first + len - first) (drop first (shown contents places)) k [] (omega (arith, early)) ∙ get_or-drop first (shown contents places) k []))
+    ∙ sym (get_or-take (first + len - first) (drop first (sectors_at contents places)) k [] (omega (arith, early)) ∙ get_or-drop first (sectors_at contents places) k []))
   where
     size : length (slice_range contents start (start + len)) ≡ len
     size = omega (arith, stands, length-take (start + len - start) (drop start contents), length-drop start contents)
 
-    other : length (slice_range (shown contents places) first (first + len)) ≡ len
-    other = omega (arith, fits, length-take (first + len - first) (drop first (shown contents places)), length-drop first (shown contents places), length-map places (sector contents))
+    other : length (slice_range (sectors_at contents places) first (first + len)) ≡ len
+    other = omega (arith, fits, length-take (first + len - first) (drop first (sectors_at contents places)), length-drop first (sectors_at contents places), length-map places (sector contents))
 
-pub row_seen : (first len start : ℕ) (places read : List ℕ) (contents stored seen : Image) → shown contents places ≡ seen → read ≡ places → stored ≡ contents → first + len ≤ length seen
+pub row_seen : (first len start : ℕ) (places read : List ℕ) (contents stored seen : Image) → sectors_at contents places ≡ seen → read ≡ places → stored ≡ contents → first + len ≤ length seen
     → start + len ≤ length contents → IsRow start (slice_range read first (first + len)) → slice_range stored start (start + len) ≡ slice_range seen first (first + len)
 row_seen first len start places read contents stored seen view read_is stored_is fits stands row =
     ap (λ (i : Image). slice_range i start (start + len)) stored_is

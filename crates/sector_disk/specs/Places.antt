@@ -1,5 +1,5 @@
 -- Sectors in memory that are kept by places: a number for each sector, and each content that isn't zeros once.
---     shown        the sectors that the places stand for
+--     sectors_at        the sectors that the places stand for
 --     IsKept        zeros stand at place 0 alone, and each other content has one owner
 --     IsRunSet        neighbours got other contents
 --     IsRow        neighbouring places
@@ -8,8 +8,8 @@ use Rattle.sector_disk.specs.Disk.{Image, sector}
 use Rattle.sector_disk.specs.Whole.{AreSectors}
 
 -- the content at each place
-abbrev pub shown : Image → List ℕ → Image
-shown contents places = map (sector contents) places
+abbrev pub sectors_at : Image → List ℕ → Image
+sectors_at contents places = map (sector contents) places
 
 -- Place 0 has zeros. Each other place has a content that isn't zeros, and is that of one sector, its owner.
 pub record IsKept (places : List ℕ) (contents : Image) (owners : List ℕ) : Type 0 where

@@ -27,9 +27,9 @@ impl Model for Sectors {
 
     ghost Value = { Image };
 
-    ghost use Rattle.sector_disk.specs.Places.{shown, IsKept};
+    ghost use Rattle.sector_disk.specs.Places.{sectors_at, IsKept};
 
-    ghost view = { λ sectors. shown sectors.contents.items sectors.places.items };
+    ghost view = { λ sectors. sectors_at sectors.contents.items sectors.places.items };
 
     ghost invariant = { λ sectors. IsKept sectors.places.items sectors.contents.items sectors.owners.items };
 }

@@ -30,9 +30,10 @@ give_from-requires-clause-room g c =
 
 pub cut_sector-requires-clause-within : goal.cut_sector-requires-clause-within
 cut_sector-requires-clause-within g c = λ some.
-    let w = listed_within (g.S.Sectors.state c.args.s.now).header c.args.inode.now 1 _ (may_within c.requires.may) c.in_ok-sector.ensures.number some in
-    (omega (arith, w.0, c.in_ok-sector.ensures.same.store.header, c.in_ok-above.ensures.same.store.header, c.in_ok-give_from.ensures.store.header),
-    omega (arith, w.1, c.in_ok-sector.ensures.same.store.reads.narrowed.size, c.in_ok-above.ensures.same.store.reads.narrowed.size, c.in_ok-give_from.ensures.store.reads.narrowed.size))
+    let w = listed_within (g.S.Sectors.state c.args.s.now).header c.args.inode.now 1 _ (may_within c.requires.may) c.in_ok-sector.ensures.number some in (
+      omega (arith, w.0, c.in_ok-sector.ensures.same.store.header, c.in_ok-above.ensures.same.store.header, c.in_ok-give_from.ensures.store.header),
+      omega (arith, w.1, c.in_ok-sector.ensures.same.store.reads.narrowed.size, c.in_ok-above.ensures.same.store.reads.narrowed.size, c.in_ok-give_from.ensures.store.reads.narrowed.size),
+    )
 
 pub cut_sector-requires-clause-room : goal.cut_sector-requires-clause-room
 cut_sector-requires-clause-room g c = λ more.
@@ -42,9 +43,10 @@ cut_sector-requires-clause-room g c = λ more.
 pub cut_sector-requires-2-clause-within : goal.cut_sector-requires-2-clause-within
 cut_sector-requires-2-clause-within g c = λ some.
     let is = number_before c.in_ok-sector.ensures.same c.args.inode.now 2 0 c.in_ok-above.ensures.number in
-    let w = listed_within (g.S.Sectors.state c.args.s.now).header c.args.inode.now 2 0 (may_within c.requires.may) is some in
-    (omega (arith, w.0, c.in_ok-sector.ensures.same.store.header, c.in_ok-above.ensures.same.store.header, c.in_ok-give_from.ensures.store.header, c.cut_sector.ensures.puts.store.header),
-    omega (arith, w.1, c.in_ok-sector.ensures.same.store.reads.narrowed.size, c.in_ok-above.ensures.same.store.reads.narrowed.size, c.in_ok-give_from.ensures.store.reads.narrowed.size, c.cut_sector.ensures.puts.store.reads.narrowed.size))
+    let w = listed_within (g.S.Sectors.state c.args.s.now).header c.args.inode.now 2 0 (may_within c.requires.may) is some in (
+      omega (arith, w.0, c.in_ok-sector.ensures.same.store.header, c.in_ok-above.ensures.same.store.header, c.in_ok-give_from.ensures.store.header, c.cut_sector.ensures.puts.store.header),
+      omega (arith, w.1, c.in_ok-sector.ensures.same.store.reads.narrowed.size, c.in_ok-above.ensures.same.store.reads.narrowed.size, c.in_ok-give_from.ensures.store.reads.narrowed.size, c.cut_sector.ensures.puts.store.reads.narrowed.size),
+    )
 
 pub cut_sector-requires-2-clause-room : goal.cut_sector-requires-2-clause-room
 cut_sector-requires-2-clause-room g c = λ more.

@@ -77,7 +77,7 @@ loop-lent-preserved g c =
           (sym c.is_for.ensures ∙ c.if-not-is_for.false)
           (same-work
           (ap (λ (e : Stop). by_places c.args.pid c.args.second (at_path c.args.call.now) e (places_before c.args.self.now.server.server c.in-Some.lent.at c.args.inode))
-          (sym c.first_refusal-stop.ensures))
+          (sym c.standing_refusal-stop.ensures))
           did)),
       back ∙ c.loop-lent.invariant.1,
       c.call_at-tried.ensures.call ∙ c.loop-lent.invariant.2,

@@ -1,6 +1,6 @@
 use Rattle.std.proofs.Common.{ℕ, List, ap, slice_set, ◌∙◌, subst, sym, [], ◌∷◌, ◌++◌}
 use Rattle.sector_disk.specs.Disk.{Image}
-use Rattle.sector_disk.specs.Places.{shown, IsKept}
+use Rattle.sector_disk.specs.Places.{sectors_at, IsKept}
 use Rattle.sector_disk.proofs.Placed.{place_read, replaced_shown, added_kept, added_shown, pushed}
 use Rattle.sector_disk.proofs.sectors.Sectors.keep.Goals as goal
 
@@ -33,5 +33,5 @@ returns-clause-ok c =
     let read = place_read i.places.items i.contents.items c.args.self.now n c.index-place.result.now c.self.view_is c.requires.below c.index-place.ensures in
     let end = c.in-Ok.ensures.1 ∙ c.len.ensures ∙ i.contents.ok.0 in
     let more = pushed c.push-2.result c.is_err.result i.contents.items c.push-2.new.self.items content c.is_err.ensures.negation c.if-is_err.false c.push-2.ensures.items in
-    ap (λ (l : Image). shown l (slice_set i.places.items n c.in-Ok.place)) more
+    ap (λ (l : Image). sectors_at l (slice_set i.places.items n c.in-Ok.place)) more
     ∙ added_shown i.places.items i.contents.items i.owners.items n c.in-Ok.place content c.self.invariant read.0 end ∙ ap (λ (seen : Image). slice_set seen n content) c.self.view_is

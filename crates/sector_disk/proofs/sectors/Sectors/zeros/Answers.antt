@@ -1,6 +1,6 @@
 use Rattle.std.proofs.Common.{◌≡◌, ℕ, List, [], ◌∷◌, ◌++◌, ap, ◌∙◌, subst, sym, replicate}
 use Rattle.sector_disk.specs.Disk.{Image}
-use Rattle.sector_disk.specs.Places.{shown, IsKept}
+use Rattle.sector_disk.specs.Places.{sectors_at, IsKept}
 use Rattle.sector_disk.proofs.Placed.{zeros_kept, zeros_shown, made}
 use Rattle.sector_disk.proofs.sectors.Sectors.zeros.Goals as goal
 
@@ -21,4 +21,4 @@ returns c =
     let places = made n c.new-places.result.len c.new-places.result.items c.resize.new.self.items c.new-places.ensures.items c.new-places.ensures.len c.in_ok-resize.ensures.items in
     let contents : c.push.new.self.items ≡ c.new-contents.result.items ++ replicate 512 0 ∷ [] = c.in_ok-push.ensures.items in
     let one : c.push.new.self.items ≡ replicate 512 0 ∷ [] = contents ∙ ap (λ (l : Image). l ++ replicate 512 0 ∷ []) c.new-contents.ensures.items in
-    ap (λ (l : List ℕ). shown c.push.new.self.items l) places ∙ ap (λ (l : Image). shown l (replicate {A = ℕ} n 0)) one ∙ zeros_shown n
+    ap (λ (l : List ℕ). sectors_at c.push.new.self.items l) places ∙ ap (λ (l : Image). sectors_at l (replicate {A = ℕ} n 0)) one ∙ zeros_shown n
