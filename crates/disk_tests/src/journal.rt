@@ -25,8 +25,7 @@ fn disk_with(alloc: Global, count: u8) -> Result<MemDisk, AllocError>
 
 // So many sectors from 200 on, whose bytes are 7, 8 and so on.
 fn batch_of(alloc: Global, count: u8) -> Result<Batch, AllocError>
-    ensures few { IfOk result (λ batch. length batch ≤ MAX_TARGETS) }
-    ensures on_disk { IfOk result (λ batch. (size : ℕ) → 200 + count ≤ size → IsOnDisk 0 size batch) }
+    ensures { IfOk result (λ batch. (size : ℕ) → 200 + count ≤ size → IsOnDisk 0 size batch) }
 {
     let mut batch = Batch::new(alloc)?;
     for k in 0..count {
@@ -89,13 +88,15 @@ fn opened<D: Disk + Drop>(disk: D) -> Option<Journal<D>>
     }
 }
 
-// The disk after a commit of which so many writes and syncs pass.
+// The disk after a commit of which so many writes and syncs pass; none where the batch has more targets than the commit sector.
 fn committed<D: CrashDisk + Drop>(disk: D, batch: &Batch, passes: u64) -> Option<D>
     requires room { 128 ≤ (D.state disk).size }
-    requires few { length batch.now ≤ MAX_TARGETS }
     requires on_disk { IsOnDisk 0 (D.state disk).size batch.now }
     ensures { IfSome result (λ after. (D.state after).size ≡ (D.state disk).size) }
 {
+    if batch.len() > 126 {
+        return None;
+    }
     let mut journal = opened(disk)?;
     journal.arm(passes);
     Some(disk_after(journal, batch))
@@ -104,7 +105,6 @@ fn committed<D: CrashDisk + Drop>(disk: D, batch: &Batch, passes: u64) -> Option
 // The same, and a stop.
 fn stopped<D: CrashDisk + Drop>(disk: D, batch: &Batch, passes: u64, choice: &[u8]) -> Option<D>
     requires room { 128 ≤ (D.state disk).size }
-    requires few { length batch.now ≤ MAX_TARGETS }
     requires on_disk { IsOnDisk 0 (D.state disk).size batch.now }
     ensures { IfSome result (λ after. (D.state after).size ≡ (D.state disk).size) }
 {
@@ -166,7 +166,6 @@ fn bytes_after_stop<D: CrashDisk + Drop>(
     choice: &[u8],
 ) -> Option<(u8, u8)>
     requires room { 202 ≤ (D.state disk).size }
-    requires few { length batch.now ≤ MAX_TARGETS }
     requires on_disk { IsOnDisk 0 (D.state disk).size batch.now }
 {
     let disk = stopped(disk, batch, passes, choice)?;
@@ -227,7 +226,6 @@ fn bytes_after_stops<D: CrashDisk + Drop>(
     later: &[u8],
 ) -> Option<(u8, u8)>
     requires room { 202 ≤ (D.state disk).size }
-    requires few { length batch.now ≤ MAX_TARGETS }
     requires on_disk { IsOnDisk 0 (D.state disk).size batch.now }
 {
     let disk = stopped(disk, batch, passes, choice)?;
@@ -299,8 +297,7 @@ fn bytes_after_fault<D: Disk + Drop>(disk: D) -> Option<(u8, u8)>
 
 // A disk whose batch is sealed: of its commit log and commit sector are written, and nothing more.
 fn sealed_disk(alloc: Global, batch: &Batch) -> Option<MemDisk>
-    requires few { length batch.now ≤ MAX_TARGETS }
-    requires on_disk { IsOnDisk 0 512 batch.now }
+    requires { IsOnDisk 0 512 batch.now }
     ensures { IfSome result (λ disk. (⟦<MemDisk as Disk>⟧.state disk).size ≡ 512) }
 {
     let passes = batch.len() as u64 + 3;
@@ -366,7 +363,6 @@ fn a_disk_that_is_not_opened_is_given_back(rt: HostRuntime) -> Result<(), Fail> 
 // None of the writes and syncs of a commit fails where so many pass.
 fn is_committed<D: CrashDisk + Drop>(disk: D, batch: &Batch, passes: u64) -> bool
     requires room { 128 ≤ (D.state disk).size }
-    requires few { length batch.now ≤ MAX_TARGETS }
     requires on_disk { IsOnDisk 0 (D.state disk).size batch.now }
 {
     match committed(disk, batch, passes) {
@@ -385,7 +381,6 @@ fn is_opened<D: CrashDisk + Drop>(disk: D, passes: u64) -> bool
 
 // How many writes and syncs a commit makes: that many have to pass.
 fn commit_calls(alloc: Global, batch: &Batch) -> Option<u64>
-    requires few { length batch.now ≤ MAX_TARGETS }
     requires on_disk { IsOnDisk 0 512 batch.now }
 {
     for passes in 0..300 {
@@ -398,7 +393,6 @@ fn commit_calls(alloc: Global, batch: &Batch) -> Option<u64>
 
 // How many an opening makes once the batch is sealed.
 fn recovery_calls(alloc: Global, batch: &Batch) -> Option<u64>
-    requires few { length batch.now ≤ MAX_TARGETS }
     requires on_disk { IsOnDisk 0 512 batch.now }
 {
     for passes in 0..300 {
@@ -432,9 +426,11 @@ fn writes_and_syncs_are_counted(rt: HostRuntime) -> Result<(), Fail> {
 // What is read after a fault within a seal, once the disk is armed again.
 fn bytes_after_arming<D: CrashDisk + Drop>(disk: D, batch: &Batch) -> Option<(u8, u8)>
     requires room { 202 ≤ (D.state disk).size }
-    requires few { length batch.now ≤ MAX_TARGETS }
     requires on_disk { IsOnDisk 0 (D.state disk).size batch.now }
 {
+    if batch.len() > 126 {
+        return None;
+    }
     let mut journal = opened(disk)?;
     journal.arm(4);
     match journal.log(batch) {

@@ -8,4 +8,5 @@ unfolding inode_fits
 made-requires-clause-fits g c = made_fits (λ e. cc) refl (omega arith) (omega arith) (omega arith) (omega arith)
 
 pub first_bytes-requires : goal.first_bytes-requires
-first_bytes-requires g c = omega (arith, c.in_ok-n.ensures.sound.bitmaps.disk, c.in_ok-inode.ensures.same.store.reads.narrowed.size)
+first_bytes-requires g c =
+    omega (arith, c.in_ok-n.ensures.sound.bitmaps.disk, c.in_ok-n.ensures.sound.bitmaps.header, c.in_ok-inode.ensures.same.store.reads.narrowed.size, c.in_ok-inode.ensures.same.store.header)

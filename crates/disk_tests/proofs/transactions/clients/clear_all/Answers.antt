@@ -42,7 +42,7 @@ returns-clause-cleared g c = λ n (k, lt, is).
     subst (λ (m : ℕ). (g.S.Sectors.state c.loop-n.s).sectors m ≡ replicate 512 0) found (c.loop-n.invariant.cleared k (omega (arith, lt, c.loop-n-test.false)))
 
 pub put-requires-clause-part : goal.put-requires-clause-part
-put-requires-clause-part g c = (c.requires.part c.loop-n.n-index 0 c.loop-n-test.true).0
+put-requires-clause-part g c = omega (arith, (c.requires.part c.loop-n.n-index 0 c.loop-n-test.true).0, c.loop-n.invariant.changes.store.header)
 
 pub put-requires-clause-on_disk : goal.put-requires-clause-on_disk
 put-requires-clause-on_disk g c = omega (arith, (c.requires.part c.loop-n.n-index 0 c.loop-n-test.true).1, c.loop-n.invariant.changes.store.reads.narrowed.size)
