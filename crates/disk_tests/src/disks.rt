@@ -156,6 +156,14 @@ const TWO_SECTORS: [Call; 4] = [
     Call::Write(3, 3),
 ];
 
+// Zeros over a content, and a content over zeros.
+const ZEROS_BETWEEN: [Call; 4] = [
+    Call::Write(2, 1),
+    Call::Sync,
+    Call::Write(2, 0),
+    Call::Write(3, 1),
+];
+
 const SYNCED_BETWEEN: [Call; 4] = [
     Call::Write(0, 1),
     Call::Write(1, 1),
@@ -175,7 +183,7 @@ fn stopped_in_memory(
 }
 
 // How many writes and syncs pass, the calls, the choice, how often the disk has failed, and the first bytes.
-static STOPS: [(u64, [Call; 4], &[u8], u64, [u8; 4]); 21] = [
+static STOPS: [(u64, [Call; 4], &[u8], u64, [u8; 4]); 24] = [
     (9, ONE_SECTOR, &[], 0, [0, 0, 1, 0]),
     (9, ONE_SECTOR, &[0], 0, [0, 0, 1, 0]),
     (9, ONE_SECTOR, &[1], 0, [0, 0, 2, 0]),
@@ -190,6 +198,10 @@ static STOPS: [(u64, [Call; 4], &[u8], u64, [u8; 4]); 21] = [
     (9, TWO_SECTORS, &[1, 1], 0, [0, 1, 0, 2]),
     (9, TWO_SECTORS, &[2, 2], 0, [0, 0, 0, 3]),
     (9, TWO_SECTORS, &[1, 2, 9], 0, [0, 1, 0, 3]),
+    // What zeros were written over may be left as well.
+    (9, ZEROS_BETWEEN, &[0, 1], 0, [0, 0, 1, 1]),
+    (9, ZEROS_BETWEEN, &[1, 1], 0, [0, 0, 0, 1]),
+    (9, ZEROS_BETWEEN, &[2], 0, [0, 0, 1, 0]),
     // What a fault kept from passing may be left too.
     (0, SYNCED_BETWEEN, &[0, 0], 4, [0, 0, 0, 0]),
     (0, SYNCED_BETWEEN, &[1, 1], 4, [1, 1, 0, 0]),

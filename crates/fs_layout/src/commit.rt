@@ -159,7 +159,8 @@ impl Commit {
     pub fn counted(from: &[u8; 512], header: u32) -> Option<Commit>
         requires { header ≤ MAX_HEADER }
         ensures count { IfSome result (λ targets. length targets ≡ u32_of from.now 4) }
-        ensures first { IfSome result (λ targets. (i : ℕ) → i < MAX_TARGETS → i < length targets → get_or targets i 0 ≡ u32_of from.now (8 + 4 * i)) }
+        ensures first { IfSome result (λ targets. (i : ℕ) → i < MAX_TARGETS → i < length targets
+            → get_or targets i 0 ≡ u32_of from.now (8 + 4 * i)) }
         ensures none { IfNone result (max_targets header < u32_of from.now 4) }
     {
         let count = u32_at(from, 4) as usize;

@@ -89,7 +89,8 @@ impl Batch {
         ensures put { self.new ≡ put_entry self.old n from.now }
         ensures map { (sectors : SectorMap) → Puts n from.now (with_batch self.old sectors) (with_batch self.new sectors) }
         ensures len { length self.new ≡ (if has_entry self.old n then length self.old else length self.old + 1) }
-        ensures on_disk { (header size : ℕ) → log_end header ≤ n → n < size → IsOnDisk header size self.old → IsOnDisk header size self.new }
+        ensures on_disk { (header size : ℕ) → log_end header ≤ n → n < size → IsOnDisk header size self.old
+            → IsOnDisk header size self.new }
     {
         let at = index_for(&mut self.sectors, n);
         self.contents[at] = *from;
@@ -172,7 +173,8 @@ impl Batch {
         requires room { length self.old + added self.old other.now ≤ MAX_LOG_SECTORS }
         ensures map { (sectors : SectorMap) (n : ℕ) → with_batch self.new sectors n ≡ with_batch other.now (with_batch self.old sectors) n }
         ensures len { length self.new ≡ length self.old + added self.old other.now }
-        ensures on_disk { (header size : ℕ) → IsOnDisk header size self.old → IsOnDisk header size other.now → IsOnDisk header size self.new }
+        ensures on_disk { (header size : ℕ) → IsOnDisk header size self.old → IsOnDisk header size other.now
+            → IsOnDisk header size self.new }
     {
         for (n, content) in other.sectors().iter().zip(other.contents()) {
             self.put(*n, content);

@@ -2,15 +2,31 @@
 use Rattle.std.proofs.Common.{◌≡◌, ◌≢◌, ◌⊎◌, inl, inr, ⊎_elim, ℕ, ◌+◌, ◌-◌, ◌<◌, ◌≤◌, List, [], ◌∷◌, ◌++◌, length, take, drop, refl, sym, ◌∙◌, ap, subst, arith, slice_set, get_or, replicate, length-set, length-append, length-take, length-drop, get_or-set_other}
 use Rattle.std.proofs.lemmas.Bool.{cases_eq, cases_lt}
 use Rattle.std.proofs.lemmas.Grind.{get_or-set_at, get_or_default_zero}
-use Rattle.std.proofs.lemmas.List.{ext_get_or, take_all, get_or-take, get_or-drop, get_or_append_left, get_or-append_right, get_or-map, get_or-replicate, length-map, length-replicate}
+use Rattle.std.proofs.lemmas.List.{get_or_past, get_or_default, ext_get_or, take_all, get_or-take, get_or-drop, get_or_append_left, get_or-append_right, get_or-map, get_or-replicate, length-map, length-replicate}
 use Rattle.std.specs.Prelude.{Result, slice_range, Bool, false, not, if◌then◌else◌}
 use Rattle.std.specs.Result.{is_ok}
 use Rattle.sector_disk.specs.Disk.{Image, sector, IsWholeSector}
 use Rattle.sector_disk.specs.Whole.{AreSectors}
-use Rattle.sector_disk.specs.Places.{sectors_at, IsKept, IsRunSet, IsRow}
+use Rattle.sector_disk.specs.Places.{sectors_at, Placed, HasPlace, IsKept, IsRunSet, IsRow}
 
 pub sector_shown : (contents : Image) (places : List ℕ) (n : ℕ) → n < length places → sector (sectors_at contents places) n ≡ sector contents (get_or places n 0)
 sector_shown contents places n below = get_or-map (sector contents) places n 0 [] below
+
+-- what two that are the same show
+pub shown_is : {some other : Placed} → some ≡ other → some.shown ≡ other.shown
+shown_is same = ap (λ (sectors : Placed). sectors.shown) same
+
+pub places_are : {some other : Placed} → some ≡ other → some.places ≡ other.places
+places_are same = ap (λ (sectors : Placed). sectors.places) same
+
+-- of the places before, which a contract sees
+pub keeps_in : {shown : Image} {places : List ℕ} {sectors : Placed} (later : List ℕ) → record { shown = shown; places = places } ≡ sectors → (n : ℕ)
+    → ((k : ℕ) → k ≢ n → get_or places k 0 ≢ 0 → get_or later k 0 ≢ 0) → (k : ℕ) → k ≢ n → HasPlace sectors k → get_or later k 0 ≢ 0
+keeps_in later is n keeps k other some = keeps k other (λ none. some (ap (λ (s : Placed). get_or s.places k 0) (sym is) ∙ none))
+
+pub keeps_all : {shown : Image} {places : List ℕ} {sectors : Placed} (later : List ℕ) → record { shown = shown; places = places } ≡ sectors
+    → ((k : ℕ) → get_or places k 0 ≢ 0 → get_or later k 0 ≢ 0) → (k : ℕ) → HasPlace sectors k → get_or later k 0 ≢ 0
+keeps_all later is keeps k some = keeps k (λ none. some (ap (λ (s : Placed). get_or s.places k 0) (sym is) ∙ none))
 
 -- one sector shows another content
 pub shown_set : (contents contents' : Image) (places places' : List ℕ) (n : ℕ) (content : List ℕ) → n < length places → length places' ≡ length places
@@ -102,10 +118,6 @@ cleared_kept places places' contents contents' owners owners' n at last kept bel
     | inr other ↦ subst IsWholeSector (sym (content_stays k other (below_last k fits))) (kept.whole k (omega (arith, len, below_last k fits)))
   ];
   zeros = content_stays 0 (λ none. used (sym none)) (omega (arith, at_fits, used, len)) ∙ kept.zeros;
-  used = λ k fits other. elim (cases_eq k at) [
-    | inl here ↦ λ zeros. kept.used last (omega (arith, len)) (omega (arith, below_last k fits)) (sym (content_moved k here (below_last k fits)) ∙ zeros)
-    | inr apart ↦ λ zeros. kept.used k (omega (arith, len, below_last k fits)) other (sym (content_stays k apart (below_last k fits)) ∙ zeros)
-  ];
   placed = λ i fits. elim (cases_eq i n) [
     | inl same ↦ let zero = ap (λ j. get_or places' j 0) same ∙ cleared.here in omega (arith, zero, len, at_fits, used, content.len)
     | inr other ↦
@@ -195,6 +207,15 @@ cleared_shown places places' contents contents' owners n at last kept below is u
     ∙ content.rest (get_or places i 0) [] (λ same. other (apart places contents owners i n kept fits below (λ none. used (is ∙ none)) (same ∙ is))) (omega (arith, here, apart_from, len)))
     (cleared.others i fits other))
 
+-- each other sector that had a place has one
+cleared_keeps : (n at last : ℕ) (old new : List ℕ) (k : ℕ) → at ≢ 0 → IsCleared n at last old new → k ≢ n → get_or old k 0 ≢ 0 → get_or new k 0 ≢ 0
+cleared_keeps n at last old new k used cleared other some = elim (cases_lt k (length old)) [
+  | inl fits ↦
+      ⊎_elim (λ moved. λ none. used (sym moved.1 ∙ none)) (λ (stays : (get_or old k 0 ≢ last) × (get_or new k 0 ≡ get_or old k 0)). λ none. some (sym stays.1 ∙ none))
+      (cleared.others k fits other)
+  | inr past ↦ absurd (some (get_or_past old k 0 past))
+]
+
 -- a sector of zeros has zeros already
 pub zeros_stay : (places : List ℕ) (contents : Image) (owners : List ℕ) (n : ℕ) → IsKept places contents owners → n < length places → get_or places n 0 ≡ 0
     → sectors_at contents places ≡ slice_set (sectors_at contents places) n (replicate 512 0)
@@ -209,9 +230,36 @@ replaced_shown places contents owners n at content kept below is used =
     (get_or-set_at contents at (get_or places n 0) content [] (sym is) (let fits = kept.placed n below in omega (arith, fits, is)))
     (λ i fits other. get_or-set_other contents at (get_or places i 0) content [] (λ same. other (apart places contents owners i n kept fits below (λ none. used (is ∙ none)) (same ∙ is))))
 
+-- one that has a place gets another content
+pub replaced_kept : (places : List ℕ) (contents : Image) (owners : List ℕ) (at : ℕ) (content : List ℕ) → IsKept places contents owners → at ≢ 0 → IsWholeSector content
+    → IsKept places (slice_set contents at content) owners
+replaced_kept places contents owners at content kept used whole = record {
+  some = let some = kept.some in omega (arith, some, size);
+  len = kept.len ∙ sym size;
+  whole = λ k fits. elim (cases_eq k at) [
+    | inl here ↦ subst IsWholeSector (sym (get_or-set_at contents at k content [] here (omega (arith, fits, size, here)))) whole
+    | inr other ↦ subst IsWholeSector (sym (get_or-set_other contents at k content [] other)) (kept.whole k (omega (arith, fits, size)))
+  ];
+  zeros = get_or-set_other contents at 0 content [] (λ none. used (sym none)) ∙ kept.zeros;
+  placed = λ n fits. let was = kept.placed n fits in omega (arith, was, size);
+  owned = kept.owned;
+  owner = λ k fits other. kept.owner k (omega (arith, fits, size)) other;
+  owns = λ k fits other. kept.owns k (omega (arith, fits, size)) other;
+}
+  where
+    size : length (slice_set contents at content) ≡ length contents
+    size = length-set contents at content
+
+-- each sector that had a place has one, and so has this
+pub added_keeps : (places : List ℕ) (n at : ℕ) → n < length places → at ≢ 0 → (k : ℕ) → get_or places k 0 ≢ 0 → get_or (slice_set places n at) k 0 ≢ 0
+added_keeps places n at below used k some = elim (cases_eq k n) [
+  | inl same ↦ λ none. used (sym (get_or-set_at places n k at 0 same below) ∙ none)
+  | inr other ↦ λ none. some (sym (get_or-set_other places n k at 0 other) ∙ none)
+]
+
 pub added_kept : (places : List ℕ) (contents : Image) (owners : List ℕ) (n at : ℕ) (content : List ℕ) → IsKept places contents owners → n < length places → get_or places n 0 ≡ 0
-    → at ≡ length contents → IsWholeSector content → content ≢ replicate 512 0 → IsKept (slice_set places n at) (contents ++ content ∷ []) (owners ++ n ∷ [])
-added_kept places contents owners n at content kept below none end whole used = record {
+    → at ≡ length contents → IsWholeSector content → IsKept (slice_set places n at) (contents ++ content ∷ []) (owners ++ n ∷ [])
+added_kept places contents owners n at content kept below none end whole = record {
   some = omega (arith, more);
   len = omega (arith, kept.len, more, length-append owners (n ∷ []));
   whole = λ k fits. elim (cases_lt k (length contents)) [
@@ -219,10 +267,6 @@ added_kept places contents owners n at content kept below none end whole used = 
     | inr new ↦ subst IsWholeSector (sym (last_content k (omega (arith, fits, new, more)))) whole
   ];
   zeros = get_or_append_left contents (content ∷ []) [] 0 kept.some ∙ kept.zeros;
-  used = λ k fits other. elim (cases_lt k (length contents)) [
-    | inl old ↦ λ zeros. kept.used k old other (sym (get_or_append_left contents (content ∷ []) [] k old) ∙ zeros)
-    | inr new ↦ λ zeros. used (sym (last_content k (omega (arith, fits, new, more))) ∙ zeros)
-  ];
   placed = λ i fits. elim (cases_eq i n) [
     | inl same ↦ omega (arith, get_or-set_at places n i at 0 same below, end, more)
     | inr other ↦ let was = kept.placed i (omega (arith, fits, length-set places n at)) in omega (arith, was, get_or-set_other places n i at 0 other, more)
@@ -275,7 +319,6 @@ zeros_kept count whole = record {
   len = refl;
   whole = λ k fits. subst (λ j. IsWholeSector (sector (replicate 512 0 ∷ []) j)) (let first : 0 ≡ k = omega (arith, fits) in first) whole;
   zeros = refl;
-  used = λ k fits other. absurd (other (omega (arith, fits)));
   placed = λ n fits. let zero = none n fits in omega (arith, zero);
   owned = λ n fits some. absurd (some (none n fits));
   owner = λ k fits other. absurd (other (omega (arith, fits)));
@@ -308,6 +351,21 @@ pub place_read : (places : List ℕ) (contents seen : Image) (n at : ℕ) → se
 place_read places contents seen n at is fits read =
     let below : n < length places = let size = ap (λ (i : Image). length i) is in omega (arith, fits, size, length-map places (sector contents)) in
     (below, read ∙ get_or_default_zero places n at below)
+
+-- what is read of a sector isn't zeros only where it has a place
+pub read_placed : (places : List ℕ) (contents : Image) (owners : List ℕ) (sectors : Placed) (n at : ℕ) (read : List ℕ) → IsKept places contents owners
+    → record { shown = sectors_at contents places; places = places } ≡ sectors → n < length sectors.shown → at ≡ get_or places n at → read ≡ get_or contents at read
+    → read ≢ replicate 512 0 → HasPlace sectors n
+read_placed places contents owners sectors n at read kept is fits place content used none =
+    let below : n < length places = let size = ap (λ (i : Image). length i) (shown_is is) in omega (arith, fits, size, length-map places (sector contents)) in
+    let zero : at ≡ 0 = place ∙ get_or_default_zero places n at below ∙ ap (λ l. get_or l n 0) (places_are is) ∙ none in
+    used (content ∙ ap (λ k. get_or contents k read) zero ∙ get_or_default contents 0 read [] kept.some ∙ kept.zeros)
+
+-- the place of a sector, as a contract sees it
+pub place_seen : (places : List ℕ) (contents : Image) (sectors : Placed) (n : ℕ) → record { shown = sectors_at contents places; places = places } ≡ sectors → n < length sectors.shown
+    → (n < length places) × (get_or places n 0 ≡ get_or sectors.places n 0)
+place_seen places contents sectors n is fits =
+    (let size = ap (λ (i : Image). length i) (shown_is is) in omega (arith, fits, size, length-map places (sector contents)), ap (λ l. get_or l n 0) (places_are is))
 
 -- what is known once a content is removed
 pub record IsRemoval (places : List ℕ) (contents : Image) (owners : List ℕ) (n at : ℕ) (contents' : Image) (owners' : List ℕ) : Type 0 where
@@ -366,6 +424,16 @@ pub last_shown : (places : List ℕ) (contents : Image) (owners : List ℕ) (n a
     → length owners' ≤ at → sectors_at contents' (slice_set places n 0) ≡ slice_set (sectors_at contents places) n (replicate 512 0)
 last_shown places contents owners n at contents' owners' removal late =
     removal_shown places contents owners n at (slice_set places n 0) contents' owners' removal (removal_last places contents owners n at contents' owners' removal late)
+
+pub moved_keeps : (places : List ℕ) (contents : Image) (owners : List ℕ) (n at moved : ℕ) (contents' : Image) (owners' : List ℕ) → IsRemoval places contents owners n at contents' owners'
+    → at < length owners' → moved ≡ get_or owners' at moved → (k : ℕ) → k ≢ n → get_or places k 0 ≢ 0 → get_or (slice_set (slice_set places n 0) moved at) k 0 ≢ 0
+moved_keeps places contents owners n at moved contents' owners' removal early read k other some =
+    cleared_keeps n at (length contents - 1) places (slice_set (slice_set places n 0) moved at) k removal.used (removal_moved places contents owners n at moved contents' owners' removal early read) other some
+
+pub last_keeps : (places : List ℕ) (contents : Image) (owners : List ℕ) (n at : ℕ) (contents' : Image) (owners' : List ℕ) → IsRemoval places contents owners n at contents' owners'
+    → length owners' ≤ at → (k : ℕ) → k ≢ n → get_or places k 0 ≢ 0 → get_or (slice_set places n 0) k 0 ≢ 0
+last_keeps places contents owners n at contents' owners' removal late k other some =
+    cleared_keeps n at (length contents - 1) places (slice_set places n 0) k removal.used (removal_last places contents owners n at contents' owners' removal late) other some
 
 pub removal : (places : List ℕ) (contents : Image) (owners : List ℕ) (n at : ℕ) (contents' : Image) (owners' : List ℕ) (c c' o o' : ℕ) → IsKept places contents owners
     → (n < length places) × (at ≡ get_or places n 0) → at ≢ 0

@@ -6,7 +6,7 @@
 --     HasSectors, HasStable        what is read from it; what it has at first
 --     Lacks, Keeps, Follows        how it follows the disk
 --     KeepsBefore, FollowsBefore        how its first sectors do
-use Rattle.std.specs.Prelude.{◌≡◌, ◌⊎◌, ℕ, ◌+◌, ◌-◌, ◌<◌, ◌≤◌, Bool, true, List, length, replicate, Option, Some, None, IfSome, Contains}
+use Rattle.std.specs.Prelude.{◌≡◌, ◌⊎◌, ℕ, ◌+◌, ◌-◌, ◌<◌, ◌≤◌, Bool, true, List, length, Option, Some, None, IfSome, Contains}
 use Rattle.sector_disk.specs.Disk.{DiskState, Image, sector}
 use Rattle.sector_disk.specs.Record.{Held, after_events, MayHold}
 

@@ -1,6 +1,7 @@
 -- Sectors in memory that are kept by places: a number for each sector, and each content that isn't zeros once.
 --     sectors_at        the sectors that the places stand for
---     IsKept        zeros stand at place 0 alone, and each other content has one owner
+--     Placed, HasPlace        sectors and their places, as a contract sees them
+--     IsKept        zeros stand at place 0, and each other place has one owner
 --     IsRunSet        neighbours got other contents
 --     IsRow        neighbouring places
 use Rattle.std.specs.Prelude.{◌≡◌, ◌≢◌, ℕ, ◌+◌, ◌-◌, ◌<◌, ◌≤◌, List, length, map, get_or, replicate}
@@ -11,13 +12,21 @@ use Rattle.sector_disk.specs.Whole.{AreSectors}
 abbrev pub sectors_at : Image → List ℕ → Image
 sectors_at contents places = map (sector contents) places
 
--- Place 0 has zeros. Each other place has a content that isn't zeros, and is that of one sector, its owner.
+-- the content of each sector, and its place
+pub record Placed : Type 0 where
+  pub shown : Image
+  pub places : List ℕ
+
+-- a sector has a place of its own, so that another content of it needs no memory
+abbrev pub HasPlace : Placed → ℕ → Type 0
+HasPlace sectors n = get_or sectors.places n 0 ≢ 0
+
+-- Place 0 has zeros. Each other place is that of one sector, its owner.
 pub record IsKept (places : List ℕ) (contents : Image) (owners : List ℕ) : Type 0 where
   pub some : 0 < length contents
   pub len : length owners ≡ length contents
   pub whole : AreSectors contents
   pub zeros : sector contents 0 ≡ replicate 512 0
-  pub used : (k : ℕ) → k < length contents → k ≢ 0 → sector contents k ≢ replicate 512 0
   pub placed : (n : ℕ) → n < length places → get_or places n 0 < length contents
   pub owned : (n : ℕ) → n < length places → get_or places n 0 ≢ 0 → get_or owners (get_or places n 0) 0 ≡ n
   pub owner : (k : ℕ) → k < length contents → k ≢ 0 → get_or owners k 0 < length places

@@ -1,6 +1,7 @@
 -- A record that is kept backwards: what reads give now, and what each step replaced.
-use Rattle.std.specs.Prelude.{◌≡◌, ℕ, ◌<◌, ◌≤◌, ◌^◌, List, [], ◌∷◌, length, drop, slice_set}
+use Rattle.std.specs.Prelude.{◌≡◌, ◌≢◌, ℕ, ◌<◌, ◌≤◌, ◌^◌, List, [], ◌∷◌, length, drop, replicate, slice_set, Contains}
 use Rattle.sector_disk.specs.Disk.{Image, sector}
+use Rattle.sector_disk.specs.Places.{Placed, HasPlace}
 use Rattle.sector_disk.specs.Record.{Past, Held, Event, Written, Synced, after_events, replay}
 use Rattle.sector_disk.specs.declared.history.Step.{Step}
 use Rattle.sector_disk.specs.declared.history.Step.TheVariants.{Replaced, Settled}
@@ -32,3 +33,13 @@ pub record IsLog (seen : Image) (done : List Step) (synced : ℕ) : Type 0 where
   pub seen_is : seen ≡ after_events (before seen done) (events_of seen done)
   pub stable : (replay (before seen done) (events_of seen done)).stable ≡ before seen (drop synced done)
   pub pending : (replay (before seen done) (events_of seen done)).pending ≡ events_of seen (drop synced done)
+
+-- each content that a step replaced can be put back without memory: it is zeros, or its sector has a place
+pub record CanPutBack (seen : Placed) (steps : List Step) : Type 0 where
+  pub below : (n : ℕ) (content : List ℕ) → Contains steps (Replaced n content) → n < length seen.shown
+  pub room : (n : ℕ) (content : List ℕ) → Contains steps (Replaced n content) → content ≢ replicate 512 0 → HasPlace seen n
+
+-- the steps from one on are those since the last sync, and a stop can undo them without memory
+pub record IsRecord (seen : Placed) (done : List Step) (synced : ℕ) : Type 0 where
+  pub log : IsLog seen.shown done synced
+  pub back : CanPutBack seen (drop synced done)

@@ -3,7 +3,7 @@
 ghost use Rattle.std.specs.Prelude.{◌≡◌, ◌⊎◌, ◌^◌, ◌<◌, ◌+◌, ◌++◌, [], ◌∷◌, length, ℕ, ◌≤◌, Contains, slice_range, IfSome, OnOk, OnErr};
 ghost use Rattle.sector_disk.specs.Disk.{sector};
 ghost use Rattle.sector_disk.specs.Record.{Written, Synced, after_events, replay, since_sync, Leaves, MayHold};
-ghost use Rattle.sector_disk.specs.Steps.{held_before};
+ghost use Rattle.sector_disk.specs.Steps.{held_before, CanPutBack};
 
 use crate::sectors::Sectors;
 use std::alloc::{AllocError, Global};
@@ -44,18 +44,18 @@ impl Model for History {
 
     ghost Value = { Past };
 
-    ghost use Rattle.sector_disk.specs.Steps.{past_of, IsLog};
+    ghost use Rattle.sector_disk.specs.Steps.{past_of, IsRecord};
 
-    ghost view = { λ history. past_of history.seen history.done.items };
+    ghost view = { λ history. past_of history.seen.shown history.done.items };
 
-    ghost invariant = { λ history. IsLog history.seen history.done.items history.synced };
+    ghost invariant = { λ history. IsRecord history.seen history.done.items history.synced };
 }
 
 impl History {
     /// Nothing was done yet to these sectors.
     pub fn new(alloc: Global, sectors: Sectors) -> Self
-        requires { length sectors < 2 ^ 32 }
-        ensures { result ≡ record { start = sectors; events = [] } }
+        requires { length sectors.shown < 2 ^ 32 }
+        ensures { result ≡ record { start = sectors.shown; events = [] } }
     {
         History {
             seen: sectors,
@@ -115,6 +115,7 @@ impl History {
         ensures err { OnErr result (self.new ≡ self.old) }
     {
         self.done.push(Step::Settled)?;
+        release_places(&mut self.seen, &self.done[self.synced..]);
         self.synced = self.done.len();
         Ok(())
     }
@@ -130,7 +131,7 @@ impl History {
     }
 
     /// Forgets the past but for one image that a stop may leave: over the sectors with pending writes, in rising
-    /// order, the next byte of `choice` picks one of the contents. For one that finds no memory what reads give stays.
+    /// order, the next byte of `choice` picks one of the contents. That needs no memory.
     pub fn stop(&mut self, choice: &[u8])
         ensures image { Leaves (length self.old.start) (replay self.old.start self.old.events) self.new.start }
         ensures events { self.new.events ≡ [] }
@@ -141,12 +142,24 @@ impl History {
     }
 }
 
-// Picks one of the contents of each sector: that before the steps, or one that it got in them. Where there is no memory for it, the
-// sector stays as it is.
+// Lets go of the places that sectors of zeros had, so that the steps could be undone without memory.
+fn release_places(image: &mut Sectors, pending: &[Step])
+    requires { CanPutBack image.old pending.now }
+    ensures { image.new.shown ≡ image.old.shown }
+{
+    for step in pending {
+        if let Step::Replaced(n, _) = step {
+            image.release(*n);
+        }
+    }
+}
+
+// Picks one of the contents of each sector: that before the steps, or one that it got in them.
 fn pick(image: &mut Sectors, pending: &[Step], choice: &[u8])
-    requires { length image.old < 2 ^ 32 }
-    ensures len { length image.new ≡ length image.old }
-    ensures each { (n : ℕ) → n < length image.old → MayHold (held_before image.old pending.now) n (sector image.new n) }
+    requires small { length image.old.shown < 2 ^ 32 }
+    requires room { CanPutBack image.old pending.now }
+    ensures len { length image.new.shown ≡ length image.old.shown }
+    ensures each { (n : ℕ) → n < length image.old.shown → MayHold (held_before image.old.shown pending.now) n (sector image.new.shown n) }
 {
     let mut choice = choice.iter();
     for n in 0..image.len() {
@@ -155,7 +168,7 @@ fn pick(image: &mut Sectors, pending: &[Step], choice: &[u8])
             let byte = choice.next().copied().unwrap_or(0);
             let number = byte as usize % (count + 1);
             let content = replaced_content(pending, n, number, image.get(n as u32));
-            let _ = image.set(n as u32, &content);
+            image.put(n as u32, &content);
         }
     }
 }

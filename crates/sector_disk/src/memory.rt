@@ -16,8 +16,8 @@ use std::alloc::{AllocError, Global};
 ///
 /// Each write and sync is recorded, until [`forget`](Disk::forget) lets go of what came before the last sync. One whose
 /// record or content finds no memory fails and is counted, and its content isn't kept; one that fails because of
-/// [`arm`](CrashDisk::arm) is recorded, so that a stop may leave its content. Where a stop finds no memory for a content
-/// that it picks, it leaves there what reads gave.
+/// [`arm`](CrashDisk::arm) is recorded, so that a stop may leave its content. A stop needs no memory: a sector that gets zeros
+/// keeps the place of its content until a sync.
 #[derive(Drop)]
 pub struct MemDisk {
     history: History,
@@ -49,8 +49,8 @@ impl MemDisk {
 
     /// The same of sectors as a disk keeps them.
     pub(crate) fn with_sectors(alloc: Global, sectors: Sectors) -> Self
-        requires { length sectors < 2 ^ 32 }
-        ensures { IsFresh (⟦<MemDisk as Disk>⟧.state result) sectors }
+        requires { length sectors.shown < 2 ^ 32 }
+        ensures { IsFresh (⟦<MemDisk as Disk>⟧.state result) sectors.shown }
     {
         sectors.tell_whole();
         MemDisk {

@@ -17,8 +17,8 @@ pub fn read_sectors<F: DiskFile>(
 ) -> Result<Sectors, FileFault>
     requires { 0 < length buffer.old }
     ensures same { F.held file.new ≡ F.held file.old }
-    ensures len { IfOk result (λ sectors. length sectors ≡ count) }
-    ensures content { IfOk result (λ sectors. IfSome (F.held file.new) (HasSectors sectors)) }
+    ensures len { IfOk result (λ sectors. length sectors.shown ≡ count) }
+    ensures content { IfOk result (λ sectors. IfSome (F.held file.new) (HasSectors sectors.shown)) }
     ensures fault { IfErr result (λ fault. fault ≢ Exists) }
 {
     let mut sectors = Sectors::zeros(alloc, count)?;

@@ -1,9 +1,9 @@
 //! Sectors in memory, of which those that are zeros take four bytes each.
 
-ghost use Rattle.std.specs.Prelude.{◌≡◌, ◌≢◌, ◌<◌, ◌≤◌, ◌+◌, ◌^◌, length, replicate, slice_set, slice_range, IfOk, IfSome, IsTrue, OnOk, OnErr};
+ghost use Rattle.std.specs.Prelude.{◌≡◌, ◌≢◌, ◌<◌, ◌≤◌, ◌+◌, ◌^◌, ℕ, length, get_or, replicate, slice_set, slice_range, IfOk, IfSome, IsTrue, OnOk, OnErr};
 ghost use Rattle.sector_disk.specs.Disk.{sector};
 ghost use Rattle.sector_disk.specs.Whole.{AreSectors};
-ghost use Rattle.sector_disk.specs.Places.{IsRunSet, IsRow};
+ghost use Rattle.sector_disk.specs.Places.{HasPlace, IsRunSet, IsRow};
 
 use crate::whole::tell_whole;
 use std::alloc::{AllocError, Global};
@@ -11,25 +11,25 @@ use std::marker::Model;
 
 const ZEROS: [u8; 512] = [0; 512];
 
-/// A list of sectors. One of zeros is kept by a number alone, and each other content once: a contract sees the sectors.
+/// A list of sectors. One of zeros is kept by a number alone, and each other content once: it has a place. One that gets zeros
+/// keeps its place until this is let go, so that it can have another content without memory. A contract sees the sectors and
+/// their places.
 #[derive(Drop)]
 pub struct Sectors {
     // For each sector where its content stands.
     places: Vec<u32>,
-    // Zeros, and behind them the contents of the sectors that aren't zeros.
+    // Zeros, and behind them the contents of the sectors that have a place.
     contents: Vec<[u8; 512]>,
-    // For each content but the zeros the sector that has it.
+    // For each place but the first the sector that has it.
     owners: Vec<u32>,
 }
 
 impl Model for Sectors {
-    ghost use Rattle.sector_disk.specs.Disk.{Image};
+    ghost use Rattle.sector_disk.specs.Places.{Placed, sectors_at, IsKept};
 
-    ghost Value = { Image };
+    ghost Value = { Placed };
 
-    ghost use Rattle.sector_disk.specs.Places.{sectors_at, IsKept};
-
-    ghost view = { λ sectors. sectors_at sectors.contents.items sectors.places.items };
+    ghost view = { λ sectors. record { shown = sectors_at sectors.contents.items sectors.places.items; places = sectors.places.items } };
 
     ghost invariant = { λ sectors. IsKept sectors.places.items sectors.contents.items sectors.owners.items };
 }
@@ -37,7 +37,7 @@ impl Model for Sectors {
 impl Sectors {
     /// So many sectors of zeros.
     pub fn zeros(alloc: Global, count: u32) -> Result<Self, AllocError>
-        ensures { IfOk result (λ sectors. sectors ≡ replicate count (replicate 512 0)) }
+        ensures { IfOk result (λ sectors. sectors.shown ≡ replicate count (replicate 512 0)) }
     {
         tell_whole(&ZEROS);
         let mut places = Vec::new(alloc);
@@ -55,36 +55,67 @@ impl Sectors {
 
     /// How many there are.
     pub fn len(&self) -> usize
-        ensures { result ≡ length self.now }
+        ensures { result ≡ length self.now.shown }
     {
         self.places.len()
     }
 
-    /// The content of one.
+    /// The content of one. Where that isn't zeros, it has a place.
     pub fn get(&self, n: u32) -> &[u8; 512]
-        requires { n < length self.now }
-        ensures { result.now ≡ sector self.now n }
+        requires { n < length self.now.shown }
+        ensures content { result.now ≡ sector self.now.shown n }
+        ensures placed { result.now ≢ replicate 512 0 → HasPlace self.now n }
     {
         &self.contents[self.places[n as usize] as usize]
     }
 
-    /// Gives one another content. Zeros need no memory; at `Err` nothing has changed.
+    /// Gives one another content. Zeros need no memory, nor does one that has a place. Each keeps its place; at `Err` nothing
+    /// has changed.
     pub fn set(&mut self, n: u32, content: &[u8; 512]) -> Result<(), AllocError>
-        requires { n < length self.old }
-        ensures ok { OnOk result (self.new ≡ slice_set self.old n content.now) }
+        requires { n < length self.old.shown }
+        ensures ok { OnOk result (self.new.shown ≡ slice_set self.old.shown n content.now) }
         ensures err { OnErr result (self.new ≡ self.old) }
+        ensures keeps { (k : ℕ) → HasPlace self.old k → HasPlace self.new k }
+    {
+        if self.places[n as usize] != 0 {
+            self.replace(n, content);
+            return Ok(());
+        }
+        if *content == ZEROS {
+            return Ok(());
+        }
+        self.add(n, content)
+    }
+
+    /// Gives one another content for which there is room. One of zeros lets its place go.
+    pub fn put(&mut self, n: u32, content: &[u8; 512])
+        requires below { n < length self.old.shown }
+        requires room { content.now ≢ replicate 512 0 → HasPlace self.old n }
+        ensures shown { self.new.shown ≡ slice_set self.old.shown n content.now }
+        ensures keeps { (k : ℕ) → k ≢ n → HasPlace self.old k → HasPlace self.new k }
     {
         if *content == ZEROS {
             self.clear(n);
-            return Ok(());
+            return;
         }
-        self.keep(n, content)
+        self.replace(n, content);
     }
 
-    // Makes one zeros. The last content takes the place that becomes free.
+    /// Lets the place of one go that has zeros.
+    pub fn release(&mut self, n: u32)
+        requires { n < length self.old.shown }
+        ensures { self.new.shown ≡ self.old.shown }
+    {
+        if *self.get(n) == ZEROS {
+            self.clear(n);
+        }
+    }
+
+    // Makes one zeros, which has no place then. The last content takes the place that becomes free.
     fn clear(&mut self, n: u32)
-        requires { n < length self.old }
-        ensures { self.new ≡ slice_set self.old n (replicate 512 0) }
+        requires { n < length self.old.shown }
+        ensures shown { self.new.shown ≡ slice_set self.old.shown n (replicate 512 0) }
+        ensures keeps { (k : ℕ) → k ≢ n → HasPlace self.old k → HasPlace self.new k }
     {
         let place = self.places[n as usize];
         if place == 0 {
@@ -100,20 +131,28 @@ impl Sectors {
         }
     }
 
-    // Gives one a content that isn't zeros.
-    fn keep(&mut self, n: u32, content: &[u8; 512]) -> Result<(), AllocError>
-        requires below { n < length self.old }
-        requires used { content.now ≢ replicate 512 0 }
-        ensures ok { OnOk result (self.new ≡ slice_set self.old n content.now) }
-        ensures err { OnErr result (self.new ≡ self.old) }
+    // Gives one that has a place another content.
+    fn replace(&mut self, n: u32, content: &[u8; 512])
+        requires below { n < length self.old.shown }
+        requires placed { HasPlace self.old n }
+        ensures shown { self.new.shown ≡ slice_set self.old.shown n content.now }
+        ensures places { self.new.places ≡ self.old.places }
     {
         tell_whole(content);
         let place = self.places[n as usize];
-        if place != 0 {
-            self.contents[place as usize] = *content;
-            return Ok(());
-        }
-        // There are no more contents than sectors.
+        self.contents[place as usize] = *content;
+    }
+
+    // Gives one that has no place a place with this content.
+    fn add(&mut self, n: u32, content: &[u8; 512]) -> Result<(), AllocError>
+        requires below { n < length self.old.shown }
+        requires none { get_or self.old.places n 0 ≡ 0 }
+        ensures ok { OnOk result (self.new.shown ≡ slice_set self.old.shown n content.now) }
+        ensures err { OnErr result (self.new ≡ self.old) }
+        ensures keeps { (k : ℕ) → HasPlace self.old k → HasPlace self.new k }
+    {
+        tell_whole(content);
+        // There are no more places than sectors.
         let Ok(place) = u32::try_from(self.contents.len()) else {
             return Err(AllocError);
         };
@@ -128,9 +167,9 @@ impl Sectors {
 
     /// Gives neighbours from one on these contents. At `Err` some of them may have them.
     pub fn set_run(&mut self, first: u32, run: &[[u8; 512]]) -> Result<(), AllocError>
-        requires small { length self.old < 2 ^ 32 }
-        requires fits { first + length run.now ≤ length self.old }
-        ensures { OnOk result (IsRunSet first run.now self.old self.new) }
+        requires small { length self.old.shown < 2 ^ 32 }
+        requires fits { first + length run.now ≤ length self.old.shown }
+        ensures { OnOk result (IsRunSet first run.now self.old.shown self.new.shown) }
     {
         for (i, content) in run.iter().enumerate() {
             self.set(first + i as u32, content)?;
@@ -140,8 +179,8 @@ impl Sectors {
 
     /// So many neighbours from one on, where their contents are neighbours too.
     pub fn run(&self, first: u32, len: usize) -> Option<&[[u8; 512]]>
-        requires { first + len ≤ length self.now }
-        ensures { IfSome result (λ run. run.now ≡ slice_range self.now first (first + len)) }
+        requires { first + len ≤ length self.now.shown }
+        ensures { IfSome result (λ run. run.now ≡ slice_range self.now.shown first (first + len)) }
     {
         let from = first as usize;
         let places = &self.places[from..from + len];
@@ -154,9 +193,9 @@ impl Sectors {
 
     /// Copies neighbours from one on.
     pub fn copy_run(&self, first: u32, to: &mut [[u8; 512]])
-        requires small { length self.now < 2 ^ 32 }
-        requires fits { first + length to.old ≤ length self.now }
-        ensures { to.new ≡ slice_range self.now first (first + length to.new) }
+        requires small { length self.now.shown < 2 ^ 32 }
+        requires fits { first + length to.old ≤ length self.now.shown }
+        ensures { to.new ≡ slice_range self.now.shown first (first + length to.new) }
     {
         for i in 0..to.len() {
             to[i] = *self.get(first + i as u32);
@@ -165,7 +204,7 @@ impl Sectors {
 
     /// Each has 512 bytes.
     pub fn tell_whole(&self)
-        ensures { AreSectors self.now }
+        ensures { AreSectors self.now.shown }
     {
         let _count = self.places.len();
     }

@@ -35,8 +35,10 @@ fn write_run<F: DiskFile>(
     run: &mut [[u8; 512]],
 ) -> io::Result<()>
     requires { first + length run.old ≤ (⟦<MemDisk as Disk>⟧.state memory.now).size }
-    ensures tried { Goes (IsRunTried first (slice_range (⟦<MemDisk as Disk>⟧.state memory.now).seen first (first + length run.new))) (F.held file.old) (F.held file.new) }
-    ensures done { OnOk result (IfSome (F.held file.new) (HasRun first (slice_range (⟦<MemDisk as Disk>⟧.state memory.now).seen first (first + length run.new)))) }
+    ensures tried { Goes (IsRunTried first (slice_range (⟦<MemDisk as Disk>⟧.state memory.now).seen first (first + length run.new)))
+        (F.held file.old) (F.held file.new) }
+    ensures done { OnOk result (IfSome (F.held file.new)
+        (HasRun first (slice_range (⟦<MemDisk as Disk>⟧.state memory.now).seen first (first + length run.new)))) }
 {
     if let Some(run) = memory.run(first, run.len()) {
         return file.write_run(first, run);

@@ -59,7 +59,8 @@ pub(crate) fn commit_if_full<D: Disk>(
     requires waits { IsWaiting (D.state journal) waiting.old }
     requires few { length delta.now ≤ max_delta (header_at (D.state journal).seen) }
     ensures on_disk { (header size : ℕ) → IsOnDisk header size waiting.old → IsOnDisk header size waiting.new }
-    ensures room { IfOk result (λ after. length waiting.new + added waiting.new delta.now ≤ max_targets (header_at (D.state journal).seen)) }
+    ensures room { IfOk result (λ after.
+        length waiting.new + added waiting.new delta.now ≤ max_targets (header_at (D.state journal).seen)) }
 
     // The header stays.
     ensures header { IfOk result (λ after. header_at (D.state after).seen ≡ header_at (D.state journal).seen) }

@@ -197,7 +197,8 @@ impl<D: Disk> Txn<D> {
         ensures images { LeavesOneOf (map_before D.state self) (map_now D.state self) (D.state self.disk) (D.state (disk_after result)) }
 
         // Without changes the disk isn't called.
-        ensures empty { (txn_state D.state self).room ≡ max_delta (txn_state D.state self).header → IsOk result × (disk_after result ≡ self.disk) }
+        ensures empty { (txn_state D.state self).room ≡ max_delta (txn_state D.state self).header
+            → IsOk result × (disk_after result ≡ self.disk) }
 
         ensures cause { HasCause (D.state self.disk) (D.state (disk_after result)) result }
 

@@ -1,11 +1,11 @@
-use Rattle.std.proofs.Common.{◌∙◌, ◌<◌, ◌++◌, ◌∷◌, [], ap, arith, length, List, slice_set, subst, sym}
+use Rattle.std.proofs.Common.{◌∙◌, ◌<◌, ◌++◌, ◌∷◌, [], ap, arith, drop, length, List, slice_set, subst, sym}
 use Rattle.sector_disk.specs.Disk.{Image}
 use Rattle.sector_disk.specs.Record.{Past, Written}
-use Rattle.sector_disk.specs.Steps.{past_of, IsLog}
+use Rattle.sector_disk.specs.Steps.{past_of, IsLog, CanPutBack}
 use Rattle.sector_disk.specs.declared.history.Step.{Step}
 use Rattle.sector_disk.specs.declared.history.Step.TheVariants.{Replaced}
 use Rattle.sector_disk.proofs.Recorded.{recorded}
-use Rattle.sector_disk.proofs.Undone.{past-write, log-write}
+use Rattle.sector_disk.proofs.Undone.{past-write, log-write, back-write}
 use Rattle.sector_disk.proofs.history.History.write.Goals as goal
 
 pub invariant_of-self-else-is_err : goal.invariant_of-self-else-is_err
@@ -14,12 +14,18 @@ invariant_of-self-else-is_err c =
     let n = c.args.n in
     let content = c.args.content.now in
     let size = ap (λ (p : Past). length p.start) c.self.view_is in
-    let len = c.self.invariant.len in
-    let below : n < length i.seen = let fits = c.requires in omega (arith, fits, size, len) in
-    let step = c.in_ok-push.ensures.items ∙ ap (λ was. i.done.items ++ Replaced n was ∷ []) c.get.ensures in
+    let len = c.self.invariant.log.len in
+    let below : n < length i.seen.shown = let fits = c.requires in omega (arith, fits, size, len) in
+    let step = c.in_ok-push.ensures.items ∙ ap (λ was. i.done.items ++ Replaced n was ∷ []) c.get.ensures.content in
     let set = recorded c.set.result (sym c.is_err.ensures.value ∙ c.if-is_err.false) c.set.ensures.ok in
-    subst (λ (seen : Image). IsLog seen c.push.new.self.items i.synced) (sym set)
-    (subst (λ (l : List Step). IsLog (slice_set i.seen n content) l i.synced) (sym step) (log-write i.seen n content i.done.items i.synced below c.self.invariant))
+    let now = c.set.new.self in
+    let keeps = λ (zeros_not : _). c.get.ensures.placed (λ zeros. zeros_not (sym c.get.ensures.content ∙ zeros)) in
+    record {
+      log = subst (λ (seen : Image). IsLog seen c.push.new.self.items i.synced) (sym set)
+          (subst (λ (l : List Step). IsLog (slice_set i.seen.shown n content) l i.synced) (sym step) (log-write i.seen.shown n content i.done.items i.synced below c.self.invariant.log));
+      back = subst (λ (l : List Step). CanPutBack now (drop i.synced l)) (sym step)
+          (back-write i.seen now n content i.done.items i.synced below c.self.invariant.log.synced_fits keeps set c.set.ensures.keeps c.self.invariant.back);
+    }
 
 pub returns-clause-ok : goal.returns-clause-ok
 returns-clause-ok c =
@@ -27,9 +33,9 @@ returns-clause-ok c =
     let n = c.args.n in
     let content = c.args.content.now in
     let size = ap (λ (p : Past). length p.start) c.self.view_is in
-    let len = c.self.invariant.len in
-    let below : n < length i.seen = let fits = c.requires in omega (arith, fits, size, len) in
-    let step = c.in_ok-push.ensures.items ∙ ap (λ was. i.done.items ++ Replaced n was ∷ []) c.get.ensures in
+    let len = c.self.invariant.log.len in
+    let below : n < length i.seen.shown = let fits = c.requires in omega (arith, fits, size, len) in
+    let step = c.in_ok-push.ensures.items ∙ ap (λ was. i.done.items ++ Replaced n was ∷ []) c.get.ensures.content in
     let set = recorded c.set.result (sym c.is_err.ensures.value ∙ c.if-is_err.false) c.set.ensures.ok in
-    ap (λ (seen : Image). past_of seen c.push.new.self.items) set ∙ ap (λ (l : List Step). past_of (slice_set i.seen n content) l) step
-    ∙ past-write i.seen n content i.done.items below ∙ ap (λ (p : Past). record p { events = p.events ++ Written n content ∷ [] }) c.self.view_is
+    ap (λ (seen : Image). past_of seen c.push.new.self.items) set ∙ ap (λ (l : List Step). past_of (slice_set i.seen.shown n content) l) step
+    ∙ past-write i.seen.shown n content i.done.items below ∙ ap (λ (p : Past). record p { events = p.events ++ Written n content ∷ [] }) c.self.view_is

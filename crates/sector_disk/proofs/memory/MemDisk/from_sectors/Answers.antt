@@ -12,4 +12,4 @@ returns c =
     let size = ap (λ (i : Image). length i) c.in_ok-kept.ensures ∙ length-replicate c.len.result (replicate 512 0) in
     let all = c.deref.ensures.len ∙ sym c.len.ensures in
     subst (λ (i : Image). IsFresh (recorded_state disk.history disk.failures) i)
-    (run_all c.len.result sectors c.in_ok-kept.kept c.set_run.new.self size all c.in_ok-set_run.ensures ∙ c.deref.ensures.value) c.with_sectors.ensures
+    (run_all c.len.result sectors c.in_ok-kept.kept.shown c.set_run.new.self.shown size all c.in_ok-set_run.ensures ∙ c.deref.ensures.value) c.with_sectors.ensures
