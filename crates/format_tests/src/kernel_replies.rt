@@ -6,8 +6,8 @@ ghost use Rattle.fuse_protocol.specs.Replies.{IsReply};
 use crate::hex::{Bytes, bytes_of};
 use bitflags::Flags;
 use fuse_protocol::{
-    AclValueFault, Attr, DirectoryEntry, EntryKind, InitFlags, Piece, Reply, Room, Terms, Time,
-    push_entry, read_acl_value, write_acl_value, write_reply,
+    AclValueFault, Attr, DirectoryEntry, EntryKind, InitFlags, OpenedFlags, Piece, Reply, Room,
+    Terms, Time, push_entry, read_acl_value, write_acl_value, write_reply,
 };
 use posix_acl::{Acl, Entry};
 use std::alloc::{AllocError, Global};
@@ -76,18 +76,29 @@ fn reply_to(unique: u64) -> Reply<'static>
 {
     match unique {
         2 => Reply::Init(terms()),
-        4 => Reply::Attr(file(1, 0, 0o40755, 1, [START + 1; 3])),
+        4 => Reply::Attr {
+            valid: 0,
+            attr: file(1, 0, 0o40755, 1, [START + 1; 3]),
+        },
         26 => Reply::Created {
             node: NODE,
+            name_valid: 0,
+            valid: 0,
             attr: file(2, 0, 0o100755, 1, [START + 14; 3]),
             handle: 64,
+            flags: OpenedFlags::empty(),
         },
         30 => Reply::Count(100000),
         66 => Reply::Bytes(Piece::new(b"l")),
-        116 => Reply::Open(65),
+        116 => Reply::Open {
+            handle: 65,
+            flags: OpenedFlags::empty(),
+        },
         126 => Reply::StatFs(ROOM),
         130 => Reply::Entry {
             node: NODE,
+            name_valid: 0,
+            valid: 0,
             attr: file(2, 1, 0o100644, 2, [START + 14, START + 18, START + 66]),
         },
         _ => error_to(unique),

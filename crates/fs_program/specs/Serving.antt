@@ -16,6 +16,7 @@ use Rattle.fs_system.specs.Seen.{System, disk_in, IsIn}
 use Rattle.fs_system.specs.declared.faults.MountFault.{MountFault}
 use Rattle.fuse_protocol.specs.declared.reply.Time.{Time}
 use Rattle.fuse_state.specs.declared.settings.Settings.{Settings}
+use Rattle.fuse_state.specs.Keepings.{usually_kept}
 use Rattle.fuse_serving.specs.Exchanges.{Exchange, SeesTime}
 use Rattle.fuse_serving.specs.declared.fault.ServeFault.{ServeFault}
 use Rattle.fs_fuse.specs.Performing.{ServingEnds}
@@ -29,6 +30,7 @@ abbrev pub settings_of : Place → Bool → Time → Settings
 settings_of place own_rules start = record {
   max_write = 131072;
   posix_acl = not own_rules;
+  keeping = usually_kept;
   sectors = place.sectors - place.first_data;
   inodes = place.inodes;
   start = start;

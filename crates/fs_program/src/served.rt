@@ -10,7 +10,7 @@ use fs_layout::Place;
 use fs_system::Fs;
 use fuse_protocol::Time;
 use fuse_serving::{Kernel, ReplyRoom, ServeFault, Witness};
-use fuse_state::Settings;
+use fuse_state::{Keeping, Settings};
 use sector_disk::Disk;
 use std::alloc::{AllocError, Global};
 use std::io::Write;
@@ -44,6 +44,7 @@ fn settings_of(place: Place, own_rules: bool, start: Time) -> Settings
     Settings {
         max_write: MAX_WRITE,
         posix_acl: !own_rules,
+        keeping: Keeping::usual(),
         sectors: place.sectors.saturating_sub(place.first_data),
         inodes: place.inodes,
         start,

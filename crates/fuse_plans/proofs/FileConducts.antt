@@ -17,7 +17,7 @@ use Rattle.fuse_state.specs.Changes.{told}
 use Rattle.fuse_state.proofs.Holders.{closed_within}
 use Rattle.fuse_state.specs.Servers.{Server, owner_of, descriptor_of}
 use Rattle.fuse_state.specs.declared.place.Place.{Place}
-use Rattle.fuse_plans.specs.Acts.{given_name, IsObject, IsOfRequest, is_given, named_in, on_one, Concerns, without_path}
+use Rattle.fuse_plans.specs.Acts.{given_name, IsObject, IsStandingDirectory, IsOfRequest, is_given, named_in, on_one, Concerns, without_path}
 use Rattle.fuse_plans.specs.Conduct.{Rights, stays, by_handle, is_on, IsByHandle}
 use Rattle.fuse_plans.specs.FilePlans.{touched_if, ask_first, open_object, open_file, or_opened, open_or_make, show_open, confirm_shown, confirm_open, look_open, tell_created, create_file, the_open, call_open, seek, seek_open, read_piece, read_pieces, read_file, or_done, write_piece, write_pieces, pieces_in, write_file, close_file}
 use Rattle.fuse_plans.specs.Flags.{is_trunc}
@@ -26,6 +26,7 @@ use Rattle.fuse_plans.proofs.Calls.{CanCall, AsksOf, is-object, does-obtain, doe
 use Rattle.fuse_plans.proofs.Chosen.{OfOpener, does-opener}
 use Rattle.fuse_plans.proofs.Openers.{opener-can, about-opener, may_open-as, does-keep_opener, does-keep_handle, does-keep_opened, does-with_handle, lasts-with_handle}
 use Rattle.fuse_plans.proofs.Forms.{does-if, does-when, does-done, does-keep_still, does-replied_data, does-replied_count}
+use Rattle.fuse_plans.proofs.MaskConducts.{does-new_valid_of}
 use Rattle.fuse_plans.proofs.NameConducts.{found-same, does-plain_name, given-in}
 
 told-same : (now : Time) (p : Place) (n : ℕ) (kind : FileType) (is_new is_cut : Bool) → SameOwn (told now p n kind is_new is_cut)
@@ -69,7 +70,7 @@ module _ {rights : Rights} (r : Asked) (is : rights.cred ≡ r.cred) (asks : Ask
       lasts->>= (does-needed _ _) (λ mode.
       then-does (does-opener _ is) (λ pid more.
       does->>= (does-ask_first pid n flags mode object) (λ asked.
-      does->>= (does-open_object _ pid n flags mode object) (λ handle. does-give _)))))
+      does->>= (does-open_object _ pid n flags mode object) (λ handle. does-kept _)))))
 
 -- ---- to create
 
@@ -93,25 +94,26 @@ module _ {rights : Rights} (r : Asked) (is : rights.cred ≡ r.cred) (node : rig
       does->>= (does-attempt (does->>= (does-obtain pid _ (opener-can pid _ refl) (without_path refl refl refl)) does-replied_status)) (λ seen.
       does-or_closed pid fd seen (opener-can pid _ refl))
 
-  lasts-tell_created : (now : Time) (p : Place) (is_new is_cut : Bool) (pid handle : ℕ) (status : Status) → owner_of handle ≡ pid
-      → Lasts rights (OfOpener rights pid) (tell_created now p is_new is_cut handle status)
+  lasts-tell_created : (now : Time) (name_valid : ℕ) (p : Place) (is_new is_cut : Bool) (pid handle : ℕ) (status : Status) → owner_of handle ≡ pid
+      → Lasts rights (OfOpener rights pid) (tell_created now name_valid p is_new is_cut handle status)
   unfolding tell_created
-  lasts-tell_created now p is_new is_cut pid handle status owner =
+  lasts-tell_created now name_valid p is_new is_cut pid handle status owner =
       let same = told-same now p status.inode status.kind is_new is_cut in
       keep-lasts _ same (λ s of. may_open-as s (told now p status.inode status.kind is_new is_cut s) (same s).0 of.may)
       (does-lasts (does->>= (does-keep_opened pid handle status.inode owner) (λ done. does-kept _)))
 
-  pub lasts-create_file : (name : List ℕ) (flags mode umask : ℕ) → given_name rights.subject.operation ≡ Some name
+  pub lasts-create_file : AsksOf rights r.node → (name : List ℕ) (flags mode umask : ℕ) → given_name rights.subject.operation ≡ Some name
       → Lasts rights (Still rights) (create_file r name flags mode umask)
-  lasts-create_file name flags file_mode umask given =
+  lasts-create_file asks name flags file_mode umask given =
       lasts->>= (does-plain_name name) (λ plain.
       lasts->>= (does-needed _ _) (λ mode.
       then-lasts (gives-standing_directory _ (given-in rights r.node node name given)) (λ d in_it.
+      lasts->>= (does-new_valid_of rights r.node d asks (subst (λ k. IsStandingDirectory rights.subject.start k d) node in_it.directory)) (λ name_valid.
       then-lasts (does-opener _ is) (λ pid more.
       lasts->>= (does-obtain pid _ (opener-can pid _ refl) (without_path refl refl refl)) (λ old.
       lasts->>= (does-open_or_make pid d name mode flags file_mode (is_given in_it)) (λ opened.
       lasts-with_handle pid opened.0 (λ handle owner.
-      lasts->>= (does-look_open pid _) (λ status. lasts-tell_created _ _ opened.1 _ pid handle status owner))))))))
+      lasts->>= (does-look_open pid _) (λ status. lasts-tell_created _ _ _ opened.1 _ pid handle status owner)))))))))
 
 -- ---- by a handle
 

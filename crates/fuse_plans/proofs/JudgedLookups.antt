@@ -33,9 +33,9 @@ use Rattle.fuse_plans.specs.Stops.{failed, is_for}
 use Rattle.fuse_plans.specs.Plans.{Plan, Finish, Ask, followed_by, IsRunOf, IsAsked, at_once, later, Restraint, KeepsTo, after_all}
 use Rattle.fuse_plans.specs.Works.{Work, give, stop, kept, keep, goes_on, ◌>>=◌, attempt, needed, ask, give_unless, refusal_in, unless_refused, obtain, unexpected, status_of_reply, acl_of_reply}
 use Rattle.fuse_plans.specs.Callers.{caller, the_looker, between, or_inside, standing_refusal, or_next, by_places, on, by_looker, look_inside, is_known_directory, the_number, directory_number, standing_directory}
-use Rattle.fuse_plans.specs.NamePlans.{or_absent, searched_directory, find_inside, find_name, place}
-use Rattle.fuse_plans.specs.AclPlans.{told_acl, acl_of}
-use Rattle.fuse_plans.specs.Nobody.{may_hide, hides, seen_by_looker, asks_list, is_masked, unless_masked, is_judged, needs_nobody_in}
+use Rattle.fuse_plans.specs.NamePlans.{or_absent, searched_directory, keeps_absent, found_or_absent, find_inside, find_name, place}
+use Rattle.fuse_plans.specs.Masks.{told_acl, acl_of, may_hide, hides, seen_by_looker, asks_list, is_masked}
+use Rattle.fuse_plans.specs.Nobody.{unless_masked, is_judged, needs_nobody_in}
 use Rattle.fuse_plans.specs.Requests.{Request, asked_of}
 use Rattle.fuse_plans.specs.Serving.{answered, asked_for, response_of, request_plan}
 use Rattle.fuse_plans.specs.Laws.{IsDoneBy, MayBeRefused, is_masked as masked, looker_refused, JudgedLookupsAreGranted}
@@ -381,18 +381,26 @@ module _ (looker : Option ℕ) where
   unfolding keep kept ◌>>=◌
   blames-tell p status f = record { goes = λ m s any own. (tt, (found-same p status.inode status.kind s).1 ∙ own) }
 
-  blames-find_inside : (pid d : ℕ) (name : List ℕ) → looker ≡ Some pid → Blames (find_inside pid d name)
+  -- what stopped stops, or is told as absent
+  blames-found_or_absent : (nobody : Bool) (d : ℕ) (name : List ℕ) (seen : Result Status Stop)
+      → Goes (is_by looker) denies looker (λ m. Blamed m seen) Blamed (found_or_absent nobody d name seen)
+  blames-found_or_absent nobody d name (Ok status) = goes-from _ _ _ (blames-tell (place d name) status _)
+  blames-found_or_absent nobody d name (Err e) =
+      goes-kept _ _ _ _ (λ settings. goes-if _ _ _ (keeps_absent nobody settings e) _ _ (goes-give _ _ _ _ (λ m blamed. tt)) (goes-stop _ _ _ e (λ m blamed. blamed)))
+
+  blames-find_inside : (nobody : Bool) (pid d : ℕ) (name : List ℕ) → looker ≡ Some pid → Blames (find_inside nobody pid d name)
   unfolding look_inside
-  blames-find_inside pid d name is =
-      blames->>= (blames->>= (goes-between _ _ _ pid d d (Lstat name) (tells-blame pid (Lstat name) is)) (λ reply. blames-needed _ _ refl))
-      (λ status. blames-tell (place d name) status _)
+  blames-find_inside nobody pid d name is =
+      goes-attempt _ _ _
+      (blames->>= (goes-between _ _ _ pid d d (Lstat name) (tells-blame pid (Lstat name) is)) (λ reply. blames-needed _ _ refl))
+      (blames-found_or_absent nobody d name)
 
   -- where nobody is needed
   blames-find_name : (r : Asked) (name : List ℕ) → r.needs_nobody ≡ true → Blames (find_name r name)
   blames-find_name r name nobody =
       blames->>= (blames-searched_directory r.node name) (λ d.
-      subst (λ b. Blames ((if b then the_looker else caller r.cred) >>= (λ pid. find_inside pid d name))) (sym nobody)
-      (goes-with_looker _ _ _ (λ m any is. absurd (cc)) (λ pid is. blames-find_inside pid d name is)))
+      subst (λ b. Blames ((if b then the_looker else caller r.cred) >>= (λ pid. find_inside r.needs_nobody pid d name))) (sym nobody)
+      (goes-with_looker _ _ _ (λ m any is. absurd (cc)) (λ pid is. blames-find_inside r.needs_nobody pid d name is)))
 
 -- ---- a directory whose list has the mask `---`
 

@@ -1,9 +1,11 @@
+pub mod AllEnds
 pub mod Calls
 pub mod Chosen
 pub mod Conducts
 pub mod FileConducts
 pub mod Forms
 pub mod JudgedLookups
+pub mod MaskConducts
 pub mod NameConducts
 pub mod NobodyConducts
 pub mod OpenedObjects
@@ -17,4 +19,5 @@ pub mod RowsOfNames
 pub mod RowsOfPlaces
 pub mod RowsOfStale
 pub mod ShareRuns
+pub mod Staying
 pub mod ToldNodes

@@ -1,5 +1,5 @@
 -- How requests for names behave.
-use Rattle.std.specs.Prelude.{◌≡◌, ℕ, Bool, true, false, List, All, Option, None, Some, unwrap_or, Result, Ok, Err, IsTrue, if◌then◌else◌}
+use Rattle.std.specs.Prelude.{◌≡◌, ℕ, Bool, true, false, List, All, Option, None, Some, Result, Ok, Err, IsTrue, if◌then◌else◌}
 use Rattle.std.proofs.Common.{refl, sym, ap, subst, ◌∙◌}
 use Rattle.std.proofs.lemmas.List.Elements.{All-weaker}
 use Rattle.fs_cred.specs.declared.errno.Errno.TheVariants.{ENOENT}
@@ -8,12 +8,13 @@ use Rattle.fs_model.specs.declared.call.Call.TheVariants.{Lstat, Link as LinkCal
 use Rattle.fs_model.specs.declared.reply.FileType.{FileType}
 use Rattle.fs_model.specs.declared.reply.Reply.{Reply}
 use Rattle.fs_model.specs.declared.reply.Status.{Status}
-use Rattle.fuse_plans.specs.Plans.{followed_by, KeepsTo}
+use Rattle.fuse_plans.specs.Plans.{KeepsTo}
 use Rattle.fuse_plans.specs.declared.stop.Stop.{Stop}
 use Rattle.fuse_plans.specs.declared.stop.Stop.TheVariants.{Refuses, Lacks}
 use Rattle.fuse_plans.specs.declared.stop.OtherErrno.TheVariants.{ENFILE, ERANGE, ENOSYS, ENODATA, EPROTO, EOPNOTSUPP, ESTALE}
 use Rattle.fuse_plans.specs.Stops.{failed}
 use Rattle.fuse_plans.specs.declared.request.Asked.{Asked}
+use Rattle.fuse_plans.specs.declared.reply.ReplyBody.{ReplyBody}
 use Rattle.fuse_protocol.specs.declared.operation.Operation.TheVariants.{Rename, Link}
 use Rattle.fuse_protocol.specs.declared.reply.Time.{Time}
 use Rattle.fuse_state.specs.declared.place.Place.{Place}
@@ -23,11 +24,12 @@ use Rattle.fuse_state.proofs.StateLaws.{all_places_then}
 use Rattle.fuse_plans.specs.Paths.{only_path}
 use Rattle.fuse_plans.specs.Acts.{Subject, given_name, node_of_object, IsGivenName, IsNewName, is_new, IsStandingDirectory, IsObject, IsKnownPlace, IsOfRequest, is_given, is_new_name, named_in, ActsWithin, on_one, moves, links, without_path}
 use Rattle.fuse_plans.specs.Conduct.{Known, Rights, conduct, Fits, stays}
-use Rattle.fuse_plans.specs.Works.{give, stop, kept, keep, goes_on, ◌>>=◌, ◌>>◌, needed}
-use Rattle.fuse_plans.specs.Callers.{caller, the_looker, done_between, by_places}
-use Rattle.fuse_plans.specs.NamePlans.{place, plain_name, directory_for, tell_entry, or_absent, searched_directory, find_inside, find_name, made, directory_and_caller, make_link, make_directory, open_and_close, make_file, remove, none_there, may_move, rename, move_name, link_by_place, add_link}
-use Rattle.fuse_plans.proofs.Conducts.{Any, Still, SameOwn, Left, LeftTo, Does, Lasts, DoesTo, Gives, does-give, does-stop, does-kept, does->>=, does-attempt, does-lasts, lasts->>=, ends->>=, keep-lasts, then-lasts, then-does_to, does-does_to, attempt-does_to, gives-give}
-use Rattle.fuse_plans.proofs.Calls.{CanCall, ActsAt, does-obtain, does-between, does-done_between, does-by_places, known-places, does-look_inside, lasts-with_looker, looks, does-look, is-object, gives-number, gives-standing_directory}
+use Rattle.fuse_plans.specs.Works.{give, stop, kept, keep, ◌>>=◌, ◌>>◌}
+use Rattle.fuse_plans.specs.Callers.{caller, the_looker, by_places}
+use Rattle.fuse_plans.specs.NamePlans.{place, plain_name, directory_for, tell_entry, found_or_absent, or_absent, new_valid, searched_directory, find_inside, find_name, made, directory_and_caller, make_link, make_directory, open_and_close, make_file, remove, none_there, may_move, rename, move_name, link_by_place, add_link}
+use Rattle.fuse_plans.proofs.Conducts.{Any, Still, SameOwn, LeftTo, Does, Lasts, DoesTo, Gives, does-give, does-stop, does-kept, does->>=, does-attempt, does-lasts, lasts->>=, ends->>=, keep-lasts, then-lasts, then-does_to, does-does_to, attempt-does_to, gives-give}
+use Rattle.fuse_plans.proofs.Calls.{AsksOf, CanCall, ActsAt, does-obtain, does-between, does-done_between, does-by_places, known-places, does-look_inside, lasts-with_looker, looks, does-look, is-object, gives-number, gives-standing_directory}
+use Rattle.fuse_plans.proofs.MaskConducts.{does-new_valid_of}
 use Rattle.fuse_plans.proofs.Chosen.{OfCaller, about-caller, gives-with, does-caller, does-caller_with_room}
 use Rattle.fuse_state.proofs.Holders.{holding_of}
 use Rattle.fuse_plans.proofs.Forms.{caller-can, does-if, does-replied_fd, ends-keep}
@@ -70,25 +72,27 @@ module _ {rights : Rights} {P : Server → Type 0} where
   pub does-plain_name : (name : List ℕ) → Does rights P (plain_name name)
   does-plain_name name = does-if _ _ _ (does-stop _) (does-give tt)
 
-  pub does-tell_entry : (status : Status) → Does rights P (tell_entry status)
-  does-tell_entry status = does-kept _
+  does-tell_entry : (name_valid : ℕ) (status : Status) → Does rights P (tell_entry name_valid status)
+  does-tell_entry name_valid status = does-kept _
 
   -- what was found, made or opened is told, and no more is asked
-  pub tells-entry : (f : Server → Server) → SameOwn f → (status : Status) → Lasts rights P (keep f >> tell_entry status)
-  tells-entry f same status = ends->>= (ends-keep f same) (λ done. does-kept _)
+  tells-entry : (f : Server → Server) → SameOwn f → (body : Server → ReplyBody) → Lasts rights P (keep f >> kept body)
+  tells-entry f same body = ends->>= (ends-keep f same) (λ done. does-kept _)
 
-  pub lasts-find_inside : (pid d : ℕ) (name : List ℕ) → CanCall rights P pid (Lstat name) → IsOfRequest rights.subject (named_in d name)
-      → Lasts rights P (find_inside pid d name)
-  lasts-find_inside pid d name can is =
-      lasts->>= (does-look_inside pid d name can is) (λ status.
-      tells-entry _ (found-same (place d name) status.inode status.kind) status)
+  lasts-found_or_absent : (nobody : Bool) (d : ℕ) (name : List ℕ) (seen : Result Status Stop) → Lasts rights P (found_or_absent nobody d name seen)
+  lasts-found_or_absent nobody d name (Ok status) = tells-entry _ (found-same (place d name) status.inode status.kind) _
+  lasts-found_or_absent nobody d name (Err e) = does-lasts (does->>= (does-kept _) (λ settings. does-if _ _ _ (does-give _) (does-stop _)))
 
-  pub lasts-made : (now : Time) (d : ℕ) (name : List ℕ) → IsOfRequest rights.subject (named_in d name) → Lasts rights P (made now d name)
+  pub lasts-find_inside : (nobody : Bool) (pid d : ℕ) (name : List ℕ) → CanCall rights P pid (Lstat name) → IsOfRequest rights.subject (named_in d name)
+      → Lasts rights P (find_inside nobody pid d name)
+  lasts-find_inside nobody pid d name can is = lasts->>= (does-attempt (does-look_inside pid d name can is)) (lasts-found_or_absent nobody d name)
+
+  pub lasts-made : (now : Time) (name_valid d : ℕ) (name : List ℕ) → IsOfRequest rights.subject (named_in d name) → Lasts rights P (made now name_valid d name)
   unfolding made
-  lasts-made now d name is =
+  lasts-made now name_valid d name is =
       lasts-with_looker (λ pid looker.
       lasts->>= (does-look_inside pid d name (looks pid looker (Lstat name) refl) is) (λ status.
-      tells-entry _ (λ s. (refl, refl)) status))
+      tells-entry _ (λ s. (refl, refl)) _))
 
   does-open_and_close : (pid d : ℕ) (call : Call) → ((any : Call) → IsTrue (stays any) → CanCall rights P pid any) → IsTrue (stays call) → ActsWithin rights.subject d d call
       → Does rights P (open_and_close pid d call)
@@ -154,42 +158,54 @@ abbrev Leads : Rights → ℕ → Server → Type 0
 Leads rights n s = All (IsOfRequest rights.subject) (places_of s n)
 
 module _ {rights : Rights} (r : Asked) (is : rights.cred ≡ r.cred) (node : rights.subject.node ≡ r.node) where
-  lasts-search : (nobody : Bool) (d : ℕ) (name : List ℕ) → IsNameIn rights.subject name d
-      → Lasts rights (Still rights) ((if nobody then the_looker else caller r.cred) >>= (λ pid. find_inside pid d name))
-  lasts-search true d name in_it =
-      lasts-with_looker (λ pid looker. lasts-find_inside pid d name (looks pid looker (Lstat name) refl) (is_given in_it))
-  lasts-search false d name in_it = then-lasts (does-caller _ is) (λ pid more. lasts-find_inside pid d name (caller-can pid _ refl) (is_given in_it))
+  lasts-search : (judged nobody : Bool) (d : ℕ) (name : List ℕ) → IsNameIn rights.subject name d
+      → Lasts rights (Still rights) ((if nobody then the_looker else caller r.cred) >>= (λ pid. find_inside judged pid d name))
+  lasts-search judged true d name in_it =
+      lasts-with_looker (λ pid looker. lasts-find_inside judged pid d name (looks pid looker (Lstat name) refl) (is_given in_it))
+  lasts-search judged false d name in_it =
+      then-lasts (does-caller _ is) (λ pid more. lasts-find_inside judged pid d name (caller-can pid _ refl) (is_given in_it))
 
   pub lasts-find_name : (name : List ℕ) → given_name rights.subject.operation ≡ Some name → Lasts rights (Still rights) (find_name r name)
-  lasts-find_name name given = then-lasts (gives-searched_directory r node name given) (λ d in_it. lasts-search r.needs_nobody d name in_it)
+  lasts-find_name name given = then-lasts (gives-searched_directory r node name given) (λ d in_it. lasts-search r.needs_nobody r.needs_nobody d name in_it)
 
   does-directory_and_caller : (name : List ℕ) → given_name rights.subject.operation ≡ Some name
       → DoesTo rights (λ (who : ℕ × ℕ). OfCaller rights who.1) (λ (who : ℕ × ℕ). IsNameIn rights.subject name who.0) (directory_and_caller r name)
   does-directory_and_caller name given = then-does_to (gives-directory_for r node name given) (λ d in_it. gives-with (IsNameIn rights.subject name) d in_it (does-caller _ is))
 
-  pub lasts-make_link : (name target : List ℕ) → given_name rights.subject.operation ≡ Some name → Lasts rights (Still rights) (make_link r name target)
-  lasts-make_link name target given =
-      then-lasts (does-directory_and_caller name given) (λ who in_it.
-      lasts->>= (does-done_between who.1 who.0 who.0 _ (caller-can who.1 _ refl) (on_one name refl refl (is_given in_it))) (λ done.
-      lasts-made _ who.0 name (is_given in_it)))
+  -- where the directory is the object of the request
+  does-new_valid_in : AsksOf rights r.node → (name : List ℕ) (d : ℕ) → IsNameIn rights.subject name d → Does rights (Still rights) (new_valid d)
+  does-new_valid_in asks name d in_it =
+      does-new_valid_of rights r.node d asks (subst (λ k. IsStandingDirectory rights.subject.start k d) node in_it.directory)
 
-  pub lasts-make_directory : (name : List ℕ) (mode umask : ℕ) → given_name rights.subject.operation ≡ Some name
+  pub lasts-make_link : AsksOf rights r.node → (name target : List ℕ) → given_name rights.subject.operation ≡ Some name
+      → Lasts rights (Still rights) (make_link r name target)
+  lasts-make_link asks name target given =
+      then-lasts (gives-directory_for r node name given) (λ d in_it.
+      lasts->>= (does-new_valid_in asks name d in_it) (λ name_valid.
+      then-lasts (does-caller _ is) (λ pid more.
+      lasts->>= (does-done_between pid d d _ (caller-can pid _ refl) (on_one name refl refl (is_given in_it))) (λ done.
+      lasts-made _ name_valid d name (is_given in_it)))))
+
+  pub lasts-make_directory : AsksOf rights r.node → (name : List ℕ) (mode umask : ℕ) → given_name rights.subject.operation ≡ Some name
       → Lasts rights (Still rights) (make_directory r name mode umask)
-  lasts-make_directory name mode umask given =
-      then-lasts (does-directory_and_caller name given) (λ who in_it.
-      lasts->>= (does-obtain who.1 _ (caller-can who.1 _ refl) (without_path refl refl refl)) (λ old.
-      lasts->>= (does-done_between who.1 who.0 who.0 _ (caller-can who.1 _ refl) (on_one name refl refl (is_given in_it))) (λ done.
-      lasts-made _ who.0 name (is_given in_it))))
+  lasts-make_directory asks name mode umask given =
+      then-lasts (gives-directory_for r node name given) (λ d in_it.
+      lasts->>= (does-new_valid_in asks name d in_it) (λ name_valid.
+      then-lasts (does-caller _ is) (λ pid more.
+      lasts->>= (does-obtain pid _ (caller-can pid _ refl) (without_path refl refl refl)) (λ old.
+      lasts->>= (does-done_between pid d d _ (caller-can pid _ refl) (on_one name refl refl (is_given in_it))) (λ done.
+      lasts-made _ name_valid d name (is_given in_it))))))
 
-  pub lasts-make_file : (name : List ℕ) (mode umask : ℕ) → given_name rights.subject.operation ≡ Some name
+  pub lasts-make_file : AsksOf rights r.node → (name : List ℕ) (mode umask : ℕ) → given_name rights.subject.operation ≡ Some name
       → Lasts rights (Still rights) (make_file r name mode umask)
-  lasts-make_file name mode umask given =
+  lasts-make_file asks name mode umask given =
       lasts->>= (does-if _ _ _ (does-give tt) (does-stop _)) (λ file.
       then-lasts (gives-directory_for r node name given) (λ d in_it.
+      lasts->>= (does-new_valid_in asks name d in_it) (λ name_valid.
       then-lasts (does-caller_with_room _ is) (λ pid more.
       lasts->>= (does-obtain pid _ (caller-can pid _ refl) (without_path refl refl refl)) (λ old.
       lasts->>= (does-open_and_close pid d _ (caller-can pid) refl (on_one name refl refl (is_given in_it))) (λ done.
-      lasts-made _ d name (is_given in_it))))))
+      lasts-made _ name_valid d name (is_given in_it)))))))
 
   pub lasts-remove : (call : List ℕ → Call) (name : List ℕ) → IsTrue (stays (call name)) → only_path (call name) ≡ Some name
       → given_name rights.subject.operation ≡ Some name → Lasts rights (Still rights) (remove r call name)
@@ -237,4 +253,4 @@ module _ {rights : Rights} (r : Asked) (is : rights.cred ≡ r.cred) (node : rig
       lasts->>= (does-link_by_place pid n d name object in_it) (λ done.
       lasts->>= (does-kept _) (λ kind.
       keep-lasts {Q = Leads rights n} (linked r.now (named_in d name) n kind) (linked-same r.now (named_in d name) n kind) (linked-leads r.now pid d n name kind object in_it)
-      (does-lasts (does->>= (does-look n (record { object = object; places = λ s leads. leads })) (λ status. does-tell_entry status))))))))
+      (does-lasts (does->>= (does-look n (record { object = object; places = λ s leads. leads })) (λ status. does-tell_entry 0 status))))))))

@@ -1,143 +1,30 @@
 -- How it is found whether a request needs nobody.
---     Stays, stays-is_masked        work that changes nothing of what the server keeps
 --     decided_at_once        of all but look-ups
 --     AtHome, keeps-needs_nobody_in        what may be asked for it
 --     who_asks_counts_only_where_needed
-use Rattle.std.specs.Prelude.{◌≡◌, ℕ, ◌==◌, Bool, true, false, not, ◌&&◌, List, [], ◌∷◌, Option, None, Some, Result, Ok, Err, if◌then◌else◌}
+use Rattle.std.specs.Prelude.{◌≡◌, ℕ, Bool, true, false, not, List, [], ◌∷◌, Option, None, Some}
 use Rattle.std.proofs.Common.{refl, sym, ap, subst, ◌∙◌}
 use Rattle.posix_acl.specs.AccessList.{AccessList}
 use Rattle.fs_cred.specs.Credentials.{Credential}
-use Rattle.fs_cred.specs.declared.refusal.Refusal.{Refusal}
-use Rattle.fs_cred.specs.declared.errno.Errno.TheVariants.{EACCES}
-use Rattle.fs_model.specs.Limits.{root}
-use Rattle.fs_model.specs.declared.call.AclType.TheVariants.{Access as AccessAcl}
-use Rattle.fs_model.specs.declared.call.Call.{Call}
-use Rattle.fs_model.specs.declared.call.Call.TheVariants.{Lstat}
 use Rattle.fs_model.specs.declared.event.Event.{Event}
-use Rattle.fs_model.specs.declared.reply.FileType.{FileType}
 use Rattle.fs_model.specs.declared.reply.Reply.{Reply}
-use Rattle.fs_model.specs.declared.reply.Status.{Status}
 use Rattle.fuse_protocol.specs.declared.operation.Operation.{Operation}
 use Rattle.fuse_protocol.specs.declared.operation.Operation.TheVariants.{Lookup, Forget, GetAttr, SetAttr, ReadLink, SymLink, MkNod, MkDir, Unlink, RmDir, Rename, Link, Open, Read, Write, StatFs, Release, FSync, SetXAttr, GetXAttr, ListXAttr, RemoveXAttr, Init, OpenDir, ReadDir, ReleaseDir, FSyncDir, Access, Create, Interrupt, Destroy, BatchForget, SyncFs, Unknown}
-use Rattle.fuse_state.specs.declared.place.Place.{Place}
 use Rattle.fuse_state.specs.Servers.{Server, WithinShares}
-use Rattle.fuse_plans.specs.declared.stop.Stop.{Stop}
-use Rattle.fuse_plans.specs.Stops.{is_for}
 use Rattle.fuse_plans.specs.declared.request.Asked.{Asked}
 use Rattle.fuse_plans.specs.Plans.{Plan, Finish, Ask, CarriesOut, finishes, IsRunOf, Restraint, KeepsTo}
-use Rattle.fuse_plans.specs.Works.{Work, give, stop, kept, goes_on, ◌>>=◌, attempt, needed, ask, give_unless, refusal_in, unless_refused, obtain}
-use Rattle.fuse_plans.specs.Callers.{the_looker, between, or_inside, standing_refusal, or_next, by_places, on, by_looker, is_known_directory, the_number, directory_number}
-use Rattle.fuse_plans.specs.AclPlans.{acl_of}
-use Rattle.fuse_plans.specs.Nobody.{needs_caller, may_hide, hides, asks_list, is_masked, unless_masked, is_judged, needs_nobody, needs_nobody_in}
-use Rattle.fuse_plans.specs.Acts.{IsObject, node_of_object}
+use Rattle.fuse_plans.specs.Masks.{is_masked}
+use Rattle.fuse_plans.specs.Nobody.{needs_caller, unless_masked, is_judged, needs_nobody, needs_nobody_in}
+use Rattle.fuse_plans.specs.Acts.{node_of_object}
 use Rattle.fuse_plans.specs.Requests.{Request, asked_of}
 use Rattle.fuse_plans.specs.Serving.{plan_of, asked_for, answered}
 use Rattle.fuse_plans.specs.Conduct.{Known, Rights, conduct}
 use Rattle.fuse_plans.specs.Laws.{known_in, WhoAsksCountsOnlyWhereNeeded}
-use Rattle.fuse_plans.proofs.Conducts.{Any, Still, Left, Does, Lasts, does-give, does->>=, does-lasts, lasts->>=, then-lasts, keeps-followed_by}
-use Rattle.fuse_plans.proofs.Calls.{AsksOf, about-still, is-object, does-by_looker, does-replied_status, gives-directory_number}
-use Rattle.fuse_plans.proofs.OtherConducts.{does-acl_of}
-use Rattle.fuse_plans.proofs.ToldNodes.{AllEnd, all-followed_by}
-
--- ---- what stays
-
--- whatever is replied, the server keeps what it kept
-pub record Stays {X : Type 0} (w : Work X) : Type 0 where
-  pub at : (s : Server) → AllEnd (λ r. r.1 ≡ s) (w s)
-
-stays-give : {X : Type 0} (x : X) → Stays (give x)
-unfolding give
-stays-give x = record { at = λ s. refl }
-
-stays-stop : {X : Type 0} (e : Stop) → Stays {X = X} (stop e)
-unfolding stop
-stays-stop e = record { at = λ s. refl }
-
-stays-kept : {X : Type 0} (f : Server → X) → Stays (kept f)
-unfolding kept
-stays-kept f = record { at = λ s. refl }
-
-stays->>= : {X Y : Type 0} {w : Work X} {f : X → Work Y} → Stays w → ((x : X) → Stays (f x)) → Stays (w >>= f)
-unfolding ◌>>=◌
-stays->>= {X} {Y} {w} {f} first rest = record { at = λ s. all-followed_by (λ r. r.1 ≡ s) (λ r. r.1 ≡ s) (w s) (goes_on f) (first.at s) (next s) }
-  where
-    next : (s : Server) (r : Result X Stop × Server) → r.1 ≡ s → AllEnd (λ q. q.1 ≡ s) (goes_on f r)
-    next s (Ok x, t) is = subst (λ u. AllEnd (λ q. q.1 ≡ u) (f x t)) is ((rest x).at t)
-    next s (Err e, t) is = is
-
-stays-attempt : {X : Type 0} {w : Work X} → Stays w → Stays (attempt w)
-unfolding attempt
-stays-attempt {X} {w} first = record {
-  at = λ s. all-followed_by (λ r. r.1 ≡ s) (λ r. r.1 ≡ s) (w s) (λ r. Finish (Ok r.0, r.1)) (first.at s) (λ r is. is);
-}
-
-stays-if : {X : Type 0} (b : Bool) (w v : Work X) → Stays w → Stays v → Stays (if b then w else v)
-stays-if true w v first second = first
-stays-if false w v first second = second
-
-stays-needed : {X : Type 0} (e : Stop) (o : Option X) → Stays (needed e o)
-stays-needed e None = stays-stop e
-stays-needed e (Some x) = stays-give x
-
-stays-ask : (e : Event) → Stays (ask e)
-unfolding ask
-stays-ask e = record { at = λ s reply. refl }
-
-stays-unless_refused : (reply : Reply) → Stays (unless_refused reply)
-stays-unless_refused reply = choose (refusal_in reply)
-  where
-    choose : (o : Option Refusal) → Stays (give_unless reply o)
-    choose None = stays-give reply
-    choose (Some r) = stays-stop _
-
-stays-obtain : (e : Event) → Stays (obtain e)
-stays-obtain e = stays->>= (stays-ask e) stays-unless_refused
-
-stays-between : (pid d second : ℕ) (call : Call) → Stays (between pid d second call)
-unfolding between
-stays-between pid d second call =
-    stays->>= (stays-obtain _) (λ entered.
-    stays->>= (stays-ask _) (λ reply. stays->>= (stays-ask _) (λ back. stays-unless_refused reply)))
-
-stays-or_inside : (pid n : ℕ) (call : List ℕ → Call) (kind : Option FileType) (r : Result Reply Stop) → Stays (or_inside pid n call kind r)
-stays-or_inside pid n call kind (Ok reply) = stays-give reply
-stays-or_inside pid n call kind (Err e) = stays-if (is_for EACCES e && is_known_directory kind) _ _ (stays-between pid n n _) (stays-stop e)
-
-stays-or_next : (next : Stop → Work Reply) → ((e : Stop) → Stays (next e)) → (r : Result Reply Stop) → Stays (or_next next r)
-stays-or_next next rest (Ok reply) = stays-give reply
-stays-or_next next rest (Err e) = stays-if (is_for EACCES e) _ _ (rest e) (stays-stop e)
-
-stays-by_places : (pid : ℕ) (second : Option ℕ) (call : List ℕ → Call) (before : Stop) (places : List Place) → Stays (by_places pid second call before places)
-unfolding by_places
-stays-by_places pid second call before [] = stays-stop before
-stays-by_places pid second call before (p ∷ others) =
-    stays->>= (stays-attempt (stays-between pid p.directory _ (call p.name)))
-    (stays-or_next _ (λ e. stays-by_places pid second call (standing_refusal before e) others))
-
-stays-on : (pid n : ℕ) (call : List ℕ → Call) → Stays (on pid n call)
-unfolding on
-stays-on pid n call =
-    stays-if (n == root) _ _ (stays-obtain _)
-    (stays->>= (stays-kept _) (λ kind.
-    stays->>= (stays-kept _) (λ places.
-    stays->>= (stays-attempt (stays-by_places pid None call _ places)) (stays-or_inside pid n call kind))))
-
-stays-by_looker : (n : ℕ) (call : List ℕ → Call) → Stays (by_looker n call)
-unfolding the_looker
-stays-by_looker n call = stays->>= (stays->>= (stays-kept _) (stays-needed _)) (λ pid. stays-on pid n call)
-
-stays-asks_list : (n : ℕ) (status : Status) → Stays (asks_list n status)
-stays-asks_list n status =
-    stays-if (may_hide status.mode) _ _
-    (stays->>= (stays->>= (stays-by_looker n _) (λ reply. stays->>= (stays-needed _ _) (λ acl. stays-give _))) (λ acl. stays-give _))
-    (stays-give false)
-
-pub stays-is_masked : (node : ℕ) → Stays (is_masked node)
-unfolding is_masked directory_number the_number
-stays-is_masked node =
-    stays->>= (stays->>= (stays->>= (stays-kept _) (stays-needed _)) (λ n. stays->>= (stays-kept _) (λ kind. stays-if (is_known_directory kind) _ _ (stays-give n) (stays-stop _))))
-    (λ n.
-    stays->>= (stays->>= (stays-by_looker n Lstat) (λ reply. stays-needed _ _)) (λ status. stays-asks_list n status))
+use Rattle.fuse_plans.proofs.Conducts.{Any, Still, Left, Lasts, does-lasts, then-lasts, keeps-followed_by}
+use Rattle.fuse_plans.proofs.Calls.{AsksOf, is-object, gives-directory_number}
+use Rattle.fuse_plans.proofs.MaskConducts.{does-list_hides}
+use Rattle.fuse_plans.proofs.AllEnds.{AllEnd}
+use Rattle.fuse_plans.proofs.Staying.{stays-is_masked}
 
 -- ---- what may be asked
 
@@ -203,17 +90,10 @@ decided_at_once {M} {Serves} node operation s m other =
     (finishes (not (needs_caller operation)) m)
 
 module _ (rights : Rights) (node : ℕ) (same : rights.subject.node ≡ node) (s : Server) (start : rights.subject.start ≡ s) (own : rights.looker ≡ s.looker) where
-  does-asks_list : (n : ℕ) (b : Bool) → IsObject rights.subject n
-      → Does rights (Still rights) (if b then (acl_of n AccessAcl >>= (λ acl. give (hides acl))) else give false)
-  does-asks_list n true object = does->>= (does-acl_of n AccessAcl object) (λ acl. does-give _)
-  does-asks_list n false object = does-give false
-
   lasts-is_masked : AsksOf rights node → Lasts rights (Still rights) (is_masked node)
   unfolding is_masked
   lasts-is_masked asks =
-      then-lasts (gives-directory_number node (λ n was. is-object rights node asks n was)) (λ n object.
-      lasts->>= (does->>= (does-by_looker n Lstat (λ path. refl) (λ path. refl) (about-still n object)) does-replied_status) (λ status.
-      does-lasts (does-asks_list n (may_hide status.mode) object)))
+      then-lasts (gives-directory_number node (λ n was. is-object rights node asks n was)) (λ n object. does-lasts (does-list_hides n object))
 
   begins_still : Still rights s
   begins_still = record { kinds = ap (λ t. t.kinds) (sym start); generations = ap (λ t. t.generations) (sym start); names = ap (λ t. t.names) (sym start) }

@@ -25,6 +25,7 @@ use Rattle.fuse_plans.specs.declared.stop.Stop.{Stop}
 use Rattle.fuse_plans.specs.declared.stop.Stop.TheVariants.{Lacks}
 use Rattle.fuse_plans.specs.declared.stop.OtherErrno.TheVariants.{ESTALE}
 use Rattle.fuse_plans.specs.Stops.{failed}
+use Rattle.fuse_protocol.specs.declared.flags.OpenedFlags.{OpenedFlags}
 use Rattle.fuse_plans.specs.declared.mode.Mode.{Mode}
 use Rattle.fuse_plans.specs.declared.request.Asked.{Asked}
 use Rattle.fuse_plans.specs.declared.reply.ReplyBody.{ReplyBody}
@@ -34,7 +35,7 @@ use Rattle.fuse_plans.specs.declared.reply.Response.TheVariants.{Says, Fails}
 use Rattle.fuse_plans.specs.Plans.{Plan, Finish, Ask, followed_by, IsRunOf, IsAsked, at_once, later}
 use Rattle.fuse_plans.specs.Works.{Work, give, stop, kept, keep, goes_on, ◌>>=◌, attempt, needed, ask, unless_refused, obtain, or_closed, handle_within, replied_handle}
 use Rattle.fuse_plans.specs.Callers.{the_number, caller_with_room}
-use Rattle.fuse_plans.specs.FilePlans.{when, done, touched_if, show_open, confirm_shown, confirm_open, cuts_open, ask_first, open_object, open_granted, open_file}
+use Rattle.fuse_plans.specs.FilePlans.{when, done, touched_if, show_open, confirm_shown, confirm_open, cuts_open, ask_first, open_object, file_flags, opened_body, open_granted, open_file}
 use Rattle.fuse_plans.specs.Flags.{mode_in, is_trunc}
 use Rattle.fuse_plans.specs.Laws.{OpenedIsTheObject}
 use Rattle.fuse_plans.specs.Requests.{asked_of}
@@ -291,16 +292,17 @@ opens_held now pid n flags mode s t es replies handle runs =
     ends_held now pid n (cuts_open flags mode) (is_trunc flags) h handle (owner_is pid _ h (needed_is _ _ h u v more again found)) v t last rests ends))
 
 -- what is told of a value that was given
-record Told {X Y : Type 0} (p : Plan (Result X Stop × Server)) (f : X → Y) (y : Y) (t : Server) (es : List Event) (replies : List Reply) : Type 0 where
+record Told {X Y : Type 0} (p : Plan (Result X Stop × Server)) (f : X → Server → Y) (y : Y) (t : Server) (es : List Event) (replies : List Reply) : Type 0 where
   value : X
   runs : EndsWell p es replies value t
-  is : y ≡ f value
+  kept_then : Server
+  is : y ≡ f value kept_then
 
-tells : {X Y : Type 0} (p : Plan (Result X Stop × Server)) (f : X → Y) (y : Y) (t : Server) (es : List Event) (replies : List Reply)
-    → EndsWell (followed_by p (goes_on (λ x. give (f x)))) es replies y t → Told p f y t es replies
-unfolding give
+tells : {X Y : Type 0} (p : Plan (Result X Stop × Server)) (f : X → Server → Y) (y : Y) (t : Server) (es : List Event) (replies : List Reply)
+    → EndsWell (followed_by p (goes_on (λ x. kept (f x)))) es replies y t → Told p f y t es replies
+unfolding kept
 tells (Finish (Ok z, u)) f y t [] [] runs =
-    record { value = z; runs = ap (λ r. (Ok z, r.1)) runs; is = ok_is y (f z) (ap (λ r. r.0) runs) }
+    record { value = z; runs = ap (λ r. (Ok z, r.1)) runs; kept_then = u; is = ok_is y (f z u) (ap (λ r. r.0) runs) }
 tells (Finish (Ok z, u)) f y t [] (reply ∷ replies) runs = elim runs [ ]
 tells (Finish (Ok z, u)) f y t (g ∷ es) replies runs = elim runs [ ]
 tells (Finish (Err e, u)) f y t es replies runs = absurd (stops_not_well e y u t es replies runs)
@@ -308,28 +310,28 @@ tells (Ask e next) f y t [] replies runs = elim runs [ ]
 tells (Ask e next) f y t (g ∷ es) [] runs = elim runs [ ]
 tells (Ask e next) f y t (g ∷ es) (reply ∷ replies) runs =
     let rest = tells (next reply) f y t es replies runs.1 in
-    record { value = rest.value; runs = (runs.0, rest.runs); is = rest.is }
+    record { value = rest.value; runs = (runs.0, rest.runs); kept_then = rest.kept_then; is = rest.is }
 
-opened_is : (handle h : ℕ) → Opened handle ≡ Opened h → handle ≡ h
-opened_is handle h is = ap (λ b. handle_told b) is
+opened_is : (handle h : ℕ) (told flags : OpenedFlags) → Opened handle told ≡ Opened h flags → handle ≡ h
+opened_is handle h told flags is = ap (λ b. handle_told b) is
   where
     handle_told : ReplyBody → ℕ
-    handle_told (Opened k) = k
+    handle_told (Opened k kept) = k
     handle_told _ = handle
 
 -- once it is granted
-granted_held : (now : Time) (pid n flags : ℕ) (mode : Mode) (s t : Server) (es : List Event) (replies : List Reply) (handle : ℕ)
-    → EndsWell (open_granted now pid n flags mode s) es replies (Opened handle) t → Held n handle t es replies
+granted_held : (now : Time) (pid n flags : ℕ) (mode : Mode) (s t : Server) (es : List Event) (replies : List Reply) (handle : ℕ) (keeping : OpenedFlags)
+    → EndsWell (open_granted now pid n flags mode s) es replies (Opened handle keeping) t → Held n handle t es replies
 unfolding ◌>>=◌
-granted_held now pid n flags mode s t es replies handle runs =
-    run->>= (Held n handle t) (held_grows n handle t) (ask_first pid n flags mode) _ s t es replies (Opened handle) runs (λ x u first replied after rest ran goes.
+granted_held now pid n flags mode s t es replies handle keeping runs =
+    run->>= (Held n handle t) (held_grows n handle t) (ask_first pid n flags mode) _ s t es replies (Opened handle keeping) runs (λ x u first replied after rest ran goes.
     opens u after rest goes)
   where
     opens : (u : Server) (after : List Event) (rest : List Reply)
-        → EndsWell ((open_object now pid n flags mode >>= (λ h. give (Opened h))) u) after rest (Opened handle) t → Held n handle t after rest
+        → EndsWell ((open_object now pid n flags mode >>= (λ h. kept (opened_body h))) u) after rest (Opened handle keeping) t → Held n handle t after rest
     opens u after rest goes =
-        let told = tells (open_object now pid n flags mode u) Opened (Opened handle) t after rest goes in
-        let same = opened_is handle told.value told.is in
+        let told = tells (open_object now pid n flags mode u) opened_body (Opened handle keeping) t after rest goes in
+        let same = opened_is handle told.value keeping (file_flags told.kept_then.settings) told.is in
         opens_held now pid n flags mode u t after rest handle
         (subst (λ h. EndsWell (open_object now pid n flags mode u) after rest h t) (sym same) told.runs)
 
@@ -338,24 +340,24 @@ record OfNode (r : Asked) (s t : Server) (es : List Event) (replies : List Reply
   of_node : number_of s r.node ≡ Some number
   held : Held number handle t es replies
 
-file_held : (r : Asked) (flags : ℕ) (s t : Server) (es : List Event) (replies : List Reply) (handle : ℕ)
-    → EndsWell (open_file r flags s) es replies (Opened handle) t → OfNode r s t es replies handle
+file_held : (r : Asked) (flags : ℕ) (s t : Server) (es : List Event) (replies : List Reply) (handle : ℕ) (keeping : OpenedFlags)
+    → EndsWell (open_file r flags s) es replies (Opened handle keeping) t → OfNode r s t es replies handle
 unfolding the_number kept give stop ◌>>=◌
-file_held r flags s t es replies handle runs = choose (number_of s r.node) refl runs
+file_held r flags s t es replies handle keeping runs = choose (number_of s r.node) refl runs
   where
     then_opens : ℕ → Work ReplyBody
     then_opens n = needed (failed EINVAL) (mode_in flags) >>= (λ mode. caller_with_room r.cred >>= (λ pid. open_granted r.now pid n flags mode))
 
-    choose : (o : Option ℕ) → number_of s r.node ≡ o → EndsWell ((needed (Lacks ESTALE) o >>= then_opens) s) es replies (Opened handle) t
+    choose : (o : Option ℕ) → number_of s r.node ≡ o → EndsWell ((needed (Lacks ESTALE) o >>= then_opens) s) es replies (Opened handle keeping) t
         → OfNode r s t es replies handle
-    choose None is ran = absurd (stops_not_well (Lacks ESTALE) (Opened handle) s t es replies ran)
+    choose None is ran = absurd (stops_not_well (Lacks ESTALE) (Opened handle keeping) s t es replies ran)
     choose (Some n) is ran = record {
       number = n;
       of_node = is;
       held =
-          run->>= (Held n handle t) (held_grows n handle t) (needed (failed EINVAL) (mode_in flags)) _ s t es replies (Opened handle) ran (λ mode u first replied after rest fine goes.
-          run->>= (Held n handle t) (held_grows n handle t) (caller_with_room r.cred) _ u t after rest (Opened handle) goes (λ pid v more again last rests found ends.
-          granted_held r.now pid n flags mode v t last rests handle ends));
+          run->>= (Held n handle t) (held_grows n handle t) (needed (failed EINVAL) (mode_in flags)) _ s t es replies (Opened handle keeping) ran (λ mode u first replied after rest fine goes.
+          run->>= (Held n handle t) (held_grows n handle t) (caller_with_room r.cred) _ u t after rest (Opened handle keeping) goes (λ pid v more again last rests found ends.
+          granted_held r.now pid n flags mode v t last rests handle keeping ends));
     }
 
 -- what is answered was the end of the work
@@ -373,18 +375,18 @@ was_told (Ask e next) body t [] replies runs = elim runs [ ]
 was_told (Ask e next) body t (g ∷ es) [] runs = elim runs [ ]
 was_told (Ask e next) body t (g ∷ es) (reply ∷ replies) runs = (runs.0, was_told (next reply) body t es replies runs.1)
 
-answered_held : (r : Asked) (flags : ℕ) (memory : Bool) (s t : Server) (es : List Event) (replies : List Reply) (handle : ℕ)
-    → IsRunOf {X = Response × Server} (answered memory (Some (open_file r flags)) s) es replies (Says (Opened handle), t) → OfNode r s t es replies handle
-answered_held r flags true s t es replies handle runs = file_held r flags s t es replies handle (was_told (open_file r flags s) (Opened handle) t es replies runs)
-answered_held r flags false s t es replies handle runs =
-    let ends = finished (Fails (failed ENOMEM), s) (Says (Opened handle), t) es replies runs in
-    absurd (let no : Says (Opened handle) ≡ Fails (failed ENOMEM) = ap (λ q. q.0) ends.2 in cc)
+answered_held : (r : Asked) (flags : ℕ) (memory : Bool) (s t : Server) (es : List Event) (replies : List Reply) (handle : ℕ) (keeping : OpenedFlags)
+    → IsRunOf {X = Response × Server} (answered memory (Some (open_file r flags)) s) es replies (Says (Opened handle keeping), t) → OfNode r s t es replies handle
+answered_held r flags true s t es replies handle keeping runs = file_held r flags s t es replies handle keeping (was_told (open_file r flags s) (Opened handle keeping) t es replies runs)
+answered_held r flags false s t es replies handle keeping runs =
+    let ends = finished (Fails (failed ENOMEM), s) (Says (Opened handle keeping), t) es replies runs in
+    absurd (let no : Says (Opened handle keeping) ≡ Fails (failed ENOMEM) = ap (λ q. q.0) ends.2 in cc)
 
 pub opened_is_the_object : OpenedIsTheObject
 unfolding request_plan
-opened_is_the_object r s t flags es replies handle is runs =
-    let found = answered_held (asked_of r false) flags.0 r.memory s t es replies handle
-    (subst (λ o. IsRunOf {X = Response × Server} (followed_by (needs_nobody_in r.node o s) (λ nobody. answered r.memory (asked_for (asked_of r nobody) r.value o) s)) es replies (Says (Opened handle), t)) is runs) in
+opened_is_the_object r s t flags es replies handle keeping is runs =
+    let found = answered_held (asked_of r false) flags.0 r.memory s t es replies handle keeping
+    (subst (λ o. IsRunOf {X = Response × Server} (followed_by (needs_nobody_in r.node o s) (λ nobody. answered r.memory (asked_for (asked_of r nobody) r.value o) s)) es replies (Says (Opened handle keeping), t)) is runs) in
     record {
       number = found.number;
       of_node = found.of_node;

@@ -24,12 +24,13 @@ use Rattle.fuse_plans.specs.Conduct.{Known, Rights, conduct, Fits, IsHome, IsSyn
 use Rattle.fuse_plans.specs.FilePlans.{sync_file}
 use Rattle.fuse_plans.specs.AttributePlans.{tell_attributes, get_attributes, new_owners, resize_object, set_size, set_mode, may_set_times, set_times, change_attributes, set_attributes, read_link, access_as, ask_access}
 use Rattle.fuse_plans.specs.DirectoryPlans.{open_directory, take_directory, take_directory_if, tell_names, list_open, list_all, list_now, listed, read_directory, close_directory, sync_all}
-use Rattle.fuse_plans.specs.AclPlans.{an_object, acl_of, sized, get_xattr, attribute_names, list_xattrs, acl_set, set_acl, set_xattr, remove_xattr}
+use Rattle.fuse_plans.specs.AclPlans.{an_object, sized, get_xattr, attribute_names, list_xattrs, acl_set, set_acl, set_xattr, remove_xattr}
 use Rattle.fuse_plans.specs.Serving.{count_space, end}
 use Rattle.fuse_plans.proofs.Conducts.{Any, Still, still-as, Left, does-keep_within, Does, Lasts, Gives, does-give, does-stop, does-kept, does->>=, does-attempt, does-needed, does-unless_refused, does-lasts, lasts->>=, ends->>=, then-lasts, then-does, then-does_to, does-does_to, gives-give, gives-stop}
 use Rattle.fuse_plans.proofs.Calls.{About, AsksOf, about-still, is-object, does-obtain, does-or_closed, does-on, does-by_looker, does-with_looker, looks, does-look, gives-number, gives-directory_number}
 use Rattle.fuse_plans.proofs.Chosen.{OfCaller, about-caller, does-caller}
-use Rattle.fuse_plans.proofs.Forms.{caller-can, does-if, does-when, lasts-when, does-done, does-keep_still, does-keep_caller, does-replied_fd, does-replied_target, does-replied_acl, does-replied_names, does-replied_space}
+use Rattle.fuse_plans.proofs.Forms.{caller-can, does-if, does-when, lasts-when, does-done, does-keep_still, does-keep_caller, does-replied_fd, does-replied_target, does-replied_names, does-replied_space}
+use Rattle.fuse_plans.proofs.MaskConducts.{does-acl_of}
 use Rattle.fuse_plans.proofs.FileConducts.{does-the_open, does-call_open, itself}
 
 -- ---- attributes
@@ -42,12 +43,6 @@ module _ {rights : Rights} {P : Server → Type 0} where
   does-new_owners c n false about = does-give _
   does-new_owners c n true about =
       does-if _ _ _ (does-stop _) (does->>= (does-look n about) (λ status. does-if _ _ _ (does-stop _) (does-give _)))
-
-module _ {rights : Rights} where
-  pub does-acl_of : (n : ℕ) (which : AclType) → IsObject rights.subject n → Does rights (Still rights) (acl_of n which)
-  does-acl_of n which object =
-      does->>= (does-by_looker n _ (λ path. refl) (λ path. refl) (about-still n object)) (λ reply.
-      does->>= (does-replied_acl reply) (λ acl. does-give _))
 
 -- the handle that a change of the size is asked by is the one of the request
 abbrev pub HandleIs : Rights → Option ℕ → Type 0

@@ -18,6 +18,7 @@ use Rattle.fs_model.specs.declared.reply.FileType.{FileType}
 use Rattle.fs_model.specs.declared.reply.Reply.{Reply}
 use Rattle.fs_model.specs.declared.reply.Reply.TheVariants.{Granted, At, Refused}
 use Rattle.fs_model.specs.declared.reply.Status.{Status}
+use Rattle.fuse_protocol.specs.declared.flags.OpenedFlags.{OpenedFlags}
 use Rattle.fuse_protocol.specs.declared.entry.DirectoryEntry.{DirectoryEntry}
 use Rattle.fuse_protocol.specs.declared.request.Request.{Request as WireRequest}
 use Rattle.fuse_protocol.specs.declared.request.RequestFault.{RequestFault}
@@ -41,15 +42,16 @@ use Rattle.fuse_plans.specs.declared.reply.ReplyBody.{ReplyBody}
 use Rattle.fuse_plans.specs.declared.reply.ReplyBody.TheVariants.{Bytes}
 use Rattle.fuse_plans.specs.declared.reply.Response.{Response}
 use Rattle.fuse_plans.specs.declared.reply.Response.TheVariants.{Silence, Says, Fails}
+use Rattle.fuse_state.specs.Keepings.{nothing_kept}
 use Rattle.fuse_state.specs.Servers.{Server, new_server}
 use Rattle.fuse_plans.specs.Works.{give, stop, kept, keep, ◌>>=◌, attempt, ask}
 use Rattle.fuse_plans.specs.Callers.{retire, begin_process, caller, caller_with_room, the_looker, between, look_inside, by_places, on, look, the_number, directory_number, standing_directory}
 use Rattle.fuse_plans.specs.declared.mode.Mode.{Mode}
 use Rattle.fuse_plans.specs.Flags.{only}
-use Rattle.fuse_plans.specs.NamePlans.{made, link_by_place}
+use Rattle.fuse_plans.specs.NamePlans.{new_valid, made, link_by_place}
 use Rattle.fuse_plans.specs.FilePlans.{open_or_make, show_open, confirm_shown, confirm_open, look_open, tell_created, the_open, seek, read_piece, read_pieces, write_piece, write_pieces}
 use Rattle.fuse_plans.specs.DirectoryPlans.{take_directory, entry_kind, tell_names, list_open, read_directory, close_directory, sync_all}
-use Rattle.fuse_plans.specs.Nobody.{is_masked}
+use Rattle.fuse_plans.specs.Masks.{is_masked}
 use Rattle.fuse_plans.specs.Serving.{begin, count_space, end, request_plan}
 
 -- what is asked, and the result, if the plan is done with just these replies
@@ -91,7 +93,7 @@ played s (step ∷ steps) =
 
 -- all that a plan computes with
 unfoldable pub all_plans : Unit {0}
-unfolding give stop kept keep ◌>>=◌ attempt ask retire begin_process caller caller_with_room the_looker between look_inside by_places on look the_number directory_number standing_directory made is_masked link_by_place open_or_make show_open confirm_shown confirm_open look_open tell_created the_open seek read_piece read_pieces write_piece write_pieces tell_names list_open read_directory close_directory sync_all begin count_space end request_plan take_directory
+unfolding give stop kept keep ◌>>=◌ attempt ask retire begin_process caller caller_with_room the_looker between look_inside by_places on look the_number directory_number standing_directory new_valid made is_masked link_by_place open_or_make show_open confirm_shown confirm_open look_open tell_created the_open seek read_piece read_pieces write_piece write_pieces tell_names list_open read_directory close_directory sync_all begin count_space end request_plan take_directory
 all_plans = tt
 
 -- ---- words
@@ -101,7 +103,7 @@ second k = record { seconds = k; nanoseconds = 0 }
 
 -- the disk of the recorded runs
 abbrev pub new : Server
-new = new_server (record { max_write = 4096; posix_acl = false; sectors = 878; inodes = 63; start = second 1000000001 })
+new = new_server (record { max_write = 4096; posix_acl = false; keeping = nothing_kept; sectors = 878; inodes = 63; start = second 1000000001 })
 
 abbrev pub outside : Option (List ℕ) → ℕ → Outside
 outside groups now = record { groups = groups; caps = all_caps; now = second now; memory = true }
@@ -140,7 +142,11 @@ status inode kind mode links owner group size =
     record { inode = inode; kind = kind; mode = mode; links = links; owner = owner; group = group; size = size }
 
 abbrev pub attributes : Status → Time → Time → Time → Attributes
-attributes shown atime mtime ctime = record { status = shown; times = record { atime = atime; mtime = mtime; ctime = ctime } }
+attributes shown atime mtime ctime = record { status = shown; times = record { atime = atime; mtime = mtime; ctime = ctime }; valid = 0 }
+
+-- of what is open
+abbrev pub none_kept : OpenedFlags
+none_kept = record { 0 = 0 }
 
 abbrev pub entry : List ℕ → ℕ → ℕ → DirectoryEntry
 entry name inode next = record { inode = inode; next = next; kind = entry_kind name; name = name }

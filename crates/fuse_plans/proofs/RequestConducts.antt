@@ -60,9 +60,9 @@ module _ (rights : Rights) (r : Asked) (is : rights.cred ≡ r.cred) (node : rig
   does-plan value GetAttr asks other given = lasts-get_attributes r is (of_node _ asks (λ k. refl))
   does-plan value (SetAttr changes) asks other given = lasts-set_attributes r is (of_node _ asks (λ k. refl)) changes (handle_is rights changes.handle given)
   does-plan value ReadLink asks other given = lasts-read_link r is (of_node _ asks (λ k. refl))
-  does-plan value (SymLink name target) asks other given = lasts-make_link r is node name target (gives_name _ asks name refl)
-  does-plan value (MkNod name mode umask) asks other given = lasts-make_file r is node name mode umask (gives_name _ asks name refl)
-  does-plan value (MkDir name mode umask) asks other given = lasts-make_directory r is node name mode umask (gives_name _ asks name refl)
+  does-plan value (SymLink name target) asks other given = lasts-make_link r is node (of_node _ asks (λ k. refl)) name target (gives_name _ asks name refl)
+  does-plan value (MkNod name mode umask) asks other given = lasts-make_file r is node (of_node _ asks (λ k. refl)) name mode umask (gives_name _ asks name refl)
+  does-plan value (MkDir name mode umask) asks other given = lasts-make_directory r is node (of_node _ asks (λ k. refl)) name mode umask (gives_name _ asks name refl)
   does-plan value (Unlink name) asks other given = lasts-remove r is node (removal false) name refl refl (gives_name _ asks name refl)
   does-plan value (RmDir name) asks other given = lasts-remove r is node (removal true) name refl refl (gives_name _ asks name refl)
   does-plan value (Rename name new_directory new_name flags) asks other given = lasts-move_name r is node name new_directory new_name flags asks
@@ -83,7 +83,7 @@ module _ (rights : Rights) (r : Asked) (is : rights.cred ≡ r.cred) (node : rig
   does-plan value (ReleaseDir handle) asks other given = does-lasts (does-close_directory handle)
   does-plan value FSyncDir asks other given = does-lasts does-sync_all
   does-plan value (Access mask) asks other given = lasts-ask_access r is (of_node _ asks (λ k. refl)) mask
-  does-plan value (Create name flags mode umask) asks other given = lasts-create_file r is node name flags.0 mode umask (gives_name _ asks name refl)
+  does-plan value (Create name flags mode umask) asks other given = lasts-create_file r is node (of_node _ asks (λ k. refl)) name flags.0 mode umask (gives_name _ asks name refl)
   does-plan value Interrupt asks other given = tt
   does-plan value Destroy asks other given = does-lasts does-end
   does-plan value BatchForget asks other given = tt

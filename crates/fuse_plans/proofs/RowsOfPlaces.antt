@@ -10,7 +10,7 @@ use Rattle.fuse_protocol.specs.declared.operation.Operation.TheVariants.{Lookup,
 use Rattle.fuse_plans.specs.declared.reply.ReplyBody.TheVariants.{Found, Opened}
 use Rattle.fuse_plans.specs.declared.mode.Mode.TheVariants.{Reads}
 use Rattle.fuse_plans.specs.Serving.{terms}
-use Rattle.fuse_plans.proofs.Replays.{Told, Error, played, all_plans, second, new, asks, user, failed, status, attributes, flags}
+use Rattle.fuse_plans.proofs.Replays.{Told, Error, played, all_plans, second, new, asks, user, failed, status, attributes, none_kept, flags}
 
 -- A user finds a file as `B/f`, and then root as `A/f`, where the user isn't let in. The user opens it by the other name, and gives it
 -- one more. Where neither name is open to them, they are refused, and where the second one is gone, that is told.
@@ -26,12 +26,12 @@ pub open_by_other : played new (
     ∷ asks 4 8 8 (Some []) 1000000009 (OpenFile (record { 0 = 0 })) (Done ∷ (failed EACCES) ∷ Done ∷ Done ∷ (failed ENOENT) ∷ Done ∷ [])
     ∷ []) ≡
     (((user 0 0 []) ∷ []), Told (terms 131072 524360 4096 0))
-    ∷ (((user 0 0 []) ∷ (Enter 2 1 1) ∷ (Calls 2 (Lstat (codes "A"))) ∷ (Enter 2 1 1) ∷ []), Told (Found 2 (attributes (status 2 Directory 448 1 0 0 64) (second 1000000001) (second 1000000001) (second 1000000001))))
-    ∷ (((user 7 7 []) ∷ (Enter 3 1 1) ∷ (Calls 3 (Lstat (codes "B"))) ∷ (Enter 3 1 1) ∷ []), Told (Found 3 (attributes (status 3 Directory 493 1 7 7 64) (second 1000000001) (second 1000000001) (second 1000000001))))
-    ∷ (((Enter 3 3 3) ∷ (Calls 3 (Lstat (codes "f"))) ∷ (Enter 3 1 1) ∷ []), Told (Found 4 (attributes (status 4 File 384 2 7 7 5) (second 1000000001) (second 1000000001) (second 1000000001))))
-    ∷ (((Enter 2 2 2) ∷ (Calls 2 (Lstat (codes "f"))) ∷ (Enter 2 1 1) ∷ []), Told (Found 4 (attributes (status 4 File 384 2 7 7 5) (second 1000000001) (second 1000000001) (second 1000000001))))
-    ∷ (((Enter 3 2 2) ∷ (Calls 3 (Open (codes "f") (flags Reads false false false true false) 0)) ∷ (Enter 3 1 1) ∷ (Enter 3 3 3) ∷ (Calls 3 (Open (codes "f") (flags Reads false false false true false) 0)) ∷ (Enter 3 1 1) ∷ (Calls 3 (Fstat 0)) ∷ []), Told (Opened 96))
-    ∷ (((Enter 3 2 3) ∷ (Calls 3 (Link (codes "f") (codes "g"))) ∷ (Enter 3 1 1) ∷ (Enter 3 3 3) ∷ (Calls 3 (Link (codes "f") (codes "g"))) ∷ (Enter 3 1 1) ∷ (Enter 1 3 3) ∷ (Calls 1 (Lstat (codes "g"))) ∷ (Enter 1 1 1) ∷ []), Told (Found 4 (attributes (status 4 File 384 3 7 7 5) (second 1000000001) (second 1000000001) (second 1000000007))))
+    ∷ (((user 0 0 []) ∷ (Enter 2 1 1) ∷ (Calls 2 (Lstat (codes "A"))) ∷ (Enter 2 1 1) ∷ []), Told (Found 2 0 (attributes (status 2 Directory 448 1 0 0 64) (second 1000000001) (second 1000000001) (second 1000000001))))
+    ∷ (((user 7 7 []) ∷ (Enter 3 1 1) ∷ (Calls 3 (Lstat (codes "B"))) ∷ (Enter 3 1 1) ∷ []), Told (Found 3 0 (attributes (status 3 Directory 493 1 7 7 64) (second 1000000001) (second 1000000001) (second 1000000001))))
+    ∷ (((Enter 3 3 3) ∷ (Calls 3 (Lstat (codes "f"))) ∷ (Enter 3 1 1) ∷ []), Told (Found 4 0 (attributes (status 4 File 384 2 7 7 5) (second 1000000001) (second 1000000001) (second 1000000001))))
+    ∷ (((Enter 2 2 2) ∷ (Calls 2 (Lstat (codes "f"))) ∷ (Enter 2 1 1) ∷ []), Told (Found 4 0 (attributes (status 4 File 384 2 7 7 5) (second 1000000001) (second 1000000001) (second 1000000001))))
+    ∷ (((Enter 3 2 2) ∷ (Calls 3 (Open (codes "f") (flags Reads false false false true false) 0)) ∷ (Enter 3 1 1) ∷ (Enter 3 3 3) ∷ (Calls 3 (Open (codes "f") (flags Reads false false false true false) 0)) ∷ (Enter 3 1 1) ∷ (Calls 3 (Fstat 0)) ∷ []), Told (Opened 96 none_kept))
+    ∷ (((Enter 3 2 3) ∷ (Calls 3 (Link (codes "f") (codes "g"))) ∷ (Enter 3 1 1) ∷ (Enter 3 3 3) ∷ (Calls 3 (Link (codes "f") (codes "g"))) ∷ (Enter 3 1 1) ∷ (Enter 1 3 3) ∷ (Calls 1 (Lstat (codes "g"))) ∷ (Enter 1 1 1) ∷ []), Told (Found 4 0 (attributes (status 4 File 384 3 7 7 5) (second 1000000001) (second 1000000001) (second 1000000007))))
     ∷ (((user 8 8 []) ∷ (Enter 4 3 3) ∷ (Calls 4 (Open (codes "g") (flags Reads false false false true false) 0)) ∷ (Enter 4 1 1) ∷ (Enter 4 2 2) ∷ (Calls 4 (Open (codes "f") (flags Reads false false false true false) 0)) ∷ (Enter 4 1 1) ∷ (Enter 4 3 3) ∷ (Calls 4 (Open (codes "f") (flags Reads false false false true false) 0)) ∷ (Enter 4 1 1) ∷ []), Error 13)
     ∷ (((Enter 4 3 3) ∷ (Calls 4 (Open (codes "g") (flags Reads false false false true false) 0)) ∷ (Enter 4 1 1) ∷ (Enter 4 2 2) ∷ (Calls 4 (Open (codes "f") (flags Reads false false false true false) 0)) ∷ (Enter 4 1 1) ∷ []), Error 2)
     ∷ []

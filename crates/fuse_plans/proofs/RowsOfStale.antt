@@ -11,7 +11,7 @@ use Rattle.fuse_protocol.specs.declared.operation.Operation.TheVariants.{Lookup,
 use Rattle.fuse_plans.specs.declared.reply.ReplyBody.TheVariants.{Nothing, Found, Opened}
 use Rattle.fuse_plans.specs.declared.mode.Mode.TheVariants.{Writes}
 use Rattle.fuse_plans.specs.Serving.{terms}
-use Rattle.fuse_plans.proofs.Replays.{Told, Error, played, all_plans, second, new, asks, user, extent, failed, granted, status, attributes, flags}
+use Rattle.fuse_plans.proofs.Replays.{Told, Error, played, all_plans, second, new, asks, user, extent, failed, granted, status, attributes, none_kept, flags}
 
 -- A file is opened for writing, and is to lose its bytes: first its name leads to another, and that is closed as it was.
 pub open_elsewhere : played new (
@@ -21,9 +21,9 @@ pub open_elsewhere : played new (
     ∷ asks 2 0 0 (Some []) 1000000005 (OpenFile (record { 0 = 513 })) (Done ∷ (Fd 0) ∷ Done ∷ (Shown (status 2 File 384 1 0 0 5)) ∷ Done ∷ [])
     ∷ []) ≡
     (((user 0 0 []) ∷ []), Told (terms 131072 524360 4096 0))
-    ∷ (((user 0 0 []) ∷ (Enter 2 1 1) ∷ (Calls 2 (Lstat (codes "a"))) ∷ (Enter 2 1 1) ∷ []), Told (Found 2 (attributes (status 2 File 384 1 0 0 5) (second 1000000001) (second 1000000001) (second 1000000001))))
+    ∷ (((user 0 0 []) ∷ (Enter 2 1 1) ∷ (Calls 2 (Lstat (codes "a"))) ∷ (Enter 2 1 1) ∷ []), Told (Found 2 0 (attributes (status 2 File 384 1 0 0 5) (second 1000000001) (second 1000000001) (second 1000000001))))
     ∷ (((Enter 2 1 1) ∷ (Calls 2 (Open (codes "a") (flags Writes false false false true false) 0)) ∷ (Enter 2 1 1) ∷ (Calls 2 (Fstat 0)) ∷ (Calls 2 (Close 0)) ∷ []), Error 116)
-    ∷ (((Enter 2 1 1) ∷ (Calls 2 (Open (codes "a") (flags Writes false false false true false) 0)) ∷ (Enter 2 1 1) ∷ (Calls 2 (Fstat 0)) ∷ (Calls 2 (Ftruncate 0 0)) ∷ []), Told (Opened 64))
+    ∷ (((Enter 2 1 1) ∷ (Calls 2 (Open (codes "a") (flags Writes false false false true false) 0)) ∷ (Enter 2 1 1) ∷ (Calls 2 (Fstat 0)) ∷ (Calls 2 (Ftruncate 0 0)) ∷ []), Told (Opened 64 none_kept))
     ∷ []
 unfolding all_plans
 open_elsewhere = refl
@@ -38,10 +38,10 @@ pub list_elsewhere : played new (
     ∷ asks 4294967300 0 0 (Some []) 1000000007 (ReadDir (extent 4294967296 0 4096)) []
     ∷ []) ≡
     (((user 0 0 []) ∷ []), Told (terms 131072 524360 4096 0))
-    ∷ (((user 0 0 []) ∷ (Calls 2 (Umask 18)) ∷ (Enter 2 1 1) ∷ (Calls 2 (Mkdir (codes "d") 493)) ∷ (Enter 2 1 1) ∷ (Enter 1 1 1) ∷ (Calls 1 (Lstat (codes "d"))) ∷ (Enter 1 1 1) ∷ []), Told (Found 4294967300 (attributes (status 4 Directory 493 1 0 0 0) (second 1000000003) (second 1000000003) (second 1000000003))))
-    ∷ (((Enter 2 1 1) ∷ (Calls 2 (Access (codes "d") (perms_of 4))) ∷ (Enter 2 1 1) ∷ []), Told (Opened 4294967296))
+    ∷ (((user 0 0 []) ∷ (Calls 2 (Umask 18)) ∷ (Enter 2 1 1) ∷ (Calls 2 (Mkdir (codes "d") 493)) ∷ (Enter 2 1 1) ∷ (Enter 1 1 1) ∷ (Calls 1 (Lstat (codes "d"))) ∷ (Enter 1 1 1) ∷ []), Told (Found 4294967300 0 (attributes (status 4 Directory 493 1 0 0 0) (second 1000000003) (second 1000000003) (second 1000000003))))
+    ∷ (((Enter 2 1 1) ∷ (Calls 2 (Access (codes "d") (perms_of 4))) ∷ (Enter 2 1 1) ∷ []), Told (Opened 4294967296 none_kept))
     ∷ (((Enter 2 1 1) ∷ (Calls 2 (Rmdir (codes "d"))) ∷ (Enter 2 1 1) ∷ []), Told Nothing)
-    ∷ (((Calls 2 (Umask 18)) ∷ (Enter 2 1 1) ∷ (Calls 2 (Mkdir (codes "e") 493)) ∷ (Enter 2 1 1) ∷ (Enter 1 1 1) ∷ (Calls 1 (Lstat (codes "e"))) ∷ (Enter 1 1 1) ∷ []), Told (Found 8589934596 (attributes (status 4 Directory 493 1 0 0 0) (second 1000000006) (second 1000000006) (second 1000000006))))
+    ∷ (((Calls 2 (Umask 18)) ∷ (Enter 2 1 1) ∷ (Calls 2 (Mkdir (codes "e") 493)) ∷ (Enter 2 1 1) ∷ (Enter 1 1 1) ∷ (Calls 1 (Lstat (codes "e"))) ∷ (Enter 1 1 1) ∷ []), Told (Found 8589934596 0 (attributes (status 4 Directory 493 1 0 0 0) (second 1000000006) (second 1000000006) (second 1000000006))))
     ∷ ([], Error 116)
     ∷ []
 unfolding all_plans
@@ -63,16 +63,16 @@ pub made_unseen : played new (
     ∷ asks 1 0 0 (Some []) 1000000010 (Lookup (codes "e")) (Done ∷ (Shown (status 4 Directory 493 1 0 0 0)) ∷ Done ∷ [])
     ∷ []) ≡
     (((user 0 0 []) ∷ []), Told (terms 131072 524360 4096 0))
-    ∷ (((user 0 0 []) ∷ (Calls 2 (Umask 18)) ∷ (Enter 2 1 1) ∷ (Calls 2 (Mkdir (codes "d") 493)) ∷ (Enter 2 1 1) ∷ (Enter 1 1 1) ∷ (Calls 1 (Lstat (codes "d"))) ∷ (Enter 1 1 1) ∷ []), Told (Found 4294967300 (attributes (status 4 Directory 493 1 0 0 0) (second 1000000003) (second 1000000003) (second 1000000003))))
+    ∷ (((user 0 0 []) ∷ (Calls 2 (Umask 18)) ∷ (Enter 2 1 1) ∷ (Calls 2 (Mkdir (codes "d") 493)) ∷ (Enter 2 1 1) ∷ (Enter 1 1 1) ∷ (Calls 1 (Lstat (codes "d"))) ∷ (Enter 1 1 1) ∷ []), Told (Found 4294967300 0 (attributes (status 4 Directory 493 1 0 0 0) (second 1000000003) (second 1000000003) (second 1000000003))))
     ∷ (((Enter 2 1 1) ∷ (Calls 2 (Rmdir (codes "d"))) ∷ (Enter 2 1 1) ∷ []), Told Nothing)
     ∷ (((Calls 2 (Umask 18)) ∷ (Enter 2 1 1) ∷ (Calls 2 (Mkdir (codes "e") 493)) ∷ (Enter 2 1 1) ∷ (Enter 1 1 1) ∷ (Calls 1 (Lstat (codes "e"))) ∷ (Enter 1 1 1) ∷ []), Error 5)
     ∷ ([], Error 116)
     ∷ ([], Error 2)
     ∷ ([], Error 116)
-    ∷ (((Enter 2 1 1) ∷ (Calls 2 (Lstat (codes "e"))) ∷ (Enter 2 1 1) ∷ []), Told (Found 8589934596 (attributes (status 4 Directory 493 1 0 0 0) (second 1000000003) (second 1000000003) (second 1000000004))))
+    ∷ (((Enter 2 1 1) ∷ (Calls 2 (Lstat (codes "e"))) ∷ (Enter 2 1 1) ∷ []), Told (Found 8589934596 0 (attributes (status 4 Directory 493 1 0 0 0) (second 1000000003) (second 1000000003) (second 1000000004))))
     ∷ ([], Error 116)
     ∷ ([], Error 2)
-    ∷ (((Enter 2 1 1) ∷ (Calls 2 (Lstat (codes "e"))) ∷ (Enter 2 1 1) ∷ []), Told (Found 8589934596 (attributes (status 4 Directory 493 1 0 0 0) (second 1000000003) (second 1000000003) (second 1000000004))))
+    ∷ (((Enter 2 1 1) ∷ (Calls 2 (Lstat (codes "e"))) ∷ (Enter 2 1 1) ∷ []), Told (Found 8589934596 0 (attributes (status 4 Directory 493 1 0 0 0) (second 1000000003) (second 1000000003) (second 1000000004))))
     ∷ []
 unfolding all_plans
 made_unseen = refl

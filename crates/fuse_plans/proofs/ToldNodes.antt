@@ -1,9 +1,8 @@
 -- What is told of a name that was found or made leads to the object.
---     AllEnd        something holds of each end of a plan, whatever is replied
 --     Same, Leaves        nodes, names and handles of files are as they were; work that changes none of them
 --     Tells        work that ends with what it tells of a name
 --     told_nodes_lead_to_objects
-use Rattle.std.specs.Prelude.{◌≡◌, ℕ, zero, suc, ◌<◌, ◌^◌, Bool, true, false, List, [], ◌∷◌, Option, None, Some, unwrap_or, Result, Ok, Err, IsTrue, if◌then◌else◌, bit_and}
+use Rattle.std.specs.Prelude.{◌≡◌, ℕ, zero, suc, ◌<◌, ◌^◌, Bool, true, false, List, Option, None, Some, unwrap_or, Result, Ok, Err, IsTrue, if◌then◌else◌, bit_and}
 use Rattle.std.proofs.Common.{refl, sym, ap, subst, ◌∙◌}
 use Rattle.posix_acl.specs.AccessList.{AccessList}
 use Rattle.fs_cred.specs.Credentials.{Credential}
@@ -12,6 +11,7 @@ use Rattle.fs_model.specs.declared.call.Call.TheVariants.{Open as OpenCall, Mkdi
 use Rattle.fs_model.specs.declared.event.Event.{Event}
 use Rattle.fs_model.specs.declared.reply.FileType.{FileType}
 use Rattle.fs_model.specs.declared.reply.Reply.{Reply}
+use Rattle.fs_model.specs.declared.reply.Status.{Status}
 use Rattle.fuse_protocol.specs.declared.operation.Operation.{Operation}
 use Rattle.fuse_protocol.specs.declared.operation.Operation.TheVariants.{Lookup, SymLink, MkNod, MkDir, Create}
 use Rattle.fuse_protocol.specs.declared.reply.Time.{Time}
@@ -23,46 +23,25 @@ use Rattle.fuse_plans.specs.declared.mode.Mode.{Mode}
 use Rattle.fuse_plans.specs.declared.request.Asked.{Asked}
 use Rattle.fuse_plans.specs.declared.reply.Attributes.{Attributes}
 use Rattle.fuse_plans.specs.declared.reply.ReplyBody.{ReplyBody}
+use Rattle.fuse_plans.specs.declared.reply.ReplyBody.TheVariants.{Absent}
 use Rattle.fuse_plans.specs.declared.reply.Response.{Response}
 use Rattle.fuse_plans.specs.declared.reply.Response.TheVariants.{Says}
 use Rattle.fuse_plans.specs.declared.stop.Stop.{Stop}
 use Rattle.fuse_plans.specs.declared.stop.Stop.TheVariants.{Refuses, Lacks}
 use Rattle.fuse_plans.specs.declared.stop.OtherErrno.TheVariants.{ENFILE, ERANGE, ENOSYS, ENODATA, EPROTO, EOPNOTSUPP, ESTALE}
-use Rattle.fuse_plans.specs.Plans.{Plan, Finish, Ask, followed_by, IsRunOf}
+use Rattle.fuse_plans.specs.Plans.{Finish}
 use Rattle.fuse_plans.specs.Flags.{mode_in, is_trunc, making}
 use Rattle.fuse_plans.specs.Works.{Work, give, stop, kept, keep, goes_on, ◌>>=◌, attempt, needed, ask, give_unless, refusal_in, unless_refused, obtain, or_closed}
 use Rattle.fuse_plans.specs.Callers.{settle_new, settled, settle, retire_next, retire, settle_first, begin_process, or_spawned, caller, unused_of, or_unused, caller_with_room, the_looker, between, done_between, look_inside, the_number, is_known_directory, directory_number, standing_directory}
-use Rattle.fuse_plans.specs.NamePlans.{plain_name, directory_for, or_absent, searched_directory, find_inside, find_name, made, close, done_closed, make_by, directory_and_caller, make_masked, is_of_file, make_file}
+use Rattle.fuse_plans.specs.NamePlans.{plain_name, directory_for, or_absent, searched_directory, keeps_absent, or_keep_absent, found_or_absent, find_inside, new_valid, find_name, made, close, done_closed, make_by, make_masked, is_of_file, make_file}
 use Rattle.fuse_plans.specs.FilePlans.{or_opened, open_or_make, show_open, look_open, tell_created, create_file}
 use Rattle.fuse_plans.specs.Laws.{told_entry, names_an_object, LeadsToShown, ToldNodesLeadToObjects}
 use Rattle.fuse_plans.specs.Requests.{asked_of}
 use Rattle.fuse_plans.specs.Nobody.{needs_nobody_in}
 use Rattle.fuse_plans.specs.Serving.{response_of, plan_of, asked_for, answered, answered_as, request_plan}
 use Rattle.fuse_plans.proofs.PlanLaws.{run-parts}
-
--- ---- each end of a plan
-
--- whatever is replied, this holds of the end
-abbrev pub AllEnd : {X : Type 0} → (X → Type 0) → Plan X → Type 0
-AllEnd P (Finish x) = P x
-AllEnd P (Ask e next) = (reply : Reply) → AllEnd P (next reply)
-
-all-weaker : {X : Type 0} (P Q : X → Type 0) (p : Plan X) → AllEnd P p → ((x : X) → P x → Q x) → AllEnd Q p
-all-weaker P Q (Finish x) ends weaker = weaker x ends
-all-weaker P Q (Ask e next) ends weaker = λ reply. all-weaker P Q (next reply) (ends reply) weaker
-
-pub all-followed_by : {X Y : Type 0} (P : X → Type 0) (Q : Y → Type 0) (p : Plan X) (f : X → Plan Y) → AllEnd P p → ((x : X) → P x → AllEnd Q (f x)) → AllEnd Q (followed_by p f)
-all-followed_by P Q (Finish x) f ends rest = rest x ends
-all-followed_by P Q (Ask e next) f ends rest = λ reply. all-followed_by P Q (next reply) f (ends reply) rest
-
--- also of that of a run
-all-run : {X : Type 0} (P : X → Type 0) (p : Plan X) (es : List Event) (replies : List Reply) (x : X) → AllEnd P p → IsRunOf p es replies x → P x
-all-run P (Finish y) [] [] x ends runs = subst P (sym runs) ends
-all-run P (Finish y) [] (reply ∷ replies) x ends runs = elim runs [ ]
-all-run P (Finish y) (e ∷ es) replies x ends runs = elim runs [ ]
-all-run P (Ask e next) [] replies x ends runs = elim runs [ ]
-all-run P (Ask e next) (f ∷ es) [] x ends runs = elim runs [ ]
-all-run P (Ask e next) (f ∷ es) (reply ∷ replies) x ends runs = all-run P (next reply) es replies x (ends reply) runs.1
+use Rattle.fuse_plans.proofs.AllEnds.{AllEnd, all-weaker, all-followed_by, all-run}
+use Rattle.fuse_plans.proofs.Staying.{Stays, stays-new_valid}
 
 -- ---- what stays
 
@@ -98,6 +77,11 @@ same-gone {s} {t} same n =
 -- whatever is replied, the work changes nothing of these
 record Leaves {X : Type 0} (w : Work X) : Type 0 where
   at : (s : Server) → AllEnd (λ r. Same s r.1) (w s)
+
+leaves-stays : {X : Type 0} {w : Work X} → Stays w → Leaves w
+leaves-stays {X} {w} stays = record {
+  at = λ s. all-weaker (λ r. r.1 ≡ s) (λ r. Same s r.1) (w s) (stays.at s) (λ r is. subst (λ t. Same s t) (sym is) (same-self s));
+}
 
 leaves-give : {X : Type 0} (x : X) → Leaves (give x)
 unfolding give
@@ -285,9 +269,6 @@ leaves-searched_directory node name = leaves->>= (leaves-plain_name name) (λ pl
 leaves-directory_for : (node : ℕ) (name : List ℕ) → Leaves (directory_for node name)
 leaves-directory_for node name = leaves->>= (leaves-plain_name name) (λ plain. leaves-standing_directory node)
 
-leaves-directory_and_caller : (r : Asked) (name : List ℕ) → Leaves (directory_and_caller r name)
-leaves-directory_and_caller r name = leaves->>= (leaves-directory_for r.node name) (λ d. leaves->>= (leaves-caller r.cred) (λ pid. leaves-give _))
-
 -- ---- what is told
 
 abbrev ToldOf : Server → Result ReplyBody Stop × Server → Type 0
@@ -337,36 +318,61 @@ told-leads s now p n kind false false handle lt = let l = found-leads s p n kind
 
 -- ---- each plan
 
-tells-find_inside : (pid d : ℕ) (name : List ℕ) → Tells (find_inside pid d name)
+-- nothing is told of an object
+tells-none : (body : ReplyBody) → told_entry body ≡ None → Tells (give body)
+unfolding give
+tells-none body none = record { at = λ s node shown is lt. absurd (let no : None ≡ Some (node, shown) = sym none ∙ is in cc) }
+
+tells-stop : (e : Stop) → Tells (stop e)
+unfolding stop
+tells-stop e = record { at = λ s. tt }
+
+tells-if : (b : Bool) (w v : Work ReplyBody) → Tells w → Tells v → Tells (if b then w else v)
+tells-if true w v first second = first
+tells-if false w v first second = second
+
+tells-unless_absent : (nobody : Bool) (e : Stop) → Tells (kept (λ s. s.settings) >>= (λ settings. or_keep_absent nobody settings e))
+tells-unless_absent nobody e =
+    tells-after (leaves-kept (λ s. s.settings)) (λ settings. tells-if (keeps_absent nobody settings e) _ _ (tells-none (Absent settings.keeping.absent) refl) (tells-stop e))
+
+tells-found_or_absent : (nobody : Bool) (d : ℕ) (name : List ℕ) (seen : Result Status Stop) → Tells (found_or_absent nobody d name seen)
 unfolding kept keep ◌>>=◌
-tells-find_inside pid d name = tells-after (leaves-look_inside pid d name) (λ status. record {
+tells-found_or_absent nobody d name (Ok status) = record {
   at = λ s node shown is lt. entry-is s _ _ node _ shown is lt (λ low. found-leads s _ status.inode status.kind low);
-})
+}
+tells-found_or_absent nobody d name (Err e) = tells-unless_absent nobody e
+
+tells-find_inside : (nobody : Bool) (pid d : ℕ) (name : List ℕ) → Tells (find_inside nobody pid d name)
+tells-find_inside nobody pid d name = tells-after (leaves-attempt (leaves-look_inside pid d name)) (tells-found_or_absent nobody d name)
 
 tells-find_name : (r : Asked) (name : List ℕ) → Tells (find_name r name)
 tells-find_name r name =
     tells-after (leaves-searched_directory r.node name) (λ d.
-    tells-after (leaves-if r.needs_nobody _ _ leaves-the_looker (leaves-caller r.cred)) (λ pid. tells-find_inside pid d name))
+    tells-after (leaves-if r.needs_nobody _ _ leaves-the_looker (leaves-caller r.cred)) (λ pid. tells-find_inside r.needs_nobody pid d name))
 
-tells-made : (now : Time) (d : ℕ) (name : List ℕ) → Tells (made now d name)
+tells-made : (now : Time) (name_valid d : ℕ) (name : List ℕ) → Tells (made now name_valid d name)
 unfolding made kept keep ◌>>=◌
-tells-made now d name =
+tells-made now name_valid d name =
     tells-after leaves-the_looker (λ pid.
     tells-after (leaves-look_inside pid d name) (λ status. record {
       at = λ s node shown is lt. entry-is s _ _ node _ shown is lt (λ low. born-leads s now _ status.inode status.kind low);
     }))
 
-tells-make_by : (now : Time) (pid d : ℕ) (call : Call) (name : List ℕ) → Tells (make_by now pid d call name)
-tells-make_by now pid d call name = tells-after (leaves-done_closed pid d call) (λ done. tells-made now d name)
+tells-make_by : (now : Time) (name_valid pid d : ℕ) (call : Call) (name : List ℕ) → Tells (make_by now name_valid pid d call name)
+tells-make_by now name_valid pid d call name = tells-after (leaves-done_closed pid d call) (λ done. tells-made now name_valid d name)
 
-tells-make_masked : (now : Time) (umask pid d : ℕ) (call : Call) (name : List ℕ) → Tells (make_masked now umask pid d call name)
-tells-make_masked now umask pid d call name = tells-after (leaves-obtain _) (λ reply. tells-make_by now pid d call name)
+tells-make_masked : (now : Time) (name_valid umask pid d : ℕ) (call : Call) (name : List ℕ) → Tells (make_masked now name_valid umask pid d call name)
+tells-make_masked now name_valid umask pid d call name = tells-after (leaves-obtain _) (λ reply. tells-make_by now name_valid pid d call name)
+
+leaves-new_valid : (d : ℕ) → Leaves (new_valid d)
+leaves-new_valid d = leaves-stays (stays-new_valid d)
 
 tells-make_file : (r : Asked) (name : List ℕ) (mode umask : ℕ) → Tells (make_file r name mode umask)
 tells-make_file r name mode umask =
     tells-after (leaves-if (is_of_file mode) _ _ (leaves-give tt) (leaves-stop _)) (λ file.
     tells-after (leaves-directory_for r.node name) (λ d.
-    tells-after (leaves-caller_with_room r.cred) (λ pid. tells-make_masked r.now umask pid d (OpenCall name making (bit_and mode 0o777)) name)))
+    tells-after (leaves-new_valid d) (λ name_valid.
+    tells-after (leaves-caller_with_room r.cred) (λ pid. tells-make_masked r.now name_valid umask pid d (OpenCall name making (bit_and mode 0o777)) name))))
 
 tells-create_file : (r : Asked) (name : List ℕ) (flags file_mode umask : ℕ) → Tells (create_file r name flags file_mode umask)
 unfolding tell_created kept keep ◌>>=◌
@@ -374,6 +380,7 @@ tells-create_file r name flags file_mode umask =
     tells-after (leaves-plain_name name) (λ plain.
     tells-after (leaves-needed _ (mode_in flags)) (λ mode.
     tells-after (leaves-standing_directory r.node) (λ d.
+    tells-after (leaves-new_valid d) (λ name_valid.
     tells-after (leaves-caller_with_room r.cred) (λ pid.
     tells-after (leaves-obtain _) (λ masked.
     tells-after (leaves-open_or_make pid d name mode flags file_mode) (λ opened.
@@ -381,7 +388,7 @@ tells-create_file r name flags file_mode umask =
     tells-after (leaves-look_open pid (descriptor_of handle)) (λ status. record {
       at = λ s node shown is lt.
           entry-is s _ _ node _ shown is lt (λ low. told-leads s r.now _ status.inode status.kind opened.1 (is_trunc flags) handle low);
-    }))))))))
+    })))))))))
 
 -- ---- each request
 
@@ -393,10 +400,14 @@ IfTells (Some w) = Tells w
 tells-plan : (r : Asked) (value : Option (Option AccessList)) (operation : Operation) → IsTrue (names_an_object operation) → IfTells (plan_of r value operation)
 tells-plan r value (Lookup name) is = tells-find_name r name
 tells-plan r value (SymLink name target) is =
-    tells-after (leaves-directory_and_caller r name) (λ who. tells-make_by r.now who.1 who.0 (Symlink target name) name)
+    tells-after (leaves-directory_for r.node name) (λ d.
+    tells-after (leaves-new_valid d) (λ name_valid.
+    tells-after (leaves-caller r.cred) (λ pid. tells-make_by r.now name_valid pid d (Symlink target name) name)))
 tells-plan r value (MkNod name mode umask) is = tells-make_file r name mode umask
 tells-plan r value (MkDir name mode umask) is =
-    tells-after (leaves-directory_and_caller r name) (λ who. tells-make_masked r.now umask who.1 who.0 (Mkdir name (bit_and mode 0o7777)) name)
+    tells-after (leaves-directory_for r.node name) (λ d.
+    tells-after (leaves-new_valid d) (λ name_valid.
+    tells-after (leaves-caller r.cred) (λ pid. tells-make_masked r.now name_valid umask pid d (Mkdir name (bit_and mode 0o7777)) name)))
 tells-plan r value (Create name flags mode umask) is = tells-create_file r name flags.0 mode umask
 tells-plan r value _ is = absurd (cc)
 

@@ -2,11 +2,11 @@
 --     get_xattr, list_xattrs, set_xattr, remove_xattr
 use Rattle.std.specs.Prelude.{ℕ, ◌+◌, ◌*◌, ◌==◌, nat_lt, Bool, true, false, not, ◌&&◌, List, [], ◌∷◌, ◌++◌, length, codes, Option, None, Some, is_some, if◌then◌else◌}
 use Rattle.std.specs.Str.{bytes_eq}
-use Rattle.posix_acl.specs.AccessList.{AccessList, entry_count, is_extended, minimal}
+use Rattle.posix_acl.specs.AccessList.{AccessList, entry_count, minimal}
 use Rattle.fs_cred.specs.declared.errno.Errno.TheVariants.{EACCES, EINVAL}
 use Rattle.fs_model.specs.declared.call.AclType.{AclType}
 use Rattle.fs_model.specs.declared.call.AclType.TheVariants.{Access, Default}
-use Rattle.fs_model.specs.declared.call.Call.TheVariants.{GetAcl, SetAcl}
+use Rattle.fs_model.specs.declared.call.Call.TheVariants.{SetAcl}
 use Rattle.fuse_plans.specs.declared.stop.Stop.TheVariants.{Lacks}
 use Rattle.fuse_plans.specs.Stops.{failed}
 use Rattle.fuse_plans.specs.declared.stop.OtherErrno.TheVariants.{EOPNOTSUPP, ENODATA, ERANGE}
@@ -15,8 +15,9 @@ use Rattle.fuse_protocol.specs.declared.reply.Time.{Time}
 use Rattle.fuse_plans.specs.declared.reply.ReplyBody.{ReplyBody}
 use Rattle.fuse_plans.specs.declared.reply.ReplyBody.TheVariants.{Nothing, Bytes, Acl, Size}
 use Rattle.fuse_state.specs.Servers.{Server, kind_of, changed}
-use Rattle.fuse_plans.specs.Works.{Work, give, stop, kept, keep, ◌>>=◌, ◌>>◌, needed, replied_acl}
-use Rattle.fuse_plans.specs.Callers.{caller, is_known_directory, has_place, on, by_looker, look, the_number}
+use Rattle.fuse_plans.specs.Works.{Work, give, stop, kept, keep, ◌>>=◌, ◌>>◌, needed}
+use Rattle.fuse_plans.specs.Callers.{caller, is_known_directory, has_place, on, look, the_number}
+use Rattle.fuse_plans.specs.Masks.{acl_of}
 use Rattle.fuse_plans.specs.AttributePlans.{is_known_link}
 use Rattle.fuse_plans.specs.FilePlans.{when}
 
@@ -44,18 +45,6 @@ an_object r = do
   if has then give n else stop (Lacks EOPNOTSUPP)
 
 -- ---- what is there
-
--- an access ACL with three entries says no more than the mode
-abbrev pub told_acl : AclType → Option AccessList → Option AccessList
-told_acl Access (Some a) = if is_extended a then Some a else None
-told_acl Default acl = acl
-told_acl Access None = None
-
-abbrev pub acl_of : ℕ → AclType → Work (Option AccessList)
-acl_of n which = do
-  reply ← by_looker n (λ path. GetAcl path which)
-  acl ← replied_acl reply
-  give (told_acl which acl)
 
 abbrev pub acl_size : AccessList → ℕ
 acl_size a = 4 + 8 * entry_count a

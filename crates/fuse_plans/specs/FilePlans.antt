@@ -10,6 +10,7 @@ use Rattle.fs_model.specs.declared.call.Whence.TheVariants.{Set}
 use Rattle.fs_model.specs.declared.event.Event.TheVariants.{Call as Calls, Fsync}
 use Rattle.fs_model.specs.declared.reply.Reply.{Reply}
 use Rattle.fs_model.specs.declared.reply.Status.{Status}
+use Rattle.fuse_protocol.specs.declared.flags.OpenedFlags.{OpenedFlags}
 use Rattle.fuse_protocol.specs.declared.reply.Time.{Time}
 use Rattle.fs_model.specs.Limits.{move_limit}
 use Rattle.fuse_plans.specs.declared.stop.Stop.{Stop}
@@ -23,12 +24,13 @@ use Rattle.fuse_plans.specs.declared.reply.ReplyBody.TheVariants.{Nothing, Creat
 use Rattle.fuse_state.specs.Servers.{Server, node_of, touched, owner_of, descriptor_of, object_of, with_handle, without_handle}
 use Rattle.fuse_state.specs.Changes.{told}
 use Rattle.fuse_state.specs.declared.place.Place.{Place}
+use Rattle.fuse_state.specs.declared.settings.Settings.{Settings}
 use Rattle.fuse_plans.specs.Works.{Work, give, stop, kept, keep, ◌>>=◌, ◌>>◌, attempt, needed, obtain, or_closed, replied_status, replied_handle, replied_data, replied_count}
 use Rattle.fuse_plans.specs.Callers.{caller_with_room, inside, on, the_number, standing_directory}
 use Rattle.fuse_plans.specs.declared.mode.Mode.{Mode}
 use Rattle.fuse_plans.specs.declared.mode.Mode.TheVariants.{Reads}
 use Rattle.fuse_plans.specs.Flags.{mode_in, is_exec, is_excl, is_trunc, opening, creating}
-use Rattle.fuse_plans.specs.NamePlans.{place, plain_name, attributes, set_umask}
+use Rattle.fuse_plans.specs.NamePlans.{place, plain_name, attributes, new_valid, set_umask}
 
 -- where it is so
 abbrev pub when : Bool → Work (Unit {0}) → Work (Unit {0})
@@ -92,12 +94,19 @@ open_object now pid n flags mode = do
   keep (with_handle handle n)
   give handle
 
+-- the kernel may keep what it has read of the file: KEEP_CACHE
+abbrev pub file_flags : Settings → OpenedFlags
+file_flags settings = record { 0 = if settings.keeping.pages then 2 else 0 }
+
+abbrev pub opened_body : ℕ → Server → ReplyBody
+opened_body handle s = Opened handle (file_flags s.settings)
+
 -- once it is granted
 abbrev pub open_granted : Time → ℕ → ℕ → ℕ → Mode → Work ReplyBody
 open_granted now pid n flags mode = do
   ask_first pid n flags mode
   handle ← open_object now pid n flags mode
-  give (Opened handle)
+  kept (opened_body handle)
 
 abbrev pub open_file : Asked → ℕ → Work ReplyBody
 open_file r flags = do
@@ -125,32 +134,34 @@ look_open pid fd = do
   seen ← attempt (show_open pid fd)
   or_closed pid fd seen
 
-abbrev pub created_body : ℕ → Status → Server → ReplyBody
-created_body handle status s = Created (node_of s status.inode) (attributes s status) handle
+abbrev pub created_body : ℕ → ℕ → Status → Server → ReplyBody
+created_body name_valid handle status s =
+    Created (node_of s status.inode) name_valid (attributes s status) handle (file_flags s.settings)
 
 -- it is new, or it was found, with its bytes or without them
-unfoldable pub tell_created : Time → Place → Bool → Bool → ℕ → Status → Work ReplyBody
-tell_created now p is_new is_cut handle status = do
+unfoldable pub tell_created : Time → ℕ → Place → Bool → Bool → ℕ → Status → Work ReplyBody
+tell_created now name_valid p is_new is_cut handle status = do
   keep (told now p status.inode status.kind is_new is_cut)
   keep (with_handle handle status.inode)
-  kept (created_body handle status)
+  kept (created_body name_valid handle status)
 
 -- a process makes the file, or opens it
-abbrev pub create_by : Time → ℕ → ℕ → List ℕ → Mode → ℕ → ℕ → Work ReplyBody
-create_by now pid d name mode flags file_mode = do
+abbrev pub create_by : Time → ℕ → ℕ → ℕ → List ℕ → Mode → ℕ → ℕ → Work ReplyBody
+create_by now name_valid pid d name mode flags file_mode = do
   opened ← open_or_make pid d name mode flags file_mode
   handle ← replied_handle pid opened.0
   status ← look_open pid (descriptor_of handle)
-  tell_created now (place d name) opened.1 (is_trunc flags) handle status
+  tell_created now name_valid (place d name) opened.1 (is_trunc flags) handle status
 
 abbrev pub create_file : Asked → List ℕ → ℕ → ℕ → ℕ → Work ReplyBody
 create_file r name flags file_mode umask = do
   plain_name name
   mode ← needed (failed EINVAL) (mode_in flags)
   d ← standing_directory r.node
+  name_valid ← new_valid d
   pid ← caller_with_room r.cred
   set_umask pid umask
-  create_by r.now pid d name mode flags file_mode
+  create_by r.now name_valid pid d name mode flags file_mode
 
 -- ---- by a handle
 

@@ -23,6 +23,7 @@ use Rattle.fs_model.specs.declared.reply.Status.{Status}
 use Rattle.fuse_plans.specs.Plans.{IsRunOf, IsAsked, KeepsTo, MayAskAll, after_all}
 use Rattle.fuse_plans.specs.Requests.{Request}
 use Rattle.fuse_protocol.specs.declared.flags.OpenFlags.{OpenFlags}
+use Rattle.fuse_protocol.specs.declared.flags.OpenedFlags.{OpenedFlags}
 use Rattle.fuse_protocol.specs.declared.operation.Offer.{Offer}
 use Rattle.fuse_protocol.specs.declared.operation.Operation.{Operation}
 use Rattle.fuse_protocol.specs.declared.operation.Operation.TheVariants.{Lookup, SetAttr, SymLink, MkNod, MkDir, Open, Read, Write, Release, FSync, Init, Create}
@@ -38,7 +39,8 @@ use Rattle.fuse_plans.specs.Conduct.{Known, Rights, conduct}
 use Rattle.fuse_plans.specs.declared.stop.Stop.{Stop}
 use Rattle.fuse_plans.specs.declared.stop.Stop.TheVariants.{Refuses}
 use Rattle.fuse_plans.specs.Stops.{is_for}
-use Rattle.fuse_plans.specs.Nobody.{may_hide, hides, needs_nobody_in}
+use Rattle.fuse_plans.specs.Masks.{may_hide, hides}
+use Rattle.fuse_plans.specs.Nobody.{needs_nobody_in}
 use Rattle.fuse_plans.specs.Serving.{answered_as, request_plan}
 
 -- the handle of an open file by which something is asked
@@ -125,8 +127,8 @@ pub record OpenedObject (r : Request) (s t : Server) (es : List Event) (replies 
 -- Whatever was replied: where an OPEN ends well, its handle is of the object of its node.
 abbrev pub OpenedIsTheObject : Type 0
 OpenedIsTheObject =
-    (r : Request) (s t : Server) (flags : OpenFlags) (es : List Event) (replies : List Reply) (handle : ℕ) → r.operation ≡ Some (Open flags)
-    → IsRunOf (request_plan r s) es replies (Says (Opened handle), t) → OpenedObject r s t es replies handle
+    (r : Request) (s t : Server) (flags : OpenFlags) (es : List Event) (replies : List Reply) (handle : ℕ) (told : OpenedFlags) → r.operation ≡ Some (Open flags)
+    → IsRunOf (request_plan r s) es replies (Says (Opened handle told), t) → OpenedObject r s t es replies handle
 
 -- ---- what is found or made
 
@@ -141,8 +143,8 @@ names_an_object _ = false
 
 -- the node and the attributes that are told of what has the name
 abbrev pub told_entry : ReplyBody → Option (ℕ × Attributes)
-told_entry (Found node shown) = Some (node, shown)
-told_entry (Created node shown handle) = Some (node, shown)
+told_entry (Found node name_valid shown) = Some (node, shown)
+told_entry (Created node name_valid shown handle flags) = Some (node, shown)
 told_entry _ = None
 
 -- The node leads to the inode that was shown. Where the object that had its number may have been no more, it led nowhere before.

@@ -10,6 +10,7 @@ pub mod FilePlans
 pub mod AttributePlans
 pub mod DirectoryPlans
 pub mod AclPlans
+pub mod Masks
 pub mod Nobody
 pub mod Serving
 pub mod Protocol

@@ -1,6 +1,6 @@
 -- Plans of requests for names: each is asked of a directory, and performed by a process of who asks, but for look-ups that need nobody.
 --     find_name, make_link, make_file, make_directory, remove, move_name, add_link
-use Rattle.std.specs.Prelude.{ℕ, ◌==◌, nat_lt, Bool, true, false, ◌||◌, List, codes, bytes_eq, Some, Result, Ok, Err, if◌then◌else◌, bit_and}
+use Rattle.std.specs.Prelude.{ℕ, ◌==◌, nat_lt, Bool, true, false, not, ◌&&◌, ◌||◌, List, codes, bytes_eq, Some, Result, Ok, Err, if◌then◌else◌, bit_and}
 use Rattle.fs_cred.specs.declared.errno.Errno.TheVariants.{EPERM, ENOENT, EEXIST, EINVAL}
 use Rattle.fs_model.specs.declared.call.Call.{Call}
 use Rattle.fs_model.specs.declared.call.Call.TheVariants.{Open as OpenCall, Close, Lstat, Mkdir, Rmdir, Link as LinkCall, Symlink, Rename as RenameCall, Umask, Unlink}
@@ -14,14 +14,16 @@ use Rattle.fuse_plans.specs.declared.stop.OtherErrno.TheVariants.{ESTALE}
 use Rattle.fuse_plans.specs.declared.request.Asked.{Asked}
 use Rattle.fuse_protocol.specs.declared.reply.Time.{Time}
 use Rattle.fuse_plans.specs.declared.reply.ReplyBody.{ReplyBody}
-use Rattle.fuse_plans.specs.declared.reply.ReplyBody.TheVariants.{Nothing, Found}
+use Rattle.fuse_plans.specs.declared.reply.ReplyBody.TheVariants.{Nothing, Found, Absent}
 use Rattle.fuse_plans.specs.declared.reply.Attributes.{Attributes}
 use Rattle.fuse_state.specs.Servers.{Server, node_of, kind_of, places_of, times_of, born}
 use Rattle.fuse_state.specs.Changes.{found, removed, moved, linked}
 use Rattle.fuse_state.specs.declared.place.Place.{Place}
+use Rattle.fuse_state.specs.declared.settings.Settings.{Settings}
 use Rattle.fuse_plans.specs.Works.{Work, give, stop, kept, keep, ◌>>=◌, ◌>>◌, attempt, obtain, replied_fd}
 use Rattle.fuse_plans.specs.Callers.{caller, caller_with_room, the_looker, inside, done_between, by_places, look_inside, look, the_number, standing_directory}
 use Rattle.fuse_plans.specs.Flags.{making}
+use Rattle.fuse_plans.specs.Masks.{list_hides}
 
 -- the directory and a name in it
 abbrev pub place : ℕ → List ℕ → Place
@@ -38,13 +40,14 @@ directory_for node name = do
   standing_directory node
 
 abbrev pub attributes : Server → Status → Attributes
-attributes s status = record { status = status; times = times_of s status.inode }
+attributes s status = record { status = status; times = times_of s status.inode; valid = s.settings.keeping.attributes }
 
-abbrev pub found_body : Status → Server → ReplyBody
-found_body status s = Found (node_of s status.inode) (attributes s status)
+-- the name may be kept for so many seconds
+abbrev pub found_body : ℕ → Status → Server → ReplyBody
+found_body name_valid status s = Found (node_of s status.inode) name_valid (attributes s status)
 
-abbrev pub tell_entry : Status → Work ReplyBody
-tell_entry status = kept (found_body status)
+abbrev pub tell_entry : ℕ → Status → Work ReplyBody
+tell_entry name_valid status = kept (found_body name_valid status)
 
 -- ---- look-ups
 
@@ -61,12 +64,33 @@ searched_directory node name = do
   known ← attempt (standing_directory node)
   or_absent known
 
--- what a process finds under the name
-abbrev pub find_inside : ℕ → ℕ → List ℕ → Work ReplyBody
-find_inside pid d name = do
-  status ← look_inside pid d name
+-- where the kernel has judged it may keep the name
+abbrev pub judged_valid : Bool → Settings → ℕ
+judged_valid nobody settings = if nobody then settings.keeping.names else 0
+
+abbrev pub looked_up_body : Bool → Status → Server → ReplyBody
+looked_up_body nobody status s = found_body (judged_valid nobody s.settings) status s
+
+-- nothing has the name, and the kernel has judged and keeps that
+abbrev pub keeps_absent : Bool → Settings → Stop → Bool
+keeps_absent nobody settings e = nobody && (is_for ENOENT e && not (settings.keeping.absent == 0))
+
+abbrev pub or_keep_absent : Bool → Settings → Stop → Work ReplyBody
+or_keep_absent nobody settings e = if keeps_absent nobody settings e then give (Absent settings.keeping.absent) else stop e
+
+abbrev pub found_or_absent : Bool → ℕ → List ℕ → Result Status Stop → Work ReplyBody
+found_or_absent nobody d name (Ok status) = do
   keep (found (place d name) status.inode status.kind)
-  tell_entry status
+  kept (looked_up_body nobody status)
+found_or_absent nobody d name (Err e) = do
+  settings ← kept (λ s. s.settings)
+  or_keep_absent nobody settings e
+
+-- what a process finds under the name
+abbrev pub find_inside : Bool → ℕ → ℕ → List ℕ → Work ReplyBody
+find_inside nobody pid d name = do
+  seen ← attempt (look_inside pid d name)
+  found_or_absent nobody d name seen
 
 -- where the kernel has judged, the server's own process looks
 abbrev pub searcher : Asked → Work ℕ
@@ -76,17 +100,38 @@ abbrev pub find_name : Asked → List ℕ → Work ReplyBody
 find_name r name = do
   d ← searched_directory r.node name
   pid ← searcher r
-  find_inside pid d name
+  find_inside r.needs_nobody pid d name
 
 -- ---- new objects
 
+-- the kernel judges by lists, and keeps names
+abbrev pub keeps_names : Settings → Bool
+keeps_names settings = settings.posix_acl && not (settings.keeping.names == 0)
+
+-- where it wasn't seen that the kernel follows the list it asks for each name
+abbrev pub unless_hidden : ℕ → Result Bool Stop → ℕ
+unless_hidden name_valid (Ok hides) = if hides then 0 else name_valid
+unless_hidden name_valid (Err e) = 0
+
+abbrev pub new_valid_if : ℕ → ℕ → Bool → Work ℕ
+new_valid_if d name_valid false = give 0
+new_valid_if d name_valid true = do
+  hides ← attempt (list_hides d)
+  give (unless_hidden name_valid hides)
+
+-- for how many seconds a new name in a directory may be kept
+unfoldable pub new_valid : ℕ → Work ℕ
+new_valid d = do
+  settings ← kept (λ s. s.settings)
+  new_valid_if d settings.keeping.names (keeps_names settings)
+
 -- what has just been made, as the server's own process sees it
-unfoldable pub made : Time → ℕ → List ℕ → Work ReplyBody
-made now d name = do
+unfoldable pub made : Time → ℕ → ℕ → List ℕ → Work ReplyBody
+made now name_valid d name = do
   pid ← the_looker
   status ← look_inside pid d name
   keep (born now (place d name) status.inode status.kind)
-  tell_entry status
+  tell_entry name_valid status
 
 abbrev pub close : ℕ → ℕ → Work (Unit {0})
 close pid fd = do
@@ -109,10 +154,10 @@ abbrev pub done_closed : ℕ → ℕ → Call → Work (Unit {0})
 done_closed pid d call = if opens call then open_and_close pid d call else done_between pid d d call
 
 -- a call makes what has the name then
-abbrev pub make_by : Time → ℕ → ℕ → Call → List ℕ → Work ReplyBody
-make_by now pid d call name = do
+abbrev pub make_by : Time → ℕ → ℕ → ℕ → Call → List ℕ → Work ReplyBody
+make_by now name_valid pid d call name = do
   done_closed pid d call
-  made now d name
+  made now name_valid d name
 
 -- the directory of a name that is asked for, and a process of who asks
 abbrev pub directory_and_caller : Asked → List ℕ → Work (ℕ × ℕ)
@@ -123,23 +168,27 @@ directory_and_caller r name = do
 
 abbrev pub make_link : Asked → List ℕ → List ℕ → Work ReplyBody
 make_link r name target = do
-  who ← directory_and_caller r name
-  make_by r.now who.1 who.0 (Symlink target name) name
+  d ← directory_for r.node name
+  name_valid ← new_valid d
+  pid ← caller r.cred
+  make_by r.now name_valid pid d (Symlink target name) name
 
 -- new objects of the process are made with this mask from now on
 abbrev pub set_umask : ℕ → ℕ → Work Reply
 set_umask pid umask = obtain (Calls pid (Umask (bit_and umask 0o777)))
 
 -- the same, once new objects of the process are made with a mask
-abbrev pub make_masked : Time → ℕ → ℕ → ℕ → Call → List ℕ → Work ReplyBody
-make_masked now umask pid d call name = do
+abbrev pub make_masked : Time → ℕ → ℕ → ℕ → ℕ → Call → List ℕ → Work ReplyBody
+make_masked now name_valid umask pid d call name = do
   set_umask pid umask
-  make_by now pid d call name
+  make_by now name_valid pid d call name
 
 abbrev pub make_directory : Asked → List ℕ → ℕ → ℕ → Work ReplyBody
 make_directory r name mode umask = do
-  who ← directory_and_caller r name
-  make_masked r.now umask who.1 who.0 (Mkdir name (bit_and mode 0o7777)) name
+  d ← directory_for r.node name
+  name_valid ← new_valid d
+  pid ← caller r.cred
+  make_masked r.now name_valid umask pid d (Mkdir name (bit_and mode 0o7777)) name
 
 -- the type in a mode is that of a file, or none
 abbrev pub is_of_file : ℕ → Bool
@@ -152,8 +201,9 @@ abbrev pub make_file : Asked → List ℕ → ℕ → ℕ → Work ReplyBody
 make_file r name mode umask = do
   only_file mode
   d ← directory_for r.node name
+  name_valid ← new_valid d
   pid ← caller_with_room r.cred
-  make_masked r.now umask pid d (OpenCall name making (bit_and mode 0o777)) name
+  make_masked r.now name_valid umask pid d (OpenCall name making (bit_and mode 0o777)) name
 
 -- ---- names that go
 
@@ -218,13 +268,13 @@ link_by_place pid n d name = do
   by_places pid (Some d) (λ old. LinkCall old name) (failed ENOENT) places
   give tt
 
--- once the object has the name too
+-- Once the object has the name too. The kernel may not keep that: of the directory nothing was seen.
 abbrev pub tell_linked : Time → Place → ℕ → Work ReplyBody
 tell_linked now p n = do
   kind ← kept (λ s. kind_of s n)
   keep (linked now p n kind)
   status ← look n
-  tell_entry status
+  tell_entry 0 status
 
 -- who asks gives an object one more name
 abbrev pub link_as : Asked → ℕ → ℕ → List ℕ → Work ReplyBody

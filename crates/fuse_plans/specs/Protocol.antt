@@ -21,7 +21,7 @@ use Rattle.fuse_protocol.specs.Replies.{reply_bytes}
 use Rattle.fuse_protocol.specs.AclValues.{IsAclValue, acl_value_bytes}
 use Rattle.fuse_plans.specs.declared.reply.Attributes.{Attributes}
 use Rattle.fuse_plans.specs.declared.reply.ReplyBody.{ReplyBody}
-use Rattle.fuse_plans.specs.declared.reply.ReplyBody.TheVariants.{Nothing, Found, Shown, Opened, Created, Bytes, Wrote, Acl, Size, Space, Agreed}
+use Rattle.fuse_plans.specs.declared.reply.ReplyBody.TheVariants.{Nothing, Found, Absent, Shown, Opened, Created, Bytes, Wrote, Acl, Size, Space, Agreed}
 use Rattle.fuse_plans.specs.declared.reply.Response.{Response}
 use Rattle.fuse_plans.specs.declared.reply.Response.TheVariants.{Silence, Says, Fails}
 use Rattle.fuse_plans.specs.Requests.{Outside, credential_for, Request}
@@ -95,10 +95,11 @@ attr_of a = record {
 
 abbrev pub reply_of_body : ReplyBody → WireReply
 reply_of_body Nothing = replies.Done
-reply_of_body (Found node a) = replies.Entry node (attr_of a)
-reply_of_body (Shown a) = replies.Attr (attr_of a)
-reply_of_body (Opened handle) = replies.Open handle
-reply_of_body (Created node a handle) = replies.Created node (attr_of a) handle
+reply_of_body (Found node name_valid a) = replies.Entry node name_valid a.valid (attr_of a)
+reply_of_body (Absent valid) = replies.Absent valid
+reply_of_body (Shown a) = replies.Attr a.valid (attr_of a)
+reply_of_body (Opened handle flags) = replies.Open handle flags
+reply_of_body (Created node name_valid a handle flags) = replies.Created node name_valid a.valid (attr_of a) handle flags
 reply_of_body (Bytes bytes) = replies.Bytes bytes
 reply_of_body (Wrote count) = replies.Count count
 reply_of_body (Acl acl) = replies.Bytes (acl_value_bytes (entries_of acl))

@@ -34,10 +34,14 @@ use Rattle.fuse_plans.specs.AclPlans.{get_xattr, list_xattrs, set_xattr, remove_
 
 -- ---- the whole file system
 
+-- where the kernel may keep pages: ASYNC_READ, PARALLEL_DIROPS, CACHE_SYMLINKS and HANDLE_KILLPRIV_V2
+abbrev pub keeping_flags : Settings → ℕ
+keeping_flags settings = if settings.keeping.pages then 0x10840001 else 0
+
 -- ATOMIC_O_TRUNC, DONT_MASK and HANDLE_KILLPRIV; with larger writes BIG_WRITES and MAX_PAGES; POSIX_ACL
 abbrev pub wanted_flags : Settings → ℕ
 wanted_flags settings =
-    0x80048 + (if nat_lt 4096 settings.max_write then 0x400020 else 0) + (if settings.posix_acl then 0x100000 else 0)
+    0x80048 + (if nat_lt 4096 settings.max_write then 0x400020 else 0) + (if settings.posix_acl then 0x100000 else 0) + keeping_flags settings
 
 -- as many as the field holds
 abbrev pub pages : Settings → ℕ

@@ -13,7 +13,6 @@ use Rattle.fs_model.specs.declared.reply.Reply.{Reply}
 use Rattle.fuse_state.specs.declared.shares.Shares.{Shares}
 use Rattle.fuse_state.specs.Shares.{process_shares, directory_shares, count_of, HasEach}
 use Rattle.fuse_state.specs.Servers.{Server, process_holders, directory_holders, opened, WithinShares}
-use Rattle.fuse_plans.specs.declared.reply.ReplyBody.TheVariants.{Opened}
 use Rattle.fuse_plans.specs.declared.reply.Response.{Response}
 use Rattle.fuse_plans.specs.declared.stop.Stop.TheVariants.{Lacks}
 use Rattle.fuse_plans.specs.declared.stop.OtherErrno.TheVariants.{ENFILE}
@@ -22,7 +21,7 @@ use Rattle.fuse_plans.specs.Requests.{Request}
 use Rattle.fuse_plans.specs.Works.{is_refused_for}
 use Rattle.fuse_plans.specs.Callers.{caller, caller_with_room}
 use Rattle.fuse_plans.specs.Conduct.{Known, known_after}
-use Rattle.fuse_plans.specs.DirectoryPlans.{take_directory}
+use Rattle.fuse_plans.specs.DirectoryPlans.{opened_directory_body, take_directory}
 use Rattle.fuse_plans.specs.Laws.{known_in}
 use Rattle.fuse_plans.specs.Serving.{requests_plan}
 
@@ -57,4 +56,4 @@ pub record ProcessesAreFound : Type 0 where
 abbrev pub DirectoriesAreFound : Type 0
 DirectoriesAreFound =
     (s : Server) (uid n : ℕ) → WithinShares s → HasShare directory_shares (directory_holders s) uid
-    → take_directory uid n s ≡ Finish (Ok (Opened s.next_directory), opened uid n s)
+    → take_directory uid n s ≡ Finish (Ok (opened_directory_body s.next_directory s), opened uid n s)

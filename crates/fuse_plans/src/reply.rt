@@ -2,28 +2,41 @@
 
 use crate::stop::Stop;
 use fs_model::{Bytes, Status};
-use fuse_protocol::Terms;
+use fuse_protocol::{OpenedFlags, Terms};
 use fuse_state::Times;
 use posix_acl::Acl;
 
-/// What stat(2) shows of an object, and its times.
+/// What stat(2) shows of an object, and its times; and for how many seconds the kernel may keep that.
 #[derive(Clone, Copy)]
 pub struct Attributes {
     pub status: Status,
     pub times: Times,
+    pub valid: u64,
 }
 
 /// What a request is answered that doesn't fail.
 #[derive(Drop)]
 pub enum ReplyBody {
     Nothing,
-    /// A name was looked up or made: its node.
-    Found(u64, Attributes),
+    /// A name was looked up or made: its node, and for how many seconds the kernel may keep the name.
+    Found {
+        node: u64,
+        name_valid: u64,
+        shown: Attributes,
+    },
+    /// Nothing has the name, and the kernel may keep that for so many seconds.
+    Absent(u64),
     Shown(Attributes),
-    /// A handle.
-    Opened(u64),
-    /// A file was made or found, and opened: its node and its handle.
-    Created(u64, Attributes, u64),
+    /// A handle, and what the kernel may keep of what is open.
+    Opened(u64, OpenedFlags),
+    /// A file was made or found, and opened: the same of its name and of its handle.
+    Created {
+        node: u64,
+        name_valid: u64,
+        shown: Attributes,
+        handle: u64,
+        flags: OpenedFlags,
+    },
     /// What was read, the target of a link, names of attributes, or the entries of a directory.
     Bytes(Bytes),
     /// So many bytes were written.

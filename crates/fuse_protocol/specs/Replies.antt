@@ -3,6 +3,7 @@
 --     body_bytes        the body
 --     reply_bytes        header and body
 use Rattle.std.specs.Prelude.{ℕ, ◌+◌, ◌-◌, ◌<◌, ◌^◌, List, [], ◌∷◌, ◌++◌, length}
+use Rattle.fuse_protocol.specs.declared.flags.OpenedFlags.{OpenedFlags}
 use Rattle.fuse_protocol.specs.declared.reply.Attr.{Attr}
 use Rattle.fuse_protocol.specs.declared.reply.Terms.{Terms}
 use Rattle.fuse_protocol.specs.declared.reply.Room.{Room}
@@ -17,13 +18,17 @@ attr_bytes a =
     le64s (a.inode ∷ a.size ∷ a.blocks ∷ a.atime.seconds ∷ a.mtime.seconds ∷ a.ctime.seconds ∷ [])
     ++ le32s (a.atime.nanoseconds ∷ a.mtime.nanoseconds ∷ a.ctime.nanoseconds ∷ a.mode ∷ a.links ∷ a.uid ∷ a.gid ∷ 0 ∷ a.block_size ∷ 0 ∷ [])
 
--- 128 bytes: the node, its generation, how long name and attributes are valid, and the attributes
-abbrev pub entry_reply_bytes : ℕ → Attr → List ℕ
-entry_reply_bytes node a = le64s (node ∷ 0 ∷ 0 ∷ 0 ∷ 0 ∷ []) ++ attr_bytes a
+-- 128 bytes: the node, its generation, for how many seconds name and attributes are valid, and the attributes
+abbrev pub entry_reply_bytes : ℕ → ℕ → ℕ → Attr → List ℕ
+entry_reply_bytes node name_valid valid a = le64s (node ∷ 0 ∷ name_valid ∷ valid ∷ 0 ∷ []) ++ attr_bytes a
 
--- 16 bytes: no flag is set
-abbrev pub open_bytes : ℕ → List ℕ
-open_bytes handle = le64s (handle ∷ 0 ∷ [])
+-- 128 bytes: no node has the name, and that is valid for so many seconds
+abbrev pub absent_bytes : ℕ → List ℕ
+absent_bytes valid = le64s (0 ∷ 0 ∷ valid ∷ 0 ∷ 0 ∷ 0 ∷ 0 ∷ 0 ∷ 0 ∷ 0 ∷ 0 ∷ 0 ∷ 0 ∷ 0 ∷ 0 ∷ 0 ∷ [])
+
+-- 16 bytes: the handle, and flags
+abbrev pub open_bytes : ℕ → OpenedFlags → List ℕ
+open_bytes handle flags = le64s (handle ∷ flags.0 ∷ [])
 
 -- 64 bytes: nothing is mapped, and of the second flags none is taken
 abbrev pub terms_bytes : Terms → List ℕ
@@ -42,10 +47,11 @@ room_bytes r =
 abbrev pub body_bytes : Reply → List ℕ
 body_bytes (replies.Error number) = []
 body_bytes replies.Done = []
-body_bytes (replies.Attr a) = le64s (0 ∷ 0 ∷ []) ++ attr_bytes a
-body_bytes (replies.Entry node a) = entry_reply_bytes node a
-body_bytes (replies.Created node a handle) = entry_reply_bytes node a ++ open_bytes handle
-body_bytes (replies.Open handle) = open_bytes handle
+body_bytes (replies.Attr valid a) = le64s (valid ∷ 0 ∷ []) ++ attr_bytes a
+body_bytes (replies.Entry node name_valid valid a) = entry_reply_bytes node name_valid valid a
+body_bytes (replies.Absent valid) = absent_bytes valid
+body_bytes (replies.Created node name_valid valid a handle flags) = entry_reply_bytes node name_valid valid a ++ open_bytes handle flags
+body_bytes (replies.Open handle flags) = open_bytes handle flags
 body_bytes (replies.Init terms) = terms_bytes terms
 body_bytes (replies.Count count) = le32s (count ∷ 0 ∷ [])
 body_bytes (replies.StatFs room) = room_bytes room

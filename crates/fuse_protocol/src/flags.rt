@@ -76,6 +76,9 @@ impl Flags for OpenFlags {
 pub struct InitFlags(pub(crate) u32);
 
 impl InitFlags {
+    /// The kernel may ask for what it reads ahead before it has what it asked for earlier.
+    pub const ASYNC_READ: InitFlags = InitFlags(1 << 0);
+
     /// Opening a file takes its bytes away, where that is asked.
     pub const ATOMIC_O_TRUNC: InitFlags = InitFlags(1 << 3);
 
@@ -84,6 +87,9 @@ impl InitFlags {
 
     /// The umask isn't applied by the kernel.
     pub const DONT_MASK: InitFlags = InitFlags(1 << 6);
+
+    /// The kernel may ask for names in one directory side by side.
+    pub const PARALLEL_DIROPS: InitFlags = InitFlags(1 << 18);
 
     /// Set-id bits are taken away by the file system.
     pub const HANDLE_KILLPRIV: InitFlags = InitFlags(1 << 19);
@@ -94,7 +100,17 @@ impl InitFlags {
     /// The answer says how many pages a request may have.
     pub const MAX_PAGES: InitFlags = InitFlags(1 << 22);
 
+    /// The kernel may keep the targets of links.
+    pub const CACHE_SYMLINKS: InitFlags = InitFlags(1 << 23);
+
+    /// Set-id bits are taken away by the file system with each change, so the kernel asks for no capabilities before a write.
+    pub const HANDLE_KILLPRIV_V2: InitFlags = InitFlags(1 << 28);
+
     const FLAGS: &'static [Flag<InitFlags>] = &[
+        Flag {
+            name: "async-read",
+            value: InitFlags::ASYNC_READ,
+        },
         Flag {
             name: "atomic-o-trunc",
             value: InitFlags::ATOMIC_O_TRUNC,
@@ -108,6 +124,10 @@ impl InitFlags {
             value: InitFlags::DONT_MASK,
         },
         Flag {
+            name: "parallel-dirops",
+            value: InitFlags::PARALLEL_DIROPS,
+        },
+        Flag {
             name: "handle-killpriv",
             value: InitFlags::HANDLE_KILLPRIV,
         },
@@ -118,6 +138,14 @@ impl InitFlags {
         Flag {
             name: "max-pages",
             value: InitFlags::MAX_PAGES,
+        },
+        Flag {
+            name: "cache-symlinks",
+            value: InitFlags::CACHE_SYMLINKS,
+        },
+        Flag {
+            name: "handle-killpriv-v2",
+            value: InitFlags::HANDLE_KILLPRIV_V2,
         },
     ];
 }
@@ -143,5 +171,52 @@ impl Flags for InitFlags {
 
     fn from_bits_retain(bits: u32) -> InitFlags {
         InitFlags(bits)
+    }
+}
+
+/// What is told of a file or a directory that was opened: what the kernel may keep of it beyond this opening. Others may be set too.
+#[derive(Clone, Copy)]
+pub struct OpenedFlags(pub(crate) u32);
+
+impl OpenedFlags {
+    /// Of what was read before, nothing is forgotten: `FOPEN_KEEP_CACHE`.
+    pub const KEEP_CACHE: OpenedFlags = OpenedFlags(1 << 1);
+
+    /// The listing of a directory may be kept: `FOPEN_CACHE_DIR`.
+    pub const CACHE_DIR: OpenedFlags = OpenedFlags(1 << 3);
+
+    const FLAGS: &'static [Flag<OpenedFlags>] = &[
+        Flag {
+            name: "keep-cache",
+            value: OpenedFlags::KEEP_CACHE,
+        },
+        Flag {
+            name: "cache-dir",
+            value: OpenedFlags::CACHE_DIR,
+        },
+    ];
+}
+
+impl Flags for OpenedFlags {
+    ghost use Rattle.fuse_protocol.specs.Flags.{opened_flags};
+
+    type Bits = u32;
+
+    ghost exact = { ⊤ };
+
+    ghost table = { opened_flags };
+
+    ghost set_of = { λ flags. flags.0 };
+
+    fn flags<'a>() -> &'a [Flag<OpenedFlags>] {
+        OpenedFlags::FLAGS
+    }
+
+    fn bits(&self) -> u32 {
+        self.0
+    }
+
+    fn from_bits_retain(bits: u32) -> OpenedFlags {
+        OpenedFlags(bits)
     }
 }

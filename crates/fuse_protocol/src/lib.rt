@@ -14,7 +14,7 @@ mod request;
 
 pub use acl_value::{AclValueFault, push_acl_value, read_acl_value, write_acl_value};
 pub use entry::{DirectoryEntry, EntryKind, push_entry};
-pub use flags::{InitFlags, OpenFlags};
+pub use flags::{InitFlags, OpenFlags, OpenedFlags};
 pub use laws::spellings_are_read;
 pub use operation::{AttrChanges, Extent, NewTime, Offer, Operation};
 pub use piece::{Name, Piece};

@@ -1,10 +1,10 @@
 //! The reply to a request.
 
 ghost use Rattle.std.specs.Prelude.{◌≡◌, ◌<◌, ◌+◌, ◌^◌, ◌++◌, length, IfOk, OnOk};
-ghost use Rattle.fuse_protocol.specs.Replies.{IsReply, attr_bytes, entry_reply_bytes, open_bytes, terms_bytes, room_bytes, body_bytes, error_field, reply_bytes};
+ghost use Rattle.fuse_protocol.specs.Replies.{IsReply, attr_bytes, entry_reply_bytes, absent_bytes, open_bytes, terms_bytes, room_bytes, body_bytes, error_field, reply_bytes};
 
 use crate::bytes::{push_u16s, push_u32s, push_u64s};
-use crate::flags::InitFlags;
+use crate::flags::{InitFlags, OpenedFlags};
 use crate::piece::Piece;
 use std::alloc::{AllocError, Global};
 
@@ -56,7 +56,7 @@ pub struct Room {
     pub max_name: u32,
 }
 
-/// What is told. Nothing that is told is kept by the kernel beyond the request: each time of validity is 0.
+/// What is told. Names and attributes are valid for so many seconds: as long the kernel asks for them no more.
 #[derive(Drop)]
 pub enum Reply<'a> {
     /// The request failed: the number of the error, from 1 to 511.
@@ -64,13 +64,27 @@ pub enum Reply<'a> {
     /// It is done, and there is nothing to tell.
     Done,
     /// Attributes.
-    Attr(Attr),
+    Attr { valid: u64, attr: Attr },
     /// A name was looked up or made: its node, and the node's attributes.
-    Entry { node: u64, attr: Attr },
+    Entry {
+        node: u64,
+        name_valid: u64,
+        valid: u64,
+        attr: Attr,
+    },
+    /// Nothing has the name.
+    Absent { valid: u64 },
     /// A file was made and opened.
-    Created { node: u64, attr: Attr, handle: u64 },
-    /// A file or a directory was opened: its handle.
-    Open(u64),
+    Created {
+        node: u64,
+        name_valid: u64,
+        valid: u64,
+        attr: Attr,
+        handle: u64,
+        flags: OpenedFlags,
+    },
+    /// A file or a directory was opened.
+    Open { handle: u64, flags: OpenedFlags },
     /// The first reply.
     Init(Terms),
     /// How many bytes were written, or an attribute has.
@@ -129,18 +143,31 @@ fn push_attr(to: &mut Vec<u8>, attr: Attr) -> Result<(), AllocError>
     Ok(())
 }
 
-fn push_node(to: &mut Vec<u8>, node: u64, attr: Attr) -> Result<(), AllocError>
-    ensures { OnOk result (to.new.items ≡ to.old.items ++ entry_reply_bytes node attr) }
+fn push_node(
+    to: &mut Vec<u8>,
+    node: u64,
+    name_valid: u64,
+    valid: u64,
+    attr: Attr,
+) -> Result<(), AllocError>
+    ensures { OnOk result (to.new.items ≡ to.old.items ++ entry_reply_bytes node name_valid valid attr) }
 {
-    push_u64s(to, &[node, 0, 0, 0, 0])?;
+    push_u64s(to, &[node, 0, name_valid, valid, 0])?;
     push_attr(to, attr)?;
     Ok(())
 }
 
-fn push_open(to: &mut Vec<u8>, handle: u64) -> Result<(), AllocError>
-    ensures { OnOk result (to.new.items ≡ to.old.items ++ open_bytes handle) }
+fn push_absent(to: &mut Vec<u8>, valid: u64) -> Result<(), AllocError>
+    ensures { OnOk result (to.new.items ≡ to.old.items ++ absent_bytes valid) }
 {
-    push_u64s(to, &[handle, 0])?;
+    push_u64s(to, &[0, 0, valid, 0, 0, 0, 0, 0, 0, 0, 0, 0, 0, 0, 0, 0])?;
+    Ok(())
+}
+
+fn push_open(to: &mut Vec<u8>, handle: u64, flags: OpenedFlags) -> Result<(), AllocError>
+    ensures { OnOk result (to.new.items ≡ to.old.items ++ open_bytes handle flags) }
+{
+    push_u64s(to, &[handle, u64::from(flags.0)])?;
     Ok(())
 }
 
@@ -178,16 +205,29 @@ fn push_body(to: &mut Vec<u8>, reply: &Reply<'_>) -> Result<(), AllocError>
 {
     match reply {
         Reply::Error(_) | Reply::Done => {}
-        Reply::Attr(attr) => {
-            push_u64s(to, &[0, 0])?;
+        Reply::Attr { valid, attr } => {
+            push_u64s(to, &[*valid, 0])?;
             push_attr(to, *attr)?;
         }
-        Reply::Entry { node, attr } => push_node(to, *node, *attr)?,
-        Reply::Created { node, attr, handle } => {
-            push_node(to, *node, *attr)?;
-            push_open(to, *handle)?;
+        Reply::Entry {
+            node,
+            name_valid,
+            valid,
+            attr,
+        } => push_node(to, *node, *name_valid, *valid, *attr)?,
+        Reply::Absent { valid } => push_absent(to, *valid)?,
+        Reply::Created {
+            node,
+            name_valid,
+            valid,
+            attr,
+            handle,
+            flags,
+        } => {
+            push_node(to, *node, *name_valid, *valid, *attr)?;
+            push_open(to, *handle, *flags)?;
         }
-        Reply::Open(handle) => push_open(to, *handle)?,
+        Reply::Open { handle, flags } => push_open(to, *handle, *flags)?,
         Reply::Init(terms) => push_terms(to, *terms)?,
         Reply::Count(count) => push_u32s(to, &[*count, 0])?,
         Reply::StatFs(room) => push_room(to, *room)?,
@@ -205,10 +245,10 @@ fn body_size(reply: &Reply<'_>) -> usize
 {
     match reply {
         Reply::Error(_) | Reply::Done => 0,
-        Reply::Attr(_) => 104,
-        Reply::Entry { .. } => 128,
+        Reply::Attr { .. } => 104,
+        Reply::Entry { .. } | Reply::Absent { .. } => 128,
         Reply::Created { .. } => 144,
-        Reply::Open(_) => 16,
+        Reply::Open { .. } => 16,
         Reply::Init(_) => 64,
         Reply::Count(_) => 8,
         Reply::StatFs(_) => 80,

@@ -58,7 +58,7 @@ fn type_and_mode(kind: FileType, mode: u16) -> u32
 fn attr_of(attributes: &Attributes) -> Attr
     ensures { result ≡ attr_of attributes.now }
 {
-    let Attributes { status, times } = *attributes;
+    let Attributes { status, times, .. } = *attributes;
     Attr {
         inode: u64::from(status.inode),
         size: status.size,
@@ -144,16 +144,38 @@ fn write_body(room: &mut ReplyRoom, unique: u64, body: &ReplyBody) -> Result<(),
             return write_count(&mut room.reply, unique, *count);
         }
         ReplyBody::Nothing => Reply::Done,
-        ReplyBody::Found(node, attributes) => Reply::Entry {
+        ReplyBody::Found {
+            node,
+            name_valid,
+            shown,
+        } => Reply::Entry {
             node: *node,
-            attr: attr_of(attributes),
+            name_valid: *name_valid,
+            valid: shown.valid,
+            attr: attr_of(shown),
         },
-        ReplyBody::Shown(attributes) => Reply::Attr(attr_of(attributes)),
-        ReplyBody::Opened(handle) => Reply::Open(*handle),
-        ReplyBody::Created(node, attributes, handle) => Reply::Created {
-            node: *node,
-            attr: attr_of(attributes),
+        ReplyBody::Absent(valid) => Reply::Absent { valid: *valid },
+        ReplyBody::Shown(shown) => Reply::Attr {
+            valid: shown.valid,
+            attr: attr_of(shown),
+        },
+        ReplyBody::Opened(handle, flags) => Reply::Open {
             handle: *handle,
+            flags: *flags,
+        },
+        ReplyBody::Created {
+            node,
+            name_valid,
+            shown,
+            handle,
+            flags,
+        } => Reply::Created {
+            node: *node,
+            name_valid: *name_valid,
+            valid: shown.valid,
+            attr: attr_of(shown),
+            handle: *handle,
+            flags: *flags,
         },
         ReplyBody::Space {
             sectors,

@@ -6,7 +6,8 @@ use Rattle.fs_model.specs.declared.reply.Reply.{Reply}
 use Rattle.fuse_sessions.specs.declared.session.Session.{Session}
 use Rattle.fuse_plans.specs.declared.stop.Stop.{Stop}
 use Rattle.fuse_plans.specs.Plans.{Finish, CarriesOut, finishes}
-use Rattle.fuse_plans.specs.Nobody.{is_masked, unless_masked, is_judged}
+use Rattle.fuse_plans.specs.Masks.{is_masked}
+use Rattle.fuse_plans.specs.Nobody.{unless_masked, is_judged}
 use Rattle.fuse_sessions.specs.Performing.{Did}
 use Rattle.fuse_steps.proofs.Steps.{carries-followed_by}
 

@@ -1,7 +1,7 @@
 //! The first request: what is agreed on with the kernel.
 ghost use Rattle.std.specs.Prelude.{◌≡◌, ◌≤◌, [], None};
 ghost use Rattle.fs_cred.specs.Credentials.{usual_credential};
-ghost use Rattle.fuse_plans.specs.Serving.{wanted_flags, pages, terms, agreed, offers_acls, or_looker, begin};
+ghost use Rattle.fuse_plans.specs.Serving.{keeping_flags, wanted_flags, pages, terms, agreed, offers_acls, or_looker, begin};
 ghost use Rattle.fuse_sessions.specs.Performing.{Did};
 
 use crate::caller::ask_spawn;
@@ -26,6 +26,20 @@ const CONGESTION_THRESHOLD: u16 = 12;
 // Of so many bytes each write may be that has a page.
 const PAGE: u32 = 4096;
 
+// What more is wanted where the kernel may keep pages.
+fn keeping_flags(settings: Settings) -> u32
+    ensures { result ≡ keeping_flags settings }
+{
+    if settings.keeping.pages {
+        InitFlags::ASYNC_READ.bits()
+            + InitFlags::PARALLEL_DIROPS.bits()
+            + InitFlags::CACHE_SYMLINKS.bits()
+            + InitFlags::HANDLE_KILLPRIV_V2.bits()
+    } else {
+        0
+    }
+}
+
 // What is wanted of what the kernel offers.
 fn wanted_flags(settings: Settings) -> u32
     ensures { result ≡ wanted_flags settings }
@@ -43,7 +57,7 @@ fn wanted_flags(settings: Settings) -> u32
     } else {
         0
     };
-    always + large + acls
+    always + large + acls + keeping_flags(settings)
 }
 
 // How many pages a large write has.

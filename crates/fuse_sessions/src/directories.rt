@@ -1,22 +1,43 @@
 //! Requests for directories. An open one holds no descriptor of the machine.
 ghost use Rattle.std.specs.Prelude.{◌≡◌, ◌≤◌, [], vec_capacity, true};
 ghost use Rattle.fuse_plans.specs.Callers.{has_place};
-ghost use Rattle.fuse_plans.specs.DirectoryPlans.{open_directory, take_directory, tell_names, list_open, list_and_close, list_all, tell_now, read_directory, close_directory};
+ghost use Rattle.fuse_plans.specs.DirectoryPlans.{open_directory, directory_flags, opened_directory_body, take_directory, tell_names, list_open, list_and_close, list_all, tell_now, read_directory, close_directory};
 ghost use Rattle.fuse_sessions.specs.Performing.{Did};
 ghost use Rattle.fuse_steps.specs.Performing.{DidByMachine};
 
 use crate::object::has_place;
 use crate::session::Session;
+use bitflags::Flags as _;
 use fs_cred::Cred;
 use fs_model::{Call, Listing};
 use fuse_plans::{Asked, ReplyBody, Stop};
-use fuse_protocol::Extent;
+use fuse_protocol::{Extent, OpenedFlags};
+use fuse_state::{Server, Settings};
 use fuse_steps::Machine;
 use fuse_steps::asker::{obtain_once, or_closed};
 use fuse_steps::flags::listing;
 use fuse_steps::listing::listing_bytes;
 use fuse_steps::replies::{fd_of_reply, names_of_reply};
 use posix_acl::Perms;
+
+// What the kernel may keep of a directory that is opened.
+fn directory_flags(settings: Settings) -> OpenedFlags
+    ensures { result ≡ directory_flags settings }
+{
+    let bits = if settings.keeping.pages {
+        OpenedFlags::KEEP_CACHE.bits() + OpenedFlags::CACHE_DIR.bits()
+    } else {
+        0
+    };
+    OpenedFlags::from_bits_retain(bits)
+}
+
+// What is told of a directory that was opened.
+fn opened_body(server: &Server, handle: u64) -> ReplyBody
+    ensures { result ≡ opened_directory_body handle server.now.server }
+{
+    ReplyBody::Opened(handle, directory_flags(server.settings()))
+}
 
 // The names in what is open.
 fn tell_names<M: Machine>(machine: &mut M, pid: usize, fd: usize) -> Result<Listing, Stop>
@@ -74,7 +95,7 @@ impl<M: Machine> Session<M> {
         }
         let handle = self.server.next_directory();
         self.server.add_directory(owner, inode);
-        Ok(ReplyBody::Opened(handle))
+        Ok(opened_body(&self.server, handle))
     }
 
     // The names in a directory, as the server's own process sees them.

@@ -1,6 +1,6 @@
 //! Requests that open files.
 ghost use Rattle.std.specs.Prelude.{◌≡◌, ◌+◌, ◌≤◌, ◌&&◌, not, Err};
-ghost use Rattle.fuse_plans.specs.FilePlans.{reads_alone, ask_first, touched_if, cuts_open, confirm_shown, confirm_open, open_object, open_granted, open_file, or_opened, open_or_make, show_open, look_open, created_body, tell_created, create_by, create_file};
+ghost use Rattle.fuse_plans.specs.FilePlans.{reads_alone, ask_first, touched_if, cuts_open, confirm_shown, confirm_open, open_object, open_granted, open_file, or_opened, open_or_make, show_open, look_open, file_flags, opened_body, created_body, tell_created, create_by, create_file};
 ghost use Rattle.fs_cred.specs.declared.errno.Errno.TheVariants.{EEXIST};
 ghost use Rattle.fuse_plans.specs.Flags.{is_trunc, is_excl};
 ghost use Rattle.fuse_plans.specs.Stops.{is_for};
@@ -10,11 +10,12 @@ ghost use Rattle.fuse_steps.specs.Performing.{DidByMachine};
 use crate::names::set_umask;
 use crate::object::shown;
 use crate::session::Session;
+use bitflags::Flags as _;
 use fs_cred::{Cred, Errno};
 use fs_model::{Call, Path, Reply, Status};
 use fuse_plans::{Asked, Mode, ReplyBody, Stop};
-use fuse_protocol::{OpenFlags, Time};
-use fuse_state::{Place, Server, descriptor_of};
+use fuse_protocol::{OpenFlags, OpenedFlags, Time};
+use fuse_state::{Place, Server, Settings, descriptor_of};
 use fuse_steps::Machine;
 use fuse_steps::asker::{done, inside, obtain_once, or_closed};
 use fuse_steps::flags::{creating, is_excl, is_exec, is_trunc, opening};
@@ -53,15 +54,35 @@ fn touch_if(server: &mut Server, is_cut: bool, now: Time, inode: u32)
     }
 }
 
-// What is told of a file that was opened by its making.
-fn created_body(server: &Server, handle: u64, status: Status) -> ReplyBody
-    ensures { result ≡ created_body handle status server.now.server }
+// What the kernel may keep of a file that is opened.
+fn file_flags(settings: Settings) -> OpenedFlags
+    ensures { result ≡ file_flags settings }
 {
-    ReplyBody::Created(
-        server.node_of(status.inode),
-        attributes(server, status),
+    if settings.keeping.pages {
+        OpenedFlags::KEEP_CACHE
+    } else {
+        OpenedFlags::from_bits_retain(0)
+    }
+}
+
+// What is told of a file that was opened.
+fn opened_body(server: &Server, handle: u64) -> ReplyBody
+    ensures { result ≡ opened_body handle server.now.server }
+{
+    ReplyBody::Opened(handle, file_flags(server.settings()))
+}
+
+// What is told of a file that was opened by its making.
+fn created_body(server: &Server, name_valid: u64, handle: u64, status: Status) -> ReplyBody
+    ensures { result ≡ created_body name_valid handle status server.now.server }
+{
+    ReplyBody::Created {
+        node: server.node_of(status.inode),
+        name_valid,
+        shown: attributes(server, status),
         handle,
-    )
+        flags: file_flags(server.settings()),
+    }
 }
 
 // Whether what has the name is opened where no file was made.
@@ -242,13 +263,14 @@ impl<M: Machine> Session<M> {
     {
         self.ask_first(pid, inode, flags, mode)?;
         let handle = self.open_object(now, pid, inode, flags, mode)?;
-        Ok(ReplyBody::Opened(handle))
+        Ok(opened_body(&self.server, handle))
     }
 
     // What was opened by a name is told, and whether it is new.
     fn tell_created(
         &mut self,
         now: Time,
+        name_valid: u64,
         place: Place,
         is_new: bool,
         is_cut: bool,
@@ -256,12 +278,12 @@ impl<M: Machine> Session<M> {
         status: Status,
     ) -> Result<ReplyBody, Stop>
         requires { 5 ≤ self.old.server.room }
-        ensures { Did M.Serves (tell_created now place is_new is_cut handle status) self.old self.new result }
+        ensures { Did M.Serves (tell_created now name_valid place is_new is_cut handle status) self.old self.new result }
     {
         self.server
             .note_opened(now, place, status.inode, status.kind, is_new, is_cut);
         self.server.add_handle(handle, status.inode);
-        Ok(created_body(&self.server, handle, status))
+        Ok(created_body(&self.server, name_valid, handle, status))
     }
 
     /// Opens a file by a name, and makes it where there is none.
@@ -283,15 +305,18 @@ impl<M: Machine> Session<M> {
             return Err(Stop::EINVAL);
         };
         let directory = self.standing_directory(asked.node)?;
+        let name_valid = self.new_valid(directory);
         let pid = self.caller_with_room(copy)?;
         set_umask(&mut self.machine, pid, umask)?.discard();
-        self.create_by(asked.now, pid, directory, name, mode, flags, file_mode)
+        let now = asked.now;
+        self.create_by(now, name_valid, pid, directory, name, mode, flags, file_mode)
     }
 
     // A process makes the file, or opens it.
     fn create_by(
         &mut self,
         now: Time,
+        name_valid: u64,
         pid: usize,
         directory: u32,
         name: Path,
@@ -300,7 +325,7 @@ impl<M: Machine> Session<M> {
         file_mode: u32,
     ) -> Result<ReplyBody, Stop>
         requires { 5 ≤ self.old.server.room }
-        ensures { Did M.Serves (create_by now pid directory name mode flags.0 file_mode) self.old self.new result }
+        ensures { Did M.Serves (create_by now name_valid pid directory name mode flags.0 file_mode) self.old self.new result }
     {
         let machine = &mut self.machine;
         let (opened, name) = open_or_make(machine, pid, directory, name, mode, flags, file_mode);
@@ -312,6 +337,7 @@ impl<M: Machine> Session<M> {
         };
         let status = look_open(machine, pid, descriptor_of(handle))?;
         let place = place(directory, name);
-        self.tell_created(now, place, is_new, is_trunc(flags), handle, status)
+        let is_cut = is_trunc(flags);
+        self.tell_created(now, name_valid, place, is_new, is_cut, handle, status)
     }
 }

@@ -182,7 +182,7 @@ impl<M: Machine> Session<M> {
         let kind = self.server.kind_of(inode);
         self.server.note_linked(now, place, inode, kind);
         let status = self.look(inode)?;
-        Ok(found_body(&self.server, status))
+        Ok(found_body(&self.server, 0, status))
     }
 
     /// An object gets one more name.

@@ -1,7 +1,7 @@
 //! Requests for names that are found or made: each is asked of a directory, and performed by a process of who asks, but for look-ups
 //! that need nobody.
-ghost use Rattle.std.specs.Prelude.{◌≡◌, ◌+◌, ◌≤◌, ℕ, List, Some, IsSome};
-ghost use Rattle.fuse_plans.specs.NamePlans.{directory_for, find_name, made, make_by, directory_and_caller, make_link, set_umask, make_masked, make_directory, close, open_and_close, opens, done_closed, make_file, searched_directory, find_inside, searcher};
+ghost use Rattle.std.specs.Prelude.{◌≡◌, ◌+◌, ◌≤◌, ℕ, List, Some, IsSome, Ok};
+ghost use Rattle.fuse_plans.specs.NamePlans.{directory_for, find_name, made, make_by, directory_and_caller, make_link, set_umask, make_masked, make_directory, close, open_and_close, opens, done_closed, make_file, searched_directory, found_or_absent, find_inside, searcher, new_valid};
 ghost use Rattle.fuse_plans.specs.Paths.{name_in};
 ghost use Rattle.fuse_sessions.specs.Performing.{Did};
 ghost use Rattle.fuse_steps.specs.Performing.{DidByMachine};
@@ -9,13 +9,16 @@ ghost use Rattle.fuse_steps.specs.Performing.{DidByMachine};
 use crate::object::look_inside;
 use crate::session::Session;
 use fs_cred::Cred;
-use fs_model::{Call, Path, Reply};
+use fs_model::{Call, Path, Reply, Status};
 use fuse_plans::{Asked, ReplyBody, Stop};
 use fuse_protocol::Time;
 use fuse_steps::Machine;
 use fuse_steps::asker::{between, done, done_between, obtain_once};
 use fuse_steps::flags::making;
-use fuse_steps::name::{found_body, only_file, or_absent, place, plain_name};
+use fuse_steps::name::{
+    found_body, keeps_names, looked_up_body, only_file, or_absent, or_keep_absent, place, plain_name,
+    unless_hidden,
+};
 use fuse_steps::path::name_in;
 use fuse_steps::replies::fd_of_reply;
 
@@ -88,7 +91,7 @@ impl<M: Machine> Session<M> {
     {
         let directory = self.searched_directory(asked.node, &name)?;
         let pid = self.searcher(asked, copy)?;
-        self.find_inside(pid, directory, name)
+        self.find_inside(asked.needs_nobody, pid, directory, name)
     }
 
     // By whom a name is looked up: by the server's own process where nobody is needed.
@@ -112,16 +115,51 @@ impl<M: Machine> Session<M> {
         or_absent(self.standing_directory(node))
     }
 
-    // What a process finds under the name.
-    fn find_inside(&mut self, pid: usize, directory: u32, name: Path) -> Result<ReplyBody, Stop>
+    // What a process finds under the name, or that it finds nothing.
+    fn find_inside(
+        &mut self,
+        needs_nobody: bool,
+        pid: usize,
+        directory: u32,
+        name: Path,
+    ) -> Result<ReplyBody, Stop>
         requires { 2 ≤ self.old.server.room }
-        ensures { Did M.Serves (find_inside pid directory name) self.old self.new result }
+        ensures { Did M.Serves (find_inside needs_nobody pid directory name) self.old self.new result }
     {
-        let (shown, name) = look_inside(&mut self.machine, pid, directory, name);
-        let status = shown?;
+        let (seen, name) = look_inside(&mut self.machine, pid, directory, name);
+        match seen {
+            Ok(status) => Ok(self.tell_found(needs_nobody, directory, name, status)),
+            Err(stop) => or_keep_absent(self.server.settings(), needs_nobody, stop),
+        }
+    }
+
+    // What was found under the name is told.
+    fn tell_found(
+        &mut self,
+        needs_nobody: bool,
+        directory: u32,
+        name: Path,
+        status: Status,
+    ) -> ReplyBody
+        requires { 2 ≤ self.old.server.room }
+        ensures { Did M.Serves (found_or_absent needs_nobody directory name (Ok status)) self.old self.new (Ok result) }
+    {
         self.server
             .note_found(place(directory, name), status.inode, status.kind);
-        Ok(found_body(&self.server, status))
+        looked_up_body(&self.server, needs_nobody, status)
+    }
+
+    /// For how many seconds the kernel may keep a new name in a directory.
+    pub(crate) fn new_valid(&mut self, directory: u32) -> u64
+        ensures did { Did M.Serves (new_valid directory) self.old self.new (Ok result) }
+        ensures kept { self.new.server ≡ self.old.server }
+    {
+        let settings = self.server.settings();
+        if !keeps_names(settings) {
+            return 0;
+        }
+        let hides = self.list_hides(directory);
+        unless_hidden(settings.keeping.names, hides)
     }
 
     /// The directory of a name that is asked for.
@@ -150,22 +188,29 @@ impl<M: Machine> Session<M> {
     }
 
     // What has just been made, as the server's own process sees it.
-    fn made(&mut self, now: Time, directory: u32, name: Path) -> Result<ReplyBody, Stop>
+    fn made(
+        &mut self,
+        now: Time,
+        name_valid: u64,
+        directory: u32,
+        name: Path,
+    ) -> Result<ReplyBody, Stop>
         requires { 4 ≤ self.old.server.room }
-        ensures { Did M.Serves (made now directory name) self.old self.new result }
+        ensures { Did M.Serves (made now name_valid directory name) self.old self.new result }
     {
         let pid = self.the_looker()?;
         let (shown, name) = look_inside(&mut self.machine, pid, directory, name);
         let status = shown?;
         self.server
             .add_object(now, place(directory, name), status.inode, status.kind);
-        Ok(found_body(&self.server, status))
+        Ok(found_body(&self.server, name_valid, status))
     }
 
     // A call makes what has the name in it.
     fn make_by(
         &mut self,
         now: Time,
+        name_valid: u64,
         pid: usize,
         directory: u32,
         call: Call,
@@ -173,20 +218,21 @@ impl<M: Machine> Session<M> {
         requires name { IsSome (name_in call) }
         requires room { 4 ≤ self.old.server.room }
         ensures { (name : List ℕ) → name_in call ≡ Some name →
-            Did M.Serves (make_by now pid directory call name) self.old self.new result }
+            Did M.Serves (make_by now name_valid pid directory call name) self.old self.new result }
     {
         let tried = done_closed(&mut self.machine, pid, directory, &call);
         let Some(name) = name_in(call) else {
             unreachable!()
         };
         tried?;
-        self.made(now, directory, name)
+        self.made(now, name_valid, directory, name)
     }
 
     // The same, once new objects of the process are made with a mask.
     fn make_masked(
         &mut self,
         now: Time,
+        name_valid: u64,
         umask: u32,
         pid: usize,
         directory: u32,
@@ -195,10 +241,10 @@ impl<M: Machine> Session<M> {
         requires name { IsSome (name_in call) }
         requires room { 4 ≤ self.old.server.room }
         ensures { (name : List ℕ) → name_in call ≡ Some name →
-            Did M.Serves (make_masked now umask pid directory call name) self.old self.new result }
+            Did M.Serves (make_masked now name_valid umask pid directory call name) self.old self.new result }
     {
         set_umask(&mut self.machine, pid, umask)?.discard();
-        self.make_by(now, pid, directory, call)
+        self.make_by(now, name_valid, pid, directory, call)
     }
 
     /// Makes a symbolic link.
@@ -213,9 +259,11 @@ impl<M: Machine> Session<M> {
         requires room { 5 ≤ self.old.server.room }
         ensures { Did M.Serves (make_link asked.entry.now name target) self.old self.new result }
     {
-        let (directory, pid) = self.directory_and_caller(asked, copy, &name)?;
+        let directory = self.directory_for(asked.node, &name)?;
+        let name_valid = self.new_valid(directory);
+        let pid = self.caller(copy)?;
         let call = Call::Symlink { target, path: name };
-        self.make_by(asked.now, pid, directory, call)
+        self.make_by(asked.now, name_valid, pid, directory, call)
     }
 
     /// Makes a directory.
@@ -231,9 +279,11 @@ impl<M: Machine> Session<M> {
         requires room { 5 ≤ self.old.server.room }
         ensures { Did M.Serves (make_directory asked.entry.now name mode umask) self.old self.new result }
     {
-        let (directory, pid) = self.directory_and_caller(asked, copy, &name)?;
+        let directory = self.directory_for(asked.node, &name)?;
+        let name_valid = self.new_valid(directory);
+        let pid = self.caller(copy)?;
         let call = Call::Mkdir(name, (mode & 0o7777) as u16);
-        self.make_masked(asked.now, umask, pid, directory, call)
+        self.make_masked(asked.now, name_valid, umask, pid, directory, call)
     }
 
     /// Makes a file.
@@ -251,8 +301,9 @@ impl<M: Machine> Session<M> {
     {
         only_file(mode)?;
         let directory = self.directory_for(asked.node, &name)?;
+        let name_valid = self.new_valid(directory);
         let pid = self.caller_with_room(copy)?;
         let call = Call::Open(name, making(), (mode & 0o777) as u16);
-        self.make_masked(asked.now, umask, pid, directory, call)
+        self.make_masked(asked.now, name_valid, umask, pid, directory, call)
     }
 }

@@ -1,6 +1,7 @@
 //! Whether it counts who asks: where it doesn't, that isn't even learnt.
 ghost use Rattle.std.specs.Prelude.{◌≡◌};
-ghost use Rattle.fuse_plans.specs.Nobody.{may_hide, grants_nothing, hides, seen_by_looker, asks_list, is_masked, is_judged, needs_nobody};
+ghost use Rattle.fuse_plans.specs.Masks.{may_hide, grants_nothing, hides, seen_by_looker, asks_list, list_hides, is_masked};
+ghost use Rattle.fuse_plans.specs.Nobody.{is_judged, needs_nobody};
 ghost use Rattle.fuse_plans.specs.Plans.{CarriesOut};
 ghost use Rattle.fuse_sessions.specs.Performing.{Did};
 
@@ -78,6 +79,14 @@ impl<M: Machine> Session<M> {
         ensures kept { self.new.server ≡ self.old.server }
     {
         let inode = self.directory_number(node)?;
+        self.list_hides(inode)
+    }
+
+    /// The same of a directory.
+    pub(crate) fn list_hides(&mut self, inode: u32) -> Result<bool, Stop>
+        ensures did { Did M.Serves (list_hides inode) self.old self.new result }
+        ensures kept { self.new.server ≡ self.old.server }
+    {
         let status = self.seen_by_looker(inode)?;
         self.asks_list(inode, status)
     }

@@ -1,7 +1,8 @@
 //! Requests for the two ACLs of acl(5), which are attributes to the kernel.
 ghost use Rattle.std.specs.Prelude.{◌≡◌, ◌≤◌, not, ◌&&◌, true, false};
 ghost use Rattle.posix_acl.specs.AccessList.{minimal};
-ghost use Rattle.fuse_plans.specs.AclPlans.{the_acl, acl_names, attribute_names, list_xattrs, has_acls, an_object, told_acl, acl_of, acl_size, sized, tell_acl, get_xattr, is_of_default, is_plain, acl_set, set_by, set_acl, set_xattr, remove_xattr};
+ghost use Rattle.fuse_plans.specs.Masks.{told_acl, acl_of};
+ghost use Rattle.fuse_plans.specs.AclPlans.{the_acl, acl_names, attribute_names, list_xattrs, has_acls, an_object, acl_size, sized, tell_acl, get_xattr, is_of_default, is_plain, acl_set, set_by, set_acl, set_xattr, remove_xattr};
 ghost use Rattle.fuse_plans.specs.Callers.{is_known_directory};
 ghost use Rattle.fuse_sessions.specs.Performing.{Did};
 ghost use Rattle.fuse_plans.specs.Works.{of_result};

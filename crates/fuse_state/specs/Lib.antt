@@ -1,3 +1,4 @@
+pub mod Keepings
 pub mod Shares
 pub mod Servers
 pub mod Changes

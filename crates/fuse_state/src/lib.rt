@@ -7,6 +7,7 @@
 
 mod directory;
 mod handle;
+mod keeping;
 mod laws;
 mod place;
 mod server;
@@ -17,6 +18,7 @@ mod times;
 
 pub use directory::OpenDirectory;
 pub use handle::{descriptor_of, handle_of, owner_of};
+pub use keeping::Keeping;
 pub use laws::{
     found_nodes_lead_to_objects, handles_tell_descriptors, names_are_kept, nodes_lead_to_objects,
     shares_are_kept,

@@ -1,5 +1,6 @@
 //! What is agreed on before a server serves.
 
+use crate::keeping::Keeping;
 use fuse_protocol::Time;
 
 /// What a server tells the kernel, and what it shows of the whole file system.
@@ -9,6 +10,8 @@ pub struct Settings {
     pub max_write: u32,
     /// The kernel judges before it asks, by modes and ACLs: `FUSE_POSIX_ACL`. Until the first request this is only wanted.
     pub posix_acl: bool,
+    /// What the kernel may keep of what it is told.
+    pub keeping: Keeping,
     /// All data sectors.
     pub sectors: u32,
     /// All inodes.

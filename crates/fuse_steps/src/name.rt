@@ -1,12 +1,12 @@
 //! Names in requests, and what is told of what has one.
 ghost use Rattle.std.specs.Prelude.{◌≡◌};
-ghost use Rattle.fuse_plans.specs.NamePlans.{place, plain_name, attributes, found_body, or_absent, only_file, only_no_replace, none_there};
+ghost use Rattle.fuse_plans.specs.NamePlans.{place, plain_name, attributes, found_body, judged_valid, looked_up_body, keeps_absent, or_keep_absent, keeps_names, unless_hidden, or_absent, only_file, only_no_replace, none_there};
 ghost use Rattle.fuse_plans.specs.Works.{of_result};
 
 use fs_cred::Errno;
 use fs_model::{Name, Path, Reply, Status};
 use fuse_plans::{Attributes, OtherErrno, ReplyBody, Stop};
-use fuse_state::{Place, Server};
+use fuse_state::{Place, Server, Settings};
 
 /// The name of a path in a directory.
 pub fn place(directory: u32, path: Path) -> Place
@@ -37,14 +37,78 @@ pub fn attributes(server: &Server, status: Status) -> Attributes
     Attributes {
         status,
         times: server.times_of(status.inode),
+        valid: server.settings().keeping.attributes,
     }
 }
 
-/// What is told of an object that was found: its node too.
-pub fn found_body(server: &Server, status: Status) -> ReplyBody
-    ensures { result ≡ found_body status server.now.server }
+/// What is told of an object that was found: its node too, and for how many seconds the kernel may keep the name.
+pub fn found_body(server: &Server, name_valid: u64, status: Status) -> ReplyBody
+    ensures { result ≡ found_body name_valid status server.now.server }
 {
-    ReplyBody::Found(server.node_of(status.inode), attributes(server, status))
+    ReplyBody::Found {
+        node: server.node_of(status.inode),
+        name_valid,
+        shown: attributes(server, status),
+    }
+}
+
+// For how many seconds the kernel may keep a name that was looked up: where it has judged.
+fn judged_valid(needs_nobody: bool, settings: Settings) -> u64
+    ensures { result ≡ judged_valid needs_nobody settings }
+{
+    if needs_nobody { settings.keeping.names } else { 0 }
+}
+
+/// What is told of an object that was looked up.
+pub fn looked_up_body(server: &Server, needs_nobody: bool, status: Status) -> ReplyBody
+    ensures { result ≡ looked_up_body needs_nobody status server.now.server }
+{
+    found_body(server, judged_valid(needs_nobody, server.settings()), status)
+}
+
+// Whether nothing has the name, and the kernel, which has judged, may keep that.
+fn keeps_absent(needs_nobody: bool, settings: Settings, stop: Stop) -> bool
+    ensures { result ≡ keeps_absent needs_nobody settings stop }
+{
+    needs_nobody && (stop.is_for(Errno::ENOENT) && settings.keeping.absent != 0)
+}
+
+/// Where a name was looked up in vain: the error, or that nothing has it.
+pub fn or_keep_absent(
+    settings: Settings,
+    needs_nobody: bool,
+    stop: Stop,
+) -> Result<ReplyBody, Stop>
+    ensures { or_keep_absent needs_nobody settings stop ≡ of_result result }
+{
+    if keeps_absent(needs_nobody, settings, stop) {
+        Ok(ReplyBody::Absent(settings.keeping.absent))
+    } else {
+        Err(stop)
+    }
+}
+
+/// Whether the kernel judges by lists, and keeps names.
+pub fn keeps_names(settings: Settings) -> bool
+    ensures { result ≡ keeps_names settings }
+{
+    settings.posix_acl && settings.keeping.names != 0
+}
+
+/// For how many seconds the kernel may keep a new name: not at all where it wasn't seen that it follows the directory's list.
+pub fn unless_hidden(name_valid: u64, hides: Result<bool, Stop>) -> u64
+    ensures { result ≡ unless_hidden name_valid hides }
+{
+    match hides {
+        Ok(hides) => {
+            if hides {
+                0
+            } else {
+                name_valid
+            }
+        }
+        Err(_unseen) => 0,
+    }
 }
 
 /// A directory that was removed has no names: ENOENT in place of ESTALE.

@@ -2,7 +2,7 @@
 use fs_cred::{Cred, CredFault};
 use fs_model::{FileType, Listing, Name};
 use fuse_protocol::Time;
-use fuse_state::{Place, Server, Settings, Times, descriptor_of, handle_of, owner_of};
+use fuse_state::{Keeping, Place, Server, Settings, Times, descriptor_of, handle_of, owner_of};
 use std::alloc::{AllocError, Global};
 use std::test::Fail;
 
@@ -62,6 +62,7 @@ fn started(alloc: Global) -> Result<Server, AllocError> {
     let settings = Settings {
         max_write: 4096,
         posix_acl: true,
+        keeping: Keeping::nothing(),
         sectors: 878,
         inodes: 64,
         start: at(3),

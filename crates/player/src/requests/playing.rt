@@ -8,7 +8,7 @@ use fs_images::mkfs;
 use fs_system::Fs;
 use fuse_protocol::Time;
 use fuse_serving::{Kernel, Nobody, ReplyRoom, ServeFault};
-use fuse_state::Settings;
+use fuse_state::{Keeping, Settings};
 use sector_disk::MemDisk;
 use std::alloc::Global;
 use std::mem;
@@ -62,6 +62,7 @@ fn settings_of(fs: &mut Fs<MemDisk>, start: u64, max_write: u32) -> Option<Setti
     Some(Settings {
         max_write,
         posix_acl: false,
+        keeping: Keeping::nothing(),
         sectors,
         inodes: free_inodes.saturating_add(1),
         start: Time {

@@ -16,19 +16,19 @@ returns-in_err-directory g c =
 pub returns-in_err-pid : goal.returns-in_err-pid
 returns-in_err-pid g c =
     then-ok _ (of-result c.in_ok-plain_name.ensures)
-    (needs-some _ _ (sym c.in-Some.ensures) (then-ok _ c.in_ok-directory.ensures
-    (then-fails _ c.from_residual-in_err-pid.ensures (rw c.requires.copy at c.in_err-pid.ensures.did))))
+    (needs-some _ _ (sym c.in-Some.ensures) (then-ok _ c.in_ok-directory.ensures (then-ok _ c.new_valid-name_valid.ensures.did
+    (then-fails _ c.from_residual-in_err-pid.ensures (rw c.requires.copy at c.in_err-pid.ensures.did)))))
 
 pub returns-in_err-set_umask : goal.returns-in_err-set_umask
 returns-in_err-set_umask g c =
     then-ok _ (of-result c.in_ok-plain_name.ensures)
-    (needs-some _ _ (sym c.in-Some.ensures) (then-ok _ c.in_ok-directory.ensures
+    (needs-some _ _ (sym c.in-Some.ensures) (then-ok _ c.in_ok-directory.ensures (then-ok _ c.new_valid-name_valid.ensures.did
     (then-ok _ (rw c.requires.copy at c.in_ok-pid.ensures.did)
-    (then-fails _ c.from_residual-in_err-set_umask.ensures (on-machine c.in_err-set_umask.ensures)))))
+    (then-fails _ c.from_residual-in_err-set_umask.ensures (on-machine c.in_err-set_umask.ensures))))))
 
 pub returns : goal.returns
 returns g c =
     then-ok _ (of-result c.in_ok-plain_name.ensures)
-    (needs-some _ _ (sym c.in-Some.ensures) (then-ok _ c.in_ok-directory.ensures
+    (needs-some _ _ (sym c.in-Some.ensures) (then-ok _ c.in_ok-directory.ensures (then-ok _ c.new_valid-name_valid.ensures.did
     (then-ok _ (rw c.requires.copy at c.in_ok-pid.ensures.did)
-    (then-ok _ (on-machine c.in_ok-set_umask.ensures) c.create_by.ensures))))
+    (then-ok _ (on-machine c.in_ok-set_umask.ensures) c.create_by.ensures)))))

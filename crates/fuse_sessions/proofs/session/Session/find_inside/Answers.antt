@@ -1,12 +1,12 @@
-use Rattle.std.proofs.Common.{refl}
-use Rattle.fuse_sessions.proofs.Doings.{keeps, on-machine, reads-last, then-was, was-fails}
+use Rattle.fuse_sessions.proofs.Doings.{attempts, of-result, on-machine, reads, then-ok}
 use Rattle.fuse_sessions.proofs.session.Session.find_inside.Goals as goal
 
-pub returns-in_err-status : goal.returns-in_err-status
-returns-in_err-status g c = was-fails _ c.from_residual.ensures (on-machine c.look_inside-shown.ensures.did) c.in_err-status.was
+pub returns-in-Ok : goal.returns-in-Ok
+returns-in-Ok g c =
+    then-ok _ (attempts _ (on-machine (rw c.in-Ok.is at c.look_inside-seen.ensures.did)))
+    (rw c.look_inside-seen.ensures.name at c.tell_found.ensures)
 
-pub returns : goal.returns
-returns g c =
-    then-was _ (on-machine c.look_inside-shown.ensures.did) c.in_ok-status.was
-    (keeps _ _ refl (rw (c.place.ensures, c.look_inside-shown.ensures.name) at c.note_found.ensures.kept)
-    (reads-last _ _ c.found_body.ensures))
+pub returns-in-Err : goal.returns-in-Err
+returns-in-Err g c =
+    then-ok _ (attempts _ (on-machine (rw c.in-Err.is at c.look_inside-seen.ensures.did)))
+    (reads _ _ c.settings.ensures (of-result c.or_keep_absent.ensures))

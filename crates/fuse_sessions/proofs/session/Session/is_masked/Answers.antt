@@ -1,4 +1,4 @@
-use Rattle.fuse_plans.specs.Nobody.{is_masked}
+use Rattle.fuse_plans.specs.Masks.{is_masked}
 use Rattle.fuse_sessions.proofs.Doings.{then-fails, then-ok}
 use Rattle.fuse_sessions.proofs.session.Session.is_masked.Goals as goal
 
@@ -6,10 +6,6 @@ pub returns-in_err-inode-clause-did : goal.returns-in_err-inode-clause-did
 unfolding is_masked
 returns-in_err-inode-clause-did g c = then-fails _ c.from_residual.ensures c.in_err-inode.ensures
 
-pub returns-in_err-status-clause-did : goal.returns-in_err-status-clause-did
-unfolding is_masked
-returns-in_err-status-clause-did g c = then-ok _ c.in_ok-inode.ensures (then-fails _ c.from_residual-in_err-status.ensures c.in_err-status.ensures.did)
-
 pub returns-clause-did : goal.returns-clause-did
 unfolding is_masked
-returns-clause-did g c = then-ok _ c.in_ok-inode.ensures (then-ok _ c.in_ok-status.ensures.did c.asks_list.ensures.did)
+returns-clause-did g c = then-ok _ c.in_ok-inode.ensures c.list_hides.ensures.did

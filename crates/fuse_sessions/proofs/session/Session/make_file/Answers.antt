@@ -12,9 +12,11 @@ returns-in_err-directory g c =
 pub returns-in_err-pid : goal.returns-in_err-pid
 returns-in_err-pid g c =
     then-ok _ (of-result c.in_ok-only_file.ensures)
-    (then-ok _ c.in_ok-directory.ensures (then-fails _ c.from_residual-in_err-pid.ensures (rw c.requires.copy at c.in_err-pid.ensures.did)))
+    (then-ok _ c.in_ok-directory.ensures (then-ok _ c.new_valid-name_valid.ensures.did
+    (then-fails _ c.from_residual-in_err-pid.ensures (rw c.requires.copy at c.in_err-pid.ensures.did))))
 
 pub returns : goal.returns
 returns g c =
     then-ok _ (of-result c.in_ok-only_file.ensures)
-    (then-ok _ c.in_ok-directory.ensures (then-ok _ (rw c.requires.copy at c.in_ok-pid.ensures.did) (rw c.making.ensures at c.make_masked.ensures _ refl)))
+    (then-ok _ c.in_ok-directory.ensures (then-ok _ c.new_valid-name_valid.ensures.did
+    (then-ok _ (rw c.requires.copy at c.in_ok-pid.ensures.did) (rw c.making.ensures at c.make_masked.ensures _ refl))))

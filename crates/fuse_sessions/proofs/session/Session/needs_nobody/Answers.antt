@@ -1,5 +1,5 @@
 use Rattle.std.specs.Prelude.{Bool, not}
-use Rattle.std.proofs.Common.{refl, sym, ap, subst}
+use Rattle.std.proofs.Common.{refl, sym, subst}
 use Rattle.fuse_plans.specs.Plans.{CarriesOut}
 use Rattle.fuse_plans.specs.Nobody.{needs_nobody}
 use Rattle.fuse_plans.proofs.NobodyConducts.{decided_at_once}

@@ -1,4 +1,4 @@
-use Rattle.fuse_sessions.proofs.Doings.{gives, then-fails, then-ok}
+use Rattle.fuse_sessions.proofs.Doings.{reads-last, then-fails, then-ok}
 use Rattle.fuse_sessions.proofs.session.Session.open_granted.Goals as goal
 
 pub returns-in_err-ask_first : goal.returns-in_err-ask_first
@@ -8,4 +8,4 @@ pub returns-in_err-handle : goal.returns-in_err-handle
 returns-in_err-handle g c = then-ok _ c.in_ok-ask_first.ensures.did (then-fails _ c.from_residual-in_err-handle.ensures c.in_err-handle.ensures)
 
 pub returns : goal.returns
-returns g c = then-ok _ c.in_ok-ask_first.ensures.did (then-ok _ c.in_ok-handle.ensures (gives _ _))
+returns g c = then-ok _ c.in_ok-ask_first.ensures.did (then-ok _ c.in_ok-handle.ensures (reads-last _ _ c.opened_body.ensures))
