@@ -1,4 +1,8 @@
 pub mod AllEnds
+pub mod AlterFiles
+pub mod AlterNames
+pub mod AlterPieces
+pub mod AlterRequests
 pub mod Calls
 pub mod Chosen
 pub mod Conducts

@@ -20,7 +20,7 @@ use Rattle.fuse_plans.specs.declared.stop.OtherErrno.TheVariants.{EOPNOTSUPP}
 use Rattle.fuse_plans.specs.Works.{give, stop, kept, keep, ◌>>=◌, ask}
 use Rattle.fuse_plans.specs.Acts.{IsObject, without_path}
 use Rattle.fuse_plans.specs.Plans.{KeepsTo}
-use Rattle.fuse_plans.specs.Conduct.{Known, Rights, conduct, Fits, IsHome, IsSyncOf}
+use Rattle.fuse_plans.specs.Conduct.{Known, Rights, conduct, Fits, IsHome, IsOfHandle}
 use Rattle.fuse_plans.specs.FilePlans.{sync_file}
 use Rattle.fuse_plans.specs.AttributePlans.{tell_attributes, get_attributes, new_owners, resize_object, set_size, set_mode, may_set_times, set_times, change_attributes, set_attributes, read_link, access_as, ask_access}
 use Rattle.fuse_plans.specs.DirectoryPlans.{open_directory, take_directory, take_directory_if, tell_names, list_open, list_all, list_now, listed, read_directory, close_directory, sync_all}
@@ -267,7 +267,7 @@ module _ {rights : Rights} {P : Server → Type 0} where
   unfolding ask
   does-fsync handle given = record {
     goes = λ known s fits. (
-      (subst IsHome (sym fits.home) tt, subst (λ o. IsSyncOf o (owner_of handle) (descriptor_of handle)) (sym given) (refl, refl)),
+      (subst IsHome (sym fits.home) tt, subst (λ o. IsOfHandle o (owner_of handle) (descriptor_of handle)) (sym given) (refl, refl)),
       λ reply. fits,
     );
   }

@@ -99,9 +99,10 @@ abbrev pub MayEnter : Option Away → ℕ → ℕ → ℕ → Type 0
 MayEnter None pid directory second = Unit {0}
 MayEnter (Some p) pid directory second = (p.pid ≡ pid) × IsRoot directory second
 
-abbrev pub IsSyncOf : Option ℕ → ℕ → ℕ → Type 0
-IsSyncOf None pid fd = ⊥
-IsSyncOf (Some handle) pid fd = (pid ≡ owner_of handle) × (fd ≡ descriptor_of handle)
+-- the process and the descriptor of the handle that is given
+abbrev pub IsOfHandle : Option ℕ → ℕ → ℕ → Type 0
+IsOfHandle None pid fd = ⊥
+IsOfHandle (Some handle) pid fd = (pid ≡ owner_of handle) × (fd ≡ descriptor_of handle)
 
 -- Nothing is asked of the disk, and processes begin for who asks alone. Each call concerns what the request is about.
 abbrev pub MayAsk : Rights → Known → Event → Type 0
@@ -109,7 +110,7 @@ MayAsk rights known (Spawn cred) = IsHome known.away × (rights.cred ≡ Some cr
 MayAsk rights known (Exit pid) = IsHome known.away
 MayAsk rights known (Calls pid call) = IsNobodyElse known.away pid × MayCall rights known pid call × Concerns rights.subject known.away call
 MayAsk rights known (Enter pid directory second) = MayEnter known.away pid directory second
-MayAsk rights known (Fsync pid fd) = IsHome known.away × IsSyncOf rights.handle pid fd
+MayAsk rights known (Fsync pid fd) = IsHome known.away × IsOfHandle rights.handle pid fd
 MayAsk rights known Sync = IsHome known.away
 MayAsk rights known Statfs = IsHome known.away
 MayAsk rights known _ = ⊥

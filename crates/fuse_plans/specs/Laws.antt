@@ -4,6 +4,7 @@
 --             and nobody is left away from the root
 --     BeginningBehaves        the first request begins the server's own process, and asks no more
 --     RunsBehave        the same of what was asked
+--     RequestsChangeWhatTheySay, RunsChangeWhatRequestsSay        what changes of names and attributes comes of a request that says so
 --     OpenedIsTheObject        what an OPEN has opened is the object of its node
 --     ToldNodesLeadToObjects        the node that is told of a name leads to what has it
 --     WhoAsksCountsOnlyWhereNeeded        where nobody is needed a request is the same whoever asks
@@ -36,6 +37,7 @@ use Rattle.fuse_state.specs.Servers.{Server, number_of, owner_of, descriptor_of,
 use Rattle.fuse_state.specs.Changes.{is_gone}
 use Rattle.fuse_plans.specs.Acts.{Subject}
 use Rattle.fuse_plans.specs.Conduct.{Known, Rights, conduct}
+use Rattle.fuse_plans.specs.Alterations.{MayBeAsked, AsksOnly}
 use Rattle.fuse_plans.specs.declared.stop.Stop.{Stop}
 use Rattle.fuse_plans.specs.declared.stop.Stop.TheVariants.{Refuses}
 use Rattle.fuse_plans.specs.Stops.{is_for}
@@ -110,6 +112,18 @@ RunsBehave =
     (r : Request) (s : Server) (es : List Event) (replies : List Reply) (result : Response × Server) → IsFalse (is_init r.operation)
     → IsRunOf (request_plan r s) es replies result
     → MayAskAll (conduct (rights_of r s)) (known_in s) es replies × Ends s (after_all (conduct (rights_of r s)) (known_in s) es replies) result
+
+-- ---- what changes
+
+-- Each request, the first too.
+abbrev pub RequestsChangeWhatTheySay : Type 0
+RequestsChangeWhatTheySay = (r : Request) (s : Server) → AsksOnly (MayBeAsked r.operation) (request_plan r s)
+
+-- The same of what was asked.
+abbrev pub RunsChangeWhatRequestsSay : Type 0
+RunsChangeWhatRequestsSay =
+    (r : Request) (s : Server) (es : List Event) (replies : List Reply) (result : Response × Server) → IsRunOf (request_plan r s) es replies result
+    → All (MayBeAsked r.operation) es
 
 -- ---- what is opened
 

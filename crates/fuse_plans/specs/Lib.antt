@@ -16,5 +16,6 @@ pub mod Serving
 pub mod Protocol
 pub mod Acts
 pub mod Conduct
+pub mod Alterations
 pub mod Laws
 pub mod ShareLaws

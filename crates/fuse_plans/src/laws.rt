@@ -1,6 +1,6 @@
 //! The laws of the plans: each is the contract of a function that does nothing.
 ghost use Rattle.fuse_plans.specs.ShareLaws.{RequestsKeepShares, ProcessesAreFound, DirectoriesAreFound};
-ghost use Rattle.fuse_plans.specs.Laws.{BeginningBehaves, JudgedLookupsAreGranted, OpenedIsTheObject, RequestsBehave, RunsBehave, ToldNodesLeadToObjects, WhoAsksCountsOnlyWhereNeeded};
+ghost use Rattle.fuse_plans.specs.Laws.{BeginningBehaves, JudgedLookupsAreGranted, OpenedIsTheObject, RequestsBehave, RequestsChangeWhatTheySay, RunsChangeWhatRequestsSay, RunsBehave, ToldNodesLeadToObjects, WhoAsksCountsOnlyWhereNeeded};
 
 /// Whatever the machine replies, no request but the first is performed with more than the rights of who asks.
 ///
@@ -25,6 +25,23 @@ pub fn beginning_behaves()
 /// The same of what was asked, with the replies that were given.
 pub fn what_is_asked_may_be()
     ensures { RunsBehave }
+{}
+
+/// What changes of names and attributes comes of a request that says so.
+///
+/// Whatever the machine replies, no request asks for a call that changes more than the request says: which, `IsToldBy` lists. The
+/// size changes by SETATTR, and by OPEN and CREATE where they are to take the bytes; bytes change by WRITE, of the open file that its
+/// handle gives; mode, owner and group by SETATTR, where it gives them; a list by SETXATTR and REMOVEXATTR that name it; and a name
+/// is added, taken or moved by a request that gives that name. All other requests change nothing, and the disk is never stopped.
+/// [`requests_behave`] says on what: on an object that the request is about, or in the directory of the name.
+///
+/// So what the kernel was told stays true until it asks for a change itself, as long as its mount is the image's only writer. The
+/// answers of MKNOD, MKDIR, SYMLINK, LINK, CREATE and SETATTR tell what is there then; those of the others tell no attributes, and
+/// the kernel drops what it was told of the objects and directories of the request. A request that failed may have changed what it
+/// says all the same: SETATTR is done in parts, a name that was made may not have been shown, and a WRITE may end early.
+pub fn requests_change_what_they_say()
+    ensures may_be_asked { RequestsChangeWhatTheySay }
+    ensures asked { RunsChangeWhatRequestsSay }
 {}
 
 /// What an OPEN has opened is the object of its node.

@@ -1,0 +1,336 @@
+-- No plan of a request changes more than the request says.
+use Rattle.std.specs.Prelude.{◌≡◌, ℕ, Bool, true, false, List, [], ◌∷◌, All, Option, None, Some, is_some, IsTrue}
+use Rattle.std.proofs.Common.{refl, sym, subst}
+use Rattle.std.proofs.lemmas.List.Elements.{All-nil, All-cons}
+use Rattle.posix_acl.specs.AccessList.{AccessList}
+use Rattle.posix_acl.specs.declared.entry.Perms.{Perms}
+use Rattle.fs_cred.specs.Credentials.{Credential}
+use Rattle.fs_model.specs.declared.call.AclType.{AclType}
+use Rattle.fs_model.specs.declared.call.AclType.TheVariants.{Access as AccessAcl, Default}
+use Rattle.fs_model.specs.declared.call.Call.TheVariants.{Lstat}
+use Rattle.fs_model.specs.declared.event.Event.{Event}
+use Rattle.fs_model.specs.declared.reply.Reply.{Reply}
+use Rattle.fs_model.specs.declared.reply.Status.{Status}
+use Rattle.fuse_protocol.specs.declared.operation.AttrChanges.{AttrChanges}
+use Rattle.fuse_protocol.specs.declared.operation.Extent.{Extent}
+use Rattle.fuse_protocol.specs.declared.operation.Offer.{Offer}
+use Rattle.fuse_protocol.specs.declared.operation.Operation.{Operation}
+use Rattle.fuse_protocol.specs.declared.operation.Operation.TheVariants.{Lookup, Forget, GetAttr, SetAttr, ReadLink, SymLink, MkNod, MkDir, Unlink, RmDir, Rename, Link, Open, Read, Write, StatFs, Release, FSync, SetXAttr, GetXAttr, ListXAttr, RemoveXAttr, Init, OpenDir, ReadDir, ReleaseDir, FSyncDir, Access, Create, Interrupt, Destroy, BatchForget, SyncFs, Unknown}
+use Rattle.fuse_protocol.specs.declared.reply.Time.{Time}
+use Rattle.fuse_state.specs.declared.directory.OpenDirectory.{OpenDirectory}
+use Rattle.fuse_state.specs.Servers.{Server, owner_of, descriptor_of}
+use Rattle.fuse_plans.specs.declared.reply.ReplyBody.{ReplyBody}
+use Rattle.fuse_plans.specs.declared.request.Asked.{Asked}
+use Rattle.fuse_plans.specs.Plans.{Plan, Finish, Ask, IsRunOf}
+use Rattle.fuse_plans.specs.Requests.{asked_of}
+use Rattle.fuse_plans.specs.Works.{Work}
+use Rattle.fuse_plans.specs.Callers.{look}
+use Rattle.fuse_plans.specs.Conduct.{IsOfHandle}
+use Rattle.fuse_plans.specs.NamePlans.{removal}
+use Rattle.fuse_plans.specs.AttributePlans.{get_attributes, no_owners, new_owners, set_size, set_owners, set_mode, may_set_times, set_times, change_attributes, set_attributes, read_link, access_as, ask_access}
+use Rattle.fuse_plans.specs.DirectoryPlans.{take_directory_if, take_directory, open_directory, tell_names, list_open, list_all, list_now, listed, read_directory, close_directory, sync_all}
+use Rattle.fuse_plans.specs.AclPlans.{acl_named, an_object, acl_of, sized, get_xattr, attribute_names, list_xattrs, set_acl, set_xattr, remove_xattr}
+use Rattle.fuse_plans.specs.Nobody.{is_masked, is_judged, needs_nobody, needs_nobody_in, unless_masked, asks_list}
+use Rattle.fuse_plans.specs.Serving.{or_looker, begin, count_space, end, plan_of, asked_for, response_of, answered, answered_as, request_plan}
+use Rattle.fuse_plans.specs.Alterations.{sets_list, IsToldIn, MayBeAsked, AsksOnly}
+use Rattle.fuse_plans.specs.Laws.{RequestsChangeWhatTheySay, RunsChangeWhatRequestsSay}
+use Rattle.fuse_plans.proofs.AlterPieces.{Gives, gives-give, gives-stop, gives-if, gives->>=, asks-then, told-two, asks-followed_by, Asks, asks-give, asks-stop, asks-kept, asks-keep, asks->>=, asks-attempt, asks-if, asks-when, asks-done, asks-needed, asks-needed_then, asks-obtain, asks-or_closed, asks-caller, asks-the_looker, asks-on, asks-by_looker, asks-look, asks-the_number, asks-directory_number}
+use Rattle.fuse_plans.proofs.AlterNames.{asks-find_name, asks-make_link, asks-make_directory, asks-make_file, asks-remove, asks-move_name, asks-add_link}
+use Rattle.fuse_plans.proofs.AlterFiles.{asks-call_open, asks-open_file, asks-create_file, asks-read_file, asks-write_file, asks-close_file, asks-sync_file}
+
+-- ---- attributes
+
+module _ {o : Option Operation} where
+  asks-get_attributes : (r : Asked) → Asks o (get_attributes r)
+  asks-get_attributes r = asks->>= (asks-the_number r.node) (λ n. asks->>= (asks-look n) (λ status. asks-kept _))
+
+  asks-read_link : (r : Asked) → Asks o (read_link r)
+  asks-read_link r =
+      asks->>= (asks-the_number r.node) (λ n.
+      asks->>= (asks-by_looker n _ (λ pid path. tt)) (λ reply. asks->>= (asks-needed _ _) (λ target. asks-give _)))
+
+  asks-access_as : (who : Option Credential) (n : ℕ) (perms : Perms) → Asks o (access_as who n perms)
+  asks-access_as who n perms = asks->>= (asks-caller who) (λ pid. asks-done (asks-on pid n _ (λ path. tt)))
+
+  asks-ask_access : (r : Asked) (mask : ℕ) → Asks o (ask_access r mask)
+  asks-ask_access r mask =
+      asks->>= (asks-the_number r.node) (λ n.
+      asks->>= (asks-kept _) (λ kind. asks->>= (asks-when _ _ (asks-access_as r.cred n _)) (λ may. asks-give _)))
+
+-- an owner and a group are set only where they are given
+record AreGiven (c : AttrChanges) (owners : Option ℕ × Option ℕ) : Type 0 where
+  owner : is_some owners.0 ≡ true → IsTrue (is_some c.uid)
+  group : is_some owners.1 ≡ true → IsTrue (is_some c.gid)
+
+none_given : {c : AttrChanges} → AreGiven c no_owners
+none_given = record { owner = λ is. absurd (let no : false ≡ true = is in cc); group = λ is. absurd (let no : false ≡ true = is in cc) }
+
+-- the attributes that a SETATTR sets
+module _ (r : Asked) (c : AttrChanges) where
+  abbrev Setting : Option Operation
+  Setting = Some (SetAttr c)
+
+  asks-set_size : (now : Time) (pid n : ℕ) (handle size : Option ℕ) → c.handle ≡ handle → c.size ≡ size → Asks Setting (set_size now pid n handle size)
+  asks-set_size now pid n handle None is_handle is_size = asks-give tt
+  asks-set_size now pid n None (Some size) is_handle is_size = asks->>= (asks-on pid n _ (λ path. (is_size, tt))) (λ reply. asks-keep _)
+  asks-set_size now pid n (Some handle) (Some size) is_handle is_size =
+      asks->>= (asks-call_open handle _ ((is_size, subst (λ h. IsOfHandle h (owner_of handle) (descriptor_of handle)) (sym is_handle) (refl, refl)), tt)) (λ reply.
+      asks-keep _)
+
+  asks-set_owners : (now : Time) (pid n : ℕ) (owners : Option ℕ × Option ℕ) → AreGiven c owners → Asks Setting (set_owners now pid n owners)
+  asks-set_owners now pid n owners given =
+      asks-when _ _ (asks->>= (asks-on pid n _ (λ path. told-two Setting _ _ _ _ given.owner given.group)) (λ reply. asks-keep _))
+
+  asks-set_mode : (now : Time) (pid n : ℕ) (mode : Option ℕ) → c.mode ≡ mode → Asks Setting (set_mode now pid n mode)
+  asks-set_mode now pid n None is = asks-give tt
+  asks-set_mode now pid n (Some mode) is = asks->>= (asks-on pid n _ (λ path. (subst (λ m. IsTrue (is_some m)) (sym is) refl, tt))) (λ reply. asks-keep _)
+
+  asks-may_set_times : (pid n : ℕ) (link owner : Bool) → Asks Setting (may_set_times pid n link owner c)
+  asks-may_set_times pid n link true = asks-give tt
+  asks-may_set_times pid n link false = asks-if _ _ _ (asks-stop _) (asks-done (asks-on pid n _ (λ path. tt)))
+
+  asks-set_times : (pid n : ℕ) (link : Bool) (status : Status) → Asks Setting (set_times r pid n link status c)
+  asks-set_times pid n link status =
+      asks-when _ _
+      (asks->>= (asks-needed _ r.cred) (λ cred. asks->>= (asks-may_set_times pid n link _) (λ may. asks-keep _)))
+
+  -- those that are given, or none
+  gives-new_owners : (n : ℕ) (link : Bool) → Gives (AreGiven c) (new_owners c n link)
+  gives-new_owners n false = gives-give _ (record { owner = λ is. is; group = λ is. is })
+  gives-new_owners n true =
+      gives-if _ _ _ (gives-stop _)
+      (gives->>= (look n) _ (λ status. gives-if _ _ _ (gives-stop _) (gives-give no_owners none_given)))
+
+  asks-new_owners : (n : ℕ) (link : Bool) → Asks Setting (new_owners c n link)
+  asks-new_owners n false = asks-give _
+  asks-new_owners n true =
+      asks-if _ _ _ (asks-stop _) (asks->>= (asks-look n) (λ status. asks-if _ _ _ (asks-stop _) (asks-give _)))
+
+  asks-change_attributes : (now : Time) (pid n : ℕ) (link : Bool) → Asks Setting (change_attributes now pid n link c)
+  asks-change_attributes now pid n link =
+      asks-then (asks-new_owners n link) (gives-new_owners n link) (λ owners given.
+      asks->>= (asks-set_size now pid n c.handle c.size refl refl) (λ sized.
+      asks->>= (asks-set_owners now pid n owners given) (λ owned. asks-set_mode now pid n c.mode refl)))
+
+  asks-set_attributes : Asks Setting (set_attributes r c)
+  asks-set_attributes =
+      asks->>= (asks-the_number r.node) (λ n.
+      asks->>= (asks-caller r.cred) (λ pid.
+      asks->>= (asks-kept _) (λ kind.
+      asks->>= (asks-change_attributes r.now pid n _) (λ changed.
+      asks->>= (asks-look n) (λ status.
+      asks->>= (asks-set_times pid n _ status) (λ times. asks-kept _))))))
+
+-- ---- lists
+
+module _ {o : Option Operation} where
+  asks-an_object : (r : Asked) → Asks o (an_object r)
+  asks-an_object r =
+      asks->>= (asks-the_number r.node) (λ n. asks->>= (asks-kept _) (λ has. asks-if has _ _ (asks-give n) (asks-stop _)))
+
+  asks-acl_of : (n : ℕ) (which : AclType) → Asks o (acl_of n which)
+  asks-acl_of n which =
+      asks->>= (asks-by_looker n _ (λ pid path. tt)) (λ reply. asks->>= (asks-needed _ _) (λ acl. asks-give _))
+
+  asks-sized : (size has : ℕ) (body : ReplyBody) → Asks o (sized size has body)
+  asks-sized size has body = asks-if _ _ _ (asks-give _) (asks-if _ _ _ (asks-stop _) (asks-give body))
+
+  asks-get_xattr : (r : Asked) (name : List ℕ) (size : ℕ) → Asks o (get_xattr r name size)
+  asks-get_xattr r name size =
+      asks->>= (asks-needed _ _) (λ which.
+      asks->>= (asks-an_object r) (λ n.
+      asks->>= (asks-acl_of n which) (λ found. asks->>= (asks-needed _ found) (λ acl. asks-sized size _ _))))
+
+  asks-attribute_names : (n : ℕ) (has : Bool) → Asks o (attribute_names n has)
+  asks-attribute_names n false = asks-give []
+  asks-attribute_names n true = asks->>= (asks-acl_of n AccessAcl) (λ access. asks->>= (asks-acl_of n Default) (λ default. asks-give _))
+
+  asks-list_xattrs : (r : Asked) (size : ℕ) → Asks o (list_xattrs r size)
+  asks-list_xattrs r size =
+      asks->>= (asks-the_number r.node) (λ n.
+      asks->>= (asks-kept _) (λ has. asks->>= (asks-attribute_names n has) (λ names. asks-sized size _ _)))
+
+  asks-set_acl : (r : Asked) (which : AclType) (wanted : Option AccessList) → IsToldIn o (sets_list which) → Asks o (set_acl r which wanted)
+  asks-set_acl r which wanted told =
+      asks->>= (asks-an_object r) (λ n.
+      asks->>= (asks-kept _) (λ kind.
+      asks->>= (asks-when _ _ (asks-stop _)) (λ allowed.
+      asks->>= (asks-caller r.cred) (λ pid.
+      asks->>= (asks-if _ _ _ (asks->>= (asks-look n) (λ status. asks-give _)) (asks-give wanted)) (λ acl.
+      asks->>= (asks-on pid n _ (λ path. (told, tt))) (λ reply.
+      asks->>= (asks-keep _) (λ done. asks-give _)))))))
+
+asks-set_xattr : (r : Asked) (name bytes : List ℕ) (value : Option (Option AccessList)) → Asks (Some (SetXAttr name bytes)) (set_xattr r name value)
+asks-set_xattr r name bytes value =
+    asks-needed_then _ (acl_named name) (λ which is. asks->>= (asks-needed _ value) (λ acl. asks-set_acl r which acl is))
+
+asks-remove_xattr : (r : Asked) (name : List ℕ) → Asks (Some (RemoveXAttr name)) (remove_xattr r name)
+asks-remove_xattr r name = asks-needed_then _ (acl_named name) (λ which is. asks-set_acl r which None is)
+
+-- ---- directories and the whole
+
+module _ {o : Option Operation} where
+  asks-open_directory : (r : Asked) → Asks o (open_directory r)
+  unfolding take_directory
+  asks-open_directory r =
+      asks->>= (asks-directory_number r.node) (λ n.
+      asks->>= (asks-needed _ r.cred) (λ cred.
+      asks->>= (asks-kept _) (λ placed.
+      asks->>= (asks-when placed _ (asks-access_as r.cred n _)) (λ may. asks->>= (asks-kept _) (takes cred.uid n)))))
+    where
+      takes : (uid n : ℕ) (may : Bool) → Asks o (take_directory_if uid n may)
+      takes uid n false = asks-stop _
+      takes uid n true = asks->>= (asks-kept _) (λ handle. asks->>= (asks-keep _) (λ held. asks-give _))
+
+  asks-list_all : (n : ℕ) (placed : Bool) → Asks o (list_all n placed)
+  unfolding tell_names list_open
+  asks-list_all n false = asks-give []
+  asks-list_all n true =
+      asks->>= asks-the_looker (λ pid.
+      asks->>= (asks-on pid n _ (λ path. tt)) (λ opened.
+      asks->>= (asks-needed _ _) (λ fd.
+      asks->>= (asks->>= (asks-attempt (asks->>= (asks-obtain _ tt) (λ reply. asks-needed _ _))) (λ seen. asks-or_closed pid fd seen)) (λ names.
+      asks->>= (asks-obtain _ tt) (λ closed. asks-give names)))))
+
+  asks-list_now : (node handle number : ℕ) → Asks o (list_now node handle number)
+  asks-list_now node handle number =
+      asks->>= (asks-the_number node) (λ n.
+      asks->>= (asks-if _ _ _ (asks-give tt) (asks-stop _)) (λ same.
+      asks->>= (asks-kept _) (λ placed.
+      asks->>= (asks-list_all n placed) (λ names. asks->>= (asks-keep _) (λ listed. asks-give names)))))
+
+  asks-listed : (node handle : ℕ) (d : OpenDirectory) (anew : Bool) (known : Option (List (List ℕ × ℕ))) → Asks o (listed node handle d anew known)
+  asks-listed node handle d false (Some names) = asks-give names
+  asks-listed node handle d false None = asks-list_now node handle d.number
+  asks-listed node handle d true known = asks-list_now node handle d.number
+
+  asks-read_directory : (node : ℕ) (extent : Extent) → Asks o (read_directory node extent)
+  unfolding read_directory
+  asks-read_directory node extent =
+      asks->>= (asks-kept _) (λ known.
+      asks->>= (asks-needed _ known) (λ d. asks->>= (asks-listed node extent.handle d _ _) (λ names. asks-give _)))
+
+  asks-close_directory : (handle : ℕ) → Asks o (close_directory handle)
+  unfolding close_directory
+  asks-close_directory handle = asks->>= (asks-keep _) (λ done. asks-give _)
+
+  asks-sync_all : Asks o sync_all
+  unfolding sync_all
+  asks-sync_all = asks->>= (asks-obtain _ tt) (λ done. asks-give _)
+
+  asks-end : Asks o end
+  unfolding end
+  asks-end = asks->>= (asks-keep _) (λ done. asks-sync_all)
+
+  asks-count_space : Asks o count_space
+  unfolding count_space
+  asks-count_space = asks->>= (asks-obtain _ tt) (λ reply. asks->>= (asks-needed _ _) (λ free. asks-kept _))
+
+  asks-or_looker : (looker : Option ℕ) → Asks o (or_looker looker)
+  asks-or_looker (Some pid) = asks-give tt
+  asks-or_looker None = asks->>= (asks-obtain _ tt) (λ reply. asks->>= (asks-needed _ _) (λ pid. asks-keep _))
+
+  asks-begin : (offer : Offer) → Asks o (begin offer)
+  unfolding begin
+  asks-begin offer =
+      asks-if _ _ _ (asks-stop _)
+      (asks-if _ _ _ (asks-give _)
+      (asks->>= (asks-kept _) (λ looker.
+      asks->>= (asks-or_looker looker) (λ begun. asks->>= (asks-keep _) (λ offered. asks-kept _)))))
+
+-- ---- requests
+
+-- the work of a request, if it has a reply
+abbrev AsksIfAny : Option Operation → Option (Work ReplyBody) → Type 0
+AsksIfAny o None = Unit {0}
+AsksIfAny o (Some w) = Asks o w
+
+asks-plan : (r : Asked) (value : Option (Option AccessList)) (operation : Operation) → AsksIfAny (Some operation) (plan_of r value operation)
+asks-plan r value (Lookup name) = asks-find_name r name
+asks-plan r value Forget = tt
+asks-plan r value GetAttr = asks-get_attributes r
+asks-plan r value (SetAttr changes) = asks-set_attributes r changes
+asks-plan r value ReadLink = asks-read_link r
+asks-plan r value (SymLink name target) = asks-make_link r name target refl
+asks-plan r value (MkNod name mode umask) = asks-make_file r name mode umask refl
+asks-plan r value (MkDir name mode umask) = asks-make_directory r name mode umask refl
+asks-plan r value (Unlink name) = asks-remove r (removal false) name (λ pid. (refl, tt))
+asks-plan r value (RmDir name) = asks-remove r (removal true) name (λ pid. (refl, tt))
+asks-plan r value (Rename name new_directory new_name flags) = asks-move_name r name new_directory new_name flags (refl, refl)
+asks-plan r value (Link old_node name) = asks-add_link r old_node name refl
+asks-plan r value (Open flags) = asks-open_file flags.0 (λ is. (is, refl)) r (λ pid fd is. (is, refl))
+asks-plan r value (Read extent) = asks-read_file extent
+asks-plan r value (Write handle offset bytes) = asks-write_file r handle offset bytes (refl, refl)
+asks-plan r value StatFs = asks-count_space
+asks-plan r value (Release handle) = asks-close_file handle
+asks-plan r value (FSync handle) = asks-sync_file handle
+asks-plan r value (SetXAttr name bytes) = asks-set_xattr r name bytes value
+asks-plan r value (GetXAttr name size) = asks-get_xattr r name size
+asks-plan r value (ListXAttr size) = asks-list_xattrs r size
+asks-plan r value (RemoveXAttr name) = asks-remove_xattr r name
+asks-plan r value (Init offer) = asks-begin offer
+asks-plan r value OpenDir = asks-open_directory r
+asks-plan r value (ReadDir extent) = asks-read_directory r.node extent
+asks-plan r value (ReleaseDir handle) = asks-close_directory handle
+asks-plan r value FSyncDir = asks-sync_all
+asks-plan r value (Access mask) = asks-ask_access r mask
+asks-plan r value (Create name flags mode umask) = asks-create_file flags.0 (λ is. (is, refl)) r name mode umask refl
+asks-plan r value Interrupt = tt
+asks-plan r value Destroy = asks-end
+asks-plan r value BatchForget = tt
+asks-plan r value SyncFs = asks-sync_all
+asks-plan r value Unknown = asks-stop _
+
+asks-asked_for : (r : Asked) (value : Option (Option AccessList)) (operation : Option Operation) → AsksIfAny operation (asked_for r value operation)
+asks-asked_for r value None = asks-stop _
+asks-asked_for r value (Some operation) = asks-plan r value operation
+
+asks-answered : (o : Option Operation) (memory : Bool) (work : Option (Work ReplyBody)) (s : Server) → AsksIfAny o work → AsksOnly (MayBeAsked o) (answered memory work s)
+asks-answered o memory None s asks = tt
+asks-answered o true (Some w) s asks = asks-followed_by (MayBeAsked o) (w s) (λ r. Finish (response_of r.0, r.1)) (asks.at s) (λ r. tt)
+asks-answered o false (Some w) s asks = tt
+
+module _ {o : Option Operation} where
+  asks-asks_list : (n : ℕ) (status : Status) → Asks o (asks_list n status)
+  asks-asks_list n status = asks-if _ _ _ (asks->>= (asks-acl_of n AccessAcl) (λ acl. asks-give _)) (asks-give false)
+
+  asks-is_masked : (node : ℕ) → Asks o (is_masked node)
+  unfolding is_masked
+  asks-is_masked node =
+      asks->>= (asks-directory_number node) (λ n.
+      asks->>= (asks->>= (asks-by_looker n Lstat (λ pid path. tt)) (λ reply. asks-needed _ _)) (asks-asks_list n))
+
+asks-is_judged : (o : Option Operation) (node : ℕ) (judges : Bool) (s : Server) → AsksOnly (MayBeAsked o) (is_judged node judges s)
+asks-is_judged o node false s = tt
+asks-is_judged o node true s = asks-followed_by (MayBeAsked o) (is_masked node s) (λ r. Finish (unless_masked r.0)) ((asks-is_masked node).at s) (λ r. tt)
+
+asks-needs_nobody : (o : Option Operation) (node : ℕ) (operation : Operation) (s : Server) → AsksOnly (MayBeAsked o) (needs_nobody node operation s)
+asks-needs_nobody o node (Lookup name) s = asks-is_judged o node s.settings.posix_acl s
+asks-needs_nobody o node _ s = tt
+
+-- whether it needs nobody is found by looking
+asks-needs_nobody_in : (o : Option Operation) (node : ℕ) (operation : Option Operation) (s : Server) → AsksOnly (MayBeAsked o) (needs_nobody_in node operation s)
+asks-needs_nobody_in o node None s = tt
+asks-needs_nobody_in o node (Some operation) s = asks-needs_nobody o node operation s
+
+pub requests_change_what_they_say : RequestsChangeWhatTheySay
+unfolding request_plan
+requests_change_what_they_say r s =
+    asks-followed_by (MayBeAsked r.operation) (needs_nobody_in r.node r.operation s) (λ nobody. answered_as nobody r s)
+    (asks-needs_nobody_in r.operation r.node r.operation s)
+    (λ nobody. asks-answered r.operation r.memory _ s (asks-asked_for (asked_of r nobody) r.value r.operation))
+
+-- ---- what was asked
+
+-- what may be asked alone was asked
+asks-run : {X : Type 0} (May : Event → Type 0) (p : Plan X) (es : List Event) (replies : List Reply) (x : X) → AsksOnly May p → IsRunOf p es replies x → All May es
+asks-run May (Finish y) [] replies x asks runs = All-nil May
+asks-run May (Finish y) (e ∷ es) replies x asks runs = elim runs [ ]
+asks-run May (Ask e next) [] replies x asks runs = All-nil May
+asks-run May (Ask e next) (f ∷ es) [] x asks runs = elim runs [ ]
+asks-run May (Ask e next) (f ∷ es) (reply ∷ replies) x asks runs =
+    All-cons May f es (subst May (sym runs.0) asks.0) (asks-run May (next reply) es replies x (asks.1 reply) runs.1)
+
+pub runs_change_what_requests_say : RunsChangeWhatRequestsSay
+runs_change_what_requests_say r s es replies result runs =
+    asks-run (MayBeAsked r.operation) (request_plan r s) es replies result (requests_change_what_they_say r s) runs

@@ -1,0 +1,110 @@
+-- Which requests change what the kernel was told of names and attributes.
+--     Alteration, alterations_by        what a call may change of them
+--     IsToldBy, IsToldIn, AreTold        a request says that it changes so much
+--     MayBeAsked        what may be asked for a request
+--     AsksOnly        whatever is replied, a plan asks only such events
+use Rattle.std.specs.Prelude.{◌≡◌, ℕ, Bool, true, false, List, [], ◌∷◌, ◌++◌, Option, None, Some, is_some, IsTrue}
+use Rattle.fs_model.specs.declared.call.AclType.{AclType}
+use Rattle.fs_model.specs.declared.call.Call.{Call}
+use Rattle.fs_model.specs.declared.call.Call.TheVariants.{Open as OpenCall, Write as WriteCall, Truncate, Ftruncate, Chmod, Chown, SetAcl, Mkdir, Rmdir, Link as LinkCall, Symlink, Unlink as UnlinkCall, Rename as RenameCall}
+use Rattle.fs_model.specs.declared.event.Event.{Event}
+use Rattle.fs_model.specs.declared.event.Event.TheVariants.{Call as Calls, Arm, Restart}
+use Rattle.fs_model.specs.declared.reply.Reply.{Reply}
+use Rattle.fuse_protocol.specs.declared.operation.Operation.{Operation}
+use Rattle.fuse_protocol.specs.declared.operation.Operation.TheVariants.{SetAttr, SymLink, MkNod, MkDir, Unlink, RmDir, Rename, Link, Open, Write, SetXAttr, RemoveXAttr, Create}
+use Rattle.fuse_plans.specs.Plans.{Plan, Finish, Ask}
+use Rattle.fuse_plans.specs.AclPlans.{acl_named}
+use Rattle.fuse_plans.specs.Conduct.{IsOfHandle}
+use Rattle.fuse_plans.specs.Flags.{is_trunc}
+
+-- ---- what a call may change
+
+-- A change of what the kernel may have been told: of the attributes and lists of an object, or of the names in a directory. Where
+-- names change, so do the attributes of the directory, and how many names the object has.
+pub data Alteration : Type 0 where
+  -- what is found under a path has so many bytes from now on
+  resizes : ℕ → Alteration
+  -- what a process has open under a descriptor has
+  resizes_open : (pid fd size : ℕ) → Alteration
+  -- what is open there has other bytes, and may have more
+  writes_open : (pid fd : ℕ) → Alteration
+  sets_mode : Alteration
+  sets_owner : Alteration
+  sets_group : Alteration
+  -- the list that decides on access says the mode too
+  sets_list : AclType → Alteration
+  -- by a new object, or by one more name of another
+  adds_name : List ℕ → Alteration
+  takes_name : List ℕ → Alteration
+  -- the second may have led to another object
+  moves_name : List ℕ → List ℕ → Alteration
+
+abbrev pub where_so : Bool → Alteration → List Alteration
+where_so true a = a ∷ []
+where_so false a = []
+
+-- What a call of a process may change. All others only show what is there, or change what is the process's own.
+abbrev pub alterations_by : ℕ → Call → List Alteration
+alterations_by pid (OpenCall path flags mode) = where_so flags.create (adds_name path) ++ where_so flags.trunc (resizes 0)
+alterations_by pid (WriteCall fd bytes) = writes_open pid fd ∷ []
+alterations_by pid (Truncate path size) = resizes size ∷ []
+alterations_by pid (Ftruncate fd size) = resizes_open pid fd size ∷ []
+alterations_by pid (Chmod path mode) = sets_mode ∷ []
+alterations_by pid (Chown path owner group) = where_so (is_some owner) sets_owner ++ where_so (is_some group) sets_group
+alterations_by pid (SetAcl path which acl) = sets_list which ∷ []
+alterations_by pid (Mkdir path mode) = adds_name path ∷ []
+alterations_by pid (Rmdir path) = takes_name path ∷ []
+alterations_by pid (LinkCall old new) = adds_name new ∷ []
+alterations_by pid (Symlink target path) = adds_name path ∷ []
+alterations_by pid (UnlinkCall path) = takes_name path ∷ []
+alterations_by pid (RenameCall old new) = moves_name old new ∷ []
+alterations_by pid call = []
+
+-- ---- what a request says
+
+-- By such a request the kernel knows of the change. All others change nothing that it was told.
+abbrev pub IsToldBy : Operation → Alteration → Type 0
+IsToldBy (SetAttr changes) (resizes size) = changes.size ≡ Some size
+IsToldBy (SetAttr changes) (resizes_open pid fd size) = (changes.size ≡ Some size) × IsOfHandle changes.handle pid fd
+IsToldBy (SetAttr changes) sets_mode = IsTrue (is_some changes.mode)
+IsToldBy (SetAttr changes) sets_owner = IsTrue (is_some changes.uid)
+IsToldBy (SetAttr changes) sets_group = IsTrue (is_some changes.gid)
+IsToldBy (SetXAttr name value) (sets_list which) = acl_named name ≡ Some which
+IsToldBy (RemoveXAttr name) (sets_list which) = acl_named name ≡ Some which
+IsToldBy (Open flags) (resizes size) = IsTrue (is_trunc flags.0) × (size ≡ 0)
+IsToldBy (Open flags) (resizes_open pid fd size) = IsTrue (is_trunc flags.0) × (size ≡ 0)
+IsToldBy (Write handle offset bytes) (writes_open pid fd) = IsOfHandle (Some handle) pid fd
+IsToldBy (Create name flags mode umask) (adds_name path) = path ≡ name
+IsToldBy (Create name flags mode umask) (resizes size) = IsTrue (is_trunc flags.0) × (size ≡ 0)
+IsToldBy (MkNod name mode umask) (adds_name path) = path ≡ name
+IsToldBy (MkDir name mode umask) (adds_name path) = path ≡ name
+IsToldBy (SymLink name target) (adds_name path) = path ≡ name
+IsToldBy (Link node name) (adds_name path) = path ≡ name
+IsToldBy (Unlink name) (takes_name path) = path ≡ name
+IsToldBy (RmDir name) (takes_name path) = path ≡ name
+IsToldBy (Rename name new_directory new_name flags) (moves_name old new) = (old ≡ name) × (new ≡ new_name)
+IsToldBy operation alteration = ⊥
+
+-- a request whose body isn't of its form says nothing
+abbrev pub IsToldIn : Option Operation → Alteration → Type 0
+IsToldIn None alteration = ⊥
+IsToldIn (Some operation) alteration = IsToldBy operation alteration
+
+-- all of them
+abbrev pub AreTold : Option Operation → List Alteration → Type 0
+AreTold operation [] = Unit {0}
+AreTold operation (alteration ∷ others) = IsToldIn operation alteration × AreTold operation others
+
+-- ---- what is asked
+
+-- No call changes more than the request says; and but for calls only a disk that stops may change what the kernel was told.
+abbrev pub MayBeAsked : Option Operation → Event → Type 0
+MayBeAsked operation (Calls pid call) = AreTold operation (alterations_by pid call)
+MayBeAsked operation (Arm after) = ⊥
+MayBeAsked operation (Restart choice arm) = ⊥
+MayBeAsked operation event = Unit {0}
+
+-- Whatever is replied, the plan asks only such events.
+abbrev pub AsksOnly : {X : Type 0} → (Event → Type 0) → Plan X → Type 0
+AsksOnly May (Finish x) = Unit {0}
+AsksOnly May (Ask e next) = May e × ((reply : Reply) → AsksOnly May (next reply))
