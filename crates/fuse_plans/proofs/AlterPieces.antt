@@ -251,6 +251,9 @@ module _ {o : Option Operation} where
   asks-standing_directory node =
       asks->>= (asks-directory_number node) (λ n. asks->>= (asks-kept _) (λ placed. asks-if placed _ _ (asks-give n) (asks-stop _)))
 
+-- each piece, for a search
+pub ruleset pieces = (asks->>=, asks-give, asks-stop, asks-kept, asks-keep, asks-attempt, asks-if, asks-when, asks-done, asks-needed, asks-ask, asks-obtain, asks-or_closed, asks-caller, asks-caller_with_room, asks-the_looker, asks-between, asks-done_between, asks-look_inside, asks-by_places, asks-on, asks-by_looker, asks-look, asks-the_number, asks-directory_number, asks-standing_directory)
+
 -- ---- what is known of a value
 
 -- what a work gives is so

@@ -6,8 +6,6 @@ use Rattle.posix_acl.specs.AccessList.{AccessList}
 use Rattle.posix_acl.specs.declared.entry.Perms.{Perms}
 use Rattle.fs_cred.specs.Credentials.{Credential}
 use Rattle.fs_model.specs.declared.call.AclType.{AclType}
-use Rattle.fs_model.specs.declared.call.AclType.TheVariants.{Access as AccessAcl, Default}
-use Rattle.fs_model.specs.declared.call.Call.TheVariants.{Lstat}
 use Rattle.fs_model.specs.declared.event.Event.{Event}
 use Rattle.fs_model.specs.declared.reply.Reply.{Reply}
 use Rattle.fs_model.specs.declared.reply.Status.{Status}
@@ -34,7 +32,7 @@ use Rattle.fuse_plans.specs.Nobody.{is_masked, is_judged, needs_nobody, needs_no
 use Rattle.fuse_plans.specs.Serving.{or_looker, begin, count_space, end, plan_of, asked_for, response_of, answered, answered_as, request_plan}
 use Rattle.fuse_plans.specs.Alterations.{sets_list, IsToldIn, MayBeAsked, AsksOnly}
 use Rattle.fuse_plans.specs.Laws.{RequestsChangeWhatTheySay, RunsChangeWhatRequestsSay}
-use Rattle.fuse_plans.proofs.AlterPieces.{Gives, gives-give, gives-stop, gives-if, gives->>=, asks-then, told-two, asks-followed_by, Asks, asks-give, asks-stop, asks-kept, asks-keep, asks->>=, asks-attempt, asks-if, asks-when, asks-done, asks-needed, asks-needed_then, asks-obtain, asks-or_closed, asks-caller, asks-the_looker, asks-on, asks-by_looker, asks-look, asks-the_number, asks-directory_number}
+use Rattle.fuse_plans.proofs.AlterPieces.{pieces, Gives, gives-give, gives-stop, gives-if, gives->>=, asks-then, told-two, asks-followed_by, Asks, asks-give, asks-stop, asks-keep, asks->>=, asks-when, asks-needed, asks-needed_then, asks-on}
 use Rattle.fuse_plans.proofs.AlterNames.{asks-find_name, asks-make_link, asks-make_directory, asks-make_file, asks-remove, asks-move_name, asks-add_link}
 use Rattle.fuse_plans.proofs.AlterFiles.{asks-call_open, asks-open_file, asks-create_file, asks-read_file, asks-write_file, asks-close_file, asks-sync_file}
 
@@ -42,20 +40,16 @@ use Rattle.fuse_plans.proofs.AlterFiles.{asks-call_open, asks-open_file, asks-cr
 
 module _ {o : Option Operation} where
   asks-get_attributes : (r : Asked) → Asks o (get_attributes r)
-  asks-get_attributes r = asks->>= (asks-the_number r.node) (λ n. asks->>= (asks-look n) (λ status. asks-kept _))
+  asks-get_attributes r = search pieces depth 12
 
   asks-read_link : (r : Asked) → Asks o (read_link r)
-  asks-read_link r =
-      asks->>= (asks-the_number r.node) (λ n.
-      asks->>= (asks-by_looker n _ (λ pid path. tt)) (λ reply. asks->>= (asks-needed _ _) (λ target. asks-give _)))
+  asks-read_link r = search pieces depth 12
 
   asks-access_as : (who : Option Credential) (n : ℕ) (perms : Perms) → Asks o (access_as who n perms)
-  asks-access_as who n perms = asks->>= (asks-caller who) (λ pid. asks-done (asks-on pid n _ (λ path. tt)))
+  asks-access_as who n perms = search pieces depth 12
 
   asks-ask_access : (r : Asked) (mask : ℕ) → Asks o (ask_access r mask)
-  asks-ask_access r mask =
-      asks->>= (asks-the_number r.node) (λ n.
-      asks->>= (asks-kept _) (λ kind. asks->>= (asks-when _ _ (asks-access_as r.cred n _)) (λ may. asks-give _)))
+  asks-ask_access r mask = search (pieces, asks-access_as) depth 16
 
 -- an owner and a group are set only where they are given
 record AreGiven (c : AttrChanges) (owners : Option ℕ × Option ℕ) : Type 0 where
@@ -87,12 +81,10 @@ module _ (r : Asked) (c : AttrChanges) where
 
   asks-may_set_times : (pid n : ℕ) (link owner : Bool) → Asks Setting (may_set_times pid n link owner c)
   asks-may_set_times pid n link true = asks-give tt
-  asks-may_set_times pid n link false = asks-if _ _ _ (asks-stop _) (asks-done (asks-on pid n _ (λ path. tt)))
+  asks-may_set_times pid n link false = search pieces depth 12
 
   asks-set_times : (pid n : ℕ) (link : Bool) (status : Status) → Asks Setting (set_times r pid n link status c)
-  asks-set_times pid n link status =
-      asks-when _ _
-      (asks->>= (asks-needed _ r.cred) (λ cred. asks->>= (asks-may_set_times pid n link _) (λ may. asks-keep _)))
+  asks-set_times pid n link status = search (pieces, asks-may_set_times) depth 16
 
   -- those that are given, or none
   gives-new_owners : (n : ℕ) (link : Bool) → Gives (AreGiven c) (new_owners c n link)
@@ -103,8 +95,7 @@ module _ (r : Asked) (c : AttrChanges) where
 
   asks-new_owners : (n : ℕ) (link : Bool) → Asks Setting (new_owners c n link)
   asks-new_owners n false = asks-give _
-  asks-new_owners n true =
-      asks-if _ _ _ (asks-stop _) (asks->>= (asks-look n) (λ status. asks-if _ _ _ (asks-stop _) (asks-give _)))
+  asks-new_owners n true = search pieces depth 12
 
   asks-change_attributes : (now : Time) (pid n : ℕ) (link : Bool) → Asks Setting (change_attributes now pid n link c)
   asks-change_attributes now pid n link =
@@ -113,52 +104,32 @@ module _ (r : Asked) (c : AttrChanges) where
       asks->>= (asks-set_owners now pid n owners given) (λ owned. asks-set_mode now pid n c.mode refl)))
 
   asks-set_attributes : Asks Setting (set_attributes r c)
-  asks-set_attributes =
-      asks->>= (asks-the_number r.node) (λ n.
-      asks->>= (asks-caller r.cred) (λ pid.
-      asks->>= (asks-kept _) (λ kind.
-      asks->>= (asks-change_attributes r.now pid n _) (λ changed.
-      asks->>= (asks-look n) (λ status.
-      asks->>= (asks-set_times pid n _ status) (λ times. asks-kept _))))))
+  asks-set_attributes = search (pieces, asks-change_attributes, asks-set_times) depth 20
 
 -- ---- lists
 
 module _ {o : Option Operation} where
   asks-an_object : (r : Asked) → Asks o (an_object r)
-  asks-an_object r =
-      asks->>= (asks-the_number r.node) (λ n. asks->>= (asks-kept _) (λ has. asks-if has _ _ (asks-give n) (asks-stop _)))
+  asks-an_object r = search pieces depth 12
 
   asks-acl_of : (n : ℕ) (which : AclType) → Asks o (acl_of n which)
-  asks-acl_of n which =
-      asks->>= (asks-by_looker n _ (λ pid path. tt)) (λ reply. asks->>= (asks-needed _ _) (λ acl. asks-give _))
+  asks-acl_of n which = search pieces depth 12
 
   asks-sized : (size has : ℕ) (body : ReplyBody) → Asks o (sized size has body)
-  asks-sized size has body = asks-if _ _ _ (asks-give _) (asks-if _ _ _ (asks-stop _) (asks-give body))
+  asks-sized size has body = search pieces depth 12
 
   asks-get_xattr : (r : Asked) (name : List ℕ) (size : ℕ) → Asks o (get_xattr r name size)
-  asks-get_xattr r name size =
-      asks->>= (asks-needed _ _) (λ which.
-      asks->>= (asks-an_object r) (λ n.
-      asks->>= (asks-acl_of n which) (λ found. asks->>= (asks-needed _ found) (λ acl. asks-sized size _ _))))
+  asks-get_xattr r name size = search (pieces, asks-an_object, asks-acl_of, asks-sized) depth 16
 
   asks-attribute_names : (n : ℕ) (has : Bool) → Asks o (attribute_names n has)
   asks-attribute_names n false = asks-give []
-  asks-attribute_names n true = asks->>= (asks-acl_of n AccessAcl) (λ access. asks->>= (asks-acl_of n Default) (λ default. asks-give _))
+  asks-attribute_names n true = search (pieces, asks-acl_of) depth 12
 
   asks-list_xattrs : (r : Asked) (size : ℕ) → Asks o (list_xattrs r size)
-  asks-list_xattrs r size =
-      asks->>= (asks-the_number r.node) (λ n.
-      asks->>= (asks-kept _) (λ has. asks->>= (asks-attribute_names n has) (λ names. asks-sized size _ _)))
+  asks-list_xattrs r size = search (pieces, asks-attribute_names, asks-sized) depth 12
 
   asks-set_acl : (r : Asked) (which : AclType) (wanted : Option AccessList) → IsToldIn o (sets_list which) → Asks o (set_acl r which wanted)
-  asks-set_acl r which wanted told =
-      asks->>= (asks-an_object r) (λ n.
-      asks->>= (asks-kept _) (λ kind.
-      asks->>= (asks-when _ _ (asks-stop _)) (λ allowed.
-      asks->>= (asks-caller r.cred) (λ pid.
-      asks->>= (asks-if _ _ _ (asks->>= (asks-look n) (λ status. asks-give _)) (asks-give wanted)) (λ acl.
-      asks->>= (asks-on pid n _ (λ path. (told, tt))) (λ reply.
-      asks->>= (asks-keep _) (λ done. asks-give _)))))))
+  asks-set_acl r which wanted told = search (pieces, asks-an_object, told) depth 20
 
 asks-set_xattr : (r : Asked) (name bytes : List ℕ) (value : Option (Option AccessList)) → Asks (Some (SetXAttr name bytes)) (set_xattr r name value)
 asks-set_xattr r name bytes value =
@@ -170,34 +141,21 @@ asks-remove_xattr r name = asks-needed_then _ (acl_named name) (λ which is. ask
 -- ---- directories and the whole
 
 module _ {o : Option Operation} where
+  asks-take_directory_if : (uid n : ℕ) (may : Bool) → Asks o (take_directory_if uid n may)
+  asks-take_directory_if uid n false = asks-stop _
+  asks-take_directory_if uid n true = search pieces depth 12
+
   asks-open_directory : (r : Asked) → Asks o (open_directory r)
   unfolding take_directory
-  asks-open_directory r =
-      asks->>= (asks-directory_number r.node) (λ n.
-      asks->>= (asks-needed _ r.cred) (λ cred.
-      asks->>= (asks-kept _) (λ placed.
-      asks->>= (asks-when placed _ (asks-access_as r.cred n _)) (λ may. asks->>= (asks-kept _) (takes cred.uid n)))))
-    where
-      takes : (uid n : ℕ) (may : Bool) → Asks o (take_directory_if uid n may)
-      takes uid n false = asks-stop _
-      takes uid n true = asks->>= (asks-kept _) (λ handle. asks->>= (asks-keep _) (λ held. asks-give _))
+  asks-open_directory r = search (pieces, asks-access_as, asks-take_directory_if) depth 16
 
   asks-list_all : (n : ℕ) (placed : Bool) → Asks o (list_all n placed)
   unfolding tell_names list_open
   asks-list_all n false = asks-give []
-  asks-list_all n true =
-      asks->>= asks-the_looker (λ pid.
-      asks->>= (asks-on pid n _ (λ path. tt)) (λ opened.
-      asks->>= (asks-needed _ _) (λ fd.
-      asks->>= (asks->>= (asks-attempt (asks->>= (asks-obtain _ tt) (λ reply. asks-needed _ _))) (λ seen. asks-or_closed pid fd seen)) (λ names.
-      asks->>= (asks-obtain _ tt) (λ closed. asks-give names)))))
+  asks-list_all n true = search pieces depth 20
 
   asks-list_now : (node handle number : ℕ) → Asks o (list_now node handle number)
-  asks-list_now node handle number =
-      asks->>= (asks-the_number node) (λ n.
-      asks->>= (asks-if _ _ _ (asks-give tt) (asks-stop _)) (λ same.
-      asks->>= (asks-kept _) (λ placed.
-      asks->>= (asks-list_all n placed) (λ names. asks->>= (asks-keep _) (λ listed. asks-give names)))))
+  asks-list_now node handle number = search (pieces, asks-list_all) depth 16
 
   asks-listed : (node handle : ℕ) (d : OpenDirectory) (anew : Bool) (known : Option (List (List ℕ × ℕ))) → Asks o (listed node handle d anew known)
   asks-listed node handle d false (Some names) = asks-give names
@@ -206,37 +164,31 @@ module _ {o : Option Operation} where
 
   asks-read_directory : (node : ℕ) (extent : Extent) → Asks o (read_directory node extent)
   unfolding read_directory
-  asks-read_directory node extent =
-      asks->>= (asks-kept _) (λ known.
-      asks->>= (asks-needed _ known) (λ d. asks->>= (asks-listed node extent.handle d _ _) (λ names. asks-give _)))
+  asks-read_directory node extent = search (pieces, asks-listed) depth 12
 
   asks-close_directory : (handle : ℕ) → Asks o (close_directory handle)
   unfolding close_directory
-  asks-close_directory handle = asks->>= (asks-keep _) (λ done. asks-give _)
+  asks-close_directory handle = search pieces depth 12
 
   asks-sync_all : Asks o sync_all
   unfolding sync_all
-  asks-sync_all = asks->>= (asks-obtain _ tt) (λ done. asks-give _)
+  asks-sync_all = search pieces depth 12
 
   asks-end : Asks o end
   unfolding end
-  asks-end = asks->>= (asks-keep _) (λ done. asks-sync_all)
+  asks-end = search (pieces, asks-sync_all) depth 12
 
   asks-count_space : Asks o count_space
   unfolding count_space
-  asks-count_space = asks->>= (asks-obtain _ tt) (λ reply. asks->>= (asks-needed _ _) (λ free. asks-kept _))
+  asks-count_space = search pieces depth 12
 
   asks-or_looker : (looker : Option ℕ) → Asks o (or_looker looker)
   asks-or_looker (Some pid) = asks-give tt
-  asks-or_looker None = asks->>= (asks-obtain _ tt) (λ reply. asks->>= (asks-needed _ _) (λ pid. asks-keep _))
+  asks-or_looker None = search pieces depth 12
 
   asks-begin : (offer : Offer) → Asks o (begin offer)
   unfolding begin
-  asks-begin offer =
-      asks-if _ _ _ (asks-stop _)
-      (asks-if _ _ _ (asks-give _)
-      (asks->>= (asks-kept _) (λ looker.
-      asks->>= (asks-or_looker looker) (λ begun. asks->>= (asks-keep _) (λ offered. asks-kept _)))))
+  asks-begin offer = search (pieces, asks-or_looker) depth 16
 
 -- ---- requests
 
@@ -292,13 +244,11 @@ asks-answered o false (Some w) s asks = tt
 
 module _ {o : Option Operation} where
   asks-asks_list : (n : ℕ) (status : Status) → Asks o (asks_list n status)
-  asks-asks_list n status = asks-if _ _ _ (asks->>= (asks-acl_of n AccessAcl) (λ acl. asks-give _)) (asks-give false)
+  asks-asks_list n status = search (pieces, asks-acl_of) depth 12
 
   asks-is_masked : (node : ℕ) → Asks o (is_masked node)
   unfolding is_masked
-  asks-is_masked node =
-      asks->>= (asks-directory_number node) (λ n.
-      asks->>= (asks->>= (asks-by_looker n Lstat (λ pid path. tt)) (λ reply. asks-needed _ _)) (asks-asks_list n))
+  asks-is_masked node = search (pieces, asks-asks_list) depth 12
 
 asks-is_judged : (o : Option Operation) (node : ℕ) (judges : Bool) (s : Server) → AsksOnly (MayBeAsked o) (is_judged node judges s)
 asks-is_judged o node false s = tt
