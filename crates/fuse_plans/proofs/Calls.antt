@@ -20,8 +20,7 @@ use Rattle.fuse_state.specs.declared.place.Place.{Place}
 use Rattle.fuse_state.specs.Servers.{Server, number_of, kind_of, places_of, first_of, WithinShares}
 use Rattle.fuse_plans.specs.Works.{Work, give, stop, kept, goes_on, ◌>>=◌, ◌>>◌, attempt, needed, ask, refusal_in, unless_refused, obtain, or_closed, replied_status, unexpected}
 use Rattle.fuse_plans.specs.Callers.{between, inside, done_between, look_inside, on, or_inside, standing_refusal, or_next, by_places, by_place, the_looker, by_looker, look, look_at, is_known_directory, the_number, directory_number, only_directory, standing_directory, has_place}
-use Rattle.fuse_plans.specs.Paths.{only_path}
-use Rattle.fuse_plans.specs.Acts.{Subject, Away, gone_to, node_of_object, own_directory, second_directory, IsStandingDirectory, IsObject, IsKnownPlace, IsOfRequest, is_known, is_itself, named_in, ActsWithin, on_one, Concerns, acts, on_root, without_path}
+use Rattle.fuse_plans.specs.Acts.{Subject, Away, gone_to, node_of_object, own_directory, second_directory, IsStandingDirectory, IsObject, IsKnownPlace, IsOfRequest, is_known, is_itself, named_in, path_kept, ActsWithin, on_one, Concerns, acts, on_root, without_path}
 use Rattle.fuse_plans.specs.Conduct
 use Rattle.fuse_plans.specs.Conduct.{Known, Rights, MayCall, as_caller, as_looker, shows, MayAsk, conduct, known_after, away_after, Fits, IsNobodyElse, MayEnter, IsCaller, only_looks}
 use Rattle.fuse_plans.proofs.Conducts.{Any, Still, still-number, still-places, Left, LeftTo, Does, Lasts, Gives, then-does_to, does-does_to, gives-give, gives-stop, does-give, does-stop, does-kept, does->>=, does-attempt, does-needed, does-unless_refused, fits-any}
@@ -30,9 +29,9 @@ use Rattle.fuse_plans.proofs.Conducts.{Any, Still, still-number, still-places, L
 abbrev pub CanCall : Rights → (Server → Type 0) → ℕ → Call → Type 0
 CanCall rights P pid call = (known : Known) (s : Server) → Fits rights P known s → MayCall rights known pid call
 
--- each call of these takes just the path
+-- each call of these takes just the path, and keeps its name
 abbrev pub IsPathOf : (List ℕ → Call) → Type 0
-IsPathOf call = (path : List ℕ) → only_path (call path) ≡ Some path
+IsPathOf call = (path : List ℕ) → path_kept (call path) ≡ Some path
 
 -- the object of the request, whose places are ones that may be used
 pub record About (rights : Rights) (P : Server → Type 0) (n : ℕ) : Type 0 where

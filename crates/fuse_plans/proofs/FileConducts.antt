@@ -17,7 +17,7 @@ use Rattle.fuse_state.specs.Changes.{told}
 use Rattle.fuse_state.proofs.Holders.{closed_within}
 use Rattle.fuse_state.specs.Servers.{Server, owner_of, descriptor_of}
 use Rattle.fuse_state.specs.declared.place.Place.{Place}
-use Rattle.fuse_plans.specs.Acts.{given_name, IsObject, IsStandingDirectory, IsOfRequest, is_given, named_in, on_one, Concerns, without_path}
+use Rattle.fuse_plans.specs.Acts.{given_name, IsObject, IsStandingDirectory, IsOfRequest, is_given, named_in, on_one, Concerns, without_path, IsGivenName, changes}
 use Rattle.fuse_plans.specs.Conduct.{Rights, stays, by_handle, is_on, IsByHandle}
 use Rattle.fuse_plans.specs.FilePlans.{touched_if, ask_first, open_object, open_file, or_opened, open_or_make, show_open, confirm_shown, confirm_open, look_open, tell_created, create_file, the_open, call_open, seek, seek_open, read_piece, read_pieces, read_file, or_done, write_piece, write_pieces, pieces_in, write_file, close_file}
 use Rattle.fuse_plans.specs.Flags.{is_trunc}
@@ -81,12 +81,12 @@ module _ {rights : Rights} (r : Asked) (is : rights.cred ≡ r.cred) (node : rig
   does-or_opened pid d name mode flags (Err e) can of =
       does-if _ _ _ (does->>= (does-between pid d d _ (can _ refl) (on_one name refl refl of)) (λ reply. does-give _)) (does-stop e)
 
-  does-open_or_make : (pid d : ℕ) (name : List ℕ) (mode : Mode) (flags file_mode : ℕ) → IsOfRequest rights.subject (named_in d name)
+  does-open_or_make : (pid d : ℕ) (name : List ℕ) (mode : Mode) (flags file_mode : ℕ) → IsGivenName rights.subject (named_in d name)
       → Does rights (OfOpener rights pid) (open_or_make pid d name mode flags file_mode)
   unfolding open_or_make
-  does-open_or_make pid d name mode flags file_mode of =
-      does->>= (does-attempt (does-between pid d d _ (opener-can pid _ refl) (on_one name refl refl of))) (λ first.
-      does-or_opened pid d name mode flags first (opener-can pid) of)
+  does-open_or_make pid d name mode flags file_mode in_it =
+      does->>= (does-attempt (does-between pid d d _ (opener-can pid _ refl) (changes name refl refl in_it))) (λ first.
+      does-or_opened pid d name mode flags first (opener-can pid) (is_given in_it))
 
   does-look_open : (pid fd : ℕ) → Does rights (OfOpener rights pid) (look_open pid fd)
   unfolding show_open look_open
@@ -111,7 +111,7 @@ module _ {rights : Rights} (r : Asked) (is : rights.cred ≡ r.cred) (node : rig
       lasts->>= (does-new_valid_of rights r.node d asks (subst (λ k. IsStandingDirectory rights.subject.start k d) node in_it.directory)) (λ name_valid.
       then-lasts (does-opener _ is) (λ pid more.
       lasts->>= (does-obtain pid _ (opener-can pid _ refl) (without_path refl refl refl)) (λ old.
-      lasts->>= (does-open_or_make pid d name mode flags file_mode (is_given in_it)) (λ opened.
+      lasts->>= (does-open_or_make pid d name mode flags file_mode in_it) (λ opened.
       lasts-with_handle pid opened.0 (λ handle owner.
       lasts->>= (does-look_open pid _) (λ status. lasts-tell_created _ _ _ opened.1 _ pid handle status owner)))))))))
 

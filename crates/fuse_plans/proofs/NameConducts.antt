@@ -21,8 +21,7 @@ use Rattle.fuse_state.specs.declared.place.Place.{Place}
 use Rattle.fuse_state.specs.Servers.{Server, places_of, named, kind_of, with_generation, with_name, without_name}
 use Rattle.fuse_state.specs.Changes.{is_gone, found, changed_if, removed, named_if, moved_to, moved, linked}
 use Rattle.fuse_state.proofs.StateLaws.{all_places_then}
-use Rattle.fuse_plans.specs.Paths.{only_path}
-use Rattle.fuse_plans.specs.Acts.{Subject, given_name, node_of_object, IsGivenName, IsNewName, is_new, IsStandingDirectory, IsObject, IsKnownPlace, IsOfRequest, is_given, is_new_name, named_in, ActsWithin, on_one, moves, links, without_path}
+use Rattle.fuse_plans.specs.Acts.{Subject, given_name, node_of_object, IsGivenName, IsNewName, is_new, IsStandingDirectory, IsObject, IsKnownPlace, IsOfRequest, is_given, is_new_name, named_in, path_changed, ActsWithin, on_one, changes, moves, links, without_path}
 use Rattle.fuse_plans.specs.Conduct.{Known, Rights, conduct, Fits, stays}
 use Rattle.fuse_plans.specs.Works.{give, stop, kept, keep, ◌>>=◌, ◌>>◌}
 use Rattle.fuse_plans.specs.Callers.{caller, the_looker, by_places}
@@ -183,7 +182,7 @@ module _ {rights : Rights} (r : Asked) (is : rights.cred ≡ r.cred) (node : rig
       then-lasts (gives-directory_for r node name given) (λ d in_it.
       lasts->>= (does-new_valid_in asks name d in_it) (λ name_valid.
       then-lasts (does-caller _ is) (λ pid more.
-      lasts->>= (does-done_between pid d d _ (caller-can pid _ refl) (on_one name refl refl (is_given in_it))) (λ done.
+      lasts->>= (does-done_between pid d d _ (caller-can pid _ refl) (changes name refl refl in_it)) (λ done.
       lasts-made _ name_valid d name (is_given in_it)))))
 
   pub lasts-make_directory : AsksOf rights r.node → (name : List ℕ) (mode umask : ℕ) → given_name rights.subject.operation ≡ Some name
@@ -193,7 +192,7 @@ module _ {rights : Rights} (r : Asked) (is : rights.cred ≡ r.cred) (node : rig
       lasts->>= (does-new_valid_in asks name d in_it) (λ name_valid.
       then-lasts (does-caller _ is) (λ pid more.
       lasts->>= (does-obtain pid _ (caller-can pid _ refl) (without_path refl refl refl)) (λ old.
-      lasts->>= (does-done_between pid d d _ (caller-can pid _ refl) (on_one name refl refl (is_given in_it))) (λ done.
+      lasts->>= (does-done_between pid d d _ (caller-can pid _ refl) (changes name refl refl in_it)) (λ done.
       lasts-made _ name_valid d name (is_given in_it))))))
 
   pub lasts-make_file : AsksOf rights r.node → (name : List ℕ) (mode umask : ℕ) → given_name rights.subject.operation ≡ Some name
@@ -204,14 +203,14 @@ module _ {rights : Rights} (r : Asked) (is : rights.cred ≡ r.cred) (node : rig
       lasts->>= (does-new_valid_in asks name d in_it) (λ name_valid.
       then-lasts (does-caller_with_room _ is) (λ pid more.
       lasts->>= (does-obtain pid _ (caller-can pid _ refl) (without_path refl refl refl)) (λ old.
-      lasts->>= (does-open_and_close pid d _ (caller-can pid) refl (on_one name refl refl (is_given in_it))) (λ done.
+      lasts->>= (does-open_and_close pid d _ (caller-can pid) refl (changes name refl refl in_it)) (λ done.
       lasts-made _ name_valid d name (is_given in_it)))))))
 
-  pub lasts-remove : (call : List ℕ → Call) (name : List ℕ) → IsTrue (stays (call name)) → only_path (call name) ≡ Some name
+  pub lasts-remove : (call : List ℕ → Call) (name : List ℕ) → IsTrue (stays (call name)) → path_changed (call name) ≡ Some name
       → given_name rights.subject.operation ≡ Some name → Lasts rights (Still rights) (remove r call name)
   lasts-remove call name puts takes given =
       then-lasts (does-directory_and_caller name given) (λ who in_it.
-      lasts->>= (does-done_between who.1 who.0 who.0 _ (caller-can who.1 _ puts) (on_one name refl takes (is_given in_it))) (λ gone.
+      lasts->>= (does-done_between who.1 who.0 who.0 _ (caller-can who.1 _ puts) (changes name refl takes in_it)) (λ gone.
       ends->>= (ends-keep _ (removed-same _ _)) (λ done. does-give _)))
 
   pub lasts-move_name : (name : List ℕ) (new_node : ℕ) (new_name : List ℕ) (flags : ℕ) → rights.subject.operation ≡ Some (Rename name new_node new_name flags)

@@ -2,8 +2,9 @@
 --     Subject        the request, and what the server knew when it began
 --     IsObject, IsKnownPlace        the object, and where the server knew it
 --     IsStandingDirectory, IsGivenName, IsNewName        names that are given, in directories that stand
+--     path_kept, path_changed        the path of a call, by whether the name stays
 --     ActsWithin, Concerns        in which directories a call may be made
-use Rattle.std.specs.Prelude.{◌≡◌, ℕ, List, codes, Option, None, Some, IsTrue}
+use Rattle.std.specs.Prelude.{◌≡◌, ℕ, List, codes, Option, None, Some, IsTrue, if◌then◌else◌}
 use Rattle.std.specs.List.{Contains}
 use Rattle.fs_model.specs.Limits.{root}
 use Rattle.fs_model.specs.declared.call.Call.{Call}
@@ -13,7 +14,7 @@ use Rattle.fuse_protocol.specs.declared.operation.Operation.TheVariants.{Lookup,
 use Rattle.fuse_state.specs.declared.place.Place.{Place}
 use Rattle.fuse_state.specs.Servers.{Server, number_of, places_of}
 use Rattle.fuse_plans.specs.Callers.{has_place}
-use Rattle.fuse_plans.specs.Paths.{only_path, names_in}
+use Rattle.fuse_plans.specs.Paths.{only_path, names_in, changes_name}
 
 -- the node that a request is asked of, what it asks, and what the server knew when it began
 pub record Subject : Type 0 where
@@ -86,10 +87,20 @@ pub data IsOfRequest (r : Subject) (p : Place) : Type 0 where
 abbrev pub named_in : ℕ → List ℕ → Place
 named_in directory name = record { directory = directory; name = name }
 
--- What may be asked with names of a directory, and with second names of another one: a call on one name that is of the request;
--- to rename what has the name that is given, to the new one; or to give the object the name that is given too, by a known one.
+-- The path of a call on what has the name, which that keeps; or of one that adds or takes the name.
+abbrev pub path_kept : Call → Option (List ℕ)
+path_kept call = if changes_name call then None else only_path call
+
+abbrev pub path_changed : Call → Option (List ℕ)
+path_changed call = if changes_name call then only_path call else None
+
+-- What may be asked with names of a directory, and with second names of another one: a call on one name that is of the request, which
+-- adds or takes it only where it is given; to rename what has the name that is given, to the new one; or to give the object the name
+-- that is given too, by a known one.
 pub data ActsWithin (r : Subject) (directory second : ℕ) (call : Call) : Type 0 where
-  on_one : (name : List ℕ) → second ≡ directory → only_path call ≡ Some name → IsOfRequest r (named_in directory name)
+  on_one : (name : List ℕ) → second ≡ directory → path_kept call ≡ Some name → IsOfRequest r (named_in directory name)
+      → ActsWithin r directory second call
+  changes : (name : List ℕ) → second ≡ directory → path_changed call ≡ Some name → IsGivenName r (named_in directory name)
       → ActsWithin r directory second call
   moves : (old new : List ℕ) → call ≡ RenameCall old new → IsGivenName r (named_in directory old) → IsNewName r (named_in second new)
       → ActsWithin r directory second call
@@ -118,5 +129,5 @@ second_directory (Some away) = away.second
 -- object.
 pub data Concerns (r : Subject) (away : Option Away) (call : Call) : Type 0 where
   acts : ActsWithin r (own_directory away) (second_directory away) call → Concerns r away call
-  on_root : away ≡ None → only_path call ≡ Some (codes "/") → IsObject r root → Concerns r away call
+  on_root : away ≡ None → path_kept call ≡ Some (codes "/") → IsObject r root → Concerns r away call
   without_path : away ≡ None → only_path call ≡ None → names_in call ≡ None → Concerns r away call

@@ -3,6 +3,7 @@
 --     takes_path        it has one, and of a link the old one counts
 --     name_in, names_in        the name that a call is about, or the two
 --     only_path        the path of a call that has just one
+--     changes_name        whether such a call adds or takes what the path names
 use Rattle.std.specs.Prelude.{ℕ, Bool, true, false, List, Option, None, Some}
 use Rattle.fs_model.specs.declared.call.Call.{Call}
 use Rattle.fs_model.specs.declared.call.Call.TheVariants.{Open, Stat, Lstat, Access, Truncate, Chmod, Chown, GetAcl, SetAcl, Readlink, Mkdir, Rmdir, Symlink, Unlink, Link, Rename, Chdir}
@@ -78,3 +79,12 @@ only_path (Readlink path) = Some path
 only_path (Unlink path) = Some path
 only_path (Chdir path) = Some path
 only_path call = None
+
+-- it may add the name, or takes it
+abbrev pub changes_name : Call → Bool
+changes_name (Open path flags mode) = flags.create
+changes_name (Mkdir path mode) = true
+changes_name (Rmdir path) = true
+changes_name (Symlink target path) = true
+changes_name (Unlink path) = true
+changes_name call = false

@@ -12,7 +12,7 @@ ghost use Rattle.fuse_plans.specs.Laws.{BeginningBehaves, JudgedLookupsAreGrante
 /// Each call acts on what the request is about, as the server knew it when the request began: on a name that the request gives, in
 /// the directory of its node, where that is the root or has a name; on the name by which the server knew the object of the node; or
 /// on the object itself, by a process that stands in it. Who has entered no directory may also make a call on a descriptor, or on
-/// the root, where that is the object.
+/// the root, where that is the object. A name is added, taken or moved only where the request gives it.
 pub fn requests_behave()
     ensures { RequestsBehave }
 {}
