@@ -3,6 +3,7 @@ pub mod AlterFiles
 pub mod AlterNames
 pub mod AlterPieces
 pub mod AlterRequests
+pub mod AlterSteps
 pub mod Calls
 pub mod Chosen
 pub mod Conducts

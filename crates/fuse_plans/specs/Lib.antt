@@ -17,5 +17,6 @@ pub mod Protocol
 pub mod Acts
 pub mod Conduct
 pub mod Alterations
+pub mod AlteredTrees
 pub mod Laws
 pub mod ShareLaws

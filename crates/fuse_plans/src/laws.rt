@@ -1,5 +1,6 @@
 //! The laws of the plans: each is the contract of a function that does nothing.
 ghost use Rattle.fuse_plans.specs.ShareLaws.{RequestsKeepShares, ProcessesAreFound, DirectoriesAreFound};
+ghost use Rattle.fuse_plans.specs.AlteredTrees.{StepsChangeWhatIsSaid};
 ghost use Rattle.fuse_plans.specs.Laws.{BeginningBehaves, JudgedLookupsAreGranted, OpenedIsTheObject, RequestsBehave, RequestsChangeWhatTheySay, RunsChangeWhatRequestsSay, RunsBehave, ToldNodesLeadToObjects, WhoAsksCountsOnlyWhereNeeded};
 
 /// Whatever the machine replies, no request but the first is performed with more than the rights of who asks.
@@ -42,6 +43,16 @@ pub fn what_is_asked_may_be()
 pub fn requests_change_what_they_say()
     ensures may_be_asked { RequestsChangeWhatTheySay }
     ensures asked { RunsChangeWhatRequestsSay }
+{}
+
+/// By no event the machine changes more of its tree than `alterations_by` says of the call.
+///
+/// Of a call of which it says nothing, and of an event that is no call, the tree stays, but for an object that has no name and that
+/// nobody has open any more. What is rewritten of an object is what is said: its bytes, its mode with the list that decides on access,
+/// the other list, its owner, its group; all else of it stays, and so do its names. And a name is added, taken or moved only where that
+/// is said.
+pub fn steps_change_what_is_said()
+    ensures { StepsChangeWhatIsSaid }
 {}
 
 /// What an OPEN has opened is the object of its node.

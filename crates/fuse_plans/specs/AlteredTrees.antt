@@ -1,0 +1,98 @@
+-- What calls change of the machine's tree: no more than is said of them.
+--     is_of_bytes, is_of_mode, ..        what an alteration is of
+--     KeepsUnsaid        in a node all else stays
+--     IsSaid        a change of the tree is one of these
+--     LeavesUnsaid        the tree after an event
+--     StepsChangeWhatIsSaid
+use Rattle.std.specs.Prelude.{◌≡◌, Bool, true, false, List, [], IsTrue, IsFalse}
+use Rattle.std.specs.List.{list_any}
+use Rattle.fs_model.specs.declared.call.AclType.TheVariants.{Access, Default}
+use Rattle.fs_model.specs.declared.event.Event.{Event}
+use Rattle.fs_model.specs.declared.event.Event.TheVariants.{Call as Calls}
+use Rattle.fs_model.specs.declared.reply.Reply.{Reply}
+use Rattle.fs_model.specs.Births.{the_node}
+use Rattle.fs_model.specs.Nodes.{Node, acl_in, bytes_in, default_in, names_in, shown_mode, target_in, type_of}
+use Rattle.fs_model.specs.States.{State}
+use Rattle.fs_model.specs.Steps.{Step}
+use Rattle.fs_model.specs.TreeChanges.{Change, Same, Rewrite, Make, AddName, TakeName, MoveName, changed, swept}
+use Rattle.fs_model.specs.Trees.{Tree}
+use Rattle.fuse_plans.specs.Alterations.{Alteration, resizes, resizes_open, writes_open, sets_mode, sets_owner, sets_group, sets_list, adds_name, takes_name, moves_name, alterations_by}
+
+-- ---- of what an alteration is
+
+abbrev pub is_of_bytes : Alteration → Bool
+is_of_bytes (resizes size) = true
+is_of_bytes (resizes_open pid fd size) = true
+is_of_bytes (writes_open pid fd) = true
+is_of_bytes alteration = false
+
+-- the mode, and the list that decides on access
+abbrev pub is_of_mode : Alteration → Bool
+is_of_mode sets_mode = true
+is_of_mode (sets_list Access) = true
+is_of_mode alteration = false
+
+abbrev pub is_of_default : Alteration → Bool
+is_of_default (sets_list Default) = true
+is_of_default alteration = false
+
+abbrev pub is_of_owner : Alteration → Bool
+is_of_owner sets_owner = true
+is_of_owner alteration = false
+
+abbrev pub is_of_group : Alteration → Bool
+is_of_group sets_group = true
+is_of_group alteration = false
+
+abbrev pub is_added : Alteration → Bool
+is_added (adds_name path) = true
+is_added alteration = false
+
+abbrev pub is_taken : Alteration → Bool
+is_taken (takes_name path) = true
+is_taken alteration = false
+
+abbrev pub is_moved : Alteration → Bool
+is_moved (moves_name old new) = true
+is_moved alteration = false
+
+-- one of them is so
+abbrev pub Says : (Alteration → Bool) → List Alteration → Type 0
+Says test alterations = IsTrue (list_any test alterations)
+
+-- ---- trees
+
+-- The node that is rewritten keeps what isn't said, and its kind, its names and its target.
+pub record KeepsUnsaid (alterations : List Alteration) (old new : Node) : Type 0 where
+  pub bytes : IsFalse (list_any is_of_bytes alterations) → bytes_in new.body ≡ bytes_in old.body
+  pub mode : IsFalse (list_any is_of_mode alterations) → shown_mode new.body ≡ shown_mode old.body
+  pub access : IsFalse (list_any is_of_mode alterations) → acl_in new.body ≡ acl_in old.body
+  pub default : IsFalse (list_any is_of_default alterations) → default_in new.body ≡ default_in old.body
+  pub owner : IsFalse (list_any is_of_owner alterations) → new.owner ≡ old.owner
+  pub group : IsFalse (list_any is_of_group alterations) → new.group ≡ old.group
+  pub kind : type_of new.body ≡ type_of old.body
+  pub names : names_in new.body ≡ names_in old.body
+  pub target : target_in new.body ≡ target_in old.body
+
+abbrev pub IsSaid : List Alteration → Tree → Change → Type 0
+IsSaid alterations t Same = Unit {0}
+IsSaid alterations t (Rewrite n node) = KeepsUnsaid alterations (the_node t n) node
+IsSaid alterations t (Make directory name n node) = Says is_added alterations
+IsSaid alterations t (AddName directory name n) = Says is_added alterations
+IsSaid alterations t (TakeName directory name) = Says is_taken alterations
+IsSaid alterations t (MoveName directory name to_directory to_name) = Says is_moved alterations
+
+-- all that an event may change
+abbrev pub alterations_in : Event → List Alteration
+alterations_in (Calls pid call) = alterations_by pid call
+alterations_in event = []
+
+-- The tree stays; or such a change is made of it, and then what has no name and isn't open any more is gone.
+pub data LeavesUnsaid (alterations : List Alteration) (old new : State) : Type 0 where
+  stays : new.tree ≡ old.tree → LeavesUnsaid alterations old new
+  alters : (change : Change) → IsSaid alterations old.tree change → new.tree ≡ swept (changed old.tree change) new.desks
+      → LeavesUnsaid alterations old new
+
+-- Each step of the machine, whatever it replies.
+abbrev pub StepsChangeWhatIsSaid : Type 0
+StepsChangeWhatIsSaid = (old new : State) (e : Event) (reply : Reply) → Step old e reply new → LeavesUnsaid (alterations_in e) old new
