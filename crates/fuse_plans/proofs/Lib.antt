@@ -19,6 +19,7 @@ pub mod OtherConducts
 pub mod PlanLaws
 pub mod Replays
 pub mod RequestConducts
+pub mod RowsOfAlterations
 pub mod RowsOfBytes
 pub mod RowsOfNames
 pub mod RowsOfPlaces
