@@ -264,7 +264,7 @@ OkIs F (Err e, s) = Unit {0}
 pub record Gives {X : Type 0} (F : X → Type 0) (w : Work X) : Type 0 where
   pub at : (s : Server) → AllEnd (OkIs F) (w s)
 
-all-any : {X : Type 0} (p : Plan X) → AllEnd (λ x. Unit {0}) p
+pub all-any : {X : Type 0} (p : Plan X) → AllEnd (λ x. Unit {0}) p
 all-any (Finish x) = tt
 all-any (Ask e next) = λ reply. all-any (next reply)
 

@@ -4,6 +4,7 @@ pub mod AlterNames
 pub mod AlterPieces
 pub mod AlterRequests
 pub mod AlterSteps
+pub mod AlterTimes
 pub mod Calls
 pub mod Chosen
 pub mod Conducts

@@ -1,6 +1,7 @@
 -- Which requests change what the kernel was told of names and attributes.
 --     Alteration, alterations_by        what a call may change of them
 --     IsToldBy, IsToldIn, AreTold        a request says that it changes so much
+--     says_change, says_change_in        a request says some change
 --     MayBeAsked        what may be asked for a request
 --     AsksOnly        whatever is replied, a plan asks only such events
 use Rattle.std.specs.Prelude.{◌≡◌, ℕ, Bool, true, false, List, [], ◌∷◌, ◌++◌, Option, None, Some, is_some, IsTrue}
@@ -94,6 +95,27 @@ IsToldIn (Some operation) alteration = IsToldBy operation alteration
 abbrev pub AreTold : Option Operation → List Alteration → Type 0
 AreTold operation [] = Unit {0}
 AreTold operation (alteration ∷ others) = IsToldIn operation alteration × AreTold operation others
+
+-- requests that say a change; a SETATTR may be of times alone, which the server keeps
+abbrev pub says_change : Operation → Bool
+says_change (SetAttr changes) = true
+says_change (SymLink name target) = true
+says_change (MkNod name mode umask) = true
+says_change (MkDir name mode umask) = true
+says_change (Unlink name) = true
+says_change (RmDir name) = true
+says_change (Rename name new_directory new_name flags) = true
+says_change (Link node name) = true
+says_change (Open flags) = is_trunc flags.0
+says_change (Write handle offset bytes) = true
+says_change (SetXAttr name value) = true
+says_change (RemoveXAttr name) = true
+says_change (Create name flags mode umask) = true
+says_change operation = false
+
+abbrev pub says_change_in : Option Operation → Bool
+says_change_in None = false
+says_change_in (Some operation) = says_change operation
 
 -- ---- what is asked
 

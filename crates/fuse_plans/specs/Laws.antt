@@ -5,6 +5,7 @@
 --     BeginningBehaves        the first request begins the server's own process, and asks no more
 --     RunsBehave        the same of what was asked
 --     RequestsChangeWhatTheySay, RunsChangeWhatRequestsSay        what changes of names and attributes comes of a request that says so
+--     OthersChangeNothing, OthersKeepTimes        requests that say no change
 --     OpenedIsTheObject        what an OPEN has opened is the object of its node
 --     ToldNodesLeadToObjects        the node that is told of a name leads to what has it
 --     WhoAsksCountsOnlyWhereNeeded        where nobody is needed a request is the same whoever asks
@@ -33,11 +34,11 @@ use Rattle.fuse_plans.specs.declared.reply.ReplyBody.{ReplyBody}
 use Rattle.fuse_plans.specs.declared.reply.ReplyBody.TheVariants.{Found, Opened, Created}
 use Rattle.fuse_plans.specs.declared.reply.Response.{Response}
 use Rattle.fuse_plans.specs.declared.reply.Response.TheVariants.{Says, Fails}
-use Rattle.fuse_state.specs.Servers.{Server, number_of, owner_of, descriptor_of, object_of, WithinShares}
+use Rattle.fuse_state.specs.Servers.{Server, number_of, times_of, owner_of, descriptor_of, object_of, WithinShares}
 use Rattle.fuse_state.specs.Changes.{is_gone}
 use Rattle.fuse_plans.specs.Acts.{Subject}
 use Rattle.fuse_plans.specs.Conduct.{Known, Rights, conduct}
-use Rattle.fuse_plans.specs.Alterations.{MayBeAsked, AsksOnly}
+use Rattle.fuse_plans.specs.Alterations.{Alteration, IsToldIn, says_change_in, MayBeAsked, AsksOnly}
 use Rattle.fuse_plans.specs.declared.stop.Stop.{Stop}
 use Rattle.fuse_plans.specs.declared.stop.Stop.TheVariants.{Refuses}
 use Rattle.fuse_plans.specs.Stops.{is_for}
@@ -124,6 +125,16 @@ abbrev pub RunsChangeWhatRequestsSay : Type 0
 RunsChangeWhatRequestsSay =
     (r : Request) (s : Server) (es : List Event) (replies : List Reply) (result : Response × Server) → IsRunOf (request_plan r s) es replies result
     → All (MayBeAsked r.operation) es
+
+-- All others change nothing of the machine's,
+abbrev pub OthersChangeNothing : Type 0
+OthersChangeNothing = (operation : Option Operation) (alteration : Alteration) → IsFalse (says_change_in operation) → IsToldIn operation alteration → ⊥
+
+-- and no times, which the server keeps.
+abbrev pub OthersKeepTimes : Type 0
+OthersKeepTimes =
+    (r : Request) (s t : Server) (response : Response) (es : List Event) (replies : List Reply) → IsFalse (says_change_in r.operation)
+    → IsRunOf (request_plan r s) es replies (response, t) → (n : ℕ) → times_of t n ≡ times_of s n
 
 -- ---- what is opened
 

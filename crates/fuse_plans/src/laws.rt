@@ -1,7 +1,7 @@
 //! The laws of the plans: each is the contract of a function that does nothing.
 ghost use Rattle.fuse_plans.specs.ShareLaws.{RequestsKeepShares, ProcessesAreFound, DirectoriesAreFound};
 ghost use Rattle.fuse_plans.specs.AlteredTrees.{StepsChangeWhatIsSaid};
-ghost use Rattle.fuse_plans.specs.Laws.{BeginningBehaves, JudgedLookupsAreGranted, OpenedIsTheObject, RequestsBehave, RequestsChangeWhatTheySay, RunsChangeWhatRequestsSay, RunsBehave, ToldNodesLeadToObjects, WhoAsksCountsOnlyWhereNeeded};
+ghost use Rattle.fuse_plans.specs.Laws.{BeginningBehaves, JudgedLookupsAreGranted, OpenedIsTheObject, OthersChangeNothing, OthersKeepTimes, RequestsBehave, RequestsChangeWhatTheySay, RunsChangeWhatRequestsSay, RunsBehave, ToldNodesLeadToObjects, WhoAsksCountsOnlyWhereNeeded};
 
 /// Whatever the machine replies, no request but the first is performed with more than the rights of who asks.
 ///
@@ -33,16 +33,19 @@ pub fn what_is_asked_may_be()
 /// Whatever the machine replies, no request asks for a call that changes more than the request says: which, `IsToldBy` lists. The
 /// size changes by SETATTR, and by OPEN and CREATE where they are to take the bytes; bytes change by WRITE, of the open file that its
 /// handle gives; mode, owner and group by SETATTR, where it gives them; a list by SETXATTR and REMOVEXATTR that name it; and a name
-/// is added, taken or moved by a request that gives that name. All other requests change nothing, and the disk is never stopped.
-/// [`requests_behave`] says on what: on an object that the request is about, or in the directory of the name.
+/// is added, taken or moved by a request that gives that name. All other requests change nothing, nor the times of any object, and
+/// the disk is never stopped. [`requests_behave`] says on what: on an object that the request is about, or in the directory of the
+/// name; and [`steps_change_what_is_said`] that the machine changes no more by such a call.
 ///
-/// So what the kernel was told stays true until it asks for a change itself, as long as its mount is the image's only writer. The
-/// answers of MKNOD, MKDIR, SYMLINK, LINK, CREATE and SETATTR tell what is there then; those of the others tell no attributes, and
-/// the kernel drops what it was told of the objects and directories of the request. A request that failed may have changed what it
-/// says all the same: SETATTR is done in parts, a name that was made may not have been shown, and a WRITE may end early.
+/// So what the kernel was told of anything else stays true, as long as its mount is the image's only writer. LOOKUP, GETATTR, SETATTR
+/// and what makes or links an object are answered with the attributes that it has then; of the rest the kernel knows by its own request
+/// what it has to ask again. A request that failed may have changed what it says: a SETATTR is done in parts, what was made or linked
+/// may not be shown, and a CREATE may have taken the bytes. The kernel isn't told, and has to be.
 pub fn requests_change_what_they_say()
     ensures may_be_asked { RequestsChangeWhatTheySay }
     ensures asked { RunsChangeWhatRequestsSay }
+    ensures nothing { OthersChangeNothing }
+    ensures times { OthersKeepTimes }
 {}
 
 /// By no event the machine changes more of its tree than `alterations_by` says of the call.

@@ -1,0 +1,460 @@
+-- Requests that say no change keep the times of all objects.
+use Rattle.std.specs.Prelude.{◌≡◌, ℕ, ◌-◌, zero, suc, Bool, true, false, List, [], ◌∷◌, Option, None, Some, unwrap_or, Result, Ok, Err, if◌then◌else◌}
+use Rattle.std.specs.Ordering.{nat_cmp}
+use Rattle.std.proofs.Common.{refl, sym, ap, ◌∙◌}
+use Rattle.posix_acl.specs.AccessList.{AccessList}
+use Rattle.posix_acl.specs.declared.entry.Perms.{Perms}
+use Rattle.fs_cred.specs.Credentials.{Credential}
+use Rattle.fs_cred.specs.declared.refusal.Refusal.{Refusal}
+use Rattle.fs_layout.specs.Maps.{get}
+use Rattle.fs_model.specs.Limits.{move_limit}
+use Rattle.fs_model.specs.declared.call.AclType.{AclType}
+use Rattle.fs_model.specs.declared.call.Call.{Call}
+use Rattle.fs_model.specs.declared.event.Event.{Event}
+use Rattle.fs_model.specs.declared.reply.FileType.{FileType}
+use Rattle.fs_model.specs.declared.reply.Reply.{Reply}
+use Rattle.fuse_protocol.specs.declared.operation.Extent.{Extent}
+use Rattle.fuse_protocol.specs.declared.operation.Offer.{Offer}
+use Rattle.fuse_protocol.specs.declared.operation.Operation.{Operation}
+use Rattle.fuse_protocol.specs.declared.operation.Operation.TheVariants.{Lookup, Forget, GetAttr, SetAttr, ReadLink, SymLink, MkNod, MkDir, Unlink, RmDir, Rename, Link, Open, Read, Write, StatFs, Release, FSync, SetXAttr, GetXAttr, ListXAttr, RemoveXAttr, Init, OpenDir, ReadDir, ReleaseDir, FSyncDir, Access, Create, Interrupt, Destroy, BatchForget, SyncFs, Unknown}
+use Rattle.fuse_protocol.specs.declared.reply.Time.{Time}
+use Rattle.fuse_state.specs.declared.directory.OpenDirectory.{OpenDirectory}
+use Rattle.fuse_state.specs.declared.place.Place.{Place}
+use Rattle.fuse_state.specs.Changes.{is_gone, found}
+use Rattle.fuse_state.specs.Servers.{Server, times_of, with_listing, with_listing_of, with_name, with_generation, directory_of, with_handle, without_handle, opened, without_directory, with_end, with_the_looker, with_acls_offered}
+use Rattle.fuse_plans.specs.declared.reply.ReplyBody.{ReplyBody}
+use Rattle.fuse_plans.specs.declared.request.Asked.{Asked}
+use Rattle.fuse_plans.specs.declared.stop.Stop.{Stop}
+use Rattle.fuse_plans.specs.declared.stop.Stop.TheVariants.{Refuses, Lacks}
+use Rattle.fuse_plans.specs.declared.stop.OtherErrno.TheVariants.{ENFILE, ERANGE, ENOSYS, ENODATA, EPROTO, EOPNOTSUPP, ESTALE}
+use Rattle.fuse_plans.specs.Plans.{Finish}
+use Rattle.fuse_plans.specs.Requests.{asked_of}
+use Rattle.fuse_plans.specs.Works.{Work, give, stop, kept, keep, goes_on, ◌>>=◌, attempt, needed, ask, give_unless, refusal_in, unless_refused, or_closed}
+use Rattle.fuse_plans.specs.Callers.{settle_new, settle, retire_next, retire, settle_first, begin_process, or_spawned, caller, unused_of, or_unused, caller_with_room, the_looker, between, look_inside, or_inside, standing_refusal, or_next, by_places, on, look_at, look, the_number, directory_number, standing_directory}
+use Rattle.fuse_plans.specs.Flags.{is_trunc}
+use Rattle.fuse_plans.specs.NamePlans.{or_absent, find_name}
+use Rattle.fuse_plans.specs.FilePlans.{when, touched_if, show_open, confirm_shown, confirm_open, open_file, the_open, seek, read_piece, read_pieces, read_file, close_file, sync_file}
+use Rattle.fuse_plans.specs.AttributePlans.{get_attributes, read_link, access_as, ask_access}
+use Rattle.fuse_plans.specs.DirectoryPlans.{take_directory_if, take_directory, open_directory, tell_names, list_open, list_all, list_now, listed, read_directory, close_directory, sync_all}
+use Rattle.fuse_plans.specs.AclPlans.{an_object, acl_of, get_xattr, attribute_names, list_xattrs}
+use Rattle.fuse_plans.specs.Nobody.{needs_nobody_in}
+use Rattle.fuse_plans.specs.Serving.{or_looker, begin, count_space, end, plan_of, asked_for, response_of, answered, answered_as, request_plan}
+use Rattle.fuse_plans.specs.Alterations.{Alteration, resizes, resizes_open, says_change, says_change_in, IsToldIn}
+use Rattle.fuse_plans.specs.Laws.{OthersChangeNothing, OthersKeepTimes}
+use Rattle.fuse_plans.proofs.ToldNodes.{AllEnd, all-weaker, all-followed_by, all-run}
+use Rattle.fuse_plans.proofs.AlterPieces.{all-any}
+
+-- ---- times
+
+record SameTimes (s t : Server) : Type 0 where
+  times : t.times ≡ s.times
+  start : t.settings.start ≡ s.settings.start
+
+times-self : (s : Server) → SameTimes s s
+times-self s = record { times = refl; start = refl }
+
+times-then : {s t u : Server} → SameTimes s t → SameTimes t u → SameTimes s u
+times-then first later = record { times = later.times ∙ first.times; start = later.start ∙ first.start }
+
+-- whatever is replied, the times stay
+record Timeless {X : Type 0} (w : Work X) : Type 0 where
+  at : (s : Server) → AllEnd (λ r. SameTimes s r.1) (w s)
+
+abbrev KeepsTimes : (Server → Server) → Type 0
+KeepsTimes f = (s : Server) → SameTimes s (f s)
+
+-- ---- pieces
+
+keeps-give : {X : Type 0} (x : X) → Timeless (give x)
+unfolding give
+keeps-give x = record { at = times-self }
+
+keeps-stop : {X : Type 0} (e : Stop) → Timeless {X = X} (stop e)
+unfolding stop
+keeps-stop e = record { at = times-self }
+
+keeps-kept : {X : Type 0} (f : Server → X) → Timeless (kept f)
+unfolding kept
+keeps-kept f = record { at = times-self }
+
+keeps-keep : (f : Server → Server) → KeepsTimes f → Timeless (keep f)
+unfolding keep
+keeps-keep f same = record { at = same }
+
+keeps-ask : (e : Event) → Timeless (ask e)
+unfolding ask
+keeps-ask e = record { at = λ s reply. times-self s }
+
+keeps->>= : {X Y : Type 0} {w : Work X} {f : X → Work Y} → Timeless w → ((x : X) → Timeless (f x)) → Timeless (w >>= f)
+unfolding ◌>>=◌
+keeps->>= {X} {Y} {w} {f} first rest = record { at = λ s. all-followed_by (λ r. SameTimes s r.1) (λ r. SameTimes s r.1) (w s) (goes_on f) (first.at s) (after s) }
+  where
+    after : (s : Server) (r : Result X Stop × Server) → SameTimes s r.1 → AllEnd (λ (q : Result Y Stop × Server). SameTimes s q.1) (goes_on f r)
+    after s (Ok x, t) same = all-weaker (λ q. SameTimes t q.1) (λ q. SameTimes s q.1) (f x t) ((rest x).at t) (λ q later. times-then same later)
+    after s (Err e, t) same = same
+
+keeps-attempt : {X : Type 0} {w : Work X} → Timeless w → Timeless (attempt w)
+unfolding attempt
+keeps-attempt {X} {w} first = record {
+  at = λ s. all-followed_by (λ r. SameTimes s r.1) (λ r. SameTimes s r.1) (w s) (λ r. Finish (Ok r.0, r.1)) (first.at s) (λ r same. same);
+}
+
+keeps-if : {X : Type 0} (b : Bool) (w v : Work X) → Timeless w → Timeless v → Timeless (if b then w else v)
+keeps-if true w v first second = first
+keeps-if false w v first second = second
+
+keeps-when : (b : Bool) (w : Work (Unit {0})) → Timeless w → Timeless (when b w)
+keeps-when true w first = first
+keeps-when false w first = keeps-give tt
+
+keeps-needed : {X : Type 0} (e : Stop) (o : Option X) → Timeless (needed e o)
+keeps-needed e None = keeps-stop e
+keeps-needed e (Some x) = keeps-give x
+
+keeps-unless_refused : (reply : Reply) → Timeless (unless_refused reply)
+keeps-unless_refused reply = go (refusal_in reply)
+  where
+    go : (o : Option Refusal) → Timeless (give_unless reply o)
+    go None = keeps-give reply
+    go (Some r) = keeps-stop _
+
+keeps-or_closed : {X : Type 0} (pid fd : ℕ) (r : Result X Stop) → Timeless (or_closed pid fd r)
+keeps-or_closed pid fd (Ok x) = keeps-give x
+keeps-or_closed pid fd (Err e) = keeps->>= (keeps-ask _) (λ reply. keeps-stop e)
+
+ruleset basics = (keeps->>=, keeps-give, keeps-stop, keeps-kept, keeps-keep, keeps-attempt, keeps-if, keeps-when, keeps-needed, keeps-ask, keeps-unless_refused, keeps-or_closed)
+
+-- ---- processes and calls
+
+keeps-settle_new : (cred : Credential) (pid : ℕ) (taken : Bool) → Timeless (settle_new cred pid taken)
+keeps-settle_new cred pid true = keeps-stop _
+keeps-settle_new cred pid false = keeps->>= (keeps-keep _ (λ s. record { times = refl; start = refl })) (λ added. keeps-give pid)
+
+keeps-settle : (cred : Credential) (reply : Reply) → Timeless (settle cred reply)
+keeps-settle cred reply = search (basics, keeps-settle_new) depth 16
+
+keeps-retire_next : (rest : Work (Unit {0})) (pid : Option ℕ) → Timeless rest → Timeless (retire_next rest pid)
+keeps-retire_next rest None after = keeps-give tt
+keeps-retire_next rest (Some pid) after =
+    keeps->>= (keeps-ask _) (λ reply. keeps->>= (keeps-keep _ (λ s. record { times = refl; start = refl })) (λ gone. after))
+
+keeps-retire : (k : ℕ) → Timeless (retire k)
+unfolding retire
+keeps-retire zero = keeps-give tt
+keeps-retire (suc k) = let later = keeps-retire k in keeps->>= (keeps-kept _) (λ pid. keeps-retire_next (retire k) pid later)
+
+keeps-settle_first : (cred : Credential) (reply : Reply) → Timeless (settle_first cred reply)
+keeps-settle_first cred reply = search (basics, keeps-settle, keeps-retire) depth 16
+
+keeps-or_spawned : (cred : Credential) (pid : Option ℕ) → Timeless (or_spawned cred pid)
+unfolding begin_process
+keeps-or_spawned cred None = search (basics, keeps-settle_first) depth 12
+keeps-or_spawned cred (Some pid) = keeps-give pid
+
+keeps-caller : (who : Option Credential) → Timeless (caller who)
+unfolding caller
+keeps-caller who = search (basics, keeps-or_spawned) depth 12
+
+keeps-unused_of : (cred : Credential) (may : Bool) → Timeless (unused_of cred may)
+keeps-unused_of cred false = keeps-stop _
+keeps-unused_of cred true = search (basics, keeps-or_spawned) depth 12
+
+keeps-or_unused : (cred : Credential) (pid : Option ℕ) → Timeless (or_unused cred pid)
+keeps-or_unused cred (Some pid) = keeps-give pid
+keeps-or_unused cred None = search (basics, keeps-unused_of) depth 12
+
+keeps-caller_with_room : (who : Option Credential) → Timeless (caller_with_room who)
+unfolding caller_with_room
+keeps-caller_with_room who = search (basics, keeps-or_unused) depth 12
+
+keeps-the_looker : Timeless the_looker
+unfolding the_looker
+keeps-the_looker = search basics depth 12
+
+keeps-between : (pid directory second : ℕ) (call : Call) → Timeless (between pid directory second call)
+unfolding between
+keeps-between pid directory second call = search basics depth 16
+
+keeps-look_inside : (pid directory : ℕ) (name : List ℕ) → Timeless (look_inside pid directory name)
+unfolding look_inside
+keeps-look_inside pid directory name = search (basics, keeps-between) depth 12
+
+keeps-or_inside : (pid n : ℕ) (call : List ℕ → Call) (kind : Option FileType) (r : Result Reply Stop) → Timeless (or_inside pid n call kind r)
+keeps-or_inside pid n call kind (Ok reply) = keeps-give reply
+keeps-or_inside pid n call kind (Err e) = search (basics, keeps-between) depth 12
+
+keeps-or_next : {next : Stop → Work Reply} → ((e : Stop) → Timeless (next e)) → (r : Result Reply Stop) → Timeless (or_next next r)
+keeps-or_next rest (Ok reply) = keeps-give reply
+keeps-or_next rest (Err e) = keeps-if _ _ _ (rest e) (keeps-stop e)
+
+keeps-by_places : (pid : ℕ) (second : Option ℕ) (call : List ℕ → Call) (before : Stop) (places : List Place) → Timeless (by_places pid second call before places)
+unfolding by_places
+keeps-by_places pid second call before [] = keeps-stop before
+keeps-by_places pid second call before (p ∷ others) =
+    keeps->>= (keeps-attempt (keeps-between pid p.directory _ (call p.name)))
+    (keeps-or_next (λ e. keeps-by_places pid second call (standing_refusal before e) others))
+
+keeps-on : (pid n : ℕ) (call : List ℕ → Call) → Timeless (on pid n call)
+unfolding on
+keeps-on pid n call = search (basics, keeps-by_places, keeps-or_inside) depth 16
+
+keeps-look_at : (n : ℕ) (placed : Bool) → Timeless (look_at n placed)
+keeps-look_at n true = search (basics, keeps-the_looker, keeps-on) depth 12
+keeps-look_at n false = search basics depth 12
+
+keeps-look : (n : ℕ) → Timeless (look n)
+unfolding look
+keeps-look n = search (basics, keeps-look_at) depth 12
+
+keeps-the_number : (node : ℕ) → Timeless (the_number node)
+unfolding the_number
+keeps-the_number node = search basics depth 12
+
+keeps-directory_number : (node : ℕ) → Timeless (directory_number node)
+unfolding directory_number
+keeps-directory_number node = search (basics, keeps-the_number) depth 12
+
+keeps-standing_directory : (node : ℕ) → Timeless (standing_directory node)
+unfolding standing_directory
+keeps-standing_directory node = search (basics, keeps-directory_number) depth 12
+
+ruleset pieces = (basics, keeps-caller, keeps-caller_with_room, keeps-the_looker, keeps-between, keeps-look_inside, keeps-on, keeps-look, keeps-the_number, keeps-directory_number, keeps-standing_directory)
+
+-- ---- requests
+
+found-keeps : (p : Place) (n : ℕ) (kind : FileType) → KeepsTimes (found p n kind)
+found-keeps p n kind s = choose (is_gone s n)
+  where
+    choose : (b : Bool) → SameTimes s (with_name p n kind (if b then with_generation n s else s))
+    choose true = record { times = refl; start = refl }
+    choose false = record { times = refl; start = refl }
+
+listing-keeps : (handle : ℕ) (names : List (List ℕ × ℕ)) → KeepsTimes (with_listing handle names)
+listing-keeps handle names s = choose (directory_of s handle)
+  where
+    choose : (d : Option OpenDirectory) → SameTimes s (with_listing_of handle names d s)
+    choose None = times-self s
+    choose (Some d) = record { times = refl; start = refl }
+
+keeps-or_absent : (known : Result ℕ Stop) → Timeless (or_absent known)
+keeps-or_absent (Ok n) = keeps-give n
+keeps-or_absent (Err (Refuses r)) = keeps-stop _
+keeps-or_absent (Err (Lacks ESTALE)) = keeps-stop _
+keeps-or_absent (Err (Lacks ENFILE)) = keeps-stop _
+keeps-or_absent (Err (Lacks ERANGE)) = keeps-stop _
+keeps-or_absent (Err (Lacks ENOSYS)) = keeps-stop _
+keeps-or_absent (Err (Lacks ENODATA)) = keeps-stop _
+keeps-or_absent (Err (Lacks EPROTO)) = keeps-stop _
+keeps-or_absent (Err (Lacks EOPNOTSUPP)) = keeps-stop _
+
+keeps-find_name : (r : Asked) (name : List ℕ) → Timeless (find_name r name)
+keeps-find_name r name = search (pieces, keeps-or_absent, found-keeps) depth 20
+
+keeps-get_attributes : (r : Asked) → Timeless (get_attributes r)
+keeps-get_attributes r = search pieces depth 12
+
+keeps-read_link : (r : Asked) → Timeless (read_link r)
+keeps-read_link r = search pieces depth 12
+
+keeps-access_as : (who : Option Credential) (n : ℕ) (perms : Perms) → Timeless (access_as who n perms)
+keeps-access_as who n perms = search pieces depth 12
+
+keeps-ask_access : (r : Asked) (mask : ℕ) → Timeless (ask_access r mask)
+keeps-ask_access r mask = search (pieces, keeps-access_as) depth 16
+
+-- what keeps its bytes isn't touched
+touched-keeps : (now : Time) (n : ℕ) (cuts : Bool) → cuts ≡ false → KeepsTimes (touched_if cuts now n)
+touched-keeps now n true is = absurd (let no : true ≡ false = is in cc)
+touched-keeps now n false is = times-self
+
+handle-keeps : (handle n : ℕ) → KeepsTimes (with_handle handle n)
+handle-keeps handle n s = record { times = refl; start = refl }
+
+without_handle-keeps : (handle : ℕ) → KeepsTimes (without_handle handle)
+without_handle-keeps handle s = record { times = refl; start = refl }
+
+keeps-open_file : (r : Asked) (flags : ℕ) → is_trunc flags ≡ false → Timeless (open_file r flags)
+unfolding show_open confirm_shown confirm_open
+keeps-open_file r flags is =
+    let touches = λ (now : Time) (n : ℕ). touched-keeps now n (is_trunc flags) is in
+    search (pieces, touches, handle-keeps) depth 30
+
+keeps-read_pieces : (k pid fd size : ℕ) (bytes : List ℕ) → Timeless (read_pieces k pid fd size bytes)
+unfolding read_piece read_pieces
+keeps-read_pieces zero pid fd size bytes = keeps-give bytes
+keeps-read_pieces (suc k) pid fd size bytes =
+    let later = λ (more : List ℕ). keeps-read_pieces k pid fd (size - move_limit) more in
+    search (pieces, later) depth 16
+
+keeps-read_file : (extent : Extent) → Timeless (read_file extent)
+unfolding the_open seek
+keeps-read_file extent = search (pieces, keeps-read_pieces) depth 20
+
+keeps-close_file : (handle : ℕ) → Timeless (close_file handle)
+unfolding the_open
+keeps-close_file handle = search (pieces, without_handle-keeps) depth 16
+
+keeps-sync_file : (handle : ℕ) → Timeless (sync_file handle)
+unfolding the_open
+keeps-sync_file handle = search pieces depth 16
+
+keeps-an_object : (r : Asked) → Timeless (an_object r)
+keeps-an_object r = search pieces depth 12
+
+keeps-acl_of : (n : ℕ) (which : AclType) → Timeless (acl_of n which)
+keeps-acl_of n which = search pieces depth 12
+
+keeps-get_xattr : (r : Asked) (name : List ℕ) (size : ℕ) → Timeless (get_xattr r name size)
+keeps-get_xattr r name size = search (pieces, keeps-an_object, keeps-acl_of) depth 20
+
+keeps-attribute_names : (n : ℕ) (has : Bool) → Timeless (attribute_names n has)
+keeps-attribute_names n false = keeps-give []
+keeps-attribute_names n true = search (pieces, keeps-acl_of) depth 12
+
+keeps-list_xattrs : (r : Asked) (size : ℕ) → Timeless (list_xattrs r size)
+keeps-list_xattrs r size = search (pieces, keeps-attribute_names) depth 16
+
+opened-keeps : (uid n : ℕ) → KeepsTimes (opened uid n)
+opened-keeps uid n s = record { times = refl; start = refl }
+
+keeps-take_directory_if : (uid n : ℕ) (may : Bool) → Timeless (take_directory_if uid n may)
+keeps-take_directory_if uid n false = keeps-stop _
+keeps-take_directory_if uid n true = search (pieces, opened-keeps) depth 12
+
+keeps-open_directory : (r : Asked) → Timeless (open_directory r)
+unfolding take_directory
+keeps-open_directory r = search (pieces, keeps-access_as, keeps-take_directory_if) depth 20
+
+keeps-list_all : (n : ℕ) (placed : Bool) → Timeless (list_all n placed)
+unfolding tell_names list_open
+keeps-list_all n false = keeps-give []
+keeps-list_all n true = search pieces depth 20
+
+keeps-list_now : (node handle number : ℕ) → Timeless (list_now node handle number)
+keeps-list_now node handle number = search (pieces, keeps-list_all, listing-keeps) depth 20
+
+keeps-listed : (node handle : ℕ) (d : OpenDirectory) (anew : Bool) (known : Option (List (List ℕ × ℕ))) → Timeless (listed node handle d anew known)
+keeps-listed node handle d false (Some names) = keeps-give names
+keeps-listed node handle d false None = keeps-list_now node handle d.number
+keeps-listed node handle d true known = keeps-list_now node handle d.number
+
+keeps-read_directory : (node : ℕ) (extent : Extent) → Timeless (read_directory node extent)
+unfolding read_directory
+keeps-read_directory node extent = search (pieces, keeps-listed) depth 12
+
+without_directory-keeps : (handle : ℕ) → KeepsTimes (without_directory handle)
+without_directory-keeps handle s = record { times = refl; start = refl }
+
+keeps-close_directory : (handle : ℕ) → Timeless (close_directory handle)
+unfolding close_directory
+keeps-close_directory handle = search (pieces, without_directory-keeps) depth 12
+
+keeps-sync_all : Timeless sync_all
+unfolding sync_all
+keeps-sync_all = search pieces depth 12
+
+end-keeps : KeepsTimes with_end
+end-keeps s = record { times = refl; start = refl }
+
+keeps-end : Timeless end
+unfolding end
+keeps-end = search (pieces, keeps-sync_all, end-keeps) depth 12
+
+keeps-count_space : Timeless count_space
+unfolding count_space
+keeps-count_space = search pieces depth 12
+
+looker-keeps : (pid : ℕ) → KeepsTimes (with_the_looker pid)
+looker-keeps pid s = record { times = refl; start = refl }
+
+acls-keep : (offered : Bool) → KeepsTimes (with_acls_offered offered)
+acls-keep offered s = record { times = refl; start = refl }
+
+keeps-or_looker : (looker : Option ℕ) → Timeless (or_looker looker)
+keeps-or_looker (Some pid) = keeps-give tt
+keeps-or_looker None = search (pieces, looker-keeps) depth 16
+
+keeps-begin : (offer : Offer) → Timeless (begin offer)
+unfolding begin
+keeps-begin offer = search (pieces, keeps-or_looker, acls-keep) depth 20
+
+-- ---- those that say no change
+
+said-so : true ≡ false → ⊥
+said-so is = absurd (cc)
+
+abbrev KeepsIfAny : Option (Work ReplyBody) → Type 0
+KeepsIfAny None = Unit {0}
+KeepsIfAny (Some w) = Timeless w
+
+keeps-plan : (r : Asked) (value : Option (Option AccessList)) (operation : Operation) → says_change operation ≡ false → KeepsIfAny (plan_of r value operation)
+keeps-plan r value (Lookup name) none = keeps-find_name r name
+keeps-plan r value Forget none = tt
+keeps-plan r value GetAttr none = keeps-get_attributes r
+keeps-plan r value ReadLink none = keeps-read_link r
+keeps-plan r value (Open flags) none = keeps-open_file r flags.0 none
+keeps-plan r value (Read extent) none = keeps-read_file extent
+keeps-plan r value StatFs none = keeps-count_space
+keeps-plan r value (Release handle) none = keeps-close_file handle
+keeps-plan r value (FSync handle) none = keeps-sync_file handle
+keeps-plan r value (GetXAttr name size) none = keeps-get_xattr r name size
+keeps-plan r value (ListXAttr size) none = keeps-list_xattrs r size
+keeps-plan r value (Init offer) none = keeps-begin offer
+keeps-plan r value OpenDir none = keeps-open_directory r
+keeps-plan r value (ReadDir extent) none = keeps-read_directory r.node extent
+keeps-plan r value (ReleaseDir handle) none = keeps-close_directory handle
+keeps-plan r value FSyncDir none = keeps-sync_all
+keeps-plan r value (Access mask) none = keeps-ask_access r mask
+keeps-plan r value Interrupt none = tt
+keeps-plan r value Destroy none = keeps-end
+keeps-plan r value BatchForget none = tt
+keeps-plan r value SyncFs none = keeps-sync_all
+keeps-plan r value Unknown none = keeps-stop _
+keeps-plan r value _ none = absurd (said-so none)
+
+keeps-asked_for : (r : Asked) (value : Option (Option AccessList)) (operation : Option Operation) → says_change_in operation ≡ false → KeepsIfAny (asked_for r value operation)
+keeps-asked_for r value None none = keeps-stop _
+keeps-asked_for r value (Some operation) none = keeps-plan r value operation none
+
+keeps-answered : (memory : Bool) (work : Option (Work ReplyBody)) (s : Server) → KeepsIfAny work → AllEnd (λ x. SameTimes s x.1) (answered memory work s)
+keeps-answered memory None s keeps = times-self s
+keeps-answered true (Some w) s keeps =
+    all-followed_by (λ x. SameTimes s x.1) (λ x. SameTimes s x.1) (w s) (λ r. Finish (response_of r.0, r.1)) (keeps.at s) (λ r same. same)
+keeps-answered false (Some w) s keeps = times-self s
+
+same-times_of : {s t : Server} → SameTimes s t → (n : ℕ) → times_of t n ≡ times_of s n
+same-times_of {s} {t} same n =
+    ap (λ l. times_of (record t { times = l }) n) same.times
+    ∙ ap (λ start. unwrap_or (get nat_cmp s.times n) (record { atime = start; mtime = start; ctime = start })) same.start
+
+pub others_keep_times : OthersKeepTimes
+unfolding request_plan
+others_keep_times r s t response es replies none runs n =
+    same-times_of (all-run (λ x. SameTimes s x.1) (request_plan r s) es replies (response, t)
+    (all-followed_by (λ nobody. Unit {0}) (λ x. SameTimes s x.1) (needs_nobody_in r.node r.operation s) (λ nobody. answered_as nobody r s) (all-any (needs_nobody_in r.node r.operation s))
+    (λ nobody any. keeps-answered r.memory _ s (keeps-asked_for (asked_of r nobody) r.value r.operation none)))
+    runs) n
+
+-- ---- and change nothing else
+
+says-nothing : (operation : Operation) (alteration : Alteration) → says_change operation ≡ false → IsToldIn (Some operation) alteration → ⊥
+says-nothing (SetAttr changes) alteration none told = said-so none
+says-nothing (SymLink name target) alteration none told = said-so none
+says-nothing (MkNod name mode umask) alteration none told = said-so none
+says-nothing (MkDir name mode umask) alteration none told = said-so none
+says-nothing (Unlink name) alteration none told = said-so none
+says-nothing (RmDir name) alteration none told = said-so none
+says-nothing (Rename name new_directory new_name flags) alteration none told = said-so none
+says-nothing (Link old_node name) alteration none told = said-so none
+says-nothing (Write handle offset bytes) alteration none told = said-so none
+says-nothing (SetXAttr name value) alteration none told = said-so none
+says-nothing (RemoveXAttr name) alteration none told = said-so none
+says-nothing (Create name flags mode umask) alteration none told = said-so none
+says-nothing (Open flags) (resizes size) none told = said-so (sym told.0 ∙ none)
+says-nothing (Open flags) (resizes_open pid fd size) none told = said-so (sym told.0 ∙ none)
+says-nothing (Open flags) _ none told = told
+says-nothing _ alteration none told = told
+
+pub others_change_nothing : OthersChangeNothing
+others_change_nothing None alteration none told = told
+others_change_nothing (Some operation) alteration none told = says-nothing operation alteration none told
