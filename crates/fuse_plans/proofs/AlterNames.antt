@@ -52,7 +52,7 @@ module _ {o : Option Operation} where
   pub asks-remove : (r : Asked) (call : List ℕ → Call) (name : List ℕ) → ((pid : ℕ) → IsTold o pid (call name)) → Asks o (remove r call name)
   asks-remove r call name told = search (pieces, asks-directory_and_caller, told) depth 12
 
-  asks-none_there : (there : Result Reply Stop) → Asks o (none_there there)
+  pub asks-none_there : (there : Result Reply Stop) → Asks o (none_there there)
   asks-none_there (Ok reply) = search pieces
   asks-none_there (Err e) = search pieces
 

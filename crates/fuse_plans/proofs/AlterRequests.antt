@@ -259,7 +259,7 @@ asks-needs_nobody o node (Lookup name) s = asks-is_judged o node s.settings.posi
 asks-needs_nobody o node _ s = tt
 
 -- whether it needs nobody is found by looking
-asks-needs_nobody_in : (o : Option Operation) (node : ℕ) (operation : Option Operation) (s : Server) → AsksOnly (MayBeAsked o) (needs_nobody_in node operation s)
+pub asks-needs_nobody_in : (o : Option Operation) (node : ℕ) (operation : Option Operation) (s : Server) → AsksOnly (MayBeAsked o) (needs_nobody_in node operation s)
 asks-needs_nobody_in o node None s = tt
 asks-needs_nobody_in o node (Some operation) s = asks-needs_nobody o node operation s
 

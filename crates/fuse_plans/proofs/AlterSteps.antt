@@ -25,8 +25,8 @@ use Rattle.fs_model.specs.States.{State}
 use Rattle.fs_model.specs.Steps.{Choice, scene_of, late_refusal, demand_of, other_refusal, after_call, after_enter, after, Answers, is_halted, refuses_early, refuses_late, acts, lacks_memory, read_fails, write_fails}
 use Rattle.fs_model.specs.TreeChanges.{Same, Rewrite, Make, MoveName, changed, swept}
 use Rattle.fs_model.proofs.StepsDemands.{AreMet, demands_met, unrefused}
-use Rattle.fuse_plans.specs.Alterations.{Alteration, resizes, adds_name, sets_owner, sets_group, where_so, alterations_by}
-use Rattle.fuse_plans.specs.AlteredTrees.{is_of_bytes, is_of_mode, is_of_default, is_added, Says, KeepsUnsaid, IsSaid, alterations_in, LeavesUnsaid, stays, alters, StepsChangeWhatIsSaid}
+use Rattle.fuse_plans.specs.Alterations.{Alteration, resizes, adds_name, sets_owner, sets_group, where_so, alterations_by, alterations_in}
+use Rattle.fuse_plans.specs.AlteredTrees.{is_of_bytes, is_of_mode, is_of_default, is_added, Says, KeepsUnsaid, IsSaid, LeavesUnsaid, stays, alters, StepsChangeWhatIsSaid}
 
 -- what is said may change
 said_so : {A : Type 0} (b : Bool) → b ≡ true → b ≡ false → A

@@ -1,4 +1,5 @@
 pub mod AllEnds
+pub mod AlterFailures
 pub mod AlterFiles
 pub mod AlterNames
 pub mod AlterPieces

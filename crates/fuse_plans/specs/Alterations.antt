@@ -2,7 +2,8 @@
 --     Alteration, alterations_by        what a call may change of them
 --     IsToldBy, IsToldIn, AreTold        a request says that it changes so much
 --     says_change, says_change_in        a request says some change
---     MayBeAsked        what may be asked for a request
+--     changes_at_once        and either changes all of it or fails
+--     alterations_in, MayBeAsked        what an event may change; what may be asked for a request
 --     AsksOnly        whatever is replied, a plan asks only such events
 use Rattle.std.specs.Prelude.{◌≡◌, ℕ, Bool, true, false, List, [], ◌∷◌, ◌++◌, Option, None, Some, is_some, IsTrue}
 use Rattle.fs_model.specs.declared.call.AclType.{AclType}
@@ -117,7 +118,21 @@ abbrev pub says_change_in : Option Operation → Bool
 says_change_in None = false
 says_change_in (Some operation) = says_change operation
 
+-- what changes is one call, after which nothing can fail
+abbrev pub changes_at_once : Operation → Bool
+changes_at_once (Unlink name) = true
+changes_at_once (RmDir name) = true
+changes_at_once (Rename name new_directory new_name flags) = true
+changes_at_once (SetXAttr name value) = true
+changes_at_once (RemoveXAttr name) = true
+changes_at_once operation = false
+
 -- ---- what is asked
+
+-- all that an event may change
+abbrev pub alterations_in : Event → List Alteration
+alterations_in (Calls pid call) = alterations_by pid call
+alterations_in event = []
 
 -- No call changes more than the request says; and but for calls only a disk that stops may change what the kernel was told.
 abbrev pub MayBeAsked : Option Operation → Event → Type 0

@@ -4,11 +4,10 @@
 --     IsSaid        a change of the tree is one of these
 --     LeavesUnsaid        the tree after an event
 --     StepsChangeWhatIsSaid
-use Rattle.std.specs.Prelude.{◌≡◌, Bool, true, false, List, [], IsTrue, IsFalse}
+use Rattle.std.specs.Prelude.{◌≡◌, Bool, true, false, List, IsTrue, IsFalse}
 use Rattle.std.specs.List.{list_any}
 use Rattle.fs_model.specs.declared.call.AclType.TheVariants.{Access, Default}
 use Rattle.fs_model.specs.declared.event.Event.{Event}
-use Rattle.fs_model.specs.declared.event.Event.TheVariants.{Call as Calls}
 use Rattle.fs_model.specs.declared.reply.Reply.{Reply}
 use Rattle.fs_model.specs.Births.{the_node}
 use Rattle.fs_model.specs.Nodes.{Node, acl_in, bytes_in, default_in, names_in, shown_mode, target_in, type_of}
@@ -16,7 +15,7 @@ use Rattle.fs_model.specs.States.{State}
 use Rattle.fs_model.specs.Steps.{Step}
 use Rattle.fs_model.specs.TreeChanges.{Change, Same, Rewrite, Make, AddName, TakeName, MoveName, changed, swept}
 use Rattle.fs_model.specs.Trees.{Tree}
-use Rattle.fuse_plans.specs.Alterations.{Alteration, resizes, resizes_open, writes_open, sets_mode, sets_owner, sets_group, sets_list, adds_name, takes_name, moves_name, alterations_by}
+use Rattle.fuse_plans.specs.Alterations.{Alteration, resizes, resizes_open, writes_open, sets_mode, sets_owner, sets_group, sets_list, adds_name, takes_name, moves_name, alterations_in}
 
 -- ---- of what an alteration is
 
@@ -81,11 +80,6 @@ IsSaid alterations t (Make directory name n node) = Says is_added alterations
 IsSaid alterations t (AddName directory name n) = Says is_added alterations
 IsSaid alterations t (TakeName directory name) = Says is_taken alterations
 IsSaid alterations t (MoveName directory name to_directory to_name) = Says is_moved alterations
-
--- all that an event may change
-abbrev pub alterations_in : Event → List Alteration
-alterations_in (Calls pid call) = alterations_by pid call
-alterations_in event = []
 
 -- The tree stays; or such a change is made of it, and then what has no name and isn't open any more is gone.
 pub data LeavesUnsaid (alterations : List Alteration) (old new : State) : Type 0 where

@@ -6,11 +6,12 @@
 --     RunsBehave        the same of what was asked
 --     RequestsChangeWhatTheySay, RunsChangeWhatRequestsSay        what changes of names and attributes comes of a request that says so
 --     OthersChangeNothing, OthersKeepTimes        requests that say no change
+--     FailuresChangeNothing        requests that change all or nothing
 --     OpenedIsTheObject        what an OPEN has opened is the object of its node
 --     ToldNodesLeadToObjects        the node that is told of a name leads to what has it
 --     WhoAsksCountsOnlyWhereNeeded        where nobody is needed a request is the same whoever asks
 --     JudgedLookupsAreGranted        where the kernel has judged, a look-up is refused in one kind of directory only
-use Rattle.std.specs.Prelude.{◌≡◌, ℕ, Bool, true, false, List, [], All, Option, None, Some, IsTrue, IsFalse, ◌<◌, ◌^◌}
+use Rattle.std.specs.Prelude.{◌≡◌, ◌≢◌, ℕ, Bool, true, false, List, [], All, Option, None, Some, is_some, IsTrue, IsFalse, ◌<◌, ◌^◌}
 use Rattle.posix_acl.specs.AccessList.{AccessList}
 use Rattle.fs_cred.specs.declared.errno.Errno.TheVariants.{EACCES}
 use Rattle.fs_cred.specs.declared.refusal.Refusal.{Refusal}
@@ -38,7 +39,8 @@ use Rattle.fuse_state.specs.Servers.{Server, number_of, times_of, owner_of, desc
 use Rattle.fuse_state.specs.Changes.{is_gone}
 use Rattle.fuse_plans.specs.Acts.{Subject}
 use Rattle.fuse_plans.specs.Conduct.{Known, Rights, conduct}
-use Rattle.fuse_plans.specs.Alterations.{Alteration, IsToldIn, says_change_in, MayBeAsked, AsksOnly}
+use Rattle.fuse_plans.specs.Alterations.{Alteration, IsToldIn, says_change_in, changes_at_once, alterations_in, MayBeAsked, AsksOnly}
+use Rattle.fuse_plans.specs.Works.{refusal_in}
 use Rattle.fuse_plans.specs.declared.stop.Stop.{Stop}
 use Rattle.fuse_plans.specs.declared.stop.Stop.TheVariants.{Refuses}
 use Rattle.fuse_plans.specs.Stops.{is_for}
@@ -135,6 +137,13 @@ abbrev pub OthersKeepTimes : Type 0
 OthersKeepTimes =
     (r : Request) (s t : Server) (response : Response) (es : List Event) (replies : List Reply) → IsFalse (says_change_in r.operation)
     → IsRunOf (request_plan r s) es replies (response, t) → (n : ℕ) → times_of t n ≡ times_of s n
+
+-- Where one call changes all, and the request fails, that call was refused, each time that it was made.
+abbrev pub FailuresChangeNothing : Type 0
+FailuresChangeNothing =
+    (r : Request) (s t : Server) (operation : Operation) (e : Stop) (es : List Event) (replies : List Reply) (asked : Event) (reply : Reply)
+    (after : List Event) → r.operation ≡ Some operation → IsTrue (changes_at_once operation) → IsRunOf (request_plan r s) es replies (Fails e, t)
+    → IsAsked asked reply after es replies → alterations_in asked ≢ [] → IsTrue (is_some (refusal_in reply))
 
 -- ---- what is opened
 

@@ -1,7 +1,7 @@
 //! The laws of the plans: each is the contract of a function that does nothing.
 ghost use Rattle.fuse_plans.specs.ShareLaws.{RequestsKeepShares, ProcessesAreFound, DirectoriesAreFound};
 ghost use Rattle.fuse_plans.specs.AlteredTrees.{StepsChangeWhatIsSaid};
-ghost use Rattle.fuse_plans.specs.Laws.{BeginningBehaves, JudgedLookupsAreGranted, OpenedIsTheObject, OthersChangeNothing, OthersKeepTimes, RequestsBehave, RequestsChangeWhatTheySay, RunsChangeWhatRequestsSay, RunsBehave, ToldNodesLeadToObjects, WhoAsksCountsOnlyWhereNeeded};
+ghost use Rattle.fuse_plans.specs.Laws.{BeginningBehaves, FailuresChangeNothing, JudgedLookupsAreGranted, OpenedIsTheObject, OthersChangeNothing, OthersKeepTimes, RequestsBehave, RequestsChangeWhatTheySay, RunsChangeWhatRequestsSay, RunsBehave, ToldNodesLeadToObjects, WhoAsksCountsOnlyWhereNeeded};
 
 /// Whatever the machine replies, no request but the first is performed with more than the rights of who asks.
 ///
@@ -39,13 +39,21 @@ pub fn what_is_asked_may_be()
 ///
 /// So what the kernel was told of anything else stays true, as long as its mount is the image's only writer. LOOKUP, GETATTR, SETATTR
 /// and what makes or links an object are answered with the attributes that it has then; of the rest the kernel knows by its own request
-/// what it has to ask again. A request that failed may have changed what it says: a SETATTR is done in parts, what was made or linked
-/// may not be shown, and a CREATE may have taken the bytes. The kernel isn't told, and has to be.
+/// what it has to ask again. Where a request fails, [`failures_change_nothing`] says which have changed nothing. Others may have changed
+/// what they say, and the kernel isn't told: a SETATTR is done in parts, what was made or linked may not be shown, and an OPEN or a
+/// CREATE may have taken the bytes.
 pub fn requests_change_what_they_say()
     ensures may_be_asked { RequestsChangeWhatTheySay }
     ensures asked { RunsChangeWhatRequestsSay }
     ensures nothing { OthersChangeNothing }
     ensures times { OthersKeepTimes }
+{}
+
+/// Where UNLINK, RMDIR, RENAME, SETXATTR or REMOVEXATTR fails, nothing has changed.
+///
+/// Each call that they asked for, and that changes names or attributes, was refused, whatever else was replied.
+pub fn failures_change_nothing()
+    ensures { FailuresChangeNothing }
 {}
 
 /// By no event the machine changes more of its tree than `alterations_by` says of the call.
