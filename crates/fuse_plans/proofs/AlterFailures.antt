@@ -30,7 +30,7 @@ use Rattle.fuse_plans.specs.Nobody.{needs_nobody_in}
 use Rattle.fuse_plans.specs.Serving.{plan_of, asked_for, response_of, answered, answered_as, request_plan}
 use Rattle.fuse_plans.specs.Alterations.{Alteration, alterations_by, alterations_in, changes_at_once, AreTold, MayBeAsked, AsksOnly}
 use Rattle.fuse_plans.specs.Laws.{FailuresChangeNothing}
-use Rattle.fuse_plans.proofs.ToldNodes.{AllEnd, all-followed_by, all-run}
+use Rattle.fuse_plans.proofs.AllEnds.{AllEnd, all-followed_by, all-run}
 use Rattle.fuse_plans.proofs.AlterPieces.{pieces, Asks}
 use Rattle.fuse_plans.proofs.AlterRequests.{asks-needs_nobody_in}
 use Rattle.fuse_plans.proofs.AlterNames.{asks-none_there}

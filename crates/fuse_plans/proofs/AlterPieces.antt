@@ -25,7 +25,7 @@ use Rattle.fuse_plans.specs.Plans.{Plan, Finish, Ask, followed_by}
 use Rattle.fuse_plans.specs.Works.{Work, give, stop, kept, keep, goes_on, ◌>>=◌, attempt, needed, ask, give_unless, refusal_in, unless_refused, obtain, or_closed}
 use Rattle.fuse_plans.specs.Callers.{settle_new, settle, retire_next, retire, settle_first, begin_process, or_spawned, caller, unused_of, or_unused, caller_with_room, the_looker, between, done_between, look_inside, or_inside, standing_refusal, or_next, by_places, by_place, on, by_looker, look_at, look, is_known_directory, the_number, directory_number, standing_directory}
 use Rattle.fuse_plans.specs.FilePlans.{when, done}
-use Rattle.fuse_plans.proofs.ToldNodes.{AllEnd, all-followed_by}
+use Rattle.fuse_plans.proofs.AllEnds.{AllEnd, all-followed_by}
 use Rattle.fuse_plans.specs.Alterations.{Alteration, where_so, alterations_by, IsToldIn, AreTold, MayBeAsked, AsksOnly}
 
 -- ---- plans

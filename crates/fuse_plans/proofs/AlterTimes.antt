@@ -41,7 +41,7 @@ use Rattle.fuse_plans.specs.Nobody.{needs_nobody_in}
 use Rattle.fuse_plans.specs.Serving.{or_looker, begin, count_space, end, plan_of, asked_for, response_of, answered, answered_as, request_plan}
 use Rattle.fuse_plans.specs.Alterations.{Alteration, resizes, resizes_open, says_change, says_change_in, IsToldIn}
 use Rattle.fuse_plans.specs.Laws.{OthersChangeNothing, OthersKeepTimes}
-use Rattle.fuse_plans.proofs.ToldNodes.{AllEnd, all-weaker, all-followed_by, all-run}
+use Rattle.fuse_plans.proofs.AllEnds.{AllEnd, all-weaker, all-followed_by, all-run}
 use Rattle.fuse_plans.proofs.AlterPieces.{all-any}
 
 -- ---- times
