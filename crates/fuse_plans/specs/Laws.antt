@@ -125,25 +125,28 @@ RequestsChangeWhatTheySay = (r : Request) (s : Server) → AsksOnly (MayBeAsked 
 -- The same of what was asked.
 abbrev pub RunsChangeWhatRequestsSay : Type 0
 RunsChangeWhatRequestsSay =
-    (r : Request) (s : Server) (es : List Event) (replies : List Reply) (result : Response × Server) → IsRunOf (request_plan r s) es replies result
-    → All (MayBeAsked r.operation) es
+    (r : Request) (s : Server) (es : List Event) (replies : List Reply) (result : Response × Server)
+    → IsRunOf (request_plan r s) es replies result → All (MayBeAsked r.operation) es
 
 -- All others change nothing of the machine's,
 abbrev pub OthersChangeNothing : Type 0
-OthersChangeNothing = (operation : Option Operation) (alteration : Alteration) → IsFalse (says_change_in operation) → IsToldIn operation alteration → ⊥
+OthersChangeNothing =
+    (operation : Option Operation) (alteration : Alteration) → IsFalse (says_change_in operation) → IsToldIn operation alteration → ⊥
 
 -- and no times, which the server keeps.
 abbrev pub OthersKeepTimes : Type 0
 OthersKeepTimes =
-    (r : Request) (s t : Server) (response : Response) (es : List Event) (replies : List Reply) → IsFalse (says_change_in r.operation)
-    → IsRunOf (request_plan r s) es replies (response, t) → (n : ℕ) → times_of t n ≡ times_of s n
+    (r : Request) (s t : Server) (response : Response) (es : List Event) (replies : List Reply)
+    → IsFalse (says_change_in r.operation) → IsRunOf (request_plan r s) es replies (response, t)
+    → (n : ℕ) → times_of t n ≡ times_of s n
 
 -- Where one call changes all, and the request fails, that call was refused, each time that it was made.
 abbrev pub FailuresChangeNothing : Type 0
 FailuresChangeNothing =
-    (r : Request) (s t : Server) (operation : Operation) (e : Stop) (es : List Event) (replies : List Reply) (asked : Event) (reply : Reply)
-    (after : List Event) → r.operation ≡ Some operation → IsTrue (changes_at_once operation) → IsRunOf (request_plan r s) es replies (Fails e, t)
-    → IsAsked asked reply after es replies → alterations_in asked ≢ [] → IsTrue (is_some (refusal_in reply))
+    (r : Request) (s t : Server) (operation : Operation) (e : Stop) (es : List Event) (replies : List Reply)
+    (asked : Event) (reply : Reply) (after : List Event) → r.operation ≡ Some operation → IsTrue (changes_at_once operation)
+    → IsRunOf (request_plan r s) es replies (Fails e, t) → IsAsked asked reply after es replies → alterations_in asked ≢ []
+    → IsTrue (is_some (refusal_in reply))
 
 -- ---- what is opened
 
