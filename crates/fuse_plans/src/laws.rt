@@ -33,15 +33,15 @@ pub fn what_is_asked_may_be()
 /// Whatever the machine replies, no request asks for a call that changes more than the request says: which, `IsToldBy` lists. The
 /// size changes by SETATTR, and by OPEN and CREATE where they are to take the bytes; bytes change by WRITE, of the open file that its
 /// handle gives; mode, owner and group by SETATTR, where it gives them; a list by SETXATTR and REMOVEXATTR that name it; and a name
-/// is added, taken or moved by a request that gives that name. All other requests change nothing, nor the times of any object, and
-/// the disk is never stopped. [`requests_behave`] says on what: on an object that the request is about, or in the directory of the
-/// name; and [`steps_change_what_is_said`] that the machine changes no more by such a call.
+/// is added, taken or moved by a request that gives that name. All other requests change nothing, nor the times of any object, which
+/// the server keeps; and the disk is never stopped. [`requests_behave`] says on what: on an object that the request is about, or in
+/// the directory of the name; and [`steps_change_what_is_said`] that the machine changes no more by such a call.
 ///
-/// So what the kernel was told of anything else stays true, as long as its mount is the image's only writer. LOOKUP, GETATTR, SETATTR
-/// and what makes or links an object are answered with the attributes that it has then; of the rest the kernel knows by its own request
-/// what it has to ask again. Where a request fails, [`failures_change_nothing`] says which have changed nothing. Others may have changed
-/// what they say, and the kernel isn't told: a SETATTR is done in parts, what was made or linked may not be shown, and an OPEN or a
-/// CREATE may have taken the bytes.
+/// So what else the machine shows stays as the kernel was told it, as long as its mount is the image's only writer. LOOKUP, GETATTR,
+/// SETATTR and what makes or links an object are answered with the attributes that it has then; of the rest the kernel knows by its
+/// own request what it has to ask again. Where a request fails, [`failures_change_nothing`] says which have changed nothing. Others
+/// may have changed what they say, and the kernel isn't told: a SETATTR is done in parts, what was made or linked may not be shown,
+/// and an OPEN or a CREATE may have taken the bytes.
 pub fn requests_change_what_they_say()
     ensures may_be_asked { RequestsChangeWhatTheySay }
     ensures asked { RunsChangeWhatRequestsSay }
