@@ -9,6 +9,7 @@ use fuse_protocol::Time;
 use std::alloc::Global;
 use std::fs;
 use std::io::{self, ErrorKind, Read, Write};
+use std::path::PathBuf;
 use std::rt::{Clock, Files};
 use std::time::{SystemTime, UNIX_EPOCH};
 
@@ -19,6 +20,9 @@ const EINTR: i32 = 4;
 
 const ENODEV: i32 = 19;
 
+// Of /proc/PID/status one read gives so many bytes at least, or all: few processes have groups for more.
+const STATUS_ROOM: usize = 4096;
+
 /// Reads requests from a stream and writes replies to another: who mounts opens /dev/fuse and gives it as both. Of callers
 /// /proc tells, and of the time the system's clock.
 ///
@@ -28,12 +32,23 @@ pub struct Standard<R, I, O> {
     rt: R,
     input: I,
     output: O,
+    // The status of a process is read into it, over what was read before.
+    room: Vec<u8>,
+    // The user namespace of this process, once it was asked for: it stays in it.
+    own_users: Option<PathBuf<Global>>,
 }
 
-impl<R, I, O> Standard<R, I, O> {
+impl<R: AllocGlobal, I, O> Standard<R, I, O> {
     /// The kernel at these streams.
     pub fn new(rt: R, input: I, output: O) -> Standard<R, I, O> {
-        Standard { rt, input, output }
+        let room = Vec::new(rt.alloc());
+        Standard {
+            rt,
+            input,
+            output,
+            room,
+            own_users: None,
+        }
     }
 }
 
@@ -41,26 +56,44 @@ fn is_errno(fault: &io::Error, errno: i32) -> bool {
     fault.raw_os_error() == Some(errno)
 }
 
-// Whether a process is in the user namespace of this one: user_namespaces(7).
-fn shares_users<R: Files + AllocGlobal>(rt: &R, pid: u32) -> io::Result<bool> {
-    let alloc: Global = rt.alloc();
-    let path = format!(in alloc; "/proc/{pid}/ns/user")?;
-    let theirs = fs::read_link(rt, path.as_str())?;
-    let own = fs::read_link(rt, "/proc/self/ns/user")?;
-    Ok(theirs.as_str() == own.as_str())
+// All of a file of /proc. A read that gives less than was asked for has given its end.
+fn read_all<'a, F: Read>(file: &mut F, room: &'a mut Vec<u8>) -> io::Result<&'a [u8]> {
+    room.resize(STATUS_ROOM, 0)?;
+    let size = file.read(room)?;
+    if size < STATUS_ROOM {
+        return Ok(&room[..size]);
+    }
+    file.read_to_end(room)?;
+    Ok(room)
 }
 
-// What /proc shows of a process that asks as this user and this group. Capabilities are those of its user namespace, and count here
-// only where that is this one's.
-fn look_up<R: Files + AllocGlobal>(rt: &R, pid: u32, uid: u32, gid: u32) -> io::Result<Caller> {
-    let alloc: Global = rt.alloc();
-    let path = format!(in alloc; "/proc/{pid}/status")?;
-    let text = fs::read(rt, path.as_str())?;
-    let mut caller = caller_of_status(alloc, &text, uid, gid)?;
-    if !caller.caps.is_empty() && !shares_users(rt, pid)? {
-        caller.caps = Caps::empty();
+impl<R: Files + AllocGlobal, I, O> Standard<R, I, O> {
+    // Whether a process is in the user namespace of this one: user_namespaces(7).
+    fn shares_users(&mut self, pid: u32) -> io::Result<bool> {
+        let path = format!(in self.rt.alloc(); "/proc/{pid}/ns/user")?;
+        let theirs = fs::read_link(&self.rt, path.as_str())?;
+        let own = match self.own_users.take() {
+            Some(own) => own,
+            None => fs::read_link(&self.rt, "/proc/self/ns/user")?,
+        };
+        let same = theirs.as_str() == own.as_str();
+        self.own_users = Some(own);
+        Ok(same)
     }
-    Ok(caller)
+
+    // What /proc shows of a process that asks as this user and this group. Capabilities are those of its user namespace, and count
+    // here only where that is this one's.
+    fn look_up(&mut self, pid: u32, uid: u32, gid: u32) -> io::Result<Caller> {
+        let alloc = self.rt.alloc();
+        let path = format!(in alloc; "/proc/{pid}/status")?;
+        let mut file = fs::open(&self.rt, path.as_str())?;
+        let text = read_all(&mut file, &mut self.room)?;
+        let mut caller = caller_of_status(alloc, text, uid, gid)?;
+        if !caller.caps.is_empty() && !self.shares_users(pid)? {
+            caller.caps = Caps::empty();
+        }
+        Ok(caller)
+    }
 }
 
 fn time_of<R: Clock>(rt: &R) -> io::Result<Time> {
@@ -103,7 +136,7 @@ impl<R: Files + AllocGlobal + Clock, I: Read, O: Write> Kernel for Standard<R, I
     }
 
     fn caller(&mut self, pid: u32, uid: u32, gid: u32) -> Caller {
-        match look_up(&self.rt, pid, uid, gid) {
+        match self.look_up(pid, uid, gid) {
             Ok(caller) => caller,
             Err(_) => Caller::unknown(),
         }
