@@ -25,10 +25,10 @@ use Rattle.fs_command.specs.declared.failure.Failure.TheVariants as failures
 use Rattle.fs_command.specs.declared.status.Status.{Status}
 use Rattle.fs_command.specs.declared.status.Status.TheVariants.{Done, Failed}
 
--- Writes have up to 128 KiB. With its own rules the kernel judges no ACLs. All data sectors and all inodes are shown.
+-- Writes have up to 1 MiB. With its own rules the kernel judges no ACLs. All data sectors and all inodes are shown.
 abbrev pub settings_of : Place → Bool → Time → Settings
 settings_of place own_rules start = record {
-  max_write = 131072;
+  max_write = 1048576;
   posix_acl = not own_rules;
   keeping = usually_kept;
   sectors = place.sectors - place.first_data;

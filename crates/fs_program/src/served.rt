@@ -16,10 +16,10 @@ use std::alloc::{AllocError, Global};
 use std::io::Write;
 
 // The most bytes of one write.
-const MAX_WRITE: u32 = 131_072;
+const MAX_WRITE: u32 = 1_048_576;
 
-// A request with so many bytes to write has a header and a body of 80 more.
-const REQUEST_ROOM: usize = 131_152;
+// A request with so many bytes to write has a header and a body of 80 more, for which there is a page.
+const REQUEST_ROOM: usize = 1_052_672;
 
 // Room for one request, and for one reply.
 #[derive(Drop)]

@@ -3,10 +3,10 @@
 use std::alloc::{AllocError, Global};
 
 /// The most bytes that one request reads: of a file, or of a directory's entries.
-pub const MAX_READ: u32 = 131_072;
+pub const MAX_READ: u32 = 1_048_576;
 
 // Of a reply that holds what was read.
-const MAX_REPLY: usize = 131_088;
+const MAX_REPLY: usize = 1_048_592;
 
 // Of the value of an ACL with 32 entries.
 const MAX_VALUE: usize = 260;
