@@ -11,7 +11,7 @@ import pathlib
 import re
 import stat
 
-from mounts import ACLS, USERS, Worker, acl_bytes, acl_text, attempt
+from mounts import ACLS, USERS, Worker, acl_bytes, acl_text, attempt, is_mounted
 
 SCRIPT = (pathlib.Path(__file__).resolve().parent / 'mounted.cached').read_text()
 LINE = re.compile(r'(?:\[(\d+)\] )?(\w+): (.*?)(?: -> (.*))?')
@@ -55,11 +55,6 @@ def listed(place):
 def mount(path):
     if os.spawnlp(os.P_WAIT, 'mount', 'mount', '-t', 'tmpfs', '-o', 'mode=755', 'tmpfs', path):
         raise OSError(errno.EIO, path)
-
-
-def is_mounted(path):
-    """By the kernel's list: a look at the path would be one more of those that are tried."""
-    return any(line.split()[4] == path for line in pathlib.Path('/proc/self/mountinfo').read_text().splitlines())
 
 
 def held_map(path):

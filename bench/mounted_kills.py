@@ -45,12 +45,14 @@ def work_of(dice):
             ('chmod', path, dice.choice([0o644, 0o600, 0o755]))])
 
 
-def states_of(root, work):
-    """The trees that the changes leave one after the other, and what each answers."""
-    states, answers = [tree_of(root)], []
-    for change in work:
-        answers.append(perform(root, *change))
-        states.append(tree_of(root))
+def states_of(root, work, first):
+    """The trees that the changes leave one after the other, from behind so many on, and what each change answers."""
+    states, answers = {}, []
+    for number in range(len(work) + 1):
+        if number >= first:
+            states[number] = tree_of(root)
+        if number < len(work):
+            answers.append(perform(root, *work[number]))
     return states, answers
 
 
@@ -80,13 +82,14 @@ def kills(mounted, told, seed, count):
         changes = work_of(dice)
         work = [next(changes) for _ in range(250)]
         mounted.fresh()
-        states, wanted = states_of(mounted.local, work)
         mounted.begin()
         worker = Worker('root', perform)
         # A change takes less than a millisecond, and one that commits some.
         answers, synced = killed(mounted, worker, work, dice.randrange(len(work)), dice.random() * dice.choice([0.0005, 0.005]))
         worker.end()
-        at = judge(mounted, told, f'kill {number} of seed {seed} behind {len(answers)} changes', states, wanted, answers, synced)
+        # One change more may have been done than was answered.
+        states, wanted = states_of(mounted.local, work[:len(answers) + 1], synced)
+        at = judge(mounted, told, f'kill {number} of seed {seed} behind {len(answers)} changes', states, wanted, answers)
         told.compared += 1
         if at is not None:
             lost.append(max(len(answers) - at, 0))
@@ -95,7 +98,7 @@ def kills(mounted, told, seed, count):
         print(f'{count} kills, behind {min(done)} to {max(done)} changes, of which up to {max(lost)} were lost that nobody had synced')
 
 
-def judge(mounted, told, text, states, wanted, answers, synced):
+def judge(mounted, told, text, states, wanted, answers):
     """Finds out whether the image is clean, and holds a tree that the work left behind the last sync: after how many changes."""
     if answers != wanted[:len(answers)]:
         told.fault(f'{text}: other answers than in the directory')
@@ -108,9 +111,8 @@ def judge(mounted, told, text, states, wanted, answers, synced):
     mounted.begin()
     found = tree_of(mounted.mount)
     mounted.end()
-    at = [number for number, state in enumerate(states) if state == found]
-    right = [number for number in at if synced <= number <= len(answers) + 1]
+    right = [number for number, state in states.items() if state == found]
     if not right:
-        told.fault(f'{text}: the tree is that behind {at}, synced was {synced}')
+        told.fault(f'{text}: the tree is none of those behind the last sync, {min(states)} changes, and those that followed')
         return None
     return right[-1]

@@ -148,6 +148,11 @@ def attempt(call, *words):
         return errno.errorcode.get(error.errno, str(error.errno))
 
 
+def is_mounted(path):
+    """Whether something is mounted there by the kernel's list: a look at it fails where its server has ended, and asks one that runs."""
+    return any(line.split()[4] == str(path) for line in pathlib.Path('/proc/self/mountinfo').read_text().splitlines())
+
+
 def in_child(work):
     """What the work answers in a process of its own, as text."""
     reading, writing = os.pipe()
@@ -219,7 +224,7 @@ class Mounted:
     def gone(self):
         """Waits until nothing is mounted any more, and the one that looked after the server has ended."""
         for _ in range(SECONDS * 100):
-            if not os.path.ismount(self.mount) and self.server() is None:
+            if not is_mounted(self.mount) and self.server() is None:
                 return True
             time.sleep(0.01)
         return False
