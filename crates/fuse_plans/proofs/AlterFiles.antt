@@ -17,6 +17,7 @@ use Rattle.fuse_plans.specs.Flags.{is_trunc}
 use Rattle.fuse_plans.specs.FilePlans.{done, when, reads_alone, show_open, confirm_shown, confirm_open, cuts_open, open_file, or_opened, open_or_make, look_open, tell_created, create_file, the_open, call_open, seek, seek_open, read_piece, read_pieces, read_file, or_done, write_piece, write_pieces, pieces_in, write_file, close_file, sync_file}
 use Rattle.fuse_plans.specs.Alterations.{resizes, resizes_open, writes_open, adds_name, IsToldIn}
 use Rattle.fuse_plans.proofs.AlterPieces.{pieces, told-where_so, Asks, IsTold, asks-give, asks-stop, asks->>=, asks-attempt, asks-if, asks-when_so, asks-done, asks-obtain, asks-or_closed, asks-on}
+use Rattle.fuse_plans.proofs.AlterMasks.{asks-new_valid}
 use Rattle.fuse_plans.proofs.AlterNames.{asks-plain_name}
 use Rattle.fs_layout.proofs.FirstEntries.{left, right}
 
@@ -46,7 +47,7 @@ module _ {o : Option Operation} (flags : ℕ) (told : is_trunc flags ≡ true �
 
   pub asks-create_file : (r : Asked) (name : List ℕ) (mode umask : ℕ) → IsToldIn o (adds_name name) → Asks o (create_file r name flags mode umask)
   unfolding open_or_make look_open tell_created
-  asks-create_file r name file_mode umask adds = search (pieces, asks-plain_name, asks-or_opened, asks-show_open, adds) depth 24
+  asks-create_file r name file_mode umask adds = search (pieces, asks-plain_name, asks-new_valid, asks-or_opened, asks-show_open, adds) depth 24
 
   -- where what is there loses its bytes by a path, or once it is open, that is told
   pub asks-open_file : (r : Asked) → ((pid fd : ℕ) → is_trunc flags ≡ true → IsToldIn o (resizes_open pid fd 0)) → Asks o (open_file r flags)

@@ -1,16 +1,18 @@
 -- What requests for names change: no more than they say.
-use Rattle.std.specs.Prelude.{ℕ, List, Option, Result, Ok, Err}
+use Rattle.std.specs.Prelude.{ℕ, Bool, List, Option, Result, Ok, Err}
 use Rattle.fs_model.specs.declared.call.Call.{Call}
 use Rattle.fs_model.specs.declared.reply.Reply.{Reply}
+use Rattle.fs_model.specs.declared.reply.Status.{Status}
 use Rattle.fuse_protocol.specs.declared.operation.Operation.{Operation}
 use Rattle.fuse_protocol.specs.declared.reply.Time.{Time}
 use Rattle.fuse_plans.specs.declared.request.Asked.{Asked}
 use Rattle.fuse_plans.specs.declared.stop.Stop.{Stop}
 use Rattle.fuse_plans.specs.declared.stop.Stop.TheVariants.{Refuses, Lacks}
 use Rattle.fuse_plans.specs.declared.stop.OtherErrno.TheVariants.{ENFILE, ERANGE, ENOSYS, ENODATA, EPROTO, EOPNOTSUPP, ESTALE}
-use Rattle.fuse_plans.specs.NamePlans.{plain_name, or_absent, find_name, made, open_and_close, directory_and_caller, make_link, make_directory, make_file, remove, none_there, move_name, link_by_place, add_link}
+use Rattle.fuse_plans.specs.NamePlans.{plain_name, or_absent, found_or_absent, find_name, made, open_and_close, directory_and_caller, make_link, make_directory, make_file, remove, none_there, move_name, link_by_place, add_link}
 use Rattle.fuse_plans.specs.Alterations.{adds_name, moves_name, IsToldIn}
 use Rattle.fuse_plans.proofs.AlterPieces.{pieces, Asks, IsTold, asks-give, asks-stop}
+use Rattle.fuse_plans.proofs.AlterMasks.{asks-new_valid}
 
 module _ {o : Option Operation} where
   pub asks-plain_name : (name : List ℕ) → Asks o (plain_name name)
@@ -19,9 +21,9 @@ module _ {o : Option Operation} where
   asks-directory_and_caller : (r : Asked) (name : List ℕ) → Asks o (directory_and_caller r name)
   asks-directory_and_caller r name = search pieces depth 12
 
-  asks-made : (now : Time) (d : ℕ) (name : List ℕ) → Asks o (made now d name)
+  asks-made : (now : Time) (name_valid d : ℕ) (name : List ℕ) → Asks o (made now name_valid d name)
   unfolding made
-  asks-made now d name = search pieces depth 12
+  asks-made now name_valid d name = search pieces depth 12
 
   asks-open_and_close : (pid d : ℕ) (call : Call) → IsTold o pid call → Asks o (open_and_close pid d call)
   asks-open_and_close pid d call told = search (pieces, told) depth 12
@@ -37,17 +39,21 @@ module _ {o : Option Operation} where
   asks-or_absent (Err (Lacks EPROTO)) = asks-stop _
   asks-or_absent (Err (Lacks EOPNOTSUPP)) = asks-stop _
 
+  asks-found_or_absent : (nobody : Bool) (d : ℕ) (name : List ℕ) (seen : Result Status Stop) → Asks o (found_or_absent nobody d name seen)
+  asks-found_or_absent nobody d name (Ok status) = search pieces depth 12
+  asks-found_or_absent nobody d name (Err e) = search pieces depth 12
+
   pub asks-find_name : (r : Asked) (name : List ℕ) → Asks o (find_name r name)
-  asks-find_name r name = search (pieces, asks-or_absent) depth 16
+  asks-find_name r name = search (pieces, asks-or_absent, asks-found_or_absent) depth 20
 
   pub asks-make_link : (r : Asked) (name target : List ℕ) → IsToldIn o (adds_name name) → Asks o (make_link r name target)
-  asks-make_link r name target told = search (pieces, asks-directory_and_caller, asks-made, told) depth 12
+  asks-make_link r name target told = search (pieces, asks-plain_name, asks-new_valid, asks-made, told) depth 20
 
   pub asks-make_directory : (r : Asked) (name : List ℕ) (mode umask : ℕ) → IsToldIn o (adds_name name) → Asks o (make_directory r name mode umask)
-  asks-make_directory r name mode umask told = search (pieces, asks-directory_and_caller, asks-made, told) depth 12
+  asks-make_directory r name mode umask told = search (pieces, asks-plain_name, asks-new_valid, asks-made, told) depth 20
 
   pub asks-make_file : (r : Asked) (name : List ℕ) (mode umask : ℕ) → IsToldIn o (adds_name name) → Asks o (make_file r name mode umask)
-  asks-make_file r name mode umask told = search (pieces, asks-open_and_close, asks-made, told) depth 16
+  asks-make_file r name mode umask told = search (pieces, asks-plain_name, asks-new_valid, asks-open_and_close, asks-made, told) depth 24
 
   pub asks-remove : (r : Asked) (call : List ℕ → Call) (name : List ℕ) → ((pid : ℕ) → IsTold o pid (call name)) → Asks o (remove r call name)
   asks-remove r call name told = search (pieces, asks-directory_and_caller, told) depth 12

@@ -27,12 +27,14 @@ use Rattle.fuse_plans.specs.Conduct.{IsOfHandle}
 use Rattle.fuse_plans.specs.NamePlans.{removal}
 use Rattle.fuse_plans.specs.AttributePlans.{get_attributes, no_owners, new_owners, set_size, set_owners, set_mode, may_set_times, set_times, change_attributes, set_attributes, read_link, access_as, ask_access}
 use Rattle.fuse_plans.specs.DirectoryPlans.{take_directory_if, take_directory, open_directory, tell_names, list_open, list_all, list_now, listed, read_directory, close_directory, sync_all}
-use Rattle.fuse_plans.specs.AclPlans.{acl_named, an_object, acl_of, sized, get_xattr, attribute_names, list_xattrs, set_acl, set_xattr, remove_xattr}
-use Rattle.fuse_plans.specs.Nobody.{is_masked, is_judged, needs_nobody, needs_nobody_in, unless_masked, asks_list}
+use Rattle.fuse_plans.specs.AclPlans.{acl_named, an_object, sized, get_xattr, attribute_names, list_xattrs, set_acl, set_xattr, remove_xattr}
+use Rattle.fuse_plans.specs.Nobody.{is_judged, needs_nobody, needs_nobody_in, unless_masked}
+use Rattle.fuse_plans.specs.Masks.{is_masked}
 use Rattle.fuse_plans.specs.Serving.{or_looker, begin, count_space, end, plan_of, asked_for, response_of, answered, answered_as, request_plan}
 use Rattle.fuse_plans.specs.Alterations.{sets_list, IsToldIn, MayBeAsked, AsksOnly}
 use Rattle.fuse_plans.specs.Laws.{RequestsChangeWhatTheySay, RunsChangeWhatRequestsSay}
 use Rattle.fuse_plans.proofs.AlterPieces.{pieces, Gives, gives-give, gives-stop, gives-if, gives->>=, asks-then, told-two, asks-followed_by, Asks, asks-give, asks-stop, asks-keep, asks->>=, asks-when, asks-needed, asks-needed_then, asks-on}
+use Rattle.fuse_plans.proofs.AlterMasks.{asks-acl_of, asks-is_masked}
 use Rattle.fuse_plans.proofs.AlterNames.{asks-find_name, asks-make_link, asks-make_directory, asks-make_file, asks-remove, asks-move_name, asks-add_link}
 use Rattle.fuse_plans.proofs.AlterFiles.{asks-call_open, asks-open_file, asks-create_file, asks-read_file, asks-write_file, asks-close_file, asks-sync_file}
 
@@ -111,9 +113,6 @@ module _ (r : Asked) (c : AttrChanges) where
 module _ {o : Option Operation} where
   asks-an_object : (r : Asked) → Asks o (an_object r)
   asks-an_object r = search pieces depth 12
-
-  asks-acl_of : (n : ℕ) (which : AclType) → Asks o (acl_of n which)
-  asks-acl_of n which = search pieces depth 12
 
   asks-sized : (size has : ℕ) (body : ReplyBody) → Asks o (sized size has body)
   asks-sized size has body = search pieces depth 12
@@ -241,14 +240,6 @@ asks-answered : (o : Option Operation) (memory : Bool) (work : Option (Work Repl
 asks-answered o memory None s asks = tt
 asks-answered o true (Some w) s asks = asks-followed_by (MayBeAsked o) (w s) (λ r. Finish (response_of r.0, r.1)) (asks.at s) (λ r. tt)
 asks-answered o false (Some w) s asks = tt
-
-module _ {o : Option Operation} where
-  asks-asks_list : (n : ℕ) (status : Status) → Asks o (asks_list n status)
-  asks-asks_list n status = search (pieces, asks-acl_of) depth 12
-
-  asks-is_masked : (node : ℕ) → Asks o (is_masked node)
-  unfolding is_masked
-  asks-is_masked node = search (pieces, asks-asks_list) depth 12
 
 asks-is_judged : (o : Option Operation) (node : ℕ) (judges : Bool) (s : Server) → AsksOnly (MayBeAsked o) (is_judged node judges s)
 asks-is_judged o node false s = tt

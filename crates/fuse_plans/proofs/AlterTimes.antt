@@ -13,6 +13,7 @@ use Rattle.fs_model.specs.declared.call.Call.{Call}
 use Rattle.fs_model.specs.declared.event.Event.{Event}
 use Rattle.fs_model.specs.declared.reply.FileType.{FileType}
 use Rattle.fs_model.specs.declared.reply.Reply.{Reply}
+use Rattle.fs_model.specs.declared.reply.Status.{Status}
 use Rattle.fuse_protocol.specs.declared.operation.Extent.{Extent}
 use Rattle.fuse_protocol.specs.declared.operation.Offer.{Offer}
 use Rattle.fuse_protocol.specs.declared.operation.Operation.{Operation}
@@ -32,11 +33,12 @@ use Rattle.fuse_plans.specs.Requests.{asked_of}
 use Rattle.fuse_plans.specs.Works.{Work, give, stop, kept, keep, goes_on, ◌>>=◌, attempt, needed, ask, give_unless, refusal_in, unless_refused, or_closed}
 use Rattle.fuse_plans.specs.Callers.{settle_new, settle, retire_next, retire, settle_first, begin_process, or_spawned, caller, unused_of, or_unused, caller_with_room, the_looker, between, look_inside, or_inside, standing_refusal, or_next, by_places, on, look_at, look, the_number, directory_number, standing_directory}
 use Rattle.fuse_plans.specs.Flags.{is_trunc}
-use Rattle.fuse_plans.specs.NamePlans.{or_absent, find_name}
+use Rattle.fuse_plans.specs.NamePlans.{or_absent, found_or_absent, find_name}
 use Rattle.fuse_plans.specs.FilePlans.{when, touched_if, show_open, confirm_shown, confirm_open, open_file, the_open, seek, read_piece, read_pieces, read_file, close_file, sync_file}
 use Rattle.fuse_plans.specs.AttributePlans.{get_attributes, read_link, access_as, ask_access}
 use Rattle.fuse_plans.specs.DirectoryPlans.{take_directory_if, take_directory, open_directory, tell_names, list_open, list_all, list_now, listed, read_directory, close_directory, sync_all}
-use Rattle.fuse_plans.specs.AclPlans.{an_object, acl_of, get_xattr, attribute_names, list_xattrs}
+use Rattle.fuse_plans.specs.AclPlans.{an_object, get_xattr, attribute_names, list_xattrs}
+use Rattle.fuse_plans.specs.Masks.{acl_of}
 use Rattle.fuse_plans.specs.Nobody.{needs_nobody_in}
 use Rattle.fuse_plans.specs.Serving.{or_looker, begin, count_space, end, plan_of, asked_for, response_of, answered, answered_as, request_plan}
 use Rattle.fuse_plans.specs.Alterations.{Alteration, resizes, resizes_open, says_change, says_change_in, IsToldIn}
@@ -247,8 +249,12 @@ keeps-or_absent (Err (Lacks ENODATA)) = keeps-stop _
 keeps-or_absent (Err (Lacks EPROTO)) = keeps-stop _
 keeps-or_absent (Err (Lacks EOPNOTSUPP)) = keeps-stop _
 
+keeps-found_or_absent : (nobody : Bool) (d : ℕ) (name : List ℕ) (seen : Result Status Stop) → Timeless (found_or_absent nobody d name seen)
+keeps-found_or_absent nobody d name (Ok status) = search (pieces, found-keeps) depth 12
+keeps-found_or_absent nobody d name (Err e) = search pieces depth 12
+
 keeps-find_name : (r : Asked) (name : List ℕ) → Timeless (find_name r name)
-keeps-find_name r name = search (pieces, keeps-or_absent, found-keeps) depth 20
+keeps-find_name r name = search (pieces, keeps-or_absent, keeps-found_or_absent) depth 20
 
 keeps-get_attributes : (r : Asked) → Timeless (get_attributes r)
 keeps-get_attributes r = search pieces depth 12

@@ -1,6 +1,7 @@
 pub mod AllEnds
 pub mod AlterFailures
 pub mod AlterFiles
+pub mod AlterMasks
 pub mod AlterNames
 pub mod AlterPieces
 pub mod AlterRequests
