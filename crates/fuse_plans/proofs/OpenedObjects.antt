@@ -46,7 +46,7 @@ use Rattle.fuse_plans.proofs.PlanLaws.{run-parts}
 -- ---- what is asked
 
 -- the plan asks these events, and is well done with the value
-abbrev EndsWell : {X : Type 0} → Plan (Result X Stop × Server) → List Event → List Reply → X → Server → Type 0
+abbrev pub EndsWell : {X : Type 0} → Plan (Result X Stop × Server) → List Event → List Reply → X → Server → Type 0
 EndsWell p es replies x t = IsRunOf p es replies (Ok x, t)
 
 -- nothing more
@@ -55,14 +55,14 @@ finished x y [] [] ends = (refl, refl, ends)
 finished x y [] (reply ∷ replies) ends = elim ends [ ]
 finished x y (e ∷ es) replies ends = elim ends [ ]
 
-ok_is : {X : Type 0} (x y : X) → ◌≡◌ {A = Result X Stop} (Ok x) (Ok y) → x ≡ y
+pub ok_is : {X : Type 0} (x y : X) → ◌≡◌ {A = Result X Stop} (Ok x) (Ok y) → x ≡ y
 ok_is {X} x y is = ap value is
   where
     value : Result X Stop → X
     value (Ok z) = z
     value (Err e) = x
 
-stops_not_well : {X : Type 0} (e : Stop) (x : X) (s t : Server) (es : List Event) (replies : List Reply) → EndsWell (Finish (Err e, s)) es replies x t → ⊥
+pub stops_not_well : {X : Type 0} (e : Stop) (x : X) (s t : Server) (es : List Event) (replies : List Reply) → EndsWell (Finish (Err e, s)) es replies x t → ⊥
 stops_not_well e x s t es replies runs =
     let ends = finished (Err e, s) (Ok x, t) es replies runs in
     let no : Ok x ≡ Err e = ap (λ r. r.0) ends.2 in cc
@@ -361,7 +361,7 @@ file_held r flags s t es replies handle keeping runs = choose (number_of s r.nod
     }
 
 -- what is answered was the end of the work
-was_told : (p : Plan (Result ReplyBody Stop × Server)) (body : ReplyBody) (t : Server) (es : List Event) (replies : List Reply)
+pub was_told : (p : Plan (Result ReplyBody Stop × Server)) (body : ReplyBody) (t : Server) (es : List Event) (replies : List Reply)
     → IsRunOf {X = Response × Server} (followed_by p (λ r. Finish (response_of r.0, r.1))) es replies (Says body, t) → EndsWell p es replies body t
 was_told (Finish (Ok z, u)) body t [] [] runs = ap (λ r. (result_of r.0, r.1)) runs
   where

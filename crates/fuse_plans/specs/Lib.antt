@@ -20,3 +20,4 @@ pub mod Alterations
 pub mod AlteredTrees
 pub mod Laws
 pub mod ShareLaws
+pub mod KeepingLaws

@@ -1,4 +1,5 @@
 //! The laws of the plans: each is the contract of a function that does nothing.
+ghost use Rattle.fuse_plans.specs.KeepingLaws.{NamesAreKeptWhereJudged, OnlyMissingNamesAreAbsent};
 ghost use Rattle.fuse_plans.specs.ShareLaws.{RequestsKeepShares, ProcessesAreFound, DirectoriesAreFound};
 ghost use Rattle.fuse_plans.specs.AlteredTrees.{StepsChangeWhatIsSaid};
 ghost use Rattle.fuse_plans.specs.Laws.{BeginningBehaves, FailuresChangeNothing, JudgedLookupsAreGranted, OpenedIsTheObject, OthersChangeNothing, OthersKeepTimes, RequestsBehave, RequestsChangeWhatTheySay, RunsChangeWhatRequestsSay, RunsBehave, ToldNodesLeadToObjects, WhoAsksCountsOnlyWhereNeeded};
@@ -107,4 +108,14 @@ pub fn shares_are_found()
     ensures kept { RequestsKeepShares }
     ensures processes { ProcessesAreFound }
     ensures directories { DirectoriesAreFound }
+{}
+
+/// Whatever the machine replies, the kernel may keep a name only where it judges before it asks, and by a list that it follows.
+///
+/// A name that is looked up it may keep where who asks doesn't count. A new name it may keep where the server's own process was shown,
+/// before the name was made, a directory whose access list hasn't the mask `---` while others may search. That nothing has a name it
+/// may keep only where that process was refused for it.
+pub fn names_are_kept_where_judged()
+    ensures kept { NamesAreKeptWhereJudged }
+    ensures absent { OnlyMissingNamesAreAbsent }
 {}

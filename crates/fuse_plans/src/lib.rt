@@ -10,8 +10,9 @@ mod request;
 mod stop;
 
 pub use laws::{
-    beginning_behaves, failures_change_nothing, judged_lookups_are_granted, opened_is_the_object,
-    requests_behave, requests_change_what_they_say, shares_are_found, steps_change_what_is_said,
+    beginning_behaves, failures_change_nothing, judged_lookups_are_granted,
+    names_are_kept_where_judged, opened_is_the_object, requests_behave,
+    requests_change_what_they_say, shares_are_found, steps_change_what_is_said,
     told_nodes_lead_to_objects, what_is_asked_may_be, who_asks_counts_only_where_needed,
 };
 pub use mode::Mode;

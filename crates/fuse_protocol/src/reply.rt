@@ -64,7 +64,10 @@ pub enum Reply<'a> {
     /// It is done, and there is nothing to tell.
     Done,
     /// Attributes.
-    Attr { valid: u64, attr: Attr },
+    Attr {
+        valid: u64,
+        attr: Attr,
+    },
     /// A name was looked up or made: its node, and the node's attributes.
     Entry {
         node: u64,
@@ -73,7 +76,9 @@ pub enum Reply<'a> {
         attr: Attr,
     },
     /// Nothing has the name.
-    Absent { valid: u64 },
+    Absent {
+        valid: u64,
+    },
     /// A file was made and opened.
     Created {
         node: u64,
@@ -84,7 +89,10 @@ pub enum Reply<'a> {
         flags: OpenedFlags,
     },
     /// A file or a directory was opened.
-    Open { handle: u64, flags: OpenedFlags },
+    Open {
+        handle: u64,
+        flags: OpenedFlags,
+    },
     /// The first reply.
     Init(Terms),
     /// How many bytes were written, or an attribute has.

@@ -309,7 +309,9 @@ impl<M: Machine> Session<M> {
         let pid = self.caller_with_room(copy)?;
         set_umask(&mut self.machine, pid, umask)?.discard();
         let now = asked.now;
-        self.create_by(now, name_valid, pid, directory, name, mode, flags, file_mode)
+        self.create_by(
+            now, name_valid, pid, directory, name, mode, flags, file_mode,
+        )
     }
 
     // A process makes the file, or opens it.

@@ -16,8 +16,8 @@ use fuse_steps::Machine;
 use fuse_steps::asker::{between, done, done_between, obtain_once};
 use fuse_steps::flags::making;
 use fuse_steps::name::{
-    found_body, keeps_names, looked_up_body, only_file, or_absent, or_keep_absent, place, plain_name,
-    unless_hidden,
+    found_body, keeps_names, looked_up_body, only_file, or_absent, or_keep_absent, place,
+    plain_name, unless_hidden,
 };
 use fuse_steps::path::name_in;
 use fuse_steps::replies::fd_of_reply;

@@ -56,14 +56,22 @@ pub fn found_body(server: &Server, name_valid: u64, status: Status) -> ReplyBody
 fn judged_valid(needs_nobody: bool, settings: Settings) -> u64
     ensures { result ≡ judged_valid needs_nobody settings }
 {
-    if needs_nobody { settings.keeping.names } else { 0 }
+    if needs_nobody {
+        settings.keeping.names
+    } else {
+        0
+    }
 }
 
 /// What is told of an object that was looked up.
 pub fn looked_up_body(server: &Server, needs_nobody: bool, status: Status) -> ReplyBody
     ensures { result ≡ looked_up_body needs_nobody status server.now.server }
 {
-    found_body(server, judged_valid(needs_nobody, server.settings()), status)
+    found_body(
+        server,
+        judged_valid(needs_nobody, server.settings()),
+        status,
+    )
 }
 
 // Whether nothing has the name, and the kernel, which has judged, may keep that.
@@ -74,11 +82,7 @@ fn keeps_absent(needs_nobody: bool, settings: Settings, stop: Stop) -> bool
 }
 
 /// Where a name was looked up in vain: the error, or that nothing has it.
-pub fn or_keep_absent(
-    settings: Settings,
-    needs_nobody: bool,
-    stop: Stop,
-) -> Result<ReplyBody, Stop>
+pub fn or_keep_absent(settings: Settings, needs_nobody: bool, stop: Stop) -> Result<ReplyBody, Stop>
     ensures { or_keep_absent needs_nobody settings stop ≡ of_result result }
 {
     if keeps_absent(needs_nobody, settings, stop) {
@@ -100,13 +104,7 @@ pub fn unless_hidden(name_valid: u64, hides: Result<bool, Stop>) -> u64
     ensures { result ≡ unless_hidden name_valid hides }
 {
     match hides {
-        Ok(hides) => {
-            if hides {
-                0
-            } else {
-                name_valid
-            }
-        }
+        Ok(hides) => { if hides { 0 } else { name_valid } }
         Err(_unseen) => 0,
     }
 }

@@ -1,0 +1,734 @@
+-- What the kernel may keep of names.
+--     TellsSo        work that ends with an answer of some kind
+--     OnceAt        work that asks nothing
+--     names_are_kept_where_judged, only_missing_names_are_absent
+use Rattle.std.specs.Prelude.{◌≡◌, ℕ, ◌<◌, Bool, true, false, ◌&&◌, List, [], ◌∷◌, ◌++◌, Option, None, Some, unwrap_or, Result, Ok, Err, if◌then◌else◌, bit_and}
+use Rattle.std.proofs.Common.{refl, sym, ap, subst, arith}
+use Rattle.posix_acl.specs.AccessList.{AccessList}
+use Rattle.fs_cred.specs.declared.errno.Errno.TheVariants.{EPERM, ENOENT, EINVAL, ENOMEM}
+use Rattle.fs_cred.specs.declared.refusal.Refusal.{Refusal}
+use Rattle.fs_model.specs.Limits.{root}
+use Rattle.fs_model.specs.declared.call.Call.{Call}
+use Rattle.fs_model.specs.declared.call.Call.TheVariants.{Open as OpenCall, Lstat, Mkdir, Symlink}
+use Rattle.fs_model.specs.declared.event.Event.{Event}
+use Rattle.fs_model.specs.declared.event.Event.TheVariants.{Call as Calls, Enter}
+use Rattle.fs_model.specs.declared.reply.Reply.{Reply}
+use Rattle.fs_model.specs.declared.reply.Reply.TheVariants.{Refused}
+use Rattle.fs_model.specs.declared.reply.Status.{Status}
+use Rattle.fuse_protocol.specs.declared.operation.Operation.{Operation}
+use Rattle.fuse_protocol.specs.declared.operation.Operation.TheVariants.{Lookup, Forget, GetAttr, SetAttr, ReadLink, SymLink, MkNod, MkDir, Unlink, RmDir, Rename, Link, Open, Read, Write, StatFs, Release, FSync, SetXAttr, GetXAttr, ListXAttr, RemoveXAttr, Init, OpenDir, ReadDir, ReleaseDir, FSyncDir, Access, Create, Interrupt, Destroy, BatchForget, SyncFs, Unknown}
+use Rattle.fuse_protocol.specs.declared.reply.Time.{Time}
+use Rattle.fuse_state.specs.Servers.{Server, number_of}
+use Rattle.fuse_plans.specs.declared.mode.Mode.{Mode}
+use Rattle.fuse_plans.specs.declared.request.Asked.{Asked}
+use Rattle.fuse_plans.specs.declared.reply.ReplyBody.{ReplyBody}
+use Rattle.fuse_plans.specs.declared.reply.ReplyBody.TheVariants.{Absent}
+use Rattle.fuse_plans.specs.declared.reply.Response.{Response}
+use Rattle.fuse_plans.specs.declared.reply.Response.TheVariants.{Silence, Says, Fails}
+use Rattle.fuse_plans.specs.declared.stop.Stop.{Stop}
+use Rattle.fuse_plans.specs.declared.stop.Stop.TheVariants.{Refuses, Lacks}
+use Rattle.fuse_plans.specs.declared.stop.OtherErrno.TheVariants.{ENFILE, ERANGE, ENOSYS, ENODATA, EPROTO, EOPNOTSUPP, ESTALE}
+use Rattle.fuse_plans.specs.Stops.{failed, is_for}
+use Rattle.fuse_plans.specs.Plans.{Plan, Finish, Ask, followed_by, IsRunOf, IsAsked, at_once, later}
+use Rattle.fuse_plans.specs.Works.{Work, give, stop, kept, goes_on, ◌>>=◌, attempt, needed, ask, give_unless, refusal_in, unless_refused, unexpected, status_of_reply, replied_status}
+use Rattle.fuse_plans.specs.Callers.{caller, caller_with_room, the_looker, between, look_inside, the_number, is_known_directory, directory_number, standing_directory, has_place}
+use Rattle.fuse_plans.specs.Flags.{mode_in, making}
+use Rattle.fuse_plans.specs.Masks.{list_hides}
+use Rattle.fuse_plans.specs.NamePlans.{plain_name, directory_for, or_absent, searched_directory, keeps_absent, found_or_absent, find_inside, find_name, keeps_names, unless_hidden, new_valid_if, new_valid, made, make_by, set_umask, make_masked, is_of_file, make_file}
+use Rattle.fuse_plans.specs.FilePlans.{tell_created, create_by, create_file}
+use Rattle.fuse_plans.specs.DirectoryPlans.{take_directory, take_directory_if, read_directory, close_directory, sync_all}
+use Rattle.fuse_plans.specs.AclPlans.{sized, set_acl}
+use Rattle.fuse_plans.specs.Requests.{Request, asked_of}
+use Rattle.fuse_plans.specs.Nobody.{is_judged, needs_nobody_in}
+use Rattle.fuse_plans.specs.Serving.{begin, count_space, end, plan_of, asked_for, answered, answered_as, request_plan}
+use Rattle.fuse_plans.specs.Laws.{names_an_object, IsDoneBy}
+use Rattle.fuse_plans.specs.KeepingLaws.{name_valid_in, MayKeepName, is_looked_up, is_new, NamesAreKeptWhereJudged, IsMissing, OnlyMissingNamesAreAbsent}
+use Rattle.fuse_plans.proofs.PlanLaws.{run-parts}
+use Rattle.fuse_plans.proofs.AllEnds.{AllEnd, all-weaker, all-followed_by, all-run}
+use Rattle.fuse_plans.proofs.OpenedObjects.{EndsWell, finished, ok_is, stops_not_well, was_told, before}
+
+-- ---- what is told
+
+abbrev is_absent : ReplyBody → Bool
+is_absent (Absent valid) = true
+is_absent _ = false
+
+abbrev EndsSo : (ReplyBody → Type 0) → Result ReplyBody Stop × Server → Type 0
+EndsSo P (Ok body, t) = P body
+EndsSo P (Err e, t) = Unit {0}
+
+-- where it ends well, P holds of what it tells
+record TellsSo (P : ReplyBody → Type 0) (w : Work ReplyBody) : Type 0 where
+  at : (s : Server) → AllEnd (EndsSo P) (w s)
+
+all-anyhow : {X : Type 0} (p : Plan X) → AllEnd (λ x. Unit {0}) p
+all-anyhow (Finish x) = tt
+all-anyhow (Ask e next) = λ reply. all-anyhow (next reply)
+
+module _ {P : ReplyBody → Type 0} where
+  so-then : {X : Type 0} (w : Work X) (f : X → Work ReplyBody) → ((x : X) → TellsSo P (f x)) → TellsSo P (w >>= f)
+  unfolding ◌>>=◌
+  so-then {X} w f rest = record { at = λ s. all-followed_by (λ r. Unit {0}) (EndsSo P) (w s) (goes_on f) (all-anyhow (w s)) after }
+    where
+      after : (r : Result X Stop × Server) → Unit {0} → AllEnd (EndsSo P) (goes_on f r)
+      after (Ok x, t) any = (rest x).at t
+      after (Err e, t) any = tt
+
+  so-after : {X : Type 0} (w : Work X) {f : X → Work ReplyBody} → ((x : X) → TellsSo P (f x)) → TellsSo P (w >>= f)
+  so-after {X} w {f} rest = so-then w f rest
+
+  so-give : (body : ReplyBody) → P body → TellsSo P (give body)
+  unfolding give
+  so-give body is = record { at = λ s. is }
+
+  so-kept : (f : Server → ReplyBody) → ((s : Server) → P (f s)) → TellsSo P (kept f)
+  unfolding kept
+  so-kept f is = record { at = λ s. is s }
+
+  so-stop : (e : Stop) → TellsSo P (stop e)
+  unfolding stop
+  so-stop e = record { at = λ s. tt }
+
+  so-if : (b : Bool) (w v : Work ReplyBody) → TellsSo P w → TellsSo P v → TellsSo P (if b then w else v)
+  so-if true w v first second = first
+  so-if false w v first second = second
+
+so-weaker : {P Q : ReplyBody → Type 0} {w : Work ReplyBody} → ((body : ReplyBody) → P body → Q body) → TellsSo P w → TellsSo Q w
+so-weaker {P} {Q} {w} weaker so = record { at = λ s. all-weaker (EndsSo P) (EndsSo Q) (w s) (so.at s) ends }
+  where
+    ends : (r : Result ReplyBody Stop × Server) → EndsSo P r → EndsSo Q r
+    ends (Ok body, t) is = weaker body is
+    ends (Err e, t) any = tt
+
+so-run : {P : ReplyBody → Type 0} (w : Work ReplyBody) (s t : Server) (es : List Event) (replies : List Reply) (body : ReplyBody) → TellsSo P w
+    → EndsWell (w s) es replies body t → P body
+so-run {P} w s t es replies body so runs = all-run (EndsSo P) (w s) es replies (Ok body, t) (so.at s) runs
+
+-- a name is told for so many seconds
+abbrev IsFor : ℕ → ReplyBody → Type 0
+IsFor valid body = (name_valid_in body ≡ valid) × (is_absent body ≡ false)
+
+abbrev IsThere : ReplyBody → Type 0
+IsThere body = is_absent body ≡ false
+
+abbrev TellsFor : ℕ → Work ReplyBody → Type 0
+TellsFor valid w = TellsSo (IsFor valid) w
+
+for-made : (now : Time) (valid d : ℕ) (name : List ℕ) → TellsFor valid (made now valid d name)
+unfolding made
+for-made now valid d name = so-after _ (λ pid. so-after _ (λ status. so-after _ (λ done. so-kept _ (λ s. (refl, refl)))))
+
+for-make_by : (now : Time) (valid pid d : ℕ) (call : Call) (name : List ℕ) → TellsFor valid (make_by now valid pid d call name)
+for-make_by now valid pid d call name = so-after _ (λ done. for-made now valid d name)
+
+for-create_by : (r : Asked) (valid d : ℕ) (name : List ℕ) (mode : Mode) (flags file_mode umask : ℕ) (pid : ℕ)
+    → TellsFor valid (create_by r.now valid pid d name mode flags file_mode)
+unfolding tell_created
+for-create_by r valid d name mode flags file_mode umask pid =
+    so-after _ (λ opened. so-after _ (λ handle. so-after _ (λ status. so-after _ (λ told. so-after _ (λ added. so-kept _ (λ s. (refl, refl)))))))
+
+abbrev create_in : Asked → List ℕ → Mode → ℕ → ℕ → ℕ → ℕ → ℕ → Work ReplyBody
+create_in r name mode flags file_mode umask d valid =
+    caller_with_room r.cred >>= (λ pid. set_umask pid umask >>= (λ _. create_by r.now valid pid d name mode flags file_mode))
+
+for-create_in : (r : Asked) (name : List ℕ) (mode : Mode) (flags file_mode umask d valid : ℕ) → TellsFor valid (create_in r name mode flags file_mode umask d valid)
+for-create_in r name mode flags file_mode umask d valid =
+    so-after _ (λ pid. so-after _ (λ masked. for-create_by r valid d name mode flags file_mode umask pid))
+
+abbrev file_in : Asked → List ℕ → ℕ → ℕ → ℕ → ℕ → Work ReplyBody
+file_in r name mode umask d valid =
+    caller_with_room r.cred >>= (λ pid. make_masked r.now valid umask pid d (OpenCall name making (bit_and mode 0o777)) name)
+
+for-file_in : (r : Asked) (name : List ℕ) (mode umask d valid : ℕ) → TellsFor valid (file_in r name mode umask d valid)
+for-file_in r name mode umask d valid =
+    so-after _ (λ pid. so-after _ (λ masked. for-make_by r.now valid pid d (OpenCall name making (bit_and mode 0o777)) name))
+
+-- ---- requests that tell no name
+
+-- Some work, that tells none
+abbrev IfTellsNone : Option (Work ReplyBody) → Type 0
+IfTellsNone None = Unit {0}
+IfTellsNone (Some w) = TellsFor 0 w
+
+for-sized : (size has : ℕ) (body : ReplyBody) → IsFor 0 body → TellsFor 0 (sized size has body)
+for-sized size has body is = so-if _ _ _ (so-give _ (refl, refl)) (so-if _ _ _ (so-stop _) (so-give body is))
+
+for-take_directory_if : (uid n : ℕ) (may : Bool) → TellsFor 0 (take_directory_if uid n may)
+for-take_directory_if uid n false = so-stop _
+for-take_directory_if uid n true = so-after _ (λ handle. so-after _ (λ opened. so-kept _ (λ s. (refl, refl))))
+
+for-take_directory : (uid n : ℕ) → TellsFor 0 (take_directory uid n)
+unfolding take_directory
+for-take_directory uid n = so-after _ (for-take_directory_if uid n)
+
+for-read_directory : (node : ℕ) (extent : _) → TellsFor 0 (read_directory node extent)
+unfolding read_directory
+for-read_directory node extent = so-after _ (λ known. so-after _ (λ d. so-after _ (λ names. so-give _ (refl, refl))))
+
+for-close_directory : (handle : ℕ) → TellsFor 0 (close_directory handle)
+unfolding close_directory
+for-close_directory handle = so-after _ (λ gone. so-give _ (refl, refl))
+
+for-sync_all : TellsFor 0 sync_all
+unfolding sync_all
+for-sync_all = so-after _ (λ done. so-give _ (refl, refl))
+
+for-end : TellsFor 0 end
+unfolding end
+for-end = so-after _ (λ ended. for-sync_all)
+
+for-count_space : TellsFor 0 count_space
+unfolding count_space
+for-count_space = so-after _ (λ reply. so-after _ (λ free. so-kept _ (λ s. (refl, refl))))
+
+for-begin : (offer : _) → TellsFor 0 (begin offer)
+unfolding begin
+for-begin offer =
+    so-if _ _ _ (so-stop _) (so-if _ _ _ (so-give _ (refl, refl))
+    (so-after _ (λ looker. so-after _ (λ begun. so-after _ (λ agreed. so-kept _ (λ s. (refl, refl)))))))
+
+for-set_acl : (r : Asked) (which : _) (acl : Option AccessList) → TellsFor 0 (set_acl r which acl)
+for-set_acl r which acl =
+    so-after _ (λ n. so-after _ (λ kind. so-after _ (λ may. so-after _ (λ pid. so-after _ (λ list. so-after _ (λ set. so-after _ (λ changed. so-give _ (refl, refl))))))))
+
+plain-plan : (r : Asked) (value : Option (Option AccessList)) (operation : Operation) → names_an_object operation ≡ false → IfTellsNone (plan_of r value operation)
+plain-plan r value (Lookup name) is = absurd (cc)
+plain-plan r value Forget is = tt
+plain-plan r value GetAttr is = so-after _ (λ n. so-after _ (λ status. so-kept _ (λ s. (refl, refl))))
+plain-plan r value (SetAttr changes) is =
+    so-after _ (λ n. so-after _ (λ pid. so-after _ (λ kind. so-after _ (λ changed. so-after _ (λ status. so-after _ (λ timed. so-kept _ (λ s. (refl, refl))))))))
+plain-plan r value ReadLink is = so-after _ (λ n. so-after _ (λ reply. so-after _ (λ target. so-give _ (refl, refl))))
+plain-plan r value (SymLink name target) is = absurd (cc)
+plain-plan r value (MkNod name mode umask) is = absurd (cc)
+plain-plan r value (MkDir name mode umask) is = absurd (cc)
+plain-plan r value (Unlink name) is = so-after _ (λ who. so-after _ (λ done. so-after _ (λ gone. so-give _ (refl, refl))))
+plain-plan r value (RmDir name) is = so-after _ (λ who. so-after _ (λ done. so-after _ (λ gone. so-give _ (refl, refl))))
+plain-plan r value (Rename name new_directory new_name flags) is =
+    so-after _ (λ may. so-after _ (λ d. so-after _ (λ new. so-after _ (λ pid. so-after _ (λ free. so-after _ (λ done. so-after _ (λ moved. so-give _ (refl, refl))))))))
+plain-plan r value (Link node name) is =
+    so-after _ (λ d. so-after _ (λ n. so-after _ (λ pid. so-after _ (λ linked. so-after _ (λ kind. so-after _ (λ noted. so-after _ (λ status. so-kept _ (λ s. (refl, refl)))))))))
+plain-plan r value (Open flags) is =
+    so-after _ (λ n. so-after _ (λ mode. so-after _ (λ pid. so-after _ (λ asked. so-after _ (λ handle. so-kept _ (λ s. (refl, refl)))))))
+plain-plan r value (Read extent) is = so-after _ (λ sought. so-after _ (λ bytes. so-give _ (refl, refl)))
+plain-plan r value (Write handle offset bytes) is = so-after _ (λ n. so-after _ (λ count. so-after _ (λ touched. so-give _ (refl, refl))))
+plain-plan r value StatFs is = for-count_space
+plain-plan r value (Release handle) is = so-after _ (λ closed. so-after _ (λ gone. so-give _ (refl, refl)))
+plain-plan r value (FSync handle) is = so-after _ (λ n. so-after _ (λ done. so-give _ (refl, refl)))
+plain-plan r value (SetXAttr name bytes) is = so-after _ (λ which. so-after _ (λ acl. for-set_acl r which acl))
+plain-plan r value (GetXAttr name size) is = so-after _ (λ which. so-after _ (λ n. so-after _ (λ found. so-after _ (λ acl. for-sized size _ _ (refl, refl)))))
+plain-plan r value (ListXAttr size) is = so-after _ (λ n. so-after _ (λ has. so-after _ (λ names. for-sized size _ _ (refl, refl))))
+plain-plan r value (RemoveXAttr name) is = so-after _ (λ which. for-set_acl r which None)
+plain-plan r value (Init offer) is = for-begin offer
+plain-plan r value OpenDir is = so-after _ (λ n. so-after _ (λ cred. so-after _ (λ placed. so-after _ (λ may. for-take_directory cred.uid n))))
+plain-plan r value (ReadDir extent) is = for-read_directory r.node extent
+plain-plan r value (ReleaseDir handle) is = for-close_directory handle
+plain-plan r value FSyncDir is = for-sync_all
+plain-plan r value (Access mask) is = so-after _ (λ n. so-after _ (λ kind. so-after _ (λ may. so-give _ (refl, refl))))
+plain-plan r value (Create name flags mode umask) is = absurd (cc)
+plain-plan r value Interrupt is = tt
+plain-plan r value Destroy is = for-end
+plain-plan r value BatchForget is = tt
+plain-plan r value SyncFs is = for-sync_all
+plain-plan r value Unknown is = so-stop _
+
+-- ---- work that asks nothing
+
+-- it changes nothing, and F holds of its value
+abbrev OnceAt : {X : Type 0} → (X → Type 0) → Server → Plan (Result X Stop × Server) → Type 0
+OnceAt F s (Finish (Ok x, t)) = F x × (t ≡ s)
+OnceAt F s (Finish (Err e, t)) = t ≡ s
+OnceAt F s (Ask e next) = ⊥
+
+record GivenOnce {X Y : Type 0} (F : X → Type 0) (f : X → Work Y) (s t : Server) (es : List Event) (replies : List Reply) (y : Y) : Type 0 where
+  value : X
+  holds : F value
+  runs : EndsWell (f value s) es replies y t
+
+once-given : {X Y : Type 0} (F : X → Type 0) (p : Plan (Result X Stop × Server)) (f : X → Work Y) (s t : Server) (es : List Event) (replies : List Reply) (y : Y)
+    → OnceAt F s p → EndsWell (followed_by p (goes_on f)) es replies y t → GivenOnce F f s t es replies y
+once-given F (Finish (Ok x, u)) f s t es replies y once runs =
+    record { value = x; holds = once.0; runs = subst (λ v. EndsWell (f x v) es replies y t) once.1 runs }
+once-given F (Finish (Err e, u)) f s t es replies y once runs = absurd (stops_not_well e y u t es replies runs)
+once-given F (Ask e next) f s t es replies y once runs = elim once [ ]
+
+once-then : {X Y : Type 0} (F : X → Type 0) (G : Y → Type 0) (p : Plan (Result X Stop × Server)) (f : X → Work Y) (s : Server) → OnceAt F s p
+    → ((x : X) → F x → OnceAt G s (f x s)) → OnceAt G s (followed_by p (goes_on f))
+once-then F G (Finish (Ok x, u)) f s once rest = subst (λ v. OnceAt G s (f x v)) (sym once.1) (rest x once.0)
+once-then F G (Finish (Err e, u)) f s once rest = once
+once-then F G (Ask e next) f s once rest = elim once [ ]
+
+once-tried : {X Y : Type 0} (F : X → Type 0) (G : Y → Type 0) (p : Plan (Result X Stop × Server)) (f : Result X Stop → Work Y) (s : Server) → OnceAt F s p
+    → ((x : X) → F x → OnceAt G s (f (Ok x) s)) → ((e : Stop) → OnceAt G s (f (Err e) s))
+    → OnceAt G s (followed_by (followed_by p (λ r. Finish (Ok r.0, r.1))) (goes_on f))
+once-tried F G (Finish (Ok x, u)) f s once ok err = subst (λ v. OnceAt G s (f (Ok x) v)) (sym once.1) (ok x once.0)
+once-tried F G (Finish (Err e, u)) f s once ok err = subst (λ v. OnceAt G s (f (Err e) v)) (sym once) (err e)
+once-tried F G (Ask e next) f s once ok err = elim once [ ]
+
+abbrev Anyhow : {X : Type 0} → X → Type 0
+Anyhow x = Unit {0}
+
+once-needed : {X : Type 0} (e : Stop) (o : Option X) (s : Server) → OnceAt (λ x. o ≡ Some x) s (needed e o s)
+unfolding give stop
+once-needed e None s = refl
+once-needed e (Some x) s = (refl, refl)
+
+once-plain_name : (name : List ℕ) (s : Server) → OnceAt (Anyhow {X = Unit {0}}) s (plain_name name s)
+unfolding give stop
+once-plain_name name s = choose _
+  where
+    choose : (b : Bool) → OnceAt (Anyhow {X = Unit {0}}) s ((if b then stop (failed EINVAL) else give tt) s)
+    choose true = refl
+    choose false = (tt, refl)
+
+abbrev IsOfNode : ℕ → Server → ℕ → Type 0
+IsOfNode node s n = number_of s node ≡ Some n
+
+once-the_number : (node : ℕ) (s : Server) → OnceAt (IsOfNode node s) s (the_number node s)
+unfolding the_number kept ◌>>=◌
+once-the_number node s = once-needed (Lacks ESTALE) (number_of s node) s
+
+once-or : (b : Bool) (n : ℕ) (e : Stop) (F : ℕ → Type 0) (s : Server) → F n → OnceAt F s ((if b then give n else stop e) s)
+unfolding give stop
+once-or true n e F s is = (is, refl)
+once-or false n e F s is = refl
+
+once-directory_number : (node : ℕ) (s : Server) → OnceAt (IsOfNode node s) s (directory_number node s)
+unfolding directory_number kept ◌>>=◌
+once-directory_number node s =
+    once-then (IsOfNode node s) (IsOfNode node s) (the_number node s) _ s (once-the_number node s) (λ n is. once-or (is_known_directory _) n _ (IsOfNode node s) s is)
+
+once-standing_directory : (node : ℕ) (s : Server) → OnceAt (IsOfNode node s) s (standing_directory node s)
+unfolding standing_directory kept ◌>>=◌
+once-standing_directory node s =
+    once-then (IsOfNode node s) (IsOfNode node s) (directory_number node s) _ s (once-directory_number node s) (λ n is. once-or (has_place s n) n _ (IsOfNode node s) s is)
+
+once-directory_for : (node : ℕ) (name : List ℕ) (s : Server) → OnceAt (IsOfNode node s) s (directory_for node name s)
+unfolding ◌>>=◌
+once-directory_for node name s =
+    once-then (Anyhow {X = Unit {0}}) (IsOfNode node s) (plain_name name s) _ s (once-plain_name name s) (λ plain any. once-standing_directory node s)
+
+once-or_absent : (known : Result ℕ Stop) (s : Server) → OnceAt (Anyhow {X = ℕ}) s (or_absent known s)
+unfolding give stop
+once-or_absent (Ok n) s = (tt, refl)
+once-or_absent (Err (Lacks ESTALE)) s = refl
+once-or_absent (Err (Lacks ENFILE)) s = refl
+once-or_absent (Err (Lacks ERANGE)) s = refl
+once-or_absent (Err (Lacks ENOSYS)) s = refl
+once-or_absent (Err (Lacks ENODATA)) s = refl
+once-or_absent (Err (Lacks EPROTO)) s = refl
+once-or_absent (Err (Lacks EOPNOTSUPP)) s = refl
+once-or_absent (Err (Refuses r)) s = refl
+
+once-searched_directory : (node : ℕ) (name : List ℕ) (s : Server) → OnceAt (Anyhow {X = ℕ}) s (searched_directory node name s)
+unfolding attempt ◌>>=◌
+once-searched_directory node name s =
+    once-then (Anyhow {X = Unit {0}}) (Anyhow {X = ℕ}) (plain_name name s) _ s (once-plain_name name s) (λ plain any.
+    once-tried (IsOfNode node s) (Anyhow {X = ℕ}) (standing_directory node s) or_absent s (once-standing_directory node s) (λ n is. once-or_absent (Ok n) s) (λ e. once-or_absent (Err e) s))
+
+once-the_looker : (s : Server) → OnceAt (λ pid. s.looker ≡ Some pid) s (the_looker s)
+unfolding the_looker kept ◌>>=◌
+once-the_looker s = once-needed unexpected s.looker s
+
+-- ---- a new name
+
+record Followed (d : ℕ) (s : Server) (es : List Event) (replies : List Reply) : Type 0 where
+  judges : s.settings.posix_acl ≡ true
+  afterwards : Server
+  runs : IsRunOf (list_hides d s) es replies (Ok false, afterwards)
+
+positive : (n : ℕ) → 0 < n → n ≡ 0 → ⊥
+positive n lt is = omega (arith, lt, is)
+
+-- what it was said of the list
+said_followed : (names valid : ℕ) (t : Server) (p : Plan (Result Bool Stop × Server)) (es : List Event) (replies : List Reply) → 0 < valid
+    → EndsWell (followed_by (followed_by p (λ r. Finish (Ok r.0, r.1))) (goes_on (λ hides. give (unless_hidden names hides)))) es replies valid t
+    → (u : Server) × IsRunOf p es replies (Ok false, u)
+unfolding give
+said_followed names valid t (Finish (Ok false, u)) [] [] lt runs = (u, refl)
+said_followed names valid t (Finish (Ok false, u)) [] (reply ∷ replies) lt runs = elim runs [ ]
+said_followed names valid t (Finish (Ok false, u)) (e ∷ es) replies lt runs = elim runs [ ]
+said_followed names valid t (Finish (Ok true, u)) es replies lt runs =
+    let ends = finished (Ok 0, u) (Ok valid, t) es replies runs in
+    absurd (positive valid lt (ok_is valid 0 (ap (λ r. r.0) ends.2)))
+said_followed names valid t (Finish (Err e, u)) es replies lt runs =
+    let ends = finished (Ok 0, u) (Ok valid, t) es replies runs in
+    absurd (positive valid lt (ok_is valid 0 (ap (λ r. r.0) ends.2)))
+said_followed names valid t (Ask e next) [] replies lt runs = elim runs [ ]
+said_followed names valid t (Ask e next) (g ∷ es) [] lt runs = elim runs [ ]
+said_followed names valid t (Ask e next) (g ∷ es) (reply ∷ replies) lt runs =
+    let rest = said_followed names valid t (next reply) es replies lt runs.1 in
+    (rest.0, (runs.0, rest.1))
+
+first_true : (a b : Bool) → (a && b) ≡ true → a ≡ true
+first_true true b is = refl
+first_true false b is = is
+
+seen_followed : (d valid : ℕ) (s t : Server) (es : List Event) (replies : List Reply) → 0 < valid → EndsWell (new_valid d s) es replies valid t → Followed d s es replies
+unfolding new_valid kept give attempt ◌>>=◌
+seen_followed d valid s t es replies lt runs = choose (keeps_names s.settings) refl runs
+  where
+    choose : (b : Bool) → keeps_names s.settings ≡ b → EndsWell (new_valid_if d s.settings.keeping.names b s) es replies valid t → Followed d s es replies
+    choose false is ran =
+        let ends = finished (Ok 0, s) (Ok valid, t) es replies ran in
+        absurd (positive valid lt (ok_is valid 0 (ap (λ r. r.0) ends.2)))
+    choose true is ran =
+        let said = said_followed s.settings.keeping.names valid t (list_hides d s) es replies lt ran in
+        record { judges = first_true _ _ is; afterwards = said.0; runs = said.1 }
+
+abbrev Kept : Request → Server → List Event → List Reply → Type 0
+Kept r s es replies = (s.settings.posix_acl ≡ true) × MayKeepName r s es replies
+
+new_kept : (r : Request) (d : ℕ) (rest : ℕ → Work ReplyBody) (s t : Server) (es : List Event) (replies : List Reply) (body : ReplyBody)
+    → ((valid : ℕ) → TellsFor valid (rest valid)) → number_of s r.node ≡ Some d → 0 < name_valid_in body
+    → EndsWell ((new_valid d >>= rest) s) es replies body t → Kept r s es replies
+unfolding ◌>>=◌
+new_kept r d rest s t es replies body tells of_node lt runs =
+    let parts = run-parts (new_valid d s) (goes_on rest) es replies (Ok body, t) runs in
+    subst (λ l. Kept r s l replies) (sym parts.all_events)
+    (subst (λ l. Kept r s (parts.first_events ++ parts.later_events) l) (sym parts.all_replies)
+    (ended parts.middle parts.first_events parts.later_events parts.first_replies parts.later_replies parts.first parts.later))
+  where
+    ended : (m : Result ℕ Stop × Server) (first after : List Event) (replied others : List Reply) → IsRunOf (new_valid d s) first replied m
+        → EndsWell (goes_on rest m) after others body t → Kept r s (first ++ after) (replied ++ others)
+    ended (Ok valid, u) first after replied others ran goes =
+        let is = so-run (rest valid) u t after others body (tells valid) goes in
+        let seen = seen_followed d valid s u first replied (subst (λ n. 0 < n) is.0 lt) ran in
+        (seen.judges, is_new d seen.afterwards first after replied others of_node seen.runs)
+    ended (Err e, u) first after replied others ran goes = absurd (stops_not_well e body u t after others goes)
+
+-- in the directory of the node
+in_directory : (r : Request) (name : List ℕ) (rest : ℕ → ℕ → Work ReplyBody) (s t : Server) (es : List Event) (replies : List Reply) (body : ReplyBody)
+    → ((d valid : ℕ) → TellsFor valid (rest d valid)) → 0 < name_valid_in body
+    → EndsWell ((directory_for r.node name >>= (λ d. new_valid d >>= rest d)) s) es replies body t → Kept r s es replies
+unfolding ◌>>=◌
+in_directory r name rest s t es replies body tells lt runs =
+    let given = once-given (IsOfNode r.node s) (directory_for r.node name s) (λ d. new_valid d >>= rest d) s t es replies body (once-directory_for r.node name s) runs in
+    new_kept r given.value (rest given.value) s t es replies body (tells given.value) given.holds lt given.runs
+
+create_kept : (r : Request) (nobody : Bool) (name : List ℕ) (flags mode umask : ℕ) (s t : Server) (es : List Event) (replies : List Reply) (body : ReplyBody)
+    → 0 < name_valid_in body → EndsWell (create_file (asked_of r nobody) name flags mode umask s) es replies body t → Kept r s es replies
+unfolding ◌>>=◌
+create_kept r nobody name flags file_mode umask s t es replies body lt runs =
+    let plain = once-given (Anyhow {X = Unit {0}}) (plain_name name s) _ s t es replies body (once-plain_name name s) runs in
+    let mode = once-given _ (needed (failed EINVAL) (mode_in flags) s) _ s t es replies body (once-needed _ (mode_in flags) s) plain.runs in
+    let given = once-given (IsOfNode r.node s) (standing_directory r.node s) _ s t es replies body (once-standing_directory r.node s) mode.runs in
+    new_kept r given.value (create_in (asked_of r nobody) name mode.value flags file_mode umask given.value) s t es replies body
+    (for-create_in (asked_of r nobody) name mode.value flags file_mode umask given.value) given.holds lt given.runs
+
+file_kept : (r : Request) (nobody : Bool) (name : List ℕ) (mode umask : ℕ) (s t : Server) (es : List Event) (replies : List Reply) (body : ReplyBody)
+    → 0 < name_valid_in body → EndsWell (make_file (asked_of r nobody) name mode umask s) es replies body t → Kept r s es replies
+unfolding give stop ◌>>=◌
+file_kept r nobody name mode umask s t es replies body lt runs = choose (is_of_file mode) runs
+  where
+    choose : (b : Bool)
+        → EndsWell (((if b then give {X = Unit {0}} tt else stop (failed EPERM)) >>= (λ _. directory_for r.node name >>= (λ d. new_valid d >>= file_in (asked_of r nobody) name mode umask d))) s) es replies body t
+        → Kept r s es replies
+    choose true ran =
+        in_directory r name (file_in (asked_of r nobody) name mode umask) s t es replies body (for-file_in (asked_of r nobody) name mode umask) lt ran
+    choose false ran = absurd (stops_not_well (failed EPERM) body s t es replies ran)
+
+-- ---- a name that is looked up
+
+unjudged : (d : ℕ) (name : List ℕ) (seen : Result Status Stop) → TellsFor 0 (found_or_absent false d name seen)
+unjudged d name (Ok status) = so-after _ (λ noted. so-kept _ (λ s. (refl, refl)))
+unjudged d name (Err e) = so-after _ (λ settings. so-stop e)
+
+for-unjudged : (r : Asked) (name : List ℕ) → r.needs_nobody ≡ false → TellsFor 0 (find_name r name)
+for-unjudged r name is =
+    subst (λ b. TellsFor 0 (searched_directory r.node name >>= (λ d. (if r.needs_nobody then the_looker else caller r.cred) >>= (λ pid. find_inside b pid d name)))) (sym is)
+    (so-after _ (λ d. so-after _ (λ pid. so-after _ (unjudged d name))))
+
+there-found : (d : ℕ) (name : List ℕ) (status : Status) → TellsSo IsThere (found_or_absent true d name (Ok status))
+there-found d name status = so-after _ (λ noted. so-kept _ (λ s. refl))
+
+record SeenAbsent (p : Plan (Result Status Stop × Server)) (es : List Event) (replies : List Reply) : Type 0 where
+  stopped : Stop
+  afterwards : Server
+  for_absence : is_for ENOENT stopped ≡ true
+  runs : IsRunOf p es replies (Err stopped, afterwards)
+
+seen_absent : (d valid : ℕ) (name : List ℕ) (t : Server) (p : Plan (Result Status Stop × Server)) (es : List Event) (replies : List Reply)
+    → EndsWell (followed_by (followed_by p (λ r. Finish (Ok r.0, r.1))) (goes_on (found_or_absent true d name))) es replies (Absent valid) t → SeenAbsent p es replies
+unfolding kept give stop ◌>>=◌
+seen_absent d valid name t (Finish (Ok status, u)) es replies runs =
+    absurd (let no : true ≡ false = so-run (found_or_absent true d name (Ok status)) u t es replies (Absent valid) (there-found d name status) runs in cc)
+seen_absent d valid name t (Finish (Err e, u)) es replies runs = choose (keeps_absent true u.settings e) refl runs
+  where
+    choose : (b : Bool) → keeps_absent true u.settings e ≡ b → EndsWell ((if b then give (Absent u.settings.keeping.absent) else stop e) u) es replies (Absent valid) t
+        → SeenAbsent (Finish (Err e, u)) es replies
+    choose true is ran =
+        let ends = finished (Ok (Absent u.settings.keeping.absent), u) (Ok (Absent valid), t) es replies ran in
+        record {
+          stopped = e;
+          afterwards = u;
+          for_absence = first_true _ _ is;
+          runs = subst (λ l. IsRunOf {X = Result Status Stop × Server} (Finish (Err e, u)) l replies (Err e, u)) (sym ends.0)
+              (subst (λ l. IsRunOf {X = Result Status Stop × Server} (Finish (Err e, u)) [] l (Err e, u)) (sym ends.1) refl);
+        }
+    choose false is ran = absurd (stops_not_well e (Absent valid) u t es replies ran)
+seen_absent d valid name t (Ask e next) [] replies runs = elim runs [ ]
+seen_absent d valid name t (Ask e next) (g ∷ es) [] runs = elim runs [ ]
+seen_absent d valid name t (Ask e next) (g ∷ es) (reply ∷ replies) runs =
+    let rest = seen_absent d valid name t (next reply) es replies runs.1 in
+    record { stopped = rest.stopped; afterwards = rest.afterwards; for_absence = rest.for_absence; runs = (runs.0, rest.runs) }
+
+-- why a process finds nothing
+record RefusedFor (pid : ℕ) (es : List Event) (replies : List Reply) : Type 0 where
+  event : Event
+  is_by : IsDoneBy pid event
+  refusal : Refusal
+  after : List Event
+  asked : IsAsked event (Refused refusal) after es replies
+  for_absence : is_for ENOENT (Refuses refusal) ≡ true
+
+refused_reply : (reply : Reply) (r : Refusal) → refusal_in reply ≡ Some r → reply ≡ Refused r
+refused_reply (Refused q) r is = ap (λ (o : Option Refusal). Refused (unwrap_or o q)) is
+refused_reply _ r is = absurd (cc)
+
+abbrev stop_in : {X : Type 0} → Result X Stop → Stop
+stop_in (Ok x) = unexpected
+stop_in (Err e) = e
+
+refused_at_once : (pid : ℕ) (e : Event) (g : Event) (es : List Event) (reply : Reply) (replies : List Reply) (r : Refusal) (stopped : Stop) → IsDoneBy pid e → g ≡ e
+    → refusal_in reply ≡ Some r → stopped ≡ Refuses r → is_for ENOENT stopped ≡ true → RefusedFor pid (g ∷ es) (reply ∷ replies)
+refused_at_once pid e g es reply replies r stopped by same is stops for = record {
+  event = e;
+  is_by = by;
+  refusal = r;
+  after = es;
+  asked = subst (λ f. IsAsked e (Refused r) es (f ∷ es) (reply ∷ replies)) (sym same)
+      (subst (λ q. IsAsked e (Refused r) es (e ∷ es) (q ∷ replies)) (sym (refused_reply reply r is)) (at_once replies));
+  for_absence = subst (λ x. is_for ENOENT x ≡ true) stops for;
+}
+
+shown_absent : (reply : Reply) (s t : Server) (es : List Event) (replies : List Reply) (e : Stop) → is_for ENOENT e ≡ true
+    → IsRunOf (replied_status reply s) es replies (Err e, t) → ⊥
+unfolding give stop
+shown_absent reply s t es replies e for runs = choose (status_of_reply reply) runs
+  where
+    choose : (o : Option Status) → IsRunOf (needed unexpected o s) es replies (Err e, t) → ⊥
+    choose None ran =
+        let ends = finished (Err unexpected, s) (Err e, t) es replies ran in
+        let no : false ≡ true = subst (λ x. is_for ENOENT x ≡ true) (ap (λ r. stop_in r.0) ends.2) for in
+        absurd (cc)
+    choose (Some status) ran =
+        let ends = finished (Ok status, s) (Err e, t) es replies ran in
+        absurd (let no : ◌≡◌ {A = Result Status Stop} (Err e) (Ok status) = ap (λ r. r.0) ends.2 in cc)
+
+abbrev look_and_back : ℕ → List ℕ → Work Reply
+look_and_back pid name = ask (Calls pid (Lstat name)) >>= (λ reply. ask (Enter pid root root) >>= (λ _. unless_refused reply))
+
+looked_refused : (pid : ℕ) (name : List ℕ) (s t : Server) (es : List Event) (replies : List Reply) (e : Stop) → is_for ENOENT e ≡ true
+    → IsRunOf (followed_by (look_and_back pid name s) (goes_on replied_status)) es replies (Err e, t) → RefusedFor pid es replies
+unfolding ask give stop ◌>>=◌
+looked_refused pid name s t [] replies e for runs = elim runs [ ]
+looked_refused pid name s t (g ∷ es) [] e for runs = elim runs [ ]
+looked_refused pid name s t (g ∷ []) (reply ∷ replies) e for runs = elim runs.1 [ ]
+looked_refused pid name s t (g ∷ h ∷ es) (reply ∷ []) e for runs = elim runs.1 [ ]
+looked_refused pid name s t (g ∷ h ∷ es) (reply ∷ back ∷ replies) e for runs = choose (refusal_in reply) refl runs.1.1
+  where
+    choose : (o : Option Refusal) → refusal_in reply ≡ o → IsRunOf (followed_by (give_unless reply o s) (goes_on replied_status)) es replies (Err e, t)
+        → RefusedFor pid (g ∷ h ∷ es) (reply ∷ back ∷ replies)
+    choose None is ran = absurd (shown_absent reply s t es replies e for ran)
+    choose (Some r) is ran =
+        let ends = finished (Err (Refuses r), s) (Err e, t) es replies ran in
+        refused_at_once pid (Calls pid (Lstat name)) g (h ∷ es) reply (back ∷ replies) r e refl runs.0 is (ap (λ q. stop_in q.0) ends.2) for
+
+look_refused : (pid d : ℕ) (name : List ℕ) (s t : Server) (es : List Event) (replies : List Reply) (e : Stop) → is_for ENOENT e ≡ true
+    → IsRunOf (look_inside pid d name s) es replies (Err e, t) → RefusedFor pid es replies
+unfolding look_inside between ask give stop ◌>>=◌
+look_refused pid d name s t [] replies e for runs = elim runs [ ]
+look_refused pid d name s t (g ∷ es) [] e for runs = elim runs [ ]
+look_refused pid d name s t (g ∷ es) (first ∷ replies) e for runs = choose (refusal_in first) refl runs.1
+  where
+    choose : (o : Option Refusal) → refusal_in first ≡ o
+        → IsRunOf (followed_by (followed_by (give_unless first o s) (goes_on (λ _. look_and_back pid name))) (goes_on replied_status)) es replies (Err e, t)
+        → RefusedFor pid (g ∷ es) (first ∷ replies)
+    choose None is ran =
+        let later_on = looked_refused pid name s t es replies e for ran in
+        record {
+          event = later_on.event;
+          is_by = later_on.is_by;
+          refusal = later_on.refusal;
+          after = later_on.after;
+          asked = later g first es replies later_on.asked;
+          for_absence = later_on.for_absence;
+        }
+    choose (Some r) is ran =
+        let ends = finished (Err (Refuses r), s) (Err e, t) es replies ran in
+        refused_at_once pid (Enter pid d d) g es first replies r e refl runs.0 is (ap (λ q. stop_in q.0) ends.2) for
+
+find_missing : (r : Asked) (name : List ℕ) (s t : Server) (valid : ℕ) (es : List Event) (replies : List Reply) → r.needs_nobody ≡ true
+    → EndsWell (find_name r name s) es replies (Absent valid) t → IsMissing s.looker es replies
+unfolding attempt ◌>>=◌
+find_missing r name s t valid es replies nobody runs =
+    let ran =
+    subst (λ b. EndsWell ((searched_directory r.node name >>= (λ d. (if b then the_looker else caller r.cred) >>= (λ pid. find_inside b pid d name))) s) es replies (Absent valid) t)
+    nobody runs in
+    let found = once-given (Anyhow {X = ℕ}) (searched_directory r.node name s) (λ d. the_looker >>= (λ pid. find_inside true pid d name)) s t es replies (Absent valid)
+    (once-searched_directory r.node name s) ran in
+    let by = once-given (λ pid. s.looker ≡ Some pid) (the_looker s) (λ pid. find_inside true pid found.value name) s t es replies (Absent valid) (once-the_looker s) found.runs in
+    let seen = seen_absent found.value valid name t (look_inside by.value found.value name s) es replies by.runs in
+    let refused = look_refused by.value found.value name s seen.afterwards es replies seen.stopped seen.for_absence seen.runs in
+    record {
+      pid = by.value;
+      own = by.holds;
+      event = refused.event;
+      is_by = refused.is_by;
+      refusal = refused.refusal;
+      after = refused.after;
+      asked = refused.asked;
+      for_absence = refused.for_absence;
+    }
+
+-- ---- each request
+
+record Worked (w : Option (Work ReplyBody)) (s t : Server) (es : List Event) (replies : List Reply) (body : ReplyBody) : Type 0 where
+  work : Work ReplyBody
+  is : w ≡ Some work
+  runs : EndsWell (work s) es replies body t
+
+worked : (memory : Bool) (w : Option (Work ReplyBody)) (s t : Server) (es : List Event) (replies : List Reply) (body : ReplyBody)
+    → IsRunOf {X = Response × Server} (answered memory w s) es replies (Says body, t) → Worked w s t es replies body
+worked memory None s t es replies body runs =
+    let ends = finished (Silence, s) (Says body, t) es replies runs in
+    absurd (let no : Says body ≡ Silence = ap (λ q. q.0) ends.2 in cc)
+worked true (Some w) s t es replies body runs = record { work = w; is = refl; runs = was_told (w s) body t es replies runs }
+worked false (Some w) s t es replies body runs =
+    let ends = finished (Fails (failed ENOMEM), s) (Says body, t) es replies runs in
+    absurd (let no : Says body ≡ Fails (failed ENOMEM) = ap (λ q. q.0) ends.2 in cc)
+
+-- of an answer that tells no name
+told_none : (w : Option (Work ReplyBody)) (s t : Server) (es : List Event) (replies : List Reply) (body : ReplyBody) → IfTellsNone w → Worked w s t es replies body → IsFor 0 body
+told_none None s t es replies body none done = absurd (let no : None ≡ Some done.work = done.is in cc)
+told_none (Some w) s t es replies body none done = so-run done.work s t es replies body (subst IfTellsNone done.is none) done.runs
+
+-- the work that is there
+work_is : (w v : Work ReplyBody) (s t : Server) (es : List Event) (replies : List Reply) (body : ReplyBody) → Some w ≡ Some v → EndsWell (v s) es replies body t
+    → EndsWell (w s) es replies body t
+work_is w v s t es replies body is runs = subst (λ (o : Option (Work ReplyBody)). EndsWell (unwrap_or o w s) es replies body t) (sym is) runs
+
+nothing_before : (r : Request) (s : Server) (b nobody : Bool) (first after : List Event) (replied rest : List Reply) → IsRunOf (Finish b) first replied nobody
+    → Kept r s after rest → Kept r s (first ++ after) (replied ++ rest)
+nothing_before r s b nobody first after replied rest ran kept_after =
+    let ends = finished b nobody first replied ran in
+    subst (λ l. Kept r s (l ++ after) (replied ++ rest)) (sym ends.0) (subst (λ l. Kept r s after (l ++ rest)) (sym ends.1) kept_after)
+
+module _ (r : Request) (s t : Server) (body : ReplyBody) (lt : 0 < name_valid_in body) where
+  looked_up_kept : (name : List ℕ) → r.operation ≡ Some (Lookup name) → (judges nobody : Bool) → s.settings.posix_acl ≡ judges → (first after : List Event) (replied rest : List Reply)
+      → IsRunOf (is_judged r.node judges s) first replied nobody → EndsWell (find_name (asked_of r nobody) name s) after rest body t
+      → Kept r s (first ++ after) (replied ++ rest)
+  looked_up_kept name asks true true is first after replied rest found ran = (is, is_looked_up name first after replied rest asks found)
+  looked_up_kept name asks false true is first after replied rest found ran =
+      absurd (let no : true ≡ false = (finished false true first replied found).2 in cc)
+  looked_up_kept name asks judges false is first after replied rest found ran =
+      absurd (positive _ lt (so-run (find_name (asked_of r false) name) s t after rest body (for-unjudged (asked_of r false) name refl) ran).0)
+
+  name_kept : (operation : Operation) → r.operation ≡ Some operation → names_an_object operation ≡ true → (nobody : Bool) (first after : List Event) (replied rest : List Reply)
+      → IsRunOf (needs_nobody_in r.node (Some operation) s) first replied nobody → Worked (plan_of (asked_of r nobody) r.value operation) s t after rest body
+      → Kept r s (first ++ after) (replied ++ rest)
+  name_kept (Lookup name) asks is nobody first after replied rest found done =
+      looked_up_kept name asks s.settings.posix_acl nobody refl first after replied rest found (work_is _ _ s t after rest body done.is done.runs)
+  name_kept (SymLink name target) asks is nobody first after replied rest found done =
+      nothing_before r s _ nobody first after replied rest found
+      (in_directory r name (λ d valid. caller r.cred >>= (λ pid. make_by r.now valid pid d (Symlink target name) name)) s t after rest body
+      (λ d valid. so-after _ (λ pid. for-make_by r.now valid pid d (Symlink target name) name)) lt (work_is _ _ s t after rest body done.is done.runs))
+  name_kept (MkNod name mode umask) asks is nobody first after replied rest found done =
+      nothing_before r s _ nobody first after replied rest found
+      (file_kept r nobody name mode umask s t after rest body lt (work_is _ _ s t after rest body done.is done.runs))
+  name_kept (MkDir name mode umask) asks is nobody first after replied rest found done =
+      nothing_before r s _ nobody first after replied rest found
+      (in_directory r name (λ d valid. caller r.cred >>= (λ pid. make_masked r.now valid umask pid d (Mkdir name (bit_and mode 0o7777)) name)) s t after rest body
+      (λ d valid. so-after _ (λ pid. so-after _ (λ masked. for-make_by r.now valid pid d (Mkdir name (bit_and mode 0o7777)) name))) lt
+      (work_is _ _ s t after rest body done.is done.runs))
+  name_kept (Create name flags mode umask) asks is nobody first after replied rest found done =
+      nothing_before r s _ nobody first after replied rest found
+      (create_kept r nobody name flags.0 mode umask s t after rest body lt (work_is _ _ s t after rest body done.is done.runs))
+  name_kept _ asks is nobody first after replied rest found done = absurd (cc)
+
+  operation_kept : (operation : Option Operation) → r.operation ≡ operation → (nobody : Bool) (first after : List Event) (replied rest : List Reply)
+      → IsRunOf (needs_nobody_in r.node operation s) first replied nobody → Worked (asked_for (asked_of r nobody) r.value operation) s t after rest body
+      → Kept r s (first ++ after) (replied ++ rest)
+  operation_kept None asks nobody first after replied rest found done =
+      absurd (positive _ lt (told_none (Some (stop (failed EINVAL))) s t after rest body (so-stop _) done).0)
+  operation_kept (Some operation) asks nobody first after replied rest found done = choose (names_an_object operation) refl
+    where
+      choose : (b : Bool) → names_an_object operation ≡ b → Kept r s (first ++ after) (replied ++ rest)
+      choose true is = name_kept operation asks is nobody first after replied rest found done
+      choose false is = absurd (positive _ lt (told_none _ s t after rest body (plain-plan (asked_of r nobody) r.value operation is) done).0)
+
+pub names_are_kept_where_judged : NamesAreKeptWhereJudged
+unfolding request_plan
+names_are_kept_where_judged r s t body es replies lt runs =
+    let parts = run-parts (needs_nobody_in r.node r.operation s) (λ nobody. answered_as nobody r s) es replies (Says body, t) runs in
+    subst (λ l. Kept r s l replies) (sym parts.all_events)
+    (subst (λ l. Kept r s (parts.first_events ++ parts.later_events) l) (sym parts.all_replies)
+    (operation_kept r s t body lt r.operation refl parts.middle parts.first_events parts.later_events parts.first_replies parts.later_replies parts.first
+    (worked r.memory _ s t parts.later_events parts.later_replies body parts.later)))
+
+-- ---- nothing has the name
+
+there-named : (r : Asked) (value : Option (Option AccessList)) (operation : Operation) → names_an_object operation ≡ true
+    → ((name : List ℕ) → operation ≡ Lookup name → ⊥) → (w : Work ReplyBody) → plan_of r value operation ≡ Some w → TellsSo IsThere w
+there-named r value (Lookup name) is other w same = absurd (other name refl)
+there-named r value (SymLink name target) is other w same =
+    subst (λ o. TellsSo IsThere (unwrap_or o w)) same (so-after _ (λ d. so-after _ (λ valid. so-after _ (λ pid. so-weaker (λ body is_for. is_for.1) (for-make_by r.now valid pid d (Symlink target name) name)))))
+there-named r value (MkNod name mode umask) is other w same =
+    subst (λ o. TellsSo IsThere (unwrap_or o w)) same
+    (so-after _ (λ file. so-after _ (λ d. so-after _ (λ valid. so-weaker (λ body is_for. is_for.1) (for-file_in r name mode umask d valid)))))
+there-named r value (MkDir name mode umask) is other w same =
+    subst (λ o. TellsSo IsThere (unwrap_or o w)) same
+    (so-after _ (λ d. so-after _ (λ valid. so-after _ (λ pid. so-after _ (λ masked. so-weaker (λ body is_for. is_for.1) (for-make_by r.now valid pid d (Mkdir name (bit_and mode 0o7777)) name))))))
+there-named r value (Create name flags mode umask) is other w same =
+    subst (λ o. TellsSo IsThere (unwrap_or o w)) same
+    (so-after _ (λ plain. so-after _ (λ way. so-after _ (λ d. so-after _ (λ valid.
+    so-weaker (λ body is_for. is_for.1) (for-create_in r name way flags.0 mode umask d valid))))))
+there-named r value _ is other w same = absurd (cc)
+
+missing_later : (looker : Option ℕ) (p : Plan Bool) (first after : List Event) (replied rest : List Reply) (nobody : Bool) → IsRunOf p first replied nobody
+    → IsMissing looker after rest → IsMissing looker (first ++ after) (replied ++ rest)
+missing_later looker p first after replied rest nobody ran m = record {
+  pid = m.pid;
+  own = m.own;
+  event = m.event;
+  is_by = m.is_by;
+  refusal = m.refusal;
+  after = m.after;
+  asked = before p first replied nobody ran m.asked;
+  for_absence = m.for_absence;
+}
+
+module _ (r : Request) (s t : Server) (valid : ℕ) where
+  never : IsThere (Absent valid) → ⊥
+  never is = absurd (let no : true ≡ false = is in cc)
+
+  look_up_missing : (name : List ℕ) (nobody : Bool) (after : List Event) (rest : List Reply)
+      → EndsWell (find_name (asked_of r nobody) name s) after rest (Absent valid) t → IsMissing s.looker after rest
+  look_up_missing name true after rest ran = find_missing (asked_of r true) name s t valid after rest refl ran
+  look_up_missing name false after rest ran =
+      absurd (never (so-run (find_name (asked_of r false) name) s t after rest (Absent valid) (for-unjudged (asked_of r false) name refl) ran).1)
+
+  named_missing : (operation : Operation) → names_an_object operation ≡ true → (nobody : Bool) (after : List Event) (rest : List Reply)
+      → Worked (plan_of (asked_of r nobody) r.value operation) s t after rest (Absent valid) → IsMissing s.looker after rest
+  named_missing (Lookup name) is nobody after rest done = look_up_missing name nobody after rest (work_is _ _ s t after rest (Absent valid) done.is done.runs)
+  named_missing operation is nobody after rest done =
+      absurd (never (so-run done.work s t after rest (Absent valid) (there-named (asked_of r nobody) r.value operation is (λ name same. cc) done.work done.is) done.runs))
+
+  operation_missing : (operation : Option Operation) (nobody : Bool) (after : List Event) (rest : List Reply)
+      → Worked (asked_for (asked_of r nobody) r.value operation) s t after rest (Absent valid) → IsMissing s.looker after rest
+  operation_missing None nobody after rest done = absurd (never (told_none (Some (stop (failed EINVAL))) s t after rest (Absent valid) (so-stop _) done).1)
+  operation_missing (Some operation) nobody after rest done = choose (names_an_object operation) refl
+    where
+      choose : (b : Bool) → names_an_object operation ≡ b → IsMissing s.looker after rest
+      choose true is = named_missing operation is nobody after rest done
+      choose false is = absurd (never (told_none _ s t after rest (Absent valid) (plain-plan (asked_of r nobody) r.value operation is) done).1)
+
+pub only_missing_names_are_absent : OnlyMissingNamesAreAbsent
+unfolding request_plan
+only_missing_names_are_absent r s t valid es replies runs =
+    let parts = run-parts (needs_nobody_in r.node r.operation s) (λ nobody. answered_as nobody r s) es replies (Says (Absent valid), t) runs in
+    subst (λ l. IsMissing s.looker l replies) (sym parts.all_events)
+    (subst (λ l. IsMissing s.looker (parts.first_events ++ parts.later_events) l) (sym parts.all_replies)
+    (missing_later s.looker (needs_nobody_in r.node r.operation s) parts.first_events parts.later_events parts.first_replies parts.later_replies parts.middle parts.first
+    (operation_missing r s t valid r.operation parts.middle parts.later_events parts.later_replies
+    (worked r.memory _ s t parts.later_events parts.later_replies (Absent valid) parts.later))))
