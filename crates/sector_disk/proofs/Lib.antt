@@ -1,5 +1,6 @@
 mod Done
 mod Following
+mod Picking
 mod Placed
 mod Undone
 pub mod Moments

@@ -7,26 +7,26 @@ use Rattle.std.specs.Prelude.{Result, slice_range, Bool, false, not, if◌then�
 use Rattle.std.specs.Result.{is_ok}
 use Rattle.sector_disk.specs.Disk.{Image, sector, IsWholeSector}
 use Rattle.sector_disk.specs.Whole.{AreSectors}
-use Rattle.sector_disk.specs.Places.{sectors_at, Placed, HasPlace, IsKept, IsRunSet, IsRow}
+use Rattle.sector_disk.specs.Places.{sectors_at, KeptSectors, OwnsPlace, IsKept, IsRunSet, IsRow}
 
 pub sector_shown : (contents : Image) (places : List ℕ) (n : ℕ) → n < length places → sector (sectors_at contents places) n ≡ sector contents (get_or places n 0)
 sector_shown contents places n below = get_or-map (sector contents) places n 0 [] below
 
 -- what two that are the same show
-pub shown_is : {some other : Placed} → some ≡ other → some.shown ≡ other.shown
-shown_is same = ap (λ (sectors : Placed). sectors.shown) same
+pub shown_is : {some other : KeptSectors} → some ≡ other → some.shown ≡ other.shown
+shown_is same = ap (λ (sectors : KeptSectors). sectors.shown) same
 
-pub places_are : {some other : Placed} → some ≡ other → some.places ≡ other.places
-places_are same = ap (λ (sectors : Placed). sectors.places) same
+pub places_are : {some other : KeptSectors} → some ≡ other → some.places ≡ other.places
+places_are same = ap (λ (sectors : KeptSectors). sectors.places) same
 
 -- of the places before, which a contract sees
-pub keeps_in : {shown : Image} {places : List ℕ} {sectors : Placed} (later : List ℕ) → record { shown = shown; places = places } ≡ sectors → (n : ℕ)
-    → ((k : ℕ) → k ≢ n → get_or places k 0 ≢ 0 → get_or later k 0 ≢ 0) → (k : ℕ) → k ≢ n → HasPlace sectors k → get_or later k 0 ≢ 0
-keeps_in later is n keeps k other some = keeps k other (λ none. some (ap (λ (s : Placed). get_or s.places k 0) (sym is) ∙ none))
+pub keeps_in : {shown : Image} {places : List ℕ} {sectors : KeptSectors} (later : List ℕ) → record { shown = shown; places = places } ≡ sectors → (n : ℕ)
+    → ((k : ℕ) → k ≢ n → get_or places k 0 ≢ 0 → get_or later k 0 ≢ 0) → (k : ℕ) → k ≢ n → OwnsPlace sectors k → get_or later k 0 ≢ 0
+keeps_in later is n keeps k other some = keeps k other (λ none. some (ap (λ (s : KeptSectors). get_or s.places k 0) (sym is) ∙ none))
 
-pub keeps_all : {shown : Image} {places : List ℕ} {sectors : Placed} (later : List ℕ) → record { shown = shown; places = places } ≡ sectors
-    → ((k : ℕ) → get_or places k 0 ≢ 0 → get_or later k 0 ≢ 0) → (k : ℕ) → HasPlace sectors k → get_or later k 0 ≢ 0
-keeps_all later is keeps k some = keeps k (λ none. some (ap (λ (s : Placed). get_or s.places k 0) (sym is) ∙ none))
+pub keeps_all : {shown : Image} {places : List ℕ} {sectors : KeptSectors} (later : List ℕ) → record { shown = shown; places = places } ≡ sectors
+    → ((k : ℕ) → get_or places k 0 ≢ 0 → get_or later k 0 ≢ 0) → (k : ℕ) → OwnsPlace sectors k → get_or later k 0 ≢ 0
+keeps_all later is keeps k some = keeps k (λ none. some (ap (λ (s : KeptSectors). get_or s.places k 0) (sym is) ∙ none))
 
 -- one sector shows another content
 pub shown_set : (contents contents' : Image) (places places' : List ℕ) (n : ℕ) (content : List ℕ) → n < length places → length places' ≡ length places
@@ -353,16 +353,16 @@ place_read places contents seen n at is fits read =
     (below, read ∙ get_or_default_zero places n at below)
 
 -- what is read of a sector isn't zeros only where it has a place
-pub read_placed : (places : List ℕ) (contents : Image) (owners : List ℕ) (sectors : Placed) (n at : ℕ) (read : List ℕ) → IsKept places contents owners
+pub read_placed : (places : List ℕ) (contents : Image) (owners : List ℕ) (sectors : KeptSectors) (n at : ℕ) (read : List ℕ) → IsKept places contents owners
     → record { shown = sectors_at contents places; places = places } ≡ sectors → n < length sectors.shown → at ≡ get_or places n at → read ≡ get_or contents at read
-    → read ≢ replicate 512 0 → HasPlace sectors n
+    → read ≢ replicate 512 0 → OwnsPlace sectors n
 read_placed places contents owners sectors n at read kept is fits place content used none =
     let below : n < length places = let size = ap (λ (i : Image). length i) (shown_is is) in omega (arith, fits, size, length-map places (sector contents)) in
     let zero : at ≡ 0 = place ∙ get_or_default_zero places n at below ∙ ap (λ l. get_or l n 0) (places_are is) ∙ none in
     used (content ∙ ap (λ k. get_or contents k read) zero ∙ get_or_default contents 0 read [] kept.some ∙ kept.zeros)
 
 -- the place of a sector, as a contract sees it
-pub place_seen : (places : List ℕ) (contents : Image) (sectors : Placed) (n : ℕ) → record { shown = sectors_at contents places; places = places } ≡ sectors → n < length sectors.shown
+pub place_seen : (places : List ℕ) (contents : Image) (sectors : KeptSectors) (n : ℕ) → record { shown = sectors_at contents places; places = places } ≡ sectors → n < length sectors.shown
     → (n < length places) × (get_or places n 0 ≡ get_or sectors.places n 0)
 place_seen places contents sectors n is fits =
     (let size = ap (λ (i : Image). length i) (shown_is is) in omega (arith, fits, size, length-map places (sector contents)), ap (λ l. get_or l n 0) (places_are is))

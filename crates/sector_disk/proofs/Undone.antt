@@ -10,7 +10,7 @@ use Rattle.sector_disk.specs.Disk.{Image, sector}
 use Rattle.sector_disk.specs.Record.{Past, Event, Written, Synced, Held, after_events, held_after, replay, since_sync, Leaves, MayHold}
 use Rattle.sector_disk.specs.Replay.{after_cases}
 use Rattle.sector_disk.specs.Forgotten.{settled}
-use Rattle.sector_disk.specs.Places.{Placed, HasPlace}
+use Rattle.sector_disk.specs.Places.{KeptSectors, OwnsPlace}
 use Rattle.sector_disk.specs.Steps.{before, events_of, past_of, IsLog, held_before, CanPutBack, IsRecord}
 use Rattle.sector_disk.specs.declared.history.Step.{Step}
 use Rattle.sector_disk.specs.declared.history.Step.TheVariants.{Replaced, Settled}
@@ -220,24 +220,31 @@ stopped seen image done pending synced p log is tail size each =
           ⊎_elim (λ was. inl (was ∙ ap (λ (i : Image). sector i n) (sym log.stable))) (λ new. inr (subst (λ (l : List Event). Contains l (Written n (sector image n))) (sym log.pending) new)) here;
     })
 
+-- what it is picked from
+pub held_stopped : (seen : Image) (done : List Step) (synced : ℕ) (p : Past) → IsLog seen done synced → past_of seen done ≡ p → held_before seen (drop synced done) ≡ replay p.start p.events
+held_stopped seen done synced p log is =
+    ap (λ (i : Image). record { stable = i; pending = events_of seen (drop synced done) }) (sym log.stable)
+    ∙ ap (λ (l : List Event). record { stable = (replay (before seen done) (events_of seen done)).stable; pending = l }) (sym log.pending)
+    ∙ ap (λ (q : Past). replay q.start q.events) is
+
 -- the picked content of a sector is put there, and the others keep their places
-pub record PickedSo (seen image : Placed) (steps : List Step) (n : ℕ) : Type 0 where
+pub record PickedSo (seen image : KeptSectors) (steps : List Step) (n : ℕ) : Type 0 where
   pub len : length image.shown ≡ length seen.shown
   pub picked : Picked seen.shown image.shown steps n
-  pub keeps : (k : ℕ) → n ≤ k → HasPlace seen k → HasPlace image k
+  pub keeps : (k : ℕ) → n ≤ k → OwnsPlace seen k → OwnsPlace image k
 
-pub picked_start : (seen : Placed) (steps : List Step) → PickedSo seen seen steps 0
+pub picked_start : (seen : KeptSectors) (steps : List Step) → PickedSo seen seen steps 0
 picked_start seen steps = record { len = refl; picked = picked_none seen.shown steps; keeps = λ k past some. some }
 
-pub picked_past : (seen image : Placed) (steps : List Step) (n : ℕ) → PickedSo seen image steps n → PickedSo seen image steps (n + 1)
+pub picked_past : (seen image : KeptSectors) (steps : List Step) (n : ℕ) → PickedSo seen image steps n → PickedSo seen image steps (n + 1)
 picked_past seen image steps n so = record {
   len = so.len;
   picked = picked_same seen.shown image.shown steps n so.picked;
   keeps = λ k past some. so.keeps k (omega (arith, past)) some;
 }
 
-pub picked_put : (seen image later : Placed) (steps : List Step) (n : ℕ) (content : List ℕ) → n < length image.shown → (content ≡ sector image.shown n) ⊎ Contains steps (Replaced n content)
-    → later.shown ≡ slice_set image.shown n content → ((k : ℕ) → k ≢ n → HasPlace image k → HasPlace later k) → PickedSo seen image steps n → PickedSo seen later steps (n + 1)
+pub picked_put : (seen image later : KeptSectors) (steps : List Step) (n : ℕ) (content : List ℕ) → n < length image.shown → (content ≡ sector image.shown n) ⊎ Contains steps (Replaced n content)
+    → later.shown ≡ slice_set image.shown n content → ((k : ℕ) → k ≢ n → OwnsPlace image k → OwnsPlace later k) → PickedSo seen image steps n → PickedSo seen later steps (n + 1)
 picked_put seen image later steps n content fits is put keeps so = record {
   len = ap (λ (i : Image). length i) put ∙ length-set image.shown n content ∙ so.len;
   picked = subst (λ (i : Image). Picked seen.shown i steps (n + 1)) (sym put) (picked_one seen.shown image.shown steps n content so.len fits is so.picked);
@@ -245,8 +252,8 @@ picked_put seen image later steps n content fits is put keeps so = record {
 }
 
 -- and there is room for it
-pub picked_room : (seen image : Placed) (steps : List Step) (n : ℕ) (last content : List ℕ) → (last ≢ replicate 512 0 → HasPlace image n) → (content ≡ last) ⊎ Contains steps (Replaced n content)
-    → CanPutBack seen steps → PickedSo seen image steps n → content ≢ replicate 512 0 → HasPlace image n
+pub picked_room : (seen image : KeptSectors) (steps : List Step) (n : ℕ) (last content : List ℕ) → (last ≢ replicate 512 0 → OwnsPlace image n) → (content ≡ last) ⊎ Contains steps (Replaced n content)
+    → CanPutBack seen steps → PickedSo seen image steps n → content ≢ replicate 512 0 → OwnsPlace image n
 picked_room seen image steps n last content placed is back so used =
     ⊎_elim (λ same. placed (λ zeros. used (same ∙ zeros))) (λ has. so.keeps n (omega arith) (back.room n content has used)) is
 
@@ -254,15 +261,15 @@ pub picked_content : (last here content : List ℕ) (steps : List Step) (n : ℕ
 picked_content last here content steps n same is = ⊎_elim (λ was. inl (was ∙ same)) (λ has. inr has) is
 
 -- ---- what can be put back without memory
-pub none_back : (seen : Placed) (steps : List Step) → steps ≡ [] → CanPutBack seen steps
+pub none_back : (seen : KeptSectors) (steps : List Step) → steps ≡ [] → CanPutBack seen steps
 none_back seen steps none = subst (λ (l : List Step). CanPutBack seen l) (sym none) (record {
   below = λ n content has. absurd (omega (arith, has.1));
   room = λ n content has used. absurd (omega (arith, has.1));
 })
 
 -- after one write more
-pub back-write : (seen later : Placed) (n : ℕ) (content : List ℕ) (done : List Step) (synced : ℕ) → n < length seen.shown → synced ≤ length done
-    → (sector seen.shown n ≢ replicate 512 0 → HasPlace seen n) → later.shown ≡ slice_set seen.shown n content → ((k : ℕ) → HasPlace seen k → HasPlace later k)
+pub back-write : (seen later : KeptSectors) (n : ℕ) (content : List ℕ) (done : List Step) (synced : ℕ) → n < length seen.shown → synced ≤ length done
+    → (sector seen.shown n ≢ replicate 512 0 → OwnsPlace seen n) → later.shown ≡ slice_set seen.shown n content → ((k : ℕ) → OwnsPlace seen k → OwnsPlace later k)
     → CanPutBack seen (drop synced done) → CanPutBack later (drop synced (written seen.shown n content done))
 back-write seen later n content done synced below fits placed set keeps back =
     subst (λ (l : List Step). CanPutBack later l) (sym (drop-append-le synced done (Replaced n (sector seen.shown n) ∷ []) fits)) (record {
@@ -271,7 +278,7 @@ back-write seen later n content done synced below fits placed set keeps back =
           (Contains-append_cases (drop synced done) (Replaced n (sector seen.shown n) ∷ []) (Replaced k c) has);
       room = λ k c has used.
           ⊎_elim (λ old. keeps k (back.room k c old used))
-          (λ new. subst (HasPlace later) (sym (only k c new).0) (keeps n (placed (λ zeros. used ((only k c new).1 ∙ zeros)))))
+          (λ new. subst (OwnsPlace later) (sym (only k c new).0) (keeps n (placed (λ zeros. used ((only k c new).1 ∙ zeros)))))
           (Contains-append_cases (drop synced done) (Replaced n (sector seen.shown n) ∷ []) (Replaced k c) has);
     })
   where
@@ -283,7 +290,7 @@ back-write seen later n content done synced below fits placed set keeps back =
     only k c (suc i, few, is) = absurd (omega (arith, few))
 
 -- after a sync, which replaces none
-pub back-sync : (seen : Placed) (done : List Step) (synced : ℕ) → synced ≤ length done → CanPutBack seen (drop synced done) → CanPutBack seen (drop synced (done ++ Settled ∷ []))
+pub back-sync : (seen : KeptSectors) (done : List Step) (synced : ℕ) → synced ≤ length done → CanPutBack seen (drop synced done) → CanPutBack seen (drop synced (done ++ Settled ∷ []))
 back-sync seen done synced fits back =
     subst (λ (l : List Step). CanPutBack seen l) (sym (drop-append-le synced done (Settled ∷ []) fits)) (record {
       below = λ n c has. ⊎_elim (λ old. back.below n c old) (λ new. absurd (none n c new)) (Contains-append_cases (drop synced done) (Settled ∷ []) (Replaced n c) has);
@@ -295,7 +302,7 @@ back-sync seen done synced fits back =
     none n c (suc i, few, is) = absurd (omega (arith, few))
 
 -- and after what came before the last sync is forgotten
-pub record-forget : (seen : Placed) (done rest : List Step) (synced : ℕ) → rest ≡ drop synced done → IsRecord seen done synced → IsRecord seen rest 0
+pub record-forget : (seen : KeptSectors) (done rest : List Step) (synced : ℕ) → rest ≡ drop synced done → IsRecord seen done synced → IsRecord seen rest 0
 record-forget seen done rest synced is kept = record {
   log = log-forget seen.shown done rest synced is kept.log;
   back = subst (λ (l : List Step). CanPutBack seen l) (sym is) kept.back;

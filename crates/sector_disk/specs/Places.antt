@@ -1,6 +1,6 @@
 -- Sectors in memory that are kept by places: a number for each sector, and each content that isn't zeros once.
 --     sectors_at        the sectors that the places stand for
---     Placed, HasPlace        sectors and their places, as a contract sees them
+--     KeptSectors, OwnsPlace        sectors and their places, as a contract sees them
 --     IsKept        zeros stand at place 0, and each other place has one owner
 --     IsRunSet        neighbours got other contents
 --     IsRow        neighbouring places
@@ -13,13 +13,13 @@ abbrev pub sectors_at : Image → List ℕ → Image
 sectors_at contents places = map (sector contents) places
 
 -- the content of each sector, and its place
-pub record Placed : Type 0 where
+pub record KeptSectors : Type 0 where
   pub shown : Image
   pub places : List ℕ
 
 -- a sector has a place of its own, so that another content of it needs no memory
-abbrev pub HasPlace : Placed → ℕ → Type 0
-HasPlace sectors n = get_or sectors.places n 0 ≢ 0
+abbrev pub OwnsPlace : KeptSectors → ℕ → Type 0
+OwnsPlace sectors n = get_or sectors.places n 0 ≢ 0
 
 -- Place 0 has zeros. Each other place is that of one sector, its owner.
 pub record IsKept (places : List ℕ) (contents : Image) (owners : List ℕ) : Type 0 where

@@ -1,7 +1,7 @@
 -- A record that is kept backwards: what reads give now, and what each step replaced.
-use Rattle.std.specs.Prelude.{◌≡◌, ◌≢◌, ℕ, ◌<◌, ◌≤◌, ◌^◌, List, [], ◌∷◌, length, drop, replicate, slice_set, Contains}
+use Rattle.std.specs.Prelude.{◌≡◌, ◌≢◌, ℕ, ◌<◌, ◌≤◌, ◌^◌, List, [], ◌∷◌, length, drop, replicate, slice_set, Contains, Bool, false, nat_eq, if◌then◌else◌}
 use Rattle.sector_disk.specs.Disk.{Image, sector}
-use Rattle.sector_disk.specs.Places.{Placed, HasPlace}
+use Rattle.sector_disk.specs.Places.{KeptSectors, OwnsPlace}
 use Rattle.sector_disk.specs.Record.{Past, Held, Event, Written, Synced, after_events, replay}
 use Rattle.sector_disk.specs.declared.history.Step.{Step}
 use Rattle.sector_disk.specs.declared.history.Step.TheVariants.{Replaced, Settled}
@@ -25,6 +25,17 @@ past_of seen done = record { start = before seen done; events = events_of seen d
 abbrev pub held_before : Image → List Step → Held
 held_before seen steps = record { stable = before seen steps; pending = events_of seen steps }
 
+-- whether a step is a write of this sector
+abbrev pub writes_sector : Step → ℕ → Bool
+writes_sector (Replaced k content) n = nat_eq k n
+writes_sector Settled n = false
+
+-- the contents that the steps replaced in this sector, in their order
+abbrev pub replaced_of : List Step → ℕ → List (List ℕ)
+replaced_of [] n = []
+replaced_of (Settled ∷ steps) n = replaced_of steps n
+replaced_of (Replaced k content ∷ steps) n = if nat_eq k n then content ∷ replaced_of steps n else replaced_of steps n
+
 -- the steps from one on are those since the last sync
 pub record IsLog (seen : Image) (done : List Step) (synced : ℕ) : Type 0 where
   pub small : length seen < 2 ^ 32
@@ -35,11 +46,11 @@ pub record IsLog (seen : Image) (done : List Step) (synced : ℕ) : Type 0 where
   pub pending : (replay (before seen done) (events_of seen done)).pending ≡ events_of seen (drop synced done)
 
 -- each content that a step replaced can be put back without memory: it is zeros, or its sector has a place
-pub record CanPutBack (seen : Placed) (steps : List Step) : Type 0 where
+pub record CanPutBack (seen : KeptSectors) (steps : List Step) : Type 0 where
   pub below : (n : ℕ) (content : List ℕ) → Contains steps (Replaced n content) → n < length seen.shown
-  pub room : (n : ℕ) (content : List ℕ) → Contains steps (Replaced n content) → content ≢ replicate 512 0 → HasPlace seen n
+  pub room : (n : ℕ) (content : List ℕ) → Contains steps (Replaced n content) → content ≢ replicate 512 0 → OwnsPlace seen n
 
 -- the steps from one on are those since the last sync, and a stop can undo them without memory
-pub record IsRecord (seen : Placed) (done : List Step) (synced : ℕ) : Type 0 where
+pub record IsRecord (seen : KeptSectors) (done : List Step) (synced : ℕ) : Type 0 where
   pub log : IsLog seen.shown done synced
   pub back : CanPutBack seen (drop synced done)

@@ -1,7 +1,9 @@
 //! A disk as the layers above see it: an array of sectors that may be stopped at any moment, as by a power cut.
 //! A stop leaves in each sector what was there at the last sync that succeeded, or any content written since.
 
-ghost use Rattle.std.specs.Prelude.{◌≡◌, ◌≤◌, ◌<◌, ◌^◌, ◌-◌, ℕ, List, Option, Some, None, IsErr, OnOk, OnErr, slice_set};
+ghost use Rattle.std.specs.Prelude.{◌≡◌, ◌≤◌, ◌<◌, ◌^◌, ◌-◌, ◌↔◌, ℕ, List, Option, Some, None, IsErr, OnOk, OnErr, slice_set};
+ghost use Rattle.sector_disk.specs.Record.{Held, MayHold};
+ghost use Rattle.sector_disk.specs.Picks.{IsPicked};
 ghost use Rattle.sector_disk.specs.Disk.{DiskState, Image, IsImage, IsSame, ForgetsPast, IsWritten, ChangesOnly, IsStable, IsNarrowed, Elapses, HasCause, HasWriteCause, IsWholeSector, sector, AddsOnly, IsImageOr, IsWrite, LeavesOnly};
 
 /// A read, a write or a sync failed, and the disk has counted it.
@@ -98,9 +100,13 @@ pub trait CrashDisk: Disk {
     /// How many writes and syncs pass before all fail; `None` where all pass.
     ghost armed: { Self → Option ℕ };
 
+    /// What a stop picks from: what was there at the last sync, and the writes since, in their order.
+    ghost held: { Self → Held };
+
     /// Lets this many writes and syncs pass, and fails all later ones. Reads go on.
     fn arm(&mut self, passes: u64)
         ensures armed { armed self.new ≡ Some passes }
+        ensures held { held self.new ≡ held self.old }
         ensures same { IsSame (Self.state self.old) (Self.state self.new) }
         ensures time { Elapses (Self.state self.old) (Self.state self.new) }
         ensures failures { (Self.state self.new).failures ≡ (Self.state self.old).failures }
@@ -111,9 +117,13 @@ pub trait CrashDisk: Disk {
     /// content first and then those written since in their order. Nothing is said of the moments before it.
     fn crash(&mut self, choice: &[u8])
         ensures armed { armed self.new ≡ None }
+        ensures picked { IsPicked (held self.old) choice.now (Self.state self.new).seen }
         ensures image { IsImage (Self.state self.old) (Self.state self.new).seen }
         ensures stable { IsStable (Self.state self.new) }
         ensures size { (Self.state self.new).size ≡ (Self.state self.old).size }
         ensures failures { (Self.state self.new).failures ≡ (Self.state self.old).failures }
         ensures failed_writes { (Self.state self.new).failed_writes ≡ (Self.state self.old).failed_writes };
+
+    /// Of each sector a stop picks from the contents that it may leave there.
+    ghost held_is: { (disk : Self) (n : ℕ) (content : List ℕ) → (Self.Disk.state disk).may_hold n content ↔ MayHold (held disk) n content };
 }

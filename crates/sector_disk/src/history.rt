@@ -1,9 +1,10 @@
 //! What was done to a disk in memory since it was last stopped.
 
-ghost use Rattle.std.specs.Prelude.{◌≡◌, ◌⊎◌, ◌^◌, ◌<◌, ◌+◌, ◌++◌, [], ◌∷◌, length, ℕ, ◌≤◌, Contains, slice_range, IfSome, OnOk, OnErr};
+ghost use Rattle.std.specs.Prelude.{◌≡◌, ◌⊎◌, ◌^◌, ◌<◌, ◌+◌, ◌++◌, [], ◌∷◌, length, ℕ, ◌≤◌, Contains, slice_index_or, slice_range, IfSome, OnOk, OnErr};
 ghost use Rattle.sector_disk.specs.Disk.{sector};
 ghost use Rattle.sector_disk.specs.Record.{Written, Synced, after_events, replay, since_sync, Leaves, MayHold};
-ghost use Rattle.sector_disk.specs.Steps.{held_before, CanPutBack};
+ghost use Rattle.sector_disk.specs.Picks.{IsPicked};
+ghost use Rattle.sector_disk.specs.Steps.{held_before, CanPutBack, replaced_of, writes_sector};
 
 use crate::sectors::Sectors;
 use std::alloc::{AllocError, Global};
@@ -20,7 +21,9 @@ enum Step {
 
 impl Step {
     // Whether it is a write of this sector.
-    fn writes(&self, n: usize) -> bool {
+    fn writes(&self, n: usize) -> bool
+        ensures { result ≡ writes_sector self.now n }
+    {
         match self {
             Step::Replaced(k, _) => *k as usize == n,
             Step::Settled => false,
@@ -131,8 +134,10 @@ impl History {
     }
 
     /// Forgets the past but for one image that a stop may leave: over the sectors with pending writes, in rising
-    /// order, the next byte of `choice` picks one of the contents. That needs no memory.
+    /// order, the next byte of `choice` picks one of the contents. That needs no memory, so that what is picked is what is
+    /// there.
     pub fn stop(&mut self, choice: &[u8])
+        ensures picked { IsPicked (replay self.old.start self.old.events) choice.now self.new.start }
         ensures image { Leaves (length self.old.start) (replay self.old.start self.old.events) self.new.start }
         ensures events { self.new.events ≡ [] }
     {
@@ -158,24 +163,32 @@ fn release_places(image: &mut Sectors, pending: &[Step])
 fn pick(image: &mut Sectors, pending: &[Step], choice: &[u8])
     requires small { length image.old.shown < 2 ^ 32 }
     requires room { CanPutBack image.old pending.now }
-    ensures len { length image.new.shown ≡ length image.old.shown }
+    ensures picked { IsPicked (held_before image.old.shown pending.now) choice.now image.new.shown }
     ensures each { (n : ℕ) → n < length image.old.shown → MayHold (held_before image.old.shown pending.now) n (sector image.new.shown n) }
 {
-    let mut choice = choice.iter();
+    let mut picked = 0;
     for n in 0..image.len() {
         let count = count_writes(pending, n);
         if count > 0 {
-            let byte = choice.next().copied().unwrap_or(0);
-            let number = byte as usize % (count + 1);
+            let number = byte_at(choice, picked) as usize % (count + 1);
+            picked += 1;
             let content = replaced_content(pending, n, number, image.get(n as u32));
             image.put(n as u32, &content);
         }
     }
 }
 
+// A byte of a choice, which is 0 past its end.
+fn byte_at(choice: &[u8], at: usize) -> u8
+    ensures { result ≡ slice_index_or choice.now at 0 }
+{
+    choice.get(at).copied().unwrap_or(0)
+}
+
 // How many of the steps write a sector.
 fn count_writes(pending: &[Step], n: usize) -> usize
-    ensures { result ≤ length pending.now }
+    ensures count { result ≡ length (replaced_of pending.now n) }
+    ensures few { result ≤ length pending.now }
 {
     let mut count = 0;
     for step in pending {
@@ -188,7 +201,9 @@ fn count_writes(pending: &[Step], n: usize) -> usize
 
 // The content that the write of this number, counted from 0, replaced in a sector; where there are no more, the one that it has.
 fn replaced_content(pending: &[Step], n: usize, number: usize, last: &[u8; 512]) -> [u8; 512]
-    ensures { (result ≡ last.now) ⊎ Contains pending.now (Step.Replaced n result) }
+    requires { number ≤ length (replaced_of pending.now n) }
+    ensures content { result ≡ slice_index_or (replaced_of pending.now n ++ last.now ∷ []) number [] }
+    ensures one { (result ≡ last.now) ⊎ Contains pending.now (Step.Replaced n result) }
 {
     let mut before = number;
     for step in pending {

@@ -3,7 +3,7 @@
 
 ghost use Rattle.std.specs.Prelude.{◌≡◌, ◌^◌, ◌<◌, ◌-◌, length, vec_len, replicate, IfOk, IfSome, IsErr, ◌+◌, min, ◌≤◌, slice_range};
 ghost use Rattle.sector_disk.specs.Disk.{IsFresh};
-ghost use Rattle.sector_disk.specs.Record.{recorded_state};
+ghost use Rattle.sector_disk.specs.Record.{recorded_state, replay};
 ghost use Rattle.sector_disk.specs.Replay.{seen_is_image, counts_now, only_now};
 ghost use Rattle.sector_disk.specs.Whole.{AreWhole, whole_sectors};
 
@@ -162,6 +162,10 @@ impl Disk for MemDisk {
 
 impl CrashDisk for MemDisk {
     ghost armed = { λ disk. disk.armed };
+
+    ghost held = { λ disk. replay disk.history.start disk.history.events };
+
+    ghost held_is = { λ _ _ _. (λ may. may, λ may. may) };
 
     fn arm(&mut self, passes: u64) {
         self.armed = Some(passes);

@@ -3,7 +3,7 @@
 ghost use Rattle.std.specs.Prelude.{◌≡◌, ◌≢◌, ◌<◌, ◌≤◌, ◌+◌, ◌^◌, ℕ, length, get_or, replicate, slice_set, slice_range, IfOk, IfSome, IsTrue, OnOk, OnErr};
 ghost use Rattle.sector_disk.specs.Disk.{sector};
 ghost use Rattle.sector_disk.specs.Whole.{AreSectors};
-ghost use Rattle.sector_disk.specs.Places.{HasPlace, IsRunSet, IsRow};
+ghost use Rattle.sector_disk.specs.Places.{OwnsPlace, IsRunSet, IsRow};
 
 use crate::whole::tell_whole;
 use std::alloc::{AllocError, Global};
@@ -25,9 +25,9 @@ pub struct Sectors {
 }
 
 impl Model for Sectors {
-    ghost use Rattle.sector_disk.specs.Places.{Placed, sectors_at, IsKept};
+    ghost use Rattle.sector_disk.specs.Places.{KeptSectors, sectors_at, IsKept};
 
-    ghost Value = { Placed };
+    ghost Value = { KeptSectors };
 
     ghost view = { λ sectors. record { shown = sectors_at sectors.contents.items sectors.places.items; places = sectors.places.items } };
 
@@ -64,7 +64,7 @@ impl Sectors {
     pub fn get(&self, n: u32) -> &[u8; 512]
         requires { n < length self.now.shown }
         ensures content { result.now ≡ sector self.now.shown n }
-        ensures placed { result.now ≢ replicate 512 0 → HasPlace self.now n }
+        ensures placed { result.now ≢ replicate 512 0 → OwnsPlace self.now n }
     {
         &self.contents[self.places[n as usize] as usize]
     }
@@ -75,7 +75,7 @@ impl Sectors {
         requires { n < length self.old.shown }
         ensures ok { OnOk result (self.new.shown ≡ slice_set self.old.shown n content.now) }
         ensures err { OnErr result (self.new ≡ self.old) }
-        ensures keeps { (k : ℕ) → HasPlace self.old k → HasPlace self.new k }
+        ensures keeps { (k : ℕ) → OwnsPlace self.old k → OwnsPlace self.new k }
     {
         if self.places[n as usize] != 0 {
             self.replace(n, content);
@@ -90,9 +90,9 @@ impl Sectors {
     /// Gives one another content for which there is room. One of zeros lets its place go.
     pub fn put(&mut self, n: u32, content: &[u8; 512])
         requires below { n < length self.old.shown }
-        requires room { content.now ≢ replicate 512 0 → HasPlace self.old n }
+        requires room { content.now ≢ replicate 512 0 → OwnsPlace self.old n }
         ensures shown { self.new.shown ≡ slice_set self.old.shown n content.now }
-        ensures keeps { (k : ℕ) → k ≢ n → HasPlace self.old k → HasPlace self.new k }
+        ensures keeps { (k : ℕ) → k ≢ n → OwnsPlace self.old k → OwnsPlace self.new k }
     {
         if *content == ZEROS {
             self.clear(n);
@@ -115,7 +115,7 @@ impl Sectors {
     fn clear(&mut self, n: u32)
         requires { n < length self.old.shown }
         ensures shown { self.new.shown ≡ slice_set self.old.shown n (replicate 512 0) }
-        ensures keeps { (k : ℕ) → k ≢ n → HasPlace self.old k → HasPlace self.new k }
+        ensures keeps { (k : ℕ) → k ≢ n → OwnsPlace self.old k → OwnsPlace self.new k }
     {
         let place = self.places[n as usize];
         if place == 0 {
@@ -134,7 +134,7 @@ impl Sectors {
     // Gives one that has a place another content.
     fn replace(&mut self, n: u32, content: &[u8; 512])
         requires below { n < length self.old.shown }
-        requires placed { HasPlace self.old n }
+        requires placed { OwnsPlace self.old n }
         ensures shown { self.new.shown ≡ slice_set self.old.shown n content.now }
         ensures places { self.new.places ≡ self.old.places }
     {
@@ -149,7 +149,7 @@ impl Sectors {
         requires none { get_or self.old.places n 0 ≡ 0 }
         ensures ok { OnOk result (self.new.shown ≡ slice_set self.old.shown n content.now) }
         ensures err { OnErr result (self.new ≡ self.old) }
-        ensures keeps { (k : ℕ) → HasPlace self.old k → HasPlace self.new k }
+        ensures keeps { (k : ℕ) → OwnsPlace self.old k → OwnsPlace self.new k }
     {
         tell_whole(content);
         // There are no more places than sectors.
