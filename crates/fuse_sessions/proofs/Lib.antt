@@ -3,4 +3,3 @@ mod ByPlaces
 mod Doings
 mod Judging
 mod Pieces
-mod Writings

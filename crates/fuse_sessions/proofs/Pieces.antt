@@ -2,20 +2,18 @@
 --     read-none, read-more, read-short, read-refused        reading
 --     write-more, write-short, write-refused        writing
 --     pieces-more, pieces-split, pieces-none, pieces-end        bytes as pieces
---     next-call, within-total        the calls that are left
-use Rattle.std.specs.Prelude.{◌≡◌, ℕ, zero, suc, ◌+◌, ◌-◌, ◌<◌, ◌==◌, min, nat_lt, true, false, List, [], ◌∷◌, ◌++◌, length, ◌≤◌, get_or, take, drop, Result, Ok, Err}
+--     calls-more, calls-end        calls that write them
+use Rattle.std.specs.Prelude.{◌≡◌, ℕ, zero, suc, ◌+◌, ◌-◌, ◌<◌, ◌==◌, min, nat_lt, true, false, List, [], ◌∷◌, ◌++◌, length, map, take, drop, Result, Ok, Err}
 use Rattle.std.proofs.Common.{refl, sym, ap, subst, ◌∙◌, arith}
-use Rattle.std.proofs.Math.Seq.{drop-cons}
-use Rattle.std.proofs.Math.Numerals.{add-one}
 use Rattle.std.proofs.lemmas.List.{take_min, drop_min}
-use Rattle.std.proofs.lemmas.List.Sums.{sum_by-cons}
 use Rattle.fs_model.specs.declared.call.Call.{Call}
+use Rattle.fs_model.specs.declared.call.Call.TheVariants.{Write}
 use Rattle.fs_model.specs.declared.event.Event.{Event}
 use Rattle.fs_model.specs.declared.reply.Reply.{Reply}
 use Rattle.fs_model.specs.Limits.{move_limit}
 use Rattle.fuse_plans.specs.declared.stop.Stop.{Stop}
 use Rattle.fuse_plans.specs.Works.{of_result}
-use Rattle.fuse_plans.specs.FilePlans.{read_piece, read_pieces, write_piece, write_pieces, or_done, length_written, total_written, pieces_in}
+use Rattle.fuse_plans.specs.FilePlans.{read_piece, read_pieces, write_piece, write_pieces, or_done, length_written, pieces_in}
 use Rattle.fuse_steps.specs.Performing.{DidByMachine}
 use Rattle.fuse_steps.proofs.Steps.{machine-ok, machine-err, machine-attempts, machine-result, machine-gives, machine-gives-as, machine-true, machine-false}
 
@@ -108,17 +106,15 @@ pieces-split k n bytes is some =
     pieces-more k bytes (omega (arith, is, some))
     ∙ (ap (λ (p : List ℕ). p ∷ pieces_in k (drop move_limit bytes)) first ∙ ap (λ (p : List ℕ). take n bytes ∷ pieces_in k p) rest)
 
--- ---- the calls that are left
+-- ---- calls
 
-pub next-call : (calls : List Call) (i : ℕ) (call : Call) → i < length calls → call ≡ get_or calls i call → drop i calls ≡ call ∷ drop (i + 1) calls
-next-call calls i call lt is =
-    subst (λ (n : ℕ). drop i calls ≡ call ∷ drop n calls) (sym (add-one i))
-    (drop-cons calls i call lt ∙ ap (λ (k : Call). k ∷ drop (suc i) calls) (sym is))
+pub calls-more : (fd k i n : ℕ) (rest behind piece : List ℕ) → i < k → n ≡ min (length rest) move_limit → 0 < n → piece ≡ take n rest → behind ≡ drop n rest
+    → map (Write fd) (pieces_in (k - i) rest) ≡ Write fd piece ∷ map (Write fd) (pieces_in (k - (i + 1)) behind)
+calls-more fd k i n rest behind piece within is some front back =
+    let one : k - i ≡ suc (k - (i + 1)) = omega arith in
+    ap (λ (p : List (List ℕ)). map (Write fd) p) (ap (λ (j : ℕ). pieces_in j rest) one ∙ pieces-split (k - (i + 1)) n rest is some)
+    ∙ (ap (λ (p : List ℕ). Write fd p ∷ map (Write fd) (pieces_in (k - (i + 1)) (drop n rest))) (sym front)
+    ∙ ap (λ (b : List ℕ). Write fd piece ∷ map (Write fd) (pieces_in (k - (i + 1)) b)) (sym back))
 
--- they write no more than all
-pub within-total : (calls : List Call) (i done count total : ℕ) (call : Call) → drop i calls ≡ call ∷ drop (i + 1) calls → count ≤ length_written call
-    → done + total_written (drop i calls) ≤ total → (done + count) + total_written (drop (i + 1) calls) ≤ total
-within-total calls i done count total call next few within =
-    let whole : total_written (drop i calls) ≡ length_written call + total_written (drop (i + 1) calls) =
-    ap total_written next ∙ sum_by-cons length_written call (drop (i + 1) calls) in
-    omega (arith, whole, few, within)
+pub calls-end : (fd k : ℕ) (rest : List ℕ) → length rest ≡ 0 → map (Write fd) (pieces_in k rest) ≡ []
+calls-end fd k rest is = ap (λ (p : List (List ℕ)). map (Write fd) p) (pieces-end k rest is)

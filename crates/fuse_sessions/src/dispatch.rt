@@ -11,14 +11,13 @@ ghost use Rattle.fuse_sessions.specs.declared.family.Family.TheVariants as famil
 ghost use Rattle.fuse_plans.specs.declared.request.Asked.{Asked as AskedBy};
 
 use crate::family::{Family, family_of};
-use crate::handles::writes_of;
+use crate::handles::room_for_pieces;
 use crate::session::Session;
 use crate::xattrs::AclNames;
 use fs_cred::Cred;
 use fs_model::Path;
 use fuse_plans::{Asked, ReplyBody, Response, Stop};
 use fuse_protocol::{Operation, Piece};
-use fuse_state::descriptor_of;
 use fuse_steps::Machine;
 use posix_acl::Acl;
 use std::alloc::AllocError;
@@ -341,8 +340,9 @@ impl<M: Machine> Session<M> {
         ensures answered { IfOk result (Answered M.Serves (Some (write_file asked.entry.now handle offset bytes.now)) self.old self.new) }
         ensures stays { OnErr result (self.new ≡ self.old) }
     {
-        let calls = writes_of(self.alloc, descriptor_of(handle), bytes.bytes())?;
-        let wrote = self.write_file(asked.now, handle, offset, &calls);
+        let bytes = bytes.bytes();
+        let room = room_for_pieces(self.alloc, bytes)?;
+        let wrote = self.write_file(asked.now, handle, offset, bytes, room);
         Ok(response_of(wrote))
     }
 

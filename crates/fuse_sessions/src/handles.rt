@@ -1,6 +1,9 @@
 //! What is done by the handle of an open file.
-ghost use Rattle.std.specs.Prelude.{◌≡◌, ℕ, ◌<◌, ◌≤◌, ◌^◌, [], length, vec_capacity, IfOk};
-ghost use Rattle.fuse_plans.specs.FilePlans.{seek, pieces_of, read_piece, read_pieces, read_file, length_written, total_written, write_piece, or_done, write_pieces, writes_of, write_by, call_open, seek_open, close_file, sync_file};
+ghost use Rattle.std.specs.Prelude.{◌≡◌, ℕ, ◌≤◌, List, [], length, min, vec_capacity, Some, IfOk};
+ghost use Rattle.fs_model.specs.Limits.{move_limit};
+ghost use Rattle.fs_model.specs.declared.call.Call.TheVariants.{Write};
+ghost use Rattle.fuse_state.specs.Servers.{descriptor_of};
+ghost use Rattle.fuse_plans.specs.FilePlans.{seek, pieces_of, read_piece, read_pieces, read_file, length_written, write_piece, or_done, write_pieces, writes_of, write_by, call_open, seek_open, close_file, sync_file};
 ghost use Rattle.fuse_sessions.specs.Performing.{Did};
 ghost use Rattle.fuse_steps.specs.Performing.{DidByMachine};
 ghost use Rattle.fuse_plans.specs.Works.{of_result};
@@ -115,39 +118,86 @@ fn or_done(done: usize, wrote: Result<usize, Stop>) -> Result<usize, Stop>
     }
 }
 
-// Pieces until one is short or refused: how many bytes were written.
-fn write_pieces<M: Machine>(machine: &mut M, pid: usize, calls: &[Call]) -> Result<usize, Stop>
-    requires { total_written calls.now < 2 ^ 64 }
-    ensures { DidByMachine M.Serves (write_pieces pid 0 calls.now) machine.old machine.new result }
+// The bytes that a call wrote.
+fn bytes_written(call: Call) -> Option<Bytes>
+    ensures { (fd : ℕ) (bytes : List ℕ) → call ≡ Write fd bytes → result ≡ Some bytes }
 {
-    let mut done = 0;
-    for call in calls {
-        let wrote = write_piece(machine, pid, call);
-        let count = or_done(done, wrote)?;
-        done += count;
-        if count < length_written(call) {
-            return Ok(done);
+    match call {
+        Call::Write(_fd, bytes) => Some(bytes),
+        other => {
+            other.discard();
+            None
         }
     }
-    Ok(done)
 }
 
-/// The calls that write bytes by a handle, piece by piece.
-pub(crate) fn writes_of(alloc: Global, fd: usize, bytes: &[u8]) -> Result<Vec<Call>, AllocError>
-    ensures { IfOk result (λ calls. calls.items ≡ writes_of fd bytes.now) }
+// How many bytes were written of a piece by a call for it. The piece comes back.
+fn write_bytes<M: Machine>(
+    machine: &mut M,
+    pid: usize,
+    fd: usize,
+    piece: Bytes,
+) -> (Result<usize, Stop>, Bytes)
+    ensures did { DidByMachine M.Serves (write_piece pid (Write fd piece)) machine.old machine.new result.0 }
+    ensures most { IfOk result.0 (λ count. count ≤ length piece) }
+    ensures piece { result.1 ≡ piece }
 {
-    let mut calls = Vec::new(alloc);
-    let mut rest = bytes;
-    for _round in 0..bytes.len() / MOVE + 1 {
-        let count = rest.len().min(MOVE);
-        if count == 0 {
-            return Ok(calls);
+    let call = Call::Write(fd, piece);
+    let wrote = write_piece(machine, pid, &call);
+    let Some(piece) = bytes_written(call) else {
+        unreachable!()
+    };
+    (wrote, piece)
+}
+
+// A piece in the room of one that has as many bytes or more.
+fn piece_in(room: Bytes, piece: &[u8]) -> Bytes
+    requires { length piece.now ≤ length room }
+    ensures { result ≡ piece.now }
+{
+    let mut bytes = room.into_bytes();
+    bytes.truncate(piece.len());
+    bytes.copy_from_slice(piece);
+    Bytes::new(bytes)
+}
+
+/// Room for the pieces of bytes: the first of them, which is the largest.
+pub(crate) fn room_for_pieces(alloc: Global, bytes: &[u8]) -> Result<Bytes, AllocError>
+    ensures { IfOk result (λ room. min (length bytes.now) move_limit ≤ length room) }
+{
+    let (first, _) = bytes.split_at(bytes.len().min(MOVE));
+    Bytes::from_slice(alloc, first)
+}
+
+// Pieces until one is short or refused, in room for each of them: how many bytes were written.
+fn write_pieces<M: Machine>(
+    machine: &mut M,
+    pid: usize,
+    fd: usize,
+    bytes: &[u8],
+    room: Bytes,
+) -> Result<usize, Stop>
+    requires { min (length bytes.now) move_limit ≤ length room }
+    ensures { DidByMachine M.Serves (write_pieces pid 0 (writes_of fd bytes.now)) machine.old machine.new result }
+{
+    let (mut room, mut rest, mut done) = (room, bytes, 0);
+    let size = bytes.len();
+    for _round in 0..size / MOVE + 1 {
+        let most = rest.len().min(MOVE);
+        if most == 0 {
+            return Ok(done);
         }
-        let (piece, behind) = rest.split_at(count);
-        calls.push(Call::Write(fd, Bytes::from_slice(alloc, piece)?))?;
+        let (piece, behind) = rest.split_at(most);
+        let (wrote, written) = write_bytes(machine, pid, fd, piece_in(room, piece));
+        let count = or_done(done, wrote)?;
+        done += count;
+        if count < most {
+            return Ok(done);
+        }
+        room = written;
         rest = behind;
     }
-    Ok(calls)
+    Ok(done)
 }
 
 impl<M: Machine> Session<M> {
@@ -189,20 +239,23 @@ impl<M: Machine> Session<M> {
         Ok(ReplyBody::Bytes(bytes))
     }
 
-    /// Writes into what is open, by calls for each piece.
+    /// Writes into what is open, with room for each piece.
     pub(crate) fn write_file(
         &mut self,
         now: Time,
         handle: u64,
         offset: u64,
-        calls: &[Call],
+        bytes: &[u8],
+        room: Bytes,
     ) -> Result<ReplyBody, Stop>
         requires room { 1 ≤ self.old.server.room }
-        requires total { total_written calls.now < 2 ^ 64 }
-        ensures { Did M.Serves (write_by now handle offset calls.now) self.old self.new result }
+        requires pieces { min (length bytes.now) move_limit ≤ length room }
+        ensures { Did M.Serves (write_by now handle offset (writes_of (descriptor_of handle) bytes.now)) self.old self.new result }
     {
         let inode = self.seek_open(handle, offset)?;
-        let count = write_pieces(&mut self.machine, owner_of(handle), calls)?;
+        let pid = owner_of(handle);
+        let fd = descriptor_of(handle);
+        let count = write_pieces(&mut self.machine, pid, fd, bytes, room)?;
         self.server.touch(now, inode);
         Ok(ReplyBody::Wrote(count))
     }
