@@ -1,38 +1,59 @@
-"""Microseconds of single calls: on the mount, on one whose server has fixed replies, on one of fuse2fs, and in a directory."""
+"""Microseconds of single calls: on the mount, on one whose server has fixed replies, on one of fuse2fs, and in a directory.
+
+All four are mounted at once, and take turns with each of several rounds, so that whatever else the machine does meets all of them; what is
+told is the median of the rounds. Behind the table comes which rows miss what is wanted of them.
+"""
 import contextlib
 import os
 import pathlib
 import shutil
+import statistics
 import subprocess
 import time
 
-from mounts import Mounted
+from mounts import TOP, Mounted
 
 FIXED_REPLIES = pathlib.Path(__file__).resolve().parent / 'fixed_replies.c'
+OURS, BARE, OTHER, LOCAL = 'inofs', 'the protocol alone', 'fuse2fs', 'local'
+ROUNDS, CLONES = 9, 3
+BLOCK = bytes(range(256)) * 512
+WORKED_ON, FEW, MANY = 40, 300, 500  # names
+
+# How many times what another column has a row may be at most, where something is wanted.
+LOOK, SERVED, CHANGED = {LOCAL: 2}, {OTHER: 1, BARE: 1.5}, {OTHER: 1}
+ROWS = {
+    'stat': LOOK, 'absent name': LOOK, 'open and close': SERVED, 'create': CHANGED, 'rename': CHANGED, 'unlink': CHANGED,
+    f'readdir of {FEW} names': SERVED, f'`ls -l` of {MANY} names, not the first time': {LOCAL: 2.2},
+    'read of 4 KiB': SERVED, 'read of 128 KiB': SERVED, 'open, read of 128 KiB, close': SERVED,
+    'write of 4 KiB': CHANGED, 'write of 128 KiB': {}, 'write of 4 KiB and fsync': {},
+    '`git clone`, milliseconds': CHANGED, '`git status` there, milliseconds': CHANGED,
+}
 
 
-def timed(count, call):
-    """Microseconds of a call, the best of three rounds."""
-    rounds = []
-    for _ in range(3):
-        start = time.perf_counter_ns()
+# ---- what is timed
+
+def taken(work):
+    """Microseconds of some work."""
+    start = time.perf_counter_ns()
+    work()
+    return (time.perf_counter_ns() - start) / 1000
+
+
+def each(count, call):
+    """Microseconds of a call with one of so many numbers."""
+    def work():
         for number in range(count):
             call(number)
-        rounds.append((time.perf_counter_ns() - start) / count / 1000)
-    return min(rounds)
+    return taken(work) / count
 
 
-def once(count, call):
-    """The same of a call that can be made once for each number."""
-    start = time.perf_counter_ns()
-    for number in range(count):
-        call(number)
-    return (time.perf_counter_ns() - start) / count / 1000
+def make(path):
+    os.close(os.open(path, os.O_WRONLY | os.O_CREAT | os.O_EXCL, 0o644))
 
 
-def create(root, number):
-    file = os.open(root / f'n{number}', os.O_WRONLY | os.O_CREAT | os.O_EXCL, 0o644)
-    os.write(file, bytes(100))
+def read_anew(path):
+    file = os.open(path, os.O_RDONLY)
+    os.pread(file, len(BLOCK), 0)
     os.close(file)
 
 
@@ -46,31 +67,64 @@ def moving(file, size, call):
     return move
 
 
-def figures_of(root, count):
-    """Name and figure of each, in one directory."""
-    names = min(count, 500)
-    place = root / 'file'
-    file = os.open(place, os.O_RDWR | os.O_CREAT, 0o644)
-    block = bytes(range(256)) * 512
-    write = lambda file, size, at: os.pwrite(file, block[:size], at)
-    for number in range(8):
-        os.pwrite(file, block, number << 17)
-    yield 'stat', timed(count, lambda _: os.stat(place))
-    yield 'open and close', timed(count, lambda _: os.close(os.open(place, os.O_RDONLY)))
-    yield 'read of 4 KiB', timed(count, moving(file, 4096, os.pread))
-    yield 'read of 128 KiB', timed(max(count // 10, 8), moving(file, 131072, os.pread))
-    yield 'write of 4 KiB', timed(count, moving(file, 4096, write))
-    yield 'write of 128 KiB', timed(max(count // 10, 8), moving(file, 131072, write))
-    yield 'write of 4 KiB and fsync', timed(max(count // 10, 8), lambda n: (write(file, 4096, n % 256 * 4096), os.fsync(file)))
-    (root / 'many').mkdir()
-    yield 'create with 100 bytes', once(names, lambda n: create(root / 'many', n))
-    for number in range(names, 500):
-        create(root / 'many', number)
-    yield 'readdir of 500', timed(max(count // 20, 5), lambda _: os.listdir(root / 'many'))
-    yield 'rename', once(names, lambda n: os.rename(root / 'many' / f'n{n}', root / 'many' / f'm{n}'))
-    yield 'unlink', once(names, lambda n: os.unlink(root / 'many' / f'm{n}'))
+def write(file, size, place):
+    os.pwrite(file, BLOCK[:size], place)
+
+
+def lookups(root):
+    place, absent = root / 'file', root / 'none'
+    yield each(400, lambda _: os.stat(place))
+    yield each(400, lambda _: os.access(absent, os.F_OK))
+    yield each(200, lambda _: os.close(os.open(place, os.O_RDONLY)))
+
+
+def names(root):
+    folder = root / 'work'
+    yield each(WORKED_ON, lambda number: make(folder / f'n{number}'))
+    yield each(WORKED_ON, lambda number: os.rename(folder / f'n{number}', folder / f'm{number}'))
+    yield each(WORKED_ON, lambda number: os.unlink(folder / f'm{number}'))
+
+
+def listings(root):
+    yield each(10, lambda _: os.listdir(root / 'few'))
+    list_all = lambda: subprocess.run(['ls', '-l', root / 'many'], stdout=subprocess.DEVNULL, check=True)
+    list_all()
+    yield taken(list_all)
+
+
+def moves(root):
+    file = os.open(root / 'file', os.O_RDWR)
+    yield each(256, moving(file, 4096, os.pread))
+    yield each(16, moving(file, len(BLOCK), os.pread))
+    yield each(16, lambda _: read_anew(root / 'file'))
+    yield each(64, moving(file, 4096, write))
+    yield each(8, moving(file, len(BLOCK), write))
+    yield each(5, lambda number: (write(file, 4096, number * 4096), os.fsync(file)))
     os.close(file)
 
+
+def prepare(root):
+    """A file of 1 MiB, and directories with so many names."""
+    file = os.open(root / 'file', os.O_RDWR | os.O_CREAT, 0o644)
+    for number in range(8):
+        os.pwrite(file, BLOCK, number * len(BLOCK))
+    os.close(file)
+    for folder, count in (('work', 0), ('few', FEW), ('many', MANY)):
+        (root / folder).mkdir()
+        for number in range(count):
+            make(root / folder / f'n{number}')
+
+
+def clone(root):
+    """A clone of this repository without its history."""
+    environment = {'PATH': os.environ['PATH'], 'HOME': str(root), 'GIT_CONFIG_NOSYSTEM': '1'}
+    git = lambda *words: subprocess.run(['git', *words], env=environment, stdout=subprocess.DEVNULL, check=True)
+    yield taken(lambda: git('clone', '-q', '--depth', '1', f'file://{TOP}', root / 'clone')) / 1000
+    yield taken(lambda: git('-C', root / 'clone', 'status', '--short')) / 1000
+    shutil.rmtree(root / 'clone')
+
+
+# ---- on what
 
 @contextlib.contextmanager
 def mounted_image(mounted):
@@ -85,40 +139,91 @@ def mounted_image(mounted):
 
 @contextlib.contextmanager
 def mounted_by_fuse2fs(folder):
-    """An image of as many bytes, mounted so that the kernel keeps what it is told as little as what inofs tells."""
+    """An image of as many bytes and inodes, with what fuse2fs has as its defaults."""
     image, place = folder / 'ext4', folder / 'fuse2fs'
     place.mkdir()
-    subprocess.run(['mke2fs', '-q', '-t', 'ext4', image, '32M'], check=True)
-    subprocess.run(['fuse2fs', image, place, '-o', 'allow_other,entry_timeout=0,attr_timeout=0'], check=True)
+    subprocess.run(['mke2fs', '-q', '-t', 'ext4', '-N', '4096', image, '32M'], check=True, stdout=subprocess.DEVNULL)
+    subprocess.run(['fuse2fs', image, place], check=True)
     try:
         yield place
     finally:
         subprocess.run(['umount', place], check=True)
 
 
-def servers(mounted):
+def with_fixed_replies(folder, words):
+    """A mount whose server has fixed replies, on the terms that these words of its name."""
+    program, shell = folder / 'fixed_replies', folder / 'fixed_replies.sh'
+    subprocess.run(['cc', '-O2', '-o', program, FIXED_REPLIES], check=True)
+    shell.write_text(f'#!/bin/sh\nexec {program} {words} "$@"\n')
+    shell.chmod(0o755)
+    (folder / 'fixed').mkdir()
+    return mounted_image(Mounted(folder / 'fixed', shell))
+
+
+def servers(mounted, words):
     """Name of a column, and what mounts it; what a column needs and isn't here is said."""
-    yield 'inofs', mounted_image(mounted)
+    yield OURS, mounted_image(mounted)
     if shutil.which('cc'):
-        program = mounted.folder / 'fixed_replies'
-        subprocess.run(['cc', '-O2', '-o', program, FIXED_REPLIES], check=True)
-        (mounted.folder / 'fixed').mkdir()
-        yield 'the protocol alone', mounted_image(Mounted(mounted.folder / 'fixed', program))
+        yield BARE, with_fixed_replies(mounted.folder, words)
     else:
-        print('the protocol alone: not tried, cc is not here')
+        print(f'{BARE}: not tried, cc is not here')
     if shutil.which('fuse2fs') and shutil.which('mke2fs'):
-        yield 'fuse2fs', mounted_by_fuse2fs(mounted.folder)
+        yield OTHER, mounted_by_fuse2fs(mounted.folder)
     else:
-        print('fuse2fs: not tried, it is not here')
-    yield 'local', contextlib.nullcontext(mounted.local)
+        print(f'{OTHER}: not tried, it is not here')
+    yield LOCAL, contextlib.nullcontext(mounted.local)
 
 
-def figures(mounted, count):
-    """Prints a table of them."""
-    columns = {}
-    for name, server in servers(mounted):
-        with server as root:
-            columns[name] = dict(figures_of(root, count))
+def has_history():
+    found = subprocess.run(['git', '-C', TOP, 'rev-parse', '--is-inside-work-tree'], capture_output=True) if shutil.which('git') else None
+    return found is not None and found.returncode == 0
+
+
+def measured(columns, rounds, *works):
+    """The figures of each column, row by row: the columns take turns with each of the works."""
+    figures = {name: [] for name in columns}
+    for _ in range(rounds):
+        for name in figures:
+            figures[name].append([])
+        for work in works:
+            for name, root in columns.items():
+                figures[name][-1].extend(work(root))
+    return {name: [statistics.median(row) for row in zip(*of_rounds)] for name, of_rounds in figures.items()}
+
+
+# ---- the table
+
+def told(figure):
+    return '-' if figure is None else f'{figure:,.1f}' if figure < 100 else f'{figure:,.0f}'
+
+
+def print_table(columns):
     print('| Microseconds |', ' | '.join(columns), '|\n|---|' + '---|' * len(columns))
-    for line in columns['local']:
-        print(f'| {line} |', ' | '.join(f'{column[line]:.1f}' for column in columns.values()), '|', flush=True)
+    for row in ROWS:
+        print(f'| {row} |', ' | '.join(told(column.get(row)) for column in columns.values()), '|', flush=True)
+
+
+def print_missed(columns):
+    for row, wanted in ROWS.items():
+        for name, times in wanted.items():
+            ours, theirs = columns[OURS].get(row), columns.get(name, {}).get(row)
+            if ours is not None and theirs is not None and ours > times * theirs:
+                print(f'{row}: {ours / theirs:.1f} times {name}, wanted are at most {times}')
+
+
+def figures(mounted, words):
+    """Prints a table of them. The words are those of the server with fixed replies."""
+    rows = list(ROWS)
+    with contextlib.ExitStack() as mounts:
+        columns = {name: mounts.enter_context(server) for name, server in servers(mounted, words)}
+        cloned = {}
+        if has_history():
+            cloned = measured({name: root for name, root in columns.items() if name != BARE}, CLONES, clone)
+        else:
+            print('`git clone`: not tried, there is no history here, or no git')
+        for root in columns.values():
+            prepare(root)
+        single = measured(columns, ROUNDS, lookups, names, listings, moves)
+        found = {name: dict(zip(rows, [*single[name], *cloned.get(name, [])])) for name in columns}
+    print_table(found)
+    print_missed(found)
