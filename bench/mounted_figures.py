@@ -116,7 +116,8 @@ def prepare(root):
 
 
 def clone(root):
-    """A clone of this repository without its history."""
+    """A clone of this repository without its history, whoever owns that."""
+    (root / '.gitconfig').write_text('[safe]\n\tdirectory = *\n')
     environment = {'PATH': os.environ['PATH'], 'HOME': str(root), 'GIT_CONFIG_NOSYSTEM': '1'}
     git = lambda *words: subprocess.run(['git', *words], env=environment, stdout=subprocess.DEVNULL, check=True)
     yield taken(lambda: git('clone', '-q', '--depth', '1', f'file://{TOP}', root / 'clone')) / 1000
@@ -175,8 +176,7 @@ def servers(mounted, words):
 
 
 def has_history():
-    found = subprocess.run(['git', '-C', TOP, 'rev-parse', '--is-inside-work-tree'], capture_output=True) if shutil.which('git') else None
-    return found is not None and found.returncode == 0
+    return shutil.which('git') and (TOP / '.git').exists()
 
 
 def measured(columns, rounds, *works):
