@@ -210,21 +210,23 @@ class Mounted:
         """The line of a check."""
         return self.run('inofs', 'check', self.image, stdout=subprocess.PIPE, stderr=subprocess.STDOUT, text=True).stdout.strip()
 
-    def server(self):
-        """The process that has the kernel's end of this mount open, and no other: the one whose words name the image."""
-        wanted = f'fuse\0{self.image}\0'.encode()
+    def processes(self, words):
+        """Those whose command line has these words."""
         for place in pathlib.Path('/proc').glob('[0-9]*/cmdline'):
             try:
-                if wanted in place.read_bytes():
-                    return int(place.parent.name)
+                if words.encode() in place.read_bytes():
+                    yield int(place.parent.name)
             except OSError:
                 pass
-        return None
+
+    def server(self):
+        """The process that has the kernel's end of this mount open, and no other: the one whose words name the image."""
+        return next(self.processes(f'fuse\0{self.image}\0'), None)
 
     def gone(self):
-        """Waits until nothing is mounted any more, and the one that looked after the server has ended."""
+        """Waits until nothing is mounted any more, and neither the server runs nor the one that looks after it: both name the image."""
         for _ in range(SECONDS * 100):
-            if not is_mounted(self.mount) and self.server() is None:
+            if not is_mounted(self.mount) and next(self.processes(f'\0{self.image}\0'), None) is None:
                 return True
             time.sleep(0.01)
         return False
