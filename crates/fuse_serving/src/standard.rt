@@ -32,6 +32,8 @@ pub struct Standard<R, I, O> {
     rt: R,
     input: I,
     output: O,
+    // The path that is asked, in place of the one before.
+    path: String,
     // The status of a process is read into it, over what was read before.
     room: Vec<u8>,
     // The user namespace of this process, once it was asked for: it stays in it.
@@ -41,11 +43,13 @@ pub struct Standard<R, I, O> {
 impl<R: AllocGlobal, I, O> Standard<R, I, O> {
     /// The kernel at these streams.
     pub fn new(rt: R, input: I, output: O) -> Standard<R, I, O> {
+        let path = String::new(rt.alloc());
         let room = Vec::new(rt.alloc());
         Standard {
             rt,
             input,
             output,
+            path,
             room,
             own_users: None,
         }
@@ -70,8 +74,9 @@ fn read_all<'a, F: Read>(file: &mut F, room: &'a mut Vec<u8>) -> io::Result<&'a 
 impl<R: Files + AllocGlobal, I, O> Standard<R, I, O> {
     // Whether a process is in the user namespace of this one: user_namespaces(7).
     fn shares_users(&mut self, pid: u32) -> io::Result<bool> {
-        let path = format!(in self.rt.alloc(); "/proc/{pid}/ns/user")?;
-        let theirs = fs::read_link(&self.rt, path.as_str())?;
+        self.path.clear();
+        write!(self.path, "/proc/{pid}/ns/user")?;
+        let theirs = fs::read_link(&self.rt, self.path.as_str())?;
         let own = match self.own_users.take() {
             Some(own) => own,
             None => fs::read_link(&self.rt, "/proc/self/ns/user")?,
@@ -84,11 +89,11 @@ impl<R: Files + AllocGlobal, I, O> Standard<R, I, O> {
     // What /proc shows of a process that asks as this user and this group. Capabilities are those of its user namespace, and count
     // here only where that is this one's.
     fn look_up(&mut self, pid: u32, uid: u32, gid: u32) -> io::Result<Caller> {
-        let alloc = self.rt.alloc();
-        let path = format!(in alloc; "/proc/{pid}/status")?;
-        let mut file = fs::open(&self.rt, path.as_str())?;
+        self.path.clear();
+        write!(self.path, "/proc/{pid}/status")?;
+        let mut file = fs::open(&self.rt, self.path.as_str())?;
         let text = read_all(&mut file, &mut self.room)?;
-        let mut caller = caller_of_status(alloc, text, uid, gid)?;
+        let mut caller = caller_of_status(self.rt.alloc(), text, uid, gid)?;
         if !caller.caps.is_empty() && !self.shares_users(pid)? {
             caller.caps = Caps::empty();
         }
